@@ -1,0 +1,44 @@
+-- Where the words of records stand: behind the named words come the buffers, one after another.
+use Rattle.std.specs.Prelude.{◌≡◌, ℕ, ◌+◌, ◌*◌, ◌<◌, ◌≤◌, List, length, slice_index, Some}
+use Rattle.entry_ref.specs.References.{buffer_of, offset_of}
+use Rattle.image_base.specs.declared.Image.{Image}
+use Rattle.image_base.specs.Images.{record_at}
+
+-- the state of a buffer: behind the root, the newest hold and the counts of sixteen holds
+abbrev pub state_place : ℕ → ℕ
+state_place b = 18 + b
+
+-- the first word of a buffer, which holds the width of its entries
+abbrev pub base : ℕ → ℕ → ℕ → ℕ
+base buffers words b = 18 + buffers + b * words
+
+-- word i of an entry, in buffers of so many words
+abbrev pub place : ℕ → ℕ → ℕ → ℕ → ℕ → ℕ
+place buffers words width ref i = base buffers words (buffer_of ref) + (offset_of ref * width + i)
+
+-- so many words in all
+abbrev pub size_of : ℕ → ℕ → ℕ
+size_of buffers words = 18 + buffers + buffers * words
+
+-- an entry of this width lies in its buffer, behind the reserved offset 0
+pub record IsEntry (buffers words width ref : ℕ) : Type 0 where
+  pub inside : buffer_of ref < buffers
+  pub wide : 0 < width
+  pub first : 0 < offset_of ref
+  pub last : offset_of ref * width + width ≤ words
+
+-- this word stands at this place
+pub record IsWord (table : List ℕ) (p n : ℕ) : Type 0 where
+  pub below : p < length table
+  pub is : slice_index table p ≡ n
+
+-- a record stands in the table: as wide as its buffer's first word says, each word at its place
+pub record RecordStands (buffers words : ℕ) (table : List ℕ) (ref : ℕ) (ws : List ℕ) : Type 0 where
+  pub entry : IsEntry buffers words (length ws) ref
+  pub width : IsWord table (base buffers words (buffer_of ref)) (length ws)
+  pub each : (i : ℕ) → i < length ws → IsWord table (place buffers words (length ws) ref i) (slice_index ws i)
+
+-- an image stands in the table
+abbrev pub StandsIn : ℕ → ℕ → List ℕ → Image → Type 0
+StandsIn buffers words table image =
+    (ref : ℕ) (ws : List ℕ) → record_at image ref ≡ Some ws → RecordStands buffers words table ref ws

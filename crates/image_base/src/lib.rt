@@ -1,0 +1,80 @@
+//! Images: the records that a root reaches, where their words stand, and the layouts that read them.
+#![tactic(auto)]
+
+ghost use Rattle.std.specs.Prelude.{◌≡◌, ◌<◌, ◌≤◌, ℕ, List, [], length};
+ghost use Rattle.entry_ref.specs.References.{buffer_of};
+ghost use Rattle.image_base.specs.Images.{words_at, image_of};
+ghost use Rattle.image_base.specs.Places.{IsEntry, place};
+ghost use Rattle.image_base.specs.Records.{Records, SameAt, AllThere, references_of};
+ghost use Rattle.image_base.specs.declared.Image.{Image};
+
+use entry_ref::EntryRef;
+use std::collections::LinkedList;
+
+/// A root and the records that it reaches, each a reference with its words.
+pub struct Image {
+    pub root: u64,
+    pub records: LinkedList<(u64, LinkedList<u64>)>,
+}
+
+/// Which records a root reaches, and when they are lawful; the first number is a shape.
+pub trait Layout {
+    ghost reaches: { ℕ → Records → ℕ → List ℕ };
+
+    ghost lawful: { ℕ → Records → ℕ → Type 0 };
+
+    // root 0 reaches nothing and is lawful
+    ghost empty_reaches: { (shape : ℕ) (m : Records) → reaches shape m 0 ≡ [] };
+
+    ghost empty_lawful: { (shape : ℕ) (m : Records) → lawful shape m 0 };
+
+    // what is lawful reaches only records that are there
+    ghost present: { (shape : ℕ) (m : Records) (root : ℕ) → lawful shape m root → AllThere (reaches shape m root) m };
+
+    // it stays so, with the same reach, in all records that have the same words there
+    ghost stays: { (shape : ℕ) (m n : Records) (root : ℕ) → SameAt (reaches shape m root) m n
+        → lawful shape m root → lawful shape n root × (reaches shape n root ≡ reaches shape m root) };
+}
+
+/// Where word `i` of an entry stands, in a table of so many buffers of so many words.
+pub fn place_of(buffers: u32, words: u32, width: u32, entry: EntryRef, i: u32) -> u64
+    requires entry { IsEntry buffers words width entry }
+    requires inside { i < width }
+    ensures { result ≡ place buffers words width entry i }
+{
+    let base = 18 + buffers as u64 + entry.buffer() as u64 * words as u64;
+    base + entry.offset() as u64 * width as u64 + i as u64
+}
+
+/// Two words at one place are one word of one entry, where each buffer has one width.
+pub fn places_law()
+    ensures { (buffers words v w r q i j : ℕ) → IsEntry buffers words v r → IsEntry buffers words w q
+        → (buffer_of r ≡ buffer_of q → v ≡ w) → i < v → j < w
+        → place buffers words v r i ≡ place buffers words w q j → (r ≡ q) × (i ≡ j) }
+{}
+
+/// An image of references holds just these, each with its words.
+pub fn images_law()
+    ensures references { (rs : List ℕ) (m : Records) (root : ℕ) → references_of (image_of rs m root).records ≡ rs }
+    ensures words { (rs : List ℕ) (m : Records) (root : ℕ) → SameAt rs m (words_at (image_of rs m root)) }
+{}
+
+#[cfg(test)]
+mod tests {
+    use super::*;
+
+    #[test]
+    fn words_of_entries_stand_at_the_worked_places(rt: HostRuntime) {
+        // buffers, words of each, width, offset, buffer, word
+        let rows = [
+            ((8, 8192, 34), (3, 2, 0), 16512),
+            ((8, 8192, 34), (3, 2, 33), 16545),
+            ((2, 8, 2), (1, 0, 0), 22),
+            ((2, 8, 2), (3, 1, 1), 35),
+        ];
+        for ((buffers, words, width), (offset, buffer, i), place) in rows {
+            let entry = EntryRef::new(offset, buffer);
+            assert_eq!(rt; place_of(buffers, words, width, entry, i), place);
+        }
+    }
+}
