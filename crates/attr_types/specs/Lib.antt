@@ -1,0 +1,4 @@
+pub mod Value
+pub mod Query
+pub mod Table
+pub mod Lawful

@@ -1,0 +1,87 @@
+-- A query as a tree, and what it matches.
+use Rattle.std.specs.Prelude.{ℕ, Bool, true, false, ◌&&◌, ◌||◌, IsTrue, List, [], ◌∷◌, map, Option, Some, None, nat_eq}
+use Rattle.std.specs.List.{list_any, starts_with}
+use Rattle.std.specs.Ordering.{is_lt, is_le, is_eq}
+use Rattle.attr_types.specs.Value.{value_cmp}
+use Rattle.attr_types.specs.declared.items.Item.{Item}
+use Rattle.attr_types.specs.declared.query.Leaf.{Leaf}
+use Rattle.attr_types.specs.declared.query.Leaf.TheVariants.{Is, Prefix, Range, Below, Above}
+use Rattle.attr_types.specs.declared.query.Query.{Query, fold-Query}
+use Rattle.attr_types.specs.declared.query.Query.TheOpen.{Query-F}
+use Rattle.attr_types.specs.declared.value.Value.{Value}
+use Rattle.attr_types.specs.declared.value.Value.TheVariants as values
+
+-- a query without where it lies in memory
+mutual
+  pub data QueryTree : Type 0 where
+    one : Leaf → QueryTree
+    and : QueryTrees → QueryTree
+    or : QueryTrees → QueryTree
+
+  pub data QueryTrees : Type 0 where
+    no_trees : QueryTrees
+    tree : QueryTree → QueryTrees → QueryTrees
+
+abbrev pub trees : List QueryTree → QueryTrees
+trees [] = no_trees
+trees (t ∷ ts) = tree t (trees ts)
+
+-- one level, with each member already seen as its tree
+abbrev pub tree_step : Query-F QueryTree → QueryTree
+tree_step (Query-F.One leaf) = one leaf
+tree_step (Query-F.And queries) = and (trees queries.items)
+tree_step (Query-F.Or queries) = or (trees queries.items)
+
+abbrev pub tree_of : Query → QueryTree
+tree_of = fold-Query QueryTree tree_step
+
+abbrev pub trees_of : List Query → QueryTrees
+trees_of queries = trees (map tree_of queries)
+
+-- a text begins with these bytes
+abbrev pub begins_with : Value → List ℕ → Bool
+begins_with (values.Text text) bytes = starts_with nat_eq text bytes
+begins_with (values.Long number) bytes = false
+
+-- a bound left out bounds nothing
+abbrev pub is_from : Option Value → Value → Bool
+is_from None value = true
+is_from (Some low) value = is_le (value_cmp low value)
+
+abbrev pub is_up_to : Option Value → Value → Bool
+is_up_to None value = true
+is_up_to (Some high) value = is_le (value_cmp value high)
+
+-- a value meets a leaf: both bounds of a range are included, `Below` and `Above` are strict
+abbrev pub meets : Leaf → Value → Bool
+meets (Is wanted) value = is_eq (value_cmp wanted value)
+meets (Prefix bytes) value = begins_with value bytes
+meets (Range low high) value = is_from low value && is_up_to high value
+meets (Below high) value = is_lt (value_cmp value high)
+meets (Above low) value = is_lt (value_cmp low value)
+
+-- some one item meets the leaf
+abbrev pub meets_some : Leaf → List Item → Bool
+meets_some leaf items = list_any (λ item. meets leaf item.value) items
+
+abbrev pub has_items : List Item → Bool
+has_items [] = false
+has_items (item ∷ items) = true
+
+-- a query matches a document by its items; a document without items matches nothing
+abbrev mutual
+  pub matches : QueryTree → List Item → Bool
+  matches (one leaf) items = meets_some leaf items
+  matches (and members) items = has_items items && all_match members items
+  matches (or members) items = some_match members items
+
+  pub all_match : QueryTrees → List Item → Bool
+  all_match no_trees items = true
+  all_match (tree t ts) items = matches t items && all_match ts items
+
+  pub some_match : QueryTrees → List Item → Bool
+  some_match no_trees items = false
+  some_match (tree t ts) items = matches t items || some_match ts items
+
+abbrev pub Matches : QueryTree → List Item → Type 0
+Matches query items = IsTrue (matches query items)

@@ -1,0 +1,24 @@
+//! Documents, values, operations and queries, and the plain table that all answers are compared with.
+#![tactic(auto)]
+
+mod doc;
+mod error;
+mod items;
+mod kind;
+mod lists;
+mod op;
+mod order;
+mod query;
+mod text;
+mod value;
+
+pub use doc::Doc;
+pub use error::QueryError;
+pub use items::{Item, Items};
+pub use kind::{Kind, ValueType};
+pub use lists::{DocList, RoundList};
+pub use op::{Change, Op, Ops};
+pub use order::compare;
+pub use query::{Leaf, Queries, Query};
+pub use text::Text;
+pub use value::{Value, Values};
