@@ -1,0 +1,246 @@
+ghost use Rattle.std.specs.Prelude.{◌≡◌, ◌+◌, ◌-◌, ◌<◌, ◌≤◌, ◌↔◌, ◌⊎◌, [], ◌++◌, length, take, drop, min, IsTrue, IfOk, IsErr, OnErr};
+ghost use Rattle.std.specs.Io.{ReadsAtMost};
+ghost use Rattle.std.specs.Io.KnownBytes.{ReadConsumes, WriteAppends};
+ghost use Rattle.attr_io.specs.Bytes.{TakesSome};
+ghost use Rattle.attr_io.specs.Faults.{CountsFaults, counted};
+ghost use Rattle.attr_io.specs.States.{IsFull, IsListed};
+
+use crate::memory::{VecSink, copy_front};
+use crate::traffic::{Failed, Sink, Source};
+use std::alloc::{AllocError, Global};
+use std::marker::Model;
+
+/// How a fake moves bytes: at most `step` a call, and none at the calls whose numbers are listed.
+#[derive(Drop)]
+struct Schedule {
+    step: usize,
+    fails: Vec<u64>,
+    calls: u64,
+}
+
+impl Schedule {
+    fn create(alloc: Global, step: usize, fails: &[u64]) -> Result<Schedule, AllocError>
+        ensures step { IfOk result (λ s. s.step ≡ step) }
+        ensures fails { IfOk result (λ s. s.fails.items ≡ fails.now) }
+        ensures calls { IfOk result (λ s. s.calls ≡ 0) }
+    {
+        let fails = Vec::from_slice(alloc, fails)?;
+        Ok(Schedule {
+            step,
+            fails,
+            calls: 0,
+        })
+    }
+
+    /// Counts a call, and says whether it is one that fails.
+    fn is_next_listed(&mut self) -> bool
+        ensures listed { IsTrue result ↔ IsListed self.old.fails.items self.old.calls }
+        ensures calls { self.new.calls ≡ counted self.old.calls }
+        ensures step { self.new.step ≡ self.old.step }
+        ensures fails { self.new.fails.items ≡ self.old.fails.items }
+    {
+        let number = u128::from(self.calls) + 1;
+        self.calls = self.calls.saturating_add(1);
+        self.fails
+            .iter()
+            .any(|listed| u128::from(*listed) == number)
+    }
+}
+
+/// A source for tests: it gives at most `step` bytes a call, and fails at the calls whose numbers
+/// are listed. Calls are numbered from 1, and a call that fails is a call.
+#[derive(Drop)]
+pub struct FakeSource {
+    bytes: Vec<u8>,
+    at: usize,
+    schedule: Schedule,
+    faults: u64,
+}
+
+impl Model for FakeSource {
+    ghost use Rattle.std.specs.Prelude.{◌<◌, ◌≤◌, drop, vec_len};
+    ghost use Rattle.attr_io.specs.States.{FakeSourceState};
+
+    ghost Value = { FakeSourceState };
+
+    ghost view = { λ s. record {
+      left = drop s.at s.bytes.items;
+      step = s.schedule.step;
+      fails = s.schedule.fails.items;
+      calls = s.schedule.calls;
+      faults = s.faults;
+    } };
+
+    ghost invariant = { λ s. (s.at ≤ vec_len s.bytes) × (0 < s.schedule.step) };
+}
+
+impl FakeSource {
+    /// A source of these bytes, which it copies.
+    pub fn create(
+        alloc: Global,
+        bytes: &[u8],
+        step: usize,
+        fails: &[u64],
+    ) -> Result<FakeSource, AllocError>
+        requires { 0 < step }
+        ensures { IfOk result (λ s. s ≡ record {
+          left = bytes.now;
+          step = step;
+          fails = fails.now;
+          calls = 0;
+          faults = 0;
+        }) }
+    {
+        Ok(FakeSource {
+            bytes: Vec::from_slice(alloc, bytes)?,
+            at: 0,
+            schedule: Schedule::create(alloc, step, fails)?,
+            faults: 0,
+        })
+    }
+
+    pub fn faults(&self) -> u64
+        ensures { result ≡ self.now.faults }
+    {
+        self.faults
+    }
+}
+
+impl Source for FakeSource {
+    ghost use Rattle.std.specs.Prelude.{Some};
+
+    ghost left = { λ s. Some s.left };
+
+    ghost faults = { λ s. s.faults };
+
+    ghost reads = { λ s. s.calls };
+
+    /// Fails exactly at the listed calls, and otherwise gives as much as it may.
+    fn read(&mut self, into: &mut [u8]) -> Result<usize, Failed>
+        requires { 0 < length into.old }
+        ensures bound { ReadsAtMost result into.new }
+        ensures bytes { ReadConsumes (Some self.old.left) (Some self.new.left) result into.new }
+        ensures cause { CountsFaults self.old.faults self.new.faults result }
+        ensures one { self.new.calls ≤ self.old.calls + 1 }
+
+        ensures fails { IsErr result ↔ IsListed self.old.fails self.old.calls }
+        ensures moves { IfOk result (λ n. n ≡ min (min (length into.old) self.old.step) (length self.old.left)) }
+        ensures ok { IfOk result (λ n. self.new ≡ record self.old {
+          left = drop n self.old.left;
+          calls = counted self.old.calls;
+        }) }
+        ensures err { OnErr result (self.new ≡ record self.old {
+          calls = counted self.old.calls;
+          faults = counted self.old.faults;
+        }) }
+    {
+        if self.schedule.is_next_listed() {
+            self.faults = self.faults.saturating_add(1);
+            return Err(Failed);
+        }
+        let rest = &self.bytes[self.at..];
+        let most = rest.len().min(self.schedule.step);
+        let count = copy_front(&rest[..most], into);
+        self.at += count;
+        Ok(count)
+    }
+}
+
+/// A sink for tests with room for a number of bytes: it takes at most `step` bytes a call, and
+/// fails at the calls whose numbers are listed, and where no room is left. Calls are numbered
+/// from 1, and a call that fails is a call.
+#[derive(Drop)]
+pub struct FakeSink {
+    sink: VecSink,
+    schedule: Schedule,
+}
+
+impl Model for FakeSink {
+    ghost use Rattle.std.specs.Prelude.{◌<◌};
+    ghost use Rattle.attr_io.specs.States.{FakeSinkState};
+
+    ghost Value = { FakeSinkState };
+
+    ghost view = { λ s. record {
+      taken = s.sink.taken;
+      room = s.sink.room;
+      step = s.schedule.step;
+      fails = s.schedule.fails.items;
+      calls = s.schedule.calls;
+      faults = s.sink.faults;
+    } };
+
+    ghost invariant = { λ s. 0 < s.schedule.step };
+}
+
+impl FakeSink {
+    /// An empty sink with room for `room` bytes.
+    pub fn create(
+        alloc: Global,
+        room: usize,
+        step: usize,
+        fails: &[u64],
+    ) -> Result<FakeSink, AllocError>
+        requires { 0 < step }
+        ensures { IfOk result (λ s. s ≡ record {
+          taken = [];
+          room = room;
+          step = step;
+          fails = fails.now;
+          calls = 0;
+          faults = 0;
+        }) }
+    {
+        Ok(FakeSink {
+            sink: VecSink::create(alloc, room)?,
+            schedule: Schedule::create(alloc, step, fails)?,
+        })
+    }
+
+    pub fn taken(&self) -> &[u8]
+        ensures { result.now ≡ self.now.taken }
+    {
+        self.sink.taken()
+    }
+
+    pub fn faults(&self) -> u64
+        ensures { result ≡ self.now.faults }
+    {
+        self.sink.faults()
+    }
+}
+
+impl Sink for FakeSink {
+    ghost use Rattle.std.specs.Prelude.{Some};
+
+    ghost taken = { λ s. Some s.taken };
+
+    ghost faults = { λ s. s.faults };
+
+    /// Fails exactly at the listed calls and where no room is left, and otherwise takes as much
+    /// as it may.
+    fn write(&mut self, piece: &[u8]) -> Result<usize, Failed>
+        requires { 0 < length piece.now }
+        ensures bound { TakesSome result piece.now }
+        ensures bytes { WriteAppends (Some self.old.taken) (Some self.new.taken) result piece.now }
+        ensures cause { CountsFaults self.old.faults self.new.faults result }
+
+        ensures fails { IsErr result ↔ (IsListed self.old.fails self.old.calls ⊎ IsFull self.old.taken self.old.room) }
+        ensures moves { IfOk result (λ n. n ≡
+            min (min (length piece.now) self.old.step) (self.old.room - length self.old.taken)) }
+        ensures ok { IfOk result (λ n. self.new ≡ record self.old {
+          taken = self.old.taken ++ take n piece.now;
+          calls = counted self.old.calls;
+        }) }
+        ensures err { OnErr result (self.new ≡ record self.old {
+          calls = counted self.old.calls;
+          faults = counted self.old.faults;
+        }) }
+    {
+        if self.schedule.is_next_listed() {
+            return self.sink.fail();
+        }
+        let most = piece.len().min(self.schedule.step);
+        self.sink.write(&piece[..most])
+    }
+}

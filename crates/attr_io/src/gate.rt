@@ -1,0 +1,31 @@
+/// Where a run stands: after a commit of the loader, or before or after a round of a reader.
+/// Readers and their rounds are numbered from 1; `operations` is how many the commit has.
+#[derive(Clone, Copy, Debug, PartialEq, Eq)]
+pub enum Point {
+    Committed {
+        commit: u32,
+        operations: u32,
+    },
+    RoundStart {
+        reader: u32,
+        round: u32,
+    },
+    RoundEnd {
+        reader: u32,
+        round: u32,
+        operations: u32,
+    },
+}
+
+/// What a run calls as it passes its points. It changes no answer, and lets a test hold a thread.
+pub trait Gate {
+    fn pass(&self, point: Point);
+}
+
+/// The gate of the program: it does nothing.
+#[derive(Clone, Copy, Debug)]
+pub struct NoGate;
+
+impl Gate for NoGate {
+    fn pass(&self, _point: Point) {}
+}

@@ -1,0 +1,89 @@
+ghost use Rattle.std.specs.Prelude.{◌≡◌, ◌+◌, ◌<◌, ◌≤◌, length, vec_len, IfOk, IfSome, IsErrOf};
+ghost use Rattle.std.specs.Io.KnownBytes.{Consumes, IsAtEnd};
+ghost use Rattle.attr_io.specs.Bytes.{ConsumesAtMost};
+ghost use Rattle.attr_io.specs.Faults.{Rose};
+ghost use Rattle.attr_io.specs.declared.reading.ReadError.TheVariants as errors;
+
+use crate::traffic::{Failed, Source};
+use std::alloc::{AllocError, Global};
+use thiserror::Error;
+
+/// Why a source was not read to its end.
+#[derive(Clone, Copy, Debug, PartialEq, Eq, Error)]
+pub enum ReadError {
+    #[error("the source has too many bytes")]
+    TooLong,
+    #[error("a read failed")]
+    Fault,
+    #[error("out of memory")]
+    Memory,
+}
+
+impl From<Failed> for ReadError {
+    ghost from_gives = { λ _ e. e ≡ errors.Fault };
+
+    fn from(_failed: Failed) -> ReadError {
+        ReadError::Fault
+    }
+}
+
+impl From<AllocError> for ReadError {
+    ghost from_gives = { λ _ e. e ≡ errors.Memory };
+
+    fn from(_e: AllocError) -> ReadError {
+        ReadError::Memory
+    }
+}
+
+/// How many bytes are asked for at a time.
+const PIECE: usize = 65536;
+
+/// Reads a source to its end, unless it fails or has more than `limit` bytes.
+///
+/// It reads on only while at most `limit` bytes were read, so a source is read at most
+/// `limit + 1` times and loses at most one piece of 65,536 bytes past the limit.
+pub fn read_all<S: Source>(
+    alloc: Global,
+    source: &mut S,
+    limit: usize,
+) -> Result<Vec<u8>, ReadError>
+    ensures bytes { IfOk result (λ v. Consumes (S.left source.old) (S.left source.new) v.items) }
+    ensures end { IfOk result (λ v. IsAtEnd (S.left source.new)) }
+    ensures within { IfOk result (λ v. vec_len v ≤ limit) }
+    ensures too_long { IsErrOf result ReadError.TooLong → IfSome (S.left source.old) (λ bytes. limit < length bytes) }
+    ensures fault { IsErrOf result ReadError.Fault → Rose (S.faults source.old) (S.faults source.new) }
+    ensures later { S.faults source.old ≤ S.faults source.new }
+    ensures front { ConsumesAtMost (limit + 65536) (S.left source.old) (S.left source.new) }
+    ensures few { S.reads source.new ≤ S.reads source.old + limit + 1 }
+{
+    let mut piece = vec![in alloc; 0u8; PIECE]?;
+    read_pieces(alloc, source, limit, &mut piece)
+}
+
+/// The loop of `read_all`, over a piece of any size.
+fn read_pieces<S: Source>(
+    alloc: Global,
+    source: &mut S,
+    limit: usize,
+    piece: &mut [u8],
+) -> Result<Vec<u8>, ReadError>
+    requires { 0 < length piece.old }
+    ensures bytes { IfOk result (λ v. Consumes (S.left source.old) (S.left source.new) v.items) }
+    ensures end { IfOk result (λ v. IsAtEnd (S.left source.new)) }
+    ensures within { IfOk result (λ v. vec_len v ≤ limit) }
+    ensures too_long { IsErrOf result ReadError.TooLong → IfSome (S.left source.old) (λ bytes. limit < length bytes) }
+    ensures fault { IsErrOf result ReadError.Fault → Rose (S.faults source.old) (S.faults source.new) }
+    ensures later { S.faults source.old ≤ S.faults source.new }
+    ensures front { ConsumesAtMost (limit + length piece.old) (S.left source.old) (S.left source.new) }
+    ensures few { S.reads source.new ≤ S.reads source.old + limit + 1 }
+{
+    let mut bytes = Vec::new(alloc);
+    while bytes.len() <= limit {
+        let count = source.read(piece)?;
+        if count == 0 {
+            return Ok(bytes);
+        }
+        bytes.extend_from_slice(&piece[..count])?;
+    }
+    Err(ReadError::TooLong)
+}
