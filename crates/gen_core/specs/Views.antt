@@ -1,0 +1,131 @@
+-- What is read of the views: the queue, the commits, the buffers, and the words that name them.
+use Rattle.std.specs.Prelude.{◌≡◌, ℕ, ◌+◌, ◌-◌, ◌*◌, List, [], ◌∷◌, ◌++◌, length, drop, slice_get, Option, Some, None, Bool, false, ◌||◌, nat_eq, option_and_then}
+use Rattle.std.specs.List.{list_any}
+use Rattle.image_base.specs.declared.Image.{Image}
+use Rattle.image_base.specs.Images.{no_image}
+use Rattle.gen_core.specs.declared.views.OpenHold.{OpenHold}
+use Rattle.gen_core.specs.declared.views.Pending.{Pending}
+use Rattle.gen_core.specs.declared.views.Pending.TheVariants.{Nothing, Next, Probed}
+use Rattle.gen_core.specs.declared.views.Buffer.{Buffer}
+use Rattle.gen_core.specs.declared.views.Buffer.TheVariants.{Free, Active, Held}
+use Rattle.gen_core.specs.declared.views.ReaderState.{ReaderState}
+use Rattle.gen_core.specs.declared.views.ReaderState.TheVariants.{Idle, Aimed, Raised, Bounced, Guarded, Spent}
+use Rattle.gen_core.specs.declared.views.ReaderView.{ReaderView}
+use Rattle.gen_core.specs.declared.views.WriterView.{WriterView}
+
+-- the open holds, from the oldest to the newest
+abbrev pub queue_of : List OpenHold → OpenHold → List OpenHold
+queue_of older newest = older ++ newest ∷ []
+
+abbrev pub oldest_of : List OpenHold → OpenHold → OpenHold
+oldest_of [] newest = newest
+oldest_of (e ∷ es) newest = e
+
+-- commits before this one are no longer kept
+abbrev pub floor_of : WriterView → ℕ
+floor_of w = (oldest_of w.older w.newest).first
+
+-- the kept commits
+abbrev pub kept_of : WriterView → List Image
+kept_of w = drop (floor_of w) w.commits
+
+-- the number of the last commit
+abbrev pub last_number : List Image → ℕ
+last_number commits = length commits - 1
+
+abbrev pub last_image : List Image → Image
+last_image [] = no_image
+last_image (x ∷ []) = x
+last_image (x ∷ y ∷ ys) = last_image (y ∷ ys)
+
+-- what was seen is a commit, under its number
+abbrev pub IsCommit : List Image → ℕ × Image → Type 0
+IsCommit commits seen = slice_get commits seen.0 ≡ Some seen.1
+
+-- the root word: a commit and its root
+abbrev pub root_word : ℕ → Image → ℕ
+root_word number image = number * 4294967296 + image.root
+
+-- the last word: a generation and its hold
+abbrev pub last_word : OpenHold → ℕ
+last_word e = e.generation * 65536 + e.hold
+
+-- where the count of a hold stands
+abbrev pub hold_place : ℕ → ℕ
+hold_place hold = 2 + hold
+
+abbrev pub is_next : Pending → ℕ → Bool
+is_next Nothing hold = false
+is_next (Next h) hold = nat_eq h hold
+is_next Probed hold = false
+
+-- a hold is open: in the queue, or next
+abbrev pub is_open : List OpenHold → OpenHold → Pending → ℕ → Bool
+is_open older newest pending hold = list_any (λ e. nat_eq e.hold hold) (queue_of older newest) || is_next pending hold
+
+-- the current generation, taken one higher where the next one has begun
+abbrev pub coming : OpenHold → Pending → ℕ
+coming newest Nothing = newest.generation
+coming newest (Next h) = newest.generation + 1
+coming newest Probed = newest.generation + 1
+
+-- the state word of a buffer
+abbrev pub state_word : Buffer → ℕ
+state_word (Free last) = 0
+state_word (Active width last) = 1
+state_word (Held width tag) = 2
+
+-- the width of the records in a buffer
+abbrev pub record_width : Buffer → Option ℕ
+record_width (Free last) = None
+record_width (Active width last) = Some width
+record_width (Held width tag) = Some width
+
+abbrev pub width_in : List Buffer → ℕ → Option ℕ
+width_in buffers b = option_and_then record_width (slice_get buffers b)
+
+-- the width of a buffer that is active, 0 until it is stored
+abbrev pub active_width : Buffer → Option ℕ
+active_width (Free last) = None
+active_width (Active width last) = Some width
+active_width (Held width tag) = None
+
+abbrev pub active_in : List Buffer → ℕ → Option ℕ
+active_in buffers b = option_and_then active_width (slice_get buffers b)
+
+-- the generation of the last tag of a buffer that had one
+abbrev pub last_tag : Buffer → Option ℕ
+last_tag (Free last) = last
+last_tag (Active width last) = last
+last_tag (Held width tag) = Some tag.generation
+
+abbrev pub last_tag_in : List Buffer → ℕ → Option ℕ
+last_tag_in buffers b = option_and_then last_tag (slice_get buffers b)
+
+-- a view that counts twice in the count of a hold
+abbrev pub is_raised_on : ℕ → ReaderState → Bool
+is_raised_on hold Idle = false
+is_raised_on hold (Aimed generation h) = false
+is_raised_on hold (Raised h) = nat_eq h hold
+is_raised_on hold (Bounced h) = nat_eq h hold
+is_raised_on hold (Guarded h commit) = nat_eq h hold
+is_raised_on hold Spent = false
+
+-- the hold that a view keeps open
+abbrev pub stands_on : ReaderState → Option ℕ
+stands_on Idle = None
+stands_on (Aimed generation h) = None
+stands_on (Raised h) = Some h
+stands_on (Bounced h) = None
+stands_on (Guarded h commit) = Some h
+stands_on Spent = None
+
+-- the one view of a reader that was joined away
+abbrev pub spent : ReaderView
+spent = record {
+  sizes = record { buffers = 0; words = 0; shape = 0; commit_limit = 0; generation_limit = 0 };
+  seen = 0;
+  least = 0;
+  state = Spent;
+  saw = [];
+}

@@ -1,0 +1,60 @@
+-- The writer's records: what it stored whole since the last commit, over the records of that commit.
+use Rattle.std.specs.Prelude.{◌≡◌, ℕ, zero, suc, ◌+◌, ◌*◌, ◌<◌, List, [], ◌∷◌, length, slice_index, Option, Some, None, Bool, true, false, ◌&&◌, nat_eq, nat_lt, nat_le}
+use Rattle.std.specs.Option.{unwrap_or}
+use Rattle.std.specs.Map.{lookup}
+use Rattle.entry_ref.specs.References.{buffer_of, offset_of}
+use Rattle.image_base.specs.declared.Image.{Image}
+use Rattle.image_base.specs.Records.{Records}
+use Rattle.image_base.specs.Images.{words_at, image_of}
+use Rattle.image_base.specs.Places.{IsEntry, place}
+use Rattle.gen_core.specs.declared.views.Sizes.{Sizes}
+use Rattle.gen_core.specs.declared.views.WriterView.{WriterView}
+use Rattle.gen_core.specs.Views.{active_in, last_image}
+
+-- the word that was stored there since the last commit
+abbrev pub work_at : List (ℕ × ℕ) → ℕ → Option ℕ
+work_at work p = lookup (nat_eq p) work
+
+-- where word i of a record of this width stands
+abbrev pub place_in : Sizes → ℕ → ℕ → ℕ → ℕ
+place_in z width ref i = place z.buffers z.words width ref i
+
+-- every word of a record was stored since the last commit, in an active buffer of its width
+pub record IsWhole (w : WriterView) (ref : ℕ) (ws : List ℕ) : Type 0 where
+  pub entry : IsEntry w.sizes.buffers w.sizes.words (length ws) ref
+  pub active : active_in w.buffers (buffer_of ref) ≡ Some (length ws)
+  pub words : (i : ℕ) → i < length ws → work_at w.work (place_in w.sizes (length ws) ref i) ≡ Some (slice_index ws i)
+
+abbrev pub prepend : Option ℕ → Option (List ℕ) → Option (List ℕ)
+prepend None o = None
+prepend (Some x) None = None
+prepend (Some x) (Some xs) = Some (x ∷ xs)
+
+-- so many words of the work from a place on, where all of them are there
+unfoldable pub run_at : List (ℕ × ℕ) → ℕ → ℕ → Option (List ℕ)
+run_at work p zero = Some []
+run_at work p (suc n) = prepend (work_at work p) (run_at work (suc p) n)
+
+-- the test of `IsEntry`
+unfoldable pub is_entry : Sizes → ℕ → ℕ → Bool
+is_entry z width ref =
+    nat_lt (buffer_of ref) z.buffers && (nat_lt 0 width && (nat_lt 0 (offset_of ref) && nat_le (offset_of ref * width + width) z.words))
+
+abbrev pub only_if : Bool → Option (List ℕ) → Option (List ℕ)
+only_if true o = o
+only_if false o = None
+
+abbrev pub whole_by : WriterView → ℕ → Option ℕ → Option (List ℕ)
+whole_by w ref None = None
+whole_by w ref (Some width) = only_if (is_entry w.sizes width ref) (run_at w.work (place_in w.sizes width ref 0) width)
+
+-- the words of a record that is whole in the work
+abbrev pub whole_at : WriterView → ℕ → Option (List ℕ)
+whole_at w ref = whole_by w ref (active_in w.buffers (buffer_of ref))
+
+abbrev pub overlay : WriterView → Records
+overlay w ref = unwrap_or (whole_at w ref) (words_at (last_image w.commits) ref)
+
+-- the image of a root in the writer's records, where a layout says what a root reaches
+abbrev pub next_image : (ℕ → Records → ℕ → List ℕ) → WriterView → ℕ → Image
+next_image reaches w root = image_of (reaches w.sizes.shape (overlay w) root) (overlay w) root

@@ -1,0 +1,13 @@
+//! The append-only core: a writer, readers and the words that they share, as single events on words.
+//!
+//! Each event is one atomic step on one word by one seat. Every schedule of threads is a list of
+//! events, so what holds after every list of them holds under every schedule.
+#![tactic(auto)]
+
+mod laws;
+mod views;
+
+pub use laws::{commits_law, core_law, event_law, guard_law, publish_law, root_law, store_law};
+pub use views::{
+    Buffer, OpenHold, Pending, ReaderState, ReaderView, Sizes, Stops, Tag, View, WriterView,
+};

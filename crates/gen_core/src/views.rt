@@ -1,0 +1,97 @@
+//! What each seat knows: plain data, which a seat of the table can carry.
+
+use image_base::Image;
+use std::collections::LinkedList;
+
+/// The buffers, the words of each, the shape of the images, and the highest numbers of a commit
+/// and of a generation.
+#[derive(Clone, Copy)]
+pub struct Sizes {
+    pub buffers: u64,
+    pub words: u64,
+    pub shape: u64,
+    pub commit_limit: u64,
+    pub generation_limit: u64,
+}
+
+/// An open hold of the queue: its generation, its number, and the first commit that it protects.
+#[derive(Clone, Copy)]
+pub struct OpenHold {
+    pub generation: u64,
+    pub hold: u64,
+    pub first: u64,
+}
+
+/// What the writer has begun with the queue: nothing, a hold that is reopened and not yet in it, or
+/// the newest hold found unused.
+#[derive(Clone, Copy)]
+pub enum Pending {
+    Nothing,
+    Next(u64),
+    Probed,
+}
+
+/// The generation and the last commit when a buffer was put on hold.
+#[derive(Clone, Copy)]
+pub struct Tag {
+    pub generation: u64,
+    pub commit: u64,
+}
+
+/// A buffer is free, with the generation of its last tag; or active, with its width (0 until it is
+/// stored) and that generation; or on hold, with its width and its tag.
+#[derive(Clone, Copy)]
+pub enum Buffer {
+    Free(Option<u64>),
+    Active(u64, Option<u64>),
+    Held(u64, Tag),
+}
+
+/// How many closes found a hold in use, and the count that the last of them found.
+#[derive(Clone, Copy)]
+pub struct Stops {
+    pub count: u64,
+    pub found: u64,
+}
+
+/// The commits, the empty one first; the queue of open holds; the buffers; the words stored since
+/// the last commit, the newest first; what joined readers saw; and how many readers were made.
+pub struct WriterView {
+    pub sizes: Sizes,
+    pub commits: LinkedList<Image>,
+    pub older: LinkedList<OpenHold>,
+    pub newest: OpenHold,
+    pub pending: Pending,
+    pub buffers: LinkedList<Buffer>,
+    pub work: LinkedList<(u64, u64)>,
+    pub saw: LinkedList<(u64, Image)>,
+    pub made: u64,
+    pub stops: Stops,
+}
+
+/// A reader is idle; or aimed at a generation and its hold; or raised on a hold that was open; or
+/// on its way back from one that was closed; or under a guard of a hold and a commit; or joined away.
+#[derive(Clone, Copy)]
+pub enum ReaderState {
+    Idle,
+    Aimed(u64, u64),
+    Raised(u64),
+    Bounced(u64),
+    Guarded(u64, u64),
+    Spent,
+}
+
+/// The last commit seen, the least generation to aim at, and each commit seen, the newest first.
+pub struct ReaderView {
+    pub sizes: Sizes,
+    pub seen: u64,
+    pub least: u64,
+    pub state: ReaderState,
+    pub saw: LinkedList<(u64, Image)>,
+}
+
+/// What one seat knows.
+pub enum View {
+    Writer(WriterView),
+    Reader(ReaderView),
+}
