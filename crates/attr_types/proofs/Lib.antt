@@ -1,1 +1,4 @@
-pub mod ValueOrder
+pub mod EntryLemmas
+pub mod SetLemmas
+pub mod TableLemmas
+pub mod HitLemmas

@@ -35,7 +35,7 @@ IsLawfulItems WeightedSet items = (length items ≤ 1023) × AscendByValue items
 -- documents ascend, each with lawful items
 pub record IsLawfulTable (kind : Kind) (table : Table) : Type 0 where
   pub ascends : IsStrictlySortedBy nat_cmp (keys_of table)
-  pub documents : AllByRecursion (λ e. IsDocument e.0) table
+  pub documents : AllByRecursion IsDocument (keys_of table)
   pub items : AllByRecursion (λ e. IsLawfulItems kind e.1) table
 
 -- the values of a table are of one type

@@ -1,4 +1,6 @@
 pub mod Value
+pub mod ValueOrder
 pub mod Query
 pub mod Table
 pub mod Lawful
+pub mod Laws

@@ -35,7 +35,7 @@ without_document table doc = remove_entry (is_at (nat_cmp doc)) table
 abbrev pub with_item : List Item → Item → List Item
 with_item [] item = item ∷ []
 with_item (first ∷ items) item = match_ordering (value_cmp item.value first.value)
-    (item ∷ first ∷ items) (item ∷ items) (first ∷ with_item items item)
+    (item ∷ first ∷ items) (record first { weight = item.weight } ∷ items) (first ∷ with_item items item)
 
 -- a weighted set with items, one after another
 abbrev pub with_items : List Item → List Item → List Item

@@ -1,4 +1,4 @@
--- The order of values is total, and exact.
+-- The order of values is total, and only a value itself is equal to it.
 use Rattle.std.proofs.Common.{◌≡◌, Less, Equal, refl, ap}
 use Rattle.std.proofs.lemmas.Cmp.{int_cmp_total, nat_list_cmp_total}
 use Rattle.std.proofs.lemmas.Map.Lookups.{exact_bytes, exact_signed}

@@ -1,0 +1,26 @@
+//! Laws of the plain table. Each function does nothing: its contract is the law.
+ghost use Rattle.attr_types.specs.Laws.{HitsAscend, HitsAreMatches, SkippedLeaves, StepKeeps, RunKeeps, OthersStay, PutIsThere, RemoveAfterPut};
+
+/// The hits of a query ascend strictly, and are exactly the documents that match.
+pub fn hits_law()
+    ensures ascend { HitsAscend }
+    ensures exact { HitsAreMatches }
+{}
+
+/// A skipped operation leaves the table.
+pub fn skip_law()
+    ensures { SkippedLeaves }
+{}
+
+/// Operations that fit keep a table lawful.
+pub fn step_law()
+    ensures step { StepKeeps }
+    ensures run { RunKeeps }
+{}
+
+/// An operation is about its own document alone: a put makes it be there, a remove after it leaves none.
+pub fn document_law()
+    ensures others { OthersStay }
+    ensures put { PutIsThere }
+    ensures remove { RemoveAfterPut }
+{}
