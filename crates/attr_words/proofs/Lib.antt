@@ -1,0 +1,5 @@
+mod RowLemmas
+mod WalkRows
+mod OneKind
+mod CommandLemmas
+mod TextLemmas

@@ -1,0 +1,38 @@
+-- What `read_words` has found on its way: the texts of the options, and clap's kinds of error.
+use Rattle.std.specs.Prelude.{◌≡◌, ◌<◌, ◌^◌, ◌⊎◌, List, Some, codes}
+use Rattle.std.specs.Str.Parse.{IsNumeral, digits_value, without_leading_plus}
+use Rattle.clap.specs.Walk.{Row, Text, first_of, one_of}
+use Rattle.clap.specs.declared.error.kind.ErrorKind.{ErrorKind}
+use Rattle.clap.specs.declared.error.kind.ErrorKind.TheVariants as kinds
+use Rattle.attr_words.specs.CommandLine.{batch, readers, rounds, buffers, words}
+use Rattle.attr_words.specs.declared.reading.WordsError.{WordsError}
+use Rattle.attr_words.specs.declared.reading.WordsError.TheVariants as errors
+
+-- an argument has a text, read as it was written, of which P holds
+abbrev pub HasText : (Text → Type 0) → Text → List Row → Type 0
+HasText P name rows = (text : Text) × (first_of name rows ≡ Some text)
+    × (one_of name rows ≡ Some text) × P text
+
+-- its text is a number below 2^32
+abbrev pub HasNumberText : Text → List Row → Type 0
+HasNumberText = HasText (λ text. IsNumeral 10 (without_leading_plus text)
+    × (digits_value 10 (without_leading_plus text) < 2 ^ 32))
+
+-- its text is `true` or `false`
+abbrev pub HasFlagText : Text → List Row → Type 0
+HasFlagText = HasText (λ text. (text ≡ codes "true") ⊎ (text ≡ codes "false"))
+
+-- the numbers and the flag have their texts
+pub record HasTexts (rows : List Row) : Type 0 where
+  pub batch : HasNumberText batch.name rows
+  pub readers : HasNumberText readers.name rows
+  pub rounds : HasNumberText rounds.name rows
+  pub buffers : HasNumberText buffers.name rows
+  pub words : HasNumberText words.name rows
+  pub after : HasFlagText (codes "after") rows
+
+-- the error that a kind of clap's becomes
+abbrev pub error_of : ErrorKind → WordsError
+error_of kinds.DisplayHelp = errors.Help
+error_of kinds.OutOfMemory = errors.Memory
+error_of _ = errors.Refused

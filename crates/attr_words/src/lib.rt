@@ -1,0 +1,9 @@
+//! The command line of `attr`: a list of words, read by `clap` into the settings of a run.
+#![tactic(auto)]
+
+mod command;
+mod reading;
+mod settings;
+
+pub use reading::{WordsError, read_words};
+pub use settings::Settings;

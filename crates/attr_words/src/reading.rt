@@ -1,0 +1,55 @@
+//! A list of words, read as settings.
+ghost use Rattle.std.specs.Prelude.{◌≡◌, ◌≤◌, IfOk, length, map, string_bytes};
+ghost use Rattle.clap.specs.Faults.{fault_of};
+ghost use Rattle.attr_words.specs.CommandLine.{attr_app};
+ghost use Rattle.attr_words.specs.Found.{error_of};
+ghost use Rattle.attr_words.specs.Reading.{IsInRange, Reads};
+ghost use Rattle.attr_words.specs.declared.reading.WordsError.TheVariants as errors;
+
+use crate::command::attr_command;
+use crate::settings::{Settings, settings_in};
+use clap::error::ErrorKind;
+use std::alloc::{AllocError, Global};
+
+/// Why a list of words gives no settings.
+#[derive(Clone, Copy, Debug, PartialEq, Eq)]
+pub enum WordsError {
+    /// The words ask for help.
+    Help,
+    /// The command does not take the words.
+    Refused,
+    /// Memory was refused.
+    Memory,
+}
+
+impl From<AllocError> for WordsError {
+    ghost from_gives = { λ _ e. e ≡ errors.Memory };
+
+    fn from(_e: AllocError) -> WordsError {
+        WordsError::Memory
+    }
+}
+
+fn refusal_of(kind: ErrorKind) -> WordsError
+    ensures { result ≡ error_of kind }
+{
+    match kind {
+        ErrorKind::DisplayHelp => WordsError::Help,
+        ErrorKind::OutOfMemory => WordsError::Memory,
+        _ => WordsError::Refused,
+    }
+}
+
+/// Reads the words after the program's name, as `clap` reads them by the command `attr`.
+#[tactic(auto, using(crate::proofs::CommandLemmas::one_kind_at_most))]
+pub fn read_words(alloc: Global, words: &[String]) -> Result<Settings, WordsError>
+    ensures answer { Reads (map (λ w. string_bytes w) words.now) result }
+    ensures one_kind { length (fault_of attr_app (map (λ w. string_bytes w) words.now)) ≤ 1 }
+    ensures ranges { IfOk result IsInRange }
+{
+    let command = attr_command(alloc)?;
+    match command.try_get_matches_from(words) {
+        Ok(matches) => Ok(settings_in(alloc, &matches)?),
+        Err(error) => Err(refusal_of(error.kind())),
+    }
+}
