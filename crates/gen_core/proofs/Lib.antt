@@ -4,5 +4,7 @@ pub mod Frames
 pub mod Writer
 pub mod Publish
 pub mod Readers
+pub mod Overlay
 pub mod Opening
 pub mod Law
+pub mod Needed

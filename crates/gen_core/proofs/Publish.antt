@@ -72,7 +72,7 @@ module _ (reaches : ℕ → Records → ℕ → List ℕ) (lawful : ℕ → Reco
       let h = stays shape (overlay w) (words_at (next_image reaches w root)) root (pairs-same refs (overlay w)) may.lawful_root in
       record { lawful_image = h.0; reached = references-pairs refs (overlay w) ∙ sym h.1; small = may.small }
 
-  last_kept : (s : State) (P : Image → Type 0) → Good reaches lawful s → All P (kept_of s.writer) → P (last_image s.writer.commits)
+  pub last_kept : (s : State) (P : Image → Type 0) → Good reaches lawful s → All P (kept_of s.writer) → P (last_image s.writer.commits)
   last_kept s P g all =
       all_drop-at P (floor_of s.writer) s.writer.commits (last_number s.writer.commits) (last_image s.writer.commits) all
       (omega (arith, floor-zero reaches lawful s g)) (last_at s.writer.commits (some-commit reaches lawful s g))

@@ -1,5 +1,5 @@
 -- What the layers above quote of the invariant: laws over a state that meets it and one event.
-use Rattle.std.specs.Prelude.{◌≡◌, ℕ, ◌/◌, ◌%◌, ◌<◌, ◌≤◌, List, length, slice_get, slice_index, Some, All}
+use Rattle.std.specs.Prelude.{◌≡◌, ◌⊎◌, ℕ, ◌/◌, ◌%◌, ◌<◌, ◌≤◌, List, length, slice_get, slice_index, Some, All}
 use Rattle.entry_ref.specs.References.{buffer_of}
 use Rattle.image_base.specs.declared.Image.{Image}
 use Rattle.image_base.specs.Records.{Records}
@@ -8,7 +8,7 @@ use Rattle.image_base.specs.Places.{base, StandsIn}
 use Rattle.gen_core.specs.declared.views.Sizes.{Sizes}
 use Rattle.gen_core.specs.declared.views.ReaderView.{ReaderView}
 use Rattle.gen_core.specs.Views.{kept_of, last_number, last_image, IsCommit}
-use Rattle.gen_core.specs.Work.{place_in, next_image}
+use Rattle.gen_core.specs.Work.{place_in, IsWhole, overlay, next_image}
 use Rattle.gen_core.specs.Good.{State, Good}
 use Rattle.gen_core.specs.Events.{Event, Happens, Happen, MayOpen, opening, hand_out, MayStoreWord, MayStoreWidth, MayPublish, IsUnder, NoneFromBefore, after_store_word, after_store_width, after_publish}
 
@@ -76,3 +76,26 @@ module _ (reaches : ℕ → Records → ℕ → List ℕ) (lawful : ℕ → Reco
   -- what joined readers saw are the writer's commits
   abbrev pub KeepsCommits : Type 0
   KeepsCommits = (s : State) → Good reaches lawful s → All (IsCommit s.writer.commits) s.writer.saw
+
+  -- a record of the writer is of the last commit, or every word of it was stored since
+  abbrev pub IsLastOrWhole : State → ℕ → List ℕ → Type 0
+  IsLastOrWhole s ref ws = (record_at (last_image s.writer.commits) ref ≡ Some ws) ⊎ IsWhole s.writer ref ws
+
+  abbrev pub RecordsAreFound : Type 0
+  RecordsAreFound = (s : State) (ref : ℕ) → 0 < length (overlay s.writer ref) → IsLastOrWhole s ref (overlay s.writer ref)
+
+  -- and each such record is one of the writer
+  abbrev pub FoundAreRecords : Type 0
+  FoundAreRecords = (s : State) (ref : ℕ) (ws : List ℕ) → Good reaches lawful s → IsLastOrWhole s ref ws → overlay s.writer ref ≡ ws
+
+  -- each of its words stands at its place
+  abbrev pub RecordsStand : Type 0
+  RecordsStand =
+      (s : State) (ref i : ℕ) → Good reaches lawful s → i < length (overlay s.writer ref)
+      → slice_index s.words (place_in s.writer.sizes (length (overlay s.writer ref)) ref i) ≡ slice_index (overlay s.writer ref) i
+
+  -- each record of an image that may be published is of the last commit, or was stored whole since
+  abbrev pub PublishesWhole : Type 0
+  PublishesWhole =
+      (s : State) (root : ℕ) → MayPublish lawful s.writer root
+      → All (λ entry. IsLastOrWhole s entry.0 entry.1) (next_image reaches s.writer root).records

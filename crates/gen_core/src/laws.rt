@@ -1,6 +1,7 @@
 //! The core's laws: each function's contract is the law, for every layout.
 
-ghost use Rattle.gen_core.specs.Laws.{KeepsGood, HandsOutUnguarded, EventKeepsGood, LoadsImageWord, LoadsWidth, ImageStands, StoreLeavesKept, WidthLeavesKept, PublishedStands, LoadsLaterCommit, KeepsCommits};
+ghost use Rattle.gen_core.specs.Laws.{KeepsGood, HandsOutUnguarded, EventKeepsGood, LoadsImageWord, LoadsWidth, ImageStands, StoreLeavesKept, WidthLeavesKept, PublishedStands, PublishesWhole, RecordsAreFound, FoundAreRecords, RecordsStand, LoadsLaterCommit, KeepsCommits};
+ghost use Rattle.gen_core.specs.Needed.{NeedsActive, NeedsApart, NeedsActiveWidth, NeedsNoWidth, NeedsFree, NeedsLawful, NeedsRecords, NeedsNumber, NeedsSeat, NeedsReader};
 
 use image_base::Layout;
 
@@ -29,9 +30,31 @@ pub fn store_law<L: Layout>()
     ensures width { WidthLeavesKept L.reaches L.lawful }
 {}
 
-/// A published image stands.
+/// A published image stands, and each of its records is of the last commit or was stored whole since.
 pub fn publish_law<L: Layout>()
-    ensures { PublishedStands L.reaches L.lawful }
+    ensures stands { PublishedStands L.reaches L.lawful }
+    ensures whole { PublishesWhole L.reaches L.lawful }
+{}
+
+/// The writer's records are those of the last commit and those stored whole since, and they stand.
+pub fn records_law<L: Layout>()
+    ensures found { RecordsAreFound L.reaches L.lawful }
+    ensures records { FoundAreRecords L.reaches L.lawful }
+    ensures stand { RecordsStand L.reaches L.lawful }
+{}
+
+/// A step without its condition breaks the invariant.
+pub fn conditions_law<L: Layout>()
+    ensures active { NeedsActive L.reaches L.lawful }
+    ensures apart { NeedsApart L.reaches L.lawful }
+    ensures active_width { NeedsActiveWidth L.reaches L.lawful }
+    ensures no_width { NeedsNoWidth L.reaches L.lawful }
+    ensures free { NeedsFree L.reaches L.lawful }
+    ensures lawful { NeedsLawful L.reaches L.lawful }
+    ensures records { NeedsRecords L.reaches L.lawful }
+    ensures number { NeedsNumber L.reaches L.lawful }
+    ensures seat { NeedsSeat L.reaches L.lawful }
+    ensures reader { NeedsReader L.reaches L.lawful }
 {}
 
 /// The commit that a reader loads is lawful, and not below what it had seen.

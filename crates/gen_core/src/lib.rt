@@ -7,7 +7,10 @@
 mod laws;
 mod views;
 
-pub use laws::{commits_law, core_law, event_law, guard_law, publish_law, root_law, store_law};
+pub use laws::{
+    commits_law, conditions_law, core_law, event_law, guard_law, publish_law, records_law,
+    root_law, store_law,
+};
 pub use views::{
     Buffer, OpenHold, Pending, ReaderState, ReaderView, Sizes, Stops, Tag, View, WriterView,
 };

@@ -1,0 +1,131 @@
+-- The writer's records, for who writes entries and for the calls that read words.
+use Rattle.std.proofs.Common.{◌≡◌, ◌≢◌, ℕ, zero, suc, ◌+◌, ◌<◌, ◌≤◌, List, [], ◌∷◌, length, Option, Some, None, Bool, cond, eqb, true, false, ne_eqb, refl, sym, ap, ◌∙◌, subst, ⊎_elim, arith, slice_index}
+use Rattle.std.specs.Option.{unwrap_or}
+use Rattle.std.specs.Prelude.{All}
+use Rattle.std.proofs.lemmas.Bool.Decides.{nat_tests}
+use Rattle.entry_ref.specs.References.{buffer_of}
+use Rattle.image_base.specs.declared.Image.{Image}
+use Rattle.image_base.specs.Records.{Records, SameAt}
+use Rattle.image_base.specs.Images.{record_at, words_at}
+use Rattle.image_base.specs.Places.{IsEntry}
+use Rattle.image_base.proofs.Apart.{one_place, entry-small}
+use Rattle.image_base.proofs.Pairs.{pairs-same}
+use Rattle.gen_core.specs.declared.views.Sizes.{Sizes}
+use Rattle.gen_core.specs.declared.views.WriterView.{WriterView}
+use Rattle.gen_core.specs.Views.{active_in, last_image}
+use Rattle.gen_core.specs.Work.{work_at, place_in, IsWhole, prepend, run_at, is_entry, only_if, whole_by, whole_at, overlay, next_image}
+use Rattle.gen_core.specs.Good.{State, IsPlaced, Avoids, Good}
+use Rattle.gen_core.specs.Events.{stored, published}
+use Rattle.gen_core.proofs.Lists.{all_found}
+use Rattle.gen_core.proofs.Work.{is_entry-true, whole-found, overlay-found}
+use Rattle.gen_core.proofs.Writer.{active-width, last_image-push}
+use Rattle.gen_core.proofs.Publish.{last_kept}
+
+run-made : (work : List (ℕ × ℕ)) (ws : List ℕ) (p : ℕ) → ((i : ℕ) → i < length ws → work_at work (p + i) ≡ Some (slice_index ws i)) → run_at work p (length ws) ≡ Some ws
+unfolding run_at
+run-made work [] p each = refl
+run-made work (x ∷ xs) p each =
+    let at : p + 0 ≡ p = omega arith in
+    let first : work_at work p ≡ Some x = ap (work_at work) (sym at) ∙ each 0 (omega arith) in
+    let rest : run_at work (suc p) (length xs) ≡ Some xs = run-made work xs (suc p) (λ i lt. let next : suc p + i ≡ p + suc i = omega arith in ap (work_at work) next ∙ each (suc i) (omega arith)) in
+    (λ k. prepend (first k) (rest k))
+
+-- the test of an entry holds of an entry
+pub entry-true : (z : Sizes) (width ref : ℕ) → IsEntry z.buffers z.words width ref → is_entry z width ref ≡ true
+unfolding is_entry
+entry-true z width ref e =
+    let inside = e.inside in
+    let wide = e.wide in
+    let first = e.first in
+    let last = e.last in
+    grind (arith, nat_tests, inside, wide, first, last)
+
+-- what was stored whole is the writer's record
+pub whole-made : (w : WriterView) (ref : ℕ) (ws : List ℕ) → IsWhole w ref ws → whole_at w ref ≡ Some ws
+whole-made w ref ws h =
+    let start : ℕ = place_in w.sizes (length ws) ref 0 in
+    ap (whole_by w ref) h.active
+    ∙ ap (λ t. only_if t (run_at w.work start (length ws))) (entry-true w.sizes (length ws) ref h.entry)
+    ∙ run-made w.work ws start (λ i lt. let at : start + i ≡ place_in w.sizes (length ws) ref i = omega arith in ap (work_at w.work) at ∙ h.words i lt)
+
+pub overlay-whole : (w : WriterView) (ref : ℕ) (ws : List ℕ) → IsWhole w ref ws → overlay w ref ≡ ws
+overlay-whole w ref ws h = ap (λ o. unwrap_or o (words_at (last_image w.commits) ref)) (whole-made w ref ws h)
+
+-- after a publish the records are the image's
+pub overlay-published : (w : WriterView) (image : Image) (ref : ℕ) → overlay (published w image) ref ≡ words_at image ref
+overlay-published w image ref = by_whole (whole_at (published w image) ref) refl ∙ ap (λ x. words_at x ref) (last_image-push w.commits image)
+  where
+    by_whole : (o : Option (List ℕ)) → whole_at (published w image) ref ≡ o
+        → unwrap_or o (words_at (last_image (published w image).commits) ref) ≡ words_at (last_image (published w image).commits) ref
+    by_whole None e = refl
+    by_whole (Some ws) e =
+        let h = whole-found (published w image) ref ws e in
+        let first : work_at [] (place_in w.sizes (length ws) ref 0) ≡ Some (slice_index ws 0) = h.words 0 h.entry.wide in
+        absurd (cc)
+
+-- what is reached has the same words after its publish
+pub publish-tells : (reaches : ℕ → Records → ℕ → List ℕ) (w : WriterView) (root : ℕ)
+    → SameAt (reaches w.sizes.shape (overlay w) root) (overlay w) (overlay (published w (next_image reaches w root)))
+publish-tells reaches w root =
+    let refs : List ℕ = reaches w.sizes.shape (overlay w) root in
+    let image : Image = next_image reaches w root in
+    subst (λ (m : Records). SameAt refs (overlay w) m) (λ k ref. sym (overlay-published w image ref) k) (pairs-same refs (overlay w))
+
+-- a stored word leaves what is read beside it
+run-other : (work : List (ℕ × ℕ)) (p n start count : ℕ) → ((i : ℕ) → i < count → start + i ≢ p) → run_at ((p, n) ∷ work) start count ≡ run_at work start count
+unfolding run_at
+run-other work p n start zero apart = refl
+run-other work p n start (suc count) apart =
+    let here : eqb start p ≡ false = ne_eqb start p (λ e. apart 0 (omega arith) (omega (arith, e))) in
+    let rest = run-other work p n (suc start) count (λ i lt e. apart (suc i) (omega arith) (omega (arith, e))) in
+    (λ k. prepend (cond (here k) (Some n) (work_at work start)) (rest k))
+
+-- storing a word of one entry leaves the other records
+pub overlay-others : (w : WriterView) (ref width i n : ℕ) → active_in w.buffers (buffer_of ref) ≡ Some width → IsEntry w.sizes.buffers w.sizes.words width ref → i < width
+    → (q : ℕ) → q ≢ ref → overlay (stored w (place_in w.sizes width ref i) n) q ≡ overlay w q
+overlay-others w ref width i n at e lt q other = ap (λ o. unwrap_or o (words_at (last_image w.commits) q)) (by_width (active_in w.buffers (buffer_of q)) refl)
+  where
+    some-same : (x y : ℕ) → Some x ≡ Some y → x ≡ y
+    some-same x y h = cc
+
+    p : ℕ
+    p = place_in w.sizes width ref i
+
+    by_entry : (x : ℕ) → active_in w.buffers (buffer_of q) ≡ Some x → (t : Bool) → is_entry w.sizes x q ≡ t
+        → only_if t (run_at ((p, n) ∷ w.work) (place_in w.sizes x q 0) x) ≡ only_if t (run_at w.work (place_in w.sizes x q 0) x)
+    by_entry x there false test = refl
+    by_entry x there true test = run-other w.work p n (place_in w.sizes x q 0) x
+        (λ j less same. other (one_place w.sizes.buffers w.sizes.words x width q ref j i (is_entry-true w.sizes x q test) e
+        (λ b. some-same x width (sym there ∙ ap (active_in w.buffers) b ∙ at)) less lt (omega (arith, same))).0)
+
+    by_width : (o : Option ℕ) → active_in w.buffers (buffer_of q) ≡ o → whole_by (stored w p n) q o ≡ whole_by w q o
+    by_width None there = refl
+    by_width (Some x) there = by_entry x there (is_entry w.sizes x q) refl
+
+-- a record of the writer has a reference of 32 bits, where its last commit's records lie in their buffers
+pub overlay-small : (w : WriterView) → w.sizes.words ≤ 65536 → All (IsPlaced w.sizes w.buffers) (last_image w.commits).records
+    → (ref : ℕ) → 0 < length (overlay w ref) → ref < 4294967296
+overlay-small w few placed ref there = ⊎_elim
+    (λ (old : record_at (last_image w.commits) ref ≡ Some (overlay w ref)). entry-small (all_found (IsPlaced w.sizes w.buffers) (last_image w.commits).records ref _ placed old).inside few)
+    (λ (whole : IsWhole w ref (overlay w ref)). entry-small whole.entry few)
+    (overlay-found w ref there)
+
+module _ (reaches : ℕ → Records → ℕ → List ℕ) (lawful : ℕ → Records → ℕ → Type 0) where
+  -- the last commit's records are the writer's
+  pub overlay-kept : (s : State) → Good reaches lawful s → (ref : ℕ) (ws : List ℕ) → record_at (last_image s.writer.commits) ref ≡ Some ws → overlay s.writer ref ≡ ws
+  overlay-kept s g ref ws there = by_whole (whole_at s.writer ref) refl
+    where
+      some-same : (x y : ℕ) → Some x ≡ Some y → x ≡ y
+      some-same x y h = cc
+
+      by_whole : (o : Option (List ℕ)) → whole_at s.writer ref ≡ o → unwrap_or o (words_at (last_image s.writer.commits) ref) ≡ ws
+      by_whole None e = ap (λ o. unwrap_or o []) there
+      by_whole (Some xs) e =
+          let w : WriterView = s.writer in
+          let h = whole-found w ref xs e in
+          let placed = all_found (IsPlaced w.sizes w.buffers) (last_image w.commits).records ref ws (last_kept reaches lawful s (λ image. All (IsPlaced w.sizes w.buffers) image.records) g g.frozen.records) there in
+          let long : length xs ≡ length ws = some-same _ _ (sym (active-width w.buffers _ _ h.active) ∙ placed.width) in
+          let p : ℕ = place_in w.sizes (length xs) ref 0 in
+          let stored_word = g.frozen.stored p _ (h.words 0 h.entry.wide) in
+          let far = all_found (λ entry. (i : ℕ) → i < length entry.1 → place_in w.sizes (length entry.1) entry.0 i ≢ p) (last_image w.commits).records ref ws (last_kept reaches lawful s (Avoids w.sizes p) g stored_word.apart) there in
+          absurd (far 0 placed.inside.wide (ap (λ n. place_in w.sizes n ref 0) (sym long)))
