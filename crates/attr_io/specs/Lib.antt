@@ -1,3 +1,5 @@
-pub mod Faults
 pub mod Bytes
-pub mod States
+pub mod FakeSink
+pub mod FakeSource
+pub mod Faults
+pub mod VecSink

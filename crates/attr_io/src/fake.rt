@@ -3,7 +3,7 @@ ghost use Rattle.std.specs.Io.{ReadsAtMost};
 ghost use Rattle.std.specs.Io.KnownBytes.{ReadConsumes, WriteAppends};
 ghost use Rattle.attr_io.specs.Bytes.{TakesSome};
 ghost use Rattle.attr_io.specs.Faults.{CountsFaults, counted};
-ghost use Rattle.attr_io.specs.States.{IsFull, IsListed};
+ghost use Rattle.attr_io.specs.FakeSource.{IsListed};
 
 use crate::memory::{VecSink, copy_front};
 use crate::traffic::{Failed, Sink, Source};
@@ -59,7 +59,7 @@ pub struct FakeSource {
 
 impl Model for FakeSource {
     ghost use Rattle.std.specs.Prelude.{◌<◌, ◌≤◌, drop, vec_len};
-    ghost use Rattle.attr_io.specs.States.{FakeSourceState};
+    ghost use Rattle.attr_io.specs.FakeSource.{FakeSourceState};
 
     ghost Value = { FakeSourceState };
 
@@ -108,6 +108,7 @@ impl FakeSource {
 
 impl Source for FakeSource {
     ghost use Rattle.std.specs.Prelude.{Some};
+    ghost use Rattle.attr_io.specs.FakeSource.{after_fault, after_read, given_count};
 
     ghost left = { λ s. Some s.left };
 
@@ -124,15 +125,9 @@ impl Source for FakeSource {
         ensures one { self.new.calls ≤ self.old.calls + 1 }
 
         ensures fails { IsErr result ↔ IsListed self.old.fails self.old.calls }
-        ensures moves { IfOk result (λ n. n ≡ min (min (length into.old) self.old.step) (length self.old.left)) }
-        ensures ok { IfOk result (λ n. self.new ≡ record self.old {
-          left = drop n self.old.left;
-          calls = counted self.old.calls;
-        }) }
-        ensures err { OnErr result (self.new ≡ record self.old {
-          calls = counted self.old.calls;
-          faults = counted self.old.faults;
-        }) }
+        ensures moves { IfOk result (λ n. n ≡ given_count self.old (length into.old)) }
+        ensures ok { IfOk result (λ n. self.new ≡ after_read self.old n) }
+        ensures err { OnErr result (self.new ≡ after_fault self.old) }
     {
         if self.schedule.is_next_listed() {
             self.faults = self.faults.saturating_add(1);
@@ -157,7 +152,7 @@ pub struct FakeSink {
 
 impl Model for FakeSink {
     ghost use Rattle.std.specs.Prelude.{◌<◌};
-    ghost use Rattle.attr_io.specs.States.{FakeSinkState};
+    ghost use Rattle.attr_io.specs.FakeSink.{FakeSinkState};
 
     ghost Value = { FakeSinkState };
 
@@ -212,6 +207,7 @@ impl FakeSink {
 
 impl Sink for FakeSink {
     ghost use Rattle.std.specs.Prelude.{Some};
+    ghost use Rattle.attr_io.specs.FakeSink.{Refuses, after_fault, after_write, taken_count};
 
     ghost taken = { λ s. Some s.taken };
 
@@ -225,17 +221,10 @@ impl Sink for FakeSink {
         ensures bytes { WriteAppends (Some self.old.taken) (Some self.new.taken) result piece.now }
         ensures cause { CountsFaults self.old.faults self.new.faults result }
 
-        ensures fails { IsErr result ↔ (IsListed self.old.fails self.old.calls ⊎ IsFull self.old.taken self.old.room) }
-        ensures moves { IfOk result (λ n. n ≡
-            min (min (length piece.now) self.old.step) (self.old.room - length self.old.taken)) }
-        ensures ok { IfOk result (λ n. self.new ≡ record self.old {
-          taken = self.old.taken ++ take n piece.now;
-          calls = counted self.old.calls;
-        }) }
-        ensures err { OnErr result (self.new ≡ record self.old {
-          calls = counted self.old.calls;
-          faults = counted self.old.faults;
-        }) }
+        ensures fails { IsErr result ↔ Refuses self.old }
+        ensures moves { IfOk result (λ n. n ≡ taken_count self.old piece.now) }
+        ensures ok { IfOk result (λ n. self.new ≡ after_write self.old piece.now n) }
+        ensures err { OnErr result (self.new ≡ after_fault self.old) }
     {
         if self.schedule.is_next_listed() {
             return self.sink.fail();

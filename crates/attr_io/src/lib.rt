@@ -10,6 +10,8 @@ mod gate;
 mod memory;
 mod reading;
 mod standard;
+#[cfg(test)]
+mod tests;
 mod traffic;
 mod writing;
 

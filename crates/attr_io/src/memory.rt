@@ -1,8 +1,7 @@
 ghost use Rattle.std.specs.Prelude.{◌≡◌, ◌+◌, ◌-◌, ◌<◌, ◌≤◌, ◌↔◌, [], ◌++◌, length, take, drop, min, IfOk, IsErr, OnErr};
 ghost use Rattle.std.specs.Io.KnownBytes.{WriteAppends};
 ghost use Rattle.attr_io.specs.Bytes.{TakesSome};
-ghost use Rattle.attr_io.specs.Faults.{CountsFaults, counted};
-ghost use Rattle.attr_io.specs.States.{IsFull};
+ghost use Rattle.attr_io.specs.Faults.{CountsFaults};
 
 use crate::traffic::{Failed, Sink, Source};
 use std::alloc::{AllocError, Global};
@@ -64,7 +63,7 @@ pub struct VecSink {
 
 impl Model for VecSink {
     ghost use Rattle.std.specs.Prelude.{◌≤◌, vec_len, vec_capacity};
-    ghost use Rattle.attr_io.specs.States.{VecSinkState};
+    ghost use Rattle.attr_io.specs.VecSink.{VecSinkState};
 
     ghost Value = { VecSinkState };
 
@@ -74,6 +73,8 @@ impl Model for VecSink {
 }
 
 impl VecSink {
+    ghost use Rattle.attr_io.specs.VecSink.{after_fault};
+
     /// An empty sink with room for `room` bytes.
     pub fn create(alloc: Global, room: usize) -> Result<VecSink, AllocError>
         ensures { IfOk result (λ s. s ≡ record { taken = []; room = room; faults = 0 }) }
@@ -101,7 +102,7 @@ impl VecSink {
     pub(crate) fn fail(&mut self) -> Result<usize, Failed>
         ensures failed { IsErr result }
         ensures cause { CountsFaults self.old.faults self.new.faults result }
-        ensures counts { self.new ≡ record self.old { faults = counted self.old.faults } }
+        ensures counts { self.new ≡ after_fault self.old }
     {
         self.faults = self.faults.saturating_add(1);
         Err(Failed)
@@ -110,6 +111,7 @@ impl VecSink {
 
 impl Sink for VecSink {
     ghost use Rattle.std.specs.Prelude.{Some};
+    ghost use Rattle.attr_io.specs.VecSink.{IsFull, after_fault, after_write, fitting_count};
 
     ghost taken = { λ s. Some s.taken };
 
@@ -122,10 +124,10 @@ impl Sink for VecSink {
         ensures bytes { WriteAppends (Some self.old.taken) (Some self.new.taken) result piece.now }
         ensures cause { CountsFaults self.old.faults self.new.faults result }
 
-        ensures full { IsErr result ↔ IsFull self.old.taken self.old.room }
-        ensures fits { IfOk result (λ n. n ≡ min (length piece.now) (self.old.room - length self.old.taken)) }
-        ensures ok { IfOk result (λ n. self.new ≡ record self.old { taken = self.old.taken ++ take n piece.now }) }
-        ensures err { OnErr result (self.new ≡ record self.old { faults = counted self.old.faults }) }
+        ensures full { IsErr result ↔ IsFull self.old }
+        ensures fits { IfOk result (λ n. n ≡ fitting_count self.old piece.now) }
+        ensures ok { IfOk result (λ n. self.new ≡ after_write self.old piece.now n) }
+        ensures err { OnErr result (self.new ≡ after_fault self.old) }
     {
         let count = piece.len().min(self.room - self.bytes.len());
         if count == 0 {

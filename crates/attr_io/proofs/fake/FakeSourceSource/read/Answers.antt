@@ -1,6 +1,6 @@
 use Rattle.std.proofs.Common.{◌≤◌, ◌+◌, ◌∙◌, ℕ, ap, arith, drop, length, length-drop, length-take, sym}
 use Rattle.std.proofs.lemmas.List.{drop_all, take_rest}
-use Rattle.attr_io.specs.States.{FakeSourceState}
+use Rattle.attr_io.specs.FakeSource.{FakeSourceState}
 use Rattle.attr_io.proofs.ReadLemmas.{drop-read}
 use Rattle.attr_io.proofs.fake.FakeSourceSource.read.Goals as goal
 

@@ -1,0 +1,29 @@
+-- A fake source, and what a read does to it.
+use Rattle.std.specs.Prelude.{ℕ, ◌+◌, min, List, length, drop, Contains}
+use Rattle.attr_io.specs.Faults.{counted}
+
+-- the bytes left, the most that a call gives, the numbers of the calls that fail, how many calls
+-- were made, and the count of faults
+pub record FakeSourceState : Type 0 where
+  pub left : List ℕ
+  pub step : ℕ
+  pub fails : List ℕ
+  pub calls : ℕ
+  pub faults : ℕ
+
+-- the call after so many is one of the list; calls are numbered from 1, and their count stands
+-- still only where the next number is past all that a list of 64 bits can name
+abbrev pub IsListed : List ℕ → ℕ → Type 0
+IsListed fails calls = Contains fails (calls + 1)
+
+-- how many bytes a call that does not fail gives into a piece of this length
+abbrev pub given_count : FakeSourceState → ℕ → ℕ
+given_count s len = min (min len s.step) (length s.left)
+
+-- n bytes were given
+abbrev pub after_read : FakeSourceState → ℕ → FakeSourceState
+after_read s n = record s { left = drop n s.left; calls = counted s.calls }
+
+-- a call failed
+abbrev pub after_fault : FakeSourceState → FakeSourceState
+after_fault s = record s { calls = counted s.calls; faults = counted s.faults }

@@ -1,0 +1,25 @@
+-- A sink in memory, and what a write does to it.
+use Rattle.std.specs.Prelude.{ℕ, ◌-◌, ◌≤◌, min, List, ◌++◌, length, take}
+use Rattle.attr_io.specs.Faults.{counted}
+
+-- the bytes taken, how many it takes at most, and its count of faults
+pub record VecSinkState : Type 0 where
+  pub taken : List ℕ
+  pub room : ℕ
+  pub faults : ℕ
+
+-- no room is left
+abbrev pub IsFull : VecSinkState → Type 0
+IsFull s = s.room ≤ length s.taken
+
+-- how many bytes of a piece fit
+abbrev pub fitting_count : VecSinkState → List ℕ → ℕ
+fitting_count s piece = min (length piece) (s.room - length s.taken)
+
+-- n bytes of a piece were taken
+abbrev pub after_write : VecSinkState → List ℕ → ℕ → VecSinkState
+after_write s piece n = record s { taken = s.taken ++ take n piece }
+
+-- a write failed
+abbrev pub after_fault : VecSinkState → VecSinkState
+after_fault s = record s { faults = counted s.faults }
