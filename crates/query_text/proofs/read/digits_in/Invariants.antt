@@ -1,0 +1,6 @@
+use Rattle.std.proofs.Common.{◌≡◌, drop}
+use Rattle.query_text.specs.Reading.{digits_at}
+use Rattle.query_text.proofs.read.digits_in.Given as goal
+
+abbrev pub invariant-loop-i : goal.invariant-loop-i
+invariant-loop-i l = digits_at l.size (drop l.i l.bytes) ≡ digits_at 0 l.bytes

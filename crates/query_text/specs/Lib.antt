@@ -1,0 +1,5 @@
+pub mod Grammar
+pub mod Modes
+pub mod Survey
+pub mod Reading
+pub mod Parsing

@@ -1,0 +1,10 @@
+//! The text of a query, and the query that it stands for.
+#![tactic(auto)]
+
+mod list;
+mod mode;
+mod parse;
+mod read;
+mod survey;
+
+pub use parse::parse_query;

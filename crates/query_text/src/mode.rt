@@ -1,0 +1,264 @@
+ghost use Rattle.std.specs.Prelude.{◌≡◌};
+ghost use Rattle.query_text.specs.Modes.{is_digit, number_begun, text_begun, value_begun, query_begun, query_ended, number_ended, quoted_next, minus_next, number_next, text_next, escape_next, low_next, high_next, high_number_next, high_text_next, letter_next, next_mode};
+
+/// What the value that is being read is in its leaf.
+#[derive(Clone, Copy, Debug, PartialEq, Eq)]
+pub enum Role {
+    /// The leaf itself, or its prefix.
+    Alone,
+    /// The bound after `<` or `>`.
+    Bound,
+    /// The lower end of a range.
+    Low,
+    /// The upper end of a range.
+    High,
+}
+
+/// Where the text stands between two of its bytes.
+#[derive(Clone, Copy, Debug, PartialEq, Eq)]
+pub enum Mode {
+    /// Before a query: at the front, or after a comma.
+    Start,
+    /// After the `(` of a list.
+    Opened,
+    /// After `a`.
+    A,
+    /// After `an`.
+    An,
+    /// After `o`.
+    O,
+    /// After `and` or `or`.
+    Word,
+    /// After `<` or `>`.
+    Bound,
+    /// After `[`.
+    Low,
+    /// After `[;`.
+    High,
+    /// After `[`, a number and `;`.
+    HighNumber,
+    /// After `[`, a text and `;`.
+    HighText,
+    /// After the `-` of a number.
+    Minus(Role),
+    /// In a number: whether it is negative, and its size so far, which grows to 64 bits at most.
+    Number(Role, bool, u64),
+    /// In a text: how many bytes it has so far.
+    Text(Role, u64),
+    /// In a text, after a `\`.
+    Escape(Role, u64),
+    /// After the quote that ends a text.
+    Quoted(Role),
+    /// After the `*` or `]` that ends a leaf.
+    Ended,
+    /// After the `)` of a list.
+    Closed,
+}
+
+impl Mode {
+    /// The mode after one more byte, where some query goes on so. `nested` says that a bracket is
+    /// open.
+    #[tactic(auto, unfolding(crate::specs::Modes::next_mode))]
+    pub fn next(self, nested: bool, byte: u8) -> Option<Mode>
+        ensures { result ≡ next_mode nested self byte }
+    {
+        match self {
+            Mode::Start | Mode::Opened => query_begun(byte),
+            Mode::A => letter_next(b'n', Mode::An, byte),
+            Mode::An => letter_next(b'd', Mode::Word, byte),
+            Mode::O => letter_next(b'r', Mode::Word, byte),
+            Mode::Word => letter_next(b'(', Mode::Opened, byte),
+            Mode::Bound => value_begun(Role::Bound, byte),
+            Mode::Low => low_next(byte),
+            Mode::High => high_next(byte),
+            Mode::HighNumber => high_number_next(byte),
+            Mode::HighText => high_text_next(byte),
+            Mode::Minus(role) => minus_next(role, byte),
+            Mode::Number(role, negative, size) => number_next(nested, role, negative, size, byte),
+            Mode::Text(role, len) => Some(text_next(role, len, byte)),
+            Mode::Escape(role, len) => escape_next(role, len, byte),
+            Mode::Quoted(role) => quoted_next(nested, role, byte),
+            Mode::Ended | Mode::Closed => query_ended(nested, byte),
+        }
+    }
+}
+
+pub fn is_digit(byte: u8) -> bool
+    ensures { result ≡ is_digit byte }
+{
+    b'0' <= byte && byte <= b'9'
+}
+
+fn letter_next(letter: u8, mode: Mode, byte: u8) -> Option<Mode>
+    ensures { result ≡ letter_next letter mode byte }
+{
+    if byte == letter { Some(mode) } else { None }
+}
+
+fn number_begun(role: Role, byte: u8) -> Option<Mode>
+    ensures { result ≡ number_begun role byte }
+{
+    if byte == b'-' {
+        Some(Mode::Minus(role))
+    } else if is_digit(byte) {
+        Some(Mode::Number(role, false, u64::from(byte - b'0')))
+    } else {
+        None
+    }
+}
+
+fn text_begun(role: Role, byte: u8) -> Option<Mode>
+    ensures { result ≡ text_begun role byte }
+{
+    if byte == b'"' {
+        Some(Mode::Text(role, 0))
+    } else {
+        None
+    }
+}
+
+fn value_begun(role: Role, byte: u8) -> Option<Mode>
+    ensures { result ≡ value_begun role byte }
+{
+    if byte == b'"' {
+        Some(Mode::Text(role, 0))
+    } else {
+        number_begun(role, byte)
+    }
+}
+
+fn query_begun(byte: u8) -> Option<Mode>
+    ensures { result ≡ query_begun byte }
+{
+    if byte == b'a' {
+        Some(Mode::A)
+    } else if byte == b'o' {
+        Some(Mode::O)
+    } else if byte == b'[' {
+        Some(Mode::Low)
+    } else if byte == b'<' || byte == b'>' {
+        Some(Mode::Bound)
+    } else {
+        value_begun(Role::Alone, byte)
+    }
+}
+
+fn query_ended(nested: bool, byte: u8) -> Option<Mode>
+    ensures { result ≡ query_ended nested byte }
+{
+    if nested && byte == b',' {
+        Some(Mode::Start)
+    } else if nested && byte == b')' {
+        Some(Mode::Closed)
+    } else {
+        None
+    }
+}
+
+fn number_ended(nested: bool, role: Role, byte: u8) -> Option<Mode>
+    ensures { result ≡ number_ended nested role byte }
+{
+    match role {
+        Role::Alone | Role::Bound => query_ended(nested, byte),
+        Role::Low => letter_next(b';', Mode::HighNumber, byte),
+        Role::High => letter_next(b']', Mode::Ended, byte),
+    }
+}
+
+fn quoted_next(nested: bool, role: Role, byte: u8) -> Option<Mode>
+    ensures { result ≡ quoted_next nested role byte }
+{
+    match role {
+        Role::Alone if byte == b'*' => Some(Mode::Ended),
+        Role::Alone | Role::Bound => query_ended(nested, byte),
+        Role::Low => letter_next(b';', Mode::HighText, byte),
+        Role::High => letter_next(b']', Mode::Ended, byte),
+    }
+}
+
+fn minus_next(role: Role, byte: u8) -> Option<Mode>
+    ensures { result ≡ minus_next role byte }
+{
+    if b'1' <= byte && byte <= b'9' {
+        Some(Mode::Number(role, true, u64::from(byte - b'0')))
+    } else {
+        None
+    }
+}
+
+fn number_next(nested: bool, role: Role, negative: bool, size: u64, byte: u8) -> Option<Mode>
+    ensures { result ≡ number_next nested role negative size byte }
+{
+    if is_digit(byte) && size != 0 {
+        let digit = u64::from(byte - b'0');
+        Some(Mode::Number(
+            role,
+            negative,
+            size.saturating_mul(10).saturating_add(digit),
+        ))
+    } else {
+        number_ended(nested, role, byte)
+    }
+}
+
+fn text_next(role: Role, len: u64, byte: u8) -> Mode
+    ensures { result ≡ text_next role len byte }
+{
+    if byte == b'"' {
+        Mode::Quoted(role)
+    } else if byte == b'\\' {
+        Mode::Escape(role, len)
+    } else {
+        Mode::Text(role, len.saturating_add(1))
+    }
+}
+
+fn escape_next(role: Role, len: u64, byte: u8) -> Option<Mode>
+    ensures { result ≡ escape_next role len byte }
+{
+    if byte == b'"' || byte == b'\\' {
+        Some(Mode::Text(role, len.saturating_add(1)))
+    } else {
+        None
+    }
+}
+
+fn low_next(byte: u8) -> Option<Mode>
+    ensures { result ≡ low_next byte }
+{
+    if byte == b';' {
+        Some(Mode::High)
+    } else {
+        value_begun(Role::Low, byte)
+    }
+}
+
+fn high_next(byte: u8) -> Option<Mode>
+    ensures { result ≡ high_next byte }
+{
+    if byte == b']' {
+        Some(Mode::Ended)
+    } else {
+        value_begun(Role::High, byte)
+    }
+}
+
+fn high_number_next(byte: u8) -> Option<Mode>
+    ensures { result ≡ high_number_next byte }
+{
+    if byte == b']' {
+        Some(Mode::Ended)
+    } else {
+        number_begun(Role::High, byte)
+    }
+}
+
+fn high_text_next(byte: u8) -> Option<Mode>
+    ensures { result ≡ high_text_next byte }
+{
+    if byte == b']' {
+        Some(Mode::Ended)
+    } else {
+        text_begun(Role::High, byte)
+    }
+}

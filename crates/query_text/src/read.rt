@@ -1,0 +1,210 @@
+ghost use Rattle.std.specs.Prelude.{◌≡◌, ◌≤◌, length, option_map, true, false, Some, None, if◌then◌else◌};
+ghost use Rattle.query_text.specs.Modes.{is_digit};
+ghost use Rattle.query_text.specs.Survey.{is_long_size};
+ghost use Rattle.query_text.specs.Reading.{Finds, after, digits_at, signed, number_at, bytes_at, is_text, text_at, value_at, end_at, range_at, whole_at, leaf_at};
+ghost use Rattle.query_text.specs.declared.read.ReadError.TheVariants as errors;
+
+use crate::mode::is_digit;
+use attr_types::{Leaf, Text, Value};
+use std::alloc::{AllocError, AllocFailed, Global};
+
+/// Why nothing was read at the front of a text.
+#[derive(Debug, Drop)]
+pub enum ReadError {
+    /// What was looked for does not stand there, or is out of range.
+    NotRead,
+    Memory,
+}
+
+impl From<AllocError> for ReadError {
+    ghost from_gives = { λ _ e. e ≡ errors.Memory };
+
+    fn from(_e: AllocError) -> ReadError {
+        ReadError::Memory
+    }
+}
+
+impl<T: Drop> From<AllocFailed<T>> for ReadError {
+    ghost from_gives = { λ _ e. e ≡ errors.Memory };
+
+    fn from(_e: AllocFailed<T>) -> ReadError {
+        ReadError::Memory
+    }
+}
+
+/// What follows this byte at the front.
+pub fn after(wanted: u8, bytes: &[u8]) -> Option<&[u8]>
+    ensures { option_map (λ rest. rest.now) result ≡ after wanted bytes.now }
+{
+    match bytes {
+        [byte, rest @ ..] if *byte == wanted => Some(rest),
+        _ => None,
+    }
+}
+
+/// The size of the number whose digits stand at the front, which stops at 64 bits.
+fn digits_in(bytes: &[u8]) -> (u64, &[u8])
+    ensures { (result.0, result.1.now) ≡ digits_at 0 bytes.now }
+{
+    let mut size = 0u64;
+    for (i, byte) in bytes.iter().enumerate() {
+        if !is_digit(*byte) {
+            return (size, &bytes[i..]);
+        }
+        size = size
+            .saturating_mul(10)
+            .saturating_add(u64::from(*byte - b'0'));
+    }
+    (size, &[])
+}
+
+/// The number at the front, where it is of 64 signed bits.
+#[tactic(auto, unfolding(crate::specs::Reading::number_at))]
+fn number_in(bytes: &[u8]) -> Option<(i64, &[u8])>
+    ensures { option_map (λ found. (found.0, found.1.now)) result ≡ number_at bytes.now }
+{
+    match after(b'-', bytes) {
+        Some(rest) => {
+            let (size, rest) = digits_in(rest);
+            Some((negative_of(size)?, rest))
+        }
+        None => {
+            let (size, rest) = digits_in(bytes);
+            Some((i64::try_from(size).ok()?, rest))
+        }
+    }
+}
+
+/// The number below 0 of a size, where it is of 64 signed bits.
+fn negative_of(size: u64) -> Option<i64>
+    ensures { result ≡ (if is_long_size true size then Some (signed true size) else None) }
+{
+    if size <= 1 << 63 {
+        i64::try_from(-i128::from(size)).ok()
+    } else {
+        None
+    }
+}
+
+/// The bytes of the text whose opening quote was read, up to its closing quote.
+fn bytes_in(alloc: Global, bytes: &[u8]) -> Result<(Vec<u8>, &[u8]), ReadError>
+    ensures { Finds (λ found. (found.0.items, found.1.now)) result (bytes_at false bytes.now) }
+{
+    let mut found = Vec::new(alloc);
+    let mut escaped = false;
+    for (i, byte) in bytes.iter().enumerate() {
+        if escaped {
+            found.push(*byte)?;
+            escaped = false;
+        } else if *byte == b'"' {
+            return Ok((found, &bytes[i + 1..]));
+        } else if *byte == b'\\' {
+            escaped = true;
+        } else {
+            found.push(*byte)?;
+        }
+    }
+    Err(ReadError::NotRead)
+}
+
+/// The text whose opening quote was read, where it has at most 1,024 bytes.
+#[tactic(auto, unfolding(crate::specs::Reading::text_at))]
+fn text_in(alloc: Global, bytes: &[u8]) -> Result<(Text, &[u8]), ReadError>
+    ensures { Finds (λ found. (found.0, found.1.now)) result (text_at bytes.now) }
+{
+    let (found, rest) = bytes_in(alloc, bytes)?;
+    let text = text_of(alloc, found.as_slice())?;
+    Ok((text, rest))
+}
+
+/// These bytes as a text, where they are one.
+fn text_of(alloc: Global, bytes: &[u8]) -> Result<Text, ReadError>
+    ensures { Finds (λ text. text) result (if is_text bytes.now then Some bytes.now else None) }
+{
+    if bytes.len() > Text::MAX_LEN {
+        return Err(ReadError::NotRead);
+    }
+    match str::from_utf8(bytes) {
+        Ok(text) => Ok(Text::from_str(alloc, text)?),
+        Err(_) => Err(ReadError::NotRead),
+    }
+}
+
+/// The value at the front.
+#[tactic(auto, unfolding(crate::specs::Reading::value_at))]
+fn value_in(alloc: Global, bytes: &[u8]) -> Result<(Value, &[u8]), ReadError>
+    ensures { Finds (λ found. (found.0, found.1.now)) result (value_at bytes.now) }
+{
+    match after(b'"', bytes) {
+        Some(rest) => {
+            let (text, rest) = text_in(alloc, rest)?;
+            Ok((Value::Text(text), rest))
+        }
+        None => {
+            let (number, rest) = number_in(bytes).ok_or(ReadError::NotRead)?;
+            Ok((Value::Long(number), rest))
+        }
+    }
+}
+
+/// The end of a range at the front, and the byte that closes it.
+#[tactic(auto, unfolding(crate::specs::Reading::end_at))]
+fn end_in(alloc: Global, closing: u8, bytes: &[u8]) -> Result<(Option<Value>, &[u8]), ReadError>
+    ensures { Finds (λ found. (found.0, found.1.now)) result (end_at closing bytes.now) }
+{
+    if let Some(rest) = after(closing, bytes) {
+        return Ok((None, rest));
+    }
+    let (value, rest) = value_in(alloc, bytes)?;
+    let rest = after(closing, rest).ok_or(ReadError::NotRead)?;
+    Ok((Some(value), rest))
+}
+
+/// The range whose `[` was read.
+#[tactic(auto, unfolding(crate::specs::Reading::range_at))]
+fn range_in(alloc: Global, bytes: &[u8]) -> Result<(Leaf, &[u8]), ReadError>
+    ensures { Finds (λ found. (found.0, found.1.now)) result (range_at bytes.now) }
+{
+    let (low, rest) = end_in(alloc, b';', bytes)?;
+    let (high, rest) = end_in(alloc, b']', rest)?;
+    Ok((Leaf::Range { low, high }, rest))
+}
+
+/// The value at the front as a leaf, or the prefix.
+#[tactic(auto, unfolding(crate::specs::Reading::whole_at))]
+fn whole_in(alloc: Global, bytes: &[u8]) -> Result<(Leaf, &[u8]), ReadError>
+    ensures { Finds (λ found. (found.0, found.1.now)) result (whole_at bytes.now) }
+{
+    match after(b'"', bytes) {
+        Some(rest) => {
+            let (text, rest) = text_in(alloc, rest)?;
+            match after(b'*', rest) {
+                Some(rest) => Ok((Leaf::Prefix(text), rest)),
+                None => Ok((Leaf::Is(Value::Text(text)), rest)),
+            }
+        }
+        None => {
+            let (number, rest) = number_in(bytes).ok_or(ReadError::NotRead)?;
+            Ok((Leaf::Is(Value::Long(number)), rest))
+        }
+    }
+}
+
+/// The leaf at the front.
+#[tactic(auto, unfolding(crate::specs::Reading::leaf_at))]
+pub fn leaf_in(alloc: Global, bytes: &[u8]) -> Result<(Leaf, &[u8]), ReadError>
+    ensures { Finds (λ found. (found.0, found.1.now)) result (leaf_at bytes.now) }
+{
+    if let Some(rest) = after(b'[', bytes) {
+        return range_in(alloc, rest);
+    }
+    if let Some(rest) = after(b'<', bytes) {
+        let (value, rest) = value_in(alloc, rest)?;
+        return Ok((Leaf::Below(value), rest));
+    }
+    if let Some(rest) = after(b'>', bytes) {
+        let (value, rest) = value_in(alloc, rest)?;
+        return Ok((Leaf::Above(value), rest));
+    }
+    whole_in(alloc, bytes)
+}
