@@ -34,7 +34,7 @@ sound-with kind type table doc items sound is_doc fits = (
   all_values-insert nat_cmp_total (λ xs. AreOfType type (values_of xs)) table doc items sound.1 fits.1,
 )
 
-sound-without : (kind : Kind) (type : ValueType) (table : Table) (doc : ℕ) → Sound kind type table
+pub sound-without : (kind : Kind) (type : ValueType) (table : Table) (doc : ℕ) → Sound kind type table
     → Sound kind type (without_document table doc)
 sound-without kind type table doc sound = (
   record {

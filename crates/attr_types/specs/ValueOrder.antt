@@ -1,5 +1,5 @@
 -- The order of values is total, and only a value itself is equal to it.
-use Rattle.std.proofs.Common.{◌≡◌, Less, Equal, refl, ap}
+use Rattle.std.proofs.Common.{◌≡◌, Less, Equal, is_lt, is_eq, true≢false, refl, sym, ap}
 use Rattle.std.proofs.lemmas.Cmp.{int_cmp_total, nat_list_cmp_total}
 use Rattle.std.proofs.lemmas.Map.Lookups.{exact_bytes, exact_signed}
 use Rattle.std.specs.Cmp.{IsTotalOrder}
@@ -18,17 +18,17 @@ trans : (x y z : Value) → value_cmp x y ≡ Less → value_cmp y z ≡ Less �
 trans (values.Long a) (values.Long b) (values.Long c) below above = int_cmp_total.trans a b c below above
 trans (values.Text a) (values.Text b) (values.Text c) below above = nat_list_cmp_total.trans a b c below above
 trans (values.Long a) y (values.Text c) below above = refl
-trans (values.Long a) (values.Text b) (values.Long c) below above = cc
-trans (values.Text a) (values.Long b) z below above = cc
-trans (values.Text a) (values.Text b) (values.Long c) below above = cc
+trans (values.Long a) (values.Text b) (values.Long c) below above = absurd (true≢false (sym (ap is_lt above)))
+trans (values.Text a) (values.Long b) z below above = absurd (true≢false (sym (ap is_lt below)))
+trans (values.Text a) (values.Text b) (values.Long c) below above = absurd (true≢false (sym (ap is_lt above)))
 
 congr : (x y z : Value) → value_cmp x y ≡ Equal → value_cmp x z ≡ value_cmp y z
 congr (values.Long a) (values.Long b) (values.Long c) same = int_cmp_total.congr a b c same
 congr (values.Text a) (values.Text b) (values.Text c) same = nat_list_cmp_total.congr a b c same
 congr (values.Long a) (values.Long b) (values.Text c) same = refl
 congr (values.Text a) (values.Text b) (values.Long c) same = refl
-congr (values.Long a) (values.Text b) z same = cc
-congr (values.Text a) (values.Long b) z same = cc
+congr (values.Long a) (values.Text b) z same = absurd (true≢false (sym (ap is_eq same)))
+congr (values.Text a) (values.Long b) z same = absurd (true≢false (sym (ap is_eq same)))
 
 pub value_cmp_total : IsTotalOrder value_cmp
 value_cmp_total = record { antisymm = antisymm; trans = trans; congr = congr }
@@ -36,5 +36,5 @@ value_cmp_total = record { antisymm = antisymm; trans = trans; congr = congr }
 pub value_cmp_exact : (a b : Value) → value_cmp a b ≡ Equal → a ≡ b
 value_cmp_exact (values.Long a) (values.Long b) same = ap values.Long (exact_signed a b same)
 value_cmp_exact (values.Text a) (values.Text b) same = ap values.Text (exact_bytes a b same)
-value_cmp_exact (values.Long a) (values.Text b) same = cc
-value_cmp_exact (values.Text a) (values.Long b) same = cc
+value_cmp_exact (values.Long a) (values.Text b) same = absurd (true≢false (sym (ap is_eq same)))
+value_cmp_exact (values.Text a) (values.Long b) same = absurd (true≢false (sym (ap is_eq same)))

@@ -12,7 +12,7 @@ pub struct Item {
 }
 
 /// The items of a document, seen as a list.
-#[derive(Clone, Debug, Drop)]
+#[derive(Debug, Drop)]
 pub struct Items {
     list: Vec<Item>,
 }
@@ -24,6 +24,16 @@ impl Model for Items {
     ghost Value = { List Item };
 
     ghost view = { λ i. i.list.items };
+}
+
+impl Clone for Items {
+    ghost is_clone = { λ old new. new ≡ old };
+
+    fn clone(&self) -> Result<Items, AllocError> {
+        Ok(Items {
+            list: self.list.clone()?,
+        })
+    }
 }
 
 impl Items {

@@ -12,7 +12,7 @@ pub enum Value {
 }
 
 /// Values in order, seen as a list.
-#[derive(Clone, Debug, Drop)]
+#[derive(Debug, Drop)]
 pub struct Values {
     list: Vec<Value>,
 }
@@ -24,6 +24,16 @@ impl Model for Values {
     ghost Value = { List OneValue };
 
     ghost view = { λ v. v.list.items };
+}
+
+impl Clone for Values {
+    ghost is_clone = { λ old new. new ≡ old };
+
+    fn clone(&self) -> Result<Values, AllocError> {
+        Ok(Values {
+            list: self.list.clone()?,
+        })
+    }
 }
 
 impl Values {
