@@ -1,0 +1,4 @@
+pub mod Free
+pub mod Handed
+pub mod Views
+pub mod Unkept

@@ -1,0 +1,119 @@
+-- What the calls of a work ask and change.
+use Rattle.std.specs.Prelude.{◌≡◌, ℕ, ◌+◌, ◌<◌, ◌≤◌, ◌&&◌, true, false, nat_eq, if◌then◌else◌, List, [], ◌∷◌, ◌++◌, None, Some}
+use Rattle.std.specs.List.{AllByRecursion}
+use Rattle.entry_ref.specs.References.{buffer_of}
+use Rattle.image_base.specs.declared.Image.{Image}
+use Rattle.image_base.specs.Images.{no_image, image_of, words_at}
+use Rattle.image_base.specs.Places.{IsEntry}
+use Rattle.image_base.specs.Records.{Records}
+use Rattle.arena_api.specs.Works.{Sizes, Buffer, Hold, Commits, Stored, WorkView, active_width, is_free, last_tag}
+
+-- 1 to 1,023 buffers of 8,192 to 65,536 words; commits fit 32 bits, generations 48
+pub record IsWithinLimits (sizes : Sizes) : Type 0 where
+  pub some_buffers : 1 ≤ sizes.buffers
+  pub few_buffers : sizes.buffers ≤ 1023
+  pub some_words : 8192 ≤ sizes.words
+  pub few_words : sizes.words ≤ 65536
+  pub commits : sizes.commits ≤ 4294967295
+  pub generations : sizes.generations ≤ 281474976710655
+
+-- commit 0, of nothing, at generation 0: what a new work knows, of these sizes
+abbrev pub opened : {H : Type 0} → H → Sizes → List Image → WorkView H
+opened home sizes told = record {
+  home = home;
+  sizes = sizes;
+  buffer = λ b. Buffer.free None;
+  queue = record { generation = 0; hold = 0; first = 0 } ∷ [];
+  commits = record { floor = 0; last = 0; image = λ n. no_image };
+  stored = λ r i. None;
+  told = told;
+  stops = 0;
+  found = 0;
+  made = 0;
+}
+
+-- nothing is committed or handed out yet
+pub record IsFresh {H : Type 0} (work : WorkView H) : Type 0 where
+  pub floor : work.commits.floor ≡ 0
+  pub last : work.commits.last ≡ 0
+  pub image : work.commits.image 0 ≡ no_image
+  pub buffers : (b : ℕ) → is_free (work.buffer b) ≡ true
+
+-- this commit is kept
+pub record IsKept (commits : Commits) (n : ℕ) : Type 0 where
+  pub from : commits.floor ≤ n
+  pub to : n ≤ commits.last
+
+-- no kept commit has this record
+abbrev pub InNoCommit : Commits → ℕ → Type 0
+InNoCommit commits r = (n : ℕ) → IsKept commits n → words_at (commits.image n) r ≡ []
+
+-- a record of so many words can stand here: at an offset from 1 of a buffer of this width
+pub record Fits (sizes : Sizes) (width r n : ℕ) : Type 0 where
+  pub entry : IsEntry sizes.buffers sizes.words width r
+  pub whole : n ≡ width
+
+-- a word of an entry of an active buffer
+pub record IsWordIn {H : Type 0} (work : WorkView H) (r i : ℕ) : Type 0 where
+  pub entry : IsEntry work.sizes.buffers work.sizes.words (active_width (work.buffer (buffer_of r))) r
+  pub inside : i < active_width (work.buffer (buffer_of r))
+
+-- a word may be stored: it is one of an entry that no kept commit has
+pub record MayStore {H : Type 0} (work : WorkView H) (r i : ℕ) : Type 0 where
+  pub word : IsWordIn work r i
+  pub unkept : InNoCommit work.commits r
+
+-- one word more is stored
+abbrev pub with_stored : Stored → ℕ → ℕ → ℕ → Stored
+with_stored stored r i word q j = if nat_eq q r && nat_eq j i then Some word else stored q j
+
+-- nothing is
+abbrev pub nothing_stored : Stored
+nothing_stored r i = None
+
+-- the free buffer of lowest number
+pub record IsLowestFree (buffer : ℕ → Buffer) (count b : ℕ) : Type 0 where
+  pub below : b < count
+  pub free : is_free (buffer b) ≡ true
+  pub lowest : (a : ℕ) → a < b → is_free (buffer a) ≡ false
+
+-- one buffer is another
+abbrev pub with_buffer : (ℕ → Buffer) → ℕ → Buffer → ℕ → Buffer
+with_buffer buffer b new a = if nat_eq a b then new else buffer a
+
+-- one buffer is made active, for entries of this width
+abbrev pub handed_out : {H : Type 0} → WorkView H → ℕ → ℕ → WorkView H
+handed_out work b width = record work { buffer = with_buffer work.buffer b (Buffer.active width (last_tag (work.buffer b))) }
+
+-- the image that a root reaches
+abbrev pub next_image : (ℕ → Records → ℕ → List ℕ) → ℕ → Records → ℕ → Image
+next_image reaches shape m root = image_of (reaches shape m root) m root
+
+-- one commit more, of this image; of the others only old ones are let go
+pub record AddsCommit (old new : Commits) (image : Image) : Type 0 where
+  pub last : new.last ≡ old.last + 1
+  pub image_is : new.image new.last ≡ image
+  pub rises : old.floor ≤ new.floor
+  pub within : new.floor ≤ new.last
+  pub kept : (n : ℕ) → new.floor ≤ n → n ≤ old.last → new.image n ≡ old.image n
+
+-- where images are told, one more
+abbrev pub told_after : List Image → Image → List Image
+told_after [] image = []
+told_after (i ∷ is) image = (i ∷ is) ++ image ∷ []
+
+-- after a publish: the commits have become these
+abbrev pub published : {H : Type 0} → WorkView H → Commits → Image → WorkView H
+published work commits image = record work { commits = commits; stored = nothing_stored; told = told_after work.told image }
+
+-- the first commit of the oldest hold
+abbrev pub oldest_first : List Hold → ℕ
+oldest_first [] = 0
+oldest_first (h ∷ hs) = h.first
+
+-- the floor is the last commit or below it, and no hold stands for commits below the floor
+pub record IsInOrder {H : Type 0} (work : WorkView H) : Type 0 where
+  pub floor : work.commits.floor ≤ work.commits.last
+  pub limit : work.commits.last ≤ work.sizes.commits
+  pub oldest : oldest_first work.queue ≤ work.commits.floor
+  pub holds : AllByRecursion (λ h. h.generation ≤ work.sizes.generations) work.queue

@@ -1,0 +1,12 @@
+//! What the structures above stand on: records that can be read, and a work that changes them and
+//! publishes roots. The work in memory is here too.
+#![tactic(auto)]
+
+mod cells;
+mod frozen;
+mod memory;
+mod work;
+
+pub use frozen::Frozen;
+pub use memory::MemWork;
+pub use work::Work;

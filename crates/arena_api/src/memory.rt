@@ -1,0 +1,133 @@
+ghost use Rattle.std.specs.Prelude.{◌≡◌, ◌<◌, ◌≤◌, ◌+◌, ◌*◌, ℕ, [], IfOk, slice_index};
+ghost use Rattle.std.proofs.Common.{sym, ◌∙◌};
+ghost use Rattle.arena_api.specs.Calls.{opened};
+ghost use Rattle.arena_api.specs.Cells.{width_in, standing, records_in, sizes_of, memory_view};
+
+use crate::cells::Cells;
+use crate::frozen::Frozen;
+use crate::work::Work;
+use entry_ref::EntryRef;
+use image_base::Layout;
+use std::alloc::{AllocError, Global};
+use std::marker::PhantomData;
+
+/// A work in memory, without readers. It keeps the last commit alone.
+#[derive(Drop)]
+pub struct MemWork<L: Layout> {
+    cells: Cells,
+    shape: u32,
+    last: u32,
+    root: EntryRef,
+    layout: PhantomData<L>,
+    // every word was stored under the next commit or before
+    ghost stamped: { (p : ℕ) → slice_index cells.stamps.items p ≤ last + 1 },
+    // those of a free buffer before
+    ghost unused: { (b x : ℕ) → x < cells.words → width_in cells.table.items cells.words b ≡ 0
+        → slice_index cells.stamps.items (b * cells.words + x) ≤ last },
+    ghost limit: { last ≤ 4294967295 },
+    ghost lawful: { ∥ L.lawful shape (standing cells.table.items cells.buffers cells.words) root ∥₁ },
+}
+
+impl<L: Layout> MemWork<L> {
+    /// So many buffers of so many words, for images of this shape: nothing is committed.
+    pub fn create(alloc: Global, buffers: u32, words: u32, shape: u32) -> Result<Self, AllocError>
+        requires some_buffers { 1 ≤ buffers }
+        requires few_buffers { buffers ≤ 1023 }
+        requires some_words { 8192 ≤ words }
+        requires few_words { words ≤ 65536 }
+        ensures knows { IfOk result (λ w. ⟦<MemWork<L> as Work>⟧.knows w ≡ opened tt (sizes_of buffers words) []) }
+        ensures records { IfOk result (λ w. (r : ℕ) → ⟦<MemWork<L> as Frozen>⟧.records w r ≡ []) }
+        ensures shape { IfOk result (λ w. ⟦<MemWork<L> as Frozen>⟧.shape w ≡ shape) }
+    {
+        let cells = Cells::create(alloc, buffers, words)?;
+        Ok(MemWork {
+            cells,
+            shape,
+            last: 0,
+            root: EntryRef::from_raw(0),
+            layout: PhantomData,
+        })
+    }
+}
+
+impl<L: Layout> Frozen for MemWork<L> {
+    ghost use Rattle.arena_api.specs.Laws.{memory_references};
+
+    ghost shape = { λ s. s.shape };
+
+    ghost records = { λ s. records_in L.reaches s.shape s.cells.table.items s.cells.stamps.items
+        s.cells.buffers s.cells.words s.last s.root };
+
+    fn word(&mut self, entry: EntryRef, i: u32) -> u64 {
+        self.cells.word(entry, i)
+    }
+
+    ghost references = { λ s. memory_references L.reaches s.shape s.cells.table.items s.cells.stamps.items
+        s.cells.buffers s.cells.words s.last s.root s.cells.few_words };
+}
+
+impl<L: Layout> Work for MemWork<L> {
+    ghost use Rattle.arena_api.specs.Laws.{memory_limits, memory_total, memory_order, memory_entries, memory_kept, memory_last, memory_whole, memory_stored, no_tag};
+
+    type Layout = L;
+
+    type Home = ();
+
+    ghost knows = { λ s. memory_view L.reaches s.shape s.cells.table.items s.cells.stamps.items
+        s.cells.buffers s.cells.words s.last s.root };
+
+    fn store(&mut self, entry: EntryRef, i: u32, word: u64) {
+        self.cells.store(entry, i, word, u64::from(self.last) + 1);
+    }
+
+    fn hand_out(&mut self, width: u32) -> Option<u32> {
+        self.cells.hand_out(width)
+    }
+
+    fn publish(&mut self, root: EntryRef) -> u32 {
+        self.root = root;
+        self.last += 1;
+        self.last
+    }
+
+    fn free_buffers(&self) -> u32 {
+        self.cells.free_buffers()
+    }
+
+    fn buffers(&self) -> u32 {
+        self.cells.buffers
+    }
+
+    fn words(&self) -> u32 {
+        self.cells.words
+    }
+
+    fn commits_left(&self) -> u32 {
+        u32::MAX - self.last
+    }
+
+    ghost limits = { λ s. memory_limits s.cells.buffers s.cells.words s.cells.some_buffers s.cells.few_buffers
+        s.cells.some_words s.cells.few_words };
+
+    ghost total_words = { λ s. memory_total s.cells.buffers s.cells.words s.cells.few_buffers s.cells.few_words };
+
+    ghost order = { λ s. memory_order L.reaches s.shape s.cells.table.items s.cells.stamps.items
+        s.cells.buffers s.cells.words s.last s.root s.limit };
+
+    ghost entries = { λ s. memory_entries L.reaches s.shape s.cells.table.items s.cells.stamps.items
+        s.cells.buffers s.cells.words s.last s.root (sym s.cells.table.ok.0 ∙ s.cells.room) };
+
+    ghost kept = { λ s n r k. memory_kept L.reaches s.shape s.cells.table.items s.cells.stamps.items
+        s.cells.buffers s.cells.words s.last s.root (sym s.cells.table.ok.0 ∙ s.cells.room) r };
+
+    ghost last = { λ s. memory_last L.reaches s.shape s.cells.table.items s.cells.stamps.items
+        s.cells.buffers s.cells.words s.last s.root };
+
+    ghost whole = { λ s. memory_whole L.reaches s.shape s.cells.table.items s.cells.stamps.items
+        s.cells.buffers s.cells.words s.last s.root (sym s.cells.table.ok.0 ∙ s.cells.room) };
+
+    ghost stored = { λ s. memory_stored L.reaches s.shape s.cells.table.items s.cells.stamps.items
+        s.cells.buffers s.cells.words s.last s.root };
+
+    ghost tags = { λ s b. no_tag (width_in s.cells.table.items s.cells.words b) };
+}

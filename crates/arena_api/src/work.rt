@@ -1,0 +1,99 @@
+ghost use Rattle.std.specs.Prelude.{◌≡◌, ◌≢◌, ◌<◌, ◌≤◌, ◌+◌, ◌-◌, ◌*◌, ◌↔◌, ℕ, List, length, slice_index, Some, IsNone, IfSome, IfNone};
+ghost use Rattle.std.specs.List.{AllByRecursion};
+ghost use Rattle.entry_ref.specs.References.{buffer_of};
+ghost use Rattle.image_base.specs.Images.{words_at};
+ghost use Rattle.image_base.specs.Records.{Records};
+ghost use Rattle.arena_api.specs.Works.{WorkView, Buffer, active_width, width_of, free_count, last_image};
+ghost use Rattle.arena_api.specs.Calls.{IsWithinLimits, IsInOrder, IsKept, IsWordIn, MayStore, Fits, IsLowestFree, AddsCommit, with_stored, handed_out, next_image, published};
+
+use crate::frozen::Frozen;
+use entry_ref::EntryRef;
+use image_base::Layout;
+
+/// Buffers of words, over which records are made and roots are published.
+///
+/// Its records are those of the last commit and those that were stored whole since.
+pub trait Work: Frozen {
+    type Layout: Layout;
+
+    type Home;
+
+    ghost knows: { Self → WorkView Self.Home };
+
+    /// Stores one word of an entry that no kept commit has. What the entry holds is a record again once
+    /// each of its words was stored.
+    fn store(&mut self, entry: EntryRef, i: u32, word: u64)
+        requires { MayStore (knows self.old) entry i }
+        ensures knows { knows self.new
+            ≡ record (knows self.old) { stored = with_stored (knows self.old).stored entry i word } }
+        ensures others { (q : ℕ) → q ≢ entry → Self.records self.new q ≡ Self.records self.old q }
+        ensures shape { Self.shape self.new ≡ Self.shape self.old };
+
+    /// Takes the free buffer of lowest number for entries of `width` words, if one is free.
+    fn hand_out(&mut self, width: u32) -> Option<u32>
+        requires { 0 < width }
+        ensures none { IsNone result ↔ (free_count (knows self.old).buffer (knows self.old).sizes.buffers ≡ 0) }
+        ensures lowest { IfSome result (IsLowestFree (knows self.old).buffer (knows self.old).sizes.buffers) }
+        ensures handed { IfSome result (λ b. knows self.new ≡ handed_out (knows self.old) b width) }
+        ensures refused { IfNone result (knows self.new ≡ knows self.old) }
+        ensures records { Self.records self.new ≡ Self.records self.old }
+        ensures shape { Self.shape self.new ≡ Self.shape self.old };
+
+    /// Commits what the root reaches, under the number answered.
+    fn publish(&mut self, root: EntryRef) -> u32
+        requires lawful { Self.Layout.lawful (Self.shape self.old) (Self.records self.old) root }
+        requires room { (knows self.old).commits.last < (knows self.old).sizes.commits }
+        ensures number { result ≡ (knows self.old).commits.last + 1 }
+        ensures commit { AddsCommit (knows self.old).commits (knows self.new).commits
+            (next_image Self.Layout.reaches (Self.shape self.old) (Self.records self.old) root) }
+        ensures knows { knows self.new ≡ published (knows self.old) (knows self.new).commits
+            (next_image Self.Layout.reaches (Self.shape self.old) (Self.records self.old) root) }
+        ensures records { Self.records self.new
+            ≡ words_at (next_image Self.Layout.reaches (Self.shape self.old) (Self.records self.old) root) }
+        ensures shape { Self.shape self.new ≡ Self.shape self.old };
+
+    /// How many buffers are free.
+    fn free_buffers(&self) -> u32
+        ensures { result ≡ free_count (knows self.now).buffer (knows self.now).sizes.buffers };
+
+    fn buffers(&self) -> u32
+        ensures { result ≡ (knows self.now).sizes.buffers };
+
+    /// The words of each buffer.
+    fn words(&self) -> u32
+        ensures { result ≡ (knows self.now).sizes.words };
+
+    /// How many commits can still be made.
+    fn commits_left(&self) -> u32
+        ensures { result ≡ (knows self.now).sizes.commits - (knows self.now).commits.last };
+
+    ghost limits: { (s : Self) → IsWithinLimits (knows s).sizes };
+
+    ghost total_words: { (s : Self) → (knows s).sizes.buffers * (knows s).sizes.words ≤ 67108864 };
+
+    ghost order: { (s : Self) → IsInOrder (knows s) };
+
+    // a record fills an entry of an active buffer
+    ghost entries: { (s : Self) (r : ℕ) → 0 < length (Self.records s r)
+        → Fits (knows s).sizes (active_width ((knows s).buffer (buffer_of r))) r (length (Self.records s r)) };
+
+    // a kept commit's record fills one of an active or held buffer
+    ghost kept: { (s : Self) (n r : ℕ) → IsKept (knows s).commits n → 0 < length (words_at ((knows s).commits.image n) r)
+        → Fits (knows s).sizes (width_of ((knows s).buffer (buffer_of r))) r (length (words_at ((knows s).commits.image n) r)) };
+
+    // the last commit's records are records
+    ghost last: { (s : Self) (r : ℕ) → 0 < length (words_at (last_image (knows s).commits) r)
+        → Self.records s r ≡ words_at (last_image (knows s).commits) r };
+
+    // what was stored whole since the last commit is a record
+    ghost whole: { (s : Self) (r : ℕ) (ws : List ℕ) → 0 < length ws
+        → length ws ≡ active_width ((knows s).buffer (buffer_of r))
+        → ((i : ℕ) → i < length ws → (knows s).stored r i ≡ Some (slice_index ws i)) → Self.records s r ≡ ws };
+
+    // only words of active buffers were stored
+    ghost stored: { (s : Self) (r i w : ℕ) → (knows s).stored r i ≡ Some w → IsWordIn (knows s) r i };
+
+    // the last tag of a free buffer is below each open generation
+    ghost tags: { (s : Self) (b : ℕ) (t : _) → (knows s).buffer b ≡ Buffer.free (Some t)
+        → AllByRecursion (λ h. t.generation < h.generation) (knows s).queue };
+}
