@@ -1,6 +1,6 @@
-ghost use Rattle.std.specs.Prelude.{◌≡◌, ◌+◌, ◌<◌, ◌≤◌, length, vec_len, IfOk, IfSome, IsErrOf};
+ghost use Rattle.std.specs.Prelude.{◌≡◌, ◌+◌, ◌<◌, ◌≤◌, length, vec_len, IfOk, IsErrOf};
 ghost use Rattle.std.specs.Io.KnownBytes.{Consumes, IsAtEnd};
-ghost use Rattle.attr_io.specs.Bytes.{ConsumesAtMost};
+ghost use Rattle.attr_io.specs.Bytes.{ConsumesAtMost, HasMoreThan};
 ghost use Rattle.attr_io.specs.Faults.{Rose};
 ghost use Rattle.attr_io.specs.declared.reading.ReadError.TheVariants as errors;
 
@@ -50,7 +50,7 @@ pub fn read_all<S: Source>(
     ensures bytes { IfOk result (λ v. Consumes (S.left source.old) (S.left source.new) v.items) }
     ensures end { IfOk result (λ v. IsAtEnd (S.left source.new)) }
     ensures within { IfOk result (λ v. vec_len v ≤ limit) }
-    ensures too_long { IsErrOf result ReadError.TooLong → IfSome (S.left source.old) (λ bytes. limit < length bytes) }
+    ensures too_long { IsErrOf result ReadError.TooLong → HasMoreThan limit (S.left source.old) }
     ensures fault { IsErrOf result ReadError.Fault → Rose (S.faults source.old) (S.faults source.new) }
     ensures later { S.faults source.old ≤ S.faults source.new }
     ensures front { ConsumesAtMost (limit + 65536) (S.left source.old) (S.left source.new) }
@@ -71,7 +71,7 @@ fn read_pieces<S: Source>(
     ensures bytes { IfOk result (λ v. Consumes (S.left source.old) (S.left source.new) v.items) }
     ensures end { IfOk result (λ v. IsAtEnd (S.left source.new)) }
     ensures within { IfOk result (λ v. vec_len v ≤ limit) }
-    ensures too_long { IsErrOf result ReadError.TooLong → IfSome (S.left source.old) (λ bytes. limit < length bytes) }
+    ensures too_long { IsErrOf result ReadError.TooLong → HasMoreThan limit (S.left source.old) }
     ensures fault { IsErrOf result ReadError.Fault → Rose (S.faults source.old) (S.faults source.new) }
     ensures later { S.faults source.old ≤ S.faults source.new }
     ensures front { ConsumesAtMost (limit + length piece.old) (S.left source.old) (S.left source.new) }

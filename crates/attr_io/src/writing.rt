@@ -13,7 +13,8 @@ pub fn write_all<K: Sink>(sink: &mut K, text: &[u8]) -> Result<(), Failed>
 {
     let mut at = 0;
     while at < text.len() {
-        at += sink.write(&text[at..])?;
+        let count = sink.write(&text[at..])?;
+        at += count;
     }
     Ok(())
 }
