@@ -1,5 +1,7 @@
-mod RowLemmas
-mod WalkRows
 mod OneKind
-mod CommandLemmas
+mod RowLemmas
+mod WalkLemmas
+mod PresentLemmas
+mod FitsLemmas
 mod TextLemmas
+mod CommandLemmas

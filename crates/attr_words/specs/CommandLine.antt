@@ -58,7 +58,8 @@ bare = on_top (λ s. record s { no_binary_name = true }) (new_app (codes "attr")
 
 -- the names of kind and value type
 abbrev pub with_names : App → App
-with_names a = with_rule (with_rule a (required_rule (codes "kind"))) (required_rule (codes "value"))
+with_names a = with_rule (with_rule a (required_rule (codes "kind")))
+    (required_rule (codes "value"))
 
 -- the numbers of a run
 abbrev pub with_numbers : App → App

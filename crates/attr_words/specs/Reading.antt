@@ -1,5 +1,6 @@
 -- What a list of words is read as: by clap's `fault_of` and `matches_of` over the command `attr`.
-use Rattle.std.specs.Prelude.{◌≡◌, ◌≢◌, ◌≤◌, ℕ, Bool, List, [], ◌∷◌, map, codes, Result, Ok, Err}
+use Rattle.std.specs.Prelude.{◌≡◌, ◌≢◌, ◌≤◌, ℕ, Some, Bool, List, [], ◌∷◌, map, codes, Result, Ok}
+use Rattle.std.specs.Prelude.{Err}
 use Rattle.std.specs.Prelude.{unwrap_or, string_bytes}
 use Rattle.std.specs.Str.{bytes_eq}
 use Rattle.std.specs.Str.Parse.{digits_value, without_leading_plus}
@@ -8,7 +9,8 @@ use Rattle.clap.specs.Simple.{matches_of}
 use Rattle.clap.specs.Faults.{fault_of}
 use Rattle.clap.specs.declared.error.kind.ErrorKind.{ErrorKind}
 use Rattle.clap.specs.declared.error.kind.ErrorKind.TheVariants as kinds
-use Rattle.attr_words.specs.CommandLine.{NumberOption, attr_app, batch, readers, rounds, buffers, words}
+use Rattle.attr_words.specs.CommandLine.{NumberOption, attr_app, batch, readers, rounds, buffers}
+use Rattle.attr_words.specs.CommandLine.{words}
 use Rattle.attr_words.specs.declared.settings.Settings.{Settings}
 use Rattle.attr_words.specs.declared.reading.WordsError.{WordsError}
 use Rattle.attr_words.specs.declared.reading.WordsError.TheVariants as errors
@@ -99,6 +101,13 @@ given_by s = record {
 abbrev pub IsInRange : Settings → Type 0
 IsInRange s = IsWithin batch s.batch × IsWithin readers s.readers × IsWithin rounds s.rounds
     × IsWithin buffers s.buffers × IsWithin words s.words
+
+-- kind, value type and field are texts that the matches have, and none is made up
+abbrev pub HasGivenTexts : List Text → Settings → Type 0
+HasGivenTexts line s = let rows = matches_of attr_app line in
+    (first_of (codes "kind") rows ≡ Some (string_bytes s.kind))
+    × (first_of (codes "value") rows ≡ Some (string_bytes s.value))
+    × (first_of (codes "field") rows ≡ Some (string_bytes s.field))
 
 -- the answer to a list of words; the three causes exclude each other
 abbrev pub Reads : List Text → Result Settings WordsError → Type 0

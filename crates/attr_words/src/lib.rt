@@ -7,3 +7,6 @@ mod settings;
 
 pub use reading::{WordsError, read_words};
 pub use settings::Settings;
+
+#[cfg(test)]
+mod tests;

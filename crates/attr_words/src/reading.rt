@@ -3,7 +3,7 @@ ghost use Rattle.std.specs.Prelude.{◌≡◌, ◌≤◌, IfOk, length, map, str
 ghost use Rattle.clap.specs.Faults.{fault_of};
 ghost use Rattle.attr_words.specs.CommandLine.{attr_app};
 ghost use Rattle.attr_words.specs.Found.{error_of};
-ghost use Rattle.attr_words.specs.Reading.{IsInRange, Reads};
+ghost use Rattle.attr_words.specs.Reading.{HasGivenTexts, IsInRange, Reads};
 ghost use Rattle.attr_words.specs.declared.reading.WordsError.TheVariants as errors;
 
 use crate::command::attr_command;
@@ -45,6 +45,7 @@ fn refusal_of(kind: ErrorKind) -> WordsError
 pub fn read_words(alloc: Global, words: &[String]) -> Result<Settings, WordsError>
     ensures answer { Reads (map (λ w. string_bytes w) words.now) result }
     ensures one_kind { length (fault_of attr_app (map (λ w. string_bytes w) words.now)) ≤ 1 }
+    ensures texts { IfOk result (HasGivenTexts (map (λ w. string_bytes w) words.now)) }
     ensures ranges { IfOk result IsInRange }
 {
     let command = attr_command(alloc)?;

@@ -26,7 +26,8 @@ pub struct Settings {
 }
 
 fn text_in(alloc: Global, matches: &ArgMatches<'_>, name: &str) -> Result<String, AllocError>
-    ensures { IfOk result (λ s. string_bytes s ≡ text_at name.now (rows_of (found_of matches.now))) }
+    ensures { IfOk result (λ s. string_bytes s
+        ≡ text_at name.now (rows_of (found_of matches.now))) }
 {
     String::from_str(alloc, matches.get_str(name).unwrap_or(""))
 }

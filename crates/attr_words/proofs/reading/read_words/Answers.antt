@@ -4,8 +4,8 @@ use Rattle.clap.specs.Matches.{found_of}
 use Rattle.clap.specs.Simple.{app_of}
 use Rattle.attr_words.specs.Found.{HasTexts}
 use Rattle.attr_words.specs.Reading.{given_by, settings_of}
-use Rattle.attr_words.proofs.CommandLemmas.{error_is, rows_are, taken}
-use Rattle.attr_words.proofs.TextLemmas.{in_range, texts_there}
+use Rattle.attr_words.proofs.CommandLemmas.{error_is, one_kind_at_most, rows_are, taken}
+use Rattle.attr_words.proofs.TextLemmas.{in_range, texts_given, texts_there}
 use Rattle.attr_words.proofs.reading.read_words.Goals as goal
 
 pub settings_in-requires : goal.settings_in-requires
@@ -13,29 +13,31 @@ settings_in-requires c =
     let line : List (List ℕ) = map (λ w. string_bytes w) c.args.words.now in
     let a = app_of c.in_ok-command.command in
     let is = c.in_ok-command.ensures in
-    subst HasTexts (sym (rows_are a is line (rows_of (found_of c.in-Ok.matches)) c.in-Ok.ensures.matches))
+    let found = rows_of (found_of c.in-Ok.matches) in
+    subst HasTexts (sym (rows_are a is line found c.in-Ok.ensures.matches))
     (texts_there line (taken a is line c.in-Ok.ensures.kinds))
 
-pub returns-in_ok-settings_in-in-Ok-clause-answer : goal.returns-in_ok-settings_in-in-Ok-clause-answer
-returns-in_ok-settings_in-in-Ok-clause-answer c =
+pub returns-in_ok-settings_in-in-Ok : goal.returns-in_ok-settings_in-in-Ok
+returns-in_ok-settings_in-in-Ok c =
     let line : List (List ℕ) = map (λ w. string_bytes w) c.args.words.now in
     let a = app_of c.in_ok-command.command in
     let is = c.in_ok-command.ensures in
-    let rows = rows_are a is line (rows_of (found_of c.in-Ok.matches)) c.in-Ok.ensures.matches in (
-      taken a is line c.in-Ok.ensures.kinds,
-      subst (λ (r : List Row). given_by c.in_ok-settings_in-in-Ok.field-0 ≡ settings_of r) rows c.in_ok-settings_in-in-Ok.ensures,
-    )
-
-pub returns-in_ok-settings_in-in-Ok-clause-ranges : goal.returns-in_ok-settings_in-in-Ok-clause-ranges
-returns-in_ok-settings_in-in-Ok-clause-ranges c =
-    let line : List (List ℕ) = map (λ w. string_bytes w) c.args.words.now in
-    let a = app_of c.in_ok-command.command in
-    let is = c.in_ok-command.ensures in
-    let rows = rows_are a is line (rows_of (found_of c.in-Ok.matches)) c.in-Ok.ensures.matches in
-    in_range line c.in_ok-settings_in-in-Ok.field-0 (taken a is line c.in-Ok.ensures.kinds)
-    (subst (λ (r : List Row). given_by c.in_ok-settings_in-in-Ok.field-0 ≡ settings_of r) rows c.in_ok-settings_in-in-Ok.ensures)
+    let found = rows_of (found_of c.in-Ok.matches) in
+    let rows = rows_are a is line found c.in-Ok.ensures.matches in
+    let settings = c.in_ok-settings_in-in-Ok.field-0 in
+    let takes = taken a is line c.in-Ok.ensures.kinds in
+    let given = subst (λ (r : List Row). given_by settings ≡ settings_of r) rows
+    c.in_ok-settings_in-in-Ok.ensures in
+    record {
+      answer = (takes, given);
+      one_kind = one_kind_at_most line;
+      texts = texts_given line settings takes given;
+      ranges = in_range line settings takes given;
+    }
 
 pub returns-in-Err-clause-answer : goal.returns-in-Err-clause-answer
 returns-in-Err-clause-answer c =
     let line : List (List ℕ) = map (λ w. string_bytes w) c.args.words.now in
-    rw (c.refusal_of.ensures, c.kind.ensures) (error_is (app_of c.in_ok-command.command) c.in_ok-command.ensures line _ c.in-Err.ensures.kinds)
+    let a = app_of c.in_ok-command.command in
+    rw (c.refusal_of.ensures, c.kind.ensures)
+    (error_is a c.in_ok-command.ensures line _ c.in-Err.ensures.kinds)

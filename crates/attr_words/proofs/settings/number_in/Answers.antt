@@ -8,11 +8,13 @@ use Rattle.attr_words.proofs.settings.number_in.Goals as goal
 pub unreachable-requires : goal.unreachable-requires
 unreachable-requires c =
     let text = c.requires in
-    let read = c.in-None.ensures.value text.0 (one_text-rows (found_of c.args.matches.now) c.args.name.now ∙ text.2) in
+    let read = c.in-None.ensures.value text.0
+    (one_text-rows (found_of c.args.matches.now) c.args.name.now ∙ text.2) in
     read.1.0 text.3
 
 pub returns : goal.returns
 returns c =
     let text = c.requires in
-    let read = c.in-Some.ensures.value text.0 (one_text-rows (found_of c.args.matches.now) c.args.name.now ∙ text.2) in
+    let read = c.in-Some.ensures.value text.0
+    (one_text-rows (found_of c.args.matches.now) c.args.name.now ∙ text.2) in
     read.0.1 ∙ ap (λ o. digits_value 10 (without_leading_plus (unwrap_or o []))) (sym text.1)

@@ -8,7 +8,8 @@ use Rattle.attr_words.proofs.settings.texts_in.Goals as goal
 pub returns-in-Some : goal.returns-in-Some
 returns-in-Some c =
     let all = c.in-Some.ensures ∙ raw_values-rows (found_of c.args.matches.now) c.args.name.now in
-    IfOk-weaker c.copied.result _ _ (λ v h. h ∙ ap (λ (o : Option (List (List ℕ))). unwrap_or o []) all) c.copied.ensures
+    IfOk-weaker c.copied.result _ _
+    (λ v h. h ∙ ap (λ (o : Option (List (List ℕ))). unwrap_or o []) all) c.copied.ensures
 
 pub returns-in-None : goal.returns-in-None
 returns-in-None c =
