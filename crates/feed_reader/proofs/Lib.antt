@@ -1,0 +1,9 @@
+pub mod LinesLemmas
+pub mod Json
+pub mod Numerals
+pub mod ListLemmas
+pub mod WeightLemmas
+pub mod FeedLemmas
+pub mod FitsLemmas
+pub mod IdLemmas
+pub mod LawLemmas

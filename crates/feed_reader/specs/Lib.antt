@@ -1,0 +1,9 @@
+pub mod Lines
+pub mod Numerals
+pub mod Id
+pub mod Answers
+pub mod Values
+pub mod Items
+pub mod Weights
+pub mod Grammar
+pub mod Feed

@@ -1,0 +1,37 @@
+-- The values and weights that JSON writes.
+use Rattle.std.specs.Prelude.{ℕ, ℤ, pos, negsuc, ◌&&◌, List, length, nat_le, int_le, if◌then◌else◌, Option, Some, None, option_and_then, option_map, Result}
+use Rattle.serde_json.specs.Data.{Data}
+use Rattle.serde_json.specs.Find.{as_number, as_i64, as_str}
+use Rattle.attr_types.specs.declared.value.Value.{Value}
+use Rattle.attr_types.specs.declared.value.Value.TheVariants as values
+use Rattle.attr_types.specs.declared.kind.ValueType.{ValueType}
+use Rattle.attr_types.specs.declared.kind.ValueType.TheVariants.{Long, Text}
+use Rattle.feed_reader.specs.declared.refusal.Refusal.{Refusal}
+use Rattle.feed_reader.specs.declared.refusal.Refusal.TheVariants.{BadValue}
+use Rattle.feed_reader.specs.Answers.{or_else}
+use Rattle.feed_reader.specs.Numerals.{long_written}
+
+-- a text of at most 1,024 bytes
+abbrev pub text_of : List ℕ → Option Value
+text_of bytes = if nat_le (length bytes) 1024 then Some (values.Text bytes) else None
+
+-- a whole number of 64 signed bits: none has a point or an exponent, and `-0` is none
+abbrev pub long_of : Data → Option ℤ
+long_of d = option_and_then as_i64 (as_number d)
+
+-- a JSON value as a value of an attribute
+abbrev pub value_of : ValueType → Data → Result Value Refusal
+value_of Long d = or_else BadValue (option_map values.Long (long_of d))
+value_of Text d = or_else BadValue (option_and_then text_of (as_str d))
+
+-- the name of a member of an object as a value of an attribute
+abbrev pub value_named : ValueType → List ℕ → Result Value Refusal
+value_named Long name = or_else BadValue (option_map values.Long (long_written name))
+value_named Text name = or_else BadValue (text_of name)
+
+-- 32 signed bits hold the number
+abbrev pub small : ℤ → Option ℤ
+small z = if int_le (negsuc 2147483647) z && int_le z (pos 2147483647) then Some z else None
+
+abbrev pub weight_of : Data → Result ℤ Refusal
+weight_of d = or_else BadValue (option_and_then small (long_of d))

@@ -1,0 +1,39 @@
+ghost use Rattle.std.specs.Prelude.{◌≡◌, option_map};
+ghost use Rattle.feed_reader.specs.Id.{cut, cut_some, document_of};
+
+use crate::numeral::document_in;
+use attr_types::Doc;
+
+/// What stands before the first colon, and what after it.
+fn cut_at_colon(text: &str) -> Option<(&str, &str)>
+    ensures { option_map (λ p. (p.0.now, p.1.now)) result ≡ cut text.now }
+{
+    text.split_once(':')
+}
+
+/// The same, where something stands before the colon.
+fn cut_some_at_colon(text: &str) -> Option<(&str, &str)>
+    ensures { option_map (λ p. (p.0.now, p.1.now)) result ≡ cut_some text.now }
+{
+    let parts = cut_at_colon(text)?;
+    if parts.0.is_empty() {
+        None
+    } else {
+        Some(parts)
+    }
+}
+
+/// The document that an id names.
+#[tactic(auto, unfolding(crate::specs::Id::document_of))]
+pub fn document_of_id(text: &str) -> Option<Doc>
+    ensures { result ≡ document_of text.now }
+{
+    let (scheme, rest) = cut_at_colon(text)?;
+    if scheme != "id" {
+        return None;
+    }
+    let (_namespace, rest) = cut_some_at_colon(rest)?;
+    let (_document_type, rest) = cut_some_at_colon(rest)?;
+    let (_part, user) = cut_at_colon(rest)?;
+    document_in(user)
+}

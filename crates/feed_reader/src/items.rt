@@ -1,0 +1,160 @@
+ghost use Rattle.std.specs.Prelude.{◌≡◌, map, IfOk, []};
+ghost use Rattle.serde_json.specs.View.{view, items_view, members_view};
+ghost use Rattle.feed_reader.specs.declared.refusal.Refusal.TheVariants.{BadValue};
+ghost use Rattle.feed_reader.specs.Answers.{Says};
+ghost use Rattle.feed_reader.specs.Weights.{entry_item};
+ghost use Rattle.feed_reader.specs.Items.{values_listed, values_named, weighted_after, weighted_of, plain, list_of, one_of, some_items_of, items_of, taken_of, member_count};
+
+use crate::refusal::{LineError, Refusal};
+use crate::value::{value_in, value_named_by, weight_in};
+use attr_types::{Item, Items, Kind, Value, ValueType, Values};
+use serde_json::{Map, Value as Json};
+use std::alloc::{AllocError, Global};
+use std::collections::BTreeMap;
+
+/// The values of a list, in order.
+fn values_in(alloc: Global, value: ValueType, list: &[Json]) -> Result<Vec<Value>, LineError>
+    ensures { Says (λ v. v.items) result (values_listed value (items_view list.now)) }
+{
+    let mut values = Vec::new(alloc);
+    for json in list {
+        values.push(value_in(alloc, value, json)?)?;
+    }
+    Ok(values)
+}
+
+/// The values that the members of an object are named by.
+fn names_in(
+    alloc: Global,
+    value: ValueType,
+    members: &Map<String, Json>,
+) -> Result<Vec<Value>, LineError>
+    ensures { Says (λ v. v.items) result (values_named value (members_view members.now.entries)) }
+{
+    let mut values = Vec::new(alloc);
+    for (name, _) in members {
+        values.push(value_named_by(alloc, value, name.as_str())?)?;
+    }
+    Ok(values)
+}
+
+/// The weights of an object from value to weight, by value.
+fn weights_in(
+    alloc: Global,
+    value: ValueType,
+    members: &Map<String, Json>,
+) -> Result<BTreeMap<Value, i32>, LineError>
+    ensures { Says (λ m. map entry_item m.entries) result
+        (weighted_after value [] (members_view members.now.entries)) }
+{
+    let mut weights = BTreeMap::new(alloc);
+    for (name, json) in members {
+        let named = value_named_by(alloc, value, name.as_str())?;
+        let weight = weight_in(json)?;
+        weights.insert(named, weight)?;
+    }
+    Ok(weights)
+}
+
+fn plain_items(alloc: Global, values: Vec<Value>) -> Result<Items, AllocError>
+    ensures { IfOk result (λ items. items ≡ map plain values.items) }
+{
+    let list: Vec<Item> = values
+        .into_iter()
+        .map(|value| Item { value, weight: 1 })
+        .collect(alloc)?;
+    Ok(Items::from_vec(list))
+}
+
+fn weighted_items(alloc: Global, weights: BTreeMap<Value, i32>) -> Result<Items, AllocError>
+    ensures { IfOk result (λ items. items ≡ map entry_item weights.entries) }
+{
+    let list: Vec<Item> = weights
+        .into_iter()
+        .map(|(value, weight)| Item { value, weight })
+        .collect(alloc)?;
+    Ok(Items::from_vec(list))
+}
+
+/// The items of a list of values.
+pub fn list_in(alloc: Global, value: ValueType, json: &Json) -> Result<Items, LineError>
+    ensures { Says (λ items. items) result (list_of value (view json.now)) }
+{
+    let list = json.as_array().ok_or(Refusal::BadValue)?;
+    let values = values_in(alloc, value, list.as_slice())?;
+    Ok(plain_items(alloc, values)?)
+}
+
+/// The items of an object from value to weight, by value ascending.
+pub fn weighted_in(alloc: Global, value: ValueType, json: &Json) -> Result<Items, LineError>
+    ensures { Says (λ items. items) result (weighted_of value (view json.now)) }
+{
+    let members = json.as_object().ok_or(Refusal::BadValue)?;
+    let weights = weights_in(alloc, value, members)?;
+    Ok(weighted_items(alloc, weights)?)
+}
+
+fn one_in(alloc: Global, value: ValueType, json: &Json) -> Result<Items, LineError>
+    ensures { Says (λ items. items) result (one_of value (view json.now)) }
+{
+    let mut items = Items::new(alloc);
+    items.push(Item {
+        value: value_in(alloc, value, json)?,
+        weight: 1,
+    })?;
+    Ok(items)
+}
+
+fn some_items_in(
+    alloc: Global,
+    kind: Kind,
+    value: ValueType,
+    json: &Json,
+) -> Result<Items, LineError>
+    ensures { Says (λ items. items) result (some_items_of kind value (view json.now)) }
+{
+    match kind {
+        Kind::Single => one_in(alloc, value, json),
+        Kind::Array => list_in(alloc, value, json),
+        Kind::WeightedSet => weighted_in(alloc, value, json),
+    }
+}
+
+/// The items of a document of that kind. `null` stands for none.
+#[tactic(auto, unfolding(crate::specs::Items::items_of))]
+pub fn items_in(
+    alloc: Global,
+    kind: Kind,
+    value: ValueType,
+    json: &Json,
+) -> Result<Items, LineError>
+    ensures { Says (λ items. items) result (items_of kind value (view json.now)) }
+{
+    if json.is_null() {
+        return Ok(Items::new(alloc));
+    }
+    some_items_in(alloc, kind, value, json)
+}
+
+/// The values that a removal from a weighted set names.
+#[tactic(auto, unfolding(crate::specs::Items::taken_of))]
+pub fn taken_in(alloc: Global, value: ValueType, json: &Json) -> Result<Values, LineError>
+    ensures { Says (λ values. values) result (taken_of value (view json.now)) }
+{
+    match json {
+        Json::Array(list) => Ok(Values::from_vec(values_in(alloc, value, list.as_slice())?)),
+        Json::Object(members) => Ok(Values::from_vec(names_in(alloc, value, members)?)),
+        _ => Err(LineError::Refused(Refusal::BadValue)),
+    }
+}
+
+/// How many members a list or an object has.
+pub fn member_count(json: &Json) -> usize
+    ensures { result ≡ member_count (view json.now) }
+{
+    match json {
+        Json::Array(list) => list.len(),
+        Json::Object(members) => members.len(),
+        _ => 0,
+    }
+}

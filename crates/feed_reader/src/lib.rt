@@ -1,0 +1,18 @@
+//! Reads the operations of a feed: lines of JSON in Vespa's document format.
+//! <https://docs.vespa.ai/en/reference/document-json-format.html>
+#![tactic(auto)]
+
+mod error;
+mod feed;
+mod id;
+mod items;
+mod line;
+mod numeral;
+mod operation;
+mod refusal;
+mod split;
+mod update;
+mod value;
+
+pub use error::FeedError;
+pub use feed::read_feed;

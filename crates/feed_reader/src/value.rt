@@ -1,0 +1,48 @@
+ghost use Rattle.std.specs.Prelude.{◌≡◌};
+ghost use Rattle.serde_json.specs.View.{view};
+ghost use Rattle.feed_reader.specs.declared.refusal.Refusal.TheVariants.{BadValue};
+ghost use Rattle.feed_reader.specs.Answers.{Says, or_else};
+ghost use Rattle.feed_reader.specs.Values.{text_of, value_of, value_named, weight_of};
+
+use crate::numeral::long_in;
+use crate::refusal::{LineError, Refusal};
+use attr_types::{Text, Value, ValueType};
+use serde_json::Value as Json;
+use std::alloc::Global;
+
+fn text_in(alloc: Global, text: &str) -> Result<Value, LineError>
+    ensures { Says (λ v. v) result (or_else BadValue (text_of text.now)) }
+{
+    if text.len() > Text::MAX_LEN {
+        return Err(LineError::Refused(Refusal::BadValue));
+    }
+    Ok(Value::Text(Text::from_str(alloc, text)?))
+}
+
+/// The value that JSON writes.
+pub fn value_in(alloc: Global, value: ValueType, json: &Json) -> Result<Value, LineError>
+    ensures { Says (λ v. v) result (value_of value (view json.now)) }
+{
+    match value {
+        ValueType::Long => Ok(Value::Long(json.as_i64().ok_or(Refusal::BadValue)?)),
+        ValueType::Text => text_in(alloc, json.as_str().ok_or(Refusal::BadValue)?),
+    }
+}
+
+/// The value that the name of a member writes.
+pub fn value_named_by(alloc: Global, value: ValueType, name: &str) -> Result<Value, LineError>
+    ensures { Says (λ v. v) result (value_named value name.now) }
+{
+    match value {
+        ValueType::Long => Ok(Value::Long(long_in(name).ok_or(Refusal::BadValue)?)),
+        ValueType::Text => text_in(alloc, name),
+    }
+}
+
+/// The weight that JSON writes.
+pub fn weight_in(json: &Json) -> Result<i32, LineError>
+    ensures { Says (λ w. w) result (weight_of (view json.now)) }
+{
+    let number = json.as_i64().ok_or(Refusal::BadValue)?;
+    Ok(i32::try_from(number).ok().ok_or(Refusal::BadValue)?)
+}
