@@ -1,3 +1,9 @@
+pub mod Fronts
+pub mod GrammarLemmas
+pub mod LeafPaths
 pub mod ListLemmas
+pub mod Paths
 pub mod ReadingLemmas
+pub mod Steps
 pub mod SurveyLemmas
+pub mod TreePaths

@@ -3,3 +3,4 @@ pub mod Modes
 pub mod Survey
 pub mod Reading
 pub mod Parsing
+pub mod Laws

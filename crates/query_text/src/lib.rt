@@ -7,4 +7,4 @@ mod parse;
 mod read;
 mod survey;
 
-pub use parse::parse_query;
+pub use parse::{grammar_law, parse_query};

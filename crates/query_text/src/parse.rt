@@ -1,5 +1,6 @@
 ghost use Rattle.std.specs.Prelude.{◌≡◌};
 ghost use Rattle.query_text.specs.Parsing.{Says, query_of};
+ghost use Rattle.query_text.specs.Laws.{ReadsByGrammar};
 
 use crate::list::query_in;
 use crate::read::ReadError;
@@ -38,4 +39,10 @@ pub fn parse_query(alloc: Global, text: &str, value: ValueType) -> Result<Query,
         }),
         Err(ReadError::Memory) => Err(QueryError::Memory),
     }
+}
+
+/// The reading of texts is that of the grammar.
+pub fn grammar_law()
+    ensures reads { ReadsByGrammar }
+{
 }
