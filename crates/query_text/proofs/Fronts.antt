@@ -116,10 +116,10 @@ pub numeral_digit : (d : ℕ) → d < 10 → (48 + d) ∷ [] ≡ numeral d
 unfolding numeral
 numeral_digit d small =
     elim (eqb_tells d 0) [
-      inl none ↦ ap (λ d. (48 + d) ∷ []) none.1 ∙ sym (ap (λ b. cond b (codes "0") (map (λ digit. 48 + digit) (digits_of 10 d))) none.0)
-    | inr some ↦
-        let front : d / 10 ≡ 0 = omega arith in
-        let last : d % 10 ≡ d = omega arith in
-        sym (ap (map (λ digit. 48 + digit)) (digits_of_step 10 d (omega arith) (omega (arith, some.1)) ∙ ap₂ (λ q r. digits_of 10 q ++ r ∷ []) front last))
-        ∙ sym (ap (λ b. cond b (codes "0") (map (λ digit. 48 + digit) (digits_of 10 d))) some.0)
+      | inl none ↦ ap (λ d. (48 + d) ∷ []) none.1 ∙ sym (ap (λ b. cond b (codes "0") (map (λ digit. 48 + digit) (digits_of 10 d))) none.0)
+      | inr some ↦
+          let front : d / 10 ≡ 0 = omega arith in
+          let last : d % 10 ≡ d = omega arith in
+          sym (ap (map (λ digit. 48 + digit)) (digits_of_step 10 d (omega arith) (omega (arith, some.1)) ∙ ap₂ (λ q r. digits_of 10 q ++ r ∷ []) front last))
+          ∙ sym (ap (λ b. cond b (codes "0") (map (λ digit. 48 + digit) (digits_of 10 d))) some.0)
     ]

@@ -1,9 +1,172 @@
 -- What is read is what the grammar answers.
-use Rattle.std.proofs.Common.{◌≡◌, ◌<◌, ◌≤◌, ◌+◌, ℕ, List, [], ◌∷◌, ◌++◌, length, Bool, true, false, Option, Some, None, Result, Ok, Err, refl, sym, ap, ◌∙◌}
+use Rattle.std.proofs.Common.{◌≡◌, ◌<◌, ◌≤◌, ◌+◌, ℕ, zero, suc, List, [], ◌∷◌, ◌++◌, length, take, drop, Bool, true, false, ◌&&◌, ◌==◌, cond, eqb, nat_lt, max, Option, Some, None, Result, Ok, Err, refl, sym, ap, ap₂, subst, ◌∙◌, inl, inr, ◌⊎◌, add-one, append-nil, arith}
+use Rattle.std.specs.Option.{option_and_then}
+use Rattle.std.specs.List.{list_all}
+use Rattle.std.specs.Str.{IsUtf8}
+use Rattle.std.proofs.lemmas.Bool.Decides.{nat_tests}
+use Rattle.std.proofs.Math.Seq.{take-length}
 use Rattle.attr_types.specs.declared.kind.ValueType.{ValueType}
+use Rattle.attr_types.specs.declared.error.QueryError.TheVariants.{Syntax, WrongType, OutOfRange, TooDeep, Memory}
+use Rattle.attr_types.specs.Query.{QueryTree}
+use Rattle.query_text.specs.declared.mode.Mode.TheVariants as modes
+use Rattle.query_text.specs.declared.survey.Survey.{Survey}
+use Rattle.query_text.specs.Grammar.{tree_text, IsFormed, tree_values, is_of_type, is_in_range, levels_of, IsQueryText, Continues, StopsAt, Answers}
+use Rattle.query_text.specs.Survey.{start, surveyed, surveyed_from, surveyed_after, is_whole, ends_query, on_next}
+use Rattle.query_text.specs.Parsing.{query_of, judged, judged_if, found_in}
+use Rattle.query_text.specs.Reading.{query_at}
 use Rattle.query_text.specs.Laws.{ReadsByGrammar}
-use Rattle.query_text.proofs.TreePaths.{tree_through}
-use Rattle.query_text.proofs.Steps.{members_text}
+use Rattle.query_text.proofs.ReadBack.{query_read}
+use Rattle.query_text.proofs.Utf8Lemmas.{tree_readable}
+use Rattle.query_text.proofs.Paths.{through, through-append}
+use Rattle.query_text.proofs.TreePaths.{tree_through, tree_mode, after_values, begins_start, ends_tree}
+use Rattle.query_text.proofs.Fronts.{Front}
+use Rattle.query_text.proofs.Completions.{front_start, front_through, front_continues, front_ends}
+
+-- a survey that ended, byte by byte
+accepted : (value : ValueType) (survey next : Survey) (place : ℕ) (text : List ℕ) → surveyed_from value survey place text ≡ Ok next
+    → (through value survey text ≡ Some next) × (is_whole next ≡ true)
+unfolding surveyed_from through
+accepted value survey next place [] e =
+    (elim (is_whole survey) as (λ b. is_whole survey ≡ b → cond b (Ok survey) (Err place) ≡ Ok next → (◌≡◌ {A = Option Survey} (Some survey) (Some next)) × (is_whole next ≡ true)) [
+      | true ↦ λ w f. let same : survey ≡ next = cc in (ap Some same, ap is_whole (sym same) ∙ w)
+      | false ↦ λ w f. absurd cc
+    ]) refl e
+accepted value survey next place (byte ∷ rest) e =
+    (elim (surveyed_after value survey byte) as (λ o. on_next o (λ next. surveyed_from value next (place + 1) rest) place ≡ Ok next
+    → (option_and_then (λ next. through value next rest) o ≡ Some next) × (is_whole next ≡ true)) [
+      | None ↦ λ f. absurd cc
+      | Some more ↦ λ f. accepted value more next (place + 1) rest f
+    ]) e
+
+-- a survey that stopped
+record Stopped (value : ValueType) (survey : Survey) (text : List ℕ) (n : ℕ) : Type 0 where
+  within : n ≤ length text
+  last : Survey
+  reached : through value survey (take n text) ≡ Some last
+  stops : n < length text → through value survey (take (suc n) text) ≡ None
+  unfinished : n ≡ length text → is_whole last ≡ false
+
+refused : (value : ValueType) (survey : Survey) (place stop : ℕ) (text : List ℕ) → surveyed_from value survey place text ≡ Err stop
+    → (n : ℕ) × (stop ≡ place + n) × Stopped value survey text n
+unfolding surveyed_from through
+refused value survey place stop [] e =
+    (elim (is_whole survey) as (λ b. is_whole survey ≡ b → cond b (Ok survey) (Err place) ≡ Err stop → (n : ℕ) × (stop ≡ place + n) × Stopped value survey [] n) [
+      | true ↦ λ w f. absurd cc
+      | false ↦ λ w f.
+          let same : place ≡ stop = cc in
+          (0, omega arith, record { within = omega arith; last = survey; reached = refl; stops = λ h. absurd (omega arith); unfinished = λ _. w })
+    ]) refl e
+refused value survey place stop (byte ∷ rest) e =
+    (elim (surveyed_after value survey byte) as (λ o. surveyed_after value survey byte ≡ o
+    → on_next o (λ next. surveyed_from value next (place + 1) rest) place ≡ Err stop
+    → (n : ℕ) × (stop ≡ place + n) × Stopped value survey (byte ∷ rest) n) [
+      | None ↦ λ o f.
+          let same : place ≡ stop = cc in (
+            0,
+            omega arith,
+            record {
+              within = omega arith;
+              last = survey;
+              reached = refl;
+              stops = λ h. ap (option_and_then (λ next. through value next [])) o;
+              unfinished = λ h. absurd (omega arith);
+            },
+          )
+      | Some more ↦ λ o f.
+          let found : (n : ℕ) × (stop ≡ (place + 1) + n) × Stopped value more rest n = refused value more (place + 1) stop rest f in
+          let n = found.0 in
+          let then = found.2 in (
+            suc n,
+            omega (arith, found.1),
+            record {
+              within = omega (arith, then.within);
+              last = then.last;
+              reached = ap (option_and_then (λ next. through value next (take n rest))) o ∙ then.reached;
+              stops = λ h. ap (option_and_then (λ next. through value next (take (suc n) rest))) o ∙ then.stops (omega arith);
+              unfinished = λ h. then.unfinished (omega arith);
+            },
+          )
+    ]) refl e
+
+-- the survey of a query's text
+abbrev survey_of : ValueType → QueryTree → Survey
+survey_of value query = after_values value start (tree_mode query) (levels_of query) (tree_values query)
+
+pub query_surveyed : (value : ValueType) (text : List ℕ) (query : QueryTree) → IsQueryText text query → through value start text ≡ Some (survey_of value query)
+query_surveyed value text query is =
+    ap (through value start) is.written ∙ tree_through value query start is.formed begins_start (omega arith)
+
+whole_survey : (value : ValueType) (query : QueryTree) → is_whole (survey_of value query) ≡ true
+whole_survey value query = (ends_tree query).whole
+
+whole_parts : (survey : Survey) → is_whole survey ≡ true → (survey.depth ≡ 0) × (ends_query survey.mode ≡ true)
+whole_parts survey h = (grind (arith, nat_tests), grind (arith, nat_tests))
+
+-- a front of a query is surveyed
+front_surveyed : (value : ValueType) (front : List ℕ) → Continues front → through value start front ≡ None → ⊥
+front_surveyed value front (query, rest, is) none =
+    let read : option_and_then (λ next. through value next rest) (through value start front) ≡ Some (survey_of value query) =
+    sym (through-append value start front rest) ∙ query_surveyed value (front ++ rest) query is in
+    let lost : ◌≡◌ {A = Option Survey} None (Some (survey_of value query)) =
+    sym (ap (option_and_then (λ next. through value next rest)) none) ∙ read in
+    cc
+
+surveyed_continues : (value : ValueType) (front : List ℕ) (survey : Survey) → through value start front ≡ Some survey → Continues front
+surveyed_continues value front survey e = front_continues front survey.depth survey.mode (front_through value start survey [] front front_start e)
+
+stops_at : (value : ValueType) (text : List ℕ) (place : ℕ) → surveyed value text ≡ Err place → StopsAt text place
+stops_at value text place e =
+    let found : (n : ℕ) × (place ≡ 0 + n) × Stopped value start text n = refused value start 0 place text e in
+    let n = found.0 in
+    let stopped = found.2 in
+    let here : n ≡ place = omega (arith, found.1) in
+    subst (StopsAt text) here (record {
+      within = stopped.within;
+      continues = surveyed_continues value (take n text) stopped.last stopped.reached;
+      stops = λ inside more. front_surveyed value (take (n + 1) text) more (ap (λ k. through value start (take k text)) (add-one n) ∙ stopped.stops inside);
+      unfinished = λ all query is.
+          let past : take n text ≡ text = ap (λ k. take k text) all ∙ take-length text in
+          let same : ◌≡◌ {A = Option Survey} (Some stopped.last) (Some (survey_of value query)) =
+          sym stopped.reached ∙ ap (through value start) past ∙ query_surveyed value text query is in
+          let here : stopped.last ≡ survey_of value query = cc in
+          let whole : false ≡ true = sym (stopped.unfinished all) ∙ ap is_whole here ∙ whole_survey value query in
+          cc;
+    })
+
+-- a query that is read
+query_found : (text : List ℕ) (query : QueryTree) → IsUtf8 text → IsQueryText text query → list_all is_in_range (tree_values query) ≡ true
+    → levels_of query ≤ 32 → query_at 32 text ≡ Some (query, [])
+query_found text query utf8 is small deep =
+    ap (query_at 32) (is.written ∙ sym (append-nil (tree_text query)))
+    ∙ query_read query 32 [] is.formed (tree_readable query (subst IsUtf8 is.written utf8) small) deep tt
+
+-- the checks on a query's text
+module _ (value : ValueType) (text : List ℕ) (query : QueryTree) (utf8 : IsUtf8 text) (is : IsQueryText text query) where
+  checked : (right small deep : Bool) → list_all (is_of_type value) (tree_values query) ≡ right → list_all is_in_range (tree_values query) ≡ small
+      → nat_lt 32 (max 1 (0 + levels_of query)) ≡ deep
+      → Answers value text (cond right (cond small (cond deep (Err TooDeep) (found_in text (query_at 32 text))) (Err OutOfRange)) (Err WrongType))
+  checked false small deep r s d = (query, is, r)
+  checked true false deep r s d = (query, is, r, s)
+  checked true true true r s d = (query, is, r, s, grind (arith, nat_tests))
+  checked true true false r s d =
+      let levels : levels_of query ≤ 32 = grind (arith, nat_tests) in
+      subst (λ o. Answers value text (found_in text o)) (sym (query_found text query utf8 is s levels)) (is, r, s, levels)
+
+  judged_answers : Answers value text (judged text (survey_of value query))
+  judged_answers = checked _ _ _ refl refl refl
 
 pub reads_by_grammar : ReadsByGrammar
-reads_by_grammar = ?
+unfolding query_of
+reads_by_grammar value text utf8 =
+    (elim (surveyed value text) as (λ r. surveyed value text ≡ r → Answers value text (judged_if text r)) [
+      | Err place ↦ λ e. stops_at value text place e
+      | Ok survey ↦ λ e.
+          let read : (through value start text ≡ Some survey) × (is_whole survey ≡ true) = accepted value start survey 0 text e in
+          let ends : (survey.depth ≡ 0) × (ends_query survey.mode ≡ true) = whole_parts survey read.1 in
+          let found : (query : QueryTree) × IsQueryText text query =
+          front_ends text survey.mode (subst (λ depth. Front text depth survey.mode) ends.0
+          (front_through value start survey [] text front_start read.0)) ends.1 in
+          let same : ◌≡◌ {A = Option Survey} (Some survey) (Some (survey_of value found.0)) = sym read.0 ∙ query_surveyed value text found.0 found.1 in
+          let here : survey_of value found.0 ≡ survey = cc in
+          subst (λ s. Answers value text (judged text s)) here (judged_answers value text found.0 utf8 found.1)
+    ]) refl

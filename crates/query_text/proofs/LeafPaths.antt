@@ -58,32 +58,32 @@ after_low (values.Text xs) (values.Long z) same = absurd cc
 
 range_path : (value : ValueType) (low high : Option Value) → IsFormedLeaf (Range low high)
     → Path value modes.Low (option_text low ++ (59 ∷ [] ++ (option_text high ++ 93 ∷ []))) modes.Ended
-        (list_all (is_of_type value) (leaf_values (Range low high))) (list_all is_in_range (leaf_values (Range low high)))
+    (list_all (is_of_type value) (leaf_values (Range low high))) (list_all is_in_range (leaf_values (Range low high)))
 unfolding next_mode
 range_path value None None formed =
     joined value modes.Low modes.High modes.Ended (59 ∷ []) (93 ∷ []) _ _ _ _
-      (one_byte value modes.Low modes.High 59 (λ _. refl) (λ _. refl))
-      (one_byte value modes.High modes.Ended 93 (λ _. refl) (λ _. refl))
+    (one_byte value modes.Low modes.High 59 (λ _. refl) (λ _. refl))
+    (one_byte value modes.High modes.Ended 93 (λ _. refl) (λ _. refl))
 range_path value None (Some w) formed =
     joined value modes.Low modes.High modes.Ended (59 ∷ []) _ _ _ _ _
-      (one_byte value modes.Low modes.High 59 (λ _. refl) (λ _. refl))
-      (joined value modes.High (value_mode roles.High w) modes.Ended (value_text w) (93 ∷ []) _ _ _ _
-        (value_path value modes.High roles.High w (at_high w))
-        (one_byte value _ modes.Ended 93 (bracket w) (λ _. refl)))
+    (one_byte value modes.Low modes.High 59 (λ _. refl) (λ _. refl))
+    (joined value modes.High (value_mode roles.High w) modes.Ended (value_text w) (93 ∷ []) _ _ _ _
+    (value_path value modes.High roles.High w (at_high w))
+    (one_byte value _ modes.Ended 93 (bracket w) (λ _. refl)))
 range_path value (Some v) None formed =
     joined value modes.Low (value_mode roles.Low v) modes.Ended (value_text v) _ _ _ _ _
-      (value_path value modes.Low roles.Low v (at_low v))
-      (joined value _ (high_mode v) modes.Ended (59 ∷ []) (93 ∷ []) _ _ _ _
-        (semicolon_path value v)
-        (one_byte value _ modes.Ended 93 (bracket_after v) (λ _. refl)))
+    (value_path value modes.Low roles.Low v (at_low v))
+    (joined value _ (high_mode v) modes.Ended (59 ∷ []) (93 ∷ []) _ _ _ _
+    (semicolon_path value v)
+    (one_byte value _ modes.Ended 93 (bracket_after v) (λ _. refl)))
 range_path value (Some v) (Some w) formed =
     joined value modes.Low (value_mode roles.Low v) modes.Ended (value_text v) _ _ _ _ _
-      (value_path value modes.Low roles.Low v (at_low v))
-      (joined value _ (high_mode v) modes.Ended (59 ∷ []) _ _ _ _ _
-        (semicolon_path value v)
-        (joined value (high_mode v) (value_mode roles.High w) modes.Ended (value_text w) (93 ∷ []) _ _ _ _
-          (value_path value (high_mode v) roles.High w (after_low v w formed))
-          (one_byte value _ modes.Ended 93 (bracket w) (λ _. refl))))
+    (value_path value modes.Low roles.Low v (at_low v))
+    (joined value _ (high_mode v) modes.Ended (59 ∷ []) _ _ _ _ _
+    (semicolon_path value v)
+    (joined value (high_mode v) (value_mode roles.High w) modes.Ended (value_text w) (93 ∷ []) _ _ _ _
+    (value_path value (high_mode v) roles.High w (after_low v w formed))
+    (one_byte value _ modes.Ended 93 (bracket w) (λ _. refl))))
 
 pub leaf_path : (value : ValueType) (from : Mode) → Begins from → (leaf : Leaf) → IsFormedLeaf leaf
     → Path value from (leaf_text leaf) (leaf_mode leaf) (list_all (is_of_type value) (leaf_values leaf)) (list_all is_in_range (leaf_values leaf))
@@ -92,20 +92,20 @@ leaf_path value from begins (Is v) formed =
     judged_so value from _ _ _ _ _ _ _ _ refl refl (sym (and_true _)) (sym (and_true _)) (value_path value from roles.Alone v (at_front from begins v))
 leaf_path value from begins (Prefix bytes) formed =
     joined value from (modes.Quoted roles.Alone) modes.Ended (quoted bytes) (42 ∷ []) _ _ _ _
-      (quoted_path value from roles.Alone (at_front from begins (values.Text bytes)) bytes)
-      (one_byte value _ modes.Ended 42 (λ _. refl) (λ _. refl))
+    (quoted_path value from roles.Alone (at_front from begins (values.Text bytes)) bytes)
+    (one_byte value _ modes.Ended 42 (λ _. refl) (λ _. refl))
 leaf_path value from begins (Range low high) formed =
     judged_so value from _ _ _ _ _ _ _ _ (simp append_assoc) refl refl refl
-      (joined value from modes.Low modes.Ended (91 ∷ []) _ _ _ _ _
-        (one_byte value from modes.Low 91 (λ nested. begins nested 91) (λ _. refl))
-        (range_path value low high formed))
+    (joined value from modes.Low modes.Ended (91 ∷ []) _ _ _ _ _
+    (one_byte value from modes.Low 91 (λ nested. begins nested 91) (λ _. refl))
+    (range_path value low high formed))
 leaf_path value from begins (Below v) formed =
     judged_so value from _ _ _ _ _ _ _ _ refl refl (sym (and_true _)) (sym (and_true _))
-      (joined value from modes.Bound _ (60 ∷ []) (value_text v) _ _ _ _
-        (one_byte value from modes.Bound 60 (λ nested. begins nested 60) (λ _. refl))
-        (value_path value modes.Bound roles.Bound v (at_bound v)))
+    (joined value from modes.Bound _ (60 ∷ []) (value_text v) _ _ _ _
+    (one_byte value from modes.Bound 60 (λ nested. begins nested 60) (λ _. refl))
+    (value_path value modes.Bound roles.Bound v (at_bound v)))
 leaf_path value from begins (Above v) formed =
     judged_so value from _ _ _ _ _ _ _ _ refl refl (sym (and_true _)) (sym (and_true _))
-      (joined value from modes.Bound _ (62 ∷ []) (value_text v) _ _ _ _
-        (one_byte value from modes.Bound 62 (λ nested. begins nested 62) (λ _. refl))
-        (value_path value modes.Bound roles.Bound v (at_bound v)))
+    (joined value from modes.Bound _ (62 ∷ []) (value_text v) _ _ _ _
+    (one_byte value from modes.Bound 62 (λ nested. begins nested 62) (λ _. refl))
+    (value_path value modes.Bound roles.Bound v (at_bound v)))

@@ -33,8 +33,8 @@ unfolding through
 through-append value survey [] ys = refl
 through-append value survey (x ∷ xs) ys =
     elim (surveyed_after value survey x) as (λ o. option_and_then (λ next. through value next (xs ++ ys)) o
-        ≡ option_and_then (λ next. through value next ys) (option_and_then (λ next. through value next xs) o))
-      [ None ↦ refl | Some next ↦ through-append value next xs ys ]
+    ≡ option_and_then (λ next. through value next ys) (option_and_then (λ next. through value next xs) o))
+    [ None ↦ refl | Some next ↦ through-append value next xs ys ]
 
 -- the same brackets and levels in another mode
 abbrev pub moved : Survey → Mode → Bool → Bool → Survey
@@ -50,9 +50,9 @@ pub one_byte : (value : ValueType) (from to : Mode) (byte : ℕ) → ((nested : 
 unfolding through
 one_byte value from to byte next same survey at below =
     let reached : surveyed_after value survey byte ≡ Some (entered value survey to) =
-        ap (option_map (entered value survey)) (ap (λ mode. next_mode (nat_lt 0 survey.depth) mode byte) at ∙ next (nat_lt 0 survey.depth)) in
+    ap (option_map (entered value survey)) (ap (λ mode. next_mode (nat_lt 0 survey.depth) mode byte) at ∙ next (nat_lt 0 survey.depth)) in
     let levels : max survey.levels (depth_after survey.depth to + 1) ≡ survey.levels =
-        ap (λ depth. max survey.levels (depth + 1)) (same survey.depth) ∙ max-eq_left (omega arith) in
+    ap (λ depth. max survey.levels (depth + 1)) (same survey.depth) ∙ max-eq_left (omega arith) in
     ap (option_and_then (λ next. through value next [])) reached
     ∙ (λ i. Some (record { mode = to; depth = same survey.depth i; levels = levels i; right = survey.right && is_right value to; small = survey.small && is_small to }))
 
@@ -62,8 +62,13 @@ joined value from mid to xs ys right right' small small' p q survey at below =
     through-append value survey xs ys
     ∙ ap (option_and_then (λ next. through value next ys)) (p survey at below)
     ∙ q (moved survey mid right small) refl below
-    ∙ (λ i. Some (record { mode = to; depth = survey.depth; levels = survey.levels;
-        right = and_assoc survey.right right right' i; small = and_assoc survey.small small small' i }))
+    ∙ (λ i. Some (record {
+      mode = to;
+      depth = survey.depth;
+      levels = survey.levels;
+      right = and_assoc survey.right right right' i;
+      small = and_assoc survey.small small small' i;
+    }))
 
 pub judged_so : (value : ValueType) (from to to' : Mode) (xs ys : List ℕ) (right right' small small' : Bool)
     → xs ≡ ys → to ≡ to' → right ≡ right' → small ≡ small' → Path value from xs to right small → Path value from ys to' right' small'
@@ -72,19 +77,19 @@ judged_so value from to to' xs ys right right' small small' e m r s p survey at 
     ∙ (λ i. Some (record { mode = m i; depth = survey.depth; levels = survey.levels; right = survey.right && r i; small = survey.small && s i }))
 
 -- the digits of a number
-digits_by_steps : (P : ℕ → List ℕ → Type 0) → ((n : ℕ) → 0 < n → n < 10 → P n ((48 + n) ∷ []))
+pub digits_by_steps : (P : ℕ → List ℕ → Type 0) → ((n : ℕ) → 0 < n → n < 10 → P n ((48 + n) ∷ []))
     → ((n : ℕ) (digits : List ℕ) → 10 ≤ n → P (n / 10) digits → P n (digits ++ (48 + n % 10) ∷ []))
     → (k n : ℕ) → n ≤ k → 0 < n → P n (map (λ d. 48 + d) (digits_of 10 n))
 digits_by_steps P one more zero n h p = absurd (omega arith)
 digits_by_steps P one more (suc k) n h p =
     let step : map (λ d. 48 + d) (digits_of 10 n) ≡ map (λ d. 48 + d) (digits_of 10 (n / 10)) ++ (48 + n % 10) ∷ [] =
-        ap (map (λ d. 48 + d)) (digits_of_step 10 n (omega arith) p) ∙ map-append (λ d. 48 + d) (digits_of 10 (n / 10)) (n % 10 ∷ []) in
+    ap (map (λ d. 48 + d)) (digits_of_step 10 n (omega arith) p) ∙ map-append (λ d. 48 + d) (digits_of 10 (n / 10)) (n % 10 ∷ []) in
     elim (cases_lt n 10) [
-      inl small ↦
-        let low : n / 10 ≡ 0 = omega arith in
-        let rest : n % 10 ≡ n = omega arith in
-        subst (P n) (sym (step ∙ ap₂ (λ q r. map (λ d. 48 + d) (digits_of 10 q) ++ (48 + r) ∷ []) low rest)) (one n p small)
-    | inr large ↦ subst (P n) (sym step) (more n _ large (digits_by_steps P one more k (n / 10) (omega arith) (omega arith)))
+      | inl small ↦
+          let low : n / 10 ≡ 0 = omega arith in
+          let rest : n % 10 ≡ n = omega arith in
+          subst (P n) (sym (step ∙ ap₂ (λ q r. map (λ d. 48 + d) (digits_of 10 q) ++ (48 + r) ∷ []) low rest)) (one n p small)
+      | inr large ↦ subst (P n) (sym step) (more n _ large (digits_by_steps P one more k (n / 10) (omega arith) (omega arith)))
     ]
 
 pub and_true : (b : Bool) → (b && true) ≡ b
@@ -99,7 +104,7 @@ size_grows : (negative : Bool) (n : ℕ) → 10 ≤ n → (is_long_size negative
 size_grows true n h = grind (arith, nat_tests)
 size_grows false n h = grind (arith, nat_tests)
 
-capped_digit : (n : ℕ) → capped (capped (capped (n / 10) * 10) + n % 10) ≡ capped n
+pub capped_digit : (n : ℕ) → capped (capped (capped (n / 10) * 10) + n % 10) ≡ capped n
 capped_digit n = omega arith
 
 digit_next : (nested : Bool) (role : Role) (negative : Bool) (size digit : ℕ) → 0 < size → digit < 10
@@ -124,14 +129,14 @@ digits_path : (value : ValueType) (from : Mode) (role : Role) (negative : Bool)
     → Path value from (map (λ d. 48 + d) (digits_of 10 n)) (modes.Number role negative (capped n)) (is_long value) (is_long_size negative n)
 digits_path value from role negative first n some =
     digits_by_steps (λ n digits. Path value from digits (modes.Number role negative (capped n)) (is_long value) (is_long_size negative n))
-      (λ n some small. judged_so value from _ _ _ _ _ _ _ _ refl (ap (modes.Number role negative) (omega arith)) refl refl
-          (one_byte value from (modes.Number role negative n) (48 + n) (λ nested. first nested n some small) (λ _. refl)))
-      (λ n digits large before. judged_so value from _ _ _ _ _ _ _ _ refl refl (and_same (is_long value)) (size_grows negative n large)
-          (joined value from _ _ digits _ _ _ _ _ before
-              (judged_so value _ _ _ _ _ _ _ _ _ refl (ap (modes.Number role negative) (capped_digit n)) refl (ap (is_long_size negative) (capped_digit n))
-                (one_byte value (modes.Number role negative (capped (n / 10))) (modes.Number role negative (capped (capped (capped (n / 10) * 10) + n % 10))) (48 + n % 10)
-                  (λ nested. digit_next nested role negative (capped (n / 10)) (n % 10) (omega arith) (omega arith)) (λ _. refl)))))
-      n n (omega arith) some
+    (λ n some small. judged_so value from _ _ _ _ _ _ _ _ refl (ap (modes.Number role negative) (omega arith)) refl refl
+    (one_byte value from (modes.Number role negative n) (48 + n) (λ nested. first nested n some small) (λ _. refl)))
+    (λ n digits large before. judged_so value from _ _ _ _ _ _ _ _ refl refl (and_same (is_long value)) (size_grows negative n large)
+    (joined value from _ _ digits _ _ _ _ _ before
+    (judged_so value _ _ _ _ _ _ _ _ _ refl (ap (modes.Number role negative) (capped_digit n)) refl (ap (is_long_size negative) (capped_digit n))
+    (one_byte value (modes.Number role negative (capped (n / 10))) (modes.Number role negative (capped (capped (capped (n / 10) * 10) + n % 10))) (48 + n % 10)
+    (λ nested. digit_next nested role negative (capped (n / 10)) (n % 10) (omega arith) (omega arith)) (λ _. refl)))))
+    n n (omega arith) some
 
 minus_digit : (nested : Bool) (role : Role) (d : ℕ) → 0 < d → d < 10 → next_mode nested (modes.Minus role) (48 + d) ≡ Some (modes.Number role true d)
 unfolding next_mode
@@ -145,7 +150,7 @@ abbrev pub number_mode : Role → ℤ → Mode
 number_mode role (pos n) = modes.Number role false (capped n)
 number_mode role (negsuc n) = modes.Number role true (capped (n + 1))
 
-size_of_negative : (n : ℕ) → is_long_size true (n + 1) ≡ nat_lt n (2 ^ 63)
+pub size_of_negative : (n : ℕ) → is_long_size true (n + 1) ≡ nat_lt n (2 ^ 63)
 size_of_negative n = grind (arith, nat_tests)
 
 pub numeral_path : (value : ValueType) (from : Mode) (role : Role) → TakesNumber from role → (n : ℕ)
@@ -153,11 +158,11 @@ pub numeral_path : (value : ValueType) (from : Mode) (role : Role) → TakesNumb
 unfolding numeral
 numeral_path value from role takes n =
     elim (eqb_tells n 0) [
-      inl none ↦ judged_so value from _ _ (48 ∷ []) _ _ _ _ _
+      | inl none ↦ judged_so value from _ _ (48 ∷ []) _ _ _ _ _
           (sym (ap (λ b. cond b (48 ∷ []) (map (λ digit. 48 + digit) (digits_of 10 n))) none.0))
           (ap (λ n. modes.Number role false (capped n)) (sym none.1)) refl (ap (λ n. nat_lt n (2 ^ 63)) (sym none.1))
           (one_byte value from (modes.Number role false 0) 48 (λ nested. takes.digit nested 0 (omega arith)) (λ _. refl))
-    | inr some ↦ judged_so value from _ _ (map (λ digit. 48 + digit) (digits_of 10 n)) _ _ _ _ _
+      | inr some ↦ judged_so value from _ _ (map (λ digit. 48 + digit) (digits_of 10 n)) _ _ _ _ _
           (sym (ap (λ b. cond b (48 ∷ []) (map (λ digit. 48 + digit) (digits_of 10 n))) some.0)) refl refl refl
           (digits_path value from role false (λ nested d _ small. takes.digit nested d small) n (omega (arith, some.1)))
     ]
@@ -178,11 +183,11 @@ number_path value from role takes (pos n) =
 number_path value from role takes (negsuc n) =
     let some : eqb (n + 1) 0 ≡ false = grind (arith, nat_tests) in
     judged_so value from _ _ _ _ _ _ _ _
-      (ap (λ digits. 45 ∷ digits) (sym (ap (λ b. cond b (48 ∷ []) (map (λ digit. 48 + digit) (digits_of 10 (n + 1)))) some))) refl
-      (and_same (is_long value) ∙ long_type value (negsuc n)) (size_of_negative n)
-      (joined value from (modes.Minus role) _ (45 ∷ []) _ _ _ _ _
-        (one_byte value from (modes.Minus role) 45 takes.minus (λ _. refl))
-        (digits_path value (modes.Minus role) role true (λ nested d some small. minus_digit nested role d some small) (n + 1) (omega arith)))
+    (ap (λ digits. 45 ∷ digits) (sym (ap (λ b. cond b (48 ∷ []) (map (λ digit. 48 + digit) (digits_of 10 (n + 1)))) some))) refl
+    (and_same (is_long value) ∙ long_type value (negsuc n)) (size_of_negative n)
+    (joined value from (modes.Minus role) _ (45 ∷ []) _ _ _ _ _
+    (one_byte value from (modes.Minus role) 45 takes.minus (λ _. refl))
+    (digits_path value (modes.Minus role) role true (λ nested d some small. minus_digit nested role d some small) (n + 1) (omega arith)))
 
 -- the bytes of a text
 either : (b : Bool) → (b ≡ true) ⊎ (b ≡ false)
@@ -205,25 +210,25 @@ byte_path : (value : ValueType) (from : Mode) (role : Role) (front : List ℕ) (
 unfolding next_mode
 byte_path value from role front k byte before =
     elim (either ((byte == 34) || (byte == 92))) [
-      inl special ↦
-        judged_so value from _ _ _ _ _ _ _ _
+      | inl special ↦
+          judged_so value from _ _ _ _ _ _ _ _
           (ap (λ b. front ++ cond b (92 ∷ byte ∷ []) (byte ∷ [])) (sym special)) (ap (modes.Text role) (capped_one k))
           (twice (is_text value) _ refl) (len_grows k)
           (joined value from _ _ front (92 ∷ byte ∷ []) _ _ _ _ before
-            (joined value _ (modes.Escape role (capped k)) _ (92 ∷ []) (byte ∷ []) _ _ _ _
-              (one_byte value (modes.Text role (capped k)) (modes.Escape role (capped k)) 92 (λ _. refl) (λ _. refl))
-              (one_byte value (modes.Escape role (capped k)) (modes.Text role (capped (capped k + 1))) byte
-                (λ _. ap (λ b. cond b (Some (modes.Text role (capped (capped k + 1)))) None) special) (λ _. refl))))
-    | inr plain ↦
-        let no_quote : eqb byte 34 ≡ false = grind (arith, nat_tests) in
-        let no_escape : eqb byte 92 ≡ false = grind (arith, nat_tests) in
-        judged_so value from _ _ _ _ _ _ _ _
+          (joined value _ (modes.Escape role (capped k)) _ (92 ∷ []) (byte ∷ []) _ _ _ _
+          (one_byte value (modes.Text role (capped k)) (modes.Escape role (capped k)) 92 (λ _. refl) (λ _. refl))
+          (one_byte value (modes.Escape role (capped k)) (modes.Text role (capped (capped k + 1))) byte
+          (λ _. ap (λ b. cond b (Some (modes.Text role (capped (capped k + 1)))) None) special) (λ _. refl))))
+      | inr plain ↦
+          let no_quote : eqb byte 34 ≡ false = grind (arith, nat_tests) in
+          let no_escape : eqb byte 92 ≡ false = grind (arith, nat_tests) in
+          judged_so value from _ _ _ _ _ _ _ _
           (ap (λ b. front ++ cond b (92 ∷ byte ∷ []) (byte ∷ [])) (sym plain)) (ap (modes.Text role) (capped_one k))
           (and_same (is_text value)) (len_grows k)
           (joined value from _ _ front (byte ∷ []) _ _ _ _ before
-            (one_byte value (modes.Text role (capped k)) (modes.Text role (capped (capped k + 1))) byte
-              (λ _. ap₂ (λ b c. Some (cond b (modes.Quoted role) (cond c (modes.Escape role (capped k)) (modes.Text role (capped (capped k + 1)))))) no_quote no_escape)
-              (λ _. refl)))
+          (one_byte value (modes.Text role (capped k)) (modes.Text role (capped (capped k + 1))) byte
+          (λ _. ap₂ (λ b c. Some (cond b (modes.Quoted role) (cond c (modes.Escape role (capped k)) (modes.Text role (capped (capped k + 1)))))) no_quote no_escape)
+          (λ _. refl)))
     ]
 
 bytes_path : (value : ValueType) (from : Mode) (role : Role) (bytes front : List ℕ) (k : ℕ)
@@ -235,18 +240,18 @@ bytes_path value from role [] front k before =
 bytes_path value from role (byte ∷ bytes) front k before =
     let same : (k + 1) + length bytes ≡ k + suc (length bytes) = omega arith in
     judged_so value from _ _ _ _ _ _ _ _ (append_assoc front (escaped byte) (flat_map escaped bytes))
-      (ap (λ k. modes.Text role (capped k)) same) refl (ap (λ k. nat_le k 1024) same)
-      (bytes_path value from role bytes (front ++ escaped byte) (k + 1) (byte_path value from role front k byte before))
+    (ap (λ k. modes.Text role (capped k)) same) refl (ap (λ k. nat_le k 1024) same)
+    (bytes_path value from role bytes (front ++ escaped byte) (k + 1) (byte_path value from role front k byte before))
 
 pub quoted_path : (value : ValueType) (from : Mode) (role : Role) → TakesText from role → (bytes : List ℕ)
     → Path value from (quoted bytes) (modes.Quoted role) (is_of_type value (values.Text bytes)) (is_in_range (values.Text bytes))
 unfolding next_mode
 quoted_path value from role takes bytes =
     judged_so value from _ _ _ _ _ _ _ _ refl refl (and_true (is_text value) ∙ text_type value bytes)
-      (and_true (nat_le (0 + length bytes) 1024) ∙ ap (λ k. nat_le k 1024) (zero-add (length bytes)))
-      (joined value from _ (modes.Quoted role) _ (34 ∷ []) _ _ _ _
-        (bytes_path value from role bytes (34 ∷ []) 0 (one_byte value from (modes.Text role 0) 34 takes (λ _. refl)))
-        (one_byte value (modes.Text role (capped (0 + length bytes))) (modes.Quoted role) 34 (λ _. refl) (λ _. refl)))
+    (and_true (nat_le (0 + length bytes) 1024) ∙ ap (λ k. nat_le k 1024) (zero-add (length bytes)))
+    (joined value from _ (modes.Quoted role) _ (34 ∷ []) _ _ _ _
+    (bytes_path value from role bytes (34 ∷ []) 0 (one_byte value from (modes.Text role 0) 34 takes (λ _. refl)))
+    (one_byte value (modes.Text role (capped (0 + length bytes))) (modes.Quoted role) 34 (λ _. refl) (λ _. refl)))
 
 -- the mode after a value
 abbrev pub value_mode : Role → Value → Mode
@@ -289,6 +294,6 @@ digit_begins d h = grind (arith, nat_tests)
 pub at_front : (from : Mode) → Begins from → (v : Value) → Takes from roles.Alone v
 at_front from begins (values.Long z) = record {
   minus = λ nested. begins nested 45;
-  digit = λ nested d h. begins nested (48 + d) ∙ digit_begins d h
+  digit = λ nested d h. begins nested (48 + d) ∙ digit_begins d h;
 }
 at_front from begins (values.Text bytes) = λ nested. begins nested 34

@@ -80,7 +80,7 @@ byte_through value survey byte mode next =
 abbrev pub survey_at : Mode → ℕ → ℕ → Bool → Bool → Survey
 survey_at mode depth levels right small = record { mode = mode; depth = depth; levels = levels; right = right; small = small }
 
-same_at : {mode mode' : Mode} {depth depth' levels levels' : ℕ} {right right' small small' : Bool} → mode ≡ mode' → depth ≡ depth' → levels ≡ levels'
+pub same_at : {mode mode' : Mode} {depth depth' levels levels' : ℕ} {right right' small small' : Bool} → mode ≡ mode' → depth ≡ depth' → levels ≡ levels'
     → right ≡ right' → small ≡ small' → Some (survey_at mode depth levels right small) ≡ Some (survey_at mode' depth' levels' right' small')
 same_at m d l r s = λ i. Some (record { mode = m i; depth = d i; levels = l i; right = r i; small = s i })
 
@@ -114,7 +114,7 @@ level_at_least (tree (one leaf) others) formed = omega arith
 level_at_least (tree (and list) others) formed = omega arith
 level_at_least (tree (or list) others) formed = omega arith
 
-begins_start : Begins modes.Start
+pub begins_start : Begins modes.Start
 unfolding next_mode
 begins_start nested byte = refl
 
@@ -126,17 +126,17 @@ and_path : (value : ValueType) (from : Mode) → Begins from → Path value from
 unfolding next_mode
 and_path value from begins =
     joined value from modes.A modes.Word (97 ∷ []) (110 ∷ 100 ∷ []) _ _ _ _
-      (one_byte value from modes.A 97 (λ nested. begins nested 97) (λ _. refl))
-      (joined value modes.A modes.An modes.Word (110 ∷ []) (100 ∷ []) _ _ _ _
-        (one_byte value modes.A modes.An 110 (λ _. refl) (λ _. refl))
-        (one_byte value modes.An modes.Word 100 (λ _. refl) (λ _. refl)))
+    (one_byte value from modes.A 97 (λ nested. begins nested 97) (λ _. refl))
+    (joined value modes.A modes.An modes.Word (110 ∷ []) (100 ∷ []) _ _ _ _
+    (one_byte value modes.A modes.An 110 (λ _. refl) (λ _. refl))
+    (one_byte value modes.An modes.Word 100 (λ _. refl) (λ _. refl)))
 
 or_path : (value : ValueType) (from : Mode) → Begins from → Path value from (111 ∷ 114 ∷ []) modes.Word true true
 unfolding next_mode
 or_path value from begins =
     joined value from modes.O modes.Word (111 ∷ []) (114 ∷ []) _ _ _ _
-      (one_byte value from modes.O 111 (λ nested. begins nested 111) (λ _. refl))
-      (one_byte value modes.O modes.Word 114 (λ _. refl) (λ _. refl))
+    (one_byte value from modes.O 111 (λ nested. begins nested 111) (λ _. refl))
+    (one_byte value modes.O modes.Word 114 (λ _. refl) (λ _. refl))
 
 -- the survey after the opening bracket
 abbrev opened : Survey → Survey
@@ -150,12 +150,12 @@ open_through value survey word path below =
 
 close_through : (value : ValueType) (survey : Survey) (list : QueryTrees) → IsFormedList list
     → through value (after_values value (opened survey) (list_mode list) (list_levels list) (list_values list)) (41 ∷ [])
-      ≡ Some (after_values value survey modes.Closed (list_levels list + 1) (list_values list))
+    ≡ Some (after_values value survey modes.Closed (list_levels list + 1) (list_values list))
 close_through value survey list formed =
     let nested : nat_lt 0 (survey.depth + 1) ≡ true = grind (arith, nat_tests) in
     let some : 1 ≤ list_levels list = level_at_least list formed in
     byte_through value _ 41 modes.Closed
-      (ap (λ b. next_mode b (list_mode list) 41) nested ∙ (ends_list list formed).bracket)
+    (ap (λ b. next_mode b (list_mode list) 41) nested ∙ (ends_list list formed).bracket)
     ∙ same_at refl (omega arith) (omega arith) (and_within survey.right _) (and_within survey.small _)
 
 nothing_through : (value : ValueType) (survey : Survey) → through value survey [] ≡ Some survey
@@ -175,24 +175,24 @@ mutual
       leaf_path value survey.mode begins leaf formed survey refl below ∙ same_at refl refl (omega arith) refl refl
   tree_through value (and list) survey formed begins below =
       on value survey _ _ (41 ∷ []) _
-        (on value survey _ (codes "and(") (list_text list) _ (open_through value survey (97 ∷ 110 ∷ 100 ∷ []) (and_path value survey.mode begins) below)
-          (list_through value list (opened survey) formed begins_opened (omega arith) (omega arith)))
-        (close_through value survey list formed)
+      (on value survey _ (codes "and(") (list_text list) _ (open_through value survey (97 ∷ 110 ∷ 100 ∷ []) (and_path value survey.mode begins) below)
+      (list_through value list (opened survey) formed begins_opened (omega arith) (omega arith)))
+      (close_through value survey list formed)
   tree_through value (or list) survey formed begins below =
       on value survey _ _ (41 ∷ []) _
-        (on value survey _ (codes "or(") (list_text list) _ (open_through value survey (111 ∷ 114 ∷ []) (or_path value survey.mode begins) below)
-          (list_through value list (opened survey) formed begins_opened (omega arith) (omega arith)))
-        (close_through value survey list formed)
+      (on value survey _ (codes "or(") (list_text list) _ (open_through value survey (111 ∷ 114 ∷ []) (or_path value survey.mode begins) below)
+      (list_through value list (opened survey) formed begins_opened (omega arith) (omega arith)))
+      (close_through value survey list formed)
 
   list_through : (value : ValueType) (list : QueryTrees) (survey : Survey) → IsFormedList list → Begins survey.mode → 0 < survey.depth → survey.depth < survey.levels
       → through value survey (list_text list) ≡ Some (after_values value survey (list_mode list) (list_levels list) (list_values list))
   list_through value no_trees survey formed begins nested below = absurd formed
   list_through value (tree first others) survey formed begins nested below =
       on value survey _ (tree_text first) (others_text others) _
-        (tree_through value first survey formed.0 begins below)
-        (others_through value others (after_values value survey (tree_mode first) (levels_of first) (tree_values first)) formed.1 (ends_tree first) nested (omega arith)
-          ∙ same_at refl refl (omega arith) (and_both (is_of_type value) survey.right (tree_values first) (list_values others))
-              (and_both is_in_range survey.small (tree_values first) (list_values others)))
+      (tree_through value first survey formed.0 begins below)
+      (others_through value others (after_values value survey (tree_mode first) (levels_of first) (tree_values first)) formed.1 (ends_tree first) nested (omega arith)
+      ∙ same_at refl refl (omega arith) (and_both (is_of_type value) survey.right (tree_values first) (list_values others))
+      (and_both is_in_range survey.small (tree_values first) (list_values others)))
 
   others_through : (value : ValueType) (list : QueryTrees) (survey : Survey) → AreFormed list → Ends survey.mode → 0 < survey.depth → survey.depth < survey.levels
       → through value survey (others_text list) ≡ Some (after_values value survey (others_mode survey.mode list) (list_levels list) (list_values list))
@@ -200,11 +200,11 @@ mutual
       nothing_through value survey ∙ same_at refl refl (omega arith) (and_none survey.right) (and_none survey.small)
   others_through value (tree first others) survey formed ends nested below =
       on value survey (after_values value (entered value survey modes.Start) (tree_mode first) (levels_of first) (tree_values first)) _ (others_text others) _
-        (on value survey (entered value survey modes.Start) (codes ",") (tree_text first) _
-          (comma_through value survey ends nested)
-          (tree_through value first (entered value survey modes.Start) formed.0 begins_start (omega arith)))
-        (others_through value others (after_values value (entered value survey modes.Start) (tree_mode first) (levels_of first) (tree_values first))
-            formed.1 (ends_tree first) nested (omega arith)
-          ∙ same_at refl refl (omega arith)
-              (and_past_both (is_of_type value) survey.right (tree_values first) (list_values others))
-              (and_past_both is_in_range survey.small (tree_values first) (list_values others)))
+      (on value survey (entered value survey modes.Start) (codes ",") (tree_text first) _
+      (comma_through value survey ends nested)
+      (tree_through value first (entered value survey modes.Start) formed.0 begins_start (omega arith)))
+      (others_through value others (after_values value (entered value survey modes.Start) (tree_mode first) (levels_of first) (tree_values first))
+      formed.1 (ends_tree first) nested (omega arith)
+      ∙ same_at refl refl (omega arith)
+      (and_past_both (is_of_type value) survey.right (tree_values first) (list_values others))
+      (and_past_both is_in_range survey.small (tree_values first) (list_values others)))

@@ -89,8 +89,9 @@ abbrev mutual
   AreFormed (tree first others) = IsFormed first × AreFormed others
 
 -- the text is this query, of any depth and with numbers and texts of any size
-abbrev pub IsQueryText : List ℕ → QueryTree → Type 0
-IsQueryText text query = IsFormed query × (text ≡ tree_text query)
+pub record IsQueryText (text : List ℕ) (query : QueryTree) : Type 0 where
+  pub formed : IsFormed query
+  pub written : text ≡ tree_text query
 
 -- the values in a query
 abbrev pub leaf_values : Leaf → List Value

@@ -44,5 +44,4 @@ pub fn parse_query(alloc: Global, text: &str, value: ValueType) -> Result<Query,
 /// The reading of texts is that of the grammar.
 pub fn grammar_law()
     ensures reads { ReadsByGrammar }
-{
-}
+{}
