@@ -6,5 +6,7 @@ mod change;
 mod matching;
 mod set;
 mod table;
+#[cfg(test)]
+mod tests;
 
 pub use table::{Applied, PlainTable};

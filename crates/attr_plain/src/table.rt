@@ -1,7 +1,9 @@
-ghost use Rattle.std.specs.Prelude.{◌≡◌, IfOk, OnErr, if◌then◌else◌, []};
-ghost use Rattle.attr_types.specs.Lawful.{Fits, IsLawfulTable, HasType};
+ghost use Rattle.std.specs.Prelude.{◌≡◌, IfOk, OnOk, OnErr, []};
+ghost use Rattle.std.specs.List.Sorted.{IsStrictlyIncreasing};
+ghost use Rattle.attr_types.specs.Lawful.{Fits};
 ghost use Rattle.attr_types.specs.Query.{tree_of};
-ghost use Rattle.attr_types.specs.Table.{after_op, is_skipped, hits as hits_of};
+ghost use Rattle.attr_types.specs.Table.{hits as hits_of};
+ghost use Rattle.attr_plain.specs.Answers.{plain_after, answer_to};
 
 use crate::change::changed_items;
 use crate::matching::matches_document;
@@ -48,11 +50,23 @@ impl PlainTable {
         }
     }
 
+    pub fn kind(&self) -> Kind
+        ensures { result ≡ self.now.kind }
+    {
+        self.kind
+    }
+
+    pub fn value_type(&self) -> ValueType
+        ensures { result ≡ self.now.value_type }
+    {
+        self.value_type
+    }
+
     /// Applies an operation. Where memory runs out the table is as it was.
     pub fn apply(&mut self, alloc: Global, op: Op) -> Result<Applied, AllocError>
         requires { Fits self.old.kind self.old.value_type op }
-        ensures table { IfOk result (λ _. self.new ≡ record self.old { table = after_op self.old.kind self.old.table op }) }
-        ensures skipped { IfOk result (λ applied. applied ≡ (if is_skipped self.old.kind self.old.table op then Applied.Skipped else Applied.Changed)) }
+        ensures table { OnOk result (self.new ≡ plain_after self.old op) }
+        ensures skipped { IfOk result (λ applied. applied ≡ answer_to self.old op) }
         ensures err { OnErr result (self.new ≡ self.old) }
     {
         match op {
@@ -70,8 +84,8 @@ impl PlainTable {
 
     fn update(&mut self, alloc: Global, doc: Doc, change: Change) -> Result<Applied, AllocError>
         requires { Fits self.old.kind self.old.value_type (Op.Update doc change) }
-        ensures table { IfOk result (λ _. self.new ≡ record self.old { table = after_op self.old.kind self.old.table (Op.Update doc change) }) }
-        ensures skipped { IfOk result (λ applied. applied ≡ (if is_skipped self.old.kind self.old.table (Op.Update doc change) then Applied.Skipped else Applied.Changed)) }
+        ensures table { OnOk result (self.new ≡ plain_after self.old (Op.Update doc change)) }
+        ensures skipped { IfOk result (λ applied. applied ≡ answer_to self.old (Op.Update doc change)) }
         ensures err { OnErr result (self.new ≡ self.old) }
     {
         let Some(items) = self.documents.get(&doc) else {
@@ -88,14 +102,25 @@ impl PlainTable {
 
     /// The documents that a query matches, ascending.
     pub fn hits(&self, alloc: Global, query: &Query) -> Result<DocList, AllocError>
-        ensures { IfOk result (λ docs. docs ≡ hits_of (tree_of query.now) self.now.table) }
+        ensures hits { IfOk result (λ docs. docs ≡ hits_of (tree_of query.now) self.now.table) }
+        ensures ascend { IfOk result IsStrictlyIncreasing }
     {
-        let mut hits = DocList::new(alloc);
-        for (doc, items) in &self.documents {
-            if matches_document(query, items) {
-                hits.push(*doc)?;
-            }
-        }
-        Ok(hits)
+        scan(alloc, &self.documents, query)
     }
+}
+
+fn scan(
+    alloc: Global,
+    documents: &BTreeMap<Doc, Items>,
+    query: &Query,
+) -> Result<DocList, AllocError>
+    ensures { IfOk result (λ docs. docs ≡ hits_of (tree_of query.now) documents.now.entries) }
+{
+    let mut hits = DocList::new(alloc);
+    for (doc, items) in documents {
+        if matches_document(query, items) {
+            hits.push(*doc)?;
+        }
+    }
+    Ok(hits)
 }

@@ -49,7 +49,8 @@ all-lookup Q test [] all found is = cc
 all-lookup Q test (e ∷ es) all found is =
     found_first Q (test e.0) e.1 found (lookup test es) is all.0 (all-lookup Q test es all.1 found)
 
-below_all : {K : Type 0} {R : K → K → Ordering} → IsTotalOrder R → (a b : K) → R a b ≡ Less → (ks : List K)
+-- what is above b is above a, where b is
+pub below_all : {K : Type 0} {R : K → K → Ordering} → IsTotalOrder R → (a b : K) → R a b ≡ Less → (ks : List K)
     → AllByRecursion (λ y. R b y ≡ Less) ks → AllByRecursion (λ y. R a y ≡ Less) ks
 below_all o a b below [] all = tt
 below_all o a b below (k ∷ ks) all = (o.trans a b k below all.0, below_all o a b below ks all.1)

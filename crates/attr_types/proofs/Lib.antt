@@ -2,3 +2,4 @@ pub mod EntryLemmas
 pub mod SetLemmas
 pub mod TableLemmas
 pub mod HitLemmas
+pub mod FitLemmas

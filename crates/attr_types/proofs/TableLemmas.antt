@@ -9,8 +9,7 @@ use Rattle.std.specs.Option.{IfSome, is_none, option_and_then, unwrap_or}
 use Rattle.attr_types.proofs.EntryLemmas.{all-lookup, all_keys-insert, all_values-insert, sorted-insert, all_keys-remove, all-remove, sorted-remove, lookup-insert_here, lookup-insert_other, lookup-remove, nat_cmp_apart}
 use Rattle.attr_types.proofs.SetLemmas.{changed_fits}
 use Rattle.attr_types.specs.Lawful.{IsDocument, IsLawfulItems, IsLawfulTable, HasType, ItemsFit, ChangeFits, Fits}
-use Rattle.attr_types.specs.Laws.{document_of}
-use Rattle.attr_types.specs.Table.{Table, items_at, with_document, without_document, changed, step, is_skipped, after_op, after_ops, after}
+use Rattle.attr_types.specs.Table.{Table, document_of, items_at, with_document, without_document, changed, step, is_skipped, after_op, after_ops, after}
 use Rattle.attr_types.specs.Value.{values_of, AreOfType}
 use Rattle.attr_types.specs.declared.items.Item.{Item}
 use Rattle.attr_types.specs.declared.kind.Kind.{Kind}

@@ -4,12 +4,12 @@ use Rattle.std.specs.List.{AllByRecursion}
 use Rattle.std.specs.List.Sorted.{IsStrictlyIncreasing}
 use Rattle.attr_types.specs.Lawful.{IsLawfulTable, HasType, Fits}
 use Rattle.attr_types.specs.Query.{QueryTree, Matches}
-use Rattle.attr_types.specs.Table.{Table, items_at, is_skipped, after_op, after_ops, after, hits}
+use Rattle.attr_types.specs.Table.{Table, document_of, items_at, is_skipped, after_op, after_ops, after, hits}
 use Rattle.attr_types.specs.declared.items.Item.{Item}
 use Rattle.attr_types.specs.declared.kind.Kind.{Kind}
 use Rattle.attr_types.specs.declared.kind.ValueType.{ValueType}
 use Rattle.attr_types.specs.declared.op.Op.{Op}
-use Rattle.attr_types.specs.declared.op.Op.TheVariants.{Put, Update, Remove}
+use Rattle.attr_types.specs.declared.op.Op.TheVariants.{Put, Remove}
 
 -- hits ascend strictly, so each document is there once
 abbrev pub HitsAscend : Type 0
@@ -36,11 +36,6 @@ StepKeeps = (kind : Kind) (type : ValueType) (table : Table) (op : Op) → Fits 
 abbrev pub RunKeeps : Type 0
 RunKeeps = (kind : Kind) (type : ValueType) (ops : List Op) (n : ℕ) → AllByRecursion (Fits kind type) ops
     → IsLawfulTable kind (after kind ops n) × HasType type (after kind ops n)
-
-abbrev pub document_of : Op → ℕ
-document_of (Put doc items) = doc
-document_of (Update doc change) = doc
-document_of (Remove doc) = doc
 
 -- an operation changes no document but its own
 abbrev pub OthersStay : Type 0

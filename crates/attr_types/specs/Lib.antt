@@ -3,4 +3,5 @@ pub mod ValueOrder
 pub mod Query
 pub mod Table
 pub mod Lawful
+pub mod Fitting
 pub mod Laws

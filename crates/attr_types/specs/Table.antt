@@ -62,6 +62,12 @@ changed WeightedSet (Add more) items = if_within_limit (with_items items more)
 changed WeightedSet (Take names) items = Some (without_values items names)
 changed kind change items = None
 
+-- the document that an operation is about
+abbrev pub document_of : Op → ℕ
+document_of (Put doc items) = doc
+document_of (Update doc change) = doc
+document_of (Remove doc) = doc
+
 -- the table after an operation, or none where it is skipped: a remove or an update of an absent document is
 abbrev pub step : Kind → Table → Op → Option Table
 step kind table (Put doc items) = Some (with_document table doc items)

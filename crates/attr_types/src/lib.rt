@@ -3,6 +3,7 @@
 
 mod doc;
 mod error;
+mod fitting;
 mod items;
 mod kind;
 mod laws;
@@ -10,11 +11,14 @@ mod lists;
 mod op;
 mod order;
 mod query;
+#[cfg(test)]
+mod tests;
 mod text;
 mod value;
 
 pub use doc::Doc;
 pub use error::QueryError;
+pub use fitting::fits;
 pub use items::{Item, Items};
 pub use kind::{Kind, ValueType};
 pub use laws::{document_law, hits_law, skip_law, step_law};

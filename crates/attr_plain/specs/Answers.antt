@@ -1,0 +1,13 @@
+-- What an operation makes of a plain table, and what is answered.
+use Rattle.std.specs.Prelude.{if◌then◌else◌}
+use Rattle.attr_types.specs.Table.{after_op, is_skipped}
+use Rattle.attr_types.specs.declared.op.Op.{Op}
+use Rattle.attr_plain.specs.Plain.{Plain}
+use Rattle.attr_plain.specs.declared.table.Applied.{Applied}
+use Rattle.attr_plain.specs.declared.table.Applied.TheVariants.{Changed, Skipped}
+
+abbrev pub plain_after : Plain → Op → Plain
+plain_after plain op = record plain { table = after_op plain.kind plain.table op }
+
+abbrev pub answer_to : Plain → Op → Applied
+answer_to plain op = if is_skipped plain.kind plain.table op then Skipped else Changed
