@@ -13,6 +13,7 @@ use Rattle.attr_words.specs.Found.{error_of}
 use Rattle.attr_words.specs.Reading.{AreTaken, Reads}
 use Rattle.attr_words.proofs.OneKind.{AtMostOne, one_kind}
 
+-- clap says which faults `attr` has, and which matches
 pub is_free : is_simple_and_free attr_app ≡ true
 unfolding attr_app clap_on_literals
 is_free = refl
@@ -40,6 +41,7 @@ only k (x ∷ []) one (inl e) = ap (λ (y : ErrorKind). y ∷ []) (sym e)
 only k (x ∷ []) one (inr among) = absurd among
 only k (x ∷ y ∷ ys) one among = absurd (omega (arith, one.few))
 
+-- the one fault becomes the error that says so
 refused : (k : ErrorKind) (line : List Text) → fault_of attr_app line ≡ k ∷ []
     → Reads line (Err (error_of k))
 refused kinds.DisplayHelp line e = e
@@ -53,15 +55,17 @@ out_of_memory k line e = rw e tt
 -- ---- what a parse of a command with this shape says
 
 module _ (a : App) (is : a ≡ attr_app) (line : List Text) where
+  -- an Ok: the words are taken, and the rows are the matches
   pub taken : (is_simple_and_free a ≡ true → fault_of a line ≡ []) → AreTaken line
-  taken fails = ap (λ (x : App). fault_of x line) (sym is) ∙ fails
-      (ap is_simple_and_free is ∙ is_free)
+  taken fails =
+      ap (λ (x : App). fault_of x line) (sym is) ∙ fails (ap is_simple_and_free is ∙ is_free)
 
   pub rows_are : {X : Type 0} (rows : List Row)
       → (is_simple a ≡ true → (rows ≡ matches_of a line) × X) → rows ≡ matches_of attr_app line
-  rows_are rows matches = (matches (ap is_simple is ∙ simple)).0 ∙ ap
-      (λ (x : App). matches_of x line) is
+  rows_are rows matches =
+      (matches (ap is_simple is ∙ simple)).0 ∙ ap (λ (x : App). matches_of x line) is
 
+  -- an Err: its kind is want of memory, or the one fault
   pub error_is : (k : ErrorKind)
       → (is_simple_and_free a ≡ true → (k ≡ kinds.OutOfMemory) ⊎ IsAmong k (fault_of a line))
       → Reads line (Err (error_of k))

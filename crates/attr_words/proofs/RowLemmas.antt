@@ -238,15 +238,15 @@ module _ (id : Text) (parser : ValueParser) where
 
   -- where the id has a row, its first value is accepted, and read as the parser says
   pub text_found : (rows : List Row) → AllHold rows → has_row id rows ≡ true
-      → (text : Text) × (first_of id rows ≡ Some text) ×
-      (one_of id rows ≡ Some (read_as (reading_of parser) text)) ×
-      (accepts false parser text ≡ true)
+      → (text : Text) × (first_of id rows ≡ Some text)
+      × (one_of id rows ≡ Some (read_as (reading_of parser) text))
+      × (accepts false parser text ≡ true)
   text_found rows all has =
       let row = row_found rows all has in
       let first = first_good row.0.values row.2.passes row.2.some in (
         first.0,
         ap (option_and_then (λ (r : Row). slice_get r.values 0)) row.1 ∙ first.1,
-        ap (option_and_then row_text) row.1 ∙ ap (option_map (read_as row.0.reading)) first.1 ∙ ap
-            (λ (how : Reading). Some (read_as how first.0)) row.2.reading,
+        ap (option_and_then row_text) row.1 ∙ ap (option_map (read_as row.0.reading)) first.1
+            ∙ ap (λ (how : Reading). Some (read_as how first.0)) row.2.reading,
         first.2,
       )

@@ -29,6 +29,7 @@ use Rattle.attr_words.proofs.OneKind.{no_subcommand}
 
 module _ (id : Text) (parser : ValueParser) (rules : List Rule) (again : Bool)
     (fit : AllFit id parser rules) where
+  -- the rows that are held are good
   abbrev Good : Held → Type 0
   Good h = AllHold id parser h.rows
 
@@ -42,12 +43,11 @@ module _ (id : Text) (parser : ValueParser) (rules : List Rule) (again : Bool)
       used_holds id parser again a values rows fits none all
 
   settled_from : (pending : Option (Text × List Text)) (rows : List Row)
-      → option_map_or
-      (λ p. option_map_or (λ a. use_fault again a p.1 rows)
-      (arg_by_id rules p.0) []) pending [] ≡ []
+      → settle_fault rules again (record { rows = rows; pending = pending; skip = 0 }) ≡ []
       → AllHold id parser rows → AllHold id parser (settled_rows rules pending rows)
   settled_from None rows none all = all
-  settled_from (Some p) rows none all = used_if (arg_by_id rules p.0) p.1 rows
+  settled_from (Some p) rows none all =
+      used_if (arg_by_id rules p.0) p.1 rows
       (found_fits id parser (λ a. bytes_eq a.id p.0) rules fit) none all
 
   good_settled : (h : Held) → settle_fault rules again h ≡ [] → Good h → Good (settled rules h)
@@ -83,8 +83,8 @@ module _ (id : Text) (parser : ValueParser) (rules : List Rule) (again : Bool)
 
   -- ---- a bundle of short flags
 
-  good_short : (found : Option Rule) (rest : Text) (h : Held) (met : Held
-      → Held × Outcome) (fault : Held → Kinds) → FitsIf id parser found
+  good_short : (found : Option Rule) (rest : Text) (h : Held)
+      (met : Held → Held × Outcome) (fault : Held → Kinds) → FitsIf id parser found
       → ((g : Held) → fault g ≡ [] → Good g → Good (met g).0)
       → short_fault rules again found rest h fault ≡ [] → Good h
       → Good (short_met rules found rest h met).0
@@ -104,16 +104,17 @@ module _ (id : Text) (parser : ValueParser) (rules : List Rule) (again : Bool)
 
   good_bundle_step : (x : Option ℕ) (flags : Text) (skip : ℕ) (so_far : Outcome) (h : Held)
       (met : Text → ℕ → Outcome → Held → Held × Outcome) (fault : Text → ℕ → Held → Kinds)
-      → ((t : Text) (k : ℕ) (o : Outcome) (g : Held) → fault t k g ≡ [] → Good g
-      → Good (met t k o g).0) → bundle_step_fault rules again x flags skip h fault ≡ [] → Good h
+      → ((t : Text) (k : ℕ) (o : Outcome) (g : Held)
+      → fault t k g ≡ [] → Good g → Good (met t k o g).0)
+      → bundle_step_fault rules again x flags skip h fault ≡ [] → Good h
       → Good (bundle_step rules x flags skip so_far h met).0
   good_bundle_step None flags skip so_far h met fault good none all = all
   good_bundle_step (Some x) flags zero so_far h met fault good none all =
       let rest = drop (length (encode_utf8 x)) flags in
       good_short (arg_by_short rules x) rest h (met rest 0 done) (fault rest 0)
       (found_fits id parser _ rules fit) (λ g. good rest 0 done g) none all
-  good_bundle_step (Some x) flags (suc skip) so_far h met fault good none all = good
-      (drop (length (encode_utf8 x)) flags) skip so_far h none all
+  good_bundle_step (Some x) flags (suc skip) so_far h met fault good none all =
+      good (drop (length (encode_utf8 x)) flags) skip so_far h none all
 
   good_bundle : (k : ℕ) (flags : Text) (skip : ℕ) (so_far : Outcome) (h : Held)
       → flags_fault rules again k flags skip h ≡ [] → Good h

@@ -14,9 +14,9 @@ use std::alloc::{AllocError, Global};
 /// Why a list of words gives no settings.
 #[derive(Clone, Copy, Debug, PartialEq, Eq)]
 pub enum WordsError {
-    /// The words ask for help.
+    /// The words ask for help, by `--help` or `-h`, before anything in them is refused.
     Help,
-    /// The command does not take the words.
+    /// The command does not take the words: a fault comes before any help flag.
     Refused,
     /// Memory was refused.
     Memory,
@@ -40,7 +40,9 @@ fn refusal_of(kind: ErrorKind) -> WordsError
     }
 }
 
-/// Reads the words after the program's name, as `clap` reads them by the command `attr`.
+/// Reads the words after the program's name, as `clap` reads them by the command `attr`
+/// (<https://docs.rs/clap>): options in any order, `--name=value` too, `--` before queries that
+/// begin with a dash, and the first fault decides.
 #[tactic(auto, using(crate::proofs::CommandLemmas::one_kind_at_most))]
 pub fn read_words(alloc: Global, words: &[String]) -> Result<Settings, WordsError>
     ensures answer { Reads (map (λ w. string_bytes w) words.now) result }

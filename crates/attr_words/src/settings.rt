@@ -9,19 +9,29 @@ ghost use Rattle.attr_words.specs.Reading.{text_at, texts_at};
 use clap::ArgMatches;
 use std::alloc::{AllocError, Global};
 
-/// What the words say of a run: one field for each option. The names of kind and value type, and
-/// the queries, are as they were given.
+/// What the words say of a run. The names of kind and value type, and the queries, are texts as they
+/// were given: which of them there are is not looked at here.
 #[derive(Debug, Drop)]
 pub struct Settings {
+    /// The name of the attribute's kind.
     pub kind: String,
+    /// The name of its value type.
     pub value: String,
+    /// The field of a document that the attribute holds.
     pub field: String,
+    /// How many operations of the feed are committed together.
     pub batch: u32,
+    /// How many readers run.
     pub readers: u32,
+    /// How often each of them answers the queries.
     pub rounds: u32,
+    /// How many buffers the store has.
     pub buffers: u32,
+    /// How many words each buffer has.
     pub words: u32,
+    /// The readers run after the whole feed is loaded, and not beside the loading.
     pub after: bool,
+    /// The words that belong to no option, in their order.
     pub queries: Vec<String>,
 }
 
