@@ -1,20 +1,24 @@
 -- What is read is what the grammar answers.
-use Rattle.std.proofs.Common.{◌≡◌, ◌<◌, ◌≤◌, ◌+◌, ℕ, zero, suc, List, [], ◌∷◌, ◌++◌, length, take, drop, Bool, true, false, ◌&&◌, ◌==◌, cond, eqb, nat_lt, max, Option, Some, None, Result, Ok, Err, refl, sym, ap, ap₂, subst, ◌∙◌, inl, inr, ◌⊎◌, add-one, append-nil, arith}
+use Rattle.std.proofs.Common.{◌≡◌, ◌<◌, ◌≤◌, ◌+◌, ℕ, zero, suc, List, [], ◌∷◌, ◌++◌, length, take, drop, Bool, true, false, ◌&&◌, ◌==◌, cond, eqb, nat_lt, max, Option, Some, None, Result, Ok, Err, refl, sym, ap, ap₂, subst, ◌∙◌, inl, inr, ◌⊎◌, add-one, append_assoc, append-nil, arith}
 use Rattle.std.specs.Option.{option_and_then}
 use Rattle.std.specs.List.{list_all}
 use Rattle.std.specs.Str.{IsUtf8}
+use Rattle.std.proofs.lemmas.Bool.{cases_lt}
 use Rattle.std.proofs.lemmas.Bool.Decides.{nat_tests}
 use Rattle.std.proofs.Math.Seq.{take-length}
+use Rattle.std.proofs.lemmas.List.{take-append-drop}
 use Rattle.attr_types.specs.declared.kind.ValueType.{ValueType}
+use Rattle.attr_types.specs.declared.query.Query.{Query}
+use Rattle.attr_types.specs.declared.error.QueryError.{QueryError}
 use Rattle.attr_types.specs.declared.error.QueryError.TheVariants.{Syntax, WrongType, OutOfRange, TooDeep, Memory}
 use Rattle.attr_types.specs.Query.{QueryTree}
 use Rattle.query_text.specs.declared.mode.Mode.TheVariants as modes
 use Rattle.query_text.specs.declared.survey.Survey.{Survey}
-use Rattle.query_text.specs.Grammar.{tree_text, IsFormed, tree_values, is_of_type, is_in_range, levels_of, IsQueryText, Continues, StopsAt, Answers}
+use Rattle.query_text.specs.Grammar.{tree_text, IsFormed, tree_values, is_of_type, is_in_range, levels_of, IsQueryText, Continues, StopsAt, Answers, AnswersAs}
 use Rattle.query_text.specs.Survey.{start, surveyed, surveyed_from, surveyed_after, is_whole, ends_query, on_next}
-use Rattle.query_text.specs.Parsing.{query_of, judged, judged_if, found_in}
+use Rattle.query_text.specs.Parsing.{Says, query_of, judged, judged_if, found_in}
 use Rattle.query_text.specs.Reading.{query_at}
-use Rattle.query_text.specs.Laws.{ReadsByGrammar}
+use Rattle.query_text.specs.Laws.{ReadsByGrammar, AnswersOnce}
 use Rattle.query_text.proofs.ReadBack.{query_read}
 use Rattle.query_text.proofs.Utf8Lemmas.{tree_readable}
 use Rattle.query_text.proofs.Paths.{through, through-append}
@@ -155,6 +159,13 @@ module _ (value : ValueType) (text : List ℕ) (query : QueryTree) (utf8 : IsUtf
   judged_answers : Answers value text (judged text (survey_of value query))
   judged_answers = checked _ _ _ refl refl refl
 
+whole_query : (value : ValueType) (text : List ℕ) (survey : Survey) → surveyed value text ≡ Ok survey → (query : QueryTree) × IsQueryText text query
+whole_query value text survey e =
+    let read : (through value start text ≡ Some survey) × (is_whole survey ≡ true) = accepted value start survey 0 text e in
+    let ends : (survey.depth ≡ 0) × (ends_query survey.mode ≡ true) = whole_parts survey read.1 in
+    front_ends text survey.mode (subst (λ depth. Front text depth survey.mode) ends.0
+    (front_through value start survey [] text front_start read.0)) ends.1
+
 pub reads_by_grammar : ReadsByGrammar
 unfolding query_of
 reads_by_grammar value text utf8 =
@@ -169,4 +180,105 @@ reads_by_grammar value text utf8 =
           let same : ◌≡◌ {A = Option Survey} (Some survey) (Some (survey_of value found.0)) = sym read.0 ∙ query_surveyed value text found.0 found.1 in
           let here : survey_of value found.0 ≡ survey = cc in
           subst (λ s. Answers value text (judged text s)) here (judged_answers value text found.0 utf8 found.1)
+    ]) refl
+
+-- a parser's answer is the grammar's
+pub says_answers : (value : ValueType) (text : List ℕ) (result : Result Query QueryError) → IsUtf8 text → Says result (query_of value text)
+    → AnswersAs value text result
+says_answers value text (Ok query) utf8 said = subst (Answers value text) said (reads_by_grammar value text utf8)
+says_answers value text (Err (Syntax place)) utf8 said = subst (Answers value text) said (reads_by_grammar value text utf8)
+says_answers value text (Err WrongType) utf8 said = subst (Answers value text) said (reads_by_grammar value text utf8)
+says_answers value text (Err OutOfRange) utf8 said = subst (Answers value text) said (reads_by_grammar value text utf8)
+says_answers value text (Err TooDeep) utf8 said = subst (Answers value text) said (reads_by_grammar value text utf8)
+says_answers value text (Err Memory) utf8 said = tt
+
+-- a whole survey is found byte by byte
+surveyed_whole : (value : ValueType) (survey next : Survey) (place : ℕ) (text : List ℕ) → through value survey text ≡ Some next → is_whole next ≡ true
+    → surveyed_from value survey place text ≡ Ok next
+unfolding surveyed_from through
+surveyed_whole value survey next place [] e whole =
+    let same : survey ≡ next = cc in
+    ap (λ s. cond (is_whole s) (Ok s) (Err place)) same ∙ ap (λ b. cond b (Ok next) (Err place)) whole
+surveyed_whole value survey next place (byte ∷ rest) e whole =
+    (elim (surveyed_after value survey byte) as (λ o. option_and_then (λ next. through value next rest) o ≡ Some next
+    → on_next o (λ next. surveyed_from value next (place + 1) rest) place ≡ Ok next) [
+      | None ↦ λ f. absurd cc
+      | Some more ↦ λ f. surveyed_whole value more next (place + 1) rest f whole
+    ]) e
+
+query_judged : (value : ValueType) (text : List ℕ) (query : QueryTree) → IsQueryText text query → query_of value text ≡ judged text (survey_of value query)
+unfolding query_of
+query_judged value text query is =
+    ap (judged_if text) (surveyed_whole value start (survey_of value query) 0 text (query_surveyed value text query is) (whole_survey value query))
+
+take_take : (m n : ℕ) (xs : List ℕ) → m ≤ n → take m (take n xs) ≡ take m xs
+take_take zero n xs h = refl
+take_take (suc m) zero xs h = absurd (omega arith)
+take_take (suc m) (suc n) [] h = refl
+take_take (suc m) (suc n) (x ∷ xs) h = ap (λ t. x ∷ t) (take_take m n xs (omega arith))
+
+-- a shorter front goes on to the same query
+continues_shorter : (text : List ℕ) (m n : ℕ) → m ≤ n → Continues (take n text) → Continues (take m text)
+continues_shorter text m n short (query, rest, is) =
+    let front = take_take m n text short in (
+      query,
+      drop m (take n text) ++ rest,
+      record {
+        formed = is.formed;
+        written = ap (λ t. t ++ (drop m (take n text) ++ rest)) (sym front)
+            ∙ sym (append_assoc (take m (take n text)) (drop m (take n text)) rest)
+            ∙ ap (λ t. t ++ rest) (take-append-drop m (take n text)) ∙ is.written;
+      },
+    )
+
+query_continues : (text : List ℕ) (query : QueryTree) (n : ℕ) → IsQueryText text query → Continues (take n text)
+query_continues text query n is =
+    (query, drop n text, record { formed = is.formed; written = take-append-drop n text ∙ is.written })
+
+no_query : (text : List ℕ) (place : ℕ) (query : QueryTree) → StopsAt text place → IsQueryText text query → ⊥
+no_query text place query stop is =
+    elim (cases_lt place (length text)) [
+      | inl inside ↦ stop.stops inside (query_continues text query (place + 1) is)
+      | inr past ↦ stop.unfinished (omega (arith, stop.within)) query is
+    ]
+
+one_place : (text : List ℕ) (m n : ℕ) → StopsAt text m → StopsAt text n → m < n → ⊥
+one_place text m n stop stop' before =
+    stop.stops (omega (arith, stop'.within)) (continues_shorter text (m + 1) n (omega arith) stop'.continues)
+
+pub answers_once : AnswersOnce
+unfolding query_of
+answers_once value text (Ok query) utf8 (is, right, small, deep) =
+    let levels : nat_lt 32 (max 1 (0 + levels_of query)) ≡ false = grind (arith, nat_tests) in
+    query_judged value text query is
+    ∙ ap (λ b. cond b (cond (list_all is_in_range (tree_values query)) (cond (nat_lt 32 (max 1 (0 + levels_of query))) (Err TooDeep) (found_in text (query_at 32 text))) (Err OutOfRange)) (Err WrongType)) right
+    ∙ ap₂ (λ b c. cond b (cond c (Err TooDeep) (found_in text (query_at 32 text))) (Err OutOfRange)) small levels
+    ∙ ap (found_in text) (query_found text query utf8 is small deep)
+answers_once value text (Err WrongType) utf8 (query, is, right) =
+    query_judged value text query is
+    ∙ ap (λ b. cond b (cond (list_all is_in_range (tree_values query)) (cond (nat_lt 32 (max 1 (0 + levels_of query))) (Err TooDeep) (found_in text (query_at 32 text))) (Err OutOfRange)) (Err WrongType)) right
+answers_once value text (Err OutOfRange) utf8 (query, is, right, small) =
+    query_judged value text query is
+    ∙ ap₂ (λ b c. cond b (cond c (cond (nat_lt 32 (max 1 (0 + levels_of query))) (Err TooDeep) (found_in text (query_at 32 text))) (Err OutOfRange)) (Err WrongType)) right small
+answers_once value text (Err TooDeep) utf8 (query, is, right, small, deep) =
+    let levels : nat_lt 32 (max 1 (0 + levels_of query)) ≡ true = grind (arith, nat_tests) in
+    query_judged value text query is
+    ∙ ap (λ b. cond b (cond (list_all is_in_range (tree_values query)) (cond (nat_lt 32 (max 1 (0 + levels_of query))) (Err TooDeep) (found_in text (query_at 32 text))) (Err OutOfRange)) (Err WrongType)) right
+    ∙ ap₂ (λ b c. cond b (cond c (Err TooDeep) (found_in text (query_at 32 text))) (Err OutOfRange)) small levels
+answers_once value text (Err Memory) utf8 answer = absurd answer
+answers_once value text (Err (Syntax place)) utf8 stop =
+    (elim (surveyed value text) as (λ r. surveyed value text ≡ r → judged_if text r ≡ Err (Syntax place)) [
+      | Err found ↦ λ e.
+          let here : StopsAt text found = stops_at value text found e in
+          let same : found ≡ place = elim (cases_lt found place) [
+            | inl before ↦ absurd (one_place text found place here stop before)
+            | inr after ↦ elim (cases_lt place found) [
+              | inl before ↦ absurd (one_place text place found stop here before)
+              | inr equal ↦ omega arith
+            ]
+          ] in
+          ap (λ p. Err (Syntax p)) same
+      | Ok survey ↦ λ e.
+          let found : (query : QueryTree) × IsQueryText text query = whole_query value text survey e in
+          absurd (no_query text place found.0 stop found.1)
     ]) refl

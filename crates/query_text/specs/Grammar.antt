@@ -6,7 +6,8 @@ use Rattle.attr_types.specs.declared.kind.ValueType.{ValueType}
 use Rattle.attr_types.specs.declared.kind.ValueType.TheVariants as types
 use Rattle.attr_types.specs.declared.error.QueryError.{QueryError}
 use Rattle.attr_types.specs.declared.error.QueryError.TheVariants.{Syntax, WrongType, OutOfRange, TooDeep, Memory}
-use Rattle.attr_types.specs.Query.{QueryTree, QueryTrees, one, and, or, no_trees, tree}
+use Rattle.attr_types.specs.declared.query.Query.{Query}
+use Rattle.attr_types.specs.Query.{QueryTree, QueryTrees, one, and, or, no_trees, tree, tree_of}
 use Rattle.attr_types.specs.Value.{type_of}
 use Rattle.attr_types.specs.declared.value.Value.{Value}
 use Rattle.attr_types.specs.declared.value.Value.TheVariants.{Long, Text}
@@ -158,3 +159,12 @@ Answers value text (Err TooDeep) = (query : QueryTree) × IsQueryText text query
     × (list_all (is_of_type value) (tree_values query) ≡ true) × (list_all is_in_range (tree_values query) ≡ true)
     × (32 < levels_of query)
 Answers value text (Err Memory) = ⊥
+
+-- what a parser returned is what the grammar answers, unless memory ran out
+abbrev pub AnswersAs : ValueType → List ℕ → Result Query QueryError → Type 0
+AnswersAs value text (Ok query) = Answers value text (Ok (tree_of query))
+AnswersAs value text (Err (Syntax place)) = Answers value text (Err (Syntax place))
+AnswersAs value text (Err WrongType) = Answers value text (Err WrongType)
+AnswersAs value text (Err OutOfRange) = Answers value text (Err OutOfRange)
+AnswersAs value text (Err TooDeep) = Answers value text (Err TooDeep)
+AnswersAs value text (Err Memory) = Unit {0}

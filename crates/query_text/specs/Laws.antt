@@ -11,7 +11,7 @@ use Rattle.query_text.specs.Parsing.{query_of}
 abbrev pub ReadsByGrammar : Type 0
 ReadsByGrammar = (value : ValueType) (text : List ℕ) → IsUtf8 text → Answers value text (query_of value text)
 
--- the grammar answers nothing else
+-- the grammar answers nothing else: no text is two queries, and the text of a query is read as that query
 abbrev pub AnswersOnce : Type 0
 AnswersOnce = (value : ValueType) (text : List ℕ) (answer : Result QueryTree QueryError) → IsUtf8 text
     → Answers value text answer → query_of value text ≡ answer

@@ -1,6 +1,7 @@
 ghost use Rattle.std.specs.Prelude.{◌≡◌};
 ghost use Rattle.query_text.specs.Parsing.{Says, query_of};
-ghost use Rattle.query_text.specs.Laws.{ReadsByGrammar};
+ghost use Rattle.query_text.specs.Grammar.{AnswersAs};
+ghost use Rattle.query_text.specs.Laws.{ReadsByGrammar, AnswersOnce};
 
 use crate::list::query_in;
 use crate::read::ReadError;
@@ -15,9 +16,16 @@ const MAX_LEVELS: u32 = 32;
 ///
 /// A text that is no query, or not such a one, is refused by the first of `Syntax`, `WrongType`,
 /// `OutOfRange` and `TooDeep` that holds of the whole text.
-#[tactic(auto, unfolding(crate::specs::Parsing::query_of))]
 pub fn parse_query(alloc: Global, text: &str, value: ValueType) -> Result<Query, QueryError>
     ensures says { Says result (query_of value text.now) }
+    ensures grammar { AnswersAs value text.now result }
+{
+    read_query(alloc, text, value)
+}
+
+#[tactic(auto, unfolding(crate::specs::Parsing::query_of))]
+fn read_query(alloc: Global, text: &str, value: ValueType) -> Result<Query, QueryError>
+    ensures { Says result (query_of value text.now) }
 {
     let survey = match survey_of(text, value) {
         Ok(survey) => survey,
@@ -41,7 +49,8 @@ pub fn parse_query(alloc: Global, text: &str, value: ValueType) -> Result<Query,
     }
 }
 
-/// The reading of texts is that of the grammar.
+/// The grammar answers one thing of each text, and that is what is read.
 pub fn grammar_law()
     ensures reads { ReadsByGrammar }
+    ensures once { AnswersOnce }
 {}
