@@ -29,7 +29,8 @@ with_op line (Ok op) (Ok ops) = Ok (op ∷ ops)
 -- the lines from a number on; a blank line is counted and says nothing
 unfoldable pub ops_of_lines : List ℕ → Kind → ValueType → ℕ → List (List ℕ) → Result (List Op) Fault
 ops_of_lines field kind value_type number [] = Ok []
-ops_of_lines field kind value_type number (line ∷ lines) = let more = ops_of_lines field kind value_type (number + 1) lines in
+ops_of_lines field kind value_type number (line ∷ lines) =
+    let more = ops_of_lines field kind value_type (number + 1) lines in
     if is_blank line then more else with_op number (op_of_line field kind value_type line) more
 
 -- what a feed says of the named field of an attribute of that kind and value type

@@ -1,5 +1,6 @@
 -- What a line of a feed asks for, or the first check that refuses it.
-use Rattle.std.specs.Prelude.{ℕ, Bool, ◌||◌, List, [], nat_lt, if◌then◌else◌, codes, Option, Some, None, is_some, option_and_then, option_map, Result, Ok, Err}
+use Rattle.std.specs.Prelude.{ℕ, Bool, ◌||◌, List, [], nat_lt, if◌then◌else◌, codes}
+use Rattle.std.specs.Prelude.{Option, Some, None, is_some, option_and_then, option_map, Result, Ok, Err}
 use Rattle.std.specs.Str.{is_utf8, bytes_eq}
 use Rattle.serde_json.specs.Data.{Data, Members, no_members, member}
 use Rattle.serde_json.specs.Read.{read}
@@ -7,6 +8,7 @@ use Rattle.serde_json.specs.Find.{get, get_member, as_str, as_object}
 use Rattle.attr_types.specs.declared.kind.Kind.{Kind}
 use Rattle.attr_types.specs.declared.kind.Kind.TheVariants.{Single, Array, WeightedSet}
 use Rattle.attr_types.specs.declared.kind.ValueType.{ValueType}
+use Rattle.attr_types.specs.declared.op.Change.{Change}
 use Rattle.attr_types.specs.declared.op.Change.TheVariants as changes
 use Rattle.attr_types.specs.declared.op.Op.{Op}
 use Rattle.attr_types.specs.declared.op.Op.TheVariants as ops
@@ -44,7 +46,8 @@ id_of d = option_and_then document_of (as_str d)
 
 -- 4. A put and an update have an object `fields`; the named field may be missing there
 abbrev pub field_of : List ℕ → Data → Option (Option Data)
-field_of field d = option_map (get_member field) (option_and_then as_object (get (codes "fields") d))
+field_of field d = option_map (get_member field)
+    (option_and_then as_object (get (codes "fields") d))
 
 -- a put's field has the form of the items; without it the document has none
 abbrev pub put_of : Kind → ValueType → Option Data → Result Found Refusal
@@ -64,12 +67,16 @@ operator_named name = if bytes_eq name (codes "assign") then operators.Assign
     else (if bytes_eq name (codes "add") then operators.Add
     else (if bytes_eq name (codes "remove") then operators.Remove else operators.Other))
 
--- what an operator does with its value, which has the form that the operator has for the kind
+-- the change that an operator makes of its value
+abbrev pub change_by : {A : Type 0} → (A → Change) → Result A Refusal → Result Asked Refusal
+change_by change said = said >>= λ value. Ok (asks.Update (change value))
+
+-- what an operator asks for with its value, which has the form that the operator has for the kind
 abbrev pub operator_of : Kind → ValueType → Operator → Data → Result Asked Refusal
-operator_of kind value_type operators.Assign d = items_of kind value_type d >>= λ items. Ok (asks.Update (changes.Assign items))
-operator_of Array value_type operators.Add d = list_of value_type d >>= λ items. Ok (asks.Update (changes.Add items))
-operator_of WeightedSet value_type operators.Add d = weighted_of value_type d >>= λ items. Ok (asks.Update (changes.Add items))
-operator_of WeightedSet value_type operators.Remove d = taken_of value_type d >>= λ values. Ok (asks.Update (changes.Take values))
+operator_of kind value_type operators.Assign d = change_by changes.Assign (items_of kind value_type d)
+operator_of Array value_type operators.Add d = change_by changes.Add (list_of value_type d)
+operator_of WeightedSet value_type operators.Add d = change_by changes.Add (weighted_of value_type d)
+operator_of WeightedSet value_type operators.Remove d = change_by changes.Take (taken_of value_type d)
 operator_of Single value_type operators.Add d = Ok asks.Unsupported
 operator_of Single value_type operators.Remove d = Ok asks.Unsupported
 operator_of Array value_type operators.Remove d = Ok asks.Unsupported
@@ -84,9 +91,12 @@ update_of kind value_type (Some d) = do
   Ok (record { asked = asked; members = member_count operator.1 })
 
 unfoldable pub found_of : List ℕ → Kind → ValueType → Operation → Data → Result Found Refusal
-found_of field kind value_type operations.Put d = or_else BadValue (field_of field d) >>= put_of kind value_type
-found_of field kind value_type operations.Update d = or_else BadValue (field_of field d) >>= update_of kind value_type
-found_of field kind value_type operations.Remove d = Ok (record { asked = asks.Remove; members = 0 })
+found_of field kind value_type operations.Put d =
+    or_else BadValue (field_of field d) >>= put_of kind value_type
+found_of field kind value_type operations.Update d =
+    or_else BadValue (field_of field d) >>= update_of kind value_type
+found_of field kind value_type operations.Remove d =
+    Ok (record { asked = asks.Remove; members = 0 })
 
 -- 5. No member `create` or `condition` is there, and the operator is one of the kind
 abbrev pub has_condition : Data → Bool
@@ -111,4 +121,5 @@ op_of_value field kind value_type d = do
   if nat_lt 1023 found.members then Err TooManyItems else Ok op
 
 unfoldable pub op_of_line : List ℕ → Kind → ValueType → List ℕ → Result Op Refusal
-op_of_line field kind value_type line = or_else NotJson (json_of line) >>= op_of_value field kind value_type
+op_of_line field kind value_type line =
+    or_else NotJson (json_of line) >>= op_of_value field kind value_type

@@ -20,7 +20,7 @@ cut_some text = do
   parts ← cut text
   if nat_lt 0 (length parts.0) then Some parts else None
 
--- `id:`, a namespace, `:`, a document type, `:`, a part that may be empty, `:`, and the document's number
+-- `id:`, a namespace, `:`, a document type, `:`, a part that may be empty, `:`, the document's number
 unfoldable pub document_of : List ℕ → Option ℕ
 document_of text = do
   scheme ← cut text

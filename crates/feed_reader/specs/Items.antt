@@ -1,6 +1,7 @@
 -- The items that a list or an object of JSON writes.
 use Rattle.std.specs.Prelude.{ℕ, pos, List, [], ◌∷◌, map, if◌then◌else◌, is_some, Result, Ok, Err}
-use Rattle.serde_json.specs.Data.{Data, null, boolean, number, string, array, object, Items, no_items, item, Members, no_members, member}
+use Rattle.serde_json.specs.Data.{Data, null, boolean, number, string, array, object}
+use Rattle.serde_json.specs.Data.{Items, no_items, item, Members, no_members, member}
 use Rattle.serde_json.specs.Events.{items_len, members_len}
 use Rattle.serde_json.specs.Find.{as_null, as_array, as_object}
 use Rattle.attr_types.specs.Table.{with_item}
@@ -30,7 +31,7 @@ values_named value_type (member name d ms) = do
   values ← values_named value_type ms
   Ok (value ∷ values)
 
--- the items of an object from value to weight, each put among those before it in the order of values
+-- the items of an object from value to weight, each put among those before it by value ascending
 unfoldable pub weighted_after : ValueType → List Item → Members → Result (List Item) Refusal
 weighted_after value_type items no_members = Ok items
 weighted_after value_type items (member name d ms) = do

@@ -1,5 +1,6 @@
 -- Whole numbers that a text writes in decimal digits, each in one form alone.
-use Rattle.std.specs.Prelude.{ℕ, ℤ, pos, negsuc, Bool, ◌&&◌, ◌||◌, ◌==◌, List, drop, slice_index, nat_lt, nat_le, int_le, if◌then◌else◌, codes, Option, Some, None}
+use Rattle.std.specs.Prelude.{ℕ, ℤ, pos, negsuc, Bool, ◌&&◌, ◌||◌, ◌==◌}
+use Rattle.std.specs.Prelude.{List, drop, slice_index, nat_lt, nat_le, int_le, if◌then◌else◌, codes, Option, Some, None}
 use Rattle.std.specs.List.{list_all}
 use Rattle.std.specs.Str.{bytes_eq}
 use Rattle.std.specs.Str.Parse.{digits_value, signed_digits_value}
@@ -11,7 +12,7 @@ is_digit b = nat_le 48 b && nat_le b 57
 abbrev pub is_positive_numeral : List ℕ → Bool
 is_positive_numeral text = list_all is_digit text && nat_lt 48 (slice_index text 0)
 
--- a whole number's own digits: no leading zero, a `-` before them if it is negative, and no `+` or `-0`
+-- a whole number's own digits: no leading zero, a `-` before them if it is negative, no `+`, no `-0`
 abbrev pub is_whole_numeral : List ℕ → Bool
 is_whole_numeral text = bytes_eq text (codes "0")
     || is_positive_numeral (if slice_index text 0 == 45 then drop 1 text else text)
@@ -22,10 +23,10 @@ is_long z = int_le (negsuc 9223372036854775807) z && int_le z (pos 9223372036854
 
 -- the whole number of 64 signed bits that a text writes in its own digits
 unfoldable pub long_written : List ℕ → Option ℤ
-long_written text = if is_whole_numeral text && is_long (signed_digits_value 10 text)
-    then Some (signed_digits_value 10 text) else None
+long_written text = let z = signed_digits_value 10 text in
+    if is_whole_numeral text && is_long z then Some z else None
 
 -- a document's number, from 1 to 1,048,575, in its own digits
 unfoldable pub document_written : List ℕ → Option ℕ
-document_written text = if is_positive_numeral text && (nat_le 1 (digits_value 10 text) && nat_le (digits_value 10 text) 1048575)
-    then Some (digits_value 10 text) else None
+document_written text = let n = digits_value 10 text in
+    if is_positive_numeral text && (nat_le 1 n && nat_le n 1048575) then Some n else None

@@ -1,5 +1,6 @@
 -- The values and weights that JSON writes.
-use Rattle.std.specs.Prelude.{ℕ, ℤ, pos, negsuc, ◌&&◌, List, length, nat_le, int_le, if◌then◌else◌, Option, Some, None, option_and_then, option_map, Result}
+use Rattle.std.specs.Prelude.{ℕ, ℤ, pos, negsuc, ◌&&◌, List, length, nat_le, int_le, if◌then◌else◌}
+use Rattle.std.specs.Prelude.{Option, Some, None, option_and_then, option_map, Result}
 use Rattle.serde_json.specs.Data.{Data}
 use Rattle.serde_json.specs.Find.{as_number, as_i64, as_str}
 use Rattle.attr_types.specs.declared.value.Value.{Value}

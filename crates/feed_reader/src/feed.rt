@@ -1,7 +1,7 @@
 ghost use Rattle.std.specs.Prelude.{◌≡◌, ◌+◌, ◌-◌, ◌^◌, ◌<◌, ◌≤◌, length, IfOk, IfSome, Err};
 ghost use Rattle.std.specs.List.{AllByRecursion};
 ghost use Rattle.attr_types.specs.Lawful.{Fits};
-ghost use Rattle.attr_io.specs.Bytes.{ConsumesAtMost};
+ghost use Rattle.attr_io.specs.Bytes.{ConsumesAtMost, HasMoreThan};
 ghost use Rattle.attr_io.specs.Faults.{Rose};
 ghost use Rattle.feed_reader.specs.Feed.{feed_of, numbered_error, line_error, LinesSay, FeedSays, OnLines, ReadsAll};
 
@@ -85,7 +85,7 @@ pub fn read_feed<S: Source>(
     ensures all { OnLines result (ReadsAll (S.left source.old) (S.left source.new)) }
     ensures few { IfOk result (λ ops. length ops ≤ 16777216) }
     ensures too_long { result ≡ Err FeedError.FeedTooLong
-        → IfSome (S.left source.old) (λ bytes. 16777216 < length bytes) }
+        → HasMoreThan 16777216 (S.left source.old) }
     ensures fault { result ≡ Err FeedError.ReadFault
         → Rose (S.faults source.old) (S.faults source.new) }
     ensures later { S.faults source.old ≤ S.faults source.new }

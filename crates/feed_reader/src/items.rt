@@ -3,7 +3,8 @@ ghost use Rattle.serde_json.specs.View.{view, items_view, members_view};
 ghost use Rattle.feed_reader.specs.declared.refusal.Refusal.TheVariants.{BadValue};
 ghost use Rattle.feed_reader.specs.Answers.{Says};
 ghost use Rattle.feed_reader.specs.Weights.{entry_item};
-ghost use Rattle.feed_reader.specs.Items.{values_listed, values_named, weighted_after, weighted_of, plain, list_of, one_of, some_items_of, items_of, taken_of, member_count};
+ghost use Rattle.feed_reader.specs.Items.{values_listed, values_named, weighted_after, weighted_of};
+ghost use Rattle.feed_reader.specs.Items.{plain, list_of, one_of, some_items_of, items_of, taken_of, member_count};
 
 use crate::refusal::{LineError, Refusal};
 use crate::value::{value_in, value_named_by, weight_in};

@@ -11,6 +11,8 @@ mod numeral;
 mod operation;
 mod refusal;
 mod split;
+#[cfg(test)]
+mod tests;
 mod update;
 mod value;
 

@@ -2,7 +2,8 @@ ghost use Rattle.std.specs.Prelude.{◌≡◌, option_map};
 ghost use Rattle.serde_json.specs.View.{view};
 ghost use Rattle.feed_reader.specs.declared.refusal.Refusal.TheVariants.{NotJson};
 ghost use Rattle.feed_reader.specs.Answers.{Says, or_else};
-ghost use Rattle.feed_reader.specs.Grammar.{json_of, operation_of, id_of, field_of, found_of, has_condition, op_asked, supported, op_of_value, op_of_line};
+ghost use Rattle.feed_reader.specs.Grammar.{json_of, operation_of, id_of, field_of, found_of};
+ghost use Rattle.feed_reader.specs.Grammar.{has_condition, op_asked, supported, op_of_value, op_of_line};
 
 use crate::id::document_of_id;
 use crate::operation::{Asked, Found, Operation};
@@ -31,7 +32,8 @@ fn id_in(member: &Json) -> Option<Doc>
 
 /// The named field of a line's `fields`, which may be missing there.
 fn field_in<'a>(field: &str, line: &'a Json) -> Option<Option<&'a Json>>
-    ensures { option_map (λ f. option_map (λ v. view v.now) f) result ≡ field_of field.now (view line.entry.now) }
+    ensures { option_map (λ f. option_map (λ v. view v.now) f) result
+        ≡ field_of field.now (view line.entry.now) }
 {
     let fields = line.get("fields")?;
     if !fields.is_object() {

@@ -33,7 +33,8 @@ pub fn put_in(
 
 /// The one member of an object that has no other.
 fn only_member_in(members: &Map<String, Json>) -> Option<(&str, &Json)>
-    ensures { option_map (λ p. (p.0.now, view p.1.now)) result ≡ only_member (members_view members.now.entries) }
+    ensures { option_map (λ p. (p.0.now, view p.1.now)) result
+        ≡ only_member (members_view members.now.entries) }
 {
     let mut each = members.iter();
     let (name, json) = each.next()?;
