@@ -1,5 +1,6 @@
 ghost use Rattle.std.specs.Prelude.{◌≡◌};
-ghost use Rattle.attr_types.specs.Query.{begins_with, is_from, is_up_to, meets, meets_some, matches, all_match, some_match, tree_of, trees_of};
+ghost use Rattle.attr_types.specs.Query.{begins_with, is_from, is_up_to, meets, meets_some, matches};
+ghost use Rattle.attr_types.specs.Query.{all_match, some_match, tree_of, trees_of};
 
 use attr_types::{Item, Items, Leaf, Query, Text, Value, compare};
 

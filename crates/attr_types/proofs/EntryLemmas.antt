@@ -1,5 +1,6 @@
 -- Entries in the order of their keys, with one more, with one less, and filtered.
-use Rattle.std.proofs.Common.{◌≡◌, ◌≢◌, ℕ, Bool, true, false, cond, List, [], ◌∷◌, ◌++◌, map, Option, Some, None, Ordering, Less, Equal, Greater, nat_cmp, is_eq, refl, sym, ap, ◌∙◌, subst}
+use Rattle.std.proofs.Common.{◌≡◌, ◌≢◌, ℕ, Bool, true, false, cond, List, [], ◌∷◌, ◌++◌, map, Option, Some}
+use Rattle.std.proofs.Common.{None, Ordering, Less, Equal, Greater, nat_cmp, is_eq, refl, sym, ap, ◌∙◌, subst}
 use Rattle.std.proofs.lemmas.Cmp.{eq_by_cmp_equiv, alike_right, tied_itself}
 use Rattle.std.proofs.lemmas.Map.{lookup-remove_entry}
 use Rattle.std.proofs.lemmas.Map.Keys.{IsDistinct-from_sorted}
@@ -11,7 +12,8 @@ use Rattle.std.specs.List.Sorted.{IsStrictlySortedBy}
 use Rattle.std.specs.Map.{keys_of, lookup, remove_entry}
 use Rattle.std.specs.Ordering.{match_ordering, ordering_reverse}
 
-pub all-append : {A : Type 0} (P : A → Type 0) (xs ys : List A) → AllByRecursion P xs → AllByRecursion P ys → AllByRecursion P (xs ++ ys)
+pub all-append : {A : Type 0} (P : A → Type 0) (xs ys : List A) → AllByRecursion P xs → AllByRecursion P ys
+    → AllByRecursion P (xs ++ ys)
 all-append P [] ys front back = back
 all-append P (x ∷ xs) ys front back = (front.0, all-append P xs ys front.1 back)
 
@@ -37,13 +39,15 @@ sorted_map-filter R f p (x ∷ xs) up =
       | false ↦ sorted_map-filter R f p xs up.1
     ]
 
-found_first : {X : Type 0} (Q : X → Type 0) (b : Bool) (x found : X) (rest : Option X) → cond b (Some x) rest ≡ Some found
+found_first : {X : Type 0} (Q : X → Type 0) (b : Bool) (x found : X) (rest : Option X)
+    → cond b (Some x) rest ≡ Some found
     → Q x → (rest ≡ Some found → Q found) → Q found
 found_first Q true x found rest is here later = let same : x ≡ found = cc in subst Q same here
 found_first Q false x found rest is here later = later is
 
 -- what holds of each value holds of the one that is found
-pub all-lookup : {K X : Type 0} (Q : X → Type 0) (test : K → Bool) (es : List (K × X)) → AllByRecursion (λ e. Q e.1) es
+pub all-lookup : {K X : Type 0} (Q : X → Type 0) (test : K → Bool) (es : List (K × X))
+    → AllByRecursion (λ e. Q e.1) es
     → (found : X) → lookup test es ≡ Some found → Q found
 all-lookup Q test [] all found is = cc
 all-lookup Q test (e ∷ es) all found is =
@@ -88,16 +92,19 @@ module _ {K X : Type 0} {R : K → K → Ordering} (o : IsTotalOrder R) where
   found_here : (r : Ordering) (e : K × X) (es : List (K × X)) (k : K) (v : X) → R k e.0 ≡ r
       → lookup (is_at (R k)) (insert_entry R es k v) ≡ Some v
       → lookup (is_at (R k)) (match_ordering r ((k, v) ∷ e ∷ es) ((e.0, v) ∷ es) (e ∷ insert_entry R es k v)) ≡ Some v
-  found_here Less e es k v is rest = ap (λ s. cond (is_eq s) (Some v) (lookup (is_at (R k)) (e ∷ es))) (tied_itself o k)
+  found_here Less e es k v is rest =
+      ap (λ s. cond (is_eq s) (Some v) (lookup (is_at (R k)) (e ∷ es))) (tied_itself o k)
   found_here Equal e es k v is rest = ap (λ s. cond (is_eq s) (Some v) (lookup (is_at (R k)) es)) is
   found_here Greater e es k v is rest =
       ap (λ s. cond (is_eq s) (Some e.1) (lookup (is_at (R k)) (insert_entry R es k v))) is ∙ rest
 
-  pub lookup-insert_here : (es : List (K × X)) (k : K) (v : X) → lookup (is_at (R k)) (insert_entry R es k v) ≡ Some v
+  pub lookup-insert_here : (es : List (K × X)) (k : K) (v : X)
+      → lookup (is_at (R k)) (insert_entry R es k v) ≡ Some v
   lookup-insert_here [] k v = ap (λ s. cond (is_eq s) (Some v) None) (tied_itself o k)
   lookup-insert_here (e ∷ es) k v = found_here (R k e.0) e es k v refl (lookup-insert_here es k v)
 
-  found_other : (r : Ordering) (e : K × X) (es : List (K × X)) (k : K) (v : X) (q : K) → is_eq (R q k) ≡ false → R k e.0 ≡ r
+  found_other : (r : Ordering) (e : K × X) (es : List (K × X)) (k : K) (v : X) (q : K) → is_eq (R q k) ≡ false
+      → R k e.0 ≡ r
       → lookup (is_at (R q)) (insert_entry R es k v) ≡ lookup (is_at (R q)) es
       → lookup (is_at (R q)) (match_ordering r ((k, v) ∷ e ∷ es) ((e.0, v) ∷ es) (e ∷ insert_entry R es k v)) ≡ lookup (is_at (R q)) (e ∷ es)
   found_other Less e es k v q apart is rest = ap (λ b. cond b (Some v) (lookup (is_at (R q)) (e ∷ es))) apart
@@ -110,7 +117,8 @@ module _ {K X : Type 0} {R : K → K → Ordering} (o : IsTotalOrder R) where
   pub lookup-insert_other : (es : List (K × X)) (k : K) (v : X) (q : K) → is_eq (R q k) ≡ false
       → lookup (is_at (R q)) (insert_entry R es k v) ≡ lookup (is_at (R q)) es
   lookup-insert_other [] k v q apart = ap (λ b. cond b (Some v) None) apart
-  lookup-insert_other (e ∷ es) k v q apart = found_other (R k e.0) e es k v q apart refl (lookup-insert_other es k v q apart)
+  lookup-insert_other (e ∷ es) k v q apart =
+      found_other (R k e.0) e es k v q apart refl (lookup-insert_other es k v q apart)
 
   pub lookup-remove : (es : List (K × X)) (k q : K) → IsStrictlySortedBy R (keys_of es)
       → lookup (is_at (R q)) (remove_entry (is_at (R k)) es) ≡ cond (is_eq (R k q)) None (lookup (is_at (R q)) es)

@@ -1,11 +1,13 @@
 -- The test decides whether an operation fits.
-use Rattle.std.proofs.Common.{◌≡◌, ◌≤◌, ℕ, pos, Bool, true, false, ◌&&◌, leb, leb-true, le-leb, List, [], ◌∷◌, map, length, Ordering, Less, Equal, Greater, is_lt, refl, ap, ◌∙◌}
+use Rattle.std.proofs.Common.{◌≡◌, ◌≤◌, ℕ, pos, Bool, true, false, ◌&&◌, leb, leb-true, le-leb, List, [], ◌∷◌}
+use Rattle.std.proofs.Common.{map, length, Ordering, Less, Equal, Greater, is_lt, refl, ap, ◌∙◌}
 use Rattle.std.proofs.lemmas.Bool.Decides.{Decides-int_eq}
 use Rattle.std.specs.Bool.{Decides}
 use Rattle.std.specs.List.{AllByRecursion, list_all}
 use Rattle.std.specs.List.Sorted.{IsStrictlySortedBy}
 use Rattle.attr_types.proofs.EntryLemmas.{below_all}
-use Rattle.attr_types.specs.Fitting.{is_of_type, have_type, have_weight_one, ascends, are_lawful, items_fit, change_fits, op_fits}
+use Rattle.attr_types.specs.Fitting.{is_of_type, have_type, have_weight_one, ascends, are_lawful, items_fit}
+use Rattle.attr_types.specs.Fitting.{change_fits, op_fits}
 use Rattle.attr_types.specs.Lawful.{IsDocument, HaveWeightOne, IsLawfulItems, ItemsFit, ChangeFits, Fits}
 use Rattle.attr_types.specs.Table.{document_of}
 use Rattle.attr_types.specs.Value.{value_cmp, values_of, type_of, AreOfType}
@@ -26,14 +28,16 @@ both : (a b : Bool) {P Q : Type 0} → Decides a P → Decides b Q → Decides (
 both true b left right = (λ is. (left.0 refl, right.0 is), λ facts. right.1 facts.1)
 both false b left right = (λ is. cc, λ facts. left.1 facts.0)
 
-all_decides : {X K : Type 0} (f : X → K) (test : X → Bool) (P : K → Type 0) → ((x : X) → Decides (test x) (P (f x)))
+all_decides : {X K : Type 0} (f : X → K) (test : X → Bool) (P : K → Type 0)
+    → ((x : X) → Decides (test x) (P (f x)))
     → (xs : List X) → Decides (list_all test xs) (AllByRecursion P (map f xs))
 all_decides f test P each [] = (λ _. tt, λ _. refl)
 all_decides f test P each (x ∷ xs) = both (test x) (list_all test xs) (each x) (all_decides f test P each xs)
 
 weights_decide : (items : List Item) → Decides (have_weight_one items) (HaveWeightOne items)
 weights_decide [] = (λ _. tt, λ _. refl)
-weights_decide (item ∷ items) = both _ (have_weight_one items) (Decides-int_eq item.weight (pos 1)) (weights_decide items)
+weights_decide (item ∷ items) =
+    both _ (have_weight_one items) (Decides-int_eq item.weight (pos 1)) (weights_decide items)
 
 type_decides : (type : ValueType) (value : Value) → Decides (is_of_type type value) (type_of value ≡ type)
 type_decides types.Long (values.Long a) = (λ _. refl, λ _. refl)
@@ -41,11 +45,13 @@ type_decides types.Text (values.Text a) = (λ _. refl, λ _. refl)
 type_decides types.Long (values.Text a) = (λ is. cc, λ is. cc)
 type_decides types.Text (values.Long a) = (λ is. cc, λ is. cc)
 
-names_decide : (type : ValueType) (names : List Value) → Decides (list_all (is_of_type type) names) (AreOfType type names)
+names_decide : (type : ValueType) (names : List Value)
+    → Decides (list_all (is_of_type type) names) (AreOfType type names)
 names_decide type [] = (λ _. tt, λ _. refl)
 names_decide type (name ∷ names) = both (is_of_type type name) _ (type_decides type name) (names_decide type names)
 
-types_decide : (type : ValueType) (items : List Item) → Decides (have_type type items) (AreOfType type (values_of items))
+types_decide : (type : ValueType) (items : List Item)
+    → Decides (have_type type items) (AreOfType type (values_of items))
 types_decide type items =
     all_decides (λ item. item.value) (λ item. is_of_type type item.value) (λ value. type_of value ≡ type) (λ item. type_decides type item.value) items
 
@@ -72,7 +78,8 @@ then_ascends : (list : List Value) → IsStrictlySortedBy value_cmp list → asc
 unfolding IsStrictlySortedBy
 then_ascends [] up = refl
 then_ascends (first ∷ []) up = refl
-then_ascends (first ∷ second ∷ rest) up = ap (λ r. is_lt r && ascends (second ∷ rest)) up.0.0 ∙ then_ascends (second ∷ rest) up.1
+then_ascends (first ∷ second ∷ rest) up =
+    ap (λ r. is_lt r && ascends (second ∷ rest)) up.0.0 ∙ then_ascends (second ∷ rest) up.1
 
 short_decides : (n most : ℕ) → Decides (leb n most) (n ≤ most)
 short_decides n most = (leb-true n most, le-leb n most)
@@ -80,12 +87,15 @@ short_decides n most = (leb-true n most, le-leb n most)
 lawful_decides : (kind : Kind) (items : List Item) → Decides (are_lawful kind items) (IsLawfulItems kind items)
 lawful_decides Single items = both _ _ (short_decides (length items) 1) (weights_decide items)
 lawful_decides Array items = both _ _ (short_decides (length items) 1023) (weights_decide items)
-lawful_decides WeightedSet items = both _ _ (short_decides (length items) 1023) (ascends_then (values_of items), then_ascends (values_of items))
+lawful_decides WeightedSet items =
+    both _ _ (short_decides (length items) 1023) (ascends_then (values_of items), then_ascends (values_of items))
 
-items_decide : (kind : Kind) (type : ValueType) (items : List Item) → Decides (items_fit kind type items) (ItemsFit kind type items)
+items_decide : (kind : Kind) (type : ValueType) (items : List Item)
+    → Decides (items_fit kind type items) (ItemsFit kind type items)
 items_decide kind type items = both _ _ (lawful_decides kind items) (types_decide type items)
 
-change_decides : (kind : Kind) (type : ValueType) (change : Change) → Decides (change_fits kind type change) (ChangeFits kind type change)
+change_decides : (kind : Kind) (type : ValueType) (change : Change)
+    → Decides (change_fits kind type change) (ChangeFits kind type change)
 change_decides kind type Keep = (λ _. tt, λ _. refl)
 change_decides kind type (Assign items) = items_decide kind type items
 change_decides Array type (Add items) = items_decide Array type items
@@ -98,7 +108,10 @@ change_decides Array type (Take names) = (λ is. cc, λ fit. absurd fit)
 beside : (b : Bool) {P Q : Type 0} → P → Decides b Q → Decides b (P × Q)
 beside b known told = (λ is. (known, told.0 is), λ facts. told.1 facts.1)
 
-pub op_decides : (kind : Kind) (type : ValueType) (op : Op) → IsDocument (document_of op) → Decides (op_fits kind type op) (Fits kind type op)
-op_decides kind type (Put doc items) is_doc = beside (items_fit kind type items) is_doc (items_decide kind type items)
-op_decides kind type (Update doc change) is_doc = beside (change_fits kind type change) is_doc (change_decides kind type change)
+pub op_decides : (kind : Kind) (type : ValueType) (op : Op) → IsDocument (document_of op)
+    → Decides (op_fits kind type op) (Fits kind type op)
+op_decides kind type (Put doc items) is_doc =
+    beside (items_fit kind type items) is_doc (items_decide kind type items)
+op_decides kind type (Update doc change) is_doc =
+    beside (change_fits kind type change) is_doc (change_decides kind type change)
 op_decides kind type (Remove doc) is_doc = (λ _. is_doc, λ _. refl)

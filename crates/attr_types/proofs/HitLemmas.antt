@@ -1,5 +1,6 @@
 -- Hits are the documents that match, ascending.
-use Rattle.std.proofs.Common.{◌≡◌, ◌↔◌, ℕ, Bool, true, false, cond, List, Option, Some, None, nat_cmp, refl, sym, subst}
+use Rattle.std.proofs.Common.{◌≡◌, ◌↔◌, ℕ, Bool, true, false, cond, List, Option, Some, None, nat_cmp, refl}
+use Rattle.std.proofs.Common.{sym, subst}
 use Rattle.std.proofs.lemmas.Cmp.{nat_cmp_total, eq_by_cmp_equiv}
 use Rattle.std.proofs.lemmas.Map.Entries.{option_filter, lookup-filter-values}
 use Rattle.std.proofs.lemmas.Map.Keys.{IsDistinct-from_sorted, IsStrictlyIncreasing-from_sorted}
@@ -17,7 +18,8 @@ use Rattle.attr_types.specs.Table.{Table, items_at, hits}
 use Rattle.attr_types.specs.declared.items.Item.{Item}
 use Rattle.attr_types.specs.declared.kind.Kind.{Kind}
 
-pub hits_ascend : (query : QueryTree) (kind : Kind) (table : Table) → IsLawfulTable kind table → IsStrictlyIncreasing (hits query table)
+pub hits_ascend : (query : QueryTree) (kind : Kind) (table : Table) → IsLawfulTable kind table
+    → IsStrictlyIncreasing (hits query table)
 hits_ascend query kind table lawful =
     IsStrictlyIncreasing-from_sorted (hits query table) (sorted_map-filter nat_cmp (λ e. e.0) (λ e. matches query e.1) table lawful.ascends)
 
@@ -26,7 +28,8 @@ found : (query : QueryTree) (kind : Kind) (table : Table) (doc : ℕ) → IsLawf
 found query kind table doc lawful =
     lookup-filter-values (eq_by_cmp_equiv nat_cmp_total) (matches query) doc table (IsDistinct-from_sorted nat_cmp (keys_of table) lawful.ascends)
 
-kept_then : (p : List Item → Bool) (o : Option (List Item)) → IsSome (option_filter p o) → IsSomeAnd o (λ items. p items ≡ true)
+kept_then : (p : List Item → Bool) (o : Option (List Item)) → IsSome (option_filter p o)
+    → IsSomeAnd o (λ items. p items ≡ true)
 kept_then p None some = cc
 kept_then p (Some items) some = told (p items) some
   where
@@ -34,7 +37,8 @@ kept_then p (Some items) some = told (p items) some
     told true some = refl
     told false some = cc
 
-then_kept : (p : List Item → Bool) (o : Option (List Item)) → IsSomeAnd o (λ items. p items ≡ true) → IsSome (option_filter p o)
+then_kept : (p : List Item → Bool) (o : Option (List Item)) → IsSomeAnd o (λ items. p items ≡ true)
+    → IsSome (option_filter p o)
 then_kept p None match = absurd match
 then_kept p (Some items) match = subst (λ b. IsSome (cond b (Some items) None)) (sym match) refl
 

@@ -1,5 +1,7 @@
 -- Changes keep items lawful, and of one type.
-use Rattle.std.proofs.Common.{◌≡◌, ℤ, pos, ◌≤◌, Bool, true, false, cond, not, List, [], ◌∷◌, ◌++◌, map, length, leb, leb-true, Some, None, Less, Equal, Greater, refl, sym, ap, ◌∙◌, subst, arith}
+use Rattle.std.proofs.Common.{◌≡◌, ℤ, pos, ◌≤◌, Bool, true, false, cond, not, List, [], ◌∷◌, ◌++◌, map}
+use Rattle.std.proofs.Common.{length, leb, leb-true, Some, None, Less, Equal, Greater, refl, sym, ap, ◌∙◌}
+use Rattle.std.proofs.Common.{subst, arith}
 use Rattle.std.proofs.lemmas.List.Filters.{length-filter_both}
 use Rattle.std.specs.BTreeMap.{insert_entry}
 use Rattle.std.specs.List.{AllByRecursion, filter}
@@ -7,7 +9,8 @@ use Rattle.std.specs.List.Sorted.{IsStrictlySortedBy}
 use Rattle.std.specs.Map.{keys_of}
 use Rattle.std.specs.Option.{IfSome}
 use Rattle.std.specs.Ordering.{match_ordering}
-use Rattle.attr_types.proofs.EntryLemmas.{all-append, all_map-append, all_map-filter, sorted_map-filter, all_keys-insert, sorted-insert}
+use Rattle.attr_types.proofs.EntryLemmas.{all-append, all_map-append, all_map-filter, sorted_map-filter}
+use Rattle.attr_types.proofs.EntryLemmas.{all_keys-insert, sorted-insert}
 use Rattle.attr_types.specs.Lawful.{AscendByValue, ItemsFit, ChangeFits}
 use Rattle.attr_types.specs.Table.{with_item, with_items, is_named, if_within_limit, changed}
 use Rattle.attr_types.specs.Value.{value_cmp, values_of, type_of}
@@ -43,7 +46,8 @@ entries_of-with_item (first ∷ items) item =
 
 values_of-with_item : (items : List Item) (item : Item)
     → values_of (with_item items item) ≡ keys_of (insert_entry value_cmp (entries_of items) item.value item.weight)
-values_of-with_item items item = values_of-entries (with_item items item) ∙ ap keys_of (entries_of-with_item items item)
+values_of-with_item items item =
+    values_of-entries (with_item items item) ∙ ap keys_of (entries_of-with_item items item)
 
 all-with_item : (P : Value → Type 0) (items : List Item) (item : Item)
     → AllByRecursion P (values_of items) → P item.value → AllByRecursion P (values_of (with_item items item))
@@ -51,22 +55,26 @@ all-with_item P items item all here =
     subst (AllByRecursion P) (sym (values_of-with_item items item))
     (all_keys-insert value_cmp_total P (entries_of items) item.value item.weight (subst (AllByRecursion P) (values_of-entries items) all) here)
 
-pub ascend-with_item : (items : List Item) (item : Item) → AscendByValue items → AscendByValue (with_item items item)
+pub ascend-with_item : (items : List Item) (item : Item) → AscendByValue items
+    → AscendByValue (with_item items item)
 ascend-with_item items item up =
     subst (IsStrictlySortedBy value_cmp) (sym (values_of-with_item items item))
     (sorted-insert value_cmp_total (entries_of items) item.value item.weight (subst (IsStrictlySortedBy value_cmp) (values_of-entries items) up))
 
 pub all-with_items : (P : Value → Type 0) (items more : List Item)
-    → AllByRecursion P (values_of items) → AllByRecursion P (values_of more) → AllByRecursion P (values_of (with_items items more))
+    → AllByRecursion P (values_of items) → AllByRecursion P (values_of more)
+    → AllByRecursion P (values_of (with_items items more))
 all-with_items P items [] all others = all
 all-with_items P items (item ∷ more) all others =
     all-with_items P (with_item items item) more (all-with_item P items item all others.0) others.1
 
 pub ascend-with_items : (items more : List Item) → AscendByValue items → AscendByValue (with_items items more)
 ascend-with_items items [] up = up
-ascend-with_items items (item ∷ more) up = ascend-with_items (with_item items item) more (ascend-with_item items item up)
+ascend-with_items items (item ∷ more) up =
+    ascend-with_items (with_item items item) more (ascend-with_item items item up)
 
-within_limit : (items : List Item) (P : List Item → Type 0) → (length items ≤ 1023 → P items) → IfSome (if_within_limit items) P
+within_limit : (items : List Item) (P : List Item → Type 0) → (length items ≤ 1023 → P items)
+    → IfSome (if_within_limit items) P
 within_limit items P fits = told (leb (length items) 1023) refl
   where
     told : (b : Bool) → leb (length items) 1023 ≡ b → IfSome (cond b (Some items) None) P
@@ -74,7 +82,8 @@ within_limit items P fits = told (leb (length items) 1023) refl
     told false is = tt
 
 -- a change that fits makes items that fit of such items
-pub changed_fits : (kind : Kind) (type : ValueType) (change : Change) (items : List Item) → ChangeFits kind type change
+pub changed_fits : (kind : Kind) (type : ValueType) (change : Change) (items : List Item)
+    → ChangeFits kind type change
     → ItemsFit kind type items → IfSome (changed kind change items) (ItemsFit kind type)
 changed_fits kind type Keep items fits lawful = lawful
 changed_fits kind type (Assign others) items fits lawful = fits

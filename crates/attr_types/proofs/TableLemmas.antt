@@ -1,15 +1,19 @@
 -- What operations make of lawful tables.
-use Rattle.std.proofs.Common.{◌≡◌, ◌≢◌, ℕ, zero, suc, true, cond, List, [], ◌∷◌, take, Option, Some, None, option_map, nat_cmp, is_eq, refl, sym, ap, ◌∙◌}
+use Rattle.std.proofs.Common.{◌≡◌, ◌≢◌, ℕ, zero, suc, true, cond, List, [], ◌∷◌, take, Option, Some, None}
+use Rattle.std.proofs.Common.{option_map, nat_cmp, is_eq, refl, sym, ap, ◌∙◌}
 use Rattle.std.proofs.lemmas.Cmp.{nat_cmp_total, tied_itself}
 use Rattle.std.specs.BTreeMap.{is_at}
 use Rattle.std.specs.List.{AllByRecursion}
 use Rattle.std.specs.List.Sorted.{IsStrictlySortedBy}
 use Rattle.std.specs.Map.{keys_of}
 use Rattle.std.specs.Option.{IfSome, is_none, option_and_then, unwrap_or}
-use Rattle.attr_types.proofs.EntryLemmas.{all-lookup, all_keys-insert, all_values-insert, sorted-insert, all_keys-remove, all-remove, sorted-remove, lookup-insert_here, lookup-insert_other, lookup-remove, nat_cmp_apart}
+use Rattle.attr_types.proofs.EntryLemmas.{all-lookup, all_keys-insert, all_values-insert, sorted-insert}
+use Rattle.attr_types.proofs.EntryLemmas.{all_keys-remove, all-remove, sorted-remove, lookup-insert_here}
+use Rattle.attr_types.proofs.EntryLemmas.{lookup-insert_other, lookup-remove, nat_cmp_apart}
 use Rattle.attr_types.proofs.SetLemmas.{changed_fits}
 use Rattle.attr_types.specs.Lawful.{IsDocument, IsLawfulItems, IsLawfulTable, HasType, ItemsFit, ChangeFits, Fits}
-use Rattle.attr_types.specs.Table.{Table, document_of, items_at, with_document, without_document, changed, step, is_skipped, after_op, after_ops, after}
+use Rattle.attr_types.specs.Table.{Table, document_of, items_at, with_document, without_document, changed}
+use Rattle.attr_types.specs.Table.{step, is_skipped, after_op, after_ops, after}
 use Rattle.attr_types.specs.Value.{values_of, AreOfType}
 use Rattle.attr_types.specs.declared.items.Item.{Item}
 use Rattle.attr_types.specs.declared.kind.Kind.{Kind}
@@ -44,11 +48,13 @@ sound-without kind type table doc sound = (
   all-remove (λ e. AreOfType type (values_of e.1)) (is_at (nat_cmp doc)) table sound.1,
 )
 
-sound-changed : (kind : Kind) (type : ValueType) (table : Table) (doc : ℕ) (items : Option (List Item)) → Sound kind type table
+sound-changed : (kind : Kind) (type : ValueType) (table : Table) (doc : ℕ) (items : Option (List Item))
+    → Sound kind type table
     → IsDocument doc → IfSome items (ItemsFit kind type)
     → Sound kind type (unwrap_or (option_map (with_document table doc) items) table)
 sound-changed kind type table doc None sound is_doc fits = sound
-sound-changed kind type table doc (Some items) sound is_doc fits = sound-with kind type table doc items sound is_doc fits
+sound-changed kind type table doc (Some items) sound is_doc fits =
+    sound-with kind type table doc items sound is_doc fits
 
 sound-update : (kind : Kind) (type : ValueType) (table : Table) (doc : ℕ) (change : Change) (found : Option (List Item))
     → items_at table doc ≡ found → Sound kind type table → IsDocument doc → ChangeFits kind type change
@@ -61,7 +67,8 @@ sound-update kind type table doc change (Some items) is sound is_doc fits =
     ) in
     sound-changed kind type table doc (changed kind change items) sound is_doc (changed_fits kind type change items fits lawful)
 
-sound-removed : (kind : Kind) (type : ValueType) (table : Table) (doc : ℕ) (found : Option (List Item)) → Sound kind type table
+sound-removed : (kind : Kind) (type : ValueType) (table : Table) (doc : ℕ) (found : Option (List Item))
+    → Sound kind type table
     → Sound kind type (unwrap_or (option_map (λ _. without_document table doc) found) table)
 sound-removed kind type table doc None sound = sound
 sound-removed kind type table doc (Some items) sound = sound-without kind type table doc sound
@@ -69,10 +76,12 @@ sound-removed kind type table doc (Some items) sound = sound-without kind type t
 pub step_keeps : (kind : Kind) (type : ValueType) (table : Table) (op : Op) → Fits kind type op
     → Sound kind type table → Sound kind type (after_op kind table op)
 step_keeps kind type table (Put doc items) fits sound = sound-with kind type table doc items sound fits.0 fits.1
-step_keeps kind type table (Update doc change) fits sound = sound-update kind type table doc change (items_at table doc) refl sound fits.0 fits.1
+step_keeps kind type table (Update doc change) fits sound =
+    sound-update kind type table doc change (items_at table doc) refl sound fits.0 fits.1
 step_keeps kind type table (Remove doc) fits sound = sound-removed kind type table doc (items_at table doc) sound
 
-steps_keep : (kind : Kind) (type : ValueType) (table : Table) (ops : List Op) (n : ℕ) → AllByRecursion (Fits kind type) ops
+steps_keep : (kind : Kind) (type : ValueType) (table : Table) (ops : List Op) (n : ℕ)
+    → AllByRecursion (Fits kind type) ops
     → Sound kind type table → Sound kind type (after_ops kind table (take n ops))
 steps_keep kind type table ops zero fits sound = sound
 steps_keep kind type table [] (suc n) fits sound = sound
@@ -82,9 +91,11 @@ steps_keep kind type table (op ∷ ops) (suc n) fits sound =
 pub run_keeps : (kind : Kind) (type : ValueType) (ops : List Op) (n : ℕ) → AllByRecursion (Fits kind type) ops
     → Sound kind type (after kind ops n)
 unfolding IsStrictlySortedBy
-run_keeps kind type ops n fits = steps_keep kind type [] ops n fits (record { ascends = tt; documents = tt; items = tt }, tt)
+run_keeps kind type ops n fits =
+    steps_keep kind type [] ops n fits (record { ascends = tt; documents = tt; items = tt }, tt)
 
-pub skipped_leaves : (kind : Kind) (table : Table) (op : Op) → is_skipped kind table op ≡ true → after_op kind table op ≡ table
+pub skipped_leaves : (kind : Kind) (table : Table) (op : Op) → is_skipped kind table op ≡ true
+    → after_op kind table op ≡ table
 skipped_leaves kind table op skipped = left (step kind table op) skipped
   where
     left : (next : Option Table) → is_none next ≡ true → unwrap_or next table ≡ table
@@ -94,30 +105,37 @@ skipped_leaves kind table op skipped = left (step kind table op) skipped
 other-changed : (table : Table) (doc other : ℕ) (items : Option (List Item)) → other ≢ doc
     → items_at (unwrap_or (option_map (with_document table doc) items) table) other ≡ items_at table other
 other-changed table doc other None apart = refl
-other-changed table doc other (Some items) apart = lookup-insert_other nat_cmp_total table doc items other (nat_cmp_apart other doc apart)
+other-changed table doc other (Some items) apart =
+    lookup-insert_other nat_cmp_total table doc items other (nat_cmp_apart other doc apart)
 
-other-removed : (table : Table) (doc other : ℕ) (found : Option (List Item)) → IsStrictlySortedBy nat_cmp (keys_of table) → other ≢ doc
+other-removed : (table : Table) (doc other : ℕ) (found : Option (List Item))
+    → IsStrictlySortedBy nat_cmp (keys_of table) → other ≢ doc
     → items_at (unwrap_or (option_map (λ _. without_document table doc) found) table) other ≡ items_at table other
 other-removed table doc other None up apart = refl
 other-removed table doc other (Some items) up apart =
     lookup-remove nat_cmp_total table doc other up
     ∙ ap (λ b. cond b None (items_at table other)) (nat_cmp_apart doc other (λ same. apart (sym same)))
 
-pub others_stay : (kind : Kind) (table : Table) (op : Op) (other : ℕ) → IsLawfulTable kind table → other ≢ document_of op
+pub others_stay : (kind : Kind) (table : Table) (op : Op) (other : ℕ) → IsLawfulTable kind table
+    → other ≢ document_of op
     → items_at (after_op kind table op) other ≡ items_at table other
 others_stay kind table (Put doc items) other lawful apart = other-changed table doc other (Some items) apart
 others_stay kind table (Update doc change) other lawful apart =
     other-changed table doc other (option_and_then (changed kind change) (items_at table doc)) apart
-others_stay kind table (Remove doc) other lawful apart = other-removed table doc other (items_at table doc) lawful.ascends apart
+others_stay kind table (Remove doc) other lawful apart =
+    other-removed table doc other (items_at table doc) lawful.ascends apart
 
-pub put_is_there : (table : Table) (doc : ℕ) (items : List Item) → items_at (with_document table doc items) doc ≡ Some items
+pub put_is_there : (table : Table) (doc : ℕ) (items : List Item)
+    → items_at (with_document table doc items) doc ≡ Some items
 put_is_there table doc items = lookup-insert_here nat_cmp_total table doc items
 
-removed_is_gone : (table : Table) (doc : ℕ) (found : Option (List Item)) → IsStrictlySortedBy nat_cmp (keys_of table)
+removed_is_gone : (table : Table) (doc : ℕ) (found : Option (List Item))
+    → IsStrictlySortedBy nat_cmp (keys_of table)
     → items_at table doc ≡ found → items_at (unwrap_or (option_map (λ _. without_document table doc) found) table) doc ≡ None
 removed_is_gone table doc None up is = is
 removed_is_gone table doc (Some items) up is =
-    lookup-remove nat_cmp_total table doc doc up ∙ ap (λ r. cond (is_eq r) None (items_at table doc)) (tied_itself nat_cmp_total doc)
+    lookup-remove nat_cmp_total table doc doc up
+    ∙ ap (λ r. cond (is_eq r) None (items_at table doc)) (tied_itself nat_cmp_total doc)
 
 pub remove_after_put : (kind : Kind) (table : Table) (doc : ℕ) (items : List Item) → IsLawfulTable kind table
     → items_at (after_ops kind table (Put doc items ∷ Remove doc ∷ [])) doc ≡ None

@@ -1,5 +1,5 @@
 -- What the test whether an operation fits computes. It is proved to decide `Fits`.
-use Rattle.std.specs.Prelude.{ℕ, pos, Bool, true, false, ◌&&◌, nat_le, List, [], ◌∷◌, length}
+use Rattle.std.specs.Prelude.{pos, Bool, true, false, ◌&&◌, nat_le, List, [], ◌∷◌, length}
 use Rattle.std.specs.List.{list_all}
 use Rattle.std.specs.Ordering.{int_eq, is_lt}
 use Rattle.attr_types.specs.Value.{value_cmp, values_of}

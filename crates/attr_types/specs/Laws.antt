@@ -39,7 +39,8 @@ RunKeeps = (kind : Kind) (type : ValueType) (ops : List Op) (n : ℕ) → AllByR
 
 -- an operation changes no document but its own
 abbrev pub OthersStay : Type 0
-OthersStay = (kind : Kind) (table : Table) (op : Op) (other : ℕ) → IsLawfulTable kind table → other ≢ document_of op
+OthersStay =
+    (kind : Kind) (table : Table) (op : Op) (other : ℕ) → IsLawfulTable kind table → other ≢ document_of op
     → items_at (after_op kind table op) other ≡ items_at table other
 
 -- a document that was put is there with its items

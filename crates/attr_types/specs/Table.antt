@@ -1,7 +1,9 @@
 -- The plain table of an attribute, what an operation makes of it, and which documents a query hits.
 -- Operations are those of Vespa's document JSON format, on an attribute's collection types:
 -- docs.vespa.ai/en/reference/document-json-format.html and docs.vespa.ai/en/attributes.html.
-use Rattle.std.specs.Prelude.{ℕ, ◌+◌, ◌*◌, ◌≡◌, ◌≤◌, ◌⊎◌, Bool, List, [], ◌∷◌, ◌++◌, length, map, filter, take, not, nat_le, Option, Some, None, is_none, option_map, option_and_then, unwrap_or, if◌then◌else◌}
+use Rattle.std.specs.Prelude.{ℕ, ◌+◌, ◌*◌, ◌≡◌, ◌≤◌, ◌⊎◌, Bool, List, [], ◌∷◌, ◌++◌, length, map, filter}
+use Rattle.std.specs.Prelude.{take, not, nat_le, Option, Some, None, is_none, option_map, option_and_then}
+use Rattle.std.specs.Prelude.{unwrap_or, if◌then◌else◌}
 use Rattle.std.specs.List.{list_any}
 use Rattle.std.specs.Ordering.{nat_cmp, is_eq, match_ordering}
 use Rattle.std.specs.BTreeMap.{insert_entry, is_at}

@@ -2,7 +2,8 @@
 ghost use Rattle.std.specs.Prelude.{◌≡◌, ◌≤◌, ◌↔◌, IsTrue, pos};
 ghost use Rattle.std.specs.List.{list_all};
 ghost use Rattle.std.specs.Ordering.{int_eq};
-ghost use Rattle.attr_types.specs.Fitting.{is_of_type, have_type, have_weight_one, ascends, are_lawful, items_fit, change_fits, op_fits};
+ghost use Rattle.attr_types.specs.Fitting.{is_of_type, have_type, have_weight_one, ascends, are_lawful};
+ghost use Rattle.attr_types.specs.Fitting.{items_fit, change_fits, op_fits};
 ghost use Rattle.attr_types.specs.Lawful.{Fits};
 ghost use Rattle.attr_types.specs.Table.{document_of};
 ghost use Rattle.attr_types.specs.Value.{values_of};

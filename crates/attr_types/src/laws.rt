@@ -1,5 +1,6 @@
 //! Laws of the plain table. Each function does nothing: its contract is the law.
-ghost use Rattle.attr_types.specs.Laws.{HitsAscend, HitsAreMatches, SkippedLeaves, StepKeeps, RunKeeps, OthersStay, PutIsThere, RemoveAfterPut};
+ghost use Rattle.attr_types.specs.Laws.{HitsAscend, HitsAreMatches, SkippedLeaves, StepKeeps, RunKeeps};
+ghost use Rattle.attr_types.specs.Laws.{OthersStay, PutIsThere, RemoveAfterPut};
 
 /// The hits of a query ascend strictly, and are exactly the documents that match.
 pub fn hits_law()

@@ -5,4 +5,5 @@ use Rattle.attr_plain.proofs.table.scan.Given as goal
 
 -- the hits so far, and those of the documents that are left
 abbrev pub invariant-loop-doc : goal.invariant-loop-doc
-invariant-loop-doc l = l.hits ++ hits_of (tree_of l.query) l.doc-iterator ≡ hits_of (tree_of l.query) l.documents.entries
+invariant-loop-doc l =
+    l.hits ++ hits_of (tree_of l.query) l.doc-iterator ≡ hits_of (tree_of l.query) l.documents.entries

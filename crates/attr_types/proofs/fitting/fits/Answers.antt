@@ -1,4 +1,4 @@
-use Rattle.std.proofs.Common.{ℕ, Bool, ◌↔◌, sym, subst}
+use Rattle.std.proofs.Common.{Bool, ◌↔◌, sym, subst}
 use Rattle.std.specs.Bool.{IsTrue}
 use Rattle.attr_types.proofs.FitLemmas.{op_decides}
 use Rattle.attr_types.proofs.fitting.fits.Goals as goal
