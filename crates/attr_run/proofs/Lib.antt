@@ -1,0 +1,7 @@
+pub mod QueriesLemmas
+pub mod AskedLemmas
+pub mod LoadLemmas
+pub mod ReportLemmas
+pub mod RoundsLemmas
+pub mod TaskLemmas
+pub mod AnswerLemmas

@@ -1,0 +1,73 @@
+-- What the steps of a call answer, before its text is made and written.
+use Rattle.std.specs.Prelude.{◌≡◌, ℕ, map, List, Option, Result, Ok, Err}
+use Rattle.std.specs.Io.KnownBytes.{Appends, Keeps}
+use Rattle.clap.specs.Walk.{Text}
+use Rattle.attr_io.specs.Faults.{Rose}
+use Rattle.attr_types.specs.Query.{tree_of}
+use Rattle.attr_words.specs.Reading.{given_by}
+use Rattle.feed_reader.specs.declared.error.FeedError.{FeedError}
+use Rattle.feed_reader.specs.declared.error.FeedError.TheVariants as feed_errors
+use Rattle.attr_run.specs.Run.{Run, run_of}
+use Rattle.attr_run.specs.Report.{text_of}
+use Rattle.attr_run.specs.Answers.{HasCause, HasNoRun, IsDue, IsProper, WritesFront}
+use Rattle.attr_run.specs.declared.outcome.Status.{Status}
+use Rattle.attr_run.specs.declared.outcome.Status.TheVariants.{Help, Usage, BadFeed, ReadFault, WriteFault, Memory}
+use Rattle.attr_run.specs.declared.outcome.UsageCause.TheVariants as usage
+use Rattle.attr_run.specs.declared.outcome.FeedFault.TheVariants as feed
+use Rattle.attr_run.specs.declared.stop.Stop.{Stop}
+use Rattle.attr_run.specs.declared.stop.Stop.TheVariants as stops
+use Rattle.attr_run.specs.declared.request.Request.{Request}
+
+-- what a step returns is what was wanted, or its refusal; want of memory says nothing
+abbrev pub Says : {A B : Type 0} → (A → B) → Result A Stop → Result B Status → Type 0
+Says shown (Ok a) wanted = wanted ≡ Ok (shown a)
+Says shown (Err (stops.Answer status)) wanted = wanted ≡ Err status
+Says shown (Err stops.Memory) wanted = Unit {0}
+
+-- the run of a request
+abbrev pub run_in : Request → Run
+run_in request = run_of (given_by request.settings) request.kind request.value (map tree_of request.queries.items)
+
+-- what a refusal of the feed stops a call with
+abbrev pub line_stop : ℕ → ℕ → Stop
+line_stop line number = stops.Answer (BadFeed (feed.Line line number))
+
+abbrev pub feed_stop : FeedError → Stop
+feed_stop (feed_errors.NotJson line) = line_stop line 1
+feed_stop (feed_errors.NoOperation line) = line_stop line 2
+feed_stop (feed_errors.BadId line) = line_stop line 3
+feed_stop (feed_errors.BadValue line) = line_stop line 4
+feed_stop (feed_errors.Unsupported line) = line_stop line 5
+feed_stop (feed_errors.TooManyItems line) = line_stop line 6
+feed_stop feed_errors.FeedTooLong = stops.Answer (BadFeed feed.TooLong)
+feed_stop feed_errors.ReadFault = stops.Answer ReadFault
+feed_stop feed_errors.Memory = stops.Memory
+
+-- why a call stops before it has a report
+abbrev pub IsStopped : List Text → Option (List ℕ) → ℕ → ℕ → Stop → Type 0
+IsStopped words left before now (stops.Answer status) = HasCause words left before now status
+IsStopped words left before now stops.Memory = Unit {0}
+
+-- a stop for which the words are the reason
+abbrev pub IsWordsStop : Stop → Type 0
+IsWordsStop (stops.Answer Help) = Unit {0}
+IsWordsStop (stops.Answer (Usage cause)) = IsProper (Usage cause)
+IsWordsStop (stops.Answer _) = ⊥
+IsWordsStop stops.Memory = Unit {0}
+
+abbrev pub IsProperStop : Stop → Type 0
+IsProperStop (stops.Answer status) = IsProper status
+IsProperStop stops.Memory = Unit {0}
+
+-- the answer of a call that stopped: it is no want of memory, and its text is the status's own
+abbrev pub IsEarly : Stop → Status → ℕ → List (List ℕ) → List ℕ → Type 0
+IsEarly stop status loaded rounds text = (stop ≡ stops.Answer status) × HasNoRun loaded rounds × (text ≡ text_of status)
+
+-- an answer of a call: the text that is due is written, or a front of it, or nothing
+abbrev pub IsAnswer : List Text → Option (List ℕ) → ℕ → ℕ → Option (List ℕ) → Option (List ℕ) → ℕ → ℕ → Status → ℕ → List (List ℕ) → Type 0
+IsAnswer words left before now old new sink_before sink_now WriteFault loaded rounds =
+    Rose sink_before sink_now × WritesFront words left before now loaded rounds old new
+IsAnswer words left before now old new sink_before sink_now Memory loaded rounds =
+    Keeps old new × HasNoRun loaded rounds
+IsAnswer words left before now old new sink_before sink_now status loaded rounds =
+    (text : List ℕ) × IsDue words left before now status loaded rounds text × Appends old new text

@@ -1,0 +1,62 @@
+ghost use Rattle.std.specs.Prelude.{◌≡◌};
+ghost use Rattle.attr_run.specs.Steps.{feed_stop};
+ghost use Rattle.attr_run.specs.declared.stop.Stop.TheVariants as stops;
+
+use crate::outcome::{FeedFault, Status, UsageCause};
+use feed_reader::FeedError;
+use std::alloc::{AllocError, AllocFailed};
+
+/// Why a call has no report to write: another answer, or want of memory.
+#[derive(Debug, Drop)]
+pub enum Stop {
+    Answer(Status),
+    Memory,
+}
+
+impl Stop {
+    pub fn usage(cause: UsageCause) -> Stop
+        ensures { result ≡ Stop.Answer (Status.Usage cause) }
+    {
+        Stop::Answer(Status::Usage(cause))
+    }
+
+    fn line(line: u32, number: u32) -> Stop
+        ensures { result ≡ Stop.Answer (Status.BadFeed (FeedFault.Line line number)) }
+    {
+        Stop::Answer(Status::BadFeed(FeedFault::Line { line, number }))
+    }
+}
+
+impl From<AllocError> for Stop {
+    ghost from_gives = { λ _ s. s ≡ stops.Memory };
+
+    fn from(_e: AllocError) -> Stop {
+        Stop::Memory
+    }
+}
+
+impl<T: Drop> From<AllocFailed<T>> for Stop {
+    ghost from_gives = { λ _ s. s ≡ stops.Memory };
+
+    fn from(_e: AllocFailed<T>) -> Stop {
+        Stop::Memory
+    }
+}
+
+impl From<FeedError> for Stop {
+    ghost from_gives = { λ e s. s ≡ feed_stop e };
+
+    fn from(e: FeedError) -> Stop {
+        match e {
+            FeedError::NotJson { line } => Stop::line(line, 1),
+            FeedError::NoOperation { line } => Stop::line(line, 2),
+            FeedError::BadId { line } => Stop::line(line, 3),
+            FeedError::BadValue { line } => Stop::line(line, 4),
+            FeedError::Unsupported { line } => Stop::line(line, 5),
+            FeedError::TooManyItems { line } => Stop::line(line, 6),
+            FeedError::FeedTooLong => Stop::Answer(Status::BadFeed(FeedFault::TooLong)),
+            FeedError::ReadFault => Stop::Answer(Status::ReadFault),
+            FeedError::Memory => Stop::Memory,
+        }
+    }
+}
