@@ -24,7 +24,7 @@ pub use kind::{Kind, ValueType};
 pub use laws::{document_law, hits_law, skip_law, step_law};
 pub use lists::{DocList, RoundList};
 pub use op::{Change, Op, Ops};
-pub use order::compare;
+pub use order::{compare, order_law};
 pub use query::{Leaf, Queries, Query};
 pub use text::Text;
 pub use value::{Value, Values};
