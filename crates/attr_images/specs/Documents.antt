@@ -1,0 +1,50 @@
+-- The items of a document, as its reference in the document tree reads.
+use Rattle.std.specs.Prelude.{ℕ, zero, suc, ℤ, pos, List, [], ◌∷◌, map}
+use Rattle.std.specs.List.{flat_map, AllByRecursion}
+use Rattle.image_base.specs.Records.{Records}
+use Rattle.attr_images.specs.Trees.{tree_pairs}
+use Rattle.attr_images.specs.Values.{value_at, IsValueRecord}
+use Rattle.attr_images.specs.Words.{items_of, unpacked, IsStoredList}
+use Rattle.attr_types.specs.Table.{Table}
+use Rattle.attr_types.specs.declared.items.Item.{Item}
+use Rattle.attr_types.specs.declared.kind.Kind.{Kind}
+use Rattle.attr_types.specs.declared.kind.Kind.TheVariants.{Single, Array, WeightedSet}
+use Rattle.attr_types.specs.declared.kind.ValueType.{ValueType}
+
+-- the references of a document's values, each with its weight; a document without items has reference 0
+abbrev pub weighted : Kind → ℕ → List ℕ → List (ℕ × ℤ)
+weighted kind zero ws = []
+weighted Single (suc ref) ws = (suc ref, pos 1) ∷ []
+weighted Array (suc ref) ws = map (λ value. (value, pos 1)) (items_of ws)
+weighted WeightedSet (suc ref) ws = map unpacked (items_of ws)
+
+-- an array or a weighted set is a stored list of at most 1,023 items
+abbrev pub IsItemsRecord : Kind → ℕ → List ℕ → Type 0
+IsItemsRecord kind zero ws = Unit {0}
+IsItemsRecord Single (suc ref) ws = Unit {0}
+IsItemsRecord Array (suc ref) ws = IsStoredList 1023 ws
+IsItemsRecord WeightedSet (suc ref) ws = IsStoredList 1023 ws
+
+-- what a document's reference reaches
+abbrev pub items_reach : Kind → ℕ → List ℕ → List ℕ
+items_reach kind zero ws = []
+items_reach Single (suc ref) ws = suc ref ∷ []
+items_reach Array (suc ref) ws = suc ref ∷ map (λ e. e.0) (weighted Array (suc ref) ws)
+items_reach WeightedSet (suc ref) ws = suc ref ∷ map (λ e. e.0) (weighted WeightedSet (suc ref) ws)
+
+-- the items of a document
+abbrev pub items_at : Kind → ValueType → Records → ℕ → List Item
+items_at kind type m ref = map (λ e. record { value = value_at type m e.0; weight = e.1 }) (weighted kind ref (m ref))
+
+-- their records have their form
+abbrev pub AreItems : Kind → ValueType → Records → ℕ → Type 0
+AreItems kind type m ref =
+    IsItemsRecord kind ref (m ref) × AllByRecursion (λ e. IsValueRecord type (m e.0)) (weighted kind ref (m ref))
+
+-- the table of a document tree
+abbrev pub documents_table : Kind → ValueType → Records → ℕ → Table
+documents_table kind type m root = map (λ p. (p.0, items_at kind type m p.1)) (tree_pairs m root)
+
+-- what it reaches besides its nodes
+abbrev pub documents_reach : Kind → Records → ℕ → List ℕ
+documents_reach kind m root = flat_map (λ p. items_reach kind p.1 (m p.1)) (tree_pairs m root)

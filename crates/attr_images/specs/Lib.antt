@@ -1,0 +1,9 @@
+pub mod Nodes
+pub mod Trees
+pub mod TreeFrames
+pub mod Words
+pub mod Values
+pub mod Documents
+pub mod Postings
+pub mod Images
+pub mod ImageFrames
