@@ -1,25 +1,24 @@
 -- Each front of a text that a survey has come through is the front of a query.
-use Rattle.std.proofs.Common.{◌≡◌, ◌<◌, ◌≤◌, ◌+◌, ◌-◌, ℕ, zero, suc, ℤ, pos, negsuc, List, [], ◌∷◌, ◌++◌, Bool, true, false, ◌&&◌, ◌==◌, nat_lt, Option, Some, None, IfSome, refl, sym, ap, ap₂, subst, ◌∙◌, append_assoc, append-nil, codes, arith}
+use Rattle.std.proofs.Common.{◌≡◌, ◌+◌, ◌-◌, ℕ, pos, negsuc, List, [], ◌∷◌, ◌++◌, true, false, nat_lt, Some, None, IfSome, refl, sym, ap, subst, ◌∙◌, append_assoc, append-nil, codes, arith}
 use Rattle.std.specs.Option.{option_and_then, option_map}
-use Rattle.std.specs.List.{flat_map, AllByRecursion}
+use Rattle.std.specs.List.{flat_map}
 use Rattle.std.proofs.lemmas.Grind.{flat_map-append}
 use Rattle.attr_types.specs.declared.kind.ValueType.{ValueType}
 use Rattle.attr_types.specs.declared.value.Value.{Value}
 use Rattle.attr_types.specs.declared.value.Value.TheVariants as values
 use Rattle.attr_types.specs.declared.query.Leaf.{Leaf}
 use Rattle.attr_types.specs.declared.query.Leaf.TheVariants as leaves
-use Rattle.attr_types.specs.Query.{QueryTree, QueryTrees, one, and, or, no_trees, tree, trees}
+use Rattle.attr_types.specs.Query.{QueryTree, one, and, or, no_trees, tree, trees}
 use Rattle.attr_types.specs.Value.{type_of}
 use Rattle.query_text.specs.declared.mode.Role.{Role}
-use Rattle.query_text.specs.declared.mode.Role.TheVariants as roles
 use Rattle.query_text.specs.declared.mode.Mode.{Mode}
 use Rattle.query_text.specs.declared.mode.Mode.TheVariants as modes
 use Rattle.query_text.specs.declared.survey.Survey.{Survey}
-use Rattle.query_text.specs.Grammar.{numeral, number_text, escaped, quoted, value_text, leaf_text, tree_text, list_text, IsFormed, IsFormedLeaf, IsQueryText, Continues}
+use Rattle.query_text.specs.Grammar.{numeral, escaped, quoted, value_text, leaf_text, tree_text, IsFormed, IsFormedLeaf, IsQueryText, Continues}
 use Rattle.query_text.specs.Modes.{next_mode}
-use Rattle.query_text.specs.Survey.{depth_after, entered, surveyed_after, ends_value, ends_query}
+use Rattle.query_text.specs.Survey.{depth_after, entered, ends_value, ends_query}
 use Rattle.query_text.proofs.Paths.{through}
-use Rattle.query_text.proofs.Fronts.{Stack, bottom, frame, word, with_comma, stack_text, stack_depth, StackFormed, Lead, alone, below, above, low, high, high_number, high_text, lead_text, bound_text, Partial, Front}
+use Rattle.query_text.proofs.Fronts.{Stack, bottom, frame, word, with_comma, stack_text, stack_depth, StackFormed, Lead, alone, below, above, low, high, high_number, high_text, lead_text, Partial, Front}
 use Rattle.query_text.proofs.Steps.{step, members_text, list_formed, joined_tree, joined_text, joined_formed}
 
 -- one byte more

@@ -1,25 +1,19 @@
 -- What a survey's mode tells of the text before it: the open lists, and what of a query has been read.
-use Rattle.std.proofs.Common.{◌≡◌, ◌≢◌, ◌<◌, ◌≤◌, ◌+◌, ◌-◌, ◌*◌, ◌/◌, ◌%◌, ◌^◌, ℕ, zero, suc, ℤ, pos, negsuc, List, [], ◌∷◌, ◌++◌, map, length, Bool, true, false, ◌&&◌, ◌||◌, ◌==◌, not, cond, eqb, nat_lt, nat_le, min, Option, Some, None, IfSome, refl, sym, ap, ap₂, subst, ◌∙◌, inl, inr, ◌⊎◌, append_assoc, append-nil, codes, arith}
+use Rattle.std.proofs.Common.{◌≡◌, ◌<◌, ◌+◌, ◌*◌, ◌/◌, ◌%◌, ℕ, ℤ, List, [], ◌∷◌, ◌++◌, map, Bool, true, false, cond, eqb, sym, ap, ap₂, ◌∙◌, inl, inr, codes, arith}
 use Rattle.std.specs.List.{flat_map, AllByRecursion}
 use Rattle.std.specs.Int.Digits.{digits_of}
 use Rattle.std.proofs.lemmas.Bool.Decides.{nat_tests, eqb_tells}
-use Rattle.std.proofs.lemmas.Grind.{flat_map-append}
 use Rattle.std.proofs.lemmas.Int.Digits.{digits_of_step}
 use Rattle.std.proofs.lemmas.List.{map-append}
 use Rattle.attr_types.specs.declared.kind.ValueType.{ValueType}
 use Rattle.attr_types.specs.declared.kind.ValueType.TheVariants as types
-use Rattle.attr_types.specs.declared.value.Value.{Value}
-use Rattle.attr_types.specs.declared.value.Value.TheVariants as values
-use Rattle.attr_types.specs.declared.query.Leaf.{Leaf}
-use Rattle.attr_types.specs.declared.query.Leaf.TheVariants as leaves
-use Rattle.attr_types.specs.Query.{QueryTree, QueryTrees, one, and, or, no_trees, tree, trees}
+use Rattle.attr_types.specs.Query.{QueryTree}
 use Rattle.query_text.specs.declared.mode.Role.{Role}
 use Rattle.query_text.specs.declared.mode.Role.TheVariants as roles
 use Rattle.query_text.specs.declared.mode.Mode.{Mode}
 use Rattle.query_text.specs.declared.mode.Mode.TheVariants as modes
-use Rattle.query_text.specs.Grammar.{numeral, number_text, escaped, quoted, value_text, leaf_text, tree_text, list_text, others_text, IsFormed, IsFormedList, AreFormed, IsFormedLeaf}
-use Rattle.query_text.specs.Modes.{next_mode, is_digit, capped, number_begun, text_begun, value_begun, query_begun, query_ended, number_ended, quoted_next, minus_next, number_next, text_next, escape_next, low_next, high_next, high_number_next, high_text_next, letter_next}
-use Rattle.query_text.specs.Survey.{depth_after}
+use Rattle.query_text.specs.Grammar.{numeral, number_text, escaped, quoted, tree_text, IsFormed}
+use Rattle.query_text.specs.Modes.{capped}
 
 -- the lists that are open, the innermost last, each with the members before the one that is read
 pub data Stack : Type 0 where

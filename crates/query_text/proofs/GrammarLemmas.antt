@@ -1,5 +1,5 @@
 -- What is read is what the grammar answers.
-use Rattle.std.proofs.Common.{◌≡◌, ◌<◌, ◌≤◌, ◌+◌, ℕ, zero, suc, List, [], ◌∷◌, ◌++◌, length, take, drop, Bool, true, false, ◌&&◌, ◌==◌, cond, eqb, nat_lt, max, Option, Some, None, Result, Ok, Err, refl, sym, ap, ap₂, subst, ◌∙◌, inl, inr, ◌⊎◌, add-one, append_assoc, append-nil, arith}
+use Rattle.std.proofs.Common.{◌≡◌, ◌<◌, ◌≤◌, ◌+◌, ℕ, zero, suc, List, [], ◌∷◌, ◌++◌, length, take, drop, Bool, true, false, cond, nat_lt, max, Option, Some, None, Result, Ok, Err, refl, sym, ap, ap₂, subst, ◌∙◌, inl, inr, add-one, append_assoc, append-nil, arith}
 use Rattle.std.specs.Option.{option_and_then}
 use Rattle.std.specs.List.{list_all}
 use Rattle.std.specs.Str.{IsUtf8}
@@ -12,13 +12,12 @@ use Rattle.attr_types.specs.declared.query.Query.{Query}
 use Rattle.attr_types.specs.declared.error.QueryError.{QueryError}
 use Rattle.attr_types.specs.declared.error.QueryError.TheVariants.{Syntax, WrongType, OutOfRange, TooDeep, Memory}
 use Rattle.attr_types.specs.Query.{QueryTree}
-use Rattle.query_text.specs.declared.mode.Mode.TheVariants as modes
 use Rattle.query_text.specs.declared.survey.Survey.{Survey}
-use Rattle.query_text.specs.Grammar.{tree_text, IsFormed, tree_values, is_of_type, is_in_range, levels_of, IsQueryText, Continues, StopsAt, Answers, AnswersAs}
+use Rattle.query_text.specs.Grammar.{tree_text, tree_values, is_of_type, is_in_range, levels_of, IsQueryText, Continues, StopsAt, Answers, AnswersAs}
 use Rattle.query_text.specs.Survey.{start, surveyed, surveyed_from, surveyed_after, is_whole, ends_query, on_next}
 use Rattle.query_text.specs.Parsing.{Says, query_of, judged, judged_if, found_in}
 use Rattle.query_text.specs.Reading.{query_at}
-use Rattle.query_text.specs.Laws.{ReadsByGrammar, AnswersOnce}
+use Rattle.query_text.specs.Laws.{ReadsByGrammar, AnswersOnce, IsOneQuery, ReadsBack}
 use Rattle.query_text.proofs.ReadBack.{query_read}
 use Rattle.query_text.proofs.Utf8Lemmas.{tree_readable}
 use Rattle.query_text.proofs.Paths.{through, through-append}
@@ -282,3 +281,13 @@ answers_once value text (Err (Syntax place)) utf8 stop =
           let found : (query : QueryTree) × IsQueryText text query = whole_query value text survey e in
           absurd (no_query text place found.0 stop found.1)
     ]) refl
+
+pub one_query : IsOneQuery
+one_query value text a b utf8 is is' =
+    let same : ◌≡◌ {A = Result QueryTree QueryError} (Ok a) (Ok b) =
+    sym (answers_once value text (Ok a) utf8 is) ∙ answers_once value text (Ok b) utf8 is' in
+    cc
+
+pub reads_back : ReadsBack
+reads_back value query utf8 formed right small deep =
+    answers_once value (tree_text query) (Ok query) utf8 (record { formed = formed; written = refl }, right, small, deep)

@@ -1,5 +1,5 @@
 -- Reading a list member by member.
-use Rattle.std.proofs.Common.{◌≡◌, ◌<◌, ◌≤◌, ◌≢◌, ◌+◌, ◌-◌, ℕ, zero, suc, List, [], ◌∷◌, ◌++◌, map, length, Bool, true, false, Option, Some, None, refl, sym, ap, ◌∙◌, append_assoc, arith}
+use Rattle.std.proofs.Common.{◌≡◌, ◌<◌, ◌≤◌, ◌+◌, ◌-◌, ℕ, zero, suc, List, [], ◌∷◌, ◌++◌, true, false, Option, Some, None, refl, sym, ap, ◌∙◌, append_assoc, arith}
 use Rattle.attr_types.specs.Query.{QueryTree}
 use Rattle.query_text.specs.declared.read.ReadError.{ReadError}
 use Rattle.query_text.specs.declared.read.ReadError.TheVariants as errors

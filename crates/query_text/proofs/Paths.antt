@@ -1,5 +1,5 @@
 -- Where a survey comes to over the text of a query.
-use Rattle.std.proofs.Common.{◌≡◌, ◌≢◌, ◌<◌, ◌≤◌, ◌+◌, ◌-◌, ◌*◌, ◌/◌, ◌%◌, ◌^◌, ℕ, zero, suc, ℤ, pos, negsuc, List, [], ◌∷◌, ◌++◌, map, length, Bool, true, false, ◌&&◌, cond, eqb, nat_lt, nat_le, min, max, Option, Some, None, refl, sym, ap, ap₂, subst, ◌∙◌, not, inl, inr, ◌⊎◌, ◌==◌, ◌||◌, append_assoc, append-nil, zero-add, codes, arith}
+use Rattle.std.proofs.Common.{◌≡◌, ◌<◌, ◌≤◌, ◌+◌, ◌-◌, ◌*◌, ◌/◌, ◌%◌, ◌^◌, ℕ, zero, suc, ℤ, pos, negsuc, List, [], ◌∷◌, ◌++◌, map, length, Bool, true, false, ◌&&◌, cond, eqb, nat_lt, nat_le, max, Option, Some, None, refl, sym, ap, ap₂, subst, ◌∙◌, not, inl, inr, ◌⊎◌, ◌==◌, ◌||◌, append_assoc, append-nil, zero-add, arith}
 use Rattle.std.specs.Option.{option_and_then, option_map}
 use Rattle.std.specs.List.{flat_map}
 use Rattle.std.specs.Int.Digits.{digits_of}

@@ -1,9 +1,8 @@
 -- What is written is read back.
-use Rattle.std.proofs.Common.{◌≡◌, ◌≢◌, ◌<◌, ◌≤◌, ◌+◌, ◌-◌, ◌*◌, ◌/◌, ◌%◌, ◌^◌, ℕ, zero, suc, ℤ, pos, negsuc, List, [], ◌∷◌, ◌++◌, map, length, Bool, true, false, ◌&&◌, ◌||◌, ◌==◌, not, cond, eqb, nat_lt, nat_le, max, Option, Some, None, refl, sym, ap, ap₂, subst, ◌∙◌, inl, inr, ◌⊎◌, append_assoc, append-nil, add-one, codes, arith}
+use Rattle.std.proofs.Common.{◌≡◌, ◌<◌, ◌≤◌, ◌+◌, ◌-◌, ◌*◌, ◌/◌, ◌%◌, ◌^◌, ℕ, zero, suc, ℤ, pos, negsuc, List, [], ◌∷◌, ◌++◌, map, length, true, false, ◌||◌, ◌==◌, cond, eqb, nat_lt, Option, Some, None, refl, sym, ap, ap₂, ◌∙◌, inl, inr, append_assoc, append-nil, add-one, codes, arith}
 use Rattle.std.specs.Option.{option_map}
-use Rattle.std.specs.List.{flat_map, list_all}
+use Rattle.std.specs.List.{flat_map}
 use Rattle.std.specs.Int.Digits.{digits_of}
-use Rattle.std.specs.Str.{is_utf8}
 use lib.IntN.{neg_ℤ}
 use Rattle.std.proofs.lemmas.Bool.Decides.{nat_tests, eqb_tells}
 use Rattle.std.proofs.lemmas.List.{length-append}
@@ -12,10 +11,9 @@ use Rattle.attr_types.specs.declared.value.Value.TheVariants as values
 use Rattle.attr_types.specs.declared.query.Leaf.{Leaf}
 use Rattle.attr_types.specs.declared.query.Leaf.TheVariants as leaves
 use Rattle.attr_types.specs.Query.{QueryTree, QueryTrees, one, and, or, no_trees, tree, trees}
-use Rattle.query_text.specs.Grammar.{numeral, number_text, escaped, quoted, value_text, option_text, leaf_text, tree_text, list_text, others_text, IsFormed, IsFormedList, AreFormed, leaf_values, tree_values, list_values, is_in_range, levels_of, list_levels}
+use Rattle.query_text.specs.Grammar.{numeral, number_text, escaped, quoted, value_text, option_text, leaf_text, tree_text, list_text, others_text, IsFormed, IsFormedList, is_in_range, levels_of, list_levels}
 use Rattle.query_text.specs.Modes.{is_digit, capped}
-use Rattle.query_text.specs.Survey.{is_long_size}
-use Rattle.query_text.specs.Reading.{◌>>=◌, after, digits_at, signed, number_of, signed_at, number_at, with_byte, bytes_at, is_text, text_at, value_of, value_at, end_of, end_at, range_at, starred, whole_of, whole_at, leaf_of, leaf_at, and_at, or_at, mark_of, mark_at, with_tree, marked, listed, list_at, query_by, query_with, query_at}
+use Rattle.query_text.specs.Reading.{◌>>=◌, after, digits_at, number_of, signed_at, number_at, with_byte, bytes_at, is_text, text_at, value_of, value_at, end_of, end_at, range_at, starred, whole_of, whole_at, leaf_of, leaf_at, and_at, or_at, mark_at, with_tree, listed, list_at, query_by, query_with, query_at}
 use Rattle.query_text.proofs.Paths.{digits_by_steps, capped_digit, size_of_negative}
 
 -- no value goes on with this

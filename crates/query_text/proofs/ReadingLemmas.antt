@@ -1,5 +1,5 @@
 -- Reading byte by byte.
-use Rattle.std.proofs.Common.{◌≡◌, ◌<◌, ◌≤◌, ◌+◌, ◌-◌, ◌*◌, ℕ, suc, List, [], ◌∷◌, ◌++◌, length, get_or, drop, take, Bool, true, false, Option, Some, None, refl, sym, ap, ap₂, ◌∙◌, cond, eqb, add-one, drop-cons, append_assoc, eq-eqb}
+use Rattle.std.proofs.Common.{◌≡◌, ◌<◌, ◌≤◌, ◌+◌, ◌-◌, ◌*◌, ℕ, List, [], ◌∷◌, ◌++◌, length, get_or, drop, take, Bool, true, false, Option, Some, None, refl, sym, ap, ap₂, ◌∙◌, cond, eqb, add-one, drop-cons, append_assoc, eq-eqb}
 use Rattle.std.proofs.lemmas.List.{drop_all, take_rest}
 use Rattle.std.proofs.lemmas.Bool.{ne_eqb}
 use Rattle.query_text.specs.Modes.{is_digit, capped}

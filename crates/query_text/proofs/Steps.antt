@@ -1,21 +1,20 @@
 -- One byte more: what was read before a mode, with the byte, is what was read before the next mode.
-use Rattle.std.proofs.Common.{◌≡◌, ◌≢◌, ◌<◌, ◌≤◌, ◌+◌, ◌-◌, ◌*◌, ◌^◌, ℕ, zero, suc, ℤ, pos, negsuc, List, [], ◌∷◌, ◌++◌, Bool, true, false, ◌&&◌, ◌||◌, ◌==◌, not, cond, eqb, nat_lt, nat_le, Option, Some, None, IfSome, refl, sym, ap, ap₂, subst, ◌∙◌, inl, inr, ◌⊎◌, append_assoc, append-nil, codes, arith}
+use Rattle.std.proofs.Common.{◌≡◌, ◌<◌, ◌≤◌, ◌+◌, ◌-◌, ◌*◌, ℕ, ℤ, pos, negsuc, List, [], ◌∷◌, ◌++◌, Bool, true, false, ◌&&◌, ◌||◌, ◌==◌, not, cond, eqb, nat_lt, nat_le, Option, Some, None, IfSome, refl, sym, ap, ap₂, subst, ◌∙◌, inl, inr, append_assoc, append-nil, codes, arith}
 use Rattle.std.specs.List.{flat_map, AllByRecursion}
 use Rattle.std.proofs.lemmas.Bool.Decides.{nat_tests, eqb_tells}
 use Rattle.std.proofs.lemmas.Grind.{flat_map-append}
-use Rattle.attr_types.specs.declared.kind.ValueType.{ValueType}
 use Rattle.attr_types.specs.declared.kind.ValueType.TheVariants as types
 use Rattle.attr_types.specs.declared.value.Value.TheVariants as values
 use Rattle.attr_types.specs.declared.query.Leaf.TheVariants as leaves
-use Rattle.attr_types.specs.Query.{QueryTree, QueryTrees, one, and, or, no_trees, tree, trees}
+use Rattle.attr_types.specs.Query.{QueryTree, QueryTrees, one, and, or, trees}
 use Rattle.query_text.specs.declared.mode.Role.{Role}
 use Rattle.query_text.specs.declared.mode.Role.TheVariants as roles
 use Rattle.query_text.specs.declared.mode.Mode.{Mode}
 use Rattle.query_text.specs.declared.mode.Mode.TheVariants as modes
 use Rattle.query_text.specs.Grammar.{numeral, number_text, escaped, quoted, tree_text, list_text, others_text, IsFormed, IsFormedList, AreFormed}
-use Rattle.query_text.specs.Modes.{next_mode, is_digit, capped, number_begun, text_begun, value_begun, query_begun, query_ended, number_ended, quoted_next, letter_next}
+use Rattle.query_text.specs.Modes.{next_mode, is_digit, capped, number_begun, value_begun, query_begun, query_ended, number_ended, quoted_next, letter_next}
 use Rattle.query_text.specs.Survey.{depth_after}
-use Rattle.query_text.proofs.Fronts.{Stack, bottom, frame, word, with_comma, stack_text, stack_depth, StackFormed, Lead, alone, below, above, low, high, high_number, high_text, lead_text, bound_text, Partial, Front, numeral_pushed, numeral_digit}
+use Rattle.query_text.proofs.Fronts.{Stack, bottom, frame, word, with_comma, stack_text, stack_depth, StackFormed, Lead, alone, below, above, low, high, high_number, high_text, lead_text, Partial, Front, numeral_pushed, numeral_digit}
 
 -- with the byte, the next mode is reached
 abbrev Goes : Stack → List ℕ → ℕ → Option Mode → Type 0

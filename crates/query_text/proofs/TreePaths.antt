@@ -1,5 +1,5 @@
 -- Where a survey comes to over the text of a query.
-use Rattle.std.proofs.Common.{◌≡◌, ◌<◌, ◌≤◌, ◌+◌, ◌-◌, ℕ, ℤ, pos, negsuc, List, [], ◌∷◌, ◌++◌, Bool, true, false, ◌&&◌, nat_lt, max, Option, Some, None, refl, sym, ap, ◌∙◌, append_assoc, arith, codes}
+use Rattle.std.proofs.Common.{◌≡◌, ◌<◌, ◌≤◌, ◌+◌, ℕ, pos, negsuc, List, [], ◌∷◌, ◌++◌, Bool, true, false, ◌&&◌, nat_lt, max, Option, Some, refl, sym, ap, ◌∙◌, arith, codes}
 use Rattle.std.specs.Option.{option_and_then, option_map}
 use Rattle.std.specs.List.{list_all}
 use Rattle.std.proofs.lemmas.Bool.Decides.{nat_tests}
@@ -15,7 +15,7 @@ use Rattle.query_text.specs.declared.mode.Mode.TheVariants as modes
 use Rattle.query_text.specs.declared.survey.Survey.{Survey}
 use Rattle.query_text.specs.Grammar.{tree_text, list_text, others_text, IsFormed, IsFormedList, AreFormed, tree_values, list_values, is_of_type, is_in_range, levels_of, list_levels}
 use Rattle.query_text.specs.Modes.{next_mode}
-use Rattle.query_text.specs.Survey.{entered, surveyed_after, ends_query}
+use Rattle.query_text.specs.Survey.{entered, ends_query}
 use Rattle.query_text.proofs.Paths.{through, through-append, Path, one_byte, joined, Begins}
 use Rattle.query_text.proofs.LeafPaths.{leaf_path, leaf_mode}
 

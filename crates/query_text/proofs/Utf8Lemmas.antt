@@ -1,7 +1,7 @@
 -- The texts in a query's text are UTF-8 where the whole is.
-use Rattle.std.proofs.Common.{◌≡◌, ◌<◌, ◌≤◌, ◌+◌, ℕ, List, [], ◌∷◌, ◌++◌, length, take, drop, get_or, Bool, true, false, ◌&&◌, ◌||◌, ◌==◌, cond, eqb, Option, Some, None, option_to_list, refl, sym, ap, ap₂, subst, ◌∙◌, append_assoc, append-nil, codes, arith}
+use Rattle.std.proofs.Common.{◌≡◌, ◌<◌, ◌+◌, ℕ, List, [], ◌∷◌, ◌++◌, length, get_or, Bool, true, false, ◌&&◌, ◌||◌, ◌==◌, cond, Option, Some, None, option_to_list, refl, sym, ap₂, subst, ◌∙◌, append_assoc, append-nil, codes, arith}
 use Rattle.std.specs.List.{flat_map, list_all}
-use Rattle.std.specs.Str.{IsUtf8, is_utf8}
+use Rattle.std.specs.Str.{IsUtf8}
 use Rattle.std.proofs.Math.Seq.{take-append_seam, drop-append-add, get_or-append_seam}
 use Rattle.std.proofs.lemmas.Bool.Decides.{nat_tests}
 use Rattle.std.proofs.lemmas.List.{length-append}
@@ -13,7 +13,7 @@ use Rattle.attr_types.specs.declared.value.Value.TheVariants as values
 use Rattle.attr_types.specs.declared.query.Leaf.{Leaf}
 use Rattle.attr_types.specs.declared.query.Leaf.TheVariants as leaves
 use Rattle.attr_types.specs.Query.{QueryTree, QueryTrees, one, and, or, no_trees, tree}
-use Rattle.query_text.specs.Grammar.{escaped, quoted, value_text, option_text, leaf_text, tree_text, list_text, others_text, leaf_values, tree_values, list_values, is_in_range}
+use Rattle.query_text.specs.Grammar.{escaped, quoted, value_text, option_text, leaf_text, tree_text, list_text, leaf_values, tree_values, list_values, is_in_range}
 use Rattle.query_text.proofs.ReadBack.{IsReadable, IsReadableEnd, IsReadableLeaf, IsReadableTree, AreReadable}
 
 -- a text may be cut at a byte below 128

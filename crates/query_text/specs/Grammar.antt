@@ -1,5 +1,5 @@
 -- The grammar of queries: the one text that each query is written as, and which trees have one.
-use Rattle.std.specs.Prelude.{◌≡◌, ◌<◌, ◌≤◌, ℕ, ℤ, pos, negsuc, ◌+◌, ◌^◌, ◌==◌, Bool, true, false, ◌&&◌, ◌||◌, nat_lt, nat_le, max, List, [], ◌∷◌, ◌++◌, map, length, take, codes, if◌then◌else◌, Option, Some, None, option_to_list, Result, Ok, Err}
+use Rattle.std.specs.Prelude.{◌≡◌, ◌<◌, ◌≤◌, ℕ, ℤ, pos, negsuc, ◌+◌, ◌^◌, ◌==◌, Bool, true, false, ◌||◌, nat_lt, nat_le, max, List, [], ◌∷◌, ◌++◌, map, length, take, codes, if◌then◌else◌, Option, Some, None, option_to_list, Result, Ok, Err}
 use Rattle.std.specs.List.{flat_map, list_all}
 use Rattle.std.specs.Int.Digits.{digits_of}
 use Rattle.attr_types.specs.declared.kind.ValueType.{ValueType}

@@ -1,7 +1,7 @@
 ghost use Rattle.std.specs.Prelude.{◌≡◌};
 ghost use Rattle.query_text.specs.Parsing.{Says, query_of};
 ghost use Rattle.query_text.specs.Grammar.{AnswersAs};
-ghost use Rattle.query_text.specs.Laws.{ReadsByGrammar, AnswersOnce};
+ghost use Rattle.query_text.specs.Laws.{ReadsByGrammar, AnswersOnce, IsOneQuery, ReadsBack};
 
 use crate::list::query_in;
 use crate::read::ReadError;
@@ -49,8 +49,11 @@ fn read_query(alloc: Global, text: &str, value: ValueType) -> Result<Query, Quer
     }
 }
 
-/// The grammar answers one thing of each text, and that is what is read.
+/// The grammar answers one thing of each text, and that is what is read. Each lawful query has a
+/// text, and no text is two queries.
 pub fn grammar_law()
     ensures reads { ReadsByGrammar }
     ensures once { AnswersOnce }
+    ensures one { IsOneQuery }
+    ensures back { ReadsBack }
 {}

@@ -1,4 +1,4 @@
-use Rattle.std.proofs.Common.{rules, arith, ◌≡◌, ◌∙◌, ◌<◌, ◌≤◌, ◌+◌, ◌-◌, length, map, true, false, Some, None, List, [], ◌∷◌, ◌++◌, sym, ap, ap₂}
+use Rattle.std.proofs.Common.{rules, ◌≡◌, ◌∙◌, ◌+◌, ◌-◌, length, map, Some, [], ◌∷◌, ◌++◌, sym, ap}
 use Rattle.std.proofs.lemmas.List.{map-append}
 use Rattle.attr_types.specs.Query.{tree_of}
 use Rattle.query_text.specs.Reading.{list_at, query_at}

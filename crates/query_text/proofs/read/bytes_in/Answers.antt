@@ -1,4 +1,4 @@
-use Rattle.std.proofs.Common.{◌≡◌, ◌∙◌, ◌<◌, ◌≤◌, ◌+◌, ◌-◌, true, false, Some, length, drop, take, get_or, [], ◌∷◌, ◌++◌, sym, ap, ap₂, refl, rules, append-nil}
+use Rattle.std.proofs.Common.{◌≡◌, ◌∙◌, ◌<◌, ◌≤◌, ◌+◌, false, Some, length, drop, get_or, [], ◌∷◌, ◌++◌, sym, ap, ap₂, refl, rules, append-nil}
 use Rattle.std.proofs.lemmas.List.{take_rest}
 use Rattle.query_text.specs.Reading.{bytes_at}
 use Rattle.query_text.proofs.ReadingLemmas.{after_front, after_front-byte, bytes_at-quote, bytes_at-escape, bytes_at-byte, bytes_at-escaped, bytes_at-end}

@@ -1,5 +1,5 @@
-use Rattle.std.proofs.Common.{rules, arith, ◌≡◌, ◌∙◌, ◌<◌, ◌≤◌, ◌+◌, ◌-◌, ◌*◌, sym, ap, ap₂, refl, true, false, length, drop, get_or}
-use Rattle.query_text.specs.Modes.{is_digit, capped}
+use Rattle.std.proofs.Common.{rules, ◌≡◌, ◌∙◌, ◌<◌, ◌≤◌, ◌+◌, ◌-◌, ◌*◌, sym, ap, ap₂, refl, length, drop, get_or}
+use Rattle.query_text.specs.Modes.{capped}
 use Rattle.query_text.specs.Reading.{digits_at}
 use Rattle.query_text.proofs.ReadingLemmas.{digits_at-more, digits_at-stop, digits_at-end}
 use Rattle.query_text.proofs.read.digits_in.Goals as goal

@@ -1,4 +1,4 @@
-use Rattle.std.proofs.Common.{◌≡◌, ◌∙◌, ◌≤◌, Bool, true, false, ◌&&◌, Some, None, cond, length, nat_le, sym, ap, ap₂, arith, refl, rules}
+use Rattle.std.proofs.Common.{◌≡◌, ◌∙◌, true, ◌&&◌, Some, None, cond, length, nat_le, sym, ap, ap₂, arith}
 use Rattle.std.specs.Str.{is_utf8}
 use Rattle.std.proofs.lemmas.Str.{is_utf8-from_IsUtf8, IsUtf8-from_is_utf8}
 use Rattle.std.proofs.lemmas.Bool.{false_from_ne_true}
