@@ -1,5 +1,5 @@
 -- What the calls of a work ask and change.
-use Rattle.std.specs.Prelude.{◌≡◌, ℕ, ◌+◌, ◌<◌, ◌≤◌, ◌&&◌, true, false, nat_eq, if◌then◌else◌, List, [], ◌∷◌, ◌++◌, None, Some}
+use Rattle.std.specs.Prelude.{◌-◌, replicate, length, ◌≡◌, ℕ, ◌+◌, ◌<◌, ◌≤◌, ◌&&◌, true, false, nat_eq, if◌then◌else◌, List, [], ◌∷◌, ◌++◌, None, Some}
 use Rattle.std.specs.List.{AllByRecursion}
 use Rattle.entry_ref.specs.References.{buffer_of}
 use Rattle.image_base.specs.declared.Image.{Image}
@@ -67,7 +67,11 @@ pub record MayStore {H : Type 0} (work : WorkView H) (r i : ℕ) : Type 0 where
 abbrev pub with_stored : Stored → ℕ → ℕ → ℕ → Stored
 with_stored stored r i word q j = if nat_eq q r && nat_eq j i then Some word else stored q j
 
--- nothing is
+-- words with zeros after them
+abbrev pub padded : List ℕ → ℕ → List ℕ
+padded words width = words ++ replicate (width - length words) 0
+
+-- nothing is stored
 abbrev pub nothing_stored : Stored
 nothing_stored r i = None
 

@@ -5,3 +5,4 @@ pub mod Standing
 pub mod Stamped
 pub mod Reached
 pub mod Laws
+pub mod OneRecord

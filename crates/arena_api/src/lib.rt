@@ -5,8 +5,15 @@
 mod cells;
 mod frozen;
 mod memory;
+mod one_record;
+mod record;
 mod work;
 
 pub use frozen::Frozen;
 pub use memory::MemWork;
+pub use one_record::OneRecord;
+pub use record::put_record;
 pub use work::Work;
+
+#[cfg(test)]
+mod tests;

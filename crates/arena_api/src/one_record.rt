@@ -1,0 +1,21 @@
+use image_base::Layout;
+
+/// The layout whose root is one record, for tests and benchmarks.
+pub struct OneRecord;
+
+impl Layout for OneRecord {
+    ghost use Rattle.std.specs.Prelude.{refl};
+    ghost use Rattle.arena_api.specs.OneRecord.{one_reaches, IsOneRecord, one_present, one_stays};
+
+    ghost reaches = { one_reaches };
+
+    ghost lawful = { IsOneRecord };
+
+    ghost empty_reaches = { λ shape m. refl };
+
+    ghost empty_lawful = { λ shape m. tt };
+
+    ghost present = { one_present };
+
+    ghost stays = { one_stays };
+}
