@@ -1,0 +1,2 @@
+pub mod StackSteps
+pub mod Settling

@@ -1,0 +1,56 @@
+use Rattle.std.proofs.Common.{◌≡◌, ℕ, ◌<◌, ◌≤◌, ◌+◌, Bool, true, false, not, cond, List, [], ◌∷◌, ◌++◌, length, refl, sym, ap, subst, ◌∙◌, arith, length-append}
+use Rattle.std.proofs.Math.ListN.{length-set}
+use Rattle.std.proofs.lemmas.List.{get_or_read}
+use Rattle.std.proofs.lemmas.Bool.{not-true}
+use Rattle.entry_shelf.specs.declared.state.State.{State}
+use Rattle.entry_shelf.specs.declared.state.State.TheVariants.{Free, Made}
+use Rattle.entry_shelf.specs.States.{is_free, is_touched, state_at}
+use Rattle.entry_shelf.specs.Stacks.{IsStack}
+use Rattle.entry_shelf.proofs.StackSteps.{stack-room, stack-enter, stack-pop, stack-top, stack-none, stack-some, length-choice}
+use Rattle.entry_shelf.proofs.shelf.Shelf.take.Goals as goal
+
+pub enter-requires-clause-room : goal.enter-requires-clause-room
+enter-requires-clause-room c e =
+    let s = c.self.inside in
+    let k = c.self.invariant in
+    let top = stack-top is_free s.states.items s.free_places.items c.pop.new.self.items c.in-Some.entry
+      (subst (IsStack is_free s.states.items s.free_places.items) c.in-Some.ensures.items k.free_is) in
+    let state = get_or_read s.states.items c.in-Some.entry _ top.0 c.index-state.ensures Free in
+    let was : is_touched (state_at s.states.items c.in-Some.entry) ≡ false = ap is_touched (sym state) ∙ sym c.is_touched.ensures ∙ not-true _ e in
+    let less = stack-room is_touched s.states.items s.touched_places.items s.touched.items k.touched_is c.in-Some.entry Made top.0 was refl in
+    omega (arith, less, s.touched.ok.0, k.taken, k.room4)
+
+pub invariant_of-self : goal.invariant_of-self
+invariant_of-self c =
+    let s = c.self.inside in
+    let k = c.self.invariant in
+    let free = subst (IsStack is_free s.states.items s.free_places.items) c.in-Some.ensures.items k.free_is in
+    let top = stack-top is_free s.states.items s.free_places.items c.pop.new.self.items c.in-Some.entry free in
+    let state = get_or_read s.states.items c.in-Some.entry _ top.0 c.index-state.ensures Free in
+    let touched = stack-enter is_touched s.states.items s.touched_places.items s.touched.items k.touched_is c.in-Some.entry Made top.0 k.long2 refl c.is_touched.result (c.is_touched.ensures ∙ ap is_touched state) in
+    let long = length-set {A = State} s.states.items c.in-Some.entry Made in
+    record {
+      taken = omega (arith, long, k.taken);
+      fits = k.fits;
+      long1 = k.long1 ∙ sym long;
+      long2 = ap length c.enter.ensures.places ∙ length-choice (not c.is_touched.result) s.touched_places.items c.in-Some.entry (length s.touched.items) ∙ k.long2 ∙ sym long;
+      free_is = stack-pop is_free s.states.items s.free_places.items c.pop.new.self.items c.in-Some.entry free Made refl;
+      touched_is = rw (c.enter.ensures.stack, c.enter.ensures.places) touched;
+      room1 = k.room1;
+      room2 = omega (arith, k.room2, c.pop.ensures.capacity);
+      room3 = k.room3;
+      room4 = omega (arith, k.room4, c.enter.ensures.capacity);
+      room5 = omega (arith, k.room5, c.enter.ensures.room);
+    }
+
+pub invariant_of-self-2 : goal.invariant_of-self-2
+invariant_of-self-2 c =
+    let s = c.self.inside in
+    let k = c.self.invariant in
+    let none = c.in_default.ensures.cases in
+    let left : c.pop.new.self.items ≡ s.free.items = ? in
+    let size : c.len.result ≡ length s.touched.items = c.len.ensures ∙ s.touched.ok.0 in
+    let entry : c.len-entry.result ≡ length s.states.items = c.len-entry.ensures ∙ s.states.ok.0 in
+    let free = stack-none is_free s.states.items s.free_places.items s.free.items k.free_is Made 0 refl k.long1 in
+    let touched = stack-some is_touched s.states.items s.touched_places.items s.touched.items k.touched_is Made refl k.long2 in
+    ?
