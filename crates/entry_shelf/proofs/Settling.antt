@@ -1,6 +1,7 @@
 -- What the states say of each other, and the end of a unit.
 use Rattle.std.proofs.Common.{◌≡◌, ℕ, ◌+◌, ◌<◌, Bool, true, false, not, cond, nat_eq, zero, suc, List, [], ◌∷◌, map, length, get_or, set, refl, sym, ap, ◌∙◌, arith}
 use Rattle.std.specs.List.{count_by}
+use Rattle.std.proofs.lemmas.List.Sums.{sum_by-cons}
 use Rattle.entry_shelf.specs.declared.state.State.{State}
 use Rattle.entry_shelf.specs.declared.state.State.TheVariants.{Free, Returned, Made, InUse, LetGo, DroppedNow, Dropped}
 use Rattle.entry_shelf.specs.States.{is_free, is_touched, is_used, dropped, accepted, undone, settled, state_at}
@@ -88,7 +89,7 @@ map-settled accepts last (s ∷ states) (suc x) = ap (λ l. settled accepts last
 -- where none is touched, settling changes nothing
 pub settled-all : (accepts : Bool) (last : ℕ) (states : List State) → count_by is_touched states ≡ 0 → map (settled accepts last) states ≡ states
 settled-all accepts last [] none = refl
-settled-all accepts last (s ∷ states) none = by_test (is_touched s) refl none (settled-all accepts last states)
+settled-all accepts last (s ∷ states) none = by_test (is_touched s) refl (sym (sum_by-cons (λ t. cond (is_touched t) 1 0) s states) ∙ none) (settled-all accepts last states)
   where
     by_test : (t : Bool) → is_touched s ≡ t → cond t 1 0 + count_by is_touched states ≡ 0 → (count_by is_touched states ≡ 0 → map (settled accepts last) states ≡ states)
         → settled accepts last s ∷ map (settled accepts last) states ≡ s ∷ states

@@ -162,3 +162,11 @@ stack-le test states places stack s = omega (arith, s.count, count_by-le-length 
 pub length-choice : (b : Bool) (places : List ℕ) (x y : ℕ) → length (cond b (set places x y) places) ≡ length places
 length-choice true places x y = length-set {A = ℕ} places x y
 length-choice false places x y = refl
+
+-- a list of no length
+pub empty-from : (xs : List ℕ) → length xs ≡ 0 → xs ≡ []
+empty-from [] none = refl
+empty-from (x ∷ xs) none = absurd (omega (arith, none))
+
+pub length-one_more : {A : Type 0} (xs : List A) (x : A) → length (xs ++ x ∷ []) ≡ length xs + 1
+length-one_more xs x = length-append xs (x ∷ [])

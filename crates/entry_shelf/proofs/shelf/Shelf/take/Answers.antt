@@ -6,7 +6,7 @@ use Rattle.entry_shelf.specs.declared.state.State.{State}
 use Rattle.entry_shelf.specs.declared.state.State.TheVariants.{Free, Made}
 use Rattle.entry_shelf.specs.States.{is_free, is_touched, state_at}
 use Rattle.entry_shelf.specs.Stacks.{IsStack}
-use Rattle.entry_shelf.proofs.StackSteps.{stack-room, stack-enter, stack-pop, stack-top, stack-none, stack-some, length-choice}
+use Rattle.entry_shelf.proofs.StackSteps.{stack-room, stack-enter, stack-pop, stack-top, stack-none, stack-some, length-choice, empty-from, length-one_more}
 use Rattle.entry_shelf.proofs.shelf.Shelf.take.Goals as goal
 
 pub enter-requires-clause-room : goal.enter-requires-clause-room
@@ -48,9 +48,25 @@ invariant_of-self-2 c =
     let s = c.self.inside in
     let k = c.self.invariant in
     let none = c.in_default.ensures.cases in
-    let left : c.pop.new.self.items ≡ s.free.items = ? in
+    let left : c.pop.new.self.items ≡ s.free.items =
+      empty-from _ (omega (arith, none.1, c.pop.new.self.ok.0)) ∙ sym (empty-from s.free.items (omega (arith, none.0, s.free.ok.0))) in
     let size : c.len.result ≡ length s.touched.items = c.len.ensures ∙ s.touched.ok.0 in
     let entry : c.len-entry.result ≡ length s.states.items = c.len-entry.ensures ∙ s.states.ok.0 in
     let free = stack-none is_free s.states.items s.free_places.items s.free.items k.free_is Made 0 refl k.long1 in
     let touched = stack-some is_touched s.states.items s.touched_places.items s.touched.items k.touched_is Made refl k.long2 in
-    ?
+    let long = ap length c.put.ensures.items ∙ length-one_more s.states.items Made in
+    let long1 = ap length c.put-2.ensures.items ∙ length-one_more s.free_places.items 0 in
+    let long2 = ap length c.put-3.ensures.items ∙ length-one_more s.touched_places.items c.len.result in
+    record {
+      taken = omega (arith, long, entry, k.taken, c.if-entry-self.false);
+      fits = k.fits;
+      long1 = omega (arith, long, long1, k.long1);
+      long2 = omega (arith, long, long2, k.long2);
+      free_is = rw (c.put.ensures.items, c.put-2.ensures.items, left) free;
+      touched_is = rw (c.put.ensures.items, c.put-3.ensures.items, c.put-4.ensures.items, size, entry) touched;
+      room1 = omega (arith, k.room1, c.put.ensures.capacity);
+      room2 = omega (arith, k.room2, c.pop.ensures.capacity);
+      room3 = omega (arith, k.room3, c.put-2.ensures.capacity);
+      room4 = omega (arith, k.room4, c.put-4.ensures.capacity);
+      room5 = omega (arith, k.room5, c.put-3.ensures.capacity);
+    }
