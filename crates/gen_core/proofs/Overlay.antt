@@ -14,7 +14,7 @@ use Rattle.gen_core.specs.declared.views.Sizes.{Sizes}
 use Rattle.gen_core.specs.declared.views.WriterView.{WriterView}
 use Rattle.gen_core.specs.Views.{active_in, last_image}
 use Rattle.gen_core.specs.Work.{work_at, place_in, IsWhole, prepend, run_at, is_entry, only_if, whole_by, whole_at, overlay, next_image}
-use Rattle.gen_core.specs.Good.{State, IsPlaced, Avoids, Good}
+use Rattle.gen_core.specs.Good.{State, IsPlaced, IsApart, Avoids, Good}
 use Rattle.gen_core.specs.Events.{stored, published}
 use Rattle.gen_core.proofs.Lists.{all_found}
 use Rattle.gen_core.proofs.Work.{is_entry-true, whole-found, overlay-found}
@@ -127,5 +127,6 @@ module _ (reaches : ℕ → Records → ℕ → List ℕ) (lawful : ℕ → Reco
           let long : length xs ≡ length ws = some-same _ _ (sym (active-width w.buffers _ _ h.active) ∙ placed.width) in
           let p : ℕ = place_in w.sizes (length xs) ref 0 in
           let stored_word = g.frozen.stored p _ (h.words 0 h.entry.wide) in
-          let far = all_found (λ entry. (i : ℕ) → i < length entry.1 → place_in w.sizes (length entry.1) entry.0 i ≢ p) (last_image w.commits).records ref ws (last_kept reaches lawful s (Avoids w.sizes p) g stored_word.apart) there in
-          absurd (far 0 placed.inside.wide (ap (λ n. place_in w.sizes n ref 0) (sym long)))
+          let far = all_found (λ entry. IsApart w.sizes p (length entry.1) entry.0) (last_image w.commits).records ref ws
+              (last_kept reaches lawful s (Avoids w.sizes p) g stored_word.apart).records there in
+          absurd (far.each 0 placed.inside.wide (ap (λ n. place_in w.sizes n ref 0) (sym long)))

@@ -96,7 +96,7 @@ module _ (reaches : ℕ → Records → ℕ → List ℕ) (lawful : ℕ → Reco
         frozen = record { records = g.frozen.records; stored = λ q m there. place q m (eqb q p) refl there };
         names = names-set g.names p n (omega (arith, g.sizes.count));
         memory = record {
-          records = records-set z s.words (kept_of s.writer) p n may.apart g.memory.records;
+          records = records-set z s.words (kept_of s.writer) p n (λ k d lt l e less. ((may.apart k d lt).records l e less).each) g.memory.records;
           stored = λ q m there. word q m (eqb q p) refl there;
           widths = λ b width is some. get_or-set_other s.words p (base z.buffers z.words b) n 0 (λ e. behind-base z p b at (sym e)) ∙ g.memory.widths b width is some;
         };

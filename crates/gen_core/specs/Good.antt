@@ -90,9 +90,13 @@ pub record InActive (z : Sizes) (buffers : List Buffer) (p : ℕ) : Type 0 where
   pub inside : x < z.words
   pub is : p ≡ base z.buffers z.words b + x
 
+-- no word of a record of this width stands there
+pub record IsApart (z : Sizes) (p width ref : ℕ) : Type 0 where
+  pub each : (i : ℕ) → i < width → place_in z width ref i ≢ p
+
 -- no word of the image stands there
-abbrev pub Avoids : Sizes → ℕ → Image → Type 0
-Avoids z p image = All (λ entry. (i : ℕ) → i < length entry.1 → place_in z (length entry.1) entry.0 i ≢ p) image.records
+pub record Avoids (z : Sizes) (p : ℕ) (image : Image) : Type 0 where
+  pub records : All (λ entry. IsApart z p (length entry.1) entry.0) image.records
 
 pub record IsWorkPlace (z : Sizes) (buffers : List Buffer) (kept : List Image) (p : ℕ) : Type 0 where
   pub active : InActive z buffers p
