@@ -20,7 +20,7 @@ use Rattle.gen_core.specs.declared.views.WriterView.{WriterView}
 use Rattle.gen_core.specs.Views.{queue_of, oldest_of, floor_of, kept_of, last_number, last_image, is_open, last_tag, stands_on, spent}
 use Rattle.gen_core.specs.Work.{next_image}
 use Rattle.gen_core.specs.Good.{State, IsBefore, IsPlaced, WordsStand, IsRaised, GoodReaderState, GoodReader, IsLawfulCommit, Good}
-use Rattle.gen_core.specs.Events.{Event, store_width, store_word, hand_out, publish, load_root, load_word, split, join, meet_load, Happens, Happen, MayOpen, opening, MayHandOut, MayPublish, IsUnder, NoneFromBefore, after_publish}
+use Rattle.gen_core.specs.Events.{Event, store_width, store_word, hand_out, publish, load_root, load_word, split, join, meet_load, load_own, Happens, Happen, MayOpen, opening, MayHandOut, MayPublish, IsUnder, NoneFromBefore, after_publish}
 use Rattle.gen_core.specs.Laws.{TellsCommit}
 use Rattle.gen_core.proofs.Lists.{all_at, all_drop-at, all_found}
 use Rattle.gen_core.proofs.Writer.{store_word_keeps, store_width_keeps, hand_out_keeps, floor-zero, some-commit, last_at, last_image-push}
@@ -46,6 +46,7 @@ module _ (reaches : ℕ → Records → ℕ → List ℕ) (lawful : ℕ → Reco
   event_keeps stays present s t split g h = subst (Good reaches lawful) (sym h.1) (split_keeps reaches lawful s g h.0)
   event_keeps stays present s t (join j) g h = subst (Good reaches lawful) (sym h.3) (join_keeps reaches lawful s j h.0 g h.1 h.2)
   event_keeps stays present s t meet_load g h = subst (Good reaches lawful) (sym h.1) g
+  event_keeps stays present s t (load_own p) g h = subst (Good reaches lawful) (sym h.1) g
 
   pub events_keep : Stays reaches lawful → Present reaches lawful → (events : List Event) (s t : State) → Good reaches lawful s → Happen reaches lawful s events t → Good reaches lawful t
   events_keep stays present [] s t g h = subst (Good reaches lawful) (sym h) g

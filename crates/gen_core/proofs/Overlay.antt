@@ -128,5 +128,5 @@ module _ (reaches : ℕ → Records → ℕ → List ℕ) (lawful : ℕ → Reco
           let p : ℕ = place_in w.sizes (length xs) ref 0 in
           let stored_word = g.frozen.stored p _ (h.words 0 h.entry.wide) in
           let far = all_found (λ entry. IsApart w.sizes p (length entry.1) entry.0) (last_image w.commits).records ref ws
-              (last_kept reaches lawful s (Avoids w.sizes p) g stored_word.apart).records there in
+          (last_kept reaches lawful s (Avoids w.sizes p) g stored_word.apart).records there in
           absurd (far.each 0 placed.inside.wide (ap (λ n. place_in w.sizes n ref 0) (sym long)))

@@ -163,7 +163,8 @@ pub record MayOpen (z : Sizes) : Type 0 where
   pub commit_limit : z.commit_limit ≤ 4294967295
   pub generation_limit : z.generation_limit ≤ 281474976710655
 
--- Lists of events. A reader is named by its place among those made.
+-- Lists of events. A reader is named by its place among those made. The writer's loads, of the root after a join
+-- (meet_load) and of a buffer's word (load_own), change nothing.
 
 pub data Event : Type 0 where
   store_width : (b width : ℕ) → Event
@@ -175,6 +176,7 @@ pub data Event : Type 0 where
   split : Event
   join : (j : ℕ) → Event
   meet_load : Event
+  load_own : (p : ℕ) → Event
 
 module _ (reaches : ℕ → Records → ℕ → List ℕ) (lawful : ℕ → Records → ℕ → Type 0) where
   -- an event takes the state s to the state t
@@ -188,6 +190,7 @@ module _ (reaches : ℕ → Records → ℕ → List ℕ) (lawful : ℕ → Reco
   Happens s split t = MaySplit s.writer × (t ≡ after_split s)
   Happens s (join j) t = (r : ReaderView) × (slice_get s.readers j ≡ Some r) × MayJoin s.writer r × (t ≡ after_join s j r)
   Happens s meet_load t = (s.writer.pending ≡ Nothing) × (t ≡ s)
+  Happens s (load_own p) t = (s.writer.pending ≡ Nothing) × (t ≡ s)
 
   -- a list of events, one after another
   abbrev pub Happen : State → List Event → State → Type 0

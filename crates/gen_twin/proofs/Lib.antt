@@ -1,0 +1,4 @@
+pub mod PairLemmas
+pub mod PlaceLemmas
+pub mod RunLemmas
+pub mod CheckLemmas
