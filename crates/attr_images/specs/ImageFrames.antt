@@ -5,8 +5,9 @@ use Rattle.std.specs.List.{flat_map, AllByRecursion}
 use Rattle.std.specs.Ordering.{nat_cmp}
 use Rattle.image_base.specs.Records.{Records, SameAt, AllThere}
 use Rattle.attr_images.specs.Documents.{weighted, IsItemsRecord, items_reach, items_at, AreItems, documents_table, documents_reach}
-use Rattle.attr_images.specs.Images.{kind_of_shape, type_of_shape, documents_at, dictionary_at, IsRootRecord, trees_reach, attr_reaches, HasValues, HasLists, IsLawfulAttribute, IsLawful}
+use Rattle.attr_images.specs.Images.{documents_at, dictionary_at, IsRootRecord, trees_reach, attr_reaches, HasValues, HasLists, IsLawfulAttribute, IsLawful}
 use Rattle.attr_images.specs.Postings.{ListForm, short, tree, form_of, list_at, IsList, list_reach, index_of, IsEntryOf, dictionary_reach}
+use Rattle.attr_images.specs.Shapes.{kind_of_shape, type_of_shape}
 use Rattle.attr_images.specs.TreeFrames.{SameAt-left, SameAt-right, flat_map-same, map-same, all-same, tree_pairs-same, tree_nodes-same, IsTree-same}
 use Rattle.attr_images.specs.Trees.{tree_pairs, tree_nodes, by_number}
 use Rattle.attr_images.specs.Values.{value_of, value_at, IsValueRecord}

@@ -1,37 +1,20 @@
 -- The image of an attribute: a root record, the document tree and the dictionary; and when it is lawful.
-use Rattle.std.specs.Prelude.{◌≡◌, ◌↔◌, ℕ, zero, suc, ℤ, ◌-◌, ◌/◌, ◌%◌, ◌≤◌, List, [], ◌∷◌, ◌++◌, length, slice_index, Contains, option_map}
+use Rattle.std.specs.Prelude.{◌≡◌, ◌↔◌, ℕ, zero, suc, ℤ, ◌≤◌, List, [], ◌∷◌, ◌++◌, length, slice_index, Contains, option_map}
 use Rattle.std.specs.List.{find, filter_map, flat_map, AllByRecursion}
 use Rattle.std.specs.Map.{keys_of}
 use Rattle.std.specs.Ordering.{nat_cmp, is_eq}
 use Rattle.image_base.specs.Records.{Records, AllThere, word_at}
 use Rattle.attr_images.specs.Documents.{documents_table, documents_reach, AreItems}
 use Rattle.attr_images.specs.Postings.{index_of, dictionary_reach, IsEntryOf}
+use Rattle.attr_images.specs.Shapes.{kind_of_shape, type_of_shape}
 use Rattle.attr_images.specs.Trees.{tree_pairs, tree_nodes, by_number, IsTree}
 use Rattle.attr_images.specs.Values.{value_at}
 use Rattle.attr_types.specs.Lawful.{IsLawfulTable}
 use Rattle.attr_types.specs.Table.{Table}
 use Rattle.attr_types.specs.Value.{value_cmp, values_of}
 use Rattle.attr_types.specs.declared.kind.Kind.{Kind}
-use Rattle.attr_types.specs.declared.kind.Kind.TheVariants.{Single, Array, WeightedSet}
 use Rattle.attr_types.specs.declared.kind.ValueType.{ValueType}
-use Rattle.attr_types.specs.declared.kind.ValueType.TheVariants as types
 use Rattle.attr_types.specs.declared.value.Value.{Value}
-
--- a shape is 1 + 2 * kind + value type, each counted from 0
-abbrev pub kind_numbered : ℕ → Kind
-kind_numbered zero = Single
-kind_numbered (suc zero) = Array
-kind_numbered (suc (suc n)) = WeightedSet
-
-abbrev pub type_numbered : ℕ → ValueType
-type_numbered zero = types.Long
-type_numbered (suc n) = types.Text
-
-abbrev pub kind_of_shape : ℕ → Kind
-kind_of_shape shape = kind_numbered ((shape - 1) / 2)
-
-abbrev pub type_of_shape : ℕ → ValueType
-type_of_shape shape = type_numbered ((shape - 1) % 2)
 
 -- the words of the root record: operations committed, and the roots of the two trees
 abbrev pub operations_at : Records → ℕ → ℕ

@@ -5,5 +5,7 @@ pub mod Words
 pub mod Values
 pub mod Documents
 pub mod Postings
+pub mod Shapes
 pub mod Images
 pub mod ImageFrames
+pub mod Laws

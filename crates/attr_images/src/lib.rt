@@ -1,24 +1,31 @@
 //! Images of an attribute: which records a root reaches, what they read as, and when they are lawful.
 #![tactic(auto)]
 
-ghost use Rattle.attr_images.specs.ImageFrames.{attr_empty_reaches, attr_empty_lawful, attr_present, attr_stays};
-ghost use Rattle.attr_images.specs.Images.{attr_reaches, IsLawful};
+mod laws;
+mod layout;
+mod shape;
 
-use image_base::Layout;
+pub use laws::{frame_law, image_law, shape_law, tree_law, value_law};
+pub use layout::AttrLayout;
+pub use shape::shape_of;
 
-/// The layout of an attribute's images, where the shape is `1 + 2 * kind + value type`.
-pub struct AttrLayout;
+#[cfg(test)]
+mod tests {
+    use super::*;
+    use attr_types::{Kind, ValueType};
 
-impl Layout for AttrLayout {
-    ghost reaches = { attr_reaches };
-
-    ghost lawful = { IsLawful };
-
-    ghost empty_reaches = { attr_empty_reaches };
-
-    ghost empty_lawful = { attr_empty_lawful };
-
-    ghost present = { attr_present };
-
-    ghost stays = { attr_stays };
+    #[test]
+    fn shapes_count_kinds_and_then_types(rt: HostRuntime) {
+        let rows = [
+            (Kind::Single, ValueType::Long, 1),
+            (Kind::Single, ValueType::Text, 2),
+            (Kind::Array, ValueType::Long, 3),
+            (Kind::Array, ValueType::Text, 4),
+            (Kind::WeightedSet, ValueType::Long, 5),
+            (Kind::WeightedSet, ValueType::Text, 6),
+        ];
+        for (kind, value_type, shape) in rows {
+            assert_eq!(rt; shape_of(kind, value_type), shape);
+        }
+    }
 }

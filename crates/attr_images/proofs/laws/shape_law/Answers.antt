@@ -1,0 +1,5 @@
+use Rattle.attr_images.proofs.ImageLemmas.{shape_tells}
+use Rattle.attr_images.proofs.laws.shape_law.Goals as goal
+
+pub returns : goal.returns
+returns c = shape_tells

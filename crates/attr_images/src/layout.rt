@@ -1,0 +1,21 @@
+ghost use Rattle.attr_images.specs.ImageFrames.{attr_empty_reaches, attr_empty_lawful, attr_present, attr_stays};
+ghost use Rattle.attr_images.specs.Images.{attr_reaches, IsLawful};
+
+use image_base::Layout;
+
+/// The layout of an attribute's images, where the shape is `1 + 2 * kind + value type`.
+pub struct AttrLayout;
+
+impl Layout for AttrLayout {
+    ghost reaches = { attr_reaches };
+
+    ghost lawful = { IsLawful };
+
+    ghost empty_reaches = { attr_empty_reaches };
+
+    ghost empty_lawful = { attr_empty_lawful };
+
+    ghost present = { attr_present };
+
+    ghost stays = { attr_stays };
+}
