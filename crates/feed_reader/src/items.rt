@@ -17,7 +17,7 @@ use std::collections::BTreeMap;
 fn values_in(alloc: Global, value: ValueType, list: &[Json]) -> Result<Vec<Value>, LineError>
     ensures { Says (λ v. v.items) result (values_listed value (items_view list.now)) }
 {
-    let mut values = Vec::new(alloc);
+    let mut values = Vec::with_capacity(alloc, list.len())?;
     for json in list {
         values.push(value_in(alloc, value, json)?)?;
     }
@@ -32,7 +32,7 @@ fn names_in(
 ) -> Result<Vec<Value>, LineError>
     ensures { Says (λ v. v.items) result (values_named value (members_view members.now.entries)) }
 {
-    let mut values = Vec::new(alloc);
+    let mut values = Vec::with_capacity(alloc, members.len())?;
     for (name, _) in members {
         values.push(value_named_by(alloc, value, name.as_str())?)?;
     }
@@ -98,12 +98,12 @@ pub fn weighted_in(alloc: Global, value: ValueType, json: &Json) -> Result<Items
 fn one_in(alloc: Global, value: ValueType, json: &Json) -> Result<Items, LineError>
     ensures { Says (λ items. items) result (one_of value (view json.now)) }
 {
-    let mut items = Items::new(alloc);
-    items.push(Item {
+    let mut list = Vec::with_capacity(alloc, 1)?;
+    list.push(Item {
         value: value_in(alloc, value, json)?,
         weight: 1,
     })?;
-    Ok(items)
+    Ok(Items::from_vec(list))
 }
 
 fn some_items_in(
