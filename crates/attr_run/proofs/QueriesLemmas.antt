@@ -1,5 +1,6 @@
 -- Queries read one after another.
-use Rattle.std.proofs.Common.{◌≡◌, ◌∙◌, sym, ap, refl, ℕ, ◌+◌, List, [], ◌∷◌, ◌++◌, Result, Ok, Err, append_assoc, append-nil, drop, get_or, length, ◌<◌, suc, arith}
+use Rattle.std.proofs.Common.{◌≡◌, ◌∙◌, sym, ap, refl, ℕ, ◌+◌, List, [], ◌∷◌, ◌++◌, Result, Ok, Err}
+use Rattle.std.proofs.Common.{append_assoc, append-nil, drop, get_or, length, ◌<◌, suc, arith}
 use Rattle.std.proofs.Math.Seq.{drop-cons}
 use Rattle.clap.specs.Walk.{Text}
 use Rattle.attr_types.specs.Query.{QueryTree}
@@ -17,36 +18,45 @@ after_front front (Ok queries) = Ok (front ++ queries)
 after_front front (Err status) = Err status
 
 -- the item at a place, and those after it
-pub drop-item : {A : Type 0} (xs : List A) (i : ℕ) (x : A) → i < length xs → x ≡ get_or xs i x → drop i xs ≡ x ∷ drop (i + 1) xs
+pub drop-item : {A : Type 0} (xs : List A) (i : ℕ) (x : A) → i < length xs → x ≡ get_or xs i x
+    → drop i xs ≡ x ∷ drop (i + 1) xs
 drop-item xs i x below is =
     let next : suc i ≡ i + 1 = omega arith in
     drop-cons xs i x below ∙ ap (λ y. y ∷ drop (suc i) xs) (sym is) ∙ ap (λ n. x ∷ drop n xs) next
 
 -- no text is left
-pub after_front-end : (front : List QueryTree) (value : ValueType) (number : ℕ) → after_front front (queries_from value number []) ≡ Ok front
+pub after_front-end : (front : List QueryTree) (value : ValueType) (number : ℕ)
+    → after_front front (queries_from value number []) ≡ Ok front
 unfolding queries_from
 after_front-end front value number = ap Ok (append-nil front)
 
 -- a bad query is the answer, whatever was read before
-pub after_front-refused : (front : List QueryTree) (value : ValueType) (number : ℕ) (text : Text) (texts : List Text) (status : Status)
-    → query_or_refused number (query_of value text) ≡ Err status → after_front front (queries_from value number (text ∷ texts)) ≡ Err status
+pub after_front-refused : (front : List QueryTree) (value : ValueType) (number : ℕ) (text : Text)
+    (texts : List Text) (status : Status)
+    → query_or_refused number (query_of value text) ≡ Err status
+    → after_front front (queries_from value number (text ∷ texts)) ≡ Err status
 unfolding queries_from
 after_front-refused front value number text texts status refused = rw refused refl
 
 -- a good one goes to the others
-pub after_front-next : (front : List QueryTree) (value : ValueType) (number : ℕ) (text : Text) (texts : List Text) (query : QueryTree)
+pub after_front-next : (front : List QueryTree) (value : ValueType) (number : ℕ) (text : Text) (texts : List Text)
+    (query : QueryTree)
     → query_or_refused number (query_of value text) ≡ Ok query
-    → after_front front (queries_from value number (text ∷ texts)) ≡ after_front (front ++ query ∷ []) (queries_from value (number + 1) texts)
+    → after_front front (queries_from value number (text ∷ texts)) ≡ after_front (front
+    ++ query ∷ []) (queries_from value (number + 1) texts)
 unfolding queries_from
 after_front-next front value number text texts query read =
-    rw read (elim (queries_from value (number + 1) texts) as (λ r. after_front front (r >>= (λ queries. Ok (query ∷ queries))) ≡ after_front (front ++ query ∷ []) r) [
+    rw read (elim (queries_from value (number + 1) texts) as (λ r. after_front front (r >>= (λ queries. Ok
+    (query ∷ queries))) ≡ after_front (front ++ query ∷ []) r) [
       | Ok queries ↦ ap Ok (sym (append_assoc front (query ∷ []) queries))
       | Err status ↦ refl
     ])
 
 -- where a query stops, all do
-pub says-stopped : {A B : Type 0} (shown : A → List QueryTree) (one : B → QueryTree) (stop : Stop) (front : List QueryTree) (value : ValueType) (number : ℕ)
-    (text : Text) (texts : List Text) (whole : Result (List QueryTree) Status) → after_front front (queries_from value number (text ∷ texts)) ≡ whole
+pub says-stopped : {A B : Type 0} (shown : A → List QueryTree) (one : B → QueryTree) (stop : Stop)
+    (front : List QueryTree) (value : ValueType) (number : ℕ)
+    (text : Text) (texts : List Text) (whole : Result (List QueryTree) Status)
+    → after_front front (queries_from value number (text ∷ texts)) ≡ whole
     → Says one (Err stop) (query_or_refused number (query_of value text)) → Says shown (Err stop) whole
 says-stopped shown one (stops.Answer status) front value number text texts whole is said =
     sym is ∙ after_front-refused front value number text texts status said

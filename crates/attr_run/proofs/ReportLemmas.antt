@@ -1,11 +1,13 @@
 -- Answers written one after another.
-use Rattle.std.proofs.Common.{◌≡◌, ◌∙◌, sym, ap, refl, ℕ, ◌+◌, List, [], ◌∷◌, ◌++◌, append_assoc, append-nil}
+use Rattle.std.proofs.Common.{◌≡◌, ◌∙◌, sym, ap, refl, ℕ, ◌+◌, List, [], ◌∷◌, ◌++◌, append_assoc}
+use Rattle.std.proofs.Common.{append-nil}
 use Rattle.attr_types.specs.Query.{QueryTree}
 use Rattle.attr_types.specs.Table.{Table, hits}
 use Rattle.attr_run.specs.Report.{answer_line, answers_from}
 
 -- an answer goes before the others
-pub answers_from-next : (front : List ℕ) (number : ℕ) (query : QueryTree) (queries : List QueryTree) (table : Table) (docs text : List ℕ)
+pub answers_from-next : (front : List ℕ) (number : ℕ) (query : QueryTree) (queries : List QueryTree) (table : Table)
+    (docs text : List ℕ)
     → docs ≡ hits query table → text ≡ front ++ answer_line number docs
     → text ++ answers_from (number + 1) queries table ≡ front ++ answers_from number (query ∷ queries) table
 unfolding answers_from

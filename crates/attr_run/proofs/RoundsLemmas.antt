@@ -3,14 +3,16 @@ use Rattle.std.proofs.Common.{◌≡◌, sym, ap, refl, ℕ, ◌<◌, List, [], 
 use Rattle.std.specs.List.{flat_map, filter_map}
 use Rattle.attr_types.specs.declared.op.Op.{Op}
 use Rattle.attr_run.specs.Run.{Run}
-use Rattle.attr_run.specs.History.{Event, Commit, IsRounds, IsLegalHistory, AreInPlace, commit_in, commit_points, history}
+use Rattle.attr_run.specs.History.{Event, Commit, IsRounds, IsLegalHistory, AreInPlace, commit_in}
+use Rattle.attr_run.specs.History.{commit_points, history}
 use Rattle.attr_run.specs.Answers.{IsWholeRun}
 
 commits-alone : (points : List ℕ) → filter_map commit_in (flat_map (λ point. Commit point ∷ []) points) ≡ points
 commits-alone [] = refl
 commits-alone (point ∷ points) = ap (λ ps. point ∷ ps) (commits-alone points)
 
-in_place-alone : (run : Run) (ops : List Op) (last : ℕ) (points : List ℕ) → AreInPlace run ops last (flat_map (λ point. Commit point ∷ []) points)
+in_place-alone : (run : Run) (ops : List Op) (last : ℕ) (points : List ℕ)
+    → AreInPlace run ops last (flat_map (λ point. Commit point ∷ []) points)
 in_place-alone run ops last [] = tt
 in_place-alone run ops last (point ∷ points) = in_place-alone run ops point points
 
@@ -26,7 +28,8 @@ none_below : {P : Type 0} (k : ℕ) → k < 0 → P
 none_below k below = absurd (omega arith)
 
 -- a run without readers makes no round
-pub whole-alone : (run : Run) (ops : List Op) (loaded : ℕ) → run.readers ≡ 0 → loaded ≡ length ops → IsWholeRun loaded [] run ops
+pub whole-alone : (run : Run) (ops : List Op) (loaded : ℕ) → run.readers ≡ 0 → loaded ≡ length ops
+    → IsWholeRun loaded [] run ops
 whole-alone run ops loaded alone all = record {
   loaded_all = all;
   in_rounds = record {

@@ -1,5 +1,6 @@
 -- When each answer of a call comes, and what it leaves.
-use Rattle.std.specs.Prelude.{◌≡◌, ◌≢◌, ℕ, ◌≤◌, ◌⊎◌, List, [], length, Option, Some, None, IfSome, Result, Ok, Err, IsOk, IsOkAnd}
+use Rattle.std.specs.Prelude.{◌≡◌, ◌≢◌, ℕ, ◌≤◌, ◌⊎◌, List, [], length, Option, Some, None, IfSome}
+use Rattle.std.specs.Prelude.{Result, Ok, Err, IsOk, IsOkAnd}
 use Rattle.std.specs.Io.KnownBytes.{Appends, Keeps}
 use Rattle.clap.specs.Walk.{Text}
 use Rattle.attr_io.specs.Bytes.{AppendsFront}
@@ -10,7 +11,8 @@ use Rattle.attr_run.specs.Run.{Run, asked, task_of}
 use Rattle.attr_run.specs.Report.{report, text_of}
 use Rattle.attr_run.specs.History.{IsRounds, IsAfterwards, IsLegalHistory, history}
 use Rattle.attr_run.specs.declared.outcome.Status.{Status}
-use Rattle.attr_run.specs.declared.outcome.Status.TheVariants.{Done, Help, Usage, BadFeed, ReadFault, WriteFault, Full, Memory}
+use Rattle.attr_run.specs.declared.outcome.Status.TheVariants.{Done, Help, Usage, BadFeed}
+use Rattle.attr_run.specs.declared.outcome.Status.TheVariants.{ReadFault, WriteFault, Full, Memory}
 use Rattle.attr_run.specs.declared.outcome.UsageCause.TheVariants as usage
 use Rattle.attr_run.specs.declared.outcome.FeedFault.TheVariants as feed
 
@@ -30,7 +32,8 @@ pub record ComesExactly (cause : Type 0) (expected status : Status) : Type 0 whe
 -- the same of an answer that comes of the feed, where a failed read may come in its place too
 pub record ComesExactlyOfFeed (cause : Type 0) (expected status : Status) : Type 0 where
   pub only : status ≡ expected → cause
-  pub always : cause → (status ≡ expected) ⊎ ((status ≡ ReadFault) ⊎ ((status ≡ WriteFault) ⊎ (status ≡ Memory)))
+  pub always : cause →
+      (status ≡ expected) ⊎ ((status ≡ ReadFault) ⊎ ((status ≡ WriteFault) ⊎ (status ≡ Memory)))
 
 -- why an answer before any run comes, by the words, the source's bytes and its counts of faults
 -- before and after
@@ -65,7 +68,8 @@ abbrev pub HasNoRun : ℕ → List (List ℕ) → Type 0
 HasNoRun loaded rounds = (loaded ≡ 0) × (rounds ≡ [])
 
 -- what was loaded by a run that ended, and the rounds of its readers
-pub record IsWholeRun (loaded : ℕ) (rounds : List (List ℕ)) (run : Run) (ops : List Op) : Type 0 where
+pub record IsWholeRun (loaded : ℕ) (rounds : List (List ℕ)) (run : Run) (ops : List Op)
+    : Type 0 where
   pub loaded_all : loaded ≡ length ops
   pub in_rounds : IsRounds run (length ops) loaded rounds
   pub afterwards : IsAfterwards run loaded rounds
@@ -73,13 +77,17 @@ pub record IsWholeRun (loaded : ℕ) (rounds : List (List ℕ)) (run : Run) (ops
 
 -- the text that is due at an answer, by the words, the source's bytes, its counts of faults before
 -- and after, and what was loaded
-abbrev pub IsDue : List Text → Option (List ℕ) → ℕ → ℕ → Status → ℕ → List (List ℕ) → List ℕ → Type 0
+abbrev pub IsDue : List Text → Option (List ℕ) → ℕ → ℕ → Status → ℕ → List (List ℕ) → List ℕ
+    → Type 0
 IsDue words left before now Done loaded rounds text =
-    OfRun words left (λ run ops. IsWholeRun loaded rounds run ops × (text ≡ report run ops loaded rounds None))
+    OfRun words left (λ run ops.
+    IsWholeRun loaded rounds run ops × (text ≡ report run ops loaded rounds None))
 IsDue words left before now status loaded rounds text =
     HasCause words left before now status × HasNoRun loaded rounds × (text ≡ text_of status)
 
 -- of a text that was due the front was written, and not all of it
-abbrev pub WritesFront : List Text → Option (List ℕ) → ℕ → ℕ → ℕ → List (List ℕ) → Option (List ℕ) → Option (List ℕ) → Type 0
+abbrev pub WritesFront : List Text → Option (List ℕ) → ℕ → ℕ → ℕ → List (List ℕ)
+    → Option (List ℕ) → Option (List ℕ) → Type 0
 WritesFront words left before now loaded rounds old new =
-    (status : Status) × (text : List ℕ) × IsDue words left before now status loaded rounds text × AppendsFront old new text
+    (status : Status) × (text : List ℕ) × IsDue words left before now status loaded rounds text
+    × AppendsFront old new text

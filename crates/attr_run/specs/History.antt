@@ -1,5 +1,6 @@
 -- How the rounds of a run's readers stand to its commits.
-use Rattle.std.specs.Prelude.{◌≡◌, ℕ, zero, suc, ◌+◌, ◌%◌, ◌≤◌, ◌==◌, nat_le, ◌&&◌, ◌||◌, Bool, IsTrue, if◌then◌else◌}
+use Rattle.std.specs.Prelude.{◌≡◌, ℕ, zero, suc, ◌+◌, ◌%◌, ◌≤◌, ◌==◌, nat_le, ◌&&◌, ◌||◌, Bool}
+use Rattle.std.specs.Prelude.{IsTrue, if◌then◌else◌}
 use Rattle.std.specs.Prelude.{List, [], ◌∷◌, ◌++◌, map, filter, length, All, Option, Some, None}
 use Rattle.std.specs.List.{flat_map, filter_map}
 use Rattle.std.specs.List.Sorted.{IsNonDecreasing}
@@ -62,7 +63,8 @@ rounds_at run ops point reader (counts ∷ rounds) =
 -- each commit, and then the rounds at it
 unfoldable pub history : Run → List Op → ℕ → List (List ℕ) → List Event
 history run ops loaded rounds =
-    flat_map (λ point. Commit point ∷ rounds_at run ops point 1 rounds) (commit_points run (length ops) loaded)
+    flat_map (λ point. Commit point ∷ rounds_at run ops point 1 rounds)
+    (commit_points run (length ops) loaded)
 
 -- ---- what is legal
 
@@ -85,7 +87,8 @@ numbered_from round (n ∷ counts) = (round, n) ∷ numbered_from (round + 1) co
 abbrev pub AreInOrder : List Event → ℕ → List (List ℕ) → Type 0
 AreInOrder events reader [] = Unit {0}
 AreInOrder events reader (counts ∷ rounds) =
-    (filter_map (round_in reader) events ≡ numbered_from 1 counts) × AreInOrder events (reader + 1) rounds
+    (filter_map (round_in reader) events ≡ numbered_from 1 counts)
+    × AreInOrder events (reader + 1) rounds
 
 -- each round stands at the last commit before it, and answers by the table of that commit
 abbrev pub AreInPlace : Run → List Op → ℕ → List Event → Type 0
@@ -96,7 +99,8 @@ AreInPlace run ops last (Round reader round n answers ∷ events) =
 
 -- a history of a run: its commits in order, the rounds of each reader in order and once each,
 -- each after its commit and before the next one, and each answer the hits of the table at its place
-pub record IsLegalHistory (run : Run) (ops : List Op) (loaded : ℕ) (rounds : List (List ℕ)) (events : List Event) : Type 0 where
+pub record IsLegalHistory (run : Run) (ops : List Op) (loaded : ℕ) (rounds : List (List ℕ))
+    (events : List Event) : Type 0 where
   pub commits : filter_map commit_in events ≡ commit_points run (length ops) loaded
   pub in_order : AreInOrder events 1 rounds
   pub in_place : AreInPlace run ops 0 events

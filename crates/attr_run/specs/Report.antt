@@ -1,5 +1,6 @@
 -- What a run writes, line by line.
-use Rattle.std.specs.Prelude.{ℕ, ◌+◌, ◌==◌, if◌then◌else◌, List, [], ◌∷◌, ◌++◌, codes, Option, Some, None}
+use Rattle.std.specs.Prelude.{ℕ, ◌+◌, ◌==◌, if◌then◌else◌, List, [], ◌∷◌, ◌++◌, codes, Option, Some}
+use Rattle.std.specs.Prelude.{None}
 use Rattle.std.specs.List.{flat_map}
 use Rattle.std.specs.Fmt.{decimal}
 use Rattle.attr_types.specs.declared.op.Op.{Op}
@@ -17,7 +18,8 @@ use Rattle.attr_run.specs.declared.outcome.FeedFault.TheVariants as feed
 
 -- `Q:`, and each document that query number Q hits after a space
 unfoldable pub answer_line : ℕ → List ℕ → List ℕ
-answer_line number docs = decimal number ++ codes ":" ++ flat_map (λ doc. codes " " ++ decimal doc) docs ++ codes "\n"
+answer_line number docs =
+    decimal number ++ codes ":" ++ flat_map (λ doc. codes " " ++ decimal doc) docs ++ codes "\n"
 
 -- the answers to queries that are numbered from `number` on, over a table
 unfoldable pub answers_from : ℕ → List QueryTree → Table → List ℕ
@@ -31,13 +33,15 @@ answers_at run ops n = answers_from 1 run.queries (after run.kind ops n)
 
 unfoldable pub reader_line : ℕ → ℕ → ℕ → List ℕ
 reader_line reader round n =
-    codes "reader " ++ decimal reader ++ codes " round " ++ decimal round ++ codes " at " ++ decimal n ++ codes "\n"
+    codes "reader " ++ decimal reader ++ codes " round " ++ decimal round
+    ++ codes " at " ++ decimal n ++ codes "\n"
 
 -- a reader's rounds, from number `round` on, at these counts of operations
 unfoldable pub rounds_from : Run → List Op → ℕ → ℕ → List ℕ → List ℕ
 rounds_from run ops reader round [] = []
 rounds_from run ops reader round (n ∷ counts) =
-    reader_line reader round n ++ answers_at run ops n ++ rounds_from run ops reader (round + 1) counts
+    reader_line reader round n ++ answers_at run ops n
+    ++ rounds_from run ops reader (round + 1) counts
 
 -- the rounds of the readers from number `reader` on
 unfoldable pub readers_from : Run → List Op → ℕ → List (List ℕ) → List ℕ
@@ -54,7 +58,8 @@ full_line None = []
 full_line (Some operation) = codes "full at operation " ++ decimal operation ++ codes "\n"
 
 unfoldable pub done_line : ℕ → ℕ → List ℕ
-done_line loaded skipped = codes "done " ++ decimal loaded ++ codes " operations " ++ decimal skipped ++ codes " skipped\n"
+done_line loaded skipped =
+    codes "done " ++ decimal loaded ++ codes " operations " ++ decimal skipped ++ codes " skipped\n"
 
 -- the report of a run that loaded so many operations and whose readers made these rounds
 unfoldable pub report : Run → List Op → ℕ → List (List ℕ) → Option ℕ → List ℕ
@@ -80,7 +85,8 @@ query_refusal refusal.TooDeep = codes "TooDeep"
 query_refusal refusal.Memory = codes "Memory"
 
 unfoldable pub query_line : ℕ → QueryError → List ℕ
-query_line number error = codes "attr: usage: query " ++ decimal number ++ codes ": " ++ query_refusal error ++ codes "\n"
+query_line number error =
+    codes "attr: usage: query " ++ decimal number ++ codes ": " ++ query_refusal error ++ codes "\n"
 
 -- the refusals of a feed's line, by their numbers
 unfoldable pub line_refusal : ℕ → List ℕ
@@ -92,7 +98,8 @@ line_refusal number =
     else (if number == 5 then codes "Unsupported" else codes "TooManyItems"))))
 
 unfoldable pub feed_line : ℕ → ℕ → List ℕ
-feed_line line number = codes "attr: feed line " ++ decimal line ++ codes ": " ++ line_refusal number ++ codes "\n"
+feed_line line number =
+    codes "attr: feed line " ++ decimal line ++ codes ": " ++ line_refusal number ++ codes "\n"
 
 -- what is written at an answer that has a text of its own; the report and its front have not
 unfoldable pub text_of : Status → List ℕ

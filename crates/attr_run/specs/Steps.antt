@@ -11,7 +11,8 @@ use Rattle.attr_run.specs.Run.{Run, run_of}
 use Rattle.attr_run.specs.Report.{text_of}
 use Rattle.attr_run.specs.Answers.{HasCause, HasNoRun, IsDue, IsProper, WritesFront}
 use Rattle.attr_run.specs.declared.outcome.Status.{Status}
-use Rattle.attr_run.specs.declared.outcome.Status.TheVariants.{Help, Usage, BadFeed, ReadFault, WriteFault, Memory}
+use Rattle.attr_run.specs.declared.outcome.Status.TheVariants.{Help, Usage, BadFeed, ReadFault}
+use Rattle.attr_run.specs.declared.outcome.Status.TheVariants.{WriteFault, Memory}
 use Rattle.attr_run.specs.declared.outcome.UsageCause.TheVariants as usage
 use Rattle.attr_run.specs.declared.outcome.FeedFault.TheVariants as feed
 use Rattle.attr_run.specs.declared.stop.Stop.{Stop}
@@ -26,7 +27,8 @@ Says shown (Err stops.Memory) wanted = Unit {0}
 
 -- the run of a request
 abbrev pub run_in : Request → Run
-run_in request = run_of (given_by request.settings) request.kind request.value (map tree_of request.queries.items)
+run_in request = run_of (given_by request.settings) request.kind request.value
+    (map tree_of request.queries.items)
 
 -- what a refusal of the feed stops a call with
 abbrev pub line_stop : ℕ → ℕ → Stop
@@ -61,10 +63,12 @@ IsProperStop stops.Memory = Unit {0}
 
 -- the answer of a call that stopped: it is no want of memory, and its text is the status's own
 abbrev pub IsEarly : Stop → Status → ℕ → List (List ℕ) → List ℕ → Type 0
-IsEarly stop status loaded rounds text = (stop ≡ stops.Answer status) × HasNoRun loaded rounds × (text ≡ text_of status)
+IsEarly stop status loaded rounds text = (stop ≡ stops.Answer status) × HasNoRun loaded rounds
+    × (text ≡ text_of status)
 
 -- an answer of a call: the text that is due is written, or a front of it, or nothing
-abbrev pub IsAnswer : List Text → Option (List ℕ) → ℕ → ℕ → Option (List ℕ) → Option (List ℕ) → ℕ → ℕ → Status → ℕ → List (List ℕ) → Type 0
+abbrev pub IsAnswer : List Text → Option (List ℕ) → ℕ → ℕ → Option (List ℕ) → Option (List ℕ)
+    → ℕ → ℕ → Status → ℕ → List (List ℕ) → Type 0
 IsAnswer words left before now old new sink_before sink_now WriteFault loaded rounds =
     Rose sink_before sink_now × WritesFront words left before now loaded rounds old new
 IsAnswer words left before now old new sink_before sink_now Memory loaded rounds =

@@ -14,3 +14,6 @@ mod words;
 pub use outcome::{FeedFault, Outcome, Status, UsageCause};
 pub use run::attr_main;
 pub use words::Words;
+
+#[cfg(test)]
+mod tests;

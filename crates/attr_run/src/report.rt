@@ -1,4 +1,5 @@
-ghost use Rattle.std.specs.Prelude.{◌≡◌, ◌++◌, ◌∷◌, [], ◌<◌, ◌≤◌, ◌^◌, None, length, map, OnOk, IfOk, string_bytes};
+ghost use Rattle.std.specs.Prelude.{◌≡◌, ◌++◌, ◌∷◌, [], ◌<◌, ◌≤◌, ◌^◌, None, length, map, OnOk};
+ghost use Rattle.std.specs.Prelude.{IfOk, string_bytes};
 ghost use Rattle.std.specs.List.{AllByRecursion};
 ghost use Rattle.attr_types.specs.Lawful.{Fits};
 ghost use Rattle.attr_types.specs.Query.{tree_of};
@@ -14,7 +15,8 @@ use std::alloc::{AllocError, Global};
 
 #[tactic(auto, unfolding(crate::specs::Report::answer_line))]
 fn push_answer(text: &mut String, number: u64, docs: &[Doc]) -> Result<(), AllocError>
-    ensures { OnOk result (string_bytes text.new ≡ string_bytes text.old ++ answer_line number docs.now) }
+    ensures { OnOk result (string_bytes text.new ≡ string_bytes text.old
+        ++ answer_line number docs.now) }
 {
     write!(text, "{number}:")?;
     for doc in docs {
@@ -32,7 +34,8 @@ fn push_answers(
 ) -> Result<(), AllocError>
     requires { length queries.now < 2 ^ 63 }
     ensures { OnOk result
-        (string_bytes text.new ≡ string_bytes text.old ++ answers_from 1 (map tree_of queries.now) table.now.table) }
+        (string_bytes text.new ≡ string_bytes text.old
+        ++ answers_from 1 (map tree_of queries.now) table.now.table) }
 {
     let mut number: u64 = 1;
     for query in queries {
@@ -52,7 +55,8 @@ fn push_final_line(text: &mut String, loaded: u32) -> Result<(), AllocError>
 
 #[tactic(auto, unfolding(crate::specs::Report::done_line))]
 fn push_done_line(text: &mut String, loaded: u32, skipped: u32) -> Result<(), AllocError>
-    ensures { OnOk result (string_bytes text.new ≡ string_bytes text.old ++ done_line loaded skipped) }
+    ensures { OnOk result (string_bytes text.new ≡ string_bytes text.old
+        ++ done_line loaded skipped) }
 {
     writeln!(text, "done {loaded} operations {skipped} skipped")
 }
@@ -62,7 +66,8 @@ pub fn report_in(alloc: Global, request: &Request, ops: Ops) -> Result<(u32, Str
     requires few { length ops < 2 ^ 32 }
     requires fit { AllByRecursion (Fits request.now.kind request.now.value) ops }
     ensures loaded { IfOk result (λ r. r.0 ≡ length ops) }
-    ensures text { IfOk result (λ r. string_bytes r.1 ≡ report (run_in request.now) ops (length ops) [] None) }
+    ensures text { IfOk result (λ r. string_bytes r.1
+        ≡ report (run_in request.now) ops (length ops) [] None) }
 {
     let ops = ops.into_vec();
     let loaded = ops.len() as u32;

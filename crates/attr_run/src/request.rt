@@ -43,7 +43,8 @@ fn settings_of_words(alloc: Global, words: &Words) -> Result<Settings, Stop>
 
 #[tactic(auto, unfolding(crate::specs::Run::kind_named))]
 fn kind_of_name(name: &str) -> Result<Kind, Stop>
-    ensures says { Says (λ kind. kind) result (or_refused (Usage UsageCause.KindName) (kind_named name.now)) }
+    ensures says { Says (λ kind. kind) result (or_refused (Usage UsageCause.KindName)
+        (kind_named name.now)) }
     ensures refusal { IfErr result IsWordsStop }
 {
     if name == "single" {
@@ -59,7 +60,8 @@ fn kind_of_name(name: &str) -> Result<Kind, Stop>
 
 #[tactic(auto, unfolding(crate::specs::Run::value_named))]
 fn value_of_name(name: &str) -> Result<ValueType, Stop>
-    ensures says { Says (λ value. value) result (or_refused (Usage UsageCause.ValueName) (value_named name.now)) }
+    ensures says { Says (λ value. value) result (or_refused (Usage UsageCause.ValueName)
+        (value_named name.now)) }
     ensures refusal { IfErr result IsWordsStop }
 {
     if name == "long" {

@@ -9,7 +9,8 @@ ghost use Rattle.attr_words.specs.Reading.{AskForHelp, AreRefused};
 ghost use Rattle.attr_run.specs.Run.{asked, task_of};
 ghost use Rattle.attr_run.specs.Report.{report, text_of};
 ghost use Rattle.attr_run.specs.History.{IsRounds, IsAfterwards, IsLegalHistory, history};
-ghost use Rattle.attr_run.specs.Answers.{OfRun, ComesExactly, ComesExactlyOfFeed, IsBeforeRun, IsProper, HasNoRun, IsDue, WritesFront};
+ghost use Rattle.attr_run.specs.Answers.{OfRun, ComesExactly, ComesExactlyOfFeed, IsBeforeRun};
+ghost use Rattle.attr_run.specs.Answers.{IsProper, HasNoRun, IsDue, WritesFront};
 ghost use Rattle.attr_run.specs.Steps.{IsStopped, IsProperStop, IsEarly, IsAnswer};
 
 use crate::outcome::{FeedFault, Outcome, Status, UsageCause};
@@ -35,9 +36,11 @@ struct Answer {
 /// Reads the words and then the feed, loads it and makes the report.
 fn reported<S: Source>(alloc: Global, words: &Words, source: &mut S) -> Result<Answer, Stop>
     ensures done { IfOk result (λ a. a.status ≡ Status.Done) }
-    ensures due { IfOk result (λ a. IsDue words.now (S.left source.old) (S.faults source.old) (S.faults source.new)
+    ensures due { IfOk result (λ a. IsDue words.now
+        (S.left source.old) (S.faults source.old) (S.faults source.new)
         a.status a.loaded a.rounds (string_bytes a.text)) }
-    ensures stopped { IfErr result (IsStopped words.now (S.left source.old) (S.faults source.old) (S.faults source.new)) }
+    ensures stopped { IfErr result (IsStopped words.now (S.left source.old)
+        (S.faults source.old) (S.faults source.new)) }
     ensures proper { IfErr result IsProperStop }
     ensures whole { OnOk result (IsAtEnd (S.left source.new)) }
     ensures unread { IsErr (asked words.now) → source.new ≡ source.old }
@@ -75,7 +78,8 @@ fn stopped(alloc: Global, stop: Stop) -> Result<Answer, AllocError>
 
 /// The answer to words and a source, with every cause but those of the sink.
 fn answer_to<S: Source>(alloc: Global, words: &Words, source: &mut S) -> Result<Answer, AllocError>
-    ensures due { IfOk result (λ a. IsDue words.now (S.left source.old) (S.faults source.old) (S.faults source.new)
+    ensures due { IfOk result (λ a. IsDue words.now
+        (S.left source.old) (S.faults source.old) (S.faults source.new)
         a.status a.loaded a.rounds (string_bytes a.text)) }
     ensures proper { IfOk result (λ a. IsProper a.status) }
     ensures whole { IfOk result (λ a. a.status ≡ Status.Done → IsAtEnd (S.left source.new)) }
@@ -95,7 +99,8 @@ fn whole_run<S: Source, K: Sink>(
     source: &mut S,
     sink: &mut K,
 ) -> Outcome
-    ensures answer { IsAnswer words.now (S.left source.old) (S.faults source.old) (S.faults source.new)
+    ensures answer { IsAnswer words.now
+        (S.left source.old) (S.faults source.old) (S.faults source.new)
         (K.taken sink.old) (K.taken sink.new) (K.faults sink.old) (K.faults sink.new)
         result.status result.loaded result.rounds }
     ensures proper { IsProper result.status }
@@ -142,39 +147,49 @@ pub fn attr_main<S: Source, K: Sink, G: Gate + Sync>(
     // Done: the words ask for a run, the source, read to its end, gave its operations, and exactly
     // the report was written.
     ensures report { result.status ≡ Status.Done → OfRun words.now (S.left source.old) (λ run ops.
-        Appends (K.taken sink.old) (K.taken sink.new) (report run ops result.loaded result.rounds None)) }
+        Appends (K.taken sink.old) (K.taken sink.new)
+        (report run ops result.loaded result.rounds None)) }
     ensures whole { result.status ≡ Status.Done → IsAtEnd (S.left source.new) }
-    ensures loaded { result.status ≡ Status.Done → OfRun words.now (S.left source.old) (λ run ops. result.loaded ≡ length ops) }
+    ensures loaded { result.status ≡ Status.Done
+        → OfRun words.now (S.left source.old) (λ run ops. result.loaded ≡ length ops) }
     ensures rounds { result.status ≡ Status.Done → OfRun words.now (S.left source.old) (λ run ops.
         IsRounds run (length ops) result.loaded result.rounds) }
     ensures after { result.status ≡ Status.Done → OfRun words.now (S.left source.old) (λ run ops.
         IsAfterwards run result.loaded result.rounds) }
     ensures history { result.status ≡ Status.Done → OfRun words.now (S.left source.old) (λ run ops.
-        IsLegalHistory run ops result.loaded result.rounds (history run ops result.loaded result.rounds)) }
+        IsLegalHistory run ops result.loaded result.rounds
+        (history run ops result.loaded result.rounds)) }
 
     // The words.
     ensures help { ComesExactly (AskForHelp words.now) Status.Help result.status }
-    ensures usage_words { ComesExactly (AreRefused words.now) (Status.Usage UsageCause.Words) result.status }
+    ensures usage_words { ComesExactly (AreRefused words.now)
+        (Status.Usage UsageCause.Words) result.status }
     ensures kind_name { let cause = Status.Usage UsageCause.KindName in
         ComesExactly (asked words.now ≡ Err cause) cause result.status }
     ensures value_name { let cause = Status.Usage UsageCause.ValueName in
         ComesExactly (asked words.now ≡ Err cause) cause result.status }
-    ensures usage_query { (number : ℕ) (error : QueryError) → let cause = Status.Usage (UsageCause.Query number error) in
+    ensures usage_query { (number : ℕ) (error : QueryError)
+        → let cause = Status.Usage (UsageCause.Query number error) in
         ComesExactly (asked words.now ≡ Err cause) cause result.status }
     ensures unread { IsErr (asked words.now) → source.new ≡ source.old }
 
     // The feed.
-    ensures read_fault { result.status ≡ Status.ReadFault → Rose (S.faults source.old) (S.faults source.new) }
-    ensures too_long { let cause = Status.BadFeed FeedFault.TooLong in IfSome (S.left source.old) (λ bytes.
+    ensures read_fault { result.status ≡ Status.ReadFault
+        → Rose (S.faults source.old) (S.faults source.new) }
+    ensures too_long { let cause = Status.BadFeed FeedFault.TooLong in
+        IfSome (S.left source.old) (λ bytes.
         ComesExactlyOfFeed (task_of words.now bytes ≡ Err cause) cause result.status) }
-    ensures bad_line { (line number : ℕ) → let cause = Status.BadFeed (FeedFault.Line line number) in
+    ensures bad_line { (line number : ℕ)
+        → let cause = Status.BadFeed (FeedFault.Line line number) in
         IfSome (S.left source.old) (λ bytes.
         ComesExactlyOfFeed (task_of words.now bytes ≡ Err cause) cause result.status) }
 
     // What is written and left at an answer other than Done.
-    ensures text { IsBeforeRun result.status → Appends (K.taken sink.old) (K.taken sink.new) (text_of result.status) }
+    ensures text { IsBeforeRun result.status → Appends (K.taken sink.old) (K.taken sink.new)
+        (text_of result.status) }
     ensures no_run { IsBeforeRun result.status → HasNoRun result.loaded result.rounds }
-    ensures write_fault { result.status ≡ Status.WriteFault → Rose (K.faults sink.old) (K.faults sink.new) }
+    ensures write_fault { result.status ≡ Status.WriteFault
+        → Rose (K.faults sink.old) (K.faults sink.new) }
     ensures front { result.status ≡ Status.WriteFault → WritesFront words.now (S.left source.old)
         (S.faults source.old) (S.faults source.new) result.loaded result.rounds
         (K.taken sink.old) (K.taken sink.new) }
@@ -184,7 +199,8 @@ pub fn attr_main<S: Source, K: Sink, G: Gate + Sync>(
 
     // Where nothing is refused and nothing fails, a run of any size is done, or wants memory.
     ensures complete { IfSome (S.left source.old) (λ bytes. IsOk (task_of words.now bytes)
-        → ¬ Rose (S.faults source.old) (S.faults source.new) → ¬ Rose (K.faults sink.old) (K.faults sink.new)
+        → ¬ Rose (S.faults source.old) (S.faults source.new)
+        → ¬ Rose (K.faults sink.old) (K.faults sink.new)
         → (result.status ≡ Status.Done) ⊎ (result.status ≡ Status.Memory)) }
 {
     whole_run(alloc, words, source, sink)

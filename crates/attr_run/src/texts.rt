@@ -1,5 +1,6 @@
 ghost use Rattle.std.specs.Prelude.{◌≡◌, ◌++◌, ◌≤◌, OnOk, IfOk, string_bytes};
-ghost use Rattle.attr_run.specs.Report.{help_text, query_refusal, query_line, line_refusal, feed_line, text_of};
+ghost use Rattle.attr_run.specs.Report.{help_text, query_refusal, query_line, line_refusal};
+ghost use Rattle.attr_run.specs.Report.{feed_line, text_of};
 ghost use Rattle.attr_run.specs.declared.outcome.Status.TheVariants.{Usage, BadFeed};
 
 use crate::outcome::{FeedFault, Status, UsageCause};
@@ -19,7 +20,8 @@ fn help_in(alloc: Global) -> Result<String, AllocError>
 
 #[tactic(auto, unfolding(crate::specs::Report::query_refusal))]
 fn push_refusal(text: &mut String, error: &QueryError) -> Result<(), AllocError>
-    ensures { OnOk result (string_bytes text.new ≡ string_bytes text.old ++ query_refusal error.now) }
+    ensures { OnOk result (string_bytes text.new ≡ string_bytes text.old
+        ++ query_refusal error.now) }
 {
     match error {
         QueryError::Syntax { place } => write!(text, "Syntax at {place}"),

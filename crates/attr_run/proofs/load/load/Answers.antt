@@ -1,7 +1,8 @@
 use Rattle.std.proofs.Common.{◌≡◌, ◌∙◌, ◌+◌, sym, ap, [], ◌∷◌, length, length-append, arith, rules}
 use Rattle.std.proofs.lemmas.Grind.{common_steps}
 use Rattle.std.specs.Vec.Iter.{into_iter_items}
-use Rattle.attr_run.proofs.LoadLemmas.{plain-push, skipped_ops-le, skipped_ops-skipped, skipped_ops-changed}
+use Rattle.attr_run.proofs.LoadLemmas.{plain-push, skipped_ops-le, skipped_ops-skipped}
+use Rattle.attr_run.proofs.LoadLemmas.{skipped_ops-changed}
 use Rattle.attr_run.proofs.load.load.Goals as goal
 
 pub overflow_add-skipped : goal.overflow_add-skipped
@@ -9,7 +10,14 @@ overflow_add-skipped c =
     let whole = ap length c.loop-op.invariant.all in
     let rest : into_iter_items c.loop-op.op-iterator ≡ c.in-Some.op ∷ into_iter_items c.next.new.self = search rules in
     let more = ap length rest in
-    omega (arith, whole, more, length-append c.loop-op.yielded (into_iter_items c.loop-op.op-iterator), skipped_ops-le c.args.kind [] c.loop-op.yielded)
+    omega (
+      arith,
+      whole,
+      more,
+      length-append c.loop-op.yielded
+          (into_iter_items c.loop-op.op-iterator),
+      skipped_ops-le c.args.kind [] c.loop-op.yielded,
+    )
 
 pub loop-op-preserved-in-Skipped : goal.loop-op-preserved-in-Skipped
 loop-op-preserved-in-Skipped c =

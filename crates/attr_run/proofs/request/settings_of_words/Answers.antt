@@ -19,4 +19,5 @@ returns-in-Err-Help-clause-says c =
 pub returns-in-Err-Refused-clause-says : goal.returns-in-Err-Refused-clause-says
 returns-in-Err-Refused-clause-says c =
     let answer = rw c.in-Err-Refused.field-0-is at c.in-Err-Refused.ensures.answer in
-    rw c.usage.ensures (subst (λ (w : List (List ℕ)). settings_in w ≡ Err (Usage Words)) c.as_slice.ensures (settings_in-refused _ answer))
+    rw c.usage.ensures (subst (λ (w : List (List ℕ)). settings_in w ≡ Err (Usage Words)) c.as_slice.ensures
+    (settings_in-refused _ answer))

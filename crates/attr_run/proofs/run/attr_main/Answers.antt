@@ -3,7 +3,9 @@ use Rattle.attr_run.specs.History.{IsRounds, IsAfterwards, IsLegalHistory, histo
 use Rattle.attr_run.specs.declared.outcome.Status.TheVariants.{ReadFault, WriteFault, Memory}
 use Rattle.attr_run.specs.declared.outcome.UsageCause.TheVariants as usage
 use Rattle.attr_run.specs.declared.outcome.FeedFault.TheVariants as feed
-use Rattle.attr_run.proofs.AnswerLemmas.{Met, at, done-report, done-whole, exactly-usage, exactly-help, exactly-refused, exactly-feed, early-text, early-no_run, complete-told}
+use Rattle.attr_run.proofs.AnswerLemmas.{Met, at, done-report, done-whole, exactly-usage}
+use Rattle.attr_run.proofs.AnswerLemmas.{exactly-help, exactly-refused, exactly-feed, early-text}
+use Rattle.attr_run.proofs.AnswerLemmas.{early-no_run, complete-told}
 use Rattle.attr_run.proofs.run.attr_main.Given.{Over}
 use Rattle.attr_run.proofs.run.attr_main.Goals as goal
 
@@ -51,7 +53,8 @@ pub returns-clause-value_name : goal.returns-clause-value_name
 returns-clause-value_name g c = exactly-usage (met g c) _ _ _ usage.ValueName c.whole_run.ensures.answer
 
 pub returns-clause-usage_query : goal.returns-clause-usage_query
-returns-clause-usage_query g c = λ number error. exactly-usage (met g c) _ _ _ (usage.Query number error) c.whole_run.ensures.answer
+returns-clause-usage_query g c = λ number error. exactly-usage (met g c) _ _ _
+    (usage.Query number error) c.whole_run.ensures.answer
 
 pub returns-clause-unread : goal.returns-clause-unread
 returns-clause-unread g c = c.whole_run.ensures.unread
@@ -63,7 +66,8 @@ pub returns-clause-too_long : goal.returns-clause-too_long
 returns-clause-too_long g c = exactly-feed (met g c) _ _ _ feed.TooLong c.whole_run.ensures.answer _ refl
 
 pub returns-clause-bad_line : goal.returns-clause-bad_line
-returns-clause-bad_line g c = λ line number. exactly-feed (met g c) _ _ _ (feed.Line line number) c.whole_run.ensures.answer _ refl
+returns-clause-bad_line g c = λ line number. exactly-feed (met g c) _ _ _
+    (feed.Line line number) c.whole_run.ensures.answer _ refl
 
 pub returns-clause-text : goal.returns-clause-text
 returns-clause-text g c = early-text (met g c) _ _ _ c.whole_run.ensures.answer

@@ -13,10 +13,13 @@ returns-in_err-ops-clause-stopped g c =
     let p = err_from_is_err_and c.from_residual-in_err-ops.result c.from_residual-in_err-ops.ensures.1 in
     let request = c.in_ok-request.request in
     let e = c.in_err-ops.field-0.0 in
-    let says = subst (λ (field : List ℕ). IfSome (g.S.Source.left c.args.source.now) (λ bytes. FeedSays (Err e) (feed_of field request.kind request.value bytes)))
+    let says = subst (λ (field : List ℕ). IfSome (g.S.Source.left c.args.source.now) (λ bytes. FeedSays (Err e)
+    (feed_of field request.kind request.value bytes)))
     c.as_str-field.ensures.value c.in_err-ops.ensures.feed in
-    rw (p.1 ∙ ap Err p.2) (feed-stopped c.args.words.now (g.S.Source.left c.args.source.now) _ _ _ (run_in request) e c.in_ok-request.ensures.asked says
-    c.in_err-ops.ensures.all (λ is. c.in_err-ops.ensures.too_long (ap Err is)) (λ is. c.in_err-ops.ensures.fault (ap Err is)))
+    rw (p.1 ∙ ap Err p.2) (feed-stopped c.args.words.now (g.S.Source.left c.args.source.now) _ _ _
+    (run_in request) e c.in_ok-request.ensures.asked says
+    c.in_err-ops.ensures.all (λ is. c.in_err-ops.ensures.too_long (ap Err is)) (λ is. c.in_err-ops.ensures.fault
+    (ap Err is)))
 
 pub returns-clause-due : goal.returns-clause-due
 returns-clause-due g c =
@@ -24,9 +27,13 @@ returns-clause-due g c =
     let run = run_in request in
     let ops = c.in_ok-ops.ops in
     let loaded = c.in_ok-loaded.loaded in
-    let says = subst (λ (field : List ℕ). IfSome (g.S.Source.left c.args.source.now) (λ bytes. feed_of field request.kind request.value bytes ≡ Ok ops))
+    let says = subst (λ (field : List ℕ). IfSome (g.S.Source.left c.args.source.now)
+    (λ bytes. feed_of field request.kind request.value bytes ≡ Ok ops))
     c.as_str-field.ensures.value c.in_ok-ops.ensures.feed in
     let all = c.in_ok-loaded.ensures.loaded in
-    let whole = subst (λ (rounds : List (List ℕ)). IsWholeRun loaded rounds run ops) (sym c.new.ensures) (whole-alone run ops loaded c.in_ok-request.ensures.alone all) in
-    let text = c.in_ok-loaded.ensures.text ∙ ap₂ (λ (n : ℕ) (rounds : List (List ℕ)). report run ops n rounds None) (sym all) (sym c.new.ensures) in
-    due-done c.args.words.now (g.S.Source.left c.args.source.now) _ 0 0 run ops loaded c.new.result _ c.in_ok-request.ensures.asked says c.in_ok-ops.ensures.all whole text
+    let whole = subst (λ (rounds : List (List ℕ)). IsWholeRun loaded rounds run ops) (sym c.new.ensures)
+    (whole-alone run ops loaded c.in_ok-request.ensures.alone all) in
+    let text = c.in_ok-loaded.ensures.text ∙ ap₂ (λ (n : ℕ) (rounds : List (List ℕ)). report run ops n rounds None)
+    (sym all) (sym c.new.ensures) in
+    due-done c.args.words.now
+    (g.S.Source.left c.args.source.now) _ 0 0 run ops loaded c.new.result _ c.in_ok-request.ensures.asked says c.in_ok-ops.ensures.all whole text
