@@ -17,7 +17,7 @@ loop-query-preserved c =
     record {
       written = answers_from-next (string_bytes c.loop-query.text) c.loop-query.number
           (tree_of c.query-item.result) left c.args.table.now.table c.as_slice.result.now _
-          (c.as_slice.ensures ∙ c.in_ok-docs.ensures) c.in_ok-push_answer.ensures
+          (c.as_slice.ensures ∙ c.in_ok-docs.ensures.hits) c.in_ok-push_answer.ensures
           ∙ ap (λ queries. string_bytes c.loop-query.text
           ++ answers_from c.loop-query.number queries c.args.table.now.table) (sym rest)
           ∙ c.loop-query.invariant.written;

@@ -1,4 +1,4 @@
-use Rattle.std.proofs.Common.{◌≡◌, ◌∙◌, ap, Err, map, Vec, Global}
+use Rattle.std.proofs.Common.{◌∙◌, ap, Err, map, Vec, Global}
 use Rattle.std.proofs.lemmas.Result.{err_from_is_err_and}
 use Rattle.attr_types.specs.Query.{tree_of}
 use Rattle.attr_types.specs.declared.query.Query.{Query}

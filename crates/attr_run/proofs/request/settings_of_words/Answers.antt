@@ -1,4 +1,4 @@
-use Rattle.std.proofs.Common.{◌≡◌, List, ℕ, Result, Ok, Err, subst}
+use Rattle.std.proofs.Common.{◌≡◌, List, ℕ, Ok, Err, subst}
 use Rattle.attr_words.specs.Reading.{given_by}
 use Rattle.attr_run.specs.Run.{settings_in}
 use Rattle.attr_run.specs.declared.outcome.Status.TheVariants.{Help, Usage}
