@@ -1,10 +1,10 @@
 -- What the states say of each other, and the end of a unit.
-use Rattle.std.proofs.Common.{◌≡◌, ℕ, ◌+◌, ◌<◌, Bool, true, false, not, cond, nat_eq, zero, suc, List, [], ◌∷◌, map, length, get_or, set, refl, sym, ap, ◌∙◌, arith}
+use Rattle.std.proofs.Common.{◌≡◌, ℕ, ◌+◌, Bool, true, false, cond, nat_eq, zero, suc, List, [], ◌∷◌, map, set, refl, sym, ap, ◌∙◌, arith}
 use Rattle.std.specs.List.{count_by}
 use Rattle.std.proofs.lemmas.List.Sums.{sum_by-cons}
 use Rattle.entry_shelf.specs.declared.state.State.{State}
 use Rattle.entry_shelf.specs.declared.state.State.TheVariants.{Free, Returned, Made, InUse, LetGo, DroppedNow, Dropped}
-use Rattle.entry_shelf.specs.States.{is_free, is_touched, is_used, dropped, accepted, undone, settled, state_at}
+use Rattle.entry_shelf.specs.States.{is_free, is_touched, is_used, dropped, settled, state_at}
 
 pub used-free : (s : State) → is_used s ≡ true → is_free s ≡ false
 used-free Free used = absurd (cc)

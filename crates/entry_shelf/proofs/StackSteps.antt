@@ -1,5 +1,5 @@
 -- What a change of one state leaves of a stack.
-use Rattle.std.proofs.Common.{◌≡◌, ◌≢◌, ℕ, zero, suc, ◌+◌, ◌<◌, ◌≤◌, Bool, true, false, not, ◌&&◌, cond, List, [], ◌∷◌, ◌++◌, length, get_or, set, refl, sym, ap, subst, ◌∙◌, arith, inl, inr, length-append, get_or-set_other, get_or-set_same}
+use Rattle.std.proofs.Common.{◌≡◌, ◌≢◌, ℕ, ◌+◌, ◌<◌, ◌≤◌, Bool, true, false, not, ◌&&◌, cond, List, [], ◌∷◌, ◌++◌, length, get_or, set, refl, sym, ap, subst, ◌∙◌, arith, inl, inr, length-append, get_or-set_other, get_or-set_same}
 use Rattle.std.specs.List.{count_by}
 use Rattle.std.proofs.Math.ListN.{length-set, get_or-append}
 use Rattle.std.proofs.Math.Seq.{get_or-append_seam}
@@ -23,9 +23,9 @@ length-snoc xs x = length-append xs (x ∷ [])
 -- a fact of each place of a list and one more
 each_more : (P : ℕ → Type 0) (n : ℕ) → ((i : ℕ) → i < n → P i) → P n → (i : ℕ) → i < n + 1 → P i
 each_more P n each last i h = elim (cases_lt i n) [
-    | inl k ↦ each i k
-    | inr k ↦ (let same : n ≡ i = omega arith in subst P same last)
-  ]
+  | inl k ↦ each i k
+  | inr k ↦ (let same : n ≡ i = omega arith in subst P same last)
+]
 
 abbrev one : Bool → ℕ
 one t = cond t 1 0
@@ -51,18 +51,18 @@ module _ (test : State → Bool) (states : List State) (places stack : List ℕ)
       → IsStack test (set states x new) (set places x (length stack)) (stack ++ x ∷ [])
   stack-push s x new h long was is = record {
     below = λ i k. each_more (λ j. get_or (stack ++ x ∷ []) j 0 < length (set states x new)) (length stack)
-      (λ j m. omega (arith, s.below j m, snoc stack x j m, length-set {A = State} states x new))
-      (omega (arith, h, snoc-last stack x, length-set {A = State} states x new)) i (omega (arith, k, length-snoc stack x));
+        (λ j m. omega (arith, s.below j m, snoc stack x j m, length-set {A = State} states x new))
+        (omega (arith, h, snoc-last stack x, length-set {A = State} states x new)) i (omega (arith, k, length-snoc stack x));
     passes = λ i k. each_more (λ j. test (state_at (set states x new) (get_or (stack ++ x ∷ []) j 0)) ≡ true) (length stack)
-      (λ j m. ap (λ y. test (state_at (set states x new) y)) (snoc stack x j m) ∙ ap test (get_or-set_other states x (get_or stack j 0) new Free (apart j m)) ∙ s.passes j m)
-      (ap (λ y. test (state_at (set states x new) y)) (snoc-last stack x) ∙ ap test (get_or-set_same states x new Free h) ∙ is) i (omega (arith, k, length-snoc stack x));
+        (λ j m. ap (λ y. test (state_at (set states x new) y)) (snoc stack x j m) ∙ ap test (get_or-set_other states x (get_or stack j 0) new Free (apart j m)) ∙ s.passes j m)
+        (ap (λ y. test (state_at (set states x new) y)) (snoc-last stack x) ∙ ap test (get_or-set_same states x new Free h) ∙ is) i (omega (arith, k, length-snoc stack x));
     place = λ i k. each_more (λ j. get_or (set places x (length stack)) (get_or (stack ++ x ∷ []) j 0) 0 ≡ j) (length stack)
-      (λ j m. ap (λ y. get_or (set places x (length stack)) y 0) (snoc stack x j m) ∙ get_or-set_other places x (get_or stack j 0) (length stack) 0 (apart j m) ∙ s.place j m)
-      (ap (λ y. get_or (set places x (length stack)) y 0) (snoc-last stack x) ∙ get_or-set_same places x (length stack) 0 (omega (arith, h, long))) i (omega (arith, k, length-snoc stack x));
+        (λ j m. ap (λ y. get_or (set places x (length stack)) y 0) (snoc stack x j m) ∙ get_or-set_other places x (get_or stack j 0) (length stack) 0 (apart j m) ∙ s.place j m)
+        (ap (λ y. get_or (set places x (length stack)) y 0) (snoc-last stack x) ∙ get_or-set_same places x (length stack) 0 (omega (arith, h, long))) i (omega (arith, k, length-snoc stack x));
     count = (let c = count-set x new h in
-      let d : one (test new) ≡ 1 = ap one is in
-      let e : one (test (state_at states x)) ≡ 0 = ap one was in
-      omega (arith, s.count, c, d, e, length-snoc stack x));
+        let d : one (test new) ≡ 1 = ap one is in
+        let e : one (test (state_at states x)) ≡ 0 = ap one was in
+        omega (arith, s.count, c, d, e, length-snoc stack x));
   }
     where
       apart : (j : ℕ) → j < length stack → get_or stack j 0 ≢ x
@@ -80,14 +80,14 @@ module _ (test : State → Bool) (states : List State) (places stack : List ℕ)
       → IsStack test (states ++ new ∷ []) (places ++ length stack ∷ []) (stack ++ length states ∷ [])
   stack-some s new is long = record {
     below = λ i k. each_more (λ j. get_or (stack ++ length states ∷ []) j 0 < length (states ++ new ∷ [])) (length stack)
-      (λ j m. omega (arith, s.below j m, snoc stack (length states) j m, length-snoc states new))
-      (omega (arith, snoc-last stack (length states), length-snoc states new)) i (omega (arith, k, length-snoc stack (length states)));
+        (λ j m. omega (arith, s.below j m, snoc stack (length states) j m, length-snoc states new))
+        (omega (arith, snoc-last stack (length states), length-snoc states new)) i (omega (arith, k, length-snoc stack (length states)));
     passes = λ i k. each_more (λ j. test (state_at (states ++ new ∷ []) (get_or (stack ++ length states ∷ []) j 0)) ≡ true) (length stack)
-      (λ j m. ap (λ y. test (state_at (states ++ new ∷ []) y)) (snoc stack (length states) j m) ∙ ap test (get_or-append states (new ∷ []) Free (get_or stack j 0) (s.below j m)) ∙ s.passes j m)
-      (ap (λ y. test (state_at (states ++ new ∷ []) y)) (snoc-last stack (length states)) ∙ ap test (get_or-append_seam states new [] Free) ∙ is) i (omega (arith, k, length-snoc stack (length states)));
+        (λ j m. ap (λ y. test (state_at (states ++ new ∷ []) y)) (snoc stack (length states) j m) ∙ ap test (get_or-append states (new ∷ []) Free (get_or stack j 0) (s.below j m)) ∙ s.passes j m)
+        (ap (λ y. test (state_at (states ++ new ∷ []) y)) (snoc-last stack (length states)) ∙ ap test (get_or-append_seam states new [] Free) ∙ is) i (omega (arith, k, length-snoc stack (length states)));
     place = λ i k. each_more (λ j. get_or (places ++ length stack ∷ []) (get_or (stack ++ length states ∷ []) j 0) 0 ≡ j) (length stack)
-      (λ j m. ap (λ y. get_or (places ++ length stack ∷ []) y 0) (snoc stack (length states) j m) ∙ get_or-append places (length stack ∷ []) 0 (get_or stack j 0) (omega (arith, s.below j m, long)) ∙ s.place j m)
-      (ap (λ y. get_or (places ++ length stack ∷ []) y 0) (snoc-last stack (length states) ∙ sym long) ∙ get_or-append_seam places (length stack) [] 0) i (omega (arith, k, length-snoc stack (length states)));
+        (λ j m. ap (λ y. get_or (places ++ length stack ∷ []) y 0) (snoc stack (length states) j m) ∙ get_or-append places (length stack ∷ []) 0 (get_or stack j 0) (omega (arith, s.below j m, long)) ∙ s.place j m)
+        (ap (λ y. get_or (places ++ length stack ∷ []) y 0) (snoc-last stack (length states) ∙ sym long) ∙ get_or-append_seam places (length stack) [] 0) i (omega (arith, k, length-snoc stack (length states)));
     count = (let c = sum_by_push (λ t. cond (test t) 1 0) states new in let d : one (test new) ≡ 1 = ap one is in omega (arith, s.count, c, d, length-snoc stack (length states)));
   }
 
@@ -96,19 +96,21 @@ module _ (test : State → Bool) (states : List State) (places stack : List ℕ)
   stack-pop x s new is = record {
     below = λ i k. omega (arith, s.below i (more i k), snoc stack x i k, length-set {A = State} states x new);
     passes = λ i k.
-      ap test (get_or-set_other states x (get_or stack i 0) new Free (apart i k))
-      ∙ ap (λ y. test (state_at states y)) (sym (snoc stack x i k)) ∙ s.passes i (more i k);
+        ap test (get_or-set_other states x (get_or stack i 0) new Free (apart i k))
+        ∙ ap (λ y. test (state_at states y)) (sym (snoc stack x i k)) ∙ s.passes i (more i k);
     place = λ i k. ap (λ y. get_or places y 0) (sym (snoc stack x i k)) ∙ s.place i (more i k);
     count = (let c = count-set x new top in
-      let d : one (test new) ≡ 0 = ap one is in
-      let e : one (test (state_at states x)) ≡ 1 = ap (λ y. one (test (state_at states y))) (sym (snoc-last stack x)) ∙ ap one (s.passes (length stack) (omega (arith, length-snoc stack x))) in
-      omega (arith, s.count, c, d, e, length-snoc stack x));
+        let d : one (test new) ≡ 0 = ap one is in
+        let e : one (test (state_at states x)) ≡ 1 = ap (λ y. one (test (state_at states y))) (sym (snoc-last stack x)) ∙ ap one (s.passes (length stack) (omega (arith, length-snoc stack x))) in
+        omega (arith, s.count, c, d, e, length-snoc stack x));
   }
     where
       more : (i : ℕ) → i < length stack → i < length (stack ++ x ∷ [])
       more i k = omega (arith, k, length-snoc stack x)
+
       top : x < length states
       top = omega (arith, s.below (length stack) (omega (arith, length-snoc stack x)), snoc-last stack x)
+
       apart : (i : ℕ) → i < length stack → get_or stack i 0 ≢ x
       apart i k e =
           let a : get_or places x 0 ≡ i = ap (λ y. get_or places y 0) (sym e ∙ sym (snoc stack x i k)) ∙ s.place i (more i k) in

@@ -59,7 +59,8 @@ impl Shelf {
         self.free.reserve(room - self.free.len())?;
         self.free_places.reserve(room - self.free_places.len())?;
         self.touched.reserve(room - self.touched.len())?;
-        self.touched_places.reserve(room - self.touched_places.len())?;
+        self.touched_places
+            .reserve(room - self.touched_places.len())?;
         self.room += more;
         Ok(())
     }
@@ -80,7 +81,12 @@ impl Shelf {
     {
         if let Some(entry) = self.free.pop() {
             let state = self.states[entry as usize];
-            enter(&mut self.touched, &mut self.touched_places, entry, !state.is_touched());
+            enter(
+                &mut self.touched,
+                &mut self.touched_places,
+                entry,
+                !state.is_touched(),
+            );
             self.states[entry as usize] = State::Made;
             self.made = self.made.saturating_add(1);
             return Some(entry);
@@ -102,12 +108,23 @@ impl Shelf {
         requires there { entry < length self.old.states }
         requires used { is_used (state_at self.old.states entry) ≡ true }
         ensures { self.new ≡ record self.old {
-            states = slice_set self.old.states entry (dropped last (state_at self.old.states entry)) } }
+          states = slice_set self.old.states entry (dropped last (state_at self.old.states entry));
+        } }
     {
         let state = self.states[entry as usize];
         let after = state.dropped(last);
-        enter(&mut self.free, &mut self.free_places, entry, after.is_free());
-        enter(&mut self.touched, &mut self.touched_places, entry, !state.is_touched());
+        enter(
+            &mut self.free,
+            &mut self.free_places,
+            entry,
+            after.is_free(),
+        );
+        enter(
+            &mut self.touched,
+            &mut self.touched_places,
+            entry,
+            !state.is_touched(),
+        );
         self.states[entry as usize] = after;
     }
 
@@ -131,7 +148,12 @@ impl Shelf {
         while let Some(entry) = self.touched.pop() {
             let state = self.states[entry as usize];
             let after = state.settled(accepts, last);
-            enter(&mut self.free, &mut self.free_places, entry, after.is_free() & !state.is_free());
+            enter(
+                &mut self.free,
+                &mut self.free_places,
+                entry,
+                after.is_free() & !state.is_free(),
+            );
             self.states[entry as usize] = after;
         }
     }

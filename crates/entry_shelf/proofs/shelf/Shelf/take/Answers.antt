@@ -1,4 +1,4 @@
-use Rattle.std.proofs.Common.{◌≡◌, ℕ, ◌<◌, ◌≤◌, ◌+◌, Bool, true, false, not, cond, List, [], ◌∷◌, ◌++◌, length, refl, sym, ap, subst, ◌∙◌, arith, length-append}
+use Rattle.std.proofs.Common.{◌≡◌, false, not, length, refl, sym, ap, subst, ◌∙◌, arith}
 use Rattle.std.proofs.Math.ListN.{length-set}
 use Rattle.std.proofs.lemmas.List.{get_or_read}
 use Rattle.std.proofs.lemmas.Bool.{not-true}
@@ -14,7 +14,7 @@ enter-requires-clause-room c e =
     let s = c.self.inside in
     let k = c.self.invariant in
     let top = stack-top is_free s.states.items s.free_places.items c.pop.new.self.items c.in-Some.entry
-      (subst (IsStack is_free s.states.items s.free_places.items) c.in-Some.ensures.items k.free_is) in
+    (subst (IsStack is_free s.states.items s.free_places.items) c.in-Some.ensures.items k.free_is) in
     let state = get_or_read s.states.items c.in-Some.entry _ top.0 c.index-state.ensures Free in
     let was : is_touched (state_at s.states.items c.in-Some.entry) ≡ false = ap is_touched (sym state) ∙ sym c.is_touched.ensures ∙ not-true _ e in
     let less = stack-room is_touched s.states.items s.touched_places.items s.touched.items k.touched_is c.in-Some.entry Made top.0 was refl in
@@ -49,7 +49,7 @@ invariant_of-self-2 c =
     let k = c.self.invariant in
     let none = c.in_default.ensures.cases in
     let left : c.pop.new.self.items ≡ s.free.items =
-      empty-from _ (omega (arith, none.1, c.pop.new.self.ok.0)) ∙ sym (empty-from s.free.items (omega (arith, none.0, s.free.ok.0))) in
+    empty-from _ (omega (arith, none.1, c.pop.new.self.ok.0)) ∙ sym (empty-from s.free.items (omega (arith, none.0, s.free.ok.0))) in
     let size : c.len.result ≡ length s.touched.items = c.len.ensures ∙ s.touched.ok.0 in
     let entry : c.len-entry.result ≡ length s.states.items = c.len-entry.ensures ∙ s.states.ok.0 in
     let free = stack-none is_free s.states.items s.free_places.items s.free.items k.free_is Made 0 refl k.long1 in
