@@ -1,11 +1,12 @@
 -- What the definitions mean, as laws.
-use Rattle.std.specs.Prelude.{◌≡◌, ℕ, ◌*◌, ◌<◌, ◌≤◌, ◌^◌, List, length, slice_index, slice_index_or, map, ℤ, FitsSigned}
+use Rattle.std.specs.Prelude.{◌≡◌, ℕ, ◌*◌, ◌<◌, ◌≤◌, ◌^◌, List, length, nat_eq, slice_index, slice_index_or, map, ℤ, FitsSigned}
 use Rattle.std.specs.declared.cmp.Ordering.TheVariants.{Less}
 use Rattle.std.specs.Int.{w64}
+use Rattle.std.specs.List.{IsDistinct}
 use Rattle.std.specs.Ordering.{nat_cmp}
 use Rattle.image_base.specs.Records.{Records, SameAt}
 use Rattle.attr_images.specs.Images.{operations_at, dictionary_at, table_of, IsLawful}
-use Rattle.attr_images.specs.Nodes.{level_of, count_of}
+use Rattle.attr_images.specs.Nodes.{level_of, count_of, node_keys, node_values, node_words, IsNodeForm}
 use Rattle.attr_images.specs.Shapes.{shape_of, kind_of_shape, type_of_shape}
 use Rattle.attr_images.specs.Trees.{tree_pairs, tree_nodes, by_number, IsRootNode, IsTree, Keeps}
 use Rattle.attr_images.specs.Values.{value_words, value_of, value_at}
@@ -42,6 +43,23 @@ CountIsLength = (m : Records) (root : ℕ) → 0 < root → IsRootNode m root �
 abbrev pub HasManyPairs : Type 0
 HasManyPairs = (m : Records) (root : ℕ) → 0 < root → IsRootNode m root → 0 < level_of (m root)
     → 2 * 8 ^ level_of (m root) ≤ length (tree_pairs m root)
+
+-- no node of a tree is there twice, whatever its keys read as
+abbrev pub NodesAreDistinct : Type 0
+NodesAreDistinct = (m : Records) (root : ℕ) → IsTree nat_cmp by_number m root → IsDistinct nat_eq (tree_nodes m root)
+
+abbrev pub DictionaryNodesAreDistinct : Type 0
+DictionaryNodesAreDistinct = (type : ValueType) (m : Records) (root : ℕ) → IsTree value_cmp (value_at type) m root
+    → IsDistinct nat_eq (tree_nodes m root)
+
+-- a node made of slots has its form, and reads as these slots
+abbrev pub NodeIsFormed : Type 0
+NodeIsFormed = (level count : ℕ) (keys values : List ℕ) → length keys ≡ length values → length keys ≤ 16 → count < 4294967296
+    → IsNodeForm level (length keys) (node_words level count keys values)
+
+abbrev pub NodeReads : Type 0
+NodeReads = (level count : ℕ) (keys values : List ℕ) → length keys ≡ length values → length keys ≤ 16
+    → (node_keys (node_words level count keys values) ≡ keys) × (node_values (node_words level count keys values) ≡ values)
 
 -- a shape tells its kind and its value type
 abbrev pub ShapeTells : Type 0

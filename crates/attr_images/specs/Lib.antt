@@ -9,3 +9,4 @@ pub mod Shapes
 pub mod Images
 pub mod ImageFrames
 pub mod Laws
+pub mod Examples

@@ -1,5 +1,5 @@
 -- The words of one tree node.
-use Rattle.std.specs.Prelude.{◌≡◌, ℕ, ◌+◌, ◌/◌, ◌%◌, ◌<◌, ◌≤◌, List, length, slice_index, take, drop}
+use Rattle.std.specs.Prelude.{◌≡◌, ℕ, ◌+◌, ◌-◌, ◌*◌, ◌/◌, ◌%◌, ◌<◌, ◌≤◌, List, ◌∷◌, ◌++◌, length, slice_index, take, drop, replicate}
 
 -- word 0 is the level times 256, and the number of used slots
 abbrev pub level_of : List ℕ → ℕ
@@ -28,3 +28,10 @@ pub record IsNodeForm (level least : ℕ) (ws : List ℕ) : Type 0 where
   pub no_key : (i : ℕ) → used_of ws ≤ i → i < 16 → slice_index ws (2 + i) ≡ 0
   pub no_value : (i : ℕ) → used_of ws ≤ i → i < 16 → slice_index ws (18 + i) ≡ 0
   pub few : count_of ws < 4294967296
+
+-- the words of a node with these slots used
+abbrev pub padded : List ℕ → List ℕ
+padded slots = slots ++ replicate (16 - length slots) 0
+
+abbrev pub node_words : ℕ → ℕ → List ℕ → List ℕ → List ℕ
+node_words level count keys values = (level * 256 + length keys) ∷ count ∷ (padded keys ++ padded values)

@@ -1,4 +1,11 @@
+use Rattle.std.specs.Ordering.{nat_cmp}
+use Rattle.std.proofs.lemmas.Cmp.{nat_cmp_total}
+use Rattle.attr_images.proofs.DistinctLemmas.{tree_nodes_distinct}
 use Rattle.attr_images.proofs.TreeLemmas.{keys_ascend, root_count, many_pairs}
+use Rattle.attr_images.specs.Trees.{by_number}
+use Rattle.attr_images.specs.Values.{value_at}
+use Rattle.attr_types.specs.Value.{value_cmp}
+use Rattle.attr_types.specs.ValueOrder.{value_cmp_total}
 use Rattle.attr_images.proofs.laws.tree_law.Goals as goal
 
 pub returns-clause-ascend : goal.returns-clause-ascend
@@ -9,3 +16,9 @@ returns-clause-count c = root_count
 
 pub returns-clause-many : goal.returns-clause-many
 returns-clause-many c = many_pairs
+
+pub returns-clause-distinct : goal.returns-clause-distinct
+returns-clause-distinct c = tree_nodes_distinct nat_cmp nat_cmp_total by_number
+
+pub returns-clause-dictionary : goal.returns-clause-dictionary
+returns-clause-dictionary c = λ type. tree_nodes_distinct value_cmp value_cmp_total (value_at type)
