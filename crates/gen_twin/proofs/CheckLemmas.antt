@@ -1,24 +1,22 @@
 -- From what a check finds to the item that it checks.
-use Rattle.std.proofs.Common.{◌≡◌, ◌≢◌, ◌↔◌, ℕ, zero, suc, ◌+◌, ◌-◌, ◌*◌, ◌<◌, ◌≤◌, List, [], ◌∷◌, ◌++◌, length, get_or, take, drop, lt_of_not-le, Option, Some, None, Bool, true, false, cond, refl, sym, ap, ◌∙◌, subst, arith, slice_index, add-zero}
-use Rattle.std.specs.Prelude.{slice_get, All, IsTrue, count_by, sum_by, nat_eq, ◌||◌, option_and_then, Result, Ok, Err, IfOk}
+use Rattle.std.proofs.Common.{◌≡◌, ◌↔◌, ℕ, ◌+◌, ◌-◌, ◌<◌, ◌≤◌, List, [], ◌∷◌, length, get_or, take, drop, lt_of_not-le, Some, None, Bool, true, false, cond, refl, sym, ap, ◌∙◌, subst, arith, slice_index}
+use Rattle.std.specs.Prelude.{slice_get, All, IsTrue, count_by, nat_eq, ◌||◌, option_and_then, Result, Ok, Err, IfOk}
 use mathlib.Core.Logic.{dite}
 use native.Mathlib.Decide.{ℕ_discrete, dec_le}
 use Rattle.std.proofs.lemmas.Option.{slice_get_within, slice_get_past}
 use Rattle.std.proofs.lemmas.List.Sums.{sum_by-cons}
-use Rattle.std.proofs.lemmas.List.Elements.{All-nil, All-cons, All-head, All-tail}
+use Rattle.std.proofs.lemmas.List.Elements.{All-cons, All-head, All-tail}
 use Rattle.image_base.specs.declared.Image.{Image}
-use Rattle.image_base.specs.Places.{base}
 use Rattle.gen_core.specs.declared.views.Sizes.{Sizes}
 use Rattle.gen_core.specs.declared.views.OpenHold.{OpenHold}
 use Rattle.gen_core.specs.declared.views.Pending.{Pending}
 use Rattle.gen_core.specs.declared.views.Pending.TheVariants.{Nothing}
 use Rattle.gen_core.specs.declared.views.Buffer.{Buffer}
-use Rattle.gen_core.specs.declared.views.Buffer.TheVariants.{Free, Active, Held}
+use Rattle.gen_core.specs.declared.views.Buffer.TheVariants.{Free, Held}
 use Rattle.gen_core.specs.declared.views.ReaderState.{ReaderState}
 use Rattle.gen_core.specs.declared.views.ReaderState.TheVariants.{Idle, Aimed, Raised, Bounced, Guarded, Spent}
 use Rattle.gen_core.specs.declared.views.ReaderView.{ReaderView}
 use Rattle.gen_core.specs.Views.{last_image, hold_place, is_open, is_raised_on, record_width, width_in}
-use Rattle.gen_core.specs.Work.{work_at}
 use Rattle.gen_core.specs.Good.{GoodTags, GoodFrozen, GoodMemory, GoodCounts, IsUntagged, IsIdleOrSpent, IsPlaced, IsWorkPlace, WordsStand, hold_word}
 use Rattle.gen_core.proofs.Writer.{last_at}
 use Rattle.gen_core.proofs.Lists.{all_at, all_found}

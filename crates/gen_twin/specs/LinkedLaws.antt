@@ -1,5 +1,5 @@
 -- The small layout is a layout.
-use Rattle.std.proofs.Common.{◌≡◌, ℕ, zero, suc, ◌<◌, List, [], ◌∷◌, length, cond, eqb, eqb-true, Bool, true, false, refl, sym, ap, ◌∙◌, subst, arith, slice_index, ne_eqb, eq-eqb, true≢false}
+use Rattle.std.proofs.Common.{◌≡◌, ℕ, zero, suc, ◌<◌, List, [], ◌∷◌, length, cond, eqb, eqb-true, Bool, true, false, refl, sym, ap, ◌∙◌, subst, arith, slice_index, eq-eqb, true≢false}
 use Rattle.image_base.specs.Records.{Records, word_at, SameAt, AllThere}
 use Rattle.gen_twin.specs.Linked.{listed, linked_reaches, IsLinked}
 

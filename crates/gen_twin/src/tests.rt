@@ -1,5 +1,7 @@
 //! Random lists of events over a small world, and each condition left out once.
 
+ghost use Rattle.std.specs.Prelude.{◌<◌};
+
 use crate::changes::{handed_out, newcomer, published, sees, stored, widened};
 use crate::guards::may_load_word;
 use crate::places::words_stand;
@@ -26,6 +28,7 @@ struct Draws {
 impl Draws {
     fn below(&mut self, n: u64) -> u64
         requires { 0 < n }
+        ensures { result < n }
     {
         self.state = self
             .state
@@ -44,7 +47,7 @@ fn draw_event(
     let kind = draws.below(12);
     let b = draws.below(3) as usize;
     let happened = match kind {
-        0 => world.store_width(b, draws.below(4)),
+        0 => world.store_width(b, [0, 2, 2, 3][draws.below(4) as usize]),
         1 => world.hand_out(b),
         2..=6 => {
             let p = 20 + draws.below(17);
@@ -54,7 +57,7 @@ fn draw_event(
         7..=8 => world.publish(alloc, draws.below(3) * 1024 + draws.below(2))?,
         9 => world.load_root(alloc, b)?,
         10 => world.seats.len() < 2 && world.split(alloc)?,
-        _ => world.join(alloc, b)?,
+        _ => draws.below(3) == 0 && world.join(alloc, b)?,
     };
     Ok((kind, happened))
 }
@@ -106,7 +109,8 @@ fn every_event_keeps_the_invariant(rt: HostRuntime) -> Result<(), Fail> {
     for count in happened {
         assert!(rt; count > 50, "{count}");
     }
-    assert!(rt; refused > 1000 && loads > 1000);
+    assert!(rt; refused > 1000, "{refused}");
+    assert!(rt; loads > 100, "{loads}");
     Ok(())
 }
 

@@ -1,4 +1,4 @@
-use Rattle.std.proofs.Common.{◌≡◌, List, ℕ, IsTrue, sym, subst}
+use Rattle.std.proofs.Common.{List, subst}
 use Rattle.std.specs.Prelude.{All}
 use Rattle.image_base.specs.declared.Image.{Image}
 use Rattle.gen_core.specs.Good.{GoodFrozen, IsPlaced, IsWorkPlace}

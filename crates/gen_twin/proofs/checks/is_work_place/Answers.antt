@@ -1,4 +1,3 @@
-use Rattle.std.proofs.Common.{IsTrue}
 use Rattle.gen_twin.proofs.checks.is_work_place.Goals as goal
 
 pub returns : goal.returns

@@ -1,8 +1,5 @@
-use Rattle.std.proofs.Common.{◌≡◌, ◌+◌, ◌*◌, ℕ, slice_index, Some, ap, arith, sym, ◌∙◌}
-use Rattle.std.specs.Prelude.{slice_get}
-use Rattle.image_base.specs.Places.{state_place}
-use Rattle.gen_core.specs.declared.views.Buffer.{Buffer}
-use Rattle.gen_core.specs.Views.{last_image, state_word}
+use Rattle.std.proofs.Common.{◌≡◌, ap, arith, ◌∙◌}
+use Rattle.gen_core.specs.Views.{last_image}
 use Rattle.gen_twin.proofs.checks.names_hold.Goals as goal
 
 pub returns : goal.returns

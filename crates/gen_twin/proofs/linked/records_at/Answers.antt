@@ -1,5 +1,4 @@
 use Rattle.std.proofs.Common.{◌<◌, length, arith}
-use Rattle.std.proofs.lemmas.Grind.{common_steps}
 use Rattle.gen_twin.proofs.PairLemmas.{pairs-more}
 use Rattle.gen_twin.proofs.linked.records_at.Goals as goal
 

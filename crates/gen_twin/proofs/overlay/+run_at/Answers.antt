@@ -1,5 +1,5 @@
-use Rattle.std.proofs.Common.{◌≡◌, ◌+◌, ◌-◌, ◌<◌, List, ◌∷◌, [], Some, None, sym, ap, ◌∙◌, arith}
-use Rattle.gen_core.specs.Work.{prepend, run_at, work_at}
+use Rattle.std.proofs.Common.{◌≡◌, ◌+◌, ◌-◌, Some, None, sym, ap, ◌∙◌, arith}
+use Rattle.gen_core.specs.Work.{prepend, run_at}
 use Rattle.gen_twin.proofs.RunLemmas.{run-zero, run-step}
 use Rattle.gen_twin.proofs.overlay.+run_at.Goals as goal
 

@@ -1,6 +1,5 @@
-use Rattle.std.proofs.Common.{◌≡◌, List, ℕ, Some, IsTrue, true, false, sym, ap, ◌∙◌, arith}
+use Rattle.std.proofs.Common.{◌≡◌, Some, IsTrue, sym}
 use Rattle.entry_ref.specs.References.{buffer_of}
-use Rattle.image_base.specs.Places.{IsEntry}
 use Rattle.gen_core.specs.Views.{active_in}
 use Rattle.gen_core.specs.Work.{place_in, run_at, whole_at}
 use Rattle.gen_twin.specs.Twin.{view_of}

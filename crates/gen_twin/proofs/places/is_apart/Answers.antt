@@ -1,6 +1,5 @@
-use Rattle.std.proofs.Common.{◌≡◌, ◌<◌, ◌≤◌, ◌+◌, IsTrue, inl, inr, arith}
+use Rattle.std.proofs.Common.{◌≤◌, ◌+◌, inr, arith}
 use Rattle.std.proofs.lemmas.Bool.Decides.{nat_tests}
-use Rattle.gen_core.specs.Work.{place_in}
 use Rattle.gen_core.specs.Good.{IsApart}
 use Rattle.gen_twin.proofs.PlaceLemmas.{apart-made, apart-parts}
 use Rattle.gen_twin.proofs.places.is_apart.Goals as goal

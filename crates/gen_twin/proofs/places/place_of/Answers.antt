@@ -1,4 +1,4 @@
-use Rattle.std.proofs.Common.{◌≡◌, ◌+◌, ◌*◌, ◌/◌, ◌<◌, ◌≤◌, arith}
+use Rattle.std.proofs.Common.{◌*◌, ◌/◌, ◌≤◌, arith}
 use Rattle.gen_twin.proofs.PlaceLemmas.{mul-most}
 use Rattle.gen_twin.proofs.places.place_of.Goals as goal
 

@@ -1,4 +1,4 @@
-use Rattle.std.proofs.Common.{◌≡◌, sym, ◌∙◌}
+use Rattle.std.proofs.Common.{sym, ◌∙◌}
 use Rattle.gen_twin.proofs.CheckLemmas.{counts-made}
 use Rattle.gen_twin.proofs.readers.counts_hold.Goals as goal
 

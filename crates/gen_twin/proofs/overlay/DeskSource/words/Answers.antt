@@ -1,6 +1,5 @@
-use Rattle.std.proofs.Common.{◌≡◌, List, ℕ, Some, None, sym, ap, ◌∙◌, arith}
+use Rattle.std.proofs.Common.{◌≡◌, None, sym}
 use Rattle.image_base.specs.Images.{words_at}
-use Rattle.gen_core.specs.Views.{last_image}
 use Rattle.gen_core.specs.Work.{overlay, whole_at}
 use Rattle.gen_twin.specs.Twin.{view_of}
 use Rattle.gen_twin.proofs.RunLemmas.{overlay-last}

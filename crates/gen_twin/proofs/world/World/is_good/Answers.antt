@@ -1,5 +1,5 @@
-use Rattle.std.proofs.Common.{◌≡◌, List, IsTrue, sym, subst}
-use Rattle.gen_core.specs.Good.{GoodSizes, GoodCommits, Good}
+use Rattle.std.proofs.Common.{IsTrue}
+use Rattle.gen_core.specs.Good.{GoodCommits, Good}
 use Rattle.gen_twin.specs.Linked.{linked_reaches, IsLinked}
 use Rattle.gen_twin.specs.World.{state_of}
 use Rattle.gen_twin.proofs.CheckLemmas.{ok-more, tags-none}
