@@ -127,8 +127,11 @@ pub record GoodMemory (z : Sizes) (words : List ℕ) (buffers : List Buffer) (ke
 abbrev pub hold_word : ℕ → Bool → ℕ
 hold_word raised opened = 2 * raised + (if opened then 0 else 1)
 
-pub record GoodCounts (words : List ℕ) (older : List OpenHold) (newest : OpenHold) (pending : Pending) (made : ℕ) (readers : List ReaderView) : Type 0 where
-  pub counts : (h : ℕ) → h < 16 → slice_index words (hold_place h) ≡ hold_word (count_by (λ r. is_raised_on h r.state) readers) (is_open older newest pending h)
+pub record GoodCounts (words : List ℕ) (older : List OpenHold) (newest : OpenHold) (pending : Pending)
+    (made : ℕ) (readers : List ReaderView) : Type 0 where
+  pub counts :
+      (h : ℕ) → h < 16
+      → slice_index words (hold_place h) ≡ hold_word (count_by (λ r. is_raised_on h r.state) readers) (is_open older newest pending h)
   pub views : length readers ≡ made
   pub few : made ≤ 64
 
@@ -149,7 +152,8 @@ pub record IsBounced (newest : OpenHold) (least h : ℕ) : Type 0 where
   pub missed : least < newest.generation
 
 -- a guard's commit is kept by its hold, and is what the view saw last
-pub record IsGuarded (older : List OpenHold) (newest : OpenHold) (pending : Pending) (commits : List Image) (saw : List (ℕ × Image)) (h c : ℕ) : Type 0 where
+pub record IsGuarded (older : List OpenHold) (newest : OpenHold) (pending : Pending) (commits : List Image)
+    (saw : List (ℕ × Image)) (h c : ℕ) : Type 0 where
   pub raised : IsRaised older newest pending h
   pub commit : c ≤ last_number commits
   pub first : All (λ e. e.hold ≡ h → e.first ≤ c) (queue_of older newest)
@@ -166,7 +170,8 @@ GoodReaderState older newest pending commits r (Bounced h) = IsBounced newest r.
 GoodReaderState older newest pending commits r (Guarded h c) = IsGuarded older newest pending commits r.saw h c
 GoodReaderState older newest pending commits r Spent = r ≡ spent
 
-pub record GoodReader (z : Sizes) (older : List OpenHold) (newest : OpenHold) (pending : Pending) (commits : List Image) (r : ReaderView) : Type 0 where
+pub record GoodReader (z : Sizes) (older : List OpenHold) (newest : OpenHold) (pending : Pending)
+    (commits : List Image) (r : ReaderView) : Type 0 where
   pub sizes : r.state ≢ Spent → r.sizes ≡ z
   pub seen : r.seen ≤ last_number commits
   pub saw : All (IsCommit commits) r.saw
@@ -193,7 +198,8 @@ abbrev pub first_hold : OpenHold
 first_hold = record { generation = 0; hold = 0; first = 0 }
 
 -- while nothing is given back: the queue is its opening entry, nothing is pending or on hold, and no view stands on a hold
-pub record IsAppendOnly (older : List OpenHold) (newest : OpenHold) (pending : Pending) (buffers : List Buffer) (readers : List ReaderView) : Type 0 where
+pub record IsAppendOnly (older : List OpenHold) (newest : OpenHold) (pending : Pending)
+    (buffers : List Buffer) (readers : List ReaderView) : Type 0 where
   pub alone : older ≡ []
   pub opening : newest ≡ first_hold
   pub calm : pending ≡ Nothing

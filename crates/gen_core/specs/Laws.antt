@@ -55,13 +55,16 @@ module _ (reaches : ℕ → Records → ℕ → List ℕ) (lawful : ℕ → Reco
   StoreLeavesKept = (s : State) (p n : ℕ) → Good reaches lawful s → MayStoreWord s.writer p → KeptStand s (after_store_word s p n).words
 
   abbrev pub WidthLeavesKept : Type 0
-  WidthLeavesKept = (s : State) (b width : ℕ) → Good reaches lawful s → MayStoreWidth s.writer b width → KeptStand s (after_store_width s b width).words
+  WidthLeavesKept =
+      (s : State) (b width : ℕ) → Good reaches lawful s → MayStoreWidth s.writer b width
+      → KeptStand s (after_store_width s b width).words
 
   -- a published image stands
   abbrev pub PublishedStands : Type 0
   PublishedStands =
       (s : State) (root : ℕ) → Good reaches lawful s → MayPublish lawful s.writer root
-      → StandsIn s.writer.sizes.buffers s.writer.sizes.words (after_publish s (next_image reaches s.writer root)).words (next_image reaches s.writer root)
+      → StandsIn s.writer.sizes.buffers s.writer.sizes.words
+      (after_publish s (next_image reaches s.writer root)).words (next_image reaches s.writer root)
 
   -- the root word tells the last commit and its root, and a reader has seen no later one
   pub record TellsCommit (s : State) (r : ReaderView) : Type 0 where

@@ -16,7 +16,9 @@ module _ (reaches : ℕ → Records → ℕ → List ℕ) (lawful : ℕ → Reco
 
   -- a word stored into a kept commit
   abbrev pub NeedsApart : Type 0
-  NeedsApart = (s : State) (p n : ℕ) → (All (Avoids s.writer.sizes p) (kept_of s.writer) → ⊥) → Good reaches lawful (after_store_word s p n) → ⊥
+  NeedsApart =
+      (s : State) (p n : ℕ) → (All (Avoids s.writer.sizes p) (kept_of s.writer) → ⊥)
+      → Good reaches lawful (after_store_word s p n) → ⊥
 
   -- a width stored in a buffer that is not active
   abbrev pub NeedsActiveWidth : Type 0
@@ -27,18 +29,22 @@ module _ (reaches : ℕ → Records → ℕ → List ℕ) (lawful : ℕ → Reco
   -- another width stored where a kept commit has a record
   abbrev pub NeedsNoWidth : Type 0
   NeedsNoWidth =
-      (s : State) (b width : ℕ) (image : Image) (entry : ℕ × List ℕ) → Good reaches lawful s → Contains (kept_of s.writer) image → Contains image.records entry
+      (s : State) (b width : ℕ) (image : Image) (entry : ℕ × List ℕ) → Good reaches lawful s
+      → Contains (kept_of s.writer) image → Contains image.records entry
       → buffer_of entry.0 ≡ b → length entry.1 ≢ width → Good reaches lawful (after_store_width s b width) → ⊥
 
   -- a buffer handed out where a kept commit has a record
   abbrev pub NeedsFree : Type 0
   NeedsFree =
-      (s : State) (b : ℕ) (image : Image) (entry : ℕ × List ℕ) → Good reaches lawful s → Contains (kept_of s.writer) image → Contains image.records entry
+      (s : State) (b : ℕ) (image : Image) (entry : ℕ × List ℕ) → Good reaches lawful s
+      → Contains (kept_of s.writer) image → Contains image.records entry
       → buffer_of entry.0 ≡ b → Good reaches lawful (after_hand_out s b) → ⊥
 
   -- an image published that is not lawful, reaches other records than it has, or has too large a root
   abbrev pub NeedsLawful : Type 0
-  NeedsLawful = (s : State) (image : Image) → (IsLawfulCommit reaches lawful s.writer.sizes.shape image → ⊥) → Good reaches lawful (after_publish s image) → ⊥
+  NeedsLawful =
+      (s : State) (image : Image) → (IsLawfulCommit reaches lawful s.writer.sizes.shape image → ⊥)
+      → Good reaches lawful (after_publish s image) → ⊥
 
   -- an image published with a record that lies in no buffer of its width, or does not stand
   abbrev pub NeedsRecords : Type 0
@@ -49,7 +55,9 @@ module _ (reaches : ℕ → Records → ℕ → List ℕ) (lawful : ℕ → Reco
 
   -- a publish past the last number
   abbrev pub NeedsNumber : Type 0
-  NeedsNumber = (s : State) (image : Image) → Good reaches lawful s → s.writer.sizes.commit_limit ≤ last_number s.writer.commits → Good reaches lawful (after_publish s image) → ⊥
+  NeedsNumber =
+      (s : State) (image : Image) → Good reaches lawful s → s.writer.sizes.commit_limit ≤ last_number s.writer.commits
+      → Good reaches lawful (after_publish s image) → ⊥
 
   -- a reader made past the sixty-fourth
   abbrev pub NeedsSeat : Type 0
@@ -58,4 +66,5 @@ module _ (reaches : ℕ → Records → ℕ → List ℕ) (lawful : ℕ → Reco
   -- the root loaded by a view that was joined away
   abbrev pub NeedsReader : Type 0
   NeedsReader =
-      (s : State) (j : ℕ) (r : ReaderView) → slice_get s.readers j ≡ Some r → r.state ≡ Spent → Good reaches lawful (after_load_root s j r) → ⊥
+      (s : State) (j : ℕ) (r : ReaderView) → slice_get s.readers j ≡ Some r → r.state ≡ Spent
+      → Good reaches lawful (after_load_root s j r) → ⊥

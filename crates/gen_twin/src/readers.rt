@@ -39,7 +39,8 @@ pub fn are_still(seats: &[Seat]) -> bool
 
 /// Whether what is said of a reader holds of a view that is idle or was joined away.
 pub fn reader_holds(desk: &Desk, seat: &Seat) -> bool
-    ensures { IsTrue result → GoodReader desk.now.sizes desk.now.older.items desk.now.newest desk.now.pending desk.now.commits.items seat.now }
+    ensures { IsTrue result
+        → GoodReader desk.now.sizes desk.now.older.items desk.now.newest desk.now.pending desk.now.commits.items seat.now }
 {
     match seat.state {
         ReaderState::Idle => {
@@ -67,7 +68,10 @@ pub fn reader_holds(desk: &Desk, seat: &Seat) -> bool
 
 /// Whether it holds of all.
 pub fn readers_hold(desk: &Desk, seats: &[Seat]) -> bool
-    ensures { IsTrue result → All (λ r. GoodReader desk.now.sizes desk.now.older.items desk.now.newest desk.now.pending desk.now.commits.items r) seats.now }
+    ensures { IsTrue result
+        → All
+        (λ r. GoodReader desk.now.sizes desk.now.older.items desk.now.newest desk.now.pending desk.now.commits.items r)
+        seats.now }
 {
     seats.iter().all(|seat| reader_holds(desk, seat))
 }
