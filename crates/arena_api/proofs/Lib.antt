@@ -1,5 +1,5 @@
 pub mod Free
 pub mod Handed
 pub mod Views
-pub mod Unkept
+pub mod WidthLemmas
 pub mod Padded

@@ -1,5 +1,5 @@
 -- The ledger of a store, and what its calls make of it.
-use Rattle.std.specs.Prelude.{◌≡◌, ◌≢◌, ◌⊎◌, ℕ, zero, suc, ◌+◌, ◌-◌, ◌/◌, ◌<◌, ◌≤◌, Bool, true, false, nat_eq, if◌then◌else◌, min, List, [], ◌∷◌, ◌++◌, length, replicate, Option, Some}
+use Rattle.std.specs.Prelude.{◌≡◌, ◌≢◌, ◌⊎◌, ℕ, zero, suc, ◌+◌, ◌-◌, ◌/◌, ◌<◌, ◌≤◌, Bool, true, false, nat_eq, if◌then◌else◌, min, List, [], ◌∷◌, Option, Some}
 use Rattle.std.specs.List.{list_any}
 use Rattle.entry_ref.specs.References.{buffer_of}
 use Rattle.image_base.specs.Places.{IsEntry}
@@ -7,7 +7,7 @@ use Rattle.image_base.specs.Records.{Records, with_words}
 use Rattle.image_base.specs.Images.{words_at}
 use Rattle.image_base.specs.declared.Image.{Image}
 use Rattle.arena_api.specs.Works.{WorkView, Commits, Buffer, active_width, free_count}
-use Rattle.arena_api.specs.Calls.{IsLowestFree, handed_out, published}
+use Rattle.arena_api.specs.Calls.{IsLowestFree, handed_out, padded, published}
 use Rattle.entry_store.specs.Classes.{Class, in_use, is_open, is_free, is_let_go, after_drop, after_commit, with_class}
 
 abbrev pub is_active : Buffer → Bool
@@ -67,10 +67,6 @@ with_filled filled width b w = if nat_eq w width then Some b else filled w
 -- one more, up to the last 64-bit number
 abbrev pub counted : ℕ → ℕ
 counted n = min (n + 1) 18446744073709551615
-
--- words with zeros after them
-abbrev pub padded : List ℕ → ℕ → List ℕ
-padded words width = words ++ replicate (width - length words) 0
 
 -- how many of the first n buffers are active, and how many are held
 abbrev pub active_count : (ℕ → Buffer) → ℕ → ℕ

@@ -1,7 +1,7 @@
 //! The append-only core: a writer, readers and the words that they share, as single events on words.
 //!
-//! Each event is one atomic step on one word by one seat. Every schedule of threads is a list of
-//! events, so what holds after every list of them holds under every schedule.
+//! Each event is one atomic step on one word by one seat. A schedule of threads that take no other
+//! steps is a list of events, so what holds after every list of them holds under every such schedule.
 #![tactic(auto)]
 
 mod laws;

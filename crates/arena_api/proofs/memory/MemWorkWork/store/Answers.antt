@@ -1,6 +1,6 @@
 use Rattle.std.proofs.Common.{sym, ◌∙◌, arith}
 use Rattle.arena_api.proofs.Views.{view-store, records-store, lawful-store, stamps-store, unused-store}
-use Rattle.arena_api.proofs.Unkept.{entry-by, inside-by}
+use Rattle.arena_api.proofs.WidthLemmas.{entry-by, inside-by}
 use Rattle.arena_api.proofs.memory.MemWorkWork.store.Goals as goal
 
 pub invariant_of-self-clause-stamped : goal.invariant_of-self-clause-stamped
