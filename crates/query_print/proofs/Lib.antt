@@ -1,0 +1,4 @@
+pub mod CharLemmas
+pub mod ListLemmas
+pub mod NumberLemmas
+pub mod ReadBackLemmas

@@ -1,0 +1,9 @@
+//! The text of a query, which `query_text` reads back.
+#![tactic(auto)]
+
+mod leaf;
+mod print;
+#[cfg(test)]
+mod tests;
+
+pub use print::print_query;
