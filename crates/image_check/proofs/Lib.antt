@@ -1,1 +1,5 @@
 pub mod Forms
+pub mod PairLemmas
+pub mod WalkLemmas
+pub mod NodeSteps
+pub mod RootLemmas

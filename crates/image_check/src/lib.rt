@@ -3,8 +3,12 @@
 
 mod fault;
 mod node;
+mod pairs;
+mod read;
 #[cfg(test)]
 mod tests;
+mod tree;
 
-pub use fault::NodeFault;
+pub use fault::{NodeFault, TreeFault};
 pub use node::check_node;
+pub use tree::check_tree;
