@@ -385,3 +385,22 @@ fn a_small_sink_takes_what_fits(rt: HostRuntime) -> Result<(), Fail> {
     assert!(rt; sink.taken() == b"final a".as_slice());
     Ok(())
 }
+
+#[test]
+fn a_device_fails_at_its_second_call(rt: HostRuntime) -> Result<(), Fail> {
+    let alloc = rt.alloc();
+    let feed = puts_in(alloc, "1:5")?;
+    let mut source = FakeSource::create(alloc, feed.as_bytes(), 2, &[2])?;
+    let mut sink = FakeSink::create(alloc, 100, 100, &[])?;
+    let outcome = run_of_one(alloc, &mut source, &mut sink)?;
+    assert!(rt; matches!(outcome.status, Status::ReadFault));
+    assert!(rt; sink.taken() == b"attr: read fault\n".as_slice());
+    assert_eq!(rt; source.faults(), 1);
+
+    let mut source = FakeSource::create(alloc, &[], 2, &[])?;
+    let mut sink = FakeSink::create(alloc, 100, 7, &[2])?;
+    let outcome = run_of_one(alloc, &mut source, &mut sink)?;
+    assert!(rt; matches!(outcome.status, Status::WriteFault));
+    assert!(rt; sink.taken() == b"final a".as_slice());
+    Ok(())
+}
