@@ -1,7 +1,7 @@
 ghost use Rattle.std.specs.Prelude.{◌≡◌, ◌≤◌, ◌*◌, ℕ, List, length, nat_eq};
 ghost use Rattle.std.specs.List.{IsDistinct, AllByRecursion};
 ghost use Rattle.image_base.specs.Places.{IsEntry};
-ghost use Rattle.entry_store.specs.Ledgers.{MayDo, capacity};
+ghost use Rattle.store_api.specs.Ledgers.{MayDo, capacity};
 
 use crate::store::Store;
 

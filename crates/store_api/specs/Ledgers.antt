@@ -8,7 +8,7 @@ use Rattle.image_base.specs.Images.{words_at}
 use Rattle.image_base.specs.declared.Image.{Image}
 use Rattle.arena_api.specs.Works.{WorkView, Commits, Buffer, active_width, free_count}
 use Rattle.arena_api.specs.Calls.{IsLowestFree, handed_out, padded, published}
-use Rattle.entry_store.specs.Classes.{Class, in_use, is_open, is_free, is_let_go, after_drop, after_commit, with_class}
+use Rattle.store_api.specs.Classes.{Class, in_use, is_open, is_free, is_let_go, after_drop, after_commit, with_class}
 
 abbrev pub is_active : Buffer → Bool
 is_active (Buffer.free tag) = false

@@ -6,8 +6,8 @@ ghost use Rattle.image_base.specs.Images.{words_at};
 ghost use Rattle.image_base.specs.Records.{Records, Among};
 ghost use Rattle.arena_api.specs.Works.{WorkView, active_width, last_image};
 ghost use Rattle.arena_api.specs.Calls.{IsWithinLimits, AddsCommit, Fits, InNoCommit, next_image};
-ghost use Rattle.entry_store.specs.Classes.{in_use, has_record, is_committed, is_uncommitted, is_open, after_accept, Class};
-ghost use Rattle.entry_store.specs.Ledgers.{Ledger, IsEntryOf, MayDo, Makes, IsFull, IsSettled, is_width, capacity, dropped_from, ended, kept_records, without_free, committed};
+ghost use Rattle.store_api.specs.Classes.{in_use, has_record, is_committed, is_uncommitted, is_open, after_accept, Class};
+ghost use Rattle.store_api.specs.Ledgers.{Ledger, IsEntryOf, MayDo, Makes, IsFull, IsSettled, is_width, capacity, dropped_from, ended, kept_records, without_free, committed};
 
 use arena_api::Frozen;
 use entry_ref::EntryRef;

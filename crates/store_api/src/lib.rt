@@ -1,4 +1,4 @@
-//! Entries in the buffers of a work: made, dropped, committed, and given again.
+//! The contract of a store: entries in the buffers of a work are made, dropped, committed, and given again.
 #![tactic(auto)]
 
 mod laws;

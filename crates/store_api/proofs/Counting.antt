@@ -9,7 +9,7 @@ use Rattle.std.proofs.lemmas.Map.Steps.{length-le_from_distinct_below}
 use Rattle.entry_ref.specs.References.{buffer_of, offset_of}
 use Rattle.image_base.specs.Places.{IsEntry}
 use Rattle.image_base.proofs.Apart.{apart}
-use Rattle.entry_store.specs.Ledgers.{capacity}
+use Rattle.store_api.specs.Ledgers.{capacity}
 
 -- the number of an entry among those of its width in all buffers
 abbrev number_of : ℕ → ℕ → ℕ → ℕ

@@ -1,7 +1,7 @@
 -- What a unit may do: nothing, and one thing after another.
 use Rattle.std.proofs.Common.{◌≡◌, true, refl, sym, ap, ◌∙◌, arith, inl, inr, ⊎_elim}
-use Rattle.entry_store.specs.Classes.{Class, is_open}
-use Rattle.entry_store.specs.Ledgers.{Ledger, MayDo, IsSameBack}
+use Rattle.store_api.specs.Classes.{Class, is_open}
+use Rattle.store_api.specs.Ledgers.{Ledger, MayDo, IsSameBack}
 
 pub may_do-same : {H : Type 0} (ledger : Ledger H) → MayDo ledger ledger
 may_do-same ledger = record {

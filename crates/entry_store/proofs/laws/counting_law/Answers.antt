@@ -1,5 +1,0 @@
-use Rattle.entry_store.proofs.Counting.{few_entries, few_nodes}
-use Rattle.entry_store.proofs.laws.counting_law.Goals as goal
-
-pub returns : goal.returns
-returns c = record { entries = few_entries; nodes = few_nodes }
