@@ -1,0 +1,150 @@
+-- The state of each entry of all buffers, and what the calls make of it.
+use Rattle.std.specs.Prelude.{◌≡◌, ◌⊎◌, ℕ, ◌+◌, ◌-◌, ◌*◌, ◌/◌, ◌<◌, ◌≤◌, Bool, true, false, nat_eq, if◌then◌else◌, Option, None, Some}
+use Rattle.std.specs.Option.{option_map}
+use Rattle.entry_ref.specs.References.{buffer_of}
+use Rattle.image_base.specs.Places.{IsEntry}
+use Rattle.store_api.specs.Ledgers.{is_width, capacity, with_count, with_filled, counted}
+use Rattle.entry_shelf.specs.declared.state.State.{State}
+use Rattle.entry_shelf.specs.declared.state.State.TheVariants.{Free, Returned, Made, InUse, LetGo, DroppedNow, Dropped}
+use Rattle.entry_shelf.specs.States.{is_free, dropped, accepted, undone}
+
+pub record EntriesView : Type 0 where
+  -- how many buffers, and the words of each
+  pub buffers : ℕ
+  pub words : ℕ
+  -- by buffer: the width of its entries, 0 where it has none
+  pub width : ℕ → ℕ
+  -- by reference: the state of each entry that was taken
+  pub state : ℕ → Option State
+  -- by width: how often an entry was made, up to the last 64-bit number
+  pub made : ℕ → ℕ
+  -- by width: its free entries, and the room of the buffer that is filled
+  pub spare : ℕ → ℕ
+  -- by width: its buffers, and the last that it got, which is filled
+  pub count : ℕ → ℕ
+  pub filled : ℕ → Option ℕ
+  -- by width: the entries in use that the unit made, and those that it let go
+  pub fresh : ℕ → ℕ
+  pub gone : ℕ → ℕ
+  -- the width for which there is room for one buffer more, 0 for none
+  pub ready : ℕ
+
+-- in use before the unit and since the last commit, and dropped by the unit
+abbrev pub is_let_go : State → Bool
+is_let_go Free = false
+is_let_go Returned = false
+is_let_go Made = false
+is_let_go (InUse after) = false
+is_let_go LetGo = true
+is_let_go (DroppedNow after) = false
+is_let_go (Dropped after) = false
+
+-- in use, and made by the unit
+abbrev pub is_made : State → Bool
+is_made Free = false
+is_made Returned = false
+is_made Made = true
+is_made (InUse after) = false
+is_made LetGo = false
+is_made (DroppedNow after) = false
+is_made (Dropped after) = false
+
+-- an entry that was taken and is free
+abbrev pub is_free_state : Option State → Bool
+is_free_state None = false
+is_free_state (Some state) = is_free state
+
+-- an entry that a make can take: it was not taken, or is free
+abbrev pub is_open_state : Option State → Bool
+is_open_state None = true
+is_open_state (Some state) = is_free state
+
+abbrev pub one : Bool → ℕ
+one true = 1
+one false = 0
+
+-- one entry has another state
+abbrev pub with_state : (ℕ → Option State) → ℕ → State → ℕ → Option State
+with_state state r s q = if nat_eq q r then Some s else state q
+
+-- no buffer has entries
+abbrev pub new_entries : ℕ → ℕ → EntriesView
+new_entries buffers words = record {
+  buffers = buffers;
+  words = words;
+  width = λ b. 0;
+  state = λ r. None;
+  made = λ w. 0;
+  spare = λ w. 0;
+  count = λ w. 0;
+  filled = λ w. None;
+  fresh = λ w. 0;
+  gone = λ w. 0;
+  ready = 0;
+}
+
+-- an entry of this width is made
+abbrev pub made_at : EntriesView → ℕ → ℕ → EntriesView
+made_at e width r = record e {
+  state = with_state e.state r Made;
+  made = with_count e.made width (counted (e.made width));
+  spare = with_count e.spare width (e.spare width - 1);
+  fresh = with_count e.fresh width (e.fresh width + 1);
+}
+
+-- a make can take this entry: a free one, or where none of the width is free the next
+pub record CanTake (e : EntriesView) (width r : ℕ) : Type 0 where
+  pub entry : IsEntry e.buffers e.words width r
+  pub of_width : e.width (buffer_of r) ≡ width
+  pub is_open : is_open_state (e.state r) ≡ true
+  pub free_first : e.state r ≡ None → (q : ℕ) → e.width (buffer_of q) ≡ width → is_free_state (e.state q) ≡ false
+
+-- a buffer is for entries of this width
+abbrev pub with_buffer : EntriesView → ℕ → ℕ → EntriesView
+with_buffer e b width = record e {
+  width = λ a. if nat_eq a b then width else e.width a;
+  spare = with_count e.spare width (capacity e.words width);
+  count = with_count e.count width (e.count width + 1);
+  filled = with_filled e.filled width b;
+  ready = 0;
+}
+
+-- an entry in use is dropped, where `last` is the number of the last commit
+abbrev pub dropped_at : EntriesView → ℕ → ℕ → State → EntriesView
+dropped_at e last r s =
+    let width = e.width (buffer_of r) in
+    record e {
+      state = with_state e.state r (dropped last s);
+      spare = with_count e.spare width (e.spare width + one (is_free (dropped last s)));
+      fresh = with_count e.fresh width (e.fresh width - one (is_free (dropped last s)));
+      gone = with_count e.gone width (e.gone width + one (is_let_go (dropped last s)));
+    }
+
+-- the unit ends, and what it did is kept
+abbrev pub accepted_at : EntriesView → ℕ → EntriesView
+accepted_at e last = record e {
+  state = λ r. option_map (accepted last) (e.state r);
+  spare = λ w. e.spare w + e.gone w;
+  fresh = λ w. 0;
+  gone = λ w. 0;
+}
+
+-- the unit ends, and what it did is taken back
+abbrev pub undone_at : EntriesView → ℕ → EntriesView
+undone_at e last = record e {
+  state = λ r. option_map (undone last) (e.state r);
+  spare = λ w. e.spare w + e.fresh w;
+  fresh = λ w. 0;
+  gone = λ w. 0;
+}
+
+-- what is always so
+pub record IsGood (e : EntriesView) : Type 0 where
+  pub entries : (r : ℕ) (s : State) → e.state r ≡ Some s → IsEntry e.buffers e.words (e.width (buffer_of r)) r
+  pub widths : (b : ℕ) → (e.width b ≡ 0) ⊎ (is_width (e.width b) ≡ true)
+  pub spares : (r : ℕ) → IsEntry e.buffers e.words (e.width (buffer_of r)) r → is_open_state (e.state r) ≡ true
+      → 0 < e.spare (e.width (buffer_of r))
+  pub filled : (r : ℕ) → IsEntry e.buffers e.words (e.width (buffer_of r)) r → e.state r ≡ None
+      → e.filled (e.width (buffer_of r)) ≡ Some (buffer_of r)
+  pub few : (w : ℕ) → is_width w ≡ true → e.count w * capacity e.words w ≤ e.made w + e.spare w
+  pub bound : (w : ℕ) → is_width w ≡ true → e.count w ≤ 1 + e.made w / capacity e.words w
