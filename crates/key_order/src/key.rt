@@ -1,0 +1,35 @@
+ghost use Rattle.std.specs.Prelude.{◌≡◌, ℕ, List};
+ghost use Rattle.std.specs.declared.cmp.Ordering.{Ordering};
+ghost use Rattle.std.specs.Cmp.{IsTotalOrder};
+ghost use Rattle.image_base.specs.Records.{Records, SameAt};
+
+use arena_api::Frozen;
+use std::cmp::Ordering;
+
+/// A key that is sought in a tree. Stored keys read as values of `Read`, over records.
+pub trait KeyOrder {
+    type Read;
+
+    ghost can_read: { Records → ℕ → Type 0 };
+
+    ghost read: { Records → ℕ → Self.Read };
+
+    /// The records that a stored key is read from.
+    ghost reads_from: { Records → ℕ → List ℕ };
+
+    ghost order: { Self.Read → Self.Read → Ordering };
+
+    ghost sought: { Self → Self.Read };
+
+    /// A stored key beside the one sought.
+    fn compare<F: Frozen>(&self, frozen: &mut F, stored: u64) -> Ordering
+        requires { can_read (F.records frozen.old) stored }
+        ensures answer { result ≡ order (read (F.records frozen.old) stored) (sought self.now) }
+        ensures same { frozen.new ≡ frozen.old };
+
+    ghost total: { IsTotalOrder order };
+
+    // a key can be read, as the same, wherever the records that it is read from are the same
+    ghost stays: { (m n : Records) (key : ℕ) → can_read m key → SameAt (reads_from m key) m n
+        → can_read n key × (read n key ≡ read m key) };
+}

@@ -1,0 +1,35 @@
+ghost use Rattle.std.specs.Prelude.{◌≡◌, ◌≤◌, ◌+◌, ℕ, List, None, Some, IsSome, length};
+ghost use Rattle.std.specs.declared.cmp.Ordering.{Ordering};
+ghost use Rattle.std.specs.declared.cmp.Ordering.TheVariants.{Equal};
+ghost use Rattle.image_base.specs.Records.{Records};
+ghost use Rattle.key_order.specs.Keys.{Ascends, KeepsOthers, AllReadable, NoneReadsNodes, seen_by};
+ghost use Rattle.key_order.specs.Pairs.{lookup, put, take_out};
+
+use crate::key::KeyOrder;
+
+/// What was put in is found, one pair more or none is there, and keys ascend as before.
+pub fn put_law<K: KeyOrder>()
+    ensures found { (c : ℕ → Ordering) (pair : ℕ × ℕ) (ps : List (ℕ × ℕ)) → c pair.0 ≡ Equal
+        → lookup c (put c pair ps) ≡ Some pair.1 }
+    ensures count { (c : ℕ → Ordering) (pair : ℕ × ℕ) (ps : List (ℕ × ℕ)) → length (put c pair ps) ≤ length ps + 1 }
+    ensures ascends { (m : Records) (s : K.Read) (pair : ℕ × ℕ) (ps : List (ℕ × ℕ))
+        → seen_by K.read K.order s m pair.0 ≡ Equal → Ascends K.order K.read m ps
+        → Ascends K.order K.read m (put (seen_by K.read K.order s m) pair ps) }
+{}
+
+/// One pair is taken out where the key is there, and none where it is not; keys ascend as before.
+pub fn take_out_law<K: KeyOrder>()
+    ensures count { (c : ℕ → Ordering) (ps : List (ℕ × ℕ)) → IsSome (lookup c ps)
+        → length (take_out c ps) + 1 ≡ length ps }
+    ensures none { (c : ℕ → Ordering) (ps : List (ℕ × ℕ)) → lookup c ps ≡ None → take_out c ps ≡ ps }
+    ensures ascends { (m : Records) (c : ℕ → Ordering) (ps : List (ℕ × ℕ)) → Ascends K.order K.read m ps
+        → Ascends K.order K.read m (take_out c ps) }
+{}
+
+/// Keys that are read from no node stay where all records but nodes stay.
+pub fn key_law<K: KeyOrder>()
+    ensures readable { (m n : Records) (ps : List (ℕ × ℕ)) → KeepsOthers m n → AllReadable K.can_read m ps
+        → NoneReadsNodes K.reads_from m ps → AllReadable K.can_read n ps }
+    ensures ascends { (m n : Records) (ps : List (ℕ × ℕ)) → KeepsOthers m n → AllReadable K.can_read m ps
+        → NoneReadsNodes K.reads_from m ps → Ascends K.order K.read m ps → Ascends K.order K.read n ps }
+{}

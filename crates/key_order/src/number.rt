@@ -1,0 +1,34 @@
+ghost use Rattle.std.specs.Prelude.{refl, []};
+ghost use Rattle.std.specs.Ordering.{nat_cmp};
+ghost use Rattle.std.specs.Cmp.{nat_cmp_total};
+ghost use Rattle.attr_images.specs.Trees.{by_number};
+
+use crate::key::KeyOrder;
+use arena_api::Frozen;
+use std::cmp::Ordering;
+
+/// A key that is its own number.
+#[derive(Clone, Copy, Debug)]
+pub struct NumberKey(pub u64);
+
+impl KeyOrder for NumberKey {
+    type Read = u64;
+
+    ghost can_read = { λ m key. Unit {0} };
+
+    ghost read = { by_number };
+
+    ghost reads_from = { λ m key. [] };
+
+    ghost order = { nat_cmp };
+
+    ghost sought = { λ s. s.0 };
+
+    fn compare<F: Frozen>(&self, frozen: &mut F, stored: u64) -> Ordering {
+        stored.cmp(&self.0)
+    }
+
+    ghost total = { nat_cmp_total };
+
+    ghost stays = { λ m n key h s. (tt, refl) };
+}
