@@ -1,8 +1,8 @@
 -- What is made of a store when nodes are made.
-use Rattle.std.specs.Prelude.{◌≡◌, ◌≢◌, ℕ, suc, ◌+◌, ◌<◌, ◌≤◌, Bool, true, false, nat_eq, if◌then◌else◌, List, [], ◌∷◌, length}
+use Rattle.std.specs.Prelude.{◌≡◌, ◌≢◌, ℕ, ◌+◌, ◌<◌, ◌≤◌, true, false, nat_eq, if◌then◌else◌, List, [], ◌∷◌, length}
 use Rattle.image_base.specs.Records.{Records}
 use Rattle.store_api.specs.Classes.{Class, in_use, with_class}
-use Rattle.store_api.specs.Ledgers.{Ledger, MayDo, with_count, counted}
+use Rattle.store_api.specs.Ledgers.{Ledger, MayDo}
 use Rattle.attr_images.specs.Trees.{pairs_below, nodes_below, last_key, IsNode, Keeps}
 use Rattle.tree_node.specs.Slots.{slot_pairs, slot_nodes}
 use Rattle.tree_node.specs.declared.make.Part.{Part}

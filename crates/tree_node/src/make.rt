@@ -28,7 +28,7 @@ pub fn pairs_in<F: Frozen>(frozen: &mut F, slots: &Slots) -> u64
         return slots.keys.len() as u64;
     }
     let mut count = 0;
-    for child in &slots.values {
+    for child in slots.values.as_slice() {
         count += frozen.word(EntryRef::from_raw(*child as u32), 1);
     }
     count
