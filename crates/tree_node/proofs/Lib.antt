@@ -1,3 +1,4 @@
 pub mod SlotLemmas
 pub mod MadeLemmas
 pub mod CountLemmas
+pub mod MakesLemmas

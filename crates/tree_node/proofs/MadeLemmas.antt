@@ -1,5 +1,5 @@
 -- A node that was made, and the slots of a node that was read.
-use Rattle.std.proofs.Common.{◌≡◌, ◌≢◌, inl, inr, ℕ, zero, suc, ◌+◌, ◌<◌, ◌≤◌, true, false, cond, ◌-◌, List, [], ◌∷◌, ◌++◌, length, map, replicate, true≢false, refl, sym, ap, subst, ◌∙◌, arith}
+use Rattle.std.proofs.Common.{◌≡◌, ◌≢◌, ◌⊎◌, inl, inr, ℕ, zero, suc, ◌+◌, ◌<◌, ◌≤◌, true, false, cond, ◌-◌, List, [], ◌∷◌, ◌++◌, length, map, replicate, true≢false, refl, sym, ap, subst, ◌∙◌, arith}
 use Rattle.std.proofs.lemmas.Bool.{eq-eqb, ne_eqb, cases_eq}
 use Rattle.std.specs.List.{zip, flat_map, AllByRecursion}
 use Rattle.image_base.specs.Records.{Records, with_words}
@@ -82,15 +82,6 @@ module _ (m n : Records) (keys values : List ℕ) (ref count : ℕ) (few : lengt
 node_words-size : (level count : ℕ) (keys values : List ℕ) → length keys ≡ length values → length keys ≤ 16 → length (node_words level count keys values) ≡ 34
 node_words-size level count keys values even few = (node_formed level 0 keys values even few (omega arith)).size
 
-open_unused : (class : Class) → is_open class ≡ true → in_use class ≡ false
-open_unused Class.unmade e = refl
-open_unused Class.free e = refl
-open_unused Class.pending e = absurd (true≢false (sym e))
-open_unused Class.live e = absurd (true≢false (sym e))
-open_unused Class.dropped e = absurd (true≢false (sym e))
-open_unused Class.let_go e = absurd (true≢false (sym e))
-open_unused Class.spent e = absurd (true≢false (sym e))
-
 pub with_class-here : (classes : ℕ → Class) (r : ℕ) (new : Class) → with_class classes r new r ≡ new
 with_class-here classes r new = ap (λ b. cond b new (classes r)) (eq-eqb r r refl)
 
@@ -104,10 +95,10 @@ pub with_count-other : (counts : ℕ → ℕ) (width k w : ℕ) → w ≢ width 
 with_count-other counts width k w ne = ap (λ b. cond b k (counts w)) (ne_eqb w width ne)
 
 module _ {H : Type 0} (old new : Ledger H) (m n : Records) (words : List ℕ) (ref : ℕ) (makes : Makes old new m n 34 words ref) (may : MayDo old new) where
-  make_stays : (q : ℕ) → in_use (old.class q) ≡ true → in_use (new.class q) ≡ true
-  make_stays q used = ap (λ k. in_use (k q)) makes.class ∙ elim (cases_eq q ref) [
-    | inl e ↦ ap in_use (ap (with_class old.class ref Class.pending) e ∙ with_class-here old.class ref Class.pending)
-    | inr ne ↦ ap in_use (with_class-other old.class ref q Class.pending ne) ∙ used
+  make_classes : (q : ℕ) → (new.class q ≡ old.class q) ⊎ ((is_open (old.class q) ≡ true) × (new.class q ≡ Class.pending))
+  make_classes q = elim (cases_eq q ref) [
+    | inl e ↦ inr (ap (λ r. is_open (old.class r)) e ∙ makes.was, (λ k. makes.class k q) ∙ ap (with_class old.class ref Class.pending) e ∙ with_class-here old.class ref Class.pending)
+    | inr ne ↦ inl ((λ k. makes.class k q) ∙ with_class-other old.class ref q Class.pending ne)
   ]
 
   make_made : new.made 34 ≤ old.made 34 + 1
@@ -116,7 +107,7 @@ module _ {H : Type 0} (old new : Ledger H) (m n : Records) (words : List ℕ) (r
   makes_one : length words ≡ 34 → MakesNodes old new m n 1
   makes_one size = record {
     keeps = keeps-words m n ref (words_padded words 34) makes.none makes.records;
-    stays = make_stays;
+    classes = make_classes;
     made = make_made;
     others = λ width ne. (λ k. makes.made k width) ∙ with_count-other old.made 34 (counted (old.made 34)) width ne;
     may = may;
@@ -142,7 +133,7 @@ module _ {H : Type 0} (old new : Ledger H) (m n : Records) (words : List ℕ) (r
         node = made-node m n keys values ref count few level hand made.keeps words_are counted (omega arith);
         pairs = made-pairs m n keys values ref count few level hand made.keeps words_are;
         nodes = made-nodes m n keys values ref count few level hand made.keeps words_are;
-        unused = open_unused (old.class ref) makes.was;
+        was = makes.was;
         class = makes.class;
         makes = made;
       }

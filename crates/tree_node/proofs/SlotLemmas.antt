@@ -1,5 +1,5 @@
 -- Slots put together and taken apart, and what stays of them under more records.
-use Rattle.std.proofs.Common.{◌≡◌, ℕ, zero, suc, ◌+◌, List, [], ◌∷◌, ◌++◌, length, map, take, drop, refl, sym, ap, ◌∙◌, arith, length-append}
+use Rattle.std.proofs.Common.{◌≡◌, ℕ, zero, suc, List, [], ◌∷◌, ◌++◌, length, map, take, drop, refl, sym, ap, ◌∙◌, arith, length-append}
 use Rattle.std.proofs.lemmas.List.{map-append, take_at, drop_at, append-nil}
 use Rattle.std.proofs.lemmas.Grind.{flat_map-append}
 use Rattle.std.specs.List.{zip, flat_map, AllByRecursion}
@@ -8,21 +8,6 @@ use Rattle.attr_images.specs.TreeFrames.{pairs-same, nodes-same, IsNode-same}
 use Rattle.attr_images.specs.Trees.{pairs_below, nodes_below, last_key, IsNode, Keeps}
 use Rattle.attr_images.proofs.TreeLemmas.{nodes-kept}
 use Rattle.tree_node.specs.Slots.{slot_pairs, slot_nodes, HaveChildren, IsInHand}
-use Rattle.tree_node.specs.Makes.{times}
-
--- how often a reference stands in two lists
-pub times-append : (ref : ℕ) (xs ys : List ℕ) → times ref (xs ++ ys) ≡ times ref xs + times ref ys
-unfolding times
-times-append ref [] ys = omega arith
-times-append ref (x ∷ xs) ys = let rest = times-append ref xs ys in omega arith
-
-pub times-none : (ref : ℕ) → times ref [] ≡ 0
-unfolding times
-times-none ref = refl
-
-pub times-cons : (ref x : ℕ) (xs : List ℕ) → times ref (x ∷ xs) ≡ times ref (x ∷ []) + times ref xs
-unfolding times
-times-cons ref x xs = omega arith
 
 pub zip-append : (k1 v1 k2 v2 : List ℕ) → length k1 ≡ length v1 → zip (k1 ++ k2) (v1 ++ v2) ≡ zip k1 v1 ++ zip k2 v2
 zip-append [] [] k2 v2 e = refl

@@ -1,37 +1,28 @@
 -- What is made of a store when nodes are made.
-use Rattle.std.specs.Prelude.{◌≡◌, ◌≢◌, ℕ, ◌+◌, ◌<◌, ◌≤◌, true, false, nat_eq, if◌then◌else◌, List, [], ◌∷◌, length}
+use Rattle.std.specs.Prelude.{◌≡◌, ◌≢◌, ◌⊎◌, ℕ, ◌+◌, ◌<◌, ◌≤◌, true, List, [], ◌∷◌, length}
 use Rattle.image_base.specs.Records.{Records}
-use Rattle.store_api.specs.Classes.{Class, in_use, with_class}
+use Rattle.store_api.specs.Classes.{Class, is_open, with_class}
 use Rattle.store_api.specs.Ledgers.{Ledger, MayDo}
 use Rattle.attr_images.specs.Trees.{pairs_below, nodes_below, last_key, IsNode, Keeps}
 use Rattle.tree_node.specs.Slots.{slot_pairs, slot_nodes}
 use Rattle.tree_node.specs.declared.make.Part.{Part}
 
--- how often a reference stands in a list
-unfoldable pub times : ℕ → List ℕ → ℕ
-times ref [] = 0
-times ref (r ∷ rs) = (if nat_eq ref r then 1 else 0) + times ref rs
-
--- 1 where an entry is in use, 0 where not
-abbrev pub uses : {H : Type 0} → Ledger H → ℕ → ℕ
-uses ledger ref = if in_use (ledger.class ref) then 1 else 0
-
--- at most so many nodes were made and nothing else: all records and what is in use stay
+-- at most so many nodes were made and nothing else: all records stay, and what is newly in use was open
 pub record MakesNodes {H : Type 0} (old new : Ledger H) (m n : Records) (most : ℕ) : Type 0 where
   pub keeps : Keeps m n
-  pub stays : (ref : ℕ) → in_use (old.class ref) ≡ true → in_use (new.class ref) ≡ true
+  pub classes : (ref : ℕ) → (new.class ref ≡ old.class ref) ⊎ ((is_open (old.class ref) ≡ true) × (new.class ref ≡ Class.pending))
   pub made : new.made 34 ≤ old.made 34 + most
   pub others : (width : ℕ) → width ≢ 34 → new.made width ≡ old.made width
   pub may : MayDo old new
 
--- a node of these slots was made, where no record was and nothing in use
+-- a node of these slots was made, where no record was
 pub record MakesNode {H : Type 0} (old new : Ledger H) (m n : Records) (level : ℕ) (keys values : List ℕ) (ref : ℕ) : Type 0 where
   pub some : 0 < ref
   pub none : m ref ≡ []
   pub node : IsNode n (length keys) level ref
   pub pairs : pairs_below n level ref ≡ slot_pairs m level keys values
   pub nodes : nodes_below n level ref ≡ ref ∷ slot_nodes m level values
-  pub unused : in_use (old.class ref) ≡ false
+  pub was : is_open (old.class ref) ≡ true
   pub class : new.class ≡ with_class old.class ref Class.pending
   pub makes : MakesNodes old new m n 1
 
