@@ -1,0 +1,3 @@
+pub mod TimesLemmas
+pub mod DropLemmas
+pub mod Bounds

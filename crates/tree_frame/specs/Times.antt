@@ -1,0 +1,11 @@
+-- How often references stand in a list.
+use Rattle.std.specs.Prelude.{ℕ, ◌+◌, ◌≤◌, List, [], ◌∷◌, nat_eq, if◌then◌else◌}
+
+-- how often a reference stands in a list
+abbrev pub times : ℕ → List ℕ → ℕ
+times r [] = 0
+times r (q ∷ qs) = (if nat_eq r q then 1 else 0) + times r qs
+
+-- no reference stands in a list twice
+abbrev pub EachOnce : List ℕ → Type 0
+EachOnce refs = (r : ℕ) → times r refs ≤ 1
