@@ -1,3 +1,4 @@
 pub mod TimesLemmas
 pub mod DropLemmas
 pub mod Bounds
+pub mod Balance

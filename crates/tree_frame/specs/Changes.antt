@@ -18,9 +18,8 @@ pub record Drops {H : Type 0} (old new : Ledger H) (m n : Records) (refs : List 
 
 -- one tree is replaced by another: its nodes that the other has not are dropped, and the others of the other are made
 pub record Replaces {H : Type 0} (old new : Ledger H) (m n : Records) (root next : ℕ) : Type 0 where
-  -- every record but the replaced nodes stays
-  pub records : (r : ℕ) → 0 < length (m r) → ¬ Among r (tree_nodes m root) → n r ≡ m r
-  pub nodes : (r : ℕ) → Among r (tree_nodes m root) → Among r (tree_nodes n next) → n r ≡ m r
+  -- every record stays but those of the nodes that are replaced
+  pub records : (r : ℕ) → 0 < length (m r) → (Among r (tree_nodes m root) → Among r (tree_nodes n next)) → n r ≡ m r
   -- in use are those of before, less the old tree's nodes, and the new tree's
   pub used : (r : ℕ) → (in_use (new.class r) ≡ true)
       ↔ (((in_use (old.class r) ≡ true) × ¬ Among r (tree_nodes m root)) ⊎ Among r (tree_nodes n next))

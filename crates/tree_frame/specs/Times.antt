@@ -1,5 +1,7 @@
 -- How often references stand in a list.
 use Rattle.std.specs.Prelude.{ℕ, ◌+◌, ◌≤◌, List, [], ◌∷◌, nat_eq, if◌then◌else◌}
+use Rattle.store_api.specs.Classes.{in_use}
+use Rattle.store_api.specs.Ledgers.{Ledger}
 
 -- how often a reference stands in a list
 abbrev pub times : ℕ → List ℕ → ℕ
@@ -9,3 +11,7 @@ times r (q ∷ qs) = (if nat_eq r q then 1 else 0) + times r qs
 -- no reference stands in a list twice
 abbrev pub EachOnce : List ℕ → Type 0
 EachOnce refs = (r : ℕ) → times r refs ≤ 1
+
+-- 1 where an entry is in use, 0 where not
+abbrev pub uses : {H : Type 0} → Ledger H → ℕ → ℕ
+uses ledger r = if in_use (ledger.class r) then 1 else 0
