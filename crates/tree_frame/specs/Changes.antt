@@ -1,10 +1,15 @@
 -- What a change of a tree leaves of a store.
-use Rattle.std.specs.Prelude.{◌≡◌, ◌⊎◌, ◌↔◌, ℕ, ◌<◌, List, true, length}
+use Rattle.std.specs.Prelude.{◌≡◌, ◌⊎◌, ◌↔◌, ℕ, zero, suc, ◌<◌, List, true, length}
 use Rattle.image_base.specs.Records.{Records, Among}
-use Rattle.attr_images.specs.Trees.{tree_nodes}
+use Rattle.attr_images.specs.Trees.{root_level, tree_nodes}
 use Rattle.store_api.specs.Classes.{in_use, is_open, after_drop}
 use Rattle.store_api.specs.Ledgers.{Ledger, MayDo}
 use Rattle.tree_frame.specs.Times.{times}
+
+-- the levels of a tree, none for root 0
+abbrev pub levels : Records → ℕ → ℕ
+levels m zero = 0
+levels m (suc ref) = suc (root_level m (suc ref))
 
 -- the entries of a list are dropped, and nothing else is changed
 pub record Drops {H : Type 0} (old new : Ledger H) (m n : Records) (refs : List ℕ) : Type 0 where
