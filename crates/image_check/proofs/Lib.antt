@@ -1,4 +1,6 @@
 pub mod Forms
+pub mod KeyLemmas
+pub mod FaultLemmas
 pub mod PairLemmas
 pub mod WalkLemmas
 pub mod NodeSteps

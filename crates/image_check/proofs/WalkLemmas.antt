@@ -4,24 +4,17 @@ use Rattle.std.specs.Prelude.{min}
 use Rattle.std.proofs.Math.Nat.{one-le-pow}
 use Rattle.std.proofs.lemmas.List.{take_more}
 use Rattle.std.specs.List.{zip, flat_map, AllByRecursion}
-use Rattle.image_base.specs.Records.{Records}
+use Rattle.image_base.specs.Records.{Records, Among}
 use Rattle.attr_images.proofs.TreeLemmas.{length-node_values, pairs_many}
 use Rattle.attr_images.specs.Nodes.{used_of, count_of, node_keys, node_values, IsNodeForm}
 use Rattle.attr_images.specs.Trees.{pairs_below, last_key, IsNode}
-use Rattle.image_check.proofs.PairLemmas.{last-append, ascends-left, zip-append}
-use Rattle.image_check.specs.Seen.{Ascends}
-use Rattle.image_check.specs.Walks.{Refuses, Stands, Walked}
+use Rattle.image_check.proofs.FaultLemmas.{among_at, fault_child, pairs_more}
+use Rattle.image_check.proofs.PairLemmas.{last-append, zip-append}
+use Rattle.image_check.specs.Faults.{HasKeys, IsAmongPairs, IsFault}
+use Rattle.image_check.specs.Keys.{Ascends}
+use Rattle.image_check.specs.Walks.{Walked}
 use Rattle.image_check.specs.declared.fault.TreeFault.{TreeFault}
-use Rattle.image_check.specs.declared.fault.TreeFault.TheVariants.{Missing, Form, LastKeys, Count, Order, Memory}
-
--- a fault that refutes a fact refutes what implies it
-pub refuses-more : (P Q : Type 0) (fault : TreeFault) → (Q → P) → Refuses P fault → Refuses Q fault
-refuses-more P Q (Missing ref) back refuted = λ q. refuted (back q)
-refuses-more P Q (Form ref part) back refuted = λ q. refuted (back q)
-refuses-more P Q (LastKeys ref) back refuted = λ q. refuted (back q)
-refuses-more P Q (Count ref) back refuted = λ q. refuted (back q)
-refuses-more P Q (Order key) back refuted = λ q. refuted (back q)
-refuses-more P Q Memory back refuted = tt
+use Rattle.image_check.specs.declared.keys.Keys.{Keys}
 
 flat_map-append : {X : Type 0} (f : ℕ → List X) (xs ys : List ℕ) → flat_map f (xs ++ ys) ≡ flat_map f xs ++ flat_map f ys
 flat_map-append f [] ys = refl
@@ -112,37 +105,37 @@ module _ (ws : List ℕ) where
         let so_far = zip (take i (node_keys ws)) (take i (node_values ws)) in
         next ∙ ap (λ ps. ps ++ p ∷ []) is ∙ append_assoc before so_far (p ∷ []) ∙ ap (λ ps. before ++ ps) (sym (slots_next i low))
 
-    -- a slot whose pair is refused, and so the leaf
-    pub slots_refused : (before mid : List (ℕ × ℕ)) (i : ℕ) → i < used_of ws → mid ≡ before ++ zip (take i (node_keys ws)) (take i (node_values ws))
-        → (fault : TreeFault) → Refuses (Ascends (mid ++ (get_or ws (2 + i) 0, get_or ws (18 + i) 0) ∷ [])) fault
-        → Refuses (Ascends (before ++ zip (node_keys ws) (node_values ws))) fault
-    slots_refused before mid i low is fault refused =
+    -- a slot whose pair is at fault, and so the leaf
+    pub slots_fault : (keys : Keys) (m : Records) (before mid : List (ℕ × ℕ)) (i : ℕ) → i < used_of ws → mid ≡ before ++ zip (take i (node_keys ws)) (take i (node_values ws))
+        → (fault : TreeFault) → IsAmongPairs keys m (mid ++ (get_or ws (2 + i) 0, get_or ws (18 + i) 0) ∷ []) fault
+        → IsAmongPairs keys m (before ++ zip (node_keys ws) (node_values ws)) fault
+    slots_fault keys m before mid i low is fault here =
         let p : ℕ × ℕ = (get_or ws (2 + i) 0, get_or ws (18 + i) 0) in
-        let keys = node_keys ws in
-        let values = node_values ws in
-        let front = zip (take (i + 1) keys) (take (i + 1) values) in
-        let back = zip (drop (i + 1) keys) (drop (i + 1) values) in
+        let ks = node_keys ws in
+        let vs = node_values ws in
+        let front = zip (take (i + 1) ks) (take (i + 1) vs) in
+        let back = zip (drop (i + 1) ks) (drop (i + 1) vs) in
         let many = keys_many in
         let many_values = values_many in
-        let same : length (take (i + 1) keys) ≡ length (take (i + 1) values) = length-take (i + 1) keys ∙ ap (min (i + 1)) (many ∙ sym many_values) ∙ sym (length-take (i + 1) values) in
-        let whole : before ++ zip keys values ≡ (mid ++ p ∷ []) ++ back =
-        ap (λ ks. before ++ zip ks values) (sym (split_at keys (i + 1)))
-        ∙ ap (λ vs. before ++ zip (take (i + 1) keys ++ drop (i + 1) keys) vs) (sym (split_at values (i + 1)))
-        ∙ ap (λ ps. before ++ ps) (zip-append (take (i + 1) keys) (take (i + 1) values) (drop (i + 1) keys) (drop (i + 1) values) same)
+        let same : length (take (i + 1) ks) ≡ length (take (i + 1) vs) = length-take (i + 1) ks ∙ ap (min (i + 1)) (many ∙ sym many_values) ∙ sym (length-take (i + 1) vs) in
+        let whole : before ++ zip ks vs ≡ (mid ++ p ∷ []) ++ back =
+        ap (λ xs. before ++ zip xs vs) (sym (split_at ks (i + 1)))
+        ∙ ap (λ xs. before ++ zip (take (i + 1) ks ++ drop (i + 1) ks) xs) (sym (split_at vs (i + 1)))
+        ∙ ap (λ ps. before ++ ps) (zip-append (take (i + 1) ks) (take (i + 1) vs) (drop (i + 1) ks) (drop (i + 1) vs) same)
         ∙ sym (append_assoc before front back)
         ∙ ap (λ ps. ps ++ back) (sym (slots_more before mid (mid ++ p ∷ []) i low is refl)) in
-        refuses-more (Ascends (mid ++ p ∷ [])) (Ascends (before ++ zip keys values)) fault (λ up. ascends-left (mid ++ p ∷ []) back (subst Ascends whole up)) refused
+        subst (λ ps. IsAmongPairs keys m ps fault) (sym whole) (pairs_more keys m (mid ++ p ∷ []) back fault here)
 
 -- a walk begins with no child
-pub walked-none : (m : Records) (level : ℕ) (ws : List ℕ) (before : List (ℕ × ℕ)) → Ascends before → Walked m level ws before before 0
-walked-none m level ws before up = record {
+pub walked-none : (keys : Keys) (m : Records) (level : ℕ) (ws : List ℕ) (before : List (ℕ × ℕ)) → Ascends keys m before → Walked keys m level ws before before 0
+walked-none keys m level ws before up = record {
   pairs = sym (append-nil before);
   nodes = tt;
-  keys = refl;
+  last = refl;
   ascends = up;
 }
 
-module _ (m : Records) (level least ref : ℕ) (form : IsNodeForm (suc level) least (m ref)) (before after : List (ℕ × ℕ)) (i : ℕ) (walked : Walked m level (m ref) before after i) where
+module _ (keys : Keys) (m : Records) (level least ref : ℕ) (form : IsNodeForm (suc level) least (m ref)) (before after : List (ℕ × ℕ)) (i : ℕ) (walked : Walked keys m level (m ref) before after i) where
   -- the pairs so far and those of the next child
   next_pairs : i < used_of (m ref) → after ++ pairs_below m level (get_or (m ref) (18 + i) 0) ≡ before ++ flat_map (pairs_below m level) (take (i + 1) (node_values (m ref)))
   next_pairs low =
@@ -156,46 +149,49 @@ module _ (m : Records) (level least ref : ℕ) (form : IsNodeForm (suc level) le
 
   -- one more child
   pub walked-more : (low : i < used_of (m ref)) (more : List (ℕ × ℕ)) → IsNode m 8 level (get_or (m ref) (18 + i) 0)
-      → more ≡ after ++ pairs_below m level (get_or (m ref) (18 + i) 0) → Ascends more
-      → get_or (m ref) (2 + i) 0 ≡ last_key (pairs_below m level (get_or (m ref) (18 + i) 0)) → Walked m level (m ref) before more (i + 1)
+      → more ≡ after ++ pairs_below m level (get_or (m ref) (18 + i) 0) → Ascends keys m more
+      → get_or (m ref) (2 + i) 0 ≡ last_key (pairs_below m level (get_or (m ref) (18 + i) 0)) → Walked keys m level (m ref) before more (i + 1)
   walked-more low more node is up key =
       let child = get_or (m ref) (18 + i) 0 in
-      let last : ℕ → ℕ = λ c. last_key (pairs_below m level c) in
+      let of : ℕ → ℕ = λ c. last_key (pairs_below m level c) in
       let so_far = take i (node_values (m ref)) in
       let values = values_next (m ref) form.size form.room i low in
       record {
         pairs = is ∙ next_pairs low;
         nodes = subst (AllByRecursion (IsNode m 8 level)) (sym values) (All-append (IsNode m 8 level) so_far (child ∷ []) walked.nodes (node, tt));
-        keys = keys_next (m ref) form.size form.room i low
-            ∙ ap (λ ks. ks ++ get_or (m ref) (2 + i) 0 ∷ []) walked.keys
-            ∙ ap (λ k. map last so_far ++ k ∷ []) key
-            ∙ sym (map-append last so_far (child ∷ []))
-            ∙ ap (map last) (sym values);
+        last = keys_next (m ref) form.size form.room i low
+            ∙ ap (λ ks. ks ++ get_or (m ref) (2 + i) 0 ∷ []) walked.last
+            ∙ ap (λ k. map of so_far ++ k ∷ []) key
+            ∙ sym (map-append of so_far (child ∷ []))
+            ∙ ap (map of) (sym values);
         ascends = up;
       }
 
-  -- a node's child is one, and its pairs stand behind those so far
-  pub child-stands : i < used_of (m ref) → Stands m before least (suc level) ref → Stands m after 8 level (get_or (m ref) (18 + i) 0)
-  unfolding IsNode pairs_below
-  child-stands low stands =
-      let values = node_values (m ref) in
+  pub child-among : i < used_of (m ref) → Among (get_or (m ref) (18 + i) 0) (node_values (m ref))
+  child-among low =
       let many = length-node_values (suc level) least (m ref) form in
+      subst (λ c. Among c (node_values (m ref))) (value_at (m ref) i low) (among_at (node_values (m ref)) i (omega arith))
+
+  -- the fault of a child is its parent's
+  pub child-fault : i < used_of (m ref) → (fault : TreeFault) → IsFault keys m after 8 level (get_or (m ref) (18 + i) 0) fault → IsFault keys m before least (suc level) ref fault
+  unfolding pairs_below
+  child-fault low fault here =
+      let values = node_values (m ref) in
       let f = pairs_below m level in
-      let node : IsNode m 8 level (get_or values i 0) = All-at (IsNode m 8 level) values i (omega arith) stands.0.3 in
-      let whole : before ++ flat_map f values ≡ (after ++ f (get_or (m ref) (18 + i) 0)) ++ flat_map f (drop (i + 1) values) =
+      let rest = flat_map f (drop (i + 1) values) in
+      let whole : before ++ flat_map f values ≡ (after ++ f (get_or (m ref) (18 + i) 0)) ++ rest =
       ap (λ cs. before ++ flat_map f cs) (sym (split_at values (i + 1)))
       ∙ ap (λ ps. before ++ ps) (flat_map-append f (take (i + 1) values) (drop (i + 1) values))
-      ∙ sym (append_assoc before (flat_map f (take (i + 1) values)) (flat_map f (drop (i + 1) values)))
-      ∙ ap (λ ps. ps ++ flat_map f (drop (i + 1) values)) (sym (next_pairs low)) in
-      (subst (IsNode m 8 level) (value_at (m ref) i low) node, ascends-left (after ++ f (get_or (m ref) (18 + i) 0)) (flat_map f (drop (i + 1) values)) (subst Ascends whole stands.1))
+      ∙ sym (append_assoc before (flat_map f (take (i + 1) values)) rest)
+      ∙ ap (λ ps. ps ++ rest) (sym (next_pairs low)) in
+      fault_child keys m before least level ref (get_or (m ref) (18 + i) 0) after rest fault (child-among low) whole here
 
   -- a node's key is the last of its child
-  pub child-last : i < used_of (m ref) → IsNode m least (suc level) ref → get_or (m ref) (2 + i) 0 ≡ last_key (pairs_below m level (get_or (m ref) (18 + i) 0))
-  unfolding IsNode
-  child-last low node =
+  pub child-last : i < used_of (m ref) → HasKeys m (suc level) ref → get_or (m ref) (2 + i) 0 ≡ last_key (pairs_below m level (get_or (m ref) (18 + i) 0))
+  child-last low last_keys =
       let last : ℕ → ℕ = λ c. last_key (pairs_below m level c) in
       let many = length-node_values (suc level) least (m ref) form in
-      sym (key_at (m ref) i low) ∙ ap (λ ks. get_or ks i 0) node.2 ∙ map-at last (node_values (m ref)) i (omega arith) ∙ ap last (value_at (m ref) i low)
+      sym (key_at (m ref) i low) ∙ ap (λ ks. get_or ks i 0) last_keys ∙ map-at last (node_values (m ref)) i (omega arith) ∙ ap last (value_at (m ref) i low)
 
   -- after all children the pairs are those below the node
   pub walked-pairs : i ≡ used_of (m ref) → after ≡ before ++ pairs_below m (suc level) ref
@@ -209,7 +205,7 @@ module _ (m : Records) (level least ref : ℕ) (form : IsNodeForm (suc level) le
       let last : ℕ → ℕ = λ c. last_key (pairs_below m level c) in
       let values = ap (λ n. take n (node_values (m ref))) all ∙ values_whole (m ref) form.size form.room in
       let keys = ap (λ n. take n (node_keys (m ref))) all ∙ keys_whole (m ref) form.size form.room in
-      (form, count, sym keys ∙ walked.keys ∙ ap (map last) values, subst (AllByRecursion (IsNode m 8 level)) values walked.nodes)
+      (form, count, sym keys ∙ walked.last ∙ ap (map last) values, subst (AllByRecursion (IsNode m 8 level)) values walked.nodes)
 
 -- the last key of pairs behind which stand a child's is the child's
 pub last-child : (m : Records) (level child : ℕ) (before after : List (ℕ × ℕ)) → IsNode m 8 level child → after ≡ before ++ pairs_below m level child

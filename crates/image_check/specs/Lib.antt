@@ -1,3 +1,4 @@
-pub mod Faults
 pub mod Seen
+pub mod Keys
+pub mod Faults
 pub mod Walks

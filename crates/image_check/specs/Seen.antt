@@ -1,7 +1,6 @@
 -- A map from numbers of 32 bits to words, seen as records.
-use Rattle.std.specs.Prelude.{ℕ, List, [], map, cond, nat_lt, Option, Some, None, Vec}
+use Rattle.std.specs.Prelude.{ℕ, List, [], cond, nat_lt, Option, Some, None, Vec}
 use Rattle.std.specs.BTreeMap.{BTreeMap, get}
-use Rattle.std.specs.List.Sorted.{IsStrictlySortedBy}
 use Rattle.std.specs.Ordering.{nat_cmp}
 use Rattle.std.specs.declared.alloc.Global.{Global}
 use Rattle.image_base.specs.Records.{Records}
@@ -14,7 +13,3 @@ words_of (Some words) = words.items
 -- the words at each reference; a number past 32 bits is none of the map's
 abbrev pub seen : BTreeMap ℕ (Vec ℕ Global) → Records
 seen map ref = cond (nat_lt ref 4294967296) (words_of (get nat_cmp map ref)) []
-
--- the keys of pairs ascend
-abbrev pub Ascends : List (ℕ × ℕ) → Type 0
-Ascends pairs = IsStrictlySortedBy nat_cmp (map (λ (p : ℕ × ℕ). p.0) pairs)

@@ -2,6 +2,7 @@
 #![tactic(auto)]
 
 mod fault;
+mod keys;
 mod node;
 mod pairs;
 mod read;
@@ -10,5 +11,7 @@ mod tests;
 mod tree;
 
 pub use fault::{NodeFault, TreeFault};
+pub use keys::{Keys, long_of, text_of};
 pub use node::check_node;
+pub use read::{rest_of, word_at, words_at};
 pub use tree::check_tree;

@@ -2,10 +2,14 @@ ghost use Rattle.std.specs.Prelude.{◌≡◌, ◌≤◌, ◌∷◌, [], ◌++�
 ghost use Rattle.std.specs.List.{zip};
 ghost use Rattle.attr_images.specs.Nodes.{used_of, node_keys, node_values};
 ghost use Rattle.attr_images.specs.Trees.{last_key};
-ghost use Rattle.image_check.specs.Seen.{Ascends};
-ghost use Rattle.image_check.specs.Walks.{RefusesPairs};
+ghost use Rattle.image_check.specs.Faults.{IsAmongPairs};
+ghost use Rattle.image_check.specs.Keys.{Ascends};
+ghost use Rattle.image_check.specs.Seen.{seen};
 
 use crate::fault::TreeFault;
+use crate::keys::{Keys, compare_keys};
+use std::alloc::Global;
+use std::collections::BTreeMap;
 
 /// The last key, 0 where there is none.
 pub fn last_of(pairs: &[(u64, u64)]) -> u64
@@ -17,16 +21,48 @@ pub fn last_of(pairs: &[(u64, u64)]) -> u64
     }
 }
 
-/// Takes a pair behind others whose keys ascend.
-pub fn add_pair(pairs: &mut Vec<(u64, u64)>, key: u64, value: u64) -> Result<(), TreeFault>
-    requires { Ascends pairs.old.items }
-    ensures pairs { OnOk result (pairs.new.items ≡ pairs.old.items ++ ((key, value) ∷ [])) }
-    ensures ascends { OnOk result (Ascends pairs.new.items) }
-    ensures exact { IfErr result (RefusesPairs pairs.old.items ((key, value) ∷ [])) }
+/// Looks at a key that comes behind others which ascend.
+fn check_order(
+    alloc: Global,
+    keys: Keys,
+    records: &BTreeMap<u32, Vec<u64>>,
+    pairs: &[(u64, u64)],
+    key: u64,
+) -> Result<(), TreeFault>
+    requires { Ascends keys (seen records.now) pairs.now }
+    ensures ascends { OnOk result ((value : _) → Ascends keys (seen records.now) (pairs.now ++ ((key, value) ∷ []))) }
+    ensures named { IfErr result (λ fault. (value : _) → IsAmongPairs keys (seen records.now) (pairs.now ++ ((key, value) ∷ [])) fault) }
 {
-    if !pairs.is_empty() && key <= last_of(pairs) {
-        return Err(TreeFault::Order(key));
+    if pairs.is_empty() {
+        return Ok(());
     }
+    match compare_keys(alloc, keys, records, last_of(pairs), key) {
+        Ok(order) => {
+            if order.is_lt() {
+                Ok(())
+            } else {
+                Err(TreeFault::Order(key))
+            }
+        }
+        Err(_) => Err(TreeFault::Memory),
+    }
+}
+
+/// Takes a pair behind others whose keys ascend.
+fn add_pair(
+    alloc: Global,
+    keys: Keys,
+    records: &BTreeMap<u32, Vec<u64>>,
+    pairs: &mut Vec<(u64, u64)>,
+    key: u64,
+    value: u64,
+) -> Result<(), TreeFault>
+    requires { Ascends keys (seen records.now) pairs.old.items }
+    ensures pairs { OnOk result (pairs.new.items ≡ pairs.old.items ++ ((key, value) ∷ [])) }
+    ensures ascends { OnOk result (Ascends keys (seen records.now) pairs.new.items) }
+    ensures named { IfErr result (IsAmongPairs keys (seen records.now) (pairs.old.items ++ ((key, value) ∷ []))) }
+{
+    check_order(alloc, keys, records, pairs, key)?;
     match pairs.push((key, value)) {
         Ok(()) => Ok(()),
         Err(_) => Err(TreeFault::Memory),
@@ -34,17 +70,24 @@ pub fn add_pair(pairs: &mut Vec<(u64, u64)>, key: u64, value: u64) -> Result<(),
 }
 
 /// Takes the pairs of a leaf's words.
-pub fn add_leaf(pairs: &mut Vec<(u64, u64)>, words: &[u64]) -> Result<(), TreeFault>
+pub fn add_leaf(
+    alloc: Global,
+    keys: Keys,
+    records: &BTreeMap<u32, Vec<u64>>,
+    pairs: &mut Vec<(u64, u64)>,
+    words: &[u64],
+) -> Result<(), TreeFault>
     requires size { length words.now ≡ 34 }
     requires room { used_of words.now ≤ 16 }
-    requires ascends { Ascends pairs.old.items }
+    requires ascends { Ascends keys (seen records.now) pairs.old.items }
     ensures pairs { OnOk result (pairs.new.items ≡ pairs.old.items ++ zip (node_keys words.now) (node_values words.now)) }
-    ensures ascends { OnOk result (Ascends pairs.new.items) }
-    ensures exact { IfErr result (RefusesPairs pairs.old.items (zip (node_keys words.now) (node_values words.now))) }
+    ensures ascends { OnOk result (Ascends keys (seen records.now) pairs.new.items) }
+    ensures named { IfErr result (IsAmongPairs keys (seen records.now)
+        (pairs.old.items ++ zip (node_keys words.now) (node_values words.now))) }
 {
     let used = (words[0] % 256) as usize;
     for i in 0..used {
-        add_pair(pairs, words[2 + i], words[18 + i])?;
+        add_pair(alloc, keys, records, pairs, words[2 + i], words[18 + i])?;
     }
     Ok(())
 }

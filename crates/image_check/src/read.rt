@@ -1,4 +1,4 @@
-ghost use Rattle.std.specs.Prelude.{◌≡◌};
+ghost use Rattle.std.specs.Prelude.{◌≡◌, slice_index, drop};
 ghost use Rattle.image_check.specs.Seen.{seen};
 
 use std::collections::BTreeMap;
@@ -13,5 +13,25 @@ pub fn words_at(records: &BTreeMap<u32, Vec<u64>>, reference: u64) -> &[u64]
             None => &[],
         },
         Err(_) => &[],
+    }
+}
+
+/// A word of a record, 0 past its end.
+pub fn word_at(words: &[u64], i: usize) -> u64
+    ensures { result ≡ slice_index words.now i }
+{
+    match words.get(i) {
+        Some(word) => *word,
+        None => 0,
+    }
+}
+
+/// The words behind the first.
+pub fn rest_of(words: &[u64]) -> &[u64]
+    ensures { result.now ≡ drop 1 words.now }
+{
+    match words.get(1..) {
+        Some(rest) => rest,
+        None => &[],
     }
 }

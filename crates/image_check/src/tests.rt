@@ -1,4 +1,5 @@
 use super::*;
+use attr_types::ValueType;
 use std::alloc::{AllocError, Global};
 use std::collections::BTreeMap;
 
@@ -73,18 +74,27 @@ fn a_tree_answers_its_pairs(rt: HostRuntime) -> Result<(), AllocError> {
     let alloc = rt.alloc();
     let mut records = two_leaves(alloc)?;
     let mut wanted = Vec::new(alloc);
-    assert_eq!(rt; check_tree(alloc, &records, 0), Ok(Vec::new(alloc)));
+    assert_eq!(rt;
+        check_tree(alloc, Keys::Numbers, &records, 0),
+        Ok(Vec::new(alloc))
+    );
     for key in 1..18u64 {
         wanted.push((key, 1))?;
     }
-    assert_eq!(rt; check_tree(alloc, &records, 3074), Ok(wanted));
+    assert_eq!(rt;
+        check_tree(alloc, Keys::Numbers, &records, 3074),
+        Ok(wanted)
+    );
     let keys = [1, 2, 3, 4, 5, 6, 7, 8, 9, 10, 11, 12, 13, 14, 15, 16];
     records.insert(1026, node(alloc, 16, 16, keys, [1; 16])?)?;
     let mut sixteen = Vec::new(alloc);
     for key in 1..17u64 {
         sixteen.push((key, 1))?;
     }
-    assert_eq!(rt; check_tree(alloc, &records, 1026), Ok(sixteen));
+    assert_eq!(rt;
+        check_tree(alloc, Keys::Numbers, &records, 1026),
+        Ok(sixteen)
+    );
     Ok(())
 }
 
@@ -158,11 +168,56 @@ fn each_fault_of_a_tree_is_refused_by_name(rt: HostRuntime) -> Result<(), AllocE
     for (reference, head, count, keys, values, fault) in rows {
         let mut records = two_leaves(alloc)?;
         records.insert(reference, node(alloc, head, count, keys, values)?)?;
-        assert_eq!(rt; check_tree(alloc, &records, 3074), Err(fault));
+        assert_eq!(rt;
+            check_tree(alloc, Keys::Numbers, &records, 3074),
+            Err(fault)
+        );
     }
     assert_eq!(rt;
-        check_tree(alloc, &two_leaves(alloc)?, 5),
+        check_tree(alloc, Keys::Numbers, &two_leaves(alloc)?, 5),
         Err(TreeFault::Missing(5))
     );
+    Ok(())
+}
+
+#[test]
+fn keys_that_are_values_are_compared_as_they_read(rt: HostRuntime) -> Result<(), AllocError> {
+    let alloc = rt.alloc();
+    let (long, text) = (Keys::Values(ValueType::Long), Keys::Values(ValueType::Text));
+    // the keys, the words of the first value's record and of the second's, and the fault at key 2048
+    let rows = [
+        (long, [8, u64::MAX], [8, 5], false),
+        (long, [8, 5], [8, u64::MAX], true),
+        (long, [8, 5], [8, 5], true),
+        (
+            text,
+            [2, 0x7465000000000000],
+            [2, 0xC3A9000000000000],
+            false,
+        ),
+        (text, [2, 0x7465000000000000], [2, 0x7400000000000000], true),
+        (
+            text,
+            [2, 0x7465000000000000],
+            [3, 0x7465000000000000],
+            false,
+        ),
+        (Keys::Numbers, [2, 0], [1, 0], false),
+    ];
+    for (keys, first, second, fault) in rows {
+        let mut records = BTreeMap::new(alloc);
+        records.insert(1024, Vec::from_slice(alloc, &first)?)?;
+        records.insert(2048, Vec::from_slice(alloc, &second)?)?;
+        records.insert(3074, node(alloc, 2, 2, slots(1024, 2048), slots(1, 1))?)?;
+        let mut pairs = Vec::new(alloc);
+        pairs.push((1024, 1))?;
+        pairs.push((2048, 1))?;
+        let wanted = if fault {
+            Err(TreeFault::Order(2048))
+        } else {
+            Ok(pairs)
+        };
+        assert_eq!(rt; check_tree(alloc, keys, &records, 3074), wanted);
+    }
     Ok(())
 }

@@ -1,11 +1,13 @@
-ghost use Rattle.std.specs.Prelude.{◌≡◌, ℕ, ◌+◌, ◌++◌, length, OnOk, OnErr, IfOk, IfErr};
-ghost use Rattle.std.specs.Ordering.{nat_cmp};
-ghost use Rattle.attr_images.specs.Nodes.{IsNodeForm, count_of};
-ghost use Rattle.attr_images.specs.Trees.{pairs_below, tree_pairs, IsNode, IsTree, by_number, root_least};
-ghost use Rattle.image_check.specs.Seen.{seen, Ascends};
-ghost use Rattle.image_check.specs.Walks.{RefusesNode, RefusesTree};
+ghost use Rattle.std.specs.Prelude.{◌≡◌, ◌++◌, OnOk, IfOk, IfErr};
+ghost use Rattle.attr_images.specs.Nodes.{IsNodeForm};
+ghost use Rattle.attr_images.specs.Trees.{pairs_below, tree_pairs, IsNode, root_least};
+ghost use Rattle.image_check.specs.Faults.{IsAt, IsFault, IsNamed};
+ghost use Rattle.image_check.specs.Keys.{Ascends, IsTreeOf};
+ghost use Rattle.image_check.specs.Seen.{seen};
+ghost use Rattle.image_check.specs.Walks.{Refuses};
 
 use crate::fault::{NodeFault, TreeFault};
+use crate::keys::Keys;
 use crate::node::check_node;
 use crate::pairs::{add_leaf, last_of};
 use crate::read::words_at;
@@ -21,7 +23,7 @@ fn read_node(
 ) -> Result<&[u64], TreeFault>
     ensures words { IfOk result (λ words. words.now ≡ seen records.now reference) }
     ensures form { OnOk result (IsNodeForm level least (seen records.now reference)) }
-    ensures exact { OnErr result (¬ IsNodeForm level least (seen records.now reference)) }
+    ensures named { IfErr result (IsAt (seen records.now) least level reference) }
 {
     let words = words_at(records, reference);
     if words.is_empty() {
@@ -35,22 +37,24 @@ fn read_node(
 
 /// Takes the pairs below a node, behind others whose keys ascend.
 fn walk(
+    alloc: Global,
+    keys: Keys,
     records: &BTreeMap<u32, Vec<u64>>,
     reference: u64,
     level: u32,
     least: u32,
     pairs: &mut Vec<(u64, u64)>,
 ) -> Result<(), TreeFault>
-    requires { Ascends pairs.old.items }
+    requires { Ascends keys (seen records.now) pairs.old.items }
     ensures node { OnOk result (IsNode (seen records.now) least level reference) }
     ensures pairs { OnOk result (pairs.new.items ≡ pairs.old.items ++ pairs_below (seen records.now) level reference) }
-    ensures ascends { OnOk result (Ascends pairs.new.items) }
-    ensures exact { IfErr result (RefusesNode (seen records.now) pairs.old.items least level reference) }
+    ensures ascends { OnOk result (Ascends keys (seen records.now) pairs.new.items) }
+    ensures named { IfErr result (IsFault keys (seen records.now) pairs.old.items least level reference) }
 {
     let words = read_node(records, reference, level, least)?;
     let begin = pairs.len();
     if level == 0 {
-        add_leaf(pairs, words)?;
+        add_leaf(alloc, keys, records, pairs, words)?;
         if words[1] != (pairs.len() - begin) as u64 {
             return Err(TreeFault::Count(reference));
         }
@@ -58,7 +62,7 @@ fn walk(
     }
     let used = (words[0] % 256) as usize;
     for i in 0..used {
-        walk(records, words[18 + i], level - 1, 8, pairs)?;
+        walk(alloc, keys, records, words[18 + i], level - 1, 8, pairs)?;
         if words[2 + i] != last_of(pairs) {
             return Err(TreeFault::LastKeys(reference));
         }
@@ -76,33 +80,36 @@ fn least_of(level: u64) -> u32
     if level == 0 { 1 } else { 2 }
 }
 
-/// The pairs of the tree at a root, its keys by number, none at root 0; or the first fault of a walk in
-/// key order. A level above 7 is a fault, so the walk ends on any records, with cycles too.
+/// The pairs of the tree at a root, none at root 0; or the first fault of a walk in key order. A level
+/// above 7 is a fault, so the walk ends on any records, with cycles too.
 pub fn check_tree(
     alloc: Global,
+    keys: Keys,
     records: &BTreeMap<u32, Vec<u64>>,
-    root: u32,
+    root: u64,
 ) -> Result<Vec<(u64, u64)>, TreeFault>
-    ensures tree { OnOk result (IsTree nat_cmp by_number (seen records.now) root) }
+    ensures tree { OnOk result (IsTreeOf keys (seen records.now) root) }
     ensures pairs { IfOk result (λ pairs. pairs.items ≡ tree_pairs (seen records.now) root) }
-    ensures exact { IfErr result (RefusesTree (seen records.now) root) }
+    ensures named { IfErr result (IsNamed keys (seen records.now) root) }
+    ensures exact { IfErr result (Refuses (IsTreeOf keys (seen records.now) root)) }
 {
     let mut pairs = Vec::new(alloc);
     if root == 0 {
         return Ok(pairs);
     }
-    let reference = u64::from(root);
-    let words = words_at(records, reference);
+    let words = words_at(records, root);
     if words.is_empty() {
-        return Err(TreeFault::Missing(reference));
+        return Err(TreeFault::Missing(root));
     }
     let level = words[0] / 256;
     if level > 7 {
-        return Err(TreeFault::Form(reference, NodeFault::Level));
+        return Err(TreeFault::Form(root, NodeFault::Level));
     }
     walk(
+        alloc,
+        keys,
         records,
-        reference,
+        root,
         level as u32,
         least_of(level),
         &mut pairs,

@@ -1,7 +1,8 @@
 use Rattle.std.proofs.Common.{◌≡◌, ◌≤◌, ◌++◌, take, length}
 use Rattle.std.specs.List.{zip}
 use Rattle.attr_images.specs.Nodes.{used_of, node_keys, node_values}
-use Rattle.image_check.specs.Seen.{Ascends}
+use Rattle.image_check.specs.Keys.{Ascends}
+use Rattle.image_check.specs.Seen.{seen}
 use Rattle.image_check.proofs.pairs.add_leaf.Given as goal
 
 abbrev pub invariant-loop-i : goal.invariant-loop-i
@@ -10,5 +11,5 @@ invariant-loop-i l = record {
   room : used_of l.words ≤ 16;
   used : l.used ≡ used_of l.words;
   pairs : l.pairs.items ≡ l.fn.pairs.items ++ zip (take l.i (node_keys l.words)) (take l.i (node_values l.words));
-  ascends : Ascends l.pairs.items;
+  ascends : Ascends l.keys (seen l.records) l.pairs.items;
 }

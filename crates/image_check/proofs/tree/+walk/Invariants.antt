@@ -16,5 +16,5 @@ invariant-loop-i l = record {
   above : 0 < l.level;
   used : l.used ≡ used_of (seen l.records l.reference);
   begin : l.begin ≡ length l.fn.pairs.items;
-  walked : Walked (seen l.records) (l.level - 1) (seen l.records l.reference) l.fn.pairs.items l.pairs.items l.i;
+  walked : Walked l.keys (seen l.records) (l.level - 1) (seen l.records l.reference) l.fn.pairs.items l.pairs.items l.i;
 }
