@@ -32,6 +32,7 @@ impl Model for Shelf {
 }
 
 impl Shelf {
+    ghost use Rattle.std.specs.List.{slice_get};
     ghost use Rattle.entry_shelf.specs.States.{state_at, is_used, spare_of, IsOpen, with_made, dropped, accepted, undone, settled};
 
     pub fn new(alloc: Global) -> Self
@@ -70,6 +71,13 @@ impl Shelf {
         ensures { result ≡ state_at self.now.states entry }
     {
         self.states[entry as usize]
+    }
+
+    /// The state of an entry that was taken.
+    pub fn get(&self, entry: u32) -> Option<State>
+        ensures { result ≡ slice_get self.now.states entry }
+    {
+        self.states.get(entry as usize).copied()
     }
 
     /// Makes an entry: a free one, else the next that was not taken. None where there is no more room.

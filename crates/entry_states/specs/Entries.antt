@@ -1,5 +1,5 @@
 -- The state of each entry of all buffers, and what the calls make of it.
-use Rattle.std.specs.Prelude.{◌≡◌, ◌⊎◌, ℕ, ◌+◌, ◌-◌, ◌*◌, ◌/◌, ◌<◌, ◌≤◌, Bool, true, false, nat_eq, if◌then◌else◌, Option, None, Some}
+use Rattle.std.specs.Prelude.{◌≡◌, ℕ, ◌+◌, ◌-◌, ◌*◌, ◌/◌, ◌<◌, ◌≤◌, Bool, true, false, nat_eq, if◌then◌else◌, Option, None, Some}
 use Rattle.std.specs.Option.{option_map}
 use Rattle.entry_ref.specs.References.{buffer_of}
 use Rattle.image_base.specs.Places.{IsEntry}
@@ -141,7 +141,7 @@ undone_at e last = record e {
 -- what is always so
 pub record IsGood (e : EntriesView) : Type 0 where
   pub entries : (r : ℕ) (s : State) → e.state r ≡ Some s → IsEntry e.buffers e.words (e.width (buffer_of r)) r
-  pub widths : (b : ℕ) → (e.width b ≡ 0) ⊎ (is_width (e.width b) ≡ true)
+  pub widths : (b : ℕ) → 0 < e.width b → is_width (e.width b) ≡ true
   pub spares : (r : ℕ) → IsEntry e.buffers e.words (e.width (buffer_of r)) r → is_open_state (e.state r) ≡ true
       → 0 < e.spare (e.width (buffer_of r))
   pub filled : (r : ℕ) → IsEntry e.buffers e.words (e.width (buffer_of r)) r → e.state r ≡ None

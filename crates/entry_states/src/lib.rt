@@ -1,6 +1,8 @@
 //! The state of each entry of all buffers.
 #![tactic(auto)]
 
+mod entries;
+mod row;
 mod slot;
 
-pub use slot::Slot;
+pub use entries::Entries;

@@ -1,0 +1,10 @@
+pub mod Places
+pub mod Numbers
+pub mod Standing
+pub mod Good
+pub mod Keeping
+pub mod Taking
+pub mod Dropping
+pub mod Ending
+pub mod Adding
+pub mod Creating

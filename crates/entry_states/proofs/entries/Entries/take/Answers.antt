@@ -1,0 +1,147 @@
+use Rattle.std.proofs.Common.{◌≡◌, ◌<◌, ◌*◌, ◌/◌, ℕ, length, get_or, refl, sym, ap, subst, ◌∙◌, arith}
+use Rattle.std.proofs.lemmas.List.{get_or_read}
+use Rattle.entry_shelf.specs.States.{IsOpen, spare_of}
+use Rattle.entry_states.specs.Entries.{IsGood, CanTake, made_at}
+use Rattle.entry_states.specs.Rows.{RowView, RowsView, new_row, row_of, row_at, entry_in, spare_in, entries_of, IsKept}
+use Rattle.entry_states.proofs.Standing.{some-capacity, buffer-low}
+use Rattle.entry_states.proofs.Good.{good}
+use Rattle.entry_states.proofs.Keeping.{with_row, same-row, put-row}
+use Rattle.entry_states.proofs.Taking.{idle-spare, made_row, below, take-kept, take-made, take-open}
+use Rattle.entry_states.proofs.entries.Entries.take.Goals as goal
+
+pub returns-in_err-number-clause-none : goal.returns-in_err-number-clause-none
+returns-in_err-number-clause-none c =
+    let s = c.self.inside in
+    let v : RowsView = record { words = s.words; rows = s.rows.items; slots = s.slots.items; ready = s.ready } in
+    let row : c.index_mut-row.result.now ≡ row_at v.rows c.args.width =
+    get_or_read s.rows.items c.place_of.result _ (omega (arith, c.place_of.ensures.below, c.self.invariant.eleven)) c.index_mut-row.ensures.value (new_row 0)
+    ∙ ap (λ p. get_or s.rows.items p (new_row 0)) c.place_of.ensures.place in
+    let idle : v.ready ≡ 0 = subst (λ (o : RowsView). o.ready ≡ 0) (sym c.self.view_is) c.requires.idle in
+    let none : spare_in (row_at v.rows c.args.width) ≡ 0 =
+    sym (idle-spare v c.self.invariant c.args.width c.requires.width idle) ∙ ap (λ (n : RowView). spare_of n.shelf) (sym row) ∙ c.in_err-number.ensures.none.0 refl in
+    let there : spare_in (row_at c.args.self.now.rows c.args.width) ≡ 0 = subst (λ (o : RowsView). spare_in (row_at o.rows c.args.width) ≡ 0) c.self.view_is none in
+    rw c.from_residual.ensures (λ _. there, λ _. refl)
+
+pub returns-in_err-number-clause-good : goal.returns-in_err-number-clause-good
+returns-in_err-number-clause-good c =
+    let s = c.self.inside in
+    let v : RowsView = record { words = s.words; rows = s.rows.items; slots = s.slots.items; ready = s.ready } in
+    let row : c.index_mut-row.result.now ≡ row_at v.rows c.args.width =
+    get_or_read s.rows.items c.place_of.result _ (omega (arith, c.place_of.ensures.below, c.self.invariant.eleven)) c.index_mut-row.ensures.value (new_row 0)
+    ∙ ap (λ p. get_or s.rows.items p (new_row 0)) c.place_of.ensures.place in
+    subst (λ (o : RowsView). IsGood (entries_of o))
+    (sym (same-row v c.args.width c.place_of.result c.index_mut-row.result.now c.take.new.self c.place_of.ensures.place row c.in_err-number.ensures.left))
+    (good v c.self.invariant)
+
+pub entry-requires-clause-below : goal.entry-requires-clause-below
+entry-requires-clause-below c =
+    let s = c.self.inside in
+    let v : RowsView = record { words = s.words; rows = s.rows.items; slots = s.slots.items; ready = s.ready } in
+    let row : c.index_mut-row.result.now ≡ row_at v.rows c.args.width =
+    get_or_read s.rows.items c.place_of.result _ (omega (arith, c.place_of.ensures.below, c.self.invariant.eleven)) c.index_mut-row.ensures.value (new_row 0)
+    ∙ ap (λ p. get_or s.rows.items p (new_row 0)) c.place_of.ensures.place in
+    let idle : v.ready ≡ 0 = subst (λ (o : RowsView). o.ready ≡ 0) (sym c.self.view_is) c.requires.idle in
+    let x = c.in_ok-number.number in
+    let free : IsOpen (row_at v.rows c.args.width).shelf x = subst (λ (n : RowView). IsOpen n.shelf x) row c.in_ok-number.ensures.open in
+    let low = below v c.self.invariant c.args.width c.requires.width idle x free in
+    subst (λ (n : RowView). x < length n.buffers * n.capacity) (sym c.in_ok-number.ensures.made)
+    (subst (λ (n : RowView). x < length n.buffers * n.capacity) (sym row) low)
+
+pub entry-requires-clause-buffer : goal.entry-requires-clause-buffer
+entry-requires-clause-buffer c =
+    let s = c.self.inside in
+    let v : RowsView = record { words = s.words; rows = s.rows.items; slots = s.slots.items; ready = s.ready } in
+    let row : c.index_mut-row.result.now ≡ row_at v.rows c.args.width =
+    get_or_read s.rows.items c.place_of.result _ (omega (arith, c.place_of.ensures.below, c.self.invariant.eleven)) c.index_mut-row.ensures.value (new_row 0)
+    ∙ ap (λ p. get_or s.rows.items p (new_row 0)) c.place_of.ensures.place in
+    let idle : v.ready ≡ 0 = subst (λ (o : RowsView). o.ready ≡ 0) (sym c.self.view_is) c.requires.idle in
+    let x = c.in_ok-number.number in
+    let free : IsOpen (row_at v.rows c.args.width).shelf x = subst (λ (n : RowView). IsOpen n.shelf x) row c.in_ok-number.ensures.open in
+    let low = below v c.self.invariant c.args.width c.requires.width idle x free in
+    let buffer = buffer-low v c.self.invariant c.args.width c.requires.width x low in
+    subst (λ (n : RowView). get_or n.buffers (x / n.capacity) 0 < 1024) (sym c.in_ok-number.ensures.made)
+    (subst (λ (n : RowView). get_or n.buffers (x / n.capacity) 0 < 1024) (sym row) buffer)
+
+pub entry-requires-clause-size : goal.entry-requires-clause-size
+entry-requires-clause-size c =
+    let s = c.self.inside in
+    let v : RowsView = record { words = s.words; rows = s.rows.items; slots = s.slots.items; ready = s.ready } in
+    let row : c.index_mut-row.result.now ≡ row_at v.rows c.args.width =
+    get_or_read s.rows.items c.place_of.result _ (omega (arith, c.place_of.ensures.below, c.self.invariant.eleven)) c.index_mut-row.ensures.value (new_row 0)
+    ∙ ap (λ p. get_or s.rows.items p (new_row 0)) c.place_of.ensures.place in
+    let size = (some-capacity v c.self.invariant c.args.width c.requires.width).1 in
+    let same : c.take.new.self.capacity ≡ (row_at v.rows c.args.width).capacity = ap (λ (n : RowView). n.capacity) c.in_ok-number.ensures.made ∙ ap (λ (n : RowView). n.capacity) row in
+    omega (arith, size, same)
+
+pub invariant_of-self-2 : goal.invariant_of-self-2
+invariant_of-self-2 c =
+    let s = c.self.inside in
+    let v : RowsView = record { words = s.words; rows = s.rows.items; slots = s.slots.items; ready = s.ready } in
+    let row : c.index_mut-row.result.now ≡ row_at v.rows c.args.width =
+    get_or_read s.rows.items c.place_of.result _ (omega (arith, c.place_of.ensures.below, c.self.invariant.eleven)) c.index_mut-row.ensures.value (new_row 0)
+    ∙ ap (λ p. get_or s.rows.items p (new_row 0)) c.place_of.ensures.place in
+    let idle : v.ready ≡ 0 = subst (λ (o : RowsView). o.ready ≡ 0) (sym c.self.view_is) c.requires.idle in
+    let x = c.in_ok-number.number in
+    let free : IsOpen (row_at v.rows c.args.width).shelf x = subst (λ (n : RowView). IsOpen n.shelf x) row c.in_ok-number.ensures.open in
+    subst IsKept
+    (sym (put-row v c.args.width c.place_of.result v.ready c.index_mut-row.result.now c.take.new.self (λ n. made_row n x) c.place_of.ensures.place row c.in_ok-number.ensures.made))
+    (take-kept v c.self.invariant c.args.width c.requires.width idle x free)
+
+pub returns-clause-none : goal.returns-clause-none
+returns-clause-none c =
+    let s = c.self.inside in
+    let v : RowsView = record { words = s.words; rows = s.rows.items; slots = s.slots.items; ready = s.ready } in
+    let row : c.index_mut-row.result.now ≡ row_at v.rows c.args.width =
+    get_or_read s.rows.items c.place_of.result _ (omega (arith, c.place_of.ensures.below, c.self.invariant.eleven)) c.index_mut-row.ensures.value (new_row 0)
+    ∙ ap (λ p. get_or s.rows.items p (new_row 0)) c.place_of.ensures.place in
+    let idle : v.ready ≡ 0 = subst (λ (o : RowsView). o.ready ≡ 0) (sym c.self.view_is) c.requires.idle in (
+      λ e. absurd (cc),
+      λ none. c.in_ok-number.ensures.none.1
+          (ap (λ (n : RowView). spare_of n.shelf) row ∙ idle-spare v c.self.invariant c.args.width c.requires.width idle
+          ∙ subst (λ (o : RowsView). spare_in (row_at o.rows c.args.width) ≡ 0) (sym c.self.view_is) none),
+    )
+
+pub returns-clause-open : goal.returns-clause-open
+returns-clause-open c =
+    let s = c.self.inside in
+    let v : RowsView = record { words = s.words; rows = s.rows.items; slots = s.slots.items; ready = s.ready } in
+    let row : c.index_mut-row.result.now ≡ row_at v.rows c.args.width =
+    get_or_read s.rows.items c.place_of.result _ (omega (arith, c.place_of.ensures.below, c.self.invariant.eleven)) c.index_mut-row.ensures.value (new_row 0)
+    ∙ ap (λ p. get_or s.rows.items p (new_row 0)) c.place_of.ensures.place in
+    let idle : v.ready ≡ 0 = subst (λ (o : RowsView). o.ready ≡ 0) (sym c.self.view_is) c.requires.idle in
+    let x = c.in_ok-number.number in
+    let free : IsOpen (row_at v.rows c.args.width).shelf x = subst (λ (n : RowView). IsOpen n.shelf x) row c.in_ok-number.ensures.open in
+    let entry : c.entry.result ≡ entry_in (row_at v.rows c.args.width) x =
+    c.entry.ensures ∙ ap (λ (n : RowView). entry_in n x) c.in_ok-number.ensures.made ∙ ap (λ (n : RowView). entry_in n x) row in
+    subst (λ (o : RowsView). CanTake (entries_of o) c.args.width c.entry.result) c.self.view_is
+    (subst (λ r. CanTake (entries_of v) c.args.width r) (sym entry) (take-open v c.self.invariant c.args.width c.requires.width idle x free))
+
+pub returns-clause-made : goal.returns-clause-made
+returns-clause-made c =
+    let s = c.self.inside in
+    let v : RowsView = record { words = s.words; rows = s.rows.items; slots = s.slots.items; ready = s.ready } in
+    let row : c.index_mut-row.result.now ≡ row_at v.rows c.args.width =
+    get_or_read s.rows.items c.place_of.result _ (omega (arith, c.place_of.ensures.below, c.self.invariant.eleven)) c.index_mut-row.ensures.value (new_row 0)
+    ∙ ap (λ p. get_or s.rows.items p (new_row 0)) c.place_of.ensures.place in
+    let idle : v.ready ≡ 0 = subst (λ (o : RowsView). o.ready ≡ 0) (sym c.self.view_is) c.requires.idle in
+    let x = c.in_ok-number.number in
+    let free : IsOpen (row_at v.rows c.args.width).shelf x = subst (λ (n : RowView). IsOpen n.shelf x) row c.in_ok-number.ensures.open in
+    let entry : c.entry.result ≡ entry_in (row_at v.rows c.args.width) x =
+    c.entry.ensures ∙ ap (λ (n : RowView). entry_in n x) c.in_ok-number.ensures.made ∙ ap (λ (n : RowView). entry_in n x) row in
+    let put = put-row v c.args.width c.place_of.result v.ready c.index_mut-row.result.now c.take.new.self (λ n. made_row n x) c.place_of.ensures.place row c.in_ok-number.ensures.made in
+    ap entries_of put ∙ take-made v c.self.invariant c.args.width c.requires.width idle x free
+    ∙ ap (λ r. made_at (entries_of v) c.args.width r) (sym entry) ∙ ap (λ (o : RowsView). made_at (entries_of o) c.args.width c.entry.result) c.self.view_is
+
+pub returns-clause-good : goal.returns-clause-good
+returns-clause-good c =
+    let s = c.self.inside in
+    let v : RowsView = record { words = s.words; rows = s.rows.items; slots = s.slots.items; ready = s.ready } in
+    let row : c.index_mut-row.result.now ≡ row_at v.rows c.args.width =
+    get_or_read s.rows.items c.place_of.result _ (omega (arith, c.place_of.ensures.below, c.self.invariant.eleven)) c.index_mut-row.ensures.value (new_row 0)
+    ∙ ap (λ p. get_or s.rows.items p (new_row 0)) c.place_of.ensures.place in
+    let idle : v.ready ≡ 0 = subst (λ (o : RowsView). o.ready ≡ 0) (sym c.self.view_is) c.requires.idle in
+    let x = c.in_ok-number.number in
+    let free : IsOpen (row_at v.rows c.args.width).shelf x = subst (λ (n : RowView). IsOpen n.shelf x) row c.in_ok-number.ensures.open in
+    subst (λ (o : RowsView). IsGood (entries_of o))
+    (sym (put-row v c.args.width c.place_of.result v.ready c.index_mut-row.result.now c.take.new.self (λ n. made_row n x) c.place_of.ensures.place row c.in_ok-number.ensures.made))
+    (good (with_row v c.args.width (made_row (row_at v.rows c.args.width) x) v.ready) (take-kept v c.self.invariant c.args.width c.requires.width idle x free))

@@ -1,0 +1,46 @@
+use Rattle.std.proofs.Common.{◌≡◌, ◌++◌, map, take, drop, length, sym, ap, subst, ◌∙◌, arith}
+use Rattle.entry_shelf.specs.States.{undone}
+use Rattle.entry_states.specs.Entries.{IsGood, undone_at}
+use Rattle.entry_states.specs.Rows.{RowsView, entries_of, IsKept}
+use Rattle.entry_states.proofs.Good.{good}
+use Rattle.entry_states.proofs.Ending.{changed, with_changed, changed-kept, changed-more, changed-rows, same-changed, undo-undone}
+use Rattle.entry_states.proofs.entries.Entries.undo.Goals as goal
+
+pub loop-row-preserved : goal.loop-row-preserved
+loop-row-preserved c =
+    changed-more (undone c.args.last) c.deref_mut-row-items.result.now c.loop-row.row-items c.loop-row.row-index c.row-item.result c.undo.new.self
+    c.loop-row-test.true c.loop-row.auto.row-items c.loop-row.invariant c.row-item.is c.undo.ensures
+
+pub invariant_of-self : goal.invariant_of-self
+invariant_of-self c =
+    let s = c.self.inside in
+    let v : RowsView = record { words = s.words; rows = s.rows.items; slots = s.slots.items; ready = s.ready } in
+    let len : s.rows.len ≡ length s.rows.items = omega (arith, s.rows.ok.0) in
+    let rows : take s.rows.len (c.loop-row.row-items ++ drop (length c.loop-row.row-items) s.rows.items) ≡ map (changed (undone c.args.last)) s.rows.items =
+    changed-rows (undone c.args.last) s.rows.len c.loop-row.row-index s.rows.items c.deref_mut-row-items.result.now c.loop-row.row-items len
+    c.deref_mut-row-items.ensures.value c.loop-row.auto.row-items c.loop-row-test.false c.loop-row.invariant in
+    let same = same-changed (undone c.args.last) v (take s.rows.len (c.loop-row.row-items ++ drop (length c.loop-row.row-items) s.rows.items)) rows in
+    subst IsKept (sym same) (changed-kept (undone c.args.last) v c.self.invariant)
+
+pub returns-clause-undone : goal.returns-clause-undone
+returns-clause-undone c =
+    let s = c.self.inside in
+    let v : RowsView = record { words = s.words; rows = s.rows.items; slots = s.slots.items; ready = s.ready } in
+    let len : s.rows.len ≡ length s.rows.items = omega (arith, s.rows.ok.0) in
+    let rows : take s.rows.len (c.loop-row.row-items ++ drop (length c.loop-row.row-items) s.rows.items) ≡ map (changed (undone c.args.last)) s.rows.items =
+    changed-rows (undone c.args.last) s.rows.len c.loop-row.row-index s.rows.items c.deref_mut-row-items.result.now c.loop-row.row-items len
+    c.deref_mut-row-items.ensures.value c.loop-row.auto.row-items c.loop-row-test.false c.loop-row.invariant in
+    let same = same-changed (undone c.args.last) v (take s.rows.len (c.loop-row.row-items ++ drop (length c.loop-row.row-items) s.rows.items)) rows in
+    ap entries_of same ∙ undo-undone v c.args.last ∙ ap (λ (o : RowsView). undone_at (entries_of o) c.args.last) c.self.view_is
+
+pub returns-clause-good : goal.returns-clause-good
+returns-clause-good c =
+    let s = c.self.inside in
+    let v : RowsView = record { words = s.words; rows = s.rows.items; slots = s.slots.items; ready = s.ready } in
+    let len : s.rows.len ≡ length s.rows.items = omega (arith, s.rows.ok.0) in
+    let rows : take s.rows.len (c.loop-row.row-items ++ drop (length c.loop-row.row-items) s.rows.items) ≡ map (changed (undone c.args.last)) s.rows.items =
+    changed-rows (undone c.args.last) s.rows.len c.loop-row.row-index s.rows.items c.deref_mut-row-items.result.now c.loop-row.row-items len
+    c.deref_mut-row-items.ensures.value c.loop-row.auto.row-items c.loop-row-test.false c.loop-row.invariant in
+    let same = same-changed (undone c.args.last) v (take s.rows.len (c.loop-row.row-items ++ drop (length c.loop-row.row-items) s.rows.items)) rows in
+    subst (λ (o : RowsView). IsGood (entries_of o)) (sym same)
+    (good (with_changed (undone c.args.last) v) (changed-kept (undone c.args.last) v c.self.invariant))
