@@ -1,0 +1,182 @@
+ghost use Rattle.std.specs.Prelude.{◌≡◌, ◌↔◌, ◌<◌, ◌++◌, ℕ, [], drop, IsTrue};
+ghost use Rattle.image_base.specs.Records.{Records};
+ghost use Rattle.attr_images.specs.Nodes.{level_of};
+ghost use Rattle.attr_images.specs.Trees.{pairs_below, tree_pairs, IsRootNode, IsTree};
+ghost use Rattle.key_order.specs.Keys.{AllReadable, seen_by};
+ghost use Rattle.key_order.specs.Pairs.{seek};
+ghost use Rattle.tree_search.specs.Places.{Leads, pairs_behind, pairs_from, IsAt, HasPair, first_key, first_value};
+
+use crate::node::{child_at, first_slot, read_head};
+use crate::path::Path;
+use arena_api::Frozen;
+use entry_ref::EntryRef;
+use key_order::KeyOrder;
+use std::marker::Model;
+
+/// A place before a pair of a tree, or at the end of it.
+#[derive(Drop)]
+pub struct Cursor {
+    root: EntryRef,
+    path: Path,
+    leaf: EntryRef,
+    slot: u32,
+    // of the leaf; at the end none
+    used: u32,
+}
+
+impl Model for Cursor {
+    ghost use Rattle.tree_search.specs.Places.{Place};
+
+    ghost Value = { Place };
+
+    ghost view = { λ c. record { root = c.root; path = c.path; leaf = c.leaf; slot = c.slot; used = c.used } };
+}
+
+impl Cursor {
+    /// At the end.
+    fn at_end_of(root: EntryRef) -> Cursor
+        ensures { result ≡ record { root = root; path = []; leaf = 0; slot = 0; used = 0 } }
+    {
+        Cursor {
+            root,
+            path: Path::new(),
+            leaf: EntryRef::from_raw(0),
+            slot: 0,
+            used: 0,
+        }
+    }
+
+    /// Before the first pair.
+    pub fn first<F: Frozen>(frozen: &mut F, root: EntryRef) -> Cursor
+        requires tree { 0 < root → IsRootNode (F.records frozen.old) root }
+        ensures at { IsAt (F.records frozen.old) result }
+        ensures pairs { pairs_from (F.records frozen.old) result ≡ tree_pairs (F.records frozen.old) root }
+        ensures root { result.root ≡ root }
+        ensures same { frozen.new ≡ frozen.old }
+    {
+        let mut cursor = Cursor::at_end_of(root);
+        if root.valid() {
+            cursor.enter(frozen, root);
+        }
+        cursor
+    }
+
+    /// Goes on to the first pair below a node that the path leads to.
+    fn enter<F: Frozen>(&mut self, frozen: &mut F, below: EntryRef)
+        requires leads { Leads (F.records frozen.old) self.old.root self.old.path below }
+        ensures at { IsAt (F.records frozen.old) self.new }
+        ensures pairs { pairs_from (F.records frozen.old) self.new
+            ≡ pairs_below (F.records frozen.old) (level_of (F.records frozen.old below)) below
+            ++ pairs_behind (F.records frozen.old) (level_of (F.records frozen.old below)) self.old.path }
+        ensures root { self.new.root ≡ self.old.root }
+        ensures same { frozen.new ≡ frozen.old }
+    {
+        let mut node = below;
+        let mut head = read_head(frozen, node);
+        while head.level > 0 {
+            self.path.push(node, 0);
+            node = child_at(frozen, node, 0);
+            head = read_head(frozen, node);
+        }
+        self.leaf = node;
+        self.slot = 0;
+        self.used = head.used;
+    }
+
+    /// Before the first pair whose key is not below the key sought.
+    pub fn seek<F: Frozen, K: KeyOrder>(frozen: &mut F, root: EntryRef, key: &K) -> Cursor
+        requires tree { IsTree K.order K.read (F.records frozen.old) root }
+        requires readable { AllReadable K.can_read (F.records frozen.old) (tree_pairs (F.records frozen.old) root) }
+        ensures at { IsAt (F.records frozen.old) result }
+        ensures pairs { pairs_from (F.records frozen.old) result
+            ≡ seek (seen_by K.read K.order (K.sought key.now) (F.records frozen.old)) (tree_pairs (F.records frozen.old) root) }
+        ensures root { result.root ≡ root }
+        ensures same { frozen.new ≡ frozen.old }
+    {
+        let mut cursor = Cursor::at_end_of(root);
+        if !root.valid() {
+            return cursor;
+        }
+        let mut node = root;
+        let mut head = read_head(frozen, node);
+        let mut slot = first_slot(frozen, node, head.used, key);
+        if slot == head.used {
+            return cursor;
+        }
+        while head.level > 0 {
+            cursor.path.push(node, slot);
+            node = child_at(frozen, node, slot);
+            head = read_head(frozen, node);
+            slot = first_slot(frozen, node, head.used, key);
+        }
+        cursor.leaf = node;
+        cursor.slot = slot;
+        cursor.used = head.used;
+        cursor
+    }
+
+    /// Whether no pair follows.
+    pub fn at_end(&self) -> bool
+        ensures pair { IsTrue result ↔ ¬ HasPair self.now }
+        ensures pairs { (m : Records) → IsAt m self.now → IsTrue result ↔ (pairs_from m self.now ≡ []) }
+    {
+        self.slot >= self.used
+    }
+
+    /// The key of the pair that follows.
+    pub fn key<F: Frozen>(&self, frozen: &mut F) -> u64
+        requires at { IsAt (F.records frozen.old) self.now }
+        requires pair { HasPair self.now }
+        ensures key { result ≡ first_key (pairs_from (F.records frozen.old) self.now) }
+        ensures same { frozen.new ≡ frozen.old }
+    {
+        frozen.word(self.leaf, 2 + self.slot)
+    }
+
+    /// The value of the pair that follows.
+    pub fn value<F: Frozen>(&self, frozen: &mut F) -> u64
+        requires at { IsAt (F.records frozen.old) self.now }
+        requires pair { HasPair self.now }
+        ensures value { result ≡ first_value (pairs_from (F.records frozen.old) self.now) }
+        ensures same { frozen.new ≡ frozen.old }
+    {
+        frozen.word(self.leaf, 18 + self.slot)
+    }
+
+    /// Goes on behind one pair.
+    pub fn next<F: Frozen>(&mut self, frozen: &mut F)
+        requires at { IsAt (F.records frozen.old) self.old }
+        requires pair { HasPair self.old }
+        ensures at { IsAt (F.records frozen.old) self.new }
+        ensures pairs { pairs_from (F.records frozen.old) self.new ≡ drop 1 (pairs_from (F.records frozen.old) self.old) }
+        ensures root { self.new.root ≡ self.old.root }
+        ensures same { frozen.new ≡ frozen.old }
+    {
+        if self.slot + 1 < self.used {
+            self.slot += 1;
+        } else {
+            self.next_leaf(frozen);
+        }
+    }
+
+    /// Goes on behind the leaf.
+    fn next_leaf<F: Frozen>(&mut self, frozen: &mut F)
+        requires leads { Leads (F.records frozen.old) self.old.root self.old.path self.old.leaf }
+        requires leaf { level_of (F.records frozen.old self.old.leaf) ≡ 0 }
+        ensures at { IsAt (F.records frozen.old) self.new }
+        ensures pairs { pairs_from (F.records frozen.old) self.new ≡ pairs_behind (F.records frozen.old) 0 self.old.path }
+        ensures root { self.new.root ≡ self.old.root }
+        ensures same { frozen.new ≡ frozen.old }
+    {
+        while let Some(step) = self.path.pop() {
+            let next = step.slot + 1;
+            if next < read_head(frozen, step.node).used {
+                self.path.push(step.node, next);
+                let child = child_at(frozen, step.node, next);
+                self.enter(frozen, child);
+                return;
+            }
+        }
+        self.slot = self.used;
+    }
+}

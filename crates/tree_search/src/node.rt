@@ -1,0 +1,62 @@
+ghost use Rattle.std.specs.Prelude.{◌≡◌, ◌≢◌, ◌<◌, ◌≤◌, ◌+◌, ℕ, length};
+ghost use Rattle.std.specs.declared.cmp.Ordering.TheVariants.{Less};
+ghost use Rattle.image_base.specs.Records.{Records, HasWord, word_at};
+ghost use Rattle.attr_images.specs.Nodes.{level_of, used_of};
+ghost use Rattle.attr_images.specs.Trees.{pairs_below, IsNode};
+ghost use Rattle.key_order.specs.Keys.{AllReadable, seen_by};
+ghost use Rattle.tree_search.specs.Slots.{IsFirstSlot};
+
+use arena_api::Frozen;
+use entry_ref::EntryRef;
+use key_order::KeyOrder;
+use std::cmp::Ordering;
+
+/// What word 0 of a node says.
+#[derive(Clone, Copy, Debug)]
+pub struct Head {
+    pub level: u64,
+    pub used: u32,
+}
+
+pub fn read_head<F: Frozen>(frozen: &mut F, node: EntryRef) -> Head
+    requires { HasWord (F.records frozen.old) node 0 }
+    ensures level { result.level ≡ level_of (F.records frozen.old node) }
+    ensures used { result.used ≡ used_of (F.records frozen.old node) }
+    ensures same { frozen.new ≡ frozen.old }
+{
+    let word = frozen.word(node, 0);
+    Head {
+        level: word / 256,
+        used: (word % 256) as u32,
+    }
+}
+
+/// The child of a slot.
+pub fn child_at<F: Frozen>(frozen: &mut F, node: EntryRef, slot: u32) -> EntryRef
+    requires slot { slot < 16 }
+    requires word { length (F.records frozen.old node) ≡ 34 }
+    requires child { 0 < length (F.records frozen.old (word_at (F.records frozen.old) node (18 + slot))) }
+    ensures child { result ≡ word_at (F.records frozen.old) node (18 + slot) }
+    ensures same { frozen.new ≡ frozen.old }
+{
+    EntryRef::from_raw(frozen.word(node, 18 + slot) as u32)
+}
+
+/// The first of the used slots whose key is not below the key sought, or the number of used slots.
+pub fn first_slot<F: Frozen, K: KeyOrder>(frozen: &mut F, node: EntryRef, used: u32, key: &K) -> u32
+    requires node { IsNode (F.records frozen.old) 1 (level_of (F.records frozen.old node)) node }
+    requires used { used ≡ used_of (F.records frozen.old node) }
+    requires readable { AllReadable K.can_read (F.records frozen.old)
+        (pairs_below (F.records frozen.old) (level_of (F.records frozen.old node)) node) }
+    ensures slot { IsFirstSlot (seen_by K.read K.order (K.sought key.now) (F.records frozen.old))
+        (F.records frozen.old node) result }
+    ensures same { frozen.new ≡ frozen.old }
+{
+    for slot in 0..used {
+        let stored = frozen.word(node, 2 + slot);
+        if key.compare(frozen, stored) != Ordering::Less {
+            return slot;
+        }
+    }
+    used
+}
