@@ -11,7 +11,8 @@ use Rattle.store_api.specs.Ledgers.{is_width, capacity, with_count, with_filled}
 use Rattle.entry_shelf.specs.States.{is_free}
 use Rattle.entry_states.specs.declared.slot.Slot.{Slot}
 use Rattle.entry_states.specs.Entries.{EntriesView, is_made, is_let_go, one, with_buffer}
-use Rattle.entry_states.specs.Rows.{RowView, RowsView, new_row, row_of, row_at, slot_at, has_offset, number_in, state_in, spare_in, entries_of, IsRow, IsSlot, IsKept}
+use Rattle.entry_states.specs.Rows.{RowView, RowsView, new_row, row_of, row_at, slot_at, has_offset, number_in, state_in, spare_in, IsRow, IsSlot, IsKept}
+use Rattle.entry_states.proofs.Seen.{entries_in}
 use Rattle.entry_states.proofs.Places.{row-field, row-same, row-none, width-bounds}
 use Rattle.entry_states.proofs.Numbers.{offset-parts, one-cond}
 use Rattle.entry_states.proofs.Keeping.{with_row, row-here, row-there, kept-row}
@@ -40,7 +41,7 @@ reserve-kept v kept w is idle =
     (λ u there ne. ne_eqb w u (λ e. ne (sym e)) ∙ sym (ne_eqb v.ready u (λ e. (let wide = (width-bounds u there).0 in absurd (omega arith)))))
 
 pub reserve-ready : (v : RowsView) → IsKept v → (w : ℕ) → is_width w ≡ true
-    → entries_of (with_row v w (roomy_row (row_at v.rows w)) w) ≡ record (entries_of v) { ready = w }
+    → entries_in (with_row v w (roomy_row (row_at v.rows w)) w) ≡ record (entries_in v) { ready = w }
 reserve-ready v kept w is =
     let new = roomy_row (row_at v.rows w) in
     λ i. record {
@@ -85,7 +86,7 @@ none-new k o = by_test (has_offset (new_row 0) o) refl
     by_test false e = refl
 
 -- nor one of a buffer without a width
-pub state-none : (v : RowsView) → IsKept v → (r : ℕ) → (slot_at v.slots (buffer_of r)).width ≡ 0 → (entries_of v).state r ≡ None
+pub state-none : (v : RowsView) → IsKept v → (r : ℕ) → (slot_at v.slots (buffer_of r)).width ≡ 0 → (entries_in v).state r ≡ None
 state-none v kept r unused =
     ap (λ u. state_in (row_at v.rows u) (slot_at v.slots (buffer_of r)).rank (offset_of r)) unused
     ∙ ap (λ (n : RowView). state_in n (slot_at v.slots (buffer_of r)).rank (offset_of r)) (row-none v.rows kept.eleven)
@@ -236,7 +237,7 @@ module _ (v : RowsView) (kept : IsKept v) (b w : ℕ) (inside : b < length v.slo
         ∙ sym (ap (λ t. cond t w (slot_at v.slots a).width) (ne_eqb a b ne))
   ]
 
-  add-state : (r : ℕ) → (entries_of (with_added v b w)).state r ≡ (entries_of v).state r
+  add-state : (r : ℕ) → (entries_in (with_added v b w)).state r ≡ (entries_in v).state r
   add-state r = elim (cases_eq (buffer_of r) b) [
     | inl e ↦ ap (λ (s : Slot). state_in (row_at (set v.rows (row_of w) (added_row (row_at v.rows w) b)) s.width) s.rank (offset_of r))
         (slot-set v.slots b (record { width = w; rank = length (row_at v.rows w).buffers }) (buffer_of r) inside e)
@@ -248,7 +249,7 @@ module _ (v : RowsView) (kept : IsKept v) (b w : ℕ) (inside : b < length v.slo
         ∙ row-same (λ (n : RowView). state_in n (slot_at v.slots (buffer_of r)).rank (offset_of r)) v.rows (added_row (row_at v.rows w) b) w (slot_at v.slots (buffer_of r)).width kept.eleven is refl
   ]
 
-  pub add-added : entries_of (with_added v b w) ≡ with_buffer (entries_of v) b w
+  pub add-added : entries_in (with_added v b w) ≡ with_buffer (entries_in v) b w
   add-added =
       let row = row_at v.rows w in
       let new = added_row row b in

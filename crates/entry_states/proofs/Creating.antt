@@ -8,7 +8,8 @@ use Rattle.entry_ref.specs.References.{buffer_of, offset_of}
 use Rattle.store_api.specs.Ledgers.{widths, is_width, capacity}
 use Rattle.entry_states.specs.declared.slot.Slot.{Slot}
 use Rattle.entry_states.specs.Entries.{EntriesView, is_made, is_let_go, one, new_entries}
-use Rattle.entry_states.specs.Rows.{RowView, RowsView, new_row, row_of, row_at, slot_at, has_offset, number_in, state_in, spare_in, entries_of, IsRow, IsSlot, IsKept}
+use Rattle.entry_states.specs.Rows.{RowView, RowsView, new_row, row_of, row_at, slot_at, has_offset, number_in, state_in, spare_in, IsRow, IsSlot, IsKept}
+use Rattle.entry_states.proofs.Seen.{entries_in}
 use Rattle.entry_states.proofs.Places.{row-made, row-out, width-bounds}
 use Rattle.entry_states.proofs.Numbers.{one-cond}
 
@@ -70,7 +71,7 @@ new-kept buffers words some few many most =
       each_slot = λ b wide. (let none : (slot_at (replicate buffers (record { width = 0; rank = 0 })) b).width ≡ 0 = ap (λ (s : Slot). s.width) (no-slot buffers b) in absurd (omega arith));
     }
 
-pub new-entries : (buffers words : ℕ) → entries_of (new_rows buffers words) ≡ new_entries buffers words
+pub new-entries : (buffers words : ℕ) → entries_in (new_rows buffers words) ≡ new_entries buffers words
 new-entries buffers words = λ i. record {
   buffers = length-replicate {A = Slot} buffers (record { width = 0; rank = 0 }) i;
   words = words;
@@ -95,7 +96,7 @@ new-entries buffers words = λ i. record {
         by_test true = refl
         by_test false = refl
 
-    no_state : (r : ℕ) → (entries_of (new_rows buffers words)).state r ≡ None
+    no_state : (r : ℕ) → (entries_in (new_rows buffers words)).state r ≡ None
     no_state r = of_row (λ (n : RowView). state_in n (slot_at (new_rows buffers words).slots (buffer_of r)).rank (offset_of r)) None
         (λ size. untaken size (slot_at (new_rows buffers words).slots (buffer_of r)).rank (offset_of r)) (slot_at (new_rows buffers words).slots (buffer_of r)).width
 

@@ -11,7 +11,8 @@ use Rattle.entry_shelf.specs.declared.state.State.TheVariants.{Free, Returned, M
 use Rattle.entry_shelf.specs.States.{is_free, is_used, state_at, dropped}
 use Rattle.entry_states.specs.declared.slot.Slot.{Slot}
 use Rattle.entry_states.specs.Entries.{EntriesView, is_made, is_let_go, one, dropped_at}
-use Rattle.entry_states.specs.Rows.{RowView, RowsView, row_of, row_at, slot_at, number_in, entry_in, state_in, spare_in, is_used_state, with_states, entries_of, IsKept}
+use Rattle.entry_states.specs.Rows.{RowView, RowsView, row_of, row_at, slot_at, number_in, entry_in, state_in, spare_in, is_used_state, with_states, IsKept}
+use Rattle.entry_states.proofs.Seen.{entries_in}
 use Rattle.entry_states.proofs.Places.{row-field, row-same}
 use Rattle.entry_states.proofs.Numbers.{Puts, puts-set, count-set, entry-number}
 use Rattle.entry_states.proofs.Standing.{state-put, state_in-there}
@@ -66,7 +67,7 @@ pub record IsTaken (v : RowsView) (r : ℕ) (s : State) : Type 0 where
   pub below : number_at v r < length (row_at v.rows (width_at v r)).buffers * (row_at v.rows (width_at v r)).capacity
   pub entry : entry_in (row_at v.rows (width_at v r)) (number_at v r) ≡ r
 
-pub is-taken : (v : RowsView) → IsKept v → (r : ℕ) (s : State) → (entries_of v).state r ≡ Some s → IsTaken v r s
+pub is-taken : (v : RowsView) → IsKept v → (r : ℕ) (s : State) → (entries_in v).state r ≡ Some s → IsTaken v r s
 is-taken v kept r s is =
     let entry = good-entries v kept r s is in
     let at = numbered v kept r entry in
@@ -87,7 +88,7 @@ pub used-taken : (o : Option State) → is_used_state o ≡ true → (s : State)
 used-taken None is = absurd (cc)
 used-taken (Some s) is = (s, refl, is)
 
-module _ (v : RowsView) (kept : IsKept v) (last r : ℕ) (s : State) (is : (entries_of v).state r ≡ Some s) where
+module _ (v : RowsView) (kept : IsKept v) (last r : ℕ) (s : State) (is : (entries_in v).state r ≡ Some s) where
   pub drop-kept : IsKept (with_row v (width_at v r) (dropped_row last (row_at v.rows (width_at v r)) (number_at v r)) v.ready)
   drop-kept =
       let taken = is-taken v kept r s is in
@@ -105,7 +106,7 @@ module _ (v : RowsView) (kept : IsKept v) (last r : ℕ) (s : State) (is : (entr
       })
 
   pub drop-dropped : is_used s ≡ true
-      → entries_of (with_row v (width_at v r) (dropped_row last (row_at v.rows (width_at v r)) (number_at v r)) v.ready) ≡ dropped_at (entries_of v) last r s
+      → entries_in (with_row v (width_at v r) (dropped_row last (row_at v.rows (width_at v r)) (number_at v r)) v.ready) ≡ dropped_at (entries_in v) last r s
   drop-dropped used =
       let taken = is-taken v kept r s is in
       let w = width_at v r in
@@ -137,7 +138,7 @@ module _ (v : RowsView) (kept : IsKept v) (last r : ℕ) (s : State) (is : (entr
         words = v.words;
         width = λ b. (slot_at v.slots b).width;
         state = λ q. (state-put v kept w taken.width x taken.below (dropped last s) new refl puts q
-            ∙ ap (λ e. cond (eqb q e) (Some (dropped last s)) ((entries_of v).state q)) taken.entry) i;
+            ∙ ap (λ e. cond (eqb q e) (Some (dropped last s)) ((entries_in v).state q)) taken.entry) i;
         made = λ u. row-same (λ (n : RowView). n.shelf.made) v.rows new w u kept.eleven taken.width refl i;
         spare = λ u. row-field spare_in v.rows new w u (spare_in row + one (is_free (dropped last s))) kept.eleven taken.width spares i;
         count = λ u. row-same (λ (n : RowView). length n.buffers) v.rows new w u kept.eleven taken.width refl i;

@@ -13,7 +13,8 @@ use Rattle.entry_shelf.specs.declared.state.State.TheVariants.{Free, Returned, M
 use Rattle.entry_shelf.specs.States.{is_free, accepted, undone}
 use Rattle.entry_states.specs.declared.slot.Slot.{Slot}
 use Rattle.entry_states.specs.Entries.{EntriesView, is_made, is_let_go, one, accepted_at, undone_at}
-use Rattle.entry_states.specs.Rows.{RowView, RowsView, new_row, row_of, row_at, slot_at, has_offset, number_in, state_in, spare_in, with_states, entries_of, IsRow, IsSlot, IsKept}
+use Rattle.entry_states.specs.Rows.{RowView, RowsView, new_row, row_of, row_at, slot_at, has_offset, number_in, state_in, spare_in, with_states, IsRow, IsSlot, IsKept}
+use Rattle.entry_states.proofs.Seen.{entries_in}
 use Rattle.entry_states.proofs.Places.{row-map}
 use Rattle.entry_states.proofs.Numbers.{count-map, one-cond}
 
@@ -62,7 +63,7 @@ module _ (f : State → State) (v : RowsView) where
         };
   }
 
-  pub changed-state : (r : ℕ) → (entries_of (with_changed f v)).state r ≡ option_map f ((entries_of v).state r)
+  pub changed-state : (r : ℕ) → (entries_in (with_changed f v)).state r ≡ option_map f ((entries_in v).state r)
   changed-state r =
       let slot = slot_at v.slots (buffer_of r) in
       let row = row_at v.rows slot.width in
@@ -153,7 +154,7 @@ undone-gone last LetGo = refl
 undone-gone last (DroppedNow after) = refl
 undone-gone last (Dropped after) = refl
 
-pub accept-accepted : (v : RowsView) (last : ℕ) → entries_of (with_changed (accepted last) v) ≡ accepted_at (entries_of v) last
+pub accept-accepted : (v : RowsView) (last : ℕ) → entries_in (with_changed (accepted last) v) ≡ accepted_at (entries_in v) last
 accept-accepted v last = λ i. record {
   buffers = length v.slots;
   words = v.words;
@@ -168,7 +169,7 @@ accept-accepted v last = λ i. record {
   ready = v.ready;
 }
 
-pub undo-undone : (v : RowsView) (last : ℕ) → entries_of (with_changed (undone last) v) ≡ undone_at (entries_of v) last
+pub undo-undone : (v : RowsView) (last : ℕ) → entries_in (with_changed (undone last) v) ≡ undone_at (entries_in v) last
 undo-undone v last = λ i. record {
   buffers = length v.slots;
   words = v.words;

@@ -12,7 +12,8 @@ use Rattle.entry_shelf.specs.declared.state.State.{State}
 use Rattle.entry_shelf.specs.States.{is_free}
 use Rattle.entry_states.specs.declared.slot.Slot.{Slot}
 use Rattle.entry_states.specs.Entries.{EntriesView, is_open_state, IsGood}
-use Rattle.entry_states.specs.Rows.{RowView, RowsView, new_row, row_of, row_at, slot_at, has_offset, number_in, entry_in, state_in, spare_in, entries_of, IsRow, IsSlot, IsKept}
+use Rattle.entry_states.specs.Rows.{RowView, RowsView, new_row, row_of, row_at, slot_at, has_offset, number_in, entry_in, state_in, spare_in, IsRow, IsSlot, IsKept}
+use Rattle.entry_states.proofs.Seen.{entries_in}
 use Rattle.entry_states.proofs.Places.{row-none, width-bounds}
 use Rattle.entry_states.proofs.Numbers.{offset-from, offset-parts, entry-from, entry-offset, count-some}
 use Rattle.entry_states.proofs.Standing.{slot-inside, state_in-there, some-capacity}
@@ -34,7 +35,7 @@ some-width v kept w k o s is = elim (cases_eq w 0) [
   | inr ne ↦ omega arith
 ]
 
-pub good-entries : (v : RowsView) → IsKept v → (r : ℕ) (s : State) → (entries_of v).state r ≡ Some s
+pub good-entries : (v : RowsView) → IsKept v → (r : ℕ) (s : State) → (entries_in v).state r ≡ Some s
     → IsEntry (length v.slots) v.words (slot_at v.slots (buffer_of r)).width r
 good-entries v kept r s is =
     let slot = slot_at v.slots (buffer_of r) in
@@ -96,7 +97,7 @@ spare-open row x below is = by_state (slice_get row.shelf.states x) refl is
     by_state (Some s) e free = (let some = count-some is_free row.shelf.states x s e free in omega (arith, some))
 
 pub good-spares : (v : RowsView) → IsKept v → (r : ℕ) → IsEntry (length v.slots) v.words (slot_at v.slots (buffer_of r)).width r
-    → is_open_state ((entries_of v).state r) ≡ true → 0 < spare_in (row_at v.rows (slot_at v.slots (buffer_of r)).width)
+    → is_open_state ((entries_in v).state r) ≡ true → 0 < spare_in (row_at v.rows (slot_at v.slots (buffer_of r)).width)
 good-spares v kept r entry is =
     let slot = slot_at v.slots (buffer_of r) in
     let row = row_at v.rows slot.width in
@@ -105,7 +106,7 @@ good-spares v kept r entry is =
     (subst (λ o. is_open_state o ≡ true) (state_in-there row slot.rank (offset_of r) (number_in row slot.rank (offset_of r)) at.offset refl) is)
 
 -- an offset that was not taken is in the last buffer
-pub untaken-last : (v : RowsView) → IsKept v → (r : ℕ) → IsEntry (length v.slots) v.words (slot_at v.slots (buffer_of r)).width r → (entries_of v).state r ≡ None
+pub untaken-last : (v : RowsView) → IsKept v → (r : ℕ) → IsEntry (length v.slots) v.words (slot_at v.slots (buffer_of r)).width r → (entries_in v).state r ≡ None
     → slice_get (row_at v.rows (slot_at v.slots (buffer_of r)).width).buffers (length (row_at v.rows (slot_at v.slots (buffer_of r)).width).buffers - 1) ≡ Some (buffer_of r)
 untaken-last v kept r entry none =
     let slot = slot_at v.slots (buffer_of r) in
@@ -124,7 +125,7 @@ untaken-last v kept r entry none =
           sym (ap (λ i. slice_get row.buffers i) same) ∙ slice_get-get_or row.buffers slot.rank 0 below ∙ ap (λ b. Some b) at.buffer)
     ]
 
-pub good : (v : RowsView) → IsKept v → IsGood (entries_of v)
+pub good : (v : RowsView) → IsKept v → IsGood (entries_in v)
 good v kept = record {
   entries = good-entries v kept;
   widths = λ b wide. (kept.each_slot b wide).of_width;

@@ -1,5 +1,6 @@
 pub mod Places
 pub mod Numbers
+pub mod Seen
 pub mod Standing
 pub mod Good
 pub mod Keeping

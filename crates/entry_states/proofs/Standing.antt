@@ -10,7 +10,8 @@ use Rattle.store_api.specs.Ledgers.{is_width, capacity}
 use Rattle.entry_shelf.specs.declared.state.State.{State}
 use Rattle.entry_states.specs.declared.slot.Slot.{Slot}
 use Rattle.entry_states.specs.Entries.{with_state}
-use Rattle.entry_states.specs.Rows.{RowView, RowsView, row_of, row_at, slot_at, has_offset, number_in, entry_in, state_in, entries_of, IsRow, IsSlot, IsKept}
+use Rattle.entry_states.specs.Rows.{RowView, RowsView, row_of, row_at, slot_at, has_offset, number_in, entry_in, state_in, IsRow, IsSlot, IsKept}
+use Rattle.entry_states.proofs.Seen.{entries_in}
 use Rattle.entry_states.proofs.Places.{row-set, row-same, width-bounds}
 use Rattle.entry_states.proofs.Numbers.{capacity-some, capacity-few, offset-from, packed-buffer, packed-offset, entry-number, Puts}
 
@@ -114,7 +115,7 @@ state_in-other row new k o x s size puts apart =
 pub state-put : (v : RowsView) → IsKept v → (w : ℕ) → is_width w ≡ true → (x : ℕ) → x < length (row_at v.rows w).buffers * (row_at v.rows w).capacity
     → (s : State) (new : RowView) → new.capacity ≡ (row_at v.rows w).capacity → Puts (row_at v.rows w).shelf.states x s new.shelf.states → (r : ℕ)
     → state_in (row_at (set v.rows (row_of w) new) (slot_at v.slots (buffer_of r)).width) (slot_at v.slots (buffer_of r)).rank (offset_of r)
-    ≡ with_state (entries_of v).state (entry_in (row_at v.rows w) x) s r
+    ≡ with_state (entries_in v).state (entry_in (row_at v.rows w) x) s r
 state-put v kept w is x below s new size puts r =
     let row = row_at v.rows w in
     let rows = set v.rows (row_of w) new in

@@ -12,7 +12,8 @@ use Rattle.entry_shelf.specs.declared.state.State.TheVariants.{Free, Returned, M
 use Rattle.entry_shelf.specs.States.{ShelfView, is_free, state_at, with_made, IsOpen, spare_of}
 use Rattle.entry_states.specs.declared.slot.Slot.{Slot}
 use Rattle.entry_states.specs.Entries.{EntriesView, is_made, is_let_go, is_open_state, is_free_state, one, with_state, made_at, CanTake}
-use Rattle.entry_states.specs.Rows.{RowView, RowsView, row_of, row_at, slot_at, has_offset, number_in, entry_in, state_in, spare_in, entries_of, IsRow, IsSlot, IsKept}
+use Rattle.entry_states.specs.Rows.{RowView, RowsView, row_of, row_at, slot_at, has_offset, number_in, entry_in, state_in, spare_in, IsRow, IsSlot, IsKept}
+use Rattle.entry_states.proofs.Seen.{entries_in}
 use Rattle.entry_states.proofs.Places.{row-field, row-same, width-bounds}
 use Rattle.entry_states.proofs.Numbers.{Puts, puts-set, puts-snoc, count-set, count-snoc, count-none, entry-from}
 use Rattle.entry_states.proofs.Standing.{few-entries, StandsAt, stands-at, state-by, state_in-there, state-put}
@@ -148,7 +149,7 @@ module _ (v : RowsView) (kept : IsKept v) (w : ℕ) (is : is_width w ≡ true) (
         member = row.member;
       })
 
-  pub take-made : entries_of (with_row v w (made_row (row_at v.rows w) x) v.ready) ≡ made_at (entries_of v) w (entry_in (row_at v.rows w) x)
+  pub take-made : entries_in (with_row v w (made_row (row_at v.rows w) x) v.ready) ≡ made_at (entries_in v) w (entry_in (row_at v.rows w) x)
   take-made =
       let row = row_at v.rows w in
       let new = made_row row x in
@@ -168,7 +169,7 @@ module _ (v : RowsView) (kept : IsKept v) (w : ℕ) (is : is_width w ≡ true) (
         ready = v.ready;
       }
 
-  state-here : (entries_of v).state (entry_in (row_at v.rows w) x) ≡ slice_get (row_at v.rows w).shelf.states x
+  state-here : (entries_in v).state (entry_in (row_at v.rows w) x) ≡ slice_get (row_at v.rows w).shelf.states x
   state-here =
       let at = stands-at v kept w is x below in
       state-by v.rows v.slots (entry_in (row_at v.rows w) x) w (x / (row_at v.rows w).capacity) at.slot
@@ -196,7 +197,7 @@ module _ (v : RowsView) (kept : IsKept v) (w : ℕ) (is : is_width w ≡ true) (
       by_state None e = refl
       by_state (Some s) e = count-none is_free row.shelf.states (number_in row k o) s none (sym (state_in-there row k o (number_in row k o) (some-offset row k o s e) refl) ∙ e)
 
-  pub take-open : CanTake (entries_of v) w (entry_in (row_at v.rows w) x)
+  pub take-open : CanTake (entries_in v) w (entry_in (row_at v.rows w) x)
   take-open =
       let at = stands-at v kept w is x below in
       let size = (kept.each_row w is).size in

@@ -72,7 +72,7 @@ pub record RowsView : Type 0 where
   pub ready : ℕ
 
 -- what the rows say of all entries
-abbrev pub entries_of : RowsView → EntriesView
+unfoldable pub entries_of : RowsView → EntriesView
 entries_of v = record {
   buffers = length v.slots;
   words = v.words;

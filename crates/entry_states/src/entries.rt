@@ -105,6 +105,7 @@ impl Entries {
     }
 
     /// The width of a buffer's entries, 0 where it has none.
+    #[tactic(auto, unfolding(crate::specs::Rows::entries_of))]
     pub fn width(&self, buffer: u32) -> u32
         ensures { result ≡ (entries_of self.now).width buffer }
     {
@@ -112,6 +113,7 @@ impl Entries {
     }
 
     /// The state of an entry; None where it was not taken, or where there is no such entry.
+    #[tactic(auto, unfolding(crate::specs::Rows::entries_of))]
     pub fn state(&self, entry: EntryRef) -> Option<State>
         ensures { result ≡ (entries_of self.now).state entry }
     {

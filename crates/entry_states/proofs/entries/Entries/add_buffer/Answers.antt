@@ -8,6 +8,7 @@ use Rattle.entry_states.proofs.Adding.{with_added, put-added, ready-room, add-ke
 use Rattle.entry_states.proofs.entries.Entries.add_buffer.Goals as goal
 
 pub add_buffer-rank-requires-clause-room : goal.add_buffer-rank-requires-clause-room
+unfolding entries_of
 add_buffer-rank-requires-clause-room c =
     let s = c.self.inside in
     let v : RowsView = record { words = s.words; rows = s.rows.items; slots = s.slots.items; ready = s.ready } in
@@ -18,6 +19,7 @@ add_buffer-rank-requires-clause-room c =
     subst (λ (n : RowView). n.shelf.room ≡ (length n.buffers + 1) * n.capacity) (sym row) (ready-room v c.self.invariant c.args.width c.requires.width ready)
 
 pub add_buffer-rank-requires-clause-size : goal.add_buffer-rank-requires-clause-size
+unfolding entries_of
 add_buffer-rank-requires-clause-size c =
     let s = c.self.inside in
     let v : RowsView = record { words = s.words; rows = s.rows.items; slots = s.slots.items; ready = s.ready } in
@@ -28,6 +30,7 @@ add_buffer-rank-requires-clause-size c =
     subst (λ (n : RowView). 0 < n.capacity) (sym row) size
 
 pub add_buffer-rank-requires-clause-few : goal.add_buffer-rank-requires-clause-few
+unfolding entries_of
 add_buffer-rank-requires-clause-few c =
     let s = c.self.inside in
     let v : RowsView = record { words = s.words; rows = s.rows.items; slots = s.slots.items; ready = s.ready } in
@@ -38,6 +41,7 @@ add_buffer-rank-requires-clause-few c =
     subst (λ (n : RowView). length n.buffers < 1024) (sym row) (omega (arith, few))
 
 pub invariant_of-self : goal.invariant_of-self
+unfolding entries_of
 invariant_of-self c =
     let s = c.self.inside in
     let v : RowsView = record { words = s.words; rows = s.rows.items; slots = s.slots.items; ready = s.ready } in
@@ -53,6 +57,7 @@ invariant_of-self c =
     subst IsKept (sym put) (add-kept v c.self.invariant c.args.buffer c.args.width inside unused c.requires.width ready none)
 
 pub returns-clause-added : goal.returns-clause-added
+unfolding entries_of
 returns-clause-added c =
     let s = c.self.inside in
     let v : RowsView = record { words = s.words; rows = s.rows.items; slots = s.slots.items; ready = s.ready } in
@@ -69,6 +74,7 @@ returns-clause-added c =
     ∙ ap (λ (o : RowsView). with_buffer (entries_of o) c.args.buffer c.args.width) c.self.view_is
 
 pub returns-clause-good : goal.returns-clause-good
+unfolding entries_of
 returns-clause-good c =
     let s = c.self.inside in
     let v : RowsView = record { words = s.words; rows = s.rows.items; slots = s.slots.items; ready = s.ready } in
@@ -83,3 +89,11 @@ returns-clause-good c =
     c.place_of.ensures.place row c.add_buffer-rank.ensures.added c.add_buffer-rank.ensures.rank in
     subst (λ (o : RowsView). IsGood (entries_of o)) (sym put)
     (good (with_added v c.args.buffer c.args.width) (add-kept v c.self.invariant c.args.buffer c.args.width inside unused c.requires.width ready none))
+
+pub index_mut-requires : goal.index_mut-requires
+unfolding entries_of
+index_mut-requires c =
+    let s = c.self.inside in
+    let v : RowsView = record { words = s.words; rows = s.rows.items; slots = s.slots.items; ready = s.ready } in
+    let inside : c.args.buffer < length v.slots = subst (λ (o : RowsView). c.args.buffer < length o.slots) (sym c.self.view_is) c.requires.inside in
+    omega (arith, s.slots.ok.0, inside)

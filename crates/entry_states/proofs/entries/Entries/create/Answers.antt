@@ -7,18 +7,21 @@ use Rattle.entry_states.proofs.Creating.{new_rows, same-new, new-kept, new-entri
 use Rattle.entry_states.proofs.entries.Entries.create.Goals as goal
 
 pub invariant_of-result : goal.invariant_of-result
+unfolding entries_of
 invariant_of-result c =
     let rows : c.in_ok-rows.rows.items ≡ map (λ w. new_row (c.args.words / w - 1)) widths = c.in_ok-rows.ensures in
     subst IsKept (sym (same-new c.args.buffers c.args.words c.in_ok-rows.rows.items c.in_ok-slots.slots.items rows c.in_ok-slots.ensures))
     (new-kept c.args.buffers c.args.words c.requires.some_buffers c.requires.few_buffers c.requires.some_words c.requires.few_words)
 
 pub returns-clause-new : goal.returns-clause-new
+unfolding entries_of
 returns-clause-new c =
     let rows : c.in_ok-rows.rows.items ≡ map (λ w. new_row (c.args.words / w - 1)) widths = c.in_ok-rows.ensures in
     ap entries_of (same-new c.args.buffers c.args.words c.in_ok-rows.rows.items c.in_ok-slots.slots.items rows c.in_ok-slots.ensures)
     ∙ new-entries c.args.buffers c.args.words
 
 pub returns-clause-good : goal.returns-clause-good
+unfolding entries_of
 returns-clause-good c =
     let rows : c.in_ok-rows.rows.items ≡ map (λ w. new_row (c.args.words / w - 1)) widths = c.in_ok-rows.ensures in
     subst (λ (o : RowsView). IsGood (entries_of o))

@@ -6,7 +6,7 @@ use Rattle.entry_shelf.specs.declared.state.State.{State}
 use Rattle.entry_shelf.specs.States.{is_used}
 use Rattle.entry_states.specs.declared.slot.Slot.{Slot}
 use Rattle.entry_states.specs.Entries.{IsGood, dropped_at}
-use Rattle.entry_states.specs.Rows.{RowView, RowsView, new_row, row_of, row_at, slot_at, is_used_state, entries_of, IsKept}
+use Rattle.entry_states.specs.Rows.{RowView, RowsView, new_row, row_of, row_at, slot_at, state_in, is_used_state, entries_of, IsKept}
 use Rattle.entry_states.proofs.Standing.{some-capacity, few-buffers}
 use Rattle.entry_states.proofs.Good.{good}
 use Rattle.entry_states.proofs.Keeping.{with_row}
@@ -14,6 +14,7 @@ use Rattle.entry_states.proofs.Dropping.{width_at, number_at, dropped_row, is-ta
 use Rattle.entry_states.proofs.entries.Entries.drop_entry.Goals as goal
 
 pub place_of-requires : goal.place_of-requires
+unfolding entries_of
 place_of-requires c =
     let s = c.self.inside in
     let v : RowsView = record { words = s.words; rows = s.rows.items; slots = s.slots.items; ready = s.ready } in
@@ -26,6 +27,7 @@ place_of-requires c =
     subst (λ (n : Slot). is_width n.width ≡ true) (sym slot) taken.width
 
 pub drop_entry-requires-clause-rank : goal.drop_entry-requires-clause-rank
+unfolding entries_of
 drop_entry-requires-clause-rank c =
     let s = c.self.inside in
     let v : RowsView = record { words = s.words; rows = s.rows.items; slots = s.slots.items; ready = s.ready } in
@@ -39,6 +41,7 @@ drop_entry-requires-clause-rank c =
     subst (λ (n : Slot). n.rank < 1024) (sym slot) (omega (arith, few, taken.low))
 
 pub drop_entry-requires-clause-size : goal.drop_entry-requires-clause-size
+unfolding entries_of
 drop_entry-requires-clause-size c =
     let s = c.self.inside in
     let v : RowsView = record { words = s.words; rows = s.rows.items; slots = s.slots.items; ready = s.ready } in
@@ -54,7 +57,26 @@ drop_entry-requires-clause-size c =
     let size = (some-capacity v c.self.invariant (width_at v c.args.entry) taken.width).1 in
     subst (λ (n : RowView). n.capacity < 65536) (sym (row ∙ ap (λ (n : Slot). row_at v.rows n.width) slot)) (omega (arith, size))
 
+pub drop_entry-requires-clause-used : goal.drop_entry-requires-clause-used
+unfolding entries_of
+drop_entry-requires-clause-used c =
+    let s = c.self.inside in
+    let v : RowsView = record { words = s.words; rows = s.rows.items; slots = s.slots.items; ready = s.ready } in
+    let slot : c.slot_of-slot.result ≡ slot_at v.slots (buffer_of c.args.entry) =
+    c.slot_of-slot.ensures ∙ ap (λ l. slot_at l c.buffer.result) c.deref.ensures.value ∙ ap (λ b. slot_at s.slots.items b) c.buffer.ensures.value in
+    let used : is_used_state ((entries_of v).state c.args.entry) ≡ true =
+    subst (λ (o : RowsView). is_used_state ((entries_of o).state c.args.entry) ≡ true) (sym c.self.view_is) c.requires.used in
+    let row : c.index_mut-row.result.now ≡ row_at v.rows c.slot_of-slot.result.width =
+    get_or_read s.rows.items c.place_of.result _ (omega (arith, c.place_of.ensures.below, c.self.invariant.eleven)) c.index_mut-row.ensures.value (new_row 0)
+    ∙ ap (λ p. get_or s.rows.items p (new_row 0)) c.place_of.ensures.place in
+    let same : state_in c.index_mut-row.result.now c.slot_of-slot.result.rank c.offset.result ≡ (entries_of v).state c.args.entry =
+    ap (λ (n : RowView). state_in n c.slot_of-slot.result.rank c.offset.result) row
+    ∙ ap (λ (n : Slot). state_in (row_at v.rows n.width) n.rank c.offset.result) slot
+    ∙ ap (λ o. state_in (row_at v.rows (width_at v c.args.entry)) (slot_at v.slots (buffer_of c.args.entry)).rank o) c.offset.ensures.value in
+    ap is_used_state same ∙ used
+
 pub invariant_of-self : goal.invariant_of-self
+unfolding entries_of
 invariant_of-self c =
     let s = c.self.inside in
     let v : RowsView = record { words = s.words; rows = s.rows.items; slots = s.slots.items; ready = s.ready } in
@@ -71,6 +93,7 @@ invariant_of-self c =
     subst IsKept (sym put) (drop-kept v c.self.invariant c.args.last c.args.entry some.0 some.1)
 
 pub returns-clause-dropped : goal.returns-clause-dropped
+unfolding entries_of
 returns-clause-dropped c =
     let s = c.self.inside in
     let v : RowsView = record { words = s.words; rows = s.rows.items; slots = s.slots.items; ready = s.ready } in
@@ -92,6 +115,7 @@ returns-clause-dropped c =
     ∙ ap (λ (o : RowsView). dropped_at (entries_of o) c.args.last c.args.entry state) c.self.view_is
 
 pub returns-clause-good : goal.returns-clause-good
+unfolding entries_of
 returns-clause-good c =
     let s = c.self.inside in
     let v : RowsView = record { words = s.words; rows = s.rows.items; slots = s.slots.items; ready = s.ready } in

@@ -11,6 +11,7 @@ use Rattle.entry_states.proofs.Adding.{roomy_row, reserve-kept, reserve-ready}
 use Rattle.entry_states.proofs.entries.Entries.reserve.Goals as goal
 
 pub reserve-requires-clause-room : goal.reserve-requires-clause-room
+unfolding entries_of
 reserve-requires-clause-room c =
     let s = c.self.inside in
     let v : RowsView = record { words = s.words; rows = s.rows.items; slots = s.slots.items; ready = s.ready } in
@@ -21,6 +22,7 @@ reserve-requires-clause-room c =
     subst (λ (n : RowView). n.shelf.room ≡ length n.buffers * n.capacity) (sym row) (idle-room v c.self.invariant c.args.width c.requires.width idle)
 
 pub reserve-requires-clause-few : goal.reserve-requires-clause-few
+unfolding entries_of
 reserve-requires-clause-few c =
     let s = c.self.inside in
     let v : RowsView = record { words = s.words; rows = s.rows.items; slots = s.slots.items; ready = s.ready } in
@@ -31,6 +33,7 @@ reserve-requires-clause-few c =
     subst (λ (n : RowView). length n.buffers < 1024) (sym row) (omega (arith, few))
 
 pub reserve-requires-clause-size : goal.reserve-requires-clause-size
+unfolding entries_of
 reserve-requires-clause-size c =
     let s = c.self.inside in
     let v : RowsView = record { words = s.words; rows = s.rows.items; slots = s.slots.items; ready = s.ready } in
@@ -41,6 +44,7 @@ reserve-requires-clause-size c =
     subst (λ (n : RowView). n.capacity < 65536) (sym row) (omega (arith, size))
 
 pub returns-in_err-reserve-clause-err : goal.returns-in_err-reserve-clause-err
+unfolding entries_of
 returns-in_err-reserve-clause-err c =
     let s = c.self.inside in
     let v : RowsView = record { words = s.words; rows = s.rows.items; slots = s.slots.items; ready = s.ready } in
@@ -52,6 +56,7 @@ returns-in_err-reserve-clause-err c =
     rw p.1 (same ∙ c.self.view_is)
 
 pub returns-in_err-reserve-clause-good : goal.returns-in_err-reserve-clause-good
+unfolding entries_of
 returns-in_err-reserve-clause-good c =
     let s = c.self.inside in
     let v : RowsView = record { words = s.words; rows = s.rows.items; slots = s.slots.items; ready = s.ready } in
@@ -62,6 +67,7 @@ returns-in_err-reserve-clause-good c =
     subst (λ (o : RowsView). IsGood (entries_of o)) (sym same) (good v c.self.invariant)
 
 pub invariant_of-self-2 : goal.invariant_of-self-2
+unfolding entries_of
 invariant_of-self-2 c =
     let s = c.self.inside in
     let v : RowsView = record { words = s.words; rows = s.rows.items; slots = s.slots.items; ready = s.ready } in
@@ -73,6 +79,7 @@ invariant_of-self-2 c =
     subst IsKept (sym put) (reserve-kept v c.self.invariant c.args.width c.requires.width idle)
 
 pub returns-clause-ok : goal.returns-clause-ok
+unfolding entries_of
 returns-clause-ok c =
     let s = c.self.inside in
     let v : RowsView = record { words = s.words; rows = s.rows.items; slots = s.slots.items; ready = s.ready } in
@@ -83,6 +90,7 @@ returns-clause-ok c =
     ap entries_of put ∙ reserve-ready v c.self.invariant c.args.width c.requires.width ∙ ap (λ (o : RowsView). record (entries_of o) { ready = c.args.width }) c.self.view_is
 
 pub returns-clause-good : goal.returns-clause-good
+unfolding entries_of
 returns-clause-good c =
     let s = c.self.inside in
     let v : RowsView = record { words = s.words; rows = s.rows.items; slots = s.slots.items; ready = s.ready } in

@@ -6,6 +6,7 @@ use Rattle.entry_states.proofs.Adding.{state-none}
 use Rattle.entry_states.proofs.entries.Entries.state.Goals as goal
 
 pub returns-then-slot-eq0 : goal.returns-then-slot-eq0
+unfolding entries_of
 returns-then-slot-eq0 c =
     let s = c.self.inside in
     let v : RowsView = record { words = s.words; rows = s.rows.items; slots = s.slots.items; ready = s.ready } in

@@ -10,6 +10,7 @@ use Rattle.entry_states.proofs.Taking.{idle-spare, made_row, below, take-kept, t
 use Rattle.entry_states.proofs.entries.Entries.take.Goals as goal
 
 pub returns-in_err-number-clause-none : goal.returns-in_err-number-clause-none
+unfolding entries_of
 returns-in_err-number-clause-none c =
     let s = c.self.inside in
     let v : RowsView = record { words = s.words; rows = s.rows.items; slots = s.slots.items; ready = s.ready } in
@@ -23,6 +24,7 @@ returns-in_err-number-clause-none c =
     rw c.from_residual.ensures (λ _. there, λ _. refl)
 
 pub returns-in_err-number-clause-good : goal.returns-in_err-number-clause-good
+unfolding entries_of
 returns-in_err-number-clause-good c =
     let s = c.self.inside in
     let v : RowsView = record { words = s.words; rows = s.rows.items; slots = s.slots.items; ready = s.ready } in
@@ -34,6 +36,7 @@ returns-in_err-number-clause-good c =
     (good v c.self.invariant)
 
 pub entry-requires-clause-below : goal.entry-requires-clause-below
+unfolding entries_of
 entry-requires-clause-below c =
     let s = c.self.inside in
     let v : RowsView = record { words = s.words; rows = s.rows.items; slots = s.slots.items; ready = s.ready } in
@@ -48,6 +51,7 @@ entry-requires-clause-below c =
     (subst (λ (n : RowView). x < length n.buffers * n.capacity) (sym row) low)
 
 pub entry-requires-clause-buffer : goal.entry-requires-clause-buffer
+unfolding entries_of
 entry-requires-clause-buffer c =
     let s = c.self.inside in
     let v : RowsView = record { words = s.words; rows = s.rows.items; slots = s.slots.items; ready = s.ready } in
@@ -63,6 +67,7 @@ entry-requires-clause-buffer c =
     (subst (λ (n : RowView). get_or n.buffers (x / n.capacity) 0 < 1024) (sym row) buffer)
 
 pub entry-requires-clause-size : goal.entry-requires-clause-size
+unfolding entries_of
 entry-requires-clause-size c =
     let s = c.self.inside in
     let v : RowsView = record { words = s.words; rows = s.rows.items; slots = s.slots.items; ready = s.ready } in
@@ -74,6 +79,7 @@ entry-requires-clause-size c =
     omega (arith, size, same)
 
 pub invariant_of-self-2 : goal.invariant_of-self-2
+unfolding entries_of
 invariant_of-self-2 c =
     let s = c.self.inside in
     let v : RowsView = record { words = s.words; rows = s.rows.items; slots = s.slots.items; ready = s.ready } in
@@ -88,6 +94,7 @@ invariant_of-self-2 c =
     (take-kept v c.self.invariant c.args.width c.requires.width idle x free)
 
 pub returns-clause-none : goal.returns-clause-none
+unfolding entries_of
 returns-clause-none c =
     let s = c.self.inside in
     let v : RowsView = record { words = s.words; rows = s.rows.items; slots = s.slots.items; ready = s.ready } in
@@ -102,6 +109,7 @@ returns-clause-none c =
     )
 
 pub returns-clause-open : goal.returns-clause-open
+unfolding entries_of
 returns-clause-open c =
     let s = c.self.inside in
     let v : RowsView = record { words = s.words; rows = s.rows.items; slots = s.slots.items; ready = s.ready } in
@@ -117,6 +125,7 @@ returns-clause-open c =
     (subst (λ r. CanTake (entries_of v) c.args.width r) (sym entry) (take-open v c.self.invariant c.args.width c.requires.width idle x free))
 
 pub returns-clause-made : goal.returns-clause-made
+unfolding entries_of
 returns-clause-made c =
     let s = c.self.inside in
     let v : RowsView = record { words = s.words; rows = s.rows.items; slots = s.slots.items; ready = s.ready } in
@@ -133,6 +142,7 @@ returns-clause-made c =
     ∙ ap (λ r. made_at (entries_of v) c.args.width r) (sym entry) ∙ ap (λ (o : RowsView). made_at (entries_of o) c.args.width c.entry.result) c.self.view_is
 
 pub returns-clause-good : goal.returns-clause-good
+unfolding entries_of
 returns-clause-good c =
     let s = c.self.inside in
     let v : RowsView = record { words = s.words; rows = s.rows.items; slots = s.slots.items; ready = s.ready } in

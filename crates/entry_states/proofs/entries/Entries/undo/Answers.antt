@@ -7,11 +7,13 @@ use Rattle.entry_states.proofs.Ending.{changed, with_changed, changed-kept, chan
 use Rattle.entry_states.proofs.entries.Entries.undo.Goals as goal
 
 pub loop-row-preserved : goal.loop-row-preserved
+unfolding entries_of
 loop-row-preserved c =
     changed-more (undone c.args.last) c.deref_mut-row-items.result.now c.loop-row.row-items c.loop-row.row-index c.row-item.result c.undo.new.self
     c.loop-row-test.true c.loop-row.auto.row-items c.loop-row.invariant c.row-item.is c.undo.ensures
 
 pub invariant_of-self : goal.invariant_of-self
+unfolding entries_of
 invariant_of-self c =
     let s = c.self.inside in
     let v : RowsView = record { words = s.words; rows = s.rows.items; slots = s.slots.items; ready = s.ready } in
@@ -23,6 +25,7 @@ invariant_of-self c =
     subst IsKept (sym same) (changed-kept (undone c.args.last) v c.self.invariant)
 
 pub returns-clause-undone : goal.returns-clause-undone
+unfolding entries_of
 returns-clause-undone c =
     let s = c.self.inside in
     let v : RowsView = record { words = s.words; rows = s.rows.items; slots = s.slots.items; ready = s.ready } in
@@ -34,6 +37,7 @@ returns-clause-undone c =
     ap entries_of same ∙ undo-undone v c.args.last ∙ ap (λ (o : RowsView). undone_at (entries_of o) c.args.last) c.self.view_is
 
 pub returns-clause-good : goal.returns-clause-good
+unfolding entries_of
 returns-clause-good c =
     let s = c.self.inside in
     let v : RowsView = record { words = s.words; rows = s.rows.items; slots = s.slots.items; ready = s.ready } in
