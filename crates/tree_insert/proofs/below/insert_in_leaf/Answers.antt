@@ -1,0 +1,180 @@
+use Rattle.std.proofs.Common.{◌≡◌, ◌<◌, ◌≤◌, ℕ, List, length, sym, ap, subst, ◌∙◌, arith}
+use Rattle.std.specs.List.{zip, AllByRecursion}
+use Rattle.attr_images.specs.Nodes.{node_keys, node_values}
+use Rattle.attr_images.proofs.TreeLemmas.{IsNode-form}
+use Rattle.key_order.specs.Keys.{seen_by}
+use Rattle.key_order.specs.Pairs.{put}
+use Rattle.tree_node.specs.Slots.{slot_pairs, IsInHand}
+use Rattle.tree_node.proofs.SlotLemmas.{hand-leaf}
+use Rattle.tree_insert.specs.Parts.{MakesParts}
+use Rattle.tree_insert.proofs.OkLemmas.{ok_then}
+use Rattle.tree_insert.proofs.BelowLemmas.{even-node, used-read, keys-node, leaf-few, leaf-inserts}
+use Rattle.tree_insert.proofs.below.insert_in_leaf.Goals as goal
+
+pub read_node-slots-requires-clause-size : goal.read_node-slots-requires-clause-size
+read_node-slots-requires-clause-size g c =
+    let m = g.S.Frozen.records c.args.store.now in
+    (IsNode-form m 1 0 c.args.node c.requires.node).size
+
+pub read_node-slots-requires-clause-room : goal.read_node-slots-requires-clause-room
+read_node-slots-requires-clause-room g c =
+    let m = g.S.Frozen.records c.args.store.now in
+    (IsNode-form m 1 0 c.args.node c.requires.node).room
+
+pub put_in_leaf-requires-clause-readable : goal.put_in_leaf-requires-clause-readable
+put_in_leaf-requires-clause-readable g c =
+    let s = c.args.store.now in
+    let m = g.S.Frozen.records s in
+    let node = c.args.node in
+    let form = IsNode-form m 1 0 node c.requires.node in
+    let read = c.read_node-slots.ensures in
+    let slots = c.read_node-slots.result in
+    subst (λ f. AllByRecursion (g.K.KeyOrder.can_read (g.S.Frozen.records f)) slots.keys.items) (sym read.same)
+    (subst (AllByRecursion (g.K.KeyOrder.can_read m)) (sym read.keys) (keys-node (g.K.KeyOrder.can_read m) m 1 0 node c.requires.node c.requires.readable))
+
+pub put_in_leaf-requires-clause-even : goal.put_in_leaf-requires-clause-even
+put_in_leaf-requires-clause-even g c =
+    let s = c.args.store.now in
+    let m = g.S.Frozen.records s in
+    let node = c.args.node in
+    let form = IsNode-form m 1 0 node c.requires.node in
+    let read = c.read_node-slots.ensures in
+    let slots = c.read_node-slots.result in
+    ap length read.keys ∙ even-node m 1 0 node c.requires.node ∙ sym (ap length read.values)
+
+pub put_in_leaf-requires-clause-room : goal.put_in_leaf-requires-clause-room
+put_in_leaf-requires-clause-room g c =
+    let s = c.args.store.now in
+    let m = g.S.Frozen.records s in
+    let node = c.args.node in
+    let form = IsNode-form m 1 0 node c.requires.node in
+    let read = c.read_node-slots.ensures in
+    let slots = c.read_node-slots.result in
+    let used = used-read m 1 0 node c.requires.node in
+    let size : length slots.keys.items ≡ length (node_keys (m node)) = ap length read.keys in
+    let room = form.room in
+    omega arith
+
+pub make_parts-requires-clause-low : goal.make_parts-requires-clause-low
+make_parts-requires-clause-low g c =
+    let s = c.args.store.now in
+    let m = g.S.Frozen.records s in
+    let node = c.args.node in
+    let form = IsNode-form m 1 0 node c.requires.node in
+    let read = c.read_node-slots.ensures in
+    let slots = c.read_node-slots.result in
+    let seen = seen_by g.K.KeyOrder.read g.K.KeyOrder.order (g.K.KeyOrder.sought c.args.key.now) m in
+    let pair : ℕ × ℕ = (c.args.word, c.args.value) in
+    let same : c.put_in_leaf.new.frozen ≡ s = c.put_in_leaf.ensures.same ∙ read.same in
+    let left = c.put_in_leaf.new.slots in
+    let level : left.level ≡ 0 = c.put_in_leaf.ensures.level ∙ read.level ∙ form.at_level in
+    let pairs : zip left.keys.items left.values.items ≡ put seen pair (zip (node_keys (m node)) (node_values (m node))) =
+    c.put_in_leaf.ensures.pairs
+    ∙ ap (λ f. put (seen_by g.K.KeyOrder.read g.K.KeyOrder.order (g.K.KeyOrder.sought c.args.key.now) (g.S.Frozen.records f)) pair (zip slots.keys.items slots.values.items)) read.same
+    ∙ ap (λ (ks : List ℕ). put seen pair (zip ks slots.values.items)) read.keys
+    ∙ ap (λ (vs : List ℕ). put seen pair (zip (node_keys (m node)) vs)) read.values in
+    let most : length (node_keys (m node)) ≤ length left.keys.items = subst (λ (ks : List ℕ). length ks ≤ length left.keys.items) read.keys c.put_in_leaf.ensures.least in
+    let ledger = g.S.Store.ledger s in
+    omega arith
+
+pub make_parts-requires-clause-hand : goal.make_parts-requires-clause-hand
+make_parts-requires-clause-hand g c =
+    let s = c.args.store.now in
+    let m = g.S.Frozen.records s in
+    let node = c.args.node in
+    let form = IsNode-form m 1 0 node c.requires.node in
+    let read = c.read_node-slots.ensures in
+    let slots = c.read_node-slots.result in
+    let seen = seen_by g.K.KeyOrder.read g.K.KeyOrder.order (g.K.KeyOrder.sought c.args.key.now) m in
+    let pair : ℕ × ℕ = (c.args.word, c.args.value) in
+    let same : c.put_in_leaf.new.frozen ≡ s = c.put_in_leaf.ensures.same ∙ read.same in
+    let left = c.put_in_leaf.new.slots in
+    let level : left.level ≡ 0 = c.put_in_leaf.ensures.level ∙ read.level ∙ form.at_level in
+    let pairs : zip left.keys.items left.values.items ≡ put seen pair (zip (node_keys (m node)) (node_values (m node))) =
+    c.put_in_leaf.ensures.pairs
+    ∙ ap (λ f. put (seen_by g.K.KeyOrder.read g.K.KeyOrder.order (g.K.KeyOrder.sought c.args.key.now) (g.S.Frozen.records f)) pair (zip slots.keys.items slots.values.items)) read.same
+    ∙ ap (λ (ks : List ℕ). put seen pair (zip ks slots.values.items)) read.keys
+    ∙ ap (λ (vs : List ℕ). put seen pair (zip (node_keys (m node)) vs)) read.values in
+    let most : length (node_keys (m node)) ≤ length left.keys.items = subst (λ (ks : List ℕ). length ks ≤ length left.keys.items) read.keys c.put_in_leaf.ensures.least in
+    let ledger = g.S.Store.ledger s in
+    subst (λ f. IsInHand (g.S.Frozen.records f) left.level left.keys.items left.values.items) (sym same)
+    (subst (λ l. IsInHand m l left.keys.items left.values.items) (sym level) (hand-leaf m left.keys.items left.values.items c.put_in_leaf.ensures.even))
+
+pub make_parts-requires-clause-fits : goal.make_parts-requires-clause-fits
+make_parts-requires-clause-fits g c =
+    let s = c.args.store.now in
+    let m = g.S.Frozen.records s in
+    let node = c.args.node in
+    let form = IsNode-form m 1 0 node c.requires.node in
+    let read = c.read_node-slots.ensures in
+    let slots = c.read_node-slots.result in
+    let seen = seen_by g.K.KeyOrder.read g.K.KeyOrder.order (g.K.KeyOrder.sought c.args.key.now) m in
+    let pair : ℕ × ℕ = (c.args.word, c.args.value) in
+    let same : c.put_in_leaf.new.frozen ≡ s = c.put_in_leaf.ensures.same ∙ read.same in
+    let left = c.put_in_leaf.new.slots in
+    let level : left.level ≡ 0 = c.put_in_leaf.ensures.level ∙ read.level ∙ form.at_level in
+    let pairs : zip left.keys.items left.values.items ≡ put seen pair (zip (node_keys (m node)) (node_values (m node))) =
+    c.put_in_leaf.ensures.pairs
+    ∙ ap (λ f. put (seen_by g.K.KeyOrder.read g.K.KeyOrder.order (g.K.KeyOrder.sought c.args.key.now) (g.S.Frozen.records f)) pair (zip slots.keys.items slots.values.items)) read.same
+    ∙ ap (λ (ks : List ℕ). put seen pair (zip ks slots.values.items)) read.keys
+    ∙ ap (λ (vs : List ℕ). put seen pair (zip (node_keys (m node)) vs)) read.values in
+    let most : length (node_keys (m node)) ≤ length left.keys.items = subst (λ (ks : List ℕ). length ks ≤ length left.keys.items) read.keys c.put_in_leaf.ensures.least in
+    let ledger = g.S.Store.ledger s in
+    let used = used-read m 1 0 node c.requires.node in
+    let size : length slots.keys.items ≡ length (node_keys (m node)) = ap length read.keys in
+    let room = form.room in
+    let more = c.put_in_leaf.ensures.most in
+    omega arith
+
+pub make_parts-requires-clause-few : goal.make_parts-requires-clause-few
+make_parts-requires-clause-few g c =
+    let s = c.args.store.now in
+    let m = g.S.Frozen.records s in
+    let node = c.args.node in
+    let form = IsNode-form m 1 0 node c.requires.node in
+    let read = c.read_node-slots.ensures in
+    let slots = c.read_node-slots.result in
+    let seen = seen_by g.K.KeyOrder.read g.K.KeyOrder.order (g.K.KeyOrder.sought c.args.key.now) m in
+    let pair : ℕ × ℕ = (c.args.word, c.args.value) in
+    let same : c.put_in_leaf.new.frozen ≡ s = c.put_in_leaf.ensures.same ∙ read.same in
+    let left = c.put_in_leaf.new.slots in
+    let level : left.level ≡ 0 = c.put_in_leaf.ensures.level ∙ read.level ∙ form.at_level in
+    let pairs : zip left.keys.items left.values.items ≡ put seen pair (zip (node_keys (m node)) (node_values (m node))) =
+    c.put_in_leaf.ensures.pairs
+    ∙ ap (λ f. put (seen_by g.K.KeyOrder.read g.K.KeyOrder.order (g.K.KeyOrder.sought c.args.key.now) (g.S.Frozen.records f)) pair (zip slots.keys.items slots.values.items)) read.same
+    ∙ ap (λ (ks : List ℕ). put seen pair (zip ks slots.values.items)) read.keys
+    ∙ ap (λ (vs : List ℕ). put seen pair (zip (node_keys (m node)) vs)) read.values in
+    let most : length (node_keys (m node)) ≤ length left.keys.items = subst (λ (ks : List ℕ). length ks ≤ length left.keys.items) read.keys c.put_in_leaf.ensures.least in
+    let ledger = g.S.Store.ledger s in
+    subst (λ f. length (slot_pairs (g.S.Frozen.records f) left.level left.keys.items left.values.items) < 4294967296) (sym same)
+    (subst (λ l. length (slot_pairs m l left.keys.items left.values.items) < 4294967296) (sym level)
+    (leaf-few seen pair ledger ledger m m 1 node c.requires.node left.keys.items left.values.items pairs most c.requires.few))
+
+pub returns-clause-inserts : goal.returns-clause-inserts
+returns-clause-inserts g c =
+    let s = c.args.store.now in
+    let m = g.S.Frozen.records s in
+    let node = c.args.node in
+    let form = IsNode-form m 1 0 node c.requires.node in
+    let read = c.read_node-slots.ensures in
+    let slots = c.read_node-slots.result in
+    let seen = seen_by g.K.KeyOrder.read g.K.KeyOrder.order (g.K.KeyOrder.sought c.args.key.now) m in
+    let pair : ℕ × ℕ = (c.args.word, c.args.value) in
+    let same : c.put_in_leaf.new.frozen ≡ s = c.put_in_leaf.ensures.same ∙ read.same in
+    let left = c.put_in_leaf.new.slots in
+    let level : left.level ≡ 0 = c.put_in_leaf.ensures.level ∙ read.level ∙ form.at_level in
+    let pairs : zip left.keys.items left.values.items ≡ put seen pair (zip (node_keys (m node)) (node_values (m node))) =
+    c.put_in_leaf.ensures.pairs
+    ∙ ap (λ f. put (seen_by g.K.KeyOrder.read g.K.KeyOrder.order (g.K.KeyOrder.sought c.args.key.now) (g.S.Frozen.records f)) pair (zip slots.keys.items slots.values.items)) read.same
+    ∙ ap (λ (ks : List ℕ). put seen pair (zip ks slots.values.items)) read.keys
+    ∙ ap (λ (vs : List ℕ). put seen pair (zip (node_keys (m node)) vs)) read.values in
+    let most : length (node_keys (m node)) ≤ length left.keys.items = subst (λ (ks : List ℕ). length ks ≤ length left.keys.items) read.keys c.put_in_leaf.ensures.least in
+    let ledger = g.S.Store.ledger s in
+    let t = c.make_parts.new.store in
+    λ before after is.
+    ok_then c.make_parts.result c.make_parts.ensures.parts (λ made y.
+    let y1 : MakesParts ledger (g.S.Store.ledger t) m (g.S.Frozen.records t) left.level left.keys.items left.values.items made =
+    subst (λ f. MakesParts (g.S.Store.ledger f) (g.S.Store.ledger t) (g.S.Frozen.records f) (g.S.Frozen.records t) left.level left.keys.items left.values.items made) same y in
+    let y2 : MakesParts ledger (g.S.Store.ledger t) m (g.S.Frozen.records t) 0 left.keys.items left.values.items made =
+    subst (λ l. MakesParts ledger (g.S.Store.ledger t) m (g.S.Frozen.records t) l left.keys.items left.values.items made) level y1 in
+    leaf-inserts seen pair ledger (g.S.Store.ledger t) m (g.S.Frozen.records t) 1 node c.requires.node left.keys.items left.values.items pairs most before after made is y2)

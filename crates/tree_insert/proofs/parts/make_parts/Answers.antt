@@ -1,0 +1,67 @@
+use Rattle.std.proofs.Common.{◌≡◌, length, arith}
+use Rattle.tree_insert.proofs.PartsLemmas.{IsSplit, first-hand, first-few, second-hand, second-few, two_made}
+use Rattle.tree_insert.proofs.parts.make_parts.Goals as goal
+
+pub make_part-requires-2-clause-hand : goal.make_part-requires-2-clause-hand
+make_part-requires-2-clause-hand g c =
+    let m = g.S.Frozen.records c.args.store.now in
+    let slots = c.args.slots.now in
+    let left = c.split-rest.new.slots in
+    let rest = c.split-rest.result in
+    let e = c.split-rest.ensures in
+    let split : IsSplit slots.level slots.keys.items slots.values.items left.level left.keys.items left.values.items rest.level rest.keys.items rest.values.items =
+    record { first_level = e.level_left; first_keys = e.keys_left; first_values = e.values_left; second_level = e.level; second_keys = e.keys; second_values = e.values } in
+    first-hand m slots.level slots.keys.items slots.values.items left.level left.keys.items left.values.items rest.level rest.keys.items rest.values.items split c.requires.hand
+
+pub make_part-requires-2-clause-few : goal.make_part-requires-2-clause-few
+make_part-requires-2-clause-few g c =
+    let m = g.S.Frozen.records c.args.store.now in
+    let slots = c.args.slots.now in
+    let left = c.split-rest.new.slots in
+    let rest = c.split-rest.result in
+    let e = c.split-rest.ensures in
+    let split : IsSplit slots.level slots.keys.items slots.values.items left.level left.keys.items left.values.items rest.level rest.keys.items rest.values.items =
+    record { first_level = e.level_left; first_keys = e.keys_left; first_values = e.values_left; second_level = e.level; second_keys = e.keys; second_values = e.values } in
+    first-few m slots.level slots.keys.items slots.values.items left.level left.keys.items left.values.items rest.level rest.keys.items rest.values.items split c.requires.hand c.requires.few
+
+pub make_part-requires-3-clause-hand : goal.make_part-requires-3-clause-hand
+make_part-requires-3-clause-hand g c =
+    let m = g.S.Frozen.records c.args.store.now in
+    let slots = c.args.slots.now in
+    let left = c.split-rest.new.slots in
+    let rest = c.split-rest.result in
+    let e = c.split-rest.ensures in
+    let split : IsSplit slots.level slots.keys.items slots.values.items left.level left.keys.items left.values.items rest.level rest.keys.items rest.values.items =
+    record { first_level = e.level_left; first_keys = e.keys_left; first_values = e.values_left; second_level = e.level; second_keys = e.keys; second_values = e.values } in
+    second-hand m slots.level slots.keys.items slots.values.items left.level left.keys.items left.values.items rest.level rest.keys.items rest.values.items split c.requires.hand
+    (g.S.Frozen.records c.make_part-2.new.store) c.in_ok-first.ensures.makes.node.makes.keeps
+
+pub make_part-requires-3-clause-few : goal.make_part-requires-3-clause-few
+make_part-requires-3-clause-few g c =
+    let m = g.S.Frozen.records c.args.store.now in
+    let slots = c.args.slots.now in
+    let left = c.split-rest.new.slots in
+    let rest = c.split-rest.result in
+    let e = c.split-rest.ensures in
+    let split : IsSplit slots.level slots.keys.items slots.values.items left.level left.keys.items left.values.items rest.level rest.keys.items rest.values.items =
+    record { first_level = e.level_left; first_keys = e.keys_left; first_values = e.values_left; second_level = e.level; second_keys = e.keys; second_values = e.values } in
+    second-few m slots.level slots.keys.items slots.values.items left.level left.keys.items left.values.items rest.level rest.keys.items rest.values.items split c.requires.hand
+    (g.S.Frozen.records c.make_part-2.new.store) c.in_ok-first.ensures.makes.node.makes.keeps c.requires.few
+
+pub returns-clause-parts : goal.returns-clause-parts
+returns-clause-parts g c =
+    let m = g.S.Frozen.records c.args.store.now in
+    let slots = c.args.slots.now in
+    let left = c.split-rest.new.slots in
+    let rest = c.split-rest.result in
+    let e = c.split-rest.ensures in
+    let split : IsSplit slots.level slots.keys.items slots.values.items left.level left.keys.items left.values.items rest.level rest.keys.items rest.values.items =
+    record { first_level = e.level_left; first_keys = e.keys_left; first_values = e.values_left; second_level = e.level; second_keys = e.keys; second_values = e.values } in
+    let fits = c.requires.fits in
+    let more = c.if-len-le16.false in
+    let size : c.len.result ≡ length slots.keys.items = c.len.ensures.value in
+    let full : length slots.keys.items ≡ 17 = omega arith in
+    two_made m slots.level slots.keys.items slots.values.items left.level left.keys.items left.values.items rest.level rest.keys.items rest.values.items split c.requires.hand
+    (g.S.Store.ledger c.args.store.now) (g.S.Store.ledger c.make_part-2.new.store) (g.S.Store.ledger c.make_part-3.new.store)
+    (g.S.Frozen.records c.make_part-2.new.store) (g.S.Frozen.records c.make_part-3.new.store) c.in_ok-first.first c.in_ok-second.second full
+    c.in_ok-first.ensures.makes c.in_ok-second.ensures.makes

@@ -1,0 +1,70 @@
+ghost use Rattle.std.specs.Prelude.{◌≡◌, ◌≤◌, ◌<◌, ◌+◌, ◌*◌, ◌++◌, ◌∷◌, [], ℕ, List, true, length, suc, IfOk};
+ghost use Rattle.attr_images.specs.Trees.{pairs_below, IsNode};
+ghost use Rattle.key_order.specs.Keys.{seen_by, Ascends, AllReadable};
+ghost use Rattle.tree_node.specs.Makes.{MakesNodes};
+ghost use Rattle.tree_insert.specs.Inserts.{Inserts};
+
+use crate::leaf::put_in_leaf;
+use crate::parts::{Parts, make_parts, set_parts};
+use arrayvec::ArrayVec;
+use entry_ref::EntryRef;
+use key_order::KeyOrder;
+use store_api::{Store, StoreError};
+use tree_node::{place_of, read_node};
+
+/// Makes a leaf anew with a pair put in.
+fn insert_in_leaf<S: Store, K: KeyOrder>(
+    store: &mut S,
+    node: EntryRef,
+    key: &K,
+    word: u64,
+    value: u64,
+) -> Result<Parts, StoreError>
+    requires unit { (S.ledger store.old).unit ≡ true }
+    requires node { IsNode (S.records store.old) 1 0 node }
+    requires readable { AllReadable K.can_read (S.records store.old) (pairs_below (S.records store.old) 0 node) }
+    requires few { length (pairs_below (S.records store.old) 0 node) < 4294967295 }
+    ensures inserts { (before after : List ℕ) → after ≡ before ++ node ∷ [] → IfOk result
+        (Inserts (seen_by K.read K.order (K.sought key.now) (S.records store.old)) (word, value)
+        (S.ledger store.old) (S.ledger store.new) (S.records store.old) (S.records store.new) 0 node before after) }
+    ensures makes { MakesNodes (S.ledger store.old) (S.ledger store.new) (S.records store.old) (S.records store.new) 2 }
+{
+    let mut slots = read_node(store, node);
+    put_in_leaf(store, &mut slots, key, word, value);
+    make_parts(store, &mut slots)
+}
+
+/// Puts a pair below a node of this level, by new nodes on the path of its key. The nodes of the path are
+/// added to those that are replaced.
+pub fn insert_below<S: Store, K: KeyOrder>(
+    store: &mut S,
+    node: EntryRef,
+    level: u64,
+    key: &K,
+    word: u64,
+    value: u64,
+    replaced: &mut ArrayVec<u32, 8>,
+) -> Result<Parts, StoreError>
+    requires unit { (S.ledger store.old).unit ≡ true }
+    requires low { level ≤ 7 }
+    requires node { IsNode (S.records store.old) 1 level node }
+    requires ascends { Ascends K.order K.read (S.records store.old) (pairs_below (S.records store.old) level node) }
+    requires readable { AllReadable K.can_read (S.records store.old) (pairs_below (S.records store.old) level node) }
+    requires few { length (pairs_below (S.records store.old) level node) < 4294967295 }
+    requires room { length replaced.old.items + level < 8 }
+    ensures inserts { IfOk result (Inserts (seen_by K.read K.order (K.sought key.now) (S.records store.old)) (word, value)
+        (S.ledger store.old) (S.ledger store.new) (S.records store.old) (S.records store.new)
+        level node replaced.old.items replaced.new.items) }
+    ensures makes { MakesNodes (S.ledger store.old) (S.ledger store.new) (S.records store.old) (S.records store.new) (2 * suc level) }
+{
+    replaced.push(node.raw());
+    if level == 0 {
+        return insert_in_leaf(store, node, key, word, value);
+    }
+    let mut slots = read_node(store, node);
+    let place = place_of(store, &slots.keys, key);
+    let child = EntryRef::from_raw(slots.values[place] as u32);
+    let parts = insert_below(store, child, level - 1, key, word, value, replaced)?;
+    set_parts(&mut slots, place, &parts);
+    make_parts(store, &mut slots)
+}
