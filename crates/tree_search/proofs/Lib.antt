@@ -3,3 +3,4 @@ pub mod PlaceLemmas
 pub mod SeekLemmas
 pub mod FindLemmas
 pub mod FrameLemmas
+pub mod ExampleLemmas

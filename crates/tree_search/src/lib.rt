@@ -10,3 +10,6 @@ mod search;
 pub use cursor::Cursor;
 pub use laws::place_law;
 pub use search::{find, total};
+
+#[cfg(test)]
+mod tests;
