@@ -1,6 +1,7 @@
-ghost use Rattle.std.specs.Prelude.{◌≡◌, ◌≤◌, ◌<◌, ◌+◌, ◌*◌, ◌++◌, ◌∷◌, [], ℕ, List, true, length, suc, IfOk};
+ghost use Rattle.std.specs.Prelude.{◌≡◌, ◌≤◌, ◌<◌, ◌+◌, ◌*◌, ◌++◌, ◌∷◌, [], ℕ, List, true, length, suc, Err, IfOk};
 ghost use Rattle.attr_images.specs.Trees.{pairs_below, IsNode};
 ghost use Rattle.key_order.specs.Keys.{seen_by, Ascends, AllReadable};
+ghost use Rattle.store_api.specs.Ledgers.{IsFull};
 ghost use Rattle.tree_node.specs.Makes.{MakesNodes};
 ghost use Rattle.tree_insert.specs.Inserts.{Inserts};
 
@@ -28,6 +29,7 @@ fn insert_in_leaf<S: Store, K: KeyOrder>(
         (Inserts (seen_by K.read K.order (K.sought key.now) (S.records store.old)) (word, value)
         (S.ledger store.old) (S.ledger store.new) (S.records store.old) (S.records store.new) 0 node before after) }
     ensures makes { MakesNodes (S.ledger store.old) (S.ledger store.new) (S.records store.old) (S.records store.new) 2 }
+    ensures full { (w a h : ℕ) → result ≡ Err (StoreError.Full w a h) → (w ≡ 34) × IsFull (S.ledger store.new) w a h }
 {
     let mut slots = read_node(store, node);
     put_in_leaf(store, &mut slots, key, word, value);
@@ -56,6 +58,7 @@ pub fn insert_below<S: Store, K: KeyOrder>(
         (S.ledger store.old) (S.ledger store.new) (S.records store.old) (S.records store.new)
         level node replaced.old.items replaced.new.items) }
     ensures makes { MakesNodes (S.ledger store.old) (S.ledger store.new) (S.records store.old) (S.records store.new) (2 * suc level) }
+    ensures full { (w a h : ℕ) → result ≡ Err (StoreError.Full w a h) → (w ≡ 34) × IsFull (S.ledger store.new) w a h }
 {
     replaced.push(node.raw());
     if level == 0 {

@@ -1,4 +1,5 @@
-ghost use Rattle.std.specs.Prelude.{◌≡◌, ◌≤◌, ◌<◌, ◌∷◌, ◌++◌, true, length, take, drop, suc, IfOk};
+ghost use Rattle.std.specs.Prelude.{◌≡◌, ◌≤◌, ◌<◌, ◌∷◌, ◌++◌, ℕ, true, length, take, drop, suc, Err, IfOk};
+ghost use Rattle.store_api.specs.Ledgers.{IsFull};
 ghost use Rattle.tree_node.specs.Slots.{slot_pairs, IsInHand};
 ghost use Rattle.tree_node.specs.Makes.{MakesNodes};
 ghost use Rattle.tree_insert.specs.Parts.{MakesParts, part_keys, part_nodes};
@@ -58,6 +59,7 @@ pub fn make_parts<S: Store>(store: &mut S, slots: &mut Slots) -> Result<Parts, S
     ensures parts { IfOk result (MakesParts (S.ledger store.old) (S.ledger store.new) (S.records store.old) (S.records store.new)
         slots.old.level slots.old.keys.items slots.old.values.items) }
     ensures makes { MakesNodes (S.ledger store.old) (S.ledger store.new) (S.records store.old) (S.records store.new) 2 }
+    ensures full { (w a h : ℕ) → result ≡ Err (StoreError.Full w a h) → (w ≡ 34) × IsFull (S.ledger store.new) w a h }
 {
     if slots.keys.len() <= 16 {
         return Ok(Parts::One(make_part(store, slots)?));

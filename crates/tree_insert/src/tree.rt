@@ -1,10 +1,11 @@
-ghost use Rattle.std.specs.Prelude.{◌≡◌, ◌≢◌, ◌≤◌, ◌<◌, ◌+◌, ◌*◌, ◌∷◌, [], ℕ, true, length, suc, IfOk, OnErr};
+ghost use Rattle.std.specs.Prelude.{◌≡◌, ◌≢◌, ◌≤◌, ◌<◌, ◌+◌, ◌*◌, ◌∷◌, [], ℕ, true, length, suc, Err, IfOk, OnErr};
 ghost use Rattle.std.specs.List.{AllByRecursion, flat_map};
 ghost use Rattle.std.specs.declared.cmp.Ordering.TheVariants.{Equal};
 ghost use Rattle.attr_images.specs.Trees.{pairs_below, tree_pairs, tree_nodes, IsTree, root_least};
 ghost use Rattle.key_order.specs.Keys.{seen_by, AllReadable, ReadsNoNode, NoneReadsNodes};
 ghost use Rattle.key_order.specs.Pairs.{put};
 ghost use Rattle.store_api.specs.Classes.{in_use};
+ghost use Rattle.store_api.specs.Ledgers.{IsFull};
 ghost use Rattle.tree_frame.specs.Changes.{Replaces, levels};
 ghost use Rattle.tree_node.specs.Makes.{MakesNodes, MakesNode};
 ghost use Rattle.tree_insert.specs.Parts.{AreParts, MakesRoot, part_nodes};
@@ -24,6 +25,7 @@ fn make_leaf<S: Store>(store: &mut S, word: u64, value: u64) -> Result<EntryRef,
     ensures leaf { IfOk result (MakesNode (S.ledger store.old) (S.ledger store.new) (S.records store.old) (S.records store.new)
         0 (word ∷ []) (value ∷ [])) }
     ensures makes { MakesNodes (S.ledger store.old) (S.ledger store.new) (S.records store.old) (S.records store.new) 1 }
+    ensures full { (w a h : ℕ) → result ≡ Err (StoreError.Full w a h) → (w ≡ 34) × IsFull (S.ledger store.new) w a h }
 {
     let mut slots = Slots {
         level: 0,
@@ -45,6 +47,7 @@ fn make_root<S: Store>(store: &mut S, level: u64, parts: &Parts) -> Result<Entry
     requires two { level ≡ 7 → length (part_nodes parts.now) ≡ 1 }
     ensures root { IfOk result (MakesRoot (S.ledger store.old) (S.ledger store.new) (S.records store.old) (S.records store.new) level parts.now) }
     ensures makes { MakesNodes (S.ledger store.old) (S.ledger store.new) (S.records store.old) (S.records store.new) 1 }
+    ensures full { (w a h : ℕ) → result ≡ Err (StoreError.Full w a h) → (w ≡ 34) × IsFull (S.ledger store.new) w a h }
 {
     match *parts {
         Parts::One(part) => Ok(part.node),
@@ -87,6 +90,7 @@ pub fn insert<S: Store, K: KeyOrder>(
     ensures replaces { IfOk result (Replaces (S.ledger store.old) (S.ledger store.new) (S.records store.old) (S.records store.new) root) }
     ensures made { (S.ledger store.new).made 34 ≤ (S.ledger store.old).made 34 + (2 * levels (S.records store.old) root + 1) }
     ensures others { (width : ℕ) → width ≢ 34 → (S.ledger store.new).made width ≡ (S.ledger store.old).made width }
+    ensures full { (w a h : ℕ) → result ≡ Err (StoreError.Full w a h) → (w ≡ 34) × IsFull (S.ledger store.new) w a h }
     ensures left { OnErr result (MakesNodes (S.ledger store.old) (S.ledger store.new) (S.records store.old) (S.records store.new)
         (2 * levels (S.records store.old) root + 1)) }
 {

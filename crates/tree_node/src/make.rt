@@ -1,6 +1,6 @@
-ghost use Rattle.std.specs.Prelude.{◌≡◌, ◌<◌, ◌≤◌, ◌+◌, ◌∷◌, ◌++◌, [], true, length, IfOk, OnErr, take};
+ghost use Rattle.std.specs.Prelude.{◌≡◌, ◌<◌, ◌≤◌, ◌+◌, ◌∷◌, ◌++◌, [], true, ℕ, length, IfOk, OnErr, Err, take};
 ghost use Rattle.attr_images.specs.Nodes.{padded, node_words};
-ghost use Rattle.store_api.specs.Ledgers.{Makes, MayDo};
+ghost use Rattle.store_api.specs.Ledgers.{IsFull};
 ghost use Rattle.tree_node.specs.Slots.{slot_pairs, IsInHand};
 ghost use Rattle.tree_node.specs.Makes.{MakesPart};
 
@@ -71,6 +71,7 @@ pub fn make_part<S: Store>(store: &mut S, slots: &Slots) -> Result<Part, StoreEr
     requires few { length (slot_pairs (S.records store.old) slots.now.level slots.now.keys.items slots.now.values.items) < 4294967296 }
     ensures makes { IfOk result (MakesPart (S.ledger store.old) (S.ledger store.new) (S.records store.old) (S.records store.new)
         slots.now.level slots.now.keys.items slots.now.values.items) }
+    ensures full { (w a h : ℕ) → result ≡ Err (StoreError.Full w a h) → (w ≡ 34) × IsFull (S.ledger store.new) w a h }
     ensures ledger { OnErr result (S.ledger store.new ≡ S.ledger store.old) }
     ensures left { OnErr result (S.records store.new ≡ S.records store.old) }
 {

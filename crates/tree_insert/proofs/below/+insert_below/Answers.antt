@@ -1,4 +1,4 @@
-use Rattle.std.proofs.Common.{◌≡◌, ◌<◌, ◌≤◌, ◌-◌, ◌++◌, ℕ, suc, List, [], ◌∷◌, length, get_or, take, drop, ◌*◌, true, sym, ap, subst, ◌∙◌, arith}
+use Rattle.std.proofs.Common.{Err, ◌≡◌, ◌<◌, ◌≤◌, ◌-◌, ◌++◌, ℕ, suc, List, [], ◌∷◌, length, get_or, take, drop, ◌*◌, true, sym, ap, subst, ◌∙◌, arith}
 use Rattle.std.specs.List.{AllByRecursion}
 use Rattle.attr_images.specs.Nodes.{node_keys, node_values}
 use Rattle.attr_images.specs.Trees.{pairs_below, IsNode}
@@ -9,7 +9,7 @@ use Rattle.tree_node.specs.Makes.{MakesNodes}
 use Rattle.tree_node.specs.Slots.{slot_pairs, IsInHand}
 use Rattle.tree_insert.specs.Inserts.{Inserts}
 use Rattle.tree_insert.specs.Parts.{MakesParts, part_keys, part_nodes}
-use Rattle.tree_insert.proofs.OkLemmas.{ok_then}
+use Rattle.tree_insert.proofs.OkLemmas.{ok_then, err_same}
 use Rattle.tree_insert.proofs.PartsLemmas.{node-lower}
 use Rattle.tree_insert.proofs.BelowLemmas.{even-node, used-read, keys-node, child-node, child-all, child-ascends, child-few, over-hand, over-few, over-most, over-inserts}
 use Rattle.tree_insert.proofs.below.+insert_below.Goals as goal
@@ -501,3 +501,6 @@ returns-clause-inserts g t c =
     subst (λ k. MakesParts mid (g.S.Store.ledger u) n (g.S.Frozen.records u) k left.keys.items left.values.items made) level y in
     subst (λ k. Inserts seen pair old (g.S.Store.ledger u) m (g.S.Frozen.records u) k node before after made) (sym up)
     (over-inserts key.order total key.read sought m n 1 l node i pair is place ascends makes.keeps ps x.parts_are left.keys.items left.values.items k2 v2 old mid (g.S.Store.ledger u) (g.S.Frozen.records u) before after made x y1))
+
+pub returns-in_err-parts-clause-full : goal.returns-in_err-parts-clause-full
+returns-in_err-parts-clause-full g t c = λ w a h e. c.in_err-parts.ensures.full w a h (ap Err (err_same c.from_residual.result c.in_err-parts.field-0.0 _ c.from_residual.ensures.1 e))

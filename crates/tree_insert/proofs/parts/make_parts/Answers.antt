@@ -1,5 +1,6 @@
-use Rattle.std.proofs.Common.{◌≡◌, length, arith}
+use Rattle.std.proofs.Common.{ap, Err, ◌≡◌, length, arith}
 use Rattle.tree_insert.proofs.PartsLemmas.{IsSplit, first-hand, first-few, second-hand, second-few, two_made}
+use Rattle.tree_insert.proofs.OkLemmas.{err_same}
 use Rattle.tree_insert.proofs.parts.make_parts.Goals as goal
 
 pub make_part-requires-2-clause-hand : goal.make_part-requires-2-clause-hand
@@ -65,3 +66,12 @@ returns-clause-parts g c =
     (g.S.Store.ledger c.args.store.now) (g.S.Store.ledger c.make_part-2.new.store) (g.S.Store.ledger c.make_part-3.new.store)
     (g.S.Frozen.records c.make_part-2.new.store) (g.S.Frozen.records c.make_part-3.new.store) c.in_ok-first.first c.in_ok-second.second full
     c.in_ok-first.ensures.makes c.in_ok-second.ensures.makes
+
+pub returns-in_err-make_part-clause-full : goal.returns-in_err-make_part-clause-full
+returns-in_err-make_part-clause-full g c = λ w a h e. c.in_err-make_part.ensures.full w a h (ap Err (err_same c.from_residual.result c.in_err-make_part.field-0.0 _ c.from_residual.ensures.1 e))
+
+pub returns-in_err-first-clause-full : goal.returns-in_err-first-clause-full
+returns-in_err-first-clause-full g c = λ w a h e. c.in_err-first.ensures.full w a h (ap Err (err_same c.from_residual-in_err-first.result c.in_err-first.field-0.0 _ c.from_residual-in_err-first.ensures.1 e))
+
+pub returns-in_err-second-clause-full : goal.returns-in_err-second-clause-full
+returns-in_err-second-clause-full g c = λ w a h e. c.in_err-second.ensures.full w a h (ap Err (err_same c.from_residual-in_err-second.result c.in_err-second.field-0.0 _ c.from_residual-in_err-second.ensures.1 e))

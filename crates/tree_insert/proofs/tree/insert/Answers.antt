@@ -1,4 +1,4 @@
-use Rattle.std.proofs.Common.{◌≡◌, ◌<◌, ◌+◌, ◌*◌, ◌/◌, ℕ, suc, [], length, true, sym, ap, subst, arith}
+use Rattle.std.proofs.Common.{Err, ◌≡◌, ◌<◌, ◌+◌, ◌*◌, ◌/◌, ℕ, suc, [], length, true, sym, ap, subst, arith}
 use Rattle.std.specs.List.{AllByRecursion}
 use Rattle.attr_images.specs.Trees.{pairs_below, IsNode, root_level}
 use Rattle.key_order.specs.Keys.{seen_by, Ascends, AllReadable}
@@ -8,7 +8,7 @@ use Rattle.tree_frame.specs.Times.{EachOnce}
 use Rattle.tree_node.specs.Makes.{MakesNodes}
 use Rattle.tree_node.proofs.MakesLemmas.{makes-then, makes-more}
 use Rattle.tree_insert.specs.Inserts.{Inserts}
-use Rattle.tree_insert.proofs.OkLemmas.{ok_then, on_err, not_valid, is_valid}
+use Rattle.tree_insert.proofs.OkLemmas.{ok_then, on_err, not_valid, is_valid, err_same}
 use Rattle.tree_insert.proofs.TreeLemmas.{root-size, root-level, root-low, root-one, root-pairs, root-levels, root-few, top-few, top-parts, top-one, gone-once, gone-used, end-replaces, end-pairs, end-readable, end-tree, one-pairs, one-tree, one-readable, one-replaces}
 use Rattle.tree_insert.proofs.tree.insert.Goals as goal
 
@@ -544,3 +544,9 @@ returns-clause-replaces g c =
     let next = c.in_ok-next.next in
     let z : Drops new end o e gone = subst (Drops new end o e) c.deref.ensures.0 c.drop_nodes.ensures in
     end-replaces key.order total key.read sought m n old mid root level pair tree some level_is few gone parts x new end o e next x_makes c.in_ok-next.ensures.root z c.requires.used
+
+pub returns-in_err-parts-clause-full : goal.returns-in_err-parts-clause-full
+returns-in_err-parts-clause-full g c = λ w a h e. c.in_err-parts.ensures.full w a h (ap Err (err_same c.from_residual.result c.in_err-parts.field-0.0 _ c.from_residual.ensures.1 e))
+
+pub returns-in_err-next-clause-full : goal.returns-in_err-next-clause-full
+returns-in_err-next-clause-full g c = λ w a h e. c.in_err-next.ensures.full w a h (ap Err (err_same c.from_residual-in_err-next.result c.in_err-next.field-0.0 _ c.from_residual-in_err-next.ensures.1 e))

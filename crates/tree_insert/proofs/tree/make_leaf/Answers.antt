@@ -1,6 +1,7 @@
-use Rattle.std.proofs.Common.{◌≡◌, ℕ, List, [], ◌∷◌, ◌++◌, length, refl, sym, ap, ◌∙◌, arith}
+use Rattle.std.proofs.Common.{Err, ◌≡◌, ℕ, List, [], ◌∷◌, ◌++◌, length, refl, sym, ap, ◌∙◌, arith}
 use Rattle.tree_node.proofs.CountLemmas.{leaf_count}
 use Rattle.tree_node.proofs.SlotLemmas.{hand-leaf}
+use Rattle.tree_insert.proofs.OkLemmas.{err_same}
 use Rattle.tree_insert.proofs.tree.make_leaf.Goals as goal
 
 pub make_part-requires-clause-hand : goal.make_part-requires-clause-hand
@@ -20,3 +21,6 @@ make_part-requires-clause-few g c =
     let count = leaf_count m ks vs 0 refl (hand-leaf m ks vs (ap length keys ∙ sym (ap length values))) in
     let one : length ks ≡ 1 = ap length keys in
     omega arith
+
+pub returns-in_err-make_part-clause-full : goal.returns-in_err-make_part-clause-full
+returns-in_err-make_part-clause-full g c = λ w a h e. c.in_err-make_part.ensures.full w a h (ap Err (err_same c.from_residual.result c.in_err-make_part.field-0.0 _ c.from_residual.ensures.1 e))

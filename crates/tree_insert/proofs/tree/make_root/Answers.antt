@@ -1,10 +1,11 @@
-use Rattle.std.proofs.Common.{◌≡◌, ◌<◌, inl, inr, ℕ, List, [], ◌∷◌, ◌++◌, length, sym, ap, subst, ◌∙◌, arith}
+use Rattle.std.proofs.Common.{Err, ◌≡◌, ◌<◌, inl, inr, ℕ, List, [], ◌∷◌, ◌++◌, length, sym, ap, subst, ◌∙◌, arith}
 use Rattle.std.proofs.lemmas.Bool.{cases_eq}
 use Rattle.std.specs.List.{flat_map}
 use Rattle.attr_images.specs.Trees.{pairs_below, root_least}
 use Rattle.tree_insert.specs.declared.parts.Parts.TheVariants.{Two}
 use Rattle.tree_insert.specs.Parts.{AreParts, MakesRoot, part_nodes}
 use Rattle.tree_insert.proofs.RootLemmas.{two-hand, two-few, two_root}
+use Rattle.tree_insert.proofs.OkLemmas.{err_same}
 use Rattle.tree_insert.proofs.tree.make_root.Goals as goal
 
 pub make_part-requires-clause-hand : goal.make_part-requires-clause-hand
@@ -67,3 +68,6 @@ returns-in_ok-make_part-in-Two-clause-root g c =
     subst (λ p. MakesRoot old new m n level p c.in_ok-make_part-in-Two.field-0.node) (sym c.in-Two.is)
     (two_root m (root_least level) level first second (flat_map (pairs_below m level) (part_nodes c.args.parts.now)) parts c.push-in-Two-2.new.self.items c.push-in-Two-3.new.self.items keys values
     old new n c.in_ok-make_part-in-Two.field-0.node below c.in_ok-make_part-in-Two.ensures.makes.node)
+
+pub returns-in_err-make_part-in-Two-clause-full : goal.returns-in_err-make_part-in-Two-clause-full
+returns-in_err-make_part-in-Two-clause-full g c = λ w a h e. c.in_err-make_part-in-Two.ensures.full w a h (ap Err (err_same c.from_residual.result c.in_err-make_part-in-Two.field-0.0 _ c.from_residual.ensures.1 e))
