@@ -1,5 +1,5 @@
 -- Room for a buffer is made, and a buffer is taken for a width.
-use Rattle.std.proofs.Common.{◌≡◌, ◌≢◌, ℕ, zero, suc, ◌+◌, ◌-◌, ◌*◌, ◌<◌, ◌≤◌, Bool, true, false, cond, eqb, List, [], ◌∷◌, ◌++◌, Option, Some, None, length, get_or, set, refl, sym, ap, subst, ◌∙◌, arith, inl, inr, length-append, get_or-set_other, get_or-set_same, suc-mul}
+use Rattle.std.proofs.Common.{◌≡◌, ◌≢◌, ℕ, ◌+◌, ◌-◌, ◌*◌, ◌<◌, ◌≤◌, Bool, true, false, cond, eqb, List, [], ◌∷◌, ◌++◌, Some, None, length, get_or, set, refl, sym, ap, subst, ◌∙◌, arith, inl, inr, length-append, get_or-set_other, get_or-set_same, suc-mul}
 use Rattle.std.specs.List.{slice_get, count_by}
 use Rattle.std.proofs.Math.ListN.{length-set, get_or-append}
 use Rattle.std.proofs.Math.Seq.{get_or-append_seam}
@@ -7,14 +7,14 @@ use Rattle.std.proofs.lemmas.List.Sums.{sum_by-set}
 use Rattle.std.proofs.lemmas.Option.{slice_get-get_or, slice_get_past}
 use Rattle.std.proofs.lemmas.Bool.{cases_lt, cases_eq, eq-eqb, ne_eqb}
 use Rattle.entry_ref.specs.References.{buffer_of, offset_of}
-use Rattle.store_api.specs.Ledgers.{is_width, capacity, with_count, with_filled}
+use Rattle.store_api.specs.Ledgers.{is_width, capacity}
 use Rattle.entry_shelf.specs.States.{is_free}
 use Rattle.entry_states.specs.declared.slot.Slot.{Slot}
-use Rattle.entry_states.specs.Entries.{EntriesView, is_made, is_let_go, one, with_buffer}
+use Rattle.entry_states.specs.Entries.{is_made, is_let_go, one, with_buffer}
 use Rattle.entry_states.specs.Rows.{RowView, RowsView, new_row, row_of, row_at, slot_at, has_offset, number_in, state_in, spare_in, IsRow, IsSlot, IsKept}
 use Rattle.entry_states.proofs.Seen.{entries_in}
 use Rattle.entry_states.proofs.Places.{row-field, row-same, row-none, width-bounds}
-use Rattle.entry_states.proofs.Numbers.{offset-parts, one-cond}
+use Rattle.entry_states.proofs.Numbers.{one-cond}
 use Rattle.entry_states.proofs.Keeping.{with_row, row-here, row-there, kept-row}
 use Rattle.entry_states.proofs.Taking.{idle-room}
 

@@ -1,14 +1,14 @@
 -- No buffer has entries.
-use Rattle.std.proofs.Common.{◌≡◌, ◌≢◌, ℕ, zero, suc, ◌+◌, ◌-◌, ◌*◌, ◌/◌, ◌<◌, ◌≤◌, Bool, true, false, cond, eqb, List, [], ◌∷◌, Option, Some, None, map, length, get_or, replicate, refl, sym, ap, subst, ◌∙◌, arith}
+use Rattle.std.proofs.Common.{◌≡◌, ◌≢◌, ℕ, zero, suc, ◌+◌, ◌-◌, ◌*◌, ◌/◌, ◌≤◌, Bool, true, false, cond, eqb, List, None, map, length, replicate, refl, sym, ap, subst, ◌∙◌, arith}
 use Rattle.std.specs.List.{slice_get, count_by}
 use Rattle.std.proofs.lemmas.List.{length-replicate}
 use Rattle.std.proofs.lemmas.List.Sums.{sum_by-cons}
 use Rattle.std.proofs.lemmas.Bool.{ne_eqb}
 use Rattle.entry_ref.specs.References.{buffer_of, offset_of}
-use Rattle.store_api.specs.Ledgers.{widths, is_width, capacity}
+use Rattle.store_api.specs.Ledgers.{widths, is_width}
 use Rattle.entry_states.specs.declared.slot.Slot.{Slot}
-use Rattle.entry_states.specs.Entries.{EntriesView, is_made, is_let_go, one, new_entries}
-use Rattle.entry_states.specs.Rows.{RowView, RowsView, new_row, row_of, row_at, slot_at, has_offset, number_in, state_in, spare_in, IsRow, IsSlot, IsKept}
+use Rattle.entry_states.specs.Entries.{is_made, is_let_go, one, new_entries}
+use Rattle.entry_states.specs.Rows.{RowView, RowsView, new_row, row_at, slot_at, has_offset, number_in, state_in, spare_in, IsRow, IsKept}
 use Rattle.entry_states.proofs.Seen.{entries_in}
 use Rattle.entry_states.proofs.Places.{row-made, row-out, width-bounds}
 use Rattle.entry_states.proofs.Numbers.{one-cond}

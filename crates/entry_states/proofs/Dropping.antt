@@ -1,22 +1,21 @@
 -- An entry in use is dropped.
-use Rattle.std.proofs.Common.{◌≡◌, ◌≢◌, ℕ, ◌+◌, ◌-◌, ◌*◌, ◌<◌, ◌≤◌, Bool, true, false, cond, eqb, List, Option, Some, None, length, get_or, set, refl, sym, ap, subst, ◌∙◌, arith}
+use Rattle.std.proofs.Common.{◌≡◌, ℕ, ◌+◌, ◌-◌, ◌*◌, ◌<◌, Bool, true, false, cond, eqb, Option, Some, None, length, set, refl, sym, ap, subst, ◌∙◌, arith}
 use Rattle.std.specs.List.{slice_get, count_by}
 use Rattle.std.proofs.Math.ListN.{length-set}
 use Rattle.std.proofs.lemmas.Option.{get_or_from_slice_get, slice_get_within}
-use Rattle.std.proofs.lemmas.Bool.{true≢false}
 use Rattle.entry_ref.specs.References.{buffer_of, offset_of}
 use Rattle.store_api.specs.Ledgers.{is_width}
 use Rattle.entry_shelf.specs.declared.state.State.{State}
 use Rattle.entry_shelf.specs.declared.state.State.TheVariants.{Free, Returned, Made, InUse, LetGo, DroppedNow, Dropped}
 use Rattle.entry_shelf.specs.States.{is_free, is_used, state_at, dropped}
 use Rattle.entry_states.specs.declared.slot.Slot.{Slot}
-use Rattle.entry_states.specs.Entries.{EntriesView, is_made, is_let_go, one, dropped_at}
-use Rattle.entry_states.specs.Rows.{RowView, RowsView, row_of, row_at, slot_at, number_in, entry_in, state_in, spare_in, is_used_state, with_states, IsKept}
+use Rattle.entry_states.specs.Entries.{is_made, is_let_go, one, dropped_at}
+use Rattle.entry_states.specs.Rows.{RowView, RowsView, row_of, row_at, slot_at, number_in, entry_in, spare_in, is_used_state, with_states, IsKept}
 use Rattle.entry_states.proofs.Seen.{entries_in}
 use Rattle.entry_states.proofs.Places.{row-field, row-same}
 use Rattle.entry_states.proofs.Numbers.{Puts, puts-set, count-set, entry-number}
 use Rattle.entry_states.proofs.Standing.{state-put, state_in-there}
-use Rattle.entry_states.proofs.Good.{good-entries, IsNumbered, numbered}
+use Rattle.entry_states.proofs.Good.{good-entries, numbered}
 use Rattle.entry_states.proofs.Keeping.{with_row, kept-stays, put-row}
 
 -- how the counts change with an entry in use that is dropped

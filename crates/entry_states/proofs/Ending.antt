@@ -1,19 +1,17 @@
 -- The states of all entries are changed alike, where a unit ends.
-use Rattle.std.proofs.Common.{◌≡◌, ◌≢◌, ℕ, ◌+◌, ◌-◌, ◌*◌, ◌<◌, ◌≤◌, Bool, true, false, cond, eqb, List, [], ◌∷◌, ◌++◌, Option, Some, None, map, take, drop, length, get_or, set, refl, sym, ap, subst, ◌∙◌, arith}
+use Rattle.std.proofs.Common.{◌≡◌, ℕ, ◌+◌, ◌-◌, ◌*◌, ◌<◌, ◌≤◌, Bool, true, false, cond, List, [], ◌∷◌, ◌++◌, None, map, take, drop, length, get_or, set, refl, sym, ap, subst, ◌∙◌, arith}
 use Rattle.std.specs.Option.{option_map}
 use Rattle.std.specs.List.{slice_get, count_by}
-use Rattle.std.proofs.lemmas.List.{length-map, take_all, drop_all, take-append-le, append-nil, get_or_default}
+use Rattle.std.proofs.lemmas.List.{length-map, take_all, drop_all, take-append-le, append-nil}
 use Rattle.std.proofs.lemmas.List.Edits.{map_over_more}
 use Rattle.std.proofs.lemmas.List.Sums.{sum_by-cons}
 use Rattle.std.proofs.lemmas.Option.{slice_get-map}
 use Rattle.entry_ref.specs.References.{buffer_of, offset_of}
-use Rattle.store_api.specs.Ledgers.{is_width}
 use Rattle.entry_shelf.specs.declared.state.State.{State}
 use Rattle.entry_shelf.specs.declared.state.State.TheVariants.{Free, Returned, Made, InUse, LetGo, DroppedNow, Dropped}
 use Rattle.entry_shelf.specs.States.{is_free, accepted, undone}
-use Rattle.entry_states.specs.declared.slot.Slot.{Slot}
-use Rattle.entry_states.specs.Entries.{EntriesView, is_made, is_let_go, one, accepted_at, undone_at}
-use Rattle.entry_states.specs.Rows.{RowView, RowsView, new_row, row_of, row_at, slot_at, has_offset, number_in, state_in, spare_in, with_states, IsRow, IsSlot, IsKept}
+use Rattle.entry_states.specs.Entries.{is_made, is_let_go, one, accepted_at, undone_at}
+use Rattle.entry_states.specs.Rows.{RowView, RowsView, row_at, slot_at, has_offset, number_in, state_in, spare_in, with_states, IsRow, IsKept}
 use Rattle.entry_states.proofs.Seen.{entries_in}
 use Rattle.entry_states.proofs.Places.{row-map}
 use Rattle.entry_states.proofs.Numbers.{count-map, one-cond}

@@ -1,20 +1,19 @@
 -- What is kept of the rows makes all entries good.
-use Rattle.std.proofs.Common.{◌≡◌, ◌≢◌, ◌⊎◌, ℕ, zero, suc, ◌+◌, ◌-◌, ◌*◌, ◌/◌, ◌%◌, ◌<◌, ◌≤◌, Bool, true, false, ◌&&◌, leb, ltb, cond, eqb, List, [], ◌∷◌, ◌++◌, Option, Some, None, length, get_or, set, refl, sym, ap, subst, ◌∙◌, arith, inl, inr, suc-mul}
-use Rattle.std.specs.List.{slice_get, count_by}
-use Rattle.std.proofs.Math.Nat.{mul-le-mul_right, mul-le-mul_left}
+use Rattle.std.proofs.Common.{◌≡◌, ℕ, zero, suc, ◌+◌, ◌-◌, ◌*◌, ◌/◌, ◌<◌, ◌≤◌, Bool, true, false, cond, List, [], ◌∷◌, Option, Some, None, length, get_or, refl, sym, ap, subst, ◌∙◌, arith, inl, inr, suc-mul}
+use Rattle.std.specs.List.{slice_get}
+use Rattle.std.proofs.Math.Nat.{mul-le-mul_right}
 use Rattle.std.proofs.lemmas.Nat.{le-div}
-use Rattle.std.proofs.lemmas.Option.{slice_get-get_or, slice_get_within}
+use Rattle.std.proofs.lemmas.Option.{slice_get-get_or}
 use Rattle.std.proofs.lemmas.Bool.{cases_lt, cases_eq}
 use Rattle.entry_ref.specs.References.{buffer_of, offset_of}
 use Rattle.image_base.specs.Places.{IsEntry}
 use Rattle.store_api.specs.Ledgers.{is_width, capacity}
 use Rattle.entry_shelf.specs.declared.state.State.{State}
 use Rattle.entry_shelf.specs.States.{is_free}
-use Rattle.entry_states.specs.declared.slot.Slot.{Slot}
-use Rattle.entry_states.specs.Entries.{EntriesView, is_open_state, IsGood}
-use Rattle.entry_states.specs.Rows.{RowView, RowsView, new_row, row_of, row_at, slot_at, has_offset, number_in, entry_in, state_in, spare_in, IsRow, IsSlot, IsKept}
+use Rattle.entry_states.specs.Entries.{is_open_state, IsGood}
+use Rattle.entry_states.specs.Rows.{RowView, RowsView, new_row, row_at, slot_at, has_offset, number_in, state_in, spare_in, IsKept}
 use Rattle.entry_states.proofs.Seen.{entries_in}
-use Rattle.entry_states.proofs.Places.{row-none, width-bounds}
+use Rattle.entry_states.proofs.Places.{row-none}
 use Rattle.entry_states.proofs.Numbers.{offset-from, offset-parts, entry-from, entry-offset, count-some}
 use Rattle.entry_states.proofs.Standing.{slot-inside, state_in-there, some-capacity}
 

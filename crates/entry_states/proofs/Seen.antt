@@ -1,5 +1,5 @@
 -- What the rows say of all entries, as it computes.
-use Rattle.std.proofs.Common.{ℕ, ◌-◌, List, length}
+use Rattle.std.proofs.Common.{◌-◌, length}
 use Rattle.std.specs.List.{slice_get, count_by}
 use Rattle.entry_ref.specs.References.{buffer_of, offset_of}
 use Rattle.entry_states.specs.Entries.{EntriesView, is_let_go, is_made}

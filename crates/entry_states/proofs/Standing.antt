@@ -1,18 +1,18 @@
 -- Where an entry stands: its buffer's slot, its row and its number there.
-use Rattle.std.proofs.Common.{◌≡◌, ◌≢◌, ℕ, zero, suc, ◌+◌, ◌-◌, ◌*◌, ◌/◌, ◌%◌, ◌<◌, ◌≤◌, Bool, true, false, ◌&&◌, leb, ltb, cond, eqb, List, [], ◌∷◌, ◌++◌, Option, Some, None, length, get_or, set, refl, sym, ap, subst, ◌∙◌, arith, inl, inr}
-use Rattle.std.specs.List.{slice_get, count_by}
-use Rattle.std.proofs.Math.Nat.{mul-le-mul_right, mul-le-mul_left}
+use Rattle.std.proofs.Common.{◌≡◌, ◌≢◌, ℕ, zero, suc, ◌+◌, ◌-◌, ◌*◌, ◌/◌, ◌%◌, ◌<◌, ◌≤◌, Bool, true, false, ◌&&◌, leb, ltb, cond, eqb, List, [], ◌∷◌, Option, Some, None, length, get_or, set, refl, sym, ap, subst, ◌∙◌, arith, inl, inr}
+use Rattle.std.specs.List.{slice_get}
+use Rattle.std.proofs.Math.Nat.{mul-le-mul_right}
 use Rattle.std.proofs.lemmas.Nat.{div-add-mod', div_below, mod_below}
 use Rattle.std.proofs.lemmas.List.Sums.{count_by-le-length}
 use Rattle.std.proofs.lemmas.Bool.{cases_lt, cases_eq, eq-eqb, ne_eqb}
 use Rattle.entry_ref.specs.References.{buffer_of, offset_of}
-use Rattle.store_api.specs.Ledgers.{is_width, capacity}
+use Rattle.store_api.specs.Ledgers.{is_width}
 use Rattle.entry_shelf.specs.declared.state.State.{State}
 use Rattle.entry_states.specs.declared.slot.Slot.{Slot}
 use Rattle.entry_states.specs.Entries.{with_state}
-use Rattle.entry_states.specs.Rows.{RowView, RowsView, row_of, row_at, slot_at, has_offset, number_in, entry_in, state_in, IsRow, IsSlot, IsKept}
+use Rattle.entry_states.specs.Rows.{RowView, RowsView, row_of, row_at, slot_at, has_offset, number_in, entry_in, state_in, IsKept}
 use Rattle.entry_states.proofs.Seen.{entries_in}
-use Rattle.entry_states.proofs.Places.{row-set, row-same, width-bounds}
+use Rattle.entry_states.proofs.Places.{row-set, width-bounds}
 use Rattle.entry_states.proofs.Numbers.{capacity-some, capacity-few, offset-from, packed-buffer, packed-offset, entry-number, Puts}
 
 -- a buffer that has a width is one of those that there are

@@ -1,22 +1,21 @@
 -- An entry of a width is made.
-use Rattle.std.proofs.Common.{◌≡◌, ◌≢◌, ℕ, zero, suc, ◌+◌, ◌-◌, ◌*◌, ◌/◌, ◌<◌, ◌≤◌, Bool, true, false, cond, eqb, min, List, [], ◌∷◌, ◌++◌, Option, Some, None, length, get_or, set, refl, sym, ap, subst, ◌∙◌, arith, inl, inr, length-append}
+use Rattle.std.proofs.Common.{◌≡◌, ℕ, ◌+◌, ◌-◌, ◌*◌, ◌/◌, ◌<◌, ◌≤◌, true, false, cond, eqb, List, [], ◌∷◌, ◌++◌, Option, Some, None, length, get_or, set, refl, sym, ap, subst, ◌∙◌, arith, inl, inr, length-append}
 use Rattle.std.specs.List.{slice_get, count_by}
 use Rattle.std.proofs.Math.ListN.{length-set}
-use Rattle.std.proofs.lemmas.Bool.{cases_lt, cases_eq, eq-eqb, ne_eqb, true≢false}
-use Rattle.std.proofs.lemmas.Option.{slice_get-get_or, slice_get_past, slice_get_within}
+use Rattle.std.proofs.lemmas.Bool.{cases_lt, cases_eq, eq-eqb, ne_eqb}
+use Rattle.std.proofs.lemmas.Option.{slice_get-get_or, slice_get_past}
 use Rattle.entry_ref.specs.References.{buffer_of, offset_of}
-use Rattle.image_base.specs.Places.{IsEntry}
-use Rattle.store_api.specs.Ledgers.{is_width, capacity, with_count, counted}
+use Rattle.store_api.specs.Ledgers.{is_width, counted}
 use Rattle.entry_shelf.specs.declared.state.State.{State}
 use Rattle.entry_shelf.specs.declared.state.State.TheVariants.{Free, Returned, Made, InUse, LetGo, DroppedNow, Dropped}
 use Rattle.entry_shelf.specs.States.{ShelfView, is_free, state_at, with_made, IsOpen, spare_of}
 use Rattle.entry_states.specs.declared.slot.Slot.{Slot}
-use Rattle.entry_states.specs.Entries.{EntriesView, is_made, is_let_go, is_open_state, is_free_state, one, with_state, made_at, CanTake}
-use Rattle.entry_states.specs.Rows.{RowView, RowsView, row_of, row_at, slot_at, has_offset, number_in, entry_in, state_in, spare_in, IsRow, IsSlot, IsKept}
+use Rattle.entry_states.specs.Entries.{is_made, is_let_go, is_open_state, is_free_state, one, made_at, CanTake}
+use Rattle.entry_states.specs.Rows.{RowView, RowsView, row_at, slot_at, number_in, entry_in, state_in, spare_in, IsKept}
 use Rattle.entry_states.proofs.Seen.{entries_in}
 use Rattle.entry_states.proofs.Places.{row-field, row-same, width-bounds}
 use Rattle.entry_states.proofs.Numbers.{Puts, puts-set, puts-snoc, count-set, count-snoc, count-none, entry-from}
-use Rattle.entry_states.proofs.Standing.{few-entries, StandsAt, stands-at, state-by, state_in-there, state-put}
+use Rattle.entry_states.proofs.Standing.{few-entries, stands-at, state-by, state_in-there, state-put}
 use Rattle.entry_states.proofs.Good.{some-offset}
 use Rattle.entry_states.proofs.Keeping.{with_row, kept-stays}
 

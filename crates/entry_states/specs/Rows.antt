@@ -1,11 +1,11 @@
 -- The rows: for each width its buffers, and the states of its entries by number. A row's entries are numbered from 0, buffer by
 -- buffer in the order in which it got them, and in each by offset, behind the reserved offset 0.
-use Rattle.std.specs.Prelude.{◌≡◌, ℕ, suc, ◌+◌, ◌-◌, ◌*◌, ◌/◌, ◌%◌, ◌<◌, ◌≤◌, Bool, true, false, ◌&&◌, nat_eq, nat_lt, nat_le, if◌then◌else◌, Option, None, Some, List, [], ◌∷◌, ◌++◌, length, slice_index, slice_index_or, slice_set, count_by}
+use Rattle.std.specs.Prelude.{◌≡◌, ℕ, suc, ◌+◌, ◌-◌, ◌*◌, ◌/◌, ◌%◌, ◌<◌, ◌≤◌, Bool, true, false, ◌&&◌, nat_eq, nat_lt, nat_le, if◌then◌else◌, Option, None, Some, List, [], ◌∷◌, length, slice_index, slice_index_or, count_by}
 use Rattle.std.specs.List.{slice_get}
 use Rattle.entry_ref.specs.References.{buffer_of, offset_of, packed}
 use Rattle.store_api.specs.Ledgers.{widths, is_width, capacity}
 use Rattle.entry_shelf.specs.declared.state.State.{State}
-use Rattle.entry_shelf.specs.States.{ShelfView, is_free, is_used, state_at, dropped, with_made}
+use Rattle.entry_shelf.specs.States.{ShelfView, is_free, is_used}
 use Rattle.entry_states.specs.declared.slot.Slot.{Slot}
 use Rattle.entry_states.specs.Entries.{EntriesView, is_let_go, is_made, one}
 

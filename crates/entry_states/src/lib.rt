@@ -6,3 +6,6 @@ mod row;
 mod slot;
 
 pub use entries::Entries;
+
+#[cfg(test)]
+mod tests;

@@ -1,7 +1,7 @@
 use Rattle.std.proofs.Common.{◌≡◌, ◌<◌, ◌+◌, ◌*◌, length, get_or, sym, ap, subst, ◌∙◌, arith}
 use Rattle.std.proofs.lemmas.List.{get_or_read}
 use Rattle.entry_states.specs.Entries.{IsGood, with_buffer}
-use Rattle.entry_states.specs.Rows.{RowView, RowsView, new_row, row_of, row_at, slot_at, spare_in, entries_of, IsKept}
+use Rattle.entry_states.specs.Rows.{RowView, RowsView, new_row, row_at, slot_at, spare_in, entries_of, IsKept}
 use Rattle.entry_states.proofs.Standing.{some-capacity, few-buffers}
 use Rattle.entry_states.proofs.Good.{good}
 use Rattle.entry_states.proofs.Adding.{with_added, put-added, ready-room, add-kept, add-added}

@@ -1,4 +1,4 @@
-use Rattle.std.proofs.Common.{◌≡◌, ◌-◌, ◌/◌, map, sym, ap, subst, ◌∙◌, replicate}
+use Rattle.std.proofs.Common.{◌≡◌, ◌-◌, ◌/◌, map, sym, ap, subst, ◌∙◌}
 use Rattle.store_api.specs.Ledgers.{widths}
 use Rattle.entry_states.specs.Entries.{IsGood}
 use Rattle.entry_states.specs.Rows.{RowsView, new_row, entries_of, IsKept}

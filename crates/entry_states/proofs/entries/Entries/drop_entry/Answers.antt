@@ -1,12 +1,11 @@
-use Rattle.std.proofs.Common.{◌≡◌, ◌<◌, true, length, get_or, sym, ap, subst, ◌∙◌, arith, Some}
+use Rattle.std.proofs.Common.{◌≡◌, ◌<◌, true, get_or, sym, ap, subst, ◌∙◌, arith, Some}
 use Rattle.std.proofs.lemmas.List.{get_or_read}
 use Rattle.entry_ref.specs.References.{buffer_of}
 use Rattle.store_api.specs.Ledgers.{is_width}
-use Rattle.entry_shelf.specs.declared.state.State.{State}
 use Rattle.entry_shelf.specs.States.{is_used}
 use Rattle.entry_states.specs.declared.slot.Slot.{Slot}
 use Rattle.entry_states.specs.Entries.{IsGood, dropped_at}
-use Rattle.entry_states.specs.Rows.{RowView, RowsView, new_row, row_of, row_at, slot_at, state_in, is_used_state, entries_of, IsKept}
+use Rattle.entry_states.specs.Rows.{RowView, RowsView, new_row, row_at, slot_at, state_in, is_used_state, entries_of, IsKept}
 use Rattle.entry_states.proofs.Standing.{some-capacity, few-buffers}
 use Rattle.entry_states.proofs.Good.{good}
 use Rattle.entry_states.proofs.Keeping.{with_row}

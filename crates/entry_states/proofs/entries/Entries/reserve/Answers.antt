@@ -1,8 +1,8 @@
-use Rattle.std.proofs.Common.{◌≡◌, ◌<◌, ◌*◌, length, get_or, sym, ap, subst, ◌∙◌, arith, OnErr, Ok, Err}
+use Rattle.std.proofs.Common.{◌≡◌, ◌<◌, ◌*◌, length, get_or, sym, ap, subst, ◌∙◌, arith}
 use Rattle.std.proofs.lemmas.List.{get_or_read}
 use Rattle.std.proofs.lemmas.Result.{err_from_is_err_and}
-use Rattle.entry_states.specs.Entries.{EntriesView, IsGood}
-use Rattle.entry_states.specs.Rows.{RowView, RowsView, new_row, row_of, row_at, entries_of, IsKept}
+use Rattle.entry_states.specs.Entries.{IsGood}
+use Rattle.entry_states.specs.Rows.{RowView, RowsView, new_row, row_at, entries_of, IsKept}
 use Rattle.entry_states.proofs.Standing.{some-capacity, few-buffers}
 use Rattle.entry_states.proofs.Good.{good}
 use Rattle.entry_states.proofs.Keeping.{with_row, same-row, put-row}

@@ -1,8 +1,8 @@
-use Rattle.std.proofs.Common.{◌≡◌, ◌<◌, ◌*◌, ◌/◌, ℕ, length, get_or, refl, sym, ap, subst, ◌∙◌, arith}
+use Rattle.std.proofs.Common.{◌≡◌, ◌<◌, ◌*◌, ◌/◌, length, get_or, refl, sym, ap, subst, ◌∙◌, arith}
 use Rattle.std.proofs.lemmas.List.{get_or_read}
 use Rattle.entry_shelf.specs.States.{IsOpen, spare_of}
 use Rattle.entry_states.specs.Entries.{IsGood, CanTake, made_at}
-use Rattle.entry_states.specs.Rows.{RowView, RowsView, new_row, row_of, row_at, entry_in, spare_in, entries_of, IsKept}
+use Rattle.entry_states.specs.Rows.{RowView, RowsView, new_row, row_at, entry_in, spare_in, entries_of, IsKept}
 use Rattle.entry_states.proofs.Standing.{some-capacity, buffer-low}
 use Rattle.entry_states.proofs.Good.{good}
 use Rattle.entry_states.proofs.Keeping.{with_row, same-row, put-row}
