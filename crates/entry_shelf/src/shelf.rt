@@ -80,6 +80,13 @@ impl Shelf {
         self.states.get(entry as usize).copied()
     }
 
+    /// How often an entry was made, up to the last 64-bit number.
+    pub fn made(&self) -> u64
+        ensures { result ≡ self.now.made }
+    {
+        self.made
+    }
+
     /// Makes an entry: a free one, else the next that was not taken. None where there is no more room.
     pub fn take(&mut self) -> Option<u32>
         ensures none { IsNone result ↔ (spare_of self.old ≡ 0) }

@@ -125,6 +125,16 @@ impl Entries {
         row.state(slot.rank, entry.offset())
     }
 
+    /// How often an entry of this width was made, up to the last 64-bit number.
+    #[tactic(auto, unfolding(crate::specs::Rows::entries_of))]
+    pub fn made(&self, width: u32) -> u64
+        requires { is_width width ≡ true }
+        ensures { result ≡ (entries_of self.now).made width }
+    {
+        let row = &self.rows[place_of(width)];
+        row.made()
+    }
+
     /// Makes an entry: a free one of the width, else the next offset of the buffer that is filled.
     pub fn take(&mut self, width: u32) -> Option<EntryRef>
         requires width { is_width width ≡ true }

@@ -64,6 +64,13 @@ impl Row {
         self.shelf.get(rank * self.capacity + (offset - 1))
     }
 
+    /// How often an entry was made, up to the last 64-bit number.
+    pub fn made(&self) -> u64
+        ensures { result ≡ self.now.shelf.made }
+    {
+        self.shelf.made()
+    }
+
     /// Makes an entry, and answers its number.
     pub fn take(&mut self) -> Option<u32>
         ensures none { IsNone result ↔ (spare_of self.old.shelf ≡ 0) }
