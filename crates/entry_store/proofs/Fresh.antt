@@ -1,0 +1,8 @@
+-- A work that was only opened is fresh.
+use Rattle.std.proofs.Common.{refl, List}
+use Rattle.image_base.specs.declared.Image.{Image}
+use Rattle.arena_api.specs.Works.{Sizes}
+use Rattle.arena_api.specs.Calls.{IsFresh, opened}
+
+pub opened-fresh : {H : Type 0} (home : H) (sizes : Sizes) (told : List Image) → IsFresh (opened home sizes told)
+opened-fresh home sizes told = record { floor = refl; last = refl; image = refl; buffers = λ b. refl }

@@ -1,0 +1,9 @@
+pub mod StateSteps
+pub mod Counts
+pub mod Stands
+pub mod Drops
+pub mod Commits
+pub mod MakeSteps
+pub mod StandsProp
+pub mod Ends
+pub mod Fresh

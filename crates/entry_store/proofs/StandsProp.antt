@@ -1,0 +1,10 @@
+-- That a store stands has one proof at most.
+use Rattle.std.proofs.Common.{ℕ, Bool}
+use Rattle.std.proofs.Props.{props}
+use Rattle.image_base.specs.Records.{Records}
+use Rattle.arena_api.specs.Works.{WorkView}
+use Rattle.entry_states.specs.Entries.{EntriesView}
+use Rattle.entry_store.specs.Standing.{Stands}
+
+pub stands-prop : {H : Type 0} (work : WorkView H) (m : Records) (e : EntriesView) (unit : Bool) (last active : ℕ) → IsProp (Stands work m e unit last active)
+stands-prop work m e unit last active = hlevel props
