@@ -7,3 +7,4 @@ pub mod MakeSteps
 pub mod StandsProp
 pub mod Ends
 pub mod Fresh
+pub mod Maps

@@ -1,15 +1,21 @@
-ghost use Rattle.std.specs.Prelude.{◌≡◌, ◌↔◌, ◌<◌, ◌≤◌, ◌+◌, ℕ, true, [], length};
+ghost use Rattle.std.specs.Prelude.{◌≡◌, ◌≢◌, ◌↔◌, ◌<◌, ◌≤◌, ◌+◌, ℕ, true, [], length};
 ghost use Rattle.std.specs.Prelude.{IsNone, IfSome, IfNone, IfOk, IfErr, OnOk, OnErr};
 ghost use Rattle.arena_api.specs.Works.{free_count};
 ghost use Rattle.arena_api.specs.Calls.{IsFresh};
 ghost use Rattle.store_api.specs.Ledgers.{is_width, IsNew};
+ghost use Rattle.store_api.specs.Classes.{has_record};
+ghost use Rattle.image_check.specs.Seen.{seen};
+ghost use Rattle.entry_ref.specs.References.{buffer_of};
 ghost use Rattle.entry_states.specs.Rows.{entries_of};
-ghost use Rattle.entry_store.specs.Standing.{Stands, class_of, records_of_classes, ledger_of, Puts, Opens};
+ghost use Rattle.entry_store.specs.Standing.{Stands, class_of, records_of_classes, ledger_of, those_before, Puts, Opens};
 
+use crate::words::words_of_record;
 use arena_api::{Frozen, Work, put_record};
 use entry_ref::EntryRef;
+use entry_shelf::State;
 use entry_states::Entries;
-use std::alloc::Global;
+use std::alloc::{AllocError, Global};
+use std::collections::BTreeMap;
 use store_api::{Store, StoreError};
 
 /// A store over a work.
@@ -60,6 +66,75 @@ impl<W: Work> EntryStore<W> {
         ensures shape { W.shape result ≡ ⟦<EntryStore<W> as Frozen>⟧.shape self }
     {
         self.work
+    }
+
+    /// Every record of the store.
+    pub fn records(&mut self, alloc: Global) -> Result<BTreeMap<u32, Vec<u64>>, AllocError>
+        ensures records { IfOk result (λ map. seen map ≡ ⟦<EntryStore<W> as Frozen>⟧.records self.old) }
+        ensures same { self.new ≡ self.old }
+    {
+        let mut map = BTreeMap::new(alloc);
+        for buffer in 0..self.work.buffers() {
+            self.add_records(alloc, buffer, &mut map)?;
+        }
+        Ok(map)
+    }
+
+    /// Adds the records of a buffer to those of the buffers before it.
+    fn add_records(
+        &mut self,
+        alloc: Global,
+        buffer: u32,
+        map: &mut BTreeMap<u32, Vec<u64>>,
+    ) -> Result<(), AllocError>
+        requires inside { buffer < (W.knows self.old.work).sizes.buffers }
+        requires before { (q : ℕ) → seen map.old q ≡ those_before (⟦<EntryStore<W> as Frozen>⟧.records self.old) buffer 0 q }
+        ensures records { OnOk result ((q : ℕ) → seen map.new q
+            ≡ those_before (⟦<EntryStore<W> as Frozen>⟧.records self.old) (buffer + 1) 0 q) }
+        ensures same { self.new ≡ self.old }
+    {
+        let width = self.entries.width(buffer);
+        if width == 0 {
+            return Ok(());
+        }
+        for offset in 1..self.work.words() / width {
+            self.add_record(alloc, EntryRef::new(offset, buffer), width, map)?;
+        }
+        Ok(())
+    }
+
+    /// Adds the record of an entry, if it has one, to those of others.
+    fn add_record(
+        &mut self,
+        alloc: Global,
+        entry: EntryRef,
+        width: u32,
+        map: &mut BTreeMap<u32, Vec<u64>>,
+    ) -> Result<(), AllocError>
+        requires inside { buffer_of entry < (W.knows self.old.work).sizes.buffers }
+        requires width { (entries_of self.old.entries).width (buffer_of entry) ≡ width }
+        requires absent { seen map.old entry ≡ [] }
+        ensures here { OnOk result (seen map.new entry ≡ ⟦<EntryStore<W> as Frozen>⟧.records self.old entry) }
+        ensures others { OnOk result ((q : ℕ) → q ≢ entry → seen map.new q ≡ seen map.old q) }
+        ensures same { self.new ≡ self.old }
+    {
+        if self.has_record(entry) {
+            let words = words_of_record(alloc, self, entry, width)?;
+            map.insert(entry.raw(), words)?;
+        }
+        Ok(())
+    }
+
+    /// Whether an entry has a record.
+    fn has_record(&self, entry: EntryRef) -> bool
+        ensures { result ≡ has_record (class_of self.now.last ((entries_of self.now.entries).state entry)) }
+    {
+        match self.entries.state(entry) {
+            Some(State::Made | State::InUse { .. } | State::LetGo | State::DroppedNow { .. }) =>
+                true,
+            Some(State::Dropped { after }) => after == self.last,
+            Some(State::Free | State::Returned) | None => false,
+        }
     }
 
     /// Makes an entry where the width has one to spare.

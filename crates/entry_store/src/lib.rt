@@ -2,6 +2,7 @@
 #![tactic(auto)]
 
 mod entry_store;
+mod words;
 
 pub use entry_store::{EntryStore, NoMemory};
 

@@ -1,3 +1,6 @@
+ghost use Rattle.std.specs.Prelude.{◌≤◌, ◌+◌};
+ghost use Rattle.store_api.specs.Ledgers.{IsNew};
+
 use super::*;
 use arena_api::{MemWork, OneRecord};
 use entry_ref::EntryRef;
@@ -33,5 +36,30 @@ fn a_store_is_full_where_no_buffer_is_free(rt: HostRuntime) -> Result<(), Fail> 
         held: 0,
     };
     assert_eq!(rt; store.make(1024, &[7]), Err(full));
+    Ok(())
+}
+
+/// Commits a record of a new store, then drops it and commits nothing.
+fn commit_twice<S: Store<Layout = OneRecord>>(store: &mut S) -> Option<(u32, u32)>
+    requires new { IsNew (S.ledger store.old) }
+    requires room { (S.ledger store.old).work.commits.last + 2 ≤ (S.ledger store.old).work.sizes.commits }
+{
+    store.begin();
+    let root = store.make(2, &[8, 5]).ok()?;
+    store.accept();
+    let first = store.commit(root);
+    store.begin();
+    store.drop_entry(root);
+    store.accept();
+    Some((first, store.commit(EntryRef::from_raw(0))))
+}
+
+#[test]
+fn what_is_dropped_is_gone_after_a_commit(rt: HostRuntime) -> Result<(), Fail> {
+    let work = MemWork::<OneRecord>::create(rt.alloc(), 8, 8192, 1)?;
+    let mut store = EntryStore::create(rt.alloc(), work).map_err(|_| AllocError)?;
+    assert_eq!(rt; commit_twice(&mut store), Some((1, 2)));
+    assert!(rt; store.records(rt.alloc())?.is_empty());
+    assert_eq!(rt; store.commits_left(), 4_294_967_293);
     Ok(())
 }
