@@ -4,3 +4,4 @@ pub mod SeekLemmas
 pub mod FindLemmas
 pub mod FrameLemmas
 pub mod ExampleLemmas
+pub mod PlainLemmas

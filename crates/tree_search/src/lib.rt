@@ -8,7 +8,7 @@ mod path;
 mod search;
 
 pub use cursor::Cursor;
-pub use laws::place_law;
+pub use laws::{place_law, search_law};
 pub use search::{find, total};
 
 #[cfg(test)]
