@@ -68,6 +68,14 @@ impl<W: Work> EntryStore<W> {
         self.work
     }
 
+    /// How often an entry of this width was made, up to the last 64-bit number.
+    pub fn made(&self, width: u32) -> u64
+        requires { is_width width ≡ true }
+        ensures { result ≡ (⟦<EntryStore<W> as Store>⟧.ledger self.now).made width }
+    {
+        self.entries.made(width)
+    }
+
     /// Every record of the store.
     pub fn records(&mut self, alloc: Global) -> Result<BTreeMap<u32, Vec<u64>>, AllocError>
         ensures records { IfOk result (λ map. seen map ≡ ⟦<EntryStore<W> as Frozen>⟧.records self.old) }

@@ -19,6 +19,7 @@ fn an_entry_is_made_again_after_an_undo(rt: HostRuntime) -> Result<(), Fail> {
     assert_eq!(rt; store.make(2, &[8, 5]), Ok(EntryRef::from_raw(1024)));
     assert_eq!(rt; store.make(2, &[8, 5]), Ok(EntryRef::from_raw(2048)));
     assert_eq!(rt; store.make(34, &[]), Ok(EntryRef::from_raw(1025)));
+    assert_eq!(rt; store.made(2), 3);
     Ok(())
 }
 
