@@ -1,0 +1,10 @@
+pub mod TextLemmas
+pub mod WordLemmas
+pub mod ItemLemmas
+pub mod OrderLemmas
+pub mod FaultLemmas
+pub mod ValueLemmas
+pub mod PairLemmas
+pub mod ThereLemmas
+pub mod IndexLemmas
+pub mod LawfulLemmas

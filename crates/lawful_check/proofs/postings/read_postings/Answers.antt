@@ -1,0 +1,16 @@
+use Rattle.std.proofs.Common.{◌/◌, subst, sym}
+use Rattle.attr_images.specs.Postings.{form_of}
+use Rattle.image_check.specs.Seen.{seen}
+use Rattle.image_check.specs.declared.keys.Keys.TheVariants.{Numbers}
+use Rattle.lawful_check.proofs.FaultLemmas.{tree_told, form-tree}
+use Rattle.lawful_check.specs.Faults.{IsFault}
+use Rattle.lawful_check.specs.declared.fault.ImageFault.TheVariants.{Postings}
+use Rattle.lawful_check.proofs.postings.read_postings.Goals as goal
+
+pub returns-in-Err-clause-named : goal.returns-in-Err-clause-named
+returns-in-Err-clause-named c = λ kind type documents dictionary ref among.
+    let m = seen c.args.records.now in
+    let word = c.args.word in
+    subst (IsFault kind type m documents dictionary) (sym c.unless_memory.ensures)
+    (tree_told kind type m documents dictionary Numbers (word / 2) c.in-Err.fault (Postings word c.in-Err.fault) c.in-Err.ensures.named
+    (λ own. (ref, among, (word / 2, form-tree word c.if-word-eq0.false, own))))

@@ -1,0 +1,4 @@
+pub mod Told
+pub mod Weights
+pub mod Faults
+pub mod Laws
