@@ -2,7 +2,7 @@
 use Rattle.std.proofs.Common.{◌≡◌, ◌≢◌, ℕ, ◌/◌, ◌%◌, Bool, refl, ap, ne_eqb}
 use Rattle.std.specs.Prelude.{if◌then◌else◌}
 use Rattle.image_base.specs.Records.{Records}
-use Rattle.attr_images.specs.Postings.{ListForm, short, tree, form_of}
+use Rattle.attr_images.specs.Postings.{short, tree, form_of}
 use Rattle.attr_types.specs.declared.kind.Kind.{Kind}
 use Rattle.attr_types.specs.declared.kind.ValueType.{ValueType}
 use Rattle.image_check.specs.Faults.{IsNamed}

@@ -1,17 +1,17 @@
 -- A dictionary with the right lists has exactly the values of a table, if it has all of them.
-use Rattle.std.proofs.Common.{◌≡◌, ◌≢◌, ℕ, zero, suc, ◌<◌, ◌≤◌, Bool, true, false, cond, List, [], ◌∷◌, ◌++◌, length, map, get_or, Option, Some, None, option_map, Equal, is_eq, refl, sym, ap, subst, ◌∙◌, arith}
-use Rattle.std.specs.Prelude.{ℤ, Contains, ◌↔◌}
+use Rattle.std.proofs.Common.{◌≡◌, ℕ, ◌<◌, Bool, true, false, cond, List, [], ◌∷◌, ◌++◌, length, map, Option, Some, None, option_map, is_eq, refl, sym, ap, subst, arith}
+use Rattle.std.specs.Prelude.{ℤ, Contains}
 use Rattle.std.proofs.lemmas.List.{length-map}
 use Rattle.std.proofs.lemmas.List.Elements.{All-contains, All-from_recursion, Contains-append_left, Contains-append_right}
 use Rattle.std.specs.Cmp.{Equal-is}
-use Rattle.std.specs.List.{find, filter_map, flat_map, cons_option, AllByRecursion}
+use Rattle.std.specs.List.{find, cons_option, AllByRecursion}
 use Rattle.std.specs.List.Sorted.{IsStrictlySortedBy}
 use Rattle.std.specs.Map.{keys_of}
 use Rattle.std.specs.Ordering.{nat_cmp}
 use Rattle.image_base.specs.Records.{Records}
 use Rattle.attr_images.specs.Documents.{items_at, documents_table}
 use Rattle.attr_images.specs.Images.{table_values, documents_with, HasValues, HasLists}
-use Rattle.attr_images.specs.Postings.{ListForm, short, tree, form_of, list_at, IsList, index_of, IsEntryOf}
+use Rattle.attr_images.specs.Postings.{ListForm, short, tree, form_of, list_at, IsList, IsEntryOf}
 use Rattle.attr_images.specs.Trees.{tree_pairs, by_number, IsTree}
 use Rattle.attr_images.specs.Values.{value_at}
 use Rattle.attr_images.specs.Words.{items_of, unpacked, weight_of}

@@ -1,17 +1,16 @@
 -- An image is lawful by its root record and its attribute; and what a fault refutes.
-use Rattle.std.proofs.Common.{◌≡◌, ℕ, zero, suc, ◌<◌, List, [], ◌∷◌, length, map, Result, Ok, Err, refl, sym, ap, subst, ◌∙◌, arith}
+use Rattle.std.proofs.Common.{◌≡◌, ℕ, zero, suc, ◌<◌, List, Result, Ok, Err, refl, sym, ap, subst, ◌∙◌, arith}
 use Rattle.std.specs.Prelude.{Contains, OnOk, IfErr, slice_index}
 use Rattle.std.proofs.lemmas.List.Elements.{All-contains, All-from_recursion}
 use Rattle.std.specs.List.{AllByRecursion}
-use Rattle.std.specs.Map.{keys_of}
 use Rattle.image_base.specs.Records.{Records}
 use Rattle.attr_images.proofs.ImageLemmas.{shape_tells}
 use Rattle.attr_images.specs.Documents.{AreItems, documents_table}
-use Rattle.attr_images.specs.Images.{documents_at, dictionary_at, documents_with, IsRootRecord, AreFormed, IsLawfulAttribute, IsLawfulImage, IsLawful}
-use Rattle.attr_images.specs.Postings.{ListForm, form_of, tree, IsList, list_at, index_of, IsEntryOf}
+use Rattle.attr_images.specs.Images.{documents_at, dictionary_at, documents_with, IsRootRecord, IsLawfulAttribute, IsLawful}
+use Rattle.attr_images.specs.Postings.{form_of, tree, IsList, list_at, IsEntryOf}
 use Rattle.attr_images.specs.Shapes.{shape_of, kind_of_shape, type_of_shape}
 use Rattle.attr_images.specs.Trees.{tree_pairs}
-use Rattle.attr_images.specs.Values.{value_at, IsValueRecord}
+use Rattle.attr_images.specs.Values.{value_at}
 use Rattle.attr_types.specs.Lawful.{IsDocument, IsLawfulItems}
 use Rattle.attr_types.specs.declared.items.Item.{Item}
 use Rattle.attr_types.specs.declared.kind.Kind.{Kind}

@@ -1,14 +1,13 @@
 -- Records that have their form are there.
-use Rattle.std.proofs.Common.{◌≡◌, ℕ, zero, suc, ◌<◌, List, [], ◌∷◌, ◌++◌, length, map, sym, ap, subst, ◌∙◌, arith, length-append}
+use Rattle.std.proofs.Common.{◌≡◌, ℕ, zero, suc, ◌<◌, List, [], ◌∷◌, ◌++◌, length, map, ap, arith, length-append}
 use Rattle.std.specs.Prelude.{ℤ}
 use Rattle.std.specs.List.{flat_map, AllByRecursion}
-use Rattle.std.specs.Ordering.{nat_cmp}
 use Rattle.image_base.specs.Records.{Records, AllThere}
 use Rattle.attr_images.proofs.TreeLemmas.{nodes_there}
 use Rattle.attr_images.specs.Documents.{weighted, items_reach, AreItems, documents_reach}
 use Rattle.attr_images.specs.Images.{trees_reach, AreFormed}
 use Rattle.attr_images.specs.Postings.{ListForm, short, tree, form_of, IsList, list_reach, IsEntryOf, dictionary_reach}
-use Rattle.attr_images.specs.Trees.{nodes_below, tree_pairs, tree_nodes, root_level, root_least, IsTree, IsRootNode}
+use Rattle.attr_images.specs.Trees.{nodes_below, tree_pairs, tree_nodes, root_level, root_least, IsRootNode}
 use Rattle.attr_images.specs.Values.{value_words, value_of, IsValueRecord}
 use Rattle.attr_images.specs.Words.{filled, items_of, IsStoredList}
 use Rattle.attr_types.specs.declared.kind.Kind.{Kind}

@@ -1,5 +1,5 @@
 -- Words with zeros behind them, and lists of a count and items.
-use Rattle.std.proofs.Common.{◌≡◌, ℕ, zero, suc, ◌+◌, ◌<◌, ◌≤◌, Bool, true, false, cond, nat_le, leb-true, List, [], ◌∷◌, length, get_or, drop, refl, sym, ap, Some, ◌∙◌, arith}
+use Rattle.std.proofs.Common.{◌≡◌, ℕ, zero, suc, ◌+◌, ◌<◌, Bool, true, false, cond, nat_le, leb-true, List, [], ◌∷◌, length, get_or, drop, refl, sym, ap, Some, ◌∙◌, arith}
 use Rattle.std.specs.List.{find}
 
 pub find_next : (test : ℕ → Bool) (xs : List ℕ) (i d : ℕ) → i < length xs → test (get_or xs i d) ≡ false → find test (drop (i + 1) xs) ≡ find test (drop i xs)

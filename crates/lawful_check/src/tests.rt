@@ -86,6 +86,23 @@ fn root(first: u64, second: u64) -> [u64; 34] {
     words
 }
 
+/// Whether document 7 alone is there, with these texts of this weight.
+fn are_texts(rows: &[(u64, Value, i32)], texts: &[&str], weight: i32) -> bool {
+    for (row, text) in rows.iter().zip(texts) {
+        if row.0 != 7 || row.2 != weight {
+            return false;
+        }
+        if let Value::Text(found) = &row.1 {
+            if found.as_str() != *text {
+                return false;
+            }
+        } else {
+            return false;
+        }
+    }
+    rows.len() == texts.len()
+}
+
 #[test]
 fn texts_are_read(rt: HostRuntime) -> Result<(), AllocError> {
     let alloc = rt.alloc();
@@ -104,23 +121,10 @@ fn texts_are_read(rt: HostRuntime) -> Result<(), AllocError> {
             (4096, &[1, 30064771073]),
         ],
     )?;
-    let (te, other) = ("te", "é");
-    let rows: [(Kind, &BTreeMap<u32, Vec<u64>>, &[(&str, i32)]); 2] = [
-        (Kind::WeightedSet, &set, &[(te, -3)]),
-        (Kind::Array, &array, &[(other, 1), (te, 1), (other, 1)]),
-    ];
-    for (kind, records, wanted) in rows {
-        let found = rows_of(
-            alloc,
-            check_image(alloc, kind, ValueType::Text, records, 1027),
-        )?;
-        assert_eq!(rt; found.len(), wanted.len());
-        for (row, item) in found.iter().zip(wanted) {
-            assert_eq!(rt; row.0, 7);
-            assert!(rt; matches!(&row.1, Value::Text(text) if text.as_str() == item.0));
-            assert_eq!(rt; row.2, item.1);
-        }
-    }
+    let found = check_image(alloc, Kind::WeightedSet, ValueType::Text, &set, 1027);
+    assert!(rt; are_texts(&rows_of(alloc, found)?, &["te"], -3));
+    let found = check_image(alloc, Kind::Array, ValueType::Text, &array, 1027);
+    assert!(rt; are_texts(&rows_of(alloc, found)?, &["é", "te", "é"], 1));
     Ok(())
 }
 

@@ -1,4 +1,4 @@
-use Rattle.std.proofs.Common.{◌≡◌, drop, option_map}
+use Rattle.std.proofs.Common.{◌≡◌, drop}
 use Rattle.std.specs.List.{find}
 use Rattle.std.specs.Ordering.{is_eq}
 use Rattle.attr_types.specs.Value.{value_cmp}

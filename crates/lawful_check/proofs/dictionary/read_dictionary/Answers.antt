@@ -1,4 +1,4 @@
-use Rattle.std.proofs.Common.{ℕ, List, get_or, refl, subst}
+use Rattle.std.proofs.Common.{ℕ, List, get_or, subst}
 use Rattle.std.specs.Prelude.{Contains}
 use Rattle.std.proofs.lemmas.List.Elements.{Contains-get_or}
 use Rattle.std.proofs.lemmas.Result.{err_from_is_err_and}

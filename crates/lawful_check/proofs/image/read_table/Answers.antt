@@ -2,7 +2,7 @@ use Rattle.std.proofs.Common.{ℕ, List, map, ap, subst, ◌∙◌}
 use Rattle.std.proofs.lemmas.Result.{err_from_is_err_and}
 use Rattle.std.specs.List.{AllByRecursion}
 use Rattle.std.specs.Map.{keys_of}
-use Rattle.attr_images.specs.Documents.{items_at, documents_table}
+use Rattle.attr_images.specs.Documents.{items_at}
 use Rattle.attr_types.specs.Lawful.{IsDocument, IsLawfulItems}
 use Rattle.attr_types.specs.Table.{Table}
 use Rattle.attr_types.specs.declared.items.Item.{Item}

@@ -1,5 +1,3 @@
-use Rattle.std.proofs.Common.{List, subst, sym, ◌∙◌}
-use Rattle.attr_images.specs.Documents.{weighted, IsItemsRecord}
 use Rattle.image_check.specs.Seen.{seen}
 use Rattle.lawful_check.proofs.ItemLemmas.{items_told}
 use Rattle.lawful_check.proofs.items.read_items.Goals as goal

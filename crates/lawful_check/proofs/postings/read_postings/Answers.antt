@@ -1,5 +1,4 @@
 use Rattle.std.proofs.Common.{◌/◌, subst, sym}
-use Rattle.attr_images.specs.Postings.{form_of}
 use Rattle.image_check.specs.Seen.{seen}
 use Rattle.image_check.specs.declared.keys.Keys.TheVariants.{Numbers}
 use Rattle.lawful_check.proofs.FaultLemmas.{tree_told, form-tree}

@@ -1,4 +1,4 @@
-use Rattle.std.proofs.Common.{◌≡◌, ℕ, ◌<◌, get_or, arith}
+use Rattle.std.proofs.Common.{arith}
 use Rattle.lawful_check.proofs.TextLemmas.{eight_is}
 use Rattle.lawful_check.proofs.values.eight_of.Goals as goal
 

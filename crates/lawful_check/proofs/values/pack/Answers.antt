@@ -1,4 +1,4 @@
-use Rattle.std.proofs.Common.{◌≡◌, ◌+◌, ◌-◌, ◌/◌, ◌++◌, ◌∷◌, [], ℕ, List, length, take, replicate, ap, ◌∙◌, subst, sym}
+use Rattle.std.proofs.Common.{◌+◌, ◌-◌, ◌/◌, ◌++◌, ◌∷◌, [], ℕ, List, length, ap, ◌∙◌}
 use Rattle.std.specs.Int.{from_be_bytes, w64}
 use Rattle.attr_images.specs.Values.{packed_bytes}
 use Rattle.lawful_check.proofs.TextLemmas.{pack_step}

@@ -1,4 +1,4 @@
-use Rattle.std.proofs.Common.{◌≡◌, ◌<◌, get_or, nat_le, ◌∙◌, arith}
+use Rattle.std.proofs.Common.{◌<◌, get_or, nat_le, ◌∙◌, arith}
 use Rattle.attr_images.specs.Words.{widths}
 use Rattle.lawful_check.proofs.WordLemmas.{find_next, too_many}
 use Rattle.lawful_check.proofs.words.class_of.Goals as goal
