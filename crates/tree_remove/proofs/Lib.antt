@@ -1,0 +1,8 @@
+pub mod StandLemmas
+pub mod SettleLemmas
+pub mod ParentLemmas
+pub mod ReadLemmas
+pub mod Results
+pub mod StepLemmas
+pub mod RemoveLemmas
+pub mod TreeLemmas

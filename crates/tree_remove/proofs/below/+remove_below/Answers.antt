@@ -1,0 +1,340 @@
+use Rattle.std.proofs.Common.{◌≡◌, ℕ, suc, ◌-◌, ◌<◌, ◌≤◌, [], ◌∷◌, ◌++◌, length, true, sym, ap, subst, ◌∙◌, arith, Err}
+use Rattle.std.specs.Prelude.{IsSome}
+use Rattle.attr_images.specs.Nodes.{level_of}
+use Rattle.attr_images.specs.Trees.{pairs_below, IsNode, root_least}
+use Rattle.key_order.specs.Keys.{seen_by, Ascends, AllReadable}
+use Rattle.key_order.specs.Pairs.{lookup}
+use Rattle.tree_node.specs.Slots.{slot_pairs, IsInHand}
+use Rattle.tree_remove.proofs.Results.{err_same}
+use Rattle.tree_remove.proofs.ReadLemmas.{node-level}
+use Rattle.tree_remove.proofs.RemoveLemmas.{root_least-few, removes-leaf, removes-over, over-few, over-least, over-most, over-hand}
+use Rattle.tree_remove.proofs.StandLemmas.{node-weaker}
+use Rattle.tree_remove.specs.Removes.{Removes, PutsBack, IsStep, spliced}
+use Rattle.tree_remove.proofs.below.+remove_below.Goals as goal
+
+pub returns-then-level-eq0-clause-removes : goal.returns-then-level-eq0-clause-removes
+returns-then-level-eq0-clause-removes g t c =
+    let records = g.S.Frozen.records in
+    let ledger = g.S.Store.ledger in
+    let m = records c.args.store.now in
+    let node = c.args.node in
+    let before = c.args.replaced.now.items in
+    let k = g.K.KeyOrder in
+    let seen = seen_by k.read k.order (k.sought c.args.key.now) m in
+    let leaf = c.remove_in_leaf in
+    let pushed : c.push.new.self.items ≡ before ++ (node ∷ []) = c.push.ensures.items ∙ ap (λ (r : ℕ). before ++ (r ∷ [])) c.raw.ensures in
+    subst (λ f. Removes seen (ledger c.args.store.now) (ledger f) m (records f) c.args.level node before c.push.new.self.items leaf.result.keys.items leaf.result.values.items) (sym leaf.ensures.same)
+    (subst (λ n. Removes seen (ledger c.args.store.now) (ledger c.args.store.now) m m n node before c.push.new.self.items leaf.result.keys.items leaf.result.values.items) (sym c.if-level-eq0.true)
+    (removes-leaf seen (ledger c.args.store.now) m node before c.push.new.self.items leaf.result.keys.items leaf.result.values.items leaf.ensures.even leaf.ensures.pairs leaf.ensures.size pushed))
+
+pub step_down-step-requires-clause-inner : goal.step_down-step-requires-clause-inner
+step_down-step-requires-clause-inner g t c =
+    let records = g.S.Frozen.records in
+    let m = records c.args.store.now in
+    let node = c.args.node in
+    let level = c.args.level in
+    let at = node-level m (root_least level) level node c.requires.node in
+    let l = level - 1 in
+    let some = c.if-level-eq0.false in
+    let up : level ≡ suc l = omega arith in
+    omega arith
+
+pub step_down-step-requires-clause-node : goal.step_down-step-requires-clause-node
+step_down-step-requires-clause-node g t c =
+    let records = g.S.Frozen.records in
+    let m = records c.args.store.now in
+    let node = c.args.node in
+    let level = c.args.level in
+    let at = node-level m (root_least level) level node c.requires.node in
+    let l = level - 1 in
+    let some = c.if-level-eq0.false in
+    let up : level ≡ suc l = omega arith in
+    subst (λ n. IsNode m 2 n node) (sym at) (subst (λ n. IsNode m n level node) (ap root_least up) c.requires.node)
+
+pub step_down-step-requires-clause-ascends : goal.step_down-step-requires-clause-ascends
+step_down-step-requires-clause-ascends g t c =
+    let records = g.S.Frozen.records in
+    let m = records c.args.store.now in
+    let node = c.args.node in
+    let level = c.args.level in
+    let at = node-level m (root_least level) level node c.requires.node in
+    subst (λ n. Ascends g.K.KeyOrder.order g.K.KeyOrder.read m (pairs_below m n node)) (sym at) c.requires.ascends
+
+pub step_down-step-requires-clause-readable : goal.step_down-step-requires-clause-readable
+step_down-step-requires-clause-readable g t c =
+    let records = g.S.Frozen.records in
+    let m = records c.args.store.now in
+    let node = c.args.node in
+    let level = c.args.level in
+    let at = node-level m (root_least level) level node c.requires.node in
+    subst (λ n. AllReadable g.K.KeyOrder.can_read m (pairs_below m n node)) (sym at) c.requires.readable
+
+pub step_down-step-requires-clause-there : goal.step_down-step-requires-clause-there
+step_down-step-requires-clause-there g t c =
+    let records = g.S.Frozen.records in
+    let m = records c.args.store.now in
+    let node = c.args.node in
+    let level = c.args.level in
+    let at = node-level m (root_least level) level node c.requires.node in
+    let k = g.K.KeyOrder in
+    subst (λ n. IsSome (lookup (seen_by k.read k.order (k.sought c.args.key.now) m) (pairs_below m n node))) (sym at) c.requires.there
+
+pub remove_below-requires : goal.remove_below-requires
+remove_below-requires g t c =
+    let records = g.S.Frozen.records in
+    let m = records c.args.store.now in
+    let node = c.args.node in
+    let level = c.args.level in
+    let at = node-level m (root_least level) level node c.requires.node in
+    let l = level - 1 in
+    let some = c.if-level-eq0.false in
+    let up : level ≡ suc l = omega arith in
+    let k = g.K.KeyOrder in
+    let s = k.sought c.args.key.now in
+    let seen = seen_by k.read k.order s m in
+    let slots = c.step_down-step.result.slots in
+    let place = c.step_down-step.result.place in
+    let child = c.step_down-step.result.child in
+    let same = c.step_down-step.ensures.same in
+    let down : level_of (m node) - 1 ≡ l = ap (λ n. n - 1) at in
+    let step = subst (λ n. IsStep seen m n node slots.keys.items slots.values.items place child) down c.step_down-step.ensures.step in
+    let low = c.requires.low in
+    let room = c.requires.room in
+    let size = c.push.ensures.len in
+    let few : root_least l ≤ 8 = root_least-few l in
+    let ascends = subst (λ n. Ascends k.order k.read m (pairs_below m n child)) down c.step_down-step.ensures.ascends in
+    let readable = subst (λ n. AllReadable k.can_read m (pairs_below m n child)) down c.step_down-step.ensures.readable in
+    let sub = step.child_node in
+    λ κs h. (
+      omega arith,
+      (
+        h.0,
+        (
+          h.1.0,
+          (
+            h.1.1.0,
+            (
+              h.1.1.1.0,
+              (
+                h.1.1.1.1,
+                (
+                  subst (λ f. (g.S.Store.ledger f).unit ≡ true) (sym same) c.requires.unit,
+                  (
+                    omega arith,
+                    (
+                      subst (λ f. IsNode (records f) (root_least l) l child) (sym same) (node-weaker m l 8 (root_least l) child few sub),
+                      (
+                        subst (λ f. Ascends k.order k.read (records f) (pairs_below (records f) l child)) (sym same) ascends,
+                        (
+                          subst (λ f. AllReadable k.can_read (records f) (pairs_below (records f) l child)) (sym same) readable,
+                          (
+                            subst (λ f. IsSome (lookup (seen_by k.read k.order s (records f)) (pairs_below (records f) l child))) (sym same) step.there,
+                            omega arith,
+                          ),
+                        ),
+                      ),
+                    ),
+                  ),
+                ),
+              ),
+            ),
+          ),
+        ),
+      ),
+    )
+
+pub put_back-requires-clause-upper : goal.put_back-requires-clause-upper
+put_back-requires-clause-upper g t c =
+    let records = g.S.Frozen.records in
+    let m = records c.args.store.now in
+    let node = c.args.node in
+    let level = c.args.level in
+    let at = node-level m (root_least level) level node c.requires.node in
+    let l = level - 1 in
+    let some = c.if-level-eq0.false in
+    let up : level ≡ suc l = omega arith in
+    let a = c.step_down-step.ensures.level in
+    let b = c.in_ok-child.ensures.level in
+    omega arith
+
+pub put_back-requires-clause-parent : goal.put_back-requires-clause-parent
+put_back-requires-clause-parent g t c =
+    let records = g.S.Frozen.records in
+    let m = records c.args.store.now in
+    let node = c.args.node in
+    let level = c.args.level in
+    let at = node-level m (root_least level) level node c.requires.node in
+    let l = level - 1 in
+    let some = c.if-level-eq0.false in
+    let up : level ≡ suc l = omega arith in
+    let k = g.K.KeyOrder in
+    let s = k.sought c.args.key.now in
+    let seen = seen_by k.read k.order s m in
+    let slots = c.step_down-step.result.slots in
+    let place = c.step_down-step.result.place in
+    let child = c.step_down-step.result.child in
+    let same = c.step_down-step.ensures.same in
+    let down : level_of (m node) - 1 ≡ l = ap (λ n. n - 1) at in
+    let step = subst (λ n. IsStep seen m n node slots.keys.items slots.values.items place child) down c.step_down-step.ensures.step in
+    let ledger = g.S.Store.ledger in
+    let old = ledger c.args.store.now in
+    let mid = ledger c.remove_below.new.store in
+    let n = records c.remove_below.new.store in
+    let below = c.in_ok-child.child in
+    let before = c.args.replaced.now.items in
+    let middle = c.remove_below.new.replaced.items in
+    let pushed : c.push.new.self.items ≡ before ++ (node ∷ []) = c.push.ensures.items ∙ ap (λ (r : ℕ). before ++ (r ∷ [])) c.raw.ensures in
+    let removes = subst (λ xs. Removes seen old mid m n l child xs middle below.keys.items below.values.items) pushed
+    (subst (λ f. Removes (seen_by k.read k.order s (records f)) (ledger f) mid (records f) n l child c.push.new.self.items middle below.keys.items below.values.items) same c.in_ok-child.ensures.removes) in
+    let there = subst (λ j. IsSome (lookup seen (pairs_below m j node))) up c.requires.there in
+    subst (λ j. IsInHand n (suc j) slots.keys.items slots.values.items) (sym c.in_ok-child.ensures.level) (over-hand seen old mid m n l node slots.keys.items slots.values.items place child step before middle below.keys.items below.values.items removes)
+
+pub put_back-requires-clause-least : goal.put_back-requires-clause-least
+put_back-requires-clause-least g t c =
+    let records = g.S.Frozen.records in
+    let m = records c.args.store.now in
+    let node = c.args.node in
+    let level = c.args.level in
+    let at = node-level m (root_least level) level node c.requires.node in
+    let l = level - 1 in
+    let some = c.if-level-eq0.false in
+    let up : level ≡ suc l = omega arith in
+    let k = g.K.KeyOrder in
+    let s = k.sought c.args.key.now in
+    let seen = seen_by k.read k.order s m in
+    let slots = c.step_down-step.result.slots in
+    let place = c.step_down-step.result.place in
+    let child = c.step_down-step.result.child in
+    let same = c.step_down-step.ensures.same in
+    let down : level_of (m node) - 1 ≡ l = ap (λ n. n - 1) at in
+    let step = subst (λ n. IsStep seen m n node slots.keys.items slots.values.items place child) down c.step_down-step.ensures.step in
+    let ledger = g.S.Store.ledger in
+    let old = ledger c.args.store.now in
+    let mid = ledger c.remove_below.new.store in
+    let n = records c.remove_below.new.store in
+    let below = c.in_ok-child.child in
+    let before = c.args.replaced.now.items in
+    let middle = c.remove_below.new.replaced.items in
+    let pushed : c.push.new.self.items ≡ before ++ (node ∷ []) = c.push.ensures.items ∙ ap (λ (r : ℕ). before ++ (r ∷ [])) c.raw.ensures in
+    let removes = subst (λ xs. Removes seen old mid m n l child xs middle below.keys.items below.values.items) pushed
+    (subst (λ f. Removes (seen_by k.read k.order s (records f)) (ledger f) mid (records f) n l child c.push.new.self.items middle below.keys.items below.values.items) same c.in_ok-child.ensures.removes) in
+    let there = subst (λ j. IsSome (lookup seen (pairs_below m j node))) up c.requires.there in
+    over-least seen old mid m n l node slots.keys.items slots.values.items place child step before middle below.keys.items below.values.items removes
+
+pub put_back-requires-clause-room : goal.put_back-requires-clause-room
+put_back-requires-clause-room g t c =
+    let records = g.S.Frozen.records in
+    let m = records c.args.store.now in
+    let node = c.args.node in
+    let level = c.args.level in
+    let at = node-level m (root_least level) level node c.requires.node in
+    let l = level - 1 in
+    let some = c.if-level-eq0.false in
+    let up : level ≡ suc l = omega arith in
+    let k = g.K.KeyOrder in
+    let s = k.sought c.args.key.now in
+    let seen = seen_by k.read k.order s m in
+    let slots = c.step_down-step.result.slots in
+    let place = c.step_down-step.result.place in
+    let child = c.step_down-step.result.child in
+    let same = c.step_down-step.ensures.same in
+    let down : level_of (m node) - 1 ≡ l = ap (λ n. n - 1) at in
+    let step = subst (λ n. IsStep seen m n node slots.keys.items slots.values.items place child) down c.step_down-step.ensures.step in
+    let ledger = g.S.Store.ledger in
+    let old = ledger c.args.store.now in
+    let mid = ledger c.remove_below.new.store in
+    let n = records c.remove_below.new.store in
+    let below = c.in_ok-child.child in
+    let before = c.args.replaced.now.items in
+    let middle = c.remove_below.new.replaced.items in
+    let pushed : c.push.new.self.items ≡ before ++ (node ∷ []) = c.push.ensures.items ∙ ap (λ (r : ℕ). before ++ (r ∷ [])) c.raw.ensures in
+    let removes = subst (λ xs. Removes seen old mid m n l child xs middle below.keys.items below.values.items) pushed
+    (subst (λ f. Removes (seen_by k.read k.order s (records f)) (ledger f) mid (records f) n l child c.push.new.self.items middle below.keys.items below.values.items) same c.in_ok-child.ensures.removes) in
+    let there = subst (λ j. IsSome (lookup seen (pairs_below m j node))) up c.requires.there in
+    over-most seen old mid m n l node slots.keys.items slots.values.items place child step before middle below.keys.items below.values.items removes
+
+pub put_back-requires-clause-few : goal.put_back-requires-clause-few
+put_back-requires-clause-few g t c =
+    let records = g.S.Frozen.records in
+    let m = records c.args.store.now in
+    let node = c.args.node in
+    let level = c.args.level in
+    let at = node-level m (root_least level) level node c.requires.node in
+    let l = level - 1 in
+    let some = c.if-level-eq0.false in
+    let up : level ≡ suc l = omega arith in
+    let k = g.K.KeyOrder in
+    let s = k.sought c.args.key.now in
+    let seen = seen_by k.read k.order s m in
+    let slots = c.step_down-step.result.slots in
+    let place = c.step_down-step.result.place in
+    let child = c.step_down-step.result.child in
+    let same = c.step_down-step.ensures.same in
+    let down : level_of (m node) - 1 ≡ l = ap (λ n. n - 1) at in
+    let step = subst (λ n. IsStep seen m n node slots.keys.items slots.values.items place child) down c.step_down-step.ensures.step in
+    let ledger = g.S.Store.ledger in
+    let old = ledger c.args.store.now in
+    let mid = ledger c.remove_below.new.store in
+    let n = records c.remove_below.new.store in
+    let below = c.in_ok-child.child in
+    let before = c.args.replaced.now.items in
+    let middle = c.remove_below.new.replaced.items in
+    let pushed : c.push.new.self.items ≡ before ++ (node ∷ []) = c.push.ensures.items ∙ ap (λ (r : ℕ). before ++ (r ∷ [])) c.raw.ensures in
+    let removes = subst (λ xs. Removes seen old mid m n l child xs middle below.keys.items below.values.items) pushed
+    (subst (λ f. Removes (seen_by k.read k.order s (records f)) (ledger f) mid (records f) n l child c.push.new.self.items middle below.keys.items below.values.items) same c.in_ok-child.ensures.removes) in
+    let there = subst (λ j. IsSome (lookup seen (pairs_below m j node))) up c.requires.there in
+    subst (λ j. length (spliced n j place slots.keys.items slots.values.items (slot_pairs n j below.keys.items below.values.items)) < 4294967296) (sym c.in_ok-child.ensures.level)
+    (over-few seen old mid m n l node slots.keys.items slots.values.items place child step before middle below.keys.items below.values.items removes there)
+
+pub returns-clause-removes : goal.returns-clause-removes
+returns-clause-removes g t c =
+    let records = g.S.Frozen.records in
+    let m = records c.args.store.now in
+    let node = c.args.node in
+    let level = c.args.level in
+    let at = node-level m (root_least level) level node c.requires.node in
+    let l = level - 1 in
+    let some = c.if-level-eq0.false in
+    let up : level ≡ suc l = omega arith in
+    let k = g.K.KeyOrder in
+    let s = k.sought c.args.key.now in
+    let seen = seen_by k.read k.order s m in
+    let slots = c.step_down-step.result.slots in
+    let place = c.step_down-step.result.place in
+    let child = c.step_down-step.result.child in
+    let same = c.step_down-step.ensures.same in
+    let down : level_of (m node) - 1 ≡ l = ap (λ n. n - 1) at in
+    let step = subst (λ n. IsStep seen m n node slots.keys.items slots.values.items place child) down c.step_down-step.ensures.step in
+    let ledger = g.S.Store.ledger in
+    let old = ledger c.args.store.now in
+    let mid = ledger c.remove_below.new.store in
+    let n = records c.remove_below.new.store in
+    let below = c.in_ok-child.child in
+    let before = c.args.replaced.now.items in
+    let middle = c.remove_below.new.replaced.items in
+    let pushed : c.push.new.self.items ≡ before ++ (node ∷ []) = c.push.ensures.items ∙ ap (λ (r : ℕ). before ++ (r ∷ [])) c.raw.ensures in
+    let removes = subst (λ xs. Removes seen old mid m n l child xs middle below.keys.items below.values.items) pushed
+    (subst (λ f. Removes (seen_by k.read k.order s (records f)) (ledger f) mid (records f) n l child c.push.new.self.items middle below.keys.items below.values.items) same c.in_ok-child.ensures.removes) in
+    let there = subst (λ j. IsSome (lookup seen (pairs_below m j node))) up c.requires.there in
+    let last = c.put_back.new.slots in
+    let after = c.put_back.new.replaced.items in
+    let new = ledger c.put_back.new.store in
+    let o = records c.put_back.new.store in
+    let puts = subst (λ j. PutsBack mid new n o j place slots.keys.items slots.values.items below.keys.items below.values.items middle after last.keys.items last.values.items) c.in_ok-child.ensures.level c.in_ok-put_back.ensures.puts in
+    subst (λ j. Removes seen old new m o j node before after last.keys.items last.values.items) (sym up)
+    (removes-over seen old mid m n l node slots.keys.items slots.values.items place child step before middle below.keys.items below.values.items removes new o after last.keys.items last.values.items puts)
+
+pub returns-clause-level : goal.returns-clause-level
+returns-clause-level g t c =
+    let records = g.S.Frozen.records in
+    let m = records c.args.store.now in
+    let node = c.args.node in
+    let level = c.args.level in
+    let at = node-level m (root_least level) level node c.requires.node in
+    c.put_back.ensures.level ∙ c.step_down-step.ensures.level ∙ at
+
+pub returns-in_err-child-clause-full : goal.returns-in_err-child-clause-full
+returns-in_err-child-clause-full g t c = λ w a h e. c.in_err-child.ensures.full w a h (ap Err (err_same c.from_residual.result c.in_err-child.field-0.0 _ c.from_residual.ensures.1 e))
+
+pub returns-in_err-put_back-clause-full : goal.returns-in_err-put_back-clause-full
+returns-in_err-put_back-clause-full g t c = λ w a h e. c.in_err-put_back.ensures.full w a h (ap Err (err_same c.from_residual-in_err-put_back.result c.in_err-put_back.field-0.0 _ c.from_residual-in_err-put_back.ensures.1 e))

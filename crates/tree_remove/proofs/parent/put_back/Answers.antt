@@ -1,0 +1,161 @@
+use Rattle.std.proofs.Common.{◌≡◌, suc, ◌-◌, ◌<◌, ◌≤◌, ◌++◌, length, get_or, refl, sym, subst, arith, Err, ap}
+use Rattle.tree_node.proofs.SlotLemmas.{hand-append}
+use Rattle.tree_node.specs.Slots.{slot_pairs, slot_nodes, IsInHand}
+use Rattle.tree_remove.proofs.ParentLemmas.{puts-alone, puts-left, puts-right, few-before, few-behind}
+use Rattle.tree_remove.proofs.Results.{on_ok-then, err_same}
+use Rattle.tree_remove.proofs.SettleLemmas.{settles-alone}
+use Rattle.tree_remove.specs.Removes.{IsChild, PutsBack, spliced}
+use Rattle.tree_remove.specs.Settles.{Settles}
+use Rattle.tree_remove.proofs.parent.put_back.Goals as goal
+
+pub returns-then-len-ge8-clause-puts : goal.returns-then-len-ge8-clause-puts
+returns-then-len-ge8-clause-puts g c =
+    let ledger = g.S.Store.ledger in
+    let records = g.S.Frozen.records in
+    let m = records c.args.store.now in
+    let n = records c.make_part.new.store in
+    let slots = c.args.slots.now in
+    let child = c.args.child.now in
+    let part = c.in_ok-part.part in
+    let many : 8 ≤ length child.keys.items = omega arith in
+    let settles = settles-alone (ledger c.args.store.now) (ledger c.make_part.new.store) m n child.level child.keys.items child.values.items
+    part.key part.node c.in_ok-part.ensures.makes.node c.in_ok-part.ensures.makes.key many c.args.place slots.keys.items slots.values.items
+    c.set_part.new.slots.keys.items c.set_part.new.slots.values.items c.requires.parent.even c.requires.place c.set_part.ensures.keys c.set_part.ensures.values in
+    puts-alone (ledger c.args.store.now) (ledger c.make_part.new.store) m n child.level slots.keys.items slots.values.items child.keys.items child.values.items
+    c.args.replaced.now.items c.args.replaced.now.items c.set_part.new.slots.keys.items c.set_part.new.slots.values.items
+    c.requires.parent c.requires.hand c.args.place c.requires.place refl settles
+
+pub make_neighbours-requires-clause-hand : goal.make_neighbours-requires-clause-hand
+make_neighbours-requires-clause-hand g c =
+    let records = g.S.Frozen.records in
+    let child = c.args.child.now in
+    let left = c.read_child-left.result in
+    let same = c.read_child-left.ensures.same in
+    let level : child.level ≡ left.level = (let a = c.requires.upper in let b = c.read_child-left.ensures.level in omega arith) in
+    let hand = subst (λ l. IsInHand (records c.args.store.now) l child.keys.items child.values.items) level c.requires.hand in
+    subst (λ s. IsInHand (records s) left.level (left.keys.items ++ child.keys.items) (left.values.items ++ child.values.items)) (sym same)
+    (hand-append (records c.args.store.now) left.level left.keys.items left.values.items child.keys.items child.values.items c.read_child-left.ensures.child.hand hand)
+
+pub make_neighbours-requires-clause-few : goal.make_neighbours-requires-clause-few
+make_neighbours-requires-clause-few g c =
+    let records = g.S.Frozen.records in
+    let m = records c.args.store.now in
+    let slots = c.args.slots.now in
+    let child = c.args.child.now in
+    let left = c.read_child-left.result in
+    let sibling = get_or slots.values.items (c.args.place - 1) 0 in
+    let same = c.read_child-left.ensures.same in
+    let level : left.level ≡ child.level = (let a = c.requires.upper in let b = c.read_child-left.ensures.level in omega arith) in
+    let read = subst (λ l. IsChild m l sibling left.keys.items left.values.items) level c.read_child-left.ensures.child in
+    let some = c.if-place-gt0.true in
+    let low = c.requires.place in
+    let even = c.requires.parent.even in
+    let next : suc (c.args.place - 1) ≡ c.args.place = omega arith in
+    subst (λ s. length (slot_pairs (records s) left.level (left.keys.items ++ child.keys.items) (left.values.items ++ child.values.items)) < 4294967296) (sym same)
+    (subst (λ l. length (slot_pairs m l (left.keys.items ++ child.keys.items) (left.values.items ++ child.values.items)) < 4294967296) (sym level)
+    (few-before m child.level slots.keys.items slots.values.items child.keys.items child.values.items
+    c.requires.parent c.requires.hand c.args.place (c.args.place - 1) sibling 4294967296 left.keys.items left.values.items next (omega arith) refl read.hand.even read.pairs_are c.requires.few))
+
+pub make_neighbours-requires-else-place-gt0-clause-hand : goal.make_neighbours-requires-else-place-gt0-clause-hand
+make_neighbours-requires-else-place-gt0-clause-hand g c =
+    let records = g.S.Frozen.records in
+    let child = c.args.child.now in
+    let right = c.read_child-right.result in
+    let same = c.read_child-right.ensures.same in
+    let level : right.level ≡ child.level = (let a = c.requires.upper in let b = c.read_child-right.ensures.level in omega arith) in
+    let hand = subst (λ l. IsInHand (records c.args.store.now) l right.keys.items right.values.items) level c.read_child-right.ensures.child.hand in
+    subst (λ s. IsInHand (records s) child.level (child.keys.items ++ right.keys.items) (child.values.items ++ right.values.items)) (sym same)
+    (hand-append (records c.args.store.now) child.level child.keys.items child.values.items right.keys.items right.values.items c.requires.hand hand)
+
+pub make_neighbours-requires-else-place-gt0-clause-few : goal.make_neighbours-requires-else-place-gt0-clause-few
+make_neighbours-requires-else-place-gt0-clause-few g c =
+    let records = g.S.Frozen.records in
+    let m = records c.args.store.now in
+    let slots = c.args.slots.now in
+    let child = c.args.child.now in
+    let right = c.read_child-right.result in
+    let sibling = get_or slots.values.items 1 0 in
+    let same = c.read_child-right.ensures.same in
+    let level : right.level ≡ child.level = (let a = c.requires.upper in let b = c.read_child-right.ensures.level in omega arith) in
+    let read = subst (λ l. IsChild m l sibling right.keys.items right.values.items) level c.read_child-right.ensures.child in
+    let none = c.if-place-gt0.false in
+    let zero : c.args.place ≡ 0 = omega arith in
+    let many = c.requires.many in
+    let even = c.requires.parent.even in
+    let few = subst (λ p. length (spliced m child.level p slots.keys.items slots.values.items (slot_pairs m child.level child.keys.items child.values.items)) < 4294967296) zero c.requires.few in
+    subst (λ s. length (slot_pairs (records s) child.level (child.keys.items ++ right.keys.items) (child.values.items ++ right.values.items)) < 4294967296) (sym same)
+    (few-behind m child.level slots.keys.items slots.values.items child.keys.items child.values.items
+    c.requires.parent c.requires.hand sibling 4294967296 right.keys.items right.values.items (omega arith) refl read.pairs_are few)
+
+pub returns-then-place-gt0-clause-puts : goal.returns-then-place-gt0-clause-puts
+returns-then-place-gt0-clause-puts g c =
+    let ledger = g.S.Store.ledger in
+    let records = g.S.Frozen.records in
+    let m = records c.args.store.now in
+    let new = c.make_neighbours.new.store in
+    let slots = c.args.slots.now in
+    let child = c.args.child.now in
+    let left = c.read_child-left.result in
+    let after = c.make_neighbours.new.slots in
+    let first = c.args.place - 1 in
+    let sibling = get_or slots.values.items first 0 in
+    let same = c.read_child-left.ensures.same in
+    let level : left.level ≡ child.level = (let a = c.requires.upper in let b = c.read_child-left.ensures.level in omega arith) in
+    let read = subst (λ l. IsChild m l sibling left.keys.items left.values.items) level c.read_child-left.ensures.child in
+    let some = c.if-place-gt0.true in
+    let short : length child.keys.items < 8 = omega arith in
+    let next : suc first ≡ c.args.place = omega arith in
+    on_ok-then c.make_neighbours.result
+    (λ (settles : Settles (ledger c.read_child-left.new.frozen) (ledger new) (records c.read_child-left.new.frozen) (records new) left.level
+    (slot_pairs (records c.read_child-left.new.frozen) left.level (left.keys.items ++ child.keys.items) (left.values.items ++ child.values.items))
+    (slot_nodes (records c.read_child-left.new.frozen) left.level (left.values.items ++ child.values.items))
+    first 2 slots.keys.items slots.values.items after.keys.items after.values.items).
+    puts-left (ledger c.args.store.now) (ledger new) m (records new) child.level slots.keys.items slots.values.items child.keys.items child.values.items
+    c.args.replaced.now.items c.read_child-left.new.replaced.items after.keys.items after.values.items c.requires.parent c.requires.hand
+    c.args.place first sibling left.keys.items left.values.items next c.requires.place short refl read.hand read.pairs_are read.nodes_are c.read_child-left.ensures.replaced
+    (subst (λ l. Settles (ledger c.args.store.now) (ledger new) m (records new) l
+    (slot_pairs m l (left.keys.items ++ child.keys.items) (left.values.items ++ child.values.items))
+    (slot_nodes m l (left.values.items ++ child.values.items))
+    first 2 slots.keys.items slots.values.items after.keys.items after.values.items) level
+    (subst (λ s. Settles (ledger s) (ledger new) (records s) (records new) left.level
+    (slot_pairs (records s) left.level (left.keys.items ++ child.keys.items) (left.values.items ++ child.values.items))
+    (slot_nodes (records s) left.level (left.values.items ++ child.values.items))
+    first 2 slots.keys.items slots.values.items after.keys.items after.values.items) same settles)))
+    c.make_neighbours.ensures.settles
+
+pub returns-else-place-gt0-clause-puts : goal.returns-else-place-gt0-clause-puts
+returns-else-place-gt0-clause-puts g c =
+    let ledger = g.S.Store.ledger in
+    let records = g.S.Frozen.records in
+    let m = records c.args.store.now in
+    let new = c.make_neighbours-else-place-gt0.new.store in
+    let slots = c.args.slots.now in
+    let child = c.args.child.now in
+    let right = c.read_child-right.result in
+    let after = c.make_neighbours-else-place-gt0.new.slots in
+    let sibling = get_or slots.values.items 1 0 in
+    let same = c.read_child-right.ensures.same in
+    let level : right.level ≡ child.level = (let a = c.requires.upper in let b = c.read_child-right.ensures.level in omega arith) in
+    let read = subst (λ l. IsChild m l sibling right.keys.items right.values.items) level c.read_child-right.ensures.child in
+    let none = c.if-place-gt0.false in
+    let zero : c.args.place ≡ 0 = omega arith in
+    let many = c.requires.many in
+    let short : length child.keys.items < 8 = omega arith in
+    on_ok-then c.make_neighbours-else-place-gt0.result
+    (λ (settles : Settles (ledger c.read_child-right.new.frozen) (ledger new) (records c.read_child-right.new.frozen) (records new) child.level
+    (slot_pairs (records c.read_child-right.new.frozen) child.level (child.keys.items ++ right.keys.items) (child.values.items ++ right.values.items))
+    (slot_nodes (records c.read_child-right.new.frozen) child.level (child.values.items ++ right.values.items))
+    0 2 slots.keys.items slots.values.items after.keys.items after.values.items).
+    subst (λ p. PutsBack (ledger c.args.store.now) (ledger new) m (records new) child.level p slots.keys.items slots.values.items child.keys.items child.values.items
+    c.args.replaced.now.items c.read_child-right.new.replaced.items after.keys.items after.values.items) (sym zero)
+    (puts-right (ledger c.args.store.now) (ledger new) m (records new) child.level slots.keys.items slots.values.items child.keys.items child.values.items
+    c.args.replaced.now.items c.read_child-right.new.replaced.items after.keys.items after.values.items c.requires.parent c.requires.hand
+    sibling right.keys.items right.values.items (omega arith) short refl read.hand read.pairs_are read.nodes_are c.read_child-right.ensures.replaced
+    (subst (λ s. Settles (ledger s) (ledger new) (records s) (records new) child.level
+    (slot_pairs (records s) child.level (child.keys.items ++ right.keys.items) (child.values.items ++ right.values.items))
+    (slot_nodes (records s) child.level (child.values.items ++ right.values.items))
+    0 2 slots.keys.items slots.values.items after.keys.items after.values.items) same settles)))
+    c.make_neighbours-else-place-gt0.ensures.settles
+
+pub returns-in_err-part-clause-full : goal.returns-in_err-part-clause-full
+returns-in_err-part-clause-full g c = λ w a h e. c.in_err-part.ensures.full w a h (ap Err (err_same c.from_residual.result c.in_err-part.field-0.0 _ c.from_residual.ensures.1 e))
