@@ -3,3 +3,5 @@ pub mod Handed
 pub mod Views
 pub mod WidthLemmas
 pub mod Padded
+pub mod Ranges
+pub mod Puts

@@ -1,6 +1,6 @@
 -- Words in memory, one buffer after another. A buffer's first word is the width of its entries, 0 while it is free.
 -- Beside each word stands the number of the commit that was under way when it was last stored.
-use Rattle.std.specs.Prelude.{ℕ, zero, suc, ◌+◌, ◌*◌, Bool, ◌&&◌, nat_eq, nat_lt, nat_le, if◌then◌else◌, List, [], ◌∷◌, slice_index, take, drop, None, Some}
+use Rattle.std.specs.Prelude.{ℕ, zero, suc, ◌+◌, ◌*◌, Bool, ◌&&◌, nat_eq, nat_lt, nat_le, if◌then◌else◌, List, [], ◌∷◌, ◌++◌, length, slice_index, take, drop, None, Some}
 use Rattle.std.specs.List.{list_all}
 use Rattle.entry_ref.specs.References.{buffer_of, offset_of}
 use Rattle.image_base.specs.declared.Image.{Image}
@@ -16,6 +16,10 @@ width_in table words b = slice_index table (b * words)
 -- where an entry of this width begins
 abbrev pub begin_of : ℕ → ℕ → ℕ → ℕ
 begin_of words width r = buffer_of r * words + offset_of r * width
+
+-- words with others in their place from p on
+abbrev pub with_range : List ℕ → ℕ → List ℕ → List ℕ
+with_range table p ws = take p table ++ (ws ++ drop (p + length ws) table)
 
 -- whether a reference has an entry of this width
 unfoldable pub is_entry : ℕ → ℕ → ℕ → ℕ → Bool

@@ -62,7 +62,7 @@ pub cond-same : {A : Type 0} (t : Bool) (x y z : A) → (t ≡ true → x ≡ y)
 cond-same true x y z same = same refl
 cond-same false x y z same = refl
 
-and-same : (t a b : Bool) → (t ≡ true → a ≡ b) → (t && a) ≡ (t && b)
+pub and-same : (t a b : Bool) → (t ≡ true → a ≡ b) → (t && a) ≡ (t && b)
 and-same true a b same = same refl
 and-same false a b same = refl
 

@@ -1,9 +1,9 @@
-ghost use Rattle.std.specs.Prelude.{◌≡◌, ◌↔◌, ◌<◌, ◌≤◌, ◌+◌, ◌*◌, ℕ, [], IsNone, IfSome, IfNone, IfOk, vec_len, slice_index, slice_set, replicate};
+ghost use Rattle.std.specs.Prelude.{◌≡◌, ◌↔◌, ◌<◌, ◌≤◌, ◌+◌, ◌*◌, ℕ, [], IsNone, IfSome, IfNone, IfOk, length, vec_len, slice_index, slice_set, replicate};
 ghost use Rattle.entry_ref.specs.References.{buffer_of};
 ghost use Rattle.image_base.specs.Places.{IsEntry};
 ghost use Rattle.arena_api.specs.Works.{free_count};
-ghost use Rattle.arena_api.specs.Calls.{IsLowestFree};
-ghost use Rattle.arena_api.specs.Cells.{width_in, begin_of, buffers_in};
+ghost use Rattle.arena_api.specs.Calls.{IsLowestFree, padded};
+ghost use Rattle.arena_api.specs.Cells.{width_in, begin_of, with_range, buffers_in};
 
 use entry_ref::EntryRef;
 use std::alloc::{AllocError, Global};
@@ -82,6 +82,22 @@ impl Cells {
         self.stamps[place] = number;
     }
 
+    /// Stores the words of an entry, and zeros after them, under a number.
+    pub fn put(&mut self, entry: EntryRef, width: u32, words: &[u64], number: u64)
+        requires entry { IsEntry self.old.buffers self.old.words width entry }
+        requires fits { length words.now ≤ width }
+        ensures table { self.new.table.items ≡ with_range self.old.table.items (begin_of self.old.words width entry) (padded words.now width) }
+        ensures stamps { self.new.stamps.items ≡ with_range self.old.stamps.items (begin_of self.old.words width entry) (replicate width number) }
+        ensures buffers { self.new.buffers ≡ self.old.buffers }
+        ensures words { self.new.words ≡ self.old.words }
+    {
+        let buffer = entry.buffer() as usize * self.words as usize;
+        let first = buffer + entry.offset() as usize * width as usize;
+        let end = first + width as usize;
+        write_padded(&mut self.table[first..end], words);
+        self.stamps[first..end].fill(number);
+    }
+
     /// Takes the free buffer of lowest number, by giving it a width.
     pub fn hand_out(&mut self, width: u32) -> Option<u32>
         requires { 0 < width }
@@ -114,4 +130,14 @@ impl Cells {
         }
         count
     }
+}
+
+/// The given words, and zeros after them.
+fn write_padded(row: &mut [u64], words: &[u64])
+    requires { length words.now ≤ length row.old }
+    ensures { row.new ≡ padded words.now (length row.old) }
+{
+    let (given, rest) = row.split_at_mut(words.len());
+    given.copy_from_slice(words);
+    rest.fill(0);
 }

@@ -80,6 +80,11 @@ impl<L: Layout> Work for MemWork<L> {
         self.cells.store(entry, i, word, u64::from(self.last) + 1);
     }
 
+    fn put(&mut self, entry: EntryRef, width: u32, words: &[u64]) {
+        self.cells
+            .put(entry, width, words, u64::from(self.last) + 1);
+    }
+
     fn hand_out(&mut self, width: u32) -> Option<u32> {
         self.cells.hand_out(width)
     }

@@ -18,9 +18,5 @@ pub fn put_record<W: Work>(work: &mut W, entry: EntryRef, width: u32, words: &[u
     ensures knows { W.knows work.new ≡ record (W.knows work.old) { stored = (W.knows work.new).stored } }
     ensures shape { W.shape work.new ≡ W.shape work.old }
 {
-    for i in 0..width {
-        let at = i as usize;
-        let word = if at < words.len() { words[at] } else { 0 };
-        work.store(entry, i, word);
-    }
+    work.put(entry, width, words);
 }

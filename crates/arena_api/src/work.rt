@@ -2,9 +2,10 @@ ghost use Rattle.std.specs.Prelude.{◌≡◌, ◌≢◌, ◌<◌, ◌≤◌, �
 ghost use Rattle.std.specs.List.{AllByRecursion};
 ghost use Rattle.entry_ref.specs.References.{buffer_of};
 ghost use Rattle.image_base.specs.Images.{words_at};
-ghost use Rattle.image_base.specs.Records.{Records};
+ghost use Rattle.image_base.specs.Places.{IsEntry};
+ghost use Rattle.image_base.specs.Records.{Records, with_words};
 ghost use Rattle.arena_api.specs.Works.{WorkView, Buffer, active_width, width_of, free_count, last_image};
-ghost use Rattle.arena_api.specs.Calls.{IsWithinLimits, IsInOrder, IsKept, IsWordIn, MayStore, Fits, IsLowestFree, AddsCommit, with_stored, handed_out, next_image, published};
+ghost use Rattle.arena_api.specs.Calls.{IsWithinLimits, IsInOrder, IsKept, InNoCommit, IsWordIn, MayStore, Fits, IsLowestFree, AddsCommit, with_stored, padded, handed_out, next_image, published};
 
 use crate::frozen::Frozen;
 use entry_ref::EntryRef;
@@ -28,6 +29,23 @@ pub trait Work: Frozen {
             ≡ record (knows self.old) { stored = with_stored (knows self.old).stored entry i word } }
         ensures others { (q : ℕ) → q ≢ entry → Self.records self.new q ≡ Self.records self.old q }
         ensures shape { Self.shape self.new ≡ Self.shape self.old };
+
+    /// Stores a record whole: the given words, and zeros after them.
+    fn put(&mut self, entry: EntryRef, width: u32, words: &[u64])
+        requires entry { IsEntry (knows self.old).sizes.buffers (knows self.old).sizes.words width entry }
+        requires width { active_width ((knows self.old).buffer (buffer_of entry)) ≡ width }
+        requires fits { length words.now ≤ width }
+        requires unkept { InNoCommit (knows self.old).commits entry }
+        ensures records { Self.records self.new ≡ with_words (Self.records self.old) entry (padded words.now width) }
+        ensures knows { knows self.new ≡ record (knows self.old) { stored = (knows self.new).stored } }
+        ensures shape { Self.shape self.new ≡ Self.shape self.old }
+    {
+        for i in 0..width {
+            let at = i as usize;
+            let word = if at < words.len() { words[at] } else { 0 };
+            self.store(entry, i, word);
+        }
+    }
 
     /// Takes the free buffer of lowest number for entries of `width` words, if one is free.
     fn hand_out(&mut self, width: u32) -> Option<u32>

@@ -5,7 +5,7 @@ use Rattle.image_base.specs.Records.{with_words}
 use Rattle.arena_api.specs.Works.{active_width}
 use Rattle.arena_api.specs.Calls.{padded}
 use Rattle.arena_api.proofs.Padded.{length-padded, padded-at}
-use Rattle.arena_api.proofs.record.put_record.Goals as goal
+use Rattle.arena_api.proofs.work.Work.put.Goals as goal
 
 pub returns-clause-records : goal.returns-clause-records
 returns-clause-records g c = λ k q. at q k
@@ -16,16 +16,16 @@ returns-clause-records g c = λ k q. at q k
     long : length ws ≡ c.args.width
     long = length-padded c.args.words.now c.args.width c.requires.fits
 
-    is : g.W.Frozen.records c.loop-i.work c.args.entry ≡ ws
+    is : g.Self.Frozen.records c.loop-i.self c.args.entry ≡ ws
     is =
         let wide = c.requires.entry.wide in
-        let width : length ws ≡ active_width ((g.W.Work.knows c.loop-i.work).buffer (buffer_of c.args.entry)) =
+        let width : length ws ≡ active_width ((g.Self.Work.knows c.loop-i.self).buffer (buffer_of c.args.entry)) =
         long ∙ sym c.requires.width ∙ sym (ap (λ v. active_width (v.buffer (buffer_of c.args.entry))) c.loop-i.invariant.knows) in
-        g.met.W.Work.whole c.loop-i.work c.args.entry ws (omega (arith, long, wide)) width
+        g.met.Self.Work.whole c.loop-i.self c.args.entry ws (omega (arith, long, wide)) width
         (λ i h. c.loop-i.invariant.filled i (omega (arith, h, long, c.loop-i-test.false)) ∙ ap (λ n. Some n) (sym (padded-at c.args.words.now c.args.width i)))
 
-    at : (q : ℕ) → g.W.Frozen.records c.loop-i.work q ≡ with_words (g.W.Frozen.records c.args.work.now) c.args.entry ws q
+    at : (q : ℕ) → g.Self.Frozen.records c.loop-i.self q ≡ with_words (g.Self.Frozen.records c.args.self.now) c.args.entry ws q
     at q = elim (cases_eq q c.args.entry) [
-      | inl e ↦ ap (g.W.Frozen.records c.loop-i.work) e ∙ is ∙ ap (λ t. cond t ws (g.W.Frozen.records c.args.work.now q)) (sym (eq-eqb q c.args.entry e))
-      | inr ne ↦ c.loop-i.invariant.others q ne ∙ ap (λ t. cond t ws (g.W.Frozen.records c.args.work.now q)) (sym (ne_eqb q c.args.entry ne))
+      | inl e ↦ ap (g.Self.Frozen.records c.loop-i.self) e ∙ is ∙ ap (λ t. cond t ws (g.Self.Frozen.records c.args.self.now q)) (sym (eq-eqb q c.args.entry e))
+      | inr ne ↦ c.loop-i.invariant.others q ne ∙ ap (λ t. cond t ws (g.Self.Frozen.records c.args.self.now q)) (sym (ne_eqb q c.args.entry ne))
     ]
