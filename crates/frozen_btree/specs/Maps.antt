@@ -1,0 +1,33 @@
+-- A map by number: a tree that is all that a store has in use.
+use Rattle.std.specs.Prelude.{◌≡◌, ◌↔◌, ℕ, ◌+◌, List, [], ◌∷◌, Option, None, Some, true, false}
+use Rattle.std.specs.declared.cmp.Ordering.{Ordering}
+use Rattle.std.specs.Ordering.{nat_cmp}
+use Rattle.image_base.specs.Records.{Records, Among}
+use Rattle.attr_images.specs.Trees.{tree_nodes, by_number, IsTree}
+use Rattle.store_api.specs.Classes.{in_use}
+use Rattle.store_api.specs.Ledgers.{Ledger}
+
+-- the pairs of a tree, its root, and how many commits were made of those that can be
+pub record MapView : Type 0 where
+  pub pairs : List (ℕ × ℕ)
+  pub root : ℕ
+  pub commits : ℕ
+  pub most : ℕ
+
+-- a stored key beside a number
+abbrev pub beside : ℕ → ℕ → Ordering
+beside key stored = nat_cmp stored key
+
+abbrev pub first_of : List (ℕ × ℕ) → Option (ℕ × ℕ)
+first_of [] = None
+first_of (p ∷ ps) = Some p
+
+abbrev pub key_sum : List (ℕ × ℕ) → ℕ
+key_sum [] = 0
+key_sum (p ∷ ps) = p.0 + key_sum ps
+
+-- the nodes of a tree by number are exactly what is in use, and no unit is under way
+pub record HoldsTree {H : Type 0} (ledger : Ledger H) (m : Records) (root : ℕ) : Type 0 where
+  pub tree : IsTree nat_cmp by_number m root
+  pub exact : (r : ℕ) → Among r (tree_nodes m root) ↔ (in_use (ledger.class r) ≡ true)
+  pub unit : ledger.unit ≡ false
