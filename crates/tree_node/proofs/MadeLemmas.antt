@@ -1,5 +1,5 @@
 -- A node that was made, and the slots of a node that was read.
-use Rattle.std.proofs.Common.{◌≡◌, ◌≢◌, ◌⊎◌, inl, inr, ℕ, zero, suc, ◌+◌, ◌<◌, ◌≤◌, true, false, cond, ◌-◌, List, [], ◌∷◌, ◌++◌, length, map, replicate, true≢false, refl, sym, ap, subst, ◌∙◌, arith}
+use Rattle.std.proofs.Common.{◌≡◌, ◌≢◌, ◌⊎◌, inl, inr, ℕ, zero, suc, ◌+◌, ◌<◌, ◌≤◌, true, cond, ◌-◌, List, [], ◌∷◌, ◌++◌, length, map, replicate, refl, sym, ap, subst, ◌∙◌, arith}
 use Rattle.std.proofs.lemmas.Bool.{eq-eqb, ne_eqb, cases_eq}
 use Rattle.std.specs.List.{zip, flat_map, AllByRecursion}
 use Rattle.image_base.specs.Records.{Records, with_words}
@@ -8,7 +8,7 @@ use Rattle.attr_images.specs.Trees.{pairs_below, nodes_below, last_key, IsNode, 
 use Rattle.attr_images.proofs.NodeLemmas.{node_keys-words, node_values-words, node_formed}
 use Rattle.std.proofs.lemmas.List.{append-nil}
 use Rattle.arena_api.specs.Calls.{padded as words_padded}
-use Rattle.store_api.specs.Classes.{Class, in_use, is_open, with_class}
+use Rattle.store_api.specs.Classes.{Class, is_open, with_class}
 use Rattle.store_api.specs.Ledgers.{Ledger, MayDo, Makes, with_count, counted}
 use Rattle.tree_node.specs.Makes.{MakesNodes, MakesNode}
 use Rattle.tree_node.specs.Slots.{slot_pairs, slot_nodes, HaveChildren, IsInHand}

@@ -1,8 +1,8 @@
 -- Nodes made one after another.
-use Rattle.std.proofs.Common.{◌≡◌, ◌⊎◌, inl, inr, ⊎_elim, ℕ, ◌+◌, ◌<◌, ◌≤◌, true, false, true≢false, length, refl, sym, ap, subst, ◌∙◌, arith}
+use Rattle.std.proofs.Common.{◌≡◌, ◌⊎◌, inl, inr, ℕ, ◌+◌, ◌<◌, ◌≤◌, true, false, true≢false, length, refl, sym, ap, subst, ◌∙◌, arith}
 use Rattle.image_base.specs.Records.{Records}
 use Rattle.store_api.specs.Classes.{Class, in_use, is_open}
-use Rattle.store_api.specs.Ledgers.{Ledger, MayDo}
+use Rattle.store_api.specs.Ledgers.{Ledger}
 use Rattle.store_api.proofs.May.{may_do-same, may_do-then}
 use Rattle.attr_images.specs.Trees.{Keeps}
 use Rattle.tree_node.specs.Makes.{MakesNodes}

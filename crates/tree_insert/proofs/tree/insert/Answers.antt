@@ -1,4 +1,4 @@
-use Rattle.std.proofs.Common.{Err, ◌≡◌, ◌<◌, ◌+◌, ◌*◌, ◌/◌, ℕ, suc, [], length, true, sym, ap, subst, arith}
+use Rattle.std.proofs.Common.{◌∙◌, Err, ◌≡◌, ◌<◌, ◌+◌, ◌*◌, ◌/◌, ℕ, suc, [], length, true, sym, ap, subst, arith}
 use Rattle.std.specs.List.{AllByRecursion}
 use Rattle.attr_images.specs.Trees.{pairs_below, IsNode, root_level}
 use Rattle.key_order.specs.Keys.{seen_by, Ascends, AllReadable}
@@ -400,6 +400,83 @@ drop_nodes-requires-clause-used g c =
     let o = g.S.Frozen.records u in
     let both : MakesNodes old new m o (2 * suc level + 1) = makes-then old mid new m n o (2 * suc level) 1 (2 * suc level + 1) (omega arith) x_makes c.make_root.ensures.makes in
     subst (AllByRecursion (λ r. in_use (new.class r) ≡ true)) (sym c.deref.ensures.0) (gone-used key.order total key.read sought m n old mid root level pair tree some level_is few gone parts x new o (2 * suc level + 1) both c.requires.used)
+
+pub returns-clause-made : goal.returns-clause-made
+returns-clause-made g c =
+    let key = g.K.KeyOrder in
+    let s = c.args.store.now in
+    let m = g.S.Frozen.records s in
+    let root = c.args.root in
+    let tree = c.requires.tree in
+    let some : 0 < root = is_valid c.valid.result root c.valid.ensures.0 c.if-not-valid.false in
+    let level = c.word-level.result / 256 in
+    let same = c.word-level.ensures.same in
+    let level_is : level ≡ root_level m root = root-level key.order key.read m root tree some c.word-level.result c.word-level.ensures.value in
+    let old = g.S.Store.ledger s in
+    let t = c.insert_below.new.store in
+    let n = g.S.Frozen.records t in
+    let mid = g.S.Store.ledger t in
+    let x_makes : MakesNodes old mid m n (2 * suc level) = subst (λ f. MakesNodes (g.S.Store.ledger f) mid (g.S.Frozen.records f) n (2 * suc level)) same c.insert_below.ensures.makes in
+    let sought = key.sought c.args.key.now in
+    let pair : ℕ × ℕ = (c.args.word, c.args.value) in
+    let gone = c.insert_below.new.replaced.items in
+    let parts = c.in_ok-parts.parts in
+    let seen = seen_by key.read key.order sought m in
+    let total = g.met.K.KeyOrder.total in
+    let few = g.met.S.Store.few_nodes s in
+    let x0 : Inserts seen pair old mid m n level root c.new-replaced.result.items gone parts =
+    subst (λ f. Inserts (seen_by key.read key.order sought (g.S.Frozen.records f)) pair (g.S.Store.ledger f) mid (g.S.Frozen.records f) n level root c.new-replaced.result.items gone parts) same c.in_ok-parts.ensures.inserts in
+    let x : Inserts seen pair old mid m n level root [] gone parts = subst (λ xs. Inserts seen pair old mid m n level root xs gone parts) c.new-replaced.ensures x0 in
+    let u = c.make_root.new.store in
+    let v = c.drop_nodes.new.store in
+    let new = g.S.Store.ledger u in
+    let o = g.S.Frozen.records u in
+    let end = g.S.Store.ledger v in
+    let e = g.S.Frozen.records v in
+    let next = c.in_ok-next.next in
+    let z : Drops new end o e gone = subst (Drops new end o e) c.deref.ensures.0 c.drop_nodes.ensures in
+    let both : MakesNodes old new m o (2 * suc level + 1) = makes-then old mid new m n o (2 * suc level) 1 (2 * suc level + 1) (omega arith) x_makes c.make_root.ensures.makes in
+    let made = both.made in
+    let up = root-levels key.order key.read m root tree some level level_is in
+    let kept : end.made 34 ≡ new.made 34 = ap (λ (k : ℕ → ℕ). k 34) z.made in
+    omega arith
+
+pub returns-clause-others : goal.returns-clause-others
+returns-clause-others g c =
+    let key = g.K.KeyOrder in
+    let s = c.args.store.now in
+    let m = g.S.Frozen.records s in
+    let root = c.args.root in
+    let tree = c.requires.tree in
+    let some : 0 < root = is_valid c.valid.result root c.valid.ensures.0 c.if-not-valid.false in
+    let level = c.word-level.result / 256 in
+    let same = c.word-level.ensures.same in
+    let level_is : level ≡ root_level m root = root-level key.order key.read m root tree some c.word-level.result c.word-level.ensures.value in
+    let old = g.S.Store.ledger s in
+    let t = c.insert_below.new.store in
+    let n = g.S.Frozen.records t in
+    let mid = g.S.Store.ledger t in
+    let x_makes : MakesNodes old mid m n (2 * suc level) = subst (λ f. MakesNodes (g.S.Store.ledger f) mid (g.S.Frozen.records f) n (2 * suc level)) same c.insert_below.ensures.makes in
+    let sought = key.sought c.args.key.now in
+    let pair : ℕ × ℕ = (c.args.word, c.args.value) in
+    let gone = c.insert_below.new.replaced.items in
+    let parts = c.in_ok-parts.parts in
+    let seen = seen_by key.read key.order sought m in
+    let total = g.met.K.KeyOrder.total in
+    let few = g.met.S.Store.few_nodes s in
+    let x0 : Inserts seen pair old mid m n level root c.new-replaced.result.items gone parts =
+    subst (λ f. Inserts (seen_by key.read key.order sought (g.S.Frozen.records f)) pair (g.S.Store.ledger f) mid (g.S.Frozen.records f) n level root c.new-replaced.result.items gone parts) same c.in_ok-parts.ensures.inserts in
+    let x : Inserts seen pair old mid m n level root [] gone parts = subst (λ xs. Inserts seen pair old mid m n level root xs gone parts) c.new-replaced.ensures x0 in
+    let u = c.make_root.new.store in
+    let v = c.drop_nodes.new.store in
+    let new = g.S.Store.ledger u in
+    let o = g.S.Frozen.records u in
+    let end = g.S.Store.ledger v in
+    let e = g.S.Frozen.records v in
+    let next = c.in_ok-next.next in
+    let z : Drops new end o e gone = subst (Drops new end o e) c.deref.ensures.0 c.drop_nodes.ensures in
+    let both : MakesNodes old new m o (2 * suc level + 1) = makes-then old mid new m n o (2 * suc level) 1 (2 * suc level + 1) (omega arith) x_makes c.make_root.ensures.makes in
+    λ width ne. ap (λ (k : ℕ → ℕ). k width) z.made ∙ both.others width ne
 
 pub returns-clause-tree : goal.returns-clause-tree
 returns-clause-tree g c =

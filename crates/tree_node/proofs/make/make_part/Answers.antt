@@ -5,7 +5,6 @@ use Rattle.store_api.specs.Ledgers.{Makes, MayDo}
 use Rattle.tree_node.specs.Makes.{MakesNode}
 use Rattle.tree_node.proofs.CountLemmas.{last_slot}
 use Rattle.tree_node.proofs.MadeLemmas.{makes-node}
-use Rattle.tree_node.proofs.MakesLemmas.{makes-then}
 use Rattle.tree_node.proofs.make.make_part.Goals as goal
 
 pub returns-clause-makes : goal.returns-clause-makes
