@@ -1,3 +1,4 @@
+ghost use Rattle.std.specs.Prelude.{◌≤◌, IfOk};
 ghost use Rattle.store_api.specs.Ledgers.{IsNew};
 
 use crate::commit::commit_root;
@@ -15,6 +16,7 @@ pub fn run_store<S: Store<Layout = OneRecord>>(
     units: u64,
 ) -> Result<u64, StoreError>
     requires { IsNew (S.ledger store.old) }
+    ensures { IfOk result (λ commits. commits ≤ units) }
 {
     let mut entries = Vec::new(alloc);
     let mut root = EntryRef::from_raw(0);
