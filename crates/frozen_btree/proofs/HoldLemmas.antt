@@ -1,6 +1,6 @@
 -- A tree that is all that is in use stays so through the end of a unit and through a commit.
-use Rattle.std.proofs.Common.{◌≡◌, ℕ, zero, suc, ◌<◌, List, [], ◌∷◌, Bool, true, false, Option, None, Some, is_some, cond, refl, sym, ap, subst, ◌∙◌, arith, inl, inr, ⊎_elim, true≢false}
-use Rattle.std.specs.Prelude.{◌↔◌, ◌⊎◌}
+use Rattle.std.proofs.Common.{◌≡◌, ℕ, List, [], ◌∷◌, true, false, Option, None, Some, is_some, cond, refl, sym, ap, subst, ◌∙◌, arith, inl, inr, ⊎_elim, true≢false}
+use Rattle.std.specs.Prelude.{◌↔◌}
 use Rattle.std.specs.List.{AllByRecursion}
 use Rattle.std.specs.List.Sorted.{IsStrictlySortedBy}
 use Rattle.std.specs.Ordering.{nat_cmp}

@@ -1,5 +1,5 @@
 -- A sum that wraps, key by key.
-use Rattle.std.proofs.Common.{◌≡◌, ◌≢◌, ℕ, ◌+◌, ◌%◌, List, [], ◌∷◌, drop, refl, sym, ap, ◌∙◌, arith}
+use Rattle.std.proofs.Common.{◌≡◌, ◌≢◌, ℕ, ◌+◌, ◌%◌, List, [], ◌∷◌, drop, refl, ap, ◌∙◌, arith}
 use Rattle.std.proofs.Math.Nat.{mod-add-mod}
 use Rattle.tree_search.specs.Places.{first_key}
 use Rattle.frozen_btree.specs.Maps.{key_sum}

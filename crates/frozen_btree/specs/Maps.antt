@@ -7,12 +7,13 @@ use Rattle.attr_images.specs.Trees.{tree_nodes, by_number, IsTree}
 use Rattle.store_api.specs.Classes.{in_use}
 use Rattle.store_api.specs.Ledgers.{Ledger}
 
--- the pairs of a tree, its root, and how many commits were made of those that can be
+-- the pairs of a tree, its root, how many commits were made of those that can be, and the buffers of its store
 pub record MapView : Type 0 where
   pub pairs : List (ℕ × ℕ)
   pub root : ℕ
   pub commits : ℕ
   pub most : ℕ
+  pub buffers : ℕ
 
 -- a stored key beside a number
 abbrev pub beside : ℕ → ℕ → Ordering

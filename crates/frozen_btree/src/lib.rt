@@ -16,3 +16,6 @@ pub use number_tree::NumberTree;
 pub use tree_insert::insert;
 pub use tree_remove::remove;
 pub use tree_search::{Cursor, find, total};
+
+#[cfg(test)]
+mod tests;

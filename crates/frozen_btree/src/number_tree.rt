@@ -1,4 +1,4 @@
-ghost use Rattle.std.specs.Prelude.{◌≡◌, ◌↔◌, ◌-◌, ◌+◌, ◌%◌, ℕ, [], length, is_some, IsNone, IfSome, IfNone, IfOk, OnOk, OnErr};
+ghost use Rattle.std.specs.Prelude.{◌≡◌, ◌↔◌, ◌-◌, ◌+◌, ◌%◌, ℕ, [], length, is_some, Err, IsNone, IfSome, IfNone, IfOk, OnOk, OnErr};
 ghost use Rattle.attr_images.specs.Trees.{tree_pairs};
 ghost use Rattle.key_order.specs.Pairs.{lookup, put, take_out, seek};
 ghost use Rattle.store_api.specs.Ledgers.{IsNew};
@@ -31,6 +31,7 @@ impl<S: Store<Layout = TreeLayout>> Model for NumberTree<S> {
       root = t.root;
       commits = (S.ledger t.store).work.commits.last;
       most = (S.ledger t.store).work.sizes.commits;
+      buffers = (S.ledger t.store).work.sizes.buffers;
     } };
 
     ghost invariant = { λ t. HoldsTree (S.ledger t.store) (S.records t.store) t.root };
@@ -44,6 +45,7 @@ impl<S: Store<Layout = TreeLayout>> NumberTree<S> {
         ensures root { result.root ≡ 0 }
         ensures commits { result.commits ≡ (S.ledger store).work.commits.last }
         ensures most { result.most ≡ (S.ledger store).work.sizes.commits }
+        ensures buffers { result.buffers ≡ (S.ledger store).work.sizes.buffers }
     {
         NumberTree {
             store,
@@ -58,6 +60,7 @@ impl<S: Store<Layout = TreeLayout>> NumberTree<S> {
         ensures root { result.root ≡ root }
         ensures commits { result.commits ≡ (S.ledger store).work.commits.last }
         ensures most { result.most ≡ (S.ledger store).work.sizes.commits }
+        ensures buffers { result.buffers ≡ (S.ledger store).work.sizes.buffers }
     {
         NumberTree { store, root }
     }
@@ -76,6 +79,7 @@ impl<S: Store<Layout = TreeLayout>> NumberTree<S> {
         ensures pairs { tree_pairs (S.records result) self.root ≡ self.pairs }
         ensures commits { (S.ledger result).work.commits.last ≡ self.commits }
         ensures most { (S.ledger result).work.sizes.commits ≡ self.most }
+        ensures buffers { (S.ledger result).work.sizes.buffers ≡ self.buffers }
     {
         self.store
     }
@@ -92,7 +96,9 @@ impl<S: Store<Layout = TreeLayout>> NumberTree<S> {
         ensures pairs { OnOk result (self.new.pairs ≡ put (beside key) (key, value) self.old.pairs) }
         ensures commits { self.new.commits ≡ self.old.commits }
         ensures most { self.new.most ≡ self.old.most }
+        ensures buffers { self.new.buffers ≡ self.old.buffers }
         ensures left { OnErr result (self.new ≡ self.old) }
+        ensures full { (w a h : ℕ) → result ≡ Err (StoreError.Full w a h) → (w ≡ 34) × (a + h ≡ self.old.buffers) }
     {
         self.root = insert_unit(&mut self.store, self.root, key, value)?;
         Ok(())
@@ -104,7 +110,9 @@ impl<S: Store<Layout = TreeLayout>> NumberTree<S> {
         ensures pairs { OnOk result (self.new.pairs ≡ take_out (beside key) self.old.pairs) }
         ensures commits { self.new.commits ≡ self.old.commits }
         ensures most { self.new.most ≡ self.old.most }
+        ensures buffers { self.new.buffers ≡ self.old.buffers }
         ensures left { OnErr result (self.new ≡ self.old) }
+        ensures full { (w a h : ℕ) → result ≡ Err (StoreError.Full w a h) → (w ≡ 34) × (a + h ≡ self.old.buffers) }
     {
         if self.get(key).is_none() {
             return Ok(false);
@@ -153,6 +161,7 @@ impl<S: Store<Layout = TreeLayout>> NumberTree<S> {
         ensures left { IfNone result (self.new ≡ self.old) }
         ensures pairs { self.new.pairs ≡ self.old.pairs }
         ensures most { self.new.most ≡ self.old.most }
+        ensures buffers { self.new.buffers ≡ self.old.buffers }
         ensures root { self.new.root ≡ self.old.root }
     {
         if self.store.commits_left() == 0 {

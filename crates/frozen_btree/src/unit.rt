@@ -1,4 +1,4 @@
-ghost use Rattle.std.specs.Prelude.{◌≡◌, ◌<◌, ◌+◌, ℕ, IfOk, OnErr, IsSome};
+ghost use Rattle.std.specs.Prelude.{◌≡◌, ◌<◌, ◌+◌, ℕ, Err, IfOk, OnErr, IsSome};
 ghost use Rattle.attr_images.specs.Trees.{tree_pairs};
 ghost use Rattle.key_order.specs.Pairs.{lookup, put, take_out};
 ghost use Rattle.frozen_btree.specs.Maps.{HoldsTree, beside};
@@ -23,6 +23,8 @@ pub fn insert_unit<S: Store>(
         ≡ put (beside key) (key, value) (tree_pairs (S.records store.old) root)) }
     ensures still { OnErr result (HoldsTree (S.ledger store.new) (S.records store.new) root) }
     ensures left { OnErr result (S.records store.new ≡ S.records store.old) }
+    ensures full { (w a h : ℕ) → result ≡ Err (StoreError.Full w a h)
+        → (w ≡ 34) × (a + h ≡ (S.ledger store.old).work.sizes.buffers) }
     ensures commits { (S.ledger store.new).work.commits ≡ (S.ledger store.old).work.commits }
     ensures sizes { (S.ledger store.new).work.sizes ≡ (S.ledger store.old).work.sizes }
 {
@@ -52,18 +54,20 @@ pub fn remove_unit<S: Store>(
         ≡ take_out (beside key) (tree_pairs (S.records store.old) root)) }
     ensures still { OnErr result (HoldsTree (S.ledger store.new) (S.records store.new) root) }
     ensures left { OnErr result (S.records store.new ≡ S.records store.old) }
+    ensures full { (w a h : ℕ) → result ≡ Err (StoreError.Full w a h)
+        → (w ≡ 34) × (a + h ≡ (S.ledger store.old).work.sizes.buffers) }
     ensures commits { (S.ledger store.new).work.commits ≡ (S.ledger store.old).work.commits }
     ensures sizes { (S.ledger store.new).work.sizes ≡ (S.ledger store.old).work.sizes }
 {
     store.begin();
     match remove(store, root, &NumberKey(key)) {
-        Ok(next) => {
+        Ok(rest) => {
             store.accept();
-            Ok(next)
+            Ok(rest)
         }
-        Err(error) => {
+        Err(fault) => {
             store.undo();
-            Err(error)
+            Err(fault)
         }
     }
 }

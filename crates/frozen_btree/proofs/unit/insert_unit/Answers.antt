@@ -1,4 +1,4 @@
-use Rattle.std.proofs.Common.{◌≡◌, ap, ◌∙◌}
+use Rattle.std.proofs.Common.{ap, ◌∙◌}
 use Rattle.attr_images.specs.Trees.{tree_pairs}
 use Rattle.key_order.specs.Pairs.{put}
 use Rattle.frozen_btree.specs.Maps.{beside}
@@ -24,3 +24,8 @@ returns-in-Ok-clause-pairs g c =
     (g.S.Frozen.records c.args.store.now) (g.S.Frozen.records c.begin.new.self) (g.S.Frozen.records c.insert.new.store) c.args.root c.in-Ok.next c.requires
     (ap (λ l. l.class) c.begin.ensures.ledger) c.begin.ensures.records c.in-Ok.ensures.replaces (g.S.Frozen.records c.accept.new.self) c.accept.ensures.records
     ∙ c.in-Ok.ensures.pairs ∙ ap (λ m. put (beside c.args.key) (c.args.key, c.args.value) (tree_pairs m c.args.root)) c.begin.ensures.records
+
+pub returns-in-Err-clause-full : goal.returns-in-Err-clause-full
+returns-in-Err-clause-full g c w a h e =
+    let it = c.in-Err.ensures.full w a h e in
+    (it.0, it.1.all ∙ ap (λ s. s.buffers) (c.in-Err.ensures.left.may.sizes ∙ ap (λ l. l.work.sizes) c.begin.ensures.ledger))

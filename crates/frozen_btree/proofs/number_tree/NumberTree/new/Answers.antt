@@ -1,4 +1,4 @@
-use Rattle.std.proofs.Common.{◌≡◌, ap, sym, subst}
+use Rattle.std.proofs.Common.{sym, subst}
 use Rattle.frozen_btree.specs.Maps.{HoldsTree}
 use Rattle.frozen_btree.proofs.HoldLemmas.{holds_nothing}
 use Rattle.frozen_btree.proofs.number_tree.NumberTree.new.Goals as goal

@@ -1,5 +1,5 @@
 use Rattle.std.proofs.Common.{◌≡◌, None, sym, ap, ◌∙◌}
-use Rattle.key_order.specs.Pairs.{lookup, take_out}
+use Rattle.key_order.specs.Pairs.{lookup}
 use Rattle.key_order.proofs.PairLemmas.{take_out-none}
 use Rattle.frozen_btree.specs.Maps.{MapView, beside}
 use Rattle.frozen_btree.proofs.HoldLemmas.{none_of}
