@@ -5,3 +5,4 @@ pub mod WidthLemmas
 pub mod Padded
 pub mod Ranges
 pub mod Puts
+pub mod Chosen

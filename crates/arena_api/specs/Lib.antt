@@ -6,3 +6,4 @@ pub mod Stamped
 pub mod Reached
 pub mod Laws
 pub mod OneRecord
+pub mod Entries

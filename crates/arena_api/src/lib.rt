@@ -3,15 +3,18 @@
 #![tactic(auto)]
 
 mod cells;
+mod entries;
 mod frozen;
 mod memory;
 mod one_record;
+mod reach;
 mod record;
 mod work;
 
 pub use frozen::Frozen;
 pub use memory::MemWork;
 pub use one_record::OneRecord;
+pub use reach::Reach;
 pub use record::put_record;
 pub use work::Work;
 

@@ -1,14 +1,17 @@
 ghost use Rattle.std.specs.Prelude.{◌≡◌, ◌<◌, ◌≤◌, ◌+◌, ◌*◌, ℕ, [], IfOk, slice_index};
 ghost use Rattle.std.proofs.Common.{sym, ◌∙◌};
+ghost use Rattle.record_map.specs.Maps.{seen};
 ghost use Rattle.arena_api.specs.Calls.{opened};
 ghost use Rattle.arena_api.specs.Cells.{width_in, standing, records_in, sizes_of, memory_view};
 
 use crate::cells::Cells;
 use crate::frozen::Frozen;
+use crate::reach::{Reach, add_those};
 use crate::work::Work;
 use entry_ref::EntryRef;
 use image_base::Layout;
 use std::alloc::{AllocError, Global};
+use std::collections::BTreeMap;
 use std::marker::PhantomData;
 
 /// A work in memory, without readers. It keeps the last commit alone.
@@ -47,6 +50,19 @@ impl<L: Layout> MemWork<L> {
             root: EntryRef::from_raw(0),
             layout: PhantomData,
         })
+    }
+}
+
+impl<L: Reach> MemWork<L> {
+    /// Every record: what the last root reaches, and what was stored whole since.
+    pub fn records(&self, alloc: Global) -> Result<BTreeMap<u32, Vec<u64>>, AllocError>
+        ensures { IfOk result (λ map. seen map ≡ ⟦<MemWork<L> as Frozen>⟧.records self.now) }
+    {
+        let standing = self.cells.entries(alloc, None)?;
+        let reached = L::reached(alloc, self.shape, &standing, self.root)?;
+        let mut map = self.cells.entries(alloc, Some(u64::from(self.last) + 1))?;
+        add_those(alloc, reached, &standing, &mut map)?;
+        Ok(map)
     }
 }
 

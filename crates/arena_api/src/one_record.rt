@@ -1,4 +1,8 @@
+use crate::reach::Reach;
+use entry_ref::EntryRef;
 use image_base::Layout;
+use std::alloc::{AllocError, Global};
+use std::collections::BTreeMap;
 
 /// The layout whose root is one record, for tests and benchmarks.
 pub struct OneRecord;
@@ -18,4 +22,19 @@ impl Layout for OneRecord {
     ghost present = { one_present };
 
     ghost stays = { one_stays };
+}
+
+impl Reach for OneRecord {
+    fn reached(
+        alloc: Global,
+        _shape: u32,
+        _records: &BTreeMap<u32, Vec<u64>>,
+        root: EntryRef,
+    ) -> Result<Vec<u32>, AllocError> {
+        let mut references = Vec::new(alloc);
+        if root.valid() {
+            references.push(root.raw())?;
+        }
+        Ok(references)
+    }
 }

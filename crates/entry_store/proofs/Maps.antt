@@ -1,120 +1,13 @@
 -- The records of a store, buffer by buffer and offset by offset.
-use Rattle.std.proofs.Common.{◌≡◌, ◌≢◌, ℕ, ◌+◌, ◌*◌, ◌/◌, ◌%◌, ◌<◌, ◌≤◌, Bool, true, false, cond, List, [], ◌∷◌, length, refl, sym, ap, ◌∙◌, arith, inl, inr}
-use Rattle.std.proofs.lemmas.Bool.{cond-true, cond-false, cases_eq, cases_lt, cases_order, eq-eqb, ne_eqb, lt-ltb, le-ltb, or_left, or_right, or_from, and_from, and_left, and_right}
-use Rattle.std.proofs.lemmas.Nat.{div-add-mod', mod-mul-add, div-mul-add}
-use Rattle.std.proofs.Math.Nat.{mul-le-mul_right}
+use Rattle.std.proofs.Common.{◌≡◌, ℕ, ◌/◌, ◌<◌, ◌≤◌, Bool, [], length, sym, ap, ◌∙◌, arith}
 use Rattle.entry_ref.specs.References.{buffer_of, offset_of}
-use Rattle.image_base.specs.Places.{IsEntry}
 use Rattle.image_base.specs.Records.{Records}
 use Rattle.arena_api.specs.Works.{WorkView, active_width}
 use Rattle.arena_api.specs.Calls.{Fits}
 use Rattle.entry_states.specs.Entries.{EntriesView}
-use Rattle.entry_store.specs.Standing.{Stands, class_of, records_of_classes, is_before, those_before}
+use Rattle.record_map.proofs.Steps.{none-or, offset-within}
+use Rattle.entry_store.specs.Standing.{Stands, class_of, records_of_classes}
 use Rattle.entry_store.specs.Laws.{store_placed}
-
--- an entry by its offset and its buffer
-pub made-of : (q buffer offset : ℕ) → buffer_of q ≡ buffer → offset_of q ≡ offset → q ≡ offset * 1024 + buffer
-made-of q buffer offset b o = sym (div-add-mod' q 1024) ∙ ap (λ n. n * 1024 + q % 1024) o ∙ ap (λ n. offset * 1024 + n) b
-
-module _ (m : Records) (buffer offset q : ℕ) where
-  in_before : buffer_of q < buffer → those_before m buffer offset q ≡ m q
-  in_before low = cond-true _ (m q) [] (or_left _ _ (lt-ltb _ _ low))
-
-  in_here : buffer_of q ≡ buffer → offset_of q < offset → those_before m buffer offset q ≡ m q
-  in_here same low = cond-true _ (m q) [] (or_right _ _ (and_from _ _ (eq-eqb _ _ same) (lt-ltb _ _ low)))
-
-  not_yet : buffer_of q ≡ buffer → offset ≤ offset_of q → those_before m buffer offset q ≡ []
-  not_yet same high = cond-false _ (m q) [] (or_from _ _ (le-ltb _ _ (omega arith)) (and_right _ _ (le-ltb _ _ high)))
-
-  in_later : buffer < buffer_of q → those_before m buffer offset q ≡ []
-  in_later high = cond-false _ (m q) [] (or_from _ _ (le-ltb _ _ (omega arith)) (and_left _ _ (ne_eqb (buffer_of q) buffer (λ same. omega arith))))
-
-  pub before-none : m q ≡ [] → those_before m buffer offset q ≡ []
-  before-none none = by_test (is_before buffer offset q)
-    where
-      by_test : (t : Bool) → cond t (m q) [] ≡ []
-      by_test true = none
-      by_test false = refl
-
-module _ (m : Records) (buffer offset q : ℕ) where
-  -- of another entry the same is so before the next offset
-  pub before-other : q ≢ offset * 1024 + buffer → those_before m buffer (offset + 1) q ≡ those_before m buffer offset q
-  before-other ne = elim (cases_order (buffer_of q) buffer) [
-    | inl same ↦ elim (cases_lt (offset_of q) offset) [
-      | inl low ↦ in_here m buffer (offset + 1) q same (omega arith) ∙ sym (in_here m buffer offset q same low)
-      | inr high ↦
-          (let apart : offset_of q ≢ offset = (λ o. ne (made-of q buffer offset same o)) in
-          not_yet m buffer (offset + 1) q same (omega arith) ∙ sym (not_yet m buffer offset q same high))
-    ]
-    | inr (inl low) ↦ in_before m buffer (offset + 1) q low ∙ sym (in_before m buffer offset q low)
-    | inr (inr high) ↦ in_later m buffer (offset + 1) q high ∙ sym (in_later m buffer offset q high)
-  ]
-
-  pub before-here : buffer_of q ≡ buffer → offset_of q ≡ offset → those_before m buffer (offset + 1) q ≡ m q
-  before-here same o = in_here m buffer (offset + 1) q same (omega arith)
-
-  pub here-not_yet : buffer_of q ≡ buffer → offset_of q ≡ offset → those_before m buffer offset q ≡ []
-  here-not_yet same o = not_yet m buffer offset q same (omega arith)
-
-  -- from one buffer to the next, where the rest of the one has no record
-  pub next-buffer : (buffer_of q ≡ buffer → offset ≤ offset_of q → m q ≡ []) → those_before m buffer offset q ≡ those_before m (buffer + 1) 0 q
-  next-buffer none = elim (cases_order (buffer_of q) buffer) [
-    | inl same ↦ elim (cases_lt (offset_of q) offset) [
-      | inl low ↦ in_here m buffer offset q same low ∙ sym (in_before m (buffer + 1) 0 q (omega arith))
-      | inr high ↦ not_yet m buffer offset q same high ∙ sym (before-none m (buffer + 1) 0 q (none same high))
-    ]
-    | inr (inl low) ↦ in_before m buffer offset q low ∙ sym (in_before m (buffer + 1) 0 q (omega arith))
-    | inr (inr high) ↦ in_later m buffer offset q high ∙ sym (elim (cases_eq (buffer_of q) (buffer + 1)) [
-      | inl at ↦ not_yet m (buffer + 1) 0 q at (omega arith)
-      | inr ne ↦ in_later m (buffer + 1) 0 q (omega arith)
-    ])
-  ]
-
-  -- offset 0 has no record
-  pub first-offset : (offset_of q ≡ 0 → m q ≡ []) → those_before m buffer 0 q ≡ those_before m buffer 1 q
-  first-offset none = elim (cases_eq (offset_of q) 0) [
-    | inl o ↦ before-none m buffer 0 q (none o) ∙ sym (before-none m buffer 1 q (none o))
-    | inr ne ↦ elim (cases_order (buffer_of q) buffer) [
-      | inl same ↦ not_yet m buffer 0 q same (omega arith) ∙ sym (not_yet m buffer 1 q same (omega arith))
-      | inr (inl low) ↦ in_before m buffer 0 q low ∙ sym (in_before m buffer 1 q low)
-      | inr (inr high) ↦ in_later m buffer 0 q high ∙ sym (in_later m buffer 1 q high)
-    ]
-  ]
-
-  -- all records are before the end
-  pub all-before : (buffer ≤ buffer_of q → m q ≡ []) → those_before m buffer 0 q ≡ m q
-  all-before none = elim (cases_lt (buffer_of q) buffer) [
-    | inl low ↦ in_before m buffer 0 q low
-    | inr high ↦ before-none m buffer 0 q (none high) ∙ sym (none high)
-  ]
-
-none-or : (ws : List ℕ) → (0 < length ws → ⊥) → ws ≡ []
-none-or [] not_some = refl
-none-or (w ∷ ws) not_some = absurd (not_some (omega arith))
-
--- an entry's offset is one of its width's
-pub offset-within : (buffers words width q : ℕ) → IsEntry buffers words width q → offset_of q < words / width
-offset-within buffers words width q e = elim (cases_lt (offset_of q) (words / width)) [
-  | inl low ↦ low
-  | inr high ↦
-      (let wide : words / width * width ≤ offset_of q * width = mul-le-mul_right width high in
-      let last = e.last in
-      let some = e.wide in
-      let is : words / width * width + words % width ≡ words = div-add-mod' words width in
-      let rest : words % width < width = omega arith in
-      absurd (omega arith))
-]
-
--- one entry more is there
-pub one_more : (m : Records) (buffer offset r : ℕ) → buffer < 1024 → r ≡ offset * 1024 + buffer → (f g : Records) → f r ≡ m r → ((q : ℕ) → q ≢ r → f q ≡ g q)
-    → ((q : ℕ) → g q ≡ those_before m buffer offset q) → (q : ℕ) → f q ≡ those_before m buffer (offset + 1) q
-one_more m buffer offset r small is f g here others before q = elim (cases_eq q r) [
-  | inl same ↦
-      (let at : q ≡ offset * 1024 + buffer = same ∙ is in
-      ap f same ∙ here ∙ ap m (sym same)
-      ∙ sym (before-here m buffer offset q (ap buffer_of at ∙ mod-mul-add offset 1024 buffer small) (ap offset_of at ∙ div-mul-add offset 1024 buffer small)))
-  | inr ne ↦ others q ne ∙ before q ∙ sym (before-other m buffer offset q (λ same. ne (same ∙ sym is)))
-]
 
 module _ {H : Type 0} (work : WorkView H) (m : Records) (e : EntriesView) (unit : Bool) (last active : ℕ) (st : Stands work m e unit last active)
     (fits : (r : ℕ) → 0 < length (m r) → Fits work.sizes (active_width (work.buffer (buffer_of r))) r (length (m r))) (q : ℕ) where

@@ -1,9 +1,8 @@
 -- What a store shows of its work and its entries, and what is always so of them.
-use Rattle.std.specs.Prelude.{◌≡◌, ℕ, ◌<◌, ◌≤◌, Bool, true, false, nat_eq, nat_lt, nat_le, if◌then◌else◌, List, [], length, Option, Some, None, option_map, ◌&&◌, ◌||◌}
+use Rattle.std.specs.Prelude.{◌≡◌, ℕ, ◌<◌, ◌≤◌, Bool, true, false, nat_eq, nat_lt, nat_le, if◌then◌else◌, List, [], length, Option, Some, None, option_map}
 use Rattle.entry_shelf.specs.declared.state.State.{State}
 use Rattle.entry_shelf.specs.declared.state.State.TheVariants.{Free, Returned, Made, InUse, LetGo, DroppedNow, Dropped}
 use Rattle.entry_shelf.specs.States.{undone, is_touched}
-use Rattle.entry_ref.specs.References.{buffer_of, offset_of}
 use Rattle.image_base.specs.Images.{words_at}
 use Rattle.image_base.specs.Records.{Records, with_words}
 use Rattle.arena_api.specs.Works.{WorkView, active_width, last_image}
@@ -95,10 +94,3 @@ pub record Opens {H : Type 0} (old new : WorkView H) (before after : EntriesView
   pub lowest : IsLowestFree old.buffer old.sizes.buffers buffer
   pub work : new ≡ handed_out old buffer width
   pub added : after ≡ with_buffer before buffer width
-
--- the records of the buffers before one, and its own before an offset
-abbrev pub is_before : ℕ → ℕ → ℕ → Bool
-is_before buffer offset r = nat_lt (buffer_of r) buffer || (nat_eq (buffer_of r) buffer && nat_lt (offset_of r) offset)
-
-abbrev pub those_before : Records → ℕ → ℕ → Records
-those_before m buffer offset r = if is_before buffer offset r then m r else []

@@ -1,4 +1,3 @@
-pub mod Seen
 pub mod Keys
 pub mod Faults
 pub mod Walks

@@ -2,10 +2,11 @@ ghost use Rattle.std.specs.Prelude.{◌≡◌, IfOk, slice_index};
 ghost use Rattle.std.specs.Int.{cast_signed, w64};
 ghost use Rattle.attr_images.specs.Values.{text_of};
 ghost use Rattle.image_check.specs.Keys.{key_cmp};
-ghost use Rattle.image_check.specs.Seen.{seen};
+ghost use Rattle.record_map.specs.Maps.{seen};
 
-use crate::read::{rest_of, word_at, words_at};
+use crate::read::{rest_of, word_at};
 use attr_types::ValueType;
+use record_map::words_at;
 use std::alloc::{AllocError, Global};
 use std::cmp::Ordering;
 use std::collections::BTreeMap;

@@ -13,5 +13,5 @@ mod tree;
 pub use fault::{NodeFault, TreeFault};
 pub use keys::{Keys, long_of, text_of};
 pub use node::check_node;
-pub use read::{rest_of, word_at, words_at};
+pub use read::{rest_of, word_at};
 pub use tree::check_tree;

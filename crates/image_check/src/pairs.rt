@@ -4,7 +4,7 @@ ghost use Rattle.attr_images.specs.Nodes.{used_of, node_keys, node_values};
 ghost use Rattle.attr_images.specs.Trees.{last_key};
 ghost use Rattle.image_check.specs.Faults.{IsAmongPairs};
 ghost use Rattle.image_check.specs.Keys.{Ascends};
-ghost use Rattle.image_check.specs.Seen.{seen};
+ghost use Rattle.record_map.specs.Maps.{seen};
 
 use crate::fault::TreeFault;
 use crate::keys::{Keys, compare_keys};

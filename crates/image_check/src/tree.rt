@@ -3,14 +3,14 @@ ghost use Rattle.attr_images.specs.Nodes.{IsNodeForm};
 ghost use Rattle.attr_images.specs.Trees.{pairs_below, tree_pairs, IsNode, root_least};
 ghost use Rattle.image_check.specs.Faults.{IsAt, IsFault, IsNamed};
 ghost use Rattle.image_check.specs.Keys.{Ascends, IsTreeOf};
-ghost use Rattle.image_check.specs.Seen.{seen};
+ghost use Rattle.record_map.specs.Maps.{seen};
 ghost use Rattle.image_check.specs.Walks.{Refuses};
 
 use crate::fault::{NodeFault, TreeFault};
 use crate::keys::Keys;
 use crate::node::check_node;
 use crate::pairs::{add_leaf, last_of};
-use crate::read::words_at;
+use record_map::words_at;
 use std::alloc::Global;
 use std::collections::BTreeMap;
 

@@ -10,14 +10,14 @@ ghost use Rattle.attr_images.specs.Values.{value_at};
 ghost use Rattle.attr_types.specs.Value.{value_cmp};
 ghost use Rattle.attr_types.specs.declared.items.Item.{Item};
 ghost use Rattle.attr_types.specs.declared.kind.Kind.{Kind};
-ghost use Rattle.image_check.specs.Seen.{seen};
+ghost use Rattle.record_map.specs.Maps.{seen};
 ghost use Rattle.lawful_check.specs.Faults.{IsFault};
 
 use crate::fault::ImageFault;
 use crate::postings::read_postings;
 use crate::values::read_value;
 use attr_types::{Item, Items, Value, ValueType, compare};
-use image_check::words_at;
+use record_map::words_at;
 use std::alloc::{AllocError, Global};
 use std::collections::BTreeMap;
 

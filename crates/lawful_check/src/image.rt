@@ -10,7 +10,7 @@ ghost use Rattle.attr_images.specs.Values.{value_at};
 ghost use Rattle.attr_types.specs.Lawful.{IsLawfulTable};
 ghost use Rattle.attr_types.specs.Value.{value_cmp};
 ghost use Rattle.attr_types.specs.declared.kind.Kind.{Kind};
-ghost use Rattle.image_check.specs.Seen.{seen};
+ghost use Rattle.record_map.specs.Maps.{seen};
 ghost use Rattle.lawful_check.specs.Faults.{IsFault, IsImageFault, Refuses};
 
 use crate::coverage::check_values;
@@ -20,7 +20,8 @@ use crate::fault::ImageFault;
 use crate::items::read_documents;
 use crate::postings::unless_memory;
 use attr_types::{Items, Kind, Value, ValueType};
-use image_check::{Keys, check_tree, word_at, words_at};
+use image_check::{Keys, check_tree, word_at};
+use record_map::words_at;
 use std::alloc::Global;
 use std::collections::BTreeMap;
 

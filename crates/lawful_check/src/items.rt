@@ -3,7 +3,7 @@ ghost use Rattle.std.specs.List.{AllByRecursion};
 ghost use Rattle.attr_images.specs.Documents.{weighted, IsItemsRecord, items_at, AreItems};
 ghost use Rattle.attr_images.specs.Trees.{tree_pairs};
 ghost use Rattle.attr_images.specs.Values.{value_at, IsValueRecord};
-ghost use Rattle.image_check.specs.Seen.{seen};
+ghost use Rattle.record_map.specs.Maps.{seen};
 ghost use Rattle.lawful_check.specs.Faults.{IsFault};
 ghost use Rattle.lawful_check.specs.Told.{Tells};
 ghost use Rattle.lawful_check.specs.Weights.{weights};
@@ -12,7 +12,7 @@ use crate::fault::ImageFault;
 use crate::values::read_value;
 use crate::words::{read_list, unpack_all};
 use attr_types::{Item, Items, Kind, ValueType};
-use image_check::words_at;
+use record_map::words_at;
 use std::alloc::{AllocError, Global};
 use std::collections::BTreeMap;
 

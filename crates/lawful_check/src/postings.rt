@@ -6,14 +6,15 @@ ghost use Rattle.attr_images.specs.Words.{weight_of};
 ghost use Rattle.attr_types.specs.declared.kind.Kind.{Kind};
 ghost use Rattle.attr_types.specs.declared.kind.ValueType.{ValueType};
 ghost use Rattle.image_check.specs.Faults.{IsNamed};
-ghost use Rattle.image_check.specs.Seen.{seen};
+ghost use Rattle.record_map.specs.Maps.{seen};
 ghost use Rattle.image_check.specs.declared.keys.Keys.TheVariants.{Numbers};
 ghost use Rattle.lawful_check.specs.Faults.{IsFault, unless_memory};
 ghost use Rattle.lawful_check.specs.Told.{Tells};
 
 use crate::fault::ImageFault;
 use crate::words::{read_list, unpack_all};
-use image_check::{Keys, TreeFault, check_tree, words_at};
+use image_check::{Keys, TreeFault, check_tree};
+use record_map::words_at;
 use std::alloc::{AllocError, Global};
 use std::collections::BTreeMap;
 

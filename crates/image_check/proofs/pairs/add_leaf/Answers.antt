@@ -2,7 +2,7 @@ use Rattle.std.proofs.Common.{◌<◌, arith}
 use Rattle.std.proofs.lemmas.Result.{err_from_is_err_and}
 use Rattle.attr_images.specs.Nodes.{used_of}
 use Rattle.image_check.proofs.WalkLemmas.{slots_more, slots_fault}
-use Rattle.image_check.specs.Seen.{seen}
+use Rattle.record_map.specs.Maps.{seen}
 use Rattle.image_check.proofs.pairs.add_leaf.Goals as goal
 
 pub loop-i-preserved : goal.loop-i-preserved

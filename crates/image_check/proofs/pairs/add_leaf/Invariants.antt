@@ -2,7 +2,7 @@ use Rattle.std.proofs.Common.{◌≡◌, ◌≤◌, ◌++◌, take, length}
 use Rattle.std.specs.List.{zip}
 use Rattle.attr_images.specs.Nodes.{used_of, node_keys, node_values}
 use Rattle.image_check.specs.Keys.{Ascends}
-use Rattle.image_check.specs.Seen.{seen}
+use Rattle.record_map.specs.Maps.{seen}
 use Rattle.image_check.proofs.pairs.add_leaf.Given as goal
 
 abbrev pub invariant-loop-i : goal.invariant-loop-i

@@ -1,7 +1,7 @@
 use Rattle.std.proofs.Common.{◌∷◌, [], ◌++◌, List, subst}
 use Rattle.std.proofs.lemmas.Result.{err_from_is_err_and}
 use Rattle.image_check.specs.Faults.{IsAmongPairs}
-use Rattle.image_check.specs.Seen.{seen}
+use Rattle.record_map.specs.Maps.{seen}
 use Rattle.image_check.proofs.pairs.add_pair.Goals as goal
 
 pub returns-in_err-check_order-clause-named : goal.returns-in_err-check_order-clause-named

@@ -2,7 +2,7 @@ use Rattle.std.proofs.Common.{length, sym, ap, ◌∙◌}
 use Rattle.image_check.proofs.KeyLemmas.{ascends-first, ascends-more, out_of_order, is_less, not_less}
 use Rattle.image_check.proofs.PairLemmas.{some_from, none_from}
 use Rattle.image_check.specs.Keys.{key_cmp}
-use Rattle.image_check.specs.Seen.{seen}
+use Rattle.record_map.specs.Maps.{seen}
 use Rattle.image_check.proofs.pairs.check_order.Goals as goal
 
 pub returns-then-is_empty-clause-ascends : goal.returns-then-is_empty-clause-ascends

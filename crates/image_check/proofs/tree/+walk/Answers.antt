@@ -6,7 +6,7 @@ use Rattle.attr_images.specs.Trees.{last_key}
 use Rattle.image_check.proofs.FaultLemmas.{fault_here}
 use Rattle.image_check.proofs.NodeSteps.{count-fault, leaf-is, leaf-stands, leaf-fault, step, child-named, last-named, whole-pairs, whole-node, difference}
 use Rattle.image_check.specs.Faults.{IsAmongPairs}
-use Rattle.image_check.specs.Seen.{seen}
+use Rattle.record_map.specs.Maps.{seen}
 use Rattle.image_check.proofs.tree.+walk.Goals as goal
 
 pub returns-in_err-words-clause-named : goal.returns-in_err-words-clause-named

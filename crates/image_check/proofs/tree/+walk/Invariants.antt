@@ -1,6 +1,6 @@
 use Rattle.std.proofs.Common.{◌≡◌, ◌<◌, ◌≤◌, ◌-◌, length}
 use Rattle.attr_images.specs.Nodes.{used_of, IsNodeForm}
-use Rattle.image_check.specs.Seen.{seen}
+use Rattle.record_map.specs.Maps.{seen}
 use Rattle.image_check.specs.Walks.{Walked}
 use Rattle.image_check.proofs.tree.+walk.Given as goal
 

@@ -5,7 +5,7 @@ use Rattle.image_check.proofs.KeyLemmas.{ascends-none}
 use Rattle.image_check.proofs.PairLemmas.{none_words}
 use Rattle.image_check.proofs.RootLemmas.{empty_tree, root-missing, root-high, found-pairs, found-tree, found-named, found-refused}
 use Rattle.image_check.specs.Keys.{Ascends}
-use Rattle.image_check.specs.Seen.{seen}
+use Rattle.record_map.specs.Maps.{seen}
 use Rattle.image_check.specs.declared.fault.NodeFault.TheVariants.{Level}
 use Rattle.image_check.specs.declared.fault.TreeFault.TheVariants.{Missing, Form}
 use Rattle.image_check.proofs.tree.check_tree.Goals as goal

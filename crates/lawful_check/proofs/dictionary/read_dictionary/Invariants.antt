@@ -3,7 +3,7 @@ use Rattle.std.specs.List.{AllByRecursion}
 use Rattle.attr_images.specs.Images.{documents_with}
 use Rattle.attr_images.specs.Postings.{form_of, list_at, IsEntryOf}
 use Rattle.attr_images.specs.Values.{value_at}
-use Rattle.image_check.specs.Seen.{seen}
+use Rattle.record_map.specs.Maps.{seen}
 use Rattle.lawful_check.proofs.dictionary.read_dictionary.Given as goal
 
 abbrev pub invariant-loop-pair : goal.invariant-loop-pair

@@ -2,7 +2,7 @@ use Rattle.std.proofs.Common.{◌∙◌, sym, ap}
 use Rattle.std.proofs.lemmas.Result.{err_from_is_err_and}
 use Rattle.attr_images.specs.Images.{documents_with}
 use Rattle.attr_images.specs.Values.{value_at}
-use Rattle.image_check.specs.Seen.{seen}
+use Rattle.record_map.specs.Maps.{seen}
 use Rattle.lawful_check.proofs.ItemLemmas.{value_told}
 use Rattle.lawful_check.proofs.PairLemmas.{same_pairs, other_pairs}
 use Rattle.lawful_check.proofs.dictionary.read_entry.Goals as goal

@@ -10,7 +10,7 @@ use Rattle.attr_images.specs.Values.{value_at}
 use Rattle.attr_types.specs.Table.{Table}
 use Rattle.attr_types.specs.declared.items.Item.{Item}
 use Rattle.attr_types.specs.declared.value.Value.{Value}
-use Rattle.image_check.specs.Seen.{seen}
+use Rattle.record_map.specs.Maps.{seen}
 use Rattle.lawful_check.proofs.IndexLemmas.{index_keys, to_lists, has_values}
 use Rattle.lawful_check.proofs.image.check_attribute.Goals as goal
 

@@ -1,5 +1,5 @@
 use Rattle.std.proofs.Common.{◌<◌, arith}
-use Rattle.image_check.specs.Seen.{seen}
+use Rattle.record_map.specs.Maps.{seen}
 use Rattle.lawful_check.proofs.LawfulLemmas.{read_lawful, read_named, read_refuted}
 use Rattle.lawful_check.proofs.image.check_image.Goals as goal
 

@@ -6,7 +6,7 @@ use Rattle.attr_images.specs.Documents.{items_at}
 use Rattle.attr_types.specs.Lawful.{IsDocument, IsLawfulItems}
 use Rattle.attr_types.specs.Table.{Table}
 use Rattle.attr_types.specs.declared.items.Item.{Item}
-use Rattle.image_check.specs.Seen.{seen}
+use Rattle.record_map.specs.Maps.{seen}
 use Rattle.lawful_check.proofs.IndexLemmas.{lawful_table}
 use Rattle.lawful_check.proofs.image.read_table.Goals as goal
 

@@ -1,7 +1,7 @@
 use Rattle.std.proofs.Common.{◌≡◌, ℕ, map, take}
 use Rattle.std.specs.List.{AllByRecursion}
 use Rattle.attr_images.specs.Documents.{items_at, AreItems}
-use Rattle.image_check.specs.Seen.{seen}
+use Rattle.record_map.specs.Maps.{seen}
 use Rattle.lawful_check.proofs.items.read_documents.Given as goal
 
 abbrev pub invariant-loop-pair : goal.invariant-loop-pair

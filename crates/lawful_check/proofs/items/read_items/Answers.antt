@@ -1,4 +1,4 @@
-use Rattle.image_check.specs.Seen.{seen}
+use Rattle.record_map.specs.Maps.{seen}
 use Rattle.lawful_check.proofs.ItemLemmas.{items_told}
 use Rattle.lawful_check.proofs.items.read_items.Goals as goal
 

@@ -1,5 +1,5 @@
 use Rattle.std.proofs.Common.{◌/◌, subst, sym}
-use Rattle.image_check.specs.Seen.{seen}
+use Rattle.record_map.specs.Maps.{seen}
 use Rattle.image_check.specs.declared.keys.Keys.TheVariants.{Numbers}
 use Rattle.lawful_check.proofs.FaultLemmas.{tree_told, form-tree}
 use Rattle.lawful_check.specs.Faults.{IsFault}

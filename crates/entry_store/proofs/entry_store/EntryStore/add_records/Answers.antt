@@ -1,9 +1,10 @@
 use Rattle.std.proofs.Common.{◌∙◌, ap, sym, arith}
-use Rattle.image_check.specs.Seen.{seen}
+use Rattle.record_map.specs.Maps.{seen}
 use Rattle.entry_states.specs.Rows.{entries_of}
 use Rattle.entry_store.specs.declared.entry_store.EntryStore.{EntryStore}
 use Rattle.entry_store.specs.Standing.{class_of, records_of_classes}
-use Rattle.entry_store.proofs.Maps.{one_more, next-buffer, none-past}
+use Rattle.record_map.proofs.Steps.{one_more, next-buffer}
+use Rattle.entry_store.proofs.Maps.{none-past}
 use Rattle.entry_store.proofs.entry_store.EntryStore.add_records.Goals as goal
 
 pub loop-offset-preserved : goal.loop-offset-preserved

@@ -1,7 +1,8 @@
 use Rattle.std.proofs.Common.{◌≡◌, ℕ}
-use Rattle.image_check.specs.Seen.{seen}
+use Rattle.record_map.specs.Maps.{seen}
 use Rattle.entry_states.specs.Rows.{entries_of}
-use Rattle.entry_store.specs.Standing.{class_of, records_of_classes, those_before}
+use Rattle.entry_store.specs.Standing.{class_of, records_of_classes}
+use Rattle.record_map.specs.Before.{those_before}
 use Rattle.entry_store.proofs.entry_store.EntryStore.records.Given as goal
 
 abbrev pub invariant-loop-buffer : goal.invariant-loop-buffer

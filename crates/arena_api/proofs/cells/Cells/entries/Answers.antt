@@ -1,0 +1,12 @@
+use Rattle.std.proofs.Common.{◌∙◌}
+use Rattle.record_map.proofs.Steps.{all-before}
+use Rattle.arena_api.specs.Entries.{chosen}
+use Rattle.arena_api.proofs.Chosen.{none-outside}
+use Rattle.arena_api.proofs.cells.Cells.entries.Goals as goal
+
+pub returns : goal.returns
+returns c q =
+    let s = c.args.self.now in
+    c.loop-buffer.invariant q
+    ∙ all-before (chosen c.args.number s.table.items s.stamps.items s.buffers s.words) c.loop-buffer.buffer 0 q
+    (none-outside c.args.number s.table.items s.stamps.items s.buffers s.words q c.loop-buffer.buffer c.loop-buffer-test.false)

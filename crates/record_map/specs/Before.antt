@@ -1,0 +1,11 @@
+-- Records up to a buffer and an offset of it.
+use Rattle.std.specs.Prelude.{ℕ, Bool, nat_eq, nat_lt, if◌then◌else◌, [], ◌&&◌, ◌||◌}
+use Rattle.entry_ref.specs.References.{buffer_of, offset_of}
+use Rattle.image_base.specs.Records.{Records}
+
+-- the records of the buffers before one, and its own before an offset
+abbrev pub is_before : ℕ → ℕ → ℕ → Bool
+is_before buffer offset r = nat_lt (buffer_of r) buffer || (nat_eq (buffer_of r) buffer && nat_lt (offset_of r) offset)
+
+abbrev pub those_before : Records → ℕ → ℕ → Records
+those_before m buffer offset r = if is_before buffer offset r then m r else []
