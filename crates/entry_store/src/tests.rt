@@ -4,6 +4,7 @@ ghost use Rattle.store_api.specs.Ledgers.{IsNew};
 use super::*;
 use arena_api::{MemWork, OneRecord};
 use entry_ref::EntryRef;
+use record_map::words_at;
 use std::alloc::AllocError;
 use std::test::Fail;
 use store_api::{Store, StoreError};
@@ -62,5 +63,33 @@ fn what_is_dropped_is_gone_after_a_commit(rt: HostRuntime) -> Result<(), Fail> {
     assert_eq!(rt; commit_twice(&mut store), Some((1, 2)));
     assert!(rt; store.records(rt.alloc())?.is_empty());
     assert_eq!(rt; store.commits_left(), 4_294_967_293);
+    Ok(())
+}
+
+/// Commits a record of a new store, then makes another.
+fn commit_and_make<S: Store<Layout = OneRecord>>(store: &mut S) -> Option<EntryRef>
+    requires new { IsNew (S.ledger store.old) }
+    requires room { (S.ledger store.old).work.commits.last + 2 ≤ (S.ledger store.old).work.sizes.commits }
+{
+    store.begin();
+    let root = store.make(2, &[8, 5]).ok()?;
+    store.accept();
+    store.commit(root);
+    store.begin();
+    store.make(2, &[13]).ok()
+}
+
+#[test]
+fn the_work_gives_the_records_of_its_store(rt: HostRuntime) -> Result<(), Fail> {
+    let work = MemWork::<OneRecord>::create(rt.alloc(), 8, 8192, 1)?;
+    let mut store = EntryStore::create(rt.alloc(), work).map_err(|_| AllocError)?;
+    assert_eq!(rt; commit_and_make(&mut store), Some(EntryRef::from_raw(2048)));
+    let of_store = store.records(rt.alloc())?;
+    let of_work = store.into_work().records(rt.alloc())?;
+    for records in [of_store, of_work] {
+        assert_eq!(rt; records.len(), 2);
+        assert_eq!(rt; words_at(&records, 1024), [8, 5].as_slice());
+        assert_eq!(rt; words_at(&records, 2048), [13, 0].as_slice());
+    }
     Ok(())
 }
