@@ -8,11 +8,9 @@ mod commit;
 mod round;
 mod store_run;
 mod tree_run;
-mod workload;
 
 use crate::store_run::run_store;
-use crate::tree_run::{TreeCounts, TreeLoad, run_tree};
-use crate::workload::{Workload, workload_in};
+use crate::tree_run::{Order, TreeCounts, TreeLoad, run_tree};
 use arena_api::{MemWork, OneRecord};
 use entry_store::EntryStore;
 use frozen_btree::TreeLayout;
@@ -20,6 +18,49 @@ use image_base::Layout;
 use std::alloc::{AllocError, Global};
 use std::process::ExitCode;
 use store_api::{Store, StoreError};
+
+/// What is run.
+#[derive(Clone, Copy, Debug)]
+enum Workload {
+    /// Units of a thousand entries, made and dropped.
+    Store { units: u64 },
+    /// A tree by number.
+    Tree(TreeLoad),
+}
+
+/// The workload that the words after the program's name ask for.
+fn workload_in(rt: &HostRuntime) -> Option<Workload> {
+    let mut words = std::env::args(rt).ok()?.skip(1);
+    let name = words.next()?;
+    if name.as_str() == "store" {
+        let units = words.next()?.parse::<u64>().ok()?;
+        return Some(Workload::Store { units });
+    }
+    if name.as_str() != "tree" {
+        return None;
+    }
+    let order = order_of(words.next()?.as_str())?;
+    let keys = words.next()?.parse::<u64>().ok()?;
+    let finds = words.next()?.parse::<u64>().ok()?;
+    let walks = words.next()?.parse::<u64>().ok()?;
+    let removes = words.next()?.parse::<u64>().ok()?;
+    Some(Workload::Tree(TreeLoad {
+        order,
+        keys,
+        finds,
+        walks,
+        removes,
+    }))
+}
+
+fn order_of(name: &str) -> Option<Order> {
+    match name {
+        "ascending" => Some(Order::Ascending),
+        "descending" => Some(Order::Descending),
+        "random" => Some(Order::Random),
+        _ => None,
+    }
+}
 
 /// A store over a memory of so many buffers of 65,536 words, of which nothing is made yet.
 fn new_store<L: Layout>(alloc: Global, buffers: u32) -> Result<EntryStore<MemWork<L>>, AllocError>

@@ -1,4 +1,4 @@
-ghost use Rattle.std.specs.Prelude.{◌≡◌, ◌<◌, IfOk};
+ghost use Rattle.std.specs.Prelude.{◌≡◌, ◌<◌, ◌≤◌, ◌+◌, length, IfOk, OnOk};
 ghost use Rattle.attr_images.specs.Trees.{IsRootNode};
 ghost use Rattle.store_api.specs.Ledgers.{IsNew};
 
@@ -16,8 +16,13 @@ pub enum Order {
 }
 
 impl Order {
+    ghost use Rattle.attr_bench.specs.declared.tree_run.Order.TheVariants.{Ascending, Descending};
+
     /// Key `i` of so many, each another.
-    pub fn key_at(self, i: u64, keys: u64) -> u64 {
+    pub fn key_at(self, i: u64, keys: u64) -> u64
+        ensures ascending { self ≡ Ascending → result ≡ i }
+        ensures descending { self ≡ Descending → i < keys → result + i + 1 ≡ keys }
+    {
         match self {
             Order::Ascending => i,
             Order::Descending => keys.wrapping_sub(i).wrapping_sub(1),
@@ -48,7 +53,9 @@ pub struct TreeCounts {
 fn fill<S: Store<Layout = TreeLayout>>(
     tree: &mut NumberTree<S>,
     load: &TreeLoad,
-) -> Result<(), StoreError> {
+) -> Result<(), StoreError>
+    ensures { OnOk result (length tree.new.pairs ≤ length tree.old.pairs + load.now.keys) }
+{
     for i in 0..load.keys {
         tree.insert(load.order.key_at(i, load.keys), i)?;
     }
@@ -56,12 +63,15 @@ fn fill<S: Store<Layout = TreeLayout>>(
 }
 
 /// How many of the keys that are looked up are there.
-fn found_in<S: Store<Layout = TreeLayout>>(tree: &mut NumberTree<S>, load: &TreeLoad) -> u64 {
+fn found_in<S: Store<Layout = TreeLayout>>(tree: &mut NumberTree<S>, load: &TreeLoad) -> u64
+    ensures found { result ≤ load.now.finds }
+    ensures same { tree.new ≡ tree.old }
+{
     let mut found: u64 = 0;
     let mut i: u64 = 0;
-    for _ in 0..load.finds {
+    for turn in 0..load.finds {
         if tree.get(load.order.key_at(i, load.keys)).is_some() {
-            found = found.wrapping_add(1);
+            found += 1;
         }
         let next = i.wrapping_add(1);
         i = if next < load.keys { next } else { 0 };
@@ -73,7 +83,9 @@ fn found_in<S: Store<Layout = TreeLayout>>(tree: &mut NumberTree<S>, load: &Tree
 fn take_out<S: Store<Layout = TreeLayout>>(
     tree: &mut NumberTree<S>,
     load: &TreeLoad,
-) -> Result<(), StoreError> {
+) -> Result<(), StoreError>
+    ensures { OnOk result (length tree.new.pairs ≤ length tree.old.pairs) }
+{
     for i in 0..load.removes {
         tree.remove(load.order.key_at(i, load.keys))?;
     }
@@ -101,6 +113,8 @@ pub fn run_tree<S: Store<Layout = TreeLayout> + Drop>(
     load: &TreeLoad,
 ) -> Result<(TreeCounts, S), StoreError>
     requires { IsNew (S.ledger store) }
+    ensures found { IfOk result (λ r. r.0.found ≤ load.now.finds) }
+    ensures left { IfOk result (λ r. r.0.left ≤ load.now.keys) }
 {
     let mut tree = NumberTree::new(store);
     fill(&mut tree, load)?;
