@@ -5,8 +5,8 @@ use Rattle.arena_api.specs.Works.{active_width}
 use Rattle.arena_api.specs.Cells.{buffer_by}
 use Rattle.arena_api.specs.Stamped.{active_width-by}
 
-pub entry-by : (buffers words width r : ℕ) → IsEntry buffers words (active_width (buffer_by width)) r → IsEntry buffers words width r
-entry-by buffers words width r e = subst (λ w. IsEntry buffers words w r) (active_width-by width) e
+pub entry-by : (bits buffers words width r : ℕ) → IsEntry bits buffers words (active_width (buffer_by width)) r → IsEntry bits buffers words width r
+entry-by bits buffers words width r e = subst (λ w. IsEntry bits buffers words w r) (active_width-by width) e
 
 pub inside-by : (width i : ℕ) → i < active_width (buffer_by width) → i < width
 inside-by width i h = subst (λ w. i < w) (active_width-by width) h

@@ -1,19 +1,20 @@
 -- What the calls of a work ask and change.
 use Rattle.std.specs.Prelude.{◌-◌, replicate, length, ◌≡◌, ℕ, ◌+◌, ◌<◌, ◌≤◌, ◌&&◌, true, false, nat_eq, if◌then◌else◌, List, [], ◌∷◌, ◌++◌, None, Some}
 use Rattle.std.specs.List.{AllByRecursion}
-use Rattle.entry_ref.specs.References.{buffer_of}
+use Rattle.entry_ref.specs.References.{buffer_of, buffer_limit, offset_limit}
 use Rattle.image_base.specs.declared.Image.{Image}
 use Rattle.image_base.specs.Images.{no_image, image_of, words_at}
 use Rattle.image_base.specs.Places.{IsEntry}
 use Rattle.image_base.specs.Records.{Records}
 use Rattle.arena_api.specs.Works.{Sizes, Buffer, Hold, Commits, Stored, WorkView, active_width, is_free, last_tag}
 
--- 1 to 1,023 buffers of 8,192 to 65,536 words; commits fit 32 bits, generations 48
-pub record IsWithinLimits (sizes : Sizes) : Type 0 where
+-- from 1 buffer to as many as can be named, of 8,192 to 65,536 words, whose offsets can be named; commits fit 32 bits, generations 48
+pub record IsWithinLimits (bits : ℕ) (sizes : Sizes) : Type 0 where
   pub some_buffers : 1 ≤ sizes.buffers
-  pub few_buffers : sizes.buffers ≤ 1023
+  pub few_buffers : sizes.buffers < buffer_limit bits
   pub some_words : 8192 ≤ sizes.words
   pub few_words : sizes.words ≤ 65536
+  pub offsets : sizes.words ≤ offset_limit bits
   pub commits : sizes.commits ≤ 4294967295
   pub generations : sizes.generations ≤ 281474976710655
 
@@ -49,18 +50,18 @@ abbrev pub InNoCommit : Commits → ℕ → Type 0
 InNoCommit commits r = (n : ℕ) → IsKept commits n → words_at (commits.image n) r ≡ []
 
 -- a record of so many words can stand here: at an offset from 1 of a buffer of this width
-pub record Fits (sizes : Sizes) (width r n : ℕ) : Type 0 where
-  pub entry : IsEntry sizes.buffers sizes.words width r
+pub record Fits (bits : ℕ) (sizes : Sizes) (width r n : ℕ) : Type 0 where
+  pub entry : IsEntry bits sizes.buffers sizes.words width r
   pub whole : n ≡ width
 
 -- a word of an entry of an active buffer
-pub record IsWordIn {H : Type 0} (work : WorkView H) (r i : ℕ) : Type 0 where
-  pub entry : IsEntry work.sizes.buffers work.sizes.words (active_width (work.buffer (buffer_of r))) r
-  pub inside : i < active_width (work.buffer (buffer_of r))
+pub record IsWordIn {H : Type 0} (bits : ℕ) (work : WorkView H) (r i : ℕ) : Type 0 where
+  pub entry : IsEntry bits work.sizes.buffers work.sizes.words (active_width (work.buffer (buffer_of bits r))) r
+  pub inside : i < active_width (work.buffer (buffer_of bits r))
 
 -- a word may be stored: it is one of an entry that no kept commit has
-pub record MayStore {H : Type 0} (work : WorkView H) (r i : ℕ) : Type 0 where
-  pub word : IsWordIn work r i
+pub record MayStore {H : Type 0} (bits : ℕ) (work : WorkView H) (r i : ℕ) : Type 0 where
+  pub word : IsWordIn bits work r i
   pub unkept : InNoCommit work.commits r
 
 -- one word more is stored

@@ -14,46 +14,46 @@ abbrev pub width_in : List ℕ → ℕ → ℕ → ℕ
 width_in table words b = slice_index table (b * words)
 
 -- where an entry of this width begins
-abbrev pub begin_of : ℕ → ℕ → ℕ → ℕ
-begin_of words width r = buffer_of r * words + offset_of r * width
+abbrev pub begin_of : ℕ → ℕ → ℕ → ℕ → ℕ
+begin_of bits words width r = buffer_of bits r * words + offset_of bits r * width
 
 -- words with others in their place from p on
 abbrev pub with_range : List ℕ → ℕ → List ℕ → List ℕ
 with_range table p ws = take p table ++ (ws ++ drop (p + length ws) table)
 
 -- whether a reference has an entry of this width
-unfoldable pub is_entry : ℕ → ℕ → ℕ → ℕ → Bool
-is_entry buffers words width r =
-    nat_lt (buffer_of r) buffers && (nat_lt 0 width && (nat_lt 0 (offset_of r) && nat_le (offset_of r * width + width) words))
+unfoldable pub is_entry : ℕ → ℕ → ℕ → ℕ → ℕ → Bool
+is_entry bits buffers words width r =
+    nat_lt (buffer_of bits r) buffers && (nat_lt 0 width && (nat_lt 0 (offset_of bits r) && nat_le (offset_of bits r * width + width) words))
 
 -- the words of each entry, record or not
-unfoldable pub standing : List ℕ → ℕ → ℕ → Records
-standing table buffers words r =
-    let width = width_in table words (buffer_of r) in
-    if is_entry buffers words width r then take width (drop (begin_of words width r) table) else []
+unfoldable pub standing : List ℕ → ℕ → ℕ → ℕ → Records
+standing table bits buffers words r =
+    let width = width_in table words (buffer_of bits r) in
+    if is_entry bits buffers words width r then take width (drop (begin_of bits words width r) table) else []
 
 -- whether each word of an entry was stored under commit n
-unfoldable pub is_whole : List ℕ → List ℕ → ℕ → ℕ → ℕ → ℕ → Bool
-is_whole table stamps buffers words n r =
-    let width = width_in table words (buffer_of r) in
-    is_entry buffers words width r && list_all (λ k. nat_eq k n) (take width (drop (begin_of words width r) stamps))
+unfoldable pub is_whole : List ℕ → List ℕ → ℕ → ℕ → ℕ → ℕ → ℕ → Bool
+is_whole table stamps bits buffers words n r =
+    let width = width_in table words (buffer_of bits r) in
+    is_entry bits buffers words width r && list_all (λ k. nat_eq k n) (take width (drop (begin_of bits words width r) stamps))
 
 -- the words that were stored under commit n
-unfoldable pub stored_in : List ℕ → List ℕ → ℕ → ℕ → ℕ → Stored
-stored_in table stamps buffers words n r i =
-    let width = width_in table words (buffer_of r) in
-    let place = begin_of words width r + i in
-    if is_entry buffers words width r && (nat_lt i width && nat_eq (slice_index stamps place) n) then Some (slice_index table place) else None
+unfoldable pub stored_in : List ℕ → List ℕ → ℕ → ℕ → ℕ → ℕ → Stored
+stored_in table stamps bits buffers words n r i =
+    let width = width_in table words (buffer_of bits r) in
+    let place = begin_of bits words width r + i in
+    if is_entry bits buffers words width r && (nat_lt i width && nat_eq (slice_index stamps place) n) then Some (slice_index table place) else None
 
 -- the image of the last commit: what its root reaches of the words that stand
-abbrev pub image_in : (ℕ → Records → ℕ → List ℕ) → ℕ → List ℕ → ℕ → ℕ → ℕ → Image
-image_in reaches shape table buffers words root = next_image reaches shape (standing table buffers words) root
+abbrev pub image_in : (ℕ → Records → ℕ → List ℕ) → ℕ → List ℕ → ℕ → ℕ → ℕ → ℕ → Image
+image_in reaches shape table bits buffers words root = next_image reaches shape (standing table bits buffers words) root
 
 -- the records: what was stored whole since the last commit, and that commit's
-abbrev pub records_in : (ℕ → Records → ℕ → List ℕ) → ℕ → List ℕ → List ℕ → ℕ → ℕ → ℕ → ℕ → Records
-records_in reaches shape table stamps buffers words last root r =
-    if is_whole table stamps buffers words (last + 1) r then standing table buffers words r
-    else words_at (image_in reaches shape table buffers words root) r
+abbrev pub records_in : (ℕ → Records → ℕ → List ℕ) → ℕ → List ℕ → List ℕ → ℕ → ℕ → ℕ → ℕ → ℕ → Records
+records_in reaches shape table stamps bits buffers words last root r =
+    if is_whole table stamps bits buffers words (last + 1) r then standing table bits buffers words r
+    else words_at (image_in reaches shape table bits buffers words root) r
 
 abbrev pub buffer_by : ℕ → Buffer
 buffer_by zero = Buffer.free None
@@ -72,14 +72,14 @@ abbrev pub only_hold : Hold
 only_hold = record { generation = 0; hold = 0; first = 0 }
 
 -- what a work in memory knows: it has no readers and keeps the last commit alone
-abbrev pub memory_view : (ℕ → Records → ℕ → List ℕ) → ℕ → List ℕ → List ℕ → ℕ → ℕ → ℕ → ℕ → WorkView (Unit {0})
-memory_view reaches shape table stamps buffers words last root = record {
+abbrev pub memory_view : (ℕ → Records → ℕ → List ℕ) → ℕ → List ℕ → List ℕ → ℕ → ℕ → ℕ → ℕ → ℕ → WorkView (Unit {0})
+memory_view reaches shape table stamps bits buffers words last root = record {
   home = tt;
   sizes = sizes_of buffers words;
   buffer = buffers_in table words;
   queue = only_hold ∷ [];
-  commits = record { floor = last; last = last; image = λ n. image_in reaches shape table buffers words root };
-  stored = stored_in table stamps buffers words (last + 1);
+  commits = record { floor = last; last = last; image = λ n. image_in reaches shape table bits buffers words root };
+  stored = stored_in table stamps bits buffers words (last + 1);
   told = [];
   stops = 0;
   found = 0;

@@ -4,13 +4,13 @@ use Rattle.image_base.specs.Records.{Records}
 use Rattle.arena_api.specs.Cells.{standing, is_whole}
 
 -- whether each word of an entry was stored under this number, if one is given
-abbrev pub is_chosen : Option ℕ → List ℕ → List ℕ → ℕ → ℕ → ℕ → Bool
-is_chosen None table stamps buffers words r = true
-is_chosen (Some number) table stamps buffers words r = is_whole table stamps buffers words number r
+abbrev pub is_chosen : Option ℕ → List ℕ → List ℕ → ℕ → ℕ → ℕ → ℕ → Bool
+is_chosen None table stamps bits buffers words r = true
+is_chosen (Some number) table stamps bits buffers words r = is_whole table stamps bits buffers words number r
 
 -- those entries with their words
-abbrev pub chosen : Option ℕ → List ℕ → List ℕ → ℕ → ℕ → Records
-chosen number table stamps buffers words r = if is_chosen number table stamps buffers words r then standing table buffers words r else []
+abbrev pub chosen : Option ℕ → List ℕ → List ℕ → ℕ → ℕ → ℕ → Records
+chosen number table stamps bits buffers words r = if is_chosen number table stamps bits buffers words r then standing table bits buffers words r else []
 
 -- records with those of these references in their place
 abbrev pub with_those : List ℕ → Records → Records → Records

@@ -28,46 +28,46 @@ first_from [] n some all = absurd (omega arith)
 first_from (x ∷ xs) n some all = eqb-true x n (and_parts _ _ all).0
 
 -- what one word stored says
-pub record IsStored (table stamps : List ℕ) (buffers words n r i x : ℕ) : Type 0 where
-  pub entry : IsEntry buffers words (width_in table words (buffer_of r)) r
-  pub inside : i < width_in table words (buffer_of r)
-  pub stamp : get_or stamps (begin_of words (width_in table words (buffer_of r)) r + i) 0 ≡ n
-  pub word : get_or table (begin_of words (width_in table words (buffer_of r)) r + i) 0 ≡ x
+pub record IsStored (table stamps : List ℕ) (bits buffers words n r i x : ℕ) : Type 0 where
+  pub entry : IsEntry bits buffers words (width_in table words (buffer_of bits r)) r
+  pub inside : i < width_in table words (buffer_of bits r)
+  pub stamp : get_or stamps (begin_of bits words (width_in table words (buffer_of bits r)) r + i) 0 ≡ n
+  pub word : get_or table (begin_of bits words (width_in table words (buffer_of bits r)) r + i) 0 ≡ x
 
 some-cond : (t : Bool) (a b : ℕ) → cond t (Some a) None ≡ Some b → (t ≡ true) × (a ≡ b)
 some-cond true a b is = (refl, cc)
 some-cond false a b is = absurd (cc)
 
-pub is_stored : (table stamps : List ℕ) (buffers words n r i x : ℕ) → stored_in table stamps buffers words n r i ≡ Some x → IsStored table stamps buffers words n r i x
+pub is_stored : (table stamps : List ℕ) (bits buffers words n r i x : ℕ) → stored_in table stamps bits buffers words n r i ≡ Some x → IsStored table stamps bits buffers words n r i x
 unfolding stored_in
-is_stored table stamps buffers words n r i x is =
+is_stored table stamps bits buffers words n r i x is =
     let parts = some-cond _ _ _ is in
     let tests = and_parts _ _ parts.0 in
     let inner = and_parts _ _ tests.1 in
-    record { entry = is_entry-true _ _ _ r tests.0; inside = ltb-true _ _ inner.0; stamp = eqb-true _ _ inner.1; word = parts.1 }
+    record { entry = is_entry-true _ _ _ _ r tests.0; inside = ltb-true _ _ inner.0; stamp = eqb-true _ _ inner.1; word = parts.1 }
 
 -- where each word is stored, it was stored whole, and those words stand
-pub whole-from : (table stamps : List ℕ) (buffers words n r : ℕ) → IsEntry buffers words (width_in table words (buffer_of r)) r
-    → ((i : ℕ) → i < width_in table words (buffer_of r) → get_or stamps (begin_of words (width_in table words (buffer_of r)) r + i) 0 ≡ n)
-    → is_whole table stamps buffers words n r ≡ true
+pub whole-from : (table stamps : List ℕ) (bits buffers words n r : ℕ) → IsEntry bits buffers words (width_in table words (buffer_of bits r)) r
+    → ((i : ℕ) → i < width_in table words (buffer_of bits r) → get_or stamps (begin_of bits words (width_in table words (buffer_of bits r)) r + i) 0 ≡ n)
+    → is_whole table stamps bits buffers words n r ≡ true
 unfolding is_whole
-whole-from table stamps buffers words n r e each =
-    let width = width_in table words (buffer_of r) in
-    and_from _ _ (is_entry-from buffers words width r e)
-    (all_from (take width (drop (begin_of words width r) stamps)) n (λ k h.
+whole-from table stamps bits buffers words n r e each =
+    let width = width_in table words (buffer_of bits r) in
+    and_from _ _ (is_entry-from bits buffers words width r e)
+    (all_from (take width (drop (begin_of bits words width r) stamps)) n (λ k h.
     let below : k < width = omega (arith, simp length-take at h) in
     get_or-take width _ k 0 below ∙ get_or-drop _ stamps k 0 ∙ each k below))
 
 -- what was stored whole has its first word's number
-pub whole-first : (table stamps : List ℕ) (buffers words n r : ℕ) → length stamps ≡ buffers * words → is_whole table stamps buffers words n r ≡ true
-    → IsEntry buffers words (width_in table words (buffer_of r)) r × (get_or stamps (begin_of words (width_in table words (buffer_of r)) r + 0) 0 ≡ n)
+pub whole-first : (table stamps : List ℕ) (bits buffers words n r : ℕ) → length stamps ≡ buffers * words → is_whole table stamps bits buffers words n r ≡ true
+    → IsEntry bits buffers words (width_in table words (buffer_of bits r)) r × (get_or stamps (begin_of bits words (width_in table words (buffer_of bits r)) r + 0) 0 ≡ n)
 unfolding is_whole
-whole-first table stamps buffers words n r room is =
-    let width = width_in table words (buffer_of r) in
+whole-first table stamps bits buffers words n r room is =
+    let width = width_in table words (buffer_of bits r) in
     let parts = and_parts _ _ is in
-    let e = is_entry-true buffers words width r parts.0 in
-    let below = cell-below buffers words width r 0 e e.wide in
+    let e = is_entry-true bits buffers words width r parts.0 in
+    let below = cell-below bits buffers words width r 0 e e.wide in
     let wide = e.wide in
-    let some : 0 < length (take width (drop (begin_of words width r) stamps)) = simp (length-take, length-drop) (omega arith) in
+    let some : 0 < length (take width (drop (begin_of bits words width r) stamps)) = simp (length-take, length-drop) (omega arith) in
     let first = first_from _ n some parts.1 in
-    (e, sym (get_or-take width (drop (begin_of words width r) stamps) 0 0 wide ∙ get_or-drop _ stamps 0 0) ∙ first)
+    (e, sym (get_or-take width (drop (begin_of bits words width r) stamps) 0 0 wide ∙ get_or-drop _ stamps 0 0) ∙ first)

@@ -1,5 +1,5 @@
 ghost use Rattle.std.specs.Prelude.{◌≡◌, ◌↔◌, ◌<◌, ◌≤◌, ◌+◌, ◌*◌, ℕ, [], IsNone, IfSome, IfNone, IfOk, length, vec_len, slice_index, slice_set, replicate};
-ghost use Rattle.entry_ref.specs.References.{buffer_of};
+ghost use Rattle.entry_ref.specs.References.{buffer_of, buffer_limit, offset_limit};
 ghost use Rattle.image_base.specs.Places.{IsEntry};
 ghost use Rattle.arena_api.specs.Works.{free_count};
 ghost use Rattle.arena_api.specs.Calls.{IsLowestFree, padded};
@@ -10,7 +10,7 @@ use std::alloc::{AllocError, Global};
 
 /// The words of all buffers, each with the number under which it was last stored.
 #[derive(Drop)]
-pub struct Cells {
+pub struct Cells<const OFFSET_BITS: u32> {
     pub buffers: u32,
     pub words: u32,
     pub table: Vec<u64>,
@@ -18,17 +18,21 @@ pub struct Cells {
     ghost room: { vec_len table ≡ buffers * words },
     ghost stamped: { vec_len stamps ≡ buffers * words },
     ghost some_buffers: { 1 ≤ buffers },
-    ghost few_buffers: { buffers ≤ 1023 },
+    ghost few_buffers: { buffers < buffer_limit OFFSET_BITS },
     ghost some_words: { 8192 ≤ words },
     ghost few_words: { words ≤ 65536 },
+    ghost offsets: { words ≤ offset_limit OFFSET_BITS },
+    ghost product: { buffers * words ≤ 67108864 },
 }
 
-impl Cells {
+impl<const OFFSET_BITS: u32> Cells<OFFSET_BITS> {
     pub fn create(alloc: Global, buffers: u32, words: u32) -> Result<Self, AllocError>
         requires some_buffers { 1 ≤ buffers }
-        requires few_buffers { buffers ≤ 1023 }
+        requires few_buffers { buffers < buffer_limit OFFSET_BITS }
         requires some_words { 8192 ≤ words }
         requires few_words { words ≤ 65536 }
+        requires offsets { words ≤ offset_limit OFFSET_BITS }
+        requires product { buffers * words ≤ 67108864 }
         ensures buffers { IfOk result (λ c. c.buffers ≡ buffers) }
         ensures words { IfOk result (λ c. c.words ≡ words) }
         ensures table { IfOk result (λ c. c.table.items ≡ replicate (buffers * words) 0) }
@@ -46,10 +50,10 @@ impl Cells {
     }
 
     /// Where a word of an entry is.
-    fn place(&self, entry: EntryRef, i: u32) -> usize
-        requires entry { IsEntry self.now.buffers self.now.words (width_in self.now.table.items self.now.words (buffer_of entry)) entry }
-        requires inside { i < width_in self.now.table.items self.now.words (buffer_of entry) }
-        ensures place { result ≡ begin_of self.now.words (width_in self.now.table.items self.now.words (buffer_of entry)) entry + i }
+    fn place(&self, entry: EntryRef<OFFSET_BITS>, i: u32) -> usize
+        requires entry { IsEntry OFFSET_BITS self.now.buffers self.now.words (width_in self.now.table.items self.now.words (buffer_of OFFSET_BITS entry)) entry }
+        requires inside { i < width_in self.now.table.items self.now.words (buffer_of OFFSET_BITS entry) }
+        ensures place { result ≡ begin_of OFFSET_BITS self.now.words (width_in self.now.table.items self.now.words (buffer_of OFFSET_BITS entry.entry)) entry.entry + i }
         ensures below { result < self.now.buffers * self.now.words }
     {
         let first = entry.buffer() as usize * self.words as usize;
@@ -57,23 +61,23 @@ impl Cells {
         first + entry.offset() as usize * width + i as usize
     }
 
-    pub fn word(&self, entry: EntryRef, i: u32) -> u64
-        requires entry { IsEntry self.now.buffers self.now.words (width_in self.now.table.items self.now.words (buffer_of entry)) entry }
-        requires inside { i < width_in self.now.table.items self.now.words (buffer_of entry) }
+    pub fn word(&self, entry: EntryRef<OFFSET_BITS>, i: u32) -> u64
+        requires entry { IsEntry OFFSET_BITS self.now.buffers self.now.words (width_in self.now.table.items self.now.words (buffer_of OFFSET_BITS entry)) entry }
+        requires inside { i < width_in self.now.table.items self.now.words (buffer_of OFFSET_BITS entry) }
         ensures { result ≡ slice_index self.now.table.items
-            (begin_of self.now.words (width_in self.now.table.items self.now.words (buffer_of entry)) entry + i) }
+            (begin_of OFFSET_BITS self.now.words (width_in self.now.table.items self.now.words (buffer_of OFFSET_BITS entry.entry)) entry.entry + i) }
     {
         self.table[self.place(entry, i)]
     }
 
     /// Stores a word under a number.
-    pub fn store(&mut self, entry: EntryRef, i: u32, word: u64, number: u64)
-        requires entry { IsEntry self.old.buffers self.old.words (width_in self.old.table.items self.old.words (buffer_of entry)) entry }
-        requires inside { i < width_in self.old.table.items self.old.words (buffer_of entry) }
+    pub fn store(&mut self, entry: EntryRef<OFFSET_BITS>, i: u32, word: u64, number: u64)
+        requires entry { IsEntry OFFSET_BITS self.old.buffers self.old.words (width_in self.old.table.items self.old.words (buffer_of OFFSET_BITS entry)) entry }
+        requires inside { i < width_in self.old.table.items self.old.words (buffer_of OFFSET_BITS entry) }
         ensures table { self.new.table.items ≡ slice_set self.old.table.items
-            (begin_of self.old.words (width_in self.old.table.items self.old.words (buffer_of entry)) entry + i) word }
+            (begin_of OFFSET_BITS self.old.words (width_in self.old.table.items self.old.words (buffer_of OFFSET_BITS entry.entry)) entry.entry + i) word }
         ensures stamps { self.new.stamps.items ≡ slice_set self.old.stamps.items
-            (begin_of self.old.words (width_in self.old.table.items self.old.words (buffer_of entry)) entry + i) number }
+            (begin_of OFFSET_BITS self.old.words (width_in self.old.table.items self.old.words (buffer_of OFFSET_BITS entry.entry)) entry.entry + i) number }
         ensures buffers { self.new.buffers ≡ self.old.buffers }
         ensures words { self.new.words ≡ self.old.words }
     {
@@ -83,11 +87,11 @@ impl Cells {
     }
 
     /// Stores the words of an entry, and zeros after them, under a number.
-    pub fn put(&mut self, entry: EntryRef, width: u32, words: &[u64], number: u64)
-        requires entry { IsEntry self.old.buffers self.old.words width entry }
+    pub fn put(&mut self, entry: EntryRef<OFFSET_BITS>, width: u32, words: &[u64], number: u64)
+        requires entry { IsEntry OFFSET_BITS self.old.buffers self.old.words width entry }
         requires fits { length words.now ≤ width }
-        ensures table { self.new.table.items ≡ with_range self.old.table.items (begin_of self.old.words width entry) (padded words.now width) }
-        ensures stamps { self.new.stamps.items ≡ with_range self.old.stamps.items (begin_of self.old.words width entry) (replicate width number) }
+        ensures table { self.new.table.items ≡ with_range self.old.table.items (begin_of OFFSET_BITS self.old.words width entry.entry) (padded words.now width) }
+        ensures stamps { self.new.stamps.items ≡ with_range self.old.stamps.items (begin_of OFFSET_BITS self.old.words width entry.entry) (replicate width number) }
         ensures buffers { self.new.buffers ≡ self.old.buffers }
         ensures words { self.new.words ≡ self.old.words }
     {

@@ -13,7 +13,7 @@ use entry_ref::EntryRef;
 use std::alloc::{AllocError, Global};
 use std::collections::BTreeMap;
 
-impl Cells {
+impl<const OFFSET_BITS: u32> Cells<OFFSET_BITS> {
     /// Every entry with its words; where a number is given, those of which each word was stored under it.
     pub fn entries(
         &self,
@@ -21,7 +21,7 @@ impl Cells {
         number: Option<u64>,
     ) -> Result<BTreeMap<u32, Vec<u64>>, AllocError>
         ensures { IfOk result (λ map. (q : ℕ) → seen map q
-            ≡ chosen number self.now.table.items self.now.stamps.items self.now.buffers self.now.words q) }
+            ≡ chosen number self.now.table.items self.now.stamps.items OFFSET_BITS self.now.buffers self.now.words q) }
     {
         let mut map = BTreeMap::new(alloc);
         for buffer in 0..self.buffers {
@@ -39,10 +39,10 @@ impl Cells {
         map: &mut BTreeMap<u32, Vec<u64>>,
     ) -> Result<(), AllocError>
         requires inside { buffer < self.now.buffers }
-        requires before { (q : ℕ) → seen map.old q ≡ those_before
-            (chosen number self.now.table.items self.now.stamps.items self.now.buffers self.now.words) buffer 0 q }
-        ensures entries { OnOk result ((q : ℕ) → seen map.new q ≡ those_before
-            (chosen number self.now.table.items self.now.stamps.items self.now.buffers self.now.words) (buffer + 1) 0 q) }
+        requires before { (q : ℕ) → seen map.old q ≡ those_before OFFSET_BITS
+            (chosen number self.now.table.items self.now.stamps.items OFFSET_BITS self.now.buffers self.now.words) buffer 0 q }
+        ensures entries { OnOk result ((q : ℕ) → seen map.new q ≡ those_before OFFSET_BITS
+            (chosen number self.now.table.items self.now.stamps.items OFFSET_BITS self.now.buffers self.now.words) (buffer + 1) 0 q) }
     {
         let width = self.width(buffer);
         if width == 0 {
@@ -59,15 +59,15 @@ impl Cells {
     fn add_entry(
         &self,
         alloc: Global,
-        entry: EntryRef,
+        entry: EntryRef<OFFSET_BITS>,
         number: Option<u64>,
         map: &mut BTreeMap<u32, Vec<u64>>,
     ) -> Result<(), AllocError>
-        requires entry { IsEntry self.now.buffers self.now.words (width_in self.now.table.items self.now.words (buffer_of entry)) entry }
+        requires entry { IsEntry OFFSET_BITS self.now.buffers self.now.words (width_in self.now.table.items self.now.words (buffer_of OFFSET_BITS entry)) entry }
         requires absent { seen map.old entry ≡ [] }
-        ensures here { OnOk result (seen map.new entry
-            ≡ chosen number self.now.table.items self.now.stamps.items self.now.buffers self.now.words entry) }
-        ensures others { OnOk result ((q : ℕ) → q ≢ entry → seen map.new q ≡ seen map.old q) }
+        ensures here { OnOk result (seen map.new entry.entry
+            ≡ chosen number self.now.table.items self.now.stamps.items OFFSET_BITS self.now.buffers self.now.words entry.entry) }
+        ensures others { OnOk result ((q : ℕ) → q ≢ entry.entry → seen map.new q ≡ seen map.old q) }
     {
         if self.is_chosen(entry, number) {
             put_words(alloc, entry.raw(), self.words_of(entry), map)?;
@@ -84,9 +84,9 @@ impl Cells {
     }
 
     /// Whether an entry is one of those asked for.
-    fn is_chosen(&self, entry: EntryRef, number: Option<u64>) -> bool
-        requires { IsEntry self.now.buffers self.now.words (width_in self.now.table.items self.now.words (buffer_of entry)) entry }
-        ensures { result ≡ is_chosen number self.now.table.items self.now.stamps.items self.now.buffers self.now.words entry }
+    fn is_chosen(&self, entry: EntryRef<OFFSET_BITS>, number: Option<u64>) -> bool
+        requires { IsEntry OFFSET_BITS self.now.buffers self.now.words (width_in self.now.table.items self.now.words (buffer_of OFFSET_BITS entry)) entry }
+        ensures { result ≡ is_chosen number self.now.table.items self.now.stamps.items OFFSET_BITS self.now.buffers self.now.words entry.entry }
     {
         match number {
             Some(number) => all_are(self.stamps_of(entry), number),
@@ -95,9 +95,9 @@ impl Cells {
     }
 
     /// The words of an entry.
-    fn words_of(&self, entry: EntryRef) -> &[u64]
-        requires { IsEntry self.now.buffers self.now.words (width_in self.now.table.items self.now.words (buffer_of entry)) entry }
-        ensures { result.now ≡ standing self.now.table.items self.now.buffers self.now.words entry }
+    fn words_of(&self, entry: EntryRef<OFFSET_BITS>) -> &[u64]
+        requires { IsEntry OFFSET_BITS self.now.buffers self.now.words (width_in self.now.table.items self.now.words (buffer_of OFFSET_BITS entry)) entry }
+        ensures { result.now ≡ standing self.now.table.items OFFSET_BITS self.now.buffers self.now.words entry.entry }
     {
         let buffer = entry.buffer();
         let width = self.width(buffer);
@@ -106,10 +106,10 @@ impl Cells {
     }
 
     /// The numbers under which the words of an entry were stored.
-    fn stamps_of(&self, entry: EntryRef) -> &[u64]
-        requires { IsEntry self.now.buffers self.now.words (width_in self.now.table.items self.now.words (buffer_of entry)) entry }
-        ensures { result.now ≡ take (width_in self.now.table.items self.now.words (buffer_of entry))
-            (drop (begin_of self.now.words (width_in self.now.table.items self.now.words (buffer_of entry)) entry) self.now.stamps.items) }
+    fn stamps_of(&self, entry: EntryRef<OFFSET_BITS>) -> &[u64]
+        requires { IsEntry OFFSET_BITS self.now.buffers self.now.words (width_in self.now.table.items self.now.words (buffer_of OFFSET_BITS entry)) entry }
+        ensures { result.now ≡ take (width_in self.now.table.items self.now.words (buffer_of OFFSET_BITS entry.entry))
+            (drop (begin_of OFFSET_BITS self.now.words (width_in self.now.table.items self.now.words (buffer_of OFFSET_BITS entry.entry)) entry.entry) self.now.stamps.items) }
     {
         let buffer = entry.buffer();
         let width = self.width(buffer);

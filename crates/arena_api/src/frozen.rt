@@ -4,16 +4,16 @@ ghost use Rattle.image_base.specs.Records.{Records, HasWord, word_at};
 use entry_ref::EntryRef;
 
 /// Records that stay as they are.
-pub trait Frozen {
+pub trait Frozen<const OFFSET_BITS: u32> {
     /// By which the layout of an image is read.
     ghost shape: { Self → ℕ };
 
     ghost records: { Self → Records };
 
     /// Word `i` of a record. Reading changes nothing.
-    fn word(&mut self, entry: EntryRef, i: u32) -> u64
+    fn word(&mut self, entry: EntryRef<OFFSET_BITS>, i: u32) -> u64
         requires { HasWord (records self.old) entry i }
-        ensures value { result ≡ word_at (records self.old) entry i }
+        ensures value { result ≡ word_at (records self.old) entry.entry i }
         ensures same { self.new ≡ self.old };
 
     // a record's reference fits 32 bits

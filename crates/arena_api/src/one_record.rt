@@ -1,3 +1,7 @@
+ghost use Rattle.std.specs.Prelude.{◌≡◌, IfOk};
+ghost use Rattle.record_map.specs.Maps.{seen};
+ghost use Rattle.arena_api.specs.OneRecord.{one_reaches};
+
 use crate::reach::Reach;
 use entry_ref::EntryRef;
 use image_base::Layout;
@@ -24,13 +28,15 @@ impl Layout for OneRecord {
     ghost stays = { one_stays };
 }
 
-impl Reach for OneRecord {
+impl<const OFFSET_BITS: u32> Reach<OFFSET_BITS> for OneRecord {
     fn reached(
         alloc: Global,
-        _shape: u32,
-        _records: &BTreeMap<u32, Vec<u64>>,
-        root: EntryRef,
-    ) -> Result<Vec<u32>, AllocError> {
+        shape: u32,
+        records: &BTreeMap<u32, Vec<u64>>,
+        root: EntryRef<OFFSET_BITS>,
+    ) -> Result<Vec<u32>, AllocError>
+        ensures { IfOk result (λ references. references.items ≡ one_reaches shape (seen records.now) root.entry) }
+    {
         let mut references = Vec::new(alloc);
         if root.valid() {
             references.push(root.raw())?;

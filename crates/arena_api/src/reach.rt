@@ -9,15 +9,15 @@ use std::alloc::{AllocError, Global};
 use std::collections::BTreeMap;
 
 /// A layout whose reach can be computed.
-pub trait Reach: Layout {
+pub trait Reach<const OFFSET_BITS: u32>: Layout {
     /// The references that a root reaches.
     fn reached(
         alloc: Global,
         shape: u32,
         records: &BTreeMap<u32, Vec<u64>>,
-        root: EntryRef,
+        root: EntryRef<OFFSET_BITS>,
     ) -> Result<Vec<u32>, AllocError>
-        ensures { IfOk result (λ references. references.items ≡ Self.reaches shape (seen records.now) root) };
+        ensures { IfOk result (λ references. references.items ≡ Self.reaches shape (seen records.now) root.entry) };
 }
 
 /// Puts the records of these references into a map.

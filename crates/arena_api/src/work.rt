@@ -14,7 +14,7 @@ use image_base::Layout;
 /// Buffers of words, over which records are made and roots are published.
 ///
 /// Its records are those of the last commit and those that were stored whole since.
-pub trait Work: Frozen {
+pub trait Work<const OFFSET_BITS: u32>: Frozen<OFFSET_BITS> {
     type Layout: Layout;
 
     type Home;
@@ -23,20 +23,20 @@ pub trait Work: Frozen {
 
     /// Stores one word of an entry that no kept commit has. What the entry holds is a record again once
     /// each of its words was stored.
-    fn store(&mut self, entry: EntryRef, i: u32, word: u64)
-        requires { MayStore (knows self.old) entry i }
+    fn store(&mut self, entry: EntryRef<OFFSET_BITS>, i: u32, word: u64)
+        requires { MayStore OFFSET_BITS (knows self.old) entry i }
         ensures knows { knows self.new
-            ≡ record (knows self.old) { stored = with_stored (knows self.old).stored entry i word } }
-        ensures others { (q : ℕ) → q ≢ entry → Self.records self.new q ≡ Self.records self.old q }
+            ≡ record (knows self.old) { stored = with_stored (knows self.old).stored entry.entry i word } }
+        ensures others { (q : ℕ) → q ≢ entry.entry → Self.records self.new q ≡ Self.records self.old q }
         ensures shape { Self.shape self.new ≡ Self.shape self.old };
 
     /// Stores a record whole: the given words, and zeros after them.
-    fn put(&mut self, entry: EntryRef, width: u32, words: &[u64])
-        requires entry { IsEntry (knows self.old).sizes.buffers (knows self.old).sizes.words width entry }
-        requires width { active_width ((knows self.old).buffer (buffer_of entry)) ≡ width }
+    fn put(&mut self, entry: EntryRef<OFFSET_BITS>, width: u32, words: &[u64])
+        requires entry { IsEntry OFFSET_BITS (knows self.old).sizes.buffers (knows self.old).sizes.words width entry }
+        requires width { active_width ((knows self.old).buffer (buffer_of OFFSET_BITS entry)) ≡ width }
         requires fits { length words.now ≤ width }
         requires unkept { InNoCommit (knows self.old).commits entry }
-        ensures records { Self.records self.new ≡ with_words (Self.records self.old) entry (padded words.now width) }
+        ensures records { Self.records self.new ≡ with_words (Self.records self.old) entry.entry (padded words.now width) }
         ensures knows { knows self.new ≡ record (knows self.old) { stored = (knows self.new).stored } }
         ensures shape { Self.shape self.new ≡ Self.shape self.old }
     {
@@ -58,16 +58,16 @@ pub trait Work: Frozen {
         ensures shape { Self.shape self.new ≡ Self.shape self.old };
 
     /// Commits what the root reaches, under the number answered.
-    fn publish(&mut self, root: EntryRef) -> u32
+    fn publish(&mut self, root: EntryRef<OFFSET_BITS>) -> u32
         requires lawful { Self.Layout.lawful (Self.shape self.old) (Self.records self.old) root }
         requires room { (knows self.old).commits.last < (knows self.old).sizes.commits }
         ensures number { result ≡ (knows self.old).commits.last + 1 }
         ensures commit { AddsCommit (knows self.old).commits (knows self.new).commits
-            (next_image Self.Layout.reaches (Self.shape self.old) (Self.records self.old) root) }
+            (next_image Self.Layout.reaches (Self.shape self.old) (Self.records self.old) root.entry) }
         ensures knows { knows self.new ≡ published (knows self.old) (knows self.new).commits
-            (next_image Self.Layout.reaches (Self.shape self.old) (Self.records self.old) root) }
+            (next_image Self.Layout.reaches (Self.shape self.old) (Self.records self.old) root.entry) }
         ensures records { Self.records self.new
-            ≡ words_at (next_image Self.Layout.reaches (Self.shape self.old) (Self.records self.old) root) }
+            ≡ words_at (next_image Self.Layout.reaches (Self.shape self.old) (Self.records self.old) root.entry) }
         ensures shape { Self.shape self.new ≡ Self.shape self.old };
 
     /// How many buffers are free.
@@ -85,7 +85,7 @@ pub trait Work: Frozen {
     fn commits_left(&self) -> u32
         ensures { result ≡ (knows self.now).sizes.commits - (knows self.now).commits.last };
 
-    ghost limits: { (s : Self) → IsWithinLimits (knows s).sizes };
+    ghost limits: { (s : Self) → IsWithinLimits OFFSET_BITS (knows s).sizes };
 
     ghost total_words: { (s : Self) → (knows s).sizes.buffers * (knows s).sizes.words ≤ 67108864 };
 
@@ -93,11 +93,11 @@ pub trait Work: Frozen {
 
     // a record fills an entry of an active buffer
     ghost entries: { (s : Self) (r : ℕ) → 0 < length (Self.records s r)
-        → Fits (knows s).sizes (active_width ((knows s).buffer (buffer_of r))) r (length (Self.records s r)) };
+        → Fits OFFSET_BITS (knows s).sizes (active_width ((knows s).buffer (buffer_of OFFSET_BITS r))) r (length (Self.records s r)) };
 
     // a kept commit's record fills one of an active or held buffer
     ghost kept: { (s : Self) (n r : ℕ) → IsKept (knows s).commits n → 0 < length (words_at ((knows s).commits.image n) r)
-        → Fits (knows s).sizes (width_of ((knows s).buffer (buffer_of r))) r (length (words_at ((knows s).commits.image n) r)) };
+        → Fits OFFSET_BITS (knows s).sizes (width_of ((knows s).buffer (buffer_of OFFSET_BITS r))) r (length (words_at ((knows s).commits.image n) r)) };
 
     // the last commit's records are records
     ghost last: { (s : Self) (r : ℕ) → 0 < length (words_at (last_image (knows s).commits) r)
@@ -105,11 +105,11 @@ pub trait Work: Frozen {
 
     // what was stored whole since the last commit is a record
     ghost whole: { (s : Self) (r : ℕ) (ws : List ℕ) → 0 < length ws
-        → length ws ≡ active_width ((knows s).buffer (buffer_of r))
+        → length ws ≡ active_width ((knows s).buffer (buffer_of OFFSET_BITS r))
         → ((i : ℕ) → i < length ws → (knows s).stored r i ≡ Some (slice_index ws i)) → Self.records s r ≡ ws };
 
     // only words of active buffers were stored
-    ghost stored: { (s : Self) (r i w : ℕ) → (knows s).stored r i ≡ Some w → IsWordIn (knows s) r i };
+    ghost stored: { (s : Self) (r i w : ℕ) → (knows s).stored r i ≡ Some w → IsWordIn OFFSET_BITS (knows s) r i };
 
     // the last tag of a free buffer is below each open generation
     ghost tags: { (s : Self) (b : ℕ) (t : _) → (knows s).buffer b ≡ Buffer.free (Some t)

@@ -1,23 +1,22 @@
 -- References: the offset of an entry in its buffer and the number of that buffer, packed into one number.
 use Rattle.std.specs.Prelude.{ℕ, ◌+◌, ◌-◌, ◌*◌, ◌/◌, ◌%◌, ◌^◌}
-use Rattle.entry_ref.specs.declared.TheConstants.{OFFSET_BITS}
 
--- an offset is below this
-abbrev pub offset_limit : ℕ
-offset_limit = 2 ^ OFFSET_BITS
+-- an offset of so many bits is below this
+abbrev pub offset_limit : ℕ → ℕ
+offset_limit bits = 2 ^ bits
 
--- a buffer's number is below this
-abbrev pub buffer_limit : ℕ
-buffer_limit = 2 ^ (32 - OFFSET_BITS)
+-- a buffer's number is below this, where the offset has so many of the 32 bits
+abbrev pub buffer_limit : ℕ → ℕ
+buffer_limit bits = 2 ^ (32 - bits)
 
 -- the reference of an offset of a buffer
-abbrev pub packed : ℕ → ℕ → ℕ
-packed offset buffer = offset * buffer_limit + buffer
+abbrev pub packed : ℕ → ℕ → ℕ → ℕ
+packed bits offset buffer = offset * buffer_limit bits + buffer
 
 -- the offset that a reference names
-abbrev pub offset_of : ℕ → ℕ
-offset_of ref = ref / buffer_limit
+abbrev pub offset_of : ℕ → ℕ → ℕ
+offset_of bits ref = ref / buffer_limit bits
 
 -- the buffer that a reference names
-abbrev pub buffer_of : ℕ → ℕ
-buffer_of ref = ref % buffer_limit
+abbrev pub buffer_of : ℕ → ℕ → ℕ
+buffer_of bits ref = ref % buffer_limit bits

@@ -13,19 +13,19 @@ abbrev pub base : ℕ → ℕ → ℕ → ℕ
 base buffers words b = 18 + buffers + b * words
 
 -- word i of an entry, in buffers of so many words
-abbrev pub place : ℕ → ℕ → ℕ → ℕ → ℕ → ℕ
-place buffers words width ref i = base buffers words (buffer_of ref) + (offset_of ref * width + i)
+abbrev pub place : ℕ → ℕ → ℕ → ℕ → ℕ → ℕ → ℕ
+place bits buffers words width ref i = base buffers words (buffer_of bits ref) + (offset_of bits ref * width + i)
 
 -- so many words in all
 abbrev pub size_of : ℕ → ℕ → ℕ
 size_of buffers words = 18 + buffers + buffers * words
 
 -- an entry of this width lies in its buffer, behind the reserved offset 0
-pub record IsEntry (buffers words width ref : ℕ) : Type 0 where
-  pub inside : buffer_of ref < buffers
+pub record IsEntry (bits buffers words width ref : ℕ) : Type 0 where
+  pub inside : buffer_of bits ref < buffers
   pub wide : 0 < width
-  pub first : 0 < offset_of ref
-  pub last : offset_of ref * width + width ≤ words
+  pub first : 0 < offset_of bits ref
+  pub last : offset_of bits ref * width + width ≤ words
 
 -- this word stands at this place
 pub record IsWord (table : List ℕ) (p n : ℕ) : Type 0 where
@@ -33,12 +33,12 @@ pub record IsWord (table : List ℕ) (p n : ℕ) : Type 0 where
   pub is : slice_index table p ≡ n
 
 -- a record stands in the table: as wide as its buffer's first word says, each word at its place
-pub record RecordStands (buffers words : ℕ) (table : List ℕ) (ref : ℕ) (ws : List ℕ) : Type 0 where
-  pub entry : IsEntry buffers words (length ws) ref
-  pub width : IsWord table (base buffers words (buffer_of ref)) (length ws)
-  pub each : (i : ℕ) → i < length ws → IsWord table (place buffers words (length ws) ref i) (slice_index ws i)
+pub record RecordStands (bits buffers words : ℕ) (table : List ℕ) (ref : ℕ) (ws : List ℕ) : Type 0 where
+  pub entry : IsEntry bits buffers words (length ws) ref
+  pub width : IsWord table (base buffers words (buffer_of bits ref)) (length ws)
+  pub each : (i : ℕ) → i < length ws → IsWord table (place bits buffers words (length ws) ref i) (slice_index ws i)
 
 -- an image stands in the table
-abbrev pub StandsIn : ℕ → ℕ → List ℕ → Image → Type 0
-StandsIn buffers words table image =
-    (ref : ℕ) (ws : List ℕ) → record_at image ref ≡ Some ws → RecordStands buffers words table ref ws
+abbrev pub StandsIn : ℕ → ℕ → ℕ → List ℕ → Image → Type 0
+StandsIn bits buffers words table image =
+    (ref : ℕ) (ws : List ℕ) → record_at image ref ≡ Some ws → RecordStands bits buffers words table ref ws

@@ -37,10 +37,16 @@ pub trait Layout {
 }
 
 /// Where word `i` of an entry stands, in a table of so many buffers of so many words.
-pub fn place_of(buffers: u32, words: u32, width: u32, entry: EntryRef, i: u32) -> u64
-    requires entry { IsEntry buffers words width entry }
+pub fn place_of<const OFFSET_BITS: u32>(
+    buffers: u32,
+    words: u32,
+    width: u32,
+    entry: EntryRef<OFFSET_BITS>,
+    i: u32,
+) -> u64
+    requires entry { IsEntry OFFSET_BITS buffers words width entry }
     requires inside { i < width }
-    ensures { result ≡ place buffers words width entry i }
+    ensures { result ≡ place OFFSET_BITS buffers words width entry.entry i }
 {
     let base = 18 + buffers as u64 + entry.buffer() as u64 * words as u64;
     base + entry.offset() as u64 * width as u64 + i as u64
@@ -48,9 +54,9 @@ pub fn place_of(buffers: u32, words: u32, width: u32, entry: EntryRef, i: u32) -
 
 /// Two words at one place are one word of one entry, where each buffer has one width.
 pub fn places_law()
-    ensures { (buffers words v w r q i j : ℕ) → IsEntry buffers words v r → IsEntry buffers words w q
-        → (buffer_of r ≡ buffer_of q → v ≡ w) → i < v → j < w
-        → place buffers words v r i ≡ place buffers words w q j → (r ≡ q) × (i ≡ j) }
+    ensures { (bits buffers words v w r q i j : ℕ) → IsEntry bits buffers words v r → IsEntry bits buffers words w q
+        → (buffer_of bits r ≡ buffer_of bits q → v ≡ w) → i < v → j < w
+        → place bits buffers words v r i ≡ place bits buffers words w q j → (r ≡ q) × (i ≡ j) }
 {}
 
 /// An image of references holds just these, each with its words.
@@ -73,7 +79,7 @@ mod tests {
             ((2, 8, 2), (3, 1, 1), 35),
         ];
         for ((buffers, words, width), (offset, buffer, i), place) in rows {
-            let entry = EntryRef::new(offset, buffer);
+            let entry = EntryRef::<22>::new(offset, buffer);
             assert_eq!(rt; place_of(buffers, words, width, entry, i), place);
         }
     }

@@ -7,7 +7,7 @@ use arena_api::Frozen;
 use std::cmp::Ordering;
 
 /// A key that is sought in a tree. Stored keys read as values of `Read`, over records.
-pub trait KeyOrder {
+pub trait KeyOrder<const OFFSET_BITS: u32> {
     type Read;
 
     ghost can_read: { Records → ℕ → Type 0 };
@@ -22,7 +22,7 @@ pub trait KeyOrder {
     ghost sought: { Self → Self.Read };
 
     /// A stored key beside the one sought.
-    fn compare<F: Frozen>(&self, frozen: &mut F, stored: u64) -> Ordering
+    fn compare<F: Frozen<OFFSET_BITS>>(&self, frozen: &mut F, stored: u64) -> Ordering
         requires { can_read (F.records frozen.old) stored }
         ensures answer { result ≡ order (read (F.records frozen.old) stored) (sought self.now) }
         ensures same { frozen.new ≡ frozen.old };

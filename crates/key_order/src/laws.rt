@@ -8,7 +8,7 @@ ghost use Rattle.key_order.specs.Pairs.{lookup, put, take_out};
 use crate::key::KeyOrder;
 
 /// What was put in is found, one pair more or none is there, and keys ascend as before.
-pub fn put_law<K: KeyOrder>()
+pub fn put_law<const OFFSET_BITS: u32, K: KeyOrder<OFFSET_BITS>>()
     ensures found { (c : ℕ → Ordering) (pair : ℕ × ℕ) (ps : List (ℕ × ℕ)) → c pair.0 ≡ Equal
         → lookup c (put c pair ps) ≡ Some pair.1 }
     ensures count { (c : ℕ → Ordering) (pair : ℕ × ℕ) (ps : List (ℕ × ℕ)) → length (put c pair ps) ≤ length ps + 1 }
@@ -18,7 +18,7 @@ pub fn put_law<K: KeyOrder>()
 {}
 
 /// One pair is taken out where the key is there, and none where it is not; keys ascend as before.
-pub fn take_out_law<K: KeyOrder>()
+pub fn take_out_law<const OFFSET_BITS: u32, K: KeyOrder<OFFSET_BITS>>()
     ensures count { (c : ℕ → Ordering) (ps : List (ℕ × ℕ)) → IsSome (lookup c ps)
         → length (take_out c ps) + 1 ≡ length ps }
     ensures none { (c : ℕ → Ordering) (ps : List (ℕ × ℕ)) → lookup c ps ≡ None → take_out c ps ≡ ps }
@@ -27,7 +27,7 @@ pub fn take_out_law<K: KeyOrder>()
 {}
 
 /// Keys that are read from no node stay where all records but nodes stay.
-pub fn key_law<K: KeyOrder>()
+pub fn key_law<const OFFSET_BITS: u32, K: KeyOrder<OFFSET_BITS>>()
     ensures readable { (m n : Records) (ps : List (ℕ × ℕ)) → KeepsOthers m n → AllReadable K.can_read m ps
         → NoneReadsNodes K.reads_from m ps → AllReadable K.can_read n ps }
     ensures ascends { (m n : Records) (ps : List (ℕ × ℕ)) → KeepsOthers m n → AllReadable K.can_read m ps

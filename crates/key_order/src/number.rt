@@ -11,7 +11,7 @@ use std::cmp::Ordering;
 #[derive(Clone, Copy, Debug)]
 pub struct NumberKey(pub u64);
 
-impl KeyOrder for NumberKey {
+impl<const OFFSET_BITS: u32> KeyOrder<OFFSET_BITS> for NumberKey {
     type Read = u64;
 
     ghost can_read = { λ m key. Unit {0} };
@@ -24,7 +24,7 @@ impl KeyOrder for NumberKey {
 
     ghost sought = { λ s. s.0 };
 
-    fn compare<F: Frozen>(&self, frozen: &mut F, stored: u64) -> Ordering {
+    fn compare<F: Frozen<OFFSET_BITS>>(&self, frozen: &mut F, stored: u64) -> Ordering {
         stored.cmp(&self.0)
     }
 

@@ -4,8 +4,8 @@ use Rattle.entry_ref.specs.References.{buffer_of, offset_of}
 use Rattle.image_base.specs.Records.{Records}
 
 -- the records of the buffers before one, and its own before an offset
-abbrev pub is_before : ℕ → ℕ → ℕ → Bool
-is_before buffer offset r = nat_lt (buffer_of r) buffer || (nat_eq (buffer_of r) buffer && nat_lt (offset_of r) offset)
+abbrev pub is_before : ℕ → ℕ → ℕ → ℕ → Bool
+is_before bits buffer offset r = nat_lt (buffer_of bits r) buffer || (nat_eq (buffer_of bits r) buffer && nat_lt (offset_of bits r) offset)
 
-abbrev pub those_before : Records → ℕ → ℕ → Records
-those_before m buffer offset r = if is_before buffer offset r then m r else []
+abbrev pub those_before : ℕ → Records → ℕ → ℕ → Records
+those_before bits m buffer offset r = if is_before bits buffer offset r then m r else []

@@ -5,7 +5,7 @@ use Rattle.image_base.specs.Records.{Records, SameAt}
 use Rattle.attr_images.specs.Nodes.{level_of, used_of, node_values}
 use Rattle.attr_images.specs.TreeFrames.{SameAt-left, SameAt-right, flat_map-same, pairs-same, node-same, IsRootNode-same}
 use Rattle.attr_images.specs.Trees.{pairs_below, nodes_below, root_level, tree_nodes, IsNode}
-use Rattle.tree_search.specs.declared.path.Step.{Step}
+use Rattle.tree_search.specs.Steps.{Step}
 use Rattle.tree_search.specs.Places.{Place, LeadsTo, pairs_behind, HasPair, pairs_from, IsInLeaf, IsAt}
 use Rattle.tree_search.proofs.NodeLemmas.{get_or-node_values, values-size}
 use Rattle.tree_search.proofs.PlaceLemmas.{path-node, root_node, pairs_from-some, pairs_from-none}

@@ -13,7 +13,7 @@ use Rattle.attr_images.proofs.TreeLemmas.{IsNode-form, length-node_keys}
 use Rattle.key_order.specs.Keys.{AllBelow}
 use Rattle.key_order.specs.Pairs.{seek}
 use Rattle.key_order.proofs.PairLemmas.{seek-below}
-use Rattle.tree_search.specs.declared.path.Step.{Step}
+use Rattle.tree_search.specs.Steps.{Step}
 use Rattle.tree_search.specs.Places.{Leads, pairs_behind, pairs_from}
 use Rattle.tree_search.specs.Slots.{IsFirstSlot}
 use Rattle.tree_search.proofs.NodeLemmas.{All-last, leaf_pairs, get_or-node_keys, children, values-size, child-last, child-all, child-ascends, front-below, child-seek, leaf-seek, pairs-some}

@@ -1,3 +1,4 @@
+pub mod Steps
 pub mod Slots
 pub mod Places
 pub mod Examples

@@ -4,7 +4,7 @@ use Rattle.std.specs.List.{flat_map}
 use Rattle.image_base.specs.Records.{Records, word_at}
 use Rattle.attr_images.specs.Nodes.{level_of, used_of, node_values}
 use Rattle.attr_images.specs.Trees.{pairs_below, root_level, IsRootNode}
-use Rattle.tree_search.specs.declared.path.Step.{Step}
+use Rattle.tree_search.specs.Steps.{Step}
 
 -- a slot of a leaf; above the leaf, from the lowest up, the nodes with the slots that lead to it. The leaf has so many slots used; at the end, past all pairs, the slot is not below
 pub record Place : Type 0 where

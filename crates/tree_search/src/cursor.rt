@@ -15,16 +15,16 @@ use std::marker::Model;
 
 /// A place before a pair of a tree, or at the end of it.
 #[derive(Drop)]
-pub struct Cursor {
-    root: EntryRef,
-    path: Path,
-    leaf: EntryRef,
+pub struct Cursor<const OFFSET_BITS: u32> {
+    root: EntryRef<OFFSET_BITS>,
+    path: Path<OFFSET_BITS>,
+    leaf: EntryRef<OFFSET_BITS>,
     slot: u32,
     // of the leaf; at the end none
     used: u32,
 }
 
-impl Model for Cursor {
+impl<const OFFSET_BITS: u32> Model for Cursor<OFFSET_BITS> {
     ghost use Rattle.tree_search.specs.Places.{Place};
 
     ghost Value = { Place };
@@ -32,10 +32,10 @@ impl Model for Cursor {
     ghost view = { λ c. record { root = c.root; path = c.path; leaf = c.leaf; slot = c.slot; used = c.used } };
 }
 
-impl Cursor {
+impl<const OFFSET_BITS: u32> Cursor<OFFSET_BITS> {
     /// At the end.
-    fn at_end_of(root: EntryRef) -> Cursor
-        ensures { result ≡ record { root = root; path = []; leaf = 0; slot = 0; used = 0 } }
+    fn at_end_of(root: EntryRef<OFFSET_BITS>) -> Cursor<OFFSET_BITS>
+        ensures { result ≡ record { root = root.entry; path = []; leaf = 0; slot = 0; used = 0 } }
     {
         Cursor {
             root,
@@ -47,11 +47,11 @@ impl Cursor {
     }
 
     /// Before the first pair.
-    pub fn first<F: Frozen>(frozen: &mut F, root: EntryRef) -> Cursor
+    pub fn first<F: Frozen<OFFSET_BITS>>(frozen: &mut F, root: EntryRef<OFFSET_BITS>) -> Cursor<OFFSET_BITS>
         requires tree { 0 < root → IsRootNode (F.records frozen.old) root }
         ensures at { IsAt (F.records frozen.old) result }
-        ensures pairs { pairs_from (F.records frozen.old) result ≡ tree_pairs (F.records frozen.old) root }
-        ensures root { result.root ≡ root }
+        ensures pairs { pairs_from (F.records frozen.old) result ≡ tree_pairs (F.records frozen.old) root.entry }
+        ensures root { result.root ≡ root.entry }
         ensures same { frozen.new ≡ frozen.old }
     {
         let mut cursor = Cursor::at_end_of(root);
@@ -62,12 +62,12 @@ impl Cursor {
     }
 
     /// Goes on to the first pair below a node that the path leads to.
-    fn enter<F: Frozen>(&mut self, frozen: &mut F, below: EntryRef)
+    fn enter<F: Frozen<OFFSET_BITS>>(&mut self, frozen: &mut F, below: EntryRef<OFFSET_BITS>)
         requires leads { Leads (F.records frozen.old) self.old.root self.old.path below }
         ensures at { IsAt (F.records frozen.old) self.new }
         ensures pairs { pairs_from (F.records frozen.old) self.new
-            ≡ pairs_below (F.records frozen.old) (level_of (F.records frozen.old below)) below
-            ++ pairs_behind (F.records frozen.old) (level_of (F.records frozen.old below)) self.old.path }
+            ≡ pairs_below (F.records frozen.old) (level_of (F.records frozen.old below.entry)) below.entry
+            ++ pairs_behind (F.records frozen.old) (level_of (F.records frozen.old below.entry)) self.old.path }
         ensures root { self.new.root ≡ self.old.root }
         ensures same { frozen.new ≡ frozen.old }
     {
@@ -84,13 +84,13 @@ impl Cursor {
     }
 
     /// Before the first pair whose key is not below the key sought.
-    pub fn seek<F: Frozen, K: KeyOrder>(frozen: &mut F, root: EntryRef, key: &K) -> Cursor
+    pub fn seek<F: Frozen<OFFSET_BITS>, K: KeyOrder<OFFSET_BITS>>(frozen: &mut F, root: EntryRef<OFFSET_BITS>, key: &K) -> Cursor<OFFSET_BITS>
         requires tree { IsTree K.order K.read (F.records frozen.old) root }
         requires readable { AllReadable K.can_read (F.records frozen.old) (tree_pairs (F.records frozen.old) root) }
         ensures at { IsAt (F.records frozen.old) result }
         ensures pairs { pairs_from (F.records frozen.old) result
-            ≡ seek (seen_by K.read K.order (K.sought key.now) (F.records frozen.old)) (tree_pairs (F.records frozen.old) root) }
-        ensures root { result.root ≡ root }
+            ≡ seek (seen_by K.read K.order (K.sought key.now) (F.records frozen.old)) (tree_pairs (F.records frozen.old) root.entry) }
+        ensures root { result.root ≡ root.entry }
         ensures same { frozen.new ≡ frozen.old }
     {
         let mut cursor = Cursor::at_end_of(root);
@@ -124,7 +124,7 @@ impl Cursor {
     }
 
     /// The key of the pair that follows.
-    pub fn key<F: Frozen>(&self, frozen: &mut F) -> u64
+    pub fn key<F: Frozen<OFFSET_BITS>>(&self, frozen: &mut F) -> u64
         requires at { IsAt (F.records frozen.old) self.now }
         requires pair { HasPair self.now }
         ensures key { result ≡ first_key (pairs_from (F.records frozen.old) self.now) }
@@ -134,7 +134,7 @@ impl Cursor {
     }
 
     /// The value of the pair that follows.
-    pub fn value<F: Frozen>(&self, frozen: &mut F) -> u64
+    pub fn value<F: Frozen<OFFSET_BITS>>(&self, frozen: &mut F) -> u64
         requires at { IsAt (F.records frozen.old) self.now }
         requires pair { HasPair self.now }
         ensures value { result ≡ first_value (pairs_from (F.records frozen.old) self.now) }
@@ -144,7 +144,7 @@ impl Cursor {
     }
 
     /// Goes on behind one pair.
-    pub fn next<F: Frozen>(&mut self, frozen: &mut F)
+    pub fn next<F: Frozen<OFFSET_BITS>>(&mut self, frozen: &mut F)
         requires at { IsAt (F.records frozen.old) self.old }
         requires pair { HasPair self.old }
         ensures at { IsAt (F.records frozen.old) self.new }
@@ -160,7 +160,7 @@ impl Cursor {
     }
 
     /// Goes on behind the leaf.
-    fn next_leaf<F: Frozen>(&mut self, frozen: &mut F)
+    fn next_leaf<F: Frozen<OFFSET_BITS>>(&mut self, frozen: &mut F)
         requires leads { Leads (F.records frozen.old) self.old.root self.old.path self.old.leaf }
         requires leaf { level_of (F.records frozen.old self.old.leaf) ≡ 0 }
         ensures at { IsAt (F.records frozen.old) self.new }

@@ -17,7 +17,7 @@ pub fn place_law()
 {}
 
 /// In a list whose keys ascend, a key is looked up among all pairs, and sought are the pairs not below it.
-pub fn search_law<K: KeyOrder>()
+pub fn search_law<const OFFSET_BITS: u32, K: KeyOrder<OFFSET_BITS>>()
     ensures lookup { (m : Records) (s : K.Read) (ps : List (ℕ × ℕ)) → Ascends K.order K.read m ps
         → lookup (seen_by K.read K.order s m) ps
         ≡ option_map (λ p. p.1) (find (λ p. is_eq (seen_by K.read K.order s m p.0)) ps) }

@@ -18,10 +18,10 @@ pub struct Head {
     pub used: u32,
 }
 
-pub fn read_head<F: Frozen>(frozen: &mut F, node: EntryRef) -> Head
+pub fn read_head<const OFFSET_BITS: u32, F: Frozen<OFFSET_BITS>>(frozen: &mut F, node: EntryRef<OFFSET_BITS>) -> Head
     requires { HasWord (F.records frozen.old) node 0 }
-    ensures level { result.level ≡ level_of (F.records frozen.old node) }
-    ensures used { result.used ≡ used_of (F.records frozen.old node) }
+    ensures level { result.level ≡ level_of (F.records frozen.old node.entry) }
+    ensures used { result.used ≡ used_of (F.records frozen.old node.entry) }
     ensures same { frozen.new ≡ frozen.old }
 {
     let word = frozen.word(node, 0);
@@ -32,24 +32,24 @@ pub fn read_head<F: Frozen>(frozen: &mut F, node: EntryRef) -> Head
 }
 
 /// The child of a slot.
-pub fn child_at<F: Frozen>(frozen: &mut F, node: EntryRef, slot: u32) -> EntryRef
+pub fn child_at<const OFFSET_BITS: u32, F: Frozen<OFFSET_BITS>>(frozen: &mut F, node: EntryRef<OFFSET_BITS>, slot: u32) -> EntryRef<OFFSET_BITS>
     requires slot { slot < 16 }
     requires word { length (F.records frozen.old node) ≡ 34 }
     requires child { 0 < length (F.records frozen.old (word_at (F.records frozen.old) node (18 + slot))) }
-    ensures child { result ≡ word_at (F.records frozen.old) node (18 + slot) }
+    ensures child { result ≡ word_at (F.records frozen.old) node.entry (18 + slot) }
     ensures same { frozen.new ≡ frozen.old }
 {
     EntryRef::from_raw(frozen.word(node, 18 + slot) as u32)
 }
 
 /// The first of the used slots whose key is not below the key sought, or the number of used slots.
-pub fn first_slot<F: Frozen, K: KeyOrder>(frozen: &mut F, node: EntryRef, used: u32, key: &K) -> u32
+pub fn first_slot<const OFFSET_BITS: u32, F: Frozen<OFFSET_BITS>, K: KeyOrder<OFFSET_BITS>>(frozen: &mut F, node: EntryRef<OFFSET_BITS>, used: u32, key: &K) -> u32
     requires node { IsNode (F.records frozen.old) 1 (level_of (F.records frozen.old node)) node }
     requires used { used ≡ used_of (F.records frozen.old node) }
     requires readable { AllReadable K.can_read (F.records frozen.old)
         (pairs_below (F.records frozen.old) (level_of (F.records frozen.old node)) node) }
     ensures slot { IsFirstSlot (seen_by K.read K.order (K.sought key.now) (F.records frozen.old))
-        (F.records frozen.old node) result }
+        (F.records frozen.old node.entry) result }
     ensures same { frozen.new ≡ frozen.old }
 {
     for slot in 0..used {

@@ -6,12 +6,22 @@ use std::marker::Model;
 
 /// A node above the leaves, with the slot of one of its children.
 #[derive(Clone, Copy, Debug, Drop)]
-pub struct Step {
-    pub node: EntryRef,
+pub struct Step<const OFFSET_BITS: u32> {
+    pub node: EntryRef<OFFSET_BITS>,
     pub slot: u32,
 }
 
-impl Default for Step {
+impl<const OFFSET_BITS: u32> Model for Step<OFFSET_BITS> {
+    ghost use Rattle.tree_search.specs.Steps.{Step as OneStep};
+
+    ghost Value = { OneStep };
+
+    ghost view = { λ step. record { node = step.node; slot = step.slot } };
+
+    ghost inverse = { λ step. record { node = step.node; slot = step.slot } };
+}
+
+impl<const OFFSET_BITS: u32> Default for Step<OFFSET_BITS> {
     fn default() -> Self {
         Step {
             node: EntryRef::from_raw(0),
@@ -22,20 +32,20 @@ impl Default for Step {
 
 /// The steps from a root down. Contracts see the list of them from the lowest up.
 #[derive(Drop)]
-pub struct Path {
-    steps: ArrayVec<Step, 8>,
+pub struct Path<const OFFSET_BITS: u32> {
+    steps: ArrayVec<Step<OFFSET_BITS>, 8>,
 }
 
-impl Model for Path {
+impl<const OFFSET_BITS: u32> Model for Path<OFFSET_BITS> {
     ghost use Rattle.std.specs.Prelude.{List, reverse};
-    ghost use Rattle.tree_search.specs.declared.path.Step.{Step as OneStep};
+    ghost use Rattle.tree_search.specs.Steps.{Step as OneStep};
 
     ghost Value = { List OneStep };
 
     ghost view = { λ path. reverse path.steps.items };
 }
 
-impl Path {
+impl<const OFFSET_BITS: u32> Path<OFFSET_BITS> {
     pub fn new() -> Self
         ensures { result ≡ [] }
     {
@@ -44,14 +54,14 @@ impl Path {
         }
     }
 
-    pub fn push(&mut self, node: EntryRef, slot: u32)
+    pub fn push(&mut self, node: EntryRef<OFFSET_BITS>, slot: u32)
         requires { length self.old < 8 }
-        ensures { self.new ≡ record { node = node; slot = slot } ∷ self.old }
+        ensures { self.new ≡ record { node = node.entry; slot = slot } ∷ self.old }
     {
         self.steps.push(Step { node, slot });
     }
 
-    pub fn pop(&mut self) -> Option<Step>
+    pub fn pop(&mut self) -> Option<Step<OFFSET_BITS>>
         ensures some { IfSome result (λ step. self.old ≡ step ∷ self.new) }
         ensures none { IfNone result (self.old ≡ []) }
         ensures empty { IfNone result (self.new ≡ []) }

@@ -10,11 +10,11 @@ use key_order::KeyOrder;
 use std::cmp::Ordering;
 
 /// The value of a key in the tree of a root.
-pub fn find<F: Frozen, K: KeyOrder>(frozen: &mut F, root: EntryRef, key: &K) -> Option<u64>
+pub fn find<const OFFSET_BITS: u32, F: Frozen<OFFSET_BITS>, K: KeyOrder<OFFSET_BITS>>(frozen: &mut F, root: EntryRef<OFFSET_BITS>, key: &K) -> Option<u64>
     requires tree { IsTree K.order K.read (F.records frozen.old) root }
     requires readable { AllReadable K.can_read (F.records frozen.old) (tree_pairs (F.records frozen.old) root) }
     ensures value { result
-        ≡ lookup (seen_by K.read K.order (K.sought key.now) (F.records frozen.old)) (tree_pairs (F.records frozen.old) root) }
+        ≡ lookup (seen_by K.read K.order (K.sought key.now) (F.records frozen.old)) (tree_pairs (F.records frozen.old) root.entry) }
     ensures same { frozen.new ≡ frozen.old }
 {
     let cursor = Cursor::seek(frozen, root, key);
@@ -30,9 +30,9 @@ pub fn find<F: Frozen, K: KeyOrder>(frozen: &mut F, root: EntryRef, key: &K) -> 
 }
 
 /// How many pairs the tree of a root has.
-pub fn total<F: Frozen>(frozen: &mut F, root: EntryRef) -> u32
+pub fn total<const OFFSET_BITS: u32, F: Frozen<OFFSET_BITS>>(frozen: &mut F, root: EntryRef<OFFSET_BITS>) -> u32
     requires tree { 0 < root → IsRootNode (F.records frozen.old) root }
-    ensures count { result ≡ length (tree_pairs (F.records frozen.old) root) }
+    ensures count { result ≡ length (tree_pairs (F.records frozen.old) root.entry) }
     ensures same { frozen.new ≡ frozen.old }
 {
     if root.valid() {

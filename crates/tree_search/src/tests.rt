@@ -1,3 +1,5 @@
+ghost use Rattle.std.specs.Prelude.{◌≡◌};
+ghost use Rattle.image_base.specs.Records.{HasWord, word_at};
 ghost use Rattle.tree_search.specs.Examples.{tens, tens_references};
 
 use super::*;
@@ -9,12 +11,16 @@ use key_order::NumberKey;
 #[derive(Drop)]
 struct Tens;
 
-impl Frozen for Tens {
+impl Frozen<22> for Tens {
     ghost shape = { λ s. 1 };
 
     ghost records = { λ s. tens };
 
-    fn word(&mut self, entry: EntryRef, i: u32) -> u64 {
+    fn word(&mut self, entry: EntryRef<22>, i: u32) -> u64
+        requires { HasWord tens entry i }
+        ensures value { result ≡ word_at tens entry i }
+        ensures same { self.new ≡ self.old }
+    {
         let words = match entry.raw() {
             3074 => [
                 258, 17, 90, 170, 0, 0, 0, 0, 0, 0, 0, 0, 0, 0, 0, 0, 0, 0, 1026, 2050, 0, 0, 0, 0,

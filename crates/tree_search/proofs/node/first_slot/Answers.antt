@@ -11,8 +11,8 @@ word-stored-requires g c =
     let node = c.args.node in
     let most = room m 1 (level_of (m node)) node c.requires.node in
     let low : 2 + c.loop-slot.slot < 34 = (let test = c.loop-slot-test.true in let used = c.requires.used in omega arith) in
-    subst (λ (f : g.row.F.Denot). HasWord (records f) node (2 + c.loop-slot.slot)) (sym c.loop-slot.invariant.same)
-    (has_word m 1 (level_of (m node)) node (2 + c.loop-slot.slot) c.requires.node low)
+    (omega arith, subst (λ (f : g.row.F.Denot). HasWord (records f) node (2 + c.loop-slot.slot)) (sym c.loop-slot.invariant.same)
+    (has_word m 1 (level_of (m node)) node (2 + c.loop-slot.slot) c.requires.node low))
 
 pub compare-requires : goal.compare-requires
 compare-requires g c =

@@ -5,6 +5,6 @@ use Rattle.arena_api.specs.Entries.{chosen}
 use Rattle.arena_api.proofs.cells.Cells.entries.Given as goal
 
 abbrev pub invariant-loop-buffer : goal.invariant-loop-buffer
-invariant-loop-buffer l =
+invariant-loop-buffer g l =
     let s = l.fn.self in
-    (q : ℕ) → seen l.map q ≡ those_before (chosen l.number s.table.items s.stamps.items s.buffers s.words) l.buffer 0 q
+    (q : ℕ) → seen l.map q ≡ those_before g.row.OFFSET_BITS (chosen l.number s.table.items s.stamps.items g.row.OFFSET_BITS s.buffers s.words) l.buffer 0 q

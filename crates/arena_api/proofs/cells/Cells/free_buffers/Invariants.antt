@@ -4,4 +4,4 @@ use Rattle.arena_api.specs.Cells.{buffers_in}
 use Rattle.arena_api.proofs.cells.Cells.free_buffers.Given as goal
 
 abbrev pub invariant-loop-buffer : goal.invariant-loop-buffer
-invariant-loop-buffer l = l.count ≡ free_count (buffers_in l.self.table.items l.self.words) l.buffer
+invariant-loop-buffer g l = l.count ≡ free_count (buffers_in l.self.table.items l.self.words) l.buffer

@@ -6,7 +6,7 @@ use Rattle.arena_api.proofs.Free.{is_free-none, is_free-some, free_count-more, f
 use Rattle.arena_api.proofs.cells.Cells.hand_out.Goals as goal
 
 pub returns-then-index-eq0-clause-none : goal.returns-then-index-eq0-clause-none
-returns-then-index-eq0-clause-none c =
+returns-then-index-eq0-clause-none g c =
     let s = c.loop-buffer.self in
     let count = ap (λ w. w.buffers) c.loop-buffer.invariant.same in
     let below = first-below c.loop-buffer.buffer s.buffers s.words (vec_len s.table) (omega (arith, count)) s.some_words s.room in
@@ -18,7 +18,7 @@ returns-then-index-eq0-clause-none c =
     (λ e. absurd (cc), λ e. absurd (omega (arith, some, same, e)))
 
 pub loop-buffer-preserved : goal.loop-buffer-preserved
-loop-buffer-preserved c =
+loop-buffer-preserved g c =
     let s = c.loop-buffer.self in
     let count = ap (λ w. w.buffers) c.loop-buffer.invariant.same in
     let below = first-below c.loop-buffer.buffer s.buffers s.words (vec_len s.table) (omega (arith, count)) s.some_words s.room in

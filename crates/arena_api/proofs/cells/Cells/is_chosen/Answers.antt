@@ -5,8 +5,8 @@ use Rattle.arena_api.proofs.Chosen.{whole-is}
 use Rattle.arena_api.proofs.cells.Cells.is_chosen.Goals as goal
 
 pub returns-in-Some : goal.returns-in-Some
-returns-in-Some c =
+returns-in-Some g c =
     let s = c.args.self.now in
     c.all_are.ensures ∙ ap (list_all (λ k. nat_eq k c.in-Some.number)) c.stamps_of.ensures
-    ∙ whole-is s.table.items s.stamps.items s.buffers s.words c.in-Some.number c.args.entry c.requires
-    ∙ ap (λ n. is_chosen n s.table.items s.stamps.items s.buffers s.words c.args.entry) (sym c.in-Some.is)
+    ∙ whole-is s.table.items s.stamps.items g.row.OFFSET_BITS s.buffers s.words c.in-Some.number c.args.entry c.requires
+    ∙ ap (λ n. is_chosen n s.table.items s.stamps.items g.row.OFFSET_BITS s.buffers s.words c.args.entry) (sym c.in-Some.is)

@@ -6,10 +6,10 @@ pub returns-clause-knows : goal.returns-clause-knows
 returns-clause-knows g c =
     let e = c.in_ok-cells.ensures in
     rw (e.table, e.stamps, e.buffers, e.words, c.from_raw.ensures)
-    (view-opened g.L.Layout.reaches g.L.Layout.empty_reaches c.args.shape (c.args.buffers * c.args.words) c.args.buffers c.args.words refl)
+    (view-opened g.L.Layout.reaches g.L.Layout.empty_reaches c.args.shape (c.args.buffers * c.args.words) g.row.OFFSET_BITS c.args.buffers c.args.words refl)
 
 pub returns-clause-records : goal.returns-clause-records
 returns-clause-records g c r =
     let e = c.in_ok-cells.ensures in
     rw (e.table, e.stamps, e.buffers, e.words, c.from_raw.ensures)
-    (records-opened g.L.Layout.reaches g.L.Layout.empty_reaches c.args.shape (c.args.buffers * c.args.words) c.args.buffers c.args.words refl r)
+    (records-opened g.L.Layout.reaches g.L.Layout.empty_reaches c.args.shape (c.args.buffers * c.args.words) g.row.OFFSET_BITS c.args.buffers c.args.words refl r)

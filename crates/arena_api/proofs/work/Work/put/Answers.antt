@@ -19,8 +19,8 @@ returns-clause-records g c = λ k q. at q k
     is : g.Self.Frozen.records c.loop-i.self c.args.entry ≡ ws
     is =
         let wide = c.requires.entry.wide in
-        let width : length ws ≡ active_width ((g.Self.Work.knows c.loop-i.self).buffer (buffer_of c.args.entry)) =
-        long ∙ sym c.requires.width ∙ sym (ap (λ v. active_width (v.buffer (buffer_of c.args.entry))) c.loop-i.invariant.knows) in
+        let width : length ws ≡ active_width ((g.Self.Work.knows c.loop-i.self).buffer (buffer_of g.row.OFFSET_BITS c.args.entry)) =
+        long ∙ sym c.requires.width ∙ sym (ap (λ v. active_width (v.buffer (buffer_of g.row.OFFSET_BITS c.args.entry))) c.loop-i.invariant.knows) in
         g.met.Self.Work.whole c.loop-i.self c.args.entry ws (omega (arith, long, wide)) width
         (λ i h. c.loop-i.invariant.filled i (omega (arith, h, long, c.loop-i-test.false)) ∙ ap (λ n. Some n) (sym (padded-at c.args.words.now c.args.width i)))
 

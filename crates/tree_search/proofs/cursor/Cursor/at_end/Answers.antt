@@ -4,7 +4,7 @@ use Rattle.tree_search.proofs.PlaceLemmas.{end-pairs}
 use Rattle.tree_search.proofs.cursor.Cursor.at_end.Goals as goal
 
 pub returns-clause-pairs : goal.returns-clause-pairs
-returns-clause-pairs c m =
+returns-clause-pairs g c m =
     let inside = c.self.inside in
     let past = leb inside.used inside.slot in
     subst (λ (p : Place). IsAt m p → (IsTrue past → pairs_from m p ≡ []) × (pairs_from m p ≡ [] → IsTrue past)) c.self.view_is

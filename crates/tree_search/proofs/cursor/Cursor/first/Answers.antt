@@ -11,7 +11,7 @@ enter-requires g c =
     let m = g.F.Frozen.records c.args.frozen.now in
     let root = c.args.root in
     let some : 0 < root = omega arith in
-    record { leads = subst (λ (p : Place). Leads m p.root p.path root) (sym c.at_end_of-cursor.ensures) (leads-root m root some (c.requires.tree some)) }
+    (omega arith, (omega arith, subst (λ (p : Place). Leads m p.root p.path root) (sym c.at_end_of-cursor.ensures) (leads-root m root some (c.requires.tree some))))
 
 pub returns-then-valid-clause-pairs : goal.returns-then-valid-clause-pairs
 returns-then-valid-clause-pairs g c =

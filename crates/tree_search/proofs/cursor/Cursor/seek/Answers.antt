@@ -1,4 +1,4 @@
-use Rattle.std.proofs.Common.{◌≡◌, ◌+◌, ◌-◌, ◌<◌, ◌≤◌, length, sym, ap, subst, ◌∙◌, arith, []}
+use Rattle.std.proofs.Common.{rules, ◌≡◌, ◌+◌, ◌-◌, ◌<◌, ◌≤◌, length, sym, ap, subst, ◌∙◌, arith, []}
 use Rattle.image_base.specs.Records.{HasWord, word_at}
 use Rattle.attr_images.specs.Nodes.{level_of, used_of}
 use Rattle.attr_images.specs.Trees.{pairs_below, tree_pairs, IsNode}
@@ -20,27 +20,25 @@ read_head-head-requires g c =
     let size = step-size m root [] root (leads-root m root some tree) in
     omega arith
 
-pub first_slot-slot-requires-clause-node : goal.first_slot-slot-requires-clause-node
-first_slot-slot-requires-clause-node g c =
-    let records = g.F.Frozen.records in
+pub first_slot-slot-requires : goal.first_slot-slot-requires
+first_slot-slot-requires g c = (omega arith, (
+    (let records = g.F.Frozen.records in
     let key = g.K.KeyOrder in
     let m = records c.args.frozen.now in
     let root = c.args.root in
     let some : 0 < root = omega arith in
     let tree = c.requires.tree.node some in
     subst (λ (f : g.row.F.Denot). IsNode (records f) 1 (level_of (records f root)) root) (sym c.read_head-head.ensures.same)
-    (leads-node m root [] root (leads-root m root some tree))
-
-pub first_slot-slot-requires-clause-readable : goal.first_slot-slot-requires-clause-readable
-first_slot-slot-requires-clause-readable g c =
-    let records = g.F.Frozen.records in
+    (leads-node m root [] root (leads-root m root some tree))),
+    (search rules,
+    (let records = g.F.Frozen.records in
     let key = g.K.KeyOrder in
     let m = records c.args.frozen.now in
     let root = c.args.root in
     let some : 0 < root = omega arith in
     let tree = c.requires.tree.node some in
     subst (λ (f : g.row.F.Denot). AllReadable key.can_read (records f) (pairs_below (records f) (level_of (records f root)) root)) (sym c.read_head-head.ensures.same)
-    (root-readable key.order g.met.K.KeyOrder.total (key.read m) (key.sought c.args.key.now) m (key.can_read m) root some tree c.requires.tree.ascends c.requires.readable)
+    (root-readable key.order g.met.K.KeyOrder.total (key.read m) (key.sought c.args.key.now) m (key.can_read m) root some tree c.requires.tree.ascends c.requires.readable)))))
 
 pub returns-then-slot-head-clause-pairs : goal.returns-then-slot-head-clause-pairs
 returns-then-slot-head-clause-pairs g c =
@@ -96,9 +94,9 @@ push-requires g c =
     let most = leads-length m root path node leads in
     omega arith
 
-pub child_at-node-requires-clause-slot : goal.child_at-node-requires-clause-slot
-child_at-node-requires-clause-slot g c =
-    let records = g.F.Frozen.records in
+pub child_at-node-requires : goal.child_at-node-requires
+child_at-node-requires g c = (omega arith, (
+    (let records = g.F.Frozen.records in
     let m = records c.args.frozen.now in
     let it = c.loop-head.invariant in
     let leads = it.sought.leads in
@@ -108,11 +106,8 @@ child_at-node-requires-clause-slot g c =
     let slot = c.loop-head.slot in
     let most = step-room m root path node leads in
     let low = it.sought.low in
-    omega arith
-
-pub child_at-node-requires-clause-word : goal.child_at-node-requires-clause-word
-child_at-node-requires-clause-word g c =
-    let records = g.F.Frozen.records in
+    omega arith),
+    ((let records = g.F.Frozen.records in
     let m = records c.args.frozen.now in
     let it = c.loop-head.invariant in
     let leads = it.sought.leads in
@@ -120,11 +115,8 @@ child_at-node-requires-clause-word g c =
     let path = c.loop-head.cursor-inside.path in
     let node = c.loop-head.node in
     let slot = c.loop-head.slot in
-    rw it.same (step-size m root path node leads)
-
-pub child_at-node-requires-clause-child : goal.child_at-node-requires-clause-child
-child_at-node-requires-clause-child g c =
-    let records = g.F.Frozen.records in
+    rw it.same (step-size m root path node leads)),
+    (let records = g.F.Frozen.records in
     let m = records c.args.frozen.now in
     let it = c.loop-head.invariant in
     let leads = it.sought.leads in
@@ -133,7 +125,7 @@ child_at-node-requires-clause-child g c =
     let node = c.loop-head.node in
     let slot = c.loop-head.slot in
     let above : 0 < level_of (m node) = (let test = c.loop-head-test.true in let is = it.level in omega arith) in
-    rw it.same (step-child m root path node slot leads above it.sought.low)
+    rw it.same (step-child m root path node slot leads above it.sought.low)))))
 
 pub read_head-head-requires-in-loop-head : goal.read_head-head-requires-in-loop-head
 read_head-head-requires-in-loop-head g c =
@@ -149,12 +141,12 @@ read_head-head-requires-in-loop-head g c =
     let child : c.child_at-node.result ≡ word_at m node (18 + slot) =
     c.child_at-node.ensures.child ∙ ap (λ (f : g.row.F.Denot). word_at (records f) node (18 + slot)) it.same in
     let same = c.child_at-node.ensures.same ∙ it.same in
-    subst (λ (f : g.row.F.Denot). HasWord (records f) c.child_at-node.result 0) (sym same)
-    (subst (λ q. 0 < length (m q)) (sym child) (step-child m root path node slot leads above it.sought.low))
+    (omega arith, subst (λ (f : g.row.F.Denot). HasWord (records f) c.child_at-node.result 0) (sym same)
+    (subst (λ q. 0 < length (m q)) (sym child) (step-child m root path node slot leads above it.sought.low)))
 
-pub first_slot-slot-requires-in-loop-head-clause-node : goal.first_slot-slot-requires-in-loop-head-clause-node
-first_slot-slot-requires-in-loop-head-clause-node g c =
-    let records = g.F.Frozen.records in
+pub first_slot-slot-requires-in-loop-head : goal.first_slot-slot-requires-in-loop-head
+first_slot-slot-requires-in-loop-head g c = (omega arith, (
+    (let records = g.F.Frozen.records in
     let m = records c.args.frozen.now in
     let it = c.loop-head.invariant in
     let leads = it.sought.leads in
@@ -172,11 +164,9 @@ first_slot-slot-requires-in-loop-head-clause-node g c =
     let total = g.met.K.KeyOrder.total in
     let whole = tree_pairs m root in
     subst (λ (f : g.row.F.Denot). IsNode (records f) 1 (level_of (records f c.child_at-node.result)) c.child_at-node.result) (sym read)
-    (sought-node key.order total (key.read m) s m (key.can_read m) whole root path node slot it.sought above c.child_at-node.result child)
-
-pub first_slot-slot-requires-in-loop-head-clause-readable : goal.first_slot-slot-requires-in-loop-head-clause-readable
-first_slot-slot-requires-in-loop-head-clause-readable g c =
-    let records = g.F.Frozen.records in
+    (sought-node key.order total (key.read m) s m (key.can_read m) whole root path node slot it.sought above c.child_at-node.result child)),
+    (search rules,
+    (let records = g.F.Frozen.records in
     let m = records c.args.frozen.now in
     let it = c.loop-head.invariant in
     let leads = it.sought.leads in
@@ -194,7 +184,7 @@ first_slot-slot-requires-in-loop-head-clause-readable g c =
     let total = g.met.K.KeyOrder.total in
     let whole = tree_pairs m root in
     subst (λ (f : g.row.F.Denot). AllReadable key.can_read (records f) (pairs_below (records f) (level_of (records f c.child_at-node.result)) c.child_at-node.result)) (sym read)
-    (sought-readable key.order total (key.read m) s m (key.can_read m) whole root path node slot it.sought above c.child_at-node.result child)
+    (sought-readable key.order total (key.read m) s m (key.can_read m) whole root path node slot it.sought above c.child_at-node.result child)))))
 
 pub loop-head-smaller : goal.loop-head-smaller
 loop-head-smaller g c =

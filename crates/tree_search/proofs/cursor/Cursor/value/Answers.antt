@@ -9,7 +9,7 @@ word-requires g c =
     let m = g.F.Frozen.records c.args.frozen.now in
     let at = c.args.self.now in
     let low = pair-low m at c.requires.at c.requires.pair in
-    subst (λ (p : Place). HasWord m p.leaf (18 + p.slot)) (sym c.self.view_is) (pair-word m at (18 + at.slot) c.requires.at c.requires.pair (omega arith))
+    (omega arith, subst (λ (p : Place). HasWord m p.leaf (18 + p.slot)) (sym c.self.view_is) (pair-word m at (18 + at.slot) c.requires.at c.requires.pair (omega arith)))
 
 pub returns-clause-value : goal.returns-clause-value
 returns-clause-value g c =
