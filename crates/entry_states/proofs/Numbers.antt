@@ -5,6 +5,7 @@ use Rattle.std.proofs.Math.Nat.{mul-le-mul_right, mul-le-mul_left, div-mul-le_se
 use Rattle.std.proofs.lemmas.Nat.{div-add-mod', div-mul-add, mod-mul-add, le-div}
 use Rattle.std.proofs.lemmas.List.Sums.{sum_by-set, sum_by_push, sum_by-cons}
 use Rattle.std.proofs.lemmas.Bool.{cases_lt, and_parts, and_from, leb-true, ltb-true, lt-ltb, le-leb}
+use Rattle.list_facts.proofs.Places.{slice_get-set_same, slice_get-set_other}
 use Rattle.entry_ref.specs.References.{buffer_of, offset_of, packed}
 use Rattle.entry_ref.proofs.Bits.{packed-same}
 use Rattle.image_base.specs.Places.{IsEntry}
@@ -87,18 +88,6 @@ pub record Puts (old : List State) (x : ℕ) (s : State) (new : List State) : Ty
   pub is : slice_get new x ≡ Some s
   pub others : (n : ℕ) → n ≢ x → slice_get new n ≡ slice_get old n
 
-set-is : (xs : List State) (x : ℕ) (s : State) → x < length xs → slice_get (set xs x s) x ≡ Some s
-set-is [] x s below = absurd (omega arith)
-set-is (y ∷ ys) zero s below = refl
-set-is (y ∷ ys) (suc x) s below = set-is ys x s (omega arith)
-
-set-others : (xs : List State) (x : ℕ) (s : State) (n : ℕ) → n ≢ x → slice_get (set xs x s) n ≡ slice_get xs n
-set-others [] x s n ne = refl
-set-others (y ∷ ys) zero s zero ne = absurd (ne refl)
-set-others (y ∷ ys) zero s (suc n) ne = refl
-set-others (y ∷ ys) (suc x) s zero ne = refl
-set-others (y ∷ ys) (suc x) s (suc n) ne = set-others ys x s n (λ e. ne (ap suc e))
-
 snoc-is : (xs : List State) (s : State) → slice_get (xs ++ s ∷ []) (length xs) ≡ Some s
 snoc-is [] s = refl
 snoc-is (y ∷ ys) s = snoc-is ys s
@@ -110,7 +99,7 @@ snoc-others (y ∷ ys) s zero ne = refl
 snoc-others (y ∷ ys) s (suc n) ne = snoc-others ys s n (λ e. ne (ap suc e))
 
 pub puts-set : (xs : List State) (x : ℕ) (s : State) → x < length xs → Puts xs x s (set xs x s)
-puts-set xs x s below = record { is = set-is xs x s below; others = λ n ne. set-others xs x s n ne }
+puts-set xs x s below = record { is = slice_get-set_same xs x s below; others = λ n ne. slice_get-set_other xs x n s ne }
 
 pub puts-snoc : (xs : List State) (x : ℕ) (s : State) → x ≡ length xs → Puts xs x s (xs ++ s ∷ [])
 puts-snoc xs x s same = record {

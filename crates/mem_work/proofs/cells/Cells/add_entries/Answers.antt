@@ -1,4 +1,4 @@
-use Rattle.std.proofs.Common.{◌≡◌, ◌<◌, ℕ, ◌∙◌, ap, sym, arith}
+use Rattle.std.proofs.Common.{◌<◌, ◌∙◌, ap, sym, arith}
 use Rattle.entry_ref.specs.References.{buffer_of, offset_of, buffer_limit}
 use Rattle.entry_ref.proofs.Bits.{packed-buffer, packed-offset}
 use Rattle.image_base.specs.Maps.{seen}
