@@ -5,4 +5,4 @@ use Rattle.arena_api.specs.Works.{Sizes}
 use Rattle.arena_api.specs.Calls.{IsFresh, opened}
 
 pub opened-fresh : {H : Type 0} (home : H) (sizes : Sizes) (told : List Image) → IsFresh (opened home sizes told)
-opened-fresh home sizes told = record { floor = refl; last = refl; image = refl; buffers = λ b. refl }
+opened-fresh home sizes told = record { queue = refl; floor = refl; last = refl; image = refl; buffers = λ b. refl }

@@ -8,3 +8,4 @@ pub mod StandsProp
 pub mod Ends
 pub mod Fresh
 pub mod Maps
+pub mod Reading

@@ -11,6 +11,10 @@ use Rattle.entry_store.specs.ProofsForStore.{store_placed}
 
 module _ {H : Type 0} (bits : ℕ) (work : WorkView H) (m : Records) (e : EntriesView) (unit : Bool) (last active : ℕ) (st : Stands bits work m e unit last active)
     (fits : (r : ℕ) → 0 < length (m r) → FitsEntry bits work.sizes (active_width (work.buffer (buffer_of bits r))) r (length (m r))) (q : ℕ) where
+  -- nor one at offset 0
+  pub none-first : offset_of bits q ≡ 0 → records_of_statuses (λ r. status_of last (e.state r)) m q ≡ []
+  none-first at = none-or _ (λ some. let first = (store_placed bits work m e unit last active st fits q some).entry.first in omega arith)
+
   -- a buffer has no records past its last offset
   pub none-past : (buffer width words offset : ℕ) → e.width buffer ≡ width → words ≡ work.sizes.words → words / width ≤ offset → buffer_of bits q ≡ buffer → offset ≤ offset_of bits q
       → records_of_statuses (λ r. status_of last (e.state r)) m q ≡ []

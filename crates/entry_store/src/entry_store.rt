@@ -1,4 +1,4 @@
-ghost use Rattle.std.specs.Prelude.{◌≡◌, ◌≢◌, ◌↔◌, ◌<◌, ◌≤◌, ◌+◌, ℕ, true, false, [], length};
+ghost use Rattle.std.specs.Prelude.{◌≡◌, ◌≢◌, ◌↔◌, ◌<◌, ◌≤◌, ◌+◌, ◌^◌, ℕ, true, false, [], length, take, drop};
 ghost use Rattle.std.specs.Prelude.{IsNone, IfSome, IfNone, IfOk, IfErr, OnOk, OnErr};
 ghost use Rattle.arena_api.specs.Works.{free_count, active_width};
 ghost use Rattle.arena_api.specs.Calls.{IsFresh, AddsCommit, next_image};
@@ -14,10 +14,10 @@ ghost use Rattle.image_base.specs.Before.{those_before};
 
 use crate::words::words_of_record;
 use arena_api::Work;
-use frozen_api::Frozen;
 use entry_ref::EntryRef;
 use entry_shelf::State;
 use entry_states::Entries;
+use frozen_api::Frozen;
 use std::alloc::{AllocError, Global};
 use std::collections::BTreeMap;
 use store_api::{Store, StoreError};
@@ -201,7 +201,8 @@ impl<const OFFSET_BITS: u32, W: Work<OFFSET_BITS>> EntryStore<OFFSET_BITS, W> {
     }
 }
 
-impl<const OFFSET_BITS: u32, W: Work<OFFSET_BITS>> Frozen<OFFSET_BITS> for EntryStore<OFFSET_BITS, W> {
+impl<const OFFSET_BITS: u32, W: Work<OFFSET_BITS>> Frozen<OFFSET_BITS>
+    for EntryStore<OFFSET_BITS, W> {
     ghost use Rattle.entry_store.specs.ProofsForStore.{store_references};
 
     ghost shape = { λ s. W.shape s.work };
@@ -216,11 +217,21 @@ impl<const OFFSET_BITS: u32, W: Work<OFFSET_BITS>> Frozen<OFFSET_BITS> for Entry
         self.work.word(entry, i)
     }
 
+    fn read(&mut self, entry: EntryRef<OFFSET_BITS>, first: u32, into: &mut [u64])
+        requires there { first + length into.old ≤ length (⟦<EntryStore<OFFSET_BITS, W> as Frozen<OFFSET_BITS>>⟧.records self.old entry) }
+        requires few { first + length into.old < 2 ^ 32 }
+        ensures words { into.new ≡ take (length into.old) (drop first (⟦<EntryStore<OFFSET_BITS, W> as Frozen<OFFSET_BITS>>⟧.records self.old entry.entry)) }
+        ensures same { self.new ≡ self.old }
+    {
+        self.work.read(entry, first, into);
+    }
+
     ghost references = { λ s. store_references OFFSET_BITS (W.knows s.work) (W.records s.work) (entries_of OFFSET_BITS s.entries)
         s.unit s.last s.active s.stands (W.references s.work) };
 }
 
-impl<const OFFSET_BITS: u32, W: Work<OFFSET_BITS>> Store<OFFSET_BITS> for EntryStore<OFFSET_BITS, W> {
+impl<const OFFSET_BITS: u32, W: Work<OFFSET_BITS>> Store<OFFSET_BITS>
+    for EntryStore<OFFSET_BITS, W> {
     ghost use Rattle.std.specs.Prelude.{refl};
     ghost use Rattle.entry_store.specs.ProofsForStore.{store_recorded, store_placed, store_filled, store_spares, store_last, store_settled};
     ghost use Rattle.entry_store.specs.ProofsForStore.{store_few_buffers, store_few_records, store_few_nodes};

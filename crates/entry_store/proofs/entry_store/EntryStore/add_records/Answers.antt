@@ -1,13 +1,24 @@
-use Rattle.std.proofs.Common.{rules, ◌≡◌, ◌<◌, ◌∙◌, ap, sym, subst, arith}
+use Rattle.std.proofs.Common.{rules, ◌≡◌, ◌<◌, refl, ◌∙◌, ap, sym, subst, arith}
 use Rattle.entry_ref.specs.References.{buffer_of, offset_of, buffer_limit}
 use Rattle.entry_ref.proofs.Bits.{packed-buffer, packed-offset}
 use Rattle.image_base.specs.Maps.{seen}
 use Rattle.entry_states.specs.Rows.{entries_of}
 use Rattle.entry_store.specs.declared.entry_store.EntryStore.{EntryStore}
 use Rattle.entry_store.specs.Standing.{status_of, records_of_statuses}
-use Rattle.image_base.proofs.Steps.{reference-more, next-buffer, here-not_yet}
-use Rattle.entry_store.proofs.Maps.{none-past}
+use Rattle.image_base.proofs.Steps.{reference-more, first-offset, next-buffer, here-not_yet}
+use Rattle.entry_store.proofs.Maps.{none-first, none-past}
 use Rattle.entry_store.proofs.entry_store.EntryStore.add_records.Goals as goal
+
+pub loop-offset-init : goal.loop-offset-init
+loop-offset-init g c =
+    let s = c.args.self.now in
+    record {
+      seen = λ q.
+          c.requires.before q
+          ∙ first-offset g.row.OFFSET_BITS (records_of_statuses (λ r. status_of s.last ((entries_of g.row.OFFSET_BITS s.entries).state r)) (g.W.Frozen.records s.work)) c.args.buffer 0 q
+          (none-first g.row.OFFSET_BITS (g.W.Work.knows s.work) (g.W.Frozen.records s.work) (entries_of g.row.OFFSET_BITS s.entries) s.unit s.last s.active s.stands (g.met.W.Work.entries s.work) q);
+      same = refl;
+    }
 
 pub loop-offset-preserved : goal.loop-offset-preserved
 loop-offset-preserved g c =
@@ -39,14 +50,19 @@ add_record-requires g c =
     let limits = g.met.W.Work.limits s.work in
     let small : c.args.buffer < buffer_limit bits = omega (arith, limits.few_buffers, c.requires.inside) in
     let named : buffer_of bits c.new.result ≡ c.args.buffer = ap (buffer_of bits) c.new.ensures ∙ packed-buffer bits c.loop-offset.offset c.args.buffer small in
-    let offset : offset_of bits c.new.result ≡ c.loop-offset.offset = ap (offset_of bits) c.new.ensures ∙ packed-offset bits c.loop-offset.offset c.args.buffer small in
-    (search rules, (search rules, (
-      subst (λ (t : EntryStore bits g.row.W.Denot g.row.W-Layout.Denot g.row.W-Home.Denot g.W.Work g.W.Frozen g.W.Layout.Layout).
-      buffer_of bits c.new.result < (g.W.Work.knows t.work).sizes.buffers) (sym c.loop-offset.invariant.same) (subst (λ b. b < (g.W.Work.knows s.work).sizes.buffers) (sym named) c.requires.inside),
+    let offset : offset_of bits c.new.result ≡ c.loop-offset.offset = ap (offset_of bits) c.new.ensures ∙ packed-offset bits c.loop-offset.offset c.args.buffer small in (
+      search rules,
       (
-        subst (λ (t : EntryStore bits g.row.W.Denot g.row.W-Layout.Denot g.row.W-Home.Denot g.W.Work g.W.Frozen g.W.Layout.Layout).
-        (entries_of bits t.entries).width (buffer_of bits c.new.result) ≡ c.width-width.result) (sym c.loop-offset.invariant.same) (ap (entries_of bits s.entries).width named ∙ sym c.width-width.ensures),
-        c.loop-offset.invariant.seen c.new.result
-        ∙ here-not_yet bits (records_of_statuses (λ r. status_of s.last ((entries_of bits s.entries).state r)) (g.W.Frozen.records s.work)) c.args.buffer c.loop-offset.offset c.new.result named offset,
+        search rules,
+        (
+          subst (λ (t : EntryStore bits g.row.W.Denot g.row.W-Layout.Denot g.row.W-Home.Denot g.W.Work g.W.Frozen g.W.Layout.Layout).
+              buffer_of bits c.new.result < (g.W.Work.knows t.work).sizes.buffers) (sym c.loop-offset.invariant.same) (subst (λ b. b < (g.W.Work.knows s.work).sizes.buffers) (sym named) c.requires.inside),
+          (
+            subst (λ (t : EntryStore bits g.row.W.Denot g.row.W-Layout.Denot g.row.W-Home.Denot g.W.Work g.W.Frozen g.W.Layout.Layout).
+                (entries_of bits t.entries).width (buffer_of bits c.new.result) ≡ c.width-width.result) (sym c.loop-offset.invariant.same) (ap (entries_of bits s.entries).width named ∙ sym c.width-width.ensures),
+            c.loop-offset.invariant.seen c.new.result
+                ∙ here-not_yet bits (records_of_statuses (λ r. status_of s.last ((entries_of bits s.entries).state r)) (g.W.Frozen.records s.work)) c.args.buffer c.loop-offset.offset c.new.result named offset,
+          ),
+        ),
       ),
-    )))
+    )
