@@ -14,41 +14,41 @@ use Rattle.gen_core.specs.declared.views.Buffer.{Buffer}
 use Rattle.gen_core.specs.declared.views.ReaderView.{ReaderView}
 use Rattle.gen_core.specs.Views.{active_width, active_in}
 use Rattle.gen_core.specs.Work.{place_in}
-use Rattle.gen_core.specs.Good.{GoodNames, GoodCounts, InActive, WordsStand, IsPlaced}
+use Rattle.gen_core.specs.Good.{GoodNamedWords, GoodCounts, InActive, WordsStand, IsPlaced}
 
 -- a place in the buffers: behind the first word of one of them
-pub record IsBehind (z : Sizes) (p : ℕ) : Type 0 where
+pub record IsBehind (sizes : Sizes) (p : ℕ) : Type 0 where
   pub b : ℕ
   pub x : ℕ
   pub behind : 0 < x
-  pub inside : x < z.words
-  pub is : p ≡ base z.buffers z.words b + x
+  pub inside : x < sizes.words
+  pub is : p ≡ base sizes.buffers sizes.words b + x
 
-pub active-behind : {z : Sizes} {buffers : List Buffer} {p : ℕ} → InActive z buffers p → IsBehind z p
-active-behind {z} {buffers} {p} h = record { b = h.b; x = h.x; behind = h.behind; inside = h.inside; is = h.is }
+pub active-behind : {sizes : Sizes} {buffers : List Buffer} {p : ℕ} → InActive sizes buffers p → IsBehind sizes p
+active-behind {sizes} {buffers} {p} h = record { b = h.b; x = h.x; behind = h.behind; inside = h.inside; is = h.is }
 
-pub entry-behind : {z : Sizes} {width ref : ℕ} → IsEntry z.buffers z.words width ref → (i : ℕ) → i < width → IsBehind z (place_in z width ref i)
-entry-behind {z} {width} {ref} e i lt =
+pub entry-behind : {sizes : Sizes} {width ref : ℕ} → IsEntry sizes.offset_bits sizes.buffers sizes.words width ref → (i : ℕ) → i < width → IsBehind sizes (place_in sizes width ref i)
+entry-behind {sizes} {width} {ref} e i lt =
     let h = within e i lt in
-    record { b = buffer_of ref; x = offset_of ref * width + i; behind = h.0; inside = h.1; is = refl }
+    record { b = buffer_of sizes.offset_bits ref; x = offset_of sizes.offset_bits ref * width + i; behind = h.0; inside = h.1; is = refl }
 
 -- it is no first word of a buffer, and no named word
-pub behind-base : (z : Sizes) (p b : ℕ) → IsBehind z p → p ≢ base z.buffers z.words b
-behind-base z p b h same =
+pub behind-base : (sizes : Sizes) (p b : ℕ) → IsBehind sizes p → p ≢ base sizes.buffers sizes.words b
+behind-base sizes p b h same =
     let is = h.is in
     let inside = h.inside in
-    let both = apart z.words h.b b h.x 0 h.inside (omega arith) (omega arith) in
+    let both = apart sizes.words h.b b h.x 0 h.inside (omega arith) (omega arith) in
     omega (arith, both.1, h.behind)
 
-pub base-same : (z : Sizes) (b c : ℕ) → 0 < z.words → base z.buffers z.words b ≡ base z.buffers z.words c → b ≡ c
-base-same z b c some same = (apart z.words b c 0 0 some some (omega (arith, same))).0
+pub base-same : (sizes : Sizes) (b c : ℕ) → 0 < sizes.words → base sizes.buffers sizes.words b ≡ base sizes.buffers sizes.words c → b ≡ c
+base-same sizes b c some same = (apart sizes.words b c 0 0 some some (omega (arith, same))).0
 
-pub behind-high : (z : Sizes) (p : ℕ) → IsBehind z p → 18 + z.buffers < p
-behind-high z p h = let is = h.is in let o = h.behind in omega arith
+pub behind-high : (sizes : Sizes) (p : ℕ) → IsBehind sizes p → 18 + sizes.buffers < p
+behind-high sizes p h = let is = h.is in let o = h.behind in omega arith
 
 -- a word that is no named word
-pub names-set : {words : List ℕ} {commits : List Image} {newest : OpenHold} {buffers : List Buffer} → GoodNames words commits newest buffers
-    → (p n : ℕ) → 18 + length buffers ≤ p → GoodNames (set words p n) commits newest buffers
+pub names-set : {words : List ℕ} {commits : List Image} {newest : OpenHold} {buffers : List Buffer} → GoodNamedWords words commits newest buffers
+    → (p n : ℕ) → 18 + length buffers ≤ p → GoodNamedWords (set words p n) commits newest buffers
 names-set {words} {commits} {newest} {buffers} g p n high = record {
   root = get_or-set_other words p 0 n 0 (λ e. omega arith) ∙ g.root;
   last = get_or-set_other words p 1 n 0 (λ e. omega arith) ∙ g.last;
@@ -65,17 +65,17 @@ counts-set {words} {older} {newest} {pending} {made} {readers} g p n apart = rec
 }
 
 -- a word that is in no record of the commits
-pub records-set : (z : Sizes) (words : List ℕ) (kept : List Image) (p n : ℕ)
-    → All (λ image. All (λ entry. (i : ℕ) → i < length entry.1 → place_in z (length entry.1) entry.0 i ≢ p) image.records) kept
-    → All (λ image. All (WordsStand z words) image.records) kept → All (λ image. All (WordsStand z (set words p n)) image.records) kept
-records-set z words kept p n apart stand k d lt l e less i at =
+pub records-set : (sizes : Sizes) (words : List ℕ) (kept : List Image) (p n : ℕ)
+    → All (λ image. All (λ pair. (i : ℕ) → i < length pair.1 → place_in sizes (length pair.1) pair.0 i ≢ p) image.records) kept
+    → All (λ image. All (WordsStand sizes words) image.records) kept → All (λ image. All (WordsStand sizes (set words p n)) image.records) kept
+records-set sizes words kept p n apart stand k d lt l e less i at =
     get_or-set_other words p _ n 0 (apart k d lt l e less i at) ∙ stand k d lt l e less i at
 
 -- no record of the commits has a word that is not behind the first word of a buffer
-pub records-behind : (z : Sizes) (buffers : List Buffer) (kept : List Image) (p : ℕ) → ((q : ℕ) → IsBehind z q → q ≢ p)
-    → All (λ image. All (IsPlaced z buffers) image.records) kept
-    → All (λ image. All (λ entry. (i : ℕ) → i < length entry.1 → place_in z (length entry.1) entry.0 i ≢ p) image.records) kept
-records-behind z buffers kept p clear placed k d lt l e less i at = clear _ (entry-behind (placed k d lt l e less).inside i at)
+pub records-behind : (sizes : Sizes) (buffers : List Buffer) (kept : List Image) (p : ℕ) → ((q : ℕ) → IsBehind sizes q → q ≢ p)
+    → All (λ image. All (IsPlaced sizes buffers) image.records) kept
+    → All (λ image. All (λ pair. (i : ℕ) → i < length pair.1 → place_in sizes (length pair.1) pair.0 i ≢ p) image.records) kept
+records-behind sizes buffers kept p clear placed k d lt l e less i at = clear _ (entry-behind (placed k d lt l e less).inside i at)
 
 -- a buffer that is there is one of the table's
 pub active-inside : (buffers : List Buffer) (b width : ℕ) → active_in buffers b ≡ Some width → b < length buffers
@@ -86,10 +86,10 @@ active-inside buffers b width e = by_buffer (slice_get buffers b) refl e
     by_buffer (Some x) at h = slice_get_within buffers b x at
 
 -- so its words are among the table's words
-pub active-below : (z : Sizes) (buffers : List Buffer) (p : ℕ) (words : List ℕ) → InActive z buffers p → length buffers ≡ z.buffers → length words ≡ size_of z.buffers z.words → p < length words
-active-below z buffers p words h count table =
+pub active-below : (sizes : Sizes) (buffers : List Buffer) (p : ℕ) (words : List ℕ) → InActive sizes buffers p → length buffers ≡ sizes.buffers → length words ≡ size_of sizes.buffers sizes.words → p < length words
+active-below sizes buffers p words h count table =
     let lt : h.b < length buffers = active-inside buffers h.b h.width h.active in
-    let more : suc h.b * z.words ≤ z.buffers * z.words = mul-le-mul_right z.words (omega (arith, lt, count)) in
+    let more : suc h.b * sizes.words ≤ sizes.buffers * sizes.words = mul-le-mul_right sizes.words (omega (arith, lt, count)) in
     let is = h.is in
     let inside = h.inside in
-    omega (arith, suc-mul h.b z.words)
+    omega (arith, suc-mul h.b sizes.words)

@@ -13,11 +13,11 @@ use Rattle.image_base.proofs.Pairs.{pairs-same}
 use Rattle.gen_core.specs.declared.views.Sizes.{Sizes}
 use Rattle.gen_core.specs.declared.views.WriterView.{WriterView}
 use Rattle.gen_core.specs.Views.{active_in, last_image}
-use Rattle.gen_core.specs.Work.{work_at, place_in, IsWhole, prepend, run_at, is_entry, only_if, whole_by, whole_at, overlay, next_image}
+use Rattle.gen_core.specs.Work.{work_at, place_in, IsWhole, prepend, run_at, is_entry, only_if, whole_by, whole_at, writer_records, next_image}
 use Rattle.gen_core.specs.Good.{State, IsPlaced, IsApart, Avoids, Good}
 use Rattle.gen_core.specs.Events.{stored, published}
 use Rattle.gen_core.proofs.Lists.{all_found}
-use Rattle.gen_core.proofs.Work.{is_entry-true, whole-found, overlay-found}
+use Rattle.gen_core.proofs.Work.{is_entry-true, whole-found, writer_records-found}
 use Rattle.gen_core.proofs.Writer.{active-width, last_image-push}
 use Rattle.gen_core.proofs.Publish.{last_kept}
 
@@ -31,7 +31,7 @@ run-made work (x ∷ xs) p each =
     (λ k. prepend (first k) (rest k))
 
 -- the test of an entry holds of an entry
-pub entry-true : (z : Sizes) (width ref : ℕ) → IsEntry z.buffers z.words width ref → is_entry z width ref ≡ true
+pub entry-true : (sizes : Sizes) (width ref : ℕ) → IsEntry sizes.offset_bits sizes.buffers sizes.words width ref → is_entry z width ref ≡ true
 unfolding is_entry
 entry-true z width ref e =
     let inside = e.inside in
@@ -48,12 +48,12 @@ whole-made w ref ws h =
     ∙ ap (λ t. only_if t (run_at w.work start (length ws))) (entry-true w.sizes (length ws) ref h.entry)
     ∙ run-made w.work ws start (λ i lt. let at : start + i ≡ place_in w.sizes (length ws) ref i = omega arith in ap (work_at w.work) at ∙ h.words i lt)
 
-pub overlay-whole : (w : WriterView) (ref : ℕ) (ws : List ℕ) → IsWhole w ref ws → overlay w ref ≡ ws
-overlay-whole w ref ws h = ap (λ o. unwrap_or o (words_at (last_image w.commits) ref)) (whole-made w ref ws h)
+pub writer_records-whole : (w : WriterView) (ref : ℕ) (ws : List ℕ) → IsWhole w ref ws → writer_records w ref ≡ ws
+writer_records-whole w ref ws h = ap (λ o. unwrap_or o (words_at (last_image w.commits) ref)) (whole-made w ref ws h)
 
 -- after a publish the records are the image's
-pub overlay-published : (w : WriterView) (image : Image) (ref : ℕ) → overlay (published w image) ref ≡ words_at image ref
-overlay-published w image ref = by_whole (whole_at (published w image) ref) refl ∙ ap (λ x. words_at x ref) (last_image-push w.commits image)
+pub writer_records-published : (w : WriterView) (image : Image) (ref : ℕ) → writer_records (published w image) ref ≡ words_at image ref
+writer_records-published w image ref = by_whole (whole_at (published w image) ref) refl ∙ ap (λ x. words_at x ref) (last_image-push w.commits image)
   where
     by_whole : (o : Option (List ℕ)) → whole_at (published w image) ref ≡ o
         → unwrap_or o (words_at (last_image (published w image).commits) ref) ≡ words_at (last_image (published w image).commits) ref
@@ -65,11 +65,11 @@ overlay-published w image ref = by_whole (whole_at (published w image) ref) refl
 
 -- what is reached has the same words after its publish
 pub publish-tells : (reaches : ℕ → Records → ℕ → List ℕ) (w : WriterView) (root : ℕ)
-    → SameAt (reaches w.sizes.shape (overlay w) root) (overlay w) (overlay (published w (next_image reaches w root)))
+    → SameAt (reaches w.sizes.shape (writer_records w) root) (writer_records w) (writer_records (published w (next_image reaches w root)))
 publish-tells reaches w root =
-    let refs : List ℕ = reaches w.sizes.shape (overlay w) root in
+    let refs : List ℕ = reaches w.sizes.shape (writer_records w) root in
     let image : Image = next_image reaches w root in
-    subst (λ (m : Records). SameAt refs (overlay w) m) (λ k ref. sym (overlay-published w image ref) k) (pairs-same refs (overlay w))
+    subst (λ (m : Records). SameAt refs (writer_records w) m) (λ k ref. sym (writer_records-published w image ref) k) (pairs-same refs (writer_records w))
 
 -- a stored word leaves what is read beside it
 run-other : (work : List (ℕ × ℕ)) (p n start count : ℕ) → ((i : ℕ) → i < count → start + i ≢ p) → run_at ((p, n) ∷ work) start count ≡ run_at work start count
@@ -81,9 +81,9 @@ run-other work p n start (suc count) apart =
     (λ k. prepend (cond (here k) (Some n) (work_at work start)) (rest k))
 
 -- storing a word of one entry leaves the other records
-pub overlay-others : (w : WriterView) (ref width i n : ℕ) → active_in w.buffers (buffer_of ref) ≡ Some width → IsEntry w.sizes.buffers w.sizes.words width ref → i < width
-    → (q : ℕ) → q ≢ ref → overlay (stored w (place_in w.sizes width ref i) n) q ≡ overlay w q
-overlay-others w ref width i n at e lt q other = ap (λ o. unwrap_or o (words_at (last_image w.commits) q)) (by_width (active_in w.buffers (buffer_of q)) refl)
+pub writer_records-others : (w : WriterView) (ref width i n : ℕ) → active_in w.buffers (buffer_of w.sizes.offset_bits ref) ≡ Some width → IsEntry w.sizes.offset_bits w.sizes.buffers w.sizes.words width ref → i < width
+    → (q : ℕ) → q ≢ ref → writer_records (stored w (place_in w.sizes width ref i) n) q ≡ writer_records w q
+writer_records-others w ref width i n at e lt q other = ap (λ o. unwrap_or o (words_at (last_image w.commits) q)) (by_width (active_in w.buffers (buffer_of w.sizes.offset_bits q)) refl)
   where
     some-same : (x y : ℕ) → Some x ≡ Some y → x ≡ y
     some-same x y h = cc
@@ -91,29 +91,29 @@ overlay-others w ref width i n at e lt q other = ap (λ o. unwrap_or o (words_at
     p : ℕ
     p = place_in w.sizes width ref i
 
-    by_entry : (x : ℕ) → active_in w.buffers (buffer_of q) ≡ Some x → (t : Bool) → is_entry w.sizes x q ≡ t
+    by_entry : (x : ℕ) → active_in w.buffers (buffer_of w.sizes.offset_bits q) ≡ Some x → (t : Bool) → is_entry w.sizes x q ≡ t
         → only_if t (run_at ((p, n) ∷ w.work) (place_in w.sizes x q 0) x) ≡ only_if t (run_at w.work (place_in w.sizes x q 0) x)
     by_entry x there false test = refl
     by_entry x there true test = run-other w.work p n (place_in w.sizes x q 0) x
         (λ j less same. other (one_place w.sizes.buffers w.sizes.words x width q ref j i (is_entry-true w.sizes x q test) e
         (λ b. some-same x width (sym there ∙ ap (active_in w.buffers) b ∙ at)) less lt (omega (arith, same))).0)
 
-    by_width : (o : Option ℕ) → active_in w.buffers (buffer_of q) ≡ o → whole_by (stored w p n) q o ≡ whole_by w q o
+    by_width : (o : Option ℕ) → active_in w.buffers (buffer_of w.sizes.offset_bits q) ≡ o → whole_by (stored w p n) q o ≡ whole_by w q o
     by_width None there = refl
     by_width (Some x) there = by_entry x there (is_entry w.sizes x q) refl
 
 -- a record of the writer has a reference of 32 bits, where its last commit's records lie in their buffers
-pub overlay-small : (w : WriterView) → w.sizes.words ≤ 65536 → All (IsPlaced w.sizes w.buffers) (last_image w.commits).records
-    → (ref : ℕ) → 0 < length (overlay w ref) → ref < 4294967296
-overlay-small w few placed ref there = ⊎_elim
-    (λ (old : record_at (last_image w.commits) ref ≡ Some (overlay w ref)). entry-small (all_found (IsPlaced w.sizes w.buffers) (last_image w.commits).records ref _ placed old).inside few)
-    (λ (whole : IsWhole w ref (overlay w ref)). entry-small whole.entry few)
-    (overlay-found w ref there)
+pub writer_records-small : (w : WriterView) → w.sizes.words ≤ 65536 → All (IsPlaced w.sizes w.buffers) (last_image w.commits).records
+    → (ref : ℕ) → 0 < length (writer_records w ref) → ref < 2 ^ 32
+writer_records-small w few placed ref there = ⊎_elim
+    (λ (old : record_at (last_image w.commits) ref ≡ Some (writer_records w ref)). entry-small (all_found (IsPlaced w.sizes w.buffers) (last_image w.commits).records ref _ placed old).inside few)
+    (λ (whole : IsWhole w ref (writer_records w ref)). entry-small whole.entry few)
+    (writer_records-found w ref there)
 
 module _ (reaches : ℕ → Records → ℕ → List ℕ) (lawful : ℕ → Records → ℕ → Type 0) where
   -- the last commit's records are the writer's
-  pub overlay-kept : (s : State) → Good reaches lawful s → (ref : ℕ) (ws : List ℕ) → record_at (last_image s.writer.commits) ref ≡ Some ws → overlay s.writer ref ≡ ws
-  overlay-kept s g ref ws there = by_whole (whole_at s.writer ref) refl
+  pub writer_records-kept : (s : State) → Good reaches lawful s → (ref : ℕ) (ws : List ℕ) → record_at (last_image s.writer.commits) ref ≡ Some ws → writer_records s.writer ref ≡ ws
+  writer_records-kept s g ref ws there = by_whole (whole_at s.writer ref) refl
     where
       some-same : (x y : ℕ) → Some x ≡ Some y → x ≡ y
       some-same x y h = cc
@@ -123,10 +123,10 @@ module _ (reaches : ℕ → Records → ℕ → List ℕ) (lawful : ℕ → Reco
       by_whole (Some xs) e =
           let w : WriterView = s.writer in
           let h = whole-found w ref xs e in
-          let placed = all_found (IsPlaced w.sizes w.buffers) (last_image w.commits).records ref ws (last_kept reaches lawful s (λ image. All (IsPlaced w.sizes w.buffers) image.records) g g.frozen.records) there in
+          let placed = all_found (IsPlaced w.sizes w.buffers) (last_image w.commits).records ref ws (last_kept reaches lawful s (λ image. All (IsPlaced w.sizes w.buffers) image.records) g g.places.records) there in
           let long : length xs ≡ length ws = some-same _ _ (sym (active-width w.buffers _ _ h.active) ∙ placed.width) in
           let p : ℕ = place_in w.sizes (length xs) ref 0 in
-          let stored_word = g.frozen.stored p _ (h.words 0 h.entry.wide) in
-          let far = all_found (λ entry. IsApart w.sizes p (length entry.1) entry.0) (last_image w.commits).records ref ws
+          let stored_word = g.places.stored p _ (h.words 0 h.entry.wide) in
+          let far = all_found (λ pair. IsApart w.sizes p (length pair.1) pair.0) (last_image w.commits).records ref ws
           (last_kept reaches lawful s (Avoids w.sizes p) g stored_word.apart).records there in
           absurd (far.each 0 placed.inside.wide (ap (λ n. place_in w.sizes n ref 0) (sym long)))

@@ -1,7 +1,6 @@
 //! The core's laws: each function's contract is the law, for every layout.
 
 ghost use Rattle.gen_core.specs.Laws.{KeepsGood, HandsOutUnguarded, EventKeepsGood, LoadsImageWord, LoadsWidth, ImageStands, StoreLeavesKept, WidthLeavesKept, PublishedStands, PublishesWhole, RecordsAreFound, FoundAreRecords, RecordsStand, LoadsLaterCommit, KeepsCommits};
-ghost use Rattle.gen_core.specs.Needed.{NeedsActive, NeedsApart, NeedsActiveWidth, NeedsNoWidth, NeedsFree, NeedsLawful, NeedsRecords, NeedsNumber, NeedsSeat, NeedsReader};
 
 use image_base::Layout;
 
@@ -41,20 +40,6 @@ pub fn records_law<L: Layout>()
     ensures found { RecordsAreFound L.reaches L.lawful }
     ensures records { FoundAreRecords L.reaches L.lawful }
     ensures stand { RecordsStand L.reaches L.lawful }
-{}
-
-/// A step without its condition breaks the invariant.
-pub fn conditions_law<L: Layout>()
-    ensures active { NeedsActive L.reaches L.lawful }
-    ensures apart { NeedsApart L.reaches L.lawful }
-    ensures active_width { NeedsActiveWidth L.reaches L.lawful }
-    ensures no_width { NeedsNoWidth L.reaches L.lawful }
-    ensures free { NeedsFree L.reaches L.lawful }
-    ensures lawful { NeedsLawful L.reaches L.lawful }
-    ensures records { NeedsRecords L.reaches L.lawful }
-    ensures number { NeedsNumber L.reaches L.lawful }
-    ensures seat { NeedsSeat L.reaches L.lawful }
-    ensures reader { NeedsReader L.reaches L.lawful }
 {}
 
 /// The commit that a reader loads is lawful, and not below what it had seen.
