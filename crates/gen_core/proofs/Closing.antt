@@ -1,9 +1,9 @@
 -- The oldest hold is closed, or the newest becomes that of the next generation.
-use Rattle.std.proofs.Common.{◌≡◌, ◌≢◌, ℕ, zero, suc, ◌+◌, ◌-◌, ◌*◌, ◌<◌, ◌≤◌, List, [], ◌∷◌, ◌++◌, length, drop, get_or, set, Some, None, Bool, true, false, cond, refl, sym, ap, ◌∙◌, subst, arith, length-set, length-append, slice_index, eq-eqb, ne_eqb, true≢false}
+use Rattle.std.proofs.Common.{◌≡◌, ◌≢◌, ℕ, zero, suc, ◌+◌, ◌-◌, ◌*◌, ◌<◌, ◌≤◌, List, [], ◌∷◌, ◌++◌, length, drop, get_or, set, Some, true, false, sym, ap, ◌∙◌, subst, arith, length-set, length-append, slice_index, eq-eqb, ne_eqb, true≢false}
 use mathlib.Core.Logic.{dite}
 use native.Mathlib.Decide.{ℕ_discrete}
 use Rattle.std.proofs.Math.Seq.{get_or-set_other, get_or-set_same}
-use Rattle.std.specs.Prelude.{slice_get, All, AllPairs, count_by, nat_eq, IsTrue, ◌||◌}
+use Rattle.std.specs.Prelude.{slice_get, All, AllPairs, count_by, nat_eq, ◌||◌}
 use Rattle.std.specs.List.{list_any}
 use Rattle.std.proofs.lemmas.List.{get_or_append_left, get_or-append-add}
 use Rattle.std.proofs.lemmas.List.Elements.{All-push, All-weaker}
@@ -13,28 +13,18 @@ use Rattle.image_base.specs.Records.{Records}
 use Rattle.image_base.specs.Places.{state_place}
 use Rattle.gen_core.specs.declared.views.Sizes.{Sizes}
 use Rattle.gen_core.specs.declared.views.OpenHold.{OpenHold}
-use Rattle.gen_core.specs.declared.views.Tag.{Tag}
-use Rattle.gen_core.specs.declared.views.Pending.{Pending}
-use Rattle.gen_core.specs.declared.views.Pending.TheVariants.{Nothing, Next, Probed}
+use Rattle.gen_core.specs.declared.views.Pending.TheVariants.{Nothing, Probed}
 use Rattle.gen_core.specs.declared.views.Buffer.{Buffer}
 use Rattle.gen_core.specs.declared.views.ReaderState.{ReaderState}
 use Rattle.gen_core.specs.declared.views.ReaderState.TheVariants.{Idle, Aimed, Raised, Bounced, Guarded, Spent}
 use Rattle.gen_core.specs.declared.views.ReaderView.{ReaderView}
-use Rattle.gen_core.specs.declared.views.WriterView.{WriterView}
-use Rattle.gen_core.specs.Views.{open_holds, oldest_of, kept_of, last_number, newest_word, hold_place, is_open, is_next, coming, is_counted_on, queue_of, oldest_in}
-use Rattle.gen_core.specs.Good.{State, IsBefore, HoldFits, GoodTag, GoodPlaces, GoodMemory, IsPlaced, WordsStand, Avoids, hold_word, RaiseFits, GoodReaderState, GoodReader, Good}
+use Rattle.gen_core.specs.Views.{open_holds, oldest_of, newest_word, hold_place, is_open, is_next, coming, is_counted_on, queue_of, oldest_in}
+use Rattle.gen_core.specs.Good.{State, IsBefore, HoldFits, GoodPlaces, GoodMemory, IsPlaced, WordsStand, Avoids, hold_word, RaiseFits, GoodReaderState, GoodReader, Good}
 use Rattle.gen_core.specs.Conditions.{MayClose}
-use Rattle.gen_core.specs.Events.{coming_hold, after_close, after_morph}
-use Rattle.gen_core.proofs.Lists.{all_at, all_from}
-use Rattle.gen_core.proofs.Counts.{count_none, names-hold, memory-low}
-use Rattle.gen_core.proofs.Queue.{any-none, or-false, any-push, all_drop-more}
-
-at-oldest : (P : OpenHold → Type 0) (es : List OpenHold) (newest : OpenHold) → All P (es ++ newest ∷ []) → P (oldest_in es newest)
-at-oldest P [] newest all = all 0 newest (omega arith)
-at-oldest P (x ∷ xs) newest all = all 0 x (omega arith)
-
-all-prefix : {A : Type 0} (P : A → Type 0) (xs ys : List A) → All P (xs ++ ys) → All P xs
-all-prefix P xs ys all k d lt = subst P (get_or_append_left xs ys d k lt) (all k d (omega (arith, lt, length-append xs ys)))
+use Rattle.gen_core.specs.Events.{coming_hold, after_close, after_morph, count_at}
+use Rattle.gen_core.proofs.Lists.{all_at, all_from, all_drop-more, all-prefix, count_none}
+use Rattle.gen_core.proofs.Frames.{names-hold, memory-low}
+use Rattle.gen_core.proofs.Holds.{at_newest, at_oldest, any-none, or-false, any-push}
 
 -- where fewer commits are kept, less is said of them
 places-less : (sizes : Sizes) (buffers : List Buffer) (work : List (ℕ × ℕ)) (commits : List Image) (m n : ℕ) → m ≤ n → GoodPlaces sizes buffers (drop m commits) work → GoodPlaces sizes buffers (drop n commits) work
@@ -47,7 +37,7 @@ memory-less : (sizes : Sizes) (words : List ℕ) (buffers : List Buffer) (work :
 memory-less sizes words buffers work commits m n le f = record { records = all_drop-more (λ image. All (WordsStand sizes words) image.records) m n commits le f.records; stored = f.stored; widths = f.widths }
 
 module _ (reaches : ℕ → Records → ℕ → List ℕ) (lawful : ℕ → Records → ℕ → Type 0) where
-  close_from : (s : State) (e : OpenHold) (es : List OpenHold) → Good reaches lawful (record { words = s.words; writer = record s.writer { older = e ∷ es }; readers = s.readers })
+  close_from : (s : State) (e : OpenHold) (es : List OpenHold) → Good reaches lawful (record { words = s.words; writer = record s.writer { queue = queue_of (e ∷ es) s.writer.queue.newest s.writer.queue.pending }; readers = s.readers })
       → s.writer.queue.pending ≡ Nothing → slice_index s.words (hold_place e.hold) ≡ 0 → Good reaches lawful (after_close s e es)
   close_from s e es g calm unused = record {
     sizes = record { table = length-set s.words (hold_place e.hold) _ ∙ g.sizes.table; count = g.sizes.count; some_word = g.sizes.some_word; commit_limit = g.sizes.commit_limit; generation_limit = g.sizes.generation_limit };
@@ -60,7 +50,7 @@ module _ (reaches : ℕ → Records → ℕ → List ℕ) (lawful : ℕ → Reco
       commit = g.queue.commit;
     };
     tags = record {
-      free = λ b last at. let low = g.tags.free b last at in let up = (at-oldest (λ x. IsBefore e x) es s.writer.queue.newest before).generation in omega arith;
+      free = λ b last at. let low = g.tags.free b last at in let up = (at_oldest (λ x. IsBefore e x) es s.writer.queue.newest before).generation in omega arith;
       held = λ b width tag at. let t = g.tags.held b width tag at in record { generation = t.generation; commit = t.commit; first_commits = λ k d lt. t.first_commits (suc k) d (omega arith); unused = t.unused };
     };
     commits = g.commits;
@@ -80,7 +70,7 @@ module _ (reaches : ℕ → Records → ℕ → List ℕ) (lawful : ℕ → Reco
       before k d lt = g.queue.rising 0 (suc k) d (omega arith) (omega arith)
 
       rises : e.first_commit ≤ (oldest_in es s.writer.queue.newest).first_commit
-      rises = (at-oldest (λ x. IsBefore e x) es s.writer.queue.newest before).first_commit
+      rises = (at_oldest (λ x. IsBefore e x) es s.writer.queue.newest before).first_commit
 
       closed : is_open (queue_of es s.writer.queue.newest s.writer.queue.pending) e.hold ≡ false
       closed = ap (λ p. is_open (queue_of es s.writer.queue.newest p) e.hold) calm ∙ or-false _ ∙ any-none (es ++ s.writer.queue.newest ∷ []) e.hold (λ k d lt same. let ne = (before k d lt).hold in ne (sym same))
@@ -122,12 +112,12 @@ module _ (reaches : ℕ → Records → ℕ → List ℕ) (lawful : ℕ → Reco
 
       reader : (j : ℕ) (r : ReaderView) → slice_get s.readers j ≡ Some r → GoodReader s.writer.sizes (queue_of (e ∷ es) s.writer.queue.newest s.writer.queue.pending) s.writer.commits r
           → GoodReader s.writer.sizes (queue_of es s.writer.queue.newest s.writer.queue.pending) s.writer.commits r
-      reader j r at x = record { sizes = x.sizes; seen = x.seen; saw = x.saw; least = x.least;
+      reader j r at x = record { same_sizes = x.same_sizes; seen = x.seen; saw = x.saw; least = x.least;
           state = states r r.state (count_none (λ (q : ReaderView). is_counted_on e.hold q.state) s.readers j r at none) x.state }
 
-  pub close_keeps : (s : State) (e : OpenHold) (es : List OpenHold) → Good reaches lawful s → MayClose s e es → Good reaches lawful (after_close s e es)
-  close_keeps s e es g may =
-      close_from s e es (subst (λ l. Good reaches lawful (record { words = s.words; writer = record s.writer { older = l }; readers = s.readers })) may.is g) may.calm may.unused
+  pub close_keeps : (s : State) (e : OpenHold) (es : List OpenHold) → Good reaches lawful s → MayClose s.writer e es → count_at s e.hold ≡ 0 → Good reaches lawful (after_close s e es)
+  close_keeps s e es g may unused =
+      close_from s e es (subst (λ l. Good reaches lawful (record { words = s.words; writer = record s.writer { queue = queue_of l s.writer.queue.newest s.writer.queue.pending }; readers = s.readers })) may.is g) may.calm unused
 
   pub morph_keeps : (s : State) → Good reaches lawful s → s.writer.queue.pending ≡ Probed → Good reaches lawful (after_morph s)
   morph_keeps s g probed = record {
@@ -136,7 +126,7 @@ module _ (reaches : ℕ → Records → ℕ → List ℕ) (lawful : ℕ → Reco
       few = g.queue.few;
       rising = all_pairs_push IsBefore s.writer.queue.older (coming_hold s.writer s.writer.queue.newest.hold) prefix before;
       each = All-push (HoldFits s.writer.commits) s.writer.queue.older (coming_hold s.writer s.writer.queue.newest.hold)
-          (all-prefix (HoldFits s.writer.commits) s.writer.queue.older (s.writer.queue.newest ∷ []) g.queue.each) (record { hold = newest-low s.writer.queue.older s.writer.queue.newest g.queue.each; first_commit = omega arith });
+          (all-prefix (HoldFits s.writer.commits) s.writer.queue.older (s.writer.queue.newest ∷ []) g.queue.each) (record { hold = (at_newest (HoldFits s.writer.commits) s.writer.queue.older s.writer.queue.newest g.queue.each).hold; first_commit = omega arith });
       next = λ k e. absurd (cc);
       generation = limit;
       commit = g.queue.commit;
@@ -157,7 +147,7 @@ module _ (reaches : ℕ → Records → ℕ → List ℕ) (lawful : ℕ → Reco
     places = places-less s.writer.sizes s.writer.buffers s.writer.work s.writer.commits _ _ rises g.places;
     names = record {
       root = get_or-set_other s.words 1 0 _ 0 (λ e. omega arith) ∙ g.names.root;
-      last = get_or-set_same s.words 1 _ 0 (omega (arith, g.sizes.table));
+      newest_hold = get_or-set_same s.words 1 _ 0 (omega (arith, g.sizes.table));
       states = λ b x at. get_or-set_other s.words 1 (state_place b) _ 0 (λ e. omega arith) ∙ g.names.states b x at;
     };
     memory = memory-less s.writer.sizes (set s.words 1 (newest_word (coming_hold s.writer s.writer.queue.newest.hold))) s.writer.buffers s.writer.work s.writer.commits _ _ rises
@@ -173,14 +163,6 @@ module _ (reaches : ℕ → Records → ℕ → List ℕ) (lawful : ℕ → Reco
       limit : s.writer.queue.newest.generation + 1 ≤ s.writer.sizes.generation_limit
       limit = subst (λ p. coming (queue_of s.writer.queue.older s.writer.queue.newest p) ≤ s.writer.sizes.generation_limit) probed g.queue.generation
 
-      newest-low : (older : List OpenHold) (newest : OpenHold) → All (HoldFits s.writer.commits) (older ++ newest ∷ []) → newest.hold < 16
-      newest-low [] newest all = (all 0 newest (omega arith)).hold
-      newest-low (e ∷ es) newest all = newest-low es newest (λ k d lt. all (suc k) d (omega arith))
-
-      newest-first : (older : List OpenHold) (newest : OpenHold) → All (HoldFits s.writer.commits) (older ++ newest ∷ []) → newest.first_commit ≤ last_number s.writer.commits
-      newest-first [] newest all = (all 0 newest (omega arith)).first_commit
-      newest-first (e ∷ es) newest all = newest-first es newest (λ k d lt. all (suc k) d (omega arith))
-
       oldest-up : (older : List OpenHold) (e : OpenHold) → s.writer.queue.newest.generation < e.generation → (n : ℕ) → n < (oldest_in older s.writer.queue.newest).generation → n < (oldest_in older e).generation
       oldest-up [] e up n lt = omega arith
       oldest-up (x ∷ xs) e up n lt = lt
@@ -190,7 +172,7 @@ module _ (reaches : ℕ → Records → ℕ → List ℕ) (lawful : ℕ → Reco
       first_commits-up (x ∷ xs) e up = omega arith
 
       rises : (oldest_of s.writer.queue).first_commit ≤ (oldest_in s.writer.queue.older (coming_hold s.writer s.writer.queue.newest.hold)).first_commit
-      rises = first_commits-up s.writer.queue.older (coming_hold s.writer s.writer.queue.newest.hold) (newest-first s.writer.queue.older s.writer.queue.newest g.queue.each)
+      rises = first_commits-up s.writer.queue.older (coming_hold s.writer s.writer.queue.newest.hold) (at_newest (HoldFits s.writer.commits) s.writer.queue.older s.writer.queue.newest g.queue.each).first_commit
 
       long : length (open_holds s.writer.queue) ≡ length s.writer.queue.older + 1
       long = length-append s.writer.queue.older (s.writer.queue.newest ∷ [])
@@ -238,4 +220,4 @@ module _ (reaches : ℕ → Records → ℕ → List ℕ) (lawful : ℕ → Reco
 
       reader : (r : ReaderView) → GoodReader s.writer.sizes s.writer.queue s.writer.commits r
           → GoodReader s.writer.sizes (queue_of s.writer.queue.older (coming_hold s.writer s.writer.queue.newest.hold) Nothing) s.writer.commits r
-      reader r x = record { sizes = x.sizes; seen = x.seen; saw = x.saw; least = (let le = x.least in omega arith); state = states r r.state x.least x.state }
+      reader r x = record { same_sizes = x.same_sizes; seen = x.seen; saw = x.saw; least = (let le = x.least in omega arith); state = states r r.state x.least x.state }

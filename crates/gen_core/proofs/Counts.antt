@@ -1,91 +1,23 @@
 -- The readers' events on holds keep the invariant.
-use Rattle.std.proofs.Common.{◌≡◌, ◌≢◌, ℕ, zero, suc, ◌+◌, ◌-◌, ◌*◌, ◌%◌, ◌<◌, ◌≤◌, List, [], ◌∷◌, length, set, Some, None, Bool, true, false, cond, eqb, refl, sym, ap, ◌∙◌, subst, arith, length-set, slice_index, eq-eqb, ne_eqb, eqb-true, true≢false}
+use Rattle.std.proofs.Common.{◌≡◌, ◌≢◌, ℕ, ◌+◌, ◌-◌, ◌*◌, ◌%◌, ◌<◌, ◌≤◌, List, ◌∷◌, set, Some, Bool, true, false, cond, refl, sym, ap, ◌∙◌, subst, arith, length-set, slice_index, eq-eqb, ne_eqb, true≢false}
 use mathlib.Core.Logic.{dite}
 use native.Mathlib.Decide.{ℕ_discrete}
 use Rattle.std.proofs.Math.Seq.{get_or-set_other, get_or-set_same}
-use Rattle.std.specs.Prelude.{slice_get, All, count_by, nat_eq, sum_by, IsTrue, ◌||◌}
-use Rattle.std.specs.List.{list_any}
-use Rattle.std.proofs.lemmas.List.Sums.{sum_by-cons}
+use Rattle.std.specs.Prelude.{slice_get, count_by, nat_eq, ◌||◌}
 use Rattle.std.proofs.lemmas.List.Elements.{All-set}
-use Rattle.image_base.specs.declared.Image.{Image}
 use Rattle.image_base.specs.Records.{Records}
-use Rattle.image_base.specs.Places.{base, state_place}
-use Rattle.gen_core.specs.declared.views.Sizes.{Sizes}
-use Rattle.gen_core.specs.declared.views.OpenHold.{OpenHold}
-use Rattle.gen_core.specs.declared.views.Pending.{Pending}
-use Rattle.gen_core.specs.declared.views.Buffer.{Buffer}
 use Rattle.gen_core.specs.declared.views.ReaderState.{ReaderState}
 use Rattle.gen_core.specs.declared.views.ReaderState.TheVariants.{Idle, Aimed, Raised, Bounced, Guarded, Spent}
 use Rattle.gen_core.specs.declared.views.ReaderView.{ReaderView}
 use Rattle.gen_core.specs.declared.views.WriterView.{WriterView}
-use Rattle.gen_core.specs.Views.{open_holds, kept_of, last_number, hold_place, is_open, is_next, is_counted_on}
-use Rattle.gen_core.specs.Work.{place_in}
-use Rattle.gen_core.specs.Good.{State, GoodNamedWords, GoodMemory, GoodCounts, GoodQueue, hold_word, AimFits, RaiseFits, BounceFits, GuardFits, GoodReaderState, GoodReader, IsPlaced, Good}
+use Rattle.gen_core.specs.Views.{hold_place, is_open, is_counted_on}
+use Rattle.gen_core.specs.Good.{State, hold_word, AimFits, BounceFits, GuardFits, GoodReaderState, GoodReader, Good, HoldFits}
 use Rattle.gen_core.specs.Events.{aims, after_load_newest, found_state, with_state, after_count, after_raise, bounced, after_bounce, after_release}
-use Rattle.gen_core.proofs.Lists.{all_at}
-use Rattle.gen_core.proofs.Frames.{active-behind, behind-high, records-set, records-behind}
-
-abbrev pub one_if : Bool → ℕ
-one_if b = cond b 1 0
-
--- a count with one place written
-pub count_moved : {A : Type 0} (p : A → Bool) (xs : List A) (i : ℕ) (x y : A) → slice_get xs i ≡ Some x → count_by p (set xs i y) + one_if (p x) ≡ count_by p xs + one_if (p y)
-count_moved p [] i x y at = absurd (cc)
-count_moved {A} p (z ∷ zs) zero x y at =
-    let one : A → ℕ = λ a. cond (p a) 1 0 in
-    let e : z ≡ x = cc in
-    let a = sum_by-cons one y zs in
-    let b = sum_by-cons one z zs in
-    let c : one z ≡ one x = ap one e in
-    omega (arith, a, b, c)
-count_moved {A} p (z ∷ zs) (suc i) x y at =
-    let one : A → ℕ = λ a. cond (p a) 1 0 in
-    let a = sum_by-cons one z (set zs i y) in
-    let b = sum_by-cons one z zs in
-    let c = count_moved p zs i x y at in
-    omega (arith, a, b, c)
-
--- one that passes is counted
-pub count_some : {A : Type 0} (p : A → Bool) (xs : List A) (i : ℕ) (x : A) → slice_get xs i ≡ Some x → p x ≡ true → 0 < count_by p xs
-count_some p [] i x at h = absurd (cc)
-count_some {A} p (z ∷ zs) zero x at h =
-    let one : A → ℕ = λ a. cond (p a) 1 0 in
-    let e : z ≡ x = cc in
-    let b = sum_by-cons one z zs in
-    let c : one z ≡ 1 = ap one e ∙ ap (λ t. cond t 1 0) h in
-    omega (arith, b, c)
-count_some {A} p (z ∷ zs) (suc i) x at h =
-    let one : A → ℕ = λ a. cond (p a) 1 0 in
-    let b = sum_by-cons one z zs in
-    let c = count_some p zs i x at h in
-    omega (arith, b, c)
-
--- so none passes where none is counted
-pub count_none : {A : Type 0} (p : A → Bool) (xs : List A) (i : ℕ) (x : A) → slice_get xs i ≡ Some x → count_by p xs ≡ 0 → p x ≡ false
-count_none p xs i x at none = by_test (p x) refl
-  where
-    by_test : (t : Bool) → p x ≡ t → t ≡ false
-    by_test true e = absurd (let some = count_some p xs i x at e in omega (arith, some, none))
-    by_test false e = refl
-
--- a count's word is behind the root and the last word, and before the states
-pub names-hold : {words : List ℕ} {commits : List Image} {newest : OpenHold} {buffers : List Buffer} → GoodNamedWords words commits newest buffers
-    → (p n : ℕ) → 2 ≤ p → p < 18 → GoodNamedWords (set words p n) commits newest buffers
-names-hold {words} g p n low high = record {
-  root = get_or-set_other words p 0 n 0 (λ e. omega arith) ∙ g.root;
-  last = get_or-set_other words p 1 n 0 (λ e. omega arith) ∙ g.last;
-  states = λ b x at. get_or-set_other words p (state_place b) n 0 (λ e. omega arith) ∙ g.states b x at;
-}
+use Rattle.gen_core.proofs.Lists.{all_at, one_if, count_moved, count_some}
+use Rattle.gen_core.proofs.Holds.{at_newest, newest-open}
+use Rattle.gen_core.proofs.Frames.{names-hold, memory-low}
 
 module _ (reaches : ℕ → Records → ℕ → List ℕ) (lawful : ℕ → Records → ℕ → Type 0) where
-  -- a word before the buffers is no word of them
-  pub memory-low : (s : State) → Good reaches lawful s → (p n : ℕ) → p < 18 → GoodMemory s.writer.sizes (set s.words p n) s.writer.buffers (kept_of s.writer) s.writer.work
-  memory-low s g p n low = record {
-    records = records-set s.writer.sizes s.words (kept_of s.writer) p n (records-behind s.writer.sizes s.writer.buffers (kept_of s.writer) p (λ q h e. let high = behind-high s.writer.sizes q h in omega arith) g.places.records) g.memory.records;
-    stored = λ q m there. let high = behind-high s.writer.sizes q (active-behind (g.places.stored q m there).active) in get_or-set_other s.words p q n 0 (λ e. omega arith) ∙ g.memory.stored q m there;
-    widths = λ b width is some. get_or-set_other s.words p (base s.writer.sizes.buffers s.writer.sizes.words b) n 0 (λ e. omega arith) ∙ g.memory.widths b width is some;
-  }
-
   -- one count changes by twice what one view's change counts
   pub count_event : (s : State) (h n j : ℕ) (r v : ReaderView) → Good reaches lawful s → slice_get s.readers j ≡ Some r → h < 16
       → n + 2 * one_if (is_counted_on h r.state) ≡ slice_index s.words (hold_place h) + 2 * one_if (is_counted_on h v.state)
@@ -99,7 +31,7 @@ module _ (reaches : ℕ → Records → ℕ → List ℕ) (lawful : ℕ → Reco
     commits = g.commits;
     places = g.places;
     names = names-hold g.names (hold_place h) n (omega arith) (omega arith);
-    memory = memory-low s g (hold_place h) n (omega arith);
+    memory = memory-low reaches lawful s g (hold_place h) n (omega arith);
     counts = record { counts = counts; views = length-set s.readers j v ∙ g.counts.views; few = g.counts.few };
     readers = All-set (GoodReader s.writer.sizes s.writer.queue s.writer.commits) s.readers j v new g.readers;
   }
@@ -127,11 +59,11 @@ module _ (reaches : ℕ → Records → ℕ → List ℕ) (lawful : ℕ → Reco
       let old = all_at (GoodReader w.sizes w.queue w.commits) s.readers j r g.readers at in
       let v : ReaderView = aims r w.queue.newest in
       let new : GoodReader w.sizes w.queue w.commits v = record {
-        sizes = λ e. old.sizes (λ is. off (sym idle ∙ is));
+        same_sizes = λ e. old.same_sizes (λ is. off (sym idle ∙ is));
         seen = old.seen;
         saw = old.saw;
         least = omega arith;
-        state = record { hold = newest-hold w.queue.older w.queue.newest w.commits g.queue.each; aim = refl; current = λ e. refl };
+        state = record { hold = (at_newest (HoldFits w.commits) w.queue.older w.queue.newest g.queue.each).hold; aim = refl; current = λ e. refl };
       } in
       record {
         sizes = g.sizes;
@@ -155,9 +87,6 @@ module _ (reaches : ℕ → Records → ℕ → List ℕ) (lawful : ℕ → Reco
       off : Idle ≡ Spent → ⊥
       off e = cc
 
-      newest-hold : (older : List OpenHold) (newest : OpenHold) (commits : List Image) → All (Rattle.gen_core.specs.Good.HoldFits commits) (older ++ newest ∷ []) → newest.hold < 16
-      newest-hold [] newest commits all = (all 0 newest (omega arith)).hold
-      newest-hold (e ∷ es) newest commits all = newest-hold es newest commits (λ k d lt. all (suc k) d (omega arith))
 
   -- raise: the view is raised where the count was even, and else on its way back
   pub raise_keeps : (s : State) (j : ℕ) (r : ReaderView) (generation h : ℕ) → Good reaches lawful s → slice_get s.readers j ≡ Some r → r.state ≡ Aimed generation h → Good reaches lawful (after_raise s j r h)
@@ -193,7 +122,7 @@ module _ (reaches : ℕ → Records → ℕ → List ℕ) (lawful : ℕ → Reco
           let word : slice_index s.words (hold_place h) ≡ 2 * count_by (λ q. is_counted_on h q.state) s.readers = g.counts.counts h low ∙ ap (hold_word _) open_here ∙ (omega arith) in
           let even : slice_index s.words (hold_place h) % 2 ≡ 0 = omega (arith, word) in
           let is : found_state (slice_index s.words (hold_place h)) h ≡ Raised h = ap (λ t. cond t (Raised h) (Bounced h)) (eq-eqb _ 0 even) in
-          step (Raised h) is (λ k. refl) low (record { sizes = λ e. old.sizes (λ x. off (sym aimed ∙ x)); seen = old.seen; saw = old.saw; least = old.least; state = record { hold = low; opened = open_here } })
+          step (Raised h) is (λ k. refl) low (record { same_sizes = λ e. old.same_sizes (λ x. off (sym aimed ∙ x)); seen = old.seen; saw = old.saw; least = old.least; state = record { hold = low; opened = open_here } })
       by_open old aim false open_here =
           let low = aim.hold in
           let word : slice_index s.words (hold_place h) ≡ 2 * count_by (λ q. is_counted_on h q.state) s.readers + 1 = g.counts.counts h low ∙ ap (hold_word _) open_here in
@@ -202,18 +131,7 @@ module _ (reaches : ℕ → Records → ℕ → List ℕ) (lawful : ℕ → Reco
           let missed : r.least < s.writer.queue.newest.generation = dite (ℕ_discrete generation s.writer.queue.newest.generation)
               (λ same. absurd (true≢false (sym (newest-open s.writer.queue) ∙ ap (is_open s.writer.queue) (sym (aim.current same)) ∙ open_here)))
               (λ other. let a = aim.aim in let le = old.least in omega (arith, le, a, other)) in
-          step (Bounced h) is (λ k. refl) low (record { sizes = λ e. old.sizes (λ x. off (sym aimed ∙ x)); seen = old.seen; saw = old.saw; least = old.least; state = record { hold = low; missed = missed } })
-        where
-          any-newest : (older : List OpenHold) (newest : OpenHold) → list_any (λ e. nat_eq e.hold newest.hold) (older ++ newest ∷ []) ≡ true
-          any-newest [] newest = ap (λ t. t || false) (eq-eqb newest.hold newest.hold refl)
-          any-newest (e ∷ es) newest = or_right (nat_eq e.hold newest.hold) _ (any-newest es newest)
-            where
-              or_right : (t u : Bool) → u ≡ true → (t || u) ≡ true
-              or_right true u h = refl
-              or_right false u h = h
-
-          newest-open : (older : List OpenHold) (newest : OpenHold) (pending : Pending) → is_open older newest pending newest.hold ≡ true
-          newest-open older newest pending = ap (λ t. t || is_next pending newest.hold) (any-newest older newest)
+          step (Bounced h) is (λ k. refl) low (record { same_sizes = λ e. old.same_sizes (λ x. off (sym aimed ∙ x)); seen = old.seen; saw = old.saw; least = old.least; state = record { hold = low; missed = missed } })
 
   -- lower: a bounce back and a release
   lower : (s : State) (j : ℕ) (r v : ReaderView) (h : ℕ) → Good reaches lawful s → slice_get s.readers j ≡ Some r → h < 16
@@ -234,7 +152,7 @@ module _ (reaches : ℕ → Records → ℕ → List ℕ) (lawful : ℕ → Reco
       let old = all_at (GoodReader w.sizes w.queue w.commits) s.readers j r g.readers at in
       let b : BounceFits w.queue.newest r.least h = subst (GoodReaderState w.queue w.commits r) is old.state in
       lower s j r (bounced r) h g at b.hold (λ k. ap (is_counted_on k) is) (λ k. refl)
-      (record { sizes = λ e. old.sizes (λ x. off (sym is ∙ x)); seen = old.seen; saw = old.saw; least = (let m = b.missed in omega arith); state = tt })
+      (record { same_sizes = λ e. old.same_sizes (λ x. off (sym is ∙ x)); seen = old.seen; saw = old.saw; least = (let m = b.missed in omega arith); state = tt })
     where
       off : Bounced h ≡ Spent → ⊥
       off e = cc
@@ -245,7 +163,7 @@ module _ (reaches : ℕ → Records → ℕ → List ℕ) (lawful : ℕ → Reco
       let old = all_at (GoodReader w.sizes w.queue w.commits) s.readers j r g.readers at in
       let b : GuardFits w.queue w.commits r.saw h c = subst (GoodReaderState w.queue w.commits r) is old.state in
       lower s j r (with_state r Idle) h g at b.raised.hold (λ k. ap (is_counted_on k) is) (λ k. refl)
-      (record { sizes = λ e. old.sizes (λ x. off (sym is ∙ x)); seen = old.seen; saw = old.saw; least = old.least; state = tt })
+      (record { same_sizes = λ e. old.same_sizes (λ x. off (sym is ∙ x)); seen = old.seen; saw = old.saw; least = old.least; state = tt })
     where
       off : Guarded h c ≡ Spent → ⊥
       off e = cc

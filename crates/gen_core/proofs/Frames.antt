@@ -9,12 +9,13 @@ use Rattle.image_base.specs.Places.{base, state_place, size_of, IsEntry}
 use Rattle.image_base.proofs.Apart.{apart, within}
 use Rattle.gen_core.specs.declared.views.Sizes.{Sizes}
 use Rattle.gen_core.specs.declared.views.OpenHold.{OpenHold}
-use Rattle.gen_core.specs.declared.views.Pending.{Pending}
 use Rattle.gen_core.specs.declared.views.Buffer.{Buffer}
 use Rattle.gen_core.specs.declared.views.ReaderView.{ReaderView}
-use Rattle.gen_core.specs.Views.{active_width, active_in}
+use Rattle.gen_core.specs.Views.{active_width, active_in, kept_of}
 use Rattle.gen_core.specs.Work.{place_in}
-use Rattle.gen_core.specs.Good.{GoodNamedWords, GoodCounts, InActive, WordsStand, IsPlaced}
+use Rattle.gen_core.specs.Good.{GoodNamedWords, GoodCounts, InActive, WordsStand, IsPlaced, State, GoodMemory, Good}
+use Rattle.gen_core.specs.declared.views.Queue.{Queue}
+use Rattle.image_base.specs.Records.{Records}
 
 -- a place in the buffers: behind the first word of one of them
 pub record IsBehind (sizes : Sizes) (p : ℕ) : Type 0 where
@@ -51,14 +52,23 @@ pub names-set : {words : List ℕ} {commits : List Image} {newest : OpenHold} {b
     → (p n : ℕ) → 18 + length buffers ≤ p → GoodNamedWords (set words p n) commits newest buffers
 names-set {words} {commits} {newest} {buffers} g p n high = record {
   root = get_or-set_other words p 0 n 0 (λ e. omega arith) ∙ g.root;
-  last = get_or-set_other words p 1 n 0 (λ e. omega arith) ∙ g.last;
+  newest_hold = get_or-set_other words p 1 n 0 (λ e. omega arith) ∙ g.newest_hold;
   states = λ b x at. let lt : b < length buffers = slice_get_within buffers b x at in get_or-set_other words p (state_place b) n 0 (λ e. omega arith) ∙ g.states b x at;
 }
 
+-- a count's word is behind the root and the last word, and before the states
+pub names-hold : {words : List ℕ} {commits : List Image} {newest : OpenHold} {buffers : List Buffer} → GoodNamedWords words commits newest buffers
+    → (p n : ℕ) → 2 ≤ p → p < 18 → GoodNamedWords (set words p n) commits newest buffers
+names-hold {words} g p n low high = record {
+  root = get_or-set_other words p 0 n 0 (λ e. omega arith) ∙ g.root;
+  newest_hold = get_or-set_other words p 1 n 0 (λ e. omega arith) ∙ g.newest_hold;
+  states = λ b x at. get_or-set_other words p (state_place b) n 0 (λ e. omega arith) ∙ g.states b x at;
+}
+
 -- a word that is no count
-pub counts-set : {words : List ℕ} {older : List OpenHold} {newest : OpenHold} {pending : Pending} {made : ℕ} {readers : List ReaderView} → GoodCounts words older newest pending made readers
-    → (p n : ℕ) → ((h : ℕ) → h < 16 → 2 + h ≢ p) → GoodCounts (set words p n) older newest pending made readers
-counts-set {words} {older} {newest} {pending} {made} {readers} g p n apart = record {
+pub counts-set : {words : List ℕ} {queue : Queue} {made : ℕ} {readers : List ReaderView} → GoodCounts words queue made readers
+    → (p n : ℕ) → ((h : ℕ) → h < 16 → 2 + h ≢ p) → GoodCounts (set words p n) queue made readers
+counts-set {words} {queue} {made} {readers} g p n apart = record {
   counts = λ h lt. get_or-set_other words p (2 + h) n 0 (apart h lt) ∙ g.counts h lt;
   views = g.views;
   few = g.few;
@@ -93,3 +103,12 @@ active-below sizes buffers p words h count table =
     let is = h.is in
     let inside = h.inside in
     omega (arith, suc-mul h.b sizes.words)
+
+module _ (reaches : ℕ → Records → ℕ → List ℕ) (lawful : ℕ → Records → ℕ → Type 0) where
+  -- a word before the buffers is no word of them
+  pub memory-low : (s : State) → Good reaches lawful s → (p n : ℕ) → p < 18 → GoodMemory s.writer.sizes (set s.words p n) s.writer.buffers (kept_of s.writer) s.writer.work
+  memory-low s g p n low = record {
+    records = records-set s.writer.sizes s.words (kept_of s.writer) p n (records-behind s.writer.sizes s.writer.buffers (kept_of s.writer) p (λ q h e. let high = behind-high s.writer.sizes q h in omega arith) g.places.records) g.memory.records;
+    stored = λ q m there. let high = behind-high s.writer.sizes q (active-behind (g.places.stored q m there).active) in get_or-set_other s.words p q n 0 (λ e. omega arith) ∙ g.memory.stored q m there;
+    widths = λ b width is some. get_or-set_other s.words p (base s.writer.sizes.buffers s.writer.sizes.words b) n 0 (λ e. omega arith) ∙ g.memory.widths b width is some;
+  }

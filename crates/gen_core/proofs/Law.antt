@@ -1,6 +1,6 @@
 -- The laws of the core.
-use Rattle.std.proofs.Common.{true≢false, eqb-true, ◌≡◌, ℕ, zero, suc, ◌/◌, ◌%◌, ◌<◌, ◌≤◌, List, [], ◌∷◌, length, Some, None, Bool, true, false, refl, sym, ap, ◌∙◌, subst, arith, slice_index}
-use Rattle.std.specs.Prelude.{slice_get, All, AllPairs, IsTrue, ◌||◌, nat_eq, option_and_then}
+use Rattle.std.proofs.Common.{true≢false, eqb-true, ◌≡◌, ℕ, ◌/◌, ◌%◌, ◌<◌, ◌≤◌, List, [], ◌∷◌, length, Some, Bool, true, false, refl, sym, ap, ◌∙◌, subst, arith, slice_index, ◌^◌}
+use Rattle.std.specs.Prelude.{slice_get, All, IsTrue, ◌||◌, nat_eq, option_and_then}
 use Rattle.std.specs.List.{list_any}
 use Rattle.std.proofs.lemmas.Nat.{mod-mul-add, div-mul-add}
 use Rattle.entry_ref.specs.References.{buffer_of}
@@ -9,7 +9,6 @@ use Rattle.image_base.specs.Records.{Records}
 use Rattle.image_base.specs.Places.{base, RecordStands, StandsIn}
 use Rattle.image_base.proofs.Apart.{place-below}
 use Rattle.gen_core.specs.declared.views.Sizes.{Sizes}
-use Rattle.gen_core.specs.declared.views.OpenHold.{OpenHold}
 use Rattle.gen_core.specs.declared.views.Pending.{Pending}
 use Rattle.gen_core.specs.declared.views.Pending.TheVariants.{Nothing, Next, Probed}
 use Rattle.gen_core.specs.declared.views.Buffer.TheVariants.{Free}
@@ -17,43 +16,22 @@ use Rattle.gen_core.specs.declared.views.ReaderState.{ReaderState}
 use Rattle.gen_core.specs.declared.views.ReaderState.TheVariants.{Idle, Aimed, Raised, Bounced, Guarded, Spent}
 use Rattle.gen_core.specs.declared.views.ReaderView.{ReaderView}
 use Rattle.gen_core.specs.declared.views.WriterView.{WriterView}
-use Rattle.gen_core.specs.Views.{is_next, open_holds, oldest_of, floor_of, kept_of, last_number, last_image, is_open, last_tag, stands_on, spent, queue_of, oldest_in}
+use Rattle.gen_core.specs.Views.{open_holds, oldest_of, floor_of, kept_of, last_number, last_image, is_open, last_tag, stands_on, spent, queue_of}
 use Rattle.gen_core.specs.Work.{next_image}
-use Rattle.gen_core.specs.Good.{State, IsBefore, IsPlaced, WordsStand, RaiseFits, GuardFits, GoodReaderState, GoodReader, IsLawfulCommit, Good}
+use Rattle.gen_core.specs.Good.{State, IsPlaced, WordsStand, RaiseFits, GuardFits, GoodReaderState, GoodReader, IsLawfulCommit, Good}
 use Rattle.gen_core.specs.Conditions.{MayHandOut, MayPublish, IsUnder}
-use Rattle.gen_core.specs.Events.{Event, store_width, store_word, hand_out, publish, load_root, load_word, split, join, meet_load, load_own, load_newest, raise, bounce, release, reopen, store_newest, close, probe, morph, put_on_hold, give_back, Happens, Happen, MayOpen, opening, NoneFromBefore, after_publish}
-use Rattle.gen_core.specs.Laws.{TellsCommit}
+use Rattle.gen_core.specs.Events.{Event, store_width, store_word, hand_out, publish, put_on_hold, free_buffer, reopen, store_newest, close, stop_at_oldest, probe, stop_at_newest, morph, split, join, meet_load, load_own, load_newest, raise, bounce, load_root, load_word, release, Happens, Happen, MayOpen, opening, NoneFromBefore, after_publish}
+use Rattle.gen_core.specs.Laws.{TellsCommit, IsKeptFor}
 use Rattle.gen_core.proofs.Lists.{all_at, all_drop-at, all_found}
 use Rattle.gen_core.proofs.Writer.{store_word_keeps, store_width_keeps, hand_out_keeps, floor-last, some-commit, last_at, last_image-push}
 use Rattle.gen_core.proofs.Publish.{Stays, Present, publish_keeps}
 use Rattle.gen_core.proofs.Readers.{load_root_keeps, split_keeps, join_keeps}
 use Rattle.gen_core.proofs.Counts.{load_newest_keeps, raise_keeps, bounce_keeps, release_keeps}
-use Rattle.gen_core.proofs.Queue.{reopen_keeps, store_newest_keeps, probe_keeps}
+use Rattle.gen_core.proofs.Holds.{oldest-least, commits-least, any-first}
+use Rattle.gen_core.proofs.Advancing.{reopen_keeps, store_newest_keeps, stop_keeps, probe_keeps}
 use Rattle.gen_core.proofs.Closing.{close_keeps, morph_keeps}
-use Rattle.gen_core.proofs.Given.{put_on_hold_keeps, free_keeps}
+use Rattle.gen_core.proofs.Buffers.{put_on_hold_keeps, free_keeps}
 use Rattle.gen_core.proofs.Opening.{EmptyReaches, EmptyLawful, opening_good}
-
--- the oldest generation is below all others of the queue
-oldest-least : (older : List OpenHold) (newest : OpenHold) → AllPairs IsBefore (older ++ newest ∷ []) → All (λ e. (oldest_in older newest).generation ≤ e.generation) (older ++ newest ∷ [])
-oldest-least [] newest rising zero d lt = omega arith
-oldest-least [] newest rising (suc k) d lt = absurd (omega arith)
-oldest-least (e ∷ es) newest rising zero d lt = omega arith
-oldest-least (e ∷ es) newest rising (suc k) d lt = let before = (rising zero (suc k) d (omega arith) lt).generation in omega arith
-
--- no entry of the queue begins below the floor
-first_commits-floor : (older : List OpenHold) (newest : OpenHold) → AllPairs IsBefore (older ++ newest ∷ []) → All (λ e. (oldest_in older newest).first_commit ≤ e.first_commit) (older ++ newest ∷ [])
-first_commits-floor [] newest rising zero d lt = omega arith
-first_commits-floor [] newest rising (suc k) d lt = absurd (omega arith)
-first_commits-floor (e ∷ es) newest rising zero d lt = omega arith
-first_commits-floor (e ∷ es) newest rising (suc k) d lt = (rising zero (suc k) d (omega arith) lt).first_commit
-
-any-first : (xs : List OpenHold) (h f c : ℕ) → All (λ e. e.hold ≡ h → e.first_commit ≤ c) xs → All (λ e. f ≤ e.first_commit) xs → IsTrue (list_any (λ e. nat_eq e.hold h) xs) → f ≤ c
-any-first [] h f c each low t = absurd (true≢false (sym t))
-any-first (e ∷ es) h f c each low t = by_test (any-first es h f c (λ k d lt. each (suc k) d (omega arith)) (λ k d lt. low (suc k) d (omega arith))) (nat_eq e.hold h) refl t
-  where
-    by_test : (IsTrue (list_any (λ x. nat_eq x.hold h) es) → f ≤ c) → (u : Bool) → nat_eq e.hold h ≡ u → IsTrue (u || list_any (λ x. nat_eq x.hold h) es) → f ≤ c
-    by_test later true is o = let a = each 0 e (omega arith) (eqb-true e.hold h is) in let b = low 0 e (omega arith) in omega arith
-    by_test later false is o = later o
 
 module _ (reaches : ℕ → Records → ℕ → List ℕ) (lawful : ℕ → Records → ℕ → Type 0) where
   pub event_keeps : Stays reaches lawful → Present reaches lawful → (s t : State) (e : Event) → Good reaches lawful s → Happens reaches lawful s e t → Good reaches lawful t
@@ -61,8 +39,15 @@ module _ (reaches : ℕ → Records → ℕ → List ℕ) (lawful : ℕ → Reco
   event_keeps stays present s t (store_word p n) g h = subst (Good reaches lawful) (sym h.1) (store_word_keeps reaches lawful s p n g h.0)
   event_keeps stays present s t (hand_out b) g h = subst (Good reaches lawful) (sym h.1) (hand_out_keeps reaches lawful s b g h.0)
   event_keeps stays present s t (publish root) g h = subst (Good reaches lawful) (sym h.1) (publish_keeps reaches lawful stays present s root g h.0)
-  event_keeps stays present s t (load_root j) g h = subst (Good reaches lawful) (sym h.4) (load_root_keeps reaches lawful s j h.0 h.2 g h.1 h.3)
-  event_keeps stays present s t (load_word j p) g h = subst (Good reaches lawful) (sym h.3) g
+  event_keeps stays present s t (put_on_hold b) g h = subst (Good reaches lawful) (sym h.2) (put_on_hold_keeps reaches lawful s b h.0 g h.1)
+  event_keeps stays present s t (free_buffer b) g h = subst (Good reaches lawful) (sym h.2) (free_keeps reaches lawful s b h.0 g h.1)
+  event_keeps stays present s t (reopen k) g h = subst (Good reaches lawful) (sym h.1) (reopen_keeps reaches lawful s k g h.0)
+  event_keeps stays present s t store_newest g h = subst (Good reaches lawful) (sym h.2) (store_newest_keeps reaches lawful s h.0 g h.1)
+  event_keeps stays present s t close g h = subst (Good reaches lawful) (sym h.4) (close_keeps reaches lawful s h.0 h.1 g h.2 h.3)
+  event_keeps stays present s t stop_at_oldest g h = subst (Good reaches lawful) (sym h.4) (stop_keeps reaches lawful s _ g)
+  event_keeps stays present s t probe g h = subst (Good reaches lawful) (sym h.2) (probe_keeps reaches lawful s g h.0 h.1)
+  event_keeps stays present s t stop_at_newest g h = subst (Good reaches lawful) (sym h.2) (stop_keeps reaches lawful s _ g)
+  event_keeps stays present s t morph g h = subst (Good reaches lawful) (sym h.1) (morph_keeps reaches lawful s g h.0)
   event_keeps stays present s t split g h = subst (Good reaches lawful) (sym h.1) (split_keeps reaches lawful s g h.0)
   event_keeps stays present s t (join j) g h = subst (Good reaches lawful) (sym h.3) (join_keeps reaches lawful s j h.0 g h.1 h.2)
   event_keeps stays present s t meet_load g h = subst (Good reaches lawful) (sym h.1) g
@@ -70,14 +55,9 @@ module _ (reaches : ℕ → Records → ℕ → List ℕ) (lawful : ℕ → Reco
   event_keeps stays present s t (load_newest j) g h = subst (Good reaches lawful) (sym h.3) (load_newest_keeps reaches lawful s j h.0 g h.1 h.2)
   event_keeps stays present s t (raise j) g h = subst (Good reaches lawful) (sym h.5) (raise_keeps reaches lawful s j h.0 h.2 h.3 g h.1 h.4)
   event_keeps stays present s t (bounce j) g h = subst (Good reaches lawful) (sym h.4) (bounce_keeps reaches lawful s j h.0 h.2 g h.1 h.3)
+  event_keeps stays present s t (load_root j) g h = subst (Good reaches lawful) (sym h.4) (load_root_keeps reaches lawful s j h.0 h.2 g h.1 h.3)
+  event_keeps stays present s t (load_word j p) g h = subst (Good reaches lawful) (sym h.3) g
   event_keeps stays present s t (release j) g h = subst (Good reaches lawful) (sym h.5) (release_keeps reaches lawful s j h.0 h.2 h.3 g h.1 h.4)
-  event_keeps stays present s t (reopen k) g h = subst (Good reaches lawful) (sym h.1) (reopen_keeps reaches lawful s k g h.0)
-  event_keeps stays present s t (store_newest k) g h = subst (Good reaches lawful) (sym h.1) (store_newest_keeps reaches lawful s k g h.0)
-  event_keeps stays present s t (close e es) g h = subst (Good reaches lawful) (sym h.1) (close_keeps reaches lawful s e es g h.0)
-  event_keeps stays present s t probe g h = subst (Good reaches lawful) (sym h.1) (probe_keeps reaches lawful s g h.0)
-  event_keeps stays present s t morph g h = subst (Good reaches lawful) (sym h.1) (morph_keeps reaches lawful s g h.0)
-  event_keeps stays present s t (put_on_hold b width) g h = subst (Good reaches lawful) (sym h.1) (put_on_hold_keeps reaches lawful s b width g h.0)
-  event_keeps stays present s t (give_back b tag) g h = subst (Good reaches lawful) (sym h.1) (free_keeps reaches lawful s b tag g h.0)
 
   pub events_keep : Stays reaches lawful → Present reaches lawful → (events : List Event) (s t : State) → Good reaches lawful s → Happen reaches lawful s events t → Good reaches lawful t
   events_keep stays present [] s t g h = subst (Good reaches lawful) (sym h) g
@@ -89,7 +69,7 @@ module _ (reaches : ℕ → Records → ℕ → List ℕ) (lawful : ℕ → Reco
 
   -- no view stands on a hold from before the last tag of a buffer that is free, while nothing is pending
   pub none_from_before : (s : State) (b : ℕ) → Good reaches lawful s → MayHandOut s.writer b → NoneFromBefore s b
-  none_from_before s b g may j r h last at stands tagged =
+  none_from_before s b g may j r h tag at stands tagged =
       let w : WriterView = s.writer in
       let reader = all_at (GoodReader w.sizes w.queue w.commits) s.readers j r g.readers at in
       let raised = raised_by r.state reader.state stands in
@@ -112,11 +92,11 @@ module _ (reaches : ℕ → Records → ℕ → List ℕ) (lawful : ℕ → Reco
       in_queue (Next n) e k = absurd (cc)
       in_queue Probed e k = absurd (cc)
 
-      free : slice_get s.writer.buffers b ≡ Some (Free (Some last))
-      free = let same : may.last ≡ Some last = sym (ap (option_and_then last_tag) may.free) ∙ tagged in may.free ∙ ap (λ o. Some (Free o)) same
+      free : slice_get s.writer.buffers b ≡ Some (Free (Some tag))
+      free = let same : may.tag ≡ Some tag = sym (ap (option_and_then last_tag) may.free) ∙ tagged in may.free ∙ ap (λ o. Some (Free o)) same
 
-      below : last.generation < (oldest_of s.writer.queue).generation
-      below = g.tags.free b last free
+      below : tag.generation < (oldest_of s.writer.queue).generation
+      below = g.tags.free b tag free
 
   -- a record that is placed and whose words stand, stands
   record_stands : (s : State) → Good reaches lawful s → (ref : ℕ) (ws : List ℕ) (words : List ℕ) → length words ≡ length s.words → IsPlaced s.writer.sizes s.writer.buffers (ref, ws)
@@ -125,7 +105,7 @@ module _ (reaches : ℕ → Records → ℕ → List ℕ) (lawful : ℕ → Reco
   record_stands s g ref ws words long placed width stand =
       let e = placed.inside in
       let some = e.wide in
-      let first_commit = place-below e 0 some in
+      let first = place-below e 0 some in
       record {
         entry = e;
         width = record { below = omega (arith, first, long, g.sizes.table); is = width };
@@ -150,7 +130,7 @@ module _ (reaches : ℕ → Records → ℕ → List ℕ) (lawful : ℕ → Reco
       last e = let le = floor-last reaches lawful s g in omega arith
 
       in_queue : IsTrue (list_any (λ e. nat_eq e.hold h) (open_holds s.writer.queue)) → floor_of s.writer ≤ c
-      in_queue t = any-first (open_holds s.writer.queue) h (floor_of s.writer) c k.first_commit (first_commits-floor s.writer.queue.older s.writer.queue.newest g.queue.rising) t
+      in_queue t = any-first (open_holds s.writer.queue) h (floor_of s.writer) c k.first_commit (commits-least s.writer.queue.older s.writer.queue.newest g.queue.rising) t
 
       by_queue : (t u : Bool) → IsTrue (t || u) → (IsTrue t → floor_of s.writer ≤ c) → (IsTrue u → floor_of s.writer ≤ c) → floor_of s.writer ≤ c
       by_queue true u o f n = f o
@@ -180,7 +160,7 @@ module _ (reaches : ℕ → Records → ℕ → List ℕ) (lawful : ℕ → Reco
   under_sizes s j number r image g at under =
       let w : WriterView = s.writer in
       let reader = all_at (GoodReader w.sizes w.queue w.commits) s.readers j r g.readers at in
-      reader.sizes (λ is. not_spent is (subst (GoodReaderState w.queue w.commits r) is reader.state))
+      reader.same_sizes (λ is. not_spent is (subst (GoodReaderState w.queue w.commits r) is reader.state))
     where
       not_spent : r.state ≡ Spent → r ≡ spent → ⊥
       not_spent is same = let guarded = under.guarded in cc
@@ -191,16 +171,31 @@ module _ (reaches : ℕ → Records → ℕ → List ℕ) (lawful : ℕ → Reco
       let P : Sizes → Type 0 = λ sizes. StandsIn sizes.offset_bits sizes.buffers sizes.words s.words image in
       subst P (sym (under_sizes s j number r image g at under)) (seen_stands s j number r image g at under)
 
+  pub kept_for : (s : State) (j number : ℕ) (r : ReaderView) (image : Image) → Good reaches lawful s → slice_get s.readers j ≡ Some r → IsUnder r number image → IsKeptFor reaches lawful s r number image
+  kept_for s j number r image g at under =
+      let w : WriterView = s.writer in
+      let reader = all_at (GoodReader w.sizes w.queue w.commits) s.readers j r g.readers at in
+      let commit : slice_get w.commits number ≡ Some image = all_at (λ c. slice_get w.commits c.0 ≡ Some c.1) r.saw 0 (number, image) reader.saw under.seen in
+      let guarded : GuardFits w.queue w.commits r.saw under.hold number = subst (GoodReaderState w.queue w.commits r) under.guarded reader.state in
+      record {
+        kept = guarded-kept s g guarded;
+        last = guarded.commit;
+        commit = commit;
+        lawful_commit = subst (λ (z : Sizes). IsLawfulCommit reaches lawful z.shape image) (sym (under_sizes s j number r image g at under))
+            (all_at (IsLawfulCommit reaches lawful w.sizes.shape) w.commits number image g.commits.each commit);
+        stands = image_stands s j number r image g at under;
+      }
+
   pub tells_commit : (s : State) (j : ℕ) (r : ReaderView) → Good reaches lawful s → slice_get s.readers j ≡ Some r → TellsCommit reaches lawful s r
   tells_commit s j r g at =
       let w : WriterView = s.writer in
       let reader = all_at (GoodReader w.sizes w.queue w.commits) s.readers j r g.readers at in
       let commit = all_at (IsLawfulCommit reaches lawful w.sizes.shape) w.commits (last_number w.commits) (last_image w.commits) g.commits.each (last_at w.commits (some-commit reaches lawful s g)) in
       record {
-        number = ap (λ n. n / 2 ^ 32) g.names.root ∙ div-mul-add (last_number w.commits) 2 ^ 32 (last_image w.commits).root commit.small;
-        root = ap (λ n. n % 2 ^ 32) g.names.root ∙ mod-mul-add (last_number w.commits) 2 ^ 32 (last_image w.commits).root commit.small;
+        number = ap (λ n. n / 2 ^ 32) g.names.root ∙ div-mul-add (last_number w.commits) (2 ^ 32) (last_image w.commits).root commit.small;
+        root = ap (λ n. n % 2 ^ 32) g.names.root ∙ mod-mul-add (last_number w.commits) (2 ^ 32) (last_image w.commits).root commit.small;
         later = reader.seen;
-        lawful_image = commit.lawful_image;
+        lawful_commit = commit;
       }
 
   pub published_stands : Stays reaches lawful → Present reaches lawful → (s : State) (root : ℕ) → Good reaches lawful s → MayPublish lawful s.writer root

@@ -2,7 +2,7 @@
 use Rattle.std.proofs.Common.{◌≡◌, ℕ, zero, suc, ◌+◌, ◌*◌, ◌<◌, List, [], ◌∷◌, ◌++◌, length, get_or, Option, Some, None, false, ne_eqb, refl, sym, ap, ◌∙◌, arith, length-append, slice_index}
 use Rattle.std.specs.Prelude.{slice_get, replicate, option_and_then, ◌||◌}
 use Rattle.std.proofs.lemmas.List.{length-replicate, get_or-replicate, get_or_append_left, get_or-append-add}
-use Rattle.std.proofs.lemmas.List.Elements.{All-nil, All-cons, All-replicate}
+use Rattle.std.proofs.lemmas.List.Elements.{All-nil, All-cons}
 use Rattle.std.proofs.lemmas.Option.{slice_get_within, get_or_from_slice_get}
 use Rattle.image_base.specs.declared.Image.{Image}
 use Rattle.image_base.specs.Records.{Records}
@@ -11,9 +11,9 @@ use Rattle.gen_core.specs.declared.views.Sizes.{Sizes}
 use Rattle.gen_core.specs.declared.views.Pending.TheVariants.{Nothing}
 use Rattle.gen_core.specs.declared.views.Buffer.{Buffer}
 use Rattle.gen_core.specs.declared.views.Buffer.TheVariants.{Free, Held}
-use Rattle.gen_core.specs.Views.{IsCommit, hold_place, is_open, state_word, record_width, width_in}
-use Rattle.gen_core.specs.Good.{HoldFits, hold_word, IsLawfulCommit, opening_hold, Good}
-use Rattle.gen_core.specs.Events.{opening_words, opening, MayOpen}
+use Rattle.gen_core.specs.Views.{IsCommit, hold_place, is_open, state_word, record_width, width_in, queue_of}
+use Rattle.gen_core.specs.Good.{HoldFits, hold_word, IsLawfulCommit, Good}
+use Rattle.gen_core.specs.Events.{opening_words, opening, MayOpen, opening_hold}
 
 -- every element of a replicate is its element
 at_replicate : {A : Type 0} (n k : ℕ) (a b : A) → slice_get (replicate n a) k ≡ Some b → a ≡ b
@@ -32,10 +32,10 @@ word-zero sizes i = get_or-append-add (0 ∷ 0 ∷ 0 ∷ replicate 15 1) (replic
 count-one : (h : ℕ) (ys : List ℕ) → h < 15 → slice_index (replicate 15 1 ++ ys) h ≡ 1
 count-one h ys lt = get_or_append_left (replicate 15 1) ys 0 h lt ∙ get_or-replicate 15 h 1 0 lt
 
-closed : (h : ℕ) → is_open [] opening_hold Nothing (suc h) ≡ false
+closed : (h : ℕ) → is_open (queue_of [] opening_hold Nothing) (suc h) ≡ false
 closed h = ap (λ t. (t || false) || false) (ne_eqb 0 (suc h) (λ e. omega arith))
 
-counts-first : (sizes : Sizes) (h : ℕ) → h < 16 → slice_index (opening_words sizes) (hold_place h) ≡ hold_word 0 (is_open [] opening_hold Nothing h)
+counts-first : (sizes : Sizes) (h : ℕ) → h < 16 → slice_index (opening_words sizes) (hold_place h) ≡ hold_word 0 (is_open (queue_of [] opening_hold Nothing) h)
 counts-first sizes zero lt = refl
 counts-first sizes (suc h) lt = let at : hold_place (suc h) ≡ 3 + h = omega arith in ap (slice_index (opening_words sizes)) at ∙ get_or-append-add (0 ∷ 0 ∷ 0 ∷ []) (replicate 15 1 ++ replicate (sizes.buffers + sizes.buffers * sizes.words) 0) h 0
     ∙ count-one h (replicate (sizes.buffers + sizes.buffers * sizes.words) 0) (omega arith) ∙ sym (ap (hold_word 0) (closed h))
@@ -77,7 +77,7 @@ module _ (reaches : ℕ → Records → ℕ → List ℕ) (lawful : ℕ → Reco
     places = record { records = λ k d lt l e less. absurd (nothing k d lt l less); stored = λ p n there. absurd (cc) };
     names = record {
       root = refl;
-      last = refl;
+      newest_hold = refl;
       states = λ b x at. word-zero sizes b ∙ ap state_word (at_replicate sizes.buffers b (Free None) x at);
     };
     memory = record {

@@ -11,8 +11,6 @@ use Rattle.image_base.specs.Images.{record_at, words_at}
 use Rattle.image_base.specs.Places.{base, state_place}
 use Rattle.image_base.proofs.Pairs.{references-pairs, pairs-same}
 use Rattle.gen_core.specs.declared.views.Sizes.{Sizes}
-use Rattle.gen_core.specs.declared.views.OpenHold.{OpenHold}
-use Rattle.gen_core.specs.declared.views.Pending.{Pending}
 use Rattle.gen_core.specs.declared.views.Pending.TheVariants.{Nothing}
 use Rattle.gen_core.specs.declared.views.Buffer.TheVariants.{Held}
 use Rattle.gen_core.specs.declared.views.ReaderState.{ReaderState}
@@ -24,16 +22,17 @@ use Rattle.gen_core.specs.Work.{IsWhole, writer_records, next_image}
 use Rattle.gen_core.specs.Good.{State, IsPlaced, WordsStand, GoodReaderState, GoodReader, HasNothingIn, GoodTag, IsLawfulCommit, Good}
 use Rattle.gen_core.specs.Conditions.{MayPublish}
 use Rattle.gen_core.specs.Events.{after_publish}
-use Rattle.gen_core.proofs.Lists.{all_at, at_longer, all_drop-push, all_drop-at, all_found}
+use Rattle.gen_core.proofs.Lists.{at_longer, all_drop-push, all_drop-at, all_found}
 use Rattle.gen_core.proofs.Work.{writer_records-found}
 use Rattle.gen_core.proofs.Frames.{behind-high, counts-set, records-set, records-behind}
 use Rattle.gen_core.proofs.Writer.{active-width, last_at, last_image-push, commits-longer, all_pairs, some-commit, floor-last}
+use Rattle.gen_core.specs.declared.views.Queue.{Queue}
 
 -- with one commit more, nothing that was said of a reader is lost
-reader_longer : (sizes : Sizes) (older : List OpenHold) (newest : OpenHold) (pending : Pending) (commits : List Image) (image : Image) → pending ≡ Nothing
-    → (r : ReaderView) → GoodReader sizes older newest pending commits r → GoodReader sizes older newest pending (commits ++ image ∷ []) r
-reader_longer sizes older newest pending commits image calm r h = record {
-  sizes = h.sizes;
+reader_longer : (sizes : Sizes) (queue : Queue) (commits : List Image) (image : Image) → queue.pending ≡ Nothing
+    → (r : ReaderView) → GoodReader sizes queue commits r → GoodReader sizes queue (commits ++ image ∷ []) r
+reader_longer sizes queue commits image calm r h = record {
+  same_sizes = h.same_sizes;
   seen = let le = h.seen in omega (arith, le, longer);
   saw = commits-longer commits image r.saw h.saw;
   least = h.least;
@@ -43,7 +42,7 @@ reader_longer sizes older newest pending commits image calm r h = record {
     longer : last_number (commits ++ image ∷ []) ≡ length commits
     longer = omega (arith, length-append commits (image ∷ []))
 
-    states : (t : ReaderState) → GoodReaderState older newest pending commits r t → GoodReaderState older newest pending (commits ++ image ∷ []) r t
+    states : (t : ReaderState) → GoodReaderState queue commits r t → GoodReaderState queue (commits ++ image ∷ []) r t
     states Idle k = k
     states (Aimed generation hold) k = k
     states (Raised hold) k = k
@@ -125,7 +124,7 @@ module _ (reaches : ℕ → Records → ℕ → List ℕ) (lawful : ℕ → Reco
         places = record { records = placed; stored = λ p m there. absurd (cc) };
         names = record {
           root = get_or-set_same s.words 0 n 0 (omega (arith, g.sizes.table)) ∙ sym (λ i. root_word (longer i) (last_image-push w.commits image i));
-          last = get_or-set_other s.words 0 1 n 0 (λ e. omega arith) ∙ g.names.last;
+          newest_hold = get_or-set_other s.words 0 1 n 0 (λ e. omega arith) ∙ g.names.newest_hold;
           states = λ b x at. get_or-set_other s.words 0 (state_place b) n 0 (λ e. omega arith) ∙ g.names.states b x at;
         };
         memory = record {

@@ -3,13 +3,13 @@ use Rattle.std.proofs.Common.{◌≡◌, ℕ, ◌+◌, List, [], ◌∷◌, set,
 use Rattle.std.specs.Prelude.{slice_get}
 use Rattle.std.proofs.lemmas.List.Elements.{All-nil, All-cons, All-push, All-append, All-set}
 use Rattle.image_base.specs.Records.{Records}
-use Rattle.gen_core.specs.declared.views.ReaderState.TheVariants.{Idle, Aimed, Raised, Bounced, Guarded, Spent}
+use Rattle.gen_core.specs.declared.views.ReaderState.TheVariants.{Raised, Spent}
 use Rattle.gen_core.specs.declared.views.ReaderView.{ReaderView}
 use Rattle.gen_core.specs.declared.views.WriterView.{WriterView}
 use Rattle.gen_core.specs.Views.{last_number, last_image, IsCommit, is_open, is_counted_on, spent}
 use Rattle.gen_core.specs.Good.{State, hold_word, GoodCounts, GoodReaderState, GoodReader, RaiseFits, Good}
 use Rattle.gen_core.specs.Conditions.{MaySplit, MayJoin}
-use Rattle.gen_core.specs.Events.{MayLoadRoot, newcomer, sees, after_load_root, after_split, after_join}
+use Rattle.gen_core.specs.Events.{newcomer, sees, after_load_root, after_split, after_join}
 use Rattle.gen_core.proofs.Lists.{all_at, count_by-set, count_by-push}
 use Rattle.gen_core.proofs.Writer.{last_at, some-commit}
 
@@ -26,14 +26,14 @@ module _ (reaches : ℕ → Records → ℕ → List ℕ) (lawful : ℕ → Reco
     few = g.counts.few;
   }
 
-  pub load_root_keeps : (s : State) (j : ℕ) (r : ReaderView) (h : ℕ) → Good reaches lawful s → slice_get s.readers j ≡ Some r → MayLoadRoot r h → Good reaches lawful (after_load_root s j r h)
+  pub load_root_keeps : (s : State) (j : ℕ) (r : ReaderView) (h : ℕ) → Good reaches lawful s → slice_get s.readers j ≡ Some r → r.state ≡ Raised h → Good reaches lawful (after_load_root s j r h)
   load_root_keeps s j r h g at may =
       let w : WriterView = s.writer in
       let old = all_at (ReaderFits s) s.readers j r g.readers at in
       let v : ReaderView = sees r h (last_number w.commits) (last_image w.commits) in
       let raised : RaiseFits w.queue h = subst (GoodReaderState w.queue w.commits r) may old.state in
       let new : GoodReader w.sizes w.queue w.commits v = record {
-        sizes = λ e. old.sizes (λ is. off (sym may ∙ is));
+        same_sizes = λ e. old.same_sizes (λ is. off (sym may ∙ is));
         seen = omega arith;
         saw = All-cons (IsCommit w.commits) (last_number w.commits, last_image w.commits) r.saw (last_at w.commits (some-commit reaches lawful s g)) old.saw;
         least = old.least;
@@ -67,7 +67,7 @@ module _ (reaches : ℕ → Records → ℕ → List ℕ) (lawful : ℕ → Reco
       let w : WriterView = s.writer in
       let v : ReaderView = newcomer w in
       let new : GoodReader w.sizes w.queue w.commits v = record {
-        sizes = λ _. refl;
+        same_sizes = λ _. refl;
         seen = omega arith;
         saw = All-nil (IsCommit w.commits);
         least = omega arith;
@@ -94,7 +94,7 @@ module _ (reaches : ℕ → Records → ℕ → List ℕ) (lawful : ℕ → Reco
       let w : WriterView = s.writer in
       let old = all_at (ReaderFits s) s.readers j r g.readers at in
       let new : GoodReader w.sizes w.queue w.commits spent = record {
-        sizes = λ h. absurd (h refl);
+        same_sizes = λ h. absurd (h refl);
         seen = omega arith;
         saw = All-nil (IsCommit w.commits);
         least = omega arith;

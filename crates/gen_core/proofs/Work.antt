@@ -33,9 +33,9 @@ run-words work p (suc n) ws e = by_first (work_at work p) refl (run_at work (suc
         each x xs first later (suc i) lt = let at : p + suc i ≡ suc p + i = omega arith in ap (work_at work) at ∙ later i (omega arith)
 
 -- the test of an entry
-pub is_entry-true : (sizes : Sizes) (width ref : ℕ) → is_entry z width ref ≡ true → IsEntry sizes.offset_bits sizes.buffers sizes.words width ref
+pub is_entry-true : (sizes : Sizes) (width ref : ℕ) → is_entry sizes width ref ≡ true → IsEntry sizes.offset_bits sizes.buffers sizes.words width ref
 unfolding is_entry
-is_entry-true z width ref test = record {
+is_entry-true sizes width ref test = record {
   inside = grind (arith, nat_tests, test);
   wide = grind (arith, nat_tests, test);
   first = grind (arith, nat_tests, test);

@@ -5,22 +5,22 @@ use native.Mathlib.Decide.{ℕ_discrete}
 use Rattle.std.proofs.Math.Seq.{get_or-set_other, get_or-set_same}
 use Rattle.std.specs.Prelude.{slice_get, All, option_and_then}
 use Rattle.std.proofs.lemmas.Option.{slice_get_within}
-use Rattle.std.proofs.lemmas.List.Elements.{All-nil, All-cons, All-set, All-weaker}
+use Rattle.std.proofs.lemmas.List.Elements.{All-nil, All-cons, All-weaker}
 use Rattle.entry_ref.specs.References.{buffer_of}
 use Rattle.image_base.specs.declared.Image.{Image}
 use Rattle.image_base.specs.Records.{Records, AllThere, pairs_of}
 use Rattle.image_base.specs.Places.{base, state_place}
 use Rattle.gen_core.specs.declared.views.Sizes.{Sizes}
-use Rattle.gen_core.specs.declared.views.OpenHold.{OpenHold}
 use Rattle.gen_core.specs.declared.views.Tag.{Tag}
 use Rattle.gen_core.specs.declared.views.Buffer.{Buffer}
 use Rattle.gen_core.specs.declared.views.Buffer.TheVariants.{Free, Active, Held}
-use Rattle.gen_core.specs.Views.{open_holds, oldest_of, floor_of, kept_of, last_number, last_image, IsCommit, state_word, record_width, width_in, active_width, active_in, last_tag, last_tag_in, oldest_in}
+use Rattle.gen_core.specs.Views.{floor_of, kept_of, last_number, last_image, IsCommit, state_word, record_width, width_in, active_width, active_in, last_tag_in}
 use Rattle.gen_core.specs.Work.{work_at}
 use Rattle.gen_core.specs.Good.{State, IsWorkPlace, HoldFits, Good}
 use Rattle.gen_core.specs.Conditions.{MayStoreWidth, MayStoreWord, MayHandOut}
 use Rattle.gen_core.specs.Events.{with_buffer, after_store_width, after_store_word, after_hand_out}
-use Rattle.gen_core.proofs.Lists.{all_at, at_set, at_other, at_same, at_longer}
+use Rattle.gen_core.proofs.Holds.{at_oldest}
+use Rattle.gen_core.proofs.Lists.{at_set, at_other, at_same, at_longer}
 use Rattle.gen_core.proofs.Frames.{IsBehind, active-behind, behind-base, base-same, behind-high, names-set, counts-set, records-set, records-behind, active-inside, active-below}
 
 -- an active buffer's width is its records' width
@@ -65,17 +65,13 @@ pub all_pairs : (P : ℕ × List ℕ → Type 0) (refs : List ℕ) (m : Records)
 all_pairs P [] m all each = All-nil P
 all_pairs P (r ∷ rs) m all each = All-cons P (r, m r) (pairs_of rs m) (each r all.0) (all_pairs P rs m all.1 each)
 
-pub floor-first : (commits : List Image) (older : List OpenHold) (newest : OpenHold) → All (HoldFits commits) (older ++ newest ∷ []) → (oldest_in older newest).first_commit ≤ last_number commits
-floor-first commits [] newest all = (all 0 newest (omega arith)).first_commit
-floor-first commits (e ∷ es) newest all = (all 0 e (omega arith)).first_commit
-
 module _ (reaches : ℕ → Records → ℕ → List ℕ) (lawful : ℕ → Records → ℕ → Type 0) where
   -- there is a commit, and the last one is kept
   pub some-commit : (s : State) → Good reaches lawful s → 0 < length s.writer.commits
   some-commit s g = slice_get_within s.writer.commits 0 _ g.commits.empty
 
   pub floor-last : (s : State) → Good reaches lawful s → floor_of s.writer ≤ last_number s.writer.commits
-  floor-last s g = floor-first s.writer.commits s.writer.queue.older s.writer.queue.newest g.queue.each
+  floor-last s g = (at_oldest (HoldFits s.writer.commits) s.writer.queue.older s.writer.queue.newest g.queue.each).first_commit
 
   pub store_word_keeps : (s : State) (p n : ℕ) → Good reaches lawful s → MayStoreWord s.writer p → Good reaches lawful (after_store_word s p n)
   store_word_keeps s p n g may =
@@ -150,7 +146,7 @@ module _ (reaches : ℕ → Records → ℕ → List ℕ) (lawful : ℕ → Reco
                 apart = old.apart;
               };
         };
-        names = record { root = get_or-set_other s.words p 0 n 0 (λ e. omega arith) ∙ g.names.root; last = get_or-set_other s.words p 1 n 0 (λ e. omega arith) ∙ g.names.last; states = states };
+        names = record { root = get_or-set_other s.words p 0 n 0 (λ e. omega arith) ∙ g.names.root; newest_hold = get_or-set_other s.words p 1 n 0 (λ e. omega arith) ∙ g.names.newest_hold; states = states };
         memory = record {
           records = records-set sizes s.words (kept_of s.writer) p n (records-behind sizes buffers (kept_of s.writer) p clear g.places.records) g.memory.records;
           stored = λ q m there. get_or-set_other s.words p q n 0 (clear q (active-behind (g.places.stored q m there).active)) ∙ g.memory.stored q m there;
@@ -241,7 +237,7 @@ module _ (reaches : ℕ → Records → ℕ → List ℕ) (lawful : ℕ → Reco
       x = Active 0 (last_tag_in s.writer.buffers b)
 
       within : b < sizes.buffers
-      within = let lt : b < length buffers = slice_get_within buffers b (Free may.last) may.free in omega (arith, lt, g.sizes.count)
+      within = let lt : b < length buffers = slice_get_within buffers b (Free may.tag) may.free in omega (arith, lt, g.sizes.count)
 
       states : (c : ℕ) (y : Buffer) → slice_get (set buffers b x) c ≡ Some y → slice_index (set s.words (state_place b) 1) (state_place c) ≡ state_word y
       states c y at =

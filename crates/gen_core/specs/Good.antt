@@ -1,5 +1,5 @@
 -- The core invariant: what holds of the words and of all views after every event.
-use Rattle.std.specs.Prelude.{◌≡◌, ◌≢◌, ℕ, suc, ◌+◌, ◌*◌, ◌^◌, ◌<◌, ◌≤◌, List, [], length, drop, slice_get, slice_index, Some, None, Bool, IsTrue, All, AllPairs, count_by, if◌then◌else◌}
+use Rattle.std.specs.Prelude.{if◌then◌else◌, ◌≡◌, ◌≢◌, ℕ, suc, ◌+◌, ◌*◌, ◌^◌, ◌<◌, ◌≤◌, List, length, drop, slice_get, slice_index, Some, None, Bool, IsTrue, All, AllPairs, count_by}
 use Rattle.entry_ref.specs.References.{buffer_of}
 use Rattle.image_base.specs.declared.Image.{Image}
 use Rattle.image_base.specs.Records.{Records, references_of}
@@ -7,11 +7,11 @@ use Rattle.image_base.specs.Images.{no_image, words_at}
 use Rattle.image_base.specs.Places.{base, state_place, size_of, IsEntry}
 use Rattle.gen_core.specs.declared.views.Sizes.{Sizes}
 use Rattle.gen_core.specs.declared.views.OpenHold.{OpenHold}
-use Rattle.gen_core.specs.declared.views.Pending.TheVariants.{Nothing, Next, Probed}
+use Rattle.gen_core.specs.declared.views.Pending.TheVariants.{Next, Probed}
 use Rattle.gen_core.specs.declared.views.Queue.{Queue}
 use Rattle.gen_core.specs.declared.views.Tag.{Tag}
 use Rattle.gen_core.specs.declared.views.Buffer.{Buffer}
-use Rattle.gen_core.specs.declared.views.Buffer.TheVariants.{Free, Active, Held}
+use Rattle.gen_core.specs.declared.views.Buffer.TheVariants.{Free, Held}
 use Rattle.gen_core.specs.declared.views.ReaderState.{ReaderState}
 use Rattle.gen_core.specs.declared.views.ReaderState.TheVariants.{Idle, Aimed, Raised, Bounced, Guarded, Spent}
 use Rattle.gen_core.specs.declared.views.ReaderView.{ReaderView}

@@ -9,13 +9,12 @@ use Rattle.gen_core.specs.declared.views.Sizes.{Sizes}
 use Rattle.gen_core.specs.declared.views.OpenHold.{OpenHold}
 use Rattle.gen_core.specs.declared.views.ReaderState.TheVariants.{Aimed}
 use Rattle.gen_core.specs.declared.views.ReaderView.{ReaderView}
-use Rattle.gen_core.specs.declared.views.WriterView.{WriterView}
 use Rattle.gen_core.specs.Views.{floor_of, kept_of, last_number, last_image, IsCommit}
 use Rattle.gen_core.specs.Work.{place_in, IsWhole, writer_records, next_image}
 use Rattle.gen_core.specs.Good.{State, IsLawfulCommit, GoodView, Good}
 use Rattle.gen_core.specs.Conditions.{MayStoreWord, MayStoreWidth, MayPublish, MayClose, MayProbe, IsUnder}
 use Rattle.gen_core.specs.Events.{Event, Happens, Happen, MayOpen, opening, hand_out, NoneFromBefore, count_at, after_store_word, after_store_width, after_publish}
-use Rattle.gen_core.specs.Steps.{Operation, subtract, word_of, operation_of}
+use Rattle.gen_core.specs.Steps.{subtract, word_of, operation_of}
 
 -- a hold that was found in use is open, and in use
 pub record IsInUse (found : ℕ) : Type 0 where

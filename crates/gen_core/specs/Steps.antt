@@ -1,5 +1,5 @@
 -- Each event as one step: of which seat, on which word, by which operation.
-use Rattle.std.specs.Prelude.{◌≡◌, ◌≢◌, ℕ, zero, suc, ◌+◌, ◌-◌, ◌*◌, ◌^◌, if◌then◌else◌, List, length, set, slice_get, slice_index, Option, Some, None, nat_eq, option_map}
+use Rattle.std.specs.Prelude.{if◌then◌else◌, ◌≡◌, ◌≢◌, ℕ, zero, suc, ◌+◌, ◌-◌, ◌*◌, ◌^◌, List, length, set, slice_get, slice_index, Option, Some, nat_eq, option_map}
 use Rattle.std.specs.Option.{unwrap_or}
 use Rattle.image_base.specs.Records.{Records}
 use Rattle.image_base.specs.Places.{base, state_place}

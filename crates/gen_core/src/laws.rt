@@ -1,6 +1,7 @@
 //! The core's laws: each function's contract is the law, for every layout.
 
-ghost use Rattle.gen_core.specs.Laws.{KeepsGood, HandsOutUnguarded, EventKeepsGood, LoadsImageWord, LoadsWidth, ImageStands, StoreLeavesKept, WidthLeavesKept, PublishedStands, PublishesWhole, RecordsAreFound, FoundAreRecords, RecordsStand, LoadsLaterCommit, KeepsCommits};
+ghost use Rattle.gen_core.specs.Laws.{KeepsGood, HandsOutUnguarded, EventKeepsGood, LoadsImageWord, LoadsWidth, KeepsGuarded, StoreLeavesKept, WidthLeavesKept, PublishedStands, PublishesWhole, RecordsAreFound, FoundAreRecords, RecordsStand, LoadsLaterCommit, KeepsCommits, ViewIsGood, OddIsPassed, AimIsNotBelow, CloseFindsUse, ProbeFindsUse, CountsAreSmall, NoneIsBelowZero, FloorStays};
+ghost use Rattle.gen_core.specs.Steps.{EventIsOneStep};
 
 use image_base::Layout;
 
@@ -16,11 +17,12 @@ pub fn event_law<L: Layout>()
     ensures { EventKeepsGood L.reaches L.lawful }
 {}
 
-/// Under a guard the words of its image are loaded, and the widths of their buffers.
+/// Under a guard the words of its image are loaded, and the widths of their buffers; its commit is
+/// kept, is lawful and stands.
 pub fn guard_law<L: Layout>()
     ensures word { LoadsImageWord L.reaches L.lawful }
     ensures width { LoadsWidth L.reaches L.lawful }
-    ensures image { ImageStands L.reaches L.lawful }
+    ensures kept { KeepsGuarded L.reaches L.lawful }
 {}
 
 /// A store leaves every kept commit.
@@ -50,4 +52,39 @@ pub fn root_law<L: Layout>()
 /// What joined readers saw are the writer's commits.
 pub fn commits_law<L: Layout>()
     ensures { KeepsCommits L.reaches L.lawful }
+{}
+
+/// What is good of a state is good of the writer's view alone, so that its seat needs no more.
+pub fn view_law<L: Layout>()
+    ensures { ViewIsGood L.reaches L.lawful }
+{}
+
+/// Each event is one operation on one word by one seat, and changes that seat's view alone; a split
+/// and a join change two.
+pub fn step_law<L: Layout>()
+    ensures { EventIsOneStep L.reaches L.lawful }
+{}
+
+/// A reader that finds its hold closed has missed a generation, and aims at a later one next: so it
+/// tries at most once for each generation from the one that it first asks for to the last.
+pub fn miss_law<L: Layout>()
+    ensures passed { OddIsPassed L.reaches L.lawful }
+    ensures not_below { AimIsNotBelow L.reaches L.lawful }
+{}
+
+/// A close and a probe fail only on a hold in use.
+pub fn use_law<L: Layout>()
+    ensures close { CloseFindsUse L.reaches L.lawful }
+    ensures probe { ProbeFindsUse L.reaches L.lawful }
+{}
+
+/// No count passes 129, and none is taken below 0.
+pub fn count_law<L: Layout>()
+    ensures most { CountsAreSmall L.reaches L.lawful }
+    ensures least { NoneIsBelowZero L.reaches L.lawful }
+{}
+
+/// The first kept commit never falls.
+pub fn floor_law<L: Layout>()
+    ensures { FloorStays L.reaches L.lawful }
 {}

@@ -2,7 +2,7 @@ use Rattle.std.proofs.Common.{◌≡◌, Some, ⊎_elim, arith}
 use Rattle.image_base.specs.Images.{record_at}
 use Rattle.gen_core.specs.Views.{last_image}
 use Rattle.gen_core.specs.Work.{IsWhole}
-use Rattle.gen_core.proofs.Overlay.{writer_records-kept, writer_records-whole}
+use Rattle.gen_core.proofs.WriterRecords.{writer_records-kept, writer_records-whole}
 use Rattle.gen_core.proofs.Publish.{writer_records-stands}
 use Rattle.gen_core.proofs.Work.{writer_records-found}
 use Rattle.gen_core.proofs.laws.records_law.Goals as goal

@@ -1,9 +1,9 @@
 -- The writer's records, for who writes entries and for the calls that read words.
-use Rattle.std.proofs.Common.{◌≡◌, ◌≢◌, ℕ, zero, suc, ◌+◌, ◌<◌, ◌≤◌, List, [], ◌∷◌, length, Option, Some, None, Bool, cond, eqb, true, false, ne_eqb, refl, sym, ap, ◌∙◌, subst, ⊎_elim, arith, slice_index}
+use Rattle.std.proofs.Common.{◌≡◌, ◌≢◌, ℕ, zero, suc, ◌+◌, ◌<◌, ◌≤◌, List, [], ◌∷◌, length, Option, Some, None, Bool, cond, eqb, true, false, ne_eqb, refl, sym, ap, ◌∙◌, subst, ⊎_elim, arith, slice_index, ◌^◌}
 use Rattle.std.specs.Option.{unwrap_or}
 use Rattle.std.specs.Prelude.{All}
 use Rattle.std.proofs.lemmas.Bool.Decides.{nat_tests}
-use Rattle.entry_ref.specs.References.{buffer_of}
+use Rattle.entry_ref.specs.References.{buffer_of, offset_limit}
 use Rattle.image_base.specs.declared.Image.{Image}
 use Rattle.image_base.specs.Records.{Records, SameAt}
 use Rattle.image_base.specs.Images.{record_at, words_at}
@@ -31,9 +31,9 @@ run-made work (x ∷ xs) p each =
     (λ k. prepend (first k) (rest k))
 
 -- the test of an entry holds of an entry
-pub entry-true : (sizes : Sizes) (width ref : ℕ) → IsEntry sizes.offset_bits sizes.buffers sizes.words width ref → is_entry z width ref ≡ true
+pub entry-true : (sizes : Sizes) (width ref : ℕ) → IsEntry sizes.offset_bits sizes.buffers sizes.words width ref → is_entry sizes width ref ≡ true
 unfolding is_entry
-entry-true z width ref e =
+entry-true sizes width ref e =
     let inside = e.inside in
     let wide = e.wide in
     let first = e.first in
@@ -95,7 +95,7 @@ writer_records-others w ref width i n at e lt q other = ap (λ o. unwrap_or o (w
         → only_if t (run_at ((p, n) ∷ w.work) (place_in w.sizes x q 0) x) ≡ only_if t (run_at w.work (place_in w.sizes x q 0) x)
     by_entry x there false test = refl
     by_entry x there true test = run-other w.work p n (place_in w.sizes x q 0) x
-        (λ j less same. other (one_place w.sizes.buffers w.sizes.words x width q ref j i (is_entry-true w.sizes x q test) e
+        (λ j less same. other (one_place w.sizes.offset_bits w.sizes.buffers w.sizes.words x width q ref j i (is_entry-true w.sizes x q test) e
         (λ b. some-same x width (sym there ∙ ap (active_in w.buffers) b ∙ at)) less lt (omega (arith, same))).0)
 
     by_width : (o : Option ℕ) → active_in w.buffers (buffer_of w.sizes.offset_bits q) ≡ o → whole_by (stored w p n) q o ≡ whole_by w q o
@@ -103,11 +103,11 @@ writer_records-others w ref width i n at e lt q other = ap (λ o. unwrap_or o (w
     by_width (Some x) there = by_entry x there (is_entry w.sizes x q) refl
 
 -- a record of the writer has a reference of 32 bits, where its last commit's records lie in their buffers
-pub writer_records-small : (w : WriterView) → w.sizes.words ≤ 65536 → All (IsPlaced w.sizes w.buffers) (last_image w.commits).records
+pub writer_records-small : (w : WriterView) → w.sizes.words ≤ 65536 → w.sizes.words ≤ offset_limit w.sizes.offset_bits → All (IsPlaced w.sizes w.buffers) (last_image w.commits).records
     → (ref : ℕ) → 0 < length (writer_records w ref) → ref < 2 ^ 32
-writer_records-small w few placed ref there = ⊎_elim
-    (λ (old : record_at (last_image w.commits) ref ≡ Some (writer_records w ref)). entry-small (all_found (IsPlaced w.sizes w.buffers) (last_image w.commits).records ref _ placed old).inside few)
-    (λ (whole : IsWhole w ref (writer_records w ref)). entry-small whole.entry few)
+writer_records-small w few limit placed ref there = ⊎_elim
+    (λ (old : record_at (last_image w.commits) ref ≡ Some (writer_records w ref)). entry-small (all_found (IsPlaced w.sizes w.buffers) (last_image w.commits).records ref _ placed old).inside few limit)
+    (λ (whole : IsWhole w ref (writer_records w ref)). entry-small whole.entry few limit)
     (writer_records-found w ref there)
 
 module _ (reaches : ℕ → Records → ℕ → List ℕ) (lawful : ℕ → Records → ℕ → Type 0) where

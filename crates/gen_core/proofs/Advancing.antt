@@ -1,77 +1,39 @@
 -- The writer's events on holds keep the invariant.
-use Rattle.std.proofs.Common.{◌≡◌, ◌≢◌, ℕ, zero, suc, ◌+◌, ◌-◌, ◌*◌, ◌<◌, ◌≤◌, List, [], ◌∷◌, ◌++◌, length, drop, get_or, set, Some, None, Bool, true, false, cond, refl, sym, ap, ◌∙◌, subst, arith, length-set, length-append, length-drop, slice_index, eq-eqb, ne_eqb, eqb-true, true≢false}
+use Rattle.std.proofs.Common.{◌≡◌, ◌≢◌, ℕ, zero, ◌+◌, ◌-◌, ◌*◌, ◌<◌, ◌≤◌, List, [], ◌∷◌, ◌++◌, drop, set, Some, true, false, refl, sym, ap, ◌∙◌, subst, arith, length-set, length-append, slice_index, eq-eqb, ne_eqb, true≢false}
 use mathlib.Core.Logic.{dite}
 use native.Mathlib.Decide.{ℕ_discrete}
 use Rattle.std.proofs.Math.Seq.{get_or-set_other, get_or-set_same}
-use Rattle.std.specs.Prelude.{slice_get, All, AllPairs, count_by, nat_eq, IsTrue, ◌||◌}
+use Rattle.std.specs.Prelude.{slice_get, count_by, nat_eq, ◌||◌}
 use Rattle.std.specs.List.{list_any}
-use Rattle.std.proofs.lemmas.List.{get_or-drop}
 use Rattle.std.proofs.lemmas.List.Elements.{All-push, All-weaker}
 use Rattle.std.proofs.lemmas.List.Quantifiers.{all_pairs_push}
 use Rattle.image_base.specs.declared.Image.{Image}
 use Rattle.image_base.specs.Records.{Records}
-use Rattle.image_base.specs.Places.{base, state_place}
-use Rattle.gen_core.specs.declared.views.Sizes.{Sizes}
+use Rattle.image_base.specs.Places.{state_place}
 use Rattle.gen_core.specs.declared.views.OpenHold.{OpenHold}
-use Rattle.gen_core.specs.declared.views.Tag.{Tag}
 use Rattle.gen_core.specs.declared.views.Pending.{Pending}
 use Rattle.gen_core.specs.declared.views.Pending.TheVariants.{Nothing, Next, Probed}
 use Rattle.gen_core.specs.declared.views.Buffer.{Buffer}
 use Rattle.gen_core.specs.declared.views.ReaderState.{ReaderState}
 use Rattle.gen_core.specs.declared.views.ReaderState.TheVariants.{Idle, Aimed, Raised, Bounced, Guarded, Spent}
 use Rattle.gen_core.specs.declared.views.ReaderView.{ReaderView}
-use Rattle.gen_core.specs.declared.views.WriterView.{WriterView}
-use Rattle.gen_core.specs.Views.{open_holds, oldest_of, floor_of, kept_of, last_number, newest_word, hold_place, is_open, is_next, coming, is_counted_on, queue_of, oldest_in}
-use Rattle.gen_core.specs.Good.{State, IsBefore, HoldFits, NextFits, GoodQueue, GoodTag, GoodTags, GoodNamedWords, GoodMemory, GoodPlaces, GoodCounts, hold_word, AimFits, RaiseFits, BounceFits, GuardFits, GoodReaderState, GoodReader, Good}
-use Rattle.gen_core.specs.Conditions.{MayReopen, MayClose, MayProbe}
-use Rattle.gen_core.specs.Events.{after_reopen, coming_hold, advanced, after_store_newest, after_close, after_probe}
+use Rattle.gen_core.specs.Views.{open_holds, oldest_of, newest_word, hold_place, is_open, coming, is_counted_on, queue_of, oldest_in}
+use Rattle.gen_core.specs.Good.{State, IsBefore, HoldFits, NextFits, GoodTags, GoodMemory, GoodPlaces, hold_word, RaiseFits, GoodReaderState, GoodReader, Good}
+use Rattle.gen_core.specs.Conditions.{MayReopen, MayProbe}
+use Rattle.gen_core.specs.Events.{after_reopen, coming_hold, after_store_newest, after_probe, count_at, after_stop}
 use Rattle.gen_core.proofs.Lists.{all_at, all_from}
-use Rattle.gen_core.proofs.Frames.{counts-set}
-use Rattle.gen_core.proofs.Writer.{floor-last}
-use Rattle.gen_core.proofs.Counts.{count_none, names-hold, memory-low}
+use Rattle.gen_core.proofs.Lists.{count_none}
+use Rattle.gen_core.proofs.Frames.{names-hold, memory-low}
+use Rattle.gen_core.proofs.Holds.{at_newest, oldest-push, newest-most, any-none, or-false, or-left, any-push}
+use Rattle.gen_core.specs.declared.views.Queue.{Queue}
 
--- whether some hold of a list is this one
-pub any-none : (xs : List OpenHold) (h : ℕ) → All (λ e. e.hold ≢ h) xs → list_any (λ e. nat_eq e.hold h) xs ≡ false
-any-none [] h all = refl
-any-none (e ∷ es) h all = ap (λ t. t || list_any (λ x. nat_eq x.hold h) es) (ne_eqb e.hold h (all 0 e (omega arith))) ∙ any-none es h (λ k d lt. all (suc k) d (omega arith))
-
-or-assoc : (a b c : Bool) → (a || (b || c)) ≡ ((a || b) || c)
-or-assoc true b c = refl
-or-assoc false b c = refl
-
-pub or-false : (a : Bool) → (a || false) ≡ a
-or-false true = refl
-or-false false = refl
-
-or-left : (a b : Bool) → IsTrue a → IsTrue (a || b)
-or-left true b t = t
-or-left false b t = absurd (true≢false (sym t))
-
-pub any-push : (xs : List OpenHold) (x : OpenHold) (h : ℕ) → list_any (λ e. nat_eq e.hold h) (xs ++ x ∷ []) ≡ (list_any (λ e. nat_eq e.hold h) xs || nat_eq x.hold h)
-any-push [] x h = or-false (nat_eq x.hold h)
-any-push (e ∷ es) x h = ap (λ t. nat_eq e.hold h || t) (any-push es x h) ∙ or-assoc (nat_eq e.hold h) _ _
-
-oldest-push : (older : List OpenHold) (newest e : OpenHold) → oldest_in (older ++ newest ∷ []) e ≡ oldest_in older newest
-oldest-push [] newest e = refl
-oldest-push (x ∷ xs) newest e = refl
-
--- the newest generation is the highest of the queue
-pub newest-most : (older : List OpenHold) (newest : OpenHold) → AllPairs IsBefore (older ++ newest ∷ []) → All (λ e. e.generation ≤ newest.generation) (older ++ newest ∷ [])
-newest-most [] newest rising zero d lt = omega arith
-newest-most [] newest rising (suc k) d lt = absurd (omega arith)
-newest-most (e ∷ es) newest rising zero d lt = by_last es newest (λ j d lt. (rising zero (suc j) d (omega arith) (omega arith)).generation)
-  where
-    by_last : (es : List OpenHold) (newest : OpenHold) → All (λ x. e.generation < x.generation) (es ++ newest ∷ []) → e.generation ≤ newest.generation
-    by_last [] newest all = let h = all 0 newest (omega arith) in omega arith
-    by_last (x ∷ xs) newest all = by_last xs newest (λ k d lt. all (suc k) d (omega arith))
-newest-most (e ∷ es) newest rising (suc k) d lt = newest-most es newest (λ i j d less more. rising (suc i) (suc j) d (omega arith) (omega arith)) k d (omega arith)
-
--- what holds from a place on holds from a later place on
-pub all_drop-more : {A : Type 0} (P : A → Type 0) (m n : ℕ) (xs : List A) → m ≤ n → All P (drop m xs) → All P (drop n xs)
-all_drop-more P m n xs le all k d lt =
-    let at : m + (n - m + k) ≡ n + k = omega arith in
-    let same : get_or (drop m xs) (n - m + k) d ≡ get_or (drop n xs) k d = get_or-drop m xs (n - m + k) d ∙ ap (λ i. get_or xs i d) at ∙ sym (get_or-drop n xs k d) in
-    subst P same (all (n - m + k) d (omega (arith, lt, length-drop m xs, length-drop n xs)))
+-- what is said of tags does not read what is pending
+tags-pending : {bits : ℕ} {queue : Queue} {commits : List Image} {buffers : List Buffer} → GoodTags bits queue commits buffers
+    → (p : Pending) → GoodTags bits (queue_of queue.older queue.newest p) commits buffers
+tags-pending g p = record {
+  free = g.free;
+  held = λ b width tag at. let t = g.held b width tag at in record { generation = t.generation; commit = t.commit; first_commits = t.first_commits; unused = t.unused };
+}
 
 module _ (reaches : ℕ → Records → ℕ → List ℕ) (lawful : ℕ → Records → ℕ → Type 0) where
   -- the count of a hold that is not in the queue is odd
@@ -86,34 +48,19 @@ module _ (reaches : ℕ → Records → ℕ → List ℕ) (lawful : ℕ → Reco
       few = g.queue.few;
       rising = g.queue.rising;
       each = g.queue.each;
-      next = λ k e. let same : h ≡ k = cc in subst (NextFits s.writer.queue) same (record { hold = may.hold; others = may.others; room = may.room });
+      next = λ k e. let same : h ≡ k = cc in subst (NextFits (queue_of s.writer.queue.older s.writer.queue.newest (Next h))) same (record { hold = may.hold; others = may.others; room = may.room });
       generation = may.left;
       commit = g.queue.commit;
     };
-    tags = g.tags;
+    tags = tags-pending g.tags _;
     commits = g.commits;
     places = g.places;
     names = names-hold g.names (hold_place h) _ (omega arith) (let l = may.hold in omega arith);
     memory = memory-low reaches lawful s g (hold_place h) _ (let l = may.hold in omega arith);
     counts = record { counts = counts; views = g.counts.views; few = g.counts.few };
-    readers = All-weaker (GoodReader sizes older newest s.writer.queue.pending commits) (GoodReader sizes older newest (Next h) commits) reader s.readers g.readers;
+    readers = All-weaker (GoodReader s.writer.sizes s.writer.queue s.writer.commits) (GoodReader s.writer.sizes (queue_of s.writer.queue.older s.writer.queue.newest (Next h)) s.writer.commits) reader s.readers g.readers;
   }
     where
-      sizes : Sizes
-      sizes = s.writer.sizes
-
-      older : List OpenHold
-      older = s.writer.queue.older
-
-      newest : OpenHold
-      newest = s.writer.queue.newest
-
-      commits : List Image
-      commits = s.writer.commits
-
-      queue : List OpenHold
-      queue = open_holds s.writer.queue
-
       was : (k : ℕ) → is_open s.writer.queue k ≡ list_any (λ e. nat_eq e.hold k) (open_holds s.writer.queue)
       was k = ap (λ p. is_open (queue_of s.writer.queue.older s.writer.queue.newest p) k) may.calm ∙ or-false _
 
@@ -158,7 +105,7 @@ module _ (reaches : ℕ → Records → ℕ → List ℕ) (lawful : ℕ → Reco
       states r Spent x = x
 
       reader : (r : ReaderView) → GoodReader s.writer.sizes s.writer.queue s.writer.commits r → GoodReader s.writer.sizes (queue_of s.writer.queue.older s.writer.queue.newest (Next h)) s.writer.commits r
-      reader r x = record { sizes = x.sizes; seen = x.seen; saw = x.saw; least = x.least; state = states r r.state x.state }
+      reader r x = record { same_sizes = x.same_sizes; seen = x.seen; saw = x.saw; least = x.least; state = states r r.state x.state }
 
   pub store_newest_keeps : (s : State) (h : ℕ) → Good reaches lawful s → s.writer.queue.pending ≡ Next h → Good reaches lawful (after_store_newest s h)
   store_newest_keeps s h g next = record {
@@ -187,7 +134,7 @@ module _ (reaches : ℕ → Records → ℕ → List ℕ) (lawful : ℕ → Reco
     places = subst (λ (e : OpenHold). GoodPlaces s.writer.sizes s.writer.buffers (drop e.first_commit s.writer.commits) s.writer.work) (sym oldest) g.places;
     names = record {
       root = get_or-set_other s.words 1 0 _ 0 (λ e. omega arith) ∙ g.names.root;
-      last = get_or-set_same s.words 1 _ 0 (omega (arith, g.sizes.table));
+      newest_hold = get_or-set_same s.words 1 _ 0 (omega (arith, g.sizes.table));
       states = λ b x at. get_or-set_other s.words 1 (state_place b) _ 0 (λ e. omega arith) ∙ g.names.states b x at;
     };
     memory = subst (λ (e : OpenHold). GoodMemory s.writer.sizes (set s.words 1 (newest_word (coming_hold s.writer h))) s.writer.buffers (drop e.first_commit s.writer.commits) s.writer.work) (sym oldest) (memory-low reaches lawful s g 1 (newest_word (coming_hold s.writer h)) (omega arith));
@@ -233,13 +180,13 @@ module _ (reaches : ℕ → Records → ℕ → List ℕ) (lawful : ℕ → Reco
 
       reader : (r : ReaderView) → GoodReader s.writer.sizes s.writer.queue s.writer.commits r
           → GoodReader s.writer.sizes (queue_of (s.writer.queue.older ++ s.writer.queue.newest ∷ []) (coming_hold s.writer h) Nothing) s.writer.commits r
-      reader r x = record { sizes = x.sizes; seen = x.seen; saw = x.saw; least = (let le = x.least in omega arith); state = states r r.state x.least x.state }
+      reader r x = record { same_sizes = x.same_sizes; seen = x.seen; saw = x.saw; least = (let le = x.least in omega arith); state = states r r.state x.least x.state }
 
-  pub probe_keeps : (s : State) → Good reaches lawful s → MayProbe s → Good reaches lawful (after_probe s)
-  probe_keeps s g may = record {
+  pub probe_keeps : (s : State) → Good reaches lawful s → MayProbe s.writer → count_at s s.writer.queue.newest.hold ≡ 0 → Good reaches lawful (after_probe s)
+  probe_keeps s g may unused = record {
     sizes = g.sizes;
     queue = record { few = g.queue.few; rising = g.queue.rising; each = g.queue.each; next = λ k e. absurd (cc); generation = may.left; commit = g.queue.commit };
-    tags = g.tags;
+    tags = tags-pending g.tags _;
     commits = g.commits;
     places = g.places;
     names = g.names;
@@ -252,15 +199,11 @@ module _ (reaches : ℕ → Records → ℕ → List ℕ) (lawful : ℕ → Reco
       opened : (k : ℕ) → is_open s.writer.queue k ≡ is_open (queue_of s.writer.queue.older s.writer.queue.newest Probed) k
       opened k = ap (λ p. is_open (queue_of s.writer.queue.older s.writer.queue.newest p) k) may.calm
 
-      newest-low : (older : List OpenHold) (newest : OpenHold) → All (HoldFits s.writer.commits) (older ++ newest ∷ []) → newest.hold < 16
-      newest-low [] newest all = (all 0 newest (omega arith)).hold
-      newest-low (e ∷ es) newest all = newest-low es newest (λ k d lt. all (suc k) d (omega arith))
-
       -- no view is raised on the newest hold
       none : (j : ℕ) (r : ReaderView) → slice_get s.readers j ≡ Some r → is_counted_on s.writer.queue.newest.hold r.state ≡ false
       none j r at =
-          let word = g.counts.counts s.writer.queue.newest.hold (newest-low s.writer.queue.older s.writer.queue.newest g.queue.each) in
-          let zero : count_by (λ (q : ReaderView). is_counted_on s.writer.queue.newest.hold q.state) s.readers ≡ 0 = let u = may.unused in omega (arith, word, u) in
+          let word = g.counts.counts s.writer.queue.newest.hold (at_newest (HoldFits s.writer.commits) s.writer.queue.older s.writer.queue.newest g.queue.each).hold in
+          let zero : count_by (λ (q : ReaderView). is_counted_on s.writer.queue.newest.hold q.state) s.readers ≡ 0 = omega (arith, word, unused) in
           count_none (λ (q : ReaderView). is_counted_on s.writer.queue.newest.hold q.state) s.readers j r at zero
 
       raised : (k : ℕ) → RaiseFits s.writer.queue k → RaiseFits (queue_of s.writer.queue.older s.writer.queue.newest Probed) k
@@ -285,4 +228,8 @@ module _ (reaches : ℕ → Records → ℕ → List ℕ) (lawful : ℕ → Reco
 
       reader : (j : ℕ) (r : ReaderView) → slice_get s.readers j ≡ Some r → GoodReader s.writer.sizes s.writer.queue s.writer.commits r
           → GoodReader s.writer.sizes (queue_of s.writer.queue.older s.writer.queue.newest Probed) s.writer.commits r
-      reader j r at x = record { sizes = x.sizes; seen = x.seen; saw = x.saw; least = x.least; state = states r r.state (none j r at) x.state }
+      reader j r at x = record { same_sizes = x.same_sizes; seen = x.seen; saw = x.saw; least = x.least; state = states r r.state (none j r at) x.state }
+
+  -- that a hold was found in use is read by nothing
+  pub stop_keeps : (s : State) (found : ℕ) → Good reaches lawful s → Good reaches lawful (after_stop s found)
+  stop_keeps s found g = record { sizes = g.sizes; queue = g.queue; tags = g.tags; commits = g.commits; places = g.places; names = g.names; memory = g.memory; counts = g.counts; readers = g.readers }

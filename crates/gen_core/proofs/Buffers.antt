@@ -1,30 +1,26 @@
 -- A buffer is put on hold, or given back.
-use Rattle.std.proofs.Common.{◌≡◌, ◌≢◌, ◌⊎◌, ℕ, zero, suc, ◌+◌, ◌-◌, ◌*◌, ◌<◌, ◌≤◌, List, [], ◌∷◌, ◌++◌, length, drop, get_or, set, Option, Some, None, Bool, true, false, refl, sym, ap, ◌∙◌, subst, ⊎_elim, arith, length-set, length-drop, slice_index}
+use Rattle.std.proofs.Common.{◌≡◌, ◌≢◌, ◌⊎◌, ℕ, ◌+◌, ◌-◌, ◌*◌, ◌<◌, ◌≤◌, List, ◌∷◌, ◌++◌, length, drop, get_or, set, Some, None, sym, ap, ◌∙◌, subst, ⊎_elim, arith, length-set, length-drop, slice_index}
 use mathlib.Core.Logic.{dite}
 use native.Mathlib.Decide.{ℕ_discrete}
 use Rattle.std.proofs.Math.Seq.{get_or-set_other, get_or-set_same}
 use Rattle.std.specs.Prelude.{slice_get, All, option_and_then}
-use Rattle.std.proofs.lemmas.Option.{slice_get_within, slice_get-get_or, get_or_from_slice_get}
+use Rattle.std.proofs.lemmas.Option.{slice_get_within, get_or_from_slice_get}
 use Rattle.std.proofs.lemmas.List.{get_or-drop}
 use Rattle.entry_ref.specs.References.{buffer_of}
-use Rattle.image_base.specs.declared.Image.{Image}
 use Rattle.image_base.specs.Records.{Records}
 use Rattle.image_base.specs.Places.{base, state_place}
-use Rattle.gen_core.specs.declared.views.Sizes.{Sizes}
-use Rattle.gen_core.specs.declared.views.OpenHold.{OpenHold}
 use Rattle.gen_core.specs.declared.views.Tag.{Tag}
 use Rattle.gen_core.specs.declared.views.Buffer.{Buffer}
-use Rattle.gen_core.specs.declared.views.Buffer.TheVariants.{Free, Active, Held}
-use Rattle.gen_core.specs.declared.views.WriterView.{WriterView}
-use Rattle.gen_core.specs.Views.{open_holds, oldest_of, floor_of, kept_of, last_number, last_image, state_word, record_width, width_in, active_width, active_in, oldest_in}
+use Rattle.gen_core.specs.declared.views.Buffer.TheVariants.{Free, Held}
+use Rattle.gen_core.specs.Views.{oldest_of, floor_of, kept_of, last_number, last_image, state_word, record_width, width_in, active_width, active_in}
 use Rattle.gen_core.specs.Work.{work_at}
 use Rattle.gen_core.specs.Good.{State, HasNothingIn, GoodTag, GoodTags, IsPlaced, IsWorkPlace, InActive, Good}
 use Rattle.gen_core.specs.Conditions.{MayPutOnHold, MayFree}
 use Rattle.gen_core.specs.Events.{with_buffer, tag_of, after_put_on_hold, after_free}
-use Rattle.gen_core.proofs.Lists.{all_at, at_set, at_other, at_same}
+use Rattle.gen_core.proofs.Lists.{at_set, at_other, at_same, all_drop-more}
 use Rattle.gen_core.proofs.Frames.{active-behind, behind-high, counts-set, records-set, records-behind, active-inside}
 use Rattle.gen_core.proofs.Writer.{active-width, last_at, some-commit}
-use Rattle.gen_core.proofs.Queue.{newest-most, all_drop-more}
+use Rattle.gen_core.proofs.Holds.{at_oldest, newest-most}
 
 module _ (reaches : ℕ → Records → ℕ → List ℕ) (lawful : ℕ → Records → ℕ → Type 0) where
   -- a buffer gets another state
@@ -42,7 +38,7 @@ module _ (reaches : ℕ → Records → ℕ → List ℕ) (lawful : ℕ → Reco
     places = record { records = placed; stored = stored };
     names = record {
       root = get_or-set_other s.words (state_place b) 0 _ 0 (λ e. omega arith) ∙ g.names.root;
-      last = get_or-set_other s.words (state_place b) 1 _ 0 (λ e. omega arith) ∙ g.names.last;
+      newest_hold = get_or-set_other s.words (state_place b) 1 _ 0 (λ e. omega arith) ∙ g.names.newest_hold;
       states = λ c y at. ⊎_elim
           (λ (h : (c ≡ b) × (x ≡ y)).
             ap (λ k. slice_index (set s.words (state_place b) (state_word x)) (state_place k)) h.0
@@ -144,13 +140,9 @@ module _ (reaches : ℕ → Records → ℕ → List ℕ) (lawful : ℕ → Reco
       old : GoodTag s.writer.sizes.offset_bits s.writer.queue s.writer.commits b tag
       old = g.tags.held b may.width tag may.held
 
-      oldest-at : (older : List OpenHold) (newest : OpenHold) → All (λ e. tag.generation < e.generation → tag.commit ≤ e.first_commit) (older ++ newest ∷ []) → tag.generation < (oldest_in older newest).generation → tag.commit ≤ (oldest_in older newest).first_commit
-      oldest-at [] newest all lt = all 0 newest (omega arith) lt
-      oldest-at (e ∷ es) newest all lt = all 0 e (omega arith) lt
-
       -- no kept commit has a record there
       nothing : All (HasNothingIn s.writer.sizes.offset_bits b) (kept_of s.writer)
-      nothing = all_drop-more (HasNothingIn s.writer.sizes.offset_bits b) tag.commit (floor_of s.writer) s.writer.commits (oldest-at s.writer.queue.older s.writer.queue.newest old.first_commits may.below) old.unused
+      nothing = all_drop-more (HasNothingIn s.writer.sizes.offset_bits b) tag.commit (floor_of s.writer) s.writer.commits (at_oldest (λ e. tag.generation < e.generation → tag.commit ≤ e.first_commit) s.writer.queue.older s.writer.queue.newest old.first_commits may.below) old.unused
 
       placed : All (λ image. All (IsPlaced s.writer.sizes (set s.writer.buffers b (Free (Some tag)))) image.records) (kept_of s.writer)
       placed k d lt l e less =
