@@ -19,8 +19,9 @@ use Rattle.gen_core.specs.Conditions.{MayPutOnHold, MayFree}
 use Rattle.gen_core.specs.Events.{with_buffer, tag_of, after_put_on_hold, after_free}
 use Rattle.gen_core.proofs.Lists.{at_set, at_other, at_same, all_drop-more}
 use Rattle.gen_core.proofs.Frames.{active-behind, behind-high, counts-set, records-set, records-behind, active-inside}
-use Rattle.gen_core.proofs.Writer.{active-width, last_at, some-commit}
 use Rattle.gen_core.proofs.Holds.{at_oldest, newest-most}
+use Rattle.gen_core.proofs.GoodViews.{good_view, some-commit}
+use Rattle.gen_core.proofs.ViewLemmas.{active-width, last_at}
 
 module _ (reaches : ℕ → Records → ℕ → List ℕ) (lawful : ℕ → Records → ℕ → Type 0) where
   -- a buffer gets another state
@@ -103,7 +104,7 @@ module _ (reaches : ℕ → Records → ℕ → List ℕ) (lawful : ℕ → Reco
       -- the last commit alone is not below the tag's
       unused : All (HasNothingIn s.writer.sizes.offset_bits b) (drop (last_number s.writer.commits) s.writer.commits)
       unused k d lt =
-          let some = some-commit reaches lawful s g in
+          let some = some-commit s.writer (good_view reaches lawful s g) in
           let first : k ≡ 0 = omega (arith, lt, length-drop (last_number s.writer.commits) s.writer.commits, some) in
           let at : last_number s.writer.commits + k ≡ last_number s.writer.commits = omega arith in
           let is : get_or (drop (last_number s.writer.commits) s.writer.commits) k d ≡ last_image s.writer.commits =

@@ -60,7 +60,7 @@ pub or-left : (a b : Bool) → IsTrue a → IsTrue (a || b)
 or-left true b t = t
 or-left false b t = absurd (true≢false (sym t))
 
-or-right : (a b : Bool) → b ≡ true → (a || b) ≡ true
+pub or-right : (a b : Bool) → b ≡ true → (a || b) ≡ true
 or-right true b h = refl
 or-right false b h = h
 
@@ -93,3 +93,7 @@ oldest-replaced (x ∷ xs) newest e up = omega arith
 -- the oldest of several is open
 pub first-open : (e : OpenHold) (es : List OpenHold) (newest : OpenHold) (pending : Pending) → is_open (queue_of (e ∷ es) newest pending) e.hold ≡ true
 first-open e es newest pending = ap (λ t. (t || list_any (λ x. nat_eq x.hold e.hold) (es ++ newest ∷ [])) || is_next pending e.hold) (eq-eqb e.hold e.hold refl)
+
+pub oldest-open : (older : List OpenHold) (newest : OpenHold) (pending : Pending) → is_open (queue_of older newest pending) (oldest_in older newest).hold ≡ true
+oldest-open [] newest pending = newest-open (queue_of [] newest pending)
+oldest-open (e ∷ es) newest pending = first-open e es newest pending

@@ -23,49 +23,51 @@ use Rattle.gen_core.specs.Conditions.{MayHandOut, MayPublish, IsUnder}
 use Rattle.gen_core.specs.Events.{Event, store_width, store_word, hand_out, publish, put_on_hold, free_buffer, reopen, store_newest, close, stop_at_oldest, probe, stop_at_newest, morph, split, join, meet_load, load_own, load_newest, raise, bounce, load_root, load_word, release, Happens, Happen, MayOpen, opening, NoneFromBefore, after_publish}
 use Rattle.gen_core.specs.Laws.{TellsCommit, IsKeptFor}
 use Rattle.gen_core.proofs.Lists.{all_at, all_drop-at, all_found}
-use Rattle.gen_core.proofs.Writer.{store_word_keeps, store_width_keeps, hand_out_keeps, floor-last, some-commit, last_at, last_image-push}
-use Rattle.gen_core.proofs.Publish.{Stays, Present, publish_keeps}
+use Rattle.gen_core.proofs.Writer.{store_word_keeps, store_width_keeps, hand_out_keeps}
+use Rattle.gen_core.proofs.Publish.{publish_keeps}
 use Rattle.gen_core.proofs.Readers.{load_root_keeps, split_keeps, join_keeps}
 use Rattle.gen_core.proofs.Counts.{load_newest_keeps, raise_keeps, bounce_keeps, release_keeps}
 use Rattle.gen_core.proofs.Holds.{oldest-least, commits-least, any-first}
 use Rattle.gen_core.proofs.Advancing.{reopen_keeps, store_newest_keeps, stop_keeps, probe_keeps}
 use Rattle.gen_core.proofs.Closing.{close_keeps, morph_keeps}
 use Rattle.gen_core.proofs.Buffers.{put_on_hold_keeps, free_keeps}
-use Rattle.gen_core.proofs.Opening.{EmptyReaches, EmptyLawful, opening_good}
+use Rattle.gen_core.proofs.Opening.{opening_good}
+use Rattle.gen_core.proofs.GoodViews.{good_view, some-commit, floor-last}
+use Rattle.gen_core.proofs.ViewLemmas.{last_at, last_image-push}
+use Rattle.gen_core.proofs.Layouts.{IsLayout}
 
 module _ (reaches : ℕ → Records → ℕ → List ℕ) (lawful : ℕ → Records → ℕ → Type 0) where
-  pub event_keeps : Stays reaches lawful → Present reaches lawful → (s t : State) (e : Event) → Good reaches lawful s → Happens reaches lawful s e t → Good reaches lawful t
-  event_keeps stays present s t (store_width b width) g h = subst (Good reaches lawful) (sym h.1) (store_width_keeps reaches lawful s b width g h.0)
-  event_keeps stays present s t (store_word p n) g h = subst (Good reaches lawful) (sym h.1) (store_word_keeps reaches lawful s p n g h.0)
-  event_keeps stays present s t (hand_out b) g h = subst (Good reaches lawful) (sym h.1) (hand_out_keeps reaches lawful s b g h.0)
-  event_keeps stays present s t (publish root) g h = subst (Good reaches lawful) (sym h.1) (publish_keeps reaches lawful stays present s root g h.0)
-  event_keeps stays present s t (put_on_hold b) g h = subst (Good reaches lawful) (sym h.2) (put_on_hold_keeps reaches lawful s b h.0 g h.1)
-  event_keeps stays present s t (free_buffer b) g h = subst (Good reaches lawful) (sym h.2) (free_keeps reaches lawful s b h.0 g h.1)
-  event_keeps stays present s t (reopen k) g h = subst (Good reaches lawful) (sym h.1) (reopen_keeps reaches lawful s k g h.0)
-  event_keeps stays present s t store_newest g h = subst (Good reaches lawful) (sym h.2) (store_newest_keeps reaches lawful s h.0 g h.1)
-  event_keeps stays present s t close g h = subst (Good reaches lawful) (sym h.4) (close_keeps reaches lawful s h.0 h.1 g h.2 h.3)
-  event_keeps stays present s t stop_at_oldest g h = subst (Good reaches lawful) (sym h.4) (stop_keeps reaches lawful s _ g)
-  event_keeps stays present s t probe g h = subst (Good reaches lawful) (sym h.2) (probe_keeps reaches lawful s g h.0 h.1)
-  event_keeps stays present s t stop_at_newest g h = subst (Good reaches lawful) (sym h.2) (stop_keeps reaches lawful s _ g)
-  event_keeps stays present s t morph g h = subst (Good reaches lawful) (sym h.1) (morph_keeps reaches lawful s g h.0)
-  event_keeps stays present s t split g h = subst (Good reaches lawful) (sym h.1) (split_keeps reaches lawful s g h.0)
-  event_keeps stays present s t (join j) g h = subst (Good reaches lawful) (sym h.3) (join_keeps reaches lawful s j h.0 g h.1 h.2)
-  event_keeps stays present s t meet_load g h = subst (Good reaches lawful) (sym h.1) g
-  event_keeps stays present s t (load_own p) g h = subst (Good reaches lawful) (sym h.1) g
-  event_keeps stays present s t (load_newest j) g h = subst (Good reaches lawful) (sym h.3) (load_newest_keeps reaches lawful s j h.0 g h.1 h.2)
-  event_keeps stays present s t (raise j) g h = subst (Good reaches lawful) (sym h.5) (raise_keeps reaches lawful s j h.0 h.2 h.3 g h.1 h.4)
-  event_keeps stays present s t (bounce j) g h = subst (Good reaches lawful) (sym h.4) (bounce_keeps reaches lawful s j h.0 h.2 g h.1 h.3)
-  event_keeps stays present s t (load_root j) g h = subst (Good reaches lawful) (sym h.4) (load_root_keeps reaches lawful s j h.0 h.2 g h.1 h.3)
-  event_keeps stays present s t (load_word j p) g h = subst (Good reaches lawful) (sym h.3) g
-  event_keeps stays present s t (release j) g h = subst (Good reaches lawful) (sym h.5) (release_keeps reaches lawful s j h.0 h.2 h.3 g h.1 h.4)
+  pub event_keeps : IsLayout reaches lawful → (s t : State) (e : Event) → Good reaches lawful s → Happens reaches lawful s e t → Good reaches lawful t
+  event_keeps l s t (store_width b width) g h = subst (Good reaches lawful) (sym h.1) (store_width_keeps reaches lawful s b width g h.0)
+  event_keeps l s t (store_word p n) g h = subst (Good reaches lawful) (sym h.1) (store_word_keeps reaches lawful s p n g h.0)
+  event_keeps l s t (hand_out b) g h = subst (Good reaches lawful) (sym h.1) (hand_out_keeps reaches lawful s b g h.0)
+  event_keeps l s t (publish root) g h = subst (Good reaches lawful) (sym h.1) (publish_keeps reaches lawful l s root g h.0)
+  event_keeps l s t (put_on_hold b) g h = subst (Good reaches lawful) (sym h.2) (put_on_hold_keeps reaches lawful s b h.0 g h.1)
+  event_keeps l s t (free_buffer b) g h = subst (Good reaches lawful) (sym h.2) (free_keeps reaches lawful s b h.0 g h.1)
+  event_keeps l s t (reopen k) g h = subst (Good reaches lawful) (sym h.1) (reopen_keeps reaches lawful s k g h.0)
+  event_keeps l s t store_newest g h = subst (Good reaches lawful) (sym h.2) (store_newest_keeps reaches lawful s h.0 g h.1)
+  event_keeps l s t close g h = subst (Good reaches lawful) (sym h.4) (close_keeps reaches lawful s h.0 h.1 g h.2 h.3)
+  event_keeps l s t stop_at_oldest g h = subst (Good reaches lawful) (sym h.4) (stop_keeps reaches lawful s _ g)
+  event_keeps l s t probe g h = subst (Good reaches lawful) (sym h.2) (probe_keeps reaches lawful s g h.0 h.1)
+  event_keeps l s t stop_at_newest g h = subst (Good reaches lawful) (sym h.2) (stop_keeps reaches lawful s _ g)
+  event_keeps l s t morph g h = subst (Good reaches lawful) (sym h.1) (morph_keeps reaches lawful s g h.0)
+  event_keeps l s t split g h = subst (Good reaches lawful) (sym h.1) (split_keeps reaches lawful s g h.0)
+  event_keeps l s t (join j) g h = subst (Good reaches lawful) (sym h.3) (join_keeps reaches lawful s j h.0 g h.1 h.2)
+  event_keeps l s t meet_load g h = subst (Good reaches lawful) (sym h.1) g
+  event_keeps l s t (load_own p) g h = subst (Good reaches lawful) (sym h.1) g
+  event_keeps l s t (load_newest j) g h = subst (Good reaches lawful) (sym h.3) (load_newest_keeps reaches lawful s j h.0 g h.1 h.2)
+  event_keeps l s t (raise j) g h = subst (Good reaches lawful) (sym h.5) (raise_keeps reaches lawful s j h.0 h.2 h.3 g h.1 h.4)
+  event_keeps l s t (bounce j) g h = subst (Good reaches lawful) (sym h.4) (bounce_keeps reaches lawful s j h.0 h.2 g h.1 h.3)
+  event_keeps l s t (load_root j) g h = subst (Good reaches lawful) (sym h.4) (load_root_keeps reaches lawful s j h.0 h.2 g h.1 h.3)
+  event_keeps l s t (load_word j p) g h = subst (Good reaches lawful) (sym h.3) g
+  event_keeps l s t (release j) g h = subst (Good reaches lawful) (sym h.5) (release_keeps reaches lawful s j h.0 h.2 h.3 g h.1 h.4)
 
-  pub events_keep : Stays reaches lawful → Present reaches lawful → (events : List Event) (s t : State) → Good reaches lawful s → Happen reaches lawful s events t → Good reaches lawful t
-  events_keep stays present [] s t g h = subst (Good reaches lawful) (sym h) g
-  events_keep stays present (e ∷ events) s t g h = events_keep stays present events h.0 t (event_keeps stays present s h.0 e g h.1) h.2
+  pub events_keep : IsLayout reaches lawful → (events : List Event) (s t : State) → Good reaches lawful s → Happen reaches lawful s events t → Good reaches lawful t
+  events_keep l [] s t g h = subst (Good reaches lawful) (sym h) g
+  events_keep l (e ∷ events) s t g h = events_keep l events h.0 t (event_keeps l s h.0 e g h.1) h.2
 
-  pub keeps_good : EmptyReaches reaches lawful → EmptyLawful reaches lawful → Stays reaches lawful → Present reaches lawful
-      → (sizes : Sizes) (events : List Event) (s : State) → MayOpen sizes → Happen reaches lawful (opening sizes) events s → Good reaches lawful s
-  keeps_good empty_reaches empty_lawful stays present sizes events s may h = events_keep stays present events (opening sizes) s (opening_good reaches lawful empty_reaches empty_lawful sizes may) h
+  pub keeps_good : IsLayout reaches lawful → (sizes : Sizes) (events : List Event) (s : State) → MayOpen sizes → Happen reaches lawful (opening sizes) events s → Good reaches lawful s
+  keeps_good l sizes events s may h = events_keep l events (opening sizes) s (opening_good reaches lawful l sizes may) h
 
   -- no view stands on a hold from before the last tag of a buffer that is free, while nothing is pending
   pub none_from_before : (s : State) (b : ℕ) → Good reaches lawful s → MayHandOut s.writer b → NoneFromBefore s b
@@ -127,7 +129,7 @@ module _ (reaches : ℕ → Records → ℕ → List ℕ) (lawful : ℕ → Reco
       w = s.writer
 
       last : c ≡ last_number s.writer.commits → floor_of s.writer ≤ c
-      last e = let le = floor-last reaches lawful s g in omega arith
+      last e = let le = floor-last s.writer (good_view reaches lawful s g) in omega arith
 
       in_queue : IsTrue (list_any (λ e. nat_eq e.hold h) (open_holds s.writer.queue)) → floor_of s.writer ≤ c
       in_queue t = any-first (open_holds s.writer.queue) h (floor_of s.writer) c k.first_commit (commits-least s.writer.queue.older s.writer.queue.newest g.queue.rising) t
@@ -190,7 +192,7 @@ module _ (reaches : ℕ → Records → ℕ → List ℕ) (lawful : ℕ → Reco
   tells_commit s j r g at =
       let w : WriterView = s.writer in
       let reader = all_at (GoodReader w.sizes w.queue w.commits) s.readers j r g.readers at in
-      let commit = all_at (IsLawfulCommit reaches lawful w.sizes.shape) w.commits (last_number w.commits) (last_image w.commits) g.commits.each (last_at w.commits (some-commit reaches lawful s g)) in
+      let commit = all_at (IsLawfulCommit reaches lawful w.sizes.shape) w.commits (last_number w.commits) (last_image w.commits) g.commits.each (last_at w.commits (some-commit s.writer (good_view reaches lawful s g))) in
       record {
         number = ap (λ n. n / 2 ^ 32) g.names.root ∙ div-mul-add (last_number w.commits) (2 ^ 32) (last_image w.commits).root commit.small;
         root = ap (λ n. n % 2 ^ 32) g.names.root ∙ mod-mul-add (last_number w.commits) (2 ^ 32) (last_image w.commits).root commit.small;
@@ -198,12 +200,12 @@ module _ (reaches : ℕ → Records → ℕ → List ℕ) (lawful : ℕ → Reco
         lawful_commit = commit;
       }
 
-  pub published_stands : Stays reaches lawful → Present reaches lawful → (s : State) (root : ℕ) → Good reaches lawful s → MayPublish lawful s.writer root
+  pub published_stands : IsLayout reaches lawful → (s : State) (root : ℕ) → Good reaches lawful s → MayPublish lawful s.writer root
       → StandsIn s.writer.sizes.offset_bits s.writer.sizes.buffers s.writer.sizes.words (after_publish s (next_image reaches s.writer root)).words (next_image reaches s.writer root)
-  published_stands stays present s root g may =
+  published_stands l s root g may =
       let t : State = after_publish s (next_image reaches s.writer root) in
-      let good : Good reaches lawful t = publish_keeps reaches lawful stays present s root g may in
+      let good : Good reaches lawful t = publish_keeps reaches lawful l s root g may in
       let last : slice_get t.writer.commits (last_number t.writer.commits) ≡ Some (next_image reaches s.writer root) =
-      last_at t.writer.commits (some-commit reaches lawful t good) ∙ ap Some (last_image-push s.writer.commits (next_image reaches s.writer root)) in
+      last_at t.writer.commits (some-commit t.writer (good_view reaches lawful t good)) ∙ ap Some (last_image-push s.writer.commits (next_image reaches s.writer root)) in
       all_drop-at (StandsIn s.writer.sizes.offset_bits s.writer.sizes.buffers s.writer.sizes.words t.words) (floor_of t.writer) t.writer.commits (last_number t.writer.commits) (next_image reaches s.writer root)
-      (kept_stands t good) (floor-last reaches lawful t good) last
+      (kept_stands t good) (floor-last t.writer (good_view reaches lawful t good)) last

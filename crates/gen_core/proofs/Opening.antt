@@ -14,6 +14,7 @@ use Rattle.gen_core.specs.declared.views.Buffer.TheVariants.{Free, Held}
 use Rattle.gen_core.specs.Views.{IsCommit, hold_place, is_open, state_word, record_width, width_in, queue_of}
 use Rattle.gen_core.specs.Good.{HoldFits, hold_word, IsLawfulCommit, Good}
 use Rattle.gen_core.specs.Events.{opening_words, opening, MayOpen, opening_hold}
+use Rattle.gen_core.proofs.Layouts.{IsLayout}
 
 -- every element of a replicate is its element
 at_replicate : {A : Type 0} (n k : ℕ) (a b : A) → slice_get (replicate n a) k ≡ Some b → a ≡ b
@@ -41,15 +42,8 @@ counts-first sizes (suc h) lt = let at : hold_place (suc h) ≡ 3 + h = omega ar
     ∙ count-one h (replicate (sizes.buffers + sizes.buffers * sizes.words) 0) (omega arith) ∙ sym (ap (hold_word 0) (closed h))
 
 module _ (reaches : ℕ → Records → ℕ → List ℕ) (lawful : ℕ → Records → ℕ → Type 0) where
-  -- root 0 reaches nothing and is lawful
-  abbrev pub EmptyReaches : Type 0
-  EmptyReaches = (shape : ℕ) (m : Records) → reaches shape m 0 ≡ []
-
-  abbrev pub EmptyLawful : Type 0
-  EmptyLawful = (shape : ℕ) (m : Records) → lawful shape m 0
-
-  pub opening_good : EmptyReaches → EmptyLawful → (sizes : Sizes) → MayOpen sizes → Good reaches lawful (opening sizes)
-  opening_good empty_reaches empty_lawful sizes may = record {
+  pub opening_good : IsLayout reaches lawful → (sizes : Sizes) → MayOpen sizes → Good reaches lawful (opening sizes)
+  opening_good l sizes may = record {
     sizes = record {
       table = omega (arith, length-append {A = ℕ} (0 ∷ 0 ∷ 0 ∷ replicate 15 1) (replicate (sizes.buffers + sizes.buffers * sizes.words) 0), length-replicate {A = ℕ} (sizes.buffers + sizes.buffers * sizes.words) 0);
       count = length-replicate sizes.buffers (Free None);
@@ -71,7 +65,7 @@ module _ (reaches : ℕ → Records → ℕ → List ℕ) (lawful : ℕ → Reco
     };
     commits = record {
       empty = refl;
-      each = All-cons (IsLawfulCommit reaches lawful sizes.shape) no_image [] (record { lawful_image = empty_lawful sizes.shape (words_at no_image); reached = sym (empty_reaches sizes.shape (words_at no_image)); small = omega arith }) (All-nil (IsLawfulCommit reaches lawful sizes.shape));
+      each = All-cons (IsLawfulCommit reaches lawful sizes.shape) no_image [] (record { lawful_image = l.empty_lawful sizes.shape (words_at no_image); reached = sym (l.empty_reaches sizes.shape (words_at no_image)); small = omega arith }) (All-nil (IsLawfulCommit reaches lawful sizes.shape));
       seen = All-nil (IsCommit (no_image ∷ []));
     };
     places = record { records = λ k d lt l e less. absurd (nothing k d lt l less); stored = λ p n there. absurd (cc) };

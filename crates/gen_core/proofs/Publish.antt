@@ -6,7 +6,7 @@ use Rattle.entry_ref.specs.References.{buffer_of}
 use Rattle.gen_core.specs.declared.views.Tag.{Tag}
 use Rattle.std.proofs.lemmas.List.Elements.{All-push, All-weaker}
 use Rattle.image_base.specs.declared.Image.{Image}
-use Rattle.image_base.specs.Records.{Records, SameAt, AllThere}
+use Rattle.image_base.specs.Records.{Records, AllThere}
 use Rattle.image_base.specs.Images.{record_at, words_at}
 use Rattle.image_base.specs.Places.{base, state_place}
 use Rattle.image_base.proofs.Pairs.{references-pairs, pairs-same}
@@ -17,16 +17,18 @@ use Rattle.gen_core.specs.declared.views.ReaderState.{ReaderState}
 use Rattle.gen_core.specs.declared.views.ReaderState.TheVariants.{Idle, Aimed, Raised, Bounced, Guarded, Spent}
 use Rattle.gen_core.specs.declared.views.ReaderView.{ReaderView}
 use Rattle.gen_core.specs.declared.views.WriterView.{WriterView}
-use Rattle.gen_core.specs.Views.{floor_of, kept_of, last_number, last_image, root_word, active_in, active_width}
+use Rattle.gen_core.specs.Views.{floor_of, last_number, last_image, root_word, active_in, active_width}
 use Rattle.gen_core.specs.Work.{IsWhole, writer_records, next_image}
 use Rattle.gen_core.specs.Good.{State, IsPlaced, WordsStand, GoodReaderState, GoodReader, HasNothingIn, GoodTag, IsLawfulCommit, Good}
 use Rattle.gen_core.specs.Conditions.{MayPublish}
 use Rattle.gen_core.specs.Events.{after_publish}
 use Rattle.gen_core.proofs.Lists.{at_longer, all_drop-push, all_drop-at, all_found}
-use Rattle.gen_core.proofs.Work.{writer_records-found}
+use Rattle.gen_core.proofs.Work.{records-found}
 use Rattle.gen_core.proofs.Frames.{behind-high, counts-set, records-set, records-behind}
-use Rattle.gen_core.proofs.Writer.{active-width, last_at, last_image-push, commits-longer, all_pairs, some-commit, floor-last}
 use Rattle.gen_core.specs.declared.views.Queue.{Queue}
+use Rattle.gen_core.proofs.GoodViews.{good_view, some-commit, last-kept, records-placed}
+use Rattle.gen_core.proofs.ViewLemmas.{last_at, last_image-push, commits-longer, all_pairs}
+use Rattle.gen_core.proofs.Layouts.{IsLayout}
 
 -- with one commit more, nothing that was said of a reader is lost
 reader_longer : (sizes : Sizes) (queue : Queue) (commits : List Image) (image : Image) → queue.pending ≡ Nothing
@@ -59,49 +61,26 @@ reader_longer sizes queue commits image calm r h = record {
     states Spent k = k
 
 module _ (reaches : ℕ → Records → ℕ → List ℕ) (lawful : ℕ → Records → ℕ → Type 0) where
-  -- what is lawful stays so, with the same reach, where the words at all that is reached are the same
-  abbrev pub Stays : Type 0
-  Stays = (shape : ℕ) (m n : Records) (root : ℕ) → SameAt (reaches shape m root) m n → lawful shape m root → lawful shape n root × (reaches shape n root ≡ reaches shape m root)
-
-  -- what is lawful reaches only records that are there
-  abbrev pub Present : Type 0
-  Present = (shape : ℕ) (m : Records) (root : ℕ) → lawful shape m root → AllThere (reaches shape m root) m
-
-  pub next-lawful : Stays → (w : WriterView) (root : ℕ) → MayPublish lawful w root → IsLawfulCommit reaches lawful w.sizes.shape (next_image reaches w root)
-  next-lawful stays w root may =
+  pub next-lawful : IsLayout reaches lawful → (w : WriterView) (root : ℕ) → MayPublish lawful w root → IsLawfulCommit reaches lawful w.sizes.shape (next_image reaches w root)
+  next-lawful l w root may =
       let shape = w.sizes.shape in
       let refs = reaches shape (writer_records w) root in
-      let h = stays shape (writer_records w) (words_at (next_image reaches w root)) root (pairs-same refs (writer_records w)) may.lawful_root in
+      let h = l.stays shape (writer_records w) (words_at (next_image reaches w root)) root (pairs-same refs (writer_records w)) may.lawful_root in
       record { lawful_image = h.0; reached = references-pairs refs (writer_records w) ∙ sym h.1; small = may.small }
 
-  pub last_kept : (s : State) (P : Image → Type 0) → Good reaches lawful s → All P (kept_of s.writer) → P (last_image s.writer.commits)
-  last_kept s P g all =
-      all_drop-at P (floor_of s.writer) s.writer.commits (last_number s.writer.commits) (last_image s.writer.commits) all
-      (floor-last reaches lawful s g) (last_at s.writer.commits (some-commit reaches lawful s g))
-
-  -- a record of the writer lies in a buffer of its width
-  pub writer_records-placed : (s : State) → Good reaches lawful s → (ref : ℕ) → 0 < length (writer_records s.writer ref) → IsPlaced s.writer.sizes s.writer.buffers (ref, writer_records s.writer ref)
-  writer_records-placed s g ref some =
-      let placed : ℕ × List ℕ → Type 0 = IsPlaced s.writer.sizes s.writer.buffers in
-      ⊎_elim
-      (λ (old : record_at (last_image s.writer.commits) ref ≡ Some (writer_records s.writer ref)).
-      all_found placed (last_image s.writer.commits).records ref (writer_records s.writer ref) (last_kept s (λ image. All placed image.records) g g.places.records) old)
-      (λ (whole : IsWhole s.writer ref (writer_records s.writer ref)). record { inside = whole.entry; width = active-width s.writer.buffers _ _ whole.active })
-      (writer_records-found s.writer ref some)
-
-  -- and each of its words stands
-  pub writer_records-stands : (s : State) → Good reaches lawful s → (ref : ℕ) → 0 < length (writer_records s.writer ref) → WordsStand s.writer.sizes s.words (ref, writer_records s.writer ref)
-  writer_records-stands s g ref some =
+  -- each word of a record of the writer stands
+  pub records-stands : (s : State) → Good reaches lawful s → (ref : ℕ) → 0 < length (writer_records s.writer ref) → WordsStand s.writer.sizes s.words (ref, writer_records s.writer ref)
+  records-stands s g ref some =
       let stand : ℕ × List ℕ → Type 0 = WordsStand s.writer.sizes s.words in
       ⊎_elim
       (λ (old : record_at (last_image s.writer.commits) ref ≡ Some (writer_records s.writer ref)).
-      all_found stand (last_image s.writer.commits).records ref (writer_records s.writer ref) (last_kept s (λ image. All stand image.records) g g.memory.records) old)
+      all_found stand (last_image s.writer.commits).records ref (writer_records s.writer ref) (last-kept s.writer (good_view reaches lawful s g) (λ image. All stand image.records) g.memory.records) old)
       (λ (whole : IsWhole s.writer ref (writer_records s.writer ref)). λ i lt. g.memory.stored _ _ (whole.words i lt))
-      (writer_records-found s.writer ref some)
+      (records-found s.writer ref some)
 
-  pub publish_keeps : Stays → Present → (s : State) (root : ℕ) → Good reaches lawful s → MayPublish lawful s.writer root
+  pub publish_keeps : IsLayout reaches lawful → (s : State) (root : ℕ) → Good reaches lawful s → MayPublish lawful s.writer root
       → Good reaches lawful (after_publish s (next_image reaches s.writer root))
-  publish_keeps stays present s root g may =
+  publish_keeps l s root g may =
       let w : WriterView = s.writer in
       let sizes : Sizes = w.sizes in
       let n : ℕ = root_word (length w.commits) image in
@@ -113,12 +92,12 @@ module _ (reaches : ℕ → Records → ℕ → List ℕ) (lawful : ℕ → Reco
           each = λ k d lt. let e = q.each k d lt in record { hold = e.hold; first_commit = let le = e.first_commit in omega (arith, le, longer) };
           next = q.next;
           generation = q.generation;
-          commit = let left = may.left in omega (arith, left, longer, some-commit reaches lawful s g);
+          commit = let left = may.left in omega (arith, left, longer, some-commit s.writer (good_view reaches lawful s g));
         };
         tags = record { free = g.tags.free; held = tagged };
         commits = record {
           empty = at_longer w.commits (image ∷ []) 0 _ g.commits.empty;
-          each = All-push (IsLawfulCommit reaches lawful sizes.shape) w.commits image g.commits.each (next-lawful stays w root may);
+          each = All-push (IsLawfulCommit reaches lawful sizes.shape) w.commits image g.commits.each (next-lawful l w root may);
           seen = commits-longer w.commits image w.saw g.commits.seen;
         };
         places = record { records = placed; stored = λ p m there. absurd (cc) };
@@ -147,20 +126,20 @@ module _ (reaches : ℕ → Records → ℕ → List ℕ) (lawful : ℕ → Reco
       kept = drop (floor_of s.writer) (s.writer.commits ++ image ∷ [])
 
       there : AllThere (reaches s.writer.sizes.shape (writer_records s.writer) root) (writer_records s.writer)
-      there = present s.writer.sizes.shape (writer_records s.writer) root may.lawful_root
+      there = l.present s.writer.sizes.shape (writer_records s.writer) root may.lawful_root
 
       -- the last commit has no record in a buffer on hold, and nothing was stored in one
       nothing : (b width : ℕ) (tag : Tag) → slice_get s.writer.buffers b ≡ Some (Held width tag) → HasNothingIn s.writer.sizes.offset_bits b image
       nothing b width tag at =
           let t = g.tags.held b width tag at in
-          let old : HasNothingIn s.writer.sizes.offset_bits b (last_image s.writer.commits) = all_drop-at (HasNothingIn s.writer.sizes.offset_bits b) tag.commit s.writer.commits (last_number s.writer.commits) (last_image s.writer.commits) t.unused t.commit (last_at s.writer.commits (some-commit reaches lawful s g)) in
+          let old : HasNothingIn s.writer.sizes.offset_bits b (last_image s.writer.commits) = all_drop-at (HasNothingIn s.writer.sizes.offset_bits b) tag.commit s.writer.commits (last_number s.writer.commits) (last_image s.writer.commits) t.unused t.commit (last_at s.writer.commits (some-commit s.writer (good_view reaches lawful s g))) in
           all_pairs (λ pair. buffer_of s.writer.sizes.offset_bits pair.0 ≢ b) (reaches s.writer.sizes.shape (writer_records s.writer) root) (writer_records s.writer) there
           (λ r some. ⊎_elim
             (λ (h : record_at (last_image s.writer.commits) r ≡ Some (writer_records s.writer r)). all_found (λ pair. buffer_of s.writer.sizes.offset_bits pair.0 ≢ b) (last_image s.writer.commits).records r _ old h)
             (λ (h : IsWhole s.writer r (writer_records s.writer r)). λ same.
               let none : active_in s.writer.buffers (buffer_of s.writer.sizes.offset_bits r) ≡ None = ap (active_in s.writer.buffers) same ∙ ap (option_and_then active_width) at in
               let is = h.active in absurd (cc))
-            (writer_records-found s.writer r some))
+            (records-found s.writer r some))
 
       tagged : (b width : ℕ) (tag : Tag) → slice_get s.writer.buffers b ≡ Some (Held width tag) → GoodTag s.writer.sizes.offset_bits s.writer.queue (s.writer.commits ++ image ∷ []) b tag
       tagged b width tag at =
@@ -174,8 +153,8 @@ module _ (reaches : ℕ → Records → ℕ → List ℕ) (lawful : ℕ → Reco
 
       placed : All (λ image. All (IsPlaced s.writer.sizes s.writer.buffers) image.records) kept
       placed = all_drop-push (λ image. All (IsPlaced s.writer.sizes s.writer.buffers) image.records) (floor_of s.writer) s.writer.commits image g.places.records
-          (all_pairs (IsPlaced s.writer.sizes s.writer.buffers) (reaches s.writer.sizes.shape (writer_records s.writer) root) (writer_records s.writer) there (writer_records-placed s g))
+          (all_pairs (IsPlaced s.writer.sizes s.writer.buffers) (reaches s.writer.sizes.shape (writer_records s.writer) root) (writer_records s.writer) there (records-placed s.writer (good_view reaches lawful s g)))
 
       stand : All (λ image. All (WordsStand s.writer.sizes s.words) image.records) kept
       stand = all_drop-push (λ image. All (WordsStand s.writer.sizes s.words) image.records) (floor_of s.writer) s.writer.commits image g.memory.records
-          (all_pairs (WordsStand s.writer.sizes s.words) (reaches s.writer.sizes.shape (writer_records s.writer) root) (writer_records s.writer) there (writer_records-stands s g))
+          (all_pairs (WordsStand s.writer.sizes s.words) (reaches s.writer.sizes.shape (writer_records s.writer) root) (writer_records s.writer) there (records-stands s g))

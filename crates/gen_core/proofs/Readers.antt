@@ -11,7 +11,8 @@ use Rattle.gen_core.specs.Good.{State, hold_word, GoodCounts, GoodReaderState, G
 use Rattle.gen_core.specs.Conditions.{MaySplit, MayJoin}
 use Rattle.gen_core.specs.Events.{newcomer, sees, after_load_root, after_split, after_join}
 use Rattle.gen_core.proofs.Lists.{all_at, count_by-set, count_by-push}
-use Rattle.gen_core.proofs.Writer.{last_at, some-commit}
+use Rattle.gen_core.proofs.GoodViews.{good_view, some-commit}
+use Rattle.gen_core.proofs.ViewLemmas.{last_at}
 
 abbrev ReaderFits : State → ReaderView → Type 0
 ReaderFits s = GoodReader s.writer.sizes s.writer.queue s.writer.commits
@@ -35,7 +36,7 @@ module _ (reaches : ℕ → Records → ℕ → List ℕ) (lawful : ℕ → Reco
       let new : GoodReader w.sizes w.queue w.commits v = record {
         same_sizes = λ e. old.same_sizes (λ is. off (sym may ∙ is));
         seen = omega arith;
-        saw = All-cons (IsCommit w.commits) (last_number w.commits, last_image w.commits) r.saw (last_at w.commits (some-commit reaches lawful s g)) old.saw;
+        saw = All-cons (IsCommit w.commits) (last_number w.commits, last_image w.commits) r.saw (last_at w.commits (some-commit s.writer (good_view reaches lawful s g))) old.saw;
         least = old.least;
         state = record {
           raised = raised;

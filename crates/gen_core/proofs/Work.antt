@@ -65,8 +65,8 @@ whole-found w ref ws e = by_width (active_in w.buffers (buffer_of w.sizes.offset
     by_width (Some width) at is = by_entry width at (is_entry w.sizes width ref) refl is
 
 -- a record of the writer is whole in the work, or of the last commit
-pub writer_records-found : (w : WriterView) (ref : ℕ) → 0 < length (writer_records w ref) → (record_at (last_image w.commits) ref ≡ Some (writer_records w ref)) ⊎ IsWhole w ref (writer_records w ref)
-writer_records-found w ref some = by_whole (whole_at w ref) refl some
+pub records-found : (w : WriterView) (ref : ℕ) → 0 < length (writer_records w ref) → (record_at (last_image w.commits) ref ≡ Some (writer_records w ref)) ⊎ IsWhole w ref (writer_records w ref)
+records-found w ref some = by_whole (whole_at w ref) refl some
   where
     by_last : (o : Option (List ℕ)) → 0 < length (unwrap_or o []) → o ≡ Some (unwrap_or o [])
     by_last None h = absurd (omega arith)

@@ -1,78 +1,27 @@
 -- The writer's events keep the invariant.
-use Rattle.std.proofs.Common.{◌≡◌, ◌≢◌, ℕ, suc, ◌+◌, ◌*◌, ◌<◌, ◌≤◌, List, [], ◌∷◌, ◌++◌, length, set, Option, Some, None, Bool, cond, eqb, true, false, refl, sym, ap, ◌∙◌, subst, ⊎_elim, arith, length-set, slice_index, eqb-true, eq-eqb, true≢false, mul-le-mul_right, suc-mul}
+use Rattle.std.proofs.Common.{◌≡◌, ◌≢◌, ℕ, suc, ◌+◌, ◌*◌, ◌<◌, ◌≤◌, List, ◌∷◌, ◌++◌, length, set, Option, Some, None, Bool, cond, eqb, true, false, refl, sym, ap, ◌∙◌, subst, ⊎_elim, arith, length-set, slice_index, eqb-true, eq-eqb, true≢false, mul-le-mul_right, suc-mul}
 use mathlib.Core.Logic.{dite}
 use native.Mathlib.Decide.{ℕ_discrete}
 use Rattle.std.proofs.Math.Seq.{get_or-set_other, get_or-set_same}
-use Rattle.std.specs.Prelude.{slice_get, All, option_and_then}
+use Rattle.std.specs.Prelude.{slice_get, option_and_then}
 use Rattle.std.proofs.lemmas.Option.{slice_get_within}
-use Rattle.std.proofs.lemmas.List.Elements.{All-nil, All-cons, All-weaker}
 use Rattle.entry_ref.specs.References.{buffer_of}
-use Rattle.image_base.specs.declared.Image.{Image}
-use Rattle.image_base.specs.Records.{Records, AllThere, pairs_of}
+use Rattle.image_base.specs.Records.{Records}
 use Rattle.image_base.specs.Places.{base, state_place}
 use Rattle.gen_core.specs.declared.views.Sizes.{Sizes}
 use Rattle.gen_core.specs.declared.views.Tag.{Tag}
 use Rattle.gen_core.specs.declared.views.Buffer.{Buffer}
 use Rattle.gen_core.specs.declared.views.Buffer.TheVariants.{Free, Active, Held}
-use Rattle.gen_core.specs.Views.{floor_of, kept_of, last_number, last_image, IsCommit, state_word, record_width, width_in, active_width, active_in, last_tag_in}
+use Rattle.gen_core.specs.Views.{kept_of, state_word, record_width, width_in, active_width, last_tag_in}
 use Rattle.gen_core.specs.Work.{work_at}
-use Rattle.gen_core.specs.Good.{State, IsWorkPlace, HoldFits, Good}
+use Rattle.gen_core.specs.Good.{State, IsWorkPlace, Good}
 use Rattle.gen_core.specs.Conditions.{MayStoreWidth, MayStoreWord, MayHandOut}
 use Rattle.gen_core.specs.Events.{with_buffer, after_store_width, after_store_word, after_hand_out}
-use Rattle.gen_core.proofs.Holds.{at_oldest}
-use Rattle.gen_core.proofs.Lists.{at_set, at_other, at_same, at_longer}
+use Rattle.gen_core.proofs.Lists.{at_set, at_other, at_same}
 use Rattle.gen_core.proofs.Frames.{IsBehind, active-behind, behind-base, base-same, behind-high, names-set, counts-set, records-set, records-behind, active-inside, active-below}
-
--- an active buffer's width is its records' width
-pub active-width : (buffers : List Buffer) (b width : ℕ) → active_in buffers b ≡ Some width → width_in buffers b ≡ Some width
-active-width buffers b width e = by_buffer (slice_get buffers b) e
-  where
-    by_buffer : (o : Option Buffer) → option_and_then active_width o ≡ Some width → option_and_then record_width o ≡ Some width
-    by_buffer None h = absurd (cc)
-    by_buffer (Some (Free last)) h = absurd (cc)
-    by_buffer (Some (Active n last)) h = h
-    by_buffer (Some (Held n tag)) h = absurd (cc)
-
--- and its state is 1
-active-there : (buffers : List Buffer) (b width : ℕ) → active_in buffers b ≡ Some width → (last : Option Tag) × (slice_get buffers b ≡ Some (Active width last))
-active-there buffers b width e = by_buffer (slice_get buffers b) refl e
-  where
-    by_buffer : (o : Option Buffer) → slice_get buffers b ≡ o → option_and_then active_width o ≡ Some width → (last : Option Tag) × (slice_get buffers b ≡ Some (Active width last))
-    by_buffer None at h = absurd (cc)
-    by_buffer (Some (Free last)) at h = absurd (cc)
-    by_buffer (Some (Active n last)) at h = let same : n ≡ width = cc in (last, at ∙ ap (λ m. Some (Active m last)) same)
-    by_buffer (Some (Held n tag)) at h = absurd (cc)
-
--- a list of commits that is not empty has its last one at its last number
-pub last_at : (commits : List Image) → 0 < length commits → slice_get commits (last_number commits) ≡ Some (last_image commits)
-last_at [] some = absurd (omega arith)
-last_at (x ∷ []) some = refl
-last_at (x ∷ y ∷ ys) some =
-    let e : last_number (x ∷ y ∷ ys) ≡ suc (last_number (y ∷ ys)) = omega arith in
-    let P : ℕ → Type 0 = λ n. slice_get (x ∷ y ∷ ys) n ≡ Some (last_image (y ∷ ys)) in
-    subst P (sym e) (last_at (y ∷ ys) (omega arith))
-
-pub last_image-push : (commits : List Image) (image : Image) → last_image (commits ++ image ∷ []) ≡ image
-last_image-push [] image = refl
-last_image-push (x ∷ []) image = refl
-last_image-push (x ∷ y ∷ ys) image = last_image-push (y ∷ ys) image
-
-pub commits-longer : (commits : List Image) (image : Image) (saw : List (ℕ × Image)) → All (IsCommit commits) saw → All (IsCommit (commits ++ image ∷ [])) saw
-commits-longer commits image saw all = All-weaker (IsCommit commits) (IsCommit (commits ++ image ∷ [])) (λ seen at. at_longer commits (image ∷ []) seen.0 seen.1 at) saw all
-
--- what holds of each reference with its words holds of each pair of an image
-pub all_pairs : (P : ℕ × List ℕ → Type 0) (refs : List ℕ) (m : Records) → AllThere refs m → ((r : ℕ) → 0 < length (m r) → P (r, m r)) → All P (pairs_of refs m)
-all_pairs P [] m all each = All-nil P
-all_pairs P (r ∷ rs) m all each = All-cons P (r, m r) (pairs_of rs m) (each r all.0) (all_pairs P rs m all.1 each)
+use Rattle.gen_core.proofs.ViewLemmas.{active-width, active-there}
 
 module _ (reaches : ℕ → Records → ℕ → List ℕ) (lawful : ℕ → Records → ℕ → Type 0) where
-  -- there is a commit, and the last one is kept
-  pub some-commit : (s : State) → Good reaches lawful s → 0 < length s.writer.commits
-  some-commit s g = slice_get_within s.writer.commits 0 _ g.commits.empty
-
-  pub floor-last : (s : State) → Good reaches lawful s → floor_of s.writer ≤ last_number s.writer.commits
-  floor-last s g = (at_oldest (HoldFits s.writer.commits) s.writer.queue.older s.writer.queue.newest g.queue.each).first_commit
-
   pub store_word_keeps : (s : State) (p n : ℕ) → Good reaches lawful s → MayStoreWord s.writer p → Good reaches lawful (after_store_word s p n)
   store_word_keeps s p n g may =
       let sizes : Sizes = s.writer.sizes in

@@ -14,12 +14,11 @@ use Rattle.gen_core.specs.declared.views.Sizes.{Sizes}
 use Rattle.gen_core.specs.declared.views.WriterView.{WriterView}
 use Rattle.gen_core.specs.Views.{active_in, last_image}
 use Rattle.gen_core.specs.Work.{work_at, place_in, IsWhole, prepend, run_at, is_entry, only_if, whole_by, whole_at, writer_records, next_image}
-use Rattle.gen_core.specs.Good.{State, IsPlaced, IsApart, Avoids, Good}
+use Rattle.gen_core.specs.Good.{IsPlaced}
 use Rattle.gen_core.specs.Events.{stored, published}
 use Rattle.gen_core.proofs.Lists.{all_found}
-use Rattle.gen_core.proofs.Work.{is_entry-true, whole-found, writer_records-found}
-use Rattle.gen_core.proofs.Writer.{active-width, last_image-push}
-use Rattle.gen_core.proofs.Publish.{last_kept}
+use Rattle.gen_core.proofs.Work.{is_entry-true, whole-found, records-found}
+use Rattle.gen_core.proofs.ViewLemmas.{last_image-push}
 
 run-made : (work : List (ℕ × ℕ)) (ws : List ℕ) (p : ℕ) → ((i : ℕ) → i < length ws → work_at work (p + i) ≡ Some (slice_index ws i)) → run_at work p (length ws) ≡ Some ws
 unfolding run_at
@@ -48,12 +47,12 @@ whole-made w ref ws h =
     ∙ ap (λ t. only_if t (run_at w.work start (length ws))) (entry-true w.sizes (length ws) ref h.entry)
     ∙ run-made w.work ws start (λ i lt. let at : start + i ≡ place_in w.sizes (length ws) ref i = omega arith in ap (work_at w.work) at ∙ h.words i lt)
 
-pub writer_records-whole : (w : WriterView) (ref : ℕ) (ws : List ℕ) → IsWhole w ref ws → writer_records w ref ≡ ws
-writer_records-whole w ref ws h = ap (λ o. unwrap_or o (words_at (last_image w.commits) ref)) (whole-made w ref ws h)
+pub records-whole : (w : WriterView) (ref : ℕ) (ws : List ℕ) → IsWhole w ref ws → writer_records w ref ≡ ws
+records-whole w ref ws h = ap (λ o. unwrap_or o (words_at (last_image w.commits) ref)) (whole-made w ref ws h)
 
 -- after a publish the records are the image's
-pub writer_records-published : (w : WriterView) (image : Image) (ref : ℕ) → writer_records (published w image) ref ≡ words_at image ref
-writer_records-published w image ref = by_whole (whole_at (published w image) ref) refl ∙ ap (λ x. words_at x ref) (last_image-push w.commits image)
+pub records-published : (w : WriterView) (image : Image) (ref : ℕ) → writer_records (published w image) ref ≡ words_at image ref
+records-published w image ref = by_whole (whole_at (published w image) ref) refl ∙ ap (λ x. words_at x ref) (last_image-push w.commits image)
   where
     by_whole : (o : Option (List ℕ)) → whole_at (published w image) ref ≡ o
         → unwrap_or o (words_at (last_image (published w image).commits) ref) ≡ words_at (last_image (published w image).commits) ref
@@ -69,7 +68,7 @@ pub publish-tells : (reaches : ℕ → Records → ℕ → List ℕ) (w : Writer
 publish-tells reaches w root =
     let refs : List ℕ = reaches w.sizes.shape (writer_records w) root in
     let image : Image = next_image reaches w root in
-    subst (λ (m : Records). SameAt refs (writer_records w) m) (λ k ref. sym (writer_records-published w image ref) k) (pairs-same refs (writer_records w))
+    subst (λ (m : Records). SameAt refs (writer_records w) m) (λ k ref. sym (records-published w image ref) k) (pairs-same refs (writer_records w))
 
 -- a stored word leaves what is read beside it
 run-other : (work : List (ℕ × ℕ)) (p n start count : ℕ) → ((i : ℕ) → i < count → start + i ≢ p) → run_at ((p, n) ∷ work) start count ≡ run_at work start count
@@ -81,9 +80,9 @@ run-other work p n start (suc count) apart =
     (λ k. prepend (cond (here k) (Some n) (work_at work start)) (rest k))
 
 -- storing a word of one entry leaves the other records
-pub writer_records-others : (w : WriterView) (ref width i n : ℕ) → active_in w.buffers (buffer_of w.sizes.offset_bits ref) ≡ Some width → IsEntry w.sizes.offset_bits w.sizes.buffers w.sizes.words width ref → i < width
+pub records-others : (w : WriterView) (ref width i n : ℕ) → active_in w.buffers (buffer_of w.sizes.offset_bits ref) ≡ Some width → IsEntry w.sizes.offset_bits w.sizes.buffers w.sizes.words width ref → i < width
     → (q : ℕ) → q ≢ ref → writer_records (stored w (place_in w.sizes width ref i) n) q ≡ writer_records w q
-writer_records-others w ref width i n at e lt q other = ap (λ o. unwrap_or o (words_at (last_image w.commits) q)) (by_width (active_in w.buffers (buffer_of w.sizes.offset_bits q)) refl)
+records-others w ref width i n at e lt q other = ap (λ o. unwrap_or o (words_at (last_image w.commits) q)) (by_width (active_in w.buffers (buffer_of w.sizes.offset_bits q)) refl)
   where
     some-same : (x y : ℕ) → Some x ≡ Some y → x ≡ y
     some-same x y h = cc
@@ -103,30 +102,9 @@ writer_records-others w ref width i n at e lt q other = ap (λ o. unwrap_or o (w
     by_width (Some x) there = by_entry x there (is_entry w.sizes x q) refl
 
 -- a record of the writer has a reference of 32 bits, where its last commit's records lie in their buffers
-pub writer_records-small : (w : WriterView) → w.sizes.words ≤ 65536 → w.sizes.words ≤ offset_limit w.sizes.offset_bits → All (IsPlaced w.sizes w.buffers) (last_image w.commits).records
+pub records-small : (w : WriterView) → w.sizes.words ≤ 65536 → w.sizes.words ≤ offset_limit w.sizes.offset_bits → All (IsPlaced w.sizes w.buffers) (last_image w.commits).records
     → (ref : ℕ) → 0 < length (writer_records w ref) → ref < 2 ^ 32
-writer_records-small w few limit placed ref there = ⊎_elim
+records-small w few limit placed ref there = ⊎_elim
     (λ (old : record_at (last_image w.commits) ref ≡ Some (writer_records w ref)). entry-small (all_found (IsPlaced w.sizes w.buffers) (last_image w.commits).records ref _ placed old).inside few limit)
     (λ (whole : IsWhole w ref (writer_records w ref)). entry-small whole.entry few limit)
-    (writer_records-found w ref there)
-
-module _ (reaches : ℕ → Records → ℕ → List ℕ) (lawful : ℕ → Records → ℕ → Type 0) where
-  -- the last commit's records are the writer's
-  pub writer_records-kept : (s : State) → Good reaches lawful s → (ref : ℕ) (ws : List ℕ) → record_at (last_image s.writer.commits) ref ≡ Some ws → writer_records s.writer ref ≡ ws
-  writer_records-kept s g ref ws there = by_whole (whole_at s.writer ref) refl
-    where
-      some-same : (x y : ℕ) → Some x ≡ Some y → x ≡ y
-      some-same x y h = cc
-
-      by_whole : (o : Option (List ℕ)) → whole_at s.writer ref ≡ o → unwrap_or o (words_at (last_image s.writer.commits) ref) ≡ ws
-      by_whole None e = ap (λ o. unwrap_or o []) there
-      by_whole (Some xs) e =
-          let w : WriterView = s.writer in
-          let h = whole-found w ref xs e in
-          let placed = all_found (IsPlaced w.sizes w.buffers) (last_image w.commits).records ref ws (last_kept reaches lawful s (λ image. All (IsPlaced w.sizes w.buffers) image.records) g g.places.records) there in
-          let long : length xs ≡ length ws = some-same _ _ (sym (active-width w.buffers _ _ h.active) ∙ placed.width) in
-          let p : ℕ = place_in w.sizes (length xs) ref 0 in
-          let stored_word = g.places.stored p _ (h.words 0 h.entry.wide) in
-          let far = all_found (λ pair. IsApart w.sizes p (length pair.1) pair.0) (last_image w.commits).records ref ws
-          (last_kept reaches lawful s (Avoids w.sizes p) g stored_word.apart).records there in
-          absurd (far.each 0 placed.inside.wide (ap (λ n. place_in w.sizes n ref 0) (sym long)))
+    (records-found w ref there)

@@ -2,6 +2,7 @@
 
 ghost use Rattle.gen_core.specs.Laws.{KeepsGood, HandsOutUnguarded, EventKeepsGood, LoadsImageWord, LoadsWidth, KeepsGuarded, StoreLeavesKept, WidthLeavesKept, PublishedStands, PublishesWhole, RecordsAreFound, FoundAreRecords, RecordsStand, LoadsLaterCommit, KeepsCommits, ViewIsGood, OddIsPassed, AimIsNotBelow, CloseFindsUse, ProbeFindsUse, CountsAreSmall, NoneIsBelowZero, FloorStays};
 ghost use Rattle.gen_core.specs.Steps.{EventIsOneStep};
+ghost use Rattle.gen_core.specs.Needed.{NeedsActive, NeedsApart, NeedsActiveWidth, NeedsNoWidth, NeedsFree, NeedsLawful, NeedsRecords, NeedsNumber, NeedsSeat, RootBeforeRaise, OpensByZero, LastBeforeOpen, ForgetsTheBounce, MorphBesideNext, CloseMovesNoFloor, FreesAtTheOldest, TagsTooEarly};
 
 use image_base::Layout;
 
@@ -87,4 +88,29 @@ pub fn count_law<L: Layout>()
 /// The first kept commit never falls.
 pub fn floor_law<L: Layout>()
     ensures { FloorStays L.reaches L.lawful }
+{}
+
+/// A step without its condition breaks the invariant.
+pub fn conditions_law<L: Layout>()
+    ensures active { NeedsActive L.reaches L.lawful }
+    ensures apart { NeedsApart L.reaches L.lawful }
+    ensures active_width { NeedsActiveWidth L.reaches L.lawful }
+    ensures no_width { NeedsNoWidth L.reaches L.lawful }
+    ensures free { NeedsFree L.reaches L.lawful }
+    ensures lawful { NeedsLawful L.reaches L.lawful }
+    ensures records { NeedsRecords L.reaches L.lawful }
+    ensures number { NeedsNumber L.reaches L.lawful }
+    ensures seat { NeedsSeat L.reaches L.lawful }
+{}
+
+/// And so does each of the wrong steps that the protocol is made against.
+pub fn wrong_steps_law<L: Layout>()
+    ensures root_before_raise { RootBeforeRaise L.reaches L.lawful }
+    ensures opens_a_hold_by_zero { OpensByZero L.reaches L.lawful }
+    ensures last_before_the_hold_is_open { LastBeforeOpen L.reaches L.lawful }
+    ensures forgets_the_bounce { ForgetsTheBounce L.reaches L.lawful }
+    ensures morph_beside_a_reopened_hold { MorphBesideNext L.reaches L.lawful }
+    ensures close_moves_no_floor { CloseMovesNoFloor L.reaches L.lawful }
+    ensures frees_at_the_oldest { FreesAtTheOldest L.reaches L.lawful }
+    ensures tags_too_early { TagsTooEarly L.reaches L.lawful }
 {}
