@@ -41,7 +41,7 @@ is_entry sizes width ref =
     nat_lt (buffer_of sizes.offset_bits ref) sizes.buffers
     && (nat_lt 0 width && (nat_lt 0 (offset_of sizes.offset_bits ref) && nat_le (offset_of sizes.offset_bits ref * width + width) sizes.words))
 
-abbrev pub only_if : Bool → Option (List ℕ) → Option (List ℕ)
+abbrev pub only_if : {A : Type 0} → Bool → Option A → Option A
 only_if true o = o
 only_if false o = None
 
@@ -59,3 +59,11 @@ writer_records w ref = unwrap_or (whole_at w ref) (words_at (last_image w.commit
 -- the image of a root in the writer's records, where a layout says what a root reaches
 abbrev pub next_image : (ℕ → Records → ℕ → List ℕ) → WriterView → ℕ → Image
 next_image reaches w root = image_of (reaches w.sizes.shape (writer_records w) root) (writer_records w) root
+
+abbrev pub stored_in : WriterView → ℕ → ℕ → Option ℕ → Option ℕ
+stored_in w ref i None = None
+stored_in w ref i (Some width) = only_if (is_entry w.sizes width ref && nat_lt i width) (work_at w.work (place_in w.sizes width ref i))
+
+-- word i of an entry, where it was stored since the last commit
+abbrev pub stored_by : WriterView → ℕ → ℕ → Option ℕ
+stored_by w ref i = stored_in w ref i (active_in w.buffers (buffer_of w.sizes.offset_bits ref))

@@ -2,6 +2,7 @@
 
 ghost use Rattle.gen_core.specs.Laws.{KeepsGood, HandsOutUnguarded, EventKeepsGood, LoadsImageWord, LoadsWidth, KeepsGuarded, StoreLeavesKept, WidthLeavesKept, PublishedStands, PublishesWhole, RecordsAreFound, FoundAreRecords, RecordsStand, LoadsLaterCommit, KeepsCommits, ViewIsGood, OddIsPassed, AimIsNotBelow, CloseFindsUse, ProbeFindsUse, CountsAreSmall, NoneIsBelowZero, FloorStays};
 ghost use Rattle.gen_core.specs.Steps.{EventIsOneStep};
+ghost use Rattle.gen_core.specs.ViewLaws.{LastIsKept, LastAreRecords, RecordsLieActive, KeptArePlaced, UnkeptAvoids, StoresOneWord, StoreLeavesOthers, HandsOutNothing, PublishesRecords};
 ghost use Rattle.gen_core.specs.Needed.{NeedsActive, NeedsApart, NeedsActiveWidth, NeedsNoWidth, NeedsFree, NeedsLawful, NeedsRecords, NeedsNumber, NeedsSeat, RootBeforeRaise, OpensByZero, LastBeforeOpen, ForgetsTheBounce, MorphBesideNext, CloseMovesNoFloor, FreesAtTheOldest, TagsTooEarly};
 
 use image_base::Layout;
@@ -58,6 +59,23 @@ pub fn commits_law<L: Layout>()
 /// What is good of a state is good of the writer's view alone, so that its seat needs no more.
 pub fn view_law<L: Layout>()
     ensures { ViewIsGood L.reaches L.lawful }
+{}
+
+/// What the writer's seat knows by its view: its last commit, its records, and where it may write.
+pub fn seat_law()
+    ensures last { LastIsKept }
+    ensures records { LastAreRecords }
+    ensures active { RecordsLieActive }
+    ensures placed { KeptArePlaced }
+    ensures unkept { UnkeptAvoids }
+{}
+
+/// What a store, a hand out and a publish make of the writer's records.
+pub fn work_law()
+    ensures stored { StoresOneWord }
+    ensures others { StoreLeavesOthers }
+    ensures handed_out { HandsOutNothing }
+    ensures published { PublishesRecords }
 {}
 
 /// Each event is one operation on one word by one seat, and changes that seat's view alone; a split
