@@ -5,6 +5,8 @@ ghost use Rattle.gen_core.specs.Steps.{EventIsOneStep};
 ghost use Rattle.gen_core.specs.ViewLaws.{LastIsKept, LastAreRecords, RecordsLieActive, KeptArePlaced, UnkeptAvoids, StoresOneWord, StoreLeavesOthers, HandsOutNothing, PublishesRecords};
 ghost use Rattle.gen_core.specs.Needed.{NeedsActive, NeedsApart, NeedsActiveWidth, NeedsNoWidth, NeedsFree, NeedsLawful, NeedsRecords, NeedsNumber, NeedsSeat, RootBeforeRaise, OpensByZero, LastBeforeOpen, ForgetsTheBounce, MorphBesideNext, CloseMovesNoFloor, FreesAtTheOldest, TagsTooEarly};
 
+ghost use Rattle.gen_core.specs.Examples.{Ends, hold_sizes, buffer_sizes, missed_events, missed_end, renewed_events, renewed_end, closed_events, closed_end, reopened_events, reopened_end, again_events, again_end, stored_events, stored_end};
+
 use image_base::Layout;
 
 /// Every list of events from the opening keeps the invariant, and where a buffer is handed out no
@@ -131,4 +133,14 @@ pub fn wrong_steps_law<L: Layout>()
     ensures close_moves_no_floor { CloseMovesNoFloor L.reaches L.lawful }
     ensures frees_at_the_oldest { FreesAtTheOldest L.reaches L.lawful }
     ensures tags_too_early { TagsTooEarly L.reaches L.lawful }
+{}
+
+/// Lists of events that happen, with the state that each ends in.
+pub fn examples_law()
+    ensures missed { Ends hold_sizes missed_events missed_end }
+    ensures renewed { Ends hold_sizes renewed_events renewed_end }
+    ensures closed { Ends hold_sizes closed_events closed_end }
+    ensures reopened { Ends hold_sizes reopened_events reopened_end }
+    ensures again { Ends buffer_sizes again_events again_end }
+    ensures stored { Ends buffer_sizes stored_events stored_end }
 {}
