@@ -1,5 +1,5 @@
 -- The writer's events on holds keep the invariant.
-use Rattle.std.proofs.Common.{◌≡◌, ◌≢◌, ℕ, zero, ◌+◌, ◌-◌, ◌*◌, ◌<◌, ◌≤◌, List, [], ◌∷◌, ◌++◌, drop, set, Some, true, false, refl, sym, ap, ◌∙◌, subst, arith, length-set, length-append, slice_index, eq-eqb, ne_eqb, true≢false}
+use Rattle.std.proofs.Common.{◌≡◌, ℕ, ◌+◌, ◌-◌, ◌*◌, ◌<◌, ◌≤◌, List, [], ◌∷◌, ◌++◌, drop, set, Some, true, false, refl, sym, ap, ◌∙◌, subst, arith, length-append, slice_index, eq-eqb, ne_eqb, true≢false}
 use mathlib.Core.Logic.{dite}
 use native.Mathlib.Decide.{ℕ_discrete}
 use Rattle.std.proofs.Math.Seq.{get_or-set_other, get_or-set_same}
@@ -23,9 +23,10 @@ use Rattle.gen_core.specs.Conditions.{MayReopen, MayProbe}
 use Rattle.gen_core.specs.Events.{after_reopen, coming_hold, after_store_newest, after_probe, count_at, after_stop}
 use Rattle.gen_core.proofs.Lists.{all_at, all_from}
 use Rattle.gen_core.proofs.Lists.{count_none}
-use Rattle.gen_core.proofs.Frames.{names-hold, memory-low}
+use Rattle.gen_core.proofs.Frames.{names-hold, memory-low, sizes-set}
 use Rattle.gen_core.proofs.Holds.{at_newest, oldest-push, newest-most, any-none, or-false, or-left, any-push}
 use Rattle.gen_core.specs.declared.views.Queue.{Queue}
+use Rattle.gen_core.proofs.StoredWords.{p}
 
 -- what is said of tags does not read what is pending
 tags-pending : {bits : ℕ} {queue : Queue} {commits : List Image} {buffers : List Buffer} → GoodTags bits queue commits buffers
@@ -43,7 +44,7 @@ module _ (reaches : ℕ → Records → ℕ → List ℕ) (lawful : ℕ → Reco
 
   pub reopen_keeps : (s : State) (h : ℕ) → Good reaches lawful s → MayReopen s.writer h → Good reaches lawful (after_reopen s h)
   reopen_keeps s h g may = record {
-    sizes = record { table = length-set s.words (hold_place h) _ ∙ g.sizes.table; count = g.sizes.count; some_word = g.sizes.some_word; commit_limit = g.sizes.commit_limit; generation_limit = g.sizes.generation_limit };
+    sizes = sizes-set g.sizes (hold_place h) _;
     queue = record {
       few = g.queue.few;
       rising = g.queue.rising;
@@ -71,19 +72,19 @@ module _ (reaches : ℕ → Records → ℕ → List ℕ) (lawful : ℕ → Reco
           ≡ hold_word (count_by (λ q. is_counted_on k q.state) s.readers) (is_open (queue_of s.writer.queue.older s.writer.queue.newest (Next h)) k)
       counts k lt = dite (ℕ_discrete k h)
           (λ same.
-            let old : slice_index s.words (hold_place k) ≡ 2 * count_by (λ q. is_counted_on k q.state) s.readers + 1 =
-                g.counts.counts k lt ∙ ap (hold_word _) (was k ∙ ap (λ i. list_any (λ e. nat_eq e.hold i) (open_holds s.writer.queue)) same ∙ closed) in
-            let here : slice_index (set s.words (hold_place h) (slice_index s.words (hold_place h) - 1)) (hold_place k) ≡ slice_index s.words (hold_place k) - 1 =
-                ap (λ i. slice_index (set s.words (hold_place h) (slice_index s.words (hold_place h) - 1)) (hold_place i)) same
-                ∙ get_or-set_same s.words (hold_place h) _ 0 (let l = may.hold in omega (arith, l, g.sizes.table)) ∙ ap (λ i. slice_index s.words (hold_place i) - 1) (sym same) in
-            let new : is_open (queue_of s.writer.queue.older s.writer.queue.newest (Next h)) k ≡ true =
-                ap (λ i. list_any (λ e. nat_eq e.hold i) (open_holds s.writer.queue) || nat_eq h i) same ∙ ap (λ t. t || nat_eq h h) closed ∙ eq-eqb h h refl in
-            let word : slice_index (set s.words (hold_place h) (slice_index s.words (hold_place h) - 1)) (hold_place k) ≡ 2 * count_by (λ q. is_counted_on k q.state) s.readers + 0 = omega (arith, old, here) in
-            word ∙ sym (ap (hold_word _) new))
+          let old : slice_index s.words (hold_place k) ≡ 2 * count_by (λ q. is_counted_on k q.state) s.readers + 1 =
+          g.counts.counts k lt ∙ ap (hold_word _) (was k ∙ ap (λ i. list_any (λ e. nat_eq e.hold i) (open_holds s.writer.queue)) same ∙ closed) in
+          let here : slice_index (set s.words (hold_place h) (slice_index s.words (hold_place h) - 1)) (hold_place k) ≡ slice_index s.words (hold_place k) - 1 =
+          ap (λ i. slice_index (set s.words (hold_place h) (slice_index s.words (hold_place h) - 1)) (hold_place i)) same
+          ∙ get_or-set_same s.words (hold_place h) _ 0 (let l = may.hold in omega (arith, l, g.sizes.table)) ∙ ap (λ i. slice_index s.words (hold_place i) - 1) (sym same) in
+          let new : is_open (queue_of s.writer.queue.older s.writer.queue.newest (Next h)) k ≡ true =
+          ap (λ i. list_any (λ e. nat_eq e.hold i) (open_holds s.writer.queue) || nat_eq h i) same ∙ ap (λ t. t || nat_eq h h) closed ∙ eq-eqb h h refl in
+          let word : slice_index (set s.words (hold_place h) (slice_index s.words (hold_place h) - 1)) (hold_place k) ≡ 2 * count_by (λ q. is_counted_on k q.state) s.readers + 0 = omega (arith, old, here) in
+          word ∙ sym (ap (hold_word _) new))
           (λ other.
-            let new : is_open s.writer.queue k ≡ is_open (queue_of s.writer.queue.older s.writer.queue.newest (Next h)) k =
-                was k ∙ sym (ap (λ t. list_any (λ e. nat_eq e.hold k) (open_holds s.writer.queue) || t) (ne_eqb h k (λ e. other (sym e))) ∙ or-false _) in
-            get_or-set_other s.words (hold_place h) (hold_place k) _ 0 (λ e. other (omega arith)) ∙ g.counts.counts k lt ∙ ap (hold_word _) new)
+          let new : is_open s.writer.queue k ≡ is_open (queue_of s.writer.queue.older s.writer.queue.newest (Next h)) k =
+          was k ∙ sym (ap (λ t. list_any (λ e. nat_eq e.hold k) (open_holds s.writer.queue) || t) (ne_eqb h k (λ e. other (sym e))) ∙ or-false _) in
+          get_or-set_other s.words (hold_place h) (hold_place k) _ 0 (λ e. other (omega arith)) ∙ g.counts.counts k lt ∙ ap (hold_word _) new)
 
       raised : (k : ℕ) → RaiseFits s.writer.queue k → RaiseFits (queue_of s.writer.queue.older s.writer.queue.newest (Next h)) k
       raised k x = record { hold = x.hold; opened = or-left _ (nat_eq h k) (sym (was k) ∙ x.opened) }
@@ -109,7 +110,7 @@ module _ (reaches : ℕ → Records → ℕ → List ℕ) (lawful : ℕ → Reco
 
   pub store_newest_keeps : (s : State) (h : ℕ) → Good reaches lawful s → s.writer.queue.pending ≡ Next h → Good reaches lawful (after_store_newest s h)
   store_newest_keeps s h g next = record {
-    sizes = record { table = length-set s.words 1 _ ∙ g.sizes.table; count = g.sizes.count; some_word = g.sizes.some_word; commit_limit = g.sizes.commit_limit; generation_limit = g.sizes.generation_limit };
+    sizes = sizes-set g.sizes 1 _;
     queue = record {
       few = let room = come.room in omega (arith, room, length-append s.writer.queue.older (s.writer.queue.newest ∷ []));
       rising = all_pairs_push IsBefore (open_holds s.writer.queue) (coming_hold s.writer h) g.queue.rising

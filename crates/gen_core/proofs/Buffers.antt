@@ -1,5 +1,5 @@
 -- A buffer is put on hold, or given back.
-use Rattle.std.proofs.Common.{◌≡◌, ◌≢◌, ◌⊎◌, ℕ, ◌+◌, ◌-◌, ◌*◌, ◌<◌, ◌≤◌, List, ◌∷◌, ◌++◌, length, drop, get_or, set, Some, None, sym, ap, ◌∙◌, subst, ⊎_elim, arith, length-set, length-drop, slice_index}
+use Rattle.std.proofs.Common.{◌≡◌, ◌≢◌, ℕ, ◌+◌, ◌<◌, ◌≤◌, List, length, drop, get_or, set, Some, None, sym, ap, ◌∙◌, subst, ⊎_elim, arith, length-set, length-drop, slice_index}
 use mathlib.Core.Logic.{dite}
 use native.Mathlib.Decide.{ℕ_discrete}
 use Rattle.std.proofs.Math.Seq.{get_or-set_other, get_or-set_same}
@@ -42,10 +42,10 @@ module _ (reaches : ℕ → Records → ℕ → List ℕ) (lawful : ℕ → Reco
       newest_hold = get_or-set_other s.words (state_place b) 1 _ 0 (λ e. omega arith) ∙ g.names.newest_hold;
       states = λ c y at. ⊎_elim
           (λ (h : (c ≡ b) × (x ≡ y)).
-            ap (λ k. slice_index (set s.words (state_place b) (state_word x)) (state_place k)) h.0
-            ∙ get_or-set_same s.words (state_place b) _ 0 (omega (arith, inside, g.sizes.table)) ∙ ap state_word h.1)
+          ap (λ k. slice_index (set s.words (state_place b) (state_word x)) (state_place k)) h.0
+          ∙ get_or-set_same s.words (state_place b) _ 0 (omega (arith, inside, g.sizes.table)) ∙ ap state_word h.1)
           (λ (h : (c ≢ b) × (slice_get s.writer.buffers c ≡ Some y)).
-            let other = h.0 in get_or-set_other s.words (state_place b) (state_place c) _ 0 (λ e. other (omega arith)) ∙ g.names.states c y h.1)
+          let other = h.0 in get_or-set_other s.words (state_place b) (state_place c) _ 0 (λ e. other (omega arith)) ∙ g.names.states c y h.1)
           (at_set s.writer.buffers b c x y at);
     };
     memory = record {
@@ -68,9 +68,14 @@ module _ (reaches : ℕ → Records → ℕ → List ℕ) (lawful : ℕ → Reco
       let a = old.active in
       record {
         active = record {
-          b = a.b; width = a.width; x = a.x;
+          b = a.b;
+          width = a.width;
+          x = a.x;
           active = ap (option_and_then active_width) (at_other s.writer.buffers b a.b x (else q m there a)) ∙ a.active;
-          some = a.some; behind = a.behind; inside = a.inside; is = a.is;
+          some = a.some;
+          behind = a.behind;
+          inside = a.inside;
+          is = a.is;
         };
         apart = old.apart;
       }
@@ -91,8 +96,8 @@ module _ (reaches : ℕ → Records → ℕ → List ℕ) (lawful : ℕ → Reco
       same : (c : ℕ) → width_in (set s.writer.buffers b (Held width (tag_of s.writer))) c ≡ width_in s.writer.buffers c
       same c = dite (ℕ_discrete c b)
           (λ e. ap (width_in (set s.writer.buffers b (Held width (tag_of s.writer)))) e
-            ∙ ap (option_and_then record_width) (at_same s.writer.buffers b (Held width (tag_of s.writer)) below)
-            ∙ sym (ap (width_in s.writer.buffers) e ∙ active-width s.writer.buffers b width may.active))
+          ∙ ap (option_and_then record_width) (at_same s.writer.buffers b (Held width (tag_of s.writer)) below)
+          ∙ sym (ap (width_in s.writer.buffers) e ∙ active-width s.writer.buffers b width may.active))
           (λ ne. ap (option_and_then record_width) (at_other s.writer.buffers b c (Held width (tag_of s.writer)) ne))
 
       free : (c : ℕ) (last : Tag) → slice_get (set s.writer.buffers b (Held width (tag_of s.writer))) c ≡ Some (Free (Some last)) → last.generation < (oldest_of s.writer.queue).generation
@@ -108,8 +113,8 @@ module _ (reaches : ℕ → Records → ℕ → List ℕ) (lawful : ℕ → Reco
           let first : k ≡ 0 = omega (arith, lt, length-drop (last_number s.writer.commits) s.writer.commits, some) in
           let at : last_number s.writer.commits + k ≡ last_number s.writer.commits = omega arith in
           let is : get_or (drop (last_number s.writer.commits) s.writer.commits) k d ≡ last_image s.writer.commits =
-              get_or-drop (last_number s.writer.commits) s.writer.commits k d ∙ ap (λ i. get_or s.writer.commits i d) at
-              ∙ get_or_from_slice_get s.writer.commits (last_number s.writer.commits) _ d (last_at s.writer.commits some) in
+          get_or-drop (last_number s.writer.commits) s.writer.commits k d ∙ ap (λ i. get_or s.writer.commits i d) at
+          ∙ get_or_from_slice_get s.writer.commits (last_number s.writer.commits) _ d (last_at s.writer.commits some) in
           subst (HasNothingIn s.writer.sizes.offset_bits b) (sym is) may.unused
 
       mine : GoodTag s.writer.sizes.offset_bits s.writer.queue s.writer.commits b (tag_of s.writer)
@@ -123,9 +128,9 @@ module _ (reaches : ℕ → Records → ℕ → List ℕ) (lawful : ℕ → Reco
       held : (c w : ℕ) (tag : Tag) → slice_get (set s.writer.buffers b (Held width (tag_of s.writer))) c ≡ Some (Held w tag) → GoodTag s.writer.sizes.offset_bits s.writer.queue s.writer.commits c tag
       held c w tag at = ⊎_elim
           (λ (h : (c ≡ b) × (Held width (tag_of s.writer) ≡ Held w tag)).
-            let e = h.1 in let is : tag_of s.writer ≡ tag = cc in
-            (λ (P : GoodTag s.writer.sizes.offset_bits s.writer.queue s.writer.commits b tag). subst (λ i. GoodTag s.writer.sizes.offset_bits s.writer.queue s.writer.commits i tag) (sym h.0) P)
-            (subst (GoodTag s.writer.sizes.offset_bits s.writer.queue s.writer.commits b) is mine))
+          let e = h.1 in let is : tag_of s.writer ≡ tag = cc in
+          (λ (P : GoodTag s.writer.sizes.offset_bits s.writer.queue s.writer.commits b tag). subst (λ i. GoodTag s.writer.sizes.offset_bits s.writer.queue s.writer.commits i tag) (sym h.0) P)
+          (subst (GoodTag s.writer.sizes.offset_bits s.writer.queue s.writer.commits b) is mine))
           (λ (h : (c ≢ b) × (slice_get s.writer.buffers c ≡ Some (Held w tag))). g.tags.held c w tag h.1)
           (at_set s.writer.buffers b c (Held width (tag_of s.writer)) (Held w tag) at)
 
@@ -165,8 +170,8 @@ module _ (reaches : ℕ → Records → ℕ → List ℕ) (lawful : ℕ → Reco
       widths : (c w : ℕ) → width_in (set s.writer.buffers b (Free (Some tag))) c ≡ Some w → width_in s.writer.buffers c ≡ Some w
       widths c w is = dite (ℕ_discrete c b)
           (λ e.
-            let lt = slice_get_within s.writer.buffers b (Held may.width tag) may.held in
-            let none : width_in (set s.writer.buffers b (Free (Some tag))) c ≡ None =
-                ap (width_in (set s.writer.buffers b (Free (Some tag)))) e ∙ ap (option_and_then record_width) (at_same s.writer.buffers b (Free (Some tag)) lt) in
-            absurd (cc))
+          let lt = slice_get_within s.writer.buffers b (Held may.width tag) may.held in
+          let none : width_in (set s.writer.buffers b (Free (Some tag))) c ≡ None =
+          ap (width_in (set s.writer.buffers b (Free (Some tag)))) e ∙ ap (option_and_then record_width) (at_same s.writer.buffers b (Free (Some tag)) lt) in
+          absurd (cc))
           (λ ne. sym (ap (option_and_then record_width) (at_other s.writer.buffers b c (Free (Some tag)) ne)) ∙ is)

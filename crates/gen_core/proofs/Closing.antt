@@ -1,5 +1,5 @@
 -- The oldest hold is closed, or the newest becomes that of the next generation.
-use Rattle.std.proofs.Common.{◌≡◌, ◌≢◌, ℕ, zero, suc, ◌+◌, ◌-◌, ◌*◌, ◌<◌, ◌≤◌, List, [], ◌∷◌, ◌++◌, length, drop, get_or, set, Some, true, false, sym, ap, ◌∙◌, subst, arith, length-set, length-append, slice_index, eq-eqb, ne_eqb, true≢false}
+use Rattle.std.proofs.Common.{◌≡◌, ◌≢◌, ℕ, suc, ◌+◌, ◌<◌, ◌≤◌, List, [], ◌∷◌, ◌++◌, length, drop, get_or, set, Some, false, sym, ap, ◌∙◌, subst, arith, length-append, slice_index, eq-eqb, ne_eqb, true≢false}
 use mathlib.Core.Logic.{dite}
 use native.Mathlib.Decide.{ℕ_discrete}
 use Rattle.std.proofs.Math.Seq.{get_or-set_other, get_or-set_same}
@@ -23,7 +23,7 @@ use Rattle.gen_core.specs.Good.{State, IsBefore, HoldFits, GoodPlaces, GoodMemor
 use Rattle.gen_core.specs.Conditions.{MayClose}
 use Rattle.gen_core.specs.Events.{coming_hold, after_close, after_morph, count_at}
 use Rattle.gen_core.proofs.Lists.{all_at, all_from, all_drop-more, all-prefix, count_none}
-use Rattle.gen_core.proofs.Frames.{names-hold, memory-low}
+use Rattle.gen_core.proofs.Frames.{names-hold, memory-low, sizes-set}
 use Rattle.gen_core.proofs.Holds.{at_newest, at_oldest, any-none, or-false, any-push}
 
 -- where fewer commits are kept, less is said of them
@@ -40,7 +40,7 @@ module _ (reaches : ℕ → Records → ℕ → List ℕ) (lawful : ℕ → Reco
   close_from : (s : State) (e : OpenHold) (es : List OpenHold) → Good reaches lawful (record { words = s.words; writer = record s.writer { queue = queue_of (e ∷ es) s.writer.queue.newest s.writer.queue.pending }; readers = s.readers })
       → s.writer.queue.pending ≡ Nothing → slice_index s.words (hold_place e.hold) ≡ 0 → Good reaches lawful (after_close s e es)
   close_from s e es g calm unused = record {
-    sizes = record { table = length-set s.words (hold_place e.hold) _ ∙ g.sizes.table; count = g.sizes.count; some_word = g.sizes.some_word; commit_limit = g.sizes.commit_limit; generation_limit = g.sizes.generation_limit };
+    sizes = sizes-set g.sizes (hold_place e.hold) _;
     queue = record {
       few = (let few = g.queue.few in omega arith);
       rising = λ i j d less more. g.queue.rising (suc i) (suc j) d (omega arith) (omega arith);
@@ -84,10 +84,10 @@ module _ (reaches : ℕ → Records → ℕ → List ℕ) (lawful : ℕ → Reco
       counts : (k : ℕ) → k < 16 → slice_index (set s.words (hold_place e.hold) 1) (hold_place k) ≡ hold_word (count_by (λ q. is_counted_on k q.state) s.readers) (is_open (queue_of es s.writer.queue.newest s.writer.queue.pending) k)
       counts k lt = dite (ℕ_discrete k e.hold)
           (λ same.
-            let here : slice_index (set s.words (hold_place e.hold) 1) (hold_place k) ≡ 1 =
-                ap (λ i. slice_index (set s.words (hold_place e.hold) 1) (hold_place i)) same ∙ get_or-set_same s.words (hold_place e.hold) 1 0 (omega (arith, low, g.sizes.table)) in
-            let zero : count_by (λ (q : ReaderView). is_counted_on k q.state) s.readers ≡ 0 = ap (λ i. count_by (λ (q : ReaderView). is_counted_on i q.state) s.readers) same ∙ none in
-            here ∙ (λ i. hold_word (sym zero i) ((sym (ap (is_open (queue_of es s.writer.queue.newest s.writer.queue.pending)) same ∙ closed)) i)))
+          let here : slice_index (set s.words (hold_place e.hold) 1) (hold_place k) ≡ 1 =
+          ap (λ i. slice_index (set s.words (hold_place e.hold) 1) (hold_place i)) same ∙ get_or-set_same s.words (hold_place e.hold) 1 0 (omega (arith, low, g.sizes.table)) in
+          let zero : count_by (λ (q : ReaderView). is_counted_on k q.state) s.readers ≡ 0 = ap (λ i. count_by (λ (q : ReaderView). is_counted_on i q.state) s.readers) same ∙ none in
+          here ∙ (λ i. hold_word (sym zero i) ((sym (ap (is_open (queue_of es s.writer.queue.newest s.writer.queue.pending)) same ∙ closed)) i)))
           (λ other. get_or-set_other s.words (hold_place e.hold) (hold_place k) 1 0 (λ x. other (omega arith)) ∙ g.counts.counts k lt ∙ ap (hold_word _) (opened k other))
 
       raised : (k : ℕ) → nat_eq k e.hold ≡ false → RaiseFits (queue_of (e ∷ es) s.writer.queue.newest s.writer.queue.pending) k → RaiseFits (queue_of es s.writer.queue.newest s.writer.queue.pending) k
@@ -112,8 +112,13 @@ module _ (reaches : ℕ → Records → ℕ → List ℕ) (lawful : ℕ → Reco
 
       reader : (j : ℕ) (r : ReaderView) → slice_get s.readers j ≡ Some r → GoodReader s.writer.sizes (queue_of (e ∷ es) s.writer.queue.newest s.writer.queue.pending) s.writer.commits r
           → GoodReader s.writer.sizes (queue_of es s.writer.queue.newest s.writer.queue.pending) s.writer.commits r
-      reader j r at x = record { same_sizes = x.same_sizes; seen = x.seen; saw = x.saw; least = x.least;
-          state = states r r.state (count_none (λ (q : ReaderView). is_counted_on e.hold q.state) s.readers j r at none) x.state }
+      reader j r at x = record {
+        same_sizes = x.same_sizes;
+        seen = x.seen;
+        saw = x.saw;
+        least = x.least;
+        state = states r r.state (count_none (λ (q : ReaderView). is_counted_on e.hold q.state) s.readers j r at none) x.state;
+      }
 
   pub close_keeps : (s : State) (e : OpenHold) (es : List OpenHold) → Good reaches lawful s → MayClose s.writer e es → count_at s e.hold ≡ 0 → Good reaches lawful (after_close s e es)
   close_keeps s e es g may unused =
@@ -121,7 +126,7 @@ module _ (reaches : ℕ → Records → ℕ → List ℕ) (lawful : ℕ → Reco
 
   pub morph_keeps : (s : State) → Good reaches lawful s → s.writer.queue.pending ≡ Probed → Good reaches lawful (after_morph s)
   morph_keeps s g probed = record {
-    sizes = record { table = length-set s.words 1 _ ∙ g.sizes.table; count = g.sizes.count; some_word = g.sizes.some_word; commit_limit = g.sizes.commit_limit; generation_limit = g.sizes.generation_limit };
+    sizes = sizes-set g.sizes 1 _;
     queue = record {
       few = g.queue.few;
       rising = all_pairs_push IsBefore s.writer.queue.older (coming_hold s.writer s.writer.queue.newest.hold) prefix before;
@@ -181,16 +186,16 @@ module _ (reaches : ℕ → Records → ℕ → List ℕ) (lawful : ℕ → Reco
       prefix i j d less more =
           subst (λ x. IsBefore x (get_or s.writer.queue.older j d)) (get_or_append_left s.writer.queue.older (s.writer.queue.newest ∷ []) d i (omega arith))
           (subst (λ x. IsBefore (get_or (open_holds s.writer.queue) i d) x) (get_or_append_left s.writer.queue.older (s.writer.queue.newest ∷ []) d j more)
-            (g.queue.rising i j d less (omega (arith, more, long))))
+          (g.queue.rising i j d less (omega (arith, more, long))))
 
       before : (k : ℕ) (d : OpenHold) → k < length s.writer.queue.older → IsBefore (get_or s.writer.queue.older k d) (coming_hold s.writer s.writer.queue.newest.hold)
       before k d lt =
           let at : length s.writer.queue.older + 0 ≡ length s.writer.queue.older = omega arith in
           let last : get_or (open_holds s.writer.queue) (length s.writer.queue.older) d ≡ s.writer.queue.newest =
-              ap (λ i. get_or (open_holds s.writer.queue) i d) (sym at) ∙ get_or-append-add s.writer.queue.older (s.writer.queue.newest ∷ []) 0 d in
+          ap (λ i. get_or (open_holds s.writer.queue) i d) (sym at) ∙ get_or-append-add s.writer.queue.older (s.writer.queue.newest ∷ []) 0 d in
           let old : IsBefore (get_or s.writer.queue.older k d) s.writer.queue.newest =
-              subst (λ x. IsBefore x s.writer.queue.newest) (get_or_append_left s.writer.queue.older (s.writer.queue.newest ∷ []) d k lt)
-              (subst (λ x. IsBefore (get_or (open_holds s.writer.queue) k d) x) last (g.queue.rising k (length s.writer.queue.older) d lt (omega (arith, long)))) in
+          subst (λ x. IsBefore x s.writer.queue.newest) (get_or_append_left s.writer.queue.older (s.writer.queue.newest ∷ []) d k lt)
+          (subst (λ x. IsBefore (get_or (open_holds s.writer.queue) k d) x) last (g.queue.rising k (length s.writer.queue.older) d lt (omega (arith, long)))) in
           record { generation = (let h = old.generation in omega arith); hold = old.hold; first_commit = (all-prefix (HoldFits s.writer.commits) s.writer.queue.older (s.writer.queue.newest ∷ []) g.queue.each k d lt).first_commit }
 
       opened : (k : ℕ) → is_open s.writer.queue k ≡ is_open (queue_of s.writer.queue.older (coming_hold s.writer s.writer.queue.newest.hold) Nothing) k

@@ -1,9 +1,9 @@
 -- The readers' events on holds keep the invariant.
-use Rattle.std.proofs.Common.{◌≡◌, ◌≢◌, ℕ, ◌+◌, ◌-◌, ◌*◌, ◌%◌, ◌<◌, ◌≤◌, List, ◌∷◌, set, Some, Bool, true, false, cond, refl, sym, ap, ◌∙◌, subst, arith, length-set, slice_index, eq-eqb, ne_eqb, true≢false}
+use Rattle.std.proofs.Common.{◌≡◌, ◌≢◌, ℕ, ◌+◌, ◌-◌, ◌*◌, ◌%◌, ◌<◌, List, set, Some, Bool, true, false, cond, refl, sym, ap, ◌∙◌, subst, arith, length-set, slice_index, eq-eqb, ne_eqb, true≢false}
 use mathlib.Core.Logic.{dite}
 use native.Mathlib.Decide.{ℕ_discrete}
 use Rattle.std.proofs.Math.Seq.{get_or-set_other, get_or-set_same}
-use Rattle.std.specs.Prelude.{slice_get, count_by, nat_eq, ◌||◌}
+use Rattle.std.specs.Prelude.{slice_get, count_by, nat_eq}
 use Rattle.std.proofs.lemmas.List.Elements.{All-set}
 use Rattle.image_base.specs.Records.{Records}
 use Rattle.gen_core.specs.declared.views.ReaderState.{ReaderState}
@@ -15,7 +15,7 @@ use Rattle.gen_core.specs.Good.{State, hold_word, AimFits, BounceFits, GuardFits
 use Rattle.gen_core.specs.Events.{aims, after_load_newest, found_state, with_state, after_count, after_raise, bounced, after_bounce, after_release}
 use Rattle.gen_core.proofs.Lists.{all_at, one_if, count_moved, count_some}
 use Rattle.gen_core.proofs.Holds.{at_newest, newest-open}
-use Rattle.gen_core.proofs.Frames.{names-hold, memory-low}
+use Rattle.gen_core.proofs.Frames.{names-hold, memory-low, sizes-set}
 
 module _ (reaches : ℕ → Records → ℕ → List ℕ) (lawful : ℕ → Records → ℕ → Type 0) where
   -- one count changes by twice what one view's change counts
@@ -25,7 +25,7 @@ module _ (reaches : ℕ → Records → ℕ → List ℕ) (lawful : ℕ → Reco
       → GoodReader s.writer.sizes s.writer.queue s.writer.commits v
       → Good reaches lawful (after_count s h n j v)
   count_event s h n j r v g at low moved still new = record {
-    sizes = record { table = length-set s.words (hold_place h) n ∙ g.sizes.table; count = g.sizes.count; some_word = g.sizes.some_word; commit_limit = g.sizes.commit_limit; generation_limit = g.sizes.generation_limit };
+    sizes = sizes-set g.sizes (hold_place h) n;
     queue = g.queue;
     tags = g.tags;
     commits = g.commits;
@@ -43,15 +43,15 @@ module _ (reaches : ℕ → Records → ℕ → List ℕ) (lawful : ℕ → Reco
           let old = g.counts.counts k lt in
           dite (ℕ_discrete k h)
           (λ same.
-            let here = get_or-set_same s.words (hold_place h) n 0 (omega (arith, low, g.sizes.table)) in
-            let m : n + 2 * one_if (is_counted_on k r.state) ≡ slice_index s.words (hold_place k) + 2 * one_if (is_counted_on k v.state) =
-                subst (λ i. n + 2 * one_if (is_counted_on i r.state) ≡ slice_index s.words (hold_place i) + 2 * one_if (is_counted_on i v.state)) (sym same) moved in
-            let at_k : slice_index (set s.words (hold_place h) n) (hold_place k) ≡ n = ap (λ i. slice_index (set s.words (hold_place h) n) (hold_place i)) same ∙ here in
-            omega (arith, c, old, m, at_k))
+          let here = get_or-set_same s.words (hold_place h) n 0 (omega (arith, low, g.sizes.table)) in
+          let m : n + 2 * one_if (is_counted_on k r.state) ≡ slice_index s.words (hold_place k) + 2 * one_if (is_counted_on k v.state) =
+          subst (λ i. n + 2 * one_if (is_counted_on i r.state) ≡ slice_index s.words (hold_place i) + 2 * one_if (is_counted_on i v.state)) (sym same) moved in
+          let at_k : slice_index (set s.words (hold_place h) n) (hold_place k) ≡ n = ap (λ i. slice_index (set s.words (hold_place h) n) (hold_place i)) same ∙ here in
+          omega (arith, c, old, m, at_k))
           (λ other.
-            let there = get_or-set_other s.words (hold_place h) (hold_place k) n 0 (λ e. other (omega arith)) in
-            let same : one_if (is_counted_on k r.state) ≡ one_if (is_counted_on k v.state) = ap one_if (still k other) in
-            omega (arith, c, old, there, same))
+          let there = get_or-set_other s.words (hold_place h) (hold_place k) n 0 (λ e. other (omega arith)) in
+          let same : one_if (is_counted_on k r.state) ≡ one_if (is_counted_on k v.state) = ap one_if (still k other) in
+          omega (arith, c, old, there, same))
 
   pub load_newest_keeps : (s : State) (j : ℕ) (r : ReaderView) → Good reaches lawful s → slice_get s.readers j ≡ Some r → r.state ≡ Idle → Good reaches lawful (after_load_newest s j r)
   load_newest_keeps s j r g at idle =
@@ -87,7 +87,6 @@ module _ (reaches : ℕ → Records → ℕ → List ℕ) (lawful : ℕ → Reco
       off : Idle ≡ Spent → ⊥
       off e = cc
 
-
   -- raise: the view is raised where the count was even, and else on its way back
   pub raise_keeps : (s : State) (j : ℕ) (r : ReaderView) (generation h : ℕ) → Good reaches lawful s → slice_get s.readers j ≡ Some r → r.state ≡ Aimed generation h → Good reaches lawful (after_raise s j r h)
   raise_keeps s j r generation h g at aimed =
@@ -111,9 +110,9 @@ module _ (reaches : ℕ → Records → ℕ → List ℕ) (lawful : ℕ → Reco
       step t is on low new =
           subst (λ x. Good reaches lawful (after_count s h (slice_index s.words (hold_place h) + 2) j (with_state r x))) (sym is)
           (count_event s h (slice_index s.words (hold_place h) + 2) j r (with_state r t) g at low
-            (let a : one_if (is_counted_on h r.state) ≡ 0 = ap (λ x. one_if (is_counted_on h x)) aimed in
-             let b : one_if (is_counted_on h t) ≡ 1 = ap one_if (on h ∙ eq-eqb h h refl) in omega (arith, a, b))
-            (λ k other. ap (is_counted_on k) aimed ∙ sym (on k ∙ ne_eqb h k (λ e. other (sym e)))) new)
+          (let a : one_if (is_counted_on h r.state) ≡ 0 = ap (λ x. one_if (is_counted_on h x)) aimed in
+          let b : one_if (is_counted_on h t) ≡ 1 = ap one_if (on h ∙ eq-eqb h h refl) in omega (arith, a, b))
+          (λ k other. ap (is_counted_on k) aimed ∙ sym (on k ∙ ne_eqb h k (λ e. other (sym e)))) new)
 
       by_open : GoodReader s.writer.sizes s.writer.queue s.writer.commits r → AimFits s.writer.queue.newest r.least generation h
           → (t : Bool) → is_open s.writer.queue h ≡ t → Good reaches lawful (after_raise s j r h)
@@ -129,8 +128,8 @@ module _ (reaches : ℕ → Records → ℕ → List ℕ) (lawful : ℕ → Reco
           let odd : slice_index s.words (hold_place h) % 2 ≢ 0 = λ e. omega (arith, word, e) in
           let is : found_state (slice_index s.words (hold_place h)) h ≡ Bounced h = ap (λ t. cond t (Raised h) (Bounced h)) (ne_eqb _ 0 odd) in
           let missed : r.least < s.writer.queue.newest.generation = dite (ℕ_discrete generation s.writer.queue.newest.generation)
-              (λ same. absurd (true≢false (sym (newest-open s.writer.queue) ∙ ap (is_open s.writer.queue) (sym (aim.current same)) ∙ open_here)))
-              (λ other. let a = aim.aim in let le = old.least in omega (arith, le, a, other)) in
+          (λ same. absurd (true≢false (sym (newest-open s.writer.queue) ∙ ap (is_open s.writer.queue) (sym (aim.current same)) ∙ open_here)))
+          (λ other. let a = aim.aim in let le = old.least in omega (arith, le, a, other)) in
           step (Bounced h) is (λ k. refl) low (record { same_sizes = λ e. old.same_sizes (λ x. off (sym aimed ∙ x)); seen = old.seen; saw = old.saw; least = old.least; state = record { hold = low; missed = missed } })
 
   -- lower: a bounce back and a release

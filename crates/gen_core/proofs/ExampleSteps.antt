@@ -1,6 +1,7 @@
 -- The lists of events of the examples happen: each condition holds by computation.
 use Rattle.image_base.specs.Images.{no_image}
-use Rattle.std.proofs.Common.{◌≡◌, ◌≢◌, ℕ, suc, ◌+◌, ◌<◌, ◌≤◌, List, [], ◌∷◌, length, Bool, true, false, eqb, refl, sym, ◌∙◌, eq-eqb, true≢false, inl, inr}
+use Rattle.entry_ref.specs.References.{packed}
+use Rattle.std.proofs.Common.{◌≡◌, ◌≢◌, ℕ, suc, ◌+◌, List, [], ◌∷◌, length, Bool, true, false, eqb, refl, sym, ◌∙◌, eq-eqb, true≢false, inl, inr}
 use Rattle.std.specs.Prelude.{All, nat_eq, nat_lt, nat_le, ◌||◌}
 use Rattle.std.specs.List.{list_any}
 use Rattle.std.proofs.lemmas.Bool.{ltb-true, leb-true}
@@ -51,146 +52,560 @@ empty-avoids : (sizes : Sizes) (p : ℕ) → All (Avoids sizes p) (no_image ∷ 
 empty-avoids sizes p = All-cons (Avoids sizes p) no_image [] (record { records = All-nil _ }) (All-nil (Avoids sizes p))
 
 pub missed : Ends hold_sizes missed_events missed_end
-missed =
-    (_, (may_split _ refl refl, refl),
-    (_, (_, refl, refl, refl),
-    (_, (may_publish _ refl refl, refl),
-    (_, (may_reopen _ _ refl refl refl refl refl, refl),
-    (_, (_, refl, refl),
-    (_, (_, _, record { calm = refl; is = refl }, refl, refl),
-    (_, (_, refl, _, _, refl, refl),
-    (_, (_, refl, _, refl, refl),
-    (_, (_, refl, refl, refl),
-    (_, (may_publish _ refl refl, refl),
-    (_, (may_reopen _ _ refl refl refl refl refl, refl),
-    (_, (_, refl, refl),
-    (_, (_, _, record { calm = refl; is = refl }, refl, refl),
-    (_, (may_publish _ refl refl, refl),
-    (_, (may_reopen _ _ refl refl refl refl refl, refl),
-    (_, (_, refl, refl),
-    (_, (_, _, record { calm = refl; is = refl }, refl, refl),
-    (_, (_, refl, _, _, refl, refl),
-    (_, (_, refl, _, refl, refl),
-    refl)))))))))))))))))))
+missed = (
+  _,
+  (may_split _ refl refl, refl),
+  (
+    _,
+    (_, refl, refl, refl),
+    (
+      _,
+      (may_publish _ refl refl, refl),
+      (
+        _,
+        (may_reopen _ _ refl refl refl refl refl, refl),
+        (
+          _,
+          (_, refl, refl),
+          (
+            _,
+            (_, _, record { calm = refl; is = refl }, refl, refl),
+            (
+              _,
+              (_, refl, _, _, refl, refl),
+              (
+                _,
+                (_, refl, _, refl, refl),
+                (
+                  _,
+                  (_, refl, refl, refl),
+                  (
+                    _,
+                    (may_publish _ refl refl, refl),
+                    (
+                      _,
+                      (may_reopen _ _ refl refl refl refl refl, refl),
+                      (
+                        _,
+                        (_, refl, refl),
+                        (
+                          _,
+                          (_, _, record { calm = refl; is = refl }, refl, refl),
+                          (
+                            _,
+                            (may_publish _ refl refl, refl),
+                            (
+                              _,
+                              (may_reopen _ _ refl refl refl refl refl, refl),
+                              (
+                                _,
+                                (_, refl, refl),
+                                (
+                                  _,
+                                  (_, _, record { calm = refl; is = refl }, refl, refl),
+                                  (
+                                    _,
+                                    (_, refl, _, _, refl, refl),
+                                    (
+                                      _,
+                                      (_, refl, _, refl, refl),
+                                      refl,
+                                    ),
+                                  ),
+                                ),
+                              ),
+                            ),
+                          ),
+                        ),
+                      ),
+                    ),
+                  ),
+                ),
+              ),
+            ),
+          ),
+        ),
+      ),
+    ),
+  ),
+)
 
 pub renewed : Ends hold_sizes renewed_events renewed_end
-renewed =
-    (_, (may_split _ refl refl, refl),
-    (_, (_, refl, refl, refl),
-    (_, (may_publish _ refl refl, refl),
-    (_, (may_probe _ refl refl, refl, refl),
-    (_, (refl, refl),
-    (_, (_, refl, _, _, refl, refl),
-    (_, (_, refl, _, refl, refl),
-    refl)))))))
+renewed = (
+  _,
+  (may_split _ refl refl, refl),
+  (
+    _,
+    (_, refl, refl, refl),
+    (
+      _,
+      (may_publish _ refl refl, refl),
+      (
+        _,
+        (may_probe _ refl refl, refl, refl),
+        (
+          _,
+          (refl, refl),
+          (
+            _,
+            (_, refl, _, _, refl, refl),
+            (
+              _,
+              (_, refl, _, refl, refl),
+              refl,
+            ),
+          ),
+        ),
+      ),
+    ),
+  ),
+)
 
 pub closed : Ends hold_sizes closed_events closed_end
-closed =
-    (_, (may_split _ refl refl, refl),
-    (_, (may_split _ refl refl, refl),
-    (_, (_, refl, refl, refl),
-    (_, (_, refl, _, _, refl, refl),
-    (_, (_, refl, _, refl, refl),
-    (_, (_, refl, refl, refl),
-    (_, (may_publish _ refl refl, refl),
-    (_, (may_probe _ refl refl, nonzero _ refl, refl),
-    (_, (may_reopen _ _ refl refl refl refl refl, refl),
-    (_, (_, refl, refl),
-    (_, (_, _, record { calm = refl; is = refl }, nonzero _ refl, refl),
-    (_, (_, refl, _, _, refl, refl),
-    (_, (may_publish _ refl refl, refl),
-    (_, (may_probe _ refl refl, refl, refl),
-    (_, (refl, refl),
-    (_, (_, _, record { calm = refl; is = refl }, refl, refl),
-    (_, (_, refl, _, _, refl, refl),
-    (_, (_, refl, _, refl, refl),
-    refl))))))))))))))))))
+closed = (
+  _,
+  (may_split _ refl refl, refl),
+  (
+    _,
+    (may_split _ refl refl, refl),
+    (
+      _,
+      (_, refl, refl, refl),
+      (
+        _,
+        (_, refl, _, _, refl, refl),
+        (
+          _,
+          (_, refl, _, refl, refl),
+          (
+            _,
+            (_, refl, refl, refl),
+            (
+              _,
+              (may_publish _ refl refl, refl),
+              (
+                _,
+                (may_probe _ refl refl, nonzero _ refl, refl),
+                (
+                  _,
+                  (may_reopen _ _ refl refl refl refl refl, refl),
+                  (
+                    _,
+                    (_, refl, refl),
+                    (
+                      _,
+                      (_, _, record { calm = refl; is = refl }, nonzero _ refl, refl),
+                      (
+                        _,
+                        (_, refl, _, _, refl, refl),
+                        (
+                          _,
+                          (may_publish _ refl refl, refl),
+                          (
+                            _,
+                            (may_probe _ refl refl, refl, refl),
+                            (
+                              _,
+                              (refl, refl),
+                              (
+                                _,
+                                (_, _, record { calm = refl; is = refl }, refl, refl),
+                                (
+                                  _,
+                                  (_, refl, _, _, refl, refl),
+                                  (
+                                    _,
+                                    (_, refl, _, refl, refl),
+                                    refl,
+                                  ),
+                                ),
+                              ),
+                            ),
+                          ),
+                        ),
+                      ),
+                    ),
+                  ),
+                ),
+              ),
+            ),
+          ),
+        ),
+      ),
+    ),
+  ),
+)
 
 pub reopened : Ends hold_sizes reopened_events reopened_end
-reopened =
-    (_, (may_split _ refl refl, refl),
-    (_, (may_split _ refl refl, refl),
-    (_, (_, refl, refl, refl),
-    (_, (_, refl, _, _, refl, refl),
-    (_, (_, refl, _, refl, refl),
-    (_, (_, refl, refl, refl),
-    (_, (may_publish _ refl refl, refl),
-    (_, (may_probe _ refl refl, nonzero _ refl, refl),
-    (_, (may_reopen _ _ refl refl refl refl refl, refl),
-    (_, (_, refl, refl),
-    (_, (_, _, record { calm = refl; is = refl }, nonzero _ refl, refl),
-    (_, (_, refl, _, _, refl, refl),
-    (_, (may_publish _ refl refl, refl),
-    (_, (may_probe _ refl refl, refl, refl),
-    (_, (refl, refl),
-    (_, (_, _, record { calm = refl; is = refl }, refl, refl),
-    (_, (_, refl, _, _, refl, refl),
-    (_, (_, refl, _, refl, refl),
-    (_, (_, refl, refl, refl),
-    (_, (_, refl, refl, refl),
-    (_, (_, refl, _, _, refl, refl),
-    (_, (_, refl, _, refl, refl),
-    (_, (may_publish _ refl refl, refl),
-    (_, (may_probe _ refl refl, nonzero _ refl, refl),
-    (_, (may_reopen _ _ refl refl refl refl refl, refl),
-    (_, (_, refl, refl),
-    (_, (_, _, record { calm = refl; is = refl }, nonzero _ refl, refl),
-    (_, (_, refl, _, _, refl, refl),
-    (_, (may_publish _ refl refl, refl),
-    (_, (may_probe _ refl refl, refl, refl),
-    (_, (refl, refl),
-    (_, (_, _, record { calm = refl; is = refl }, refl, refl),
-    (_, (may_split _ refl refl, refl),
-    (_, (_, refl, refl, refl),
-    (_, (_, refl, _, _, refl, refl),
-    (_, (_, refl, _, refl, refl),
-    (_, (may_publish _ refl refl, refl),
-    (_, (may_probe _ refl refl, nonzero _ refl, refl),
-    (_, (may_reopen _ _ refl refl refl refl refl, refl),
-    (_, (_, refl, refl),
-    (_, (_, _, record { calm = refl; is = refl }, nonzero _ refl, refl),
-    (_, (_, refl, _, _, refl, refl),
-    (_, (_, refl, _, refl, refl),
-    refl)))))))))))))))))))))))))))))))))))))))))))
+reopened = (
+  _,
+  (may_split _ refl refl, refl),
+  (
+    _,
+    (may_split _ refl refl, refl),
+    (
+      _,
+      (_, refl, refl, refl),
+      (
+        _,
+        (_, refl, _, _, refl, refl),
+        (
+          _,
+          (_, refl, _, refl, refl),
+          (
+            _,
+            (_, refl, refl, refl),
+            (
+              _,
+              (may_publish _ refl refl, refl),
+              (
+                _,
+                (may_probe _ refl refl, nonzero _ refl, refl),
+                (
+                  _,
+                  (may_reopen _ _ refl refl refl refl refl, refl),
+                  (
+                    _,
+                    (_, refl, refl),
+                    (
+                      _,
+                      (_, _, record { calm = refl; is = refl }, nonzero _ refl, refl),
+                      (
+                        _,
+                        (_, refl, _, _, refl, refl),
+                        (
+                          _,
+                          (may_publish _ refl refl, refl),
+                          (
+                            _,
+                            (may_probe _ refl refl, refl, refl),
+                            (
+                              _,
+                              (refl, refl),
+                              (
+                                _,
+                                (_, _, record { calm = refl; is = refl }, refl, refl),
+                                (
+                                  _,
+                                  (_, refl, _, _, refl, refl),
+                                  (
+                                    _,
+                                    (_, refl, _, refl, refl),
+                                    (
+                                      _,
+                                      (_, refl, refl, refl),
+                                      (
+                                        _,
+                                        (_, refl, refl, refl),
+                                        (
+                                          _,
+                                          (_, refl, _, _, refl, refl),
+                                          (
+                                            _,
+                                            (_, refl, _, refl, refl),
+                                            (
+                                              _,
+                                              (may_publish _ refl refl, refl),
+                                              (
+                                                _,
+                                                (may_probe _ refl refl, nonzero _ refl, refl),
+                                                (
+                                                  _,
+                                                  (may_reopen _ _ refl refl refl refl refl, refl),
+                                                  (
+                                                    _,
+                                                    (_, refl, refl),
+                                                    (
+                                                      _,
+                                                      (_, _, record { calm = refl; is = refl }, nonzero _ refl, refl),
+                                                      (
+                                                        _,
+                                                        (_, refl, _, _, refl, refl),
+                                                        (
+                                                          _,
+                                                          (may_publish _ refl refl, refl),
+                                                          (
+                                                            _,
+                                                            (may_probe _ refl refl, refl, refl),
+                                                            (
+                                                              _,
+                                                              (refl, refl),
+                                                              (
+                                                                _,
+                                                                (_, _, record { calm = refl; is = refl }, refl, refl),
+                                                                (
+                                                                  _,
+                                                                  (may_split _ refl refl, refl),
+                                                                  (
+                                                                    _,
+                                                                    (_, refl, refl, refl),
+                                                                    (
+                                                                      _,
+                                                                      (_, refl, _, _, refl, refl),
+                                                                      (
+                                                                        _,
+                                                                        (_, refl, _, refl, refl),
+                                                                        (
+                                                                          _,
+                                                                          (may_publish _ refl refl, refl),
+                                                                          (
+                                                                            _,
+                                                                            (may_probe _ refl refl, nonzero _ refl, refl),
+                                                                            (
+                                                                              _,
+                                                                              (may_reopen _ _ refl refl refl refl refl, refl),
+                                                                              (
+                                                                                _,
+                                                                                (_, refl, refl),
+                                                                                (
+                                                                                  _,
+                                                                                  (_, _, record { calm = refl; is = refl }, nonzero _ refl, refl),
+                                                                                  (
+                                                                                    _,
+                                                                                    (_, refl, _, _, refl, refl),
+                                                                                    (
+                                                                                      _,
+                                                                                      (_, refl, _, refl, refl),
+                                                                                      refl,
+                                                                                    ),
+                                                                                  ),
+                                                                                ),
+                                                                              ),
+                                                                            ),
+                                                                          ),
+                                                                        ),
+                                                                      ),
+                                                                    ),
+                                                                  ),
+                                                                ),
+                                                              ),
+                                                            ),
+                                                          ),
+                                                        ),
+                                                      ),
+                                                    ),
+                                                  ),
+                                                ),
+                                              ),
+                                            ),
+                                          ),
+                                        ),
+                                      ),
+                                    ),
+                                  ),
+                                ),
+                              ),
+                            ),
+                          ),
+                        ),
+                      ),
+                    ),
+                  ),
+                ),
+              ),
+            ),
+          ),
+        ),
+      ),
+    ),
+  ),
+)
 
-pub again : Ends buffer_sizes again_events again_end
-again =
-    (_, (record { calm = refl; tag = _; free = refl }, refl),
-    (_, (record { calm = refl; none_yet = refl; some = ltb-true _ _ refl }, refl),
-    (_, (may_publish _ refl refl, refl),
-    (_, (may_split _ refl refl, refl),
-    (_, (_, refl, refl, refl),
-    (_, (_, refl, _, _, refl, refl),
-    (_, (_, refl, _, refl, refl),
-    (_, (_, record { calm = refl; active = refl; unused = All-nil _; idle = λ p n x there lt same. absurd (cc) }, refl),
-    (_, (may_probe _ refl refl, nonzero _ refl, refl),
-    (_, (may_reopen _ _ refl refl refl refl refl, refl),
-    (_, (_, refl, refl),
-    (_, (_, _, record { calm = refl; is = refl }, nonzero _ refl, refl),
-    (_, (record { calm = refl; tag = _; free = refl }, refl),
-    (_, (record { calm = refl; none_yet = refl; some = ltb-true _ _ refl }, refl),
-    (_, (_, refl, _, _, refl, refl),
-    (_, (_, _, record { calm = refl; is = refl }, refl, refl),
-    (_, (_, record { calm = refl; width = _; held = refl; below = ltb-true _ _ refl }, refl),
-    (_, (record { calm = refl; tag = _; free = refl }, refl),
-    (_, (record { calm = refl; none_yet = refl; some = ltb-true _ _ refl }, refl),
-    refl)))))))))))))))))))
+pub again : Ends (buffer_sizes 22) again_events again_end
+again = (
+  _,
+  (record { calm = refl; tag = _; free = refl }, refl),
+  (
+    _,
+    (record { calm = refl; none_yet = refl; some = ltb-true _ _ refl }, refl),
+    (
+      _,
+      (may_publish _ refl refl, refl),
+      (
+        _,
+        (may_split _ refl refl, refl),
+        (
+          _,
+          (_, refl, refl, refl),
+          (
+            _,
+            (_, refl, _, _, refl, refl),
+            (
+              _,
+              (_, refl, _, refl, refl),
+              (
+                _,
+                (_, record { calm = refl; active = refl; unused = All-nil _; idle = λ p n x there lt same. absurd (cc) }, refl),
+                (
+                  _,
+                  (may_probe _ refl refl, nonzero _ refl, refl),
+                  (
+                    _,
+                    (may_reopen _ _ refl refl refl refl refl, refl),
+                    (
+                      _,
+                      (_, refl, refl),
+                      (
+                        _,
+                        (_, _, record { calm = refl; is = refl }, nonzero _ refl, refl),
+                        (
+                          _,
+                          (record { calm = refl; tag = _; free = refl }, refl),
+                          (
+                            _,
+                            (record { calm = refl; none_yet = refl; some = ltb-true _ _ refl }, refl),
+                            (
+                              _,
+                              (_, refl, _, _, refl, refl),
+                              (
+                                _,
+                                (_, _, record { calm = refl; is = refl }, refl, refl),
+                                (
+                                  _,
+                                  (_, record { calm = refl; width = _; held = refl; below = ltb-true _ _ refl }, refl),
+                                  (
+                                    _,
+                                    (record { calm = refl; tag = _; free = refl }, refl),
+                                    (
+                                      _,
+                                      (record { calm = refl; none_yet = refl; some = ltb-true _ _ refl }, refl),
+                                      refl,
+                                    ),
+                                  ),
+                                ),
+                              ),
+                            ),
+                          ),
+                        ),
+                      ),
+                    ),
+                  ),
+                ),
+              ),
+            ),
+          ),
+        ),
+      ),
+    ),
+  ),
+)
 
-pub stored : Ends buffer_sizes stored_events stored_end
+pub stored : Ends (buffer_sizes 22) (stored_events 22) (stored_end 22)
 unfolding run_at is_entry
-stored =
-    (_, (may_split _ refl refl, refl),
-    (_, (record { calm = refl; tag = _; free = refl }, refl),
-    (_, (record { calm = refl; none_yet = refl; some = ltb-true _ _ refl }, refl),
-    (_, (record { calm = refl; active = record { b = 0; width = 2; x = 2; active = refl; some = ltb-true _ _ refl; behind = ltb-true _ _ refl; inside = ltb-true _ _ refl; is = refl }; apart = empty-avoids _ _ }, refl),
-    (_, (record { calm = refl; active = record { b = 0; width = 2; x = 3; active = refl; some = ltb-true _ _ refl; behind = ltb-true _ _ refl; inside = ltb-true _ _ refl; is = refl }; apart = empty-avoids _ _ }, refl),
-    (_, (record { calm = refl; lawful_root = ltb-true _ _ refl; small = ltb-true _ _ refl; left = ltb-true _ _ refl }, refl),
-    (_, (_, refl, refl, refl),
-    (_, (_, refl, _, _, refl, refl),
-    (_, (_, refl, _, refl, refl),
-    (_, (_, refl, record { number = _; image = _; under = record { hold = _; guarded = refl; seen = refl }; word = (1024, _, refl, inr refl) }, refl),
-    (_, (_, refl, record { number = _; image = _; under = record { hold = _; guarded = refl; seen = refl }; word = (1024, _, refl, inl (1, ltb-true _ _ refl, refl)) }, refl),
-    (_, (_, refl, _, _, refl, refl),
-    (_, (_, refl, record { calm = refl; idle = refl }, refl),
-    (_, (refl, refl),
-    refl))))))))))))))
+stored = (
+  _,
+  (may_split _ refl refl, refl),
+  (
+    _,
+    (record { calm = refl; tag = _; free = refl }, refl),
+    (
+      _,
+      (record { calm = refl; none_yet = refl; some = ltb-true _ _ refl }, refl),
+      (
+        _,
+        (record { calm = refl; active = record { b = 0; width = 2; x = 2; active = refl; some = ltb-true _ _ refl; behind = ltb-true _ _ refl; inside = ltb-true _ _ refl; is = refl }; apart = empty-avoids _ _ }, refl),
+        (
+          _,
+          (record { calm = refl; active = record { b = 0; width = 2; x = 3; active = refl; some = ltb-true _ _ refl; behind = ltb-true _ _ refl; inside = ltb-true _ _ refl; is = refl }; apart = empty-avoids _ _ }, refl),
+          (
+            _,
+            (record { calm = refl; lawful_root = ltb-true _ _ refl; small = ltb-true _ _ refl; left = ltb-true _ _ refl }, refl),
+            (
+              _,
+              (_, refl, refl, refl),
+              (
+                _,
+                (_, refl, _, _, refl, refl),
+                (
+                  _,
+                  (_, refl, _, refl, refl),
+                  (
+                    _,
+                    (_, refl, record { number = _; image = _; under = record { hold = _; guarded = refl; seen = refl }; word = (packed 22 1 0, _, refl, inr refl) }, refl),
+                    (
+                      _,
+                      (_, refl, record { number = _; image = _; under = record { hold = _; guarded = refl; seen = refl }; word = (packed 22 1 0, _, refl, inl (1, ltb-true _ _ refl, refl)) }, refl),
+                      (
+                        _,
+                        (_, refl, _, _, refl, refl),
+                        (
+                          _,
+                          (_, refl, record { calm = refl; idle = refl }, refl),
+                          (
+                            _,
+                            (refl, refl),
+                            refl,
+                          ),
+                        ),
+                      ),
+                    ),
+                  ),
+                ),
+              ),
+            ),
+          ),
+        ),
+      ),
+    ),
+  ),
+)
+
+pub stored_narrow : Ends (buffer_sizes 19) (stored_events 19) (stored_end 19)
+unfolding run_at is_entry
+stored_narrow = (
+  _,
+  (may_split _ refl refl, refl),
+  (
+    _,
+    (record { calm = refl; tag = _; free = refl }, refl),
+    (
+      _,
+      (record { calm = refl; none_yet = refl; some = ltb-true _ _ refl }, refl),
+      (
+        _,
+        (record { calm = refl; active = record { b = 0; width = 2; x = 2; active = refl; some = ltb-true _ _ refl; behind = ltb-true _ _ refl; inside = ltb-true _ _ refl; is = refl }; apart = empty-avoids _ _ }, refl),
+        (
+          _,
+          (record { calm = refl; active = record { b = 0; width = 2; x = 3; active = refl; some = ltb-true _ _ refl; behind = ltb-true _ _ refl; inside = ltb-true _ _ refl; is = refl }; apart = empty-avoids _ _ }, refl),
+          (
+            _,
+            (record { calm = refl; lawful_root = ltb-true _ _ refl; small = ltb-true _ _ refl; left = ltb-true _ _ refl }, refl),
+            (
+              _,
+              (_, refl, refl, refl),
+              (
+                _,
+                (_, refl, _, _, refl, refl),
+                (
+                  _,
+                  (_, refl, _, refl, refl),
+                  (
+                    _,
+                    (_, refl, record { number = _; image = _; under = record { hold = _; guarded = refl; seen = refl }; word = (packed 19 1 0, _, refl, inr refl) }, refl),
+                    (
+                      _,
+                      (_, refl, record { number = _; image = _; under = record { hold = _; guarded = refl; seen = refl }; word = (packed 19 1 0, _, refl, inl (1, ltb-true _ _ refl, refl)) }, refl),
+                      (
+                        _,
+                        (_, refl, _, _, refl, refl),
+                        (
+                          _,
+                          (_, refl, record { calm = refl; idle = refl }, refl),
+                          (
+                            _,
+                            (refl, refl),
+                            refl,
+                          ),
+                        ),
+                      ),
+                    ),
+                  ),
+                ),
+              ),
+            ),
+          ),
+        ),
+      ),
+    ),
+  ),
+)

@@ -1,5 +1,5 @@
 -- A word that is written leaves what is said of the other words.
-use Rattle.std.proofs.Common.{◌≡◌, ◌≢◌, ℕ, suc, ◌+◌, ◌*◌, ◌<◌, ◌≤◌, List, length, set, Option, Some, None, refl, ◌∙◌, arith, mul-le-mul_right, suc-mul}
+use Rattle.std.proofs.Common.{length-set, ◌≡◌, ◌≢◌, ℕ, suc, ◌+◌, ◌*◌, ◌<◌, ◌≤◌, List, length, set, Option, Some, None, refl, ◌∙◌, arith, mul-le-mul_right, suc-mul}
 use Rattle.std.proofs.Math.Seq.{get_or-set_other}
 use Rattle.std.specs.Prelude.{slice_get, All, option_and_then}
 use Rattle.std.proofs.lemmas.Option.{slice_get_within}
@@ -13,9 +13,10 @@ use Rattle.gen_core.specs.declared.views.Buffer.{Buffer}
 use Rattle.gen_core.specs.declared.views.ReaderView.{ReaderView}
 use Rattle.gen_core.specs.Views.{active_width, active_in, kept_of}
 use Rattle.gen_core.specs.Work.{place_in}
-use Rattle.gen_core.specs.Good.{GoodNamedWords, GoodCounts, InActive, WordsStand, IsPlaced, State, GoodMemory, Good}
+use Rattle.gen_core.specs.Good.{GoodNamedWords, GoodCounts, InActive, WordsStand, IsPlaced, State, GoodMemory, Good, GoodSizes}
 use Rattle.gen_core.specs.declared.views.Queue.{Queue}
 use Rattle.image_base.specs.Records.{Records}
+use Rattle.gen_core.proofs.StoredWords.{p}
 
 -- a place in the buffers: behind the first word of one of them
 pub record IsBehind (sizes : Sizes) (p : ℕ) : Type 0 where
@@ -46,6 +47,16 @@ base-same sizes b c some same = (apart sizes.words b c 0 0 some some (omega (ari
 
 pub behind-high : (sizes : Sizes) (p : ℕ) → IsBehind sizes p → 18 + sizes.buffers < p
 behind-high sizes p h = let is = h.is in let o = h.behind in omega arith
+
+-- a word that is written leaves how many there are
+pub sizes-set : {sizes : Sizes} {words : List ℕ} {buffers : List Buffer} → GoodSizes sizes words buffers → (p n : ℕ) → GoodSizes sizes (set words p n) buffers
+sizes-set {sizes} {words} g p n = record {
+  table = length-set words p n ∙ g.table;
+  count = g.count;
+  some_word = g.some_word;
+  commit_limit = g.commit_limit;
+  generation_limit = g.generation_limit;
+}
 
 -- a word that is no named word
 pub names-set : {words : List ℕ} {commits : List Image} {newest : OpenHold} {buffers : List Buffer} → GoodNamedWords words commits newest buffers

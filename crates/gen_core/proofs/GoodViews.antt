@@ -3,7 +3,7 @@ use Rattle.std.proofs.lemmas.List.Elements.{All-tail, All-head}
 use Rattle.std.specs.Map.{lookup}
 use Rattle.std.proofs.lemmas.Option.{slice_get_within}
 use Rattle.image_base.specs.Images.{words_at, record_at}
-use Rattle.std.proofs.Common.{true, false, zero, suc, Bool, suc, nat_eq, cond, subst, [], ⊎_elim, unwrap_or, get_or, slice_get, length, option_and_then, eq-eqb, ◌≡◌, ◌≢◌, ◌⊎◌, ℕ, ◌+◌, ◌-◌, ◌*◌, ◌<◌, ◌≤◌, List, ◌∷◌, ◌++◌, Option, Some, None, refl, sym, ap, ◌∙◌, arith}
+use Rattle.std.proofs.Common.{true, false, zero, suc, Bool, suc, nat_eq, cond, subst, [], ⊎_elim, unwrap_or, get_or, slice_get, length, option_and_then, eq-eqb, ◌≡◌, ◌≢◌, ℕ, ◌+◌, ◌<◌, ◌≤◌, List, ◌∷◌, Option, Some, None, refl, sym, ap, ◌∙◌, arith}
 use Rattle.image_base.specs.Places.{IsEntry, base}
 use Rattle.image_base.proofs.Apart.{one_place, apart}
 use Rattle.gen_core.specs.Views.{active_in, floor_of, kept_of, last_number, last_image, record_width, width_in, active_width}
@@ -11,7 +11,7 @@ use Rattle.gen_core.specs.Good.{State, GoodView, Good, HoldFits, HasNothingIn, I
 use Rattle.gen_core.specs.Work.{work_at, place_in, IsWhole, whole_at, writer_records}
 use Rattle.image_base.specs.Records.{records_of, Records}
 use Rattle.gen_core.proofs.Holds.{at_oldest}
-use Rattle.gen_core.proofs.Lists.{all_drop-at, all_found}
+use Rattle.gen_core.proofs.Lists.{all_drop-at, all_found, some-same}
 use Rattle.gen_core.proofs.ViewLemmas.{active-width, last_at}
 use Rattle.gen_core.proofs.Work.{whole-found, records-found}
 use Rattle.gen_core.specs.declared.views.Tag.{Tag}
@@ -91,11 +91,8 @@ module _ (w : WriterView) (g : GoodView w) where
       let b : ℕ = buffer_of w.sizes.offset_bits ref in
       let t = g.tags.held b width tag held in
       let none : HasNothingIn w.sizes.offset_bits b (last_image w.commits) =
-          all_drop-at (HasNothingIn w.sizes.offset_bits b) tag.commit w.commits (last_number w.commits) (last_image w.commits) t.unused t.commit last-in in
+      all_drop-at (HasNothingIn w.sizes.offset_bits b) tag.commit w.commits (last_number w.commits) (last_image w.commits) t.unused t.commit last-in in
       all_found (λ pair. buffer_of w.sizes.offset_bits pair.0 ≢ b) (last_image w.commits).records ref ws none at refl
-
-  some-same : (x y : ℕ) → Some x ≡ Some y → x ≡ y
-  some-same x y h = cc
 
   -- the last commit's records are the writer's
   pub records-last : (ref : ℕ) (ws : List ℕ) → record_at (last_image w.commits) ref ≡ Some ws → writer_records w ref ≡ ws
@@ -109,7 +106,7 @@ module _ (w : WriterView) (g : GoodView w) where
           let long : length xs ≡ length ws = some-same _ _ (sym (active-width w.buffers _ _ h.active) ∙ placed.width) in
           let p : ℕ = place_in w.sizes (length xs) ref 0 in
           let far = all_found (λ pair. IsApart w.sizes p (length pair.1) pair.0) (last_image w.commits).records ref ws
-              (last-kept (Avoids w.sizes p) (g.apart p _ (h.words 0 h.entry.wide))).records at in
+          (last-kept (Avoids w.sizes p) (g.apart p _ (h.words 0 h.entry.wide))).records at in
           absurd (far.each 0 placed.inside.wide (ap (λ n. place_in w.sizes n ref 0) (sym long)))
 
   -- a record of the writer lies in an active buffer of its width
@@ -122,7 +119,7 @@ module _ (w : WriterView) (g : GoodView w) where
   pub records-active : (ref : ℕ) → 0 < length (writer_records w ref) → active_in w.buffers (buffer_of w.sizes.offset_bits ref) ≡ Some (length (writer_records w ref))
   records-active ref some = ⊎_elim
       (λ (old : record_at (last_image w.commits) ref ≡ Some (writer_records w ref)).
-        not-held-active (slice_get w.buffers (buffer_of w.sizes.offset_bits ref)) _ (last-placed ref _ old).width (not-held ref _ old))
+      not-held-active (slice_get w.buffers (buffer_of w.sizes.offset_bits ref)) _ (last-placed ref _ old).width (not-held ref _ old))
       (λ (whole : IsWhole w ref (writer_records w ref)). whole.active)
       (records-found w ref some)
 
@@ -137,10 +134,9 @@ module _ (w : WriterView) (g : GoodView w) where
           each = λ j at same.
               let other = placed l e less in
               let both = one_place w.sizes.offset_bits w.sizes.buffers w.sizes.words _ width _ ref j i other.inside entry
-                  (λ b. some-same _ _ (sym other.width ∙ ap (width_in w.buffers) b ∙ active-width w.buffers (buffer_of w.sizes.offset_bits ref) width active)) at inside same in
+              (λ b. some-same _ _ (sym other.width ∙ ap (width_in w.buffers) b ∙ active-width w.buffers (buffer_of w.sizes.offset_bits ref) width active)) at inside same in
               let some = found-some image.records ref l e (λ m x h. (placed m x h).inside.wide) less both.0 in
               let zero : length (words_at image ref) ≡ 0 = ap length (unkept k d lt) in
               omega (arith, some, zero);
         };
       }
-

@@ -15,13 +15,14 @@ use Rattle.gen_core.specs.declared.views.ReaderView.{ReaderView}
 use Rattle.gen_core.specs.Views.{floor_of, kept_of, last_number, last_image, state_word, record_width, width_in, active_width, active_in, last_tag_in, queue_of, open_holds, oldest_of, newest_word, hold_place, is_open, is_counted_on}
 use Rattle.gen_core.specs.Work.{work_at}
 use Rattle.gen_core.specs.Good.{State, InActive, Avoids, IsPlaced, WordsStand, GoodReader, IsLawfulCommit, Good, HoldFits, hold_word}
-use Rattle.gen_core.specs.Events.{after_store_word, after_store_width, after_hand_out, after_publish, after_split, after_load_root, with_buffer, reopened, coming_hold, closed, with_state, sees, after_free, count_at, after_store_newest, after_morph, after_count}
-use Rattle.gen_core.proofs.Lists.{all_at, all_drop-at, at_same, one_if, count_moved, count_some}
+use Rattle.gen_core.specs.Events.{after_store_word, after_store_width, after_hand_out, after_publish, after_split, after_load_root, with_buffer, reopened, coming_hold, with_state, sees, after_free, count_at, after_store_newest, after_morph, after_count}
+use Rattle.gen_core.proofs.Lists.{all_at, all_drop-at, at_same, one_if, count_moved, count_some, some-same}
 use Rattle.gen_core.proofs.Holds.{at_newest, at_oldest, any-none, or-false, or-right, any-push, newest-open, oldest-open}
 use Rattle.gen_core.proofs.GoodViews.{good_view, some-commit, floor-last}
 use Rattle.gen_core.proofs.ViewLemmas.{last_at, last_image-push}
 use Rattle.gen_core.specs.declared.views.Tag.{Tag}
 use Rattle.gen_core.specs.declared.views.Pending.TheVariants.{Next}
+use Rattle.gen_core.proofs.StoredWords.{p}
 
 -- a record of a kept commit gives its buffer its width
 kept-width : (s : State) (kept : List Image) (buffers : List Buffer) (image : Image) (pair : ℕ × List ℕ) → All (λ image. All (IsPlaced s.writer.sizes buffers) image.records) kept
@@ -71,9 +72,6 @@ module _ (reaches : ℕ → Records → ℕ → List ℕ) (lawful : ℕ → Reco
           missing (x ∷ xs) zero lt e = cc
           missing (x ∷ xs) (suc k) lt e = missing xs k (omega arith) e
       by_buffer (Some x) at h e = of_buffer x h (sym (g.names.states b x at) ∙ e)
-
-  some-same : (x y : ℕ) → Some x ≡ Some y → x ≡ y
-  some-same x y e = cc
 
   pub needs_no_width : (s : State) (b width : ℕ) (image : Image) (pair : ℕ × List ℕ) → Good reaches lawful s → Contains (kept_of s.writer) image → Contains image.records pair
       → buffer_of s.writer.sizes.offset_bits pair.0 ≡ b → length pair.1 ≢ width → Good reaches lawful (after_store_width s b width) → ⊥
@@ -174,8 +172,8 @@ module _ (reaches : ℕ → Records → ℕ → List ℕ) (lawful : ℕ → Reco
       let low = come.hold in
       let opened : is_open s.writer.queue h ≡ true = ap (λ p. is_open (queue_of s.writer.queue.older s.writer.queue.newest p) h) next ∙ or-right _ _ (eq-eqb h h refl) in
       let closed : is_open (after_morph s).writer.queue h ≡ false =
-          or-false _ ∙ any-push s.writer.queue.older (coming_hold s.writer s.writer.queue.newest.hold) h ∙ sym (any-push s.writer.queue.older s.writer.queue.newest h)
-          ∙ any-none (open_holds s.writer.queue) h come.others in
+      or-false _ ∙ any-push s.writer.queue.older (coming_hold s.writer s.writer.queue.newest.hold) h ∙ sym (any-push s.writer.queue.older s.writer.queue.newest h)
+      ∙ any-none (open_holds s.writer.queue) h come.others in
       let even = even-where-open s h g low opened in
       let odd = odd-where-closed (after_morph s) h t low closed in
       let same : slice_index (set s.words 1 (newest_word (coming_hold s.writer s.writer.queue.newest.hold))) (hold_place h) ≡ count_at s h = get_or-set_other s.words 1 (hold_place h) _ 0 (λ e. omega arith) in

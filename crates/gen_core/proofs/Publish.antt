@@ -1,5 +1,5 @@
 -- A publish keeps the invariant: the new image is lawful, and its records stand where they were stored.
-use Rattle.std.proofs.Common.{None, ap, ◌≢◌, ◌≡◌, ℕ, ◌<◌, List, [], ◌∷◌, ◌++◌, length, drop, Some, sym, ◌∙◌, ⊎_elim, arith, length-set, length-append}
+use Rattle.std.proofs.Common.{None, ap, ◌≢◌, ◌≡◌, ℕ, ◌<◌, List, [], ◌∷◌, ◌++◌, length, drop, Some, sym, ◌∙◌, ⊎_elim, arith, length-append}
 use Rattle.std.proofs.Math.Seq.{get_or-set_other, get_or-set_same}
 use Rattle.std.specs.Prelude.{slice_get, All, option_and_then}
 use Rattle.entry_ref.specs.References.{buffer_of}
@@ -24,7 +24,7 @@ use Rattle.gen_core.specs.Conditions.{MayPublish}
 use Rattle.gen_core.specs.Events.{after_publish}
 use Rattle.gen_core.proofs.Lists.{at_longer, all_drop-push, all_drop-at, all_found}
 use Rattle.gen_core.proofs.Work.{records-found}
-use Rattle.gen_core.proofs.Frames.{behind-high, counts-set, records-set, records-behind}
+use Rattle.gen_core.proofs.Frames.{behind-high, counts-set, records-set, records-behind, sizes-set}
 use Rattle.gen_core.specs.declared.views.Queue.{Queue}
 use Rattle.gen_core.proofs.GoodViews.{good_view, some-commit, last-kept, records-placed}
 use Rattle.gen_core.proofs.ViewLemmas.{last_at, last_image-push, commits-longer, all_pairs}
@@ -85,7 +85,7 @@ module _ (reaches : ℕ → Records → ℕ → List ℕ) (lawful : ℕ → Reco
       let sizes : Sizes = w.sizes in
       let n : ℕ = root_word (length w.commits) image in
       record {
-        sizes = record { table = length-set s.words 0 n ∙ g.sizes.table; count = g.sizes.count; some_word = g.sizes.some_word; commit_limit = g.sizes.commit_limit; generation_limit = g.sizes.generation_limit };
+        sizes = sizes-set g.sizes 0 n;
         queue = let q = g.queue in record {
           few = q.few;
           rising = q.rising;
@@ -135,11 +135,11 @@ module _ (reaches : ℕ → Records → ℕ → List ℕ) (lawful : ℕ → Reco
           let old : HasNothingIn s.writer.sizes.offset_bits b (last_image s.writer.commits) = all_drop-at (HasNothingIn s.writer.sizes.offset_bits b) tag.commit s.writer.commits (last_number s.writer.commits) (last_image s.writer.commits) t.unused t.commit (last_at s.writer.commits (some-commit s.writer (good_view reaches lawful s g))) in
           all_pairs (λ pair. buffer_of s.writer.sizes.offset_bits pair.0 ≢ b) (reaches s.writer.sizes.shape (writer_records s.writer) root) (writer_records s.writer) there
           (λ r some. ⊎_elim
-            (λ (h : record_at (last_image s.writer.commits) r ≡ Some (writer_records s.writer r)). all_found (λ pair. buffer_of s.writer.sizes.offset_bits pair.0 ≢ b) (last_image s.writer.commits).records r _ old h)
-            (λ (h : IsWhole s.writer r (writer_records s.writer r)). λ same.
-              let none : active_in s.writer.buffers (buffer_of s.writer.sizes.offset_bits r) ≡ None = ap (active_in s.writer.buffers) same ∙ ap (option_and_then active_width) at in
-              let is = h.active in absurd (cc))
-            (records-found s.writer r some))
+          (λ (h : record_at (last_image s.writer.commits) r ≡ Some (writer_records s.writer r)). all_found (λ pair. buffer_of s.writer.sizes.offset_bits pair.0 ≢ b) (last_image s.writer.commits).records r _ old h)
+          (λ (h : IsWhole s.writer r (writer_records s.writer r)). λ same.
+          let none : active_in s.writer.buffers (buffer_of s.writer.sizes.offset_bits r) ≡ None = ap (active_in s.writer.buffers) same ∙ ap (option_and_then active_width) at in
+          let is = h.active in absurd (cc))
+          (records-found s.writer r some))
 
       tagged : (b width : ℕ) (tag : Tag) → slice_get s.writer.buffers b ≡ Some (Held width tag) → GoodTag s.writer.sizes.offset_bits s.writer.queue (s.writer.commits ++ image ∷ []) b tag
       tagged b width tag at =

@@ -1,5 +1,5 @@
 -- The words that were stored since the last commit, entry by entry: one more word, and one more buffer.
-use Rattle.std.proofs.Common.{◌≡◌, ◌≢◌, ◌⊎◌, inl, inr, ℕ, zero, suc, ◌+◌, ◌*◌, ◌<◌, List, [], ◌∷◌, length, set, Option, Some, None, Bool, true, false, cond, eqb, refl, sym, ap, ◌∙◌, arith, ne_eqb, eq-eqb}
+use Rattle.std.proofs.Common.{◌≡◌, ◌≢◌, inl, inr, ℕ, zero, suc, ◌+◌, ◌*◌, ◌<◌, List, [], ◌∷◌, length, set, Option, Some, None, Bool, true, false, cond, eqb, refl, sym, ap, ◌∙◌, arith, ne_eqb, eq-eqb}
 use Rattle.std.specs.Prelude.{slice_get, option_and_then, nat_eq, nat_lt, ◌&&◌, if◌then◌else◌}
 use Rattle.std.specs.Option.{unwrap_or}
 use Rattle.std.proofs.lemmas.Bool.{cases_eq, ltb-true, lt-ltb, and_parts, and_left, and_right, and_from}
@@ -12,7 +12,7 @@ use Rattle.gen_core.specs.Conditions.{MayStoreWidth, MayHandOut}
 use Rattle.gen_core.specs.Good.{GoodView}
 use Rattle.gen_core.specs.Events.{stored, with_buffer, widened, handed_out}
 use Rattle.gen_core.specs.Work.{work_at, place_in, prepend, run_at, is_entry, only_if, whole_by, writer_records, stored_in, stored_by}
-use Rattle.gen_core.proofs.Lists.{at_other, at_same}
+use Rattle.gen_core.proofs.Lists.{at_other, at_same, some-same}
 use Rattle.gen_core.proofs.WriterRecords.{entry-true}
 use Rattle.gen_core.proofs.Work.{is_entry-true}
 use Rattle.gen_core.specs.declared.views.Tag.{Tag}
@@ -20,9 +20,6 @@ use Rattle.gen_core.specs.declared.views.WriterView.{WriterView}
 use Rattle.entry_ref.specs.References.{buffer_of, offset_of}
 use Rattle.gen_core.specs.declared.views.Pending.TheVariants.{Nothing}
 use Rattle.gen_core.specs.declared.views.Buffer.TheVariants.{Free, Active}
-
-some-same : (x y : ℕ) → Some x ≡ Some y → x ≡ y
-some-same x y h = cc
 
 -- a stored word
 pub record IsStored (w : WriterView) (r i x : ℕ) : Type 0 where
@@ -79,13 +76,13 @@ module _ (w : WriterView) (r i width n : ℕ) (active : active_in w.buffers (buf
   pub stored-step : (q j : ℕ) → stored_by (stored w (place_in w.sizes width r i) n) q j ≡ (if nat_eq q r && nat_eq j i then Some n else stored_by w q j)
   stored-step q j = elim (cases_eq q r) [
     | inl e ↦ elim (cases_eq j i) [
-        | inl f ↦
-            (λ k. stored_by (stored w p n) (e k) (f k))
-            ∙ stored-there (stored w p n) r i width active entry inside
-            ∙ ap (λ t. cond t (Some n) (work_at w.work p)) (eq-eqb p p refl)
-            ∙ ap (λ t. cond t (Some n) (stored_by w q j)) (sym (and_from _ _ (eq-eqb q r e) (eq-eqb j i f)))
-        | inr f ↦ other q j (λ v at there lt same. f (one q j v at there lt same).1) ∙ ap (λ t. cond t (Some n) (stored_by w q j)) (sym (and_right _ _ (ne_eqb j i f)))
-      ]
+      | inl f ↦
+          (λ k. stored_by (stored w p n) (e k) (f k))
+          ∙ stored-there (stored w p n) r i width active entry inside
+          ∙ ap (λ t. cond t (Some n) (work_at w.work p)) (eq-eqb p p refl)
+          ∙ ap (λ t. cond t (Some n) (stored_by w q j)) (sym (and_from _ _ (eq-eqb q r e) (eq-eqb j i f)))
+      | inr f ↦ other q j (λ v at there lt same. f (one q j v at there lt same).1) ∙ ap (λ t. cond t (Some n) (stored_by w q j)) (sym (and_right _ _ (ne_eqb j i f)))
+    ]
     | inr e ↦ other q j (λ v at there lt same. e (one q j v at there lt same).0) ∙ ap (λ t. cond t (Some n) (stored_by w q j)) (sym (and_left _ _ (ne_eqb q r e)))
   ]
     where
@@ -119,9 +116,9 @@ module _ (w : WriterView) (g : GoodView w) (b : ℕ) (tag : Option Tag) (width :
   two-steps =
       let last : last_tag_in w.buffers b ≡ tag = ap (option_and_then last_tag) free in
       let there : last_tag_in (set w.buffers b (Active 0 (last_tag_in w.buffers b))) b ≡ tag =
-          ap (option_and_then last_tag) (at_same w.buffers b (Active 0 (last_tag_in w.buffers b)) within-buffers) ∙ last in
+      ap (option_and_then last_tag) (at_same w.buffers b (Active 0 (last_tag_in w.buffers b)) within-buffers) ∙ last in
       let list : set (set w.buffers b (Active 0 (last_tag_in w.buffers b))) b (Active width (last_tag_in (set w.buffers b (Active 0 (last_tag_in w.buffers b))) b)) ≡ set w.buffers b (Active width tag) =
-          set-set w.buffers b _ _ ∙ ap (λ t. set w.buffers b (Active width t)) there in
+      set-set w.buffers b _ _ ∙ ap (λ t. set w.buffers b (Active width t)) there in
       (λ k. record w { buffers = list k })
 
   here : slice_get (set w.buffers b (Active width tag)) b ≡ Some (Active width tag)

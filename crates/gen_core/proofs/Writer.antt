@@ -1,5 +1,5 @@
 -- The writer's events keep the invariant.
-use Rattle.std.proofs.Common.{◌≡◌, ◌≢◌, ℕ, suc, ◌+◌, ◌*◌, ◌<◌, ◌≤◌, List, ◌∷◌, ◌++◌, length, set, Option, Some, None, Bool, cond, eqb, true, false, refl, sym, ap, ◌∙◌, subst, ⊎_elim, arith, length-set, slice_index, eqb-true, eq-eqb, true≢false, mul-le-mul_right, suc-mul}
+use Rattle.std.proofs.Common.{◌≡◌, ◌≢◌, ℕ, suc, ◌+◌, ◌*◌, ◌<◌, ◌≤◌, List, length, set, Option, Some, None, Bool, cond, eqb, true, false, refl, sym, ap, ◌∙◌, subst, ⊎_elim, arith, length-set, slice_index, eqb-true, eq-eqb, true≢false, mul-le-mul_right, suc-mul}
 use mathlib.Core.Logic.{dite}
 use native.Mathlib.Decide.{ℕ_discrete}
 use Rattle.std.proofs.Math.Seq.{get_or-set_other, get_or-set_same}
@@ -17,8 +17,8 @@ use Rattle.gen_core.specs.Work.{work_at}
 use Rattle.gen_core.specs.Good.{State, IsWorkPlace, Good}
 use Rattle.gen_core.specs.Conditions.{MayStoreWidth, MayStoreWord, MayHandOut}
 use Rattle.gen_core.specs.Events.{with_buffer, after_store_width, after_store_word, after_hand_out}
-use Rattle.gen_core.proofs.Lists.{at_set, at_other, at_same}
-use Rattle.gen_core.proofs.Frames.{IsBehind, active-behind, behind-base, base-same, behind-high, names-set, counts-set, records-set, records-behind, active-inside, active-below}
+use Rattle.gen_core.proofs.Lists.{at_set, at_other, at_same, some-same}
+use Rattle.gen_core.proofs.Frames.{IsBehind, active-behind, behind-base, base-same, behind-high, names-set, counts-set, records-set, records-behind, active-inside, active-below, sizes-set}
 use Rattle.gen_core.proofs.ViewLemmas.{active-width, active-there}
 
 module _ (reaches : ℕ → Records → ℕ → List ℕ) (lawful : ℕ → Records → ℕ → Type 0) where
@@ -28,7 +28,7 @@ module _ (reaches : ℕ → Records → ℕ → List ℕ) (lawful : ℕ → Reco
       let at : IsBehind sizes p = active-behind may.active in
       let high : 18 + sizes.buffers < p = behind-high sizes p at in
       record {
-        sizes = record { table = length-set s.words p n ∙ g.sizes.table; count = g.sizes.count; some_word = g.sizes.some_word; commit_limit = g.sizes.commit_limit; generation_limit = g.sizes.generation_limit };
+        sizes = sizes-set g.sizes p n;
         queue = g.queue;
         tags = g.tags;
         commits = g.commits;
@@ -128,9 +128,6 @@ module _ (reaches : ℕ → Records → ℕ → List ℕ) (lawful : ℕ → Reco
 
       within : b < sizes.buffers
       within = let lt = active-inside buffers b 0 may.none_yet in omega (arith, lt, g.sizes.count)
-
-      some-same : (a c : ℕ) → Some a ≡ Some c → a ≡ c
-      some-same a c e = cc
 
       same_width : (c w : ℕ) → c ≡ b → width_in buffers c ≡ Some w → w ≡ 0
       same_width c w same is = some-same w 0 (sym is ∙ ap (width_in buffers) same ∙ active-width buffers b 0 may.none_yet)

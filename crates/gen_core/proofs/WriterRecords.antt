@@ -16,7 +16,7 @@ use Rattle.gen_core.specs.Views.{active_in, last_image}
 use Rattle.gen_core.specs.Work.{work_at, place_in, IsWhole, prepend, run_at, is_entry, only_if, whole_by, whole_at, writer_records, next_image}
 use Rattle.gen_core.specs.Good.{IsPlaced}
 use Rattle.gen_core.specs.Events.{stored, published}
-use Rattle.gen_core.proofs.Lists.{all_found}
+use Rattle.gen_core.proofs.Lists.{all_found, some-same}
 use Rattle.gen_core.proofs.Work.{is_entry-true, whole-found, records-found}
 use Rattle.gen_core.proofs.ViewLemmas.{last_image-push}
 
@@ -84,9 +84,6 @@ pub records-others : (w : WriterView) (ref width i n : ℕ) → active_in w.buff
     → (q : ℕ) → q ≢ ref → writer_records (stored w (place_in w.sizes width ref i) n) q ≡ writer_records w q
 records-others w ref width i n at e lt q other = ap (λ o. unwrap_or o (words_at (last_image w.commits) q)) (by_width (active_in w.buffers (buffer_of w.sizes.offset_bits q)) refl)
   where
-    some-same : (x y : ℕ) → Some x ≡ Some y → x ≡ y
-    some-same x y h = cc
-
     p : ℕ
     p = place_in w.sizes width ref i
 

@@ -1,5 +1,6 @@
 -- Lists of events that happen, each from the opening, and the state that each ends in.
 use Rattle.std.specs.Prelude.{ℕ, zero, suc, ◌+◌, ◌*◌, ◌^◌, ◌<◌, List, [], ◌∷◌, ◌++◌, length, replicate, Some, None}
+use Rattle.entry_ref.specs.References.{packed}
 use Rattle.image_base.specs.declared.Image.{Image}
 use Rattle.image_base.specs.Records.{Records}
 use Rattle.image_base.specs.Images.{no_image}
@@ -8,9 +9,9 @@ use Rattle.gen_core.specs.declared.views.OpenHold.{OpenHold}
 use Rattle.gen_core.specs.declared.views.Pending.TheVariants.{Nothing}
 use Rattle.gen_core.specs.declared.views.Queue.{Queue}
 use Rattle.gen_core.specs.declared.views.Stops.{Stops}
-use Rattle.gen_core.specs.declared.views.Buffer.TheVariants.{Free, Active, Held}
+use Rattle.gen_core.specs.declared.views.Buffer.TheVariants.{Free, Active}
 use Rattle.gen_core.specs.declared.views.ReaderState.{ReaderState}
-use Rattle.gen_core.specs.declared.views.ReaderState.TheVariants.{Idle, Aimed, Guarded}
+use Rattle.gen_core.specs.declared.views.ReaderState.TheVariants.{Idle, Guarded}
 use Rattle.gen_core.specs.declared.views.ReaderView.{ReaderView}
 use Rattle.gen_core.specs.declared.views.WriterView.{WriterView}
 use Rattle.gen_core.specs.Views.{queue_of, spent}
@@ -126,11 +127,8 @@ reopened_end = record {
 
 -- Buffers.
 
-abbrev pub buffer_sizes : Sizes
-buffer_sizes = record { offset_bits = 22; buffers = 2; words = 4; shape = 0; commit_limit = 20; generation_limit = 20 }
-
-abbrev pub buffer_reader : ℕ → ℕ → ReaderState → List (ℕ × Image) → ReaderView
-buffer_reader seen least state saw = record { sizes = buffer_sizes; seen = seen; least = least; state = state; saw = saw }
+abbrev pub buffer_sizes : ℕ → Sizes
+buffer_sizes bits = record { offset_bits = bits; buffers = 2; words = 4; shape = 0; commit_limit = 20; generation_limit = 20 }
 
 -- A buffer is put on hold under a guard. While the guard lives, another buffer is handed out; once it is released,
 -- the oldest hold closes, the first buffer is freed and handed out again.
@@ -143,7 +141,7 @@ abbrev pub again_end : State
 again_end = record {
   words = hold_words (1 * 2 ^ 32) (1 * 2 ^ 16 + 1) 1 0 ++ 1 ∷ 1 ∷ 4 ∷ 0 ∷ 0 ∷ 0 ∷ 3 ∷ 0 ∷ 0 ∷ 0 ∷ [];
   writer = record {
-    sizes = buffer_sizes;
+    sizes = buffer_sizes 22;
     commits = no_image ∷ no_image ∷ [];
     queue = queue_of [] (open_hold 1 1 1) Nothing;
     buffers = Active 4 (Some (record { generation = 0; commit = 1 })) ∷ Active 3 None ∷ [];
@@ -152,28 +150,28 @@ again_end = record {
     made = 1;
     stops = stops_of 2 2;
   };
-  readers = buffer_reader 1 0 Idle ((1, no_image) ∷ []) ∷ [];
+  readers = record { sizes = buffer_sizes 22; seen = 1; least = 0; state = Idle; saw = (1, no_image) ∷ [] } ∷ [];
 }
 
 -- A record of two words is stored at offset 1 of buffer 0 and published; a reader loads it and is taken in again.
-abbrev pub stored_events : List Event
-stored_events =
-    split ∷ hand_out 0 ∷ store_width 0 2 ∷ store_word 22 7 ∷ store_word 23 9 ∷ publish 1024 ∷ guards 0 ++ load_word 0 20 ∷ load_word 0 23
+abbrev pub stored_events : ℕ → List Event
+stored_events bits =
+    split ∷ hand_out 0 ∷ store_width 0 2 ∷ store_word 22 7 ∷ store_word 23 9 ∷ publish (packed bits 1 0) ∷ guards 0 ++ load_word 0 20 ∷ load_word 0 23
     ∷ release 0 ∷ join 0 ∷ meet_load ∷ []
 
-abbrev pub stored_image : Image
-stored_image = record { root = 1024; records = (1024, 7 ∷ 9 ∷ []) ∷ [] }
+abbrev pub stored_image : ℕ → Image
+stored_image bits = record { root = packed bits 1 0; records = (packed bits 1 0, 7 ∷ 9 ∷ []) ∷ [] }
 
-abbrev pub stored_end : State
-stored_end = record {
-  words = hold_words (1 * 2 ^ 32 + 1024) 0 0 1 ++ 1 ∷ 0 ∷ 2 ∷ 0 ∷ 7 ∷ 9 ∷ 0 ∷ 0 ∷ 0 ∷ 0 ∷ [];
+abbrev pub stored_end : ℕ → State
+stored_end bits = record {
+  words = hold_words (1 * 2 ^ 32 + packed bits 1 0) 0 0 1 ++ 1 ∷ 0 ∷ 2 ∷ 0 ∷ 7 ∷ 9 ∷ 0 ∷ 0 ∷ 0 ∷ 0 ∷ [];
   writer = record {
-    sizes = buffer_sizes;
-    commits = no_image ∷ stored_image ∷ [];
+    sizes = buffer_sizes bits;
+    commits = no_image ∷ stored_image bits ∷ [];
     queue = queue_of [] (open_hold 0 0 0) Nothing;
     buffers = Active 2 None ∷ Free None ∷ [];
     work = [];
-    saw = (1, stored_image) ∷ [];
+    saw = (1, stored_image bits) ∷ [];
     made = 1;
     stops = stops_of 0 0;
   };

@@ -1,14 +1,13 @@
 -- Why each condition stands: a step without it, or a wrong step in its place, breaks the invariant.
-use Rattle.std.specs.Prelude.{◌≡◌, ◌≢◌, ℕ, suc, ◌+◌, ◌<◌, ◌≤◌, ◌++◌, ◌∷◌, List, [], length, set, slice_get, Some, None, All, Contains, false, true}
+use Rattle.std.specs.Prelude.{◌≡◌, ◌≢◌, ℕ, ◌+◌, ◌<◌, ◌≤◌, List, length, set, slice_get, Some, None, All, Contains, false, true}
 use Rattle.entry_ref.specs.References.{buffer_of}
 use Rattle.image_base.specs.declared.Image.{Image}
 use Rattle.image_base.specs.Records.{Records}
 use Rattle.image_base.specs.Places.{state_place}
-use Rattle.gen_core.specs.declared.views.OpenHold.{OpenHold}
-use Rattle.gen_core.specs.declared.views.Pending.TheVariants.{Nothing, Next}
+use Rattle.gen_core.specs.declared.views.Pending.TheVariants.{Next}
 use Rattle.gen_core.specs.declared.views.Buffer.TheVariants.{Held}
 use Rattle.gen_core.specs.declared.views.Tag.{Tag}
-use Rattle.gen_core.specs.declared.views.ReaderState.TheVariants.{Raised, Spent}
+use Rattle.gen_core.specs.declared.views.ReaderState.TheVariants.{Raised}
 use Rattle.gen_core.specs.declared.views.ReaderView.{ReaderView}
 use Rattle.gen_core.specs.Views.{oldest_of, kept_of, last_number, hold_place, is_open, active_in, is_counted_on}
 use Rattle.gen_core.specs.Good.{State, InActive, Avoids, IsPlaced, WordsStand, IsLawfulCommit, Good}

@@ -4,7 +4,6 @@ ghost use Rattle.gen_core.specs.Laws.{KeepsGood, HandsOutUnguarded, EventKeepsGo
 ghost use Rattle.gen_core.specs.Steps.{EventIsOneStep};
 ghost use Rattle.gen_core.specs.ViewLaws.{LastIsKept, LastAreRecords, RecordsLieActive, KeptArePlaced, UnkeptAvoids, StoresOneWord, StoreLeavesOthers, HandsOutNothing, PublishesRecords};
 ghost use Rattle.gen_core.specs.Needed.{NeedsActive, NeedsApart, NeedsActiveWidth, NeedsNoWidth, NeedsFree, NeedsLawful, NeedsRecords, NeedsNumber, NeedsSeat, RootBeforeRaise, OpensByZero, LastBeforeOpen, ForgetsTheBounce, MorphBesideNext, CloseMovesNoFloor, FreesAtTheOldest, TagsTooEarly};
-
 ghost use Rattle.gen_core.specs.Examples.{Ends, hold_sizes, buffer_sizes, missed_events, missed_end, renewed_events, renewed_end, closed_events, closed_end, reopened_events, reopened_end, again_events, again_end, stored_events, stored_end};
 
 use image_base::Layout;
@@ -141,6 +140,7 @@ pub fn examples_law()
     ensures renewed { Ends hold_sizes renewed_events renewed_end }
     ensures closed { Ends hold_sizes closed_events closed_end }
     ensures reopened { Ends hold_sizes reopened_events reopened_end }
-    ensures again { Ends buffer_sizes again_events again_end }
-    ensures stored { Ends buffer_sizes stored_events stored_end }
+    ensures again { Ends (buffer_sizes 22) again_events again_end }
+    ensures stored { Ends (buffer_sizes 22) (stored_events 22) (stored_end 22) }
+    ensures stored_narrow { Ends (buffer_sizes 19) (stored_events 19) (stored_end 19) }
 {}

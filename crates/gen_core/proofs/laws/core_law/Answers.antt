@@ -1,6 +1,5 @@
 use Rattle.gen_core.proofs.Law.{keeps_good, none_from_before}
 use Rattle.gen_core.proofs.laws.core_law.Goals as goal
-use Rattle.gen_core.specs.Events.{hand_out}
 
 pub returns : goal.returns
 returns g c =
