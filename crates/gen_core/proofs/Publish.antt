@@ -1,36 +1,40 @@
 -- A publish keeps the invariant: the new image is lawful, and its records stand where they were stored.
-use Rattle.std.proofs.Common.{◌≡◌, ℕ, ◌<◌, List, [], ◌∷◌, ◌++◌, length, drop, Some, sym, ◌∙◌, ⊎_elim, arith, length-set, length-append}
+use Rattle.std.proofs.Common.{None, ap, ◌≢◌, ◌≡◌, ℕ, ◌<◌, List, [], ◌∷◌, ◌++◌, length, drop, Some, sym, ◌∙◌, ⊎_elim, arith, length-append}
 use Rattle.std.proofs.Math.Seq.{get_or-set_other, get_or-set_same}
-use Rattle.std.specs.Prelude.{All}
+use Rattle.std.specs.Prelude.{slice_get, All, option_and_then}
+use Rattle.entry_ref.specs.References.{buffer_of}
+use Rattle.gen_core.specs.declared.views.Tag.{Tag}
 use Rattle.std.proofs.lemmas.List.Elements.{All-push, All-weaker}
 use Rattle.image_base.specs.declared.Image.{Image}
-use Rattle.image_base.specs.Records.{Records, SameAt, AllThere}
+use Rattle.image_base.specs.Records.{Records, AllThere}
 use Rattle.image_base.specs.Images.{record_at, words_at}
 use Rattle.image_base.specs.Places.{base, state_place}
 use Rattle.image_base.proofs.Pairs.{references-pairs, pairs-same}
 use Rattle.gen_core.specs.declared.views.Sizes.{Sizes}
-use Rattle.gen_core.specs.declared.views.OpenHold.{OpenHold}
-use Rattle.gen_core.specs.declared.views.Pending.{Pending}
 use Rattle.gen_core.specs.declared.views.Pending.TheVariants.{Nothing}
 use Rattle.gen_core.specs.declared.views.Buffer.TheVariants.{Held}
 use Rattle.gen_core.specs.declared.views.ReaderState.{ReaderState}
 use Rattle.gen_core.specs.declared.views.ReaderState.TheVariants.{Idle, Aimed, Raised, Bounced, Guarded, Spent}
 use Rattle.gen_core.specs.declared.views.ReaderView.{ReaderView}
 use Rattle.gen_core.specs.declared.views.WriterView.{WriterView}
-use Rattle.gen_core.specs.Views.{floor_of, kept_of, last_number, last_image, root_word}
-use Rattle.gen_core.specs.Work.{IsWhole, overlay, next_image}
-use Rattle.gen_core.specs.Good.{State, IsPlaced, WordsStand, GoodReaderState, GoodReader, IsUntagged, IsLawfulCommit, Good}
-use Rattle.gen_core.specs.Events.{MayPublish, after_publish}
-use Rattle.gen_core.proofs.Lists.{all_at, at_longer, all_drop-push, all_drop-at, all_found}
-use Rattle.gen_core.proofs.Work.{overlay-found}
-use Rattle.gen_core.proofs.Frames.{behind-high, counts-set, records-set, records-behind}
-use Rattle.gen_core.proofs.Writer.{active-width, last_at, last_image-push, commits-longer, all_pairs, some-commit, floor-zero}
+use Rattle.gen_core.specs.Views.{floor_of, last_number, last_image, root_word, active_in, active_width}
+use Rattle.gen_core.specs.Work.{IsWhole, writer_records, next_image}
+use Rattle.gen_core.specs.Good.{State, IsPlaced, WordsStand, GoodReaderState, GoodReader, HasNothingIn, GoodTag, IsLawfulCommit, Good}
+use Rattle.gen_core.specs.Conditions.{MayPublish}
+use Rattle.gen_core.specs.Events.{after_publish}
+use Rattle.gen_core.proofs.Lists.{at_longer, all_drop-push, all_drop-at, all_found}
+use Rattle.gen_core.proofs.Work.{records-found}
+use Rattle.gen_core.proofs.Frames.{behind-high, counts-set, records-set, records-behind, sizes-set}
+use Rattle.gen_core.specs.declared.views.Queue.{Queue}
+use Rattle.gen_core.proofs.GoodViews.{good_view, some-commit, last-kept, records-placed}
+use Rattle.gen_core.proofs.ViewLemmas.{last_at, last_image-push, commits-longer, all_pairs}
+use Rattle.gen_core.proofs.Layouts.{IsLayout}
 
 -- with one commit more, nothing that was said of a reader is lost
-reader_longer : (z : Sizes) (older : List OpenHold) (newest : OpenHold) (pending : Pending) (commits : List Image) (image : Image) → pending ≡ Nothing
-    → (r : ReaderView) → GoodReader z older newest pending commits r → GoodReader z older newest pending (commits ++ image ∷ []) r
-reader_longer z older newest pending commits image calm r h = record {
-  sizes = h.sizes;
+reader_longer : (sizes : Sizes) (queue : Queue) (commits : List Image) (image : Image) → queue.pending ≡ Nothing
+    → (r : ReaderView) → GoodReader sizes queue commits r → GoodReader sizes queue (commits ++ image ∷ []) r
+reader_longer sizes queue commits image calm r h = record {
+  same_sizes = h.same_sizes;
   seen = let le = h.seen in omega (arith, le, longer);
   saw = commits-longer commits image r.saw h.saw;
   least = h.least;
@@ -40,7 +44,7 @@ reader_longer z older newest pending commits image calm r h = record {
     longer : last_number (commits ++ image ∷ []) ≡ length commits
     longer = omega (arith, length-append commits (image ∷ []))
 
-    states : (t : ReaderState) → GoodReaderState older newest pending commits r t → GoodReaderState older newest pending (commits ++ image ∷ []) r t
+    states : (t : ReaderState) → GoodReaderState queue commits r t → GoodReaderState queue (commits ++ image ∷ []) r t
     states Idle k = k
     states (Aimed generation hold) k = k
     states (Raised hold) k = k
@@ -48,7 +52,7 @@ reader_longer z older newest pending commits image calm r h = record {
     states (Guarded hold c) k = record {
       raised = k.raised;
       commit = let le = k.commit in omega (arith, le, longer);
-      first = k.first;
+      first_commit = k.first_commit;
       next = λ e. absurd (let n = calm in cc);
       probed = λ e _. absurd (let n = calm in cc);
       image = k.image;
@@ -57,84 +61,59 @@ reader_longer z older newest pending commits image calm r h = record {
     states Spent k = k
 
 module _ (reaches : ℕ → Records → ℕ → List ℕ) (lawful : ℕ → Records → ℕ → Type 0) where
-  -- what is lawful stays so, with the same reach, where the words at all that is reached are the same
-  abbrev pub Stays : Type 0
-  Stays = (shape : ℕ) (m n : Records) (root : ℕ) → SameAt (reaches shape m root) m n → lawful shape m root → lawful shape n root × (reaches shape n root ≡ reaches shape m root)
-
-  -- what is lawful reaches only records that are there
-  abbrev pub Present : Type 0
-  Present = (shape : ℕ) (m : Records) (root : ℕ) → lawful shape m root → AllThere (reaches shape m root) m
-
-  pub next-lawful : Stays → (w : WriterView) (root : ℕ) → MayPublish lawful w root → IsLawfulCommit reaches lawful w.sizes.shape (next_image reaches w root)
-  next-lawful stays w root may =
+  pub next-lawful : IsLayout reaches lawful → (w : WriterView) (root : ℕ) → MayPublish lawful w root → IsLawfulCommit reaches lawful w.sizes.shape (next_image reaches w root)
+  next-lawful l w root may =
       let shape = w.sizes.shape in
-      let refs = reaches shape (overlay w) root in
-      let h = stays shape (overlay w) (words_at (next_image reaches w root)) root (pairs-same refs (overlay w)) may.lawful_root in
-      record { lawful_image = h.0; reached = references-pairs refs (overlay w) ∙ sym h.1; small = may.small }
+      let refs = reaches shape (writer_records w) root in
+      let h = l.stays shape (writer_records w) (words_at (next_image reaches w root)) root (pairs-same refs (writer_records w)) may.lawful_root in
+      record { lawful_image = h.0; reached = references-pairs refs (writer_records w) ∙ sym h.1; small = may.small }
 
-  pub last_kept : (s : State) (P : Image → Type 0) → Good reaches lawful s → All P (kept_of s.writer) → P (last_image s.writer.commits)
-  last_kept s P g all =
-      all_drop-at P (floor_of s.writer) s.writer.commits (last_number s.writer.commits) (last_image s.writer.commits) all
-      (omega (arith, floor-zero reaches lawful s g)) (last_at s.writer.commits (some-commit reaches lawful s g))
-
-  -- a record of the writer lies in a buffer of its width
-  pub overlay-placed : (s : State) → Good reaches lawful s → (ref : ℕ) → 0 < length (overlay s.writer ref) → IsPlaced s.writer.sizes s.writer.buffers (ref, overlay s.writer ref)
-  overlay-placed s g ref some =
-      let placed : ℕ × List ℕ → Type 0 = IsPlaced s.writer.sizes s.writer.buffers in
-      ⊎_elim
-      (λ (old : record_at (last_image s.writer.commits) ref ≡ Some (overlay s.writer ref)).
-      all_found placed (last_image s.writer.commits).records ref (overlay s.writer ref) (last_kept s (λ image. All placed image.records) g g.frozen.records) old)
-      (λ (whole : IsWhole s.writer ref (overlay s.writer ref)). record { inside = whole.entry; width = active-width s.writer.buffers _ _ whole.active })
-      (overlay-found s.writer ref some)
-
-  -- and each of its words stands
-  pub overlay-stands : (s : State) → Good reaches lawful s → (ref : ℕ) → 0 < length (overlay s.writer ref) → WordsStand s.writer.sizes s.words (ref, overlay s.writer ref)
-  overlay-stands s g ref some =
+  -- each word of a record of the writer stands
+  pub records-stands : (s : State) → Good reaches lawful s → (ref : ℕ) → 0 < length (writer_records s.writer ref) → WordsStand s.writer.sizes s.words (ref, writer_records s.writer ref)
+  records-stands s g ref some =
       let stand : ℕ × List ℕ → Type 0 = WordsStand s.writer.sizes s.words in
       ⊎_elim
-      (λ (old : record_at (last_image s.writer.commits) ref ≡ Some (overlay s.writer ref)).
-      all_found stand (last_image s.writer.commits).records ref (overlay s.writer ref) (last_kept s (λ image. All stand image.records) g g.memory.records) old)
-      (λ (whole : IsWhole s.writer ref (overlay s.writer ref)). λ i lt. g.memory.stored _ _ (whole.words i lt))
-      (overlay-found s.writer ref some)
+      (λ (old : record_at (last_image s.writer.commits) ref ≡ Some (writer_records s.writer ref)).
+      all_found stand (last_image s.writer.commits).records ref (writer_records s.writer ref) (last-kept s.writer (good_view reaches lawful s g) (λ image. All stand image.records) g.memory.records) old)
+      (λ (whole : IsWhole s.writer ref (writer_records s.writer ref)). λ i lt. g.memory.stored _ _ (whole.words i lt))
+      (records-found s.writer ref some)
 
-  pub publish_keeps : Stays → Present → (s : State) (root : ℕ) → Good reaches lawful s → MayPublish lawful s.writer root
+  pub publish_keeps : IsLayout reaches lawful → (s : State) (root : ℕ) → Good reaches lawful s → MayPublish lawful s.writer root
       → Good reaches lawful (after_publish s (next_image reaches s.writer root))
-  publish_keeps stays present s root g may =
+  publish_keeps l s root g may =
       let w : WriterView = s.writer in
-      let z : Sizes = w.sizes in
+      let sizes : Sizes = w.sizes in
       let n : ℕ = root_word (length w.commits) image in
-      let a = g.append_only in
       record {
-        sizes = record { table = length-set s.words 0 n ∙ g.sizes.table; count = g.sizes.count; some_word = g.sizes.some_word; commit_limit = g.sizes.commit_limit; generation_limit = g.sizes.generation_limit };
+        sizes = sizes-set g.sizes 0 n;
         queue = let q = g.queue in record {
           few = q.few;
           rising = q.rising;
-          each = λ k d lt. let e = q.each k d lt in record { hold = e.hold; first = let le = e.first in omega (arith, le, longer) };
+          each = λ k d lt. let e = q.each k d lt in record { hold = e.hold; first_commit = let le = e.first_commit in omega (arith, le, longer) };
           next = q.next;
           generation = q.generation;
-          commit = let left = may.left in omega (arith, left, longer, some-commit reaches lawful s g);
+          commit = let left = may.left in omega (arith, left, longer, some-commit s.writer (good_view reaches lawful s g));
         };
-        tags = record { free = g.tags.free; held = λ b width tag at. absurd (all_at IsUntagged w.buffers b (Held width tag) a.untagged at) };
+        tags = record { free = g.tags.free; held = tagged };
         commits = record {
-          first = at_longer w.commits (image ∷ []) 0 _ g.commits.first;
-          each = All-push (IsLawfulCommit reaches lawful z.shape) w.commits image g.commits.each (next-lawful stays w root may);
+          empty = at_longer w.commits (image ∷ []) 0 _ g.commits.empty;
+          each = All-push (IsLawfulCommit reaches lawful sizes.shape) w.commits image g.commits.each (next-lawful l w root may);
           seen = commits-longer w.commits image w.saw g.commits.seen;
         };
-        frozen = record { records = placed; stored = λ p m there. absurd (cc) };
+        places = record { records = placed; stored = λ p m there. absurd (cc) };
         names = record {
           root = get_or-set_same s.words 0 n 0 (omega (arith, g.sizes.table)) ∙ sym (λ i. root_word (longer i) (last_image-push w.commits image i));
-          last = get_or-set_other s.words 0 1 n 0 (λ e. omega arith) ∙ g.names.last;
+          newest_hold = get_or-set_other s.words 0 1 n 0 (λ e. omega arith) ∙ g.names.newest_hold;
           states = λ b x at. get_or-set_other s.words 0 (state_place b) n 0 (λ e. omega arith) ∙ g.names.states b x at;
         };
         memory = record {
-          records = records-set z s.words kept 0 n (records-behind z w.buffers kept 0 (λ q h e. let high = behind-high z q h in omega arith) placed) stand;
+          records = records-set sizes s.words kept 0 n (records-behind sizes w.buffers kept 0 (λ q h e. let high = behind-high sizes q h in omega arith) placed) stand;
           stored = λ p m there. absurd (cc);
-          widths = λ b width is some. get_or-set_other s.words 0 (base z.buffers z.words b) n 0 (λ e. omega arith) ∙ g.memory.widths b width is some;
+          widths = λ b width is some. get_or-set_other s.words 0 (base sizes.buffers sizes.words b) n 0 (λ e. omega arith) ∙ g.memory.widths b width is some;
         };
         counts = counts-set g.counts 0 n (λ h lt e. omega arith);
-        readers = All-weaker (GoodReader z w.older w.newest w.pending w.commits) (GoodReader z w.older w.newest w.pending (w.commits ++ image ∷ []))
-            (reader_longer z w.older w.newest w.pending w.commits image may.calm) s.readers g.readers;
-        append_only = a;
+        readers = All-weaker (GoodReader sizes w.queue w.commits) (GoodReader sizes w.queue (w.commits ++ image ∷ []))
+            (reader_longer sizes w.queue w.commits image may.calm) s.readers g.readers;
       }
     where
       image : Image
@@ -146,13 +125,36 @@ module _ (reaches : ℕ → Records → ℕ → List ℕ) (lawful : ℕ → Reco
       kept : List Image
       kept = drop (floor_of s.writer) (s.writer.commits ++ image ∷ [])
 
-      there : AllThere (reaches s.writer.sizes.shape (overlay s.writer) root) (overlay s.writer)
-      there = present s.writer.sizes.shape (overlay s.writer) root may.lawful_root
+      there : AllThere (reaches s.writer.sizes.shape (writer_records s.writer) root) (writer_records s.writer)
+      there = l.present s.writer.sizes.shape (writer_records s.writer) root may.lawful_root
+
+      -- the last commit has no record in a buffer on hold, and nothing was stored in one
+      nothing : (b width : ℕ) (tag : Tag) → slice_get s.writer.buffers b ≡ Some (Held width tag) → HasNothingIn s.writer.sizes.offset_bits b image
+      nothing b width tag at =
+          let t = g.tags.held b width tag at in
+          let old : HasNothingIn s.writer.sizes.offset_bits b (last_image s.writer.commits) = all_drop-at (HasNothingIn s.writer.sizes.offset_bits b) tag.commit s.writer.commits (last_number s.writer.commits) (last_image s.writer.commits) t.unused t.commit (last_at s.writer.commits (some-commit s.writer (good_view reaches lawful s g))) in
+          all_pairs (λ pair. buffer_of s.writer.sizes.offset_bits pair.0 ≢ b) (reaches s.writer.sizes.shape (writer_records s.writer) root) (writer_records s.writer) there
+          (λ r some. ⊎_elim
+          (λ (h : record_at (last_image s.writer.commits) r ≡ Some (writer_records s.writer r)). all_found (λ pair. buffer_of s.writer.sizes.offset_bits pair.0 ≢ b) (last_image s.writer.commits).records r _ old h)
+          (λ (h : IsWhole s.writer r (writer_records s.writer r)). λ same.
+          let none : active_in s.writer.buffers (buffer_of s.writer.sizes.offset_bits r) ≡ None = ap (active_in s.writer.buffers) same ∙ ap (option_and_then active_width) at in
+          let is = h.active in absurd (cc))
+          (records-found s.writer r some))
+
+      tagged : (b width : ℕ) (tag : Tag) → slice_get s.writer.buffers b ≡ Some (Held width tag) → GoodTag s.writer.sizes.offset_bits s.writer.queue (s.writer.commits ++ image ∷ []) b tag
+      tagged b width tag at =
+          let t = g.tags.held b width tag at in
+          record {
+            generation = t.generation;
+            commit = let le = t.commit in omega (arith, le, longer);
+            first_commits = t.first_commits;
+            unused = all_drop-push (HasNothingIn s.writer.sizes.offset_bits b) tag.commit s.writer.commits image t.unused (nothing b width tag at);
+          }
 
       placed : All (λ image. All (IsPlaced s.writer.sizes s.writer.buffers) image.records) kept
-      placed = all_drop-push (λ image. All (IsPlaced s.writer.sizes s.writer.buffers) image.records) (floor_of s.writer) s.writer.commits image g.frozen.records
-          (all_pairs (IsPlaced s.writer.sizes s.writer.buffers) (reaches s.writer.sizes.shape (overlay s.writer) root) (overlay s.writer) there (overlay-placed s g))
+      placed = all_drop-push (λ image. All (IsPlaced s.writer.sizes s.writer.buffers) image.records) (floor_of s.writer) s.writer.commits image g.places.records
+          (all_pairs (IsPlaced s.writer.sizes s.writer.buffers) (reaches s.writer.sizes.shape (writer_records s.writer) root) (writer_records s.writer) there (records-placed s.writer (good_view reaches lawful s g)))
 
       stand : All (λ image. All (WordsStand s.writer.sizes s.words) image.records) kept
       stand = all_drop-push (λ image. All (WordsStand s.writer.sizes s.words) image.records) (floor_of s.writer) s.writer.commits image g.memory.records
-          (all_pairs (WordsStand s.writer.sizes s.words) (reaches s.writer.sizes.shape (overlay s.writer) root) (overlay s.writer) there (overlay-stands s g))
+          (all_pairs (WordsStand s.writer.sizes s.words) (reaches s.writer.sizes.shape (writer_records s.writer) root) (writer_records s.writer) there (records-stands s g))

@@ -8,7 +8,7 @@ use Rattle.image_base.specs.Places.{IsEntry}
 use Rattle.gen_core.specs.declared.views.Sizes.{Sizes}
 use Rattle.gen_core.specs.declared.views.WriterView.{WriterView}
 use Rattle.gen_core.specs.Views.{active_in, last_image}
-use Rattle.gen_core.specs.Work.{work_at, place_in, IsWhole, prepend, run_at, is_entry, only_if, whole_by, whole_at, overlay}
+use Rattle.gen_core.specs.Work.{work_at, place_in, IsWhole, prepend, run_at, is_entry, only_if, whole_by, whole_at, writer_records}
 
 -- a run's words
 pub run-words : (work : List (ℕ × ℕ)) (p n : ℕ) (ws : List ℕ) → run_at work p n ≡ Some ws → (length ws ≡ n) × ((i : ℕ) → i < length ws → work_at work (p + i) ≡ Some (slice_index ws i))
@@ -33,9 +33,9 @@ run-words work p (suc n) ws e = by_first (work_at work p) refl (run_at work (suc
         each x xs first later (suc i) lt = let at : p + suc i ≡ suc p + i = omega arith in ap (work_at work) at ∙ later i (omega arith)
 
 -- the test of an entry
-pub is_entry-true : (z : Sizes) (width ref : ℕ) → is_entry z width ref ≡ true → IsEntry z.buffers z.words width ref
+pub is_entry-true : (sizes : Sizes) (width ref : ℕ) → is_entry sizes width ref ≡ true → IsEntry sizes.offset_bits sizes.buffers sizes.words width ref
 unfolding is_entry
-is_entry-true z width ref test = record {
+is_entry-true sizes width ref test = record {
   inside = grind (arith, nat_tests, test);
   wide = grind (arith, nat_tests, test);
   first = grind (arith, nat_tests, test);
@@ -44,29 +44,29 @@ is_entry-true z width ref test = record {
 
 -- what was stored whole
 pub whole-found : (w : WriterView) (ref : ℕ) (ws : List ℕ) → whole_at w ref ≡ Some ws → IsWhole w ref ws
-whole-found w ref ws e = by_width (active_in w.buffers (buffer_of ref)) refl e
+whole-found w ref ws e = by_width (active_in w.buffers (buffer_of w.sizes.offset_bits ref)) refl e
   where
-    by_entry : (width : ℕ) → active_in w.buffers (buffer_of ref) ≡ Some width → (t : Bool) → is_entry w.sizes width ref ≡ t
+    by_entry : (width : ℕ) → active_in w.buffers (buffer_of w.sizes.offset_bits ref) ≡ Some width → (t : Bool) → is_entry w.sizes width ref ≡ t
         → only_if t (run_at w.work (place_in w.sizes width ref 0) width) ≡ Some ws → IsWhole w ref ws
     by_entry width at false test is = absurd (cc)
     by_entry width at true test is =
         let run = run-words w.work (place_in w.sizes width ref 0) width ws is in
         let long : length ws ≡ width = run.0 in
         record {
-          entry = subst (λ n. IsEntry w.sizes.buffers w.sizes.words n ref) (sym long) (is_entry-true w.sizes width ref test);
+          entry = subst (λ n. IsEntry w.sizes.offset_bits w.sizes.buffers w.sizes.words n ref) (sym long) (is_entry-true w.sizes width ref test);
           active = at ∙ ap Some (sym long);
           words = λ i lt.
               let there : place_in w.sizes width ref 0 + i ≡ place_in w.sizes (length ws) ref i = subst (λ n. place_in w.sizes width ref 0 + i ≡ place_in w.sizes n ref i) (sym long) (omega arith) in
               ap (work_at w.work) (sym there) ∙ run.1 i lt;
         }
 
-    by_width : (o : Option ℕ) → active_in w.buffers (buffer_of ref) ≡ o → whole_by w ref o ≡ Some ws → IsWhole w ref ws
+    by_width : (o : Option ℕ) → active_in w.buffers (buffer_of w.sizes.offset_bits ref) ≡ o → whole_by w ref o ≡ Some ws → IsWhole w ref ws
     by_width None at is = absurd (cc)
     by_width (Some width) at is = by_entry width at (is_entry w.sizes width ref) refl is
 
 -- a record of the writer is whole in the work, or of the last commit
-pub overlay-found : (w : WriterView) (ref : ℕ) → 0 < length (overlay w ref) → (record_at (last_image w.commits) ref ≡ Some (overlay w ref)) ⊎ IsWhole w ref (overlay w ref)
-overlay-found w ref some = by_whole (whole_at w ref) refl some
+pub records-found : (w : WriterView) (ref : ℕ) → 0 < length (writer_records w ref) → (record_at (last_image w.commits) ref ≡ Some (writer_records w ref)) ⊎ IsWhole w ref (writer_records w ref)
+records-found w ref some = by_whole (whole_at w ref) refl some
   where
     by_last : (o : Option (List ℕ)) → 0 < length (unwrap_or o []) → o ≡ Some (unwrap_or o [])
     by_last None h = absurd (omega arith)

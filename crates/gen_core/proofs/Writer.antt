@@ -1,113 +1,52 @@
 -- The writer's events keep the invariant.
-use Rattle.std.proofs.Common.{◌≡◌, ◌≢◌, ℕ, suc, ◌+◌, ◌*◌, ◌<◌, ◌≤◌, List, [], ◌∷◌, ◌++◌, length, set, Option, Some, None, Bool, cond, eqb, true, false, refl, sym, ap, ◌∙◌, subst, ⊎_elim, arith, length-set, slice_index, eqb-true, eq-eqb, true≢false, mul-le-mul_right, suc-mul}
+use Rattle.list_facts.proofs.Places.{slice_get-set_same, slice_get-set_other}
+use Rattle.std.proofs.Common.{◌≡◌, ◌≢◌, ℕ, suc, ◌+◌, ◌*◌, ◌<◌, ◌≤◌, List, length, set, Option, Some, None, Bool, cond, eqb, true, false, refl, sym, ap, ◌∙◌, subst, ⊎_elim, arith, length-set, slice_index, eqb-true, eq-eqb, true≢false, mul-le-mul_right, suc-mul}
 use mathlib.Core.Logic.{dite}
 use native.Mathlib.Decide.{ℕ_discrete}
 use Rattle.std.proofs.Math.Seq.{get_or-set_other, get_or-set_same}
-use Rattle.std.specs.Prelude.{slice_get, All, option_and_then}
+use Rattle.std.specs.Prelude.{slice_get, option_and_then}
 use Rattle.std.proofs.lemmas.Option.{slice_get_within}
-use Rattle.std.proofs.lemmas.List.Elements.{All-nil, All-cons, All-set, All-weaker}
 use Rattle.entry_ref.specs.References.{buffer_of}
-use Rattle.image_base.specs.declared.Image.{Image}
-use Rattle.image_base.specs.Records.{Records, AllThere, pairs_of}
+use Rattle.image_base.specs.Records.{Records}
 use Rattle.image_base.specs.Places.{base, state_place}
 use Rattle.gen_core.specs.declared.views.Sizes.{Sizes}
+use Rattle.gen_core.specs.declared.views.Tag.{Tag}
 use Rattle.gen_core.specs.declared.views.Buffer.{Buffer}
 use Rattle.gen_core.specs.declared.views.Buffer.TheVariants.{Free, Active, Held}
-use Rattle.gen_core.specs.Views.{oldest_of, floor_of, kept_of, last_number, last_image, IsCommit, state_word, record_width, width_in, active_width, active_in, last_tag, last_tag_in}
+use Rattle.gen_core.specs.Views.{kept_of, state_word, record_width, width_in, active_width, last_tag_in}
 use Rattle.gen_core.specs.Work.{work_at}
-use Rattle.gen_core.specs.Good.{State, IsWorkPlace, IsUntagged, Good}
-use Rattle.gen_core.specs.Events.{MayStoreWidth, MayStoreWord, MayHandOut, with_buffer, after_store_width, after_store_word, after_hand_out}
-use Rattle.gen_core.proofs.Lists.{all_at, at_set, at_other, at_same, at_longer}
-use Rattle.gen_core.proofs.Frames.{IsBehind, active-behind, behind-base, base-same, behind-high, names-set, counts-set, records-set, records-behind, active-inside, active-below}
-
--- an active buffer's width is its records' width
-pub active-width : (buffers : List Buffer) (b width : ℕ) → active_in buffers b ≡ Some width → width_in buffers b ≡ Some width
-active-width buffers b width e = by_buffer (slice_get buffers b) e
-  where
-    by_buffer : (o : Option Buffer) → option_and_then active_width o ≡ Some width → option_and_then record_width o ≡ Some width
-    by_buffer None h = absurd (cc)
-    by_buffer (Some (Free last)) h = absurd (cc)
-    by_buffer (Some (Active n last)) h = h
-    by_buffer (Some (Held n tag)) h = absurd (cc)
-
--- and its state is 1
-active-there : (buffers : List Buffer) (b width : ℕ) → active_in buffers b ≡ Some width → (last : Option ℕ) × (slice_get buffers b ≡ Some (Active width last))
-active-there buffers b width e = by_buffer (slice_get buffers b) refl e
-  where
-    by_buffer : (o : Option Buffer) → slice_get buffers b ≡ o → option_and_then active_width o ≡ Some width → (last : Option ℕ) × (slice_get buffers b ≡ Some (Active width last))
-    by_buffer None at h = absurd (cc)
-    by_buffer (Some (Free last)) at h = absurd (cc)
-    by_buffer (Some (Active n last)) at h = let same : n ≡ width = cc in (last, at ∙ ap (λ m. Some (Active m last)) same)
-    by_buffer (Some (Held n tag)) at h = absurd (cc)
-
--- a buffer that was never on hold has no last tag
-untagged-last : (buffers : List Buffer) (b : ℕ) → All IsUntagged buffers → last_tag_in buffers b ≡ None
-untagged-last buffers b all = by_buffer (slice_get buffers b) refl
-  where
-    of_buffer : (x : Buffer) → IsUntagged x → last_tag x ≡ None
-    of_buffer (Free last) h = h
-    of_buffer (Active width last) h = h
-    of_buffer (Held width tag) h = absurd h
-
-    by_buffer : (o : Option Buffer) → slice_get buffers b ≡ o → option_and_then last_tag o ≡ None
-    by_buffer None at = refl
-    by_buffer (Some x) at = of_buffer x (all_at IsUntagged buffers b x all at)
-
--- a list of commits that is not empty has its last one at its last number
-pub last_at : (commits : List Image) → 0 < length commits → slice_get commits (last_number commits) ≡ Some (last_image commits)
-last_at [] some = absurd (omega arith)
-last_at (x ∷ []) some = refl
-last_at (x ∷ y ∷ ys) some =
-    let e : last_number (x ∷ y ∷ ys) ≡ suc (last_number (y ∷ ys)) = omega arith in
-    let P : ℕ → Type 0 = λ n. slice_get (x ∷ y ∷ ys) n ≡ Some (last_image (y ∷ ys)) in
-    subst P (sym e) (last_at (y ∷ ys) (omega arith))
-
-pub last_image-push : (commits : List Image) (image : Image) → last_image (commits ++ image ∷ []) ≡ image
-last_image-push [] image = refl
-last_image-push (x ∷ []) image = refl
-last_image-push (x ∷ y ∷ ys) image = last_image-push (y ∷ ys) image
-
-pub commits-longer : (commits : List Image) (image : Image) (saw : List (ℕ × Image)) → All (IsCommit commits) saw → All (IsCommit (commits ++ image ∷ [])) saw
-commits-longer commits image saw all = All-weaker (IsCommit commits) (IsCommit (commits ++ image ∷ [])) (λ seen at. at_longer commits (image ∷ []) seen.0 seen.1 at) saw all
-
--- what holds of each reference with its words holds of each pair of an image
-pub all_pairs : (P : ℕ × List ℕ → Type 0) (refs : List ℕ) (m : Records) → AllThere refs m → ((r : ℕ) → 0 < length (m r) → P (r, m r)) → All P (pairs_of refs m)
-all_pairs P [] m all each = All-nil P
-all_pairs P (r ∷ rs) m all each = All-cons P (r, m r) (pairs_of rs m) (each r all.0) (all_pairs P rs m all.1 each)
+use Rattle.gen_core.specs.Good.{State, IsWorkPlace, Good}
+use Rattle.gen_core.specs.Conditions.{MayStoreWidth, MayStoreWord, MayHandOut}
+use Rattle.gen_core.specs.Events.{with_buffer, after_store_width, after_store_word, after_hand_out}
+use Rattle.gen_core.proofs.Lists.{at_set, some-same}
+use Rattle.gen_core.proofs.Frames.{IsBehind, active-behind, behind-base, base-same, behind-high, names-set, counts-set, records-set, records-behind, active-inside, active-below, sizes-set}
+use Rattle.gen_core.proofs.ViewLemmas.{active-width, active-there}
 
 module _ (reaches : ℕ → Records → ℕ → List ℕ) (lawful : ℕ → Records → ℕ → Type 0) where
-  -- there is a commit, and the last one is kept
-  pub some-commit : (s : State) → Good reaches lawful s → 0 < length s.writer.commits
-  some-commit s g = slice_get_within s.writer.commits 0 _ g.commits.first
-
-  pub floor-zero : (s : State) → Good reaches lawful s → floor_of s.writer ≡ 0
-  floor-zero s g = let a = g.append_only in (λ i. (oldest_of (a.alone i) (a.opening i)).first)
-
   pub store_word_keeps : (s : State) (p n : ℕ) → Good reaches lawful s → MayStoreWord s.writer p → Good reaches lawful (after_store_word s p n)
   store_word_keeps s p n g may =
-      let z : Sizes = s.writer.sizes in
-      let at : IsBehind z p = active-behind may.active in
-      let high : 18 + z.buffers < p = behind-high z p at in
+      let sizes : Sizes = s.writer.sizes in
+      let at : IsBehind sizes p = active-behind may.active in
+      let high : 18 + sizes.buffers < p = behind-high sizes p at in
       record {
-        sizes = record { table = length-set s.words p n ∙ g.sizes.table; count = g.sizes.count; some_word = g.sizes.some_word; commit_limit = g.sizes.commit_limit; generation_limit = g.sizes.generation_limit };
+        sizes = sizes-set g.sizes p n;
         queue = g.queue;
         tags = g.tags;
         commits = g.commits;
-        frozen = record { records = g.frozen.records; stored = λ q m there. place q m (eqb q p) refl there };
+        places = record { records = g.places.records; stored = λ q m there. place q m (eqb q p) refl there };
         names = names-set g.names p n (omega (arith, g.sizes.count));
         memory = record {
-          records = records-set z s.words (kept_of s.writer) p n (λ k d lt l e less. ((may.apart k d lt).records l e less).each) g.memory.records;
+          records = records-set sizes s.words (kept_of s.writer) p n (λ k d lt l e less. ((may.apart k d lt).records l e less).each) g.memory.records;
           stored = λ q m there. word q m (eqb q p) refl there;
-          widths = λ b width is some. get_or-set_other s.words p (base z.buffers z.words b) n 0 (λ e. behind-base z p b at (sym e)) ∙ g.memory.widths b width is some;
+          widths = λ b width is some. get_or-set_other s.words p (base sizes.buffers sizes.words b) n 0 (λ e. behind-base sizes p b at (sym e)) ∙ g.memory.widths b width is some;
         };
         counts = counts-set g.counts p n (λ h lt e. omega arith);
         readers = g.readers;
-        append_only = g.append_only;
       }
     where
       place : (q m : ℕ) (t : Bool) → eqb q p ≡ t → cond t (Some n) (work_at s.writer.work q) ≡ Some m → IsWorkPlace s.writer.sizes s.writer.buffers (kept_of s.writer) q
       place q m true e there = subst (IsWorkPlace s.writer.sizes s.writer.buffers (kept_of s.writer)) (sym (eqb-true q p e)) (record { active = may.active; apart = may.apart })
-      place q m false e there = g.frozen.stored q m there
+      place q m false e there = g.places.stored q m there
 
       inside : p < length s.words
       inside = active-below s.writer.sizes s.writer.buffers p s.words may.active g.sizes.count g.sizes.table
@@ -117,16 +56,15 @@ module _ (reaches : ℕ → Records → ℕ → List ℕ) (lawful : ℕ → Reco
       word q m false e there = get_or-set_other s.words p q n 0 (λ same. true≢false (sym (eq-eqb q p same) ∙ e)) ∙ g.memory.stored q m there
 
   -- a buffer without records gets another state or width, and one word changes that is behind no first word of a buffer
-  buffer_keeps : (s : State) (b p n width : ℕ) (last : Option ℕ) → Good reaches lawful s
+  buffer_keeps : (s : State) (b p n width : ℕ) (last : Option Tag) → Good reaches lawful s
       → ((c : ℕ) (w : ℕ) → c ≡ b → width_in s.writer.buffers c ≡ Some w → 0 < w → ⊥)
-      → last ≡ None
       → ((q : ℕ) → IsBehind s.writer.sizes q → q ≢ p)
       → 18 ≤ p
       → ((c : ℕ) (x : Buffer) → slice_get (set s.writer.buffers b (Active width last)) c ≡ Some x → slice_index (set s.words p n) (state_place c) ≡ state_word x)
       → ((c w : ℕ) → width_in (set s.writer.buffers b (Active width last)) c ≡ Some w → 0 < w → slice_index (set s.words p n) (base s.writer.sizes.buffers s.writer.sizes.words c) ≡ w)
       → Good reaches lawful (record { words = set s.words p n; writer = with_buffer s.writer b (Active width last); readers = s.readers })
-  buffer_keeps s b p n width last g empty none clear high states widths =
-      let z : Sizes = s.writer.sizes in
+  buffer_keeps s b p n width last g empty clear high states widths =
+      let sizes : Sizes = s.writer.sizes in
       let buffers : List Buffer = s.writer.buffers in
       let x : Buffer = Active width last in
       record {
@@ -137,19 +75,19 @@ module _ (reaches : ℕ → Records → ℕ → List ℕ) (lawful : ℕ → Reco
           held = λ c w tag at. ⊎_elim (λ (h : (c ≡ b) × (x ≡ Held w tag)). absurd (let e = h.1 in cc)) (λ (h : (c ≢ b) × (slice_get buffers c ≡ Some (Held w tag))). g.tags.held c w tag h.1) (at_set buffers b c x (Held w tag) at);
         };
         commits = g.commits;
-        frozen = record {
+        places = record {
           records = λ k d lt l e less.
-              let old = g.frozen.records k d lt l e less in
-              record { inside = old.inside; width = still (buffer_of _) _ old.width old.inside.wide };
+              let old = g.places.records k d lt l e less in
+              record { inside = old.inside; width = still (buffer_of s.writer.sizes.offset_bits _) _ old.width old.inside.wide };
           stored = λ q m there.
-              let old = g.frozen.stored q m there in
+              let old = g.places.stored q m there in
               let a = old.active in
               record {
                 active = record {
                   b = a.b;
                   width = a.width;
                   x = a.x;
-                  active = ap (option_and_then active_width) (at_other buffers b a.b x (λ same. empty a.b a.width same (active-width buffers a.b a.width a.active) a.some)) ∙ a.active;
+                  active = ap (option_and_then active_width) (slice_get-set_other buffers b a.b x (λ same. empty a.b a.width same (active-width buffers a.b a.width a.active) a.some)) ∙ a.active;
                   some = a.some;
                   behind = a.behind;
                   inside = a.inside;
@@ -158,49 +96,44 @@ module _ (reaches : ℕ → Records → ℕ → List ℕ) (lawful : ℕ → Reco
                 apart = old.apart;
               };
         };
-        names = record { root = get_or-set_other s.words p 0 n 0 (λ e. omega arith) ∙ g.names.root; last = get_or-set_other s.words p 1 n 0 (λ e. omega arith) ∙ g.names.last; states = states };
+        names = record { root = get_or-set_other s.words p 0 n 0 (λ e. omega arith) ∙ g.names.root; newest_hold = get_or-set_other s.words p 1 n 0 (λ e. omega arith) ∙ g.names.newest_hold; states = states };
         memory = record {
-          records = records-set z s.words (kept_of s.writer) p n (records-behind z buffers (kept_of s.writer) p clear g.frozen.records) g.memory.records;
-          stored = λ q m there. get_or-set_other s.words p q n 0 (clear q (active-behind (g.frozen.stored q m there).active)) ∙ g.memory.stored q m there;
+          records = records-set sizes s.words (kept_of s.writer) p n (records-behind sizes buffers (kept_of s.writer) p clear g.places.records) g.memory.records;
+          stored = λ q m there. get_or-set_other s.words p q n 0 (clear q (active-behind (g.places.stored q m there).active)) ∙ g.memory.stored q m there;
           widths = widths;
         };
         counts = counts-set g.counts p n (λ h lt e. omega arith);
         readers = g.readers;
-        append_only = let a = g.append_only in record { alone = a.alone; opening = a.opening; calm = a.calm; untagged = All-set IsUntagged buffers b x none a.untagged; still = a.still };
       }
     where
       still : (c w : ℕ) → width_in s.writer.buffers c ≡ Some w → 0 < w → width_in (set s.writer.buffers b (Active width last)) c ≡ Some w
-      still c w is some = ap (option_and_then record_width) (at_other s.writer.buffers b c (Active width last) (λ same. empty c w same is some)) ∙ is
+      still c w is some = ap (option_and_then record_width) (slice_get-set_other s.writer.buffers b c (Active width last) (λ same. empty c w same is some)) ∙ is
 
   pub store_width_keeps : (s : State) (b width : ℕ) → Good reaches lawful s → MayStoreWidth s.writer b width → Good reaches lawful (after_store_width s b width)
   store_width_keeps s b width g may =
-      buffer_keeps s b (base z.buffers z.words b) width width (last_tag_in buffers b) g
+      buffer_keeps s b (base sizes.buffers sizes.words b) width width (last_tag_in buffers b) g
       (λ c w same is some. let old : w ≡ 0 = same_width c w same is in omega arith)
-      (untagged-last buffers b g.append_only.untagged)
-      (λ q h. behind-base z q b h)
+      (λ q h. behind-base sizes q b h)
       (omega arith)
       states
       widths
     where
-      z : Sizes
-      z = s.writer.sizes
+      sizes : Sizes
+      sizes = s.writer.sizes
 
       buffers : List Buffer
       buffers = s.writer.buffers
 
       p : ℕ
-      p = base z.buffers z.words b
+      p = base sizes.buffers sizes.words b
 
-      within : b < z.buffers
+      within : b < sizes.buffers
       within = let lt = active-inside buffers b 0 may.none_yet in omega (arith, lt, g.sizes.count)
-
-      some-same : (a c : ℕ) → Some a ≡ Some c → a ≡ c
-      some-same a c e = cc
 
       same_width : (c w : ℕ) → c ≡ b → width_in buffers c ≡ Some w → w ≡ 0
       same_width c w same is = some-same w 0 (sym is ∙ ap (width_in buffers) same ∙ active-width buffers b 0 may.none_yet)
 
-      low : (c : ℕ) → c < z.buffers → state_place c ≢ p
+      low : (c : ℕ) → c < sizes.buffers → state_place c ≢ p
       low c lt e = omega arith
 
       states : (c : ℕ) (x : Buffer) → slice_get (set buffers b (Active width (last_tag_in buffers b))) c ≡ Some x → slice_index (set s.words p width) (state_place c) ≡ state_word x
@@ -218,32 +151,31 @@ module _ (reaches : ℕ → Records → ℕ → List ℕ) (lawful : ℕ → Reco
 
       below : p < length s.words
       below =
-          let more : suc b * z.words ≤ z.buffers * z.words = mul-le-mul_right z.words within in
+          let more : suc b * sizes.words ≤ sizes.buffers * sizes.words = mul-le-mul_right sizes.words within in
           let some = g.sizes.some_word in
-          omega (arith, suc-mul b z.words, g.sizes.table)
+          omega (arith, suc-mul b sizes.words, g.sizes.table)
 
-      widths : (c w : ℕ) → width_in (set buffers b (Active width (last_tag_in buffers b))) c ≡ Some w → 0 < w → slice_index (set s.words p width) (base z.buffers z.words c) ≡ w
+      widths : (c w : ℕ) → width_in (set buffers b (Active width (last_tag_in buffers b))) c ≡ Some w → 0 < w → slice_index (set s.words p width) (base sizes.buffers sizes.words c) ≡ w
       widths c w is some = dite (ℕ_discrete c b)
           (λ same.
-          let new : width_in (set buffers b (Active width (last_tag_in buffers b))) b ≡ Some width = ap (option_and_then record_width) (at_same buffers b (Active width (last_tag_in buffers b)) (omega (arith, within, g.sizes.count))) in
+          let new : width_in (set buffers b (Active width (last_tag_in buffers b))) b ≡ Some width = ap (option_and_then record_width) (slice_get-set_same buffers b (Active width (last_tag_in buffers b)) (omega (arith, within, g.sizes.count))) in
           let value : width ≡ w = some-same width w (sym new ∙ ap (width_in (set buffers b (Active width (last_tag_in buffers b)))) (sym same) ∙ is) in
-          ap (λ k. slice_index (set s.words p width) (base z.buffers z.words k)) same ∙ get_or-set_same s.words p width 0 below ∙ value)
+          ap (λ k. slice_index (set s.words p width) (base sizes.buffers sizes.words k)) same ∙ get_or-set_same s.words p width 0 below ∙ value)
           (λ other.
-          get_or-set_other s.words p (base z.buffers z.words c) width 0 (λ e. other (base-same z c b g.sizes.some_word e))
-          ∙ g.memory.widths c w (sym (ap (option_and_then record_width) (at_other buffers b c (Active width (last_tag_in buffers b)) other)) ∙ is) some)
+          get_or-set_other s.words p (base sizes.buffers sizes.words c) width 0 (λ e. other (base-same sizes c b g.sizes.some_word e))
+          ∙ g.memory.widths c w (sym (ap (option_and_then record_width) (slice_get-set_other buffers b c (Active width (last_tag_in buffers b)) other)) ∙ is) some)
 
   pub hand_out_keeps : (s : State) (b : ℕ) → Good reaches lawful s → MayHandOut s.writer b → Good reaches lawful (after_hand_out s b)
   hand_out_keeps s b g may =
       buffer_keeps s b (state_place b) 1 0 (last_tag_in buffers b) g
       (λ c w same is some. absurd (let free : width_in buffers c ≡ None = ap (width_in buffers) same ∙ ap (option_and_then record_width) may.free in cc))
-      (untagged-last buffers b g.append_only.untagged)
-      (λ q h e. let high = behind-high z q h in omega (arith, within, high))
+      (λ q h e. let high = behind-high sizes q h in omega (arith, within, high))
       (omega arith)
       states
       widths
     where
-      z : Sizes
-      z = s.writer.sizes
+      sizes : Sizes
+      sizes = s.writer.sizes
 
       buffers : List Buffer
       buffers = s.writer.buffers
@@ -251,8 +183,8 @@ module _ (reaches : ℕ → Records → ℕ → List ℕ) (lawful : ℕ → Reco
       x : Buffer
       x = Active 0 (last_tag_in s.writer.buffers b)
 
-      within : b < z.buffers
-      within = let lt : b < length buffers = slice_get_within buffers b (Free may.last) may.free in omega (arith, lt, g.sizes.count)
+      within : b < sizes.buffers
+      within = let lt : b < length buffers = slice_get_within buffers b (Free may.tag) may.free in omega (arith, lt, g.sizes.count)
 
       states : (c : ℕ) (y : Buffer) → slice_get (set buffers b x) c ≡ Some y → slice_index (set s.words (state_place b) 1) (state_place c) ≡ state_word y
       states c y at =
@@ -264,13 +196,13 @@ module _ (reaches : ℕ → Records → ℕ → List ℕ) (lawful : ℕ → Reco
           get_or-set_other s.words (state_place b) (state_place c) 1 0 (λ e. other (omega arith)) ∙ g.names.states c y h.1)
           (at_set buffers b c x y at)
 
-      widths : (c w : ℕ) → width_in (set buffers b x) c ≡ Some w → 0 < w → slice_index (set s.words (state_place b) 1) (base z.buffers z.words c) ≡ w
+      widths : (c w : ℕ) → width_in (set buffers b x) c ≡ Some w → 0 < w → slice_index (set s.words (state_place b) 1) (base sizes.buffers sizes.words c) ≡ w
       widths c w is some = dite (ℕ_discrete c b)
           (λ same.
-          let new : width_in (set buffers b x) b ≡ Some 0 = ap (option_and_then record_width) (at_same buffers b x (omega (arith, within, g.sizes.count))) in
+          let new : width_in (set buffers b x) b ≡ Some 0 = ap (option_and_then record_width) (slice_get-set_same buffers b x (omega (arith, within, g.sizes.count))) in
           let value : Some 0 ≡ Some w = sym new ∙ ap (width_in (set buffers b x)) (sym same) ∙ is in
           let nought : 0 ≡ w = cc in
           absurd (omega arith))
           (λ other.
-          get_or-set_other s.words (state_place b) (base z.buffers z.words c) 1 0 (λ e. omega (arith, within))
-          ∙ g.memory.widths c w (sym (ap (option_and_then record_width) (at_other buffers b c x other)) ∙ is) some)
+          get_or-set_other s.words (state_place b) (base sizes.buffers sizes.words c) 1 0 (λ e. omega (arith, within))
+          ∙ g.memory.widths c w (sym (ap (option_and_then record_width) (slice_get-set_other buffers b c x other)) ∙ is) some)

@@ -1,79 +1,24 @@
 -- The events: each is one step on one word by one seat, under a condition on that seat's view.
-use Rattle.std.specs.Prelude.{◌≡◌, ◌⊎◌, ℕ, ◌+◌, ◌*◌, ◌<◌, ◌≤◌, List, [], ◌∷◌, ◌++◌, length, set, replicate, slice_get, Option, Some, None, All, IsTrue, nat_eq}
+use Rattle.std.specs.Prelude.{if◌then◌else◌, ◌≡◌, ◌≢◌, ℕ, ◌+◌, ◌-◌, ◌*◌, ◌%◌, ◌^◌, slice_index, ◌<◌, List, [], ◌∷◌, ◌++◌, length, set, replicate, slice_get, Some, None, All, IsTrue, nat_eq}
 use Rattle.std.specs.List.{list_any}
-use Rattle.entry_ref.specs.References.{buffer_of}
 use Rattle.image_base.specs.declared.Image.{Image}
 use Rattle.image_base.specs.Records.{Records}
-use Rattle.image_base.specs.Images.{no_image, record_at}
+use Rattle.image_base.specs.Images.{no_image}
 use Rattle.image_base.specs.Places.{base, state_place}
 use Rattle.gen_core.specs.declared.views.Sizes.{Sizes}
-use Rattle.gen_core.specs.declared.views.Pending.TheVariants.{Nothing}
+use Rattle.gen_core.specs.declared.views.OpenHold.{OpenHold}
+use Rattle.gen_core.specs.declared.views.Pending.TheVariants.{Nothing, Next, Probed}
 use Rattle.gen_core.specs.declared.views.Buffer.{Buffer}
-use Rattle.gen_core.specs.declared.views.Buffer.TheVariants.{Free, Active}
-use Rattle.gen_core.specs.declared.views.ReaderState.TheVariants.{Idle}
+use Rattle.gen_core.specs.declared.views.Buffer.TheVariants.{Free, Active, Held}
+use Rattle.gen_core.specs.declared.views.Tag.{Tag}
+use Rattle.gen_core.specs.declared.views.ReaderState.{ReaderState}
+use Rattle.gen_core.specs.declared.views.ReaderState.TheVariants.{Idle, Aimed, Raised, Bounced, Guarded}
 use Rattle.gen_core.specs.declared.views.ReaderView.{ReaderView}
 use Rattle.gen_core.specs.declared.views.WriterView.{WriterView}
-use Rattle.gen_core.specs.Views.{queue_of, kept_of, last_number, last_image, root_word, active_in, last_tag_in, stands_on, spent}
-use Rattle.gen_core.specs.Work.{place_in, overlay, next_image}
-use Rattle.gen_core.specs.Good.{State, InActive, Avoids, first_hold}
-
--- Conditions: what the seat's own view has to say. While something is pending, the writer does nothing else.
-
--- store the width of a buffer: it is active and has none yet
-pub record MayStoreWidth (w : WriterView) (b width : ℕ) : Type 0 where
-  pub calm : w.pending ≡ Nothing
-  pub none_yet : active_in w.buffers b ≡ Some 0
-  pub some : 0 < width
-
--- store another word: its buffer is active and has its width, and no kept commit has a word there
-pub record MayStoreWord (w : WriterView) (p : ℕ) : Type 0 where
-  pub calm : w.pending ≡ Nothing
-  pub active : InActive w.sizes w.buffers p
-  pub apart : All (Avoids w.sizes p) (kept_of w)
-
--- hand a buffer out: it is free
-pub record MayHandOut (w : WriterView) (b : ℕ) : Type 0 where
-  pub calm : w.pending ≡ Nothing
-  pub last : Option ℕ
-  pub free : slice_get w.buffers b ≡ Some (Free last)
-
--- publish a root: what it reaches in the last commit and in what was stored whole since is lawful, and a number is left
-pub record MayPublish (lawful : ℕ → Records → ℕ → Type 0) (w : WriterView) (root : ℕ) : Type 0 where
-  pub calm : w.pending ≡ Nothing
-  pub lawful_root : lawful w.sizes.shape (overlay w) root
-  pub small : root < 4294967296
-  pub left : last_number w.commits < w.sizes.commit_limit
-
--- make a reader: fewer than 64 were made
-pub record MaySplit (w : WriterView) : Type 0 where
-  pub calm : w.pending ≡ Nothing
-  pub few : w.made < 64
-
--- take a reader in: it stands on nothing
-pub record MayJoin (w : WriterView) (r : ReaderView) : Type 0 where
-  pub calm : w.pending ≡ Nothing
-  pub idle : r.state ≡ Idle
-
--- load the root: the reader stands on nothing
-abbrev pub MayLoadRoot : ReaderView → Type 0
-MayLoadRoot r = r.state ≡ Idle
-
--- the reader is under the guard of this commit: what it saw last
-abbrev pub IsUnder : ReaderView → ℕ → Image → Type 0
-IsUnder r number image = slice_get r.saw 0 ≡ Some (number, image)
-
--- a word of a record of the image, or the first word of that record's buffer
-abbrev pub IsOfImage : Sizes → Image → ℕ → Type 0
-IsOfImage z image p =
-    (ref : ℕ) × (ws : List ℕ) × (record_at image ref ≡ Some ws)
-    × (((i : ℕ) × (i < length ws) × (p ≡ place_in z (length ws) ref i)) ⊎ (p ≡ base z.buffers z.words (buffer_of ref)))
-
--- load a word: it is of the image that the reader is under
-pub record MayLoadWord (r : ReaderView) (p : ℕ) : Type 0 where
-  pub number : ℕ
-  pub image : Image
-  pub under : IsUnder r number image
-  pub word : IsOfImage r.sizes image p
+use Rattle.gen_core.specs.Views.{queue_of, open_holds, hold_place, newest_word, last_number, last_image, root_word, last_tag_in, stands_on, spent}
+use Rattle.gen_core.specs.Work.{next_image}
+use Rattle.gen_core.specs.Good.{State}
+use Rattle.gen_core.specs.Conditions.{MayStoreWidth, MayStoreWord, MayHandOut, MayPublish, MayPutOnHold, MayFree, MayReopen, MayClose, MayProbe, MaySplit, MayJoin, MayLoadWord}
 
 -- What a view becomes.
 
@@ -92,17 +37,63 @@ handed_out w b = with_buffer w b (Active 0 (last_tag_in w.buffers b))
 abbrev pub published : WriterView → Image → WriterView
 published w image = record w { commits = w.commits ++ image ∷ []; work = [] }
 
+abbrev pub tag_of : WriterView → Tag
+tag_of w = record { generation = w.queue.newest.generation; commit = last_number w.commits }
+
+abbrev pub put_aside : WriterView → ℕ → ℕ → WriterView
+put_aside w b width = with_buffer w b (Held width (tag_of w))
+
+abbrev pub freed : WriterView → ℕ → Tag → WriterView
+freed w b tag = with_buffer w b (Free (Some tag))
+
+abbrev pub reopened : WriterView → ℕ → WriterView
+reopened w h = record w { queue = record w.queue { pending = Next h } }
+
+-- the open hold of the next generation
+abbrev pub coming_hold : WriterView → ℕ → OpenHold
+coming_hold w h = record { generation = w.queue.newest.generation + 1; hold = h; first_commit = last_number w.commits }
+
+abbrev pub advanced : WriterView → ℕ → WriterView
+advanced w h = record w { queue = queue_of (w.queue.older ++ w.queue.newest ∷ []) (coming_hold w h) Nothing }
+
+abbrev pub closed : WriterView → List OpenHold → WriterView
+closed w es = record w { queue = record w.queue { older = es } }
+
+-- a hold was found in use
+abbrev pub stopped : WriterView → ℕ → WriterView
+stopped w found = record w { stops = record { count = w.stops.count + 1; found = found } }
+
+abbrev pub probed : WriterView → WriterView
+probed w = record w { queue = record w.queue { pending = Probed } }
+
+-- the newest hold, found unused, becomes that of the next generation
+abbrev pub morphed : WriterView → WriterView
+morphed w = record w { queue = queue_of w.queue.older (coming_hold w w.queue.newest.hold) Nothing }
+
 abbrev pub with_reader : WriterView → WriterView
 with_reader w = record w { made = w.made + 1 }
 
 abbrev pub newcomer : WriterView → ReaderView
-newcomer w = record { sizes = w.sizes; seen = last_number w.commits; least = w.newest.generation; state = Idle; saw = [] }
+newcomer w = record { sizes = w.sizes; seen = last_number w.commits; least = w.queue.newest.generation; state = Idle; saw = [] }
 
 abbrev pub joined : WriterView → ReaderView → WriterView
 joined w r = record w { saw = r.saw ++ w.saw }
 
-abbrev pub sees : ReaderView → ℕ → Image → ReaderView
-sees r number image = record r { seen = number; saw = (number, image) ∷ r.saw }
+abbrev pub with_state : ReaderView → ReaderState → ReaderView
+with_state r t = record r { state = t }
+
+abbrev pub aims : ReaderView → OpenHold → ReaderView
+aims r e = record r { least = e.generation; state = Aimed e.generation e.hold }
+
+-- an even count says that the hold is open
+abbrev pub found_state : ℕ → ℕ → ReaderState
+found_state found h = if nat_eq (found % 2) 0 then Raised h else Bounced h
+
+abbrev pub bounced : ReaderView → ReaderView
+bounced r = record r { least = r.least + 1; state = Idle }
+
+abbrev pub sees : ReaderView → ℕ → ℕ → Image → ReaderView
+sees r h number image = record r { seen = number; state = Guarded h number; saw = (number, image) ∷ r.saw }
 
 -- The states after an event.
 
@@ -126,8 +117,37 @@ after_publish s image = record {
   readers = s.readers;
 }
 
-abbrev pub after_load_root : State → ℕ → ReaderView → State
-after_load_root s j r = record s { readers = set s.readers j (sees r (last_number s.writer.commits) (last_image s.writer.commits)) }
+abbrev pub after_put_on_hold : State → ℕ → ℕ → State
+after_put_on_hold s b width = record { words = set s.words (state_place b) 2; writer = put_aside s.writer b width; readers = s.readers }
+
+abbrev pub after_free : State → ℕ → Tag → State
+after_free s b tag = record { words = set s.words (state_place b) 0; writer = freed s.writer b tag; readers = s.readers }
+
+-- the count of a hold
+abbrev pub count_at : State → ℕ → ℕ
+count_at s h = slice_index s.words (hold_place h)
+
+abbrev pub after_reopen : State → ℕ → State
+after_reopen s h = record { words = set s.words (hold_place h) (count_at s h - 1); writer = reopened s.writer h; readers = s.readers }
+
+abbrev pub after_store_newest : State → ℕ → State
+after_store_newest s h = record { words = set s.words 1 (newest_word (coming_hold s.writer h)); writer = advanced s.writer h; readers = s.readers }
+
+abbrev pub after_close : State → OpenHold → List OpenHold → State
+after_close s e es = record { words = set s.words (hold_place e.hold) 1; writer = closed s.writer es; readers = s.readers }
+
+abbrev pub after_stop : State → ℕ → State
+after_stop s found = record s { writer = stopped s.writer found }
+
+abbrev pub after_probe : State → State
+after_probe s = record s { writer = probed s.writer }
+
+abbrev pub after_morph : State → State
+after_morph s = record {
+  words = set s.words 1 (newest_word (coming_hold s.writer s.writer.queue.newest.hold));
+  writer = morphed s.writer;
+  readers = s.readers;
+}
 
 abbrev pub after_split : State → State
 after_split s = record { words = s.words; writer = with_reader s.writer; readers = s.readers ++ newcomer s.writer ∷ [] }
@@ -135,16 +155,36 @@ after_split s = record { words = s.words; writer = with_reader s.writer; readers
 abbrev pub after_join : State → ℕ → ReaderView → State
 after_join s j r = record { words = s.words; writer = joined s.writer r; readers = set s.readers j spent }
 
+abbrev pub after_load_newest : State → ℕ → ReaderView → State
+after_load_newest s j r = record s { readers = set s.readers j (aims r s.writer.queue.newest) }
+
+-- one hold's count and one reader's view change
+abbrev pub after_count : State → ℕ → ℕ → ℕ → ReaderView → State
+after_count s h n j v = record { words = set s.words (hold_place h) n; writer = s.writer; readers = set s.readers j v }
+
+abbrev pub after_raise : State → ℕ → ReaderView → ℕ → State
+after_raise s j r h = after_count s h (count_at s h + 2) j (with_state r (found_state (count_at s h) h))
+
+abbrev pub after_bounce : State → ℕ → ReaderView → ℕ → State
+after_bounce s j r h = after_count s h (count_at s h - 2) j (bounced r)
+
+abbrev pub after_load_root : State → ℕ → ReaderView → ℕ → State
+after_load_root s j r h = record s { readers = set s.readers j (sees r h (last_number s.writer.commits) (last_image s.writer.commits)) }
+
+abbrev pub after_release : State → ℕ → ReaderView → ℕ → State
+after_release s j r h = after_count s h (count_at s h - 2) j (with_state r Idle)
+
 -- The opening.
 
-abbrev pub first_view : Sizes → WriterView
-first_view z = record {
-  sizes = z;
+abbrev pub opening_hold : OpenHold
+opening_hold = record { generation = 0; hold = 0; first_commit = 0 }
+
+abbrev pub opening_view : Sizes → WriterView
+opening_view sizes = record {
+  sizes = sizes;
   commits = no_image ∷ [];
-  older = [];
-  newest = first_hold;
-  pending = Nothing;
-  buffers = replicate z.buffers (Free None);
+  queue = queue_of [] opening_hold Nothing;
+  buffers = replicate sizes.buffers (Free None);
   work = [];
   saw = [];
   made = 0;
@@ -152,31 +192,43 @@ first_view z = record {
 }
 
 -- every word is 0, but the counts of holds 1 to 15, which are closed
-abbrev pub first_words : Sizes → List ℕ
-first_words z = 0 ∷ 0 ∷ 0 ∷ replicate 15 1 ++ replicate (z.buffers + z.buffers * z.words) 0
+abbrev pub opening_words : Sizes → List ℕ
+opening_words sizes = 0 ∷ 0 ∷ 0 ∷ replicate 15 1 ++ replicate (sizes.buffers + sizes.buffers * sizes.words) 0
 
 abbrev pub opening : Sizes → State
-opening z = record { words = first_words z; writer = first_view z; readers = [] }
+opening sizes = record { words = opening_words sizes; writer = opening_view sizes; readers = [] }
 
-pub record MayOpen (z : Sizes) : Type 0 where
-  pub some_word : 0 < z.words
-  pub commit_limit : z.commit_limit ≤ 4294967295
-  pub generation_limit : z.generation_limit ≤ 281474976710655
+pub record MayOpen (sizes : Sizes) : Type 0 where
+  pub some_word : 0 < sizes.words
+  pub commit_limit : sizes.commit_limit < 2 ^ 32
+  pub generation_limit : sizes.generation_limit < 2 ^ 48
 
--- Lists of events. A reader is named by its place among those made. The writer's loads, of the root after a join
--- (meet_load) and of a buffer's word (load_own), change nothing.
-
+-- A reader is named by its place among those made. The writer's loads, of the root after a join (`meet_load`)
+-- and of any word (`load_own`), change nothing.
 pub data Event : Type 0 where
   store_width : (b width : ℕ) → Event
   store_word : (p n : ℕ) → Event
   hand_out : (b : ℕ) → Event
   publish : (root : ℕ) → Event
-  load_root : (j : ℕ) → Event
-  load_word : (j p : ℕ) → Event
+  put_on_hold : (b : ℕ) → Event
+  free_buffer : (b : ℕ) → Event
+  reopen : (h : ℕ) → Event
+  store_newest : Event
+  close : Event
+  stop_at_oldest : Event
+  probe : Event
+  stop_at_newest : Event
+  morph : Event
   split : Event
   join : (j : ℕ) → Event
   meet_load : Event
   load_own : (p : ℕ) → Event
+  load_newest : (j : ℕ) → Event
+  raise : (j : ℕ) → Event
+  bounce : (j : ℕ) → Event
+  load_root : (j : ℕ) → Event
+  load_word : (j p : ℕ) → Event
+  release : (j : ℕ) → Event
 
 module _ (reaches : ℕ → Records → ℕ → List ℕ) (lawful : ℕ → Records → ℕ → Type 0) where
   -- an event takes the state s to the state t
@@ -185,12 +237,25 @@ module _ (reaches : ℕ → Records → ℕ → List ℕ) (lawful : ℕ → Reco
   Happens s (store_word p n) t = MayStoreWord s.writer p × (t ≡ after_store_word s p n)
   Happens s (hand_out b) t = MayHandOut s.writer b × (t ≡ after_hand_out s b)
   Happens s (publish root) t = MayPublish lawful s.writer root × (t ≡ after_publish s (next_image reaches s.writer root))
-  Happens s (load_root j) t = (r : ReaderView) × (slice_get s.readers j ≡ Some r) × MayLoadRoot r × (t ≡ after_load_root s j r)
-  Happens s (load_word j p) t = (r : ReaderView) × (slice_get s.readers j ≡ Some r) × MayLoadWord r p × (t ≡ s)
+  Happens s (put_on_hold b) t = (width : ℕ) × MayPutOnHold s.writer b width × (t ≡ after_put_on_hold s b width)
+  Happens s (free_buffer b) t = (tag : Tag) × MayFree s.writer b tag × (t ≡ after_free s b tag)
+  Happens s (reopen h) t = MayReopen s.writer h × (t ≡ after_reopen s h)
+  Happens s store_newest t = (h : ℕ) × (s.writer.queue.pending ≡ Next h) × (t ≡ after_store_newest s h)
+  Happens s close t = (e : OpenHold) × (es : List OpenHold) × MayClose s.writer e es × (count_at s e.hold ≡ 0) × (t ≡ after_close s e es)
+  Happens s stop_at_oldest t = (e : OpenHold) × (es : List OpenHold) × MayClose s.writer e es × (count_at s e.hold ≢ 0) × (t ≡ after_stop s (count_at s e.hold))
+  Happens s probe t = MayProbe s.writer × (count_at s s.writer.queue.newest.hold ≡ 0) × (t ≡ after_probe s)
+  Happens s stop_at_newest t = MayProbe s.writer × (count_at s s.writer.queue.newest.hold ≢ 0) × (t ≡ after_stop s (count_at s s.writer.queue.newest.hold))
+  Happens s morph t = (s.writer.queue.pending ≡ Probed) × (t ≡ after_morph s)
   Happens s split t = MaySplit s.writer × (t ≡ after_split s)
   Happens s (join j) t = (r : ReaderView) × (slice_get s.readers j ≡ Some r) × MayJoin s.writer r × (t ≡ after_join s j r)
-  Happens s meet_load t = (s.writer.pending ≡ Nothing) × (t ≡ s)
-  Happens s (load_own p) t = (s.writer.pending ≡ Nothing) × (t ≡ s)
+  Happens s meet_load t = (s.writer.queue.pending ≡ Nothing) × (t ≡ s)
+  Happens s (load_own p) t = (s.writer.queue.pending ≡ Nothing) × (t ≡ s)
+  Happens s (load_newest j) t = (r : ReaderView) × (slice_get s.readers j ≡ Some r) × (r.state ≡ Idle) × (t ≡ after_load_newest s j r)
+  Happens s (raise j) t = (r : ReaderView) × (slice_get s.readers j ≡ Some r) × (generation : ℕ) × (h : ℕ) × (r.state ≡ Aimed generation h) × (t ≡ after_raise s j r h)
+  Happens s (bounce j) t = (r : ReaderView) × (slice_get s.readers j ≡ Some r) × (h : ℕ) × (r.state ≡ Bounced h) × (t ≡ after_bounce s j r h)
+  Happens s (load_root j) t = (r : ReaderView) × (slice_get s.readers j ≡ Some r) × (h : ℕ) × (r.state ≡ Raised h) × (t ≡ after_load_root s j r h)
+  Happens s (load_word j p) t = (r : ReaderView) × (slice_get s.readers j ≡ Some r) × MayLoadWord r p × (t ≡ s)
+  Happens s (release j) t = (r : ReaderView) × (slice_get s.readers j ≡ Some r) × (h : ℕ) × (c : ℕ) × (r.state ≡ Guarded h c) × (t ≡ after_release s j r h)
 
   -- a list of events, one after another
   abbrev pub Happen : State → List Event → State → Type 0
@@ -198,12 +263,12 @@ module _ (reaches : ℕ → Records → ℕ → List ℕ) (lawful : ℕ → Reco
   Happen s (e ∷ events) t = (m : State) × Happens s e m × Happen m events t
 
 -- a hold is in the queue, there alone and with a generation above this one
-pub record StandsAbove (s : State) (h last : ℕ) : Type 0 where
-  pub there : IsTrue (list_any (λ e. nat_eq e.hold h) (queue_of s.writer.older s.writer.newest))
-  pub above : All (λ e. e.hold ≡ h → last < e.generation) (queue_of s.writer.older s.writer.newest)
+pub record StandsAbove (s : State) (h generation : ℕ) : Type 0 where
+  pub there : IsTrue (list_any (λ e. nat_eq e.hold h) (open_holds s.writer.queue))
+  pub above : All (λ e. e.hold ≡ h → generation < e.generation) (open_holds s.writer.queue)
 
 -- every view that stands on a hold stands on one whose generation is above the last tag of the buffer
 abbrev pub NoneFromBefore : State → ℕ → Type 0
 NoneFromBefore s b =
-    (j : ℕ) (r : ReaderView) (h last : ℕ) → slice_get s.readers j ≡ Some r → stands_on r.state ≡ Some h
-    → last_tag_in s.writer.buffers b ≡ Some last → StandsAbove s h last
+    (j : ℕ) (r : ReaderView) (h : ℕ) (tag : Tag) → slice_get s.readers j ≡ Some r → stands_on r.state ≡ Some h
+    → last_tag_in s.writer.buffers b ≡ Some tag → StandsAbove s h tag.generation

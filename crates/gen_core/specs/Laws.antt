@@ -1,31 +1,49 @@
 -- What the layers above quote of the invariant: laws over a state that meets it and one event.
-use Rattle.std.specs.Prelude.{◌≡◌, ◌⊎◌, ℕ, ◌/◌, ◌%◌, ◌<◌, ◌≤◌, List, length, slice_get, slice_index, Some, All}
+use Rattle.std.specs.Prelude.{◌≡◌, ◌≢◌, ◌⊎◌, ℕ, ◌+◌, ◌/◌, ◌%◌, ◌^◌, ◌<◌, ◌≤◌, List, length, slice_get, slice_index, Some, All}
 use Rattle.entry_ref.specs.References.{buffer_of}
 use Rattle.image_base.specs.declared.Image.{Image}
 use Rattle.image_base.specs.Records.{Records}
-use Rattle.image_base.specs.Images.{record_at, words_at}
+use Rattle.image_base.specs.Images.{record_at}
 use Rattle.image_base.specs.Places.{base, StandsIn}
 use Rattle.gen_core.specs.declared.views.Sizes.{Sizes}
+use Rattle.gen_core.specs.declared.views.OpenHold.{OpenHold}
+use Rattle.gen_core.specs.declared.views.ReaderState.TheVariants.{Aimed}
 use Rattle.gen_core.specs.declared.views.ReaderView.{ReaderView}
-use Rattle.gen_core.specs.Views.{kept_of, last_number, last_image, IsCommit}
-use Rattle.gen_core.specs.Work.{place_in, IsWhole, overlay, next_image}
-use Rattle.gen_core.specs.Good.{State, Good}
-use Rattle.gen_core.specs.Events.{Event, Happens, Happen, MayOpen, opening, hand_out, MayStoreWord, MayStoreWidth, MayPublish, IsUnder, NoneFromBefore, after_store_word, after_store_width, after_publish}
+use Rattle.gen_core.specs.Views.{floor_of, kept_of, last_number, last_image, IsCommit}
+use Rattle.gen_core.specs.Work.{place_in, IsWhole, writer_records, next_image}
+use Rattle.gen_core.specs.Good.{State, IsLawfulCommit, GoodView, Good}
+use Rattle.gen_core.specs.Conditions.{MayStoreWord, MayStoreWidth, MayPublish, MayClose, MayProbe, IsUnder}
+use Rattle.gen_core.specs.Events.{Event, Happens, Happen, MayOpen, opening, hand_out, NoneFromBefore, count_at, after_store_word, after_store_width, after_publish}
+use Rattle.gen_core.specs.Steps.{subtract, word_of, operation_of}
+
+-- a hold that was found in use is open, and in use
+pub record IsInUse (found : ℕ) : Type 0 where
+  pub even : found % 2 ≡ 0
+  pub some : 0 < found
+
+-- a later generation than the reader aimed at is there, and its next aim is not below what it asks for
+pub record IsPassed (s : State) (r : ReaderView) (generation : ℕ) : Type 0 where
+  pub newer : generation < s.writer.queue.newest.generation
+  pub higher : r.least + 1 ≤ s.writer.queue.newest.generation
 
 module _ (reaches : ℕ → Records → ℕ → List ℕ) (lawful : ℕ → Records → ℕ → Type 0) where
   -- every list of events from the opening keeps the invariant
   abbrev pub KeepsGood : Type 0
-  KeepsGood = (z : Sizes) (events : List Event) (s : State) → MayOpen z → Happen reaches lawful (opening z) events s → Good reaches lawful s
+  KeepsGood = (sizes : Sizes) (events : List Event) (s : State) → MayOpen sizes → Happen reaches lawful (opening sizes) events s → Good reaches lawful s
 
   -- where a buffer is handed out, no view stands on a hold from before the buffer's last tag
   abbrev pub HandsOutUnguarded : Type 0
   HandsOutUnguarded =
-      (z : Sizes) (events : List Event) (s t : State) (b : ℕ) → MayOpen z → Happen reaches lawful (opening z) events s
+      (sizes : Sizes) (events : List Event) (s t : State) (b : ℕ) → MayOpen sizes → Happen reaches lawful (opening sizes) events s
       → Happens reaches lawful s (hand_out b) t → NoneFromBefore s b
 
   -- one event keeps the invariant, from every state that meets it
   abbrev pub EventKeepsGood : Type 0
   EventKeepsGood = (s t : State) (e : Event) → Good reaches lawful s → Happens reaches lawful s e t → Good reaches lawful t
+
+  -- what is good of a state is good of the writer's view alone
+  abbrev pub ViewIsGood : Type 0
+  ViewIsGood = (s : State) → Good reaches lawful s → GoodView s.writer
 
   -- a word of a record of the image that the reader is under is that record's word
   abbrev pub LoadsImageWord : Type 0
@@ -39,16 +57,23 @@ module _ (reaches : ℕ → Records → ℕ → List ℕ) (lawful : ℕ → Reco
   LoadsWidth =
       (s : State) (j number ref : ℕ) (r : ReaderView) (image : Image) (ws : List ℕ) → Good reaches lawful s
       → slice_get s.readers j ≡ Some r → IsUnder r number image → record_at image ref ≡ Some ws
-      → slice_index s.words (base r.sizes.buffers r.sizes.words (buffer_of ref)) ≡ length ws
+      → slice_index s.words (base r.sizes.buffers r.sizes.words (buffer_of r.sizes.offset_bits ref)) ≡ length ws
 
-  -- all of the image stands in the words
-  abbrev pub ImageStands : Type 0
-  ImageStands =
+  -- the guard's commit is a kept one, is lawful, has the records that its root reaches and no other, and stands in the words
+  pub record IsKeptFor (s : State) (r : ReaderView) (number : ℕ) (image : Image) : Type 0 where
+    pub kept : floor_of s.writer ≤ number
+    pub last : number ≤ last_number s.writer.commits
+    pub commit : slice_get s.writer.commits number ≡ Some image
+    pub lawful_commit : IsLawfulCommit reaches lawful r.sizes.shape image
+    pub stands : StandsIn r.sizes.offset_bits r.sizes.buffers r.sizes.words s.words image
+
+  abbrev pub KeepsGuarded : Type 0
+  KeepsGuarded =
       (s : State) (j number : ℕ) (r : ReaderView) (image : Image) → Good reaches lawful s → slice_get s.readers j ≡ Some r
-      → IsUnder r number image → StandsIn r.sizes.buffers r.sizes.words s.words image
+      → IsUnder r number image → IsKeptFor s r number image
 
   abbrev pub KeptStand : State → List ℕ → Type 0
-  KeptStand s words = All (StandsIn s.writer.sizes.buffers s.writer.sizes.words words) (kept_of s.writer)
+  KeptStand s words = All (StandsIn s.writer.sizes.offset_bits s.writer.sizes.buffers s.writer.sizes.words words) (kept_of s.writer)
 
   -- a store leaves every kept commit
   abbrev pub StoreLeavesKept : Type 0
@@ -63,15 +88,15 @@ module _ (reaches : ℕ → Records → ℕ → List ℕ) (lawful : ℕ → Reco
   abbrev pub PublishedStands : Type 0
   PublishedStands =
       (s : State) (root : ℕ) → Good reaches lawful s → MayPublish lawful s.writer root
-      → StandsIn s.writer.sizes.buffers s.writer.sizes.words
+      → StandsIn s.writer.sizes.offset_bits s.writer.sizes.buffers s.writer.sizes.words
       (after_publish s (next_image reaches s.writer root)).words (next_image reaches s.writer root)
 
   -- the root word tells the last commit and its root, and a reader has seen no later one
   pub record TellsCommit (s : State) (r : ReaderView) : Type 0 where
-    pub number : slice_index s.words 0 / 4294967296 ≡ last_number s.writer.commits
-    pub root : slice_index s.words 0 % 4294967296 ≡ (last_image s.writer.commits).root
+    pub number : slice_index s.words 0 / 2 ^ 32 ≡ last_number s.writer.commits
+    pub root : slice_index s.words 0 % 2 ^ 32 ≡ (last_image s.writer.commits).root
     pub later : r.seen ≤ last_number s.writer.commits
-    pub lawful_image : lawful s.writer.sizes.shape (words_at (last_image s.writer.commits)) (last_image s.writer.commits).root
+    pub lawful_commit : IsLawfulCommit reaches lawful s.writer.sizes.shape (last_image s.writer.commits)
 
   abbrev pub LoadsLaterCommit : Type 0
   LoadsLaterCommit = (s : State) (j : ℕ) (r : ReaderView) → Good reaches lawful s → slice_get s.readers j ≡ Some r → TellsCommit s r
@@ -85,20 +110,52 @@ module _ (reaches : ℕ → Records → ℕ → List ℕ) (lawful : ℕ → Reco
   IsLastOrWhole s ref ws = (record_at (last_image s.writer.commits) ref ≡ Some ws) ⊎ IsWhole s.writer ref ws
 
   abbrev pub RecordsAreFound : Type 0
-  RecordsAreFound = (s : State) (ref : ℕ) → 0 < length (overlay s.writer ref) → IsLastOrWhole s ref (overlay s.writer ref)
+  RecordsAreFound = (s : State) (ref : ℕ) → 0 < length (writer_records s.writer ref) → IsLastOrWhole s ref (writer_records s.writer ref)
 
   -- and each such record is one of the writer
   abbrev pub FoundAreRecords : Type 0
-  FoundAreRecords = (s : State) (ref : ℕ) (ws : List ℕ) → Good reaches lawful s → IsLastOrWhole s ref ws → overlay s.writer ref ≡ ws
+  FoundAreRecords = (s : State) (ref : ℕ) (ws : List ℕ) → Good reaches lawful s → IsLastOrWhole s ref ws → writer_records s.writer ref ≡ ws
 
   -- each of its words stands at its place
   abbrev pub RecordsStand : Type 0
   RecordsStand =
-      (s : State) (ref i : ℕ) → Good reaches lawful s → i < length (overlay s.writer ref)
-      → slice_index s.words (place_in s.writer.sizes (length (overlay s.writer ref)) ref i) ≡ slice_index (overlay s.writer ref) i
+      (s : State) (ref i : ℕ) → Good reaches lawful s → i < length (writer_records s.writer ref)
+      → slice_index s.words (place_in s.writer.sizes (length (writer_records s.writer ref)) ref i) ≡ slice_index (writer_records s.writer ref) i
 
   -- each record of an image that may be published is of the last commit, or was stored whole since
   abbrev pub PublishesWhole : Type 0
   PublishesWhole =
       (s : State) (root : ℕ) → MayPublish lawful s.writer root
-      → All (λ entry. IsLastOrWhole s entry.0 entry.1) (next_image reaches s.writer root).records
+      → All (λ pair. IsLastOrWhole s pair.0 pair.1) (next_image reaches s.writer root).records
+
+  -- a reader that finds the hold it aimed at closed has missed a generation
+  abbrev pub OddIsPassed : Type 0
+  OddIsPassed =
+      (s : State) (j generation h : ℕ) (r : ReaderView) → Good reaches lawful s → slice_get s.readers j ≡ Some r
+      → r.state ≡ Aimed generation h → count_at s h % 2 ≡ 1 → IsPassed s r generation
+
+  -- what a reader aims at next is not below the least that it asks for
+  abbrev pub AimIsNotBelow : Type 0
+  AimIsNotBelow = (s : State) (j : ℕ) (r : ReaderView) → Good reaches lawful s → slice_get s.readers j ≡ Some r → r.least ≤ s.writer.queue.newest.generation
+
+  -- a close fails only on a hold in use
+  abbrev pub CloseFindsUse : Type 0
+  CloseFindsUse = (s : State) (e : OpenHold) (es : List OpenHold) → Good reaches lawful s → MayClose s.writer e es → count_at s e.hold ≢ 0 → IsInUse (count_at s e.hold)
+
+  -- and so does a probe
+  abbrev pub ProbeFindsUse : Type 0
+  ProbeFindsUse =
+      (s : State) → Good reaches lawful s → MayProbe s.writer → count_at s s.writer.queue.newest.hold ≢ 0 → IsInUse (count_at s s.writer.queue.newest.hold)
+
+  -- no count passes 129: two for each of 64 readers, and one
+  abbrev pub CountsAreSmall : Type 0
+  CountsAreSmall = (s : State) (h : ℕ) → Good reaches lawful s → h < 16 → count_at s h ≤ 129
+
+  -- and none is taken below 0
+  abbrev pub NoneIsBelowZero : Type 0
+  NoneIsBelowZero =
+      (s t : State) (e : Event) (n : ℕ) → Good reaches lawful s → Happens reaches lawful s e t → operation_of s e ≡ subtract n → n ≤ slice_index s.words (word_of s e)
+
+  -- the first kept commit never falls
+  abbrev pub FloorStays : Type 0
+  FloorStays = (s t : State) (e : Event) → Good reaches lawful s → Happens reaches lawful s e t → floor_of s.writer ≤ floor_of t.writer

@@ -1,11 +1,13 @@
 -- What is read of the views: the queue, the commits, the buffers, and the words that name them.
-use Rattle.std.specs.Prelude.{◌≡◌, ℕ, ◌+◌, ◌-◌, ◌*◌, List, [], ◌∷◌, ◌++◌, length, drop, slice_get, Option, Some, None, Bool, false, ◌||◌, nat_eq, option_and_then}
+use Rattle.std.specs.Prelude.{◌≡◌, ℕ, ◌+◌, ◌-◌, ◌*◌, ◌^◌, List, [], ◌∷◌, ◌++◌, length, drop, slice_get, Option, Some, None, Bool, false, ◌||◌, nat_eq, option_and_then}
 use Rattle.std.specs.List.{list_any}
 use Rattle.image_base.specs.declared.Image.{Image}
 use Rattle.image_base.specs.Images.{no_image}
 use Rattle.gen_core.specs.declared.views.OpenHold.{OpenHold}
 use Rattle.gen_core.specs.declared.views.Pending.{Pending}
 use Rattle.gen_core.specs.declared.views.Pending.TheVariants.{Nothing, Next, Probed}
+use Rattle.gen_core.specs.declared.views.Queue.{Queue}
+use Rattle.gen_core.specs.declared.views.Tag.{Tag}
 use Rattle.gen_core.specs.declared.views.Buffer.{Buffer}
 use Rattle.gen_core.specs.declared.views.Buffer.TheVariants.{Free, Active, Held}
 use Rattle.gen_core.specs.declared.views.ReaderState.{ReaderState}
@@ -13,17 +15,23 @@ use Rattle.gen_core.specs.declared.views.ReaderState.TheVariants.{Idle, Aimed, R
 use Rattle.gen_core.specs.declared.views.ReaderView.{ReaderView}
 use Rattle.gen_core.specs.declared.views.WriterView.{WriterView}
 
--- the open holds, from the oldest to the newest
-abbrev pub queue_of : List OpenHold → OpenHold → List OpenHold
-queue_of older newest = older ++ newest ∷ []
+abbrev pub queue_of : List OpenHold → OpenHold → Pending → Queue
+queue_of older newest pending = record { older = older; newest = newest; pending = pending }
 
-abbrev pub oldest_of : List OpenHold → OpenHold → OpenHold
-oldest_of [] newest = newest
-oldest_of (e ∷ es) newest = e
+-- the open holds, from the oldest to the newest
+abbrev pub open_holds : Queue → List OpenHold
+open_holds queue = queue.older ++ queue.newest ∷ []
+
+abbrev pub oldest_in : List OpenHold → OpenHold → OpenHold
+oldest_in [] newest = newest
+oldest_in (e ∷ es) newest = e
+
+abbrev pub oldest_of : Queue → OpenHold
+oldest_of queue = oldest_in queue.older queue.newest
 
 -- commits before this one are no longer kept
 abbrev pub floor_of : WriterView → ℕ
-floor_of w = (oldest_of w.older w.newest).first
+floor_of w = (oldest_of w.queue).first_commit
 
 -- the kept commits
 abbrev pub kept_of : WriterView → List Image
@@ -44,11 +52,11 @@ IsCommit commits seen = slice_get commits seen.0 ≡ Some seen.1
 
 -- the root word: a commit and its root
 abbrev pub root_word : ℕ → Image → ℕ
-root_word number image = number * 4294967296 + image.root
+root_word number image = number * 2 ^ 32 + image.root
 
--- the last word: a generation and its hold
-abbrev pub last_word : OpenHold → ℕ
-last_word e = e.generation * 65536 + e.hold
+-- the newest word: a generation and its hold
+abbrev pub newest_word : OpenHold → ℕ
+newest_word e = e.generation * 2 ^ 16 + e.hold
 
 -- where the count of a hold stands
 abbrev pub hold_place : ℕ → ℕ
@@ -60,25 +68,28 @@ is_next (Next h) hold = nat_eq h hold
 is_next Probed hold = false
 
 -- a hold is open: in the queue, or next
-abbrev pub is_open : List OpenHold → OpenHold → Pending → ℕ → Bool
-is_open older newest pending hold = list_any (λ e. nat_eq e.hold hold) (queue_of older newest) || is_next pending hold
+abbrev pub is_open : Queue → ℕ → Bool
+is_open queue hold = list_any (λ e. nat_eq e.hold hold) (open_holds queue) || is_next queue.pending hold
+
+abbrev pub coming_after : OpenHold → Pending → ℕ
+coming_after newest Nothing = newest.generation
+coming_after newest (Next h) = newest.generation + 1
+coming_after newest Probed = newest.generation + 1
 
 -- the current generation, taken one higher where the next one has begun
-abbrev pub coming : OpenHold → Pending → ℕ
-coming newest Nothing = newest.generation
-coming newest (Next h) = newest.generation + 1
-coming newest Probed = newest.generation + 1
+abbrev pub coming : Queue → ℕ
+coming queue = coming_after queue.newest queue.pending
 
 -- the state word of a buffer
 abbrev pub state_word : Buffer → ℕ
-state_word (Free last) = 0
-state_word (Active width last) = 1
+state_word (Free tag) = 0
+state_word (Active width tag) = 1
 state_word (Held width tag) = 2
 
 -- the width of the records in a buffer
 abbrev pub record_width : Buffer → Option ℕ
-record_width (Free last) = None
-record_width (Active width last) = Some width
+record_width (Free tag) = None
+record_width (Active width tag) = Some width
 record_width (Held width tag) = Some width
 
 abbrev pub width_in : List Buffer → ℕ → Option ℕ
@@ -86,30 +97,30 @@ width_in buffers b = option_and_then record_width (slice_get buffers b)
 
 -- the width of a buffer that is active, 0 until it is stored
 abbrev pub active_width : Buffer → Option ℕ
-active_width (Free last) = None
-active_width (Active width last) = Some width
+active_width (Free tag) = None
+active_width (Active width tag) = Some width
 active_width (Held width tag) = None
 
 abbrev pub active_in : List Buffer → ℕ → Option ℕ
 active_in buffers b = option_and_then active_width (slice_get buffers b)
 
--- the generation of the last tag of a buffer that had one
-abbrev pub last_tag : Buffer → Option ℕ
-last_tag (Free last) = last
-last_tag (Active width last) = last
-last_tag (Held width tag) = Some tag.generation
+-- the last tag of a buffer that had one
+abbrev pub last_tag : Buffer → Option Tag
+last_tag (Free tag) = tag
+last_tag (Active width tag) = tag
+last_tag (Held width tag) = Some tag
 
-abbrev pub last_tag_in : List Buffer → ℕ → Option ℕ
+abbrev pub last_tag_in : List Buffer → ℕ → Option Tag
 last_tag_in buffers b = option_and_then last_tag (slice_get buffers b)
 
--- a view that counts twice in the count of a hold
-abbrev pub is_raised_on : ℕ → ReaderState → Bool
-is_raised_on hold Idle = false
-is_raised_on hold (Aimed generation h) = false
-is_raised_on hold (Raised h) = nat_eq h hold
-is_raised_on hold (Bounced h) = nat_eq h hold
-is_raised_on hold (Guarded h commit) = nat_eq h hold
-is_raised_on hold Spent = false
+-- a view that counts twice in the count of a hold: also one that is on its way back
+abbrev pub is_counted_on : ℕ → ReaderState → Bool
+is_counted_on hold Idle = false
+is_counted_on hold (Aimed generation h) = false
+is_counted_on hold (Raised h) = nat_eq h hold
+is_counted_on hold (Bounced h) = nat_eq h hold
+is_counted_on hold (Guarded h commit) = nat_eq h hold
+is_counted_on hold Spent = false
 
 -- the hold that a view keeps open
 abbrev pub stands_on : ReaderState → Option ℕ
@@ -123,7 +134,7 @@ stands_on Spent = None
 -- the one view of a reader that was joined away
 abbrev pub spent : ReaderView
 spent = record {
-  sizes = record { buffers = 0; words = 0; shape = 0; commit_limit = 0; generation_limit = 0 };
+  sizes = record { offset_bits = 0; buffers = 0; words = 0; shape = 0; commit_limit = 0; generation_limit = 0 };
   seen = 0;
   least = 0;
   state = Spent;

@@ -17,12 +17,12 @@ work_at work p = lookup (nat_eq p) work
 
 -- where word i of a record of this width stands
 abbrev pub place_in : Sizes → ℕ → ℕ → ℕ → ℕ
-place_in z width ref i = place z.buffers z.words width ref i
+place_in sizes width ref i = place sizes.offset_bits sizes.buffers sizes.words width ref i
 
 -- every word of a record was stored since the last commit, in an active buffer of its width
 pub record IsWhole (w : WriterView) (ref : ℕ) (ws : List ℕ) : Type 0 where
-  pub entry : IsEntry w.sizes.buffers w.sizes.words (length ws) ref
-  pub active : active_in w.buffers (buffer_of ref) ≡ Some (length ws)
+  pub entry : IsEntry w.sizes.offset_bits w.sizes.buffers w.sizes.words (length ws) ref
+  pub active : active_in w.buffers (buffer_of w.sizes.offset_bits ref) ≡ Some (length ws)
   pub words : (i : ℕ) → i < length ws → work_at w.work (place_in w.sizes (length ws) ref i) ≡ Some (slice_index ws i)
 
 abbrev pub prepend : Option ℕ → Option (List ℕ) → Option (List ℕ)
@@ -37,10 +37,11 @@ run_at work p (suc n) = prepend (work_at work p) (run_at work (suc p) n)
 
 -- the test of `IsEntry`
 unfoldable pub is_entry : Sizes → ℕ → ℕ → Bool
-is_entry z width ref =
-    nat_lt (buffer_of ref) z.buffers && (nat_lt 0 width && (nat_lt 0 (offset_of ref) && nat_le (offset_of ref * width + width) z.words))
+is_entry sizes width ref =
+    nat_lt (buffer_of sizes.offset_bits ref) sizes.buffers
+    && (nat_lt 0 width && (nat_lt 0 (offset_of sizes.offset_bits ref) && nat_le (offset_of sizes.offset_bits ref * width + width) sizes.words))
 
-abbrev pub only_if : Bool → Option (List ℕ) → Option (List ℕ)
+abbrev pub only_if : {A : Type 0} → Bool → Option A → Option A
 only_if true o = o
 only_if false o = None
 
@@ -50,11 +51,19 @@ whole_by w ref (Some width) = only_if (is_entry w.sizes width ref) (run_at w.wor
 
 -- the words of a record that is whole in the work
 abbrev pub whole_at : WriterView → ℕ → Option (List ℕ)
-whole_at w ref = whole_by w ref (active_in w.buffers (buffer_of ref))
+whole_at w ref = whole_by w ref (active_in w.buffers (buffer_of w.sizes.offset_bits ref))
 
-abbrev pub overlay : WriterView → Records
-overlay w ref = unwrap_or (whole_at w ref) (words_at (last_image w.commits) ref)
+abbrev pub writer_records : WriterView → Records
+writer_records w ref = unwrap_or (whole_at w ref) (words_at (last_image w.commits) ref)
 
 -- the image of a root in the writer's records, where a layout says what a root reaches
 abbrev pub next_image : (ℕ → Records → ℕ → List ℕ) → WriterView → ℕ → Image
-next_image reaches w root = image_of (reaches w.sizes.shape (overlay w) root) (overlay w) root
+next_image reaches w root = image_of (reaches w.sizes.shape (writer_records w) root) (writer_records w) root
+
+abbrev pub stored_in : WriterView → ℕ → ℕ → Option ℕ → Option ℕ
+stored_in w ref i None = None
+stored_in w ref i (Some width) = only_if (is_entry w.sizes width ref && nat_lt i width) (work_at w.work (place_in w.sizes width ref i))
+
+-- word i of an entry, where it was stored since the last commit
+abbrev pub stored_by : WriterView → ℕ → ℕ → Option ℕ
+stored_by w ref i = stored_in w ref i (active_in w.buffers (buffer_of w.sizes.offset_bits ref))

@@ -1,7 +1,10 @@
 //! The core's laws: each function's contract is the law, for every layout.
 
-ghost use Rattle.gen_core.specs.Laws.{KeepsGood, HandsOutUnguarded, EventKeepsGood, LoadsImageWord, LoadsWidth, ImageStands, StoreLeavesKept, WidthLeavesKept, PublishedStands, PublishesWhole, RecordsAreFound, FoundAreRecords, RecordsStand, LoadsLaterCommit, KeepsCommits};
-ghost use Rattle.gen_core.specs.Needed.{NeedsActive, NeedsApart, NeedsActiveWidth, NeedsNoWidth, NeedsFree, NeedsLawful, NeedsRecords, NeedsNumber, NeedsSeat, NeedsReader};
+ghost use Rattle.gen_core.specs.Laws.{KeepsGood, HandsOutUnguarded, EventKeepsGood, LoadsImageWord, LoadsWidth, KeepsGuarded, StoreLeavesKept, WidthLeavesKept, PublishedStands, PublishesWhole, RecordsAreFound, FoundAreRecords, RecordsStand, LoadsLaterCommit, KeepsCommits, ViewIsGood, OddIsPassed, AimIsNotBelow, CloseFindsUse, ProbeFindsUse, CountsAreSmall, NoneIsBelowZero, FloorStays};
+ghost use Rattle.gen_core.specs.Steps.{EventIsOneStep};
+ghost use Rattle.gen_core.specs.ViewLaws.{LastIsKept, LastAreRecords, RecordsLieActive, KeptArePlaced, UnkeptAvoids, StoresOneWord, StoreLeavesOthers, HandsOutNothing, PublishesRecords};
+ghost use Rattle.gen_core.specs.Needed.{NeedsActive, NeedsApart, NeedsActiveWidth, NeedsNoWidth, NeedsFree, NeedsLawful, NeedsRecords, NeedsNumber, NeedsSeat, RootBeforeRaise, OpensByZero, LastBeforeOpen, ForgetsTheBounce, MorphBesideNext, CloseMovesNoFloor, FreesAtTheOldest, TagsTooEarly};
+ghost use Rattle.gen_core.specs.Examples.{Ends, hold_sizes, buffer_sizes, missed_events, missed_end, renewed_events, renewed_end, closed_events, closed_end, reopened_events, reopened_end, again_events, again_end, stored_events, stored_end};
 
 use image_base::Layout;
 
@@ -17,11 +20,12 @@ pub fn event_law<L: Layout>()
     ensures { EventKeepsGood L.reaches L.lawful }
 {}
 
-/// Under a guard the words of its image are loaded, and the widths of their buffers.
+/// Under a guard the words of its image are loaded, and the widths of their buffers; its commit is
+/// kept, is lawful and stands.
 pub fn guard_law<L: Layout>()
     ensures word { LoadsImageWord L.reaches L.lawful }
     ensures width { LoadsWidth L.reaches L.lawful }
-    ensures image { ImageStands L.reaches L.lawful }
+    ensures kept { KeepsGuarded L.reaches L.lawful }
 {}
 
 /// A store leaves every kept commit.
@@ -43,6 +47,68 @@ pub fn records_law<L: Layout>()
     ensures stand { RecordsStand L.reaches L.lawful }
 {}
 
+/// The commit that a reader loads is lawful, and not below what it had seen.
+pub fn root_law<L: Layout>()
+    ensures { LoadsLaterCommit L.reaches L.lawful }
+{}
+
+/// What joined readers saw are the writer's commits.
+pub fn commits_law<L: Layout>()
+    ensures { KeepsCommits L.reaches L.lawful }
+{}
+
+/// What is good of a state is good of the writer's view alone, so that its seat needs no more.
+pub fn view_law<L: Layout>()
+    ensures { ViewIsGood L.reaches L.lawful }
+{}
+
+/// What the writer's seat knows by its view: its last commit, its records, and where it may write.
+pub fn seat_law()
+    ensures last { LastIsKept }
+    ensures records { LastAreRecords }
+    ensures active { RecordsLieActive }
+    ensures placed { KeptArePlaced }
+    ensures unkept { UnkeptAvoids }
+{}
+
+/// What a store, a hand out and a publish make of the writer's records.
+pub fn work_law()
+    ensures stored { StoresOneWord }
+    ensures others { StoreLeavesOthers }
+    ensures handed_out { HandsOutNothing }
+    ensures published { PublishesRecords }
+{}
+
+/// Each event is one operation on one word by one seat, and changes that seat's view alone; a split
+/// and a join change two.
+pub fn step_law<L: Layout>()
+    ensures { EventIsOneStep L.reaches L.lawful }
+{}
+
+/// A reader that finds its hold closed has missed a generation, and aims at a later one next: so it
+/// tries at most once for each generation from the one that it first asks for to the last.
+pub fn miss_law<L: Layout>()
+    ensures passed { OddIsPassed L.reaches L.lawful }
+    ensures not_below { AimIsNotBelow L.reaches L.lawful }
+{}
+
+/// A close and a probe fail only on a hold in use.
+pub fn use_law<L: Layout>()
+    ensures close { CloseFindsUse L.reaches L.lawful }
+    ensures probe { ProbeFindsUse L.reaches L.lawful }
+{}
+
+/// No count passes 129, and none is taken below 0.
+pub fn count_law<L: Layout>()
+    ensures most { CountsAreSmall L.reaches L.lawful }
+    ensures least { NoneIsBelowZero L.reaches L.lawful }
+{}
+
+/// The first kept commit never falls.
+pub fn floor_law<L: Layout>()
+    ensures { FloorStays L.reaches L.lawful }
+{}
+
 /// A step without its condition breaks the invariant.
 pub fn conditions_law<L: Layout>()
     ensures active { NeedsActive L.reaches L.lawful }
@@ -54,15 +120,27 @@ pub fn conditions_law<L: Layout>()
     ensures records { NeedsRecords L.reaches L.lawful }
     ensures number { NeedsNumber L.reaches L.lawful }
     ensures seat { NeedsSeat L.reaches L.lawful }
-    ensures reader { NeedsReader L.reaches L.lawful }
 {}
 
-/// The commit that a reader loads is lawful, and not below what it had seen.
-pub fn root_law<L: Layout>()
-    ensures { LoadsLaterCommit L.reaches L.lawful }
+/// And so does each of the wrong steps that the protocol is made against.
+pub fn wrong_steps_law<L: Layout>()
+    ensures root_before_raise { RootBeforeRaise L.reaches L.lawful }
+    ensures opens_a_hold_by_zero { OpensByZero L.reaches L.lawful }
+    ensures last_before_the_hold_is_open { LastBeforeOpen L.reaches L.lawful }
+    ensures forgets_the_bounce { ForgetsTheBounce L.reaches L.lawful }
+    ensures morph_beside_a_reopened_hold { MorphBesideNext L.reaches L.lawful }
+    ensures close_moves_no_floor { CloseMovesNoFloor L.reaches L.lawful }
+    ensures frees_at_the_oldest { FreesAtTheOldest L.reaches L.lawful }
+    ensures tags_too_early { TagsTooEarly L.reaches L.lawful }
 {}
 
-/// What joined readers saw are the writer's commits.
-pub fn commits_law<L: Layout>()
-    ensures { KeepsCommits L.reaches L.lawful }
+/// Lists of events that happen, with the state that each ends in.
+pub fn examples_law()
+    ensures missed { Ends hold_sizes missed_events missed_end }
+    ensures renewed { Ends hold_sizes renewed_events renewed_end }
+    ensures closed { Ends hold_sizes closed_events closed_end }
+    ensures reopened { Ends hold_sizes reopened_events reopened_end }
+    ensures again { Ends (buffer_sizes 22) again_events again_end }
+    ensures stored { Ends (buffer_sizes 22) (stored_events 22) (stored_end 22) }
+    ensures stored_narrow { Ends (buffer_sizes 19) (stored_events 19) (stored_end 19) }
 {}

@@ -3,10 +3,11 @@
 use image_base::Image;
 use std::collections::LinkedList;
 
-/// The buffers, the words of each, the shape of the images, and the highest numbers of a commit
-/// and of a generation.
+/// The bits of a reference that are its offset, the buffers, the words of each, the shape of the
+/// images, and the highest numbers of a commit and of a generation.
 #[derive(Clone, Copy)]
 pub struct Sizes {
+    pub offset_bits: u64,
     pub buffers: u64,
     pub words: u64,
     pub shape: u64,
@@ -19,7 +20,7 @@ pub struct Sizes {
 pub struct OpenHold {
     pub generation: u64,
     pub hold: u64,
-    pub first: u64,
+    pub first_commit: u64,
 }
 
 /// What the writer has begun with the queue: nothing, a hold that is reopened and not yet in it, or
@@ -31,6 +32,13 @@ pub enum Pending {
     Probed,
 }
 
+/// The open holds, the oldest first, the newest apart; and what is begun with them.
+pub struct Queue {
+    pub older: LinkedList<OpenHold>,
+    pub newest: OpenHold,
+    pub pending: Pending,
+}
+
 /// The generation and the last commit when a buffer was put on hold.
 #[derive(Clone, Copy)]
 pub struct Tag {
@@ -38,16 +46,16 @@ pub struct Tag {
     pub commit: u64,
 }
 
-/// A buffer is free, with the generation of its last tag; or active, with its width (0 until it is
-/// stored) and that generation; or on hold, with its width and its tag.
+/// A buffer is free, with the tag that it had last; or active, with its width (0 until it is
+/// stored) and that tag; or on hold, with its width and its tag.
 #[derive(Clone, Copy)]
 pub enum Buffer {
-    Free(Option<u64>),
-    Active(u64, Option<u64>),
+    Free(Option<Tag>),
+    Active(u64, Option<Tag>),
     Held(u64, Tag),
 }
 
-/// How many closes found a hold in use, and the count that the last of them found.
+/// How often the writer found a hold in use, and the count that it found last.
 #[derive(Clone, Copy)]
 pub struct Stops {
     pub count: u64,
@@ -59,9 +67,7 @@ pub struct Stops {
 pub struct WriterView {
     pub sizes: Sizes,
     pub commits: LinkedList<Image>,
-    pub older: LinkedList<OpenHold>,
-    pub newest: OpenHold,
-    pub pending: Pending,
+    pub queue: Queue,
     pub buffers: LinkedList<Buffer>,
     pub work: LinkedList<(u64, u64)>,
     pub saw: LinkedList<(u64, Image)>,

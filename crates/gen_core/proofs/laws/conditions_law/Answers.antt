@@ -1,4 +1,4 @@
-use Rattle.gen_core.proofs.Needed.{needs_active, needs_apart, needs_active_width, needs_no_width, needs_free, needs_lawful, needs_records, needs_number, needs_seat, needs_reader}
+use Rattle.gen_core.proofs.NeededLemmas.{needs_active, needs_apart, needs_active_width, needs_no_width, needs_free, needs_lawful, needs_records, needs_number, needs_seat}
 use Rattle.gen_core.proofs.laws.conditions_law.Goals as goal
 
 pub returns : goal.returns
@@ -14,5 +14,4 @@ returns g c =
       records = needs_records l.reaches l.lawful;
       number = needs_number l.reaches l.lawful;
       seat = needs_seat l.reaches l.lawful;
-      reader = needs_reader l.reaches l.lawful;
     }

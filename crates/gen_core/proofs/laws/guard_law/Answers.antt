@@ -1,4 +1,4 @@
-use Rattle.gen_core.proofs.Law.{image_stands}
+use Rattle.gen_core.proofs.Law.{image_stands, kept_for}
 use Rattle.gen_core.proofs.laws.guard_law.Goals as goal
 
 pub returns : goal.returns
@@ -7,5 +7,5 @@ returns g c =
     record {
       word = λ s j number ref i r image ws good at under there lt. ((image_stands l.reaches l.lawful s j number r image good at under ref ws there).each i lt).is;
       width = λ s j number ref r image ws good at under there. (image_stands l.reaches l.lawful s j number r image good at under ref ws there).width.is;
-      image = image_stands l.reaches l.lawful;
+      kept = kept_for l.reaches l.lawful;
     }
