@@ -1,5 +1,0 @@
-pub mod EntryLemmas
-pub mod SetLemmas
-pub mod TableLemmas
-pub mod HitLemmas
-pub mod FitLemmas
