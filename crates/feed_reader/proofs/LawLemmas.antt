@@ -21,15 +21,15 @@ use Rattle.feed_reader.specs.declared.operation.Asked.{Asked}
 use Rattle.feed_reader.specs.declared.operation.Asked.TheVariants as asks
 use Rattle.feed_reader.specs.declared.operation.Found.{Found}
 use Rattle.feed_reader.specs.Answers.{◌>>=◌, or_else}
-use Rattle.feed_reader.specs.Id.{document_of}
-use Rattle.feed_reader.specs.Items.{items_of, list_of, weighted_of, taken_of, member_count}
+use Rattle.feed_reader.specs.Id.{id_read}
+use Rattle.feed_reader.specs.Items.{items_read, list_read, set_read, taken_read, member_count}
 use Rattle.feed_reader.specs.Lines.{is_blank, lines_of}
-use Rattle.feed_reader.specs.Grammar.{json_of, operation_of, id_of, field_of, put_of, only_member, operator_named, operator_of, update_of, found_of, has_condition, op_asked, supported, op_of_value, op_of_line}
+use Rattle.feed_reader.specs.Grammar.{json_read, operation_of, id_of, field_of, put_of, only_member, operator_named, operator_of, update_of, found_of, has_condition, op_asked, supported, op_of_value, op_of_line}
 use Rattle.feed_reader.specs.Feed.{Fault, with_op, ops_of_lines, feed_of}
 use Rattle.feed_reader.proofs.FitsLemmas.{bind_ok, or_else_ok, none_fit, taken_fit, list_fits, weighted_fits, items_fit}
 use Rattle.feed_reader.proofs.IdLemmas.{named_document}
 
-id_document : (o : Option (List ℕ)) (doc : ℕ) → option_and_then document_of o ≡ Some doc → IsDocument doc
+id_document : (o : Option (List ℕ)) (doc : ℕ) → option_and_then id_read o ≡ Some doc → IsDocument doc
 id_document None doc e = cc
 id_document (Some text) doc e = named_document text doc e
 
@@ -50,30 +50,30 @@ unsupported_fits kind t asked is = subst (AskedFits kind t) is tt
 
 assign_fits : (kind : Kind) (t : ValueType) (d : Data) (asked : Asked) → member_count d ≤ 1023 → operator_of kind t operators.Assign d ≡ Ok asked → AskedFits kind t asked
 assign_fits Single t d asked few e =
-    let all = bind_ok (items_of Single t d) (λ items. Ok (asks.Update (changes.Assign items))) asked e in
+    let all = bind_ok (items_read Single t d) (λ items. Ok (asks.Update (changes.Assign items))) asked e in
     let is : asks.Update (changes.Assign all.0) ≡ asked = cc in
     subst (AskedFits Single t) is (items_fit Single t d all.0 few all.1)
 assign_fits Array t d asked few e =
-    let all = bind_ok (items_of Array t d) (λ items. Ok (asks.Update (changes.Assign items))) asked e in
+    let all = bind_ok (items_read Array t d) (λ items. Ok (asks.Update (changes.Assign items))) asked e in
     let is : asks.Update (changes.Assign all.0) ≡ asked = cc in
     subst (AskedFits Array t) is (items_fit Array t d all.0 few all.1)
 assign_fits WeightedSet t d asked few e =
-    let all = bind_ok (items_of WeightedSet t d) (λ items. Ok (asks.Update (changes.Assign items))) asked e in
+    let all = bind_ok (items_read WeightedSet t d) (λ items. Ok (asks.Update (changes.Assign items))) asked e in
     let is : asks.Update (changes.Assign all.0) ≡ asked = cc in
     subst (AskedFits WeightedSet t) is (items_fit WeightedSet t d all.0 few all.1)
 
 operator_fits : (kind : Kind) (t : ValueType) (operator : Operator) (d : Data) (asked : Asked) → member_count d ≤ 1023 → operator_of kind t operator d ≡ Ok asked → AskedFits kind t asked
 operator_fits kind t operators.Assign d asked few e = assign_fits kind t d asked few e
 operator_fits Array t operators.Add d asked few e =
-    let all = bind_ok (list_of t d) (λ items. Ok (asks.Update (changes.Add items))) asked e in
+    let all = bind_ok (list_read t d) (λ items. Ok (asks.Update (changes.Add items))) asked e in
     let is : asks.Update (changes.Add all.0) ≡ asked = cc in
     subst (AskedFits Array t) is (list_fits t d all.0 few all.1)
 operator_fits WeightedSet t operators.Add d asked few e =
-    let all = bind_ok (weighted_of t d) (λ items. Ok (asks.Update (changes.Add items))) asked e in
+    let all = bind_ok (set_read t d) (λ items. Ok (asks.Update (changes.Add items))) asked e in
     let is : asks.Update (changes.Add all.0) ≡ asked = cc in
     subst (AskedFits WeightedSet t) is (weighted_fits t d all.0 few all.1)
 operator_fits WeightedSet t operators.Remove d asked few e =
-    let all = bind_ok (taken_of t d) (λ values. Ok (asks.Update (changes.Take values))) asked e in
+    let all = bind_ok (taken_read t d) (λ values. Ok (asks.Update (changes.Take values))) asked e in
     let is : asks.Update (changes.Take all.0) ≡ asked = cc in
     subst (AskedFits WeightedSet t) is (taken_fit t d all.0 all.1)
 operator_fits Single t operators.Add d asked few e = unsupported_fits Single t asked cc
@@ -92,7 +92,7 @@ put_fits kind t None found e =
     let is : record { asked = asks.Put []; members = 0 } ≡ found = cc in
     subst (FoundFits kind t) is (λ few. none_fit kind t)
 put_fits kind t (Some d) found e =
-    let all = bind_ok (items_of kind t d) (λ items. Ok (record { asked = asks.Put items; members = member_count d })) found e in
+    let all = bind_ok (items_read kind t d) (λ items. Ok (record { asked = asks.Put items; members = member_count d })) found e in
     let is : record { asked = asks.Put all.0; members = member_count d } ≡ found = cc in
     subst (FoundFits kind t) is (λ few. items_fit kind t d all.0 few all.1)
 
@@ -153,7 +153,7 @@ value_fits field kind t d op e =
 line_fits : (field : List ℕ) (kind : Kind) (t : ValueType) (line : List ℕ) (op : Op) → op_of_line field kind t line ≡ Ok op → Fits kind t op
 unfolding op_of_line
 line_fits field kind t line op e =
-    let json = bind_ok (or_else NotJson (json_of line)) (op_of_value field kind t) op e in
+    let json = bind_ok (or_else NotJson (json_read line)) (op_of_value field kind t) op e in
     value_fits field kind t json.0 op json.2
 
 -- ---- the lines

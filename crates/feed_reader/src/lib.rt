@@ -4,6 +4,7 @@
 
 mod error;
 mod feed;
+mod fields;
 mod id;
 mod items;
 mod line;
@@ -11,8 +12,6 @@ mod numeral;
 mod operation;
 mod refusal;
 mod split;
-#[cfg(test)]
-mod tests;
 mod update;
 mod value;
 
