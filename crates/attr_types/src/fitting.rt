@@ -109,14 +109,17 @@ fn does_document_fit(fields: &[Field], document: &[Items]) -> bool
 {
     let mut fields_left = fields;
     let mut document_left = document;
-    while let ([field, fields @ ..], [items, document @ ..]) = (fields_left, document_left) {
+    while let [field, fields @ ..] = fields_left {
+        let [items, document @ ..] = document_left else {
+            return false;
+        };
         if !do_items_fit(field.kind, field.value, items) {
             return false;
         }
         fields_left = fields;
         document_left = document;
     }
-    fields_left.is_empty() && document_left.is_empty()
+    document_left.is_empty()
 }
 
 fn do_changes_fit(fields: &[Field], changes: &[Change]) -> bool
@@ -124,14 +127,17 @@ fn do_changes_fit(fields: &[Field], changes: &[Change]) -> bool
 {
     let mut fields_left = fields;
     let mut changes_left = changes;
-    while let ([field, fields @ ..], [change, changes @ ..]) = (fields_left, changes_left) {
+    while let [field, fields @ ..] = fields_left {
+        let [change, changes @ ..] = changes_left else {
+            return false;
+        };
         if !does_change_fit(field.kind, field.value, change) {
             return false;
         }
         fields_left = fields;
         changes_left = changes;
     }
-    fields_left.is_empty() && changes_left.is_empty()
+    changes_left.is_empty()
 }
 
 impl Op {
