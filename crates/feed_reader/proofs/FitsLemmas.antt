@@ -6,9 +6,9 @@ use Rattle.serde_json.specs.Find.{as_null, as_str, as_array, as_object}
 use Rattle.std.specs.List.Sorted.{IsStrictlySortedBy}
 use Rattle.std.specs.Ordering.{match_ordering}
 use Rattle.attr_types.specs.Value.{value_cmp, values_of, type_of, AreOfType}
-use Rattle.attr_types.specs.Table.{with_item}
+use Rattle.attr_types.specs.Change.{with_item}
 use Rattle.attr_types.specs.Lawful.{HaveWeightOne, AscendByValue, ItemsFit}
-use Rattle.attr_types.proofs.SetLemmas.{ascend-with_item, all-with_items}
+use Rattle.attr_types.proofs.ItemLemmas.{ascend-with_item, all-with_items}
 use Rattle.attr_types.specs.declared.value.Value.{Value}
 use Rattle.attr_types.specs.declared.value.Value.TheVariants as values
 use Rattle.attr_types.specs.declared.items.Item.{Item}

@@ -4,7 +4,7 @@ use Rattle.std.specs.Prelude.{codes}
 use Rattle.std.specs.Str.{bytes_eq}
 use Rattle.std.specs.Str.Parse.{digits_value}
 use Rattle.std.proofs.lemmas.Bool.{and_parts, leb-true}
-use Rattle.attr_types.specs.Lawful.{IsDocument}
+use Rattle.attr_types.specs.Lawful.{IsDocNumber}
 use Rattle.feed_reader.specs.Numerals.{is_positive_numeral, document_written}
 use Rattle.feed_reader.specs.Id.{◌>>=◌, cut_at_colon, cut_some_at_colon, id_read}
 
@@ -16,15 +16,15 @@ if_some : {A : Type 0} (b : Bool) (x y : A) → cond b (Some x) None ≡ Some y 
 if_some true x y e = (refl, cc)
 if_some false x y e = cc
 
-written_document : (text : List ℕ) (doc : ℕ) → document_written text ≡ Some doc → IsDocument doc
+written_document : (text : List ℕ) (doc : ℕ) → document_written text ≡ Some doc → IsDocNumber doc
 unfolding document_written
 written_document text doc e =
     let n = digits_value 10 text in
     let p = if_some (is_positive_numeral text && (nat_le 1 n && nat_le n 1048575)) n doc e in
     let bounds = and_parts (nat_le 1 n) (nat_le n 1048575) (and_parts (is_positive_numeral text) (nat_le 1 n && nat_le n 1048575) p.0).1 in
-    subst IsDocument p.1 (leb-true 1 n bounds.0, leb-true n 1048575 bounds.1)
+    subst IsDocNumber p.1 (leb-true 1 n bounds.0, leb-true n 1048575 bounds.1)
 
-pub named_document : (text : List ℕ) (doc : ℕ) → id_read text ≡ Some doc → IsDocument doc
+pub named_document : (text : List ℕ) (doc : ℕ) → id_read text ≡ Some doc → IsDocNumber doc
 unfolding id_read
 named_document text doc e =
     let last = λ (parts : List ℕ × List ℕ). document_written parts.1 in

@@ -152,10 +152,12 @@ value_given operations.Remove value = None
 abbrev pub members_given : Operation → Option Data → ℕ
 members_given operation value = unwrap_or (option_map member_count (value_given operation value)) 0
 
+abbrev pub is_over : Operation → Data → Field → Bool
+is_over operation members field = nat_lt most_items (members_given operation (get field.name members))
+
 abbrev pub some_over : List Field → Operation → Option Data → Bool
 some_over fields operation None = false
-some_over fields operation (Some members) =
-    list_any (λ field. nat_lt most_items (members_given operation (get field.name members))) fields
+some_over fields operation (Some members) = list_any (is_over operation members) fields
 
 abbrev pub gives_too_many : List Field → Operation → Data → Bool
 gives_too_many fields operation d = some_over fields operation (fields_of d)

@@ -10,7 +10,7 @@ use crate::line::read_line;
 use crate::refusal::{LineError, Refusal};
 use crate::split::{is_blank_line, split_line};
 use attr_io::{ReadError, Source, read_all};
-use attr_types::{Fields, Ops};
+use attr_types::{Field, Fields, Ops};
 use std::alloc::Global;
 
 /// The most bytes that a feed may have.
@@ -39,7 +39,7 @@ fn numbered(line: u32, e: LineError) -> LinesError
 }
 
 /// The operations that a feed's bytes say.
-fn read_lines(alloc: Global, fields: &Fields, bytes: &[u8]) -> Result<Ops, LinesError>
+fn read_lines(alloc: Global, fields: &[Field], bytes: &[u8]) -> Result<Ops, LinesError>
     requires { length bytes.now < 2 ^ 32 - 1 }
     ensures feed { LinesSay result (feed_of fields.now bytes.now) }
     ensures fits { IfOk result (λ ops. AllByRecursion (OpFits fields.now) ops) }
@@ -51,7 +51,7 @@ fn read_lines(alloc: Global, fields: &Fields, bytes: &[u8]) -> Result<Ops, Lines
     while !rest.is_empty() {
         let (line, after) = split_line(rest);
         if !is_blank_line(line) {
-            match read_line(alloc, fields.as_slice(), line) {
+            match read_line(alloc, fields, line) {
                 Ok(op) => ops.push(op)?,
                 Err(e) => return Err(numbered(number, e)),
             }
@@ -87,7 +87,7 @@ pub fn read_feed<S: Source>(
         (S.left source.old) (S.left source.new) (S.reads source.old) (S.reads source.new) }
 {
     match read_all(alloc, source, MOST_BYTES) {
-        Ok(bytes) => match read_lines(alloc, fields, &bytes) {
+        Ok(bytes) => match read_lines(alloc, fields.as_slice(), &bytes) {
             Ok(ops) => Ok(ops),
             Err(LinesError::Line { line, refusal }) => Err(at_line(line, refusal)),
             Err(LinesError::Memory) => Err(FeedError::Memory),

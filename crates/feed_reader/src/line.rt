@@ -3,7 +3,7 @@ ghost use Rattle.serde_json.specs.View.{view};
 ghost use Rattle.feed_reader.specs.declared.refusal.Refusal.TheVariants.{NotJson};
 ghost use Rattle.feed_reader.specs.Answers.{Reads, or_else};
 ghost use Rattle.feed_reader.specs.Grammar.{json_read, operation_of, id_of, fields_of, asked_of};
-ghost use Rattle.feed_reader.specs.Grammar.{has_condition, op_asked, supported, gives_too_many, op_of_value, op_of_line};
+ghost use Rattle.feed_reader.specs.Grammar.{has_condition, op_asked, supported, is_over, gives_too_many, op_of_value, op_of_line};
 
 use crate::fields::{all_known, changes_in, document_in};
 use crate::id::document_of_id;
@@ -96,15 +96,21 @@ fn supported_in(line: &Json, doc: Doc, asked: Asked) -> Option<Op>
     op_asked(doc, asked)
 }
 
+fn is_over(operation: Operation, members: &Json, field: &Field) -> bool
+    ensures { result ≡ is_over operation (view members.now) field.now }
+{
+    members_given(operation, members.get(field.name.as_str())) > MOST_ITEMS
+}
+
 /// Whether a line gives some field a list or an object of more members than a document has items.
 fn gives_too_many(fields: &[Field], operation: Operation, line: &Json) -> bool
     ensures { result ≡ gives_too_many fields.now operation (view line.now) }
 {
     match fields_in(line) {
         None => false,
-        Some(members) => fields.iter().any(|field| {
-            members_given(operation, members.get(field.name.as_str())) > MOST_ITEMS
-        }),
+        Some(members) => fields
+            .iter()
+            .any(|field| is_over(operation, members, field)),
     }
 }
 
