@@ -1,5 +1,5 @@
 -- The values and weights that JSON writes.
-use Rattle.std.specs.Prelude.{ℕ, ℤ, pos, negsuc, ◌&&◌, List, length, nat_le, int_le, if◌then◌else◌}
+use Rattle.std.specs.Prelude.{ℕ, ℤ, pos, negsuc, Bool, ◌&&◌, List, length, nat_le, int_le, if◌then◌else◌}
 use Rattle.std.specs.Prelude.{Option, Some, None, option_and_then, option_map, Result}
 use Rattle.serde_json.specs.Data.{Data}
 use Rattle.serde_json.specs.Find.{as_number, as_i64, as_str}
@@ -31,8 +31,11 @@ name_read Long name = or_else BadValue (option_map values.Long (long_written nam
 name_read Text name = or_else BadValue (text_read name)
 
 -- 32 signed bits hold the number
+abbrev pub is_small : ℤ → Bool
+is_small z = int_le (negsuc 2147483647) z && int_le z (pos 2147483647)
+
 abbrev pub small_read : ℤ → Option ℤ
-small_read z = if int_le (negsuc 2147483647) z && int_le z (pos 2147483647) then Some z else None
+small_read z = if is_small z then Some z else None
 
 abbrev pub weight_read : Data → Result ℤ Refusal
 weight_read d = or_else BadValue (option_and_then small_read (long_read d))

@@ -7,6 +7,7 @@ mod feed;
 mod fields;
 mod id;
 mod items;
+mod laws;
 mod line;
 mod numeral;
 mod operation;
@@ -17,3 +18,4 @@ mod value;
 
 pub use error::FeedError;
 pub use feed::read_feed;
+pub use laws::{first_fault_law, rows_law};

@@ -1,4 +1,5 @@
 ghost use Rattle.std.specs.Prelude.{◌≡◌, option_map};
+ghost use Rattle.std.specs.List.{list_any};
 ghost use Rattle.serde_json.specs.View.{view};
 ghost use Rattle.feed_reader.specs.declared.refusal.Refusal.TheVariants.{NotJson};
 ghost use Rattle.feed_reader.specs.Answers.{Reads, or_else};
@@ -102,15 +103,21 @@ fn is_over(operation: Operation, members: &Json, field: &Field) -> bool
     members_given(operation, members.get(field.name.as_str())) > MOST_ITEMS
 }
 
+fn is_some_over(fields: &[Field], operation: Operation, members: &Json) -> bool
+    ensures { result ≡ list_any (is_over operation (view members.now)) fields.now }
+{
+    fields
+        .iter()
+        .any(|field| is_over(operation, members, field))
+}
+
 /// Whether a line gives some field a list or an object of more members than a document has items.
 fn gives_too_many(fields: &[Field], operation: Operation, line: &Json) -> bool
     ensures { result ≡ gives_too_many fields.now operation (view line.now) }
 {
     match fields_in(line) {
         None => false,
-        Some(members) => fields
-            .iter()
-            .any(|field| is_over(operation, members, field)),
+        Some(members) => is_some_over(fields, operation, members),
     }
 }
 
