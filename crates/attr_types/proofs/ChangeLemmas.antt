@@ -9,8 +9,8 @@ use Rattle.std.specs.Option.{IfSome, option_and_then}
 use Rattle.attr_types.proofs.EntryLemmas.{all-append, all_map-append, all_map-filter, sorted_map-filter}
 use Rattle.attr_types.proofs.ItemLemmas.{all-with_items, ascend-with_items, all_map-get, all_map-set, all-get, all-set}
 use Rattle.attr_types.proofs.ItemLemmas.{values_of-set, changed_at-then}
-use Rattle.attr_types.specs.Change.{with_items, is_named, if_within_limit, if_signed, shifted, acted, weighed}
-use Rattle.attr_types.specs.Change.{changed_at, place_of, changed, most_items}
+use Rattle.attr_types.specs.Change.{with_items, is_named, if_within_limit, if_signed, shifted, new_value, new_weight}
+use Rattle.attr_types.specs.Change.{with_new_value, with_new_weight, changed_at, place_of, changed, most_items}
 use Rattle.attr_types.specs.Lawful.{HaveWeightOne, AscendByValue, ItemsFit, ActFits, ChangeFits}
 use Rattle.attr_types.specs.Value.{value_cmp, values_of, type_of, AreOfType}
 use Rattle.attr_types.specs.declared.change.Act.{Act}
@@ -18,7 +18,6 @@ use Rattle.attr_types.specs.declared.change.Act.TheVariants as acts
 use Rattle.attr_types.specs.declared.change.Change.{Change}
 use Rattle.attr_types.specs.declared.change.Change.TheVariants.{Keep, Assign, Add, Take, Shift, At, Of}
 use Rattle.attr_types.specs.declared.change.WeightAct.{WeightAct}
-use Rattle.attr_types.specs.declared.change.WeightAct.TheVariants as weights
 use Rattle.attr_types.specs.declared.items.Item.{Item}
 use Rattle.attr_types.specs.declared.kind.Kind.{Kind}
 use Rattle.attr_types.specs.declared.kind.Kind.TheVariants.{Single, Array, WeightedSet}
@@ -52,54 +51,63 @@ shifted_type type amount (values.Long number) is = told (if_signed 63 (number +�
 abbrev Acts : ValueType → Item → Item → Type 0
 Acts type item new = (type_of new.value ≡ type) × (new.weight ≡ item.weight)
 
+new_value_is : (type : ValueType) (act : Act) (old : Value) → ActFits type act → type_of old ≡ type
+    → IfSome (new_value act old) (λ value. type_of value ≡ type)
+new_value_is type (acts.Set value) old fits is = fits
+new_value_is type (acts.Shift amount) old fits is = shifted_type type amount old is
+
 item_acts : (type : ValueType) (act : Act) (item : Item) → ActFits type act → type_of item.value ≡ type
-    → IfSome (acted act item) (Acts type item)
-item_acts type (acts.Set value) item fits is = (fits, refl)
-item_acts type (acts.Shift amount) item fits is =
-    told (shifted amount item.value) (shifted_type type amount item.value is)
+    → IfSome (with_new_value act item) (Acts type item)
+item_acts type act item fits is =
+    told (new_value act item.value) (new_value_is type act item.value fits is)
   where
-    told : (moved : Option Value) → IfSome moved (λ value. type_of value ≡ type)
-        → IfSome (option_map (λ value. record item { value = value }) moved) (Acts type item)
-    told None moved_is = tt
-    told (Some value) moved_is = (moved_is, refl)
+    told : (new : Option Value) → IfSome new (λ value. type_of value ≡ type)
+        → IfSome (option_map (λ value. record item { value = value }) new) (Acts type item)
+    told None new_is = tt
+    told (Some value) new_is = (new_is, refl)
 
 -- items of weight 1, at most so many
 abbrev Plain : ℕ → ValueType → List Item → Type 0
 Plain most type items = ((length items ≤ most) × HaveWeightOne items) × AreOfType type (values_of items)
 
 acted_at : (most : ℕ) (type : ValueType) (act : Act) (items : List Item) (place : ℕ) → ActFits type act
-    → Plain most type items → IfSome (changed_at (acted act) items place) (Plain most type)
+    → Plain most type items → IfSome (changed_at (with_new_value act) items place) (Plain most type)
 acted_at most type act items place fits plain =
-    changed_at-then (acted act) items place (Plain most type) (λ item new found is.
-      let typed : type_of item.value ≡ type = all_map-get (λ x. x.value) (λ v. type_of v ≡ type) items place plain.1 item found in
-      let one : item.weight ≡ pos 1 = all-get (λ x. x.weight ≡ pos 1) items place plain.0.1 item found in
-      let does : Acts type item new = if_some_then (Acts type item) (acted act item) (item_acts type act item fits typed) new is in
-      ((subst (λ n. n ≤ most) (sym (length-set items place new)) plain.0.0,
-        all-set (λ x. x.weight ≡ pos 1) items place new plain.0.1 (does.1 ∙ one)),
-       all_map-set (λ x. x.value) (λ v. type_of v ≡ type) items place new plain.1 does.0))
+    changed_at-then (with_new_value act) items place (Plain most type) (λ item new found is.
+    let typed : type_of item.value ≡ type = all_map-get (λ x. x.value) (λ v. type_of v ≡ type) items place plain.1 item found in
+    let one : item.weight ≡ pos 1 = all-get (λ x. x.weight ≡ pos 1) items place plain.0.1 item found in
+    let does : Acts type item new = if_some_then (Acts type item) (with_new_value act item) (item_acts type act item fits typed) new is in (
+      (
+        subst (λ n. n ≤ most) (sym (length-set items place new)) plain.0.0,
+        all-set (λ x. x.weight ≡ pos 1) items place new plain.0.1 (does.1 ∙ one),
+      ),
+      all_map-set (λ x. x.value) (λ v. type_of v ≡ type) items place new plain.1 does.0,
+    ))
 
-weighs : (act : WeightAct) (item : Item) → IfSome (weighed act item) (λ new. new.value ≡ item.value)
-weighs (weights.Set weight) item = refl
-weighs (weights.Shift amount) item = told (if_signed 31 (item.weight +ℤ amount))
+weighs : (act : WeightAct) (item : Item) → IfSome (with_new_weight act item) (λ new. new.value ≡ item.value)
+weighs act item = told (new_weight act item.weight)
   where
-    told : (sum : Option ℤ)
-        → IfSome (option_map (λ weight. record item { weight = weight }) sum) (λ new. new.value ≡ item.value)
+    told : (new : Option ℤ)
+        → IfSome (option_map (λ weight. record item { weight = weight }) new) (λ new. new.value ≡ item.value)
     told None = tt
-    told (Some sum) = refl
+    told (Some weight) = refl
 
 weighed_at : (type : ValueType) (act : WeightAct) (items : List Item) (place : ℕ) → ItemsFit WeightedSet type items
-    → IfSome (changed_at (weighed act) items place) (ItemsFit WeightedSet type)
+    → IfSome (changed_at (with_new_weight act) items place) (ItemsFit WeightedSet type)
 weighed_at type act items place fits =
-    changed_at-then (weighed act) items place (ItemsFit WeightedSet type) (λ item new found is.
-      let kept : new.value ≡ item.value = if_some_then (λ x. x.value ≡ item.value) (weighed act item) (weighs act item) new is in
-      let same : values_of items ≡ values_of (slice_set items place new) = sym (values_of-set items place item new found kept) in
-      ((subst (λ n. n ≤ most_items) (sym (length-set items place new)) fits.0.0,
-        subst (IsStrictlySortedBy value_cmp) same fits.0.1),
-       subst (AreOfType type) same fits.1))
+    changed_at-then (with_new_weight act) items place (ItemsFit WeightedSet type) (λ item new found is.
+    let kept : new.value ≡ item.value = if_some_then (λ x. x.value ≡ item.value) (with_new_weight act item) (weighs act item) new is in
+    let same : values_of items ≡ values_of (slice_set items place new) = sym (values_of-set items place item new found kept) in (
+      (
+        subst (λ n. n ≤ most_items) (sym (length-set items place new)) fits.0.0,
+        subst (IsStrictlySortedBy value_cmp) same fits.0.1,
+      ),
+      subst (AreOfType type) same fits.1,
+    ))
 
 weighed_of : (type : ValueType) (act : WeightAct) (items : List Item) (place : Option ℕ)
     → ItemsFit WeightedSet type items
-    → IfSome (option_and_then (changed_at (weighed act) items) place) (ItemsFit WeightedSet type)
+    → IfSome (option_and_then (changed_at (with_new_weight act) items) place) (ItemsFit WeightedSet type)
 weighed_of type act items None fits = tt
 weighed_of type act items (Some place) fits = weighed_at type act items place fits
 

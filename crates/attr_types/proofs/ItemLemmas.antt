@@ -110,6 +110,7 @@ changed_at-then change items place P then_holds = at_found (slice_get items plac
         → IfSome (option_map (slice_set items place) new) P
     at_new item None is made = tt
     at_new item (Some new) is made = then_holds item new is made
+
     at_found : (found : Option Item) → slice_get items place ≡ found
         → IfSome (option_map (slice_set items place) (option_and_then change found)) P
     at_found None is = tt

@@ -56,18 +56,22 @@ abbrev pub shifted : ℤ → Value → Option Value
 shifted amount (values.Long number) = option_map values.Long (if_signed 63 (number +ℤ amount))
 shifted amount (values.Text text) = None
 
--- an item with its value set or moved
-abbrev pub acted : Act → Item → Option Item
-acted (acts.Set value) item = Some (record item { value = value })
-acted (acts.Shift amount) item = option_map (λ value. record item { value = value }) (shifted amount item.value)
+abbrev pub new_value : Act → Value → Option Value
+new_value (acts.Set value) old = Some value
+new_value (acts.Shift amount) old = shifted amount old
 
--- an item with its weight set, or moved if the result has 32 signed bits
-abbrev pub weighed : WeightAct → Item → Option Item
-weighed (weights.Set weight) item = Some (record item { weight = weight })
-weighed (weights.Shift amount) item =
-    option_map (λ weight. record item { weight = weight }) (if_signed 31 (item.weight +ℤ amount))
+-- a weight may be moved as long as the result has 32 signed bits
+abbrev pub new_weight : WeightAct → ℤ → Option ℤ
+new_weight (weights.Set weight) old = Some weight
+new_weight (weights.Shift amount) old = if_signed 31 (old +ℤ amount)
 
--- the items with the one at a place changed, or none where there is none there or its change is skipped
+abbrev pub with_new_value : Act → Item → Option Item
+with_new_value act item = option_map (λ value. record item { value = value }) (new_value act item.value)
+
+abbrev pub with_new_weight : WeightAct → Item → Option Item
+with_new_weight act item = option_map (λ weight. record item { weight = weight }) (new_weight act item.weight)
+
+-- the items with the one at a place changed, or none where there is none there or its change has no answer
 abbrev pub changed_at : (Item → Option Item) → List Item → ℕ → Option (List Item)
 changed_at change items place = option_map (slice_set items place) (option_and_then change (slice_get items place))
 
@@ -85,13 +89,14 @@ changed WeightedSet type (Add more) items = if_within_limit (with_items items mo
 changed Single type (Take names) items = None
 changed Array type (Take names) items = None
 changed WeightedSet type (Take names) items = Some (without_values items names)
-changed Single types.Long (Shift amount) items = changed_at (acted (acts.Shift amount)) items 0
+changed Single types.Long (Shift amount) items = changed_at (with_new_value (acts.Shift amount)) items 0
 changed Single types.Text (Shift amount) items = None
 changed Array type (Shift amount) items = None
 changed WeightedSet type (Shift amount) items = None
 changed Single type (At index act) items = None
-changed Array type (At index act) items = changed_at (acted act) items index
+changed Array type (At index act) items = changed_at (with_new_value act) items index
 changed WeightedSet type (At index act) items = None
 changed Single type (Of value act) items = None
 changed Array type (Of value act) items = None
-changed WeightedSet type (Of value act) items = option_and_then (changed_at (weighed act) items) (place_of value items)
+changed WeightedSet type (Of value act) items =
+    option_and_then (changed_at (with_new_weight act) items) (place_of value items)

@@ -7,7 +7,10 @@ use crate::list::ListOf;
 #[derive(Debug, Drop)]
 pub enum Op {
     /// The document is there with these items alone.
-    Put { doc: Doc, items: FieldItems },
+    Put {
+        doc: Doc,
+        items: FieldItems,
+    },
     /// Each attribute's change of the document, or none of them. With `create` a document that is not there is
     /// changed as one without items.
     Update {
@@ -16,7 +19,9 @@ pub enum Op {
         change: FieldChanges,
     },
     /// The document is gone.
-    Remove { doc: Doc },
+    Remove {
+        doc: Doc,
+    },
 }
 
 /// Operations in order.
