@@ -31,9 +31,12 @@ keeps_none limit piece old reads = record { front = []; last = []; whole = refl;
 pub keeps_more : (limit piece : ℕ) (bytes got : List ℕ) (old now new : Option (List ℕ)) (reads_old reads_now reads_new : ℕ) → KeepsPieces limit piece bytes old now reads_old reads_now
     → length bytes ≤ limit → Consumes now new got → length got ≤ piece → 0 < length got → reads_new ≤ reads_now + 1 → KeepsPieces limit piece (bytes ++ got) old new reads_old reads_new
 keeps_more limit piece bytes got old now new reads_old reads_now reads_new kept room taken short some one = record {
-  front = bytes; last = got; whole = refl;
+  front = bytes;
+  last = got;
+  whole = refl;
   taken = Consumes-trans old now new bytes got kept.taken taken;
-  within = room; short = short;
+  within = room;
+  short = short;
   each = omega (arith, kept.took);
   took = omega (arith, kept.took, length-append bytes got);
 }
@@ -48,8 +51,10 @@ reads_kept limit piece bytes old new reads_old reads_new kept = record { front =
 pub reads_more : (limit piece : ℕ) (bytes got : List ℕ) (old now new : Option (List ℕ)) (reads_old reads_now reads_new : ℕ) → KeepsPieces limit piece bytes old now reads_old reads_now
     → length bytes ≤ limit → Consumes now new got → length got ≤ piece → reads_new ≤ reads_now + 1 → ReadsPieces limit piece old new reads_old reads_new
 reads_more limit piece bytes got old now new reads_old reads_now reads_new kept room taken short one = record {
-  front = bytes; last = got;
+  front = bytes;
+  last = got;
   taken = Consumes-trans old now new bytes got kept.taken taken;
-  within = room; short = short;
+  within = room;
+  short = short;
   each = omega (arith, kept.took);
 }

@@ -1,6 +1,6 @@
 -- The first faulty line of a feed.
 use Rattle.std.proofs.Common.{◌≡◌, ℕ, ◌+◌, Bool, true, false, cond, List, [], ◌∷◌, ◌++◌, length, Result, Ok, Err, refl, sym, ◌∙◌, ap, subst, arith, inl, inr}
-use Rattle.std.specs.Prelude.{◌⊎◌, ◌↔◌, IsTrue, IsOk, filter, not}
+use Rattle.std.specs.Prelude.{◌⊎◌, IsOk, filter, not}
 use Rattle.std.specs.List.{AllByRecursion, AllZip}
 use Rattle.attr_types.specs.declared.field.Field.{Field}
 use Rattle.attr_types.specs.declared.op.Op.{Op}
@@ -22,7 +22,9 @@ record FaultFrom (fields : List Field) (n : ℕ) (lines : List (List ℕ)) (line
 
 past : (fields : List Field) (n : ℕ) (text : List ℕ) (lines : List (List ℕ)) (line : ℕ) (refusal : Refusal) → IsSound fields text → FaultFrom fields (n + 1) lines line refusal → FaultFrom fields n (text ∷ lines) line refusal
 past fields n text lines line refusal sound fault = record {
-  before = text ∷ fault.before; text = fault.text; after = fault.after;
+  before = text ∷ fault.before;
+  text = fault.text;
+  after = fault.after;
   cut = ap (λ ls. text ∷ ls) fault.cut;
   place = omega (arith, fault.place);
   sound = (sound, fault.sound);
@@ -42,8 +44,8 @@ at_line fields n text lines line refusal false (Err other) more is says later e 
 at_line fields n text lines line refusal false (Ok op) (Ok ops) is says later e = cc
 at_line fields n text lines line refusal false (Ok op) (Err fault) is says later e =
     past fields n text lines line refusal (inr (subst IsOk (sym says) refl)) (later (same fault e)) where
-  same : (fault : Fault) → (let said : Result (List Op) Fault = Err fault in said ≡ Err (line, refusal)) → (let said : Result (List Op) Fault = Err fault in said ≡ Err (line, refusal))
-  same fault e = e
+      same : (fault : Fault) → (let said : Result (List Op) Fault = Err fault in said ≡ Err (line, refusal)) → (let said : Result (List Op) Fault = Err fault in said ≡ Err (line, refusal))
+      same fault e = e
 
 fault_from : (fields : List Field) (n : ℕ) (lines : List (List ℕ)) (line : ℕ) (refusal : Refusal) → ops_of_lines fields n lines ≡ Err (line, refusal) → FaultFrom fields n lines line refusal
 unfolding ops_of_lines
@@ -77,6 +79,7 @@ refused_by_fault fields bytes line refusal = (to, from) where
   to : ops_of_lines fields 1 (lines_of bytes) ≡ Err (line, refusal) → IsFirstFault fields (lines_of bytes) line refusal
   to e = let fault = fault_from fields 1 (lines_of bytes) line refusal e in
       record { before = fault.before; text = fault.text; after = fault.after; cut = fault.cut; place = omega (arith, fault.place); sound = fault.sound; faulty = fault.faulty }
+
   from : IsFirstFault fields (lines_of bytes) line refusal → ops_of_lines fields 1 (lines_of bytes) ≡ Err (line, refusal)
   from fault =
       let place : 1 + length fault.before ≡ line = omega (arith, fault.place) in

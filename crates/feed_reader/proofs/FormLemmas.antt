@@ -1,11 +1,11 @@
 -- What is read of a value is read exactly where the value has its form, and else it is BadValue.
-use Rattle.std.proofs.Common.{◌≡◌, ℕ, ℤ, pos, ◌+◌, ◌<◌, ◌≤◌, ◌^◌, Bool, true, false, cond, ◌&&◌, List, [], ◌∷◌, length, map, Option, Some, None, option_map, option_and_then, Result, Ok, Err, refl, sym, subst, arith, nat_lt, nat_le}
-use Rattle.std.specs.Prelude.{IfSome, IsTrue, codes}
+use Rattle.std.proofs.Common.{◌≡◌, ℕ, ℤ, pos, ◌<◌, ◌≤◌, ◌^◌, Bool, true, false, cond, ◌&&◌, List, [], ◌∷◌, length, map, Option, Some, None, option_map, option_and_then, Result, Ok, Err, refl, arith, nat_lt, nat_le}
+use Rattle.std.specs.Prelude.{IfSome, IsTrue}
 use Rattle.std.specs.List.{AllByRecursion}
 use Rattle.std.specs.Str.Parse.{signed_digits_value}
 use Rattle.std.proofs.lemmas.Bool.{ltb-true, ltb-false, leb-true, leb-false}
 use Rattle.serde_json.specs.Data.{unsigned, negative, float, Data, null, boolean, number, string, array, object, Items, no_items, item, Members, no_members, member}
-use Rattle.serde_json.specs.Find.{get, as_str, as_object}
+use Rattle.serde_json.specs.Find.{get}
 use Rattle.attr_types.specs.Change.{with_item}
 use Rattle.attr_types.specs.declared.change.Change.{Change}
 use Rattle.attr_types.specs.declared.change.Change.TheVariants as changes
@@ -24,8 +24,8 @@ use Rattle.feed_reader.specs.declared.operation.Form.TheVariants as forms
 use Rattle.feed_reader.specs.Answers.{◌>>=◌, or_else}
 use Rattle.feed_reader.specs.Numerals.{is_whole_numeral, is_long, long_written}
 use Rattle.feed_reader.specs.Values.{text_read, long_read, value_read, name_read, is_small, small_read, weight_read}
-use Rattle.feed_reader.specs.Items.{values_read, names_read, weighted_after, set_read, plain_item, list_read, one_read, some_items_read, items_read, taken_read}
-use Rattle.feed_reader.specs.Grammar.{each_field, put_read, only_member, operator_named, form_of, change_read, operator_read, update_read}
+use Rattle.feed_reader.specs.Items.{values_read, names_read, weighted_after, set_read, plain_item, list_read, some_items_read, items_read, taken_read}
+use Rattle.feed_reader.specs.Grammar.{each_field, put_read, operator_named, form_of, change_read, operator_read, update_read}
 use Rattle.feed_reader.specs.Forms.{IsLong, IsValue, IsName, IsWeight, AreValues, AreWeights, AreNames, IsList, IsWeighted, AreTaken, AreSomeItems, AreItems, HasForm, IsUpdate}
 
 -- ---- what an answer tells

@@ -1,6 +1,6 @@
 -- What an id names is a document.
-use Rattle.std.proofs.Common.{◌≡◌, ℕ, zero, suc, ◌+◌, ◌<◌, ◌≤◌, Bool, true, false, cond, ◌&&◌, List, [], ◌∷◌, ◌++◌, length, take, drop, get_or, Option, Some, None, refl, sym, ◌∙◌, ap, subst, arith, nat_lt, nat_le, append_assoc, length-append, length-take}
-use Rattle.std.specs.Prelude.{◌≢◌, IsTrue, ◌==◌}
+use Rattle.std.proofs.Common.{◌≡◌, ℕ, zero, suc, ◌+◌, ◌<◌, Bool, true, false, cond, ◌&&◌, List, [], ◌∷◌, ◌++◌, length, take, drop, get_or, Option, Some, None, refl, sym, ◌∙◌, ap, subst, arith, nat_lt, nat_le, append_assoc, length-append, length-take}
+use Rattle.std.specs.Prelude.{IsTrue, ◌==◌}
 use Rattle.std.specs.List.{position_or_len, before_first, after_first}
 use Rattle.std.proofs.lemmas.Bool.Decides.{Decides-eqb}
 use Rattle.std.proofs.lemmas.List.{get_or-take, get_or_append_left, get_or_at, take_at, drop_at}
@@ -159,10 +159,16 @@ form_of_id text doc e =
     let number = digits_parts d.0.1 doc d.2 in
     let is_id : a.0.0 ≡ codes "id" = (bytes_eq-Decides a.0.0 (codes "id")).0 scheme.0 in
     record {
-      namespace = b.0.0; type = c.0.0; part = d.0.0; digits = d.0.1;
+      namespace = b.0.0;
+      type = c.0.0;
+      part = d.0.0;
+      digits = d.0.1;
       whole = first.0 ∙ ap (λ (t : List ℕ). with_colon t a.0.1) is_id
           ∙ ap (λ (t : List ℕ). with_colon (codes "id") t) (second.0 ∙ ap (λ (t : List ℕ). with_colon b.0.0 t) (third.0 ∙ ap (λ (t : List ℕ). with_colon c.0.0 t) fourth.0));
-      namespace_there = second.2; type_there = third.2;
+      namespace_there = second.2;
+      type_there = third.2;
       no_colons = (second.1, (third.1, fourth.1));
-      decimal = number.0; document = number.1; there = written_document d.0.1 doc d.2;
+      decimal = number.0;
+      document = number.1;
+      there = written_document d.0.1 doc d.2;
     }

@@ -1,5 +1,5 @@
 -- The operations that a feed says fit the attributes.
-use Rattle.std.proofs.Common.{◌≡◌, ℕ, ◌+◌, ◌≤◌, Bool, true, false, cond, ◌||◌, List, [], ◌∷◌, Option, Some, None, option_and_then, option_map, unwrap_or, Result, Ok, Err, refl, subst, sym, ap, nat_lt}
+use Rattle.std.proofs.Common.{◌≡◌, ℕ, ◌+◌, ◌≤◌, Bool, true, false, cond, ◌||◌, List, [], ◌∷◌, Option, Some, None, option_and_then, option_map, unwrap_or, Result, Ok, Err, refl, subst, ap}
 use Rattle.std.specs.List.{AllByRecursion, AllZip, list_any}
 use Rattle.std.proofs.lemmas.Bool.{ltb-false}
 use Rattle.serde_json.specs.Data.{Data}
@@ -21,14 +21,13 @@ use Rattle.feed_reader.specs.declared.operation.Operation.{Operation}
 use Rattle.feed_reader.specs.declared.operation.Operation.TheVariants as operations
 use Rattle.feed_reader.specs.declared.operation.Operator.{Operator}
 use Rattle.feed_reader.specs.declared.operation.Operator.TheVariants as operators
-use Rattle.feed_reader.specs.declared.operation.Form.{Form}
 use Rattle.feed_reader.specs.declared.operation.Asked.{Asked}
 use Rattle.feed_reader.specs.declared.operation.Asked.TheVariants as asks
 use Rattle.feed_reader.specs.Answers.{◌>>=◌, or_else}
 use Rattle.feed_reader.specs.Id.{id_read}
 use Rattle.feed_reader.specs.Items.{items_read, list_read, set_read, taken_read, member_count}
 use Rattle.feed_reader.specs.Lines.{is_blank, lines_of}
-use Rattle.feed_reader.specs.Grammar.{json_read, operation_of, id_of, fields_of, each_field, put_read, only_member, operator_named, form_of, change_read, operator_read, update_read, all_some, asked_of, has_condition, op_asked, supported, members_given, is_over, some_over, gives_too_many, op_of_value, op_of_line}
+use Rattle.feed_reader.specs.Grammar.{json_read, operation_of, id_of, fields_of, each_field, put_read, only_member, operator_named, form_of, operator_read, update_read, all_some, asked_of, has_condition, op_asked, supported, members_given, is_over, some_over, gives_too_many, op_of_value, op_of_line}
 use Rattle.feed_reader.specs.Feed.{Fault, with_op, ops_of_lines, feed_of}
 use Rattle.feed_reader.proofs.FitsLemmas.{bind_ok, or_else_ok, none_fit, taken_fit, list_fits, weighted_fits, items_fit}
 use Rattle.feed_reader.proofs.IdLemmas.{named_document}

@@ -1,10 +1,10 @@
 -- The answer of a line is the first row that holds.
-use Rattle.std.proofs.Common.{◌≡◌, ℕ, suc, zero, ◌+◌, ◌<◌, ◌≤◌, Bool, true, false, cond, ◌||◌, List, [], ◌∷◌, length, Option, Some, None, is_some, option_and_then, option_map, Result, Ok, Err, refl, sym, ◌∙◌, ap, subst, arith, inl, inr, nat_lt}
-use Rattle.std.specs.Prelude.{◌≢◌, ◌⊎◌, ◌↔◌, IsTrue, IsSome, IfSome, IsSomeAnd, IsOk, is_none, codes}
+use Rattle.std.proofs.Common.{◌≡◌, ℕ, suc, zero, ◌+◌, ◌<◌, Bool, true, false, cond, ◌||◌, List, [], ◌∷◌, length, Option, Some, None, is_some, option_and_then, option_map, Result, Ok, Err, refl, sym, ◌∙◌, ap, subst, arith, inl, inr, nat_lt}
+use Rattle.std.specs.Prelude.{◌≢◌, ◌⊎◌, IsSome, IfSome, IsSomeAnd, IsOk, is_none, codes}
 use Rattle.std.specs.List.{AllByRecursion, list_any}
 use Rattle.std.proofs.lemmas.Bool.{cases_order}
-use Rattle.serde_json.specs.Data.{Data, null, boolean, number, string, array, object, Members, no_members, member}
-use Rattle.serde_json.specs.Find.{get, as_str, as_object}
+use Rattle.serde_json.specs.Data.{Data, null, boolean, number, string, array, object, no_members, member}
+use Rattle.serde_json.specs.Find.{get}
 use Rattle.attr_types.specs.Change.{most_items}
 use Rattle.attr_types.specs.declared.change.Change.{Change}
 use Rattle.attr_types.specs.declared.change.Change.TheVariants as changes
@@ -21,13 +21,12 @@ use Rattle.feed_reader.specs.declared.refusal.Refusal.TheVariants.{NotJson, NoOp
 use Rattle.feed_reader.specs.Answers.{◌>>=◌, or_else}
 use Rattle.feed_reader.specs.Forms.{AreItems, IsUpdate}
 use Rattle.feed_reader.specs.Grammar.{json_read, only_one, operation_of, id_of, if_object, fields_of, each_field, put_read, operator_named, form_of, change_read, operator_read, update_read, all_some, asked_of, has_condition, op_asked, supported, members_given, is_over, some_over, gives_too_many, op_of_value, op_of_line}
-use Rattle.feed_reader.specs.Id.{id_read}
 use Rattle.feed_reader.specs.Items.{member_count}
-use Rattle.feed_reader.specs.Rows.{IsJson, IsNotJson, name_of, operations_in, HasNoOperation, IsId, HasBadId, IsObject, HasFields, HasForms, HasBadValue, SomeField, HasOtherOperator, AsksForOther, IsUnsupported, GivesTooMany, HasTooMany, OfJson, row_number, HasRow, IsFirstRow, RefusedByFirstRow, TakenWithoutRow}
+use Rattle.feed_reader.specs.Rows.{IsJson, name_of, HasNoOperation, IsId, HasBadId, IsObject, HasFields, HasForms, HasBadValue, SomeField, HasOtherOperator, AsksForOther, IsUnsupported, GivesTooMany, HasTooMany, row_number, HasRow, IsFirstRow, RefusedByFirstRow, TakenWithoutRow}
 use Rattle.feed_reader.proofs.FitsLemmas.{bind_ok, or_else_ok}
 use Rattle.feed_reader.proofs.FormLemmas.{Tells, TellsBool, never, tells_same, tells_then, tells_lt, put_tells, update_tells, each_tells}
 use Rattle.feed_reader.proofs.IdLemmas.{form_of_id, id_of_form}
-use Rattle.feed_reader.proofs.Json.{json_there, json_is, json_none}
+use Rattle.feed_reader.proofs.Json.{json_there, json_none}
 
 -- ---- 2. the operation
 
@@ -269,9 +268,9 @@ supported_tells fields d p doc asked e read =
     at (has_condition d) (op_asked doc asked)
     (either_bool (IsSome (get (codes "create") d)) (IsSome (get (codes "condition") d)) (AsksForOther fields d) (is_some (get (codes "create") d)) (is_some (get (codes "condition") d)) (is_none (op_asked doc asked))
     (is_some_tells (get (codes "create") d)) (is_some_tells (get (codes "condition") d)) (asked_known fields d p doc asked e read)) where
-  at : (b : Bool) (o : Option Op) → TellsBool (IsUnsupported fields d) (cond b true (is_none o)) → TellsBool (IsUnsupported fields d) (is_none (cond b None o))
-  at true o t = t
-  at false o t = t
+      at : (b : Bool) (o : Option Op) → TellsBool (IsUnsupported fields d) (cond b true (is_none o)) → TellsBool (IsUnsupported fields d) (is_none (cond b None o))
+      at true o t = t
+      at false o t = t
 
 -- ---- 6. the members
 
@@ -415,19 +414,19 @@ value_row fields d =
     (by_option fields d NoOperation (operation_of d) (no_one (get (codes "put") d) (get (codes "update") d) (get (codes "remove") d)) (λ p e none. none (just_one (get (codes "put") d) (get (codes "update") d) (get (codes "remove") d) p e)))
     (none_first fields d)
     (λ p op_is none2.
-      let e = or_else_ok NoOperation (operation_of d) p op_is in
-      check fields d BadId (or_else BadId (id_of p.1)) (with_doc p.0)
-      (by_option fields d BadId (id_of p.1) (λ none. (p.0, p.1, op_there d p e, λ doc. bad_id p.1 doc none)) (λ doc read. same_id d p doc e read))
-      none2
-      (λ doc doc_is none3.
-        check fields d BadValue (asked_of fields p.0 d) (with_asked p.0 doc)
-        (by_forms fields d p (asked_of fields p.0 d) e (forms_tell fields p.0 d))
-        none3
-        (λ asked asked_is none4.
-          check fields d Unsupported (or_else Unsupported (supported d doc asked)) (finish p.0)
-          (by_none fields d Unsupported (supported d doc asked) (supported_tells fields d p doc asked e asked_is))
-          none4
-          (λ op made none5. last_check fields d (gives_too_many fields p.0 d) op (many_tells fields d p e) none5))))
+    let e = or_else_ok NoOperation (operation_of d) p op_is in
+    check fields d BadId (or_else BadId (id_of p.1)) (with_doc p.0)
+    (by_option fields d BadId (id_of p.1) (λ none. (p.0, p.1, op_there d p e, λ doc. bad_id p.1 doc none)) (λ doc read. same_id d p doc e read))
+    none2
+    (λ doc doc_is none3.
+    check fields d BadValue (asked_of fields p.0 d) (with_asked p.0 doc)
+    (by_forms fields d p (asked_of fields p.0 d) e (forms_tell fields p.0 d))
+    none3
+    (λ asked asked_is none4.
+    check fields d Unsupported (or_else Unsupported (supported d doc asked)) (finish p.0)
+    (by_none fields d Unsupported (supported d doc asked) (supported_tells fields d p doc asked e asked_is))
+    none4
+    (λ op made none5. last_check fields d (gives_too_many fields p.0 d) op (many_tells fields d p e) none5))))
 
 -- ---- the rows of a line
 

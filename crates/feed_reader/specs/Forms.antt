@@ -1,10 +1,10 @@
 -- The forms that the values of a feed have: those of Vespa's document JSON format for an attribute's collection
 -- types, within this project's limits. `Data` is a JSON value as `serde_json` reads it.
-use Rattle.std.specs.Prelude.{ℕ, ℤ, pos, ◌≡◌, ◌<◌, ◌≤◌, ◌^◌, ◌&&◌, ◌++◌, List, ◌∷◌, length, IsTrue, IfSome, codes}
+use Rattle.std.specs.Prelude.{ℕ, pos, ◌≡◌, ◌<◌, ◌≤◌, ◌^◌, ◌&&◌, ◌++◌, List, ◌∷◌, length, IsTrue, IfSome, codes}
 use Rattle.std.specs.List.{All}
 use Rattle.std.specs.Prelude.{◌≢◌}
 use Rattle.std.specs.Str.Parse.{digits_value, signed_digits_value}
-use Rattle.serde_json.specs.Data.{unsigned, negative, float, Data, null, boolean, number, string, array, object}
+use Rattle.serde_json.specs.Data.{unsigned, negative, Data, null, number, string, array, object}
 use Rattle.serde_json.specs.Data.{Items, no_items, item, Members, no_members, member}
 use Rattle.attr_types.specs.Lawful.{IsDocNumber}
 use Rattle.attr_types.specs.declared.field.Field.{Field}

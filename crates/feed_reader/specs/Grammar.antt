@@ -1,5 +1,5 @@
 -- What a line of a feed asks for, or the first check that refuses it.
-use Rattle.std.specs.Prelude.{ℕ, Bool, true, false, ◌||◌, List, [], ◌∷◌, nat_lt, if◌then◌else◌, codes}
+use Rattle.std.specs.Prelude.{ℕ, Bool, false, ◌||◌, List, [], ◌∷◌, nat_lt, if◌then◌else◌, codes}
 use Rattle.std.specs.Prelude.{Option, Some, None, is_some, option_and_then, option_map, unwrap_or, Result, Ok, Err}
 use Rattle.std.specs.List.{list_any}
 use Rattle.std.specs.Str.{is_utf8, bytes_eq}

@@ -4,12 +4,11 @@ use Rattle.std.specs.Prelude.{◌≡◌, ◌≢◌, ◌⊎◌, ◌↔◌, ℕ, �
 use Rattle.std.specs.Prelude.{Some, None, is_some, IsSome, IfSome, IsSomeAnd, Ok, Err, IsOk}
 use Rattle.std.specs.List.{AllByRecursion, AllZip}
 use Rattle.std.specs.Str.{IsUtf8}
-use Rattle.serde_json.specs.Data.{Data, null, boolean, number, string, array, object, no_members, member}
+use Rattle.serde_json.specs.Data.{Data, string, object, no_members, member}
 use Rattle.serde_json.specs.Read.{read}
 use Rattle.serde_json.specs.Find.{get}
 use Rattle.attr_types.specs.Change.{most_items}
 use Rattle.attr_types.specs.declared.field.Field.{Field}
-use Rattle.attr_types.specs.declared.kind.Kind.{Kind}
 use Rattle.attr_types.specs.declared.op.Op.{Op}
 use Rattle.feed_reader.specs.declared.operation.Operation.{Operation}
 use Rattle.feed_reader.specs.declared.operation.Operation.TheVariants.{Put, Update, Remove}

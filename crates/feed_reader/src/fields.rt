@@ -10,11 +10,7 @@ use serde_json::Value as Json;
 use std::alloc::{AllocError, Global};
 
 /// The items that a put gives each attribute.
-pub fn document_in(
-    alloc: Global,
-    fields: &[Field],
-    members: &Json,
-) -> Result<FieldItems, LineError>
+pub fn document_in(alloc: Global, fields: &[Field], members: &Json) -> Result<FieldItems, LineError>
     ensures { Reads (λ document. document) result (each_field put_read fields.now (view members.now)) }
 {
     let mut document = Vec::with_capacity(alloc, fields.len())?;

@@ -67,12 +67,7 @@ fn change_in(alloc: Global, field: &Field, form: Form, json: &Json) -> Result<Ch
     ensures { Reads (λ change. change) result (change_read field.now form (view json.now)) }
 {
     match form {
-        Form::Items => Ok(Change::Assign(items_in(
-            alloc,
-            field.kind,
-            field.value,
-            json,
-        )?)),
+        Form::Items => Ok(Change::Assign(items_in(alloc, field.kind, field.value, json)?)),
         Form::List => Ok(Change::Add(list_in(alloc, field.value, json)?)),
         Form::Weights => Ok(Change::Add(weighted_in(alloc, field.value, json)?)),
         Form::Names => Ok(Change::Take(taken_in(alloc, field.value, json)?)),
