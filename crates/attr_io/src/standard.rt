@@ -1,6 +1,6 @@
 ghost use Rattle.std.specs.Prelude.{◌≡◌, ◌↔◌, IsErr, IfOk, OnOk, OnErr, Ok};
 ghost use Rattle.attr_io.specs.Bytes.{TakesSome};
-ghost use Rattle.attr_io.specs.Faults.{CountsFaults, counted};
+ghost use Rattle.attr_io.specs.Faults.{CountsFaults, counted_up};
 
 use crate::traffic::{Failed, Sink, Source};
 use std::io;
@@ -99,7 +99,7 @@ fn note_fault(faults: &mut u64, answer: io::Result<usize>) -> Result<usize, Fail
     ensures same { IfOk result (λ n. answer ≡ Ok n) }
     ensures kept { OnOk result (faults.new ≡ faults.old) }
     ensures failed { IsErr result ↔ IsErr answer }
-    ensures counts { OnErr result (faults.new ≡ counted faults.old) }
+    ensures counts { OnErr result (faults.new ≡ counted_up faults.old) }
     ensures cause { CountsFaults faults.old faults.new result }
 {
     match answer {

@@ -4,6 +4,7 @@ use Rattle.serde_json.specs.Data.{Data, null, boolean, number, string, array, ob
 use Rattle.serde_json.specs.Events.{items_len, members_len}
 use Rattle.serde_json.specs.Find.{as_null, as_str, as_array, as_object}
 use Rattle.std.specs.List.Sorted.{IsStrictlySortedBy}
+use Rattle.std.proofs.lemmas.Option.{cond_some}
 use Rattle.std.specs.Ordering.{match_ordering}
 use Rattle.attr_types.specs.Value.{value_cmp, values_of, type_of, AreOfType}
 use Rattle.attr_types.specs.Change.{with_item}
@@ -33,10 +34,6 @@ pub or_else_ok : {A : Type 0} (refusal : Refusal) (o : Option A) (x : A) → or_
 or_else_ok refusal None x e = cc
 or_else_ok refusal (Some y) x e = cc
 
-pub if_some : {A : Type 0} (b : Bool) (x y : A) → cond b (Some x) None ≡ Some y → (b ≡ true) × (x ≡ y)
-if_some true x y e = (refl, cc)
-if_some false x y e = cc
-
 -- ---- values
 
 long_type : (o : Option ℤ) (v : Value) → option_map values.Long o ≡ Some v → type_of v ≡ types.Long
@@ -44,7 +41,7 @@ long_type None v e = cc
 long_type (Some z) v e = let is : values.Long z ≡ v = cc in sym (ap type_of is)
 
 text_type : (s : List ℕ) (v : Value) → text_read s ≡ Some v → type_of v ≡ types.Text
-text_type s v e = sym (ap type_of (if_some (nat_le (length s) 1024) (values.Text s) v e).1)
+text_type s v e = sym (ap type_of (cond_some (nat_le (length s) 1024) (values.Text s) v e).1)
 
 some_text_type : (o : Option (List ℕ)) (v : Value) → option_and_then text_read o ≡ Some v → type_of v ≡ types.Text
 some_text_type None v e = cc

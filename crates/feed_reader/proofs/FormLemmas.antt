@@ -22,11 +22,11 @@ use Rattle.feed_reader.specs.declared.refusal.Refusal.TheVariants.{BadValue}
 use Rattle.feed_reader.specs.declared.operation.Form.{Form}
 use Rattle.feed_reader.specs.declared.operation.Form.TheVariants as forms
 use Rattle.feed_reader.specs.Answers.{◌>>=◌, or_else}
-use Rattle.feed_reader.specs.Numerals.{is_whole_numeral, is_long, long_written}
-use Rattle.feed_reader.specs.Values.{text_read, long_read, value_read, name_read, is_small, small_read, weight_read}
+use Rattle.feed_reader.specs.Numerals.{is_whole_numeral, is_long_number, long_written}
+use Rattle.feed_reader.specs.Values.{text_read, long_read, value_read, name_read, is_weight_number, small_read, weight_read}
 use Rattle.feed_reader.specs.Items.{values_read, names_read, weighted_after, set_read, plain_item, list_read, some_items_read, items_read, taken_read}
-use Rattle.feed_reader.specs.Grammar.{each_field, put_read, operator_named, form_of, change_read, operator_read, update_read}
-use Rattle.feed_reader.specs.Forms.{IsLong, IsValue, IsName, IsWeight, AreValues, AreWeights, AreNames, IsList, IsWeighted, AreTaken, AreSomeItems, AreItems, HasForm, IsUpdate}
+use Rattle.feed_reader.specs.Grammar.{each_field, put_read, operator_named, operator_form, change_read, operator_read, update_read}
+use Rattle.feed_reader.specs.Forms.{IsLong, IsValue, IsName, IsWeight, AreValues, AreWeights, AreNames, HasListForm, HasWeightsForm, HasNamesForm, HasKindForm, HasItemsForm, HasForm, IsUpdate}
 
 -- ---- what an answer tells
 
@@ -113,33 +113,33 @@ value_tells types.Text (number n) = (refl, never)
 value_tells types.Text (array ds) = (refl, never)
 value_tells types.Text (object ms) = (refl, never)
 
-written_tells : (name : List ℕ) → TellsSome (IsTrue (is_whole_numeral name && is_long (signed_digits_value 10 name))) (long_written name)
+written_tells : (name : List ℕ) → TellsSome (IsTrue (is_whole_numeral name && is_long_number (signed_digits_value 10 name))) (long_written name)
 unfolding long_written
 written_tells name =
-    let whole = is_whole_numeral name && is_long (signed_digits_value 10 name) in
+    let whole = is_whole_numeral name && is_long_number (signed_digits_value 10 name) in
     tells_if (IsTrue whole) whole (signed_digits_value 10 name) (tells_true whole)
 
 name_tells : (t : ValueType) (name : List ℕ) → Tells (IsName t name) (name_read t name)
 name_tells types.Long name =
-    let P = IsTrue (is_whole_numeral name && is_long (signed_digits_value 10 name)) in
+    let P = IsTrue (is_whole_numeral name && is_long_number (signed_digits_value 10 name)) in
     tells_option P (option_map values.Long (long_written name)) (tells_map P (long_written name) values.Long (written_tells name))
 name_tells types.Text name = tells_option (length name ≤ 1024) (text_read name) (text_tells name)
 
-small_tells : (z : ℤ) → TellsSome (IsTrue (is_small z)) (small_read z)
-small_tells z = tells_if (IsTrue (is_small z)) (is_small z) z (tells_true (is_small z))
+small_tells : (z : ℤ) → TellsSome (IsTrue (is_weight_number z)) (small_read z)
+small_tells z = tells_if (IsTrue (is_weight_number z)) (is_weight_number z) z (tells_true (is_weight_number z))
 
-small_below : (n : ℕ) → IsTrue (is_small (pos n)) → n ≤ 2147483647
+small_below : (n : ℕ) → IsTrue (is_weight_number (pos n)) → n ≤ 2147483647
 small_below n small = leb-true n 2147483647 small
 
-unsigned_tells : (n : ℕ) → TellsSome (IsTrue (is_small (pos n))) (option_and_then small_read (cond (nat_lt n (2 ^ 63)) (Some (pos n)) None))
+unsigned_tells : (n : ℕ) → TellsSome (IsTrue (is_weight_number (pos n))) (option_and_then small_read (cond (nat_lt n (2 ^ 63)) (Some (pos n)) None))
 unsigned_tells n = at (nat_lt n (2 ^ 63)) refl where
-  at : (b : Bool) → nat_lt n (2 ^ 63) ≡ b → TellsSome (IsTrue (is_small (pos n))) (option_and_then small_read (cond b (Some (pos n)) None))
+  at : (b : Bool) → nat_lt n (2 ^ 63) ≡ b → TellsSome (IsTrue (is_weight_number (pos n))) (option_and_then small_read (cond b (Some (pos n)) None))
   at true e = small_tells (pos n)
   at false e = λ small. let above = ltb-false n (2 ^ 63) e in let below = small_below n small in absurd (omega arith)
 
 weight_tells : (d : Data) → Tells (IsWeight d) (weight_read d)
-weight_tells (number (unsigned n)) = tells_option (IsTrue (is_small (pos n))) (option_and_then small_read (cond (nat_lt n (2 ^ 63)) (Some (pos n)) None)) (unsigned_tells n)
-weight_tells (number (negative z)) = tells_option (IsTrue (is_small z)) (small_read z) (small_tells z)
+weight_tells (number (unsigned n)) = tells_option (IsTrue (is_weight_number (pos n))) (option_and_then small_read (cond (nat_lt n (2 ^ 63)) (Some (pos n)) None)) (unsigned_tells n)
+weight_tells (number (negative z)) = tells_option (IsTrue (is_weight_number z)) (small_read z) (small_tells z)
 weight_tells (number (float x)) = (refl, never)
 weight_tells null = (refl, never)
 weight_tells (boolean b) = (refl, never)
@@ -171,7 +171,7 @@ weights_tell t (member name d ms) items =
     tells_and (IsName t name) (IsWeight d × AreWeights t ms) (name_read t name) (λ (v : Value). weight_read d >>= with v) (name_tells t name)
     (λ v named. tells_and (IsWeight d) (AreWeights t ms) (weight_read d) (with v) (weight_tells d) (λ w weighed. weights_tell t ms (with_item items (record { value = v; weight = w }))))
 
-list_tells : (t : ValueType) (d : Data) → Tells (IsList t d) (list_read t d)
+list_tells : (t : ValueType) (d : Data) → Tells (HasListForm t d) (list_read t d)
 list_tells t (array ds) = tells_then (AreValues t ds) (values_read t ds) (map plain_item) (values_tell t ds)
 list_tells t null = (refl, never)
 list_tells t (boolean b) = (refl, never)
@@ -179,7 +179,7 @@ list_tells t (number n) = (refl, never)
 list_tells t (string s) = (refl, never)
 list_tells t (object ms) = (refl, never)
 
-weighted_tells : (t : ValueType) (d : Data) → Tells (IsWeighted t d) (set_read t d)
+weighted_tells : (t : ValueType) (d : Data) → Tells (HasWeightsForm t d) (set_read t d)
 weighted_tells t (object ms) = weights_tell t ms []
 weighted_tells t null = (refl, never)
 weighted_tells t (boolean b) = (refl, never)
@@ -187,7 +187,7 @@ weighted_tells t (number n) = (refl, never)
 weighted_tells t (string s) = (refl, never)
 weighted_tells t (array ds) = (refl, never)
 
-taken_tells : (t : ValueType) (d : Data) → Tells (AreTaken t d) (taken_read t d)
+taken_tells : (t : ValueType) (d : Data) → Tells (HasNamesForm t d) (taken_read t d)
 unfolding taken_read
 taken_tells t (array ds) = values_tell t ds
 taken_tells t (object ms) = names_tell t ms
@@ -196,12 +196,12 @@ taken_tells t (boolean b) = (refl, never)
 taken_tells t (number n) = (refl, never)
 taken_tells t (string s) = (refl, never)
 
-some_items_tell : (kind : Kind) (t : ValueType) (d : Data) → Tells (AreSomeItems kind t d) (some_items_read kind t d)
+some_items_tell : (kind : Kind) (t : ValueType) (d : Data) → Tells (HasKindForm kind t d) (some_items_read kind t d)
 some_items_tell Single t d = tells_then (IsValue t d) (value_read t d) (λ (v : Value). plain_item v ∷ []) (value_tells t d)
 some_items_tell Array t d = list_tells t d
 some_items_tell WeightedSet t d = weighted_tells t d
 
-items_tell : (kind : Kind) (t : ValueType) (d : Data) → Tells (AreItems kind t d) (items_read kind t d)
+items_tell : (kind : Kind) (t : ValueType) (d : Data) → Tells (HasItemsForm kind t d) (items_read kind t d)
 unfolding items_read
 items_tell kind t null = tt
 items_tell kind t (boolean b) = some_items_tell kind t (boolean b)
@@ -212,15 +212,15 @@ items_tell kind t (object ms) = some_items_tell kind t (object ms)
 
 -- ---- one field
 
-pub put_tells : (field : Field) (value : Option Data) → Tells (IfSome value (AreItems field.kind field.value)) (put_read field value)
+pub put_tells : (field : Field) (value : Option Data) → Tells (IfSome value (HasItemsForm field.kind field.value)) (put_read field value)
 put_tells field None = tt
 put_tells field (Some d) = items_tell field.kind field.value d
 
 change_tells : (field : Field) (form : Form) (d : Data) → Tells (HasForm form field.kind field.value d) (change_read field form d)
-change_tells field forms.Items d = tells_then (AreItems field.kind field.value d) (items_read field.kind field.value d) changes.Assign (items_tell field.kind field.value d)
-change_tells field forms.List d = tells_then (IsList field.value d) (list_read field.value d) changes.Add (list_tells field.value d)
-change_tells field forms.Weights d = tells_then (IsWeighted field.value d) (set_read field.value d) changes.Add (weighted_tells field.value d)
-change_tells field forms.Names d = tells_then (AreTaken field.value d) (taken_read field.value d) changes.Take (taken_tells field.value d)
+change_tells field forms.Items d = tells_then (HasItemsForm field.kind field.value d) (items_read field.kind field.value d) changes.Assign (items_tell field.kind field.value d)
+change_tells field forms.List d = tells_then (HasListForm field.value d) (list_read field.value d) changes.Add (list_tells field.value d)
+change_tells field forms.Weights d = tells_then (HasWeightsForm field.value d) (set_read field.value d) changes.Add (weighted_tells field.value d)
+change_tells field forms.Names d = tells_then (HasNamesForm field.value d) (taken_read field.value d) changes.Take (taken_tells field.value d)
 
 operator_tells : (field : Field) (form : Option Form) (d : Data) → Tells (IfSome form (λ form. HasForm form field.kind field.value d)) (operator_read field form d)
 operator_tells field None d = tt
@@ -234,7 +234,7 @@ update_tells field (Some (number n)) = (refl, never)
 update_tells field (Some (string s)) = (refl, never)
 update_tells field (Some (array ds)) = (refl, never)
 update_tells field (Some (object no_members)) = (refl, never)
-update_tells field (Some (object (member name d no_members))) = operator_tells field (form_of (operator_named name) field.kind) d
+update_tells field (Some (object (member name d no_members))) = operator_tells field (operator_form (operator_named name) field.kind) d
 update_tells field (Some (object (member name d (member other e ms)))) = (refl, never)
 
 -- ---- each field

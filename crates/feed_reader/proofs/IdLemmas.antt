@@ -8,6 +8,7 @@ use Rattle.std.proofs.lemmas.List.Sums.{split_at_first, passes_at_first, fails_b
 use Rattle.std.proofs.lemmas.Slice.Eq.{bytes_eq-Decides}
 use Rattle.std.specs.Prelude.{codes}
 use Rattle.std.specs.Str.{bytes_eq}
+use Rattle.std.proofs.lemmas.Option.{cond_some}
 use Rattle.std.specs.Str.Parse.{digits_value}
 use Rattle.std.proofs.lemmas.Bool.{and_parts, and_from, cond-true, leb-true, le-leb, ltb-true, lt-ltb}
 use Rattle.attr_types.specs.Lawful.{IsDocNumber}
@@ -19,15 +20,11 @@ bind_some : {A B : Type 0} (o : Option A) (f : A → Option B) (y : B) → (o >>
 bind_some None f y e = cc
 bind_some (Some x) f y e = (x, refl, e)
 
-if_some : {A : Type 0} (b : Bool) (x y : A) → cond b (Some x) None ≡ Some y → (b ≡ true) × (x ≡ y)
-if_some true x y e = (refl, cc)
-if_some false x y e = cc
-
 written_document : (text : List ℕ) (doc : ℕ) → document_written text ≡ Some doc → IsDocNumber doc
 unfolding document_written
 written_document text doc e =
     let n = digits_value 10 text in
-    let p = if_some (is_positive_numeral text && (nat_le 1 n && nat_le n 1048575)) n doc e in
+    let p = cond_some (is_positive_numeral text && (nat_le 1 n && nat_le n 1048575)) n doc e in
     let bounds = and_parts (nat_le 1 n) (nat_le n 1048575) (and_parts (is_positive_numeral text) (nat_le 1 n && nat_le n 1048575) p.0).1 in
     subst IsDocNumber p.1 (leb-true 1 n bounds.0, leb-true n 1048575 bounds.1)
 
@@ -61,7 +58,7 @@ before_no_colon text k d short is =
 -- what is cut at the first colon
 pub cut_parts : (text : List ℕ) (p : List ℕ × List ℕ) → cut_at_colon text ≡ Some p → (text ≡ with_colon p.0 p.1) × HasNoColon p.0
 cut_parts text p e =
-    let at = if_some (nat_lt (position_or_len is_colon text) (length text)) (before_first is_colon text, after_first is_colon text) p e in
+    let at = cond_some (nat_lt (position_or_len is_colon text) (length text)) (before_first is_colon text, after_first is_colon text) p e in
     let within = ltb-true (position_or_len is_colon text) (length text) at.0 in
     let colon : get_or text (position_or_len is_colon text) 0 ≡ 58 = (Decides-eqb (get_or text (position_or_len is_colon text) 0) 58).0 (passes_at_first is_colon text 0 within) in
     let whole : text ≡ with_colon (before_first is_colon text) (after_first is_colon text) = split_at_first is_colon text 0 within ∙ ap (λ (b : ℕ). before_first is_colon text ++ (b ∷ after_first is_colon text)) colon in
@@ -90,7 +87,7 @@ cut_of a b none =
 pub cut_some_parts : (text : List ℕ) (p : List ℕ × List ℕ) → cut_some_at_colon text ≡ Some p → (text ≡ with_colon p.0 p.1) × HasNoColon p.0 × (0 < length p.0)
 cut_some_parts text p e =
     let parts = bind_some (cut_at_colon text) (λ (q : List ℕ × List ℕ). cond (nat_lt 0 (length q.0)) (Some q) None) p e in
-    let some = if_some (nat_lt 0 (length parts.0.0)) parts.0 p parts.2 in
+    let some = cond_some (nat_lt 0 (length parts.0.0)) parts.0 p parts.2 in
     let cut = cut_parts text parts.0 parts.1 in
     subst (λ (q : List ℕ × List ℕ). (text ≡ with_colon q.0 q.1) × HasNoColon q.0 × (0 < length q.0)) some.1 (cut.0, cut.1, ltb-true 0 (length parts.0.0) some.0)
 
@@ -101,7 +98,7 @@ digits_parts : (text : List ℕ) (doc : ℕ) → document_written text ≡ Some 
 unfolding document_written
 digits_parts text doc e =
     let n = digits_value 10 text in
-    let p = if_some (is_positive_numeral text && (nat_le 1 n && nat_le n 1048575)) n doc e in
+    let p = cond_some (is_positive_numeral text && (nat_le 1 n && nat_le n 1048575)) n doc e in
     ((and_parts (is_positive_numeral text) (nat_le 1 n && nat_le n 1048575) p.0).0, p.1)
 
 digits_of : (text : List ℕ) (doc : ℕ) → IsTrue (is_positive_numeral text) → digits_value 10 text ≡ doc → IsDocNumber doc → document_written text ≡ Some doc

@@ -17,8 +17,8 @@ use Rattle.attr_types.specs.declared.op.Op.{Op}
 use Rattle.attr_types.specs.declared.op.Op.TheVariants as ops
 use Rattle.feed_reader.specs.declared.refusal.Refusal.{Refusal}
 use Rattle.feed_reader.specs.declared.refusal.Refusal.TheVariants.{NotJson, NoOperation, BadId, BadValue, Unsupported, TooManyItems}
-use Rattle.feed_reader.specs.declared.operation.Operation.{Operation}
-use Rattle.feed_reader.specs.declared.operation.Operation.TheVariants as operations
+use Rattle.feed_reader.specs.declared.operation.OpName.{OpName}
+use Rattle.feed_reader.specs.declared.operation.OpName.TheVariants as operations
 use Rattle.feed_reader.specs.declared.operation.Operator.{Operator}
 use Rattle.feed_reader.specs.declared.operation.Operator.TheVariants as operators
 use Rattle.feed_reader.specs.declared.operation.Asked.{Asked}
@@ -27,7 +27,7 @@ use Rattle.feed_reader.specs.Answers.{◌>>=◌, or_else}
 use Rattle.feed_reader.specs.Id.{id_read}
 use Rattle.feed_reader.specs.Items.{items_read, list_read, set_read, taken_read, member_count}
 use Rattle.feed_reader.specs.Lines.{is_blank, lines_of}
-use Rattle.feed_reader.specs.Grammar.{json_read, operation_of, id_of, fields_of, each_field, put_read, only_member, operator_named, form_of, operator_read, update_read, all_some, asked_of, has_condition, op_asked, supported, members_given, is_over, some_over, gives_too_many, op_of_value, op_of_line}
+use Rattle.feed_reader.specs.Grammar.{json_read, op_name_of, id_of, fields_of, each_field, put_read, only_member, operator_named, operator_form, operator_read, update_read, all_some, asked_of, has_condition, op_asked, supported, members_given, is_over, some_over, gives_too_many, op_of_value, op_of_line}
 use Rattle.feed_reader.specs.Feed.{Fault, with_op, ops_of_lines, feed_of}
 use Rattle.feed_reader.proofs.FitsLemmas.{bind_ok, or_else_ok, none_fit, taken_fit, list_fits, weighted_fits, items_fit}
 use Rattle.feed_reader.proofs.IdLemmas.{named_document}
@@ -60,7 +60,7 @@ assign_fits : (kind : Kind) (t : ValueType) (d : Data) (items : List Item) → m
 assign_fits kind t d items few e = items_fit kind t d items few e
 
 operator_fits : (name : List ℕ) (kind : Kind) (t : ValueType) (operator : Operator) (d : Data) (change : Option Change) → member_count d ≤ most_items
-    → operator_read (record { name = name; kind = kind; value = t }) (form_of operator kind) d ≡ Ok change → ReadFits kind t change
+    → operator_read (record { name = name; kind = kind; value = t }) (operator_form operator kind) d ≡ Ok change → ReadFits kind t change
 operator_fits name kind t operators.Assign d change few e = by_form kind t changes.Assign (items_read kind t d) change (λ x is. assign_fits kind t d x few is) e
 operator_fits name Single t operators.Add d change few e = unknown_fits Single t change e
 operator_fits name Array t operators.Add d change few e = by_form Array t changes.Add (list_read t d) change (λ x is. list_fits t d x few is) e
@@ -73,7 +73,7 @@ operator_fits name kind t operators.Other d change few e = unknown_fits kind t c
 update_fits : (field : Field) (value : Option Data) (change : Option Change) → members_given operations.Update value ≤ most_items → update_read field value ≡ Ok change → ReadFits field.kind field.value change
 update_fits field None change few e = let is : Some changes.Keep ≡ change = cc in subst (ReadFits field.kind field.value) is tt
 update_fits field (Some d) change few e =
-    let rest = λ (operator : List ℕ × Data). operator_read field (form_of (operator_named operator.0) field.kind) operator.1 in
+    let rest = λ (operator : List ℕ × Data). operator_read field (operator_form (operator_named operator.0) field.kind) operator.1 in
     let one = bind_ok (or_else BadValue (option_and_then only_member (as_object d))) rest change e in
     let given = ap (λ (o : Option (List ℕ × Data)). unwrap_or (option_map member_count (option_map (λ operator. operator.1) o)) 0) (or_else_ok BadValue (option_and_then only_member (as_object d)) one.0 one.1) in
     operator_fits field.name field.kind field.value (operator_named one.0.0) one.0.1 change (subst (λ (n : ℕ). n ≤ most_items) given few) one.2
@@ -125,7 +125,7 @@ changes_fit fields found fit = at (all_some found) refl where
   at None is = tt
   at (Some all) is = some_fit fields found all fit is
 
-asked_fits : (fields : List Field) (operation : Operation) (d : Data) (asked : Asked) → gives_too_many fields operation d ≡ false → asked_of fields operation d ≡ Ok asked → AskedFits fields asked
+asked_fits : (fields : List Field) (operation : OpName) (d : Data) (asked : Asked) → gives_too_many fields operation d ≡ false → asked_of fields operation d ≡ Ok asked → AskedFits fields asked
 unfolding asked_of
 asked_fits fields operations.Put d asked few e =
     let with_members = λ (members : Data). each_field put_read fields members >>= λ (document : List (List Item)). Ok (asks.Put document) in
@@ -170,11 +170,11 @@ unless_err false refusal x y e = (refl, cc)
 value_fits : (fields : List Field) (d : Data) (op : Op) → op_of_value fields d ≡ Ok op → OpFits fields op
 unfolding op_of_value
 value_fits fields d op e =
-    let finish = λ (operation : Operation) (op : Op). cond (gives_too_many fields operation d) (Err TooManyItems) (Ok op) in
-    let with_asked = λ (operation : Operation) (doc : ℕ) (asked : Asked). or_else Unsupported (supported d doc asked) >>= finish operation in
-    let with_doc = λ (operation : Operation) (doc : ℕ). asked_of fields operation d >>= with_asked operation doc in
-    let with_operation = λ (operation : Operation × Data). or_else BadId (id_of operation.1) >>= with_doc operation.0 in
-    let operation = bind_ok (or_else NoOperation (operation_of d)) with_operation op e in
+    let finish = λ (operation : OpName) (op : Op). cond (gives_too_many fields operation d) (Err TooManyItems) (Ok op) in
+    let with_asked = λ (operation : OpName) (doc : ℕ) (asked : Asked). or_else Unsupported (supported d doc asked) >>= finish operation in
+    let with_doc = λ (operation : OpName) (doc : ℕ). asked_of fields operation d >>= with_asked operation doc in
+    let with_operation = λ (operation : OpName × Data). or_else BadId (id_of operation.1) >>= with_doc operation.0 in
+    let operation = bind_ok (or_else NoOperation (op_name_of d)) with_operation op e in
     let doc = bind_ok (or_else BadId (id_of operation.0.1)) (with_doc operation.0.0) op operation.2 in
     let asked = bind_ok (asked_of fields operation.0.0 d) (with_asked operation.0.0 doc.0) op doc.2 in
     let named = bind_ok (or_else Unsupported (supported d doc.0 asked.0)) (finish operation.0.0) op asked.2 in

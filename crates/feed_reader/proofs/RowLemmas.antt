@@ -11,16 +11,16 @@ use Rattle.attr_types.specs.declared.change.Change.TheVariants as changes
 use Rattle.attr_types.specs.declared.field.Field.{Field}
 use Rattle.attr_types.specs.declared.items.Item.{Item}
 use Rattle.attr_types.specs.declared.op.Op.{Op}
-use Rattle.feed_reader.specs.declared.operation.Operation.{Operation}
-use Rattle.feed_reader.specs.declared.operation.Operation.TheVariants.{Put, Update, Remove}
+use Rattle.feed_reader.specs.declared.operation.OpName.{OpName}
+use Rattle.feed_reader.specs.declared.operation.OpName.TheVariants.{Put, Update, Remove}
 use Rattle.feed_reader.specs.declared.operation.Form.{Form}
 use Rattle.feed_reader.specs.declared.operation.Asked.{Asked}
 use Rattle.feed_reader.specs.declared.operation.Asked.TheVariants as asks
 use Rattle.feed_reader.specs.declared.refusal.Refusal.{Refusal}
 use Rattle.feed_reader.specs.declared.refusal.Refusal.TheVariants.{NotJson, NoOperation, BadId, BadValue, Unsupported, TooManyItems}
 use Rattle.feed_reader.specs.Answers.{◌>>=◌, or_else}
-use Rattle.feed_reader.specs.Forms.{AreItems, IsUpdate}
-use Rattle.feed_reader.specs.Grammar.{json_read, only_one, operation_of, id_of, if_object, fields_of, each_field, put_read, operator_named, form_of, change_read, operator_read, update_read, all_some, asked_of, has_condition, op_asked, supported, members_given, is_over, some_over, gives_too_many, op_of_value, op_of_line}
+use Rattle.feed_reader.specs.Forms.{HasItemsForm, IsUpdate}
+use Rattle.feed_reader.specs.Grammar.{json_read, only_one, op_name_of, id_of, if_object, fields_of, each_field, put_read, operator_named, operator_form, change_read, operator_read, update_read, all_some, asked_of, has_condition, op_asked, supported, members_given, is_over, some_over, gives_too_many, op_of_value, op_of_line}
 use Rattle.feed_reader.specs.Items.{member_count}
 use Rattle.feed_reader.specs.Rows.{IsJson, name_of, HasNoOperation, IsId, HasBadId, IsObject, HasFields, HasForms, HasBadValue, SomeField, HasOtherOperator, AsksForOther, IsUnsupported, GivesTooMany, HasTooMany, row_number, HasRow, IsFirstRow, RefusedByFirstRow, TakenWithoutRow}
 use Rattle.feed_reader.proofs.FitsLemmas.{bind_ok, or_else_ok}
@@ -31,7 +31,7 @@ use Rattle.feed_reader.proofs.Json.{json_there, json_none}
 -- ---- 2. the operation
 
 -- the value of an operation's member, out of the three
-abbrev pick : Operation → Option Data → Option Data → Option Data → Option Data
+abbrev pick : OpName → Option Data → Option Data → Option Data → Option Data
 pick Put a b c = a
 pick Update a b c = b
 pick Remove a b c = c
@@ -49,7 +49,7 @@ no_one (Some x) None None e = cc
 no_one None (Some y) None e = cc
 no_one None None (Some z) e = cc
 
-just_one : (a b c : Option Data) (p : Operation × Data) → only_one a b c ≡ Some p → count a b c ≡ 1
+just_one : (a b c : Option Data) (p : OpName × Data) → only_one a b c ≡ Some p → count a b c ≡ 1
 just_one (Some x) (Some y) (Some z) p e = cc
 just_one (Some x) (Some y) None p e = cc
 just_one (Some x) None (Some z) p e = cc
@@ -59,41 +59,41 @@ just_one (Some x) None None p e = refl
 just_one None (Some y) None p e = refl
 just_one None None (Some z) p e = refl
 
-picked : (a b c : Option Data) (p : Operation × Data) → only_one a b c ≡ Some p → pick p.0 a b c ≡ Some p.1
+picked : (a b c : Option Data) (p : OpName × Data) → only_one a b c ≡ Some p → pick p.0 a b c ≡ Some p.1
 picked (Some x) (Some y) (Some z) p e = cc
 picked (Some x) (Some y) None p e = cc
 picked (Some x) None (Some z) p e = cc
 picked None (Some y) (Some z) p e = cc
 picked None None None p e = cc
-picked (Some x) None None p e = let is : (Put, x) ≡ p = cc in subst (λ (p : Operation × Data). pick p.0 (Some x) None None ≡ Some p.1) is refl
-picked None (Some y) None p e = let is : (Update, y) ≡ p = cc in subst (λ (p : Operation × Data). pick p.0 None (Some y) None ≡ Some p.1) is refl
-picked None None (Some z) p e = let is : (Remove, z) ≡ p = cc in subst (λ (p : Operation × Data). pick p.0 None None (Some z) ≡ Some p.1) is refl
+picked (Some x) None None p e = let is : (Put, x) ≡ p = cc in subst (λ (p : OpName × Data). pick p.0 (Some x) None None ≡ Some p.1) is refl
+picked None (Some y) None p e = let is : (Update, y) ≡ p = cc in subst (λ (p : OpName × Data). pick p.0 None (Some y) None ≡ Some p.1) is refl
+picked None None (Some z) p e = let is : (Remove, z) ≡ p = cc in subst (λ (p : OpName × Data). pick p.0 None None (Some z) ≡ Some p.1) is refl
 
-alone : (a b c : Option Data) (p : Operation × Data) (other : Operation) → only_one a b c ≡ Some p → is_some (pick other a b c) ≡ true → other ≡ p.0
+alone : (a b c : Option Data) (p : OpName × Data) (other : OpName) → only_one a b c ≡ Some p → is_some (pick other a b c) ≡ true → other ≡ p.0
 alone (Some x) (Some y) (Some z) p other e h = cc
 alone (Some x) (Some y) None p other e h = cc
 alone (Some x) None (Some z) p other e h = cc
 alone None (Some y) (Some z) p other e h = cc
 alone None None None p other e h = cc
-alone (Some x) None None p Put e h = let is : (Put, x) ≡ p = cc in ap (λ (p : Operation × Data). p.0) is
+alone (Some x) None None p Put e h = let is : (Put, x) ≡ p = cc in ap (λ (p : OpName × Data). p.0) is
 alone (Some x) None None p Update e h = cc
 alone (Some x) None None p Remove e h = cc
 alone None (Some y) None p Put e h = cc
-alone None (Some y) None p Update e h = let is : (Update, y) ≡ p = cc in ap (λ (p : Operation × Data). p.0) is
+alone None (Some y) None p Update e h = let is : (Update, y) ≡ p = cc in ap (λ (p : OpName × Data). p.0) is
 alone None (Some y) None p Remove e h = cc
 alone None None (Some z) p Put e h = cc
 alone None None (Some z) p Update e h = cc
-alone None None (Some z) p Remove e h = let is : (Remove, z) ≡ p = cc in ap (λ (p : Operation × Data). p.0) is
+alone None None (Some z) p Remove e h = let is : (Remove, z) ≡ p = cc in ap (λ (p : OpName × Data). p.0) is
 
-got : (operation : Operation) (d : Data) → get (name_of operation) d ≡ pick operation (get (codes "put") d) (get (codes "update") d) (get (codes "remove") d)
+got : (operation : OpName) (d : Data) → get (name_of operation) d ≡ pick operation (get (codes "put") d) (get (codes "update") d) (get (codes "remove") d)
 got Put d = refl
 got Update d = refl
 got Remove d = refl
 
-op_there : (d : Data) (p : Operation × Data) → operation_of d ≡ Some p → get (name_of p.0) d ≡ Some p.1
+op_there : (d : Data) (p : OpName × Data) → op_name_of d ≡ Some p → get (name_of p.0) d ≡ Some p.1
 op_there d p e = got p.0 d ∙ picked (get (codes "put") d) (get (codes "update") d) (get (codes "remove") d) p e
 
-op_alone : (d : Data) (p : Operation × Data) (other : Operation) → operation_of d ≡ Some p → IsSome (get (name_of other) d) → other ≡ p.0
+op_alone : (d : Data) (p : OpName × Data) (other : OpName) → op_name_of d ≡ Some p → IsSome (get (name_of other) d) → other ≡ p.0
 op_alone d p other e h = alone (get (codes "put") d) (get (codes "update") d) (get (codes "remove") d) p other e (sym (ap is_some (got other d)) ∙ h)
 
 -- ---- 3. the id
@@ -114,10 +114,10 @@ good_id (number n) doc e = cc
 good_id (array ds) doc e = cc
 good_id (object ms) doc e = cc
 
-same_id : (d : Data) (p : Operation × Data) (doc : ℕ) → operation_of d ≡ Some p → id_of p.1 ≡ Some doc → ¬ HasBadId d
+same_id : (d : Data) (p : OpName × Data) (doc : ℕ) → op_name_of d ≡ Some p → id_of p.1 ≡ Some doc → ¬ HasBadId d
 same_id d p doc e read (other, id, at, none) =
     let is = op_alone d p other e (ap is_some at) in
-    let here : get (name_of p.0) d ≡ Some id = subst (λ (o : Operation). get (name_of o) d ≡ Some id) is at in
+    let here : get (name_of p.0) d ≡ Some id = subst (λ (o : OpName). get (name_of o) d ≡ Some id) is at in
     let one = op_there d p e in
     let same : p.1 ≡ id = cc in
     none doc (subst (λ (i : Data). IsId i doc) same (good_id p.1 doc read))
@@ -155,13 +155,13 @@ with_fields {A} P d read_of one = at (fields_of d) refl where
       tells_same (P members) ((members : Data) × HasFields d members × P members) (read_of members) (λ p. (members, has, p))
       (λ all. let there = fields_there d all.0 all.1 in let same : all.0 ≡ members = cc in subst P same all.2) (one members)
 
-forms_tell : (fields : List Field) (operation : Operation) (d : Data) → Tells (HasForms fields operation d) (asked_of fields operation d)
+forms_tell : (fields : List Field) (operation : OpName) (d : Data) → Tells (HasForms fields operation d) (asked_of fields operation d)
 unfolding asked_of
 forms_tell fields Put d =
-    with_fields (λ (members : Data). AllByRecursion (λ (field : Field). IfSome (get field.name members) (AreItems field.kind field.value)) fields) d
+    with_fields (λ (members : Data). AllByRecursion (λ (field : Field). IfSome (get field.name members) (HasItemsForm field.kind field.value)) fields) d
     (λ (members : Data). each_field put_read fields members >>= λ (document : List (List Item)). Ok (asks.Put document))
-    (λ members. tells_then (AllByRecursion (λ (field : Field). IfSome (get field.name members) (AreItems field.kind field.value)) fields) (each_field put_read fields members) asks.Put
-    (each_tells put_read (λ (field : Field) (value : Option Data). IfSome value (AreItems field.kind field.value)) members put_tells fields))
+    (λ members. tells_then (AllByRecursion (λ (field : Field). IfSome (get field.name members) (HasItemsForm field.kind field.value)) fields) (each_field put_read fields members) asks.Put
+    (each_tells put_read (λ (field : Field) (value : Option Data). IfSome value (HasItemsForm field.kind field.value)) members put_tells fields))
 forms_tell fields Update d =
     with_fields (λ (members : Data). AllByRecursion (λ (field : Field). IfSome (get field.name members) (IsUpdate field)) fields) d
     (λ (members : Data). each_field update_read fields members >>= λ (found : List (Option Change)). Ok (asks.Update (all_some found)))
@@ -180,7 +180,7 @@ form_tells field (Some form) d change e =
 
 update_known : (field : Field) (value : Option Data) (change : Option Change) → update_read field value ≡ Ok change → TellsBool (IsSomeAnd value (HasOtherOperator field)) (is_none change)
 update_known field None change e = let is : Some changes.Keep ≡ change = cc in subst (λ (c : Option Change). TellsBool ⊥ (is_none c)) is never
-update_known field (Some (object (member name d no_members))) change e = form_tells field (form_of (operator_named name) field.kind) d change e
+update_known field (Some (object (member name d no_members))) change e = form_tells field (operator_form (operator_named name) field.kind) d change e
 update_known field (Some (object no_members)) change e = cc
 update_known field (Some (object (member name d (member other b ms)))) change e = cc
 update_known field (Some null) change e = cc
@@ -215,7 +215,7 @@ same_bool : {P Q : Type 0} (b : Bool) → (P → Q) → (Q → P) → TellsBool 
 same_bool true to from t = to t
 same_bool false to from t = λ q. t (from q)
 
-no_update : (fields : List Field) (d : Data) (p : Operation × Data) → operation_of d ≡ Some p → (Update ≡ p.0 → ⊥) → ¬ AsksForOther fields d
+no_update : (fields : List Field) (d : Data) (p : OpName × Data) → op_name_of d ≡ Some p → (Update ≡ p.0 → ⊥) → ¬ AsksForOther fields d
 no_update fields d p e not asks = not (op_alone d p Update e asks.0)
 
 with_members : (fields : List Field) (d members : Data) → IsSome (get (codes "update") d) → HasFields d members → SomeField HasOtherOperator fields members → AsksForOther fields d
@@ -231,7 +231,7 @@ by_changes : (fields : List Field) (d : Data) (doc : ℕ) (all : Option (List Ch
 by_changes fields d doc None told = told
 by_changes fields d doc (Some all) told = told
 
-asked_known : (fields : List Field) (d : Data) (p : Operation × Data) (doc : ℕ) (asked : Asked) → operation_of d ≡ Some p → asked_of fields p.0 d ≡ Ok asked → TellsBool (AsksForOther fields d) (is_none (op_asked doc asked))
+asked_known : (fields : List Field) (d : Data) (p : OpName × Data) (doc : ℕ) (asked : Asked) → op_name_of d ≡ Some p → asked_of fields p.0 d ≡ Ok asked → TellsBool (AsksForOther fields d) (is_none (op_asked doc asked))
 unfolding asked_of
 asked_known fields d (Put, id) doc asked e read =
     let at = bind_ok (or_else BadValue (fields_of d)) (λ (members : Data). each_field put_read fields members >>= λ (document : List (List Item)). Ok (asks.Put document)) asked read in
@@ -263,7 +263,7 @@ is_some_tells : {A : Type 0} (o : Option A) → TellsBool (IsSome o) (is_some o)
 is_some_tells None = λ e. cc
 is_some_tells (Some x) = refl
 
-supported_tells : (fields : List Field) (d : Data) (p : Operation × Data) (doc : ℕ) (asked : Asked) → operation_of d ≡ Some p → asked_of fields p.0 d ≡ Ok asked → TellsBool (IsUnsupported fields d) (is_none (supported d doc asked))
+supported_tells : (fields : List Field) (d : Data) (p : OpName × Data) (doc : ℕ) (asked : Asked) → op_name_of d ≡ Some p → asked_of fields p.0 d ≡ Ok asked → TellsBool (IsUnsupported fields d) (is_none (supported d doc asked))
 supported_tells fields d p doc asked e read =
     at (has_condition d) (op_asked doc asked)
     (either_bool (IsSome (get (codes "create") d)) (IsSome (get (codes "condition") d)) (AsksForOther fields d) (is_some (get (codes "create") d)) (is_some (get (codes "condition") d)) (is_none (op_asked doc asked))
@@ -274,7 +274,7 @@ supported_tells fields d p doc asked e read =
 
 -- ---- 6. the members
 
-over_tells : (operation : Operation) (field : Field) (value : Option Data) → TellsBool (IsSomeAnd value (GivesTooMany operation field)) (nat_lt most_items (members_given operation value))
+over_tells : (operation : OpName) (field : Field) (value : Option Data) → TellsBool (IsSomeAnd value (GivesTooMany operation field)) (nat_lt most_items (members_given operation value))
 over_tells Put field None = never
 over_tells Put field (Some d) = tells_lt most_items (member_count d)
 over_tells Update field None = never
@@ -294,21 +294,21 @@ or_tells P Q true b p q = inl p
 or_tells P Q false true p q = inr q
 or_tells P Q false false p q = neither p q
 
-any_tells : (operation : Operation) (members : Data) (fields : List Field) → TellsBool (SomeField (GivesTooMany operation) fields members) (list_any (is_over operation members) fields)
+any_tells : (operation : OpName) (members : Data) (fields : List Field) → TellsBool (SomeField (GivesTooMany operation) fields members) (list_any (is_over operation members) fields)
 any_tells operation members [] = never
 any_tells operation members (field ∷ fields) =
     or_tells (IsSomeAnd (get field.name members) (GivesTooMany operation field)) (SomeField (GivesTooMany operation) fields members) (is_over operation members field) (list_any (is_over operation members) fields)
     (over_tells operation field (get field.name members)) (any_tells operation members fields)
 
 -- of the line's own operation, and the `fields` that were read
-many_of : (fields : List Field) (d members : Data) (p : Operation × Data) → operation_of d ≡ Some p → fields_of d ≡ Some members → HasTooMany fields d → SomeField (GivesTooMany p.0) fields members
+many_of : (fields : List Field) (d members : Data) (p : OpName × Data) → op_name_of d ≡ Some p → fields_of d ≡ Some members → HasTooMany fields d → SomeField (GivesTooMany p.0) fields members
 many_of fields d members p e there (other, some, (others, has, many)) =
     let is = op_alone d p other e some in
     let again = fields_there d others has in
     let same : others ≡ members = cc in
-    subst (λ (o : Operation). SomeField (GivesTooMany o) fields members) is (subst (SomeField (GivesTooMany other) fields) same many)
+    subst (λ (o : OpName). SomeField (GivesTooMany o) fields members) is (subst (SomeField (GivesTooMany other) fields) same many)
 
-many_tells : (fields : List Field) (d : Data) (p : Operation × Data) → operation_of d ≡ Some p → TellsBool (HasTooMany fields d) (gives_too_many fields p.0 d)
+many_tells : (fields : List Field) (d : Data) (p : OpName × Data) → op_name_of d ≡ Some p → TellsBool (HasTooMany fields d) (gives_too_many fields p.0 d)
 many_tells fields d p e = at (fields_of d) refl where
   at : (o : Option Data) → fields_of d ≡ o → TellsBool (HasTooMany fields d) (some_over fields p.0 o)
   at None there = λ many. let again = fields_there d many.2.0 many.2.1 in cc
@@ -375,8 +375,8 @@ by_option : {A : Type 0} (fields : List Field) (d : Data) (row : Refusal) (o : O
 by_option fields d row None none some = (refl, none refl)
 by_option fields d row (Some x) none some = some x refl
 
-by_forms : (fields : List Field) (d : Data) (p : Operation × Data) (r : Result Asked Refusal) → operation_of d ≡ Some p → Tells (HasForms fields p.0 d) r → Decides fields d BadValue r
-by_forms fields d p (Ok asked) e forms = λ bad. bad.2 (subst (λ (o : Operation). HasForms fields o d) (sym (op_alone d p bad.0 e bad.1)) forms)
+by_forms : (fields : List Field) (d : Data) (p : OpName × Data) (r : Result Asked Refusal) → op_name_of d ≡ Some p → Tells (HasForms fields p.0 d) r → Decides fields d BadValue r
+by_forms fields d p (Ok asked) e forms = λ bad. bad.2 (subst (λ (o : OpName). HasForms fields o d) (sym (op_alone d p bad.0 e bad.1)) forms)
 by_forms fields d p (Err refusal) e told = (told.0, (p.0, ap is_some (op_there d p e), told.1))
 
 by_none : {A : Type 0} (fields : List Field) (d : Data) (row : Refusal) (o : Option A) → TellsBool (ValueRow fields d row) (is_none o) → Decides fields d row (or_else row o)
@@ -406,15 +406,15 @@ last_check fields d false op few none = λ row. none_next fields d TooManyItems 
 value_row : (fields : List Field) (d : Data) → RowOf fields d (op_of_value fields d)
 unfolding op_of_value
 value_row fields d =
-    let finish = λ (operation : Operation) (op : Op). cond (gives_too_many fields operation d) (Err TooManyItems) (Ok op) in
-    let with_asked = λ (operation : Operation) (doc : ℕ) (asked : Asked). or_else Unsupported (supported d doc asked) >>= finish operation in
-    let with_doc = λ (operation : Operation) (doc : ℕ). asked_of fields operation d >>= with_asked operation doc in
-    let with_operation = λ (operation : Operation × Data). or_else BadId (id_of operation.1) >>= with_doc operation.0 in
-    check fields d NoOperation (or_else NoOperation (operation_of d)) with_operation
-    (by_option fields d NoOperation (operation_of d) (no_one (get (codes "put") d) (get (codes "update") d) (get (codes "remove") d)) (λ p e none. none (just_one (get (codes "put") d) (get (codes "update") d) (get (codes "remove") d) p e)))
+    let finish = λ (operation : OpName) (op : Op). cond (gives_too_many fields operation d) (Err TooManyItems) (Ok op) in
+    let with_asked = λ (operation : OpName) (doc : ℕ) (asked : Asked). or_else Unsupported (supported d doc asked) >>= finish operation in
+    let with_doc = λ (operation : OpName) (doc : ℕ). asked_of fields operation d >>= with_asked operation doc in
+    let with_operation = λ (operation : OpName × Data). or_else BadId (id_of operation.1) >>= with_doc operation.0 in
+    check fields d NoOperation (or_else NoOperation (op_name_of d)) with_operation
+    (by_option fields d NoOperation (op_name_of d) (no_one (get (codes "put") d) (get (codes "update") d) (get (codes "remove") d)) (λ p e none. none (just_one (get (codes "put") d) (get (codes "update") d) (get (codes "remove") d) p e)))
     (none_first fields d)
     (λ p op_is none2.
-    let e = or_else_ok NoOperation (operation_of d) p op_is in
+    let e = or_else_ok NoOperation (op_name_of d) p op_is in
     check fields d BadId (or_else BadId (id_of p.1)) (with_doc p.0)
     (by_option fields d BadId (id_of p.1) (λ none. (p.0, p.1, op_there d p e, λ doc. bad_id p.1 doc none)) (λ doc read. same_id d p doc e read))
     none2

@@ -21,6 +21,6 @@ ReadFails Memory said = Unit {0}
 ReadFails (Refused refusal) said = said ≡ Err refusal
 
 -- what a function returned, seen by `view`, is what is said, unless memory ran out
-abbrev pub Reads : {X Y : Type 0} → (X → Y) → Result X LineError → Result Y Refusal → Type 0
-Reads view (Ok x) said = said ≡ Ok (view x)
-Reads view (Err e) said = ReadFails e said
+abbrev pub ReadsAs : {X Y : Type 0} → (X → Y) → Result X LineError → Result Y Refusal → Type 0
+ReadsAs view (Ok x) said = said ≡ Ok (view x)
+ReadsAs view (Err e) said = ReadFails e said

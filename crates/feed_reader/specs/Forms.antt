@@ -14,9 +14,9 @@ use Rattle.attr_types.specs.declared.kind.ValueType.{ValueType}
 use Rattle.attr_types.specs.declared.kind.ValueType.TheVariants.{Long, Text}
 use Rattle.feed_reader.specs.declared.operation.Form.{Form}
 use Rattle.feed_reader.specs.declared.operation.Form.TheVariants as forms
-use Rattle.feed_reader.specs.Grammar.{form_of, operator_named}
-use Rattle.feed_reader.specs.Numerals.{is_positive_numeral, is_whole_numeral, is_long}
-use Rattle.feed_reader.specs.Values.{is_small}
+use Rattle.feed_reader.specs.Grammar.{operator_form, operator_named}
+use Rattle.feed_reader.specs.Numerals.{is_positive_numeral, is_whole_numeral, is_long_number}
+use Rattle.feed_reader.specs.Values.{is_weight_number}
 
 -- ---- an id
 
@@ -57,13 +57,13 @@ IsValue Text d = ⊥
 
 -- a long has the name that its own decimal digits are, with `-` before them if it is negative
 abbrev pub IsName : ValueType → List ℕ → Type 0
-IsName Long name = IsTrue (is_whole_numeral name && is_long (signed_digits_value 10 name))
+IsName Long name = IsTrue (is_whole_numeral name && is_long_number (signed_digits_value 10 name))
 IsName Text name = length name ≤ 1024
 
 -- a whole number of 32 signed bits
 abbrev pub IsWeight : Data → Type 0
-IsWeight (number (unsigned n)) = IsTrue (is_small (pos n))
-IsWeight (number (negative z)) = IsTrue (is_small z)
+IsWeight (number (unsigned n)) = IsTrue (is_weight_number (pos n))
+IsWeight (number (negative z)) = IsTrue (is_weight_number z)
 IsWeight d = ⊥
 
 -- ---- items
@@ -81,42 +81,42 @@ AreNames type no_members = Unit {0}
 AreNames type (member name d ms) = IsName type name × AreNames type ms
 
 -- a list of values
-abbrev pub IsList : ValueType → Data → Type 0
-IsList type (array ds) = AreValues type ds
-IsList type d = ⊥
+abbrev pub HasListForm : ValueType → Data → Type 0
+HasListForm type (array ds) = AreValues type ds
+HasListForm type d = ⊥
 
 -- an object from value to weight
-abbrev pub IsWeighted : ValueType → Data → Type 0
-IsWeighted type (object ms) = AreWeights type ms
-IsWeighted type d = ⊥
+abbrev pub HasWeightsForm : ValueType → Data → Type 0
+HasWeightsForm type (object ms) = AreWeights type ms
+HasWeightsForm type d = ⊥
 
 -- values to be taken out: a list of them, or an object that they are the names of, whatever it holds
-abbrev pub AreTaken : ValueType → Data → Type 0
-AreTaken type (array ds) = AreValues type ds
-AreTaken type (object ms) = AreNames type ms
-AreTaken type d = ⊥
+abbrev pub HasNamesForm : ValueType → Data → Type 0
+HasNamesForm type (array ds) = AreValues type ds
+HasNamesForm type (object ms) = AreNames type ms
+HasNamesForm type d = ⊥
 
 -- the items of each kind
-abbrev pub AreSomeItems : Kind → ValueType → Data → Type 0
-AreSomeItems Single type d = IsValue type d
-AreSomeItems Array type d = IsList type d
-AreSomeItems WeightedSet type d = IsWeighted type d
+abbrev pub HasKindForm : Kind → ValueType → Data → Type 0
+HasKindForm Single type d = IsValue type d
+HasKindForm Array type d = HasListForm type d
+HasKindForm WeightedSet type d = HasWeightsForm type d
 
 -- in every kind `null` stands for no items
-abbrev pub AreItems : Kind → ValueType → Data → Type 0
-AreItems kind type null = Unit {0}
-AreItems kind type d = AreSomeItems kind type d
+abbrev pub HasItemsForm : Kind → ValueType → Data → Type 0
+HasItemsForm kind type null = Unit {0}
+HasItemsForm kind type d = HasKindForm kind type d
 
 -- ---- updates
 
 abbrev pub HasForm : Form → Kind → ValueType → Data → Type 0
-HasForm forms.Items kind type d = AreItems kind type d
-HasForm forms.List kind type d = IsList type d
-HasForm forms.Weights kind type d = IsWeighted type d
-HasForm forms.Names kind type d = AreTaken type d
+HasForm forms.Items kind type d = HasItemsForm kind type d
+HasForm forms.List kind type d = HasListForm type d
+HasForm forms.Weights kind type d = HasWeightsForm type d
+HasForm forms.Names kind type d = HasNamesForm type d
 
 -- an object with one member, the operator; where the kind has that operator, its value has the operator's form
 abbrev pub IsUpdate : Field → Data → Type 0
 IsUpdate field (object (member name d no_members)) =
-    IfSome (form_of (operator_named name) field.kind) (λ form. HasForm form field.kind field.value d)
+    IfSome (operator_form (operator_named name) field.kind) (λ form. HasForm form field.kind field.value d)
 IsUpdate field d = ⊥

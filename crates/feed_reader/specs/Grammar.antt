@@ -17,8 +17,8 @@ use Rattle.attr_types.specs.declared.op.Op.{Op}
 use Rattle.attr_types.specs.declared.op.Op.TheVariants as ops
 use Rattle.feed_reader.specs.declared.refusal.Refusal.{Refusal}
 use Rattle.feed_reader.specs.declared.refusal.Refusal.TheVariants.{NotJson, NoOperation, BadId, BadValue, Unsupported, TooManyItems}
-use Rattle.feed_reader.specs.declared.operation.Operation.{Operation}
-use Rattle.feed_reader.specs.declared.operation.Operation.TheVariants as operations
+use Rattle.feed_reader.specs.declared.operation.OpName.{OpName}
+use Rattle.feed_reader.specs.declared.operation.OpName.TheVariants as operations
 use Rattle.feed_reader.specs.declared.operation.Operator.{Operator}
 use Rattle.feed_reader.specs.declared.operation.Operator.TheVariants as operators
 use Rattle.feed_reader.specs.declared.operation.Form.{Form}
@@ -35,14 +35,14 @@ unfoldable pub json_read : List ℕ → Option Data
 json_read line = if is_utf8 line then read line else None
 
 -- 2. It is an object with exactly one of the members `put`, `update` and `remove`
-abbrev pub only_one : Option Data → Option Data → Option Data → Option (Operation × Data)
+abbrev pub only_one : Option Data → Option Data → Option Data → Option (OpName × Data)
 only_one (Some d) None None = Some (operations.Put, d)
 only_one None (Some d) None = Some (operations.Update, d)
 only_one None None (Some d) = Some (operations.Remove, d)
 only_one _ _ _ = None
 
-abbrev pub operation_of : Data → Option (Operation × Data)
-operation_of d = only_one (get (codes "put") d) (get (codes "update") d) (get (codes "remove") d)
+abbrev pub op_name_of : Data → Option (OpName × Data)
+op_name_of d = only_one (get (codes "put") d) (get (codes "update") d) (get (codes "remove") d)
 
 -- 3. That member is an id
 abbrev pub id_of : Data → Option ℕ
@@ -80,15 +80,15 @@ operator_named name = if bytes_eq name (codes "assign") then operators.Assign
     else (if bytes_eq name (codes "remove") then operators.Remove else operators.Other))
 
 -- The table of the operators: the kinds that have one, and the form of its value
-abbrev pub form_of : Operator → Kind → Option Form
-form_of operators.Assign kind = Some forms.Items
-form_of operators.Add Single = None
-form_of operators.Add Array = Some forms.List
-form_of operators.Add WeightedSet = Some forms.Weights
-form_of operators.Remove Single = None
-form_of operators.Remove Array = None
-form_of operators.Remove WeightedSet = Some forms.Names
-form_of operators.Other kind = None
+abbrev pub operator_form : Operator → Kind → Option Form
+operator_form operators.Assign kind = Some forms.Items
+operator_form operators.Add Single = None
+operator_form operators.Add Array = Some forms.List
+operator_form operators.Add WeightedSet = Some forms.Weights
+operator_form operators.Remove Single = None
+operator_form operators.Remove Array = None
+operator_form operators.Remove WeightedSet = Some forms.Names
+operator_form operators.Other kind = None
 
 -- the change that an operator makes of a value of its form
 abbrev pub change_by : {A : Type 0} → (A → Change) → Result A Refusal → Result Change Refusal
@@ -110,7 +110,7 @@ abbrev pub update_read : Field → Option Data → Result (Option Change) Refusa
 update_read field None = Ok (Some changes.Keep)
 update_read field (Some d) = do
   operator ← or_else BadValue (option_and_then only_member (as_object d))
-  operator_read field (form_of (operator_named operator.0) field.kind) operator.1
+  operator_read field (operator_form (operator_named operator.0) field.kind) operator.1
 
 -- all changes, if the kind of each attribute has its operator
 abbrev pub all_some : List (Option Change) → Option (List Change)
@@ -118,7 +118,7 @@ all_some [] = Some []
 all_some (None ∷ more) = None
 all_some (Some change ∷ more) = option_map (λ changes. change ∷ changes) (all_some more)
 
-unfoldable pub asked_of : List Field → Operation → Data → Result Asked Refusal
+unfoldable pub asked_of : List Field → OpName → Data → Result Asked Refusal
 asked_of fields operations.Put d = do
   members ← or_else BadValue (fields_of d)
   document ← each_field put_read fields members
@@ -143,29 +143,29 @@ abbrev pub supported : Data → ℕ → Asked → Option Op
 supported d doc asked = if has_condition d then None else op_asked doc asked
 
 -- 6. At most 1,023 members are in what a line gives a field: a put its value, an update its operator's value
-abbrev pub value_given : Operation → Option Data → Option Data
+abbrev pub value_given : OpName → Option Data → Option Data
 value_given operations.Put value = value
 value_given operations.Update value =
     option_map (λ operator. operator.1) (option_and_then only_member (option_and_then as_object value))
 value_given operations.Remove value = None
 
-abbrev pub members_given : Operation → Option Data → ℕ
+abbrev pub members_given : OpName → Option Data → ℕ
 members_given operation value = unwrap_or (option_map member_count (value_given operation value)) 0
 
-abbrev pub is_over : Operation → Data → Field → Bool
+abbrev pub is_over : OpName → Data → Field → Bool
 is_over operation members field = nat_lt most_items (members_given operation (get field.name members))
 
-abbrev pub some_over : List Field → Operation → Option Data → Bool
+abbrev pub some_over : List Field → OpName → Option Data → Bool
 some_over fields operation None = false
 some_over fields operation (Some members) = list_any (is_over operation members) fields
 
-abbrev pub gives_too_many : List Field → Operation → Data → Bool
+abbrev pub gives_too_many : List Field → OpName → Data → Bool
 gives_too_many fields operation d = some_over fields operation (fields_of d)
 
 -- the checks in their order
 unfoldable pub op_of_value : List Field → Data → Result Op Refusal
 op_of_value fields d = do
-  operation ← or_else NoOperation (operation_of d)
+  operation ← or_else NoOperation (op_name_of d)
   doc ← or_else BadId (id_of operation.1)
   asked ← asked_of fields operation.0 d
   op ← or_else Unsupported (supported d doc asked)

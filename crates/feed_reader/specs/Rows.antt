@@ -10,13 +10,13 @@ use Rattle.serde_json.specs.Find.{get}
 use Rattle.attr_types.specs.Change.{most_items}
 use Rattle.attr_types.specs.declared.field.Field.{Field}
 use Rattle.attr_types.specs.declared.op.Op.{Op}
-use Rattle.feed_reader.specs.declared.operation.Operation.{Operation}
-use Rattle.feed_reader.specs.declared.operation.Operation.TheVariants.{Put, Update, Remove}
+use Rattle.feed_reader.specs.declared.operation.OpName.{OpName}
+use Rattle.feed_reader.specs.declared.operation.OpName.TheVariants.{Put, Update, Remove}
 use Rattle.feed_reader.specs.declared.refusal.Refusal.{Refusal}
 use Rattle.feed_reader.specs.declared.refusal.Refusal.TheVariants.{NotJson, NoOperation, BadId, BadValue, Unsupported, TooManyItems}
 use Rattle.feed_reader.specs.Feed.{feed_of}
-use Rattle.feed_reader.specs.Forms.{IsIdOf, AreItems, IsUpdate}
-use Rattle.feed_reader.specs.Grammar.{form_of, operator_named, op_of_line}
+use Rattle.feed_reader.specs.Forms.{IsIdOf, HasItemsForm, IsUpdate}
+use Rattle.feed_reader.specs.Grammar.{operator_form, operator_named, op_of_line}
 use Rattle.feed_reader.specs.Items.{member_count}
 use Rattle.feed_reader.specs.Lines.{lines_of, is_blank}
 
@@ -30,12 +30,12 @@ IsNotJson line = (d : Data) → ¬ IsJson line d
 
 -- ---- 2. the value is no object, or has not exactly one of the members `put`, `update` and `remove`
 
-abbrev pub name_of : Operation → List ℕ
+abbrev pub name_of : OpName → List ℕ
 name_of Put = codes "put"
 name_of Update = codes "update"
 name_of Remove = codes "remove"
 
-abbrev pub operations_in : Data → List Operation
+abbrev pub operations_in : Data → List OpName
 operations_in d = filter (λ operation. is_some (get (name_of operation) d)) (Put ∷ Update ∷ Remove ∷ [])
 
 abbrev pub HasNoOperation : Data → Type 0
@@ -49,7 +49,7 @@ IsId d doc = ⊥
 
 abbrev pub HasBadId : Data → Type 0
 HasBadId d =
-    (operation : Operation) × (id : Data) × (get (name_of operation) d ≡ Some id) × ((doc : ℕ) → ¬ IsId id doc)
+    (operation : OpName) × (id : Data) × (get (name_of operation) d ≡ Some id) × ((doc : ℕ) → ¬ IsId id doc)
 
 -- ---- 4. in a put or an update `fields` is no object, or a named field is there and has not its form
 
@@ -61,16 +61,16 @@ IsObject d = ⊥
 abbrev pub HasFields : Data → Data → Type 0
 HasFields d members = (get (codes "fields") d ≡ Some members) × IsObject members
 
-abbrev pub HasForms : List Field → Operation → Data → Type 0
+abbrev pub HasForms : List Field → OpName → Data → Type 0
 HasForms fields Put d = (members : Data) × HasFields d members
-    × AllByRecursion (λ field. IfSome (get field.name members) (AreItems field.kind field.value)) fields
+    × AllByRecursion (λ field. IfSome (get field.name members) (HasItemsForm field.kind field.value)) fields
 HasForms fields Update d = (members : Data) × HasFields d members
     × AllByRecursion (λ field. IfSome (get field.name members) (IsUpdate field)) fields
 HasForms fields Remove d = Unit {0}
 
 abbrev pub HasBadValue : List Field → Data → Type 0
 HasBadValue fields d =
-    (operation : Operation) × IsSome (get (name_of operation) d) × ¬ (HasForms fields operation d)
+    (operation : OpName) × IsSome (get (name_of operation) d) × ¬ (HasForms fields operation d)
 
 -- ---- 5. a member `create` or `condition` is there, or an update's operator is none of the field's kind
 
@@ -80,7 +80,7 @@ SomeField P [] members = ⊥
 SomeField P (field ∷ fields) members = IsSomeAnd (get field.name members) (P field) ⊎ SomeField P fields members
 
 abbrev pub HasOtherOperator : Field → Data → Type 0
-HasOtherOperator field (object (member name d no_members)) = form_of (operator_named name) field.kind ≡ None
+HasOtherOperator field (object (member name d no_members)) = operator_form (operator_named name) field.kind ≡ None
 HasOtherOperator field d = ⊥
 
 abbrev pub AsksForOther : List Field → Data → Type 0
@@ -93,14 +93,14 @@ IsUnsupported fields d =
 
 -- ---- 6. a put's list or object, or that of an update's operator, has more than 1,023 members
 
-abbrev pub GivesTooMany : Operation → Field → Data → Type 0
+abbrev pub GivesTooMany : OpName → Field → Data → Type 0
 GivesTooMany Put field d = most_items < member_count d
 GivesTooMany Update field (object (member name d no_members)) = most_items < member_count d
 GivesTooMany Update field d = ⊥
 GivesTooMany Remove field d = ⊥
 
 abbrev pub HasTooMany : List Field → Data → Type 0
-HasTooMany fields d = (operation : Operation) × IsSome (get (name_of operation) d)
+HasTooMany fields d = (operation : OpName) × IsSome (get (name_of operation) d)
     × ((members : Data) × HasFields d members × SomeField (GivesTooMany operation) fields members)
 
 -- ---- the table

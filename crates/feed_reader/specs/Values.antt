@@ -31,11 +31,11 @@ name_read Long name = or_else BadValue (option_map values.Long (long_written nam
 name_read Text name = or_else BadValue (text_read name)
 
 -- 32 signed bits hold the number
-abbrev pub is_small : ℤ → Bool
-is_small z = int_le (negsuc 2147483647) z && int_le z (pos 2147483647)
+abbrev pub is_weight_number : ℤ → Bool
+is_weight_number z = int_le (negsuc 2147483647) z && int_le z (pos 2147483647)
 
 abbrev pub small_read : ℤ → Option ℤ
-small_read z = if is_small z then Some z else None
+small_read z = if is_weight_number z then Some z else None
 
 abbrev pub weight_read : Data → Result ℤ Refusal
 weight_read d = or_else BadValue (option_and_then small_read (long_read d))

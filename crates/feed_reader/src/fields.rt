@@ -1,6 +1,6 @@
 ghost use Rattle.std.specs.Prelude.{◌≡◌, IfOk, option_map};
 ghost use Rattle.serde_json.specs.View.{view};
-ghost use Rattle.feed_reader.specs.Answers.{Reads};
+ghost use Rattle.feed_reader.specs.Answers.{ReadsAs};
 ghost use Rattle.feed_reader.specs.Grammar.{all_some, each_field, put_read, update_read};
 
 use crate::refusal::LineError;
@@ -11,7 +11,7 @@ use std::alloc::{AllocError, Global};
 
 /// The items that a put gives each attribute.
 pub fn document_in(alloc: Global, fields: &[Field], members: &Json) -> Result<FieldItems, LineError>
-    ensures { Reads (λ document. document) result (each_field put_read fields.now (view members.now)) }
+    ensures { ReadsAs (λ document. document) result (each_field put_read fields.now (view members.now)) }
 {
     let mut document = Vec::with_capacity(alloc, fields.len())?;
     for field in fields {
@@ -26,7 +26,7 @@ pub fn changes_in(
     fields: &[Field],
     members: &Json,
 ) -> Result<Vec<Option<Change>>, LineError>
-    ensures { Reads (λ changes. changes.items) result (each_field update_read fields.now (view members.now)) }
+    ensures { ReadsAs (λ changes. changes.items) result (each_field update_read fields.now (view members.now)) }
 {
     let mut changes = Vec::with_capacity(alloc, fields.len())?;
     for field in fields {

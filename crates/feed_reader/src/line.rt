@@ -2,26 +2,26 @@ ghost use Rattle.std.specs.Prelude.{◌≡◌, option_map};
 ghost use Rattle.std.specs.List.{list_any};
 ghost use Rattle.serde_json.specs.View.{view};
 ghost use Rattle.feed_reader.specs.declared.refusal.Refusal.TheVariants.{NotJson};
-ghost use Rattle.feed_reader.specs.Answers.{Reads, or_else};
-ghost use Rattle.feed_reader.specs.Grammar.{json_read, operation_of, id_of, fields_of, asked_of};
+ghost use Rattle.feed_reader.specs.Answers.{ReadsAs, or_else};
+ghost use Rattle.feed_reader.specs.Grammar.{json_read, op_name_of, id_of, fields_of, asked_of};
 ghost use Rattle.feed_reader.specs.Grammar.{has_condition, op_asked, supported, is_over, gives_too_many, op_of_value, op_of_line};
 
 use crate::fields::{all_known, changes_in, document_in};
 use crate::id::document_of_id;
-use crate::operation::{Asked, Operation};
+use crate::operation::{Asked, OpName};
 use crate::refusal::{LineError, Refusal};
 use crate::update::members_given;
 use attr_types::{Doc, Field, MOST_ITEMS, Op};
 use serde_json::Value as Json;
 use std::alloc::Global;
 
-fn operation_in(line: &Json) -> Option<(Operation, &Json)>
-    ensures { option_map (λ p. (p.0, view p.1.now)) result ≡ operation_of (view line.now) }
+fn operation_in(line: &Json) -> Option<(OpName, &Json)>
+    ensures { option_map (λ p. (p.0, view p.1.now)) result ≡ op_name_of (view line.now) }
 {
     match (line.get("put"), line.get("update"), line.get("remove")) {
-        (Some(member), None, None) => Some((Operation::Put, member)),
-        (None, Some(member), None) => Some((Operation::Update, member)),
-        (None, None, Some(member)) => Some((Operation::Remove, member)),
+        (Some(member), None, None) => Some((OpName::Put, member)),
+        (None, Some(member), None) => Some((OpName::Update, member)),
+        (None, None, Some(member)) => Some((OpName::Remove, member)),
         _ => None,
     }
 }
@@ -48,22 +48,22 @@ fn fields_in(line: &Json) -> Option<&Json>
 fn asked_in(
     alloc: Global,
     fields: &[Field],
-    operation: Operation,
+    operation: OpName,
     line: &Json,
 ) -> Result<Asked, LineError>
-    ensures { Reads (λ asked. asked) result (asked_of fields.now operation (view line.now)) }
+    ensures { ReadsAs (λ asked. asked) result (asked_of fields.now operation (view line.now)) }
 {
     match operation {
-        Operation::Put => {
+        OpName::Put => {
             let members = fields_in(line).ok_or(Refusal::BadValue)?;
             Ok(Asked::Put(document_in(alloc, fields, members)?))
         }
-        Operation::Update => {
+        OpName::Update => {
             let members = fields_in(line).ok_or(Refusal::BadValue)?;
             let changes = changes_in(alloc, fields, members)?;
             Ok(Asked::Update(all_known(alloc, changes)?))
         }
-        Operation::Remove => Ok(Asked::Remove),
+        OpName::Remove => Ok(Asked::Remove),
     }
 }
 
@@ -97,13 +97,13 @@ fn supported_in(line: &Json, doc: Doc, asked: Asked) -> Option<Op>
     op_asked(doc, asked)
 }
 
-fn is_over(operation: Operation, members: &Json, field: &Field) -> bool
+fn is_over(operation: OpName, members: &Json, field: &Field) -> bool
     ensures { result ≡ is_over operation (view members.now) field.now }
 {
     members_given(operation, members.get(field.name.as_str())) > MOST_ITEMS
 }
 
-fn is_some_over(fields: &[Field], operation: Operation, members: &Json) -> bool
+fn is_some_over(fields: &[Field], operation: OpName, members: &Json) -> bool
     ensures { result ≡ list_any (is_over operation (view members.now)) fields.now }
 {
     fields
@@ -112,7 +112,7 @@ fn is_some_over(fields: &[Field], operation: Operation, members: &Json) -> bool
 }
 
 /// Whether a line gives some field a list or an object of more members than a document has items.
-fn gives_too_many(fields: &[Field], operation: Operation, line: &Json) -> bool
+fn gives_too_many(fields: &[Field], operation: OpName, line: &Json) -> bool
     ensures { result ≡ gives_too_many fields.now operation (view line.now) }
 {
     match fields_in(line) {
@@ -123,7 +123,7 @@ fn gives_too_many(fields: &[Field], operation: Operation, line: &Json) -> bool
 
 #[tactic(auto, unfolding(crate::specs::Grammar::op_of_value))]
 fn op_in(alloc: Global, fields: &[Field], line: &Json) -> Result<Op, LineError>
-    ensures { Reads (λ op. op) result (op_of_value fields.now (view line.now)) }
+    ensures { ReadsAs (λ op. op) result (op_of_value fields.now (view line.now)) }
 {
     let (operation, member) = operation_in(line).ok_or(Refusal::NoOperation)?;
     let doc = id_in(member).ok_or(Refusal::BadId)?;
@@ -136,7 +136,7 @@ fn op_in(alloc: Global, fields: &[Field], line: &Json) -> Result<Op, LineError>
 }
 
 fn json_in(alloc: Global, line: &[u8]) -> Result<Json, LineError>
-    ensures { Reads view result (or_else NotJson (json_read line.now)) }
+    ensures { ReadsAs view result (or_else NotJson (json_read line.now)) }
 {
     match Json::from_slice(alloc, line) {
         Ok(json) => Ok(json),
@@ -153,7 +153,7 @@ fn json_in(alloc: Global, line: &[u8]) -> Result<Json, LineError>
 /// The operation of a line.
 #[tactic(auto, unfolding(crate::specs::Grammar::op_of_line))]
 pub fn read_line(alloc: Global, fields: &[Field], line: &[u8]) -> Result<Op, LineError>
-    ensures { Reads (λ op. op) result (op_of_line fields.now line.now) }
+    ensures { ReadsAs (λ op. op) result (op_of_line fields.now line.now) }
 {
     let json = json_in(alloc, line)?;
     op_in(alloc, fields, &json)

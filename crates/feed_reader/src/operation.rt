@@ -2,7 +2,7 @@ use attr_types::{FieldChanges, FieldItems};
 
 /// The member by which a line says what it does.
 #[derive(Clone, Copy, Debug, PartialEq, Eq)]
-pub enum Operation {
+pub enum OpName {
     Put,
     Update,
     Remove,
