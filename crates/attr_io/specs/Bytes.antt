@@ -12,6 +12,10 @@ TakesSome result piece = IfOk result (λ n. (0 < n) × (n ≤ length piece))
 abbrev pub AppendsFront : Option (List ℕ) → Option (List ℕ) → List ℕ → Type 0
 AppendsFront old new text = (n : ℕ) × (n < length text) × Appends old new (take n text)
 
+-- how many bytes one read is asked for
+abbrev pub piece_bytes : ℕ
+piece_bytes = 65536
+
 -- Known bytes lose their front to reads, piece by piece. All pieces but the last are `front`, and within the
 -- limit: the last read was made while at most `limit` bytes were read. It gave `last`, which one piece holds, and
 -- each read before it took at least one byte. Where the bytes are not known, there are still at most `limit + 1` reads.

@@ -1,6 +1,6 @@
 ghost use Rattle.std.specs.Prelude.{◌≡◌, ◌<◌, ◌≤◌, length, vec_len, IfOk, IsErrOf};
 ghost use Rattle.std.specs.Io.KnownBytes.{Consumes, IsAtEnd};
-ghost use Rattle.attr_io.specs.Bytes.{HasMoreThan, ReadsPieces};
+ghost use Rattle.attr_io.specs.Bytes.{HasMoreThan, ReadsPieces, piece_bytes};
 ghost use Rattle.attr_io.specs.Faults.{Rose};
 ghost use Rattle.attr_io.specs.declared.reading.ReadError.TheVariants as errors;
 
@@ -53,7 +53,7 @@ pub fn read_all<S: Source>(
     ensures too_long { IsErrOf result ReadError.TooLong → HasMoreThan limit (S.left source.old) }
     ensures fault { IsErrOf result ReadError.Fault → Rose (S.faults source.old) (S.faults source.new) }
     ensures later { S.faults source.old ≤ S.faults source.new }
-    ensures pieces { ReadsPieces limit 65536
+    ensures pieces { ReadsPieces limit piece_bytes
         (S.left source.old) (S.left source.new) (S.reads source.old) (S.reads source.new) }
 {
     let mut piece = vec![in alloc; 0u8; PIECE]?;

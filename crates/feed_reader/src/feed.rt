@@ -1,7 +1,7 @@
 ghost use Rattle.std.specs.Prelude.{◌≡◌, ◌-◌, ◌^◌, ◌<◌, ◌≤◌, length, IfOk, IfSome, Err};
 ghost use Rattle.std.specs.List.{AllByRecursion};
 ghost use Rattle.attr_types.specs.Lawful.{OpFits};
-ghost use Rattle.attr_io.specs.Bytes.{HasMoreThan, ReadsPieces};
+ghost use Rattle.attr_io.specs.Bytes.{HasMoreThan, ReadsPieces, piece_bytes};
 ghost use Rattle.attr_io.specs.Faults.{Rose};
 ghost use Rattle.feed_reader.specs.Feed.{feed_of, most_bytes, numbered_error, line_error, LinesSay, FeedSays, OnLines, ReadsAll};
 
@@ -83,7 +83,7 @@ pub fn read_feed<S: Source>(
     ensures later { S.faults source.old ≤ S.faults source.new }
     // Whatever the answer: a read is made only while at most so many bytes were read, and each read
     // but the last took a byte.
-    ensures pieces { ReadsPieces most_bytes 65536
+    ensures pieces { ReadsPieces most_bytes piece_bytes
         (S.left source.old) (S.left source.new) (S.reads source.old) (S.reads source.new) }
 {
     match read_all(alloc, source, MOST_BYTES) {

@@ -1,6 +1,6 @@
-use attr_io::{FakeSource, SliceSource};
+use attr_io::SliceSource;
 use attr_types::{Change, Field, Fields, Item, Items, Kind, Name, Op, Ops, Value, ValueType};
-use feed_reader::{FeedError, read_feed};
+use feed_reader::read_feed;
 use std::alloc::{AllocError, Global};
 use std::test::Fail;
 
@@ -546,25 +546,5 @@ fn each_named_field_is_read(rt: HostRuntime) -> Result<(), Fail> {
     let feed = repeated(rt.alloc(), front, ",\"x\"", "", 1023, "]}}")?;
     let answer = answer_to(rt.alloc(), feed.as_bytes(), &fields)?;
     assert_eq!(rt; answer.as_str(), "line 1: TooManyItems");
-    Ok(())
-}
-
-#[test]
-fn a_fault_of_the_source_is_told(rt: HostRuntime) -> Result<(), Fail> {
-    let feed = "{\"put\":\"id:n:t::1\",\"fields\":{\"f\":5}}\n";
-    let fields = fields_of(rt.alloc(), &[("f", Kind::Single, ValueType::Long)])?;
-    for call in 1..40u64 {
-        let mut source = FakeSource::create(rt.alloc(), feed.as_bytes(), 1, &[call])?;
-        match read_feed(rt.alloc(), &mut source, &fields) {
-            Ok(ops) => {
-                let text = told(rt.alloc(), &ops)?;
-                assert_eq!(rt; (call, text.as_str()), (39, "put 1: 5*1;"));
-            }
-            Err(e) => {
-                assert_eq!(rt; (call < 39, e), (true, FeedError::ReadFault), "{call}");
-                assert_eq!(rt; source.faults(), 1, "{call}");
-            }
-        }
-    }
     Ok(())
 }
