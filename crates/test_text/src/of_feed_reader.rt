@@ -1,21 +1,9 @@
+use crate::build::{field, one_field};
 use attr_io::SliceSource;
-use attr_types::{Change, Field, Fields, Item, Items, Kind, Name, Op, Ops, Value, ValueType};
+use attr_types::{Change, Fields, Item, Items, Kind, Op, Ops, Value, ValueType};
 use feed_reader::read_feed;
 use std::alloc::{AllocError, Global};
 use std::test::Fail;
-
-/// Attributes of these names, kinds and value types.
-fn fields_of(alloc: Global, list: &[(&str, Kind, ValueType)]) -> Result<Fields, AllocError> {
-    let mut fields = Fields::new(alloc);
-    for (name, kind, value) in list {
-        fields.push(Field {
-            name: Name::from_str(alloc, name)?,
-            kind: *kind,
-            value: *value,
-        })?;
-    }
-    Ok(fields)
-}
 
 fn push_value(text: &mut String, value: &Value) -> Result<(), AllocError> {
     match value {
@@ -127,8 +115,7 @@ fn answer_for(
     kind: Kind,
     value: ValueType,
 ) -> Result<String, AllocError> {
-    let fields = fields_of(alloc, &[("f", kind, value)])?;
-    answer_to(alloc, feed, &fields)
+    answer_to(alloc, feed, &one_field(alloc, kind, value)?)
 }
 
 /// A text, so many copies of a part, as many of another, and a last text.
@@ -154,10 +141,7 @@ fn repeated(
 #[test]
 fn hostile_feeds_get_their_answers(rt: HostRuntime) -> Result<(), Fail> {
     let rows = [
-        (
-            r#"{"put":"id:n:t::1","fields":{"f":5}"#,
-            "line 1: NotJson",
-        ),
+        (r#"{"put":"id:n:t::1","fields":{"f":5}"#, "line 1: NotJson"),
         ("\n\n{\"put\"", "line 3: NotJson"),
         (
             r#"{"put":"id:n:t::1","remove":"id:n:t::1"}"#,
@@ -190,7 +174,7 @@ fn hostile_feeds_get_their_answers(rt: HostRuntime) -> Result<(), Fail> {
         ),
         (r#"{"remove":"id:n:t:g=x:1"}"#, "remove 1;"),
     ];
-    let fields = fields_of(rt.alloc(), &[("f", Kind::Single, ValueType::Long)])?;
+    let fields = one_field(rt.alloc(), Kind::Single, ValueType::Long)?;
     for (feed, wanted) in rows {
         let answer = answer_to(rt.alloc(), feed.as_bytes(), &fields)?;
         assert_eq!(rt; answer.as_str(), wanted, "{feed}");
@@ -215,7 +199,10 @@ fn a_feed_may_have_sixteen_mebibytes(rt: HostRuntime) -> Result<(), Fail> {
 
 #[test]
 fn a_feed_may_have_no_more(rt: HostRuntime) -> Result<(), Fail> {
-    assert_eq!(rt; answer_to_line_feeds(rt.alloc(), 16_777_217)?.as_str(), "FeedTooLong");
+    assert_eq!(rt;
+        answer_to_line_feeds(rt.alloc(), 16_777_217)?.as_str(),
+        "FeedTooLong"
+    );
     Ok(())
 }
 
@@ -504,14 +491,9 @@ fn members_are_counted(rt: HostRuntime) -> Result<(), Fail> {
 
 #[test]
 fn each_named_field_is_read(rt: HostRuntime) -> Result<(), Fail> {
-    let fields = fields_of(
-        rt.alloc(),
-        &[
-            ("f", Kind::Single, ValueType::Long),
-            ("g", Kind::Array, ValueType::Text),
-            ("h", Kind::WeightedSet, ValueType::Long),
-        ],
-    )?;
+    let mut fields = one_field(rt.alloc(), Kind::Single, ValueType::Long)?;
+    fields.push(field(rt.alloc(), "g", Kind::Array, ValueType::Text)?)?;
+    fields.push(field(rt.alloc(), "h", Kind::WeightedSet, ValueType::Long)?)?;
     let rows = [
         (
             r#"{"put":"id:n:t::1","fields":{"h":{"2":3},"g":["x","y"],"f":5,"i":1}}"#,
