@@ -1,6 +1,6 @@
 -- A fake source, and what a read does to it.
 use Rattle.std.specs.Prelude.{ℕ, ◌+◌, min, List, length, drop, Contains}
-use Rattle.attr_io.specs.Faults.{counted}
+use Rattle.attr_io.specs.Faults.{counted_up}
 
 -- the bytes left, the most that a call gives, the numbers of the calls that fail, how many calls
 -- were made, and the count of faults
@@ -22,8 +22,8 @@ given_count s len = min (min len s.step) (length s.left)
 
 -- n bytes were given
 abbrev pub after_read : FakeSourceState → ℕ → FakeSourceState
-after_read s n = record s { left = drop n s.left; calls = counted s.calls }
+after_read s n = record s { left = drop n s.left; calls = counted_up s.calls }
 
 -- a call failed
 abbrev pub after_fault : FakeSourceState → FakeSourceState
-after_fault s = record s { calls = counted s.calls; faults = counted s.faults }
+after_fault s = record s { calls = counted_up s.calls; faults = counted_up s.faults }

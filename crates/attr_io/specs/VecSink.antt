@@ -1,6 +1,6 @@
 -- A sink in memory, and what a write does to it.
 use Rattle.std.specs.Prelude.{ℕ, ◌-◌, ◌≤◌, min, List, ◌++◌, length, take}
-use Rattle.attr_io.specs.Faults.{counted}
+use Rattle.attr_io.specs.Faults.{counted_up}
 
 -- the bytes taken, how many it takes at most, and its count of faults
 pub record VecSinkState : Type 0 where
@@ -22,4 +22,4 @@ after_write s piece n = record s { taken = s.taken ++ take n piece }
 
 -- a write failed
 abbrev pub after_fault : VecSinkState → VecSinkState
-after_fault s = record s { faults = counted s.faults }
+after_fault s = record s { faults = counted_up s.faults }

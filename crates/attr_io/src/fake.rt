@@ -2,7 +2,7 @@ ghost use Rattle.std.specs.Prelude.{◌≡◌, ◌+◌, ◌<◌, ◌≤◌, ◌�
 ghost use Rattle.std.specs.Io.{ReadsAtMost};
 ghost use Rattle.std.specs.Io.KnownBytes.{ReadConsumes, WriteAppends};
 ghost use Rattle.attr_io.specs.Bytes.{TakesSome};
-ghost use Rattle.attr_io.specs.Faults.{CountsFaults, counted};
+ghost use Rattle.attr_io.specs.Faults.{CountsFaults, counted_up};
 ghost use Rattle.attr_io.specs.FakeSource.{IsListed};
 
 use crate::memory::{VecSink, copy_front};
@@ -35,7 +35,7 @@ impl Schedule {
     /// Counts a call, and says whether it is one that fails.
     fn is_next_listed(&mut self) -> bool
         ensures listed { IsTrue result ↔ IsListed self.old.fails.items self.old.calls }
-        ensures calls { self.new.calls ≡ counted self.old.calls }
+        ensures calls { self.new.calls ≡ counted_up self.old.calls }
         ensures step { self.new.step ≡ self.old.step }
         ensures fails { self.new.fails.items ≡ self.old.fails.items }
     {
@@ -207,7 +207,7 @@ impl FakeSink {
 
 impl Sink for FakeSink {
     ghost use Rattle.std.specs.Prelude.{Some};
-    ghost use Rattle.attr_io.specs.FakeSink.{Refuses, after_fault, after_write, taken_count};
+    ghost use Rattle.attr_io.specs.FakeSink.{FailsNext, after_fault, after_write, taken_count};
 
     ghost taken = { λ s. Some s.taken };
 
@@ -221,7 +221,7 @@ impl Sink for FakeSink {
         ensures bytes { WriteAppends (Some self.old.taken) (Some self.new.taken) result piece.now }
         ensures cause { CountsFaults self.old.faults self.new.faults result }
 
-        ensures fails { IsErr result ↔ Refuses self.old }
+        ensures fails { IsErr result ↔ FailsNext self.old }
         ensures moves { IfOk result (λ n. n ≡ taken_count self.old piece.now) }
         ensures ok { IfOk result (λ n. self.new ≡ after_write self.old piece.now n) }
         ensures err { OnErr result (self.new ≡ after_fault self.old) }

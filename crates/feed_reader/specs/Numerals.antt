@@ -18,13 +18,13 @@ is_whole_numeral text = bytes_eq text (codes "0")
     || is_positive_numeral (if slice_index text 0 == 45 then drop 1 text else text)
 
 -- 64 signed bits hold the number
-abbrev pub is_long : ℤ → Bool
-is_long z = int_le (negsuc 9223372036854775807) z && int_le z (pos 9223372036854775807)
+abbrev pub is_long_number : ℤ → Bool
+is_long_number z = int_le (negsuc 9223372036854775807) z && int_le z (pos 9223372036854775807)
 
 -- the whole number of 64 signed bits that a text writes in its own digits
 unfoldable pub long_written : List ℕ → Option ℤ
 long_written text = let z = signed_digits_value 10 text in
-    if is_whole_numeral text && is_long z then Some z else None
+    if is_whole_numeral text && is_long_number z then Some z else None
 
 -- a document's number, from 1 to 1,048,575, in its own digits
 unfoldable pub document_written : List ℕ → Option ℕ

@@ -4,6 +4,10 @@
 #[cfg(test)]
 mod build;
 #[cfg(test)]
+mod of_attr_io;
+#[cfg(test)]
 mod of_attr_plain;
 #[cfg(test)]
 mod of_attr_types;
+#[cfg(test)]
+mod of_feed_reader;
