@@ -5,3 +5,4 @@ pub mod ReportLemmas
 pub mod RoundsLemmas
 pub mod TaskLemmas
 pub mod AnswerLemmas
+pub mod SettingsLemmas

@@ -13,6 +13,7 @@ use Rattle.attr_types.specs.Table.{Table, after_op, is_skipped, after_ops, skipp
 use Rattle.attr_run.specs.Run.{Run}
 use Rattle.attr_run.specs.Report.{report, answers_at, answers_from, readers_from, final_line}
 use Rattle.attr_run.specs.Report.{full_line, done_line}
+use Rattle.attr_run.specs.Steps.{all_loaded}
 
 pub after_ops-push : (kind : Kind) (table : Table) (ops : List Op) (op : Op)
     → after_ops kind table (ops ++ op ∷ []) ≡ after_op kind (after_ops kind table ops) op
@@ -78,7 +79,7 @@ skipped_ops-changed kind value ops op old was applied =
 -- ---- the report
 
 -- the report of a run that loaded all and whose readers made no round
-pub report-alone : (run : Run) (ops : List Op) → report run ops (length ops) [] None
+pub report-alone : (run : Run) (ops : List Op) → report run ops (all_loaded ops) None
     ≡ (final_line (length ops) ++ answers_from 1 run.queries (after_ops run.kind [] ops))
     ++ done_line (length ops) (skipped_ops run.kind [] ops)
 unfolding report answers_at readers_from full_line

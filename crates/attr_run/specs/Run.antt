@@ -2,7 +2,7 @@
 -- Each is the first refusal on its way, or what was wanted: so the order of the lines below is the
 -- order in which a run looks at its words and its feed.
 use Rattle.std.specs.Prelude.{ℕ, ◌+◌, nat_lt, Bool, if◌then◌else◌, List, [], ◌∷◌, length, codes}
-use Rattle.std.specs.Prelude.{Option, Some, None, Result, Ok, Err}
+use Rattle.std.specs.Prelude.{Option, Some, None, option_map, Result, Ok, Err}
 use Rattle.std.specs.Str.{bytes_eq}
 use Rattle.clap.specs.Walk.{Row, Text}
 use Rattle.clap.specs.Kinds.{Kinds}
@@ -15,6 +15,7 @@ use Rattle.attr_types.specs.declared.kind.ValueType.{ValueType}
 use Rattle.attr_types.specs.declared.kind.ValueType.TheVariants as value
 use Rattle.attr_types.specs.declared.op.Op.{Op}
 use Rattle.attr_types.specs.Query.{QueryTree}
+use Rattle.attr_types.specs.Table.{Table, after, skipped}
 use Rattle.attr_types.specs.declared.error.QueryError.{QueryError}
 use Rattle.attr_words.specs.CommandLine.{attr_app}
 use Rattle.attr_words.specs.Reading.{Given, settings_of}
@@ -48,8 +49,24 @@ pub record Run : Type 0 where
   pub batch : ℕ
   pub readers : ℕ
   pub rounds : ℕ
+  pub buffers : ℕ
+  pub words : ℕ
   pub after : Bool
   pub queries : List QueryTree
+
+-- the table of a run after its first n operations
+abbrev pub table_at : Run → List Op → ℕ → Table
+table_at run ops n = after run.kind ops n
+
+-- how many of its first n operations are skipped
+abbrev pub skipped_at : Run → List Op → ℕ → ℕ
+skipped_at run ops n = skipped run.kind ops n
+
+-- how far a run came: how many operations it loaded, and for each reader the counts of operations
+-- that its rounds saw
+pub record Progress : Type 0 where
+  pub loaded : ℕ
+  pub rounds : List (List ℕ)
 
 -- the settings, help or a refusal, as clap finds faults in the words and matches them
 abbrev pub settings_by : Kinds → List Row → Result Given Status
@@ -96,6 +113,8 @@ run_of settings kind value queries = record {
   batch = settings.batch;
   readers = settings.readers;
   rounds = settings.rounds;
+  buffers = settings.buffers;
+  words = settings.words;
   after = settings.after;
   queries = queries;
 }
@@ -125,20 +144,30 @@ abbrev pub ops_or_refused : Result (List Op) (ℕ × Refusal) → Result (List O
 ops_or_refused (Ok ops) = Ok ops
 ops_or_refused (Err fault) = Err (BadFeed (feed.Line fault.0 (number_of fault.1)))
 
--- the operations of a feed for a run, or why it is refused
-unfoldable pub fed : Run → List ℕ → Result (List Op) Status
-fed run bytes =
+-- the operations that a feed's bytes give, or why they are refused
+unfoldable pub ops_in : Run → List ℕ → Result (List Op) Status
+ops_in run bytes =
     if nat_lt 16777216 (length bytes) then Err (BadFeed feed.TooLong)
     else ops_or_refused (feed_of run.field run.kind run.value bytes)
+
+-- the operations of a run by what its source has left to give; none where the source doesn't tell
+unfoldable pub fed : Run → Option (List ℕ) → Option (Result (List Op) Status)
+fed run left = option_map (ops_in run) left
 
 -- a run with its operations
 pub record Task : Type 0 where
   pub run : Run
   pub ops : List Op
 
--- what words and a feed's bytes say to do, or the first refusal of either
-unfoldable pub task_of : List Text → List ℕ → Result Task Status
-task_of words bytes = do
-  run ← asked words
-  ops ← fed run bytes
-  Ok (record { run = run; ops = ops })
+abbrev pub with_ops : Run → Result (List Op) Status → Result Task Status
+with_ops run (Ok ops) = Ok (record { run = run; ops = ops })
+with_ops run (Err status) = Err status
+
+abbrev pub task_by : Result Run Status → Option (List ℕ) → Option (Result Task Status)
+task_by (Err status) left = Some (Err status)
+task_by (Ok run) left = option_map (with_ops run) (fed run left)
+
+-- what words and a source say to do, or the first refusal of either; none where the words ask for
+-- a run whose operations are not told
+unfoldable pub task_of : List Text → Option (List ℕ) → Option (Result Task Status)
+task_of words left = task_by (asked words) left

@@ -1,4 +1,6 @@
 ghost use Rattle.std.specs.Prelude.{◌≡◌, ◌<◌, ◌≤◌, ◌^◌, IfOk, IfErr, length, map, string_bytes};
+ghost use Rattle.std.specs.List.{AllByRecursion};
+ghost use Rattle.std.specs.Str.{IsUtf8};
 ghost use Rattle.clap.specs.Faults.{fault_of};
 ghost use Rattle.attr_types.specs.Query.{tree_of};
 ghost use Rattle.attr_words.specs.CommandLine.{attr_app};
@@ -6,9 +8,11 @@ ghost use Rattle.attr_words.specs.Reading.{given_by};
 ghost use Rattle.query_text.specs.Parsing.{query_of};
 ghost use Rattle.attr_run.specs.Run.{or_refused, settings_in, kind_named, value_named};
 ghost use Rattle.attr_run.specs.Run.{query_or_refused, queries_from, asked};
+ghost use Rattle.attr_run.specs.Settings.{query_texts, IsAskedBy};
 ghost use Rattle.attr_run.specs.declared.outcome.Status.TheVariants.{Usage};
 ghost use Rattle.attr_run.specs.Steps.{Says, IsWordsStop, run_in};
 
+use crate::laws::settings_law;
 use crate::outcome::{Status, UsageCause};
 use crate::stop::Stop;
 use crate::words::Words;
@@ -32,6 +36,7 @@ fn settings_of_words(alloc: Global, words: &Words) -> Result<Settings, Stop>
     ensures refusal { IfErr result IsWordsStop }
     ensures one_kind { length (fault_of attr_app words.now) ≤ 1 }
     ensures alone { IfOk result (λ settings. settings.readers ≡ 0) }
+    ensures texts { IfOk result (λ _. AllByRecursion IsUtf8 (query_texts words.now)) }
 {
     match read_words(alloc, words.as_slice()) {
         Ok(settings) => Ok(settings),
@@ -106,7 +111,9 @@ pub fn request_in(alloc: Global, words: &Words) -> Result<Request, Stop>
     ensures refusal { IfErr result IsWordsStop }
     ensures one_kind { length (fault_of attr_app words.now) ≤ 1 }
     ensures alone { IfOk result (λ request. request.settings.readers ≡ 0) }
+    ensures lawful { IfOk result (λ request. IsAskedBy words.now (run_in request)) }
 {
+    settings_law();
     let settings = settings_of_words(alloc, words)?;
     let kind = kind_of_name(settings.kind.as_str())?;
     let value = value_of_name(settings.value.as_str())?;

@@ -80,6 +80,18 @@ settings_of rows = record {
 abbrev pub IsWithin : NumberOption → ℕ → Type 0
 IsWithin o n = (o.least ≤ n) × (n ≤ o.most)
 
+-- each number lies in the range of its option
+pub record IsInRange (given : Given) : Type 0 where
+  pub in_batch : IsWithin batch given.batch
+  pub in_readers : IsWithin readers given.readers
+  pub in_rounds : IsWithin rounds given.rounds
+  pub in_buffers : IsWithin buffers given.buffers
+  pub in_words : IsWithin words given.words
+
+-- so it does in all words that the command takes
+abbrev pub RangesHold : Type 0
+RangesHold = (line : List Text) → AreTaken line → IsInRange (settings_of (matches_of attr_app line))
+
 -- ---- what `read_words` answers
 
 -- the texts and numbers of the settings
@@ -96,11 +108,6 @@ given_by s = record {
   after = s.after;
   queries = map (λ q. string_bytes q) s.queries.items;
 }
-
--- each number lies in the range of its option
-abbrev pub IsInRange : Settings → Type 0
-IsInRange s = IsWithin batch s.batch × IsWithin readers s.readers × IsWithin rounds s.rounds
-    × IsWithin buffers s.buffers × IsWithin words s.words
 
 -- kind, value type and field are texts that the matches have, and none is made up
 abbrev pub HasGivenTexts : List Text → Settings → Type 0

@@ -5,7 +5,7 @@ mod command;
 mod reading;
 mod settings;
 
-pub use reading::{WordsError, read_words};
+pub use reading::{WordsError, ranges_law, read_words};
 pub use settings::Settings;
 
 #[cfg(test)]

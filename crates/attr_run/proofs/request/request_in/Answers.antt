@@ -45,3 +45,7 @@ returns-clause-asked c =
     c.in_ok-settings.ensures.says (rw c.as_str.ensures.value at c.in_ok-kind.ensures.says)
     (rw c.as_str-2.ensures.value at c.in_ok-value.ensures.says)
     (rw c.as_slice.ensures.value at c.in_ok-queries.ensures.says)
+
+pub returns-clause-lawful : goal.returns-clause-lawful
+returns-clause-lawful c =
+    c.settings_law.ensures c.args.words.now _ (returns-clause-asked c) c.in_ok-settings.ensures.texts

@@ -1,0 +1,20 @@
+//! Laws of the statement of a run. Each function does nothing: its contract is the law.
+ghost use Rattle.attr_run.specs.Settings.{RunsAreAsked};
+ghost use Rattle.attr_run.specs.Laws.{NoRoundComesFirst};
+
+use attr_words::ranges_law;
+use query_text::grammar_law;
+
+/// What words ask for is lawful: the numbers of the run lie in the ranges of their options, and
+/// each query is what the grammar answers to its text.
+pub fn settings_law()
+    ensures { RunsAreAsked }
+{
+    ranges_law();
+    grammar_law();
+}
+
+/// No history of a run begins with a round: each stands after its commit.
+pub fn history_law()
+    ensures { NoRoundComesFirst }
+{}
