@@ -16,6 +16,3 @@ pub use laws::{history_law, settings_law};
 pub use outcome::{FeedFault, Outcome, Status, UsageCause};
 pub use run::attr_main;
 pub use words::Words;
-
-#[cfg(test)]
-mod tests;

@@ -7,6 +7,3 @@ mod settings;
 
 pub use reading::{WordsError, ranges_law, read_words};
 pub use settings::Settings;
-
-#[cfg(test)]
-mod tests;

@@ -3,7 +3,4 @@
 
 mod leaf;
 mod print;
-#[cfg(test)]
-mod tests;
-
 pub use print::print_query;
