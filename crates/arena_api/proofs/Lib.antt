@@ -1,8 +1,1 @@
-pub mod Free
-pub mod Handed
-pub mod Views
-pub mod WidthLemmas
 pub mod Padded
-pub mod Ranges
-pub mod Puts
-pub mod Chosen

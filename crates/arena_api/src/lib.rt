@@ -1,22 +1,8 @@
-//! What the structures above stand on: records that can be read, and a work that changes them and
-//! publishes roots. The work in memory is here too.
+//! What every memory does: a work stores words, hands out buffers and publishes roots.
 #![tactic(auto)]
 
-mod cells;
-mod entries;
-mod frozen;
-mod memory;
-mod one_record;
-mod reach;
 mod record;
 mod work;
 
-pub use frozen::Frozen;
-pub use memory::MemWork;
-pub use one_record::OneRecord;
-pub use reach::Reach;
 pub use record::put_record;
 pub use work::Work;
-
-#[cfg(test)]
-mod tests;

@@ -7,8 +7,8 @@ ghost use Rattle.image_base.specs.Records.{Records, with_words};
 ghost use Rattle.arena_api.specs.Works.{WorkView, Buffer, active_width, width_of, free_count, last_image};
 ghost use Rattle.arena_api.specs.Calls.{IsWithinLimits, IsInOrder, IsKept, InNoCommit, IsWordIn, MayStore, Fits, IsLowestFree, AddsCommit, with_stored, padded, handed_out, next_image, published};
 
-use crate::frozen::Frozen;
 use entry_ref::EntryRef;
+use frozen_api::Frozen;
 use image_base::Layout;
 
 /// Buffers of words, over which records are made and roots are published.

@@ -7,10 +7,10 @@ use Rattle.std.specs.List.Sorted.{IsStrictlySortedBy}
 use Rattle.std.specs.Ordering.{nat_cmp}
 use borrow.Author.Tests.{ltb-true, leb-true}
 use Rattle.image_base.specs.Images.{words_at}
-use Rattle.attr_images.proofs.NodeLemmas.{node_formed}
+use Rattle.tree_images.proofs.NodeLemmas.{node_formed}
 use Rattle.attr_images.specs.Examples.{two_leaves, one_text, TwoLeavesAreATree, OneTextIsLawful, OneTextReads, MissingRecord, WrongCount, UnlawfulTable, MissingValue, WrongWeight}
-use Rattle.attr_images.specs.Nodes.{IsNodeForm}
-use Rattle.attr_images.specs.Trees.{pairs_below, nodes_below, IsNode}
+use Rattle.tree_images.specs.Nodes.{IsNodeForm}
+use Rattle.tree_images.specs.Trees.{pairs_below, nodes_below, IsNode}
 use Rattle.attr_images.specs.Values.{IsValueRecord}
 use Rattle.attr_types.specs.declared.kind.ValueType.TheVariants as types
 use Rattle.attr_types.specs.declared.value.Value.TheVariants as values

@@ -8,7 +8,7 @@ use Rattle.image_base.specs.Records.{Records}
 use Rattle.attr_images.specs.Documents.{items_at, weighted}
 use Rattle.attr_images.specs.Images.{operations_at, documents_at, dictionary_at, table_of, IsLawful}
 use Rattle.attr_images.specs.Shapes.{shape_of, kind_of_shape, type_of_shape}
-use Rattle.attr_images.specs.Trees.{tree_pairs}
+use Rattle.tree_images.specs.Trees.{tree_pairs}
 use Rattle.attr_images.specs.Values.{value_of, value_at}
 use Rattle.attr_types.specs.Lawful.{IsLawfulTable, HasType}
 use Rattle.attr_types.specs.Value.{value_cmp, type_of}

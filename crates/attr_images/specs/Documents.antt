@@ -2,7 +2,7 @@
 use Rattle.std.specs.Prelude.{ℕ, zero, suc, ℤ, pos, List, [], ◌∷◌, map}
 use Rattle.std.specs.List.{flat_map, AllByRecursion}
 use Rattle.image_base.specs.Records.{Records}
-use Rattle.attr_images.specs.Trees.{tree_pairs}
+use Rattle.tree_images.specs.Trees.{tree_pairs}
 use Rattle.attr_images.specs.Values.{value_at, IsValueRecord}
 use Rattle.attr_images.specs.Words.{items_of, unpacked, IsStoredList}
 use Rattle.attr_types.specs.Table.{Table}

@@ -5,8 +5,8 @@ use Rattle.std.specs.Ordering.{nat_cmp}
 use Rattle.image_base.specs.Images.{words_at}
 use Rattle.image_base.specs.declared.Image.{Image}
 use Rattle.attr_images.specs.Images.{table_of, IsLawful}
-use Rattle.attr_images.specs.Nodes.{node_words}
-use Rattle.attr_images.specs.Trees.{tree_pairs, by_number, IsTree}
+use Rattle.tree_images.specs.Nodes.{node_words}
+use Rattle.tree_images.specs.Trees.{tree_pairs, by_number, IsTree}
 use Rattle.attr_types.specs.declared.kind.Kind.TheVariants.{WeightedSet}
 use Rattle.attr_types.specs.declared.kind.ValueType.TheVariants as types
 use Rattle.attr_types.specs.declared.value.Value.TheVariants as values

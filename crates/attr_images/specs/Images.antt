@@ -7,7 +7,7 @@ use Rattle.image_base.specs.Records.{Records, AllThere, word_at}
 use Rattle.attr_images.specs.Documents.{documents_table, documents_reach, AreItems}
 use Rattle.attr_images.specs.Postings.{index_of, dictionary_reach, IsEntryOf}
 use Rattle.attr_images.specs.Shapes.{kind_of_shape, type_of_shape}
-use Rattle.attr_images.specs.Trees.{tree_pairs, tree_nodes, by_number, IsTree}
+use Rattle.tree_images.specs.Trees.{tree_pairs, tree_nodes, by_number, IsTree}
 use Rattle.attr_images.specs.Values.{value_at}
 use Rattle.attr_types.specs.Lawful.{IsLawfulTable}
 use Rattle.attr_types.specs.Table.{Table}

@@ -1,12 +1,9 @@
-pub mod Nodes
-pub mod Trees
-pub mod TreeFrames
 pub mod Words
 pub mod Values
 pub mod Documents
 pub mod Postings
 pub mod Shapes
 pub mod Images
-pub mod ImageFrames
+pub mod ProofsForImages
 pub mod Laws
 pub mod Examples

@@ -3,7 +3,7 @@ use Rattle.std.specs.Prelude.{ℕ, ℤ, ◌/◌, ◌%◌, ◌<◌, nat_eq, List,
 use Rattle.std.specs.List.{flat_map, AllByRecursion}
 use Rattle.std.specs.Ordering.{nat_cmp}
 use Rattle.image_base.specs.Records.{Records}
-use Rattle.attr_images.specs.Trees.{tree_pairs, tree_nodes, by_number, IsTree}
+use Rattle.tree_images.specs.Trees.{tree_pairs, tree_nodes, by_number, IsTree}
 use Rattle.attr_images.specs.Values.{value_at, IsValueRecord}
 use Rattle.attr_images.specs.Words.{items_of, unpacked, weight_of, IsStoredList}
 use Rattle.attr_types.specs.declared.kind.ValueType.{ValueType}

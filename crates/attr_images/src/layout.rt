@@ -1,4 +1,4 @@
-ghost use Rattle.attr_images.specs.ImageFrames.{attr_empty_reaches, attr_empty_lawful, attr_present, attr_stays};
+ghost use Rattle.attr_images.specs.ProofsForImages.{attr_empty_reaches, attr_empty_lawful, attr_present, attr_stays};
 ghost use Rattle.attr_images.specs.Images.{attr_reaches, IsLawful};
 
 use image_base::Layout;

@@ -5,9 +5,7 @@ mod laws;
 mod layout;
 mod shape;
 
-pub use laws::{
-    broken_law, example_law, frame_law, image_law, node_law, shape_law, tree_law, value_law,
-};
+pub use laws::{broken_law, example_law, image_law, shape_law, value_law};
 pub use layout::AttrLayout;
 pub use shape::shape_of;
 

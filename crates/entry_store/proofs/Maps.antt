@@ -5,7 +5,7 @@ use Rattle.image_base.specs.Records.{Records}
 use Rattle.arena_api.specs.Works.{WorkView, active_width}
 use Rattle.arena_api.specs.Calls.{Fits}
 use Rattle.entry_states.specs.Entries.{EntriesView}
-use Rattle.record_map.proofs.Steps.{none-or, offset-within}
+use Rattle.image_base.proofs.Steps.{none-or, offset-within}
 use Rattle.entry_store.specs.Standing.{Stands, class_of, records_of_classes}
 use Rattle.entry_store.specs.Laws.{store_placed}
 

@@ -4,14 +4,15 @@ ghost use Rattle.arena_api.specs.Works.{free_count};
 ghost use Rattle.arena_api.specs.Calls.{IsFresh};
 ghost use Rattle.store_api.specs.Ledgers.{is_width, IsNew};
 ghost use Rattle.store_api.specs.Classes.{has_record};
-ghost use Rattle.record_map.specs.Maps.{seen};
+ghost use Rattle.image_base.specs.Maps.{seen};
 ghost use Rattle.entry_ref.specs.References.{buffer_of};
 ghost use Rattle.entry_states.specs.Rows.{entries_of};
 ghost use Rattle.entry_store.specs.Standing.{Stands, class_of, records_of_classes, ledger_of, Puts, Opens};
-ghost use Rattle.record_map.specs.Before.{those_before};
+ghost use Rattle.image_base.specs.Before.{those_before};
 
 use crate::words::words_of_record;
-use arena_api::{Frozen, Work, put_record};
+use arena_api::{Work, put_record};
+use frozen_api::Frozen;
 use entry_ref::EntryRef;
 use entry_shelf::State;
 use entry_states::Entries;

@@ -2,9 +2,9 @@ ghost use Rattle.std.specs.Prelude.{◌≤◌, ◌+◌};
 ghost use Rattle.store_api.specs.Ledgers.{IsNew};
 
 use super::*;
-use arena_api::{MemWork, OneRecord};
+use mem_work::{MemWork, OneRecord};
 use entry_ref::EntryRef;
-use record_map::words_at;
+use image_base::words_at;
 use std::alloc::AllocError;
 use std::test::Fail;
 use store_api::{Store, StoreError};

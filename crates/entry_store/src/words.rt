@@ -1,6 +1,6 @@
 ghost use Rattle.std.specs.Prelude.{◌≡◌, length, IfOk};
 
-use arena_api::Frozen;
+use frozen_api::Frozen;
 use entry_ref::EntryRef;
 use std::alloc::{AllocError, Global};
 

@@ -6,9 +6,9 @@ use Rattle.std.specs.List.Sorted.{IsStrictlySortedBy}
 use Rattle.std.specs.Ordering.{nat_cmp}
 use Rattle.image_base.specs.Images.{image_of, words_at}
 use Rattle.image_base.specs.Records.{Records, SameAt, Among}
-use Rattle.arena_api.specs.Reached.{words-among, same-from}
-use Rattle.attr_images.specs.TreeFrames.{tree_pairs-same, tree_nodes-same, IsTree-same}
-use Rattle.attr_images.specs.Trees.{tree_pairs, tree_nodes, by_number, IsTree}
+use Rattle.mem_work.specs.Reached.{words-among, same-from}
+use Rattle.tree_images.specs.ProofsForTrees.{tree_pairs-same, tree_nodes-same, IsTree-same}
+use Rattle.tree_images.specs.Trees.{tree_pairs, tree_nodes, by_number, IsTree}
 use Rattle.store_api.specs.Classes.{Class, in_use, is_let_go, after_accept, after_commit}
 use Rattle.store_api.specs.Ledgers.{Ledger, IsNew, kept_records}
 use Rattle.tree_frame.specs.Changes.{Replaces}

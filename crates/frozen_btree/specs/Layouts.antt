@@ -4,9 +4,9 @@ use Rattle.std.specs.List.{flat_map, AllByRecursion}
 use Rattle.std.specs.List.Sorted.{IsStrictlySortedBy}
 use Rattle.std.specs.Ordering.{nat_cmp}
 use Rattle.image_base.specs.Records.{Records, SameAt, AllThere}
-use Rattle.attr_images.specs.Nodes.{IsNodeForm, node_values}
-use Rattle.attr_images.specs.TreeFrames.{tree_nodes-same, IsTree-same}
-use Rattle.attr_images.specs.Trees.{nodes_below, tree_nodes, by_number, IsNode, IsTree, root_least, root_level}
+use Rattle.tree_images.specs.Nodes.{IsNodeForm, node_values}
+use Rattle.tree_images.specs.ProofsForTrees.{tree_nodes-same, IsTree-same}
+use Rattle.tree_images.specs.Trees.{nodes_below, tree_nodes, by_number, IsNode, IsTree, root_least, root_level}
 
 -- a root reaches the nodes of its tree
 abbrev pub tree_reaches : ℕ → Records → ℕ → List ℕ

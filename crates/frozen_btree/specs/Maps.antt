@@ -3,7 +3,7 @@ use Rattle.std.specs.Prelude.{◌≡◌, ◌↔◌, ℕ, ◌+◌, List, [], ◌�
 use Rattle.std.specs.declared.cmp.Ordering.{Ordering}
 use Rattle.std.specs.Ordering.{nat_cmp}
 use Rattle.image_base.specs.Records.{Records, Among}
-use Rattle.attr_images.specs.Trees.{tree_nodes, by_number, IsTree}
+use Rattle.tree_images.specs.Trees.{tree_nodes, by_number, IsTree}
 use Rattle.store_api.specs.Classes.{in_use}
 use Rattle.store_api.specs.Ledgers.{Ledger}
 

@@ -1,5 +1,5 @@
 ghost use Rattle.std.specs.Prelude.{◌≡◌, ◌↔◌, ◌-◌, ◌+◌, ◌%◌, ℕ, [], length, is_some, Err, IsNone, IfSome, IfNone, IfOk, OnOk, OnErr};
-ghost use Rattle.attr_images.specs.Trees.{tree_pairs};
+ghost use Rattle.tree_images.specs.Trees.{tree_pairs};
 ghost use Rattle.key_order.specs.Pairs.{lookup, put, take_out, seek};
 ghost use Rattle.store_api.specs.Ledgers.{IsNew};
 ghost use Rattle.frozen_btree.specs.Maps.{HoldsTree, beside, first_of, key_sum};
@@ -21,7 +21,7 @@ pub struct NumberTree<S: Store<Layout = TreeLayout>> {
 }
 
 impl<S: Store<Layout = TreeLayout>> Model for NumberTree<S> {
-    ghost use Rattle.attr_images.specs.Trees.{tree_pairs};
+    ghost use Rattle.tree_images.specs.Trees.{tree_pairs};
     ghost use Rattle.frozen_btree.specs.Maps.{MapView, HoldsTree};
 
     ghost Value = { MapView };

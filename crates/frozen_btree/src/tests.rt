@@ -1,10 +1,10 @@
 ghost use Rattle.std.specs.Prelude.{◌≤◌, length};
 
 use super::*;
-use arena_api::MemWork;
+use mem_work::MemWork;
 use entry_store::EntryStore;
-use image_check::{Keys, check_tree, word_at};
-use record_map::words_at;
+use check_trees::{Keys, check_tree, word_at};
+use image_base::words_at;
 use std::alloc::{AllocError, Global};
 use std::collections::BTreeMap;
 use std::test::Fail;

@@ -1,5 +1,5 @@
 ghost use Rattle.std.specs.Prelude.{◌≡◌, ◌<◌, ◌+◌, ℕ, Err, IfOk, OnErr, IsSome};
-ghost use Rattle.attr_images.specs.Trees.{tree_pairs};
+ghost use Rattle.tree_images.specs.Trees.{tree_pairs};
 ghost use Rattle.key_order.specs.Pairs.{lookup, put, take_out};
 ghost use Rattle.frozen_btree.specs.Maps.{HoldsTree, beside};
 

@@ -1,10 +1,10 @@
 ghost use Rattle.std.specs.Prelude.{◌≡◌, ◌<◌, ◌%◌};
 ghost use Rattle.std.specs.Ordering.{nat_cmp};
-ghost use Rattle.attr_images.specs.Trees.{tree_pairs, by_number, IsRootNode, IsTree};
+ghost use Rattle.tree_images.specs.Trees.{tree_pairs, by_number, IsRootNode, IsTree};
 ghost use Rattle.key_order.specs.Pairs.{seek};
 ghost use Rattle.frozen_btree.specs.Maps.{beside, first_of, key_sum};
 
-use arena_api::Frozen;
+use frozen_api::Frozen;
 use entry_ref::EntryRef;
 use key_order::NumberKey;
 use tree_search::Cursor;

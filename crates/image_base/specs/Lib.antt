@@ -1,3 +1,5 @@
 pub mod Records
 pub mod Images
 pub mod Places
+pub mod Maps
+pub mod Before

@@ -1,6 +1,10 @@
 //! Images: the records that a root reaches, where their words stand, and the layouts that read them.
 #![tactic(auto)]
 
+mod maps;
+
+pub use maps::words_at;
+
 ghost use Rattle.std.specs.Prelude.{◌≡◌, ◌<◌, ◌≤◌, ℕ, List, [], length};
 ghost use Rattle.entry_ref.specs.References.{buffer_of};
 ghost use Rattle.image_base.specs.Images.{words_at, image_of};

@@ -4,7 +4,7 @@ use Rattle.std.specs.declared.cmp.Ordering.{Ordering}
 use Rattle.std.specs.List.Sorted.{IsStrictlySortedBy}
 use Rattle.std.specs.List.{AllByRecursion}
 use Rattle.image_base.specs.Records.{Records, SameAt}
-use Rattle.attr_images.specs.Trees.{Keeps}
+use Rattle.tree_images.specs.Trees.{Keeps}
 use Rattle.key_order.specs.Keys.{AllReadable, IsNoNode, ReadsNoNode, NoneReadsNodes, KeepsOthers, Ascends}
 
 pub others_kept : (m n : Records) → Keeps m n → KeepsOthers m n

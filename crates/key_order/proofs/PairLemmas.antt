@@ -3,7 +3,7 @@ use Rattle.std.proofs.Common.{◌≡◌, ◌≢◌, ℕ, zero, suc, ◌<◌, ◌
 use Rattle.std.specs.declared.cmp.Ordering.{Ordering}
 use Rattle.std.specs.declared.cmp.Ordering.TheVariants.{Less, Equal, Greater}
 use Rattle.std.specs.List.{flat_map, AllByRecursion}
-use Rattle.attr_images.specs.Trees.{last_key}
+use Rattle.tree_images.specs.Trees.{last_key}
 use Rattle.key_order.specs.Keys.{AllBelow}
 use Rattle.key_order.specs.Pairs.{choose, lookup, put, take_out, seek}
 

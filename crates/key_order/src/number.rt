@@ -1,10 +1,10 @@
 ghost use Rattle.std.specs.Prelude.{refl, []};
 ghost use Rattle.std.specs.Ordering.{nat_cmp};
 ghost use Rattle.std.specs.Cmp.{nat_cmp_total};
-ghost use Rattle.attr_images.specs.Trees.{by_number};
+ghost use Rattle.tree_images.specs.Trees.{by_number};
 
 use crate::key::KeyOrder;
-use arena_api::Frozen;
+use frozen_api::Frozen;
 use std::cmp::Ordering;
 
 /// A key that is its own number.

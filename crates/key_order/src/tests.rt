@@ -1,5 +1,5 @@
 use super::*;
-use arena_api::{MemWork, OneRecord};
+use mem_work::{MemWork, OneRecord};
 use std::cmp::Ordering;
 use std::test::Fail;
 

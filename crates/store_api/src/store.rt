@@ -9,7 +9,7 @@ ghost use Rattle.arena_api.specs.Calls.{IsWithinLimits, AddsCommit, Fits, InNoCo
 ghost use Rattle.store_api.specs.Classes.{in_use, has_record, is_committed, is_uncommitted, is_open, after_accept, Class};
 ghost use Rattle.store_api.specs.Ledgers.{Ledger, IsEntryOf, MayDo, Makes, IsFull, IsSettled, is_width, capacity, dropped_from, ended, kept_records, without_free, committed};
 
-use arena_api::Frozen;
+use frozen_api::Frozen;
 use entry_ref::EntryRef;
 use image_base::Layout;
 

@@ -2,7 +2,7 @@
 use Rattle.std.proofs.Common.{◌≡◌, ℕ, zero, suc, true, inr, arith}
 use Rattle.std.specs.List.{AllByRecursion}
 use Rattle.image_base.specs.Records.{Records}
-use Rattle.attr_images.specs.Trees.{tree_nodes}
+use Rattle.tree_images.specs.Trees.{tree_nodes}
 use Rattle.store_api.specs.Classes.{in_use}
 use Rattle.store_api.specs.Ledgers.{Ledger}
 use Rattle.std.specs.List.Sorted.{IsStrictlySortedBy}

@@ -3,7 +3,7 @@ ghost use Rattle.std.specs.Ordering.{nat_cmp};
 ghost use Rattle.std.specs.Cmp.{nat_cmp_total};
 ghost use Rattle.tens_key.specs.Tens.{by_tens};
 
-use arena_api::Frozen;
+use frozen_api::Frozen;
 use key_order::KeyOrder;
 use std::cmp::Ordering;
 

@@ -1,12 +1,12 @@
 ghost use Rattle.store_api.specs.Ledgers.{IsNew};
 
 use super::*;
-use arena_api::MemWork;
+use mem_work::MemWork;
 use entry_ref::EntryRef;
 use entry_store::EntryStore;
 use frozen_btree::TreeLayout;
-use image_check::word_at;
-use record_map::words_at;
+use check_trees::word_at;
+use image_base::words_at;
 use std::alloc::AllocError;
 use std::test::Fail;
 use store_api::{Store, StoreError};

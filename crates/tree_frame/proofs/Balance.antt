@@ -2,8 +2,8 @@
 use Rattle.std.proofs.Common.{◌≡◌, ◌⊎◌, ℕ, zero, suc, ◌+◌, ◌<◌, ◌≤◌, List, [], ◌∷◌, length, Bool, true, false, cond, refl, sym, ap, subst, ◌∙◌, arith, inl, inr, ⊎_elim, true≢false}
 use Rattle.std.specs.List.{AllByRecursion}
 use Rattle.image_base.specs.Records.{Records, Among, SameAt}
-use Rattle.attr_images.specs.TreeFrames.{tree_nodes-same}
-use Rattle.attr_images.specs.Trees.{tree_nodes}
+use Rattle.tree_images.specs.ProofsForTrees.{tree_nodes-same}
+use Rattle.tree_images.specs.Trees.{tree_nodes}
 use Rattle.store_api.proofs.May.{may_do-then}
 use Rattle.store_api.specs.Classes.{Class, in_use, is_open, after_drop}
 use Rattle.store_api.specs.Ledgers.{Ledger, IsSameBack}

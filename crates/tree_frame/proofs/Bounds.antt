@@ -5,10 +5,10 @@ use Rattle.std.specs.Cmp.{IsTotalOrder}
 use Rattle.std.specs.List.{zip, flat_map, All, AllByRecursion, IsDistinct}
 use Rattle.std.specs.declared.cmp.Ordering.{Ordering}
 use Rattle.image_base.specs.Records.{Records}
-use Rattle.attr_images.proofs.DistinctLemmas.{tree_nodes_distinct}
-use Rattle.attr_images.proofs.TreeLemmas.{length-node_keys, pairs_many}
-use Rattle.attr_images.specs.Nodes.{node_keys, node_values}
-use Rattle.attr_images.specs.Trees.{pairs_below, nodes_below, IsNode, root_level, root_least, tree_pairs, tree_nodes, IsTree}
+use Rattle.tree_images.proofs.DistinctLemmas.{tree_nodes_distinct}
+use Rattle.tree_images.proofs.TreeLemmas.{length-node_keys, pairs_many}
+use Rattle.tree_images.specs.Nodes.{node_keys, node_values}
+use Rattle.tree_images.specs.Trees.{pairs_below, nodes_below, IsNode, root_level, root_least, tree_pairs, tree_nodes, IsTree}
 
 length-zip-le : (ks vs : List ℕ) → length (zip ks vs) ≤ length ks
 length-zip-le [] vs = omega arith

@@ -1,7 +1,7 @@
 -- What a change of a tree leaves of a store.
 use Rattle.std.specs.Prelude.{◌≡◌, ◌⊎◌, ◌↔◌, ℕ, zero, suc, ◌<◌, List, true, length}
 use Rattle.image_base.specs.Records.{Records, Among}
-use Rattle.attr_images.specs.Trees.{root_level, tree_nodes}
+use Rattle.tree_images.specs.Trees.{root_level, tree_nodes}
 use Rattle.store_api.specs.Classes.{in_use, is_open, after_drop}
 use Rattle.store_api.specs.Ledgers.{Ledger, MayDo}
 use Rattle.tree_frame.specs.Times.{times}

@@ -7,9 +7,9 @@ use Rattle.std.specs.declared.cmp.Ordering.{Ordering}
 use Rattle.std.specs.List.{zip, flat_map, AllByRecursion}
 use Rattle.image_base.specs.Records.{Records}
 use Rattle.store_api.specs.Ledgers.{Ledger}
-use Rattle.attr_images.specs.Nodes.{used_of, node_keys, node_values}
-use Rattle.attr_images.specs.Trees.{pairs_below, nodes_below, last_key, IsNode, Keeps}
-use Rattle.attr_images.proofs.TreeLemmas.{IsNode-form, length-node_keys, length-node_values}
+use Rattle.tree_images.specs.Nodes.{used_of, node_keys, node_values}
+use Rattle.tree_images.specs.Trees.{pairs_below, nodes_below, last_key, IsNode, Keeps}
+use Rattle.tree_images.proofs.TreeLemmas.{IsNode-form, length-node_keys, length-node_values}
 use Rattle.key_order.specs.Keys.{seen_by, Ascends, AllBelow}
 use Rattle.key_order.specs.Pairs.{put}
 use Rattle.key_order.proofs.PairLemmas.{All-at, All-child, children-cut, put-skip, put-stop, length-put_most}

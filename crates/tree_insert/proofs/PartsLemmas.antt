@@ -6,8 +6,8 @@ use Rattle.std.specs.List.{flat_map}
 use Rattle.image_base.specs.Records.{Records}
 use Rattle.store_api.specs.Classes.{Class, in_use, is_open, with_class}
 use Rattle.store_api.specs.Ledgers.{Ledger}
-use Rattle.attr_images.specs.Nodes.{IsNodeForm}
-use Rattle.attr_images.specs.Trees.{pairs_below, nodes_below, last_key, IsNode, Keeps}
+use Rattle.tree_images.specs.Nodes.{IsNodeForm}
+use Rattle.tree_images.specs.Trees.{pairs_below, nodes_below, last_key, IsNode, Keeps}
 use Rattle.tree_frame.proofs.TimesLemmas.{times-same, times-other, times-append}
 use Rattle.tree_frame.specs.Times.{times, uses}
 use Rattle.tree_node.specs.Makes.{MakesNode, MakesPart}

@@ -4,8 +4,8 @@ use Rattle.std.proofs.lemmas.List.{append-nil}
 use Rattle.std.specs.List.{flat_map}
 use Rattle.image_base.specs.Records.{Records}
 use Rattle.store_api.specs.Ledgers.{Ledger}
-use Rattle.attr_images.specs.Trees.{pairs_below, nodes_below, IsNode, root_level, root_least, tree_pairs, tree_nodes, IsRootNode}
-use Rattle.attr_images.proofs.TreeLemmas.{IsNode-form}
+use Rattle.tree_images.specs.Trees.{pairs_below, nodes_below, IsNode, root_level, root_least, tree_pairs, tree_nodes, IsRootNode}
+use Rattle.tree_images.proofs.TreeLemmas.{IsNode-form}
 use Rattle.tree_frame.specs.Times.{times}
 use Rattle.tree_node.specs.Makes.{MakesNode}
 use Rattle.tree_node.specs.Slots.{slot_pairs, slot_nodes, IsInHand}

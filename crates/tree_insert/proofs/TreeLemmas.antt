@@ -8,11 +8,11 @@ use Rattle.std.specs.List.Sorted.{IsStrictlySortedBy}
 use Rattle.image_base.specs.Records.{Records, SameAt}
 use Rattle.store_api.specs.Classes.{in_use}
 use Rattle.store_api.specs.Ledgers.{Ledger}
-use Rattle.attr_images.specs.Nodes.{used_of}
-use Rattle.attr_images.specs.TreeFrames.{tree_pairs-same, IsRootNode-same}
-use Rattle.attr_images.specs.Trees.{pairs_below, nodes_below, IsNode, root_level, root_least, tree_pairs, tree_nodes, IsRootNode, IsTree}
-use Rattle.attr_images.proofs.DistinctLemmas.{tree_nodes_distinct}
-use Rattle.attr_images.proofs.TreeLemmas.{IsNode-form}
+use Rattle.tree_images.specs.Nodes.{used_of}
+use Rattle.tree_images.specs.ProofsForTrees.{tree_pairs-same, IsRootNode-same}
+use Rattle.tree_images.specs.Trees.{pairs_below, nodes_below, IsNode, root_level, root_least, tree_pairs, tree_nodes, IsRootNode, IsTree}
+use Rattle.tree_images.proofs.DistinctLemmas.{tree_nodes_distinct}
+use Rattle.tree_images.proofs.TreeLemmas.{IsNode-form}
 use Rattle.key_order.specs.Keys.{seen_by, Ascends, AllReadable, ReadsNoNode, NoneReadsNodes, KeepsOthers}
 use Rattle.key_order.specs.Pairs.{put}
 use Rattle.key_order.proofs.KeyLemmas.{keys-readable, ascends-stay, others_kept}

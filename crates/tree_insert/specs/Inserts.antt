@@ -4,8 +4,8 @@ use Rattle.std.specs.List.{flat_map}
 use Rattle.std.specs.declared.cmp.Ordering.{Ordering}
 use Rattle.image_base.specs.Records.{Records}
 use Rattle.store_api.specs.Ledgers.{Ledger}
-use Rattle.attr_images.specs.Nodes.{used_of}
-use Rattle.attr_images.specs.Trees.{pairs_below, nodes_below}
+use Rattle.tree_images.specs.Nodes.{used_of}
+use Rattle.tree_images.specs.Trees.{pairs_below, nodes_below}
 use Rattle.key_order.specs.Pairs.{put}
 use Rattle.tree_frame.specs.Times.{times, uses}
 use Rattle.tree_insert.specs.declared.parts.Parts.{Parts}

@@ -3,7 +3,7 @@ use Rattle.std.specs.Prelude.{◌≡◌, ℕ, ◌+◌, ◌<◌, ◌≤◌, List,
 use Rattle.std.specs.List.{flat_map, AllByRecursion}
 use Rattle.image_base.specs.Records.{Records}
 use Rattle.store_api.specs.Ledgers.{Ledger}
-use Rattle.attr_images.specs.Trees.{pairs_below, nodes_below, last_key, IsNode, root_least}
+use Rattle.tree_images.specs.Trees.{pairs_below, nodes_below, last_key, IsNode, root_least}
 use Rattle.tree_frame.specs.Times.{times, uses}
 use Rattle.tree_node.specs.Slots.{slot_pairs, slot_nodes}
 use Rattle.tree_node.specs.Makes.{MakesNodes}

@@ -1,5 +1,5 @@
 ghost use Rattle.std.specs.Prelude.{◌≡◌, ◌≤◌, ◌<◌, ◌+◌, ◌*◌, ◌++◌, ◌∷◌, [], ℕ, List, true, length, suc, Err, IfOk};
-ghost use Rattle.attr_images.specs.Trees.{pairs_below, IsNode};
+ghost use Rattle.tree_images.specs.Trees.{pairs_below, IsNode};
 ghost use Rattle.key_order.specs.Keys.{seen_by, Ascends, AllReadable};
 ghost use Rattle.store_api.specs.Ledgers.{IsFull};
 ghost use Rattle.tree_node.specs.Makes.{MakesNodes};

@@ -4,7 +4,7 @@ ghost use Rattle.key_order.specs.Keys.{seen_by};
 ghost use Rattle.key_order.specs.Pairs.{put};
 
 use crate::parts::put_word;
-use arena_api::Frozen;
+use frozen_api::Frozen;
 use key_order::KeyOrder;
 use tree_node::{Slots, is_found, slot_of};
 

@@ -1,7 +1,7 @@
 ghost use Rattle.std.specs.Prelude.{◌≡◌, ◌≢◌, ◌≤◌, ◌<◌, ◌+◌, ◌*◌, ◌∷◌, [], ℕ, true, length, suc, Err, IfOk, OnErr};
 ghost use Rattle.std.specs.List.{AllByRecursion, flat_map};
 ghost use Rattle.std.specs.declared.cmp.Ordering.TheVariants.{Equal};
-ghost use Rattle.attr_images.specs.Trees.{pairs_below, tree_pairs, tree_nodes, IsTree, root_least};
+ghost use Rattle.tree_images.specs.Trees.{pairs_below, tree_pairs, tree_nodes, IsTree, root_least};
 ghost use Rattle.key_order.specs.Keys.{seen_by, AllReadable, ReadsNoNode, NoneReadsNodes};
 ghost use Rattle.key_order.specs.Pairs.{put};
 ghost use Rattle.store_api.specs.Classes.{in_use};

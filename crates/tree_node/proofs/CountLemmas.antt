@@ -6,9 +6,9 @@ use Rattle.std.proofs.lemmas.List.Folds.{length-flat_map-take}
 use Rattle.std.proofs.Math.Nat.{one-le-pow}
 use Rattle.std.specs.List.{zip, flat_map, AllByRecursion}
 use Rattle.image_base.specs.Records.{Records}
-use Rattle.attr_images.specs.Nodes.{count_of}
-use Rattle.attr_images.specs.Trees.{pairs_below, last_key, IsNode}
-use Rattle.attr_images.proofs.TreeLemmas.{IsNode-form, IsNode-count, pairs_many}
+use Rattle.tree_images.specs.Nodes.{count_of}
+use Rattle.tree_images.specs.Trees.{pairs_below, last_key, IsNode}
+use Rattle.tree_images.proofs.TreeLemmas.{IsNode-form, IsNode-count, pairs_many}
 use Rattle.tree_node.specs.Slots.{slot_pairs, HaveChildren, IsInHand}
 use Rattle.tree_node.proofs.SlotLemmas.{All-map}
 

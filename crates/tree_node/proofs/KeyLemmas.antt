@@ -2,7 +2,7 @@
 use Rattle.std.proofs.Common.{◌≡◌, ℕ, zero, suc, ◌<◌, List, [], ◌∷◌, ◌++◌, length, map, get_or, refl, sym, ap, subst, ◌∙◌, arith}
 use Rattle.std.specs.List.{zip, flat_map, AllByRecursion}
 use Rattle.image_base.specs.Records.{Records}
-use Rattle.attr_images.specs.Trees.{pairs_below, last_key, IsNode}
+use Rattle.tree_images.specs.Trees.{pairs_below, last_key, IsNode}
 use Rattle.tree_node.specs.Slots.{slot_pairs, HaveChildren, IsInHand}
 use Rattle.tree_node.proofs.CountLemmas.{node_some}
 

@@ -3,9 +3,9 @@ use Rattle.std.proofs.Common.{◌≡◌, ◌≢◌, ◌⊎◌, inl, inr, ℕ, ze
 use Rattle.std.proofs.lemmas.Bool.{eq-eqb, ne_eqb, cases_eq}
 use Rattle.std.specs.List.{zip, flat_map, AllByRecursion}
 use Rattle.image_base.specs.Records.{Records, with_words}
-use Rattle.attr_images.specs.Nodes.{count_of, node_keys, node_values, node_words, IsNodeForm}
-use Rattle.attr_images.specs.Trees.{pairs_below, nodes_below, last_key, IsNode, Keeps}
-use Rattle.attr_images.proofs.NodeLemmas.{node_keys-words, node_values-words, node_formed}
+use Rattle.tree_images.specs.Nodes.{count_of, node_keys, node_values, node_words, IsNodeForm}
+use Rattle.tree_images.specs.Trees.{pairs_below, nodes_below, last_key, IsNode, Keeps}
+use Rattle.tree_images.proofs.NodeLemmas.{node_keys-words, node_values-words, node_formed}
 use Rattle.std.proofs.lemmas.List.{append-nil}
 use Rattle.arena_api.specs.Calls.{padded as words_padded}
 use Rattle.store_api.specs.Classes.{Class, is_open, with_class}

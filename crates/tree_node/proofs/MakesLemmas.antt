@@ -4,7 +4,7 @@ use Rattle.image_base.specs.Records.{Records}
 use Rattle.store_api.specs.Classes.{Class, in_use, is_open}
 use Rattle.store_api.specs.Ledgers.{Ledger}
 use Rattle.store_api.proofs.May.{may_do-same, may_do-then}
-use Rattle.attr_images.specs.Trees.{Keeps}
+use Rattle.tree_images.specs.Trees.{Keeps}
 use Rattle.tree_node.specs.Makes.{MakesNodes}
 
 pub keeps-then : (m n o : Records) → Keeps m n → Keeps n o → Keeps m o

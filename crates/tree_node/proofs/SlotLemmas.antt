@@ -4,9 +4,9 @@ use Rattle.std.proofs.lemmas.List.{map-append, take_at, drop_at, append-nil}
 use Rattle.std.proofs.lemmas.Grind.{flat_map-append}
 use Rattle.std.specs.List.{zip, flat_map, AllByRecursion}
 use Rattle.image_base.specs.Records.{Records}
-use Rattle.attr_images.specs.TreeFrames.{pairs-same, nodes-same, IsNode-same}
-use Rattle.attr_images.specs.Trees.{pairs_below, nodes_below, last_key, IsNode, Keeps}
-use Rattle.attr_images.proofs.TreeLemmas.{nodes-kept}
+use Rattle.tree_images.specs.ProofsForTrees.{pairs-same, nodes-same, IsNode-same}
+use Rattle.tree_images.specs.Trees.{pairs_below, nodes_below, last_key, IsNode, Keeps}
+use Rattle.tree_images.proofs.TreeLemmas.{nodes-kept}
 use Rattle.tree_node.specs.Slots.{slot_pairs, slot_nodes, HaveChildren, IsInHand}
 
 pub zip-append : (k1 v1 k2 v2 : List ℕ) → length k1 ≡ length v1 → zip (k1 ++ k2) (v1 ++ v2) ≡ zip k1 v1 ++ zip k2 v2

@@ -3,7 +3,7 @@ use Rattle.std.specs.Prelude.{◌≡◌, ◌≢◌, ◌⊎◌, ℕ, ◌+◌, ◌
 use Rattle.image_base.specs.Records.{Records}
 use Rattle.store_api.specs.Classes.{Class, is_open, with_class}
 use Rattle.store_api.specs.Ledgers.{Ledger, MayDo}
-use Rattle.attr_images.specs.Trees.{pairs_below, nodes_below, last_key, IsNode, Keeps}
+use Rattle.tree_images.specs.Trees.{pairs_below, nodes_below, last_key, IsNode, Keeps}
 use Rattle.tree_node.specs.Slots.{slot_pairs, slot_nodes}
 use Rattle.tree_node.specs.declared.make.Part.{Part}
 

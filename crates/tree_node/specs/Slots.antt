@@ -2,7 +2,7 @@
 use Rattle.std.specs.Prelude.{◌≡◌, ℕ, zero, suc, List, [], length, map}
 use Rattle.std.specs.List.{zip, flat_map, AllByRecursion}
 use Rattle.image_base.specs.Records.{Records}
-use Rattle.attr_images.specs.Trees.{pairs_below, nodes_below, last_key, IsNode}
+use Rattle.tree_images.specs.Trees.{pairs_below, nodes_below, last_key, IsNode}
 
 -- the pairs below slots: those of a leaf, or the pairs of the children, one after another
 unfoldable pub slot_pairs : Records → ℕ → List ℕ → List ℕ → List (ℕ × ℕ)

@@ -1,11 +1,11 @@
 ghost use Rattle.std.specs.Prelude.{◌≡◌, ◌<◌, ◌≤◌, ◌+◌, ◌∷◌, ◌++◌, [], true, ℕ, length, IfOk, OnErr, Err, take};
-ghost use Rattle.attr_images.specs.Nodes.{padded, node_words};
+ghost use Rattle.tree_images.specs.Nodes.{padded, node_words};
 ghost use Rattle.store_api.specs.Ledgers.{IsFull};
 ghost use Rattle.tree_node.specs.Slots.{slot_pairs, IsInHand};
 ghost use Rattle.tree_node.specs.Makes.{MakesPart};
 
 use crate::slots::Slots;
-use arena_api::Frozen;
+use frozen_api::Frozen;
 use arrayvec::ArrayVec;
 use entry_ref::EntryRef;
 use store_api::{Store, StoreError};

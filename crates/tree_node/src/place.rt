@@ -3,7 +3,7 @@ ghost use Rattle.std.specs.List.{AllByRecursion};
 ghost use Rattle.key_order.specs.Keys.{seen_by};
 ghost use Rattle.tree_node.specs.Places.{IsSlot, IsFound, IsLacking, IsPlace};
 
-use arena_api::Frozen;
+use frozen_api::Frozen;
 use key_order::KeyOrder;
 use std::cmp::Ordering;
 

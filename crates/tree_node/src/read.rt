@@ -1,8 +1,8 @@
 ghost use Rattle.std.specs.Prelude.{◌≡◌, ◌+◌, ◌≤◌, [], length, take, drop};
-ghost use Rattle.attr_images.specs.Nodes.{level_of, used_of, node_keys, node_values};
+ghost use Rattle.tree_images.specs.Nodes.{level_of, used_of, node_keys, node_values};
 
 use crate::slots::Slots;
-use arena_api::Frozen;
+use frozen_api::Frozen;
 use arrayvec::ArrayVec;
 use entry_ref::EntryRef;
 

@@ -1,9 +1,9 @@
 -- Nodes that were read as slots.
 use Rattle.std.proofs.Common.{◌≡◌, ℕ, ◌-◌, ◌<◌, ◌≤◌, List, length, get_or, sym, ap, subst, ◌∙◌, arith}
 use Rattle.image_base.specs.Records.{Records}
-use Rattle.attr_images.proofs.TreeLemmas.{IsNode-form, length-node_keys, length-node_values}
-use Rattle.attr_images.specs.Nodes.{level_of, used_of, node_keys, node_values}
-use Rattle.attr_images.specs.Trees.{pairs_below, IsNode}
+use Rattle.tree_images.proofs.TreeLemmas.{IsNode-form, length-node_keys, length-node_values}
+use Rattle.tree_images.specs.Nodes.{level_of, used_of, node_keys, node_values}
+use Rattle.tree_images.specs.Trees.{pairs_below, IsNode}
 use Rattle.std.specs.List.{zip, AllByRecursion}
 use Rattle.tree_node.proofs.KeyLemmas.{keys_all}
 use Rattle.tree_node.proofs.SlotLemmas.{slot_pairs-leaf}

@@ -2,8 +2,8 @@
 use Rattle.std.proofs.Common.{◌≡◌, ◌≢◌, ℕ, zero, suc, ◌+◌, ◌≤◌, List, [], ◌∷◌, ◌++◌, length, ap, ◌∙◌, arith, inl, inr, length-append}
 use Rattle.std.proofs.lemmas.Bool.{cases_eq}
 use Rattle.image_base.specs.Records.{Records}
-use Rattle.attr_images.specs.Nodes.{IsNodeForm}
-use Rattle.attr_images.specs.Trees.{pairs_below, nodes_below, last_key, IsNode}
+use Rattle.tree_images.specs.Nodes.{IsNodeForm}
+use Rattle.tree_images.specs.Trees.{pairs_below, nodes_below, last_key, IsNode}
 use Rattle.store_api.specs.Classes.{Class, in_use, is_open}
 use Rattle.store_api.specs.Ledgers.{Ledger}
 use Rattle.tree_frame.proofs.Balance.{uses-in, uses-out, open_unused}

@@ -8,9 +8,9 @@ use Rattle.std.specs.List.{zip, flat_map, remove, AllByRecursion}
 use Rattle.std.specs.declared.cmp.Ordering.{Ordering}
 use Rattle.std.specs.declared.cmp.Ordering.TheVariants.{Less, Equal, Greater}
 use Rattle.image_base.specs.Records.{Records}
-use Rattle.attr_images.proofs.TreeLemmas.{IsNode-form, IsNode-count}
-use Rattle.attr_images.specs.Nodes.{node_keys, node_values}
-use Rattle.attr_images.specs.Trees.{pairs_below, last_key, IsNode}
+use Rattle.tree_images.proofs.TreeLemmas.{IsNode-form, IsNode-count}
+use Rattle.tree_images.specs.Nodes.{node_keys, node_values}
+use Rattle.tree_images.specs.Trees.{pairs_below, last_key, IsNode}
 use Rattle.key_order.proofs.OrderLemmas.{ascends-child, children-below}
 use Rattle.key_order.proofs.PairLemmas.{All-at, All-child, children-cut, lookup-skip, lookup-stop, lookup-below, take_out-skip, take_out-stop}
 use Rattle.key_order.specs.Keys.{seen_by, Ascends, AllBelow}

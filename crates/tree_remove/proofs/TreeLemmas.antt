@@ -7,11 +7,11 @@ use Rattle.std.specs.declared.cmp.Ordering.{Ordering}
 use Rattle.std.specs.List.{zip, AllByRecursion}
 use Rattle.entry_ref.specs.References.{offset_of}
 use Rattle.image_base.specs.Records.{Records, SameAt}
-use Rattle.attr_images.proofs.DistinctLemmas.{tree_nodes_distinct}
-use Rattle.attr_images.proofs.TreeLemmas.{IsNode-form, IsNode-count}
-use Rattle.attr_images.specs.Nodes.{level_of}
-use Rattle.attr_images.specs.TreeFrames.{tree_pairs-same, IsRootNode-same}
-use Rattle.attr_images.specs.Trees.{pairs_below, nodes_below, IsNode, root_level, root_least, tree_pairs, tree_nodes, IsRootNode, IsTree}
+use Rattle.tree_images.proofs.DistinctLemmas.{tree_nodes_distinct}
+use Rattle.tree_images.proofs.TreeLemmas.{IsNode-form, IsNode-count}
+use Rattle.tree_images.specs.Nodes.{level_of}
+use Rattle.tree_images.specs.ProofsForTrees.{tree_pairs-same, IsRootNode-same}
+use Rattle.tree_images.specs.Trees.{pairs_below, nodes_below, IsNode, root_level, root_least, tree_pairs, tree_nodes, IsRootNode, IsTree}
 use Rattle.key_order.proofs.KeyLemmas.{keys-readable, ascends-stay}
 use Rattle.key_order.proofs.OrderLemmas.{take_out-ascends}
 use Rattle.key_order.proofs.PairLemmas.{All-take_out, length-take_out}

@@ -2,8 +2,8 @@
 use Rattle.std.specs.Prelude.{◌≡◌, ℕ, suc, ◌+◌, ◌*◌, ◌<◌, ◌≤◌, List, ◌∷◌, ◌++◌, length, take, drop, slice_index, IsSome}
 use Rattle.std.specs.declared.cmp.Ordering.{Ordering}
 use Rattle.image_base.specs.Records.{Records}
-use Rattle.attr_images.specs.Nodes.{used_of}
-use Rattle.attr_images.specs.Trees.{pairs_below, nodes_below, tree_pairs, tree_nodes, IsNode, IsRootNode}
+use Rattle.tree_images.specs.Nodes.{used_of}
+use Rattle.tree_images.specs.Trees.{pairs_below, nodes_below, tree_pairs, tree_nodes, IsNode, IsRootNode}
 use Rattle.key_order.specs.Pairs.{lookup, take_out}
 use Rattle.store_api.specs.Ledgers.{Ledger}
 use Rattle.tree_frame.specs.Times.{times, uses}

@@ -1,7 +1,7 @@
 ghost use Rattle.std.specs.Prelude.{◌≡◌, ◌≤◌, ◌<◌, ◌+◌, ◌-◌, ◌*◌, ◌++◌, ◌∷◌, [], true, length, suc, IsSome, IfOk, OnErr, ℕ};
 ghost use Rattle.std.specs.List.{zip};
-ghost use Rattle.attr_images.specs.Nodes.{level_of, used_of};
-ghost use Rattle.attr_images.specs.Trees.{pairs_below, IsNode, root_least};
+ghost use Rattle.tree_images.specs.Nodes.{level_of, used_of};
+ghost use Rattle.tree_images.specs.Trees.{pairs_below, IsNode, root_least};
 ghost use Rattle.key_order.specs.Keys.{seen_by, Ascends, AllReadable};
 ghost use Rattle.key_order.specs.Pairs.{lookup, take_out};
 ghost use Rattle.store_api.specs.Ledgers.{IsFull};
@@ -9,7 +9,7 @@ ghost use Rattle.tree_node.specs.Makes.{MakesNodes};
 ghost use Rattle.tree_remove.specs.Removes.{IsStep, Removes};
 
 use crate::parent::put_back;
-use arena_api::Frozen;
+use frozen_api::Frozen;
 use arrayvec::ArrayVec;
 use entry_ref::EntryRef;
 use key_order::KeyOrder;

@@ -5,7 +5,7 @@ ghost use Rattle.tree_node.specs.Slots.{slot_pairs, IsInHand};
 ghost use Rattle.tree_remove.specs.Removes.{IsChild, PutsBack, spliced};
 
 use crate::neighbours::{make_neighbours, set_part};
-use arena_api::Frozen;
+use frozen_api::Frozen;
 use arrayvec::ArrayVec;
 use entry_ref::EntryRef;
 use store_api::{Store, StoreError};

@@ -1,6 +1,6 @@
 ghost use Rattle.std.specs.Prelude.{◌≡◌, ◌≢◌, ◌≤◌, ◌<◌, ◌+◌, ◌*◌, [], ℕ, true, length, IsSome, IfOk, OnErr};
 ghost use Rattle.std.specs.List.{AllByRecursion};
-ghost use Rattle.attr_images.specs.Trees.{tree_pairs, tree_nodes, IsTree};
+ghost use Rattle.tree_images.specs.Trees.{tree_pairs, tree_nodes, IsTree};
 ghost use Rattle.key_order.specs.Keys.{seen_by, AllReadable, NoneReadsNodes};
 ghost use Rattle.key_order.specs.Pairs.{lookup, take_out};
 ghost use Rattle.store_api.specs.Classes.{in_use};

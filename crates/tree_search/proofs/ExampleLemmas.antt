@@ -5,9 +5,9 @@ use Rattle.std.specs.List.{range_with_len, AllByRecursion}
 use Rattle.std.specs.List.Sorted.{IsStrictlySortedBy}
 use Rattle.std.specs.Ordering.{nat_cmp}
 use borrow.Author.Tests.{ltb-true, leb-true}
-use Rattle.attr_images.proofs.NodeLemmas.{node_formed}
-use Rattle.attr_images.specs.Nodes.{IsNodeForm}
-use Rattle.attr_images.specs.Trees.{pairs_below, IsNode, IsRootNode, IsTree, by_number}
+use Rattle.tree_images.proofs.NodeLemmas.{node_formed}
+use Rattle.tree_images.specs.Nodes.{IsNodeForm}
+use Rattle.tree_images.specs.Trees.{pairs_below, IsNode, IsRootNode, IsTree, by_number}
 use Rattle.tree_search.specs.Examples.{tens, tens_from}
 
 all_above : (a b n : ℕ) → a < b → AllByRecursion (λ y. nat_cmp a y ≡ Less) (tens_from b n)

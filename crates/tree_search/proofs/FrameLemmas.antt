@@ -2,9 +2,9 @@
 use Rattle.std.proofs.Common.{◌≡◌, ℕ, zero, suc, ◌+◌, ◌<◌, min, List, [], ◌∷◌, ◌++◌, length, get_or, drop, refl, sym, ap, subst, ◌∙◌, arith, ltb, ltb-true, ltb-false, Bool, true, false}
 use Rattle.std.specs.List.{flat_map}
 use Rattle.image_base.specs.Records.{Records, SameAt}
-use Rattle.attr_images.specs.Nodes.{level_of, used_of, node_values}
-use Rattle.attr_images.specs.TreeFrames.{SameAt-left, SameAt-right, flat_map-same, pairs-same, node-same, IsRootNode-same}
-use Rattle.attr_images.specs.Trees.{pairs_below, nodes_below, root_level, tree_nodes, IsNode}
+use Rattle.tree_images.specs.Nodes.{level_of, used_of, node_values}
+use Rattle.tree_images.specs.ProofsForTrees.{SameAt-left, SameAt-right, flat_map-same, pairs-same, node-same, IsRootNode-same}
+use Rattle.tree_images.specs.Trees.{pairs_below, nodes_below, root_level, tree_nodes, IsNode}
 use Rattle.tree_search.specs.Steps.{Step}
 use Rattle.tree_search.specs.Places.{Place, LeadsTo, pairs_behind, HasPair, pairs_from, IsInLeaf, IsAt}
 use Rattle.tree_search.proofs.NodeLemmas.{get_or-node_values, values-size}

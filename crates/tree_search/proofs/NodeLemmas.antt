@@ -7,9 +7,9 @@ use Rattle.std.specs.declared.cmp.Ordering.TheVariants.{Less, Equal, Greater}
 use Rattle.std.specs.List.{zip, flat_map, AllByRecursion}
 use Rattle.std.specs.List.Sorted.{IsStrictlySortedBy}
 use Rattle.image_base.specs.Records.{Records, HasWord, word_at}
-use Rattle.attr_images.specs.Nodes.{used_of, node_keys, node_values, IsNodeForm}
-use Rattle.attr_images.specs.Trees.{pairs_below, last_key, IsNode, HasLastKeys}
-use Rattle.attr_images.proofs.TreeLemmas.{IsNode-form, length-node_keys, length-node_values}
+use Rattle.tree_images.specs.Nodes.{used_of, node_keys, node_values, IsNodeForm}
+use Rattle.tree_images.specs.Trees.{pairs_below, last_key, IsNode, HasLastKeys}
+use Rattle.tree_images.proofs.TreeLemmas.{IsNode-form, length-node_keys, length-node_values}
 use Rattle.key_order.specs.Keys.{AllBelow}
 use Rattle.key_order.specs.Pairs.{choose, seek}
 use Rattle.key_order.proofs.PairLemmas.{All-at, All-child, children-cut, seek-skip, seek-stop}

@@ -2,9 +2,9 @@
 use Rattle.std.proofs.Common.{◌≡◌, ℕ, zero, suc, ◌+◌, ◌-◌, ◌<◌, ◌≤◌, List, [], ◌∷◌, ◌++◌, length, drop, refl, sym, ap, subst, ◌∙◌, arith, if◌then◌else◌, nat_lt, lt-ltb, le-ltb, leb, leb-true, leb-false, IsTrue, Bool, true, false}
 use Rattle.std.specs.List.{flat_map}
 use Rattle.image_base.specs.Records.{Records, HasWord, word_at}
-use Rattle.attr_images.specs.Nodes.{level_of, used_of, count_of, node_values}
-use Rattle.attr_images.specs.Trees.{pairs_below, root_level, root_least, tree_pairs, IsNode, IsRootNode}
-use Rattle.attr_images.proofs.TreeLemmas.{IsNode-form}
+use Rattle.tree_images.specs.Nodes.{level_of, used_of, count_of, node_values}
+use Rattle.tree_images.specs.Trees.{pairs_below, root_level, root_least, tree_pairs, IsNode, IsRootNode}
+use Rattle.tree_images.proofs.TreeLemmas.{IsNode-form}
 use Rattle.tree_search.specs.Steps.{Step}
 use Rattle.tree_search.specs.Places.{Place, LeadsTo, Leads, pairs_behind, HasPair, pairs_from, IsAt}
 use Rattle.tree_search.proofs.NodeLemmas.{IsNode-lower, child-node, children, children-from, children-past, leaf-from, leaf-past}

@@ -7,9 +7,9 @@ use Rattle.std.specs.declared.cmp.Ordering.TheVariants.{Less}
 use Rattle.std.specs.List.{zip, flat_map, AllByRecursion}
 use Rattle.std.specs.List.Sorted.{IsStrictlySortedBy}
 use Rattle.image_base.specs.Records.{Records, word_at}
-use Rattle.attr_images.specs.Nodes.{level_of, used_of, node_keys, node_values}
-use Rattle.attr_images.specs.Trees.{pairs_below, last_key, tree_pairs, IsNode, IsRootNode}
-use Rattle.attr_images.proofs.TreeLemmas.{IsNode-form, length-node_keys}
+use Rattle.tree_images.specs.Nodes.{level_of, used_of, node_keys, node_values}
+use Rattle.tree_images.specs.Trees.{pairs_below, last_key, tree_pairs, IsNode, IsRootNode}
+use Rattle.tree_images.proofs.TreeLemmas.{IsNode-form, length-node_keys}
 use Rattle.key_order.specs.Keys.{AllBelow}
 use Rattle.key_order.specs.Pairs.{seek}
 use Rattle.key_order.proofs.PairLemmas.{seek-below}

@@ -3,7 +3,7 @@ use Rattle.std.specs.Prelude.{◌≡◌, ℕ, zero, suc, ◌+◌, ◌^◌, ◌<�
 use Rattle.std.proofs.Common.{sym, subst, arith, ltb-true, eqb-true}
 use Rattle.std.specs.List.{range_with_len}
 use Rattle.image_base.specs.Records.{Records, with_words}
-use Rattle.attr_images.specs.Nodes.{node_words}
+use Rattle.tree_images.specs.Nodes.{node_words}
 
 -- so many numbers from one on, by tens
 abbrev pub tens_from : ℕ → ℕ → List ℕ

@@ -2,8 +2,8 @@
 use Rattle.std.specs.Prelude.{◌≡◌, ℕ, suc, ◌+◌, ◌<◌, List, [], ◌∷◌, ◌++◌, drop, nat_lt, if◌then◌else◌}
 use Rattle.std.specs.List.{flat_map}
 use Rattle.image_base.specs.Records.{Records, word_at}
-use Rattle.attr_images.specs.Nodes.{level_of, used_of, node_values}
-use Rattle.attr_images.specs.Trees.{pairs_below, root_level, IsRootNode}
+use Rattle.tree_images.specs.Nodes.{level_of, used_of, node_values}
+use Rattle.tree_images.specs.Trees.{pairs_below, root_level, IsRootNode}
 use Rattle.tree_search.specs.Steps.{Step}
 
 -- a slot of a leaf; above the leaf, from the lowest up, the nodes with the slots that lead to it. The leaf has so many slots used; at the end, past all pairs, the slot is not below

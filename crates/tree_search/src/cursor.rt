@@ -1,14 +1,14 @@
 ghost use Rattle.std.specs.Prelude.{◌≡◌, ◌↔◌, ◌<◌, ◌++◌, ℕ, [], drop, IsTrue};
 ghost use Rattle.image_base.specs.Records.{Records};
-ghost use Rattle.attr_images.specs.Nodes.{level_of};
-ghost use Rattle.attr_images.specs.Trees.{pairs_below, tree_pairs, IsRootNode, IsTree};
+ghost use Rattle.tree_images.specs.Nodes.{level_of};
+ghost use Rattle.tree_images.specs.Trees.{pairs_below, tree_pairs, IsRootNode, IsTree};
 ghost use Rattle.key_order.specs.Keys.{AllReadable, seen_by};
 ghost use Rattle.key_order.specs.Pairs.{seek};
 ghost use Rattle.tree_search.specs.Places.{Leads, pairs_behind, pairs_from, IsAt, HasPair, first_key, first_value};
 
 use crate::node::{child_at, first_slot, read_head};
 use crate::path::Path;
-use arena_api::Frozen;
+use frozen_api::Frozen;
 use entry_ref::EntryRef;
 use key_order::KeyOrder;
 use std::marker::Model;

@@ -2,7 +2,7 @@ ghost use Rattle.std.specs.Prelude.{◌≡◌, ℕ, List, filter, find, not};
 ghost use Rattle.std.specs.Option.{option_map};
 ghost use Rattle.std.specs.Ordering.{is_lt, is_eq, is_gt};
 ghost use Rattle.image_base.specs.Records.{Records, SameAt};
-ghost use Rattle.attr_images.specs.Trees.{tree_nodes};
+ghost use Rattle.tree_images.specs.Trees.{tree_nodes};
 ghost use Rattle.key_order.specs.Keys.{Ascends, seen_by};
 ghost use Rattle.key_order.specs.Pairs.{lookup, seek};
 ghost use Rattle.tree_search.specs.Places.{Place, IsAt, pairs_from};

@@ -1,12 +1,12 @@
 ghost use Rattle.std.specs.Prelude.{◌≡◌, ◌≢◌, ◌<◌, ◌≤◌, ◌+◌, ℕ, length};
 ghost use Rattle.std.specs.declared.cmp.Ordering.TheVariants.{Less};
 ghost use Rattle.image_base.specs.Records.{Records, HasWord, word_at};
-ghost use Rattle.attr_images.specs.Nodes.{level_of, used_of};
-ghost use Rattle.attr_images.specs.Trees.{pairs_below, IsNode};
+ghost use Rattle.tree_images.specs.Nodes.{level_of, used_of};
+ghost use Rattle.tree_images.specs.Trees.{pairs_below, IsNode};
 ghost use Rattle.key_order.specs.Keys.{AllReadable, seen_by};
 ghost use Rattle.tree_search.specs.Slots.{IsFirstSlot};
 
-use arena_api::Frozen;
+use frozen_api::Frozen;
 use entry_ref::EntryRef;
 use key_order::KeyOrder;
 use std::cmp::Ordering;

@@ -1,10 +1,10 @@
 ghost use Rattle.std.specs.Prelude.{◌≡◌, ◌<◌, length};
-ghost use Rattle.attr_images.specs.Trees.{tree_pairs, IsRootNode, IsTree};
+ghost use Rattle.tree_images.specs.Trees.{tree_pairs, IsRootNode, IsTree};
 ghost use Rattle.key_order.specs.Keys.{AllReadable, seen_by};
 ghost use Rattle.key_order.specs.Pairs.{lookup};
 
 use crate::cursor::Cursor;
-use arena_api::Frozen;
+use frozen_api::Frozen;
 use entry_ref::EntryRef;
 use key_order::KeyOrder;
 use std::cmp::Ordering;

@@ -3,7 +3,7 @@ ghost use Rattle.image_base.specs.Records.{HasWord, word_at};
 ghost use Rattle.tree_search.specs.Examples.{tens, tens_references};
 
 use super::*;
-use arena_api::Frozen;
+use frozen_api::Frozen;
 use entry_ref::EntryRef;
 use key_order::NumberKey;
 

@@ -1,5 +1,5 @@
 use Rattle.std.proofs.Common.{ap}
-use Rattle.attr_images.specs.TreeFrames.{tree_pairs-same}
+use Rattle.tree_images.specs.ProofsForTrees.{tree_pairs-same}
 use Rattle.frozen_btree.proofs.HoldLemmas.{holds_commit, image_same}
 use Rattle.frozen_btree.proofs.unit.commit_tree.Goals as goal
 

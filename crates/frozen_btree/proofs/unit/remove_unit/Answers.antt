@@ -1,5 +1,5 @@
 use Rattle.std.proofs.Common.{ap, ◌∙◌}
-use Rattle.attr_images.specs.Trees.{tree_pairs}
+use Rattle.tree_images.specs.Trees.{tree_pairs}
 use Rattle.key_order.specs.Pairs.{take_out}
 use Rattle.frozen_btree.specs.Maps.{beside}
 use Rattle.frozen_btree.proofs.HoldLemmas.{nodes_used, holds_next, pairs_next}

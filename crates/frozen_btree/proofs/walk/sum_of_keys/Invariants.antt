@@ -1,5 +1,5 @@
 use Rattle.std.proofs.Common.{◌≡◌, ◌+◌, ◌%◌, length}
-use Rattle.attr_images.specs.Trees.{tree_pairs}
+use Rattle.tree_images.specs.Trees.{tree_pairs}
 use Rattle.tree_search.specs.Places.{IsAt, pairs_from}
 use Rattle.frozen_btree.specs.Maps.{key_sum}
 use Rattle.frozen_btree.proofs.walk.sum_of_keys.Given as goal

@@ -1,8 +1,8 @@
 use Rattle.std.proofs.Common.{Err, ◌≡◌, ◌<◌, ◌≤◌, ◌-◌, ◌++◌, ℕ, suc, List, [], ◌∷◌, length, get_or, take, drop, ◌*◌, true, sym, ap, subst, ◌∙◌, arith}
 use Rattle.std.specs.List.{AllByRecursion}
-use Rattle.attr_images.specs.Nodes.{node_keys, node_values}
-use Rattle.attr_images.specs.Trees.{pairs_below, IsNode}
-use Rattle.attr_images.proofs.TreeLemmas.{IsNode-form}
+use Rattle.tree_images.specs.Nodes.{node_keys, node_values}
+use Rattle.tree_images.specs.Trees.{pairs_below, IsNode}
+use Rattle.tree_images.proofs.TreeLemmas.{IsNode-form}
 use Rattle.key_order.specs.Keys.{seen_by, Ascends, AllReadable}
 use Rattle.tree_node.specs.Places.{IsPlace}
 use Rattle.tree_node.specs.Makes.{MakesNodes}

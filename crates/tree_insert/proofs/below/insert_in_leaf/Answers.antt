@@ -1,7 +1,7 @@
 use Rattle.std.proofs.Common.{◌≡◌, ◌<◌, ◌≤◌, ℕ, List, length, sym, ap, subst, ◌∙◌, arith}
 use Rattle.std.specs.List.{zip, AllByRecursion}
-use Rattle.attr_images.specs.Nodes.{node_keys, node_values}
-use Rattle.attr_images.proofs.TreeLemmas.{IsNode-form}
+use Rattle.tree_images.specs.Nodes.{node_keys, node_values}
+use Rattle.tree_images.proofs.TreeLemmas.{IsNode-form}
 use Rattle.key_order.specs.Keys.{seen_by}
 use Rattle.key_order.specs.Pairs.{put}
 use Rattle.tree_node.specs.Slots.{slot_pairs, IsInHand}

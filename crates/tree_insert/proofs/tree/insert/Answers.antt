@@ -1,6 +1,6 @@
 use Rattle.std.proofs.Common.{◌∙◌, Err, ◌≡◌, ◌<◌, ◌+◌, ◌*◌, ◌/◌, ℕ, suc, [], length, true, sym, ap, subst, arith}
 use Rattle.std.specs.List.{AllByRecursion}
-use Rattle.attr_images.specs.Trees.{pairs_below, IsNode, root_level}
+use Rattle.tree_images.specs.Trees.{pairs_below, IsNode, root_level}
 use Rattle.key_order.specs.Keys.{seen_by, Ascends, AllReadable}
 use Rattle.store_api.specs.Classes.{in_use}
 use Rattle.tree_frame.specs.Changes.{Drops, levels}

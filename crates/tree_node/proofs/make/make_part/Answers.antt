@@ -1,6 +1,6 @@
 use Rattle.std.proofs.Common.{◌≡◌, ◌-◌, ℕ, suc, List, length, get_or, sym, ap, subst, ◌∙◌, arith}
-use Rattle.attr_images.specs.Nodes.{node_words}
-use Rattle.attr_images.specs.Trees.{last_key}
+use Rattle.tree_images.specs.Nodes.{node_words}
+use Rattle.tree_images.specs.Trees.{last_key}
 use Rattle.store_api.specs.Ledgers.{Makes, MayDo}
 use Rattle.tree_node.specs.Makes.{MakesNode}
 use Rattle.tree_node.proofs.CountLemmas.{last_slot}

@@ -1,7 +1,7 @@
 use Rattle.std.proofs.Common.{◌≡◌, ◌<◌, ◌≤◌, ◌+◌, ◌-◌, ℕ, List, length, get_or, ap, subst, ◌∙◌, arith}
 use Rattle.image_base.specs.Records.{word_at}
-use Rattle.attr_images.specs.Nodes.{count_of}
-use Rattle.attr_images.specs.Trees.{pairs_below}
+use Rattle.tree_images.specs.Nodes.{count_of}
+use Rattle.tree_images.specs.Trees.{pairs_below}
 use Rattle.std.specs.List.{flat_map}
 use Rattle.std.proofs.lemmas.List.{take_all}
 use Rattle.tree_node.proofs.CountLemmas.{leaf_count, child_size, counted_more, count_within, counted_all}

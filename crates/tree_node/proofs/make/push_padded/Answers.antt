@@ -1,6 +1,6 @@
 use Rattle.std.proofs.Common.{◌≡◌, ℕ, zero, suc, ◌+◌, ◌-◌, ◌<◌, ◌≤◌, List, [], ◌∷◌, ◌++◌, length, get_or, slice_index, take, replicate, sym, ap, refl, ◌∙◌, append_assoc, arith, length-append}
 use Rattle.std.proofs.lemmas.List.{take_more, get_or_append_left, get_or-append_right, length-replicate}
-use Rattle.attr_images.specs.Nodes.{padded}
+use Rattle.tree_images.specs.Nodes.{padded}
 use Rattle.tree_node.proofs.make.push_padded.Goals.{then-i-slots, else-i-slots}
 use Rattle.tree_node.proofs.make.push_padded.Goals as goal
 

@@ -1,5 +1,5 @@
 use Rattle.std.proofs.Common.{◌≡◌, ◌++◌, take}
-use Rattle.attr_images.specs.Nodes.{padded}
+use Rattle.tree_images.specs.Nodes.{padded}
 use Rattle.tree_node.proofs.make.push_padded.Given as goal
 
 abbrev pub invariant-loop-i : goal.invariant-loop-i

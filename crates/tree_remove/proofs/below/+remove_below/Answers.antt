@@ -1,7 +1,7 @@
 use Rattle.std.proofs.Common.{◌≡◌, ℕ, suc, ◌-◌, ◌<◌, ◌≤◌, [], ◌∷◌, ◌++◌, length, true, sym, ap, subst, ◌∙◌, arith, Err}
 use Rattle.std.specs.Prelude.{IsSome}
-use Rattle.attr_images.specs.Nodes.{level_of}
-use Rattle.attr_images.specs.Trees.{pairs_below, IsNode, root_least}
+use Rattle.tree_images.specs.Nodes.{level_of}
+use Rattle.tree_images.specs.Trees.{pairs_below, IsNode, root_least}
 use Rattle.key_order.specs.Keys.{seen_by, Ascends, AllReadable}
 use Rattle.key_order.specs.Pairs.{lookup}
 use Rattle.tree_node.specs.Slots.{slot_pairs, IsInHand}

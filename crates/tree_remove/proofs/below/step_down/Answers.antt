@@ -1,8 +1,8 @@
 use Rattle.std.proofs.Common.{◌≡◌, ℕ, suc, ◌-◌, List, length, get_or, sym, ap, subst, ◌∙◌, arith}
 use Rattle.std.specs.Prelude.{IsSome}
 use Rattle.std.specs.List.{AllByRecursion}
-use Rattle.attr_images.specs.Nodes.{level_of}
-use Rattle.attr_images.specs.Trees.{pairs_below, IsNode}
+use Rattle.tree_images.specs.Nodes.{level_of}
+use Rattle.tree_images.specs.Trees.{pairs_below, IsNode}
 use Rattle.key_order.specs.Keys.{seen_by, Ascends, AllReadable}
 use Rattle.key_order.specs.Pairs.{lookup}
 use Rattle.tree_node.specs.Places.{IsSlot}

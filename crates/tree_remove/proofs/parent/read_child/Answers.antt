@@ -1,5 +1,5 @@
 use Rattle.std.proofs.Common.{ℕ, ◌-◌, ◌≤◌, List, length, get_or, sym, ap, subst, ◌∙◌, arith}
-use Rattle.attr_images.specs.Nodes.{used_of, level_of, node_keys, node_values}
+use Rattle.tree_images.specs.Nodes.{used_of, level_of, node_keys, node_values}
 use Rattle.tree_remove.proofs.ReadLemmas.{child-node, child-read, node-size, node-room, node-level}
 use Rattle.tree_remove.proofs.parent.read_child.Goals as goal
 

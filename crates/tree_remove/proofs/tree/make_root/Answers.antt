@@ -1,5 +1,5 @@
 use Rattle.std.proofs.Common.{◌≡◌, ◌≢◌, ℕ, suc, ◌-◌, ◌<◌, List, length, get_or, sym, ap, subst, ◌∙◌, arith, Err}
-use Rattle.attr_images.specs.Trees.{IsNode}
+use Rattle.tree_images.specs.Trees.{IsNode}
 use Rattle.tree_node.specs.Slots.{IsInHand}
 use Rattle.tree_remove.proofs.Results.{err_same}
 use Rattle.tree_remove.proofs.ReadLemmas.{node-size}

@@ -1,6 +1,6 @@
 use Rattle.std.proofs.Common.{◌≡◌, ℕ, suc, ◌+◌, ◌/◌, ◌<◌, length, sym, ap, subst, ◌∙◌, arith, Err}
 use Rattle.std.specs.Prelude.{IsSome}
-use Rattle.attr_images.specs.Trees.{pairs_below, root_level, root_least, IsNode}
+use Rattle.tree_images.specs.Trees.{pairs_below, root_level, root_least, IsNode}
 use Rattle.key_order.specs.Keys.{seen_by, Ascends, AllReadable}
 use Rattle.key_order.specs.Pairs.{lookup}
 use Rattle.tree_frame.specs.Changes.{levels}

@@ -1,6 +1,6 @@
 use Rattle.std.proofs.Common.{◌≡◌, ◌+◌, ◌<◌, sym, ap, subst, ◌∙◌, arith}
 use Rattle.image_base.specs.Records.{HasWord, word_at}
-use Rattle.attr_images.specs.Nodes.{level_of, used_of}
+use Rattle.tree_images.specs.Nodes.{level_of, used_of}
 use Rattle.tree_search.proofs.NodeLemmas.{has_word, room, slot-key}
 use Rattle.tree_search.proofs.node.first_slot.Goals as goal
 

@@ -1,6 +1,6 @@
 use Rattle.std.proofs.Common.{◌≡◌, ◌≢◌, ℕ, [], drop, None, Some, sym, ap, subst, ◌∙◌, true≢false}
 use Rattle.std.specs.declared.cmp.Ordering.TheVariants.{Less, Equal, Greater}
-use Rattle.attr_images.specs.Trees.{tree_pairs}
+use Rattle.tree_images.specs.Trees.{tree_pairs}
 use Rattle.key_order.specs.Keys.{seen_by}
 use Rattle.key_order.specs.Pairs.{choose, lookup, seek}
 use Rattle.tree_search.specs.Places.{pairs_from, first_key, first_value}

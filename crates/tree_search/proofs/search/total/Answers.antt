@@ -1,6 +1,6 @@
 use Rattle.std.proofs.Common.{◌≡◌, ◌<◌, [], ◌∙◌, arith}
-use Rattle.attr_images.specs.Nodes.{count_of}
-use Rattle.attr_images.proofs.TreeLemmas.{root_count}
+use Rattle.tree_images.specs.Nodes.{count_of}
+use Rattle.tree_images.proofs.TreeLemmas.{root_count}
 use Rattle.tree_search.proofs.PlaceLemmas.{leads-root, step-size, root-few}
 use Rattle.tree_search.proofs.search.total.Goals as goal
 

@@ -1,6 +1,6 @@
 use Rattle.std.proofs.Common.{arith}
 use Rattle.tree_search.proofs.ExampleLemmas.{tens_at, numbers_readable}
-use Rattle.attr_images.specs.Trees.{tree_pairs}
+use Rattle.tree_images.specs.Trees.{tree_pairs}
 use Rattle.tree_search.specs.Examples.{tens}
 use Rattle.tree_search.proofs.tests.a_key_is_sought_among_its_neighbours.Goals as goal
 

@@ -1,9 +1,9 @@
 use Rattle.std.proofs.Common.{◌∙◌, ap, sym, arith}
-use Rattle.record_map.specs.Maps.{seen}
+use Rattle.image_base.specs.Maps.{seen}
 use Rattle.entry_states.specs.Rows.{entries_of}
 use Rattle.entry_store.specs.declared.entry_store.EntryStore.{EntryStore}
 use Rattle.entry_store.specs.Standing.{class_of, records_of_classes}
-use Rattle.record_map.proofs.Steps.{one_more, next-buffer}
+use Rattle.image_base.proofs.Steps.{one_more, next-buffer}
 use Rattle.entry_store.proofs.Maps.{none-past}
 use Rattle.entry_store.proofs.entry_store.EntryStore.add_records.Goals as goal
 

@@ -1,7 +1,7 @@
 use Rattle.std.proofs.Common.{◌≤◌, ◌∙◌, subst}
 use Rattle.entry_states.specs.Rows.{entries_of}
 use Rattle.entry_store.specs.Standing.{class_of, records_of_classes}
-use Rattle.record_map.proofs.Steps.{all-before}
+use Rattle.image_base.proofs.Steps.{all-before}
 use Rattle.entry_store.proofs.Maps.{none-outside}
 use Rattle.entry_store.proofs.entry_store.EntryStore.records.Goals as goal
 

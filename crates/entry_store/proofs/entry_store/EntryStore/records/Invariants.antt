@@ -1,8 +1,8 @@
 use Rattle.std.proofs.Common.{◌≡◌, ℕ}
-use Rattle.record_map.specs.Maps.{seen}
+use Rattle.image_base.specs.Maps.{seen}
 use Rattle.entry_states.specs.Rows.{entries_of}
 use Rattle.entry_store.specs.Standing.{class_of, records_of_classes}
-use Rattle.record_map.specs.Before.{those_before}
+use Rattle.image_base.specs.Before.{those_before}
 use Rattle.entry_store.proofs.entry_store.EntryStore.records.Given as goal
 
 abbrev pub invariant-loop-buffer : goal.invariant-loop-buffer

@@ -1,7 +1,7 @@
 use Rattle.std.proofs.Common.{rules, ◌≡◌, ◌-◌, ◌<◌, ◌++◌, length, sym, ap, subst, ◌∙◌, arith}
 use Rattle.image_base.specs.Records.{HasWord, word_at}
-use Rattle.attr_images.specs.Nodes.{level_of, used_of}
-use Rattle.attr_images.specs.Trees.{pairs_below}
+use Rattle.tree_images.specs.Nodes.{level_of, used_of}
+use Rattle.tree_images.specs.Trees.{pairs_below}
 use Rattle.tree_search.specs.Places.{Leads, pairs_behind}
 use Rattle.tree_search.proofs.PlaceLemmas.{leads-length, leads-child, child-level, from-first, first-low, step-size, step-child, at-first}
 use Rattle.tree_search.proofs.cursor.Cursor.enter.Goals as goal

@@ -1,6 +1,6 @@
 use Rattle.std.proofs.Common.{◌≡◌, ◌++◌}
-use Rattle.attr_images.specs.Nodes.{level_of, used_of}
-use Rattle.attr_images.specs.Trees.{pairs_below}
+use Rattle.tree_images.specs.Nodes.{level_of, used_of}
+use Rattle.tree_images.specs.Trees.{pairs_below}
 use Rattle.tree_search.specs.Places.{Leads, pairs_behind}
 use Rattle.tree_search.proofs.cursor.Cursor.enter.Given as goal
 

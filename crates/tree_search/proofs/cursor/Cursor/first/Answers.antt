@@ -1,7 +1,7 @@
 use Rattle.std.proofs.Common.{◌<◌, ◌++◌, ap, sym, subst, ◌∙◌, arith}
 use Rattle.std.proofs.lemmas.List.{append-nil}
-use Rattle.attr_images.specs.Nodes.{level_of}
-use Rattle.attr_images.specs.Trees.{pairs_below}
+use Rattle.tree_images.specs.Nodes.{level_of}
+use Rattle.tree_images.specs.Trees.{pairs_below}
 use Rattle.tree_search.specs.Places.{Place, Leads, pairs_behind}
 use Rattle.tree_search.proofs.PlaceLemmas.{leads-root, root_pairs}
 use Rattle.tree_search.proofs.cursor.Cursor.first.Goals as goal

@@ -1,7 +1,7 @@
 use Rattle.std.proofs.Common.{rules, ◌≡◌, ◌+◌, ◌<◌, ◌≤◌, ◌++◌, ◌∷◌, suc, sym, ap, subst, ◌∙◌, arith}
 use Rattle.image_base.specs.Records.{word_at}
-use Rattle.attr_images.specs.Nodes.{level_of, used_of}
-use Rattle.attr_images.specs.Trees.{pairs_below}
+use Rattle.tree_images.specs.Nodes.{level_of, used_of}
+use Rattle.tree_images.specs.Trees.{pairs_below}
 use Rattle.tree_search.specs.Steps.{Step}
 use Rattle.tree_search.specs.Places.{Place, Leads, pairs_behind, pairs_from}
 use Rattle.tree_search.proofs.PlaceLemmas.{Climbs, climbs-leads, climbs-above, climbs-child, climbs-on, leads-length, leads-child, step-size, step-room, step-child}

@@ -1,7 +1,7 @@
 use Rattle.std.proofs.Common.{rules, ◌≡◌, ◌+◌, ◌-◌, ◌<◌, ◌≤◌, length, sym, ap, subst, ◌∙◌, arith, []}
 use Rattle.image_base.specs.Records.{HasWord, word_at}
-use Rattle.attr_images.specs.Nodes.{level_of, used_of}
-use Rattle.attr_images.specs.Trees.{pairs_below, tree_pairs, IsNode}
+use Rattle.tree_images.specs.Nodes.{level_of, used_of}
+use Rattle.tree_images.specs.Trees.{pairs_below, tree_pairs, IsNode}
 use Rattle.key_order.specs.Keys.{AllReadable, seen_by}
 use Rattle.tree_search.specs.Places.{Place}
 use Rattle.tree_search.specs.Slots.{IsFirstSlot}

@@ -1,6 +1,6 @@
 use Rattle.std.proofs.Common.{◌≡◌}
-use Rattle.attr_images.specs.Nodes.{level_of, used_of}
-use Rattle.attr_images.specs.Trees.{tree_pairs}
+use Rattle.tree_images.specs.Nodes.{level_of, used_of}
+use Rattle.tree_images.specs.Trees.{tree_pairs}
 use Rattle.tree_search.proofs.SeekLemmas.{Sought}
 use Rattle.tree_search.proofs.cursor.Cursor.seek.Given as goal
 

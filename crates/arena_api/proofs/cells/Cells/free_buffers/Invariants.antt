@@ -1,7 +1,0 @@
-use Rattle.std.proofs.Common.{◌≡◌}
-use Rattle.arena_api.specs.Works.{free_count}
-use Rattle.arena_api.specs.Cells.{buffers_in}
-use Rattle.arena_api.proofs.cells.Cells.free_buffers.Given as goal
-
-abbrev pub invariant-loop-buffer : goal.invariant-loop-buffer
-invariant-loop-buffer g l = l.count ≡ free_count (buffers_in l.self.table.items l.self.words) l.buffer

@@ -1,0 +1,119 @@
+//! Workloads for the benchmarks: each is run, and counts alone are printed.
+#![tactic(auto)]
+
+ghost use Rattle.std.specs.Prelude.{◌≤◌, IfOk};
+ghost use Rattle.store_api.specs.Ledgers.{IsNew};
+
+mod commit;
+mod round;
+mod store_run;
+mod tree_run;
+
+use crate::store_run::run_store;
+use crate::tree_run::{Order, TreeCounts, TreeLoad, run_tree};
+use mem_work::{MemWork, OneRecord};
+use entry_store::EntryStore;
+use frozen_btree::TreeLayout;
+use image_base::Layout;
+use std::alloc::{AllocError, Global};
+use std::process::ExitCode;
+use store_api::{Store, StoreError};
+
+/// What is run.
+#[derive(Clone, Copy, Debug)]
+enum Workload {
+    /// Units of a thousand entries, made and dropped.
+    Store { units: u64 },
+    /// A tree by number.
+    Tree(TreeLoad),
+}
+
+/// The workload that the words after the program's name ask for.
+fn workload_in(rt: &HostRuntime) -> Option<Workload> {
+    let mut words = std::env::args(rt).ok()?.skip(1);
+    let name = words.next()?;
+    if name.as_str() == "store" {
+        let units = words.next()?.parse::<u64>().ok()?;
+        return Some(Workload::Store { units });
+    }
+    if name.as_str() != "tree" {
+        return None;
+    }
+    let order = order_of(words.next()?.as_str())?;
+    let keys = words.next()?.parse::<u64>().ok()?;
+    let finds = words.next()?.parse::<u64>().ok()?;
+    let walks = words.next()?.parse::<u64>().ok()?;
+    let removes = words.next()?.parse::<u64>().ok()?;
+    Some(Workload::Tree(TreeLoad {
+        order,
+        keys,
+        finds,
+        walks,
+        removes,
+    }))
+}
+
+fn order_of(name: &str) -> Option<Order> {
+    match name {
+        "ascending" => Some(Order::Ascending),
+        "descending" => Some(Order::Descending),
+        "random" => Some(Order::Random),
+        _ => None,
+    }
+}
+
+/// A store over a memory of so many buffers of 65,536 words, of which nothing is made yet.
+fn new_store<L: Layout>(alloc: Global, buffers: u32) -> Result<EntryStore<MemWork<L>>, AllocError>
+    requires some { 1 ≤ buffers }
+    requires few { buffers ≤ 1023 }
+    ensures { IfOk result (λ s. IsNew (⟦<EntryStore<MemWork<L>> as Store>⟧.ledger s)) }
+{
+    let work = MemWork::<L>::create(alloc, buffers, 65536, 1)?;
+    match EntryStore::create(alloc, work) {
+        Ok(store) => Ok(store),
+        Err(_) => Err(AllocError),
+    }
+}
+
+/// The commits of a run over a store.
+fn commits_of(alloc: Global, units: u64) -> Result<u64, StoreError> {
+    match new_store::<OneRecord>(alloc, 8) {
+        Ok(mut store) => run_store(alloc, &mut store, units),
+        Err(_) => Err(StoreError::Memory),
+    }
+}
+
+/// The counts of a run over a tree, and how many nodes were made.
+fn counts_of(alloc: Global, load: &TreeLoad) -> Result<(TreeCounts, u64), StoreError> {
+    match new_store::<TreeLayout>(alloc, 16) {
+        Ok(store) => {
+            let (counts, store) = run_tree(store, load)?;
+            Ok((counts, store.made(34)))
+        }
+        Err(_) => Err(StoreError::Memory),
+    }
+}
+
+fn main(rt: HostRuntime) -> ExitCode {
+    let alloc = rt.alloc();
+    let told = match workload_in(&rt) {
+        Some(Workload::Store { units }) => match commits_of(alloc, units) {
+            Ok(commits) => println!(&rt; "units {units} commits {commits}"),
+            Err(_) => return ExitCode::from(1),
+        },
+        Some(Workload::Tree(load)) => match counts_of(alloc, &load) {
+            Ok((counts, nodes)) => println!(&rt;
+                "nodes {nodes} found {} walked {} left {}",
+                counts.found, counts.walked, counts.left
+            ),
+            Err(_) => return ExitCode::from(1),
+        },
+        None => println!(&rt;
+            "bench_work store UNITS, or tree ascending|descending|random KEYS FINDS WALKS REMOVES"
+        ),
+    };
+    match told {
+        Ok(()) => ExitCode::from(0),
+        Err(_) => ExitCode::from(1),
+    }
+}

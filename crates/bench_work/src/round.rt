@@ -1,0 +1,39 @@
+ghost use Rattle.std.specs.Prelude.{◌≡◌, ◌≤◌, true, false, OnOk};
+ghost use Rattle.bench_work.specs.Units.{UsesSame, Made};
+
+use entry_ref::EntryRef;
+use store_api::{Store, StoreError};
+use tree_frame::drop_nodes;
+
+/// One unit: makes so many entries of 34 words, drops them all, and is accepted.
+pub fn run_unit<S: Store>(
+    store: &mut S,
+    entries: &mut Vec<u32>,
+    count: u32,
+) -> Result<(), StoreError>
+    requires unit { (S.ledger store.old).unit ≡ false }
+    ensures unit { OnOk result ((S.ledger store.new).unit ≡ false) }
+    ensures used { OnOk result (UsesSame (S.ledger store.old) (S.ledger store.new)) }
+{
+    store.begin();
+    make_nodes(store, entries, count)?;
+    drop_nodes(store, entries);
+    store.accept();
+    Ok(())
+}
+
+/// Makes so many entries of 34 words.
+fn make_nodes<S: Store>(store: &mut S, entries: &mut Vec<u32>, count: u32) -> Result<(), StoreError>
+    requires unit { (S.ledger store.old).unit ≡ true }
+    ensures { OnOk result (Made (S.ledger store.old) (S.ledger store.new) entries.new.items) }
+{
+    entries.clear();
+    for n in 0..count {
+        let entry = store.make(34, &[u64::from(n), 1])?;
+        match entries.push(entry.raw()) {
+            Ok(()) => {}
+            Err(_) => return Err(StoreError::Memory),
+        }
+    }
+    Ok(())
+}

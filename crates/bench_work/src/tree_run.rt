@@ -1,0 +1,138 @@
+ghost use Rattle.std.specs.Prelude.{◌≡◌, ◌<◌, ◌≤◌, ◌+◌, length, IfOk, OnOk};
+ghost use Rattle.tree_images.specs.Trees.{IsRootNode};
+ghost use Rattle.store_api.specs.Ledgers.{IsNew};
+
+use frozen_api::Frozen;
+use entry_ref::EntryRef;
+use frozen_btree::{Cursor, NumberTree, TreeLayout};
+use store_api::{Store, StoreError};
+
+/// The order in which keys come.
+#[derive(Clone, Copy, Debug)]
+pub enum Order {
+    Ascending,
+    Descending,
+    Random,
+}
+
+impl Order {
+    ghost use Rattle.bench_work.specs.declared.tree_run.Order.TheVariants.{Ascending, Descending};
+
+    /// Key `i` of so many, each another.
+    pub fn key_at(self, i: u64, keys: u64) -> u64
+        ensures ascending { self ≡ Ascending → result ≡ i }
+        ensures descending { self ≡ Descending → i < keys → result + i + 1 ≡ keys }
+    {
+        match self {
+            Order::Ascending => i,
+            Order::Descending => keys.wrapping_sub(i).wrapping_sub(1),
+            Order::Random => i.wrapping_mul(0x9E37_79B9_7F4A_7C15),
+        }
+    }
+}
+
+/// How much of each is done.
+#[derive(Clone, Copy, Debug)]
+pub struct TreeLoad {
+    pub order: Order,
+    pub keys: u64,
+    pub finds: u64,
+    pub walks: u64,
+    pub removes: u64,
+}
+
+/// What was counted.
+#[derive(Clone, Copy, Debug)]
+pub struct TreeCounts {
+    pub found: u64,
+    pub walked: u64,
+    pub left: u32,
+}
+
+/// Puts the keys in, one after another.
+fn fill<S: Store<Layout = TreeLayout>>(
+    tree: &mut NumberTree<S>,
+    load: &TreeLoad,
+) -> Result<(), StoreError>
+    ensures { OnOk result (length tree.new.pairs ≤ length tree.old.pairs + load.now.keys) }
+{
+    for i in 0..load.keys {
+        tree.insert(load.order.key_at(i, load.keys), i)?;
+    }
+    Ok(())
+}
+
+/// How many of the keys that are looked up are there.
+fn found_in<S: Store<Layout = TreeLayout>>(tree: &mut NumberTree<S>, load: &TreeLoad) -> u64
+    ensures found { result ≤ load.now.finds }
+    ensures same { tree.new ≡ tree.old }
+{
+    let mut found: u64 = 0;
+    let mut i: u64 = 0;
+    for turn in 0..load.finds {
+        if tree.get(load.order.key_at(i, load.keys)).is_some() {
+            found += 1;
+        }
+        let next = i.wrapping_add(1);
+        i = if next < load.keys { next } else { 0 };
+    }
+    found
+}
+
+/// Takes keys out, one after another.
+fn take_out<S: Store<Layout = TreeLayout>>(
+    tree: &mut NumberTree<S>,
+    load: &TreeLoad,
+) -> Result<(), StoreError>
+    ensures { OnOk result (length tree.new.pairs ≤ length tree.old.pairs) }
+{
+    for i in 0..load.removes {
+        tree.remove(load.order.key_at(i, load.keys))?;
+    }
+    Ok(())
+}
+
+/// The sum of all keys and values of a tree, by one walk.
+fn walk<F: Frozen>(frozen: &mut F, root: EntryRef) -> u64
+    requires { 0 < root → IsRootNode (F.records frozen.old) root }
+    ensures { frozen.new ≡ frozen.old }
+{
+    let mut sum: u64 = 0;
+    let mut cursor = Cursor::first(frozen, root);
+    while !cursor.at_end() {
+        let key = cursor.key(frozen);
+        sum = sum.wrapping_add(key.wrapping_add(cursor.value(frozen)));
+        cursor.next(frozen);
+    }
+    sum
+}
+
+/// Inserts, finds, removes and full walks of a tree. The store is given back.
+pub fn run_tree<S: Store<Layout = TreeLayout> + Drop>(
+    store: S,
+    load: &TreeLoad,
+) -> Result<(TreeCounts, S), StoreError>
+    requires { IsNew (S.ledger store) }
+    ensures found { IfOk result (λ r. r.0.found ≤ load.now.finds) }
+    ensures left { IfOk result (λ r. r.0.left ≤ load.now.keys) }
+{
+    let mut tree = NumberTree::new(store);
+    fill(&mut tree, load)?;
+    let found = found_in(&mut tree, load);
+    take_out(&mut tree, load)?;
+    let left = tree.len();
+    let root = tree.root();
+    let mut store = tree.into_store();
+    let mut walked: u64 = 0;
+    for _ in 0..load.walks {
+        walked = walked.wrapping_add(walk(&mut store, root));
+    }
+    Ok((
+        TreeCounts {
+            found,
+            walked,
+            left,
+        },
+        store,
+    ))
+}

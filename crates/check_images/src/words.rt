@@ -1,0 +1,82 @@
+ghost use Rattle.std.specs.Prelude.{◌≡◌, ◌↔◌, ◌≤◌, ◌∷◌, length, map, OnOk, IfOk, IsTrue};
+ghost use Rattle.attr_images.specs.Words.{class_of, filled, items_of, unpacked, IsStoredList};
+ghost use Rattle.check_images.specs.Told.{Tells};
+
+use check_trees::{rest_of, word_at};
+use std::alloc::{AllocError, Global};
+
+const WIDTHS: [usize; 10] = [2, 4, 8, 16, 32, 64, 128, 256, 512, 1024];
+
+/// The least width that holds so many words, 1024 at most.
+fn class_of(count: usize) -> usize
+    ensures { result ≡ class_of count }
+{
+    for width in WIDTHS {
+        if count <= width {
+            return width;
+        }
+    }
+    1024
+}
+
+/// Puts zeros behind words, up to their width.
+fn fill(words: &mut Vec<u64>) -> Result<(), AllocError>
+    ensures { OnOk result (words.new.items ≡ filled words.old.items) }
+{
+    let width = class_of(words.len()).max(words.len());
+    words.resize(width, 0)?;
+    Ok(())
+}
+
+/// Whether a record is these words, and zeros up to their width.
+pub fn is_filled(mut front: Vec<u64>, words: &[u64]) -> Result<bool, AllocError>
+    ensures { IfOk result (λ same. IsTrue same ↔ (words.now ≡ filled front.items)) }
+{
+    fill(&mut front)?;
+    Ok(words == front.as_slice())
+}
+
+/// The items of a list that stands behind its count.
+pub fn items_of(words: &[u64]) -> &[u64]
+    ensures { result.now ≡ items_of words.now }
+{
+    let rest = rest_of(words);
+    let count = word_at(words, 0) as usize;
+    match rest.get(..count) {
+        Some(items) => items,
+        None => rest,
+    }
+}
+
+/// The items of a stored list, if the record is one of at most so many.
+pub fn read_list(alloc: Global, most: usize, words: &[u64]) -> Result<Option<&[u64]>, AllocError>
+    ensures { IfOk result (Tells (IsStoredList most words.now) (λ items. items.now ≡ items_of words.now)) }
+{
+    let items = items_of(words);
+    if items.is_empty() || items.len() > most {
+        return Ok(None);
+    }
+    let mut front = Vec::new(alloc);
+    front.push(items.len() as u64)?;
+    front.extend_from_slice(items)?;
+    if is_filled(front, words)? {
+        Ok(Some(items))
+    } else {
+        Ok(None)
+    }
+}
+
+/// The number and the weight that a word holds.
+pub fn unpack(word: u64) -> (u64, i32)
+    ensures { result ≡ unpacked word }
+{
+    let weight = (word % 4294967296) as u32;
+    (word / 4294967296, weight.cast_signed())
+}
+
+/// The numbers and weights that words hold.
+pub fn unpack_all(alloc: Global, words: &[u64]) -> Result<Vec<(u64, i32)>, AllocError>
+    ensures { IfOk result (λ list. list.items ≡ map unpacked words.now) }
+{
+    words.iter().map(|word| unpack(*word)).collect(alloc)
+}

@@ -1,0 +1,73 @@
+-- The tree at a root.
+use Rattle.std.proofs.Common.{◌≡◌, ◌≢◌, ℕ, zero, suc, ◌<◌, ◌≤◌, List, [], ◌++◌, refl, sym, ap, subst, ◌∙◌, arith}
+use Rattle.image_base.specs.Records.{Records}
+use Rattle.tree_images.specs.Nodes.{level_of}
+use Rattle.tree_images.specs.Trees.{pairs_below, tree_pairs, root_level, root_least, IsNode}
+use Rattle.check_trees.proofs.FaultLemmas.{fault_here, named_refutes}
+use Rattle.check_trees.proofs.KeyLemmas.{ascends-none, make_tree}
+use Rattle.check_trees.specs.Faults.{IsFault, IsNamed}
+use Rattle.check_trees.specs.Keys.{Ascends, IsTreeOf}
+use Rattle.check_trees.specs.Walks.{Refuses}
+use Rattle.check_trees.specs.declared.fault.NodeFault.TheVariants.{Level}
+use Rattle.check_trees.specs.declared.fault.TreeFault.{TreeFault}
+use Rattle.check_trees.specs.declared.fault.TreeFault.TheVariants.{Missing, Form}
+use Rattle.check_trees.specs.declared.keys.Keys.{Keys}
+
+-- root 0 is the empty tree
+pub empty_tree : (keys : Keys) (m : Records) (root : ℕ) → root ≡ 0 → IsTreeOf keys m root
+empty_tree keys m zero none = make_tree keys m 0 (λ some. absurd (omega arith)) (ascends-none keys m)
+empty_tree keys m (suc ref) none = absurd (omega arith)
+
+-- a root with no words
+pub root-missing : (keys : Keys) (m : Records) (root : ℕ) → 0 < root → m root ≡ [] → IsNamed keys m root (Missing root)
+root-missing keys m root some none = (some, fault_here keys m [] (root_least (root_level m root)) (root_level m root) root (Missing root) (refl, none))
+
+-- a root's level is at most 7
+pub root-high : (keys : Keys) (m : Records) (root : ℕ) → 0 < root → 7 < level_of (m root) → IsNamed keys m root (Form root Level)
+root-high keys m root some high =
+    let other : level_of (m root) ≢ root_level m root = λ same. omega arith in
+    (some, fault_here keys m [] (root_least (root_level m root)) (root_level m root) root (Form root Level) (refl, other))
+
+root_reads : (m : Records) (root level : ℕ) → level ≡ level_of (m root) → level ≤ 7 → root_level m root ≡ level
+root_reads m root level is low = omega arith
+
+module _ (keys : Keys) (m : Records) (root level : ℕ) (some : 0 < root) (is : level ≡ level_of (m root)) (low : level ≤ 7) where
+  root_pairs : tree_pairs m root ≡ pairs_below m level root
+  root_pairs = go root some refl
+    where
+      go : (r : ℕ) → 0 < r → r ≡ root → tree_pairs m root ≡ pairs_below m level root
+      go zero none e = absurd (omega arith)
+      go (suc r) more e = subst (λ q. tree_pairs m q ≡ pairs_below m level q) e (ap (λ l. pairs_below m l (suc r)) (root_reads m (suc r) level (is ∙ ap (λ q. level_of (m q)) (sym e)) low))
+
+  pub root-pairs : (pairs : List (ℕ × ℕ)) → pairs ≡ [] ++ pairs_below m level root → pairs ≡ tree_pairs m root
+  root-pairs pairs found = found ∙ sym root_pairs
+
+  pub root-tree : (pairs : List (ℕ × ℕ)) → IsNode m (root_least level) level root → pairs ≡ [] ++ pairs_below m level root → Ascends keys m pairs → IsTreeOf keys m root
+  root-tree pairs node found up =
+      make_tree keys m root
+      (λ more. subst (λ l. IsNode m (root_least l) l root) (sym (root_reads m root level is low)) node)
+      (subst (Ascends keys m) (found ∙ sym root_pairs) up)
+
+  pub root-fault : (fault : TreeFault) → IsFault keys m [] (root_least level) level root fault → IsNamed keys m root fault
+  root-fault fault here = (some, subst (λ l. IsFault keys m [] (root_least l) l root fault) (sym (root_reads m root level is low)) here)
+
+  -- what a walk from the root finds, behind no pairs
+  module _ (least : ℕ) (old : List (ℕ × ℕ)) (none : old ≡ []) (slots : least ≡ root_least level) where
+    found_behind : (pairs : List (ℕ × ℕ)) → pairs ≡ old ++ pairs_below m level root → pairs ≡ [] ++ pairs_below m level root
+    found_behind pairs found = found ∙ ap (λ ps. ps ++ pairs_below m level root) none
+
+    pub found-pairs : (pairs : List (ℕ × ℕ)) → pairs ≡ old ++ pairs_below m level root → pairs ≡ tree_pairs m root
+    found-pairs pairs found = root-pairs pairs (found_behind pairs found)
+
+    pub found-tree : (pairs : List (ℕ × ℕ)) → IsNode m least level root → pairs ≡ old ++ pairs_below m level root → Ascends keys m pairs → IsTreeOf keys m root
+    found-tree pairs node found up =
+        root-tree pairs (subst (λ n. IsNode m n level root) slots node) (found_behind pairs found) up
+
+    pub found-named : (fault : TreeFault) → IsFault keys m old least level root fault → IsNamed keys m root fault
+    found-named fault here =
+        root-fault fault
+        (subst (λ n. IsFault keys m [] n level root fault) slots
+        (subst (λ ps. IsFault keys m ps least level root fault) none here))
+
+    pub found-refused : (fault : TreeFault) → IsFault keys m old least level root fault → Refuses (IsTreeOf keys m root) fault
+    found-refused fault here = named_refutes keys m root fault (found-named fault here)

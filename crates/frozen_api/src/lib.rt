@@ -1,0 +1,24 @@
+//! Records that can be read: what every structure asks of the memory that it is read from.
+#![tactic(auto)]
+
+ghost use Rattle.std.specs.Prelude.{◌≡◌, ◌<◌, ◌^◌, ℕ, length};
+ghost use Rattle.image_base.specs.Records.{Records, HasWord, word_at};
+
+use entry_ref::EntryRef;
+
+/// Records that stay as they are.
+pub trait Frozen<const OFFSET_BITS: u32> {
+    /// By which the layout of an image is read.
+    ghost shape: { Self → ℕ };
+
+    ghost records: { Self → Records };
+
+    /// Word `i` of a record. Reading changes nothing.
+    fn word(&mut self, entry: EntryRef<OFFSET_BITS>, i: u32) -> u64
+        requires { HasWord (records self.old) entry i }
+        ensures value { result ≡ word_at (records self.old) entry.entry i }
+        ensures same { self.new ≡ self.old };
+
+    // a record's reference fits 32 bits
+    ghost references: { (s : Self) (r : ℕ) → 0 < length (records s r) → r < 2 ^ 32 };
+}

@@ -1,4 +1,0 @@
-pub mod PairLemmas
-pub mod PlaceLemmas
-pub mod RunLemmas
-pub mod CheckLemmas

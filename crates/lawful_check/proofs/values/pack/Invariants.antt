@@ -1,7 +1,0 @@
-use Rattle.std.proofs.Common.{◌≡◌, ◌+◌, ◌-◌, ◌/◌, ◌++◌, length}
-use Rattle.attr_images.specs.Values.{packed_bytes}
-use Rattle.lawful_check.proofs.values.pack.Given as goal
-
--- the words so far and those of the bytes that are left
-abbrev pub invariant-loop-i : goal.invariant-loop-i
-invariant-loop-i l = l.words.items ++ packed_bytes ((length l.bytes + 7) / 8 - l.i) l.rest ≡ packed_bytes ((length l.bytes + 7) / 8) l.bytes

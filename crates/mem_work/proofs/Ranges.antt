@@ -1,0 +1,147 @@
+-- The words of an entry are replaced all at once: they stand, and what stands elsewhere stays.
+use Rattle.std.proofs.Common.{◌≡◌, ◌≢◌, ℕ, suc, ◌+◌, ◌-◌, ◌*◌, ◌<◌, ◌≤◌, ◌⊎◌, inl, inr, true, cond, ◌&&◌, eqb, List, [], ◌++◌, length, get_or, take, drop, refl, sym, ap, subst, ◌∙◌, arith, length-take, length-drop, length-append}
+use Rattle.std.specs.List.{list_all}
+use Rattle.std.proofs.Math.ListN.{get_or-append, replicate}
+use Rattle.std.proofs.Math.Nat.{mul-le-mul_right}
+use Rattle.std.proofs.lemmas.List.{get_or-take, get_or-drop, get_or-append_right, get_or-replicate, length-replicate}
+use Rattle.std.proofs.lemmas.Bool.{cases_lt}
+use Rattle.std.proofs.lemmas.Grind.{same_number_lists}
+use Rattle.entry_ref.specs.References.{buffer_of, offset_of}
+use Rattle.image_base.specs.Places.{IsEntry}
+use Rattle.image_base.proofs.Apart.{apart, within}
+use Rattle.mem_work.specs.Cells.{width_in, begin_of, with_range, is_entry, standing, is_whole}
+use Rattle.mem_work.specs.Standing.{lacks, one_cell, not_first, is_entry-true, cond-same, and-same, length-standing, word-standing}
+use Rattle.mem_work.specs.Stamped.{whole-from}
+
+-- words in the place of others
+module _ (table : List ℕ) (p : ℕ) (ws : List ℕ) (n : ℕ) (long : length ws ≡ n) (fits : p + n ≤ length table) where
+  length-first : length (take p table) ≡ p
+  length-first = simp length-take (omega (arith, fits))
+
+  pub length-range : length (with_range table p ws) ≡ length table
+  length-range =
+      let rest : length (drop (p + length ws) table) ≡ length table - (p + length ws) = length-drop (p + length ws) table in
+      let last = length-append ws (drop (p + length ws) table) in
+      length-append (take p table) (ws ++ drop (p + length ws) table) ∙ omega (arith, length-first, rest, last, long, fits)
+
+  pub range-at : (i : ℕ) → i < n → get_or (with_range table p ws) (p + i) 0 ≡ get_or ws i 0
+  range-at i h =
+      let at : p + i - p ≡ i = omega arith in
+      get_or-append_right (take p table) (ws ++ drop (p + length ws) table) p (p + i) 0 length-first (omega arith)
+      ∙ ap (λ k. get_or (ws ++ drop (p + length ws) table) k 0) at ∙ get_or-append ws (drop (p + length ws) table) 0 i (omega (arith, h, long))
+
+  pub range-elsewhere : (k : ℕ) → (k < p) ⊎ (p + n ≤ k) → get_or (with_range table p ws) k 0 ≡ get_or table k 0
+  range-elsewhere k (inl h) = get_or-append (take p table) (ws ++ drop (p + length ws) table) 0 k (omega (arith, length-first, h)) ∙ get_or-take p table k 0 h
+  range-elsewhere k (inr h) =
+      let at : p + length ws + (k - p - length ws) ≡ k = omega (arith, h, long) in
+      get_or-append_right (take p table) (ws ++ drop (p + length ws) table) p k 0 length-first (omega (arith, h))
+      ∙ get_or-append_right ws (drop (p + length ws) table) (length ws) (k - p) 0 refl (omega (arith, h, long))
+      ∙ get_or-drop (p + length ws) table (k - p - length ws) 0 ∙ ap (λ m. get_or table m 0) at
+
+-- an entry lies among the words
+pub range-fits : (bits buffers words width r n : ℕ) → IsEntry bits buffers words width r → n ≡ buffers * words → begin_of bits words width r + width ≤ n
+range-fits bits buffers words width r n e room =
+    let more : suc (buffer_of bits r) * words ≤ buffers * words = mul-le-mul_right words e.inside in
+    let last = e.last in
+    omega arith
+
+-- the words of one entry are replaced
+module _ (table : List ℕ) (bits buffers words r width : ℕ) (is : width_in table words (buffer_of bits r) ≡ width) (e : IsEntry bits buffers words width r)
+    (ws : List ℕ) (long : length ws ≡ width) (room : length table ≡ buffers * words) where
+  place-fits : begin_of bits words width r + width ≤ length table
+  place-fits = range-fits bits buffers words width r (length table) e room
+
+  -- the widths stay
+  pub width-range : (b : ℕ) → width_in (with_range table (begin_of bits words width r) ws) words b ≡ width_in table words b
+  width-range b =
+      range-elsewhere table (begin_of bits words width r) ws width long place-fits (b * words)
+      (lacks (b * words) (begin_of bits words width r) width (λ j h same. not_first bits buffers words width r j b e h (sym same)))
+
+  -- no other entry has a place of it
+  range-apart : (ts vs : List ℕ) (q : ℕ) → length ts ≡ buffers * words → length vs ≡ width → q ≢ r → is_entry bits buffers words (width_in table words (buffer_of bits q)) q ≡ true
+      → take (width_in table words (buffer_of bits q)) (drop (begin_of bits words (width_in table words (buffer_of bits q)) q) (with_range ts (begin_of bits words width r) vs))
+      ≡ take (width_in table words (buffer_of bits q)) (drop (begin_of bits words (width_in table words (buffer_of bits q)) q) ts)
+  range-apart ts vs q whole size ne there =
+      let w = width_in table words (buffer_of bits q) in
+      let from = begin_of bits words w q in
+      let here = begin_of bits words width r in
+      let inside : here + width ≤ length ts = range-fits bits buffers words width r (length ts) e whole in
+      let same_long : length (with_range ts here vs) ≡ length ts = length-range ts here vs width size inside in
+      same_number_lists (take w (drop from (with_range ts here vs))) (take w (drop from ts)) (simp (length-take, length-drop) (omega (arith, same_long))) (λ k h.
+      let below : k < w = omega (arith, simp length-take at h) in
+      get_or-take w (drop from (with_range ts here vs)) k 0 below ∙ get_or-drop from (with_range ts here vs) k 0
+      ∙ range-elsewhere ts here vs width size inside (from + k) (lacks (from + k) here width (λ j less same.
+      ne (one_cell bits buffers words w width q r k j (is_entry-true bits buffers words w q there) e (λ b. ap (width_in table words) b ∙ is) below less same).0))
+      ∙ sym (get_or-take w (drop from ts) k 0 below ∙ get_or-drop from ts k 0))
+
+  -- and what stands elsewhere
+  pub standing-elsewhere : (q : ℕ) → q ≢ r → standing (with_range table (begin_of bits words width r) ws) bits buffers words q ≡ standing table bits buffers words q
+  unfolding standing
+  standing-elsewhere q ne =
+      ap (λ w. cond (is_entry bits buffers words w q) (take w (drop (begin_of bits words w q) (with_range table (begin_of bits words width r) ws))) []) (width-range (buffer_of bits q))
+      ∙ cond-same _ _ _ [] (range-apart table ws q room long ne)
+
+  -- the entry's words stand
+  pub standing-range : standing (with_range table (begin_of bits words width r) ws) bits buffers words r ≡ ws
+  standing-range =
+      let t = with_range table (begin_of bits words width r) ws in
+      let now : width_in t words (buffer_of bits r) ≡ width = width-range (buffer_of bits r) ∙ is in
+      let f : IsEntry bits buffers words (width_in t words (buffer_of bits r)) r = subst (λ w. IsEntry bits buffers words w r) (sym now) e in
+      let size = length-standing t bits buffers words r (length-range table (begin_of bits words width r) ws width long place-fits ∙ room) f in
+      same_number_lists _ ws (size ∙ now ∙ sym long) (λ k h.
+      let below : k < width_in t words (buffer_of bits r) = omega (arith, h, size) in
+      word-standing t bits buffers words r k f below ∙ ap (λ w. get_or t (begin_of bits words w r + k) 0) now
+      ∙ range-at table (begin_of bits words width r) ws width long place-fits k (omega (arith, below, now)))
+
+  -- beside each of them a number is put
+  module _ (stamps : List ℕ) (n : ℕ) (also : length stamps ≡ buffers * words) where
+    stamps-fit : begin_of bits words width r + width ≤ length stamps
+    stamps-fit = range-fits bits buffers words width r (length stamps) e also
+
+    stamp-at : (i : ℕ) → i < width → get_or (with_range stamps (begin_of bits words width r) (replicate width n)) (begin_of bits words width r + i) 0 ≡ n
+    stamp-at i h =
+        range-at stamps (begin_of bits words width r) (replicate width n) width (length-replicate width n) stamps-fit i h ∙ get_or-replicate width i n 0 h
+
+    -- whether another was stored whole stays
+    pub whole-elsewhere : (q : ℕ) → q ≢ r
+        → is_whole (with_range table (begin_of bits words width r) ws) (with_range stamps (begin_of bits words width r) (replicate width n)) bits buffers words n q ≡ is_whole table stamps bits buffers words n q
+    unfolding is_whole
+    whole-elsewhere q ne =
+        ap (λ w. is_entry bits buffers words w q && list_all (λ k. eqb k n) (take w (drop (begin_of bits words w q) (with_range stamps (begin_of bits words width r) (replicate width n))))) (width-range (buffer_of bits q))
+        ∙ and-same _ _ _ (λ there. ap (list_all (λ k. eqb k n)) (range-apart stamps (replicate width n) q also (length-replicate width n) ne there))
+
+    -- and the entry was
+    pub whole-range : is_whole (with_range table (begin_of bits words width r) ws) (with_range stamps (begin_of bits words width r) (replicate width n)) bits buffers words n r ≡ true
+    whole-range =
+        let t = with_range table (begin_of bits words width r) ws in
+        let s = with_range stamps (begin_of bits words width r) (replicate width n) in
+        let now : width_in t words (buffer_of bits r) ≡ width = width-range (buffer_of bits r) ∙ is in
+        whole-from t s bits buffers words n r (subst (λ w. IsEntry bits buffers words w r) (sym now) e) (λ i h.
+        ap (λ w. get_or s (begin_of bits words w r + i) 0) now ∙ stamp-at i (omega (arith, h, now)))
+
+    -- no number is beyond the highest
+    pub stamps-range : ((p : ℕ) → get_or stamps p 0 ≤ n) → (p : ℕ) → get_or (with_range stamps (begin_of bits words width r) (replicate width n)) p 0 ≤ n
+    stamps-range old p = elim (cases_lt p (begin_of bits words width r)) [
+      | inl h ↦ omega (arith, old p, range-elsewhere stamps (begin_of bits words width r) (replicate width n) width (length-replicate width n) stamps-fit p (inl h))
+      | inr h ↦ elim (cases_lt p (begin_of bits words width r + width)) [
+        | inl g ↦
+            (let at : begin_of bits words width r + (p - begin_of bits words width r) ≡ p = omega (arith, h) in
+            omega (
+              arith,
+              ap (λ k. get_or (with_range stamps (begin_of bits words width r) (replicate width n)) k 0) at,
+              stamp-at (p - begin_of bits words width r) (omega (arith, g, h)),
+            ))
+        | inr g ↦ omega (arith, old p, range-elsewhere stamps (begin_of bits words width r) (replicate width n) width (length-replicate width n) stamps-fit p (inr g))
+      ]
+    ]
+
+    -- those in a free buffer stay
+    pub unused-range : (m : ℕ) → ((b x : ℕ) → x < words → width_in table words b ≡ 0 → get_or stamps (b * words + x) 0 ≤ m)
+        → (b x : ℕ) → x < words → width_in (with_range table (begin_of bits words width r) ws) words b ≡ 0
+        → get_or (with_range stamps (begin_of bits words width r) (replicate width n)) (b * words + x) 0 ≤ m
+    unused-range m old b x below free =
+        let none : width_in table words b ≡ 0 = sym (width-range b) ∙ free in
+        let outside = lacks (b * words + x) (begin_of bits words width r) width (λ j h same.
+        let one = (apart words b (buffer_of bits r) x (offset_of bits r * width + j) below (within e j h).1 (omega (arith, same))).0 in
+        omega (arith, h, ap (width_in table words) one, none, is)) in
+        omega (arith, old b x below none, range-elsewhere stamps (begin_of bits words width r) (replicate width n) width (length-replicate width n) stamps-fit (b * words + x) outside)

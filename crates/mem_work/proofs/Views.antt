@@ -1,0 +1,243 @@
+-- What a work in memory knows, and which records it has, after each call.
+use Rattle.std.proofs.Common.{◌≡◌, ◌≢◌, ℕ, zero, suc, ◌+◌, ◌*◌, ◌<◌, ◌≤◌, inl, inr, true, false, cond, List, [], length, get_or, set, Option, Some, None, refl, sym, ap, subst, ◌∙◌, arith, get_or-set_same, get_or-set_other}
+use Rattle.std.specs.Option.{IfSome, IfNone}
+use Rattle.std.proofs.Math.Nat.{mul-le-mul_right}
+use Rattle.std.proofs.Math.ListN.{get_or-eq_default, replicate}
+use Rattle.std.proofs.lemmas.List.{get_or-replicate, length-replicate}
+use Rattle.std.proofs.lemmas.Bool.{false_from_ne_true, cases_eq, cases_lt, cond-false}
+use Rattle.entry_ref.specs.References.{buffer_of, offset_of}
+use Rattle.image_base.specs.Images.{no_image, words_at, image_of}
+use Rattle.image_base.proofs.Apart.{apart, within}
+use Rattle.image_base.specs.Places.{IsEntry}
+use Rattle.image_base.specs.Records.{Records, SameAt, AllThere}
+use Rattle.arena_api.specs.Works.{is_free}
+use Rattle.arena_api.specs.Calls.{next_image, with_stored, handed_out, published, AddsCommit, IsLowestFree, opened}
+use Rattle.mem_work.specs.Cells.{width_in, begin_of, standing, is_whole, stored_in, image_in, records_in, buffer_by, buffers_in, memory_view, sizes_of}
+use Rattle.mem_work.specs.Standing.{standing-entry, standing-other, whole-other, stored-store, width-store, cond-same, cell-below, word-standing}
+use Rattle.mem_work.specs.Stamped.{whole-first, is_stored}
+use Rattle.mem_work.specs.Reached.{words-found, image-same, lawful-kept, next_image-kept, same-from, there-among}
+use Rattle.mem_work.specs.Laws.{records-stand}
+use Rattle.mem_work.proofs.Handed.{none-from, width-other, buffers-handed, standing-handed, whole-handed, stored-handed}
+
+-- a layout, and words that its last root's image stands in
+module _ (reaches : ℕ → Records → ℕ → List ℕ) (lawful : ℕ → Records → ℕ → Type 0)
+    (present : (shape : ℕ) (m : Records) (root : ℕ) → lawful shape m root → AllThere (reaches shape m root) m)
+    (stays : (shape : ℕ) (m n : Records) (root : ℕ) → SameAt (reaches shape m root) m n → lawful shape m root → lawful shape n root × (reaches shape n root ≡ reaches shape m root))
+    (shape : ℕ) (table stamps : List ℕ) (bits buffers words last root : ℕ) (law : ∥ lawful shape (standing table bits buffers words) root ∥₁) where
+  -- a word of an entry that the last commit lacks is stored
+  module _ (r i v : ℕ) (e : IsEntry bits buffers words (width_in table words (buffer_of bits r)) r) (h : i < width_in table words (buffer_of bits r))
+      (unkept : words_at (image_in reaches shape table bits buffers words root) r ≡ []) where
+    kept-store : (q : ℕ) → 0 < length (words_at (image_in reaches shape table bits buffers words root) q)
+        → standing (set table (begin_of bits words (width_in table words (buffer_of bits r)) r + i) v) bits buffers words q ≡ standing table bits buffers words q
+    kept-store q some =
+        standing-other table bits buffers words r i e h v q (λ same. let none = ap (λ x. length (words_at (image_in reaches shape table bits buffers words root) x)) same ∙ ap length unkept in omega (arith, some, none))
+
+    pub lawful-store : ∥ lawful shape (standing (set table (begin_of bits words (width_in table words (buffer_of bits r)) r + i) v) bits buffers words) root ∥₁
+    lawful-store = lawful-kept reaches lawful present stays shape (standing table bits buffers words) _ root law kept-store
+
+    image-store : image_in reaches shape (set table (begin_of bits words (width_in table words (buffer_of bits r)) r + i) v) bits buffers words root ≡ image_in reaches shape table bits buffers words root
+    image-store = next_image-kept reaches lawful present stays shape (standing table bits buffers words) _ root law kept-store
+
+    pub view-store : length table ≡ buffers * words → length stamps ≡ buffers * words
+        → memory_view reaches shape (set table (begin_of bits words (width_in table words (buffer_of bits r)) r + i) v) (set stamps (begin_of bits words (width_in table words (buffer_of bits r)) r + i) (last + 1)) bits buffers words last root
+        ≡ record (memory_view reaches shape table stamps bits buffers words last root) { stored = with_stored (stored_in table stamps bits buffers words (last + 1)) r i v }
+    view-store room also = λ k. record (memory_view reaches shape table stamps bits buffers words last root) {
+      buffer = λ b. buffer_by (width-store table bits buffers words r i e h v b k);
+      commits = record { floor = last; last = last; image = λ n. image-store k };
+      stored = λ q j. stored-store table bits buffers words r i e h stamps v (last + 1) q j room also k;
+    }
+
+    pub records-store : (q : ℕ) → q ≢ r
+        → records_in reaches shape (set table (begin_of bits words (width_in table words (buffer_of bits r)) r + i) v) (set stamps (begin_of bits words (width_in table words (buffer_of bits r)) r + i) (last + 1)) bits buffers words last root q
+        ≡ records_in reaches shape table stamps bits buffers words last root q
+    records-store q ne =
+        ap (λ t. cond t (standing (set table (begin_of bits words (width_in table words (buffer_of bits r)) r + i) v) bits buffers words q) (words_at (image_in reaches shape (set table (begin_of bits words (width_in table words (buffer_of bits r)) r + i) v) bits buffers words root) q))
+        (whole-other table bits buffers words r i e h stamps v (last + 1) q ne)
+        ∙ ap (λ ws. cond (is_whole table stamps bits buffers words (last + 1) q) ws (words_at (image_in reaches shape (set table (begin_of bits words (width_in table words (buffer_of bits r)) r + i) v) bits buffers words root) q))
+        (standing-other table bits buffers words r i e h v q ne)
+        ∙ ap (λ image. cond (is_whole table stamps bits buffers words (last + 1) q) (standing table bits buffers words q) (words_at image q)) image-store
+
+  -- the numbers beside the words after a store
+  module _ (r i : ℕ) (e : IsEntry bits buffers words (width_in table words (buffer_of bits r)) r) (h : i < width_in table words (buffer_of bits r)) (also : length stamps ≡ buffers * words) where
+    pub stamps-store : ((p : ℕ) → get_or stamps p 0 ≤ last + 1) → (p : ℕ) → get_or (set stamps (begin_of bits words (width_in table words (buffer_of bits r)) r + i) (last + 1)) p 0 ≤ last + 1
+    stamps-store old p = elim (cases_eq p (begin_of bits words (width_in table words (buffer_of bits r)) r + i)) [
+      | inl same ↦
+          subst (λ q. get_or (set stamps (begin_of bits words (width_in table words (buffer_of bits r)) r + i) (last + 1)) q 0 ≤ last + 1) (sym same)
+          (omega (
+            arith,
+            get_or-set_same stamps (begin_of bits words (width_in table words (buffer_of bits r)) r + i) (last + 1) 0
+                (omega (arith, cell-below bits buffers words (width_in table words (buffer_of bits r)) r i e h, also)),
+          ))
+      | inr ne ↦ omega (arith, old p, get_or-set_other stamps _ p (last + 1) 0 ne)
+    ]
+
+    pub unused-store : (v : ℕ) → ((b x : ℕ) → x < words → width_in table words b ≡ 0 → get_or stamps (b * words + x) 0 ≤ last)
+        → (b x : ℕ) → x < words → width_in (set table (begin_of bits words (width_in table words (buffer_of bits r)) r + i) v) words b ≡ 0
+        → get_or (set stamps (begin_of bits words (width_in table words (buffer_of bits r)) r + i) (last + 1)) (b * words + x) 0 ≤ last
+    unused-store v old b x below free =
+        let none : width_in table words b ≡ 0 = sym (width-store table bits buffers words r i e h v b) ∙ free in
+        let ne : b * words + x ≢ begin_of bits words (width_in table words (buffer_of bits r)) r + i =
+        (λ same.
+        let w = width_in table words (buffer_of bits r) in
+        let one = (apart words b (buffer_of bits r) x (offset_of bits r * w + i) below (within e i h).1 (omega (arith, same))).0 in
+        omega (arith, h, ap (width_in table words) one, none)) in
+        omega (arith, old b x below none, get_or-set_other stamps _ (b * words + x) (last + 1) 0 ne)
+
+  -- a free buffer gets a width
+  module _ (b width : ℕ) (free : width_in table words b ≡ 0) (some : 0 < words) (inside : b * words < length table) (wide : 0 < width)
+      (room : length stamps ≡ buffers * words) (none : (x : ℕ) → x < words → get_or stamps (b * words + x) 0 ≤ last) where
+    none_stored : (x : ℕ) → x < words → get_or stamps (b * words + x) 0 ≢ last + 1
+    none_stored x h same = omega (arith, none x h, same)
+
+    kept-handed : (q : ℕ) → 0 < length (words_at (image_in reaches shape table bits buffers words root) q)
+        → standing (set table (b * words) width) bits buffers words q ≡ standing table bits buffers words q
+    kept-handed q there =
+        standing-handed table bits buffers words b width free some inside wide q (λ same.
+        let stands = words-found _ (standing table bits buffers words) root q there in
+        let length_is = ap length stands in
+        let at = (standing-entry table bits buffers words q 0 (omega (arith, there, length_is))).0.wide in
+        omega (arith, at, ap (width_in table words) same, free))
+
+    pub lawful-handed : ∥ lawful shape (standing (set table (b * words) width) bits buffers words) root ∥₁
+    lawful-handed = lawful-kept reaches lawful present stays shape (standing table bits buffers words) _ root law kept-handed
+
+    image-handed : image_in reaches shape (set table (b * words) width) bits buffers words root ≡ image_in reaches shape table bits buffers words root
+    image-handed = next_image-kept reaches lawful present stays shape (standing table bits buffers words) _ root law kept-handed
+
+    pub view-handed : memory_view reaches shape (set table (b * words) width) stamps bits buffers words last root
+        ≡ handed_out (memory_view reaches shape table stamps bits buffers words last root) b width
+    view-handed = λ k. record (memory_view reaches shape table stamps bits buffers words last root) {
+      buffer = λ a. buffers-handed table bits buffers words b width free some inside wide a k;
+      commits = record { floor = last; last = last; image = λ n. image-handed k };
+      stored = λ q i. stored-handed table bits buffers words b width free some inside wide stamps (last + 1) room none_stored q i k;
+    }
+
+    pub records-handed : (q : ℕ) → records_in reaches shape (set table (b * words) width) stamps bits buffers words last root q ≡ records_in reaches shape table stamps bits buffers words last root q
+    records-handed q =
+        ap (λ t. cond t (standing (set table (b * words) width) bits buffers words q) (words_at (image_in reaches shape (set table (b * words) width) bits buffers words root) q))
+        (whole-handed table bits buffers words b width free some inside wide stamps (last + 1) room none_stored q)
+        ∙ ap (λ image. cond (is_whole table stamps bits buffers words (last + 1) q) (standing (set table (b * words) width) bits buffers words q) (words_at image q)) image-handed
+        ∙ cond-same _ _ _ _ (λ is.
+        let e = (whole-first table stamps bits buffers words (last + 1) q room is).0 in
+        standing-handed table bits buffers words b width free some inside wide q (λ same. let at = e.wide in omega (arith, at, ap (width_in table words) same, free)))
+
+  -- a root is published
+  module _ (next : ℕ) (room : length stamps ≡ buffers * words) (old : (p : ℕ) → get_or stamps p 0 ≤ last + 1)
+      (law' : lawful shape (records_in reaches shape table stamps bits buffers words last root) next) where
+    same-read : SameAt (reaches shape (records_in reaches shape table stamps bits buffers words last root) next) (records_in reaches shape table stamps bits buffers words last root) (standing table bits buffers words)
+    same-read = same-from _ _ (standing table bits buffers words) (λ q among.
+        records-stand reaches shape table stamps bits buffers words last root q (there-among _ _ q (present shape (records_in reaches shape table stamps bits buffers words last root) next law') among))
+
+    both : lawful shape (standing table bits buffers words) next
+        × (image_in reaches shape table bits buffers words next ≡ next_image reaches shape (records_in reaches shape table stamps bits buffers words last root) next)
+    both = image-same reaches lawful present stays shape (records_in reaches shape table stamps bits buffers words last root) (standing table bits buffers words) next same-read law'
+
+    pub lawful-publish : ∥ lawful shape (standing table bits buffers words) next ∥₁
+    lawful-publish = ∣ both.0 ∣₁
+
+    none_whole : (q : ℕ) → is_whole table stamps bits buffers words (last + 1 + 1) q ≡ false
+    none_whole q = false_from_ne_true _ (λ is. let first = (whole-first table stamps bits buffers words (last + 1 + 1) q room is).1 in omega (arith, old (begin_of bits words (width_in table words (buffer_of bits q)) q + 0), first))
+
+    none_stored_yet : (q i : ℕ) → stored_in table stamps bits buffers words (last + 1 + 1) q i ≡ None
+    none_stored_yet q i = none-from _ (λ x is. let stamp = (is_stored table stamps bits buffers words (last + 1 + 1) q i x is).stamp in omega (arith, old (begin_of bits words (width_in table words (buffer_of bits q)) q + i), stamp))
+
+    pub records-publish : (q : ℕ) → records_in reaches shape table stamps bits buffers words (last + 1) next q
+        ≡ words_at (next_image reaches shape (records_in reaches shape table stamps bits buffers words last root) next) q
+    records-publish q = cond-false _ _ _ (none_whole q) ∙ ap (λ image. words_at image q) both.1
+
+    pub view-publish : memory_view reaches shape table stamps bits buffers words (last + 1) next
+        ≡ published (memory_view reaches shape table stamps bits buffers words last root) (memory_view reaches shape table stamps bits buffers words (last + 1) next).commits
+        (next_image reaches shape (records_in reaches shape table stamps bits buffers words last root) next)
+    view-publish = λ k. record (memory_view reaches shape table stamps bits buffers words (last + 1) next) { stored = λ q i. none_stored_yet q i k }
+
+    pub commit-publish : AddsCommit (memory_view reaches shape table stamps bits buffers words last root).commits (memory_view reaches shape table stamps bits buffers words (last + 1) next).commits
+        (next_image reaches shape (records_in reaches shape table stamps bits buffers words last root) next)
+    commit-publish = record { last = refl; image_is = both.1; rises = omega arith; within = omega arith; kept = λ n from to. absurd (omega arith) }
+
+  -- what a word of a record is
+  pub record-word : (r i : ℕ) → i < length (records_in reaches shape table stamps bits buffers words last root r)
+      → IsEntry bits buffers words (width_in table words (buffer_of bits r)) r × (i < width_in table words (buffer_of bits r))
+      × (get_or (records_in reaches shape table stamps bits buffers words last root r) i 0 ≡ get_or table (begin_of bits words (width_in table words (buffer_of bits r)) r + i) 0)
+  record-word r i h =
+      let stands = records-stand reaches shape table stamps bits buffers words last root r (omega arith) in
+      let at = standing-entry table bits buffers words r i (subst (λ ws. i < length ws) (sym stands) h) in
+      (at.0, at.1, ap (λ ws. get_or ws i 0) (sym stands) ∙ word-standing table bits buffers words r i at.0 at.1)
+
+  -- a buffer is handed out, or none is
+  module _ (width : ℕ) (wide : 0 < width) (some : 0 < words) (room : length table ≡ buffers * words) (also : length stamps ≡ buffers * words)
+      (unused : (b x : ℕ) → x < words → width_in table words b ≡ 0 → get_or stamps (b * words + x) 0 ≤ last) where
+    free-width : (w : ℕ) → is_free (buffer_by w) ≡ true → w ≡ 0
+    free-width zero free = refl
+    free-width (suc w) free = absurd (cc)
+
+    first-inside : (b : ℕ) → b < buffers → b * words < length table
+    first-inside b below =
+        let more : suc b * words ≤ buffers * words = mul-le-mul_right words below in
+        omega arith
+
+    pub hand_out-view : (o : Option ℕ) (t : List ℕ) → IfSome o (IsLowestFree (buffers_in table words) buffers) → IfSome o (λ b. t ≡ set table (b * words) width)
+        → IfSome o (λ b. memory_view reaches shape t stamps bits buffers words last root ≡ handed_out (memory_view reaches shape table stamps bits buffers words last root) b width)
+    hand_out-view None t low at = tt
+    hand_out-view (Some b) t low at =
+        let free = free-width _ low.free in
+        ap (λ (ws : List ℕ). memory_view reaches shape ws stamps bits buffers words last root) at
+        ∙ view-handed b width free some (first-inside b low.below) wide also (λ x h. unused b x h free)
+
+    pub hand_out-records : (o : Option ℕ) (t : List ℕ) → IfSome o (IsLowestFree (buffers_in table words) buffers) → IfSome o (λ b. t ≡ set table (b * words) width) → IfNone o (t ≡ table)
+        → records_in reaches shape t stamps bits buffers words last root ≡ records_in reaches shape table stamps bits buffers words last root
+    hand_out-records None t low at same = ap (λ (ws : List ℕ). records_in reaches shape ws stamps bits buffers words last root) same
+    hand_out-records (Some b) t low at same =
+        let free = free-width _ low.free in
+        ap (λ (ws : List ℕ). records_in reaches shape ws stamps bits buffers words last root) at
+        ∙ (λ k q. records-handed b width free some (first-inside b low.below) wide also (λ x h. unused b x h free) q k)
+
+    pub hand_out-lawful : (o : Option ℕ) (t : List ℕ) → IfSome o (IsLowestFree (buffers_in table words) buffers) → IfSome o (λ b. t ≡ set table (b * words) width) → IfNone o (t ≡ table)
+        → ∥ lawful shape (standing t bits buffers words) root ∥₁
+    hand_out-lawful None t low at same = subst (λ (ws : List ℕ). ∥ lawful shape (standing ws bits buffers words) root ∥₁) (sym same) law
+    hand_out-lawful (Some b) t low at same =
+        let free = free-width _ low.free in
+        subst (λ (ws : List ℕ). ∥ lawful shape (standing ws bits buffers words) root ∥₁) (sym at)
+        (lawful-handed b width free some (first-inside b low.below) wide also (λ x h. unused b x h free))
+
+    pub hand_out-unused : (o : Option ℕ) (t : List ℕ) → IfSome o (IsLowestFree (buffers_in table words) buffers) → IfSome o (λ b. t ≡ set table (b * words) width) → IfNone o (t ≡ table)
+        → (b x : ℕ) → x < words → width_in t words b ≡ 0 → get_or stamps (b * words + x) 0 ≤ last
+    hand_out-unused None t low at same b x h free = unused b x h (subst (λ (ws : List ℕ). width_in ws words b ≡ 0) same free)
+    hand_out-unused (Some a) t low at same b x h free =
+        unused b x h (elim (cases_eq b a) [
+          | inl e ↦ subst (λ k. width_in table words k ≡ 0) (sym e) (free-width _ low.free)
+          | inr ne ↦
+              sym (width-other table bits buffers words a width (free-width _ low.free) some (first-inside a low.below) wide b ne)
+              ∙ subst (λ (ws : List ℕ). width_in ws words b ≡ 0) at free
+        ])
+
+abbrev zeros : ℕ → List ℕ
+zeros n = replicate n 0
+
+length-zeros : (n : ℕ) → length (zeros n) ≡ n
+length-zeros n = length-replicate n 0
+
+-- at the start nothing is there
+module _ (reaches : ℕ → Records → ℕ → List ℕ) (empty : (shape : ℕ) (m : Records) → reaches shape m 0 ≡ []) (shape n bits buffers words : ℕ) (room : n ≡ buffers * words) where
+  zero-at : (i : ℕ) → get_or (zeros n) i 0 ≡ 0
+  zero-at i = elim (cases_lt i n) [
+    | inl h ↦ get_or-replicate n i 0 0 h
+    | inr h ↦ get_or-eq_default (zeros n) 0 (omega (arith, length-zeros n, h))
+  ]
+
+  no_image-opened : image_in reaches shape (zeros n) bits buffers words 0 ≡ no_image
+  no_image-opened = ap (λ refs. image_of refs (standing (zeros n) bits buffers words) 0) (empty shape (standing (zeros n) bits buffers words))
+
+  pub view-opened : memory_view reaches shape (zeros n) (zeros n) bits buffers words 0 0 ≡ opened tt (sizes_of buffers words) []
+  view-opened = λ k. record (opened tt (sizes_of buffers words) []) {
+    buffer = λ b. buffer_by (zero-at (b * words) k);
+    commits = record { floor = 0; last = 0; image = λ m. no_image-opened k };
+    stored = λ r i.
+        none-from (stored_in (zeros n) (zeros n) bits buffers words (0 + 1) r i) (λ x is.
+        let wide = (is_stored (zeros n) (zeros n) bits buffers words (0 + 1) r i x is).entry.wide in omega (arith, wide, zero-at (buffer_of bits r * words))) k;
+  }
+
+  pub records-opened : (r : ℕ) → records_in reaches shape (zeros n) (zeros n) bits buffers words 0 0 r ≡ []
+  records-opened r =
+      cond-false _ _ _ (false_from_ne_true _ (λ is.
+      let wide = (whole-first (zeros n) (zeros n) bits buffers words (0 + 1) r (length-zeros n ∙ room) is).0.wide in omega (arith, wide, zero-at (buffer_of bits r * words))))
+      ∙ ap (λ image. words_at image r) no_image-opened

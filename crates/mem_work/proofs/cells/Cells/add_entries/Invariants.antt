@@ -1,0 +1,13 @@
+use Rattle.std.proofs.Common.{◌≡◌, ◌≤◌, ℕ}
+use Rattle.image_base.specs.Maps.{seen}
+use Rattle.image_base.specs.Before.{those_before}
+use Rattle.mem_work.specs.Entries.{chosen}
+use Rattle.mem_work.proofs.cells.Cells.add_entries.Given as goal
+
+abbrev pub invariant-loop-offset : goal.invariant-loop-offset
+invariant-loop-offset g l =
+    let s = l.fn.self in
+    record {
+      seen : (q : ℕ) → seen l.map q ≡ those_before g.row.OFFSET_BITS (chosen l.number s.table.items s.stamps.items g.row.OFFSET_BITS s.buffers s.words) l.buffer l.offset q;
+      first : 1 ≤ l.offset;
+    }

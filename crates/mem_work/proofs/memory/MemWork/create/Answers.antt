@@ -1,0 +1,15 @@
+use Rattle.std.proofs.Common.{◌*◌, refl}
+use Rattle.mem_work.proofs.Views.{view-opened, records-opened}
+use Rattle.mem_work.proofs.memory.MemWork.create.Goals as goal
+
+pub returns-clause-knows : goal.returns-clause-knows
+returns-clause-knows g c =
+    let e = c.in_ok-cells.ensures in
+    rw (e.table, e.stamps, e.buffers, e.words, c.from_raw.ensures)
+    (view-opened g.L.Layout.reaches g.L.Layout.empty_reaches c.args.shape (c.args.buffers * c.args.words) g.row.OFFSET_BITS c.args.buffers c.args.words refl)
+
+pub returns-clause-records : goal.returns-clause-records
+returns-clause-records g c r =
+    let e = c.in_ok-cells.ensures in
+    rw (e.table, e.stamps, e.buffers, e.words, c.from_raw.ensures)
+    (records-opened g.L.Layout.reaches g.L.Layout.empty_reaches c.args.shape (c.args.buffers * c.args.words) g.row.OFFSET_BITS c.args.buffers c.args.words refl r)

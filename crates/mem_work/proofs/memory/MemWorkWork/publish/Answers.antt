@@ -1,0 +1,28 @@
+use Rattle.std.proofs.Common.{◌+◌, ◌*◌, sym, ◌∙◌, arith}
+use Rattle.mem_work.proofs.Views.{lawful-publish, view-publish, records-publish, commit-publish}
+use Rattle.mem_work.proofs.memory.MemWorkWork.publish.Goals as goal
+
+pub invariant_of-self : goal.invariant_of-self
+invariant_of-self g c =
+    let s = c.args.self.now in
+    record {
+      stamped = λ p. omega (arith, s.stamped p);
+      unused = λ b x below free. omega (arith, s.stamped (b * s.cells.words + x));
+      limit = omega (arith, c.requires.room);
+      lawful = lawful-publish g.L.Layout.reaches g.L.Layout.lawful g.L.Layout.present g.L.Layout.stays s.shape s.cells.table.items s.cells.stamps.items g.row.OFFSET_BITS s.cells.buffers s.cells.words s.last s.root s.lawful c.args.root (sym s.cells.stamps.ok.0 ∙ s.cells.stamped) s.stamped c.requires.lawful;
+    }
+
+pub returns-clause-commit : goal.returns-clause-commit
+returns-clause-commit g c =
+    let s = c.args.self.now in
+    commit-publish g.L.Layout.reaches g.L.Layout.lawful g.L.Layout.present g.L.Layout.stays s.shape s.cells.table.items s.cells.stamps.items g.row.OFFSET_BITS s.cells.buffers s.cells.words s.last s.root s.lawful c.args.root (sym s.cells.stamps.ok.0 ∙ s.cells.stamped) s.stamped c.requires.lawful
+
+pub returns-clause-knows : goal.returns-clause-knows
+returns-clause-knows g c =
+    let s = c.args.self.now in
+    view-publish g.L.Layout.reaches g.L.Layout.lawful g.L.Layout.present g.L.Layout.stays s.shape s.cells.table.items s.cells.stamps.items g.row.OFFSET_BITS s.cells.buffers s.cells.words s.last s.root s.lawful c.args.root (sym s.cells.stamps.ok.0 ∙ s.cells.stamped) s.stamped c.requires.lawful
+
+pub returns-clause-records : goal.returns-clause-records
+returns-clause-records g c =
+    let s = c.args.self.now in
+    λ k q. records-publish g.L.Layout.reaches g.L.Layout.lawful g.L.Layout.present g.L.Layout.stays s.shape s.cells.table.items s.cells.stamps.items g.row.OFFSET_BITS s.cells.buffers s.cells.words s.last s.root s.lawful c.args.root (sym s.cells.stamps.ok.0 ∙ s.cells.stamped) s.stamped c.requires.lawful q k

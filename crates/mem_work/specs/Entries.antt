@@ -1,0 +1,18 @@
+-- The entries of a memory: all, or those that were stored whole under one number.
+use Rattle.std.specs.Prelude.{ℕ, Bool, true, nat_eq, if◌then◌else◌, List, [], ◌∷◌, Option, Some, None}
+use Rattle.image_base.specs.Records.{Records}
+use Rattle.mem_work.specs.Cells.{standing, is_whole}
+
+-- whether each word of an entry was stored under this number, if one is given
+abbrev pub is_chosen : Option ℕ → List ℕ → List ℕ → ℕ → ℕ → ℕ → ℕ → Bool
+is_chosen None table stamps bits buffers words r = true
+is_chosen (Some number) table stamps bits buffers words r = is_whole table stamps bits buffers words number r
+
+-- those entries with their words
+abbrev pub chosen : Option ℕ → List ℕ → List ℕ → ℕ → ℕ → ℕ → Records
+chosen number table stamps bits buffers words r = if is_chosen number table stamps bits buffers words r then standing table bits buffers words r else []
+
+-- records with those of these references in their place
+abbrev pub with_those : List ℕ → Records → Records → Records
+with_those [] m n q = n q
+with_those (r ∷ rs) m n q = if nat_eq q r then m r else with_those rs m n q

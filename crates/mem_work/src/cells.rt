@@ -1,0 +1,147 @@
+ghost use Rattle.std.specs.Prelude.{◌≡◌, ◌↔◌, ◌<◌, ◌≤◌, ◌+◌, ◌*◌, ℕ, [], IsNone, IfSome, IfNone, IfOk, length, vec_len, slice_index, slice_set, replicate};
+ghost use Rattle.entry_ref.specs.References.{buffer_of, buffer_limit, offset_limit};
+ghost use Rattle.image_base.specs.Places.{IsEntry};
+ghost use Rattle.arena_api.specs.Works.{free_count};
+ghost use Rattle.arena_api.specs.Calls.{IsLowestFree, padded};
+ghost use Rattle.mem_work.specs.Cells.{width_in, begin_of, with_range, buffers_in};
+
+use entry_ref::EntryRef;
+use std::alloc::{AllocError, Global};
+
+/// The words of all buffers, each with the number under which it was last stored.
+#[derive(Drop)]
+pub struct Cells<const OFFSET_BITS: u32> {
+    pub buffers: u32,
+    pub words: u32,
+    pub table: Vec<u64>,
+    pub stamps: Vec<u64>,
+    ghost room: { vec_len table ≡ buffers * words },
+    ghost stamped: { vec_len stamps ≡ buffers * words },
+    ghost some_buffers: { 1 ≤ buffers },
+    ghost few_buffers: { buffers < buffer_limit OFFSET_BITS },
+    ghost some_words: { 8192 ≤ words },
+    ghost few_words: { words ≤ 65536 },
+    ghost offsets: { words ≤ offset_limit OFFSET_BITS },
+    ghost product: { buffers * words ≤ 67108864 },
+}
+
+impl<const OFFSET_BITS: u32> Cells<OFFSET_BITS> {
+    pub fn create(alloc: Global, buffers: u32, words: u32) -> Result<Self, AllocError>
+        requires some_buffers { 1 ≤ buffers }
+        requires few_buffers { buffers < buffer_limit OFFSET_BITS }
+        requires some_words { 8192 ≤ words }
+        requires few_words { words ≤ 65536 }
+        requires offsets { words ≤ offset_limit OFFSET_BITS }
+        requires product { buffers * words ≤ 67108864 }
+        ensures buffers { IfOk result (λ c. c.buffers ≡ buffers) }
+        ensures words { IfOk result (λ c. c.words ≡ words) }
+        ensures table { IfOk result (λ c. c.table.items ≡ replicate (buffers * words) 0) }
+        ensures stamps { IfOk result (λ c. c.stamps.items ≡ replicate (buffers * words) 0) }
+    {
+        let count = buffers as usize * words as usize;
+        let table = vec![in alloc; 0; count]?;
+        let stamps = vec![in alloc; 0; count]?;
+        Ok(Cells {
+            buffers,
+            words,
+            table,
+            stamps,
+        })
+    }
+
+    /// Where a word of an entry is.
+    fn place(&self, entry: EntryRef<OFFSET_BITS>, i: u32) -> usize
+        requires entry { IsEntry OFFSET_BITS self.now.buffers self.now.words (width_in self.now.table.items self.now.words (buffer_of OFFSET_BITS entry)) entry }
+        requires inside { i < width_in self.now.table.items self.now.words (buffer_of OFFSET_BITS entry) }
+        ensures place { result ≡ begin_of OFFSET_BITS self.now.words (width_in self.now.table.items self.now.words (buffer_of OFFSET_BITS entry.entry)) entry.entry + i }
+        ensures below { result < self.now.buffers * self.now.words }
+    {
+        let first = entry.buffer() as usize * self.words as usize;
+        let width = self.table[first] as usize;
+        first + entry.offset() as usize * width + i as usize
+    }
+
+    pub fn word(&self, entry: EntryRef<OFFSET_BITS>, i: u32) -> u64
+        requires entry { IsEntry OFFSET_BITS self.now.buffers self.now.words (width_in self.now.table.items self.now.words (buffer_of OFFSET_BITS entry)) entry }
+        requires inside { i < width_in self.now.table.items self.now.words (buffer_of OFFSET_BITS entry) }
+        ensures { result ≡ slice_index self.now.table.items
+            (begin_of OFFSET_BITS self.now.words (width_in self.now.table.items self.now.words (buffer_of OFFSET_BITS entry.entry)) entry.entry + i) }
+    {
+        self.table[self.place(entry, i)]
+    }
+
+    /// Stores a word under a number.
+    pub fn store(&mut self, entry: EntryRef<OFFSET_BITS>, i: u32, word: u64, number: u64)
+        requires entry { IsEntry OFFSET_BITS self.old.buffers self.old.words (width_in self.old.table.items self.old.words (buffer_of OFFSET_BITS entry)) entry }
+        requires inside { i < width_in self.old.table.items self.old.words (buffer_of OFFSET_BITS entry) }
+        ensures table { self.new.table.items ≡ slice_set self.old.table.items
+            (begin_of OFFSET_BITS self.old.words (width_in self.old.table.items self.old.words (buffer_of OFFSET_BITS entry.entry)) entry.entry + i) word }
+        ensures stamps { self.new.stamps.items ≡ slice_set self.old.stamps.items
+            (begin_of OFFSET_BITS self.old.words (width_in self.old.table.items self.old.words (buffer_of OFFSET_BITS entry.entry)) entry.entry + i) number }
+        ensures buffers { self.new.buffers ≡ self.old.buffers }
+        ensures words { self.new.words ≡ self.old.words }
+    {
+        let place = self.place(entry, i);
+        self.table[place] = word;
+        self.stamps[place] = number;
+    }
+
+    /// Stores the words of an entry, and zeros after them, under a number.
+    pub fn put(&mut self, entry: EntryRef<OFFSET_BITS>, width: u32, words: &[u64], number: u64)
+        requires entry { IsEntry OFFSET_BITS self.old.buffers self.old.words width entry }
+        requires fits { length words.now ≤ width }
+        ensures table { self.new.table.items ≡ with_range self.old.table.items (begin_of OFFSET_BITS self.old.words width entry.entry) (padded words.now width) }
+        ensures stamps { self.new.stamps.items ≡ with_range self.old.stamps.items (begin_of OFFSET_BITS self.old.words width entry.entry) (replicate width number) }
+        ensures buffers { self.new.buffers ≡ self.old.buffers }
+        ensures words { self.new.words ≡ self.old.words }
+    {
+        let buffer = entry.buffer() as usize * self.words as usize;
+        let first = buffer + entry.offset() as usize * width as usize;
+        let end = first + width as usize;
+        write_padded(&mut self.table[first..end], words);
+        self.stamps[first..end].fill(number);
+    }
+
+    /// Takes the free buffer of lowest number, by giving it a width.
+    pub fn hand_out(&mut self, width: u32) -> Option<u32>
+        requires { 0 < width }
+        ensures none { IsNone result ↔ (free_count (buffers_in self.old.table.items self.old.words) self.old.buffers ≡ 0) }
+        ensures lowest { IfSome result (IsLowestFree (buffers_in self.old.table.items self.old.words) self.old.buffers) }
+        ensures handed { IfSome result (λ b. self.new.table.items ≡ slice_set self.old.table.items (b * self.old.words) width) }
+        ensures refused { IfNone result (self.new.table.items ≡ self.old.table.items) }
+        ensures stamps { self.new.stamps.items ≡ self.old.stamps.items }
+        ensures buffers { self.new.buffers ≡ self.old.buffers }
+        ensures words { self.new.words ≡ self.old.words }
+    {
+        for buffer in 0..self.buffers {
+            let first = buffer as usize * self.words as usize;
+            if self.table[first] == 0 {
+                self.table[first] = u64::from(width);
+                return Some(buffer);
+            }
+        }
+        None
+    }
+
+    pub fn free_buffers(&self) -> u32
+        ensures { result ≡ free_count (buffers_in self.now.table.items self.now.words) self.now.buffers }
+    {
+        let mut count = 0;
+        for buffer in 0..self.buffers {
+            if self.table[buffer as usize * self.words as usize] == 0 {
+                count += 1;
+            }
+        }
+        count
+    }
+}
+
+/// The given words, and zeros after them.
+fn write_padded(row: &mut [u64], words: &[u64])
+    requires { length words.now ≤ length row.old }
+    ensures { row.new ≡ padded words.now (length row.old) }
+{
+    let (given, rest) = row.split_at_mut(words.len());
+    given.copy_from_slice(words);
+    rest.fill(0);
+}

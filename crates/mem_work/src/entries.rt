@@ -1,0 +1,126 @@
+ghost use Rattle.std.specs.Prelude.{◌≡◌, ◌≢◌, ◌<◌, ◌+◌, ℕ, IfOk, OnOk, [], nat_eq, take, drop};
+ghost use Rattle.std.specs.List.{list_all};
+ghost use Rattle.entry_ref.specs.References.{buffer_of};
+ghost use Rattle.image_base.specs.Places.{IsEntry};
+ghost use Rattle.image_base.specs.Before.{those_before};
+ghost use Rattle.image_base.specs.Maps.{seen};
+ghost use Rattle.mem_work.specs.Cells.{width_in, begin_of, standing};
+ghost use Rattle.mem_work.specs.Entries.{is_chosen, chosen};
+
+use crate::cells::Cells;
+use crate::reach::put_words;
+use entry_ref::EntryRef;
+use std::alloc::{AllocError, Global};
+use std::collections::BTreeMap;
+
+impl<const OFFSET_BITS: u32> Cells<OFFSET_BITS> {
+    /// Every entry with its words; where a number is given, those of which each word was stored under it.
+    pub fn entries(
+        &self,
+        alloc: Global,
+        number: Option<u64>,
+    ) -> Result<BTreeMap<u32, Vec<u64>>, AllocError>
+        ensures { IfOk result (λ map. (q : ℕ) → seen map q
+            ≡ chosen number self.now.table.items self.now.stamps.items OFFSET_BITS self.now.buffers self.now.words q) }
+    {
+        let mut map = BTreeMap::new(alloc);
+        for buffer in 0..self.buffers {
+            self.add_entries(alloc, buffer, number, &mut map)?;
+        }
+        Ok(map)
+    }
+
+    /// Adds the entries of a buffer to those of the buffers before it.
+    fn add_entries(
+        &self,
+        alloc: Global,
+        buffer: u32,
+        number: Option<u64>,
+        map: &mut BTreeMap<u32, Vec<u64>>,
+    ) -> Result<(), AllocError>
+        requires inside { buffer < self.now.buffers }
+        requires before { (q : ℕ) → seen map.old q ≡ those_before OFFSET_BITS
+            (chosen number self.now.table.items self.now.stamps.items OFFSET_BITS self.now.buffers self.now.words) buffer 0 q }
+        ensures entries { OnOk result ((q : ℕ) → seen map.new q ≡ those_before OFFSET_BITS
+            (chosen number self.now.table.items self.now.stamps.items OFFSET_BITS self.now.buffers self.now.words) (buffer + 1) 0 q) }
+    {
+        let width = self.width(buffer);
+        if width == 0 {
+            return Ok(());
+        }
+        let end = (self.words as usize / width) as u32;
+        for offset in 1..end {
+            self.add_entry(alloc, EntryRef::new(offset, buffer), number, map)?;
+        }
+        Ok(())
+    }
+
+    /// Adds an entry, if it is one of those asked for, to others.
+    fn add_entry(
+        &self,
+        alloc: Global,
+        entry: EntryRef<OFFSET_BITS>,
+        number: Option<u64>,
+        map: &mut BTreeMap<u32, Vec<u64>>,
+    ) -> Result<(), AllocError>
+        requires entry { IsEntry OFFSET_BITS self.now.buffers self.now.words (width_in self.now.table.items self.now.words (buffer_of OFFSET_BITS entry)) entry }
+        requires absent { seen map.old entry ≡ [] }
+        ensures here { OnOk result (seen map.new entry.entry
+            ≡ chosen number self.now.table.items self.now.stamps.items OFFSET_BITS self.now.buffers self.now.words entry.entry) }
+        ensures others { OnOk result ((q : ℕ) → q ≢ entry.entry → seen map.new q ≡ seen map.old q) }
+    {
+        if self.is_chosen(entry, number) {
+            put_words(alloc, entry.raw(), self.words_of(entry), map)?;
+        }
+        Ok(())
+    }
+
+    /// The width of a buffer's entries, 0 while it is free.
+    fn width(&self, buffer: u32) -> usize
+        requires { buffer < self.now.buffers }
+        ensures { result ≡ width_in self.now.table.items self.now.words buffer }
+    {
+        self.table[buffer as usize * self.words as usize] as usize
+    }
+
+    /// Whether an entry is one of those asked for.
+    fn is_chosen(&self, entry: EntryRef<OFFSET_BITS>, number: Option<u64>) -> bool
+        requires { IsEntry OFFSET_BITS self.now.buffers self.now.words (width_in self.now.table.items self.now.words (buffer_of OFFSET_BITS entry)) entry }
+        ensures { result ≡ is_chosen number self.now.table.items self.now.stamps.items OFFSET_BITS self.now.buffers self.now.words entry.entry }
+    {
+        match number {
+            Some(number) => all_are(self.stamps_of(entry), number),
+            None => true,
+        }
+    }
+
+    /// The words of an entry.
+    fn words_of(&self, entry: EntryRef<OFFSET_BITS>) -> &[u64]
+        requires { IsEntry OFFSET_BITS self.now.buffers self.now.words (width_in self.now.table.items self.now.words (buffer_of OFFSET_BITS entry)) entry }
+        ensures { result.now ≡ standing self.now.table.items OFFSET_BITS self.now.buffers self.now.words entry.entry }
+    {
+        let buffer = entry.buffer();
+        let width = self.width(buffer);
+        let first = buffer as usize * self.words as usize + entry.offset() as usize * width;
+        &self.table[first..first + width]
+    }
+
+    /// The numbers under which the words of an entry were stored.
+    fn stamps_of(&self, entry: EntryRef<OFFSET_BITS>) -> &[u64]
+        requires { IsEntry OFFSET_BITS self.now.buffers self.now.words (width_in self.now.table.items self.now.words (buffer_of OFFSET_BITS entry)) entry }
+        ensures { result.now ≡ take (width_in self.now.table.items self.now.words (buffer_of OFFSET_BITS entry.entry))
+            (drop (begin_of OFFSET_BITS self.now.words (width_in self.now.table.items self.now.words (buffer_of OFFSET_BITS entry.entry)) entry.entry) self.now.stamps.items) }
+    {
+        let buffer = entry.buffer();
+        let width = self.width(buffer);
+        let first = buffer as usize * self.words as usize + entry.offset() as usize * width;
+        &self.stamps[first..first + width]
+    }
+}
+
+/// Whether all numbers are this one.
+fn all_are(numbers: &[u64], number: u64) -> bool
+    ensures { result ≡ list_all (λ k. nat_eq k number) numbers.now }
+{
+    numbers.iter().all(|k| *k == number)
+}

@@ -1,0 +1,15 @@
+//! A memory without readers, which keeps the last commit alone.
+#![tactic(auto)]
+
+mod cells;
+mod entries;
+mod memory;
+mod one_record;
+mod reach;
+
+pub use memory::MemWork;
+pub use one_record::OneRecord;
+pub use reach::Reach;
+
+#[cfg(test)]
+mod tests;
