@@ -1,33 +1,35 @@
 -- A table after an operation, at what the program finds.
-use Rattle.std.proofs.Common.{◌≡◌, ℕ, List, Some, option_map, sym, ap, ◌∙◌, subst}
+use Rattle.std.proofs.Common.{◌≡◌, ℕ, Bool, List, [], ◌∷◌, Some, option_map, refl, sym, ap, subst}
 use Rattle.std.specs.Option.{option_and_then, unwrap_or}
 use Rattle.attr_types.proofs.TableLemmas.{step_keeps}
-use Rattle.attr_types.specs.Lawful.{IsLawfulTable, HasType, Fits}
-use Rattle.attr_types.specs.Table.{Table, items_at, with_document, changed, after_op}
-use Rattle.attr_types.specs.declared.items.Item.{Item}
-use Rattle.attr_types.specs.declared.kind.Kind.{Kind}
-use Rattle.attr_types.specs.declared.kind.ValueType.{ValueType}
-use Rattle.attr_types.specs.declared.op.Change.{Change}
+use Rattle.attr_types.specs.Lawful.{IsLawfulTable, HasType, OpFits}
+use Rattle.attr_types.specs.Table.{Table, document_at, with_document, to_update, updated, after_op}
+use Rattle.attr_types.specs.Value.{Document}
+use Rattle.attr_types.specs.declared.change.Change.{Change}
+use Rattle.attr_types.specs.declared.field.Field.{Field}
 use Rattle.attr_types.specs.declared.op.Op.{Op}
 use Rattle.attr_types.specs.declared.op.Op.TheVariants.{Update}
 use Rattle.attr_plain.specs.Plain.{Plain}
 
--- an update that finds the document and changes its items
-pub updated : (kind : Kind) (table : Table) (doc : ℕ) (change : Change) (items new : List Item)
-    → items_at table doc ≡ Some items
-    → changed kind change items ≡ Some new → after_op kind table (Update doc change) ≡ with_document table doc new
-updated kind table doc change items new found is =
-    ap (λ o. unwrap_or (option_map (with_document table doc) (option_and_then (changed kind change) o)) table) found
-    ∙ ap (λ o. unwrap_or (option_map (with_document table doc) o) table) is
+-- an update that has an answer
+pub after_update : (fields : List Field) (table : Table) (doc : ℕ) (create : Bool) (changes : List Change) (new : Document)
+    → option_and_then (updated fields changes) (to_update fields create (document_at table doc)) ≡ Some new
+    → after_op fields table (Update doc create changes) ≡ with_document table doc new
+after_update fields table doc create changes new is =
+    ap (λ o. unwrap_or (option_map (with_document table doc) o) table) is
 
 -- the fields of a plain table meet what is asked of the whole
-pub fits_within : (whole fields : Plain) (op : Op) → fields ≡ whole → Fits whole.kind whole.value_type op
-    → Fits fields.kind fields.value_type op
-fits_within whole fields op is fits = subst (λ (p : Plain). Fits p.kind p.value_type op) (sym is) fits
+pub fits_within : (whole inside : Plain) (op : Op) → inside ≡ whole → OpFits whole.fields op → OpFits inside.fields op
+fits_within whole inside op is fits = subst (λ (p : Plain). OpFits p.fields op) (sym is) fits
 
 -- what an operation makes of a lawful table is lawful
-pub after_keeps : (kind : Kind) (type : ValueType) (table new : Table) (op : Op) → Fits kind type op
-    → IsLawfulTable kind table × HasType type table
-    → new ≡ after_op kind table op → IsLawfulTable kind new × HasType type new
-after_keeps kind type table new op fits sound is =
-    subst (λ t. IsLawfulTable kind t × HasType type t) (sym is) (step_keeps kind type table op fits sound)
+pub after_keeps : (fields : List Field) (table new : Table) (op : Op) → OpFits fields op
+    → IsLawfulTable fields table × HasType fields table
+    → new ≡ after_op fields table op → IsLawfulTable fields new × HasType fields new
+after_keeps fields table new op fits sound is =
+    subst (λ t. IsLawfulTable fields t × HasType fields t) (sym is) (step_keeps fields table op fits sound)
+
+-- without changes nothing is left to do
+pub no_changes : (fields : List Field) (document : Document) → updated fields [] document ≡ Some []
+no_changes [] document = refl
+no_changes (field ∷ fields) document = refl

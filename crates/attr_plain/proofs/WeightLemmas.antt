@@ -5,11 +5,11 @@ use Rattle.std.specs.BTreeMap.{insert_entry}
 use Rattle.std.specs.List.{AllByRecursion}
 use Rattle.std.specs.List.Sorted.{IsStrictlySortedBy}
 use Rattle.std.specs.Ordering.{ordering_reverse}
-use Rattle.attr_types.proofs.SetLemmas.{entries_of-with_item}
+use Rattle.attr_types.proofs.ItemLemmas.{entries_of-with_item}
 use Rattle.attr_types.specs.Lawful.{AscendByValue}
-use Rattle.attr_types.specs.Table.{with_item, with_items}
+use Rattle.attr_types.specs.Change.{with_item, with_items}
 use Rattle.attr_types.specs.Value.{value_cmp, values_of}
-use Rattle.attr_types.specs.ValueOrder.{value_cmp_total}
+use Rattle.attr_types.specs.ProofsForOrder.{value_cmp_total}
 use Rattle.attr_types.specs.declared.items.Item.{Item}
 use Rattle.attr_types.specs.declared.value.Value.{Value}
 use Rattle.attr_plain.specs.Plain.{weights_of, put_weights}

@@ -7,7 +7,7 @@ use Rattle.attr_plain.specs.declared.table.Applied.{Applied}
 use Rattle.attr_plain.specs.declared.table.Applied.TheVariants.{Changed, Skipped}
 
 abbrev pub plain_after : Plain → Op → Plain
-plain_after plain op = record plain { table = after_op plain.kind plain.table op }
+plain_after plain op = record plain { table = after_op plain.fields plain.table op }
 
 abbrev pub answer_to : Plain → Op → Applied
-answer_to plain op = if is_skipped plain.kind plain.table op then Skipped else Changed
+answer_to plain op = if is_skipped plain.fields plain.table op then Skipped else Changed

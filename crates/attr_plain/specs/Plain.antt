@@ -3,15 +3,13 @@ use Rattle.std.specs.Prelude.{ℤ, List, [], ◌∷◌, map}
 use Rattle.std.specs.BTreeMap.{insert_entry}
 use Rattle.attr_types.specs.Table.{Table}
 use Rattle.attr_types.specs.Value.{value_cmp}
+use Rattle.attr_types.specs.declared.field.Field.{Field}
 use Rattle.attr_types.specs.declared.items.Item.{Item}
-use Rattle.attr_types.specs.declared.kind.Kind.{Kind}
-use Rattle.attr_types.specs.declared.kind.ValueType.{ValueType}
 use Rattle.attr_types.specs.declared.value.Value.{Value}
 
--- a table, and of what kind and value type it is
+-- a table, and the attributes that it keeps
 pub record Plain : Type 0 where
-  pub kind : Kind
-  pub value_type : ValueType
+  pub fields : List Field
   pub table : Table
 
 -- the weights of items by their values

@@ -1,8 +1,9 @@
 ghost use Rattle.std.specs.Prelude.{◌≡◌};
-ghost use Rattle.attr_types.specs.Query.{begins_with, is_from, is_up_to, meets, meets_some, matches};
-ghost use Rattle.attr_types.specs.Query.{all_match, some_match, tree_of, trees_of};
+ghost use Rattle.std.specs.List.{list_any};
+ghost use Rattle.attr_types.specs.Query.{begins_with, is_from, is_up_to, meets, meets_some, items_in, matches};
+ghost use Rattle.attr_types.specs.Query.{all_match, some_match, tree_of, trees_of, has_items};
 
-use attr_types::{Item, Items, Leaf, Query, Text, Value, compare};
+use attr_types::{FieldItems, Item, Items, Leaf, Query, Text, Value, compare};
 
 fn begins(value: &Value, prefix: &Text) -> bool
     ensures { result ≡ begins_with value.now prefix.now }
@@ -52,30 +53,45 @@ fn some_item_meets(leaf: &Leaf, items: &[Item]) -> bool
     items.iter().any(|item| meets_leaf(leaf, &item.value))
 }
 
-/// Whether a query matches a document by its items.
-pub fn matches_document(query: &Query, items: &Items) -> bool
-    ensures { result ≡ matches (tree_of query.now) items.now }
+fn some_item_in(field: u32, leaf: &Leaf, document: &[Items]) -> bool
+    ensures { result ≡ meets_some leaf.now (items_in document.now field) }
 {
-    matches_items(query, items.as_slice())
+    match document.get(field as usize) {
+        Some(items) => some_item_meets(leaf, items.as_slice()),
+        None => false,
+    }
+}
+
+fn has_some_item(document: &[Items]) -> bool
+    ensures { result ≡ list_any has_items document.now }
+{
+    document.iter().any(|items| !items.is_empty())
+}
+
+/// Whether a query matches a document.
+pub fn matches_document(query: &Query, document: &FieldItems) -> bool
+    ensures { result ≡ matches (tree_of query.now) document.now }
+{
+    does_match(query, document.as_slice())
 }
 
 #[cycle(matching)]
-fn matches_items(query: &Query, items: &[Item]) -> bool
-    ensures { result ≡ matches (tree_of query.now) items.now }
+fn does_match(query: &Query, document: &[Items]) -> bool
+    ensures { result ≡ matches (tree_of query.now) document.now }
 {
     match query {
-        Query::One(leaf) => some_item_meets(leaf, items),
-        Query::And(queries) => !items.is_empty() && all_members_match(queries, items),
-        Query::Or(queries) => some_member_matches(queries, items),
+        Query::One { field, leaf } => some_item_in(*field, leaf, document),
+        Query::And(queries) => has_some_item(document) && do_all_match(queries, document),
+        Query::Or(queries) => does_some_match(queries, document),
     }
 }
 
 #[cycle(matching)]
-fn all_members_match(queries: &Vec<Query>, items: &[Item]) -> bool
-    ensures { result ≡ all_match (trees_of queries.now.items) items.now }
+fn do_all_match(queries: &Vec<Query>, document: &[Items]) -> bool
+    ensures { result ≡ all_match (trees_of queries.now.items) document.now }
 {
     for query in queries {
-        if !matches_items(query, items) {
+        if !does_match(query, document) {
             return false;
         }
     }
@@ -83,11 +99,11 @@ fn all_members_match(queries: &Vec<Query>, items: &[Item]) -> bool
 }
 
 #[cycle(matching)]
-fn some_member_matches(queries: &Vec<Query>, items: &[Item]) -> bool
-    ensures { result ≡ some_match (trees_of queries.now.items) items.now }
+fn does_some_match(queries: &Vec<Query>, document: &[Items]) -> bool
+    ensures { result ≡ some_match (trees_of queries.now.items) document.now }
 {
     for query in queries {
-        if matches_items(query, items) {
+        if does_match(query, document) {
             return true;
         }
     }

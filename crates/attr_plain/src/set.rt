@@ -2,7 +2,7 @@
 ghost use Rattle.std.specs.Prelude.{◌≡◌, OnOk, IfOk};
 ghost use Rattle.std.specs.BTreeSet.{contains};
 ghost use Rattle.attr_types.specs.Lawful.{AscendByValue};
-ghost use Rattle.attr_types.specs.Table.{with_items, without_values, is_named};
+ghost use Rattle.attr_types.specs.Change.{with_items, without_values, is_named};
 ghost use Rattle.attr_types.specs.Value.{value_cmp};
 ghost use Rattle.attr_types.specs.declared.items.Item.{Item};
 ghost use Rattle.attr_plain.specs.Plain.{weights_of, put_weights};

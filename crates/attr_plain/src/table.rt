@@ -1,13 +1,13 @@
-ghost use Rattle.std.specs.Prelude.{◌≡◌, IfOk, OnOk, OnErr, []};
+ghost use Rattle.std.specs.Prelude.{◌≡◌, IfOk, OnOk, OnErr, [], option_and_then};
 ghost use Rattle.std.specs.List.Sorted.{IsStrictlyIncreasing};
-ghost use Rattle.attr_types.specs.Lawful.{Fits};
+ghost use Rattle.attr_types.specs.Lawful.{OpFits};
 ghost use Rattle.attr_types.specs.Query.{tree_of};
-ghost use Rattle.attr_types.specs.Table.{hits as hits_of};
+ghost use Rattle.attr_types.specs.Table.{hits as hits_of, updated, to_update, document_at};
 ghost use Rattle.attr_plain.specs.Answers.{plain_after, answer_to};
 
-use crate::change::changed_items;
+use crate::document::{empty_document, updated_document};
 use crate::matching::matches_document;
-use attr_types::{Change, Doc, DocList, Items, Kind, Op, Query, ValueType};
+use attr_types::{Doc, DocList, FieldChanges, FieldItems, Fields, Op, Query};
 use std::alloc::{AllocError, Global};
 use std::collections::BTreeMap;
 use std::marker::Model;
@@ -19,12 +19,11 @@ pub enum Applied {
     Skipped,
 }
 
-/// The table of an attribute.
+/// The table of some attributes.
 #[derive(Debug, Drop)]
 pub struct PlainTable {
-    kind: Kind,
-    value_type: ValueType,
-    documents: BTreeMap<Doc, Items>,
+    fields: Fields,
+    documents: BTreeMap<Doc, FieldItems>,
 }
 
 impl Model for PlainTable {
@@ -33,38 +32,32 @@ impl Model for PlainTable {
 
     ghost Value = { Plain };
 
-    ghost view = { λ p. record { kind = p.kind; value_type = p.value_type; table = p.documents.entries } };
+    ghost view = { λ p. record { fields = p.fields; table = p.documents.entries } };
 
-    ghost invariant = { λ p. IsLawfulTable p.kind p.documents.entries × HasType p.value_type p.documents.entries };
+    ghost invariant = { λ p. IsLawfulTable p.fields p.documents.entries × HasType p.fields p.documents.entries };
 }
 
 impl PlainTable {
     /// An empty table.
-    pub fn new(alloc: Global, kind: Kind, value_type: ValueType) -> PlainTable
-        ensures { result ≡ record { kind = kind; value_type = value_type; table = [] } }
+    pub fn new(alloc: Global, fields: Fields) -> PlainTable
+        ensures { result ≡ record { fields = fields; table = [] } }
     {
         PlainTable {
-            kind,
-            value_type,
+            fields,
             documents: BTreeMap::new(alloc),
         }
     }
 
-    pub fn kind(&self) -> Kind
-        ensures { result ≡ self.now.kind }
+    /// The attributes that it keeps.
+    pub fn fields(&self) -> &Fields
+        ensures { result.now ≡ self.now.fields }
     {
-        self.kind
-    }
-
-    pub fn value_type(&self) -> ValueType
-        ensures { result ≡ self.now.value_type }
-    {
-        self.value_type
+        &self.fields
     }
 
     /// Applies an operation. Where memory runs out the table is as it was.
     pub fn apply(&mut self, alloc: Global, op: Op) -> Result<Applied, AllocError>
-        requires { Fits self.old.kind self.old.value_type op }
+        requires { OpFits self.old.fields op }
         ensures table { OnOk result (self.new ≡ plain_after self.old op) }
         ensures skipped { IfOk result (λ applied. applied ≡ answer_to self.old op) }
         ensures err { OnErr result (self.new ≡ self.old) }
@@ -74,7 +67,11 @@ impl PlainTable {
                 self.documents.insert(doc, items)?;
                 Ok(Applied::Changed)
             }
-            Op::Update { doc, change } => self.update(alloc, doc, change),
+            Op::Update {
+                doc,
+                create,
+                change,
+            } => self.update(alloc, doc, create, change),
             Op::Remove { doc } => Ok(match self.documents.remove(&doc) {
                 Some(_) => Applied::Changed,
                 None => Applied::Skipped,
@@ -82,21 +79,44 @@ impl PlainTable {
         }
     }
 
-    fn update(&mut self, alloc: Global, doc: Doc, change: Change) -> Result<Applied, AllocError>
-        requires { Fits self.old.kind self.old.value_type (Op.Update doc change) }
-        ensures table { OnOk result (self.new ≡ plain_after self.old (Op.Update doc change)) }
-        ensures skipped { IfOk result (λ applied. applied ≡ answer_to self.old (Op.Update doc change)) }
+    fn update(
+        &mut self,
+        alloc: Global,
+        doc: Doc,
+        create: bool,
+        change: FieldChanges,
+    ) -> Result<Applied, AllocError>
+        requires { OpFits self.old.fields (Op.Update doc create change) }
+        ensures table { OnOk result (self.new ≡ plain_after self.old (Op.Update doc create change)) }
+        ensures skipped { IfOk result (λ applied. applied ≡ answer_to self.old (Op.Update doc create change)) }
         ensures err { OnErr result (self.new ≡ self.old) }
     {
-        let Some(items) = self.documents.get(&doc) else {
-            return Ok(Applied::Skipped);
-        };
-        match changed_items(alloc, self.kind, change, items)? {
+        match self.next_document(alloc, doc, create, change)? {
             Some(new) => {
                 self.documents.insert(doc, new)?;
                 Ok(Applied::Changed)
             }
             None => Ok(Applied::Skipped),
+        }
+    }
+
+    fn next_document(
+        &self,
+        alloc: Global,
+        doc: Doc,
+        create: bool,
+        change: FieldChanges,
+    ) -> Result<Option<FieldItems>, AllocError>
+        ensures { IfOk result (λ new. new ≡ option_and_then (updated self.now.fields change) (to_update self.now.fields create (document_at self.now.table doc))) }
+    {
+        let fields = self.fields.as_slice();
+        match self.documents.get(&doc) {
+            Some(document) => updated_document(alloc, fields, change, document.as_slice()),
+            None if create => {
+                let empty = empty_document(alloc, fields)?;
+                updated_document(alloc, fields, change, empty.as_slice())
+            }
+            None => Ok(None),
         }
     }
 
@@ -111,14 +131,14 @@ impl PlainTable {
 
 fn scan(
     alloc: Global,
-    documents: &BTreeMap<Doc, Items>,
+    documents: &BTreeMap<Doc, FieldItems>,
     query: &Query,
 ) -> Result<DocList, AllocError>
     ensures { IfOk result (λ docs. docs ≡ hits_of (tree_of query.now) documents.now.entries) }
 {
     let mut hits = DocList::new(alloc);
-    for (doc, items) in documents {
-        if matches_document(query, items) {
+    for (doc, document) in documents {
+        if matches_document(query, document) {
             hits.push(*doc)?;
         }
     }

@@ -1,6 +1,6 @@
 use Rattle.std.proofs.Common.{◌≡◌}
 use Rattle.std.specs.BTreeSet.{contains}
-use Rattle.attr_types.specs.Table.{is_named}
+use Rattle.attr_types.specs.Change.{is_named}
 use Rattle.attr_types.specs.Value.{value_cmp}
 use Rattle.attr_types.specs.declared.items.Item.{Item}
 use Rattle.attr_plain.proofs.set.set_of.Given as goal

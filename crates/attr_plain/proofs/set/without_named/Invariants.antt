@@ -1,5 +1,5 @@
 use Rattle.std.proofs.Common.{◌≡◌, take}
-use Rattle.attr_types.specs.Table.{without_values}
+use Rattle.attr_types.specs.Change.{without_values}
 use Rattle.attr_plain.proofs.set.without_named.Given as goal
 
 abbrev pub invariant-loop-item : goal.invariant-loop-item

@@ -7,8 +7,8 @@ use Rattle.attr_plain.proofs.table.PlainTable.hits.Goals as goal
 
 pub returns-clause-ascend : goal.returns-clause-ascend
 returns-clause-ascend c =
-    let fields = c.self.inside in
+    let inside = c.self.inside in
     IfOk-weaker c.scan.result _ _
     (λ docs is. subst (λ (xs : List ℕ). IsStrictlyIncreasing xs) (sym is)
-    (hits_ascend (tree_of c.args.query.now) fields.kind fields.documents.entries c.self.invariant.0))
+    (hits_ascend (tree_of c.args.query.now) inside.fields inside.documents.entries c.self.invariant.0))
     c.scan.ensures

@@ -1,19 +1,18 @@
-use Rattle.std.proofs.Common.{◌∙◌, sym}
-use Rattle.attr_types.proofs.EntryLemmas.{all-lookup}
-use Rattle.attr_types.specs.Lawful.{IsLawfulItems}
+use Rattle.std.proofs.Common.{◌≡◌, ◌∙◌, sym, subst, Some}
+use Rattle.std.specs.Option.{option_and_then}
+use Rattle.attr_types.specs.Table.{updated, to_update, document_at}
 use Rattle.attr_types.specs.declared.op.Op.TheVariants.{Update}
-use Rattle.attr_plain.proofs.TableSteps.{updated, fits_within, after_keeps}
+use Rattle.attr_plain.proofs.TableSteps.{after_update, fits_within, after_keeps}
 use Rattle.attr_plain.proofs.table.PlainTable.update.Goals as goal
+use Rattle.attr_plain.specs.Plain.{Plain}
 
-pub changed_items-requires : goal.changed_items-requires
-changed_items-requires c =
-    all-lookup (IsLawfulItems c.self.inside.kind) _ c.self.inside.documents.entries c.self.invariant.0.items c.in-Some.items.now (sym c.in-Some.ensures.value)
-
-pub invariant_of-self-in-Some-2 : goal.invariant_of-self-in-Some-2
-invariant_of-self-in-Some-2 c =
-    let fields = c.self.inside in
-    let table = fields.documents.entries in
-    let op = Update c.args.doc c.args.change in
-    let is = updated fields.kind table c.args.doc c.args.change c.in-Some.items.now c.in-Some-2.new (sym c.in-Some.ensures.value) (sym c.in_ok-new.ensures ∙ c.in-Some-2.is) in
-    after_keeps fields.kind fields.value_type table c.insert.new.self.entries op (fits_within c.args.self.now _ op c.self.view_is c.requires) c.self.invariant
-    (c.in_ok-insert-in-Some-2.ensures.entries ∙ sym is)
+pub invariant_of-self-in-Some : goal.invariant_of-self-in-Some
+invariant_of-self-in-Some c =
+    let inside = c.self.inside in
+    let table = inside.documents.entries in
+    let op = Update c.args.doc c.args.create c.args.change in
+    let found = subst (λ (p : Plain). option_and_then (updated p.fields c.args.change) (to_update p.fields c.args.create (document_at p.table c.args.doc)) ≡ Some c.in-Some.new)
+    (sym c.self.view_is) (sym c.in_ok-new.ensures ∙ c.in-Some.is) in
+    let is = after_update inside.fields table c.args.doc c.args.create c.args.change c.in-Some.new found in
+    after_keeps inside.fields table c.insert.new.self.entries op (fits_within c.args.self.now _ op c.self.view_is c.requires) c.self.invariant
+    (c.in_ok-insert-in-Some.ensures.entries ∙ sym is)
