@@ -11,15 +11,15 @@ use Rattle.clap.specs.Kinds.{Kinds}
 use Rattle.clap.specs.declared.error.kind.ErrorKind.TheVariants as kinds
 use Rattle.attr_types.specs.Query.{QueryTree}
 use Rattle.attr_types.specs.declared.error.QueryError.{QueryError}
-use Rattle.attr_types.specs.declared.kind.Kind.{Kind}
-use Rattle.attr_types.specs.declared.kind.ValueType.{ValueType}
+use Rattle.attr_types.specs.declared.field.Field.{Field}
 use Rattle.attr_words.specs.CommandLine.{attr_app}
 use Rattle.attr_words.specs.Reading.{Given, AreTaken, RangesHold, IsInRange, settings_of}
 use Rattle.query_text.specs.Grammar.{Answers}
 use Rattle.query_text.specs.Laws.{ReadsByGrammar}
 use Rattle.query_text.specs.Parsing.{query_of}
 use Rattle.attr_run.specs.Run.{◌>>=◌, Run, or_refused, settings_by, settings_in, kind_named}
-use Rattle.attr_run.specs.Run.{value_named, query_or_refused, queries_from, run_of, asked}
+use Rattle.attr_run.specs.Run.{value_named, query_or_refused, queries_from, field_of, run_of}
+use Rattle.attr_run.specs.Run.{asked}
 use Rattle.attr_run.specs.Settings.{query_texts, IsTextOf, IsAskedBy, RunsAreAsked}
 use Rattle.attr_run.specs.declared.outcome.Status.{Status}
 use Rattle.attr_run.specs.declared.outcome.Status.TheVariants.{Usage}
@@ -44,20 +44,20 @@ read_ok : (number : ℕ) (r : Result QueryTree QueryError) (query : QueryTree) �
 read_ok number (Ok query) other is = ap (λ (q : QueryTree). Ok q) (same_ok (Ok query) query other refl is)
 read_ok number (Err error) other is = cc
 
-texts_read : ReadsByGrammar → (value : ValueType) (number : ℕ) (texts : List Text) (queries : List QueryTree)
-    → queries_from value number texts ≡ Ok queries → AllByRecursion IsUtf8 texts
-    → AllZip (IsTextOf value) texts queries
+texts_read : ReadsByGrammar → (field : Field) (number : ℕ) (texts : List Text) (queries : List QueryTree)
+    → queries_from field.value number texts ≡ Ok queries → AllByRecursion IsUtf8 texts
+    → AllZip (IsTextOf (field ∷ [])) texts queries
 unfolding queries_from
-texts_read reads value number [] queries is all =
-    subst (λ (qs : List QueryTree). AllZip (IsTextOf value) [] qs) (same_ok (Ok []) [] queries refl is) tt
-texts_read reads value number (text ∷ texts) queries is all =
-    let first = next_ok (query_or_refused number (query_of value text)) _ queries is in
-    let others = next_ok (queries_from value (number + 1) texts) _ queries first.2 in
-    let here = subst (Answers value text) (read_ok number (query_of value text) first.0 first.1)
-    (reads value text all.0) in
-    subst (λ (qs : List QueryTree). AllZip (IsTextOf value) (text ∷ texts) qs)
+texts_read reads field number [] queries is all =
+    subst (λ (qs : List QueryTree). AllZip (IsTextOf (field ∷ [])) [] qs) (same_ok (Ok []) [] queries refl is) tt
+texts_read reads field number (text ∷ texts) queries is all =
+    let first = next_ok (query_or_refused number (query_of field.value text)) _ queries is in
+    let others = next_ok (queries_from field.value (number + 1) texts) _ queries first.2 in
+    let here = subst (Answers field.value text) (read_ok number (query_of field.value text) first.0 first.1)
+    (reads field.value text all.0) in
+    subst (λ (qs : List QueryTree). AllZip (IsTextOf (field ∷ [])) (text ∷ texts) qs)
     (same_ok (Ok (first.0 ∷ others.0)) (first.0 ∷ others.0) queries refl others.2)
-    ((all.0, here), texts_read reads value (number + 1) texts others.0 others.1 all.1)
+    ((all.0, here), texts_read reads field (number + 1) texts others.0 others.1 all.1)
 
 by_taken : (faults : Kinds) (rows : List Row) (given : Given) → settings_by faults rows ≡ Ok given
     → (faults ≡ []) × (settings_of rows ≡ given)
@@ -80,13 +80,15 @@ runs_are_asked ranges reads line run is utf8 =
     let taken = given_taken line s.0 s.1 in
     let within = subst IsInRange taken.1 (ranges line taken.0) in
     let texts = ap (λ (g : Given). g.queries) (sym taken.1) in
-    let found = texts_read reads v.0 1 s.0.queries q.0 q.1
+    let field = field_of s.0.field k.0 v.0 in
+    let run_is = run_of s.0 (field ∷ []) q.0 in
+    let found = texts_read reads field 1 s.0.queries q.0 q.1
     (subst (AllByRecursion IsUtf8) (sym texts) utf8) in
-    subst (IsAskedBy line) (same_ok (Ok (run_of s.0 k.0 v.0 q.0)) (run_of s.0 k.0 v.0 q.0) run refl q.2) (record {
+    subst (IsAskedBy line) (same_ok (Ok run_is) run_is run refl q.2) (record {
       in_batch = within.in_batch;
       in_readers = within.in_readers;
       in_rounds = within.in_rounds;
       in_buffers = within.in_buffers;
       in_words = within.in_words;
-      queries = subst (λ (ts : List Text). AllZip (IsTextOf v.0) ts q.0) texts found;
+      queries = subst (λ (ts : List Text). AllZip (IsTextOf (field ∷ [])) ts q.0) texts found;
     })

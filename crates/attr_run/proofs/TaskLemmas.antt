@@ -6,7 +6,7 @@ use Rattle.std.proofs.lemmas.Bool.Decides.{nat_tests}
 use Rattle.clap.specs.Walk.{Text}
 use Rattle.attr_io.specs.Faults.{Rose}
 use Rattle.attr_types.specs.declared.op.Op.{Op}
-use Rattle.feed_reader.specs.Feed.{feed_of, FeedSays, OnLines, ReadsAll}
+use Rattle.feed_reader.specs.Feed.{feed_of, most_bytes, FeedSays, OnLines, ReadsAll}
 use Rattle.feed_reader.specs.declared.refusal.Refusal.{Refusal}
 use Rattle.feed_reader.specs.declared.refusal.Refusal.TheVariants as refusals
 use Rattle.feed_reader.specs.declared.error.FeedError.{FeedError}
@@ -35,18 +35,18 @@ pub task-unasked : (words : List Text) (left : Option (List ℕ)) (status : Stat
 unfolding task_of
 task-unasked words left status asks = rw asks refl
 
-short : (bytes : List ℕ) → length bytes ≤ 16777216 → nat_lt 16777216 (length bytes) ≡ false
+short : (bytes : List ℕ) → length bytes ≤ most_bytes → nat_lt most_bytes (length bytes) ≡ false
 short bytes few = grind (arith, nat_tests)
 
-long : (bytes : List ℕ) → 16777216 < length bytes → nat_lt 16777216 (length bytes) ≡ true
+long : (bytes : List ℕ) → most_bytes < length bytes → nat_lt most_bytes (length bytes) ≡ true
 long bytes many = grind (arith, nat_tests)
 
-ops_in-short : (run : Run) (bytes : List ℕ) (said : Result (List Op) (ℕ × Refusal)) → length bytes ≤ 16777216
-    → feed_of run.field run.kind run.value bytes ≡ said → ops_in run bytes ≡ ops_or_refused said
+ops_in-short : (run : Run) (bytes : List ℕ) (said : Result (List Op) (ℕ × Refusal)) → length bytes ≤ most_bytes
+    → feed_of run.fields bytes ≡ said → ops_in run bytes ≡ ops_or_refused said
 unfolding ops_in
 ops_in-short run bytes said few says = rw (short bytes few, says) refl
 
-ops_in-long : (run : Run) (bytes : List ℕ) → 16777216 < length bytes → ops_in run bytes ≡ Err (BadFeed feed.TooLong)
+ops_in-long : (run : Run) (bytes : List ℕ) → most_bytes < length bytes → ops_in run bytes ≡ Err (BadFeed feed.TooLong)
 unfolding ops_in
 ops_in-long run bytes many = rw (long bytes many) refl
 
@@ -67,7 +67,7 @@ is_asked words run asks = rw asks refl
 
 pub of-run : (words : List Text) (left new : Option (List ℕ)) (run : Run) (ops : List Op)
     (P : Run → List Op → Type 0)
-    → asked words ≡ Ok run → IfSome left (λ bytes. feed_of run.field run.kind run.value bytes ≡ Ok ops)
+    → asked words ≡ Ok run → IfSome left (λ bytes. feed_of run.fields bytes ≡ Ok ops)
     → ReadsAll left new → P run ops → OfRun words left P
 of-run words None new run ops P asks says all holds = (
   is_asked words run asks,
@@ -98,7 +98,7 @@ refused words (Some bytes) run why asks says = (
 
 refused-line : (words : List Text) (left new : Option (List ℕ)) (run : Run) (line : ℕ) (refusal : Refusal)
     → asked words ≡ Ok run
-    → IfSome left (λ bytes. feed_of run.field run.kind run.value bytes ≡ Err (line, refusal)) → ReadsAll left new
+    → IfSome left (λ bytes. feed_of run.fields bytes ≡ Err (line, refusal)) → ReadsAll left new
     → IsOk (asked words) × IfSome (task_of words left) (λ said. said
     ≡ Err (BadFeed (feed.Line line (number_of refusal))))
 refused-line words None new run line refusal asks says all = refused words None run _ asks tt
@@ -106,16 +106,16 @@ refused-line words (Some bytes) new run line refusal asks says all =
     refused words (Some bytes) run _ asks (ops_in-short run bytes (Err (line, refusal)) all.0 says)
 
 refused-long : (words : List Text) (left : Option (List ℕ)) (run : Run) → asked words ≡ Ok run
-    → IfSome left (λ bytes. 16777216 < length bytes)
+    → IfSome left (λ bytes. most_bytes < length bytes)
     → IsOk (asked words) × IfSome (task_of words left) (λ said. said ≡ Err (BadFeed feed.TooLong))
 refused-long words None run asks many = refused words None run _ asks tt
 refused-long words (Some bytes) run asks many = refused words (Some bytes) run _ asks (ops_in-long run bytes many)
 
 pub feed-stopped : (words : List Text) (left new : Option (List ℕ)) (before now : ℕ) (run : Run) (e : FeedError)
     → asked words ≡ Ok run
-    → IfSome left (λ bytes. FeedSays (Err e) (feed_of run.field run.kind run.value bytes))
+    → IfSome left (λ bytes. FeedSays (Err e) (feed_of run.fields bytes))
     → OnLines (Err e) (ReadsAll left new)
-    → (e ≡ errors.FeedTooLong → IfSome left (λ bytes. 16777216 < length bytes))
+    → (e ≡ errors.FeedTooLong → IfSome left (λ bytes. most_bytes < length bytes))
     → (e ≡ errors.ReadFault → Rose before now)
     → IsStopped words left before now (feed_stop e)
 feed-stopped words left new before now run

@@ -83,6 +83,7 @@ help_text =
 -- the refusal of a query, in words
 unfoldable pub query_refusal : QueryError → List ℕ
 query_refusal (refusal.Syntax place) = codes "Syntax at " ++ decimal place
+query_refusal (refusal.NoField place) = codes "NoField"
 query_refusal refusal.WrongType = codes "WrongType"
 query_refusal refusal.OutOfRange = codes "OutOfRange"
 query_refusal refusal.TooDeep = codes "TooDeep"

@@ -13,6 +13,7 @@ use Rattle.attr_types.specs.declared.kind.Kind.{Kind}
 use Rattle.attr_types.specs.declared.kind.Kind.TheVariants as kind
 use Rattle.attr_types.specs.declared.kind.ValueType.{ValueType}
 use Rattle.attr_types.specs.declared.kind.ValueType.TheVariants as value
+use Rattle.attr_types.specs.declared.field.Field.{Field}
 use Rattle.attr_types.specs.declared.op.Op.{Op}
 use Rattle.attr_types.specs.Query.{QueryTree}
 use Rattle.attr_types.specs.Table.{Table, after, skipped}
@@ -20,7 +21,7 @@ use Rattle.attr_types.specs.declared.error.QueryError.{QueryError}
 use Rattle.attr_words.specs.CommandLine.{attr_app}
 use Rattle.attr_words.specs.Reading.{Given, settings_of}
 use Rattle.query_text.specs.Parsing.{query_of}
-use Rattle.feed_reader.specs.Feed.{feed_of}
+use Rattle.feed_reader.specs.Feed.{feed_of, most_bytes}
 use Rattle.feed_reader.specs.declared.refusal.Refusal.{Refusal}
 use Rattle.feed_reader.specs.declared.refusal.Refusal.TheVariants as refusals
 use Rattle.attr_run.specs.declared.outcome.Status.{Status}
@@ -41,11 +42,9 @@ or_refused status None = Err status
 
 -- ---- the words
 
--- a run that was asked for
+-- a run that was asked for; its attributes are numbered from 0
 pub record Run : Type 0 where
-  pub kind : Kind
-  pub value : ValueType
-  pub field : Text
+  pub fields : List Field
   pub batch : ℕ
   pub readers : ℕ
   pub rounds : ℕ
@@ -56,11 +55,11 @@ pub record Run : Type 0 where
 
 -- the table of a run after its first n operations
 abbrev pub table_at : Run → List Op → ℕ → Table
-table_at run ops n = after run.kind ops n
+table_at run ops n = after run.fields ops n
 
 -- how many of its first n operations are skipped
 abbrev pub skipped_at : Run → List Op → ℕ → ℕ
-skipped_at run ops n = skipped run.kind ops n
+skipped_at run ops n = skipped run.fields ops n
 
 -- how far a run came: how many operations it loaded, and for each reader the counts of operations
 -- that its rounds saw
@@ -104,12 +103,14 @@ queries_from value number (text ∷ texts) = do
   queries ← queries_from value (number + 1) texts
   Ok (query ∷ queries)
 
--- the run of these settings
-abbrev pub run_of : Given → Kind → ValueType → List QueryTree → Run
-run_of settings kind value queries = record {
-  kind = kind;
-  value = value;
-  field = settings.field;
+-- the attribute that settings name
+abbrev pub field_of : Text → Kind → ValueType → Field
+field_of name kind value = record { name = name; kind = kind; value = value }
+
+-- the run of these settings, attributes and queries
+abbrev pub run_of : Given → List Field → List QueryTree → Run
+run_of settings fields queries = record {
+  fields = fields;
   batch = settings.batch;
   readers = settings.readers;
   rounds = settings.rounds;
@@ -126,7 +127,7 @@ asked words = do
   kind ← or_refused (Usage usage.KindName) (kind_named settings.kind)
   value ← or_refused (Usage usage.ValueName) (value_named settings.value)
   queries ← queries_from value 1 settings.queries
-  Ok (run_of settings kind value queries)
+  Ok (run_of settings (field_of settings.field kind value ∷ []) queries)
 
 -- ---- the feed
 
@@ -147,8 +148,8 @@ ops_or_refused (Err fault) = Err (BadFeed (feed.Line fault.0 (number_of fault.1)
 -- the operations that a feed's bytes give, or why they are refused
 unfoldable pub ops_in : Run → List ℕ → Result (List Op) Status
 ops_in run bytes =
-    if nat_lt 16777216 (length bytes) then Err (BadFeed feed.TooLong)
-    else ops_or_refused (feed_of run.field run.kind run.value bytes)
+    if nat_lt most_bytes (length bytes) then Err (BadFeed feed.TooLong)
+    else ops_or_refused (feed_of run.fields bytes)
 
 -- the operations of a run by what its source has left to give; none where the source doesn't tell
 unfoldable pub fed : Run → Option (List ℕ) → Option (Result (List Op) Status)

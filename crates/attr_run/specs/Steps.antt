@@ -30,7 +30,7 @@ Says shown (Err stops.Memory) wanted = Unit {0}
 
 -- the run of a request
 abbrev pub run_in : Request → Run
-run_in request = run_of (given_by request.settings) request.kind request.value
+run_in request = run_of (given_by request.settings) request.fields
     (map tree_of request.queries.items)
 
 -- a run without readers that loaded all its operations

@@ -47,9 +47,8 @@ fn reported<S: Source>(alloc: Global, words: &Words, source: &mut S) -> Result<A
     ensures one_kind { length (fault_of attr_app words.now) ≤ 1 }
 {
     let request = request_in(alloc, words)?;
-    let field = request.settings.field.as_str();
-    let ops = read_feed(alloc, source, field, request.kind, request.value)?;
-    let (loaded, text) = report_in(alloc, &request, ops)?;
+    let ops = read_feed(alloc, source, &request.fields)?;
+    let (loaded, text) = report_in(alloc, request, ops)?;
     let outcome = Outcome {
         status: Status::Done,
         loaded,

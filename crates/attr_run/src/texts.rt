@@ -25,6 +25,7 @@ fn push_refusal(text: &mut String, error: &QueryError) -> Result<(), AllocError>
 {
     match error {
         QueryError::Syntax { place } => write!(text, "Syntax at {place}"),
+        QueryError::NoField { .. } => text.push_str("NoField"),
         QueryError::WrongType => text.push_str("WrongType"),
         QueryError::OutOfRange => text.push_str("OutOfRange"),
         QueryError::TooDeep => text.push_str("TooDeep"),

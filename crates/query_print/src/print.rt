@@ -25,7 +25,7 @@ fn push_query(alloc: Global, text: &mut String, query: &Query) -> Result<(), All
     ensures { OnOk result (string_bytes text.new ≡ string_bytes text.old ++ tree_text (tree_of query.now)) }
 {
     match query {
-        Query::One(leaf) => push_leaf(alloc, text, leaf),
+        Query::One { leaf, .. } => push_leaf(alloc, text, leaf),
         Query::And(list) => {
             text.push_str("and(")?;
             push_list(alloc, text, list)?;

@@ -10,7 +10,7 @@ use Rattle.std.proofs.lemmas.List.{take-append-drop}
 use Rattle.attr_types.specs.declared.kind.ValueType.{ValueType}
 use Rattle.attr_types.specs.declared.query.Query.{Query}
 use Rattle.attr_types.specs.declared.error.QueryError.{QueryError}
-use Rattle.attr_types.specs.declared.error.QueryError.TheVariants.{Syntax, WrongType, OutOfRange, TooDeep, Memory}
+use Rattle.attr_types.specs.declared.error.QueryError.TheVariants.{Syntax, NoField, WrongType, OutOfRange, TooDeep, Memory}
 use Rattle.attr_types.specs.Query.{QueryTree}
 use Rattle.query_text.specs.declared.survey.Survey.{Survey}
 use Rattle.query_text.specs.Grammar.{tree_text, tree_values, is_of_type, is_in_range, levels_of, IsQueryText, Continues, StopsAt, Answers, AnswersAs}
@@ -186,6 +186,7 @@ pub says_answers : (value : ValueType) (text : List ℕ) (result : Result Query 
     → AnswersAs value text result
 says_answers value text (Ok query) utf8 said = subst (Answers value text) said (reads_by_grammar value text utf8)
 says_answers value text (Err (Syntax place)) utf8 said = subst (Answers value text) said (reads_by_grammar value text utf8)
+says_answers value text (Err (NoField place)) utf8 said = subst (Answers value text) said (reads_by_grammar value text utf8)
 says_answers value text (Err WrongType) utf8 said = subst (Answers value text) said (reads_by_grammar value text utf8)
 says_answers value text (Err OutOfRange) utf8 said = subst (Answers value text) said (reads_by_grammar value text utf8)
 says_answers value text (Err TooDeep) utf8 said = subst (Answers value text) said (reads_by_grammar value text utf8)
@@ -264,6 +265,7 @@ answers_once value text (Err TooDeep) utf8 (query, is, right, small, deep) =
     query_judged value text query is
     ∙ ap (λ b. cond b (cond (list_all is_in_range (tree_values query)) (cond (nat_lt 32 (max 1 (0 + levels_of query))) (Err TooDeep) (found_in text (query_at 32 text))) (Err OutOfRange)) (Err WrongType)) right
     ∙ ap₂ (λ b c. cond b (cond c (Err TooDeep) (found_in text (query_at 32 text))) (Err OutOfRange)) small levels
+answers_once value text (Err (NoField place)) utf8 answer = absurd answer
 answers_once value text (Err Memory) utf8 answer = absurd answer
 answers_once value text (Err (Syntax place)) utf8 stop =
     (elim (surveyed value text) as (λ r. surveyed value text ≡ r → judged_if text r ≡ Err (Syntax place)) [

@@ -228,7 +228,7 @@ leaf_first letter (leaves.Above v) rest h =
 -- queries
 abbrev mutual
   pub IsReadableTree : QueryTree → Type 0
-  IsReadableTree (one leaf) = IsReadableLeaf leaf
+  IsReadableTree (one field leaf) = IsReadableLeaf leaf
   IsReadableTree (and list) = AreReadable list
   IsReadableTree (or list) = AreReadable list
 
@@ -274,11 +274,11 @@ unfolding or_at
 no_or bytes none = ap (λ o. o >>= (λ rest. after 114 rest >>= after 40)) none
 
 one_read : (member : List ℕ → Option (QueryTree × List ℕ)) (leaf : Leaf) (rest : List ℕ) → IsReadableLeaf leaf → EndsValue rest
-    → query_with member (leaf_text leaf ++ rest) ≡ Some (one leaf, rest)
+    → query_with member (leaf_text leaf ++ rest) ≡ Some (one 0 leaf, rest)
 unfolding query_with
 one_read member leaf rest readable ends =
     ap₂ (λ a b. query_by a b member (leaf_text leaf ++ rest)) (no_and _ (leaf_first 97 leaf rest (omega arith))) (no_or _ (leaf_first 111 leaf rest (omega arith)))
-    ∙ ap (option_map (λ found. (one found.0, found.1))) (leaf_read leaf rest readable ends)
+    ∙ ap (option_map (λ found. (one 0 found.0, found.1))) (leaf_read leaf rest readable ends)
 
 and_read : (member : List ℕ → Option (QueryTree × List ℕ)) (list : QueryTrees) (rest : List ℕ)
     → list_at member (length (list_text list ++ (41 ∷ rest))) (list_text list ++ (41 ∷ rest)) ≡ Some (list_of list, rest)
@@ -323,8 +323,9 @@ at_suc n bytes = refl
 mutual
   pub query_read : (query : QueryTree) (n : ℕ) (rest : List ℕ) → IsFormed query → IsReadableTree query → levels_of query ≤ n → EndsValue rest
       → query_at n (tree_text query ++ rest) ≡ Some (query, rest)
-  query_read (one leaf) zero rest formed readable deep ends = absurd (omega arith)
-  query_read (one leaf) (suc n) rest formed readable deep ends = at_suc n _ ∙ one_read (query_at n) leaf rest readable ends
+  query_read (one field leaf) zero rest formed readable deep ends = absurd (omega arith)
+  query_read (one field leaf) (suc n) rest formed readable deep ends =
+      at_suc n _ ∙ one_read (query_at n) leaf rest readable ends ∙ ap (λ k. Some (one k leaf, rest)) (sym formed.0)
   query_read (and list) zero rest formed readable deep ends = absurd (omega arith)
   query_read (and list) (suc n) rest formed readable deep ends =
       at_suc n _ ∙ and_read (query_at n) list rest (list_read list n _ rest formed readable (omega arith) (count-list list rest))

@@ -88,7 +88,7 @@ list_inside list u = (cut list [] 41 (omega arith) u).0
 
 mutual
   pub tree_readable : (query : QueryTree) → IsUtf8 (tree_text query) → list_all is_in_range (tree_values query) ≡ true → IsReadableTree query
-  tree_readable (one leaf) u h = leaf_readable leaf u h
+  tree_readable (one field leaf) u h = leaf_readable leaf u h
   tree_readable (and list) u h =
       list_readable list (list_inside (list_text list)
       (utf8_tail 40 _ (omega arith) (utf8_tail 100 _ (omega arith) (utf8_tail 110 _ (omega arith) (utf8_tail 97 _ (omega arith) u))))) h

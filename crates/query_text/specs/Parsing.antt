@@ -3,7 +3,7 @@ use Rattle.std.specs.Prelude.{◌≡◌, ℕ, nat_lt, List, length, if◌then◌
 use Rattle.attr_types.specs.declared.kind.ValueType.{ValueType}
 use Rattle.attr_types.specs.declared.query.Query.{Query}
 use Rattle.attr_types.specs.declared.error.QueryError.{QueryError}
-use Rattle.attr_types.specs.declared.error.QueryError.TheVariants.{Syntax, WrongType, OutOfRange, TooDeep, Memory}
+use Rattle.attr_types.specs.declared.error.QueryError.TheVariants.{Syntax, NoField, WrongType, OutOfRange, TooDeep, Memory}
 use Rattle.attr_types.specs.Query.{QueryTree, tree_of}
 use Rattle.query_text.specs.declared.survey.Survey.{Survey}
 use Rattle.query_text.specs.Survey.{surveyed}
@@ -13,6 +13,7 @@ use Rattle.query_text.specs.Reading.{query_at}
 abbrev pub FailsBy : QueryError → Result QueryTree QueryError → Type 0
 FailsBy Memory said = Unit {0}
 FailsBy (Syntax place) said = said ≡ Err (Syntax place)
+FailsBy (NoField place) said = said ≡ Err (NoField place)
 FailsBy WrongType said = said ≡ Err WrongType
 FailsBy OutOfRange said = said ≡ Err OutOfRange
 FailsBy TooDeep said = said ≡ Err TooDeep

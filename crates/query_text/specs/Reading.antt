@@ -157,7 +157,7 @@ list_at member (suc n) bytes = listed (member bytes) (list_at member n)
 abbrev pub query_by : Option (List ℕ) → Option (List ℕ) → (List ℕ → Option (QueryTree × List ℕ)) → List ℕ → Option (QueryTree × List ℕ)
 query_by (Some rest) disjunction member bytes = option_map (λ found. (and (trees found.0), found.1)) (list_at member (length rest) rest)
 query_by None (Some rest) member bytes = option_map (λ found. (or (trees found.0), found.1)) (list_at member (length rest) rest)
-query_by None None member bytes = option_map (λ found. (one found.0, found.1)) (leaf_at bytes)
+query_by None None member bytes = option_map (λ found. (one 0 found.0, found.1)) (leaf_at bytes)
 
 -- a query whose members are read so
 unfoldable pub query_with : (List ℕ → Option (QueryTree × List ℕ)) → List ℕ → Option (QueryTree × List ℕ)

@@ -65,7 +65,7 @@ fn query_with(alloc: Global, bytes: &[u8], levels: u32) -> Result<(Query, &[u8])
         return Ok((Query::Or(list), rest));
     }
     let (leaf, rest) = leaf_in(alloc, bytes)?;
-    Ok((Query::One(leaf), rest))
+    Ok((Query::One { field: 0, leaf }, rest))
 }
 
 /// The members of the list whose bracket was opened, each of so many levels at most.

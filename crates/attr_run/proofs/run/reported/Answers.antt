@@ -1,7 +1,6 @@
 use Rattle.std.proofs.Common.{◌≡◌, ◌∙◌, sym, ap, ap₂, subst, ℕ, List, Ok, Err, None, IfSome, IsOkAnd}
 use Rattle.std.proofs.Common.{Result, string_bytes}
 use Rattle.std.proofs.lemmas.Result.{err_from_is_err_and}
-use Rattle.feed_reader.specs.Feed.{feed_of, FeedSays}
 use Rattle.attr_run.specs.Run.{Run, Progress}
 use Rattle.attr_run.specs.Settings.{IsAskedBy}
 use Rattle.attr_run.specs.Answers.{OfRun, IsRunUntil, ReadsAsAsked}
@@ -19,11 +18,8 @@ returns-in_err-ops-clause-stopped g c =
     let p = err_from_is_err_and c.from_residual-in_err-ops.result c.from_residual-in_err-ops.ensures.1 in
     let request = c.in_ok-request.request in
     let e = c.in_err-ops.field-0.0 in
-    let says = subst (λ (field : List ℕ). IfSome (g.S.Source.left c.args.source.now) (λ bytes. FeedSays (Err e)
-    (feed_of field request.kind request.value bytes)))
-    c.as_str-field.ensures.value c.in_err-ops.ensures.feed in
     rw (p.1 ∙ ap Err p.2) (feed-stopped c.args.words.now (g.S.Source.left c.args.source.now) _ _ _
-    (run_in request) e c.in_ok-request.ensures.asked says
+    (run_in request) e c.in_ok-request.ensures.asked c.in_err-ops.ensures.feed
     c.in_err-ops.ensures.all (λ is. c.in_err-ops.ensures.too_long (ap Err is)) (λ is. c.in_err-ops.ensures.fault
     (ap Err is)))
 
@@ -33,15 +29,12 @@ returns-clause-due g c =
     let run = run_in request in
     let ops = c.in_ok-ops.ops in
     let text = string_bytes c.in_ok-loaded.text in
-    let says = subst (λ (field : List ℕ). IfSome (g.S.Source.left c.args.source.now)
-    (λ bytes. feed_of field request.kind request.value bytes ≡ Ok ops))
-    c.as_str-field.ensures.value c.in_ok-ops.ensures.feed in
     let all = ap₂ so_far
     c.in_ok-loaded.ensures.loaded c.new.ensures in
     let until = subst (λ (progress : Progress). IsRunUntil progress None text run ops) (sym all)
     (whole-alone run ops text c.in_ok-request.ensures.alone c.in_ok-loaded.ensures.text) in
     of-run c.args.words.now (g.S.Source.left c.args.source.now) _ run ops _
-    c.in_ok-request.ensures.asked says c.in_ok-ops.ensures.all until
+    c.in_ok-request.ensures.asked c.in_ok-ops.ensures.feed c.in_ok-ops.ensures.all until
 
 pub returns-clause-ended : goal.returns-clause-ended
 returns-clause-ended g c =
@@ -50,12 +43,9 @@ returns-clause-ended g c =
     let ops = c.in_ok-ops.ops in
     let words = c.args.words.now in
     let new = g.S.Source.left c.read_feed.new.source in
-    let says = subst (λ (field : List ℕ). IfSome (g.S.Source.left c.args.source.now)
-    (λ bytes. feed_of field request.kind request.value bytes ≡ Ok ops))
-    c.as_str-field.ensures.value c.in_ok-ops.ensures.feed in
     record {
       asks = subst (λ (r : Result Run Status). IsOkAnd r (IsAskedBy words)) (sym c.in_ok-request.ensures.asked)
           c.in_ok-request.ensures.lawful;
       reads = of-run words (g.S.Source.left c.args.source.now) new run ops (λ r o. ReadsAsAsked r new)
-          c.in_ok-request.ensures.asked says c.in_ok-ops.ensures.all c.in_ok-ops.ensures.all.1;
+          c.in_ok-request.ensures.asked c.in_ok-ops.ensures.feed c.in_ok-ops.ensures.all c.in_ok-ops.ensures.all.1;
     }
