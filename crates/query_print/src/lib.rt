@@ -3,4 +3,5 @@
 
 mod leaf;
 mod print;
+
 pub use print::print_query;
