@@ -2,8 +2,10 @@
 use Rattle.std.proofs.Common.{◌≡◌, ◌∙◌, sym, ap, refl, subst, ℕ, ◌≤◌, ◌<◌, nat_lt, Bool, true}
 use Rattle.std.proofs.Common.{false, if◌then◌else◌, List, [], ◌∷◌, length, Option, Some, None}
 use Rattle.std.proofs.Common.{option_map, Result, Ok, Err, IsOk, IfSome, IsOkAnd, arith}
+use Rattle.std.proofs.KnownBytes.{Consumes-nil}
 use Rattle.std.proofs.lemmas.Bool.Decides.{nat_tests}
 use Rattle.clap.specs.Walk.{Text}
+use Rattle.attr_io.specs.Bytes.{ReadsPieces}
 use Rattle.attr_io.specs.Faults.{Rose}
 use Rattle.attr_types.specs.declared.op.Op.{Op}
 use Rattle.feed_reader.specs.Feed.{feed_of, most_bytes, FeedSays, OnLines, ReadsAll}
@@ -216,3 +218,16 @@ pub unended-early : {A : Type 0} (words : List Text) (left : Option (List ℕ)) 
     → IsStopped words left before now stop → IsEarly stop status progress text → EndsRun status full → A
 unended-early words left before now stop status progress text full cause early ends = unended words left before now
     status full (subst (IsStopped words left before now) early.answers cause) ends
+
+-- ---- a source that is not read
+
+pub read_nothing : (limit piece : ℕ) (left : Option (List ℕ)) (reads : ℕ)
+    → ReadsPieces limit piece left left reads reads
+read_nothing limit piece left reads = record {
+  front = [];
+  last = [];
+  taken = Consumes-nil left;
+  within = omega arith;
+  short = omega arith;
+  each = omega arith;
+}

@@ -1,11 +1,13 @@
 ghost use Rattle.std.specs.Prelude.{◌≡◌, ◌⊎◌, ◌<◌, ◌≤◌, ◌^◌, ℕ, [], Some, Ok, Err, length, Option};
 ghost use Rattle.std.specs.Prelude.{IsOk, IsErr, IsOkAnd, IfOk, IfErr, OnOk, IfSome, string_bytes};
 ghost use Rattle.std.specs.Io.KnownBytes.{Appends, Keeps};
+ghost use Rattle.attr_io.specs.Bytes.{ReadsPieces};
 ghost use Rattle.attr_io.specs.Faults.{Rose};
 ghost use Rattle.attr_types.specs.declared.error.QueryError.{QueryError};
 ghost use Rattle.clap.specs.Faults.{fault_of};
 ghost use Rattle.attr_words.specs.CommandLine.{attr_app};
 ghost use Rattle.attr_words.specs.Reading.{AskForHelp, AreRefused};
+ghost use Rattle.feed_reader.specs.Feed.{most_bytes};
 ghost use Rattle.attr_run.specs.Run.{asked, task_of};
 ghost use Rattle.attr_run.specs.Settings.{IsAskedBy};
 ghost use Rattle.attr_run.specs.Report.{written, text_of};
@@ -44,6 +46,8 @@ fn reported<S: Source>(alloc: Global, words: &Words, source: &mut S) -> Result<A
         (S.faults source.old) (S.faults source.new)) }
     ensures proper { IfErr result IsProperStop }
     ensures unread { IsErr (asked words.now) → source.new ≡ source.old }
+    ensures reads { ReadsPieces most_bytes 65536
+        (S.left source.old) (S.left source.new) (S.reads source.old) (S.reads source.new) }
     ensures one_kind { length (fault_of attr_app words.now) ≤ 1 }
 {
     let request = request_in(alloc, words)?;
@@ -85,6 +89,8 @@ fn answer_to<S: Source>(alloc: Global, words: &Words, source: &mut S) -> Result<
     ensures ended { IfOk result (λ a. (full : Option ℕ) → EndsRun a.outcome.status full
         → HasEnded words.now (S.left source.old) (S.left source.new)) }
     ensures unread { IsErr (asked words.now) → source.new ≡ source.old }
+    ensures reads { ReadsPieces most_bytes 65536
+        (S.left source.old) (S.left source.new) (S.reads source.old) (S.reads source.new) }
     ensures one_kind { length (fault_of attr_app words.now) ≤ 1 }
 {
     match reported(alloc, words, source) {
@@ -108,6 +114,8 @@ fn whole_run<S: Source, K: Sink>(
     ensures ended { (full : Option ℕ) → EndsRun result.status full
         → HasEnded words.now (S.left source.old) (S.left source.new) }
     ensures unread { IsErr (asked words.now) → source.new ≡ source.old }
+    ensures reads { ReadsPieces most_bytes 65536
+        (S.left source.old) (S.left source.new) (S.reads source.old) (S.reads source.new) }
     ensures one_kind { length (fault_of attr_app words.now) ≤ 1 }
 {
     match answer_to(alloc, words, source) {
@@ -176,7 +184,10 @@ pub fn attr_main<S: Source, K: Sink, G: Gate + Sync>(
         ComesExactly (asked words.now ≡ Err cause) cause result.status }
     ensures unread { IsErr (asked words.now) → source.new ≡ source.old }
 
-    // The feed.
+    // The feed. The source is read on only while at most so many bytes were read, and each read but
+    // the last took a byte.
+    ensures reads { ReadsPieces most_bytes 65536
+        (S.left source.old) (S.left source.new) (S.reads source.old) (S.reads source.new) }
     ensures read_fault { result.status ≡ Status.ReadFault
         → Rose (S.faults source.old) (S.faults source.new) }
     ensures too_long { let cause = Status.BadFeed FeedFault.TooLong in

@@ -1,13 +1,14 @@
 use Rattle.std.proofs.Common.{◌≡◌, ◌∙◌, sym, ap, ap₂, subst, ℕ, List, Ok, Err, None, IfSome, IsOkAnd}
 use Rattle.std.proofs.Common.{Result, string_bytes}
 use Rattle.std.proofs.lemmas.Result.{err_from_is_err_and}
+use Rattle.feed_reader.specs.Feed.{most_bytes}
 use Rattle.attr_run.specs.Run.{Run, Progress}
 use Rattle.attr_run.specs.Settings.{IsAskedBy}
 use Rattle.attr_run.specs.Answers.{OfRun, IsRunUntil, ReadsAsAsked}
 use Rattle.attr_run.specs.Steps.{run_in, all_loaded}
 use Rattle.attr_run.specs.declared.outcome.Status.{Status}
 use Rattle.attr_run.proofs.RoundsLemmas.{whole-alone}
-use Rattle.attr_run.proofs.TaskLemmas.{of-run, feed-stopped}
+use Rattle.attr_run.proofs.TaskLemmas.{of-run, feed-stopped, read_nothing}
 use Rattle.attr_run.proofs.run.reported.Goals as goal
 
 abbrev so_far : ℕ → List (List ℕ) → Progress
@@ -49,3 +50,7 @@ returns-clause-ended g c =
       reads = of-run words (g.S.Source.left c.args.source.now) new run ops (λ r o. ReadsAsAsked r new)
           c.in_ok-request.ensures.asked c.in_ok-ops.ensures.feed c.in_ok-ops.ensures.all c.in_ok-ops.ensures.all.1;
     }
+
+pub returns-in_err-request-clause-reads : goal.returns-in_err-request-clause-reads
+returns-in_err-request-clause-reads g c =
+    read_nothing most_bytes 65536 (g.S.Source.left c.args.source.now) (g.S.Source.reads c.args.source.now)
