@@ -1,4 +1,4 @@
-ghost use Rattle.std.specs.Prelude.{◌≡◌, IfOk, OnOk, OnErr, [], option_and_then};
+ghost use Rattle.std.specs.Prelude.{◌≡◌, IfOk, OnOk, OnErr, [], option_and_then, option_copied};
 ghost use Rattle.std.specs.List.Sorted.{IsStrictlyIncreasing};
 ghost use Rattle.attr_types.specs.Lawful.{OpFits};
 ghost use Rattle.attr_types.specs.Query.{tree_of};
@@ -53,6 +53,13 @@ impl PlainTable {
         ensures { result.now ≡ self.now.fields }
     {
         &self.fields
+    }
+
+    /// A document's items in each attribute, if it is there.
+    pub fn document(&self, doc: Doc) -> Option<&FieldItems>
+        ensures { option_copied result ≡ document_at self.now.table doc }
+    {
+        self.documents.get(&doc)
     }
 
     /// Applies an operation. Where memory runs out the table is as it was.
