@@ -1,6 +1,6 @@
 -- What reads take from the bytes that a source tells, and what writes add to those that a sink tells.
 -- `None` tells nothing, and nothing is then claimed.
-use Rattle.std.specs.Prelude.{ℕ, ◌<◌, ◌≤◌, List, length, take, Result, IfOk, IfSome}
+use Rattle.std.specs.Prelude.{ℕ, ◌+◌, ◌<◌, ◌≤◌, List, ◌++◌, length, take, Result, IfOk, IfSome}
 use Rattle.std.specs.declared.option.Option.{Option}
 use Rattle.std.specs.Io.KnownBytes.{Appends, Consumes}
 
@@ -12,9 +12,16 @@ TakesSome result piece = IfOk result (λ n. (0 < n) × (n ≤ length piece))
 abbrev pub AppendsFront : Option (List ℕ) → Option (List ℕ) → List ℕ → Type 0
 AppendsFront old new text = (n : ℕ) × (n < length text) × Appends old new (take n text)
 
--- known bytes lose at most so many at their front, and nothing else
-abbrev pub ConsumesAtMost : ℕ → Option (List ℕ) → Option (List ℕ) → Type 0
-ConsumesAtMost most old new = (bytes : List ℕ) × Consumes old new bytes × (length bytes ≤ most)
+-- Known bytes lose their front to reads, piece by piece. All pieces but the last are `front`, and within the
+-- limit: the last read was made while at most `limit` bytes were read. It gave `last`, which one piece holds, and
+-- each read before it took at least one byte. Where the bytes are not known, there are still at most `limit + 1` reads.
+pub record ReadsPieces (limit piece : ℕ) (old new : Option (List ℕ)) (reads_old reads_new : ℕ) : Type 0 where
+  pub front : List ℕ
+  pub last : List ℕ
+  pub taken : Consumes old new (front ++ last)
+  pub within : length front ≤ limit
+  pub short : length last ≤ piece
+  pub each : reads_new ≤ reads_old + length front + 1
 
 -- known bytes are more than so many
 abbrev pub HasMoreThan : ℕ → Option (List ℕ) → Type 0

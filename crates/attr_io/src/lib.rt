@@ -10,8 +10,6 @@ mod gate;
 mod memory;
 mod reading;
 mod standard;
-#[cfg(test)]
-mod tests;
 mod traffic;
 mod writing;
 
@@ -19,6 +17,6 @@ pub use fake::{FakeSink, FakeSource};
 pub use gate::{Gate, NoGate, Point};
 pub use memory::{SliceSource, VecSink};
 pub use reading::{ReadError, read_all};
-pub use standard::{StdSink, StdSource};
+pub use standard::{StdSink, StdSource, write_and_flush};
 pub use traffic::{Failed, Sink, Source};
 pub use writing::write_all;

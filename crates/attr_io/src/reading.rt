@@ -1,6 +1,6 @@
-ghost use Rattle.std.specs.Prelude.{◌≡◌, ◌+◌, ◌<◌, ◌≤◌, length, vec_len, IfOk, IsErrOf};
+ghost use Rattle.std.specs.Prelude.{◌≡◌, ◌<◌, ◌≤◌, length, vec_len, IfOk, IsErrOf};
 ghost use Rattle.std.specs.Io.KnownBytes.{Consumes, IsAtEnd};
-ghost use Rattle.attr_io.specs.Bytes.{ConsumesAtMost, HasMoreThan};
+ghost use Rattle.attr_io.specs.Bytes.{HasMoreThan, ReadsPieces};
 ghost use Rattle.attr_io.specs.Faults.{Rose};
 ghost use Rattle.attr_io.specs.declared.reading.ReadError.TheVariants as errors;
 
@@ -40,8 +40,8 @@ const PIECE: usize = 65536;
 
 /// Reads a source to its end, unless it fails or has more than `limit` bytes.
 ///
-/// It reads on only while at most `limit` bytes were read, so a source is read at most
-/// `limit + 1` times and loses at most one piece of 65,536 bytes past the limit.
+/// It reads on only while at most `limit` bytes were read: whatever the answer, the source loses at
+/// most one piece of 65,536 bytes past the limit, and is read at most `limit + 1` times.
 pub fn read_all<S: Source>(
     alloc: Global,
     source: &mut S,
@@ -53,8 +53,8 @@ pub fn read_all<S: Source>(
     ensures too_long { IsErrOf result ReadError.TooLong → HasMoreThan limit (S.left source.old) }
     ensures fault { IsErrOf result ReadError.Fault → Rose (S.faults source.old) (S.faults source.new) }
     ensures later { S.faults source.old ≤ S.faults source.new }
-    ensures front { ConsumesAtMost (limit + 65536) (S.left source.old) (S.left source.new) }
-    ensures few { S.reads source.new ≤ S.reads source.old + limit + 1 }
+    ensures pieces { ReadsPieces limit 65536
+        (S.left source.old) (S.left source.new) (S.reads source.old) (S.reads source.new) }
 {
     let mut piece = vec![in alloc; 0u8; PIECE]?;
     read_pieces(alloc, source, limit, &mut piece)
@@ -74,8 +74,8 @@ fn read_pieces<S: Source>(
     ensures too_long { IsErrOf result ReadError.TooLong → HasMoreThan limit (S.left source.old) }
     ensures fault { IsErrOf result ReadError.Fault → Rose (S.faults source.old) (S.faults source.new) }
     ensures later { S.faults source.old ≤ S.faults source.new }
-    ensures front { ConsumesAtMost (limit + length piece.old) (S.left source.old) (S.left source.new) }
-    ensures few { S.reads source.new ≤ S.reads source.old + limit + 1 }
+    ensures pieces { ReadsPieces limit (length piece.old)
+        (S.left source.old) (S.left source.new) (S.reads source.old) (S.reads source.new) }
 {
     let mut bytes = Vec::new(alloc);
     while bytes.len() <= limit {

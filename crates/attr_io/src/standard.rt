@@ -81,8 +81,9 @@ impl<R: Print> Sink for StdSink<'_, R> {
     }
 }
 
-/// Writes some of a piece, and then flushes. A write that takes nothing is an error.
-fn write_and_flush<W: Write>(to: &mut W, piece: &[u8]) -> io::Result<usize>
+/// Writes some of a piece, and then flushes. A write that takes nothing is an error, and so is a
+/// flush that fails.
+pub fn write_and_flush<W: Write>(to: &mut W, piece: &[u8]) -> io::Result<usize>
     ensures { TakesSome result piece.now }
 {
     let count = to.write(piece)?;
@@ -106,55 +107,6 @@ fn note_fault(faults: &mut u64, answer: io::Result<usize>) -> Result<usize, Fail
         Err(_) => {
             *faults = faults.saturating_add(1);
             Err(Failed)
-        }
-    }
-}
-
-#[cfg(test)]
-mod tests {
-    use super::*;
-
-    /// A writer that takes at most `most` bytes, and whose flush may fail.
-    #[derive(Drop)]
-    struct Pipe {
-        most: usize,
-        can_flush: bool,
-    }
-
-    impl Write for Pipe {
-        fn write(&mut self, piece: &[u8]) -> io::Result<usize> {
-            Ok(self.most.min(piece.len()))
-        }
-
-        fn flush(&mut self) -> io::Result<()> {
-            if self.can_flush {
-                return Ok(());
-            }
-            Err(ErrorKind::BrokenPipe.into())
-        }
-    }
-
-    #[test]
-    fn an_empty_standard_input_is_at_its_end(rt: HostRuntime) {
-        let mut source = StdSource::new(&rt);
-        let mut piece = [7u8; 4];
-        assert_eq!(rt; source.read(&mut piece), Ok(0));
-        assert_eq!(rt; source.faults, 0);
-    }
-
-    #[test]
-    fn standard_output_takes_a_short_line(rt: HostRuntime) {
-        let line = b"a short line\n";
-        let mut sink = StdSink::new(&rt);
-        assert_eq!(rt; sink.write(line), Ok(line.len()));
-        assert_eq!(rt; sink.faults, 0);
-    }
-
-    #[test]
-    fn a_write_that_takes_nothing_or_is_not_flushed_fails(rt: HostRuntime) {
-        for (most, can_flush, want) in [(2, true, Some(2)), (0, true, None), (2, false, None)] {
-            let answer = write_and_flush(&mut Pipe { most, can_flush }, b"line");
-            assert_eq!(rt; answer.ok(), want, "at {most}, {can_flush}");
         }
     }
 }

@@ -6,9 +6,9 @@ use Rattle.serde_json.specs.Find.{as_null, as_str, as_array, as_object}
 use Rattle.std.specs.List.Sorted.{IsStrictlySortedBy}
 use Rattle.std.specs.Ordering.{match_ordering}
 use Rattle.attr_types.specs.Value.{value_cmp, values_of, type_of, AreOfType}
-use Rattle.attr_types.specs.Table.{with_item}
+use Rattle.attr_types.specs.Change.{with_item}
 use Rattle.attr_types.specs.Lawful.{HaveWeightOne, AscendByValue, ItemsFit}
-use Rattle.attr_types.proofs.SetLemmas.{ascend-with_item, all-with_items}
+use Rattle.attr_types.proofs.ItemLemmas.{ascend-with_item, all-with_items}
 use Rattle.attr_types.specs.declared.value.Value.{Value}
 use Rattle.attr_types.specs.declared.value.Value.TheVariants as values
 use Rattle.attr_types.specs.declared.items.Item.{Item}
@@ -20,8 +20,8 @@ use Rattle.feed_reader.specs.declared.refusal.Refusal.{Refusal}
 use Rattle.feed_reader.specs.declared.refusal.Refusal.TheVariants.{BadValue}
 use Rattle.feed_reader.specs.Answers.{◌>>=◌, or_else}
 use Rattle.feed_reader.specs.Numerals.{long_written}
-use Rattle.feed_reader.specs.Values.{text_of, long_of, value_of, value_named, weight_of}
-use Rattle.feed_reader.specs.Items.{values_listed, values_named, weighted_after, weighted_of, plain, list_of, one_of, some_items_of, items_of, taken_of, member_count}
+use Rattle.feed_reader.specs.Values.{text_read, long_read, value_read, name_read, weight_read}
+use Rattle.feed_reader.specs.Items.{values_read, names_read, weighted_after, set_read, plain_item, list_read, one_read, some_items_read, items_read, taken_read, member_count}
 
 -- ---- checks that passed
 
@@ -43,48 +43,48 @@ long_type : (o : Option ℤ) (v : Value) → option_map values.Long o ≡ Some v
 long_type None v e = cc
 long_type (Some z) v e = let is : values.Long z ≡ v = cc in sym (ap type_of is)
 
-text_type : (s : List ℕ) (v : Value) → text_of s ≡ Some v → type_of v ≡ types.Text
+text_type : (s : List ℕ) (v : Value) → text_read s ≡ Some v → type_of v ≡ types.Text
 text_type s v e = sym (ap type_of (if_some (nat_le (length s) 1024) (values.Text s) v e).1)
 
-some_text_type : (o : Option (List ℕ)) (v : Value) → option_and_then text_of o ≡ Some v → type_of v ≡ types.Text
+some_text_type : (o : Option (List ℕ)) (v : Value) → option_and_then text_read o ≡ Some v → type_of v ≡ types.Text
 some_text_type None v e = cc
 some_text_type (Some s) v e = text_type s v e
 
-value_of_type : (t : ValueType) (d : Data) (v : Value) → value_of t d ≡ Ok v → type_of v ≡ t
-value_of_type types.Long d v e = long_type (long_of d) v (or_else_ok BadValue (option_map values.Long (long_of d)) v e)
-value_of_type types.Text d v e = some_text_type (as_str d) v (or_else_ok BadValue (option_and_then text_of (as_str d)) v e)
+value_of_type : (t : ValueType) (d : Data) (v : Value) → value_read t d ≡ Ok v → type_of v ≡ t
+value_of_type types.Long d v e = long_type (long_read d) v (or_else_ok BadValue (option_map values.Long (long_read d)) v e)
+value_of_type types.Text d v e = some_text_type (as_str d) v (or_else_ok BadValue (option_and_then text_read (as_str d)) v e)
 
-value_named_type : (t : ValueType) (name : List ℕ) (v : Value) → value_named t name ≡ Ok v → type_of v ≡ t
+value_named_type : (t : ValueType) (name : List ℕ) (v : Value) → name_read t name ≡ Ok v → type_of v ≡ t
 value_named_type types.Long name v e = long_type (long_written name) v (or_else_ok BadValue (option_map values.Long (long_written name)) v e)
-value_named_type types.Text name v e = text_type name v (or_else_ok BadValue (text_of name) v e)
+value_named_type types.Text name v e = text_type name v (or_else_ok BadValue (text_read name) v e)
 
 -- ---- lists and objects
 
-listed : (t : ValueType) (ds : Items) (vs : List Value) → values_listed t ds ≡ Ok vs → AreOfType t vs × (length vs ≡ items_len ds)
-unfolding values_listed
+listed : (t : ValueType) (ds : Items) (vs : List Value) → values_read t ds ≡ Ok vs → AreOfType t vs × (length vs ≡ items_len ds)
+unfolding values_read
 listed t no_items vs e =
     let is : [] ≡ vs = cc in
     subst (λ (vs : List Value). AreOfType t vs × (length vs ≡ 0)) is (tt, refl)
 listed t (item d ds) vs e =
-    let first = bind_ok (value_of t d) (λ v. values_listed t ds >>= λ ws. Ok (v ∷ ws)) vs e in
-    let rest = bind_ok (values_listed t ds) (λ ws. Ok (first.0 ∷ ws)) vs first.2 in
+    let first = bind_ok (value_read t d) (λ v. values_read t ds >>= λ ws. Ok (v ∷ ws)) vs e in
+    let rest = bind_ok (values_read t ds) (λ ws. Ok (first.0 ∷ ws)) vs first.2 in
     let is : first.0 ∷ rest.0 ≡ vs = cc in
     let more = listed t ds rest.0 rest.1 in
     subst (λ (vs : List Value). AreOfType t vs × (length vs ≡ suc (items_len ds))) is ((value_of_type t d first.0 first.1, more.0), ap suc more.1)
 
-named : (t : ValueType) (ms : Members) (vs : List Value) → values_named t ms ≡ Ok vs → AreOfType t vs
-unfolding values_named
+named : (t : ValueType) (ms : Members) (vs : List Value) → names_read t ms ≡ Ok vs → AreOfType t vs
+unfolding names_read
 named t no_members vs e =
     let is : [] ≡ vs = cc in
     subst (λ (vs : List Value). AreOfType t vs) is tt
 named t (member name d ms) vs e =
-    let first = bind_ok (value_named t name) (λ v. values_named t ms >>= λ ws. Ok (v ∷ ws)) vs e in
-    let rest = bind_ok (values_named t ms) (λ ws. Ok (first.0 ∷ ws)) vs first.2 in
+    let first = bind_ok (name_read t name) (λ v. names_read t ms >>= λ ws. Ok (v ∷ ws)) vs e in
+    let rest = bind_ok (names_read t ms) (λ ws. Ok (first.0 ∷ ws)) vs first.2 in
     let is : first.0 ∷ rest.0 ≡ vs = cc in
     subst (λ (vs : List Value). AreOfType t vs) is (value_named_type t name first.0 first.1, named t ms rest.0 rest.1)
 
-pub taken_fit : (t : ValueType) (d : Data) (vs : List Value) → taken_of t d ≡ Ok vs → AreOfType t vs
-unfolding taken_of
+pub taken_fit : (t : ValueType) (d : Data) (vs : List Value) → taken_read t d ≡ Ok vs → AreOfType t vs
+unfolding taken_read
 taken_fit t (array ds) vs e = (listed t ds vs e).0
 taken_fit t (object ms) vs e = named t ms vs e
 taken_fit t null vs e = cc
@@ -123,8 +123,8 @@ weighted_set t most no_members items out e set =
     let more : most ≡ most + 0 = omega arith in
     subst P is (subst (λ (n : ℕ). Set t n items) more set)
 weighted_set t most (member name d ms) items out e set =
-    let first = bind_ok (value_named t name) (λ v. weight_of d >>= λ w. weighted_after t (with_item items (record { value = v; weight = w })) ms) out e in
-    let weight = bind_ok (weight_of d) (λ w. weighted_after t (with_item items (record { value = first.0; weight = w })) ms) out first.2 in
+    let first = bind_ok (name_read t name) (λ v. weight_read d >>= λ w. weighted_after t (with_item items (record { value = v; weight = w })) ms) out e in
+    let weight = bind_ok (weight_read d) (λ w. weighted_after t (with_item items (record { value = first.0; weight = w })) ms) out first.2 in
     let new : Item = record { value = first.0; weight = weight.0 } in
     let all = weighted_set t (most + 1) ms (with_item items new) out weight.2 (with_item_set t most items new (value_named_type t name first.0 first.1) set) in
     let sum : most + 1 + members_len ms ≡ most + suc (members_len ms) = omega arith in
@@ -132,27 +132,27 @@ weighted_set t most (member name d ms) items out e set =
 
 -- ---- items
 
-plain_weights : (vs : List Value) → HaveWeightOne (map plain vs)
+plain_weights : (vs : List Value) → HaveWeightOne (map plain_item vs)
 plain_weights [] = tt
 plain_weights (v ∷ vs) = (refl, plain_weights vs)
 
-plain_values : (vs : List Value) → values_of (map plain vs) ≡ vs
+plain_values : (vs : List Value) → values_of (map plain_item vs) ≡ vs
 plain_values [] = refl
 plain_values (v ∷ vs) = ap (λ ws. v ∷ ws) (plain_values vs)
 
-plain_length : (vs : List Value) → length (map plain vs) ≡ length vs
+plain_length : (vs : List Value) → length (map plain_item vs) ≡ length vs
 plain_length [] = refl
 plain_length (v ∷ vs) = ap suc (plain_length vs)
 
-pub list_fits : (t : ValueType) (d : Data) (items : List Item) → member_count d ≤ 1023 → list_of t d ≡ Ok items → ItemsFit Array t items
-list_fits t d items few e = at d items few (bind_ok (or_else BadValue (as_array d)) (λ ds. values_listed t ds >>= λ vs. Ok (map plain vs)) items e) where
-  at : (d : Data) (items : List Item) → member_count d ≤ 1023 → (ds : Items) × (or_else BadValue (as_array d) ≡ Ok ds) × ((values_listed t ds >>= λ vs. Ok (map plain vs)) ≡ Ok items) → ItemsFit Array t items
+pub list_fits : (t : ValueType) (d : Data) (items : List Item) → member_count d ≤ 1023 → list_read t d ≡ Ok items → ItemsFit Array t items
+list_fits t d items few e = at d items few (bind_ok (or_else BadValue (as_array d)) (λ ds. values_read t ds >>= λ vs. Ok (map plain_item vs)) items e) where
+  at : (d : Data) (items : List Item) → member_count d ≤ 1023 → (ds : Items) × (or_else BadValue (as_array d) ≡ Ok ds) × ((values_read t ds >>= λ vs. Ok (map plain_item vs)) ≡ Ok items) → ItemsFit Array t items
   at (array ds) items few (es, is, e) =
       let same : es ≡ ds = cc in
-      let all = bind_ok (values_listed t es) (λ vs. Ok (map plain vs)) items e in
-      let out : map plain all.0 ≡ items = cc in
+      let all = bind_ok (values_read t es) (λ vs. Ok (map plain_item vs)) items e in
+      let out : map plain_item all.0 ≡ items = cc in
       let fit = listed t es all.0 all.1 in
-      let len : length (map plain all.0) ≤ 1023 = omega (arith, plain_length all.0, fit.1, ap items_len same, few) in
+      let len : length (map plain_item all.0) ≤ 1023 = omega (arith, plain_length all.0, fit.1, ap items_len same, few) in
       subst (λ (items : List Item). ItemsFit Array t items) out ((len, plain_weights all.0), subst (AreOfType t) (sym (plain_values all.0)) fit.0)
   at null items few (es, is, e) = cc
   at (boolean b) items few (es, is, e) = cc
@@ -160,7 +160,7 @@ list_fits t d items few e = at d items few (bind_ok (or_else BadValue (as_array 
   at (string s) items few (es, is, e) = cc
   at (object ms) items few (es, is, e) = cc
 
-pub weighted_fits : (t : ValueType) (d : Data) (items : List Item) → member_count d ≤ 1023 → weighted_of t d ≡ Ok items → ItemsFit WeightedSet t items
+pub weighted_fits : (t : ValueType) (d : Data) (items : List Item) → member_count d ≤ 1023 → set_read t d ≡ Ok items → ItemsFit WeightedSet t items
 weighted_fits t d items few e = at d items few (bind_ok (or_else BadValue (as_object d)) (weighted_after t []) items e) where
   at : (d : Data) (items : List Item) → member_count d ≤ 1023 → (ms : Members) × (or_else BadValue (as_object d) ≡ Ok ms) × (weighted_after t [] ms ≡ Ok items) → ItemsFit WeightedSet t items
   at (object ms) items few (ns, is, e) =
@@ -173,10 +173,10 @@ weighted_fits t d items few e = at d items few (bind_ok (or_else BadValue (as_ob
   at (string s) items few (ns, is, e) = cc
   at (array ds) items few (ns, is, e) = cc
 
-one_fits : (t : ValueType) (d : Data) (items : List Item) → one_of t d ≡ Ok items → ItemsFit Single t items
+one_fits : (t : ValueType) (d : Data) (items : List Item) → one_read t d ≡ Ok items → ItemsFit Single t items
 one_fits t d items e =
-    let one = bind_ok (value_of t d) (λ v. Ok (plain v ∷ [])) items e in
-    let out : plain one.0 ∷ [] ≡ items = cc in
+    let one = bind_ok (value_read t d) (λ v. Ok (plain_item v ∷ [])) items e in
+    let out : plain_item one.0 ∷ [] ≡ items = cc in
     subst (λ (items : List Item). ItemsFit Single t items) out ((omega arith, (refl, tt)), (value_of_type t d one.0 one.1, tt))
 
 pub none_fit : (kind : Kind) (t : ValueType) → ItemsFit kind t []
@@ -184,14 +184,14 @@ none_fit Single t = ((omega arith, tt), tt)
 none_fit Array t = ((omega arith, tt), tt)
 none_fit WeightedSet t = ((omega arith, none_ascend), tt)
 
-some_items_fit : (kind : Kind) (t : ValueType) (d : Data) (items : List Item) → member_count d ≤ 1023 → some_items_of kind t d ≡ Ok items → ItemsFit kind t items
+some_items_fit : (kind : Kind) (t : ValueType) (d : Data) (items : List Item) → member_count d ≤ 1023 → some_items_read kind t d ≡ Ok items → ItemsFit kind t items
 some_items_fit Single t d items few e = one_fits t d items e
 some_items_fit Array t d items few e = list_fits t d items few e
 some_items_fit WeightedSet t d items few e = weighted_fits t d items few e
 
-pub items_fit : (kind : Kind) (t : ValueType) (d : Data) (items : List Item) → member_count d ≤ 1023 → items_of kind t d ≡ Ok items → ItemsFit kind t items
-unfolding items_of
+pub items_fit : (kind : Kind) (t : ValueType) (d : Data) (items : List Item) → member_count d ≤ 1023 → items_read kind t d ≡ Ok items → ItemsFit kind t items
+unfolding items_read
 items_fit kind t d items few e = by (is_some (as_null d)) e where
-  by : (b : Bool) → cond b (Ok []) (some_items_of kind t d) ≡ Ok items → ItemsFit kind t items
+  by : (b : Bool) → cond b (Ok []) (some_items_read kind t d) ≡ Ok items → ItemsFit kind t items
   by true e = let out : [] ≡ items = cc in subst (λ (items : List Item). ItemsFit kind t items) out (none_fit kind t)
   by false e = some_items_fit kind t d items few e

@@ -1,14 +1,18 @@
--- The operations that a feed says fit the attribute.
-use Rattle.std.proofs.Common.{◌≡◌, ℕ, ◌+◌, ◌≤◌, Bool, true, false, cond, List, [], ◌∷◌, Option, Some, None, option_and_then, Result, Ok, Err, refl, subst, nat_lt}
-use Rattle.std.specs.List.{AllByRecursion}
+-- The operations that a feed says fit the attributes.
+use Rattle.std.proofs.Common.{◌≡◌, ℕ, ◌+◌, ◌≤◌, Bool, true, false, cond, ◌||◌, List, [], ◌∷◌, Option, Some, None, option_and_then, option_map, unwrap_or, Result, Ok, Err, refl, subst, ap}
+use Rattle.std.specs.List.{AllByRecursion, AllZip, list_any}
 use Rattle.std.proofs.lemmas.Bool.{ltb-false}
 use Rattle.serde_json.specs.Data.{Data}
-use Rattle.serde_json.specs.Find.{as_str, as_object}
-use Rattle.attr_types.specs.Lawful.{IsDocument, ItemsFit, ChangeFits, Fits}
+use Rattle.serde_json.specs.Find.{get, as_str, as_object}
+use Rattle.attr_types.specs.Change.{most_items}
+use Rattle.attr_types.specs.Lawful.{IsDocNumber, ItemsFit, ChangeFits, OpFits}
+use Rattle.attr_types.specs.declared.change.Change.{Change}
+use Rattle.attr_types.specs.declared.change.Change.TheVariants as changes
+use Rattle.attr_types.specs.declared.field.Field.{Field}
+use Rattle.attr_types.specs.declared.items.Item.{Item}
 use Rattle.attr_types.specs.declared.kind.Kind.{Kind}
 use Rattle.attr_types.specs.declared.kind.Kind.TheVariants.{Single, Array, WeightedSet}
 use Rattle.attr_types.specs.declared.kind.ValueType.{ValueType}
-use Rattle.attr_types.specs.declared.op.Change.TheVariants as changes
 use Rattle.attr_types.specs.declared.op.Op.{Op}
 use Rattle.attr_types.specs.declared.op.Op.TheVariants as ops
 use Rattle.feed_reader.specs.declared.refusal.Refusal.{Refusal}
@@ -19,111 +23,141 @@ use Rattle.feed_reader.specs.declared.operation.Operator.{Operator}
 use Rattle.feed_reader.specs.declared.operation.Operator.TheVariants as operators
 use Rattle.feed_reader.specs.declared.operation.Asked.{Asked}
 use Rattle.feed_reader.specs.declared.operation.Asked.TheVariants as asks
-use Rattle.feed_reader.specs.declared.operation.Found.{Found}
 use Rattle.feed_reader.specs.Answers.{◌>>=◌, or_else}
-use Rattle.feed_reader.specs.Id.{document_of}
-use Rattle.feed_reader.specs.Items.{items_of, list_of, weighted_of, taken_of, member_count}
+use Rattle.feed_reader.specs.Id.{id_read}
+use Rattle.feed_reader.specs.Items.{items_read, list_read, set_read, taken_read, member_count}
 use Rattle.feed_reader.specs.Lines.{is_blank, lines_of}
-use Rattle.feed_reader.specs.Grammar.{json_of, operation_of, id_of, field_of, put_of, only_member, operator_named, operator_of, update_of, found_of, has_condition, op_asked, supported, op_of_value, op_of_line}
+use Rattle.feed_reader.specs.Grammar.{json_read, operation_of, id_of, fields_of, each_field, put_read, only_member, operator_named, form_of, operator_read, update_read, all_some, asked_of, has_condition, op_asked, supported, members_given, is_over, some_over, gives_too_many, op_of_value, op_of_line}
 use Rattle.feed_reader.specs.Feed.{Fault, with_op, ops_of_lines, feed_of}
 use Rattle.feed_reader.proofs.FitsLemmas.{bind_ok, or_else_ok, none_fit, taken_fit, list_fits, weighted_fits, items_fit}
 use Rattle.feed_reader.proofs.IdLemmas.{named_document}
 
-id_document : (o : Option (List ℕ)) (doc : ℕ) → option_and_then document_of o ≡ Some doc → IsDocument doc
+id_document : (o : Option (List ℕ)) (doc : ℕ) → option_and_then id_read o ≡ Some doc → IsDocNumber doc
 id_document None doc e = cc
 id_document (Some text) doc e = named_document text doc e
 
--- what a line asks for fits the attribute
-abbrev AskedFits : Kind → ValueType → Asked → Type 0
-AskedFits kind t (asks.Put items) = ItemsFit kind t items
-AskedFits kind t (asks.Update change) = ChangeFits kind t change
-AskedFits kind t asks.Remove = Unit {0}
-AskedFits kind t asks.Unsupported = Unit {0}
+-- ---- what is read of one field
 
-keep_fits : (kind : Kind) (t : ValueType) → ChangeFits kind t changes.Keep
-keep_fits Single t = tt
-keep_fits Array t = tt
-keep_fits WeightedSet t = tt
+put_fits : (field : Field) (value : Option Data) (items : List Item) → members_given operations.Put value ≤ most_items → put_read field value ≡ Ok items → ItemsFit field.kind field.value items
+put_fits field None items few e = let is : [] ≡ items = cc in subst (ItemsFit field.kind field.value) is (none_fit field.kind field.value)
+put_fits field (Some d) items few e = items_fit field.kind field.value d items few e
 
-unsupported_fits : (kind : Kind) (t : ValueType) (asked : Asked) → asks.Unsupported ≡ asked → AskedFits kind t asked
-unsupported_fits kind t asked is = subst (AskedFits kind t) is tt
+-- a change that is there fits
+abbrev ReadFits : Kind → ValueType → Option Change → Type 0
+ReadFits kind t None = Unit {0}
+ReadFits kind t (Some change) = ChangeFits kind t change
 
-assign_fits : (kind : Kind) (t : ValueType) (d : Data) (asked : Asked) → member_count d ≤ 1023 → operator_of kind t operators.Assign d ≡ Ok asked → AskedFits kind t asked
-assign_fits Single t d asked few e =
-    let all = bind_ok (items_of Single t d) (λ items. Ok (asks.Update (changes.Assign items))) asked e in
-    let is : asks.Update (changes.Assign all.0) ≡ asked = cc in
-    subst (AskedFits Single t) is (items_fit Single t d all.0 few all.1)
-assign_fits Array t d asked few e =
-    let all = bind_ok (items_of Array t d) (λ items. Ok (asks.Update (changes.Assign items))) asked e in
-    let is : asks.Update (changes.Assign all.0) ≡ asked = cc in
-    subst (AskedFits Array t) is (items_fit Array t d all.0 few all.1)
-assign_fits WeightedSet t d asked few e =
-    let all = bind_ok (items_of WeightedSet t d) (λ items. Ok (asks.Update (changes.Assign items))) asked e in
-    let is : asks.Update (changes.Assign all.0) ≡ asked = cc in
-    subst (AskedFits WeightedSet t) is (items_fit WeightedSet t d all.0 few all.1)
+-- a change of a form, out of what was read
+by_form : {A : Type 0} (kind : Kind) (t : ValueType) (make : A → Change) (said : Result A Refusal) (change : Option Change) → ((x : A) → said ≡ Ok x → ChangeFits kind t (make x))
+    → ((said >>= λ x. Ok (make x)) >>= λ change. Ok (Some change)) ≡ Ok change → ReadFits kind t change
+by_form kind t make (Ok x) change fits e = let is : Some (make x) ≡ change = cc in subst (ReadFits kind t) is (fits x refl)
+by_form kind t make (Err refusal) change fits e = cc
 
-operator_fits : (kind : Kind) (t : ValueType) (operator : Operator) (d : Data) (asked : Asked) → member_count d ≤ 1023 → operator_of kind t operator d ≡ Ok asked → AskedFits kind t asked
-operator_fits kind t operators.Assign d asked few e = assign_fits kind t d asked few e
-operator_fits Array t operators.Add d asked few e =
-    let all = bind_ok (list_of t d) (λ items. Ok (asks.Update (changes.Add items))) asked e in
-    let is : asks.Update (changes.Add all.0) ≡ asked = cc in
-    subst (AskedFits Array t) is (list_fits t d all.0 few all.1)
-operator_fits WeightedSet t operators.Add d asked few e =
-    let all = bind_ok (weighted_of t d) (λ items. Ok (asks.Update (changes.Add items))) asked e in
-    let is : asks.Update (changes.Add all.0) ≡ asked = cc in
-    subst (AskedFits WeightedSet t) is (weighted_fits t d all.0 few all.1)
-operator_fits WeightedSet t operators.Remove d asked few e =
-    let all = bind_ok (taken_of t d) (λ values. Ok (asks.Update (changes.Take values))) asked e in
-    let is : asks.Update (changes.Take all.0) ≡ asked = cc in
-    subst (AskedFits WeightedSet t) is (taken_fit t d all.0 all.1)
-operator_fits Single t operators.Add d asked few e = unsupported_fits Single t asked cc
-operator_fits Single t operators.Remove d asked few e = unsupported_fits Single t asked cc
-operator_fits Array t operators.Remove d asked few e = unsupported_fits Array t asked cc
-operator_fits Single t operators.Other d asked few e = unsupported_fits Single t asked cc
-operator_fits Array t operators.Other d asked few e = unsupported_fits Array t asked cc
-operator_fits WeightedSet t operators.Other d asked few e = unsupported_fits WeightedSet t asked cc
+unknown_fits : (kind : Kind) (t : ValueType) (change : Option Change) → (let none : Result (Option Change) Refusal = Ok None in none ≡ Ok change) → ReadFits kind t change
+unknown_fits kind t change e = let is : None ≡ change = cc in subst (ReadFits kind t) is tt
 
--- what was found fits, where the list or object named has no more members than a document may have items
-abbrev FoundFits : Kind → ValueType → Found → Type 0
-FoundFits kind t found = found.members ≤ 1023 → AskedFits kind t found.asked
+assign_fits : (kind : Kind) (t : ValueType) (d : Data) (items : List Item) → member_count d ≤ most_items → items_read kind t d ≡ Ok items → ChangeFits kind t (changes.Assign items)
+assign_fits kind t d items few e = items_fit kind t d items few e
 
-put_fits : (kind : Kind) (t : ValueType) (field : Option Data) (found : Found) → put_of kind t field ≡ Ok found → FoundFits kind t found
-put_fits kind t None found e =
-    let is : record { asked = asks.Put []; members = 0 } ≡ found = cc in
-    subst (FoundFits kind t) is (λ few. none_fit kind t)
-put_fits kind t (Some d) found e =
-    let all = bind_ok (items_of kind t d) (λ items. Ok (record { asked = asks.Put items; members = member_count d })) found e in
-    let is : record { asked = asks.Put all.0; members = member_count d } ≡ found = cc in
-    subst (FoundFits kind t) is (λ few. items_fit kind t d all.0 few all.1)
+operator_fits : (name : List ℕ) (kind : Kind) (t : ValueType) (operator : Operator) (d : Data) (change : Option Change) → member_count d ≤ most_items
+    → operator_read (record { name = name; kind = kind; value = t }) (form_of operator kind) d ≡ Ok change → ReadFits kind t change
+operator_fits name kind t operators.Assign d change few e = by_form kind t changes.Assign (items_read kind t d) change (λ x is. assign_fits kind t d x few is) e
+operator_fits name Single t operators.Add d change few e = unknown_fits Single t change e
+operator_fits name Array t operators.Add d change few e = by_form Array t changes.Add (list_read t d) change (λ x is. list_fits t d x few is) e
+operator_fits name WeightedSet t operators.Add d change few e = by_form WeightedSet t changes.Add (set_read t d) change (λ x is. weighted_fits t d x few is) e
+operator_fits name Single t operators.Remove d change few e = unknown_fits Single t change e
+operator_fits name Array t operators.Remove d change few e = unknown_fits Array t change e
+operator_fits name WeightedSet t operators.Remove d change few e = by_form WeightedSet t changes.Take (taken_read t d) change (λ x is. taken_fit t d x is) e
+operator_fits name kind t operators.Other d change few e = unknown_fits kind t change e
 
-update_fits : (kind : Kind) (t : ValueType) (field : Option Data) (found : Found) → update_of kind t field ≡ Ok found → FoundFits kind t found
-update_fits kind t None found e =
-    let is : record { asked = asks.Update changes.Keep; members = 0 } ≡ found = cc in
-    subst (FoundFits kind t) is (λ few. keep_fits kind t)
-update_fits kind t (Some d) found e =
-    let rest = λ (operator : List ℕ × Data). operator_of kind t (operator_named operator.0) operator.1 >>= λ asked. Ok (record { asked = asked; members = member_count operator.1 }) in
-    let one = bind_ok (or_else BadValue (option_and_then only_member (as_object d))) rest found e in
-    let all = bind_ok (operator_of kind t (operator_named one.0.0) one.0.1) (λ asked. Ok (record { asked = asked; members = member_count one.0.1 })) found one.2 in
-    let is : record { asked = all.0; members = member_count one.0.1 } ≡ found = cc in
-    subst (FoundFits kind t) is (λ few. operator_fits kind t (operator_named one.0.0) one.0.1 all.0 few all.1)
+update_fits : (field : Field) (value : Option Data) (change : Option Change) → members_given operations.Update value ≤ most_items → update_read field value ≡ Ok change → ReadFits field.kind field.value change
+update_fits field None change few e = let is : Some changes.Keep ≡ change = cc in subst (ReadFits field.kind field.value) is tt
+update_fits field (Some d) change few e =
+    let rest = λ (operator : List ℕ × Data). operator_read field (form_of (operator_named operator.0) field.kind) operator.1 in
+    let one = bind_ok (or_else BadValue (option_and_then only_member (as_object d))) rest change e in
+    let given = ap (λ (o : Option (List ℕ × Data)). unwrap_or (option_map member_count (option_map (λ operator. operator.1) o)) 0) (or_else_ok BadValue (option_and_then only_member (as_object d)) one.0 one.1) in
+    operator_fits field.name field.kind field.value (operator_named one.0.0) one.0.1 change (subst (λ (n : ℕ). n ≤ most_items) given few) one.2
 
-found_fits : (field : List ℕ) (kind : Kind) (t : ValueType) (operation : Operation) (d : Data) (found : Found) → found_of field kind t operation d ≡ Ok found → FoundFits kind t found
-unfolding found_of
-found_fits field kind t operations.Put d found e =
-    let all = bind_ok (or_else BadValue (field_of field d)) (put_of kind t) found e in
-    put_fits kind t all.0 found all.2
-found_fits field kind t operations.Update d found e =
-    let all = bind_ok (or_else BadValue (field_of field d)) (update_of kind t) found e in
-    update_fits kind t all.0 found all.2
-found_fits field kind t operations.Remove d found e =
-    let is : record { asked = asks.Remove; members = 0 } ≡ found = cc in
-    subst (FoundFits kind t) is (λ few. tt)
+-- ---- the fields
 
-asked_fits : (kind : Kind) (t : ValueType) (doc : ℕ) (asked : Asked) (op : Op) → IsDocument doc → AskedFits kind t asked → op_asked doc asked ≡ Some op → Fits kind t op
-asked_fits kind t doc (asks.Put items) op document fits e = let is : ops.Put doc items ≡ op = cc in subst (Fits kind t) is (document, fits)
-asked_fits kind t doc (asks.Update change) op document fits e = let is : ops.Update doc change ≡ op = cc in subst (Fits kind t) is (document, fits)
-asked_fits kind t doc asks.Remove op document fits e = let is : ops.Remove doc ≡ op = cc in subst (Fits kind t) is document
-asked_fits kind t doc asks.Unsupported op document fits e = cc
+or_false : (a b : Bool) → (a || b) ≡ false → (a ≡ false) × (b ≡ false)
+or_false true b e = cc
+or_false false b e = (refl, e)
+
+each_fits : {X : Type 0} (read_of : Field → Option Data → Result X Refusal) (P : Field → X → Type 0) (test : Field → Bool) (d : Data)
+    → ((field : Field) (x : X) → test field ≡ false → read_of field (get field.name d) ≡ Ok x → P field x)
+    → (fields : List Field) (xs : List X) → list_any test fields ≡ false → each_field read_of fields d ≡ Ok xs → AllZip P fields xs
+unfolding each_field
+each_fits read_of P test d one [] xs few e = let is : [] ≡ xs = cc in subst (AllZip P []) is tt
+each_fits {X} read_of P test d one (field ∷ fields) xs few e =
+    let first = bind_ok (read_of field (get field.name d)) (λ (x : X). each_field read_of fields d >>= λ (more : List X). Ok (x ∷ more)) xs e in
+    let rest = bind_ok (each_field read_of fields d) (λ (more : List X). Ok (first.0 ∷ more)) xs first.2 in
+    let is : first.0 ∷ rest.0 ≡ xs = cc in
+    let parts = or_false (test field) (list_any test fields) few in
+    subst (AllZip P (field ∷ fields)) is (one field first.0 parts.0 first.1, each_fits read_of P test d one fields rest.0 parts.1 rest.1)
+
+first_fits : (field : Field) (fields : List Field) (change : Change) (o : Option (List Change)) (all : List Change) → ChangeFits field.kind field.value change
+    → ((more : List Change) → o ≡ Some more → AllZip (λ field change. ChangeFits field.kind field.value change) fields more)
+    → option_map (λ more. change ∷ more) o ≡ Some all → AllZip (λ field change. ChangeFits field.kind field.value change) (field ∷ fields) all
+first_fits field fields change None all fit rest e = cc
+first_fits field fields change (Some more) all fit rest e =
+    let whole : change ∷ more ≡ all = cc in
+    subst (AllZip (λ (field : Field) (change : Change). ChangeFits field.kind field.value change) (field ∷ fields)) whole (fit, rest more refl)
+
+some_fit : (fields : List Field) (found : List (Option Change)) (all : List Change) → AllZip (λ field change. ReadFits field.kind field.value change) fields found → all_some found ≡ Some all
+    → AllZip (λ field change. ChangeFits field.kind field.value change) fields all
+some_fit [] [] all fit e = let is : [] ≡ all = cc in subst (AllZip (λ (field : Field) (change : Change). ChangeFits field.kind field.value change) []) is tt
+some_fit [] (change ∷ found) all fit e = absurd fit
+some_fit (field ∷ fields) [] all fit e = absurd fit
+some_fit (field ∷ fields) (None ∷ found) all fit e = cc
+some_fit (field ∷ fields) (Some change ∷ found) all fit e = first_fits field fields change (all_some found) all fit.0 (λ more is. some_fit fields found more fit.1 is) e
+
+-- what a line asks for fits the attributes
+abbrev AskedFits : List Field → Asked → Type 0
+AskedFits fields (asks.Put document) = AllZip (λ field own. ItemsFit field.kind field.value own) fields document
+AskedFits fields (asks.Update None) = Unit {0}
+AskedFits fields (asks.Update (Some all)) = AllZip (λ field change. ChangeFits field.kind field.value change) fields all
+AskedFits fields asks.Remove = Unit {0}
+
+changes_fit : (fields : List Field) (found : List (Option Change)) → AllZip (λ field change. ReadFits field.kind field.value change) fields found → AskedFits fields (asks.Update (all_some found))
+changes_fit fields found fit = at (all_some found) refl where
+  at : (o : Option (List Change)) → all_some found ≡ o → AskedFits fields (asks.Update o)
+  at None is = tt
+  at (Some all) is = some_fit fields found all fit is
+
+asked_fits : (fields : List Field) (operation : Operation) (d : Data) (asked : Asked) → gives_too_many fields operation d ≡ false → asked_of fields operation d ≡ Ok asked → AskedFits fields asked
+unfolding asked_of
+asked_fits fields operations.Put d asked few e =
+    let with_members = λ (members : Data). each_field put_read fields members >>= λ (document : List (List Item)). Ok (asks.Put document) in
+    let at = bind_ok (or_else BadValue (fields_of d)) with_members asked e in
+    let all = bind_ok (each_field put_read fields at.0) (λ (document : List (List Item)). Ok (asks.Put document)) asked at.2 in
+    let is : asks.Put all.0 ≡ asked = cc in
+    let there = or_else_ok BadValue (fields_of d) at.0 at.1 in
+    let few_there : some_over fields operations.Put (Some at.0) ≡ false = subst (λ (o : Option Data). some_over fields operations.Put o ≡ false) there few in
+    let test = is_over operations.Put at.0 in
+    let one = λ (field : Field) (items : List Item) (small : test field ≡ false) (read : put_read field (get field.name at.0) ≡ Ok items). put_fits field (get field.name at.0) items (ltb-false most_items (members_given operations.Put (get field.name at.0)) small) read in
+    subst (AskedFits fields) is (each_fits put_read (λ (field : Field) (own : List Item). ItemsFit field.kind field.value own) test at.0 one fields all.0 few_there all.1)
+asked_fits fields operations.Update d asked few e =
+    let with_members = λ (members : Data). each_field update_read fields members >>= λ (found : List (Option Change)). Ok (asks.Update (all_some found)) in
+    let at = bind_ok (or_else BadValue (fields_of d)) with_members asked e in
+    let all = bind_ok (each_field update_read fields at.0) (λ (found : List (Option Change)). Ok (asks.Update (all_some found))) asked at.2 in
+    let is : asks.Update (all_some all.0) ≡ asked = cc in
+    let there = or_else_ok BadValue (fields_of d) at.0 at.1 in
+    let few_there : some_over fields operations.Update (Some at.0) ≡ false = subst (λ (o : Option Data). some_over fields operations.Update o ≡ false) there few in
+    let test = is_over operations.Update at.0 in
+    let one = λ (field : Field) (change : Option Change) (small : test field ≡ false) (read : update_read field (get field.name at.0) ≡ Ok change). update_fits field (get field.name at.0) change (ltb-false most_items (members_given operations.Update (get field.name at.0)) small) read in
+    subst (AskedFits fields) is (changes_fit fields all.0 (each_fits update_read (λ (field : Field) (change : Option Change). ReadFits field.kind field.value change) test at.0 one fields all.0 few_there all.1))
+asked_fits fields operations.Remove d asked few e =
+    let is : asks.Remove ≡ asked = cc in
+    subst (AskedFits fields) is tt
+
+-- ---- the lines
+
+op_fits : (fields : List Field) (doc : ℕ) (asked : Asked) (op : Op) → IsDocNumber doc → AskedFits fields asked → op_asked doc asked ≡ Some op → OpFits fields op
+op_fits fields doc (asks.Put document) op number fits e = let is : ops.Put doc document ≡ op = cc in subst (OpFits fields) is (number, fits)
+op_fits fields doc (asks.Update (Some all)) op number fits e = let is : ops.Update doc false all ≡ op = cc in subst (OpFits fields) is (number, fits)
+op_fits fields doc (asks.Update None) op number fits e = cc
+op_fits fields doc asks.Remove op number fits e = let is : ops.Remove doc ≡ op = cc in subst (OpFits fields) is number
 
 unless_some : {A : Type 0} (b : Bool) (o : Option A) (x : A) → cond b None o ≡ Some x → o ≡ Some x
 unless_some true o x e = cc
@@ -133,30 +167,27 @@ unless_err : {A : Type 0} (b : Bool) (refusal : Refusal) (x y : A) → cond b (E
 unless_err true refusal x y e = cc
 unless_err false refusal x y e = (refl, cc)
 
-value_fits : (field : List ℕ) (kind : Kind) (t : ValueType) (d : Data) (op : Op) → op_of_value field kind t d ≡ Ok op → Fits kind t op
+value_fits : (fields : List Field) (d : Data) (op : Op) → op_of_value fields d ≡ Ok op → OpFits fields op
 unfolding op_of_value
-value_fits field kind t d op e =
-    let finish = λ (found : Found) (op : Op). cond (nat_lt 1023 found.members) (Err TooManyItems) (Ok op) in
-    let with_found = λ (doc : ℕ) (found : Found). or_else Unsupported (supported d doc found.asked) >>= finish found in
-    let with_doc = λ (operation : Operation × Data) (doc : ℕ). found_of field kind t operation.0 d >>= with_found doc in
-    let with_operation = λ (operation : Operation × Data). or_else BadId (id_of operation.1) >>= with_doc operation in
+value_fits fields d op e =
+    let finish = λ (operation : Operation) (op : Op). cond (gives_too_many fields operation d) (Err TooManyItems) (Ok op) in
+    let with_asked = λ (operation : Operation) (doc : ℕ) (asked : Asked). or_else Unsupported (supported d doc asked) >>= finish operation in
+    let with_doc = λ (operation : Operation) (doc : ℕ). asked_of fields operation d >>= with_asked operation doc in
+    let with_operation = λ (operation : Operation × Data). or_else BadId (id_of operation.1) >>= with_doc operation.0 in
     let operation = bind_ok (or_else NoOperation (operation_of d)) with_operation op e in
-    let doc = bind_ok (or_else BadId (id_of operation.0.1)) (with_doc operation.0) op operation.2 in
-    let found = bind_ok (found_of field kind t operation.0.0 d) (with_found doc.0) op doc.2 in
-    let asked = bind_ok (or_else Unsupported (supported d doc.0 found.0.asked)) (finish found.0) op found.2 in
-    let last = unless_err (nat_lt 1023 found.0.members) TooManyItems asked.0 op asked.2 in
-    let few = found_fits field kind t operation.0.0 d found.0 found.1 (ltb-false 1023 found.0.members last.0) in
-    let document = id_document (as_str operation.0.1) doc.0 (or_else_ok BadId (id_of operation.0.1) doc.0 doc.1) in
-    let named = unless_some (has_condition d) (op_asked doc.0 found.0.asked) asked.0 (or_else_ok Unsupported (supported d doc.0 found.0.asked) asked.0 asked.1) in
-    subst (Fits kind t) last.1 (asked_fits kind t doc.0 found.0.asked asked.0 document few named)
+    let doc = bind_ok (or_else BadId (id_of operation.0.1)) (with_doc operation.0.0) op operation.2 in
+    let asked = bind_ok (asked_of fields operation.0.0 d) (with_asked operation.0.0 doc.0) op doc.2 in
+    let named = bind_ok (or_else Unsupported (supported d doc.0 asked.0)) (finish operation.0.0) op asked.2 in
+    let last = unless_err (gives_too_many fields operation.0.0 d) TooManyItems named.0 op named.2 in
+    let number = id_document (as_str operation.0.1) doc.0 (or_else_ok BadId (id_of operation.0.1) doc.0 doc.1) in
+    let made = unless_some (has_condition d) (op_asked doc.0 asked.0) named.0 (or_else_ok Unsupported (supported d doc.0 asked.0) named.0 named.1) in
+    subst (OpFits fields) last.1 (op_fits fields doc.0 asked.0 named.0 number (asked_fits fields operation.0.0 d asked.0 last.0 asked.1) made)
 
-line_fits : (field : List ℕ) (kind : Kind) (t : ValueType) (line : List ℕ) (op : Op) → op_of_line field kind t line ≡ Ok op → Fits kind t op
+line_fits : (fields : List Field) (line : List ℕ) (op : Op) → op_of_line fields line ≡ Ok op → OpFits fields op
 unfolding op_of_line
-line_fits field kind t line op e =
-    let json = bind_ok (or_else NotJson (json_of line)) (op_of_value field kind t) op e in
-    value_fits field kind t json.0 op json.2
-
--- ---- the lines
+line_fits fields line op e =
+    let json = bind_ok (or_else NotJson (json_read line)) (op_of_value fields) op e in
+    value_fits fields json.0 op json.2
 
 with_op_ok : (n : ℕ) (line : Result Op Refusal) (more : Result (List Op) Fault) (ops : List Op) → with_op n line more ≡ Ok ops
     → (op : Op) × (rest : List Op) × (line ≡ Ok op) × (more ≡ Ok rest) × (op ∷ rest ≡ ops)
@@ -164,20 +195,20 @@ with_op_ok n (Err refusal) more ops e = cc
 with_op_ok n (Ok op) (Err fault) ops e = cc
 with_op_ok n (Ok op) (Ok rest) ops e = (op, rest, refl, refl, cc)
 
-by_line : (kind : Kind) (t : ValueType) (blank : Bool) (n : ℕ) (said : Result Op Refusal) (more : Result (List Op) Fault) (ops : List Op)
-    → ((op : Op) → said ≡ Ok op → Fits kind t op) → ((rest : List Op) → more ≡ Ok rest → AllByRecursion (Fits kind t) rest)
-    → cond blank more (with_op n said more) ≡ Ok ops → AllByRecursion (Fits kind t) ops
-by_line kind t true n said more ops here later e = later ops e
-by_line kind t false n said more ops here later e =
+by_line : (fields : List Field) (blank : Bool) (n : ℕ) (said : Result Op Refusal) (more : Result (List Op) Fault) (ops : List Op)
+    → ((op : Op) → said ≡ Ok op → OpFits fields op) → ((rest : List Op) → more ≡ Ok rest → AllByRecursion (OpFits fields) rest)
+    → cond blank more (with_op n said more) ≡ Ok ops → AllByRecursion (OpFits fields) ops
+by_line fields true n said more ops here later e = later ops e
+by_line fields false n said more ops here later e =
     let all = with_op_ok n said more ops e in
-    subst (λ (ops : List Op). AllByRecursion (Fits kind t) ops) all.4 (here all.0 all.2, later all.1 all.3)
+    subst (λ (ops : List Op). AllByRecursion (OpFits fields) ops) all.4 (here all.0 all.2, later all.1 all.3)
 
-lines_fit : (field : List ℕ) (kind : Kind) (t : ValueType) (n : ℕ) (lines : List (List ℕ)) (ops : List Op) → ops_of_lines field kind t n lines ≡ Ok ops → AllByRecursion (Fits kind t) ops
+lines_fit : (fields : List Field) (n : ℕ) (lines : List (List ℕ)) (ops : List Op) → ops_of_lines fields n lines ≡ Ok ops → AllByRecursion (OpFits fields) ops
 unfolding ops_of_lines
-lines_fit field kind t n [] ops e = let is : [] ≡ ops = cc in subst (λ (ops : List Op). AllByRecursion (Fits kind t) ops) is tt
-lines_fit field kind t n (line ∷ lines) ops e =
-    by_line kind t (is_blank line) n (op_of_line field kind t line) (ops_of_lines field kind t (n + 1) lines) ops (line_fits field kind t line) (lines_fit field kind t (n + 1) lines) e
+lines_fit fields n [] ops e = let is : [] ≡ ops = cc in subst (λ (ops : List Op). AllByRecursion (OpFits fields) ops) is tt
+lines_fit fields n (line ∷ lines) ops e =
+    by_line fields (is_blank line) n (op_of_line fields line) (ops_of_lines fields (n + 1) lines) ops (line_fits fields line) (lines_fit fields (n + 1) lines) e
 
-pub feed_fits : (field : List ℕ) (kind : Kind) (t : ValueType) (bytes : List ℕ) (ops : List Op) → feed_of field kind t bytes ≡ Ok ops → AllByRecursion (Fits kind t) ops
+pub feed_fits : (fields : List Field) (bytes : List ℕ) (ops : List Op) → feed_of fields bytes ≡ Ok ops → AllByRecursion (OpFits fields) ops
 unfolding feed_of
-feed_fits field kind t bytes ops e = lines_fit field kind t 1 (lines_of bytes) ops e
+feed_fits fields bytes ops e = lines_fit fields 1 (lines_of bytes) ops e

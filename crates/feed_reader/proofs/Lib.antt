@@ -7,3 +7,6 @@ pub mod FeedLemmas
 pub mod FitsLemmas
 pub mod IdLemmas
 pub mod LawLemmas
+pub mod FormLemmas
+pub mod RowLemmas
+pub mod FaultLemmas

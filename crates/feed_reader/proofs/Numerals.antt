@@ -30,20 +30,20 @@ parsed bs r h p = kept r _ _ _ (positive_nonempty bs p) (parse_digits own 32 bs 
 -- ---- whole numbers of 64 signed bits
 
 is_long_fits : (z : ℤ) → FitsSigned w64 z → is_long z ≡ true
-is_long_fits (pos n) fits = let small : n < 2 ^ 63 = fits.sfits in le-leb n 9223372036854775807 (omega arith)
-is_long_fits (negsuc n) fits = let small : n < 2 ^ 63 = fits.sfits in and_from _ _ (le-leb n 9223372036854775807 (omega arith)) refl
+is_long_fits (pos n) fits = let small_read : n < 2 ^ 63 = fits.sfits in le-leb n 9223372036854775807 (omega arith)
+is_long_fits (negsuc n) fits = let small_read : n < 2 ^ 63 = fits.sfits in and_from _ _ (le-leb n 9223372036854775807 (omega arith)) refl
 
 fits_is_long : (z : ℤ) → is_long z ≡ true → FitsSigned w64 z
-fits_is_long (pos n) p = let small = leb-true n 9223372036854775807 p in record { sfits = omega arith }
-fits_is_long (negsuc n) p = let small = leb-true n 9223372036854775807 (and_parts _ _ p).0 in record { sfits = omega arith }
+fits_is_long (pos n) p = let small_read = leb-true n 9223372036854775807 p in record { sfits = omega arith }
+fits_is_long (negsuc n) p = let small_read = leb-true n 9223372036854775807 (and_parts _ _ p).0 in record { sfits = omega arith }
 
 unsigned_part : (signed : Bool) (bs : List ℕ) → starts_with_minus bs ≡ signed → is_positive_numeral (cond signed (drop 1 bs) bs) ≡ true
     → IsNumeral 10 (cond signed (drop 1 bs) (without_leading_plus bs))
 unsigned_part true bs s p = (positive_nonempty (drop 1 bs) p, own.to (drop 1 bs) (and_parts _ _ p).0)
 unsigned_part false bs s p =
     let first = ltb-true 48 (get_or bs 0 0) (and_parts _ _ p).1 in
-    let plain : without_leading_plus bs ≡ bs = without_leading_plus_none bs (λ e. omega arith) in
-    rw plain (positive_nonempty bs p, own.to bs (and_parts _ _ p).0)
+    let plain_item : without_leading_plus bs ≡ bs = without_leading_plus_none bs (λ e. omega arith) in
+    rw plain_item (positive_nonempty bs p, own.to bs (and_parts _ _ p).0)
 
 -- what is written in a number's own digits has digits after its sign
 whole_digits : (bs : List ℕ) → is_whole_numeral bs ≡ true → IsNumeral 10 (without_leading_sign bs)

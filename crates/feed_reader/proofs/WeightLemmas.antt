@@ -6,15 +6,15 @@ use Rattle.std.specs.BTreeMap.{insert_entry}
 use Rattle.serde_json.specs.View.{view, members_view}
 use Rattle.serde_json.specs.declared.value.Value.{Value as Json}
 use Rattle.attr_types.specs.Value.{value_cmp}
-use Rattle.attr_types.specs.Table.{with_item}
+use Rattle.attr_types.specs.Change.{with_item}
 use Rattle.attr_types.specs.declared.kind.ValueType.{ValueType}
 use Rattle.attr_types.specs.declared.items.Item.{Item}
 use Rattle.attr_types.specs.declared.value.Value.{Value}
 use Rattle.feed_reader.specs.declared.refusal.Refusal.{Refusal}
 use Rattle.feed_reader.specs.declared.refusal.LineError.{LineError}
 use Rattle.feed_reader.specs.declared.refusal.LineError.TheVariants as errors
-use Rattle.feed_reader.specs.Answers.{◌>>=◌, FailsBy}
-use Rattle.feed_reader.specs.Values.{value_named, weight_of}
+use Rattle.feed_reader.specs.Answers.{◌>>=◌, ReadFails}
+use Rattle.feed_reader.specs.Values.{name_read, weight_read}
 use Rattle.feed_reader.specs.Items.{weighted_after}
 use Rattle.feed_reader.specs.Weights.{entry_item}
 
@@ -29,37 +29,37 @@ items_with_item (e ∷ es) value weight =
 
 -- an object's next member
 pub weights_more : (value_type : ValueType) (es fs : List (Value × ℤ)) (name : String Global) (v : Json) (x : Value) (weight : ℤ) (s t : List (String Global × Json)) → s ≡ (name, v) ∷ t
-    → value_named value_type (string_bytes name) ≡ Ok x → weight_of (view v) ≡ Ok weight → fs ≡ insert_entry value_cmp es x weight
+    → name_read value_type (string_bytes name) ≡ Ok x → weight_read (view v) ≡ Ok weight → fs ≡ insert_entry value_cmp es x weight
     → weighted_after value_type (map entry_item fs) (members_view t) ≡ weighted_after value_type (map entry_item es) (members_view s)
 unfolding weighted_after
 weights_more value_type es fs name v x weight s t is n w put =
     let with = λ (value : Value) (weight : ℤ). weighted_after value_type (with_item (map entry_item es) (record { value = value; weight = weight })) (members_view t) in
     sym (ap (λ ms. weighted_after value_type (map entry_item es) (members_view ms)) is
-    ∙ ap (λ r. r >>= λ value. weight_of (view v) >>= λ weight. with value weight) n
+    ∙ ap (λ r. r >>= λ value. weight_read (view v) >>= λ weight. with value weight) n
     ∙ ap (λ r. r >>= λ weight. with x weight) w
     ∙ ap (λ items. weighted_after value_type items (members_view t)) (sym (ap (map entry_item) put ∙ items_with_item es x weight)))
 
 -- its name is faulty
 pub weights_name_fault : (value_type : ValueType) (es : List (Value × ℤ)) (name : String Global) (v : Json) (e : LineError) (s t : List (String Global × Json)) (said : Result (List Item) Refusal) → s ≡ (name, v) ∷ t
-    → FailsBy e (value_named value_type (string_bytes name)) → weighted_after value_type (map entry_item es) (members_view s) ≡ said → FailsBy e said
+    → ReadFails e (name_read value_type (string_bytes name)) → weighted_after value_type (map entry_item es) (members_view s) ≡ said → ReadFails e said
 unfolding weighted_after
 weights_name_fault value_type es name v errors.Memory s t said is f a = tt
 weights_name_fault value_type es name v (errors.Refused refusal) s t said is f a =
     let with = λ (value : Value) (weight : ℤ). weighted_after value_type (with_item (map entry_item es) (record { value = value; weight = weight })) (members_view t) in
     sym a
     ∙ ap (λ ms. weighted_after value_type (map entry_item es) (members_view ms)) is
-    ∙ ap (λ r. r >>= λ value. weight_of (view v) >>= λ weight. with value weight) f
+    ∙ ap (λ r. r >>= λ value. weight_read (view v) >>= λ weight. with value weight) f
 
 -- its weight is faulty
 pub weights_weight_fault : (value_type : ValueType) (es : List (Value × ℤ)) (name : String Global) (v : Json) (value : Value) (e : LineError) (s t : List (String Global × Json)) (said : Result (List Item) Refusal) → s ≡ (name, v) ∷ t
-    → value_named value_type (string_bytes name) ≡ Ok value → FailsBy e (weight_of (view v)) → weighted_after value_type (map entry_item es) (members_view s) ≡ said → FailsBy e said
+    → name_read value_type (string_bytes name) ≡ Ok value → ReadFails e (weight_read (view v)) → weighted_after value_type (map entry_item es) (members_view s) ≡ said → ReadFails e said
 unfolding weighted_after
 weights_weight_fault value_type es name v value errors.Memory s t said is n f a = tt
 weights_weight_fault value_type es name v value (errors.Refused refusal) s t said is n f a =
     let with = λ (value : Value) (weight : ℤ). weighted_after value_type (with_item (map entry_item es) (record { value = value; weight = weight })) (members_view t) in
     sym a
     ∙ ap (λ ms. weighted_after value_type (map entry_item es) (members_view ms)) is
-    ∙ ap (λ r. r >>= λ value. weight_of (view v) >>= λ weight. with value weight) n
+    ∙ ap (λ r. r >>= λ value. weight_read (view v) >>= λ weight. with value weight) n
     ∙ ap (λ r. r >>= λ weight. with value weight) f
 
 pub weights_end : (value_type : ValueType) (items : List Item) (s : List (String Global × Json)) (said : Result (List Item) Refusal) → s ≡ [] → weighted_after value_type items (members_view s) ≡ said → said ≡ Ok items

@@ -16,11 +16,11 @@ or_else refusal None = Err refusal
 or_else refusal (Some x) = Ok x
 
 -- an error is the refusal that is said, unless memory ran out
-abbrev pub FailsBy : {Y : Type 0} → LineError → Result Y Refusal → Type 0
-FailsBy Memory said = Unit {0}
-FailsBy (Refused refusal) said = said ≡ Err refusal
+abbrev pub ReadFails : {Y : Type 0} → LineError → Result Y Refusal → Type 0
+ReadFails Memory said = Unit {0}
+ReadFails (Refused refusal) said = said ≡ Err refusal
 
 -- what a function returned, seen by `view`, is what is said, unless memory ran out
-abbrev pub Says : {X Y : Type 0} → (X → Y) → Result X LineError → Result Y Refusal → Type 0
-Says view (Ok x) said = said ≡ Ok (view x)
-Says view (Err e) said = FailsBy e said
+abbrev pub Reads : {X Y : Type 0} → (X → Y) → Result X LineError → Result Y Refusal → Type 0
+Reads view (Ok x) said = said ≡ Ok (view x)
+Reads view (Err e) said = ReadFails e said

@@ -2,8 +2,7 @@
 use Rattle.std.specs.Prelude.{◌≡◌, ℕ, ◌+◌, List, [], ◌∷◌, ◌++◌, ◌≤◌, length, IfSome, if◌then◌else◌, Result, Ok, Err}
 use Rattle.std.specs.declared.option.Option.{Option}
 use Rattle.std.specs.Io.KnownBytes.{IsAtEnd}
-use Rattle.attr_types.specs.declared.kind.Kind.{Kind}
-use Rattle.attr_types.specs.declared.kind.ValueType.{ValueType}
+use Rattle.attr_types.specs.declared.field.Field.{Field}
 use Rattle.attr_types.specs.declared.op.Op.{Op}
 use Rattle.feed_reader.specs.declared.refusal.Refusal.{Refusal}
 use Rattle.feed_reader.specs.declared.refusal.Refusal.TheVariants as refusals
@@ -27,15 +26,15 @@ with_op line (Ok op) (Err fault) = Err fault
 with_op line (Ok op) (Ok ops) = Ok (op ∷ ops)
 
 -- the lines from a number on; a blank line is counted and says nothing
-unfoldable pub ops_of_lines : List ℕ → Kind → ValueType → ℕ → List (List ℕ) → Result (List Op) Fault
-ops_of_lines field kind value_type number [] = Ok []
-ops_of_lines field kind value_type number (line ∷ lines) =
-    let more = ops_of_lines field kind value_type (number + 1) lines in
-    if is_blank line then more else with_op number (op_of_line field kind value_type line) more
+unfoldable pub ops_of_lines : List Field → ℕ → List (List ℕ) → Result (List Op) Fault
+ops_of_lines fields number [] = Ok []
+ops_of_lines fields number (line ∷ lines) =
+    let more = ops_of_lines fields (number + 1) lines in
+    if is_blank line then more else with_op number (op_of_line fields line) more
 
--- what a feed says of the named field of an attribute of that kind and value type
-unfoldable pub feed_of : List ℕ → Kind → ValueType → List ℕ → Result (List Op) Fault
-feed_of field kind value_type bytes = ops_of_lines field kind value_type 1 (lines_of bytes)
+-- what a feed says of the named fields
+unfoldable pub feed_of : List Field → List ℕ → Result (List Op) Fault
+feed_of fields bytes = ops_of_lines fields 1 (lines_of bytes)
 
 -- what a reader of lines returned is what they say, unless memory ran out
 abbrev pub LinesFailBy : LinesError → Result (List Op) Fault → Type 0
@@ -82,9 +81,13 @@ abbrev pub with_front : List Op → Result (List Op) Fault → Result (List Op) 
 with_front front (Ok ops) = Ok (front ++ ops)
 with_front front (Err fault) = Err fault
 
+-- own: a feed has at most 16,777,216 bytes
+abbrev pub most_bytes : ℕ
+most_bytes = 16777216
+
 -- the source was read to its end, and had no more bytes than a feed may have
 abbrev pub ReadsAll : Option (List ℕ) → Option (List ℕ) → Type 0
-ReadsAll old new = IfSome old (λ bytes. length bytes ≤ 16777216) × IsAtEnd new
+ReadsAll old new = IfSome old (λ bytes. length bytes ≤ most_bytes) × IsAtEnd new
 
 -- the fact holds where lines were looked at: at operations and at each line's error
 abbrev pub OnLineError : FeedError → Type 0 → Type 0

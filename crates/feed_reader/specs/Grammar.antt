@@ -1,15 +1,18 @@
 -- What a line of a feed asks for, or the first check that refuses it.
-use Rattle.std.specs.Prelude.{ℕ, Bool, ◌||◌, List, [], nat_lt, if◌then◌else◌, codes}
-use Rattle.std.specs.Prelude.{Option, Some, None, is_some, option_and_then, option_map, Result, Ok, Err}
+use Rattle.std.specs.Prelude.{ℕ, Bool, false, ◌||◌, List, [], ◌∷◌, nat_lt, if◌then◌else◌, codes}
+use Rattle.std.specs.Prelude.{Option, Some, None, is_some, option_and_then, option_map, unwrap_or, Result, Ok, Err}
+use Rattle.std.specs.List.{list_any}
 use Rattle.std.specs.Str.{is_utf8, bytes_eq}
 use Rattle.serde_json.specs.Data.{Data, Members, no_members, member}
 use Rattle.serde_json.specs.Read.{read}
-use Rattle.serde_json.specs.Find.{get, get_member, as_str, as_object}
+use Rattle.serde_json.specs.Find.{get, as_str, as_object}
+use Rattle.attr_types.specs.Change.{most_items}
+use Rattle.attr_types.specs.declared.change.Change.{Change}
+use Rattle.attr_types.specs.declared.change.Change.TheVariants as changes
+use Rattle.attr_types.specs.declared.field.Field.{Field}
+use Rattle.attr_types.specs.declared.items.Item.{Item}
 use Rattle.attr_types.specs.declared.kind.Kind.{Kind}
 use Rattle.attr_types.specs.declared.kind.Kind.TheVariants.{Single, Array, WeightedSet}
-use Rattle.attr_types.specs.declared.kind.ValueType.{ValueType}
-use Rattle.attr_types.specs.declared.op.Change.{Change}
-use Rattle.attr_types.specs.declared.op.Change.TheVariants as changes
 use Rattle.attr_types.specs.declared.op.Op.{Op}
 use Rattle.attr_types.specs.declared.op.Op.TheVariants as ops
 use Rattle.feed_reader.specs.declared.refusal.Refusal.{Refusal}
@@ -18,17 +21,18 @@ use Rattle.feed_reader.specs.declared.operation.Operation.{Operation}
 use Rattle.feed_reader.specs.declared.operation.Operation.TheVariants as operations
 use Rattle.feed_reader.specs.declared.operation.Operator.{Operator}
 use Rattle.feed_reader.specs.declared.operation.Operator.TheVariants as operators
+use Rattle.feed_reader.specs.declared.operation.Form.{Form}
+use Rattle.feed_reader.specs.declared.operation.Form.TheVariants as forms
 use Rattle.feed_reader.specs.declared.operation.Asked.{Asked}
 use Rattle.feed_reader.specs.declared.operation.Asked.TheVariants as asks
-use Rattle.feed_reader.specs.declared.operation.Found.{Found}
 use Rattle.feed_reader.specs.Answers.{◌>>=◌, or_else}
-use Rattle.feed_reader.specs.Id.{document_of}
-use Rattle.feed_reader.specs.Items.{items_of, list_of, weighted_of, taken_of, member_count}
+use Rattle.feed_reader.specs.Id.{id_read}
+use Rattle.feed_reader.specs.Items.{items_read, list_read, set_read, taken_read, member_count}
 
 -- 1. The line is one JSON value in UTF-8, as `serde_json` reads it: what it takes as a number, how
 -- deep it lets lists and objects nest, and that the last of two equal names stands
-unfoldable pub json_of : List ℕ → Option Data
-json_of line = if is_utf8 line then read line else None
+unfoldable pub json_read : List ℕ → Option Data
+json_read line = if is_utf8 line then read line else None
 
 -- 2. It is an object with exactly one of the members `put`, `update` and `remove`
 abbrev pub only_one : Option Data → Option Data → Option Data → Option (Operation × Data)
@@ -42,19 +46,27 @@ operation_of d = only_one (get (codes "put") d) (get (codes "update") d) (get (c
 
 -- 3. That member is an id
 abbrev pub id_of : Data → Option ℕ
-id_of d = option_and_then document_of (as_str d)
+id_of d = option_and_then id_read (as_str d)
 
--- 4. A put and an update have an object `fields`; the named field may be missing there
-abbrev pub field_of : List ℕ → Data → Option (Option Data)
-field_of field d = option_map (get_member field)
-    (option_and_then as_object (get (codes "fields") d))
+-- 4. A put and an update have an object `fields`; a named field may be missing there
+abbrev pub if_object : Data → Option Data
+if_object d = if is_some (as_object d) then Some d else None
 
--- a put's field has the form of the items; without it the document has none
-abbrev pub put_of : Kind → ValueType → Option Data → Result Found Refusal
-put_of kind value_type None = Ok (record { asked = asks.Put []; members = 0 })
-put_of kind value_type (Some d) = do
-  items ← items_of kind value_type d
-  Ok (record { asked = asks.Put items; members = member_count d })
+abbrev pub fields_of : Data → Option Data
+fields_of d = option_and_then if_object (get (codes "fields") d)
+
+-- what is read of each field in turn, from its value in `fields`
+unfoldable pub each_field : {X : Type 0} → (Field → Option Data → Result X Refusal) → List Field → Data → Result (List X) Refusal
+each_field read_of [] d = Ok []
+each_field read_of (field ∷ fields) d = do
+  x ← read_of field (get field.name d)
+  xs ← each_field read_of fields d
+  Ok (x ∷ xs)
+
+-- a put's field has the form of the items; without it the document has none there
+abbrev pub put_read : Field → Option Data → Result (List Item) Refusal
+put_read field None = Ok []
+put_read field (Some d) = items_read field.kind field.value d
 
 -- the one member of an object that has no other
 abbrev pub only_member : Members → Option (List ℕ × Data)
@@ -67,59 +79,97 @@ operator_named name = if bytes_eq name (codes "assign") then operators.Assign
     else (if bytes_eq name (codes "add") then operators.Add
     else (if bytes_eq name (codes "remove") then operators.Remove else operators.Other))
 
--- the change that an operator makes of its value
-abbrev pub change_by : {A : Type 0} → (A → Change) → Result A Refusal → Result Asked Refusal
-change_by change said = said >>= λ value. Ok (asks.Update (change value))
+-- The table of the operators: the kinds that have one, and the form of its value
+abbrev pub form_of : Operator → Kind → Option Form
+form_of operators.Assign kind = Some forms.Items
+form_of operators.Add Single = None
+form_of operators.Add Array = Some forms.List
+form_of operators.Add WeightedSet = Some forms.Weights
+form_of operators.Remove Single = None
+form_of operators.Remove Array = None
+form_of operators.Remove WeightedSet = Some forms.Names
+form_of operators.Other kind = None
 
--- what an operator asks for with its value, which has the form that the operator has for the kind
-abbrev pub operator_of : Kind → ValueType → Operator → Data → Result Asked Refusal
-operator_of kind value_type operators.Assign d = change_by changes.Assign (items_of kind value_type d)
-operator_of Array value_type operators.Add d = change_by changes.Add (list_of value_type d)
-operator_of WeightedSet value_type operators.Add d = change_by changes.Add (weighted_of value_type d)
-operator_of WeightedSet value_type operators.Remove d = change_by changes.Take (taken_of value_type d)
-operator_of Single value_type operators.Add d = Ok asks.Unsupported
-operator_of Single value_type operators.Remove d = Ok asks.Unsupported
-operator_of Array value_type operators.Remove d = Ok asks.Unsupported
-operator_of _ value_type operators.Other d = Ok asks.Unsupported
+-- the change that an operator makes of a value of its form
+abbrev pub change_by : {A : Type 0} → (A → Change) → Result A Refusal → Result Change Refusal
+change_by change said = said >>= λ value. Ok (change value)
+
+abbrev pub change_read : Field → Form → Data → Result Change Refusal
+change_read field forms.Items d = change_by changes.Assign (items_read field.kind field.value d)
+change_read field forms.List d = change_by changes.Add (list_read field.value d)
+change_read field forms.Weights d = change_by changes.Add (set_read field.value d)
+change_read field forms.Names d = change_by changes.Take (taken_read field.value d)
+
+-- an operator that the kind has not makes no change, whatever its value
+abbrev pub operator_read : Field → Option Form → Data → Result (Option Change) Refusal
+operator_read field None d = Ok None
+operator_read field (Some form) d = change_read field form d >>= λ change. Ok (Some change)
 
 -- an update's field is an object with one member, the operator; without the field nothing changes
-abbrev pub update_of : Kind → ValueType → Option Data → Result Found Refusal
-update_of kind value_type None = Ok (record { asked = asks.Update changes.Keep; members = 0 })
-update_of kind value_type (Some d) = do
+abbrev pub update_read : Field → Option Data → Result (Option Change) Refusal
+update_read field None = Ok (Some changes.Keep)
+update_read field (Some d) = do
   operator ← or_else BadValue (option_and_then only_member (as_object d))
-  asked ← operator_of kind value_type (operator_named operator.0) operator.1
-  Ok (record { asked = asked; members = member_count operator.1 })
+  operator_read field (form_of (operator_named operator.0) field.kind) operator.1
 
-unfoldable pub found_of : List ℕ → Kind → ValueType → Operation → Data → Result Found Refusal
-found_of field kind value_type operations.Put d =
-    or_else BadValue (field_of field d) >>= put_of kind value_type
-found_of field kind value_type operations.Update d =
-    or_else BadValue (field_of field d) >>= update_of kind value_type
-found_of field kind value_type operations.Remove d =
-    Ok (record { asked = asks.Remove; members = 0 })
+-- all changes, if the kind of each attribute has its operator
+abbrev pub all_some : List (Option Change) → Option (List Change)
+all_some [] = Some []
+all_some (None ∷ more) = None
+all_some (Some change ∷ more) = option_map (λ changes. change ∷ changes) (all_some more)
 
--- 5. No member `create` or `condition` is there, and the operator is one of the kind
+unfoldable pub asked_of : List Field → Operation → Data → Result Asked Refusal
+asked_of fields operations.Put d = do
+  members ← or_else BadValue (fields_of d)
+  document ← each_field put_read fields members
+  Ok (asks.Put document)
+asked_of fields operations.Update d = do
+  members ← or_else BadValue (fields_of d)
+  changes ← each_field update_read fields members
+  Ok (asks.Update (all_some changes))
+asked_of fields operations.Remove d = Ok asks.Remove
+
+-- 5. No member `create` or `condition` is there, and each operator is one of its attribute's kind
 abbrev pub has_condition : Data → Bool
 has_condition d = is_some (get (codes "create") d) || is_some (get (codes "condition") d)
 
 abbrev pub op_asked : ℕ → Asked → Option Op
-op_asked doc (asks.Put items) = Some (ops.Put doc items)
-op_asked doc (asks.Update change) = Some (ops.Update doc change)
+op_asked doc (asks.Put document) = Some (ops.Put doc document)
+op_asked doc (asks.Update (Some changes)) = Some (ops.Update doc false changes)
+op_asked doc (asks.Update None) = None
 op_asked doc asks.Remove = Some (ops.Remove doc)
-op_asked doc asks.Unsupported = None
 
 abbrev pub supported : Data → ℕ → Asked → Option Op
 supported d doc asked = if has_condition d then None else op_asked doc asked
 
--- the checks in their order; 6. at most 1,023 members are named
-unfoldable pub op_of_value : List ℕ → Kind → ValueType → Data → Result Op Refusal
-op_of_value field kind value_type d = do
+-- 6. At most 1,023 members are in what a line gives a field: a put its value, an update its operator's value
+abbrev pub value_given : Operation → Option Data → Option Data
+value_given operations.Put value = value
+value_given operations.Update value =
+    option_map (λ operator. operator.1) (option_and_then only_member (option_and_then as_object value))
+value_given operations.Remove value = None
+
+abbrev pub members_given : Operation → Option Data → ℕ
+members_given operation value = unwrap_or (option_map member_count (value_given operation value)) 0
+
+abbrev pub is_over : Operation → Data → Field → Bool
+is_over operation members field = nat_lt most_items (members_given operation (get field.name members))
+
+abbrev pub some_over : List Field → Operation → Option Data → Bool
+some_over fields operation None = false
+some_over fields operation (Some members) = list_any (is_over operation members) fields
+
+abbrev pub gives_too_many : List Field → Operation → Data → Bool
+gives_too_many fields operation d = some_over fields operation (fields_of d)
+
+-- the checks in their order
+unfoldable pub op_of_value : List Field → Data → Result Op Refusal
+op_of_value fields d = do
   operation ← or_else NoOperation (operation_of d)
   doc ← or_else BadId (id_of operation.1)
-  found ← found_of field kind value_type operation.0 d
-  op ← or_else Unsupported (supported d doc found.asked)
-  if nat_lt 1023 found.members then Err TooManyItems else Ok op
+  asked ← asked_of fields operation.0 d
+  op ← or_else Unsupported (supported d doc asked)
+  if gives_too_many fields operation.0 d then Err TooManyItems else Ok op
 
-unfoldable pub op_of_line : List ℕ → Kind → ValueType → List ℕ → Result Op Refusal
-op_of_line field kind value_type line =
-    or_else NotJson (json_of line) >>= op_of_value field kind value_type
+unfoldable pub op_of_line : List Field → List ℕ → Result Op Refusal
+op_of_line fields line = or_else NotJson (json_read line) >>= op_of_value fields

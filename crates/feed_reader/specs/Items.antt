@@ -4,7 +4,7 @@ use Rattle.serde_json.specs.Data.{Data, null, boolean, number, string, array, ob
 use Rattle.serde_json.specs.Data.{Items, no_items, item, Members, no_members, member}
 use Rattle.serde_json.specs.Events.{items_len, members_len}
 use Rattle.serde_json.specs.Find.{as_null, as_array, as_object}
-use Rattle.attr_types.specs.Table.{with_item}
+use Rattle.attr_types.specs.Change.{with_item}
 use Rattle.attr_types.specs.declared.value.Value.{Value}
 use Rattle.attr_types.specs.declared.items.Item.{Item}
 use Rattle.attr_types.specs.declared.kind.Kind.{Kind}
@@ -13,67 +13,67 @@ use Rattle.attr_types.specs.declared.kind.ValueType.{ValueType}
 use Rattle.feed_reader.specs.declared.refusal.Refusal.{Refusal}
 use Rattle.feed_reader.specs.declared.refusal.Refusal.TheVariants.{BadValue}
 use Rattle.feed_reader.specs.Answers.{◌>>=◌, or_else}
-use Rattle.feed_reader.specs.Values.{value_of, value_named, weight_of}
+use Rattle.feed_reader.specs.Values.{value_read, name_read, weight_read}
 
 -- the values of a list, in order
-unfoldable pub values_listed : ValueType → Items → Result (List Value) Refusal
-values_listed value_type no_items = Ok []
-values_listed value_type (item d ds) = do
-  value ← value_of value_type d
-  values ← values_listed value_type ds
+unfoldable pub values_read : ValueType → Items → Result (List Value) Refusal
+values_read value_type no_items = Ok []
+values_read value_type (item d ds) = do
+  value ← value_read value_type d
+  values ← values_read value_type ds
   Ok (value ∷ values)
 
 -- the values that an object's members are named by, in their order there, whatever they hold
-unfoldable pub values_named : ValueType → Members → Result (List Value) Refusal
-values_named value_type no_members = Ok []
-values_named value_type (member name d ms) = do
-  value ← value_named value_type name
-  values ← values_named value_type ms
+unfoldable pub names_read : ValueType → Members → Result (List Value) Refusal
+names_read value_type no_members = Ok []
+names_read value_type (member name d ms) = do
+  value ← name_read value_type name
+  values ← names_read value_type ms
   Ok (value ∷ values)
 
 -- the items of an object from value to weight, each put among those before it by value ascending
 unfoldable pub weighted_after : ValueType → List Item → Members → Result (List Item) Refusal
 weighted_after value_type items no_members = Ok items
 weighted_after value_type items (member name d ms) = do
-  value ← value_named value_type name
-  weight ← weight_of d
+  value ← name_read value_type name
+  weight ← weight_read d
   weighted_after value_type (with_item items (record { value = value; weight = weight })) ms
 
-abbrev pub weighted_of : ValueType → Data → Result (List Item) Refusal
-weighted_of value_type d = or_else BadValue (as_object d) >>= weighted_after value_type []
+abbrev pub set_read : ValueType → Data → Result (List Item) Refusal
+set_read value_type d = or_else BadValue (as_object d) >>= weighted_after value_type []
 
 -- a value of an attribute without weights
-abbrev pub plain : Value → Item
-plain value = record { value = value; weight = pos 1 }
+abbrev pub plain_item : Value → Item
+plain_item value = record { value = value; weight = pos 1 }
 
-abbrev pub list_of : ValueType → Data → Result (List Item) Refusal
-list_of value_type d = do
+abbrev pub list_read : ValueType → Data → Result (List Item) Refusal
+list_read value_type d = do
   ds ← or_else BadValue (as_array d)
-  values ← values_listed value_type ds
-  Ok (map plain values)
+  values ← values_read value_type ds
+  Ok (map plain_item values)
 
-abbrev pub one_of : ValueType → Data → Result (List Item) Refusal
-one_of value_type d = do
-  value ← value_of value_type d
-  Ok (plain value ∷ [])
+abbrev pub one_read : ValueType → Data → Result (List Item) Refusal
+one_read value_type d = do
+  value ← value_read value_type d
+  Ok (plain_item value ∷ [])
 
-abbrev pub some_items_of : Kind → ValueType → Data → Result (List Item) Refusal
-some_items_of Single value_type d = one_of value_type d
-some_items_of Array value_type d = list_of value_type d
-some_items_of WeightedSet value_type d = weighted_of value_type d
+abbrev pub some_items_read : Kind → ValueType → Data → Result (List Item) Refusal
+some_items_read Single value_type d = one_read value_type d
+some_items_read Array value_type d = list_read value_type d
+some_items_read WeightedSet value_type d = set_read value_type d
 
 -- the form of the items of each kind; in every kind `null` stands for no items
-unfoldable pub items_of : Kind → ValueType → Data → Result (List Item) Refusal
-items_of kind value_type d = if is_some (as_null d) then Ok [] else some_items_of kind value_type d
+unfoldable pub items_read : Kind → ValueType → Data → Result (List Item) Refusal
+items_read kind value_type d = if is_some (as_null d) then Ok [] else some_items_read kind value_type d
 
 -- the values that a removal names: in a list, or as the names of an object
-unfoldable pub taken_of : ValueType → Data → Result (List Value) Refusal
-taken_of value_type (array ds) = values_listed value_type ds
-taken_of value_type (object ms) = values_named value_type ms
-taken_of value_type null = Err BadValue
-taken_of value_type (boolean b) = Err BadValue
-taken_of value_type (number n) = Err BadValue
-taken_of value_type (string s) = Err BadValue
+unfoldable pub taken_read : ValueType → Data → Result (List Value) Refusal
+taken_read value_type (array ds) = values_read value_type ds
+taken_read value_type (object ms) = names_read value_type ms
+taken_read value_type null = Err BadValue
+taken_read value_type (boolean b) = Err BadValue
+taken_read value_type (number n) = Err BadValue
+taken_read value_type (string s) = Err BadValue
 
 -- how many members a list has, equal ones too, or how many distinct names an object
 abbrev pub member_count : Data → ℕ

@@ -7,3 +7,5 @@ pub mod Items
 pub mod Weights
 pub mod Grammar
 pub mod Feed
+pub mod Forms
+pub mod Rows

@@ -1,5 +1,5 @@
 -- The values and weights that JSON writes.
-use Rattle.std.specs.Prelude.{ℕ, ℤ, pos, negsuc, ◌&&◌, List, length, nat_le, int_le, if◌then◌else◌}
+use Rattle.std.specs.Prelude.{ℕ, ℤ, pos, negsuc, Bool, ◌&&◌, List, length, nat_le, int_le, if◌then◌else◌}
 use Rattle.std.specs.Prelude.{Option, Some, None, option_and_then, option_map, Result}
 use Rattle.serde_json.specs.Data.{Data}
 use Rattle.serde_json.specs.Find.{as_number, as_i64, as_str}
@@ -13,26 +13,29 @@ use Rattle.feed_reader.specs.Answers.{or_else}
 use Rattle.feed_reader.specs.Numerals.{long_written}
 
 -- a text of at most 1,024 bytes
-abbrev pub text_of : List ℕ → Option Value
-text_of bytes = if nat_le (length bytes) 1024 then Some (values.Text bytes) else None
+abbrev pub text_read : List ℕ → Option Value
+text_read bytes = if nat_le (length bytes) 1024 then Some (values.Text bytes) else None
 
 -- a whole number of 64 signed bits: none has a point or an exponent, and `-0` is none
-abbrev pub long_of : Data → Option ℤ
-long_of d = option_and_then as_i64 (as_number d)
+abbrev pub long_read : Data → Option ℤ
+long_read d = option_and_then as_i64 (as_number d)
 
 -- a JSON value as a value of an attribute
-abbrev pub value_of : ValueType → Data → Result Value Refusal
-value_of Long d = or_else BadValue (option_map values.Long (long_of d))
-value_of Text d = or_else BadValue (option_and_then text_of (as_str d))
+abbrev pub value_read : ValueType → Data → Result Value Refusal
+value_read Long d = or_else BadValue (option_map values.Long (long_read d))
+value_read Text d = or_else BadValue (option_and_then text_read (as_str d))
 
 -- the name of a member of an object as a value of an attribute
-abbrev pub value_named : ValueType → List ℕ → Result Value Refusal
-value_named Long name = or_else BadValue (option_map values.Long (long_written name))
-value_named Text name = or_else BadValue (text_of name)
+abbrev pub name_read : ValueType → List ℕ → Result Value Refusal
+name_read Long name = or_else BadValue (option_map values.Long (long_written name))
+name_read Text name = or_else BadValue (text_read name)
 
 -- 32 signed bits hold the number
-abbrev pub small : ℤ → Option ℤ
-small z = if int_le (negsuc 2147483647) z && int_le z (pos 2147483647) then Some z else None
+abbrev pub is_small : ℤ → Bool
+is_small z = int_le (negsuc 2147483647) z && int_le z (pos 2147483647)
 
-abbrev pub weight_of : Data → Result ℤ Refusal
-weight_of d = or_else BadValue (option_and_then small (long_of d))
+abbrev pub small_read : ℤ → Option ℤ
+small_read z = if is_small z then Some z else None
+
+abbrev pub weight_read : Data → Result ℤ Refusal
+weight_read d = or_else BadValue (option_and_then small_read (long_read d))

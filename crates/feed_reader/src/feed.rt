@@ -1,20 +1,20 @@
-ghost use Rattle.std.specs.Prelude.{◌≡◌, ◌+◌, ◌-◌, ◌^◌, ◌<◌, ◌≤◌, length, IfOk, IfSome, Err};
+ghost use Rattle.std.specs.Prelude.{◌≡◌, ◌-◌, ◌^◌, ◌<◌, ◌≤◌, length, IfOk, IfSome, Err};
 ghost use Rattle.std.specs.List.{AllByRecursion};
-ghost use Rattle.attr_types.specs.Lawful.{Fits};
-ghost use Rattle.attr_io.specs.Bytes.{ConsumesAtMost, HasMoreThan};
+ghost use Rattle.attr_types.specs.Lawful.{OpFits};
+ghost use Rattle.attr_io.specs.Bytes.{HasMoreThan, ReadsPieces};
 ghost use Rattle.attr_io.specs.Faults.{Rose};
-ghost use Rattle.feed_reader.specs.Feed.{feed_of, numbered_error, line_error, LinesSay, FeedSays, OnLines, ReadsAll};
+ghost use Rattle.feed_reader.specs.Feed.{feed_of, most_bytes, numbered_error, line_error, LinesSay, FeedSays, OnLines, ReadsAll};
 
 use crate::error::{FeedError, LinesError};
 use crate::line::read_line;
 use crate::refusal::{LineError, Refusal};
 use crate::split::{is_blank_line, split_line};
 use attr_io::{ReadError, Source, read_all};
-use attr_types::{Kind, Ops, ValueType};
+use attr_types::{Field, Fields, Ops};
 use std::alloc::Global;
 
 /// The most bytes that a feed may have.
-const MAX_FEED: usize = 16_777_216;
+const MOST_BYTES: usize = 16_777_216;
 
 fn at_line(line: u32, refusal: Refusal) -> FeedError
     ensures { result ≡ line_error line refusal }
@@ -39,16 +39,10 @@ fn numbered(line: u32, e: LineError) -> LinesError
 }
 
 /// The operations that a feed's bytes say.
-fn read_lines(
-    alloc: Global,
-    field: &str,
-    kind: Kind,
-    value: ValueType,
-    bytes: &[u8],
-) -> Result<Ops, LinesError>
+fn read_lines(alloc: Global, fields: &[Field], bytes: &[u8]) -> Result<Ops, LinesError>
     requires { length bytes.now < 2 ^ 32 - 1 }
-    ensures feed { LinesSay result (feed_of field.now kind value bytes.now) }
-    ensures fits { IfOk result (λ ops. AllByRecursion (Fits kind value) ops) }
+    ensures feed { LinesSay result (feed_of fields.now bytes.now) }
+    ensures fits { IfOk result (λ ops. AllByRecursion (OpFits fields.now) ops) }
     ensures few { IfOk result (λ ops. length ops ≤ length bytes.now) }
 {
     let mut ops = Ops::new(alloc);
@@ -57,7 +51,7 @@ fn read_lines(
     while !rest.is_empty() {
         let (line, after) = split_line(rest);
         if !is_blank_line(line) {
-            match read_line(alloc, field, kind, value, line) {
+            match read_line(alloc, fields, line) {
                 Ok(op) => ops.push(op)?,
                 Err(e) => return Err(numbered(number, e)),
             }
@@ -68,33 +62,32 @@ fn read_lines(
     Ok(ops)
 }
 
-/// Reads the operations of a feed for one attribute: the named field of each document.
+/// Reads the operations of a feed for some attributes: the fields of these names of each document.
 ///
 /// The source is read to its end, to a fault, or until more than 16,777,216 bytes were read; only
 /// then are lines looked at.
 pub fn read_feed<S: Source>(
     alloc: Global,
     source: &mut S,
-    field: &str,
-    kind: Kind,
-    value: ValueType,
+    fields: &Fields,
 ) -> Result<Ops, FeedError>
     ensures feed { IfSome (S.left source.old)
-        (λ bytes. FeedSays result (feed_of field.now kind value bytes)) }
-    ensures fits { IfOk result (λ ops. AllByRecursion (Fits kind value) ops) }
+        (λ bytes. FeedSays result (feed_of fields.now bytes)) }
+    ensures fits { IfOk result (λ ops. AllByRecursion (OpFits fields.now) ops) }
     ensures all { OnLines result (ReadsAll (S.left source.old) (S.left source.new)) }
-    ensures few { IfOk result (λ ops. length ops ≤ 16777216) }
+    ensures few { IfOk result (λ ops. length ops ≤ most_bytes) }
     ensures too_long { result ≡ Err FeedError.FeedTooLong
-        → HasMoreThan 16777216 (S.left source.old) }
+        → HasMoreThan most_bytes (S.left source.old) }
     ensures fault { result ≡ Err FeedError.ReadFault
         → Rose (S.faults source.old) (S.faults source.new) }
     ensures later { S.faults source.old ≤ S.faults source.new }
-    // Whatever the answer: no read is made once more bytes than a feed may have were read.
-    ensures front { ConsumesAtMost (16777216 + 65536) (S.left source.old) (S.left source.new) }
-    ensures reads { S.reads source.new ≤ S.reads source.old + 16777217 }
+    // Whatever the answer: a read is made only while at most so many bytes were read, and each read
+    // but the last took a byte.
+    ensures pieces { ReadsPieces most_bytes 65536
+        (S.left source.old) (S.left source.new) (S.reads source.old) (S.reads source.new) }
 {
-    match read_all(alloc, source, MAX_FEED) {
-        Ok(bytes) => match read_lines(alloc, field, kind, value, &bytes) {
+    match read_all(alloc, source, MOST_BYTES) {
+        Ok(bytes) => match read_lines(alloc, fields.as_slice(), &bytes) {
             Ok(ops) => Ok(ops),
             Err(LinesError::Line { line, refusal }) => Err(at_line(line, refusal)),
             Err(LinesError::Memory) => Err(FeedError::Memory),

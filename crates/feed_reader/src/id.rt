@@ -1,19 +1,19 @@
 ghost use Rattle.std.specs.Prelude.{◌≡◌, option_map};
-ghost use Rattle.feed_reader.specs.Id.{cut, cut_some, document_of};
+ghost use Rattle.feed_reader.specs.Id.{cut_at_colon, cut_some_at_colon, id_read};
 
 use crate::numeral::document_in;
 use attr_types::Doc;
 
 /// What stands before the first colon, and what after it.
 fn cut_at_colon(text: &str) -> Option<(&str, &str)>
-    ensures { option_map (λ p. (p.0.now, p.1.now)) result ≡ cut text.now }
+    ensures { option_map (λ p. (p.0.now, p.1.now)) result ≡ cut_at_colon text.now }
 {
     text.split_once(':')
 }
 
 /// The same, where something stands before the colon.
 fn cut_some_at_colon(text: &str) -> Option<(&str, &str)>
-    ensures { option_map (λ p. (p.0.now, p.1.now)) result ≡ cut_some text.now }
+    ensures { option_map (λ p. (p.0.now, p.1.now)) result ≡ cut_some_at_colon text.now }
 {
     let parts = cut_at_colon(text)?;
     if parts.0.is_empty() {
@@ -24,9 +24,9 @@ fn cut_some_at_colon(text: &str) -> Option<(&str, &str)>
 }
 
 /// The document that an id names.
-#[tactic(auto, unfolding(crate::specs::Id::document_of))]
+#[tactic(auto, unfolding(crate::specs::Id::id_read))]
 pub fn document_of_id(text: &str) -> Option<Doc>
-    ensures { result ≡ document_of text.now }
+    ensures { result ≡ id_read text.now }
 {
     let (scheme, rest) = cut_at_colon(text)?;
     if scheme != "id" {

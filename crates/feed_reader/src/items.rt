@@ -1,10 +1,10 @@
 ghost use Rattle.std.specs.Prelude.{◌≡◌, map, IfOk, []};
 ghost use Rattle.serde_json.specs.View.{view, items_view, members_view};
 ghost use Rattle.feed_reader.specs.declared.refusal.Refusal.TheVariants.{BadValue};
-ghost use Rattle.feed_reader.specs.Answers.{Says};
+ghost use Rattle.feed_reader.specs.Answers.{Reads};
 ghost use Rattle.feed_reader.specs.Weights.{entry_item};
-ghost use Rattle.feed_reader.specs.Items.{values_listed, values_named, weighted_after, weighted_of};
-ghost use Rattle.feed_reader.specs.Items.{plain, list_of, one_of, some_items_of, items_of, taken_of, member_count};
+ghost use Rattle.feed_reader.specs.Items.{values_read, names_read, weighted_after, set_read};
+ghost use Rattle.feed_reader.specs.Items.{plain_item, list_read, one_read, some_items_read, items_read, taken_read, member_count};
 
 use crate::refusal::{LineError, Refusal};
 use crate::value::{value_in, value_named_by, weight_in};
@@ -15,7 +15,7 @@ use std::collections::BTreeMap;
 
 /// The values of a list, in order.
 fn values_in(alloc: Global, value: ValueType, list: &[Json]) -> Result<Vec<Value>, LineError>
-    ensures { Says (λ v. v.items) result (values_listed value (items_view list.now)) }
+    ensures { Reads (λ v. v.items) result (values_read value (items_view list.now)) }
 {
     let mut values = Vec::with_capacity(alloc, list.len())?;
     for json in list {
@@ -30,7 +30,7 @@ fn names_in(
     value: ValueType,
     members: &Map<String, Json>,
 ) -> Result<Vec<Value>, LineError>
-    ensures { Says (λ v. v.items) result (values_named value (members_view members.now.entries)) }
+    ensures { Reads (λ v. v.items) result (names_read value (members_view members.now.entries)) }
 {
     let mut values = Vec::with_capacity(alloc, members.len())?;
     for (name, _) in members {
@@ -45,7 +45,7 @@ fn weights_in(
     value: ValueType,
     members: &Map<String, Json>,
 ) -> Result<BTreeMap<Value, i32>, LineError>
-    ensures { Says (λ m. map entry_item m.entries) result
+    ensures { Reads (λ m. map entry_item m.entries) result
         (weighted_after value [] (members_view members.now.entries)) }
 {
     let mut weights = BTreeMap::new(alloc);
@@ -58,7 +58,7 @@ fn weights_in(
 }
 
 fn plain_items(alloc: Global, values: Vec<Value>) -> Result<Items, AllocError>
-    ensures { IfOk result (λ items. items ≡ map plain values.items) }
+    ensures { IfOk result (λ items. items ≡ map plain_item values.items) }
 {
     let list: Vec<Item> = values
         .into_iter()
@@ -79,7 +79,7 @@ fn weighted_items(alloc: Global, weights: BTreeMap<Value, i32>) -> Result<Items,
 
 /// The items of a list of values.
 pub fn list_in(alloc: Global, value: ValueType, json: &Json) -> Result<Items, LineError>
-    ensures { Says (λ items. items) result (list_of value (view json.now)) }
+    ensures { Reads (λ items. items) result (list_read value (view json.now)) }
 {
     let list = json.as_array().ok_or(Refusal::BadValue)?;
     let values = values_in(alloc, value, list.as_slice())?;
@@ -88,7 +88,7 @@ pub fn list_in(alloc: Global, value: ValueType, json: &Json) -> Result<Items, Li
 
 /// The items of an object from value to weight, by value ascending.
 pub fn weighted_in(alloc: Global, value: ValueType, json: &Json) -> Result<Items, LineError>
-    ensures { Says (λ items. items) result (weighted_of value (view json.now)) }
+    ensures { Reads (λ items. items) result (set_read value (view json.now)) }
 {
     let members = json.as_object().ok_or(Refusal::BadValue)?;
     let weights = weights_in(alloc, value, members)?;
@@ -96,7 +96,7 @@ pub fn weighted_in(alloc: Global, value: ValueType, json: &Json) -> Result<Items
 }
 
 fn one_in(alloc: Global, value: ValueType, json: &Json) -> Result<Items, LineError>
-    ensures { Says (λ items. items) result (one_of value (view json.now)) }
+    ensures { Reads (λ items. items) result (one_read value (view json.now)) }
 {
     let mut list = Vec::with_capacity(alloc, 1)?;
     list.push(Item {
@@ -112,7 +112,7 @@ fn some_items_in(
     value: ValueType,
     json: &Json,
 ) -> Result<Items, LineError>
-    ensures { Says (λ items. items) result (some_items_of kind value (view json.now)) }
+    ensures { Reads (λ items. items) result (some_items_read kind value (view json.now)) }
 {
     match kind {
         Kind::Single => one_in(alloc, value, json),
@@ -122,14 +122,14 @@ fn some_items_in(
 }
 
 /// The items of a document of that kind. `null` stands for none.
-#[tactic(auto, unfolding(crate::specs::Items::items_of))]
+#[tactic(auto, unfolding(crate::specs::Items::items_read))]
 pub fn items_in(
     alloc: Global,
     kind: Kind,
     value: ValueType,
     json: &Json,
 ) -> Result<Items, LineError>
-    ensures { Says (λ items. items) result (items_of kind value (view json.now)) }
+    ensures { Reads (λ items. items) result (items_read kind value (view json.now)) }
 {
     if json.is_null() {
         return Ok(Items::new(alloc));
@@ -138,9 +138,9 @@ pub fn items_in(
 }
 
 /// The values that a removal from a weighted set names.
-#[tactic(auto, unfolding(crate::specs::Items::taken_of))]
+#[tactic(auto, unfolding(crate::specs::Items::taken_read))]
 pub fn taken_in(alloc: Global, value: ValueType, json: &Json) -> Result<Values, LineError>
-    ensures { Says (λ values. values) result (taken_of value (view json.now)) }
+    ensures { Reads (λ values. values) result (taken_read value (view json.now)) }
 {
     match json {
         Json::Array(list) => Ok(Values::from_vec(values_in(alloc, value, list.as_slice())?)),

@@ -4,17 +4,18 @@
 
 mod error;
 mod feed;
+mod fields;
 mod id;
 mod items;
+mod laws;
 mod line;
 mod numeral;
 mod operation;
 mod refusal;
 mod split;
-#[cfg(test)]
-mod tests;
 mod update;
 mod value;
 
 pub use error::FeedError;
 pub use feed::read_feed;
+pub use laws::{first_fault_law, rows_law};

@@ -1,15 +1,17 @@
 ghost use Rattle.std.specs.Prelude.{◌≡◌, option_map};
+ghost use Rattle.std.specs.List.{list_any};
 ghost use Rattle.serde_json.specs.View.{view};
 ghost use Rattle.feed_reader.specs.declared.refusal.Refusal.TheVariants.{NotJson};
-ghost use Rattle.feed_reader.specs.Answers.{Says, or_else};
-ghost use Rattle.feed_reader.specs.Grammar.{json_of, operation_of, id_of, field_of, found_of};
-ghost use Rattle.feed_reader.specs.Grammar.{has_condition, op_asked, supported, op_of_value, op_of_line};
+ghost use Rattle.feed_reader.specs.Answers.{Reads, or_else};
+ghost use Rattle.feed_reader.specs.Grammar.{json_read, operation_of, id_of, fields_of, asked_of};
+ghost use Rattle.feed_reader.specs.Grammar.{has_condition, op_asked, supported, is_over, gives_too_many, op_of_value, op_of_line};
 
+use crate::fields::{all_known, changes_in, document_in};
 use crate::id::document_of_id;
-use crate::operation::{Asked, Found, Operation};
+use crate::operation::{Asked, Operation};
 use crate::refusal::{LineError, Refusal};
-use crate::update::{put_in, update_in};
-use attr_types::{Doc, Items, Kind, Op, ValueType};
+use crate::update::members_given;
+use attr_types::{Doc, Field, MOST_ITEMS, Op};
 use serde_json::Value as Json;
 use std::alloc::Global;
 
@@ -30,42 +32,38 @@ fn id_in(member: &Json) -> Option<Doc>
     document_of_id(member.as_str()?)
 }
 
-/// The named field of a line's `fields`, which may be missing there.
-fn field_in<'a>(field: &str, line: &'a Json) -> Option<Option<&'a Json>>
-    ensures { option_map (λ f. option_map (λ v. view v.now) f) result
-        ≡ field_of field.now (view line.entry.now) }
+/// The object `fields` of a line.
+fn fields_in(line: &Json) -> Option<&Json>
+    ensures { option_map (λ v. view v.now) result ≡ fields_of (view line.now) }
 {
     let fields = line.get("fields")?;
-    if !fields.is_object() {
-        return None;
+    if fields.is_object() {
+        Some(fields)
+    } else {
+        None
     }
-    Some(fields.get(field))
 }
 
-#[tactic(auto, unfolding(crate::specs::Grammar::found_of))]
-fn found_in(
+#[tactic(auto, unfolding(crate::specs::Grammar::asked_of))]
+fn asked_in(
     alloc: Global,
-    field: &str,
-    kind: Kind,
-    value: ValueType,
+    fields: &[Field],
     operation: Operation,
     line: &Json,
-) -> Result<Found, LineError>
-    ensures { Says (λ f. f) result (found_of field.now kind value operation (view line.now)) }
+) -> Result<Asked, LineError>
+    ensures { Reads (λ asked. asked) result (asked_of fields.now operation (view line.now)) }
 {
     match operation {
         Operation::Put => {
-            let json = field_in(field, line).ok_or(Refusal::BadValue)?;
-            put_in(alloc, kind, value, json)
+            let members = fields_in(line).ok_or(Refusal::BadValue)?;
+            Ok(Asked::Put(document_in(alloc, fields, members)?))
         }
         Operation::Update => {
-            let json = field_in(field, line).ok_or(Refusal::BadValue)?;
-            update_in(alloc, kind, value, json)
+            let members = fields_in(line).ok_or(Refusal::BadValue)?;
+            let changes = changes_in(alloc, fields, members)?;
+            Ok(Asked::Update(all_known(alloc, changes)?))
         }
-        Operation::Remove => Ok(Found {
-            asked: Asked::Remove,
-            members: 0,
-        }),
+        Operation::Remove => Ok(Asked::Remove),
     }
 }
 
@@ -80,9 +78,13 @@ fn op_asked(doc: Doc, asked: Asked) -> Option<Op>
 {
     match asked {
         Asked::Put(items) => Some(Op::Put { doc, items }),
-        Asked::Update(change) => Some(Op::Update { doc, change }),
+        Asked::Update(Some(change)) => Some(Op::Update {
+            doc,
+            create: false,
+            change,
+        }),
+        Asked::Update(None) => None,
         Asked::Remove => Some(Op::Remove { doc }),
-        Asked::Unsupported => None,
     }
 }
 
@@ -95,28 +97,46 @@ fn supported_in(line: &Json, doc: Doc, asked: Asked) -> Option<Op>
     op_asked(doc, asked)
 }
 
+fn is_over(operation: Operation, members: &Json, field: &Field) -> bool
+    ensures { result ≡ is_over operation (view members.now) field.now }
+{
+    members_given(operation, members.get(field.name.as_str())) > MOST_ITEMS
+}
+
+fn is_some_over(fields: &[Field], operation: Operation, members: &Json) -> bool
+    ensures { result ≡ list_any (is_over operation (view members.now)) fields.now }
+{
+    fields
+        .iter()
+        .any(|field| is_over(operation, members, field))
+}
+
+/// Whether a line gives some field a list or an object of more members than a document has items.
+fn gives_too_many(fields: &[Field], operation: Operation, line: &Json) -> bool
+    ensures { result ≡ gives_too_many fields.now operation (view line.now) }
+{
+    match fields_in(line) {
+        None => false,
+        Some(members) => is_some_over(fields, operation, members),
+    }
+}
+
 #[tactic(auto, unfolding(crate::specs::Grammar::op_of_value))]
-fn op_in(
-    alloc: Global,
-    field: &str,
-    kind: Kind,
-    value: ValueType,
-    line: &Json,
-) -> Result<Op, LineError>
-    ensures { Says (λ op. op) result (op_of_value field.now kind value (view line.now)) }
+fn op_in(alloc: Global, fields: &[Field], line: &Json) -> Result<Op, LineError>
+    ensures { Reads (λ op. op) result (op_of_value fields.now (view line.now)) }
 {
     let (operation, member) = operation_in(line).ok_or(Refusal::NoOperation)?;
     let doc = id_in(member).ok_or(Refusal::BadId)?;
-    let Found { asked, members } = found_in(alloc, field, kind, value, operation, line)?;
+    let asked = asked_in(alloc, fields, operation, line)?;
     let op = supported_in(line, doc, asked).ok_or(Refusal::Unsupported)?;
-    if members > Items::MAX_LEN {
+    if gives_too_many(fields, operation, line) {
         return Err(LineError::Refused(Refusal::TooManyItems));
     }
     Ok(op)
 }
 
 fn json_in(alloc: Global, line: &[u8]) -> Result<Json, LineError>
-    ensures { Says view result (or_else NotJson (json_of line.now)) }
+    ensures { Reads view result (or_else NotJson (json_read line.now)) }
 {
     match Json::from_slice(alloc, line) {
         Ok(json) => Ok(json),
@@ -132,15 +152,9 @@ fn json_in(alloc: Global, line: &[u8]) -> Result<Json, LineError>
 
 /// The operation of a line.
 #[tactic(auto, unfolding(crate::specs::Grammar::op_of_line))]
-pub fn read_line(
-    alloc: Global,
-    field: &str,
-    kind: Kind,
-    value: ValueType,
-    line: &[u8],
-) -> Result<Op, LineError>
-    ensures { Says (λ op. op) result (op_of_line field.now kind value line.now) }
+pub fn read_line(alloc: Global, fields: &[Field], line: &[u8]) -> Result<Op, LineError>
+    ensures { Reads (λ op. op) result (op_of_line fields.now line.now) }
 {
     let json = json_in(alloc, line)?;
-    op_in(alloc, field, kind, value, &json)
+    op_in(alloc, fields, &json)
 }

@@ -1,4 +1,4 @@
-use attr_types::{Change, Items};
+use attr_types::{FieldChanges, FieldItems};
 
 /// The member by which a line says what it does.
 #[derive(Clone, Copy, Debug, PartialEq, Eq)]
@@ -17,19 +17,24 @@ pub enum Operator {
     Other,
 }
 
+/// The form of an operator's value, and with it the change that it asks for.
+#[derive(Clone, Copy, Debug, PartialEq, Eq)]
+pub enum Form {
+    /// The items of the kind, or `null`: they replace those that are there.
+    Items,
+    /// A list of values, which go to the end.
+    List,
+    /// An object from value to weight, whose items are added.
+    Weights,
+    /// A list of values, or an object whose names are: these are taken out.
+    Names,
+}
+
 /// What a line asks for.
 #[derive(Debug, Drop)]
 pub enum Asked {
-    Put(Items),
-    Update(Change),
+    Put(FieldItems),
+    /// `None` where some operator is none of its attribute's kind.
+    Update(Option<FieldChanges>),
     Remove,
-    /// An operator that the kind does not have.
-    Unsupported,
-}
-
-/// What a line asks for, and how many members the list or object has that it names.
-#[derive(Debug, Drop)]
-pub struct Found {
-    pub asked: Asked,
-    pub members: usize,
 }

@@ -1,8 +1,8 @@
 ghost use Rattle.std.specs.Prelude.{◌≡◌};
 ghost use Rattle.serde_json.specs.View.{view};
 ghost use Rattle.feed_reader.specs.declared.refusal.Refusal.TheVariants.{BadValue};
-ghost use Rattle.feed_reader.specs.Answers.{Says, or_else};
-ghost use Rattle.feed_reader.specs.Values.{text_of, value_of, value_named, weight_of};
+ghost use Rattle.feed_reader.specs.Answers.{Reads, or_else};
+ghost use Rattle.feed_reader.specs.Values.{text_read, value_read, name_read, weight_read};
 
 use crate::numeral::long_in;
 use crate::refusal::{LineError, Refusal};
@@ -11,7 +11,7 @@ use serde_json::Value as Json;
 use std::alloc::Global;
 
 fn text_in(alloc: Global, text: &str) -> Result<Value, LineError>
-    ensures { Says (λ v. v) result (or_else BadValue (text_of text.now)) }
+    ensures { Reads (λ v. v) result (or_else BadValue (text_read text.now)) }
 {
     if text.len() > Text::MAX_LEN {
         return Err(LineError::Refused(Refusal::BadValue));
@@ -21,7 +21,7 @@ fn text_in(alloc: Global, text: &str) -> Result<Value, LineError>
 
 /// The value that JSON writes.
 pub fn value_in(alloc: Global, value: ValueType, json: &Json) -> Result<Value, LineError>
-    ensures { Says (λ v. v) result (value_of value (view json.now)) }
+    ensures { Reads (λ v. v) result (value_read value (view json.now)) }
 {
     match value {
         ValueType::Long => Ok(Value::Long(json.as_i64().ok_or(Refusal::BadValue)?)),
@@ -31,7 +31,7 @@ pub fn value_in(alloc: Global, value: ValueType, json: &Json) -> Result<Value, L
 
 /// The value that the name of a member writes.
 pub fn value_named_by(alloc: Global, value: ValueType, name: &str) -> Result<Value, LineError>
-    ensures { Says (λ v. v) result (value_named value name.now) }
+    ensures { Reads (λ v. v) result (name_read value name.now) }
 {
     match value {
         ValueType::Long => Ok(Value::Long(long_in(name).ok_or(Refusal::BadValue)?)),
@@ -41,7 +41,7 @@ pub fn value_named_by(alloc: Global, value: ValueType, name: &str) -> Result<Val
 
 /// The weight that JSON writes.
 pub fn weight_in(json: &Json) -> Result<i32, LineError>
-    ensures { Says (λ w. w) result (weight_of (view json.now)) }
+    ensures { Reads (λ w. w) result (weight_read (view json.now)) }
 {
     let number = json.as_i64().ok_or(Refusal::BadValue)?;
     Ok(i32::try_from(number).ok().ok_or(Refusal::BadValue)?)

@@ -1,11 +1,18 @@
-use Rattle.std.proofs.Common.{◌++◌, arith, take, length-append}
-use Rattle.std.proofs.KnownBytes.{Consumes-trans}
+use Rattle.std.proofs.Common.{◌≤◌, ℕ, arith, length, subst, take}
+use Rattle.attr_io.proofs.ReadLemmas.{KeepsPieces, reads_more}
 use Rattle.attr_io.proofs.reading.read_pieces.Goals as goal
 
--- the bytes that the source lost are those kept, and those for which there was no memory
-pub returns-in_err-extend_from_slice-clause-front : goal.returns-in_err-extend_from_slice-clause-front
-returns-in_err-extend_from_slice-clause-front g c =
-    let kept = c.loop-source.bytes.items in
-    let gained = take c.in_ok-count.count c.read.new.into in
-    let taken = Consumes-trans _ _ _ _ _ c.loop-source.invariant.taken c.in_ok-count.ensures.bytes.0 in
-    (kept ++ gained, taken, omega (arith, c.in_ok-count.ensures.bound, length-append kept gained))
+-- there was no memory for the last piece
+pub returns-in_err-extend_from_slice-clause-pieces : goal.returns-in_err-extend_from_slice-clause-pieces
+returns-in_err-extend_from_slice-clause-pieces g c =
+    let most = length c.args.piece.now in
+    let bytes = c.loop-source.bytes.items in
+    let old = g.S.Source.left c.args.source.now in
+    let now = g.S.Source.left c.loop-source.source in
+    let from = g.S.Source.reads c.args.source.now in
+    let so_far = g.S.Source.reads c.loop-source.source in
+    let kept : KeepsPieces c.args.limit most bytes old now from so_far =
+    subst (λ (n : ℕ). KeepsPieces c.args.limit n bytes old now from so_far) c.loop-source.auto.piece c.loop-source.invariant.pieces in
+    let short : length (take c.in_ok-count.count c.read.new.into) ≤ most = omega (arith, c.in_ok-count.ensures.bound) in
+    reads_more c.args.limit most bytes (take c.in_ok-count.count c.read.new.into) old now (g.S.Source.left c.read.new.self) from so_far (g.S.Source.reads c.read.new.self)
+    kept (omega arith) c.in_ok-count.ensures.bytes.0 short c.read.ensures.one

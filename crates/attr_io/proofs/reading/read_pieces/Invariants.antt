@@ -1,16 +1,14 @@
 use Rattle.std.proofs.Common.{◌≤◌, ◌+◌, ◌-◌, length, vec_len}
-use Rattle.std.specs.Io.KnownBytes.{Consumes}
+use Rattle.attr_io.proofs.ReadLemmas.{KeepsPieces}
 use Rattle.attr_io.proofs.reading.read_pieces.Given as goal
 
 -- what is kept is what the source gave, one piece past the limit at most; the count of faults has
--- not fallen; each read so far took a byte at least, while at most `limit` bytes were read
+-- not fallen; each read so far took a byte at least
 abbrev pub invariant-loop-source : goal.invariant-loop-source
 invariant-loop-source g l = record {
-  taken : Consumes (g.S.Source.left l.initial.source) (g.S.Source.left l.source) l.bytes.items;
+  pieces : KeepsPieces l.limit (length l.piece) l.bytes.items (g.S.Source.left l.initial.source) (g.S.Source.left l.source) (g.S.Source.reads l.initial.source) (g.S.Source.reads l.source);
   later : g.S.Source.faults l.initial.source ≤ g.S.Source.faults l.source;
   within : vec_len l.bytes ≤ l.limit + length l.piece;
-  reads : g.S.Source.reads l.source ≤ g.S.Source.reads l.initial.source + vec_len l.bytes;
-  few : g.S.Source.reads l.source ≤ g.S.Source.reads l.initial.source + l.limit + 1;
 }
 
 abbrev pub decreases-loop-source : goal.decreases-loop-source

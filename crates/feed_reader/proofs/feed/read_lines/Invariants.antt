@@ -6,8 +6,8 @@ use Rattle.feed_reader.proofs.feed.read_lines.Given as goal
 -- the operations so far, and what the other lines say, are what the feed says
 abbrev pub invariant-loop-rest : goal.invariant-loop-rest
 invariant-loop-rest l = record {
-  said : with_front l.ops (ops_of_lines l.field l.kind l.value l.number (lines_of l.rest)) ≡ feed_of l.field l.kind l.value l.bytes;
-  small : l.number + length l.rest ≤ length l.bytes + 1;
+  said : with_front l.ops (ops_of_lines l.fields l.number (lines_of l.rest)) ≡ feed_of l.fields l.bytes;
+  small_read : l.number + length l.rest ≤ length l.bytes + 1;
   few : length l.ops + length l.rest ≤ length l.bytes;
 }
 

@@ -2,9 +2,9 @@ use Rattle.std.proofs.Common.{◌≡◌, ◌∙◌, [], ◌∷◌, rules, string
 use Rattle.std.specs.BTreeMap.{insert_entry}
 use Rattle.std.proofs.lemmas.Result.{err_from_is_err_and}
 use Rattle.attr_types.specs.Value.{value_cmp}
-use Rattle.feed_reader.specs.Answers.{FailsBy}
+use Rattle.feed_reader.specs.Answers.{ReadFails}
 use Rattle.feed_reader.specs.Weights.{entry_item}
-use Rattle.feed_reader.specs.Values.{value_named}
+use Rattle.feed_reader.specs.Values.{name_read}
 use Rattle.feed_reader.proofs.WeightLemmas.{weights_more, weights_name_fault, weights_weight_fault, weights_end}
 use Rattle.feed_reader.proofs.items.weights_in.Goals as goal
 
@@ -12,7 +12,7 @@ pub returns-in_err-named : goal.returns-in_err-named
 returns-in_err-named c =
     let p = err_from_is_err_and c.from_residual.result c.from_residual.ensures.1 in
     let rest : c.loop-name.name-iterator ≡ (c.in-Some.name.now, c.in-Some.json.now) ∷ c.next.new.self = search rules in
-    let fails : FailsBy c.in_err-named.field-0.0 (value_named c.args.value (string_bytes c.in-Some.name.now)) = rw c.as_str.ensures.value at c.in_err-named.ensures in
+    let fails : ReadFails c.in_err-named.field-0.0 (name_read c.args.value (string_bytes c.in-Some.name.now)) = rw c.as_str.ensures.value at c.in_err-named.ensures in
     rw (p.1, p.2) (weights_name_fault c.args.value c.loop-name.weights.entries c.in-Some.name.now c.in-Some.json.now c.in_err-named.field-0.0 _ _ _ rest fails c.loop-name.invariant)
 
 pub returns-in_err-weight : goal.returns-in_err-weight

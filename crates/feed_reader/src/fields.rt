@@ -1,0 +1,53 @@
+ghost use Rattle.std.specs.Prelude.{◌≡◌, IfOk, option_map};
+ghost use Rattle.serde_json.specs.View.{view};
+ghost use Rattle.feed_reader.specs.Answers.{Reads};
+ghost use Rattle.feed_reader.specs.Grammar.{all_some, each_field, put_read, update_read};
+
+use crate::refusal::LineError;
+use crate::update::{put_in, update_in};
+use attr_types::{Change, Field, FieldChanges, FieldItems};
+use serde_json::Value as Json;
+use std::alloc::{AllocError, Global};
+
+/// The items that a put gives each attribute.
+pub fn document_in(alloc: Global, fields: &[Field], members: &Json) -> Result<FieldItems, LineError>
+    ensures { Reads (λ document. document) result (each_field put_read fields.now (view members.now)) }
+{
+    let mut document = Vec::with_capacity(alloc, fields.len())?;
+    for field in fields {
+        document.push(put_in(alloc, field, members.get(field.name.as_str()))?)?;
+    }
+    Ok(FieldItems::from_vec(document))
+}
+
+/// The changes that an update makes of each attribute, `None` for an operator that the kind has not.
+pub fn changes_in(
+    alloc: Global,
+    fields: &[Field],
+    members: &Json,
+) -> Result<Vec<Option<Change>>, LineError>
+    ensures { Reads (λ changes. changes.items) result (each_field update_read fields.now (view members.now)) }
+{
+    let mut changes = Vec::with_capacity(alloc, fields.len())?;
+    for field in fields {
+        changes.push(update_in(alloc, field, members.get(field.name.as_str()))?)?;
+    }
+    Ok(changes)
+}
+
+/// All changes, if the kind of each attribute has its operator.
+pub fn all_known(
+    alloc: Global,
+    changes: Vec<Option<Change>>,
+) -> Result<Option<FieldChanges>, AllocError>
+    ensures { IfOk result (λ known. known ≡ all_some changes.items) }
+{
+    let mut known = Vec::with_capacity(alloc, changes.len())?;
+    for change in changes {
+        match change {
+            Some(change) => known.push(change)?,
+            None => return Ok(None),
+        }
+    }
+    Ok(Some(FieldChanges::from_vec(known)))
+}
