@@ -73,7 +73,9 @@ pub fn report_in(alloc: Global, request: Request, ops: Ops) -> Result<(u32, Stri
     let ops = ops.into_vec();
     let loaded = ops.len() as u32;
     let Request {
-        fields, queries, ..
+        fields,
+        queries,
+        ..
     } = request;
     let (table, skipped) = load(alloc, fields, ops)?;
     let mut text = String::new(alloc);

@@ -78,12 +78,7 @@ fn value_of_name(name: &str) -> Result<ValueType, Stop>
     }
 }
 
-fn one_field(
-    alloc: Global,
-    name: &str,
-    kind: Kind,
-    value: ValueType,
-) -> Result<Fields, AllocError>
+fn one_field(alloc: Global, name: &str, kind: Kind, value: ValueType) -> Result<Fields, AllocError>
     ensures { IfOk result (λ fields. fields ≡ field_of name.now kind value ∷ []) }
 {
     let name = Name::from_str(alloc, name)?;

@@ -11,4 +11,5 @@ mod mode;
 mod parse;
 mod read;
 mod survey;
+
 pub use parse::{grammar_law, parse_query};

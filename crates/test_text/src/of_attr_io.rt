@@ -46,7 +46,11 @@ fn a_fake_sink_fails_at_the_calls_listed_and_where_it_is_full(rt: HostRuntime) -
     ];
     for (room, step, call, taken, answer) in rows {
         let mut sink = FakeSink::create(rt.alloc(), room, step, &[call])?;
-        assert_eq!(rt; write_all(&mut sink, b"final at\n"), answer, "at {room}, {step}, {call}");
+        assert_eq!(rt;
+            write_all(&mut sink, b"final at\n"),
+            answer,
+            "at {room}, {step}, {call}"
+        );
         assert_eq!(rt; sink.taken(), taken.as_bytes(), "at {room}, {step}, {call}");
         let faults = u64::from(answer == Err(Failed));
         assert_eq!(rt; sink.faults(), faults, "at {room}, {step}, {call}");

@@ -154,10 +154,7 @@ fn repeated(
 #[test]
 fn hostile_feeds_get_their_answers(rt: HostRuntime) -> Result<(), Fail> {
     let rows = [
-        (
-            r#"{"put":"id:n:t::1","fields":{"f":5}"#,
-            "line 1: NotJson",
-        ),
+        (r#"{"put":"id:n:t::1","fields":{"f":5}"#, "line 1: NotJson"),
         ("\n\n{\"put\"", "line 3: NotJson"),
         (
             r#"{"put":"id:n:t::1","remove":"id:n:t::1"}"#,
@@ -215,7 +212,10 @@ fn a_feed_may_have_sixteen_mebibytes(rt: HostRuntime) -> Result<(), Fail> {
 
 #[test]
 fn a_feed_may_have_no_more(rt: HostRuntime) -> Result<(), Fail> {
-    assert_eq!(rt; answer_to_line_feeds(rt.alloc(), 16_777_217)?.as_str(), "FeedTooLong");
+    assert_eq!(rt;
+        answer_to_line_feeds(rt.alloc(), 16_777_217)?.as_str(),
+        "FeedTooLong"
+    );
     Ok(())
 }
 

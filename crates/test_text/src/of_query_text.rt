@@ -62,8 +62,16 @@ fn a_query_is_read(rt: HostRuntime) -> Result<(), Fail> {
             long,
             "One { field: 0, leaf: Above(Long(9223372036854775807)) }",
         ),
-        ("[;]", long, "One { field: 0, leaf: Range { low: None, high: None } }"),
-        ("[;]", string, "One { field: 0, leaf: Range { low: None, high: None } }"),
+        (
+            "[;]",
+            long,
+            "One { field: 0, leaf: Range { low: None, high: None } }",
+        ),
+        (
+            "[;]",
+            string,
+            "One { field: 0, leaf: Range { low: None, high: None } }",
+        ),
         (
             "[15;30]",
             long,
@@ -84,9 +92,21 @@ fn a_query_is_read(rt: HostRuntime) -> Result<(), Fail> {
             long,
             "And([Or([One { field: 0, leaf: Is(Long(1)) }]), One { field: 0, leaf: Is(Long(2)) }])",
         ),
-        ("\"te\"", string, "One { field: 0, leaf: Is(Text(Text { text: \"te\" })) }"),
-        ("\"te\"*", string, "One { field: 0, leaf: Prefix(Text { text: \"te\" }) }"),
-        ("<\"\"", string, "One { field: 0, leaf: Below(Text(Text { text: \"\" })) }"),
+        (
+            "\"te\"",
+            string,
+            "One { field: 0, leaf: Is(Text(Text { text: \"te\" })) }",
+        ),
+        (
+            "\"te\"*",
+            string,
+            "One { field: 0, leaf: Prefix(Text { text: \"te\" }) }",
+        ),
+        (
+            "<\"\"",
+            string,
+            "One { field: 0, leaf: Below(Text(Text { text: \"\" })) }",
+        ),
         (
             "\"\\\"\\\\\"",
             string,
