@@ -10,7 +10,7 @@ use Rattle.attr_types.specs.declared.op.Op.{Op}
 use Rattle.attr_words.specs.CommandLine.{attr_app}
 use Rattle.attr_words.specs.Reading.{AskForHelp, AreRefused}
 use Rattle.attr_run.specs.Run.{Run, Progress, Task, asked, task_of}
-use Rattle.attr_run.specs.Report.{written, text_of}
+use Rattle.attr_run.specs.Report.{written, answer_text}
 use Rattle.attr_run.specs.Answers.{EndsRun, IsEnd, OfRun, ComesExactly, ComesExactlyOfFeed}
 use Rattle.attr_run.specs.Answers.{IsBeforeRun, HasCause, HasNoRun, IsProper, IsRunUntil, IsDue}
 use Rattle.attr_run.specs.Steps.{IsAnswer}
@@ -199,7 +199,7 @@ exactly-feed met status progress fault answer (Some said) told = record {
 -- ---- what is written and left
 
 pub early-text : (met : Met) (status : Status) (progress : Progress)
-    → Answers met status progress → IsBeforeRun status → Appends met.old met.new (text_of status)
+    → Answers met status progress → IsBeforeRun status → Appends met.old met.new (answer_text status)
 early-text met Help progress answer early = subst (λ
     (text : List ℕ). Appends met.old met.new text) answer.1.2 answer.2
 early-text met (Usage cause) progress answer early = subst (λ

@@ -5,7 +5,7 @@ use Rattle.std.specs.List.{flat_map, filter_map}
 use Rattle.attr_types.specs.declared.op.Op.{Op}
 use Rattle.attr_run.specs.Run.{Run}
 use Rattle.attr_run.specs.Report.{written}
-use Rattle.attr_run.specs.History.{Event, Commit, IsRounds, IsLegalHistory, AreInPlace, commit_in}
+use Rattle.attr_run.specs.History.{RunEvent, Commit, IsRounds, IsLegalHistory, AreInPlace, commit_in}
 use Rattle.attr_run.specs.History.{commit_points, history}
 use Rattle.attr_run.specs.Answers.{IsRunUntil}
 use Rattle.attr_run.specs.Steps.{all_loaded}

@@ -13,9 +13,9 @@ use Rattle.feed_reader.specs.declared.refusal.Refusal.{Refusal}
 use Rattle.feed_reader.specs.declared.refusal.Refusal.TheVariants as refusals
 use Rattle.feed_reader.specs.declared.error.FeedError.{FeedError}
 use Rattle.feed_reader.specs.declared.error.FeedError.TheVariants as errors
-use Rattle.attr_run.specs.Run.{Run, Progress, Task, asked, number_of, ops_or_refused, ops_in, fed}
+use Rattle.attr_run.specs.Run.{Run, Progress, Task, asked, refusal_number, ops_or_refused, ops_in, fed}
 use Rattle.attr_run.specs.Run.{with_ops, task_of}
-use Rattle.attr_run.specs.Report.{text_of}
+use Rattle.attr_run.specs.Report.{answer_text}
 use Rattle.attr_run.specs.Answers.{EndsRun, OfRun, HasCause, HasNoRun, IsDue, IsProper}
 use Rattle.attr_run.specs.Steps.{Says, IsStopped, IsWordsStop, IsProperStop, IsEarly, feed_stop}
 use Rattle.attr_run.specs.declared.outcome.Status.{Status}
@@ -102,7 +102,7 @@ refused-line : (words : List Text) (left new : Option (List ℕ)) (run : Run) (l
     → asked words ≡ Ok run
     → IfSome left (λ bytes. feed_of run.fields bytes ≡ Err (line, refusal)) → ReadsAll left new
     → IsOk (asked words) × IfSome (task_of words left) (λ said. said
-    ≡ Err (BadFeed (feed.Line line (number_of refusal))))
+    ≡ Err (BadFeed (feed.Line line (refusal_number refusal))))
 refused-line words None new run line refusal asks says all = refused words None run _ asks tt
 refused-line words (Some bytes) new run line refusal asks says all =
     refused words (Some bytes) run _ asks (ops_in-short run bytes (Err (line, refusal)) all.0 says)
@@ -178,7 +178,7 @@ words-proper stops.Memory refusal = tt
 
 due-answer : (words : List Text) (left : Option (List ℕ)) (before now : ℕ) (status : Status) (progress : Progress)
     (text : List ℕ)
-    → HasCause words left before now status → HasNoRun progress → text ≡ text_of status
+    → HasCause words left before now status → HasNoRun progress → text ≡ answer_text status
     → IsDue words left before now status progress text
 due-answer words left before now Done progress text cause none is = absurd cause
 due-answer words left before now Help progress text cause none is = (cause, none, is)

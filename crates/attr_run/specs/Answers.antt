@@ -8,7 +8,7 @@ use Rattle.attr_io.specs.Faults.{Rose}
 use Rattle.attr_types.specs.declared.op.Op.{Op}
 use Rattle.attr_types.specs.declared.error.QueryError.TheVariants as refusal
 use Rattle.attr_run.specs.Run.{Run, Progress, asked, task_of}
-use Rattle.attr_run.specs.Report.{written, text_of}
+use Rattle.attr_run.specs.Report.{written, answer_text}
 use Rattle.attr_run.specs.History.{IsLoaded, IsRounds, IsAfterwards, IsLegalHistory, history}
 use Rattle.attr_run.specs.declared.outcome.Outcome.{Outcome}
 use Rattle.attr_run.specs.declared.outcome.Status.{Status}
@@ -105,7 +105,7 @@ IsDue words left before now Done progress text =
 IsDue words left before now (Full operation active held) progress text =
     OfRun words left (IsRunUntil progress (Some operation) text)
 IsDue words left before now status progress text =
-    HasCause words left before now status × HasNoRun progress × (text ≡ text_of status)
+    HasCause words left before now status × HasNoRun progress × (text ≡ answer_text status)
 
 -- of a text that was due at an answer the front was written, and not all of it
 pub record WritesFront (words : List Text) (left : Option (List ℕ)) (before now : ℕ)

@@ -37,9 +37,9 @@ IsAfterwards run progress =
 
 -- what happens in a run: a commit of the first so many operations; or a reader's round of that
 -- number, at so many operations, with the documents that each query hits
-pub data Event : Type 0 where
-  Commit : (operations : ℕ) → Event
-  Round : (reader round operations : ℕ) → (answers : List (List ℕ)) → Event
+pub data RunEvent : Type 0 where
+  Commit : (operations : ℕ) → RunEvent
+  Round : (reader round operations : ℕ) → (answers : List (List ℕ)) → RunEvent
 
 -- from 0 up
 unfoldable pub numbers_to : ℕ → List ℕ
@@ -59,20 +59,20 @@ abbrev pub hits_at : Run → List Op → ℕ → List (List ℕ)
 hits_at run ops n = map (λ query. hits query (table_at run ops n)) run.queries
 
 -- those of a reader's rounds, from number `round` on, that stand at a commit point
-abbrev pub rounds_of_reader : Run → List Op → ℕ → ℕ → ℕ → List ℕ → List Event
+abbrev pub rounds_of_reader : Run → List Op → ℕ → ℕ → ℕ → List ℕ → List RunEvent
 rounds_of_reader run ops point reader round [] = []
 rounds_of_reader run ops point reader round (n ∷ counts) =
     (if n == point then Round reader round n (hits_at run ops n) ∷ [] else [])
     ++ rounds_of_reader run ops point reader (round + 1) counts
 
 -- those of the readers from number `reader` on, by reader and then by round
-abbrev pub rounds_at : Run → List Op → ℕ → ℕ → List (List ℕ) → List Event
+abbrev pub rounds_at : Run → List Op → ℕ → ℕ → List (List ℕ) → List RunEvent
 rounds_at run ops point reader [] = []
 rounds_at run ops point reader (counts ∷ rounds) =
     rounds_of_reader run ops point reader 1 counts ++ rounds_at run ops point (reader + 1) rounds
 
 -- each commit, and then the rounds at it
-unfoldable pub history : Run → List Op → Progress → List Event
+unfoldable pub history : Run → List Op → Progress → List RunEvent
 history run ops progress =
     flat_map (λ point. Commit point ∷ rounds_at run ops point 1 progress.rounds)
     (commit_points run (length ops) progress.loaded)
@@ -80,12 +80,12 @@ history run ops progress =
 -- ---- what is legal
 
 -- the commits among events
-abbrev pub commit_in : Event → Option ℕ
+abbrev pub commit_in : RunEvent → Option ℕ
 commit_in (Commit n) = Some n
 commit_in (Round reader round n answers) = None
 
 -- a round of this reader, by its number and its count of operations
-abbrev pub round_in : ℕ → Event → Option (ℕ × ℕ)
+abbrev pub round_in : ℕ → RunEvent → Option (ℕ × ℕ)
 round_in reader (Commit n) = None
 round_in reader (Round other round n answers) = if other == reader then Some (round, n) else None
 
@@ -95,7 +95,7 @@ numbered_from round [] = []
 numbered_from round (n ∷ counts) = (round, n) ∷ numbered_from (round + 1) counts
 
 -- the rounds of each reader, from number `reader` on, are among the events once each and in order
-abbrev pub AreInOrder : List Event → ℕ → List (List ℕ) → Type 0
+abbrev pub AreInOrder : List RunEvent → ℕ → List (List ℕ) → Type 0
 AreInOrder events reader [] = Unit {0}
 AreInOrder events reader (counts ∷ rounds) =
     (filter_map (round_in reader) events ≡ numbered_from 1 counts)
@@ -103,7 +103,7 @@ AreInOrder events reader (counts ∷ rounds) =
 
 -- each round is of one of so many readers, stands at the last commit before it, if there is one,
 -- and answers by the table of that commit
-abbrev pub AreInPlace : Run → List Op → ℕ → Option ℕ → List Event → Type 0
+abbrev pub AreInPlace : Run → List Op → ℕ → Option ℕ → List RunEvent → Type 0
 AreInPlace run ops readers last [] = Unit {0}
 AreInPlace run ops readers last (Commit n ∷ events) = AreInPlace run ops readers (Some n) events
 AreInPlace run ops readers last (Round reader round n answers ∷ events) =
@@ -112,7 +112,7 @@ AreInPlace run ops readers last (Round reader round n answers ∷ events) =
 
 -- a history of a run: its commits in order, the rounds of each reader in order and once each,
 -- each after its commit and before the next one, and each answer the hits of the table at its place
-pub record IsLegalHistory (run : Run) (ops : List Op) (progress : Progress) (events : List Event)
+pub record IsLegalHistory (run : Run) (ops : List Op) (progress : Progress) (events : List RunEvent)
     : Type 0 where
   pub commits : filter_map commit_in events ≡ commit_points run (length ops) progress.loaded
   pub in_order : AreInOrder events 1 progress.rounds

@@ -107,19 +107,19 @@ feed_line line number =
     codes "attr: feed line " ++ decimal line ++ codes ": " ++ line_refusal number ++ codes "\n"
 
 -- what is written at an answer before any run; what a run writes is `written`
-unfoldable pub text_of : Status → List ℕ
-text_of status.Done = []
-text_of status.Help = help_text
-text_of (status.Usage usage.Words) = codes "attr: usage: words\n"
-text_of (status.Usage usage.KindName) = codes "attr: usage: kind\n"
-text_of (status.Usage usage.ValueName) = codes "attr: usage: value\n"
-text_of (status.Usage (usage.Query number error)) = query_line number error
-text_of (status.BadFeed (feed.Line line number)) = feed_line line number
-text_of (status.BadFeed feed.TooLong) = codes "attr: feed: FeedTooLong\n"
-text_of status.ReadFault = codes "attr: read fault\n"
-text_of status.WriteFault = []
-text_of (status.Full operation active held) = []
-text_of status.Memory = []
+unfoldable pub answer_text : Status → List ℕ
+answer_text status.Done = []
+answer_text status.Help = help_text
+answer_text (status.Usage usage.Words) = codes "attr: usage: words\n"
+answer_text (status.Usage usage.KindName) = codes "attr: usage: kind\n"
+answer_text (status.Usage usage.ValueName) = codes "attr: usage: value\n"
+answer_text (status.Usage (usage.Query number error)) = query_line number error
+answer_text (status.BadFeed (feed.Line line number)) = feed_line line number
+answer_text (status.BadFeed feed.TooLong) = codes "attr: feed: FeedTooLong\n"
+answer_text status.ReadFault = codes "attr: read fault\n"
+answer_text status.WriteFault = []
+answer_text (status.Full operation active held) = []
+answer_text status.Memory = []
 
 -- ---- the exit status of the program
 

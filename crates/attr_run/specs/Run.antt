@@ -132,18 +132,18 @@ asked words = do
 -- ---- the feed
 
 -- the number of a refusal of a feed's line, in the order of the checks on a line
-abbrev pub number_of : Refusal → ℕ
-number_of refusals.NotJson = 1
-number_of refusals.NoOperation = 2
-number_of refusals.BadId = 3
-number_of refusals.BadValue = 4
-number_of refusals.Unsupported = 5
-number_of refusals.TooManyItems = 6
+abbrev pub refusal_number : Refusal → ℕ
+refusal_number refusals.NotJson = 1
+refusal_number refusals.NoOperation = 2
+refusal_number refusals.BadId = 3
+refusal_number refusals.BadValue = 4
+refusal_number refusals.Unsupported = 5
+refusal_number refusals.TooManyItems = 6
 
 -- operations, or the refusal of the first faulty line
 abbrev pub ops_or_refused : Result (List Op) (ℕ × Refusal) → Result (List Op) Status
 ops_or_refused (Ok ops) = Ok ops
-ops_or_refused (Err fault) = Err (BadFeed (feed.Line fault.0 (number_of fault.1)))
+ops_or_refused (Err fault) = Err (BadFeed (feed.Line fault.0 (refusal_number fault.1)))
 
 -- the operations that a feed's bytes give, or why they are refused
 unfoldable pub ops_in : Run → List ℕ → Result (List Op) Status

@@ -10,7 +10,7 @@ use Rattle.feed_reader.specs.declared.error.FeedError.{FeedError}
 use Rattle.feed_reader.specs.declared.error.FeedError.TheVariants as feed_errors
 use Rattle.attr_run.specs.Run.{Run, Progress, run_of, asked}
 use Rattle.attr_run.specs.Settings.{IsAskedBy}
-use Rattle.attr_run.specs.Report.{text_of}
+use Rattle.attr_run.specs.Report.{answer_text}
 use Rattle.attr_run.specs.Answers.{OfRun, ReadsAsAsked, HasCause, HasNoRun, IsDue, IsProper}
 use Rattle.attr_run.specs.Answers.{WritesFront}
 use Rattle.attr_run.specs.declared.outcome.Status.{Status}
@@ -78,7 +78,7 @@ pub record IsEarly (stop : Stop) (status : Status) (progress : Progress) (text :
     : Type 0 where
   pub answers : stop ≡ stops.Answer status
   pub no_run : HasNoRun progress
-  pub own_text : text ≡ text_of status
+  pub own_text : text ≡ answer_text status
 
 -- an answer of a call: the text that is due is written, or a front of it, or nothing
 abbrev pub IsAnswer : List Text → Option (List ℕ) → ℕ → ℕ → Option (List ℕ) → Option (List ℕ)

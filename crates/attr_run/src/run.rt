@@ -10,7 +10,7 @@ ghost use Rattle.attr_words.specs.Reading.{AskForHelp, AreRefused};
 ghost use Rattle.feed_reader.specs.Feed.{most_bytes};
 ghost use Rattle.attr_run.specs.Run.{asked, task_of};
 ghost use Rattle.attr_run.specs.Settings.{IsAskedBy};
-ghost use Rattle.attr_run.specs.Report.{written, text_of};
+ghost use Rattle.attr_run.specs.Report.{written, answer_text};
 ghost use Rattle.attr_run.specs.History.{IsLoaded, IsRounds, IsAfterwards, IsLegalHistory, history};
 ghost use Rattle.attr_run.specs.Answers.{progress_of, EndsRun, IsEnd, OfRun, ComesExactly};
 ghost use Rattle.attr_run.specs.Answers.{ComesExactlyOfFeed, IsBeforeRun, IsProper, HasNoRun};
@@ -200,7 +200,7 @@ pub fn attr_main<S: Source, K: Sink, G: Gate + Sync>(
 
     // What is written and left at an answer before any run, and where the sink or memory fails.
     ensures text { IsBeforeRun result.status → Appends (K.taken sink.old) (K.taken sink.new)
-        (text_of result.status) }
+        (answer_text result.status) }
     ensures no_run { IsBeforeRun result.status → HasNoRun (progress_of result) }
     ensures write_fault { result.status ≡ Status.WriteFault
         → Rose (K.faults sink.old) (K.faults sink.new) }

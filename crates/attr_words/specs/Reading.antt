@@ -117,8 +117,8 @@ HasGivenTexts line s = let rows = matches_of attr_app line in
     × (first_of (codes "field") rows ≡ Some (string_bytes s.field))
 
 -- the answer to a list of words; the three causes exclude each other
-abbrev pub Reads : List Text → Result Settings WordsError → Type 0
-Reads line (Ok s) = AreTaken line × (given_by s ≡ settings_of (matches_of attr_app line))
-Reads line (Err errors.Help) = AskForHelp line
-Reads line (Err errors.Refused) = AreRefused line
-Reads line (Err errors.Memory) = Unit {0}
+abbrev pub AnswersWords : List Text → Result Settings WordsError → Type 0
+AnswersWords line (Ok s) = AreTaken line × (given_by s ≡ settings_of (matches_of attr_app line))
+AnswersWords line (Err errors.Help) = AskForHelp line
+AnswersWords line (Err errors.Refused) = AreRefused line
+AnswersWords line (Err errors.Memory) = Unit {0}
