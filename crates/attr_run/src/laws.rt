@@ -1,6 +1,6 @@
 //! Laws of the statement of a run. Each function does nothing: its contract is the law.
 ghost use Rattle.attr_run.specs.Settings.{RunsAreAsked};
-ghost use Rattle.attr_run.specs.Laws.{NoRoundComesFirst};
+ghost use Rattle.attr_run.specs.Laws.{HistoriesAreLegal, NoRoundComesFirst};
 
 use attr_words::ranges_law;
 use query_text::grammar_law;
@@ -14,7 +14,9 @@ pub fn settings_law()
     grammar_law();
 }
 
-/// No history of a run begins with a round: each stands after its commit.
+/// Where the rounds of a run stand at loaded commit points and never fall, its history is legal. No
+/// legal history begins with a round: each stands after its commit.
 pub fn history_law()
-    ensures { NoRoundComesFirst }
+    ensures legal { HistoriesAreLegal }
+    ensures first { NoRoundComesFirst }
 {}

@@ -3,11 +3,11 @@ use Rattle.std.specs.Prelude.{◌≡◌, ◌<◌, ◌≤◌, ℕ, ℤ, pos, negs
 use Rattle.std.specs.List.{flat_map, list_all}
 use Rattle.std.specs.Int.Digits.{digits_of}
 use Rattle.attr_types.specs.declared.kind.ValueType.{ValueType}
-use Rattle.attr_types.specs.declared.kind.ValueType.TheVariants as types
 use Rattle.attr_types.specs.declared.error.QueryError.{QueryError}
 use Rattle.attr_types.specs.declared.error.QueryError.TheVariants.{Syntax, NoField, WrongType, OutOfRange, TooDeep, Memory}
 use Rattle.attr_types.specs.declared.query.Query.{Query}
 use Rattle.attr_types.specs.Query.{QueryTree, QueryTrees, one, and, or, no_trees, tree, tree_of}
+pub use Rattle.attr_types.specs.Fitting.{is_of_type}
 use Rattle.attr_types.specs.Value.{type_of}
 use Rattle.attr_types.specs.declared.value.Value.{Value}
 use Rattle.attr_types.specs.declared.value.Value.TheVariants.{Long, Text}
@@ -111,12 +111,6 @@ abbrev mutual
   pub list_values : QueryTrees → List Value
   list_values no_trees = []
   list_values (tree first others) = tree_values first ++ list_values others
-
-abbrev pub is_of_type : ValueType → Value → Bool
-is_of_type types.Long (Long number) = true
-is_of_type types.Long (Text bytes) = false
-is_of_type types.Text (Long number) = false
-is_of_type types.Text (Text bytes) = true
 
 -- a number of 64 signed bits, or a text of at most 1,024 bytes
 abbrev pub is_in_range : Value → Bool
