@@ -1,8 +1,8 @@
 -- What an answer of a call says, status by status.
-use Rattle.std.proofs.Common.{◌≡◌, ◌≢◌, ◌≤◌, ◌⊎◌, ◌∙◌, inl, inr, sym, ap, refl, subst, ℕ, List, []}
-use Rattle.std.proofs.Common.{◌∷◌, length, Option, Some, None, Result, Ok, Err, IsOk, IsErr, IfSome}
-use Rattle.std.proofs.Common.{IsOkAnd, arith}
-use Rattle.std.specs.Io.KnownBytes.{Appends, Keeps}
+use Rattle.std.proofs.Common.{◌≡◌, ◌≤◌, ◌⊎◌, inl, inr, sym, refl, subst, ℕ, List}
+use Rattle.std.proofs.Common.{length, Option, Some, None, Result, Ok, Err, IsOk, IfSome}
+use Rattle.std.proofs.Common.{IsOkAnd}
+use Rattle.std.specs.Io.KnownBytes.{Appends}
 use Rattle.clap.specs.Walk.{Text}
 use Rattle.clap.specs.Faults.{fault_of}
 use Rattle.attr_io.specs.Faults.{Rose}
@@ -12,7 +12,7 @@ use Rattle.attr_words.specs.Reading.{AskForHelp, AreRefused}
 use Rattle.attr_run.specs.Run.{Run, Progress, Task, asked, task_of}
 use Rattle.attr_run.specs.Report.{written, answer_text}
 use Rattle.attr_run.specs.Answers.{EndsRun, IsEnd, OfRun, ComesExactly, ComesExactlyOfFeed}
-use Rattle.attr_run.specs.Answers.{IsBeforeRun, HasCause, HasNoRun, IsProper, IsRunUntil, IsDue}
+use Rattle.attr_run.specs.Answers.{IsBeforeRun, HasNoRun, IsProper, IsRunUntil, IsDue}
 use Rattle.attr_run.specs.Steps.{IsAnswer}
 use Rattle.attr_run.specs.declared.outcome.Status.{Status}
 use Rattle.attr_run.specs.declared.outcome.Status.TheVariants.{Done, Help, Usage, BadFeed}

@@ -13,7 +13,6 @@ use Rattle.attr_types.specs.declared.kind.Kind.{Kind}
 use Rattle.attr_types.specs.declared.kind.ValueType.{ValueType}
 use Rattle.attr_words.specs.CommandLine.{attr_app}
 use Rattle.attr_words.specs.Reading.{Given, AreTaken, AskForHelp, AreRefused, settings_of, given_by}
-use Rattle.attr_words.specs.declared.settings.Settings.{Settings}
 use Rattle.query_text.specs.Parsing.{query_of}
 use Rattle.attr_run.specs.Run.{◌>>=◌, Run, or_refused, settings_by, settings_in, kind_named}
 use Rattle.attr_run.specs.Run.{value_named, query_or_refused, queries_from, field_of, run_of}

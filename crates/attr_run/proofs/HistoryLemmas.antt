@@ -1,6 +1,6 @@
 -- The history of a run is legal, where its rounds stand at loaded commit points and never fall.
-use Rattle.std.proofs.Common.{◌≡◌, ◌≢◌, ◌⊎◌, ◌∙◌, inl, inr, sym, ap, ap₂, refl, subst, ℕ, zero, suc, ◌+◌}
-use Rattle.std.proofs.Common.{◌*◌, ◌%◌, ◌≤◌, ◌<◌, ◌==◌, ◌&&◌, ◌||◌, nat_le, Bool, true, false, cond}
+use Rattle.std.proofs.Common.{◌≡◌, ◌≢◌, ◌∙◌, inl, inr, sym, ap, ap₂, refl, subst, ℕ, zero, suc, ◌+◌}
+use Rattle.std.proofs.Common.{◌%◌, ◌≤◌, ◌<◌, ◌==◌, ◌&&◌, ◌||◌, nat_le, Bool, true, false, cond}
 use Rattle.std.proofs.Common.{List, [], ◌∷◌, ◌++◌, length, filter, All, Option, Some, None, append-nil}
 use Rattle.std.proofs.Common.{append_assoc, length-append, arith, eq-eqb}
 use Rattle.std.proofs.Math.Nat.{mul-mod_right}
@@ -13,8 +13,8 @@ use Rattle.std.specs.List.{AllByRecursion, flat_map, filter_map}
 use Rattle.std.specs.List.Sorted.{IsNonDecreasing}
 use Rattle.attr_types.specs.declared.op.Op.{Op}
 use Rattle.attr_types.specs.Table.{IsCommitPoint}
-use Rattle.attr_run.specs.Run.{Run, Progress}
-use Rattle.attr_run.specs.History.{RunEvent, Commit, Round, IsRounds, IsLegalHistory, AreInOrder}
+use Rattle.attr_run.specs.Run.{Run}
+use Rattle.attr_run.specs.History.{RunEvent, Commit, Round, AreInOrder}
 use Rattle.attr_run.specs.History.{AreInPlace, numbers_to, is_commit_point, commit_points, hits_at}
 use Rattle.attr_run.specs.History.{rounds_of_reader, rounds_at, history, commit_in, round_in}
 use Rattle.attr_run.specs.History.{numbered_from}

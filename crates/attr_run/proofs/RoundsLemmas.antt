@@ -1,5 +1,5 @@
 -- A run without readers.
-use Rattle.std.proofs.Common.{◌≡◌, sym, refl, ℕ, ◌<◌, List, [], length, None, arith}
+use Rattle.std.proofs.Common.{◌≡◌, sym, refl, ℕ, ◌<◌, List, length, None, arith}
 use Rattle.attr_types.specs.declared.op.Op.{Op}
 use Rattle.attr_run.specs.Run.{Run}
 use Rattle.attr_run.specs.Report.{written}

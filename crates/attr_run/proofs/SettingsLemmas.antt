@@ -1,6 +1,6 @@
 -- What holds of a run that words ask for.
-use Rattle.std.proofs.Common.{◌≡◌, ◌∙◌, sym, ap, refl, subst, ℕ, ◌+◌, List, [], ◌∷◌, map, string_bytes}
-use Rattle.std.proofs.Common.{Option, Some, None, Result, Ok, Err, String}
+use Rattle.std.proofs.Common.{◌≡◌, sym, ap, refl, subst, ℕ, ◌+◌, List, [], ◌∷◌, map, string_bytes}
+use Rattle.std.proofs.Common.{Result, Ok, Err, String}
 use Rattle.std.proofs.lemmas.Str.{IsUtf8-string_bytes}
 use Rattle.std.specs.List.{AllByRecursion, AllZip}
 use Rattle.std.specs.Str.{IsUtf8}
@@ -17,10 +17,10 @@ use Rattle.attr_words.specs.Reading.{Given, AreTaken, RangesHold, IsInRange, set
 use Rattle.query_text.specs.Grammar.{Answers}
 use Rattle.query_text.specs.Laws.{ReadsByGrammar}
 use Rattle.query_text.specs.Parsing.{query_of}
-use Rattle.attr_run.specs.Run.{◌>>=◌, Run, or_refused, settings_by, settings_in, kind_named}
+use Rattle.attr_run.specs.Run.{◌>>=◌, or_refused, settings_by, settings_in, kind_named}
 use Rattle.attr_run.specs.Run.{value_named, query_or_refused, queries_from, field_of, run_of}
 use Rattle.attr_run.specs.Run.{asked}
-use Rattle.attr_run.specs.Settings.{query_texts, IsTextOf, IsAskedBy, RunsAreAsked}
+use Rattle.attr_run.specs.Settings.{IsTextOf, IsAskedBy, RunsAreAsked}
 use Rattle.attr_run.specs.declared.outcome.Status.{Status}
 use Rattle.attr_run.specs.declared.outcome.Status.TheVariants.{Usage}
 use Rattle.attr_run.specs.declared.outcome.UsageCause.TheVariants as usage

@@ -1,6 +1,6 @@
 -- What words and a feed's bytes say to do, step by step.
-use Rattle.std.proofs.Common.{◌≡◌, ◌∙◌, sym, ap, refl, subst, ℕ, ◌≤◌, ◌<◌, nat_lt, Bool, true}
-use Rattle.std.proofs.Common.{false, if◌then◌else◌, List, [], ◌∷◌, length, Option, Some, None}
+use Rattle.std.proofs.Common.{◌≡◌, ◌∙◌, sym, ap, refl, subst, ℕ, ◌≤◌, ◌<◌, nat_lt, true}
+use Rattle.std.proofs.Common.{false, List, [], length, Option, Some, None}
 use Rattle.std.proofs.Common.{option_map, Result, Ok, Err, IsOk, IfSome, IsOkAnd, arith}
 use Rattle.std.proofs.KnownBytes.{Consumes-nil}
 use Rattle.std.proofs.lemmas.Bool.Decides.{nat_tests}

@@ -1,6 +1,6 @@
 -- When each answer of a call comes, and what it leaves.
 use Rattle.std.specs.Prelude.{◌≡◌, ◌≢◌, ℕ, ◌≤◌, ◌⊎◌, List, [], length, Option, Some, None, IfSome}
-use Rattle.std.specs.Prelude.{Result, Ok, Err, IsOk, IsOkAnd}
+use Rattle.std.specs.Prelude.{Err, IsOk, IsOkAnd}
 use Rattle.std.specs.Io.KnownBytes.{IsAtEnd}
 use Rattle.clap.specs.Walk.{Text}
 use Rattle.attr_io.specs.Bytes.{AppendsFront}

@@ -16,7 +16,6 @@ use Rattle.attr_run.specs.Answers.{WritesFront}
 use Rattle.attr_run.specs.declared.outcome.Status.{Status}
 use Rattle.attr_run.specs.declared.outcome.Status.TheVariants.{Help, Usage, BadFeed, ReadFault}
 use Rattle.attr_run.specs.declared.outcome.Status.TheVariants.{WriteFault, Memory}
-use Rattle.attr_run.specs.declared.outcome.UsageCause.TheVariants as usage
 use Rattle.attr_run.specs.declared.outcome.FeedFault.TheVariants as feed
 use Rattle.attr_run.specs.declared.stop.Stop.{Stop}
 use Rattle.attr_run.specs.declared.stop.Stop.TheVariants as stops

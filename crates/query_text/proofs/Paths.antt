@@ -1,12 +1,12 @@
 -- Where a survey comes to over the text of a query.
-use Rattle.std.proofs.Common.{◌≡◌, ◌<◌, ◌≤◌, ◌+◌, ◌-◌, ◌*◌, ◌/◌, ◌%◌, ◌^◌, ℕ, zero, suc, ℤ, pos, negsuc, List, [], ◌∷◌, ◌++◌, map, length, Bool, true, false, ◌&&◌, cond, eqb, nat_lt, nat_le, max, Option, Some, None, refl, sym, ap, ap₂, subst, ◌∙◌, not, inl, inr, ◌⊎◌, ◌==◌, ◌||◌, append_assoc, append-nil, zero-add, arith}
+use Rattle.std.proofs.Common.{◌≡◌, ◌<◌, ◌≤◌, ◌+◌, ◌-◌, ◌*◌, ◌/◌, ◌%◌, ◌^◌, ℕ, zero, suc, ℤ, pos, negsuc, List, [], ◌∷◌, ◌++◌, map, length, Bool, true, false, ◌&&◌, cond, eqb, nat_lt, nat_le, max, Option, Some, None, refl, sym, ap, ap₂, subst, ◌∙◌, not, inl, inr, ◌==◌, ◌||◌, append_assoc, append-nil, zero-add, arith}
 use Rattle.std.specs.Option.{option_and_then, option_map}
 use Rattle.std.specs.List.{flat_map}
 use Rattle.std.specs.Int.Digits.{digits_of}
 use Rattle.std.proofs.Math.Bool.{and_assoc}
 use Rattle.std.proofs.Math.Nat.{max-eq_left}
 use Rattle.std.proofs.lemmas.Int.Digits.{digits_of_step}
-use Rattle.std.proofs.lemmas.Bool.{cases_lt}
+use Rattle.std.proofs.lemmas.Bool.{cases_lt, cases_Bool}
 use Rattle.std.proofs.lemmas.Bool.Decides.{nat_tests, eqb_tells}
 use Rattle.std.proofs.lemmas.List.{map-append}
 use Rattle.attr_types.specs.declared.kind.ValueType.{ValueType}
@@ -189,11 +189,6 @@ number_path value from role takes (negsuc n) =
     (one_byte value from (modes.Minus role) 45 takes.minus (λ _. refl))
     (digits_path value (modes.Minus role) role true (λ nested d some small. minus_digit nested role d some small) (n + 1) (omega arith)))
 
--- the bytes of a text
-either : (b : Bool) → (b ≡ true) ⊎ (b ≡ false)
-either true = inl refl
-either false = inr refl
-
 twice : (b c : Bool) → b ≡ c → (b && (true && b)) ≡ c
 twice true c e = e
 twice false c e = e
@@ -209,7 +204,7 @@ byte_path : (value : ValueType) (from : Mode) (role : Role) (front : List ℕ) (
     → Path value from (front ++ escaped byte) (modes.Text role (capped (k + 1))) (wants_text value) (nat_le (k + 1) 1024)
 unfolding next_mode
 byte_path value from role front k byte before =
-    elim (either ((byte == 34) || (byte == 92))) [
+    elim (cases_Bool ((byte == 34) || (byte == 92))) [
       | inl special ↦
           judged_so value from _ _ _ _ _ _ _ _
           (ap (λ b. front ++ cond b (92 ∷ byte ∷ []) (byte ∷ [])) (sym special)) (ap (modes.Text role) (capped_one k))

@@ -1,4 +1,4 @@
-use Rattle.std.proofs.Common.{◌≡◌, ◌∙◌, ◌++◌, [], sym, ap, ap₂, length, map, ℕ, List, rules, arith}
+use Rattle.std.proofs.Common.{◌≡◌, ◌∙◌, ◌++◌, [], sym, ap, ap₂, length, map, ℕ, List, rules}
 use Rattle.attr_types.specs.Query.{QueryTree, tree_of}
 use Rattle.attr_types.specs.Table.{Table, after_ops, skipped_ops}
 use Rattle.attr_types.specs.declared.op.Op.{Op}

@@ -1,11 +1,11 @@
-use Rattle.std.proofs.Common.{◌≡◌, ◌∙◌, sym, ap, ap₂, subst, ℕ, List, Ok, Err, None, IfSome, IsOkAnd}
+use Rattle.std.proofs.Common.{◌∙◌, sym, ap, ap₂, subst, ℕ, List, Err, None, IsOkAnd}
 use Rattle.std.proofs.Common.{Result, string_bytes}
 use Rattle.std.proofs.lemmas.Result.{err_from_is_err_and}
 use Rattle.feed_reader.specs.Feed.{most_bytes}
 use Rattle.attr_run.specs.Run.{Run, Progress}
 use Rattle.attr_run.specs.Settings.{IsAskedBy}
-use Rattle.attr_run.specs.Answers.{OfRun, IsRunUntil, ReadsAsAsked}
-use Rattle.attr_run.specs.Steps.{run_in, all_loaded}
+use Rattle.attr_run.specs.Answers.{IsRunUntil, ReadsAsAsked}
+use Rattle.attr_run.specs.Steps.{run_in}
 use Rattle.attr_run.specs.declared.outcome.Status.{Status}
 use Rattle.attr_run.proofs.RoundsLemmas.{whole-alone}
 use Rattle.attr_run.proofs.TaskLemmas.{of-run, feed-stopped, read_nothing}
