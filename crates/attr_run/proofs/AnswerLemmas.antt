@@ -1,18 +1,18 @@
 -- What an answer of a call says, status by status.
-use Rattle.std.proofs.Common.{◌≡◌, ◌≢◌, ◌≤◌, ◌⊎◌, ◌∙◌, inl, inr, sym, ap, refl, subst, ℕ, List, []}
-use Rattle.std.proofs.Common.{◌∷◌, length, Option, Some, None, Result, Ok, Err, IsOk, IsErr, IfSome}
-use Rattle.std.proofs.Common.{IsOkAnd, arith}
-use Rattle.std.specs.Io.KnownBytes.{Appends, Keeps}
+use Rattle.std.proofs.Common.{◌≡◌, ◌≤◌, ◌⊎◌, inl, inr, sym, refl, subst, ℕ, List}
+use Rattle.std.proofs.Common.{length, Option, Some, None, Result, Ok, Err, IsOk, IfSome}
+use Rattle.std.proofs.Common.{IsOkAnd}
+use Rattle.std.specs.Io.KnownBytes.{Appends}
 use Rattle.clap.specs.Walk.{Text}
 use Rattle.clap.specs.Faults.{fault_of}
 use Rattle.attr_io.specs.Faults.{Rose}
 use Rattle.attr_types.specs.declared.op.Op.{Op}
 use Rattle.attr_words.specs.CommandLine.{attr_app}
 use Rattle.attr_words.specs.Reading.{AskForHelp, AreRefused}
-use Rattle.attr_run.specs.Run.{Run, Task, asked, task_of}
-use Rattle.attr_run.specs.Report.{report, text_of}
-use Rattle.attr_run.specs.Answers.{OfRun, ComesExactly, ComesExactlyOfFeed, IsBeforeRun, HasCause}
-use Rattle.attr_run.specs.Answers.{HasNoRun, IsWholeRun, IsDue, WritesFront}
+use Rattle.attr_run.specs.Run.{Run, Progress, Task, asked, task_of}
+use Rattle.attr_run.specs.Report.{written, answer_text}
+use Rattle.attr_run.specs.Answers.{EndsRun, IsEnd, OfRun, ComesExactly, ComesExactlyOfFeed}
+use Rattle.attr_run.specs.Answers.{IsBeforeRun, HasNoRun, IsProper, IsRunUntil, IsDue}
 use Rattle.attr_run.specs.Steps.{IsAnswer}
 use Rattle.attr_run.specs.declared.outcome.Status.{Status}
 use Rattle.attr_run.specs.declared.outcome.Status.TheVariants.{Done, Help, Usage, BadFeed}
@@ -25,18 +25,18 @@ use Rattle.attr_run.proofs.TaskLemmas.{task-unasked}
 
 -- the text that is due was written
 pub answer-written : (words : List Text) (left : Option (List ℕ)) (before now : ℕ) (old new : Option (List ℕ))
-    (s t : ℕ) (status : Status) (loaded : ℕ) (rounds : List (List ℕ)) (text : List ℕ)
-    → IsDue words left before now status loaded rounds text → Appends old new text
-    → IsAnswer words left before now old new s t status loaded rounds
-answer-written words left before now old new s t Done loaded rounds text due written = (text, due, written)
-answer-written words left before now old new s t Help loaded rounds text due written = (text, due, written)
-answer-written words left before now old new s t (Usage cause) loaded rounds text due written = (text, due, written)
-answer-written words left before now old new s t (BadFeed fault) loaded rounds text due written = (text, due, written)
-answer-written words left before now old new s t ReadFault loaded rounds text due written = (text, due, written)
-answer-written words left before now old new s t (Full operation active held) loaded rounds text due written =
+    (s t : ℕ) (status : Status) (progress : Progress) (text : List ℕ)
+    → IsDue words left before now status progress text → Appends old new text
+    → IsAnswer words left before now old new s t status progress
+answer-written words left before now old new s t Done progress text due written = (text, due, written)
+answer-written words left before now old new s t Help progress text due written = (text, due, written)
+answer-written words left before now old new s t (Usage cause) progress text due written = (text, due, written)
+answer-written words left before now old new s t (BadFeed fault) progress text due written = (text, due, written)
+answer-written words left before now old new s t ReadFault progress text due written = (text, due, written)
+answer-written words left before now old new s t (Full operation active held) progress text due written =
     (text, due, written)
-answer-written words left before now old new s t WriteFault loaded rounds text due written = absurd due.0
-answer-written words left before now old new s t Memory loaded rounds text due written = absurd due.0
+answer-written words left before now old new s t WriteFault progress text due written = absurd due.0
+answer-written words left before now old new s t Memory progress text due written = absurd due.0
 
 -- ---- what follows of a run
 
@@ -45,11 +45,17 @@ weaker : (r : Result Task Status) (P Q : Run → List Op → Type 0) → ((run :
 weaker (Ok task) P Q follows holds = follows task.run task.ops holds
 weaker (Err status) P Q follows holds = absurd holds
 
+weaker-told : (t : Option (Result Task Status)) (P Q : Run → List Op → Type 0)
+    → ((run : Run) (ops : List Op) → P run ops → Q run ops)
+    → IfSome t (λ said. IsOkAnd said (λ task. P task.run task.ops))
+    → IfSome t (λ said. IsOkAnd said (λ task. Q task.run task.ops))
+weaker-told None P Q follows holds = tt
+weaker-told (Some said) P Q follows holds = weaker said P Q follows holds
+
 pub OfRun-weaker : (words : List Text) (left : Option (List ℕ)) (P Q : Run → List Op → Type 0)
     → ((run : Run) (ops : List Op) → P run ops → Q run ops)
     → OfRun words left P → OfRun words left Q
-OfRun-weaker words None P Q follows holds = (holds.0, tt)
-OfRun-weaker words (Some bytes) P Q follows holds = (holds.0, weaker (task_of words bytes) P Q follows holds.1)
+OfRun-weaker words left P Q follows holds = (holds.0, weaker-told (task_of words left) P Q follows holds.1)
 
 -- ---- an answer to a call that met these words, source and sink
 
@@ -63,27 +69,44 @@ pub record Met : Type 0 where
   pub sink_before : ℕ
   pub sink_now : ℕ
 
-abbrev pub Answers : Met → Status → ℕ → List (List ℕ) → Type 0
-Answers met status loaded rounds = IsAnswer met.words met.left met.before met.now met.old met.new met.sink_before met.sink_now status loaded rounds
+abbrev pub Answers : Met → Status → Progress → Type 0
+Answers met status progress = IsAnswer met.words met.left met.before met.now met.old met.new met.sink_before met.sink_now status progress
 
-pub at : (met : Met) (status named : Status) (loaded : ℕ) (rounds : List (List ℕ))
-    → Answers met status loaded rounds → status ≡ named → Answers met named loaded rounds
-at met status named loaded rounds answer is = subst (λ (s : Status). Answers met s loaded rounds) is answer
+pub at : (met : Met) (status named : Status) (progress : Progress)
+    → Answers met status progress → status ≡ named → Answers met named progress
+at met status named progress answer is = subst (λ (s : Status). Answers met s progress) is answer
 
-pub done-report : (met : Met) (status : Status) (loaded : ℕ) (rounds : List (List ℕ))
-    → Answers met status loaded rounds → status ≡ Done
-    → OfRun met.words met.left (λ run ops. Appends met.old met.new (report run ops loaded rounds None))
-done-report met status loaded rounds answer is =
-    let done = at met status Done loaded rounds answer is in
-    OfRun-weaker met.words met.left _ _ (λ run ops due. subst (λ
-    (text : List ℕ). Appends met.old met.new text) due.1 done.2) done.1
+-- of an answer that ends a run, what holds of the run and what was written
+ended-text : (met : Met) (status : Status) (progress : Progress) (full : Option ℕ)
+    → Answers met status progress → EndsRun status full
+    → (text : List ℕ) × OfRun met.words met.left (IsRunUntil progress full text) × Appends met.old met.new text
+ended-text met Done progress full answer ends =
+    subst (λ (f : Option ℕ). (text : List ℕ) × OfRun met.words met.left (IsRunUntil progress f text)
+    × Appends met.old met.new text) (sym ends) answer
+ended-text met (Full operation active held) progress full answer ends =
+    subst (λ (f : Option ℕ). (text : List ℕ) × OfRun met.words met.left (IsRunUntil progress f text)
+    × Appends met.old met.new text) (sym ends) answer
+ended-text met Help progress full answer ends = absurd ends
+ended-text met (Usage cause) progress full answer ends = absurd ends
+ended-text met (BadFeed fault) progress full answer ends = absurd ends
+ended-text met ReadFault progress full answer ends = absurd ends
+ended-text met WriteFault progress full answer ends = absurd ends
+ended-text met Memory progress full answer ends = absurd ends
 
-pub done-whole : (met : Met) (status : Status) (loaded : ℕ) (rounds : List (List ℕ)) (Q : Run → List Op → Type 0)
-    → ((run : Run) (ops : List Op) → IsWholeRun loaded rounds run ops → Q run ops)
-    → Answers met status loaded rounds → status ≡ Done → OfRun met.words met.left Q
-done-whole met status loaded rounds Q follows answer is =
-    OfRun-weaker met.words met.left _ Q (λ run ops due. follows run ops due.0)
-    (at met status Done loaded rounds answer is).1
+pub ended-report : (met : Met) (status : Status) (progress : Progress) → Answers met status progress
+    → (full : Option ℕ) → EndsRun status full
+    → OfRun met.words met.left (λ run ops. Appends met.old met.new (written run ops progress full))
+ended-report met status progress answer full ends =
+    let ended = ended-text met status progress full answer ends in
+    OfRun-weaker met.words met.left (IsRunUntil progress full ended.0) _ (λ run ops due. subst (λ
+    (text : List ℕ). Appends met.old met.new text) due.is_written ended.2) ended.1
+
+pub ended-run : (met : Met) (status : Status) (progress : Progress) (Q : Option ℕ → Run → List Op → Type 0)
+    → ((full : Option ℕ) (text : List ℕ) (run : Run) (ops : List Op) → IsRunUntil progress full text run ops → Q full run ops)
+    → Answers met status progress → (full : Option ℕ) → EndsRun status full → OfRun met.words met.left (Q full)
+ended-run met status progress Q follows answer full ends =
+    let ended = ended-text met status progress full answer ends in
+    OfRun-weaker met.words met.left (IsRunUntil progress full ended.0) (Q full) (follows full ended.0) ended.1
 
 -- ---- the words
 
@@ -91,129 +114,147 @@ unasked : (words : List Text) (status : Status) → IsOk (asked words) → asked
 unasked words status ok err = cc
 
 -- where the words ask for no run, the answer is why, or a failed write or want of memory in its place
-pub refused-words : (met : Met) (status : Status) (loaded : ℕ) (rounds : List (List ℕ)) (why : Status)
-    → Answers met status loaded rounds → asked met.words ≡ Err why
+pub refused-words : (met : Met) (status : Status) (progress : Progress) (why : Status)
+    → Answers met status progress → asked met.words ≡ Err why
     → (status ≡ why) ⊎ ((status ≡ WriteFault) ⊎ (status ≡ Memory))
-refused-words met Done loaded rounds why answer asks = absurd (unasked met.words why answer.1.0 asks)
-refused-words met Help loaded rounds why answer asks = let is : Help ≡ why = cc (answer.1.0) in inl is
-refused-words met (Usage cause) loaded rounds why answer asks = let is : Usage cause ≡ why = cc (answer.1.0) in inl is
-refused-words met (BadFeed fault) loaded rounds why answer asks = absurd (unasked met.words why answer.1.0.0 asks)
-refused-words met ReadFault loaded rounds why answer asks = absurd (unasked met.words why answer.1.0.0 asks)
-refused-words met WriteFault loaded rounds why answer asks = inr (inl refl)
-refused-words met (Full operation active held) loaded rounds why answer asks = absurd answer.1.0
-refused-words met Memory loaded rounds why answer asks = inr (inr refl)
+refused-words met Done progress why answer asks = absurd (unasked met.words why answer.1.0 asks)
+refused-words met Help progress why answer asks = let is : Help ≡ why = cc (answer.1.0) in inl is
+refused-words met (Usage cause) progress why answer asks = let is : Usage cause ≡ why = cc (answer.1.0) in inl is
+refused-words met (BadFeed fault) progress why answer asks = absurd (unasked met.words why answer.1.0.0 asks)
+refused-words met ReadFault progress why answer asks = absurd (unasked met.words why answer.1.0.0 asks)
+refused-words met WriteFault progress why answer asks = inr (inl refl)
+refused-words met (Full operation active held) progress why answer asks =
+    absurd (unasked met.words why answer.1.0 asks)
+refused-words met Memory progress why answer asks = inr (inr refl)
 
-pub exactly-usage : (met : Met) (status : Status) (loaded : ℕ) (rounds : List (List ℕ)) (cause : UsageCause)
-    → Answers met status loaded rounds
+pub exactly-usage : (met : Met) (status : Status) (progress : Progress) (cause : UsageCause)
+    → Answers met status progress
     → ComesExactly (asked met.words ≡ Err (Usage cause)) (Usage cause) status
-exactly-usage met status loaded rounds cause answer = record {
-  only = λ is. (at met status (Usage cause) loaded rounds answer is).1.0;
-  always = refused-words met status loaded rounds (Usage cause) answer;
+exactly-usage met status progress cause answer = record {
+  only = λ is. (at met status (Usage cause) progress answer is).1.0;
+  always = refused-words met status progress (Usage cause) answer;
 }
 
-pub exactly-help : (met : Met) (status : Status) (loaded : ℕ) (rounds : List (List ℕ))
-    → length (fault_of attr_app met.words) ≤ 1 → Answers met status loaded rounds
+pub exactly-help : (met : Met) (status : Status) (progress : Progress)
+    → length (fault_of attr_app met.words) ≤ 1 → Answers met status progress
     → ComesExactly (AskForHelp met.words) Help status
-exactly-help met status loaded rounds one answer = record {
-  only = λ is. help-asked met.words one (at met status Help loaded rounds answer is).1.0;
-  always = λ help. refused-words met status loaded rounds Help answer (asked-help met.words help);
+exactly-help met status progress one answer = record {
+  only = λ is. help-asked met.words one (at met status Help progress answer is).1.0;
+  always = λ help. refused-words met status progress Help answer (asked-help met.words help);
 }
 
-pub exactly-refused : (met : Met) (status : Status) (loaded : ℕ) (rounds : List (List ℕ))
-    → length (fault_of attr_app met.words) ≤ 1 → Answers met status loaded rounds
+pub exactly-refused : (met : Met) (status : Status) (progress : Progress)
+    → length (fault_of attr_app met.words) ≤ 1 → Answers met status progress
     → ComesExactly (AreRefused met.words) (Usage usage.Words) status
-exactly-refused met status loaded rounds one answer = record {
-  only = λ is. refusal-asked met.words one (at met status (Usage usage.Words) loaded rounds answer is).1.0;
-  always = λ refused. refused-words met status loaded rounds (Usage usage.Words) answer
+exactly-refused met status progress one answer = record {
+  only = λ is. refusal-asked met.words one (at met status (Usage usage.Words) progress answer is).1.0;
+  always = λ refused. refused-words met status progress (Usage usage.Words) answer
       (asked-refused met.words refused);
 }
 
 -- ---- the feed
 
--- where words and bytes are refused for the feed, the answer is why, or a fault or want of memory in its place
-refused-feed : (met : Met) (bytes : List ℕ) (status : Status) (loaded : ℕ) (rounds : List (List ℕ))
-    (fault : FeedFault) → met.left ≡ Some bytes → Answers met status loaded rounds
-    → task_of met.words bytes ≡ Err (BadFeed fault) → (status
-    ≡ BadFeed fault) ⊎ ((status ≡ ReadFault) ⊎ ((status ≡ WriteFault) ⊎ (status ≡ Memory)))
-refused-feed met bytes Done loaded rounds fault told answer refused =
-    let done : IsOkAnd (task_of met.words bytes) _ = rw told at answer.1.1 in absurd (rw refused at done)
-refused-feed met bytes Help loaded rounds fault told answer refused = let other = task-unasked met.words bytes Help answer.1.0 in absurd (cc)
-refused-feed met bytes
-    (Usage cause) loaded rounds fault told answer refused = let other = task-unasked met.words bytes
-    (Usage cause) answer.1.0 in absurd (cc)
-refused-feed met bytes (BadFeed other) loaded rounds fault told answer refused =
-    let found = rw told at answer.1.0.1 in let is : BadFeed other ≡ BadFeed fault = cc in inl is
-refused-feed met bytes ReadFault loaded rounds fault told answer refused = inr (inl refl)
-refused-feed met bytes WriteFault loaded rounds fault told answer refused = inr (inr (inl refl))
-refused-feed met bytes (Full operation active held) loaded rounds fault told answer refused = absurd answer.1.0
-refused-feed met bytes Memory loaded rounds fault told answer refused = inr (inr (inr refl))
+-- a run is not refused
+unfed : (t : Option (Result Task Status)) (said : Result Task Status) (P : Task → Type 0) (why : Status)
+    → t ≡ Some said → IfSome t (λ s. IsOkAnd s P) → said ≡ Err why → ⊥
+unfed t said P why told holds is =
+    let here : IsOkAnd said P = subst (λ (t : Option (Result Task Status)). IfSome t (λ s. IsOkAnd s P)) told holds in
+    subst (λ (r : Result Task Status). IsOkAnd r P) is here
 
-pub exactly-feed : (met : Met) (status : Status) (loaded : ℕ) (rounds : List (List ℕ)) (fault : FeedFault)
-    → Answers met status loaded rounds
-    → (left : Option (List ℕ)) → met.left ≡ left → IfSome left (λ bytes. ComesExactlyOfFeed
-    (task_of met.words bytes ≡ Err (BadFeed fault)) (BadFeed fault) status)
-exactly-feed met status loaded rounds fault answer None told = tt
-exactly-feed met status loaded rounds fault answer (Some bytes) told = record {
-  only = λ is. subst (λ (left : Option (List ℕ)). IfSome left (λ bytes. task_of met.words bytes ≡ Err
-      (BadFeed fault))) told (at met status (BadFeed fault) loaded rounds answer is).1.0.1;
-  always = refused-feed met bytes status loaded rounds fault told answer;
+-- a feed is refused for one reason
+one_reason : (t : Option (Result Task Status)) (said : Result Task Status) (a b : Status) → t ≡ Some said
+    → IfSome t (λ s. s ≡ Err a) → said ≡ Err b → a ≡ b
+one_reason t said a b told holds is =
+    let here : said ≡ Err a = subst (λ (t : Option (Result Task Status)). IfSome t (λ s. s ≡ Err a)) told holds in cc
+
+-- where the feed is refused, the answer is why, or a fault or want of memory in its place
+refused-feed : (met : Met) (said : Result Task Status) (status : Status) (progress : Progress)
+    (fault : FeedFault) → task_of met.words met.left ≡ Some said → Answers met status progress
+    → said ≡ Err (BadFeed fault) → (status
+    ≡ BadFeed fault) ⊎ ((status ≡ ReadFault) ⊎ ((status ≡ WriteFault) ⊎ (status ≡ Memory)))
+refused-feed met said Done progress fault told answer refused = absurd (unfed _ said _ _ told answer.1.1 refused)
+refused-feed met said (Full operation active held) progress fault told answer refused =
+    absurd (unfed _ said _ _ told answer.1.1 refused)
+refused-feed met said Help progress fault told answer refused =
+    let other = task-unasked met.words met.left Help answer.1.0 in absurd (cc)
+refused-feed met said (Usage cause) progress fault told answer refused =
+    let other = task-unasked met.words met.left (Usage cause) answer.1.0 in absurd (cc)
+refused-feed met said (BadFeed other) progress fault told answer refused =
+    inl (one_reason _ said _ _ told answer.1.0.1 refused)
+refused-feed met said ReadFault progress fault told answer refused = inr (inl refl)
+refused-feed met said WriteFault progress fault told answer refused = inr (inr (inl refl))
+refused-feed met said Memory progress fault told answer refused = inr (inr (inr refl))
+
+pub exactly-feed : (met : Met) (status : Status) (progress : Progress) (fault : FeedFault)
+    → Answers met status progress
+    → (t : Option (Result Task Status)) → task_of met.words met.left ≡ t → IfSome t (λ said. ComesExactlyOfFeed
+    (said ≡ Err (BadFeed fault)) (BadFeed fault) status)
+exactly-feed met status progress fault answer None told = tt
+exactly-feed met status progress fault answer (Some said) told = record {
+  only = λ is. subst (λ (t : Option (Result Task Status)). IfSome t (λ s. s ≡ Err (BadFeed fault))) told
+      (at met status (BadFeed fault) progress answer is).1.0.1;
+  always = refused-feed met said status progress fault told answer;
 }
 
 -- ---- what is written and left
 
-pub early-text : (met : Met) (status : Status) (loaded : ℕ) (rounds : List (List ℕ))
-    → Answers met status loaded rounds → IsBeforeRun status → Appends met.old met.new (text_of status)
-early-text met Help loaded rounds answer early = subst (λ
+pub early-text : (met : Met) (status : Status) (progress : Progress)
+    → Answers met status progress → IsBeforeRun status → Appends met.old met.new (answer_text status)
+early-text met Help progress answer early = subst (λ
     (text : List ℕ). Appends met.old met.new text) answer.1.2 answer.2
-early-text met (Usage cause) loaded rounds answer early = subst (λ
+early-text met (Usage cause) progress answer early = subst (λ
     (text : List ℕ). Appends met.old met.new text) answer.1.2 answer.2
-early-text met (BadFeed fault) loaded rounds answer early = subst (λ
+early-text met (BadFeed fault) progress answer early = subst (λ
     (text : List ℕ). Appends met.old met.new text) answer.1.2 answer.2
-early-text met ReadFault loaded rounds answer early = subst (λ
+early-text met ReadFault progress answer early = subst (λ
     (text : List ℕ). Appends met.old met.new text) answer.1.2 answer.2
-early-text met Done loaded rounds answer early = absurd early
-early-text met WriteFault loaded rounds answer early = absurd early
-early-text met (Full operation active held) loaded rounds answer early = absurd early
-early-text met Memory loaded rounds answer early = absurd early
+early-text met Done progress answer early = absurd early
+early-text met WriteFault progress answer early = absurd early
+early-text met (Full operation active held) progress answer early = absurd early
+early-text met Memory progress answer early = absurd early
 
-pub early-no_run : (met : Met) (status : Status) (loaded : ℕ) (rounds : List (List ℕ))
-    → Answers met status loaded rounds → IsBeforeRun status → HasNoRun loaded rounds
-early-no_run met Help loaded rounds answer early = answer.1.1
-early-no_run met (Usage cause) loaded rounds answer early = answer.1.1
-early-no_run met (BadFeed fault) loaded rounds answer early = answer.1.1
-early-no_run met ReadFault loaded rounds answer early = answer.1.1
-early-no_run met Done loaded rounds answer early = absurd early
-early-no_run met WriteFault loaded rounds answer early = absurd early
-early-no_run met (Full operation active held) loaded rounds answer early = absurd early
-early-no_run met Memory loaded rounds answer early = absurd early
+pub early-no_run : (met : Met) (status : Status) (progress : Progress)
+    → Answers met status progress → IsBeforeRun status → HasNoRun progress
+early-no_run met Help progress answer early = answer.1.1
+early-no_run met (Usage cause) progress answer early = answer.1.1
+early-no_run met (BadFeed fault) progress answer early = answer.1.1
+early-no_run met ReadFault progress answer early = answer.1.1
+early-no_run met Done progress answer early = absurd early
+early-no_run met WriteFault progress answer early = absurd early
+early-no_run met (Full operation active held) progress answer early = absurd early
+early-no_run met Memory progress answer early = absurd early
 
 -- ---- where nothing is refused and nothing fails
 
-unrefused : (words : List Text) (bytes : List ℕ) (status : Status) → IsOk (task_of words bytes)
-    → task_of words bytes ≡ Err status → ⊥
-unrefused words bytes status ok err = cc
+unrefused : (t : Option (Result Task Status)) (said : Result Task Status) (why : Status) → t ≡ Some said → IsOk said
+    → IfSome t (λ s. s ≡ Err why) → ⊥
+unrefused t said why told ok holds =
+    let here : said ≡ Err why = subst (λ (t : Option (Result Task Status)). IfSome t (λ s. s ≡ Err why)) told holds in cc
 
-complete : (met : Met) (bytes : List ℕ) (status : Status) (loaded : ℕ) (rounds : List (List ℕ))
-    → met.left ≡ Some bytes → Answers met status loaded rounds
-    → IsOk (task_of met.words bytes) → (Rose met.before met.now → ⊥) → (Rose met.sink_before met.sink_now → ⊥)
-    → (status ≡ Done) ⊎ (status ≡ Memory)
-complete met bytes Done loaded rounds told answer ok reads writes = inl refl
-complete met bytes Help loaded rounds told answer ok reads writes = absurd (unrefused met.words bytes Help ok
-    (task-unasked met.words bytes Help answer.1.0))
-complete met bytes (Usage cause) loaded rounds told answer ok reads writes =
-    absurd (unrefused met.words bytes (Usage cause) ok (task-unasked met.words bytes (Usage cause) answer.1.0))
-complete met bytes (BadFeed fault) loaded rounds told answer ok reads writes = absurd (unrefused met.words bytes
-    (BadFeed fault) ok
-    (subst (λ (left : Option (List ℕ)). IfSome left (λ bytes. task_of met.words bytes ≡ Err
-    (BadFeed fault))) told answer.1.0.1))
-complete met bytes ReadFault loaded rounds told answer ok reads writes = absurd (reads answer.1.0.1)
-complete met bytes WriteFault loaded rounds told answer ok reads writes = absurd (writes answer.0)
-complete met bytes (Full operation active held) loaded rounds told answer ok reads writes = absurd answer.1.0
-complete met bytes Memory loaded rounds told answer ok reads writes = inr refl
+unasked-ok : (words : List Text) (left : Option (List ℕ)) (said : Result Task Status) (why : Status)
+    → task_of words left ≡ Some said → IsOk said → asked words ≡ Err why → ⊥
+unasked-ok words left said why told ok asks = let other = task-unasked words left why asks in cc
 
-pub complete-told : (met : Met) (status : Status) (loaded : ℕ) (rounds : List (List ℕ))
-    → Answers met status loaded rounds → (left : Option (List ℕ)) → met.left ≡ left
-    → IfSome left (λ bytes. IsOk (task_of met.words bytes) → (Rose met.before met.now → ⊥) →
-    (Rose met.sink_before met.sink_now → ⊥) → (status ≡ Done) ⊎ (status ≡ Memory))
-complete-told met status loaded rounds answer None told = tt
-complete-told met status loaded rounds answer (Some bytes) told = complete met bytes status loaded rounds told answer
+complete : (met : Met) (said : Result Task Status) (status : Status) (progress : Progress)
+    → IsProper status → task_of met.words met.left ≡ Some said → Answers met status progress
+    → IsOk said → (Rose met.before met.now → ⊥) → (Rose met.sink_before met.sink_now → ⊥)
+    → IsEnd status ⊎ (status ≡ Memory)
+complete met said Done progress proper told answer ok reads writes = inl tt
+complete met said Help progress proper told answer ok reads writes =
+    absurd (unasked-ok met.words met.left said Help told ok answer.1.0)
+complete met said (Usage cause) progress proper told answer ok reads writes =
+    absurd (unasked-ok met.words met.left said (Usage cause) told ok answer.1.0)
+complete met said (BadFeed fault) progress proper told answer ok reads writes =
+    absurd (unrefused _ said (BadFeed fault) told ok answer.1.0.1)
+complete met said ReadFault progress proper told answer ok reads writes = absurd (reads answer.1.0.1)
+complete met said WriteFault progress proper told answer ok reads writes = absurd (writes answer.0)
+complete met said (Full operation active held) progress proper told answer ok reads writes = absurd proper
+complete met said Memory progress proper told answer ok reads writes = inr refl
+
+pub complete-told : (met : Met) (status : Status) (progress : Progress) → IsProper status
+    → Answers met status progress → (t : Option (Result Task Status)) → task_of met.words met.left ≡ t
+    → IfSome t (λ said. IsOk said → (Rose met.before met.now → ⊥) →
+    (Rose met.sink_before met.sink_now → ⊥) → IsEnd status ⊎ (status ≡ Memory))
+complete-told met status progress proper answer None told = tt
+complete-told met status progress proper answer (Some said) told =
+    complete met said status progress proper told answer

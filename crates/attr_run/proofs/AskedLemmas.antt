@@ -13,10 +13,10 @@ use Rattle.attr_types.specs.declared.kind.Kind.{Kind}
 use Rattle.attr_types.specs.declared.kind.ValueType.{ValueType}
 use Rattle.attr_words.specs.CommandLine.{attr_app}
 use Rattle.attr_words.specs.Reading.{Given, AreTaken, AskForHelp, AreRefused, settings_of, given_by}
-use Rattle.attr_words.specs.declared.settings.Settings.{Settings}
 use Rattle.query_text.specs.Parsing.{query_of}
 use Rattle.attr_run.specs.Run.{◌>>=◌, Run, or_refused, settings_by, settings_in, kind_named}
-use Rattle.attr_run.specs.Run.{value_named, query_or_refused, queries_from, run_of, asked}
+use Rattle.attr_run.specs.Run.{value_named, query_or_refused, queries_from, field_of, run_of}
+use Rattle.attr_run.specs.Run.{asked}
 use Rattle.attr_run.specs.Steps.{Says, run_in}
 use Rattle.attr_run.specs.declared.outcome.Status.{Status}
 use Rattle.attr_run.specs.declared.outcome.Status.TheVariants.{Help, Usage}
@@ -86,7 +86,8 @@ pub asked-whole : (words : List Text) (settings : Given) (kind : Kind) (value : 
     → settings_in words ≡ Ok settings
     → or_refused (Usage usage.KindName) (kind_named settings.kind) ≡ Ok kind
     → or_refused (Usage usage.ValueName) (value_named settings.value) ≡ Ok value
-    → queries_from value 1 settings.queries ≡ Ok queries → asked words ≡ Ok (run_of settings kind value queries)
+    → queries_from value 1 settings.queries ≡ Ok queries → asked words
+    ≡ Ok (run_of settings (field_of settings.field kind value ∷ []) queries)
 unfolding asked
 asked-whole words settings kind value queries given named typed read = rw (given, named, typed, read) refl
 

@@ -2,6 +2,8 @@ pub mod QueriesLemmas
 pub mod AskedLemmas
 pub mod LoadLemmas
 pub mod ReportLemmas
+pub mod HistoryLemmas
 pub mod RoundsLemmas
 pub mod TaskLemmas
 pub mod AnswerLemmas
+pub mod SettingsLemmas

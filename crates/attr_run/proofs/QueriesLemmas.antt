@@ -1,7 +1,6 @@
 -- Queries read one after another.
 use Rattle.std.proofs.Common.{◌≡◌, ◌∙◌, sym, ap, refl, ℕ, ◌+◌, List, [], ◌∷◌, ◌++◌, Result, Ok, Err}
-use Rattle.std.proofs.Common.{append_assoc, append-nil, drop, get_or, length, ◌<◌, suc, arith}
-use Rattle.std.proofs.Math.Seq.{drop-cons}
+use Rattle.std.proofs.Common.{append_assoc, append-nil}
 use Rattle.clap.specs.Walk.{Text}
 use Rattle.attr_types.specs.Query.{QueryTree}
 use Rattle.attr_types.specs.declared.kind.ValueType.{ValueType}
@@ -16,13 +15,6 @@ use Rattle.attr_run.specs.declared.stop.Stop.TheVariants as stops
 abbrev pub after_front : List QueryTree → Result (List QueryTree) Status → Result (List QueryTree) Status
 after_front front (Ok queries) = Ok (front ++ queries)
 after_front front (Err status) = Err status
-
--- the item at a place, and those after it
-pub drop-item : {A : Type 0} (xs : List A) (i : ℕ) (x : A) → i < length xs → x ≡ get_or xs i x
-    → drop i xs ≡ x ∷ drop (i + 1) xs
-drop-item xs i x below is =
-    let next : suc i ≡ i + 1 = omega arith in
-    drop-cons xs i x below ∙ ap (λ y. y ∷ drop (suc i) xs) (sym is) ∙ ap (λ n. x ∷ drop n xs) next
 
 -- no text is left
 pub after_front-end : (front : List QueryTree) (value : ValueType) (number : ℕ)

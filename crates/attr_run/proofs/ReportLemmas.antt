@@ -1,5 +1,5 @@
 -- Answers written one after another.
-use Rattle.std.proofs.Common.{◌≡◌, ◌∙◌, sym, ap, refl, ℕ, ◌+◌, List, [], ◌∷◌, ◌++◌, append_assoc}
+use Rattle.std.proofs.Common.{◌≡◌, ◌∙◌, ap, ℕ, ◌+◌, List, [], ◌∷◌, ◌++◌, append_assoc}
 use Rattle.std.proofs.Common.{append-nil}
 use Rattle.attr_types.specs.Query.{QueryTree}
 use Rattle.attr_types.specs.Table.{Table, hits}

@@ -1,15 +1,16 @@
 -- When each answer of a call comes, and what it leaves.
 use Rattle.std.specs.Prelude.{◌≡◌, ◌≢◌, ℕ, ◌≤◌, ◌⊎◌, List, [], length, Option, Some, None, IfSome}
-use Rattle.std.specs.Prelude.{Result, Ok, Err, IsOk, IsOkAnd}
-use Rattle.std.specs.Io.KnownBytes.{Appends, Keeps}
+use Rattle.std.specs.Prelude.{Err, IsOk, IsOkAnd}
+use Rattle.std.specs.Io.KnownBytes.{IsAtEnd}
 use Rattle.clap.specs.Walk.{Text}
 use Rattle.attr_io.specs.Bytes.{AppendsFront}
 use Rattle.attr_io.specs.Faults.{Rose}
 use Rattle.attr_types.specs.declared.op.Op.{Op}
 use Rattle.attr_types.specs.declared.error.QueryError.TheVariants as refusal
-use Rattle.attr_run.specs.Run.{Run, asked, task_of}
-use Rattle.attr_run.specs.Report.{report, text_of}
-use Rattle.attr_run.specs.History.{IsRounds, IsAfterwards, IsLegalHistory, history}
+use Rattle.attr_run.specs.Run.{Run, Progress, asked, task_of}
+use Rattle.attr_run.specs.Report.{written, answer_text}
+use Rattle.attr_run.specs.History.{IsLoaded, IsRounds, IsAfterwards, IsLegalHistory, history}
+use Rattle.attr_run.specs.declared.outcome.Outcome.{Outcome}
 use Rattle.attr_run.specs.declared.outcome.Status.{Status}
 use Rattle.attr_run.specs.declared.outcome.Status.TheVariants.{Done, Help, Usage, BadFeed}
 use Rattle.attr_run.specs.declared.outcome.Status.TheVariants.{ReadFault, WriteFault, Full, Memory}
@@ -18,10 +19,25 @@ use Rattle.attr_run.specs.declared.outcome.FeedFault.TheVariants as feed
 
 -- ---- when an answer comes
 
--- the words ask for a run, the source's bytes are operations for it, and of both this holds
+-- how far the run of an outcome came
+abbrev pub progress_of : Outcome → Progress
+progress_of outcome = record { loaded = outcome.loaded; rounds = outcome.rounds }
+
+-- an answer that ends a run, and the operation that found no room, if one did
+abbrev pub EndsRun : Status → Option ℕ → Type 0
+EndsRun Done full = full ≡ None
+EndsRun (Full operation active held) full = full ≡ Some operation
+EndsRun _ full = ⊥
+
+-- an answer where nothing is refused and nothing fails: with room for any run, it is done
+abbrev pub IsEnd : Status → Type 0
+IsEnd Done = Unit {0}
+IsEnd _ = ⊥
+
+-- the words ask for a run, its operations are there where they are told, and of both this holds
 abbrev pub OfRun : List Text → Option (List ℕ) → (Run → List Op → Type 0) → Type 0
 OfRun words left P = IsOk (asked words)
-    × IfSome left (λ bytes. IsOkAnd (task_of words bytes) (λ task. P task.run task.ops))
+    × IfSome (task_of words left) (λ said. IsOkAnd said (λ task. P task.run task.ops))
 
 -- an answer comes only where its cause holds; and where that does, it comes, or a failed write or
 -- want of memory in its place
@@ -35,13 +51,13 @@ pub record ComesExactlyOfFeed (cause : Type 0) (expected status : Status) : Type
   pub always : cause →
       (status ≡ expected) ⊎ ((status ≡ ReadFault) ⊎ ((status ≡ WriteFault) ⊎ (status ≡ Memory)))
 
--- why an answer before any run comes, by the words, the source's bytes and its counts of faults
--- before and after
+-- why an answer before any run comes, by the words, what the source has left to give, and its
+-- counts of faults before and after
 abbrev pub HasCause : List Text → Option (List ℕ) → ℕ → ℕ → Status → Type 0
 HasCause words left before now Help = asked words ≡ Err Help
 HasCause words left before now (Usage cause) = asked words ≡ Err (Usage cause)
 HasCause words left before now (BadFeed fault) =
-    IsOk (asked words) × IfSome left (λ bytes. task_of words bytes ≡ Err (BadFeed fault))
+    IsOk (asked words) × IfSome (task_of words left) (λ said. said ≡ Err (BadFeed fault))
 HasCause words left before now ReadFault = IsOk (asked words) × Rose before now
 HasCause words left before now _ = ⊥
 
@@ -64,30 +80,38 @@ IsProper _ = Unit {0}
 -- ---- what an answer leaves
 
 -- no run began: nothing was loaded, and no round was made
-abbrev pub HasNoRun : ℕ → List (List ℕ) → Type 0
-HasNoRun loaded rounds = (loaded ≡ 0) × (rounds ≡ [])
+pub record HasNoRun (progress : Progress) : Type 0 where
+  pub nothing_loaded : progress.loaded ≡ 0
+  pub no_rounds : progress.rounds ≡ []
 
--- what was loaded by a run that ended, and the rounds of its readers
-pub record IsWholeRun (loaded : ℕ) (rounds : List (List ℕ)) (run : Run) (ops : List Op)
-    : Type 0 where
-  pub loaded_all : loaded ≡ length ops
-  pub in_rounds : IsRounds run (length ops) loaded rounds
-  pub afterwards : IsAfterwards run loaded rounds
-  pub legal : IsLegalHistory run ops loaded rounds (history run ops loaded rounds)
+-- the source of a run is read to its end
+abbrev pub ReadsAsAsked : Run → Option (List ℕ) → Type 0
+ReadsAsAsked run left = IsAtEnd left
 
--- the text that is due at an answer, by the words, the source's bytes, its counts of faults before
--- and after, and what was loaded
-abbrev pub IsDue : List Text → Option (List ℕ) → ℕ → ℕ → Status → ℕ → List (List ℕ) → List ℕ
-    → Type 0
-IsDue words left before now Done loaded rounds text =
-    OfRun words left (λ run ops.
-    IsWholeRun loaded rounds run ops × (text ≡ report run ops loaded rounds None))
-IsDue words left before now status loaded rounds text =
-    HasCause words left before now status × HasNoRun loaded rounds × (text ≡ text_of status)
+-- how far a run came that ended so, and its text
+pub record IsRunUntil (progress : Progress) (full : Option ℕ) (text : List ℕ) (run : Run)
+    (ops : List Op) : Type 0 where
+  pub all_loaded : IsLoaded run (length ops) progress.loaded full
+  pub in_rounds : IsRounds run (length ops) progress
+  pub afterwards : IsAfterwards run progress
+  pub legal : IsLegalHistory run ops progress (history run ops progress)
+  pub is_written : text ≡ written run ops progress full
 
--- of a text that was due the front was written, and not all of it
-abbrev pub WritesFront : List Text → Option (List ℕ) → ℕ → ℕ → ℕ → List (List ℕ)
-    → Option (List ℕ) → Option (List ℕ) → Type 0
-WritesFront words left before now loaded rounds old new =
-    (status : Status) × (text : List ℕ) × IsDue words left before now status loaded rounds text
-    × AppendsFront old new text
+-- the text that is due at an answer, by the words, what the source has left to give, its counts of
+-- faults before and after, and how far the run came
+abbrev pub IsDue : List Text → Option (List ℕ) → ℕ → ℕ → Status → Progress → List ℕ → Type 0
+IsDue words left before now Done progress text =
+    OfRun words left (IsRunUntil progress None text)
+IsDue words left before now (Full operation active held) progress text =
+    OfRun words left (IsRunUntil progress (Some operation) text)
+IsDue words left before now status progress text =
+    HasCause words left before now status × HasNoRun progress × (text ≡ answer_text status)
+
+-- of a text that was due at an answer the front was written, and not all of it
+pub record WritesFront (words : List Text) (left : Option (List ℕ)) (before now : ℕ)
+    (progress : Progress) (old new : Option (List ℕ)) : Type 0 where
+  pub status : Status
+  pub text : List ℕ
+  pub proper : IsProper status
+  pub due : IsDue words left before now status progress text
+  pub front : AppendsFront old new text

@@ -1,34 +1,45 @@
 -- How the rounds of a run's readers stand to its commits.
-use Rattle.std.specs.Prelude.{◌≡◌, ℕ, zero, suc, ◌+◌, ◌%◌, ◌≤◌, ◌==◌, nat_le, ◌&&◌, ◌||◌, Bool}
+use Rattle.std.specs.Prelude.{◌≡◌, ℕ, zero, suc, ◌+◌, ◌-◌, ◌*◌, ◌/◌, ◌%◌, ◌≤◌, ◌==◌, nat_le, ◌&&◌}
+use Rattle.std.specs.Prelude.{◌||◌, Bool}
 use Rattle.std.specs.Prelude.{IsTrue, if◌then◌else◌}
 use Rattle.std.specs.Prelude.{List, [], ◌∷◌, ◌++◌, map, filter, length, All, Option, Some, None}
 use Rattle.std.specs.List.{flat_map, filter_map}
 use Rattle.std.specs.List.Sorted.{IsNonDecreasing}
 use Rattle.attr_types.specs.declared.op.Op.{Op}
-use Rattle.attr_types.specs.Table.{IsCommitPoint, after, hits}
-use Rattle.attr_run.specs.Run.{Run}
+use Rattle.attr_types.specs.Table.{IsCommitPoint, hits}
+use Rattle.attr_run.specs.Run.{Run, Progress, table_at}
+
+-- ---- what was loaded
+
+-- all operations; or, where one found no room, those of the whole batches before it
+abbrev pub IsLoaded : Run → ℕ → ℕ → Option ℕ → Type 0
+IsLoaded run total loaded None = loaded ≡ total
+IsLoaded run total loaded (Some operation) = (1 ≤ operation) × (operation ≤ total)
+    × (loaded ≡ run.batch * ((operation - 1) / run.batch))
 
 -- ---- the rounds
 
 -- for each reader as many counts of operations as rounds were asked for; each count is a commit
 -- point that was loaded, and those of one reader never fall
-pub record IsRounds (run : Run) (total loaded : ℕ) (rounds : List (List ℕ)) : Type 0 where
-  pub readers : length rounds ≡ run.readers
-  pub made : All (λ counts. length counts ≡ run.rounds) rounds
-  pub committed : All (All (λ n. IsCommitPoint run.batch total n × (n ≤ loaded))) rounds
-  pub forward : All IsNonDecreasing rounds
+pub record IsRounds (run : Run) (total : ℕ) (progress : Progress) : Type 0 where
+  pub readers : length progress.rounds ≡ run.readers
+  pub made : All (λ counts. length counts ≡ run.rounds) progress.rounds
+  pub committed : All (All (λ n. IsCommitPoint run.batch total n × (n ≤ progress.loaded)))
+      progress.rounds
+  pub forward : All IsNonDecreasing progress.rounds
 
 -- where the readers run after the loading, each round sees all that was loaded
-abbrev pub IsAfterwards : Run → ℕ → List (List ℕ) → Type 0
-IsAfterwards run loaded rounds = IsTrue run.after → All (All (λ n. n ≡ loaded)) rounds
+abbrev pub IsAfterwards : Run → Progress → Type 0
+IsAfterwards run progress =
+    IsTrue run.after → All (All (λ n. n ≡ progress.loaded)) progress.rounds
 
 -- ---- the history
 
 -- what happens in a run: a commit of the first so many operations; or a reader's round of that
 -- number, at so many operations, with the documents that each query hits
-pub data Event : Type 0 where
-  Commit : (operations : ℕ) → Event
-  Round : (reader round operations : ℕ) → (answers : List (List ℕ)) → Event
+pub data RunEvent : Type 0 where
+  Commit : (operations : ℕ) → RunEvent
+  Round : (reader round operations : ℕ) → (answers : List (List ℕ)) → RunEvent
 
 -- from 0 up
 unfoldable pub numbers_to : ℕ → List ℕ
@@ -45,36 +56,36 @@ commit_points run total loaded = filter (is_commit_point run.batch total) (numbe
 
 -- the documents that each query hits after the first n operations
 abbrev pub hits_at : Run → List Op → ℕ → List (List ℕ)
-hits_at run ops n = map (λ query. hits query (after run.kind ops n)) run.queries
+hits_at run ops n = map (λ query. hits query (table_at run ops n)) run.queries
 
 -- those of a reader's rounds, from number `round` on, that stand at a commit point
-abbrev pub rounds_of_reader : Run → List Op → ℕ → ℕ → ℕ → List ℕ → List Event
+abbrev pub rounds_of_reader : Run → List Op → ℕ → ℕ → ℕ → List ℕ → List RunEvent
 rounds_of_reader run ops point reader round [] = []
 rounds_of_reader run ops point reader round (n ∷ counts) =
     (if n == point then Round reader round n (hits_at run ops n) ∷ [] else [])
     ++ rounds_of_reader run ops point reader (round + 1) counts
 
 -- those of the readers from number `reader` on, by reader and then by round
-abbrev pub rounds_at : Run → List Op → ℕ → ℕ → List (List ℕ) → List Event
+abbrev pub rounds_at : Run → List Op → ℕ → ℕ → List (List ℕ) → List RunEvent
 rounds_at run ops point reader [] = []
 rounds_at run ops point reader (counts ∷ rounds) =
     rounds_of_reader run ops point reader 1 counts ++ rounds_at run ops point (reader + 1) rounds
 
 -- each commit, and then the rounds at it
-unfoldable pub history : Run → List Op → ℕ → List (List ℕ) → List Event
-history run ops loaded rounds =
-    flat_map (λ point. Commit point ∷ rounds_at run ops point 1 rounds)
-    (commit_points run (length ops) loaded)
+unfoldable pub history : Run → List Op → Progress → List RunEvent
+history run ops progress =
+    flat_map (λ point. Commit point ∷ rounds_at run ops point 1 progress.rounds)
+    (commit_points run (length ops) progress.loaded)
 
 -- ---- what is legal
 
 -- the commits among events
-abbrev pub commit_in : Event → Option ℕ
+abbrev pub commit_in : RunEvent → Option ℕ
 commit_in (Commit n) = Some n
 commit_in (Round reader round n answers) = None
 
 -- a round of this reader, by its number and its count of operations
-abbrev pub round_in : ℕ → Event → Option (ℕ × ℕ)
+abbrev pub round_in : ℕ → RunEvent → Option (ℕ × ℕ)
 round_in reader (Commit n) = None
 round_in reader (Round other round n answers) = if other == reader then Some (round, n) else None
 
@@ -84,23 +95,25 @@ numbered_from round [] = []
 numbered_from round (n ∷ counts) = (round, n) ∷ numbered_from (round + 1) counts
 
 -- the rounds of each reader, from number `reader` on, are among the events once each and in order
-abbrev pub AreInOrder : List Event → ℕ → List (List ℕ) → Type 0
+abbrev pub AreInOrder : List RunEvent → ℕ → List (List ℕ) → Type 0
 AreInOrder events reader [] = Unit {0}
 AreInOrder events reader (counts ∷ rounds) =
     (filter_map (round_in reader) events ≡ numbered_from 1 counts)
     × AreInOrder events (reader + 1) rounds
 
--- each round stands at the last commit before it, and answers by the table of that commit
-abbrev pub AreInPlace : Run → List Op → ℕ → List Event → Type 0
-AreInPlace run ops last [] = Unit {0}
-AreInPlace run ops last (Commit n ∷ events) = AreInPlace run ops n events
-AreInPlace run ops last (Round reader round n answers ∷ events) =
-    (n ≡ last) × (answers ≡ hits_at run ops last) × AreInPlace run ops last events
+-- each round is of one of so many readers, stands at the last commit before it, if there is one,
+-- and answers by the table of that commit
+abbrev pub AreInPlace : Run → List Op → ℕ → Option ℕ → List RunEvent → Type 0
+AreInPlace run ops readers last [] = Unit {0}
+AreInPlace run ops readers last (Commit n ∷ events) = AreInPlace run ops readers (Some n) events
+AreInPlace run ops readers last (Round reader round n answers ∷ events) =
+    (1 ≤ reader) × (reader ≤ readers) × (last ≡ Some n) × (answers ≡ hits_at run ops n)
+    × AreInPlace run ops readers last events
 
 -- a history of a run: its commits in order, the rounds of each reader in order and once each,
 -- each after its commit and before the next one, and each answer the hits of the table at its place
-pub record IsLegalHistory (run : Run) (ops : List Op) (loaded : ℕ) (rounds : List (List ℕ))
-    (events : List Event) : Type 0 where
-  pub commits : filter_map commit_in events ≡ commit_points run (length ops) loaded
-  pub in_order : AreInOrder events 1 rounds
-  pub in_place : AreInPlace run ops 0 events
+pub record IsLegalHistory (run : Run) (ops : List Op) (progress : Progress) (events : List RunEvent)
+    : Type 0 where
+  pub commits : filter_map commit_in events ≡ commit_points run (length ops) progress.loaded
+  pub in_order : AreInOrder events 1 progress.rounds
+  pub in_place : AreInPlace run ops (length progress.rounds) None events

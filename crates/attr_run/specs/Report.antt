@@ -7,8 +7,8 @@ use Rattle.attr_types.specs.declared.op.Op.{Op}
 use Rattle.attr_types.specs.Query.{QueryTree}
 use Rattle.attr_types.specs.declared.error.QueryError.{QueryError}
 use Rattle.attr_types.specs.declared.error.QueryError.TheVariants as refusal
-use Rattle.attr_types.specs.Table.{Table, after, skipped, hits}
-use Rattle.attr_run.specs.Run.{Run}
+use Rattle.attr_types.specs.Table.{Table, hits}
+use Rattle.attr_run.specs.Run.{Run, Progress, table_at, skipped_at}
 use Rattle.attr_run.specs.declared.outcome.Status.{Status}
 use Rattle.attr_run.specs.declared.outcome.Status.TheVariants as status
 use Rattle.attr_run.specs.declared.outcome.UsageCause.TheVariants as usage
@@ -29,7 +29,7 @@ answers_from number (query ∷ queries) table =
 
 -- the answers of a run at its first n operations
 unfoldable pub answers_at : Run → List Op → ℕ → List ℕ
-answers_at run ops n = answers_from 1 run.queries (after run.kind ops n)
+answers_at run ops n = answers_from 1 run.queries (table_at run ops n)
 
 unfoldable pub reader_line : ℕ → ℕ → ℕ → List ℕ
 reader_line reader round n =
@@ -61,13 +61,17 @@ unfoldable pub done_line : ℕ → ℕ → List ℕ
 done_line loaded skipped =
     codes "done " ++ decimal loaded ++ codes " operations " ++ decimal skipped ++ codes " skipped\n"
 
--- the report of a run that loaded so many operations and whose readers made these rounds
-unfoldable pub report : Run → List Op → ℕ → List (List ℕ) → Option ℕ → List ℕ
-report run ops loaded rounds full =
-    readers_from run ops 1 rounds
-    ++ final_line loaded ++ answers_at run ops loaded
+-- the report of a run that came so far, and of the operation that found no room, if one did
+unfoldable pub report : Run → List Op → Progress → Option ℕ → List ℕ
+report run ops progress full =
+    readers_from run ops 1 progress.rounds
+    ++ final_line progress.loaded ++ answers_at run ops progress.loaded
     ++ full_line full
-    ++ done_line loaded (skipped run.kind ops loaded)
+    ++ done_line progress.loaded (skipped_at run ops progress.loaded)
+
+-- what a run writes that came so far: its report
+abbrev pub written : Run → List Op → Progress → Option ℕ → List ℕ
+written run ops progress full = report run ops progress full
 
 -- ---- the texts of the other answers
 
@@ -79,6 +83,7 @@ help_text =
 -- the refusal of a query, in words
 unfoldable pub query_refusal : QueryError → List ℕ
 query_refusal (refusal.Syntax place) = codes "Syntax at " ++ decimal place
+query_refusal (refusal.NoField place) = codes "NoField"
 query_refusal refusal.WrongType = codes "WrongType"
 query_refusal refusal.OutOfRange = codes "OutOfRange"
 query_refusal refusal.TooDeep = codes "TooDeep"
@@ -101,14 +106,29 @@ unfoldable pub feed_line : ℕ → ℕ → List ℕ
 feed_line line number =
     codes "attr: feed line " ++ decimal line ++ codes ": " ++ line_refusal number ++ codes "\n"
 
--- what is written at an answer that has a text of its own; the report and its front have not
-unfoldable pub text_of : Status → List ℕ
-text_of status.Help = help_text
-text_of (status.Usage usage.Words) = codes "attr: usage: words\n"
-text_of (status.Usage usage.KindName) = codes "attr: usage: kind\n"
-text_of (status.Usage usage.ValueName) = codes "attr: usage: value\n"
-text_of (status.Usage (usage.Query number error)) = query_line number error
-text_of (status.BadFeed (feed.Line line number)) = feed_line line number
-text_of (status.BadFeed feed.TooLong) = codes "attr: feed: FeedTooLong\n"
-text_of status.ReadFault = codes "attr: read fault\n"
-text_of _ = []
+-- what is written at an answer before any run; what a run writes is `written`
+unfoldable pub answer_text : Status → List ℕ
+answer_text status.Done = []
+answer_text status.Help = help_text
+answer_text (status.Usage usage.Words) = codes "attr: usage: words\n"
+answer_text (status.Usage usage.KindName) = codes "attr: usage: kind\n"
+answer_text (status.Usage usage.ValueName) = codes "attr: usage: value\n"
+answer_text (status.Usage (usage.Query number error)) = query_line number error
+answer_text (status.BadFeed (feed.Line line number)) = feed_line line number
+answer_text (status.BadFeed feed.TooLong) = codes "attr: feed: FeedTooLong\n"
+answer_text status.ReadFault = codes "attr: read fault\n"
+answer_text status.WriteFault = []
+answer_text (status.Full operation active held) = []
+answer_text status.Memory = []
+
+-- ---- the exit status of the program
+
+abbrev pub exit_code : Status → ℕ
+exit_code status.Done = 0
+exit_code status.Help = 0
+exit_code (status.Usage cause) = 2
+exit_code (status.BadFeed fault) = 3
+exit_code status.ReadFault = 4
+exit_code status.WriteFault = 5
+exit_code (status.Full operation active held) = 6
+exit_code status.Memory = 7

@@ -1,19 +1,21 @@
 -- What the steps of a call answer, before its text is made and written.
-use Rattle.std.specs.Prelude.{◌≡◌, ℕ, map, List, Option, Result, Ok, Err}
+use Rattle.std.specs.Prelude.{◌≡◌, ℕ, map, List, [], length, Option, Result, Ok, Err, IsOkAnd}
 use Rattle.std.specs.Io.KnownBytes.{Appends, Keeps}
 use Rattle.clap.specs.Walk.{Text}
 use Rattle.attr_io.specs.Faults.{Rose}
 use Rattle.attr_types.specs.Query.{tree_of}
+use Rattle.attr_types.specs.declared.op.Op.{Op}
 use Rattle.attr_words.specs.Reading.{given_by}
 use Rattle.feed_reader.specs.declared.error.FeedError.{FeedError}
 use Rattle.feed_reader.specs.declared.error.FeedError.TheVariants as feed_errors
-use Rattle.attr_run.specs.Run.{Run, run_of}
-use Rattle.attr_run.specs.Report.{text_of}
-use Rattle.attr_run.specs.Answers.{HasCause, HasNoRun, IsDue, IsProper, WritesFront}
+use Rattle.attr_run.specs.Run.{Run, Progress, run_of, asked}
+use Rattle.attr_run.specs.Settings.{IsAskedBy}
+use Rattle.attr_run.specs.Report.{answer_text}
+use Rattle.attr_run.specs.Answers.{OfRun, ReadsAsAsked, HasCause, HasNoRun, IsDue, IsProper}
+use Rattle.attr_run.specs.Answers.{WritesFront}
 use Rattle.attr_run.specs.declared.outcome.Status.{Status}
 use Rattle.attr_run.specs.declared.outcome.Status.TheVariants.{Help, Usage, BadFeed, ReadFault}
 use Rattle.attr_run.specs.declared.outcome.Status.TheVariants.{WriteFault, Memory}
-use Rattle.attr_run.specs.declared.outcome.UsageCause.TheVariants as usage
 use Rattle.attr_run.specs.declared.outcome.FeedFault.TheVariants as feed
 use Rattle.attr_run.specs.declared.stop.Stop.{Stop}
 use Rattle.attr_run.specs.declared.stop.Stop.TheVariants as stops
@@ -27,8 +29,12 @@ Says shown (Err stops.Memory) wanted = Unit {0}
 
 -- the run of a request
 abbrev pub run_in : Request → Run
-run_in request = run_of (given_by request.settings) request.kind request.value
+run_in request = run_of (given_by request.settings) request.fields
     (map tree_of request.queries.items)
+
+-- a run without readers that loaded all its operations
+abbrev pub all_loaded : List Op → Progress
+all_loaded ops = record { loaded = length ops; rounds = [] }
 
 -- what a refusal of the feed stops a call with
 abbrev pub line_stop : ℕ → ℕ → Stop
@@ -61,17 +67,24 @@ abbrev pub IsProperStop : Stop → Type 0
 IsProperStop (stops.Answer status) = IsProper status
 IsProperStop stops.Memory = Unit {0}
 
+-- what holds where a run has ended: lawful words asked for it, and the source was read as they ask
+pub record HasEnded (words : List Text) (left new : Option (List ℕ)) : Type 0 where
+  pub asks : IsOkAnd (asked words) (IsAskedBy words)
+  pub reads : OfRun words left (λ run ops. ReadsAsAsked run new)
+
 -- the answer of a call that stopped: it is no want of memory, and its text is the status's own
-abbrev pub IsEarly : Stop → Status → ℕ → List (List ℕ) → List ℕ → Type 0
-IsEarly stop status loaded rounds text = (stop ≡ stops.Answer status) × HasNoRun loaded rounds
-    × (text ≡ text_of status)
+pub record IsEarly (stop : Stop) (status : Status) (progress : Progress) (text : List ℕ)
+    : Type 0 where
+  pub answers : stop ≡ stops.Answer status
+  pub no_run : HasNoRun progress
+  pub own_text : text ≡ answer_text status
 
 -- an answer of a call: the text that is due is written, or a front of it, or nothing
 abbrev pub IsAnswer : List Text → Option (List ℕ) → ℕ → ℕ → Option (List ℕ) → Option (List ℕ)
-    → ℕ → ℕ → Status → ℕ → List (List ℕ) → Type 0
-IsAnswer words left before now old new sink_before sink_now WriteFault loaded rounds =
-    Rose sink_before sink_now × WritesFront words left before now loaded rounds old new
-IsAnswer words left before now old new sink_before sink_now Memory loaded rounds =
-    Keeps old new × HasNoRun loaded rounds
-IsAnswer words left before now old new sink_before sink_now status loaded rounds =
-    (text : List ℕ) × IsDue words left before now status loaded rounds text × Appends old new text
+    → ℕ → ℕ → Status → Progress → Type 0
+IsAnswer words left before now old new sink_before sink_now WriteFault progress =
+    Rose sink_before sink_now × WritesFront words left before now progress old new
+IsAnswer words left before now old new sink_before sink_now Memory progress =
+    Keeps old new × HasNoRun progress
+IsAnswer words left before now old new sink_before sink_now status progress =
+    (text : List ℕ) × IsDue words left before now status progress text × Appends old new text

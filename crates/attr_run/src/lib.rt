@@ -2,6 +2,7 @@
 //! bytes of its report.
 #![tactic(auto)]
 
+mod laws;
 mod load;
 mod outcome;
 mod report;
@@ -11,9 +12,7 @@ mod stop;
 mod texts;
 mod words;
 
+pub use laws::{history_law, settings_law};
 pub use outcome::{FeedFault, Outcome, Status, UsageCause};
 pub use run::attr_main;
 pub use words::Words;
-
-#[cfg(test)]
-mod tests;

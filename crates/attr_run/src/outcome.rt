@@ -1,3 +1,6 @@
+ghost use Rattle.std.specs.Prelude.{◌≡◌};
+ghost use Rattle.attr_run.specs.Report.{exit_code};
+
 use attr_types::{QueryError, RoundList};
 
 /// Why the words of a command line ask for no run. The checks go in this order.
@@ -38,8 +41,8 @@ pub enum Status {
     ReadFault,
     /// The sink failed, in place of the answer that was to be written.
     WriteFault,
-    /// An operation, by its number from 1, found no room: so many buffers were active, and so many
-    /// held for readers.
+    /// The operation of that number, from 1, found no room, with `active` buffers in use and `held`
+    /// waiting for readers. The report of what was committed before it is written.
     Full {
         operation: u32,
         active: u32,
@@ -47,6 +50,25 @@ pub enum Status {
     },
     /// Memory was refused. Nothing is written.
     Memory,
+}
+
+impl Status {
+    /// The exit status of the program: 0 where the report or the help text is written, or the
+    /// number of what stands in its place.
+    pub fn exit_code(&self) -> u8
+        ensures { result ≡ exit_code self.now }
+    {
+        match self {
+            Status::Done => 0,
+            Status::Help => 0,
+            Status::Usage(_) => 2,
+            Status::BadFeed(_) => 3,
+            Status::ReadFault => 4,
+            Status::WriteFault => 5,
+            Status::Full { .. } => 6,
+            Status::Memory => 7,
+        }
+    }
 }
 
 /// What a run did: its answer, how many operations it loaded, and the rounds of its readers.

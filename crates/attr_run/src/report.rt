@@ -1,11 +1,12 @@
-ghost use Rattle.std.specs.Prelude.{◌≡◌, ◌++◌, ◌∷◌, [], ◌<◌, ◌≤◌, ◌^◌, None, length, map, OnOk};
+ghost use Rattle.std.specs.Prelude.{◌≡◌, ◌++◌, ◌<◌, ◌≤◌, ◌^◌, None, length, map, OnOk};
 ghost use Rattle.std.specs.Prelude.{IfOk, string_bytes};
 ghost use Rattle.std.specs.List.{AllByRecursion};
-ghost use Rattle.attr_types.specs.Lawful.{Fits};
+ghost use Rattle.attr_types.specs.Lawful.{OpFits};
 ghost use Rattle.attr_types.specs.Query.{tree_of};
 ghost use Rattle.attr_types.specs.Table.{after, skipped};
-ghost use Rattle.attr_run.specs.Report.{answer_line, answers_from, final_line, done_line, report};
-ghost use Rattle.attr_run.specs.Steps.{run_in};
+ghost use Rattle.attr_run.specs.Report.{answer_line, answers_from, final_line, done_line};
+ghost use Rattle.attr_run.specs.Report.{written};
+ghost use Rattle.attr_run.specs.Steps.{run_in, all_loaded};
 
 use crate::load::load;
 use crate::request::Request;
@@ -62,19 +63,24 @@ fn push_done_line(text: &mut String, loaded: u32, skipped: u32) -> Result<(), Al
 }
 
 /// The report of a run without readers, and how many operations it loaded: all.
-pub fn report_in(alloc: Global, request: &Request, ops: Ops) -> Result<(u32, String), AllocError>
+pub fn report_in(alloc: Global, request: Request, ops: Ops) -> Result<(u32, String), AllocError>
     requires few { length ops < 2 ^ 32 }
-    requires fit { AllByRecursion (Fits request.now.kind request.now.value) ops }
+    requires fit { AllByRecursion (OpFits request.fields) ops }
     ensures loaded { IfOk result (λ r. r.0 ≡ length ops) }
     ensures text { IfOk result (λ r. string_bytes r.1
-        ≡ report (run_in request.now) ops (length ops) [] None) }
+        ≡ written (run_in request) ops (all_loaded ops) None) }
 {
     let ops = ops.into_vec();
     let loaded = ops.len() as u32;
-    let (table, skipped) = load(alloc, request.kind, request.value, ops)?;
+    let Request {
+        fields,
+        queries,
+        ..
+    } = request;
+    let (table, skipped) = load(alloc, fields, ops)?;
     let mut text = String::new(alloc);
     push_final_line(&mut text, loaded)?;
-    push_answers(alloc, &mut text, request.queries.as_slice(), &table)?;
+    push_answers(alloc, &mut text, queries.as_slice(), &table)?;
     push_done_line(&mut text, loaded, skipped)?;
     Ok((loaded, text))
 }

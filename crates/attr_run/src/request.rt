@@ -1,28 +1,32 @@
-ghost use Rattle.std.specs.Prelude.{◌≡◌, ◌<◌, ◌≤◌, ◌^◌, IfOk, IfErr, length, map, string_bytes};
+ghost use Rattle.std.specs.Prelude.{◌≡◌, ◌<◌, ◌≤◌, ◌^◌, [], ◌∷◌, IfOk, IfErr, length, map};
+ghost use Rattle.std.specs.Prelude.{string_bytes};
+ghost use Rattle.std.specs.List.{AllByRecursion};
+ghost use Rattle.std.specs.Str.{IsUtf8};
 ghost use Rattle.clap.specs.Faults.{fault_of};
 ghost use Rattle.attr_types.specs.Query.{tree_of};
 ghost use Rattle.attr_words.specs.CommandLine.{attr_app};
 ghost use Rattle.attr_words.specs.Reading.{given_by};
 ghost use Rattle.query_text.specs.Parsing.{query_of};
 ghost use Rattle.attr_run.specs.Run.{or_refused, settings_in, kind_named, value_named};
-ghost use Rattle.attr_run.specs.Run.{query_or_refused, queries_from, asked};
+ghost use Rattle.attr_run.specs.Run.{field_of, query_or_refused, queries_from, asked};
+ghost use Rattle.attr_run.specs.Settings.{query_texts, IsAskedBy};
 ghost use Rattle.attr_run.specs.declared.outcome.Status.TheVariants.{Usage};
 ghost use Rattle.attr_run.specs.Steps.{Says, IsWordsStop, run_in};
 
+use crate::laws::settings_law;
 use crate::outcome::{Status, UsageCause};
 use crate::stop::Stop;
 use crate::words::Words;
-use attr_types::{Kind, Query, QueryError, ValueType};
+use attr_types::{Field, Fields, Kind, Name, Query, QueryError, ValueType};
 use attr_words::{Settings, WordsError, read_words};
 use query_text::parse_query;
-use std::alloc::Global;
+use std::alloc::{AllocError, Global};
 
 /// What the words ask for.
 #[derive(Debug, Drop)]
 pub struct Request {
     pub settings: Settings,
-    pub kind: Kind,
-    pub value: ValueType,
+    pub fields: Fields,
     pub queries: Vec<Query>,
 }
 
@@ -32,6 +36,7 @@ fn settings_of_words(alloc: Global, words: &Words) -> Result<Settings, Stop>
     ensures refusal { IfErr result IsWordsStop }
     ensures one_kind { length (fault_of attr_app words.now) ≤ 1 }
     ensures alone { IfOk result (λ settings. settings.readers ≡ 0) }
+    ensures texts { IfOk result (λ _. AllByRecursion IsUtf8 (query_texts words.now)) }
 {
     match read_words(alloc, words.as_slice()) {
         Ok(settings) => Ok(settings),
@@ -73,6 +78,13 @@ fn value_of_name(name: &str) -> Result<ValueType, Stop>
     }
 }
 
+fn one_field(alloc: Global, name: &str, kind: Kind, value: ValueType) -> Result<Fields, AllocError>
+    ensures { IfOk result (λ fields. fields ≡ field_of name.now kind value ∷ []) }
+{
+    let name = Name::from_str(alloc, name)?;
+    Fields::of_one(alloc, Field { name, kind, value })
+}
+
 fn query_in(alloc: Global, value: ValueType, number: u64, text: &str) -> Result<Query, Stop>
     ensures says { Says tree_of result (query_or_refused number (query_of value text.now)) }
     ensures refusal { IfErr result IsWordsStop }
@@ -106,15 +118,17 @@ pub fn request_in(alloc: Global, words: &Words) -> Result<Request, Stop>
     ensures refusal { IfErr result IsWordsStop }
     ensures one_kind { length (fault_of attr_app words.now) ≤ 1 }
     ensures alone { IfOk result (λ request. request.settings.readers ≡ 0) }
+    ensures lawful { IfOk result (λ request. IsAskedBy words.now (run_in request)) }
 {
+    settings_law();
     let settings = settings_of_words(alloc, words)?;
     let kind = kind_of_name(settings.kind.as_str())?;
     let value = value_of_name(settings.value.as_str())?;
+    let fields = one_field(alloc, settings.field.as_str(), kind, value)?;
     let queries = queries_in(alloc, value, settings.queries.as_slice())?;
     Ok(Request {
         settings,
-        kind,
-        value,
+        fields,
         queries,
     })
 }

@@ -1,17 +1,21 @@
-ghost use Rattle.std.specs.Prelude.{◌≡◌, ◌⊎◌, ◌<◌, ◌≤◌, ◌^◌, ℕ, [], None, Some, Ok, Err, length};
-ghost use Rattle.std.specs.Prelude.{IsOk, IsErr, IfOk, IfErr, OnOk, IfSome, string_bytes};
-ghost use Rattle.std.specs.Io.KnownBytes.{Appends, Keeps, IsAtEnd};
+ghost use Rattle.std.specs.Prelude.{◌≡◌, ◌⊎◌, ◌<◌, ◌≤◌, ◌^◌, ℕ, [], Some, Ok, Err, length, Option};
+ghost use Rattle.std.specs.Prelude.{IsOk, IsErr, IsOkAnd, IfOk, IfErr, OnOk, IfSome, string_bytes};
+ghost use Rattle.std.specs.Io.KnownBytes.{Appends, Keeps};
+ghost use Rattle.attr_io.specs.Bytes.{ReadsPieces};
 ghost use Rattle.attr_io.specs.Faults.{Rose};
 ghost use Rattle.attr_types.specs.declared.error.QueryError.{QueryError};
 ghost use Rattle.clap.specs.Faults.{fault_of};
 ghost use Rattle.attr_words.specs.CommandLine.{attr_app};
 ghost use Rattle.attr_words.specs.Reading.{AskForHelp, AreRefused};
+ghost use Rattle.feed_reader.specs.Feed.{most_bytes};
 ghost use Rattle.attr_run.specs.Run.{asked, task_of};
-ghost use Rattle.attr_run.specs.Report.{report, text_of};
-ghost use Rattle.attr_run.specs.History.{IsRounds, IsAfterwards, IsLegalHistory, history};
-ghost use Rattle.attr_run.specs.Answers.{OfRun, ComesExactly, ComesExactlyOfFeed, IsBeforeRun};
-ghost use Rattle.attr_run.specs.Answers.{IsProper, HasNoRun, IsDue, WritesFront};
-ghost use Rattle.attr_run.specs.Steps.{IsStopped, IsProperStop, IsEarly, IsAnswer};
+ghost use Rattle.attr_run.specs.Settings.{IsAskedBy};
+ghost use Rattle.attr_run.specs.Report.{written, answer_text};
+ghost use Rattle.attr_run.specs.History.{IsLoaded, IsRounds, IsAfterwards, IsLegalHistory, history};
+ghost use Rattle.attr_run.specs.Answers.{progress_of, EndsRun, IsEnd, OfRun, ComesExactly};
+ghost use Rattle.attr_run.specs.Answers.{ComesExactlyOfFeed, IsBeforeRun, IsProper, HasNoRun};
+ghost use Rattle.attr_run.specs.Answers.{ReadsAsAsked, IsDue, WritesFront};
+ghost use Rattle.attr_run.specs.Steps.{IsStopped, IsProperStop, IsEarly, IsAnswer, HasEnded};
 
 use crate::outcome::{FeedFault, Outcome, Status, UsageCause};
 use crate::report::report_in;
@@ -27,51 +31,51 @@ use std::alloc::{AllocError, Global};
 /// What is to be answered and written.
 #[derive(Debug, Drop)]
 struct Answer {
-    status: Status,
-    loaded: u32,
-    rounds: RoundList,
+    outcome: Outcome,
     text: String,
 }
 
 /// Reads the words and then the feed, loads it and makes the report.
 fn reported<S: Source>(alloc: Global, words: &Words, source: &mut S) -> Result<Answer, Stop>
-    ensures done { IfOk result (λ a. a.status ≡ Status.Done) }
+    ensures done { IfOk result (λ a. a.outcome.status ≡ Status.Done) }
     ensures due { IfOk result (λ a. IsDue words.now
         (S.left source.old) (S.faults source.old) (S.faults source.new)
-        a.status a.loaded a.rounds (string_bytes a.text)) }
+        a.outcome.status (progress_of a.outcome) (string_bytes a.text)) }
+    ensures ended { IfOk result (λ _. HasEnded words.now (S.left source.old) (S.left source.new)) }
     ensures stopped { IfErr result (IsStopped words.now (S.left source.old)
         (S.faults source.old) (S.faults source.new)) }
     ensures proper { IfErr result IsProperStop }
-    ensures whole { OnOk result (IsAtEnd (S.left source.new)) }
     ensures unread { IsErr (asked words.now) → source.new ≡ source.old }
+    ensures reads { ReadsPieces most_bytes 65536
+        (S.left source.old) (S.left source.new) (S.reads source.old) (S.reads source.new) }
     ensures one_kind { length (fault_of attr_app words.now) ≤ 1 }
 {
     let request = request_in(alloc, words)?;
-    let field = request.settings.field.as_str();
-    let ops = read_feed(alloc, source, field, request.kind, request.value)?;
-    let (loaded, text) = report_in(alloc, &request, ops)?;
-    Ok(Answer {
+    let ops = read_feed(alloc, source, &request.fields)?;
+    let (loaded, text) = report_in(alloc, request, ops)?;
+    let outcome = Outcome {
         status: Status::Done,
         loaded,
         rounds: RoundList::new(alloc),
-        text,
-    })
+    };
+    Ok(Answer { outcome, text })
 }
 
 /// The answer of a call that stops before it has a report.
 fn stopped(alloc: Global, stop: Stop) -> Result<Answer, AllocError>
-    ensures { IfOk result (λ a. IsEarly stop a.status a.loaded a.rounds (string_bytes a.text)) }
+    ensures { IfOk result (λ a. IsEarly stop a.outcome.status (progress_of a.outcome)
+        (string_bytes a.text)) }
 {
     match stop {
         Stop::Memory => Err(AllocError),
         Stop::Answer(status) => {
             let text = text_in(alloc, &status)?;
-            Ok(Answer {
+            let outcome = Outcome {
                 status,
                 loaded: 0,
                 rounds: RoundList::new(alloc),
-                text,
-            })
+            };
+            Ok(Answer { outcome, text })
         }
     }
 }
@@ -80,10 +84,13 @@ fn stopped(alloc: Global, stop: Stop) -> Result<Answer, AllocError>
 fn answer_to<S: Source>(alloc: Global, words: &Words, source: &mut S) -> Result<Answer, AllocError>
     ensures due { IfOk result (λ a. IsDue words.now
         (S.left source.old) (S.faults source.old) (S.faults source.new)
-        a.status a.loaded a.rounds (string_bytes a.text)) }
-    ensures proper { IfOk result (λ a. IsProper a.status) }
-    ensures whole { IfOk result (λ a. a.status ≡ Status.Done → IsAtEnd (S.left source.new)) }
+        a.outcome.status (progress_of a.outcome) (string_bytes a.text)) }
+    ensures proper { IfOk result (λ a. IsProper a.outcome.status) }
+    ensures ended { IfOk result (λ a. (full : Option ℕ) → EndsRun a.outcome.status full
+        → HasEnded words.now (S.left source.old) (S.left source.new)) }
     ensures unread { IsErr (asked words.now) → source.new ≡ source.old }
+    ensures reads { ReadsPieces most_bytes 65536
+        (S.left source.old) (S.left source.new) (S.reads source.old) (S.reads source.new) }
     ensures one_kind { length (fault_of attr_app words.now) ≤ 1 }
 {
     match reported(alloc, words, source) {
@@ -102,10 +109,13 @@ fn whole_run<S: Source, K: Sink>(
     ensures answer { IsAnswer words.now
         (S.left source.old) (S.faults source.old) (S.faults source.new)
         (K.taken sink.old) (K.taken sink.new) (K.faults sink.old) (K.faults sink.new)
-        result.status result.loaded result.rounds }
+        result.status (progress_of result) }
     ensures proper { IsProper result.status }
-    ensures whole { result.status ≡ Status.Done → IsAtEnd (S.left source.new) }
+    ensures ended { (full : Option ℕ) → EndsRun result.status full
+        → HasEnded words.now (S.left source.old) (S.left source.new) }
     ensures unread { IsErr (asked words.now) → source.new ≡ source.old }
+    ensures reads { ReadsPieces most_bytes 65536
+        (S.left source.old) (S.left source.new) (S.reads source.old) (S.reads source.new) }
     ensures one_kind { length (fault_of attr_app words.now) ≤ 1 }
 {
     match answer_to(alloc, words, source) {
@@ -115,15 +125,11 @@ fn whole_run<S: Source, K: Sink>(
             rounds: RoundList::new(alloc),
         },
         Ok(answer) => match write_all(sink, answer.text.as_bytes()) {
-            Ok(()) => Outcome {
-                status: answer.status,
-                loaded: answer.loaded,
-                rounds: answer.rounds,
-            },
+            Ok(()) => answer.outcome,
             Err(_) => Outcome {
                 status: Status::WriteFault,
-                loaded: answer.loaded,
-                rounds: answer.rounds,
+                loaded: answer.outcome.loaded,
+                rounds: answer.outcome.rounds,
             },
         },
     }
@@ -134,9 +140,9 @@ fn whole_run<S: Source, K: Sink>(
 /// then at the feed; the first refusal is the answer.
 ///
 /// What a clause says of bytes holds where the source tells its bytes and the sink what it took.
-/// Want of memory may come in place of any answer. There is no reader yet, so no round is made;
-/// `--batch`, `--buffers`, `--words`, `--rounds` and `--after` are read and change nothing, no
-/// commit is made, and the gate is not called.
+/// Out of memory may be the answer in place of any other. There is no reader yet, so no round is
+/// made; `--batch`, `--buffers`, `--words`, `--rounds` and `--after` are read and change nothing,
+/// no commit is made, and the gate is not called.
 pub fn attr_main<S: Source, K: Sink, G: Gate + Sync>(
     alloc: Global,
     words: &Words,
@@ -144,21 +150,26 @@ pub fn attr_main<S: Source, K: Sink, G: Gate + Sync>(
     sink: &mut K,
     _gate: &G,
 ) -> Outcome
-    // Done: the words ask for a run, the source, read to its end, gave its operations, and exactly
-    // the report was written.
-    ensures report { result.status ≡ Status.Done → OfRun words.now (S.left source.old) (λ run ops.
-        Appends (K.taken sink.old) (K.taken sink.new)
-        (report run ops result.loaded result.rounds None)) }
-    ensures whole { result.status ≡ Status.Done → IsAtEnd (S.left source.new) }
-    ensures loaded { result.status ≡ Status.Done
-        → OfRun words.now (S.left source.old) (λ run ops. result.loaded ≡ length ops) }
-    ensures rounds { result.status ≡ Status.Done → OfRun words.now (S.left source.old) (λ run ops.
-        IsRounds run (length ops) result.loaded result.rounds) }
-    ensures after { result.status ≡ Status.Done → OfRun words.now (S.left source.old) (λ run ops.
-        IsAfterwards run result.loaded result.rounds) }
-    ensures history { result.status ≡ Status.Done → OfRun words.now (S.left source.old) (λ run ops.
-        IsLegalHistory run ops result.loaded result.rounds
-        (history run ops result.loaded result.rounds)) }
+    // A run that ended, done or out of room at an operation: the words ask for it, the source gave
+    // its operations and was read as the run asks, and exactly its text was written.
+    ensures report { (full : Option ℕ) → EndsRun result.status full
+        → OfRun words.now (S.left source.old) (λ run ops. Appends (K.taken sink.old)
+        (K.taken sink.new) (written run ops (progress_of result) full)) }
+    ensures settings { (full : Option ℕ) → EndsRun result.status full
+        → IsOkAnd (asked words.now) (IsAskedBy words.now) }
+    ensures whole { (full : Option ℕ) → EndsRun result.status full
+        → OfRun words.now (S.left source.old) (λ run ops. ReadsAsAsked run (S.left source.new)) }
+    ensures loaded { (full : Option ℕ) → EndsRun result.status full
+        → OfRun words.now (S.left source.old) (λ run ops.
+        IsLoaded run (length ops) result.loaded full) }
+    ensures rounds { (full : Option ℕ) → EndsRun result.status full
+        → OfRun words.now (S.left source.old) (λ run ops.
+        IsRounds run (length ops) (progress_of result)) }
+    ensures after { (full : Option ℕ) → EndsRun result.status full
+        → OfRun words.now (S.left source.old) (λ run ops. IsAfterwards run (progress_of result)) }
+    ensures history { (full : Option ℕ) → EndsRun result.status full
+        → OfRun words.now (S.left source.old) (λ run ops. IsLegalHistory run ops
+        (progress_of result) (history run ops (progress_of result))) }
 
     // The words.
     ensures help { ComesExactly (AskForHelp words.now) Status.Help result.status }
@@ -173,35 +184,38 @@ pub fn attr_main<S: Source, K: Sink, G: Gate + Sync>(
         ComesExactly (asked words.now ≡ Err cause) cause result.status }
     ensures unread { IsErr (asked words.now) → source.new ≡ source.old }
 
-    // The feed.
+    // The feed. The source is read on only while at most so many bytes were read, and each read but
+    // the last took a byte.
+    ensures reads { ReadsPieces most_bytes 65536
+        (S.left source.old) (S.left source.new) (S.reads source.old) (S.reads source.new) }
     ensures read_fault { result.status ≡ Status.ReadFault
         → Rose (S.faults source.old) (S.faults source.new) }
     ensures too_long { let cause = Status.BadFeed FeedFault.TooLong in
-        IfSome (S.left source.old) (λ bytes.
-        ComesExactlyOfFeed (task_of words.now bytes ≡ Err cause) cause result.status) }
+        IfSome (task_of words.now (S.left source.old)) (λ said.
+        ComesExactlyOfFeed (said ≡ Err cause) cause result.status) }
     ensures bad_line { (line number : ℕ)
         → let cause = Status.BadFeed (FeedFault.Line line number) in
-        IfSome (S.left source.old) (λ bytes.
-        ComesExactlyOfFeed (task_of words.now bytes ≡ Err cause) cause result.status) }
+        IfSome (task_of words.now (S.left source.old)) (λ said.
+        ComesExactlyOfFeed (said ≡ Err cause) cause result.status) }
 
-    // What is written and left at an answer other than Done.
+    // What is written and left at an answer before any run, and where the sink or memory fails.
     ensures text { IsBeforeRun result.status → Appends (K.taken sink.old) (K.taken sink.new)
-        (text_of result.status) }
-    ensures no_run { IsBeforeRun result.status → HasNoRun result.loaded result.rounds }
+        (answer_text result.status) }
+    ensures no_run { IsBeforeRun result.status → HasNoRun (progress_of result) }
     ensures write_fault { result.status ≡ Status.WriteFault
         → Rose (K.faults sink.old) (K.faults sink.new) }
     ensures front { result.status ≡ Status.WriteFault → WritesFront words.now (S.left source.old)
-        (S.faults source.old) (S.faults source.new) result.loaded result.rounds
+        (S.faults source.old) (S.faults source.new) (progress_of result)
         (K.taken sink.old) (K.taken sink.new) }
     ensures memory { result.status ≡ Status.Memory →
-        Keeps (K.taken sink.old) (K.taken sink.new) × HasNoRun result.loaded result.rounds }
+        Keeps (K.taken sink.old) (K.taken sink.new) × HasNoRun (progress_of result) }
     ensures proper { IsProper result.status }
 
-    // Where nothing is refused and nothing fails, a run of any size is done, or wants memory.
-    ensures complete { IfSome (S.left source.old) (λ bytes. IsOk (task_of words.now bytes)
+    // Where nothing is refused and nothing fails, the run comes to its end, or is out of memory.
+    ensures complete { IfSome (task_of words.now (S.left source.old)) (λ said. IsOk said
         → ¬ Rose (S.faults source.old) (S.faults source.new)
         → ¬ Rose (K.faults sink.old) (K.faults sink.new)
-        → (result.status ≡ Status.Done) ⊎ (result.status ≡ Status.Memory)) }
+        → IsEnd result.status ⊎ (result.status ≡ Status.Memory)) }
 {
     whole_run(alloc, words, source, sink)
 }

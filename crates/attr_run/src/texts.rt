@@ -1,6 +1,6 @@
 ghost use Rattle.std.specs.Prelude.{◌≡◌, ◌++◌, ◌≤◌, OnOk, IfOk, string_bytes};
 ghost use Rattle.attr_run.specs.Report.{help_text, query_refusal, query_line, line_refusal};
-ghost use Rattle.attr_run.specs.Report.{feed_line, text_of};
+ghost use Rattle.attr_run.specs.Report.{feed_line, answer_text};
 ghost use Rattle.attr_run.specs.declared.outcome.Status.TheVariants.{Usage, BadFeed};
 
 use crate::outcome::{FeedFault, Status, UsageCause};
@@ -25,6 +25,7 @@ fn push_refusal(text: &mut String, error: &QueryError) -> Result<(), AllocError>
 {
     match error {
         QueryError::Syntax { place } => write!(text, "Syntax at {place}"),
+        QueryError::NoField { .. } => text.push_str("NoField"),
         QueryError::WrongType => text.push_str("WrongType"),
         QueryError::OutOfRange => text.push_str("OutOfRange"),
         QueryError::TooDeep => text.push_str("TooDeep"),
@@ -43,9 +44,9 @@ fn query_text(alloc: Global, number: u64, error: &QueryError) -> Result<String, 
     Ok(text)
 }
 
-#[tactic(auto, unfolding(crate::specs::Report::text_of))]
+#[tactic(auto, unfolding(crate::specs::Report::answer_text))]
 fn usage_text(alloc: Global, cause: &UsageCause) -> Result<String, AllocError>
-    ensures { IfOk result (λ text. string_bytes text ≡ text_of (Usage cause.now)) }
+    ensures { IfOk result (λ text. string_bytes text ≡ answer_text (Usage cause.now)) }
 {
     match cause {
         UsageCause::Words => String::from_str(alloc, "attr: usage: words\n"),
@@ -80,9 +81,9 @@ fn line_text(alloc: Global, line: u32, number: u32) -> Result<String, AllocError
     Ok(text)
 }
 
-#[tactic(auto, unfolding(crate::specs::Report::text_of))]
+#[tactic(auto, unfolding(crate::specs::Report::answer_text))]
 fn feed_text(alloc: Global, fault: &FeedFault) -> Result<String, AllocError>
-    ensures { IfOk result (λ text. string_bytes text ≡ text_of (BadFeed fault.now)) }
+    ensures { IfOk result (λ text. string_bytes text ≡ answer_text (BadFeed fault.now)) }
 {
     match fault {
         FeedFault::Line { line, number } => line_text(alloc, *line, *number),
@@ -91,9 +92,9 @@ fn feed_text(alloc: Global, fault: &FeedFault) -> Result<String, AllocError>
 }
 
 /// The text of an answer that has one of its own.
-#[tactic(auto, unfolding(crate::specs::Report::text_of))]
+#[tactic(auto, unfolding(crate::specs::Report::answer_text))]
 pub fn text_in(alloc: Global, status: &Status) -> Result<String, AllocError>
-    ensures { IfOk result (λ text. string_bytes text ≡ text_of status.now) }
+    ensures { IfOk result (λ text. string_bytes text ≡ answer_text status.now) }
 {
     match status {
         Status::Help => help_in(alloc),

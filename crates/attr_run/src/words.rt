@@ -1,7 +1,9 @@
 ghost use Rattle.std.specs.Prelude.{◌≡◌, [], ◌∷◌, ◌++◌, OnOk, OnErr, map, string_bytes};
 
 use std::alloc::{AllocError, Global};
+use std::io::ErrorKind;
 use std::marker::Model;
+use std::rt::Env;
 
 /// The words of a command line after the program's name, seen as a list of texts of any length.
 #[derive(Debug, Drop)]
@@ -34,6 +36,25 @@ impl Words {
     {
         self.list.push(String::from_str(self.alloc, word)?)?;
         Ok(())
+    }
+
+    /// The words of the running program, after its name. Where one of them is no UTF-8 the answer is
+    /// the list of no words, which the command refuses.
+    pub fn of_program<R: Env + AllocGlobal>(rt: &R) -> Result<Words, AllocError> {
+        let mut words = Words::create(rt.alloc());
+        match std::env::args(rt) {
+            Ok(args) => {
+                for arg in args.skip(1) {
+                    words.push(arg.as_str())?;
+                }
+            }
+            Err(error) => {
+                if error.kind() == ErrorKind::OutOfMemory {
+                    return Err(AllocError);
+                }
+            }
+        }
+        Ok(words)
     }
 
     pub(crate) fn as_slice(&self) -> &[String]

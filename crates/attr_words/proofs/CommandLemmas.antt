@@ -10,7 +10,7 @@ use Rattle.clap.specs.declared.error.kind.ErrorKind.TheVariants as kinds
 use Rattle.clap.proofs.OnLiterals.{clap_on_literals}
 use Rattle.attr_words.specs.CommandLine.{attr_app}
 use Rattle.attr_words.specs.Found.{error_of}
-use Rattle.attr_words.specs.Reading.{AreTaken, Reads}
+use Rattle.attr_words.specs.Reading.{AreTaken, AnswersWords}
 use Rattle.attr_words.proofs.OneKind.{AtMostOne, one_kind}
 
 -- clap says which faults `attr` has, and which matches
@@ -43,13 +43,13 @@ only k (x ∷ y ∷ ys) one among = absurd (omega (arith, one.few))
 
 -- the one fault becomes the error that says so
 refused : (k : ErrorKind) (line : List Text) → fault_of attr_app line ≡ k ∷ []
-    → Reads line (Err (error_of k))
+    → AnswersWords line (Err (error_of k))
 refused kinds.DisplayHelp line e = e
 refused kinds.OutOfMemory line e = tt
 refused k line e = (k, (λ is. cc), e)
 
 out_of_memory : (k : ErrorKind) (line : List Text) → k ≡ kinds.OutOfMemory
-    → Reads line (Err (error_of k))
+    → AnswersWords line (Err (error_of k))
 out_of_memory k line e = rw e tt
 
 -- ---- what a parse of a command with this shape says
@@ -68,7 +68,7 @@ module _ (a : App) (is : a ≡ attr_app) (line : List Text) where
   -- an Err: its kind is want of memory, or the one fault
   pub error_is : (k : ErrorKind)
       → (is_simple_and_free a ≡ true → (k ≡ kinds.OutOfMemory) ⊎ IsAmong k (fault_of a line))
-      → Reads line (Err (error_of k))
+      → AnswersWords line (Err (error_of k))
   error_is k fails =
       elim (fails (ap is_simple_and_free is ∙ is_free)) [
         | inl e ↦ out_of_memory k line e

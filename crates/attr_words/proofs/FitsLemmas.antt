@@ -5,6 +5,7 @@ use Rattle.std.proofs.Common.{length, nat_lt}
 use Rattle.std.specs.List.{list_all}
 use Rattle.std.specs.Str.{bytes_eq}
 use Rattle.std.proofs.lemmas.Bool.Decides.{Decides-eqb}
+use Rattle.std.proofs.lemmas.Bool.{and_parts}
 use Rattle.clap.specs.Facts.{parser_of_value, unwrap_or_range}
 use Rattle.clap.specs.Walk.{Rule, Text, action_of, is_empty}
 use Rattle.clap.specs.Walk.{values_or_missing}
@@ -24,10 +25,6 @@ abbrev pub fits_by : (ValueParser → Bool) → Text → Rule → Bool
 fits_by is_parser id a = not (is_count (action_of a)) && (not (bytes_eq a.id id)
     || (is_parser (parser_of_value a.parser) && (not a.ignore_case
     && (nat_lt 0 (unwrap_or_range a.range).start_inclusive || not (is_empty a.missing)))))
-
-both : (a b : Bool) → (a && b) ≡ true → (a ≡ true) × (b ≡ true)
-both true b e = (refl, e)
-both false b e = cc
 
 not_true : (a : Bool) → not a ≡ true → a ≡ false
 not_true true e = cc
@@ -53,12 +50,12 @@ module _ (is_parser : ValueParser → Bool) (id : Text) (parser : ValueParser)
 
   fits_of : (a : Rule) → fits_by is_parser id a ≡ true → Fits id parser a
   fits_of a e =
-      let parts = both (not (is_count (action_of a))) _ e in
+      let parts = and_parts (not (is_count (action_of a))) _ e in
       record {
         counts = λ is. let count = not_true _ parts.0 in let bad = rw is at count in cc;
         own = λ is.
-            let rest = both (is_parser (parser_of_value a.parser)) _ (rw is at parts.1) in
-            let last = both (not a.ignore_case) _ rest.1 in
+            let rest = and_parts (is_parser (parser_of_value a.parser)) _ (rw is at parts.1) in
+            let last = and_parts (not a.ignore_case) _ rest.1 in
             record {
               parser_is = only (parser_of_value a.parser) rest.0;
               case_is = not_true a.ignore_case last.0;
@@ -70,7 +67,7 @@ module _ (is_parser : ValueParser → Bool) (id : Text) (parser : ValueParser)
       → AllFit id parser rules
   fits_all [] e = tt
   fits_all (a ∷ rest) e =
-      let parts = both (fits_by is_parser id a) _ e in
+      let parts = and_parts (fits_by is_parser id a) _ e in
       (fits_of a parts.0, fits_all rest parts.1)
 
 -- ---- the parsers
@@ -82,7 +79,7 @@ is_unsigned least most _ = false
 pub only_unsigned : (least most : ℕ) (p : ValueParser) → is_unsigned least most p ≡ true
     → p ≡ parsers.Unsigned least most
 only_unsigned least most (parsers.Unsigned low high) e =
-    let parts = both (low == least) _ e in
+    let parts = and_parts (low == least) _ e in
     ap₂ parsers.Unsigned ((Decides-eqb low least).0 parts.0) ((Decides-eqb high most).0 parts.1)
 only_unsigned least most _ e = cc
 

@@ -19,7 +19,7 @@ use Rattle.clap.proofs.ValueTestLemmas.{accepts-Accepts}
 use Rattle.attr_words.specs.CommandLine.{NumberOption, attr_app, batch, buffers, readers, rounds}
 use Rattle.attr_words.specs.CommandLine.{words}
 use Rattle.attr_words.specs.Found.{HasFlagText, HasNumberText, HasText, HasTexts}
-use Rattle.attr_words.specs.Reading.{AreTaken, Given, IsInRange, HasGivenTexts, IsWithin, given_by}
+use Rattle.attr_words.specs.Reading.{AreTaken, Given, RangesHold, HasGivenTexts, IsWithin, given_by}
 use Rattle.attr_words.specs.Reading.{number_at, settings_of, text_at}
 use Rattle.attr_words.specs.declared.settings.Settings.{Settings}
 use Rattle.attr_words.proofs.CommandLemmas.{no_subcommands}
@@ -191,16 +191,16 @@ within o rows n text is =
     (omega (arith, e, text.3.2), omega (arith, e, text.3.3))
 
 -- and each number is in its range
-pub in_range : (line : List Text) (s : Settings) → AreTaken line
-    → given_by s ≡ settings_of (matches_of attr_app line) → IsInRange s
-in_range line s taken is =
-    let rows = matches_of attr_app line in (
-      within batch rows s.batch (batch_text line taken) (ap (λ (g : Given). g.batch) is),
-      within readers rows s.readers (readers_text line taken) (ap (λ (g : Given). g.readers) is),
-      within rounds rows s.rounds (rounds_text line taken) (ap (λ (g : Given). g.rounds) is),
-      within buffers rows s.buffers (buffers_text line taken) (ap (λ (g : Given). g.buffers) is),
-      within words rows s.words (words_text line taken) (ap (λ (g : Given). g.words) is),
-    )
+pub in_range : RangesHold
+in_range line taken =
+    let rows = matches_of attr_app line in
+    record {
+      in_batch = within batch rows _ (batch_text line taken) refl;
+      in_readers = within readers rows _ (readers_text line taken) refl;
+      in_rounds = within rounds rows _ (rounds_text line taken) refl;
+      in_buffers = within buffers rows _ (buffers_text line taken) refl;
+      in_words = within words rows _ (words_text line taken) refl;
+    }
 
 -- and kind, value type and field are texts that the matches have
 pub texts_given : (line : List Text) (s : Settings) → AreTaken line

@@ -80,6 +80,18 @@ settings_of rows = record {
 abbrev pub IsWithin : NumberOption → ℕ → Type 0
 IsWithin o n = (o.least ≤ n) × (n ≤ o.most)
 
+-- each number lies in the range of its option
+pub record IsInRange (given : Given) : Type 0 where
+  pub in_batch : IsWithin batch given.batch
+  pub in_readers : IsWithin readers given.readers
+  pub in_rounds : IsWithin rounds given.rounds
+  pub in_buffers : IsWithin buffers given.buffers
+  pub in_words : IsWithin words given.words
+
+-- so it does in all words that the command takes
+abbrev pub RangesHold : Type 0
+RangesHold = (line : List Text) → AreTaken line → IsInRange (settings_of (matches_of attr_app line))
+
 -- ---- what `read_words` answers
 
 -- the texts and numbers of the settings
@@ -97,11 +109,6 @@ given_by s = record {
   queries = map (λ q. string_bytes q) s.queries.items;
 }
 
--- each number lies in the range of its option
-abbrev pub IsInRange : Settings → Type 0
-IsInRange s = IsWithin batch s.batch × IsWithin readers s.readers × IsWithin rounds s.rounds
-    × IsWithin buffers s.buffers × IsWithin words s.words
-
 -- kind, value type and field are texts that the matches have, and none is made up
 abbrev pub HasGivenTexts : List Text → Settings → Type 0
 HasGivenTexts line s = let rows = matches_of attr_app line in
@@ -110,8 +117,8 @@ HasGivenTexts line s = let rows = matches_of attr_app line in
     × (first_of (codes "field") rows ≡ Some (string_bytes s.field))
 
 -- the answer to a list of words; the three causes exclude each other
-abbrev pub Reads : List Text → Result Settings WordsError → Type 0
-Reads line (Ok s) = AreTaken line × (given_by s ≡ settings_of (matches_of attr_app line))
-Reads line (Err errors.Help) = AskForHelp line
-Reads line (Err errors.Refused) = AreRefused line
-Reads line (Err errors.Memory) = Unit {0}
+abbrev pub AnswersWords : List Text → Result Settings WordsError → Type 0
+AnswersWords line (Ok s) = AreTaken line × (given_by s ≡ settings_of (matches_of attr_app line))
+AnswersWords line (Err errors.Help) = AskForHelp line
+AnswersWords line (Err errors.Refused) = AreRefused line
+AnswersWords line (Err errors.Memory) = Unit {0}

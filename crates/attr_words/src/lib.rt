@@ -5,8 +5,5 @@ mod command;
 mod reading;
 mod settings;
 
-pub use reading::{WordsError, read_words};
+pub use reading::{WordsError, ranges_law, read_words};
 pub use settings::Settings;
-
-#[cfg(test)]
-mod tests;

@@ -3,7 +3,7 @@ ghost use Rattle.std.specs.Prelude.{◌≡◌, ◌≤◌, IfOk, length, map, str
 ghost use Rattle.clap.specs.Faults.{fault_of};
 ghost use Rattle.attr_words.specs.CommandLine.{attr_app};
 ghost use Rattle.attr_words.specs.Found.{error_of};
-ghost use Rattle.attr_words.specs.Reading.{HasGivenTexts, IsInRange, Reads};
+ghost use Rattle.attr_words.specs.Reading.{HasGivenTexts, IsInRange, RangesHold, AnswersWords, given_by};
 ghost use Rattle.attr_words.specs.declared.reading.WordsError.TheVariants as errors;
 
 use crate::command::attr_command;
@@ -40,15 +40,15 @@ fn refusal_of(kind: ErrorKind) -> WordsError
     }
 }
 
-/// Reads the words after the program's name, as `clap` reads them by the command `attr`
+/// AnswersWords the words after the program's name, as `clap` reads them by the command `attr`
 /// (<https://docs.rs/clap>): options in any order, `--name=value` too, `--` before queries that
 /// begin with a dash, and the first fault decides.
 #[tactic(auto, using(crate::proofs::CommandLemmas::one_kind_at_most))]
 pub fn read_words(alloc: Global, words: &[String]) -> Result<Settings, WordsError>
-    ensures answer { Reads (map (λ w. string_bytes w) words.now) result }
+    ensures answer { AnswersWords (map (λ w. string_bytes w) words.now) result }
     ensures one_kind { length (fault_of attr_app (map (λ w. string_bytes w) words.now)) ≤ 1 }
     ensures texts { IfOk result (HasGivenTexts (map (λ w. string_bytes w) words.now)) }
-    ensures ranges { IfOk result IsInRange }
+    ensures ranges { IfOk result (λ s. IsInRange (given_by s)) }
 {
     let command = attr_command(alloc)?;
     match command.try_get_matches_from(words) {
@@ -56,3 +56,8 @@ pub fn read_words(alloc: Global, words: &[String]) -> Result<Settings, WordsErro
         Err(error) => Err(refusal_of(error.kind())),
     }
 }
+
+/// Words that the command takes give each number in the range of its option.
+pub fn ranges_law()
+    ensures { RangesHold }
+{}

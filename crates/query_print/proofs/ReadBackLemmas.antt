@@ -4,10 +4,10 @@ use Rattle.std.specs.Str.{IsUtf8}
 use Rattle.attr_types.specs.Query.{QueryTree}
 use Rattle.query_text.specs.Grammar.{tree_text}
 use Rattle.query_text.specs.Parsing.{query_of}
-use Rattle.query_text.proofs.GrammarLemmas.{reads_back}
+use Rattle.query_text.specs.Laws.{ReadsBack}
 use Rattle.query_print.specs.Printing.{ReadsBackAs}
 
-pub reads_back_as : (text : List ℕ) (query : QueryTree) → IsUtf8 text → text ≡ tree_text query → ReadsBackAs text query
-reads_back_as text query u is value lawful =
+pub reads_back_as : ReadsBack → (text : List ℕ) (query : QueryTree) → IsUtf8 text → text ≡ tree_text query → ReadsBackAs text query
+reads_back_as back text query u is value lawful =
     subst (λ t. query_of value t ≡ Ok query) (sym is)
-    (reads_back value query (subst IsUtf8 is u) lawful.formed lawful.of_type lawful.in_range lawful.levels)
+    (back value query (subst IsUtf8 is u) lawful.formed lawful.of_type lawful.in_range lawful.levels)

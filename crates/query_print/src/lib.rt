@@ -3,7 +3,5 @@
 
 mod leaf;
 mod print;
-#[cfg(test)]
-mod tests;
 
 pub use print::print_query;

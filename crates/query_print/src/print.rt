@@ -5,6 +5,7 @@ ghost use Rattle.query_print.specs.Printing.{ReadsBackAs, comma_after};
 
 use crate::leaf::push_leaf;
 use attr_types::Query;
+use query_text::grammar_law;
 use std::alloc::{AllocError, Global};
 
 /// The one text of a query. Of a lawful query of a value type `parse_query` makes that query again.
@@ -15,6 +16,7 @@ pub fn print_query(alloc: Global, query: &Query) -> Result<String, AllocError>
     ensures written { IfOk result (λ text. string_bytes text ≡ tree_text (tree_of query.now)) }
     ensures back { IfOk result (λ text. ReadsBackAs (string_bytes text) (tree_of query.now)) }
 {
+    grammar_law();
     let mut text = String::new(alloc);
     push_query(alloc, &mut text, query)?;
     Ok(text)
@@ -25,7 +27,7 @@ fn push_query(alloc: Global, text: &mut String, query: &Query) -> Result<(), All
     ensures { OnOk result (string_bytes text.new ≡ string_bytes text.old ++ tree_text (tree_of query.now)) }
 {
     match query {
-        Query::One(leaf) => push_leaf(alloc, text, leaf),
+        Query::One { leaf, .. } => push_leaf(alloc, text, leaf),
         Query::And(list) => {
             text.push_str("and(")?;
             push_list(alloc, text, list)?;

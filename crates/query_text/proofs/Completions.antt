@@ -92,7 +92,7 @@ Completes part = (rest : List ℕ) × (query : QueryTree) × IsFormed query × (
 
 lead_completes : {type : ValueType} {role : Role} (lead : Lead type role) (value : Value) (part rest : List ℕ) → type_of value ≡ type
     → part ++ rest ≡ lead_text lead ++ (value_text value ++ lead_tail lead) → Completes part
-lead_completes lead value part rest e same = (rest, one (lead_leaf lead value), lead_formed lead value e, same ∙ lead_whole lead value)
+lead_completes lead value part rest e same = (rest, one 0 (lead_leaf lead value), (refl, lead_formed lead value e), same ∙ lead_whole lead value)
 
 quoted_tail : (lead text quote tail : List ℕ) → (lead ++ text) ++ (quote ++ tail) ≡ lead ++ ((text ++ quote) ++ tail)
 quoted_tail lead text quote tail = simp append_assoc
@@ -102,21 +102,21 @@ quoted_escape lead text tail = simp append_assoc
 
 completed : (mode : Mode) (part : List ℕ) → Partial mode part → Completes part
 unfolding numeral
-completed modes.Start part is = (codes "0", one (leaves.Is (values.Long (pos 0))), tt, ap (λ p. p ++ codes "0") is)
-completed modes.Opened part is = (codes "0", one (leaves.Is (values.Long (pos 0))), tt, ap (λ p. p ++ codes "0") is)
-completed modes.A part is = (codes "nd(0)", and (tree (one (leaves.Is (values.Long (pos 0)))) no_trees), (tt, tt), ap (λ p. p ++ codes "nd(0)") is)
-completed modes.An part is = (codes "d(0)", and (tree (one (leaves.Is (values.Long (pos 0)))) no_trees), (tt, tt), ap (λ p. p ++ codes "d(0)") is)
-completed modes.O part is = (codes "r(0)", or (tree (one (leaves.Is (values.Long (pos 0)))) no_trees), (tt, tt), ap (λ p. p ++ codes "r(0)") is)
-completed modes.Word part (true, is) = (codes "(0)", and (tree (one (leaves.Is (values.Long (pos 0)))) no_trees), (tt, tt), ap (λ p. p ++ codes "(0)") is)
-completed modes.Word part (false, is) = (codes "(0)", or (tree (one (leaves.Is (values.Long (pos 0)))) no_trees), (tt, tt), ap (λ p. p ++ codes "(0)") is)
-completed modes.Bound part (true, is) = (codes "0", one (leaves.Above (values.Long (pos 0))), tt, ap (λ p. p ++ codes "0") is)
-completed modes.Bound part (false, is) = (codes "0", one (leaves.Below (values.Long (pos 0))), tt, ap (λ p. p ++ codes "0") is)
-completed modes.Low part is = (codes ";]", one (leaves.Range None None), tt, ap (λ p. p ++ codes ";]") is)
-completed modes.High part is = (codes "]", one (leaves.Range None None), tt, ap (λ p. p ++ codes "]") is)
+completed modes.Start part is = (codes "0", one 0 (leaves.Is (values.Long (pos 0))), (refl, tt), ap (λ p. p ++ codes "0") is)
+completed modes.Opened part is = (codes "0", one 0 (leaves.Is (values.Long (pos 0))), (refl, tt), ap (λ p. p ++ codes "0") is)
+completed modes.A part is = (codes "nd(0)", and (tree (one 0 (leaves.Is (values.Long (pos 0)))) no_trees), ((refl, tt), tt), ap (λ p. p ++ codes "nd(0)") is)
+completed modes.An part is = (codes "d(0)", and (tree (one 0 (leaves.Is (values.Long (pos 0)))) no_trees), ((refl, tt), tt), ap (λ p. p ++ codes "d(0)") is)
+completed modes.O part is = (codes "r(0)", or (tree (one 0 (leaves.Is (values.Long (pos 0)))) no_trees), ((refl, tt), tt), ap (λ p. p ++ codes "r(0)") is)
+completed modes.Word part (true, is) = (codes "(0)", and (tree (one 0 (leaves.Is (values.Long (pos 0)))) no_trees), ((refl, tt), tt), ap (λ p. p ++ codes "(0)") is)
+completed modes.Word part (false, is) = (codes "(0)", or (tree (one 0 (leaves.Is (values.Long (pos 0)))) no_trees), ((refl, tt), tt), ap (λ p. p ++ codes "(0)") is)
+completed modes.Bound part (true, is) = (codes "0", one 0 (leaves.Above (values.Long (pos 0))), (refl, tt), ap (λ p. p ++ codes "0") is)
+completed modes.Bound part (false, is) = (codes "0", one 0 (leaves.Below (values.Long (pos 0))), (refl, tt), ap (λ p. p ++ codes "0") is)
+completed modes.Low part is = (codes ";]", one 0 (leaves.Range None None), (refl, tt), ap (λ p. p ++ codes ";]") is)
+completed modes.High part is = (codes "]", one 0 (leaves.Range None None), (refl, tt), ap (λ p. p ++ codes "]") is)
 completed modes.HighNumber part (z, is) =
-    (codes "]", one (leaves.Range (Some (values.Long z)) None), tt, ap (λ p. p ++ codes "]") is ∙ simp append_assoc)
+    (codes "]", one 0 (leaves.Range (Some (values.Long z)) None), (refl, tt), ap (λ p. p ++ codes "]") is ∙ simp append_assoc)
 completed modes.HighText part (bytes, is) =
-    (codes "]", one (leaves.Range (Some (values.Text bytes)) None), tt, ap (λ p. p ++ codes "]") is ∙ simp append_assoc)
+    (codes "]", one 0 (leaves.Range (Some (values.Text bytes)) None), (refl, tt), ap (λ p. p ++ codes "]") is ∙ simp append_assoc)
 completed (modes.Minus role) part (lead, is) =
     lead_completes lead (values.Long (negsuc 0)) part (codes "1" ++ lead_tail lead) refl
     (ap (λ p. p ++ (codes "1" ++ lead_tail lead)) is ∙ append_assoc (lead_text lead) (codes "-") (codes "1" ++ lead_tail lead))
@@ -199,8 +199,8 @@ Whole text = (query : QueryTree) × IsFormed query × (text ≡ tree_text query)
 lead_ends : {type : ValueType} {role : Role} (lead : Lead type role) (value : Value) (part : List ℕ) → ends_value role ≡ true → type_of value ≡ type
     → part ≡ lead_text lead ++ value_text value → Whole part
 lead_ends lead value part ends e is = (
-  one (lead_leaf lead value),
-  lead_formed lead value e,
+  one 0 (lead_leaf lead value),
+  (refl, lead_formed lead value e),
   is ∙ ap (λ t. lead_text lead ++ t) (sym (append-nil (value_text value)) ∙ sym (ap (λ t. value_text value ++ t) (no_tail lead ends)))
       ∙ lead_whole lead value,
 )

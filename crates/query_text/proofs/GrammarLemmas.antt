@@ -10,13 +10,13 @@ use Rattle.std.proofs.lemmas.List.{take-append-drop}
 use Rattle.attr_types.specs.declared.kind.ValueType.{ValueType}
 use Rattle.attr_types.specs.declared.query.Query.{Query}
 use Rattle.attr_types.specs.declared.error.QueryError.{QueryError}
-use Rattle.attr_types.specs.declared.error.QueryError.TheVariants.{Syntax, WrongType, OutOfRange, TooDeep, Memory}
+use Rattle.attr_types.specs.declared.error.QueryError.TheVariants.{Syntax, NoField, WrongType, OutOfRange, TooDeep, Memory}
 use Rattle.attr_types.specs.Query.{QueryTree}
 use Rattle.query_text.specs.declared.survey.Survey.{Survey}
 use Rattle.query_text.specs.Grammar.{tree_text, tree_values, is_of_type, is_in_range, levels_of, IsQueryText, Continues, StopsAt, Answers, AnswersAs}
-use Rattle.query_text.specs.Survey.{start, surveyed, surveyed_from, surveyed_after, is_whole, ends_query, on_next}
-use Rattle.query_text.specs.Parsing.{Says, query_of, judged, judged_if, found_in}
-use Rattle.query_text.specs.Reading.{query_at}
+use Rattle.query_text.specs.Survey.{start, surveyed, surveyed_from, surveyed_after, is_complete, ends_query, on_next}
+use Rattle.query_text.specs.Parsing.{ParsesAs, query_of, judged, judged_if, found_in}
+use Rattle.query_text.specs.Reading.{query_front}
 use Rattle.query_text.specs.Laws.{ReadsByGrammar, AnswersOnce, IsOneQuery, ReadsBack}
 use Rattle.query_text.proofs.ReadBack.{query_read}
 use Rattle.query_text.proofs.Utf8Lemmas.{tree_readable}
@@ -27,16 +27,16 @@ use Rattle.query_text.proofs.Completions.{front_start, front_through, front_cont
 
 -- a survey that ended, byte by byte
 accepted : (value : ValueType) (survey next : Survey) (place : ℕ) (text : List ℕ) → surveyed_from value survey place text ≡ Ok next
-    → (through value survey text ≡ Some next) × (is_whole next ≡ true)
+    → (through value survey text ≡ Some next) × (is_complete next ≡ true)
 unfolding surveyed_from through
 accepted value survey next place [] e =
-    (elim (is_whole survey) as (λ b. is_whole survey ≡ b → cond b (Ok survey) (Err place) ≡ Ok next → (◌≡◌ {A = Option Survey} (Some survey) (Some next)) × (is_whole next ≡ true)) [
-      | true ↦ λ w f. let same : survey ≡ next = cc in (ap Some same, ap is_whole (sym same) ∙ w)
+    (elim (is_complete survey) as (λ b. is_complete survey ≡ b → cond b (Ok survey) (Err place) ≡ Ok next → (◌≡◌ {A = Option Survey} (Some survey) (Some next)) × (is_complete next ≡ true)) [
+      | true ↦ λ w f. let same : survey ≡ next = cc in (ap Some same, ap is_complete (sym same) ∙ w)
       | false ↦ λ w f. absurd cc
     ]) refl e
 accepted value survey next place (byte ∷ rest) e =
     (elim (surveyed_after value survey byte) as (λ o. on_next o (λ next. surveyed_from value next (place + 1) rest) place ≡ Ok next
-    → (option_and_then (λ next. through value next rest) o ≡ Some next) × (is_whole next ≡ true)) [
+    → (option_and_then (λ next. through value next rest) o ≡ Some next) × (is_complete next ≡ true)) [
       | None ↦ λ f. absurd cc
       | Some more ↦ λ f. accepted value more next (place + 1) rest f
     ]) e
@@ -47,13 +47,13 @@ record Stopped (value : ValueType) (survey : Survey) (text : List ℕ) (n : ℕ)
   last : Survey
   reached : through value survey (take n text) ≡ Some last
   stops : n < length text → through value survey (take (suc n) text) ≡ None
-  unfinished : n ≡ length text → is_whole last ≡ false
+  unfinished : n ≡ length text → is_complete last ≡ false
 
 refused : (value : ValueType) (survey : Survey) (place stop : ℕ) (text : List ℕ) → surveyed_from value survey place text ≡ Err stop
     → (n : ℕ) × (stop ≡ place + n) × Stopped value survey text n
 unfolding surveyed_from through
 refused value survey place stop [] e =
-    (elim (is_whole survey) as (λ b. is_whole survey ≡ b → cond b (Ok survey) (Err place) ≡ Err stop → (n : ℕ) × (stop ≡ place + n) × Stopped value survey [] n) [
+    (elim (is_complete survey) as (λ b. is_complete survey ≡ b → cond b (Ok survey) (Err place) ≡ Err stop → (n : ℕ) × (stop ≡ place + n) × Stopped value survey [] n) [
       | true ↦ λ w f. absurd cc
       | false ↦ λ w f.
           let same : place ≡ stop = cc in
@@ -99,10 +99,10 @@ pub query_surveyed : (value : ValueType) (text : List ℕ) (query : QueryTree) �
 query_surveyed value text query is =
     ap (through value start) is.written ∙ tree_through value query start is.formed begins_start (omega arith)
 
-whole_survey : (value : ValueType) (query : QueryTree) → is_whole (survey_of value query) ≡ true
+whole_survey : (value : ValueType) (query : QueryTree) → is_complete (survey_of value query) ≡ true
 whole_survey value query = (ends_tree query).whole
 
-whole_parts : (survey : Survey) → is_whole survey ≡ true → (survey.depth ≡ 0) × (ends_query survey.mode ≡ true)
+whole_parts : (survey : Survey) → is_complete survey ≡ true → (survey.depth ≡ 0) × (ends_query survey.mode ≡ true)
 whole_parts survey h = (grind (arith, nat_tests), grind (arith, nat_tests))
 
 -- a front of a query is surveyed
@@ -132,22 +132,22 @@ stops_at value text place e =
           let same : ◌≡◌ {A = Option Survey} (Some stopped.last) (Some (survey_of value query)) =
           sym stopped.reached ∙ ap (through value start) past ∙ query_surveyed value text query is in
           let here : stopped.last ≡ survey_of value query = cc in
-          let whole : false ≡ true = sym (stopped.unfinished all) ∙ ap is_whole here ∙ whole_survey value query in
+          let whole : false ≡ true = sym (stopped.unfinished all) ∙ ap is_complete here ∙ whole_survey value query in
           cc;
     })
 
 -- a query that is read
 query_found : (text : List ℕ) (query : QueryTree) → IsUtf8 text → IsQueryText text query → list_all is_in_range (tree_values query) ≡ true
-    → levels_of query ≤ 32 → query_at 32 text ≡ Some (query, [])
+    → levels_of query ≤ 32 → query_front 32 text ≡ Some (query, [])
 query_found text query utf8 is small deep =
-    ap (query_at 32) (is.written ∙ sym (append-nil (tree_text query)))
+    ap (query_front 32) (is.written ∙ sym (append-nil (tree_text query)))
     ∙ query_read query 32 [] is.formed (tree_readable query (subst IsUtf8 is.written utf8) small) deep tt
 
 -- the checks on a query's text
 module _ (value : ValueType) (text : List ℕ) (query : QueryTree) (utf8 : IsUtf8 text) (is : IsQueryText text query) where
   checked : (right small deep : Bool) → list_all (is_of_type value) (tree_values query) ≡ right → list_all is_in_range (tree_values query) ≡ small
       → nat_lt 32 (max 1 (0 + levels_of query)) ≡ deep
-      → Answers value text (cond right (cond small (cond deep (Err TooDeep) (found_in text (query_at 32 text))) (Err OutOfRange)) (Err WrongType))
+      → Answers value text (cond right (cond small (cond deep (Err TooDeep) (found_in text (query_front 32 text))) (Err OutOfRange)) (Err WrongType))
   checked false small deep r s d = (query, is, r)
   checked true false deep r s d = (query, is, r, s)
   checked true true true r s d = (query, is, r, s, grind (arith, nat_tests))
@@ -160,7 +160,7 @@ module _ (value : ValueType) (text : List ℕ) (query : QueryTree) (utf8 : IsUtf
 
 whole_query : (value : ValueType) (text : List ℕ) (survey : Survey) → surveyed value text ≡ Ok survey → (query : QueryTree) × IsQueryText text query
 whole_query value text survey e =
-    let read : (through value start text ≡ Some survey) × (is_whole survey ≡ true) = accepted value start survey 0 text e in
+    let read : (through value start text ≡ Some survey) × (is_complete survey ≡ true) = accepted value start survey 0 text e in
     let ends : (survey.depth ≡ 0) × (ends_query survey.mode ≡ true) = whole_parts survey read.1 in
     front_ends text survey.mode (subst (λ depth. Front text depth survey.mode) ends.0
     (front_through value start survey [] text front_start read.0)) ends.1
@@ -171,7 +171,7 @@ reads_by_grammar value text utf8 =
     (elim (surveyed value text) as (λ r. surveyed value text ≡ r → Answers value text (judged_if text r)) [
       | Err place ↦ λ e. stops_at value text place e
       | Ok survey ↦ λ e.
-          let read : (through value start text ≡ Some survey) × (is_whole survey ≡ true) = accepted value start survey 0 text e in
+          let read : (through value start text ≡ Some survey) × (is_complete survey ≡ true) = accepted value start survey 0 text e in
           let ends : (survey.depth ≡ 0) × (ends_query survey.mode ≡ true) = whole_parts survey read.1 in
           let found : (query : QueryTree) × IsQueryText text query =
           front_ends text survey.mode (subst (λ depth. Front text depth survey.mode) ends.0
@@ -182,22 +182,23 @@ reads_by_grammar value text utf8 =
     ]) refl
 
 -- a parser's answer is the grammar's
-pub says_answers : (value : ValueType) (text : List ℕ) (result : Result Query QueryError) → IsUtf8 text → Says result (query_of value text)
+pub says_answers : (value : ValueType) (text : List ℕ) (result : Result Query QueryError) → IsUtf8 text → ParsesAs result (query_of value text)
     → AnswersAs value text result
 says_answers value text (Ok query) utf8 said = subst (Answers value text) said (reads_by_grammar value text utf8)
 says_answers value text (Err (Syntax place)) utf8 said = subst (Answers value text) said (reads_by_grammar value text utf8)
+says_answers value text (Err (NoField place)) utf8 said = subst (Answers value text) said (reads_by_grammar value text utf8)
 says_answers value text (Err WrongType) utf8 said = subst (Answers value text) said (reads_by_grammar value text utf8)
 says_answers value text (Err OutOfRange) utf8 said = subst (Answers value text) said (reads_by_grammar value text utf8)
 says_answers value text (Err TooDeep) utf8 said = subst (Answers value text) said (reads_by_grammar value text utf8)
 says_answers value text (Err Memory) utf8 said = tt
 
 -- a whole survey is found byte by byte
-surveyed_whole : (value : ValueType) (survey next : Survey) (place : ℕ) (text : List ℕ) → through value survey text ≡ Some next → is_whole next ≡ true
+surveyed_whole : (value : ValueType) (survey next : Survey) (place : ℕ) (text : List ℕ) → through value survey text ≡ Some next → is_complete next ≡ true
     → surveyed_from value survey place text ≡ Ok next
 unfolding surveyed_from through
 surveyed_whole value survey next place [] e whole =
     let same : survey ≡ next = cc in
-    ap (λ s. cond (is_whole s) (Ok s) (Err place)) same ∙ ap (λ b. cond b (Ok next) (Err place)) whole
+    ap (λ s. cond (is_complete s) (Ok s) (Err place)) same ∙ ap (λ b. cond b (Ok next) (Err place)) whole
 surveyed_whole value survey next place (byte ∷ rest) e whole =
     (elim (surveyed_after value survey byte) as (λ o. option_and_then (λ next. through value next rest) o ≡ Some next
     → on_next o (λ next. surveyed_from value next (place + 1) rest) place ≡ Ok next) [
@@ -250,20 +251,21 @@ unfolding query_of
 answers_once value text (Ok query) utf8 (is, right, small, deep) =
     let levels : nat_lt 32 (max 1 (0 + levels_of query)) ≡ false = grind (arith, nat_tests) in
     query_judged value text query is
-    ∙ ap (λ b. cond b (cond (list_all is_in_range (tree_values query)) (cond (nat_lt 32 (max 1 (0 + levels_of query))) (Err TooDeep) (found_in text (query_at 32 text))) (Err OutOfRange)) (Err WrongType)) right
-    ∙ ap₂ (λ b c. cond b (cond c (Err TooDeep) (found_in text (query_at 32 text))) (Err OutOfRange)) small levels
+    ∙ ap (λ b. cond b (cond (list_all is_in_range (tree_values query)) (cond (nat_lt 32 (max 1 (0 + levels_of query))) (Err TooDeep) (found_in text (query_front 32 text))) (Err OutOfRange)) (Err WrongType)) right
+    ∙ ap₂ (λ b c. cond b (cond c (Err TooDeep) (found_in text (query_front 32 text))) (Err OutOfRange)) small levels
     ∙ ap (found_in text) (query_found text query utf8 is small deep)
 answers_once value text (Err WrongType) utf8 (query, is, right) =
     query_judged value text query is
-    ∙ ap (λ b. cond b (cond (list_all is_in_range (tree_values query)) (cond (nat_lt 32 (max 1 (0 + levels_of query))) (Err TooDeep) (found_in text (query_at 32 text))) (Err OutOfRange)) (Err WrongType)) right
+    ∙ ap (λ b. cond b (cond (list_all is_in_range (tree_values query)) (cond (nat_lt 32 (max 1 (0 + levels_of query))) (Err TooDeep) (found_in text (query_front 32 text))) (Err OutOfRange)) (Err WrongType)) right
 answers_once value text (Err OutOfRange) utf8 (query, is, right, small) =
     query_judged value text query is
-    ∙ ap₂ (λ b c. cond b (cond c (cond (nat_lt 32 (max 1 (0 + levels_of query))) (Err TooDeep) (found_in text (query_at 32 text))) (Err OutOfRange)) (Err WrongType)) right small
+    ∙ ap₂ (λ b c. cond b (cond c (cond (nat_lt 32 (max 1 (0 + levels_of query))) (Err TooDeep) (found_in text (query_front 32 text))) (Err OutOfRange)) (Err WrongType)) right small
 answers_once value text (Err TooDeep) utf8 (query, is, right, small, deep) =
     let levels : nat_lt 32 (max 1 (0 + levels_of query)) ≡ true = grind (arith, nat_tests) in
     query_judged value text query is
-    ∙ ap (λ b. cond b (cond (list_all is_in_range (tree_values query)) (cond (nat_lt 32 (max 1 (0 + levels_of query))) (Err TooDeep) (found_in text (query_at 32 text))) (Err OutOfRange)) (Err WrongType)) right
-    ∙ ap₂ (λ b c. cond b (cond c (Err TooDeep) (found_in text (query_at 32 text))) (Err OutOfRange)) small levels
+    ∙ ap (λ b. cond b (cond (list_all is_in_range (tree_values query)) (cond (nat_lt 32 (max 1 (0 + levels_of query))) (Err TooDeep) (found_in text (query_front 32 text))) (Err OutOfRange)) (Err WrongType)) right
+    ∙ ap₂ (λ b c. cond b (cond c (Err TooDeep) (found_in text (query_front 32 text))) (Err OutOfRange)) small levels
+answers_once value text (Err (NoField place)) utf8 answer = absurd answer
 answers_once value text (Err Memory) utf8 answer = absurd answer
 answers_once value text (Err (Syntax place)) utf8 stop =
     (elim (surveyed value text) as (λ r. surveyed value text ≡ r → judged_if text r ≡ Err (Syntax place)) [
@@ -271,7 +273,7 @@ answers_once value text (Err (Syntax place)) utf8 stop =
           let here : StopsAt text found = stops_at value text found e in
           let same : found ≡ place = elim (cases_lt found place) [
             | inl before ↦ absurd (one_place text found place here stop before)
-            | inr after ↦ elim (cases_lt place found) [
+            | inr after_byte ↦ elim (cases_lt place found) [
               | inl before ↦ absurd (one_place text place found stop here before)
               | inr equal ↦ omega arith
             ]

@@ -3,7 +3,7 @@ use Rattle.std.proofs.Common.{◌≡◌, ◌<◌, ◌≤◌, ◌+◌, ◌-◌, �
 use Rattle.attr_types.specs.Query.{QueryTree}
 use Rattle.query_text.specs.declared.read.ReadError.{ReadError}
 use Rattle.query_text.specs.declared.read.ReadError.TheVariants as errors
-use Rattle.query_text.specs.Reading.{Fails, with_tree, marked, mark_at, listed, list_at, query_with, query_at}
+use Rattle.query_text.specs.Reading.{FindsNone, with_tree, marked, mark_front, listed, list_front, query_with, query_front}
 
 -- members that were read before
 abbrev pub after_trees : List QueryTree → Option (List QueryTree × List ℕ) → Option (List QueryTree × List ℕ)
@@ -16,55 +16,55 @@ after_trees-member front member None = refl
 after_trees-member front member (Some found) = ap (λ list. Some (list, found.1)) (sym (append_assoc front (member ∷ []) found.0))
 
 -- an error of a part is one of the whole
-pub Fails-along : {X Y : Type 0} → (error : ReadError) (part : Option X) (whole : Option Y) → (part ≡ None → whole ≡ None) → Fails error part → Fails error whole
-Fails-along errors.Memory part whole along h = tt
-Fails-along errors.NotRead part whole along h = along h
+pub FindsNone-along : {X Y : Type 0} → (error : ReadError) (part : Option X) (whole : Option Y) → (part ≡ None → whole ≡ None) → FindsNone error part → FindsNone error whole
+FindsNone-along errors.Memory part whole along h = tt
+FindsNone-along errors.NotRead part whole along h = along h
 
 -- one member more
-pub list_at-member : (member : List ℕ → Option (QueryTree × List ℕ)) (n i : ℕ) (bytes : List ℕ) → i < n
-    → list_at member (n - i) bytes ≡ listed (member bytes) (list_at member (n - (i + 1)))
-unfolding list_at
-list_at-member member n i bytes h =
+pub list_front-member : (member : List ℕ → Option (QueryTree × List ℕ)) (n i : ℕ) (bytes : List ℕ) → i < n
+    → list_front member (n - i) bytes ≡ listed (member bytes) (list_front member (n - (i + 1)))
+unfolding list_front
+list_front-member member n i bytes h =
     let counted : n - i ≡ suc (n - (i + 1)) = omega arith in
-    ap (λ k. list_at member k bytes) counted
+    ap (λ k. list_front member k bytes) counted
 
-pub list_at-end : (member : List ℕ → Option (QueryTree × List ℕ)) (n i : ℕ) (bytes : List ℕ) → n ≤ i → list_at member (n - i) bytes ≡ None
-unfolding list_at
-list_at-end member n i bytes h =
+pub list_front-end : (member : List ℕ → Option (QueryTree × List ℕ)) (n i : ℕ) (bytes : List ℕ) → n ≤ i → list_front member (n - i) bytes ≡ None
+unfolding list_front
+list_front-end member n i bytes h =
     let counted : n - i ≡ zero = omega arith in
-    ap (λ k. list_at member k bytes) counted
+    ap (λ k. list_front member k bytes) counted
 
-pub query_at-zero : (levels : ℕ) (bytes : List ℕ) → levels ≡ 0 → query_at levels bytes ≡ None
-unfolding query_at
-query_at-zero levels bytes h = ap (λ n. query_at n bytes) h
+pub query_front-zero : (levels : ℕ) (bytes : List ℕ) → levels ≡ 0 → query_front levels bytes ≡ None
+unfolding query_front
+query_front-zero levels bytes h = ap (λ n. query_front n bytes) h
 
-pub query_at-suc : (levels : ℕ) (bytes : List ℕ) → (levels ≡ 0 → ⊥) → query_at levels bytes ≡ query_with (query_at (levels - 1)) bytes
-unfolding query_at
-query_at-suc levels bytes h =
+pub query_front-suc : (levels : ℕ) (bytes : List ℕ) → (levels ≡ 0 → ⊥) → query_front levels bytes ≡ query_with (query_front (levels - 1)) bytes
+unfolding query_front
+query_front-suc levels bytes h =
     let counted : levels ≡ suc (levels - 1) = omega arith in
-    ap (λ n. query_at n bytes) counted
+    ap (λ n. query_front n bytes) counted
 
 -- the list with the members read before, where the next member is read or not
 module _ (member : List ℕ → Option (QueryTree × List ℕ)) (front : List QueryTree) (n i : ℕ) (rest : List ℕ)
-    (whole : Option (List QueryTree × List ℕ)) (so_far : after_trees front (list_at member (n - i) rest) ≡ whole) (inside : i < n) where
-  step : (read : Option (QueryTree × List ℕ)) → member rest ≡ read → after_trees front (listed read (list_at member (n - (i + 1)))) ≡ whole
-  step read e = sym (ap (after_trees front) (list_at-member member n i rest inside ∙ ap (λ o. listed o (list_at member (n - (i + 1)))) e)) ∙ so_far
+    (whole : Option (List QueryTree × List ℕ)) (so_far : after_trees front (list_front member (n - i) rest) ≡ whole) (inside : i < n) where
+  step : (read : Option (QueryTree × List ℕ)) → member rest ≡ read → after_trees front (listed read (list_front member (n - (i + 1)))) ≡ whole
+  step read e = sym (ap (after_trees front) (list_front-member member n i rest inside ∙ ap (λ o. listed o (list_front member (n - (i + 1)))) e)) ∙ so_far
 
   pub no_member : member rest ≡ None → whole ≡ None
   no_member e = sym (step None e)
 
-  pub no_mark : (first : QueryTree) (next : List ℕ) → member rest ≡ Some (first, next) → mark_at next ≡ None → whole ≡ None
+  pub no_mark : (first : QueryTree) (next : List ℕ) → member rest ≡ Some (first, next) → mark_front next ≡ None → whole ≡ None
   no_mark first next e none =
-      sym (step (Some (first, next)) e) ∙ ap (λ o. after_trees front (marked first o (list_at member (n - (i + 1))))) none
+      sym (step (Some (first, next)) e) ∙ ap (λ o. after_trees front (marked first o (list_front member (n - (i + 1))))) none
 
-  pub last_member : (first : QueryTree) (next end : List ℕ) → member rest ≡ Some (first, next) → mark_at next ≡ Some (false, end)
+  pub last_member : (first : QueryTree) (next end : List ℕ) → member rest ≡ Some (first, next) → mark_front next ≡ Some (false, end)
       → whole ≡ Some (front ++ first ∷ [], end)
   last_member first next end e last =
-      sym (step (Some (first, next)) e) ∙ ap (λ o. after_trees front (marked first o (list_at member (n - (i + 1))))) last
+      sym (step (Some (first, next)) e) ∙ ap (λ o. after_trees front (marked first o (list_front member (n - (i + 1))))) last
 
-  pub one_member : (first : QueryTree) (next others : List ℕ) → member rest ≡ Some (first, next) → mark_at next ≡ Some (true, others)
-      → after_trees (front ++ first ∷ []) (list_at member (n - (i + 1)) others) ≡ whole
+  pub one_member : (first : QueryTree) (next others : List ℕ) → member rest ≡ Some (first, next) → mark_front next ≡ Some (true, others)
+      → after_trees (front ++ first ∷ []) (list_front member (n - (i + 1)) others) ≡ whole
   one_member first next others e more =
-      sym (after_trees-member front first (list_at member (n - (i + 1)) others))
-      ∙ sym (ap (λ o. after_trees front (marked first o (list_at member (n - (i + 1))))) more)
+      sym (after_trees-member front first (list_front member (n - (i + 1)) others))
+      ∙ sym (ap (λ o. after_trees front (marked first o (list_front member (n - (i + 1))))) more)
       ∙ step (Some (first, next)) e

@@ -1,12 +1,12 @@
 -- Where a survey comes to over the text of a query.
-use Rattle.std.proofs.Common.{◌≡◌, ◌<◌, ◌≤◌, ◌+◌, ◌-◌, ◌*◌, ◌/◌, ◌%◌, ◌^◌, ℕ, zero, suc, ℤ, pos, negsuc, List, [], ◌∷◌, ◌++◌, map, length, Bool, true, false, ◌&&◌, cond, eqb, nat_lt, nat_le, max, Option, Some, None, refl, sym, ap, ap₂, subst, ◌∙◌, not, inl, inr, ◌⊎◌, ◌==◌, ◌||◌, append_assoc, append-nil, zero-add, arith}
+use Rattle.std.proofs.Common.{◌≡◌, ◌<◌, ◌≤◌, ◌+◌, ◌-◌, ◌*◌, ◌/◌, ◌%◌, ◌^◌, ℕ, zero, suc, ℤ, pos, negsuc, List, [], ◌∷◌, ◌++◌, map, length, Bool, true, false, ◌&&◌, cond, eqb, nat_lt, nat_le, max, Option, Some, None, refl, sym, ap, ap₂, subst, ◌∙◌, not, inl, inr, ◌==◌, ◌||◌, append_assoc, append-nil, zero-add, arith}
 use Rattle.std.specs.Option.{option_and_then, option_map}
 use Rattle.std.specs.List.{flat_map}
 use Rattle.std.specs.Int.Digits.{digits_of}
 use Rattle.std.proofs.Math.Bool.{and_assoc}
 use Rattle.std.proofs.Math.Nat.{max-eq_left}
 use Rattle.std.proofs.lemmas.Int.Digits.{digits_of_step}
-use Rattle.std.proofs.lemmas.Bool.{cases_lt}
+use Rattle.std.proofs.lemmas.Bool.{cases_lt, cases_Bool}
 use Rattle.std.proofs.lemmas.Bool.Decides.{nat_tests, eqb_tells}
 use Rattle.std.proofs.lemmas.List.{map-append}
 use Rattle.attr_types.specs.declared.kind.ValueType.{ValueType}
@@ -20,7 +20,7 @@ use Rattle.attr_types.specs.declared.value.Value.{Value}
 use Rattle.attr_types.specs.declared.value.Value.TheVariants as values
 use Rattle.query_text.specs.Grammar.{numeral, number_text, escaped, quoted, value_text, is_of_type, is_in_range}
 use Rattle.query_text.specs.Modes.{next_mode, capped, is_digit, number_ended, query_begun}
-use Rattle.query_text.specs.Survey.{is_right, is_small, is_long_size, is_long, is_text, depth_after, entered, surveyed_after}
+use Rattle.query_text.specs.Survey.{is_right, is_in_size, is_long_size, wants_long, wants_text, depth_after, entered, surveyed_after}
 
 -- the survey after these bytes, where some query goes on so
 unfoldable pub through : ValueType → Survey → List ℕ → Option Survey
@@ -46,7 +46,7 @@ Path value from bytes to right small = (survey : Survey) → survey.mode ≡ fro
     → through value survey bytes ≡ Some (moved survey to right small)
 
 pub one_byte : (value : ValueType) (from to : Mode) (byte : ℕ) → ((nested : Bool) → next_mode nested from byte ≡ Some to)
-    → ((depth : ℕ) → depth_after depth to ≡ depth) → Path value from (byte ∷ []) to (is_right value to) (is_small to)
+    → ((depth : ℕ) → depth_after depth to ≡ depth) → Path value from (byte ∷ []) to (is_right value to) (is_in_size to)
 unfolding through
 one_byte value from to byte next same survey at below =
     let reached : surveyed_after value survey byte ≡ Some (entered value survey to) =
@@ -54,7 +54,7 @@ one_byte value from to byte next same survey at below =
     let levels : max survey.levels (depth_after survey.depth to + 1) ≡ survey.levels =
     ap (λ depth. max survey.levels (depth + 1)) (same survey.depth) ∙ max-eq_left (omega arith) in
     ap (option_and_then (λ next. through value next [])) reached
-    ∙ (λ i. Some (record { mode = to; depth = same survey.depth i; levels = levels i; right = survey.right && is_right value to; small = survey.small && is_small to }))
+    ∙ (λ i. Some (record { mode = to; depth = same survey.depth i; levels = levels i; right = survey.right && is_right value to; small = survey.small && is_in_size to }))
 
 pub joined : (value : ValueType) (from mid to : Mode) (xs ys : List ℕ) (right right' small small' : Bool)
     → Path value from xs mid right small → Path value mid ys to right' small' → Path value from (xs ++ ys) to (right && right') (small && small')
@@ -126,12 +126,12 @@ TakesText from role = (nested : Bool) → next_mode nested from 34 ≡ Some (mod
 
 digits_path : (value : ValueType) (from : Mode) (role : Role) (negative : Bool)
     → ((nested : Bool) (d : ℕ) → 0 < d → d < 10 → next_mode nested from (48 + d) ≡ Some (modes.Number role negative d)) → (n : ℕ) → 0 < n
-    → Path value from (map (λ d. 48 + d) (digits_of 10 n)) (modes.Number role negative (capped n)) (is_long value) (is_long_size negative n)
+    → Path value from (map (λ d. 48 + d) (digits_of 10 n)) (modes.Number role negative (capped n)) (wants_long value) (is_long_size negative n)
 digits_path value from role negative first n some =
-    digits_by_steps (λ n digits. Path value from digits (modes.Number role negative (capped n)) (is_long value) (is_long_size negative n))
+    digits_by_steps (λ n digits. Path value from digits (modes.Number role negative (capped n)) (wants_long value) (is_long_size negative n))
     (λ n some small. judged_so value from _ _ _ _ _ _ _ _ refl (ap (modes.Number role negative) (omega arith)) refl refl
     (one_byte value from (modes.Number role negative n) (48 + n) (λ nested. first nested n some small) (λ _. refl)))
-    (λ n digits large before. judged_so value from _ _ _ _ _ _ _ _ refl refl (and_same (is_long value)) (size_grows negative n large)
+    (λ n digits large before. judged_so value from _ _ _ _ _ _ _ _ refl refl (and_same (wants_long value)) (size_grows negative n large)
     (joined value from _ _ digits _ _ _ _ _ before
     (judged_so value _ _ _ _ _ _ _ _ _ refl (ap (modes.Number role negative) (capped_digit n)) refl (ap (is_long_size negative) (capped_digit n))
     (one_byte value (modes.Number role negative (capped (n / 10))) (modes.Number role negative (capped (capped (capped (n / 10) * 10) + n % 10))) (48 + n % 10)
@@ -154,7 +154,7 @@ pub size_of_negative : (n : ℕ) → is_long_size true (n + 1) ≡ nat_lt n (2 ^
 size_of_negative n = grind (arith, nat_tests)
 
 pub numeral_path : (value : ValueType) (from : Mode) (role : Role) → TakesNumber from role → (n : ℕ)
-    → Path value from (numeral n) (modes.Number role false (capped n)) (is_long value) (nat_lt n (2 ^ 63))
+    → Path value from (numeral n) (modes.Number role false (capped n)) (wants_long value) (nat_lt n (2 ^ 63))
 unfolding numeral
 numeral_path value from role takes n =
     elim (eqb_tells n 0) [
@@ -167,11 +167,11 @@ numeral_path value from role takes n =
           (digits_path value from role false (λ nested d _ small. takes.digit nested d small) n (omega (arith, some.1)))
     ]
 
-long_type : (value : ValueType) (z : ℤ) → is_long value ≡ is_of_type value (values.Long z)
+long_type : (value : ValueType) (z : ℤ) → wants_long value ≡ is_of_type value (values.Long z)
 long_type types.Long z = refl
 long_type types.Text z = refl
 
-text_type : (value : ValueType) (bytes : List ℕ) → is_text value ≡ is_of_type value (values.Text bytes)
+text_type : (value : ValueType) (bytes : List ℕ) → wants_text value ≡ is_of_type value (values.Text bytes)
 text_type types.Long bytes = refl
 text_type types.Text bytes = refl
 
@@ -184,15 +184,10 @@ number_path value from role takes (negsuc n) =
     let some : eqb (n + 1) 0 ≡ false = grind (arith, nat_tests) in
     judged_so value from _ _ _ _ _ _ _ _
     (ap (λ digits. 45 ∷ digits) (sym (ap (λ b. cond b (48 ∷ []) (map (λ digit. 48 + digit) (digits_of 10 (n + 1)))) some))) refl
-    (and_same (is_long value) ∙ long_type value (negsuc n)) (size_of_negative n)
+    (and_same (wants_long value) ∙ long_type value (negsuc n)) (size_of_negative n)
     (joined value from (modes.Minus role) _ (45 ∷ []) _ _ _ _ _
     (one_byte value from (modes.Minus role) 45 takes.minus (λ _. refl))
     (digits_path value (modes.Minus role) role true (λ nested d some small. minus_digit nested role d some small) (n + 1) (omega arith)))
-
--- the bytes of a text
-either : (b : Bool) → (b ≡ true) ⊎ (b ≡ false)
-either true = inl refl
-either false = inr refl
 
 twice : (b c : Bool) → b ≡ c → (b && (true && b)) ≡ c
 twice true c e = e
@@ -205,15 +200,15 @@ capped_one : (k : ℕ) → capped (capped k + 1) ≡ capped (k + 1)
 capped_one k = omega arith
 
 byte_path : (value : ValueType) (from : Mode) (role : Role) (front : List ℕ) (k byte : ℕ)
-    → Path value from front (modes.Text role (capped k)) (is_text value) (nat_le k 1024)
-    → Path value from (front ++ escaped byte) (modes.Text role (capped (k + 1))) (is_text value) (nat_le (k + 1) 1024)
+    → Path value from front (modes.Text role (capped k)) (wants_text value) (nat_le k 1024)
+    → Path value from (front ++ escaped byte) (modes.Text role (capped (k + 1))) (wants_text value) (nat_le (k + 1) 1024)
 unfolding next_mode
 byte_path value from role front k byte before =
-    elim (either ((byte == 34) || (byte == 92))) [
+    elim (cases_Bool ((byte == 34) || (byte == 92))) [
       | inl special ↦
           judged_so value from _ _ _ _ _ _ _ _
           (ap (λ b. front ++ cond b (92 ∷ byte ∷ []) (byte ∷ [])) (sym special)) (ap (modes.Text role) (capped_one k))
-          (twice (is_text value) _ refl) (len_grows k)
+          (twice (wants_text value) _ refl) (len_grows k)
           (joined value from _ _ front (92 ∷ byte ∷ []) _ _ _ _ before
           (joined value _ (modes.Escape role (capped k)) _ (92 ∷ []) (byte ∷ []) _ _ _ _
           (one_byte value (modes.Text role (capped k)) (modes.Escape role (capped k)) 92 (λ _. refl) (λ _. refl))
@@ -224,7 +219,7 @@ byte_path value from role front k byte before =
           let no_escape : eqb byte 92 ≡ false = grind (arith, nat_tests) in
           judged_so value from _ _ _ _ _ _ _ _
           (ap (λ b. front ++ cond b (92 ∷ byte ∷ []) (byte ∷ [])) (sym plain)) (ap (modes.Text role) (capped_one k))
-          (and_same (is_text value)) (len_grows k)
+          (and_same (wants_text value)) (len_grows k)
           (joined value from _ _ front (byte ∷ []) _ _ _ _ before
           (one_byte value (modes.Text role (capped k)) (modes.Text role (capped (capped k + 1))) byte
           (λ _. ap₂ (λ b c. Some (cond b (modes.Quoted role) (cond c (modes.Escape role (capped k)) (modes.Text role (capped (capped k + 1)))))) no_quote no_escape)
@@ -232,8 +227,8 @@ byte_path value from role front k byte before =
     ]
 
 bytes_path : (value : ValueType) (from : Mode) (role : Role) (bytes front : List ℕ) (k : ℕ)
-    → Path value from front (modes.Text role (capped k)) (is_text value) (nat_le k 1024)
-    → Path value from (front ++ flat_map escaped bytes) (modes.Text role (capped (k + length bytes))) (is_text value) (nat_le (k + length bytes) 1024)
+    → Path value from front (modes.Text role (capped k)) (wants_text value) (nat_le k 1024)
+    → Path value from (front ++ flat_map escaped bytes) (modes.Text role (capped (k + length bytes))) (wants_text value) (nat_le (k + length bytes) 1024)
 bytes_path value from role [] front k before =
     let same : k ≡ k + 0 = omega arith in
     judged_so value from _ _ _ _ _ _ _ _ (sym (append-nil front)) (ap (λ k. modes.Text role (capped k)) same) refl (ap (λ k. nat_le k 1024) same) before
@@ -247,7 +242,7 @@ pub quoted_path : (value : ValueType) (from : Mode) (role : Role) → TakesText 
     → Path value from (quoted bytes) (modes.Quoted role) (is_of_type value (values.Text bytes)) (is_in_range (values.Text bytes))
 unfolding next_mode
 quoted_path value from role takes bytes =
-    judged_so value from _ _ _ _ _ _ _ _ refl refl (and_true (is_text value) ∙ text_type value bytes)
+    judged_so value from _ _ _ _ _ _ _ _ refl refl (and_true (wants_text value) ∙ text_type value bytes)
     (and_true (nat_le (0 + length bytes) 1024) ∙ ap (λ k. nat_le k 1024) (zero-add (length bytes)))
     (joined value from _ (modes.Quoted role) _ (34 ∷ []) _ _ _ _
     (bytes_path value from role bytes (34 ∷ []) 0 (one_byte value from (modes.Text role 0) 34 takes (λ _. refl)))

@@ -13,7 +13,7 @@ use Rattle.attr_types.specs.declared.query.Leaf.TheVariants as leaves
 use Rattle.attr_types.specs.Query.{QueryTree, QueryTrees, one, and, or, no_trees, tree, trees}
 use Rattle.query_text.specs.Grammar.{numeral, number_text, escaped, quoted, value_text, option_text, leaf_text, tree_text, list_text, others_text, IsFormed, IsFormedList, is_in_range, levels_of, list_levels}
 use Rattle.query_text.specs.Modes.{is_digit, capped}
-use Rattle.query_text.specs.Reading.{◌>>=◌, after, digits_at, number_of, signed_at, number_at, with_byte, bytes_at, is_text, text_at, value_of, value_at, end_of, end_at, range_at, starred, whole_of, whole_at, leaf_of, leaf_at, and_at, or_at, mark_at, with_tree, listed, list_at, query_by, query_with, query_at}
+use Rattle.query_text.specs.Reading.{◌>>=◌, after_byte, digits_front, sized_number, signed_front, number_front, with_byte, bytes_front, is_short_text, text_front, value_behind, value_front, end_of, end_front, range_front, starred, whole_of, whole_front, leaf_of, leaf_front, and_front, or_front, mark_front, with_tree, listed, list_front, query_by, query_with, query_front}
 use Rattle.query_text.proofs.Paths.{digits_by_steps, capped_digit, size_of_negative}
 
 -- no value goes on with this
@@ -24,114 +24,114 @@ EndsValue (byte ∷ rest) = (is_digit byte ≡ false) × (eqb byte 42 ≡ false)
 -- a value that can be read
 abbrev pub IsReadable : Value → Type 0
 IsReadable (values.Long z) = is_in_range (values.Long z) ≡ true
-IsReadable (values.Text bytes) = is_text bytes ≡ true
+IsReadable (values.Text bytes) = is_short_text bytes ≡ true
 
 -- numbers
-digit_read : (size d : ℕ) (rest : List ℕ) → d < 10 → digits_at size ((48 + d) ∷ rest) ≡ digits_at (capped (capped (size * 10) + d)) rest
-unfolding digits_at
+digit_read : (size d : ℕ) (rest : List ℕ) → d < 10 → digits_front size ((48 + d) ∷ rest) ≡ digits_front (capped (capped (size * 10) + d)) rest
+unfolding digits_front
 digit_read size d rest small =
     let test : is_digit (48 + d) ≡ true = grind (arith, nat_tests) in
     let back : (48 + d) - 48 ≡ d = omega arith in
-    ap (λ b. cond b (digits_at (capped (capped (size * 10) + ((48 + d) - 48))) rest) (size, (48 + d) ∷ rest)) test
-    ∙ ap (λ d. digits_at (capped (capped (size * 10) + d)) rest) back
+    ap (λ b. cond b (digits_front (capped (capped (size * 10) + ((48 + d) - 48))) rest) (size, (48 + d) ∷ rest)) test
+    ∙ ap (λ d. digits_front (capped (capped (size * 10) + d)) rest) back
 
-digits_read : (n : ℕ) → 0 < n → (rest : List ℕ) → digits_at 0 (map (λ d. 48 + d) (digits_of 10 n) ++ rest) ≡ digits_at (capped n) rest
+digits_read : (n : ℕ) → 0 < n → (rest : List ℕ) → digits_front 0 (map (λ d. 48 + d) (digits_of 10 n) ++ rest) ≡ digits_front (capped n) rest
 digits_read n some =
-    digits_by_steps (λ n digits. (rest : List ℕ) → digits_at 0 (digits ++ rest) ≡ digits_at (capped n) rest)
-    (λ n some small rest. digit_read 0 n rest small ∙ ap (λ size. digits_at size rest) (omega arith))
+    digits_by_steps (λ n digits. (rest : List ℕ) → digits_front 0 (digits ++ rest) ≡ digits_front (capped n) rest)
+    (λ n some small rest. digit_read 0 n rest small ∙ ap (λ size. digits_front size rest) (omega arith))
     (λ n digits large before rest.
-    ap (digits_at 0) (append_assoc digits ((48 + n % 10) ∷ []) rest) ∙ before ((48 + n % 10) ∷ rest)
-    ∙ digit_read (capped (n / 10)) (n % 10) rest (omega arith) ∙ ap (λ size. digits_at size rest) (capped_digit n))
+    ap (digits_front 0) (append_assoc digits ((48 + n % 10) ∷ []) rest) ∙ before ((48 + n % 10) ∷ rest)
+    ∙ digit_read (capped (n / 10)) (n % 10) rest (omega arith) ∙ ap (λ size. digits_front size rest) (capped_digit n))
     n n (omega arith) some
 
-digits_end : (size : ℕ) (rest : List ℕ) → EndsValue rest → digits_at size rest ≡ (size, rest)
-unfolding digits_at
+digits_end : (size : ℕ) (rest : List ℕ) → EndsValue rest → digits_front size rest ≡ (size, rest)
+unfolding digits_front
 digits_end size [] ends = refl
-digits_end size (byte ∷ rest) ends = ap (λ b. cond b (digits_at (capped (capped (size * 10) + (byte - 48))) rest) (size, byte ∷ rest)) ends.0
+digits_end size (byte ∷ rest) ends = ap (λ b. cond b (digits_front (capped (capped (size * 10) + (byte - 48))) rest) (size, byte ∷ rest)) ends.0
 
-numeral_read : (n : ℕ) (rest : List ℕ) → EndsValue rest → digits_at 0 (numeral n ++ rest) ≡ (capped n, rest)
+numeral_read : (n : ℕ) (rest : List ℕ) → EndsValue rest → digits_front 0 (numeral n ++ rest) ≡ (capped n, rest)
 unfolding numeral
 numeral_read n rest ends =
     elim (eqb_tells n 0) [
       | inl none ↦
-          ap (λ b. digits_at 0 (cond b (codes "0") (map (λ digit. 48 + digit) (digits_of 10 n)) ++ rest)) none.0
+          ap (λ b. digits_front 0 (cond b (codes "0") (map (λ digit. 48 + digit) (digits_of 10 n)) ++ rest)) none.0
           ∙ digit_read 0 0 rest (omega arith) ∙ digits_end 0 rest ends ∙ ap (λ n. (capped n, rest)) (sym none.1)
       | inr some ↦
-          ap (λ b. digits_at 0 (cond b (codes "0") (map (λ digit. 48 + digit) (digits_of 10 n)) ++ rest)) some.0
+          ap (λ b. digits_front 0 (cond b (codes "0") (map (λ digit. 48 + digit) (digits_of 10 n)) ++ rest)) some.0
           ∙ digits_read n (omega (arith, some.1)) rest ∙ digits_end (capped n) rest ends
     ]
 
-numeral_first : (wanted n : ℕ) (rest : List ℕ) → is_digit wanted ≡ false → after wanted (numeral n ++ rest) ≡ None
+numeral_first : (wanted n : ℕ) (rest : List ℕ) → is_digit wanted ≡ false → after_byte wanted (numeral n ++ rest) ≡ None
 unfolding numeral
 numeral_first wanted n rest other =
     elim (eqb_tells n 0) [
       | inl none ↦
           let apart : eqb 48 wanted ≡ false = grind (arith, nat_tests) in
-          ap (λ b. after wanted (cond b (codes "0") (map (λ digit. 48 + digit) (digits_of 10 n)) ++ rest)) none.0
+          ap (λ b. after_byte wanted (cond b (codes "0") (map (λ digit. 48 + digit) (digits_of 10 n)) ++ rest)) none.0
           ∙ ap (λ b. cond b (Some rest) None) apart
       | inr some ↦
-          ap (λ b. after wanted (cond b (codes "0") (map (λ digit. 48 + digit) (digits_of 10 n)) ++ rest)) some.0
-          ∙ digits_by_steps (λ n digits. (rest : List ℕ) → after wanted (digits ++ rest) ≡ None)
+          ap (λ b. after_byte wanted (cond b (codes "0") (map (λ digit. 48 + digit) (digits_of 10 n)) ++ rest)) some.0
+          ∙ digits_by_steps (λ n digits. (rest : List ℕ) → after_byte wanted (digits ++ rest) ≡ None)
           (λ n some small rest. let apart : eqb (48 + n) wanted ≡ false = grind (arith, nat_tests) in ap (λ b. cond b (Some rest) None) apart)
-          (λ n digits large before rest. ap (after wanted) (append_assoc digits ((48 + n % 10) ∷ []) rest) ∙ before ((48 + n % 10) ∷ rest))
+          (λ n digits large before rest. ap (after_byte wanted) (append_assoc digits ((48 + n % 10) ∷ []) rest) ∙ before ((48 + n % 10) ∷ rest))
           n n (omega arith) (omega (arith, some.1)) rest
     ]
 
 capped_long : (n : ℕ) → nat_lt n (2 ^ 63) ≡ true → (capped n ≡ n) × (capped (n + 1) ≡ n + 1)
 capped_long n h = (grind (arith, nat_tests), grind (arith, nat_tests))
 
-number_read : (z : ℤ) (rest : List ℕ) → is_in_range (values.Long z) ≡ true → EndsValue rest → number_at (number_text z ++ rest) ≡ Some (z, rest)
-unfolding number_at
+number_read : (z : ℤ) (rest : List ℕ) → is_in_range (values.Long z) ≡ true → EndsValue rest → number_front (number_text z ++ rest) ≡ Some (z, rest)
+unfolding number_front
 number_read (pos n) rest small ends =
-    ap (λ o. signed_at o (numeral n ++ rest)) (numeral_first 45 n rest refl)
-    ∙ ap (number_of false) (numeral_read n rest ends)
-    ∙ ap (λ k. number_of false (k, rest)) (capped_long n small).0
+    ap (λ o. signed_front o (numeral n ++ rest)) (numeral_first 45 n rest refl)
+    ∙ ap (sized_number false) (numeral_read n rest ends)
+    ∙ ap (λ k. sized_number false (k, rest)) (capped_long n small).0
     ∙ ap (λ b. cond b (Some (pos n, rest)) None) small
 number_read (negsuc n) rest small ends =
-    ap (number_of true) (numeral_read (n + 1) rest ends)
-    ∙ ap (λ k. number_of true (k, rest)) (capped_long n small).1
+    ap (sized_number true) (numeral_read (n + 1) rest ends)
+    ∙ ap (λ k. sized_number true (k, rest)) (capped_long n small).1
     ∙ ap₂ (λ b z. cond b (Some (z, rest)) None) (size_of_negative n ∙ small) (ap (λ k. neg_ℤ (pos k)) (add-one n))
 
 -- texts
-bytes_read : (bytes rest : List ℕ) → bytes_at false (flat_map escaped bytes ++ (34 ∷ rest)) ≡ Some (bytes, rest)
-unfolding bytes_at
+bytes_read : (bytes rest : List ℕ) → bytes_front false (flat_map escaped bytes ++ (34 ∷ rest)) ≡ Some (bytes, rest)
+unfolding bytes_front
 bytes_read [] rest = refl
 bytes_read (byte ∷ bytes) rest =
-    let more : bytes_at false (flat_map escaped bytes ++ (34 ∷ rest)) ≡ Some (bytes, rest) = bytes_read bytes rest in
+    let more : bytes_front false (flat_map escaped bytes ++ (34 ∷ rest)) ≡ Some (bytes, rest) = bytes_read bytes rest in
     (elim ((byte == 34) || (byte == 92)) as (λ b. ((byte == 34) || (byte == 92)) ≡ b
-    → bytes_at false ((cond b (92 ∷ byte ∷ []) (byte ∷ []) ++ flat_map escaped bytes) ++ (34 ∷ rest)) ≡ Some (byte ∷ bytes, rest)) [
+    → bytes_front false ((cond b (92 ∷ byte ∷ []) (byte ∷ []) ++ flat_map escaped bytes) ++ (34 ∷ rest)) ≡ Some (byte ∷ bytes, rest)) [
       | true ↦ λ h. ap (with_byte byte) more
       | false ↦ λ h.
           let no_quote : eqb byte 34 ≡ false = grind (arith, nat_tests) in
           let no_escape : eqb byte 92 ≡ false = grind (arith, nat_tests) in
-          ap₂ (λ b c. cond b (Some ([], flat_map escaped bytes ++ (34 ∷ rest))) (cond c (bytes_at true (flat_map escaped bytes ++ (34 ∷ rest)))
-          (with_byte byte (bytes_at false (flat_map escaped bytes ++ (34 ∷ rest)))))) no_quote no_escape
+          ap₂ (λ b c. cond b (Some ([], flat_map escaped bytes ++ (34 ∷ rest))) (cond c (bytes_front true (flat_map escaped bytes ++ (34 ∷ rest)))
+          (with_byte byte (bytes_front false (flat_map escaped bytes ++ (34 ∷ rest)))))) no_quote no_escape
           ∙ ap (with_byte byte) more
     ]) refl
 
-text_read : (bytes rest : List ℕ) → is_text bytes ≡ true → text_at (flat_map escaped bytes ++ (34 ∷ rest)) ≡ Some (bytes, rest)
-unfolding text_at
+text_read : (bytes rest : List ℕ) → is_short_text bytes ≡ true → text_front (flat_map escaped bytes ++ (34 ∷ rest)) ≡ Some (bytes, rest)
+unfolding text_front
 text_read bytes rest small =
-    ap (λ o. o >>= (λ found. cond (is_text found.0) (Some found) None)) (bytes_read bytes rest) ∙ ap (λ b. cond b (Some (bytes, rest)) None) small
+    ap (λ o. o >>= (λ found. cond (is_short_text found.0) (Some found) None)) (bytes_read bytes rest) ∙ ap (λ b. cond b (Some (bytes, rest)) None) small
 
 -- values and leaves
 value_first : (wanted : ℕ) (v : Value) (rest : List ℕ) → is_digit wanted ≡ false → eqb 45 wanted ≡ false → eqb 34 wanted ≡ false
-    → after wanted (value_text v ++ rest) ≡ None
+    → after_byte wanted (value_text v ++ rest) ≡ None
 value_first wanted (values.Long (pos n)) rest digit minus quote = numeral_first wanted n rest digit
 value_first wanted (values.Long (negsuc n)) rest digit minus quote = ap (λ b. cond b (Some (numeral (n + 1) ++ rest)) None) minus
 value_first wanted (values.Text bytes) rest digit minus quote = ap (λ b. cond b (Some ((flat_map escaped bytes ++ 34 ∷ []) ++ rest)) None) quote
 
-number_first : (z : ℤ) (rest : List ℕ) → after 34 (number_text z ++ rest) ≡ None
+number_first : (z : ℤ) (rest : List ℕ) → after_byte 34 (number_text z ++ rest) ≡ None
 number_first (pos n) rest = numeral_first 34 n rest refl
 number_first (negsuc n) rest = refl
 
-quoted_read : (bytes rest : List ℕ) → is_text bytes ≡ true → text_at ((flat_map escaped bytes ++ 34 ∷ []) ++ rest) ≡ Some (bytes, rest)
-quoted_read bytes rest small = ap text_at (append_assoc (flat_map escaped bytes) (34 ∷ []) rest) ∙ text_read bytes rest small
+quoted_read : (bytes rest : List ℕ) → is_short_text bytes ≡ true → text_front ((flat_map escaped bytes ++ 34 ∷ []) ++ rest) ≡ Some (bytes, rest)
+quoted_read bytes rest small = ap text_front (append_assoc (flat_map escaped bytes) (34 ∷ []) rest) ∙ text_read bytes rest small
 
-value_read : (v : Value) (rest : List ℕ) → IsReadable v → EndsValue rest → value_at (value_text v ++ rest) ≡ Some (v, rest)
-unfolding value_at
+value_read : (v : Value) (rest : List ℕ) → IsReadable v → EndsValue rest → value_front (value_text v ++ rest) ≡ Some (v, rest)
+unfolding value_front
 value_read (values.Long z) rest small ends =
-    ap (λ o. value_of o (number_text z ++ rest)) (number_first z rest)
+    ap (λ o. value_behind o (number_text z ++ rest)) (number_first z rest)
     ∙ ap (option_map (λ found. (values.Long found.0, found.1))) (number_read z rest small ends)
 value_read (values.Text bytes) rest small ends =
     ap (option_map (λ found. (values.Text found.0, found.1))) (quoted_read bytes rest small)
@@ -149,20 +149,20 @@ IsReadableEnd None = Unit {0}
 IsReadableEnd (Some v) = IsReadable v
 
 end_read : (closing : ℕ) → IsClosing closing → (end : Option Value) (rest : List ℕ) → IsReadableEnd end
-    → end_at closing (option_text end ++ (closing ∷ rest)) ≡ Some (end, rest)
-unfolding end_at
+    → end_front closing (option_text end ++ (closing ∷ rest)) ≡ Some (end, rest)
+unfolding end_front
 end_read closing is None rest readable = ap (λ b. end_of closing (cond b (Some rest) None) (closing ∷ rest)) is.self
 end_read closing is (Some v) rest readable =
     let text = value_text v ++ (closing ∷ rest) in
     ap (λ o. end_of closing o text) (value_first closing v (closing ∷ rest) is.digit is.minus is.quote)
-    ∙ ap (λ o. o >>= (λ found. after closing found.1 >>= (λ rest. Some (Some found.0, rest)))) (value_read v (closing ∷ rest) readable (is.digit, is.star))
+    ∙ ap (λ o. o >>= (λ found. after_byte closing found.1 >>= (λ rest. Some (Some found.0, rest)))) (value_read v (closing ∷ rest) readable (is.digit, is.star))
     ∙ ap (λ b. cond b (Some rest) None >>= (λ rest. Some (Some v, rest))) is.self
 
 range_read : (low high : Option Value) (rest : List ℕ) → IsReadableEnd low → IsReadableEnd high
-    → range_at (option_text low ++ (59 ∷ (option_text high ++ (93 ∷ rest)))) ≡ Some (leaves.Range low high, rest)
-unfolding range_at
+    → range_front (option_text low ++ (59 ∷ (option_text high ++ (93 ∷ rest)))) ≡ Some (leaves.Range low high, rest)
+unfolding range_front
 range_read low high rest readable readable' =
-    ap (λ o. o >>= (λ low. end_at 93 low.1 >>= (λ high. Some (leaves.Range low.0 high.0, high.1))))
+    ap (λ o. o >>= (λ low. end_front 93 low.1 >>= (λ high. Some (leaves.Range low.0 high.0, high.1))))
     (end_read 59 (record { digit = refl; minus = refl; quote = refl; star = refl; self = refl }) low (option_text high ++ (93 ∷ rest)) readable)
     ∙ ap (λ o. o >>= (λ high. Some (leaves.Range low high.0, high.1)))
     (end_read 93 (record { digit = refl; minus = refl; quote = refl; star = refl; self = refl }) high rest readable')
@@ -174,51 +174,51 @@ IsReadableLeaf (leaves.Range low high) = IsReadableEnd low × IsReadableEnd high
 IsReadableLeaf (leaves.Below v) = IsReadable v
 IsReadableLeaf (leaves.Above v) = IsReadable v
 
-no_star : (rest : List ℕ) → EndsValue rest → after 42 rest ≡ None
+no_star : (rest : List ℕ) → EndsValue rest → after_byte 42 rest ≡ None
 no_star [] ends = refl
 no_star (byte ∷ rest) ends = ap (λ b. cond b (Some rest) None) ends.1
 
-whole_read : (v : Value) (rest : List ℕ) → IsReadable v → EndsValue rest → whole_at (value_text v ++ rest) ≡ Some (leaves.Is v, rest)
-unfolding whole_at
+whole_read : (v : Value) (rest : List ℕ) → IsReadable v → EndsValue rest → whole_front (value_text v ++ rest) ≡ Some (leaves.Is v, rest)
+unfolding whole_front
 whole_read (values.Long z) rest small ends =
     ap (λ o. whole_of o (number_text z ++ rest)) (number_first z rest)
     ∙ ap (option_map (λ found. (leaves.Is (values.Long found.0), found.1))) (number_read z rest small ends)
 whole_read (values.Text bytes) rest small ends =
-    ap (option_map (λ found. starred found.0 (after 42 found.1) found.1)) (quoted_read bytes rest small)
+    ap (option_map (λ found. starred found.0 (after_byte 42 found.1) found.1)) (quoted_read bytes rest small)
     ∙ ap (λ o. Some (starred bytes o rest)) (no_star rest ends)
 
 range_text : (low high rest : List ℕ) → ((((codes "[" ++ low) ++ codes ";") ++ high) ++ codes "]") ++ rest ≡ 91 ∷ (low ++ (59 ∷ (high ++ (93 ∷ rest))))
 range_text low high rest = simp append_assoc
 
-prefix_read : (bytes rest : List ℕ) → is_text bytes ≡ true → whole_at ((quoted bytes ++ codes "*") ++ rest) ≡ Some (leaves.Prefix bytes, rest)
-unfolding whole_at
+prefix_read : (bytes rest : List ℕ) → is_short_text bytes ≡ true → whole_front ((quoted bytes ++ codes "*") ++ rest) ≡ Some (leaves.Prefix bytes, rest)
+unfolding whole_front
 prefix_read bytes rest small =
-    ap (λ t. option_map (λ found. starred found.0 (after 42 found.1) found.1) (text_at t)) (append_assoc (flat_map escaped bytes ++ 34 ∷ []) (codes "*") rest)
-    ∙ ap (option_map (λ found. starred found.0 (after 42 found.1) found.1)) (quoted_read bytes (42 ∷ rest) small)
+    ap (λ t. option_map (λ found. starred found.0 (after_byte 42 found.1) found.1) (text_front t)) (append_assoc (flat_map escaped bytes ++ 34 ∷ []) (codes "*") rest)
+    ∙ ap (option_map (λ found. starred found.0 (after_byte 42 found.1) found.1)) (quoted_read bytes (42 ∷ rest) small)
 
-leaf_read : (leaf : Leaf) (rest : List ℕ) → IsReadableLeaf leaf → EndsValue rest → leaf_at (leaf_text leaf ++ rest) ≡ Some (leaf, rest)
-unfolding leaf_at
+leaf_read : (leaf : Leaf) (rest : List ℕ) → IsReadableLeaf leaf → EndsValue rest → leaf_front (leaf_text leaf ++ rest) ≡ Some (leaf, rest)
+unfolding leaf_front
 leaf_read (leaves.Is v) rest readable ends =
-    ap (λ o. leaf_of o (after 60 (value_text v ++ rest)) (after 62 (value_text v ++ rest)) (value_text v ++ rest)) (value_first 91 v rest refl refl refl)
+    ap (λ o. leaf_of o (after_byte 60 (value_text v ++ rest)) (after_byte 62 (value_text v ++ rest)) (value_text v ++ rest)) (value_first 91 v rest refl refl refl)
     ∙ ap₂ (λ o p. leaf_of None o p (value_text v ++ rest)) (value_first 60 v rest refl refl refl) (value_first 62 v rest refl refl refl)
     ∙ whole_read v rest readable ends
 leaf_read (leaves.Prefix bytes) rest readable ends = prefix_read bytes rest readable
 leaf_read (leaves.Range low high) rest readable ends =
-    ap (λ t. leaf_of (after 91 t) (after 60 t) (after 62 t) t) (range_text (option_text low) (option_text high) rest)
+    ap (λ t. leaf_of (after_byte 91 t) (after_byte 60 t) (after_byte 62 t) t) (range_text (option_text low) (option_text high) rest)
     ∙ range_read low high rest readable.0 readable.1
 leaf_read (leaves.Below v) rest readable ends = ap (option_map (λ found. (leaves.Below found.0, found.1))) (value_read v rest readable ends)
 leaf_read (leaves.Above v) rest readable ends = ap (option_map (λ found. (leaves.Above found.0, found.1))) (value_read v rest readable ends)
 
 -- a leaf begins with no letter
-leaf_first : (letter : ℕ) (leaf : Leaf) (rest : List ℕ) → 96 < letter → after letter (leaf_text leaf ++ rest) ≡ None
+leaf_first : (letter : ℕ) (leaf : Leaf) (rest : List ℕ) → 96 < letter → after_byte letter (leaf_text leaf ++ rest) ≡ None
 leaf_first letter (leaves.Is v) rest h =
     value_first letter v rest (grind (arith, nat_tests)) (grind (arith, nat_tests)) (grind (arith, nat_tests))
 leaf_first letter (leaves.Prefix bytes) rest h =
-    ap (after letter) (append_assoc (quoted bytes) (codes "*") rest)
+    ap (after_byte letter) (append_assoc (quoted bytes) (codes "*") rest)
     ∙ value_first letter (values.Text bytes) (42 ∷ rest) (grind (arith, nat_tests)) (grind (arith, nat_tests)) (grind (arith, nat_tests))
 leaf_first letter (leaves.Range low high) rest h =
     let apart : eqb 91 letter ≡ false = grind (arith, nat_tests) in
-    ap (after letter) (range_text (option_text low) (option_text high) rest)
+    ap (after_byte letter) (range_text (option_text low) (option_text high) rest)
     ∙ ap (λ b. cond b (Some (option_text low ++ (59 ∷ (option_text high ++ (93 ∷ rest))))) None) apart
 leaf_first letter (leaves.Below v) rest h =
     let apart : eqb 60 letter ≡ false = grind (arith, nat_tests) in ap (λ b. cond b (Some (value_text v ++ rest)) None) apart
@@ -228,7 +228,7 @@ leaf_first letter (leaves.Above v) rest h =
 -- queries
 abbrev mutual
   pub IsReadableTree : QueryTree → Type 0
-  IsReadableTree (one leaf) = IsReadableLeaf leaf
+  IsReadableTree (one field leaf) = IsReadableLeaf leaf
   IsReadableTree (and list) = AreReadable list
   IsReadableTree (or list) = AreReadable list
 
@@ -265,80 +265,81 @@ list_ends (tree first others) rest = (refl, refl)
 close_list : (list rest : List ℕ) → (list ++ codes ")") ++ rest ≡ list ++ (41 ∷ rest)
 close_list list rest = append_assoc list (codes ")") rest
 
-no_and : (bytes : List ℕ) → after 97 bytes ≡ None → and_at bytes ≡ None
-unfolding and_at
-no_and bytes none = ap (λ o. o >>= (λ rest. after 110 rest >>= (λ rest. after 100 rest >>= after 40))) none
+no_and : (bytes : List ℕ) → after_byte 97 bytes ≡ None → and_front bytes ≡ None
+unfolding and_front
+no_and bytes none = ap (λ o. o >>= (λ rest. after_byte 110 rest >>= (λ rest. after_byte 100 rest >>= after_byte 40))) none
 
-no_or : (bytes : List ℕ) → after 111 bytes ≡ None → or_at bytes ≡ None
-unfolding or_at
-no_or bytes none = ap (λ o. o >>= (λ rest. after 114 rest >>= after 40)) none
+no_or : (bytes : List ℕ) → after_byte 111 bytes ≡ None → or_front bytes ≡ None
+unfolding or_front
+no_or bytes none = ap (λ o. o >>= (λ rest. after_byte 114 rest >>= after_byte 40)) none
 
 one_read : (member : List ℕ → Option (QueryTree × List ℕ)) (leaf : Leaf) (rest : List ℕ) → IsReadableLeaf leaf → EndsValue rest
-    → query_with member (leaf_text leaf ++ rest) ≡ Some (one leaf, rest)
+    → query_with member (leaf_text leaf ++ rest) ≡ Some (one 0 leaf, rest)
 unfolding query_with
 one_read member leaf rest readable ends =
     ap₂ (λ a b. query_by a b member (leaf_text leaf ++ rest)) (no_and _ (leaf_first 97 leaf rest (omega arith))) (no_or _ (leaf_first 111 leaf rest (omega arith)))
-    ∙ ap (option_map (λ found. (one found.0, found.1))) (leaf_read leaf rest readable ends)
+    ∙ ap (option_map (λ found. (one 0 found.0, found.1))) (leaf_read leaf rest readable ends)
 
 and_read : (member : List ℕ → Option (QueryTree × List ℕ)) (list : QueryTrees) (rest : List ℕ)
-    → list_at member (length (list_text list ++ (41 ∷ rest))) (list_text list ++ (41 ∷ rest)) ≡ Some (list_of list, rest)
+    → list_front member (length (list_text list ++ (41 ∷ rest))) (list_text list ++ (41 ∷ rest)) ≡ Some (list_of list, rest)
     → query_with member (tree_text (and list) ++ rest) ≡ Some (and list, rest)
-unfolding query_with and_at
+unfolding query_with and_front
 and_read member list rest read =
-    ap (λ t. option_map (λ found. (and (trees found.0), found.1)) (list_at member (length t) t)) (close_list (list_text list) rest)
+    ap (λ t. option_map (λ found. (and (trees found.0), found.1)) (list_front member (length t) t)) (close_list (list_text list) rest)
     ∙ ap (option_map (λ found. (and (trees found.0), found.1))) read
     ∙ ap (λ l. Some (and l, rest)) (trees-list_of list)
 
 or_read : (member : List ℕ → Option (QueryTree × List ℕ)) (list : QueryTrees) (rest : List ℕ)
-    → list_at member (length (list_text list ++ (41 ∷ rest))) (list_text list ++ (41 ∷ rest)) ≡ Some (list_of list, rest)
+    → list_front member (length (list_text list ++ (41 ∷ rest))) (list_text list ++ (41 ∷ rest)) ≡ Some (list_of list, rest)
     → query_with member (tree_text (or list) ++ rest) ≡ Some (or list, rest)
-unfolding query_with and_at or_at
+unfolding query_with and_front or_front
 or_read member list rest read =
-    ap (λ t. option_map (λ found. (or (trees found.0), found.1)) (list_at member (length t) t)) (close_list (list_text list) rest)
+    ap (λ t. option_map (λ found. (or (trees found.0), found.1)) (list_front member (length t) t)) (close_list (list_text list) rest)
     ∙ ap (option_map (λ found. (or (trees found.0), found.1))) read
     ∙ ap (λ l. Some (or l, rest)) (trees-list_of list)
 
 last_read : (member : List ℕ → Option (QueryTree × List ℕ)) (k : ℕ) (first : QueryTree) (rest : List ℕ)
     → member (tree_text first ++ (41 ∷ rest)) ≡ Some (first, 41 ∷ rest)
-    → list_at member (suc k) (list_text (tree first no_trees) ++ (41 ∷ rest)) ≡ Some (first ∷ [], rest)
-unfolding list_at mark_at
+    → list_front member (suc k) (list_text (tree first no_trees) ++ (41 ∷ rest)) ≡ Some (first ∷ [], rest)
+unfolding list_front mark_front
 last_read member k first rest read =
-    ap (λ t. listed (member (t ++ (41 ∷ rest))) (list_at member k)) (append-nil (tree_text first))
-    ∙ ap (λ o. listed o (list_at member k)) read
+    ap (λ t. listed (member (t ++ (41 ∷ rest))) (list_front member k)) (append-nil (tree_text first))
+    ∙ ap (λ o. listed o (list_front member k)) read
 
 more_read : (member : List ℕ → Option (QueryTree × List ℕ)) (k : ℕ) (first second : QueryTree) (others : QueryTrees) (rest : List ℕ)
     → member (tree_text first ++ (44 ∷ (list_text (tree second others) ++ (41 ∷ rest)))) ≡ Some (first, 44 ∷ (list_text (tree second others) ++ (41 ∷ rest)))
-    → list_at member k (list_text (tree second others) ++ (41 ∷ rest)) ≡ Some (list_of (tree second others), rest)
-    → list_at member (suc k) (list_text (tree first (tree second others)) ++ (41 ∷ rest)) ≡ Some (first ∷ list_of (tree second others), rest)
-unfolding list_at mark_at
+    → list_front member k (list_text (tree second others) ++ (41 ∷ rest)) ≡ Some (list_of (tree second others), rest)
+    → list_front member (suc k) (list_text (tree first (tree second others)) ++ (41 ∷ rest)) ≡ Some (first ∷ list_of (tree second others), rest)
+unfolding list_front mark_front
 more_read member k first second others rest read more =
-    ap (λ t. listed (member t) (list_at member k)) (append_assoc (tree_text first) (others_text (tree second others)) (41 ∷ rest))
-    ∙ ap (λ o. listed o (list_at member k)) read
+    ap (λ t. listed (member t) (list_front member k)) (append_assoc (tree_text first) (others_text (tree second others)) (41 ∷ rest))
+    ∙ ap (λ o. listed o (list_front member k)) read
     ∙ ap (with_tree first) more
 
-at_suc : (n : ℕ) (bytes : List ℕ) → query_at (suc n) bytes ≡ query_with (query_at n) bytes
-unfolding query_at
+at_suc : (n : ℕ) (bytes : List ℕ) → query_front (suc n) bytes ≡ query_with (query_front n) bytes
+unfolding query_front
 at_suc n bytes = refl
 
 mutual
   pub query_read : (query : QueryTree) (n : ℕ) (rest : List ℕ) → IsFormed query → IsReadableTree query → levels_of query ≤ n → EndsValue rest
-      → query_at n (tree_text query ++ rest) ≡ Some (query, rest)
-  query_read (one leaf) zero rest formed readable deep ends = absurd (omega arith)
-  query_read (one leaf) (suc n) rest formed readable deep ends = at_suc n _ ∙ one_read (query_at n) leaf rest readable ends
+      → query_front n (tree_text query ++ rest) ≡ Some (query, rest)
+  query_read (one field leaf) zero rest formed readable deep ends = absurd (omega arith)
+  query_read (one field leaf) (suc n) rest formed readable deep ends =
+      at_suc n _ ∙ one_read (query_front n) leaf rest readable ends ∙ ap (λ k. Some (one k leaf, rest)) (sym formed.0)
   query_read (and list) zero rest formed readable deep ends = absurd (omega arith)
   query_read (and list) (suc n) rest formed readable deep ends =
-      at_suc n _ ∙ and_read (query_at n) list rest (list_read list n _ rest formed readable (omega arith) (count-list list rest))
+      at_suc n _ ∙ and_read (query_front n) list rest (list_read list n _ rest formed readable (omega arith) (count-list list rest))
   query_read (or list) zero rest formed readable deep ends = absurd (omega arith)
   query_read (or list) (suc n) rest formed readable deep ends =
-      at_suc n _ ∙ or_read (query_at n) list rest (list_read list n _ rest formed readable (omega arith) (count-list list rest))
+      at_suc n _ ∙ or_read (query_front n) list rest (list_read list n _ rest formed readable (omega arith) (count-list list rest))
 
   list_read : (list : QueryTrees) (n fuel : ℕ) (rest : List ℕ) → IsFormedList list → AreReadable list → list_levels list ≤ n → count_of list ≤ fuel
-      → list_at (query_at n) fuel (list_text list ++ (41 ∷ rest)) ≡ Some (list_of list, rest)
+      → list_front (query_front n) fuel (list_text list ++ (41 ∷ rest)) ≡ Some (list_of list, rest)
   list_read no_trees n fuel rest formed readable deep counted = absurd formed
   list_read (tree first others) n zero rest formed readable deep counted = absurd (omega arith)
   list_read (tree first no_trees) n (suc k) rest formed readable deep counted =
-      last_read (query_at n) k first rest (query_read first n (41 ∷ rest) formed.0 readable.0 (omega arith) (refl, refl))
+      last_read (query_front n) k first rest (query_read first n (41 ∷ rest) formed.0 readable.0 (omega arith) (refl, refl))
   list_read (tree first (tree second others)) n (suc k) rest formed readable deep counted =
-      more_read (query_at n) k first second others rest
+      more_read (query_front n) k first second others rest
       (query_read first n _ formed.0 readable.0 (omega arith) (refl, refl))
       (list_read (tree second others) n k rest formed.1 readable.1 (omega arith) (omega arith))

@@ -174,43 +174,43 @@ query_ends (frame under kind members) formed query good part byte is =
 -- a value ends
 number_ends : (stack : Stack) → StackFormed stack → (role : Role) (lead : Lead types.Long role) (z : ℤ) (part : List ℕ) (byte : ℕ)
     → part ≡ lead_text lead ++ number_text z → Goes stack part byte (number_ended (nat_lt 0 (stack_depth stack)) role byte)
-number_ends stack formed roles.Alone alone z part byte is = query_ends stack formed (one (leaves.Is (values.Long z))) tt part byte is
-number_ends stack formed roles.Bound below z part byte is = query_ends stack formed (one (leaves.Below (values.Long z))) tt part byte is
-number_ends stack formed roles.Bound above z part byte is = query_ends stack formed (one (leaves.Above (values.Long z))) tt part byte is
+number_ends stack formed roles.Alone alone z part byte is = query_ends stack formed (one 0 (leaves.Is (values.Long z))) (refl, tt) part byte is
+number_ends stack formed roles.Bound below z part byte is = query_ends stack formed (one 0 (leaves.Below (values.Long z))) (refl, tt) part byte is
+number_ends stack formed roles.Bound above z part byte is = query_ends stack formed (one 0 (leaves.Above (values.Long z))) (refl, tt) part byte is
 number_ends stack formed roles.Low low z part byte is =
     choose_byte stack part byte 59 _ _
     (λ e. in_leaf stack formed _ modes.HighNumber (λ _. refl) (z, added part _ byte 59 is e ∙ append_assoc (codes "[") (number_text z) (59 ∷ [])))
     (λ _. tt)
 number_ends stack formed roles.High high z part byte is =
     choose_byte stack part byte 93 _ _
-    (λ e. in_leaf stack formed _ modes.Ended (λ _. refl) (one (leaves.Range None (Some (values.Long z))), tt, added part _ byte 93 is e))
+    (λ e. in_leaf stack formed _ modes.Ended (λ _. refl) (one 0 (leaves.Range None (Some (values.Long z))), (refl, tt), added part _ byte 93 is e))
     (λ _. tt)
 number_ends stack formed roles.High (high_number y) z part byte is =
     choose_byte stack part byte 93 _ _
     (λ e. in_leaf stack formed _ modes.Ended (λ _. refl)
-    (one (leaves.Range (Some (values.Long y)) (Some (values.Long z))), refl, added part _ byte 93 is e ∙ simp append_assoc))
+    (one 0 (leaves.Range (Some (values.Long y)) (Some (values.Long z))), (refl, refl), added part _ byte 93 is e ∙ simp append_assoc))
     (λ _. tt)
 
 quoted_ends : (stack : Stack) → StackFormed stack → (role : Role) (lead : Lead types.Text role) (bytes part : List ℕ) (byte : ℕ)
     → part ≡ lead_text lead ++ quoted bytes → Goes stack part byte (quoted_next (nat_lt 0 (stack_depth stack)) role byte)
 quoted_ends stack formed roles.Alone alone bytes part byte is =
     choose_byte stack part byte 42 _ _
-    (λ e. in_leaf stack formed _ modes.Ended (λ _. refl) (one (leaves.Prefix bytes), tt, added part _ byte 42 is e))
-    (λ _. query_ends stack formed (one (leaves.Is (values.Text bytes))) tt part byte is)
-quoted_ends stack formed roles.Bound below bytes part byte is = query_ends stack formed (one (leaves.Below (values.Text bytes))) tt part byte is
-quoted_ends stack formed roles.Bound above bytes part byte is = query_ends stack formed (one (leaves.Above (values.Text bytes))) tt part byte is
+    (λ e. in_leaf stack formed _ modes.Ended (λ _. refl) (one 0 (leaves.Prefix bytes), (refl, tt), added part _ byte 42 is e))
+    (λ _. query_ends stack formed (one 0 (leaves.Is (values.Text bytes))) (refl, tt) part byte is)
+quoted_ends stack formed roles.Bound below bytes part byte is = query_ends stack formed (one 0 (leaves.Below (values.Text bytes))) (refl, tt) part byte is
+quoted_ends stack formed roles.Bound above bytes part byte is = query_ends stack formed (one 0 (leaves.Above (values.Text bytes))) (refl, tt) part byte is
 quoted_ends stack formed roles.Low low bytes part byte is =
     choose_byte stack part byte 59 _ _
     (λ e. in_leaf stack formed _ modes.HighText (λ _. refl) (bytes, added part _ byte 59 is e ∙ append_assoc (codes "[") (quoted bytes) (59 ∷ [])))
     (λ _. tt)
 quoted_ends stack formed roles.High high bytes part byte is =
     choose_byte stack part byte 93 _ _
-    (λ e. in_leaf stack formed _ modes.Ended (λ _. refl) (one (leaves.Range None (Some (values.Text bytes))), tt, added part _ byte 93 is e))
+    (λ e. in_leaf stack formed _ modes.Ended (λ _. refl) (one 0 (leaves.Range None (Some (values.Text bytes))), (refl, tt), added part _ byte 93 is e))
     (λ _. tt)
 quoted_ends stack formed roles.High (high_text text) bytes part byte is =
     choose_byte stack part byte 93 _ _
     (λ e. in_leaf stack formed _ modes.Ended (λ _. refl)
-    (one (leaves.Range (Some (values.Text text)) (Some (values.Text bytes))), refl, added part _ byte 93 is e ∙ simp append_assoc))
+    (one 0 (leaves.Range (Some (values.Text text)) (Some (values.Text bytes))), (refl, refl), added part _ byte 93 is e ∙ simp append_assoc))
     (λ _. tt)
 
 -- the text of a value goes on
@@ -265,17 +265,17 @@ step stack formed modes.Low part byte is =
     (λ _. value_begins stack formed roles.Low low low part byte is is)
 step stack formed modes.High part byte is =
     choose_byte stack part byte 93 _ _
-    (λ e. in_leaf stack formed _ modes.Ended (λ _. refl) (one (leaves.Range None None), tt, added part _ byte 93 is e))
+    (λ e. in_leaf stack formed _ modes.Ended (λ _. refl) (one 0 (leaves.Range None None), (refl, tt), added part _ byte 93 is e))
     (λ _. value_begins stack formed roles.High high high part byte is is)
 step stack formed modes.HighNumber part byte (z, is) =
     choose_byte stack part byte 93 _ _
     (λ e. in_leaf stack formed _ modes.Ended (λ _. refl)
-    (one (leaves.Range (Some (values.Long z)) None), tt, added part _ byte 93 is e ∙ simp append_assoc))
+    (one 0 (leaves.Range (Some (values.Long z)) None), (refl, tt), added part _ byte 93 is e ∙ simp append_assoc))
     (λ _. number_begins stack formed roles.High (high_number z) part byte is)
 step stack formed modes.HighText part byte (text, is) =
     choose_byte stack part byte 93 _ _
     (λ e. in_leaf stack formed _ modes.Ended (λ _. refl)
-    (one (leaves.Range (Some (values.Text text)) None), tt, added part _ byte 93 is e ∙ simp append_assoc))
+    (one 0 (leaves.Range (Some (values.Text text)) None), (refl, tt), added part _ byte 93 is e ∙ simp append_assoc))
     (λ _. text_begins stack formed roles.High (high_text text) part byte None is (λ _. tt))
 step stack formed (modes.Minus role) part byte (lead, is) =
     choose_test stack part byte (nat_le 49 byte && nat_le byte 57) _ _

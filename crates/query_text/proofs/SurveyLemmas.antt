@@ -3,7 +3,7 @@ use Rattle.std.proofs.Common.{◌≡◌, ◌<◌, ◌≤◌, ◌+◌, ℕ, List,
 use Rattle.std.proofs.lemmas.List.{drop_all}
 use Rattle.attr_types.specs.declared.kind.ValueType.{ValueType}
 use Rattle.query_text.specs.declared.survey.Survey.{Survey}
-use Rattle.query_text.specs.Survey.{is_whole, surveyed_after, surveyed_from, on_next}
+use Rattle.query_text.specs.Survey.{is_complete, surveyed_after, surveyed_from, on_next}
 
 drop-next : (text : List ℕ) (i : ℕ) → i < length text → drop i text ≡ get_or text i 0 ∷ drop (i + 1) text
 drop-next text i h = drop-cons text i 0 h ∙ ap (λ k. get_or text i 0 ∷ drop k text) (sym (add-one i))
@@ -33,6 +33,6 @@ surveyed_from-none value survey text i byte h e none =
 
 -- the end
 pub surveyed_from-end : (value : ValueType) (survey : Survey) (text : List ℕ) (i : ℕ) → length text ≤ i
-    → surveyed_from value survey i (drop i text) ≡ cond (is_whole survey) (Ok survey) (Err i)
+    → surveyed_from value survey i (drop i text) ≡ cond (is_complete survey) (Ok survey) (Err i)
 unfolding surveyed_from
 surveyed_from-end value survey text i h = ap (surveyed_from value survey i) (drop_all i text h)

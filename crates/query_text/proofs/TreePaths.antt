@@ -20,7 +20,7 @@ use Rattle.query_text.proofs.Paths.{through, through-append, Path, one_byte, joi
 use Rattle.query_text.proofs.LeafPaths.{leaf_path, leaf_mode}
 
 abbrev pub tree_mode : QueryTree → Mode
-tree_mode (one leaf) = leaf_mode leaf
+tree_mode (one field leaf) = leaf_mode leaf
 tree_mode (and list) = modes.Closed
 tree_mode (or list) = modes.Closed
 
@@ -54,7 +54,7 @@ ends_leaf (Above (values.Text bytes)) = record { comma = refl; bracket = refl; w
 
 pub ends_tree : (query : QueryTree) → Ends (tree_mode query)
 unfolding next_mode
-ends_tree (one leaf) = ends_leaf leaf
+ends_tree (one field leaf) = ends_leaf leaf
 ends_tree (and list) = record { comma = refl; bracket = refl; whole = refl }
 ends_tree (or list) = record { comma = refl; bracket = refl; whole = refl }
 
@@ -110,7 +110,7 @@ and_within false c = refl
 
 level_at_least : (list : QueryTrees) → IsFormedList list → 1 ≤ list_levels list
 level_at_least no_trees formed = absurd formed
-level_at_least (tree (one leaf) others) formed = omega arith
+level_at_least (tree (one field leaf) others) formed = omega arith
 level_at_least (tree (and list) others) formed = omega arith
 level_at_least (tree (or list) others) formed = omega arith
 
@@ -171,8 +171,8 @@ comma_through value survey ends nested =
 mutual
   pub tree_through : (value : ValueType) (query : QueryTree) (survey : Survey) → IsFormed query → Begins survey.mode → survey.depth < survey.levels
       → through value survey (tree_text query) ≡ Some (after_values value survey (tree_mode query) (levels_of query) (tree_values query))
-  tree_through value (one leaf) survey formed begins below =
-      leaf_path value survey.mode begins leaf formed survey refl below ∙ same_at refl refl (omega arith) refl refl
+  tree_through value (one field leaf) survey formed begins below =
+      leaf_path value survey.mode begins leaf formed.1 survey refl below ∙ same_at refl refl (omega arith) refl refl
   tree_through value (and list) survey formed begins below =
       on value survey _ _ (41 ∷ []) _
       (on value survey _ (codes "and(") (list_text list) _ (open_through value survey (97 ∷ 110 ∷ 100 ∷ []) (and_path value survey.mode begins) below)

@@ -1,5 +1,5 @@
 -- The texts in a query's text are UTF-8 where the whole is.
-use Rattle.std.proofs.Common.{◌≡◌, ◌<◌, ◌+◌, ℕ, List, [], ◌∷◌, ◌++◌, length, get_or, Bool, true, false, ◌&&◌, ◌||◌, ◌==◌, cond, Option, Some, None, option_to_list, refl, sym, ap₂, subst, ◌∙◌, append_assoc, append-nil, codes, arith}
+use Rattle.std.proofs.Common.{◌≡◌, ◌<◌, ◌+◌, ℕ, List, [], ◌∷◌, ◌++◌, length, get_or, true, false, ◌&&◌, ◌||◌, ◌==◌, cond, Option, Some, None, option_to_list, refl, sym, ap₂, subst, ◌∙◌, append_assoc, append-nil, codes, arith}
 use Rattle.std.specs.List.{flat_map, list_all}
 use Rattle.std.specs.Str.{IsUtf8}
 use Rattle.std.proofs.Math.Seq.{take-append_seam, drop-append-add, get_or-append_seam}
@@ -8,6 +8,7 @@ use Rattle.std.proofs.lemmas.List.{length-append}
 use Rattle.std.proofs.lemmas.List.Folds.{list_all-append}
 use Rattle.std.proofs.lemmas.Str.{IsUtf8-append, IsUtf8-take, IsUtf8-drop, IsCharBoundary-before_ascii, IsCharBoundary-after_ascii, is_utf8-from_IsUtf8, IsUtf8-from_ascii}
 use Rattle.std.proofs.lemmas.Str.Ascii.{IsAscii-cons, IsAscii-nil}
+use Rattle.std.proofs.lemmas.Bool.{and_parts}
 use Rattle.attr_types.specs.declared.value.Value.{Value}
 use Rattle.attr_types.specs.declared.value.Value.TheVariants as values
 use Rattle.attr_types.specs.declared.query.Leaf.{Leaf}
@@ -49,10 +50,6 @@ unescaped front (byte ∷ bytes) u =
           (unescaped (front ++ byte ∷ []) bytes (subst IsUtf8 (sym (append_assoc front (byte ∷ []) (flat_map escaped bytes))) u))
     ]) refl u
 
-both : (a b : Bool) → (a && b) ≡ true → (a ≡ true) × (b ≡ true)
-both true b h = (refl, h)
-both false b h = absurd cc
-
 quoted_utf8 : (bytes rest : List ℕ) → IsUtf8 (quoted bytes ++ rest) → IsUtf8 bytes
 quoted_utf8 bytes rest u =
     let inner : IsUtf8 ((flat_map escaped bytes ++ 34 ∷ []) ++ rest) = utf8_tail 34 _ (omega arith) u in
@@ -64,31 +61,31 @@ value_readable (values.Text bytes) rest u h = ap₂ (λ a b. a && b) h (is_utf8-
 
 end_readable : (end : Option Value) (rest : List ℕ) → IsUtf8 (option_text end ++ rest) → list_all is_in_range (option_to_list end) ≡ true → IsReadableEnd end
 end_readable None rest u h = tt
-end_readable (Some v) rest u h = value_readable v rest u (both (is_in_range v) true h).0
+end_readable (Some v) rest u h = value_readable v rest u (and_parts (is_in_range v) true h).0
 
 range_text : (low high : List ℕ) → (((codes "[" ++ low) ++ codes ";") ++ high) ++ codes "]" ≡ 91 ∷ (low ++ (59 ∷ (high ++ (93 ∷ []))))
 range_text low high = simp append_assoc
 
 leaf_readable : (leaf : Leaf) → IsUtf8 (leaf_text leaf) → list_all is_in_range (leaf_values leaf) ≡ true → IsReadableLeaf leaf
-leaf_readable (leaves.Is v) u h = value_readable v [] (subst IsUtf8 (sym (append-nil (value_text v))) u) (both (is_in_range v) true h).0
-leaf_readable (leaves.Prefix bytes) u h = value_readable (values.Text bytes) (codes "*") u (both (is_in_range (values.Text bytes)) true h).0
+leaf_readable (leaves.Is v) u h = value_readable v [] (subst IsUtf8 (sym (append-nil (value_text v))) u) (and_parts (is_in_range v) true h).0
+leaf_readable (leaves.Prefix bytes) u h = value_readable (values.Text bytes) (codes "*") u (and_parts (is_in_range (values.Text bytes)) true h).0
 leaf_readable (leaves.Range low high) u h =
     let inner : IsUtf8 (option_text low ++ (59 ∷ (option_text high ++ (93 ∷ [])))) =
     utf8_tail 91 _ (omega arith) (subst IsUtf8 (range_text (option_text low) (option_text high)) u) in
     let ranges : (list_all is_in_range (option_to_list low) ≡ true) × (list_all is_in_range (option_to_list high) ≡ true) =
-    both _ _ (sym (list_all-append is_in_range (option_to_list low) (option_to_list high)) ∙ h) in
+    and_parts _ _ (sym (list_all-append is_in_range (option_to_list low) (option_to_list high)) ∙ h) in
     (end_readable low _ inner ranges.0, end_readable high (93 ∷ []) (cut (option_text low) _ 59 (omega arith) inner).1 ranges.1)
 leaf_readable (leaves.Below v) u h =
-    value_readable v [] (subst IsUtf8 (sym (append-nil (value_text v))) (utf8_tail 60 _ (omega arith) u)) (both (is_in_range v) true h).0
+    value_readable v [] (subst IsUtf8 (sym (append-nil (value_text v))) (utf8_tail 60 _ (omega arith) u)) (and_parts (is_in_range v) true h).0
 leaf_readable (leaves.Above v) u h =
-    value_readable v [] (subst IsUtf8 (sym (append-nil (value_text v))) (utf8_tail 62 _ (omega arith) u)) (both (is_in_range v) true h).0
+    value_readable v [] (subst IsUtf8 (sym (append-nil (value_text v))) (utf8_tail 62 _ (omega arith) u)) (and_parts (is_in_range v) true h).0
 
 list_inside : (list : List ℕ) → IsUtf8 (list ++ codes ")") → IsUtf8 list
 list_inside list u = (cut list [] 41 (omega arith) u).0
 
 mutual
   pub tree_readable : (query : QueryTree) → IsUtf8 (tree_text query) → list_all is_in_range (tree_values query) ≡ true → IsReadableTree query
-  tree_readable (one leaf) u h = leaf_readable leaf u h
+  tree_readable (one field leaf) u h = leaf_readable leaf u h
   tree_readable (and list) u h =
       list_readable list (list_inside (list_text list)
       (utf8_tail 40 _ (omega arith) (utf8_tail 100 _ (omega arith) (utf8_tail 110 _ (omega arith) (utf8_tail 97 _ (omega arith) u))))) h
@@ -99,9 +96,9 @@ mutual
   list_readable : (list : QueryTrees) → IsUtf8 (list_text list) → list_all is_in_range (list_values list) ≡ true → AreReadable list
   list_readable no_trees u h = tt
   list_readable (tree first no_trees) u h =
-      (tree_readable first (subst IsUtf8 (append-nil (tree_text first)) u) (both _ _ (sym (list_all-append is_in_range (tree_values first) []) ∙ h)).0, tt)
+      (tree_readable first (subst IsUtf8 (append-nil (tree_text first)) u) (and_parts _ _ (sym (list_all-append is_in_range (tree_values first) []) ∙ h)).0, tt)
   list_readable (tree first (tree second others)) u h =
       let parts : IsUtf8 (tree_text first) × IsUtf8 (list_text (tree second others)) = cut (tree_text first) (list_text (tree second others)) 44 (omega arith) u in
       let ranges : (list_all is_in_range (tree_values first) ≡ true) × (list_all is_in_range (list_values (tree second others)) ≡ true) =
-      both _ _ (sym (list_all-append is_in_range (tree_values first) (list_values (tree second others))) ∙ h) in
+      and_parts _ _ (sym (list_all-append is_in_range (tree_values first) (list_values (tree second others))) ∙ h) in
       (tree_readable first parts.0 ranges.0, list_readable (tree second others) parts.1 ranges.1)

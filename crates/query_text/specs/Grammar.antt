@@ -3,11 +3,11 @@ use Rattle.std.specs.Prelude.{◌≡◌, ◌<◌, ◌≤◌, ℕ, ℤ, pos, negs
 use Rattle.std.specs.List.{flat_map, list_all}
 use Rattle.std.specs.Int.Digits.{digits_of}
 use Rattle.attr_types.specs.declared.kind.ValueType.{ValueType}
-use Rattle.attr_types.specs.declared.kind.ValueType.TheVariants as types
 use Rattle.attr_types.specs.declared.error.QueryError.{QueryError}
-use Rattle.attr_types.specs.declared.error.QueryError.TheVariants.{Syntax, WrongType, OutOfRange, TooDeep, Memory}
+use Rattle.attr_types.specs.declared.error.QueryError.TheVariants.{Syntax, NoField, WrongType, OutOfRange, TooDeep, Memory}
 use Rattle.attr_types.specs.declared.query.Query.{Query}
 use Rattle.attr_types.specs.Query.{QueryTree, QueryTrees, one, and, or, no_trees, tree, tree_of}
+pub use Rattle.attr_types.specs.Fitting.{is_of_type}
 use Rattle.attr_types.specs.Value.{type_of}
 use Rattle.attr_types.specs.declared.value.Value.{Value}
 use Rattle.attr_types.specs.declared.value.Value.TheVariants.{Long, Text}
@@ -49,7 +49,7 @@ leaf_text (Above value) = codes ">" ++ value_text value
 -- the members of a list stand between commas
 abbrev mutual
   pub tree_text : QueryTree → List ℕ
-  tree_text (one leaf) = leaf_text leaf
+  tree_text (one field leaf) = leaf_text leaf
   tree_text (and list) = codes "and(" ++ list_text list ++ codes ")"
   tree_text (or list) = codes "or(" ++ list_text list ++ codes ")"
 
@@ -74,10 +74,10 @@ IsFormedLeaf (Range low high) = HaveOneType low high
 IsFormedLeaf (Below value) = Unit {0}
 IsFormedLeaf (Above value) = Unit {0}
 
--- no list is empty
+-- no list is empty, and each leaf speaks of attribute 0: the grammar has no names of attributes yet
 abbrev mutual
   pub IsFormed : QueryTree → Type 0
-  IsFormed (one leaf) = IsFormedLeaf leaf
+  IsFormed (one field leaf) = (field ≡ 0) × IsFormedLeaf leaf
   IsFormed (and list) = IsFormedList list
   IsFormed (or list) = IsFormedList list
 
@@ -104,19 +104,13 @@ leaf_values (Above value) = value ∷ []
 
 abbrev mutual
   pub tree_values : QueryTree → List Value
-  tree_values (one leaf) = leaf_values leaf
+  tree_values (one field leaf) = leaf_values leaf
   tree_values (and list) = list_values list
   tree_values (or list) = list_values list
 
   pub list_values : QueryTrees → List Value
   list_values no_trees = []
   list_values (tree first others) = tree_values first ++ list_values others
-
-abbrev pub is_of_type : ValueType → Value → Bool
-is_of_type types.Long (Long number) = true
-is_of_type types.Long (Text bytes) = false
-is_of_type types.Text (Long number) = false
-is_of_type types.Text (Text bytes) = true
 
 -- a number of 64 signed bits, or a text of at most 1,024 bytes
 abbrev pub is_in_range : Value → Bool
@@ -127,7 +121,7 @@ is_in_range (Text bytes) = nat_le (length bytes) 1024
 -- a leaf has one level, a list one more than its deepest member
 abbrev mutual
   pub levels_of : QueryTree → ℕ
-  levels_of (one leaf) = 1
+  levels_of (one field leaf) = 1
   levels_of (and list) = list_levels list + 1
   levels_of (or list) = list_levels list + 1
 
@@ -146,11 +140,12 @@ pub record StopsAt (text : List ℕ) (place : ℕ) : Type 0 where
   pub stops : place < length text → ¬ (Continues (take (place + 1) text))
   pub unfinished : place ≡ length text → (query : QueryTree) → ¬ (IsQueryText text query)
 
--- what the grammar answers, by the checks in their order
+-- what the grammar answers, by the checks in their order; without names no text has a wrong one
 abbrev pub Answers : ValueType → List ℕ → Result QueryTree QueryError → Type 0
 Answers value text (Ok query) = IsQueryText text query × (list_all (is_of_type value) (tree_values query) ≡ true)
     × (list_all is_in_range (tree_values query) ≡ true) × (levels_of query ≤ 32)
 Answers value text (Err (Syntax place)) = StopsAt text place
+Answers value text (Err (NoField place)) = ⊥
 Answers value text (Err WrongType) = (query : QueryTree) × IsQueryText text query
     × (list_all (is_of_type value) (tree_values query) ≡ false)
 Answers value text (Err OutOfRange) = (query : QueryTree) × IsQueryText text query
@@ -164,6 +159,7 @@ Answers value text (Err Memory) = ⊥
 abbrev pub AnswersAs : ValueType → List ℕ → Result Query QueryError → Type 0
 AnswersAs value text (Ok query) = Answers value text (Ok (tree_of query))
 AnswersAs value text (Err (Syntax place)) = Answers value text (Err (Syntax place))
+AnswersAs value text (Err (NoField place)) = Answers value text (Err (NoField place))
 AnswersAs value text (Err WrongType) = Answers value text (Err WrongType)
 AnswersAs value text (Err OutOfRange) = Answers value text (Err OutOfRange)
 AnswersAs value text (Err TooDeep) = Answers value text (Err TooDeep)

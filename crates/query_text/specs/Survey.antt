@@ -9,19 +9,19 @@ use Rattle.query_text.specs.declared.mode.Mode.TheVariants as modes
 use Rattle.query_text.specs.declared.survey.Survey.{Survey}
 use Rattle.query_text.specs.Modes.{next_mode}
 
-abbrev pub is_long : ValueType → Bool
-is_long types.Long = true
-is_long types.Text = false
+abbrev pub wants_long : ValueType → Bool
+wants_long types.Long = true
+wants_long types.Text = false
 
-abbrev pub is_text : ValueType → Bool
-is_text types.Long = false
-is_text types.Text = true
+abbrev pub wants_text : ValueType → Bool
+wants_text types.Long = false
+wants_text types.Text = true
 
 -- a value that is being read is of the type
 abbrev pub is_right : ValueType → Mode → Bool
-is_right value (modes.Minus role) = is_long value
-is_right value (modes.Number role negative size) = is_long value
-is_right value (modes.Text role len) = is_text value
+is_right value (modes.Minus role) = wants_long value
+is_right value (modes.Number role negative size) = wants_long value
+is_right value (modes.Text role len) = wants_text value
 is_right value _ = true
 
 -- the size of a number of 64 signed bits
@@ -30,10 +30,10 @@ is_long_size true size = nat_le size (2 ^ 63)
 is_long_size false size = nat_lt size (2 ^ 63)
 
 -- a value that is being read is in range so far
-abbrev pub is_small : Mode → Bool
-is_small (modes.Number role negative size) = is_long_size negative size
-is_small (modes.Text role len) = nat_le len 1024
-is_small _ = true
+abbrev pub is_in_size : Mode → Bool
+is_in_size (modes.Number role negative size) = is_long_size negative size
+is_in_size (modes.Text role len) = nat_le len 1024
+is_in_size _ = true
 
 abbrev pub depth_after : ℕ → Mode → ℕ
 depth_after depth modes.Opened = depth + 1
@@ -49,7 +49,7 @@ entered value survey mode = record {
   depth = depth_after survey.depth mode;
   levels = max survey.levels (depth_after survey.depth mode + 1);
   right = survey.right && is_right value mode;
-  small = survey.small && is_small mode;
+  small = survey.small && is_in_size mode;
 }
 
 -- after one more byte, where some query goes on so
@@ -70,8 +70,8 @@ ends_query modes.Closed = true
 ends_query _ = false
 
 -- no bracket is open, and a query has ended
-abbrev pub is_whole : Survey → Bool
-is_whole survey = (survey.depth == 0) && ends_query survey.mode
+abbrev pub is_complete : Survey → Bool
+is_complete survey = (survey.depth == 0) && ends_query survey.mode
 
 abbrev pub on_next : {X : Type 0} → Option Survey → (Survey → Result X ℕ) → ℕ → Result X ℕ
 on_next None go place = Err place
@@ -79,7 +79,7 @@ on_next (Some survey) go place = go survey
 
 -- from a place on, the survey of the whole text, or the place where no query goes on
 unfoldable pub surveyed_from : ValueType → Survey → ℕ → List ℕ → Result Survey ℕ
-surveyed_from value survey place [] = if is_whole survey then Ok survey else Err place
+surveyed_from value survey place [] = if is_complete survey then Ok survey else Err place
 surveyed_from value survey place (byte ∷ rest) = on_next (surveyed_after value survey byte) (λ next. surveyed_from value next (place + 1) rest) place
 
 abbrev pub surveyed : ValueType → List ℕ → Result Survey ℕ

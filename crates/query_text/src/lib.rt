@@ -11,7 +11,5 @@ mod mode;
 mod parse;
 mod read;
 mod survey;
-#[cfg(test)]
-mod tests;
 
 pub use parse::{grammar_law, parse_query};

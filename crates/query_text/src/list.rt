@@ -1,15 +1,15 @@
 ghost use Rattle.std.specs.Prelude.{◌≡◌, length, map, option_map};
 ghost use Rattle.attr_types.specs.Query.{tree_of};
-ghost use Rattle.query_text.specs.Reading.{Finds, and_at, or_at, mark_at, list_at, query_with, query_at};
+ghost use Rattle.query_text.specs.Reading.{Finds, and_front, or_front, mark_front, list_front, query_with, query_front};
 
 use crate::read::{ReadError, after, leaf_in};
 use attr_types::{Queries, Query};
 use std::alloc::Global;
 
 /// What follows `and(` at the front.
-#[tactic(auto, unfolding(crate::specs::Reading::and_at))]
+#[tactic(auto, unfolding(crate::specs::Reading::and_front))]
 fn after_and(bytes: &[u8]) -> Option<&[u8]>
-    ensures { option_map (λ rest. rest.now) result ≡ and_at bytes.now }
+    ensures { option_map (λ rest. rest.now) result ≡ and_front bytes.now }
 {
     let rest = after(b'a', bytes)?;
     let rest = after(b'n', rest)?;
@@ -18,9 +18,9 @@ fn after_and(bytes: &[u8]) -> Option<&[u8]>
 }
 
 /// What follows `or(` at the front.
-#[tactic(auto, unfolding(crate::specs::Reading::or_at))]
+#[tactic(auto, unfolding(crate::specs::Reading::or_front))]
 fn after_or(bytes: &[u8]) -> Option<&[u8]>
-    ensures { option_map (λ rest. rest.now) result ≡ or_at bytes.now }
+    ensures { option_map (λ rest. rest.now) result ≡ or_front bytes.now }
 {
     let rest = after(b'o', bytes)?;
     let rest = after(b'r', rest)?;
@@ -28,9 +28,9 @@ fn after_or(bytes: &[u8]) -> Option<&[u8]>
 }
 
 /// The mark after a member of a list: whether it is a comma, or else the closing bracket.
-#[tactic(auto, unfolding(crate::specs::Reading::mark_at))]
+#[tactic(auto, unfolding(crate::specs::Reading::mark_front))]
 fn mark_in(bytes: &[u8]) -> Option<(bool, &[u8])>
-    ensures { option_map (λ mark. (mark.0, mark.1.now)) result ≡ mark_at bytes.now }
+    ensures { option_map (λ mark. (mark.0, mark.1.now)) result ≡ mark_front bytes.now }
 {
     match after(b',', bytes) {
         Some(rest) => Some((true, rest)),
@@ -41,7 +41,7 @@ fn mark_in(bytes: &[u8]) -> Option<(bool, &[u8])>
 /// The query at the front, where it has so many levels at most.
 #[cycle(query)]
 pub fn query_in(alloc: Global, bytes: &[u8], levels: u32) -> Result<(Query, &[u8]), ReadError>
-    ensures { Finds (λ found. (tree_of found.0, found.1.now)) result (query_at levels bytes.now) }
+    ensures { Finds (λ found. (tree_of found.0, found.1.now)) result (query_front levels bytes.now) }
 {
     if levels == 0 {
         return Err(ReadError::NotRead);
@@ -54,7 +54,7 @@ pub fn query_in(alloc: Global, bytes: &[u8], levels: u32) -> Result<(Query, &[u8
 #[tactic(auto, unfolding(crate::specs::Reading::query_with))]
 fn query_with(alloc: Global, bytes: &[u8], levels: u32) -> Result<(Query, &[u8]), ReadError>
     ensures { Finds (λ found. (tree_of found.0, found.1.now)) result
-        (query_with (query_at levels) bytes.now) }
+        (query_with (query_front levels) bytes.now) }
 {
     if let Some(rest) = after_and(bytes) {
         let (list, rest) = list_in(alloc, rest, levels)?;
@@ -65,14 +65,14 @@ fn query_with(alloc: Global, bytes: &[u8], levels: u32) -> Result<(Query, &[u8])
         return Ok((Query::Or(list), rest));
     }
     let (leaf, rest) = leaf_in(alloc, bytes)?;
-    Ok((Query::One(leaf), rest))
+    Ok((Query::One { field: 0, leaf }, rest))
 }
 
 /// The members of the list whose bracket was opened, each of so many levels at most.
 #[cycle(query)]
 fn list_in(alloc: Global, bytes: &[u8], levels: u32) -> Result<(Queries, &[u8]), ReadError>
     ensures { Finds (λ found. (map tree_of found.0.items, found.1.now)) result
-        (list_at (query_at levels) (length bytes.now) bytes.now) }
+        (list_front (query_front levels) (length bytes.now) bytes.now) }
 {
     let mut list = Vec::new(alloc);
     let mut rest = bytes;

@@ -1,5 +1,5 @@
 ghost use Rattle.std.specs.Prelude.{◌≡◌};
-ghost use Rattle.query_text.specs.Parsing.{Says, query_of};
+ghost use Rattle.query_text.specs.Parsing.{ParsesAs, query_of};
 ghost use Rattle.query_text.specs.Grammar.{AnswersAs};
 ghost use Rattle.query_text.specs.Laws.{ReadsByGrammar, AnswersOnce, IsOneQuery, ReadsBack};
 
@@ -17,7 +17,7 @@ const MAX_LEVELS: u32 = 32;
 /// A text that is no query, or not such a one, is refused by the first of `Syntax`, `WrongType`,
 /// `OutOfRange` and `TooDeep` that holds of the whole text.
 pub fn parse_query(alloc: Global, text: &str, value: ValueType) -> Result<Query, QueryError>
-    ensures says { Says result (query_of value text.now) }
+    ensures says { ParsesAs result (query_of value text.now) }
     ensures grammar { AnswersAs value text.now result }
 {
     read_query(alloc, text, value)
@@ -25,7 +25,7 @@ pub fn parse_query(alloc: Global, text: &str, value: ValueType) -> Result<Query,
 
 #[tactic(auto, unfolding(crate::specs::Parsing::query_of))]
 fn read_query(alloc: Global, text: &str, value: ValueType) -> Result<Query, QueryError>
-    ensures { Says result (query_of value text.now) }
+    ensures { ParsesAs result (query_of value text.now) }
 {
     let survey = match survey_of(text, value) {
         Ok(survey) => survey,

@@ -1,7 +1,7 @@
 ghost use Rattle.std.specs.Prelude.{◌≡◌, ◌≤◌, length, option_map, true, false, Some, None, if◌then◌else◌};
 ghost use Rattle.query_text.specs.Modes.{is_digit};
 ghost use Rattle.query_text.specs.Survey.{is_long_size};
-ghost use Rattle.query_text.specs.Reading.{Finds, after, digits_at, signed, number_at, bytes_at, is_text, text_at, value_at, end_at, range_at, whole_at, leaf_at};
+ghost use Rattle.query_text.specs.Reading.{Finds, after_byte, digits_front, signed, number_front, bytes_front, is_short_text, text_front, value_front, end_front, range_front, whole_front, leaf_front};
 ghost use Rattle.query_text.specs.declared.read.ReadError.TheVariants as errors;
 
 use crate::mode::is_digit;
@@ -34,7 +34,7 @@ impl<T: Drop> From<AllocFailed<T>> for ReadError {
 
 /// What follows this byte at the front.
 pub fn after(wanted: u8, bytes: &[u8]) -> Option<&[u8]>
-    ensures { option_map (λ rest. rest.now) result ≡ after wanted bytes.now }
+    ensures { option_map (λ rest. rest.now) result ≡ after_byte wanted bytes.now }
 {
     match bytes {
         [byte, rest @ ..] if *byte == wanted => Some(rest),
@@ -44,7 +44,7 @@ pub fn after(wanted: u8, bytes: &[u8]) -> Option<&[u8]>
 
 /// The size of the number whose digits stand at the front, which stops at 64 bits.
 fn digits_in(bytes: &[u8]) -> (u64, &[u8])
-    ensures { (result.0, result.1.now) ≡ digits_at 0 bytes.now }
+    ensures { (result.0, result.1.now) ≡ digits_front 0 bytes.now }
 {
     let mut size = 0u64;
     for (i, byte) in bytes.iter().enumerate() {
@@ -59,9 +59,9 @@ fn digits_in(bytes: &[u8]) -> (u64, &[u8])
 }
 
 /// The number at the front, where it is of 64 signed bits.
-#[tactic(auto, unfolding(crate::specs::Reading::number_at))]
+#[tactic(auto, unfolding(crate::specs::Reading::number_front))]
 fn number_in(bytes: &[u8]) -> Option<(i64, &[u8])>
-    ensures { option_map (λ found. (found.0, found.1.now)) result ≡ number_at bytes.now }
+    ensures { option_map (λ found. (found.0, found.1.now)) result ≡ number_front bytes.now }
 {
     match after(b'-', bytes) {
         Some(rest) => {
@@ -88,7 +88,7 @@ fn negative_of(size: u64) -> Option<i64>
 
 /// The bytes of the text whose opening quote was read, up to its closing quote.
 fn bytes_in(alloc: Global, bytes: &[u8]) -> Result<(Vec<u8>, &[u8]), ReadError>
-    ensures { Finds (λ found. (found.0.items, found.1.now)) result (bytes_at false bytes.now) }
+    ensures { Finds (λ found. (found.0.items, found.1.now)) result (bytes_front false bytes.now) }
 {
     let mut found = Vec::new(alloc);
     let mut escaped = false;
@@ -108,9 +108,9 @@ fn bytes_in(alloc: Global, bytes: &[u8]) -> Result<(Vec<u8>, &[u8]), ReadError>
 }
 
 /// The text whose opening quote was read, where it has at most 1,024 bytes.
-#[tactic(auto, unfolding(crate::specs::Reading::text_at))]
+#[tactic(auto, unfolding(crate::specs::Reading::text_front))]
 fn text_in(alloc: Global, bytes: &[u8]) -> Result<(Text, &[u8]), ReadError>
-    ensures { Finds (λ found. (found.0, found.1.now)) result (text_at bytes.now) }
+    ensures { Finds (λ found. (found.0, found.1.now)) result (text_front bytes.now) }
 {
     let (found, rest) = bytes_in(alloc, bytes)?;
     let text = text_of(alloc, found.as_slice())?;
@@ -119,7 +119,7 @@ fn text_in(alloc: Global, bytes: &[u8]) -> Result<(Text, &[u8]), ReadError>
 
 /// These bytes as a text, where they are one.
 fn text_of(alloc: Global, bytes: &[u8]) -> Result<Text, ReadError>
-    ensures { Finds (λ text. text) result (if is_text bytes.now then Some bytes.now else None) }
+    ensures { Finds (λ text. text) result (if is_short_text bytes.now then Some bytes.now else None) }
 {
     if bytes.len() > Text::MAX_LEN {
         return Err(ReadError::NotRead);
@@ -131,9 +131,9 @@ fn text_of(alloc: Global, bytes: &[u8]) -> Result<Text, ReadError>
 }
 
 /// The value at the front.
-#[tactic(auto, unfolding(crate::specs::Reading::value_at))]
+#[tactic(auto, unfolding(crate::specs::Reading::value_front))]
 fn value_in(alloc: Global, bytes: &[u8]) -> Result<(Value, &[u8]), ReadError>
-    ensures { Finds (λ found. (found.0, found.1.now)) result (value_at bytes.now) }
+    ensures { Finds (λ found. (found.0, found.1.now)) result (value_front bytes.now) }
 {
     match after(b'"', bytes) {
         Some(rest) => {
@@ -148,9 +148,9 @@ fn value_in(alloc: Global, bytes: &[u8]) -> Result<(Value, &[u8]), ReadError>
 }
 
 /// The end of a range at the front, and the byte that closes it.
-#[tactic(auto, unfolding(crate::specs::Reading::end_at))]
+#[tactic(auto, unfolding(crate::specs::Reading::end_front))]
 fn end_in(alloc: Global, closing: u8, bytes: &[u8]) -> Result<(Option<Value>, &[u8]), ReadError>
-    ensures { Finds (λ found. (found.0, found.1.now)) result (end_at closing bytes.now) }
+    ensures { Finds (λ found. (found.0, found.1.now)) result (end_front closing bytes.now) }
 {
     if let Some(rest) = after(closing, bytes) {
         return Ok((None, rest));
@@ -161,9 +161,9 @@ fn end_in(alloc: Global, closing: u8, bytes: &[u8]) -> Result<(Option<Value>, &[
 }
 
 /// The range whose `[` was read.
-#[tactic(auto, unfolding(crate::specs::Reading::range_at))]
+#[tactic(auto, unfolding(crate::specs::Reading::range_front))]
 fn range_in(alloc: Global, bytes: &[u8]) -> Result<(Leaf, &[u8]), ReadError>
-    ensures { Finds (λ found. (found.0, found.1.now)) result (range_at bytes.now) }
+    ensures { Finds (λ found. (found.0, found.1.now)) result (range_front bytes.now) }
 {
     let (low, rest) = end_in(alloc, b';', bytes)?;
     let (high, rest) = end_in(alloc, b']', rest)?;
@@ -171,9 +171,9 @@ fn range_in(alloc: Global, bytes: &[u8]) -> Result<(Leaf, &[u8]), ReadError>
 }
 
 /// The value at the front as a leaf, or the prefix.
-#[tactic(auto, unfolding(crate::specs::Reading::whole_at))]
+#[tactic(auto, unfolding(crate::specs::Reading::whole_front))]
 fn whole_in(alloc: Global, bytes: &[u8]) -> Result<(Leaf, &[u8]), ReadError>
-    ensures { Finds (λ found. (found.0, found.1.now)) result (whole_at bytes.now) }
+    ensures { Finds (λ found. (found.0, found.1.now)) result (whole_front bytes.now) }
 {
     match after(b'"', bytes) {
         Some(rest) => {
@@ -191,9 +191,9 @@ fn whole_in(alloc: Global, bytes: &[u8]) -> Result<(Leaf, &[u8]), ReadError>
 }
 
 /// The leaf at the front.
-#[tactic(auto, unfolding(crate::specs::Reading::leaf_at))]
+#[tactic(auto, unfolding(crate::specs::Reading::leaf_front))]
 pub fn leaf_in(alloc: Global, bytes: &[u8]) -> Result<(Leaf, &[u8]), ReadError>
-    ensures { Finds (λ found. (found.0, found.1.now)) result (leaf_at bytes.now) }
+    ensures { Finds (λ found. (found.0, found.1.now)) result (leaf_front bytes.now) }
 {
     if let Some(rest) = after(b'[', bytes) {
         return range_in(alloc, rest);

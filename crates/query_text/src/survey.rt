@@ -1,5 +1,5 @@
 ghost use Rattle.std.specs.Prelude.{◌≡◌, ◌<◌, ◌≤◌, ◌^◌, ◌+◌, IfSome, length};
-ghost use Rattle.query_text.specs.Survey.{is_right, is_small, ends_value, ends_query, is_whole, depth_after, start, entered, surveyed_after, surveyed};
+ghost use Rattle.query_text.specs.Survey.{is_right, is_in_size, ends_value, ends_query, is_complete, depth_after, start, entered, surveyed_after, surveyed};
 
 use crate::mode::{Mode, Role};
 use attr_types::ValueType;
@@ -60,7 +60,7 @@ impl Survey {
 
     /// Whether a whole query has been read.
     fn is_whole(self) -> bool
-        ensures { result ≡ is_whole self }
+        ensures { result ≡ is_complete self }
     {
         self.depth == 0 && ends_query(self.mode)
     }
@@ -107,7 +107,7 @@ fn is_right(value: ValueType, mode: Mode) -> bool
 }
 
 fn is_small(mode: Mode) -> bool
-    ensures { result ≡ is_small mode }
+    ensures { result ≡ is_in_size mode }
 {
     match mode {
         Mode::Number(_, true, size) => size <= 1 << 63,

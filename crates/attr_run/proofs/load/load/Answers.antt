@@ -16,7 +16,7 @@ overflow_add-skipped c =
       more,
       length-append c.loop-op.yielded
           (into_iter_items c.loop-op.op-iterator),
-      skipped_ops-le c.args.kind [] c.loop-op.yielded,
+      skipped_ops-le c.args.fields [] c.loop-op.yielded,
     )
 
 pub loop-op-preserved-in-Skipped : goal.loop-op-preserved-in-Skipped
@@ -25,9 +25,9 @@ loop-op-preserved-in-Skipped c =
     let fit = rw rest at c.loop-op.invariant.fit in
     let applied = sym c.in_ok-apply.ensures.skipped ∙ c.in-Skipped.is in
     record {
-      table = plain-push c.args.kind c.args.value c.loop-op.yielded c.in-Some.op c.loop-op.table _ c.loop-op.invariant.table c.in_ok-apply.ensures.table;
+      table = plain-push c.args.fields c.loop-op.yielded c.in-Some.op c.loop-op.table _ c.loop-op.invariant.table c.in_ok-apply.ensures.table;
       skipped = ap (λ n. n + 1) c.loop-op.invariant.skipped
-          ∙ sym (skipped_ops-skipped c.args.kind c.args.value c.loop-op.yielded c.in-Some.op c.loop-op.table c.loop-op.invariant.table applied);
+          ∙ sym (skipped_ops-skipped c.args.fields c.loop-op.yielded c.in-Some.op c.loop-op.table c.loop-op.invariant.table applied);
       fit = fit.1;
       all = grind (arith, common_steps);
     }
@@ -38,9 +38,9 @@ loop-op-preserved c =
     let fit = rw rest at c.loop-op.invariant.fit in
     let applied = sym c.in_ok-apply.ensures.skipped ∙ c.in-Changed.is in
     record {
-      table = plain-push c.args.kind c.args.value c.loop-op.yielded c.in-Some.op c.loop-op.table _ c.loop-op.invariant.table c.in_ok-apply.ensures.table;
+      table = plain-push c.args.fields c.loop-op.yielded c.in-Some.op c.loop-op.table _ c.loop-op.invariant.table c.in_ok-apply.ensures.table;
       skipped = c.loop-op.invariant.skipped
-          ∙ sym (skipped_ops-changed c.args.kind c.args.value c.loop-op.yielded c.in-Some.op c.loop-op.table c.loop-op.invariant.table applied);
+          ∙ sym (skipped_ops-changed c.args.fields c.loop-op.yielded c.in-Some.op c.loop-op.table c.loop-op.invariant.table applied);
       fit = fit.1;
       all = grind (arith, common_steps);
     }

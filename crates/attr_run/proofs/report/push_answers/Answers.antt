@@ -1,10 +1,10 @@
-use Rattle.std.proofs.Common.{◌≡◌, ◌+◌, ◌∙◌, sym, ap, map, string_bytes, ◌∷◌, [], ◌++◌, arith, drop}
+use Rattle.std.proofs.Common.{◌≡◌, ◌+◌, ◌∙◌, sym, ap, map, string_bytes, ◌++◌, arith, drop}
 use Rattle.std.proofs.Common.{length, ◌<◌, List}
 use Rattle.std.proofs.Math.Seq.{drop-length}
+use Rattle.list_facts.proofs.Places.{drop-read}
 use Rattle.attr_types.specs.Query.{tree_of}
 use Rattle.attr_types.specs.declared.query.Query.{Query}
 use Rattle.attr_run.specs.Report.{answers_from}
-use Rattle.attr_run.proofs.QueriesLemmas.{drop-item}
 use Rattle.attr_run.proofs.ReportLemmas.{answers_from-next, answers_from-end}
 use Rattle.attr_run.proofs.report.push_answers.Goals as goal
 
@@ -12,7 +12,7 @@ pub loop-query-preserved : goal.loop-query-preserved
 loop-query-preserved c =
     let below : c.loop-query.query-index < length c.args.queries.now = omega arith in
     let rest = ap (λ (queries : List Query). map tree_of queries)
-    (drop-item c.args.queries.now c.loop-query.query-index c.query-item.result below c.query-item.is) in
+    (drop-read c.args.queries.now c.loop-query.query-index c.query-item.result c.query-item.result below c.query-item.is) in
     let left = map tree_of (drop (c.loop-query.query-index + 1) c.args.queries.now) in
     record {
       written = answers_from-next (string_bytes c.loop-query.text) c.loop-query.number

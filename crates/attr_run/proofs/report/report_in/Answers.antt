@@ -1,4 +1,4 @@
-use Rattle.std.proofs.Common.{◌≡◌, ◌∙◌, ◌++◌, [], sym, ap, ap₂, length, map, ℕ, List, rules, arith}
+use Rattle.std.proofs.Common.{◌≡◌, ◌∙◌, ◌++◌, [], sym, ap, ap₂, length, map, ℕ, List, rules}
 use Rattle.attr_types.specs.Query.{QueryTree, tree_of}
 use Rattle.attr_types.specs.Table.{Table, after_ops, skipped_ops}
 use Rattle.attr_types.specs.declared.op.Op.{Op}
@@ -13,12 +13,12 @@ made queries loaded table skipped = (final_line loaded ++ answers_from 1 queries
 
 pub returns-clause-text : goal.returns-clause-text
 returns-clause-text c =
-    let kind = c.args.request.now.kind in
-    let table = c.in_ok-table.ensures.table ∙ ap (λ (ops : List Op). after_ops kind [] ops) c.into_vec-ops.ensures in
+    let fields = c.args.request.fields in
+    let table = c.in_ok-table.ensures.table ∙ ap (λ (ops : List Op). after_ops fields [] ops) c.into_vec-ops.ensures in
     let skipped = c.in_ok-table.ensures.skipped ∙ ap (λ
-    (ops : List Op). skipped_ops kind [] ops) c.into_vec-ops.ensures in
+    (ops : List Op). skipped_ops fields [] ops) c.into_vec-ops.ensures in
     let count : c.len-loaded.result ≡ length c.args.ops = search rules in
-    let queries = map tree_of c.args.request.now.queries.items in
+    let queries = map tree_of c.args.request.queries.items in
     c.in_ok-push_done_line.ensures
     ∙ ap (λ t. t ++ done_line c.len-loaded.result c.in_ok-table.skipped) (c.in_ok-push_answers.ensures
     ∙ ap (λ t. t ++ answers_from 1 (map tree_of c.as_slice.result.now) c.in_ok-table.table.table)
@@ -28,4 +28,4 @@ returns-clause-text c =
     (map tree_of q) c.len-loaded.result c.in_ok-table.table.table c.in_ok-table.skipped) c.as_slice.ensures.value
     ∙ ap (λ n. made queries n c.in_ok-table.table.table c.in_ok-table.skipped) count
     ∙ ap₂ (λ (t : Table) (n : ℕ). made queries (length c.args.ops) t n) table skipped
-    ∙ sym (report-alone (run_in c.args.request.now) c.args.ops)
+    ∙ sym (report-alone (run_in c.args.request) c.args.ops)

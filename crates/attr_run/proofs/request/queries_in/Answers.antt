@@ -3,10 +3,11 @@ use Rattle.std.proofs.Common.{arith, drop, length, ◌<◌, List, ℕ, String, G
 use Rattle.std.proofs.Math.Seq.{drop-length}
 use Rattle.std.proofs.lemmas.List.{map-append}
 use Rattle.std.proofs.lemmas.Result.{err_from_is_err_and}
+use Rattle.list_facts.proofs.Places.{drop-read}
 use Rattle.attr_types.specs.Query.{QueryTree, tree_of}
 use Rattle.attr_types.specs.declared.query.Query.{Query}
 use Rattle.attr_run.specs.Run.{queries_from}
-use Rattle.attr_run.proofs.QueriesLemmas.{after_front, after_front-next, after_front-end, drop-item}
+use Rattle.attr_run.proofs.QueriesLemmas.{after_front, after_front-next, after_front-end}
 use Rattle.attr_run.proofs.QueriesLemmas.{says-stopped}
 use Rattle.attr_run.proofs.request.queries_in.Goals as goal
 
@@ -18,7 +19,7 @@ returns-in_err-query-clause-says c =
     let p = err_from_is_err_and c.from_residual.result c.from_residual.ensures.1 in
     let below : c.loop-text.text-index < length c.args.texts.now = omega arith in
     let rest = ap bytes_of
-    (drop-item c.args.texts.now c.loop-text.text-index c.text-item.result below c.text-item.is) in
+    (drop-read c.args.texts.now c.loop-text.text-index c.text-item.result c.text-item.result below c.text-item.is) in
     let front = map tree_of c.loop-text.queries.items in
     let is = ap (λ ts. after_front front (queries_from c.args.value c.loop-text.number ts)) (sym rest)
     ∙ c.loop-text.invariant.read in
@@ -31,7 +32,7 @@ pub loop-text-preserved : goal.loop-text-preserved
 loop-text-preserved c =
     let below : c.loop-text.text-index < length c.args.texts.now = omega arith in
     let rest = ap bytes_of
-    (drop-item c.args.texts.now c.loop-text.text-index c.text-item.result below c.text-item.is) in
+    (drop-read c.args.texts.now c.loop-text.text-index c.text-item.result c.text-item.result below c.text-item.is) in
     let left = bytes_of (drop (c.loop-text.text-index + 1) c.args.texts.now) in
     let front = map tree_of c.loop-text.queries.items in
     let pushed : c.push.new.self.items ≡ c.loop-text.queries.items ++ c.in_ok-query.query ∷ [] = search rules in

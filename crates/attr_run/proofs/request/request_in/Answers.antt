@@ -1,8 +1,10 @@
-use Rattle.std.proofs.Common.{◌∙◌, ap, Err, map, Vec, Global}
+use Rattle.std.proofs.Common.{◌∙◌, ap, sym, ℕ, List, [], ◌∷◌, Ok, Err, map, Vec, Global}
 use Rattle.std.proofs.lemmas.Result.{err_from_is_err_and}
 use Rattle.attr_types.specs.Query.{tree_of}
 use Rattle.attr_types.specs.declared.query.Query.{Query}
+use Rattle.attr_types.specs.declared.field.Field.{Field}
 use Rattle.attr_words.specs.Reading.{given_by}
+use Rattle.attr_run.specs.Run.{field_of, run_of}
 use Rattle.attr_run.proofs.AskedLemmas.{asked-at_settings, asked-at_kind, asked-at_value}
 use Rattle.attr_run.proofs.AskedLemmas.{asked-at_queries, asked-whole}
 use Rattle.attr_run.proofs.request.request_in.Goals as goal
@@ -40,8 +42,18 @@ returns-in_err-queries-clause-asked c =
 
 pub returns-clause-asked : goal.returns-clause-asked
 returns-clause-asked c =
-    asked-whole c.args.words.now (given_by c.in_ok-settings.settings) c.in_ok-kind.kind c.in_ok-value.value
-    (map tree_of c.in_ok-queries.queries.items)
+    let settings = given_by c.in_ok-settings.settings in
+    let kind = c.in_ok-kind.kind in
+    let value = c.in_ok-value.value in
+    let queries = map tree_of c.in_ok-queries.queries.items in
+    let fields = c.in_ok-fields.ensures
+    ∙ ap (λ (name : List ℕ). field_of name kind value ∷ []) c.as_str-3.ensures.value in
+    asked-whole c.args.words.now settings kind value queries
     c.in_ok-settings.ensures.says (rw c.as_str.ensures.value at c.in_ok-kind.ensures.says)
     (rw c.as_str-2.ensures.value at c.in_ok-value.ensures.says)
     (rw c.as_slice.ensures.value at c.in_ok-queries.ensures.says)
+    ∙ ap (λ (fs : List Field). Ok (run_of settings fs queries)) (sym fields)
+
+pub returns-clause-lawful : goal.returns-clause-lawful
+returns-clause-lawful c =
+    c.settings_law.ensures c.args.words.now _ (returns-clause-asked c) c.in_ok-settings.ensures.texts

@@ -1,9 +1,8 @@
-use Rattle.std.proofs.Common.{◌≡◌, refl}
-use Rattle.attr_run.specs.History.{IsRounds, IsAfterwards, IsLegalHistory, history}
+use Rattle.std.proofs.Common.{refl}
 use Rattle.attr_run.specs.declared.outcome.Status.TheVariants.{ReadFault, WriteFault, Memory}
 use Rattle.attr_run.specs.declared.outcome.UsageCause.TheVariants as usage
 use Rattle.attr_run.specs.declared.outcome.FeedFault.TheVariants as feed
-use Rattle.attr_run.proofs.AnswerLemmas.{Met, at, done-report, done-whole, exactly-usage}
+use Rattle.attr_run.proofs.AnswerLemmas.{Met, at, ended-report, ended-run, exactly-usage}
 use Rattle.attr_run.proofs.AnswerLemmas.{exactly-help, exactly-refused, exactly-feed, early-text}
 use Rattle.attr_run.proofs.AnswerLemmas.{early-no_run, complete-told}
 use Rattle.attr_run.proofs.run.attr_main.Given.{Over}
@@ -23,69 +22,76 @@ met g c = record {
 }
 
 pub returns-clause-report : goal.returns-clause-report
-returns-clause-report g c = done-report (met g c) _ _ _ c.whole_run.ensures.answer
+returns-clause-report g c = ended-report (met g c) _ _ c.whole_run.ensures.answer
+
+pub returns-clause-settings : goal.returns-clause-settings
+returns-clause-settings g c = λ full ends. (c.whole_run.ensures.ended full ends).asks
 
 pub returns-clause-whole : goal.returns-clause-whole
-returns-clause-whole g c = c.whole_run.ensures.whole
+returns-clause-whole g c = λ full ends. (c.whole_run.ensures.ended full ends).reads
 
 pub returns-clause-loaded : goal.returns-clause-loaded
-returns-clause-loaded g c = done-whole (met g c) _ _ _ _ (λ run ops whole. whole.loaded_all) c.whole_run.ensures.answer
+returns-clause-loaded g c = ended-run (met g c) _ _ _ (λ full text run ops until. until.all_loaded)
+    c.whole_run.ensures.answer
 
 pub returns-clause-rounds : goal.returns-clause-rounds
-returns-clause-rounds g c = done-whole (met g c) _ _ _ _ (λ run ops whole. whole.in_rounds) c.whole_run.ensures.answer
+returns-clause-rounds g c = ended-run (met g c) _ _ _ (λ full text run ops until. until.in_rounds)
+    c.whole_run.ensures.answer
 
 pub returns-clause-after : goal.returns-clause-after
-returns-clause-after g c = done-whole (met g c) _ _ _ _ (λ run ops whole. whole.afterwards) c.whole_run.ensures.answer
+returns-clause-after g c = ended-run (met g c) _ _ _ (λ full text run ops until. until.afterwards)
+    c.whole_run.ensures.answer
 
 pub returns-clause-history : goal.returns-clause-history
-returns-clause-history g c = done-whole (met g c) _ _ _ _ (λ run ops whole. whole.legal) c.whole_run.ensures.answer
+returns-clause-history g c = ended-run (met g c) _ _ _ (λ full text run ops until. until.legal)
+    c.whole_run.ensures.answer
 
 pub returns-clause-help : goal.returns-clause-help
-returns-clause-help g c = exactly-help (met g c) _ _ _ c.whole_run.ensures.one_kind c.whole_run.ensures.answer
+returns-clause-help g c = exactly-help (met g c) _ _ c.whole_run.ensures.one_kind c.whole_run.ensures.answer
 
 pub returns-clause-usage_words : goal.returns-clause-usage_words
-returns-clause-usage_words g c = exactly-refused (met g c) _ _ _ c.whole_run.ensures.one_kind c.whole_run.ensures.answer
+returns-clause-usage_words g c = exactly-refused (met g c) _ _ c.whole_run.ensures.one_kind c.whole_run.ensures.answer
 
 pub returns-clause-kind_name : goal.returns-clause-kind_name
-returns-clause-kind_name g c = exactly-usage (met g c) _ _ _ usage.KindName c.whole_run.ensures.answer
+returns-clause-kind_name g c = exactly-usage (met g c) _ _ usage.KindName c.whole_run.ensures.answer
 
 pub returns-clause-value_name : goal.returns-clause-value_name
-returns-clause-value_name g c = exactly-usage (met g c) _ _ _ usage.ValueName c.whole_run.ensures.answer
+returns-clause-value_name g c = exactly-usage (met g c) _ _ usage.ValueName c.whole_run.ensures.answer
 
 pub returns-clause-usage_query : goal.returns-clause-usage_query
-returns-clause-usage_query g c = λ number error. exactly-usage (met g c) _ _ _
+returns-clause-usage_query g c = λ number error. exactly-usage (met g c) _ _
     (usage.Query number error) c.whole_run.ensures.answer
 
 pub returns-clause-unread : goal.returns-clause-unread
 returns-clause-unread g c = c.whole_run.ensures.unread
 
 pub returns-clause-read_fault : goal.returns-clause-read_fault
-returns-clause-read_fault g c = λ is. (at (met g c) _ ReadFault _ _ c.whole_run.ensures.answer is).1.0.1
+returns-clause-read_fault g c = λ is. (at (met g c) _ ReadFault _ c.whole_run.ensures.answer is).1.0.1
 
 pub returns-clause-too_long : goal.returns-clause-too_long
-returns-clause-too_long g c = exactly-feed (met g c) _ _ _ feed.TooLong c.whole_run.ensures.answer _ refl
+returns-clause-too_long g c = exactly-feed (met g c) _ _ feed.TooLong c.whole_run.ensures.answer _ refl
 
 pub returns-clause-bad_line : goal.returns-clause-bad_line
-returns-clause-bad_line g c = λ line number. exactly-feed (met g c) _ _ _
+returns-clause-bad_line g c = λ line number. exactly-feed (met g c) _ _
     (feed.Line line number) c.whole_run.ensures.answer _ refl
 
 pub returns-clause-text : goal.returns-clause-text
-returns-clause-text g c = early-text (met g c) _ _ _ c.whole_run.ensures.answer
+returns-clause-text g c = early-text (met g c) _ _ c.whole_run.ensures.answer
 
 pub returns-clause-no_run : goal.returns-clause-no_run
-returns-clause-no_run g c = early-no_run (met g c) _ _ _ c.whole_run.ensures.answer
+returns-clause-no_run g c = early-no_run (met g c) _ _ c.whole_run.ensures.answer
 
 pub returns-clause-write_fault : goal.returns-clause-write_fault
-returns-clause-write_fault g c = λ is. (at (met g c) _ WriteFault _ _ c.whole_run.ensures.answer is).0
+returns-clause-write_fault g c = λ is. (at (met g c) _ WriteFault _ c.whole_run.ensures.answer is).0
 
 pub returns-clause-front : goal.returns-clause-front
-returns-clause-front g c = λ is. (at (met g c) _ WriteFault _ _ c.whole_run.ensures.answer is).1
+returns-clause-front g c = λ is. (at (met g c) _ WriteFault _ c.whole_run.ensures.answer is).1
 
 pub returns-clause-memory : goal.returns-clause-memory
-returns-clause-memory g c = at (met g c) _ Memory _ _ c.whole_run.ensures.answer
+returns-clause-memory g c = at (met g c) _ Memory _ c.whole_run.ensures.answer
 
 pub returns-clause-proper : goal.returns-clause-proper
 returns-clause-proper g c = c.whole_run.ensures.proper
 
 pub returns-clause-complete : goal.returns-clause-complete
-returns-clause-complete g c = complete-told (met g c) _ _ _ c.whole_run.ensures.answer _ refl
+returns-clause-complete g c = complete-told (met g c) _ _ c.whole_run.ensures.proper c.whole_run.ensures.answer _ refl

@@ -3,7 +3,7 @@ use Rattle.clap.specs.Walk.{Row, rows_of}
 use Rattle.clap.specs.Matches.{found_of}
 use Rattle.clap.specs.Simple.{app_of}
 use Rattle.attr_words.specs.Found.{HasTexts}
-use Rattle.attr_words.specs.Reading.{given_by, settings_of}
+use Rattle.attr_words.specs.Reading.{IsInRange, given_by, settings_of}
 use Rattle.attr_words.proofs.CommandLemmas.{error_is, one_kind_at_most, rows_are, taken}
 use Rattle.attr_words.proofs.TextLemmas.{in_range, texts_given, texts_there}
 use Rattle.attr_words.proofs.reading.read_words.Goals as goal
@@ -32,7 +32,7 @@ returns-in_ok-settings_in-in-Ok c =
       answer = (takes, given);
       one_kind = one_kind_at_most line;
       texts = texts_given line settings takes given;
-      ranges = in_range line settings takes given;
+      ranges = subst IsInRange (sym given) (in_range line takes);
     }
 
 pub returns-in-Err-clause-answer : goal.returns-in-Err-clause-answer

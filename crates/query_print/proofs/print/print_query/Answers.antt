@@ -8,4 +8,4 @@ use Rattle.query_print.proofs.print.print_query.Goals as goal
 pub returns-clause-back : goal.returns-clause-back
 returns-clause-back c =
     let written : string_bytes c.push_query.new.text ≡ tree_text (tree_of c.args.query.now) = search rules in
-    reads_back_as (string_bytes c.push_query.new.text) (tree_of c.args.query.now) (IsUtf8-string_bytes c.push_query.new.text) written
+    reads_back_as c.grammar_law.ensures.back (string_bytes c.push_query.new.text) (tree_of c.args.query.now) (IsUtf8-string_bytes c.push_query.new.text) written

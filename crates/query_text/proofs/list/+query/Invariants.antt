@@ -1,6 +1,6 @@
 use Rattle.std.proofs.Common.{◌≡◌, ◌+◌, ◌-◌, ◌*◌, length, map}
 use Rattle.attr_types.specs.Query.{tree_of}
-use Rattle.query_text.specs.Reading.{list_at, query_at}
+use Rattle.query_text.specs.Reading.{list_front, query_front}
 use Rattle.query_text.proofs.ListLemmas.{after_trees}
 use Rattle.query_text.proofs.list.+query.Given as goal
 
@@ -15,5 +15,5 @@ decreases-query_with l = 3 * l.levels + 2
 
 abbrev pub invariant-list_in-loop-count : goal.invariant-list_in-loop-count
 invariant-list_in-loop-count l =
-    after_trees (map tree_of l.list.items) (list_at (query_at l.levels) (length l.bytes - l._count) l.rest)
-    ≡ list_at (query_at l.levels) (length l.bytes) l.bytes
+    after_trees (map tree_of l.list.items) (list_front (query_front l.levels) (length l.bytes - l._count) l.rest)
+    ≡ list_front (query_front l.levels) (length l.bytes) l.bytes

@@ -1,5 +1,5 @@
 use Rattle.std.proofs.Common.{rules, arith, ◌≡◌, ◌∙◌, ◌<◌, ◌≤◌, sym, ap, cond, length, Ok, Err}
-use Rattle.query_text.specs.Survey.{is_whole}
+use Rattle.query_text.specs.Survey.{is_complete}
 use Rattle.query_text.proofs.SurveyLemmas.{surveyed_from-more, surveyed_from-none, surveyed_from-end}
 use Rattle.query_text.proofs.survey.survey_of.Goals as goal
 
@@ -21,7 +21,7 @@ loop-place-preserved c =
 pub returns-then-is_whole : goal.returns-then-is_whole
 returns-then-is_whole c =
     let past : length c.args.text.now ≤ c.loop-place.place = search rules in
-    let whole : is_whole c.loop-place.survey ≡ Rattle.std.proofs.Common.true = sym c.is_whole.ensures ∙ c.if-is_whole.true in
+    let whole : is_complete c.loop-place.survey ≡ Rattle.std.proofs.Common.true = sym c.is_whole.ensures ∙ c.if-is_whole.true in
     ap (λ b. cond b (Ok c.loop-place.survey) (Err c.loop-place.place)) (sym whole)
     ∙ sym (surveyed_from-end _ _ c.args.text.now _ past) ∙ c.loop-place.invariant.whole
 
@@ -29,7 +29,7 @@ pub returns-else-is_whole : goal.returns-else-is_whole
 returns-else-is_whole c =
     let past : length c.args.text.now ≤ c.loop-place.place = search rules in
     let here : length c.args.text.now ≡ c.loop-place.place = search rules in
-    let part : is_whole c.loop-place.survey ≡ Rattle.std.proofs.Common.false = sym c.is_whole.ensures ∙ c.if-is_whole.false in
+    let part : is_complete c.loop-place.survey ≡ Rattle.std.proofs.Common.false = sym c.is_whole.ensures ∙ c.if-is_whole.false in
     ap Err here
     ∙ ap (λ b. cond b (Ok c.loop-place.survey) (Err c.loop-place.place)) (sym part)
     ∙ sym (surveyed_from-end _ _ c.args.text.now _ past) ∙ c.loop-place.invariant.whole

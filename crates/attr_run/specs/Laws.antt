@@ -1,0 +1,16 @@
+-- Laws of the history of a run.
+use Rattle.std.specs.Prelude.{ℕ, List, ◌∷◌, length}
+use Rattle.attr_types.specs.declared.op.Op.{Op}
+use Rattle.attr_run.specs.Run.{Run, Progress}
+use Rattle.attr_run.specs.History.{RunEvent, Round, IsRounds, IsLegalHistory, history}
+
+-- where the rounds of a run are what was asked for, its history is legal
+abbrev pub HistoriesAreLegal : Type 0
+HistoriesAreLegal = (run : Run) (ops : List Op) (progress : Progress) → IsRounds run (length ops) progress
+    → IsLegalHistory run ops progress (history run ops progress)
+
+-- no legal history begins with a round
+abbrev pub NoRoundComesFirst : Type 0
+NoRoundComesFirst = (run : Run) (ops : List Op) (progress : Progress) (reader round n : ℕ)
+    (answers : List (List ℕ)) (events : List RunEvent)
+    → ¬ IsLegalHistory run ops progress (Round reader round n answers ∷ events)

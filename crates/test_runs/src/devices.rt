@@ -1,0 +1,98 @@
+//! One put and one query over devices that fail: a feed of 37 bytes and a report of 44.
+use crate::run::{line_of, words_in};
+use crate::tally::Tally;
+use attr_io::{FakeSink, FakeSource, NoGate, VecSink};
+use attr_run::attr_main;
+use std::alloc::{AllocError, Global};
+use std::io;
+
+const WORDS: &str = "--kind single --value long 5";
+
+const FEED: &str = "{\"put\":\"id:n:t::1\",\"fields\":{\"f\":5}}\n";
+
+const REPORT: &str = "final at 1/1: 1/done 1 operations 0 skipped/";
+
+/// What a run answers and writes; then how many operations it loaded, and the faults of its source
+/// and its sink.
+fn told(alloc: Global, source: &mut FakeSource, sink: &mut FakeSink) -> Result<String, AllocError> {
+    let words = words_in(alloc, WORDS)?;
+    let outcome = attr_main(alloc, &words, source, sink, &NoGate);
+    let line = line_of(alloc, outcome.status.exit_code(), sink.taken())?;
+    let loaded = outcome.loaded;
+    let reads = source.faults();
+    let writes = sink.faults();
+    format!(in alloc; "{line} {loaded} {reads} {writes}")
+}
+
+/// A source of one byte a call, which fails at one call: the 38th would tell the end of the feed.
+fn compare_sources(rt: &HostRuntime, tally: &mut Tally) -> io::Result<()> {
+    let alloc = rt.alloc();
+    for call in 1..40 {
+        let mut source = FakeSource::create(alloc, FEED.as_bytes(), 1, &[call])?;
+        let mut sink = FakeSink::create(alloc, 100, 7, &[])?;
+        let found = told(alloc, &mut source, &mut sink)?;
+        let wanted = if call < 39 {
+            String::from_str(alloc, "4 attr: read fault/ 0 1 0")?
+        } else {
+            format!(in alloc; "0 {REPORT} 1 0 0")?
+        };
+        let case = format!(in alloc; "source at call {call}")?;
+        tally.note(rt, &case, &found, &wanted)?;
+    }
+    Ok(())
+}
+
+fn sink_at(alloc: Global, call: u64) -> Result<String, AllocError> {
+    let mut source = FakeSource::create(alloc, FEED.as_bytes(), 5, &[])?;
+    let mut sink = FakeSink::create(alloc, 100, 1, &[call])?;
+    told(alloc, &mut source, &mut sink)
+}
+
+/// A sink of one byte a call, which fails at one call: the bytes before it were taken.
+fn compare_sinks(rt: &HostRuntime, tally: &mut Tally) -> io::Result<()> {
+    let alloc = rt.alloc();
+    let mut front = String::new(alloc);
+    let mut call: u64 = 1;
+    for next in REPORT.chars() {
+        let wanted = format!(in alloc; "5 {front} 1 0 1")?;
+        let case = format!(in alloc; "sink at call {call}")?;
+        tally.note(rt, &case, &sink_at(alloc, call)?, &wanted)?;
+        front.push(next)?;
+        call = call.saturating_add(1);
+    }
+    let wanted = format!(in alloc; "0 {front} 1 0 0")?;
+    tally.note(rt, "sink after all calls", &sink_at(alloc, call)?, &wanted)
+}
+
+/// Steps of several bytes, and a sink in memory that has too little room.
+fn compare_steps(rt: &HostRuntime, tally: &mut Tally) -> io::Result<()> {
+    let alloc = rt.alloc();
+    let mut source = FakeSource::create(alloc, FEED.as_bytes(), 2, &[2])?;
+    let mut sink = FakeSink::create(alloc, 100, 100, &[])?;
+    let found = told(alloc, &mut source, &mut sink)?;
+    tally.note(rt, "two bytes a read", &found, "4 attr: read fault/ 0 1 0")?;
+
+    let mut source = FakeSource::create(alloc, &[], 2, &[])?;
+    let mut sink = FakeSink::create(alloc, 100, 7, &[2])?;
+    let found = told(alloc, &mut source, &mut sink)?;
+    tally.note(rt, "seven bytes a write", &found, "5 final a 0 0 1")?;
+
+    let words = words_in(alloc, WORDS)?;
+    let mut source = FakeSource::create(alloc, &[], 2, &[])?;
+    let mut sink = VecSink::create(alloc, 7)?;
+    let outcome = attr_main(alloc, &words, &mut source, &mut sink, &NoGate);
+    let found = line_of(alloc, outcome.status.exit_code(), sink.taken())?;
+    tally.note(rt, "seven bytes of room", &found, "5 final a")
+}
+
+pub fn compare(rt: &HostRuntime) -> io::Result<()> {
+    let mut sources = Tally::new();
+    compare_sources(rt, &mut sources)?;
+    sources.print(rt, "sources that fail")?;
+    let mut sinks = Tally::new();
+    compare_sinks(rt, &mut sinks)?;
+    sinks.print(rt, "sinks that fail")?;
+    let mut steps = Tally::new();
+    compare_steps(rt, &mut steps)?;
+    steps.print(rt, "steps of devices")
+}

@@ -1,0 +1,29 @@
+use crate::tally::Tally;
+use attr_run::{FeedFault, Status, UsageCause};
+use std::io;
+
+/// The exit status of each answer, beside the number that it must be.
+pub fn compare(rt: &HostRuntime) -> io::Result<()> {
+    let full = Status::Full {
+        operation: 22,
+        active: 8,
+        held: 0,
+    };
+    let rows = [
+        (Status::Done, "0"),
+        (Status::Help, "0"),
+        (Status::Usage(UsageCause::Words), "2"),
+        (Status::BadFeed(FeedFault::TooLong), "3"),
+        (Status::ReadFault, "4"),
+        (Status::WriteFault, "5"),
+        (full, "6"),
+        (Status::Memory, "7"),
+    ];
+    let mut tally = Tally::new();
+    for (status, wanted) in &rows {
+        let code = status.exit_code();
+        let found = format!(in rt.alloc(); "{code}")?;
+        tally.note(rt, "exit status", &found, wanted)?;
+    }
+    tally.print(rt, "exit statuses")
+}

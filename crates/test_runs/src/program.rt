@@ -1,0 +1,60 @@
+//! The words of a running program, its name first, also where they are no UTF-8.
+use crate::run::told;
+use crate::tally::Tally;
+use attr_run::Words;
+use std::env::FillError;
+use std::io;
+use std::rt::Env;
+
+#[derive(Clone, Copy)]
+struct Program<'a> {
+    words: &'a [&'a [u8]],
+}
+
+impl Env for Program<'_> {
+    fn arg(&self, i: usize, buf: &mut [u8]) -> Result<usize, FillError> {
+        let Some(word) = self.words.get(i) else {
+            return Err(FillError::NotPresent);
+        };
+        if word.len() > buf.len() {
+            return Err(FillError::TooLong);
+        }
+        buf[..word.len()].copy_from_slice(word);
+        Ok(word.len())
+    }
+
+    fn var(&self, _name: &str, _buf: &mut [u8]) -> Result<usize, FillError> {
+        Err(FillError::NotPresent)
+    }
+
+    fn var_at(&self, _i: usize, _buf: &mut [u8]) -> Result<usize, FillError> {
+        Err(FillError::NotPresent)
+    }
+}
+
+fn note(
+    rt: &HostRuntime,
+    tally: &mut Tally,
+    words: &[&[u8]],
+    case: &str,
+    wanted: &str,
+) -> io::Result<()> {
+    let alloc = rt.alloc();
+    let program = Program { words };
+    let words = Words::of_program(&(program, alloc))?;
+    let found = told(alloc, &words, &[])?;
+    tally.note(rt, case, &found, wanted)
+}
+
+pub fn compare(rt: &HostRuntime) -> io::Result<()> {
+    let mut tally = Tally::new();
+    let words: [&[u8]; 6] = [b"attr", b"--kind", b"single", b"--value", b"long", b"[;]"];
+    let report = "0 final at 0/1:/done 0 operations 0 skipped/";
+    note(rt, &mut tally, &words, "the words after a name", report)?;
+    let refused = "2 attr: usage: words/";
+    note(rt, &mut tally, &[], "no name", refused)?;
+    note(rt, &mut tally, &[b"attr"], "a name alone", refused)?;
+    let words: [&[u8]; 3] = [b"attr", b"--help", b"\xFF"];
+    note(rt, &mut tally, &words, "a word that is no UTF-8", refused)?;
+    tally.print(rt, "words of a program")
+}
