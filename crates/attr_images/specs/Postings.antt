@@ -1,11 +1,12 @@
 -- The dictionary: each value with the list of documents that have it.
-use Rattle.std.specs.Prelude.{ℕ, ℤ, ◌/◌, ◌%◌, ◌<◌, nat_eq, List, [], ◌∷◌, length, map, if◌then◌else◌}
+use Rattle.std.specs.Prelude.{ℕ, ℤ, ◌/◌, ◌%◌, ◌^◌, ◌<◌, nat_eq, List, [], ◌∷◌, length, map, if◌then◌else◌}
 use Rattle.std.specs.List.{flat_map, AllByRecursion}
 use Rattle.std.specs.Ordering.{nat_cmp}
 use Rattle.image_base.specs.Records.{Records}
 use Rattle.tree_images.specs.Trees.{tree_pairs, tree_nodes, by_number, IsTree}
+use Rattle.attr_images.specs.declared.TheConstants.{MOST_SHORT}
 use Rattle.attr_images.specs.Values.{value_at, IsValueRecord}
-use Rattle.attr_images.specs.Words.{items_of, unpacked, weight_of, IsStoredList}
+use Rattle.attr_images.specs.Words.{stored_items, unpacked, weight_of, IsStoredList}
 use Rattle.attr_types.specs.declared.kind.ValueType.{ValueType}
 use Rattle.attr_types.specs.declared.value.Value.{Value}
 
@@ -20,14 +21,14 @@ form_of word = if nat_eq (word % 2) 0 then short (word / 2) else tree (word / 2)
 
 -- the documents of a list, each with its weight
 abbrev pub list_at : Records → ListForm → List (ℕ × ℤ)
-list_at m (short ref) = map unpacked (items_of (m ref))
+list_at m (short ref) = map unpacked (stored_items (m ref))
 list_at m (tree root) = map (λ p. (p.0, weight_of p.1)) (tree_pairs m root)
 
--- a short list has at most 8 documents, a tree more
+-- a short list has at most MOST_SHORT documents, a tree more
 abbrev pub IsList : Records → ListForm → Type 0
-IsList m (short ref) = IsStoredList 8 (m ref)
-IsList m (tree root) = IsTree nat_cmp by_number m root × (8 < length (tree_pairs m root))
-    × AllByRecursion (λ p. p.1 < 4294967296) (tree_pairs m root)
+IsList m (short ref) = IsStoredList MOST_SHORT (m ref)
+IsList m (tree root) = IsTree nat_cmp by_number m root × (MOST_SHORT < length (tree_pairs m root))
+    × AllByRecursion (λ p. p.1 < 2 ^ 32) (tree_pairs m root)
 
 -- what a list reaches
 abbrev pub list_reach : Records → ListForm → List ℕ

@@ -10,7 +10,7 @@ use Rattle.attr_types.specs.declared.kind.ValueType.TheVariants as types
 use Rattle.attr_types.specs.declared.value.Value.{Value}
 use Rattle.attr_types.specs.declared.value.Value.TheVariants as values
 
--- bytes in so many words, eight a word with the first in the highest place, filled with zeros
+-- bytes in `n` words, eight a word with the first in the highest place, filled with zeros
 abbrev pub packed_bytes : ℕ → List ℕ → List ℕ
 packed_bytes zero bytes = []
 packed_bytes (suc n) bytes = from_be_bytes w64 (take 8 (bytes ++ replicate 8 0)) ∷ packed_bytes n (drop 8 bytes)

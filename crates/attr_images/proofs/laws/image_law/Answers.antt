@@ -2,7 +2,7 @@ use Rattle.attr_images.proofs.ImageLemmas.{table_lawful, table_has_type, operati
 use Rattle.tree_images.proofs.DistinctLemmas.{tree_nodes_distinct}
 use Rattle.attr_images.specs.Values.{value_at}
 use Rattle.attr_types.specs.Value.{value_cmp}
-use Rattle.attr_types.specs.ValueOrder.{value_cmp_total}
+use Rattle.attr_types.specs.ProofsForOrder.{value_cmp_total}
 use Rattle.attr_images.proofs.laws.image_law.Goals as goal
 
 pub returns-clause-table : goal.returns-clause-table
