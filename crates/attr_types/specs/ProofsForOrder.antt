@@ -1,4 +1,5 @@
--- The order of values is total, and only a value itself is equal to it.
+-- Nobody has to read this: proofs that the `impl`s of comparison cite. What they prove is the contract of `order_law`:
+-- the order of values is total, and only a value itself is equal to it.
 use Rattle.std.proofs.Common.{◌≡◌, Less, Equal, is_lt, is_eq, true≢false, refl, sym, ap}
 use Rattle.std.proofs.lemmas.Cmp.{int_cmp_total, nat_list_cmp_total}
 use Rattle.std.proofs.lemmas.Map.Lookups.{exact_bytes, exact_signed}
