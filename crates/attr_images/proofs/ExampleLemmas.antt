@@ -6,7 +6,7 @@ use borrow.Author.Tests.{ltb-true, leb-true}
 use Rattle.image_base.specs.Images.{words_at}
 use Rattle.tree_images.proofs.NodeLemmas.{node_formed}
 use Rattle.tree_images.specs.Trees.{pairs_below, nodes_below, IsNode}
-use Rattle.attr_images.specs.Examples.{one_text, OneTextIsLawful, OneTextReads, MissingRecord, WrongCount, UnlawfulTable, MissingValue, WrongWeight}
+use Rattle.attr_images.specs.Examples.{one_text, broken, OneTextIsLawful, OneTextReads, MissingRecord, WrongCount, UnlawfulTable, MissingValue, WrongWeight}
 use Rattle.attr_images.specs.Values.{IsValueRecord}
 use Rattle.attr_types.specs.declared.kind.ValueType.TheVariants as types
 use Rattle.attr_types.specs.declared.value.Value.TheVariants as values
@@ -46,8 +46,7 @@ one_text_reads = refl
 pub missing_record : MissingRecord
 unfolding pairs_below
 missing_record lawful =
-    let words = lawful.attribute.forms.items.0.1.0.words in
-    let none : 0 ≡ 2 = ap length words in
+    let none : length (words_at (broken 1024 []) 1024) ≡ 2 = ap length lawful.attribute.forms.items.0.1.0.words in
     absurd (omega arith)
 
 pub wrong_count : WrongCount

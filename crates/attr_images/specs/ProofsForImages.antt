@@ -4,6 +4,7 @@ use Rattle.std.proofs.Common.{◌≡◌, ℕ, zero, suc, ◌<◌, ◌^◌, List,
 use Rattle.std.specs.Prelude.{ℤ, slice_index}
 use Rattle.std.specs.List.{flat_map, AllByRecursion}
 use Rattle.std.specs.Ordering.{nat_cmp}
+use Rattle.std.proofs.lemmas.List.Concat.{flat_map_single}
 use Rattle.image_base.specs.Records.{Records, SameAt, AllThere}
 use Rattle.tree_images.specs.ProofsForTrees.{SameAt-left, SameAt-right, flat_map-same, map-same, all-same, tree_pairs-same, tree_nodes-same, IsTree-same, there-both, tree_there}
 use Rattle.tree_images.specs.Trees.{tree_pairs, tree_nodes, by_number}
@@ -24,11 +25,6 @@ use Rattle.attr_types.specs.declared.kind.Kind.TheVariants.{Single, Array, Weigh
 use Rattle.attr_types.specs.declared.kind.ValueType.{ValueType}
 use Rattle.attr_types.specs.declared.value.Value.{Value}
 use Rattle.attr_types.specs.declared.value.Value.TheVariants as values
-
--- each number reaches itself
-flat_map-self : {X : Type 0} (f : X → ℕ) (xs : List X) → flat_map (λ x. f x ∷ []) xs ≡ map f xs
-flat_map-self f [] = refl
-flat_map-self f (x ∷ xs) = ap (λ ys. f x ∷ ys) (flat_map-self f xs)
 
 -- the references of a document's values are among those that it reaches
 weighted_reach : (kind : Kind) (m n : Records) (ref : ℕ) → SameAt (items_reach kind ref (m ref)) m n
@@ -62,7 +58,7 @@ IsItemsRecord-same WeightedSet m n (suc ref) h form = subst (IsStoredList most_i
 module _ (kind : Kind) (type : ValueType) (m n : Records) where
   -- each value of a document reaches its own record
   values_reach : (ref : ℕ) → SameAt (items_reach kind ref (m ref)) m n → SameAt (flat_map (λ e. e.0 ∷ []) (weighted kind ref (m ref))) m n
-  values_reach ref h = subst (λ rs. SameAt rs m n) (sym (flat_map-self (λ e. e.0) (weighted kind ref (m ref)))) (weighted_reach kind m n ref h)
+  values_reach ref h = subst (λ rs. SameAt rs m n) (sym (flat_map_single (λ e. e.0) (weighted kind ref (m ref)))) (weighted_reach kind m n ref h)
 
   items_at-same : (ref : ℕ) → SameAt (items_reach kind ref (m ref)) m n → items_at kind type n ref ≡ items_at kind type m ref
   items_at-same ref h =

@@ -8,6 +8,7 @@ use Rattle.std.specs.List.{find, cons_option, AllByRecursion}
 use Rattle.std.specs.List.Sorted.{IsStrictlySortedBy}
 use Rattle.std.specs.Map.{keys_of}
 use Rattle.std.specs.Ordering.{nat_cmp}
+use Rattle.list_facts.proofs.Each.{AllByRecursion-append}
 use Rattle.image_base.specs.Records.{Records}
 use Rattle.attr_images.specs.Documents.{items_at, documents_table}
 use Rattle.attr_images.specs.Images.{table_values, documents_with, HasValues, HasLists}
@@ -18,7 +19,7 @@ use Rattle.attr_images.specs.Words.{items_of, unpacked, weight_of}
 use Rattle.attr_types.specs.Lawful.{IsDocument, IsLawfulItems, IsLawfulTable}
 use Rattle.attr_types.specs.Table.{Table}
 use Rattle.attr_types.specs.Value.{value_cmp, values_of}
-use Rattle.attr_types.specs.ValueOrder.{value_cmp_exact}
+use Rattle.attr_types.specs.ProofsForOrder.{value_cmp_exact}
 use Rattle.attr_types.specs.declared.items.Item.{Item}
 use Rattle.attr_types.specs.declared.kind.Kind.{Kind}
 use Rattle.attr_types.specs.declared.kind.ValueType.{ValueType}
@@ -90,17 +91,13 @@ module _ (value : Value) where
 
 -- what holds of all items holds of all values
 module _ (P : Value → Type 0) where
-  all_both : (xs ys : List Value) → AllByRecursion P xs → AllByRecursion P ys → AllByRecursion P (xs ++ ys)
-  all_both [] ys a b = b
-  all_both (x ∷ xs) ys a b = (a.0, all_both xs ys a.1 b)
-
   all_values : (items : List Item) → AllByRecursion (λ (item : Item). P item.value) items → AllByRecursion P (values_of items)
   all_values [] all = tt
   all_values (item ∷ items) all = (all.0, all_values items all.1)
 
   pub all_table_values : (table : Table) → AllByRecursion (λ (e : ℕ × List Item). AllByRecursion (λ (item : Item). P item.value) e.1) table → AllByRecursion P (table_values table)
   all_table_values [] all = tt
-  all_table_values (e ∷ table) all = all_both (values_of e.1) (table_values table) (all_values e.1 all.0) (all_table_values table all.1)
+  all_table_values (e ∷ table) all = AllByRecursion-append P (values_of e.1) (table_values table) (all_values e.1 all.0) (all_table_values table all.1)
 
 module _ (type : ValueType) (m : Records) (table : Table) where
   all_in_table : (ps : List (ℕ × ℕ)) → AllByRecursion (IsEntryOf type m) ps → AllByRecursion (IsRight type m table) ps → AllByRecursion (Contains (table_values table)) (map (λ (p : ℕ × ℕ). value_at type m p.0) ps)

@@ -12,7 +12,7 @@ use Rattle.attr_images.specs.Documents.{documents_table}
 use Rattle.attr_images.specs.Images.{documents_with}
 use Rattle.attr_images.specs.Postings.{index_of}
 use Rattle.attr_types.specs.Value.{value_cmp}
-use Rattle.attr_types.specs.ValueOrder.{value_cmp_total, value_cmp_exact}
+use Rattle.attr_types.specs.ProofsForOrder.{value_cmp_total, value_cmp_exact}
 use Rattle.attr_types.specs.declared.items.Item.{Item}
 use Rattle.attr_types.specs.declared.kind.Kind.{Kind}
 use Rattle.attr_types.specs.declared.kind.ValueType.{ValueType}

@@ -8,9 +8,9 @@ use Rattle.image_base.specs.Records.{Records}
 use Rattle.tree_images.specs.Trees.{last_key, tree_pairs, IsRootNode}
 use Rattle.attr_images.specs.Values.{value_at}
 use Rattle.attr_types.specs.Value.{value_cmp}
-use Rattle.attr_types.specs.ValueOrder.{value_cmp_total}
+use Rattle.attr_types.specs.ProofsForOrder.{value_cmp_total}
 use Rattle.attr_types.specs.declared.value.Value.{Value}
-use Rattle.check_trees.specs.Keys.{key_cmp, IsTreeOf, Ascends, IsOutOfOrder}
+use Rattle.check_trees.specs.Keys.{key_cmp, IsTreeOf, Ascends}
 use Rattle.check_trees.specs.declared.keys.Keys.{Keys}
 use Rattle.check_trees.specs.declared.keys.Keys.TheVariants.{Numbers, Values}
 
@@ -55,24 +55,12 @@ module _ (keys : Keys) (m : Records) where
       let above = (key_cmp_total keys m).trans q.0 (last_key (r ∷ ps)) p.0 (all_last q.0 r ps up.0) less in
       (all_more q.0 (r ∷ ps) p up.0 above, ascends-more (r ∷ ps) p up.1 less)
 
-  -- a key that is not above the last
-  pub out_of_order : (ps : List (ℕ × ℕ)) (p : ℕ × ℕ) → 0 < length ps → key_cmp keys m (last_key ps) p.0 ≢ Less → IsOutOfOrder keys m (ps ++ p ∷ []) p.0
-  out_of_order [] p some other = absurd (omega arith)
-  out_of_order (q ∷ []) p some other = inl (refl, other)
-  out_of_order (q ∷ r ∷ ps) p some other = inr (out_of_order (r ∷ ps) p (omega arith) other)
-
-  pub out_of_order-more : (ps qs : List (ℕ × ℕ)) (key : ℕ) → IsOutOfOrder keys m ps key → IsOutOfOrder keys m (ps ++ qs) key
-  out_of_order-more [] qs key out = absurd out
-  out_of_order-more (p ∷ []) qs key out = absurd out
-  out_of_order-more (p ∷ q ∷ ps) qs key (inl here) = inl here
-  out_of_order-more (p ∷ q ∷ ps) qs key (inr there) = inr (out_of_order-more (q ∷ ps) qs key there)
-
-  pub out_of_order-refutes : (ps : List (ℕ × ℕ)) (key : ℕ) → IsOutOfOrder keys m ps key → ¬ Ascends keys m ps
+  -- a key behind others is above the last
+  pub ascends-last : (ps : List (ℕ × ℕ)) (p : ℕ × ℕ) → 0 < length ps → Ascends keys m (ps ++ p ∷ []) → key_cmp keys m (last_key ps) p.0 ≡ Less
   unfolding IsStrictlySortedBy
-  out_of_order-refutes [] key out up = out
-  out_of_order-refutes (p ∷ []) key out up = out
-  out_of_order-refutes (p ∷ q ∷ ps) key (inl here) up = here.1 up.0.0
-  out_of_order-refutes (p ∷ q ∷ ps) key (inr there) up = out_of_order-refutes (q ∷ ps) key there up.1
+  ascends-last [] p some up = absurd (omega arith)
+  ascends-last (q ∷ []) p some up = up.0.0
+  ascends-last (q ∷ r ∷ ps) p some up = ascends-last (r ∷ ps) p (omega arith) up.1
 
 -- keys ascend just where what they read as does
 module _ (read : ℕ → Value) where

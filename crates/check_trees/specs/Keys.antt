@@ -1,7 +1,6 @@
 -- The keys of a tree: what they read as, and how they are compared.
-use Rattle.std.specs.Prelude.{◌≡◌, ◌≢◌, ◌⊎◌, ℕ, List, [], ◌∷◌, map}
+use Rattle.std.specs.Prelude.{ℕ, List, map}
 use Rattle.std.specs.declared.cmp.Ordering.{Ordering}
-use Rattle.std.specs.declared.cmp.Ordering.TheVariants.{Less}
 use Rattle.std.specs.List.Sorted.{IsStrictlySortedBy}
 use Rattle.std.specs.Ordering.{nat_cmp}
 use Rattle.image_base.specs.Records.{Records}
@@ -24,9 +23,3 @@ IsTreeOf (Values type) m root = IsTree value_cmp (value_at type) m root
 -- the keys of pairs ascend
 abbrev pub Ascends : Keys → Records → List (ℕ × ℕ) → Type 0
 Ascends keys m pairs = IsStrictlySortedBy (key_cmp keys m) (map (λ (p : ℕ × ℕ). p.0) pairs)
-
--- somewhere this key stands behind one that is not below it
-abbrev pub IsOutOfOrder : Keys → Records → List (ℕ × ℕ) → ℕ → Type 0
-IsOutOfOrder keys m [] key = ⊥
-IsOutOfOrder keys m (p ∷ []) key = ⊥
-IsOutOfOrder keys m (p ∷ q ∷ ps) key = ((q.0 ≡ key) × (key_cmp keys m p.0 q.0 ≢ Less)) ⊎ IsOutOfOrder keys m (q ∷ ps) key

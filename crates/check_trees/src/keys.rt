@@ -4,9 +4,9 @@ ghost use Rattle.attr_images.specs.Values.{text_of};
 ghost use Rattle.check_trees.specs.Keys.{key_cmp};
 ghost use Rattle.image_base.specs.Maps.{seen};
 
-use crate::read::{rest_of, word_at};
+use crate::read::rest_of;
 use attr_types::ValueType;
-use image_base::words_at;
+use image_base::{word_in, words_at};
 use std::alloc::{AllocError, Global};
 use std::cmp::Ordering;
 use std::collections::BTreeMap;
@@ -24,7 +24,7 @@ pub enum Keys {
 pub fn long_of(words: &[u64]) -> i64
     ensures { result ≡ cast_signed w64 (slice_index words.now 1) }
 {
-    word_at(words, 1).cast_signed()
+    word_in(words, 1).cast_signed()
 }
 
 /// The bytes of the text that words read as: as many as the first word says.
@@ -36,7 +36,7 @@ pub fn text_of(alloc: Global, words: &[u64]) -> Result<Vec<u8>, AllocError>
     for word in rest {
         bytes.extend_from_slice(&word.to_be_bytes())?;
     }
-    bytes.truncate(word_at(words, 0) as usize);
+    bytes.truncate(word_in(words, 0) as usize);
     Ok(bytes)
 }
 

@@ -3,7 +3,7 @@
 
 mod maps;
 
-pub use maps::words_at;
+pub use maps::{word_in, words_at};
 
 ghost use Rattle.std.specs.Prelude.{◌≡◌, ◌<◌, ◌≤◌, ℕ, List, [], length};
 ghost use Rattle.entry_ref.specs.References.{buffer_of};

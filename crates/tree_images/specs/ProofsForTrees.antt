@@ -5,6 +5,7 @@ use Rattle.std.specs.Prelude.{min}
 use Rattle.std.specs.declared.cmp.Ordering.{Ordering}
 use Rattle.std.specs.List.{zip, flat_map, AllByRecursion}
 use Rattle.std.specs.List.Sorted.{IsStrictlySortedBy}
+use Rattle.list_facts.proofs.Each.{AllByRecursion-flat_map}
 use Rattle.image_base.specs.Records.{Records, SameAt, AllThere}
 use Rattle.tree_images.specs.Nodes.{level_of, count_of, node_keys, node_values, IsNodeForm}
 use Rattle.tree_images.specs.Trees.{pairs_below, nodes_below, last_key, HasLastKeys, HasCount, IsNode, root_level, root_least, tree_pairs, tree_nodes, IsRootNode, IsTree}
@@ -97,19 +98,11 @@ IsTree-same order read m n root h reads tree = record {
   ascends = subst (IsStrictlySortedBy order) (sym (ap (λ ps. map (λ p. read n p.0) ps) (tree_pairs-same m n root h) ∙ reads)) tree.ascends;
 }
 
-All-append : (P : ℕ → Type 0) (xs ys : List ℕ) → AllByRecursion P xs → AllByRecursion P ys → AllByRecursion P (xs ++ ys)
-All-append P [] ys a b = b
-All-append P (x ∷ xs) ys a b = (a.0, All-append P xs ys a.1 b)
-
-All-flat_map : (P Q : ℕ → Type 0) (f : ℕ → List ℕ) → ((c : ℕ) → Q c → AllByRecursion P (f c)) → (cs : List ℕ) → AllByRecursion Q cs → AllByRecursion P (flat_map f cs)
-All-flat_map P Q f each [] all = tt
-All-flat_map P Q f each (c ∷ cs) all = All-append P (f c) (flat_map f cs) (each c all.0) (All-flat_map P Q f each cs all.1)
-
 -- every node of a tree is there
 pub nodes_there : (m : Records) (least level ref : ℕ) → IsNode m least level ref → AllByRecursion (λ q. 0 < length (m q)) (nodes_below m level ref)
 unfolding IsNode nodes_below
 nodes_there m least zero ref node = (let s = node.0.size in omega arith, tt)
-nodes_there m least (suc level) ref node = (let s = node.0.size in omega arith, All-flat_map (λ q. 0 < length (m q)) (IsNode m 8 level) (nodes_below m level) (nodes_there m 8 level) (node_values (m ref)) node.3)
+nodes_there m least (suc level) ref node = (let s = node.0.size in omega arith, AllByRecursion-flat_map (λ q. 0 < length (m q)) (IsNode m 8 level) (nodes_below m level) (nodes_there m 8 level) (node_values (m ref)) node.3)
 
 pub there-both : (m : Records) (xs ys : List ℕ) → AllThere xs m → AllThere ys m → AllThere (xs ++ ys) m
 there-both m [] ys a b = b
