@@ -9,10 +9,10 @@ use Rattle.std.specs.Ordering.{nat_cmp}
 use Rattle.image_base.specs.Records.{Records}
 use Rattle.attr_images.specs.Columns.{Column, IsLawfulColumn, table_of_column}
 use Rattle.attr_images.specs.Documents.{items_at, column_at, weighted}
-use Rattle.attr_images.specs.Images.{operations_at, documents_at, dictionary_at, table_of, IsLawful}
+use Rattle.attr_images.specs.Images.{operations_at, documents_at, dictionary_at, table_of, IsLawfulImage}
 use Rattle.attr_images.specs.Shapes.{shape_of, kind_of_shape, type_of_shape}
 use Rattle.tree_images.specs.Trees.{tree_pairs}
-use Rattle.attr_images.specs.Values.{value_of, value_at}
+use Rattle.attr_images.specs.Values.{value_of, stored_value}
 use Rattle.attr_types.specs.Lawful.{IsLawfulTable, IsDocNumber, IsLawfulDocument, IsLawfulItems, HasType, DocumentHasType}
 use Rattle.attr_types.specs.Value.{value_cmp, type_of}
 use Rattle.attr_types.specs.declared.field.Field.{Field}
@@ -48,7 +48,7 @@ column_lawful field column lawful = record {
   documents = column_documents field column lawful.items;
 }
 
-pub table_lawful : (field : Field) (m : Records) (root : ℕ) → IsLawful (shape_of field.kind field.value) m root → IsLawfulTable (field ∷ []) (table_of field.kind field.value m root)
+pub table_lawful : (field : Field) (m : Records) (root : ℕ) → IsLawfulImage (shape_of field.kind field.value) m root → IsLawfulTable (field ∷ []) (table_of field.kind field.value m root)
 unfolding IsStrictlySortedBy
 table_lawful field m zero lawful = record { ascends = tt; numbers = tt; documents = tt }
 table_lawful field m (suc root) lawful =
@@ -58,7 +58,7 @@ table_lawful field m (suc root) lawful =
     (subst (λ kind. IsLawfulColumn kind (at kind field.value)) tells.0
     (subst (λ type. IsLawfulColumn (kind_of_shape (shape_of field.kind field.value)) (at (kind_of_shape (shape_of field.kind field.value)) type)) tells.1 lawful.attribute.column))
 
-pub operations_few : (shape : ℕ) (m : Records) (root : ℕ) → IsLawful shape m root → operations_at m root < 2 ^ 32
+pub operations_few : (shape : ℕ) (m : Records) (root : ℕ) → IsLawfulImage shape m root → operations_at m root < 2 ^ 32
 operations_few shape m zero lawful = omega arith
 operations_few shape m (suc root) lawful = lawful.root_record.few
 
@@ -66,7 +66,7 @@ value_typed : (type : ValueType) (ws : List ℕ) → type_of (value_of type ws) 
 value_typed types.Long ws = refl
 value_typed types.Text ws = refl
 
-items_typed : (type : ValueType) (m : Records) (es : List (ℕ × ℤ)) → AllByRecursion (λ value. type_of value ≡ type) (map (λ (item : Item). item.value) (map (λ (e : ℕ × ℤ). let item : Item = record { value = value_at type m e.0; weight = e.1 } in item) es))
+items_typed : (type : ValueType) (m : Records) (es : List (ℕ × ℤ)) → AllByRecursion (λ value. type_of value ≡ type) (map (λ (item : Item). item.value) (map (λ (e : ℕ × ℤ). let item : Item = record { value = stored_value type m e.0; weight = e.1 } in item) es))
 items_typed type m [] = tt
 items_typed type m (e ∷ es) = (value_typed type (m e.0), items_typed type m es)
 
@@ -77,10 +77,10 @@ table_typed field m (p ∷ ps) = ((items_typed field.value m (weighted field.kin
 pub table_has_type : (field : Field) (m : Records) (root : ℕ) → HasType (field ∷ []) (table_of field.kind field.value m root)
 table_has_type field m root = table_typed field m (tree_pairs m (documents_at m root))
 
-pub values_ascend : (shape : ℕ) (m : Records) (root i j : ℕ) (past : Value) → IsLawful shape m root → i < j → j < length (tree_pairs m (dictionary_at m root))
-    → value_cmp (get_or (map (λ p. value_at (type_of_shape shape) m p.0) (tree_pairs m (dictionary_at m root))) i past) (get_or (map (λ p. value_at (type_of_shape shape) m p.0) (tree_pairs m (dictionary_at m root))) j past) ≡ Less
+pub values_ascend : (shape : ℕ) (m : Records) (root i j : ℕ) (past : Value) → IsLawfulImage shape m root → i < j → j < length (tree_pairs m (dictionary_at m root))
+    → value_cmp (get_or (map (λ p. stored_value (type_of_shape shape) m p.0) (tree_pairs m (dictionary_at m root))) i past) (get_or (map (λ p. stored_value (type_of_shape shape) m p.0) (tree_pairs m (dictionary_at m root))) j past) ≡ Less
 values_ascend shape m zero i j past lawful less below = absurd (omega arith)
 values_ascend shape m (suc root) i j past lawful less below =
-    let read : ℕ × ℕ → Value = λ p. value_at (type_of_shape shape) m p.0 in
+    let read : ℕ × ℕ → Value = λ p. stored_value (type_of_shape shape) m p.0 in
     let pairs : List (ℕ × ℕ) = tree_pairs m (dictionary_at m (suc root)) in
     Less-from_sorted value_cmp (map read pairs) i j past lawful.attribute.forms.dictionary_tree.ascends less (subst (λ n. j < n) (sym (length-map pairs read)) below)

@@ -5,9 +5,9 @@ use Rattle.std.specs.Ordering.{nat_cmp}
 use Rattle.image_base.specs.Records.{Records}
 use Rattle.tree_images.specs.Trees.{tree_pairs, tree_nodes, by_number, IsTree}
 use Rattle.attr_images.specs.Columns.{IsLawfulColumn, HasValues, HasLists}
-use Rattle.attr_images.specs.Documents.{column_at, documents_reach, AreItems}
-use Rattle.attr_images.specs.Postings.{index_of, dictionary_reach, IsEntryOf}
-use Rattle.attr_images.specs.Values.{value_at}
+use Rattle.attr_images.specs.Documents.{column_at, documents_reach, AreItemRecords}
+use Rattle.attr_images.specs.Postings.{index_of, dictionary_reach, IsDictionaryEntry}
+use Rattle.attr_images.specs.Values.{stored_value}
 use Rattle.attr_types.specs.Value.{value_cmp}
 use Rattle.attr_types.specs.declared.kind.Kind.{Kind}
 use Rattle.attr_types.specs.declared.kind.ValueType.{ValueType}
@@ -20,9 +20,9 @@ trees_reach kind m documents dictionary =
 -- each record has its form: nodes with keys that ascend, items, values and posting lists
 pub record AreFormed (kind : Kind) (type : ValueType) (m : Records) (documents dictionary : ℕ) : Type 0 where
   pub documents_tree : IsTree nat_cmp by_number m documents
-  pub items : AllByRecursion (λ p. AreItems kind type m p.1) (tree_pairs m documents)
-  pub dictionary_tree : IsTree value_cmp (value_at type) m dictionary
-  pub entries : AllByRecursion (IsEntryOf type m) (tree_pairs m dictionary)
+  pub items : AllByRecursion (λ p. AreItemRecords kind type m p.1) (tree_pairs m documents)
+  pub dictionary_tree : IsTree value_cmp (stored_value type) m dictionary
+  pub entries : AllByRecursion (IsDictionaryEntry type m) (tree_pairs m dictionary)
 
 -- the records have their forms, the documents have lawful items, and the dictionary has exactly their values and lists
 pub record IsLawfulAttribute (kind : Kind) (type : ValueType) (m : Records) (documents dictionary : ℕ) : Type 0 where

@@ -3,7 +3,7 @@ use Rattle.std.specs.Prelude.{ℕ, zero, suc, ℤ, pos, List, [], ◌∷◌, map
 use Rattle.std.specs.List.{flat_map, AllByRecursion}
 use Rattle.image_base.specs.Records.{Records}
 use Rattle.tree_images.specs.Trees.{tree_pairs}
-use Rattle.attr_images.specs.Values.{value_at, IsValueRecord}
+use Rattle.attr_images.specs.Values.{stored_value, IsValueRecord}
 use Rattle.attr_images.specs.Words.{stored_items, unpacked, IsStoredList}
 use Rattle.attr_images.specs.Columns.{Column}
 use Rattle.attr_types.specs.Change.{most_items}
@@ -35,11 +35,11 @@ items_reach WeightedSet (suc ref) ws = suc ref ∷ map (λ e. e.0) (weighted Wei
 
 -- the items of a document
 abbrev pub items_at : Kind → ValueType → Records → ℕ → List Item
-items_at kind type m ref = map (λ e. record { value = value_at type m e.0; weight = e.1 }) (weighted kind ref (m ref))
+items_at kind type m ref = map (λ e. record { value = stored_value type m e.0; weight = e.1 }) (weighted kind ref (m ref))
 
 -- their records have their form
-abbrev pub AreItems : Kind → ValueType → Records → ℕ → Type 0
-AreItems kind type m ref =
+abbrev pub AreItemRecords : Kind → ValueType → Records → ℕ → Type 0
+AreItemRecords kind type m ref =
     IsItemsRecord kind ref (m ref) × AllByRecursion (λ e. IsValueRecord type (m e.0)) (weighted kind ref (m ref))
 
 -- the column of a document tree: each document with its items

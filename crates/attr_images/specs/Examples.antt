@@ -3,7 +3,7 @@ use Rattle.std.specs.Prelude.{◌≡◌, ℕ, negsuc, List, [], ◌∷◌}
 use Rattle.image_base.specs.Images.{words_at}
 use Rattle.image_base.specs.declared.Image.{Image}
 use Rattle.tree_images.specs.Nodes.{node_words}
-use Rattle.attr_images.specs.Images.{table_of, IsLawful}
+use Rattle.attr_images.specs.Images.{table_of, IsLawfulImage}
 use Rattle.attr_types.specs.declared.kind.Kind.TheVariants.{WeightedSet}
 use Rattle.attr_types.specs.declared.kind.ValueType.TheVariants as types
 use Rattle.attr_types.specs.declared.value.Value.TheVariants as values
@@ -25,7 +25,7 @@ abbrev pub broken : ℕ → List ℕ → Image
 broken ref ws = record { root = 1027; records = (ref, ws) ∷ one_text.records }
 
 abbrev pub IsLawfulText : Image → Type 0
-IsLawfulText image = IsLawful 6 (words_at image) image.root
+IsLawfulText image = IsLawfulImage 6 (words_at image) image.root
 
 abbrev pub OneTextIsLawful : Type 0
 OneTextIsLawful = IsLawfulText one_text

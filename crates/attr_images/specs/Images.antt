@@ -38,11 +38,11 @@ attr_reaches shape m (suc root) =
     suc root ∷ trees_reach (kind_of_shape shape) m (documents_at m (suc root)) (dictionary_at m (suc root))
 
 -- the root record names the two trees of a lawful attribute
-pub record IsLawfulImage (shape : ℕ) (m : Records) (root : ℕ) : Type 0 where
+pub record IsLawfulAt (shape : ℕ) (m : Records) (root : ℕ) : Type 0 where
   pub root_record : IsRootRecord (m root)
   pub attribute : IsLawfulAttribute (kind_of_shape shape) (type_of_shape shape) m (documents_at m root) (dictionary_at m root)
 
 -- root 0 is the empty image
-abbrev pub IsLawful : ℕ → Records → ℕ → Type 0
-IsLawful shape m zero = Unit {0}
-IsLawful shape m (suc root) = IsLawfulImage shape m (suc root)
+abbrev pub IsLawfulImage : ℕ → Records → ℕ → Type 0
+IsLawfulImage shape m zero = Unit {0}
+IsLawfulImage shape m (suc root) = IsLawfulAt shape m (suc root)

@@ -10,11 +10,11 @@ use Rattle.tree_images.specs.ProofsForTrees.{SameAt-left, SameAt-right, flat_map
 use Rattle.tree_images.specs.Trees.{tree_pairs, tree_nodes, by_number}
 use Rattle.attr_images.specs.Attributes.{trees_reach, AreFormed, IsLawfulAttribute}
 use Rattle.attr_images.specs.Columns.{IsLawfulColumn, HasValues, HasLists}
-use Rattle.attr_images.specs.Documents.{weighted, IsItemsRecord, items_reach, items_at, AreItems, column_at, documents_reach}
-use Rattle.attr_images.specs.Images.{documents_at, dictionary_at, IsRootRecord, attr_reaches, IsLawful}
-use Rattle.attr_images.specs.Postings.{ListForm, short, tree, form_of, list_at, IsList, list_reach, index_of, IsEntryOf, dictionary_reach}
+use Rattle.attr_images.specs.Documents.{weighted, IsItemsRecord, items_reach, items_at, AreItemRecords, column_at, documents_reach}
+use Rattle.attr_images.specs.Images.{documents_at, dictionary_at, IsRootRecord, attr_reaches, IsLawfulImage}
+use Rattle.attr_images.specs.Postings.{ListForm, short, tree, list_form, postings_at, IsPostingList, postings_reach, index_of, IsDictionaryEntry, dictionary_reach}
 use Rattle.attr_images.specs.Shapes.{kind_of_shape, type_of_shape}
-use Rattle.attr_images.specs.Values.{value_of, value_at, value_words, IsValueRecord}
+use Rattle.attr_images.specs.Values.{value_of, stored_value, value_words, IsValueRecord}
 use Rattle.attr_images.specs.Words.{filled, stored_items, unpacked, weight_of, IsStoredList}
 use Rattle.attr_images.specs.declared.TheConstants.{MOST_SHORT}
 use Rattle.attr_types.specs.Change.{most_items}
@@ -62,29 +62,29 @@ module _ (kind : Kind) (type : ValueType) (m n : Records) where
 
   items_at-same : (ref : ℕ) → SameAt (items_reach kind ref (m ref)) m n → items_at kind type n ref ≡ items_at kind type m ref
   items_at-same ref h =
-      let f : ℕ × ℤ → Item = λ e. record { value = value_at type m e.0; weight = e.1 } in
-      let g : ℕ × ℤ → Item = λ e. record { value = value_at type n e.0; weight = e.1 } in
+      let f : ℕ × ℤ → Item = λ e. record { value = stored_value type m e.0; weight = e.1 } in
+      let g : ℕ × ℤ → Item = λ e. record { value = stored_value type n e.0; weight = e.1 } in
       let each : (e : ℕ × ℤ) → SameAt (e.0 ∷ []) m n → g e ≡ f e = λ e s. ap (λ ws. record { value = value_of type ws; weight = e.1 }) s.0 in
       ap (map g) (weighted-same kind m n ref h) ∙ map-same m n (λ (e : ℕ × ℤ). e.0 ∷ []) f g each (weighted kind ref (m ref)) (values_reach ref h)
 
-  AreItems-same : (ref : ℕ) → SameAt (items_reach kind ref (m ref)) m n → AreItems kind type m ref → AreItems kind type n ref
-  AreItems-same ref h items =
+  AreItemRecords-same : (ref : ℕ) → SameAt (items_reach kind ref (m ref)) m n → AreItemRecords kind type m ref → AreItemRecords kind type n ref
+  AreItemRecords-same ref h items =
       let P : ℕ × ℤ → Type 0 = λ e. IsValueRecord type (m e.0) in
       let Q : ℕ × ℤ → Type 0 = λ e. IsValueRecord type (n e.0) in
       let values = all-same m n (λ (e : ℕ × ℤ). e.0 ∷ []) P Q (λ e s v. subst (IsValueRecord type) (sym s.0) v) (weighted kind ref (m ref)) (values_reach ref h) items.1 in
       (IsItemsRecord-same kind m n ref h items.0, subst (AllByRecursion Q) (sym (weighted-same kind m n ref h)) values)
 
-list_at-same : (m n : Records) (form : ListForm) → SameAt (list_reach m form) m n → list_at n form ≡ list_at m form
-list_at-same m n (short ref) h = ap (λ ws. map unpacked (stored_items ws)) h.0
-list_at-same m n (tree root) h = ap (λ ps. map (λ p. (p.0, weight_of p.1)) ps) (tree_pairs-same m n root h)
+postings_at-same : (m n : Records) (form : ListForm) → SameAt (postings_reach m form) m n → postings_at n form ≡ postings_at m form
+postings_at-same m n (short ref) h = ap (λ ws. map unpacked (stored_items ws)) h.0
+postings_at-same m n (tree root) h = ap (λ ps. map (λ p. (p.0, weight_of p.1)) ps) (tree_pairs-same m n root h)
 
-list_reach-same : (m n : Records) (form : ListForm) → SameAt (list_reach m form) m n → list_reach n form ≡ list_reach m form
-list_reach-same m n (short ref) h = refl
-list_reach-same m n (tree root) h = tree_nodes-same m n root h
+postings_reach-same : (m n : Records) (form : ListForm) → SameAt (postings_reach m form) m n → postings_reach n form ≡ postings_reach m form
+postings_reach-same m n (short ref) h = refl
+postings_reach-same m n (tree root) h = tree_nodes-same m n root h
 
-IsList-same : (m n : Records) (form : ListForm) → SameAt (list_reach m form) m n → IsList m form → IsList n form
-IsList-same m n (short ref) h list = subst (IsStoredList MOST_SHORT) (sym h.0) list
-IsList-same m n (tree root) h list =
+IsPostingList-same : (m n : Records) (form : ListForm) → SameAt (postings_reach m form) m n → IsPostingList m form → IsPostingList n form
+IsPostingList-same m n (short ref) h list = subst (IsStoredList MOST_SHORT) (sym h.0) list
+IsPostingList-same m n (tree root) h list =
     let same = tree_pairs-same m n root h in
     (IsTree-same nat_cmp by_number m n root h refl list.0, subst (λ ps. MOST_SHORT < length ps) (sym same) list.1, subst (AllByRecursion (λ (p : ℕ × ℕ). p.1 < 2 ^ 32)) (sym same) list.2)
 
@@ -107,39 +107,39 @@ module _ (kind : Kind) (type : ValueType) (m n : Records) (root : ℕ) (nodes : 
       ap (flat_map g) (tree_pairs-same m n root nodes)
       ∙ flat_map-same m n f f g (λ p s. items_reach-same kind m n p.1 s) (tree_pairs m root) rest
 
-  all_items-same : AllByRecursion (λ p. AreItems kind type m p.1) (tree_pairs m root) → AllByRecursion (λ p. AreItems kind type n p.1) (tree_pairs n root)
+  all_items-same : AllByRecursion (λ p. AreItemRecords kind type m p.1) (tree_pairs m root) → AllByRecursion (λ p. AreItemRecords kind type n p.1) (tree_pairs n root)
   all_items-same all =
-      let P : ℕ × ℕ → Type 0 = λ p. AreItems kind type m p.1 in
-      let Q : ℕ × ℕ → Type 0 = λ p. AreItems kind type n p.1 in
+      let P : ℕ × ℕ → Type 0 = λ p. AreItemRecords kind type m p.1 in
+      let Q : ℕ × ℕ → Type 0 = λ p. AreItemRecords kind type n p.1 in
       subst (AllByRecursion Q) (sym (tree_pairs-same m n root nodes))
-      (all-same m n (λ (p : ℕ × ℕ). items_reach kind p.1 (m p.1)) P Q (λ p s. AreItems-same kind type m n p.1 s) (tree_pairs m root) rest all)
+      (all-same m n (λ (p : ℕ × ℕ). items_reach kind p.1 (m p.1)) P Q (λ p s. AreItemRecords-same kind type m n p.1 s) (tree_pairs m root) rest all)
 
 -- and what a dictionary is read as
 module _ (type : ValueType) (m n : Records) (root : ℕ) (nodes : SameAt (tree_nodes m root) m n) (rest : SameAt (dictionary_reach m root) m n) where
   index_of-same : index_of type n root ≡ index_of type m root
   index_of-same =
-      let f : ℕ × ℕ → Value × List (ℕ × ℤ) = λ p. (value_at type m p.0, list_at m (form_of p.1)) in
-      let g : ℕ × ℕ → Value × List (ℕ × ℤ) = λ p. (value_at type n p.0, list_at n (form_of p.1)) in
+      let f : ℕ × ℕ → Value × List (ℕ × ℤ) = λ p. (stored_value type m p.0, postings_at m (list_form p.1)) in
+      let g : ℕ × ℕ → Value × List (ℕ × ℤ) = λ p. (stored_value type n p.0, postings_at n (list_form p.1)) in
       ap (map g) (tree_pairs-same m n root nodes)
-      ∙ map-same m n (λ (p : ℕ × ℕ). p.0 ∷ list_reach m (form_of p.1)) f g (λ p s. ap (λ ws. (value_of type ws, list_at n (form_of p.1))) s.0 ∙ ap (λ list. (value_at type m p.0, list)) (list_at-same m n (form_of p.1) s.1)) (tree_pairs m root) rest
+      ∙ map-same m n (λ (p : ℕ × ℕ). p.0 ∷ postings_reach m (list_form p.1)) f g (λ p s. ap (λ ws. (value_of type ws, postings_at n (list_form p.1))) s.0 ∙ ap (λ list. (stored_value type m p.0, list)) (postings_at-same m n (list_form p.1) s.1)) (tree_pairs m root) rest
 
-  keys_read-same : map (λ p. value_at type n p.0) (tree_pairs m root) ≡ map (λ p. value_at type m p.0) (tree_pairs m root)
+  keys_read-same : map (λ p. stored_value type n p.0) (tree_pairs m root) ≡ map (λ p. stored_value type m p.0) (tree_pairs m root)
   keys_read-same =
-      let f : ℕ × ℕ → Value = λ p. value_at type m p.0 in
-      let g : ℕ × ℕ → Value = λ p. value_at type n p.0 in
-      map-same m n (λ (p : ℕ × ℕ). p.0 ∷ list_reach m (form_of p.1)) f g (λ p s. ap (value_of type) s.0) (tree_pairs m root) rest
+      let f : ℕ × ℕ → Value = λ p. stored_value type m p.0 in
+      let g : ℕ × ℕ → Value = λ p. stored_value type n p.0 in
+      map-same m n (λ (p : ℕ × ℕ). p.0 ∷ postings_reach m (list_form p.1)) f g (λ p s. ap (value_of type) s.0) (tree_pairs m root) rest
 
   dictionary_reach-same : dictionary_reach n root ≡ dictionary_reach m root
   dictionary_reach-same =
-      let f : ℕ × ℕ → List ℕ = λ p. p.0 ∷ list_reach m (form_of p.1) in
-      let g : ℕ × ℕ → List ℕ = λ p. p.0 ∷ list_reach n (form_of p.1) in
+      let f : ℕ × ℕ → List ℕ = λ p. p.0 ∷ postings_reach m (list_form p.1) in
+      let g : ℕ × ℕ → List ℕ = λ p. p.0 ∷ postings_reach n (list_form p.1) in
       ap (flat_map g) (tree_pairs-same m n root nodes)
-      ∙ flat_map-same m n f f g (λ p s. ap (λ rs. p.0 ∷ rs) (list_reach-same m n (form_of p.1) s.1)) (tree_pairs m root) rest
+      ∙ flat_map-same m n f f g (λ p s. ap (λ rs. p.0 ∷ rs) (postings_reach-same m n (list_form p.1) s.1)) (tree_pairs m root) rest
 
-  entries-same : AllByRecursion (IsEntryOf type m) (tree_pairs m root) → AllByRecursion (IsEntryOf type n) (tree_pairs n root)
+  entries-same : AllByRecursion (IsDictionaryEntry type m) (tree_pairs m root) → AllByRecursion (IsDictionaryEntry type n) (tree_pairs n root)
   entries-same all =
-      subst (AllByRecursion (IsEntryOf type n)) (sym (tree_pairs-same m n root nodes))
-      (all-same m n (λ (p : ℕ × ℕ). p.0 ∷ list_reach m (form_of p.1)) (IsEntryOf type m) (IsEntryOf type n) (λ p s entry. (subst (IsValueRecord type) (sym s.0) entry.0, IsList-same m n (form_of p.1) s.1 entry.1)) (tree_pairs m root) rest all)
+      subst (AllByRecursion (IsDictionaryEntry type n)) (sym (tree_pairs-same m n root nodes))
+      (all-same m n (λ (p : ℕ × ℕ). p.0 ∷ postings_reach m (list_form p.1)) (IsDictionaryEntry type m) (IsDictionaryEntry type n) (λ p s entry. (subst (IsValueRecord type) (sym s.0) entry.0, IsPostingList-same m n (list_form p.1) s.1 entry.1)) (tree_pairs m root) rest all)
 
 -- an attribute by its two trees
 module _ (kind : Kind) (type : ValueType) (m n : Records) (documents dictionary : ℕ) (same : SameAt (trees_reach kind m documents dictionary) m n) where
@@ -176,7 +176,7 @@ module _ (kind : Kind) (type : ValueType) (m n : Records) (documents dictionary 
         forms = record {
           documents_tree = IsTree-same nat_cmp by_number m n documents documents_nodes refl lawful.forms.documents_tree;
           items = all_items-same kind type m n documents documents_nodes documents_rest lawful.forms.items;
-          dictionary_tree = IsTree-same value_cmp (value_at type) m n dictionary dictionary_nodes (keys_read-same type m n dictionary dictionary_nodes dictionary_rest) lawful.forms.dictionary_tree;
+          dictionary_tree = IsTree-same value_cmp (stored_value type) m n dictionary dictionary_nodes (keys_read-same type m n dictionary dictionary_nodes dictionary_rest) lawful.forms.dictionary_tree;
           entries = entries-same type m n dictionary dictionary_nodes dictionary_rest lawful.forms.entries;
         };
         column = subst (IsLawfulColumn kind) (sym column) lawful.column;
@@ -207,13 +207,13 @@ module _ (type : ValueType) (m : Records) where
   values_there [] all = tt
   values_there (e ∷ list) all = (value_there type (m e.0) all.0, values_there list all.1)
 
-  items_there : (kind : Kind) (ref : ℕ) → AreItems kind type m ref → AllThere (items_reach kind ref (m ref)) m
+  items_there : (kind : Kind) (ref : ℕ) → AreItemRecords kind type m ref → AllThere (items_reach kind ref (m ref)) m
   items_there kind zero items = tt
   items_there Single (suc ref) items = (value_there type (m (suc ref)) items.1.0, tt)
   items_there Array (suc ref) items = (list_there most_items (m (suc ref)) items.0, values_there (weighted Array (suc ref) (m (suc ref))) items.1)
   items_there WeightedSet (suc ref) items = (list_there most_items (m (suc ref)) items.0, values_there (weighted WeightedSet (suc ref) (m (suc ref))) items.1)
 
-  postings_there : (form : ListForm) → IsList m form → AllThere (list_reach m form) m
+  postings_there : (form : ListForm) → IsPostingList m form → AllThere (postings_reach m form) m
   postings_there (short ref) list = (list_there MOST_SHORT (m ref) list, tt)
   postings_there (tree root) list = tree_there m root list.0.node
 
@@ -222,18 +222,18 @@ module _ (type : ValueType) (m : Records) where
       there-both m (tree_nodes m documents ++ documents_reach kind m documents) (tree_nodes m dictionary ++ dictionary_reach m dictionary)
       (there-both m (tree_nodes m documents) (documents_reach kind m documents)
       (tree_there m documents forms.documents_tree.node)
-      (there-each m (λ (p : ℕ × ℕ). AreItems kind type m p.1) (λ (p : ℕ × ℕ). items_reach kind p.1 (m p.1)) (λ p items. items_there kind p.1 items) (tree_pairs m documents) forms.items))
+      (there-each m (λ (p : ℕ × ℕ). AreItemRecords kind type m p.1) (λ (p : ℕ × ℕ). items_reach kind p.1 (m p.1)) (λ p items. items_there kind p.1 items) (tree_pairs m documents) forms.items))
       (there-both m (tree_nodes m dictionary) (dictionary_reach m dictionary)
       (tree_there m dictionary forms.dictionary_tree.node)
-      (there-each m (IsEntryOf type m) (λ (p : ℕ × ℕ). p.0 ∷ list_reach m (form_of p.1)) (λ p entry. (value_there type (m p.0) entry.0, postings_there (form_of p.1) entry.1)) (tree_pairs m dictionary) forms.entries))
+      (there-each m (IsDictionaryEntry type m) (λ (p : ℕ × ℕ). p.0 ∷ postings_reach m (list_form p.1)) (λ p entry. (value_there type (m p.0) entry.0, postings_there (list_form p.1) entry.1)) (tree_pairs m dictionary) forms.entries))
 
 pub attr_empty_reaches : (shape : ℕ) (m : Records) → attr_reaches shape m 0 ≡ []
 attr_empty_reaches shape m = refl
 
-pub attr_empty_lawful : (shape : ℕ) (m : Records) → IsLawful shape m 0
+pub attr_empty_lawful : (shape : ℕ) (m : Records) → IsLawfulImage shape m 0
 attr_empty_lawful shape m = tt
 
-pub attr_present : (shape : ℕ) (m : Records) (root : ℕ) → IsLawful shape m root → AllThere (attr_reaches shape m root) m
+pub attr_present : (shape : ℕ) (m : Records) (root : ℕ) → IsLawfulImage shape m root → AllThere (attr_reaches shape m root) m
 attr_present shape m zero lawful = tt
 attr_present shape m (suc root) lawful = (
   let size = lawful.root_record.size in omega arith,
@@ -247,7 +247,7 @@ attr_reaches-same shape m n (suc root) h =
     ∙ ap (λ rs. suc root ∷ rs) (trees_reach-same (kind_of_shape shape) (type_of_shape shape) m n (documents_at m (suc root)) (dictionary_at m (suc root)) h.1)
 
 pub attr_stays : (shape : ℕ) (m n : Records) (root : ℕ) → SameAt (attr_reaches shape m root) m n
-    → IsLawful shape m root → IsLawful shape n root × (attr_reaches shape n root ≡ attr_reaches shape m root)
+    → IsLawfulImage shape m root → IsLawfulImage shape n root × (attr_reaches shape n root ≡ attr_reaches shape m root)
 attr_stays shape m n zero h lawful = (tt, refl)
 attr_stays shape m n (suc root) h lawful =
     let reach = attr_reaches-same shape m n (suc root) h in

@@ -13,8 +13,8 @@ use Rattle.image_base.specs.Records.{Records}
 use Rattle.tree_images.specs.Trees.{tree_pairs, by_number, IsTree}
 use Rattle.attr_images.specs.Columns.{Column, column_values, documents_with, IsLawfulColumn, HasValues, HasLists}
 use Rattle.attr_images.specs.Documents.{items_at, column_at}
-use Rattle.attr_images.specs.Postings.{ListForm, short, tree, form_of, list_at, IsList, IsEntryOf}
-use Rattle.attr_images.specs.Values.{value_at}
+use Rattle.attr_images.specs.Postings.{ListForm, short, tree, list_form, postings_at, IsPostingList, IsDictionaryEntry}
+use Rattle.attr_images.specs.Values.{stored_value}
 use Rattle.attr_images.specs.Words.{stored_items, unpacked, weight_of}
 use Rattle.attr_types.specs.Lawful.{IsDocNumber, IsLawfulItems}
 use Rattle.attr_types.specs.ProofsForOrder.{value_cmp_exact}
@@ -61,24 +61,24 @@ module _ (kind : Kind) (type : ValueType) (m : Records) (documents : ℕ) where
       → AllByRecursion (λ (e : ℕ × List Item). IsDocNumber e.0 × IsLawfulItems kind e.1) (column_at kind type m documents)
   lawful_rows lawful = rows_both (column_at kind type m documents) lawful.numbers lawful.items
 
-pub index_keys : (type : ValueType) (m : Records) (ps : List (ℕ × ℕ)) → keys_of (map (λ (p : ℕ × ℕ). (value_at type m p.0, list_at m (form_of p.1))) ps) ≡ map (λ (p : ℕ × ℕ). value_at type m p.0) ps
+pub index_keys : (type : ValueType) (m : Records) (ps : List (ℕ × ℕ)) → keys_of (map (λ (p : ℕ × ℕ). (stored_value type m p.0, postings_at m (list_form p.1))) ps) ≡ map (λ (p : ℕ × ℕ). stored_value type m p.0) ps
 index_keys type m [] = refl
-index_keys type m (p ∷ ps) = ap (λ vs. value_at type m p.0 ∷ vs) (index_keys type m ps)
+index_keys type m (p ∷ ps) = ap (λ vs. stored_value type m p.0 ∷ vs) (index_keys type m ps)
 
 module _ (type : ValueType) (m : Records) (column : Column) where
   abbrev IsRight : ℕ × ℕ → Type 0
-  IsRight p = list_at m (form_of p.1) ≡ documents_with (value_at type m p.0) column
+  IsRight p = postings_at m (list_form p.1) ≡ documents_with (stored_value type m p.0) column
 
-  pub to_lists : (ps : List (ℕ × ℕ)) → AllByRecursion IsRight ps → HasLists column (map (λ (p : ℕ × ℕ). (value_at type m p.0, list_at m (form_of p.1))) ps)
+  pub to_lists : (ps : List (ℕ × ℕ)) → AllByRecursion IsRight ps → HasLists column (map (λ (p : ℕ × ℕ). (stored_value type m p.0, postings_at m (list_form p.1))) ps)
   to_lists [] all = tt
   to_lists (p ∷ ps) all = (all.0, to_lists ps all.1)
 
-  pub from_lists : (ps : List (ℕ × ℕ)) → HasLists column (map (λ (p : ℕ × ℕ). (value_at type m p.0, list_at m (form_of p.1))) ps) → AllByRecursion IsRight ps
+  pub from_lists : (ps : List (ℕ × ℕ)) → HasLists column (map (λ (p : ℕ × ℕ). (stored_value type m p.0, postings_at m (list_form p.1))) ps) → AllByRecursion IsRight ps
   from_lists [] all = tt
   from_lists (p ∷ ps) all = (all.0, from_lists ps all.1)
 
   -- a list has some document
-  some_posting : (form : ListForm) → IsList m form → 0 < length (list_at m form)
+  some_posting : (form : ListForm) → IsPostingList m form → 0 < length (postings_at m form)
   some_posting (short ref) list = let size = length-map (stored_items (m ref)) unpacked in let some = list.some in omega arith
   some_posting (tree root) list =
       let weigh : ℕ × ℕ → ℕ × ℤ = λ p. (p.0, weight_of p.1) in
@@ -116,16 +116,16 @@ module _ (P : Value → Type 0) where
   all_column_values (e ∷ column) all = AllByRecursion-append P (values_of e.1) (column_values column) (all_values e.1 all.0) (all_column_values column all.1)
 
 module _ (type : ValueType) (m : Records) (column : Column) where
-  all_in_column : (ps : List (ℕ × ℕ)) → AllByRecursion (IsEntryOf type m) ps → AllByRecursion (IsRight type m column) ps → AllByRecursion (Contains (column_values column)) (map (λ (p : ℕ × ℕ). value_at type m p.0) ps)
+  all_in_column : (ps : List (ℕ × ℕ)) → AllByRecursion (IsDictionaryEntry type m) ps → AllByRecursion (IsRight type m column) ps → AllByRecursion (Contains (column_values column)) (map (λ (p : ℕ × ℕ). stored_value type m p.0) ps)
   all_in_column [] entries right = tt
   all_in_column (p ∷ ps) entries right =
-      (value_of_some (value_at type m p.0) column (subst (λ (list : List (ℕ × ℤ)). 0 < length list) right.0 (some_posting type m column (form_of p.1) entries.0.1)), all_in_column ps entries.1 right.1)
+      (value_of_some (stored_value type m p.0) column (subst (λ (list : List (ℕ × ℤ)). 0 < length list) right.0 (some_posting type m column (list_form p.1) entries.0.1)), all_in_column ps entries.1 right.1)
 
-  pub has_values : (ps : List (ℕ × ℕ)) → AllByRecursion (IsEntryOf type m) ps → AllByRecursion (IsRight type m column) ps
-      → AllByRecursion (λ (e : ℕ × List Item). AllByRecursion (λ (item : Item). Contains (map (λ (p : ℕ × ℕ). value_at type m p.0) ps) item.value) e.1) column
-      → HasValues column (map (λ (p : ℕ × ℕ). (value_at type m p.0, list_at m (form_of p.1))) ps)
+  pub has_values : (ps : List (ℕ × ℕ)) → AllByRecursion (IsDictionaryEntry type m) ps → AllByRecursion (IsRight type m column) ps
+      → AllByRecursion (λ (e : ℕ × List Item). AllByRecursion (λ (item : Item). Contains (map (λ (p : ℕ × ℕ). stored_value type m p.0) ps) item.value) e.1) column
+      → HasValues column (map (λ (p : ℕ × ℕ). (stored_value type m p.0, postings_at m (list_form p.1))) ps)
   has_values ps entries right covered value =
-      let vs : List Value = map (λ (p : ℕ × ℕ). value_at type m p.0) ps in
+      let vs : List Value = map (λ (p : ℕ × ℕ). stored_value type m p.0) ps in
       let keys = index_keys type m ps in (
         λ among. All-contains (Contains (column_values column)) vs value (All-from_recursion (Contains (column_values column)) vs (all_in_column ps entries right)) (subst (λ ks. Contains ks value) keys among),
         λ among. subst (λ ks. Contains ks value) (sym keys) (All-contains (Contains vs) (column_values column) value (All-from_recursion (Contains vs) (column_values column) (all_column_values (Contains vs) column covered)) among),

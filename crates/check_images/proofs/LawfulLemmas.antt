@@ -4,13 +4,13 @@ use Rattle.std.specs.Prelude.{slice_index}
 use Rattle.image_base.specs.Records.{Records}
 use Rattle.attr_images.proofs.ImageLemmas.{shape_tells}
 use Rattle.attr_images.specs.Attributes.{IsLawfulAttribute}
-use Rattle.attr_images.specs.Images.{documents_at, dictionary_at, IsRootRecord, IsLawful}
+use Rattle.attr_images.specs.Images.{documents_at, dictionary_at, IsRootRecord, IsLawfulImage}
 use Rattle.attr_images.specs.Shapes.{shape_of, kind_of_shape, type_of_shape}
 use Rattle.attr_types.specs.declared.kind.Kind.{Kind}
 use Rattle.attr_types.specs.declared.kind.ValueType.{ValueType}
 
 lawful_at : (kind : Kind) (type : ValueType) (shape : ℕ) (m : Records) (root : ℕ) → kind_of_shape shape ≡ kind → type_of_shape shape ≡ type → 0 < root
-    → IsRootRecord (m root) → IsLawfulAttribute kind type m (documents_at m root) (dictionary_at m root) → IsLawful shape m root
+    → IsRootRecord (m root) → IsLawfulAttribute kind type m (documents_at m root) (dictionary_at m root) → IsLawfulImage shape m root
 lawful_at kind type shape m zero k t some form attribute = absurd (omega arith)
 lawful_at kind type shape m (suc ref) k t some form attribute =
     let documents = documents_at m (suc ref) in
@@ -20,7 +20,7 @@ lawful_at kind type shape m (suc ref) k t some form attribute =
       attribute = subst (λ x. IsLawfulAttribute (kind_of_shape shape) x m documents dictionary) (sym t) (subst (λ x. IsLawfulAttribute x type m documents dictionary) (sym k) attribute);
     }
 
-parts_at : (kind : Kind) (type : ValueType) (shape : ℕ) (m : Records) (root : ℕ) → kind_of_shape shape ≡ kind → type_of_shape shape ≡ type → 0 < root → IsLawful shape m root
+parts_at : (kind : Kind) (type : ValueType) (shape : ℕ) (m : Records) (root : ℕ) → kind_of_shape shape ≡ kind → type_of_shape shape ≡ type → 0 < root → IsLawfulImage shape m root
     → IsRootRecord (m root) × IsLawfulAttribute kind type m (documents_at m root) (dictionary_at m root)
 parts_at kind type shape m zero k t some lawful = absurd (omega arith)
 parts_at kind type shape m (suc ref) k t some lawful =
@@ -45,16 +45,16 @@ module _ (kind : Kind) (type : ValueType) (m : Records) (root : ℕ) (some : 0 <
   dictionary_read : dictionary ≡ dictionary_at m root
   dictionary_read = second ∙ ap (λ ws. slice_index ws 2) at ∙ sym (dictionary_is m root some)
 
-  pub lawful_image : IsRootRecord words → IsLawfulAttribute kind type m documents dictionary → IsLawful (shape_of kind type) m root
+  pub lawful_image : IsRootRecord words → IsLawfulAttribute kind type m documents dictionary → IsLawfulImage (shape_of kind type) m root
   lawful_image form attribute =
       lawful_at kind type (shape_of kind type) m root (shape_tells kind type).0 (shape_tells kind type).1 some
       (subst IsRootRecord at form)
       (subst (λ d. IsLawfulAttribute kind type m (documents_at m root) d) dictionary_read (subst (λ d. IsLawfulAttribute kind type m d dictionary) documents_read attribute))
 
-  pub image_attribute : IsLawful (shape_of kind type) m root → IsLawfulAttribute kind type m documents dictionary
+  pub image_attribute : IsLawfulImage (shape_of kind type) m root → IsLawfulAttribute kind type m documents dictionary
   image_attribute lawful =
       let parts = parts_at kind type (shape_of kind type) m root (shape_tells kind type).0 (shape_tells kind type).1 some lawful in
       subst (λ d. IsLawfulAttribute kind type m documents d) (sym dictionary_read) (subst (λ d. IsLawfulAttribute kind type m d (dictionary_at m root)) (sym documents_read) parts.1)
 
-pub image_record : (kind : Kind) (type : ValueType) (m : Records) (root : ℕ) → 0 < root → IsLawful (shape_of kind type) m root → IsRootRecord (m root)
+pub image_record : (kind : Kind) (type : ValueType) (m : Records) (root : ℕ) → 0 < root → IsLawfulImage (shape_of kind type) m root → IsRootRecord (m root)
 image_record kind type m root some lawful = (parts_at kind type (shape_of kind type) m root (shape_tells kind type).0 (shape_tells kind type).1 some lawful).0

@@ -2,12 +2,12 @@ ghost use Rattle.std.specs.Prelude.{◌≡◌, ℕ, map, option_map, OnOk, IfOk,
 ghost use Rattle.std.specs.List.{find, AllByRecursion};
 ghost use Rattle.std.specs.Ordering.{is_eq};
 ghost use Rattle.attr_images.specs.Columns.{documents_with};
-ghost use Rattle.attr_images.specs.Postings.{form_of, list_at, IsEntryOf};
-ghost use Rattle.attr_images.specs.Values.{value_at};
+ghost use Rattle.attr_images.specs.Postings.{list_form, postings_at, IsDictionaryEntry};
+ghost use Rattle.attr_images.specs.Values.{stored_value};
 ghost use Rattle.attr_types.specs.Value.{value_cmp};
 ghost use Rattle.attr_types.specs.declared.items.Item.{Item};
 ghost use Rattle.image_base.specs.Maps.{seen};
-ghost use Rattle.check_trees.specs.Refusals.{Refuses};
+ghost use Rattle.check_trees.specs.Refutations.{Refutes};
 
 use crate::postings::read_postings;
 use crate::values::read_value;
@@ -55,11 +55,11 @@ fn read_entry(
     reference: u64,
     word: u64,
 ) -> Result<Value, CheckFault>
-    ensures entry { OnOk result (IsEntryOf value_type (seen records.now) (reference, word)) }
-    ensures list { OnOk result (list_at (seen records.now) (form_of word) ≡ documents_with (value_at value_type (seen records.now) reference) column.now) }
-    ensures value { IfOk result (λ value. value ≡ value_at value_type (seen records.now) reference) }
-    ensures exact { IfErr result (Refuses (IsEntryOf value_type (seen records.now) (reference, word)
-        × (list_at (seen records.now) (form_of word) ≡ documents_with (value_at value_type (seen records.now) reference) column.now))) }
+    ensures entry { OnOk result (IsDictionaryEntry value_type (seen records.now) (reference, word)) }
+    ensures list { OnOk result (postings_at (seen records.now) (list_form word) ≡ documents_with (stored_value value_type (seen records.now) reference) column.now) }
+    ensures value { IfOk result (λ value. value ≡ stored_value value_type (seen records.now) reference) }
+    ensures exact { IfErr result (Refutes (IsDictionaryEntry value_type (seen records.now) (reference, word)
+        × (postings_at (seen records.now) (list_form word) ≡ documents_with (stored_value value_type (seen records.now) reference) column.now))) }
 {
     let value = match read_value(alloc, value_type, words_at(records, reference))? {
         Some(value) => value,
@@ -81,13 +81,13 @@ pub fn read_dictionary(
     column: &[(u64, Items)],
     pairs: &[(u64, u64)],
 ) -> Result<Vec<Value>, CheckFault>
-    ensures entries { OnOk result (AllByRecursion (IsEntryOf value_type (seen records.now)) pairs.now) }
+    ensures entries { OnOk result (AllByRecursion (IsDictionaryEntry value_type (seen records.now)) pairs.now) }
     ensures lists { OnOk result (AllByRecursion (λ (p : ℕ × ℕ).
-        list_at (seen records.now) (form_of p.1) ≡ documents_with (value_at value_type (seen records.now) p.0) column.now) pairs.now) }
-    ensures values { IfOk result (λ values. values.items ≡ map (λ (p : ℕ × ℕ). value_at value_type (seen records.now) p.0) pairs.now) }
-    ensures exact { IfErr result (Refuses (AllByRecursion (IsEntryOf value_type (seen records.now)) pairs.now
+        postings_at (seen records.now) (list_form p.1) ≡ documents_with (stored_value value_type (seen records.now) p.0) column.now) pairs.now) }
+    ensures values { IfOk result (λ values. values.items ≡ map (λ (p : ℕ × ℕ). stored_value value_type (seen records.now) p.0) pairs.now) }
+    ensures exact { IfErr result (Refutes (AllByRecursion (IsDictionaryEntry value_type (seen records.now)) pairs.now
         × AllByRecursion (λ (p : ℕ × ℕ).
-        list_at (seen records.now) (form_of p.1) ≡ documents_with (value_at value_type (seen records.now) p.0) column.now) pairs.now)) }
+        postings_at (seen records.now) (list_form p.1) ≡ documents_with (stored_value value_type (seen records.now) p.0) column.now) pairs.now)) }
 {
     let mut values = Vec::new(alloc);
     for pair in pairs {

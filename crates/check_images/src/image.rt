@@ -4,14 +4,14 @@ ghost use Rattle.std.specs.Ordering.{nat_cmp};
 ghost use Rattle.tree_images.specs.Trees.{tree_pairs, by_number, IsTree};
 ghost use Rattle.attr_images.specs.Attributes.{IsLawfulAttribute};
 ghost use Rattle.attr_images.specs.Columns.{documents_with, table_of_column, IsLawfulColumn};
-ghost use Rattle.attr_images.specs.Documents.{AreItems, column_at};
-ghost use Rattle.attr_images.specs.Images.{table_of, IsRootRecord, IsLawful};
-ghost use Rattle.attr_images.specs.Postings.{form_of, list_at, IsEntryOf};
+ghost use Rattle.attr_images.specs.Documents.{AreItemRecords, column_at};
+ghost use Rattle.attr_images.specs.Images.{table_of, IsRootRecord, IsLawfulImage};
+ghost use Rattle.attr_images.specs.Postings.{list_form, postings_at, IsDictionaryEntry};
 ghost use Rattle.attr_images.specs.Shapes.{shape_of};
-ghost use Rattle.attr_images.specs.Values.{value_at};
+ghost use Rattle.attr_images.specs.Values.{stored_value};
 ghost use Rattle.attr_types.specs.Value.{value_cmp};
 ghost use Rattle.image_base.specs.Maps.{seen};
-ghost use Rattle.check_trees.specs.Refusals.{Refuses};
+ghost use Rattle.check_trees.specs.Refutations.{Refutes};
 
 use crate::coverage::have_all_values;
 use crate::dictionary::read_dictionary;
@@ -33,11 +33,11 @@ fn read_column(
     documents: u64,
 ) -> Result<Vec<(u64, Items)>, CheckFault>
     ensures tree { OnOk result (IsTree nat_cmp by_number (seen records.now) documents) }
-    ensures items { OnOk result (AllByRecursion (λ (p : ℕ × ℕ). AreItems kind value_type (seen records.now) p.1) (tree_pairs (seen records.now) documents)) }
+    ensures items { OnOk result (AllByRecursion (λ (p : ℕ × ℕ). AreItemRecords kind value_type (seen records.now) p.1) (tree_pairs (seen records.now) documents)) }
     ensures lawful { OnOk result (IsLawfulColumn kind (column_at kind value_type (seen records.now) documents)) }
     ensures column { IfOk result (λ column. column.items ≡ column_at kind value_type (seen records.now) documents) }
-    ensures exact { IfErr result (Refuses (IsTree nat_cmp by_number (seen records.now) documents
-        × AllByRecursion (λ (p : ℕ × ℕ). AreItems kind value_type (seen records.now) p.1) (tree_pairs (seen records.now) documents)
+    ensures exact { IfErr result (Refutes (IsTree nat_cmp by_number (seen records.now) documents
+        × AllByRecursion (λ (p : ℕ × ℕ). AreItemRecords kind value_type (seen records.now) p.1) (tree_pairs (seen records.now) documents)
         × IsLawfulColumn kind (column_at kind value_type (seen records.now) documents))) }
 {
     let pairs = check_tree(alloc, Keys::Numbers, records, documents)?;
@@ -56,15 +56,15 @@ fn read_values(
     column: &[(u64, Items)],
     dictionary: u64,
 ) -> Result<Vec<Value>, CheckFault>
-    ensures tree { OnOk result (IsTree value_cmp (value_at value_type) (seen records.now) dictionary) }
-    ensures entries { OnOk result (AllByRecursion (IsEntryOf value_type (seen records.now)) (tree_pairs (seen records.now) dictionary)) }
+    ensures tree { OnOk result (IsTree value_cmp (stored_value value_type) (seen records.now) dictionary) }
+    ensures entries { OnOk result (AllByRecursion (IsDictionaryEntry value_type (seen records.now)) (tree_pairs (seen records.now) dictionary)) }
     ensures lists { OnOk result (AllByRecursion (λ (p : ℕ × ℕ).
-        list_at (seen records.now) (form_of p.1) ≡ documents_with (value_at value_type (seen records.now) p.0) column.now) (tree_pairs (seen records.now) dictionary)) }
-    ensures values { IfOk result (λ values. values.items ≡ map (λ (p : ℕ × ℕ). value_at value_type (seen records.now) p.0) (tree_pairs (seen records.now) dictionary)) }
-    ensures exact { IfErr result (Refuses (IsTree value_cmp (value_at value_type) (seen records.now) dictionary
-        × AllByRecursion (IsEntryOf value_type (seen records.now)) (tree_pairs (seen records.now) dictionary)
+        postings_at (seen records.now) (list_form p.1) ≡ documents_with (stored_value value_type (seen records.now) p.0) column.now) (tree_pairs (seen records.now) dictionary)) }
+    ensures values { IfOk result (λ values. values.items ≡ map (λ (p : ℕ × ℕ). stored_value value_type (seen records.now) p.0) (tree_pairs (seen records.now) dictionary)) }
+    ensures exact { IfErr result (Refutes (IsTree value_cmp (stored_value value_type) (seen records.now) dictionary
+        × AllByRecursion (IsDictionaryEntry value_type (seen records.now)) (tree_pairs (seen records.now) dictionary)
         × AllByRecursion (λ (p : ℕ × ℕ).
-        list_at (seen records.now) (form_of p.1) ≡ documents_with (value_at value_type (seen records.now) p.0) column.now) (tree_pairs (seen records.now) dictionary))) }
+        postings_at (seen records.now) (list_form p.1) ≡ documents_with (stored_value value_type (seen records.now) p.0) column.now) (tree_pairs (seen records.now) dictionary))) }
 {
     let pairs = check_tree(alloc, Keys::Values(value_type), records, dictionary)?;
     read_dictionary(alloc, value_type, records, column, pairs.as_slice())
@@ -81,7 +81,7 @@ fn check_attribute(
 ) -> Result<Vec<(u64, Items)>, CheckFault>
     ensures lawful { OnOk result (IsLawfulAttribute kind value_type (seen records.now) documents dictionary) }
     ensures column { IfOk result (λ column. column.items ≡ column_at kind value_type (seen records.now) documents) }
-    ensures exact { IfErr result (Refuses (IsLawfulAttribute kind value_type (seen records.now) documents dictionary)) }
+    ensures exact { IfErr result (Refutes (IsLawfulAttribute kind value_type (seen records.now) documents dictionary)) }
 {
     let column = read_column(alloc, kind, value_type, records, documents)?;
     let values = read_values(alloc, value_type, records, column.as_slice(), dictionary)?;
@@ -119,9 +119,9 @@ pub fn check_image(
     records: &BTreeMap<u32, Vec<u64>>,
     root: u64,
 ) -> Result<Vec<(u64, FieldItems)>, CheckFault>
-    ensures lawful { OnOk result (IsLawful (shape_of kind value_type) (seen records.now) root) }
+    ensures lawful { OnOk result (IsLawfulImage (shape_of kind value_type) (seen records.now) root) }
     ensures table { IfOk result (λ table. table.items ≡ table_of kind value_type (seen records.now) root) }
-    ensures exact { IfErr result (Refuses (IsLawful (shape_of kind value_type) (seen records.now) root)) }
+    ensures exact { IfErr result (Refutes (IsLawfulImage (shape_of kind value_type) (seen records.now) root)) }
 {
     if root == 0 {
         return Ok(Vec::new(alloc));

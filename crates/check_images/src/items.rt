@@ -1,9 +1,9 @@
 ghost use Rattle.std.specs.Prelude.{◌≡◌, ◌≤◌, ℕ, ℤ, pos, map, IfOk, OnOk, IfErr};
 ghost use Rattle.std.specs.List.{AllByRecursion};
-ghost use Rattle.attr_images.specs.Documents.{weighted, IsItemsRecord, items_at, AreItems};
-ghost use Rattle.attr_images.specs.Values.{value_at, IsValueRecord};
+ghost use Rattle.attr_images.specs.Documents.{weighted, IsItemsRecord, items_at, AreItemRecords};
+ghost use Rattle.attr_images.specs.Values.{stored_value, IsValueRecord};
 ghost use Rattle.image_base.specs.Maps.{seen};
-ghost use Rattle.check_trees.specs.Refusals.{Refuses};
+ghost use Rattle.check_trees.specs.Refutations.{Refutes};
 ghost use Rattle.check_images.specs.Told.{Tells};
 ghost use Rattle.check_images.specs.Weights.{weights};
 
@@ -61,7 +61,7 @@ fn read_values(
     list: &[(u64, i32)],
 ) -> Result<Option<Items>, AllocError>
     ensures { IfOk result (Tells (AllByRecursion (λ (e : ℕ × ℤ). IsValueRecord value_type (seen records.now e.0)) list.now)
-        (λ items. items ≡ map (λ (e : ℕ × ℤ). record { value = value_at value_type (seen records.now) e.0; weight = e.1 }) list.now)) }
+        (λ items. items ≡ map (λ (e : ℕ × ℤ). record { value = stored_value value_type (seen records.now) e.0; weight = e.1 }) list.now)) }
 {
     let mut items = Items::new(alloc);
     for entry in list {
@@ -84,7 +84,7 @@ fn read_items(
     records: &BTreeMap<u32, Vec<u64>>,
     reference: u64,
 ) -> Result<Option<Items>, AllocError>
-    ensures { IfOk result (Tells (AreItems kind value_type (seen records.now) reference)
+    ensures { IfOk result (Tells (AreItemRecords kind value_type (seen records.now) reference)
         (λ items. items ≡ items_at kind value_type (seen records.now) reference)) }
 {
     match weigh(alloc, kind, reference, words_at(records, reference))? {
@@ -101,10 +101,10 @@ pub fn read_documents(
     records: &BTreeMap<u32, Vec<u64>>,
     pairs: &[(u64, u64)],
 ) -> Result<Vec<(u64, Items)>, CheckFault>
-    ensures items { OnOk result (AllByRecursion (λ (p : ℕ × ℕ). AreItems kind value_type (seen records.now) p.1) pairs.now) }
+    ensures items { OnOk result (AllByRecursion (λ (p : ℕ × ℕ). AreItemRecords kind value_type (seen records.now) p.1) pairs.now) }
     ensures column { IfOk result (λ column. column.items
         ≡ map (λ (p : ℕ × ℕ). (p.0, items_at kind value_type (seen records.now) p.1)) pairs.now) }
-    ensures exact { IfErr result (Refuses (AllByRecursion (λ (p : ℕ × ℕ). AreItems kind value_type (seen records.now) p.1) pairs.now)) }
+    ensures exact { IfErr result (Refutes (AllByRecursion (λ (p : ℕ × ℕ). AreItemRecords kind value_type (seen records.now) p.1) pairs.now)) }
 {
     let mut column = Vec::new(alloc);
     for pair in pairs {

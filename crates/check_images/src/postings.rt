@@ -1,9 +1,9 @@
 ghost use Rattle.std.specs.Prelude.{◌≡◌, ◌<◌, ◌^◌, ℕ, map, OnOk, IfOk, IfErr};
 ghost use Rattle.std.specs.List.{AllByRecursion};
-ghost use Rattle.attr_images.specs.Postings.{form_of, tree, list_at, IsList};
+ghost use Rattle.attr_images.specs.Postings.{list_form, tree, postings_at, IsPostingList};
 ghost use Rattle.attr_images.specs.Words.{weight_of};
 ghost use Rattle.image_base.specs.Maps.{seen};
-ghost use Rattle.check_trees.specs.Refusals.{Refuses};
+ghost use Rattle.check_trees.specs.Refutations.{Refutes};
 ghost use Rattle.check_images.specs.Told.{Tells};
 
 use crate::words::{read_list, unpack_all};
@@ -34,9 +34,9 @@ fn read_tree(
     records: &BTreeMap<u32, Vec<u64>>,
     root: u64,
 ) -> Result<Vec<(u64, i32)>, CheckFault>
-    ensures form { OnOk result (IsList (seen records.now) (tree root)) }
-    ensures list { IfOk result (λ list. list.items ≡ list_at (seen records.now) (tree root)) }
-    ensures exact { IfErr result (Refuses (IsList (seen records.now) (tree root))) }
+    ensures form { OnOk result (IsPostingList (seen records.now) (tree root)) }
+    ensures list { IfOk result (λ list. list.items ≡ postings_at (seen records.now) (tree root)) }
+    ensures exact { IfErr result (Refutes (IsPostingList (seen records.now) (tree root))) }
 {
     let pairs = check_tree(alloc, Keys::Numbers, records, root)?;
     if pairs.len() <= MOST_SHORT {
@@ -54,9 +54,9 @@ pub fn read_postings(
     records: &BTreeMap<u32, Vec<u64>>,
     word: u64,
 ) -> Result<Vec<(u64, i32)>, CheckFault>
-    ensures form { OnOk result (IsList (seen records.now) (form_of word)) }
-    ensures list { IfOk result (λ list. list.items ≡ list_at (seen records.now) (form_of word)) }
-    ensures exact { IfErr result (Refuses (IsList (seen records.now) (form_of word))) }
+    ensures form { OnOk result (IsPostingList (seen records.now) (list_form word)) }
+    ensures list { IfOk result (λ list. list.items ≡ postings_at (seen records.now) (list_form word)) }
+    ensures exact { IfErr result (Refutes (IsPostingList (seen records.now) (list_form word))) }
 {
     if word % 2 != 0 {
         return read_tree(alloc, records, word / 2);

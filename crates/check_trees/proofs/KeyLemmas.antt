@@ -6,17 +6,17 @@ use Rattle.std.specs.List.{AllByRecursion}
 use Rattle.std.specs.List.Sorted.{IsStrictlySortedBy}
 use Rattle.image_base.specs.Records.{Records}
 use Rattle.tree_images.specs.Trees.{last_key, tree_pairs, IsRootNode}
-use Rattle.attr_images.specs.Values.{value_at}
+use Rattle.attr_images.specs.Values.{stored_value}
 use Rattle.attr_types.specs.Value.{value_cmp}
 use Rattle.attr_types.specs.ProofsForOrder.{value_cmp_total}
 use Rattle.attr_types.specs.declared.value.Value.{Value}
-use Rattle.check_trees.specs.Keys.{key_cmp, IsTreeOf, Ascends}
+use Rattle.check_trees.specs.Keys.{key_cmp, IsTreeOf, PairsAscend}
 use Rattle.check_trees.specs.declared.keys.Keys.{Keys}
 use Rattle.check_trees.specs.declared.keys.Keys.TheVariants.{Numbers, Values}
 
 pub key_cmp_total : (keys : Keys) (m : Records) → IsTotalOrder (key_cmp keys m)
 key_cmp_total Numbers m = nat_cmp_total
-key_cmp_total (Values type) m = on_total (value_at type m) value_cmp_total
+key_cmp_total (Values type) m = on_total (stored_value type m) value_cmp_total
 
 module _ (keys : Keys) (m : Records) where
   all_left : (k : ℕ) (ps qs : List (ℕ × ℕ)) → AllByRecursion (λ y. key_cmp keys m k y ≡ Less) (map (λ (q : ℕ × ℕ). q.0) (ps ++ qs)) → AllByRecursion (λ y. key_cmp keys m k y ≡ Less) (map (λ (q : ℕ × ℕ). q.0) ps)
@@ -32,22 +32,22 @@ module _ (keys : Keys) (m : Records) where
   all_last k p [] all = all.0
   all_last k p (q ∷ ps) all = all_last k q ps all.1
 
-  pub ascends-none : Ascends keys m []
+  pub ascends-none : PairsAscend keys m []
   unfolding IsStrictlySortedBy
   ascends-none = tt
 
-  pub ascends-left : (ps qs : List (ℕ × ℕ)) → Ascends keys m (ps ++ qs) → Ascends keys m ps
+  pub ascends-left : (ps qs : List (ℕ × ℕ)) → PairsAscend keys m (ps ++ qs) → PairsAscend keys m ps
   unfolding IsStrictlySortedBy
   ascends-left [] qs up = tt
   ascends-left (p ∷ ps) qs up = (all_left p.0 ps qs up.0, ascends-left ps qs up.1)
 
   -- one more pair
-  pub ascends-first : (ps : List (ℕ × ℕ)) (p : ℕ × ℕ) → length ps ≡ 0 → Ascends keys m (ps ++ p ∷ [])
+  pub ascends-first : (ps : List (ℕ × ℕ)) (p : ℕ × ℕ) → length ps ≡ 0 → PairsAscend keys m (ps ++ p ∷ [])
   unfolding IsStrictlySortedBy
   ascends-first [] p none = (tt, tt)
   ascends-first (q ∷ qs) p none = absurd (omega arith)
 
-  pub ascends-more : (ps : List (ℕ × ℕ)) (p : ℕ × ℕ) → Ascends keys m ps → key_cmp keys m (last_key ps) p.0 ≡ Less → Ascends keys m (ps ++ p ∷ [])
+  pub ascends-more : (ps : List (ℕ × ℕ)) (p : ℕ × ℕ) → PairsAscend keys m ps → key_cmp keys m (last_key ps) p.0 ≡ Less → PairsAscend keys m (ps ++ p ∷ [])
   unfolding IsStrictlySortedBy
   ascends-more [] p up less = (tt, tt)
   ascends-more (q ∷ []) p up less = ((less, tt), (tt, tt))
@@ -56,7 +56,7 @@ module _ (keys : Keys) (m : Records) where
       (all_more q.0 (r ∷ ps) p up.0 above, ascends-more (r ∷ ps) p up.1 less)
 
   -- a key behind others is above the last
-  pub ascends-last : (ps : List (ℕ × ℕ)) (p : ℕ × ℕ) → 0 < length ps → Ascends keys m (ps ++ p ∷ []) → key_cmp keys m (last_key ps) p.0 ≡ Less
+  pub ascends-last : (ps : List (ℕ × ℕ)) (p : ℕ × ℕ) → 0 < length ps → PairsAscend keys m (ps ++ p ∷ []) → key_cmp keys m (last_key ps) p.0 ≡ Less
   unfolding IsStrictlySortedBy
   ascends-last [] p some up = absurd (omega arith)
   ascends-last (q ∷ []) p some up = up.0.0
@@ -83,17 +83,17 @@ module _ (read : ℕ → Value) where
   from_read (p ∷ ps) up = (from_all p.0 ps up.0, from_read ps up.1)
 
 -- a tree is a root node, if there is one, and keys that ascend
-pub make_tree : (keys : Keys) (m : Records) (root : ℕ) → (0 < root → IsRootNode m root) → Ascends keys m (tree_pairs m root) → IsTreeOf keys m root
+pub make_tree : (keys : Keys) (m : Records) (root : ℕ) → (0 < root → IsRootNode m root) → PairsAscend keys m (tree_pairs m root) → IsTreeOf keys m root
 make_tree Numbers m root node up = record { node = node; ascends = up }
-make_tree (Values type) m root node up = record { node = node; ascends = to_read (value_at type m) (tree_pairs m root) up }
+make_tree (Values type) m root node up = record { node = node; ascends = to_read (stored_value type m) (tree_pairs m root) up }
 
 pub tree-node : (keys : Keys) (m : Records) (root : ℕ) → IsTreeOf keys m root → 0 < root → IsRootNode m root
 tree-node Numbers m root tree = tree.node
 tree-node (Values type) m root tree = tree.node
 
-pub tree-ascends : (keys : Keys) (m : Records) (root : ℕ) → IsTreeOf keys m root → Ascends keys m (tree_pairs m root)
+pub tree-ascends : (keys : Keys) (m : Records) (root : ℕ) → IsTreeOf keys m root → PairsAscend keys m (tree_pairs m root)
 tree-ascends Numbers m root tree = tree.ascends
-tree-ascends (Values type) m root tree = from_read (value_at type m) (tree_pairs m root) tree.ascends
+tree-ascends (Values type) m root tree = from_read (stored_value type m) (tree_pairs m root) tree.ascends
 
 pub is_less : (r : Ordering) (answer : Bool) → answer ≡ is_lt r → answer ≡ true → r ≡ Less
 is_less Less answer is so = refl

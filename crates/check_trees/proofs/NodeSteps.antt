@@ -7,7 +7,7 @@ use Rattle.tree_images.specs.Nodes.{used_of, count_of, node_keys, node_values, I
 use Rattle.tree_images.specs.Trees.{pairs_below, last_key, HasLastKeys, IsNode}
 use Rattle.check_trees.proofs.WalkLemmas.{walked-more, child-stands, child-last, walked-pairs, walked-node, last-child, count-behind, leaf-node, leaf-pairs}
 use Rattle.check_trees.proofs.Walks.{Walked}
-use Rattle.check_trees.specs.Keys.{Ascends}
+use Rattle.check_trees.specs.Keys.{PairsAscend}
 use Rattle.check_trees.specs.declared.keys.Keys.{Keys}
 
 -- the keys of a node are the last keys of its children, if it has any
@@ -37,9 +37,9 @@ module _ (m : Records) (before after : List (ℕ × ℕ)) (least level ref : ℕ
       (leaf-node m least ref (subst (λ l. IsNodeForm l least (m ref)) low form) (sym of ∙ counted ∙ count-behind before after (pairs_below m 0 ref) pairs))
 
 module _ (keys : Keys) (m : Records) (before : List (ℕ × ℕ)) (level ref : ℕ) where
-  pub leaf-ascends : level ≡ 0 → Ascends keys m (before ++ pairs_below m level ref) → Ascends keys m (before ++ zip (node_keys (m ref)) (node_values (m ref)))
+  pub leaf-ascends : level ≡ 0 → PairsAscend keys m (before ++ pairs_below m level ref) → PairsAscend keys m (before ++ zip (node_keys (m ref)) (node_values (m ref)))
   leaf-ascends low up =
-      subst (Ascends keys m) (ap (λ l. before ++ pairs_below m l ref) low ∙ ap (λ ps. before ++ ps) (leaf-pairs m ref)) up
+      subst (PairsAscend keys m) (ap (λ l. before ++ pairs_below m l ref) low ∙ ap (λ ps. before ++ ps) (leaf-pairs m ref)) up
 
 module _ (keys : Keys) (m : Records) (least level ref : ℕ) (form : IsNodeForm level least (m ref)) (above : 0 < level)
     (before after : List (ℕ × ℕ)) (i : ℕ) (walked : Walked keys m (level - 1) (m ref) before after i) where
@@ -50,7 +50,7 @@ module _ (keys : Keys) (m : Records) (least level ref : ℕ) (form : IsNodeForm 
   upper_form = subst (λ l. IsNodeForm l least (m ref)) upper form
 
   pub step : i < used_of (m ref) → (child key : ℕ) → child ≡ get_or (m ref) (18 + i) 0 → key ≡ get_or (m ref) (2 + i) 0
-      → (more : List (ℕ × ℕ)) → IsNode m 8 (level - 1) child → more ≡ after ++ pairs_below m (level - 1) child → Ascends keys m more → key ≡ last_key more
+      → (more : List (ℕ × ℕ)) → IsNode m 8 (level - 1) child → more ≡ after ++ pairs_below m (level - 1) child → PairsAscend keys m more → key ≡ last_key more
       → Walked keys m (level - 1) (m ref) before more (i + 1)
   step low child key child_is key_is more node is up last =
       walked-more keys m (level - 1) least ref upper_form before after i walked low more
@@ -61,13 +61,13 @@ module _ (keys : Keys) (m : Records) (least level ref : ℕ) (form : IsNodeForm 
 
   -- where the node stands and its pairs ascend, so does its next child
   pub next-child : i < used_of (m ref) → (child : ℕ) → child ≡ get_or (m ref) (18 + i) 0
-      → IsNode m least level ref × Ascends keys m (before ++ pairs_below m level ref)
-      → IsNode m 8 (level - 1) child × Ascends keys m (after ++ pairs_below m (level - 1) child)
+      → IsNode m least level ref × PairsAscend keys m (before ++ pairs_below m level ref)
+      → IsNode m 8 (level - 1) child × PairsAscend keys m (after ++ pairs_below m (level - 1) child)
   next-child low child child_is whole =
-      subst (λ c. IsNode m 8 (level - 1) c × Ascends keys m (after ++ pairs_below m (level - 1) c)) (sym child_is)
+      subst (λ c. IsNode m 8 (level - 1) c × PairsAscend keys m (after ++ pairs_below m (level - 1) c)) (sym child_is)
       (child-stands keys m (level - 1) least ref upper_form before after i walked low
       (subst (λ l. IsNode m least l ref) upper whole.0)
-      (subst (λ l. Ascends keys m (before ++ pairs_below m l ref)) upper whole.1))
+      (subst (λ l. PairsAscend keys m (before ++ pairs_below m l ref)) upper whole.1))
 
   -- and its next key is the last of that child
   pub next-key : i < used_of (m ref) → (child key : ℕ) → child ≡ get_or (m ref) (18 + i) 0 → key ≡ get_or (m ref) (2 + i) 0

@@ -5,7 +5,7 @@ use Rattle.tree_images.proofs.TreeLemmas.{IsNode-form}
 use Rattle.tree_images.specs.Nodes.{level_of}
 use Rattle.tree_images.specs.Trees.{pairs_below, tree_pairs, root_level, root_least, IsNode}
 use Rattle.check_trees.proofs.KeyLemmas.{ascends-none, make_tree, tree-node, tree-ascends}
-use Rattle.check_trees.specs.Keys.{Ascends, IsTreeOf}
+use Rattle.check_trees.specs.Keys.{PairsAscend, IsTreeOf}
 use Rattle.check_trees.specs.declared.keys.Keys.{Keys}
 
 -- root 0 is the empty tree
@@ -27,17 +27,17 @@ module _ (keys : Keys) (m : Records) (root level : ℕ) (some : 0 < root) (is : 
   pub root-pairs : (pairs : List (ℕ × ℕ)) → pairs ≡ [] ++ pairs_below m level root → pairs ≡ tree_pairs m root
   root-pairs pairs found = found ∙ sym root_pairs
 
-  pub root-tree : (pairs : List (ℕ × ℕ)) → IsNode m (root_least level) level root → pairs ≡ [] ++ pairs_below m level root → Ascends keys m pairs → IsTreeOf keys m root
+  pub root-tree : (pairs : List (ℕ × ℕ)) → IsNode m (root_least level) level root → pairs ≡ [] ++ pairs_below m level root → PairsAscend keys m pairs → IsTreeOf keys m root
   root-tree pairs node found up =
       make_tree keys m root
       (λ more. subst (λ l. IsNode m (root_least l) l root) (sym (root_reads m root level is low)) node)
-      (subst (Ascends keys m) (found ∙ sym root_pairs) up)
+      (subst (PairsAscend keys m) (found ∙ sym root_pairs) up)
 
   -- where the root is a tree's, the node stands and its pairs ascend
-  root-stands : IsTreeOf keys m root → IsNode m (root_least level) level root × Ascends keys m ([] ++ pairs_below m level root)
+  root-stands : IsTreeOf keys m root → IsNode m (root_least level) level root × PairsAscend keys m ([] ++ pairs_below m level root)
   root-stands tree = (
     subst (λ l. IsNode m (root_least l) l root) (root_reads m root level is low) (tree-node keys m root tree some),
-    subst (Ascends keys m) root_pairs (tree-ascends keys m root tree),
+    subst (PairsAscend keys m) root_pairs (tree-ascends keys m root tree),
   )
 
   -- what a walk from the root finds, behind no pairs
@@ -48,14 +48,14 @@ module _ (keys : Keys) (m : Records) (root level : ℕ) (some : 0 < root) (is : 
     pub found-pairs : (pairs : List (ℕ × ℕ)) → pairs ≡ old ++ pairs_below m level root → pairs ≡ tree_pairs m root
     found-pairs pairs found = root-pairs pairs (found_behind pairs found)
 
-    pub found-tree : (pairs : List (ℕ × ℕ)) → IsNode m least level root → pairs ≡ old ++ pairs_below m level root → Ascends keys m pairs → IsTreeOf keys m root
+    pub found-tree : (pairs : List (ℕ × ℕ)) → IsNode m least level root → pairs ≡ old ++ pairs_below m level root → PairsAscend keys m pairs → IsTreeOf keys m root
     found-tree pairs node found up =
         root-tree pairs (subst (λ n. IsNode m n level root) slots node) (found_behind pairs found) up
 
-    pub found-whole : IsTreeOf keys m root → IsNode m least level root × Ascends keys m (old ++ pairs_below m level root)
+    pub found-whole : IsTreeOf keys m root → IsNode m least level root × PairsAscend keys m (old ++ pairs_below m level root)
     found-whole tree =
         let both = root-stands tree in
-        (subst (λ n. IsNode m n level root) (sym slots) both.0, subst (λ ps. Ascends keys m (ps ++ pairs_below m level root)) (sym none) both.1)
+        (subst (λ n. IsNode m n level root) (sym slots) both.0, subst (λ ps. PairsAscend keys m (ps ++ pairs_below m level root)) (sym none) both.1)
 
 -- a root's level is at most 7
 pub root-low : (keys : Keys) (m : Records) (root : ℕ) → 0 < root → IsTreeOf keys m root → level_of (m root) ≤ 7

@@ -14,7 +14,7 @@ use Rattle.tree_images.specs.Trees.{pairs_below, last_key, HasLastKeys, IsNode}
 use Rattle.check_trees.proofs.KeyLemmas.{ascends-left}
 use Rattle.check_trees.proofs.PairLemmas.{last-append}
 use Rattle.check_trees.proofs.Walks.{Walked}
-use Rattle.check_trees.specs.Keys.{Ascends}
+use Rattle.check_trees.specs.Keys.{PairsAscend}
 use Rattle.check_trees.specs.declared.keys.Keys.{Keys}
 
 module _ (ws : List ℕ) where
@@ -64,7 +64,7 @@ module _ (ws : List ℕ) where
 
     -- where the keys of a leaf's pairs ascend, those up to a slot do
     pub slots_ascend : (keys : Keys) (m : Records) (before mid : List (ℕ × ℕ)) (i : ℕ) → i < used_of ws → mid ≡ before ++ zip (take i (node_keys ws)) (take i (node_values ws))
-        → Ascends keys m (before ++ zip (node_keys ws) (node_values ws)) → Ascends keys m (mid ++ (get_or ws (2 + i) 0, get_or ws (18 + i) 0) ∷ [])
+        → PairsAscend keys m (before ++ zip (node_keys ws) (node_values ws)) → PairsAscend keys m (mid ++ (get_or ws (2 + i) 0, get_or ws (18 + i) 0) ∷ [])
     slots_ascend keys m before mid i low is up =
         let p : ℕ × ℕ = (get_or ws (2 + i) 0, get_or ws (18 + i) 0) in
         let ks = node_keys ws in
@@ -80,10 +80,10 @@ module _ (ws : List ℕ) where
         ∙ ap (λ ps. before ++ ps) (zip-append (take (i + 1) ks) (take (i + 1) vs) (drop (i + 1) ks) (drop (i + 1) vs) same)
         ∙ sym (append_assoc before front back)
         ∙ ap (λ ps. ps ++ back) (sym (slots_more before mid (mid ++ p ∷ []) i low is refl)) in
-        ascends-left keys m (mid ++ p ∷ []) back (subst (Ascends keys m) whole up)
+        ascends-left keys m (mid ++ p ∷ []) back (subst (PairsAscend keys m) whole up)
 
 -- a walk begins with no child
-pub walked-none : (keys : Keys) (m : Records) (level : ℕ) (ws : List ℕ) (before : List (ℕ × ℕ)) → Ascends keys m before → Walked keys m level ws before before 0
+pub walked-none : (keys : Keys) (m : Records) (level : ℕ) (ws : List ℕ) (before : List (ℕ × ℕ)) → PairsAscend keys m before → Walked keys m level ws before before 0
 walked-none keys m level ws before up = record {
   pairs = sym (append-nil before);
   nodes = tt;
@@ -105,7 +105,7 @@ module _ (keys : Keys) (m : Records) (level least ref : ℕ) (form : IsNodeForm 
 
   -- one more child
   pub walked-more : (low : i < used_of (m ref)) (more : List (ℕ × ℕ)) → IsNode m 8 level (get_or (m ref) (18 + i) 0)
-      → more ≡ after ++ pairs_below m level (get_or (m ref) (18 + i) 0) → Ascends keys m more
+      → more ≡ after ++ pairs_below m level (get_or (m ref) (18 + i) 0) → PairsAscend keys m more
       → get_or (m ref) (2 + i) 0 ≡ last_key (pairs_below m level (get_or (m ref) (18 + i) 0)) → Walked keys m level (m ref) before more (i + 1)
   walked-more low more node is up key =
       let child = get_or (m ref) (18 + i) 0 in
@@ -124,8 +124,8 @@ module _ (keys : Keys) (m : Records) (level least ref : ℕ) (form : IsNodeForm 
       }
 
   -- where a node stands and its pairs ascend, so does each child
-  pub child-stands : i < used_of (m ref) → IsNode m least (suc level) ref → Ascends keys m (before ++ pairs_below m (suc level) ref)
-      → IsNode m 8 level (get_or (m ref) (18 + i) 0) × Ascends keys m (after ++ pairs_below m level (get_or (m ref) (18 + i) 0))
+  pub child-stands : i < used_of (m ref) → IsNode m least (suc level) ref → PairsAscend keys m (before ++ pairs_below m (suc level) ref)
+      → IsNode m 8 level (get_or (m ref) (18 + i) 0) × PairsAscend keys m (after ++ pairs_below m level (get_or (m ref) (18 + i) 0))
   unfolding pairs_below IsNode
   child-stands low node up =
       let values = node_values (m ref) in
@@ -138,7 +138,7 @@ module _ (keys : Keys) (m : Records) (level least ref : ℕ) (form : IsNodeForm 
       ∙ sym (append_assoc before (flat_map f (take (i + 1) values)) rest)
       ∙ ap (λ ps. ps ++ rest) (sym (next_pairs low)) in (
         subst (IsNode m 8 level) (value_at (m ref) i low) (AllByRecursion-at (IsNode m 8 level) values i 0 (omega arith) node.3),
-        ascends-left keys m (after ++ f (get_or (m ref) (18 + i) 0)) rest (subst (Ascends keys m) whole up),
+        ascends-left keys m (after ++ f (get_or (m ref) (18 + i) 0)) rest (subst (PairsAscend keys m) whole up),
       )
 
   -- a node's key is the last of its child

@@ -1,3 +1,3 @@
 pub mod Keys
-pub mod Refusals
+pub mod Refutations
 pub mod Slots

@@ -9,7 +9,7 @@ mod read;
 mod tree;
 
 pub use fault::CheckFault;
-pub use keys::{Keys, long_of, text_of};
+pub use keys::{Keys, stored_long, stored_text};
 pub use node::is_node_form;
 pub use read::rest_of;
 pub use tree::check_tree;

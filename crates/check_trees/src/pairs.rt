@@ -2,8 +2,8 @@ ghost use Rattle.std.specs.Prelude.{◌≡◌, ◌≤◌, ◌∷◌, [], ◌++�
 ghost use Rattle.std.specs.List.{zip};
 ghost use Rattle.tree_images.specs.Nodes.{used_of, node_keys, node_values};
 ghost use Rattle.tree_images.specs.Trees.{last_key};
-ghost use Rattle.check_trees.specs.Keys.{Ascends};
-ghost use Rattle.check_trees.specs.Refusals.{Refuses};
+ghost use Rattle.check_trees.specs.Keys.{PairsAscend};
+ghost use Rattle.check_trees.specs.Refutations.{Refutes};
 ghost use Rattle.image_base.specs.Maps.{seen};
 
 use crate::fault::CheckFault;
@@ -30,9 +30,9 @@ fn check_order(
     pairs: &[(u64, u64)],
     key: u64,
 ) -> Result<(), CheckFault>
-    requires { Ascends keys (seen records.now) pairs.now }
-    ensures ascends { OnOk result ((value : _) → Ascends keys (seen records.now) (pairs.now ++ ((key, value) ∷ []))) }
-    ensures exact { IfErr result (λ fault. (value : _) → Refuses (Ascends keys (seen records.now) (pairs.now ++ ((key, value) ∷ []))) fault) }
+    requires { PairsAscend keys (seen records.now) pairs.now }
+    ensures ascends { OnOk result ((value : _) → PairsAscend keys (seen records.now) (pairs.now ++ ((key, value) ∷ []))) }
+    ensures exact { IfErr result (λ fault. (value : _) → Refutes (PairsAscend keys (seen records.now) (pairs.now ++ ((key, value) ∷ []))) fault) }
 {
     if pairs.is_empty() {
         return Ok(());
@@ -54,10 +54,10 @@ fn add_pair(
     key: u64,
     value: u64,
 ) -> Result<(), CheckFault>
-    requires { Ascends keys (seen records.now) pairs.old.items }
+    requires { PairsAscend keys (seen records.now) pairs.old.items }
     ensures pairs { OnOk result (pairs.new.items ≡ pairs.old.items ++ ((key, value) ∷ [])) }
-    ensures ascends { OnOk result (Ascends keys (seen records.now) pairs.new.items) }
-    ensures exact { IfErr result (Refuses (Ascends keys (seen records.now) (pairs.old.items ++ ((key, value) ∷ [])))) }
+    ensures ascends { OnOk result (PairsAscend keys (seen records.now) pairs.new.items) }
+    ensures exact { IfErr result (Refutes (PairsAscend keys (seen records.now) (pairs.old.items ++ ((key, value) ∷ [])))) }
 {
     check_order(alloc, keys, records, pairs, key)?;
     match pairs.push((key, value)) {
@@ -76,10 +76,10 @@ pub fn add_leaf(
 ) -> Result<(), CheckFault>
     requires size { length words.now ≡ NODE_WORDS }
     requires room { used_of words.now ≤ MOST_SLOTS }
-    requires ascends { Ascends keys (seen records.now) pairs.old.items }
+    requires ascends { PairsAscend keys (seen records.now) pairs.old.items }
     ensures pairs { OnOk result (pairs.new.items ≡ pairs.old.items ++ zip (node_keys words.now) (node_values words.now)) }
-    ensures ascends { OnOk result (Ascends keys (seen records.now) pairs.new.items) }
-    ensures exact { IfErr result (Refuses (Ascends keys (seen records.now)
+    ensures ascends { OnOk result (PairsAscend keys (seen records.now) pairs.new.items) }
+    ensures exact { IfErr result (Refutes (PairsAscend keys (seen records.now)
         (pairs.old.items ++ zip (node_keys words.now) (node_values words.now)))) }
 {
     let used = (words[0] % 256) as usize;

@@ -1,8 +1,8 @@
 ghost use Rattle.std.specs.Prelude.{◌≡◌, ◌++◌, OnOk, IfOk, IfErr};
 ghost use Rattle.tree_images.specs.Nodes.{IsNodeForm};
 ghost use Rattle.tree_images.specs.Trees.{pairs_below, tree_pairs, IsNode, root_least};
-ghost use Rattle.check_trees.specs.Keys.{Ascends, IsTreeOf};
-ghost use Rattle.check_trees.specs.Refusals.{Refuses};
+ghost use Rattle.check_trees.specs.Keys.{PairsAscend, IsTreeOf};
+ghost use Rattle.check_trees.specs.Refutations.{Refutes};
 ghost use Rattle.image_base.specs.Maps.{seen};
 
 use crate::fault::CheckFault;
@@ -23,7 +23,7 @@ fn read_node(
 ) -> Result<&[u64], CheckFault>
     ensures words { IfOk result (λ words. words.now ≡ seen records.now reference) }
     ensures form { OnOk result (IsNodeForm level least (seen records.now reference)) }
-    ensures exact { IfErr result (Refuses (IsNodeForm level least (seen records.now reference))) }
+    ensures exact { IfErr result (Refutes (IsNodeForm level least (seen records.now reference))) }
 {
     let words = words_at(records, reference);
     if is_node_form(words, level, least) {
@@ -43,12 +43,12 @@ fn walk(
     least: u32,
     pairs: &mut Vec<(u64, u64)>,
 ) -> Result<(), CheckFault>
-    requires { Ascends keys (seen records.now) pairs.old.items }
+    requires { PairsAscend keys (seen records.now) pairs.old.items }
     ensures node { OnOk result (IsNode (seen records.now) least level reference) }
     ensures pairs { OnOk result (pairs.new.items ≡ pairs.old.items ++ pairs_below (seen records.now) level reference) }
-    ensures ascends { OnOk result (Ascends keys (seen records.now) pairs.new.items) }
-    ensures exact { IfErr result (Refuses (IsNode (seen records.now) least level reference
-        × Ascends keys (seen records.now) (pairs.old.items ++ pairs_below (seen records.now) level reference))) }
+    ensures ascends { OnOk result (PairsAscend keys (seen records.now) pairs.new.items) }
+    ensures exact { IfErr result (Refutes (IsNode (seen records.now) least level reference
+        × PairsAscend keys (seen records.now) (pairs.old.items ++ pairs_below (seen records.now) level reference))) }
 {
     let words = read_node(records, reference, level, least)?;
     let begin = pairs.len();
@@ -97,7 +97,7 @@ pub fn check_tree(
 ) -> Result<Vec<(u64, u64)>, CheckFault>
     ensures tree { OnOk result (IsTreeOf keys (seen records.now) root) }
     ensures pairs { IfOk result (λ pairs. pairs.items ≡ tree_pairs (seen records.now) root) }
-    ensures exact { IfErr result (Refuses (IsTreeOf keys (seen records.now) root)) }
+    ensures exact { IfErr result (Refutes (IsTreeOf keys (seen records.now) root)) }
 {
     let mut pairs = Vec::new(alloc);
     if root == 0 {

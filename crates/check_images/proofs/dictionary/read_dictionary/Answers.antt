@@ -2,10 +2,10 @@ use Rattle.std.proofs.Common.{◌≡◌, ℕ}
 use Rattle.std.proofs.lemmas.Result.{err_from_is_err_and}
 use Rattle.list_facts.proofs.Each.{AllByRecursion-at}
 use Rattle.attr_images.specs.Columns.{documents_with}
-use Rattle.attr_images.specs.Postings.{form_of, list_at, IsEntryOf}
-use Rattle.attr_images.specs.Values.{value_at}
+use Rattle.attr_images.specs.Postings.{list_form, postings_at, IsDictionaryEntry}
+use Rattle.attr_images.specs.Values.{stored_value}
 use Rattle.image_base.specs.Maps.{seen}
-use Rattle.check_trees.proofs.Walks.{refused_by}
+use Rattle.check_trees.proofs.Walks.{refuted_by}
 use Rattle.check_images.proofs.dictionary.read_dictionary.Goals as goal
 
 pub returns-in_err-value-clause-exact : goal.returns-in_err-value-clause-exact
@@ -16,9 +16,9 @@ returns-in_err-value-clause-exact c =
     let below = c.loop-pair-test.true in
     let p = err_from_is_err_and c.from_residual.result c.from_residual.ensures.1 in
     rw (p.1, p.2)
-    (refused_by c.in_err-value.field-0.0
+    (refuted_by c.in_err-value.field-0.0
     (λ all. (
-      AllByRecursion-at (IsEntryOf type m) c.args.pairs.now i (0, 0) below all.0,
-      AllByRecursion-at (λ (q : ℕ × ℕ). list_at m (form_of q.1) ≡ documents_with (value_at type m q.0) c.args.column.now) c.args.pairs.now i (0, 0) below all.1,
+      AllByRecursion-at (IsDictionaryEntry type m) c.args.pairs.now i (0, 0) below all.0,
+      AllByRecursion-at (λ (q : ℕ × ℕ). postings_at m (list_form q.1) ≡ documents_with (stored_value type m q.0) c.args.column.now) c.args.pairs.now i (0, 0) below all.1,
     ))
     c.in_err-value.ensures.exact)

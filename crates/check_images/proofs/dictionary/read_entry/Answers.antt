@@ -2,7 +2,7 @@ use Rattle.std.proofs.Common.{◌∙◌, sym, ap}
 use Rattle.std.proofs.lemmas.Result.{err_from_is_err_and}
 use Rattle.attr_images.specs.Columns.{documents_with}
 use Rattle.image_base.specs.Maps.{seen}
-use Rattle.check_trees.proofs.Walks.{refused_by}
+use Rattle.check_trees.proofs.Walks.{refuted_by}
 use Rattle.check_images.proofs.ItemLemmas.{value_told}
 use Rattle.check_images.proofs.PairLemmas.{same_pairs, other_pairs}
 use Rattle.check_images.proofs.dictionary.read_entry.Goals as goal
@@ -10,7 +10,7 @@ use Rattle.check_images.proofs.dictionary.read_entry.Goals as goal
 pub returns-in_err-list-clause-exact : goal.returns-in_err-list-clause-exact
 returns-in_err-list-clause-exact c =
     let p = err_from_is_err_and c.from_residual-in_err-list.result c.from_residual-in_err-list.ensures.1 in
-    rw (p.1, p.2) (refused_by c.in_err-list.field-0.0 (λ both. both.0.1) c.in_err-list.ensures.exact)
+    rw (p.1, p.2) (refuted_by c.in_err-list.field-0.0 (λ both. both.0.1) c.in_err-list.ensures.exact)
 
 pub returns-then-ne-clause-exact : goal.returns-then-ne-clause-exact
 returns-then-ne-clause-exact c = λ both.

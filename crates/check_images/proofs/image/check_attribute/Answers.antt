@@ -5,19 +5,19 @@ use Rattle.std.specs.List.{AllByRecursion}
 use Rattle.tree_images.specs.Trees.{tree_pairs}
 use Rattle.attr_images.specs.Columns.{Column, documents_with}
 use Rattle.attr_images.specs.Documents.{column_at}
-use Rattle.attr_images.specs.Postings.{form_of, list_at, index_of}
-use Rattle.attr_images.specs.Values.{value_at}
+use Rattle.attr_images.specs.Postings.{list_form, postings_at, index_of}
+use Rattle.attr_images.specs.Values.{stored_value}
 use Rattle.attr_types.specs.declared.items.Item.{Item}
 use Rattle.attr_types.specs.declared.value.Value.{Value}
 use Rattle.image_base.specs.Maps.{seen}
-use Rattle.check_trees.proofs.Walks.{refused_by}
+use Rattle.check_trees.proofs.Walks.{refuted_by}
 use Rattle.check_images.proofs.IndexLemmas.{index_keys, to_lists, from_lists, has_values, values_cover}
 use Rattle.check_images.proofs.image.check_attribute.Goals as goal
 
 pub returns-in_err-column-clause-exact : goal.returns-in_err-column-clause-exact
 returns-in_err-column-clause-exact c =
     let p = err_from_is_err_and c.from_residual.result c.from_residual.ensures.1 in
-    rw (p.1, p.2) (refused_by c.in_err-column.field-0.0 (λ lawful. (lawful.forms.documents_tree, lawful.forms.items, lawful.column)) c.in_err-column.ensures.exact)
+    rw (p.1, p.2) (refuted_by c.in_err-column.field-0.0 (λ lawful. (lawful.forms.documents_tree, lawful.forms.items, lawful.column)) c.in_err-column.ensures.exact)
 
 pub returns-in_err-values-clause-exact : goal.returns-in_err-values-clause-exact
 returns-in_err-values-clause-exact c =
@@ -28,11 +28,11 @@ returns-in_err-values-clause-exact c =
     let same = c.as_slice.ensures.value ∙ c.in_ok-column.ensures.column in
     let p = err_from_is_err_and c.from_residual-in_err-values.result c.from_residual-in_err-values.ensures.1 in
     rw (p.1, p.2)
-    (refused_by c.in_err-values.field-0.0
+    (refuted_by c.in_err-values.field-0.0
     (λ lawful. (
       lawful.forms.dictionary_tree,
       lawful.forms.entries,
-      subst (λ (t : Column). AllByRecursion (λ (q : ℕ × ℕ). list_at m (form_of q.1) ≡ documents_with (value_at type m q.0) t) pairs) (sym same) (from_lists type m all pairs lawful.lists),
+      subst (λ (t : Column). AllByRecursion (λ (q : ℕ × ℕ). postings_at m (list_form q.1) ≡ documents_with (stored_value type m q.0) t) pairs) (sym same) (from_lists type m all pairs lawful.lists),
     ))
     c.in_err-values.ensures.exact)
 
@@ -53,10 +53,10 @@ returns-clause-lawful c =
     let type = c.args.value_type in
     let pairs = tree_pairs m c.args.dictionary in
     let all = column_at c.args.kind type m c.args.documents in
-    let lists = subst (λ (t : Column). AllByRecursion (λ (p : ℕ × ℕ). list_at m (form_of p.1) ≡ documents_with (value_at type m p.0) t) pairs) (c.as_slice.ensures.value ∙ c.in_ok-column.ensures.column) c.in_ok-values.ensures.lists in
+    let lists = subst (λ (t : Column). AllByRecursion (λ (p : ℕ × ℕ). postings_at m (list_form p.1) ≡ documents_with (stored_value type m p.0) t) pairs) (c.as_slice.ensures.value ∙ c.in_ok-column.ensures.column) c.in_ok-values.ensures.lists in
     let values = c.as_slice-2.ensures.value ∙ c.in_ok-values.ensures.values in
     let rows = c.as_slice-3.ensures.value ∙ c.in_ok-column.ensures.column in
-    let covered = subst (AllByRecursion (λ (e : ℕ × List Item). AllByRecursion (λ (item : Item). Contains (map (λ (p : ℕ × ℕ). value_at type m p.0) pairs) item.value) e.1)) rows
+    let covered = subst (AllByRecursion (λ (e : ℕ × List Item). AllByRecursion (λ (item : Item). Contains (map (λ (p : ℕ × ℕ). stored_value type m p.0) pairs) item.value) e.1)) rows
     (subst (λ (vs : List Value). AllByRecursion (λ (e : ℕ × List Item). AllByRecursion (λ (item : Item). Contains vs item.value) e.1) c.as_slice-3.result.now) values (c.have_all_values.ensures.0 c.if-not-have_all_values.false)) in
     record {
       forms = record {

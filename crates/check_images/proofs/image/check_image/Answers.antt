@@ -4,7 +4,7 @@ use Rattle.attr_images.specs.Columns.{table_of_column}
 use Rattle.attr_images.specs.Documents.{column_at}
 use Rattle.attr_images.specs.Images.{IsRootRecord}
 use Rattle.image_base.specs.Maps.{seen}
-use Rattle.check_trees.proofs.Walks.{refused_by}
+use Rattle.check_trees.proofs.Walks.{refuted_by}
 use Rattle.check_images.proofs.LawfulLemmas.{lawful_image, image_attribute, image_record, documents_read}
 use Rattle.check_images.proofs.image.check_image.Goals as goal
 
@@ -21,7 +21,7 @@ returns-in_err-column-clause-exact c =
     let some : 0 < c.args.root = (let other = c.if-root-eq0.false in omega arith) in
     let p = err_from_is_err_and c.from_residual.result c.from_residual.ensures.1 in
     rw (p.1, p.2)
-    (refused_by c.in_err-column.field-0.0
+    (refuted_by c.in_err-column.field-0.0
     (image_attribute c.args.kind c.args.value_type m c.args.root some c.words_at-words.result.now c.words_at-words.ensures.words c.word_in-documents.result c.word_in-dictionary.result c.word_in-documents.ensures c.word_in-dictionary.ensures)
     c.in_err-column.ensures.exact)
 

@@ -1,18 +1,18 @@
 use Rattle.std.proofs.Common.{ℕ, List, map, sym, ap, subst, ◌∙◌, true≢false}
 use Rattle.std.proofs.lemmas.Result.{err_from_is_err_and}
 use Rattle.std.specs.List.{AllByRecursion}
-use Rattle.attr_images.specs.Documents.{items_at, AreItems}
+use Rattle.attr_images.specs.Documents.{items_at, AreItemRecords}
 use Rattle.attr_types.specs.Lawful.{IsDocNumber, IsLawfulItems}
 use Rattle.attr_types.specs.declared.items.Item.{Item}
 use Rattle.image_base.specs.Maps.{seen}
-use Rattle.check_trees.proofs.Walks.{refused_by}
+use Rattle.check_trees.proofs.Walks.{refuted_by}
 use Rattle.check_images.proofs.IndexLemmas.{lawful_column, lawful_rows}
 use Rattle.check_images.proofs.image.read_column.Goals as goal
 
 pub returns-in_err-pairs-clause-exact : goal.returns-in_err-pairs-clause-exact
 returns-in_err-pairs-clause-exact c =
     let p = err_from_is_err_and c.from_residual.result c.from_residual.ensures.1 in
-    rw (p.1, p.2) (refused_by c.in_err-pairs.field-0.0 (λ whole. whole.0) c.in_err-pairs.ensures.exact)
+    rw (p.1, p.2) (refuted_by c.in_err-pairs.field-0.0 (λ whole. whole.0) c.in_err-pairs.ensures.exact)
 
 pub returns-in_err-column-clause-exact : goal.returns-in_err-column-clause-exact
 returns-in_err-column-clause-exact c =
@@ -20,7 +20,7 @@ returns-in_err-column-clause-exact c =
     let pairs = c.as_slice.ensures.value ∙ c.in_ok-pairs.ensures.pairs in
     let p = err_from_is_err_and c.from_residual-in_err-column.result c.from_residual-in_err-column.ensures.1 in
     rw (p.1, p.2)
-    (refused_by c.in_err-column.field-0.0 (λ whole. subst (AllByRecursion (λ (q : ℕ × ℕ). AreItems c.args.kind c.args.value_type m q.1)) (sym pairs) whole.1) c.in_err-column.ensures.exact)
+    (refuted_by c.in_err-column.field-0.0 (λ whole. subst (AllByRecursion (λ (q : ℕ × ℕ). AreItemRecords c.args.kind c.args.value_type m q.1)) (sym pairs) whole.1) c.in_err-column.ensures.exact)
 
 pub returns-then-not-are_lawful_documents-clause-exact : goal.returns-then-not-are_lawful_documents-clause-exact
 returns-then-not-are_lawful_documents-clause-exact c = λ whole.

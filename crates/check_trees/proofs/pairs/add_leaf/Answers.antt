@@ -2,7 +2,7 @@ use Rattle.std.proofs.Common.{◌<◌, arith}
 use Rattle.std.proofs.lemmas.Result.{err_from_is_err_and}
 use Rattle.tree_images.specs.Nodes.{used_of}
 use Rattle.check_trees.proofs.WalkLemmas.{slots_more, slots_ascend}
-use Rattle.check_trees.proofs.Walks.{refused_by}
+use Rattle.check_trees.proofs.Walks.{refuted_by}
 use Rattle.image_base.specs.Maps.{seen}
 use Rattle.check_trees.proofs.pairs.add_leaf.Goals as goal
 
@@ -26,6 +26,6 @@ returns-in_err-add_pair-clause-exact c =
     let low : c.loop-i.i < used_of ws = omega arith in
     let p = err_from_is_err_and c.from_residual.result c.from_residual.ensures.1 in
     rw (p.1, p.2)
-    (refused_by c.in_err-add_pair.field-0.0
+    (refuted_by c.in_err-add_pair.field-0.0
     (slots_ascend ws it.size it.room c.args.keys (seen c.args.records.now) c.args.pairs.now.items c.loop-i.pairs.items c.loop-i.i low it.pairs)
     c.in_err-add_pair.ensures.exact)

@@ -6,16 +6,16 @@ use Rattle.tree_images.proofs.TreeLemmas.{IsNode-form}
 use Rattle.tree_images.specs.Nodes.{used_of, node_keys, node_values}
 use Rattle.tree_images.specs.Trees.{last_key}
 use Rattle.check_trees.proofs.NodeSteps.{count-is, leaf-is, leaf-stands, leaf-ascends, step, next-child, next-key, whole-pairs, whole-node, difference}
-use Rattle.check_trees.proofs.Walks.{refused_by}
-use Rattle.check_trees.specs.Keys.{Ascends}
-use Rattle.check_trees.specs.Refusals.{Refuses}
+use Rattle.check_trees.proofs.Walks.{refuted_by}
+use Rattle.check_trees.specs.Keys.{PairsAscend}
+use Rattle.check_trees.specs.Refutations.{Refutes}
 use Rattle.check_trees.proofs.tree.+walk.Goals as goal
 
 pub returns-in_err-words-clause-exact : goal.returns-in_err-words-clause-exact
 returns-in_err-words-clause-exact t c =
     let m = seen c.args.records.now in
     let p = err_from_is_err_and c.from_residual.result c.from_residual.ensures.1 in
-    rw (p.1, p.2) (refused_by c.in_err-words.field-0.0 (λ whole. IsNode-form m c.args.least c.args.level c.args.reference whole.0) c.in_err-words.ensures.exact)
+    rw (p.1, p.2) (refuted_by c.in_err-words.field-0.0 (λ whole. IsNode-form m c.args.least c.args.level c.args.reference whole.0) c.in_err-words.ensures.exact)
 
 pub returns-in_err-add_leaf-clause-exact : goal.returns-in_err-add_leaf-clause-exact
 returns-in_err-add_leaf-clause-exact t c =
@@ -25,8 +25,8 @@ returns-in_err-add_leaf-clause-exact t c =
     let words = c.in_ok-words.ensures.words in
     let p = err_from_is_err_and c.from_residual-in_err-add_leaf.result c.from_residual-in_err-add_leaf.ensures.1 in
     let fault = c.in_err-add_leaf.field-0.0 in
-    let here = subst (λ (ws : List ℕ). Refuses (Ascends c.args.keys m (before ++ zip (node_keys ws) (node_values ws))) fault) words c.in_err-add_leaf.ensures.exact in
-    rw (p.1, p.2) (refused_by fault (λ whole. leaf-ascends c.args.keys m before c.args.level ref c.if-level-eq0.true whole.1) here)
+    let here = subst (λ (ws : List ℕ). Refutes (PairsAscend c.args.keys m (before ++ zip (node_keys ws) (node_values ws))) fault) words c.in_err-add_leaf.ensures.exact in
+    rw (p.1, p.2) (refuted_by fault (λ whole. leaf-ascends c.args.keys m before c.args.level ref c.if-level-eq0.true whole.1) here)
 
 pub returns-then-words-len-clause-exact : goal.returns-then-words-len-clause-exact
 returns-then-words-len-clause-exact t c = λ whole.
@@ -66,7 +66,7 @@ returns-in_err-walk-clause-exact t c =
     let child = ap (λ (ws : List ℕ). get_or ws (18 + c.loop-i.i) 0) words in
     let p = err_from_is_err_and c.from_residual-in_err-walk.result c.from_residual-in_err-walk.ensures.1 in
     rw (p.1, p.2)
-    (refused_by c.in_err-walk.field-0.0
+    (refuted_by c.in_err-walk.field-0.0
     (next-child c.args.keys m c.args.least c.args.level c.args.reference it.form it.above c.args.pairs.now.items c.loop-i.pairs.items c.loop-i.i it.walked low (get_or c.in_ok-words.words.now (18 + c.loop-i.i) 0) child)
     c.in_err-walk.ensures.exact)
 

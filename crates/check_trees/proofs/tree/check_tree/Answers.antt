@@ -3,15 +3,15 @@ use Rattle.std.proofs.lemmas.Result.{err_from_is_err_and}
 use Rattle.image_base.specs.Maps.{seen}
 use Rattle.check_trees.proofs.KeyLemmas.{ascends-none}
 use Rattle.check_trees.proofs.RootLemmas.{empty_tree, root-low, found-pairs, found-tree, found-whole}
-use Rattle.check_trees.proofs.Walks.{refused_by}
-use Rattle.check_trees.specs.Keys.{Ascends}
+use Rattle.check_trees.proofs.Walks.{refuted_by}
+use Rattle.check_trees.specs.Keys.{PairsAscend}
 use Rattle.check_trees.proofs.tree.check_tree.Goals as goal
 
 pub returns-then-root-eq0-clause-tree : goal.returns-then-root-eq0-clause-tree
 returns-then-root-eq0-clause-tree c = empty_tree c.args.keys (seen c.args.records.now) c.args.root c.if-root-eq0.true
 
 pub walk-requires : goal.walk-requires
-walk-requires c = subst (Ascends c.args.keys (seen c.args.records.now)) (sym c.new-pairs.ensures.items) (ascends-none c.args.keys (seen c.args.records.now))
+walk-requires c = subst (PairsAscend c.args.keys (seen c.args.records.now)) (sym c.new-pairs.ensures.items) (ascends-none c.args.keys (seen c.args.records.now))
 
 pub returns-then-level-gt7-clause-exact : goal.returns-then-level-gt7-clause-exact
 returns-then-level-gt7-clause-exact c = λ tree.
@@ -29,7 +29,7 @@ returns-in_err-walk-clause-exact c =
     let of = ap (λ (n : ℕ). n / 256) (c.word_in-level.ensures ∙ ap (λ (ws : List ℕ). get_or ws 0 0) c.words_at.ensures.words) in
     let p = err_from_is_err_and c.from_residual.result c.from_residual.ensures.1 in
     rw (p.1, p.2)
-    (refused_by c.in_err-walk.field-0.0
+    (refuted_by c.in_err-walk.field-0.0
     (found-whole c.args.keys m c.args.root level some of c.if-level-gt7.false c.least_of.result c.new-pairs.result.items c.new-pairs.ensures.items c.least_of.ensures)
     c.in_err-walk.ensures.exact)
 

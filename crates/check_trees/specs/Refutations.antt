@@ -3,6 +3,6 @@ use Rattle.check_trees.specs.declared.fault.CheckFault.{CheckFault}
 use Rattle.check_trees.specs.declared.fault.CheckFault.TheVariants.{Broken, Memory}
 
 -- a fact is false, unless there was no memory
-abbrev pub Refuses : Type 0 → CheckFault → Type 0
-Refuses P Broken = ¬ P
-Refuses P Memory = Unit {0}
+abbrev pub Refutes : Type 0 → CheckFault → Type 0
+Refutes P Broken = ¬ P
+Refutes P Memory = Unit {0}
