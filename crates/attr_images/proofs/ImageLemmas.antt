@@ -13,7 +13,7 @@ use Rattle.attr_images.specs.Images.{operations_at, documents_at, dictionary_at,
 use Rattle.attr_images.specs.Shapes.{shape_of, kind_of_shape, type_of_shape}
 use Rattle.tree_images.specs.Trees.{tree_pairs}
 use Rattle.attr_images.specs.Values.{value_of, stored_value}
-use Rattle.attr_types.specs.Lawful.{IsLawfulTable, IsDocNumber, IsLawfulDocument, IsLawfulItems, HasType, DocumentHasType}
+use Rattle.attr_types.specs.Lawful.{IsLawfulTable, IsDocNumber, IsLawfulDocument, IsLawfulItems, HasType}
 use Rattle.attr_types.specs.Value.{value_cmp, type_of}
 use Rattle.attr_types.specs.declared.field.Field.{Field}
 use Rattle.attr_types.specs.declared.items.Item.{Item}

@@ -1,9 +1,9 @@
 -- What the form of nodes says of a tree, and that new records leave old trees.
-use Rattle.std.proofs.Common.{◌≡◌, ℕ, zero, suc, ◌*◌, ◌^◌, ◌<◌, ◌≤◌, List, [], ◌∷◌, ◌++◌, length, map, refl, sym, ap, subst, ◌∙◌, arith, length-take, length-drop, length-append, get_or, mul-le-mul_right, suc-mul}
+use Rattle.std.proofs.Common.{◌≡◌, ℕ, zero, suc, ◌*◌, ◌^◌, ◌<◌, ◌≤◌, List, [], ◌∷◌, length, map, refl, sym, subst, ◌∙◌, arith, length-take, length-drop, length-append, get_or, mul-le-mul_right, suc-mul}
 use Rattle.std.proofs.lemmas.List.{length-map}
 use Rattle.std.proofs.lemmas.Map.Keys.{below_from_sorted}
 use Rattle.std.proofs.Math.Nat.{pow-suc}
-use Rattle.std.specs.List.{zip, flat_map, AllByRecursion}
+use Rattle.std.specs.List.{flat_map, AllByRecursion}
 use Rattle.std.specs.Ordering.{nat_cmp}
 use Rattle.list_facts.proofs.Pairs.{length-zip_even}
 use Rattle.list_facts.proofs.Each.{AllByRecursion-weaker}
