@@ -7,7 +7,8 @@ use std::alloc::AllocError;
 fn words_of_nodes_are_told_apart(rt: HostRuntime) {
     let good = root(1026, 2050);
     assert!(rt; is_node_form(&good, 1, 2));
-    assert!(rt; !is_node_form(&good[..33], 1, 2));
+    assert!(rt; is_node_form(&[0; 34], 0, 0));
+    assert!(rt; !is_node_form(&[0; 33], 0, 0));
     assert!(rt; !is_node_form(&good, 0, 2));
     assert!(rt; !is_node_form(&good, 1, 3));
     // a word that is changed, what it becomes, and whether it is a node's
