@@ -5,10 +5,10 @@ use Rattle.std.proofs.lemmas.Bool.{cases_eq, eq-eqb}
 use Rattle.image_base.specs.Records.{Records}
 use Rattle.store_api.specs.Classes.{Class, in_use, is_open, after_accept, with_class}
 use Rattle.store_api.specs.Ledgers.{Ledger, Makes}
-use Rattle.tree_frame.specs.Times.{times, EachOnce}
-use Rattle.tree_frame.specs.Changes.{Drops}
-use Rattle.tree_frame.proofs.TimesLemmas.{times-same, times-other, times-append, all_at_times, all_from_times}
-use Rattle.tree_frame.proofs.DropLemmas.{drop_ends}
+use Rattle.tree_make.specs.Times.{times, EachOnce}
+use Rattle.tree_make.specs.Changes.{Drops}
+use Rattle.tree_make.proofs.TimesLemmas.{times-same, times-other, times-append, all_at_times, all_from_times}
+use Rattle.tree_make.proofs.DropLemmas.{drop_ends}
 use Rattle.bench_work.specs.Units.{Made, UsesSame}
 
 -- what is open is not in use

@@ -6,7 +6,7 @@ use Rattle.image_base.specs.Records.{Records, Among}
 use Rattle.mem_work.specs.OneRecord.{one_reaches}
 use Rattle.store_api.specs.Classes.{Class, in_use, is_let_go, after_drop, after_commit, with_class}
 use Rattle.store_api.specs.Ledgers.{Ledger, Makes, IsNew, dropped_from, is_fresh}
-use Rattle.tree_frame.proofs.DropLemmas.{drop_ends}
+use Rattle.tree_make.proofs.DropLemmas.{drop_ends}
 use Rattle.bench_work.specs.Units.{UsesOnly, DropsRoot}
 use Rattle.bench_work.proofs.MadeLemmas.{open_unused}
 

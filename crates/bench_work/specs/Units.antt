@@ -3,7 +3,7 @@ use Rattle.std.specs.Prelude.{◌≡◌, ◌≢◌, ◌⊎◌, ◌↔◌, ℕ, �
 use Rattle.std.specs.List.{AllByRecursion}
 use Rattle.store_api.specs.Classes.{in_use, is_open}
 use Rattle.store_api.specs.Ledgers.{Ledger}
-use Rattle.tree_frame.specs.Times.{times, EachOnce}
+use Rattle.tree_make.specs.Times.{times, EachOnce}
 
 -- the same entries are in use
 abbrev pub UsesSame : {H : Type 0} → Ledger H → Ledger H → Type 0

@@ -3,7 +3,7 @@ ghost use Rattle.bench_work.specs.Units.{UsesSame, Made};
 
 use entry_ref::EntryRef;
 use store_api::{Store, StoreError};
-use tree_frame::drop_nodes;
+use tree_make::drop_nodes;
 
 /// One unit: makes so many entries of 34 words, drops them all, and is accepted.
 pub fn run_unit<S: Store>(

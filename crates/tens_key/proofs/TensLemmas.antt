@@ -7,8 +7,8 @@ use Rattle.store_api.specs.Classes.{in_use}
 use Rattle.store_api.specs.Ledgers.{Ledger}
 use Rattle.std.specs.List.Sorted.{IsStrictlySortedBy}
 use Rattle.tens_key.specs.Tens.{HoldsTens}
-use Rattle.tree_frame.specs.Changes.{Replaces}
-use Rattle.frozen_btree.proofs.HoldLemmas.{all_among}
+use Rattle.tree_make.specs.Changes.{Replaces}
+use Rattle.number_tree.proofs.HoldLemmas.{all_among}
 
 pub used-next : {H : Type 0} (old new : Ledger H) (m n : Records) (root next : ℕ) → Replaces old new m n root next
     → AllByRecursion (λ r. in_use (new.class r) ≡ true) (tree_nodes n next)

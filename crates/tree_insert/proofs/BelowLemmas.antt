@@ -14,14 +14,13 @@ use Rattle.key_order.specs.Keys.{seen_by, Ascends, AllBelow}
 use Rattle.key_order.specs.Pairs.{put}
 use Rattle.key_order.proofs.PairLemmas.{All-at, All-child, children-cut, put-skip, put-stop, length-put_most}
 use Rattle.key_order.proofs.OrderLemmas.{ascends-child, children-below}
-use Rattle.tree_frame.proofs.TimesLemmas.{times-append}
-use Rattle.tree_frame.specs.Times.{times}
+use Rattle.tree_make.proofs.TimesLemmas.{times-append}
+use Rattle.tree_make.specs.Times.{times}
 use Rattle.tree_node.specs.Places.{IsPlace}
 use Rattle.tree_node.specs.Slots.{slot_pairs, slot_nodes, IsInHand}
 use Rattle.tree_node.proofs.CountLemmas.{node_some}
 use Rattle.tree_node.proofs.KeyLemmas.{keys_all, key_last}
-use Rattle.tree_node.proofs.MadeLemmas.{hand-node, pairs-slots, nodes-slots}
-use Rattle.tree_node.proofs.SlotLemmas.{hand-append, hand-children, hand-kept, child_nodes, slot_pairs-inner, slot_pairs-leaf, slot_nodes-inner, slot_nodes-leaf, all_pairs-kept, all_nodes-kept}
+use Rattle.tree_node.proofs.SlotLemmas.{hand-node, pairs-slots, nodes-slots, hand-append, hand-children, hand-kept, child_nodes, slot_pairs-inner, slot_pairs-leaf, slot_nodes-inner, slot_nodes-leaf, all_pairs-kept, all_nodes-kept}
 use Rattle.tree_insert.specs.Inserts.{Inserts}
 use Rattle.tree_insert.specs.Parts.{AreParts, MakesParts, part_keys, part_nodes}
 use Rattle.tree_insert.specs.declared.parts.Parts.{Parts}

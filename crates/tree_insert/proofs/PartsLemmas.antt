@@ -8,13 +8,13 @@ use Rattle.store_api.specs.Classes.{Class, in_use, is_open, with_class}
 use Rattle.store_api.specs.Ledgers.{Ledger}
 use Rattle.tree_images.specs.Nodes.{IsNodeForm}
 use Rattle.tree_images.specs.Trees.{pairs_below, nodes_below, last_key, IsNode, Keeps}
-use Rattle.tree_frame.proofs.TimesLemmas.{times-same, times-other, times-append}
-use Rattle.tree_frame.specs.Times.{times, uses}
-use Rattle.tree_node.specs.Makes.{MakesNode, MakesPart}
+use Rattle.tree_make.proofs.TimesLemmas.{times-same, times-other, times-append}
+use Rattle.tree_make.specs.Times.{times, uses}
+use Rattle.tree_make.specs.Makes.{MakesNode, MakesPart}
 use Rattle.tree_node.specs.Slots.{slot_pairs, slot_nodes, IsInHand}
-use Rattle.tree_node.specs.declared.make.Part.{Part}
-use Rattle.tree_node.proofs.MadeLemmas.{with_class-here, with_class-other}
-use Rattle.tree_node.proofs.MakesLemmas.{open_unused, makes-then, makes-more}
+use Rattle.tree_make.specs.declared.make.Part.{Part}
+use Rattle.tree_make.proofs.MadeLemmas.{with_class-here, with_class-other}
+use Rattle.tree_make.proofs.MakesLemmas.{open_unused, makes-then, makes-more}
 use Rattle.tree_node.proofs.SlotLemmas.{slot_pairs-append, slot_nodes-append, hand-left, hand-right, pairs-kept, nodes_below-kept, node-kept, slot_pairs-kept, slot_nodes-kept, hand-kept}
 use Rattle.tree_insert.specs.Parts.{MakesParts}
 use Rattle.tree_insert.specs.declared.parts.Parts.TheVariants.{One, Two}

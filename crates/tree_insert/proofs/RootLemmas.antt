@@ -6,11 +6,11 @@ use Rattle.image_base.specs.Records.{Records}
 use Rattle.store_api.specs.Ledgers.{Ledger}
 use Rattle.tree_images.specs.Trees.{pairs_below, nodes_below, IsNode, root_level, root_least, tree_pairs, tree_nodes, IsRootNode}
 use Rattle.tree_images.proofs.TreeLemmas.{IsNode-form}
-use Rattle.tree_frame.specs.Times.{times}
-use Rattle.tree_node.specs.Makes.{MakesNode}
+use Rattle.tree_make.specs.Times.{times}
+use Rattle.tree_make.specs.Makes.{MakesNode}
 use Rattle.tree_node.specs.Slots.{slot_pairs, slot_nodes, IsInHand}
-use Rattle.tree_node.specs.declared.make.Part.{Part}
-use Rattle.tree_node.proofs.MakesLemmas.{makes-none}
+use Rattle.tree_make.specs.declared.make.Part.{Part}
+use Rattle.tree_make.proofs.MakesLemmas.{makes-none}
 use Rattle.tree_node.proofs.SlotLemmas.{hand-children, slot_pairs-inner, slot_nodes-inner}
 use Rattle.tree_insert.specs.Parts.{AreParts, MakesRoot}
 use Rattle.tree_insert.specs.declared.parts.Parts.TheVariants.{One, Two}

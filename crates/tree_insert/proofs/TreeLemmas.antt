@@ -18,15 +18,15 @@ use Rattle.key_order.specs.Pairs.{put}
 use Rattle.key_order.proofs.KeyLemmas.{keys-readable, ascends-stay, others_kept}
 use Rattle.key_order.proofs.OrderLemmas.{put-ascends}
 use Rattle.key_order.proofs.PairLemmas.{All-put, length-put_most}
-use Rattle.tree_frame.proofs.Balance.{kept-from, replaces-from}
-use Rattle.tree_frame.proofs.Bounds.{nodes_wide, children_many, tree_small}
-use Rattle.tree_frame.proofs.DropLemmas.{drops-none}
-use Rattle.tree_frame.proofs.TimesLemmas.{once_from_distinct, all_at_times, all_from_times, among-times}
-use Rattle.tree_frame.specs.Changes.{Drops, Replaces, levels}
-use Rattle.tree_frame.specs.Times.{times, uses, EachOnce}
-use Rattle.tree_node.specs.Makes.{MakesNodes, MakesNode}
+use Rattle.tree_make.proofs.Balance.{kept-from, replaces-from}
+use Rattle.tree_node.proofs.Bounds.{nodes_wide, children_many, tree_small}
+use Rattle.tree_make.proofs.DropLemmas.{drops-none}
+use Rattle.tree_make.proofs.TimesLemmas.{once_from_distinct, all_at_times, all_from_times, among-times}
+use Rattle.tree_make.specs.Changes.{Drops, Replaces, levels}
+use Rattle.tree_make.specs.Times.{times, uses, EachOnce}
+use Rattle.tree_make.specs.Makes.{MakesNodes, MakesNode}
 use Rattle.tree_node.specs.Slots.{slot_nodes}
-use Rattle.tree_node.proofs.MakesLemmas.{makes-then, makes-stays}
+use Rattle.tree_make.proofs.MakesLemmas.{makes-then, makes-stays}
 use Rattle.tree_node.proofs.SlotLemmas.{slot_pairs-leaf, slot_nodes-leaf}
 use Rattle.tree_insert.specs.Inserts.{Inserts}
 use Rattle.tree_insert.specs.Parts.{AreParts, MakesRoot, part_nodes}

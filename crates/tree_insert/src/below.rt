@@ -2,7 +2,7 @@ ghost use Rattle.std.specs.Prelude.{◌≡◌, ◌≤◌, ◌<◌, ◌+◌, ◌*
 ghost use Rattle.tree_images.specs.Trees.{pairs_below, IsNode};
 ghost use Rattle.key_order.specs.Keys.{seen_by, Ascends, AllReadable};
 ghost use Rattle.store_api.specs.Ledgers.{IsFull};
-ghost use Rattle.tree_node.specs.Makes.{MakesNodes};
+ghost use Rattle.tree_make.specs.Makes.{MakesNodes};
 ghost use Rattle.tree_insert.specs.Inserts.{Inserts};
 
 use crate::leaf::put_in_leaf;

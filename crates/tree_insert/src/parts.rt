@@ -1,12 +1,13 @@
 ghost use Rattle.std.specs.Prelude.{◌≡◌, ◌≤◌, ◌<◌, ◌∷◌, ◌++◌, ℕ, true, length, take, drop, suc, Err, IfOk};
 ghost use Rattle.store_api.specs.Ledgers.{IsFull};
 ghost use Rattle.tree_node.specs.Slots.{slot_pairs, IsInHand};
-ghost use Rattle.tree_node.specs.Makes.{MakesNodes};
+ghost use Rattle.tree_make.specs.Makes.{MakesNodes};
 ghost use Rattle.tree_insert.specs.Parts.{MakesParts, part_keys, part_nodes};
 
 use arrayvec::ArrayVec;
 use store_api::{Store, StoreError};
-use tree_node::{Part, Slots, make_part};
+use tree_make::{Part, make_part};
+use tree_node::Slots;
 
 /// What is made in place of a node: one node, or two.
 #[derive(Clone, Copy, Debug, Drop)]

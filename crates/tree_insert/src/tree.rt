@@ -6,8 +6,8 @@ ghost use Rattle.key_order.specs.Keys.{seen_by, AllReadable, ReadsNoNode, NoneRe
 ghost use Rattle.key_order.specs.Pairs.{put};
 ghost use Rattle.store_api.specs.Classes.{in_use};
 ghost use Rattle.store_api.specs.Ledgers.{IsFull};
-ghost use Rattle.tree_frame.specs.Changes.{Replaces, levels};
-ghost use Rattle.tree_node.specs.Makes.{MakesNodes, MakesNode};
+ghost use Rattle.tree_make.specs.Changes.{Replaces, levels};
+ghost use Rattle.tree_make.specs.Makes.{MakesNodes, MakesNode};
 ghost use Rattle.tree_insert.specs.Parts.{AreParts, MakesRoot, part_nodes};
 
 use crate::below::insert_below;
@@ -16,8 +16,9 @@ use arrayvec::ArrayVec;
 use entry_ref::EntryRef;
 use key_order::KeyOrder;
 use store_api::{Store, StoreError};
-use tree_frame::drop_nodes;
-use tree_node::{Slots, make_part};
+use tree_make::drop_nodes;
+use tree_make::make_part;
+use tree_node::Slots;
 
 /// Makes a leaf of one pair.
 fn make_leaf<S: Store>(store: &mut S, word: u64, value: u64) -> Result<EntryRef, StoreError>

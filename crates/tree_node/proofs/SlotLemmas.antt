@@ -5,6 +5,7 @@ use Rattle.std.proofs.lemmas.Grind.{flat_map-append}
 use Rattle.std.specs.List.{zip, flat_map, AllByRecursion}
 use Rattle.image_base.specs.Records.{Records}
 use Rattle.tree_images.specs.ProofsForTrees.{pairs-same, nodes-same, IsNode-same}
+use Rattle.tree_images.specs.Nodes.{node_keys, node_values}
 use Rattle.tree_images.specs.Trees.{pairs_below, nodes_below, last_key, IsNode, Keeps}
 use Rattle.tree_images.proofs.TreeLemmas.{nodes-kept}
 use Rattle.tree_node.specs.Slots.{slot_pairs, slot_nodes, HaveChildren, IsInHand}
@@ -187,3 +188,20 @@ module _ (m n : Records) (keeps : Keeps m n) where
     even = hand.even;
     children = (hand.children.0 ∙ sym (last_keys-kept 8 level vs hand.children.1), All-map (IsNode m 8 level) (IsNode n 8 level) (node-kept 8 level) vs hand.children.1);
   }
+
+-- the slots of a node are in hand
+module _ (m : Records) (least : ℕ) where
+  pub hand-node : (level ref : ℕ) → IsNode m least level ref → length (node_keys (m ref)) ≡ length (node_values (m ref)) → IsInHand m level (node_keys (m ref)) (node_values (m ref))
+  unfolding IsNode HaveChildren
+  hand-node zero ref node e = record { even = e; children = tt }
+  hand-node (suc level) ref node e = record { even = e; children = (node.2, node.3) }
+
+pub pairs-slots : (m : Records) (level ref : ℕ) → pairs_below m level ref ≡ slot_pairs m level (node_keys (m ref)) (node_values (m ref))
+unfolding pairs_below slot_pairs
+pairs-slots m zero ref = refl
+pairs-slots m (suc level) ref = refl
+
+pub nodes-slots : (m : Records) (level ref : ℕ) → nodes_below m level ref ≡ ref ∷ slot_nodes m level (node_values (m ref))
+unfolding nodes_below slot_nodes
+nodes-slots m zero ref = refl
+nodes-slots m (suc level) ref = refl

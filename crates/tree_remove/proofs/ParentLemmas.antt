@@ -6,10 +6,10 @@ use Rattle.std.specs.List.{flat_map}
 use Rattle.image_base.specs.Records.{Records}
 use Rattle.tree_images.specs.Trees.{pairs_below, nodes_below, Keeps}
 use Rattle.store_api.specs.Ledgers.{Ledger}
-use Rattle.tree_frame.proofs.TimesLemmas.{times-append}
-use Rattle.tree_frame.specs.Times.{times, uses}
+use Rattle.tree_make.proofs.TimesLemmas.{times-append}
+use Rattle.tree_make.specs.Times.{times, uses}
 use Rattle.tree_node.proofs.SlotLemmas.{slot_pairs-append, slot_nodes-append, slot_pairs-inner, slot_nodes-inner, hand-append, hand-left, hand-right, hand-kept, slot_pairs-kept, slot_nodes-kept}
-use Rattle.tree_node.specs.Makes.{MakesNodes}
+use Rattle.tree_make.specs.Makes.{MakesNodes}
 use Rattle.tree_node.specs.Slots.{slot_pairs, slot_nodes, IsInHand}
 use Rattle.tree_remove.specs.Removes.{PutsBack, spliced}
 use Rattle.tree_remove.specs.Settles.{Settles}

@@ -6,9 +6,8 @@ use Rattle.tree_images.specs.Nodes.{level_of, used_of, node_keys, node_values}
 use Rattle.tree_images.specs.Trees.{pairs_below, IsNode}
 use Rattle.std.specs.List.{zip, AllByRecursion}
 use Rattle.tree_node.proofs.KeyLemmas.{keys_all}
-use Rattle.tree_node.proofs.SlotLemmas.{slot_pairs-leaf}
+use Rattle.tree_node.proofs.SlotLemmas.{slot_pairs-leaf, hand-node, pairs-slots, nodes-slots}
 use Rattle.tree_node.proofs.CountLemmas.{child_at}
-use Rattle.tree_node.proofs.MadeLemmas.{hand-node, pairs-slots, nodes-slots}
 use Rattle.tree_node.specs.Slots.{IsInHand}
 use Rattle.tree_remove.specs.Removes.{IsChild}
 

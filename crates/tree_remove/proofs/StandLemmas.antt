@@ -6,13 +6,13 @@ use Rattle.tree_images.specs.Nodes.{IsNodeForm}
 use Rattle.tree_images.specs.Trees.{pairs_below, nodes_below, last_key, IsNode}
 use Rattle.store_api.specs.Classes.{Class, in_use, is_open}
 use Rattle.store_api.specs.Ledgers.{Ledger}
-use Rattle.tree_frame.proofs.Balance.{uses-in, uses-out, open_unused}
-use Rattle.tree_frame.proofs.TimesLemmas.{times-same, times-other, times-append}
-use Rattle.tree_frame.specs.Times.{times, uses}
-use Rattle.tree_node.proofs.MadeLemmas.{with_class-here, with_class-other}
-use Rattle.tree_node.proofs.MakesLemmas.{makes-then}
+use Rattle.tree_make.proofs.Balance.{uses-in, uses-out, open_unused}
+use Rattle.tree_make.proofs.TimesLemmas.{times-same, times-other, times-append}
+use Rattle.tree_make.specs.Times.{times, uses}
+use Rattle.tree_make.proofs.MadeLemmas.{with_class-here, with_class-other}
+use Rattle.tree_make.proofs.MakesLemmas.{makes-then}
 use Rattle.tree_node.proofs.SlotLemmas.{slot_pairs-append, slot_nodes-append, slot_pairs-one, slot_nodes-one, hand-append, hand-one, hand-kept, slot_pairs-kept, slot_nodes-kept}
-use Rattle.tree_node.specs.Makes.{MakesNode}
+use Rattle.tree_make.specs.Makes.{MakesNode}
 use Rattle.tree_node.specs.Slots.{slot_pairs, slot_nodes}
 use Rattle.tree_remove.specs.Settles.{Stands}
 

@@ -17,8 +17,7 @@ use Rattle.key_order.specs.Keys.{seen_by, Ascends, AllBelow}
 use Rattle.key_order.specs.Pairs.{lookup, take_out, choose}
 use Rattle.tree_node.proofs.CountLemmas.{node_some}
 use Rattle.tree_node.proofs.KeyLemmas.{key_last}
-use Rattle.tree_node.proofs.MadeLemmas.{hand-node, pairs-slots, nodes-slots}
-use Rattle.tree_node.proofs.SlotLemmas.{child_nodes, slot_pairs-inner}
+use Rattle.tree_node.proofs.SlotLemmas.{hand-node, pairs-slots, nodes-slots, child_nodes, slot_pairs-inner}
 use Rattle.tree_node.specs.Places.{IsSlot}
 use Rattle.tree_node.specs.Slots.{slot_pairs, slot_nodes, IsInHand}
 use Rattle.tree_remove.proofs.ReadLemmas.{node-even, node-keys}

@@ -19,14 +19,14 @@ use Rattle.key_order.specs.Keys.{Ascends, AllReadable, ReadsNoNode, NoneReadsNod
 use Rattle.key_order.specs.Pairs.{lookup, take_out}
 use Rattle.store_api.specs.Classes.{in_use}
 use Rattle.store_api.specs.Ledgers.{Ledger}
-use Rattle.tree_frame.proofs.Balance.{kept-from, replaces-from}
-use Rattle.tree_frame.proofs.Bounds.{nodes_wide}
-use Rattle.tree_frame.proofs.TimesLemmas.{once_from_distinct, all_at_times, all_from_times}
-use Rattle.tree_frame.specs.Changes.{Drops, Replaces, levels}
-use Rattle.tree_frame.specs.Times.{times, EachOnce}
-use Rattle.tree_node.proofs.MakesLemmas.{makes-none, makes-stays}
+use Rattle.tree_make.proofs.Balance.{kept-from, replaces-from}
+use Rattle.tree_node.proofs.Bounds.{nodes_wide}
+use Rattle.tree_make.proofs.TimesLemmas.{once_from_distinct, all_at_times, all_from_times}
+use Rattle.tree_make.specs.Changes.{Drops, Replaces, levels}
+use Rattle.tree_make.specs.Times.{times, EachOnce}
+use Rattle.tree_make.proofs.MakesLemmas.{makes-none, makes-stays}
 use Rattle.tree_node.proofs.SlotLemmas.{slot_pairs-leaf, slot_nodes-leaf, slot_pairs-one, slot_nodes-one, child_nodes}
-use Rattle.tree_node.specs.Makes.{MakesNodes, MakesNode}
+use Rattle.tree_make.specs.Makes.{MakesNodes, MakesNode}
 use Rattle.tree_node.specs.Slots.{slot_pairs, slot_nodes, IsInHand}
 use Rattle.tree_remove.proofs.StandLemmas.{made-balance, node-weaker}
 use Rattle.tree_remove.proofs.RemoveLemmas.{root_least-few, root_least-above}

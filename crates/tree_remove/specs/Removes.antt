@@ -6,8 +6,8 @@ use Rattle.tree_images.specs.Nodes.{used_of}
 use Rattle.tree_images.specs.Trees.{pairs_below, nodes_below, tree_pairs, tree_nodes, IsNode, IsRootNode}
 use Rattle.key_order.specs.Pairs.{lookup, take_out}
 use Rattle.store_api.specs.Ledgers.{Ledger}
-use Rattle.tree_frame.specs.Times.{times, uses}
-use Rattle.tree_node.specs.Makes.{MakesNodes}
+use Rattle.tree_make.specs.Times.{times, uses}
+use Rattle.tree_make.specs.Makes.{MakesNodes}
 use Rattle.tree_node.specs.Slots.{slot_pairs, slot_nodes, IsInHand}
 
 -- the pairs below slots, with these in place of those of one child

@@ -5,7 +5,7 @@ ghost use Rattle.tree_images.specs.Trees.{pairs_below, IsNode, root_least};
 ghost use Rattle.key_order.specs.Keys.{seen_by, Ascends, AllReadable};
 ghost use Rattle.key_order.specs.Pairs.{lookup, take_out};
 ghost use Rattle.store_api.specs.Ledgers.{IsFull};
-ghost use Rattle.tree_node.specs.Makes.{MakesNodes};
+ghost use Rattle.tree_make.specs.Makes.{MakesNodes};
 ghost use Rattle.tree_remove.specs.Removes.{IsStep, Removes};
 
 use crate::parent::put_back;

@@ -1,11 +1,12 @@
 ghost use Rattle.std.specs.Prelude.{◌≡◌, ◌≤◌, ◌<◌, ◌+◌, ◌++◌, true, length, slice_set, suc, OnOk, OnErr, ℕ};
 ghost use Rattle.store_api.specs.Ledgers.{IsFull};
-ghost use Rattle.tree_node.specs.Makes.{MakesNodes};
+ghost use Rattle.tree_make.specs.Makes.{MakesNodes};
 ghost use Rattle.tree_node.specs.Slots.{slot_pairs, slot_nodes, IsInHand};
 ghost use Rattle.tree_remove.specs.Settles.{Settles};
 
 use store_api::{Store, StoreError};
-use tree_node::{Part, Slots, make_part};
+use tree_make::{Part, make_part};
+use tree_node::Slots;
 
 /// Appends the slots of the right neighbour.
 fn join(left: &mut Slots, right: &Slots)

@@ -1,6 +1,6 @@
 ghost use Rattle.std.specs.Prelude.{◌≡◌, ◌≤◌, ◌<◌, ◌++◌, ◌∷◌, [], true, length, slice_index, suc, OnOk, OnErr, ℕ};
 ghost use Rattle.store_api.specs.Ledgers.{IsFull};
-ghost use Rattle.tree_node.specs.Makes.{MakesNodes};
+ghost use Rattle.tree_make.specs.Makes.{MakesNodes};
 ghost use Rattle.tree_node.specs.Slots.{slot_pairs, IsInHand};
 ghost use Rattle.tree_remove.specs.Removes.{IsChild, PutsBack, spliced};
 
@@ -9,7 +9,8 @@ use frozen_api::Frozen;
 use arrayvec::ArrayVec;
 use entry_ref::EntryRef;
 use store_api::{Store, StoreError};
-use tree_node::{Slots, make_part, read_node};
+use tree_make::make_part;
+use tree_node::{Slots, read_node};
 
 /// Reads a child of a node in hand, and adds it to the nodes that are replaced.
 fn read_child<F: Frozen>(

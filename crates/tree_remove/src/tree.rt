@@ -4,9 +4,9 @@ ghost use Rattle.tree_images.specs.Trees.{tree_pairs, tree_nodes, IsTree};
 ghost use Rattle.key_order.specs.Keys.{seen_by, AllReadable, NoneReadsNodes};
 ghost use Rattle.key_order.specs.Pairs.{lookup, take_out};
 ghost use Rattle.store_api.specs.Classes.{in_use};
-ghost use Rattle.tree_frame.specs.Changes.{Replaces, levels};
+ghost use Rattle.tree_make.specs.Changes.{Replaces, levels};
 ghost use Rattle.store_api.specs.Ledgers.{IsFull};
-ghost use Rattle.tree_node.specs.Makes.{MakesNodes};
+ghost use Rattle.tree_make.specs.Makes.{MakesNodes};
 ghost use Rattle.tree_node.specs.Slots.{slot_pairs, IsInHand};
 ghost use Rattle.tree_remove.specs.Removes.{MakesRoot, Rebuilds};
 
@@ -15,8 +15,9 @@ use arrayvec::ArrayVec;
 use entry_ref::EntryRef;
 use key_order::KeyOrder;
 use store_api::{Store, StoreError};
-use tree_frame::drop_nodes;
-use tree_node::{Slots, make_part};
+use tree_make::drop_nodes;
+use tree_make::make_part;
+use tree_node::Slots;
 
 /// The root of slots in hand: 0 where there is none, and above the leaves the child of a single one.
 fn make_root<S: Store>(store: &mut S, slots: &Slots) -> Result<EntryRef, StoreError>

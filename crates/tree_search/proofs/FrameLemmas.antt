@@ -7,7 +7,7 @@ use Rattle.tree_images.specs.ProofsForTrees.{SameAt-left, SameAt-right, flat_map
 use Rattle.tree_images.specs.Trees.{pairs_below, nodes_below, root_level, tree_nodes, IsNode}
 use Rattle.tree_search.specs.Steps.{Step}
 use Rattle.tree_search.specs.Places.{Place, LeadsTo, pairs_behind, HasPair, pairs_from, IsInLeaf, IsAt}
-use Rattle.tree_search.proofs.NodeLemmas.{get_or-node_values, values-size}
+use Rattle.tree_node.proofs.ChildLemmas.{get_or-node_values, values-size}
 use Rattle.tree_search.proofs.PlaceLemmas.{path-node, root_node, pairs_from-some, pairs_from-none}
 
 SameAt-child : (m n : Records) (f : ℕ → List ℕ) (cs : List ℕ) (i : ℕ) → i < length cs → SameAt (flat_map f cs) m n → SameAt (f (get_or cs i 0)) m n

@@ -7,7 +7,7 @@ use Rattle.tree_images.specs.Trees.{pairs_below, root_level, root_least, tree_pa
 use Rattle.tree_images.proofs.TreeLemmas.{IsNode-form}
 use Rattle.tree_search.specs.Steps.{Step}
 use Rattle.tree_search.specs.Places.{Place, LeadsTo, Leads, pairs_behind, HasPair, pairs_from, IsAt}
-use Rattle.tree_search.proofs.NodeLemmas.{IsNode-lower, child-node, children, children-from, children-past, leaf-from, leaf-past}
+use Rattle.tree_node.proofs.ChildLemmas.{IsNode-lower, child-node, children, children-from, children-past, leaf-from, leaf-past}
 
 root_some : (level : ℕ) → 0 < root_least level
 root_some zero = omega arith

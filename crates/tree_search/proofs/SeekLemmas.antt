@@ -16,7 +16,7 @@ use Rattle.key_order.proofs.PairLemmas.{seek-below}
 use Rattle.tree_search.specs.Steps.{Step}
 use Rattle.tree_search.specs.Places.{Leads, pairs_behind, pairs_from}
 use Rattle.tree_search.specs.Slots.{IsFirstSlot}
-use Rattle.tree_search.proofs.NodeLemmas.{All-last, leaf_pairs, get_or-node_keys, children, values-size, child-last, child-all, child-ascends, front-below, child-seek, leaf-seek, pairs-some}
+use Rattle.tree_node.proofs.ChildLemmas.{All-last, leaf_pairs, get_or-node_keys, children, values-size, child-last, child-all, child-ascends, front-below, child-seek, leaf-seek, pairs-some}
 use Rattle.tree_search.proofs.PlaceLemmas.{leads-node, leads-root, leads-child, child-level, behind-child, root_pairs, at-slot}
 
 zip-below : (c : ℕ → Ordering) (ks vs : List ℕ) → ((j : ℕ) → j < length ks → c (get_or ks j 0) ≡ Less) → AllBelow c (zip ks vs)

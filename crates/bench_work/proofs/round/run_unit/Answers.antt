@@ -1,6 +1,6 @@
 use Rattle.std.proofs.Common.{ap, subst, ◌∙◌}
 use Rattle.store_api.specs.Classes.{in_use}
-use Rattle.tree_frame.specs.Changes.{Drops}
+use Rattle.tree_make.specs.Changes.{Drops}
 use Rattle.bench_work.proofs.MadeLemmas.{uses-same}
 use Rattle.bench_work.proofs.round.run_unit.Goals as goal
 

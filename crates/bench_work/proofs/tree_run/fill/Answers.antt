@@ -1,5 +1,5 @@
 use Rattle.std.proofs.Common.{◌+◌, length, arith}
-use Rattle.frozen_btree.specs.Maps.{beside}
+use Rattle.number_tree.specs.Maps.{beside}
 use Rattle.bench_work.proofs.LengthLemmas.{put-longer}
 use Rattle.bench_work.proofs.tree_run.fill.Goals as goal
 

@@ -3,10 +3,10 @@ use Rattle.std.specs.List.{AllByRecursion}
 use Rattle.tree_images.specs.Trees.{pairs_below, IsNode, root_level}
 use Rattle.key_order.specs.Keys.{seen_by, Ascends, AllReadable}
 use Rattle.store_api.specs.Classes.{in_use}
-use Rattle.tree_frame.specs.Changes.{Drops, levels}
-use Rattle.tree_frame.specs.Times.{EachOnce}
-use Rattle.tree_node.specs.Makes.{MakesNodes}
-use Rattle.tree_node.proofs.MakesLemmas.{makes-then, makes-more}
+use Rattle.tree_make.specs.Changes.{Drops, levels}
+use Rattle.tree_make.specs.Times.{EachOnce}
+use Rattle.tree_make.specs.Makes.{MakesNodes}
+use Rattle.tree_make.proofs.MakesLemmas.{makes-then, makes-more}
 use Rattle.tree_insert.specs.Inserts.{Inserts}
 use Rattle.tree_insert.proofs.OkLemmas.{ok_then, on_err, not_valid, is_valid, err_same}
 use Rattle.tree_insert.proofs.TreeLemmas.{root-size, root-level, root-low, root-one, root-pairs, root-levels, root-few, top-few, top-parts, top-one, gone-once, gone-used, end-replaces, end-pairs, end-readable, end-tree, one-pairs, one-tree, one-readable, one-replaces}

@@ -3,9 +3,9 @@ use Rattle.std.specs.Prelude.{IsSome}
 use Rattle.tree_images.specs.Trees.{pairs_below, root_level, root_least, IsNode}
 use Rattle.key_order.specs.Keys.{seen_by, Ascends, AllReadable}
 use Rattle.key_order.specs.Pairs.{lookup}
-use Rattle.tree_frame.specs.Changes.{levels}
-use Rattle.tree_node.proofs.MakesLemmas.{makes-then, makes-more}
-use Rattle.tree_node.specs.Makes.{MakesNodes}
+use Rattle.tree_make.specs.Changes.{levels}
+use Rattle.tree_make.proofs.MakesLemmas.{makes-then, makes-more}
+use Rattle.tree_make.specs.Makes.{MakesNodes}
 use Rattle.tree_node.specs.Slots.{slot_pairs}
 use Rattle.tree_remove.proofs.Results.{if_ok-then, err_same}
 use Rattle.tree_remove.proofs.TreeLemmas.{root-size, root-level, root-low, root-node, root-pairs, root-levels, top-few, top-room, top-some, rebuilds-from}

@@ -2,8 +2,8 @@ use Rattle.std.proofs.Common.{◌≡◌, ◌+◌, sym, subst, true, Err, ap}
 use Rattle.std.specs.List.{AllByRecursion}
 use Rattle.key_order.specs.Keys.{seen_by}
 use Rattle.store_api.specs.Classes.{in_use}
-use Rattle.tree_frame.specs.Changes.{Drops, levels}
-use Rattle.tree_frame.specs.Times.{EachOnce}
+use Rattle.tree_make.specs.Changes.{Drops, levels}
+use Rattle.tree_make.specs.Times.{EachOnce}
 use Rattle.tree_remove.proofs.Results.{err_same}
 use Rattle.tree_remove.proofs.TreeLemmas.{gone-once, gone-used, end-replaces, end-pairs, end-readable, end-tree}
 use Rattle.tree_remove.proofs.tree.remove.Goals as goal

@@ -1,0 +1,20 @@
+use image_base::Layout;
+
+/// The layout whose root is a tree's, its keys by number, for tests and benchmarks.
+pub struct TreeLayout;
+
+impl Layout for TreeLayout {
+    ghost use Rattle.number_tree.specs.Layouts.{tree_reaches, tree_lawful, tree_empty_reaches, tree_empty_lawful, tree_present, tree_stays};
+
+    ghost reaches = { tree_reaches };
+
+    ghost lawful = { tree_lawful };
+
+    ghost empty_reaches = { tree_empty_reaches };
+
+    ghost empty_lawful = { tree_empty_lawful };
+
+    ghost present = { tree_present };
+
+    ghost stays = { tree_stays };
+}

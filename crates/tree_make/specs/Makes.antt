@@ -1,0 +1,32 @@
+-- What is made of a store when nodes are made.
+use Rattle.std.specs.Prelude.{◌≡◌, ◌≢◌, ◌⊎◌, ℕ, ◌+◌, ◌<◌, ◌≤◌, true, List, [], ◌∷◌, length}
+use Rattle.image_base.specs.Records.{Records}
+use Rattle.store_api.specs.Classes.{Class, is_open, with_class}
+use Rattle.store_api.specs.Ledgers.{Ledger, MayDo}
+use Rattle.tree_images.specs.Trees.{pairs_below, nodes_below, last_key, IsNode, Keeps}
+use Rattle.tree_node.specs.Slots.{slot_pairs, slot_nodes}
+use Rattle.tree_make.specs.declared.make.Part.{Part}
+
+-- at most so many nodes were made and nothing else: all records stay, and what is newly in use was open
+pub record MakesNodes {H : Type 0} (old new : Ledger H) (m n : Records) (most : ℕ) : Type 0 where
+  pub keeps : Keeps m n
+  pub classes : (ref : ℕ) → (new.class ref ≡ old.class ref) ⊎ ((is_open (old.class ref) ≡ true) × (new.class ref ≡ Class.pending))
+  pub made : new.made 34 ≤ old.made 34 + most
+  pub others : (width : ℕ) → width ≢ 34 → new.made width ≡ old.made width
+  pub may : MayDo old new
+
+-- a node of these slots was made, where no record was
+pub record MakesNode {H : Type 0} (old new : Ledger H) (m n : Records) (level : ℕ) (keys values : List ℕ) (ref : ℕ) : Type 0 where
+  pub some : 0 < ref
+  pub none : m ref ≡ []
+  pub node : IsNode n (length keys) level ref
+  pub pairs : pairs_below n level ref ≡ slot_pairs m level keys values
+  pub nodes : nodes_below n level ref ≡ ref ∷ slot_nodes m level values
+  pub was : is_open (old.class ref) ≡ true
+  pub class : new.class ≡ with_class old.class ref Class.pending
+  pub makes : MakesNodes old new m n 1
+
+-- the same of a part, with its last key
+pub record MakesPart {H : Type 0} (old new : Ledger H) (m n : Records) (level : ℕ) (keys values : List ℕ) (part : Part) : Type 0 where
+  pub node : MakesNode old new m n level keys values part.node
+  pub key : part.key ≡ last_key (pairs_below n level part.node)
