@@ -1,3 +1,4 @@
 pub mod TreeLemmas
 pub mod NodeLemmas
 pub mod DistinctLemmas
+pub mod ExampleLemmas

@@ -1,23 +1,23 @@
 -- A node made of slots has its form, and reads as these slots.
-use Rattle.std.proofs.Common.{◌≡◌, ℕ, zero, suc, ◌+◌, ◌-◌, ◌<◌, ◌≤◌, List, ◌++◌, length, slice_index, take, drop, replicate, refl, sym, ap, ◌∙◌, arith, length-append}
+use Rattle.std.proofs.Common.{◌≡◌, ℕ, zero, suc, ◌+◌, ◌^◌, ◌-◌, ◌<◌, ◌≤◌, List, ◌++◌, length, slice_index, take, drop, replicate, refl, sym, ap, ◌∙◌, arith, length-append}
 use Rattle.std.proofs.lemmas.List.{get_or-drop, get_or-append_right, get_or_append_left, length-replicate, take-append-le, take_at, drop_at}
 use Rattle.std.proofs.lemmas.Nat.{div-mul-add, mod-mul-add}
-use Rattle.tree_images.specs.Nodes.{level_of, used_of, node_keys, node_values, padded, node_words, IsNodeForm}
+use Rattle.tree_images.specs.Nodes.{level_of, used_of, node_keys, node_values, slot_words, node_words, IsNodeForm}
 
 zeros_at : (n i : ℕ) → slice_index (replicate n 0) i ≡ 0
 zeros_at zero i = refl
 zeros_at (suc n) zero = refl
 zeros_at (suc n) (suc i) = zeros_at n i
 
-length-padded : (slots : List ℕ) → length slots ≤ 16 → length (padded slots) ≡ 16
-length-padded slots few =
+length-slot_words : (slots : List ℕ) → length slots ≤ 16 → length (slot_words slots) ≡ 16
+length-slot_words slots few =
     let both = length-append slots (replicate (16 - length slots) 0) in
     let rest : length (replicate {A = ℕ} (16 - length slots) 0) ≡ 16 - length slots = length-replicate (16 - length slots) 0 in
     omega arith
 
 -- past the slots there are zeros
-padded_past : (slots : List ℕ) (i : ℕ) → length slots ≤ i → slice_index (padded slots) i ≡ 0
-padded_past slots i past =
+slot_words_past : (slots : List ℕ) (i : ℕ) → length slots ≤ i → slice_index (slot_words slots) i ≡ 0
+slot_words_past slots i past =
     get_or-append_right slots (replicate (16 - length slots) 0) (length slots) i 0 refl past
     ∙ zeros_at (16 - length slots) (i - length slots)
 
@@ -28,13 +28,13 @@ module _ (level count : ℕ) (keys values : List ℕ) (same : length keys ≡ le
   level-words : level_of (node_words level count keys values) ≡ level
   level-words = div-mul-add level 256 (length keys) (omega arith)
 
-  values-behind : drop 18 (node_words level count keys values) ≡ padded values
-  values-behind = drop_at (padded keys) (padded values) 16 (length-padded keys few)
+  values-behind : drop 18 (node_words level count keys values) ≡ slot_words values
+  values-behind = drop_at (slot_words keys) (slot_words values) 16 (length-slot_words keys few)
 
   pub node_keys-words : node_keys (node_words level count keys values) ≡ keys
   node_keys-words =
-      ap (λ n. take n (padded keys ++ padded values)) used-words
-      ∙ take-append-le (length keys) (padded keys) (padded values) (let size = length-padded keys few in omega arith)
+      ap (λ n. take n (slot_words keys ++ slot_words values)) used-words
+      ∙ take-append-le (length keys) (slot_words keys) (slot_words values) (let size = length-slot_words keys few in omega arith)
       ∙ take_at keys (replicate (16 - length keys) 0) (length keys) refl
 
   pub node_values-words : node_values (node_words level count keys values) ≡ values
@@ -46,18 +46,18 @@ module _ (level count : ℕ) (keys values : List ℕ) (same : length keys ≡ le
   no_key_past : (i : ℕ) → length keys ≤ i → i < 16 → slice_index (node_words level count keys values) (2 + i) ≡ 0
   no_key_past i past below =
       sym (get_or-drop 2 (node_words level count keys values) i 0)
-      ∙ get_or_append_left (padded keys) (padded values) 0 i (let size = length-padded keys few in omega arith)
-      ∙ padded_past keys i past
+      ∙ get_or_append_left (slot_words keys) (slot_words values) 0 i (let size = length-slot_words keys few in omega arith)
+      ∙ slot_words_past keys i past
 
   no_value_past : (i : ℕ) → length keys ≤ i → i < 16 → slice_index (node_words level count keys values) (18 + i) ≡ 0
   no_value_past i past below =
       sym (get_or-drop 18 (node_words level count keys values) i 0)
       ∙ ap (λ ws. slice_index ws i) values-behind
-      ∙ padded_past values i (omega arith)
+      ∙ slot_words_past values i (omega arith)
 
-  pub node_formed : count < 4294967296 → IsNodeForm level (length keys) (node_words level count keys values)
+  pub node_formed : count < 2 ^ 32 → IsNodeForm level (length keys) (node_words level count keys values)
   node_formed small = record {
-    size = let both = length-append (padded keys) (padded values) in let first = length-padded keys few in let second = length-padded values (omega arith) in omega arith;
+    size = let both = length-append (slot_words keys) (slot_words values) in let first = length-slot_words keys few in let second = length-slot_words values (omega arith) in omega arith;
     at_level = level-words;
     filled = let used = used-words in omega arith;
     room = let used = used-words in omega arith;

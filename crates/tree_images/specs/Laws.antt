@@ -3,6 +3,7 @@ use Rattle.std.specs.Prelude.{◌≡◌, ℕ, ◌*◌, ◌<◌, ◌≤◌, ◌^�
 use Rattle.std.specs.List.{IsDistinct}
 use Rattle.std.specs.Ordering.{nat_cmp}
 use Rattle.image_base.specs.Records.{Records, SameAt}
+use Rattle.tree_images.specs.declared.TheConstants.{MOST_SLOTS, LEAST_SLOTS}
 use Rattle.tree_images.specs.Nodes.{level_of, count_of, node_keys, node_values, node_words, IsNodeForm}
 use Rattle.tree_images.specs.Trees.{tree_pairs, tree_nodes, by_number, IsRootNode, IsTree, Keeps}
 
@@ -29,7 +30,7 @@ CountIsLength = (m : Records) (root : ℕ) → 0 < root → IsRootNode m root �
 -- a tree of more than one level has many pairs
 abbrev pub HasManyPairs : Type 0
 HasManyPairs = (m : Records) (root : ℕ) → 0 < root → IsRootNode m root → 0 < level_of (m root)
-    → 2 * 8 ^ level_of (m root) ≤ length (tree_pairs m root)
+    → 2 * LEAST_SLOTS ^ level_of (m root) ≤ length (tree_pairs m root)
 
 -- no node of a tree is there twice, whatever its keys read as
 abbrev pub NodesAreDistinct : Type 0
@@ -37,9 +38,9 @@ NodesAreDistinct = (m : Records) (root : ℕ) → IsTree nat_cmp by_number m roo
 
 -- a node made of slots has its form, and reads as these slots
 abbrev pub NodeIsFormed : Type 0
-NodeIsFormed = (level count : ℕ) (keys values : List ℕ) → length keys ≡ length values → length keys ≤ 16 → count < 4294967296
+NodeIsFormed = (level count : ℕ) (keys values : List ℕ) → length keys ≡ length values → length keys ≤ MOST_SLOTS → count < 2 ^ 32
     → IsNodeForm level (length keys) (node_words level count keys values)
 
 abbrev pub NodeReads : Type 0
-NodeReads = (level count : ℕ) (keys values : List ℕ) → length keys ≡ length values → length keys ≤ 16
+NodeReads = (level count : ℕ) (keys values : List ℕ) → length keys ≡ length values → length keys ≤ MOST_SLOTS
     → (node_keys (node_words level count keys values) ≡ keys) × (node_values (node_words level count keys values) ≡ values)

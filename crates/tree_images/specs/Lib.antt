@@ -2,3 +2,4 @@ pub mod Nodes
 pub mod Trees
 pub mod ProofsForTrees
 pub mod Laws
+pub mod Examples

@@ -1,5 +1,5 @@
--- Proved: where the records of a tree are the same in two maps, the tree is the same.
--- These lemmas, and those of ImageFrames, stand here since the layout's own laws cite them.
+-- Nobody has to read this: proofs, which stand here since the laws of a layout cite them.
+-- Where the records of a tree are the same in two maps, the tree is the same.
 use Rattle.std.proofs.Common.{◌≡◌, ℕ, zero, suc, ◌<◌, List, [], ◌∷◌, ◌++◌, length, map, refl, sym, ap, subst, ◌∙◌, arith}
 use Rattle.std.specs.Prelude.{min}
 use Rattle.std.specs.declared.cmp.Ordering.{Ordering}

@@ -4,6 +4,7 @@ use Rattle.std.specs.declared.cmp.Ordering.{Ordering}
 use Rattle.std.specs.List.{zip, flat_map, AllByRecursion}
 use Rattle.std.specs.List.Sorted.{IsStrictlySortedBy}
 use Rattle.image_base.specs.Records.{Records}
+use Rattle.tree_images.specs.declared.TheConstants.{LEAST_SLOTS}
 use Rattle.tree_images.specs.Nodes.{level_of, count_of, node_keys, node_values, IsNodeForm}
 
 -- the pairs below a node: a leaf's keys with its values, or the pairs of the children, one after another
@@ -29,11 +30,11 @@ HasLastKeys m level ws = node_keys ws ≡ map (λ child. last_key (pairs_below m
 abbrev pub HasCount : Records → ℕ → ℕ → Type 0
 HasCount m level ref = count_of (m ref) ≡ length (pairs_below m level ref)
 
--- a node of a level with at least so many slots used; each child has at least 8
+-- a node of a level with at least `least` slots used; each child has at least 8
 unfoldable pub IsNode : Records → ℕ → ℕ → ℕ → Type 0
 IsNode m least zero ref = IsNodeForm 0 least (m ref) × HasCount m 0 ref
 IsNode m least (suc level) ref = IsNodeForm (suc level) least (m ref) × HasCount m (suc level) ref
-    × HasLastKeys m level (m ref) × AllByRecursion (IsNode m 8 level) (node_values (m ref))
+    × HasLastKeys m level (m ref) × AllByRecursion (IsNode m LEAST_SLOTS level) (node_values (m ref))
 
 -- there are at most 8 levels: a root's level above 7 reads as 7
 abbrev pub root_level : Records → ℕ → ℕ

@@ -1,4 +1,5 @@
 //! Laws of trees. Each function does nothing: its contract is the law.
+ghost use Rattle.tree_images.specs.Examples.{TwoLeavesAreATree, TwoLeavesRead};
 ghost use Rattle.tree_images.specs.Laws.{NodeIsFormed, NodeReads, NodesAreDistinct};
 ghost use Rattle.tree_images.specs.Laws.{PairsStay, OldPairsStay, OldRootStays, KeysAscend, CountIsLength, HasManyPairs};
 
@@ -22,4 +23,10 @@ pub fn tree_law()
 pub fn node_law()
     ensures form { NodeIsFormed }
     ensures reads { NodeReads }
+{}
+
+/// Keys 1 to 17 in a leaf of nine and a leaf of eight are a tree, and it reads as these keys.
+pub fn example_law()
+    ensures tree { TwoLeavesAreATree }
+    ensures reads { TwoLeavesRead }
 {}

@@ -1,5 +1,5 @@
 ghost use Rattle.std.specs.Prelude.{◌≡◌, ◌<◌, ◌≤◌, ◌+◌, ◌∷◌, ◌++◌, [], true, ℕ, length, IfOk, OnErr, Err, take};
-ghost use Rattle.tree_images.specs.Nodes.{padded, node_words};
+ghost use Rattle.tree_images.specs.Nodes.{slot_words, node_words};
 ghost use Rattle.store_api.specs.Ledgers.{IsFull};
 ghost use Rattle.tree_node.specs.Slots.{slot_pairs, IsInHand};
 ghost use Rattle.tree_make.specs.Makes.{MakesPart};
@@ -38,7 +38,7 @@ pub fn pairs_in<F: Frozen>(frozen: &mut F, slots: &Slots) -> u64
 fn push_padded(words: &mut ArrayVec<u64, 34>, slots: &[u64])
     requires few { length slots.now ≤ 16 }
     requires room { length words.old.items ≤ 18 }
-    ensures words { words.new.items ≡ words.old.items ++ padded slots.now }
+    ensures words { words.new.items ≡ words.old.items ++ slot_words slots.now }
 {
     for i in 0..16 {
         let word = if i < slots.len() { slots[i] } else { 0 };
