@@ -50,7 +50,7 @@ abbrev pub InNoCommit : Commits → ℕ → Type 0
 InNoCommit commits r = (n : ℕ) → IsKept commits n → words_at (commits.image n) r ≡ []
 
 -- a record of so many words can stand here: at an offset from 1 of a buffer of this width
-pub record Fits (bits : ℕ) (sizes : Sizes) (width r n : ℕ) : Type 0 where
+pub record FitsEntry (bits : ℕ) (sizes : Sizes) (width r n : ℕ) : Type 0 where
   pub entry : IsEntry bits sizes.buffers sizes.words width r
   pub whole : n ≡ width
 

@@ -5,7 +5,7 @@ use Rattle.std.proofs.Math.ListN.{length-set}
 use Rattle.std.proofs.lemmas.Bool.{cases_lt, cases_eq, eq-eqb, ne_eqb}
 use Rattle.std.proofs.lemmas.Option.{slice_get-get_or, slice_get_past}
 use Rattle.entry_ref.specs.References.{buffer_of, offset_of}
-use Rattle.store_api.specs.Ledgers.{is_width, counted}
+use Rattle.store_api.specs.Ledgers.{is_width, one_more}
 use Rattle.entry_shelf.specs.declared.state.State.{State}
 use Rattle.entry_shelf.specs.declared.state.State.TheVariants.{Free, Returned, Made, InUse, LetGo, DroppedNow, Dropped}
 use Rattle.entry_shelf.specs.States.{ShelfView, is_free, state_at, with_made, IsOpen, spare_of}
@@ -115,8 +115,8 @@ open-below row x room fits is = elim (cases_eq x (length row.shelf.states)) [
 abbrev pub made_row : RowView → ℕ → RowView
 made_row row x = record row { shelf = with_made row.shelf x }
 
-counted-high : (n m : ℕ) → m ≤ n + 1 → m < 4294967296 → m ≤ counted n
-counted-high n m few low = omega arith
+one_more-high : (n m : ℕ) → m ≤ n + 1 → m < 4294967296 → m ≤ one_more n
+one_more-high n m few low = omega arith
 
 module _ (v : RowsView) (kept : IsKept v) (w : ℕ) (is : is_width w ≡ true) (idle : v.ready ≡ 0) (x : ℕ) (free : IsOpen (row_at v.rows w).shelf x) where
   all : ℕ
@@ -143,7 +143,7 @@ module _ (v : RowsView) (kept : IsKept v) (w : ℕ) (is : is_width w ≡ true) (
         room = row.room;
         taken = within;
         full = omega arith;
-        made = counted-high (row_at v.rows w).shelf.made (length (with_made (row_at v.rows w).shelf x).states) (omega arith) (omega arith);
+        made = one_more-high (row_at v.rows w).shelf.made (length (with_made (row_at v.rows w).shelf x).states) (omega arith) (omega arith);
         few = row.few;
         member = row.member;
       })
@@ -159,7 +159,7 @@ module _ (v : RowsView) (kept : IsKept v) (w : ℕ) (is : is_width w ≡ true) (
         words = v.words;
         width = λ b. (slot_at v.slots b).width;
         state = λ r. state-put v kept w is x below Made new refl t.puts r i;
-        made = λ u. row-field (λ (n : RowView). n.shelf.made) v.rows new w u (counted row.shelf.made) kept.eleven is refl i;
+        made = λ u. row-field (λ (n : RowView). n.shelf.made) v.rows new w u (one_more row.shelf.made) kept.eleven is refl i;
         spare = λ u. row-field spare_in v.rows new w u (spare_in row - 1) kept.eleven is spare i;
         count = λ u. row-same (λ (n : RowView). length n.buffers) v.rows new w u kept.eleven is refl i;
         filled = λ u. row-same (λ (n : RowView). slice_get n.buffers (length n.buffers - 1)) v.rows new w u kept.eleven is refl i;

@@ -3,7 +3,7 @@ use Rattle.std.specs.Prelude.{◌≡◌, ℕ, ◌+◌, ◌-◌, ◌*◌, ◌/◌
 use Rattle.std.specs.Option.{option_map}
 use Rattle.entry_ref.specs.References.{buffer_of}
 use Rattle.image_base.specs.Places.{IsEntry}
-use Rattle.store_api.specs.Ledgers.{is_width, capacity, with_count, with_filled, counted}
+use Rattle.store_api.specs.Ledgers.{is_width, capacity, with_count, with_filled, one_more}
 use Rattle.entry_shelf.specs.declared.state.State.{State}
 use Rattle.entry_shelf.specs.declared.state.State.TheVariants.{Free, Returned, Made, InUse, LetGo, DroppedNow, Dropped}
 use Rattle.entry_shelf.specs.States.{is_free, dropped, accepted, undone}
@@ -87,7 +87,7 @@ new_entries buffers words = record {
 abbrev pub made_at : EntriesView → ℕ → ℕ → EntriesView
 made_at e width r = record e {
   state = with_state e.state r Made;
-  made = with_count e.made width (counted (e.made width));
+  made = with_count e.made width (one_more (e.made width));
   spare = with_count e.spare width (e.spare width - 1);
   fresh = with_count e.fresh width (e.fresh width + 1);
 }

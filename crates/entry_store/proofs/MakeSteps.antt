@@ -9,49 +9,49 @@ use Rattle.image_base.specs.Places.{IsEntry}
 use Rattle.image_base.specs.Records.{Records, with_words}
 use Rattle.arena_api.specs.Works.{WorkView, Buffer, Stored, active_width, last_tag, free_count}
 use Rattle.arena_api.specs.Calls.{IsLowestFree, handed_out, padded}
-use Rattle.store_api.specs.Classes.{Class, in_use, is_open, has_record, with_class}
-use Rattle.store_api.specs.Ledgers.{Ledger, MayDo, IsSameBack, Makes, IsFull, with_count, counted, capacity, active_count, is_width}
+use Rattle.store_api.specs.Statuses.{Status, in_use, is_open, has_record, with_status}
+use Rattle.store_api.specs.Ledgers.{Ledger, MayDo, IsSameBack, Makes, IsFull, with_count, one_more, capacity, active_count, is_width}
 use Rattle.entry_states.specs.Entries.{EntriesView, CanTake, with_state, made_at, with_buffer, is_open_state, is_free_state}
-use Rattle.entry_store.specs.Standing.{Stands, Puts, Opens, class_by, class_of, back_of, records_of_classes, ledger_of}
+use Rattle.entry_store.specs.Standing.{Stands, Puts, Opens, status_by, status_of, back_of, records_of_statuses, ledger_of}
 use Rattle.entry_store.specs.Laws.{unmade-none}
-use Rattle.entry_store.proofs.StateSteps.{with_state-at, free-class, free-undone}
+use Rattle.entry_store.proofs.StateSteps.{with_state-at, free-status, free-undone}
 use Rattle.entry_store.proofs.Counts.{counts-all, capacity-some}
 
 -- an open entry has no record, now and in what an undo gives back
-open-class : (last : ℕ) (o : Option State) → is_open_state o ≡ true → is_open (class_of last o) ≡ true
-open-class last None h = refl
-open-class last (Some s) h = ap is_open (free-class last s h)
+open-status : (last : ℕ) (o : Option State) → is_open_state o ≡ true → is_open (status_of last o) ≡ true
+open-status last None h = refl
+open-status last (Some s) h = ap is_open (free-status last s h)
 
-open-none : (last : ℕ) (o : Option State) → is_open_state o ≡ true → (ws : List ℕ) → cond (has_record (class_of last o)) ws [] ≡ []
+open-none : (last : ℕ) (o : Option State) → is_open_state o ≡ true → (ws : List ℕ) → cond (has_record (status_of last o)) ws [] ≡ []
 open-none last None h ws = refl
-open-none last (Some s) h ws = ap (λ c. cond (has_record c) ws []) (free-class last s h)
+open-none last (Some s) h ws = ap (λ c. cond (has_record c) ws []) (free-status last s h)
 
 back-none : (last : ℕ) (o : Option State) → is_open_state o ≡ true → (ws : List ℕ) → [] ≡ cond (has_record (back_of last o)) ws []
 back-none last None h ws = refl
-back-none last (Some s) h ws = sym (ap (λ t. cond (has_record (class_by last t)) ws []) (free-undone last s h))
+back-none last (Some s) h ws = sym (ap (λ t. cond (has_record (status_by last t)) ws []) (free-undone last s h))
 
-same-back : (last : ℕ) (o : Option State) → is_open_state o ≡ true → IsSameBack (back_of last o) Class.free
+same-back : (last : ℕ) (o : Option State) → is_open_state o ≡ true → IsSameBack (back_of last o) Status.free
 same-back last None h = inr (refl, refl)
-same-back last (Some s) h = inl (sym (ap (class_by last) (free-undone last s h)))
+same-back last (Some s) h = inl (sym (ap (status_by last) (free-undone last s h)))
 
-free-state : (last : ℕ) (o : Option State) → class_of last o ≡ Class.free → is_free_state o ≡ true
+free-state : (last : ℕ) (o : Option State) → status_of last o ≡ Status.free → is_free_state o ≡ true
 free-state last None e = (cc)
 free-state last (Some s) e = by_state s e
   where
-    by_state : (t : State) → class_by last t ≡ Class.free → is_free_entry t ≡ true
+    by_state : (t : State) → status_by last t ≡ Status.free → is_free_entry t ≡ true
     by_state Free f = refl
     by_state Returned f = refl
     by_state Made f = (cc)
     by_state (InUse after) f = by_test (eqb after last) f
       where
-        by_test : (t : Bool) → cond t Class.pending Class.live ≡ Class.free → false ≡ true
+        by_test : (t : Bool) → cond t Status.pending Status.live ≡ Status.free → false ≡ true
         by_test true h = (cc)
         by_test false h = (cc)
     by_state LetGo f = (cc)
     by_state (DroppedNow after) f = (cc)
     by_state (Dropped after) f = by_test (eqb after last) f
       where
-        by_test : (t : Bool) → cond t Class.dropped Class.spent ≡ Class.free → false ≡ true
+        by_test : (t : Bool) → cond t Status.dropped Status.spent ≡ Status.free → false ≡ true
         by_test true h = (cc)
         by_test false h = (cc)
 
@@ -63,19 +63,19 @@ open-of-free : (o : Option State) → is_free_state o ≡ true → is_open_state
 open-of-free None h = absurd (false≢true h)
 open-of-free (Some s) h = h
 
--- what becomes of the classes and the records where entry r is made
+-- what becomes of the statuses and the records where entry r is made
 module _ (e : ℕ → Option State) (m : Records) (last r : ℕ) (ws : List ℕ) where
-  class-made : (q : ℕ) → class_of last (with_state e r Made q) ≡ with_class (λ x. class_of last (e x)) r Class.pending q
-  class-made q = by_test (eqb q r)
+  status-made : (q : ℕ) → status_of last (with_state e r Made q) ≡ with_status (λ x. status_of last (e x)) r Status.pending q
+  status-made q = by_test (eqb q r)
     where
-      by_test : (t : Bool) → class_of last (cond t (Some Made) (e q)) ≡ cond t Class.pending (class_of last (e q))
+      by_test : (t : Bool) → status_of last (cond t (Some Made) (e q)) ≡ cond t Status.pending (status_of last (e q))
       by_test true = refl
       by_test false = refl
 
-  records-made : (q : ℕ) → cond (has_record (class_of last (with_state e r Made q))) (with_words m r ws q) [] ≡ with_words (records_of_classes (λ x. class_of last (e x)) m) r ws q
+  records-made : (q : ℕ) → cond (has_record (status_of last (with_state e r Made q))) (with_words m r ws q) [] ≡ with_words (records_of_statuses (λ x. status_of last (e x)) m) r ws q
   records-made q = by_test (eqb q r)
     where
-      by_test : (t : Bool) → cond (has_record (class_of last (cond t (Some Made) (e q)))) (cond t ws (m q)) [] ≡ cond t ws (cond (has_record (class_of last (e q))) (m q) [])
+      by_test : (t : Bool) → cond (has_record (status_of last (cond t (Some Made) (e q)))) (cond t ws (m q)) [] ≡ cond t ws (cond (has_record (status_of last (e q))) (m q) [])
       by_test true = refl
       by_test false = refl
 
@@ -95,22 +95,22 @@ module _ {H : Type 0} (work : WorkView H) (shape : ℕ) (m : Records) (e : Entri
       made = more;
       back = λ q. subst (λ (s : ℕ → Option State). IsSameBack (back_of last (e.state q)) (back_of last (with_state s r Made q))) (sym state) (back-at q);
       back_records = λ k q. (ap (λ (s : ℕ → Option State). cond (has_record (back_of last (with_state s r Made q))) (with_words m r ws q) []) state ∙ back_records-at q) k;
-      newly = λ q. subst (λ (s : ℕ → Option State). in_use (class_of last (with_state s r Made q)) ≡ true
-          → (in_use (class_of last (e.state q)) ≡ true) ⊎ (is_open (back_of last (with_state s r Made q)) ≡ true)) (sym state) (newly-at q);
+      newly = λ q. subst (λ (s : ℕ → Option State). in_use (status_of last (with_state s r Made q)) ≡ true
+          → (in_use (status_of last (e.state q)) ≡ true) ⊎ (is_open (back_of last (with_state s r Made q)) ≡ true)) (sym state) (newly-at q);
     }
       where
-        more : (w : ℕ) → e.made w ≤ with_count f.made width (counted (f.made width)) w
-        more w = subst (λ (n : ℕ → ℕ). e.made w ≤ with_count n width (counted (n width)) w) (sym made) (elim (cases_eq w width) [
+        more : (w : ℕ) → e.made w ≤ with_count f.made width (one_more (f.made width)) w
+        more w = subst (λ (n : ℕ → ℕ). e.made w ≤ with_count n width (one_more (n width)) w) (sym made) (elim (cases_eq w width) [
           | inl same ↦
-              subst (λ t. e.made w ≤ cond t (counted (e.made width)) (e.made w)) (sym (eq-eqb w width same))
+              subst (λ t. e.made w ≤ cond t (one_more (e.made width)) (e.made w)) (sym (eq-eqb w width same))
               (let few = st.few_made w in let at : e.made w ≡ e.made width = ap e.made same in omega arith)
-          | inr ne ↦ subst (λ t. e.made w ≤ cond t (counted (e.made width)) (e.made w)) (sym (ne_eqb w width ne)) (omega arith)
+          | inr ne ↦ subst (λ t. e.made w ≤ cond t (one_more (e.made width)) (e.made w)) (sym (ne_eqb w width ne)) (omega arith)
         ])
 
         back-at : (q : ℕ) → IsSameBack (back_of last (e.state q)) (back_of last (with_state e.state r Made q))
         back-at q =
             with_state-at (λ o. IsSameBack (back_of last (e.state q)) (back_of last o)) e.state r Made q
-            (λ same. subst (λ o. IsSameBack (back_of last o) Class.free) (sym (ap e.state same)) (same-back last (e.state r) can)) (λ ne. inl refl)
+            (λ same. subst (λ o. IsSameBack (back_of last o) Status.free) (sym (ap e.state same)) (same-back last (e.state r) can)) (λ ne. inl refl)
 
         back_records-at : (q : ℕ) → cond (has_record (back_of last (with_state e.state r Made q))) (with_words m r ws q) [] ≡ cond (has_record (back_of last (e.state q))) (m q) []
         back_records-at q = elim (cases_eq q r) [
@@ -122,10 +122,10 @@ module _ {H : Type 0} (work : WorkView H) (shape : ℕ) (m : Records) (e : Entri
               ∙ ap (λ xs. cond (has_record (back_of last (e.state q))) xs []) (cond-false (eqb q r) ws (m q) (ne_eqb q r ne))
         ]
 
-        newly-at : (q : ℕ) → in_use (class_of last (with_state e.state r Made q)) ≡ true
-            → (in_use (class_of last (e.state q)) ≡ true) ⊎ (is_open (back_of last (with_state e.state r Made q)) ≡ true)
+        newly-at : (q : ℕ) → in_use (status_of last (with_state e.state r Made q)) ≡ true
+            → (in_use (status_of last (e.state q)) ≡ true) ⊎ (is_open (back_of last (with_state e.state r Made q)) ≡ true)
         newly-at q =
-            with_state-at (λ o. in_use (class_of last o) ≡ true → (in_use (class_of last (e.state q)) ≡ true) ⊎ (is_open (back_of last o) ≡ true)) e.state r Made q
+            with_state-at (λ o. in_use (status_of last o) ≡ true → (in_use (status_of last (e.state q)) ≡ true) ⊎ (is_open (back_of last o) ≡ true)) e.state r Made q
             (λ same h. inr refl) (λ ne h. inl h)
 
   -- a free or unmade entry is taken
@@ -136,7 +136,7 @@ module _ {H : Type 0} (work : WorkView H) (shape : ℕ) (m : Records) (e : Entri
     place-made : IsEntry work.sizes.buffers work.sizes.words width r
     place-made = subst (λ n. IsEntry n work.sizes.words width r) st.buffers (subst (λ n. IsEntry e.buffers n width r) st.words can.entry)
 
-    free_first-made : class_of last (e.state r) ≡ Class.unmade → (q : ℕ) → active_width (work.buffer (buffer_of q)) ≡ width → class_of last (e.state q) ≢ Class.free
+    free_first-made : status_of last (e.state r) ≡ Status.unmade → (q : ℕ) → active_width (work.buffer (buffer_of q)) ≡ width → status_of last (e.state q) ≢ Status.free
     free_first-made unmade q same free =
         let is_free_q = free-state last (e.state q) free in
         let had = state-of-free (e.state q) is_free_q in
@@ -145,14 +145,14 @@ module _ {H : Type 0} (work : WorkView H) (shape : ℕ) (m : Records) (e : Entri
         true≢false (sym is_free_q ∙ can.free_first (unmade-none last (e.state r) unmade) q (st.width (buffer_of q) low ∙ same))
 
     pub makes-spare : Makes (ledger_of work shape m e unit last) (ledger_of (record work { stored = stored }) shape (with_words m r (padded words width)) (made_at e width r) unit last)
-        (records_of_classes (λ q. class_of last (e.state q)) m)
-        (records_of_classes (λ q. class_of last (with_state e.state r Made q)) (with_words m r (padded words width))) width words r
+        (records_of_statuses (λ q. status_of last (e.state q)) m)
+        (records_of_statuses (λ q. status_of last (with_state e.state r Made q)) (with_words m r (padded words width))) width words r
     makes-spare = record {
-      was = open-class last (e.state r) can.is_open;
+      was = open-status last (e.state r) can.is_open;
       free_first = free_first-made;
       place = place-made;
       of_width = sym (st.width (buffer_of r) inside) ∙ can.of_width;
-      class = λ k q. class-made e.state m last r (padded words width) q k;
+      status = λ k q. status-made e.state m last r (padded words width) q k;
       none = open-none last (e.state r) can.is_open (m r);
       records = λ k q. records-made e.state m last r (padded words width) q k;
       made = refl;
@@ -180,7 +180,7 @@ module _ {H : Type 0} (work : WorkView H) (shape : ℕ) (m : Records) (e : Entri
     place-new : IsEntry work.sizes.buffers work.sizes.words width r
     place-new = subst (λ n. IsEntry n work.sizes.words width r) st.buffers (subst (λ n. IsEntry e.buffers n width r) st.words can.entry)
 
-    free_first-new : class_of last (e.state r) ≡ Class.unmade → (q : ℕ) → active_width (work.buffer (buffer_of q)) ≡ width → class_of last (e.state q) ≢ Class.free
+    free_first-new : status_of last (e.state r) ≡ Status.unmade → (q : ℕ) → active_width (work.buffer (buffer_of q)) ≡ width → status_of last (e.state q) ≢ Status.free
     free_first-new unmade q same free =
         let is_free_q = free-state last (e.state q) free in
         let had = state-of-free (e.state q) is_free_q in
@@ -202,14 +202,14 @@ module _ {H : Type 0} (work : WorkView H) (shape : ℕ) (m : Records) (e : Entri
 
     pub makes-buffer : Makes (ledger_of work shape m e unit last)
         (ledger_of (record (handed_out work b width) { stored = stored }) shape (with_words m r (padded words width)) (made_at (with_buffer e b width) width r) unit last)
-        (records_of_classes (λ q. class_of last (e.state q)) m)
-        (records_of_classes (λ q. class_of last (with_state e.state r Made q)) (with_words m r (padded words width))) width words r
+        (records_of_statuses (λ q. status_of last (e.state q)) m)
+        (records_of_statuses (λ q. status_of last (with_state e.state r Made q)) (with_words m r (padded words width))) width words r
     makes-buffer = record {
-      was = open-class last (e.state r) can.is_open;
+      was = open-status last (e.state r) can.is_open;
       free_first = free_first-new;
       place = place-new;
       of_width = ap active_width (cond-true (eqb (buffer_of r) b) (Buffer.active width (last_tag (work.buffer b))) (work.buffer (buffer_of r)) (eq-eqb (buffer_of r) b of-new));
-      class = λ k q. class-made e.state m last r (padded words width) q k;
+      status = λ k q. status-made e.state m last r (padded words width) q k;
       none = open-none last (e.state r) can.is_open (m r);
       records = λ k q. records-made e.state m last r (padded words width) q k;
       made = refl;
@@ -243,7 +243,7 @@ module _ {H : Type 0} (work new : WorkView H) (shape formed : ℕ) (m n : Record
     (st : Stands work m e unit last active) (shape_is : formed ≡ shape) (unit_is : unit' ≡ unit) (last_is : last' ≡ last) where
   abbrev IsMade : WorkView H → ℕ → Records → EntriesView → Bool → ℕ → Type 0
   IsMade v i x g u l =
-      Makes (ledger_of work shape m e unit last) (ledger_of v i x g u l) (records_of_classes (λ q. class_of last (e.state q)) m) (records_of_classes (λ q. class_of l (g.state q)) x) width words r
+      Makes (ledger_of work shape m e unit last) (ledger_of v i x g u l) (records_of_statuses (λ q. status_of last (e.state q)) m) (records_of_statuses (λ q. status_of l (g.state q)) x) width words r
 
   abbrev IsLawful : WorkView H → ℕ → Records → EntriesView → Bool → ℕ → Type 0
   IsLawful v i x g u l = MayDo (ledger_of work shape m e unit last) (ledger_of v i x g u l)
@@ -251,8 +251,8 @@ module _ {H : Type 0} (work new : WorkView H) (shape formed : ℕ) (m n : Record
   -- an entry to spare was taken
   module _ (puts : Puts work new m n e f width words r) where
     pub spare-makes : 0 < e.spare width
-        → Makes (ledger_of work shape m e unit last) (ledger_of new formed n f unit' last') (records_of_classes (λ q. class_of last (e.state q)) m)
-        (records_of_classes (λ q. class_of last' (f.state q)) n) width words r
+        → Makes (ledger_of work shape m e unit last) (ledger_of new formed n f unit' last') (records_of_statuses (λ q. status_of last (e.state q)) m)
+        (records_of_statuses (λ q. status_of last' (f.state q)) n) width words r
     spare-makes some = along IsMade puts.work shape_is puts.records puts.made unit_is last_is (makes-spare work shape m e unit last active st width r words puts.can new.stored some)
 
     pub spare-may : MayDo (ledger_of work shape m e unit last) (ledger_of new formed n f unit' last')
@@ -279,8 +279,8 @@ module _ {H : Type 0} (work new : WorkView H) (shape formed : ℕ) (m n : Record
     records_is = puts.records ∙ ap (λ (y : Records). with_words y r (padded words width)) records_same
 
     pub buffer-makes : e.spare width ≡ 0
-        → Makes (ledger_of work shape m e unit last) (ledger_of new formed n f unit' last') (records_of_classes (λ q. class_of last (e.state q)) m)
-        (records_of_classes (λ q. class_of last' (f.state q)) n) width words r
+        → Makes (ledger_of work shape m e unit last) (ledger_of new formed n f unit' last') (records_of_statuses (λ q. status_of last (e.state q)) m)
+        (records_of_statuses (λ q. status_of last' (f.state q)) n) width words r
     buffer-makes none =
         along IsMade work_is shape_is records_is entries_is unit_is last_is
         (makes-buffer work shape m e unit last active st width opened.buffer r words none opened.lowest can new.stored)

@@ -11,68 +11,68 @@ use Rattle.image_base.specs.Places.{IsEntry}
 use Rattle.image_base.specs.Records.{Records}
 use Rattle.image_base.specs.Images.{words_at}
 use Rattle.arena_api.specs.Works.{WorkView, active_width, last_image}
-use Rattle.arena_api.specs.Calls.{Fits}
-use Rattle.store_api.specs.Classes.{Class, has_record, is_open, is_committed}
+use Rattle.arena_api.specs.Calls.{FitsEntry}
+use Rattle.store_api.specs.Statuses.{Status, has_record, is_open, is_committed}
 use Rattle.store_api.specs.Ledgers.{IsSettled, IsEntryOf, is_width, capacity}
 use Rattle.store_api.proofs.Counting.{few_entries, few_nodes}
 use Rattle.entry_states.specs.Entries.{EntriesView, is_open_state}
-use Rattle.entry_store.specs.Standing.{Stands, class_by, class_of, back_of, ledger_of}
+use Rattle.entry_store.specs.Standing.{Stands, status_by, status_of, back_of, ledger_of}
 
--- a record that is filtered by its class is there
+-- a record that is filtered by its status is there
 pub some_filtered : (t : Bool) (ws : List ℕ) → 0 < length (cond t ws []) → (t ≡ true) × (0 < length ws)
 some_filtered true ws h = (refl, h)
 some_filtered false ws h = absurd (omega arith)
 
-pub class_by-ne_unmade : (last : ℕ) (s : State) → class_by last s ≡ Class.unmade → ⊥
-class_by-ne_unmade last Free e = (cc)
-class_by-ne_unmade last Returned e = (cc)
-class_by-ne_unmade last Made e = (cc)
-class_by-ne_unmade last (InUse after) e = by_test (eqb after last) e
+pub status_by-ne_unmade : (last : ℕ) (s : State) → status_by last s ≡ Status.unmade → ⊥
+status_by-ne_unmade last Free e = (cc)
+status_by-ne_unmade last Returned e = (cc)
+status_by-ne_unmade last Made e = (cc)
+status_by-ne_unmade last (InUse after) e = by_test (eqb after last) e
   where
-    by_test : (t : Bool) → cond t Class.pending Class.live ≡ Class.unmade → ⊥
+    by_test : (t : Bool) → cond t Status.pending Status.live ≡ Status.unmade → ⊥
     by_test true f = (cc)
     by_test false f = (cc)
-class_by-ne_unmade last LetGo e = (cc)
-class_by-ne_unmade last (DroppedNow after) e = (cc)
-class_by-ne_unmade last (Dropped after) e = by_test (eqb after last) e
+status_by-ne_unmade last LetGo e = (cc)
+status_by-ne_unmade last (DroppedNow after) e = (cc)
+status_by-ne_unmade last (Dropped after) e = by_test (eqb after last) e
   where
-    by_test : (t : Bool) → cond t Class.dropped Class.spent ≡ Class.unmade → ⊥
+    by_test : (t : Bool) → cond t Status.dropped Status.spent ≡ Status.unmade → ⊥
     by_test true f = (cc)
     by_test false f = (cc)
 
-pub unmade-none : (last : ℕ) (o : Option State) → class_of last o ≡ Class.unmade → o ≡ None
+pub unmade-none : (last : ℕ) (o : Option State) → status_of last o ≡ Status.unmade → o ≡ None
 unmade-none last None e = refl
-unmade-none last (Some s) e = absurd (class_by-ne_unmade last s e)
+unmade-none last (Some s) e = absurd (status_by-ne_unmade last s e)
 
-pub open-free : (last : ℕ) (s : State) → is_open (class_by last s) ≡ true → is_free s ≡ true
+pub open-free : (last : ℕ) (s : State) → is_open (status_by last s) ≡ true → is_free s ≡ true
 open-free last Free h = refl
 open-free last Returned h = refl
 open-free last Made h = h
 open-free last (InUse after) h = by_test (eqb after last) h
   where
-    by_test : (t : Bool) → is_open (cond t Class.pending Class.live) ≡ true → false ≡ true
+    by_test : (t : Bool) → is_open (cond t Status.pending Status.live) ≡ true → false ≡ true
     by_test true f = f
     by_test false f = f
 open-free last LetGo h = h
 open-free last (DroppedNow after) h = h
 open-free last (Dropped after) h = by_test (eqb after last) h
   where
-    by_test : (t : Bool) → is_open (cond t Class.dropped Class.spent) ≡ true → false ≡ true
+    by_test : (t : Bool) → is_open (cond t Status.dropped Status.spent) ≡ true → false ≡ true
     by_test true f = f
     by_test false f = f
 
-pub open-state : (last : ℕ) (o : Option State) → is_open (class_of last o) ≡ true → is_open_state o ≡ true
+pub open-state : (last : ℕ) (o : Option State) → is_open (status_of last o) ≡ true → is_open_state o ≡ true
 open-state last None h = refl
 open-state last (Some s) h = open-free last s h
 
-pub committed-has : (c : Class) → is_committed c ≡ true → has_record c ≡ true
-committed-has Class.unmade h = h
-committed-has Class.free h = h
-committed-has Class.pending h = refl
-committed-has Class.live h = refl
-committed-has Class.dropped h = refl
-committed-has Class.let_go h = refl
-committed-has Class.spent h = h
+pub committed-has : (c : Status) → is_committed c ≡ true → has_record c ≡ true
+committed-has Status.unmade h = h
+committed-has Status.free h = h
+committed-has Status.pending h = refl
+committed-has Status.live h = refl
+committed-has Status.dropped h = refl
+committed-has Status.let_go h = refl
+committed-has Status.spent h = h
 
 -- what no unit has changed stays through an undo
 pub untouched : (last : ℕ) (s : State) → is_touched s ≡ false → undone last s ≡ s
@@ -85,24 +85,24 @@ untouched last (DroppedNow after) h = absurd (true≢false h)
 untouched last (Dropped after) h = refl
 
 module _ {H : Type 0} (work : WorkView H) (m : Records) (e : EntriesView) (unit : Bool) (last active : ℕ) (st : Stands work m e unit last active) where
-  abbrev class : ℕ → Class
-  class r = class_of last (e.state r)
+  abbrev status : ℕ → Status
+  status r = status_of last (e.state r)
 
   abbrev records : Records
-  records r = cond (has_record (class_of last (e.state r))) (m r) []
+  records r = cond (has_record (status_of last (e.state r))) (m r) []
 
   pub store_references : ((r : ℕ) → 0 < length (m r) → r < 4294967296) → (r : ℕ) → 0 < length (records r) → r < 4294967296
   store_references small r some = small r (some_filtered _ _ some).1
 
-  pub store_classed : (r : ℕ) → (has_record (class r) ≡ true → 0 < length (records r)) × (0 < length (records r) → has_record (class r) ≡ true)
-  store_classed r =
-      (λ h. subst (λ ws. 0 < length ws) (sym (cond-true (has_record (class r)) (m r) [] h)) (st.there r h), λ some. (some_filtered (has_record (class r)) (m r) some).0)
+  pub store_recorded : (r : ℕ) → (has_record (status r) ≡ true → 0 < length (records r)) × (0 < length (records r) → has_record (status r) ≡ true)
+  store_recorded r =
+      (λ h. subst (λ ws. 0 < length ws) (sym (cond-true (has_record (status r)) (m r) [] h)) (st.there r h), λ some. (some_filtered (has_record (status r)) (m r) some).0)
 
-  pub store_placed : ((r : ℕ) → 0 < length (m r) → Fits work.sizes (active_width (work.buffer (buffer_of r))) r (length (m r)))
-      → (r : ℕ) → 0 < length (records r) → Fits work.sizes (active_width (work.buffer (buffer_of r))) r (length (records r))
+  pub store_placed : ((r : ℕ) → 0 < length (m r) → FitsEntry work.sizes (active_width (work.buffer (buffer_of r))) r (length (m r)))
+      → (r : ℕ) → 0 < length (records r) → FitsEntry work.sizes (active_width (work.buffer (buffer_of r))) r (length (records r))
   store_placed fits r some =
-      let both = some_filtered (has_record (class r)) (m r) some in
-      subst (λ ws. Fits work.sizes (active_width (work.buffer (buffer_of r))) r (length ws)) (sym (cond-true (has_record (class r)) (m r) [] both.0)) (fits r both.1)
+      let both = some_filtered (has_record (status r)) (m r) some in
+      subst (λ ws. FitsEntry work.sizes (active_width (work.buffer (buffer_of r))) r (length ws)) (sym (cond-true (has_record (status r)) (m r) [] both.0)) (fits r both.1)
 
   -- an entry of an active buffer of the work is one of the entries
   pub entry-of : (r : ℕ) → IsEntryOf work r → IsEntry e.buffers e.words (e.width (buffer_of r)) r
@@ -111,21 +111,21 @@ module _ {H : Type 0} (work : WorkView H) (m : Records) (e : EntriesView) (unit 
       (subst (λ n. IsEntry work.sizes.buffers n (e.width (buffer_of r)) r) (sym st.words)
       (subst (λ n. IsEntry work.sizes.buffers work.sizes.words n r) (sym (st.width (buffer_of r) entry.inside)) entry))
 
-  pub store_filled : (r : ℕ) → IsEntryOf work r → class r ≡ Class.unmade → e.filled (active_width (work.buffer (buffer_of r))) ≡ Some (buffer_of r)
+  pub store_filled : (r : ℕ) → IsEntryOf work r → status r ≡ Status.unmade → e.filled (active_width (work.buffer (buffer_of r))) ≡ Some (buffer_of r)
   store_filled r entry none =
       subst (λ n. e.filled n ≡ Some (buffer_of r)) (st.width (buffer_of r) entry.inside)
       (st.good.filled r (entry-of r entry) (unmade-none last (e.state r) none))
 
-  pub store_spares : (r : ℕ) → IsEntryOf work r → is_open (class r) ≡ true → 0 < e.spare (active_width (work.buffer (buffer_of r)))
+  pub store_spares : (r : ℕ) → IsEntryOf work r → is_open (status r) ≡ true → 0 < e.spare (active_width (work.buffer (buffer_of r)))
   store_spares r entry open_is =
       subst (λ n. 0 < e.spare n) (st.width (buffer_of r) entry.inside) (st.good.spares r (entry-of r entry) (open-state last (e.state r) open_is))
 
-  pub store_last : (r : ℕ) → is_committed (class r) ≡ true → records r ≡ words_at (last_image work.commits) r
-  store_last r h = cond-true (has_record (class r)) (m r) [] (committed-has _ h) ∙ st.committed r h
+  pub store_last : (r : ℕ) → is_committed (status r) ≡ true → records r ≡ words_at (last_image work.commits) r
+  store_last r h = cond-true (has_record (status r)) (m r) [] (committed-has _ h) ∙ st.committed r h
 
-  back-same : unit ≡ false → (r : ℕ) (o : Option State) → e.state r ≡ o → back_of last o ≡ class_of last o
+  back-same : unit ≡ false → (r : ℕ) (o : Option State) → e.state r ≡ o → back_of last o ≡ status_of last o
   back-same ended r None is = refl
-  back-same ended r (Some s) is = ap (class_by last) (untouched last s (st.settled ended r s is))
+  back-same ended r (Some s) is = ap (status_by last) (untouched last s (st.settled ended r s is))
 
   pub store_settled : (shape : ℕ) → unit ≡ false → IsSettled (ledger_of work shape m e unit last) records
   store_settled shape ended = record {
@@ -138,7 +138,7 @@ module _ {H : Type 0} (work : WorkView H) (m : Records) (e : EntriesView) (unit 
   pub store_few_buffers : (w : ℕ) → is_width w ≡ true → e.count w ≤ 1 + e.made w / capacity work.sizes.words w
   store_few_buffers w is = subst (λ n. e.count w ≤ 1 + e.made w / capacity n w) st.words (st.good.bound w is)
 
-  entries-each : ((r : ℕ) → 0 < length (m r) → Fits work.sizes (active_width (work.buffer (buffer_of r))) r (length (m r))) → (w : ℕ) → 0 < w
+  entries-each : ((r : ℕ) → 0 < length (m r) → FitsEntry work.sizes (active_width (work.buffer (buffer_of r))) r (length (m r))) → (w : ℕ) → 0 < w
       → (refs : List ℕ) → All (λ r. length (records r) ≡ w) refs → AllByRecursion (IsEntry work.sizes.buffers work.sizes.words w) refs
   entries-each fits w wide [] all = tt
   entries-each fits w wide (r ∷ rs) all = (one, entries-each fits w wide rs (All-tail (λ q. length (records q) ≡ w) r rs all))
@@ -151,12 +151,12 @@ module _ {H : Type 0} (work : WorkView H) (m : Records) (e : EntriesView) (unit 
           let fit = store_placed fits r (omega (arith, long, wide)) in
           subst (λ n. IsEntry work.sizes.buffers work.sizes.words n r) (sym fit.whole ∙ long) fit.entry
 
-  pub store_few_records : ((r : ℕ) → 0 < length (m r) → Fits work.sizes (active_width (work.buffer (buffer_of r))) r (length (m r))) → (w : ℕ) (refs : List ℕ) → 0 < w
+  pub store_few_records : ((r : ℕ) → 0 < length (m r) → FitsEntry work.sizes (active_width (work.buffer (buffer_of r))) r (length (m r))) → (w : ℕ) (refs : List ℕ) → 0 < w
       → IsDistinct eqb refs → All (λ r. length (records r) ≡ w) refs → length refs ≤ work.sizes.buffers * capacity work.sizes.words w
   store_few_records fits w refs wide distinct all =
       few_entries work.sizes.buffers work.sizes.words w refs distinct (entries-each fits w wide refs all)
 
-  pub store_few_nodes : ((r : ℕ) → 0 < length (m r) → Fits work.sizes (active_width (work.buffer (buffer_of r))) r (length (m r))) → work.sizes.buffers * work.sizes.words ≤ 67108864
+  pub store_few_nodes : ((r : ℕ) → 0 < length (m r) → FitsEntry work.sizes (active_width (work.buffer (buffer_of r))) r (length (m r))) → work.sizes.buffers * work.sizes.words ≤ 67108864
       → (refs : List ℕ) → IsDistinct eqb refs → All (λ r. length (records r) ≡ 34) refs → length refs ≤ 1973790
   store_few_nodes fits total refs distinct all =
       omega (arith, store_few_records fits 34 refs (omega arith) distinct all, few_nodes work.sizes.buffers work.sizes.words total)

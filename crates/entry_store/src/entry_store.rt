@@ -3,11 +3,11 @@ ghost use Rattle.std.specs.Prelude.{IsNone, IfSome, IfNone, IfOk, IfErr, OnOk, O
 ghost use Rattle.arena_api.specs.Works.{free_count};
 ghost use Rattle.arena_api.specs.Calls.{IsFresh};
 ghost use Rattle.store_api.specs.Ledgers.{is_width, IsNew};
-ghost use Rattle.store_api.specs.Classes.{has_record};
+ghost use Rattle.store_api.specs.Statuses.{has_record};
 ghost use Rattle.image_base.specs.Maps.{seen};
 ghost use Rattle.entry_ref.specs.References.{buffer_of};
 ghost use Rattle.entry_states.specs.Rows.{entries_of};
-ghost use Rattle.entry_store.specs.Standing.{Stands, class_of, records_of_classes, ledger_of, Puts, Opens};
+ghost use Rattle.entry_store.specs.Standing.{Stands, status_of, records_of_statuses, ledger_of, Puts, Opens};
 ghost use Rattle.image_base.specs.Before.{those_before};
 
 use crate::words::words_of_record;
@@ -137,7 +137,7 @@ impl<W: Work> EntryStore<W> {
 
     /// Whether an entry has a record.
     fn has_record(&self, entry: EntryRef) -> bool
-        ensures { result ≡ has_record (class_of self.now.last ((entries_of self.now.entries).state entry)) }
+        ensures { result ≡ has_record (status_of self.now.last ((entries_of self.now.entries).state entry)) }
     {
         match self.entries.state(entry) {
             Some(State::Made | State::InUse { .. } | State::LetGo | State::DroppedNow { .. }) =>
@@ -204,7 +204,7 @@ impl<W: Work> Frozen for EntryStore<W> {
 
     ghost shape = { λ s. W.shape s.work };
 
-    ghost records = { λ s. records_of_classes (λ r. class_of s.last ((entries_of s.entries).state r)) (W.records s.work) };
+    ghost records = { λ s. records_of_statuses (λ r. status_of s.last ((entries_of s.entries).state r)) (W.records s.work) };
 
     fn word(&mut self, entry: EntryRef, i: u32) -> u64 {
         self.work.word(entry, i)
@@ -216,7 +216,7 @@ impl<W: Work> Frozen for EntryStore<W> {
 
 impl<W: Work> Store for EntryStore<W> {
     ghost use Rattle.std.specs.Prelude.{refl};
-    ghost use Rattle.entry_store.specs.Laws.{store_classed, store_placed, store_filled, store_spares, store_last, store_settled};
+    ghost use Rattle.entry_store.specs.Laws.{store_recorded, store_placed, store_filled, store_spares, store_last, store_settled};
     ghost use Rattle.entry_store.specs.Laws.{store_few_buffers, store_few_records, store_few_nodes};
 
     type Layout = W::Layout;
@@ -268,7 +268,7 @@ impl<W: Work> Store for EntryStore<W> {
 
     ghost limits = { λ s. W.limits s.work };
 
-    ghost classed = { λ s. store_classed (W.knows s.work) (W.records s.work) (entries_of s.entries)
+    ghost recorded = { λ s. store_recorded (W.knows s.work) (W.records s.work) (entries_of s.entries)
         s.unit s.last s.active s.stands };
 
     ghost placed = { λ s. store_placed (W.knows s.work) (W.records s.work) (entries_of s.entries)

@@ -9,7 +9,7 @@ use Rattle.image_base.specs.Places.{IsEntry}
 use Rattle.image_base.specs.Records.{Records}
 use Rattle.image_base.proofs.Apart.{entry-small}
 use Rattle.arena_api.specs.Works.{Tag, Buffer, Hold, active_width, width_of}
-use Rattle.arena_api.specs.Calls.{Fits, IsWordIn, IsInOrder, IsWithinLimits}
+use Rattle.arena_api.specs.Calls.{FitsEntry, IsWordIn, IsInOrder, IsWithinLimits}
 use Rattle.mem_work.specs.Cells.{width_in, standing, is_whole, stored_in, image_in, records_in, buffer_by, buffers_in, sizes_of, only_hold, memory_view}
 use Rattle.mem_work.specs.Standing.{standing-entry, length-standing, word-standing}
 use Rattle.mem_work.specs.Stamped.{active_width-by, width_of-by, is_stored, whole-from}
@@ -38,7 +38,7 @@ module _ (reaches : ℕ → Records → ℕ → List ℕ) (shape : ℕ) (table s
 
   -- what stands fills an entry of its buffer's width
   fits : (width r : ℕ) (ws : List ℕ) → length table ≡ buffers * words → width ≡ width_in table words (buffer_of bits r) → standing table bits buffers words r ≡ ws → 0 < length ws
-      → Fits bits (sizes_of buffers words) width r (length ws)
+      → FitsEntry bits (sizes_of buffers words) width r (length ws)
   fits width r ws room is stands some =
       let e = (standing-entry table bits buffers words r 0 (subst (λ x. 0 < length x) (sym stands) some)).0 in
       record {
@@ -47,11 +47,11 @@ module _ (reaches : ℕ → Records → ℕ → List ℕ) (shape : ℕ) (table s
       }
 
   pub memory_entries : length table ≡ buffers * words → (r : ℕ) → 0 < length (records_in reaches shape table stamps bits buffers words last root r)
-      → Fits bits (sizes_of buffers words) (active_width (buffers_in table words (buffer_of bits r))) r (length (records_in reaches shape table stamps bits buffers words last root r))
+      → FitsEntry bits (sizes_of buffers words) (active_width (buffers_in table words (buffer_of bits r))) r (length (records_in reaches shape table stamps bits buffers words last root r))
   memory_entries room r some = fits _ r _ room (active_width-by (width_in table words (buffer_of bits r))) (records-stand r some) some
 
   pub memory_kept : length table ≡ buffers * words → (r : ℕ) → 0 < length (words_at (image_in reaches shape table bits buffers words root) r)
-      → Fits bits (sizes_of buffers words) (width_of (buffers_in table words (buffer_of bits r))) r (length (words_at (image_in reaches shape table bits buffers words root) r))
+      → FitsEntry bits (sizes_of buffers words) (width_of (buffers_in table words (buffer_of bits r))) r (length (words_at (image_in reaches shape table bits buffers words root) r))
   memory_kept room r some = fits _ r _ room (width_of-by (width_in table words (buffer_of bits r))) (words-found _ (standing table bits buffers words) root r some) some
 
   pub memory_last : (r : ℕ) → 0 < length (words_at (image_in reaches shape table bits buffers words root) r)

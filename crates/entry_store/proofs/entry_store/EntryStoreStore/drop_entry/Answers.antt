@@ -2,7 +2,7 @@ use Rattle.std.proofs.Common.{sym, subst, ap, ◌∙◌, ◌≡◌, ◌<◌}
 use Rattle.entry_ref.specs.References.{buffer_of}
 use Rattle.store_api.specs.Ledgers.{MayDo, without_free}
 use Rattle.entry_states.specs.Entries.{IsGood}
-use Rattle.entry_store.specs.Standing.{Stands, ledger_of, class_of, records_of_classes}
+use Rattle.entry_store.specs.Standing.{Stands, ledger_of, status_of, records_of_statuses}
 use Rattle.entry_store.proofs.Stands.{stands-dropped}
 use Rattle.entry_store.proofs.Drops.{ledger-dropped, records-dropped, may-drop, used-some}
 use Rattle.entry_states.specs.Rows.{entries_of}
@@ -32,8 +32,8 @@ returns-clause-records g c =
     let s = c.args.self.now in
     let had = used-some s.last _ c.requires.used in
     subst
-    (λ v. records_of_classes (λ q. class_of s.last (v.state q)) (g.W.Frozen.records s.work)
-    ≡ without_free (λ q. class_of s.last (v.state q)) (records_of_classes (λ q. class_of s.last ((entries_of s.entries).state q)) (g.W.Frozen.records s.work)))
+    (λ v. records_of_statuses (λ q. status_of s.last (v.state q)) (g.W.Frozen.records s.work)
+    ≡ without_free (λ q. status_of s.last (v.state q)) (records_of_statuses (λ q. status_of s.last ((entries_of s.entries).state q)) (g.W.Frozen.records s.work)))
     (sym (c.drop_entry.ensures.dropped had.0 had.1))
     (records-dropped (g.W.Work.knows s.work) (g.W.Frozen.shape s.work) (g.W.Frozen.records s.work) (entries_of s.entries) s.unit s.last c.args.entry had.0 had.1 had.2)
 

@@ -3,7 +3,7 @@ use Rattle.store_api.specs.declared.store.StoreError.TheVariants.{Full}
 use Rattle.arena_api.specs.Works.{free_count}
 use Rattle.store_api.specs.Ledgers.{MayDo, active_count}
 use Rattle.entry_states.specs.Entries.{EntriesView}
-use Rattle.entry_store.specs.Standing.{ledger_of, records_of_classes, class_of}
+use Rattle.entry_store.specs.Standing.{ledger_of, records_of_statuses, status_of}
 use Rattle.std.proofs.lemmas.Result.{err_from_is_err_and}
 use Rattle.entry_store.proofs.MakeSteps.{not-none, spare-makes, spare-may, buffer-makes, buffer-may, is_full, along, spare-opened}
 use Rattle.store_api.proofs.May.{may_do-same}
@@ -68,9 +68,9 @@ returns-in_err-open_buffer-clause-left g c =
     let n = c.in_default.ensures in
     let p = err_from_is_err_and c.from_residual.result c.from_residual.ensures.1 in
     rw p.1
-    (ap (λ l. records_of_classes (λ r. class_of l ((entries_of t.entries).state r)) (g.W.Frozen.records t.work)) (o.last ∙ n.last)
-    ∙ ap (λ (e : EntriesView). records_of_classes (λ r. class_of s.last (e.state r)) (g.W.Frozen.records t.work)) (o.left ∙ n.left)
-    ∙ ap (λ w. records_of_classes (λ r. class_of s.last ((entries_of s.entries).state r)) (g.W.Frozen.records w)) (o.work_left ∙ n.work_left))
+    (ap (λ l. records_of_statuses (λ r. status_of l ((entries_of t.entries).state r)) (g.W.Frozen.records t.work)) (o.last ∙ n.last)
+    ∙ ap (λ (e : EntriesView). records_of_statuses (λ r. status_of s.last (e.state r)) (g.W.Frozen.records t.work)) (o.left ∙ n.left)
+    ∙ ap (λ w. records_of_statuses (λ r. status_of s.last ((entries_of s.entries).state r)) (g.W.Frozen.records w)) (o.work_left ∙ n.work_left))
 
 pub returns-in_err-open_buffer-clause-may : goal.returns-in_err-open_buffer-clause-may
 returns-in_err-open_buffer-clause-may g c =
