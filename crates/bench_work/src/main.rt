@@ -66,7 +66,7 @@ fn order_of(name: &str) -> Option<Order> {
 fn new_store<L: Layout>(alloc: Global, buffers: u32) -> Result<EntryStore<MemWork<L>>, AllocError>
     requires some { 1 ≤ buffers }
     requires few { buffers ≤ 1023 }
-    ensures { IfOk result (λ s. IsNew (⟦<EntryStore<MemWork<L>> as Store>⟧.ledger s)) }
+    ensures { IfOk result (λ s. IsNew (⟦<EntryStore<MemWork<L>> as Store<OFFSET_BITS>>⟧.ledger s)) }
 {
     let work = MemWork::<L>::create(alloc, buffers, 65536, 1)?;
     match EntryStore::create(alloc, work) {

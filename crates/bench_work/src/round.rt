@@ -6,7 +6,7 @@ use store_api::{Store, StoreError};
 use tree_make::drop_nodes;
 
 /// One unit: makes so many entries of 34 words, drops them all, and is accepted.
-pub fn run_unit<S: Store>(
+pub fn run_unit<const OFFSET_BITS: u32, S: Store<OFFSET_BITS>>(
     store: &mut S,
     entries: &mut Vec<u32>,
     count: u32,
@@ -23,7 +23,7 @@ pub fn run_unit<S: Store>(
 }
 
 /// Makes so many entries of 34 words.
-fn make_nodes<S: Store>(store: &mut S, entries: &mut Vec<u32>, count: u32) -> Result<(), StoreError>
+fn make_nodes<const OFFSET_BITS: u32, S: Store<OFFSET_BITS>>(store: &mut S, entries: &mut Vec<u32>, count: u32) -> Result<(), StoreError>
     requires unit { (S.ledger store.old).unit ≡ true }
     ensures { OnOk result (Made (S.ledger store.old) (S.ledger store.new) entries.new.items) }
 {

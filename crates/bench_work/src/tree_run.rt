@@ -50,8 +50,8 @@ pub struct TreeCounts {
 }
 
 /// Puts the keys in, one after another.
-fn fill<S: Store<Layout = TreeLayout>>(
-    tree: &mut NumberTree<S>,
+fn fill<const OFFSET_BITS: u32, S: Store<OFFSET_BITS, Layout = TreeLayout>>(
+    tree: &mut NumberTree<OFFSET_BITS, S>,
     load: &TreeLoad,
 ) -> Result<(), StoreError>
     ensures { OnOk result (length tree.new.pairs ≤ length tree.old.pairs + load.now.keys) }
@@ -63,7 +63,7 @@ fn fill<S: Store<Layout = TreeLayout>>(
 }
 
 /// How many of the keys that are looked up are there.
-fn found_in<S: Store<Layout = TreeLayout>>(tree: &mut NumberTree<S>, load: &TreeLoad) -> u64
+fn found_in<const OFFSET_BITS: u32, S: Store<OFFSET_BITS, Layout = TreeLayout>>(tree: &mut NumberTree<OFFSET_BITS, S>, load: &TreeLoad) -> u64
     ensures found { result ≤ load.now.finds }
     ensures same { tree.new ≡ tree.old }
 {
@@ -80,8 +80,8 @@ fn found_in<S: Store<Layout = TreeLayout>>(tree: &mut NumberTree<S>, load: &Tree
 }
 
 /// Takes keys out, one after another.
-fn take_out<S: Store<Layout = TreeLayout>>(
-    tree: &mut NumberTree<S>,
+fn take_out<const OFFSET_BITS: u32, S: Store<OFFSET_BITS, Layout = TreeLayout>>(
+    tree: &mut NumberTree<OFFSET_BITS, S>,
     load: &TreeLoad,
 ) -> Result<(), StoreError>
     ensures { OnOk result (length tree.new.pairs ≤ length tree.old.pairs) }
@@ -93,7 +93,7 @@ fn take_out<S: Store<Layout = TreeLayout>>(
 }
 
 /// The sum of all keys and values of a tree, by one walk.
-fn walk<F: Frozen>(frozen: &mut F, root: EntryRef) -> u64
+fn walk<const OFFSET_BITS: u32, F: Frozen<OFFSET_BITS>>(frozen: &mut F, root: EntryRef<OFFSET_BITS>) -> u64
     requires { 0 < root → IsRootNode (F.records frozen.old) root }
     ensures { frozen.new ≡ frozen.old }
 {
@@ -108,7 +108,7 @@ fn walk<F: Frozen>(frozen: &mut F, root: EntryRef) -> u64
 }
 
 /// Inserts, finds, removes and full walks of a tree. The store is given back.
-pub fn run_tree<S: Store<Layout = TreeLayout> + Drop>(
+pub fn run_tree<const OFFSET_BITS: u32, S: Store<OFFSET_BITS, Layout = TreeLayout> + Drop>(
     store: S,
     load: &TreeLoad,
 ) -> Result<(TreeCounts, S), StoreError>

@@ -4,7 +4,7 @@ use Rattle.std.specs.declared.cmp.Ordering.{Ordering}
 use Rattle.std.specs.Ordering.{nat_cmp}
 use Rattle.image_base.specs.Records.{Records, Among}
 use Rattle.tree_images.specs.Trees.{tree_nodes, by_number, IsTree}
-use Rattle.store_api.specs.Classes.{in_use}
+use Rattle.store_api.specs.Statuses.{in_use}
 use Rattle.store_api.specs.Ledgers.{Ledger}
 
 -- the pairs of a tree, its root, how many commits were made of those that can be, and the buffers of its store
@@ -30,5 +30,5 @@ key_sum (p ∷ ps) = p.0 + key_sum ps
 -- the nodes of a tree by number are exactly what is in use, and no unit is under way
 pub record HoldsTree {H : Type 0} (ledger : Ledger H) (m : Records) (root : ℕ) : Type 0 where
   pub tree : IsTree nat_cmp by_number m root
-  pub exact : (r : ℕ) → Among r (tree_nodes m root) ↔ (in_use (ledger.class r) ≡ true)
+  pub exact : (r : ℕ) → Among r (tree_nodes m root) ↔ (in_use (ledger.status r) ≡ true)
   pub unit : ledger.unit ≡ false

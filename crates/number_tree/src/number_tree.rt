@@ -15,12 +15,12 @@ use tree_search::{find, total};
 
 /// A map of numbers: a tree alone in a store, changed by units of one change.
 #[derive(Drop)]
-pub struct NumberTree<S: Store<Layout = TreeLayout>> {
+pub struct NumberTree<const OFFSET_BITS: u32, S: Store<OFFSET_BITS, Layout = TreeLayout>> {
     store: S,
-    root: EntryRef,
+    root: EntryRef<OFFSET_BITS>,
 }
 
-impl<S: Store<Layout = TreeLayout>> Model for NumberTree<S> {
+impl<const OFFSET_BITS: u32, S: Store<OFFSET_BITS, Layout = TreeLayout>> Model for NumberTree<OFFSET_BITS, S> {
     ghost use Rattle.tree_images.specs.Trees.{tree_pairs};
     ghost use Rattle.number_tree.specs.Maps.{MapView, HoldsTree};
 
@@ -37,7 +37,7 @@ impl<S: Store<Layout = TreeLayout>> Model for NumberTree<S> {
     ghost invariant = { λ t. HoldsTree (S.ledger t.store) (S.records t.store) t.root };
 }
 
-impl<S: Store<Layout = TreeLayout>> NumberTree<S> {
+impl<const OFFSET_BITS: u32, S: Store<OFFSET_BITS, Layout = TreeLayout>> NumberTree<OFFSET_BITS, S> {
     /// The empty map, in a store of which nothing was made yet.
     pub fn new(store: S) -> Self
         requires { IsNew (S.ledger store) }
@@ -54,10 +54,10 @@ impl<S: Store<Layout = TreeLayout>> NumberTree<S> {
     }
 
     /// The map of a tree that is all that a store has in use.
-    pub fn with_root(store: S, root: EntryRef) -> Self
+    pub fn with_root(store: S, root: EntryRef<OFFSET_BITS>) -> Self
         requires { HoldsTree (S.ledger store) (S.records store) root }
-        ensures pairs { result.pairs ≡ tree_pairs (S.records store) root }
-        ensures root { result.root ≡ root }
+        ensures pairs { result.pairs ≡ tree_pairs (S.records store) root.entry }
+        ensures root { result.root ≡ root.entry }
         ensures commits { result.commits ≡ (S.ledger store).work.commits.last }
         ensures most { result.most ≡ (S.ledger store).work.sizes.commits }
         ensures buffers { result.buffers ≡ (S.ledger store).work.sizes.buffers }
@@ -85,7 +85,7 @@ impl<S: Store<Layout = TreeLayout>> NumberTree<S> {
     }
 
     /// The root of the tree, 0 where it is empty.
-    pub fn root(&self) -> EntryRef
+    pub fn root(&self) -> EntryRef<OFFSET_BITS>
         ensures { result ≡ self.now.root }
     {
         self.root

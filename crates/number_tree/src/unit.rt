@@ -11,17 +11,17 @@ use tree_insert::insert;
 use tree_remove::remove;
 
 /// One unit in which a pair is put.
-pub fn insert_unit<S: Store>(
+pub fn insert_unit<const OFFSET_BITS: u32, S: Store<OFFSET_BITS>>(
     store: &mut S,
-    root: EntryRef,
+    root: EntryRef<OFFSET_BITS>,
     key: u64,
     value: u64,
-) -> Result<EntryRef, StoreError>
+) -> Result<EntryRef<OFFSET_BITS>, StoreError>
     requires { HoldsTree (S.ledger store.old) (S.records store.old) root }
     ensures holds { IfOk result (HoldsTree (S.ledger store.new) (S.records store.new)) }
     ensures pairs { IfOk result (λ r. tree_pairs (S.records store.new) r
-        ≡ put (beside key) (key, value) (tree_pairs (S.records store.old) root)) }
-    ensures still { OnErr result (HoldsTree (S.ledger store.new) (S.records store.new) root) }
+        ≡ put (beside key) (key, value) (tree_pairs (S.records store.old) root.entry)) }
+    ensures still { OnErr result (HoldsTree (S.ledger store.new) (S.records store.new) root.entry) }
     ensures left { OnErr result (S.records store.new ≡ S.records store.old) }
     ensures full { (w a h : ℕ) → result ≡ Err (StoreError.Full w a h)
         → (w ≡ 34) × (a + h ≡ (S.ledger store.old).work.sizes.buffers) }
@@ -42,17 +42,17 @@ pub fn insert_unit<S: Store>(
 }
 
 /// One unit in which the pair of a key that is there is taken out.
-pub fn remove_unit<S: Store>(
+pub fn remove_unit<const OFFSET_BITS: u32, S: Store<OFFSET_BITS>>(
     store: &mut S,
-    root: EntryRef,
+    root: EntryRef<OFFSET_BITS>,
     key: u64,
-) -> Result<EntryRef, StoreError>
+) -> Result<EntryRef<OFFSET_BITS>, StoreError>
     requires holds { HoldsTree (S.ledger store.old) (S.records store.old) root }
     requires there { IsSome (lookup (beside key) (tree_pairs (S.records store.old) root)) }
     ensures holds { IfOk result (HoldsTree (S.ledger store.new) (S.records store.new)) }
     ensures pairs { IfOk result (λ r. tree_pairs (S.records store.new) r
-        ≡ take_out (beside key) (tree_pairs (S.records store.old) root)) }
-    ensures still { OnErr result (HoldsTree (S.ledger store.new) (S.records store.new) root) }
+        ≡ take_out (beside key) (tree_pairs (S.records store.old) root.entry)) }
+    ensures still { OnErr result (HoldsTree (S.ledger store.new) (S.records store.new) root.entry) }
     ensures left { OnErr result (S.records store.new ≡ S.records store.old) }
     ensures full { (w a h : ℕ) → result ≡ Err (StoreError.Full w a h)
         → (w ≡ 34) × (a + h ≡ (S.ledger store.old).work.sizes.buffers) }
@@ -73,12 +73,12 @@ pub fn remove_unit<S: Store>(
 }
 
 /// Commits a tree that is all that is in use.
-pub fn commit_tree<S: Store<Layout = TreeLayout>>(store: &mut S, root: EntryRef) -> u32
+pub fn commit_tree<const OFFSET_BITS: u32, S: Store<OFFSET_BITS, Layout = TreeLayout>>(store: &mut S, root: EntryRef<OFFSET_BITS>) -> u32
     requires holds { HoldsTree (S.ledger store.old) (S.records store.old) root }
     requires room { (S.ledger store.old).work.commits.last < (S.ledger store.old).work.sizes.commits }
     ensures number { result ≡ (S.ledger store.old).work.commits.last + 1 }
-    ensures holds { HoldsTree (S.ledger store.new) (S.records store.new) root }
-    ensures pairs { tree_pairs (S.records store.new) root ≡ tree_pairs (S.records store.old) root }
+    ensures holds { HoldsTree (S.ledger store.new) (S.records store.new) root.entry }
+    ensures pairs { tree_pairs (S.records store.new) root.entry ≡ tree_pairs (S.records store.old) root.entry }
     ensures last { (S.ledger store.new).work.commits.last ≡ (S.ledger store.old).work.commits.last + 1 }
     ensures sizes { (S.ledger store.new).work.sizes ≡ (S.ledger store.old).work.sizes }
 {

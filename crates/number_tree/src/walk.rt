@@ -10,9 +10,9 @@ use key_order::NumberKey;
 use tree_search::Cursor;
 
 /// The first pair of a tree by number whose key is this one or above it.
-pub fn first_from<F: Frozen>(frozen: &mut F, root: EntryRef, key: u64) -> Option<(u64, u64)>
+pub fn first_from<const OFFSET_BITS: u32, F: Frozen<OFFSET_BITS>>(frozen: &mut F, root: EntryRef<OFFSET_BITS>, key: u64) -> Option<(u64, u64)>
     requires tree { IsTree nat_cmp by_number (F.records frozen.old) root }
-    ensures pair { result ≡ first_of (seek (beside key) (tree_pairs (F.records frozen.old) root)) }
+    ensures pair { result ≡ first_of (seek (beside key) (tree_pairs (F.records frozen.old) root.entry)) }
     ensures same { frozen.new ≡ frozen.old }
 {
     let cursor = Cursor::seek(frozen, root, &NumberKey(key));
@@ -25,9 +25,9 @@ pub fn first_from<F: Frozen>(frozen: &mut F, root: EntryRef, key: u64) -> Option
 }
 
 /// The sum of a tree's keys, which wraps at 64 bits.
-pub fn sum_of_keys<F: Frozen>(frozen: &mut F, root: EntryRef) -> u64
+pub fn sum_of_keys<const OFFSET_BITS: u32, F: Frozen<OFFSET_BITS>>(frozen: &mut F, root: EntryRef<OFFSET_BITS>) -> u64
     requires tree { 0 < root → IsRootNode (F.records frozen.old) root }
-    ensures sum { result ≡ key_sum (tree_pairs (F.records frozen.old) root) % 18446744073709551616 }
+    ensures sum { result ≡ key_sum (tree_pairs (F.records frozen.old) root.entry) % 18446744073709551616 }
     ensures same { frozen.new ≡ frozen.old }
 {
     let mut cursor = Cursor::first(frozen, root);

@@ -3,7 +3,7 @@ use Rattle.std.proofs.Common.{◌≡◌, ℕ, zero, suc, true, inr, arith}
 use Rattle.std.specs.List.{AllByRecursion}
 use Rattle.image_base.specs.Records.{Records}
 use Rattle.tree_images.specs.Trees.{tree_nodes}
-use Rattle.store_api.specs.Classes.{in_use}
+use Rattle.store_api.specs.Statuses.{in_use}
 use Rattle.store_api.specs.Ledgers.{Ledger}
 use Rattle.std.specs.List.Sorted.{IsStrictlySortedBy}
 use Rattle.tens_key.specs.Tens.{HoldsTens}
@@ -11,9 +11,9 @@ use Rattle.tree_make.specs.Changes.{Replaces}
 use Rattle.number_tree.proofs.HoldLemmas.{all_among}
 
 pub used-next : {H : Type 0} (old new : Ledger H) (m n : Records) (root next : ℕ) → Replaces old new m n root next
-    → AllByRecursion (λ r. in_use (new.class r) ≡ true) (tree_nodes n next)
+    → AllByRecursion (λ r. in_use (new.status r) ≡ true) (tree_nodes n next)
 used-next old new m n root next replaces =
-    all_among (λ r. in_use (new.class r) ≡ true) (tree_nodes n next) (λ r h. (replaces.used r).1 (inr h))
+    all_among (λ r. in_use (new.status r) ≡ true) (tree_nodes n next) (λ r h. (replaces.used r).1 (inr h))
 
 -- the empty tree is one
 pub holds-none : {H : Type 0} (ledger : Ledger H) (m : Records) (root : ℕ) → root ≡ 0 → ledger.unit ≡ true → HoldsTens ledger m root

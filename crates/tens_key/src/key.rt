@@ -11,7 +11,7 @@ use std::cmp::Ordering;
 #[derive(Clone, Copy, Debug)]
 pub struct TensKey(pub u64);
 
-impl KeyOrder for TensKey {
+impl<const OFFSET_BITS: u32> KeyOrder<OFFSET_BITS> for TensKey {
     type Read = u64;
 
     ghost can_read = { λ m key. Unit {0} };
@@ -24,7 +24,7 @@ impl KeyOrder for TensKey {
 
     ghost sought = { λ s. s.0 };
 
-    fn compare<F: Frozen>(&self, frozen: &mut F, stored: u64) -> Ordering {
+    fn compare<const OFFSET_BITS: u32, F: Frozen<OFFSET_BITS>>(&self, frozen: &mut F, stored: u64) -> Ordering {
         (stored / 10).cmp(&self.0)
     }
 

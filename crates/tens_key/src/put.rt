@@ -7,12 +7,12 @@ use frozen_btree::insert;
 use store_api::{Store, StoreError};
 
 /// Puts a word as a key, in place of one of the same tens, within a unit.
-pub fn put_word<S: Store>(
+pub fn put_word<const OFFSET_BITS: u32, S: Store<OFFSET_BITS>>(
     store: &mut S,
-    root: EntryRef,
+    root: EntryRef<OFFSET_BITS>,
     word: u64,
     value: u64,
-) -> Result<EntryRef, StoreError>
+) -> Result<EntryRef<OFFSET_BITS>, StoreError>
     requires { HoldsTens (S.ledger store.old) (S.records store.old) root }
     ensures { IfOk result (HoldsTens (S.ledger store.new) (S.records store.new)) }
 {

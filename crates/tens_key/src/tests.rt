@@ -12,7 +12,7 @@ use std::test::Fail;
 use store_api::{Store, StoreError};
 
 /// A tree of 10 to 170 by tens, in which the last keys of both leaves have become other words.
-fn two_replaced<S: Store>(store: &mut S) -> Result<EntryRef, StoreError>
+fn two_replaced<const OFFSET_BITS: u32, S: Store<OFFSET_BITS>>(store: &mut S) -> Result<EntryRef<OFFSET_BITS>, StoreError>
     requires { IsNew (S.ledger store.old) }
 {
     store.begin();

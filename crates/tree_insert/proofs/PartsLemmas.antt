@@ -4,7 +4,7 @@ use Rattle.std.proofs.lemmas.Bool.{cases_eq}
 use Rattle.std.proofs.lemmas.List.{append-nil, take-append-drop}
 use Rattle.std.specs.List.{flat_map}
 use Rattle.image_base.specs.Records.{Records}
-use Rattle.store_api.specs.Classes.{Class, in_use, is_open, with_class}
+use Rattle.store_api.specs.Statuses.{Status, in_use, is_open, with_status}
 use Rattle.store_api.specs.Ledgers.{Ledger}
 use Rattle.tree_images.specs.Nodes.{IsNodeForm}
 use Rattle.tree_images.specs.Trees.{pairs_below, nodes_below, last_key, IsNode, Keeps}
@@ -13,7 +13,7 @@ use Rattle.tree_make.specs.Times.{times, uses}
 use Rattle.tree_make.specs.Makes.{MakesNode, MakesPart}
 use Rattle.tree_node.specs.Slots.{slot_pairs, slot_nodes, IsInHand}
 use Rattle.tree_make.specs.declared.make.Part.{Part}
-use Rattle.tree_make.proofs.MadeLemmas.{with_class-here, with_class-other}
+use Rattle.tree_make.proofs.MadeLemmas.{with_status-here, with_status-other}
 use Rattle.tree_make.proofs.MakesLemmas.{open_unused, makes-then, makes-more}
 use Rattle.tree_node.proofs.SlotLemmas.{slot_pairs-append, slot_nodes-append, hand-left, hand-right, pairs-kept, nodes_below-kept, node-kept, slot_pairs-kept, slot_nodes-kept, hand-kept}
 use Rattle.tree_insert.specs.Parts.{MakesParts}
@@ -36,14 +36,14 @@ unfolding IsNode
 node-lower m few least zero ref low node = (form-lower few least 0 (m ref) low node.0, node.1)
 node-lower m few least (suc level) ref low node = (form-lower few least (suc level) (m ref) low node.0, node.1, node.2, node.3)
 
-module _ {H : Type 0} (old new : Ledger H) (ref : ℕ) (class : new.class ≡ with_class old.class ref Class.pending) (was : is_open (old.class ref) ≡ true) where
+module _ {H : Type 0} (old new : Ledger H) (ref : ℕ) (status : new.status ≡ with_status old.status ref Status.pending) (was : is_open (old.status ref) ≡ true) where
   pub uses-made : (q : ℕ) → uses new q ≡ uses old q + times q (ref ∷ [])
   uses-made q = elim (cases_eq q ref) [
-    | inl e ↦ (let after : uses new q ≡ 1 = ap (λ c. cond (in_use c) 1 0) ((λ k. class k q) ∙ ap (with_class old.class ref Class.pending) e ∙ with_class-here old.class ref Class.pending) in
-        let before : uses old q ≡ 0 = ap (λ r. uses old r) e ∙ ap (λ b. cond b 1 0) (open_unused (old.class ref) was) in
+    | inl e ↦ (let after : uses new q ≡ 1 = ap (λ c. cond (in_use c) 1 0) ((λ k. status k q) ∙ ap (with_status old.status ref Status.pending) e ∙ with_status-here old.status ref Status.pending) in
+        let before : uses old q ≡ 0 = ap (λ r. uses old r) e ∙ ap (λ b. cond b 1 0) (open_unused (old.status ref) was) in
         let one = times-same q ref [] e in
         omega arith)
-    | inr ne ↦ (let same : uses new q ≡ uses old q = ap (λ c. cond (in_use c) 1 0) ((λ k. class k q) ∙ with_class-other old.class ref q Class.pending ne) in
+    | inr ne ↦ (let same : uses new q ≡ uses old q = ap (λ c. cond (in_use c) 1 0) ((λ k. status k q) ∙ with_status-other old.status ref q Status.pending ne) in
         let none = times-other q ref [] ne in
         omega arith)
   ]
@@ -52,7 +52,7 @@ module _ {H : Type 0} (old new : Ledger H) (ref : ℕ) (class : new.class ≡ wi
 pub made-balance : {H : Type 0} (old new : Ledger H) (m n : Records) (level : ℕ) (ks vs : List ℕ) (ref : ℕ) → MakesNode old new m n level ks vs ref
     → (q : ℕ) → times q (slot_nodes m level vs) + uses new q ≡ uses old q + times q (nodes_below n level ref)
 made-balance old new m n level ks vs ref made q =
-    let used = uses-made old new ref made.class made.was q in
+    let used = uses-made old new ref made.status made.was q in
     let all : times q (nodes_below n level ref) ≡ times q ((ref ∷ []) ++ slot_nodes m level vs) = ap (times q) made.nodes in
     let parts = times-append q (ref ∷ []) (slot_nodes m level vs) in
     omega arith

@@ -6,7 +6,7 @@ use Rattle.std.specs.declared.cmp.Ordering.TheVariants.{Equal}
 use Rattle.std.specs.List.{flat_map, All, AllByRecursion, IsDistinct}
 use Rattle.std.specs.List.Sorted.{IsStrictlySortedBy}
 use Rattle.image_base.specs.Records.{Records, SameAt}
-use Rattle.store_api.specs.Classes.{in_use}
+use Rattle.store_api.specs.Statuses.{in_use}
 use Rattle.store_api.specs.Ledgers.{Ledger}
 use Rattle.tree_images.specs.Nodes.{used_of}
 use Rattle.tree_images.specs.ProofsForTrees.{tree_pairs-same, IsRootNode-same}
@@ -113,14 +113,14 @@ module _ {H : Type 0} {V : Type 0} (order : V → V → Ordering) (total : IsTot
   pub gone-once : EachOnce gone
   gone-once r = let few_r = gone-few r in let once = old-once r in omega arith
 
-  pub gone-used : (new : Ledger H) (k : Records) (most : ℕ) → MakesNodes old new m k most → AllByRecursion (λ r. in_use (old.class r) ≡ true) (tree_nodes m root) → AllByRecursion (λ r. in_use (new.class r) ≡ true) gone
+  pub gone-used : (new : Ledger H) (k : Records) (most : ℕ) → MakesNodes old new m k most → AllByRecursion (λ r. in_use (old.status r) ≡ true) (tree_nodes m root) → AllByRecursion (λ r. in_use (new.status r) ≡ true) gone
   gone-used new k most makes used =
-      all_from_times (λ r. in_use (new.class r) ≡ true) gone
-      (λ r h. makes-stays old new m k most makes r (all_at_times (λ q. in_use (old.class q) ≡ true) (tree_nodes m root) used r (let few_r = gone-few r in omega arith)))
+      all_from_times (λ r. in_use (new.status r) ≡ true) gone
+      (λ r h. makes-stays old new m k most makes r (all_at_times (λ q. in_use (old.status q) ≡ true) (tree_nodes m root) used r (let few_r = gone-few r in omega arith)))
 
   -- the new root, and the replaced nodes dropped
   module _ (new end : Ledger H) (o e : Records) (next : ℕ) (x_makes : MakesNodes old mid m n (2 * suc level)) (y : MakesRoot mid new n o level parts next) (z : Drops new end o e gone)
-      (used : AllByRecursion (λ r. in_use (old.class r) ≡ true) (tree_nodes m root)) where
+      (used : AllByRecursion (λ r. in_use (old.status r) ≡ true) (tree_nodes m root)) where
     both : MakesNodes old new m o (2 * suc level + 1)
     both = makes-then old mid new m n o (2 * suc level) 1 (2 * suc level + 1) (omega arith) x_makes y.makes
 
@@ -135,8 +135,8 @@ module _ {H : Type 0} {V : Type 0} (order : V → V → Ordering) (total : IsTot
         let now = ap (times r) next-nodes in
         omega arith
 
-    old-used : (r : ℕ) → 0 < times r (tree_nodes m root) → in_use (old.class r) ≡ true
-    old-used r h = all_at_times (λ q. in_use (old.class q) ≡ true) (tree_nodes m root) used r h
+    old-used : (r : ℕ) → 0 < times r (tree_nodes m root) → in_use (old.status r) ≡ true
+    old-used r h = all_at_times (λ q. in_use (old.status q) ≡ true) (tree_nodes m root) used r h
 
     same-end : SameAt (tree_nodes o next) o e
     same-end = kept-from old new end m o e (2 * suc level + 1) root next gone both z old-once old-used gone-few even

@@ -14,9 +14,9 @@ use store_api::{Store, StoreError};
 use tree_node::{place_of, read_node};
 
 /// Makes a leaf anew with a pair put in.
-fn insert_in_leaf<S: Store, K: KeyOrder>(
+fn insert_in_leaf<const OFFSET_BITS: u32, S: Store<OFFSET_BITS>, K: KeyOrder<OFFSET_BITS>>(
     store: &mut S,
-    node: EntryRef,
+    node: EntryRef<OFFSET_BITS>,
     key: &K,
     word: u64,
     value: u64,
@@ -25,9 +25,9 @@ fn insert_in_leaf<S: Store, K: KeyOrder>(
     requires node { IsNode (S.records store.old) 1 0 node }
     requires readable { AllReadable K.can_read (S.records store.old) (pairs_below (S.records store.old) 0 node) }
     requires few { length (pairs_below (S.records store.old) 0 node) < 4294967295 }
-    ensures inserts { (before after : List ℕ) → after ≡ before ++ node ∷ [] → IfOk result
+    ensures inserts { (before after : List ℕ) → after ≡ before ++ node.entry ∷ [] → IfOk result
         (Inserts (seen_by K.read K.order (K.sought key.now) (S.records store.old)) (word, value)
-        (S.ledger store.old) (S.ledger store.new) (S.records store.old) (S.records store.new) 0 node before after) }
+        (S.ledger store.old) (S.ledger store.new) (S.records store.old) (S.records store.new) 0 node.entry before after) }
     ensures makes { MakesNodes (S.ledger store.old) (S.ledger store.new) (S.records store.old) (S.records store.new) 2 }
     ensures full { (w a h : ℕ) → result ≡ Err (StoreError.Full w a h) → (w ≡ 34) × IsFull (S.ledger store.new) w a h }
 {
@@ -38,9 +38,9 @@ fn insert_in_leaf<S: Store, K: KeyOrder>(
 
 /// Puts a pair below a node of this level, by new nodes on the path of its key. The nodes of the path are
 /// added to those that are replaced.
-pub fn insert_below<S: Store, K: KeyOrder>(
+pub fn insert_below<const OFFSET_BITS: u32, S: Store<OFFSET_BITS>, K: KeyOrder<OFFSET_BITS>>(
     store: &mut S,
-    node: EntryRef,
+    node: EntryRef<OFFSET_BITS>,
     level: u64,
     key: &K,
     word: u64,
@@ -56,7 +56,7 @@ pub fn insert_below<S: Store, K: KeyOrder>(
     requires room { length replaced.old.items + level < 8 }
     ensures inserts { IfOk result (Inserts (seen_by K.read K.order (K.sought key.now) (S.records store.old)) (word, value)
         (S.ledger store.old) (S.ledger store.new) (S.records store.old) (S.records store.new)
-        level node replaced.old.items replaced.new.items) }
+        level node.entry replaced.old.items replaced.new.items) }
     ensures makes { MakesNodes (S.ledger store.old) (S.ledger store.new) (S.records store.old) (S.records store.new) (2 * suc level) }
     ensures full { (w a h : ℕ) → result ≡ Err (StoreError.Full w a h) → (w ≡ 34) × IsFull (S.ledger store.new) w a h }
 {

@@ -9,7 +9,7 @@ use key_order::KeyOrder;
 use tree_node::{Slots, is_found, slot_of};
 
 /// Puts a pair among the slots of a leaf.
-pub fn put_in_leaf<F: Frozen, K: KeyOrder>(
+pub fn put_in_leaf<const OFFSET_BITS: u32, F: Frozen<OFFSET_BITS>, K: KeyOrder<OFFSET_BITS>>(
     frozen: &mut F,
     slots: &mut Slots,
     key: &K,

@@ -50,7 +50,7 @@ fn split(slots: &mut Slots) -> Slots
 }
 
 /// Makes a node of up to 16 slots, or two of 17, the first with nine.
-pub fn make_parts<S: Store>(store: &mut S, slots: &mut Slots) -> Result<Parts, StoreError>
+pub fn make_parts<const OFFSET_BITS: u32, S: Store<OFFSET_BITS>>(store: &mut S, slots: &mut Slots) -> Result<Parts, StoreError>
     requires unit { (S.ledger store.old).unit ≡ true }
     requires low { slots.old.level ≤ 7 }
     requires hand { IsInHand (S.records store.old) slots.old.level slots.old.keys.items slots.old.values.items }
@@ -101,11 +101,11 @@ pub fn set_parts(slots: &mut Slots, place: usize, parts: &Parts)
     match *parts {
         Parts::One(part) => {
             put_word(&mut slots.keys, place, part.key);
-            put_word(&mut slots.values, place, u64::from(part.node.raw()));
+            put_word(&mut slots.values, place, u64::from(part.node));
         }
         Parts::Two(first, second) => {
             put_two(&mut slots.keys, place, first.key, second.key);
-            let (low, high) = (first.node.raw(), second.node.raw());
+            let (low, high) = (first.node, second.node);
             put_two(&mut slots.values, place, u64::from(low), u64::from(high));
         }
     }

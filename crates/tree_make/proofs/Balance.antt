@@ -5,7 +5,7 @@ use Rattle.image_base.specs.Records.{Records, Among, SameAt}
 use Rattle.tree_images.specs.ProofsForTrees.{tree_nodes-same}
 use Rattle.tree_images.specs.Trees.{tree_nodes}
 use Rattle.store_api.proofs.May.{may_do-then}
-use Rattle.store_api.specs.Classes.{Class, in_use, is_open, after_drop}
+use Rattle.store_api.specs.Statuses.{Status, in_use, is_open, after_drop}
 use Rattle.store_api.specs.Ledgers.{Ledger, IsSameBack}
 use Rattle.tree_make.proofs.DropLemmas.{drop_ends}
 use Rattle.tree_make.proofs.TimesLemmas.{among-times, times-among, absent-times, all_from_times}
@@ -16,47 +16,47 @@ use Rattle.tree_make.specs.Makes.{MakesNodes}
 abbrev one : Bool → ℕ
 one b = cond b 1 0
 
-pub uses-in : {H : Type 0} (ledger : Ledger H) (r : ℕ) → in_use (ledger.class r) ≡ true → uses ledger r ≡ 1
+pub uses-in : {H : Type 0} (ledger : Ledger H) (r : ℕ) → in_use (ledger.status r) ≡ true → uses ledger r ≡ 1
 uses-in ledger r e = ap one e
 
-pub uses-out : {H : Type 0} (ledger : Ledger H) (r : ℕ) → in_use (ledger.class r) ≡ false → uses ledger r ≡ 0
+pub uses-out : {H : Type 0} (ledger : Ledger H) (r : ℕ) → in_use (ledger.status r) ≡ false → uses ledger r ≡ 0
 uses-out ledger r e = ap one e
 
 by_bool : (b : Bool) → (b ≡ true) ⊎ (b ≡ false)
 by_bool true = inl refl
 by_bool false = inr refl
 
-pub in-uses : {H : Type 0} (ledger : Ledger H) (r : ℕ) → 0 < uses ledger r → in_use (ledger.class r) ≡ true
-in-uses ledger r some = elim (by_bool (in_use (ledger.class r))) [
+pub in-uses : {H : Type 0} (ledger : Ledger H) (r : ℕ) → 0 < uses ledger r → in_use (ledger.status r) ≡ true
+in-uses ledger r some = elim (by_bool (in_use (ledger.status r))) [
   | inl e ↦ e
   | inr e ↦ (let none = uses-out ledger r e in absurd (omega arith))
 ]
 
 pub uses-few : {H : Type 0} (ledger : Ledger H) (r : ℕ) → uses ledger r ≤ 1
-uses-few ledger r = elim (by_bool (in_use (ledger.class r))) [
+uses-few ledger r = elim (by_bool (in_use (ledger.status r))) [
   | inl e ↦ (let is = uses-in ledger r e in omega arith)
   | inr e ↦ (let is = uses-out ledger r e in omega arith)
 ]
 
 -- what an open entry becomes is no matter of whether it was taken before
-after_drop-back : (class back more : Class) → IsSameBack back more → after_drop class more ≡ after_drop class back
-after_drop-back class back more (inl e) = ap (after_drop class) e
-after_drop-back Class.unmade back more (inr e) = refl
-after_drop-back Class.free back more (inr e) = refl
-after_drop-back Class.pending back more (inr e) = ap (after_drop Class.pending) e.1 ∙ sym (ap (after_drop Class.pending) e.0)
-after_drop-back Class.live back more (inr e) = refl
-after_drop-back Class.dropped back more (inr e) = refl
-after_drop-back Class.let_go back more (inr e) = refl
-after_drop-back Class.spent back more (inr e) = refl
+after_drop-back : (status back more : Status) → IsSameBack back more → after_drop status more ≡ after_drop status back
+after_drop-back status back more (inl e) = ap (after_drop status) e
+after_drop-back Status.unmade back more (inr e) = refl
+after_drop-back Status.free back more (inr e) = refl
+after_drop-back Status.pending back more (inr e) = ap (after_drop Status.pending) e.1 ∙ sym (ap (after_drop Status.pending) e.0)
+after_drop-back Status.live back more (inr e) = refl
+after_drop-back Status.dropped back more (inr e) = refl
+after_drop-back Status.let_go back more (inr e) = refl
+after_drop-back Status.spent back more (inr e) = refl
 
-pub open_unused : (class : Class) → is_open class ≡ true → in_use class ≡ false
-open_unused Class.unmade e = refl
-open_unused Class.free e = refl
-open_unused Class.pending e = absurd (true≢false (sym e))
-open_unused Class.live e = absurd (true≢false (sym e))
-open_unused Class.dropped e = absurd (true≢false (sym e))
-open_unused Class.let_go e = absurd (true≢false (sym e))
-open_unused Class.spent e = absurd (true≢false (sym e))
+pub open_unused : (status : Status) → is_open status ≡ true → in_use status ≡ false
+open_unused Status.unmade e = refl
+open_unused Status.free e = refl
+open_unused Status.pending e = absurd (true≢false (sym e))
+open_unused Status.live e = absurd (true≢false (sym e))
+open_unused Status.dropped e = absurd (true≢false (sym e))
+open_unused Status.let_go e = absurd (true≢false (sym e))
+open_unused Status.spent e = absurd (true≢false (sym e))
 
 same_at : (m n : Records) (qs : List ℕ) → AllByRecursion (λ q. n q ≡ m q) qs → SameAt qs m n
 same_at m n [] all = tt
@@ -65,16 +65,16 @@ same_at m n (q ∷ qs) all = (all.0, same_at m n qs all.1)
 module _ {H : Type 0} (old mid new : Ledger H) (m n o : Records) (most root next : ℕ) (gone : List ℕ)
     (makes : MakesNodes old mid m n most) (drops : Drops mid new n o gone)
     (once : EachOnce (tree_nodes m root))
-    (used : (r : ℕ) → 0 < times r (tree_nodes m root) → in_use (old.class r) ≡ true)
+    (used : (r : ℕ) → 0 < times r (tree_nodes m root) → in_use (old.status r) ≡ true)
     (few : (r : ℕ) → times r gone ≤ times r (tree_nodes m root))
     (even : (r : ℕ) → times r (tree_nodes m root) + uses mid r ≡ uses old r + times r gone + times r (tree_nodes n next)) where
   -- what is in use stays so while nodes are made
-  mid-class : (r : ℕ) → in_use (old.class r) ≡ true → mid.class r ≡ old.class r
-  mid-class r e = ⊎_elim (λ same. same) (λ opened. absurd (true≢false (sym e ∙ open_unused (old.class r) opened.0))) (makes.classes r)
+  mid-status : (r : ℕ) → in_use (old.status r) ≡ true → mid.status r ≡ old.status r
+  mid-status r e = ⊎_elim (λ same. same) (λ opened. absurd (true≢false (sym e ∙ open_unused (old.status r) opened.0))) (makes.statuses r)
 
   stays : (r : ℕ) → uses old r ≤ uses mid r
-  stays r = elim (by_bool (in_use (old.class r))) [
-    | inl e ↦ (let a = uses-in old r e in let b = uses-in mid r (ap in_use (mid-class r e) ∙ e) in omega arith)
+  stays r = elim (by_bool (in_use (old.status r))) [
+    | inl e ↦ (let a = uses-in old r e in let b = uses-in mid r (ap in_use (mid-status r e) ∙ e) in omega arith)
     | inr e ↦ (let a = uses-out old r e in omega arith)
   ]
 
@@ -90,7 +90,7 @@ module _ {H : Type 0} (old mid new : Ledger H) (m n o : Records) (most root next
       let a = few r in let b = once r in let c = even r in let d = stays r in let e = old-used r in let f = uses-few mid r in
       omega arith
 
-  next-used : (r : ℕ) → 0 < times r (tree_nodes n next) → in_use (mid.class r) ≡ true
+  next-used : (r : ℕ) → 0 < times r (tree_nodes n next) → in_use (mid.status r) ≡ true
   next-used r some =
       in-uses mid r (let a = few r in let b = once r in let c = even r in let d = stays r in let e = old-used r in omega arith)
 
@@ -114,10 +114,10 @@ module _ {H : Type 0} (old mid new : Ledger H) (m n o : Records) (most root next
       omega arith
 
   -- what is gone is not in use
-  now-out : (r : ℕ) → 0 < times r gone → in_use (new.class r) ≡ false
+  now-out : (r : ℕ) → 0 < times r gone → in_use (new.status r) ≡ false
   now-out r some =
       let a = few r in let was = used r (omega arith) in
-      ap in_use (drops.dropped r some) ∙ drop_ends (mid.class r) (mid.back r) (ap in_use (mid-class r was) ∙ was)
+      ap in_use (drops.dropped r some) ∙ drop_ends (mid.status r) (mid.back r) (ap in_use (mid-status r was) ∙ was)
 
   gone-cases : (r : ℕ) → (times r gone ≡ 0) ⊎ (0 < times r gone)
   gone-cases r = elim (times r gone) as (λ k. k ≡ times r gone → (times r gone ≡ 0) ⊎ (0 < times r gone)) [
@@ -131,44 +131,44 @@ module _ {H : Type 0} (old mid new : Ledger H) (m n o : Records) (most root next
     | suc k ↦ λ e. inr (omega arith)
   ] refl
 
-  used-from : (r : ℕ) → in_use (new.class r) ≡ true → ((in_use (old.class r) ≡ true) × ¬ Among r (tree_nodes m root)) ⊎ Among r (tree_nodes o next)
+  used-from : (r : ℕ) → in_use (new.status r) ≡ true → ((in_use (old.status r) ≡ true) × ¬ Among r (tree_nodes m root)) ⊎ Among r (tree_nodes o next)
   used-from r now = elim (gone-cases r) [
     | inr some ↦ absurd (true≢false (sym now ∙ now-out r some))
     | inl none ↦ elim (next-cases r) [
       | inr here ↦ inr (from-next r here)
-      | inl apart ↦ (let mid_now : in_use (mid.class r) ≡ true = ap in_use (sym (drops.others r none)) ∙ now in
+      | inl apart ↦ (let mid_now : in_use (mid.status r) ≡ true = ap in_use (sym (drops.others r none)) ∙ now in
           let is = uses-in mid r mid_now in
           let c = even r in let f = uses-few old r in let e = old-used r in
           inl (in-uses old r (omega arith), λ h. let some = among-times r (tree_nodes m root) h in absurd (omega arith)))
     ]
   ]
 
-  used-to : (r : ℕ) → ((in_use (old.class r) ≡ true) × ¬ Among r (tree_nodes m root)) ⊎ Among r (tree_nodes o next) → in_use (new.class r) ≡ true
+  used-to : (r : ℕ) → ((in_use (old.status r) ≡ true) × ¬ Among r (tree_nodes m root)) ⊎ Among r (tree_nodes o next) → in_use (new.status r) ≡ true
   used-to r (inl before) =
       let none = absent-times r (tree_nodes m root) before.1 in
       let a = few r in
       let out : times r gone ≡ 0 = omega arith in
-      ap in_use (drops.others r out) ∙ ap in_use (mid-class r before.0) ∙ before.0
+      ap in_use (drops.others r out) ∙ ap in_use (mid-status r before.0) ∙ before.0
   used-to r (inr h) =
       let some = to-next r h in
       ap in_use (drops.others r (gone-out r some)) ∙ next-used r some
 
-  fresh-from : (r : ℕ) → Among r (tree_nodes o next) → Among r (tree_nodes m root) ⊎ (is_open (old.class r) ≡ true)
+  fresh-from : (r : ℕ) → Among r (tree_nodes o next) → Among r (tree_nodes m root) ⊎ (is_open (old.status r) ≡ true)
   fresh-from r h =
       let some = to-next r h in
-      ⊎_elim (λ (same : mid.class r ≡ old.class r).
-      let uses_same : uses mid r ≡ uses old r = ap (λ (k : Class). one (in_use k)) same in
+      ⊎_elim (λ (same : mid.status r ≡ old.status r).
+      let uses_same : uses mid r ≡ uses old r = ap (λ (k : Status). one (in_use k)) same in
       let a = gone-out r some in let c = even r in
       inl (times-among r (tree_nodes m root) (omega arith)))
-      (λ opened. inr opened.0) (makes.classes r)
+      (λ opened. inr opened.0) (makes.statuses r)
 
-  dropped-from : (r : ℕ) → Among r (tree_nodes m root) → ¬ Among r (tree_nodes o next) → new.class r ≡ after_drop (old.class r) (old.back r)
+  dropped-from : (r : ℕ) → Among r (tree_nodes m root) → ¬ Among r (tree_nodes o next) → new.status r ≡ after_drop (old.status r) (old.back r)
   dropped-from r h apart =
       let some = among-times r (tree_nodes m root) h in
       let gone_now : 0 < times r gone = ⊎_elim (λ none. absurd (apart (from-next r (left-next r some none)))) (λ g. g) (gone-cases r) in
       drops.dropped r gone_now
-      ∙ ap (λ k. after_drop k (mid.back r)) (mid-class r (used r some))
-      ∙ after_drop-back (old.class r) (old.back r) (mid.back r) (makes.may.back r)
+      ∙ ap (λ k. after_drop k (mid.back r)) (mid-status r (used r some))
+      ∙ after_drop-back (old.status r) (old.back r) (mid.back r) (makes.may.back r)
 
   records-from : (r : ℕ) → 0 < length (m r) → (Among r (tree_nodes m root) → Among r (tree_nodes o next)) → o r ≡ m r
   records-from r there kept = drops.records r none ∙ makes.keeps r there

@@ -8,7 +8,7 @@ use Rattle.tree_images.specs.Trees.{pairs_below, nodes_below, last_key, IsNode, 
 use Rattle.tree_images.proofs.NodeLemmas.{node_keys-words, node_values-words, node_formed}
 use Rattle.std.proofs.lemmas.List.{append-nil}
 use Rattle.arena_api.specs.Calls.{padded as words_padded}
-use Rattle.store_api.specs.Classes.{Class, is_open, with_class}
+use Rattle.store_api.specs.Statuses.{Status, is_open, with_status}
 use Rattle.store_api.specs.Ledgers.{Ledger, MayDo, Makes, with_count, counted}
 use Rattle.tree_make.specs.Makes.{MakesNodes, MakesNode}
 use Rattle.tree_node.specs.Slots.{slot_pairs, slot_nodes, HaveChildren, IsInHand}
@@ -65,11 +65,11 @@ module _ (m n : Records) (keys values : List ℕ) (ref count : ℕ) (few : lengt
 node_words-size : (level count : ℕ) (keys values : List ℕ) → length keys ≡ length values → length keys ≤ 16 → length (node_words level count keys values) ≡ 34
 node_words-size level count keys values even few = (node_formed level 0 keys values even few (omega arith)).size
 
-pub with_class-here : (classes : ℕ → Class) (r : ℕ) (new : Class) → with_class classes r new r ≡ new
-with_class-here classes r new = ap (λ b. cond b new (classes r)) (eq-eqb r r refl)
+pub with_status-here : (statuses : ℕ → Status) (r : ℕ) (new : Status) → with_status statuses r new r ≡ new
+with_status-here statuses r new = ap (λ b. cond b new (statuses r)) (eq-eqb r r refl)
 
-pub with_class-other : (classes : ℕ → Class) (r q : ℕ) (new : Class) → q ≢ r → with_class classes r new q ≡ classes q
-with_class-other classes r q new ne = ap (λ b. cond b new (classes q)) (ne_eqb q r ne)
+pub with_status-other : (statuses : ℕ → Status) (r q : ℕ) (new : Status) → q ≢ r → with_status statuses r new q ≡ statuses q
+with_status-other statuses r q new ne = ap (λ b. cond b new (statuses q)) (ne_eqb q r ne)
 
 pub with_count-here : (counts : ℕ → ℕ) (width k : ℕ) → with_count counts width k width ≡ k
 with_count-here counts width k = ap (λ b. cond b k (counts width)) (eq-eqb width width refl)
@@ -78,10 +78,10 @@ pub with_count-other : (counts : ℕ → ℕ) (width k w : ℕ) → w ≢ width 
 with_count-other counts width k w ne = ap (λ b. cond b k (counts w)) (ne_eqb w width ne)
 
 module _ {H : Type 0} (old new : Ledger H) (m n : Records) (words : List ℕ) (ref : ℕ) (makes : Makes old new m n 34 words ref) (may : MayDo old new) where
-  make_classes : (q : ℕ) → (new.class q ≡ old.class q) ⊎ ((is_open (old.class q) ≡ true) × (new.class q ≡ Class.pending))
-  make_classes q = elim (cases_eq q ref) [
-    | inl e ↦ inr (ap (λ r. is_open (old.class r)) e ∙ makes.was, (λ k. makes.class k q) ∙ ap (with_class old.class ref Class.pending) e ∙ with_class-here old.class ref Class.pending)
-    | inr ne ↦ inl ((λ k. makes.class k q) ∙ with_class-other old.class ref q Class.pending ne)
+  make_statuses : (q : ℕ) → (new.status q ≡ old.status q) ⊎ ((is_open (old.status q) ≡ true) × (new.status q ≡ Status.pending))
+  make_statuses q = elim (cases_eq q ref) [
+    | inl e ↦ inr (ap (λ r. is_open (old.status r)) e ∙ makes.was, (λ k. makes.status k q) ∙ ap (with_status old.status ref Status.pending) e ∙ with_status-here old.status ref Status.pending)
+    | inr ne ↦ inl ((λ k. makes.status k q) ∙ with_status-other old.status ref q Status.pending ne)
   ]
 
   make_made : new.made 34 ≤ old.made 34 + 1
@@ -90,7 +90,7 @@ module _ {H : Type 0} (old new : Ledger H) (m n : Records) (words : List ℕ) (r
   makes_one : length words ≡ 34 → MakesNodes old new m n 1
   makes_one size = record {
     keeps = keeps-words m n ref (words_padded words 34) makes.none makes.records;
-    classes = make_classes;
+    statuses = make_statuses;
     made = make_made;
     others = λ width ne. (λ k. makes.made k width) ∙ with_count-other old.made 34 (counted (old.made 34)) width ne;
     may = may;
@@ -117,6 +117,6 @@ module _ {H : Type 0} (old new : Ledger H) (m n : Records) (words : List ℕ) (r
         pairs = made-pairs m n keys values ref count few level hand made.keeps words_are;
         nodes = made-nodes m n keys values ref count few level hand made.keeps words_are;
         was = makes.was;
-        class = makes.class;
+        status = makes.status;
         makes = made;
       }

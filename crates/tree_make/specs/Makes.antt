@@ -1,7 +1,7 @@
 -- What is made of a store when nodes are made.
 use Rattle.std.specs.Prelude.{◌≡◌, ◌≢◌, ◌⊎◌, ℕ, ◌+◌, ◌<◌, ◌≤◌, true, List, [], ◌∷◌, length}
 use Rattle.image_base.specs.Records.{Records}
-use Rattle.store_api.specs.Classes.{Class, is_open, with_class}
+use Rattle.store_api.specs.Statuses.{Status, is_open, with_status}
 use Rattle.store_api.specs.Ledgers.{Ledger, MayDo}
 use Rattle.tree_images.specs.Trees.{pairs_below, nodes_below, last_key, IsNode, Keeps}
 use Rattle.tree_node.specs.Slots.{slot_pairs, slot_nodes}
@@ -10,7 +10,7 @@ use Rattle.tree_make.specs.declared.make.Part.{Part}
 -- at most so many nodes were made and nothing else: all records stay, and what is newly in use was open
 pub record MakesNodes {H : Type 0} (old new : Ledger H) (m n : Records) (most : ℕ) : Type 0 where
   pub keeps : Keeps m n
-  pub classes : (ref : ℕ) → (new.class ref ≡ old.class ref) ⊎ ((is_open (old.class ref) ≡ true) × (new.class ref ≡ Class.pending))
+  pub statuses : (ref : ℕ) → (new.status ref ≡ old.status ref) ⊎ ((is_open (old.status ref) ≡ true) × (new.status ref ≡ Status.pending))
   pub made : new.made 34 ≤ old.made 34 + most
   pub others : (width : ℕ) → width ≢ 34 → new.made width ≡ old.made width
   pub may : MayDo old new
@@ -22,8 +22,8 @@ pub record MakesNode {H : Type 0} (old new : Ledger H) (m n : Records) (level : 
   pub node : IsNode n (length keys) level ref
   pub pairs : pairs_below n level ref ≡ slot_pairs m level keys values
   pub nodes : nodes_below n level ref ≡ ref ∷ slot_nodes m level values
-  pub was : is_open (old.class ref) ≡ true
-  pub class : new.class ≡ with_class old.class ref Class.pending
+  pub was : is_open (old.status ref) ≡ true
+  pub status : new.status ≡ with_status old.status ref Status.pending
   pub makes : MakesNodes old new m n 1
 
 -- the same of a part, with its last key

@@ -1,6 +1,6 @@
 -- How often references stand in a list.
 use Rattle.std.specs.Prelude.{ℕ, ◌+◌, ◌≤◌, List, [], ◌∷◌, nat_eq, if◌then◌else◌}
-use Rattle.store_api.specs.Classes.{in_use}
+use Rattle.store_api.specs.Statuses.{in_use}
 use Rattle.store_api.specs.Ledgers.{Ledger}
 
 -- how often a reference stands in a list
@@ -14,4 +14,4 @@ EachOnce refs = (r : ℕ) → times r refs ≤ 1
 
 -- 1 where an entry is in use, 0 where not
 abbrev pub uses : {H : Type 0} → Ledger H → ℕ → ℕ
-uses ledger r = if in_use (ledger.class r) then 1 else 0
+uses ledger r = if in_use (ledger.status r) then 1 else 0

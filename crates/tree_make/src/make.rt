@@ -10,15 +10,15 @@ use arrayvec::ArrayVec;
 use entry_ref::EntryRef;
 use store_api::{Store, StoreError};
 
-/// A node that was made, and its last key.
+/// A node that was made, as the slot of its parent is to hold it: its last key and its reference.
 #[derive(Clone, Copy, Debug, Drop)]
 pub struct Part {
     pub key: u64,
-    pub node: EntryRef,
+    pub node: u32,
 }
 
 /// The number of pairs below slots.
-pub fn pairs_in<F: Frozen>(frozen: &mut F, slots: &Slots) -> u64
+pub fn pairs_in<const OFFSET_BITS: u32, F: Frozen<OFFSET_BITS>>(frozen: &mut F, slots: &Slots) -> u64
     requires hand { IsInHand (F.records frozen.old) slots.now.level slots.now.keys.items slots.now.values.items }
     requires few { length (slot_pairs (F.records frozen.old) slots.now.level slots.now.keys.items slots.now.values.items) < 4294967296 }
     ensures count { result ≡ length (slot_pairs (F.records frozen.old) slots.now.level slots.now.keys.items slots.now.values.items) }
@@ -62,7 +62,7 @@ fn words_of(slots: &Slots, count: u64) -> ArrayVec<u64, 34>
 }
 
 /// Makes a node of slots in hand.
-pub fn make_part<S: Store>(store: &mut S, slots: &Slots) -> Result<Part, StoreError>
+pub fn make_part<const OFFSET_BITS: u32, S: Store<OFFSET_BITS>>(store: &mut S, slots: &Slots) -> Result<Part, StoreError>
     requires unit { (S.ledger store.old).unit ≡ true }
     requires low { slots.now.level ≤ 7 }
     requires hand { IsInHand (S.records store.old) slots.now.level slots.now.keys.items slots.now.values.items }
@@ -79,5 +79,8 @@ pub fn make_part<S: Store>(store: &mut S, slots: &Slots) -> Result<Part, StoreEr
     let words = words_of(slots, count);
     let node = store.make(34, &words)?;
     let key = slots.keys[slots.keys.len() - 1];
-    Ok(Part { key, node })
+    Ok(Part {
+        key,
+        node: node.raw(),
+    })
 }

@@ -7,6 +7,7 @@ use Rattle.std.specs.declared.cmp.Ordering.{Ordering}
 use Rattle.image_base.specs.Records.{Records}
 use Rattle.tree_images.proofs.DistinctLemmas.{tree_nodes_distinct}
 use Rattle.tree_images.proofs.TreeLemmas.{length-node_keys, pairs_many}
+use Rattle.key_order.proofs.PairLemmas.{All-both}
 use Rattle.tree_images.specs.Nodes.{node_keys, node_values}
 use Rattle.tree_images.specs.Trees.{pairs_below, nodes_below, IsNode, root_level, root_least, tree_pairs, tree_nodes, IsTree}
 
@@ -14,10 +15,6 @@ length-zip-le : (ks vs : List ℕ) → length (zip ks vs) ≤ length ks
 length-zip-le [] vs = omega arith
 length-zip-le (k ∷ ks) [] = omega arith
 length-zip-le (k ∷ ks) (v ∷ vs) = let rest = length-zip-le ks vs in omega arith
-
-all_append : (P : ℕ → Type 0) (xs ys : List ℕ) → AllByRecursion P xs → AllByRecursion P ys → AllByRecursion P (xs ++ ys)
-all_append P [] ys a b = b
-all_append P (x ∷ xs) ys a b = (a.0, all_append P xs ys a.1 b)
 
 module _ (m : Records) where
   children_fit : (level : ℕ) → ((c : ℕ) → IsNode m 8 level c → length (pairs_below m level c) ≤ 16 * length (nodes_below m level c))
@@ -44,7 +41,7 @@ module _ (m : Records) where
       → (cs : List ℕ) → AllByRecursion (IsNode m 8 level) cs → AllByRecursion (λ q. length (m q) ≡ 34) (flat_map (nodes_below m level) cs)
   children_wide level each [] all = tt
   children_wide level each (c ∷ cs) all =
-      all_append (λ q. length (m q) ≡ 34) (nodes_below m level c) (flat_map (nodes_below m level) cs) (each c all.0) (children_wide level each cs all.1)
+      All-both (λ q. length (m q) ≡ 34) (nodes_below m level c) (flat_map (nodes_below m level) cs) (each c all.0) (children_wide level each cs all.1)
 
   -- each node is a record of 34 words
   pub nodes_wide : (least level ref : ℕ) → IsNode m least level ref → AllByRecursion (λ q. length (m q) ≡ 34) (nodes_below m level ref)

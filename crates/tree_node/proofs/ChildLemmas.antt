@@ -46,6 +46,11 @@ drop-none [] (suc i) h = refl
 drop-none (c ∷ cs) zero h = absurd (omega arith)
 drop-none (c ∷ cs) (suc i) h = drop-none cs i (omega arith)
 
+pub length-zip : (ks vs : List ℕ) → length ks ≡ length vs → length (zip ks vs) ≡ length ks
+length-zip [] vs e = refl
+length-zip (k ∷ ks) [] e = absurd (omega arith)
+length-zip (k ∷ ks) (v ∷ vs) e = ap suc (length-zip ks vs (omega arith))
+
 length-some : {A : Type 0} (xs ys : List A) → 0 < length xs → 0 < length (xs ++ ys)
 length-some [] ys h = absurd (omega arith)
 length-some (x ∷ xs) ys h = omega arith
@@ -76,6 +81,9 @@ has_word m least level ref i node h = let size = (IsNode-form m least level ref 
 
 pub room : (m : Records) (least level ref : ℕ) → IsNode m least level ref → used_of (m ref) ≤ 16
 room m least level ref node = (IsNode-form m least level ref node).room
+
+pub keys-length : (m : Records) (least level ref : ℕ) → IsNode m least level ref → length (node_keys (m ref)) ≡ used_of (m ref)
+keys-length m least level ref node = length-node_keys level least (m ref) (IsNode-form m least level ref node)
 
 -- a leaf's pairs
 pub leaf_pairs : (m : Records) (ref : ℕ) → pairs_below m 0 ref ≡ zip (node_keys (m ref)) (node_values (m ref))
@@ -214,11 +222,6 @@ zip-seek c (k ∷ ks) (v ∷ vs) (suc i) e h before at =
     ap (λ o. choose o (seek c (zip ks vs)) ((k, v) ∷ zip ks vs) ((k, v) ∷ zip ks vs)) (before 0 (omega arith))
     ∙ zip-seek c ks vs i (omega arith) (omega arith) (λ j g. before (suc j) (omega arith)) (λ g. at (omega arith))
 
-zip-length : (ks vs : List ℕ) → length vs ≡ length ks → length (zip ks vs) ≡ length ks
-zip-length [] vs e = refl
-zip-length (k ∷ ks) [] e = absurd (omega arith)
-zip-length (k ∷ ks) (v ∷ vs) e = ap suc (zip-length ks vs (omega arith))
-
 module _ (m : Records) (least level ref : ℕ) (low : level ≡ 0) (node : IsNode m least level ref) where
   form0 : IsNodeForm 0 least (m ref)
   form0 = IsNode-form m least 0 ref (subst (λ k. IsNode m least k ref) low node)
@@ -231,7 +234,7 @@ module _ (m : Records) (least level ref : ℕ) (low : level ≡ 0) (node : IsNod
   same-size = length-node_values 0 least (m ref) form0 ∙ sym keys-size
 
   pub leaf-size : length (pairs_below m 0 ref) ≡ used_of (m ref)
-  leaf-size = ap length (leaf_pairs m ref) ∙ zip-length (node_keys (m ref)) (node_values (m ref)) same-size ∙ keys-size
+  leaf-size = ap length (leaf_pairs m ref) ∙ length-zip (node_keys (m ref)) (node_values (m ref)) (sym same-size) ∙ keys-size
 
   pub leaf-from : (i : ℕ) → i < used_of (m ref) → drop i (pairs_below m 0 ref) ≡ (word_at m ref (2 + i), word_at m ref (18 + i)) ∷ drop (suc i) (pairs_below m 0 ref)
   leaf-from i h =

@@ -8,6 +8,7 @@ use Rattle.tree_images.specs.ProofsForTrees.{pairs-same, nodes-same, IsNode-same
 use Rattle.tree_images.specs.Nodes.{node_keys, node_values}
 use Rattle.tree_images.specs.Trees.{pairs_below, nodes_below, last_key, IsNode, Keeps}
 use Rattle.tree_images.proofs.TreeLemmas.{nodes-kept}
+use Rattle.key_order.proofs.PairLemmas.{All-left, All-right, All-both}
 use Rattle.tree_node.specs.Slots.{slot_pairs, slot_nodes, HaveChildren, IsInHand}
 
 pub zip-append : (k1 v1 k2 v2 : List ℕ) → length k1 ≡ length v1 → zip (k1 ++ k2) (v1 ++ v2) ≡ zip k1 v1 ++ zip k2 v2
@@ -15,18 +16,6 @@ zip-append [] [] k2 v2 e = refl
 zip-append [] (v ∷ v1) k2 v2 e = absurd (omega arith)
 zip-append (k ∷ k1) [] k2 v2 e = absurd (omega arith)
 zip-append (k ∷ k1) (v ∷ v1) k2 v2 e = ap (λ ps. (k, v) ∷ ps) (zip-append k1 v1 k2 v2 (omega arith))
-
-pub All-append : (P : ℕ → Type 0) (xs ys : List ℕ) → AllByRecursion P xs → AllByRecursion P ys → AllByRecursion P (xs ++ ys)
-All-append P [] ys a b = b
-All-append P (x ∷ xs) ys a b = (a.0, All-append P xs ys a.1 b)
-
-pub All-left : (P : ℕ → Type 0) (xs ys : List ℕ) → AllByRecursion P (xs ++ ys) → AllByRecursion P xs
-All-left P [] ys a = tt
-All-left P (x ∷ xs) ys a = (a.0, All-left P xs ys a.1)
-
-pub All-right : (P : ℕ → Type 0) (xs ys : List ℕ) → AllByRecursion P (xs ++ ys) → AllByRecursion P ys
-All-right P [] ys a = a
-All-right P (x ∷ xs) ys a = All-right P xs ys a.1
 
 pub All-map : (P Q : ℕ → Type 0) → ((x : ℕ) → P x → Q x) → (xs : List ℕ) → AllByRecursion P xs → AllByRecursion Q xs
 All-map P Q each [] all = tt
@@ -60,7 +49,7 @@ module _ (m : Records) where
   children-append zero k1 v1 k2 v2 a b = tt
   children-append (suc level) k1 v1 k2 v2 a b = (
     ap (λ ks. ks ++ k2) a.0 ∙ ap (λ ks. map (λ child. last_key (pairs_below m level child)) v1 ++ ks) b.0 ∙ sym (map-append (λ child. last_key (pairs_below m level child)) v1 v2),
-    All-append (IsNode m 8 level) v1 v2 a.1 b.1,
+    All-both (IsNode m 8 level) v1 v2 a.1 b.1,
   )
 
   children-left : (level : ℕ) (k1 v1 k2 v2 : List ℕ) → length k1 ≡ length v1 → HaveChildren m level (k1 ++ k2) (v1 ++ v2) → HaveChildren m level k1 v1

@@ -4,12 +4,12 @@ use Rattle.std.proofs.lemmas.Bool.{cases_eq}
 use Rattle.image_base.specs.Records.{Records}
 use Rattle.tree_images.specs.Nodes.{IsNodeForm}
 use Rattle.tree_images.specs.Trees.{pairs_below, nodes_below, last_key, IsNode}
-use Rattle.store_api.specs.Classes.{Class, in_use, is_open}
+use Rattle.store_api.specs.Statuses.{Status, in_use, is_open}
 use Rattle.store_api.specs.Ledgers.{Ledger}
 use Rattle.tree_make.proofs.Balance.{uses-in, uses-out, open_unused}
 use Rattle.tree_make.proofs.TimesLemmas.{times-same, times-other, times-append}
 use Rattle.tree_make.specs.Times.{times, uses}
-use Rattle.tree_make.proofs.MadeLemmas.{with_class-here, with_class-other}
+use Rattle.tree_make.proofs.MadeLemmas.{with_status-here, with_status-other}
 use Rattle.tree_make.proofs.MakesLemmas.{makes-then}
 use Rattle.tree_node.proofs.SlotLemmas.{slot_pairs-append, slot_nodes-append, slot_pairs-one, slot_nodes-one, hand-append, hand-one, hand-kept, slot_pairs-kept, slot_nodes-kept}
 use Rattle.tree_make.specs.Makes.{MakesNode}
@@ -34,22 +34,22 @@ node-weaker m zero least few ref le node = (form-weaker 0 least few (m ref) le n
 node-weaker m (suc level) least few ref le node = (form-weaker (suc level) least few (m ref) le node.0, node.1, node.2, node.3)
 
 module _ {H : Type 0} (old new : Ledger H) (m n : Records) (level : ℕ) (keys values : List ℕ) (ref : ℕ) (makes : MakesNode old new m n level keys values ref) where
-  class-other : (r : ℕ) → r ≢ ref → new.class r ≡ old.class r
-  class-other r ne = ap (λ (f : ℕ → Class). f r) makes.class ∙ with_class-other old.class ref r Class.pending ne
+  status-other : (r : ℕ) → r ≢ ref → new.status r ≡ old.status r
+  status-other r ne = ap (λ (f : ℕ → Status). f r) makes.status ∙ with_status-other old.status ref r Status.pending ne
 
-  class-here : (r : ℕ) → r ≡ ref → new.class r ≡ Class.pending
-  class-here r e = ap new.class e ∙ ap (λ (f : ℕ → Class). f ref) makes.class ∙ with_class-here old.class ref Class.pending
+  status-here : (r : ℕ) → r ≡ ref → new.status r ≡ Status.pending
+  status-here r e = ap new.status e ∙ ap (λ (f : ℕ → Status). f ref) makes.status ∙ with_status-here old.status ref Status.pending
 
   -- the nodes below a made node are those below its slots, and itself
   pub made-balance : (r : ℕ) → times r (nodes_below n level ref) + uses old r ≡ uses new r + times r (slot_nodes m level values)
   made-balance r =
       let nodes : times r (nodes_below n level ref) ≡ times r (ref ∷ slot_nodes m level values) = ap (times r) makes.nodes in
       elim (cases_eq r ref) [
-        | inl e ↦ (let a = uses-out old r (open_unused (old.class r) (ap (λ s. is_open (old.class s)) e ∙ makes.was)) in
-            let b = uses-in new r (ap in_use (class-here r e)) in
+        | inl e ↦ (let a = uses-out old r (open_unused (old.status r) (ap (λ s. is_open (old.status s)) e ∙ makes.was)) in
+            let b = uses-in new r (ap in_use (status-here r e)) in
             let c = times-same r ref (slot_nodes m level values) e in
             omega arith)
-        | inr ne ↦ (let same : uses new r ≡ uses old r = ap (λ (k : Class). uses (record old { class = λ q. k }) 0) (class-other r ne) in
+        | inr ne ↦ (let same : uses new r ≡ uses old r = ap (λ (k : Status). uses (record old { status = λ q. k }) 0) (status-other r ne) in
             let c = times-other r ref (slot_nodes m level values) ne in
             omega arith)
       ]

@@ -17,7 +17,7 @@ use Rattle.key_order.proofs.OrderLemmas.{take_out-ascends}
 use Rattle.key_order.proofs.PairLemmas.{All-take_out, length-take_out}
 use Rattle.key_order.specs.Keys.{Ascends, AllReadable, ReadsNoNode, NoneReadsNodes, KeepsOthers}
 use Rattle.key_order.specs.Pairs.{lookup, take_out}
-use Rattle.store_api.specs.Classes.{in_use}
+use Rattle.store_api.specs.Statuses.{in_use}
 use Rattle.store_api.specs.Ledgers.{Ledger}
 use Rattle.tree_make.proofs.Balance.{kept-from, replaces-from}
 use Rattle.tree_node.proofs.Bounds.{nodes_wide}
@@ -178,7 +178,7 @@ module _ {H : Type 0} {V : Type 0} (order : V → V → Ordering) (total : IsTot
     (stays : (m n : Records) (key : ℕ) → can_read m key → SameAt (reads_from m key) m n → can_read n key × (read n key ≡ read m key))
     (c : ℕ → Ordering) (old new end : Ledger H) (m n e : Records) (root next : ℕ) (gone : List ℕ)
     (tree : IsTree order read m root) (readable : AllReadable can_read m (tree_pairs m root)) (apart : NoneReadsNodes reads_from m (tree_pairs m root))
-    (used : AllByRecursion (λ r. in_use (old.class r) ≡ true) (tree_nodes m root))
+    (used : AllByRecursion (λ r. in_use (old.status r) ≡ true) (tree_nodes m root))
     (most : ℕ) (makes : MakesNodes old new m n most) (x : Rebuilds c old new m n root next gone) where
   old-once : EachOnce (tree_nodes m root)
   old-once = once_from_distinct (tree_nodes m root) (tree_nodes_distinct order total read m root tree)
@@ -186,13 +186,13 @@ module _ {H : Type 0} {V : Type 0} (order : V → V → Ordering) (total : IsTot
   pub gone-once : EachOnce gone
   gone-once r = let few = x.gone_of r in let once = old-once r in omega arith
 
-  pub gone-used : AllByRecursion (λ r. in_use (new.class r) ≡ true) gone
+  pub gone-used : AllByRecursion (λ r. in_use (new.status r) ≡ true) gone
   gone-used =
-      all_from_times (λ r. in_use (new.class r) ≡ true) gone
-      (λ r h. makes-stays old new m n most makes r (all_at_times (λ q. in_use (old.class q) ≡ true) (tree_nodes m root) used r (let few = x.gone_of r in omega arith)))
+      all_from_times (λ r. in_use (new.status r) ≡ true) gone
+      (λ r h. makes-stays old new m n most makes r (all_at_times (λ q. in_use (old.status q) ≡ true) (tree_nodes m root) used r (let few = x.gone_of r in omega arith)))
 
-  old-used : (r : ℕ) → 0 < times r (tree_nodes m root) → in_use (old.class r) ≡ true
-  old-used r h = all_at_times (λ q. in_use (old.class q) ≡ true) (tree_nodes m root) used r h
+  old-used : (r : ℕ) → 0 < times r (tree_nodes m root) → in_use (old.status r) ≡ true
+  old-used r h = all_at_times (λ q. in_use (old.status q) ≡ true) (tree_nodes m root) used r h
 
   -- each node of the old tree is a record of 34 words
   old-wide : AllByRecursion (λ q. length (m q) ≡ 34) (tree_nodes m root)

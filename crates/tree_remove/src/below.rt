@@ -21,11 +21,11 @@ use tree_node::{Slots, read_node, slot_of};
 struct Step {
     slots: Slots,
     place: usize,
-    child: EntryRef,
+    child: EntryRef<OFFSET_BITS>,
 }
 
 /// Reads a node above the leaves, and finds the child under which the key is.
-fn step_down<F: Frozen, K: KeyOrder>(frozen: &mut F, node: EntryRef, key: &K) -> Step
+fn step_down<const OFFSET_BITS: u32, F: Frozen<OFFSET_BITS>, K: KeyOrder<OFFSET_BITS>>(frozen: &mut F, node: EntryRef<OFFSET_BITS>, key: &K) -> Step
     requires inner { 0 < level_of (F.records frozen.old node) }
     requires node { IsNode (F.records frozen.old) 2 (level_of (F.records frozen.old node)) node }
     requires ascends { Ascends K.order K.read (F.records frozen.old)
@@ -34,14 +34,14 @@ fn step_down<F: Frozen, K: KeyOrder>(frozen: &mut F, node: EntryRef, key: &K) ->
         (pairs_below (F.records frozen.old) (level_of (F.records frozen.old node)) node) }
     requires there { IsSome (lookup (seen_by K.read K.order (K.sought key.now) (F.records frozen.old))
         (pairs_below (F.records frozen.old) (level_of (F.records frozen.old node)) node)) }
-    ensures level { result.slots.level ≡ level_of (F.records frozen.old node) }
+    ensures level { result.slots.level ≡ level_of (F.records frozen.old node.entry) }
     ensures step { IsStep (seen_by K.read K.order (K.sought key.now) (F.records frozen.old)) (F.records frozen.old)
-        (level_of (F.records frozen.old node) - 1) node
+        (level_of (F.records frozen.old node.entry) - 1) node.entry
         result.slots.keys.items result.slots.values.items result.place result.child }
     ensures ascends { Ascends K.order K.read (F.records frozen.old)
-        (pairs_below (F.records frozen.old) (level_of (F.records frozen.old node) - 1) result.child) }
+        (pairs_below (F.records frozen.old) (level_of (F.records frozen.old node.entry) - 1) result.child) }
     ensures readable { AllReadable K.can_read (F.records frozen.old)
-        (pairs_below (F.records frozen.old) (level_of (F.records frozen.old node) - 1) result.child) }
+        (pairs_below (F.records frozen.old) (level_of (F.records frozen.old node.entry) - 1) result.child) }
     ensures same { frozen.new ≡ frozen.old }
 {
     let slots = read_node(frozen, node);
@@ -55,7 +55,7 @@ fn step_down<F: Frozen, K: KeyOrder>(frozen: &mut F, node: EntryRef, key: &K) ->
 }
 
 /// Takes a pair out of a leaf, which is in hand then.
-fn remove_in_leaf<F: Frozen, K: KeyOrder>(frozen: &mut F, node: EntryRef, key: &K) -> Slots
+fn remove_in_leaf<const OFFSET_BITS: u32, F: Frozen<OFFSET_BITS>, K: KeyOrder<OFFSET_BITS>>(frozen: &mut F, node: EntryRef<OFFSET_BITS>, key: &K) -> Slots
     requires node { IsNode (F.records frozen.old) 1 0 node }
     requires readable { AllReadable K.can_read (F.records frozen.old) (pairs_below (F.records frozen.old) 0 node) }
     requires there { IsSome (lookup (seen_by K.read K.order (K.sought key.now) (F.records frozen.old))
@@ -63,8 +63,8 @@ fn remove_in_leaf<F: Frozen, K: KeyOrder>(frozen: &mut F, node: EntryRef, key: &
     ensures level { result.level ≡ 0 }
     ensures even { length result.keys.items ≡ length result.values.items }
     ensures pairs { zip result.keys.items result.values.items
-        ≡ take_out (seen_by K.read K.order (K.sought key.now) (F.records frozen.old)) (pairs_below (F.records frozen.old) 0 node) }
-    ensures size { used_of (F.records frozen.old node) ≡ suc (length result.keys.items) }
+        ≡ take_out (seen_by K.read K.order (K.sought key.now) (F.records frozen.old)) (pairs_below (F.records frozen.old) 0 node.entry) }
+    ensures size { used_of (F.records frozen.old node.entry) ≡ suc (length result.keys.items) }
     ensures same { frozen.new ≡ frozen.old }
 {
     let mut slots = read_node(frozen, node);
@@ -76,9 +76,9 @@ fn remove_in_leaf<F: Frozen, K: KeyOrder>(frozen: &mut F, node: EntryRef, key: &
 
 /// Takes a pair out below a node, by new nodes under it; the node itself is in hand then. The old nodes are
 /// added to those that are replaced.
-pub fn remove_below<S: Store, K: KeyOrder>(
+pub fn remove_below<const OFFSET_BITS: u32, S: Store<OFFSET_BITS>, K: KeyOrder<OFFSET_BITS>>(
     store: &mut S,
-    node: EntryRef,
+    node: EntryRef<OFFSET_BITS>,
     level: u64,
     key: &K,
     replaced: &mut ArrayVec<u32, 16>,
@@ -93,7 +93,7 @@ pub fn remove_below<S: Store, K: KeyOrder>(
     requires room { length replaced.old.items + (2 * level + 1) ≤ 16 }
     ensures removes { IfOk result (λ slots. Removes (seen_by K.read K.order (K.sought key.now) (S.records store.old))
         (S.ledger store.old) (S.ledger store.new) (S.records store.old) (S.records store.new)
-        level node replaced.old.items replaced.new.items slots.keys.items slots.values.items) }
+        level node.entry replaced.old.items replaced.new.items slots.keys.items slots.values.items) }
     ensures level { IfOk result (λ slots. slots.level ≡ level) }
     ensures full { (w a h : ℕ) → result ≡ Err (StoreError.Full w a h) → (w ≡ 34) × IsFull (S.ledger store.new) w a h }
     ensures refused { OnErr result (MakesNodes (S.ledger store.old) (S.ledger store.new) (S.records store.old) (S.records store.new) (suc level)) }

@@ -57,11 +57,11 @@ pub fn set_part(slots: &mut Slots, place: usize, part: Part)
     ensures level { slots.new.level ≡ slots.old.level }
 {
     slots.keys[place] = part.key;
-    slots.values[place] = u64::from(part.node.raw());
+    slots.values[place] = u64::from(part.node);
 }
 
 /// Makes one node of two neighbours, and sets its slot in their parent.
-fn merge<S: Store>(
+fn merge<const OFFSET_BITS: u32, S: Store<OFFSET_BITS>>(
     store: &mut S,
     slots: &mut Slots,
     first: usize,
@@ -99,7 +99,7 @@ fn merge<S: Store>(
 }
 
 /// Makes two nodes of two neighbours, with one slot moved from the longer to the other, and sets their slots in their parent.
-fn share<S: Store>(
+fn share<const OFFSET_BITS: u32, S: Store<OFFSET_BITS>>(
     store: &mut S,
     slots: &mut Slots,
     first: usize,
@@ -143,7 +143,7 @@ fn share<S: Store>(
 }
 
 /// Makes one node or two of two neighbours of which one has 7 slots, and sets their slots in their parent.
-pub fn make_neighbours<S: Store>(
+pub fn make_neighbours<const OFFSET_BITS: u32, S: Store<OFFSET_BITS>>(
     store: &mut S,
     slots: &mut Slots,
     first: usize,

@@ -13,7 +13,7 @@ use tree_make::make_part;
 use tree_node::{Slots, read_node};
 
 /// Reads a child of a node in hand, and adds it to the nodes that are replaced.
-fn read_child<F: Frozen>(
+fn read_child<const OFFSET_BITS: u32, F: Frozen<OFFSET_BITS>>(
     frozen: &mut F,
     slots: &Slots,
     place: usize,
@@ -36,7 +36,7 @@ fn read_child<F: Frozen>(
 
 /// Makes a child in hand, with a sibling where it has only 7 slots, and sets their slots in the parent. The
 /// sibling is added to the nodes that are replaced.
-pub fn put_back<S: Store>(
+pub fn put_back<const OFFSET_BITS: u32, S: Store<OFFSET_BITS>>(
     store: &mut S,
     slots: &mut Slots,
     place: usize,

@@ -1,5 +1,5 @@
 -- The way down to the place of a key.
-use Rattle.std.proofs.Common.{◌≡◌, ℕ, zero, suc, ◌+◌, ◌-◌, ◌<◌, ◌≤◌, List, [], ◌∷◌, ◌++◌, length, get_or, take, drop, map, refl, sym, ap, subst, ◌∙◌, arith}
+use Rattle.std.proofs.Common.{◌≡◌, ◌≢◌, ℕ, zero, suc, ◌+◌, ◌-◌, ◌<◌, ◌≤◌, List, [], ◌∷◌, ◌++◌, length, get_or, take, drop, map, refl, sym, ap, subst, ◌∙◌, arith}
 use Rattle.std.proofs.lemmas.List.{append-nil}
 use Rattle.std.specs.Cmp.{IsTotalOrder}
 use Rattle.std.specs.declared.cmp.Ordering.{Ordering}
@@ -15,9 +15,25 @@ use Rattle.key_order.specs.Pairs.{seek}
 use Rattle.key_order.proofs.PairLemmas.{seek-below}
 use Rattle.tree_search.specs.Steps.{Step}
 use Rattle.tree_search.specs.Places.{Leads, pairs_behind, pairs_from}
-use Rattle.tree_search.specs.Slots.{IsFirstSlot}
-use Rattle.tree_node.proofs.ChildLemmas.{All-last, leaf_pairs, get_or-node_keys, children, values-size, child-last, child-all, child-ascends, front-below, child-seek, leaf-seek, pairs-some}
+use Rattle.tree_node.specs.Places.{IsSlot}
+use Rattle.tree_node.proofs.ChildLemmas.{keys-length, All-last, leaf_pairs, get_or-node_keys, children, values-size, child-last, child-all, child-ascends, front-below, child-seek, leaf-seek, pairs-some}
 use Rattle.tree_search.proofs.PlaceLemmas.{leads-node, leads-root, leads-child, child-level, behind-child, root_pairs, at-slot}
+
+-- the first slot whose key is not below the one sought, by the words of a node
+pub record IsFirstSlot (c : ℕ → Ordering) (ws : List ℕ) (slot : ℕ) : Type 0 where
+  pub within : slot ≤ used_of ws
+  pub before : (j : ℕ) → j < slot → c (get_or ws (2 + j) 0) ≡ Less
+  pub at : slot < used_of ws → c (get_or ws (2 + slot) 0) ≢ Less
+
+pub first-words : (c : ℕ → Ordering) (m : Records) (least level ref slot : ℕ) → IsNode m least level ref → IsSlot c (node_keys (m ref)) slot → IsFirstSlot c (m ref) slot
+first-words c m least level ref slot node is =
+    let size = keys-length m least level ref node in
+    let within = is.within in
+    record {
+      within = omega arith;
+      before = λ j h. ap c (sym (get_or-node_keys (m ref) j (omega arith))) ∙ is.before j h;
+      at = λ low e. is.at (omega arith) (ap c (get_or-node_keys (m ref) slot low) ∙ e);
+    }
 
 zip-below : (c : ℕ → Ordering) (ks vs : List ℕ) → ((j : ℕ) → j < length ks → c (get_or ks j 0) ≡ Less) → AllBelow c (zip ks vs)
 zip-below c [] vs before = tt

@@ -6,7 +6,7 @@ use Rattle.number_tree.proofs.unit.commit_tree.Goals as goal
 pub returns-clause-holds : goal.returns-clause-holds
 returns-clause-holds g c =
     holds_commit (g.S.Store.ledger c.args.store.now) (g.S.Store.ledger c.commit.new.self) (g.S.Frozen.records c.args.store.now) (g.S.Frozen.records c.commit.new.self) c.args.root c.requires.holds
-    c.commit.ensures.records (λ r. ap (λ l. l.class r) c.commit.ensures.ledger) (ap (λ l. l.unit) c.commit.ensures.ledger)
+    c.commit.ensures.records (λ r. ap (λ l. l.status r) c.commit.ensures.ledger) (ap (λ l. l.unit) c.commit.ensures.ledger)
 
 pub returns-clause-pairs : goal.returns-clause-pairs
 returns-clause-pairs g c =

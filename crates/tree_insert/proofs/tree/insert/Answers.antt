@@ -2,7 +2,7 @@ use Rattle.std.proofs.Common.{◌∙◌, Err, ◌≡◌, ◌<◌, ◌+◌, ◌*�
 use Rattle.std.specs.List.{AllByRecursion}
 use Rattle.tree_images.specs.Trees.{pairs_below, IsNode, root_level}
 use Rattle.key_order.specs.Keys.{seen_by, Ascends, AllReadable}
-use Rattle.store_api.specs.Classes.{in_use}
+use Rattle.store_api.specs.Statuses.{in_use}
 use Rattle.tree_make.specs.Changes.{Drops, levels}
 use Rattle.tree_make.specs.Times.{EachOnce}
 use Rattle.tree_make.specs.Makes.{MakesNodes}
@@ -399,7 +399,7 @@ drop_nodes-requires-clause-used g c =
     let new = g.S.Store.ledger u in
     let o = g.S.Frozen.records u in
     let both : MakesNodes old new m o (2 * suc level + 1) = makes-then old mid new m n o (2 * suc level) 1 (2 * suc level + 1) (omega arith) x_makes c.make_root.ensures.makes in
-    subst (AllByRecursion (λ r. in_use (new.class r) ≡ true)) (sym c.deref.ensures.0) (gone-used key.order total key.read sought m n old mid root level pair tree some level_is few gone parts x new o (2 * suc level + 1) both c.requires.used)
+    subst (AllByRecursion (λ r. in_use (new.status r) ≡ true)) (sym c.deref.ensures.0) (gone-used key.order total key.read sought m n old mid root level pair tree some level_is few gone parts x new o (2 * suc level + 1) both c.requires.used)
 
 pub returns-clause-made : goal.returns-clause-made
 returns-clause-made g c =

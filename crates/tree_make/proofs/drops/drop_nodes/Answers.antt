@@ -29,7 +29,7 @@ loop-node-preserved g c =
     let at : q ≡ get_or c.args.nodes.now i 0 = c.from_raw.ensures in
     let apart : times q (take i c.args.nodes.now) ≡ 0 = ap (λ r. times r (take i c.args.nodes.now)) at ∙ next_once c.args.nodes.now i c.requires.once c.loop-node-test.true in
     let more = drops-more (ledger c.args.store.now) (ledger c.loop-node.store) (ledger c.drop_entry.new.self) (records c.args.store.now) (records c.loop-node.store) (records c.drop_entry.new.self)
-    (take i c.args.nodes.now) q _ c.loop-node.invariant apart (λ r some. (g.met.S.Store.classed c.loop-node.store r).1 some) c.drop_entry.ensures.ledger c.drop_entry.ensures.records c.drop_entry.ensures.may in
+    (take i c.args.nodes.now) q _ c.loop-node.invariant apart (λ r some. (g.met.S.Store.recorded c.loop-node.store r).1 some) c.drop_entry.ensures.ledger c.drop_entry.ensures.records c.drop_entry.ensures.may in
     subst (Drops (ledger c.args.store.now) (ledger c.drop_entry.new.self) (records c.args.store.now) (records c.drop_entry.new.self))
     (ap (λ r. take i c.args.nodes.now ++ r ∷ []) at ∙ sym (take_more c.args.nodes.now i 0 c.loop-node-test.true)) more
 

@@ -1,7 +1,7 @@
 use Rattle.std.proofs.Common.{◌≡◌, ◌+◌, sym, subst, true, Err, ap}
 use Rattle.std.specs.List.{AllByRecursion}
 use Rattle.key_order.specs.Keys.{seen_by}
-use Rattle.store_api.specs.Classes.{in_use}
+use Rattle.store_api.specs.Statuses.{in_use}
 use Rattle.tree_make.specs.Changes.{Drops, levels}
 use Rattle.tree_make.specs.Times.{EachOnce}
 use Rattle.tree_remove.proofs.Results.{err_same}
@@ -27,7 +27,7 @@ drop_nodes-requires-clause-used g c =
     let m = g.S.Frozen.records c.args.store.now in
     let n = g.S.Frozen.records c.rebuild.new.store in
     let gone = c.rebuild.new.replaced.items in
-    subst (AllByRecursion (λ r. in_use ((ledger c.rebuild.new.store).class r) ≡ true)) (sym c.deref.ensures.0)
+    subst (AllByRecursion (λ r. in_use ((ledger c.rebuild.new.store).status r) ≡ true)) (sym c.deref.ensures.0)
     (gone-used k.order g.met.K.KeyOrder.total k.can_read k.read k.reads_from g.met.K.KeyOrder.stays (seen_by k.read k.order (k.sought c.args.key.now) m)
     (ledger c.args.store.now) (ledger c.rebuild.new.store) (ledger c.rebuild.new.store) m n n c.args.root c.in_ok-next.next gone
     c.requires.tree c.requires.readable c.requires.apart c.requires.used (levels m c.args.root + 1) c.rebuild.ensures.makes c.in_ok-next.ensures.rebuilds)
