@@ -19,44 +19,6 @@ use Rattle.tree_node.proofs.SlotLemmas.{slot_pairs-append, slot_nodes-append, ha
 use Rattle.tree_insert.specs.Parts.{MakesParts}
 use Rattle.tree_insert.specs.declared.parts.Parts.TheVariants.{One, Two}
 
-form-lower : (few least level : ℕ) (ws : List ℕ) → few ≤ least → IsNodeForm level least ws → IsNodeForm level few ws
-form-lower few least level ws low form = record {
-  size = form.size;
-  at_level = form.at_level;
-  filled = let filled = form.filled in omega arith;
-  room = form.room;
-  no_key = form.no_key;
-  no_value = form.no_value;
-  few = form.few;
-}
-
--- a node with more slots than are asked for
-pub node-lower : (m : Records) (few least level ref : ℕ) → few ≤ least → IsNode m least level ref → IsNode m few level ref
-unfolding IsNode
-node-lower m few least zero ref low node = (form-lower few least 0 (m ref) low node.0, node.1)
-node-lower m few least (suc level) ref low node = (form-lower few least (suc level) (m ref) low node.0, node.1, node.2, node.3)
-
-module _ {H : Type 0} (old new : Ledger H) (ref : ℕ) (status : new.status ≡ with_status old.status ref Status.pending) (was : is_open (old.status ref) ≡ true) where
-  pub uses-made : (q : ℕ) → uses new q ≡ uses old q + times q (ref ∷ [])
-  uses-made q = elim (cases_eq q ref) [
-    | inl e ↦ (let after : uses new q ≡ 1 = ap (λ c. cond (in_use c) 1 0) ((λ k. status k q) ∙ ap (with_status old.status ref Status.pending) e ∙ with_status-here old.status ref Status.pending) in
-        let before : uses old q ≡ 0 = ap (λ r. uses old r) e ∙ ap (λ b. cond b 1 0) (open_unused (old.status ref) was) in
-        let one = times-same q ref [] e in
-        omega arith)
-    | inr ne ↦ (let same : uses new q ≡ uses old q = ap (λ c. cond (in_use c) 1 0) ((λ k. status k q) ∙ with_status-other old.status ref q Status.pending ne) in
-        let none = times-other q ref [] ne in
-        omega arith)
-  ]
-
--- a node made: what is below it and what is newly in use
-pub made-balance : {H : Type 0} (old new : Ledger H) (m n : Records) (level : ℕ) (ks vs : List ℕ) (ref : ℕ) → MakesNode old new m n level ks vs ref
-    → (q : ℕ) → times q (slot_nodes m level vs) + uses new q ≡ uses old q + times q (nodes_below n level ref)
-made-balance old new m n level ks vs ref made q =
-    let used = uses-made old new ref made.status made.was q in
-    let all : times q (nodes_below n level ref) ≡ times q ((ref ∷ []) ++ slot_nodes m level vs) = ap (times q) made.nodes in
-    let parts = times-append q (ref ∷ []) (slot_nodes m level vs) in
-    omega arith
-
 pub one_part : {H : Type 0} (old new : Ledger H) (m n : Records) (level : ℕ) (ks vs : List ℕ) (part : Part) → MakesPart old new m n level ks vs part → MakesParts old new m n level ks vs (One part)
 one_part old new m n level ks vs part made = record {
   parts_are = record {

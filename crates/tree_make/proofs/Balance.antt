@@ -8,6 +8,7 @@ use Rattle.store_api.proofs.May.{may_do-then}
 use Rattle.store_api.specs.Statuses.{Status, in_use, is_open, after_drop}
 use Rattle.store_api.specs.Ledgers.{Ledger, IsSameBack}
 use Rattle.tree_make.proofs.DropLemmas.{drop_ends}
+use Rattle.tree_make.proofs.MakesLemmas.{open_unused}
 use Rattle.tree_make.proofs.TimesLemmas.{among-times, times-among, absent-times, all_from_times}
 use Rattle.tree_make.specs.Changes.{Drops, Replaces}
 use Rattle.tree_make.specs.Times.{times, uses, EachOnce}
@@ -48,15 +49,6 @@ after_drop-back Status.live back more (inr e) = refl
 after_drop-back Status.dropped back more (inr e) = refl
 after_drop-back Status.let_go back more (inr e) = refl
 after_drop-back Status.spent back more (inr e) = refl
-
-pub open_unused : (status : Status) → is_open status ≡ true → in_use status ≡ false
-open_unused Status.unmade e = refl
-open_unused Status.free e = refl
-open_unused Status.pending e = absurd (true≢false (sym e))
-open_unused Status.live e = absurd (true≢false (sym e))
-open_unused Status.dropped e = absurd (true≢false (sym e))
-open_unused Status.let_go e = absurd (true≢false (sym e))
-open_unused Status.spent e = absurd (true≢false (sym e))
 
 same_at : (m n : Records) (qs : List ℕ) → AllByRecursion (λ q. n q ≡ m q) qs → SameAt qs m n
 same_at m n [] all = tt

@@ -1,4 +1,7 @@
+pub mod Results
 pub mod TimesLemmas
+pub mod MakesLemmas
+pub mod MadeLemmas
 pub mod DropLemmas
-pub mod Bounds
 pub mod Balance
+pub mod RootLemmas

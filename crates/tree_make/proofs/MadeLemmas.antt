@@ -1,15 +1,17 @@
--- A node that was made, and the slots of a node that was read.
-use Rattle.std.proofs.Common.{◌≡◌, ◌≢◌, ◌⊎◌, inl, inr, ℕ, zero, suc, ◌+◌, ◌<◌, ◌≤◌, true, cond, ◌-◌, List, [], ◌∷◌, ◌++◌, length, map, replicate, refl, sym, ap, subst, ◌∙◌, arith}
+-- A node that was made.
+use Rattle.std.proofs.Common.{◌^◌, ◌≡◌, ◌≢◌, ◌⊎◌, inl, inr, ℕ, zero, suc, ◌+◌, ◌<◌, ◌≤◌, true, cond, ◌-◌, List, [], ◌∷◌, ◌++◌, length, map, replicate, refl, sym, ap, subst, ◌∙◌, arith}
 use Rattle.std.proofs.lemmas.Bool.{eq-eqb, ne_eqb, cases_eq}
 use Rattle.std.specs.List.{zip, flat_map, AllByRecursion}
 use Rattle.image_base.specs.Records.{Records, with_words}
 use Rattle.tree_images.specs.Nodes.{count_of, node_keys, node_values, node_words, IsNodeForm}
 use Rattle.tree_images.specs.Trees.{pairs_below, nodes_below, last_key, IsNode, Keeps}
 use Rattle.tree_images.proofs.NodeLemmas.{node_keys-words, node_values-words, node_formed}
+use Rattle.std.proofs.Math.Nat.{pos_of_div-pos}
 use Rattle.std.proofs.lemmas.List.{append-nil}
+use Rattle.entry_ref.specs.References.{buffer_limit}
 use Rattle.arena_api.specs.Calls.{padded as words_padded}
 use Rattle.store_api.specs.Statuses.{Status, is_open, with_status}
-use Rattle.store_api.specs.Ledgers.{Ledger, MayDo, Makes, with_count, counted}
+use Rattle.store_api.specs.Ledgers.{Ledger, MayDo, Makes, with_count, one_more}
 use Rattle.tree_make.specs.Makes.{MakesNodes, MakesNode}
 use Rattle.tree_node.specs.Slots.{slot_pairs, slot_nodes, HaveChildren, IsInHand}
 use Rattle.tree_node.proofs.SlotLemmas.{All-map, all_pairs-kept, all_nodes-kept, last_keys-kept, node-kept}
@@ -47,7 +49,7 @@ module _ (m n : Records) (keys values : List ℕ) (ref count : ℕ) (few : lengt
       ∙ all_nodes-kept m n keeps 8 level values hand.children.1)
 
   pub made-node : (level : ℕ) → IsInHand m level keys values → Keeps m n → n ref ≡ node_words level count keys values
-      → count ≡ length (slot_pairs m level keys values) → count < 4294967296 → IsNode n (length keys) level ref
+      → count ≡ length (slot_pairs m level keys values) → count < 2 ^ 32 → IsNode n (length keys) level ref
   unfolding IsNode HaveChildren
   made-node zero hand keeps is counted small = (
     subst (IsNodeForm 0 (length keys)) (sym is) (node_formed 0 count keys values hand.even few small),
@@ -77,7 +79,7 @@ with_count-here counts width k = ap (λ b. cond b k (counts width)) (eq-eqb widt
 pub with_count-other : (counts : ℕ → ℕ) (width k w : ℕ) → w ≢ width → with_count counts width k w ≡ counts w
 with_count-other counts width k w ne = ap (λ b. cond b k (counts w)) (ne_eqb w width ne)
 
-module _ {H : Type 0} (old new : Ledger H) (m n : Records) (words : List ℕ) (ref : ℕ) (makes : Makes old new m n 34 words ref) (may : MayDo old new) where
+module _ {H : Type 0} (bits : ℕ) (old new : Ledger H) (m n : Records) (words : List ℕ) (ref : ℕ) (makes : Makes bits old new m n 34 words ref) (may : MayDo old new) where
   make_statuses : (q : ℕ) → (new.status q ≡ old.status q) ⊎ ((is_open (old.status q) ≡ true) × (new.status q ≡ Status.pending))
   make_statuses q = elim (cases_eq q ref) [
     | inl e ↦ inr (ap (λ r. is_open (old.status r)) e ∙ makes.was, (λ k. makes.status k q) ∙ ap (with_status old.status ref Status.pending) e ∙ with_status-here old.status ref Status.pending)
@@ -85,14 +87,14 @@ module _ {H : Type 0} (old new : Ledger H) (m n : Records) (words : List ℕ) (r
   ]
 
   make_made : new.made 34 ≤ old.made 34 + 1
-  make_made = let is : new.made 34 ≡ counted (old.made 34) = (λ k. makes.made k 34) ∙ with_count-here old.made 34 (counted (old.made 34)) in omega arith
+  make_made = let is : new.made 34 ≡ one_more (old.made 34) = (λ k. makes.made k 34) ∙ with_count-here old.made 34 (one_more (old.made 34)) in omega arith
 
   makes_one : length words ≡ 34 → MakesNodes old new m n 1
   makes_one size = record {
     keeps = keeps-words m n ref (words_padded words 34) makes.none makes.records;
     statuses = make_statuses;
     made = make_made;
-    others = λ width ne. (λ k. makes.made k width) ∙ with_count-other old.made 34 (counted (old.made 34)) width ne;
+    others = λ width ne. (λ k. makes.made k width) ∙ with_count-other old.made 34 (one_more (old.made 34)) width ne;
     may = may;
   }
 
@@ -102,10 +104,10 @@ module _ {H : Type 0} (old new : Ledger H) (m n : Records) (words : List ℕ) (r
       ∙ ap (λ k. words ++ replicate k 0) (let none : 34 - length words ≡ 0 = omega arith in none) ∙ append-nil words
 
   some_ref : 0 < ref
-  some_ref = let first = makes.place.first in omega arith
+  some_ref = pos_of_div-pos (buffer_limit bits) makes.place.first
 
   pub makes-node : (level count : ℕ) (keys values : List ℕ) → words ≡ node_words level count keys values → length keys ≤ 16 → IsInHand m level keys values
-      → count ≡ length (slot_pairs m level keys values) → length (slot_pairs m level keys values) < 4294967296 → MakesNode old new m n level keys values ref
+      → count ≡ length (slot_pairs m level keys values) → length (slot_pairs m level keys values) < 2 ^ 32 → MakesNode old new m n level keys values ref
   makes-node level count keys values is few hand counted small =
       let size : length words ≡ 34 = ap length is ∙ node_words-size level count keys values hand.even few in
       let made = makes_one size in

@@ -2,6 +2,7 @@
 use Rattle.std.proofs.Common.{◌≡◌, ◌≢◌, ℕ, zero, suc, ◌+◌, ◌<◌, ◌≤◌, List, [], ◌∷◌, ◌++◌, length, take, get_or, Bool, false, refl, sym, ap, append_assoc, subst, ◌∙◌, arith, inl, inr, nat_eq, ne_eqb}
 use Rattle.std.specs.Prelude.{cond}
 use Rattle.std.proofs.lemmas.Bool.{cases_eq, eq-eqb}
+use Rattle.std.proofs.lemmas.Grind.{flat_map-append}
 use Rattle.std.proofs.lemmas.List.{take_more}
 use Rattle.std.specs.List.{flat_map, AllByRecursion, IsDistinct}
 use Rattle.image_base.specs.Records.{Among}
@@ -87,10 +88,6 @@ next_once qs i once below =
     let all = once q in
     let here = times-same q q [] refl in
     omega arith
-
-pub flat_map-append : {X : Type 0} (f : ℕ → List X) (xs ys : List ℕ) → flat_map f (xs ++ ys) ≡ flat_map f xs ++ flat_map f ys
-flat_map-append f [] ys = refl
-flat_map-append f (x ∷ xs) ys = ap (λ zs. f x ++ zs) (flat_map-append f xs ys) ∙ sym (append_assoc (f x) (flat_map f xs) (flat_map f ys))
 
 pub times-flat_map : (r : ℕ) (f : ℕ → List ℕ) (xs ys : List ℕ) → times r (flat_map f (xs ++ ys)) ≡ times r (flat_map f xs) + times r (flat_map f ys)
 times-flat_map r f xs ys = ap (times r) (flat_map-append f xs ys) ∙ times-append r (flat_map f xs) (flat_map f ys)

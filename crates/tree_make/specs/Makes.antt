@@ -3,8 +3,9 @@ use Rattle.std.specs.Prelude.{◌≡◌, ◌≢◌, ◌⊎◌, ℕ, ◌+◌, ◌
 use Rattle.image_base.specs.Records.{Records}
 use Rattle.store_api.specs.Statuses.{Status, is_open, with_status}
 use Rattle.store_api.specs.Ledgers.{Ledger, MayDo}
-use Rattle.tree_images.specs.Trees.{pairs_below, nodes_below, last_key, IsNode, Keeps}
+use Rattle.tree_images.specs.Trees.{pairs_below, nodes_below, tree_pairs, tree_nodes, last_key, IsNode, IsRootNode, Keeps}
 use Rattle.tree_node.specs.Slots.{slot_pairs, slot_nodes}
+use Rattle.tree_make.specs.Times.{times, uses}
 use Rattle.tree_make.specs.declared.make.Part.{Part}
 
 -- at most so many nodes were made and nothing else: all records stay, and what is newly in use was open
@@ -30,3 +31,10 @@ pub record MakesNode {H : Type 0} (old new : Ledger H) (m n : Records) (level : 
 pub record MakesPart {H : Type 0} (old new : Ledger H) (m n : Records) (level : ℕ) (keys values : List ℕ) (part : Part) : Type 0 where
   pub node : MakesNode old new m n level keys values part.node
   pub key : part.key ≡ last_key (pairs_below n level part.node)
+
+-- slots of a root in hand were made, or given up for a single child
+pub record MakesRoot {H : Type 0} (old new : Ledger H) (m n : Records) (level : ℕ) (keys values : List ℕ) (root : ℕ) : Type 0 where
+  pub node : 0 < root → IsRootNode n root
+  pub pairs_are : tree_pairs n root ≡ slot_pairs m level keys values
+  pub balance : (r : ℕ) → times r (tree_nodes n root) + uses old r ≡ uses new r + times r (slot_nodes m level values)
+  pub makes : MakesNodes old new m n 1

@@ -1,14 +1,15 @@
-ghost use Rattle.std.specs.Prelude.{◌≡◌, ◌<◌, ◌≤◌, ◌+◌, ◌∷◌, ◌++◌, [], true, ℕ, length, IfOk, OnErr, Err, take};
+ghost use Rattle.std.specs.Prelude.{◌≡◌, ◌^◌, ◌<◌, ◌≤◌, ◌+◌, ◌∷◌, ◌++◌, [], true, ℕ, length, IfOk, OnErr, Err};
 ghost use Rattle.tree_images.specs.Nodes.{slot_words, node_words};
 ghost use Rattle.store_api.specs.Ledgers.{IsFull};
 ghost use Rattle.tree_node.specs.Slots.{slot_pairs, IsInHand};
 ghost use Rattle.tree_make.specs.Makes.{MakesPart};
 
-use crate::slots::Slots;
-use frozen_api::Frozen;
 use arrayvec::ArrayVec;
 use entry_ref::EntryRef;
+use frozen_api::Frozen;
 use store_api::{Store, StoreError};
+use tree_images::NODE_WORDS;
+use tree_node::Slots;
 
 /// A node that was made, as the slot of its parent is to hold it: its last key and its reference.
 #[derive(Clone, Copy, Debug, Drop)]
@@ -20,7 +21,7 @@ pub struct Part {
 /// The number of pairs below slots.
 pub fn pairs_in<const OFFSET_BITS: u32, F: Frozen<OFFSET_BITS>>(frozen: &mut F, slots: &Slots) -> u64
     requires hand { IsInHand (F.records frozen.old) slots.now.level slots.now.keys.items slots.now.values.items }
-    requires few { length (slot_pairs (F.records frozen.old) slots.now.level slots.now.keys.items slots.now.values.items) < 4294967296 }
+    requires few { length (slot_pairs (F.records frozen.old) slots.now.level slots.now.keys.items slots.now.values.items) < 2 ^ 32 }
     ensures count { result ≡ length (slot_pairs (F.records frozen.old) slots.now.level slots.now.keys.items slots.now.values.items) }
     ensures same { frozen.new ≡ frozen.old }
 {
@@ -34,8 +35,8 @@ pub fn pairs_in<const OFFSET_BITS: u32, F: Frozen<OFFSET_BITS>>(frozen: &mut F, 
     count
 }
 
-/// Appends slots, and zeros up to 16.
-fn push_padded(words: &mut ArrayVec<u64, 34>, slots: &[u64])
+/// Appends the words of slots, with zeros for those that are not used.
+fn push_slots(words: &mut ArrayVec<u64, 34>, slots: &[u64])
     requires few { length slots.now ≤ 16 }
     requires room { length words.old.items ≤ 18 }
     ensures words { words.new.items ≡ words.old.items ++ slot_words slots.now }
@@ -56,8 +57,8 @@ fn words_of(slots: &Slots, count: u64) -> ArrayVec<u64, 34>
     let mut words = ArrayVec::new();
     words.push(slots.level * 256 + slots.keys.len() as u64);
     words.push(count);
-    push_padded(&mut words, &slots.keys);
-    push_padded(&mut words, &slots.values);
+    push_slots(&mut words, &slots.keys);
+    push_slots(&mut words, &slots.values);
     words
 }
 
@@ -68,7 +69,7 @@ pub fn make_part<const OFFSET_BITS: u32, S: Store<OFFSET_BITS>>(store: &mut S, s
     requires hand { IsInHand (S.records store.old) slots.now.level slots.now.keys.items slots.now.values.items }
     requires some { 0 < length slots.now.keys.items }
     requires fits { length slots.now.keys.items ≤ 16 }
-    requires few { length (slot_pairs (S.records store.old) slots.now.level slots.now.keys.items slots.now.values.items) < 4294967296 }
+    requires few { length (slot_pairs (S.records store.old) slots.now.level slots.now.keys.items slots.now.values.items) < 2 ^ 32 }
     ensures makes { IfOk result (MakesPart (S.ledger store.old) (S.ledger store.new) (S.records store.old) (S.records store.new)
         slots.now.level slots.now.keys.items slots.now.values.items) }
     ensures full { (w a h : ℕ) → result ≡ Err (StoreError.Full w a h) → (w ≡ 34) × IsFull (S.ledger store.new) w a h }
@@ -77,7 +78,7 @@ pub fn make_part<const OFFSET_BITS: u32, S: Store<OFFSET_BITS>>(store: &mut S, s
 {
     let count = pairs_in(store, slots);
     let words = words_of(slots, count);
-    let node = store.make(34, &words)?;
+    let node = store.make(NODE_WORDS as u32, &words)?;
     let key = slots.keys[slots.keys.len() - 1];
     Ok(Part {
         key,

@@ -77,13 +77,6 @@ pub record Removes {H : Type 0} (c : ℕ → Ordering) (old new : Ledger H) (m n
   pub filled : extra + used_of (m node) ≡ suc (length keys)
   pub makes : MakesNodes old new m n (level + extra)
 
--- slots of a root in hand were made, or given up for a single child
-pub record MakesRoot {H : Type 0} (old new : Ledger H) (m n : Records) (level : ℕ) (keys values : List ℕ) (root : ℕ) : Type 0 where
-  pub node : 0 < root → IsRootNode n root
-  pub pairs_are : tree_pairs n root ≡ slot_pairs m level keys values
-  pub balance : (r : ℕ) → times r (tree_nodes n root) + uses old r ≡ uses new r + times r (slot_nodes m level values)
-  pub makes : MakesNodes old new m n 1
-
 -- a tree was made that has the pairs of another but the one sought; these nodes of the other it lacks
 pub record Rebuilds {H : Type 0} (c : ℕ → Ordering) (old new : Ledger H) (m n : Records) (root next : ℕ) (gone : List ℕ) : Type 0 where
   pub node : 0 < next → IsRootNode n next

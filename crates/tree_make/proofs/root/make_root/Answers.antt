@@ -1,12 +1,12 @@
 use Rattle.std.proofs.Common.{◌≡◌, ◌≢◌, ℕ, suc, ◌-◌, ◌<◌, List, length, get_or, sym, ap, subst, ◌∙◌, arith, Err}
 use Rattle.tree_images.specs.Trees.{IsNode}
 use Rattle.tree_node.specs.Slots.{IsInHand}
-use Rattle.tree_remove.proofs.Results.{err_same}
-use Rattle.tree_remove.proofs.ReadLemmas.{node-size}
-use Rattle.tree_remove.proofs.TreeLemmas.{root-none, root-only, root-made, only-node, none_from, some_from, leaf_from, many_from, ref_some}
-use Rattle.tree_remove.specs.Removes.{MakesRoot}
-use Rattle.tree_remove.proofs.tree.make_root.Goals as goal
-use Rattle.tree_remove.proofs.tree.make_root.Goals.{else-slots-gt0-via-then-slots-gt0+else-len-eq1, else-slots-gt0-via-else-slots-gt0}
+use Rattle.tree_make.proofs.Results.{err_same}
+use Rattle.tree_node.proofs.ReadLemmas.{node-size}
+use Rattle.tree_make.proofs.RootLemmas.{root-none, root-only, root-made, only-node, none_from, some_from, leaf_from, many_from, ref_some}
+use Rattle.tree_make.specs.Makes.{MakesRoot}
+use Rattle.tree_make.proofs.root.make_root.Goals as goal
+use Rattle.tree_make.proofs.root.make_root.Goals.{else-slots-gt0-via-then-slots-gt0+else-len-eq1, else-slots-gt0-via-else-slots-gt0}
 
 pub returns-then-is_empty-clause-root : goal.returns-then-is_empty-clause-root
 returns-then-is_empty-clause-root g c =
@@ -44,21 +44,25 @@ returns-then-len-eq1-clause-root g c =
     let is : root ≡ get_or slots.values.items 0 0 = c.from_raw-then-len-eq1.ensures ∙ ap (λ (vs : List ℕ). get_or vs 0 0) c.deref.ensures.0 in
     let node : IsNode m 8 l root = subst (IsNode m 8 l) (sym is) (only-node m l slots.keys.items slots.values.items one hand) in
     let size = node-size m 8 l root node in
-    let some = ref_some root (g.met.S.Store.placed c.args.store.now root (omega arith)).entry.first in
+    let some = ref_some g.row.OFFSET_BITS root (g.met.S.Store.placed c.args.store.now root (omega arith)).entry.first in
     subst (λ n. MakesRoot ledger ledger m m n slots.keys.items slots.values.items root) (sym up)
     (root-only ledger m l slots.keys.items slots.values.items root (omega arith) some is one hand)
 
 pub returns-clause-root : goal.returns-clause-root
 returns-clause-root g c =
     let slots = c.args.slots.now in
-    let part = c.in_ok-make_part.field-0 in
+    let part = c.in_ok-part.part in
     let some = some_from (length slots.keys.items) c.is_empty.result c.is_empty.ensures c.if-is_empty.false in
     let other : 0 < slots.level → length slots.keys.items ≢ 1 = elim c.else-slots-gt0.branch [
       | else-slots-gt0-via-then-slots-gt0+else-len-eq1 w ↦ (λ above e. let ne = w.if-len-eq1.false in absurd (omega arith))
       | else-slots-gt0-via-else-slots-gt0 w ↦ (λ above e. let leaf = w.if-slots-gt0.false in absurd (omega arith))
     ] in
-    root-made (g.S.Store.ledger c.args.store.now) (g.S.Store.ledger c.make_part.new.store) (g.S.Frozen.records c.args.store.now) (g.S.Frozen.records c.make_part.new.store)
-    slots.level slots.keys.items slots.values.items part.node c.requires.low (many_from slots.level (length slots.keys.items) some other) c.in_ok-make_part.ensures.makes.node
+    let ledger = g.S.Store.ledger in
+    let records = g.S.Frozen.records in
+    subst (MakesRoot (ledger c.args.store.now) (ledger c.make_part.new.store) (records c.args.store.now) (records c.make_part.new.store) slots.level slots.keys.items slots.values.items)
+    (sym c.from_raw-2.ensures)
+    (root-made (ledger c.args.store.now) (ledger c.make_part.new.store) (records c.args.store.now) (records c.make_part.new.store)
+    slots.level slots.keys.items slots.values.items part.node c.requires.low (many_from slots.level (length slots.keys.items) some other) c.in_ok-part.ensures.makes.node)
 
-pub returns-in_err-make_part-clause-full : goal.returns-in_err-make_part-clause-full
-returns-in_err-make_part-clause-full g c = λ w a h e. c.in_err-make_part.ensures.full w a h (ap Err (err_same c.from_residual.result c.in_err-make_part.field-0.0 _ c.from_residual.ensures.1 e))
+pub returns-in_err-part-clause-full : goal.returns-in_err-part-clause-full
+returns-in_err-part-clause-full g c = λ w a h e. c.in_err-part.ensures.full w a h (ap Err (err_same c.from_residual.result c.in_err-part.field-0.0 _ c.from_residual.ensures.1 e))

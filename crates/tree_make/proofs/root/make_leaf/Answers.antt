@@ -1,8 +1,8 @@
 use Rattle.std.proofs.Common.{Err, ◌≡◌, ℕ, List, [], ◌∷◌, ◌++◌, length, refl, sym, ap, ◌∙◌, arith}
 use Rattle.tree_node.proofs.CountLemmas.{leaf_count}
 use Rattle.tree_node.proofs.SlotLemmas.{hand-leaf}
-use Rattle.tree_insert.proofs.OkLemmas.{err_same}
-use Rattle.tree_insert.proofs.tree.make_leaf.Goals as goal
+use Rattle.tree_make.proofs.Results.{err_same}
+use Rattle.tree_make.proofs.root.make_leaf.Goals as goal
 
 pub make_part-requires-clause-hand : goal.make_part-requires-clause-hand
 make_part-requires-clause-hand g c =
@@ -22,5 +22,5 @@ make_part-requires-clause-few g c =
     let one : length ks ≡ 1 = ap length keys in
     omega arith
 
-pub returns-in_err-make_part-clause-full : goal.returns-in_err-make_part-clause-full
-returns-in_err-make_part-clause-full g c = λ w a h e. c.in_err-make_part.ensures.full w a h (ap Err (err_same c.from_residual.result c.in_err-make_part.field-0.0 _ c.from_residual.ensures.1 e))
+pub returns-in_err-part-clause-full : goal.returns-in_err-part-clause-full
+returns-in_err-part-clause-full g c = λ w a h e. c.in_err-part.ensures.full w a h (ap Err (err_same c.from_residual.result c.in_err-part.field-0.0 _ c.from_residual.ensures.1 e))

@@ -1,8 +1,8 @@
 use Rattle.std.proofs.Common.{◌≡◌, ℕ, zero, suc, ◌+◌, ◌-◌, ◌<◌, ◌≤◌, List, [], ◌∷◌, ◌++◌, length, get_or, slice_index, take, replicate, sym, ap, refl, ◌∙◌, append_assoc, arith, length-append}
 use Rattle.std.proofs.lemmas.List.{take_more, get_or_append_left, get_or-append_right, length-replicate}
 use Rattle.tree_images.specs.Nodes.{slot_words}
-use Rattle.tree_make.proofs.make.push_padded.Goals.{then-i-slots, else-i-slots}
-use Rattle.tree_make.proofs.make.push_padded.Goals as goal
+use Rattle.tree_make.proofs.make.push_slots.Goals.{then-i-slots, else-i-slots}
+use Rattle.tree_make.proofs.make.push_slots.Goals as goal
 
 zeros_at : (n i : ℕ) → slice_index (replicate n 0) i ≡ 0
 zeros_at zero i = refl
@@ -10,9 +10,9 @@ zeros_at (suc n) zero = refl
 zeros_at (suc n) (suc i) = zeros_at n i
 
 -- one slot more
-padded_more : (words slots : List ℕ) (i word : ℕ) → length slots ≤ 16 → i < 16 → word ≡ get_or (slot_words slots) i 0
+slots_more : (words slots : List ℕ) (i word : ℕ) → length slots ≤ 16 → i < 16 → word ≡ get_or (slot_words slots) i 0
     → (words ++ take i (slot_words slots)) ++ (word ∷ []) ≡ words ++ take (i + 1) (slot_words slots)
-padded_more words slots i word few low is =
+slots_more words slots i word few low is =
     let both = length-append slots (replicate (16 - length slots) 0) in
     let rest : length (replicate {A = ℕ} (16 - length slots) 0) ≡ 16 - length slots = length-replicate (16 - length slots) 0 in
     let inside : i < length (slot_words slots) = omega arith in
@@ -33,4 +33,4 @@ loop-i-preserved c =
     ] in
     c.push.ensures.items
     ∙ ap (λ xs. xs ++ (c.if-i-slots.word ∷ [])) c.loop-i.invariant
-    ∙ padded_more c.args.words.now.items slots i c.if-i-slots.word c.requires.few c.loop-i-test.true word
+    ∙ slots_more c.args.words.now.items slots i c.if-i-slots.word c.requires.few c.loop-i-test.true word
