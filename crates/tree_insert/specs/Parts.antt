@@ -39,7 +39,7 @@ pub record MakesParts {H : Type 0} (old new : Ledger H) (m n : Records) (level :
       ≡ uses old ref + times ref (flat_map (nodes_below n level) (part_nodes parts))
 
 -- a root stands for parts of a level: the one part, or a node of the next level over two
-pub record MakesRoot {H : Type 0} (old new : Ledger H) (m n : Records) (level : ℕ) (parts : Parts) (root : ℕ) : Type 0 where
+pub record IsRootOver {H : Type 0} (old new : Ledger H) (m n : Records) (level : ℕ) (parts : Parts) (root : ℕ) : Type 0 where
   pub height : ℕ
   pub low : height ≤ 7
   pub some : 0 < root

@@ -1,4 +1,4 @@
-ghost use Rattle.std.specs.Prelude.{◌≡◌, ◌≤◌, ◌<◌, ◌+◌, ◌*◌, ◌++◌, ◌∷◌, [], ℕ, List, true, length, suc, Err, IfOk};
+ghost use Rattle.std.specs.Prelude.{◌≡◌, ◌≤◌, ◌<◌, ◌+◌, ◌*◌, ◌^◌, ◌++◌, ◌∷◌, [], ℕ, List, true, length, suc, Err, IfOk};
 ghost use Rattle.tree_images.specs.Trees.{pairs_below, IsNode};
 ghost use Rattle.key_order.specs.Keys.{seen_by, Ascends, AllReadable};
 ghost use Rattle.store_api.specs.Ledgers.{IsFull};
@@ -11,7 +11,7 @@ use arrayvec::ArrayVec;
 use entry_ref::EntryRef;
 use key_order::KeyOrder;
 use store_api::{Store, StoreError};
-use tree_node::{place_of, read_node};
+use tree_node::{first_slot, place_of, read_node};
 
 /// Makes a leaf anew with a pair put in.
 fn insert_in_leaf<const OFFSET_BITS: u32, S: Store<OFFSET_BITS>, K: KeyOrder<OFFSET_BITS>>(
@@ -24,7 +24,7 @@ fn insert_in_leaf<const OFFSET_BITS: u32, S: Store<OFFSET_BITS>, K: KeyOrder<OFF
     requires unit { (S.ledger store.old).unit ≡ true }
     requires node { IsNode (S.records store.old) 1 0 node }
     requires readable { AllReadable K.can_read (S.records store.old) (pairs_below (S.records store.old) 0 node) }
-    requires few { length (pairs_below (S.records store.old) 0 node) < 4294967295 }
+    requires few { length (pairs_below (S.records store.old) 0 node) + 1 < 2 ^ 32 }
     ensures inserts { (before after : List ℕ) → after ≡ before ++ node.entry ∷ [] → IfOk result
         (Inserts (seen_by K.read K.order (K.sought key.now) (S.records store.old)) (word, value)
         (S.ledger store.old) (S.ledger store.new) (S.records store.old) (S.records store.new) 0 node.entry before after) }
@@ -32,7 +32,9 @@ fn insert_in_leaf<const OFFSET_BITS: u32, S: Store<OFFSET_BITS>, K: KeyOrder<OFF
     ensures full { (w a h : ℕ) → result ≡ Err (StoreError.Full w a h) → (w ≡ 34) × IsFull (S.ledger store.new) w a h }
 {
     let mut slots = read_node(store, node);
-    put_in_leaf(store, &mut slots, key, word, value);
+    let used = slots.keys.len() as u32;
+    let slot = first_slot(store, node, used, key) as usize;
+    put_in_leaf(store, &mut slots, slot, key, word, value);
     make_parts(store, &mut slots)
 }
 
@@ -52,7 +54,7 @@ pub fn insert_below<const OFFSET_BITS: u32, S: Store<OFFSET_BITS>, K: KeyOrder<O
     requires node { IsNode (S.records store.old) 1 level node }
     requires ascends { Ascends K.order K.read (S.records store.old) (pairs_below (S.records store.old) level node) }
     requires readable { AllReadable K.can_read (S.records store.old) (pairs_below (S.records store.old) level node) }
-    requires few { length (pairs_below (S.records store.old) level node) < 4294967295 }
+    requires few { length (pairs_below (S.records store.old) level node) + 1 < 2 ^ 32 }
     requires room { length replaced.old.items + level < 8 }
     ensures inserts { IfOk result (Inserts (seen_by K.read K.order (K.sought key.now) (S.records store.old)) (word, value)
         (S.ledger store.old) (S.ledger store.new) (S.records store.old) (S.records store.new)
@@ -65,7 +67,8 @@ pub fn insert_below<const OFFSET_BITS: u32, S: Store<OFFSET_BITS>, K: KeyOrder<O
         return insert_in_leaf(store, node, key, word, value);
     }
     let mut slots = read_node(store, node);
-    let place = place_of(store, &slots.keys, key);
+    let used = slots.keys.len() as u32;
+    let place = place_of(store, node, used, key) as usize;
     let child = EntryRef::from_raw(slots.values[place] as u32);
     let parts = insert_below(store, child, level - 1, key, word, value, replaced)?;
     set_parts(&mut slots, place, &parts);

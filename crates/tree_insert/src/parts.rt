@@ -1,4 +1,4 @@
-ghost use Rattle.std.specs.Prelude.{◌≡◌, ◌≤◌, ◌<◌, ◌∷◌, ◌++◌, ℕ, true, length, take, drop, suc, Err, IfOk};
+ghost use Rattle.std.specs.Prelude.{◌≡◌, ◌≤◌, ◌<◌, ◌^◌, ◌∷◌, ◌++◌, ℕ, true, length, take, drop, suc, Err, IfOk};
 ghost use Rattle.store_api.specs.Ledgers.{IsFull};
 ghost use Rattle.tree_node.specs.Slots.{slot_pairs, IsInHand};
 ghost use Rattle.tree_make.specs.Makes.{MakesNodes};
@@ -56,7 +56,7 @@ pub fn make_parts<const OFFSET_BITS: u32, S: Store<OFFSET_BITS>>(store: &mut S, 
     requires hand { IsInHand (S.records store.old) slots.old.level slots.old.keys.items slots.old.values.items }
     requires some { 0 < length slots.old.keys.items }
     requires fits { length slots.old.keys.items ≤ 17 }
-    requires few { length (slot_pairs (S.records store.old) slots.old.level slots.old.keys.items slots.old.values.items) < 4294967296 }
+    requires few { length (slot_pairs (S.records store.old) slots.old.level slots.old.keys.items slots.old.values.items) < 2 ^ 32 }
     ensures parts { IfOk result (MakesParts (S.ledger store.old) (S.ledger store.new) (S.records store.old) (S.records store.new)
         slots.old.level slots.old.keys.items slots.old.values.items) }
     ensures makes { MakesNodes (S.ledger store.old) (S.ledger store.new) (S.records store.old) (S.records store.new) 2 }

@@ -1,4 +1,4 @@
-ghost use Rattle.std.specs.Prelude.{◌≡◌, ◌≢◌, ◌≤◌, ◌<◌, ◌+◌, ◌*◌, ◌∷◌, [], ℕ, true, length, suc, Err, IfOk, OnErr};
+ghost use Rattle.std.specs.Prelude.{◌≡◌, ◌≢◌, ◌≤◌, ◌<◌, ◌+◌, ◌*◌, ◌^◌, ℕ, true, length, Err, IfOk, OnErr};
 ghost use Rattle.std.specs.List.{AllByRecursion, flat_map};
 ghost use Rattle.std.specs.declared.cmp.Ordering.TheVariants.{Equal};
 ghost use Rattle.tree_images.specs.Trees.{pairs_below, tree_pairs, tree_nodes, IsTree, root_least};
@@ -7,8 +7,8 @@ ghost use Rattle.key_order.specs.Pairs.{put};
 ghost use Rattle.store_api.specs.Statuses.{in_use};
 ghost use Rattle.store_api.specs.Ledgers.{IsFull};
 ghost use Rattle.tree_make.specs.Changes.{Replaces, levels};
-ghost use Rattle.tree_make.specs.Makes.{MakesNodes, MakesNode};
-ghost use Rattle.tree_insert.specs.Parts.{AreParts, MakesRoot, part_nodes};
+ghost use Rattle.tree_make.specs.Makes.{MakesNodes};
+ghost use Rattle.tree_insert.specs.Parts.{AreParts, IsRootOver, part_nodes};
 
 use crate::below::insert_below;
 use crate::parts::Parts;
@@ -16,37 +16,22 @@ use arrayvec::ArrayVec;
 use entry_ref::EntryRef;
 use key_order::KeyOrder;
 use store_api::{Store, StoreError};
-use tree_make::drop_nodes;
-use tree_make::make_part;
+use tree_make::{drop_nodes, make_leaf, make_part};
 use tree_node::Slots;
 
-/// Makes a leaf of one pair.
-fn make_leaf<const OFFSET_BITS: u32, S: Store<OFFSET_BITS>>(store: &mut S, word: u64, value: u64) -> Result<EntryRef<OFFSET_BITS>, StoreError>
-    requires unit { (S.ledger store.old).unit ≡ true }
-    ensures leaf { IfOk result (MakesNode (S.ledger store.old) (S.ledger store.new) (S.records store.old) (S.records store.new)
-        0 (word ∷ []) (value ∷ [])) }
-    ensures makes { MakesNodes (S.ledger store.old) (S.ledger store.new) (S.records store.old) (S.records store.new) 1 }
-    ensures full { (w a h : ℕ) → result ≡ Err (StoreError.Full w a h) → (w ≡ 34) × IsFull (S.ledger store.new) w a h }
-{
-    let mut slots = Slots {
-        level: 0,
-        keys: ArrayVec::new(),
-        values: ArrayVec::new(),
-    };
-    slots.keys.push(word);
-    slots.values.push(value);
-    Ok(EntryRef::from_raw(make_part(store, &slots)?.node))
-}
-
 /// The root over parts of a level: one part alone, or a node of the next level with both.
-fn make_root<const OFFSET_BITS: u32, S: Store<OFFSET_BITS>>(store: &mut S, level: u64, parts: &Parts) -> Result<EntryRef<OFFSET_BITS>, StoreError>
+fn root_over<const OFFSET_BITS: u32, S: Store<OFFSET_BITS>>(
+    store: &mut S,
+    level: u64,
+    parts: &Parts,
+) -> Result<EntryRef<OFFSET_BITS>, StoreError>
     requires unit { (S.ledger store.old).unit ≡ true }
     requires parts { AreParts (S.records store.old) (root_least level) level parts.now
         (flat_map (pairs_below (S.records store.old) level) (part_nodes parts.now)) }
-    requires few { length (flat_map (pairs_below (S.records store.old) level) (part_nodes parts.now)) < 4294967296 }
+    requires few { length (flat_map (pairs_below (S.records store.old) level) (part_nodes parts.now)) < 2 ^ 32 }
     requires low { level ≤ 7 }
     requires two { level ≡ 7 → length (part_nodes parts.now) ≡ 1 }
-    ensures root { IfOk result (MakesRoot (S.ledger store.old) (S.ledger store.new) (S.records store.old) (S.records store.new) level parts.now) }
+    ensures root { IfOk result (IsRootOver (S.ledger store.old) (S.ledger store.new) (S.records store.old) (S.records store.new) level parts.now) }
     ensures makes { MakesNodes (S.ledger store.old) (S.ledger store.new) (S.records store.old) (S.records store.new) 1 }
     ensures full { (w a h : ℕ) → result ≡ Err (StoreError.Full w a h) → (w ≡ 34) × IsFull (S.ledger store.new) w a h }
 {
@@ -62,7 +47,8 @@ fn make_root<const OFFSET_BITS: u32, S: Store<OFFSET_BITS>>(store: &mut S, level
             slots.values.push(u64::from(first.node));
             slots.keys.push(second.key);
             slots.values.push(u64::from(second.node));
-            Ok(EntryRef::from_raw(make_part(store, &slots)?.node))
+            let root = make_part(store, &slots)?;
+            Ok(EntryRef::from_raw(root.node))
         }
     }
 }
@@ -101,7 +87,7 @@ pub fn insert<const OFFSET_BITS: u32, S: Store<OFFSET_BITS>, K: KeyOrder<OFFSET_
     let level = store.word(root, 0) / 256;
     let mut replaced = ArrayVec::new();
     let parts = insert_below(store, root, level, key, word, value, &mut replaced)?;
-    let next = make_root(store, level, &parts)?;
+    let next = root_over(store, level, &parts)?;
     drop_nodes(store, &replaced);
     Ok(next)
 }

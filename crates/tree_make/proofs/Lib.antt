@@ -5,3 +5,4 @@ pub mod MadeLemmas
 pub mod DropLemmas
 pub mod Balance
 pub mod RootLemmas
+pub mod TopLemmas

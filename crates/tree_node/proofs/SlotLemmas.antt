@@ -1,6 +1,6 @@
 -- Slots put together and taken apart, and what stays of them under more records.
-use Rattle.std.proofs.Common.{◌≡◌, ℕ, zero, suc, List, [], ◌∷◌, ◌++◌, length, map, take, drop, refl, sym, ap, ◌∙◌, arith, length-append}
-use Rattle.std.proofs.lemmas.List.{map-append, take_at, drop_at, append-nil}
+use Rattle.std.proofs.Common.{◌≡◌, ℕ, zero, suc, List, [], ◌∷◌, ◌++◌, length, map, take, drop, min, refl, sym, ap, subst, ◌∙◌, ◌≤◌, arith, length-append, length-take, length-drop}
+use Rattle.std.proofs.lemmas.List.{map-append, take_at, drop_at, append-nil, take-append-drop}
 use Rattle.std.proofs.lemmas.Grind.{flat_map-append}
 use Rattle.std.specs.List.{zip, flat_map, AllByRecursion}
 use Rattle.image_base.specs.Records.{Records}
@@ -194,3 +194,31 @@ pub nodes-slots : (m : Records) (level ref : ℕ) → nodes_below m level ref �
 unfolding nodes_below slot_nodes
 nodes-slots m zero ref = refl
 nodes-slots m (suc level) ref = refl
+
+-- slots cut in two
+module _ (m : Records) (level : ℕ) (ks vs : List ℕ) (hand : IsInHand m level ks vs) (i : ℕ) where
+  pub cut : IsInHand m level (take i ks ++ drop i ks) (take i vs ++ drop i vs)
+  cut =
+      subst (λ xs. IsInHand m level xs (take i vs ++ drop i vs)) (sym (take-append-drop i ks))
+      (subst (λ xs. IsInHand m level ks xs) (sym (take-append-drop i vs)) hand)
+
+  pub even-take : length (take i ks) ≡ length (take i vs)
+  even-take = length-take i ks ∙ ap (min i) hand.even ∙ sym (length-take i vs)
+
+  pub hand-take : IsInHand m level (take i ks) (take i vs)
+  hand-take = hand-left m level (take i ks) (take i vs) (drop i ks) (drop i vs) even-take cut
+
+  pub hand-drop : IsInHand m level (drop i ks) (drop i vs)
+  hand-drop = hand-right m level (take i ks) (take i vs) (drop i ks) (drop i vs) even-take cut
+
+  pub pairs-cut : slot_pairs m level ks vs ≡ slot_pairs m level (take i ks) (take i vs) ++ slot_pairs m level (drop i ks) (drop i vs)
+  pairs-cut =
+      ap (λ xs. slot_pairs m level xs vs) (sym (take-append-drop i ks))
+      ∙ ap (slot_pairs m level (take i ks ++ drop i ks)) (sym (take-append-drop i vs))
+      ∙ slot_pairs-append m level (take i ks) (take i vs) (drop i ks) (drop i vs) even-take
+
+  pub few-take : length (slot_pairs m level (take i ks) (take i vs)) ≤ length (slot_pairs m level ks vs)
+  few-take = let all = ap length pairs-cut in let both = length-append (slot_pairs m level (take i ks) (take i vs)) (slot_pairs m level (drop i ks) (drop i vs)) in omega arith
+
+  pub few-drop : length (slot_pairs m level (drop i ks) (drop i vs)) ≤ length (slot_pairs m level ks vs)
+  few-drop = let all = ap length pairs-cut in let both = length-append (slot_pairs m level (take i ks) (take i vs)) (slot_pairs m level (drop i ks) (drop i vs)) in omega arith

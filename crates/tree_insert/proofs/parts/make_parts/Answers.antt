@@ -1,6 +1,6 @@
 use Rattle.std.proofs.Common.{ap, Err, ◌≡◌, length, arith}
 use Rattle.tree_insert.proofs.PartsLemmas.{IsSplit, first-hand, first-few, second-hand, second-few, two_made}
-use Rattle.tree_insert.proofs.OkLemmas.{err_same}
+use Rattle.tree_make.proofs.Results.{err_same}
 use Rattle.tree_insert.proofs.parts.make_parts.Goals as goal
 
 pub make_part-requires-2-clause-hand : goal.make_part-requires-2-clause-hand
