@@ -10,7 +10,7 @@ use Rattle.tree_make.specs.Makes.{MakesNode, MakesPart}
 use Rattle.tree_node.specs.Slots.{slot_pairs, slot_nodes, IsInHand}
 use Rattle.tree_make.specs.declared.make.Part.{Part}
 use Rattle.tree_remove.proofs.StandLemmas.{stands-one, stands-two}
-use Rattle.tree_remove.specs.Settles.{Stands, Settles}
+use Rattle.tree_remove.specs.Settles.{MakesSlots, Settles}
 
 edit_one : (i a : ℕ) (xs : List ℕ) → suc i < length xs → set (remove xs (suc i)) i a ≡ take i xs ++ (a ∷ drop (suc (suc i)) xs)
 edit_one i a [] low = absurd (omega arith)
@@ -92,10 +92,10 @@ module _ {H : Type 0} (a b d : Ledger H) (m n o : Records) (level : ℕ) (k1 v1 
       ap (λ qs. slot_nodes m level v1 ++ qs) (slot_nodes-kept m n first_makes.makes.keeps level k2 v2 right_hand)
       ∙ sym (slot_nodes-append m level v1 v2)
 
-  both_stand : Stands a d m o level (slot_pairs m level (k1 ++ k2) (v1 ++ v2)) (slot_nodes m level (v1 ++ v2)) ((key1 ∷ []) ++ (key2 ∷ [])) ((ref1 ∷ []) ++ (ref2 ∷ []))
+  both_stand : MakesSlots a d m o level (slot_pairs m level (k1 ++ k2) (v1 ++ v2)) (slot_nodes m level (v1 ++ v2)) ((key1 ∷ []) ++ (key2 ∷ [])) ((ref1 ∷ []) ++ (ref2 ∷ []))
   both_stand =
-      subst (λ ps. Stands a d m o level ps (slot_nodes m level (v1 ++ v2)) ((key1 ∷ []) ++ (key2 ∷ [])) ((ref1 ∷ []) ++ (ref2 ∷ []))) both_pairs
-      (subst (λ qs. Stands a d m o level (slot_pairs m level k1 v1 ++ slot_pairs n level k2 v2) qs ((key1 ∷ []) ++ (key2 ∷ [])) ((ref1 ∷ []) ++ (ref2 ∷ []))) both_nodes
+      subst (λ ps. MakesSlots a d m o level ps (slot_nodes m level (v1 ++ v2)) ((key1 ∷ []) ++ (key2 ∷ [])) ((ref1 ∷ []) ++ (ref2 ∷ []))) both_pairs
+      (subst (λ qs. MakesSlots a d m o level (slot_pairs m level k1 v1 ++ slot_pairs n level k2 v2) qs ((key1 ∷ []) ++ (key2 ∷ [])) ((ref1 ∷ []) ++ (ref2 ∷ []))) both_nodes
       (stands-two a b d m n o level (slot_pairs m level k1 v1) (slot_pairs n level k2 v2) (slot_nodes m level v1) (slot_nodes n level v2) (key1 ∷ []) (ref1 ∷ []) (key2 ∷ []) (ref2 ∷ [])
       (stands-one a b m n level k1 v1 ref1 first_makes key1 first_last first_many)
       (stands-one b d n o level k2 v2 ref2 second_makes key2 second_last second_many)))

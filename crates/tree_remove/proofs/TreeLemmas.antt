@@ -1,5 +1,5 @@
 -- The tree without the pair: its root, and what is left of the store.
-use Rattle.std.proofs.Common.{◌≡◌, ◌≢◌, ℕ, zero, suc, ◌<◌, ◌≤◌, true, List, [], ◌∷◌, length, get_or, min, Bool, false, true≢false, ne_eqb, refl, sym, ap, subst, ◌∙◌, arith}
+use Rattle.std.proofs.Common.{◌≡◌, ◌≢◌, ℕ, zero, suc, ◌<◌, ◌≤◌, true, List, [], ◌∷◌, length, get_or, min, Bool, false, true≢false, ne_eqb, refl, sym, ap, subst, ◌∙◌, arith, ◌^◌}
 use Rattle.std.specs.Prelude.{IsSome, ◌==◌}
 use Rattle.std.proofs.lemmas.List.{nil_from_length}
 use Rattle.std.specs.Cmp.{IsTotalOrder}
@@ -8,6 +8,7 @@ use Rattle.std.specs.List.{zip, AllByRecursion}
 use Rattle.entry_ref.specs.References.{offset_of}
 use Rattle.image_base.specs.Records.{Records, SameAt}
 use Rattle.tree_images.proofs.DistinctLemmas.{tree_nodes_distinct}
+use Rattle.tree_node.proofs.RootLemmas.{root_least-few, root_least-above}
 use Rattle.tree_images.proofs.TreeLemmas.{IsNode-form, IsNode-count}
 use Rattle.tree_images.specs.Nodes.{level_of}
 use Rattle.tree_images.specs.ProofsForTrees.{tree_pairs-same, IsRootNode-same}
@@ -26,69 +27,49 @@ use Rattle.tree_make.specs.Changes.{Drops, Replaces, levels}
 use Rattle.tree_make.specs.Times.{times, EachOnce}
 use Rattle.tree_make.proofs.MakesLemmas.{makes-none, makes-stays}
 use Rattle.tree_node.proofs.SlotLemmas.{slot_pairs-leaf, slot_nodes-leaf, slot_pairs-one, slot_nodes-one, child_nodes}
-use Rattle.tree_make.specs.Makes.{MakesNodes, MakesNode}
+use Rattle.tree_make.specs.Makes.{MakesNodes, MakesRoot}
 use Rattle.tree_node.specs.Slots.{slot_pairs, slot_nodes, IsInHand}
-use Rattle.tree_remove.proofs.StandLemmas.{made-balance, node-weaker}
-use Rattle.tree_remove.proofs.RemoveLemmas.{root_least-few, root_least-above}
-use Rattle.tree_remove.specs.Removes.{Removes, MakesRoot, Rebuilds}
+use Rattle.tree_make.proofs.TopLemmas.{root-node, root-pairs, root-nodes}
+use Rattle.tree_remove.specs.Removes.{Removes, Rebuilds}
 
--- the root of a tree that is not empty
-module _ {V : Type 0} (order : V → V → Ordering) (read : Records → ℕ → V) (m : Records) (root : ℕ) (tree : IsTree order read m root) (some : 0 < root) where
-  pub root-size : length (m root) ≡ 34
-  root-size = (IsNode-form m (root_least (root_level m root)) (root_level m root) root (tree.node some)).size
+-- the root without the pair, in hand
+module _ {V : Type 0} (order : V → V → Ordering) (read : Records → ℕ → V) (m : Records) (root : ℕ) (tree : IsTree order read m root) (some : 0 < root) (level : ℕ) (level_is : level ≡ root_level m root) where
+  top-node : IsNode m (root_least level) level root
+  top-node = root-node order read m root tree some level level_is
 
-  pub root-level : level_of (m root) ≡ root_level m root
-  root-level = (IsNode-form m (root_least (root_level m root)) (root_level m root) root (tree.node some)).at_level
+  module _ {H : Type 0} (c : ℕ → Ordering) (old mid : Ledger H) (n : Records) (gone keys values : List ℕ) (x : Removes c old mid m n level root [] gone keys values) where
+    pub top-few : IsSome (lookup c (pairs_below m level root)) → length (slot_pairs n level keys values) < 2 ^ 32
+    top-few there =
+        let same = ap length x.pairs_are in
+        let less = length-take_out c (pairs_below m level root) there in
+        let count = IsNode-count m (root_least level) level root top-node in
+        let few = (IsNode-form m (root_least level) level root top-node).few in
+        omega arith
 
-  module _ (level : ℕ) (level_is : level ≡ root_level m root) where
-    pub root-low : level ≤ 7
-    root-low = omega arith
+    pub top-room : length keys ≤ 16
+    top-room =
+        let filled = x.filled in let one = x.one in
+        let room = (IsNode-form m (root_least level) level root top-node).room in
+        omega arith
 
-    pub root-node : IsNode m (root_least level) level root
-    root-node = subst (λ l. IsNode m (root_least l) l root) (sym level_is) (tree.node some)
+    pub top-some : 0 < level → 0 < length keys
+    top-some above =
+        let filled = x.filled in let one = x.one in
+        let used = (IsNode-form m (root_least level) level root top-node).filled in
+        let two = root_least-above level above in
+        omega arith
 
-    pub root-pairs : tree_pairs m root ≡ pairs_below m level root
-    root-pairs = tree_pairs-is m (root_least level) level root root-low some root-node
-
-    pub root-nodes : tree_nodes m root ≡ nodes_below m level root
-    root-nodes = tree_nodes-is m (root_least level) level root root-low some root-node
-
-    pub root-levels : levels m root ≡ suc level
-    root-levels = levels-at m root some ∙ ap suc (sym level_is)
-
-    module _ {H : Type 0} (c : ℕ → Ordering) (old mid : Ledger H) (n : Records) (gone keys values : List ℕ) (x : Removes c old mid m n level root [] gone keys values) where
-      pub top-few : IsSome (lookup c (pairs_below m level root)) → length (slot_pairs n level keys values) < 4294967296
-      top-few there =
-          let same = ap length x.pairs_are in
-          let less = length-take_out c (pairs_below m level root) there in
-          let count = IsNode-count m (root_least level) level root root-node in
-          let few = (IsNode-form m (root_least level) level root root-node).few in
-          omega arith
-
-      pub top-room : length keys ≤ 16
-      top-room =
-          let filled = x.filled in let one = x.one in
-          let room = (IsNode-form m (root_least level) level root root-node).room in
-          omega arith
-
-      pub top-some : 0 < level → 0 < length keys
-      top-some above =
-          let filled = x.filled in let one = x.one in
-          let used = (IsNode-form m (root_least level) level root root-node).filled in
-          let two = root_least-above level above in
-          omega arith
-
-      pub rebuilds-from : (new : Ledger H) (o : Records) (next : ℕ) → MakesRoot mid new n o level keys values next → Rebuilds c old new m o root next gone
-      rebuilds-from new o next y = record {
-        node = y.node;
-        pairs_are = y.pairs_are ∙ x.pairs_are ∙ ap (take_out c) (sym root-pairs);
-        balance = λ r.
-            let a = x.balance r in
-            let b = y.balance r in
-            let same = ap (times r) root-nodes in
-            omega arith;
-        gone_of = λ r. let a = x.gone r in let same = ap (times r) root-nodes in omega arith;
-      }
+    pub rebuilds-from : (new : Ledger H) (o : Records) (next : ℕ) → MakesRoot mid new n o level keys values next → Rebuilds c old new m o root next gone
+    rebuilds-from new o next y = record {
+      node = y.node;
+      pairs_are = y.pairs_are ∙ x.pairs_are ∙ ap (take_out c) (sym (root-pairs order read m root tree some level level_is));
+      balance = λ r.
+          let a = x.balance r in
+          let b = y.balance r in
+          let same = ap (times r) (root-nodes order read m root tree some level level_is) in
+          omega arith;
+      gone_of = λ r. let a = x.gone r in let same = ap (times r) (root-nodes order read m root tree some level level_is) in omega arith;
+    }
 
 -- the new tree, and the replaced nodes dropped
 module _ {H : Type 0} {V : Type 0} (order : V → V → Ordering) (total : IsTotalOrder order) (can_read : Records → ℕ → Type 0) (read : Records → ℕ → V) (reads_from : Records → ℕ → List ℕ)

@@ -1,5 +1,5 @@
 -- What a removal makes of a node and of a tree.
-use Rattle.std.specs.Prelude.{◌≡◌, ℕ, suc, ◌+◌, ◌*◌, ◌<◌, ◌≤◌, List, ◌∷◌, ◌++◌, length, take, drop, slice_index, IsSome}
+use Rattle.std.specs.Prelude.{◌≡◌, ◌^◌, ℕ, suc, ◌+◌, ◌*◌, ◌<◌, ◌≤◌, List, ◌∷◌, ◌++◌, length, take, drop, slice_index, IsSome}
 use Rattle.std.specs.declared.cmp.Ordering.{Ordering}
 use Rattle.image_base.specs.Records.{Records}
 use Rattle.tree_images.specs.Nodes.{used_of}
@@ -17,8 +17,8 @@ spliced m level place keys values pairs =
     ++ (pairs ++ slot_pairs m (suc level) (drop (suc place) keys) (drop (suc place) values))
 
 -- the nodes below all children but one
-abbrev pub beside : Records → ℕ → ℕ → List ℕ → List ℕ
-beside m level place values =
+abbrev pub nodes_beside : Records → ℕ → ℕ → List ℕ → List ℕ
+nodes_beside m level place values =
     slot_nodes m (suc level) (take place values) ++ slot_nodes m (suc level) (drop (suc place) values)
 
 -- the slots of a child with at least 8
@@ -36,8 +36,8 @@ pub record PutsBack {H : Type 0} (old new : Ledger H) (m n : Records) (level pla
   pub pairs_are : slot_pairs n (suc level) keys_after values_after
       ≡ spliced m level place keys values (slot_pairs m level child_keys child_values)
   pub balance : (r : ℕ) → times r (slot_nodes n (suc level) values_after) + times r after + uses old r
-      ≡ uses new r + times r before + times r (beside m level place values) + times r (slot_nodes m level child_values)
-  pub gone : (r : ℕ) → times r after ≤ times r before + times r (beside m level place values)
+      ≡ uses new r + times r before + times r (nodes_beside m level place values) + times r (slot_nodes m level child_values)
+  pub gone : (r : ℕ) → times r after ≤ times r before + times r (nodes_beside m level place values)
   pub path : length after ≤ suc (length before)
   -- 1 where it has lost none
   pub extra : ℕ
@@ -55,7 +55,7 @@ pub record IsStep (c : ℕ → Ordering) (m : Records) (level node : ℕ) (keys 
   pub used : used_of (m node) ≡ length keys
   pub many : 2 ≤ length keys
   pub room : length keys ≤ 16
-  pub few : length (pairs_below m (suc level) node) < 4294967296
+  pub few : length (pairs_below m (suc level) node) < 2 ^ 32
   pub within : place < length keys
   pub child_is : child ≡ slice_index values place
   pub child_node : IsNode m 8 level child

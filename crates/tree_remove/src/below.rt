@@ -14,18 +14,18 @@ use arrayvec::ArrayVec;
 use entry_ref::EntryRef;
 use key_order::KeyOrder;
 use store_api::{Store, StoreError};
-use tree_node::{Slots, read_node, slot_of};
+use tree_node::{Slots, first_slot, read_node};
 
 /// A node above the leaves in hand, and the child under which a key is.
 #[derive(Drop)]
-struct Step {
+struct Descent<const OFFSET_BITS: u32> {
     slots: Slots,
     place: usize,
     child: EntryRef<OFFSET_BITS>,
 }
 
 /// Reads a node above the leaves, and finds the child under which the key is.
-fn step_down<const OFFSET_BITS: u32, F: Frozen<OFFSET_BITS>, K: KeyOrder<OFFSET_BITS>>(frozen: &mut F, node: EntryRef<OFFSET_BITS>, key: &K) -> Step
+fn step_down<const OFFSET_BITS: u32, F: Frozen<OFFSET_BITS>, K: KeyOrder<OFFSET_BITS>>(frozen: &mut F, node: EntryRef<OFFSET_BITS>, key: &K) -> Descent<OFFSET_BITS>
     requires inner { 0 < level_of (F.records frozen.old node) }
     requires node { IsNode (F.records frozen.old) 2 (level_of (F.records frozen.old node)) node }
     requires ascends { Ascends K.order K.read (F.records frozen.old)
@@ -45,9 +45,10 @@ fn step_down<const OFFSET_BITS: u32, F: Frozen<OFFSET_BITS>, K: KeyOrder<OFFSET_
     ensures same { frozen.new ≡ frozen.old }
 {
     let slots = read_node(frozen, node);
-    let place = slot_of(frozen, &slots.keys, key);
+    let used = slots.keys.len() as u32;
+    let place = first_slot(frozen, node, used, key) as usize;
     let child = EntryRef::from_raw(slots.values[place] as u32);
-    Step {
+    Descent {
         slots,
         place,
         child,
@@ -68,7 +69,8 @@ fn remove_in_leaf<const OFFSET_BITS: u32, F: Frozen<OFFSET_BITS>, K: KeyOrder<OF
     ensures same { frozen.new ≡ frozen.old }
 {
     let mut slots = read_node(frozen, node);
-    let slot = slot_of(frozen, &slots.keys, key);
+    let used = slots.keys.len() as u32;
+    let slot = first_slot(frozen, node, used, key) as usize;
     slots.keys.remove(slot);
     slots.values.remove(slot);
     slots

@@ -1,4 +1,4 @@
-ghost use Rattle.std.specs.Prelude.{◌≡◌, ◌≤◌, ◌<◌, ◌+◌, ◌++◌, true, length, slice_set, suc, OnOk, OnErr, ℕ};
+ghost use Rattle.std.specs.Prelude.{◌≡◌, ◌^◌, ◌≤◌, ◌<◌, ◌+◌, ◌++◌, true, length, slice_set, suc, OnOk, OnErr, ℕ};
 ghost use Rattle.store_api.specs.Ledgers.{IsFull};
 ghost use Rattle.tree_make.specs.Makes.{MakesNodes};
 ghost use Rattle.tree_node.specs.Slots.{slot_pairs, slot_nodes, IsInHand};
@@ -77,7 +77,7 @@ fn merge<const OFFSET_BITS: u32, S: Store<OFFSET_BITS>>(
     requires some { 8 ≤ length left.old.keys.items + length right.now.keys.items }
     requires room { length left.old.keys.items + length right.now.keys.items ≤ 16 }
     requires few { length (slot_pairs (S.records store.old) left.old.level
-        (left.old.keys.items ++ right.now.keys.items) (left.old.values.items ++ right.now.values.items)) < 4294967296 }
+        (left.old.keys.items ++ right.now.keys.items) (left.old.values.items ++ right.now.values.items)) < 2 ^ 32 }
     requires parent { length slots.old.keys.items ≡ length slots.old.values.items }
     requires room_parent { length slots.old.keys.items ≤ 16 }
     requires first { suc first < length slots.old.keys.items }
@@ -121,7 +121,7 @@ fn share<const OFFSET_BITS: u32, S: Store<OFFSET_BITS>>(
     requires least_right { 7 ≤ length right.old.keys.items }
     requires one_short { 8 ≤ length left.old.keys.items → length right.old.keys.items ≡ 7 }
     requires few { length (slot_pairs (S.records store.old) left.old.level
-        (left.old.keys.items ++ right.old.keys.items) (left.old.values.items ++ right.old.values.items)) < 4294967296 }
+        (left.old.keys.items ++ right.old.keys.items) (left.old.values.items ++ right.old.values.items)) < 2 ^ 32 }
     requires parent { length slots.old.keys.items ≡ length slots.old.values.items }
     requires room_parent { length slots.old.keys.items ≤ 16 }
     requires first { suc first < length slots.old.keys.items }
@@ -164,7 +164,7 @@ pub fn make_neighbours<const OFFSET_BITS: u32, S: Store<OFFSET_BITS>>(
     requires least_right { 7 ≤ length right.old.keys.items }
     requires one_short { 8 ≤ length left.old.keys.items → length right.old.keys.items ≡ 7 }
     requires few { length (slot_pairs (S.records store.old) left.old.level
-        (left.old.keys.items ++ right.old.keys.items) (left.old.values.items ++ right.old.values.items)) < 4294967296 }
+        (left.old.keys.items ++ right.old.keys.items) (left.old.values.items ++ right.old.values.items)) < 2 ^ 32 }
     requires parent { length slots.old.keys.items ≡ length slots.old.values.items }
     requires room_parent { length slots.old.keys.items ≤ 16 }
     requires first { suc first < length slots.old.keys.items }

@@ -1,4 +1,4 @@
-ghost use Rattle.std.specs.Prelude.{◌≡◌, ◌≤◌, ◌<◌, ◌++◌, ◌∷◌, [], true, length, slice_index, suc, OnOk, OnErr, ℕ};
+ghost use Rattle.std.specs.Prelude.{◌≡◌, ◌^◌, ◌≤◌, ◌<◌, ◌++◌, ◌∷◌, [], true, length, slice_index, suc, OnOk, OnErr, ℕ};
 ghost use Rattle.store_api.specs.Ledgers.{IsFull};
 ghost use Rattle.tree_make.specs.Makes.{MakesNodes};
 ghost use Rattle.tree_node.specs.Slots.{slot_pairs, IsInHand};
@@ -54,7 +54,7 @@ pub fn put_back<const OFFSET_BITS: u32, S: Store<OFFSET_BITS>>(
     requires least { 7 ≤ length child.old.keys.items }
     requires room { length child.old.keys.items ≤ 16 }
     requires few { length (spliced (S.records store.old) child.old.level place slots.old.keys.items slots.old.values.items
-        (slot_pairs (S.records store.old) child.old.level child.old.keys.items child.old.values.items)) < 4294967296 }
+        (slot_pairs (S.records store.old) child.old.level child.old.keys.items child.old.values.items)) < 2 ^ 32 }
     requires room_replaced { length replaced.old.items < 16 }
     ensures puts { OnOk result (PutsBack (S.ledger store.old) (S.ledger store.new) (S.records store.old) (S.records store.new)
         child.old.level place slots.old.keys.items slots.old.values.items child.old.keys.items child.old.values.items

@@ -7,39 +7,14 @@ ghost use Rattle.store_api.specs.Statuses.{in_use};
 ghost use Rattle.tree_make.specs.Changes.{Replaces, levels};
 ghost use Rattle.store_api.specs.Ledgers.{IsFull};
 ghost use Rattle.tree_make.specs.Makes.{MakesNodes};
-ghost use Rattle.tree_node.specs.Slots.{slot_pairs, IsInHand};
-ghost use Rattle.tree_remove.specs.Removes.{MakesRoot, Rebuilds};
+ghost use Rattle.tree_remove.specs.Removes.{Rebuilds};
 
 use crate::below::remove_below;
 use arrayvec::ArrayVec;
 use entry_ref::EntryRef;
 use key_order::KeyOrder;
 use store_api::{Store, StoreError};
-use tree_make::drop_nodes;
-use tree_make::make_part;
-use tree_node::Slots;
-
-/// The root of slots in hand: 0 where there is none, and above the leaves the child of a single one.
-fn make_root<const OFFSET_BITS: u32, S: Store<OFFSET_BITS>>(store: &mut S, slots: &Slots) -> Result<EntryRef<OFFSET_BITS>, StoreError>
-    requires unit { (S.ledger store.old).unit ≡ true }
-    requires low { slots.now.level ≤ 7 }
-    requires hand { IsInHand (S.records store.old) slots.now.level slots.now.keys.items slots.now.values.items }
-    requires some { 0 < slots.now.level → 0 < length slots.now.keys.items }
-    requires room { length slots.now.keys.items ≤ 16 }
-    requires few { length (slot_pairs (S.records store.old) slots.now.level slots.now.keys.items slots.now.values.items) < 4294967296 }
-    ensures root { IfOk result (MakesRoot (S.ledger store.old) (S.ledger store.new) (S.records store.old) (S.records store.new)
-        slots.now.level slots.now.keys.items slots.now.values.items) }
-    ensures full { (w a h : ℕ) → result ≡ Err (StoreError.Full w a h) → (w ≡ 34) × IsFull (S.ledger store.new) w a h }
-    ensures makes { MakesNodes (S.ledger store.old) (S.ledger store.new) (S.records store.old) (S.records store.new) 1 }
-{
-    if slots.keys.is_empty() {
-        return Ok(EntryRef::from_raw(0));
-    }
-    if slots.level > 0 && slots.keys.len() == 1 {
-        return Ok(EntryRef::from_raw(slots.values[0] as u32));
-    }
-    Ok(EntryRef::from_raw(make_part(store, slots)?.node))
-}
+use tree_make::{drop_nodes, make_root};
 
 /// Makes the tree without a pair, with the nodes of the old one that it lacks added to those that are replaced.
 fn rebuild<const OFFSET_BITS: u32, S: Store<OFFSET_BITS>, K: KeyOrder<OFFSET_BITS>>(

@@ -1,5 +1,5 @@
 use Rattle.std.proofs.Common.{◌≤◌, ◌++◌, length, set, ap, ◌∙◌, arith, length-append, Err}
-use Rattle.tree_remove.proofs.Results.{err_same}
+use Rattle.tree_make.proofs.Results.{err_same}
 use Rattle.tree_remove.proofs.SettleLemmas.{settles-merged, part-at}
 use Rattle.tree_remove.proofs.neighbours.merge.Goals as goal
 

@@ -1,8 +1,8 @@
-use Rattle.std.proofs.Common.{◌≡◌, suc, ◌-◌, ◌<◌, ◌≤◌, ◌++◌, length, get_or, refl, sym, subst, arith, Err, ap}
+use Rattle.std.proofs.Common.{◌≡◌, suc, ◌-◌, ◌<◌, ◌≤◌, ◌++◌, length, get_or, refl, sym, subst, arith, Err, ap, ◌^◌}
 use Rattle.tree_node.proofs.SlotLemmas.{hand-append}
+use Rattle.tree_make.proofs.Results.{on_ok-then, err_same}
 use Rattle.tree_node.specs.Slots.{slot_pairs, slot_nodes, IsInHand}
 use Rattle.tree_remove.proofs.ParentLemmas.{puts-alone, puts-left, puts-right, few-before, few-behind}
-use Rattle.tree_remove.proofs.Results.{on_ok-then, err_same}
 use Rattle.tree_remove.proofs.SettleLemmas.{settles-alone}
 use Rattle.tree_remove.specs.Removes.{IsChild, PutsBack, spliced}
 use Rattle.tree_remove.specs.Settles.{Settles}
@@ -51,8 +51,8 @@ make_neighbours-requires-clause-few g c =
     let low = c.requires.place in
     let even = c.requires.parent.even in
     let next : suc (c.args.place - 1) ≡ c.args.place = omega arith in
-    subst (λ s. length (slot_pairs (records s) left.level (left.keys.items ++ child.keys.items) (left.values.items ++ child.values.items)) < 4294967296) (sym same)
-    (subst (λ l. length (slot_pairs m l (left.keys.items ++ child.keys.items) (left.values.items ++ child.values.items)) < 4294967296) (sym level)
+    subst (λ s. length (slot_pairs (records s) left.level (left.keys.items ++ child.keys.items) (left.values.items ++ child.values.items)) < 2 ^ 32) (sym same)
+    (subst (λ l. length (slot_pairs m l (left.keys.items ++ child.keys.items) (left.values.items ++ child.values.items)) < 2 ^ 32) (sym level)
     (few-before m child.level slots.keys.items slots.values.items child.keys.items child.values.items
     c.requires.parent c.requires.hand c.args.place (c.args.place - 1) sibling 4294967296 left.keys.items left.values.items next (omega arith) refl read.hand.even read.pairs_are c.requires.few))
 
@@ -82,8 +82,8 @@ make_neighbours-requires-else-place-gt0-clause-few g c =
     let zero : c.args.place ≡ 0 = omega arith in
     let many = c.requires.many in
     let even = c.requires.parent.even in
-    let few = subst (λ p. length (spliced m child.level p slots.keys.items slots.values.items (slot_pairs m child.level child.keys.items child.values.items)) < 4294967296) zero c.requires.few in
-    subst (λ s. length (slot_pairs (records s) child.level (child.keys.items ++ right.keys.items) (child.values.items ++ right.values.items)) < 4294967296) (sym same)
+    let few = subst (λ p. length (spliced m child.level p slots.keys.items slots.values.items (slot_pairs m child.level child.keys.items child.values.items)) < 2 ^ 32) zero c.requires.few in
+    subst (λ s. length (slot_pairs (records s) child.level (child.keys.items ++ right.keys.items) (child.values.items ++ right.values.items)) < 2 ^ 32) (sym same)
     (few-behind m child.level slots.keys.items slots.values.items child.keys.items child.values.items
     c.requires.parent c.requires.hand sibling 4294967296 right.keys.items right.values.items (omega arith) refl read.pairs_are few)
 

@@ -4,7 +4,7 @@ use Rattle.key_order.specs.Keys.{seen_by}
 use Rattle.store_api.specs.Statuses.{in_use}
 use Rattle.tree_make.specs.Changes.{Drops, levels}
 use Rattle.tree_make.specs.Times.{EachOnce}
-use Rattle.tree_remove.proofs.Results.{err_same}
+use Rattle.tree_make.proofs.Results.{err_same}
 use Rattle.tree_remove.proofs.TreeLemmas.{gone-once, gone-used, end-replaces, end-pairs, end-readable, end-tree}
 use Rattle.tree_remove.proofs.tree.remove.Goals as goal
 
