@@ -16,7 +16,7 @@ use Rattle.store_api.specs.Statuses.{Status, in_use, has_record, is_committed, i
 use Rattle.store_api.specs.Ledgers.{committed}
 use Rattle.entry_states.specs.Entries.{EntriesView}
 use Rattle.entry_store.specs.Standing.{Stands, status_by, status_of, back_of, is_up_to, records_of_statuses, ledger_of}
-use Rattle.entry_store.specs.Laws.{some_filtered, untouched}
+use Rattle.entry_store.specs.ProofsForStore.{some_filtered, untouched}
 
 -- what the commit makes of a status, by states that the commit leaves
 committed-state : (last : ℕ) (s : State) → is_up_to last s ≡ true → is_touched s ≡ false → status_by (last + 1) s ≡ after_commit (status_by last s)
@@ -118,10 +118,10 @@ words-elsewhere (q ∷ qs) m root r none =
     ∙ words-elsewhere qs m root r (λ h. none (inr h))
 
 -- a layout with its laws, and a store with a root to commit
-module _ (reaches : ℕ → Records → ℕ → List ℕ) (lawful : ℕ → Records → ℕ → Type 0)
+module _ (bits : ℕ) (reaches : ℕ → Records → ℕ → List ℕ) (lawful : ℕ → Records → ℕ → Type 0)
     (present : (shape : ℕ) (m : Records) (root : ℕ) → lawful shape m root → AllThere (reaches shape m root) m)
     (stays : (shape : ℕ) (m n : Records) (root : ℕ) → SameAt (reaches shape m root) m n → lawful shape m root → lawful shape n root × (reaches shape n root ≡ reaches shape m root))
-    {H : Type 0} (work : WorkView H) (m : Records) (e : EntriesView) (unit : Bool) (last active : ℕ) (st : Stands work m e unit last active) (ended : unit ≡ false) (shape root : ℕ)
+    {H : Type 0} (work : WorkView H) (m : Records) (e : EntriesView) (unit : Bool) (last active : ℕ) (st : Stands bits work m e unit last active) (ended : unit ≡ false) (shape root : ℕ)
     (law : lawful shape (records_of_statuses (λ q. status_of last (e.state q)) m) root) where
   abbrev status : ℕ → Status
   status q = status_of last (e.state q)
@@ -194,7 +194,7 @@ module _ (reaches : ℕ → Records → ℕ → List ℕ) (lawful : ℕ → Reco
       back_records = λ q. filtered q (back_of (last + 1) (e.state q)) (back-after q) k;
     }
 
-    pub stands-committed : (commits : Commits) → AddsCommit work.commits commits image → Stands (published work commits image) (words_at image) e unit (last + 1) active
+    pub stands-committed : (commits : Commits) → AddsCommit work.commits commits image → Stands bits (published work commits image) (words_at image) e unit (last + 1) active
     stands-committed commits adds = record {
       good = st.good;
       buffers = st.buffers;
@@ -240,11 +240,11 @@ module _ (reaches : ℕ → Records → ℕ → List ℕ) (lawful : ℕ → Reco
       pub commit-adds : AddsCommit work.commits new.commits image
       commit-adds = subst (AddsCommit work.commits new.commits) read-work.1 adds
 
-      pub commit-stands : Stands new n e unit number active
+      pub commit-stands : Stands bits new n e unit number active
       commit-stands =
-          subst (λ w. Stands w n e unit number active) (sym knows_image)
-          (subst (λ (x : Records). Stands (published work new.commits image) x e unit number active) (sym written_image)
-          (subst (λ k. Stands (published work new.commits image) (words_at image) e unit k active) (sym next) (stands-committed new.commits commit-adds)))
+          subst (λ w. Stands bits w n e unit number active) (sym knows_image)
+          (subst (λ (x : Records). Stands bits (published work new.commits image) x e unit number active) (sym written_image)
+          (subst (λ k. Stands bits (published work new.commits image) (words_at image) e unit k active) (sym next) (stands-committed new.commits commit-adds)))
 
       pub commit-ledger : (formed : ℕ) → formed ≡ shape → ledger_of new formed n e unit number ≡ committed (ledger_of work shape m e unit last) new.commits image
       commit-ledger formed same =

@@ -17,7 +17,7 @@ use Rattle.entry_store.proofs.StateSteps.{with_state-at, dropped-back, in_use-us
 abbrev dropped_by : {H : Type 0} → Ledger H → ℕ → ℕ → Status → Status → Ledger H
 dropped_by ledger r width c b =
     let now = record ledger { status = with_status ledger.status r (after_drop c b) } in
-    cond (is_free (after_drop c b)) (record now {
+    cond (is_free_status (after_drop c b)) (record now {
       spare = with_count ledger.spare width (ledger.spare width + 1);
       fresh = with_count ledger.fresh width (ledger.fresh width - 1);
     }) (cond (is_let_go (after_drop c b)) (record now { gone = with_count ledger.gone width (ledger.gone width + 1) }) now)
@@ -36,12 +36,12 @@ status-set last state r s q = by_test (eqb q r)
     by_test true = refl
     by_test false = refl
 
-module _ {H : Type 0} (work : WorkView H) (shape : ℕ) (m : Records) (e : EntriesView) (unit : Bool) (last r : ℕ) where
+module _ {H : Type 0} (bits : ℕ) (work : WorkView H) (shape : ℕ) (m : Records) (e : EntriesView) (unit : Bool) (last r : ℕ) where
   abbrev before : Ledger H
   before = ledger_of work shape m e unit last
 
   abbrev width : ℕ
-  width = e.width (buffer_of r)
+  width = e.width (buffer_of bits r)
 
   back-kept : (s : State) → e.state r ≡ Some s → is_used s ≡ true → (q : ℕ) → back_of last (with_state e.state r (dropped last s) q) ≡ back_of last (e.state q)
   back-kept s is used q =
@@ -53,7 +53,7 @@ module _ {H : Type 0} (work : WorkView H) (shape : ℕ) (m : Records) (e : Entri
       → ((w : ℕ) → with_count e.spare width (e.spare width + one (is_free_entry (dropped last s))) w ≡ spare w)
       → ((w : ℕ) → with_count e.fresh width (e.fresh width - one (is_free_entry (dropped last s))) w ≡ fresh w)
       → ((w : ℕ) → with_count e.gone width (e.gone width + one (is_let_go_state (dropped last s))) w ≡ gone w)
-      → ledger_of work shape m (dropped_at e last r s) unit last ≡ record before { status = with_status before.status r c; spare = spare; fresh = fresh; gone = gone }
+      → ledger_of work shape m (dropped_at bits e last r s) unit last ≡ record before { status = with_status before.status r c; spare = spare; fresh = fresh; gone = gone }
   step s is used c spare fresh gone now spares freshes gones = λ k. record before {
     status = λ q. (status-set last e.state r (dropped last s) q ∙ ap (λ x. with_status before.status r x q) now) k;
     back = λ q. back-kept s is used q k;
@@ -64,14 +64,14 @@ module _ {H : Type 0} (work : WorkView H) (shape : ℕ) (m : Records) (e : Entri
   }
 
   by_state : (s : State) → e.state r ≡ Some s → is_used s ≡ true
-      → ledger_of work shape m (dropped_at e last r s) unit last ≡ dropped_by before r width (status_by last s) (status_by last (undone last s))
+      → ledger_of work shape m (dropped_at bits e last r s) unit last ≡ dropped_by before r width (status_by last s) (status_by last (undone last s))
   by_state Free is used = absurd (false≢true used)
   by_state Returned is used = absurd (false≢true used)
   by_state Made is used = step Made is used Status.free _ _ e.gone refl (λ w. refl) (λ w. refl) (λ w. count-same e.gone width (e.gone width + 0) w (omega arith))
   by_state (InUse after) is used = by_test (eqb after last) refl
     where
       by_test : (t : Bool) → eqb after last ≡ t
-          → ledger_of work shape m (dropped_at e last r (InUse after)) unit last ≡ dropped_by before r width (cond t Status.pending Status.live) (cond t Status.pending Status.live)
+          → ledger_of work shape m (dropped_at bits e last r (InUse after)) unit last ≡ dropped_by before r width (cond t Status.pending Status.live) (cond t Status.pending Status.live)
       by_test true at =
           let now : dropped last (InUse after) ≡ LetGo = cond-true (eqb after last) LetGo (DroppedNow after) at in
           step (InUse after) is used Status.let_go e.spare e.fresh (with_count e.gone width (e.gone width + 1)) (ap (status_by last) now)
@@ -88,15 +88,15 @@ module _ {H : Type 0} (work : WorkView H) (shape : ℕ) (m : Records) (e : Entri
   by_state (DroppedNow after) is used = absurd (false≢true used)
   by_state (Dropped after) is used = absurd (false≢true used)
 
-  pub ledger-dropped : (s : State) → e.state r ≡ Some s → is_used s ≡ true → (w : ℕ) → e.width (buffer_of r) ≡ w
-      → ledger_of work shape m (dropped_at e last r s) unit last ≡ dropped_from before r w
+  pub ledger-dropped : (s : State) → e.state r ≡ Some s → is_used s ≡ true → (w : ℕ) → e.width (buffer_of bits r) ≡ w
+      → ledger_of work shape m (dropped_at bits e last r s) unit last ≡ dropped_from before r w
   ledger-dropped s is used w same =
       by_state s is used
       ∙ ap (λ o. dropped_by before r width (status_of last o) (back_of last o)) (sym is)
       ∙ ap (λ n. dropped_by before r n (status_of last (e.state r)) (back_of last (e.state r))) same
 
   -- the records
-  record-dropped : (s : State) → is_used s ≡ true → (ws : List ℕ) → cond (has_record (status_by last (dropped last s))) ws [] ≡ cond (is_free (status_by last (dropped last s))) [] (cond (has_record (status_by last s)) ws [])
+  record-dropped : (s : State) → is_used s ≡ true → (ws : List ℕ) → cond (has_record (status_by last (dropped last s))) ws [] ≡ cond (is_free_status (status_by last (dropped last s))) [] (cond (has_record (status_by last s)) ws [])
   record-dropped Free used ws = absurd (false≢true used)
   record-dropped Returned used ws = absurd (false≢true used)
   record-dropped Made used ws = refl
@@ -104,14 +104,14 @@ module _ {H : Type 0} (work : WorkView H) (shape : ℕ) (m : Records) (e : Entri
     where
       by_test : (t : Bool)
           → cond (has_record (status_by last (cond t LetGo (DroppedNow after)))) ws []
-          ≡ cond (is_free (status_by last (cond t LetGo (DroppedNow after)))) [] (cond (has_record (cond t Status.pending Status.live)) ws [])
+          ≡ cond (is_free_status (status_by last (cond t LetGo (DroppedNow after)))) [] (cond (has_record (cond t Status.pending Status.live)) ws [])
       by_test true = refl
       by_test false = refl
   record-dropped LetGo used ws = absurd (false≢true used)
   record-dropped (DroppedNow after) used ws = absurd (false≢true used)
   record-dropped (Dropped after) used ws = absurd (false≢true used)
 
-  record-kept : (c : Status) (ws : List ℕ) → cond (has_record c) ws [] ≡ cond (is_free c) [] (cond (has_record c) ws [])
+  record-kept : (c : Status) (ws : List ℕ) → cond (has_record c) ws [] ≡ cond (is_free_status c) [] (cond (has_record c) ws [])
   record-kept Status.unmade ws = refl
   record-kept Status.free ws = refl
   record-kept Status.pending ws = refl
@@ -127,12 +127,12 @@ module _ {H : Type 0} (work : WorkView H) (shape : ℕ) (m : Records) (e : Entri
     where
       at : (q : ℕ)
           → cond (has_record (status_of last (with_state e.state r (dropped last s) q))) (m q) []
-          ≡ cond (is_free (status_of last (with_state e.state r (dropped last s) q))) [] (cond (has_record (status_of last (e.state q))) (m q) [])
+          ≡ cond (is_free_status (status_of last (with_state e.state r (dropped last s) q))) [] (cond (has_record (status_of last (e.state q))) (m q) [])
       at q =
-          with_state-at (λ o. cond (has_record (status_of last o)) (m q) [] ≡ cond (is_free (status_of last o)) [] (cond (has_record (status_of last (e.state q))) (m q) [])) e.state r (dropped last s) q
+          with_state-at (λ o. cond (has_record (status_of last o)) (m q) [] ≡ cond (is_free_status (status_of last o)) [] (cond (has_record (status_of last (e.state q))) (m q) [])) e.state r (dropped last s) q
           (λ same.
           record-dropped s used (m q)
-          ∙ ap (λ o. cond (is_free (status_by last (dropped last s))) [] (cond (has_record (status_of last o)) (m q) [])) (sym (ap e.state same ∙ is))) (λ ne. record-kept (status_of last (e.state q)) (m q))
+          ∙ ap (λ o. cond (is_free_status (status_by last (dropped last s))) [] (cond (has_record (status_of last o)) (m q) [])) (sym (ap e.state same ∙ is))) (λ ne. record-kept (status_of last (e.state q)) (m q))
 
   not-used : (s : State) → is_used s ≡ true → in_use (status_by last (dropped last s)) ≡ true → ⊥
   not-used Free used h = false≢true used
@@ -147,7 +147,7 @@ module _ {H : Type 0} (work : WorkView H) (shape : ℕ) (m : Records) (e : Entri
   not-used (DroppedNow after) used h = false≢true used
   not-used (Dropped after) used h = false≢true used
 
-  pub may-drop : (s : State) → e.state r ≡ Some s → is_used s ≡ true → MayDo before (ledger_of work shape m (dropped_at e last r s) unit last)
+  pub may-drop : (s : State) → e.state r ≡ Some s → is_used s ≡ true → MayDo before (ledger_of work shape m (dropped_at bits e last r s) unit last)
   may-drop s is used = record {
     unit = refl;
     home = refl;

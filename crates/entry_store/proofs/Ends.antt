@@ -11,7 +11,7 @@ use Rattle.store_api.specs.Statuses.{Status, has_record, is_let_go, after_accept
 use Rattle.store_api.specs.Ledgers.{ended, kept_records}
 use Rattle.entry_states.specs.Entries.{EntriesView, IsGood, accepted_at, undone_at}
 use Rattle.entry_store.specs.Standing.{Stands, status_by, status_of, back_of, is_up_to, records_of_statuses, ledger_of}
-use Rattle.entry_store.specs.Laws.{untouched}
+use Rattle.entry_store.specs.ProofsForStore.{untouched}
 use Rattle.entry_store.proofs.StateSteps.{IsWeaker, implied, weaker-same, undone-settled}
 
 -- what accept makes of a status
@@ -68,7 +68,7 @@ accepted-records Status.dropped ws = refl
 accepted-records Status.let_go ws = refl
 accepted-records Status.spent ws = refl
 
-module _ {H : Type 0} (work : WorkView H) (shape : ℕ) (m : Records) (e : EntriesView) (unit : Bool) (last active : ℕ) where
+module _ {H : Type 0} (bits : ℕ) (work : WorkView H) (shape : ℕ) (m : Records) (e : EntriesView) (unit : Bool) (last active : ℕ) where
   status-accepted : (o : Option State) → status_of last (option_map (accepted last) o) ≡ after_accept (status_of last o)
   status-accepted None = refl
   status-accepted (Some s) = accepted-status last s
@@ -101,7 +101,7 @@ module _ {H : Type 0} (work : WorkView H) (shape : ℕ) (m : Records) (e : Entri
     back_records = λ q. cond (has_record (back-undone (e.state q) k)) (m q) [];
   }
 
-  module _ (st : Stands work m e unit last active) where
+  module _ (st : Stands bits work m e unit last active) where
     accepted-at : (o : Option State) → IsWeaker (status_of last (option_map (accepted last) o)) (status_of last o)
     accepted-at o = subst (λ c. IsWeaker c (status_of last o)) (sym (status-accepted o)) (weaker-accept (status_of last o))
 
@@ -111,7 +111,7 @@ module _ {H : Type 0} (work : WorkView H) (shape : ℕ) (m : Records) (e : Entri
         let e : accepted last t ≡ s = same_Some (accepted last t) s same in
         (subst (λ u. is_up_to last u ≡ true) e (accepted-up_to last t (st.up_to q t is)), subst (λ u. is_touched u ≡ false) e (accepted-settled last t))
 
-    pub stands-accepted : IsGood (accepted_at e last) → Stands work m (accepted_at e last) false last active
+    pub stands-accepted : IsGood bits (accepted_at e last) → Stands bits work m (accepted_at e last) false last active
     stands-accepted good = record {
       good = good;
       buffers = st.buffers;

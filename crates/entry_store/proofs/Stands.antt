@@ -16,7 +16,7 @@ use Rattle.entry_store.specs.Standing.{Stands, status_by, status_of, is_up_to}
 use Rattle.entry_store.proofs.Counts.{active_count-handed, active_count-free, free-width}
 use Rattle.entry_store.proofs.StateSteps.{IsWeaker, implied, weaker-same, with_state-at, undone-weaker, undone-up_to, undone-settled, dropped-weaker, dropped-up_to, free-status}
 
-module _ {H : Type 0} (work : WorkView H) (m : Records) (e : EntriesView) (unit : Bool) (last active : ℕ) (st : Stands work m e unit last active) where
+module _ {H : Type 0} (bits : ℕ) (work : WorkView H) (m : Records) (e : EntriesView) (unit : Bool) (last active : ℕ) (st : Stands bits work m e unit last active) where
   -- after an undo
   undone-at : (q : ℕ) (o : Option State) → e.state q ≡ o → IsWeaker (status_of last (option_map (undone last) o)) (status_of last o)
   undone-at q None is = weaker-same Status.unmade
@@ -28,7 +28,7 @@ module _ {H : Type 0} (work : WorkView H) (m : Records) (e : EntriesView) (unit 
       let e : undone last t ≡ s = same_Some (undone last t) s same in
       (subst (λ u. is_up_to last u ≡ true) e (undone-up_to last t (st.up_to q t is)), subst (λ u. is_touched u ≡ false) e (undone-settled last t))
 
-  pub stands-undone : IsGood (undone_at e last) → Stands work m (undone_at e last) false last active
+  pub stands-undone : IsGood bits (undone_at e last) → Stands bits work m (undone_at e last) false last active
   stands-undone good = record {
     good = good;
     buffers = st.buffers;
@@ -59,7 +59,7 @@ module _ {H : Type 0} (work : WorkView H) (m : Records) (e : EntriesView) (unit 
         with_state-at (λ o. o ≡ Some t → is_up_to last t ≡ true) e.state r (dropped last s) q
         (λ same h. subst (λ u. is_up_to last u ≡ true) (same_Some (dropped last s) t h) (dropped-up_to last s (st.up_to r s is))) (λ ne h. st.up_to q t h)
 
-    pub stands-dropped : IsGood (dropped_at e last r s) → Stands work m (dropped_at e last r s) unit last active
+    pub stands-dropped : IsGood bits (dropped_at bits e last r s) → Stands bits work m (dropped_at bits e last r s) unit last active
     stands-dropped good = record {
       good = good;
       buffers = st.buffers;
@@ -79,7 +79,7 @@ module _ {H : Type 0} (work : WorkView H) (m : Records) (e : EntriesView) (unit 
     }
 
   -- after a make
-  module _ (width r : ℕ) (ws : List ℕ) (can : CanTake e width r) (some : 0 < length ws) (begun : unit ≡ true) where
+  module _ (width r : ℕ) (ws : List ℕ) (can : CanTake bits e width r) (some : 0 < length ws) (begun : unit ≡ true) where
     open-uncommitted : (o : Option State) → is_open_state o ≡ true → is_uncommitted (status_of last o) ≡ true
     open-uncommitted None h = refl
     open-uncommitted (Some s) h = ap is_uncommitted (free-status last s h)
@@ -117,7 +117,7 @@ module _ {H : Type 0} (work : WorkView H) (m : Records) (e : EntriesView) (unit 
         by_test true = omega arith
         by_test false = st.few_made w
 
-    pub stands-made : IsGood (made_at e width r) → Stands work (with_words m r ws) (made_at e width r) unit last active
+    pub stands-made : IsGood bits (made_at e width r) → Stands bits work (with_words m r ws) (made_at e width r) unit last active
     stands-made good = record {
       good = good;
       buffers = st.buffers;
@@ -137,7 +137,7 @@ module _ {H : Type 0} (work : WorkView H) (m : Records) (e : EntriesView) (unit 
     }
 
 -- after a buffer is handed out
-module _ {H : Type 0} (work : WorkView H) (m : Records) (e : EntriesView) (unit : Bool) (last active b width : ℕ) (st : Stands work m e unit last active)
+module _ {H : Type 0} (bits : ℕ) (work : WorkView H) (m : Records) (e : EntriesView) (unit : Bool) (last active b width : ℕ) (st : Stands bits work m e unit last active)
     (low : IsLowestFree work.buffer work.sizes.buffers b) where
   width-opened : (a : ℕ) → a < work.sizes.buffers → cond (eqb a b) width (e.width a) ≡ active_width (cond (eqb a b) (Buffer.active width (last_tag (work.buffer b))) (work.buffer a))
   width-opened a below = by_test (eqb a b)
@@ -146,7 +146,7 @@ module _ {H : Type 0} (work : WorkView H) (m : Records) (e : EntriesView) (unit 
       by_test true = refl
       by_test false = st.width a below
 
-  pub stands-opened : IsGood (with_buffer e b width) → Stands (handed_out work b width) m (with_buffer e b width) unit last (active + 1)
+  pub stands-opened : IsGood bits (with_buffer e b width) → Stands bits (handed_out work b width) m (with_buffer e b width) unit last (active + 1)
   stands-opened good = record {
     good = good;
     buffers = st.buffers;
@@ -166,12 +166,12 @@ module _ {H : Type 0} (work : WorkView H) (m : Records) (e : EntriesView) (unit 
   }
 
 -- a store stands over what the work stored
-pub stands-put : {H : Type 0} (work new : WorkView H) (m n : Records) (e f : EntriesView) (unit : Bool) (last active : ℕ) → new ≡ record work { stored = new.stored } → n ≡ m → f ≡ e
-    → Stands work m e unit last active → Stands new n f unit last active
-stands-put work new m n e f unit last active knows written made st =
-    subst (λ w. Stands w n f unit last active) (sym knows)
-    (subst (λ (x : Records). Stands (record work { stored = new.stored }) x f unit last active) (sym written)
-    (subst (λ g. Stands (record work { stored = new.stored }) m g unit last active) (sym made) (record {
+pub stands-put : {H : Type 0} (bits : ℕ) (work new : WorkView H) (m n : Records) (e f : EntriesView) (unit : Bool) (last active : ℕ) → new ≡ record work { stored = new.stored } → n ≡ m → f ≡ e
+    → Stands bits work m e unit last active → Stands bits new n f unit last active
+stands-put bits work new m n e f unit last active knows written made st =
+    subst (λ w. Stands bits w n f unit last active) (sym knows)
+    (subst (λ (x : Records). Stands bits (record work { stored = new.stored }) x f unit last active) (sym written)
+    (subst (λ g. Stands bits (record work { stored = new.stored }) m g unit last active) (sym made) (record {
       good = st.good;
       buffers = st.buffers;
       words = st.words;
@@ -190,11 +190,11 @@ stands-put work new m n e f unit last active knows written made st =
     })))
 
 -- a new store stands
-pub stands-new : {H : Type 0} (work : WorkView H) (m : Records) (e : EntriesView) → IsFresh work → e ≡ new_entries work.sizes.buffers work.sizes.words → IsGood e
-    → Stands work m e false 0 0
-stands-new work m e fresh new good =
-    subst (λ g. Stands work m g false 0 0) (sym new) (record {
-      good = subst IsGood new good;
+pub stands-new : {H : Type 0} (bits : ℕ) (work : WorkView H) (m : Records) (e : EntriesView) → IsFresh work → e ≡ new_entries work.sizes.buffers work.sizes.words → IsGood bits e
+    → Stands bits work m e false 0 0
+stands-new bits work m e fresh new good =
+    subst (λ g. Stands bits work m g false 0 0) (sym new) (record {
+      good = subst (IsGood bits) new good;
       buffers = refl;
       words = refl;
       width = λ b below. sym (free-width (work.buffer b) (fresh.buffers b));

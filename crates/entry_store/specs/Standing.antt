@@ -61,8 +61,8 @@ is_up_to last (DroppedNow after) = nat_lt after last
 is_up_to last (Dropped after) = nat_le after last
 
 -- the work and the entries are of one store
-pub record Stands {H : Type 0} (work : WorkView H) (m : Records) (entries : EntriesView) (unit : Bool) (last active : ℕ) : Type 0 where
-  pub good : IsGood entries
+pub record Stands {H : Type 0} (bits : ℕ) (work : WorkView H) (m : Records) (entries : EntriesView) (unit : Bool) (last active : ℕ) : Type 0 where
+  pub good : IsGood bits entries
   pub buffers : entries.buffers ≡ work.sizes.buffers
   pub words : entries.words ≡ work.sizes.words
   pub width : (b : ℕ) → b < work.sizes.buffers → entries.width b ≡ active_width (work.buffer b)
@@ -82,8 +82,8 @@ pub record Stands {H : Type 0} (work : WorkView H) (m : Records) (entries : Entr
   pub no_gone : unit ≡ false → (w : ℕ) → entries.gone w ≡ 0
 
 -- an entry is taken, and its record is put into the work
-pub record Puts {H : Type 0} (old new : WorkView H) (m n : Records) (before after : EntriesView) (width : ℕ) (words : List ℕ) (r : ℕ) : Type 0 where
-  pub can : CanTake before width r
+pub record Puts {H : Type 0} (bits : ℕ) (old new : WorkView H) (m n : Records) (before after : EntriesView) (width : ℕ) (words : List ℕ) (r : ℕ) : Type 0 where
+  pub can : CanTake bits before width r
   pub made : after ≡ made_at before width r
   pub work : new ≡ record old { stored = new.stored }
   pub records : n ≡ with_words m r (padded words width)

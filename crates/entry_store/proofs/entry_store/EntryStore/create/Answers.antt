@@ -9,7 +9,7 @@ use Rattle.entry_store.proofs.entry_store.EntryStore.create.Goals as goal
 pub invariant_of-result : goal.invariant_of-result
 invariant_of-result g c =
     record {
-      stands = stands-new (g.W.Work.knows c.args.work) (g.W.Frozen.records c.args.work) (entries_of c.in-Ok.entries) c.requires
+      stands = stands-new g.row.OFFSET_BITS (g.W.Work.knows c.args.work) (g.W.Frozen.records c.args.work) (entries_of g.row.OFFSET_BITS c.in-Ok.entries) c.requires
           (c.in-Ok.ensures.new ∙ ap (λ n. new_entries n c.words.result) c.buffers.ensures ∙ ap (new_entries (g.W.Work.knows c.args.work).sizes.buffers) c.words.ensures) c.in-Ok.ensures.good;
     }
 

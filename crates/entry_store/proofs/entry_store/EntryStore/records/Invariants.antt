@@ -9,6 +9,6 @@ abbrev pub invariant-loop-buffer : goal.invariant-loop-buffer
 invariant-loop-buffer g l =
     let s = l.fn.self in
     record {
-      seen : (q : ℕ) → seen l.map q ≡ those_before (records_of_statuses (λ r. status_of s.last ((entries_of s.entries).state r)) (g.W.Frozen.records s.work)) l.buffer 0 q;
+      seen : (q : ℕ) → seen l.map q ≡ those_before g.row.OFFSET_BITS (records_of_statuses (λ r. status_of s.last ((entries_of g.row.OFFSET_BITS s.entries).state r)) (g.W.Frozen.records s.work)) l.buffer 0 q;
       same : l.self ≡ s;
     }

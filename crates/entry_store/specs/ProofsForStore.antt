@@ -1,4 +1,4 @@
--- What is always so of a store.
+-- Nobody has to read this: proofs of the laws of `Store`, which an implementation can cite from specs/ alone.
 use Rattle.std.proofs.Common.{◌≡◌, ℕ, ◌+◌, ◌*◌, ◌/◌, ◌<◌, ◌≤◌, Bool, true, false, cond, eqb, List, [], ◌∷◌, length, Option, Some, None, refl, sym, ap, subst, ◌∙◌, arith}
 use Rattle.std.specs.List.{IsDistinct, All, AllByRecursion}
 use Rattle.std.proofs.lemmas.List.Elements.{All-head, All-tail}
@@ -84,7 +84,7 @@ untouched last LetGo h = absurd (true≢false h)
 untouched last (DroppedNow after) h = absurd (true≢false h)
 untouched last (Dropped after) h = refl
 
-module _ {H : Type 0} (work : WorkView H) (m : Records) (e : EntriesView) (unit : Bool) (last active : ℕ) (st : Stands work m e unit last active) where
+module _ {H : Type 0} (bits : ℕ) (work : WorkView H) (m : Records) (e : EntriesView) (unit : Bool) (last active : ℕ) (st : Stands bits work m e unit last active) where
   abbrev status : ℕ → Status
   status r = status_of last (e.state r)
 
@@ -98,27 +98,27 @@ module _ {H : Type 0} (work : WorkView H) (m : Records) (e : EntriesView) (unit 
   store_recorded r =
       (λ h. subst (λ ws. 0 < length ws) (sym (cond-true (has_record (status r)) (m r) [] h)) (st.there r h), λ some. (some_filtered (has_record (status r)) (m r) some).0)
 
-  pub store_placed : ((r : ℕ) → 0 < length (m r) → FitsEntry work.sizes (active_width (work.buffer (buffer_of r))) r (length (m r)))
-      → (r : ℕ) → 0 < length (records r) → FitsEntry work.sizes (active_width (work.buffer (buffer_of r))) r (length (records r))
+  pub store_placed : ((r : ℕ) → 0 < length (m r) → FitsEntry bits work.sizes (active_width (work.buffer (buffer_of bits r))) r (length (m r)))
+      → (r : ℕ) → 0 < length (records r) → FitsEntry bits work.sizes (active_width (work.buffer (buffer_of bits r))) r (length (records r))
   store_placed fits r some =
       let both = some_filtered (has_record (status r)) (m r) some in
-      subst (λ ws. FitsEntry work.sizes (active_width (work.buffer (buffer_of r))) r (length ws)) (sym (cond-true (has_record (status r)) (m r) [] both.0)) (fits r both.1)
+      subst (λ ws. FitsEntry bits work.sizes (active_width (work.buffer (buffer_of bits r))) r (length ws)) (sym (cond-true (has_record (status r)) (m r) [] both.0)) (fits r both.1)
 
   -- an entry of an active buffer of the work is one of the entries
-  pub entry-of : (r : ℕ) → IsEntryOf work r → IsEntry e.buffers e.words (e.width (buffer_of r)) r
+  pub entry-of : (r : ℕ) → IsEntryOf bits work r → IsEntry bits e.buffers e.words (e.width (buffer_of bits r)) r
   entry-of r entry =
-      subst (λ n. IsEntry n e.words (e.width (buffer_of r)) r) (sym st.buffers)
-      (subst (λ n. IsEntry work.sizes.buffers n (e.width (buffer_of r)) r) (sym st.words)
-      (subst (λ n. IsEntry work.sizes.buffers work.sizes.words n r) (sym (st.width (buffer_of r) entry.inside)) entry))
+      subst (λ n. IsEntry bits n e.words (e.width (buffer_of bits r)) r) (sym st.buffers)
+      (subst (λ n. IsEntry bits work.sizes.buffers n (e.width (buffer_of bits r)) r) (sym st.words)
+      (subst (λ n. IsEntry bits work.sizes.buffers work.sizes.words n r) (sym (st.width (buffer_of bits r) entry.inside)) entry))
 
-  pub store_filled : (r : ℕ) → IsEntryOf work r → status r ≡ Status.unmade → e.filled (active_width (work.buffer (buffer_of r))) ≡ Some (buffer_of r)
+  pub store_filled : (r : ℕ) → IsEntryOf bits work r → status r ≡ Status.unmade → e.filled (active_width (work.buffer (buffer_of bits r))) ≡ Some (buffer_of bits r)
   store_filled r entry none =
-      subst (λ n. e.filled n ≡ Some (buffer_of r)) (st.width (buffer_of r) entry.inside)
+      subst (λ n. e.filled n ≡ Some (buffer_of bits r)) (st.width (buffer_of bits r) entry.inside)
       (st.good.filled r (entry-of r entry) (unmade-none last (e.state r) none))
 
-  pub store_spares : (r : ℕ) → IsEntryOf work r → is_open (status r) ≡ true → 0 < e.spare (active_width (work.buffer (buffer_of r)))
+  pub store_spares : (r : ℕ) → IsEntryOf bits work r → is_open (status r) ≡ true → 0 < e.spare (active_width (work.buffer (buffer_of bits r)))
   store_spares r entry open_is =
-      subst (λ n. 0 < e.spare n) (st.width (buffer_of r) entry.inside) (st.good.spares r (entry-of r entry) (open-state last (e.state r) open_is))
+      subst (λ n. 0 < e.spare n) (st.width (buffer_of bits r) entry.inside) (st.good.spares r (entry-of r entry) (open-state last (e.state r) open_is))
 
   pub store_last : (r : ℕ) → is_committed (status r) ≡ true → records r ≡ words_at (last_image work.commits) r
   store_last r h = cond-true (has_record (status r)) (m r) [] (committed-has _ h) ∙ st.committed r h
@@ -138,25 +138,25 @@ module _ {H : Type 0} (work : WorkView H) (m : Records) (e : EntriesView) (unit 
   pub store_few_buffers : (w : ℕ) → is_width w ≡ true → e.count w ≤ 1 + e.made w / capacity work.sizes.words w
   store_few_buffers w is = subst (λ n. e.count w ≤ 1 + e.made w / capacity n w) st.words (st.good.bound w is)
 
-  entries-each : ((r : ℕ) → 0 < length (m r) → FitsEntry work.sizes (active_width (work.buffer (buffer_of r))) r (length (m r))) → (w : ℕ) → 0 < w
-      → (refs : List ℕ) → All (λ r. length (records r) ≡ w) refs → AllByRecursion (IsEntry work.sizes.buffers work.sizes.words w) refs
+  entries-each : ((r : ℕ) → 0 < length (m r) → FitsEntry bits work.sizes (active_width (work.buffer (buffer_of bits r))) r (length (m r))) → (w : ℕ) → 0 < w
+      → (refs : List ℕ) → All (λ r. length (records r) ≡ w) refs → AllByRecursion (IsEntry bits work.sizes.buffers work.sizes.words w) refs
   entries-each fits w wide [] all = tt
   entries-each fits w wide (r ∷ rs) all = (one, entries-each fits w wide rs (All-tail (λ q. length (records q) ≡ w) r rs all))
     where
       long : length (records r) ≡ w
       long = All-head (λ q. length (records q) ≡ w) r rs all
 
-      one : IsEntry work.sizes.buffers work.sizes.words w r
+      one : IsEntry bits work.sizes.buffers work.sizes.words w r
       one =
           let fit = store_placed fits r (omega (arith, long, wide)) in
-          subst (λ n. IsEntry work.sizes.buffers work.sizes.words n r) (sym fit.whole ∙ long) fit.entry
+          subst (λ n. IsEntry bits work.sizes.buffers work.sizes.words n r) (sym fit.whole ∙ long) fit.entry
 
-  pub store_few_records : ((r : ℕ) → 0 < length (m r) → FitsEntry work.sizes (active_width (work.buffer (buffer_of r))) r (length (m r))) → (w : ℕ) (refs : List ℕ) → 0 < w
+  pub store_few_records : ((r : ℕ) → 0 < length (m r) → FitsEntry bits work.sizes (active_width (work.buffer (buffer_of bits r))) r (length (m r))) → (w : ℕ) (refs : List ℕ) → 0 < w
       → IsDistinct eqb refs → All (λ r. length (records r) ≡ w) refs → length refs ≤ work.sizes.buffers * capacity work.sizes.words w
   store_few_records fits w refs wide distinct all =
-      few_entries work.sizes.buffers work.sizes.words w refs distinct (entries-each fits w wide refs all)
+      few_entries bits work.sizes.buffers work.sizes.words w refs distinct (entries-each fits w wide refs all)
 
-  pub store_few_nodes : ((r : ℕ) → 0 < length (m r) → FitsEntry work.sizes (active_width (work.buffer (buffer_of r))) r (length (m r))) → work.sizes.buffers * work.sizes.words ≤ 67108864
+  pub store_few_nodes : ((r : ℕ) → 0 < length (m r) → FitsEntry bits work.sizes (active_width (work.buffer (buffer_of bits r))) r (length (m r))) → work.sizes.buffers * work.sizes.words ≤ 67108864
       → (refs : List ℕ) → IsDistinct eqb refs → All (λ r. length (records r) ≡ 34) refs → length refs ≤ 1973790
   store_few_nodes fits total refs distinct all =
       omega (arith, store_few_records fits 34 refs (omega arith) distinct all, few_nodes work.sizes.buffers work.sizes.words total)
