@@ -47,6 +47,11 @@ pub all_among : (P : ℕ → Type 0) (refs : List ℕ) → ((r : ℕ) → Among 
 all_among P [] each = tt
 all_among P (q ∷ qs) each = (each q (inl refl), all_among P qs (λ r h. each r (inr h)))
 
+-- what holds of all pairs
+pub all_pairs : (P : ℕ × ℕ → Type 0) → ((p : ℕ × ℕ) → P p) → (ps : List (ℕ × ℕ)) → AllByRecursion P ps
+all_pairs P each [] = tt
+all_pairs P each (p ∷ ps) = (each p, all_pairs P each ps)
+
 -- the nodes of a tree that is held are in use, by a ledger of the same statuses
 pub nodes_used : {H : Type 0} (old new : Ledger H) (m n : Records) (root : ℕ) → HoldsTree old m root → new.status ≡ old.status → n ≡ m
     → AllByRecursion (λ r. in_use (new.status r) ≡ true) (tree_nodes n root)

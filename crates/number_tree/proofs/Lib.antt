@@ -1,2 +1,2 @@
 pub mod HoldLemmas
-pub mod SumLemmas
+pub mod WalkLemmas

@@ -1,5 +1,5 @@
 -- A map by number: a tree that is all that a store has in use.
-use Rattle.std.specs.Prelude.{◌≡◌, ◌↔◌, ℕ, ◌+◌, List, [], ◌∷◌, Option, None, Some, true, false}
+use Rattle.std.specs.Prelude.{◌≡◌, ◌↔◌, ℕ, List, [], ◌∷◌, Option, None, Some, true, false}
 use Rattle.std.specs.declared.cmp.Ordering.{Ordering}
 use Rattle.std.specs.Ordering.{nat_cmp}
 use Rattle.image_base.specs.Records.{Records, Among}
@@ -19,13 +19,10 @@ pub record MapView : Type 0 where
 abbrev pub beside : ℕ → ℕ → Ordering
 beside key stored = nat_cmp stored key
 
+-- the first pair, where there is one
 abbrev pub first_of : List (ℕ × ℕ) → Option (ℕ × ℕ)
 first_of [] = None
 first_of (p ∷ ps) = Some p
-
-abbrev pub key_sum : List (ℕ × ℕ) → ℕ
-key_sum [] = 0
-key_sum (p ∷ ps) = p.0 + key_sum ps
 
 -- the nodes of a tree by number are exactly what is in use, and no unit is under way
 pub record HoldsTree {H : Type 0} (ledger : Ledger H) (m : Records) (root : ℕ) : Type 0 where

@@ -1,19 +1,19 @@
-ghost use Rattle.std.specs.Prelude.{◌≡◌, ◌↔◌, ◌-◌, ◌+◌, ◌%◌, ℕ, [], length, is_some, Err, IsNone, IfSome, IfNone, IfOk, OnOk, OnErr};
+ghost use Rattle.std.specs.Prelude.{◌≡◌, ◌↔◌, ◌-◌, ◌+◌, ℕ, [], length, is_some, Err, IsNone, IfSome, IfNone, IfOk, OnOk, OnErr};
 ghost use Rattle.tree_images.specs.Trees.{tree_pairs};
 ghost use Rattle.key_order.specs.Pairs.{lookup, put, take_out, seek};
 ghost use Rattle.store_api.specs.Ledgers.{IsNew};
-ghost use Rattle.number_tree.specs.Maps.{HoldsTree, beside, first_of, key_sum};
+ghost use Rattle.number_tree.specs.Maps.{HoldsTree, beside, first_of};
 
 use crate::layout::TreeLayout;
 use crate::unit::{commit_tree, insert_unit, remove_unit};
-use crate::walk::{first_from, sum_of_keys};
+use crate::walk::{all_pairs, first_from};
 use entry_ref::EntryRef;
-use key_order::NumberKey;
+use std::alloc::{AllocError, Global};
 use std::marker::Model;
 use store_api::{Store, StoreError};
-use tree_search::{find, total};
+use frozen_btree::{NumberKey, find, total};
 
-/// A map of numbers: a tree alone in a store, changed by units of one change.
+/// A map of numbers: a tree alone in a store, changed by units of one change each.
 #[derive(Drop)]
 pub struct NumberTree<const OFFSET_BITS: u32, S: Store<OFFSET_BITS, Layout = TreeLayout>> {
     store: S,
@@ -91,8 +91,9 @@ impl<const OFFSET_BITS: u32, S: Store<OFFSET_BITS, Layout = TreeLayout>> NumberT
         self.root
     }
 
-    /// Puts a value at a key, in place of the one there. On an error all is as before.
-    pub fn insert(&mut self, key: u64, value: u64) -> Result<(), StoreError>
+    /// Puts a value at a key, in place of the one there. On an error all is as before. The store is
+    /// `Full` where no buffer has room for a node of 34 words.
+    pub fn put(&mut self, key: u64, value: u64) -> Result<(), StoreError>
         ensures pairs { OnOk result (self.new.pairs ≡ put (beside key) (key, value) self.old.pairs) }
         ensures commits { self.new.commits ≡ self.old.commits }
         ensures most { self.new.most ≡ self.old.most }
@@ -145,12 +146,12 @@ impl<const OFFSET_BITS: u32, S: Store<OFFSET_BITS, Layout = TreeLayout>> NumberT
         first_from(&mut self.store, self.root, key)
     }
 
-    /// The sum of all keys, which wraps at 64 bits, by a walk over all pairs.
-    pub fn sum_of_keys(&mut self) -> u64
-        ensures sum { result ≡ key_sum self.old.pairs % 18446744073709551616 }
+    /// All pairs, in the order of their keys, by one walk.
+    pub fn pairs(&mut self, alloc: Global) -> Result<Vec<(u64, u64)>, AllocError>
+        ensures pairs { IfOk result (λ pairs. pairs.items ≡ self.old.pairs) }
         ensures same { self.new ≡ self.old }
     {
-        sum_of_keys(&mut self.store, self.root)
+        all_pairs(alloc, &mut self.store, self.root)
     }
 
     /// Commits the tree, where another commit can be made.

@@ -5,10 +5,8 @@ ghost use Rattle.number_tree.specs.Maps.{HoldsTree, beside};
 
 use crate::layout::TreeLayout;
 use entry_ref::EntryRef;
-use key_order::NumberKey;
+use frozen_btree::{NumberKey, insert, remove};
 use store_api::{Store, StoreError};
-use tree_insert::insert;
-use tree_remove::remove;
 
 /// One unit in which a pair is put.
 pub fn insert_unit<const OFFSET_BITS: u32, S: Store<OFFSET_BITS>>(

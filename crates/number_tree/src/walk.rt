@@ -1,13 +1,13 @@
-ghost use Rattle.std.specs.Prelude.{◌≡◌, ◌<◌, ◌%◌};
+ghost use Rattle.std.specs.Prelude.{◌≡◌, ◌<◌, IfOk};
 ghost use Rattle.std.specs.Ordering.{nat_cmp};
 ghost use Rattle.tree_images.specs.Trees.{tree_pairs, by_number, IsRootNode, IsTree};
 ghost use Rattle.key_order.specs.Pairs.{seek};
-ghost use Rattle.number_tree.specs.Maps.{beside, first_of, key_sum};
+ghost use Rattle.number_tree.specs.Maps.{beside, first_of};
 
-use frozen_api::Frozen;
 use entry_ref::EntryRef;
-use key_order::NumberKey;
-use tree_search::Cursor;
+use frozen_api::Frozen;
+use frozen_btree::{Cursor, NumberKey};
+use std::alloc::{AllocError, Global};
 
 /// The first pair of a tree by number whose key is this one or above it.
 pub fn first_from<const OFFSET_BITS: u32, F: Frozen<OFFSET_BITS>>(frozen: &mut F, root: EntryRef<OFFSET_BITS>, key: u64) -> Option<(u64, u64)>
@@ -24,17 +24,23 @@ pub fn first_from<const OFFSET_BITS: u32, F: Frozen<OFFSET_BITS>>(frozen: &mut F
     Some((stored, value))
 }
 
-/// The sum of a tree's keys, which wraps at 64 bits.
-pub fn sum_of_keys<const OFFSET_BITS: u32, F: Frozen<OFFSET_BITS>>(frozen: &mut F, root: EntryRef<OFFSET_BITS>) -> u64
+/// The pairs of a tree, in the order of its keys, by one walk.
+pub fn all_pairs<const OFFSET_BITS: u32, F: Frozen<OFFSET_BITS>>(
+    alloc: Global,
+    frozen: &mut F,
+    root: EntryRef<OFFSET_BITS>,
+) -> Result<Vec<(u64, u64)>, AllocError>
     requires tree { 0 < root → IsRootNode (F.records frozen.old) root }
-    ensures sum { result ≡ key_sum (tree_pairs (F.records frozen.old) root.entry) % 18446744073709551616 }
+    ensures pairs { IfOk result (λ pairs. pairs.items ≡ tree_pairs (F.records frozen.old) root.entry) }
     ensures same { frozen.new ≡ frozen.old }
 {
+    let mut pairs = Vec::new(alloc);
     let mut cursor = Cursor::first(frozen, root);
-    let mut sum = 0u64;
     while !cursor.at_end() {
-        sum = sum.wrapping_add(cursor.key(frozen));
+        let key = cursor.key(frozen);
+        let value = cursor.value(frozen);
+        pairs.push((key, value))?;
         cursor.next(frozen);
     }
-    sum
+    Ok(pairs)
 }

@@ -1,14 +1,19 @@
-use Rattle.std.proofs.Common.{ap, ◌∙◌}
+use Rattle.std.proofs.Common.{rules, ℕ, arith, ap, ◌∙◌}
 use Rattle.tree_images.specs.Trees.{tree_pairs}
 use Rattle.key_order.specs.Pairs.{take_out}
 use Rattle.number_tree.specs.Maps.{beside}
-use Rattle.number_tree.proofs.HoldLemmas.{nodes_used, holds_next, pairs_next}
+use Rattle.number_tree.proofs.HoldLemmas.{all_pairs, nodes_used, holds_next, pairs_next}
 use Rattle.number_tree.proofs.unit.remove_unit.Goals as goal
 
-pub remove-requires-clause-used : goal.remove-requires-clause-used
-remove-requires-clause-used g c =
-    nodes_used (g.S.Store.ledger c.args.store.now) (g.S.Store.ledger c.begin.new.self) (g.S.Frozen.records c.args.store.now) (g.S.Frozen.records c.begin.new.self) c.args.root c.requires.holds
-    (ap (λ l. l.status) c.begin.ensures.ledger) c.begin.ensures.records
+pub remove-requires : goal.remove-requires
+remove-requires g c = (omega arith, (
+    search rules,
+    (search rules,
+    (all_pairs (λ (p : ℕ × ℕ). Unit {0}) (λ p. tt) (tree_pairs (g.S.Frozen.records c.begin.new.self) c.args.root),
+    (all_pairs (λ (p : ℕ × ℕ). Unit {0}) (λ p. tt) (tree_pairs (g.S.Frozen.records c.begin.new.self) c.args.root),
+    (search rules,
+    ((nodes_used (g.S.Store.ledger c.args.store.now) (g.S.Store.ledger c.begin.new.self) (g.S.Frozen.records c.args.store.now) (g.S.Frozen.records c.begin.new.self) c.args.root c.requires.holds
+    (ap (λ l. l.status) c.begin.ensures.ledger) c.begin.ensures.records))))))))
 
 pub returns-in-Ok-clause-holds : goal.returns-in-Ok-clause-holds
 returns-in-Ok-clause-holds g c =

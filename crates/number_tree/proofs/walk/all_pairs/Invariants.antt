@@ -1,8 +1,7 @@
-use Rattle.std.proofs.Common.{◌≡◌, ◌+◌, ◌%◌, length}
+use Rattle.std.proofs.Common.{◌≡◌, ◌++◌, length}
 use Rattle.tree_images.specs.Trees.{tree_pairs}
 use Rattle.tree_search.specs.Places.{IsAt, pairs_from}
-use Rattle.number_tree.specs.Maps.{key_sum}
-use Rattle.number_tree.proofs.walk.sum_of_keys.Given as goal
+use Rattle.number_tree.proofs.walk.all_pairs.Given as goal
 
 abbrev pub invariant-loop-cursor : goal.invariant-loop-cursor
 invariant-loop-cursor g l =
@@ -10,7 +9,7 @@ invariant-loop-cursor g l =
     record {
       same : l.frozen ≡ l.fn.frozen;
       at : IsAt m l.cursor;
-      sum : (l.sum + key_sum (pairs_from m l.cursor)) % 18446744073709551616 ≡ key_sum (tree_pairs m l.fn.root) % 18446744073709551616;
+      walked : l.pairs.items ++ pairs_from m l.cursor ≡ tree_pairs m l.fn.root;
     }
 
 abbrev pub decreases-loop-cursor : goal.decreases-loop-cursor
