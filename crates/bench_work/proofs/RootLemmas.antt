@@ -2,6 +2,7 @@
 use Rattle.std.proofs.Common.{◌≡◌, ◌≢◌, ℕ, zero, suc, ◌<◌, List, Bool, true, false, refl, sym, ap, subst, ◌∙◌, arith, inl, inr, ⊎_elim, ne_eqb, true≢false}
 use Rattle.std.specs.Prelude.{cond, ◌↔◌, ◌⊎◌}
 use Rattle.std.proofs.lemmas.Bool.{cases_eq, eq-eqb}
+use Rattle.list_facts.proofs.Tests.{cond-cond}
 use Rattle.image_base.specs.Records.{Records, Among}
 use Rattle.mem_work.specs.OneRecord.{one_reaches}
 use Rattle.store_api.specs.Statuses.{Status, in_use, is_let_go, after_drop, after_commit, with_status}
@@ -19,15 +20,10 @@ commit_uses Status.dropped = refl
 commit_uses Status.let_go = refl
 commit_uses Status.spent = refl
 
-choice : {X : Type 0} (P : X → Type 0) (a b : Bool) (x y z : X) → P x → P y → P z → P (cond a x (cond b y z))
-choice P true b x y z p q r = p
-choice P false true x y z p q r = q
-choice P false false x y z p q r = r
-
 pub drops-root : {H : Type 0} (old : Ledger H) (root width : ℕ) → 0 < root → in_use (old.status root) ≡ true
     → DropsRoot old (dropped_from old root width) root
 drops-root old root width positive used =
-    choice (λ new. DropsRoot old new root) (is_fresh old root) (is_let_go (after_drop (old.status root) (old.back root))) _ _ _
+    cond-cond (λ new. DropsRoot old new root) (is_fresh old root) (is_let_go (after_drop (old.status root) (old.back root))) _ _ _
     (record { others = others; dropped = λ some. dropped; work = refl; unit = refl })
     (record { others = others; dropped = λ some. dropped; work = refl; unit = refl })
     (record { others = others; dropped = λ some. dropped; work = refl; unit = refl })

@@ -12,6 +12,7 @@ use std::alloc::{AllocError, Global};
 use std::marker::Model;
 use store_api::{Store, StoreError};
 use frozen_btree::{NumberKey, find, total};
+use tree_images::NODE_WORDS;
 
 /// A map of numbers: a tree alone in a store, changed by units of one change each.
 #[derive(Drop)]
@@ -99,7 +100,7 @@ impl<const OFFSET_BITS: u32, S: Store<OFFSET_BITS, Layout = TreeLayout>> NumberT
         ensures most { self.new.most ≡ self.old.most }
         ensures buffers { self.new.buffers ≡ self.old.buffers }
         ensures left { OnErr result (self.new ≡ self.old) }
-        ensures full { (w a h : ℕ) → result ≡ Err (StoreError.Full w a h) → (w ≡ 34) × (a + h ≡ self.old.buffers) }
+        ensures full { (w a h : ℕ) → result ≡ Err (StoreError.Full w a h) → (w ≡ NODE_WORDS) × (a + h ≡ self.old.buffers) }
     {
         self.root = insert_unit(&mut self.store, self.root, key, value)?;
         Ok(())
@@ -113,7 +114,7 @@ impl<const OFFSET_BITS: u32, S: Store<OFFSET_BITS, Layout = TreeLayout>> NumberT
         ensures most { self.new.most ≡ self.old.most }
         ensures buffers { self.new.buffers ≡ self.old.buffers }
         ensures left { OnErr result (self.new ≡ self.old) }
-        ensures full { (w a h : ℕ) → result ≡ Err (StoreError.Full w a h) → (w ≡ 34) × (a + h ≡ self.old.buffers) }
+        ensures full { (w a h : ℕ) → result ≡ Err (StoreError.Full w a h) → (w ≡ NODE_WORDS) × (a + h ≡ self.old.buffers) }
     {
         if self.get(key).is_none() {
             return Ok(false);

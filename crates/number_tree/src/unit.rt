@@ -7,6 +7,7 @@ use crate::layout::TreeLayout;
 use entry_ref::EntryRef;
 use frozen_btree::{NumberKey, insert, remove};
 use store_api::{Store, StoreError};
+use tree_images::NODE_WORDS;
 
 /// One unit in which a pair is put.
 pub fn insert_unit<const OFFSET_BITS: u32, S: Store<OFFSET_BITS>>(
@@ -22,7 +23,7 @@ pub fn insert_unit<const OFFSET_BITS: u32, S: Store<OFFSET_BITS>>(
     ensures still { OnErr result (HoldsTree (S.ledger store.new) (S.records store.new) root.entry) }
     ensures left { OnErr result (S.records store.new ≡ S.records store.old) }
     ensures full { (w a h : ℕ) → result ≡ Err (StoreError.Full w a h)
-        → (w ≡ 34) × (a + h ≡ (S.ledger store.old).work.sizes.buffers) }
+        → (w ≡ NODE_WORDS) × (a + h ≡ (S.ledger store.old).work.sizes.buffers) }
     ensures commits { (S.ledger store.new).work.commits ≡ (S.ledger store.old).work.commits }
     ensures sizes { (S.ledger store.new).work.sizes ≡ (S.ledger store.old).work.sizes }
 {
@@ -53,7 +54,7 @@ pub fn remove_unit<const OFFSET_BITS: u32, S: Store<OFFSET_BITS>>(
     ensures still { OnErr result (HoldsTree (S.ledger store.new) (S.records store.new) root.entry) }
     ensures left { OnErr result (S.records store.new ≡ S.records store.old) }
     ensures full { (w a h : ℕ) → result ≡ Err (StoreError.Full w a h)
-        → (w ≡ 34) × (a + h ≡ (S.ledger store.old).work.sizes.buffers) }
+        → (w ≡ NODE_WORDS) × (a + h ≡ (S.ledger store.old).work.sizes.buffers) }
     ensures commits { (S.ledger store.new).work.commits ≡ (S.ledger store.old).work.commits }
     ensures sizes { (S.ledger store.new).work.sizes ≡ (S.ledger store.old).work.sizes }
 {

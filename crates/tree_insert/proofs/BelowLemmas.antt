@@ -1,10 +1,11 @@
 -- A pair put below a node: the leaf with the pair, and the node over the child with the pair.
 use Rattle.std.proofs.Common.{◌≡◌, ⊎_elim, ℕ, suc, ◌+◌, ◌-◌, ◌<◌, ◌≤◌, List, [], ◌∷◌, ◌++◌, length, get_or, take, drop, sym, ap, subst, ◌∙◌, arith, length-append, length-take, length-drop, ◌^◌}
-use Rattle.std.proofs.lemmas.List.{append-nil}
+use Rattle.std.proofs.lemmas.List.{append-nil, drop_all}
 use Rattle.std.proofs.lemmas.Grind.{flat_map-append}
 use Rattle.std.specs.Cmp.{IsTotalOrder}
 use Rattle.std.specs.declared.cmp.Ordering.{Ordering}
 use Rattle.std.specs.List.{zip, flat_map, AllByRecursion}
+use Rattle.list_facts.proofs.Each.{AllByRecursion-at}
 use Rattle.image_base.specs.Records.{Records}
 use Rattle.store_api.specs.Ledgers.{Ledger}
 use Rattle.tree_images.specs.Nodes.{used_of, node_keys, node_values}
@@ -13,7 +14,7 @@ use Rattle.tree_images.proofs.TreeLemmas.{IsNode-form, length-node_keys, length-
 use Rattle.tree_node.proofs.ChildLemmas.{pairs-some, IsNode-lower, keys-length}
 use Rattle.key_order.specs.Keys.{seen_by, Ascends, AllBelow}
 use Rattle.key_order.specs.Pairs.{put}
-use Rattle.key_order.proofs.PairLemmas.{All-at, All-child, children-cut, put-skip, put-stop, length-put_most}
+use Rattle.key_order.proofs.PairLemmas.{All-child, children-cut, put-skip, put-stop, length-put_most}
 use Rattle.key_order.proofs.OrderLemmas.{ascends-child, children-below}
 use Rattle.tree_make.proofs.TimesLemmas.{times-append}
 use Rattle.tree_make.specs.Times.{times}
@@ -25,7 +26,6 @@ use Rattle.tree_insert.specs.Inserts.{Inserts}
 use Rattle.tree_insert.specs.Parts.{AreParts, MakesParts, part_keys, part_nodes}
 use Rattle.tree_insert.specs.declared.parts.Parts.{Parts}
 use Rattle.tree_insert.specs.declared.parts.Parts.TheVariants.{One, Two}
-use Rattle.tree_insert.proofs.EditLemmas.{drop-over}
 use Rattle.tree_node.proofs.ReadLemmas.{hand-read, inner-pairs, inner-nodes, node-even}
 
 -- parts with more slots than are asked for
@@ -70,7 +70,7 @@ module _ {V : Type 0} (order : V → V → Ordering) (total : IsTotalOrder order
       ∙ ap (λ zs. flat_map f (take i vs) ++ zs) (⊎_elim
       (λ ne. put-stop seen pair (f (get_or vs i 0)) (flat_map f (drop (suc i) vs)) some (λ e. ne (ap seen (key i low) ∙ e)))
       (λ (last : suc i ≡ length ks).
-      let rest : flat_map f (drop (suc i) vs) ≡ [] = ap (flat_map f) (drop-over vs (suc i) (omega arith)) in
+      let rest : flat_map f (drop (suc i) vs) ≡ [] = ap (flat_map f) (drop_all (suc i) vs (omega arith)) in
       ap (λ zs. put seen pair (f (get_or vs i 0) ++ zs)) rest ∙ ap (put seen pair) (append-nil (f (get_or vs i 0)))
       ∙ sym (append-nil (put seen pair (f (get_or vs i 0)))) ∙ ap (λ zs. put seen pair (f (get_or vs i 0)) ++ zs) (sym rest))
       place.at)
@@ -78,7 +78,7 @@ module _ {V : Type 0} (order : V → V → Ordering) (total : IsTotalOrder order
 -- a child of a node
 module _ (m : Records) (least l node i : ℕ) (node_is : IsNode m least (suc l) node) (low : i < length (node_values (m node))) where
   pub child-node : IsNode m 8 l (get_or (node_values (m node)) i 0)
-  child-node = All-at (IsNode m 8 l) (node_values (m node)) i low (child_nodes m l (node_keys (m node)) (node_values (m node)) (hand-read m least (suc l) node node_is))
+  child-node = AllByRecursion-at (IsNode m 8 l) (node_values (m node)) i 0 low (child_nodes m l (node_keys (m node)) (node_values (m node)) (hand-read m least (suc l) node node_is))
 
   pub child-all : (P : ℕ × ℕ → Type 0) → AllByRecursion P (pairs_below m (suc l) node) → AllByRecursion P (pairs_below m l (get_or (node_values (m node)) i 0))
   child-all P all = All-child P (pairs_below m l) (node_values (m node)) i low (subst (AllByRecursion P) (inner-pairs m l node) all)

@@ -9,6 +9,7 @@ use Rattle.tree_node.specs.Slots.{slot_pairs, slot_nodes}
 use Rattle.tree_make.specs.Makes.{MakesNodes}
 use Rattle.tree_insert.specs.declared.parts.Parts.{Parts}
 use Rattle.tree_insert.specs.declared.parts.Parts.TheVariants.{One, Two}
+use Rattle.tree_images.specs.declared.TheConstants.{LEAST_SLOTS}
 
 abbrev pub part_keys : Parts → List ℕ
 part_keys (One part) = part.key ∷ []
@@ -21,7 +22,7 @@ part_nodes (Two first second) = first.node ∷ second.node ∷ []
 -- one part has as many slots as what it stands for, two have at least 8 each
 abbrev pub parts_least : ℕ → Parts → ℕ
 parts_least least (One part) = least
-parts_least least (Two first second) = 8
+parts_least least (Two first second) = LEAST_SLOTS
 
 -- parts with their last keys, and these pairs below them
 pub record AreParts (n : Records) (least level : ℕ) (parts : Parts) (pairs : List (ℕ × ℕ)) : Type 0 where

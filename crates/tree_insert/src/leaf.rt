@@ -7,6 +7,7 @@ ghost use Rattle.tree_node.specs.Places.{IsSlot};
 use crate::parts::put_word;
 use frozen_api::Frozen;
 use key_order::KeyOrder;
+use tree_images::MOST_SLOTS;
 use tree_node::{Slots, is_found};
 
 /// Puts a pair among the slots of a leaf, at the first slot whose key is not below its own.
@@ -21,7 +22,7 @@ pub fn put_in_leaf<const OFFSET_BITS: u32, F: Frozen<OFFSET_BITS>, K: KeyOrder<O
     requires readable { AllByRecursion (K.can_read (F.records frozen.old)) slots.old.keys.items }
     requires even { length slots.old.keys.items ≡ length slots.old.values.items }
     requires slot { IsSlot (seen_by K.read K.order (K.sought key.now) (F.records frozen.old)) slots.old.keys.items slot }
-    requires room { length slots.old.keys.items ≤ 16 }
+    requires room { length slots.old.keys.items ≤ MOST_SLOTS }
     ensures pairs { zip slots.new.keys.items slots.new.values.items
         ≡ put (seen_by K.read K.order (K.sought key.now) (F.records frozen.old)) (word, value) (zip slots.old.keys.items slots.old.values.items) }
     ensures even { length slots.new.keys.items ≡ length slots.new.values.items }

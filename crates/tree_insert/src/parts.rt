@@ -6,6 +6,7 @@ ghost use Rattle.tree_insert.specs.Parts.{MakesParts, part_keys, part_nodes};
 
 use arrayvec::ArrayVec;
 use store_api::{Store, StoreError};
+use tree_images::{MOST_SLOTS, NODE_WORDS};
 use tree_make::{Part, make_part};
 use tree_node::Slots;
 
@@ -60,9 +61,9 @@ pub fn make_parts<const OFFSET_BITS: u32, S: Store<OFFSET_BITS>>(store: &mut S, 
     ensures parts { IfOk result (MakesParts (S.ledger store.old) (S.ledger store.new) (S.records store.old) (S.records store.new)
         slots.old.level slots.old.keys.items slots.old.values.items) }
     ensures makes { MakesNodes (S.ledger store.old) (S.ledger store.new) (S.records store.old) (S.records store.new) 2 }
-    ensures full { (w a h : ℕ) → result ≡ Err (StoreError.Full w a h) → (w ≡ 34) × IsFull (S.ledger store.new) w a h }
+    ensures full { (w a h : ℕ) → result ≡ Err (StoreError.Full w a h) → (w ≡ NODE_WORDS) × IsFull (S.ledger store.new) w a h }
 {
-    if slots.keys.len() <= 16 {
+    if slots.keys.len() <= MOST_SLOTS {
         return Ok(Parts::One(make_part(store, slots)?));
     }
     let rest = split(slots);
@@ -82,7 +83,7 @@ pub fn put_word(words: &mut ArrayVec<u64, 17>, place: usize, word: u64)
 /// Puts two words in place of one.
 fn put_two(words: &mut ArrayVec<u64, 17>, place: usize, first: u64, second: u64)
     requires place { place < length words.old.items }
-    requires room { length words.old.items ≤ 16 }
+    requires room { length words.old.items ≤ MOST_SLOTS }
     ensures { words.new.items ≡ take place words.old.items ++ (first ∷ second ∷ drop (suc place) words.old.items) }
 {
     put_word(words, place, first);
@@ -93,7 +94,7 @@ fn put_two(words: &mut ArrayVec<u64, 17>, place: usize, first: u64, second: u64)
 pub fn set_parts(slots: &mut Slots, place: usize, parts: &Parts)
     requires place { place < length slots.old.keys.items }
     requires even { length slots.old.keys.items ≡ length slots.old.values.items }
-    requires room { length slots.old.keys.items ≤ 16 }
+    requires room { length slots.old.keys.items ≤ MOST_SLOTS }
     ensures keys { slots.new.keys.items ≡ take place slots.old.keys.items ++ (part_keys parts.now ++ drop (suc place) slots.old.keys.items) }
     ensures values { slots.new.values.items ≡ take place slots.old.values.items ++ (part_nodes parts.now ++ drop (suc place) slots.old.values.items) }
     ensures level { slots.new.level ≡ slots.old.level }

@@ -16,6 +16,7 @@ use arrayvec::ArrayVec;
 use entry_ref::EntryRef;
 use key_order::KeyOrder;
 use store_api::{Store, StoreError};
+use tree_images::NODE_WORDS;
 use tree_make::{drop_nodes, make_leaf, make_part};
 use tree_node::Slots;
 
@@ -33,7 +34,7 @@ fn root_over<const OFFSET_BITS: u32, S: Store<OFFSET_BITS>>(
     requires two { level ≡ 7 → length (part_nodes parts.now) ≡ 1 }
     ensures root { IfOk result (IsRootOver (S.ledger store.old) (S.ledger store.new) (S.records store.old) (S.records store.new) level parts.now) }
     ensures makes { MakesNodes (S.ledger store.old) (S.ledger store.new) (S.records store.old) (S.records store.new) 1 }
-    ensures full { (w a h : ℕ) → result ≡ Err (StoreError.Full w a h) → (w ≡ 34) × IsFull (S.ledger store.new) w a h }
+    ensures full { (w a h : ℕ) → result ≡ Err (StoreError.Full w a h) → (w ≡ NODE_WORDS) × IsFull (S.ledger store.new) w a h }
 {
     match *parts {
         Parts::One(part) => Ok(EntryRef::from_raw(part.node)),
@@ -75,9 +76,9 @@ pub fn insert<const OFFSET_BITS: u32, S: Store<OFFSET_BITS>, K: KeyOrder<OFFSET_
         ≡ put (seen_by K.read K.order (K.sought key.now) (S.records store.old)) (word, value) (tree_pairs (S.records store.old) root.entry)) }
     ensures readable { IfOk result (λ r. AllReadable K.can_read (S.records store.new) (tree_pairs (S.records store.new) r)) }
     ensures replaces { IfOk result (Replaces (S.ledger store.old) (S.ledger store.new) (S.records store.old) (S.records store.new) root.entry) }
-    ensures made { (S.ledger store.new).made 34 ≤ (S.ledger store.old).made 34 + (2 * levels (S.records store.old) root.entry + 1) }
-    ensures others { (width : ℕ) → width ≢ 34 → (S.ledger store.new).made width ≡ (S.ledger store.old).made width }
-    ensures full { (w a h : ℕ) → result ≡ Err (StoreError.Full w a h) → (w ≡ 34) × IsFull (S.ledger store.new) w a h }
+    ensures made { (S.ledger store.new).made NODE_WORDS ≤ (S.ledger store.old).made NODE_WORDS + (2 * levels (S.records store.old) root.entry + 1) }
+    ensures others { (width : ℕ) → width ≢ NODE_WORDS → (S.ledger store.new).made width ≡ (S.ledger store.old).made width }
+    ensures full { (w a h : ℕ) → result ≡ Err (StoreError.Full w a h) → (w ≡ NODE_WORDS) × IsFull (S.ledger store.new) w a h }
     ensures left { OnErr result (MakesNodes (S.ledger store.old) (S.ledger store.new) (S.records store.old) (S.records store.new)
         (2 * levels (S.records store.old) root.entry + 1)) }
 {

@@ -1,6 +1,8 @@
 -- A tree whose path was made anew is replaced, by counts of its nodes.
 use Rattle.std.proofs.Common.{◌≡◌, ◌⊎◌, ℕ, zero, suc, ◌+◌, ◌<◌, ◌≤◌, List, [], ◌∷◌, length, Bool, true, false, cond, refl, sym, ap, subst, ◌∙◌, arith, inl, inr, ⊎_elim, true≢false}
 use Rattle.std.specs.List.{AllByRecursion}
+use Rattle.std.proofs.lemmas.Bool.{cases_Bool}
+use Rattle.list_facts.specs.Counting.{one_if}
 use Rattle.image_base.specs.Records.{Records, Among, SameAt}
 use Rattle.tree_images.specs.ProofsForTrees.{tree_nodes-same}
 use Rattle.tree_images.specs.Trees.{tree_nodes}
@@ -14,27 +16,20 @@ use Rattle.tree_make.specs.Changes.{Drops, Replaces}
 use Rattle.tree_make.specs.Times.{times, uses, EachOnce}
 use Rattle.tree_make.specs.Makes.{MakesNodes}
 
-abbrev one : Bool → ℕ
-one b = cond b 1 0
-
 pub uses-in : {H : Type 0} (ledger : Ledger H) (r : ℕ) → in_use (ledger.status r) ≡ true → uses ledger r ≡ 1
-uses-in ledger r e = ap one e
+uses-in ledger r e = ap one_if e
 
 pub uses-out : {H : Type 0} (ledger : Ledger H) (r : ℕ) → in_use (ledger.status r) ≡ false → uses ledger r ≡ 0
-uses-out ledger r e = ap one e
-
-by_bool : (b : Bool) → (b ≡ true) ⊎ (b ≡ false)
-by_bool true = inl refl
-by_bool false = inr refl
+uses-out ledger r e = ap one_if e
 
 pub in-uses : {H : Type 0} (ledger : Ledger H) (r : ℕ) → 0 < uses ledger r → in_use (ledger.status r) ≡ true
-in-uses ledger r some = elim (by_bool (in_use (ledger.status r))) [
+in-uses ledger r some = elim (cases_Bool (in_use (ledger.status r))) [
   | inl e ↦ e
   | inr e ↦ (let none = uses-out ledger r e in absurd (omega arith))
 ]
 
 pub uses-few : {H : Type 0} (ledger : Ledger H) (r : ℕ) → uses ledger r ≤ 1
-uses-few ledger r = elim (by_bool (in_use (ledger.status r))) [
+uses-few ledger r = elim (cases_Bool (in_use (ledger.status r))) [
   | inl e ↦ (let is = uses-in ledger r e in omega arith)
   | inr e ↦ (let is = uses-out ledger r e in omega arith)
 ]
@@ -65,7 +60,7 @@ module _ {H : Type 0} (old mid new : Ledger H) (m n o : Records) (most root next
   mid-status r e = ⊎_elim (λ same. same) (λ opened. absurd (true≢false (sym e ∙ open_unused (old.status r) opened.0))) (makes.statuses r)
 
   stays : (r : ℕ) → uses old r ≤ uses mid r
-  stays r = elim (by_bool (in_use (old.status r))) [
+  stays r = elim (cases_Bool (in_use (old.status r))) [
     | inl e ↦ (let a = uses-in old r e in let b = uses-in mid r (ap in_use (mid-status r e) ∙ e) in omega arith)
     | inr e ↦ (let a = uses-out old r e in omega arith)
   ]
@@ -149,7 +144,7 @@ module _ {H : Type 0} (old mid new : Ledger H) (m n o : Records) (most root next
   fresh-from r h =
       let some = to-next r h in
       ⊎_elim (λ (same : mid.status r ≡ old.status r).
-      let uses_same : uses mid r ≡ uses old r = ap (λ (k : Status). one (in_use k)) same in
+      let uses_same : uses mid r ≡ uses old r = ap (λ (k : Status). one_if (in_use k)) same in
       let a = gone-out r some in let c = even r in
       inl (times-among r (tree_nodes m root) (omega arith)))
       (λ opened. inr opened.0) (makes.statuses r)

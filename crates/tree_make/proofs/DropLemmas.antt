@@ -3,18 +3,15 @@ use Rattle.std.proofs.Common.{◌≡◌, ◌≢◌, ℕ, ◌+◌, ◌<◌, List,
 use Rattle.std.specs.Prelude.{cond}
 use Rattle.std.proofs.lemmas.Bool.{cases_eq, eq-eqb}
 use Rattle.std.specs.List.{AllByRecursion}
+use Rattle.list_facts.proofs.Tests.{cond-cond}
 use Rattle.image_base.specs.Records.{Records}
 use Rattle.store_api.specs.Statuses.{Status, has_record, is_free_status, is_let_go, in_use, after_drop, with_status}
 use Rattle.store_api.specs.Ledgers.{Ledger, MayDo, dropped_from, is_fresh, without_free}
 use Rattle.store_api.proofs.May.{may_do-same, may_do-then}
+use Rattle.tree_make.proofs.MadeLemmas.{with_status-here, with_status-other}
 use Rattle.tree_make.proofs.TimesLemmas.{times-same, times-other, times-append, times-take, times-take-le, next_once, all_at_times}
 use Rattle.tree_make.specs.Changes.{Drops}
 use Rattle.tree_make.specs.Times.{times, EachOnce}
-
-choice : {X : Type 0} (P : X → Type 0) (a b : Bool) (x y z : X) → P x → P y → P z → P (cond a x (cond b y z))
-choice P true b x y z p q r = p
-choice P false true x y z p q r = q
-choice P false false x y z p q r = r
 
 -- what a drop leaves of a ledger
 record IsLeft {H : Type 0} (old new : Ledger H) (r : ℕ) : Type 0 where
@@ -25,16 +22,10 @@ record IsLeft {H : Type 0} (old new : Ledger H) (r : ℕ) : Type 0 where
 
 left : {H : Type 0} (old : Ledger H) (r width : ℕ) → IsLeft old (dropped_from old r width) r
 left old r width =
-    choice (λ new. IsLeft old new r) (is_fresh old r) (is_let_go (after_drop (old.status r) (old.back r))) _ _ _
+    cond-cond (λ new. IsLeft old new r) (is_fresh old r) (is_let_go (after_drop (old.status r) (old.back r))) _ _ _
     (record { status = refl; back = refl; work = refl; made = refl })
     (record { status = refl; back = refl; work = refl; made = refl })
     (record { status = refl; back = refl; work = refl; made = refl })
-
-status-other : (statuses : ℕ → Status) (r : ℕ) (new : Status) (q : ℕ) → q ≢ r → with_status statuses r new q ≡ statuses q
-status-other statuses r new q ne = ap (λ b. cond b new (statuses q)) (ne_eqb q r ne)
-
-status-same : (statuses : ℕ → Status) (r : ℕ) (new : Status) (q : ℕ) → q ≡ r → with_status statuses r new q ≡ new
-status-same statuses r new q e = ap (λ b. cond b new (statuses q)) (eq-eqb q r e)
 
 -- a free entry has no record anyway
 without-same : (status : Status) (ws : List ℕ) → (0 < length ws → has_record status ≡ true) → cond (is_free_status status) [] ws ≡ ws
@@ -70,7 +61,7 @@ module _ {H : Type 0} (old ledger new : Ledger H) (m n o : Records) (refs : List
   status_is r = ap (λ (f : ℕ → Status). f r) is.status
 
   status_other : (r : ℕ) → r ≢ q → new.status r ≡ ledger.status r
-  status_other r ne = status_is r ∙ status-other ledger.status q (after_drop (ledger.status q) (ledger.back q)) r ne
+  status_other r ne = status_is r ∙ with_status-other ledger.status q r (after_drop (ledger.status q) (ledger.back q)) ne
 
   record_other : (r : ℕ) → r ≢ q → o r ≡ n r
   record_other r ne =
@@ -90,7 +81,7 @@ module _ {H : Type 0} (old ledger new : Ledger H) (m n o : Records) (refs : List
     dropped = λ r some. elim (cases_eq r q) [
       | inl e ↦ (let now : after_drop (ledger.status q) (ledger.back q) ≡ after_drop (old.status q) (old.back q) =
           ap (λ c. after_drop c (ledger.back q)) (before.others q apart) ∙ ap (λ (b : ℕ → Status). after_drop (old.status q) (b q)) before.back in
-          status_is r ∙ status-same ledger.status q (after_drop (ledger.status q) (ledger.back q)) r e ∙ now ∙ ap (λ s. after_drop (old.status s) (old.back s)) (sym e))
+          status_is r ∙ (ap (with_status ledger.status q (after_drop (ledger.status q) (ledger.back q))) e ∙ with_status-here ledger.status q (after_drop (ledger.status q) (ledger.back q))) ∙ now ∙ ap (λ s. after_drop (old.status s) (old.back s)) (sym e))
       | inr ne ↦ status_other r ne ∙ before.dropped r (let both = times-append r refs (q ∷ []) in let here = times-other r q [] ne in omega arith)
     ];
     back = is.back ∙ before.back;

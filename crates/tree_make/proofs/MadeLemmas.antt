@@ -8,13 +8,14 @@ use Rattle.tree_images.specs.Trees.{pairs_below, nodes_below, last_key, IsNode, 
 use Rattle.tree_images.proofs.NodeLemmas.{node_keys-words, node_values-words, node_formed}
 use Rattle.std.proofs.Math.Nat.{pos_of_div-pos}
 use Rattle.std.proofs.lemmas.List.{append-nil}
+use Rattle.list_facts.proofs.Each.{AllByRecursion-weaker}
 use Rattle.entry_ref.specs.References.{buffer_limit}
 use Rattle.arena_api.specs.Calls.{padded as words_padded}
 use Rattle.store_api.specs.Statuses.{Status, is_open, with_status}
 use Rattle.store_api.specs.Ledgers.{Ledger, MayDo, Makes, with_count, one_more}
 use Rattle.tree_make.specs.Makes.{MakesNodes, MakesNode}
 use Rattle.tree_node.specs.Slots.{slot_pairs, slot_nodes, HaveChildren, IsInHand}
-use Rattle.tree_node.proofs.SlotLemmas.{All-map, all_pairs-kept, all_nodes-kept, last_keys-kept, node-kept}
+use Rattle.tree_node.proofs.SlotLemmas.{all_pairs-kept, all_nodes-kept, last_keys-kept, node-kept}
 
 -- new words leave the others
 pub with_words-other : (m : Records) (ref q : ℕ) (ws : List ℕ) → q ≢ ref → with_words m ref ws q ≡ m q
@@ -61,7 +62,7 @@ module _ (m n : Records) (keys values : List ℕ) (ref count : ℕ) (few : lengt
     ap node_keys is ∙ node_keys-words (suc level) count keys values hand.even few ∙ hand.children.0 ∙ sym (last_keys-kept m n keeps 8 level values hand.children.1)
         ∙ ap (map (λ child. last_key (pairs_below n level child))) (sym (ap node_values is ∙ node_values-words (suc level) count keys values hand.even few)),
     subst (AllByRecursion (IsNode n 8 level)) (sym (ap node_values is ∙ node_values-words (suc level) count keys values hand.even few))
-        (All-map (IsNode m 8 level) (IsNode n 8 level) (node-kept m n keeps 8 level) values hand.children.1),
+        (AllByRecursion-weaker (IsNode m 8 level) (IsNode n 8 level) (node-kept m n keeps 8 level) values hand.children.1),
   )
 
 node_words-size : (level count : ℕ) (keys values : List ℕ) → length keys ≡ length values → length keys ≤ 16 → length (node_words level count keys values) ≡ 34

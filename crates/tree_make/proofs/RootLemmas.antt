@@ -97,15 +97,6 @@ root-made old new m n level keys values root low more made = record {
   makes = made.makes;
 }
 
--- what the tests of the root tell
-pub none_from : (n : ℕ) (answer : Bool) → answer ≡ (n == 0) → answer ≡ true → n ≡ 0
-none_from zero answer is none = refl
-none_from (suc n) answer is none = absurd (true≢false (sym none ∙ is ∙ ne_eqb (suc n) 0 (λ e. omega arith)))
-
-pub some_from : (n : ℕ) (answer : Bool) → answer ≡ (n == 0) → answer ≡ false → 0 < n
-some_from zero answer is some = absurd (true≢false (sym is ∙ some))
-some_from (suc n) answer is some = omega arith
-
 pub leaf_from : (level n : ℕ) → n ≡ 0 → (0 < level → 0 < n) → level ≡ 0
 leaf_from zero n none some = refl
 leaf_from (suc level) n none some = absurd (let here = some (omega arith) in omega arith)

@@ -5,17 +5,15 @@ use Rattle.std.proofs.lemmas.Bool.{cases_eq, eq-eqb}
 use Rattle.std.proofs.lemmas.Grind.{flat_map-append}
 use Rattle.std.proofs.lemmas.List.{take_more}
 use Rattle.std.specs.List.{flat_map, AllByRecursion, IsDistinct}
+use Rattle.list_facts.specs.Counting.{one_if}
 use Rattle.image_base.specs.Records.{Among}
 use Rattle.tree_make.specs.Times.{times, EachOnce}
 
-abbrev one : Bool → ℕ
-one b = cond b 1 0
-
 pub times-same : (r q : ℕ) (qs : List ℕ) → r ≡ q → times r (q ∷ qs) ≡ 1 + times r qs
-times-same r q qs e = ap (λ n. n + times r qs) (ap one (eq-eqb r q e))
+times-same r q qs e = ap (λ n. n + times r qs) (ap one_if (eq-eqb r q e))
 
 pub times-other : (r q : ℕ) (qs : List ℕ) → r ≢ q → times r (q ∷ qs) ≡ times r qs
-times-other r q qs ne = let none : one (nat_eq r q) ≡ 0 = ap one (ne_eqb r q ne) in omega arith
+times-other r q qs ne = let none : one_if (nat_eq r q) ≡ 0 = ap one_if (ne_eqb r q ne) in omega arith
 
 pub times-append : (r : ℕ) (xs ys : List ℕ) → times r (xs ++ ys) ≡ times r xs + times r ys
 times-append r [] ys = omega arith
@@ -55,7 +53,7 @@ all_from_times P (q ∷ qs) each = (each q (let is = times-same q q qs refl in o
 apart-uncounted : (r : ℕ) (qs : List ℕ) → AllByRecursion (λ q. nat_eq r q ≡ false) qs → times r qs ≡ 0
 apart-uncounted r [] all = refl
 apart-uncounted r (q ∷ qs) all =
-    let none : one (nat_eq r q) ≡ 0 = ap one all.0 in
+    let none : one_if (nat_eq r q) ≡ 0 = ap one_if all.0 in
     let rest = apart-uncounted r qs all.1 in
     omega arith
 

@@ -7,13 +7,14 @@ use Rattle.tree_images.specs.Trees.{pairs_below, nodes_below, tree_pairs, tree_n
 use Rattle.tree_node.specs.Slots.{slot_pairs, slot_nodes}
 use Rattle.tree_make.specs.Times.{times, uses}
 use Rattle.tree_make.specs.declared.make.Part.{Part}
+use Rattle.tree_images.specs.declared.TheConstants.{NODE_WORDS}
 
 -- at most so many nodes were made and nothing else: all records stay, and what is newly in use was open
 pub record MakesNodes {H : Type 0} (old new : Ledger H) (m n : Records) (most : ℕ) : Type 0 where
   pub keeps : Keeps m n
   pub statuses : (ref : ℕ) → (new.status ref ≡ old.status ref) ⊎ ((is_open (old.status ref) ≡ true) × (new.status ref ≡ Status.pending))
-  pub made : new.made 34 ≤ old.made 34 + most
-  pub others : (width : ℕ) → width ≢ 34 → new.made width ≡ old.made width
+  pub made : new.made NODE_WORDS ≤ old.made NODE_WORDS + most
+  pub others : (width : ℕ) → width ≢ NODE_WORDS → new.made width ≡ old.made width
   pub may : MayDo old new
 
 -- a node of these slots was made, where no record was

@@ -8,7 +8,7 @@ use arrayvec::ArrayVec;
 use entry_ref::EntryRef;
 use frozen_api::Frozen;
 use store_api::{Store, StoreError};
-use tree_images::NODE_WORDS;
+use tree_images::{MOST_SLOTS, NODE_WORDS};
 use tree_node::Slots;
 
 /// A node that was made, as the slot of its parent is to hold it: its last key and its reference.
@@ -36,21 +36,21 @@ pub fn pairs_in<const OFFSET_BITS: u32, F: Frozen<OFFSET_BITS>>(frozen: &mut F, 
 }
 
 /// Appends the words of slots, with zeros for those that are not used.
-fn push_slots(words: &mut ArrayVec<u64, 34>, slots: &[u64])
-    requires few { length slots.now ≤ 16 }
+fn push_slots(words: &mut ArrayVec<u64, NODE_WORDS>, slots: &[u64])
+    requires few { length slots.now ≤ MOST_SLOTS }
     requires room { length words.old.items ≤ 18 }
     ensures words { words.new.items ≡ words.old.items ++ slot_words slots.now }
 {
-    for i in 0..16 {
+    for i in 0..MOST_SLOTS {
         let word = if i < slots.len() { slots[i] } else { 0 };
         words.push(word);
     }
 }
 
 /// The words of a node.
-fn words_of(slots: &Slots, count: u64) -> ArrayVec<u64, 34>
+fn words_of(slots: &Slots, count: u64) -> ArrayVec<u64, NODE_WORDS>
     requires even { length slots.now.keys.items ≡ length slots.now.values.items }
-    requires few { length slots.now.keys.items ≤ 16 }
+    requires few { length slots.now.keys.items ≤ MOST_SLOTS }
     requires low { slots.now.level ≤ 7 }
     ensures words { result.items ≡ node_words slots.now.level count slots.now.keys.items slots.now.values.items }
 {
@@ -68,11 +68,11 @@ pub fn make_part<const OFFSET_BITS: u32, S: Store<OFFSET_BITS>>(store: &mut S, s
     requires low { slots.now.level ≤ 7 }
     requires hand { IsInHand (S.records store.old) slots.now.level slots.now.keys.items slots.now.values.items }
     requires some { 0 < length slots.now.keys.items }
-    requires fits { length slots.now.keys.items ≤ 16 }
+    requires fits { length slots.now.keys.items ≤ MOST_SLOTS }
     requires few { length (slot_pairs (S.records store.old) slots.now.level slots.now.keys.items slots.now.values.items) < 2 ^ 32 }
     ensures makes { IfOk result (MakesPart (S.ledger store.old) (S.ledger store.new) (S.records store.old) (S.records store.new)
         slots.now.level slots.now.keys.items slots.now.values.items) }
-    ensures full { (w a h : ℕ) → result ≡ Err (StoreError.Full w a h) → (w ≡ 34) × IsFull (S.ledger store.new) w a h }
+    ensures full { (w a h : ℕ) → result ≡ Err (StoreError.Full w a h) → (w ≡ NODE_WORDS) × IsFull (S.ledger store.new) w a h }
     ensures ledger { OnErr result (S.ledger store.new ≡ S.ledger store.old) }
     ensures left { OnErr result (S.records store.new ≡ S.records store.old) }
 {

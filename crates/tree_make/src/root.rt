@@ -7,6 +7,7 @@ use crate::make::make_part;
 use arrayvec::ArrayVec;
 use entry_ref::EntryRef;
 use store_api::{Store, StoreError};
+use tree_images::{MOST_SLOTS, NODE_WORDS};
 use tree_node::Slots;
 
 /// Makes a leaf of one pair.
@@ -19,7 +20,7 @@ pub fn make_leaf<const OFFSET_BITS: u32, S: Store<OFFSET_BITS>>(
     ensures leaf { IfOk result (MakesNode (S.ledger store.old) (S.ledger store.new) (S.records store.old) (S.records store.new)
         0 (word ∷ []) (value ∷ [])) }
     ensures makes { MakesNodes (S.ledger store.old) (S.ledger store.new) (S.records store.old) (S.records store.new) 1 }
-    ensures full { (w a h : ℕ) → result ≡ Err (StoreError.Full w a h) → (w ≡ 34) × IsFull (S.ledger store.new) w a h }
+    ensures full { (w a h : ℕ) → result ≡ Err (StoreError.Full w a h) → (w ≡ NODE_WORDS) × IsFull (S.ledger store.new) w a h }
 {
     let mut slots = Slots {
         level: 0,
@@ -41,11 +42,11 @@ pub fn make_root<const OFFSET_BITS: u32, S: Store<OFFSET_BITS>>(
     requires low { slots.now.level ≤ 7 }
     requires hand { IsInHand (S.records store.old) slots.now.level slots.now.keys.items slots.now.values.items }
     requires some { 0 < slots.now.level → 0 < length slots.now.keys.items }
-    requires room { length slots.now.keys.items ≤ 16 }
+    requires room { length slots.now.keys.items ≤ MOST_SLOTS }
     requires few { length (slot_pairs (S.records store.old) slots.now.level slots.now.keys.items slots.now.values.items) < 2 ^ 32 }
     ensures root { IfOk result (MakesRoot (S.ledger store.old) (S.ledger store.new) (S.records store.old) (S.records store.new)
         slots.now.level slots.now.keys.items slots.now.values.items) }
-    ensures full { (w a h : ℕ) → result ≡ Err (StoreError.Full w a h) → (w ≡ 34) × IsFull (S.ledger store.new) w a h }
+    ensures full { (w a h : ℕ) → result ≡ Err (StoreError.Full w a h) → (w ≡ NODE_WORDS) × IsFull (S.ledger store.new) w a h }
     ensures makes { MakesNodes (S.ledger store.old) (S.ledger store.new) (S.records store.old) (S.records store.new) 1 }
 {
     if slots.keys.is_empty() {

@@ -4,10 +4,10 @@ use Rattle.std.proofs.lemmas.List.Elements.{All-from_recursion}
 use Rattle.std.specs.Cmp.{IsTotalOrder}
 use Rattle.std.specs.List.{zip, flat_map, All, AllByRecursion, IsDistinct}
 use Rattle.std.specs.declared.cmp.Ordering.{Ordering}
+use Rattle.list_facts.proofs.Each.{AllByRecursion-append}
 use Rattle.image_base.specs.Records.{Records}
 use Rattle.tree_images.proofs.DistinctLemmas.{tree_nodes_distinct}
 use Rattle.tree_images.proofs.TreeLemmas.{length-node_keys, pairs_many}
-use Rattle.key_order.proofs.PairLemmas.{All-both}
 use Rattle.tree_images.specs.Nodes.{node_keys, node_values}
 use Rattle.tree_images.specs.Trees.{pairs_below, nodes_below, IsNode, root_level, root_least, tree_pairs, tree_nodes, IsTree}
 
@@ -41,7 +41,7 @@ module _ (m : Records) where
       → (cs : List ℕ) → AllByRecursion (IsNode m 8 level) cs → AllByRecursion (λ q. length (m q) ≡ 34) (flat_map (nodes_below m level) cs)
   children_wide level each [] all = tt
   children_wide level each (c ∷ cs) all =
-      All-both (λ q. length (m q) ≡ 34) (nodes_below m level c) (flat_map (nodes_below m level) cs) (each c all.0) (children_wide level each cs all.1)
+      AllByRecursion-append (λ q. length (m q) ≡ 34) (nodes_below m level c) (flat_map (nodes_below m level) cs) (each c all.0) (children_wide level each cs all.1)
 
   -- each node is a record of 34 words
   pub nodes_wide : (least level ref : ℕ) → IsNode m least level ref → AllByRecursion (λ q. length (m q) ≡ 34) (nodes_below m level ref)

@@ -1,19 +1,22 @@
 -- What a node's words say of its children and of the pairs below it.
 use Rattle.std.proofs.Common.{◌≡◌, ◌≢◌, ℕ, zero, suc, ◌+◌, ◌<◌, ◌≤◌, List, [], ◌∷◌, ◌++◌, length, get_or, take, drop, map, refl, sym, ap, subst, ◌∙◌, arith}
-use Rattle.std.proofs.lemmas.List.{get_or-take, get_or-drop}
+use Rattle.std.proofs.lemmas.List.{get_or-take, get_or-drop, drop_all, get_or-map}
 use Rattle.std.specs.Cmp.{IsTotalOrder}
 use Rattle.std.specs.declared.cmp.Ordering.{Ordering}
 use Rattle.std.specs.declared.cmp.Ordering.TheVariants.{Less, Equal, Greater}
 use Rattle.std.specs.List.{zip, flat_map, AllByRecursion}
 use Rattle.std.specs.List.Sorted.{IsStrictlySortedBy}
+use Rattle.list_facts.proofs.Pairs.{length-zip_even}
+use Rattle.list_facts.proofs.Each.{AllByRecursion-at}
 use Rattle.image_base.specs.Records.{Records, HasWord, word_at}
 use Rattle.tree_images.specs.Nodes.{used_of, node_keys, node_values, IsNodeForm}
 use Rattle.tree_images.specs.Trees.{pairs_below, last_key, IsNode, HasLastKeys}
 use Rattle.tree_images.proofs.TreeLemmas.{IsNode-form, length-node_keys, length-node_values}
 use Rattle.key_order.specs.Keys.{AllBelow}
 use Rattle.key_order.specs.Pairs.{choose, seek}
-use Rattle.key_order.proofs.PairLemmas.{All-at, All-child, children-cut, seek-skip, seek-stop}
+use Rattle.key_order.proofs.PairLemmas.{All-child, children-cut, seek-skip, seek-stop}
 use Rattle.key_order.proofs.OrderLemmas.{ascends-child, children-below}
+use Rattle.std.proofs.Math.Seq.{drop-cons}
 
 pub lower : (level least low : ℕ) (ws : List ℕ) → low ≤ least → IsNodeForm level least ws → IsNodeForm level low ws
 lower level least low ws less f = record { size = f.size; at_level = f.at_level; filled = let h = f.filled in omega arith; room = f.room; no_key = f.no_key; no_value = f.no_value; few = f.few }
@@ -29,27 +32,6 @@ get_or-node_keys ws j h = rw get_or-take (rw get_or-drop refl)
 
 pub get_or-node_values : (ws : List ℕ) (j : ℕ) → j < used_of ws → get_or (node_values ws) j 0 ≡ get_or ws (18 + j) 0
 get_or-node_values ws j h = rw get_or-take (rw get_or-drop refl)
-
-pub get_or-map : (f : ℕ → ℕ) (xs : List ℕ) (j : ℕ) → j < length xs → get_or (map f xs) j 0 ≡ f (get_or xs j 0)
-get_or-map f [] j h = absurd (omega arith)
-get_or-map f (x ∷ xs) zero h = refl
-get_or-map f (x ∷ xs) (suc j) h = get_or-map f xs j (omega arith)
-
-pub drop-cut : (cs : List ℕ) (i : ℕ) → i < length cs → drop i cs ≡ get_or cs i 0 ∷ drop (suc i) cs
-drop-cut [] i h = absurd (omega arith)
-drop-cut (c ∷ cs) zero h = refl
-drop-cut (c ∷ cs) (suc i) h = drop-cut cs i (omega arith)
-
-pub drop-none : {A : Type 0} (cs : List A) (i : ℕ) → length cs ≤ i → drop i cs ≡ []
-drop-none [] zero h = refl
-drop-none [] (suc i) h = refl
-drop-none (c ∷ cs) zero h = absurd (omega arith)
-drop-none (c ∷ cs) (suc i) h = drop-none cs i (omega arith)
-
-pub length-zip : (ks vs : List ℕ) → length ks ≡ length vs → length (zip ks vs) ≡ length ks
-length-zip [] vs e = refl
-length-zip (k ∷ ks) [] e = absurd (omega arith)
-length-zip (k ∷ ks) (v ∷ vs) e = ap suc (length-zip ks vs (omega arith))
 
 length-some : {A : Type 0} (xs ys : List A) → 0 < length xs → 0 < length (xs ++ ys)
 length-some [] ys h = absurd (omega arith)
@@ -114,13 +96,13 @@ module _ (m : Records) (least level l ref : ℕ) (above : level ≡ suc l) (node
   values-size = length-node_values (suc l) least (m ref) form
 
   pub child-node : (i : ℕ) → i < used_of (m ref) → IsNode m 8 l (word_at m ref (18 + i))
-  child-node i h = subst (IsNode m 8 l) (get_or-node_values (m ref) i h) (All-at (IsNode m 8 l) (node_values (m ref)) i (let e = values-size in omega arith) nodes)
+  child-node i h = subst (IsNode m 8 l) (get_or-node_values (m ref) i h) (AllByRecursion-at (IsNode m 8 l) (node_values (m ref)) i 0 (let e = values-size in omega arith) nodes)
 
   -- the key of a slot is the last key of its child
   pub child-last : (i : ℕ) → i < used_of (m ref) → word_at m ref (2 + i) ≡ last_key (pairs_below m l (word_at m ref (18 + i)))
   child-last i h =
       sym (get_or-node_keys (m ref) i h) ∙ ap (λ ks. get_or ks i 0) last_keys
-      ∙ get_or-map (λ x. last_key (pairs_below m l x)) (node_values (m ref)) i (let e = values-size in omega arith)
+      ∙ get_or-map (λ x. last_key (pairs_below m l x)) (node_values (m ref)) i 0 0 (let e = values-size in omega arith)
       ∙ ap (λ q. last_key (pairs_below m l q)) (get_or-node_values (m ref) i h)
 
   -- the pairs of a node around those of one child
@@ -134,11 +116,11 @@ module _ (m : Records) (least level l ref : ℕ) (above : level ≡ suc l) (node
   pub children-from : (i : ℕ) → i < used_of (m ref) → flat_map (pairs_below m l) (drop i (node_values (m ref)))
       ≡ pairs_below m l (word_at m ref (18 + i)) ++ flat_map (pairs_below m l) (drop (suc i) (node_values (m ref)))
   children-from i h =
-      ap (flat_map (pairs_below m l)) (drop-cut (node_values (m ref)) i (let e = values-size in omega arith))
+      ap (flat_map (pairs_below m l)) (drop-cons (node_values (m ref)) i 0 (let e = values-size in omega arith))
       ∙ ap (λ q. pairs_below m l q ++ flat_map (pairs_below m l) (drop (suc i) (node_values (m ref)))) (get_or-node_values (m ref) i h)
 
   pub children-past : (i : ℕ) → used_of (m ref) ≤ i → flat_map (pairs_below m l) (drop i (node_values (m ref))) ≡ []
-  children-past i h = ap (flat_map (pairs_below m l)) (drop-none (node_values (m ref)) i (let e = values-size in omega arith))
+  children-past i h = ap (flat_map (pairs_below m l)) (drop_all i (node_values (m ref)) (let e = values-size in omega arith))
 
   -- what holds of all pairs below holds of a child's
   pub child-all : (P : ℕ × ℕ → Type 0) → AllByRecursion P (pairs_below m level ref) → (i : ℕ) → i < used_of (m ref) → AllByRecursion P (pairs_below m l (word_at m ref (18 + i)))
@@ -234,7 +216,7 @@ module _ (m : Records) (least level ref : ℕ) (low : level ≡ 0) (node : IsNod
   same-size = length-node_values 0 least (m ref) form0 ∙ sym keys-size
 
   pub leaf-size : length (pairs_below m 0 ref) ≡ used_of (m ref)
-  leaf-size = ap length (leaf_pairs m ref) ∙ length-zip (node_keys (m ref)) (node_values (m ref)) (sym same-size) ∙ keys-size
+  leaf-size = ap length (leaf_pairs m ref) ∙ length-zip_even (node_keys (m ref)) (node_values (m ref)) (sym same-size) ∙ keys-size
 
   pub leaf-from : (i : ℕ) → i < used_of (m ref) → drop i (pairs_below m 0 ref) ≡ (word_at m ref (2 + i), word_at m ref (18 + i)) ∷ drop (suc i) (pairs_below m 0 ref)
   leaf-from i h =
@@ -245,7 +227,7 @@ module _ (m : Records) (least level ref : ℕ) (low : level ≡ 0) (node : IsNod
       ∙ ap (λ ps. (word_at m ref (2 + i), word_at m ref (18 + i)) ∷ drop (suc i) ps) (sym (leaf_pairs m ref))
 
   pub leaf-past : (i : ℕ) → used_of (m ref) ≤ i → drop i (pairs_below m 0 ref) ≡ []
-  leaf-past i h = drop-none (pairs_below m 0 ref) i (let e = leaf-size in omega arith)
+  leaf-past i h = drop_all i (pairs_below m 0 ref) (let e = leaf-size in omega arith)
 
   pub leaf-seek : (c : ℕ → Ordering) (i : ℕ) → i ≤ used_of (m ref) → ((j : ℕ) → j < i → c (word_at m ref (2 + j)) ≡ Less) → (i < used_of (m ref) → c (word_at m ref (2 + i)) ≢ Less)
       → seek c (pairs_below m 0 ref) ≡ drop i (pairs_below m 0 ref)

@@ -1,11 +1,12 @@
 -- What holds of the keys of all pairs below slots holds of the slots' keys.
 use Rattle.std.proofs.Common.{◌≡◌, ℕ, zero, suc, ◌<◌, List, [], ◌∷◌, ◌++◌, length, map, get_or, refl, sym, ap, subst, ◌∙◌, arith}
 use Rattle.std.specs.List.{zip, flat_map, AllByRecursion}
+use Rattle.std.proofs.lemmas.List.{get_or-map}
+use Rattle.list_facts.proofs.Each.{AllByRecursion-left, AllByRecursion-right}
 use Rattle.image_base.specs.Records.{Records}
 use Rattle.tree_images.specs.Trees.{pairs_below, last_key, IsNode}
 use Rattle.tree_node.specs.Slots.{slot_pairs, HaveChildren, IsInHand}
-use Rattle.key_order.proofs.PairLemmas.{All-left, All-right}
-use Rattle.tree_node.proofs.ChildLemmas.{All-last, get_or-map, pairs-some}
+use Rattle.tree_node.proofs.ChildLemmas.{All-last, pairs-some}
 
 module _ (P : ℕ → Type 0) where
   zip_all : (ks vs : List ℕ) → length ks ≡ length vs → AllByRecursion (λ p. P p.0) (zip ks vs) → AllByRecursion P ks
@@ -17,8 +18,8 @@ module _ (P : ℕ → Type 0) where
       → AllByRecursion (λ p. P p.0) (flat_map f vs) → AllByRecursion P (map (λ v. last_key (f v)) vs)
   children_all f Q some [] nodes all = tt
   children_all f Q some (v ∷ vs) nodes all = (
-    All-last P (f v) (some v nodes.0) (All-left (λ (p : ℕ × ℕ). P p.0) (f v) (flat_map f vs) all),
-    children_all f Q some vs nodes.1 (All-right (λ (p : ℕ × ℕ). P p.0) (f v) (flat_map f vs) all),
+    All-last P (f v) (some v nodes.0) (AllByRecursion-left (λ (p : ℕ × ℕ). P p.0) (f v) (flat_map f vs) all),
+    children_all f Q some vs nodes.1 (AllByRecursion-right (λ (p : ℕ × ℕ). P p.0) (f v) (flat_map f vs) all),
   )
 
   pub keys_all : (m : Records) (level : ℕ) (ks vs : List ℕ) → IsInHand m level ks vs → AllByRecursion (λ p. P p.0) (slot_pairs m level ks vs) → AllByRecursion P ks
@@ -30,4 +31,4 @@ module _ (P : ℕ → Type 0) where
 -- the key of a slot above the leaves is the last of its child
 pub key_last : (m : Records) (level : ℕ) (ks vs : List ℕ) (i : ℕ) → IsInHand m (suc level) ks vs → i < length vs → get_or ks i 0 ≡ last_key (pairs_below m level (get_or vs i 0))
 unfolding HaveChildren
-key_last m level ks vs i hand low = ap (λ xs. get_or xs i 0) hand.children.0 ∙ get_or-map (λ v. last_key (pairs_below m level v)) vs i low
+key_last m level ks vs i hand low = ap (λ xs. get_or xs i 0) hand.children.0 ∙ get_or-map (λ v. last_key (pairs_below m level v)) vs i 0 0 low

@@ -10,7 +10,7 @@ use entry_ref::EntryRef;
 use frozen_api::Frozen;
 use key_order::KeyOrder;
 use std::cmp::Ordering;
-use tree_images::{FIRST_KEY, FIRST_VALUE};
+use tree_images::{FIRST_KEY, FIRST_VALUE, MOST_SLOTS, NODE_WORDS};
 
 /// What word 0 of a node says.
 #[derive(Clone, Copy, Debug)]
@@ -42,10 +42,10 @@ pub fn child_at<const OFFSET_BITS: u32, F: Frozen<OFFSET_BITS>>(
     node: EntryRef<OFFSET_BITS>,
     slot: u32,
 ) -> EntryRef<OFFSET_BITS>
-    requires slot { slot < 16 }
-    requires word { length (F.records frozen.old node) ≡ 34 }
-    requires child { 0 < length (F.records frozen.old (word_at (F.records frozen.old) node (18 + slot))) }
-    ensures child { result ≡ word_at (F.records frozen.old) node.entry (18 + slot) }
+    requires slot { slot < MOST_SLOTS }
+    requires word { length (F.records frozen.old node) ≡ NODE_WORDS }
+    requires child { 0 < length (F.records frozen.old (word_at (F.records frozen.old) node (FIRST_VALUE + slot))) }
+    ensures child { result ≡ word_at (F.records frozen.old) node.entry (FIRST_VALUE + slot) }
     ensures same { frozen.new ≡ frozen.old }
 {
     EntryRef::from_raw(frozen.word(node, FIRST_VALUE as u32 + slot) as u32)

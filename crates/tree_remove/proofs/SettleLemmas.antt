@@ -2,6 +2,7 @@
 use Rattle.std.proofs.Common.{◌≡◌, ℕ, zero, suc, ◌+◌, ◌<◌, ◌≤◌, List, [], ◌∷◌, ◌++◌, length, take, drop, set, refl, sym, ap, subst, ◌∙◌, arith, inl, inr, length-append}
 use Rattle.std.proofs.lemmas.Bool.{cases_lt}
 use Rattle.std.specs.List.{remove}
+use Rattle.std.proofs.lemmas.List.{set_split}
 use Rattle.image_base.specs.Records.{Records}
 use Rattle.tree_images.specs.Trees.{pairs_below, last_key, Keeps}
 use Rattle.store_api.specs.Ledgers.{Ledger}
@@ -38,14 +39,8 @@ two-for-two i a b xs low =
     let two : suc (suc i) ≡ i + 2 = omega arith in
     ap (λ k. set (set xs i a) k b) up ∙ edit_two i a b xs low ∙ ap (λ k. take i xs ++ (a ∷ b ∷ drop k xs)) two
 
--- one slot in place of one
-edit_same : (i a : ℕ) (xs : List ℕ) → i < length xs → set xs i a ≡ take i xs ++ (a ∷ drop (suc i) xs)
-edit_same i a [] low = absurd (omega arith)
-edit_same zero a (x ∷ xs) low = refl
-edit_same (suc i) a (x ∷ xs) low = ap (λ l. x ∷ l) (edit_same i a xs (omega arith))
-
 pub one-for-one : (i a : ℕ) (xs : List ℕ) → i < length xs → set xs i a ≡ take i xs ++ ((a ∷ []) ++ drop (i + 1) xs)
-one-for-one i a xs low = let up : suc i ≡ i + 1 = omega arith in edit_same i a xs low ∙ ap (λ k. take i xs ++ (a ∷ drop k xs)) up
+one-for-one i a xs low = let up : suc i ≡ i + 1 = omega arith in set_split xs i a low ∙ ap (λ k. take i xs ++ (a ∷ drop k xs)) up
 
 module _ {H : Type 0} (old new : Ledger H) (m n : Records) (level : ℕ) (keys values : List ℕ) (key ref : ℕ)
     (makes : MakesNode old new m n level keys values ref) (last : key ≡ last_key (pairs_below n level ref)) (many : 8 ≤ length keys)

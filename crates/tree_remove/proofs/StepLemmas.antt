@@ -7,6 +7,7 @@ use Rattle.std.specs.Cmp.{IsTotalOrder}
 use Rattle.std.specs.List.{zip, flat_map, remove, AllByRecursion}
 use Rattle.std.specs.declared.cmp.Ordering.{Ordering}
 use Rattle.std.specs.declared.cmp.Ordering.TheVariants.{Less, Equal, Greater}
+use Rattle.list_facts.proofs.Each.{AllByRecursion-at}
 use Rattle.image_base.specs.Records.{Records}
 use Rattle.tree_images.proofs.TreeLemmas.{IsNode-form, IsNode-count}
 use Rattle.tree_node.proofs.ReadLemmas.{node-even}
@@ -14,7 +15,7 @@ use Rattle.tree_node.proofs.ChildLemmas.{keys-length, pairs-some}
 use Rattle.tree_images.specs.Nodes.{node_keys, node_values}
 use Rattle.tree_images.specs.Trees.{pairs_below, last_key, IsNode}
 use Rattle.key_order.proofs.OrderLemmas.{ascends-child, children-below}
-use Rattle.key_order.proofs.PairLemmas.{All-at, All-child, children-cut, lookup-skip, lookup-stop, lookup-below, take_out-skip, take_out-stop}
+use Rattle.key_order.proofs.PairLemmas.{All-child, children-cut, lookup-skip, lookup-stop, lookup-below, take_out-skip, take_out-stop}
 use Rattle.key_order.specs.Keys.{seen_by, Ascends, AllBelow}
 use Rattle.key_order.specs.Pairs.{lookup, take_out, choose}
 use Rattle.tree_node.proofs.KeyLemmas.{key_last}
@@ -90,7 +91,7 @@ module _ {V : Type 0} (order : V → V → Ordering) (total : IsTotalOrder order
   child_low = let low = step-low in let even = hand.even in omega arith
 
   pub step-node : IsNode m 8 l (get_or vs i 0)
-  step-node = All-at (IsNode m 8 l) vs i child_low (child_nodes m l ks vs hand)
+  step-node = AllByRecursion-at (IsNode m 8 l) vs i 0 child_low (child_nodes m l ks vs hand)
 
   child_some : 0 < length (pairs_below m l (get_or vs i 0))
   child_some = pairs-some m 8 l (get_or vs i 0) (omega arith) step-node

@@ -9,6 +9,7 @@ use Rattle.store_api.specs.Ledgers.{Ledger}
 use Rattle.tree_make.specs.Times.{times, uses}
 use Rattle.tree_make.specs.Makes.{MakesNodes}
 use Rattle.tree_node.specs.Slots.{slot_pairs, slot_nodes, IsInHand}
+use Rattle.tree_images.specs.declared.TheConstants.{MOST_SLOTS, LEAST_SLOTS}
 
 -- the pairs below slots, with these in place of those of one child
 abbrev pub spliced : Records → ℕ → ℕ → List ℕ → List ℕ → List (ℕ × ℕ) → List (ℕ × ℕ)
@@ -26,8 +27,8 @@ pub record IsChild (m : Records) (level child : ℕ) (keys values : List ℕ) : 
   pub hand : IsInHand m level keys values
   pub pairs_are : pairs_below m level child ≡ slot_pairs m level keys values
   pub nodes_are : nodes_below m level child ≡ child ∷ slot_nodes m level values
-  pub least : 8 ≤ length keys
-  pub room : length keys ≤ 16
+  pub least : LEAST_SLOTS ≤ length keys
+  pub room : length keys ≤ MOST_SLOTS
 
 -- a child in hand was made, with a sibling where it was a slot short, and stands in its parent, which has lost a slot or none
 pub record PutsBack {H : Type 0} (old new : Ledger H) (m n : Records) (level place : ℕ)
@@ -46,7 +47,7 @@ pub record PutsBack {H : Type 0} (old new : Ledger H) (m n : Records) (level pla
   pub most : ℕ
   pub makes : MakesNodes old new m n most
   pub most_is : most ≤ suc extra
-  pub whole : 8 ≤ length child_keys → most ≤ extra
+  pub whole : LEAST_SLOTS ≤ length child_keys → most ≤ extra
 
 -- the child of a node under which a key is, whose level this is
 pub record IsStep (c : ℕ → Ordering) (m : Records) (level node : ℕ) (keys values : List ℕ) (place child : ℕ) : Type 0 where
@@ -54,11 +55,11 @@ pub record IsStep (c : ℕ → Ordering) (m : Records) (level node : ℕ) (keys 
   pub nodes_are : nodes_below m (suc level) node ≡ node ∷ slot_nodes m (suc level) values
   pub used : used_of (m node) ≡ length keys
   pub many : 2 ≤ length keys
-  pub room : length keys ≤ 16
+  pub room : length keys ≤ MOST_SLOTS
   pub few : length (pairs_below m (suc level) node) < 2 ^ 32
   pub within : place < length keys
   pub child_is : child ≡ slice_index values place
-  pub child_node : IsNode m 8 level child
+  pub child_node : IsNode m LEAST_SLOTS level child
   pub there : IsSome (lookup c (pairs_below m level child))
   pub out : take_out c (pairs_below m (suc level) node) ≡ spliced m level place keys values (take_out c (pairs_below m level child))
 

@@ -14,6 +14,7 @@ use arrayvec::ArrayVec;
 use entry_ref::EntryRef;
 use key_order::KeyOrder;
 use store_api::{Store, StoreError};
+use tree_images::NODE_WORDS;
 use tree_node::{Slots, first_slot, read_node};
 
 /// A node above the leaves in hand, and the child under which a key is.
@@ -97,7 +98,7 @@ pub fn remove_below<const OFFSET_BITS: u32, S: Store<OFFSET_BITS>, K: KeyOrder<O
         (S.ledger store.old) (S.ledger store.new) (S.records store.old) (S.records store.new)
         level node.entry replaced.old.items replaced.new.items slots.keys.items slots.values.items) }
     ensures level { IfOk result (λ slots. slots.level ≡ level) }
-    ensures full { (w a h : ℕ) → result ≡ Err (StoreError.Full w a h) → (w ≡ 34) × IsFull (S.ledger store.new) w a h }
+    ensures full { (w a h : ℕ) → result ≡ Err (StoreError.Full w a h) → (w ≡ NODE_WORDS) × IsFull (S.ledger store.new) w a h }
     ensures refused { OnErr result (MakesNodes (S.ledger store.old) (S.ledger store.new) (S.records store.old) (S.records store.new) (suc level)) }
 {
     replaced.push(node.raw());

@@ -5,6 +5,7 @@ ghost use Rattle.tree_node.specs.Slots.{slot_pairs, slot_nodes, IsInHand};
 ghost use Rattle.tree_remove.specs.Settles.{Settles};
 
 use store_api::{Store, StoreError};
+use tree_images::{LEAST_SLOTS, MOST_SLOTS, NODE_WORDS};
 use tree_make::{Part, make_part};
 use tree_node::Slots;
 
@@ -12,7 +13,7 @@ use tree_node::Slots;
 fn join(left: &mut Slots, right: &Slots)
     requires even { length left.old.keys.items ≡ length left.old.values.items }
     requires even_right { length right.now.keys.items ≡ length right.now.values.items }
-    requires room { length left.old.keys.items + length right.now.keys.items ≤ 16 }
+    requires room { length left.old.keys.items + length right.now.keys.items ≤ MOST_SLOTS }
     ensures keys { left.new.keys.items ≡ left.old.keys.items ++ right.now.keys.items }
     ensures values { left.new.values.items ≡ left.old.values.items ++ right.now.values.items }
     ensures level { left.new.level ≡ left.old.level }
@@ -27,8 +28,8 @@ fn join(left: &mut Slots, right: &Slots)
 fn shift(left: &mut Slots, right: &mut Slots)
     requires even { length left.old.keys.items ≡ length left.old.values.items }
     requires even_right { length right.old.keys.items ≡ length right.old.values.items }
-    requires room { length left.old.keys.items ≤ 16 }
-    requires room_right { length right.old.keys.items ≤ 16 }
+    requires room { length left.old.keys.items ≤ MOST_SLOTS }
+    requires room_right { length right.old.keys.items ≤ MOST_SLOTS }
     requires some { 0 < length left.old.keys.items }
     ensures keys { left.new.keys.items ++ right.new.keys.items ≡ left.old.keys.items ++ right.old.keys.items }
     ensures values { left.new.values.items ++ right.new.values.items ≡ left.old.values.items ++ right.old.values.items }
@@ -74,19 +75,19 @@ fn merge<const OFFSET_BITS: u32, S: Store<OFFSET_BITS>>(
     requires even_right { length right.now.keys.items ≡ length right.now.values.items }
     requires hand { IsInHand (S.records store.old) left.old.level
         (left.old.keys.items ++ right.now.keys.items) (left.old.values.items ++ right.now.values.items) }
-    requires some { 8 ≤ length left.old.keys.items + length right.now.keys.items }
-    requires room { length left.old.keys.items + length right.now.keys.items ≤ 16 }
+    requires some { LEAST_SLOTS ≤ length left.old.keys.items + length right.now.keys.items }
+    requires room { length left.old.keys.items + length right.now.keys.items ≤ MOST_SLOTS }
     requires few { length (slot_pairs (S.records store.old) left.old.level
         (left.old.keys.items ++ right.now.keys.items) (left.old.values.items ++ right.now.values.items)) < 2 ^ 32 }
     requires parent { length slots.old.keys.items ≡ length slots.old.values.items }
-    requires room_parent { length slots.old.keys.items ≤ 16 }
+    requires room_parent { length slots.old.keys.items ≤ MOST_SLOTS }
     requires first { suc first < length slots.old.keys.items }
     ensures settles { OnOk result (Settles (S.ledger store.old) (S.ledger store.new) (S.records store.old) (S.records store.new) left.old.level
         (slot_pairs (S.records store.old) left.old.level
         (left.old.keys.items ++ right.now.keys.items) (left.old.values.items ++ right.now.values.items))
         (slot_nodes (S.records store.old) left.old.level (left.old.values.items ++ right.now.values.items))
         first 2 slots.old.keys.items slots.old.values.items slots.new.keys.items slots.new.values.items) }
-    ensures full { (w a h : ℕ) → result ≡ Err (StoreError.Full w a h) → (w ≡ 34) × IsFull (S.ledger store.new) w a h }
+    ensures full { (w a h : ℕ) → result ≡ Err (StoreError.Full w a h) → (w ≡ NODE_WORDS) × IsFull (S.ledger store.new) w a h }
     ensures refused { OnErr result (MakesNodes (S.ledger store.old) (S.ledger store.new) (S.records store.old) (S.records store.new) 1) }
     ensures level { slots.new.level ≡ slots.old.level }
 {
@@ -113,24 +114,24 @@ fn share<const OFFSET_BITS: u32, S: Store<OFFSET_BITS>>(
     requires even_right { length right.old.keys.items ≡ length right.old.values.items }
     requires hand { IsInHand (S.records store.old) left.old.level
         (left.old.keys.items ++ right.old.keys.items) (left.old.values.items ++ right.old.values.items) }
-    requires room { length left.old.keys.items ≤ 16 }
-    requires room_right { length right.old.keys.items ≤ 16 }
+    requires room { length left.old.keys.items ≤ MOST_SLOTS }
+    requires room_right { length right.old.keys.items ≤ MOST_SLOTS }
     requires many { 16 ≤ length left.old.keys.items + length right.old.keys.items }
     requires short { length left.old.keys.items + length right.old.keys.items ≤ 23 }
     requires least { 7 ≤ length left.old.keys.items }
     requires least_right { 7 ≤ length right.old.keys.items }
-    requires one_short { 8 ≤ length left.old.keys.items → length right.old.keys.items ≡ 7 }
+    requires one_short { LEAST_SLOTS ≤ length left.old.keys.items → length right.old.keys.items ≡ 7 }
     requires few { length (slot_pairs (S.records store.old) left.old.level
         (left.old.keys.items ++ right.old.keys.items) (left.old.values.items ++ right.old.values.items)) < 2 ^ 32 }
     requires parent { length slots.old.keys.items ≡ length slots.old.values.items }
-    requires room_parent { length slots.old.keys.items ≤ 16 }
+    requires room_parent { length slots.old.keys.items ≤ MOST_SLOTS }
     requires first { suc first < length slots.old.keys.items }
     ensures settles { OnOk result (Settles (S.ledger store.old) (S.ledger store.new) (S.records store.old) (S.records store.new) left.old.level
         (slot_pairs (S.records store.old) left.old.level
         (left.old.keys.items ++ right.old.keys.items) (left.old.values.items ++ right.old.values.items))
         (slot_nodes (S.records store.old) left.old.level (left.old.values.items ++ right.old.values.items))
         first 2 slots.old.keys.items slots.old.values.items slots.new.keys.items slots.new.values.items) }
-    ensures full { (w a h : ℕ) → result ≡ Err (StoreError.Full w a h) → (w ≡ 34) × IsFull (S.ledger store.new) w a h }
+    ensures full { (w a h : ℕ) → result ≡ Err (StoreError.Full w a h) → (w ≡ NODE_WORDS) × IsFull (S.ledger store.new) w a h }
     ensures refused { OnErr result (MakesNodes (S.ledger store.old) (S.ledger store.new) (S.records store.old) (S.records store.new) 1) }
     ensures level { slots.new.level ≡ slots.old.level }
 {
@@ -157,27 +158,27 @@ pub fn make_neighbours<const OFFSET_BITS: u32, S: Store<OFFSET_BITS>>(
     requires even_right { length right.old.keys.items ≡ length right.old.values.items }
     requires hand { IsInHand (S.records store.old) left.old.level
         (left.old.keys.items ++ right.old.keys.items) (left.old.values.items ++ right.old.values.items) }
-    requires room { length left.old.keys.items ≤ 16 }
-    requires room_right { length right.old.keys.items ≤ 16 }
+    requires room { length left.old.keys.items ≤ MOST_SLOTS }
+    requires room_right { length right.old.keys.items ≤ MOST_SLOTS }
     requires short { length left.old.keys.items + length right.old.keys.items ≤ 23 }
     requires least { 7 ≤ length left.old.keys.items }
     requires least_right { 7 ≤ length right.old.keys.items }
-    requires one_short { 8 ≤ length left.old.keys.items → length right.old.keys.items ≡ 7 }
+    requires one_short { LEAST_SLOTS ≤ length left.old.keys.items → length right.old.keys.items ≡ 7 }
     requires few { length (slot_pairs (S.records store.old) left.old.level
         (left.old.keys.items ++ right.old.keys.items) (left.old.values.items ++ right.old.values.items)) < 2 ^ 32 }
     requires parent { length slots.old.keys.items ≡ length slots.old.values.items }
-    requires room_parent { length slots.old.keys.items ≤ 16 }
+    requires room_parent { length slots.old.keys.items ≤ MOST_SLOTS }
     requires first { suc first < length slots.old.keys.items }
     ensures settles { OnOk result (Settles (S.ledger store.old) (S.ledger store.new) (S.records store.old) (S.records store.new) left.old.level
         (slot_pairs (S.records store.old) left.old.level
         (left.old.keys.items ++ right.old.keys.items) (left.old.values.items ++ right.old.values.items))
         (slot_nodes (S.records store.old) left.old.level (left.old.values.items ++ right.old.values.items))
         first 2 slots.old.keys.items slots.old.values.items slots.new.keys.items slots.new.values.items) }
-    ensures full { (w a h : ℕ) → result ≡ Err (StoreError.Full w a h) → (w ≡ 34) × IsFull (S.ledger store.new) w a h }
+    ensures full { (w a h : ℕ) → result ≡ Err (StoreError.Full w a h) → (w ≡ NODE_WORDS) × IsFull (S.ledger store.new) w a h }
     ensures refused { OnErr result (MakesNodes (S.ledger store.old) (S.ledger store.new) (S.records store.old) (S.records store.new) 1) }
     ensures level { slots.new.level ≡ slots.old.level }
 {
-    if left.keys.len() + right.keys.len() < 16 {
+    if left.keys.len() + right.keys.len() < MOST_SLOTS {
         merge(store, slots, first, left, right)
     } else {
         share(store, slots, first, left, right)

@@ -14,6 +14,7 @@ use arrayvec::ArrayVec;
 use entry_ref::EntryRef;
 use key_order::KeyOrder;
 use store_api::{Store, StoreError};
+use tree_images::NODE_WORDS;
 use tree_make::{drop_nodes, make_root};
 
 /// Makes the tree without a pair, with the nodes of the old one that it lacks added to those that are replaced.
@@ -32,7 +33,7 @@ fn rebuild<const OFFSET_BITS: u32, S: Store<OFFSET_BITS>, K: KeyOrder<OFFSET_BIT
     requires replaced { replaced.old.items ≡ [] }
     ensures rebuilds { IfOk result (λ r. Rebuilds (seen_by K.read K.order (K.sought key.now) (S.records store.old))
         (S.ledger store.old) (S.ledger store.new) (S.records store.old) (S.records store.new) root.entry r replaced.new.items) }
-    ensures full { (w a h : ℕ) → result ≡ Err (StoreError.Full w a h) → (w ≡ 34) × IsFull (S.ledger store.new) w a h }
+    ensures full { (w a h : ℕ) → result ≡ Err (StoreError.Full w a h) → (w ≡ NODE_WORDS) × IsFull (S.ledger store.new) w a h }
     ensures makes { MakesNodes (S.ledger store.old) (S.ledger store.new) (S.records store.old) (S.records store.new)
         (levels (S.records store.old) root.entry + 1) }
 {
@@ -60,9 +61,9 @@ pub fn remove<const OFFSET_BITS: u32, S: Store<OFFSET_BITS>, K: KeyOrder<OFFSET_
         ≡ take_out (seen_by K.read K.order (K.sought key.now) (S.records store.old)) (tree_pairs (S.records store.old) root.entry)) }
     ensures readable { IfOk result (λ r. AllReadable K.can_read (S.records store.new) (tree_pairs (S.records store.new) r)) }
     ensures replaces { IfOk result (Replaces (S.ledger store.old) (S.ledger store.new) (S.records store.old) (S.records store.new) root.entry) }
-    ensures made { (S.ledger store.new).made 34 ≤ (S.ledger store.old).made 34 + (levels (S.records store.old) root.entry + 1) }
-    ensures others { (width : ℕ) → width ≢ 34 → (S.ledger store.new).made width ≡ (S.ledger store.old).made width }
-    ensures full { (w a h : ℕ) → result ≡ Err (StoreError.Full w a h) → (w ≡ 34) × IsFull (S.ledger store.new) w a h }
+    ensures made { (S.ledger store.new).made NODE_WORDS ≤ (S.ledger store.old).made NODE_WORDS + (levels (S.records store.old) root.entry + 1) }
+    ensures others { (width : ℕ) → width ≢ NODE_WORDS → (S.ledger store.new).made width ≡ (S.ledger store.old).made width }
+    ensures full { (w a h : ℕ) → result ≡ Err (StoreError.Full w a h) → (w ≡ NODE_WORDS) × IsFull (S.ledger store.new) w a h }
     ensures left { OnErr result (MakesNodes (S.ledger store.old) (S.ledger store.new) (S.records store.old) (S.records store.new)
         (levels (S.records store.old) root.entry + 1)) }
 {

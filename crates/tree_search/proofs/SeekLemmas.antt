@@ -1,6 +1,6 @@
 -- The way down to the place of a key.
 use Rattle.std.proofs.Common.{◌≡◌, ◌≢◌, ℕ, zero, suc, ◌+◌, ◌-◌, ◌<◌, ◌≤◌, List, [], ◌∷◌, ◌++◌, length, get_or, take, drop, map, refl, sym, ap, subst, ◌∙◌, arith}
-use Rattle.std.proofs.lemmas.List.{append-nil}
+use Rattle.std.proofs.lemmas.List.{append-nil, take_all}
 use Rattle.std.specs.Cmp.{IsTotalOrder}
 use Rattle.std.specs.declared.cmp.Ordering.{Ordering}
 use Rattle.std.specs.declared.cmp.Ordering.TheVariants.{Less}
@@ -40,12 +40,6 @@ zip-below c [] vs before = tt
 zip-below c (k ∷ ks) [] before = tt
 zip-below c (k ∷ ks) (v ∷ vs) before = (before 0 (omega arith), zip-below c ks vs (λ j h. before (suc j) (omega arith)))
 
-take-whole : (xs : List ℕ) (i : ℕ) → length xs ≤ i → take i xs ≡ xs
-take-whole [] zero h = refl
-take-whole [] (suc i) h = refl
-take-whole (x ∷ xs) zero h = absurd (omega arith)
-take-whole (x ∷ xs) (suc i) h = ap (λ ys. x ∷ ys) (take-whole xs i (omega arith))
-
 module _ {V : Type 0} (order : V → V → Ordering) (total : IsTotalOrder order) (reads : ℕ → V) (s : V) (m : Records) where
   -- where the keys of all slots are below, all pairs are
   all-below : (least level ref : ℕ) → IsNode m least level ref → IsStrictlySortedBy order (map (λ p. reads p.0) (pairs_below m level ref))
@@ -58,7 +52,7 @@ module _ {V : Type 0} (order : V → V → Ordering) (total : IsTotalOrder order
   all-below least (suc level) ref node up before =
       let size = values-size m least (suc level) level ref refl node in
       subst (AllBelow (λ k. order (reads k) s)) (sym (children m least (suc level) level ref refl node))
-      (subst (λ vs. AllBelow (λ k. order (reads k) s) (flat_map (pairs_below m level) vs)) (take-whole (node_values (m ref)) (used_of (m ref)) (omega arith))
+      (subst (λ vs. AllBelow (λ k. order (reads k) s) (flat_map (pairs_below m level) vs)) (take_all (used_of (m ref)) (node_values (m ref)) (omega arith))
       (front-below m least (suc level) level ref refl node order reads up total s (used_of (m ref)) (omega arith) before))
 
   -- the key is sought below a node that a path leads to

@@ -1,9 +1,10 @@
 use Rattle.std.proofs.Common.{rules, Err, ◌≡◌, ◌<◌, ◌≤◌, ◌-◌, ◌++◌, ℕ, suc, List, [], ◌∷◌, length, get_or, take, drop, ◌*◌, true, sym, ap, subst, ◌∙◌, arith, ◌+◌, ◌^◌}
 use Rattle.std.specs.List.{AllByRecursion}
+use Rattle.list_facts.proofs.Errors.{same_error}
 use Rattle.tree_images.specs.Nodes.{level_of, used_of, node_keys, node_values}
 use Rattle.tree_images.specs.Trees.{pairs_below, IsNode}
 use Rattle.tree_images.proofs.TreeLemmas.{IsNode-form}
-use Rattle.tree_make.proofs.Results.{if_ok-then, err_same}
+use Rattle.tree_make.proofs.Results.{if_ok-then}
 use Rattle.tree_node.proofs.ChildLemmas.{IsNode-lower, keys-length}
 use Rattle.tree_node.proofs.ReadLemmas.{node-even, node-keys-all}
 use Rattle.key_order.specs.Keys.{seen_by, Ascends, AllReadable}
@@ -425,4 +426,4 @@ returns-clause-inserts g t c =
     (over-inserts key.order total key.read sought m n 1 l node i pair is place ascends makes.keeps ps x.parts_are left.keys.items left.values.items k2 v2 old mid (g.S.Store.ledger u) (g.S.Frozen.records u) before after made x y1)) c.make_parts.ensures.parts
 
 pub returns-in_err-parts-clause-full : goal.returns-in_err-parts-clause-full
-returns-in_err-parts-clause-full g t c = λ w a h e. c.in_err-parts.ensures.full w a h (ap Err (err_same c.from_residual.result c.in_err-parts.field-0.0 _ c.from_residual.ensures.1 e))
+returns-in_err-parts-clause-full g t c = λ w a h e. c.in_err-parts.ensures.full w a h (ap Err (same_error c.from_residual.result c.in_err-parts.field-0.0 _ c.from_residual.ensures.1 e))

@@ -1,6 +1,6 @@
 use Rattle.std.proofs.Common.{ap, Err, ◌≡◌, length, arith}
+use Rattle.list_facts.proofs.Errors.{same_error}
 use Rattle.tree_insert.proofs.PartsLemmas.{IsSplit, first-hand, first-few, second-hand, second-few, two_made}
-use Rattle.tree_make.proofs.Results.{err_same}
 use Rattle.tree_insert.proofs.parts.make_parts.Goals as goal
 
 pub make_part-requires-2-clause-hand : goal.make_part-requires-2-clause-hand
@@ -68,10 +68,10 @@ returns-clause-parts g c =
     c.in_ok-first.ensures.makes c.in_ok-second.ensures.makes
 
 pub returns-in_err-make_part-clause-full : goal.returns-in_err-make_part-clause-full
-returns-in_err-make_part-clause-full g c = λ w a h e. c.in_err-make_part.ensures.full w a h (ap Err (err_same c.from_residual.result c.in_err-make_part.field-0.0 _ c.from_residual.ensures.1 e))
+returns-in_err-make_part-clause-full g c = λ w a h e. c.in_err-make_part.ensures.full w a h (ap Err (same_error c.from_residual.result c.in_err-make_part.field-0.0 _ c.from_residual.ensures.1 e))
 
 pub returns-in_err-first-clause-full : goal.returns-in_err-first-clause-full
-returns-in_err-first-clause-full g c = λ w a h e. c.in_err-first.ensures.full w a h (ap Err (err_same c.from_residual-in_err-first.result c.in_err-first.field-0.0 _ c.from_residual-in_err-first.ensures.1 e))
+returns-in_err-first-clause-full g c = λ w a h e. c.in_err-first.ensures.full w a h (ap Err (same_error c.from_residual-in_err-first.result c.in_err-first.field-0.0 _ c.from_residual-in_err-first.ensures.1 e))
 
 pub returns-in_err-second-clause-full : goal.returns-in_err-second-clause-full
-returns-in_err-second-clause-full g c = λ w a h e. c.in_err-second.ensures.full w a h (ap Err (err_same c.from_residual-in_err-second.result c.in_err-second.field-0.0 _ c.from_residual-in_err-second.ensures.1 e))
+returns-in_err-second-clause-full g c = λ w a h e. c.in_err-second.ensures.full w a h (ap Err (same_error c.from_residual-in_err-second.result c.in_err-second.field-0.0 _ c.from_residual-in_err-second.ensures.1 e))

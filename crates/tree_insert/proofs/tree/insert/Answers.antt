@@ -1,5 +1,6 @@
 use Rattle.std.proofs.Common.{rules, ◌∙◌, Err, ◌≡◌, ◌<◌, ◌+◌, ◌*◌, ◌/◌, ℕ, suc, [], length, true, sym, ap, subst, arith, ◌^◌}
 use Rattle.std.specs.List.{AllByRecursion}
+use Rattle.list_facts.proofs.Errors.{same_error}
 use Rattle.tree_images.specs.Trees.{pairs_below, IsNode, root_level}
 use Rattle.key_order.specs.Keys.{seen_by, Ascends, AllReadable}
 use Rattle.store_api.specs.Statuses.{in_use}
@@ -7,7 +8,7 @@ use Rattle.tree_make.specs.Changes.{Drops, levels}
 use Rattle.tree_make.specs.Times.{EachOnce}
 use Rattle.tree_make.specs.Makes.{MakesNodes}
 use Rattle.tree_make.proofs.MakesLemmas.{makes-then, makes-more}
-use Rattle.tree_make.proofs.Results.{if_ok-then, on_err, not_valid, is_valid, err_same}
+use Rattle.tree_make.proofs.Results.{if_ok-then, on_err, not_valid, is_valid}
 use Rattle.tree_make.proofs.TopLemmas.{root-size, root-level, root-low, root-one, root-pairs, root-levels}
 use Rattle.tree_insert.specs.Inserts.{Inserts}
 use Rattle.tree_insert.proofs.TreeLemmas.{root-few, top-few, top-parts, top-one, gone-once, gone-used, end-replaces, end-pairs, end-readable, end-tree, one-pairs, one-tree, one-readable, one-replaces}
@@ -602,7 +603,7 @@ returns-clause-replaces g c =
     end-replaces key.order total key.read sought m n old mid root level pair tree some level_is few gone parts x new end o e next x_makes c.in_ok-next.ensures.root z c.requires.used
 
 pub returns-in_err-parts-clause-full : goal.returns-in_err-parts-clause-full
-returns-in_err-parts-clause-full g c = λ w a h e. c.in_err-parts.ensures.full w a h (ap Err (err_same c.from_residual.result c.in_err-parts.field-0.0 _ c.from_residual.ensures.1 e))
+returns-in_err-parts-clause-full g c = λ w a h e. c.in_err-parts.ensures.full w a h (ap Err (same_error c.from_residual.result c.in_err-parts.field-0.0 _ c.from_residual.ensures.1 e))
 
 pub returns-in_err-next-clause-full : goal.returns-in_err-next-clause-full
-returns-in_err-next-clause-full g c = λ w a h e. c.in_err-next.ensures.full w a h (ap Err (err_same c.from_residual-in_err-next.result c.in_err-next.field-0.0 _ c.from_residual-in_err-next.ensures.1 e))
+returns-in_err-next-clause-full g c = λ w a h e. c.in_err-next.ensures.full w a h (ap Err (same_error c.from_residual-in_err-next.result c.in_err-next.field-0.0 _ c.from_residual-in_err-next.ensures.1 e))

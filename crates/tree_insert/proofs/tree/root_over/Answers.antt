@@ -1,11 +1,11 @@
 use Rattle.std.proofs.Common.{Err, ◌≡◌, ◌<◌, inl, inr, ℕ, List, [], ◌∷◌, ◌++◌, length, sym, ap, subst, ◌∙◌, arith, ◌+◌, ◌^◌}
 use Rattle.std.proofs.lemmas.Bool.{cases_eq}
 use Rattle.std.specs.List.{flat_map}
+use Rattle.list_facts.proofs.Errors.{same_error}
 use Rattle.tree_images.specs.Trees.{pairs_below, root_least}
 use Rattle.tree_insert.specs.declared.parts.Parts.TheVariants.{Two}
 use Rattle.tree_insert.specs.Parts.{AreParts, IsRootOver, part_nodes}
 use Rattle.tree_insert.proofs.RootLemmas.{two-hand, two-few, two_root}
-use Rattle.tree_make.proofs.Results.{err_same}
 use Rattle.tree_insert.proofs.tree.root_over.Goals as goal
 
 pub make_part-requires-clause-hand : goal.make_part-requires-clause-hand
@@ -71,4 +71,4 @@ returns-in_ok-root-in-Two-clause-root g c =
     old new n c.in_ok-root-in-Two.root.node below c.in_ok-root-in-Two.ensures.makes.node))
 
 pub returns-in_err-root-in-Two-clause-full : goal.returns-in_err-root-in-Two-clause-full
-returns-in_err-root-in-Two-clause-full g c = λ w a h e. c.in_err-root-in-Two.ensures.full w a h (ap Err (err_same c.from_residual.result c.in_err-root-in-Two.field-0.0 _ c.from_residual.ensures.1 e))
+returns-in_err-root-in-Two-clause-full g c = λ w a h e. c.in_err-root-in-Two.ensures.full w a h (ap Err (same_error c.from_residual.result c.in_err-root-in-Two.field-0.0 _ c.from_residual.ensures.1 e))

@@ -1,13 +1,9 @@
 use Rattle.std.proofs.Common.{◌≡◌, ℕ, zero, suc, ◌+◌, ◌-◌, ◌<◌, ◌≤◌, List, [], ◌∷◌, ◌++◌, length, get_or, slice_index, take, replicate, sym, ap, refl, ◌∙◌, append_assoc, arith, length-append}
 use Rattle.std.proofs.lemmas.List.{take_more, get_or_append_left, get_or-append_right, length-replicate}
+use Rattle.list_facts.proofs.Places.{slice_index-zeros}
 use Rattle.tree_images.specs.Nodes.{slot_words}
 use Rattle.tree_make.proofs.make.push_slots.Goals.{then-i-slots, else-i-slots}
 use Rattle.tree_make.proofs.make.push_slots.Goals as goal
-
-zeros_at : (n i : ℕ) → slice_index (replicate n 0) i ≡ 0
-zeros_at zero i = refl
-zeros_at (suc n) zero = refl
-zeros_at (suc n) (suc i) = zeros_at n i
 
 -- one slot more
 slots_more : (words slots : List ℕ) (i word : ℕ) → length slots ≤ 16 → i < 16 → word ≡ get_or (slot_words slots) i 0
@@ -21,7 +17,7 @@ slots_more words slots i word few low is =
     ∙ ap (λ xs. words ++ xs) (sym (take_more (slot_words slots) i 0 inside))
 
 past_slots : (slots : List ℕ) (i : ℕ) → length slots ≤ i → slice_index (slot_words slots) i ≡ 0
-past_slots slots i past = get_or-append_right slots (replicate (16 - length slots) 0) (length slots) i 0 refl past ∙ zeros_at (16 - length slots) (i - length slots)
+past_slots slots i past = get_or-append_right slots (replicate (16 - length slots) 0) (length slots) i 0 refl past ∙ slice_index-zeros (16 - length slots) (i - length slots)
 
 pub loop-i-preserved : goal.loop-i-preserved
 loop-i-preserved c =

@@ -1,7 +1,7 @@
 use Rattle.std.proofs.Common.{Err, ◌≡◌, ℕ, List, [], ◌∷◌, ◌++◌, length, refl, sym, ap, ◌∙◌, arith}
+use Rattle.list_facts.proofs.Errors.{same_error}
 use Rattle.tree_node.proofs.CountLemmas.{leaf_count}
 use Rattle.tree_node.proofs.SlotLemmas.{hand-leaf}
-use Rattle.tree_make.proofs.Results.{err_same}
 use Rattle.tree_make.proofs.root.make_leaf.Goals as goal
 
 pub make_part-requires-clause-hand : goal.make_part-requires-clause-hand
@@ -23,4 +23,4 @@ make_part-requires-clause-few g c =
     omega arith
 
 pub returns-in_err-part-clause-full : goal.returns-in_err-part-clause-full
-returns-in_err-part-clause-full g c = λ w a h e. c.in_err-part.ensures.full w a h (ap Err (err_same c.from_residual.result c.in_err-part.field-0.0 _ c.from_residual.ensures.1 e))
+returns-in_err-part-clause-full g c = λ w a h e. c.in_err-part.ensures.full w a h (ap Err (same_error c.from_residual.result c.in_err-part.field-0.0 _ c.from_residual.ensures.1 e))

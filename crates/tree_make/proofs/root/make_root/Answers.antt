@@ -1,9 +1,10 @@
 use Rattle.std.proofs.Common.{◌≡◌, ◌≢◌, ℕ, suc, ◌-◌, ◌<◌, List, length, get_or, sym, ap, subst, ◌∙◌, arith, Err}
+use Rattle.list_facts.proofs.Tests.{zero_from_test, above_zero_from_test}
+use Rattle.list_facts.proofs.Errors.{same_error}
 use Rattle.tree_images.specs.Trees.{IsNode}
 use Rattle.tree_node.specs.Slots.{IsInHand}
-use Rattle.tree_make.proofs.Results.{err_same}
 use Rattle.tree_node.proofs.ReadLemmas.{node-size}
-use Rattle.tree_make.proofs.RootLemmas.{root-none, root-only, root-made, only-node, none_from, some_from, leaf_from, many_from, ref_some}
+use Rattle.tree_make.proofs.RootLemmas.{root-none, root-only, root-made, only-node, leaf_from, many_from, ref_some}
 use Rattle.tree_make.specs.Makes.{MakesRoot}
 use Rattle.tree_make.proofs.root.make_root.Goals as goal
 use Rattle.tree_make.proofs.root.make_root.Goals.{else-slots-gt0-via-then-slots-gt0+else-len-eq1, else-slots-gt0-via-else-slots-gt0}
@@ -11,7 +12,7 @@ use Rattle.tree_make.proofs.root.make_root.Goals.{else-slots-gt0-via-then-slots-
 pub returns-then-is_empty-clause-root : goal.returns-then-is_empty-clause-root
 returns-then-is_empty-clause-root g c =
     let slots = c.args.slots.now in
-    let none = none_from (length slots.keys.items) c.is_empty.result c.is_empty.ensures c.if-is_empty.true in
+    let none = zero_from_test (length slots.keys.items) c.is_empty.result c.is_empty.ensures c.if-is_empty.true in
     root-none (g.S.Store.ledger c.args.store.now) (g.S.Frozen.records c.args.store.now) slots.level slots.keys.items slots.values.items c.from_raw.result c.from_raw.ensures
     (leaf_from slots.level (length slots.keys.items) none c.requires.some) none c.requires.hand
 
@@ -52,7 +53,7 @@ pub returns-clause-root : goal.returns-clause-root
 returns-clause-root g c =
     let slots = c.args.slots.now in
     let part = c.in_ok-part.part in
-    let some = some_from (length slots.keys.items) c.is_empty.result c.is_empty.ensures c.if-is_empty.false in
+    let some = above_zero_from_test (length slots.keys.items) c.is_empty.result c.is_empty.ensures c.if-is_empty.false in
     let other : 0 < slots.level → length slots.keys.items ≢ 1 = elim c.else-slots-gt0.branch [
       | else-slots-gt0-via-then-slots-gt0+else-len-eq1 w ↦ (λ above e. let ne = w.if-len-eq1.false in absurd (omega arith))
       | else-slots-gt0-via-else-slots-gt0 w ↦ (λ above e. let leaf = w.if-slots-gt0.false in absurd (omega arith))
@@ -65,4 +66,4 @@ returns-clause-root g c =
     slots.level slots.keys.items slots.values.items part.node c.requires.low (many_from slots.level (length slots.keys.items) some other) c.in_ok-part.ensures.makes.node)
 
 pub returns-in_err-part-clause-full : goal.returns-in_err-part-clause-full
-returns-in_err-part-clause-full g c = λ w a h e. c.in_err-part.ensures.full w a h (ap Err (err_same c.from_residual.result c.in_err-part.field-0.0 _ c.from_residual.ensures.1 e))
+returns-in_err-part-clause-full g c = λ w a h e. c.in_err-part.ensures.full w a h (ap Err (same_error c.from_residual.result c.in_err-part.field-0.0 _ c.from_residual.ensures.1 e))

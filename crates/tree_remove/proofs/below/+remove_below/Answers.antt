@@ -1,11 +1,11 @@
 use Rattle.std.proofs.Common.{rules, ◌≡◌, ℕ, suc, ◌-◌, ◌<◌, ◌≤◌, [], ◌∷◌, ◌++◌, length, true, sym, ap, subst, ◌∙◌, arith, Err, ◌^◌}
 use Rattle.std.specs.Prelude.{IsSome}
+use Rattle.list_facts.proofs.Errors.{same_error}
 use Rattle.tree_images.specs.Nodes.{level_of}
 use Rattle.tree_images.specs.Trees.{pairs_below, IsNode, root_least}
 use Rattle.key_order.specs.Keys.{seen_by, Ascends, AllReadable}
 use Rattle.key_order.specs.Pairs.{lookup}
 use Rattle.tree_node.specs.Slots.{slot_pairs, IsInHand}
-use Rattle.tree_make.proofs.Results.{err_same}
 use Rattle.tree_node.proofs.ReadLemmas.{node-level}
 use Rattle.tree_node.proofs.RootLemmas.{root_least-few}
 use Rattle.tree_node.proofs.ChildLemmas.{IsNode-lower}
@@ -302,7 +302,7 @@ returns-clause-level g t c =
     c.put_back.ensures.level ∙ c.step_down-step.ensures.level ∙ at
 
 pub returns-in_err-child-clause-full : goal.returns-in_err-child-clause-full
-returns-in_err-child-clause-full g t c = λ w a h e. c.in_err-child.ensures.full w a h (ap Err (err_same c.from_residual.result c.in_err-child.field-0.0 _ c.from_residual.ensures.1 e))
+returns-in_err-child-clause-full g t c = λ w a h e. c.in_err-child.ensures.full w a h (ap Err (same_error c.from_residual.result c.in_err-child.field-0.0 _ c.from_residual.ensures.1 e))
 
 pub returns-in_err-put_back-clause-full : goal.returns-in_err-put_back-clause-full
-returns-in_err-put_back-clause-full g t c = λ w a h e. c.in_err-put_back.ensures.full w a h (ap Err (err_same c.from_residual-in_err-put_back.result c.in_err-put_back.field-0.0 _ c.from_residual-in_err-put_back.ensures.1 e))
+returns-in_err-put_back-clause-full g t c = λ w a h e. c.in_err-put_back.ensures.full w a h (ap Err (same_error c.from_residual-in_err-put_back.result c.in_err-put_back.field-0.0 _ c.from_residual-in_err-put_back.ensures.1 e))

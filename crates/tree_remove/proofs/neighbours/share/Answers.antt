@@ -1,6 +1,6 @@
 use Rattle.std.proofs.Common.{◌≡◌, ◌+◌, ◌<◌, length, set, sym, ap, subst, ◌∙◌, arith, length-append, Err, ◌^◌}
+use Rattle.list_facts.proofs.Errors.{same_error}
 use Rattle.tree_node.proofs.SlotLemmas.{hand-kept, hand-left, hand-right}
-use Rattle.tree_make.proofs.Results.{err_same}
 use Rattle.tree_node.specs.Slots.{slot_pairs, IsInHand}
 use Rattle.tree_remove.proofs.SettleLemmas.{settles-shared, part-at, hand-at, few-left, few-right, shifted-sizes}
 use Rattle.tree_remove.proofs.neighbours.share.Goals as goal
@@ -76,7 +76,7 @@ returns-clause-settles g c =
     (c.set_part-2.ensures.values ∙ ap (λ vs. set vs (c.args.first + 1) two.node) c.set_part.ensures.values)
 
 pub returns-in_err-part-clause-full : goal.returns-in_err-part-clause-full
-returns-in_err-part-clause-full g c = λ w a h e. c.in_err-part.ensures.full w a h (ap Err (err_same c.from_residual.result c.in_err-part.field-0.0 _ c.from_residual.ensures.1 e))
+returns-in_err-part-clause-full g c = λ w a h e. c.in_err-part.ensures.full w a h (ap Err (same_error c.from_residual.result c.in_err-part.field-0.0 _ c.from_residual.ensures.1 e))
 
 pub returns-in_err-part-2-clause-full : goal.returns-in_err-part-2-clause-full
-returns-in_err-part-2-clause-full g c = λ w a h e. c.in_err-part-2.ensures.full w a h (ap Err (err_same c.from_residual-in_err-part-2.result c.in_err-part-2.field-0.0 _ c.from_residual-in_err-part-2.ensures.1 e))
+returns-in_err-part-2-clause-full g c = λ w a h e. c.in_err-part-2.ensures.full w a h (ap Err (same_error c.from_residual-in_err-part-2.result c.in_err-part-2.field-0.0 _ c.from_residual-in_err-part-2.ensures.1 e))

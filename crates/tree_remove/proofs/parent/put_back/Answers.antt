@@ -1,6 +1,7 @@
 use Rattle.std.proofs.Common.{◌≡◌, suc, ◌-◌, ◌<◌, ◌≤◌, ◌++◌, length, get_or, refl, sym, subst, arith, Err, ap, ◌^◌}
+use Rattle.std.proofs.lemmas.Result.{on_ok_weaker}
+use Rattle.list_facts.proofs.Errors.{same_error}
 use Rattle.tree_node.proofs.SlotLemmas.{hand-append}
-use Rattle.tree_make.proofs.Results.{on_ok-then, err_same}
 use Rattle.tree_node.specs.Slots.{slot_pairs, slot_nodes, IsInHand}
 use Rattle.tree_remove.proofs.ParentLemmas.{puts-alone, puts-left, puts-right, few-before, few-behind}
 use Rattle.tree_remove.proofs.SettleLemmas.{settles-alone}
@@ -105,7 +106,7 @@ returns-then-place-gt0-clause-puts g c =
     let some = c.if-place-gt0.true in
     let short : length child.keys.items < 8 = omega arith in
     let next : suc first ≡ c.args.place = omega arith in
-    on_ok-then c.make_neighbours.result
+    on_ok_weaker c.make_neighbours.result
     (λ (settles : Settles (ledger c.read_child-left.new.frozen) (ledger new) (records c.read_child-left.new.frozen) (records new) left.level
     (slot_pairs (records c.read_child-left.new.frozen) left.level (left.keys.items ++ child.keys.items) (left.values.items ++ child.values.items))
     (slot_nodes (records c.read_child-left.new.frozen) left.level (left.values.items ++ child.values.items))
@@ -141,7 +142,7 @@ returns-else-place-gt0-clause-puts g c =
     let zero : c.args.place ≡ 0 = omega arith in
     let many = c.requires.many in
     let short : length child.keys.items < 8 = omega arith in
-    on_ok-then c.make_neighbours-else-place-gt0.result
+    on_ok_weaker c.make_neighbours-else-place-gt0.result
     (λ (settles : Settles (ledger c.read_child-right.new.frozen) (ledger new) (records c.read_child-right.new.frozen) (records new) child.level
     (slot_pairs (records c.read_child-right.new.frozen) child.level (child.keys.items ++ right.keys.items) (child.values.items ++ right.values.items))
     (slot_nodes (records c.read_child-right.new.frozen) child.level (child.values.items ++ right.values.items))
@@ -158,4 +159,4 @@ returns-else-place-gt0-clause-puts g c =
     c.make_neighbours-else-place-gt0.ensures.settles
 
 pub returns-in_err-part-clause-full : goal.returns-in_err-part-clause-full
-returns-in_err-part-clause-full g c = λ w a h e. c.in_err-part.ensures.full w a h (ap Err (err_same c.from_residual.result c.in_err-part.field-0.0 _ c.from_residual.ensures.1 e))
+returns-in_err-part-clause-full g c = λ w a h e. c.in_err-part.ensures.full w a h (ap Err (same_error c.from_residual.result c.in_err-part.field-0.0 _ c.from_residual.ensures.1 e))

@@ -1,11 +1,12 @@
 use Rattle.std.proofs.Common.{rules, ◌≡◌, ℕ, suc, ◌+◌, ◌/◌, ◌<◌, length, sym, ap, subst, ◌∙◌, arith, Err, ◌^◌}
 use Rattle.std.specs.Prelude.{IsSome}
+use Rattle.list_facts.proofs.Errors.{same_error}
 use Rattle.tree_images.specs.Trees.{pairs_below, root_level, root_least, IsNode}
 use Rattle.key_order.specs.Keys.{seen_by, Ascends, AllReadable}
 use Rattle.key_order.specs.Pairs.{lookup}
 use Rattle.tree_make.specs.Changes.{levels}
 use Rattle.tree_make.proofs.MakesLemmas.{makes-then, makes-more}
-use Rattle.tree_make.proofs.Results.{if_ok-then, err_same}
+use Rattle.tree_make.proofs.Results.{if_ok-then}
 use Rattle.tree_make.proofs.TopLemmas.{root-size, root-level, root-low, root-node, root-pairs, root-levels}
 use Rattle.tree_make.specs.Makes.{MakesNodes, MakesRoot}
 use Rattle.tree_node.specs.Slots.{slot_pairs}
@@ -217,4 +218,4 @@ returns-clause-makes g c =
     makes-then old mid (ledger c.make_root.new.store) m n (g.S.Frozen.records c.make_root.new.store) (level + removes.extra) 1 (levels m root + 1) (omega arith) removes.makes c.make_root.ensures.makes
 
 pub returns-in_err-slots-clause-full : goal.returns-in_err-slots-clause-full
-returns-in_err-slots-clause-full g c = λ w a h e. c.in_err-slots.ensures.full w a h (ap Err (err_same c.from_residual.result c.in_err-slots.field-0.0 _ c.from_residual.ensures.1 e))
+returns-in_err-slots-clause-full g c = λ w a h e. c.in_err-slots.ensures.full w a h (ap Err (same_error c.from_residual.result c.in_err-slots.field-0.0 _ c.from_residual.ensures.1 e))

@@ -1,10 +1,10 @@
 use Rattle.std.proofs.Common.{◌≡◌, ◌+◌, sym, subst, true, Err, ap}
 use Rattle.std.specs.List.{AllByRecursion}
+use Rattle.list_facts.proofs.Errors.{same_error}
 use Rattle.key_order.specs.Keys.{seen_by}
 use Rattle.store_api.specs.Statuses.{in_use}
 use Rattle.tree_make.specs.Changes.{Drops, levels}
 use Rattle.tree_make.specs.Times.{EachOnce}
-use Rattle.tree_make.proofs.Results.{err_same}
 use Rattle.tree_remove.proofs.TreeLemmas.{gone-once, gone-used, end-replaces, end-pairs, end-readable, end-tree}
 use Rattle.tree_remove.proofs.tree.remove.Goals as goal
 
@@ -81,4 +81,4 @@ returns-clause-replaces g c =
     c.requires.tree c.requires.readable c.requires.apart c.requires.used (levels m c.args.root + 1) c.rebuild.ensures.makes c.in_ok-next.ensures.rebuilds drops
 
 pub returns-in_err-next-clause-full : goal.returns-in_err-next-clause-full
-returns-in_err-next-clause-full g c = λ w a h e. c.in_err-next.ensures.full w a h (ap Err (err_same c.from_residual.result c.in_err-next.field-0.0 _ c.from_residual.ensures.1 e))
+returns-in_err-next-clause-full g c = λ w a h e. c.in_err-next.ensures.full w a h (ap Err (same_error c.from_residual.result c.in_err-next.field-0.0 _ c.from_residual.ensures.1 e))
