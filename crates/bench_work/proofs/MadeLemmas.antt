@@ -9,33 +9,16 @@ use Rattle.tree_make.specs.Times.{times, EachOnce}
 use Rattle.tree_make.specs.Changes.{Drops}
 use Rattle.tree_make.proofs.TimesLemmas.{times-same, times-other, times-append, all_at_times, all_from_times}
 use Rattle.tree_make.proofs.DropLemmas.{drop_ends}
+use Rattle.tree_make.proofs.MakesLemmas.{open_unused}
+use Rattle.number_tree.proofs.HoldLemmas.{accept_uses}
 use Rattle.bench_work.specs.Units.{Made, UsesSame}
-
--- what is open is not in use
-pub open_unused : (status : Status) → is_open status ≡ true → in_use status ≡ false
-open_unused Status.unmade is = refl
-open_unused Status.free is = refl
-open_unused Status.pending is = absurd (cc)
-open_unused Status.live is = absurd (cc)
-open_unused Status.dropped is = absurd (cc)
-open_unused Status.let_go is = absurd (cc)
-open_unused Status.spent is = absurd (cc)
-
-pub accept_uses : (status : Status) → in_use (after_accept status) ≡ in_use status
-accept_uses Status.unmade = refl
-accept_uses Status.free = refl
-accept_uses Status.pending = refl
-accept_uses Status.live = refl
-accept_uses Status.dropped = refl
-accept_uses Status.let_go = refl
-accept_uses Status.spent = refl
 
 pub made-none : {H : Type 0} (old new : Ledger H) → new.unit ≡ true → ((r : ℕ) → new.status r ≡ old.status r) → Made old new []
 made-none old new unit same =
     record { unit = unit; once = λ r. omega arith; used = tt; others = λ r none. same r; was = λ r some. absurd (omega arith) }
 
-module _ {H : Type 0} (old ledger new : Ledger H) (m n : Records) (width : ℕ) (words refs : List ℕ) (q : ℕ)
-    (before : Made old ledger refs) (makes : Makes ledger new m n width words q) (unit : new.unit ≡ ledger.unit) where
+module _ {H : Type 0} (bits : ℕ) (old ledger new : Ledger H) (m n : Records) (width : ℕ) (words refs : List ℕ) (q : ℕ)
+    (before : Made old ledger refs) (makes : Makes bits ledger new m n width words q) (unit : new.unit ≡ ledger.unit) where
   status_is : (r : ℕ) → new.status r ≡ with_status ledger.status q Status.pending r
   status_is r = ap (λ (f : ℕ → Status). f r) makes.status
 

@@ -3,22 +3,15 @@ use Rattle.std.proofs.Common.{◌≡◌, ◌≢◌, ℕ, zero, suc, ◌<◌, Lis
 use Rattle.std.specs.Prelude.{cond, ◌↔◌, ◌⊎◌}
 use Rattle.std.proofs.lemmas.Bool.{cases_eq, eq-eqb}
 use Rattle.list_facts.proofs.Tests.{cond-cond}
+use Rattle.std.proofs.Math.Nat.{pos_of_div-pos}
+use Rattle.entry_ref.specs.References.{buffer_limit}
 use Rattle.image_base.specs.Records.{Records, Among}
 use Rattle.mem_work.specs.OneRecord.{one_reaches}
 use Rattle.store_api.specs.Statuses.{Status, in_use, is_let_go, after_drop, after_commit, with_status}
 use Rattle.store_api.specs.Ledgers.{Ledger, Makes, IsNew, dropped_from, is_fresh}
 use Rattle.tree_make.proofs.DropLemmas.{drop_ends}
 use Rattle.bench_work.specs.Units.{UsesOnly, DropsRoot}
-use Rattle.bench_work.proofs.MadeLemmas.{open_unused}
-
-pub commit_uses : (status : Status) → in_use (after_commit status) ≡ in_use status
-commit_uses Status.unmade = refl
-commit_uses Status.free = refl
-commit_uses Status.pending = refl
-commit_uses Status.live = refl
-commit_uses Status.dropped = refl
-commit_uses Status.let_go = refl
-commit_uses Status.spent = refl
+use Rattle.tree_make.proofs.MakesLemmas.{open_unused}
 
 pub drops-root : {H : Type 0} (old : Ledger H) (root width : ℕ) → 0 < root → in_use (old.status root) ≡ true
     → DropsRoot old (dropped_from old root width) root
@@ -39,13 +32,13 @@ drops-root old root width positive used =
     dropped = ap (λ b. in_use (cond b after (old.status root))) (eq-eqb root root refl) ∙ drop_ends (old.status root) (old.back root) used
 
 -- the new root alone is in use
-module _ {H : Type 0} (old made : Ledger H) (m n : Records) (width root next : ℕ) (words : List ℕ)
-    (before : UsesOnly old root) (makes : Makes old made m n width words next) where
+module _ {H : Type 0} (bits : ℕ) (old made : Ledger H) (m n : Records) (width root next : ℕ) (words : List ℕ)
+    (before : UsesOnly old root) (makes : Makes bits old made m n width words next) where
   next_unused : in_use (old.status next) ≡ false
   next_unused = open_unused (old.status next) makes.was
 
   next_some : 0 < next
-  next_some = let first = makes.place.first in omega arith
+  next_some = pos_of_div-pos (buffer_limit bits) makes.place.first
 
   apart : next ≢ root
   apart e = true≢false (sym ((before next).1 (e, next_some)) ∙ next_unused)
@@ -62,10 +55,10 @@ module _ {H : Type 0} (old made : Ledger H) (m n : Records) (width root next : �
       let used = (before root).1 (refl, some) in
       ap in_use (made_other root (λ e. true≢false (sym used ∙ ap (λ q. in_use (old.status q)) e ∙ next_unused))) ∙ used
 
-module _ {H : Type 0} (old made dropped : Ledger H) (m n : Records) (width root next : ℕ) (words : List ℕ)
-    (before : UsesOnly old root) (makes : Makes old made m n width words next) (drops : DropsRoot made dropped root) where
+module _ {H : Type 0} (bits : ℕ) (old made dropped : Ledger H) (m n : Records) (width root next : ℕ) (words : List ℕ)
+    (before : UsesOnly old root) (makes : Makes bits old made m n width words next) (drops : DropsRoot made dropped root) where
   was : (r : ℕ) → r ≢ next → (r ≢ root) ⊎ (root ≡ 0) → in_use (dropped.status r) ≡ in_use (old.status r)
-  was r ne side = ap in_use (drops.others r side) ∙ ap in_use ((made_other old made m n width root next words before makes r ne))
+  was r ne side = ap in_use (drops.others r side) ∙ ap in_use ((made_other bits old made m n width root next words before makes r ne))
 
   not_root : (r : ℕ) → r ≢ next → in_use (dropped.status r) ≡ true → (r ≢ root) ⊎ (root ≡ 0) → ⊥
   not_root r ne used (inl other) = other ((before r).0 (sym (was r ne (inl other)) ∙ used)).0
@@ -73,7 +66,7 @@ module _ {H : Type 0} (old made dropped : Ledger H) (m n : Records) (width root 
 
   to : (r : ℕ) → in_use (dropped.status r) ≡ true → (r ≡ next) × (0 < r)
   to r used = elim (cases_eq r next) [
-    | inl e ↦ (e, subst (λ q. 0 < q) (sym e) (next_some old made m n width root next words before makes))
+    | inl e ↦ (e, subst (λ q. 0 < q) (sym e) (next_some bits old made m n width root next words before makes))
     | inr ne ↦ absurd (elim (cases_eq root 0) [
       | inl none ↦ not_root r ne used (inr none)
       | inr some ↦ elim (cases_eq r root) [
@@ -84,10 +77,10 @@ module _ {H : Type 0} (old made dropped : Ledger H) (m n : Records) (width root 
   ]
 
   apart_sides : (next ≢ root) ⊎ (root ≡ 0)
-  apart_sides = elim (cases_eq root 0) [ inl none ↦ inr none | inr some ↦ inl (λ e. (apart old made m n width root next words before makes) e) ]
+  apart_sides = elim (cases_eq root 0) [ inl none ↦ inr none | inr some ↦ inl (λ e. (apart bits old made m n width root next words before makes) e) ]
 
   from : (r : ℕ) → (r ≡ next) × (0 < r) → in_use (dropped.status r) ≡ true
-  from r h = ap (λ q. in_use (dropped.status q)) h.0 ∙ ap in_use (drops.others next apart_sides) ∙ ap in_use (made_same old made m n width root next words before makes)
+  from r h = ap (λ q. in_use (dropped.status q)) h.0 ∙ ap in_use (drops.others next apart_sides) ∙ ap in_use (made_same bits old made m n width root next words before makes)
 
   pub uses_next : UsesOnly dropped next
   uses_next r = (to r, from r)

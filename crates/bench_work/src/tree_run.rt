@@ -4,7 +4,8 @@ ghost use Rattle.store_api.specs.Ledgers.{IsNew};
 
 use frozen_api::Frozen;
 use entry_ref::EntryRef;
-use frozen_btree::{Cursor, NumberTree, TreeLayout};
+use frozen_btree::Cursor;
+use number_tree::{NumberTree, TreeLayout};
 use store_api::{Store, StoreError};
 
 /// The order in which keys come.
@@ -18,7 +19,7 @@ pub enum Order {
 impl Order {
     ghost use Rattle.bench_work.specs.declared.tree_run.Order.TheVariants.{Ascending, Descending};
 
-    /// Key `i` of so many, each another.
+    /// Key `i` of `keys` different ones.
     pub fn key_at(self, i: u64, keys: u64) -> u64
         ensures ascending { self ≡ Ascending → result ≡ i }
         ensures descending { self ≡ Descending → i < keys → result + i + 1 ≡ keys }
@@ -57,7 +58,7 @@ fn fill<const OFFSET_BITS: u32, S: Store<OFFSET_BITS, Layout = TreeLayout>>(
     ensures { OnOk result (length tree.new.pairs ≤ length tree.old.pairs + load.now.keys) }
 {
     for i in 0..load.keys {
-        tree.insert(load.order.key_at(i, load.keys), i)?;
+        tree.put(load.order.key_at(i, load.keys), i)?;
     }
     Ok(())
 }

@@ -59,7 +59,7 @@ returns-clause-parts g c =
     let split : IsSplit slots.level slots.keys.items slots.values.items left.level left.keys.items left.values.items rest.level rest.keys.items rest.values.items =
     record { first_level = e.level_left; first_keys = e.keys_left; first_values = e.values_left; second_level = e.level; second_keys = e.keys; second_values = e.values } in
     let fits = c.requires.fits in
-    let more = c.if-len-le16.false in
+    let more = c.if-len-le-MOST_SLOTS.false in
     let size : c.len.result ≡ length slots.keys.items = c.len.ensures.value in
     let full : length slots.keys.items ≡ 17 = omega arith in
     two_made m slots.level slots.keys.items slots.values.items left.level left.keys.items left.values.items rest.level rest.keys.items rest.values.items split c.requires.hand

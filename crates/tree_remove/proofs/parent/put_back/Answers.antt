@@ -9,8 +9,8 @@ use Rattle.tree_remove.specs.Removes.{IsChild, PutsBack, spliced}
 use Rattle.tree_remove.specs.Settles.{Settles}
 use Rattle.tree_remove.proofs.parent.put_back.Goals as goal
 
-pub returns-then-len-ge8-clause-puts : goal.returns-then-len-ge8-clause-puts
-returns-then-len-ge8-clause-puts g c =
+pub returns-then-len-ge-LEAST_SLOTS-clause-puts : goal.returns-then-len-ge-LEAST_SLOTS-clause-puts
+returns-then-len-ge-LEAST_SLOTS-clause-puts g c =
     let ledger = g.S.Store.ledger in
     let records = g.S.Frozen.records in
     let m = records c.args.store.now in

@@ -1,6 +1,6 @@
 use Rattle.std.proofs.Common.{◌∙◌}
-use Rattle.tens_key.proofs.TensLemmas.{used-next}
-use Rattle.tens_key.proofs.put.put_word.Goals as goal
+use Rattle.test_trees.proofs.TensLemmas.{used-next}
+use Rattle.test_trees.proofs.tens.put_word.Goals as goal
 
 pub returns : goal.returns
 returns g c = record {

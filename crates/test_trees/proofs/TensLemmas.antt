@@ -6,7 +6,7 @@ use Rattle.tree_images.specs.Trees.{tree_nodes}
 use Rattle.store_api.specs.Statuses.{in_use}
 use Rattle.store_api.specs.Ledgers.{Ledger}
 use Rattle.std.specs.List.Sorted.{IsStrictlySortedBy}
-use Rattle.tens_key.specs.Tens.{HoldsTens}
+use Rattle.test_trees.specs.Tens.{HoldsTens}
 use Rattle.tree_make.specs.Changes.{Replaces}
 use Rattle.number_tree.proofs.HoldLemmas.{all_among}
 
