@@ -49,15 +49,19 @@ pub add_buffer-requires : goal.add_buffer-requires
 add_buffer-requires g c =
     let s = c.args.self.now in
     let low = c.in-Some.ensures.lowest in
-    let ready : entries_of g.row.OFFSET_BITS c.reserve.new.self ≡ record (entries_of g.row.OFFSET_BITS s.entries) { ready = c.args.width } = search rules in
-    (omega arith, (
-      search rules, (
-        ap (λ (e : EntriesView). e.width c.in-Some.buffer) ready ∙ s.stands.width c.in-Some.buffer low.below ∙ free-width _ low.free, (
-          search rules,
-          (search rules, ap (λ (e : EntriesView). e.spare c.args.width) ready ∙ c.requires.spare),
+    let ready : entries_of g.row.OFFSET_BITS c.reserve.new.self ≡ record (entries_of g.row.OFFSET_BITS s.entries) { ready = c.args.width } = search rules in (
+      omega arith,
+      (
+        search rules,
+        (
+          ap (λ (e : EntriesView). e.width c.in-Some.buffer) ready ∙ s.stands.width c.in-Some.buffer low.below ∙ free-width _ low.free,
+          (
+            search rules,
+            (search rules, ap (λ (e : EntriesView). e.spare c.args.width) ready ∙ c.requires.spare),
+          ),
         ),
       ),
-    ))
+    )
 
 pub returns-clause-opens : goal.returns-clause-opens
 returns-clause-opens g c =
