@@ -11,7 +11,8 @@ use Rattle.image_base.specs.declared.Image.{Image}
 use Rattle.image_base.specs.Images.{words_at, image_of}
 use Rattle.arena_api.specs.Works.{WorkView, Commits}
 use Rattle.arena_api.specs.Calls.{AddsCommit, InNoCommit, next_image, published}
-use Rattle.mem_work.specs.Reached.{image-same, same-from, there-among, words-among}
+use Rattle.arena_api.proofs.Reached.{image-same}
+use Rattle.image_base.proofs.Pairs.{same-from, there-among, words-among}
 use Rattle.store_api.specs.Statuses.{Status, in_use, has_record, is_committed, is_uncommitted, is_let_go, after_commit}
 use Rattle.store_api.specs.Ledgers.{committed}
 use Rattle.entry_states.specs.Entries.{EntriesView}

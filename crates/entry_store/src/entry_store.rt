@@ -14,10 +14,10 @@ ghost use Rattle.image_base.specs.Before.{those_before};
 
 use crate::words::words_of_record;
 use arena_api::Work;
-use frozen_api::Frozen;
 use entry_ref::EntryRef;
 use entry_shelf::State;
 use entry_states::Entries;
+use frozen_api::Frozen;
 use std::alloc::{AllocError, Global};
 use std::collections::BTreeMap;
 use store_api::{Store, StoreError};
@@ -201,7 +201,8 @@ impl<const OFFSET_BITS: u32, W: Work<OFFSET_BITS>> EntryStore<OFFSET_BITS, W> {
     }
 }
 
-impl<const OFFSET_BITS: u32, W: Work<OFFSET_BITS>> Frozen<OFFSET_BITS> for EntryStore<OFFSET_BITS, W> {
+impl<const OFFSET_BITS: u32, W: Work<OFFSET_BITS>> Frozen<OFFSET_BITS>
+    for EntryStore<OFFSET_BITS, W> {
     ghost use Rattle.entry_store.specs.ProofsForStore.{store_references};
 
     ghost shape = { λ s. W.shape s.work };
@@ -220,7 +221,8 @@ impl<const OFFSET_BITS: u32, W: Work<OFFSET_BITS>> Frozen<OFFSET_BITS> for Entry
         s.unit s.last s.active s.stands (W.references s.work) };
 }
 
-impl<const OFFSET_BITS: u32, W: Work<OFFSET_BITS>> Store<OFFSET_BITS> for EntryStore<OFFSET_BITS, W> {
+impl<const OFFSET_BITS: u32, W: Work<OFFSET_BITS>> Store<OFFSET_BITS>
+    for EntryStore<OFFSET_BITS, W> {
     ghost use Rattle.std.specs.Prelude.{refl};
     ghost use Rattle.entry_store.specs.ProofsForStore.{store_recorded, store_placed, store_filled, store_spares, store_last, store_settled};
     ghost use Rattle.entry_store.specs.ProofsForStore.{store_few_buffers, store_few_records, store_few_nodes};

@@ -1,7 +1,7 @@
 ghost use Rattle.std.specs.Prelude.{◌≡◌, length, IfOk};
 
-use frozen_api::Frozen;
 use entry_ref::EntryRef;
+use frozen_api::Frozen;
 use std::alloc::{AllocError, Global};
 
 /// The words of a record of this width.

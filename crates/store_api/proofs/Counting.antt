@@ -3,13 +3,12 @@ use Rattle.std.proofs.Common.{◌≡◌, ℕ, suc, ◌+◌, ◌-◌, ◌*◌, �
 use Rattle.std.specs.List.{IsDistinct, AllByRecursion, list_any}
 use Rattle.std.proofs.Math.Nat.{mul-le-mul_right, mul-le-mul_left, mul_comm, mul_assoc}
 use Rattle.std.proofs.lemmas.List.{length-map}
-use Rattle.std.proofs.lemmas.Nat.{div-add-mod'}
+use Rattle.std.proofs.lemmas.Nat.{div-add-mod', same_from_place}
 use Rattle.std.proofs.lemmas.Bool.{cases_lt, or_cases, eqb-true, eqb-false, ne_eqb}
 use Rattle.std.proofs.lemmas.Map.Steps.{length-le_from_distinct_below}
 use Rattle.entry_ref.specs.References.{buffer_of, offset_of}
 use Rattle.entry_ref.proofs.Bits.{same-ref}
 use Rattle.image_base.specs.Places.{IsEntry}
-use Rattle.image_base.proofs.Apart.{apart}
 use Rattle.store_api.specs.Ledgers.{capacity}
 
 -- the number of an entry among those of its width in all buffers
@@ -37,7 +36,7 @@ module _ (bits buffers words width : ℕ) where
 
   number-apart : (r q : ℕ) → IsEntry bits buffers words width r → IsEntry bits buffers words width q → number_of bits words width r ≡ number_of bits words width q → r ≡ q
   number-apart r q e f same =
-      let both = apart (capacity words width) (buffer_of bits r) (buffer_of bits q) (offset_of bits r - 1) (offset_of bits q - 1) (offset-below r e) (offset-below q f) same in
+      let both = same_from_place (buffer_of bits r) (offset_of bits r - 1) (buffer_of bits q) (offset_of bits q - 1) (capacity words width) (offset-below r e) (offset-below q f) same in
       let offsets : offset_of bits r ≡ offset_of bits q = (let a = e.first in let b = f.first in omega (arith, both.1)) in
       same-ref bits r q offsets both.0
 

@@ -39,14 +39,19 @@ add_record-requires g c =
     let limits = g.met.W.Work.limits s.work in
     let small : c.args.buffer < buffer_limit bits = omega (arith, limits.few_buffers, c.requires.inside) in
     let named : buffer_of bits c.new.result ≡ c.args.buffer = ap (buffer_of bits) c.new.ensures ∙ packed-buffer bits c.loop-offset.offset c.args.buffer small in
-    let offset : offset_of bits c.new.result ≡ c.loop-offset.offset = ap (offset_of bits) c.new.ensures ∙ packed-offset bits c.loop-offset.offset c.args.buffer small in
-    (search rules, (search rules, (
-      subst (λ (t : EntryStore bits g.row.W.Denot g.row.W-Layout.Denot g.row.W-Home.Denot g.W.Work g.W.Frozen g.W.Layout.Layout).
-      buffer_of bits c.new.result < (g.W.Work.knows t.work).sizes.buffers) (sym c.loop-offset.invariant.same) (subst (λ b. b < (g.W.Work.knows s.work).sizes.buffers) (sym named) c.requires.inside),
+    let offset : offset_of bits c.new.result ≡ c.loop-offset.offset = ap (offset_of bits) c.new.ensures ∙ packed-offset bits c.loop-offset.offset c.args.buffer small in (
+      search rules,
       (
-        subst (λ (t : EntryStore bits g.row.W.Denot g.row.W-Layout.Denot g.row.W-Home.Denot g.W.Work g.W.Frozen g.W.Layout.Layout).
-        (entries_of bits t.entries).width (buffer_of bits c.new.result) ≡ c.width-width.result) (sym c.loop-offset.invariant.same) (ap (entries_of bits s.entries).width named ∙ sym c.width-width.ensures),
-        c.loop-offset.invariant.seen c.new.result
-        ∙ here-not_yet bits (records_of_statuses (λ r. status_of s.last ((entries_of bits s.entries).state r)) (g.W.Frozen.records s.work)) c.args.buffer c.loop-offset.offset c.new.result named offset,
+        search rules,
+        (
+          subst (λ (t : EntryStore bits g.row.W.Denot g.row.W-Layout.Denot g.row.W-Home.Denot g.W.Work g.W.Frozen g.W.Layout.Layout).
+              buffer_of bits c.new.result < (g.W.Work.knows t.work).sizes.buffers) (sym c.loop-offset.invariant.same) (subst (λ b. b < (g.W.Work.knows s.work).sizes.buffers) (sym named) c.requires.inside),
+          (
+            subst (λ (t : EntryStore bits g.row.W.Denot g.row.W-Layout.Denot g.row.W-Home.Denot g.W.Work g.W.Frozen g.W.Layout.Layout).
+                (entries_of bits t.entries).width (buffer_of bits c.new.result) ≡ c.width-width.result) (sym c.loop-offset.invariant.same) (ap (entries_of bits s.entries).width named ∙ sym c.width-width.ensures),
+            c.loop-offset.invariant.seen c.new.result
+                ∙ here-not_yet bits (records_of_statuses (λ r. status_of s.last ((entries_of bits s.entries).state r)) (g.W.Frozen.records s.work)) c.args.buffer c.loop-offset.offset c.new.result named offset,
+          ),
+        ),
       ),
-    )))
+    )

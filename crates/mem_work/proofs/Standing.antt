@@ -1,29 +1,15 @@
 -- Entries stand apart: a store of one word leaves the words of all others.
-use Rattle.std.proofs.Common.{Option, Some, None, ◌≡◌, ◌≢◌, ℕ, suc, ◌+◌, ◌-◌, ◌*◌, ◌<◌, ◌≤◌, ◌⊎◌, inl, inr, Bool, true, false, cond, ◌&&◌, eqb, ltb, List, [], length, get_or, set, take, drop, refl, sym, ap, subst, ◌∙◌, arith, length-take, length-drop, get_or-set_other, get_or-set_same}
+use Rattle.std.proofs.Common.{Option, Some, None, ◌≡◌, ◌≢◌, ℕ, suc, ◌+◌, ◌-◌, ◌*◌, ◌<◌, ◌≤◌, ◌⊎◌, inl, inr, Bool, true, false, cond, ◌&&◌, eqb, ltb, List, [], length, get_or, set, take, drop, refl, sym, ap, subst, ◌∙◌, arith, length-take, length-drop, get_or-set_other, get_or-set_same, ◌∷◌}
 use Rattle.std.proofs.lemmas.List.{get_or-take, get_or-drop, drop-set-lt, drop-set-add, take-set-le}
 use Rattle.std.specs.List.{list_all}
 use Rattle.std.proofs.Math.Nat.{mul-le-mul_right}
-use Rattle.std.proofs.lemmas.Bool.{cases_lt, cases_eq, eq-eqb, ne_eqb, ltb-true, lt-ltb, cond-true, cond-false, and_from, and_left, and_right}
-use Rattle.std.proofs.lemmas.Bool.Decides.{nat_tests}
+use Rattle.std.proofs.lemmas.Bool.{cases_lt, cases_eq, eq-eqb, ne_eqb, ltb-true, lt-ltb, cond-true, cond-false, and_from, and_left, and_right, eqb-true, and_parts}
 use Rattle.entry_ref.specs.References.{buffer_of}
 use Rattle.image_base.specs.Places.{IsEntry}
 use Rattle.image_base.proofs.Apart.{one_place, place-base, within}
-use Rattle.mem_work.specs.Cells.{width_in, begin_of, is_entry, standing, is_whole, stored_in}
+use Rattle.mem_work.specs.Cells.{width_in, begin_of, names_entry, standing, is_whole, stored_in}
 use Rattle.arena_api.specs.Calls.{with_stored}
-
-pub is_entry-true : (bits buffers words width r : ℕ) → is_entry bits buffers words width r ≡ true → IsEntry bits buffers words width r
-unfolding is_entry
-is_entry-true bits buffers words width r e =
-    record { inside = grind (arith, nat_tests); wide = grind (arith, nat_tests); first = grind (arith, nat_tests); last = grind (arith, nat_tests) }
-
-pub is_entry-from : (bits buffers words width r : ℕ) → IsEntry bits buffers words width r → is_entry bits buffers words width r ≡ true
-unfolding is_entry
-is_entry-from bits buffers words width r e =
-    let inside = e.inside in
-    let wide = e.wide in
-    let first = e.first in
-    let last = e.last in
-    grind (arith, nat_tests)
+use Rattle.mem_work.specs.ProofsForMemory.{names_entry-true, names_entry-from}
 
 -- a range without the place that is written stays
 pub range-set_other : (ws : List ℕ) (p q w v : ℕ) → (p < q) ⊎ (q + w ≤ p) → take w (drop q (set ws p v)) ≡ take w (drop q ws)
@@ -53,11 +39,6 @@ cell-below bits buffers words width r i e h =
     let more : suc (buffer_of bits r) * words ≤ buffers * words = mul-le-mul_right words e.inside in
     omega arith
 
--- what a choice with nothing has comes from its first part
-cond-some : (t : Bool) (xs : List ℕ) (i : ℕ) → i < length (cond t xs []) → (t ≡ true) × (i < length xs)
-cond-some true xs i h = (refl, h)
-cond-some false xs i h = absurd (omega arith)
-
 pub cond-same : {A : Type 0} (t : Bool) (x y z : A) → (t ≡ true → x ≡ y) → cond t x z ≡ cond t y z
 cond-same true x y z same = same refl
 cond-same false x y z same = refl
@@ -71,42 +52,15 @@ cond-and true true c d x y z same = let both = same refl refl in ap (λ t. cond 
 cond-and true false c d x y z same = refl
 cond-and false b c d x y z same = refl
 
--- where a word stands there is an entry, wider than its index
-pub standing-entry : (table : List ℕ) (bits buffers words r i : ℕ) → i < length (standing table bits buffers words r)
-    → IsEntry bits buffers words (width_in table words (buffer_of bits r)) r × (i < width_in table words (buffer_of bits r))
-unfolding standing
-standing-entry table bits buffers words r i h =
-    let part = cond-some _ _ i h in
-    (is_entry-true _ _ _ _ _ part.0, omega (arith, simp length-take at part.1))
-
--- each entry stands with all its words
-pub length-standing : (table : List ℕ) (bits buffers words r : ℕ) → length table ≡ buffers * words → IsEntry bits buffers words (width_in table words (buffer_of bits r)) r
-    → length (standing table bits buffers words r) ≡ width_in table words (buffer_of bits r)
-unfolding standing
-length-standing table bits buffers words r room e =
-    let width = width_in table words (buffer_of bits r) in
-    let more : suc (buffer_of bits r) * words ≤ buffers * words = mul-le-mul_right words e.inside in
-    let last = e.last in
-    ap (λ t. length (cond t (take width (drop (begin_of bits words width r) table)) [])) (is_entry-from bits buffers words width r e)
-    ∙ simp (length-take, length-drop) (omega arith)
-
-pub word-standing : (table : List ℕ) (bits buffers words r i : ℕ) → IsEntry bits buffers words (width_in table words (buffer_of bits r)) r → i < width_in table words (buffer_of bits r)
-    → get_or (standing table bits buffers words r) i 0 ≡ get_or table (begin_of bits words (width_in table words (buffer_of bits r)) r + i) 0
-unfolding standing
-word-standing table bits buffers words r i e h =
-    let width = width_in table words (buffer_of bits r) in
-    ap (λ t. get_or (cond t (take width (drop (begin_of bits words width r) table)) []) i 0) (is_entry-from bits buffers words width r e)
-    ∙ get_or-take _ _ i 0 h ∙ get_or-drop _ table i 0
-
 -- one word of an entry is stored
 module _ (table : List ℕ) (bits buffers words r i : ℕ) (e : IsEntry bits buffers words (width_in table words (buffer_of bits r)) r) (h : i < width_in table words (buffer_of bits r)) where
   -- no other entry has its place
-  range_other : (ts : List ℕ) (q x : ℕ) → q ≢ r → is_entry bits buffers words (width_in table words (buffer_of bits q)) q ≡ true
+  range_other : (ts : List ℕ) (q x : ℕ) → q ≢ r → names_entry bits buffers words (width_in table words (buffer_of bits q)) q ≡ true
       → take (width_in table words (buffer_of bits q)) (drop (begin_of bits words (width_in table words (buffer_of bits q)) q) (set ts (begin_of bits words (width_in table words (buffer_of bits r)) r + i) x))
       ≡ take (width_in table words (buffer_of bits q)) (drop (begin_of bits words (width_in table words (buffer_of bits q)) q) ts)
   range_other ts q x ne there =
       range-set_other ts _ _ _ x (lacks _ _ _ (λ j k same.
-      ne (sym (one_cell bits buffers words _ _ r q i j e (is_entry-true _ _ _ _ q there) (λ b. ap (width_in table words) b) h k same).0)))
+      ne (sym (one_cell bits buffers words _ _ r q i j e (names_entry-true _ _ _ _ q there) (λ b. ap (width_in table words) b) h k same).0)))
 
   -- the widths stay
   pub width-store : (v b : ℕ) → width_in (set table (begin_of bits words (width_in table words (buffer_of bits r)) r + i) v) words b ≡ width_in table words b
@@ -116,7 +70,7 @@ module _ (table : List ℕ) (bits buffers words r i : ℕ) (e : IsEntry bits buf
   pub standing-other : (v q : ℕ) → q ≢ r → standing (set table (begin_of bits words (width_in table words (buffer_of bits r)) r + i) v) bits buffers words q ≡ standing table bits buffers words q
   unfolding standing
   standing-other v q ne =
-      ap (λ w. cond (is_entry bits buffers words w q) (take w (drop (begin_of bits words w q) (set table (begin_of bits words (width_in table words (buffer_of bits r)) r + i) v))) []) (width-store v (buffer_of bits q))
+      ap (λ w. cond (names_entry bits buffers words w q) (take w (drop (begin_of bits words w q) (set table (begin_of bits words (width_in table words (buffer_of bits r)) r + i) v))) []) (width-store v (buffer_of bits q))
       ∙ cond-same _ _ _ [] (range_other table q v ne)
 
   -- and whether that was stored whole
@@ -125,7 +79,7 @@ module _ (table : List ℕ) (bits buffers words r i : ℕ) (e : IsEntry bits buf
       ≡ is_whole table stamps bits buffers words n q
   unfolding is_whole
   whole-other stamps v n q ne =
-      ap (λ w. is_entry bits buffers words w q && list_all (λ k. eqb k n) (take w (drop (begin_of bits words w q) (set stamps (begin_of bits words (width_in table words (buffer_of bits r)) r + i) n)))) (width-store v (buffer_of bits q))
+      ap (λ w. names_entry bits buffers words w q && list_all (λ k. eqb k n) (take w (drop (begin_of bits words w q) (set stamps (begin_of bits words (width_in table words (buffer_of bits r)) r + i) n)))) (width-store v (buffer_of bits q))
       ∙ and-same _ _ _ (λ there. ap (list_all (λ k. eqb k n)) (range_other stamps q n ne there))
 
   -- what was stored is one word more
@@ -147,19 +101,19 @@ module _ (table : List ℕ) (bits buffers words r i : ℕ) (e : IsEntry bits buf
       here : ℕ → ℕ → Option ℕ
       here k l =
           let w = width_in table words (buffer_of bits k) in
-          cond (is_entry bits buffers words w k && (ltb l w && eqb (get_or (set stamps (begin_of bits words (width_in table words (buffer_of bits r)) r + i) n) (begin_of bits words w k + l) 0) n))
+          cond (names_entry bits buffers words w k && (ltb l w && eqb (get_or (set stamps (begin_of bits words (width_in table words (buffer_of bits r)) r + i) n) (begin_of bits words w k + l) 0) n))
           (Some (get_or (set table (begin_of bits words (width_in table words (buffer_of bits r)) r + i) v) (begin_of bits words w k + l) 0)) None
 
       moved : stored_in (set table (begin_of bits words (width_in table words (buffer_of bits r)) r + i) v) (set stamps (begin_of bits words (width_in table words (buffer_of bits r)) r + i) n) bits buffers words n q j ≡ here q j
       moved =
-          ap (λ w. cond (is_entry bits buffers words w q && (ltb j w && eqb (get_or (set stamps (begin_of bits words (width_in table words (buffer_of bits r)) r + i) n) (begin_of bits words w q + j) 0) n))
+          ap (λ w. cond (names_entry bits buffers words w q && (ltb j w && eqb (get_or (set stamps (begin_of bits words (width_in table words (buffer_of bits r)) r + i) n) (begin_of bits words w q + j) 0) n))
           (Some (get_or (set table (begin_of bits words (width_in table words (buffer_of bits r)) r + i) v) (begin_of bits words w q + j) 0)) None) (width-store v (buffer_of bits q))
 
       apart_from : ((q ≡ r) × (j ≡ i) → ⊥) → here q j ≡ before q j
       apart_from ne =
           cond-and _ _ _ _ _ _ _ (λ there below.
           let other : begin_of bits words (width_in table words (buffer_of bits q)) q + j ≢ begin_of bits words (width_in table words (buffer_of bits r)) r + i =
-          (λ same. ne (one_cell bits buffers words _ _ q r j i (is_entry-true _ _ _ _ q there) e (λ b. ap (width_in table words) b) (ltb-true _ _ below) h same)) in
+          (λ same. ne (one_cell bits buffers words _ _ q r j i (names_entry-true _ _ _ _ q there) e (λ b. ap (width_in table words) b) (ltb-true _ _ below) h same)) in
           (ap (λ m. eqb m n) (get_or-set_other stamps _ _ n 0 other), ap Some (get_or-set_other table _ _ v 0 other)))
 
       below : begin_of bits words (width_in table words (buffer_of bits r)) r + i < buffers * words
@@ -167,7 +121,25 @@ module _ (table : List ℕ) (bits buffers words r i : ℕ) (e : IsEntry bits buf
 
       at_place : here r i ≡ with_stored before r i v r i
       at_place =
-          cond-true _ _ _ (and_from _ _ (is_entry-from bits buffers words (width_in table words (buffer_of bits r)) r e)
+          cond-true _ _ _ (and_from _ _ (names_entry-from bits buffers words (width_in table words (buffer_of bits r)) r e)
           (and_from _ _ (lt-ltb _ _ h) (ap (λ m. eqb m n) (get_or-set_same stamps _ n 0 (omega (arith, below, also))) ∙ eq-eqb n n refl)))
           ∙ ap Some (get_or-set_same table _ v 0 (omega (arith, below, room)))
           ∙ sym (cond-true _ _ _ (and_from _ _ (eq-eqb r r refl) (eq-eqb i i refl)))
+
+first_from : (xs : List ℕ) (n : ℕ) → 0 < length xs → list_all (λ k. eqb k n) xs ≡ true → get_or xs 0 0 ≡ n
+first_from [] n some all = absurd (omega arith)
+first_from (x ∷ xs) n some all = eqb-true x n (and_parts _ _ all).0
+
+-- what was stored whole has its first word's number
+pub whole-first : (table stamps : List ℕ) (bits buffers words n r : ℕ) → length stamps ≡ buffers * words → is_whole table stamps bits buffers words n r ≡ true
+    → IsEntry bits buffers words (width_in table words (buffer_of bits r)) r × (get_or stamps (begin_of bits words (width_in table words (buffer_of bits r)) r + 0) 0 ≡ n)
+unfolding is_whole
+whole-first table stamps bits buffers words n r room is =
+    let width = width_in table words (buffer_of bits r) in
+    let parts = and_parts _ _ is in
+    let e = names_entry-true bits buffers words width r parts.0 in
+    let below = cell-below bits buffers words width r 0 e e.wide in
+    let wide = e.wide in
+    let some : 0 < length (take width (drop (begin_of bits words width r) stamps)) = simp (length-take, length-drop) (omega arith) in
+    let first = first_from _ n some parts.1 in
+    (e, sym (get_or-take width (drop (begin_of bits words width r) stamps) 0 0 wide ∙ get_or-drop _ stamps 0 0) ∙ first)
