@@ -1,38 +1,15 @@
 -- The hand-made images: what is lawful, and why each broken one is not.
-use Rattle.std.proofs.Common.{◌≡◌, ℕ, zero, suc, ◌+◌, ◌<◌, ◌≤◌, ℤ, negsuc, List, [], ◌∷◌, refl, sym, ap, arith, Less, pos, nat_abs, replicate, slice_index}
+use Rattle.std.proofs.Common.{◌≡◌, ℕ, zero, suc, ◌<◌, ◌≤◌, ℤ, negsuc, List, [], ◌∷◌, length, refl, ap, arith, pos, nat_abs, slice_index}
 use Rattle.std.proofs.lemmas.Str.{IsUtf8-from_ascii}
-use Rattle.std.specs.Cmp.{nat_cmp_is}
-use Rattle.std.specs.List.{range_with_len, AllByRecursion}
 use Rattle.std.specs.List.Sorted.{IsStrictlySortedBy}
-use Rattle.std.specs.Ordering.{nat_cmp}
 use borrow.Author.Tests.{ltb-true, leb-true}
 use Rattle.image_base.specs.Images.{words_at}
 use Rattle.tree_images.proofs.NodeLemmas.{node_formed}
-use Rattle.attr_images.specs.Examples.{two_leaves, one_text, TwoLeavesAreATree, OneTextIsLawful, OneTextReads, MissingRecord, WrongCount, UnlawfulTable, MissingValue, WrongWeight}
-use Rattle.tree_images.specs.Nodes.{IsNodeForm}
 use Rattle.tree_images.specs.Trees.{pairs_below, nodes_below, IsNode}
+use Rattle.attr_images.specs.Examples.{one_text, broken, OneTextIsLawful, OneTextReads, MissingRecord, WrongCount, UnlawfulTable, MissingValue, WrongWeight}
 use Rattle.attr_images.specs.Values.{IsValueRecord}
 use Rattle.attr_types.specs.declared.kind.ValueType.TheVariants as types
 use Rattle.attr_types.specs.declared.value.Value.TheVariants as values
-
-all_above : (a b n : ℕ) → a < b → AllByRecursion (λ y. nat_cmp a y ≡ Less) (range_with_len b n)
-all_above a b zero less = tt
-all_above a b (suc n) less = (sym (nat_cmp_is a b Less less), all_above a (b + 1) n (omega arith))
-
--- numbers one after another ascend
-range_ascends : (a n : ℕ) → IsStrictlySortedBy nat_cmp (range_with_len a n)
-unfolding IsStrictlySortedBy
-range_ascends a zero = tt
-range_ascends a (suc n) = (all_above a (a + 1) n (omega arith), range_ascends (a + 1) n)
-
-pub two_leaves_are_a_tree : TwoLeavesAreATree
-unfolding pairs_below IsNode
-two_leaves_are_a_tree =
-    let root = node_formed 1 17 (9 ∷ 17 ∷ []) (1026 ∷ 2050 ∷ []) refl (leb-true _ _ refl) (ltb-true _ _ refl) in
-    let first = node_formed 0 9 (range_with_len 1 9) (replicate 9 1) refl (leb-true _ _ refl) (ltb-true _ _ refl) in
-    let second = node_formed 0 8 (range_with_len 10 8) (replicate 8 1) refl (leb-true _ _ refl) (ltb-true _ _ refl) in
-    let more : IsNodeForm 0 8 (words_at two_leaves 1026) = record { size = first.size; at_level = first.at_level; filled = leb-true _ _ refl; room = first.room; no_key = first.no_key; no_value = first.no_value; few = first.few } in
-    (record { node = λ some. (root, refl, refl, ((more, refl), ((second, refl), tt))); ascends = range_ascends 1 17 }, refl)
 
 te_is_ascii : (i : ℕ) → slice_index (116 ∷ 101 ∷ []) i < 128
 te_is_ascii zero = ltb-true _ _ refl
@@ -48,8 +25,7 @@ one_text_is_lawful =
     let document = node_formed 0 1 (7 ∷ []) (3072 ∷ []) refl (leb-true _ _ refl) (ltb-true _ _ refl) in
     let entry = node_formed 0 1 (1024 ∷ []) (4096 ∷ []) refl (leb-true _ _ refl) (ltb-true _ _ refl) in
     record {
-      there = (ltb-true _ _ refl, (ltb-true _ _ refl, (ltb-true _ _ refl, (ltb-true _ _ refl, (ltb-true _ _ refl, (ltb-true _ _ refl, (ltb-true _ _ refl, tt)))))));
-      root_record = record { size = refl; few = leb-true _ _ refl; last = refl };
+      root_record = record { size = refl; few = ltb-true _ _ refl; last = refl };
       attribute = record {
         forms = record {
           documents_tree = record { node = λ some. (document, refl); ascends = (tt, tt) };
@@ -57,7 +33,7 @@ one_text_is_lawful =
           dictionary_tree = record { node = λ some. (entry, refl); ascends = (tt, tt) };
           entries = ((value_record, record { some = ltb-true _ _ refl; few = leb-true _ _ refl; words = refl }), tt);
         };
-        table = record { ascends = (tt, tt); documents = ((leb-true _ _ refl, leb-true _ _ refl), tt); items = ((leb-true _ _ refl, (tt, tt)), tt) };
+        column = record { ascends = (tt, tt); numbers = ((leb-true _ _ refl, leb-true _ _ refl), tt); items = ((leb-true _ _ refl, (tt, tt)), tt) };
         values = λ value. (λ h. h, λ h. h);
         lists = (refl, tt);
       };
@@ -68,8 +44,10 @@ unfolding pairs_below
 one_text_reads = refl
 
 pub missing_record : MissingRecord
-unfolding pairs_below nodes_below
-missing_record lawful = let none : 0 < 0 = lawful.there.1.1.1.0 in absurd (omega arith)
+unfolding pairs_below
+missing_record lawful =
+    let none : length (words_at (broken 1024 []) 1024) ≡ 2 = ap length lawful.attribute.forms.items.0.1.0.words in
+    absurd (omega arith)
 
 pub wrong_count : WrongCount
 unfolding pairs_below IsNode
@@ -77,7 +55,7 @@ wrong_count lawful = let two : ℕ = 2 in let count : two ≡ 1 = (lawful.attrib
 
 pub unlawful_table : UnlawfulTable
 unfolding pairs_below
-unlawful_table lawful = let first : 1 ≤ 0 = lawful.attribute.table.documents.0.0 in absurd (omega arith)
+unlawful_table lawful = let first : 1 ≤ 0 = lawful.attribute.column.numbers.0.0 in absurd (omega arith)
 
 pub missing_value : MissingValue
 unfolding pairs_below

@@ -3,9 +3,10 @@ use Rattle.std.specs.Prelude.{ℕ, zero, suc, ℤ, pos, List, [], ◌∷◌, map
 use Rattle.std.specs.List.{flat_map, AllByRecursion}
 use Rattle.image_base.specs.Records.{Records}
 use Rattle.tree_images.specs.Trees.{tree_pairs}
-use Rattle.attr_images.specs.Values.{value_at, IsValueRecord}
-use Rattle.attr_images.specs.Words.{items_of, unpacked, IsStoredList}
-use Rattle.attr_types.specs.Table.{Table}
+use Rattle.attr_images.specs.Values.{stored_value, IsValueRecord}
+use Rattle.attr_images.specs.Words.{stored_items, unpacked, IsStoredList}
+use Rattle.attr_images.specs.Columns.{Column}
+use Rattle.attr_types.specs.Change.{most_items}
 use Rattle.attr_types.specs.declared.items.Item.{Item}
 use Rattle.attr_types.specs.declared.kind.Kind.{Kind}
 use Rattle.attr_types.specs.declared.kind.Kind.TheVariants.{Single, Array, WeightedSet}
@@ -15,15 +16,15 @@ use Rattle.attr_types.specs.declared.kind.ValueType.{ValueType}
 abbrev pub weighted : Kind → ℕ → List ℕ → List (ℕ × ℤ)
 weighted kind zero ws = []
 weighted Single (suc ref) ws = (suc ref, pos 1) ∷ []
-weighted Array (suc ref) ws = map (λ value. (value, pos 1)) (items_of ws)
-weighted WeightedSet (suc ref) ws = map unpacked (items_of ws)
+weighted Array (suc ref) ws = map (λ value. (value, pos 1)) (stored_items ws)
+weighted WeightedSet (suc ref) ws = map unpacked (stored_items ws)
 
--- an array or a weighted set is a stored list of at most 1,023 items
+-- an array or a weighted set is a stored list
 abbrev pub IsItemsRecord : Kind → ℕ → List ℕ → Type 0
 IsItemsRecord kind zero ws = Unit {0}
 IsItemsRecord Single (suc ref) ws = Unit {0}
-IsItemsRecord Array (suc ref) ws = IsStoredList 1023 ws
-IsItemsRecord WeightedSet (suc ref) ws = IsStoredList 1023 ws
+IsItemsRecord Array (suc ref) ws = IsStoredList most_items ws
+IsItemsRecord WeightedSet (suc ref) ws = IsStoredList most_items ws
 
 -- what a document's reference reaches
 abbrev pub items_reach : Kind → ℕ → List ℕ → List ℕ
@@ -34,17 +35,17 @@ items_reach WeightedSet (suc ref) ws = suc ref ∷ map (λ e. e.0) (weighted Wei
 
 -- the items of a document
 abbrev pub items_at : Kind → ValueType → Records → ℕ → List Item
-items_at kind type m ref = map (λ e. record { value = value_at type m e.0; weight = e.1 }) (weighted kind ref (m ref))
+items_at kind type m ref = map (λ e. record { value = stored_value type m e.0; weight = e.1 }) (weighted kind ref (m ref))
 
 -- their records have their form
-abbrev pub AreItems : Kind → ValueType → Records → ℕ → Type 0
-AreItems kind type m ref =
+abbrev pub AreItemRecords : Kind → ValueType → Records → ℕ → Type 0
+AreItemRecords kind type m ref =
     IsItemsRecord kind ref (m ref) × AllByRecursion (λ e. IsValueRecord type (m e.0)) (weighted kind ref (m ref))
 
--- the table of a document tree
-abbrev pub documents_table : Kind → ValueType → Records → ℕ → Table
-documents_table kind type m root = map (λ p. (p.0, items_at kind type m p.1)) (tree_pairs m root)
+-- the column of a document tree: each document with its items
+abbrev pub column_at : Kind → ValueType → Records → ℕ → Column
+column_at kind type m root = map (λ p. (p.0, items_at kind type m p.1)) (tree_pairs m root)
 
--- what it reaches besides its nodes
+-- what the tree reaches besides its nodes
 abbrev pub documents_reach : Kind → Records → ℕ → List ℕ
 documents_reach kind m root = flat_map (λ p. items_reach kind p.1 (m p.1)) (tree_pairs m root)

@@ -1,24 +1,12 @@
--- Hand-made images: a tree of two leaves, a weighted set of texts, and one broken image for each part of what is lawful.
-use Rattle.std.specs.Prelude.{◌≡◌, ℕ, negsuc, List, [], ◌∷◌, ◌++◌, replicate}
-use Rattle.std.specs.List.{range_with_len, zip}
-use Rattle.std.specs.Ordering.{nat_cmp}
+-- Images made by hand: one of a weighted set of texts, and one broken image for each part of what is lawful.
+use Rattle.std.specs.Prelude.{◌≡◌, ℕ, negsuc, List, [], ◌∷◌}
 use Rattle.image_base.specs.Images.{words_at}
 use Rattle.image_base.specs.declared.Image.{Image}
-use Rattle.attr_images.specs.Images.{table_of, IsLawful}
 use Rattle.tree_images.specs.Nodes.{node_words}
-use Rattle.tree_images.specs.Trees.{tree_pairs, by_number, IsTree}
+use Rattle.attr_images.specs.Images.{table_of, IsLawfulImage}
 use Rattle.attr_types.specs.declared.kind.Kind.TheVariants.{WeightedSet}
 use Rattle.attr_types.specs.declared.kind.ValueType.TheVariants as types
 use Rattle.attr_types.specs.declared.value.Value.TheVariants as values
-
--- keys 1 to 17, each with value 1, in a leaf of 9 and a leaf of 8
-abbrev pub two_leaves : Image
-two_leaves = record {
-  root = 3074;
-  records = (3074, 258 ∷ 17 ∷ 9 ∷ 17 ∷ replicate 14 0 ++ 1026 ∷ 2050 ∷ replicate 14 0)
-      ∷ (1026, node_words 0 9 (range_with_len 1 9) (replicate 9 1))
-      ∷ (2050, node_words 0 8 (range_with_len 10 8) (replicate 8 1)) ∷ [];
-}
 
 -- document 7 has the text `te` with weight -3: one operation
 abbrev pub one_text : Image
@@ -37,18 +25,14 @@ abbrev pub broken : ℕ → List ℕ → Image
 broken ref ws = record { root = 1027; records = (ref, ws) ∷ one_text.records }
 
 abbrev pub IsLawfulText : Image → Type 0
-IsLawfulText image = IsLawful 6 (words_at image) image.root
-
-abbrev pub TwoLeavesAreATree : Type 0
-TwoLeavesAreATree = IsTree nat_cmp by_number (words_at two_leaves) two_leaves.root
-    × (tree_pairs (words_at two_leaves) two_leaves.root ≡ zip (range_with_len 1 17) (replicate 17 1))
+IsLawfulText image = IsLawfulImage 6 (words_at image) image.root
 
 abbrev pub OneTextIsLawful : Type 0
 OneTextIsLawful = IsLawfulText one_text
 
 abbrev pub OneTextReads : Type 0
 OneTextReads = table_of WeightedSet types.Text (words_at one_text) one_text.root
-    ≡ (7, record { value = values.Text (116 ∷ 101 ∷ []); weight = negsuc 2 } ∷ []) ∷ []
+    ≡ (7, (record { value = values.Text (116 ∷ 101 ∷ []); weight = negsuc 2 } ∷ []) ∷ []) ∷ []
 
 -- the value's record is missing
 abbrev pub MissingRecord : Type 0

@@ -1,8 +1,10 @@
 pub mod Words
 pub mod Values
+pub mod Columns
 pub mod Documents
 pub mod Postings
 pub mod Shapes
+pub mod Attributes
 pub mod Images
 pub mod ProofsForImages
 pub mod Laws

@@ -1,29 +1,30 @@
--- Proved: an image stays lawful, and reaches the same, where the records that it reaches are the same.
-use Rattle.std.proofs.Common.{◌≡◌, ℕ, zero, suc, ◌<◌, List, [], ◌∷◌, ◌++◌, length, map, refl, sym, ap, subst, ◌∙◌}
+-- Nobody has to read this: proofs, which stand here since the layout's laws cite them.
+-- A lawful image reaches records that are there; it stays lawful, and reaches the same, where these records stay.
+use Rattle.std.proofs.Common.{◌≡◌, ℕ, zero, suc, ◌<◌, ◌^◌, List, [], ◌∷◌, ◌++◌, length, length-append, map, refl, sym, ap, subst, ◌∙◌, arith}
 use Rattle.std.specs.Prelude.{ℤ, slice_index}
 use Rattle.std.specs.List.{flat_map, AllByRecursion}
 use Rattle.std.specs.Ordering.{nat_cmp}
+use Rattle.std.proofs.lemmas.List.Concat.{flat_map_single}
 use Rattle.image_base.specs.Records.{Records, SameAt, AllThere}
-use Rattle.attr_images.specs.Documents.{weighted, IsItemsRecord, items_reach, items_at, AreItems, documents_table, documents_reach}
-use Rattle.attr_images.specs.Images.{documents_at, dictionary_at, IsRootRecord, trees_reach, attr_reaches, HasValues, HasLists, IsLawfulAttribute, IsLawful}
-use Rattle.attr_images.specs.Postings.{ListForm, short, tree, form_of, list_at, IsList, list_reach, index_of, IsEntryOf, dictionary_reach}
-use Rattle.attr_images.specs.Shapes.{kind_of_shape, type_of_shape}
-use Rattle.tree_images.specs.ProofsForTrees.{SameAt-left, SameAt-right, flat_map-same, map-same, all-same, tree_pairs-same, tree_nodes-same, IsTree-same}
+use Rattle.tree_images.specs.ProofsForTrees.{SameAt-left, SameAt-right, flat_map-same, map-same, all-same, tree_pairs-same, tree_nodes-same, IsTree-same, there-both, tree_there}
 use Rattle.tree_images.specs.Trees.{tree_pairs, tree_nodes, by_number}
-use Rattle.attr_images.specs.Values.{value_of, value_at, IsValueRecord}
-use Rattle.attr_images.specs.Words.{items_of, unpacked, weight_of, IsStoredList}
-use Rattle.attr_types.specs.Lawful.{IsLawfulTable}
+use Rattle.attr_images.specs.Attributes.{trees_reach, AreFormed, IsLawfulAttribute}
+use Rattle.attr_images.specs.Columns.{IsLawfulColumn, HasValues, HasLists}
+use Rattle.attr_images.specs.Documents.{weighted, IsItemsRecord, items_reach, items_at, AreItemRecords, column_at, documents_reach}
+use Rattle.attr_images.specs.Images.{documents_at, dictionary_at, IsRootRecord, attr_reaches, IsLawfulImage}
+use Rattle.attr_images.specs.Postings.{ListForm, short, tree, list_form, postings_at, IsPostingList, postings_reach, index_of, IsDictionaryEntry, dictionary_reach}
+use Rattle.attr_images.specs.Shapes.{kind_of_shape, type_of_shape}
+use Rattle.attr_images.specs.Values.{value_of, stored_value, value_words, IsValueRecord}
+use Rattle.attr_images.specs.Words.{filled, stored_items, unpacked, weight_of, IsStoredList}
+use Rattle.attr_images.specs.declared.TheConstants.{MOST_SHORT}
+use Rattle.attr_types.specs.Change.{most_items}
 use Rattle.attr_types.specs.Value.{value_cmp}
 use Rattle.attr_types.specs.declared.items.Item.{Item}
 use Rattle.attr_types.specs.declared.kind.Kind.{Kind}
 use Rattle.attr_types.specs.declared.kind.Kind.TheVariants.{Single, Array, WeightedSet}
 use Rattle.attr_types.specs.declared.kind.ValueType.{ValueType}
 use Rattle.attr_types.specs.declared.value.Value.{Value}
-
--- each number reaches itself
-flat_map-self : {X : Type 0} (f : X → ℕ) (xs : List X) → flat_map (λ x. f x ∷ []) xs ≡ map f xs
-flat_map-self f [] = refl
-flat_map-self f (x ∷ xs) = ap (λ ys. f x ∷ ys) (flat_map-self f xs)
+use Rattle.attr_types.specs.declared.value.Value.TheVariants as values
 
 -- the references of a document's values are among those that it reaches
 weighted_reach : (kind : Kind) (m n : Records) (ref : ℕ) → SameAt (items_reach kind ref (m ref)) m n
@@ -51,49 +52,49 @@ IsItemsRecord-same : (kind : Kind) (m n : Records) (ref : ℕ) → SameAt (items
     → IsItemsRecord kind ref (m ref) → IsItemsRecord kind ref (n ref)
 IsItemsRecord-same kind m n zero h form = tt
 IsItemsRecord-same Single m n (suc ref) h form = tt
-IsItemsRecord-same Array m n (suc ref) h form = subst (IsStoredList 1023) (sym h.0) form
-IsItemsRecord-same WeightedSet m n (suc ref) h form = subst (IsStoredList 1023) (sym h.0) form
+IsItemsRecord-same Array m n (suc ref) h form = subst (IsStoredList most_items) (sym h.0) form
+IsItemsRecord-same WeightedSet m n (suc ref) h form = subst (IsStoredList most_items) (sym h.0) form
 
 module _ (kind : Kind) (type : ValueType) (m n : Records) where
   -- each value of a document reaches its own record
   values_reach : (ref : ℕ) → SameAt (items_reach kind ref (m ref)) m n → SameAt (flat_map (λ e. e.0 ∷ []) (weighted kind ref (m ref))) m n
-  values_reach ref h = subst (λ rs. SameAt rs m n) (sym (flat_map-self (λ e. e.0) (weighted kind ref (m ref)))) (weighted_reach kind m n ref h)
+  values_reach ref h = subst (λ rs. SameAt rs m n) (sym (flat_map_single (λ e. e.0) (weighted kind ref (m ref)))) (weighted_reach kind m n ref h)
 
   items_at-same : (ref : ℕ) → SameAt (items_reach kind ref (m ref)) m n → items_at kind type n ref ≡ items_at kind type m ref
   items_at-same ref h =
-      let f : ℕ × ℤ → Item = λ e. record { value = value_at type m e.0; weight = e.1 } in
-      let g : ℕ × ℤ → Item = λ e. record { value = value_at type n e.0; weight = e.1 } in
+      let f : ℕ × ℤ → Item = λ e. record { value = stored_value type m e.0; weight = e.1 } in
+      let g : ℕ × ℤ → Item = λ e. record { value = stored_value type n e.0; weight = e.1 } in
       let each : (e : ℕ × ℤ) → SameAt (e.0 ∷ []) m n → g e ≡ f e = λ e s. ap (λ ws. record { value = value_of type ws; weight = e.1 }) s.0 in
       ap (map g) (weighted-same kind m n ref h) ∙ map-same m n (λ (e : ℕ × ℤ). e.0 ∷ []) f g each (weighted kind ref (m ref)) (values_reach ref h)
 
-  AreItems-same : (ref : ℕ) → SameAt (items_reach kind ref (m ref)) m n → AreItems kind type m ref → AreItems kind type n ref
-  AreItems-same ref h items =
+  AreItemRecords-same : (ref : ℕ) → SameAt (items_reach kind ref (m ref)) m n → AreItemRecords kind type m ref → AreItemRecords kind type n ref
+  AreItemRecords-same ref h items =
       let P : ℕ × ℤ → Type 0 = λ e. IsValueRecord type (m e.0) in
       let Q : ℕ × ℤ → Type 0 = λ e. IsValueRecord type (n e.0) in
       let values = all-same m n (λ (e : ℕ × ℤ). e.0 ∷ []) P Q (λ e s v. subst (IsValueRecord type) (sym s.0) v) (weighted kind ref (m ref)) (values_reach ref h) items.1 in
       (IsItemsRecord-same kind m n ref h items.0, subst (AllByRecursion Q) (sym (weighted-same kind m n ref h)) values)
 
-list_at-same : (m n : Records) (form : ListForm) → SameAt (list_reach m form) m n → list_at n form ≡ list_at m form
-list_at-same m n (short ref) h = ap (λ ws. map unpacked (items_of ws)) h.0
-list_at-same m n (tree root) h = ap (λ ps. map (λ p. (p.0, weight_of p.1)) ps) (tree_pairs-same m n root h)
+postings_at-same : (m n : Records) (form : ListForm) → SameAt (postings_reach m form) m n → postings_at n form ≡ postings_at m form
+postings_at-same m n (short ref) h = ap (λ ws. map unpacked (stored_items ws)) h.0
+postings_at-same m n (tree root) h = ap (λ ps. map (λ p. (p.0, weight_of p.1)) ps) (tree_pairs-same m n root h)
 
-list_reach-same : (m n : Records) (form : ListForm) → SameAt (list_reach m form) m n → list_reach n form ≡ list_reach m form
-list_reach-same m n (short ref) h = refl
-list_reach-same m n (tree root) h = tree_nodes-same m n root h
+postings_reach-same : (m n : Records) (form : ListForm) → SameAt (postings_reach m form) m n → postings_reach n form ≡ postings_reach m form
+postings_reach-same m n (short ref) h = refl
+postings_reach-same m n (tree root) h = tree_nodes-same m n root h
 
-IsList-same : (m n : Records) (form : ListForm) → SameAt (list_reach m form) m n → IsList m form → IsList n form
-IsList-same m n (short ref) h list = subst (IsStoredList 8) (sym h.0) list
-IsList-same m n (tree root) h list =
+IsPostingList-same : (m n : Records) (form : ListForm) → SameAt (postings_reach m form) m n → IsPostingList m form → IsPostingList n form
+IsPostingList-same m n (short ref) h list = subst (IsStoredList MOST_SHORT) (sym h.0) list
+IsPostingList-same m n (tree root) h list =
     let same = tree_pairs-same m n root h in
-    (IsTree-same nat_cmp by_number m n root h refl list.0, subst (λ ps. 8 < length ps) (sym same) list.1, subst (AllByRecursion (λ (p : ℕ × ℕ). p.1 < 4294967296)) (sym same) list.2)
+    (IsTree-same nat_cmp by_number m n root h refl list.0, subst (λ ps. MOST_SHORT < length ps) (sym same) list.1, subst (AllByRecursion (λ (p : ℕ × ℕ). p.1 < 2 ^ 32)) (sym same) list.2)
 
 -- what a document tree is read as stays
 module _ (kind : Kind) (type : ValueType) (m n : Records) (root : ℕ) (nodes : SameAt (tree_nodes m root) m n) (rest : SameAt (documents_reach kind m root) m n) where
   reach_of : ℕ × ℕ → List ℕ
   reach_of p = items_reach kind p.1 (m p.1)
 
-  documents_table-same : documents_table kind type n root ≡ documents_table kind type m root
-  documents_table-same =
+  column_at-same : column_at kind type n root ≡ column_at kind type m root
+  column_at-same =
       let f : ℕ × ℕ → ℕ × List Item = λ p. (p.0, items_at kind type m p.1) in
       let g : ℕ × ℕ → ℕ × List Item = λ p. (p.0, items_at kind type n p.1) in
       ap (map g) (tree_pairs-same m n root nodes)
@@ -106,39 +107,39 @@ module _ (kind : Kind) (type : ValueType) (m n : Records) (root : ℕ) (nodes : 
       ap (flat_map g) (tree_pairs-same m n root nodes)
       ∙ flat_map-same m n f f g (λ p s. items_reach-same kind m n p.1 s) (tree_pairs m root) rest
 
-  all_items-same : AllByRecursion (λ p. AreItems kind type m p.1) (tree_pairs m root) → AllByRecursion (λ p. AreItems kind type n p.1) (tree_pairs n root)
+  all_items-same : AllByRecursion (λ p. AreItemRecords kind type m p.1) (tree_pairs m root) → AllByRecursion (λ p. AreItemRecords kind type n p.1) (tree_pairs n root)
   all_items-same all =
-      let P : ℕ × ℕ → Type 0 = λ p. AreItems kind type m p.1 in
-      let Q : ℕ × ℕ → Type 0 = λ p. AreItems kind type n p.1 in
+      let P : ℕ × ℕ → Type 0 = λ p. AreItemRecords kind type m p.1 in
+      let Q : ℕ × ℕ → Type 0 = λ p. AreItemRecords kind type n p.1 in
       subst (AllByRecursion Q) (sym (tree_pairs-same m n root nodes))
-      (all-same m n (λ (p : ℕ × ℕ). items_reach kind p.1 (m p.1)) P Q (λ p s. AreItems-same kind type m n p.1 s) (tree_pairs m root) rest all)
+      (all-same m n (λ (p : ℕ × ℕ). items_reach kind p.1 (m p.1)) P Q (λ p s. AreItemRecords-same kind type m n p.1 s) (tree_pairs m root) rest all)
 
 -- and what a dictionary is read as
 module _ (type : ValueType) (m n : Records) (root : ℕ) (nodes : SameAt (tree_nodes m root) m n) (rest : SameAt (dictionary_reach m root) m n) where
   index_of-same : index_of type n root ≡ index_of type m root
   index_of-same =
-      let f : ℕ × ℕ → Value × List (ℕ × ℤ) = λ p. (value_at type m p.0, list_at m (form_of p.1)) in
-      let g : ℕ × ℕ → Value × List (ℕ × ℤ) = λ p. (value_at type n p.0, list_at n (form_of p.1)) in
+      let f : ℕ × ℕ → Value × List (ℕ × ℤ) = λ p. (stored_value type m p.0, postings_at m (list_form p.1)) in
+      let g : ℕ × ℕ → Value × List (ℕ × ℤ) = λ p. (stored_value type n p.0, postings_at n (list_form p.1)) in
       ap (map g) (tree_pairs-same m n root nodes)
-      ∙ map-same m n (λ (p : ℕ × ℕ). p.0 ∷ list_reach m (form_of p.1)) f g (λ p s. ap (λ ws. (value_of type ws, list_at n (form_of p.1))) s.0 ∙ ap (λ list. (value_at type m p.0, list)) (list_at-same m n (form_of p.1) s.1)) (tree_pairs m root) rest
+      ∙ map-same m n (λ (p : ℕ × ℕ). p.0 ∷ postings_reach m (list_form p.1)) f g (λ p s. ap (λ ws. (value_of type ws, postings_at n (list_form p.1))) s.0 ∙ ap (λ list. (stored_value type m p.0, list)) (postings_at-same m n (list_form p.1) s.1)) (tree_pairs m root) rest
 
-  keys_read-same : map (λ p. value_at type n p.0) (tree_pairs m root) ≡ map (λ p. value_at type m p.0) (tree_pairs m root)
+  keys_read-same : map (λ p. stored_value type n p.0) (tree_pairs m root) ≡ map (λ p. stored_value type m p.0) (tree_pairs m root)
   keys_read-same =
-      let f : ℕ × ℕ → Value = λ p. value_at type m p.0 in
-      let g : ℕ × ℕ → Value = λ p. value_at type n p.0 in
-      map-same m n (λ (p : ℕ × ℕ). p.0 ∷ list_reach m (form_of p.1)) f g (λ p s. ap (value_of type) s.0) (tree_pairs m root) rest
+      let f : ℕ × ℕ → Value = λ p. stored_value type m p.0 in
+      let g : ℕ × ℕ → Value = λ p. stored_value type n p.0 in
+      map-same m n (λ (p : ℕ × ℕ). p.0 ∷ postings_reach m (list_form p.1)) f g (λ p s. ap (value_of type) s.0) (tree_pairs m root) rest
 
   dictionary_reach-same : dictionary_reach n root ≡ dictionary_reach m root
   dictionary_reach-same =
-      let f : ℕ × ℕ → List ℕ = λ p. p.0 ∷ list_reach m (form_of p.1) in
-      let g : ℕ × ℕ → List ℕ = λ p. p.0 ∷ list_reach n (form_of p.1) in
+      let f : ℕ × ℕ → List ℕ = λ p. p.0 ∷ postings_reach m (list_form p.1) in
+      let g : ℕ × ℕ → List ℕ = λ p. p.0 ∷ postings_reach n (list_form p.1) in
       ap (flat_map g) (tree_pairs-same m n root nodes)
-      ∙ flat_map-same m n f f g (λ p s. ap (λ rs. p.0 ∷ rs) (list_reach-same m n (form_of p.1) s.1)) (tree_pairs m root) rest
+      ∙ flat_map-same m n f f g (λ p s. ap (λ rs. p.0 ∷ rs) (postings_reach-same m n (list_form p.1) s.1)) (tree_pairs m root) rest
 
-  entries-same : AllByRecursion (IsEntryOf type m) (tree_pairs m root) → AllByRecursion (IsEntryOf type n) (tree_pairs n root)
+  entries-same : AllByRecursion (IsDictionaryEntry type m) (tree_pairs m root) → AllByRecursion (IsDictionaryEntry type n) (tree_pairs n root)
   entries-same all =
-      subst (AllByRecursion (IsEntryOf type n)) (sym (tree_pairs-same m n root nodes))
-      (all-same m n (λ (p : ℕ × ℕ). p.0 ∷ list_reach m (form_of p.1)) (IsEntryOf type m) (IsEntryOf type n) (λ p s entry. (subst (IsValueRecord type) (sym s.0) entry.0, IsList-same m n (form_of p.1) s.1 entry.1)) (tree_pairs m root) rest all)
+      subst (AllByRecursion (IsDictionaryEntry type n)) (sym (tree_pairs-same m n root nodes))
+      (all-same m n (λ (p : ℕ × ℕ). p.0 ∷ postings_reach m (list_form p.1)) (IsDictionaryEntry type m) (IsDictionaryEntry type n) (λ p s entry. (subst (IsValueRecord type) (sym s.0) entry.0, IsPostingList-same m n (list_form p.1) s.1 entry.1)) (tree_pairs m root) rest all)
 
 -- an attribute by its two trees
 module _ (kind : Kind) (type : ValueType) (m n : Records) (documents dictionary : ℕ) (same : SameAt (trees_reach kind m documents dictionary) m n) where
@@ -169,33 +170,75 @@ module _ (kind : Kind) (type : ValueType) (m n : Records) (documents dictionary 
 
   pub IsLawfulAttribute-same : IsLawfulAttribute kind type m documents dictionary → IsLawfulAttribute kind type n documents dictionary
   IsLawfulAttribute-same lawful =
-      let table = documents_table-same kind type m n documents documents_nodes documents_rest in
+      let column = column_at-same kind type m n documents documents_nodes documents_rest in
       let index = index_of-same type m n dictionary dictionary_nodes dictionary_rest in
       record {
         forms = record {
           documents_tree = IsTree-same nat_cmp by_number m n documents documents_nodes refl lawful.forms.documents_tree;
           items = all_items-same kind type m n documents documents_nodes documents_rest lawful.forms.items;
-          dictionary_tree = IsTree-same value_cmp (value_at type) m n dictionary dictionary_nodes (keys_read-same type m n dictionary dictionary_nodes dictionary_rest) lawful.forms.dictionary_tree;
+          dictionary_tree = IsTree-same value_cmp (stored_value type) m n dictionary dictionary_nodes (keys_read-same type m n dictionary dictionary_nodes dictionary_rest) lawful.forms.dictionary_tree;
           entries = entries-same type m n dictionary dictionary_nodes dictionary_rest lawful.forms.entries;
         };
-        table = subst (IsLawfulTable kind) (sym table) lawful.table;
-        values = subst (λ t. HasValues t (index_of type n dictionary)) (sym table) (subst (HasValues (documents_table kind type m documents)) (sym index) lawful.values);
-        lists = subst (λ t. HasLists t (index_of type n dictionary)) (sym table) (subst (HasLists (documents_table kind type m documents)) (sym index) lawful.lists);
+        column = subst (IsLawfulColumn kind) (sym column) lawful.column;
+        values = subst (λ t. HasValues t (index_of type n dictionary)) (sym column) (subst (HasValues (column_at kind type m documents)) (sym index) lawful.values);
+        lists = subst (λ t. HasLists t (index_of type n dictionary)) (sym column) (subst (HasLists (column_at kind type m documents)) (sym index) lawful.lists);
       }
 
-AllThere-same : (m n : Records) (rs : List ℕ) → SameAt rs m n → AllThere rs m → AllThere rs n
-AllThere-same m n [] h all = tt
-AllThere-same m n (r ∷ rs) h all = (subst (λ ws. 0 < length ws) (sym h.0) all.0, AllThere-same m n rs h.1 all.1)
+-- records that have their form are there
+some-words : (ws front : List ℕ) → ws ≡ filled front → 0 < length front → 0 < length ws
+some-words ws front is some = let size = ap length is in let more = length-append front in omega (arith, length-append {A = ℕ}, size)
+
+some-value : (value : Value) → 0 < length (value_words value)
+some-value (values.Long number) = omega arith
+some-value (values.Text bytes) = omega arith
+
+value_there : (type : ValueType) (ws : List ℕ) → IsValueRecord type ws → 0 < length ws
+value_there type ws good = some-words ws (value_words (value_of type ws)) good.words (some-value (value_of type ws))
+
+list_there : (most : ℕ) (ws : List ℕ) → IsStoredList most ws → 0 < length ws
+list_there most ws good = some-words ws (length (stored_items ws) ∷ stored_items ws) good.words (omega arith)
+
+there-each : {X : Type 0} (m : Records) (P : X → Type 0) (reach : X → List ℕ) → ((x : X) → P x → AllThere (reach x) m) → (xs : List X) → AllByRecursion P xs → AllThere (flat_map reach xs) m
+there-each m P reach each [] all = tt
+there-each m P reach each (x ∷ xs) all = there-both m (reach x) (flat_map reach xs) (each x all.0) (there-each m P reach each xs all.1)
+
+module _ (type : ValueType) (m : Records) where
+  values_there : (list : List (ℕ × ℤ)) → AllByRecursion (λ (e : ℕ × ℤ). IsValueRecord type (m e.0)) list → AllThere (map (λ e. e.0) list) m
+  values_there [] all = tt
+  values_there (e ∷ list) all = (value_there type (m e.0) all.0, values_there list all.1)
+
+  items_there : (kind : Kind) (ref : ℕ) → AreItemRecords kind type m ref → AllThere (items_reach kind ref (m ref)) m
+  items_there kind zero items = tt
+  items_there Single (suc ref) items = (value_there type (m (suc ref)) items.1.0, tt)
+  items_there Array (suc ref) items = (list_there most_items (m (suc ref)) items.0, values_there (weighted Array (suc ref) (m (suc ref))) items.1)
+  items_there WeightedSet (suc ref) items = (list_there most_items (m (suc ref)) items.0, values_there (weighted WeightedSet (suc ref) (m (suc ref))) items.1)
+
+  postings_there : (form : ListForm) → IsPostingList m form → AllThere (postings_reach m form) m
+  postings_there (short ref) list = (list_there MOST_SHORT (m ref) list, tt)
+  postings_there (tree root) list = tree_there m root list.0.node
+
+  pub trees_there : (kind : Kind) (documents dictionary : ℕ) → AreFormed kind type m documents dictionary → AllThere (trees_reach kind m documents dictionary) m
+  trees_there kind documents dictionary forms =
+      there-both m (tree_nodes m documents ++ documents_reach kind m documents) (tree_nodes m dictionary ++ dictionary_reach m dictionary)
+      (there-both m (tree_nodes m documents) (documents_reach kind m documents)
+      (tree_there m documents forms.documents_tree.node)
+      (there-each m (λ (p : ℕ × ℕ). AreItemRecords kind type m p.1) (λ (p : ℕ × ℕ). items_reach kind p.1 (m p.1)) (λ p items. items_there kind p.1 items) (tree_pairs m documents) forms.items))
+      (there-both m (tree_nodes m dictionary) (dictionary_reach m dictionary)
+      (tree_there m dictionary forms.dictionary_tree.node)
+      (there-each m (IsDictionaryEntry type m) (λ (p : ℕ × ℕ). p.0 ∷ postings_reach m (list_form p.1)) (λ p entry. (value_there type (m p.0) entry.0, postings_there (list_form p.1) entry.1)) (tree_pairs m dictionary) forms.entries))
 
 pub attr_empty_reaches : (shape : ℕ) (m : Records) → attr_reaches shape m 0 ≡ []
 attr_empty_reaches shape m = refl
 
-pub attr_empty_lawful : (shape : ℕ) (m : Records) → IsLawful shape m 0
+pub attr_empty_lawful : (shape : ℕ) (m : Records) → IsLawfulImage shape m 0
 attr_empty_lawful shape m = tt
 
-pub attr_present : (shape : ℕ) (m : Records) (root : ℕ) → IsLawful shape m root → AllThere (attr_reaches shape m root) m
+pub attr_present : (shape : ℕ) (m : Records) (root : ℕ) → IsLawfulImage shape m root → AllThere (attr_reaches shape m root) m
 attr_present shape m zero lawful = tt
-attr_present shape m (suc root) lawful = lawful.there
+attr_present shape m (suc root) lawful = (
+  let size = lawful.root_record.size in omega arith,
+  trees_there (type_of_shape shape) m (kind_of_shape shape) (documents_at m (suc root)) (dictionary_at m (suc root)) lawful.attribute.forms,
+)
 
 attr_reaches-same : (shape : ℕ) (m n : Records) (root : ℕ) → SameAt (attr_reaches shape m root) m n → attr_reaches shape n root ≡ attr_reaches shape m root
 attr_reaches-same shape m n zero h = refl
@@ -204,13 +247,12 @@ attr_reaches-same shape m n (suc root) h =
     ∙ ap (λ rs. suc root ∷ rs) (trees_reach-same (kind_of_shape shape) (type_of_shape shape) m n (documents_at m (suc root)) (dictionary_at m (suc root)) h.1)
 
 pub attr_stays : (shape : ℕ) (m n : Records) (root : ℕ) → SameAt (attr_reaches shape m root) m n
-    → IsLawful shape m root → IsLawful shape n root × (attr_reaches shape n root ≡ attr_reaches shape m root)
+    → IsLawfulImage shape m root → IsLawfulImage shape n root × (attr_reaches shape n root ≡ attr_reaches shape m root)
 attr_stays shape m n zero h lawful = (tt, refl)
 attr_stays shape m n (suc root) h lawful =
     let reach = attr_reaches-same shape m n (suc root) h in
     let attribute = IsLawfulAttribute-same (kind_of_shape shape) (type_of_shape shape) m n (documents_at m (suc root)) (dictionary_at m (suc root)) h.1 lawful.attribute in (
       record {
-        there = subst (λ rs. AllThere rs n) (sym reach) (AllThere-same m n (attr_reaches shape m (suc root)) h lawful.there);
         root_record = subst IsRootRecord (sym h.0) lawful.root_record;
         attribute = subst (λ ws. IsLawfulAttribute (kind_of_shape shape) (type_of_shape shape) n (slice_index ws 1) (slice_index ws 2)) (sym h.0) attribute;
       },

@@ -10,7 +10,7 @@ use Rattle.attr_types.specs.declared.kind.ValueType.TheVariants as types
 use Rattle.attr_types.specs.declared.value.Value.{Value}
 use Rattle.attr_types.specs.declared.value.Value.TheVariants as values
 
--- bytes in so many words, eight a word with the first in the highest place, filled with zeros
+-- bytes in `n` words, eight a word with the first in the highest place, filled with zeros
 abbrev pub packed_bytes : ℕ → List ℕ → List ℕ
 packed_bytes zero bytes = []
 packed_bytes (suc n) bytes = from_be_bytes w64 (take 8 (bytes ++ replicate 8 0)) ∷ packed_bytes n (drop 8 bytes)
@@ -21,16 +21,16 @@ value_words (values.Long number) = 8 ∷ cast_unsigned w64 number ∷ []
 value_words (values.Text bytes) = length bytes ∷ packed_bytes ((length bytes + 7) / 8) bytes
 
 -- the text that words read as: as many of their bytes as the first word says
-abbrev pub text_of : List ℕ → List ℕ
-text_of ws = take (slice_index ws 0) (flat_map (to_be_bytes w64) (drop 1 ws))
+abbrev pub stored_text : List ℕ → List ℕ
+stored_text ws = take (slice_index ws 0) (flat_map (to_be_bytes w64) (drop 1 ws))
 
 -- the value that words read as
 abbrev pub value_of : ValueType → List ℕ → Value
 value_of types.Long ws = values.Long (cast_signed w64 (slice_index ws 1))
-value_of types.Text ws = values.Text (text_of ws)
+value_of types.Text ws = values.Text (stored_text ws)
 
-abbrev pub value_at : ValueType → Records → ℕ → Value
-value_at type m ref = value_of type (m ref)
+abbrev pub stored_value : ValueType → Records → ℕ → Value
+stored_value type m ref = value_of type (m ref)
 
 -- a text is UTF-8 of at most 1,024 bytes
 abbrev pub IsLawfulValue : Value → Type 0

@@ -1,7 +1,8 @@
 //! Laws of images. Each function does nothing: its contract is the law.
-ghost use Rattle.attr_images.specs.Examples.{TwoLeavesAreATree, OneTextIsLawful, OneTextReads};
+ghost use Rattle.attr_images.specs.Examples.{OneTextIsLawful, OneTextReads};
 ghost use Rattle.attr_images.specs.Examples.{MissingRecord, WrongCount, UnlawfulTable, MissingValue, WrongWeight};
-ghost use Rattle.attr_images.specs.Laws.{DictionaryNodesAreDistinct, ShapeTells, TableIsLawful, TableHasType, OperationsFit, ValuesAscend, LongReads, TextReads};
+ghost use Rattle.attr_images.specs.Laws.{FormsAreThere, ImageIsThere, TableIsLawful, TableHasType, OperationsFit};
+ghost use Rattle.attr_images.specs.Laws.{DictionaryNodesAreDistinct, ShapeTells, ValuesAscend, LongReads, TextReads};
 
 /// A shape tells its kind and its value type.
 pub fn shape_law()
@@ -18,15 +19,20 @@ pub fn image_law()
     ensures distinct { DictionaryNodesAreDistinct }
 {}
 
+/// Records that have their forms are there, and so are all that a lawful image reaches.
+pub fn there_law()
+    ensures forms { FormsAreThere }
+    ensures image { ImageIsThere }
+{}
+
 /// The words that a value is stored as read as that value.
 pub fn value_law()
     ensures long { LongReads }
     ensures text { TextReads }
 {}
 
-/// A tree of two leaves for keys 1 to 17, and an image of one document, are lawful.
-pub fn example_law()
-    ensures leaves { TwoLeavesAreATree }
+/// An image of one document, made by hand, is lawful, and reads as that document.
+pub fn one_text_law()
     ensures lawful { OneTextIsLawful }
     ensures reads { OneTextReads }
 {}

@@ -1,5 +1,5 @@
 ghost use Rattle.attr_images.specs.ProofsForImages.{attr_empty_reaches, attr_empty_lawful, attr_present, attr_stays};
-ghost use Rattle.attr_images.specs.Images.{attr_reaches, IsLawful};
+ghost use Rattle.attr_images.specs.Images.{attr_reaches, IsLawfulImage};
 
 use image_base::Layout;
 
@@ -9,7 +9,7 @@ pub struct AttrLayout;
 impl Layout for AttrLayout {
     ghost reaches = { attr_reaches };
 
-    ghost lawful = { IsLawful };
+    ghost lawful = { IsLawfulImage };
 
     ghost empty_reaches = { attr_empty_reaches };
 

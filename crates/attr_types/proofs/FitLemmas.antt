@@ -6,19 +6,24 @@ use Rattle.std.specs.Bool.{Decides}
 use Rattle.std.specs.List.{AllByRecursion, list_all}
 use Rattle.std.specs.List.Sorted.{IsStrictlySortedBy}
 use Rattle.attr_types.proofs.EntryLemmas.{below_all}
+use Rattle.attr_types.proofs.DocumentLemmas.{DocumentFits, ChangesFit}
+use Rattle.attr_types.specs.Change.{most_items}
 use Rattle.attr_types.specs.Fitting.{is_of_type, have_type, have_weight_one, ascends, are_lawful, items_fit}
-use Rattle.attr_types.specs.Fitting.{change_fits, op_fits}
-use Rattle.attr_types.specs.Lawful.{IsDocument, HaveWeightOne, IsLawfulItems, ItemsFit, ChangeFits, Fits}
-use Rattle.attr_types.specs.Table.{document_of}
+use Rattle.attr_types.specs.Fitting.{act_fits, change_fits, document_fits, changes_fit, op_fits}
+use Rattle.attr_types.specs.Lawful.{IsDocNumber, HaveWeightOne, IsLawfulItems, ItemsFit, ActFits, ChangeFits, OpFits}
+use Rattle.attr_types.specs.ProofsForOrder.{value_cmp_total}
+use Rattle.attr_types.specs.Table.{op_doc}
 use Rattle.attr_types.specs.Value.{value_cmp, values_of, type_of, AreOfType}
-use Rattle.attr_types.specs.ValueOrder.{value_cmp_total}
+use Rattle.attr_types.specs.declared.change.Act.{Act}
+use Rattle.attr_types.specs.declared.change.Act.TheVariants as acts
+use Rattle.attr_types.specs.declared.change.Change.{Change}
+use Rattle.attr_types.specs.declared.change.Change.TheVariants.{Keep, Assign, Add, Take, Shift, At, Of}
+use Rattle.attr_types.specs.declared.field.Field.{Field}
 use Rattle.attr_types.specs.declared.items.Item.{Item}
 use Rattle.attr_types.specs.declared.kind.Kind.{Kind}
 use Rattle.attr_types.specs.declared.kind.Kind.TheVariants.{Single, Array, WeightedSet}
 use Rattle.attr_types.specs.declared.kind.ValueType.{ValueType}
 use Rattle.attr_types.specs.declared.kind.ValueType.TheVariants as types
-use Rattle.attr_types.specs.declared.op.Change.{Change}
-use Rattle.attr_types.specs.declared.op.Change.TheVariants.{Keep, Assign, Add, Take}
 use Rattle.attr_types.specs.declared.op.Op.{Op}
 use Rattle.attr_types.specs.declared.op.Op.TheVariants.{Put, Update, Remove}
 use Rattle.attr_types.specs.declared.value.Value.{Value}
@@ -86,32 +91,70 @@ short_decides n most = (leb-true n most, le-leb n most)
 
 lawful_decides : (kind : Kind) (items : List Item) → Decides (are_lawful kind items) (IsLawfulItems kind items)
 lawful_decides Single items = both _ _ (short_decides (length items) 1) (weights_decide items)
-lawful_decides Array items = both _ _ (short_decides (length items) 1023) (weights_decide items)
+lawful_decides Array items = both _ _ (short_decides (length items) most_items) (weights_decide items)
 lawful_decides WeightedSet items =
-    both _ _ (short_decides (length items) 1023) (ascends_then (values_of items), then_ascends (values_of items))
+    both _ _ (short_decides (length items) most_items) (ascends_then (values_of items), then_ascends (values_of items))
 
 items_decide : (kind : Kind) (type : ValueType) (items : List Item)
     → Decides (items_fit kind type items) (ItemsFit kind type items)
 items_decide kind type items = both _ _ (lawful_decides kind items) (types_decide type items)
 
+always : {P : Type 0} → P → Decides true P
+always holds = (λ _. holds, λ _. refl)
+
+never : Decides false ⊥
+never = (λ is. cc, λ none. absurd none)
+
+act_decides : (type : ValueType) (act : Act) → Decides (act_fits type act) (ActFits type act)
+act_decides type (acts.Set value) = type_decides type value
+act_decides types.Long (acts.Shift amount) = always tt
+act_decides types.Text (acts.Shift amount) = never
+
 change_decides : (kind : Kind) (type : ValueType) (change : Change)
     → Decides (change_fits kind type change) (ChangeFits kind type change)
-change_decides kind type Keep = (λ _. tt, λ _. refl)
+change_decides kind type Keep = always tt
 change_decides kind type (Assign items) = items_decide kind type items
+change_decides Single type (Add items) = never
 change_decides Array type (Add items) = items_decide Array type items
 change_decides WeightedSet type (Add items) = items_decide WeightedSet type items
+change_decides Single type (Take names) = never
+change_decides Array type (Take names) = never
 change_decides WeightedSet type (Take names) = names_decide type names
-change_decides Single type (Add items) = (λ is. cc, λ fit. absurd fit)
-change_decides Single type (Take names) = (λ is. cc, λ fit. absurd fit)
-change_decides Array type (Take names) = (λ is. cc, λ fit. absurd fit)
+change_decides Single types.Long (Shift amount) = always tt
+change_decides Single types.Text (Shift amount) = never
+change_decides Array type (Shift amount) = never
+change_decides WeightedSet type (Shift amount) = never
+change_decides Single type (At index act) = never
+change_decides Array type (At index act) = act_decides type act
+change_decides WeightedSet type (At index act) = never
+change_decides Single type (Of value act) = never
+change_decides Array type (Of value act) = never
+change_decides WeightedSet type (Of value act) = type_decides type value
+
+document_decides : (fields : List Field) (document : List (List Item))
+    → Decides (document_fits fields document) (DocumentFits fields document)
+document_decides [] [] = always tt
+document_decides [] (items ∷ document) = never
+document_decides (field ∷ fields) [] = never
+document_decides (field ∷ fields) (items ∷ document) =
+    both (items_fit field.kind field.value items) (document_fits fields document)
+    (items_decide field.kind field.value items) (document_decides fields document)
+
+changes_decide : (fields : List Field) (changes : List Change)
+    → Decides (changes_fit fields changes) (ChangesFit fields changes)
+changes_decide [] [] = always tt
+changes_decide [] (change ∷ changes) = never
+changes_decide (field ∷ fields) [] = never
+changes_decide (field ∷ fields) (change ∷ changes) =
+    both (change_fits field.kind field.value change) (changes_fit fields changes)
+    (change_decides field.kind field.value change) (changes_decide fields changes)
 
 beside : (b : Bool) {P Q : Type 0} → P → Decides b Q → Decides b (P × Q)
 beside b known told = (λ is. (known, told.0 is), λ facts. told.1 facts.1)
 
-pub op_decides : (kind : Kind) (type : ValueType) (op : Op) → IsDocument (document_of op)
-    → Decides (op_fits kind type op) (Fits kind type op)
-op_decides kind type (Put doc items) is_doc =
-    beside (items_fit kind type items) is_doc (items_decide kind type items)
-op_decides kind type (Update doc change) is_doc =
-    beside (change_fits kind type change) is_doc (change_decides kind type change)
-op_decides kind type (Remove doc) is_doc = (λ _. is_doc, λ _. refl)
+pub op_decides : (fields : List Field) (op : Op) → IsDocNumber (op_doc op)
+    → Decides (op_fits fields op) (OpFits fields op)
+op_decides fields (Put doc items) is_doc = beside (document_fits fields items) is_doc (document_decides fields items)
+op_decides fields (Update doc create changes) is_doc =
+    beside (changes_fit fields changes) is_doc (changes_decide fields changes)
+op_decides fields (Remove doc) is_doc = (λ _. is_doc, λ _. refl)

@@ -1,5 +1,7 @@
 pub mod EntryLemmas
-pub mod SetLemmas
+pub mod ItemLemmas
+pub mod ChangeLemmas
+pub mod DocumentLemmas
 pub mod TableLemmas
 pub mod HitLemmas
 pub mod FitLemmas

@@ -1,5 +1,5 @@
 -- What operations make of lawful tables.
-use Rattle.std.proofs.Common.{◌≡◌, ◌≢◌, ℕ, zero, suc, true, cond, List, [], ◌∷◌, take, Option, Some, None}
+use Rattle.std.proofs.Common.{◌≡◌, ◌≢◌, ℕ, zero, suc, Bool, true, false, cond, List, [], ◌∷◌, take, Option, Some, None}
 use Rattle.std.proofs.Common.{option_map, nat_cmp, is_eq, refl, sym, ap, ◌∙◌}
 use Rattle.std.proofs.lemmas.Cmp.{nat_cmp_total, tied_itself}
 use Rattle.std.specs.BTreeMap.{is_at}
@@ -7,138 +7,152 @@ use Rattle.std.specs.List.{AllByRecursion}
 use Rattle.std.specs.List.Sorted.{IsStrictlySortedBy}
 use Rattle.std.specs.Map.{keys_of}
 use Rattle.std.specs.Option.{IfSome, is_none, option_and_then, unwrap_or}
+use Rattle.attr_types.proofs.DocumentLemmas.{DocumentFits, ChangesFit, document_fits, document_is_lawful}
+use Rattle.attr_types.proofs.DocumentLemmas.{document_has_type, without_items_fits, updated_fits}
 use Rattle.attr_types.proofs.EntryLemmas.{all-lookup, all_keys-insert, all_values-insert, sorted-insert}
 use Rattle.attr_types.proofs.EntryLemmas.{all_keys-remove, all-remove, sorted-remove, lookup-insert_here}
 use Rattle.attr_types.proofs.EntryLemmas.{lookup-insert_other, lookup-remove, nat_cmp_apart}
-use Rattle.attr_types.proofs.SetLemmas.{changed_fits}
-use Rattle.attr_types.specs.Lawful.{IsDocument, IsLawfulItems, IsLawfulTable, HasType, ItemsFit, ChangeFits, Fits}
-use Rattle.attr_types.specs.Table.{Table, document_of, items_at, with_document, without_document, changed}
-use Rattle.attr_types.specs.Table.{step, is_skipped, after_op, after_ops, after}
-use Rattle.attr_types.specs.Value.{values_of, AreOfType}
-use Rattle.attr_types.specs.declared.items.Item.{Item}
-use Rattle.attr_types.specs.declared.kind.Kind.{Kind}
-use Rattle.attr_types.specs.declared.kind.ValueType.{ValueType}
-use Rattle.attr_types.specs.declared.op.Change.{Change}
+use Rattle.attr_types.specs.Lawful.{IsDocNumber, IsLawfulDocument, IsLawfulTable, DocumentHasType, HasType, OpFits}
+use Rattle.attr_types.specs.Table.{Table, op_doc, document_at, with_document, without_document, without_items}
+use Rattle.attr_types.specs.Table.{to_update, updated, step, is_skipped, after_op, after_ops, after}
+use Rattle.attr_types.specs.Value.{Document}
+use Rattle.attr_types.specs.declared.change.Change.{Change}
+use Rattle.attr_types.specs.declared.field.Field.{Field}
 use Rattle.attr_types.specs.declared.op.Op.{Op}
 use Rattle.attr_types.specs.declared.op.Op.TheVariants.{Put, Update, Remove}
 
--- a lawful table with values of the type
-abbrev Sound : Kind → ValueType → Table → Type 0
-Sound kind type table = IsLawfulTable kind table × HasType type table
+-- a lawful table with values of the attributes' types
+abbrev pub Sound : List Field → Table → Type 0
+Sound fields table = IsLawfulTable fields table × HasType fields table
 
-sound-with : (kind : Kind) (type : ValueType) (table : Table) (doc : ℕ) (items : List Item) → Sound kind type table
-    → IsDocument doc → ItemsFit kind type items → Sound kind type (with_document table doc items)
-sound-with kind type table doc items sound is_doc fits = (
+pub sound-with : (fields : List Field) (table : Table) (doc : ℕ) (document : Document) → Sound fields table
+    → IsDocNumber doc → DocumentFits fields document → Sound fields (with_document table doc document)
+sound-with fields table doc document sound is_doc fits = (
   record {
-    ascends = sorted-insert nat_cmp_total table doc items sound.0.ascends;
-    documents = all_keys-insert nat_cmp_total IsDocument table doc items sound.0.documents is_doc;
-    items = all_values-insert nat_cmp_total (IsLawfulItems kind) table doc items sound.0.items fits.0;
+    ascends = sorted-insert nat_cmp_total table doc document sound.0.ascends;
+    numbers = all_keys-insert nat_cmp_total IsDocNumber table doc document sound.0.numbers is_doc;
+    documents = all_values-insert nat_cmp_total (IsLawfulDocument fields) table doc document sound.0.documents (document_is_lawful fields document fits);
   },
-  all_values-insert nat_cmp_total (λ xs. AreOfType type (values_of xs)) table doc items sound.1 fits.1,
+  all_values-insert nat_cmp_total (DocumentHasType fields) table doc document sound.1 (document_has_type fields document fits),
 )
 
-pub sound-without : (kind : Kind) (type : ValueType) (table : Table) (doc : ℕ) → Sound kind type table
-    → Sound kind type (without_document table doc)
-sound-without kind type table doc sound = (
+pub sound-without : (fields : List Field) (table : Table) (doc : ℕ) → Sound fields table
+    → Sound fields (without_document table doc)
+sound-without fields table doc sound = (
   record {
     ascends = sorted-remove nat_cmp (is_at (nat_cmp doc)) table sound.0.ascends;
-    documents = all_keys-remove IsDocument (is_at (nat_cmp doc)) table sound.0.documents;
-    items = all-remove (λ e. IsLawfulItems kind e.1) (is_at (nat_cmp doc)) table sound.0.items;
+    numbers = all_keys-remove IsDocNumber (is_at (nat_cmp doc)) table sound.0.numbers;
+    documents = all-remove (λ e. IsLawfulDocument fields e.1) (is_at (nat_cmp doc)) table sound.0.documents;
   },
-  all-remove (λ e. AreOfType type (values_of e.1)) (is_at (nat_cmp doc)) table sound.1,
+  all-remove (λ e. DocumentHasType fields e.1) (is_at (nat_cmp doc)) table sound.1,
 )
 
-sound-changed : (kind : Kind) (type : ValueType) (table : Table) (doc : ℕ) (items : Option (List Item))
-    → Sound kind type table
-    → IsDocument doc → IfSome items (ItemsFit kind type)
-    → Sound kind type (unwrap_or (option_map (with_document table doc) items) table)
-sound-changed kind type table doc None sound is_doc fits = sound
-sound-changed kind type table doc (Some items) sound is_doc fits =
-    sound-with kind type table doc items sound is_doc fits
+-- a document of a sound table fits
+pub found_fits : (fields : List Field) (table : Table) (doc : ℕ) (document : Document) → Sound fields table
+    → document_at table doc ≡ Some document → DocumentFits fields document
+found_fits fields table doc document sound is =
+    document_fits fields document
+    (all-lookup (IsLawfulDocument fields) (is_at (nat_cmp doc)) table sound.0.documents document is)
+    (all-lookup (DocumentHasType fields) (is_at (nat_cmp doc)) table sound.1 document is)
 
-sound-update : (kind : Kind) (type : ValueType) (table : Table) (doc : ℕ) (change : Change) (found : Option (List Item))
-    → items_at table doc ≡ found → Sound kind type table → IsDocument doc → ChangeFits kind type change
-    → Sound kind type (unwrap_or (option_map (with_document table doc) (option_and_then (changed kind change) found)) table)
-sound-update kind type table doc change None is sound is_doc fits = sound
-sound-update kind type table doc change (Some items) is sound is_doc fits =
-    let lawful : ItemsFit kind type items = (
-      all-lookup (IsLawfulItems kind) (is_at (nat_cmp doc)) table sound.0.items items is,
-      all-lookup (λ xs. AreOfType type (values_of xs)) (is_at (nat_cmp doc)) table sound.1 items is,
-    ) in
-    sound-changed kind type table doc (changed kind change items) sound is_doc (changed_fits kind type change items fits lawful)
+-- what an update starts from fits
+pub start_fits : (fields : List Field) (table : Table) (doc : ℕ) (create : Bool) → Sound fields table
+    → IfSome (to_update fields create (document_at table doc)) (DocumentFits fields)
+start_fits fields table doc create sound = told create (document_at table doc) refl
+  where
+    told : (create : Bool) (found : Option Document) → document_at table doc ≡ found
+        → IfSome (to_update fields create found) (DocumentFits fields)
+    told create (Some document) is = found_fits fields table doc document sound is
+    told true None is = without_items_fits fields
+    told false None is = tt
 
-sound-removed : (kind : Kind) (type : ValueType) (table : Table) (doc : ℕ) (found : Option (List Item))
-    → Sound kind type table
-    → Sound kind type (unwrap_or (option_map (λ _. without_document table doc) found) table)
-sound-removed kind type table doc None sound = sound
-sound-removed kind type table doc (Some items) sound = sound-without kind type table doc sound
+then_updated : (fields : List Field) (changes : List Change) (start : Option Document) → ChangesFit fields changes
+    → IfSome start (DocumentFits fields)
+    → IfSome (option_and_then (updated fields changes) start) (DocumentFits fields)
+then_updated fields changes None fit fits = tt
+then_updated fields changes (Some document) fit fits = updated_fits fields changes document fit fits
 
-pub step_keeps : (kind : Kind) (type : ValueType) (table : Table) (op : Op) → Fits kind type op
-    → Sound kind type table → Sound kind type (after_op kind table op)
-step_keeps kind type table (Put doc items) fits sound = sound-with kind type table doc items sound fits.0 fits.1
-step_keeps kind type table (Update doc change) fits sound =
-    sound-update kind type table doc change (items_at table doc) refl sound fits.0 fits.1
-step_keeps kind type table (Remove doc) fits sound = sound-removed kind type table doc (items_at table doc) sound
+sound-changed : (fields : List Field) (table : Table) (doc : ℕ) (new : Option Document) → Sound fields table
+    → IsDocNumber doc → IfSome new (DocumentFits fields)
+    → Sound fields (unwrap_or (option_map (with_document table doc) new) table)
+sound-changed fields table doc None sound is_doc fits = sound
+sound-changed fields table doc (Some document) sound is_doc fits =
+    sound-with fields table doc document sound is_doc fits
 
-steps_keep : (kind : Kind) (type : ValueType) (table : Table) (ops : List Op) (n : ℕ)
-    → AllByRecursion (Fits kind type) ops
-    → Sound kind type table → Sound kind type (after_ops kind table (take n ops))
-steps_keep kind type table ops zero fits sound = sound
-steps_keep kind type table [] (suc n) fits sound = sound
-steps_keep kind type table (op ∷ ops) (suc n) fits sound =
-    steps_keep kind type (after_op kind table op) ops n fits.1 (step_keeps kind type table op fits.0 sound)
+sound-removed : (fields : List Field) (table : Table) (doc : ℕ) (found : Option Document) → Sound fields table
+    → Sound fields (unwrap_or (option_map (λ _. without_document table doc) found) table)
+sound-removed fields table doc None sound = sound
+sound-removed fields table doc (Some document) sound = sound-without fields table doc sound
 
-pub run_keeps : (kind : Kind) (type : ValueType) (ops : List Op) (n : ℕ) → AllByRecursion (Fits kind type) ops
-    → Sound kind type (after kind ops n)
+pub step_keeps : (fields : List Field) (table : Table) (op : Op) → OpFits fields op
+    → Sound fields table → Sound fields (after_op fields table op)
+step_keeps fields table (Put doc items) fits sound = sound-with fields table doc items sound fits.0 fits.1
+step_keeps fields table (Update doc create changes) fits sound =
+    sound-changed fields table doc
+    (option_and_then (updated fields changes) (to_update fields create (document_at table doc))) sound fits.0
+    (then_updated fields changes (to_update fields create (document_at table doc)) fits.1 (start_fits fields table doc create sound))
+step_keeps fields table (Remove doc) fits sound = sound-removed fields table doc (document_at table doc) sound
+
+steps_keep : (fields : List Field) (table : Table) (ops : List Op) (n : ℕ) → AllByRecursion (OpFits fields) ops
+    → Sound fields table → Sound fields (after_ops fields table (take n ops))
+steps_keep fields table ops zero fits sound = sound
+steps_keep fields table [] (suc n) fits sound = sound
+steps_keep fields table (op ∷ ops) (suc n) fits sound =
+    steps_keep fields (after_op fields table op) ops n fits.1 (step_keeps fields table op fits.0 sound)
+
+pub run_keeps : (fields : List Field) (ops : List Op) (n : ℕ) → AllByRecursion (OpFits fields) ops
+    → Sound fields (after fields ops n)
 unfolding IsStrictlySortedBy
-run_keeps kind type ops n fits =
-    steps_keep kind type [] ops n fits (record { ascends = tt; documents = tt; items = tt }, tt)
+run_keeps fields ops n fits =
+    steps_keep fields [] ops n fits (record { ascends = tt; numbers = tt; documents = tt }, tt)
 
-pub skipped_leaves : (kind : Kind) (table : Table) (op : Op) → is_skipped kind table op ≡ true
-    → after_op kind table op ≡ table
-skipped_leaves kind table op skipped = left (step kind table op) skipped
+pub skipped_leaves : (fields : List Field) (table : Table) (op : Op) → is_skipped fields table op ≡ true
+    → after_op fields table op ≡ table
+skipped_leaves fields table op skipped = left (step fields table op) skipped
   where
     left : (next : Option Table) → is_none next ≡ true → unwrap_or next table ≡ table
     left None none = refl
     left (Some next) none = cc
 
-other-changed : (table : Table) (doc other : ℕ) (items : Option (List Item)) → other ≢ doc
-    → items_at (unwrap_or (option_map (with_document table doc) items) table) other ≡ items_at table other
+other-changed : (table : Table) (doc other : ℕ) (new : Option Document) → other ≢ doc
+    → document_at (unwrap_or (option_map (with_document table doc) new) table) other ≡ document_at table other
 other-changed table doc other None apart = refl
-other-changed table doc other (Some items) apart =
-    lookup-insert_other nat_cmp_total table doc items other (nat_cmp_apart other doc apart)
+other-changed table doc other (Some document) apart =
+    lookup-insert_other nat_cmp_total table doc document other (nat_cmp_apart other doc apart)
 
-other-removed : (table : Table) (doc other : ℕ) (found : Option (List Item))
+other-removed : (table : Table) (doc other : ℕ) (found : Option Document)
     → IsStrictlySortedBy nat_cmp (keys_of table) → other ≢ doc
-    → items_at (unwrap_or (option_map (λ _. without_document table doc) found) table) other ≡ items_at table other
+    → document_at (unwrap_or (option_map (λ _. without_document table doc) found) table) other ≡ document_at table other
 other-removed table doc other None up apart = refl
-other-removed table doc other (Some items) up apart =
+other-removed table doc other (Some document) up apart =
     lookup-remove nat_cmp_total table doc other up
-    ∙ ap (λ b. cond b None (items_at table other)) (nat_cmp_apart doc other (λ same. apart (sym same)))
+    ∙ ap (λ b. cond b None (document_at table other)) (nat_cmp_apart doc other (λ same. apart (sym same)))
 
-pub others_stay : (kind : Kind) (table : Table) (op : Op) (other : ℕ) → IsLawfulTable kind table
-    → other ≢ document_of op
-    → items_at (after_op kind table op) other ≡ items_at table other
-others_stay kind table (Put doc items) other lawful apart = other-changed table doc other (Some items) apart
-others_stay kind table (Update doc change) other lawful apart =
-    other-changed table doc other (option_and_then (changed kind change) (items_at table doc)) apart
-others_stay kind table (Remove doc) other lawful apart =
-    other-removed table doc other (items_at table doc) lawful.ascends apart
+pub others_stay : (fields : List Field) (table : Table) (op : Op) (other : ℕ) → IsLawfulTable fields table
+    → other ≢ op_doc op
+    → document_at (after_op fields table op) other ≡ document_at table other
+others_stay fields table (Put doc items) other lawful apart = other-changed table doc other (Some items) apart
+others_stay fields table (Update doc create changes) other lawful apart =
+    other-changed table doc other
+    (option_and_then (updated fields changes) (to_update fields create (document_at table doc))) apart
+others_stay fields table (Remove doc) other lawful apart =
+    other-removed table doc other (document_at table doc) lawful.ascends apart
 
-pub put_is_there : (table : Table) (doc : ℕ) (items : List Item)
-    → items_at (with_document table doc items) doc ≡ Some items
+pub put_is_there : (table : Table) (doc : ℕ) (items : Document)
+    → document_at (with_document table doc items) doc ≡ Some items
 put_is_there table doc items = lookup-insert_here nat_cmp_total table doc items
 
-removed_is_gone : (table : Table) (doc : ℕ) (found : Option (List Item))
+removed_is_gone : (table : Table) (doc : ℕ) (found : Option Document)
     → IsStrictlySortedBy nat_cmp (keys_of table)
-    → items_at table doc ≡ found → items_at (unwrap_or (option_map (λ _. without_document table doc) found) table) doc ≡ None
+    → document_at table doc ≡ found
+    → document_at (unwrap_or (option_map (λ _. without_document table doc) found) table) doc ≡ None
 removed_is_gone table doc None up is = is
-removed_is_gone table doc (Some items) up is =
+removed_is_gone table doc (Some document) up is =
     lookup-remove nat_cmp_total table doc doc up
-    ∙ ap (λ r. cond (is_eq r) None (items_at table doc)) (tied_itself nat_cmp_total doc)
+    ∙ ap (λ r. cond (is_eq r) None (document_at table doc)) (tied_itself nat_cmp_total doc)
 
-pub remove_after_put : (kind : Kind) (table : Table) (doc : ℕ) (items : List Item) → IsLawfulTable kind table
-    → items_at (after_ops kind table (Put doc items ∷ Remove doc ∷ [])) doc ≡ None
-remove_after_put kind table doc items lawful =
+pub remove_after_put : (fields : List Field) (table : Table) (doc : ℕ) (items : Document) → IsLawfulTable fields table
+    → document_at (after_ops fields table (Put doc items ∷ Remove doc ∷ [])) doc ≡ None
+remove_after_put fields table doc items lawful =
     let put : Table = with_document table doc items in
-    removed_is_gone put doc (items_at put doc) (sorted-insert nat_cmp_total table doc items lawful.ascends) refl
+    removed_is_gone put doc (document_at put doc) (sorted-insert nat_cmp_total table doc items lawful.ascends) refl

@@ -2,53 +2,52 @@
 use Rattle.std.specs.Prelude.{ℕ, ◌≡◌, ◌≢◌, ◌↔◌, IsTrue, IsSomeAnd, Contains, List, [], ◌∷◌, Some, None}
 use Rattle.std.specs.List.{AllByRecursion}
 use Rattle.std.specs.List.Sorted.{IsStrictlyIncreasing}
-use Rattle.attr_types.specs.Lawful.{IsLawfulTable, HasType, Fits}
+use Rattle.attr_types.specs.Lawful.{IsLawfulTable, HasType, OpFits}
 use Rattle.attr_types.specs.Query.{QueryTree, Matches}
-use Rattle.attr_types.specs.Table.{Table, document_of, items_at, is_skipped, after_op, after_ops, after, hits}
-use Rattle.attr_types.specs.declared.items.Item.{Item}
-use Rattle.attr_types.specs.declared.kind.Kind.{Kind}
-use Rattle.attr_types.specs.declared.kind.ValueType.{ValueType}
+use Rattle.attr_types.specs.Table.{Table, op_doc, document_at, is_skipped, after_op, after_ops, after, hits}
+use Rattle.attr_types.specs.Value.{Document}
+use Rattle.attr_types.specs.declared.field.Field.{Field}
 use Rattle.attr_types.specs.declared.op.Op.{Op}
 use Rattle.attr_types.specs.declared.op.Op.TheVariants.{Put, Remove}
 
 -- hits ascend strictly, so each document is there once
 abbrev pub HitsAscend : Type 0
-HitsAscend = (query : QueryTree) (kind : Kind) (table : Table) → IsLawfulTable kind table
+HitsAscend = (query : QueryTree) (fields : List Field) (table : Table) → IsLawfulTable fields table
     → IsStrictlyIncreasing (hits query table)
 
--- a document is hit exactly where it is there and its items match
+-- a document is hit exactly where it is there and matches
 abbrev pub HitsAreMatches : Type 0
-HitsAreMatches = (query : QueryTree) (kind : Kind) (table : Table) (doc : ℕ) → IsLawfulTable kind table
-    → Contains (hits query table) doc ↔ IsSomeAnd (items_at table doc) (Matches query)
+HitsAreMatches = (query : QueryTree) (fields : List Field) (table : Table) (doc : ℕ) → IsLawfulTable fields table
+    → Contains (hits query table) doc ↔ IsSomeAnd (document_at table doc) (Matches query)
 
 -- a skipped operation leaves the table
 abbrev pub SkippedLeaves : Type 0
-SkippedLeaves = (kind : Kind) (table : Table) (op : Op) → IsTrue (is_skipped kind table op)
-    → after_op kind table op ≡ table
+SkippedLeaves = (fields : List Field) (table : Table) (op : Op) → IsTrue (is_skipped fields table op)
+    → after_op fields table op ≡ table
 
--- an operation that fits keeps a table lawful, with values of the attribute's type
+-- an operation that fits keeps a table lawful, with values of the attributes' types
 abbrev pub StepKeeps : Type 0
-StepKeeps = (kind : Kind) (type : ValueType) (table : Table) (op : Op) → Fits kind type op
-    → IsLawfulTable kind table × HasType type table
-    → IsLawfulTable kind (after_op kind table op) × HasType type (after_op kind table op)
+StepKeeps = (fields : List Field) (table : Table) (op : Op) → OpFits fields op
+    → IsLawfulTable fields table × HasType fields table
+    → IsLawfulTable fields (after_op fields table op) × HasType fields (after_op fields table op)
 
 -- so the table after the first n operations of a feed is lawful
 abbrev pub RunKeeps : Type 0
-RunKeeps = (kind : Kind) (type : ValueType) (ops : List Op) (n : ℕ) → AllByRecursion (Fits kind type) ops
-    → IsLawfulTable kind (after kind ops n) × HasType type (after kind ops n)
+RunKeeps = (fields : List Field) (ops : List Op) (n : ℕ) → AllByRecursion (OpFits fields) ops
+    → IsLawfulTable fields (after fields ops n) × HasType fields (after fields ops n)
 
 -- an operation changes no document but its own
 abbrev pub OthersStay : Type 0
-OthersStay =
-    (kind : Kind) (table : Table) (op : Op) (other : ℕ) → IsLawfulTable kind table → other ≢ document_of op
-    → items_at (after_op kind table op) other ≡ items_at table other
+OthersStay = (fields : List Field) (table : Table) (op : Op) (other : ℕ) → IsLawfulTable fields table
+    → other ≢ op_doc op
+    → document_at (after_op fields table op) other ≡ document_at table other
 
 -- a document that was put is there with its items
 abbrev pub PutIsThere : Type 0
-PutIsThere = (kind : Kind) (table : Table) (doc : ℕ) (items : List Item)
-    → items_at (after_op kind table (Put doc items)) doc ≡ Some items
+PutIsThere = (fields : List Field) (table : Table) (doc : ℕ) (items : Document)
+    → document_at (after_op fields table (Put doc items)) doc ≡ Some items
 
 -- a put and then a remove leave no document
 abbrev pub RemoveAfterPut : Type 0
-RemoveAfterPut = (kind : Kind) (table : Table) (doc : ℕ) (items : List Item) → IsLawfulTable kind table
-    → items_at (after_ops kind table (Put doc items ∷ Remove doc ∷ [])) doc ≡ None
+RemoveAfterPut = (fields : List Field) (table : Table) (doc : ℕ) (items : Document) → IsLawfulTable fields table
+    → document_at (after_ops fields table (Put doc items ∷ Remove doc ∷ [])) doc ≡ None

@@ -1,6 +1,7 @@
 pub mod Value
-pub mod ValueOrder
+pub mod ProofsForOrder
 pub mod Query
+pub mod Change
 pub mod Table
 pub mod Lawful
 pub mod Fitting

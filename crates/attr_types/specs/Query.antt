@@ -1,9 +1,9 @@
 -- A query as a tree, and what it matches.
 use Rattle.std.specs.Prelude.{ℕ, Bool, true, false, ◌&&◌, ◌||◌, IsTrue, List, [], ◌∷◌, map, Option, Some}
-use Rattle.std.specs.Prelude.{None, nat_eq}
+use Rattle.std.specs.Prelude.{None, nat_eq, slice_get, unwrap_or}
 use Rattle.std.specs.List.{list_any, starts_with}
 use Rattle.std.specs.Ordering.{is_lt, is_le, is_eq}
-use Rattle.attr_types.specs.Value.{value_cmp}
+use Rattle.attr_types.specs.Value.{value_cmp, Document}
 use Rattle.attr_types.specs.declared.items.Item.{Item}
 use Rattle.attr_types.specs.declared.query.Leaf.{Leaf}
 use Rattle.attr_types.specs.declared.query.Leaf.TheVariants.{Is, Prefix, Range, Below, Above}
@@ -15,7 +15,7 @@ use Rattle.attr_types.specs.declared.value.Value.TheVariants as values
 -- a query without where it lies in memory
 mutual
   pub data QueryTree : Type 0 where
-    one : Leaf → QueryTree
+    one : ℕ → Leaf → QueryTree
     and : QueryTrees → QueryTree
     or : QueryTrees → QueryTree
 
@@ -29,7 +29,7 @@ trees (t ∷ ts) = tree t (trees ts)
 
 -- one level, with each member already seen as its tree
 abbrev pub tree_step : Query-F QueryTree → QueryTree
-tree_step (Query-F.One leaf) = one leaf
+tree_step (Query-F.One field leaf) = one field leaf
 tree_step (Query-F.And queries) = and (trees queries.items)
 tree_step (Query-F.Or queries) = or (trees queries.items)
 
@@ -69,20 +69,25 @@ abbrev pub has_items : List Item → Bool
 has_items [] = false
 has_items (item ∷ items) = true
 
--- a query matches a document by its items; a document without items matches nothing
+-- the items that a document has in the attribute of this number
+abbrev pub items_in : Document → ℕ → List Item
+items_in document field = unwrap_or (slice_get document field) []
+
+-- what a query matches: a leaf asks for some one item of its attribute, and so a document without items in any
+-- attribute matches nothing
 abbrev mutual
-  pub matches : QueryTree → List Item → Bool
-  matches (one leaf) items = meets_some leaf items
-  matches (and members) items = has_items items && all_match members items
-  matches (or members) items = some_match members items
+  pub matches : QueryTree → Document → Bool
+  matches (one field leaf) document = meets_some leaf (items_in document field)
+  matches (and members) document = list_any has_items document && all_match members document
+  matches (or members) document = some_match members document
 
-  pub all_match : QueryTrees → List Item → Bool
-  all_match no_trees items = true
-  all_match (tree t ts) items = matches t items && all_match ts items
+  pub all_match : QueryTrees → Document → Bool
+  all_match no_trees document = true
+  all_match (tree t ts) document = matches t document && all_match ts document
 
-  pub some_match : QueryTrees → List Item → Bool
-  some_match no_trees items = false
-  some_match (tree t ts) items = matches t items || some_match ts items
+  pub some_match : QueryTrees → Document → Bool
+  some_match no_trees document = false
+  some_match (tree t ts) document = matches t document || some_match ts document
 
-abbrev pub Matches : QueryTree → List Item → Type 0
-Matches query items = IsTrue (matches query items)
+abbrev pub Matches : QueryTree → Document → Type 0
+Matches query document = IsTrue (matches query document)

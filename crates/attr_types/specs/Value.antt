@@ -1,4 +1,4 @@
--- The order of values, and their types.
+-- The order of values, their types, and the documents that have them.
 use Rattle.std.specs.Prelude.{◌≡◌, List, map}
 use Rattle.std.specs.declared.cmp.Ordering.{Ordering}
 use Rattle.std.specs.declared.cmp.Ordering.TheVariants.{Less, Greater}
@@ -28,3 +28,7 @@ AreOfType type list = AllByRecursion (λ value. type_of value ≡ type) list
 -- the values of items
 abbrev pub values_of : List Item → List Value
 values_of items = map (λ item. item.value) items
+
+-- a document, as its items in each attribute
+abbrev pub Document : Type 0
+Document = List (List Item)

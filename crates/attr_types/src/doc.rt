@@ -1,5 +1,6 @@
 ghost use Rattle.std.specs.Prelude.{◌≡◌, ◌≤◌};
 
+use crate::list::ListOf;
 use std::marker::Model;
 
 /// The number of a document, from 1 to 1,048,575. The number 0 is reserved.
@@ -40,3 +41,6 @@ impl Doc {
         self.number
     }
 }
+
+/// Documents in order, seen as the list of their numbers.
+pub type DocList = ListOf<Doc>;

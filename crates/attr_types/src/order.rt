@@ -3,7 +3,7 @@ ghost use Rattle.std.specs.Cmp.{IsTotalOrder, eq_by_cmp_equiv, partial_equiv_fro
 ghost use Rattle.std.specs.Ordering.{eq_by_cmp};
 ghost use Rattle.std.specs.declared.cmp.Ordering.TheVariants.{Equal};
 ghost use Rattle.attr_types.specs.Value.{value_cmp};
-ghost use Rattle.attr_types.specs.ValueOrder.{value_cmp_total};
+ghost use Rattle.attr_types.specs.ProofsForOrder.{value_cmp_total};
 ghost use Rattle.attr_types.specs.declared.value.Value.{Value};
 
 use crate::value::Value;

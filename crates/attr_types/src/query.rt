@@ -19,15 +19,15 @@ pub enum Leaf {
     Above(Value),
 }
 
-/// Queries in order, seen as a list.
+/// Queries in order.
 pub type Queries = Vec<Query>;
 
-/// What is asked of a document's items.
+/// What is asked of a document.
 #[derive(Debug, Drop)]
 pub enum Query {
-    /// Some item meets the leaf.
-    One(Leaf),
-    /// There is an item, and every member matches.
+    /// Some item of the attribute with this number meets the leaf.
+    One { field: u32, leaf: Leaf },
+    /// The document has some item in some attribute, and every member matches.
     And(Queries),
     /// Some member matches.
     Or(Queries),

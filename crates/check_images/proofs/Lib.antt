@@ -1,10 +1,8 @@
-pub mod TextLemmas
 pub mod WordLemmas
+pub mod TextLemmas
+pub mod ValueLemmas
 pub mod ItemLemmas
 pub mod OrderLemmas
-pub mod FaultLemmas
-pub mod ValueLemmas
 pub mod PairLemmas
-pub mod ThereLemmas
 pub mod IndexLemmas
 pub mod LawfulLemmas

@@ -1,17 +1,13 @@
 -- Whether two lists of documents with weights are one, as their test says.
 use Rattle.std.proofs.Common.{◌≡◌, ◌≢◌, ℕ, Bool, true, false, not, ◌&&◌, List, nat_eq, true≢false, refl, sym, ap, ◌∙◌, Decides}
 use Rattle.std.specs.Prelude.{ℤ}
-use Rattle.std.proofs.lemmas.Bool.Decides.{Decides-eqb, Decides-int_eq}
+use Rattle.std.proofs.lemmas.Bool.Decides.{Decides-eqb, Decides-int_eq, Decides-and}
 use Rattle.std.proofs.lemmas.Slice.Eq.{slice_eq-Decides}
 use Rattle.std.specs.Cmp.Lexicographic.{pointwise}
 use Rattle.std.specs.Ordering.{int_eq}
 
 abbrev pub pair_eq : ℕ × ℤ → ℕ × ℤ → Bool
 pair_eq a b = nat_eq a.0 b.0 && int_eq a.1 b.1
-
-both : (a b : Bool) {P Q : Type 0} → Decides a P → Decides b Q → Decides (a && b) (P × Q)
-both true b left right = (λ is. (left.0 refl, right.0 is), λ facts. right.1 facts.1)
-both false b left right = (λ is. absurd (true≢false (sym is)), λ facts. left.1 facts.0)
 
 pair_same : (a b : ℕ × ℤ) → a.0 ≡ b.0 → a.1 ≡ b.1 → a ≡ b
 pair_same a b first second =
@@ -20,7 +16,7 @@ pair_same a b first second =
 
 pub Decides-pair_eq : (a b : ℕ × ℤ) → Decides (pair_eq a b) (a ≡ b)
 Decides-pair_eq a b =
-    let parts = both (nat_eq a.0 b.0) (int_eq a.1 b.1) (Decides-eqb a.0 b.0) (Decides-int_eq a.1 b.1) in
+    let parts = Decides-and (nat_eq a.0 b.0) (int_eq a.1 b.1) (Decides-eqb a.0 b.0) (Decides-int_eq a.1 b.1) in
     (λ is. pair_same a b (parts.0 is).0 (parts.0 is).1, λ same. parts.1 (ap (λ (e : ℕ × ℤ). e.0) same, ap (λ (e : ℕ × ℤ). e.1) same))
 
 module _ (xs ys : List (ℕ × ℤ)) (answer : Bool) (told : answer ≡ not (pointwise pair_eq xs ys)) where

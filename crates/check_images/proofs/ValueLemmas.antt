@@ -1,24 +1,16 @@
 -- Which values are one, and among which values one is.
-use Rattle.std.proofs.Common.{◌≡◌, ◌≢◌, ℕ, zero, suc, ◌+◌, ◌<◌, Bool, true, false, List, [], ◌∷◌, ◌++◌, length, get_or, take, Option, Some, None, option_map, Ordering, is_eq, true≢false, refl, sym, ap, subst, ◌∙◌, arith, append-nil}
+use Rattle.std.proofs.Common.{◌≡◌, ◌≢◌, ℕ, zero, suc, ◌+◌, ◌<◌, Bool, true, false, List, [], ◌∷◌, ◌++◌, length, get_or, take, Option, Some, None, option_map, Ordering, is_eq, true≢false, sym, ap, subst, ◌∙◌, arith, append-nil}
 use Rattle.std.specs.Prelude.{ℤ, Contains}
 use Rattle.std.proofs.lemmas.Cmp.{tied_itself}
 use Rattle.std.proofs.lemmas.List.{take_more}
 use Rattle.std.proofs.lemmas.List.Elements.{at_read, filter_map-append}
 use Rattle.std.specs.Cmp.{Equal-is}
 use Rattle.std.specs.List.{find, filter_map, cons_option, AllByRecursion}
-use Rattle.std.specs.Map.{keys_of}
-use Rattle.image_base.specs.Records.{Records}
-use Rattle.attr_images.specs.Documents.{documents_table}
-use Rattle.attr_images.specs.Images.{documents_with}
-use Rattle.attr_images.specs.Postings.{index_of}
+use Rattle.attr_images.specs.Columns.{documents_with}
 use Rattle.attr_types.specs.Value.{value_cmp}
-use Rattle.attr_types.specs.ValueOrder.{value_cmp_total, value_cmp_exact}
+use Rattle.attr_types.specs.ProofsForOrder.{value_cmp_total, value_cmp_exact}
 use Rattle.attr_types.specs.declared.items.Item.{Item}
-use Rattle.attr_types.specs.declared.kind.Kind.{Kind}
-use Rattle.attr_types.specs.declared.kind.ValueType.{ValueType}
 use Rattle.attr_types.specs.declared.value.Value.{Value}
-use Rattle.check_images.specs.Faults.{IsFault}
-use Rattle.check_images.specs.declared.fault.ImageFault.TheVariants.{NoValue}
 
 pub same_value : (x v : Value) (r : Ordering) (answer : Bool) → r ≡ value_cmp x v → answer ≡ is_eq r → answer ≡ true → x ≡ v
 same_value x v r answer compared is so = value_cmp_exact x v ((Equal-is (value_cmp x v)).0 (ap is_eq (sym compared) ∙ sym is ∙ so))
@@ -33,6 +25,12 @@ contains_at xs i x v low is same = (i, low, at_read xs (λ y. y ≡ v) i x low i
 
 pub other_at : (xs : List Value) (i : ℕ) (x v : Value) → i < length xs → x ≡ get_or xs i x → x ≢ v → get_or xs i v ≢ v
 other_at xs i x v low is other = at_read xs (λ y. y ≢ v) i x low is other v
+
+-- what holds of all holds of one that is read
+pub all_at : {X : Type 0} (P : X → Type 0) (xs : List X) (i : ℕ) (x : X) → i < length xs → x ≡ get_or xs i x → AllByRecursion P xs → P x
+all_at P [] i x low is all = absurd (omega arith)
+all_at P (y ∷ ys) zero x low is all = subst P (sym is) all.0
+all_at P (y ∷ ys) (suc i) x low is all = all_at P ys i x (omega arith) is all.1
 
 -- one element more of which something holds
 pub all_more : {X : Type 0} (P : X → Type 0) (xs : List X) (i : ℕ) (x : X) → i < length xs → x ≡ get_or xs i x → AllByRecursion P (take i xs) → P x → AllByRecursion P (take (i + 1) xs)
@@ -49,25 +47,18 @@ kept_more h xs i x low is =
     ∙ ap (λ y. filter_map h (take i xs) ++ filter_map h (y ∷ [])) (sym is)
 
 -- and so of the documents with a value
-module _ (value : Value) (table : List (ℕ × List Item)) (i : ℕ) (e : ℕ × List Item) (low : i < length table) (is : e ≡ get_or table i e) where
+module _ (value : Value) (column : List (ℕ × List Item)) (i : ℕ) (e : ℕ × List Item) (low : i < length column) (is : e ≡ get_or column i e) where
   abbrev of : ℕ × List Item → Option (ℕ × ℤ)
   of d = option_map {U = ℕ × ℤ} (λ (item : Item). (d.0, item.weight)) (find (λ (item : Item). is_eq (value_cmp value item.value)) d.1)
 
-  pub document_more : (list more : List (ℕ × ℤ)) (pair : ℕ × ℤ) → of e ≡ Some pair → list ≡ documents_with value (take i table) → more ≡ list ++ pair ∷ [] → more ≡ documents_with value (take (i + 1) table)
+  pub document_more : (list more : List (ℕ × ℤ)) (pair : ℕ × ℤ) → of e ≡ Some pair → list ≡ documents_with value (take i column) → more ≡ list ++ pair ∷ [] → more ≡ documents_with value (take (i + 1) column)
   document_more list more pair told so_far next =
       next ∙ ap (λ xs. xs ++ pair ∷ []) so_far
-      ∙ ap (λ o. documents_with value (take i table) ++ cons_option o []) (sym told)
-      ∙ sym (kept_more of table i e low is)
+      ∙ ap (λ o. documents_with value (take i column) ++ cons_option o []) (sym told)
+      ∙ sym (kept_more of column i e low is)
 
-  pub document_none : (list : List (ℕ × ℤ)) → of e ≡ None → list ≡ documents_with value (take i table) → list ≡ documents_with value (take (i + 1) table)
+  pub document_none : (list : List (ℕ × ℤ)) → of e ≡ None → list ≡ documents_with value (take i column) → list ≡ documents_with value (take (i + 1) column)
   document_none list told so_far =
-      so_far ∙ sym (append-nil (documents_with value (take i table)))
-      ∙ ap (λ o. documents_with value (take i table) ++ cons_option o []) (sym told)
-      ∙ sym (kept_more of table i e low is)
-
--- a document with a value that is not in the dictionary
-pub no_value : (kind : Kind) (type : ValueType) (m : Records) (documents dictionary : ℕ) (table : List (ℕ × List Item)) (values : List Value) (i : ℕ) (e : ℕ × List Item)
-    → i < length table → e ≡ get_or table i e → (item : Item) × Contains e.1 item × (¬ Contains values item.value)
-    → table ≡ documents_table kind type m documents → values ≡ keys_of (index_of type m dictionary) → IsFault kind type m documents dictionary (NoValue e.0)
-no_value kind type m documents dictionary table values i e low is missing all index =
-    (e.1, subst (λ t. Contains t e) all (contains_at table i e e low is refl), (missing.0, missing.1, λ among. missing.2 (subst (λ vs. Contains vs missing.0.value) (sym index) among)))
+      so_far ∙ sym (append-nil (documents_with value (take i column)))
+      ∙ ap (λ o. documents_with value (take i column) ++ cons_option o []) (sym told)
+      ∙ sym (kept_more of column i e low is)

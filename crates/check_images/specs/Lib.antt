@@ -1,4 +1,2 @@
 pub mod Told
 pub mod Weights
-pub mod Faults
-pub mod Laws

@@ -1,16 +1,11 @@
-ghost use Rattle.std.specs.Prelude.{◌≡◌, ◌↔◌, ◌≤◌, ℕ, IsTrue, OnOk, IfErr};
+ghost use Rattle.std.specs.Prelude.{◌≡◌, ◌↔◌, ◌≤◌, ℕ, List, IsTrue};
 ghost use Rattle.std.specs.List.{AllByRecursion};
-ghost use Rattle.std.specs.Map.{keys_of};
-ghost use Rattle.image_base.specs.Records.{Records};
-ghost use Rattle.attr_images.specs.Documents.{documents_table};
 ghost use Rattle.attr_types.specs.Fitting.{ascends};
-ghost use Rattle.attr_types.specs.Lawful.{IsDocument, HaveWeightOne, AscendByValue, IsLawfulItems};
+ghost use Rattle.attr_types.specs.Lawful.{IsDocNumber, HaveWeightOne, AscendByValue, IsLawfulItems};
 ghost use Rattle.attr_types.specs.Value.{values_of};
-ghost use Rattle.attr_types.specs.declared.kind.ValueType.{ValueType};
-ghost use Rattle.check_images.specs.Faults.{IsFault};
+ghost use Rattle.attr_types.specs.declared.items.Item.{Item};
 
-use crate::fault::ImageFault;
-use attr_types::{Doc, Item, Items, Kind};
+use attr_types::{Doc, Item, Items, Kind, MOST_ITEMS};
 
 /// Whether each value is below the next.
 fn rise(items: &[Item]) -> bool
@@ -52,28 +47,25 @@ fn are_lawful(kind: Kind, items: &[Item]) -> bool
 {
     match kind {
         Kind::Single => items.len() <= 1 && weigh_one(items),
-        Kind::Array => items.len() <= Items::MAX_LEN && weigh_one(items),
-        Kind::WeightedSet => items.len() <= Items::MAX_LEN && ascend(items),
+        Kind::Array => items.len() <= MOST_ITEMS && weigh_one(items),
+        Kind::WeightedSet => items.len() <= MOST_ITEMS && ascend(items),
     }
 }
 
 fn is_document(number: u64) -> bool
-    ensures { IsTrue result ↔ IsDocument number }
+    ensures { IsTrue result ↔ IsDocNumber number }
 {
     1 <= number && number <= u64::from(Doc::LAST)
 }
 
-/// Looks at the number and the items of each document.
-pub fn check_documents(kind: Kind, table: &[(u64, Items)]) -> Result<(), ImageFault>
-    ensures documents { OnOk result (AllByRecursion IsDocument (keys_of table.now)) }
-    ensures items { OnOk result (AllByRecursion (λ e. IsLawfulItems kind e.1) table.now) }
-    ensures named { IfErr result (λ fault. (value_type : ValueType) (m : Records) (documents dictionary : ℕ)
-        → table.now ≡ documents_table kind value_type m documents → IsFault kind value_type m documents dictionary fault) }
+/// Whether each document has a document's number and items that it may have.
+pub fn are_lawful_documents(kind: Kind, column: &[(u64, Items)]) -> bool
+    ensures { IsTrue result ↔ AllByRecursion (λ (e : ℕ × List Item). IsDocNumber e.0 × IsLawfulItems kind e.1) column.now }
 {
-    for (number, items) in table {
+    for (number, items) in column {
         if !is_document(*number) || !are_lawful(kind, items.as_slice()) {
-            return Err(ImageFault::Document(*number));
+            return false;
         }
     }
-    Ok(())
+    true
 }

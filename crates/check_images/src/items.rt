@@ -1,17 +1,16 @@
 ghost use Rattle.std.specs.Prelude.{◌≡◌, ◌≤◌, ℕ, ℤ, pos, map, IfOk, OnOk, IfErr};
 ghost use Rattle.std.specs.List.{AllByRecursion};
-ghost use Rattle.attr_images.specs.Documents.{weighted, IsItemsRecord, items_at, AreItems};
-ghost use Rattle.tree_images.specs.Trees.{tree_pairs};
-ghost use Rattle.attr_images.specs.Values.{value_at, IsValueRecord};
+ghost use Rattle.attr_images.specs.Documents.{weighted, IsItemsRecord, items_at, AreItemRecords};
+ghost use Rattle.attr_images.specs.Values.{stored_value, IsValueRecord};
 ghost use Rattle.image_base.specs.Maps.{seen};
-ghost use Rattle.check_images.specs.Faults.{IsFault};
+ghost use Rattle.check_trees.specs.Refutations.{Refutes};
 ghost use Rattle.check_images.specs.Told.{Tells};
 ghost use Rattle.check_images.specs.Weights.{weights};
 
-use crate::fault::ImageFault;
 use crate::values::read_value;
 use crate::words::{read_list, unpack_all};
-use attr_types::{Item, Items, Kind, ValueType};
+use attr_types::{Item, Items, Kind, MOST_ITEMS, ValueType};
+use check_trees::CheckFault;
 use image_base::words_at;
 use std::alloc::{AllocError, Global};
 use std::collections::BTreeMap;
@@ -48,7 +47,7 @@ fn weigh(
     if let Kind::Single = kind {
         return Ok(Some(vec![in alloc; (reference, 1)]?));
     }
-    match read_list(alloc, Items::MAX_LEN, words)? {
+    match read_list(alloc, MOST_ITEMS, words)? {
         Some(items) => Ok(Some(weigh_list(alloc, kind, items)?)),
         None => Ok(None),
     }
@@ -62,7 +61,7 @@ fn read_values(
     list: &[(u64, i32)],
 ) -> Result<Option<Items>, AllocError>
     ensures { IfOk result (Tells (AllByRecursion (λ (e : ℕ × ℤ). IsValueRecord value_type (seen records.now e.0)) list.now)
-        (λ items. items ≡ map (λ (e : ℕ × ℤ). record { value = value_at value_type (seen records.now) e.0; weight = e.1 }) list.now)) }
+        (λ items. items ≡ map (λ (e : ℕ × ℤ). record { value = stored_value value_type (seen records.now) e.0; weight = e.1 }) list.now)) }
 {
     let mut items = Items::new(alloc);
     for entry in list {
@@ -85,7 +84,7 @@ fn read_items(
     records: &BTreeMap<u32, Vec<u64>>,
     reference: u64,
 ) -> Result<Option<Items>, AllocError>
-    ensures { IfOk result (Tells (AreItems kind value_type (seen records.now) reference)
+    ensures { IfOk result (Tells (AreItemRecords kind value_type (seen records.now) reference)
         (λ items. items ≡ items_at kind value_type (seen records.now) reference)) }
 {
     match weigh(alloc, kind, reference, words_at(records, reference))? {
@@ -101,23 +100,22 @@ pub fn read_documents(
     value_type: ValueType,
     records: &BTreeMap<u32, Vec<u64>>,
     pairs: &[(u64, u64)],
-) -> Result<Vec<(u64, Items)>, ImageFault>
-    ensures items { OnOk result (AllByRecursion (λ (p : ℕ × ℕ). AreItems kind value_type (seen records.now) p.1) pairs.now) }
-    ensures table { IfOk result (λ table. table.items
+) -> Result<Vec<(u64, Items)>, CheckFault>
+    ensures items { OnOk result (AllByRecursion (λ (p : ℕ × ℕ). AreItemRecords kind value_type (seen records.now) p.1) pairs.now) }
+    ensures column { IfOk result (λ column. column.items
         ≡ map (λ (p : ℕ × ℕ). (p.0, items_at kind value_type (seen records.now) p.1)) pairs.now) }
-    ensures named { IfErr result (λ fault. (documents dictionary : ℕ) → pairs.now ≡ tree_pairs (seen records.now) documents
-        → IsFault kind value_type (seen records.now) documents dictionary fault) }
+    ensures exact { IfErr result (Refutes (AllByRecursion (λ (p : ℕ × ℕ). AreItemRecords kind value_type (seen records.now) p.1) pairs.now)) }
 {
-    let mut table = Vec::new(alloc);
+    let mut column = Vec::new(alloc);
     for pair in pairs {
         match read_items(alloc, kind, value_type, records, pair.1)? {
             Some(items) => {
-                if table.push((pair.0, items)).is_err() {
-                    return Err(ImageFault::Memory);
+                if column.push((pair.0, items)).is_err() {
+                    return Err(CheckFault::Memory);
                 }
             }
-            None => return Err(ImageFault::Items(pair.1)),
+            None => return Err(CheckFault::Broken),
         }
     }
-    Ok(table)
+    Ok(column)
 }

@@ -1,19 +1,13 @@
-//! A slow checker of whole images: it answers the table, or a part of a lawful image that fails.
+//! A slow checker of whole images: its contract is the definitions of attr_images.
 #![tactic(auto)]
 
 mod coverage;
 mod dictionary;
 mod documents;
-mod fault;
 mod image;
 mod items;
-mod laws;
 mod postings;
-#[cfg(test)]
-mod tests;
 mod values;
 mod words;
 
-pub use fault::ImageFault;
 pub use image::check_image;
-pub use laws::there_law;

@@ -4,7 +4,7 @@ ghost use Rattle.check_images.specs.Told.{Tells};
 
 use crate::words::is_filled;
 use attr_types::{Text, Value, ValueType};
-use check_trees::{long_of, text_of};
+use check_trees::{stored_long, stored_text};
 use std::alloc::{AllocError, Global};
 
 /// The first eight bytes, with zeros where there are fewer.
@@ -72,9 +72,9 @@ fn value_of(
     ensures { IfOk result (Tells (IsLawfulValue (value_of value_type words.now)) (λ value. value ≡ value_of value_type words.now)) }
 {
     if value_type == ValueType::Long {
-        return Ok(Some(Value::Long(long_of(words))));
+        return Ok(Some(Value::Long(stored_long(words))));
     }
-    let bytes = text_of(alloc, words)?;
+    let bytes = stored_text(alloc, words)?;
     if bytes.len() > Text::MAX_LEN {
         return Ok(None);
     }

@@ -1,17 +1,18 @@
 ghost use Rattle.std.specs.Prelude.{◌≡◌, ◌↔◌, ◌≤◌, ◌∷◌, length, map, OnOk, IfOk, IsTrue};
-ghost use Rattle.attr_images.specs.Words.{class_of, filled, items_of, unpacked, IsStoredList};
+ghost use Rattle.attr_images.specs.Words.{class_of, filled, stored_items, unpacked, IsStoredList};
 ghost use Rattle.check_images.specs.Told.{Tells};
 
-use check_trees::{rest_of, word_at};
+use check_trees::rest_of;
+use image_base::word_in;
 use std::alloc::{AllocError, Global};
 
-const WIDTHS: [usize; 10] = [2, 4, 8, 16, 32, 64, 128, 256, 512, 1024];
+const CLASSES: [usize; 10] = [2, 4, 8, 16, 32, 64, 128, 256, 512, 1024];
 
-/// The least width that holds so many words, 1024 at most.
+/// The least width that holds `count` words, 1024 at most.
 fn class_of(count: usize) -> usize
     ensures { result ≡ class_of count }
 {
-    for width in WIDTHS {
+    for width in CLASSES {
         if count <= width {
             return width;
         }
@@ -37,22 +38,22 @@ pub fn is_filled(mut front: Vec<u64>, words: &[u64]) -> Result<bool, AllocError>
 }
 
 /// The items of a list that stands behind its count.
-pub fn items_of(words: &[u64]) -> &[u64]
-    ensures { result.now ≡ items_of words.now }
+pub fn stored_items(words: &[u64]) -> &[u64]
+    ensures { result.now ≡ stored_items words.now }
 {
     let rest = rest_of(words);
-    let count = word_at(words, 0) as usize;
+    let count = word_in(words, 0) as usize;
     match rest.get(..count) {
         Some(items) => items,
         None => rest,
     }
 }
 
-/// The items of a stored list, if the record is one of at most so many.
+/// The items of a stored list, if the record is one of at most `most`.
 pub fn read_list(alloc: Global, most: usize, words: &[u64]) -> Result<Option<&[u64]>, AllocError>
-    ensures { IfOk result (Tells (IsStoredList most words.now) (λ items. items.now ≡ items_of words.now)) }
+    ensures { IfOk result (Tells (IsStoredList most words.now) (λ items. items.now ≡ stored_items words.now)) }
 {
-    let items = items_of(words);
+    let items = stored_items(words);
     if items.is_empty() || items.len() > most {
         return Ok(None);
     }
@@ -70,8 +71,8 @@ pub fn read_list(alloc: Global, most: usize, words: &[u64]) -> Result<Option<&[u
 pub fn unpack(word: u64) -> (u64, i32)
     ensures { result ≡ unpacked word }
 {
-    let weight = (word % 4294967296) as u32;
-    (word / 4294967296, weight.cast_signed())
+    let weight = (word % (1 << 32)) as u32;
+    (word / (1 << 32), weight.cast_signed())
 }
 
 /// The numbers and weights that words hold.

@@ -1,22 +1,22 @@
 -- Keys in order, by what they read as.
-use Rattle.std.proofs.Common.{◌≡◌, ◌≢◌, inl, inr, ℕ, ◌<◌, List, [], ◌∷◌, ◌++◌, length, map, refl, sym, ap, ◌∙◌, arith, Bool, true, false, true≢false, Ordering, Less, Equal, Greater, is_lt}
+use Rattle.std.proofs.Common.{◌≡◌, ◌≢◌, ℕ, ◌<◌, List, [], ◌∷◌, ◌++◌, length, map, refl, sym, ap, ◌∙◌, arith, Bool, true, false, true≢false, Ordering, Less, Equal, Greater, is_lt}
 use Rattle.std.proofs.lemmas.Cmp.{nat_cmp_total, on_total}
 use Rattle.std.specs.Cmp.{IsTotalOrder}
 use Rattle.std.specs.List.{AllByRecursion}
 use Rattle.std.specs.List.Sorted.{IsStrictlySortedBy}
 use Rattle.image_base.specs.Records.{Records}
 use Rattle.tree_images.specs.Trees.{last_key, tree_pairs, IsRootNode}
-use Rattle.attr_images.specs.Values.{value_at}
+use Rattle.attr_images.specs.Values.{stored_value}
 use Rattle.attr_types.specs.Value.{value_cmp}
-use Rattle.attr_types.specs.ValueOrder.{value_cmp_total}
+use Rattle.attr_types.specs.ProofsForOrder.{value_cmp_total}
 use Rattle.attr_types.specs.declared.value.Value.{Value}
-use Rattle.check_trees.specs.Keys.{key_cmp, IsTreeOf, Ascends, IsOutOfOrder}
+use Rattle.check_trees.specs.Keys.{key_cmp, IsTreeOf, PairsAscend}
 use Rattle.check_trees.specs.declared.keys.Keys.{Keys}
 use Rattle.check_trees.specs.declared.keys.Keys.TheVariants.{Numbers, Values}
 
 pub key_cmp_total : (keys : Keys) (m : Records) → IsTotalOrder (key_cmp keys m)
 key_cmp_total Numbers m = nat_cmp_total
-key_cmp_total (Values type) m = on_total (value_at type m) value_cmp_total
+key_cmp_total (Values type) m = on_total (stored_value type m) value_cmp_total
 
 module _ (keys : Keys) (m : Records) where
   all_left : (k : ℕ) (ps qs : List (ℕ × ℕ)) → AllByRecursion (λ y. key_cmp keys m k y ≡ Less) (map (λ (q : ℕ × ℕ). q.0) (ps ++ qs)) → AllByRecursion (λ y. key_cmp keys m k y ≡ Less) (map (λ (q : ℕ × ℕ). q.0) ps)
@@ -32,22 +32,22 @@ module _ (keys : Keys) (m : Records) where
   all_last k p [] all = all.0
   all_last k p (q ∷ ps) all = all_last k q ps all.1
 
-  pub ascends-none : Ascends keys m []
+  pub ascends-none : PairsAscend keys m []
   unfolding IsStrictlySortedBy
   ascends-none = tt
 
-  pub ascends-left : (ps qs : List (ℕ × ℕ)) → Ascends keys m (ps ++ qs) → Ascends keys m ps
+  pub ascends-left : (ps qs : List (ℕ × ℕ)) → PairsAscend keys m (ps ++ qs) → PairsAscend keys m ps
   unfolding IsStrictlySortedBy
   ascends-left [] qs up = tt
   ascends-left (p ∷ ps) qs up = (all_left p.0 ps qs up.0, ascends-left ps qs up.1)
 
   -- one more pair
-  pub ascends-first : (ps : List (ℕ × ℕ)) (p : ℕ × ℕ) → length ps ≡ 0 → Ascends keys m (ps ++ p ∷ [])
+  pub ascends-first : (ps : List (ℕ × ℕ)) (p : ℕ × ℕ) → length ps ≡ 0 → PairsAscend keys m (ps ++ p ∷ [])
   unfolding IsStrictlySortedBy
   ascends-first [] p none = (tt, tt)
   ascends-first (q ∷ qs) p none = absurd (omega arith)
 
-  pub ascends-more : (ps : List (ℕ × ℕ)) (p : ℕ × ℕ) → Ascends keys m ps → key_cmp keys m (last_key ps) p.0 ≡ Less → Ascends keys m (ps ++ p ∷ [])
+  pub ascends-more : (ps : List (ℕ × ℕ)) (p : ℕ × ℕ) → PairsAscend keys m ps → key_cmp keys m (last_key ps) p.0 ≡ Less → PairsAscend keys m (ps ++ p ∷ [])
   unfolding IsStrictlySortedBy
   ascends-more [] p up less = (tt, tt)
   ascends-more (q ∷ []) p up less = ((less, tt), (tt, tt))
@@ -55,24 +55,12 @@ module _ (keys : Keys) (m : Records) where
       let above = (key_cmp_total keys m).trans q.0 (last_key (r ∷ ps)) p.0 (all_last q.0 r ps up.0) less in
       (all_more q.0 (r ∷ ps) p up.0 above, ascends-more (r ∷ ps) p up.1 less)
 
-  -- a key that is not above the last
-  pub out_of_order : (ps : List (ℕ × ℕ)) (p : ℕ × ℕ) → 0 < length ps → key_cmp keys m (last_key ps) p.0 ≢ Less → IsOutOfOrder keys m (ps ++ p ∷ []) p.0
-  out_of_order [] p some other = absurd (omega arith)
-  out_of_order (q ∷ []) p some other = inl (refl, other)
-  out_of_order (q ∷ r ∷ ps) p some other = inr (out_of_order (r ∷ ps) p (omega arith) other)
-
-  pub out_of_order-more : (ps qs : List (ℕ × ℕ)) (key : ℕ) → IsOutOfOrder keys m ps key → IsOutOfOrder keys m (ps ++ qs) key
-  out_of_order-more [] qs key out = absurd out
-  out_of_order-more (p ∷ []) qs key out = absurd out
-  out_of_order-more (p ∷ q ∷ ps) qs key (inl here) = inl here
-  out_of_order-more (p ∷ q ∷ ps) qs key (inr there) = inr (out_of_order-more (q ∷ ps) qs key there)
-
-  pub out_of_order-refutes : (ps : List (ℕ × ℕ)) (key : ℕ) → IsOutOfOrder keys m ps key → ¬ Ascends keys m ps
+  -- a key behind others is above the last
+  pub ascends-last : (ps : List (ℕ × ℕ)) (p : ℕ × ℕ) → 0 < length ps → PairsAscend keys m (ps ++ p ∷ []) → key_cmp keys m (last_key ps) p.0 ≡ Less
   unfolding IsStrictlySortedBy
-  out_of_order-refutes [] key out up = out
-  out_of_order-refutes (p ∷ []) key out up = out
-  out_of_order-refutes (p ∷ q ∷ ps) key (inl here) up = here.1 up.0.0
-  out_of_order-refutes (p ∷ q ∷ ps) key (inr there) up = out_of_order-refutes (q ∷ ps) key there up.1
+  ascends-last [] p some up = absurd (omega arith)
+  ascends-last (q ∷ []) p some up = up.0.0
+  ascends-last (q ∷ r ∷ ps) p some up = ascends-last (r ∷ ps) p (omega arith) up.1
 
 -- keys ascend just where what they read as does
 module _ (read : ℕ → Value) where
@@ -95,17 +83,17 @@ module _ (read : ℕ → Value) where
   from_read (p ∷ ps) up = (from_all p.0 ps up.0, from_read ps up.1)
 
 -- a tree is a root node, if there is one, and keys that ascend
-pub make_tree : (keys : Keys) (m : Records) (root : ℕ) → (0 < root → IsRootNode m root) → Ascends keys m (tree_pairs m root) → IsTreeOf keys m root
+pub make_tree : (keys : Keys) (m : Records) (root : ℕ) → (0 < root → IsRootNode m root) → PairsAscend keys m (tree_pairs m root) → IsTreeOf keys m root
 make_tree Numbers m root node up = record { node = node; ascends = up }
-make_tree (Values type) m root node up = record { node = node; ascends = to_read (value_at type m) (tree_pairs m root) up }
+make_tree (Values type) m root node up = record { node = node; ascends = to_read (stored_value type m) (tree_pairs m root) up }
 
 pub tree-node : (keys : Keys) (m : Records) (root : ℕ) → IsTreeOf keys m root → 0 < root → IsRootNode m root
 tree-node Numbers m root tree = tree.node
 tree-node (Values type) m root tree = tree.node
 
-pub tree-ascends : (keys : Keys) (m : Records) (root : ℕ) → IsTreeOf keys m root → Ascends keys m (tree_pairs m root)
+pub tree-ascends : (keys : Keys) (m : Records) (root : ℕ) → IsTreeOf keys m root → PairsAscend keys m (tree_pairs m root)
 tree-ascends Numbers m root tree = tree.ascends
-tree-ascends (Values type) m root tree = from_read (value_at type m) (tree_pairs m root) tree.ascends
+tree-ascends (Values type) m root tree = from_read (stored_value type m) (tree_pairs m root) tree.ascends
 
 pub is_less : (r : Ordering) (answer : Bool) → answer ≡ is_lt r → answer ≡ true → r ≡ Less
 is_less Less answer is so = refl

@@ -1,6 +1,5 @@
-pub mod Forms
+pub mod Walks
 pub mod KeyLemmas
-pub mod FaultLemmas
 pub mod PairLemmas
 pub mod WalkLemmas
 pub mod NodeSteps

@@ -1,7 +1,6 @@
 -- Pairs, and the last of them.
-use Rattle.std.proofs.Common.{◌≡◌, ℕ, zero, suc, ◌-◌, ◌<◌, List, [], ◌∷◌, ◌++◌, length, None, Some, refl, sym, ap, ◌∙◌, arith, Bool, true, false, true≢false, ne_eqb}
-use Rattle.std.specs.Prelude.{◌==◌}
-use Rattle.std.specs.List.{zip, slice_get}
+use Rattle.std.proofs.Common.{◌≡◌, ℕ, suc, ◌-◌, ◌<◌, List, [], ◌∷◌, ◌++◌, length, None, Some, refl, sym, ap, ◌∙◌, arith}
+use Rattle.std.specs.List.{slice_get}
 use Rattle.tree_images.specs.Trees.{last_key}
 
 -- the last key of pairs is that of the last pair
@@ -20,23 +19,3 @@ last-append [] qs some = refl
 last-append (p ∷ []) [] some = absurd (omega arith)
 last-append (p ∷ []) (q ∷ qs) some = refl
 last-append (p ∷ r ∷ ps) qs some = last-append (r ∷ ps) qs some
-
--- one more of two lists side by side
-pub zip-append : (ks vs ls ws : List ℕ) → length ks ≡ length vs → zip (ks ++ ls) (vs ++ ws) ≡ zip ks vs ++ zip ls ws
-zip-append [] [] ls ws e = refl
-zip-append [] (v ∷ vs) ls ws e = absurd (omega arith)
-zip-append (k ∷ ks) [] ls ws e = absurd (omega arith)
-zip-append (k ∷ ks) (v ∷ vs) ls ws e = ap (λ ps. (k, v) ∷ ps) (zip-append ks vs ls ws (omega arith))
-
--- what a test for no pair tells of their number
-pub some_from : (n : ℕ) (answer : Bool) → answer ≡ (n == 0) → answer ≡ false → 0 < n
-some_from zero answer is no_pair = absurd (true≢false (sym is ∙ no_pair))
-some_from (suc n) answer is no_pair = omega arith
-
-pub none_from : (n : ℕ) (answer : Bool) → answer ≡ (n == 0) → answer ≡ true → n ≡ 0
-none_from zero answer is a_pair = refl
-none_from (suc n) answer is a_pair = absurd (true≢false (sym a_pair ∙ is ∙ ne_eqb (suc n) 0 (λ e. omega arith)))
-
-pub none_words : (ws : List ℕ) (answer : Bool) → answer ≡ (length ws == 0) → answer ≡ true → ws ≡ []
-none_words [] answer is none = refl
-none_words (w ∷ ws) answer is none = absurd (let e = none_from (length (w ∷ ws)) answer is none in omega arith)

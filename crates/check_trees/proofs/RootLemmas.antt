@@ -1,32 +1,17 @@
 -- The tree at a root.
-use Rattle.std.proofs.Common.{◌≡◌, ◌≢◌, ℕ, zero, suc, ◌<◌, ◌≤◌, List, [], ◌++◌, refl, sym, ap, subst, ◌∙◌, arith}
+use Rattle.std.proofs.Common.{◌≡◌, ℕ, zero, suc, ◌<◌, ◌≤◌, List, [], ◌++◌, refl, sym, ap, subst, ◌∙◌, arith}
 use Rattle.image_base.specs.Records.{Records}
+use Rattle.tree_images.proofs.TreeLemmas.{IsNode-form}
 use Rattle.tree_images.specs.Nodes.{level_of}
 use Rattle.tree_images.specs.Trees.{pairs_below, tree_pairs, root_level, root_least, IsNode}
-use Rattle.check_trees.proofs.FaultLemmas.{fault_here, named_refutes}
-use Rattle.check_trees.proofs.KeyLemmas.{ascends-none, make_tree}
-use Rattle.check_trees.specs.Faults.{IsFault, IsNamed}
-use Rattle.check_trees.specs.Keys.{Ascends, IsTreeOf}
-use Rattle.check_trees.specs.Walks.{Refuses}
-use Rattle.check_trees.specs.declared.fault.NodeFault.TheVariants.{Level}
-use Rattle.check_trees.specs.declared.fault.TreeFault.{TreeFault}
-use Rattle.check_trees.specs.declared.fault.TreeFault.TheVariants.{Missing, Form}
+use Rattle.check_trees.proofs.KeyLemmas.{ascends-none, make_tree, tree-node, tree-ascends}
+use Rattle.check_trees.specs.Keys.{PairsAscend, IsTreeOf}
 use Rattle.check_trees.specs.declared.keys.Keys.{Keys}
 
 -- root 0 is the empty tree
 pub empty_tree : (keys : Keys) (m : Records) (root : ℕ) → root ≡ 0 → IsTreeOf keys m root
 empty_tree keys m zero none = make_tree keys m 0 (λ some. absurd (omega arith)) (ascends-none keys m)
 empty_tree keys m (suc ref) none = absurd (omega arith)
-
--- a root with no words
-pub root-missing : (keys : Keys) (m : Records) (root : ℕ) → 0 < root → m root ≡ [] → IsNamed keys m root (Missing root)
-root-missing keys m root some none = (some, fault_here keys m [] (root_least (root_level m root)) (root_level m root) root (Missing root) (refl, none))
-
--- a root's level is at most 7
-pub root-high : (keys : Keys) (m : Records) (root : ℕ) → 0 < root → 7 < level_of (m root) → IsNamed keys m root (Form root Level)
-root-high keys m root some high =
-    let other : level_of (m root) ≢ root_level m root = λ same. omega arith in
-    (some, fault_here keys m [] (root_least (root_level m root)) (root_level m root) root (Form root Level) (refl, other))
 
 root_reads : (m : Records) (root level : ℕ) → level ≡ level_of (m root) → level ≤ 7 → root_level m root ≡ level
 root_reads m root level is low = omega arith
@@ -42,14 +27,18 @@ module _ (keys : Keys) (m : Records) (root level : ℕ) (some : 0 < root) (is : 
   pub root-pairs : (pairs : List (ℕ × ℕ)) → pairs ≡ [] ++ pairs_below m level root → pairs ≡ tree_pairs m root
   root-pairs pairs found = found ∙ sym root_pairs
 
-  pub root-tree : (pairs : List (ℕ × ℕ)) → IsNode m (root_least level) level root → pairs ≡ [] ++ pairs_below m level root → Ascends keys m pairs → IsTreeOf keys m root
+  pub root-tree : (pairs : List (ℕ × ℕ)) → IsNode m (root_least level) level root → pairs ≡ [] ++ pairs_below m level root → PairsAscend keys m pairs → IsTreeOf keys m root
   root-tree pairs node found up =
       make_tree keys m root
       (λ more. subst (λ l. IsNode m (root_least l) l root) (sym (root_reads m root level is low)) node)
-      (subst (Ascends keys m) (found ∙ sym root_pairs) up)
+      (subst (PairsAscend keys m) (found ∙ sym root_pairs) up)
 
-  pub root-fault : (fault : TreeFault) → IsFault keys m [] (root_least level) level root fault → IsNamed keys m root fault
-  root-fault fault here = (some, subst (λ l. IsFault keys m [] (root_least l) l root fault) (sym (root_reads m root level is low)) here)
+  -- where the root is a tree's, the node stands and its pairs ascend
+  root-stands : IsTreeOf keys m root → IsNode m (root_least level) level root × PairsAscend keys m ([] ++ pairs_below m level root)
+  root-stands tree = (
+    subst (λ l. IsNode m (root_least l) l root) (root_reads m root level is low) (tree-node keys m root tree some),
+    subst (PairsAscend keys m) root_pairs (tree-ascends keys m root tree),
+  )
 
   -- what a walk from the root finds, behind no pairs
   module _ (least : ℕ) (old : List (ℕ × ℕ)) (none : old ≡ []) (slots : least ≡ root_least level) where
@@ -59,15 +48,18 @@ module _ (keys : Keys) (m : Records) (root level : ℕ) (some : 0 < root) (is : 
     pub found-pairs : (pairs : List (ℕ × ℕ)) → pairs ≡ old ++ pairs_below m level root → pairs ≡ tree_pairs m root
     found-pairs pairs found = root-pairs pairs (found_behind pairs found)
 
-    pub found-tree : (pairs : List (ℕ × ℕ)) → IsNode m least level root → pairs ≡ old ++ pairs_below m level root → Ascends keys m pairs → IsTreeOf keys m root
+    pub found-tree : (pairs : List (ℕ × ℕ)) → IsNode m least level root → pairs ≡ old ++ pairs_below m level root → PairsAscend keys m pairs → IsTreeOf keys m root
     found-tree pairs node found up =
         root-tree pairs (subst (λ n. IsNode m n level root) slots node) (found_behind pairs found) up
 
-    pub found-named : (fault : TreeFault) → IsFault keys m old least level root fault → IsNamed keys m root fault
-    found-named fault here =
-        root-fault fault
-        (subst (λ n. IsFault keys m [] n level root fault) slots
-        (subst (λ ps. IsFault keys m ps least level root fault) none here))
+    pub found-whole : IsTreeOf keys m root → IsNode m least level root × PairsAscend keys m (old ++ pairs_below m level root)
+    found-whole tree =
+        let both = root-stands tree in
+        (subst (λ n. IsNode m n level root) (sym slots) both.0, subst (λ ps. PairsAscend keys m (ps ++ pairs_below m level root)) (sym none) both.1)
 
-    pub found-refused : (fault : TreeFault) → IsFault keys m old least level root fault → Refuses (IsTreeOf keys m root) fault
-    found-refused fault here = named_refutes keys m root fault (found-named fault here)
+-- a root's level is at most 7
+pub root-low : (keys : Keys) (m : Records) (root : ℕ) → 0 < root → IsTreeOf keys m root → level_of (m root) ≤ 7
+root-low keys m root some tree =
+    let form = IsNode-form m (root_least (root_level m root)) (root_level m root) root (tree-node keys m root tree some) in
+    let at = form.at_level in
+    omega arith

@@ -1,71 +1,28 @@
 -- A walk over the children of a node: what it has found after so many slots.
-use Rattle.std.proofs.Common.{◌≡◌, ℕ, zero, suc, ◌+◌, ◌-◌, ◌^◌, ◌<◌, ◌≤◌, List, [], ◌∷◌, ◌++◌, length, map, take, drop, get_or, refl, sym, ap, subst, ◌∙◌, arith, append_assoc, append-nil, length-append, length-take, length-drop}
+use Rattle.std.proofs.Common.{◌≡◌, ℕ, suc, ◌+◌, ◌-◌, ◌^◌, ◌<◌, ◌≤◌, List, [], ◌∷◌, ◌++◌, length, map, take, drop, get_or, refl, sym, ap, subst, ◌∙◌, arith, append_assoc, append-nil, length-append, length-take, length-drop}
 use Rattle.std.specs.Prelude.{min}
 use Rattle.std.proofs.Math.Nat.{one-le-pow}
-use Rattle.std.proofs.lemmas.List.{take_more}
+use Rattle.std.proofs.lemmas.List.{take_more, map-append, take-append-drop, get_or-map, get_or-take, get_or-drop, take_all}
 use Rattle.std.specs.List.{zip, flat_map, AllByRecursion}
-use Rattle.image_base.specs.Records.{Records, Among}
+use Rattle.std.proofs.lemmas.Grind.{flat_map-append}
+use Rattle.list_facts.proofs.Pairs.{zip-append}
+use Rattle.list_facts.proofs.Each.{AllByRecursion-append, AllByRecursion-at}
+use Rattle.image_base.specs.Records.{Records}
 use Rattle.tree_images.proofs.TreeLemmas.{length-node_values, pairs_many}
 use Rattle.tree_images.specs.Nodes.{used_of, count_of, node_keys, node_values, IsNodeForm}
-use Rattle.tree_images.specs.Trees.{pairs_below, last_key, IsNode}
-use Rattle.check_trees.proofs.FaultLemmas.{among_at, fault_child, pairs_more}
-use Rattle.check_trees.proofs.PairLemmas.{last-append, zip-append}
-use Rattle.check_trees.specs.Faults.{HasKeys, IsAmongPairs, IsFault}
-use Rattle.check_trees.specs.Keys.{Ascends}
-use Rattle.check_trees.specs.Walks.{Walked}
-use Rattle.check_trees.specs.declared.fault.TreeFault.{TreeFault}
+use Rattle.tree_images.specs.Trees.{pairs_below, last_key, HasLastKeys, IsNode}
+use Rattle.check_trees.proofs.KeyLemmas.{ascends-left}
+use Rattle.check_trees.proofs.PairLemmas.{last-append}
+use Rattle.check_trees.proofs.Walks.{Walked}
+use Rattle.check_trees.specs.Keys.{PairsAscend}
 use Rattle.check_trees.specs.declared.keys.Keys.{Keys}
-
-flat_map-append : {X : Type 0} (f : ℕ → List X) (xs ys : List ℕ) → flat_map f (xs ++ ys) ≡ flat_map f xs ++ flat_map f ys
-flat_map-append f [] ys = refl
-flat_map-append f (x ∷ xs) ys = ap (λ zs. f x ++ zs) (flat_map-append f xs ys) ∙ sym (append_assoc (f x) (flat_map f xs) (flat_map f ys))
-
-map-append : (f : ℕ → ℕ) (xs ys : List ℕ) → map f (xs ++ ys) ≡ map f xs ++ map f ys
-map-append f [] ys = refl
-map-append f (x ∷ xs) ys = ap (λ zs. f x ∷ zs) (map-append f xs ys)
-
-All-append : (P : ℕ → Type 0) (xs ys : List ℕ) → AllByRecursion P xs → AllByRecursion P ys → AllByRecursion P (xs ++ ys)
-All-append P [] ys a b = b
-All-append P (x ∷ xs) ys a b = (a.0, All-append P xs ys a.1 b)
-
-All-at : (P : ℕ → Type 0) (xs : List ℕ) (i : ℕ) → i < length xs → AllByRecursion P xs → P (get_or xs i 0)
-All-at P [] i low all = absurd (omega arith)
-All-at P (x ∷ xs) zero low all = all.0
-All-at P (x ∷ xs) (suc i) low all = All-at P xs i (omega arith) all.1
-
-map-at : (f : ℕ → ℕ) (xs : List ℕ) (i : ℕ) → i < length xs → get_or (map f xs) i 0 ≡ f (get_or xs i 0)
-map-at f [] i low = absurd (omega arith)
-map-at f (x ∷ xs) zero low = refl
-map-at f (x ∷ xs) (suc i) low = map-at f xs i (omega arith)
-
--- a list from a place on
-split_at : {X : Type 0} (xs : List X) (i : ℕ) → take i xs ++ drop i xs ≡ xs
-split_at [] zero = refl
-split_at [] (suc i) = refl
-split_at (x ∷ xs) zero = refl
-split_at (x ∷ xs) (suc i) = ap (λ ys. x ∷ ys) (split_at xs i)
-
-take_at : (n : ℕ) (xs : List ℕ) (i : ℕ) → i < n → get_or (take n xs) i 0 ≡ get_or xs i 0
-take_at zero xs i low = absurd (omega arith)
-take_at (suc n) [] i low = refl
-take_at (suc n) (x ∷ xs) zero low = refl
-take_at (suc n) (x ∷ xs) (suc i) low = take_at n xs i (omega arith)
-
-drop_at : (n : ℕ) (xs : List ℕ) (i : ℕ) → get_or (drop n xs) i 0 ≡ get_or xs (n + i) 0
-drop_at zero xs i = ap (λ j. get_or xs j 0) (let e : i ≡ 0 + i = omega arith in e)
-drop_at (suc n) [] i = refl
-drop_at (suc n) (x ∷ xs) i = drop_at n xs i ∙ ap (λ j. get_or (x ∷ xs) j 0) (let e : suc (n + i) ≡ suc n + i = omega arith in e)
-
-take_all : {X : Type 0} (xs : List X) → take (length xs) xs ≡ xs
-take_all [] = refl
-take_all (x ∷ xs) = ap (λ ys. x ∷ ys) (take_all xs)
 
 module _ (ws : List ℕ) where
   pub key_at : (i : ℕ) → i < used_of ws → get_or (node_keys ws) i 0 ≡ get_or ws (2 + i) 0
-  key_at i low = take_at (used_of ws) (drop 2 ws) i low ∙ drop_at 2 ws i
+  key_at i low = get_or-take (used_of ws) (drop 2 ws) i 0 low ∙ get_or-drop 2 ws i 0
 
   pub value_at : (i : ℕ) → i < used_of ws → get_or (node_values ws) i 0 ≡ get_or ws (18 + i) 0
-  value_at i low = take_at (used_of ws) (drop 18 ws) i low ∙ drop_at 18 ws i
+  value_at i low = get_or-take (used_of ws) (drop 18 ws) i 0 low ∙ get_or-drop 18 ws i 0
 
   module _ (size : length ws ≡ 34) (room : used_of ws ≤ 16) where
     keys_many : length (node_keys ws) ≡ used_of ws
@@ -81,10 +38,10 @@ module _ (ws : List ℕ) where
     values_next i low = take_more (node_values ws) i 0 (let n = values_many in omega arith) ∙ ap (λ k. take i (node_values ws) ++ k ∷ []) (value_at i low)
 
     pub keys_whole : take (used_of ws) (node_keys ws) ≡ node_keys ws
-    keys_whole = ap (λ n. take n (node_keys ws)) (sym keys_many) ∙ take_all (node_keys ws)
+    keys_whole = ap (λ n. take n (node_keys ws)) (sym keys_many) ∙ take_all (length (node_keys ws)) (node_keys ws) (omega arith)
 
     pub values_whole : take (used_of ws) (node_values ws) ≡ node_values ws
-    values_whole = ap (λ n. take n (node_values ws)) (sym values_many) ∙ take_all (node_values ws)
+    values_whole = ap (λ n. take n (node_values ws)) (sym values_many) ∙ take_all (length (node_values ws)) (node_values ws) (omega arith)
 
     -- the pairs of a leaf's slots, one more
     pub slots_next : (i : ℕ) → i < used_of ws
@@ -105,11 +62,10 @@ module _ (ws : List ℕ) where
         let so_far = zip (take i (node_keys ws)) (take i (node_values ws)) in
         next ∙ ap (λ ps. ps ++ p ∷ []) is ∙ append_assoc before so_far (p ∷ []) ∙ ap (λ ps. before ++ ps) (sym (slots_next i low))
 
-    -- a slot whose pair is at fault, and so the leaf
-    pub slots_fault : (keys : Keys) (m : Records) (before mid : List (ℕ × ℕ)) (i : ℕ) → i < used_of ws → mid ≡ before ++ zip (take i (node_keys ws)) (take i (node_values ws))
-        → (fault : TreeFault) → IsAmongPairs keys m (mid ++ (get_or ws (2 + i) 0, get_or ws (18 + i) 0) ∷ []) fault
-        → IsAmongPairs keys m (before ++ zip (node_keys ws) (node_values ws)) fault
-    slots_fault keys m before mid i low is fault here =
+    -- where the keys of a leaf's pairs ascend, those up to a slot do
+    pub slots_ascend : (keys : Keys) (m : Records) (before mid : List (ℕ × ℕ)) (i : ℕ) → i < used_of ws → mid ≡ before ++ zip (take i (node_keys ws)) (take i (node_values ws))
+        → PairsAscend keys m (before ++ zip (node_keys ws) (node_values ws)) → PairsAscend keys m (mid ++ (get_or ws (2 + i) 0, get_or ws (18 + i) 0) ∷ [])
+    slots_ascend keys m before mid i low is up =
         let p : ℕ × ℕ = (get_or ws (2 + i) 0, get_or ws (18 + i) 0) in
         let ks = node_keys ws in
         let vs = node_values ws in
@@ -119,15 +75,15 @@ module _ (ws : List ℕ) where
         let many_values = values_many in
         let same : length (take (i + 1) ks) ≡ length (take (i + 1) vs) = length-take (i + 1) ks ∙ ap (min (i + 1)) (many ∙ sym many_values) ∙ sym (length-take (i + 1) vs) in
         let whole : before ++ zip ks vs ≡ (mid ++ p ∷ []) ++ back =
-        ap (λ xs. before ++ zip xs vs) (sym (split_at ks (i + 1)))
-        ∙ ap (λ xs. before ++ zip (take (i + 1) ks ++ drop (i + 1) ks) xs) (sym (split_at vs (i + 1)))
+        ap (λ xs. before ++ zip xs vs) (sym (take-append-drop (i + 1) ks))
+        ∙ ap (λ xs. before ++ zip (take (i + 1) ks ++ drop (i + 1) ks) xs) (sym (take-append-drop (i + 1) vs))
         ∙ ap (λ ps. before ++ ps) (zip-append (take (i + 1) ks) (take (i + 1) vs) (drop (i + 1) ks) (drop (i + 1) vs) same)
         ∙ sym (append_assoc before front back)
         ∙ ap (λ ps. ps ++ back) (sym (slots_more before mid (mid ++ p ∷ []) i low is refl)) in
-        subst (λ ps. IsAmongPairs keys m ps fault) (sym whole) (pairs_more keys m (mid ++ p ∷ []) back fault here)
+        ascends-left keys m (mid ++ p ∷ []) back (subst (PairsAscend keys m) whole up)
 
 -- a walk begins with no child
-pub walked-none : (keys : Keys) (m : Records) (level : ℕ) (ws : List ℕ) (before : List (ℕ × ℕ)) → Ascends keys m before → Walked keys m level ws before before 0
+pub walked-none : (keys : Keys) (m : Records) (level : ℕ) (ws : List ℕ) (before : List (ℕ × ℕ)) → PairsAscend keys m before → Walked keys m level ws before before 0
 walked-none keys m level ws before up = record {
   pairs = sym (append-nil before);
   nodes = tt;
@@ -149,7 +105,7 @@ module _ (keys : Keys) (m : Records) (level least ref : ℕ) (form : IsNodeForm 
 
   -- one more child
   pub walked-more : (low : i < used_of (m ref)) (more : List (ℕ × ℕ)) → IsNode m 8 level (get_or (m ref) (18 + i) 0)
-      → more ≡ after ++ pairs_below m level (get_or (m ref) (18 + i) 0) → Ascends keys m more
+      → more ≡ after ++ pairs_below m level (get_or (m ref) (18 + i) 0) → PairsAscend keys m more
       → get_or (m ref) (2 + i) 0 ≡ last_key (pairs_below m level (get_or (m ref) (18 + i) 0)) → Walked keys m level (m ref) before more (i + 1)
   walked-more low more node is up key =
       let child = get_or (m ref) (18 + i) 0 in
@@ -158,7 +114,7 @@ module _ (keys : Keys) (m : Records) (level least ref : ℕ) (form : IsNodeForm 
       let values = values_next (m ref) form.size form.room i low in
       record {
         pairs = is ∙ next_pairs low;
-        nodes = subst (AllByRecursion (IsNode m 8 level)) (sym values) (All-append (IsNode m 8 level) so_far (child ∷ []) walked.nodes (node, tt));
+        nodes = subst (AllByRecursion (IsNode m 8 level)) (sym values) (AllByRecursion-append (IsNode m 8 level) so_far (child ∷ []) walked.nodes (node, tt));
         last = keys_next (m ref) form.size form.room i low
             ∙ ap (λ ks. ks ++ get_or (m ref) (2 + i) 0 ∷ []) walked.last
             ∙ ap (λ k. map of so_far ++ k ∷ []) key
@@ -167,31 +123,30 @@ module _ (keys : Keys) (m : Records) (level least ref : ℕ) (form : IsNodeForm 
         ascends = up;
       }
 
-  pub child-among : i < used_of (m ref) → Among (get_or (m ref) (18 + i) 0) (node_values (m ref))
-  child-among low =
-      let many = length-node_values (suc level) least (m ref) form in
-      subst (λ c. Among c (node_values (m ref))) (value_at (m ref) i low) (among_at (node_values (m ref)) i (omega arith))
-
-  -- the fault of a child is its parent's
-  pub child-fault : i < used_of (m ref) → (fault : TreeFault) → IsFault keys m after 8 level (get_or (m ref) (18 + i) 0) fault → IsFault keys m before least (suc level) ref fault
-  unfolding pairs_below
-  child-fault low fault here =
+  -- where a node stands and its pairs ascend, so does each child
+  pub child-stands : i < used_of (m ref) → IsNode m least (suc level) ref → PairsAscend keys m (before ++ pairs_below m (suc level) ref)
+      → IsNode m 8 level (get_or (m ref) (18 + i) 0) × PairsAscend keys m (after ++ pairs_below m level (get_or (m ref) (18 + i) 0))
+  unfolding pairs_below IsNode
+  child-stands low node up =
       let values = node_values (m ref) in
       let f = pairs_below m level in
       let rest = flat_map f (drop (i + 1) values) in
+      let many = length-node_values (suc level) least (m ref) form in
       let whole : before ++ flat_map f values ≡ (after ++ f (get_or (m ref) (18 + i) 0)) ++ rest =
-      ap (λ cs. before ++ flat_map f cs) (sym (split_at values (i + 1)))
+      ap (λ cs. before ++ flat_map f cs) (sym (take-append-drop (i + 1) values))
       ∙ ap (λ ps. before ++ ps) (flat_map-append f (take (i + 1) values) (drop (i + 1) values))
       ∙ sym (append_assoc before (flat_map f (take (i + 1) values)) rest)
-      ∙ ap (λ ps. ps ++ rest) (sym (next_pairs low)) in
-      fault_child keys m before least level ref (get_or (m ref) (18 + i) 0) after rest fault (child-among low) whole here
+      ∙ ap (λ ps. ps ++ rest) (sym (next_pairs low)) in (
+        subst (IsNode m 8 level) (value_at (m ref) i low) (AllByRecursion-at (IsNode m 8 level) values i 0 (omega arith) node.3),
+        ascends-left keys m (after ++ f (get_or (m ref) (18 + i) 0)) rest (subst (PairsAscend keys m) whole up),
+      )
 
   -- a node's key is the last of its child
-  pub child-last : i < used_of (m ref) → HasKeys m (suc level) ref → get_or (m ref) (2 + i) 0 ≡ last_key (pairs_below m level (get_or (m ref) (18 + i) 0))
+  pub child-last : i < used_of (m ref) → HasLastKeys m level (m ref) → get_or (m ref) (2 + i) 0 ≡ last_key (pairs_below m level (get_or (m ref) (18 + i) 0))
   child-last low last_keys =
       let last : ℕ → ℕ = λ c. last_key (pairs_below m level c) in
       let many = length-node_values (suc level) least (m ref) form in
-      sym (key_at (m ref) i low) ∙ ap (λ ks. get_or ks i 0) last_keys ∙ map-at last (node_values (m ref)) i (omega arith) ∙ ap last (value_at (m ref) i low)
+      sym (key_at (m ref) i low) ∙ ap (λ ks. get_or ks i 0) last_keys ∙ get_or-map last (node_values (m ref)) i 0 0 (omega arith) ∙ ap last (value_at (m ref) i low)
 
   -- after all children the pairs are those below the node
   pub walked-pairs : i ≡ used_of (m ref) → after ≡ before ++ pairs_below m (suc level) ref

@@ -1,12 +1,11 @@
 -- The keys of a tree: what they read as, and how they are compared.
-use Rattle.std.specs.Prelude.{◌≡◌, ◌≢◌, ◌⊎◌, ℕ, List, [], ◌∷◌, map}
+use Rattle.std.specs.Prelude.{ℕ, List, map}
 use Rattle.std.specs.declared.cmp.Ordering.{Ordering}
-use Rattle.std.specs.declared.cmp.Ordering.TheVariants.{Less}
 use Rattle.std.specs.List.Sorted.{IsStrictlySortedBy}
 use Rattle.std.specs.Ordering.{nat_cmp}
 use Rattle.image_base.specs.Records.{Records}
 use Rattle.tree_images.specs.Trees.{IsTree, by_number}
-use Rattle.attr_images.specs.Values.{value_at}
+use Rattle.attr_images.specs.Values.{stored_value}
 use Rattle.attr_types.specs.Value.{value_cmp}
 use Rattle.check_trees.specs.declared.keys.Keys.{Keys}
 use Rattle.check_trees.specs.declared.keys.Keys.TheVariants.{Numbers, Values}
@@ -14,19 +13,13 @@ use Rattle.check_trees.specs.declared.keys.Keys.TheVariants.{Numbers, Values}
 -- two stored keys, by what they read as
 abbrev pub key_cmp : Keys → Records → ℕ → ℕ → Ordering
 key_cmp Numbers m a b = nat_cmp a b
-key_cmp (Values type) m a b = value_cmp (value_at type m a) (value_at type m b)
+key_cmp (Values type) m a b = value_cmp (stored_value type m a) (stored_value type m b)
 
 -- a tree with keys of this kind
 abbrev pub IsTreeOf : Keys → Records → ℕ → Type 0
 IsTreeOf Numbers m root = IsTree nat_cmp by_number m root
-IsTreeOf (Values type) m root = IsTree value_cmp (value_at type) m root
+IsTreeOf (Values type) m root = IsTree value_cmp (stored_value type) m root
 
 -- the keys of pairs ascend
-abbrev pub Ascends : Keys → Records → List (ℕ × ℕ) → Type 0
-Ascends keys m pairs = IsStrictlySortedBy (key_cmp keys m) (map (λ (p : ℕ × ℕ). p.0) pairs)
-
--- somewhere this key stands behind one that is not below it
-abbrev pub IsOutOfOrder : Keys → Records → List (ℕ × ℕ) → ℕ → Type 0
-IsOutOfOrder keys m [] key = ⊥
-IsOutOfOrder keys m (p ∷ []) key = ⊥
-IsOutOfOrder keys m (p ∷ q ∷ ps) key = ((q.0 ≡ key) × (key_cmp keys m p.0 q.0 ≢ Less)) ⊎ IsOutOfOrder keys m (q ∷ ps) key
+abbrev pub PairsAscend : Keys → Records → List (ℕ × ℕ) → Type 0
+PairsAscend keys m pairs = IsStrictlySortedBy (key_cmp keys m) (map (λ (p : ℕ × ℕ). p.0) pairs)

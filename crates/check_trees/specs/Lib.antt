@@ -1,3 +1,3 @@
 pub mod Keys
-pub mod Faults
-pub mod Walks
+pub mod Refutations
+pub mod Slots

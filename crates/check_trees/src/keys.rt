@@ -1,12 +1,12 @@
 ghost use Rattle.std.specs.Prelude.{◌≡◌, IfOk, slice_index};
 ghost use Rattle.std.specs.Int.{cast_signed, w64};
-ghost use Rattle.attr_images.specs.Values.{text_of};
+ghost use Rattle.attr_images.specs.Values.{stored_text};
 ghost use Rattle.check_trees.specs.Keys.{key_cmp};
 ghost use Rattle.image_base.specs.Maps.{seen};
 
-use crate::read::{rest_of, word_at};
+use crate::read::rest_of;
 use attr_types::ValueType;
-use image_base::words_at;
+use image_base::{word_in, words_at};
 use std::alloc::{AllocError, Global};
 use std::cmp::Ordering;
 use std::collections::BTreeMap;
@@ -21,22 +21,22 @@ pub enum Keys {
 }
 
 /// The number that words read as.
-pub fn long_of(words: &[u64]) -> i64
+pub fn stored_long(words: &[u64]) -> i64
     ensures { result ≡ cast_signed w64 (slice_index words.now 1) }
 {
-    word_at(words, 1).cast_signed()
+    word_in(words, 1).cast_signed()
 }
 
 /// The bytes of the text that words read as: as many as the first word says.
-pub fn text_of(alloc: Global, words: &[u64]) -> Result<Vec<u8>, AllocError>
-    ensures { IfOk result (λ bytes. bytes.items ≡ text_of words.now) }
+pub fn stored_text(alloc: Global, words: &[u64]) -> Result<Vec<u8>, AllocError>
+    ensures { IfOk result (λ bytes. bytes.items ≡ stored_text words.now) }
 {
     let mut bytes = Vec::new(alloc);
     let rest = rest_of(words);
     for word in rest {
         bytes.extend_from_slice(&word.to_be_bytes())?;
     }
-    bytes.truncate(word_at(words, 0) as usize);
+    bytes.truncate(word_in(words, 0) as usize);
     Ok(bytes)
 }
 
@@ -53,12 +53,12 @@ pub fn compare_keys(
     match keys {
         Keys::Numbers => Ok(a.cmp(&b)),
         Keys::Values(ValueType::Long) => {
-            let first = long_of(words_at(records, a));
-            Ok(first.cmp(&long_of(words_at(records, b))))
+            let first = stored_long(words_at(records, a));
+            Ok(first.cmp(&stored_long(words_at(records, b))))
         }
         Keys::Values(ValueType::Text) => {
-            let first = text_of(alloc, words_at(records, a))?;
-            let second = text_of(alloc, words_at(records, b))?;
+            let first = stored_text(alloc, words_at(records, a))?;
+            let second = stored_text(alloc, words_at(records, b))?;
             Ok(first.as_slice().cmp(second.as_slice()))
         }
     }

@@ -1,4 +1,4 @@
-//! A slow checker of images: its contract is the definitions of attr_images.
+//! A slow checker of trees: its contract is the definitions of tree_images.
 #![tactic(auto)]
 
 mod fault;
@@ -6,12 +6,10 @@ mod keys;
 mod node;
 mod pairs;
 mod read;
-#[cfg(test)]
-mod tests;
 mod tree;
 
-pub use fault::{NodeFault, TreeFault};
-pub use keys::{Keys, long_of, text_of};
-pub use node::check_node;
-pub use read::{rest_of, word_at};
+pub use fault::CheckFault;
+pub use keys::{Keys, stored_long, stored_text};
+pub use node::is_node_form;
+pub use read::rest_of;
 pub use tree::check_tree;

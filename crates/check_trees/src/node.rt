@@ -1,50 +1,33 @@
-ghost use Rattle.std.specs.Prelude.{◌≡◌, ℕ, length, OnOk, OnErr, IfErr};
+ghost use Rattle.std.specs.Prelude.{◌≡◌, ◌↔◌, length, IsTrue};
 ghost use Rattle.tree_images.specs.Nodes.{used_of, IsNodeForm};
-ghost use Rattle.check_trees.specs.Faults.{Fails, AreZero};
+ghost use Rattle.check_trees.specs.Slots.{AreZero};
 
-use crate::fault::NodeFault;
+use tree_images::{FIRST_KEY, FIRST_VALUE, MOST_SLOTS, NODE_WORDS};
 
-/// Slots past the used ones are 0.
-fn check_slots(words: &[u64], used: usize) -> Result<(), NodeFault>
-    requires size { length words.now ≡ 34 }
-    requires used { used ≡ used_of words.now }
-    ensures ok { OnOk result (AreZero words.now used 16) }
-    ensures fault { IfErr result (λ fault. (level least : ℕ) → Fails level least words.now fault) }
+/// Whether the slots past the used ones are 0.
+fn are_zero(words: &[u64], used: usize) -> bool
+    requires size { length words.now ≡ NODE_WORDS }
+    ensures { IsTrue result ↔ AreZero words.now used MOST_SLOTS }
 {
-    for i in used..16 {
-        if words[2 + i] != 0 {
-            return Err(NodeFault::Key);
-        }
-        if words[18 + i] != 0 {
-            return Err(NodeFault::Value);
+    for i in used..MOST_SLOTS {
+        if words[FIRST_KEY + i] != 0 || words[FIRST_VALUE + i] != 0 {
+            return false;
         }
     }
-    Ok(())
+    true
 }
 
-/// Looks at the words of a node of this level with at least so many slots used. The answer is the first
-/// fault that is found; what the node's children are is not looked at.
-pub fn check_node(words: &[u64], level: u32, least: u32) -> Result<(), NodeFault>
-    ensures ok { OnOk result (IsNodeForm level least words.now) }
-    ensures fault { IfErr result (Fails level least words.now) }
-    ensures exact { OnErr result (¬ IsNodeForm level least words.now) }
+/// Whether words are those of a node of this level with at least `least` slots used. What its children
+/// are is not looked at.
+pub fn is_node_form(words: &[u64], level: u32, least: u32) -> bool
+    ensures { IsTrue result ↔ IsNodeForm level least words.now }
 {
-    if words.len() != 34 {
-        return Err(NodeFault::Size);
-    }
-    if words[0] / 256 != u64::from(level) {
-        return Err(NodeFault::Level);
+    if words.len() != NODE_WORDS || words[0] / 256 != u64::from(level) {
+        return false;
     }
     let used = words[0] % 256;
-    if used < u64::from(least) {
-        return Err(NodeFault::Filling);
+    if used < u64::from(least) || used > MOST_SLOTS as u64 || words[1] > u64::from(u32::MAX) {
+        return false;
     }
-    if used > 16 {
-        return Err(NodeFault::Room);
-    }
-    check_slots(words, used as usize)?;
-    if words[1] > u64::from(u32::MAX) {
-        return Err(NodeFault::Count);
-    }
-    Ok(())
+    are_zero(words, used as usize)
 }

@@ -2,14 +2,15 @@ ghost use Rattle.std.specs.Prelude.{◌≡◌, ◌≤◌, ◌∷◌, [], ◌++�
 ghost use Rattle.std.specs.List.{zip};
 ghost use Rattle.tree_images.specs.Nodes.{used_of, node_keys, node_values};
 ghost use Rattle.tree_images.specs.Trees.{last_key};
-ghost use Rattle.check_trees.specs.Faults.{IsAmongPairs};
-ghost use Rattle.check_trees.specs.Keys.{Ascends};
+ghost use Rattle.check_trees.specs.Keys.{PairsAscend};
+ghost use Rattle.check_trees.specs.Refutations.{Refutes};
 ghost use Rattle.image_base.specs.Maps.{seen};
 
-use crate::fault::TreeFault;
+use crate::fault::CheckFault;
 use crate::keys::{Keys, compare_keys};
 use std::alloc::Global;
 use std::collections::BTreeMap;
+use tree_images::{FIRST_KEY, FIRST_VALUE, MOST_SLOTS, NODE_WORDS};
 
 /// The last key, 0 where there is none.
 pub fn last_of(pairs: &[(u64, u64)]) -> u64
@@ -28,23 +29,19 @@ fn check_order(
     records: &BTreeMap<u32, Vec<u64>>,
     pairs: &[(u64, u64)],
     key: u64,
-) -> Result<(), TreeFault>
-    requires { Ascends keys (seen records.now) pairs.now }
-    ensures ascends { OnOk result ((value : _) → Ascends keys (seen records.now) (pairs.now ++ ((key, value) ∷ []))) }
-    ensures named { IfErr result (λ fault. (value : _) → IsAmongPairs keys (seen records.now) (pairs.now ++ ((key, value) ∷ [])) fault) }
+) -> Result<(), CheckFault>
+    requires { PairsAscend keys (seen records.now) pairs.now }
+    ensures ascends { OnOk result ((value : _) → PairsAscend keys (seen records.now) (pairs.now ++ ((key, value) ∷ []))) }
+    ensures exact { IfErr result (λ fault. (value : _) → Refutes (PairsAscend keys (seen records.now) (pairs.now ++ ((key, value) ∷ []))) fault) }
 {
     if pairs.is_empty() {
         return Ok(());
     }
-    match compare_keys(alloc, keys, records, last_of(pairs), key) {
-        Ok(order) => {
-            if order.is_lt() {
-                Ok(())
-            } else {
-                Err(TreeFault::Order(key))
-            }
-        }
-        Err(_) => Err(TreeFault::Memory),
+    let order = compare_keys(alloc, keys, records, last_of(pairs), key)?;
+    if order.is_lt() {
+        Ok(())
+    } else {
+        Err(CheckFault::Broken)
     }
 }
 
@@ -56,16 +53,16 @@ fn add_pair(
     pairs: &mut Vec<(u64, u64)>,
     key: u64,
     value: u64,
-) -> Result<(), TreeFault>
-    requires { Ascends keys (seen records.now) pairs.old.items }
+) -> Result<(), CheckFault>
+    requires { PairsAscend keys (seen records.now) pairs.old.items }
     ensures pairs { OnOk result (pairs.new.items ≡ pairs.old.items ++ ((key, value) ∷ [])) }
-    ensures ascends { OnOk result (Ascends keys (seen records.now) pairs.new.items) }
-    ensures named { IfErr result (IsAmongPairs keys (seen records.now) (pairs.old.items ++ ((key, value) ∷ []))) }
+    ensures ascends { OnOk result (PairsAscend keys (seen records.now) pairs.new.items) }
+    ensures exact { IfErr result (Refutes (PairsAscend keys (seen records.now) (pairs.old.items ++ ((key, value) ∷ [])))) }
 {
     check_order(alloc, keys, records, pairs, key)?;
     match pairs.push((key, value)) {
         Ok(()) => Ok(()),
-        Err(_) => Err(TreeFault::Memory),
+        Err(_) => Err(CheckFault::Memory),
     }
 }
 
@@ -76,18 +73,25 @@ pub fn add_leaf(
     records: &BTreeMap<u32, Vec<u64>>,
     pairs: &mut Vec<(u64, u64)>,
     words: &[u64],
-) -> Result<(), TreeFault>
-    requires size { length words.now ≡ 34 }
-    requires room { used_of words.now ≤ 16 }
-    requires ascends { Ascends keys (seen records.now) pairs.old.items }
+) -> Result<(), CheckFault>
+    requires size { length words.now ≡ NODE_WORDS }
+    requires room { used_of words.now ≤ MOST_SLOTS }
+    requires ascends { PairsAscend keys (seen records.now) pairs.old.items }
     ensures pairs { OnOk result (pairs.new.items ≡ pairs.old.items ++ zip (node_keys words.now) (node_values words.now)) }
-    ensures ascends { OnOk result (Ascends keys (seen records.now) pairs.new.items) }
-    ensures named { IfErr result (IsAmongPairs keys (seen records.now)
-        (pairs.old.items ++ zip (node_keys words.now) (node_values words.now))) }
+    ensures ascends { OnOk result (PairsAscend keys (seen records.now) pairs.new.items) }
+    ensures exact { IfErr result (Refutes (PairsAscend keys (seen records.now)
+        (pairs.old.items ++ zip (node_keys words.now) (node_values words.now)))) }
 {
     let used = (words[0] % 256) as usize;
     for i in 0..used {
-        add_pair(alloc, keys, records, pairs, words[2 + i], words[18 + i])?;
+        add_pair(
+            alloc,
+            keys,
+            records,
+            pairs,
+            words[FIRST_KEY + i],
+            words[FIRST_VALUE + i],
+        )?;
     }
     Ok(())
 }

@@ -1,14 +1,4 @@
-ghost use Rattle.std.specs.Prelude.{◌≡◌, slice_index, drop};
-
-/// A word of a record, 0 past its end.
-pub fn word_at(words: &[u64], i: usize) -> u64
-    ensures { result ≡ slice_index words.now i }
-{
-    match words.get(i) {
-        Some(word) => *word,
-        None => 0,
-    }
-}
+ghost use Rattle.std.specs.Prelude.{◌≡◌, drop};
 
 /// The words behind the first.
 pub fn rest_of(words: &[u64]) -> &[u64]

@@ -1,37 +1,35 @@
 ghost use Rattle.std.specs.Prelude.{◌≡◌, ◌++◌, OnOk, IfOk, IfErr};
 ghost use Rattle.tree_images.specs.Nodes.{IsNodeForm};
 ghost use Rattle.tree_images.specs.Trees.{pairs_below, tree_pairs, IsNode, root_least};
-ghost use Rattle.check_trees.specs.Faults.{IsAt, IsFault, IsNamed};
-ghost use Rattle.check_trees.specs.Keys.{Ascends, IsTreeOf};
+ghost use Rattle.check_trees.specs.Keys.{PairsAscend, IsTreeOf};
+ghost use Rattle.check_trees.specs.Refutations.{Refutes};
 ghost use Rattle.image_base.specs.Maps.{seen};
-ghost use Rattle.check_trees.specs.Walks.{Refuses};
 
-use crate::fault::{NodeFault, TreeFault};
+use crate::fault::CheckFault;
 use crate::keys::Keys;
-use crate::node::check_node;
+use crate::node::is_node_form;
 use crate::pairs::{add_leaf, last_of};
-use image_base::words_at;
+use image_base::{word_in, words_at};
 use std::alloc::Global;
 use std::collections::BTreeMap;
+use tree_images::{FIRST_KEY, FIRST_VALUE, LEAST_SLOTS};
 
-/// The words of a node of this level with at least so many slots used.
+/// The words of a node of this level with at least `least` slots used.
 fn read_node(
     records: &BTreeMap<u32, Vec<u64>>,
     reference: u64,
     level: u32,
     least: u32,
-) -> Result<&[u64], TreeFault>
+) -> Result<&[u64], CheckFault>
     ensures words { IfOk result (λ words. words.now ≡ seen records.now reference) }
     ensures form { OnOk result (IsNodeForm level least (seen records.now reference)) }
-    ensures named { IfErr result (IsAt (seen records.now) least level reference) }
+    ensures exact { IfErr result (Refutes (IsNodeForm level least (seen records.now reference))) }
 {
     let words = words_at(records, reference);
-    if words.is_empty() {
-        return Err(TreeFault::Missing(reference));
-    }
-    match check_node(words, level, least) {
-        Ok(()) => Ok(words),
-        Err(fault) => Err(TreeFault::Form(reference, fault)),
+    if is_node_form(words, level, least) {
+        Ok(words)
+    } else {
+        Err(CheckFault::Broken)
     }
 }
 
@@ -44,31 +42,40 @@ fn walk(
     level: u32,
     least: u32,
     pairs: &mut Vec<(u64, u64)>,
-) -> Result<(), TreeFault>
-    requires { Ascends keys (seen records.now) pairs.old.items }
+) -> Result<(), CheckFault>
+    requires { PairsAscend keys (seen records.now) pairs.old.items }
     ensures node { OnOk result (IsNode (seen records.now) least level reference) }
     ensures pairs { OnOk result (pairs.new.items ≡ pairs.old.items ++ pairs_below (seen records.now) level reference) }
-    ensures ascends { OnOk result (Ascends keys (seen records.now) pairs.new.items) }
-    ensures named { IfErr result (IsFault keys (seen records.now) pairs.old.items least level reference) }
+    ensures ascends { OnOk result (PairsAscend keys (seen records.now) pairs.new.items) }
+    ensures exact { IfErr result (Refutes (IsNode (seen records.now) least level reference
+        × PairsAscend keys (seen records.now) (pairs.old.items ++ pairs_below (seen records.now) level reference))) }
 {
     let words = read_node(records, reference, level, least)?;
     let begin = pairs.len();
     if level == 0 {
         add_leaf(alloc, keys, records, pairs, words)?;
         if words[1] != (pairs.len() - begin) as u64 {
-            return Err(TreeFault::Count(reference));
+            return Err(CheckFault::Broken);
         }
         return Ok(());
     }
     let used = (words[0] % 256) as usize;
     for i in 0..used {
-        walk(alloc, keys, records, words[18 + i], level - 1, 8, pairs)?;
-        if words[2 + i] != last_of(pairs) {
-            return Err(TreeFault::LastKeys(reference));
+        walk(
+            alloc,
+            keys,
+            records,
+            words[FIRST_VALUE + i],
+            level - 1,
+            LEAST_SLOTS as u32,
+            pairs,
+        )?;
+        if words[FIRST_KEY + i] != last_of(pairs) {
+            return Err(CheckFault::Broken);
         }
     }
     if words[1] != (pairs.len() - begin) as u64 {
-        return Err(TreeFault::Count(reference));
+        return Err(CheckFault::Broken);
     }
     Ok(())
 }
@@ -80,30 +87,25 @@ fn least_of(level: u64) -> u32
     if level == 0 { 1 } else { 2 }
 }
 
-/// The pairs of the tree at a root, none at root 0; or the first fault of a walk in key order. A level
-/// above 7 is a fault, so the walk ends on any records, with cycles too.
+/// The pairs of the tree at a root, none at root 0; or that the records are no tree there. A level above 7
+/// is refused, so the check ends on any records, with cycles too.
 pub fn check_tree(
     alloc: Global,
     keys: Keys,
     records: &BTreeMap<u32, Vec<u64>>,
     root: u64,
-) -> Result<Vec<(u64, u64)>, TreeFault>
+) -> Result<Vec<(u64, u64)>, CheckFault>
     ensures tree { OnOk result (IsTreeOf keys (seen records.now) root) }
     ensures pairs { IfOk result (λ pairs. pairs.items ≡ tree_pairs (seen records.now) root) }
-    ensures named { IfErr result (IsNamed keys (seen records.now) root) }
-    ensures exact { IfErr result (Refuses (IsTreeOf keys (seen records.now) root)) }
+    ensures exact { IfErr result (Refutes (IsTreeOf keys (seen records.now) root)) }
 {
     let mut pairs = Vec::new(alloc);
     if root == 0 {
         return Ok(pairs);
     }
-    let words = words_at(records, root);
-    if words.is_empty() {
-        return Err(TreeFault::Missing(root));
-    }
-    let level = words[0] / 256;
+    let level = word_in(words_at(records, root), 0) / 256;
     if level > 7 {
-        return Err(TreeFault::Form(root, NodeFault::Level));
+        return Err(CheckFault::Broken);
     }
     walk(
         alloc,

@@ -11,7 +11,7 @@ ghost use Rattle.image_base.specs.Records.{Records, SameAt, AllThere, references
 ghost use Rattle.image_base.specs.declared.Image.{Image};
 
 use entry_ref::EntryRef;
-pub use maps::words_at;
+pub use maps::{word_in, words_at};
 use std::collections::LinkedList;
 
 /// A root and the records that it reaches, each a reference with its words.

@@ -1,4 +1,4 @@
-ghost use Rattle.std.specs.Prelude.{◌≡◌};
+ghost use Rattle.std.specs.Prelude.{◌≡◌, slice_index};
 ghost use Rattle.image_base.specs.Maps.{seen};
 
 use std::collections::BTreeMap;
@@ -13,5 +13,15 @@ pub fn words_at(records: &BTreeMap<u32, Vec<u64>>, reference: u64) -> &[u64]
             None => &[],
         },
         Err(_) => &[],
+    }
+}
+
+/// A word of a record, 0 past its end.
+pub fn word_in(words: &[u64], i: usize) -> u64
+    ensures { result ≡ slice_index words.now i }
+{
+    match words.get(i) {
+        Some(word) => *word,
+        None => 0,
     }
 }

@@ -5,6 +5,7 @@ use Rattle.std.specs.Cmp.{IsTotalOrder}
 use Rattle.std.specs.List.{flat_map, AllByRecursion, IsDistinct}
 use Rattle.std.specs.List.Sorted.{IsStrictlySortedBy}
 use Rattle.std.specs.Ordering.{ordering_reverse}
+use Rattle.list_facts.proofs.Each.{AllByRecursion-append, AllByRecursion-left}
 use Rattle.image_base.specs.Records.{Records}
 use Rattle.tree_images.proofs.TreeLemmas.{IsNode-form, pairs_many}
 use Rattle.tree_images.specs.Nodes.{level_of, node_values}
@@ -43,15 +44,11 @@ all_apart : (x : ℕ) (ys : List ℕ) → ((y : ℕ) → In y ys → x ≢ y) �
 all_apart x [] apart = tt
 all_apart x (y ∷ ys) apart = (ne_eqb x y (apart y (inl refl)), all_apart x ys (λ z h. apart z (inr h)))
 
-All-both : (P : ℕ → Type 0) (xs ys : List ℕ) → AllByRecursion P xs → AllByRecursion P ys → AllByRecursion P (xs ++ ys)
-All-both P [] ys a b = b
-All-both P (x ∷ xs) ys a b = (a.0, All-both P xs ys a.1 b)
-
 distinct-append : (xs ys : List ℕ) → IsDistinct nat_eq xs → IsDistinct nat_eq ys → ((q : ℕ) → In q xs → In q ys → ⊥) → IsDistinct nat_eq (xs ++ ys)
 unfolding IsDistinct
 distinct-append [] ys a b apart = b
 distinct-append (x ∷ xs) ys a b apart =
-    (All-both (λ y. nat_eq x y ≡ false) xs ys a.0 (all_apart x ys (λ y h e. apart x (inl refl) (subst (λ z. In z ys) (sym e) h))), distinct-append xs ys a.1 b (λ q h k. apart q (inr h) k))
+    (AllByRecursion-append (λ y. nat_eq x y ≡ false) xs ys a.0 (all_apart x ys (λ y h e. apart x (inl refl) (subst (λ z. In z ys) (sym e) h))), distinct-append xs ys a.1 b (λ q h k. apart q (inr h) k))
 
 module _ {V : Type 0} (order : V → V → Ordering) (read : ℕ → V) where
   -- the keys of pairs ascend
@@ -68,13 +65,9 @@ module _ {V : Type 0} (order : V → V → Ordering) (read : ℕ → V) where
   rises_from [] sorted = tt
   rises_from (p ∷ ps) sorted = (all_read (read p.0) ps sorted.0, rises_from ps sorted.1)
 
-  all_left : {X : Type 0} (P : X → Type 0) (xs ys : List X) → AllByRecursion P (xs ++ ys) → AllByRecursion P xs
-  all_left P [] ys h = tt
-  all_left P (x ∷ xs) ys h = (h.0, all_left P xs ys h.1)
-
   pub rises_left : (xs ys : List (ℕ × ℕ)) → Rises (xs ++ ys) → Rises xs
   rises_left [] ys h = tt
-  rises_left (x ∷ xs) ys h = (all_left (λ q. order (read x.0) (read q.0) ≡ Less) xs ys h.0, rises_left xs ys h.1)
+  rises_left (x ∷ xs) ys h = (AllByRecursion-left (λ q. order (read x.0) (read q.0) ≡ Less) xs ys h.0, rises_left xs ys h.1)
 
   pub rises_right : (xs ys : List (ℕ × ℕ)) → Rises (xs ++ ys) → Rises ys
   rises_right [] ys h = h

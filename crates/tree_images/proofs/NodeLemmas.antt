@@ -1,13 +1,9 @@
 -- A node made of slots has its form, and reads as these slots.
-use Rattle.std.proofs.Common.{◌≡◌, ℕ, zero, suc, ◌+◌, ◌^◌, ◌-◌, ◌<◌, ◌≤◌, List, ◌++◌, length, slice_index, take, drop, replicate, refl, sym, ap, ◌∙◌, arith, length-append}
+use Rattle.std.proofs.Common.{◌≡◌, ℕ, ◌+◌, ◌^◌, ◌-◌, ◌<◌, ◌≤◌, List, ◌++◌, length, slice_index, take, drop, replicate, refl, sym, ap, ◌∙◌, arith, length-append}
 use Rattle.std.proofs.lemmas.List.{get_or-drop, get_or-append_right, get_or_append_left, length-replicate, take-append-le, take_at, drop_at}
 use Rattle.std.proofs.lemmas.Nat.{div-mul-add, mod-mul-add}
+use Rattle.list_facts.proofs.Places.{slice_index-zeros}
 use Rattle.tree_images.specs.Nodes.{level_of, used_of, node_keys, node_values, slot_words, node_words, IsNodeForm}
-
-zeros_at : (n i : ℕ) → slice_index (replicate n 0) i ≡ 0
-zeros_at zero i = refl
-zeros_at (suc n) zero = refl
-zeros_at (suc n) (suc i) = zeros_at n i
 
 length-slot_words : (slots : List ℕ) → length slots ≤ 16 → length (slot_words slots) ≡ 16
 length-slot_words slots few =
@@ -19,7 +15,7 @@ length-slot_words slots few =
 slot_words_past : (slots : List ℕ) (i : ℕ) → length slots ≤ i → slice_index (slot_words slots) i ≡ 0
 slot_words_past slots i past =
     get_or-append_right slots (replicate (16 - length slots) 0) (length slots) i 0 refl past
-    ∙ zeros_at (16 - length slots) (i - length slots)
+    ∙ slice_index-zeros (16 - length slots) (i - length slots)
 
 module _ (level count : ℕ) (keys values : List ℕ) (same : length keys ≡ length values) (few : length keys ≤ 16) where
   used-words : used_of (node_words level count keys values) ≡ length keys

@@ -1,13 +1,15 @@
 -- What the form of nodes says of a tree, and that new records leave old trees.
-use Rattle.std.proofs.Common.{◌≡◌, ℕ, zero, suc, ◌*◌, ◌^◌, ◌<◌, ◌≤◌, List, [], ◌∷◌, ◌++◌, length, map, refl, sym, ap, subst, ◌∙◌, arith, length-take, length-drop, length-append, get_or, mul-le-mul_right, suc-mul}
+use Rattle.std.proofs.Common.{◌≡◌, ℕ, zero, suc, ◌*◌, ◌^◌, ◌<◌, ◌≤◌, List, [], ◌∷◌, length, map, refl, sym, subst, ◌∙◌, arith, length-take, length-drop, length-append, get_or, mul-le-mul_right, suc-mul}
 use Rattle.std.proofs.lemmas.List.{length-map}
 use Rattle.std.proofs.lemmas.Map.Keys.{below_from_sorted}
 use Rattle.std.proofs.Math.Nat.{pow-suc}
-use Rattle.std.specs.List.{zip, flat_map, AllByRecursion}
+use Rattle.std.specs.List.{flat_map, AllByRecursion}
 use Rattle.std.specs.Ordering.{nat_cmp}
+use Rattle.list_facts.proofs.Pairs.{length-zip_even}
+use Rattle.list_facts.proofs.Each.{AllByRecursion-weaker}
 use Rattle.image_base.specs.Records.{Records, SameAt}
 use Rattle.tree_images.specs.Nodes.{level_of, used_of, count_of, node_keys, node_values, IsNodeForm}
-use Rattle.tree_images.specs.ProofsForTrees.{tree_pairs-same, IsRootNode-same}
+use Rattle.tree_images.specs.ProofsForTrees.{nodes_there, tree_pairs-same, IsRootNode-same}
 use Rattle.tree_images.specs.Trees.{pairs_below, nodes_below, IsNode, root_level, root_least, tree_pairs, tree_nodes, IsRootNode, IsTree, by_number, Keeps}
 
 pub IsNode-form : (m : Records) (least level ref : ℕ) → IsNode m least level ref → IsNodeForm level least (m ref)
@@ -26,25 +28,6 @@ module _ (level least : ℕ) (ws : List ℕ) (form : IsNodeForm level least ws) 
 
   pub length-node_values : length (node_values ws) ≡ used_of ws
   length-node_values = let s = form.size in let b = form.room in simp (length-take, length-drop) (omega arith)
-
-length-zip : (ks vs : List ℕ) → length ks ≡ length vs → length (zip ks vs) ≡ length ks
-length-zip [] vs e = refl
-length-zip (k ∷ ks) [] e = absurd (omega arith)
-length-zip (k ∷ ks) (v ∷ vs) e = ap suc (length-zip ks vs (omega arith))
-
-All-append : (P : ℕ → Type 0) (xs ys : List ℕ) → AllByRecursion P xs → AllByRecursion P ys → AllByRecursion P (xs ++ ys)
-All-append P [] ys a b = b
-All-append P (x ∷ xs) ys a b = (a.0, All-append P xs ys a.1 b)
-
-All-flat_map : (P Q : ℕ → Type 0) (f : ℕ → List ℕ) → ((c : ℕ) → Q c → AllByRecursion P (f c)) → (cs : List ℕ) → AllByRecursion Q cs → AllByRecursion P (flat_map f cs)
-All-flat_map P Q f each [] all = tt
-All-flat_map P Q f each (c ∷ cs) all = All-append P (f c) (flat_map f cs) (each c all.0) (All-flat_map P Q f each cs all.1)
-
--- every node of a tree is there
-pub nodes_there : (m : Records) (least level ref : ℕ) → IsNode m least level ref → AllByRecursion (λ q. 0 < length (m q)) (nodes_below m level ref)
-unfolding IsNode nodes_below
-nodes_there m least zero ref node = (let s = node.0.size in omega arith, tt)
-nodes_there m least (suc level) ref node = (let s = node.0.size in omega arith, All-flat_map (λ q. 0 < length (m q)) (IsNode m 8 level) (nodes_below m level) (nodes_there m 8 level) (node_values (m ref)) node.3)
 
 SameAt-kept : (m n : Records) → Keeps m n → (qs : List ℕ) → AllByRecursion (λ q. 0 < length (m q)) qs → SameAt qs m n
 SameAt-kept m n keeps [] all = tt
@@ -80,22 +63,18 @@ length-flat_map f k (c ∷ cs) all =
     let rest = length-flat_map f k cs all.1 in
     simp length-append (omega (arith, suc-mul (length cs) k))
 
-All-then : (P Q : ℕ → Type 0) → ((x : ℕ) → P x → Q x) → (xs : List ℕ) → AllByRecursion P xs → AllByRecursion Q xs
-All-then P Q each [] all = tt
-All-then P Q each (x ∷ xs) all = (each x all.0, All-then P Q each xs all.1)
-
 -- a node of a level has many pairs
 pub pairs_many : (m : Records) (least level ref : ℕ) → IsNode m least level ref → least * 8 ^ level ≤ length (pairs_below m level ref)
 unfolding IsNode pairs_below
 pairs_many m least zero ref node =
     let keys = length-node_keys 0 least (m ref) node.0 in
     let values = length-node_values 0 least (m ref) node.0 in
-    let is = length-zip (node_keys (m ref)) (node_values (m ref)) (keys ∙ sym values) in
+    let is = length-zip_even (node_keys (m ref)) (node_values (m ref)) (keys ∙ sym values) in
     let filled = node.0.filled in
     omega arith
 pairs_many m least (suc level) ref node =
     let values = length-node_values (suc level) least (m ref) node.0 in
-    let each = All-then (IsNode m 8 level) (λ c. 8 * 8 ^ level ≤ length (pairs_below m level c)) (pairs_many m 8 level) (node_values (m ref)) node.3 in
+    let each = AllByRecursion-weaker (IsNode m 8 level) (λ c. 8 * 8 ^ level ≤ length (pairs_below m level c)) (pairs_many m 8 level) (node_values (m ref)) node.3 in
     let all : length (node_values (m ref)) * (8 * 8 ^ level) ≤ length (flat_map (pairs_below m level) (node_values (m ref))) = length-flat_map (pairs_below m level) (8 * 8 ^ level) (node_values (m ref)) each in
     let filled : least ≤ length (node_values (m ref)) = let f = node.0.filled in omega arith in
     let less : least * (8 * 8 ^ level) ≤ length (node_values (m ref)) * (8 * 8 ^ level) = mul-le-mul_right (8 * 8 ^ level) filled in

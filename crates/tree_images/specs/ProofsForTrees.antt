@@ -5,7 +5,8 @@ use Rattle.std.specs.Prelude.{min}
 use Rattle.std.specs.declared.cmp.Ordering.{Ordering}
 use Rattle.std.specs.List.{zip, flat_map, AllByRecursion}
 use Rattle.std.specs.List.Sorted.{IsStrictlySortedBy}
-use Rattle.image_base.specs.Records.{Records, SameAt}
+use Rattle.list_facts.proofs.Each.{AllByRecursion-flat_map}
+use Rattle.image_base.specs.Records.{Records, SameAt, AllThere}
 use Rattle.tree_images.specs.Nodes.{level_of, count_of, node_keys, node_values, IsNodeForm}
 use Rattle.tree_images.specs.Trees.{pairs_below, nodes_below, last_key, HasLastKeys, HasCount, IsNode, root_level, root_least, tree_pairs, tree_nodes, IsRootNode, IsTree}
 
@@ -96,3 +97,22 @@ IsTree-same order read m n root h reads tree = record {
   node = λ some. IsRootNode-same m n root h some (tree.node some);
   ascends = subst (IsStrictlySortedBy order) (sym (ap (λ ps. map (λ p. read n p.0) ps) (tree_pairs-same m n root h) ∙ reads)) tree.ascends;
 }
+
+-- every node of a tree is there
+pub nodes_there : (m : Records) (least level ref : ℕ) → IsNode m least level ref → AllByRecursion (λ q. 0 < length (m q)) (nodes_below m level ref)
+unfolding IsNode nodes_below
+nodes_there m least zero ref node = (let s = node.0.size in omega arith, tt)
+nodes_there m least (suc level) ref node = (let s = node.0.size in omega arith, AllByRecursion-flat_map (λ q. 0 < length (m q)) (IsNode m 8 level) (nodes_below m level) (nodes_there m 8 level) (node_values (m ref)) node.3)
+
+pub there-both : (m : Records) (xs ys : List ℕ) → AllThere xs m → AllThere ys m → AllThere (xs ++ ys) m
+there-both m [] ys a b = b
+there-both m (x ∷ xs) ys a b = (a.0, there-both m xs ys a.1 b)
+
+there-all : (m : Records) (xs : List ℕ) → AllByRecursion (λ q. 0 < length (m q)) xs → AllThere xs m
+there-all m [] all = tt
+there-all m (x ∷ xs) all = (all.0, there-all m xs all.1)
+
+pub tree_there : (m : Records) (root : ℕ) → (0 < root → IsRootNode m root) → AllThere (tree_nodes m root) m
+tree_there m zero node = tt
+tree_there m (suc ref) node =
+    there-all m (nodes_below m (root_level m (suc ref)) (suc ref)) (nodes_there m (root_least (root_level m (suc ref))) (root_level m (suc ref)) (suc ref) (node (omega arith)))

@@ -5,7 +5,7 @@ pub returns-clause-others : goal.returns-clause-others
 returns-clause-others c = others_stay
 
 pub returns-clause-put : goal.returns-clause-put
-returns-clause-put c = λ kind. put_is_there
+returns-clause-put c = λ fields. put_is_there
 
 pub returns-clause-remove : goal.returns-clause-remove
 returns-clause-remove c = remove_after_put

@@ -1,4 +1,4 @@
-use Rattle.attr_types.specs.ValueOrder.{value_cmp_total, value_cmp_exact}
+use Rattle.attr_types.specs.ProofsForOrder.{value_cmp_total, value_cmp_exact}
 use Rattle.attr_types.proofs.order.order_law.Goals as goal
 
 pub returns-clause-total : goal.returns-clause-total

@@ -16,9 +16,9 @@ loop-entry-preserved c =
     let told = c.document_with.ensures ∙ ap (λ (xs : List Item). option_map {U = ℕ × ℤ} (λ (item : Item). (e.0, item.weight)) (find (λ (item : Item). is_eq (value_cmp value item.value)) xs)) c.as_slice.ensures in
     elim c.match-document_with.branch [
       | in-Some+in_ok-push w ↦
-          document_more value c.args.table.now c.loop-entry.entry-index e c.loop-entry-test.true c.entry-item.is c.loop-entry.list.items c.match-document_with.list.items w.in-Some.pair
+          document_more value c.args.column.now c.loop-entry.entry-index e c.loop-entry-test.true c.entry-item.is c.loop-entry.list.items c.match-document_with.list.items w.in-Some.pair
           (sym told ∙ w.in-Some.is) c.loop-entry.invariant (ap (λ (v : Vec (ℕ × ℤ) Global). v.items) w.list-is ∙ w.in_ok-push.ensures.items)
       | in_default w ↦
           ap (λ (v : Vec (ℕ × ℤ) Global). v.items) w.list-is
-          ∙ document_none value c.args.table.now c.loop-entry.entry-index e c.loop-entry-test.true c.entry-item.is c.loop-entry.list.items (sym told ∙ w.in_default.is) c.loop-entry.invariant
+          ∙ document_none value c.args.column.now c.loop-entry.entry-index e c.loop-entry-test.true c.entry-item.is c.loop-entry.list.items (sym told ∙ w.in_default.is) c.loop-entry.invariant
     ]

@@ -1,5 +1,5 @@
 use Rattle.std.proofs.Common.{◌<◌, get_or, nat_le, ◌∙◌, arith}
-use Rattle.attr_images.specs.Words.{widths}
+use Rattle.attr_images.specs.Words.{classes}
 use Rattle.check_images.proofs.WordLemmas.{find_next, too_many}
 use Rattle.check_images.proofs.words.class_of.Goals as goal
 
@@ -7,4 +7,4 @@ pub loop-width-preserved : goal.loop-width-preserved
 loop-width-preserved c =
     let i = c.loop-width.width-index in
     let low : i < 10 = omega arith in
-    find_next (nat_le c.args.count) widths i 0 low (too_many c.args.count (get_or widths i 0) (omega arith)) ∙ c.loop-width.invariant
+    find_next (nat_le c.args.count) classes i 0 low (too_many c.args.count (get_or classes i 0) (omega arith)) ∙ c.loop-width.invariant

@@ -1,7 +1,7 @@
 use Rattle.std.proofs.Common.{◌≡◌, ◌≤◌, ◌++◌, take, length}
 use Rattle.std.specs.List.{zip}
 use Rattle.tree_images.specs.Nodes.{used_of, node_keys, node_values}
-use Rattle.check_trees.specs.Keys.{Ascends}
+use Rattle.check_trees.specs.Keys.{PairsAscend}
 use Rattle.image_base.specs.Maps.{seen}
 use Rattle.check_trees.proofs.pairs.add_leaf.Given as goal
 
@@ -11,5 +11,5 @@ invariant-loop-i l = record {
   room : used_of l.words ≤ 16;
   used : l.used ≡ used_of l.words;
   pairs : l.pairs.items ≡ l.fn.pairs.items ++ zip (take l.i (node_keys l.words)) (take l.i (node_values l.words));
-  ascends : Ascends l.keys (seen l.records) l.pairs.items;
+  ascends : PairsAscend l.keys (seen l.records) l.pairs.items;
 }

@@ -1,7 +1,7 @@
 use Rattle.std.proofs.Common.{◌≡◌, ◌<◌, ◌≤◌, ◌-◌, length}
 use Rattle.tree_images.specs.Nodes.{used_of, IsNodeForm}
 use Rattle.image_base.specs.Maps.{seen}
-use Rattle.check_trees.specs.Walks.{Walked}
+use Rattle.check_trees.proofs.Walks.{Walked}
 use Rattle.check_trees.proofs.tree.+walk.Given as goal
 
 abbrev pub decreases-walk : goal.decreases-walk

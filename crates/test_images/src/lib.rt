@@ -1,0 +1,9 @@
+//! Tests of trees and images made by hand, over public calls alone.
+#![tactic(auto)]
+
+#[cfg(test)]
+mod made;
+#[cfg(test)]
+mod of_check_images;
+#[cfg(test)]
+mod of_check_trees;

@@ -1,0 +1,55 @@
+//! Records made by hand.
+use image_base::word_in;
+use std::alloc::{AllocError, Global};
+use std::collections::BTreeMap;
+
+/// A reference and the words of its record.
+pub type Row<'a> = (u32, &'a [u64]);
+
+pub type Map = BTreeMap<u32, Vec<u64>>;
+
+/// The words of a node: word 0, its count, its keys and its values.
+pub fn node(head: u64, count: u64, keys: &[u64], values: &[u64]) -> [u64; 34] {
+    let mut words = [0; 34];
+    words[0] = head;
+    words[1] = count;
+    for i in 0..16 {
+        words[2 + i] = word_in(keys, i);
+        words[18 + i] = word_in(values, i);
+    }
+    words
+}
+
+/// A leaf of the keys from `first` on, each with one value.
+pub fn run(first: u64, count: usize, value: u64) -> [u64; 34] {
+    let mut keys = [0; 16];
+    let mut values = [0; 16];
+    for i in 0..16 {
+        if i < count {
+            keys[i] = first.saturating_add(i as u64);
+            values[i] = value;
+        }
+    }
+    node(count as u64, count as u64, &keys, &values)
+}
+
+/// The root over leaves of the keys 1 to 9 and 10 to 17.
+pub fn root(first: u64, second: u64) -> [u64; 34] {
+    node(258, 17, &[9, 17], &[first, second])
+}
+
+/// Puts records into a map, later ones in place of earlier.
+pub fn put(alloc: Global, records: &mut Map, rows: &[Row]) -> Result<(), AllocError> {
+    for row in rows {
+        records.insert(row.0, Vec::from_slice(alloc, row.1)?)?;
+    }
+    Ok(())
+}
+
+/// These records, and others in their place.
+pub fn records_of(alloc: Global, rows: &[Row], others: &[Row]) -> Result<Map, AllocError> {
+    let mut records = BTreeMap::new(alloc);
+    put(alloc, &mut records, rows)?;
+    put(alloc, &mut records, others)?;
+    Ok(records)
+}
