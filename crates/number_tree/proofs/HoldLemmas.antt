@@ -6,7 +6,7 @@ use Rattle.std.specs.List.Sorted.{IsStrictlySortedBy}
 use Rattle.std.specs.Ordering.{nat_cmp}
 use Rattle.image_base.specs.Images.{image_of, words_at}
 use Rattle.image_base.specs.Records.{Records, SameAt, Among}
-use Rattle.mem_work.specs.Reached.{words-among, same-from}
+use Rattle.image_base.proofs.Pairs.{words-among, same-from}
 use Rattle.tree_images.specs.ProofsForTrees.{tree_pairs-same, tree_nodes-same, IsTree-same}
 use Rattle.tree_images.specs.Trees.{tree_pairs, tree_nodes, by_number, IsTree}
 use Rattle.store_api.specs.Statuses.{Status, in_use, is_let_go, after_accept, after_commit}

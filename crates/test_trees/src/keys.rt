@@ -2,11 +2,10 @@ ghost use Rattle.store_api.specs.Ledgers.{IsNew};
 
 use crate::tens::put_word;
 use crate::trees::new_tree;
-use check_trees::word_at;
 use entry_ref::EntryRef;
 use entry_store::EntryStore;
 use frozen_btree::{KeyOrder, NumberKey};
-use image_base::words_at;
+use image_base::{word_in, words_at};
 use mem_work::MemWork;
 use number_tree::TreeLayout;
 use std::alloc::AllocError;
@@ -79,11 +78,11 @@ fn the_last_key_of_a_subtree_is_replaced_by_another_word(rt: HostRuntime) -> Res
     let root = two_replaced(&mut store).map_err(|_| AllocError)?;
     let records = store.records(alloc)?;
     let top = words_at(&records, u64::from(root.raw()));
-    assert_eq!(rt; (word_at(top, 0), word_at(top, 1)), (258, 17));
-    assert_eq!(rt; (word_at(top, 2), word_at(top, 3)), (95, 179));
-    let first = words_at(&records, word_at(top, 18));
+    assert_eq!(rt; (word_in(top, 0), word_in(top, 1)), (258, 17));
+    assert_eq!(rt; (word_in(top, 2), word_in(top, 3)), (95, 179));
+    let first = words_at(&records, word_in(top, 18));
     assert_eq!(rt;
-        (word_at(first, 0), word_at(first, 10), word_at(first, 26)),
+        (word_in(first, 0), word_in(first, 10), word_in(first, 26)),
         (9, 95, 1)
     );
     Ok(())

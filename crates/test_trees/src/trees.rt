@@ -2,9 +2,9 @@
 ghost use Rattle.std.specs.Prelude.{◌≤◌, ◌<◌};
 ghost use Rattle.entry_ref.specs.References.{offset_limit, buffer_limit};
 
-use check_trees::{Keys, check_tree, word_at};
+use check_trees::{Keys, check_tree};
 use entry_store::EntryStore;
-use image_base::words_at;
+use image_base::{word_in, words_at};
 use mem_work::MemWork;
 use number_tree::{NumberTree, TreeLayout};
 use std::alloc::{AllocError, Global};
@@ -47,12 +47,12 @@ fn heads(
     root: u64,
 ) -> Result<Vec<u64>, AllocError> {
     let words = words_at(records, root);
-    let head = word_at(words, 0);
+    let head = word_in(words, 0);
     let mut heads = Vec::new(alloc);
     heads.push(head)?;
     if head >= 256 {
         for i in 0..(head % 256) as usize {
-            heads.push(word_at(words_at(records, word_at(words, 18 + i)), 0))?;
+            heads.push(word_in(words_at(records, word_in(words, 18 + i)), 0))?;
         }
     }
     Ok(heads)
@@ -71,7 +71,7 @@ pub fn look<const OFFSET_BITS: u32>(
         Ok(pairs) => Ok(Seen {
             root,
             heads: heads(alloc, &records, number)?,
-            count: word_at(words_at(&records, number), 1),
+            count: word_in(words_at(&records, number), 1),
             pairs,
         }),
         Err(_) => Err(AllocError),
