@@ -1,5 +1,5 @@
 ghost use Rattle.std.specs.Prelude.{◌≡◌, ◌<◌, true, false, IfOk, OnOk};
-ghost use Rattle.store_api.specs.Classes.{in_use};
+ghost use Rattle.store_api.specs.Statuses.{in_use};
 ghost use Rattle.bench_work.specs.Units.{UsesOnly, DropsRoot};
 
 use mem_work::OneRecord;
@@ -7,10 +7,10 @@ use entry_ref::EntryRef;
 use store_api::{Store, StoreError};
 
 /// Drops the root record, where there is one.
-fn drop_root<S: Store>(store: &mut S, root: EntryRef)
+fn drop_root<const OFFSET_BITS: u32, S: Store<OFFSET_BITS>>(store: &mut S, root: EntryRef<OFFSET_BITS>)
     requires unit { (S.ledger store.old).unit ≡ true }
-    requires used { 0 < root → in_use ((S.ledger store.old).class root) ≡ true }
-    ensures { DropsRoot (S.ledger store.old) (S.ledger store.new) root }
+    requires used { 0 < root → in_use ((S.ledger store.old).status root) ≡ true }
+    ensures { DropsRoot (S.ledger store.old) (S.ledger store.new) root.entry }
 {
     if root.valid() {
         store.drop_entry(root);
@@ -18,11 +18,11 @@ fn drop_root<S: Store>(store: &mut S, root: EntryRef)
 }
 
 /// One unit with a new root record in place of the old one, and its commit.
-pub fn commit_root<S: Store<Layout = OneRecord>>(
+pub fn commit_root<const OFFSET_BITS: u32, S: Store<OFFSET_BITS, Layout = OneRecord>>(
     store: &mut S,
-    root: EntryRef,
+    root: EntryRef<OFFSET_BITS>,
     number: u64,
-) -> Result<EntryRef, StoreError>
+) -> Result<EntryRef<OFFSET_BITS>, StoreError>
     requires unit { (S.ledger store.old).unit ≡ false }
     requires used { UsesOnly (S.ledger store.old) root }
     requires room { (S.ledger store.old).work.commits.last < (S.ledger store.old).work.sizes.commits }

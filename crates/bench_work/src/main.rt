@@ -11,13 +11,14 @@ mod tree_run;
 
 use crate::store_run::run_store;
 use crate::tree_run::{Order, TreeCounts, TreeLoad, run_tree};
-use mem_work::{MemWork, OneRecord};
 use entry_store::EntryStore;
-use frozen_btree::TreeLayout;
 use image_base::Layout;
+use mem_work::{MemWork, OneRecord};
+use number_tree::TreeLayout;
 use std::alloc::{AllocError, Global};
 use std::process::ExitCode;
 use store_api::{Store, StoreError};
+use tree_images::NODE_WORDS;
 
 /// What is run.
 #[derive(Clone, Copy, Debug)]
@@ -62,13 +63,13 @@ fn order_of(name: &str) -> Option<Order> {
     }
 }
 
-/// A store over a memory of so many buffers of 65,536 words, of which nothing is made yet.
-fn new_store<L: Layout>(alloc: Global, buffers: u32) -> Result<EntryStore<MemWork<L>>, AllocError>
+/// A store over a memory of buffers of 65,536 words, of which nothing is made yet.
+fn new_store<L: Layout>(alloc: Global, buffers: u32) -> Result<EntryStore<22, MemWork<22, L>>, AllocError>
     requires some { 1 ≤ buffers }
     requires few { buffers ≤ 1023 }
-    ensures { IfOk result (λ s. IsNew (⟦<EntryStore<MemWork<L>> as Store>⟧.ledger s)) }
+    ensures { IfOk result (λ s. IsNew (⟦<EntryStore<22, MemWork<22, L>> as Store<22>>⟧.ledger s)) }
 {
-    let work = MemWork::<L>::create(alloc, buffers, 65536, 1)?;
+    let work = MemWork::<22, L>::create(alloc, buffers, 65536, 1)?;
     match EntryStore::create(alloc, work) {
         Ok(store) => Ok(store),
         Err(_) => Err(AllocError),
@@ -88,7 +89,7 @@ fn counts_of(alloc: Global, load: &TreeLoad) -> Result<(TreeCounts, u64), StoreE
     match new_store::<TreeLayout>(alloc, 16) {
         Ok(store) => {
             let (counts, store) = run_tree(store, load)?;
-            Ok((counts, store.made(34)))
+            Ok((counts, store.made(NODE_WORDS as u32)))
         }
         Err(_) => Err(StoreError::Memory),
     }

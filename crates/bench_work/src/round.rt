@@ -3,10 +3,11 @@ ghost use Rattle.bench_work.specs.Units.{UsesSame, Made};
 
 use entry_ref::EntryRef;
 use store_api::{Store, StoreError};
-use tree_frame::drop_nodes;
+use tree_images::NODE_WORDS;
+use tree_make::drop_nodes;
 
-/// One unit: makes so many entries of 34 words, drops them all, and is accepted.
-pub fn run_unit<S: Store>(
+/// One unit: makes `count` entries of 34 words, drops them all, and is accepted.
+pub fn run_unit<const OFFSET_BITS: u32, S: Store<OFFSET_BITS>>(
     store: &mut S,
     entries: &mut Vec<u32>,
     count: u32,
@@ -22,14 +23,14 @@ pub fn run_unit<S: Store>(
     Ok(())
 }
 
-/// Makes so many entries of 34 words.
-fn make_nodes<S: Store>(store: &mut S, entries: &mut Vec<u32>, count: u32) -> Result<(), StoreError>
+/// Makes `count` entries of 34 words.
+fn make_nodes<const OFFSET_BITS: u32, S: Store<OFFSET_BITS>>(store: &mut S, entries: &mut Vec<u32>, count: u32) -> Result<(), StoreError>
     requires unit { (S.ledger store.old).unit ≡ true }
     ensures { OnOk result (Made (S.ledger store.old) (S.ledger store.new) entries.new.items) }
 {
     entries.clear();
     for n in 0..count {
-        let entry = store.make(34, &[u64::from(n), 1])?;
+        let entry = store.make(NODE_WORDS as u32, &[u64::from(n), 1])?;
         match entries.push(entry.raw()) {
             Ok(()) => {}
             Err(_) => return Err(StoreError::Memory),

@@ -10,7 +10,7 @@ use store_api::{Store, StoreError};
 
 /// Units of 1,000 entries, and a commit of a new root after each hundred units. Answers how many commits
 /// were made.
-pub fn run_store<S: Store<Layout = OneRecord>>(
+pub fn run_store<const OFFSET_BITS: u32, S: Store<OFFSET_BITS, Layout = OneRecord>>(
     alloc: Global,
     store: &mut S,
     units: u64,

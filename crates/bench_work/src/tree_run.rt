@@ -4,7 +4,8 @@ ghost use Rattle.store_api.specs.Ledgers.{IsNew};
 
 use frozen_api::Frozen;
 use entry_ref::EntryRef;
-use frozen_btree::{Cursor, NumberTree, TreeLayout};
+use frozen_btree::Cursor;
+use number_tree::{NumberTree, TreeLayout};
 use store_api::{Store, StoreError};
 
 /// The order in which keys come.
@@ -18,7 +19,7 @@ pub enum Order {
 impl Order {
     ghost use Rattle.bench_work.specs.declared.tree_run.Order.TheVariants.{Ascending, Descending};
 
-    /// Key `i` of so many, each another.
+    /// Key `i` of `keys` different ones.
     pub fn key_at(self, i: u64, keys: u64) -> u64
         ensures ascending { self ≡ Ascending → result ≡ i }
         ensures descending { self ≡ Descending → i < keys → result + i + 1 ≡ keys }
@@ -50,20 +51,20 @@ pub struct TreeCounts {
 }
 
 /// Puts the keys in, one after another.
-fn fill<S: Store<Layout = TreeLayout>>(
-    tree: &mut NumberTree<S>,
+fn fill<const OFFSET_BITS: u32, S: Store<OFFSET_BITS, Layout = TreeLayout>>(
+    tree: &mut NumberTree<OFFSET_BITS, S>,
     load: &TreeLoad,
 ) -> Result<(), StoreError>
     ensures { OnOk result (length tree.new.pairs ≤ length tree.old.pairs + load.now.keys) }
 {
     for i in 0..load.keys {
-        tree.insert(load.order.key_at(i, load.keys), i)?;
+        tree.put(load.order.key_at(i, load.keys), i)?;
     }
     Ok(())
 }
 
 /// How many of the keys that are looked up are there.
-fn found_in<S: Store<Layout = TreeLayout>>(tree: &mut NumberTree<S>, load: &TreeLoad) -> u64
+fn found_in<const OFFSET_BITS: u32, S: Store<OFFSET_BITS, Layout = TreeLayout>>(tree: &mut NumberTree<OFFSET_BITS, S>, load: &TreeLoad) -> u64
     ensures found { result ≤ load.now.finds }
     ensures same { tree.new ≡ tree.old }
 {
@@ -80,8 +81,8 @@ fn found_in<S: Store<Layout = TreeLayout>>(tree: &mut NumberTree<S>, load: &Tree
 }
 
 /// Takes keys out, one after another.
-fn take_out<S: Store<Layout = TreeLayout>>(
-    tree: &mut NumberTree<S>,
+fn take_out<const OFFSET_BITS: u32, S: Store<OFFSET_BITS, Layout = TreeLayout>>(
+    tree: &mut NumberTree<OFFSET_BITS, S>,
     load: &TreeLoad,
 ) -> Result<(), StoreError>
     ensures { OnOk result (length tree.new.pairs ≤ length tree.old.pairs) }
@@ -93,7 +94,7 @@ fn take_out<S: Store<Layout = TreeLayout>>(
 }
 
 /// The sum of all keys and values of a tree, by one walk.
-fn walk<F: Frozen>(frozen: &mut F, root: EntryRef) -> u64
+fn walk<const OFFSET_BITS: u32, F: Frozen<OFFSET_BITS>>(frozen: &mut F, root: EntryRef<OFFSET_BITS>) -> u64
     requires { 0 < root → IsRootNode (F.records frozen.old) root }
     ensures { frozen.new ≡ frozen.old }
 {
@@ -108,7 +109,7 @@ fn walk<F: Frozen>(frozen: &mut F, root: EntryRef) -> u64
 }
 
 /// Inserts, finds, removes and full walks of a tree. The store is given back.
-pub fn run_tree<S: Store<Layout = TreeLayout> + Drop>(
+pub fn run_tree<const OFFSET_BITS: u32, S: Store<OFFSET_BITS, Layout = TreeLayout> + Drop>(
     store: S,
     load: &TreeLoad,
 ) -> Result<(TreeCounts, S), StoreError>

@@ -1,21 +1,12 @@
-//! The frozen tree: a B+tree of 64-bit keys and values whose nodes are records that are never written again.
+//! The frozen tree under one name: a B+tree of 64-bit keys and values whose nodes are records that are never
+//! written again.
 //!
 //! A change makes the nodes on one path anew and answers a new root, so an old root reads as before for as
 //! long as its records stay, and is read without a lock. A tree is a root: 0 where it is empty, else the
 //! reference of its top node. Its pairs ascend by key, in an order that a `KeyOrder` gives.
 #![tactic(auto)]
 
-mod layout;
-mod number_tree;
-mod unit;
-mod walk;
-
 pub use key_order::{KeyOrder, NumberKey};
-pub use layout::TreeLayout;
-pub use number_tree::NumberTree;
 pub use tree_insert::insert;
 pub use tree_remove::remove;
 pub use tree_search::{Cursor, find, total};
-
-#[cfg(test)]
-mod tests;

@@ -6,10 +6,10 @@ use Rattle.std.specs.declared.cmp.Ordering.TheVariants.{Less, Equal, Greater}
 use Rattle.std.specs.Ordering.{ordering_reverse}
 use Rattle.std.specs.List.{flat_map, AllByRecursion}
 use Rattle.std.specs.List.Sorted.{IsStrictlySortedBy}
+use Rattle.list_facts.proofs.Each.{AllByRecursion-append}
 use Rattle.tree_images.specs.Trees.{last_key}
 use Rattle.key_order.specs.Keys.{AllBelow}
 use Rattle.key_order.specs.Pairs.{choose, put, take_out}
-use Rattle.key_order.proofs.PairLemmas.{All-both}
 
 -- what reads equal to the one sought is beside every other as that is
 pub equal_right : {V : Type 0} (order : V → V → Ordering) → IsTotalOrder order → (a b s : V) → order b s ≡ Equal → order a b ≡ order a s
@@ -78,7 +78,7 @@ module _ {V : Type 0} (order : V → V → Ordering) (reads : ℕ → V) where
   children-below total s f cs zero h up before = tt
   children-below total s f [] (suc i) h up before = tt
   children-below total s f (c ∷ cs) (suc i) h up before =
-      All-both (λ (p : ℕ × ℕ). order (reads p.0) s ≡ Less) (f c) (flat_map f (take i cs))
+      AllByRecursion-append (λ (p : ℕ × ℕ). order (reads p.0) s ≡ Less) (f c) (flat_map f (take i cs))
       (below_last total s (f c) (ascends-left (f c) (flat_map f cs) up) (before 0 (omega arith)))
       (children-below total s f cs i (omega arith) (ascends-right (f c) (flat_map f cs) up) (λ j g. before (suc j) (omega arith)))
 

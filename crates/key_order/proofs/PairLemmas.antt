@@ -3,31 +3,15 @@ use Rattle.std.proofs.Common.{◌≡◌, ◌≢◌, ℕ, zero, suc, ◌<◌, ◌
 use Rattle.std.specs.declared.cmp.Ordering.{Ordering}
 use Rattle.std.specs.declared.cmp.Ordering.TheVariants.{Less, Equal, Greater}
 use Rattle.std.specs.List.{flat_map, AllByRecursion}
+use Rattle.list_facts.proofs.Each.{AllByRecursion-left, AllByRecursion-right}
 use Rattle.tree_images.specs.Trees.{last_key}
 use Rattle.key_order.specs.Keys.{AllBelow}
 use Rattle.key_order.specs.Pairs.{choose, lookup, put, take_out, seek}
 
-pub All-left : {A : Type 0} (P : A → Type 0) (xs ys : List A) → AllByRecursion P (xs ++ ys) → AllByRecursion P xs
-All-left P [] ys h = tt
-All-left P (x ∷ xs) ys h = (h.0, All-left P xs ys h.1)
-
-pub All-right : {A : Type 0} (P : A → Type 0) (xs ys : List A) → AllByRecursion P (xs ++ ys) → AllByRecursion P ys
-All-right P [] ys h = h
-All-right P (x ∷ xs) ys h = All-right P xs ys h.1
-
-pub All-both : {A : Type 0} (P : A → Type 0) (xs ys : List A) → AllByRecursion P xs → AllByRecursion P ys → AllByRecursion P (xs ++ ys)
-All-both P [] ys a b = b
-All-both P (x ∷ xs) ys a b = (a.0, All-both P xs ys a.1 b)
-
 pub All-child : {A : Type 0} (P : A → Type 0) (f : ℕ → List A) (cs : List ℕ) (i : ℕ) → i < length cs → AllByRecursion P (flat_map f cs) → AllByRecursion P (f (get_or cs i 0))
 All-child P f [] i h all = absurd (omega arith)
-All-child P f (c ∷ cs) zero h all = All-left P (f c) (flat_map f cs) all
-All-child P f (c ∷ cs) (suc i) h all = All-child P f cs i (omega arith) (All-right P (f c) (flat_map f cs) all)
-
-pub All-at : (P : ℕ → Type 0) (cs : List ℕ) (i : ℕ) → i < length cs → AllByRecursion P cs → P (get_or cs i 0)
-All-at P [] i h all = absurd (omega arith)
-All-at P (c ∷ cs) zero h all = all.0
-All-at P (c ∷ cs) (suc i) h all = All-at P cs i (omega arith) all.1
+All-child P f (c ∷ cs) zero h all = AllByRecursion-left P (f c) (flat_map f cs) all
+All-child P f (c ∷ cs) (suc i) h all = All-child P f cs i (omega arith) (AllByRecursion-right P (f c) (flat_map f cs) all)
 
 -- the lists of all children, cut at one
 pub children-cut : {A : Type 0} (f : ℕ → List A) (cs : List ℕ) (i : ℕ) → i < length cs

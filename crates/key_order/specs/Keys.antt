@@ -5,6 +5,7 @@ use Rattle.std.specs.declared.cmp.Ordering.TheVariants.{Less}
 use Rattle.std.specs.List.{AllByRecursion}
 use Rattle.std.specs.List.Sorted.{IsStrictlySortedBy}
 use Rattle.image_base.specs.Records.{Records}
+use Rattle.tree_images.specs.declared.TheConstants.{NODE_WORDS}
 
 -- a stored key beside the one sought
 abbrev pub seen_by : {V : Type 0} → (Records → ℕ → V) → (V → V → Ordering) → V → Records → ℕ → Ordering
@@ -22,10 +23,10 @@ AllBelow c ps = AllByRecursion (λ p. c p.0 ≡ Less) ps
 abbrev pub AllReadable : (Records → ℕ → Type 0) → Records → List (ℕ × ℕ) → Type 0
 AllReadable can_read m ps = AllByRecursion (λ p. can_read m p.0) ps
 
--- the record is there and is no node: nodes alone have 34 words
+-- the record is there and is no node: nodes alone have so many words
 pub record IsNoNode (m : Records) (ref : ℕ) : Type 0 where
   pub there : 0 < length (m ref)
-  pub width : length (m ref) ≢ 34
+  pub width : length (m ref) ≢ NODE_WORDS
 
 -- a key is read from no node
 abbrev pub ReadsNoNode : (Records → ℕ → List ℕ) → Records → ℕ → Type 0

@@ -9,5 +9,3 @@ pub use key::KeyOrder;
 pub use laws::{key_law, put_law, take_out_law};
 pub use number::NumberKey;
 
-#[cfg(test)]
-mod tests;

@@ -9,8 +9,8 @@ ghost use Rattle.arena_api.specs.Calls.{IsWithinLimits, AddsCommit, FitsEntry, I
 ghost use Rattle.store_api.specs.Statuses.{in_use, has_record, is_committed, is_uncommitted, is_open, after_accept, Status};
 ghost use Rattle.store_api.specs.Ledgers.{Ledger, IsEntryOf, MayDo, Makes, IsFull, IsSettled, is_width, capacity, dropped_from, ended, kept_records, without_free, committed};
 
-use frozen_api::Frozen;
 use entry_ref::EntryRef;
+use frozen_api::Frozen;
 use image_base::Layout;
 
 /// Why no entry was made.

@@ -15,7 +15,10 @@ fn a_reference_is_its_offset_and_its_buffer(rt: HostRuntime) {
         let entry = EntryRef::<22>::new(offset, buffer);
         assert_eq!(rt; entry.raw(), raw);
         assert!(rt; entry == EntryRef::from_raw(raw));
-        assert_eq!(rt; (entry.offset(), entry.buffer(), entry.valid()), (offset, buffer, raw > 0));
+        assert_eq!(rt;
+            (entry.offset(), entry.buffer(), entry.valid()),
+            (offset, buffer, raw > 0)
+        );
     }
     let rows = [
         (0, 0, 0),
@@ -28,7 +31,10 @@ fn a_reference_is_its_offset_and_its_buffer(rt: HostRuntime) {
         let entry = EntryRef::<19>::new(offset, buffer);
         assert_eq!(rt; entry.raw(), raw);
         assert!(rt; entry == EntryRef::from_raw(raw));
-        assert_eq!(rt; (entry.offset(), entry.buffer(), entry.valid()), (offset, buffer, raw > 0));
+        assert_eq!(rt;
+            (entry.offset(), entry.buffer(), entry.valid()),
+            (offset, buffer, raw > 0)
+        );
     }
 }
 

@@ -25,7 +25,10 @@ fn new_store<const OFFSET_BITS: u32>(
         ≤ (⟦<EntryStore<OFFSET_BITS, MemWork<OFFSET_BITS, OneRecord>> as Store<OFFSET_BITS>>⟧.ledger s).work.sizes.commits) }
 {
     let work = MemWork::create(alloc, buffers, 8192, 1)?;
-    EntryStore::create(alloc, work).map_err(|_| AllocError)
+    match EntryStore::create(alloc, work) {
+        Ok(store) => Ok(store),
+        Err(_) => Err(AllocError),
+    }
 }
 
 /// The entries that a new store makes before and after an undo.
@@ -47,15 +50,21 @@ fn make_again<const OFFSET_BITS: u32, S: Store<OFFSET_BITS>>(
 #[test]
 fn an_entry_is_made_again_after_an_undo(rt: HostRuntime) -> Result<(), Fail> {
     let mut store = new_store::<22>(rt.alloc(), 8)?;
-    assert_eq!(rt; make_again::<22, _>(&mut store), Ok([1024, 1024, 2048, 1025]));
+    assert_eq!(rt;
+        make_again::<22, _>(&mut store),
+        Ok([1024, 1024, 2048, 1025])
+    );
     assert_eq!(rt; (store.made(2), store.made(34), store.made(4)), (3, 1, 0));
     let mut store = new_store::<19>(rt.alloc(), 8)?;
-    assert_eq!(rt; make_again::<19, _>(&mut store), Ok([8192, 8192, 16384, 8193]));
+    assert_eq!(rt;
+        make_again::<19, _>(&mut store),
+        Ok([8192, 8192, 16384, 8193])
+    );
     assert_eq!(rt; (store.made(2), store.made(34), store.made(4)), (3, 1, 0));
     Ok(())
 }
 
-/// How many entries of a width a new store makes, the last of them, and why it makes no more.
+/// How many entries of a width are made, the last of them, and why no more are.
 fn fill<const OFFSET_BITS: u32, S: Store<OFFSET_BITS>>(
     store: &mut S,
     width: u32,
@@ -74,25 +83,47 @@ fn fill<const OFFSET_BITS: u32, S: Store<OFFSET_BITS>>(
     (10_000, last, None)
 }
 
+/// The same of a new store.
+fn fill_new<const OFFSET_BITS: u32>(
+    alloc: Global,
+    buffers: u32,
+    width: u32,
+) -> Result<(u32, u32, Option<StoreError>), AllocError>
+    requires some { 1 ≤ buffers }
+    requires few { buffers ≤ 1024 }
+    requires named { buffers < buffer_limit OFFSET_BITS }
+    requires offsets { 8192 ≤ offset_limit OFFSET_BITS }
+    requires width { is_width width ≡ true }
+{
+    let mut store = new_store::<OFFSET_BITS>(alloc, buffers)?;
+    Ok(fill::<OFFSET_BITS, _>(&mut store, width))
+}
+
 #[test]
 fn a_store_is_full_where_no_buffer_is_free(rt: HostRuntime) -> Result<(), Fail> {
-    let full = |width, active| {
-        Some(StoreError::Full {
+    // how many entries, the last of them, and the width and the active buffers that Full names
+    let rows = [
+        (fill_new::<22>(rt.alloc(), 1, 2)?, (4095, 4_193_280, 2, 1)),
+        (fill_new::<22>(rt.alloc(), 1, 34)?, (239, 244_736, 34, 1)),
+        (fill_new::<22>(rt.alloc(), 1, 1024)?, (7, 7168, 1024, 1)),
+        (fill_new::<22>(rt.alloc(), 2, 1024)?, (14, 7169, 1024, 2)),
+        (fill_new::<19>(rt.alloc(), 1, 2)?, (4095, 33_546_240, 2, 1)),
+        (fill_new::<19>(rt.alloc(), 1, 34)?, (239, 1_957_888, 34, 1)),
+        (fill_new::<19>(rt.alloc(), 1, 1024)?, (7, 57_344, 1024, 1)),
+        (
+            fill_new::<19>(rt.alloc(), 1024, 1024)?,
+            (7168, 58_367, 1024, 1024),
+        ),
+    ];
+    for (answer, (count, last, width, active)) in rows {
+        let held = 0;
+        let full = StoreError::Full {
             width,
             active,
-            held: 0,
-        })
-    };
-    // the width, how many fill a buffer, and the offsets of the last
-    for (width, count) in [(2, 4095), (34, 239), (1024, 7)] {
-        let mut store = new_store::<22>(rt.alloc(), 1)?;
-        assert_eq!(rt; fill::<22, _>(&mut store, width), (count, count * 1024, full(width, 1)));
-        let mut store = new_store::<19>(rt.alloc(), 1)?;
-        assert_eq!(rt; fill::<19, _>(&mut store, width), (count, count * 8192, full(width, 1)));
+            held,
+        };
+        assert_eq!(rt; answer, (count, last, Some(full)));
     }
-    // offset 7 of buffer 1,023
-    let mut store = new_store::<19>(rt.alloc(), 1024)?;
-    assert_eq!(rt; fill::<19, _>(&mut store, 1024), (7168, 58_367, full(1024, 1024)));
     Ok(())
 }
 

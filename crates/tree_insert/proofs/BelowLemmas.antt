@@ -1,38 +1,37 @@
 -- A pair put below a node: the leaf with the pair, and the node over the child with the pair.
-use Rattle.std.proofs.Common.{◌≡◌, ⊎_elim, ℕ, suc, ◌+◌, ◌-◌, ◌<◌, ◌≤◌, List, [], ◌∷◌, ◌++◌, length, get_or, take, drop, sym, ap, subst, ◌∙◌, arith, length-append, length-take, length-drop}
-use Rattle.std.proofs.lemmas.List.{append-nil}
+use Rattle.std.proofs.Common.{◌≡◌, ⊎_elim, ℕ, suc, ◌+◌, ◌-◌, ◌<◌, ◌≤◌, List, [], ◌∷◌, ◌++◌, length, get_or, take, drop, sym, ap, subst, ◌∙◌, arith, length-append, length-take, length-drop, ◌^◌}
+use Rattle.std.proofs.lemmas.List.{append-nil, drop_all}
 use Rattle.std.proofs.lemmas.Grind.{flat_map-append}
 use Rattle.std.specs.Cmp.{IsTotalOrder}
 use Rattle.std.specs.declared.cmp.Ordering.{Ordering}
 use Rattle.std.specs.List.{zip, flat_map, AllByRecursion}
+use Rattle.list_facts.proofs.Each.{AllByRecursion-at}
 use Rattle.image_base.specs.Records.{Records}
 use Rattle.store_api.specs.Ledgers.{Ledger}
 use Rattle.tree_images.specs.Nodes.{used_of, node_keys, node_values}
 use Rattle.tree_images.specs.Trees.{pairs_below, nodes_below, last_key, IsNode, Keeps}
 use Rattle.tree_images.proofs.TreeLemmas.{IsNode-form, length-node_keys, length-node_values}
+use Rattle.tree_node.proofs.ChildLemmas.{pairs-some, IsNode-lower, keys-length}
 use Rattle.key_order.specs.Keys.{seen_by, Ascends, AllBelow}
 use Rattle.key_order.specs.Pairs.{put}
-use Rattle.key_order.proofs.PairLemmas.{All-at, All-child, children-cut, put-skip, put-stop, length-put_most}
+use Rattle.key_order.proofs.PairLemmas.{All-child, children-cut, put-skip, put-stop, length-put_most}
 use Rattle.key_order.proofs.OrderLemmas.{ascends-child, children-below}
-use Rattle.tree_frame.proofs.TimesLemmas.{times-append}
-use Rattle.tree_frame.specs.Times.{times}
+use Rattle.tree_make.proofs.TimesLemmas.{times-append}
+use Rattle.tree_make.specs.Times.{times}
 use Rattle.tree_node.specs.Places.{IsPlace}
 use Rattle.tree_node.specs.Slots.{slot_pairs, slot_nodes, IsInHand}
-use Rattle.tree_node.proofs.CountLemmas.{node_some}
 use Rattle.tree_node.proofs.KeyLemmas.{keys_all, key_last}
-use Rattle.tree_node.proofs.MadeLemmas.{hand-node, pairs-slots, nodes-slots}
-use Rattle.tree_node.proofs.SlotLemmas.{hand-append, hand-children, hand-kept, child_nodes, slot_pairs-inner, slot_pairs-leaf, slot_nodes-inner, slot_nodes-leaf, all_pairs-kept, all_nodes-kept}
+use Rattle.tree_node.proofs.SlotLemmas.{hand-node, pairs-slots, nodes-slots, hand-append, hand-children, hand-kept, child_nodes, slot_pairs-inner, slot_pairs-leaf, slot_nodes-inner, slot_nodes-leaf, all_pairs-kept, all_nodes-kept, hand-take, hand-drop}
 use Rattle.tree_insert.specs.Inserts.{Inserts}
 use Rattle.tree_insert.specs.Parts.{AreParts, MakesParts, part_keys, part_nodes}
 use Rattle.tree_insert.specs.declared.parts.Parts.{Parts}
 use Rattle.tree_insert.specs.declared.parts.Parts.TheVariants.{One, Two}
-use Rattle.tree_insert.proofs.EditLemmas.{drop-over}
-use Rattle.tree_insert.proofs.PartsLemmas.{node-lower, hand-take, hand-drop}
+use Rattle.tree_node.proofs.ReadLemmas.{hand-read, inner-pairs, inner-nodes, node-even}
 
 -- parts with more slots than are asked for
 pub parts-lower : (n : Records) (few least level : ℕ) (parts : Parts) (pairs : List (ℕ × ℕ)) → few ≤ least → AreParts n least level parts pairs → AreParts n few level parts pairs
 parts-lower n few least level (One part) pairs low x = record {
-  nodes = (node-lower n few least level part.node low x.nodes.0, tt);
+  nodes = (IsNode-lower n least few level part.node low x.nodes.0, tt);
   some = x.some;
   keys = x.keys;
   pairs_are = x.pairs_are;
@@ -41,7 +40,7 @@ parts-lower n few least level (Two first second) pairs low x = record { nodes = 
 
 -- parts of at least 8 slots are children
 parts-children : (n : Records) (least level : ℕ) (parts : Parts) (pairs : List (ℕ × ℕ)) → 8 ≤ least → AreParts n least level parts pairs → AllByRecursion (IsNode n 8 level) (part_nodes parts)
-parts-children n least level (One part) pairs many x = (node-lower n 8 least level part.node many x.nodes.0, tt)
+parts-children n least level (One part) pairs many x = (IsNode-lower n least 8 level part.node many x.nodes.0, tt)
 parts-children n least level (Two first second) pairs many x = x.nodes
 
 parts-hand : (n : Records) (least level : ℕ) (parts : Parts) (pairs : List (ℕ × ℕ)) → 8 ≤ least → AreParts n least level parts pairs → IsInHand n (suc level) (part_keys parts) (part_nodes parts)
@@ -71,37 +70,15 @@ module _ {V : Type 0} (order : V → V → Ordering) (total : IsTotalOrder order
       ∙ ap (λ zs. flat_map f (take i vs) ++ zs) (⊎_elim
       (λ ne. put-stop seen pair (f (get_or vs i 0)) (flat_map f (drop (suc i) vs)) some (λ e. ne (ap seen (key i low) ∙ e)))
       (λ (last : suc i ≡ length ks).
-      let rest : flat_map f (drop (suc i) vs) ≡ [] = ap (flat_map f) (drop-over vs (suc i) (omega arith)) in
+      let rest : flat_map f (drop (suc i) vs) ≡ [] = ap (flat_map f) (drop_all (suc i) vs (omega arith)) in
       ap (λ zs. put seen pair (f (get_or vs i 0) ++ zs)) rest ∙ ap (put seen pair) (append-nil (f (get_or vs i 0)))
       ∙ sym (append-nil (put seen pair (f (get_or vs i 0)))) ∙ ap (λ zs. put seen pair (f (get_or vs i 0)) ++ zs) (sym rest))
       place.at)
 
-pub even-node : (m : Records) (least level node : ℕ) → IsNode m least level node → length (node_keys (m node)) ≡ length (node_values (m node))
-even-node m least level node node_is =
-    let form = IsNode-form m least level node node_is in
-    length-node_keys level least (m node) form ∙ sym (length-node_values level least (m node) form)
-
-pub hand-read : (m : Records) (least level node : ℕ) → IsNode m least level node → IsInHand m level (node_keys (m node)) (node_values (m node))
-hand-read m least level node node_is = hand-node m least level node node_is (even-node m least level node node_is)
-
-pub used-read : (m : Records) (least level node : ℕ) → IsNode m least level node → length (node_keys (m node)) ≡ used_of (m node)
-used-read m least level node node_is = length-node_keys level least (m node) (IsNode-form m least level node node_is)
-
--- each key of a node can be read
-pub keys-node : (P : ℕ → Type 0) (m : Records) (least level node : ℕ) → IsNode m least level node → AllByRecursion (λ p. P p.0) (pairs_below m level node) → AllByRecursion P (node_keys (m node))
-keys-node P m least level node node_is all =
-    keys_all P m level (node_keys (m node)) (node_values (m node)) (hand-read m least level node node_is) (subst (AllByRecursion (λ (p : ℕ × ℕ). P p.0)) (pairs-slots m level node) all)
-
-inner-pairs : (m : Records) (l node : ℕ) → pairs_below m (suc l) node ≡ flat_map (pairs_below m l) (node_values (m node))
-inner-pairs m l node = pairs-slots m (suc l) node ∙ slot_pairs-inner m l (node_keys (m node)) (node_values (m node))
-
-inner-nodes : (m : Records) (l node : ℕ) → nodes_below m (suc l) node ≡ node ∷ flat_map (nodes_below m l) (node_values (m node))
-inner-nodes m l node = nodes-slots m (suc l) node ∙ ap (λ qs. node ∷ qs) (slot_nodes-inner m l (node_values (m node)))
-
 -- a child of a node
 module _ (m : Records) (least l node i : ℕ) (node_is : IsNode m least (suc l) node) (low : i < length (node_values (m node))) where
   pub child-node : IsNode m 8 l (get_or (node_values (m node)) i 0)
-  child-node = All-at (IsNode m 8 l) (node_values (m node)) i low (child_nodes m l (node_keys (m node)) (node_values (m node)) (hand-read m least (suc l) node node_is))
+  child-node = AllByRecursion-at (IsNode m 8 l) (node_values (m node)) i 0 low (child_nodes m l (node_keys (m node)) (node_values (m node)) (hand-read m least (suc l) node node_is))
 
   pub child-all : (P : ℕ × ℕ → Type 0) → AllByRecursion P (pairs_below m (suc l) node) → AllByRecursion P (pairs_below m l (get_or (node_values (m node)) i 0))
   child-all P all = All-child P (pairs_below m l) (node_values (m node)) i low (subst (AllByRecursion P) (inner-pairs m l node) all)
@@ -137,7 +114,7 @@ module _ {V : Type 0} (order : V → V → Ordering) (total : IsTotalOrder order
     (k2 v2 : List ℕ) (keys : k2 ≡ take i (node_keys (m node)) ++ (part_keys ps ++ drop (suc i) (node_keys (m node))))
     (values : v2 ≡ take i (node_values (m node)) ++ (part_nodes ps ++ drop (suc i) (node_values (m node)))) where
   low : i < length (node_values (m node))
-  low = let even = even-node m least (suc l) node node_is in let within = place.within in omega arith
+  low = let even = node-even m least (suc l) node node_is in let within = place.within in omega arith
 
   hand : IsInHand m (suc l) (node_keys (m node)) (node_values (m node))
   hand = hand-read m least (suc l) node node_is
@@ -157,7 +134,7 @@ module _ {V : Type 0} (order : V → V → Ordering) (total : IsTotalOrder order
       ap (put (seen_by read order s m) pair) (inner-pairs m l node)
       ∙ place_put order total read s m pair (pairs_below m l) (node_keys (m node)) (node_values (m node)) i place hand.even
       (λ j jl. key_last m l (node_keys (m node)) (node_values (m node)) j hand jl)
-      (node_some m l (get_or (node_values (m node)) i 0) (child-node m least l node i node_is low))
+      (pairs-some m 8 l (get_or (node_values (m node)) i 0) (omega arith) (child-node m least l node i node_is low))
       (subst (Ascends order read m) (inner-pairs m l node) up)
 
   pub over-hand : IsInHand n (suc l) k2 v2
@@ -183,7 +160,7 @@ module _ {V : Type 0} (order : V → V → Ordering) (total : IsTotalOrder order
       ∙ ap (λ zs. flat_map f (take i vs) ++ (put (seen_by read order s m) pair (f (get_or vs i 0)) ++ zs)) (all_pairs-kept m n keeps 8 l (drop (suc i) vs) (child_nodes m l (drop (suc i) (node_keys (m node))) (drop (suc i) vs) back))
       ∙ sym put_is
 
-  pub over-few : length (pairs_below m (suc l) node) < 4294967295 → length (slot_pairs n (suc l) k2 v2) < 4294967296
+  pub over-few : length (pairs_below m (suc l) node) + 1 < 2 ^ 32 → length (slot_pairs n (suc l) k2 v2) < 2 ^ 32
   over-few few =
       let same = ap length over-pairs in
       let most = length-put_most (seen_by read order s m) pair (pairs_below m (suc l) node) in
@@ -203,14 +180,14 @@ module _ {V : Type 0} (order : V → V → Ordering) (total : IsTotalOrder order
   over-least =
       let sizes = over-sizes in
       let some = parts_some ps in
-      let used = used-read m least (suc l) node node_is in
+      let used = keys-length m least (suc l) node node_is in
       omega arith
 
   pub over-most : length k2 ≤ 17
   over-most =
       let sizes = over-sizes in
       let few = parts_few ps in
-      let used = used-read m least (suc l) node node_is in
+      let used = keys-length m least (suc l) node node_is in
       let room = (IsNode-form m least (suc l) node node_is).room in
       omega arith
 
@@ -250,7 +227,7 @@ module _ {H : Type 0} (c : ℕ → Ordering) (pair : ℕ × ℕ) (old new : Ledg
   leaf-pairs : slot_pairs m 0 k2 v2 ≡ put c pair (pairs_below m 0 node)
   leaf-pairs = slot_pairs-leaf m k2 v2 ∙ pairs ∙ ap (put c pair) (sym (pairs-slots m 0 node ∙ slot_pairs-leaf m (node_keys (m node)) (node_values (m node))))
 
-  pub leaf-few : length (pairs_below m 0 node) < 4294967295 → length (slot_pairs m 0 k2 v2) < 4294967296
+  pub leaf-few : length (pairs_below m 0 node) + 1 < 2 ^ 32 → length (slot_pairs m 0 k2 v2) < 2 ^ 32
   leaf-few few = let same = ap length leaf-pairs in let more = length-put_most c pair (pairs_below m 0 node) in omega arith
 
   pub leaf-inserts : (before after : List ℕ) (made : Parts) → after ≡ before ++ node ∷ [] → MakesParts old new m n 0 k2 v2 made → Inserts c pair old new m n 0 node before after made
@@ -258,7 +235,7 @@ module _ {H : Type 0} (c : ℕ → Ordering) (pair : ℕ × ℕ) (old new : Ledg
       let nodes : nodes_below m 0 node ≡ node ∷ [] = nodes-slots m 0 node ∙ ap (λ qs. node ∷ qs) (slot_nodes-leaf m (node_values (m node))) in
       record {
         parts_are = subst (AreParts n (used_of (m node)) 0 made) leaf-pairs
-            (parts-lower n (used_of (m node)) (length k2) 0 made (slot_pairs m 0 k2 v2) (let used = used-read m least 0 node node_is in omega arith) y.parts_are);
+            (parts-lower n (used_of (m node)) (length k2) 0 made (slot_pairs m 0 k2 v2) (let used = keys-length m least 0 node node_is in omega arith) y.parts_are);
         path = let size = ap length is in let more = length-append before (node ∷ []) in omega arith;
         gone = λ q. let now = ap (times q) is in let more = times-append q before (node ∷ []) in let one = ap (times q) nodes in omega arith;
         balance = λ q.

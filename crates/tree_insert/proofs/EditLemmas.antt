@@ -1,29 +1,18 @@
 -- Words put in place of others, and a pair put among the slots of a leaf.
 use Rattle.std.proofs.Common.{◌≡◌, ℕ, zero, suc, ◌+◌, ◌<◌, ◌≤◌, List, [], ◌∷◌, ◌++◌, length, get_or, set, take, drop, insert, refl, sym, ap, ◌∙◌, arith, length-set}
-use Rattle.std.proofs.lemmas.List.{append-nil, take_all}
+use Rattle.std.proofs.lemmas.List.{append-nil, take_all, drop_all, set_split}
 use Rattle.std.specs.declared.cmp.Ordering.{Ordering}
 use Rattle.std.specs.declared.cmp.Ordering.TheVariants.{Less, Equal, Greater}
 use Rattle.std.specs.List.{zip, refill}
 use Rattle.key_order.specs.Pairs.{choose, put}
 
-pub set-cut : (xs : List ℕ) (i w : ℕ) → i < length xs → set xs i w ≡ take i xs ++ (w ∷ drop (suc i) xs)
-set-cut [] i w low = absurd (omega arith)
-set-cut (x ∷ xs) zero w low = refl
-set-cut (x ∷ xs) (suc i) w low = ap (λ ys. x ∷ ys) (set-cut xs i w (omega arith))
-
-pub drop-over : (xs : List ℕ) (n : ℕ) → length xs ≤ n → drop n xs ≡ []
-drop-over [] zero past = refl
-drop-over [] (suc n) past = refl
-drop-over (x ∷ xs) zero past = absurd (omega arith)
-drop-over (x ∷ xs) (suc n) past = drop-over xs n (omega arith)
-
 pub refill-set : (xs : List ℕ) (i w : ℕ) → i < length xs → refill (length xs) xs (set xs i w) ≡ take i xs ++ (w ∷ drop (suc i) xs)
 refill-set xs i w low =
     let size : length (set xs i w) ≡ length xs = length-set xs i w in
-    ap (λ ys. take (length xs) (set xs i w ++ ys)) (drop-over xs (length (set xs i w)) (omega arith))
+    ap (λ ys. take (length xs) (set xs i w ++ ys)) (drop_all (length (set xs i w)) xs (omega arith))
     ∙ ap (take (length xs)) (append-nil (set xs i w))
     ∙ take_all (length xs) (set xs i w) (omega arith)
-    ∙ set-cut xs i w low
+    ∙ set_split xs i w low
 
 -- a word behind one that was put
 pub insert-behind : (xs : List ℕ) (i v w : ℕ) → i < length xs → insert (take i xs ++ (v ∷ drop (suc i) xs)) (i + 1) w ≡ take i xs ++ (v ∷ w ∷ drop (suc i) xs)

@@ -2,5 +2,4 @@ pub mod PartsLemmas
 pub mod EditLemmas
 pub mod RootLemmas
 pub mod BelowLemmas
-pub mod OkLemmas
 pub mod TreeLemmas

@@ -1,61 +1,25 @@
 -- One node made of slots, or two, as parts.
-use Rattle.std.proofs.Common.{◌≡◌, inl, inr, ℕ, zero, suc, ◌+◌, ◌<◌, ◌≤◌, true, cond, List, [], ◌∷◌, ◌++◌, length, take, drop, min, length-take, length-drop, sym, ap, subst, ◌∙◌, arith, length-append}
+use Rattle.std.proofs.Common.{◌≡◌, inl, inr, ℕ, zero, suc, ◌+◌, ◌<◌, ◌≤◌, true, cond, List, [], ◌∷◌, ◌++◌, length, take, drop, min, length-take, length-drop, sym, ap, subst, ◌∙◌, arith, length-append, ◌^◌}
 use Rattle.std.proofs.lemmas.Bool.{cases_eq}
 use Rattle.std.proofs.lemmas.List.{append-nil, take-append-drop}
 use Rattle.std.specs.List.{flat_map}
 use Rattle.image_base.specs.Records.{Records}
-use Rattle.store_api.specs.Classes.{Class, in_use, is_open, with_class}
+use Rattle.store_api.specs.Statuses.{Status, in_use, is_open, with_status}
 use Rattle.store_api.specs.Ledgers.{Ledger}
 use Rattle.tree_images.specs.Nodes.{IsNodeForm}
 use Rattle.tree_images.specs.Trees.{pairs_below, nodes_below, last_key, IsNode, Keeps}
-use Rattle.tree_frame.proofs.TimesLemmas.{times-same, times-other, times-append}
-use Rattle.tree_frame.specs.Times.{times, uses}
-use Rattle.tree_node.specs.Makes.{MakesNode, MakesPart}
+use Rattle.tree_make.proofs.TimesLemmas.{times-same, times-other, times-append}
+use Rattle.tree_make.specs.Times.{times, uses}
+use Rattle.tree_make.specs.Makes.{MakesNode, MakesPart}
 use Rattle.tree_node.specs.Slots.{slot_pairs, slot_nodes, IsInHand}
-use Rattle.tree_node.specs.declared.make.Part.{Part}
-use Rattle.tree_node.proofs.MadeLemmas.{with_class-here, with_class-other}
-use Rattle.tree_node.proofs.MakesLemmas.{open_unused, makes-then, makes-more}
-use Rattle.tree_node.proofs.SlotLemmas.{slot_pairs-append, slot_nodes-append, hand-left, hand-right, pairs-kept, nodes_below-kept, node-kept, slot_pairs-kept, slot_nodes-kept, hand-kept}
+use Rattle.tree_make.specs.declared.make.Part.{Part}
+use Rattle.tree_make.proofs.MadeLemmas.{with_status-here, with_status-other}
+use Rattle.tree_make.proofs.MakesLemmas.{open_unused, makes-then, makes-more}
+use Rattle.tree_node.proofs.SlotLemmas.{slot_pairs-append, slot_nodes-append, hand-left, hand-right, pairs-kept, nodes_below-kept, node-kept, slot_pairs-kept, slot_nodes-kept, hand-kept, hand-take, hand-drop, few-take, few-drop, even-take, cut}
 use Rattle.tree_insert.specs.Parts.{MakesParts}
 use Rattle.tree_insert.specs.declared.parts.Parts.TheVariants.{One, Two}
-
-form-lower : (few least level : ℕ) (ws : List ℕ) → few ≤ least → IsNodeForm level least ws → IsNodeForm level few ws
-form-lower few least level ws low form = record {
-  size = form.size;
-  at_level = form.at_level;
-  filled = let filled = form.filled in omega arith;
-  room = form.room;
-  no_key = form.no_key;
-  no_value = form.no_value;
-  few = form.few;
-}
-
--- a node with more slots than are asked for
-pub node-lower : (m : Records) (few least level ref : ℕ) → few ≤ least → IsNode m least level ref → IsNode m few level ref
-unfolding IsNode
-node-lower m few least zero ref low node = (form-lower few least 0 (m ref) low node.0, node.1)
-node-lower m few least (suc level) ref low node = (form-lower few least (suc level) (m ref) low node.0, node.1, node.2, node.3)
-
-module _ {H : Type 0} (old new : Ledger H) (ref : ℕ) (class : new.class ≡ with_class old.class ref Class.pending) (was : is_open (old.class ref) ≡ true) where
-  pub uses-made : (q : ℕ) → uses new q ≡ uses old q + times q (ref ∷ [])
-  uses-made q = elim (cases_eq q ref) [
-    | inl e ↦ (let after : uses new q ≡ 1 = ap (λ c. cond (in_use c) 1 0) ((λ k. class k q) ∙ ap (with_class old.class ref Class.pending) e ∙ with_class-here old.class ref Class.pending) in
-        let before : uses old q ≡ 0 = ap (λ r. uses old r) e ∙ ap (λ b. cond b 1 0) (open_unused (old.class ref) was) in
-        let one = times-same q ref [] e in
-        omega arith)
-    | inr ne ↦ (let same : uses new q ≡ uses old q = ap (λ c. cond (in_use c) 1 0) ((λ k. class k q) ∙ with_class-other old.class ref q Class.pending ne) in
-        let none = times-other q ref [] ne in
-        omega arith)
-  ]
-
--- a node made: what is below it and what is newly in use
-pub made-balance : {H : Type 0} (old new : Ledger H) (m n : Records) (level : ℕ) (ks vs : List ℕ) (ref : ℕ) → MakesNode old new m n level ks vs ref
-    → (q : ℕ) → times q (slot_nodes m level vs) + uses new q ≡ uses old q + times q (nodes_below n level ref)
-made-balance old new m n level ks vs ref made q =
-    let used = uses-made old new ref made.class made.was q in
-    let all : times q (nodes_below n level ref) ≡ times q ((ref ∷ []) ++ slot_nodes m level vs) = ap (times q) made.nodes in
-    let parts = times-append q (ref ∷ []) (slot_nodes m level vs) in
-    omega arith
+use Rattle.tree_make.proofs.RootLemmas.{made-balance}
+use Rattle.tree_node.proofs.ChildLemmas.{IsNode-lower}
 
 pub one_part : {H : Type 0} (old new : Ledger H) (m n : Records) (level : ℕ) (ks vs : List ℕ) (part : Part) → MakesPart old new m n level ks vs part → MakesParts old new m n level ks vs (One part)
 one_part old new m n level ks vs part made = record {
@@ -96,8 +60,8 @@ module _ {H : Type 0} (a b c : Ledger H) (m n o : Records) (level : ℕ) (k1 v1 
   two_parts many more = record {
     parts_are = record {
       nodes = (
-        node-kept n o y.node.makes.keeps 8 level first.node (node-lower n 8 (length k1) level first.node many x.node.node),
-        (node-lower o 8 (length k2) level second.node more y.node.node, tt),
+        node-kept n o y.node.makes.keeps 8 level first.node (IsNode-lower n (length k1) 8 level first.node many x.node.node),
+        (IsNode-lower o (length k2) 8 level second.node more y.node.node, tt),
       );
       some = (x.node.some, (y.node.some, tt));
       keys =
@@ -111,34 +75,6 @@ module _ {H : Type 0} (a b c : Ledger H) (m n o : Records) (level : ℕ) (k1 v1 
     makes = makes-then a b c m n o 1 1 2 (omega arith) x.node.makes y.node.makes;
     balance = both-balance;
   }
-
--- slots cut in two
-module _ (m : Records) (level : ℕ) (ks vs : List ℕ) (hand : IsInHand m level ks vs) (i : ℕ) where
-  cut : IsInHand m level (take i ks ++ drop i ks) (take i vs ++ drop i vs)
-  cut =
-      subst (λ xs. IsInHand m level xs (take i vs ++ drop i vs)) (sym (take-append-drop i ks))
-      (subst (λ xs. IsInHand m level ks xs) (sym (take-append-drop i vs)) hand)
-
-  pub even-take : length (take i ks) ≡ length (take i vs)
-  even-take = length-take i ks ∙ ap (min i) hand.even ∙ sym (length-take i vs)
-
-  pub hand-take : IsInHand m level (take i ks) (take i vs)
-  hand-take = hand-left m level (take i ks) (take i vs) (drop i ks) (drop i vs) even-take cut
-
-  pub hand-drop : IsInHand m level (drop i ks) (drop i vs)
-  hand-drop = hand-right m level (take i ks) (take i vs) (drop i ks) (drop i vs) even-take cut
-
-  pub pairs-cut : slot_pairs m level ks vs ≡ slot_pairs m level (take i ks) (take i vs) ++ slot_pairs m level (drop i ks) (drop i vs)
-  pairs-cut =
-      ap (λ xs. slot_pairs m level xs vs) (sym (take-append-drop i ks))
-      ∙ ap (slot_pairs m level (take i ks ++ drop i ks)) (sym (take-append-drop i vs))
-      ∙ slot_pairs-append m level (take i ks) (take i vs) (drop i ks) (drop i vs) even-take
-
-  pub few-take : length (slot_pairs m level (take i ks) (take i vs)) ≤ length (slot_pairs m level ks vs)
-  few-take = let all = ap length pairs-cut in let both = length-append (slot_pairs m level (take i ks) (take i vs)) (slot_pairs m level (drop i ks) (drop i vs)) in omega arith
-
-  pub few-drop : length (slot_pairs m level (drop i ks) (drop i vs)) ≤ length (slot_pairs m level ks vs)
-  few-drop = let all = ap length pairs-cut in let both = length-append (slot_pairs m level (take i ks) (take i vs)) (slot_pairs m level (drop i ks) (drop i vs)) in omega arith
 
 -- the slots of two nodes from those of one
 pub record IsSplit (level : ℕ) (ks vs : List ℕ) (l1 : ℕ) (k1 v1 : List ℕ) (l2 : ℕ) (k2 v2 : List ℕ) : Type 0 where
@@ -155,10 +91,10 @@ module _ (m : Records) (level : ℕ) (ks vs : List ℕ) (l1 : ℕ) (k1 v1 : List
       subst (λ l. IsInHand m l k1 v1) (sym split.first_level) (subst (λ xs. IsInHand m level xs v1) (sym split.first_keys)
       (subst (λ xs. IsInHand m level (take 9 ks) xs) (sym split.first_values) (hand-take m level ks vs hand 9)))
 
-  pub first-few : length (slot_pairs m level ks vs) < 4294967296 → length (slot_pairs m l1 k1 v1) < 4294967296
+  pub first-few : length (slot_pairs m level ks vs) < 2 ^ 32 → length (slot_pairs m l1 k1 v1) < 2 ^ 32
   first-few small =
-      subst (λ l. length (slot_pairs m l k1 v1) < 4294967296) (sym split.first_level) (subst (λ xs. length (slot_pairs m level xs v1) < 4294967296) (sym split.first_keys)
-      (subst (λ xs. length (slot_pairs m level (take 9 ks) xs) < 4294967296) (sym split.first_values) (let few = few-take m level ks vs hand 9 in omega arith)))
+      subst (λ l. length (slot_pairs m l k1 v1) < 2 ^ 32) (sym split.first_level) (subst (λ xs. length (slot_pairs m level xs v1) < 2 ^ 32) (sym split.first_keys)
+      (subst (λ xs. length (slot_pairs m level (take 9 ks) xs) < 2 ^ 32) (sym split.first_values) (let few = few-take m level ks vs hand 9 in omega arith)))
 
   second-old : IsInHand m l2 k2 v2
   second-old =
@@ -168,11 +104,11 @@ module _ (m : Records) (level : ℕ) (ks vs : List ℕ) (l1 : ℕ) (k1 v1 : List
   pub second-hand : (n : Records) → Keeps m n → IsInHand n l2 k2 v2
   second-hand n keeps = hand-kept m n keeps l2 k2 v2 second-old
 
-  pub second-few : (n : Records) → Keeps m n → length (slot_pairs m level ks vs) < 4294967296 → length (slot_pairs n l2 k2 v2) < 4294967296
+  pub second-few : (n : Records) → Keeps m n → length (slot_pairs m level ks vs) < 2 ^ 32 → length (slot_pairs n l2 k2 v2) < 2 ^ 32
   second-few n keeps small =
-      subst (λ ps. length ps < 4294967296) (sym (slot_pairs-kept m n keeps l2 k2 v2 second-old))
-      (subst (λ l. length (slot_pairs m l k2 v2) < 4294967296) (sym split.second_level) (subst (λ xs. length (slot_pairs m level xs v2) < 4294967296) (sym split.second_keys)
-      (subst (λ xs. length (slot_pairs m level (drop 9 ks) xs) < 4294967296) (sym split.second_values) (let few = few-drop m level ks vs hand 9 in omega arith))))
+      subst (λ ps. length ps < 2 ^ 32) (sym (slot_pairs-kept m n keeps l2 k2 v2 second-old))
+      (subst (λ l. length (slot_pairs m l k2 v2) < 2 ^ 32) (sym split.second_level) (subst (λ xs. length (slot_pairs m level xs v2) < 2 ^ 32) (sym split.second_keys)
+      (subst (λ xs. length (slot_pairs m level (drop 9 ks) xs) < 2 ^ 32) (sym split.second_values) (let few = few-drop m level ks vs hand 9 in omega arith))))
 
   pub two_made : {H : Type 0} (a b c : Ledger H) (n o : Records) (first second : Part) → length ks ≡ 17 → MakesPart a b m n l1 k1 v1 first → MakesPart b c n o l2 k2 v2 second
       → MakesParts a c m o level ks vs (Two first second)

@@ -1,81 +1,47 @@
 -- The tree with the pair: what is asked on the way, and what it is at the end.
-use Rattle.std.proofs.Common.{◌≡◌, ℕ, zero, suc, ◌+◌, ◌*◌, ◌/◌, ◌<◌, ◌≤◌, true, List, [], ◌∷◌, length, slice_index, nat_eq, refl, sym, ap, subst, ◌∙◌, arith}
+use Rattle.std.proofs.Common.{◌≡◌, ℕ, zero, suc, ◌+◌, ◌*◌, ◌/◌, ◌<◌, ◌≤◌, true, List, [], ◌∷◌, length, slice_index, nat_eq, refl, sym, ap, subst, ◌∙◌, arith, ◌^◌}
 use Rattle.std.specs.Cmp.{IsTotalOrder}
 use Rattle.std.specs.declared.cmp.Ordering.{Ordering}
 use Rattle.std.specs.declared.cmp.Ordering.TheVariants.{Equal}
 use Rattle.std.specs.List.{flat_map, All, AllByRecursion, IsDistinct}
 use Rattle.std.specs.List.Sorted.{IsStrictlySortedBy}
 use Rattle.image_base.specs.Records.{Records, SameAt}
-use Rattle.store_api.specs.Classes.{in_use}
+use Rattle.store_api.specs.Statuses.{in_use}
 use Rattle.store_api.specs.Ledgers.{Ledger}
 use Rattle.tree_images.specs.Nodes.{used_of}
 use Rattle.tree_images.specs.ProofsForTrees.{tree_pairs-same, IsRootNode-same}
 use Rattle.tree_images.specs.Trees.{pairs_below, nodes_below, IsNode, root_level, root_least, tree_pairs, tree_nodes, IsRootNode, IsTree}
 use Rattle.tree_images.proofs.DistinctLemmas.{tree_nodes_distinct}
+use Rattle.tree_node.proofs.ChildLemmas.{IsNode-lower}
+use Rattle.tree_make.proofs.RootLemmas.{made-balance}
+use Rattle.tree_node.proofs.RootLemmas.{tree_pairs-is, tree_nodes-is, root_node-is}
 use Rattle.tree_images.proofs.TreeLemmas.{IsNode-form}
 use Rattle.key_order.specs.Keys.{seen_by, Ascends, AllReadable, ReadsNoNode, NoneReadsNodes, KeepsOthers}
 use Rattle.key_order.specs.Pairs.{put}
 use Rattle.key_order.proofs.KeyLemmas.{keys-readable, ascends-stay, others_kept}
 use Rattle.key_order.proofs.OrderLemmas.{put-ascends}
 use Rattle.key_order.proofs.PairLemmas.{All-put, length-put_most}
-use Rattle.tree_frame.proofs.Balance.{kept-from, replaces-from}
-use Rattle.tree_frame.proofs.Bounds.{nodes_wide, children_many, tree_small}
-use Rattle.tree_frame.proofs.DropLemmas.{drops-none}
-use Rattle.tree_frame.proofs.TimesLemmas.{once_from_distinct, all_at_times, all_from_times, among-times}
-use Rattle.tree_frame.specs.Changes.{Drops, Replaces, levels}
-use Rattle.tree_frame.specs.Times.{times, uses, EachOnce}
-use Rattle.tree_node.specs.Makes.{MakesNodes, MakesNode}
+use Rattle.tree_make.proofs.Balance.{kept-from, replaces-from}
+use Rattle.tree_node.proofs.Bounds.{nodes_wide, children_many, tree_small}
+use Rattle.tree_make.proofs.DropLemmas.{drops-none}
+use Rattle.tree_make.proofs.TimesLemmas.{once_from_distinct, all_at_times, all_from_times, among-times}
+use Rattle.tree_make.specs.Changes.{Drops, Replaces, levels}
+use Rattle.tree_make.specs.Times.{times, uses, EachOnce}
+use Rattle.tree_make.specs.Makes.{MakesNodes, MakesNode}
 use Rattle.tree_node.specs.Slots.{slot_nodes}
-use Rattle.tree_node.proofs.MakesLemmas.{makes-then, makes-stays}
+use Rattle.tree_make.proofs.MakesLemmas.{makes-then, makes-stays}
 use Rattle.tree_node.proofs.SlotLemmas.{slot_pairs-leaf, slot_nodes-leaf}
 use Rattle.tree_insert.specs.Inserts.{Inserts}
-use Rattle.tree_insert.specs.Parts.{AreParts, MakesRoot, part_nodes}
+use Rattle.tree_insert.specs.Parts.{AreParts, IsRootOver, part_nodes}
 use Rattle.tree_insert.specs.declared.parts.Parts.{Parts}
 use Rattle.tree_insert.specs.declared.parts.Parts.TheVariants.{One, Two}
 use Rattle.tree_insert.proofs.BelowLemmas.{parts-lower}
-use Rattle.tree_insert.proofs.PartsLemmas.{node-lower, made-balance}
-use Rattle.tree_insert.proofs.RootLemmas.{tree_pairs-is, tree_nodes-is, root_node-is}
+use Rattle.tree_make.proofs.TopLemmas.{root-node, root-used, root-pairs, root-nodes}
 
-least_some : (level : ℕ) → 1 ≤ root_least level
-least_some zero = omega arith
-least_some (suc level) = omega arith
-
-levels-some : (m : Records) (root : ℕ) → 0 < root → levels m root ≡ suc (root_level m root)
-levels-some m zero some = absurd (omega arith)
-levels-some m (suc ref) some = refl
-
--- the root of a tree that is not empty
-module _ {V : Type 0} (order : V → V → Ordering) (read : Records → ℕ → V) (m : Records) (root : ℕ) (tree : IsTree order read m root) (some : 0 < root) where
-  pub root-size : length (m root) ≡ 34
-  root-size = (IsNode-form m (root_least (root_level m root)) (root_level m root) root (tree.node some)).size
-
-  pub root-level : (word : ℕ) → word ≡ slice_index (m root) 0 → word / 256 ≡ root_level m root
-  root-level word is = ap (λ w. w / 256) is ∙ (IsNode-form m (root_least (root_level m root)) (root_level m root) root (tree.node some)).at_level
-
-  module _ (level : ℕ) (level_is : level ≡ root_level m root) where
-    pub root-low : level ≤ 7
-    root-low = omega arith
-
-    pub root-node : IsNode m (root_least level) level root
-    root-node = subst (λ l. IsNode m (root_least l) l root) (sym level_is) (tree.node some)
-
-    pub root-one : IsNode m 1 level root
-    root-one = node-lower m 1 (root_least level) level root (least_some level) root-node
-
-    pub root-used : root_least level ≤ used_of (m root)
-    root-used = (IsNode-form m (root_least level) level root root-node).filled
-
-    pub root-pairs : tree_pairs m root ≡ pairs_below m level root
-    root-pairs = tree_pairs-is m (root_least level) level root root-low some root-node
-
-    pub root-nodes : tree_nodes m root ≡ nodes_below m level root
-    root-nodes = tree_nodes-is m (root_least level) level root root-low some root-node
-
-    pub root-levels : levels m root ≡ suc level
-    root-levels = levels-some m root some ∙ ap suc (sym level_is)
-
-    pub root-few : IsTotalOrder order → ((refs : List ℕ) → IsDistinct nat_eq refs → All (λ r. length (m r) ≡ 34) refs → length refs ≤ 1973790) → length (pairs_below m level root) ≤ 31580640
-    root-few total few = subst (λ ps. length ps ≤ 31580640) root-pairs (tree_small m order total read root tree few)
+pub root-few : {V : Type 0} (order : V → V → Ordering) (read : Records → ℕ → V) (m : Records) (root : ℕ) → IsTree order read m root → 0 < root → (level : ℕ) → level ≡ root_level m root
+    → IsTotalOrder order → ((refs : List ℕ) → IsDistinct nat_eq refs → All (λ r. length (m r) ≡ 34) refs → length refs ≤ 1973790) → length (pairs_below m level root) ≤ 31580640
+root-few order read m root tree some level level_is total few =
+    subst (λ ps. length ps ≤ 31580640) (root-pairs order read m root tree some level level_is) (tree_small m order total read root tree few)
 
 -- parts of level 7 are one, since two would have too many pairs
 pub one_at_top : (n : Records) (least : ℕ) (parts : Parts) (pairs : List (ℕ × ℕ)) → AreParts n least 7 parts pairs → length pairs ≤ 31580641 → length (part_nodes parts) ≡ 1
@@ -93,7 +59,7 @@ module _ {H : Type 0} {V : Type 0} (order : V → V → Ordering) (total : IsTot
   put-few : length (put (seen_by read order s m) pair (pairs_below m level root)) ≤ 31580641
   put-few = let small = root-few order read m root tree some level level_is total few in let most = length-put_most (seen_by read order s m) pair (pairs_below m level root) in omega arith
 
-  pub top-few : length (flat_map (pairs_below n level) (part_nodes parts)) < 4294967296
+  pub top-few : length (flat_map (pairs_below n level) (part_nodes parts)) < 2 ^ 32
   top-few = let all = ap length x.parts_are.pairs_are in let most = put-few in omega arith
 
   pub top-parts : AreParts n (root_least level) level parts (flat_map (pairs_below n level) (part_nodes parts))
@@ -113,14 +79,14 @@ module _ {H : Type 0} {V : Type 0} (order : V → V → Ordering) (total : IsTot
   pub gone-once : EachOnce gone
   gone-once r = let few_r = gone-few r in let once = old-once r in omega arith
 
-  pub gone-used : (new : Ledger H) (k : Records) (most : ℕ) → MakesNodes old new m k most → AllByRecursion (λ r. in_use (old.class r) ≡ true) (tree_nodes m root) → AllByRecursion (λ r. in_use (new.class r) ≡ true) gone
+  pub gone-used : (new : Ledger H) (k : Records) (most : ℕ) → MakesNodes old new m k most → AllByRecursion (λ r. in_use (old.status r) ≡ true) (tree_nodes m root) → AllByRecursion (λ r. in_use (new.status r) ≡ true) gone
   gone-used new k most makes used =
-      all_from_times (λ r. in_use (new.class r) ≡ true) gone
-      (λ r h. makes-stays old new m k most makes r (all_at_times (λ q. in_use (old.class q) ≡ true) (tree_nodes m root) used r (let few_r = gone-few r in omega arith)))
+      all_from_times (λ r. in_use (new.status r) ≡ true) gone
+      (λ r h. makes-stays old new m k most makes r (all_at_times (λ q. in_use (old.status q) ≡ true) (tree_nodes m root) used r (let few_r = gone-few r in omega arith)))
 
   -- the new root, and the replaced nodes dropped
-  module _ (new end : Ledger H) (o e : Records) (next : ℕ) (x_makes : MakesNodes old mid m n (2 * suc level)) (y : MakesRoot mid new n o level parts next) (z : Drops new end o e gone)
-      (used : AllByRecursion (λ r. in_use (old.class r) ≡ true) (tree_nodes m root)) where
+  module _ (new end : Ledger H) (o e : Records) (next : ℕ) (x_makes : MakesNodes old mid m n (2 * suc level)) (y : IsRootOver mid new n o level parts next) (z : Drops new end o e gone)
+      (used : AllByRecursion (λ r. in_use (old.status r) ≡ true) (tree_nodes m root)) where
     both : MakesNodes old new m o (2 * suc level + 1)
     both = makes-then old mid new m n o (2 * suc level) 1 (2 * suc level + 1) (omega arith) x_makes y.makes
 
@@ -135,8 +101,8 @@ module _ {H : Type 0} {V : Type 0} (order : V → V → Ordering) (total : IsTot
         let now = ap (times r) next-nodes in
         omega arith
 
-    old-used : (r : ℕ) → 0 < times r (tree_nodes m root) → in_use (old.class r) ≡ true
-    old-used r h = all_at_times (λ q. in_use (old.class q) ≡ true) (tree_nodes m root) used r h
+    old-used : (r : ℕ) → 0 < times r (tree_nodes m root) → in_use (old.status r) ≡ true
+    old-used r h = all_at_times (λ q. in_use (old.status q) ≡ true) (tree_nodes m root) used r h
 
     same-end : SameAt (tree_nodes o next) o e
     same-end = kept-from old new end m o e (2 * suc level + 1) root next gone both z old-once old-used gone-few even
@@ -152,7 +118,7 @@ module _ {H : Type 0} {V : Type 0} (order : V → V → Ordering) (total : IsTot
         ∙ ap (put (seen_by read order s m) pair) (sym (root-pairs order read m root tree some level level_is))
 
     end-node : IsRootNode e next
-    end-node = IsRootNode-same o e next same-end y.some (root_node-is o y.height next y.low y.node)
+    end-node = IsRootNode-same o e next same-end y.some (root_node-is o (root_least y.height) y.height next y.low y.node (omega arith))
 
     -- nodes have 34 words, so every other record stays
     end-others : KeepsOthers m e
@@ -196,7 +162,7 @@ module _ {H : Type 0} {V : Type 0} (order : V → V → Ordering) (read : Record
   pub one-tree : IsTree order read n next
   unfolding IsStrictlySortedBy
   one-tree = record {
-    node = λ there. root_node-is n 0 next (omega arith) made.node;
+    node = λ there. root_node-is n 1 0 next (omega arith) made.node (omega arith);
     ascends = subst (Ascends order read n) (sym leaf-pairs) (tt, tt);
   }
 

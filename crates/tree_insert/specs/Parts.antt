@@ -4,11 +4,12 @@ use Rattle.std.specs.List.{flat_map, AllByRecursion}
 use Rattle.image_base.specs.Records.{Records}
 use Rattle.store_api.specs.Ledgers.{Ledger}
 use Rattle.tree_images.specs.Trees.{pairs_below, nodes_below, last_key, IsNode, root_least}
-use Rattle.tree_frame.specs.Times.{times, uses}
+use Rattle.tree_make.specs.Times.{times, uses}
 use Rattle.tree_node.specs.Slots.{slot_pairs, slot_nodes}
-use Rattle.tree_node.specs.Makes.{MakesNodes}
+use Rattle.tree_make.specs.Makes.{MakesNodes}
 use Rattle.tree_insert.specs.declared.parts.Parts.{Parts}
 use Rattle.tree_insert.specs.declared.parts.Parts.TheVariants.{One, Two}
+use Rattle.tree_images.specs.declared.TheConstants.{LEAST_SLOTS}
 
 abbrev pub part_keys : Parts → List ℕ
 part_keys (One part) = part.key ∷ []
@@ -21,7 +22,7 @@ part_nodes (Two first second) = first.node ∷ second.node ∷ []
 -- one part has as many slots as what it stands for, two have at least 8 each
 abbrev pub parts_least : ℕ → Parts → ℕ
 parts_least least (One part) = least
-parts_least least (Two first second) = 8
+parts_least least (Two first second) = LEAST_SLOTS
 
 -- parts with their last keys, and these pairs below them
 pub record AreParts (n : Records) (least level : ℕ) (parts : Parts) (pairs : List (ℕ × ℕ)) : Type 0 where
@@ -39,7 +40,7 @@ pub record MakesParts {H : Type 0} (old new : Ledger H) (m n : Records) (level :
       ≡ uses old ref + times ref (flat_map (nodes_below n level) (part_nodes parts))
 
 -- a root stands for parts of a level: the one part, or a node of the next level over two
-pub record MakesRoot {H : Type 0} (old new : Ledger H) (m n : Records) (level : ℕ) (parts : Parts) (root : ℕ) : Type 0 where
+pub record IsRootOver {H : Type 0} (old new : Ledger H) (m n : Records) (level : ℕ) (parts : Parts) (root : ℕ) : Type 0 where
   pub height : ℕ
   pub low : height ≤ 7
   pub some : 0 < root

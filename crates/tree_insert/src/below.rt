@@ -1,8 +1,8 @@
-ghost use Rattle.std.specs.Prelude.{◌≡◌, ◌≤◌, ◌<◌, ◌+◌, ◌*◌, ◌++◌, ◌∷◌, [], ℕ, List, true, length, suc, Err, IfOk};
+ghost use Rattle.std.specs.Prelude.{◌≡◌, ◌≤◌, ◌<◌, ◌+◌, ◌*◌, ◌^◌, ◌++◌, ◌∷◌, [], ℕ, List, true, length, suc, Err, IfOk};
 ghost use Rattle.tree_images.specs.Trees.{pairs_below, IsNode};
 ghost use Rattle.key_order.specs.Keys.{seen_by, Ascends, AllReadable};
 ghost use Rattle.store_api.specs.Ledgers.{IsFull};
-ghost use Rattle.tree_node.specs.Makes.{MakesNodes};
+ghost use Rattle.tree_make.specs.Makes.{MakesNodes};
 ghost use Rattle.tree_insert.specs.Inserts.{Inserts};
 
 use crate::leaf::put_in_leaf;
@@ -11,12 +11,13 @@ use arrayvec::ArrayVec;
 use entry_ref::EntryRef;
 use key_order::KeyOrder;
 use store_api::{Store, StoreError};
-use tree_node::{place_of, read_node};
+use tree_images::NODE_WORDS;
+use tree_node::{first_slot, place_of, read_node};
 
 /// Makes a leaf anew with a pair put in.
-fn insert_in_leaf<S: Store, K: KeyOrder>(
+fn insert_in_leaf<const OFFSET_BITS: u32, S: Store<OFFSET_BITS>, K: KeyOrder<OFFSET_BITS>>(
     store: &mut S,
-    node: EntryRef,
+    node: EntryRef<OFFSET_BITS>,
     key: &K,
     word: u64,
     value: u64,
@@ -24,23 +25,25 @@ fn insert_in_leaf<S: Store, K: KeyOrder>(
     requires unit { (S.ledger store.old).unit ≡ true }
     requires node { IsNode (S.records store.old) 1 0 node }
     requires readable { AllReadable K.can_read (S.records store.old) (pairs_below (S.records store.old) 0 node) }
-    requires few { length (pairs_below (S.records store.old) 0 node) < 4294967295 }
-    ensures inserts { (before after : List ℕ) → after ≡ before ++ node ∷ [] → IfOk result
+    requires few { length (pairs_below (S.records store.old) 0 node) + 1 < 2 ^ 32 }
+    ensures inserts { (before after : List ℕ) → after ≡ before ++ node.entry ∷ [] → IfOk result
         (Inserts (seen_by K.read K.order (K.sought key.now) (S.records store.old)) (word, value)
-        (S.ledger store.old) (S.ledger store.new) (S.records store.old) (S.records store.new) 0 node before after) }
+        (S.ledger store.old) (S.ledger store.new) (S.records store.old) (S.records store.new) 0 node.entry before after) }
     ensures makes { MakesNodes (S.ledger store.old) (S.ledger store.new) (S.records store.old) (S.records store.new) 2 }
-    ensures full { (w a h : ℕ) → result ≡ Err (StoreError.Full w a h) → (w ≡ 34) × IsFull (S.ledger store.new) w a h }
+    ensures full { (w a h : ℕ) → result ≡ Err (StoreError.Full w a h) → (w ≡ NODE_WORDS) × IsFull (S.ledger store.new) w a h }
 {
     let mut slots = read_node(store, node);
-    put_in_leaf(store, &mut slots, key, word, value);
+    let used = slots.keys.len() as u32;
+    let slot = first_slot(store, node, used, key) as usize;
+    put_in_leaf(store, &mut slots, slot, key, word, value);
     make_parts(store, &mut slots)
 }
 
 /// Puts a pair below a node of this level, by new nodes on the path of its key. The nodes of the path are
 /// added to those that are replaced.
-pub fn insert_below<S: Store, K: KeyOrder>(
+pub fn insert_below<const OFFSET_BITS: u32, S: Store<OFFSET_BITS>, K: KeyOrder<OFFSET_BITS>>(
     store: &mut S,
-    node: EntryRef,
+    node: EntryRef<OFFSET_BITS>,
     level: u64,
     key: &K,
     word: u64,
@@ -52,20 +55,21 @@ pub fn insert_below<S: Store, K: KeyOrder>(
     requires node { IsNode (S.records store.old) 1 level node }
     requires ascends { Ascends K.order K.read (S.records store.old) (pairs_below (S.records store.old) level node) }
     requires readable { AllReadable K.can_read (S.records store.old) (pairs_below (S.records store.old) level node) }
-    requires few { length (pairs_below (S.records store.old) level node) < 4294967295 }
+    requires few { length (pairs_below (S.records store.old) level node) + 1 < 2 ^ 32 }
     requires room { length replaced.old.items + level < 8 }
     ensures inserts { IfOk result (Inserts (seen_by K.read K.order (K.sought key.now) (S.records store.old)) (word, value)
         (S.ledger store.old) (S.ledger store.new) (S.records store.old) (S.records store.new)
-        level node replaced.old.items replaced.new.items) }
+        level node.entry replaced.old.items replaced.new.items) }
     ensures makes { MakesNodes (S.ledger store.old) (S.ledger store.new) (S.records store.old) (S.records store.new) (2 * suc level) }
-    ensures full { (w a h : ℕ) → result ≡ Err (StoreError.Full w a h) → (w ≡ 34) × IsFull (S.ledger store.new) w a h }
+    ensures full { (w a h : ℕ) → result ≡ Err (StoreError.Full w a h) → (w ≡ NODE_WORDS) × IsFull (S.ledger store.new) w a h }
 {
     replaced.push(node.raw());
     if level == 0 {
         return insert_in_leaf(store, node, key, word, value);
     }
     let mut slots = read_node(store, node);
-    let place = place_of(store, &slots.keys, key);
+    let used = slots.keys.len() as u32;
+    let place = place_of(store, node, used, key) as usize;
     let child = EntryRef::from_raw(slots.values[place] as u32);
     let parts = insert_below(store, child, level - 1, key, word, value, replaced)?;
     set_parts(&mut slots, place, &parts);

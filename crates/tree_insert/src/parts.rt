@@ -1,12 +1,14 @@
-ghost use Rattle.std.specs.Prelude.{◌≡◌, ◌≤◌, ◌<◌, ◌∷◌, ◌++◌, ℕ, true, length, take, drop, suc, Err, IfOk};
+ghost use Rattle.std.specs.Prelude.{◌≡◌, ◌≤◌, ◌<◌, ◌^◌, ◌∷◌, ◌++◌, ℕ, true, length, take, drop, suc, Err, IfOk};
 ghost use Rattle.store_api.specs.Ledgers.{IsFull};
 ghost use Rattle.tree_node.specs.Slots.{slot_pairs, IsInHand};
-ghost use Rattle.tree_node.specs.Makes.{MakesNodes};
+ghost use Rattle.tree_make.specs.Makes.{MakesNodes};
 ghost use Rattle.tree_insert.specs.Parts.{MakesParts, part_keys, part_nodes};
 
 use arrayvec::ArrayVec;
 use store_api::{Store, StoreError};
-use tree_node::{Part, Slots, make_part};
+use tree_images::{MOST_SLOTS, NODE_WORDS};
+use tree_make::{Part, make_part};
+use tree_node::Slots;
 
 /// What is made in place of a node: one node, or two.
 #[derive(Clone, Copy, Debug, Drop)]
@@ -49,19 +51,19 @@ fn split(slots: &mut Slots) -> Slots
 }
 
 /// Makes a node of up to 16 slots, or two of 17, the first with nine.
-pub fn make_parts<S: Store>(store: &mut S, slots: &mut Slots) -> Result<Parts, StoreError>
+pub fn make_parts<const OFFSET_BITS: u32, S: Store<OFFSET_BITS>>(store: &mut S, slots: &mut Slots) -> Result<Parts, StoreError>
     requires unit { (S.ledger store.old).unit ≡ true }
     requires low { slots.old.level ≤ 7 }
     requires hand { IsInHand (S.records store.old) slots.old.level slots.old.keys.items slots.old.values.items }
     requires some { 0 < length slots.old.keys.items }
     requires fits { length slots.old.keys.items ≤ 17 }
-    requires few { length (slot_pairs (S.records store.old) slots.old.level slots.old.keys.items slots.old.values.items) < 4294967296 }
+    requires few { length (slot_pairs (S.records store.old) slots.old.level slots.old.keys.items slots.old.values.items) < 2 ^ 32 }
     ensures parts { IfOk result (MakesParts (S.ledger store.old) (S.ledger store.new) (S.records store.old) (S.records store.new)
         slots.old.level slots.old.keys.items slots.old.values.items) }
     ensures makes { MakesNodes (S.ledger store.old) (S.ledger store.new) (S.records store.old) (S.records store.new) 2 }
-    ensures full { (w a h : ℕ) → result ≡ Err (StoreError.Full w a h) → (w ≡ 34) × IsFull (S.ledger store.new) w a h }
+    ensures full { (w a h : ℕ) → result ≡ Err (StoreError.Full w a h) → (w ≡ NODE_WORDS) × IsFull (S.ledger store.new) w a h }
 {
-    if slots.keys.len() <= 16 {
+    if slots.keys.len() <= MOST_SLOTS {
         return Ok(Parts::One(make_part(store, slots)?));
     }
     let rest = split(slots);
@@ -81,7 +83,7 @@ pub fn put_word(words: &mut ArrayVec<u64, 17>, place: usize, word: u64)
 /// Puts two words in place of one.
 fn put_two(words: &mut ArrayVec<u64, 17>, place: usize, first: u64, second: u64)
     requires place { place < length words.old.items }
-    requires room { length words.old.items ≤ 16 }
+    requires room { length words.old.items ≤ MOST_SLOTS }
     ensures { words.new.items ≡ take place words.old.items ++ (first ∷ second ∷ drop (suc place) words.old.items) }
 {
     put_word(words, place, first);
@@ -92,7 +94,7 @@ fn put_two(words: &mut ArrayVec<u64, 17>, place: usize, first: u64, second: u64)
 pub fn set_parts(slots: &mut Slots, place: usize, parts: &Parts)
     requires place { place < length slots.old.keys.items }
     requires even { length slots.old.keys.items ≡ length slots.old.values.items }
-    requires room { length slots.old.keys.items ≤ 16 }
+    requires room { length slots.old.keys.items ≤ MOST_SLOTS }
     ensures keys { slots.new.keys.items ≡ take place slots.old.keys.items ++ (part_keys parts.now ++ drop (suc place) slots.old.keys.items) }
     ensures values { slots.new.values.items ≡ take place slots.old.values.items ++ (part_nodes parts.now ++ drop (suc place) slots.old.values.items) }
     ensures level { slots.new.level ≡ slots.old.level }
@@ -100,11 +102,11 @@ pub fn set_parts(slots: &mut Slots, place: usize, parts: &Parts)
     match *parts {
         Parts::One(part) => {
             put_word(&mut slots.keys, place, part.key);
-            put_word(&mut slots.values, place, u64::from(part.node.raw()));
+            put_word(&mut slots.values, place, u64::from(part.node));
         }
         Parts::Two(first, second) => {
             put_two(&mut slots.keys, place, first.key, second.key);
-            let (low, high) = (first.node.raw(), second.node.raw());
+            let (low, high) = (first.node, second.node);
             put_two(&mut slots.values, place, u64::from(low), u64::from(high));
         }
     }

@@ -3,30 +3,15 @@ use Rattle.std.proofs.Common.{◌≡◌, ◌≢◌, ℕ, zero, suc, ◌+◌, ◌
 use Rattle.std.proofs.lemmas.List.{append-nil, take_more}
 use Rattle.std.proofs.lemmas.Grind.{flat_map-append}
 use Rattle.std.proofs.lemmas.List.Folds.{length-flat_map-take}
-use Rattle.std.proofs.Math.Nat.{one-le-pow}
 use Rattle.std.specs.List.{zip, flat_map, AllByRecursion}
+use Rattle.list_facts.proofs.Pairs.{length-zip_even}
+use Rattle.list_facts.proofs.Each.{AllByRecursion-weaker, AllByRecursion-at}
 use Rattle.image_base.specs.Records.{Records}
 use Rattle.tree_images.specs.Nodes.{count_of}
 use Rattle.tree_images.specs.Trees.{pairs_below, last_key, IsNode}
-use Rattle.tree_images.proofs.TreeLemmas.{IsNode-form, IsNode-count, pairs_many}
+use Rattle.tree_images.proofs.TreeLemmas.{IsNode-form, IsNode-count}
 use Rattle.tree_node.specs.Slots.{slot_pairs, HaveChildren, IsInHand}
-use Rattle.tree_node.proofs.SlotLemmas.{All-map}
-
-pub length-zip : (ks vs : List ℕ) → length ks ≡ length vs → length (zip ks vs) ≡ length ks
-length-zip [] vs e = refl
-length-zip (k ∷ ks) [] e = absurd (omega arith)
-length-zip (k ∷ ks) (v ∷ vs) e = ap suc (length-zip ks vs (omega arith))
-
-pub node_some : (m : Records) (level ref : ℕ) → IsNode m 8 level ref → 0 < length (pairs_below m level ref)
-node_some m level ref node =
-    let many = pairs_many m 8 level ref node in
-    let one : 1 ≤ 8 ^ level = one-le-pow level 8 (omega arith) in
-    omega arith
-
-All-at : (P : ℕ → Type 0) (xs : List ℕ) (i : ℕ) → AllByRecursion P xs → i < length xs → P (get_or xs i 0)
-All-at P [] i all low = absurd (omega arith)
-All-at P (x ∷ xs) zero all low = all.0
-All-at P (x ∷ xs) (suc i) all low = All-at P xs i all.1 (omega arith)
+use Rattle.tree_node.proofs.ChildLemmas.{pairs-some}
 
 -- a step over the children
 added : (f : ℕ → List (ℕ × ℕ)) (vs : List ℕ) (i : ℕ) → i < length vs → length (flat_map f (take i vs)) + length (f (get_or vs i 0)) ≡ length (flat_map f (take (i + 1) vs))
@@ -39,7 +24,7 @@ added f vs i low =
 module _ (m : Records) (keys values : List ℕ) where
   pub leaf_count : (level : ℕ) → level ≡ 0 → IsInHand m level keys values → length keys ≡ length (slot_pairs m level keys values)
   unfolding slot_pairs
-  leaf_count zero e hand = sym (length-zip keys values hand.even)
+  leaf_count zero e hand = sym (length-zip_even keys values hand.even)
   leaf_count (suc level) e hand = absurd (omega arith)
 
   module _ (i : ℕ) (low : i < length values) where
@@ -48,7 +33,7 @@ module _ (m : Records) (keys values : List ℕ) where
     child_at zero ne hand = absurd (ne refl)
     child_at (suc level) ne hand =
         let down : suc level - 1 ≡ level = omega arith in
-        subst (λ l. IsNode m 8 l (get_or values i 0)) (sym down) (All-at (IsNode m 8 level) values i hand.children.1 low)
+        subst (λ l. IsNode m 8 l (get_or values i 0)) (sym down) (AllByRecursion-at (IsNode m 8 level) values i 0 low hand.children.1)
 
     pub child_size : (level : ℕ) → level ≢ 0 → IsInHand m level keys values → length (m (get_or values i 0)) ≡ 34
     child_size level ne hand = (IsNode-form m 8 (level - 1) (get_or values i 0) (child_at level ne hand)).size
@@ -109,4 +94,4 @@ module _ (m : Records) (keys values : List ℕ) where
   last_slot zero i e hand = last_zip keys values i e hand.even
   last_slot (suc level) i e hand =
       ap (λ ks. get_or ks i 0) hand.children.0
-      ∙ last_child (pairs_below m level) values i (e ∙ hand.even) (All-map (IsNode m 8 level) (λ v. 0 < length (pairs_below m level v)) (node_some m level) values hand.children.1)
+      ∙ last_child (pairs_below m level) values i (e ∙ hand.even) (AllByRecursion-weaker (IsNode m 8 level) (λ v. 0 < length (pairs_below m level v)) (λ v is. pairs-some m 8 level v (omega arith) is) values hand.children.1)

@@ -1,25 +1,14 @@
 -- What holds of the keys of all pairs below slots holds of the slots' keys.
 use Rattle.std.proofs.Common.{◌≡◌, ℕ, zero, suc, ◌<◌, List, [], ◌∷◌, ◌++◌, length, map, get_or, refl, sym, ap, subst, ◌∙◌, arith}
 use Rattle.std.specs.List.{zip, flat_map, AllByRecursion}
+use Rattle.std.proofs.lemmas.List.{get_or-map}
+use Rattle.list_facts.proofs.Each.{AllByRecursion-left, AllByRecursion-right}
 use Rattle.image_base.specs.Records.{Records}
 use Rattle.tree_images.specs.Trees.{pairs_below, last_key, IsNode}
 use Rattle.tree_node.specs.Slots.{slot_pairs, HaveChildren, IsInHand}
-use Rattle.tree_node.proofs.CountLemmas.{node_some}
-
-pairs_left : (Q : ℕ × ℕ → Type 0) (xs ys : List (ℕ × ℕ)) → AllByRecursion Q (xs ++ ys) → AllByRecursion Q xs
-pairs_left Q [] ys all = tt
-pairs_left Q (x ∷ xs) ys all = (all.0, pairs_left Q xs ys all.1)
-
-pairs_right : (Q : ℕ × ℕ → Type 0) (xs ys : List (ℕ × ℕ)) → AllByRecursion Q (xs ++ ys) → AllByRecursion Q ys
-pairs_right Q [] ys all = all
-pairs_right Q (x ∷ xs) ys all = pairs_right Q xs ys all.1
+use Rattle.tree_node.proofs.ChildLemmas.{All-last, pairs-some}
 
 module _ (P : ℕ → Type 0) where
-  pub last_all : (ps : List (ℕ × ℕ)) → 0 < length ps → AllByRecursion (λ p. P p.0) ps → P (last_key ps)
-  last_all [] some all = absurd (omega arith)
-  last_all (p ∷ []) some all = all.0
-  last_all (p ∷ q ∷ ps) some all = last_all (q ∷ ps) (omega arith) all.1
-
   zip_all : (ks vs : List ℕ) → length ks ≡ length vs → AllByRecursion (λ p. P p.0) (zip ks vs) → AllByRecursion P ks
   zip_all [] vs e all = tt
   zip_all (k ∷ ks) [] e all = absurd (omega arith)
@@ -29,22 +18,17 @@ module _ (P : ℕ → Type 0) where
       → AllByRecursion (λ p. P p.0) (flat_map f vs) → AllByRecursion P (map (λ v. last_key (f v)) vs)
   children_all f Q some [] nodes all = tt
   children_all f Q some (v ∷ vs) nodes all = (
-    last_all (f v) (some v nodes.0) (pairs_left (λ (p : ℕ × ℕ). P p.0) (f v) (flat_map f vs) all),
-    children_all f Q some vs nodes.1 (pairs_right (λ (p : ℕ × ℕ). P p.0) (f v) (flat_map f vs) all),
+    All-last P (f v) (some v nodes.0) (AllByRecursion-left (λ (p : ℕ × ℕ). P p.0) (f v) (flat_map f vs) all),
+    children_all f Q some vs nodes.1 (AllByRecursion-right (λ (p : ℕ × ℕ). P p.0) (f v) (flat_map f vs) all),
   )
 
   pub keys_all : (m : Records) (level : ℕ) (ks vs : List ℕ) → IsInHand m level ks vs → AllByRecursion (λ p. P p.0) (slot_pairs m level ks vs) → AllByRecursion P ks
   unfolding slot_pairs HaveChildren
   keys_all m zero ks vs hand all = zip_all ks vs hand.even all
   keys_all m (suc level) ks vs hand all =
-      subst (AllByRecursion P) (sym hand.children.0) (children_all (pairs_below m level) (IsNode m 8 level) (node_some m level) vs hand.children.1 all)
+      subst (AllByRecursion P) (sym hand.children.0) (children_all (pairs_below m level) (IsNode m 8 level) (λ v is. pairs-some m 8 level v (omega arith) is) vs hand.children.1 all)
 
 -- the key of a slot above the leaves is the last of its child
-map_at : (g : ℕ → ℕ) (vs : List ℕ) (i : ℕ) → i < length vs → get_or (map g vs) i 0 ≡ g (get_or vs i 0)
-map_at g [] i low = absurd (omega arith)
-map_at g (v ∷ vs) zero low = refl
-map_at g (v ∷ vs) (suc i) low = map_at g vs i (omega arith)
-
 pub key_last : (m : Records) (level : ℕ) (ks vs : List ℕ) (i : ℕ) → IsInHand m (suc level) ks vs → i < length vs → get_or ks i 0 ≡ last_key (pairs_below m level (get_or vs i 0))
 unfolding HaveChildren
-key_last m level ks vs i hand low = ap (λ xs. get_or xs i 0) hand.children.0 ∙ map_at (λ v. last_key (pairs_below m level v)) vs i low
+key_last m level ks vs i hand low = ap (λ xs. get_or xs i 0) hand.children.0 ∙ get_or-map (λ v. last_key (pairs_below m level v)) vs i 0 0 low

@@ -1,5 +1,7 @@
+pub mod ChildLemmas
 pub mod SlotLemmas
-pub mod MadeLemmas
 pub mod CountLemmas
-pub mod MakesLemmas
 pub mod KeyLemmas
+pub mod ReadLemmas
+pub mod RootLemmas
+pub mod Bounds

@@ -1,35 +1,16 @@
 -- Slots put together and taken apart, and what stays of them under more records.
-use Rattle.std.proofs.Common.{◌≡◌, ℕ, zero, suc, List, [], ◌∷◌, ◌++◌, length, map, take, drop, refl, sym, ap, ◌∙◌, arith, length-append}
-use Rattle.std.proofs.lemmas.List.{map-append, take_at, drop_at, append-nil}
+use Rattle.std.proofs.Common.{◌≡◌, ℕ, zero, suc, List, [], ◌∷◌, ◌++◌, length, map, take, drop, min, refl, sym, ap, subst, ◌∙◌, ◌≤◌, arith, length-append, length-take, length-drop}
+use Rattle.std.proofs.lemmas.List.{map-append, take_at, drop_at, append-nil, take-append-drop, length-map}
 use Rattle.std.proofs.lemmas.Grind.{flat_map-append}
 use Rattle.std.specs.List.{zip, flat_map, AllByRecursion}
+use Rattle.list_facts.proofs.Pairs.{zip-append}
+use Rattle.list_facts.proofs.Each.{AllByRecursion-append, AllByRecursion-left, AllByRecursion-right, AllByRecursion-weaker}
 use Rattle.image_base.specs.Records.{Records}
 use Rattle.tree_images.specs.ProofsForTrees.{pairs-same, nodes-same, IsNode-same}
+use Rattle.tree_images.specs.Nodes.{node_keys, node_values}
 use Rattle.tree_images.specs.Trees.{pairs_below, nodes_below, last_key, IsNode, Keeps}
 use Rattle.tree_images.proofs.TreeLemmas.{nodes-kept}
 use Rattle.tree_node.specs.Slots.{slot_pairs, slot_nodes, HaveChildren, IsInHand}
-
-pub zip-append : (k1 v1 k2 v2 : List ℕ) → length k1 ≡ length v1 → zip (k1 ++ k2) (v1 ++ v2) ≡ zip k1 v1 ++ zip k2 v2
-zip-append [] [] k2 v2 e = refl
-zip-append [] (v ∷ v1) k2 v2 e = absurd (omega arith)
-zip-append (k ∷ k1) [] k2 v2 e = absurd (omega arith)
-zip-append (k ∷ k1) (v ∷ v1) k2 v2 e = ap (λ ps. (k, v) ∷ ps) (zip-append k1 v1 k2 v2 (omega arith))
-
-pub All-append : (P : ℕ → Type 0) (xs ys : List ℕ) → AllByRecursion P xs → AllByRecursion P ys → AllByRecursion P (xs ++ ys)
-All-append P [] ys a b = b
-All-append P (x ∷ xs) ys a b = (a.0, All-append P xs ys a.1 b)
-
-pub All-left : (P : ℕ → Type 0) (xs ys : List ℕ) → AllByRecursion P (xs ++ ys) → AllByRecursion P xs
-All-left P [] ys a = tt
-All-left P (x ∷ xs) ys a = (a.0, All-left P xs ys a.1)
-
-pub All-right : (P : ℕ → Type 0) (xs ys : List ℕ) → AllByRecursion P (xs ++ ys) → AllByRecursion P ys
-All-right P [] ys a = a
-All-right P (x ∷ xs) ys a = All-right P xs ys a.1
-
-pub All-map : (P Q : ℕ → Type 0) → ((x : ℕ) → P x → Q x) → (xs : List ℕ) → AllByRecursion P xs → AllByRecursion Q xs
-All-map P Q each [] all = tt
-All-map P Q each (x ∷ xs) all = (each x all.0, All-map P Q each xs all.1)
 
 first_part : (xs ys zs ws : List ℕ) → length xs ≡ length zs → xs ++ ys ≡ zs ++ ws → xs ≡ zs
 first_part xs ys zs ws size e =
@@ -38,10 +19,6 @@ first_part xs ys zs ws size e =
 second_part : (xs ys zs ws : List ℕ) → length xs ≡ length zs → xs ++ ys ≡ zs ++ ws → ys ≡ ws
 second_part xs ys zs ws size e =
     sym (drop_at xs ys (length xs) refl) ∙ ap (drop (length xs)) e ∙ ap (λ n. drop n (zs ++ ws)) size ∙ drop_at zs ws (length zs) refl
-
-length-map : (f : ℕ → ℕ) (xs : List ℕ) → length (map f xs) ≡ length xs
-length-map f [] = refl
-length-map f (x ∷ xs) = ap suc (length-map f xs)
 
 module _ (m : Records) where
   pub slot_pairs-append : (level : ℕ) (k1 v1 k2 v2 : List ℕ) → length k1 ≡ length v1 → slot_pairs m level (k1 ++ k2) (v1 ++ v2) ≡ slot_pairs m level k1 v1 ++ slot_pairs m level k2 v2
@@ -59,7 +36,7 @@ module _ (m : Records) where
   children-append zero k1 v1 k2 v2 a b = tt
   children-append (suc level) k1 v1 k2 v2 a b = (
     ap (λ ks. ks ++ k2) a.0 ∙ ap (λ ks. map (λ child. last_key (pairs_below m level child)) v1 ++ ks) b.0 ∙ sym (map-append (λ child. last_key (pairs_below m level child)) v1 v2),
-    All-append (IsNode m 8 level) v1 v2 a.1 b.1,
+    AllByRecursion-append (IsNode m 8 level) v1 v2 a.1 b.1,
   )
 
   children-left : (level : ℕ) (k1 v1 k2 v2 : List ℕ) → length k1 ≡ length v1 → HaveChildren m level (k1 ++ k2) (v1 ++ v2) → HaveChildren m level k1 v1
@@ -67,14 +44,14 @@ module _ (m : Records) where
   children-left zero k1 v1 k2 v2 e a = tt
   children-left (suc level) k1 v1 k2 v2 e a =
       let f : ℕ → ℕ = λ child. last_key (pairs_below m level child) in
-      (first_part k1 k2 (map f v1) (map f v2) (e ∙ sym (length-map f v1)) (a.0 ∙ map-append f v1 v2), All-left (IsNode m 8 level) v1 v2 a.1)
+      (first_part k1 k2 (map f v1) (map f v2) (e ∙ sym (length-map v1 f)) (a.0 ∙ map-append f v1 v2), AllByRecursion-left (IsNode m 8 level) v1 v2 a.1)
 
   children-right : (level : ℕ) (k1 v1 k2 v2 : List ℕ) → length k1 ≡ length v1 → HaveChildren m level (k1 ++ k2) (v1 ++ v2) → HaveChildren m level k2 v2
   unfolding HaveChildren
   children-right zero k1 v1 k2 v2 e a = tt
   children-right (suc level) k1 v1 k2 v2 e a =
       let f : ℕ → ℕ = λ child. last_key (pairs_below m level child) in
-      (second_part k1 k2 (map f v1) (map f v2) (e ∙ sym (length-map f v1)) (a.0 ∙ map-append f v1 v2), All-right (IsNode m 8 level) v1 v2 a.1)
+      (second_part k1 k2 (map f v1) (map f v2) (e ∙ sym (length-map v1 f)) (a.0 ∙ map-append f v1 v2), AllByRecursion-right (IsNode m 8 level) v1 v2 a.1)
 
   pub hand-append : (level : ℕ) (k1 v1 k2 v2 : List ℕ) → IsInHand m level k1 v1 → IsInHand m level k2 v2 → IsInHand m level (k1 ++ k2) (v1 ++ v2)
   hand-append level k1 v1 k2 v2 a b = record {
@@ -108,7 +85,7 @@ module _ (m : Records) where
   -- slots above the leaves are children with their last keys
   pub hand-children : (level : ℕ) (ks vs : List ℕ) → ks ≡ map (λ child. last_key (pairs_below m level child)) vs → AllByRecursion (IsNode m 8 level) vs → IsInHand m (suc level) ks vs
   unfolding HaveChildren
-  hand-children level ks vs e all = record { even = ap length e ∙ length-map (λ child. last_key (pairs_below m level child)) vs; children = (e, all) }
+  hand-children level ks vs e all = record { even = ap length e ∙ length-map vs (λ child. last_key (pairs_below m level child)); children = (e, all) }
 
   pub child_keys : (level : ℕ) (ks vs : List ℕ) → IsInHand m (suc level) ks vs → ks ≡ map (λ child. last_key (pairs_below m level child)) vs
   unfolding HaveChildren
@@ -185,5 +162,50 @@ module _ (m n : Records) (keeps : Keeps m n) where
   hand-kept zero ks vs hand = record { even = hand.even; children = tt }
   hand-kept (suc level) ks vs hand = record {
     even = hand.even;
-    children = (hand.children.0 ∙ sym (last_keys-kept 8 level vs hand.children.1), All-map (IsNode m 8 level) (IsNode n 8 level) (node-kept 8 level) vs hand.children.1);
+    children = (hand.children.0 ∙ sym (last_keys-kept 8 level vs hand.children.1), AllByRecursion-weaker (IsNode m 8 level) (IsNode n 8 level) (node-kept 8 level) vs hand.children.1);
   }
+
+-- the slots of a node are in hand
+module _ (m : Records) (least : ℕ) where
+  pub hand-node : (level ref : ℕ) → IsNode m least level ref → length (node_keys (m ref)) ≡ length (node_values (m ref)) → IsInHand m level (node_keys (m ref)) (node_values (m ref))
+  unfolding IsNode HaveChildren
+  hand-node zero ref node e = record { even = e; children = tt }
+  hand-node (suc level) ref node e = record { even = e; children = (node.2, node.3) }
+
+pub pairs-slots : (m : Records) (level ref : ℕ) → pairs_below m level ref ≡ slot_pairs m level (node_keys (m ref)) (node_values (m ref))
+unfolding pairs_below slot_pairs
+pairs-slots m zero ref = refl
+pairs-slots m (suc level) ref = refl
+
+pub nodes-slots : (m : Records) (level ref : ℕ) → nodes_below m level ref ≡ ref ∷ slot_nodes m level (node_values (m ref))
+unfolding nodes_below slot_nodes
+nodes-slots m zero ref = refl
+nodes-slots m (suc level) ref = refl
+
+-- slots cut in two
+module _ (m : Records) (level : ℕ) (ks vs : List ℕ) (hand : IsInHand m level ks vs) (i : ℕ) where
+  pub cut : IsInHand m level (take i ks ++ drop i ks) (take i vs ++ drop i vs)
+  cut =
+      subst (λ xs. IsInHand m level xs (take i vs ++ drop i vs)) (sym (take-append-drop i ks))
+      (subst (λ xs. IsInHand m level ks xs) (sym (take-append-drop i vs)) hand)
+
+  pub even-take : length (take i ks) ≡ length (take i vs)
+  even-take = length-take i ks ∙ ap (min i) hand.even ∙ sym (length-take i vs)
+
+  pub hand-take : IsInHand m level (take i ks) (take i vs)
+  hand-take = hand-left m level (take i ks) (take i vs) (drop i ks) (drop i vs) even-take cut
+
+  pub hand-drop : IsInHand m level (drop i ks) (drop i vs)
+  hand-drop = hand-right m level (take i ks) (take i vs) (drop i ks) (drop i vs) even-take cut
+
+  pub pairs-cut : slot_pairs m level ks vs ≡ slot_pairs m level (take i ks) (take i vs) ++ slot_pairs m level (drop i ks) (drop i vs)
+  pairs-cut =
+      ap (λ xs. slot_pairs m level xs vs) (sym (take-append-drop i ks))
+      ∙ ap (slot_pairs m level (take i ks ++ drop i ks)) (sym (take-append-drop i vs))
+      ∙ slot_pairs-append m level (take i ks) (take i vs) (drop i ks) (drop i vs) even-take
+
+  pub few-take : length (slot_pairs m level (take i ks) (take i vs)) ≤ length (slot_pairs m level ks vs)
+  few-take = let all = ap length pairs-cut in let both = length-append (slot_pairs m level (take i ks) (take i vs)) (slot_pairs m level (drop i ks) (drop i vs)) in omega arith
+
+  pub few-drop : length (slot_pairs m level (drop i ks) (drop i vs)) ≤ length (slot_pairs m level ks vs)
+  few-drop = let all = ap length pairs-cut in let both = length-append (slot_pairs m level (take i ks) (take i vs)) (slot_pairs m level (drop i ks) (drop i vs)) in omega arith

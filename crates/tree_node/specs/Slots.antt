@@ -3,6 +3,7 @@ use Rattle.std.specs.Prelude.{◌≡◌, ℕ, zero, suc, List, [], length, map}
 use Rattle.std.specs.List.{zip, flat_map, AllByRecursion}
 use Rattle.image_base.specs.Records.{Records}
 use Rattle.tree_images.specs.Trees.{pairs_below, nodes_below, last_key, IsNode}
+use Rattle.tree_images.specs.declared.TheConstants.{LEAST_SLOTS}
 
 -- the pairs below slots: those of a leaf, or the pairs of the children, one after another
 unfoldable pub slot_pairs : Records → ℕ → List ℕ → List ℕ → List (ℕ × ℕ)
@@ -18,7 +19,7 @@ slot_nodes m (suc level) values = flat_map (nodes_below m level) values
 unfoldable pub HaveChildren : Records → ℕ → List ℕ → List ℕ → Type 0
 HaveChildren m zero keys values = Unit {0}
 HaveChildren m (suc level) keys values =
-    (keys ≡ map (λ child. last_key (pairs_below m level child)) values) × AllByRecursion (IsNode m 8 level) values
+    (keys ≡ map (λ child. last_key (pairs_below m level child)) values) × AllByRecursion (IsNode m LEAST_SLOTS level) values
 
 -- slots in hand: as many keys as values, and the children of their level
 pub record IsInHand (m : Records) (level : ℕ) (keys values : List ℕ) : Type 0 where

@@ -1,12 +1,10 @@
-//! Nodes of trees in hand: read from their records, changed, and made.
+//! Nodes of trees, read: one node into slots in hand, and a key sought among the slots of one.
 #![tactic(auto)]
 
-mod make;
-mod place;
 mod read;
+mod search;
 mod slots;
 
-pub use make::{Part, make_part, pairs_in};
-pub use place::{is_found, place_of, slot_of};
 pub use read::read_node;
+pub use search::{Head, child_at, first_slot, is_found, place_of, read_head};
 pub use slots::Slots;

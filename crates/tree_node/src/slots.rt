@@ -1,5 +1,3 @@
-ghost use Rattle.std.specs.Prelude.{◌≡◌, ◌<◌, ◌≤◌, [], ◌∷◌, length, take, drop, insert, remove, slice_set, slice_index};
-
 use arrayvec::ArrayVec;
 
 /// The slots of a node in hand, up to 17, each a key and a value; a leaf has level 0.

@@ -2,7 +2,6 @@ pub mod StandLemmas
 pub mod SettleLemmas
 pub mod ParentLemmas
 pub mod ReadLemmas
-pub mod Results
 pub mod StepLemmas
 pub mod RemoveLemmas
 pub mod TreeLemmas

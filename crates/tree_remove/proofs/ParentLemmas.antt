@@ -6,31 +6,13 @@ use Rattle.std.specs.List.{flat_map}
 use Rattle.image_base.specs.Records.{Records}
 use Rattle.tree_images.specs.Trees.{pairs_below, nodes_below, Keeps}
 use Rattle.store_api.specs.Ledgers.{Ledger}
-use Rattle.tree_frame.proofs.TimesLemmas.{times-append}
-use Rattle.tree_frame.specs.Times.{times, uses}
-use Rattle.tree_node.proofs.SlotLemmas.{slot_pairs-append, slot_nodes-append, slot_pairs-inner, slot_nodes-inner, hand-append, hand-left, hand-right, hand-kept, slot_pairs-kept, slot_nodes-kept}
-use Rattle.tree_node.specs.Makes.{MakesNodes}
+use Rattle.tree_make.proofs.TimesLemmas.{times-append}
+use Rattle.tree_make.specs.Times.{times, uses}
+use Rattle.tree_node.proofs.SlotLemmas.{slot_pairs-append, slot_nodes-append, slot_pairs-inner, slot_nodes-inner, hand-append, hand-left, hand-right, hand-kept, slot_pairs-kept, slot_nodes-kept, hand-take, hand-drop}
+use Rattle.tree_make.specs.Makes.{MakesNodes}
 use Rattle.tree_node.specs.Slots.{slot_pairs, slot_nodes, IsInHand}
 use Rattle.tree_remove.specs.Removes.{PutsBack, spliced}
 use Rattle.tree_remove.specs.Settles.{Settles}
-
-take-drop : (i : ℕ) (xs : List ℕ) → take i xs ++ drop i xs ≡ xs
-take-drop zero xs = refl
-take-drop (suc i) [] = refl
-take-drop (suc i) (x ∷ xs) = ap (λ l. x ∷ l) (take-drop i xs)
-
-module _ (m : Records) (level : ℕ) (keys values : List ℕ) (hand : IsInHand m level keys values) (i : ℕ) where
-  cut : IsInHand m level (take i keys ++ drop i keys) (take i values ++ drop i values)
-  cut = subst (λ ks. IsInHand m level ks (take i values ++ drop i values)) (sym (take-drop i keys)) (subst (IsInHand m level keys) (sym (take-drop i values)) hand)
-
-  even_front : length (take i keys) ≡ length (take i values)
-  even_front = let even = hand.even in simp length-take (omega arith)
-
-  pub hand-take : IsInHand m level (take i keys) (take i values)
-  hand-take = hand-left m level (take i keys) (take i values) (drop i keys) (drop i values) even_front cut
-
-  pub hand-drop : IsInHand m level (drop i keys) (drop i values)
-  hand-drop = hand-right m level (take i keys) (take i values) (drop i keys) (drop i values) even_front cut
 
 -- the lists of the children before a place and behind it
 front_more : {X : Type 0} (f : ℕ → List X) (vs : List ℕ) (i : ℕ) → i < length vs → flat_map f (take (suc i) vs) ≡ flat_map f (take i vs) ++ f (get_or vs i 0)

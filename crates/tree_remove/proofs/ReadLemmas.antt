@@ -6,27 +6,12 @@ use Rattle.tree_images.specs.Nodes.{level_of, used_of, node_keys, node_values}
 use Rattle.tree_images.specs.Trees.{pairs_below, IsNode}
 use Rattle.std.specs.List.{zip, AllByRecursion}
 use Rattle.tree_node.proofs.KeyLemmas.{keys_all}
-use Rattle.tree_node.proofs.SlotLemmas.{slot_pairs-leaf}
+use Rattle.tree_node.proofs.SlotLemmas.{slot_pairs-leaf, hand-node, pairs-slots, nodes-slots}
 use Rattle.tree_node.proofs.CountLemmas.{child_at}
-use Rattle.tree_node.proofs.MadeLemmas.{hand-node, pairs-slots, nodes-slots}
 use Rattle.tree_node.specs.Slots.{IsInHand}
 use Rattle.tree_remove.specs.Removes.{IsChild}
-
-module _ (m : Records) (least level ref : ℕ) (node : IsNode m least level ref) where
-  pub node-size : length (m ref) ≡ 34
-  node-size = (IsNode-form m least level ref node).size
-
-  pub node-room : used_of (m ref) ≤ 16
-  node-room = (IsNode-form m least level ref node).room
-
-  pub node-level : level_of (m ref) ≡ level
-  node-level = (IsNode-form m least level ref node).at_level
-
-  pub node-keys : length (node_keys (m ref)) ≡ used_of (m ref)
-  node-keys = length-node_keys level least (m ref) (IsNode-form m least level ref node)
-
-  pub node-even : length (node_keys (m ref)) ≡ length (node_values (m ref))
-  node-even = node-keys ∙ sym (length-node_values level least (m ref) (IsNode-form m least level ref node))
+use Rattle.tree_node.proofs.ReadLemmas.{node-size, node-room, node-level, node-even}
+use Rattle.tree_node.proofs.ChildLemmas.{keys-length}
 
 -- at the level and with the slots that were read
 pub child-read : (m : Records) (level ref : ℕ) → IsNode m 8 level ref → (level_is : ℕ) (keys values : List ℕ)
@@ -39,8 +24,8 @@ child-read m level ref node level_is keys values e f g =
       hand = hand-node m 8 level ref node (node-even m 8 level ref node);
       pairs_are = pairs-slots m level ref;
       nodes_are = nodes-slots m level ref;
-      least = let size = node-keys m 8 level ref node in let filled = (IsNode-form m 8 level ref node).filled in omega arith;
-      room = let size = node-keys m 8 level ref node in let room = node-room m 8 level ref node in omega arith;
+      least = let size = keys-length m 8 level ref node in let filled = (IsNode-form m 8 level ref node).filled in omega arith;
+      room = let size = keys-length m 8 level ref node in let room = node-room m 8 level ref node in omega arith;
     })))
 
 -- a child of slots in hand
@@ -49,14 +34,3 @@ pub child-node : (m : Records) (level : ℕ) (keys values : List ℕ) (place : �
 child-node m level keys values place inner hand low =
     child_at m keys values place (let even = hand.even in omega arith) level (λ e. absurd (omega arith)) hand
 
--- each key of a node can be read where each key below it can be
-pub keys-readable : (P : ℕ → Type 0) (m : Records) (least level node : ℕ) → IsNode m least level node → AllByRecursion (λ p. P p.0) (pairs_below m level node)
-    → AllByRecursion P (node_keys (m node))
-keys-readable P m least level node node_is all =
-    keys_all P m level (node_keys (m node)) (node_values (m node)) (hand-node m least level node node_is (node-even m least level node node_is))
-    (subst (AllByRecursion (λ (p : ℕ × ℕ). P p.0)) (pairs-slots m level node) all)
-
-pub leaf-pairs : (m : Records) (node : ℕ) (keys values : List ℕ) → keys ≡ node_keys (m node) → values ≡ node_values (m node) → pairs_below m 0 node ≡ zip keys values
-leaf-pairs m node keys values e f =
-    pairs-slots m 0 node ∙ slot_pairs-leaf m (node_keys (m node)) (node_values (m node))
-    ∙ ap (λ ks. zip ks (node_values (m node))) (sym e) ∙ ap (zip keys) (sym f)

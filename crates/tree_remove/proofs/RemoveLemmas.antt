@@ -1,5 +1,5 @@
 -- A pair taken out of a leaf, and of the child of a node.
-use Rattle.std.proofs.Common.{◌≡◌, ℕ, zero, suc, ◌+◌, ◌<◌, ◌≤◌, List, [], ◌∷◌, ◌++◌, length, take, drop, refl, sym, ap, ◌∙◌, arith, length-append}
+use Rattle.std.proofs.Common.{◌≡◌, ℕ, zero, suc, ◌+◌, ◌<◌, ◌≤◌, List, [], ◌∷◌, ◌++◌, length, take, drop, refl, sym, ap, ◌∙◌, arith, length-append, ◌^◌}
 use Rattle.std.specs.Prelude.{IsSome}
 use Rattle.std.specs.List.{zip, flat_map}
 use Rattle.std.specs.declared.cmp.Ordering.{Ordering}
@@ -10,22 +10,12 @@ use Rattle.tree_images.specs.Trees.{pairs_below, nodes_below, Keeps, root_least}
 use Rattle.key_order.proofs.PairLemmas.{children-cut, length-take_out}
 use Rattle.key_order.specs.Pairs.{lookup, take_out}
 use Rattle.store_api.specs.Ledgers.{Ledger}
-use Rattle.tree_frame.proofs.TimesLemmas.{times-append}
-use Rattle.tree_frame.specs.Times.{times}
-use Rattle.tree_node.proofs.MadeLemmas.{nodes-slots}
-use Rattle.tree_node.proofs.MakesLemmas.{makes-none, makes-then}
-use Rattle.tree_node.proofs.SlotLemmas.{slot_pairs-leaf, slot_nodes-leaf, slot_nodes-inner, slot_pairs-kept, slot_nodes-kept, hand-leaf, hand-kept}
+use Rattle.tree_make.proofs.TimesLemmas.{times-append}
+use Rattle.tree_make.specs.Times.{times}
+use Rattle.tree_node.proofs.SlotLemmas.{nodes-slots, slot_pairs-leaf, slot_nodes-leaf, slot_nodes-inner, slot_pairs-kept, slot_nodes-kept, hand-leaf, hand-kept, hand-take, hand-drop}
+use Rattle.tree_make.proofs.MakesLemmas.{makes-none, makes-then}
 use Rattle.tree_node.specs.Slots.{slot_pairs, slot_nodes, IsInHand}
-use Rattle.tree_remove.proofs.ParentLemmas.{hand-take, hand-drop}
-use Rattle.tree_remove.specs.Removes.{Removes, PutsBack, IsStep, spliced, beside}
-
-pub root_least-few : (level : ℕ) → root_least level ≤ 8
-root_least-few zero = omega arith
-root_least-few (suc level) = omega arith
-
-pub root_least-above : (level : ℕ) → 0 < level → root_least level ≡ 2
-root_least-above zero above = absurd (omega arith)
-root_least-above (suc level) above = refl
+use Rattle.tree_remove.specs.Removes.{Removes, PutsBack, IsStep, spliced, nodes_beside}
 
 -- a child that has lost no slot is put back alone
 most-fits : (level first second most slots used : ℕ) → 8 ≤ used → first + used ≡ suc slots → first ≤ 1 → most ≤ suc second → (8 ≤ slots → most ≤ second)
@@ -87,7 +77,7 @@ module _ {H : Type 0} (c : ℕ → Ordering) (old mid : Ledger H) (m n : Records
       ∙ ap (λ ps. slot_pairs m (suc level) (take place keys) (take place values) ++ (ps ++ slot_pairs m (suc level) (drop (suc place) keys) (drop (suc place) values))) removes.pairs_are
       ∙ sym step.out
 
-  pub over-few : IsSome (lookup c (pairs_below m (suc level) node)) → length (spliced n level place keys values (slot_pairs n level child_keys child_values)) < 4294967296
+  pub over-few : IsSome (lookup c (pairs_below m (suc level) node)) → length (spliced n level place keys values (slot_pairs n level child_keys child_values)) < 2 ^ 32
   over-few there = let same = ap length over-out in let less = length-take_out c (pairs_below m (suc level) node) there in let few = step.few in omega arith
 
   pub over-least : 7 ≤ length child_keys
@@ -102,13 +92,13 @@ module _ {H : Type 0} (c : ℕ → Ordering) (old mid : Ledger H) (m n : Records
   low : place < length values
   low = let within = step.within in let even = step.hand.even in omega arith
 
-  beside-kept : (r : ℕ) → times r (beside n level place values) ≡ times r (beside m level place values)
+  beside-kept : (r : ℕ) → times r (nodes_beside n level place values) ≡ times r (nodes_beside m level place values)
   beside-kept r =
       ap (λ qs. times r (qs ++ slot_nodes n (suc level) (drop (suc place) values))) (slot_nodes-kept m n keeps (suc level) (take place keys) (take place values) front)
       ∙ ap (λ qs. times r (slot_nodes m (suc level) (take place values) ++ qs)) (slot_nodes-kept m n keeps (suc level) (drop (suc place) keys) (drop (suc place) values) back)
 
   -- the nodes below the node are itself, those beside the child and those of the child
-  node-times : (r : ℕ) → times r (nodes_below m (suc level) node) ≡ times r (node ∷ []) + times r (beside m level place values) + times r (nodes_below m level child)
+  node-times : (r : ℕ) → times r (nodes_below m (suc level) node) ≡ times r (node ∷ []) + times r (nodes_beside m level place values) + times r (nodes_below m level child)
   node-times r =
       let all : times r (nodes_below m (suc level) node) ≡ times r ((node ∷ []) ++ slot_nodes m (suc level) values) = ap (times r) step.nodes_are in
       let first = times-append r (node ∷ []) (slot_nodes m (suc level) values) in

@@ -2,15 +2,16 @@
 use Rattle.std.proofs.Common.{◌≡◌, ℕ, zero, suc, ◌+◌, ◌<◌, ◌≤◌, List, [], ◌∷◌, ◌++◌, length, take, drop, set, refl, sym, ap, subst, ◌∙◌, arith, inl, inr, length-append}
 use Rattle.std.proofs.lemmas.Bool.{cases_lt}
 use Rattle.std.specs.List.{remove}
+use Rattle.std.proofs.lemmas.List.{set_split}
 use Rattle.image_base.specs.Records.{Records}
 use Rattle.tree_images.specs.Trees.{pairs_below, last_key, Keeps}
 use Rattle.store_api.specs.Ledgers.{Ledger}
 use Rattle.tree_node.proofs.SlotLemmas.{slot_pairs-append, slot_nodes-append, hand-right, slot_pairs-kept, slot_nodes-kept}
-use Rattle.tree_node.specs.Makes.{MakesNode, MakesPart}
+use Rattle.tree_make.specs.Makes.{MakesNode, MakesPart}
 use Rattle.tree_node.specs.Slots.{slot_pairs, slot_nodes, IsInHand}
-use Rattle.tree_node.specs.declared.make.Part.{Part}
+use Rattle.tree_make.specs.declared.make.Part.{Part}
 use Rattle.tree_remove.proofs.StandLemmas.{stands-one, stands-two}
-use Rattle.tree_remove.specs.Settles.{Stands, Settles}
+use Rattle.tree_remove.specs.Settles.{MakesSlots, Settles}
 
 edit_one : (i a : ℕ) (xs : List ℕ) → suc i < length xs → set (remove xs (suc i)) i a ≡ take i xs ++ (a ∷ drop (suc (suc i)) xs)
 edit_one i a [] low = absurd (omega arith)
@@ -38,14 +39,8 @@ two-for-two i a b xs low =
     let two : suc (suc i) ≡ i + 2 = omega arith in
     ap (λ k. set (set xs i a) k b) up ∙ edit_two i a b xs low ∙ ap (λ k. take i xs ++ (a ∷ b ∷ drop k xs)) two
 
--- one slot in place of one
-edit_same : (i a : ℕ) (xs : List ℕ) → i < length xs → set xs i a ≡ take i xs ++ (a ∷ drop (suc i) xs)
-edit_same i a [] low = absurd (omega arith)
-edit_same zero a (x ∷ xs) low = refl
-edit_same (suc i) a (x ∷ xs) low = ap (λ l. x ∷ l) (edit_same i a xs (omega arith))
-
 pub one-for-one : (i a : ℕ) (xs : List ℕ) → i < length xs → set xs i a ≡ take i xs ++ ((a ∷ []) ++ drop (i + 1) xs)
-one-for-one i a xs low = let up : suc i ≡ i + 1 = omega arith in edit_same i a xs low ∙ ap (λ k. take i xs ++ (a ∷ drop k xs)) up
+one-for-one i a xs low = let up : suc i ≡ i + 1 = omega arith in set_split xs i a low ∙ ap (λ k. take i xs ++ (a ∷ drop k xs)) up
 
 module _ {H : Type 0} (old new : Ledger H) (m n : Records) (level : ℕ) (keys values : List ℕ) (key ref : ℕ)
     (makes : MakesNode old new m n level keys values ref) (last : key ≡ last_key (pairs_below n level ref)) (many : 8 ≤ length keys)
@@ -92,10 +87,10 @@ module _ {H : Type 0} (a b d : Ledger H) (m n o : Records) (level : ℕ) (k1 v1 
       ap (λ qs. slot_nodes m level v1 ++ qs) (slot_nodes-kept m n first_makes.makes.keeps level k2 v2 right_hand)
       ∙ sym (slot_nodes-append m level v1 v2)
 
-  both_stand : Stands a d m o level (slot_pairs m level (k1 ++ k2) (v1 ++ v2)) (slot_nodes m level (v1 ++ v2)) ((key1 ∷ []) ++ (key2 ∷ [])) ((ref1 ∷ []) ++ (ref2 ∷ []))
+  both_stand : MakesSlots a d m o level (slot_pairs m level (k1 ++ k2) (v1 ++ v2)) (slot_nodes m level (v1 ++ v2)) ((key1 ∷ []) ++ (key2 ∷ [])) ((ref1 ∷ []) ++ (ref2 ∷ []))
   both_stand =
-      subst (λ ps. Stands a d m o level ps (slot_nodes m level (v1 ++ v2)) ((key1 ∷ []) ++ (key2 ∷ [])) ((ref1 ∷ []) ++ (ref2 ∷ []))) both_pairs
-      (subst (λ qs. Stands a d m o level (slot_pairs m level k1 v1 ++ slot_pairs n level k2 v2) qs ((key1 ∷ []) ++ (key2 ∷ [])) ((ref1 ∷ []) ++ (ref2 ∷ []))) both_nodes
+      subst (λ ps. MakesSlots a d m o level ps (slot_nodes m level (v1 ++ v2)) ((key1 ∷ []) ++ (key2 ∷ [])) ((ref1 ∷ []) ++ (ref2 ∷ []))) both_pairs
+      (subst (λ qs. MakesSlots a d m o level (slot_pairs m level k1 v1 ++ slot_pairs n level k2 v2) qs ((key1 ∷ []) ++ (key2 ∷ [])) ((ref1 ∷ []) ++ (ref2 ∷ []))) both_nodes
       (stands-two a b d m n o level (slot_pairs m level k1 v1) (slot_pairs n level k2 v2) (slot_nodes m level v1) (slot_nodes n level v2) (key1 ∷ []) (ref1 ∷ []) (key2 ∷ []) (ref2 ∷ [])
       (stands-one a b m n level k1 v1 ref1 first_makes key1 first_last first_many)
       (stands-one b d n o level k2 v2 ref2 second_makes key2 second_last second_many)))

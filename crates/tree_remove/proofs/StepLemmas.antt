@@ -7,21 +7,21 @@ use Rattle.std.specs.Cmp.{IsTotalOrder}
 use Rattle.std.specs.List.{zip, flat_map, remove, AllByRecursion}
 use Rattle.std.specs.declared.cmp.Ordering.{Ordering}
 use Rattle.std.specs.declared.cmp.Ordering.TheVariants.{Less, Equal, Greater}
+use Rattle.list_facts.proofs.Each.{AllByRecursion-at}
 use Rattle.image_base.specs.Records.{Records}
 use Rattle.tree_images.proofs.TreeLemmas.{IsNode-form, IsNode-count}
+use Rattle.tree_node.proofs.ReadLemmas.{node-even}
+use Rattle.tree_node.proofs.ChildLemmas.{keys-length, pairs-some}
 use Rattle.tree_images.specs.Nodes.{node_keys, node_values}
 use Rattle.tree_images.specs.Trees.{pairs_below, last_key, IsNode}
 use Rattle.key_order.proofs.OrderLemmas.{ascends-child, children-below}
-use Rattle.key_order.proofs.PairLemmas.{All-at, All-child, children-cut, lookup-skip, lookup-stop, lookup-below, take_out-skip, take_out-stop}
+use Rattle.key_order.proofs.PairLemmas.{All-child, children-cut, lookup-skip, lookup-stop, lookup-below, take_out-skip, take_out-stop}
 use Rattle.key_order.specs.Keys.{seen_by, Ascends, AllBelow}
 use Rattle.key_order.specs.Pairs.{lookup, take_out, choose}
-use Rattle.tree_node.proofs.CountLemmas.{node_some}
 use Rattle.tree_node.proofs.KeyLemmas.{key_last}
-use Rattle.tree_node.proofs.MadeLemmas.{hand-node, pairs-slots, nodes-slots}
-use Rattle.tree_node.proofs.SlotLemmas.{child_nodes, slot_pairs-inner}
+use Rattle.tree_node.proofs.SlotLemmas.{hand-node, pairs-slots, nodes-slots, child_nodes, slot_pairs-inner}
 use Rattle.tree_node.specs.Places.{IsSlot}
 use Rattle.tree_node.specs.Slots.{slot_pairs, slot_nodes, IsInHand}
-use Rattle.tree_remove.proofs.ReadLemmas.{node-even, node-keys}
 use Rattle.tree_remove.specs.Removes.{spliced, IsStep}
 
 none_some : (c : ℕ → Ordering) → IsSome (lookup c []) → ⊥
@@ -91,10 +91,10 @@ module _ {V : Type 0} (order : V → V → Ordering) (total : IsTotalOrder order
   child_low = let low = step-low in let even = hand.even in omega arith
 
   pub step-node : IsNode m 8 l (get_or vs i 0)
-  step-node = All-at (IsNode m 8 l) vs i child_low (child_nodes m l ks vs hand)
+  step-node = AllByRecursion-at (IsNode m 8 l) vs i 0 child_low (child_nodes m l ks vs hand)
 
   child_some : 0 < length (pairs_below m l (get_or vs i 0))
-  child_some = node_some m l (get_or vs i 0) step-node
+  child_some = pairs-some m 8 l (get_or vs i 0) (omega arith) step-node
 
   child_last : seen_by read order s m (last_key (pairs_below m l (get_or vs i 0))) ≢ Less
   child_last e = slot.at step-low (ap (seen_by read order s m) (key_last m l ks vs i hand child_low) ∙ e)
@@ -165,7 +165,7 @@ module _ {V : Type 0} (order : V → V → Ordering) (total : IsTotalOrder order
   pub at-step : (child : ℕ) → child ≡ get_or values i 0 → IsStep (seen_by read order s m) m l node keys values i child
   at-step child is =
       let form = IsNode-form m 2 (suc l) node node_is in
-      let size = ap length keys_are ∙ node-keys m 2 (suc l) node node_is in
+      let size = ap length keys_are ∙ keys-length m 2 (suc l) node node_is in
       let filled = form.filled in
       let room = form.room in
       subst (IsStep (seen_by read order s m) m l node keys values i) (sym is)

@@ -1,5 +1,5 @@
 -- The tree without the pair: its root, and what is left of the store.
-use Rattle.std.proofs.Common.{◌≡◌, ◌≢◌, ℕ, zero, suc, ◌<◌, ◌≤◌, true, List, [], ◌∷◌, length, get_or, min, Bool, false, true≢false, ne_eqb, refl, sym, ap, subst, ◌∙◌, arith}
+use Rattle.std.proofs.Common.{◌≡◌, ◌≢◌, ℕ, zero, suc, ◌<◌, ◌≤◌, true, List, [], ◌∷◌, length, get_or, min, Bool, false, true≢false, ne_eqb, refl, sym, ap, subst, ◌∙◌, arith, ◌^◌}
 use Rattle.std.specs.Prelude.{IsSome, ◌==◌}
 use Rattle.std.proofs.lemmas.List.{nil_from_length}
 use Rattle.std.specs.Cmp.{IsTotalOrder}
@@ -8,6 +8,7 @@ use Rattle.std.specs.List.{zip, AllByRecursion}
 use Rattle.entry_ref.specs.References.{offset_of}
 use Rattle.image_base.specs.Records.{Records, SameAt}
 use Rattle.tree_images.proofs.DistinctLemmas.{tree_nodes_distinct}
+use Rattle.tree_node.proofs.RootLemmas.{root_least-few, root_least-above}
 use Rattle.tree_images.proofs.TreeLemmas.{IsNode-form, IsNode-count}
 use Rattle.tree_images.specs.Nodes.{level_of}
 use Rattle.tree_images.specs.ProofsForTrees.{tree_pairs-same, IsRootNode-same}
@@ -17,168 +18,65 @@ use Rattle.key_order.proofs.OrderLemmas.{take_out-ascends}
 use Rattle.key_order.proofs.PairLemmas.{All-take_out, length-take_out}
 use Rattle.key_order.specs.Keys.{Ascends, AllReadable, ReadsNoNode, NoneReadsNodes, KeepsOthers}
 use Rattle.key_order.specs.Pairs.{lookup, take_out}
-use Rattle.store_api.specs.Classes.{in_use}
+use Rattle.store_api.specs.Statuses.{in_use}
 use Rattle.store_api.specs.Ledgers.{Ledger}
-use Rattle.tree_frame.proofs.Balance.{kept-from, replaces-from}
-use Rattle.tree_frame.proofs.Bounds.{nodes_wide}
-use Rattle.tree_frame.proofs.TimesLemmas.{once_from_distinct, all_at_times, all_from_times}
-use Rattle.tree_frame.specs.Changes.{Drops, Replaces, levels}
-use Rattle.tree_frame.specs.Times.{times, EachOnce}
-use Rattle.tree_node.proofs.MakesLemmas.{makes-none, makes-stays}
+use Rattle.tree_make.proofs.Balance.{kept-from, replaces-from}
+use Rattle.tree_node.proofs.Bounds.{nodes_wide}
+use Rattle.tree_make.proofs.TimesLemmas.{once_from_distinct, all_at_times, all_from_times}
+use Rattle.tree_make.specs.Changes.{Drops, Replaces, levels}
+use Rattle.tree_make.specs.Times.{times, EachOnce}
+use Rattle.tree_make.proofs.MakesLemmas.{makes-none, makes-stays}
 use Rattle.tree_node.proofs.SlotLemmas.{slot_pairs-leaf, slot_nodes-leaf, slot_pairs-one, slot_nodes-one, child_nodes}
-use Rattle.tree_node.specs.Makes.{MakesNodes, MakesNode}
+use Rattle.tree_make.specs.Makes.{MakesNodes, MakesRoot}
 use Rattle.tree_node.specs.Slots.{slot_pairs, slot_nodes, IsInHand}
-use Rattle.tree_remove.proofs.StandLemmas.{made-balance, node-weaker}
-use Rattle.tree_remove.proofs.RemoveLemmas.{root_least-few, root_least-above}
-use Rattle.tree_remove.specs.Removes.{Removes, MakesRoot, Rebuilds}
+use Rattle.tree_make.proofs.TopLemmas.{root-node, root-pairs, root-nodes}
+use Rattle.tree_remove.specs.Removes.{Removes, Rebuilds}
 
--- what a node is as the root of a tree
-module _ (n : Records) (least level root : ℕ) (low : level ≤ 7) (node : IsNode n least level root) where
-  root_level-is : root_level n root ≡ level
-  root_level-is = ap (min 7) (IsNode-form n least level root node).at_level ∙ (let e : min 7 level ≡ level = omega arith in e)
+-- the root without the pair, in hand
+module _ {V : Type 0} (order : V → V → Ordering) (read : Records → ℕ → V) (m : Records) (root : ℕ) (tree : IsTree order read m root) (some : 0 < root) (level : ℕ) (level_is : level ≡ root_level m root) where
+  top-node : IsNode m (root_least level) level root
+  top-node = root-node order read m root tree some level level_is
 
-  pub root_node-is : root_least level ≤ least → IsRootNode n root
-  root_node-is more = subst (λ l. IsNode n (root_least l) l root) (sym root_level-is) (node-weaker n level least (root_least level) root more node)
+  module _ {H : Type 0} (c : ℕ → Ordering) (old mid : Ledger H) (n : Records) (gone keys values : List ℕ) (x : Removes c old mid m n level root [] gone keys values) where
+    pub top-few : IsSome (lookup c (pairs_below m level root)) → length (slot_pairs n level keys values) < 2 ^ 32
+    top-few there =
+        let same = ap length x.pairs_are in
+        let less = length-take_out c (pairs_below m level root) there in
+        let count = IsNode-count m (root_least level) level root top-node in
+        let few = (IsNode-form m (root_least level) level root top-node).few in
+        omega arith
 
-tree_pairs-at : (n : Records) (root : ℕ) → 0 < root → tree_pairs n root ≡ pairs_below n (root_level n root) root
-tree_pairs-at n zero some = absurd (omega arith)
-tree_pairs-at n (suc ref) some = refl
+    pub top-room : length keys ≤ 16
+    top-room =
+        let filled = x.filled in let one = x.one in
+        let room = (IsNode-form m (root_least level) level root top-node).room in
+        omega arith
 
-tree_nodes-at : (n : Records) (root : ℕ) → 0 < root → tree_nodes n root ≡ nodes_below n (root_level n root) root
-tree_nodes-at n zero some = absurd (omega arith)
-tree_nodes-at n (suc ref) some = refl
+    pub top-some : 0 < level → 0 < length keys
+    top-some above =
+        let filled = x.filled in let one = x.one in
+        let used = (IsNode-form m (root_least level) level root top-node).filled in
+        let two = root_least-above level above in
+        omega arith
 
-levels-at : (n : Records) (root : ℕ) → 0 < root → levels n root ≡ suc (root_level n root)
-levels-at n zero some = absurd (omega arith)
-levels-at n (suc ref) some = refl
-
-pub tree_pairs-is : (n : Records) (least level root : ℕ) → level ≤ 7 → 0 < root → IsNode n least level root → tree_pairs n root ≡ pairs_below n level root
-tree_pairs-is n least level root low some node = tree_pairs-at n root some ∙ ap (λ l. pairs_below n l root) (root_level-is n least level root low node)
-
-pub tree_nodes-is : (n : Records) (least level root : ℕ) → level ≤ 7 → 0 < root → IsNode n least level root → tree_nodes n root ≡ nodes_below n level root
-tree_nodes-is n least level root low some node = tree_nodes-at n root some ∙ ap (λ l. nodes_below n l root) (root_level-is n least level root low node)
-
--- no slot is left
-pub root-none : {H : Type 0} (ledger : Ledger H) (m : Records) (level : ℕ) (keys values : List ℕ) (root : ℕ) → root ≡ 0 → level ≡ 0 → length keys ≡ 0
-    → IsInHand m level keys values → MakesRoot ledger ledger m m level keys values root
-root-none ledger m level keys values root is leaf none hand =
-    let no_keys : keys ≡ [] = nil_from_length keys none in
-    let no_values : values ≡ [] = nil_from_length values (let even = hand.even in omega arith) in
-    let pairs : slot_pairs m level keys values ≡ [] =
-    ap (λ l. slot_pairs m l keys values) leaf ∙ slot_pairs-leaf m keys values ∙ ap (λ ks. zip ks values) no_keys in
-    let nodes : slot_nodes m level values ≡ [] = ap (λ l. slot_nodes m l values) leaf ∙ slot_nodes-leaf m values in
-    subst (MakesRoot ledger ledger m m level keys values) (sym is)
-    (record {
-      node = λ some. absurd (omega arith);
-      pairs_are = sym pairs;
-      balance = λ r. let same = ap (times r) nodes in omega arith;
-      makes = makes-none ledger m 1;
-    })
-
-one_is : (xs : List ℕ) → length xs ≡ 1 → xs ≡ get_or xs 0 0 ∷ []
-one_is [] one = absurd (omega arith)
-one_is (x ∷ []) one = refl
-one_is (x ∷ y ∷ xs) one = absurd (omega arith)
-
--- a single child is left
-pub only-node : (m : Records) (l : ℕ) (keys values : List ℕ) → length keys ≡ 1 → IsInHand m (suc l) keys values → IsNode m 8 l (get_or values 0 0)
-only-node m l keys values one hand =
-    let is = one_is values (let even = hand.even in omega arith) in
-    (subst (AllByRecursion (IsNode m 8 l)) is (child_nodes m l keys values hand)).0
-
-pub root-only : {H : Type 0} (ledger : Ledger H) (m : Records) (l : ℕ) (keys values : List ℕ) (root : ℕ) → l ≤ 7 → 0 < root → root ≡ get_or values 0 0 → length keys ≡ 1
-    → IsInHand m (suc l) keys values → MakesRoot ledger ledger m m (suc l) keys values root
-root-only ledger m l keys values root low some at one hand =
-    let values_are : values ≡ root ∷ [] = one_is values (let even = hand.even in omega arith) ∙ ap (λ v. v ∷ []) (sym at) in
-    let keys_are = one_is keys one in
-    let node : IsNode m 8 l root = subst (IsNode m 8 l) (sym at) (only-node m l keys values one hand) in
-    let pairs : slot_pairs m (suc l) keys values ≡ pairs_below m l root =
-    ap (λ ks. slot_pairs m (suc l) ks values) keys_are ∙ ap (slot_pairs m (suc l) (get_or keys 0 0 ∷ [])) values_are ∙ slot_pairs-one m l (get_or keys 0 0) root in
-    let nodes : slot_nodes m (suc l) values ≡ nodes_below m l root = ap (slot_nodes m (suc l)) values_are ∙ slot_nodes-one m l root in
-    record {
-      node = λ here. root_node-is m 8 l root low node (root_least-few l);
-      pairs_are = tree_pairs-is m 8 l root low some node ∙ sym pairs;
-      balance = λ r. let a = ap (times r) nodes in let b = ap (times r) (tree_nodes-is m 8 l root low some node) in omega arith;
-      makes = makes-none ledger m 1;
+    pub rebuilds-from : (new : Ledger H) (o : Records) (next : ℕ) → MakesRoot mid new n o level keys values next → Rebuilds c old new m o root next gone
+    rebuilds-from new o next y = record {
+      node = y.node;
+      pairs_are = y.pairs_are ∙ x.pairs_are ∙ ap (take_out c) (sym (root-pairs order read m root tree some level level_is));
+      balance = λ r.
+          let a = x.balance r in
+          let b = y.balance r in
+          let same = ap (times r) (root-nodes order read m root tree some level level_is) in
+          omega arith;
+      gone_of = λ r. let a = x.gone r in let same = ap (times r) (root-nodes order read m root tree some level level_is) in omega arith;
     }
-
--- the slots are made
-pub root-made : {H : Type 0} (old new : Ledger H) (m n : Records) (level : ℕ) (keys values : List ℕ) (root : ℕ) → level ≤ 7 → root_least level ≤ length keys
-    → MakesNode old new m n level keys values root → MakesRoot old new m n level keys values root
-root-made old new m n level keys values root low more made = record {
-  node = λ here. root_node-is n (length keys) level root low made.node more;
-  pairs_are = tree_pairs-is n (length keys) level root low made.some made.node ∙ made.pairs;
-  balance = λ r.
-      let a = ap (times r) (tree_nodes-is n (length keys) level root low made.some made.node) in
-      let b = made-balance old new m n level keys values root made r in
-      omega arith;
-  makes = made.makes;
-}
-
--- the root of a tree that is not empty
-module _ {V : Type 0} (order : V → V → Ordering) (read : Records → ℕ → V) (m : Records) (root : ℕ) (tree : IsTree order read m root) (some : 0 < root) where
-  pub root-size : length (m root) ≡ 34
-  root-size = (IsNode-form m (root_least (root_level m root)) (root_level m root) root (tree.node some)).size
-
-  pub root-level : level_of (m root) ≡ root_level m root
-  root-level = (IsNode-form m (root_least (root_level m root)) (root_level m root) root (tree.node some)).at_level
-
-  module _ (level : ℕ) (level_is : level ≡ root_level m root) where
-    pub root-low : level ≤ 7
-    root-low = omega arith
-
-    pub root-node : IsNode m (root_least level) level root
-    root-node = subst (λ l. IsNode m (root_least l) l root) (sym level_is) (tree.node some)
-
-    pub root-pairs : tree_pairs m root ≡ pairs_below m level root
-    root-pairs = tree_pairs-is m (root_least level) level root root-low some root-node
-
-    pub root-nodes : tree_nodes m root ≡ nodes_below m level root
-    root-nodes = tree_nodes-is m (root_least level) level root root-low some root-node
-
-    pub root-levels : levels m root ≡ suc level
-    root-levels = levels-at m root some ∙ ap suc (sym level_is)
-
-    module _ {H : Type 0} (c : ℕ → Ordering) (old mid : Ledger H) (n : Records) (gone keys values : List ℕ) (x : Removes c old mid m n level root [] gone keys values) where
-      pub top-few : IsSome (lookup c (pairs_below m level root)) → length (slot_pairs n level keys values) < 4294967296
-      top-few there =
-          let same = ap length x.pairs_are in
-          let less = length-take_out c (pairs_below m level root) there in
-          let count = IsNode-count m (root_least level) level root root-node in
-          let few = (IsNode-form m (root_least level) level root root-node).few in
-          omega arith
-
-      pub top-room : length keys ≤ 16
-      top-room =
-          let filled = x.filled in let one = x.one in
-          let room = (IsNode-form m (root_least level) level root root-node).room in
-          omega arith
-
-      pub top-some : 0 < level → 0 < length keys
-      top-some above =
-          let filled = x.filled in let one = x.one in
-          let used = (IsNode-form m (root_least level) level root root-node).filled in
-          let two = root_least-above level above in
-          omega arith
-
-      pub rebuilds-from : (new : Ledger H) (o : Records) (next : ℕ) → MakesRoot mid new n o level keys values next → Rebuilds c old new m o root next gone
-      rebuilds-from new o next y = record {
-        node = y.node;
-        pairs_are = y.pairs_are ∙ x.pairs_are ∙ ap (take_out c) (sym root-pairs);
-        balance = λ r.
-            let a = x.balance r in
-            let b = y.balance r in
-            let same = ap (times r) root-nodes in
-            omega arith;
-        gone_of = λ r. let a = x.gone r in let same = ap (times r) root-nodes in omega arith;
-      }
 
 -- the new tree, and the replaced nodes dropped
 module _ {H : Type 0} {V : Type 0} (order : V → V → Ordering) (total : IsTotalOrder order) (can_read : Records → ℕ → Type 0) (read : Records → ℕ → V) (reads_from : Records → ℕ → List ℕ)
     (stays : (m n : Records) (key : ℕ) → can_read m key → SameAt (reads_from m key) m n → can_read n key × (read n key ≡ read m key))
     (c : ℕ → Ordering) (old new end : Ledger H) (m n e : Records) (root next : ℕ) (gone : List ℕ)
     (tree : IsTree order read m root) (readable : AllReadable can_read m (tree_pairs m root)) (apart : NoneReadsNodes reads_from m (tree_pairs m root))
-    (used : AllByRecursion (λ r. in_use (old.class r) ≡ true) (tree_nodes m root))
+    (used : AllByRecursion (λ r. in_use (old.status r) ≡ true) (tree_nodes m root))
     (most : ℕ) (makes : MakesNodes old new m n most) (x : Rebuilds c old new m n root next gone) where
   old-once : EachOnce (tree_nodes m root)
   old-once = once_from_distinct (tree_nodes m root) (tree_nodes_distinct order total read m root tree)
@@ -186,13 +84,13 @@ module _ {H : Type 0} {V : Type 0} (order : V → V → Ordering) (total : IsTot
   pub gone-once : EachOnce gone
   gone-once r = let few = x.gone_of r in let once = old-once r in omega arith
 
-  pub gone-used : AllByRecursion (λ r. in_use (new.class r) ≡ true) gone
+  pub gone-used : AllByRecursion (λ r. in_use (new.status r) ≡ true) gone
   gone-used =
-      all_from_times (λ r. in_use (new.class r) ≡ true) gone
-      (λ r h. makes-stays old new m n most makes r (all_at_times (λ q. in_use (old.class q) ≡ true) (tree_nodes m root) used r (let few = x.gone_of r in omega arith)))
+      all_from_times (λ r. in_use (new.status r) ≡ true) gone
+      (λ r h. makes-stays old new m n most makes r (all_at_times (λ q. in_use (old.status q) ≡ true) (tree_nodes m root) used r (let few = x.gone_of r in omega arith)))
 
-  old-used : (r : ℕ) → 0 < times r (tree_nodes m root) → in_use (old.class r) ≡ true
-  old-used r h = all_at_times (λ q. in_use (old.class q) ≡ true) (tree_nodes m root) used r h
+  old-used : (r : ℕ) → 0 < times r (tree_nodes m root) → in_use (old.status r) ≡ true
+  old-used r h = all_at_times (λ q. in_use (old.status q) ≡ true) (tree_nodes m root) used r h
 
   -- each node of the old tree is a record of 34 words
   old-wide : AllByRecursion (λ q. length (m q) ≡ 34) (tree_nodes m root)
@@ -238,24 +136,3 @@ module _ {H : Type 0} {V : Type 0} (order : V → V → Ordering) (total : IsTot
           (ascends-stay can_read read reads_from stays m e others-stay order (take_out c (tree_pairs m root)) left-readable left-apart
           (take_out-ascends order (read m) c (tree_pairs m root) tree.ascends));
     }
-
--- what the tests of the root tell
-pub none_from : (n : ℕ) (answer : Bool) → answer ≡ (n == 0) → answer ≡ true → n ≡ 0
-none_from zero answer is none = refl
-none_from (suc n) answer is none = absurd (true≢false (sym none ∙ is ∙ ne_eqb (suc n) 0 (λ e. omega arith)))
-
-pub some_from : (n : ℕ) (answer : Bool) → answer ≡ (n == 0) → answer ≡ false → 0 < n
-some_from zero answer is some = absurd (true≢false (sym is ∙ some))
-some_from (suc n) answer is some = omega arith
-
-pub leaf_from : (level n : ℕ) → n ≡ 0 → (0 < level → 0 < n) → level ≡ 0
-leaf_from zero n none some = refl
-leaf_from (suc level) n none some = absurd (let here = some (omega arith) in omega arith)
-
-pub many_from : (level n : ℕ) → 0 < n → (0 < level → n ≢ 1) → root_least level ≤ n
-many_from zero n some other = omega arith
-many_from (suc level) n some other = let ne = other (omega arith) in omega arith
-
-pub ref_some : (r : ℕ) → 0 < offset_of r → 0 < r
-ref_some zero some = absurd (omega arith)
-ref_some (suc r) some = omega arith

@@ -1,14 +1,15 @@
 -- What a removal makes of a node and of a tree.
-use Rattle.std.specs.Prelude.{◌≡◌, ℕ, suc, ◌+◌, ◌*◌, ◌<◌, ◌≤◌, List, ◌∷◌, ◌++◌, length, take, drop, slice_index, IsSome}
+use Rattle.std.specs.Prelude.{◌≡◌, ◌^◌, ℕ, suc, ◌+◌, ◌*◌, ◌<◌, ◌≤◌, List, ◌∷◌, ◌++◌, length, take, drop, slice_index, IsSome}
 use Rattle.std.specs.declared.cmp.Ordering.{Ordering}
 use Rattle.image_base.specs.Records.{Records}
 use Rattle.tree_images.specs.Nodes.{used_of}
 use Rattle.tree_images.specs.Trees.{pairs_below, nodes_below, tree_pairs, tree_nodes, IsNode, IsRootNode}
 use Rattle.key_order.specs.Pairs.{lookup, take_out}
 use Rattle.store_api.specs.Ledgers.{Ledger}
-use Rattle.tree_frame.specs.Times.{times, uses}
-use Rattle.tree_node.specs.Makes.{MakesNodes}
+use Rattle.tree_make.specs.Times.{times, uses}
+use Rattle.tree_make.specs.Makes.{MakesNodes}
 use Rattle.tree_node.specs.Slots.{slot_pairs, slot_nodes, IsInHand}
+use Rattle.tree_images.specs.declared.TheConstants.{MOST_SLOTS, LEAST_SLOTS}
 
 -- the pairs below slots, with these in place of those of one child
 abbrev pub spliced : Records → ℕ → ℕ → List ℕ → List ℕ → List (ℕ × ℕ) → List (ℕ × ℕ)
@@ -17,8 +18,8 @@ spliced m level place keys values pairs =
     ++ (pairs ++ slot_pairs m (suc level) (drop (suc place) keys) (drop (suc place) values))
 
 -- the nodes below all children but one
-abbrev pub beside : Records → ℕ → ℕ → List ℕ → List ℕ
-beside m level place values =
+abbrev pub nodes_beside : Records → ℕ → ℕ → List ℕ → List ℕ
+nodes_beside m level place values =
     slot_nodes m (suc level) (take place values) ++ slot_nodes m (suc level) (drop (suc place) values)
 
 -- the slots of a child with at least 8
@@ -26,8 +27,8 @@ pub record IsChild (m : Records) (level child : ℕ) (keys values : List ℕ) : 
   pub hand : IsInHand m level keys values
   pub pairs_are : pairs_below m level child ≡ slot_pairs m level keys values
   pub nodes_are : nodes_below m level child ≡ child ∷ slot_nodes m level values
-  pub least : 8 ≤ length keys
-  pub room : length keys ≤ 16
+  pub least : LEAST_SLOTS ≤ length keys
+  pub room : length keys ≤ MOST_SLOTS
 
 -- a child in hand was made, with a sibling where it was a slot short, and stands in its parent, which has lost a slot or none
 pub record PutsBack {H : Type 0} (old new : Ledger H) (m n : Records) (level place : ℕ)
@@ -36,8 +37,8 @@ pub record PutsBack {H : Type 0} (old new : Ledger H) (m n : Records) (level pla
   pub pairs_are : slot_pairs n (suc level) keys_after values_after
       ≡ spliced m level place keys values (slot_pairs m level child_keys child_values)
   pub balance : (r : ℕ) → times r (slot_nodes n (suc level) values_after) + times r after + uses old r
-      ≡ uses new r + times r before + times r (beside m level place values) + times r (slot_nodes m level child_values)
-  pub gone : (r : ℕ) → times r after ≤ times r before + times r (beside m level place values)
+      ≡ uses new r + times r before + times r (nodes_beside m level place values) + times r (slot_nodes m level child_values)
+  pub gone : (r : ℕ) → times r after ≤ times r before + times r (nodes_beside m level place values)
   pub path : length after ≤ suc (length before)
   -- 1 where it has lost none
   pub extra : ℕ
@@ -46,7 +47,7 @@ pub record PutsBack {H : Type 0} (old new : Ledger H) (m n : Records) (level pla
   pub most : ℕ
   pub makes : MakesNodes old new m n most
   pub most_is : most ≤ suc extra
-  pub whole : 8 ≤ length child_keys → most ≤ extra
+  pub whole : LEAST_SLOTS ≤ length child_keys → most ≤ extra
 
 -- the child of a node under which a key is, whose level this is
 pub record IsStep (c : ℕ → Ordering) (m : Records) (level node : ℕ) (keys values : List ℕ) (place child : ℕ) : Type 0 where
@@ -54,11 +55,11 @@ pub record IsStep (c : ℕ → Ordering) (m : Records) (level node : ℕ) (keys 
   pub nodes_are : nodes_below m (suc level) node ≡ node ∷ slot_nodes m (suc level) values
   pub used : used_of (m node) ≡ length keys
   pub many : 2 ≤ length keys
-  pub room : length keys ≤ 16
-  pub few : length (pairs_below m (suc level) node) < 4294967296
+  pub room : length keys ≤ MOST_SLOTS
+  pub few : length (pairs_below m (suc level) node) < 2 ^ 32
   pub within : place < length keys
   pub child_is : child ≡ slice_index values place
-  pub child_node : IsNode m 8 level child
+  pub child_node : IsNode m LEAST_SLOTS level child
   pub there : IsSome (lookup c (pairs_below m level child))
   pub out : take_out c (pairs_below m (suc level) node) ≡ spliced m level place keys values (take_out c (pairs_below m level child))
 
@@ -76,13 +77,6 @@ pub record Removes {H : Type 0} (c : ℕ → Ordering) (old new : Ledger H) (m n
   pub one : extra ≤ 1
   pub filled : extra + used_of (m node) ≡ suc (length keys)
   pub makes : MakesNodes old new m n (level + extra)
-
--- slots of a root in hand were made, or given up for a single child
-pub record MakesRoot {H : Type 0} (old new : Ledger H) (m n : Records) (level : ℕ) (keys values : List ℕ) (root : ℕ) : Type 0 where
-  pub node : 0 < root → IsRootNode n root
-  pub pairs_are : tree_pairs n root ≡ slot_pairs m level keys values
-  pub balance : (r : ℕ) → times r (tree_nodes n root) + uses old r ≡ uses new r + times r (slot_nodes m level values)
-  pub makes : MakesNodes old new m n 1
 
 -- a tree was made that has the pairs of another but the one sought; these nodes of the other it lacks
 pub record Rebuilds {H : Type 0} (c : ℕ → Ordering) (old new : Ledger H) (m n : Records) (root next : ℕ) (gone : List ℕ) : Type 0 where

@@ -2,12 +2,12 @@
 use Rattle.std.specs.Prelude.{◌≡◌, ℕ, suc, ◌+◌, ◌<◌, ◌≤◌, List, ◌++◌, length, take, drop}
 use Rattle.image_base.specs.Records.{Records}
 use Rattle.store_api.specs.Ledgers.{Ledger}
-use Rattle.tree_frame.specs.Times.{times, uses}
-use Rattle.tree_node.specs.Makes.{MakesNodes}
+use Rattle.tree_make.specs.Times.{times, uses}
+use Rattle.tree_make.specs.Makes.{MakesNodes}
 use Rattle.tree_node.specs.Slots.{slot_pairs, slot_nodes, IsInHand}
 
 -- nodes of a level were made, under these slots: the pairs below them are these, the nodes below them these and what is newly in use
-pub record Stands {H : Type 0} (old new : Ledger H) (m n : Records) (level : ℕ) (pairs : List (ℕ × ℕ)) (nodes keys values : List ℕ) : Type 0 where
+pub record MakesSlots {H : Type 0} (old new : Ledger H) (m n : Records) (level : ℕ) (pairs : List (ℕ × ℕ)) (nodes keys values : List ℕ) : Type 0 where
   pub hand : IsInHand n (suc level) keys values
   pub pairs_are : slot_pairs n (suc level) keys values ≡ pairs
   pub balance : (r : ℕ) → times r (slot_nodes n (suc level) values) + uses old r ≡ uses new r + times r nodes
@@ -18,7 +18,7 @@ pub record Settles {H : Type 0} (old new : Ledger H) (m n : Records) (level : �
     (first width : ℕ) (keys values keys_after values_after : List ℕ) : Type 0 where
   pub made_keys : List ℕ
   pub made_values : List ℕ
-  pub stands : Stands old new m n level pairs nodes made_keys made_values
+  pub stands : MakesSlots old new m n level pairs nodes made_keys made_values
   pub some : 0 < length made_values
   pub few : length made_values ≤ width
   pub keys_are : keys_after ≡ take first keys ++ (made_keys ++ drop (first + width) keys)

@@ -5,7 +5,7 @@ ghost use Rattle.tree_images.specs.Trees.{pairs_below, IsNode, root_least};
 ghost use Rattle.key_order.specs.Keys.{seen_by, Ascends, AllReadable};
 ghost use Rattle.key_order.specs.Pairs.{lookup, take_out};
 ghost use Rattle.store_api.specs.Ledgers.{IsFull};
-ghost use Rattle.tree_node.specs.Makes.{MakesNodes};
+ghost use Rattle.tree_make.specs.Makes.{MakesNodes};
 ghost use Rattle.tree_remove.specs.Removes.{IsStep, Removes};
 
 use crate::parent::put_back;
@@ -14,18 +14,19 @@ use arrayvec::ArrayVec;
 use entry_ref::EntryRef;
 use key_order::KeyOrder;
 use store_api::{Store, StoreError};
-use tree_node::{Slots, read_node, slot_of};
+use tree_images::NODE_WORDS;
+use tree_node::{Slots, first_slot, read_node};
 
 /// A node above the leaves in hand, and the child under which a key is.
 #[derive(Drop)]
-struct Step {
+struct Descent<const OFFSET_BITS: u32> {
     slots: Slots,
     place: usize,
-    child: EntryRef,
+    child: EntryRef<OFFSET_BITS>,
 }
 
 /// Reads a node above the leaves, and finds the child under which the key is.
-fn step_down<F: Frozen, K: KeyOrder>(frozen: &mut F, node: EntryRef, key: &K) -> Step
+fn step_down<const OFFSET_BITS: u32, F: Frozen<OFFSET_BITS>, K: KeyOrder<OFFSET_BITS>>(frozen: &mut F, node: EntryRef<OFFSET_BITS>, key: &K) -> Descent<OFFSET_BITS>
     requires inner { 0 < level_of (F.records frozen.old node) }
     requires node { IsNode (F.records frozen.old) 2 (level_of (F.records frozen.old node)) node }
     requires ascends { Ascends K.order K.read (F.records frozen.old)
@@ -34,20 +35,21 @@ fn step_down<F: Frozen, K: KeyOrder>(frozen: &mut F, node: EntryRef, key: &K) ->
         (pairs_below (F.records frozen.old) (level_of (F.records frozen.old node)) node) }
     requires there { IsSome (lookup (seen_by K.read K.order (K.sought key.now) (F.records frozen.old))
         (pairs_below (F.records frozen.old) (level_of (F.records frozen.old node)) node)) }
-    ensures level { result.slots.level ≡ level_of (F.records frozen.old node) }
+    ensures level { result.slots.level ≡ level_of (F.records frozen.old node.entry) }
     ensures step { IsStep (seen_by K.read K.order (K.sought key.now) (F.records frozen.old)) (F.records frozen.old)
-        (level_of (F.records frozen.old node) - 1) node
+        (level_of (F.records frozen.old node.entry) - 1) node.entry
         result.slots.keys.items result.slots.values.items result.place result.child }
     ensures ascends { Ascends K.order K.read (F.records frozen.old)
-        (pairs_below (F.records frozen.old) (level_of (F.records frozen.old node) - 1) result.child) }
+        (pairs_below (F.records frozen.old) (level_of (F.records frozen.old node.entry) - 1) result.child) }
     ensures readable { AllReadable K.can_read (F.records frozen.old)
-        (pairs_below (F.records frozen.old) (level_of (F.records frozen.old node) - 1) result.child) }
+        (pairs_below (F.records frozen.old) (level_of (F.records frozen.old node.entry) - 1) result.child) }
     ensures same { frozen.new ≡ frozen.old }
 {
     let slots = read_node(frozen, node);
-    let place = slot_of(frozen, &slots.keys, key);
+    let used = slots.keys.len() as u32;
+    let place = first_slot(frozen, node, used, key) as usize;
     let child = EntryRef::from_raw(slots.values[place] as u32);
-    Step {
+    Descent {
         slots,
         place,
         child,
@@ -55,7 +57,7 @@ fn step_down<F: Frozen, K: KeyOrder>(frozen: &mut F, node: EntryRef, key: &K) ->
 }
 
 /// Takes a pair out of a leaf, which is in hand then.
-fn remove_in_leaf<F: Frozen, K: KeyOrder>(frozen: &mut F, node: EntryRef, key: &K) -> Slots
+fn remove_in_leaf<const OFFSET_BITS: u32, F: Frozen<OFFSET_BITS>, K: KeyOrder<OFFSET_BITS>>(frozen: &mut F, node: EntryRef<OFFSET_BITS>, key: &K) -> Slots
     requires node { IsNode (F.records frozen.old) 1 0 node }
     requires readable { AllReadable K.can_read (F.records frozen.old) (pairs_below (F.records frozen.old) 0 node) }
     requires there { IsSome (lookup (seen_by K.read K.order (K.sought key.now) (F.records frozen.old))
@@ -63,12 +65,13 @@ fn remove_in_leaf<F: Frozen, K: KeyOrder>(frozen: &mut F, node: EntryRef, key: &
     ensures level { result.level ≡ 0 }
     ensures even { length result.keys.items ≡ length result.values.items }
     ensures pairs { zip result.keys.items result.values.items
-        ≡ take_out (seen_by K.read K.order (K.sought key.now) (F.records frozen.old)) (pairs_below (F.records frozen.old) 0 node) }
-    ensures size { used_of (F.records frozen.old node) ≡ suc (length result.keys.items) }
+        ≡ take_out (seen_by K.read K.order (K.sought key.now) (F.records frozen.old)) (pairs_below (F.records frozen.old) 0 node.entry) }
+    ensures size { used_of (F.records frozen.old node.entry) ≡ suc (length result.keys.items) }
     ensures same { frozen.new ≡ frozen.old }
 {
     let mut slots = read_node(frozen, node);
-    let slot = slot_of(frozen, &slots.keys, key);
+    let used = slots.keys.len() as u32;
+    let slot = first_slot(frozen, node, used, key) as usize;
     slots.keys.remove(slot);
     slots.values.remove(slot);
     slots
@@ -76,9 +79,9 @@ fn remove_in_leaf<F: Frozen, K: KeyOrder>(frozen: &mut F, node: EntryRef, key: &
 
 /// Takes a pair out below a node, by new nodes under it; the node itself is in hand then. The old nodes are
 /// added to those that are replaced.
-pub fn remove_below<S: Store, K: KeyOrder>(
+pub fn remove_below<const OFFSET_BITS: u32, S: Store<OFFSET_BITS>, K: KeyOrder<OFFSET_BITS>>(
     store: &mut S,
-    node: EntryRef,
+    node: EntryRef<OFFSET_BITS>,
     level: u64,
     key: &K,
     replaced: &mut ArrayVec<u32, 16>,
@@ -93,9 +96,9 @@ pub fn remove_below<S: Store, K: KeyOrder>(
     requires room { length replaced.old.items + (2 * level + 1) ≤ 16 }
     ensures removes { IfOk result (λ slots. Removes (seen_by K.read K.order (K.sought key.now) (S.records store.old))
         (S.ledger store.old) (S.ledger store.new) (S.records store.old) (S.records store.new)
-        level node replaced.old.items replaced.new.items slots.keys.items slots.values.items) }
+        level node.entry replaced.old.items replaced.new.items slots.keys.items slots.values.items) }
     ensures level { IfOk result (λ slots. slots.level ≡ level) }
-    ensures full { (w a h : ℕ) → result ≡ Err (StoreError.Full w a h) → (w ≡ 34) × IsFull (S.ledger store.new) w a h }
+    ensures full { (w a h : ℕ) → result ≡ Err (StoreError.Full w a h) → (w ≡ NODE_WORDS) × IsFull (S.ledger store.new) w a h }
     ensures refused { OnErr result (MakesNodes (S.ledger store.old) (S.ledger store.new) (S.records store.old) (S.records store.new) (suc level)) }
 {
     replaced.push(node.raw());

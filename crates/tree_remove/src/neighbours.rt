@@ -1,17 +1,19 @@
-ghost use Rattle.std.specs.Prelude.{◌≡◌, ◌≤◌, ◌<◌, ◌+◌, ◌++◌, true, length, slice_set, suc, OnOk, OnErr, ℕ};
+ghost use Rattle.std.specs.Prelude.{◌≡◌, ◌^◌, ◌≤◌, ◌<◌, ◌+◌, ◌++◌, true, length, slice_set, suc, OnOk, OnErr, ℕ};
 ghost use Rattle.store_api.specs.Ledgers.{IsFull};
-ghost use Rattle.tree_node.specs.Makes.{MakesNodes};
+ghost use Rattle.tree_make.specs.Makes.{MakesNodes};
 ghost use Rattle.tree_node.specs.Slots.{slot_pairs, slot_nodes, IsInHand};
 ghost use Rattle.tree_remove.specs.Settles.{Settles};
 
 use store_api::{Store, StoreError};
-use tree_node::{Part, Slots, make_part};
+use tree_images::{LEAST_SLOTS, MOST_SLOTS, NODE_WORDS};
+use tree_make::{Part, make_part};
+use tree_node::Slots;
 
 /// Appends the slots of the right neighbour.
 fn join(left: &mut Slots, right: &Slots)
     requires even { length left.old.keys.items ≡ length left.old.values.items }
     requires even_right { length right.now.keys.items ≡ length right.now.values.items }
-    requires room { length left.old.keys.items + length right.now.keys.items ≤ 16 }
+    requires room { length left.old.keys.items + length right.now.keys.items ≤ MOST_SLOTS }
     ensures keys { left.new.keys.items ≡ left.old.keys.items ++ right.now.keys.items }
     ensures values { left.new.values.items ≡ left.old.values.items ++ right.now.values.items }
     ensures level { left.new.level ≡ left.old.level }
@@ -26,8 +28,8 @@ fn join(left: &mut Slots, right: &Slots)
 fn shift(left: &mut Slots, right: &mut Slots)
     requires even { length left.old.keys.items ≡ length left.old.values.items }
     requires even_right { length right.old.keys.items ≡ length right.old.values.items }
-    requires room { length left.old.keys.items ≤ 16 }
-    requires room_right { length right.old.keys.items ≤ 16 }
+    requires room { length left.old.keys.items ≤ MOST_SLOTS }
+    requires room_right { length right.old.keys.items ≤ MOST_SLOTS }
     requires some { 0 < length left.old.keys.items }
     ensures keys { left.new.keys.items ++ right.new.keys.items ≡ left.old.keys.items ++ right.old.keys.items }
     ensures values { left.new.values.items ++ right.new.values.items ≡ left.old.values.items ++ right.old.values.items }
@@ -56,11 +58,11 @@ pub fn set_part(slots: &mut Slots, place: usize, part: Part)
     ensures level { slots.new.level ≡ slots.old.level }
 {
     slots.keys[place] = part.key;
-    slots.values[place] = u64::from(part.node.raw());
+    slots.values[place] = u64::from(part.node);
 }
 
 /// Makes one node of two neighbours, and sets its slot in their parent.
-fn merge<S: Store>(
+fn merge<const OFFSET_BITS: u32, S: Store<OFFSET_BITS>>(
     store: &mut S,
     slots: &mut Slots,
     first: usize,
@@ -73,19 +75,19 @@ fn merge<S: Store>(
     requires even_right { length right.now.keys.items ≡ length right.now.values.items }
     requires hand { IsInHand (S.records store.old) left.old.level
         (left.old.keys.items ++ right.now.keys.items) (left.old.values.items ++ right.now.values.items) }
-    requires some { 8 ≤ length left.old.keys.items + length right.now.keys.items }
-    requires room { length left.old.keys.items + length right.now.keys.items ≤ 16 }
+    requires some { LEAST_SLOTS ≤ length left.old.keys.items + length right.now.keys.items }
+    requires room { length left.old.keys.items + length right.now.keys.items ≤ MOST_SLOTS }
     requires few { length (slot_pairs (S.records store.old) left.old.level
-        (left.old.keys.items ++ right.now.keys.items) (left.old.values.items ++ right.now.values.items)) < 4294967296 }
+        (left.old.keys.items ++ right.now.keys.items) (left.old.values.items ++ right.now.values.items)) < 2 ^ 32 }
     requires parent { length slots.old.keys.items ≡ length slots.old.values.items }
-    requires room_parent { length slots.old.keys.items ≤ 16 }
+    requires room_parent { length slots.old.keys.items ≤ MOST_SLOTS }
     requires first { suc first < length slots.old.keys.items }
     ensures settles { OnOk result (Settles (S.ledger store.old) (S.ledger store.new) (S.records store.old) (S.records store.new) left.old.level
         (slot_pairs (S.records store.old) left.old.level
         (left.old.keys.items ++ right.now.keys.items) (left.old.values.items ++ right.now.values.items))
         (slot_nodes (S.records store.old) left.old.level (left.old.values.items ++ right.now.values.items))
         first 2 slots.old.keys.items slots.old.values.items slots.new.keys.items slots.new.values.items) }
-    ensures full { (w a h : ℕ) → result ≡ Err (StoreError.Full w a h) → (w ≡ 34) × IsFull (S.ledger store.new) w a h }
+    ensures full { (w a h : ℕ) → result ≡ Err (StoreError.Full w a h) → (w ≡ NODE_WORDS) × IsFull (S.ledger store.new) w a h }
     ensures refused { OnErr result (MakesNodes (S.ledger store.old) (S.ledger store.new) (S.records store.old) (S.records store.new) 1) }
     ensures level { slots.new.level ≡ slots.old.level }
 {
@@ -98,7 +100,7 @@ fn merge<S: Store>(
 }
 
 /// Makes two nodes of two neighbours, with one slot moved from the longer to the other, and sets their slots in their parent.
-fn share<S: Store>(
+fn share<const OFFSET_BITS: u32, S: Store<OFFSET_BITS>>(
     store: &mut S,
     slots: &mut Slots,
     first: usize,
@@ -112,24 +114,24 @@ fn share<S: Store>(
     requires even_right { length right.old.keys.items ≡ length right.old.values.items }
     requires hand { IsInHand (S.records store.old) left.old.level
         (left.old.keys.items ++ right.old.keys.items) (left.old.values.items ++ right.old.values.items) }
-    requires room { length left.old.keys.items ≤ 16 }
-    requires room_right { length right.old.keys.items ≤ 16 }
+    requires room { length left.old.keys.items ≤ MOST_SLOTS }
+    requires room_right { length right.old.keys.items ≤ MOST_SLOTS }
     requires many { 16 ≤ length left.old.keys.items + length right.old.keys.items }
     requires short { length left.old.keys.items + length right.old.keys.items ≤ 23 }
     requires least { 7 ≤ length left.old.keys.items }
     requires least_right { 7 ≤ length right.old.keys.items }
-    requires one_short { 8 ≤ length left.old.keys.items → length right.old.keys.items ≡ 7 }
+    requires one_short { LEAST_SLOTS ≤ length left.old.keys.items → length right.old.keys.items ≡ 7 }
     requires few { length (slot_pairs (S.records store.old) left.old.level
-        (left.old.keys.items ++ right.old.keys.items) (left.old.values.items ++ right.old.values.items)) < 4294967296 }
+        (left.old.keys.items ++ right.old.keys.items) (left.old.values.items ++ right.old.values.items)) < 2 ^ 32 }
     requires parent { length slots.old.keys.items ≡ length slots.old.values.items }
-    requires room_parent { length slots.old.keys.items ≤ 16 }
+    requires room_parent { length slots.old.keys.items ≤ MOST_SLOTS }
     requires first { suc first < length slots.old.keys.items }
     ensures settles { OnOk result (Settles (S.ledger store.old) (S.ledger store.new) (S.records store.old) (S.records store.new) left.old.level
         (slot_pairs (S.records store.old) left.old.level
         (left.old.keys.items ++ right.old.keys.items) (left.old.values.items ++ right.old.values.items))
         (slot_nodes (S.records store.old) left.old.level (left.old.values.items ++ right.old.values.items))
         first 2 slots.old.keys.items slots.old.values.items slots.new.keys.items slots.new.values.items) }
-    ensures full { (w a h : ℕ) → result ≡ Err (StoreError.Full w a h) → (w ≡ 34) × IsFull (S.ledger store.new) w a h }
+    ensures full { (w a h : ℕ) → result ≡ Err (StoreError.Full w a h) → (w ≡ NODE_WORDS) × IsFull (S.ledger store.new) w a h }
     ensures refused { OnErr result (MakesNodes (S.ledger store.old) (S.ledger store.new) (S.records store.old) (S.records store.new) 1) }
     ensures level { slots.new.level ≡ slots.old.level }
 {
@@ -142,7 +144,7 @@ fn share<S: Store>(
 }
 
 /// Makes one node or two of two neighbours of which one has 7 slots, and sets their slots in their parent.
-pub fn make_neighbours<S: Store>(
+pub fn make_neighbours<const OFFSET_BITS: u32, S: Store<OFFSET_BITS>>(
     store: &mut S,
     slots: &mut Slots,
     first: usize,
@@ -156,27 +158,27 @@ pub fn make_neighbours<S: Store>(
     requires even_right { length right.old.keys.items ≡ length right.old.values.items }
     requires hand { IsInHand (S.records store.old) left.old.level
         (left.old.keys.items ++ right.old.keys.items) (left.old.values.items ++ right.old.values.items) }
-    requires room { length left.old.keys.items ≤ 16 }
-    requires room_right { length right.old.keys.items ≤ 16 }
+    requires room { length left.old.keys.items ≤ MOST_SLOTS }
+    requires room_right { length right.old.keys.items ≤ MOST_SLOTS }
     requires short { length left.old.keys.items + length right.old.keys.items ≤ 23 }
     requires least { 7 ≤ length left.old.keys.items }
     requires least_right { 7 ≤ length right.old.keys.items }
-    requires one_short { 8 ≤ length left.old.keys.items → length right.old.keys.items ≡ 7 }
+    requires one_short { LEAST_SLOTS ≤ length left.old.keys.items → length right.old.keys.items ≡ 7 }
     requires few { length (slot_pairs (S.records store.old) left.old.level
-        (left.old.keys.items ++ right.old.keys.items) (left.old.values.items ++ right.old.values.items)) < 4294967296 }
+        (left.old.keys.items ++ right.old.keys.items) (left.old.values.items ++ right.old.values.items)) < 2 ^ 32 }
     requires parent { length slots.old.keys.items ≡ length slots.old.values.items }
-    requires room_parent { length slots.old.keys.items ≤ 16 }
+    requires room_parent { length slots.old.keys.items ≤ MOST_SLOTS }
     requires first { suc first < length slots.old.keys.items }
     ensures settles { OnOk result (Settles (S.ledger store.old) (S.ledger store.new) (S.records store.old) (S.records store.new) left.old.level
         (slot_pairs (S.records store.old) left.old.level
         (left.old.keys.items ++ right.old.keys.items) (left.old.values.items ++ right.old.values.items))
         (slot_nodes (S.records store.old) left.old.level (left.old.values.items ++ right.old.values.items))
         first 2 slots.old.keys.items slots.old.values.items slots.new.keys.items slots.new.values.items) }
-    ensures full { (w a h : ℕ) → result ≡ Err (StoreError.Full w a h) → (w ≡ 34) × IsFull (S.ledger store.new) w a h }
+    ensures full { (w a h : ℕ) → result ≡ Err (StoreError.Full w a h) → (w ≡ NODE_WORDS) × IsFull (S.ledger store.new) w a h }
     ensures refused { OnErr result (MakesNodes (S.ledger store.old) (S.ledger store.new) (S.records store.old) (S.records store.new) 1) }
     ensures level { slots.new.level ≡ slots.old.level }
 {
-    if left.keys.len() + right.keys.len() < 16 {
+    if left.keys.len() + right.keys.len() < MOST_SLOTS {
         merge(store, slots, first, left, right)
     } else {
         share(store, slots, first, left, right)

@@ -1,6 +1,6 @@
-ghost use Rattle.std.specs.Prelude.{◌≡◌, ◌≤◌, ◌<◌, ◌++◌, ◌∷◌, [], true, length, slice_index, suc, OnOk, OnErr, ℕ};
+ghost use Rattle.std.specs.Prelude.{◌≡◌, ◌^◌, ◌≤◌, ◌<◌, ◌++◌, ◌∷◌, [], true, length, slice_index, suc, OnOk, OnErr, ℕ};
 ghost use Rattle.store_api.specs.Ledgers.{IsFull};
-ghost use Rattle.tree_node.specs.Makes.{MakesNodes};
+ghost use Rattle.tree_make.specs.Makes.{MakesNodes};
 ghost use Rattle.tree_node.specs.Slots.{slot_pairs, IsInHand};
 ghost use Rattle.tree_remove.specs.Removes.{IsChild, PutsBack, spliced};
 
@@ -9,10 +9,12 @@ use frozen_api::Frozen;
 use arrayvec::ArrayVec;
 use entry_ref::EntryRef;
 use store_api::{Store, StoreError};
-use tree_node::{Slots, make_part, read_node};
+use tree_images::{LEAST_SLOTS, MOST_SLOTS, NODE_WORDS};
+use tree_make::make_part;
+use tree_node::{Slots, read_node};
 
 /// Reads a child of a node in hand, and adds it to the nodes that are replaced.
-fn read_child<F: Frozen>(
+fn read_child<const OFFSET_BITS: u32, F: Frozen<OFFSET_BITS>>(
     frozen: &mut F,
     slots: &Slots,
     place: usize,
@@ -35,7 +37,7 @@ fn read_child<F: Frozen>(
 
 /// Makes a child in hand, with a sibling where it has only 7 slots, and sets their slots in the parent. The
 /// sibling is added to the nodes that are replaced.
-pub fn put_back<S: Store>(
+pub fn put_back<const OFFSET_BITS: u32, S: Store<OFFSET_BITS>>(
     store: &mut S,
     slots: &mut Slots,
     place: usize,
@@ -48,21 +50,21 @@ pub fn put_back<S: Store>(
     requires parent { IsInHand (S.records store.old) (suc child.old.level) slots.old.keys.items slots.old.values.items }
     requires place { place < length slots.old.keys.items }
     requires many { 2 ≤ length slots.old.keys.items }
-    requires room_parent { length slots.old.keys.items ≤ 16 }
+    requires room_parent { length slots.old.keys.items ≤ MOST_SLOTS }
     requires hand { IsInHand (S.records store.old) child.old.level child.old.keys.items child.old.values.items }
     requires least { 7 ≤ length child.old.keys.items }
-    requires room { length child.old.keys.items ≤ 16 }
+    requires room { length child.old.keys.items ≤ MOST_SLOTS }
     requires few { length (spliced (S.records store.old) child.old.level place slots.old.keys.items slots.old.values.items
-        (slot_pairs (S.records store.old) child.old.level child.old.keys.items child.old.values.items)) < 4294967296 }
+        (slot_pairs (S.records store.old) child.old.level child.old.keys.items child.old.values.items)) < 2 ^ 32 }
     requires room_replaced { length replaced.old.items < 16 }
     ensures puts { OnOk result (PutsBack (S.ledger store.old) (S.ledger store.new) (S.records store.old) (S.records store.new)
         child.old.level place slots.old.keys.items slots.old.values.items child.old.keys.items child.old.values.items
         replaced.old.items replaced.new.items slots.new.keys.items slots.new.values.items) }
-    ensures full { (w a h : ℕ) → result ≡ Err (StoreError.Full w a h) → (w ≡ 34) × IsFull (S.ledger store.new) w a h }
+    ensures full { (w a h : ℕ) → result ≡ Err (StoreError.Full w a h) → (w ≡ NODE_WORDS) × IsFull (S.ledger store.new) w a h }
     ensures refused { OnErr result (MakesNodes (S.ledger store.old) (S.ledger store.new) (S.records store.old) (S.records store.new) 1) }
     ensures level { slots.new.level ≡ slots.old.level }
 {
-    if child.keys.len() >= 8 {
+    if child.keys.len() >= LEAST_SLOTS {
         let part = make_part(store, child)?;
         set_part(slots, place, part);
         return Ok(());

@@ -7,7 +7,8 @@ use Rattle.tree_images.specs.ProofsForTrees.{SameAt-left, SameAt-right, flat_map
 use Rattle.tree_images.specs.Trees.{pairs_below, nodes_below, root_level, tree_nodes, IsNode}
 use Rattle.tree_search.specs.Steps.{Step}
 use Rattle.tree_search.specs.Places.{Place, LeadsTo, pairs_behind, HasPair, pairs_from, IsInLeaf, IsAt}
-use Rattle.tree_search.proofs.NodeLemmas.{get_or-node_values, values-size}
+use Rattle.tree_node.proofs.RootLemmas.{tree_nodes-at}
+use Rattle.tree_node.proofs.ChildLemmas.{get_or-node_values, values-size}
 use Rattle.tree_search.proofs.PlaceLemmas.{path-node, root_node, pairs_from-some, pairs_from-none}
 
 SameAt-child : (m n : Records) (f : ℕ → List ℕ) (cs : List ℕ) (i : ℕ) → i < length cs → SameAt (flat_map f cs) m n → SameAt (f (get_or cs i 0)) m n
@@ -54,13 +55,9 @@ module _ (m n : Records) (top root : ℕ) (node : IsNode m 1 top root) (same : S
       ∙ ap (λ ps. ps ++ pairs_behind n (suc level) path) (flat_map-same m n (nodes_below m level) (pairs_below m level) (pairs_below n level) (pairs-same m n level) vs all)
       ∙ ap (λ ps. flat_map (pairs_below m level) vs ++ ps) (behind_same path (suc level) step.node leads.2)
 
-tree_nodes-some : (m : Records) (root : ℕ) → 0 < root → tree_nodes m root ≡ nodes_below m (root_level m root) root
-tree_nodes-some m zero some = absurd (omega arith)
-tree_nodes-some m (suc ref) some = refl
-
 module _ (m n : Records) (at : Place) (same : SameAt (tree_nodes m at.root) m n) where
   nodes_same : 0 < at.root → SameAt (nodes_below m (root_level m at.root) at.root) m n
-  nodes_same some = subst (λ qs. SameAt qs m n) (tree_nodes-some m at.root some) same
+  nodes_same some = subst (λ qs. SameAt qs m n) (tree_nodes-at m at.root some) same
 
   leaf_same : IsInLeaf m at → SameAt (nodes_below m 0 at.leaf) m n
   leaf_same it =

@@ -1,5 +1,5 @@
 -- Places: how they move, and that they stay.
-use Rattle.std.proofs.Common.{◌≡◌, ℕ, zero, suc, ◌+◌, ◌-◌, ◌<◌, ◌≤◌, List, [], ◌∷◌, ◌++◌, length, drop, refl, sym, ap, subst, ◌∙◌, arith, if◌then◌else◌, nat_lt, lt-ltb, le-ltb, leb, leb-true, leb-false, IsTrue, Bool, true, false}
+use Rattle.std.proofs.Common.{append_assoc, ◌≡◌, ℕ, zero, suc, ◌+◌, ◌-◌, ◌<◌, ◌≤◌, List, [], ◌∷◌, ◌++◌, length, drop, refl, sym, ap, subst, ◌∙◌, arith, if◌then◌else◌, nat_lt, lt-ltb, le-ltb, leb, leb-true, leb-false, IsTrue, Bool, true, false}
 use Rattle.std.specs.List.{flat_map}
 use Rattle.image_base.specs.Records.{Records, HasWord, word_at}
 use Rattle.tree_images.specs.Nodes.{level_of, used_of, count_of, node_values}
@@ -7,7 +7,7 @@ use Rattle.tree_images.specs.Trees.{pairs_below, root_level, root_least, tree_pa
 use Rattle.tree_images.proofs.TreeLemmas.{IsNode-form}
 use Rattle.tree_search.specs.Steps.{Step}
 use Rattle.tree_search.specs.Places.{Place, LeadsTo, Leads, pairs_behind, HasPair, pairs_from, IsAt}
-use Rattle.tree_search.proofs.NodeLemmas.{IsNode-lower, child-node, children, children-from, children-past, leaf-from, leaf-past}
+use Rattle.tree_node.proofs.ChildLemmas.{IsNode-lower, child-node, children, children-from, children-past, leaf-from, leaf-past}
 
 root_some : (level : ℕ) → 0 < root_least level
 root_some zero = omega arith
@@ -49,10 +49,6 @@ pub root_pairs : (m : Records) (root : ℕ) → 0 < root → IsRootNode m root �
 root_pairs m zero some tree = absurd (omega arith)
 root_pairs m (suc ref) some tree = ap (λ l. pairs_below m l (suc ref)) (sym (IsNode-form m (root_least (root_level m (suc ref))) (root_level m (suc ref)) (suc ref) tree).at_level)
 
-again : {A : Type 0} (xs ys zs : List A) → (xs ++ ys) ++ zs ≡ xs ++ (ys ++ zs)
-again [] ys zs = refl
-again (x ∷ xs) ys zs = ap (λ l. x ∷ l) (again xs ys zs)
-
 module _ (m : Records) (root : ℕ) (path : List Step) (node slot child : ℕ) (leads : Leads m root path node) (above : 0 < level_of (m node)) (low : slot < used_of (m node))
     (is : child ≡ word_at m node (18 + slot)) where
   up : level_of (m node) ≡ suc (level_of (m node) - 1)
@@ -83,7 +79,7 @@ module _ (m : Records) (root : ℕ) (path : List Step) (node slot child : ℕ) (
       let vs = drop (suc slot) (node_values (m node)) in
       ap (λ k. ps ++ (flat_map (pairs_below m k) vs ++ pairs_behind m (suc k) path)) child-level
       ∙ ap (λ k. ps ++ (flat_map (pairs_below m l) vs ++ pairs_behind m k path)) (sym up)
-      ∙ sym (again ps (flat_map (pairs_below m l) vs) (pairs_behind m (level_of (m node)) path))
+      ∙ sym (append_assoc ps (flat_map (pairs_below m l) vs) (pairs_behind m (level_of (m node)) path))
 
   -- the pairs from the child on
   pub from-child : pairs_below m (level_of (m child)) child ++ pairs_behind m (level_of (m child)) (record { node = node; slot = slot } ∷ path)

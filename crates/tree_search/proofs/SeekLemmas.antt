@@ -1,6 +1,6 @@
 -- The way down to the place of a key.
-use Rattle.std.proofs.Common.{◌≡◌, ℕ, zero, suc, ◌+◌, ◌-◌, ◌<◌, ◌≤◌, List, [], ◌∷◌, ◌++◌, length, get_or, take, drop, map, refl, sym, ap, subst, ◌∙◌, arith}
-use Rattle.std.proofs.lemmas.List.{append-nil}
+use Rattle.std.proofs.Common.{◌≡◌, ◌≢◌, ℕ, zero, suc, ◌+◌, ◌-◌, ◌<◌, ◌≤◌, List, [], ◌∷◌, ◌++◌, length, get_or, take, drop, map, refl, sym, ap, subst, ◌∙◌, arith}
+use Rattle.std.proofs.lemmas.List.{append-nil, take_all}
 use Rattle.std.specs.Cmp.{IsTotalOrder}
 use Rattle.std.specs.declared.cmp.Ordering.{Ordering}
 use Rattle.std.specs.declared.cmp.Ordering.TheVariants.{Less}
@@ -15,20 +15,30 @@ use Rattle.key_order.specs.Pairs.{seek}
 use Rattle.key_order.proofs.PairLemmas.{seek-below}
 use Rattle.tree_search.specs.Steps.{Step}
 use Rattle.tree_search.specs.Places.{Leads, pairs_behind, pairs_from}
-use Rattle.tree_search.specs.Slots.{IsFirstSlot}
-use Rattle.tree_search.proofs.NodeLemmas.{All-last, leaf_pairs, get_or-node_keys, children, values-size, child-last, child-all, child-ascends, front-below, child-seek, leaf-seek, pairs-some}
+use Rattle.tree_node.specs.Places.{IsSlot}
+use Rattle.tree_node.proofs.ChildLemmas.{keys-length, All-last, leaf_pairs, get_or-node_keys, children, values-size, child-last, child-all, child-ascends, front-below, child-seek, leaf-seek, pairs-some}
 use Rattle.tree_search.proofs.PlaceLemmas.{leads-node, leads-root, leads-child, child-level, behind-child, root_pairs, at-slot}
+
+-- the first slot whose key is not below the one sought, by the words of a node
+pub record IsFirstSlot (c : ℕ → Ordering) (ws : List ℕ) (slot : ℕ) : Type 0 where
+  pub within : slot ≤ used_of ws
+  pub before : (j : ℕ) → j < slot → c (get_or ws (2 + j) 0) ≡ Less
+  pub at : slot < used_of ws → c (get_or ws (2 + slot) 0) ≢ Less
+
+pub first-words : (c : ℕ → Ordering) (m : Records) (least level ref slot : ℕ) → IsNode m least level ref → IsSlot c (node_keys (m ref)) slot → IsFirstSlot c (m ref) slot
+first-words c m least level ref slot node is =
+    let size = keys-length m least level ref node in
+    let within = is.within in
+    record {
+      within = omega arith;
+      before = λ j h. ap c (sym (get_or-node_keys (m ref) j (omega arith))) ∙ is.before j h;
+      at = λ low e. is.at (omega arith) (ap c (get_or-node_keys (m ref) slot low) ∙ e);
+    }
 
 zip-below : (c : ℕ → Ordering) (ks vs : List ℕ) → ((j : ℕ) → j < length ks → c (get_or ks j 0) ≡ Less) → AllBelow c (zip ks vs)
 zip-below c [] vs before = tt
 zip-below c (k ∷ ks) [] before = tt
 zip-below c (k ∷ ks) (v ∷ vs) before = (before 0 (omega arith), zip-below c ks vs (λ j h. before (suc j) (omega arith)))
-
-take-whole : (xs : List ℕ) (i : ℕ) → length xs ≤ i → take i xs ≡ xs
-take-whole [] zero h = refl
-take-whole [] (suc i) h = refl
-take-whole (x ∷ xs) zero h = absurd (omega arith)
-take-whole (x ∷ xs) (suc i) h = ap (λ ys. x ∷ ys) (take-whole xs i (omega arith))
 
 module _ {V : Type 0} (order : V → V → Ordering) (total : IsTotalOrder order) (reads : ℕ → V) (s : V) (m : Records) where
   -- where the keys of all slots are below, all pairs are
@@ -42,7 +52,7 @@ module _ {V : Type 0} (order : V → V → Ordering) (total : IsTotalOrder order
   all-below least (suc level) ref node up before =
       let size = values-size m least (suc level) level ref refl node in
       subst (AllBelow (λ k. order (reads k) s)) (sym (children m least (suc level) level ref refl node))
-      (subst (λ vs. AllBelow (λ k. order (reads k) s) (flat_map (pairs_below m level) vs)) (take-whole (node_values (m ref)) (used_of (m ref)) (omega arith))
+      (subst (λ vs. AllBelow (λ k. order (reads k) s) (flat_map (pairs_below m level) vs)) (take_all (used_of (m ref)) (node_values (m ref)) (omega arith))
       (front-below m least (suc level) level ref refl node order reads up total s (used_of (m ref)) (omega arith) before))
 
   -- the key is sought below a node that a path leads to

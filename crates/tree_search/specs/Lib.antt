@@ -1,4 +1,2 @@
 pub mod Steps
-pub mod Slots
 pub mod Places
-pub mod Examples

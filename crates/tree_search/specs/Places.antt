@@ -5,6 +5,7 @@ use Rattle.image_base.specs.Records.{Records, word_at}
 use Rattle.tree_images.specs.Nodes.{level_of, used_of, node_values}
 use Rattle.tree_images.specs.Trees.{pairs_below, root_level, IsRootNode}
 use Rattle.tree_search.specs.Steps.{Step}
+use Rattle.tree_images.specs.declared.TheConstants.{FIRST_VALUE}
 
 -- a slot of a leaf; above the leaf, from the lowest up, the nodes with the slots that lead to it. The leaf has so many slots used; at the end, past all pairs, the slot is not below
 pub record Place : Type 0 where
@@ -17,7 +18,7 @@ pub record Place : Type 0 where
 -- a path leads from the root, which is of level top, down to a node of a level
 abbrev pub LeadsTo : Records → ℕ → ℕ → List Step → ℕ → ℕ → Type 0
 LeadsTo m top root [] level ref = (level ≡ top) × (ref ≡ root)
-LeadsTo m top root (step ∷ path) level ref = (step.slot < used_of (m step.node)) × (ref ≡ word_at m step.node (18 + step.slot)) × LeadsTo m top root path (suc level) step.node
+LeadsTo m top root (step ∷ path) level ref = (step.slot < used_of (m step.node)) × (ref ≡ word_at m step.node (FIRST_VALUE + step.slot)) × LeadsTo m top root path (suc level) step.node
 
 -- it leads down to a node of a tree
 pub record Leads (m : Records) (root : ℕ) (path : List Step) (ref : ℕ) : Type 0 where

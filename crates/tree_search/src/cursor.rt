@@ -6,12 +6,13 @@ ghost use Rattle.key_order.specs.Keys.{AllReadable, seen_by};
 ghost use Rattle.key_order.specs.Pairs.{seek};
 ghost use Rattle.tree_search.specs.Places.{Leads, pairs_behind, pairs_from, IsAt, HasPair, first_key, first_value};
 
-use crate::node::{child_at, first_slot, read_head};
 use crate::path::Path;
 use frozen_api::Frozen;
 use entry_ref::EntryRef;
 use key_order::KeyOrder;
 use std::marker::Model;
+use tree_images::{FIRST_KEY, FIRST_VALUE};
+use tree_node::{child_at, first_slot, read_head};
 
 /// A place before a pair of a tree, or at the end of it.
 #[derive(Drop)]
@@ -130,7 +131,7 @@ impl<const OFFSET_BITS: u32> Cursor<OFFSET_BITS> {
         ensures key { result ≡ first_key (pairs_from (F.records frozen.old) self.now) }
         ensures same { frozen.new ≡ frozen.old }
     {
-        frozen.word(self.leaf, 2 + self.slot)
+        frozen.word(self.leaf, FIRST_KEY as u32 + self.slot)
     }
 
     /// The value of the pair that follows.
@@ -140,7 +141,7 @@ impl<const OFFSET_BITS: u32> Cursor<OFFSET_BITS> {
         ensures value { result ≡ first_value (pairs_from (F.records frozen.old) self.now) }
         ensures same { frozen.new ≡ frozen.old }
     {
-        frozen.word(self.leaf, 18 + self.slot)
+        frozen.word(self.leaf, FIRST_VALUE as u32 + self.slot)
     }
 
     /// Goes on behind one pair.

@@ -3,13 +3,9 @@
 
 mod cursor;
 mod laws;
-mod node;
 mod path;
 mod search;
 
 pub use cursor::Cursor;
 pub use laws::{place_law, search_law};
 pub use search::{find, total};
-
-#[cfg(test)]
-mod tests;

@@ -1,5 +1,5 @@
 use Rattle.std.proofs.Common.{◌≤◌, length, sym, subst, arith}
-use Rattle.frozen_btree.specs.Maps.{beside}
+use Rattle.number_tree.specs.Maps.{beside}
 use Rattle.bench_work.proofs.LengthLemmas.{taken-shorter}
 use Rattle.bench_work.proofs.tree_run.take_out.Goals as goal
 

@@ -1,86 +1,38 @@
-use Rattle.std.proofs.Common.{Err, ◌≡◌, ◌<◌, ◌≤◌, ◌-◌, ◌++◌, ℕ, suc, List, [], ◌∷◌, length, get_or, take, drop, ◌*◌, true, sym, ap, subst, ◌∙◌, arith}
+use Rattle.std.proofs.Common.{rules, Err, ◌≡◌, ◌<◌, ◌≤◌, ◌-◌, ◌++◌, ℕ, suc, List, [], ◌∷◌, length, get_or, take, drop, ◌*◌, true, sym, ap, subst, ◌∙◌, arith, ◌+◌, ◌^◌}
 use Rattle.std.specs.List.{AllByRecursion}
-use Rattle.tree_images.specs.Nodes.{node_keys, node_values}
+use Rattle.list_facts.proofs.Errors.{same_error}
+use Rattle.tree_images.specs.Nodes.{level_of, used_of, node_keys, node_values}
 use Rattle.tree_images.specs.Trees.{pairs_below, IsNode}
 use Rattle.tree_images.proofs.TreeLemmas.{IsNode-form}
+use Rattle.tree_make.proofs.Results.{if_ok-then}
+use Rattle.tree_node.proofs.ChildLemmas.{IsNode-lower, keys-length}
+use Rattle.tree_node.proofs.ReadLemmas.{node-even, node-keys-all}
 use Rattle.key_order.specs.Keys.{seen_by, Ascends, AllReadable}
 use Rattle.tree_node.specs.Places.{IsPlace}
-use Rattle.tree_node.specs.Makes.{MakesNodes}
+use Rattle.tree_make.specs.Makes.{MakesNodes}
 use Rattle.tree_node.specs.Slots.{slot_pairs, IsInHand}
 use Rattle.tree_insert.specs.Inserts.{Inserts}
 use Rattle.tree_insert.specs.Parts.{MakesParts, part_keys, part_nodes}
-use Rattle.tree_insert.proofs.OkLemmas.{ok_then, err_same}
-use Rattle.tree_insert.proofs.PartsLemmas.{node-lower}
-use Rattle.tree_insert.proofs.BelowLemmas.{even-node, used-read, keys-node, child-node, child-all, child-ascends, child-few, over-hand, over-few, over-most, over-inserts}
+use Rattle.tree_insert.proofs.BelowLemmas.{child-node, child-all, child-ascends, child-few, over-hand, over-few, over-most, over-inserts}
 use Rattle.tree_insert.proofs.below.+insert_below.Goals as goal
 
-pub read_node-slots-requires-clause-size : goal.read_node-slots-requires-clause-size
-read_node-slots-requires-clause-size g t c =
-    let s = c.args.store.now in
-    let m = g.S.Frozen.records s in
-    let node = c.args.node in
-    let l = c.args.level - 1 in
-    let up : c.args.level ≡ suc l = (let other = c.if-level-eq0.false in omega arith) in
-    let is : IsNode m 1 (suc l) node = subst (λ k. IsNode m 1 k node) up c.requires.node in
-    let form = IsNode-form m 1 (suc l) node is in
-    let ks = node_keys (m node) in
-    let vs = node_values (m node) in
-    let even = even-node m 1 (suc l) node is in
-    let used = used-read m 1 (suc l) node is in
-    form.size
+pub read_node-slots-requires : goal.read_node-slots-requires
+read_node-slots-requires g t c =
+    let form = IsNode-form (g.S.Frozen.records c.args.store.now) 1 c.args.level c.args.node c.requires.node in
+    (omega arith, (form.size, form.room))
 
-pub read_node-slots-requires-clause-room : goal.read_node-slots-requires-clause-room
-read_node-slots-requires-clause-room g t c =
-    let s = c.args.store.now in
-    let m = g.S.Frozen.records s in
+pub place_of-place-requires : goal.place_of-place-requires
+place_of-place-requires g t c =
+    let m = g.S.Frozen.records c.args.store.now in
     let node = c.args.node in
-    let l = c.args.level - 1 in
-    let up : c.args.level ≡ suc l = (let other = c.if-level-eq0.false in omega arith) in
-    let is : IsNode m 1 (suc l) node = subst (λ k. IsNode m 1 k node) up c.requires.node in
-    let form = IsNode-form m 1 (suc l) node is in
-    let ks = node_keys (m node) in
-    let vs = node_values (m node) in
-    let even = even-node m 1 (suc l) node is in
-    let used = used-read m 1 (suc l) node is in
-    form.room
-
-pub place_of-place-requires-clause-readable : goal.place_of-place-requires-clause-readable
-place_of-place-requires-clause-readable g t c =
-    let s = c.args.store.now in
-    let m = g.S.Frozen.records s in
-    let node = c.args.node in
-    let l = c.args.level - 1 in
-    let up : c.args.level ≡ suc l = (let other = c.if-level-eq0.false in omega arith) in
-    let is : IsNode m 1 (suc l) node = subst (λ k. IsNode m 1 k node) up c.requires.node in
-    let form = IsNode-form m 1 (suc l) node is in
-    let ks = node_keys (m node) in
-    let vs = node_values (m node) in
-    let even = even-node m 1 (suc l) node is in
-    let used = used-read m 1 (suc l) node is in
+    let can = g.K.KeyOrder.can_read in
+    let level = (IsNode-form m 1 c.args.level node c.requires.node).at_level in
     let read = c.read_node-slots.ensures in
-    let slots = c.read_node-slots.result in
-    let readable : AllReadable g.K.KeyOrder.can_read m (pairs_below m (suc l) node) = subst (λ k. AllReadable g.K.KeyOrder.can_read m (pairs_below m k node)) up c.requires.readable in
-    subst (λ f. AllByRecursion (g.K.KeyOrder.can_read (g.S.Frozen.records f)) c.deref.result.now) (sym read.same)
-    (subst (AllByRecursion (g.K.KeyOrder.can_read m)) (sym (c.deref.ensures.0 ∙ read.keys)) (keys-node (g.K.KeyOrder.can_read m) m 1 (suc l) node is readable))
-
-pub place_of-place-requires-clause-some : goal.place_of-place-requires-clause-some
-place_of-place-requires-clause-some g t c =
-    let s = c.args.store.now in
-    let m = g.S.Frozen.records s in
-    let node = c.args.node in
-    let l = c.args.level - 1 in
-    let up : c.args.level ≡ suc l = (let other = c.if-level-eq0.false in omega arith) in
-    let is : IsNode m 1 (suc l) node = subst (λ k. IsNode m 1 k node) up c.requires.node in
-    let form = IsNode-form m 1 (suc l) node is in
-    let ks = node_keys (m node) in
-    let vs = node_values (m node) in
-    let even = even-node m 1 (suc l) node is in
-    let used = used-read m 1 (suc l) node is in
-    let read = c.read_node-slots.ensures in
-    let slots = c.read_node-slots.result in
-    let filled = form.filled in
-    let size : length c.deref.result.now ≡ length ks = ap length (c.deref.ensures.0 ∙ read.keys) in
-    omega arith
+    (omega arith, (
+    subst (λ f. IsNode (g.S.Frozen.records f) 1 (level_of (g.S.Frozen.records f node)) node) (sym read.same) (subst (λ l. IsNode m 1 l node) (sym level) c.requires.node),
+    (c.len-used.ensures.value ∙ ap length read.keys ∙ keys-length m 1 c.args.level node c.requires.node ∙ ap (λ f. used_of (g.S.Frozen.records f node)) (sym read.same),
+    subst (λ f. AllReadable can (g.S.Frozen.records f) (pairs_below (g.S.Frozen.records f) (level_of (g.S.Frozen.records f node)) node)) (sym read.same)
+    (subst (λ l. AllReadable can m (pairs_below m l node)) (sym level) c.requires.readable))))
 
 pub bounds-deref-place : goal.bounds-deref-place
 bounds-deref-place g t c =
@@ -93,8 +45,8 @@ bounds-deref-place g t c =
     let form = IsNode-form m 1 (suc l) node is in
     let ks = node_keys (m node) in
     let vs = node_values (m node) in
-    let even = even-node m 1 (suc l) node is in
-    let used = used-read m 1 (suc l) node is in
+    let even = node-even m 1 (suc l) node is in
+    let used = keys-length m 1 (suc l) node is in
     let read = c.read_node-slots.ensures in
     let slots = c.read_node-slots.result in
     let key = g.K.KeyOrder in
@@ -102,12 +54,11 @@ bounds-deref-place g t c =
     let seen = seen_by key.read key.order sought m in
     let i = c.place_of-place.result in
     let same : c.place_of-place.new.frozen ≡ s = c.place_of-place.ensures.same ∙ read.same in
-    let keys : c.deref.result.now ≡ ks = c.deref.ensures.0 ∙ read.keys in
     let place : IsPlace seen ks i =
-    subst (λ (xs : List ℕ). IsPlace seen xs i) keys (subst (λ f. IsPlace (seen_by key.read key.order sought (g.S.Frozen.records f)) c.deref.result.now i) read.same c.place_of-place.ensures.place) in
+    subst (λ f. IsPlace (seen_by key.read key.order sought (g.S.Frozen.records f)) (node_keys (g.S.Frozen.records f node)) i) read.same c.place_of-place.ensures.place in
     let within = place.within in
     let low : i < length vs = omega arith in
-    let size : length c.deref-2.result.now ≡ length vs = ap length (c.deref-2.ensures.0 ∙ read.values) in
+    let size : length c.deref.result.now ≡ length vs = ap length (c.deref.ensures.0 ∙ read.values) in
     omega arith
 
 pub overflow_cast-deref : goal.overflow_cast-deref
@@ -121,8 +72,8 @@ overflow_cast-deref g t c =
     let form = IsNode-form m 1 (suc l) node is in
     let ks = node_keys (m node) in
     let vs = node_values (m node) in
-    let even = even-node m 1 (suc l) node is in
-    let used = used-read m 1 (suc l) node is in
+    let even = node-even m 1 (suc l) node is in
+    let used = keys-length m 1 (suc l) node is in
     let read = c.read_node-slots.ensures in
     let slots = c.read_node-slots.result in
     let key = g.K.KeyOrder in
@@ -130,14 +81,13 @@ overflow_cast-deref g t c =
     let seen = seen_by key.read key.order sought m in
     let i = c.place_of-place.result in
     let same : c.place_of-place.new.frozen ≡ s = c.place_of-place.ensures.same ∙ read.same in
-    let keys : c.deref.result.now ≡ ks = c.deref.ensures.0 ∙ read.keys in
     let place : IsPlace seen ks i =
-    subst (λ (xs : List ℕ). IsPlace seen xs i) keys (subst (λ f. IsPlace (seen_by key.read key.order sought (g.S.Frozen.records f)) c.deref.result.now i) read.same c.place_of-place.ensures.place) in
+    subst (λ f. IsPlace (seen_by key.read key.order sought (g.S.Frozen.records f)) (node_keys (g.S.Frozen.records f node)) i) read.same c.place_of-place.ensures.place in
     let within = place.within in
     let low : i < length vs = omega arith in
-    let child : get_or c.deref-2.result.now i 0 ≡ get_or vs i 0 = ap (λ (xs : List ℕ). get_or xs i 0) (c.deref-2.ensures.0 ∙ read.values) in
+    let child : get_or c.deref.result.now i 0 ≡ get_or vs i 0 = ap (λ (xs : List ℕ). get_or xs i 0) (c.deref.ensures.0 ∙ read.values) in
     let size : length (m (get_or vs i 0)) ≡ 34 = (IsNode-form m 8 l (get_or vs i 0) (child-node m 1 l node i is low)).size in
-    let small : get_or vs i 0 < 4294967296 = g.met.S.Frozen.references s (get_or vs i 0) (omega arith) in
+    let small : get_or vs i 0 < 2 ^ 32 = g.met.S.Frozen.references s (get_or vs i 0) (omega arith) in
     omega arith
 
 pub insert_below-requires : goal.insert_below-requires
@@ -151,8 +101,8 @@ insert_below-requires g t c =
     let form = IsNode-form m 1 (suc l) node is in
     let ks = node_keys (m node) in
     let vs = node_values (m node) in
-    let even = even-node m 1 (suc l) node is in
-    let used = used-read m 1 (suc l) node is in
+    let even = node-even m 1 (suc l) node is in
+    let used = keys-length m 1 (suc l) node is in
     let read = c.read_node-slots.ensures in
     let slots = c.read_node-slots.result in
     let key = g.K.KeyOrder in
@@ -160,59 +110,37 @@ insert_below-requires g t c =
     let seen = seen_by key.read key.order sought m in
     let i = c.place_of-place.result in
     let same : c.place_of-place.new.frozen ≡ s = c.place_of-place.ensures.same ∙ read.same in
-    let keys : c.deref.result.now ≡ ks = c.deref.ensures.0 ∙ read.keys in
     let place : IsPlace seen ks i =
-    subst (λ (xs : List ℕ). IsPlace seen xs i) keys (subst (λ f. IsPlace (seen_by key.read key.order sought (g.S.Frozen.records f)) c.deref.result.now i) read.same c.place_of-place.ensures.place) in
+    subst (λ f. IsPlace (seen_by key.read key.order sought (g.S.Frozen.records f)) (node_keys (g.S.Frozen.records f node)) i) read.same c.place_of-place.ensures.place in
     let within = place.within in
     let low : i < length vs = omega arith in
     let q = c.from_raw-child.result in
-    let child : q ≡ get_or vs i 0 = c.from_raw-child.ensures ∙ ap (λ (xs : List ℕ). get_or xs i 0) (c.deref-2.ensures.0 ∙ read.values) in
+    let child : q ≡ get_or vs i 0 = c.from_raw-child.ensures ∙ ap (λ (xs : List ℕ). get_or xs i 0) (c.deref.ensures.0 ∙ read.values) in
     let readable : AllReadable key.can_read m (pairs_below m (suc l) node) = subst (λ k. AllReadable key.can_read m (pairs_below m k node)) up c.requires.readable in
     let ascends : Ascends key.order key.read m (pairs_below m (suc l) node) = subst (λ k. Ascends key.order key.read m (pairs_below m k node)) up c.requires.ascends in
-    let most : length (pairs_below m (suc l) node) < 4294967295 = subst (λ k. length (pairs_below m k node) < 4294967295) up c.requires.few in
+    let most : length (pairs_below m (suc l) node) + 1 < 2 ^ 32 = subst (λ k. length (pairs_below m k node) + 1 < 2 ^ 32) up c.requires.few in
     let fewer = child-few m 1 l node i is low in
-    let here : length (pairs_below m l (get_or vs i 0)) < 4294967295 = omega arith in
-    let lower = node-lower m 1 8 l (get_or vs i 0) (let e : 1 ≤ 8 = omega arith in e) (child-node m 1 l node i is low) in
+    let here : length (pairs_below m l (get_or vs i 0)) + 1 < 2 ^ 32 = omega arith in
+    let lower = IsNode-lower m 8 1 l (get_or vs i 0) (let e : 1 ≤ 8 = omega arith in e) (child-node m 1 l node i is low) in
     let size = c.push.ensures.len in
     let room = c.requires.room in
     let at_most = c.requires.low in
     λ κs h. (
-      omega arith,
-      (
-        h.0,
-        (
-          h.1.0,
-          (
-            h.1.1.0,
-            (
-              h.1.1.1.0,
-              (
-                h.1.1.1.1,
-                (
-                  subst (λ f. (g.S.Store.ledger f).unit ≡ true) (sym same) c.requires.unit,
-                  (
-                    omega arith,
-                    (
-                      subst (λ f. IsNode (g.S.Frozen.records f) 1 l q) (sym same) (subst (λ r. IsNode m 1 l r) (sym child) lower),
-                      (
-                        subst (λ f. Ascends key.order key.read (g.S.Frozen.records f) (pairs_below (g.S.Frozen.records f) l q)) (sym same) (subst (λ r. Ascends key.order key.read m (pairs_below m l r)) (sym child) (child-ascends m 1 l node i is low key.order key.read ascends)),
-                        (
-                          subst (λ f. AllReadable key.can_read (g.S.Frozen.records f) (pairs_below (g.S.Frozen.records f) l q)) (sym same) (subst (λ r. AllReadable key.can_read m (pairs_below m l r)) (sym child) (child-all m 1 l node i is low (λ (p : ℕ × ℕ). key.can_read m p.0) readable)),
-                          (
-                            subst (λ f. length (pairs_below (g.S.Frozen.records f) l q) < 4294967295) (sym same) (subst (λ r. length (pairs_below m l r) < 4294967295) (sym child) here),
-                            omega arith,
-                          ),
-                        ),
-                      ),
-                    ),
-                  ),
-                ),
-              ),
-            ),
-          ),
-        ),
-      ),
-    )
+      omega arith, (
+      search rules, (
+      h.0, (
+      h.1.0, (
+      h.1.1.0, (
+      h.1.1.1.0, (
+      h.1.1.1.1, (
+      omega arith, (
+      subst (λ f. (g.S.Store.ledger f).unit ≡ true) (sym same) c.requires.unit, (
+      omega arith, (
+      subst (λ f. IsNode (g.S.Frozen.records f) 1 l q) (sym same) (subst (λ r. IsNode m 1 l r) (sym child) lower), (
+      subst (λ f. Ascends key.order key.read (g.S.Frozen.records f) (pairs_below (g.S.Frozen.records f) l q)) (sym same) (subst (λ r. Ascends key.order key.read m (pairs_below m l r)) (sym child) (child-ascends m 1 l node i is low key.order key.read ascends)), (
+      subst (λ f. AllReadable key.can_read (g.S.Frozen.records f) (pairs_below (g.S.Frozen.records f) l q)) (sym same) (subst (λ r. AllReadable key.can_read m (pairs_below m l r)) (sym child) (child-all m 1 l node i is low (λ (p : ℕ × ℕ). key.can_read m p.0) readable)), (
+      subst (λ f. length (pairs_below (g.S.Frozen.records f) l q) + 1 < 2 ^ 32) (sym same) (subst (λ r. length (pairs_below m l r) + 1 < 2 ^ 32) (sym child) here), (
+      omega arith)))))))))))))))
 
 pub set_parts-requires-clause-even : goal.set_parts-requires-clause-even
 set_parts-requires-clause-even g t c =
@@ -225,8 +153,8 @@ set_parts-requires-clause-even g t c =
     let form = IsNode-form m 1 (suc l) node is in
     let ks = node_keys (m node) in
     let vs = node_values (m node) in
-    let even = even-node m 1 (suc l) node is in
-    let used = used-read m 1 (suc l) node is in
+    let even = node-even m 1 (suc l) node is in
+    let used = keys-length m 1 (suc l) node is in
     let read = c.read_node-slots.ensures in
     let slots = c.read_node-slots.result in
     ap length read.keys ∙ even ∙ sym (ap length read.values)
@@ -242,8 +170,8 @@ set_parts-requires-clause-room g t c =
     let form = IsNode-form m 1 (suc l) node is in
     let ks = node_keys (m node) in
     let vs = node_values (m node) in
-    let even = even-node m 1 (suc l) node is in
-    let used = used-read m 1 (suc l) node is in
+    let even = node-even m 1 (suc l) node is in
+    let used = keys-length m 1 (suc l) node is in
     let read = c.read_node-slots.ensures in
     let slots = c.read_node-slots.result in
     let size : length slots.keys.items ≡ length ks = ap length read.keys in
@@ -261,8 +189,8 @@ make_parts-requires-clause-low g t c =
     let form = IsNode-form m 1 (suc l) node is in
     let ks = node_keys (m node) in
     let vs = node_values (m node) in
-    let even = even-node m 1 (suc l) node is in
-    let used = used-read m 1 (suc l) node is in
+    let even = node-even m 1 (suc l) node is in
+    let used = keys-length m 1 (suc l) node is in
     let read = c.read_node-slots.ensures in
     let slots = c.read_node-slots.result in
     let key = g.K.KeyOrder in
@@ -270,13 +198,12 @@ make_parts-requires-clause-low g t c =
     let seen = seen_by key.read key.order sought m in
     let i = c.place_of-place.result in
     let same : c.place_of-place.new.frozen ≡ s = c.place_of-place.ensures.same ∙ read.same in
-    let keys : c.deref.result.now ≡ ks = c.deref.ensures.0 ∙ read.keys in
     let place : IsPlace seen ks i =
-    subst (λ (xs : List ℕ). IsPlace seen xs i) keys (subst (λ f. IsPlace (seen_by key.read key.order sought (g.S.Frozen.records f)) c.deref.result.now i) read.same c.place_of-place.ensures.place) in
+    subst (λ f. IsPlace (seen_by key.read key.order sought (g.S.Frozen.records f)) (node_keys (g.S.Frozen.records f node)) i) read.same c.place_of-place.ensures.place in
     let within = place.within in
     let low : i < length vs = omega arith in
     let q = c.from_raw-child.result in
-    let child : q ≡ get_or vs i 0 = c.from_raw-child.ensures ∙ ap (λ (xs : List ℕ). get_or xs i 0) (c.deref-2.ensures.0 ∙ read.values) in
+    let child : q ≡ get_or vs i 0 = c.from_raw-child.ensures ∙ ap (λ (xs : List ℕ). get_or xs i 0) (c.deref.ensures.0 ∙ read.values) in
     let pair : ℕ × ℕ = (c.args.word, c.args.value) in
     let t = c.insert_below.new.store in
     let n = g.S.Frozen.records t in
@@ -311,8 +238,8 @@ make_parts-requires-clause-hand g t c =
     let form = IsNode-form m 1 (suc l) node is in
     let ks = node_keys (m node) in
     let vs = node_values (m node) in
-    let even = even-node m 1 (suc l) node is in
-    let used = used-read m 1 (suc l) node is in
+    let even = node-even m 1 (suc l) node is in
+    let used = keys-length m 1 (suc l) node is in
     let read = c.read_node-slots.ensures in
     let slots = c.read_node-slots.result in
     let key = g.K.KeyOrder in
@@ -320,13 +247,12 @@ make_parts-requires-clause-hand g t c =
     let seen = seen_by key.read key.order sought m in
     let i = c.place_of-place.result in
     let same : c.place_of-place.new.frozen ≡ s = c.place_of-place.ensures.same ∙ read.same in
-    let keys : c.deref.result.now ≡ ks = c.deref.ensures.0 ∙ read.keys in
     let place : IsPlace seen ks i =
-    subst (λ (xs : List ℕ). IsPlace seen xs i) keys (subst (λ f. IsPlace (seen_by key.read key.order sought (g.S.Frozen.records f)) c.deref.result.now i) read.same c.place_of-place.ensures.place) in
+    subst (λ f. IsPlace (seen_by key.read key.order sought (g.S.Frozen.records f)) (node_keys (g.S.Frozen.records f node)) i) read.same c.place_of-place.ensures.place in
     let within = place.within in
     let low : i < length vs = omega arith in
     let q = c.from_raw-child.result in
-    let child : q ≡ get_or vs i 0 = c.from_raw-child.ensures ∙ ap (λ (xs : List ℕ). get_or xs i 0) (c.deref-2.ensures.0 ∙ read.values) in
+    let child : q ≡ get_or vs i 0 = c.from_raw-child.ensures ∙ ap (λ (xs : List ℕ). get_or xs i 0) (c.deref.ensures.0 ∙ read.values) in
     let pair : ℕ × ℕ = (c.args.word, c.args.value) in
     let t = c.insert_below.new.store in
     let n = g.S.Frozen.records t in
@@ -360,8 +286,8 @@ make_parts-requires-clause-fits g t c =
     let form = IsNode-form m 1 (suc l) node is in
     let ks = node_keys (m node) in
     let vs = node_values (m node) in
-    let even = even-node m 1 (suc l) node is in
-    let used = used-read m 1 (suc l) node is in
+    let even = node-even m 1 (suc l) node is in
+    let used = keys-length m 1 (suc l) node is in
     let read = c.read_node-slots.ensures in
     let slots = c.read_node-slots.result in
     let key = g.K.KeyOrder in
@@ -369,13 +295,12 @@ make_parts-requires-clause-fits g t c =
     let seen = seen_by key.read key.order sought m in
     let i = c.place_of-place.result in
     let same : c.place_of-place.new.frozen ≡ s = c.place_of-place.ensures.same ∙ read.same in
-    let keys : c.deref.result.now ≡ ks = c.deref.ensures.0 ∙ read.keys in
     let place : IsPlace seen ks i =
-    subst (λ (xs : List ℕ). IsPlace seen xs i) keys (subst (λ f. IsPlace (seen_by key.read key.order sought (g.S.Frozen.records f)) c.deref.result.now i) read.same c.place_of-place.ensures.place) in
+    subst (λ f. IsPlace (seen_by key.read key.order sought (g.S.Frozen.records f)) (node_keys (g.S.Frozen.records f node)) i) read.same c.place_of-place.ensures.place in
     let within = place.within in
     let low : i < length vs = omega arith in
     let q = c.from_raw-child.result in
-    let child : q ≡ get_or vs i 0 = c.from_raw-child.ensures ∙ ap (λ (xs : List ℕ). get_or xs i 0) (c.deref-2.ensures.0 ∙ read.values) in
+    let child : q ≡ get_or vs i 0 = c.from_raw-child.ensures ∙ ap (λ (xs : List ℕ). get_or xs i 0) (c.deref.ensures.0 ∙ read.values) in
     let pair : ℕ × ℕ = (c.args.word, c.args.value) in
     let t = c.insert_below.new.store in
     let n = g.S.Frozen.records t in
@@ -409,8 +334,8 @@ make_parts-requires-clause-few g t c =
     let form = IsNode-form m 1 (suc l) node is in
     let ks = node_keys (m node) in
     let vs = node_values (m node) in
-    let even = even-node m 1 (suc l) node is in
-    let used = used-read m 1 (suc l) node is in
+    let even = node-even m 1 (suc l) node is in
+    let used = keys-length m 1 (suc l) node is in
     let read = c.read_node-slots.ensures in
     let slots = c.read_node-slots.result in
     let key = g.K.KeyOrder in
@@ -418,13 +343,12 @@ make_parts-requires-clause-few g t c =
     let seen = seen_by key.read key.order sought m in
     let i = c.place_of-place.result in
     let same : c.place_of-place.new.frozen ≡ s = c.place_of-place.ensures.same ∙ read.same in
-    let keys : c.deref.result.now ≡ ks = c.deref.ensures.0 ∙ read.keys in
     let place : IsPlace seen ks i =
-    subst (λ (xs : List ℕ). IsPlace seen xs i) keys (subst (λ f. IsPlace (seen_by key.read key.order sought (g.S.Frozen.records f)) c.deref.result.now i) read.same c.place_of-place.ensures.place) in
+    subst (λ f. IsPlace (seen_by key.read key.order sought (g.S.Frozen.records f)) (node_keys (g.S.Frozen.records f node)) i) read.same c.place_of-place.ensures.place in
     let within = place.within in
     let low : i < length vs = omega arith in
     let q = c.from_raw-child.result in
-    let child : q ≡ get_or vs i 0 = c.from_raw-child.ensures ∙ ap (λ (xs : List ℕ). get_or xs i 0) (c.deref-2.ensures.0 ∙ read.values) in
+    let child : q ≡ get_or vs i 0 = c.from_raw-child.ensures ∙ ap (λ (xs : List ℕ). get_or xs i 0) (c.deref.ensures.0 ∙ read.values) in
     let pair : ℕ × ℕ = (c.args.word, c.args.value) in
     let t = c.insert_below.new.store in
     let n = g.S.Frozen.records t in
@@ -445,8 +369,8 @@ make_parts-requires-clause-few g t c =
     let v2 : left.values.items ≡ take i vs ++ (part_nodes ps ++ drop (suc i) vs) = c.set_parts.ensures.values ∙ ap (λ (xs : List ℕ). take i xs ++ (part_nodes ps ++ drop (suc i) xs)) read.values in
     let level : left.level ≡ suc l = c.set_parts.ensures.level ∙ read.level ∙ form.at_level in
     let total = g.met.K.KeyOrder.total in
-    subst (λ k. length (slot_pairs n k left.keys.items left.values.items) < 4294967296) (sym level)
-    (over-few key.order total key.read sought m n 1 l node i pair is place ascends makes.keeps ps x.parts_are left.keys.items left.values.items k2 v2 (subst (λ k. length (pairs_below m k node) < 4294967295) up c.requires.few))
+    subst (λ k. length (slot_pairs n k left.keys.items left.values.items) < 2 ^ 32) (sym level)
+    (over-few key.order total key.read sought m n 1 l node i pair is place ascends makes.keeps ps x.parts_are left.keys.items left.values.items k2 v2 (subst (λ k. length (pairs_below m k node) + 1 < 2 ^ 32) up c.requires.few))
 
 pub returns-clause-inserts : goal.returns-clause-inserts
 returns-clause-inserts g t c =
@@ -459,8 +383,8 @@ returns-clause-inserts g t c =
     let form = IsNode-form m 1 (suc l) node is in
     let ks = node_keys (m node) in
     let vs = node_values (m node) in
-    let even = even-node m 1 (suc l) node is in
-    let used = used-read m 1 (suc l) node is in
+    let even = node-even m 1 (suc l) node is in
+    let used = keys-length m 1 (suc l) node is in
     let read = c.read_node-slots.ensures in
     let slots = c.read_node-slots.result in
     let key = g.K.KeyOrder in
@@ -468,13 +392,12 @@ returns-clause-inserts g t c =
     let seen = seen_by key.read key.order sought m in
     let i = c.place_of-place.result in
     let same : c.place_of-place.new.frozen ≡ s = c.place_of-place.ensures.same ∙ read.same in
-    let keys : c.deref.result.now ≡ ks = c.deref.ensures.0 ∙ read.keys in
     let place : IsPlace seen ks i =
-    subst (λ (xs : List ℕ). IsPlace seen xs i) keys (subst (λ f. IsPlace (seen_by key.read key.order sought (g.S.Frozen.records f)) c.deref.result.now i) read.same c.place_of-place.ensures.place) in
+    subst (λ f. IsPlace (seen_by key.read key.order sought (g.S.Frozen.records f)) (node_keys (g.S.Frozen.records f node)) i) read.same c.place_of-place.ensures.place in
     let within = place.within in
     let low : i < length vs = omega arith in
     let q = c.from_raw-child.result in
-    let child : q ≡ get_or vs i 0 = c.from_raw-child.ensures ∙ ap (λ (xs : List ℕ). get_or xs i 0) (c.deref-2.ensures.0 ∙ read.values) in
+    let child : q ≡ get_or vs i 0 = c.from_raw-child.ensures ∙ ap (λ (xs : List ℕ). get_or xs i 0) (c.deref.ensures.0 ∙ read.values) in
     let pair : ℕ × ℕ = (c.args.word, c.args.value) in
     let t = c.insert_below.new.store in
     let n = g.S.Frozen.records t in
@@ -496,11 +419,11 @@ returns-clause-inserts g t c =
     let level : left.level ≡ suc l = c.set_parts.ensures.level ∙ read.level ∙ form.at_level in
     let total = g.met.K.KeyOrder.total in
     let u = c.make_parts.new.store in
-    ok_then c.make_parts.result c.make_parts.ensures.parts (λ made y.
+    if_ok-then c.make_parts.result (λ made y.
     let y1 : MakesParts mid (g.S.Store.ledger u) n (g.S.Frozen.records u) (suc l) left.keys.items left.values.items made =
     subst (λ k. MakesParts mid (g.S.Store.ledger u) n (g.S.Frozen.records u) k left.keys.items left.values.items made) level y in
     subst (λ k. Inserts seen pair old (g.S.Store.ledger u) m (g.S.Frozen.records u) k node before after made) (sym up)
-    (over-inserts key.order total key.read sought m n 1 l node i pair is place ascends makes.keeps ps x.parts_are left.keys.items left.values.items k2 v2 old mid (g.S.Store.ledger u) (g.S.Frozen.records u) before after made x y1))
+    (over-inserts key.order total key.read sought m n 1 l node i pair is place ascends makes.keeps ps x.parts_are left.keys.items left.values.items k2 v2 old mid (g.S.Store.ledger u) (g.S.Frozen.records u) before after made x y1)) c.make_parts.ensures.parts
 
 pub returns-in_err-parts-clause-full : goal.returns-in_err-parts-clause-full
-returns-in_err-parts-clause-full g t c = λ w a h e. c.in_err-parts.ensures.full w a h (ap Err (err_same c.from_residual.result c.in_err-parts.field-0.0 _ c.from_residual.ensures.1 e))
+returns-in_err-parts-clause-full g t c = λ w a h e. c.in_err-parts.ensures.full w a h (ap Err (same_error c.from_residual.result c.in_err-parts.field-0.0 _ c.from_residual.ensures.1 e))

@@ -1,58 +1,71 @@
-use Rattle.std.proofs.Common.{◌≡◌, ◌<◌, ◌≤◌, ℕ, List, length, sym, ap, subst, ◌∙◌, arith}
+use Rattle.std.proofs.Common.{◌≡◌, ◌<◌, ◌≤◌, ℕ, List, length, sym, ap, subst, ◌∙◌, arith, ◌+◌, ◌^◌}
 use Rattle.std.specs.List.{zip, AllByRecursion}
-use Rattle.tree_images.specs.Nodes.{node_keys, node_values}
+use Rattle.tree_images.specs.Nodes.{level_of, used_of, node_keys, node_values}
+use Rattle.tree_images.specs.Trees.{pairs_below, IsNode}
+use Rattle.tree_node.specs.Places.{IsSlot}
 use Rattle.tree_images.proofs.TreeLemmas.{IsNode-form}
-use Rattle.key_order.specs.Keys.{seen_by}
+use Rattle.tree_make.proofs.Results.{if_ok-then}
+use Rattle.tree_node.proofs.ReadLemmas.{node-even, node-keys-all}
+use Rattle.tree_node.proofs.ChildLemmas.{keys-length}
+use Rattle.key_order.specs.Keys.{seen_by, AllReadable}
 use Rattle.key_order.specs.Pairs.{put}
 use Rattle.tree_node.specs.Slots.{slot_pairs, IsInHand}
 use Rattle.tree_node.proofs.SlotLemmas.{hand-leaf}
 use Rattle.tree_insert.specs.Parts.{MakesParts}
-use Rattle.tree_insert.proofs.OkLemmas.{ok_then}
-use Rattle.tree_insert.proofs.BelowLemmas.{even-node, used-read, keys-node, leaf-few, leaf-inserts}
+use Rattle.tree_insert.proofs.BelowLemmas.{leaf-few, leaf-inserts}
 use Rattle.tree_insert.proofs.below.insert_in_leaf.Goals as goal
 
-pub read_node-slots-requires-clause-size : goal.read_node-slots-requires-clause-size
-read_node-slots-requires-clause-size g c =
-    let m = g.S.Frozen.records c.args.store.now in
-    (IsNode-form m 1 0 c.args.node c.requires.node).size
+pub read_node-slots-requires : goal.read_node-slots-requires
+read_node-slots-requires g c =
+    let form = IsNode-form (g.S.Frozen.records c.args.store.now) 1 0 c.args.node c.requires.node in
+    (omega arith, (form.size, form.room))
 
-pub read_node-slots-requires-clause-room : goal.read_node-slots-requires-clause-room
-read_node-slots-requires-clause-room g c =
+pub first_slot-slot-requires : goal.first_slot-slot-requires
+first_slot-slot-requires g c =
     let m = g.S.Frozen.records c.args.store.now in
-    (IsNode-form m 1 0 c.args.node c.requires.node).room
+    let node = c.args.node in
+    let can = g.K.KeyOrder.can_read in
+    let level = (IsNode-form m 1 0 node c.requires.node).at_level in
+    let read = c.read_node-slots.ensures in
+    (omega arith, (
+    subst (λ f. IsNode (g.S.Frozen.records f) 1 (level_of (g.S.Frozen.records f node)) node) (sym read.same) (subst (λ l. IsNode m 1 l node) (sym level) c.requires.node),
+    (c.len-used.ensures.value ∙ ap length read.keys ∙ keys-length m 1 0 node c.requires.node ∙ ap (λ f. used_of (g.S.Frozen.records f node)) (sym read.same),
+    subst (λ f. AllReadable can (g.S.Frozen.records f) (pairs_below (g.S.Frozen.records f) (level_of (g.S.Frozen.records f node)) node)) (sym read.same)
+    (subst (λ l. AllReadable can m (pairs_below m l node)) (sym level) c.requires.readable))))
 
 pub put_in_leaf-requires-clause-readable : goal.put_in_leaf-requires-clause-readable
 put_in_leaf-requires-clause-readable g c =
-    let s = c.args.store.now in
-    let m = g.S.Frozen.records s in
+    let m = g.S.Frozen.records c.args.store.now in
     let node = c.args.node in
-    let form = IsNode-form m 1 0 node c.requires.node in
+    let can = g.K.KeyOrder.can_read in
     let read = c.read_node-slots.ensures in
-    let slots = c.read_node-slots.result in
-    subst (λ f. AllByRecursion (g.K.KeyOrder.can_read (g.S.Frozen.records f)) slots.keys.items) (sym read.same)
-    (subst (AllByRecursion (g.K.KeyOrder.can_read m)) (sym read.keys) (keys-node (g.K.KeyOrder.can_read m) m 1 0 node c.requires.node c.requires.readable))
+    subst (λ f. AllByRecursion (can (g.S.Frozen.records f)) c.read_node-slots.result.keys.items) (sym (c.first_slot-slot.ensures.same ∙ read.same))
+    (subst (AllByRecursion (can m)) (sym read.keys) (node-keys-all m 1 0 node c.requires.node (can m) c.requires.readable))
 
 pub put_in_leaf-requires-clause-even : goal.put_in_leaf-requires-clause-even
 put_in_leaf-requires-clause-even g c =
-    let s = c.args.store.now in
-    let m = g.S.Frozen.records s in
-    let node = c.args.node in
-    let form = IsNode-form m 1 0 node c.requires.node in
+    let m = g.S.Frozen.records c.args.store.now in
     let read = c.read_node-slots.ensures in
-    let slots = c.read_node-slots.result in
-    ap length read.keys ∙ even-node m 1 0 node c.requires.node ∙ sym (ap length read.values)
+    ap length read.keys ∙ node-even m 1 0 c.args.node c.requires.node ∙ sym (ap length read.values)
+
+pub put_in_leaf-requires-clause-slot : goal.put_in_leaf-requires-clause-slot
+put_in_leaf-requires-clause-slot g c =
+    let node = c.args.node in
+    let key = g.K.KeyOrder in
+    let read = c.read_node-slots.ensures in
+    let first = c.first_slot-slot in
+    let seen = seen_by key.read key.order (key.sought c.args.key.now) in
+    subst (λ f. IsSlot (seen (g.S.Frozen.records f)) c.read_node-slots.result.keys.items first.result) (sym (first.ensures.same ∙ read.same))
+    (subst (λ (ks : List ℕ). IsSlot (seen (g.S.Frozen.records c.args.store.now)) ks first.result) (sym read.keys)
+    (subst (λ f. IsSlot (seen (g.S.Frozen.records f)) (node_keys (g.S.Frozen.records f node)) first.result) read.same first.ensures.slot))
 
 pub put_in_leaf-requires-clause-room : goal.put_in_leaf-requires-clause-room
 put_in_leaf-requires-clause-room g c =
-    let s = c.args.store.now in
-    let m = g.S.Frozen.records s in
+    let m = g.S.Frozen.records c.args.store.now in
     let node = c.args.node in
-    let form = IsNode-form m 1 0 node c.requires.node in
-    let read = c.read_node-slots.ensures in
-    let slots = c.read_node-slots.result in
-    let used = used-read m 1 0 node c.requires.node in
-    let size : length slots.keys.items ≡ length (node_keys (m node)) = ap length read.keys in
-    let room = form.room in
+    let used = keys-length m 1 0 node c.requires.node in
+    let size : length c.read_node-slots.result.keys.items ≡ length (node_keys (m node)) = ap length c.read_node-slots.ensures.keys in
+    let room = (IsNode-form m 1 0 node c.requires.node).room in
     omega arith
 
 pub make_parts-requires-clause-low : goal.make_parts-requires-clause-low
@@ -65,12 +78,13 @@ make_parts-requires-clause-low g c =
     let slots = c.read_node-slots.result in
     let seen = seen_by g.K.KeyOrder.read g.K.KeyOrder.order (g.K.KeyOrder.sought c.args.key.now) m in
     let pair : ℕ × ℕ = (c.args.word, c.args.value) in
-    let same : c.put_in_leaf.new.frozen ≡ s = c.put_in_leaf.ensures.same ∙ read.same in
+    let back = c.first_slot-slot.ensures.same ∙ read.same in
+    let same : c.put_in_leaf.new.frozen ≡ s = c.put_in_leaf.ensures.same ∙ back in
     let left = c.put_in_leaf.new.slots in
     let level : left.level ≡ 0 = c.put_in_leaf.ensures.level ∙ read.level ∙ form.at_level in
     let pairs : zip left.keys.items left.values.items ≡ put seen pair (zip (node_keys (m node)) (node_values (m node))) =
     c.put_in_leaf.ensures.pairs
-    ∙ ap (λ f. put (seen_by g.K.KeyOrder.read g.K.KeyOrder.order (g.K.KeyOrder.sought c.args.key.now) (g.S.Frozen.records f)) pair (zip slots.keys.items slots.values.items)) read.same
+    ∙ ap (λ f. put (seen_by g.K.KeyOrder.read g.K.KeyOrder.order (g.K.KeyOrder.sought c.args.key.now) (g.S.Frozen.records f)) pair (zip slots.keys.items slots.values.items)) back
     ∙ ap (λ (ks : List ℕ). put seen pair (zip ks slots.values.items)) read.keys
     ∙ ap (λ (vs : List ℕ). put seen pair (zip (node_keys (m node)) vs)) read.values in
     let most : length (node_keys (m node)) ≤ length left.keys.items = subst (λ (ks : List ℕ). length ks ≤ length left.keys.items) read.keys c.put_in_leaf.ensures.least in
@@ -87,12 +101,13 @@ make_parts-requires-clause-hand g c =
     let slots = c.read_node-slots.result in
     let seen = seen_by g.K.KeyOrder.read g.K.KeyOrder.order (g.K.KeyOrder.sought c.args.key.now) m in
     let pair : ℕ × ℕ = (c.args.word, c.args.value) in
-    let same : c.put_in_leaf.new.frozen ≡ s = c.put_in_leaf.ensures.same ∙ read.same in
+    let back = c.first_slot-slot.ensures.same ∙ read.same in
+    let same : c.put_in_leaf.new.frozen ≡ s = c.put_in_leaf.ensures.same ∙ back in
     let left = c.put_in_leaf.new.slots in
     let level : left.level ≡ 0 = c.put_in_leaf.ensures.level ∙ read.level ∙ form.at_level in
     let pairs : zip left.keys.items left.values.items ≡ put seen pair (zip (node_keys (m node)) (node_values (m node))) =
     c.put_in_leaf.ensures.pairs
-    ∙ ap (λ f. put (seen_by g.K.KeyOrder.read g.K.KeyOrder.order (g.K.KeyOrder.sought c.args.key.now) (g.S.Frozen.records f)) pair (zip slots.keys.items slots.values.items)) read.same
+    ∙ ap (λ f. put (seen_by g.K.KeyOrder.read g.K.KeyOrder.order (g.K.KeyOrder.sought c.args.key.now) (g.S.Frozen.records f)) pair (zip slots.keys.items slots.values.items)) back
     ∙ ap (λ (ks : List ℕ). put seen pair (zip ks slots.values.items)) read.keys
     ∙ ap (λ (vs : List ℕ). put seen pair (zip (node_keys (m node)) vs)) read.values in
     let most : length (node_keys (m node)) ≤ length left.keys.items = subst (λ (ks : List ℕ). length ks ≤ length left.keys.items) read.keys c.put_in_leaf.ensures.least in
@@ -110,17 +125,18 @@ make_parts-requires-clause-fits g c =
     let slots = c.read_node-slots.result in
     let seen = seen_by g.K.KeyOrder.read g.K.KeyOrder.order (g.K.KeyOrder.sought c.args.key.now) m in
     let pair : ℕ × ℕ = (c.args.word, c.args.value) in
-    let same : c.put_in_leaf.new.frozen ≡ s = c.put_in_leaf.ensures.same ∙ read.same in
+    let back = c.first_slot-slot.ensures.same ∙ read.same in
+    let same : c.put_in_leaf.new.frozen ≡ s = c.put_in_leaf.ensures.same ∙ back in
     let left = c.put_in_leaf.new.slots in
     let level : left.level ≡ 0 = c.put_in_leaf.ensures.level ∙ read.level ∙ form.at_level in
     let pairs : zip left.keys.items left.values.items ≡ put seen pair (zip (node_keys (m node)) (node_values (m node))) =
     c.put_in_leaf.ensures.pairs
-    ∙ ap (λ f. put (seen_by g.K.KeyOrder.read g.K.KeyOrder.order (g.K.KeyOrder.sought c.args.key.now) (g.S.Frozen.records f)) pair (zip slots.keys.items slots.values.items)) read.same
+    ∙ ap (λ f. put (seen_by g.K.KeyOrder.read g.K.KeyOrder.order (g.K.KeyOrder.sought c.args.key.now) (g.S.Frozen.records f)) pair (zip slots.keys.items slots.values.items)) back
     ∙ ap (λ (ks : List ℕ). put seen pair (zip ks slots.values.items)) read.keys
     ∙ ap (λ (vs : List ℕ). put seen pair (zip (node_keys (m node)) vs)) read.values in
     let most : length (node_keys (m node)) ≤ length left.keys.items = subst (λ (ks : List ℕ). length ks ≤ length left.keys.items) read.keys c.put_in_leaf.ensures.least in
     let ledger = g.S.Store.ledger s in
-    let used = used-read m 1 0 node c.requires.node in
+    let used = keys-length m 1 0 node c.requires.node in
     let size : length slots.keys.items ≡ length (node_keys (m node)) = ap length read.keys in
     let room = form.room in
     let more = c.put_in_leaf.ensures.most in
@@ -136,18 +152,19 @@ make_parts-requires-clause-few g c =
     let slots = c.read_node-slots.result in
     let seen = seen_by g.K.KeyOrder.read g.K.KeyOrder.order (g.K.KeyOrder.sought c.args.key.now) m in
     let pair : ℕ × ℕ = (c.args.word, c.args.value) in
-    let same : c.put_in_leaf.new.frozen ≡ s = c.put_in_leaf.ensures.same ∙ read.same in
+    let back = c.first_slot-slot.ensures.same ∙ read.same in
+    let same : c.put_in_leaf.new.frozen ≡ s = c.put_in_leaf.ensures.same ∙ back in
     let left = c.put_in_leaf.new.slots in
     let level : left.level ≡ 0 = c.put_in_leaf.ensures.level ∙ read.level ∙ form.at_level in
     let pairs : zip left.keys.items left.values.items ≡ put seen pair (zip (node_keys (m node)) (node_values (m node))) =
     c.put_in_leaf.ensures.pairs
-    ∙ ap (λ f. put (seen_by g.K.KeyOrder.read g.K.KeyOrder.order (g.K.KeyOrder.sought c.args.key.now) (g.S.Frozen.records f)) pair (zip slots.keys.items slots.values.items)) read.same
+    ∙ ap (λ f. put (seen_by g.K.KeyOrder.read g.K.KeyOrder.order (g.K.KeyOrder.sought c.args.key.now) (g.S.Frozen.records f)) pair (zip slots.keys.items slots.values.items)) back
     ∙ ap (λ (ks : List ℕ). put seen pair (zip ks slots.values.items)) read.keys
     ∙ ap (λ (vs : List ℕ). put seen pair (zip (node_keys (m node)) vs)) read.values in
     let most : length (node_keys (m node)) ≤ length left.keys.items = subst (λ (ks : List ℕ). length ks ≤ length left.keys.items) read.keys c.put_in_leaf.ensures.least in
     let ledger = g.S.Store.ledger s in
-    subst (λ f. length (slot_pairs (g.S.Frozen.records f) left.level left.keys.items left.values.items) < 4294967296) (sym same)
-    (subst (λ l. length (slot_pairs m l left.keys.items left.values.items) < 4294967296) (sym level)
+    subst (λ f. length (slot_pairs (g.S.Frozen.records f) left.level left.keys.items left.values.items) < 2 ^ 32) (sym same)
+    (subst (λ l. length (slot_pairs m l left.keys.items left.values.items) < 2 ^ 32) (sym level)
     (leaf-few seen pair ledger ledger m m 1 node c.requires.node left.keys.items left.values.items pairs most c.requires.few))
 
 pub returns-clause-inserts : goal.returns-clause-inserts
@@ -160,21 +177,22 @@ returns-clause-inserts g c =
     let slots = c.read_node-slots.result in
     let seen = seen_by g.K.KeyOrder.read g.K.KeyOrder.order (g.K.KeyOrder.sought c.args.key.now) m in
     let pair : ℕ × ℕ = (c.args.word, c.args.value) in
-    let same : c.put_in_leaf.new.frozen ≡ s = c.put_in_leaf.ensures.same ∙ read.same in
+    let back = c.first_slot-slot.ensures.same ∙ read.same in
+    let same : c.put_in_leaf.new.frozen ≡ s = c.put_in_leaf.ensures.same ∙ back in
     let left = c.put_in_leaf.new.slots in
     let level : left.level ≡ 0 = c.put_in_leaf.ensures.level ∙ read.level ∙ form.at_level in
     let pairs : zip left.keys.items left.values.items ≡ put seen pair (zip (node_keys (m node)) (node_values (m node))) =
     c.put_in_leaf.ensures.pairs
-    ∙ ap (λ f. put (seen_by g.K.KeyOrder.read g.K.KeyOrder.order (g.K.KeyOrder.sought c.args.key.now) (g.S.Frozen.records f)) pair (zip slots.keys.items slots.values.items)) read.same
+    ∙ ap (λ f. put (seen_by g.K.KeyOrder.read g.K.KeyOrder.order (g.K.KeyOrder.sought c.args.key.now) (g.S.Frozen.records f)) pair (zip slots.keys.items slots.values.items)) back
     ∙ ap (λ (ks : List ℕ). put seen pair (zip ks slots.values.items)) read.keys
     ∙ ap (λ (vs : List ℕ). put seen pair (zip (node_keys (m node)) vs)) read.values in
     let most : length (node_keys (m node)) ≤ length left.keys.items = subst (λ (ks : List ℕ). length ks ≤ length left.keys.items) read.keys c.put_in_leaf.ensures.least in
     let ledger = g.S.Store.ledger s in
     let t = c.make_parts.new.store in
     λ before after is.
-    ok_then c.make_parts.result c.make_parts.ensures.parts (λ made y.
+    if_ok-then c.make_parts.result (λ made y.
     let y1 : MakesParts ledger (g.S.Store.ledger t) m (g.S.Frozen.records t) left.level left.keys.items left.values.items made =
     subst (λ f. MakesParts (g.S.Store.ledger f) (g.S.Store.ledger t) (g.S.Frozen.records f) (g.S.Frozen.records t) left.level left.keys.items left.values.items made) same y in
     let y2 : MakesParts ledger (g.S.Store.ledger t) m (g.S.Frozen.records t) 0 left.keys.items left.values.items made =
     subst (λ l. MakesParts ledger (g.S.Store.ledger t) m (g.S.Frozen.records t) l left.keys.items left.values.items made) level y1 in
-    leaf-inserts seen pair ledger (g.S.Store.ledger t) m (g.S.Frozen.records t) 1 node c.requires.node left.keys.items left.values.items pairs most before after made is y2)
+    leaf-inserts seen pair ledger (g.S.Store.ledger t) m (g.S.Frozen.records t) 1 node c.requires.node left.keys.items left.values.items pairs most before after made is y2) c.make_parts.ensures.parts

@@ -11,11 +11,10 @@ returns-then-is_found-clause-pairs g c =
     let ks = c.args.slots.now.keys.items in
     let vs = c.args.slots.now.values.items in
     let seen = seen_by g.K.KeyOrder.read g.K.KeyOrder.order (g.K.KeyOrder.sought c.args.key.now) (g.F.Frozen.records f) in
-    let slot = c.slot_of-slot.result in
-    let at : IsSlot seen ks slot = subst (λ (xs : List ℕ). IsSlot seen xs slot) c.deref.ensures.0 c.slot_of-slot.ensures.slot in
+    let slot = c.args.slot in
+    let at : IsSlot seen ks slot = c.requires.slot in
     let found : IsFound seen ks slot =
-    subst (λ (xs : List ℕ). IsFound seen xs slot) c.deref-2.ensures.0
-    (subst (λ h. IsFound (seen_by g.K.KeyOrder.read g.K.KeyOrder.order (g.K.KeyOrder.sought c.args.key.now) (g.F.Frozen.records h)) c.deref-2.result.now slot) c.slot_of-slot.ensures.same (c.is_found.ensures.found c.if-is_found.true)) in
+    subst (λ (xs : List ℕ). IsFound seen xs slot) c.deref.ensures.0 (c.is_found.ensures.found c.if-is_found.true) in
     ap (λ (xs : List ℕ). zip xs c.put_word-then-is_found.new.words.items) c.put_word.ensures
     ∙ ap (zip _) c.put_word-then-is_found.ensures
     ∙ leaf_found seen c.args.word c.args.value ks vs slot c.requires.even found.within at.before found.equal
@@ -26,11 +25,10 @@ returns-else-is_found-clause-pairs g c =
     let ks = c.args.slots.now.keys.items in
     let vs = c.args.slots.now.values.items in
     let seen = seen_by g.K.KeyOrder.read g.K.KeyOrder.order (g.K.KeyOrder.sought c.args.key.now) (g.F.Frozen.records f) in
-    let slot = c.slot_of-slot.result in
-    let at : IsSlot seen ks slot = subst (λ (xs : List ℕ). IsSlot seen xs slot) c.deref.ensures.0 c.slot_of-slot.ensures.slot in
+    let slot = c.args.slot in
+    let at : IsSlot seen ks slot = c.requires.slot in
     let lacking : IsLacking seen ks slot =
-    subst (λ (xs : List ℕ). IsLacking seen xs slot) c.deref-2.ensures.0
-    (subst (λ h. IsLacking (seen_by g.K.KeyOrder.read g.K.KeyOrder.order (g.K.KeyOrder.sought c.args.key.now) (g.F.Frozen.records h)) c.deref-2.result.now slot) c.slot_of-slot.ensures.same (c.is_found.ensures.lacking c.if-is_found.false)) in
+    subst (λ (xs : List ℕ). IsLacking seen xs slot) c.deref.ensures.0 (c.is_found.ensures.lacking c.if-is_found.false) in
     ap (λ (xs : List ℕ). zip xs c.insert-else-is_found.new.self.items) c.insert.ensures.items
     ∙ ap (zip _) c.insert-else-is_found.ensures.items
     ∙ leaf_lacking seen c.args.word c.args.value ks vs slot c.requires.even at.within at.before lacking.above

@@ -1,6 +1,6 @@
 use Rattle.std.proofs.Common.{ap, Err, ◌≡◌, length, arith}
+use Rattle.list_facts.proofs.Errors.{same_error}
 use Rattle.tree_insert.proofs.PartsLemmas.{IsSplit, first-hand, first-few, second-hand, second-few, two_made}
-use Rattle.tree_insert.proofs.OkLemmas.{err_same}
 use Rattle.tree_insert.proofs.parts.make_parts.Goals as goal
 
 pub make_part-requires-2-clause-hand : goal.make_part-requires-2-clause-hand
@@ -59,7 +59,7 @@ returns-clause-parts g c =
     let split : IsSplit slots.level slots.keys.items slots.values.items left.level left.keys.items left.values.items rest.level rest.keys.items rest.values.items =
     record { first_level = e.level_left; first_keys = e.keys_left; first_values = e.values_left; second_level = e.level; second_keys = e.keys; second_values = e.values } in
     let fits = c.requires.fits in
-    let more = c.if-len-le16.false in
+    let more = c.if-len-le-MOST_SLOTS.false in
     let size : c.len.result ≡ length slots.keys.items = c.len.ensures.value in
     let full : length slots.keys.items ≡ 17 = omega arith in
     two_made m slots.level slots.keys.items slots.values.items left.level left.keys.items left.values.items rest.level rest.keys.items rest.values.items split c.requires.hand
@@ -68,10 +68,10 @@ returns-clause-parts g c =
     c.in_ok-first.ensures.makes c.in_ok-second.ensures.makes
 
 pub returns-in_err-make_part-clause-full : goal.returns-in_err-make_part-clause-full
-returns-in_err-make_part-clause-full g c = λ w a h e. c.in_err-make_part.ensures.full w a h (ap Err (err_same c.from_residual.result c.in_err-make_part.field-0.0 _ c.from_residual.ensures.1 e))
+returns-in_err-make_part-clause-full g c = λ w a h e. c.in_err-make_part.ensures.full w a h (ap Err (same_error c.from_residual.result c.in_err-make_part.field-0.0 _ c.from_residual.ensures.1 e))
 
 pub returns-in_err-first-clause-full : goal.returns-in_err-first-clause-full
-returns-in_err-first-clause-full g c = λ w a h e. c.in_err-first.ensures.full w a h (ap Err (err_same c.from_residual-in_err-first.result c.in_err-first.field-0.0 _ c.from_residual-in_err-first.ensures.1 e))
+returns-in_err-first-clause-full g c = λ w a h e. c.in_err-first.ensures.full w a h (ap Err (same_error c.from_residual-in_err-first.result c.in_err-first.field-0.0 _ c.from_residual-in_err-first.ensures.1 e))
 
 pub returns-in_err-second-clause-full : goal.returns-in_err-second-clause-full
-returns-in_err-second-clause-full g c = λ w a h e. c.in_err-second.ensures.full w a h (ap Err (err_same c.from_residual-in_err-second.result c.in_err-second.field-0.0 _ c.from_residual-in_err-second.ensures.1 e))
+returns-in_err-second-clause-full g c = λ w a h e. c.in_err-second.ensures.full w a h (ap Err (same_error c.from_residual-in_err-second.result c.in_err-second.field-0.0 _ c.from_residual-in_err-second.ensures.1 e))

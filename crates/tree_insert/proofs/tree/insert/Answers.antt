@@ -1,15 +1,17 @@
-use Rattle.std.proofs.Common.{◌∙◌, Err, ◌≡◌, ◌<◌, ◌+◌, ◌*◌, ◌/◌, ℕ, suc, [], length, true, sym, ap, subst, arith}
+use Rattle.std.proofs.Common.{rules, ◌∙◌, Err, ◌≡◌, ◌<◌, ◌+◌, ◌*◌, ◌/◌, ℕ, suc, [], length, true, sym, ap, subst, arith, ◌^◌}
 use Rattle.std.specs.List.{AllByRecursion}
+use Rattle.list_facts.proofs.Errors.{same_error}
 use Rattle.tree_images.specs.Trees.{pairs_below, IsNode, root_level}
 use Rattle.key_order.specs.Keys.{seen_by, Ascends, AllReadable}
-use Rattle.store_api.specs.Classes.{in_use}
-use Rattle.tree_frame.specs.Changes.{Drops, levels}
-use Rattle.tree_frame.specs.Times.{EachOnce}
-use Rattle.tree_node.specs.Makes.{MakesNodes}
-use Rattle.tree_node.proofs.MakesLemmas.{makes-then, makes-more}
+use Rattle.store_api.specs.Statuses.{in_use}
+use Rattle.tree_make.specs.Changes.{Drops, levels}
+use Rattle.tree_make.specs.Times.{EachOnce}
+use Rattle.tree_make.specs.Makes.{MakesNodes}
+use Rattle.tree_make.proofs.MakesLemmas.{makes-then, makes-more}
+use Rattle.tree_make.proofs.Results.{if_ok-then, on_err, not_valid, is_valid}
+use Rattle.tree_make.proofs.TopLemmas.{root-size, root-level, root-low, root-one, root-pairs, root-levels}
 use Rattle.tree_insert.specs.Inserts.{Inserts}
-use Rattle.tree_insert.proofs.OkLemmas.{ok_then, on_err, not_valid, is_valid, err_same}
-use Rattle.tree_insert.proofs.TreeLemmas.{root-size, root-level, root-low, root-one, root-pairs, root-levels, root-few, top-few, top-parts, top-one, gone-once, gone-used, end-replaces, end-pairs, end-readable, end-tree, one-pairs, one-tree, one-readable, one-replaces}
+use Rattle.tree_insert.proofs.TreeLemmas.{root-few, top-few, top-parts, top-one, gone-once, gone-used, end-replaces, end-pairs, end-readable, end-tree, one-pairs, one-tree, one-readable, one-replaces}
 use Rattle.tree_insert.proofs.tree.insert.Goals as goal
 
 pub returns-then-not-valid-clause-tree : goal.returns-then-not-valid-clause-tree
@@ -23,7 +25,7 @@ returns-then-not-valid-clause-tree g c =
     let old = g.S.Store.ledger s in
     let new = g.S.Store.ledger t in
     let none : c.args.root ≡ 0 = not_valid c.valid.result c.args.root c.valid.ensures.1 c.if-not-valid.true in
-    ok_then c.make_leaf.result c.make_leaf.ensures.leaf (λ next made. one-tree key.order key.read sought m n old new c.args.root c.args.word c.args.value next none made)
+    if_ok-then c.make_leaf.result (λ next made. one-tree key.order key.read sought m n old new c.args.root c.args.word c.args.value next none made) c.make_leaf.ensures.leaf
 
 pub returns-then-not-valid-clause-pairs : goal.returns-then-not-valid-clause-pairs
 returns-then-not-valid-clause-pairs g c =
@@ -36,7 +38,7 @@ returns-then-not-valid-clause-pairs g c =
     let old = g.S.Store.ledger s in
     let new = g.S.Store.ledger t in
     let none : c.args.root ≡ 0 = not_valid c.valid.result c.args.root c.valid.ensures.1 c.if-not-valid.true in
-    ok_then c.make_leaf.result c.make_leaf.ensures.leaf (λ next made. one-pairs key.order key.read sought m n old new c.args.root c.args.word c.args.value next none made)
+    if_ok-then c.make_leaf.result (λ next made. one-pairs key.order key.read sought m n old new c.args.root c.args.word c.args.value next none made) c.make_leaf.ensures.leaf
 
 pub returns-then-not-valid-clause-readable : goal.returns-then-not-valid-clause-readable
 returns-then-not-valid-clause-readable g c =
@@ -49,7 +51,7 @@ returns-then-not-valid-clause-readable g c =
     let old = g.S.Store.ledger s in
     let new = g.S.Store.ledger t in
     let none : c.args.root ≡ 0 = not_valid c.valid.result c.args.root c.valid.ensures.1 c.if-not-valid.true in
-    ok_then c.make_leaf.result c.make_leaf.ensures.leaf (λ next made. one-readable key.order key.read sought m n old new c.args.root c.args.word c.args.value next none made key.can_read key.reads_from g.met.K.KeyOrder.stays c.requires.word_readable c.requires.word_apart)
+    if_ok-then c.make_leaf.result (λ next made. one-readable key.order key.read sought m n old new c.args.root c.args.word c.args.value next none made key.can_read key.reads_from g.met.K.KeyOrder.stays c.requires.word_readable c.requires.word_apart) c.make_leaf.ensures.leaf
 
 pub returns-then-not-valid-clause-replaces : goal.returns-then-not-valid-clause-replaces
 returns-then-not-valid-clause-replaces g c =
@@ -62,7 +64,7 @@ returns-then-not-valid-clause-replaces g c =
     let old = g.S.Store.ledger s in
     let new = g.S.Store.ledger t in
     let none : c.args.root ≡ 0 = not_valid c.valid.result c.args.root c.valid.ensures.1 c.if-not-valid.true in
-    ok_then c.make_leaf.result c.make_leaf.ensures.leaf (λ next made. one-replaces key.order key.read sought m n old new c.args.root c.args.word c.args.value next none made)
+    if_ok-then c.make_leaf.result (λ next made. one-replaces key.order key.read sought m n old new c.args.root c.args.word c.args.value next none made) c.make_leaf.ensures.leaf
 
 pub word-level-requires : goal.word-level-requires
 word-level-requires g c =
@@ -75,9 +77,10 @@ word-level-requires g c =
     let size = root-size key.order key.read m root tree some in
     omega arith
 
-pub insert_below-requires-clause-low : goal.insert_below-requires-clause-low
-insert_below-requires-clause-low g c =
-    let key = g.K.KeyOrder in
+pub insert_below-requires : goal.insert_below-requires
+insert_below-requires g c = (omega arith, (
+    search rules,
+    ((let key = g.K.KeyOrder in
     let s = c.args.store.now in
     let m = g.S.Frozen.records s in
     let root = c.args.root in
@@ -85,12 +88,9 @@ insert_below-requires-clause-low g c =
     let some : 0 < root = is_valid c.valid.result root c.valid.ensures.0 c.if-not-valid.false in
     let level = c.word-level.result / 256 in
     let same = c.word-level.ensures.same in
-    let level_is : level ≡ root_level m root = root-level key.order key.read m root tree some c.word-level.result c.word-level.ensures.value in
-    root-low key.order key.read m root tree some level level_is
-
-pub insert_below-requires-clause-node : goal.insert_below-requires-clause-node
-insert_below-requires-clause-node g c =
-    let key = g.K.KeyOrder in
+    let level_is : level ≡ root_level m root = (ap (λ w. w / 256) c.word-level.ensures.value ∙ root-level key.order key.read m root tree some) in
+    root-low key.order key.read m root tree some level level_is),
+    ((let key = g.K.KeyOrder in
     let s = c.args.store.now in
     let m = g.S.Frozen.records s in
     let root = c.args.root in
@@ -98,12 +98,9 @@ insert_below-requires-clause-node g c =
     let some : 0 < root = is_valid c.valid.result root c.valid.ensures.0 c.if-not-valid.false in
     let level = c.word-level.result / 256 in
     let same = c.word-level.ensures.same in
-    let level_is : level ≡ root_level m root = root-level key.order key.read m root tree some c.word-level.result c.word-level.ensures.value in
-    subst (λ f. IsNode (g.S.Frozen.records f) 1 level root) (sym same) (root-one key.order key.read m root tree some level level_is)
-
-pub insert_below-requires-clause-ascends : goal.insert_below-requires-clause-ascends
-insert_below-requires-clause-ascends g c =
-    let key = g.K.KeyOrder in
+    let level_is : level ≡ root_level m root = (ap (λ w. w / 256) c.word-level.ensures.value ∙ root-level key.order key.read m root tree some) in
+    subst (λ f. IsNode (g.S.Frozen.records f) 1 level root) (sym same) (root-one key.order key.read m root tree some level level_is)),
+    ((let key = g.K.KeyOrder in
     let s = c.args.store.now in
     let m = g.S.Frozen.records s in
     let root = c.args.root in
@@ -111,13 +108,10 @@ insert_below-requires-clause-ascends g c =
     let some : 0 < root = is_valid c.valid.result root c.valid.ensures.0 c.if-not-valid.false in
     let level = c.word-level.result / 256 in
     let same = c.word-level.ensures.same in
-    let level_is : level ≡ root_level m root = root-level key.order key.read m root tree some c.word-level.result c.word-level.ensures.value in
+    let level_is : level ≡ root_level m root = (ap (λ w. w / 256) c.word-level.ensures.value ∙ root-level key.order key.read m root tree some) in
     subst (λ f. Ascends key.order key.read (g.S.Frozen.records f) (pairs_below (g.S.Frozen.records f) level root)) (sym same)
-    (subst (Ascends key.order key.read m) (root-pairs key.order key.read m root tree some level level_is) tree.ascends)
-
-pub insert_below-requires-clause-readable : goal.insert_below-requires-clause-readable
-insert_below-requires-clause-readable g c =
-    let key = g.K.KeyOrder in
+    (subst (Ascends key.order key.read m) (root-pairs key.order key.read m root tree some level level_is) tree.ascends)),
+    ((let key = g.K.KeyOrder in
     let s = c.args.store.now in
     let m = g.S.Frozen.records s in
     let root = c.args.root in
@@ -125,13 +119,10 @@ insert_below-requires-clause-readable g c =
     let some : 0 < root = is_valid c.valid.result root c.valid.ensures.0 c.if-not-valid.false in
     let level = c.word-level.result / 256 in
     let same = c.word-level.ensures.same in
-    let level_is : level ≡ root_level m root = root-level key.order key.read m root tree some c.word-level.result c.word-level.ensures.value in
+    let level_is : level ≡ root_level m root = (ap (λ w. w / 256) c.word-level.ensures.value ∙ root-level key.order key.read m root tree some) in
     subst (λ f. AllReadable key.can_read (g.S.Frozen.records f) (pairs_below (g.S.Frozen.records f) level root)) (sym same)
-    (subst (AllReadable key.can_read m) (root-pairs key.order key.read m root tree some level level_is) c.requires.readable)
-
-pub insert_below-requires-clause-few : goal.insert_below-requires-clause-few
-insert_below-requires-clause-few g c =
-    let key = g.K.KeyOrder in
+    (subst (AllReadable key.can_read m) (root-pairs key.order key.read m root tree some level level_is) c.requires.readable)),
+    ((let key = g.K.KeyOrder in
     let s = c.args.store.now in
     let m = g.S.Frozen.records s in
     let root = c.args.root in
@@ -139,13 +130,10 @@ insert_below-requires-clause-few g c =
     let some : 0 < root = is_valid c.valid.result root c.valid.ensures.0 c.if-not-valid.false in
     let level = c.word-level.result / 256 in
     let same = c.word-level.ensures.same in
-    let level_is : level ≡ root_level m root = root-level key.order key.read m root tree some c.word-level.result c.word-level.ensures.value in
+    let level_is : level ≡ root_level m root = (ap (λ w. w / 256) c.word-level.ensures.value ∙ root-level key.order key.read m root tree some) in
     let few = root-few key.order key.read m root tree some level level_is g.met.K.KeyOrder.total (g.met.S.Store.few_nodes s) in
-    subst (λ f. length (pairs_below (g.S.Frozen.records f) level root) < 4294967295) (sym same) (omega arith)
-
-pub insert_below-requires-clause-room : goal.insert_below-requires-clause-room
-insert_below-requires-clause-room g c =
-    let key = g.K.KeyOrder in
+    subst (λ f. length (pairs_below (g.S.Frozen.records f) level root) + 1 < 2 ^ 32) (sym same) (omega arith)),
+    ((let key = g.K.KeyOrder in
     let s = c.args.store.now in
     let m = g.S.Frozen.records s in
     let root = c.args.root in
@@ -153,10 +141,10 @@ insert_below-requires-clause-room g c =
     let some : 0 < root = is_valid c.valid.result root c.valid.ensures.0 c.if-not-valid.false in
     let level = c.word-level.result / 256 in
     let same = c.word-level.ensures.same in
-    let level_is : level ≡ root_level m root = root-level key.order key.read m root tree some c.word-level.result c.word-level.ensures.value in
+    let level_is : level ≡ root_level m root = (ap (λ w. w / 256) c.word-level.ensures.value ∙ root-level key.order key.read m root tree some) in
     let low = root-low key.order key.read m root tree some level level_is in
     let none : length c.new-replaced.result.items ≡ 0 = ap length c.new-replaced.ensures in
-    omega arith
+    omega arith)))))))))
 
 pub returns-in_err-parts-clause-made : goal.returns-in_err-parts-clause-made
 returns-in_err-parts-clause-made g c =
@@ -168,7 +156,7 @@ returns-in_err-parts-clause-made g c =
     let some : 0 < root = is_valid c.valid.result root c.valid.ensures.0 c.if-not-valid.false in
     let level = c.word-level.result / 256 in
     let same = c.word-level.ensures.same in
-    let level_is : level ≡ root_level m root = root-level key.order key.read m root tree some c.word-level.result c.word-level.ensures.value in
+    let level_is : level ≡ root_level m root = (ap (λ w. w / 256) c.word-level.ensures.value ∙ root-level key.order key.read m root tree some) in
     let old = g.S.Store.ledger s in
     let t = c.insert_below.new.store in
     let n = g.S.Frozen.records t in
@@ -188,7 +176,7 @@ returns-in_err-parts-clause-left g c =
     let some : 0 < root = is_valid c.valid.result root c.valid.ensures.0 c.if-not-valid.false in
     let level = c.word-level.result / 256 in
     let same = c.word-level.ensures.same in
-    let level_is : level ≡ root_level m root = root-level key.order key.read m root tree some c.word-level.result c.word-level.ensures.value in
+    let level_is : level ≡ root_level m root = (ap (λ w. w / 256) c.word-level.ensures.value ∙ root-level key.order key.read m root tree some) in
     let old = g.S.Store.ledger s in
     let t = c.insert_below.new.store in
     let n = g.S.Frozen.records t in
@@ -197,9 +185,10 @@ returns-in_err-parts-clause-left g c =
     let up = root-levels key.order key.read m root tree some level level_is in
     on_err c.from_residual.result (makes-more old mid m n (2 * suc level) (2 * levels m root + 1) (omega arith) x_makes)
 
-pub make_root-requires-clause-parts : goal.make_root-requires-clause-parts
-make_root-requires-clause-parts g c =
-    let key = g.K.KeyOrder in
+pub root_over-requires : goal.root_over-requires
+root_over-requires g c = (omega arith, (
+    search rules,
+    ((let key = g.K.KeyOrder in
     let s = c.args.store.now in
     let m = g.S.Frozen.records s in
     let root = c.args.root in
@@ -207,7 +196,7 @@ make_root-requires-clause-parts g c =
     let some : 0 < root = is_valid c.valid.result root c.valid.ensures.0 c.if-not-valid.false in
     let level = c.word-level.result / 256 in
     let same = c.word-level.ensures.same in
-    let level_is : level ≡ root_level m root = root-level key.order key.read m root tree some c.word-level.result c.word-level.ensures.value in
+    let level_is : level ≡ root_level m root = (ap (λ w. w / 256) c.word-level.ensures.value ∙ root-level key.order key.read m root tree some) in
     let old = g.S.Store.ledger s in
     let t = c.insert_below.new.store in
     let n = g.S.Frozen.records t in
@@ -223,11 +212,8 @@ make_root-requires-clause-parts g c =
     let x0 : Inserts seen pair old mid m n level root c.new-replaced.result.items gone parts =
     subst (λ f. Inserts (seen_by key.read key.order sought (g.S.Frozen.records f)) pair (g.S.Store.ledger f) mid (g.S.Frozen.records f) n level root c.new-replaced.result.items gone parts) same c.in_ok-parts.ensures.inserts in
     let x : Inserts seen pair old mid m n level root [] gone parts = subst (λ xs. Inserts seen pair old mid m n level root xs gone parts) c.new-replaced.ensures x0 in
-    top-parts key.order total key.read sought m n old mid root level pair tree some level_is few gone parts x
-
-pub make_root-requires-clause-few : goal.make_root-requires-clause-few
-make_root-requires-clause-few g c =
-    let key = g.K.KeyOrder in
+    top-parts key.order total key.read sought m n old mid root level pair tree some level_is few gone parts x),
+    ((let key = g.K.KeyOrder in
     let s = c.args.store.now in
     let m = g.S.Frozen.records s in
     let root = c.args.root in
@@ -235,7 +221,7 @@ make_root-requires-clause-few g c =
     let some : 0 < root = is_valid c.valid.result root c.valid.ensures.0 c.if-not-valid.false in
     let level = c.word-level.result / 256 in
     let same = c.word-level.ensures.same in
-    let level_is : level ≡ root_level m root = root-level key.order key.read m root tree some c.word-level.result c.word-level.ensures.value in
+    let level_is : level ≡ root_level m root = (ap (λ w. w / 256) c.word-level.ensures.value ∙ root-level key.order key.read m root tree some) in
     let old = g.S.Store.ledger s in
     let t = c.insert_below.new.store in
     let n = g.S.Frozen.records t in
@@ -251,11 +237,8 @@ make_root-requires-clause-few g c =
     let x0 : Inserts seen pair old mid m n level root c.new-replaced.result.items gone parts =
     subst (λ f. Inserts (seen_by key.read key.order sought (g.S.Frozen.records f)) pair (g.S.Store.ledger f) mid (g.S.Frozen.records f) n level root c.new-replaced.result.items gone parts) same c.in_ok-parts.ensures.inserts in
     let x : Inserts seen pair old mid m n level root [] gone parts = subst (λ xs. Inserts seen pair old mid m n level root xs gone parts) c.new-replaced.ensures x0 in
-    top-few key.order total key.read sought m n old mid root level pair tree some level_is few gone parts x
-
-pub make_root-requires-clause-low : goal.make_root-requires-clause-low
-make_root-requires-clause-low g c =
-    let key = g.K.KeyOrder in
+    top-few key.order total key.read sought m n old mid root level pair tree some level_is few gone parts x),
+    ((let key = g.K.KeyOrder in
     let s = c.args.store.now in
     let m = g.S.Frozen.records s in
     let root = c.args.root in
@@ -263,12 +246,9 @@ make_root-requires-clause-low g c =
     let some : 0 < root = is_valid c.valid.result root c.valid.ensures.0 c.if-not-valid.false in
     let level = c.word-level.result / 256 in
     let same = c.word-level.ensures.same in
-    let level_is : level ≡ root_level m root = root-level key.order key.read m root tree some c.word-level.result c.word-level.ensures.value in
-    root-low key.order key.read m root tree some level level_is
-
-pub make_root-requires-clause-two : goal.make_root-requires-clause-two
-make_root-requires-clause-two g c =
-    let key = g.K.KeyOrder in
+    let level_is : level ≡ root_level m root = (ap (λ w. w / 256) c.word-level.ensures.value ∙ root-level key.order key.read m root tree some) in
+    root-low key.order key.read m root tree some level level_is),
+    ((let key = g.K.KeyOrder in
     let s = c.args.store.now in
     let m = g.S.Frozen.records s in
     let root = c.args.root in
@@ -276,7 +256,7 @@ make_root-requires-clause-two g c =
     let some : 0 < root = is_valid c.valid.result root c.valid.ensures.0 c.if-not-valid.false in
     let level = c.word-level.result / 256 in
     let same = c.word-level.ensures.same in
-    let level_is : level ≡ root_level m root = root-level key.order key.read m root tree some c.word-level.result c.word-level.ensures.value in
+    let level_is : level ≡ root_level m root = (ap (λ w. w / 256) c.word-level.ensures.value ∙ root-level key.order key.read m root tree some) in
     let old = g.S.Store.ledger s in
     let t = c.insert_below.new.store in
     let n = g.S.Frozen.records t in
@@ -292,7 +272,7 @@ make_root-requires-clause-two g c =
     let x0 : Inserts seen pair old mid m n level root c.new-replaced.result.items gone parts =
     subst (λ f. Inserts (seen_by key.read key.order sought (g.S.Frozen.records f)) pair (g.S.Store.ledger f) mid (g.S.Frozen.records f) n level root c.new-replaced.result.items gone parts) same c.in_ok-parts.ensures.inserts in
     let x : Inserts seen pair old mid m n level root [] gone parts = subst (λ xs. Inserts seen pair old mid m n level root xs gone parts) c.new-replaced.ensures x0 in
-    top-one key.order total key.read sought m n old mid root level pair tree some level_is few gone parts x
+    top-one key.order total key.read sought m n old mid root level pair tree some level_is few gone parts x)))))))
 
 pub returns-in_err-next-clause-made : goal.returns-in_err-next-clause-made
 returns-in_err-next-clause-made g c =
@@ -304,16 +284,16 @@ returns-in_err-next-clause-made g c =
     let some : 0 < root = is_valid c.valid.result root c.valid.ensures.0 c.if-not-valid.false in
     let level = c.word-level.result / 256 in
     let same = c.word-level.ensures.same in
-    let level_is : level ≡ root_level m root = root-level key.order key.read m root tree some c.word-level.result c.word-level.ensures.value in
+    let level_is : level ≡ root_level m root = (ap (λ w. w / 256) c.word-level.ensures.value ∙ root-level key.order key.read m root tree some) in
     let old = g.S.Store.ledger s in
     let t = c.insert_below.new.store in
     let n = g.S.Frozen.records t in
     let mid = g.S.Store.ledger t in
     let x_makes : MakesNodes old mid m n (2 * suc level) = subst (λ f. MakesNodes (g.S.Store.ledger f) mid (g.S.Frozen.records f) n (2 * suc level)) same c.insert_below.ensures.makes in
-    let u = c.make_root.new.store in
+    let u = c.root_over.new.store in
     let new = g.S.Store.ledger u in
     let o = g.S.Frozen.records u in
-    let both : MakesNodes old new m o (2 * suc level + 1) = makes-then old mid new m n o (2 * suc level) 1 (2 * suc level + 1) (omega arith) x_makes c.make_root.ensures.makes in
+    let both : MakesNodes old new m o (2 * suc level + 1) = makes-then old mid new m n o (2 * suc level) 1 (2 * suc level + 1) (omega arith) x_makes c.root_over.ensures.makes in
     let made = both.made in
     let up = root-levels key.order key.read m root tree some level level_is in
     omega arith
@@ -328,16 +308,16 @@ returns-in_err-next-clause-left g c =
     let some : 0 < root = is_valid c.valid.result root c.valid.ensures.0 c.if-not-valid.false in
     let level = c.word-level.result / 256 in
     let same = c.word-level.ensures.same in
-    let level_is : level ≡ root_level m root = root-level key.order key.read m root tree some c.word-level.result c.word-level.ensures.value in
+    let level_is : level ≡ root_level m root = (ap (λ w. w / 256) c.word-level.ensures.value ∙ root-level key.order key.read m root tree some) in
     let old = g.S.Store.ledger s in
     let t = c.insert_below.new.store in
     let n = g.S.Frozen.records t in
     let mid = g.S.Store.ledger t in
     let x_makes : MakesNodes old mid m n (2 * suc level) = subst (λ f. MakesNodes (g.S.Store.ledger f) mid (g.S.Frozen.records f) n (2 * suc level)) same c.insert_below.ensures.makes in
-    let u = c.make_root.new.store in
+    let u = c.root_over.new.store in
     let new = g.S.Store.ledger u in
     let o = g.S.Frozen.records u in
-    let both : MakesNodes old new m o (2 * suc level + 1) = makes-then old mid new m n o (2 * suc level) 1 (2 * suc level + 1) (omega arith) x_makes c.make_root.ensures.makes in
+    let both : MakesNodes old new m o (2 * suc level + 1) = makes-then old mid new m n o (2 * suc level) 1 (2 * suc level + 1) (omega arith) x_makes c.root_over.ensures.makes in
     let up = root-levels key.order key.read m root tree some level level_is in
     on_err c.from_residual-in_err-next.result (makes-more old new m o (2 * suc level + 1) (2 * levels m root + 1) (omega arith) both)
 
@@ -351,7 +331,7 @@ drop_nodes-requires-clause-once g c =
     let some : 0 < root = is_valid c.valid.result root c.valid.ensures.0 c.if-not-valid.false in
     let level = c.word-level.result / 256 in
     let same = c.word-level.ensures.same in
-    let level_is : level ≡ root_level m root = root-level key.order key.read m root tree some c.word-level.result c.word-level.ensures.value in
+    let level_is : level ≡ root_level m root = (ap (λ w. w / 256) c.word-level.ensures.value ∙ root-level key.order key.read m root tree some) in
     let old = g.S.Store.ledger s in
     let t = c.insert_below.new.store in
     let n = g.S.Frozen.records t in
@@ -379,7 +359,7 @@ drop_nodes-requires-clause-used g c =
     let some : 0 < root = is_valid c.valid.result root c.valid.ensures.0 c.if-not-valid.false in
     let level = c.word-level.result / 256 in
     let same = c.word-level.ensures.same in
-    let level_is : level ≡ root_level m root = root-level key.order key.read m root tree some c.word-level.result c.word-level.ensures.value in
+    let level_is : level ≡ root_level m root = (ap (λ w. w / 256) c.word-level.ensures.value ∙ root-level key.order key.read m root tree some) in
     let old = g.S.Store.ledger s in
     let t = c.insert_below.new.store in
     let n = g.S.Frozen.records t in
@@ -395,11 +375,11 @@ drop_nodes-requires-clause-used g c =
     let x0 : Inserts seen pair old mid m n level root c.new-replaced.result.items gone parts =
     subst (λ f. Inserts (seen_by key.read key.order sought (g.S.Frozen.records f)) pair (g.S.Store.ledger f) mid (g.S.Frozen.records f) n level root c.new-replaced.result.items gone parts) same c.in_ok-parts.ensures.inserts in
     let x : Inserts seen pair old mid m n level root [] gone parts = subst (λ xs. Inserts seen pair old mid m n level root xs gone parts) c.new-replaced.ensures x0 in
-    let u = c.make_root.new.store in
+    let u = c.root_over.new.store in
     let new = g.S.Store.ledger u in
     let o = g.S.Frozen.records u in
-    let both : MakesNodes old new m o (2 * suc level + 1) = makes-then old mid new m n o (2 * suc level) 1 (2 * suc level + 1) (omega arith) x_makes c.make_root.ensures.makes in
-    subst (AllByRecursion (λ r. in_use (new.class r) ≡ true)) (sym c.deref.ensures.0) (gone-used key.order total key.read sought m n old mid root level pair tree some level_is few gone parts x new o (2 * suc level + 1) both c.requires.used)
+    let both : MakesNodes old new m o (2 * suc level + 1) = makes-then old mid new m n o (2 * suc level) 1 (2 * suc level + 1) (omega arith) x_makes c.root_over.ensures.makes in
+    subst (AllByRecursion (λ r. in_use (new.status r) ≡ true)) (sym c.deref.ensures.0) (gone-used key.order total key.read sought m n old mid root level pair tree some level_is few gone parts x new o (2 * suc level + 1) both c.requires.used)
 
 pub returns-clause-made : goal.returns-clause-made
 returns-clause-made g c =
@@ -411,7 +391,7 @@ returns-clause-made g c =
     let some : 0 < root = is_valid c.valid.result root c.valid.ensures.0 c.if-not-valid.false in
     let level = c.word-level.result / 256 in
     let same = c.word-level.ensures.same in
-    let level_is : level ≡ root_level m root = root-level key.order key.read m root tree some c.word-level.result c.word-level.ensures.value in
+    let level_is : level ≡ root_level m root = (ap (λ w. w / 256) c.word-level.ensures.value ∙ root-level key.order key.read m root tree some) in
     let old = g.S.Store.ledger s in
     let t = c.insert_below.new.store in
     let n = g.S.Frozen.records t in
@@ -427,7 +407,7 @@ returns-clause-made g c =
     let x0 : Inserts seen pair old mid m n level root c.new-replaced.result.items gone parts =
     subst (λ f. Inserts (seen_by key.read key.order sought (g.S.Frozen.records f)) pair (g.S.Store.ledger f) mid (g.S.Frozen.records f) n level root c.new-replaced.result.items gone parts) same c.in_ok-parts.ensures.inserts in
     let x : Inserts seen pair old mid m n level root [] gone parts = subst (λ xs. Inserts seen pair old mid m n level root xs gone parts) c.new-replaced.ensures x0 in
-    let u = c.make_root.new.store in
+    let u = c.root_over.new.store in
     let v = c.drop_nodes.new.store in
     let new = g.S.Store.ledger u in
     let o = g.S.Frozen.records u in
@@ -435,7 +415,7 @@ returns-clause-made g c =
     let e = g.S.Frozen.records v in
     let next = c.in_ok-next.next in
     let z : Drops new end o e gone = subst (Drops new end o e) c.deref.ensures.0 c.drop_nodes.ensures in
-    let both : MakesNodes old new m o (2 * suc level + 1) = makes-then old mid new m n o (2 * suc level) 1 (2 * suc level + 1) (omega arith) x_makes c.make_root.ensures.makes in
+    let both : MakesNodes old new m o (2 * suc level + 1) = makes-then old mid new m n o (2 * suc level) 1 (2 * suc level + 1) (omega arith) x_makes c.root_over.ensures.makes in
     let made = both.made in
     let up = root-levels key.order key.read m root tree some level level_is in
     let kept : end.made 34 ≡ new.made 34 = ap (λ (k : ℕ → ℕ). k 34) z.made in
@@ -451,7 +431,7 @@ returns-clause-others g c =
     let some : 0 < root = is_valid c.valid.result root c.valid.ensures.0 c.if-not-valid.false in
     let level = c.word-level.result / 256 in
     let same = c.word-level.ensures.same in
-    let level_is : level ≡ root_level m root = root-level key.order key.read m root tree some c.word-level.result c.word-level.ensures.value in
+    let level_is : level ≡ root_level m root = (ap (λ w. w / 256) c.word-level.ensures.value ∙ root-level key.order key.read m root tree some) in
     let old = g.S.Store.ledger s in
     let t = c.insert_below.new.store in
     let n = g.S.Frozen.records t in
@@ -467,7 +447,7 @@ returns-clause-others g c =
     let x0 : Inserts seen pair old mid m n level root c.new-replaced.result.items gone parts =
     subst (λ f. Inserts (seen_by key.read key.order sought (g.S.Frozen.records f)) pair (g.S.Store.ledger f) mid (g.S.Frozen.records f) n level root c.new-replaced.result.items gone parts) same c.in_ok-parts.ensures.inserts in
     let x : Inserts seen pair old mid m n level root [] gone parts = subst (λ xs. Inserts seen pair old mid m n level root xs gone parts) c.new-replaced.ensures x0 in
-    let u = c.make_root.new.store in
+    let u = c.root_over.new.store in
     let v = c.drop_nodes.new.store in
     let new = g.S.Store.ledger u in
     let o = g.S.Frozen.records u in
@@ -475,7 +455,7 @@ returns-clause-others g c =
     let e = g.S.Frozen.records v in
     let next = c.in_ok-next.next in
     let z : Drops new end o e gone = subst (Drops new end o e) c.deref.ensures.0 c.drop_nodes.ensures in
-    let both : MakesNodes old new m o (2 * suc level + 1) = makes-then old mid new m n o (2 * suc level) 1 (2 * suc level + 1) (omega arith) x_makes c.make_root.ensures.makes in
+    let both : MakesNodes old new m o (2 * suc level + 1) = makes-then old mid new m n o (2 * suc level) 1 (2 * suc level + 1) (omega arith) x_makes c.root_over.ensures.makes in
     λ width ne. ap (λ (k : ℕ → ℕ). k width) z.made ∙ both.others width ne
 
 pub returns-clause-tree : goal.returns-clause-tree
@@ -488,7 +468,7 @@ returns-clause-tree g c =
     let some : 0 < root = is_valid c.valid.result root c.valid.ensures.0 c.if-not-valid.false in
     let level = c.word-level.result / 256 in
     let same = c.word-level.ensures.same in
-    let level_is : level ≡ root_level m root = root-level key.order key.read m root tree some c.word-level.result c.word-level.ensures.value in
+    let level_is : level ≡ root_level m root = (ap (λ w. w / 256) c.word-level.ensures.value ∙ root-level key.order key.read m root tree some) in
     let old = g.S.Store.ledger s in
     let t = c.insert_below.new.store in
     let n = g.S.Frozen.records t in
@@ -504,7 +484,7 @@ returns-clause-tree g c =
     let x0 : Inserts seen pair old mid m n level root c.new-replaced.result.items gone parts =
     subst (λ f. Inserts (seen_by key.read key.order sought (g.S.Frozen.records f)) pair (g.S.Store.ledger f) mid (g.S.Frozen.records f) n level root c.new-replaced.result.items gone parts) same c.in_ok-parts.ensures.inserts in
     let x : Inserts seen pair old mid m n level root [] gone parts = subst (λ xs. Inserts seen pair old mid m n level root xs gone parts) c.new-replaced.ensures x0 in
-    let u = c.make_root.new.store in
+    let u = c.root_over.new.store in
     let v = c.drop_nodes.new.store in
     let new = g.S.Store.ledger u in
     let o = g.S.Frozen.records u in
@@ -524,7 +504,7 @@ returns-clause-pairs g c =
     let some : 0 < root = is_valid c.valid.result root c.valid.ensures.0 c.if-not-valid.false in
     let level = c.word-level.result / 256 in
     let same = c.word-level.ensures.same in
-    let level_is : level ≡ root_level m root = root-level key.order key.read m root tree some c.word-level.result c.word-level.ensures.value in
+    let level_is : level ≡ root_level m root = (ap (λ w. w / 256) c.word-level.ensures.value ∙ root-level key.order key.read m root tree some) in
     let old = g.S.Store.ledger s in
     let t = c.insert_below.new.store in
     let n = g.S.Frozen.records t in
@@ -540,7 +520,7 @@ returns-clause-pairs g c =
     let x0 : Inserts seen pair old mid m n level root c.new-replaced.result.items gone parts =
     subst (λ f. Inserts (seen_by key.read key.order sought (g.S.Frozen.records f)) pair (g.S.Store.ledger f) mid (g.S.Frozen.records f) n level root c.new-replaced.result.items gone parts) same c.in_ok-parts.ensures.inserts in
     let x : Inserts seen pair old mid m n level root [] gone parts = subst (λ xs. Inserts seen pair old mid m n level root xs gone parts) c.new-replaced.ensures x0 in
-    let u = c.make_root.new.store in
+    let u = c.root_over.new.store in
     let v = c.drop_nodes.new.store in
     let new = g.S.Store.ledger u in
     let o = g.S.Frozen.records u in
@@ -560,7 +540,7 @@ returns-clause-readable g c =
     let some : 0 < root = is_valid c.valid.result root c.valid.ensures.0 c.if-not-valid.false in
     let level = c.word-level.result / 256 in
     let same = c.word-level.ensures.same in
-    let level_is : level ≡ root_level m root = root-level key.order key.read m root tree some c.word-level.result c.word-level.ensures.value in
+    let level_is : level ≡ root_level m root = (ap (λ w. w / 256) c.word-level.ensures.value ∙ root-level key.order key.read m root tree some) in
     let old = g.S.Store.ledger s in
     let t = c.insert_below.new.store in
     let n = g.S.Frozen.records t in
@@ -576,7 +556,7 @@ returns-clause-readable g c =
     let x0 : Inserts seen pair old mid m n level root c.new-replaced.result.items gone parts =
     subst (λ f. Inserts (seen_by key.read key.order sought (g.S.Frozen.records f)) pair (g.S.Store.ledger f) mid (g.S.Frozen.records f) n level root c.new-replaced.result.items gone parts) same c.in_ok-parts.ensures.inserts in
     let x : Inserts seen pair old mid m n level root [] gone parts = subst (λ xs. Inserts seen pair old mid m n level root xs gone parts) c.new-replaced.ensures x0 in
-    let u = c.make_root.new.store in
+    let u = c.root_over.new.store in
     let v = c.drop_nodes.new.store in
     let new = g.S.Store.ledger u in
     let o = g.S.Frozen.records u in
@@ -596,7 +576,7 @@ returns-clause-replaces g c =
     let some : 0 < root = is_valid c.valid.result root c.valid.ensures.0 c.if-not-valid.false in
     let level = c.word-level.result / 256 in
     let same = c.word-level.ensures.same in
-    let level_is : level ≡ root_level m root = root-level key.order key.read m root tree some c.word-level.result c.word-level.ensures.value in
+    let level_is : level ≡ root_level m root = (ap (λ w. w / 256) c.word-level.ensures.value ∙ root-level key.order key.read m root tree some) in
     let old = g.S.Store.ledger s in
     let t = c.insert_below.new.store in
     let n = g.S.Frozen.records t in
@@ -612,7 +592,7 @@ returns-clause-replaces g c =
     let x0 : Inserts seen pair old mid m n level root c.new-replaced.result.items gone parts =
     subst (λ f. Inserts (seen_by key.read key.order sought (g.S.Frozen.records f)) pair (g.S.Store.ledger f) mid (g.S.Frozen.records f) n level root c.new-replaced.result.items gone parts) same c.in_ok-parts.ensures.inserts in
     let x : Inserts seen pair old mid m n level root [] gone parts = subst (λ xs. Inserts seen pair old mid m n level root xs gone parts) c.new-replaced.ensures x0 in
-    let u = c.make_root.new.store in
+    let u = c.root_over.new.store in
     let v = c.drop_nodes.new.store in
     let new = g.S.Store.ledger u in
     let o = g.S.Frozen.records u in
@@ -623,7 +603,7 @@ returns-clause-replaces g c =
     end-replaces key.order total key.read sought m n old mid root level pair tree some level_is few gone parts x new end o e next x_makes c.in_ok-next.ensures.root z c.requires.used
 
 pub returns-in_err-parts-clause-full : goal.returns-in_err-parts-clause-full
-returns-in_err-parts-clause-full g c = λ w a h e. c.in_err-parts.ensures.full w a h (ap Err (err_same c.from_residual.result c.in_err-parts.field-0.0 _ c.from_residual.ensures.1 e))
+returns-in_err-parts-clause-full g c = λ w a h e. c.in_err-parts.ensures.full w a h (ap Err (same_error c.from_residual.result c.in_err-parts.field-0.0 _ c.from_residual.ensures.1 e))
 
 pub returns-in_err-next-clause-full : goal.returns-in_err-next-clause-full
-returns-in_err-next-clause-full g c = λ w a h e. c.in_err-next.ensures.full w a h (ap Err (err_same c.from_residual-in_err-next.result c.in_err-next.field-0.0 _ c.from_residual-in_err-next.ensures.1 e))
+returns-in_err-next-clause-full g c = λ w a h e. c.in_err-next.ensures.full w a h (ap Err (same_error c.from_residual-in_err-next.result c.in_err-next.field-0.0 _ c.from_residual-in_err-next.ensures.1 e))

@@ -1,14 +1,15 @@
-use Rattle.std.proofs.Common.{◌≡◌, ℕ, suc, ◌-◌, ◌<◌, ◌≤◌, [], ◌∷◌, ◌++◌, length, true, sym, ap, subst, ◌∙◌, arith, Err}
+use Rattle.std.proofs.Common.{rules, ◌≡◌, ℕ, suc, ◌-◌, ◌<◌, ◌≤◌, [], ◌∷◌, ◌++◌, length, true, sym, ap, subst, ◌∙◌, arith, Err, ◌^◌}
 use Rattle.std.specs.Prelude.{IsSome}
+use Rattle.list_facts.proofs.Errors.{same_error}
 use Rattle.tree_images.specs.Nodes.{level_of}
 use Rattle.tree_images.specs.Trees.{pairs_below, IsNode, root_least}
 use Rattle.key_order.specs.Keys.{seen_by, Ascends, AllReadable}
 use Rattle.key_order.specs.Pairs.{lookup}
 use Rattle.tree_node.specs.Slots.{slot_pairs, IsInHand}
-use Rattle.tree_remove.proofs.Results.{err_same}
-use Rattle.tree_remove.proofs.ReadLemmas.{node-level}
-use Rattle.tree_remove.proofs.RemoveLemmas.{root_least-few, removes-leaf, removes-over, over-few, over-least, over-most, over-hand}
-use Rattle.tree_remove.proofs.StandLemmas.{node-weaker}
+use Rattle.tree_node.proofs.ReadLemmas.{node-level}
+use Rattle.tree_node.proofs.RootLemmas.{root_least-few}
+use Rattle.tree_node.proofs.ChildLemmas.{IsNode-lower}
+use Rattle.tree_remove.proofs.RemoveLemmas.{removes-leaf, removes-over, over-few, over-least, over-most, over-hand}
 use Rattle.tree_remove.specs.Removes.{Removes, PutsBack, IsStep, spliced}
 use Rattle.tree_remove.proofs.below.+remove_below.Goals as goal
 
@@ -27,9 +28,9 @@ returns-then-level-eq0-clause-removes g t c =
     (subst (λ n. Removes seen (ledger c.args.store.now) (ledger c.args.store.now) m m n node before c.push.new.self.items leaf.result.keys.items leaf.result.values.items) (sym c.if-level-eq0.true)
     (removes-leaf seen (ledger c.args.store.now) m node before c.push.new.self.items leaf.result.keys.items leaf.result.values.items leaf.ensures.even leaf.ensures.pairs leaf.ensures.size pushed))
 
-pub step_down-step-requires-clause-inner : goal.step_down-step-requires-clause-inner
-step_down-step-requires-clause-inner g t c =
-    let records = g.S.Frozen.records in
+pub step_down-step-requires : goal.step_down-step-requires
+step_down-step-requires g t c = (omega arith, (omega arith, (
+    (let records = g.S.Frozen.records in
     let m = records c.args.store.now in
     let node = c.args.node in
     let level = c.args.level in
@@ -37,11 +38,8 @@ step_down-step-requires-clause-inner g t c =
     let l = level - 1 in
     let some = c.if-level-eq0.false in
     let up : level ≡ suc l = omega arith in
-    omega arith
-
-pub step_down-step-requires-clause-node : goal.step_down-step-requires-clause-node
-step_down-step-requires-clause-node g t c =
-    let records = g.S.Frozen.records in
+    omega arith),
+    ((let records = g.S.Frozen.records in
     let m = records c.args.store.now in
     let node = c.args.node in
     let level = c.args.level in
@@ -49,35 +47,26 @@ step_down-step-requires-clause-node g t c =
     let l = level - 1 in
     let some = c.if-level-eq0.false in
     let up : level ≡ suc l = omega arith in
-    subst (λ n. IsNode m 2 n node) (sym at) (subst (λ n. IsNode m n level node) (ap root_least up) c.requires.node)
-
-pub step_down-step-requires-clause-ascends : goal.step_down-step-requires-clause-ascends
-step_down-step-requires-clause-ascends g t c =
-    let records = g.S.Frozen.records in
+    subst (λ n. IsNode m 2 n node) (sym at) (subst (λ n. IsNode m n level node) (ap root_least up) c.requires.node)),
+    ((let records = g.S.Frozen.records in
     let m = records c.args.store.now in
     let node = c.args.node in
     let level = c.args.level in
     let at = node-level m (root_least level) level node c.requires.node in
-    subst (λ n. Ascends g.K.KeyOrder.order g.K.KeyOrder.read m (pairs_below m n node)) (sym at) c.requires.ascends
-
-pub step_down-step-requires-clause-readable : goal.step_down-step-requires-clause-readable
-step_down-step-requires-clause-readable g t c =
-    let records = g.S.Frozen.records in
+    subst (λ n. Ascends g.K.KeyOrder.order g.K.KeyOrder.read m (pairs_below m n node)) (sym at) c.requires.ascends),
+    ((let records = g.S.Frozen.records in
     let m = records c.args.store.now in
     let node = c.args.node in
     let level = c.args.level in
     let at = node-level m (root_least level) level node c.requires.node in
-    subst (λ n. AllReadable g.K.KeyOrder.can_read m (pairs_below m n node)) (sym at) c.requires.readable
-
-pub step_down-step-requires-clause-there : goal.step_down-step-requires-clause-there
-step_down-step-requires-clause-there g t c =
-    let records = g.S.Frozen.records in
+    subst (λ n. AllReadable g.K.KeyOrder.can_read m (pairs_below m n node)) (sym at) c.requires.readable),
+    ((let records = g.S.Frozen.records in
     let m = records c.args.store.now in
     let node = c.args.node in
     let level = c.args.level in
     let at = node-level m (root_least level) level node c.requires.node in
     let k = g.K.KeyOrder in
-    subst (λ n. IsSome (lookup (seen_by k.read k.order (k.sought c.args.key.now) m) (pairs_below m n node))) (sym at) c.requires.there
+    subst (λ n. IsSome (lookup (seen_by k.read k.order (k.sought c.args.key.now) m) (pairs_below m n node))) (sym at) c.requires.there))))))))
 
 pub remove_below-requires : goal.remove_below-requires
 remove_below-requires g t c =
@@ -106,42 +95,21 @@ remove_below-requires g t c =
     let readable = subst (λ n. AllReadable k.can_read m (pairs_below m n child)) down c.step_down-step.ensures.readable in
     let sub = step.child_node in
     λ κs h. (
-      omega arith,
-      (
-        h.0,
-        (
-          h.1.0,
-          (
-            h.1.1.0,
-            (
-              h.1.1.1.0,
-              (
-                h.1.1.1.1,
-                (
-                  subst (λ f. (g.S.Store.ledger f).unit ≡ true) (sym same) c.requires.unit,
-                  (
-                    omega arith,
-                    (
-                      subst (λ f. IsNode (records f) (root_least l) l child) (sym same) (node-weaker m l 8 (root_least l) child few sub),
-                      (
-                        subst (λ f. Ascends k.order k.read (records f) (pairs_below (records f) l child)) (sym same) ascends,
-                        (
-                          subst (λ f. AllReadable k.can_read (records f) (pairs_below (records f) l child)) (sym same) readable,
-                          (
-                            subst (λ f. IsSome (lookup (seen_by k.read k.order s (records f)) (pairs_below (records f) l child))) (sym same) step.there,
-                            omega arith,
-                          ),
-                        ),
-                      ),
-                    ),
-                  ),
-                ),
-              ),
-            ),
-          ),
-        ),
-      ),
-    )
+      omega arith, (
+      search rules, (
+      h.0, (
+      h.1.0, (
+      h.1.1.0, (
+      h.1.1.1.0, (
+      h.1.1.1.1, (
+      omega arith, (
+      subst (λ f. (g.S.Store.ledger f).unit ≡ true) (sym same) c.requires.unit, (
+      omega arith, (
+      subst (λ f. IsNode (records f) (root_least l) l child) (sym same) (IsNode-lower m 8 (root_least l) l child few sub), (
+      subst (λ f. Ascends k.order k.read (records f) (pairs_below (records f) l child)) (sym same) ascends, (
+      subst (λ f. AllReadable k.can_read (records f) (pairs_below (records f) l child)) (sym same) readable, (
+      subst (λ f. IsSome (lookup (seen_by k.read k.order s (records f)) (pairs_below (records f) l child))) (sym same) step.there, (
+      omega arith)))))))))))))))
 
 pub put_back-requires-clause-upper : goal.put_back-requires-clause-upper
 put_back-requires-clause-upper g t c =
@@ -283,7 +251,7 @@ put_back-requires-clause-few g t c =
     let removes = subst (λ xs. Removes seen old mid m n l child xs middle below.keys.items below.values.items) pushed
     (subst (λ f. Removes (seen_by k.read k.order s (records f)) (ledger f) mid (records f) n l child c.push.new.self.items middle below.keys.items below.values.items) same c.in_ok-child.ensures.removes) in
     let there = subst (λ j. IsSome (lookup seen (pairs_below m j node))) up c.requires.there in
-    subst (λ j. length (spliced n j place slots.keys.items slots.values.items (slot_pairs n j below.keys.items below.values.items)) < 4294967296) (sym c.in_ok-child.ensures.level)
+    subst (λ j. length (spliced n j place slots.keys.items slots.values.items (slot_pairs n j below.keys.items below.values.items)) < 2 ^ 32) (sym c.in_ok-child.ensures.level)
     (over-few seen old mid m n l node slots.keys.items slots.values.items place child step before middle below.keys.items below.values.items removes there)
 
 pub returns-clause-removes : goal.returns-clause-removes
@@ -334,7 +302,7 @@ returns-clause-level g t c =
     c.put_back.ensures.level ∙ c.step_down-step.ensures.level ∙ at
 
 pub returns-in_err-child-clause-full : goal.returns-in_err-child-clause-full
-returns-in_err-child-clause-full g t c = λ w a h e. c.in_err-child.ensures.full w a h (ap Err (err_same c.from_residual.result c.in_err-child.field-0.0 _ c.from_residual.ensures.1 e))
+returns-in_err-child-clause-full g t c = λ w a h e. c.in_err-child.ensures.full w a h (ap Err (same_error c.from_residual.result c.in_err-child.field-0.0 _ c.from_residual.ensures.1 e))
 
 pub returns-in_err-put_back-clause-full : goal.returns-in_err-put_back-clause-full
-returns-in_err-put_back-clause-full g t c = λ w a h e. c.in_err-put_back.ensures.full w a h (ap Err (err_same c.from_residual-in_err-put_back.result c.in_err-put_back.field-0.0 _ c.from_residual-in_err-put_back.ensures.1 e))
+returns-in_err-put_back-clause-full g t c = λ w a h e. c.in_err-put_back.ensures.full w a h (ap Err (same_error c.from_residual-in_err-put_back.result c.in_err-put_back.field-0.0 _ c.from_residual-in_err-put_back.ensures.1 e))

@@ -1,5 +1,5 @@
 use Rattle.std.proofs.Common.{◌≤◌, ◌++◌, length, set, ap, ◌∙◌, arith, length-append, Err}
-use Rattle.tree_remove.proofs.Results.{err_same}
+use Rattle.list_facts.proofs.Errors.{same_error}
 use Rattle.tree_remove.proofs.SettleLemmas.{settles-merged, part-at}
 use Rattle.tree_remove.proofs.neighbours.merge.Goals as goal
 
@@ -24,4 +24,4 @@ returns-clause-settles g c =
     (c.set_part.ensures.values ∙ ap (λ vs. set vs c.args.first part.node) c.remove-2.ensures.items)
 
 pub returns-in_err-part-clause-full : goal.returns-in_err-part-clause-full
-returns-in_err-part-clause-full g c = λ w a h e. c.in_err-part.ensures.full w a h (ap Err (err_same c.from_residual.result c.in_err-part.field-0.0 _ c.from_residual.ensures.1 e))
+returns-in_err-part-clause-full g c = λ w a h e. c.in_err-part.ensures.full w a h (ap Err (same_error c.from_residual.result c.in_err-part.field-0.0 _ c.from_residual.ensures.1 e))

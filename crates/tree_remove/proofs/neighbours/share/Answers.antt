@@ -1,7 +1,7 @@
-use Rattle.std.proofs.Common.{◌≡◌, ◌+◌, ◌<◌, length, set, sym, ap, subst, ◌∙◌, arith, length-append, Err}
+use Rattle.std.proofs.Common.{◌≡◌, ◌+◌, ◌<◌, length, set, sym, ap, subst, ◌∙◌, arith, length-append, Err, ◌^◌}
+use Rattle.list_facts.proofs.Errors.{same_error}
 use Rattle.tree_node.proofs.SlotLemmas.{hand-kept, hand-left, hand-right}
 use Rattle.tree_node.specs.Slots.{slot_pairs, IsInHand}
-use Rattle.tree_remove.proofs.Results.{err_same}
 use Rattle.tree_remove.proofs.SettleLemmas.{settles-shared, part-at, hand-at, few-left, few-right, shifted-sizes}
 use Rattle.tree_remove.proofs.neighbours.share.Goals as goal
 
@@ -19,7 +19,7 @@ make_part-requires-clause-few g c =
     let m = g.S.Frozen.records c.args.store.now in
     let left = c.shift.new.left in
     let right = c.shift.new.right in
-    subst (λ l. length (slot_pairs m l left.keys.items left.values.items) < 4294967296) (sym c.shift.ensures.level)
+    subst (λ l. length (slot_pairs m l left.keys.items left.values.items) < 2 ^ 32) (sym c.shift.ensures.level)
     (few-left m c.args.left.now.level left.keys.items left.values.items right.keys.items right.values.items c.shift.ensures.even _ _ c.shift.ensures.keys c.shift.ensures.values 4294967296 c.requires.few)
 
 pub make_part-requires-2-clause-hand : goal.make_part-requires-2-clause-hand
@@ -40,7 +40,7 @@ make_part-requires-2-clause-few g c =
     let left = c.shift.new.left in
     let right = c.shift.new.right in
     let hand = hand-at m c.args.left.now.level _ _ _ _ c.shift.ensures.keys c.shift.ensures.values c.requires.hand in
-    subst (λ l. length (slot_pairs n l right.keys.items right.values.items) < 4294967296) (sym (c.shift.ensures.level_right ∙ c.requires.same_level))
+    subst (λ l. length (slot_pairs n l right.keys.items right.values.items) < 2 ^ 32) (sym (c.shift.ensures.level_right ∙ c.requires.same_level))
     (few-right m n c.in_ok-part.ensures.makes.node.makes.keeps c.args.left.now.level left.keys.items left.values.items right.keys.items right.values.items c.shift.ensures.even hand _ _ c.shift.ensures.keys c.shift.ensures.values 4294967296 c.requires.few)
 
 pub returns-clause-settles : goal.returns-clause-settles
@@ -76,7 +76,7 @@ returns-clause-settles g c =
     (c.set_part-2.ensures.values ∙ ap (λ vs. set vs (c.args.first + 1) two.node) c.set_part.ensures.values)
 
 pub returns-in_err-part-clause-full : goal.returns-in_err-part-clause-full
-returns-in_err-part-clause-full g c = λ w a h e. c.in_err-part.ensures.full w a h (ap Err (err_same c.from_residual.result c.in_err-part.field-0.0 _ c.from_residual.ensures.1 e))
+returns-in_err-part-clause-full g c = λ w a h e. c.in_err-part.ensures.full w a h (ap Err (same_error c.from_residual.result c.in_err-part.field-0.0 _ c.from_residual.ensures.1 e))
 
 pub returns-in_err-part-2-clause-full : goal.returns-in_err-part-2-clause-full
-returns-in_err-part-2-clause-full g c = λ w a h e. c.in_err-part-2.ensures.full w a h (ap Err (err_same c.from_residual-in_err-part-2.result c.in_err-part-2.field-0.0 _ c.from_residual-in_err-part-2.ensures.1 e))
+returns-in_err-part-2-clause-full g c = λ w a h e. c.in_err-part-2.ensures.full w a h (ap Err (same_error c.from_residual-in_err-part-2.result c.in_err-part-2.field-0.0 _ c.from_residual-in_err-part-2.ensures.1 e))

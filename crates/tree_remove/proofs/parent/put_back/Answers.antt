@@ -1,15 +1,16 @@
-use Rattle.std.proofs.Common.{◌≡◌, suc, ◌-◌, ◌<◌, ◌≤◌, ◌++◌, length, get_or, refl, sym, subst, arith, Err, ap}
+use Rattle.std.proofs.Common.{◌≡◌, suc, ◌-◌, ◌<◌, ◌≤◌, ◌++◌, length, get_or, refl, sym, subst, arith, Err, ap, ◌^◌}
+use Rattle.std.proofs.lemmas.Result.{on_ok_weaker}
+use Rattle.list_facts.proofs.Errors.{same_error}
 use Rattle.tree_node.proofs.SlotLemmas.{hand-append}
 use Rattle.tree_node.specs.Slots.{slot_pairs, slot_nodes, IsInHand}
 use Rattle.tree_remove.proofs.ParentLemmas.{puts-alone, puts-left, puts-right, few-before, few-behind}
-use Rattle.tree_remove.proofs.Results.{on_ok-then, err_same}
 use Rattle.tree_remove.proofs.SettleLemmas.{settles-alone}
 use Rattle.tree_remove.specs.Removes.{IsChild, PutsBack, spliced}
 use Rattle.tree_remove.specs.Settles.{Settles}
 use Rattle.tree_remove.proofs.parent.put_back.Goals as goal
 
-pub returns-then-len-ge8-clause-puts : goal.returns-then-len-ge8-clause-puts
-returns-then-len-ge8-clause-puts g c =
+pub returns-then-len-ge-LEAST_SLOTS-clause-puts : goal.returns-then-len-ge-LEAST_SLOTS-clause-puts
+returns-then-len-ge-LEAST_SLOTS-clause-puts g c =
     let ledger = g.S.Store.ledger in
     let records = g.S.Frozen.records in
     let m = records c.args.store.now in
@@ -51,8 +52,8 @@ make_neighbours-requires-clause-few g c =
     let low = c.requires.place in
     let even = c.requires.parent.even in
     let next : suc (c.args.place - 1) ≡ c.args.place = omega arith in
-    subst (λ s. length (slot_pairs (records s) left.level (left.keys.items ++ child.keys.items) (left.values.items ++ child.values.items)) < 4294967296) (sym same)
-    (subst (λ l. length (slot_pairs m l (left.keys.items ++ child.keys.items) (left.values.items ++ child.values.items)) < 4294967296) (sym level)
+    subst (λ s. length (slot_pairs (records s) left.level (left.keys.items ++ child.keys.items) (left.values.items ++ child.values.items)) < 2 ^ 32) (sym same)
+    (subst (λ l. length (slot_pairs m l (left.keys.items ++ child.keys.items) (left.values.items ++ child.values.items)) < 2 ^ 32) (sym level)
     (few-before m child.level slots.keys.items slots.values.items child.keys.items child.values.items
     c.requires.parent c.requires.hand c.args.place (c.args.place - 1) sibling 4294967296 left.keys.items left.values.items next (omega arith) refl read.hand.even read.pairs_are c.requires.few))
 
@@ -82,8 +83,8 @@ make_neighbours-requires-else-place-gt0-clause-few g c =
     let zero : c.args.place ≡ 0 = omega arith in
     let many = c.requires.many in
     let even = c.requires.parent.even in
-    let few = subst (λ p. length (spliced m child.level p slots.keys.items slots.values.items (slot_pairs m child.level child.keys.items child.values.items)) < 4294967296) zero c.requires.few in
-    subst (λ s. length (slot_pairs (records s) child.level (child.keys.items ++ right.keys.items) (child.values.items ++ right.values.items)) < 4294967296) (sym same)
+    let few = subst (λ p. length (spliced m child.level p slots.keys.items slots.values.items (slot_pairs m child.level child.keys.items child.values.items)) < 2 ^ 32) zero c.requires.few in
+    subst (λ s. length (slot_pairs (records s) child.level (child.keys.items ++ right.keys.items) (child.values.items ++ right.values.items)) < 2 ^ 32) (sym same)
     (few-behind m child.level slots.keys.items slots.values.items child.keys.items child.values.items
     c.requires.parent c.requires.hand sibling 4294967296 right.keys.items right.values.items (omega arith) refl read.pairs_are few)
 
@@ -105,7 +106,7 @@ returns-then-place-gt0-clause-puts g c =
     let some = c.if-place-gt0.true in
     let short : length child.keys.items < 8 = omega arith in
     let next : suc first ≡ c.args.place = omega arith in
-    on_ok-then c.make_neighbours.result
+    on_ok_weaker c.make_neighbours.result
     (λ (settles : Settles (ledger c.read_child-left.new.frozen) (ledger new) (records c.read_child-left.new.frozen) (records new) left.level
     (slot_pairs (records c.read_child-left.new.frozen) left.level (left.keys.items ++ child.keys.items) (left.values.items ++ child.values.items))
     (slot_nodes (records c.read_child-left.new.frozen) left.level (left.values.items ++ child.values.items))
@@ -141,7 +142,7 @@ returns-else-place-gt0-clause-puts g c =
     let zero : c.args.place ≡ 0 = omega arith in
     let many = c.requires.many in
     let short : length child.keys.items < 8 = omega arith in
-    on_ok-then c.make_neighbours-else-place-gt0.result
+    on_ok_weaker c.make_neighbours-else-place-gt0.result
     (λ (settles : Settles (ledger c.read_child-right.new.frozen) (ledger new) (records c.read_child-right.new.frozen) (records new) child.level
     (slot_pairs (records c.read_child-right.new.frozen) child.level (child.keys.items ++ right.keys.items) (child.values.items ++ right.values.items))
     (slot_nodes (records c.read_child-right.new.frozen) child.level (child.values.items ++ right.values.items))
@@ -158,4 +159,4 @@ returns-else-place-gt0-clause-puts g c =
     c.make_neighbours-else-place-gt0.ensures.settles
 
 pub returns-in_err-part-clause-full : goal.returns-in_err-part-clause-full
-returns-in_err-part-clause-full g c = λ w a h e. c.in_err-part.ensures.full w a h (ap Err (err_same c.from_residual.result c.in_err-part.field-0.0 _ c.from_residual.ensures.1 e))
+returns-in_err-part-clause-full g c = λ w a h e. c.in_err-part.ensures.full w a h (ap Err (same_error c.from_residual.result c.in_err-part.field-0.0 _ c.from_residual.ensures.1 e))

@@ -1,6 +1,7 @@
-use Rattle.std.proofs.Common.{ℕ, ◌-◌, ◌≤◌, List, length, get_or, sym, ap, subst, ◌∙◌, arith}
+use Rattle.std.proofs.Common.{rules, ℕ, ◌-◌, ◌≤◌, List, length, get_or, sym, ap, subst, ◌∙◌, arith}
 use Rattle.tree_images.specs.Nodes.{used_of, level_of, node_keys, node_values}
-use Rattle.tree_remove.proofs.ReadLemmas.{child-node, child-read, node-size, node-room, node-level}
+use Rattle.tree_remove.proofs.ReadLemmas.{child-node, child-read}
+use Rattle.tree_node.proofs.ReadLemmas.{node-size, node-room, node-level}
 use Rattle.tree_remove.proofs.parent.read_child.Goals as goal
 
 pub overflow_cast-deref : goal.overflow_cast-deref
@@ -13,21 +14,18 @@ overflow_cast-deref g c =
     let is = ap (λ (vs : List ℕ). get_or vs c.args.place 0) c.deref.ensures.0 in
     omega arith
 
-pub read_node-requires-clause-size : goal.read_node-requires-clause-size
-read_node-requires-clause-size g c =
-    let m = g.F.Frozen.records c.args.frozen.now in
+pub read_node-requires : goal.read_node-requires
+read_node-requires g c = (omega arith, (
+    (let m = g.F.Frozen.records c.args.frozen.now in
     let slots = c.args.slots.now in
     let node = child-node m slots.level slots.keys.items slots.values.items c.args.place c.requires.inner c.requires.parent c.requires.place in
     let is = c.from_raw-child.ensures ∙ ap (λ (vs : List ℕ). get_or vs c.args.place 0) c.deref.ensures.0 in
-    ap (λ (r : ℕ). length (m r)) is ∙ node-size m 8 (slots.level - 1) (get_or slots.values.items c.args.place 0) node
-
-pub read_node-requires-clause-room : goal.read_node-requires-clause-room
-read_node-requires-clause-room g c =
-    let m = g.F.Frozen.records c.args.frozen.now in
+    ap (λ (r : ℕ). length (m r)) is ∙ node-size m 8 (slots.level - 1) (get_or slots.values.items c.args.place 0) node),
+    ((let m = g.F.Frozen.records c.args.frozen.now in
     let slots = c.args.slots.now in
     let node = child-node m slots.level slots.keys.items slots.values.items c.args.place c.requires.inner c.requires.parent c.requires.place in
     let is = c.from_raw-child.ensures ∙ ap (λ (vs : List ℕ). get_or vs c.args.place 0) c.deref.ensures.0 in
-    subst (λ (r : ℕ). used_of (m r) ≤ 16) (sym is) (node-room m 8 (slots.level - 1) (get_or slots.values.items c.args.place 0) node)
+    subst (λ (r : ℕ). used_of (m r) ≤ 16) (sym is) (node-room m 8 (slots.level - 1) (get_or slots.values.items c.args.place 0) node)))))
 
 pub returns-clause-level : goal.returns-clause-level
 returns-clause-level g c =

@@ -1,15 +1,17 @@
-use Rattle.std.proofs.Common.{◌≡◌, ℕ, suc, ◌+◌, ◌/◌, ◌<◌, length, sym, ap, subst, ◌∙◌, arith, Err}
+use Rattle.std.proofs.Common.{rules, ◌≡◌, ℕ, suc, ◌+◌, ◌/◌, ◌<◌, length, sym, ap, subst, ◌∙◌, arith, Err, ◌^◌}
 use Rattle.std.specs.Prelude.{IsSome}
+use Rattle.list_facts.proofs.Errors.{same_error}
 use Rattle.tree_images.specs.Trees.{pairs_below, root_level, root_least, IsNode}
 use Rattle.key_order.specs.Keys.{seen_by, Ascends, AllReadable}
 use Rattle.key_order.specs.Pairs.{lookup}
-use Rattle.tree_frame.specs.Changes.{levels}
-use Rattle.tree_node.proofs.MakesLemmas.{makes-then, makes-more}
-use Rattle.tree_node.specs.Makes.{MakesNodes}
+use Rattle.tree_make.specs.Changes.{levels}
+use Rattle.tree_make.proofs.MakesLemmas.{makes-then, makes-more}
+use Rattle.tree_make.proofs.Results.{if_ok-then}
+use Rattle.tree_make.proofs.TopLemmas.{root-size, root-level, root-low, root-node, root-pairs, root-levels}
+use Rattle.tree_make.specs.Makes.{MakesNodes, MakesRoot}
 use Rattle.tree_node.specs.Slots.{slot_pairs}
-use Rattle.tree_remove.proofs.Results.{if_ok-then, err_same}
-use Rattle.tree_remove.proofs.TreeLemmas.{root-size, root-level, root-low, root-node, root-pairs, root-levels, top-few, top-room, top-some, rebuilds-from}
-use Rattle.tree_remove.specs.Removes.{Removes, MakesRoot}
+use Rattle.tree_remove.proofs.TreeLemmas.{top-few, top-room, top-some, rebuilds-from}
+use Rattle.tree_remove.specs.Removes.{Removes}
 use Rattle.tree_remove.proofs.tree.rebuild.Goals as goal
 
 pub word-level-requires : goal.word-level-requires
@@ -22,20 +24,18 @@ word-level-requires g c =
     let size = root-size k.order k.read m root tree some in
     omega arith
 
-pub remove_below-requires-clause-low : goal.remove_below-requires-clause-low
-remove_below-requires-clause-low g c =
-    let m = g.S.Frozen.records c.args.store.now in
+pub remove_below-requires : goal.remove_below-requires
+remove_below-requires g c = (omega arith, (
+    search rules,
+    ((let m = g.S.Frozen.records c.args.store.now in
     let k = g.K.KeyOrder in
     let root = c.args.root in
     let tree = c.requires.tree in
     let some = c.requires.some in
     let level = c.word-level.result / 256 in
     let is : level ≡ root_level m root = ap (λ (w : ℕ). w / 256) c.word-level.ensures.value ∙ root-level k.order k.read m root tree some in
-    root-low k.order k.read m root tree some level is
-
-pub remove_below-requires-clause-node : goal.remove_below-requires-clause-node
-remove_below-requires-clause-node g c =
-    let m = g.S.Frozen.records c.args.store.now in
+    root-low k.order k.read m root tree some level is),
+    ((let m = g.S.Frozen.records c.args.store.now in
     let k = g.K.KeyOrder in
     let root = c.args.root in
     let tree = c.requires.tree in
@@ -43,11 +43,8 @@ remove_below-requires-clause-node g c =
     let level = c.word-level.result / 256 in
     let is : level ≡ root_level m root = ap (λ (w : ℕ). w / 256) c.word-level.ensures.value ∙ root-level k.order k.read m root tree some in
     subst (λ f. IsNode (g.S.Frozen.records f) (root_least level) level root) (sym c.word-level.ensures.same)
-    (root-node k.order k.read m root tree some level is)
-
-pub remove_below-requires-clause-ascends : goal.remove_below-requires-clause-ascends
-remove_below-requires-clause-ascends g c =
-    let m = g.S.Frozen.records c.args.store.now in
+    (root-node k.order k.read m root tree some level is)),
+    ((let m = g.S.Frozen.records c.args.store.now in
     let k = g.K.KeyOrder in
     let root = c.args.root in
     let tree = c.requires.tree in
@@ -55,11 +52,8 @@ remove_below-requires-clause-ascends g c =
     let level = c.word-level.result / 256 in
     let is : level ≡ root_level m root = ap (λ (w : ℕ). w / 256) c.word-level.ensures.value ∙ root-level k.order k.read m root tree some in
     subst (λ f. Ascends k.order k.read (g.S.Frozen.records f) (pairs_below (g.S.Frozen.records f) level root)) (sym c.word-level.ensures.same)
-    (subst (Ascends k.order k.read m) (root-pairs k.order k.read m root tree some level is) tree.ascends)
-
-pub remove_below-requires-clause-readable : goal.remove_below-requires-clause-readable
-remove_below-requires-clause-readable g c =
-    let m = g.S.Frozen.records c.args.store.now in
+    (subst (Ascends k.order k.read m) (root-pairs k.order k.read m root tree some level is) tree.ascends)),
+    ((let m = g.S.Frozen.records c.args.store.now in
     let k = g.K.KeyOrder in
     let root = c.args.root in
     let tree = c.requires.tree in
@@ -67,11 +61,8 @@ remove_below-requires-clause-readable g c =
     let level = c.word-level.result / 256 in
     let is : level ≡ root_level m root = ap (λ (w : ℕ). w / 256) c.word-level.ensures.value ∙ root-level k.order k.read m root tree some in
     subst (λ f. AllReadable k.can_read (g.S.Frozen.records f) (pairs_below (g.S.Frozen.records f) level root)) (sym c.word-level.ensures.same)
-    (subst (AllReadable k.can_read m) (root-pairs k.order k.read m root tree some level is) c.requires.readable)
-
-pub remove_below-requires-clause-there : goal.remove_below-requires-clause-there
-remove_below-requires-clause-there g c =
-    let m = g.S.Frozen.records c.args.store.now in
+    (subst (AllReadable k.can_read m) (root-pairs k.order k.read m root tree some level is) c.requires.readable)),
+    ((let m = g.S.Frozen.records c.args.store.now in
     let k = g.K.KeyOrder in
     let root = c.args.root in
     let tree = c.requires.tree in
@@ -79,11 +70,8 @@ remove_below-requires-clause-there g c =
     let level = c.word-level.result / 256 in
     let is : level ≡ root_level m root = ap (λ (w : ℕ). w / 256) c.word-level.ensures.value ∙ root-level k.order k.read m root tree some in
     subst (λ f. IsSome (lookup (seen_by k.read k.order (k.sought c.args.key.now) (g.S.Frozen.records f)) (pairs_below (g.S.Frozen.records f) level root))) (sym c.word-level.ensures.same)
-    (subst (λ ps. IsSome (lookup (seen_by k.read k.order (k.sought c.args.key.now) m) ps)) (root-pairs k.order k.read m root tree some level is) c.requires.there)
-
-pub remove_below-requires-clause-room : goal.remove_below-requires-clause-room
-remove_below-requires-clause-room g c =
-    let m = g.S.Frozen.records c.args.store.now in
+    (subst (λ ps. IsSome (lookup (seen_by k.read k.order (k.sought c.args.key.now) m) ps)) (root-pairs k.order k.read m root tree some level is) c.requires.there)),
+    ((let m = g.S.Frozen.records c.args.store.now in
     let k = g.K.KeyOrder in
     let root = c.args.root in
     let tree = c.requires.tree in
@@ -92,7 +80,7 @@ remove_below-requires-clause-room g c =
     let is : level ≡ root_level m root = ap (λ (w : ℕ). w / 256) c.word-level.ensures.value ∙ root-level k.order k.read m root tree some in
     let low = root-low k.order k.read m root tree some level is in
     let none = ap length c.requires.replaced in
-    omega arith
+    omega arith)))))))))
 
 pub returns-in_err-slots-clause-makes : goal.returns-in_err-slots-clause-makes
 returns-in_err-slots-clause-makes g c =
@@ -110,9 +98,10 @@ returns-in_err-slots-clause-makes g c =
     makes-more (ledger c.args.store.now) mid m n (suc level) (levels m root + 1) (omega arith)
     (subst (λ f. MakesNodes (ledger f) mid (g.S.Frozen.records f) n (suc level)) c.word-level.ensures.same c.in_err-slots.ensures.refused)
 
-pub make_root-requires-clause-low : goal.make_root-requires-clause-low
-make_root-requires-clause-low g c =
-    let m = g.S.Frozen.records c.args.store.now in
+pub make_root-requires : goal.make_root-requires
+make_root-requires g c = (omega arith, (
+    search rules,
+    ((let m = g.S.Frozen.records c.args.store.now in
     let k = g.K.KeyOrder in
     let root = c.args.root in
     let tree = c.requires.tree in
@@ -121,11 +110,9 @@ make_root-requires-clause-low g c =
     let is : level ≡ root_level m root = ap (λ (w : ℕ). w / 256) c.word-level.ensures.value ∙ root-level k.order k.read m root tree some in
     let low = root-low k.order k.read m root tree some level is in
     let same = c.in_ok-slots.ensures.level in
-    omega arith
-
-pub make_root-requires-clause-some : goal.make_root-requires-clause-some
-make_root-requires-clause-some g c =
-    let m = g.S.Frozen.records c.args.store.now in
+    omega arith),
+    (search rules,
+    ((let m = g.S.Frozen.records c.args.store.now in
     let k = g.K.KeyOrder in
     let root = c.args.root in
     let tree = c.requires.tree in
@@ -142,11 +129,8 @@ make_root-requires-clause-some g c =
     let same = c.word-level.ensures.same in
     let removes = subst (λ xs. Removes seen old mid m n level root xs gone slots.keys.items slots.values.items) c.requires.replaced
     (subst (λ f. Removes (seen_by k.read k.order (k.sought c.args.key.now) (g.S.Frozen.records f)) (ledger f) mid (g.S.Frozen.records f) n level root c.args.replaced.now.items gone slots.keys.items slots.values.items) same c.in_ok-slots.ensures.removes) in
-    λ above. top-some k.order k.read m root tree some level is seen old mid n gone slots.keys.items slots.values.items removes (let same_level = c.in_ok-slots.ensures.level in omega arith)
-
-pub make_root-requires-clause-room : goal.make_root-requires-clause-room
-make_root-requires-clause-room g c =
-    let m = g.S.Frozen.records c.args.store.now in
+    λ above. top-some k.order k.read m root tree some level is seen old mid n gone slots.keys.items slots.values.items removes (let same_level = c.in_ok-slots.ensures.level in omega arith)),
+    ((let m = g.S.Frozen.records c.args.store.now in
     let k = g.K.KeyOrder in
     let root = c.args.root in
     let tree = c.requires.tree in
@@ -163,11 +147,8 @@ make_root-requires-clause-room g c =
     let same = c.word-level.ensures.same in
     let removes = subst (λ xs. Removes seen old mid m n level root xs gone slots.keys.items slots.values.items) c.requires.replaced
     (subst (λ f. Removes (seen_by k.read k.order (k.sought c.args.key.now) (g.S.Frozen.records f)) (ledger f) mid (g.S.Frozen.records f) n level root c.args.replaced.now.items gone slots.keys.items slots.values.items) same c.in_ok-slots.ensures.removes) in
-    top-room k.order k.read m root tree some level is seen old mid n gone slots.keys.items slots.values.items removes
-
-pub make_root-requires-clause-few : goal.make_root-requires-clause-few
-make_root-requires-clause-few g c =
-    let m = g.S.Frozen.records c.args.store.now in
+    top-room k.order k.read m root tree some level is seen old mid n gone slots.keys.items slots.values.items removes),
+    ((let m = g.S.Frozen.records c.args.store.now in
     let k = g.K.KeyOrder in
     let root = c.args.root in
     let tree = c.requires.tree in
@@ -184,8 +165,8 @@ make_root-requires-clause-few g c =
     let same = c.word-level.ensures.same in
     let removes = subst (λ xs. Removes seen old mid m n level root xs gone slots.keys.items slots.values.items) c.requires.replaced
     (subst (λ f. Removes (seen_by k.read k.order (k.sought c.args.key.now) (g.S.Frozen.records f)) (ledger f) mid (g.S.Frozen.records f) n level root c.args.replaced.now.items gone slots.keys.items slots.values.items) same c.in_ok-slots.ensures.removes) in
-    subst (λ j. length (slot_pairs n j slots.keys.items slots.values.items) < 4294967296) (sym c.in_ok-slots.ensures.level)
-    (top-few k.order k.read m root tree some level is seen old mid n gone slots.keys.items slots.values.items removes (subst (λ ps. IsSome (lookup seen ps)) (root-pairs k.order k.read m root tree some level is) c.requires.there))
+    subst (λ j. length (slot_pairs n j slots.keys.items slots.values.items) < 2 ^ 32) (sym c.in_ok-slots.ensures.level)
+    (top-few k.order k.read m root tree some level is seen old mid n gone slots.keys.items slots.values.items removes (subst (λ ps. IsSome (lookup seen ps)) (root-pairs k.order k.read m root tree some level is) c.requires.there))))))))))
 
 pub returns-clause-rebuilds : goal.returns-clause-rebuilds
 returns-clause-rebuilds g c =
@@ -237,4 +218,4 @@ returns-clause-makes g c =
     makes-then old mid (ledger c.make_root.new.store) m n (g.S.Frozen.records c.make_root.new.store) (level + removes.extra) 1 (levels m root + 1) (omega arith) removes.makes c.make_root.ensures.makes
 
 pub returns-in_err-slots-clause-full : goal.returns-in_err-slots-clause-full
-returns-in_err-slots-clause-full g c = λ w a h e. c.in_err-slots.ensures.full w a h (ap Err (err_same c.from_residual.result c.in_err-slots.field-0.0 _ c.from_residual.ensures.1 e))
+returns-in_err-slots-clause-full g c = λ w a h e. c.in_err-slots.ensures.full w a h (ap Err (same_error c.from_residual.result c.in_err-slots.field-0.0 _ c.from_residual.ensures.1 e))

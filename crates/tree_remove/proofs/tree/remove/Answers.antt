@@ -1,10 +1,10 @@
 use Rattle.std.proofs.Common.{◌≡◌, ◌+◌, sym, subst, true, Err, ap}
 use Rattle.std.specs.List.{AllByRecursion}
+use Rattle.list_facts.proofs.Errors.{same_error}
 use Rattle.key_order.specs.Keys.{seen_by}
-use Rattle.store_api.specs.Classes.{in_use}
-use Rattle.tree_frame.specs.Changes.{Drops, levels}
-use Rattle.tree_frame.specs.Times.{EachOnce}
-use Rattle.tree_remove.proofs.Results.{err_same}
+use Rattle.store_api.specs.Statuses.{in_use}
+use Rattle.tree_make.specs.Changes.{Drops, levels}
+use Rattle.tree_make.specs.Times.{EachOnce}
 use Rattle.tree_remove.proofs.TreeLemmas.{gone-once, gone-used, end-replaces, end-pairs, end-readable, end-tree}
 use Rattle.tree_remove.proofs.tree.remove.Goals as goal
 
@@ -27,7 +27,7 @@ drop_nodes-requires-clause-used g c =
     let m = g.S.Frozen.records c.args.store.now in
     let n = g.S.Frozen.records c.rebuild.new.store in
     let gone = c.rebuild.new.replaced.items in
-    subst (AllByRecursion (λ r. in_use ((ledger c.rebuild.new.store).class r) ≡ true)) (sym c.deref.ensures.0)
+    subst (AllByRecursion (λ r. in_use ((ledger c.rebuild.new.store).status r) ≡ true)) (sym c.deref.ensures.0)
     (gone-used k.order g.met.K.KeyOrder.total k.can_read k.read k.reads_from g.met.K.KeyOrder.stays (seen_by k.read k.order (k.sought c.args.key.now) m)
     (ledger c.args.store.now) (ledger c.rebuild.new.store) (ledger c.rebuild.new.store) m n n c.args.root c.in_ok-next.next gone
     c.requires.tree c.requires.readable c.requires.apart c.requires.used (levels m c.args.root + 1) c.rebuild.ensures.makes c.in_ok-next.ensures.rebuilds)
@@ -81,4 +81,4 @@ returns-clause-replaces g c =
     c.requires.tree c.requires.readable c.requires.apart c.requires.used (levels m c.args.root + 1) c.rebuild.ensures.makes c.in_ok-next.ensures.rebuilds drops
 
 pub returns-in_err-next-clause-full : goal.returns-in_err-next-clause-full
-returns-in_err-next-clause-full g c = λ w a h e. c.in_err-next.ensures.full w a h (ap Err (err_same c.from_residual.result c.in_err-next.field-0.0 _ c.from_residual.ensures.1 e))
+returns-in_err-next-clause-full g c = λ w a h e. c.in_err-next.ensures.full w a h (ap Err (same_error c.from_residual.result c.in_err-next.field-0.0 _ c.from_residual.ensures.1 e))

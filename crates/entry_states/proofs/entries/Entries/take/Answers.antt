@@ -63,13 +63,15 @@ new-requires g c =
     let idle : v.ready ≡ 0 = subst (λ (o : RowsView). o.ready ≡ 0) (sym c.self.view_is) c.requires.idle in
     let x = c.in_ok-number.number in
     let free : IsOpen (row_at v.rows c.args.width).shelf x = subst (λ (n : RowView). IsOpen n.shelf x) row c.in_ok-number.ensures.open in
-    let low = below g.row.OFFSET_BITS v c.self.invariant c.args.width c.requires.width idle x free in
-    (omega arith, (
-      subst (λ n. n < offset_limit g.row.OFFSET_BITS) (sym (c.place-offset.ensures.offset ∙ ap (λ (n : RowView). x % n.capacity + 1) made))
-      (offset-low g.row.OFFSET_BITS v c.self.invariant c.args.width c.requires.width x),
-      subst (λ n. n < buffer_limit g.row.OFFSET_BITS) (sym (c.place-offset.ensures.buffer ∙ ap (λ (n : RowView). get_or n.buffers (x / n.capacity) 0) made))
-      (buffer-low g.row.OFFSET_BITS v c.self.invariant c.args.width c.requires.width x low),
-    ))
+    let low = below g.row.OFFSET_BITS v c.self.invariant c.args.width c.requires.width idle x free in (
+      omega arith,
+      (
+        subst (λ n. n < offset_limit g.row.OFFSET_BITS) (sym (c.place-offset.ensures.offset ∙ ap (λ (n : RowView). x % n.capacity + 1) made))
+            (offset-low g.row.OFFSET_BITS v c.self.invariant c.args.width c.requires.width x),
+        subst (λ n. n < buffer_limit g.row.OFFSET_BITS) (sym (c.place-offset.ensures.buffer ∙ ap (λ (n : RowView). get_or n.buffers (x / n.capacity) 0) made))
+            (buffer-low g.row.OFFSET_BITS v c.self.invariant c.args.width c.requires.width x low),
+      ),
+    )
 
 pub invariant_of-self-2 : goal.invariant_of-self-2
 unfolding entries_of

@@ -1,12 +1,12 @@
 use Rattle.std.proofs.Common.{rules, ◌≡◌, ◌+◌, ◌-◌, ◌<◌, ◌≤◌, length, sym, ap, subst, ◌∙◌, arith, []}
 use Rattle.image_base.specs.Records.{HasWord, word_at}
-use Rattle.tree_images.specs.Nodes.{level_of, used_of}
+use Rattle.tree_images.specs.Nodes.{level_of, used_of, node_keys}
 use Rattle.tree_images.specs.Trees.{pairs_below, tree_pairs, IsNode}
 use Rattle.key_order.specs.Keys.{AllReadable, seen_by}
 use Rattle.tree_search.specs.Places.{Place}
-use Rattle.tree_search.specs.Slots.{IsFirstSlot}
+use Rattle.tree_node.specs.Places.{IsSlot}
 use Rattle.tree_search.proofs.PlaceLemmas.{leads-node, leads-root, leads-length, child-level, step-size, step-room, step-child}
-use Rattle.tree_search.proofs.SeekLemmas.{Sought, root-readable, sought-root, sought-past, sought-node, sought-readable, sought-child, sought-leaf}
+use Rattle.tree_search.proofs.SeekLemmas.{IsFirstSlot, first-words, Sought, root-readable, sought-root, sought-past, sought-node, sought-readable, sought-child, sought-leaf}
 use Rattle.tree_search.proofs.cursor.Cursor.seek.Goals as goal
 
 pub read_head-head-requires : goal.read_head-head-requires
@@ -50,8 +50,9 @@ returns-then-slot-head-clause-pairs g c =
     let tree = c.requires.tree.node some in
     let s = key.sought c.args.key.now in
     let first : IsFirstSlot (seen_by key.read key.order s m) (m root) c.first_slot-slot.result =
-    subst (λ (f : g.row.F.Denot). IsFirstSlot (seen_by key.read key.order s (records f)) (records f root) c.first_slot-slot.result)
-    c.read_head-head.ensures.same c.first_slot-slot.ensures.slot in
+    first-words (seen_by key.read key.order s m) m 1 (level_of (m root)) root c.first_slot-slot.result (leads-node m root [] root (leads-root m root some tree))
+    (subst (λ (f : g.row.F.Denot). IsSlot (seen_by key.read key.order s (records f)) (node_keys (records f root)) c.first_slot-slot.result)
+    c.read_head-head.ensures.same c.first_slot-slot.ensures.slot) in
     let past : used_of (m root) ≤ c.first_slot-slot.result = (let test = c.if-slot-head.true in let used = c.read_head-head.ensures.used in omega arith) in
     rw c.at_end_of-cursor.ensures
     (sym (sought-past key.order g.met.K.KeyOrder.total (key.read m) s m (key.can_read m) root some tree c.requires.tree.ascends c.requires.readable c.first_slot-slot.result first past))
@@ -66,8 +67,9 @@ loop-head-init g c =
     let tree = c.requires.tree.node some in
     let s = key.sought c.args.key.now in
     let first : IsFirstSlot (seen_by key.read key.order s m) (m root) c.first_slot-slot.result =
-    subst (λ (f : g.row.F.Denot). IsFirstSlot (seen_by key.read key.order s (records f)) (records f root) c.first_slot-slot.result)
-    c.read_head-head.ensures.same c.first_slot-slot.ensures.slot in
+    first-words (seen_by key.read key.order s m) m 1 (level_of (m root)) root c.first_slot-slot.result (leads-node m root [] root (leads-root m root some tree))
+    (subst (λ (f : g.row.F.Denot). IsSlot (seen_by key.read key.order s (records f)) (node_keys (records f root)) c.first_slot-slot.result)
+    c.read_head-head.ensures.same c.first_slot-slot.ensures.slot) in
     let low : c.first_slot-slot.result < used_of (m root) =
     (let within = first.within in let test = c.if-slot-head.false in let used = c.read_head-head.ensures.used in omega arith) in
     let fresh = c.cursor.view_is ∙ c.at_end_of-cursor.ensures in
@@ -230,7 +232,9 @@ loop-head-preserved g c =
     let next = c.first_slot-slot-in-loop-head in
     let q = c.child_at-node.result in
     let first : IsFirstSlot (seen_by key.read key.order s m) (m q) next.result =
-    subst (λ (f : g.row.F.Denot). IsFirstSlot (seen_by key.read key.order s (records f)) (records f q) next.result) read next.ensures.slot in
+    first-words (seen_by key.read key.order s m) m 1 (level_of (m q)) q next.result
+    (sought-node key.order total (key.read m) s m (key.can_read m) whole root path node slot it.sought above q child)
+    (subst (λ (f : g.row.F.Denot). IsSlot (seen_by key.read key.order s (records f)) (node_keys (records f q)) next.result) read next.ensures.slot) in
     record {
       same = next.ensures.same ∙ read;
       root = it.root;

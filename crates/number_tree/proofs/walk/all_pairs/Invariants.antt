@@ -1,0 +1,16 @@
+use Rattle.std.proofs.Common.{◌≡◌, ◌++◌, length}
+use Rattle.tree_images.specs.Trees.{tree_pairs}
+use Rattle.tree_search.specs.Places.{IsAt, pairs_from}
+use Rattle.number_tree.proofs.walk.all_pairs.Given as goal
+
+abbrev pub invariant-loop-cursor : goal.invariant-loop-cursor
+invariant-loop-cursor g l =
+    let m = g.F.Frozen.records l.fn.frozen in
+    record {
+      same : l.frozen ≡ l.fn.frozen;
+      at : IsAt m l.cursor;
+      walked : l.pairs.items ++ pairs_from m l.cursor ≡ tree_pairs m l.fn.root;
+    }
+
+abbrev pub decreases-loop-cursor : goal.decreases-loop-cursor
+decreases-loop-cursor g l = length (pairs_from (g.F.Frozen.records l.fn.frozen) l.cursor)

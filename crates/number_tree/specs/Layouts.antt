@@ -1,0 +1,13 @@
+-- The layout whose root is a tree's, its keys by number.
+use Rattle.std.specs.Prelude.{ℕ, List}
+use Rattle.std.specs.Ordering.{nat_cmp}
+use Rattle.image_base.specs.Records.{Records}
+use Rattle.tree_images.specs.Trees.{tree_nodes, by_number, IsTree}
+
+-- a root reaches the nodes of its tree
+abbrev pub tree_reaches : ℕ → Records → ℕ → List ℕ
+tree_reaches shape m root = tree_nodes m root
+
+-- and is lawful where it is a tree's
+abbrev pub tree_lawful : ℕ → Records → ℕ → Type 0
+tree_lawful shape m root = IsTree nat_cmp by_number m root

@@ -1,5 +1,0 @@
-use Rattle.tens_key.specs.Tens.{HoldsTens}
-use Rattle.tens_key.proofs.tests.two_replaced.Given as goal
-
-abbrev pub invariant-loop-i : goal.invariant-loop-i
-invariant-loop-i g l = HoldsTens (g.S.Store.ledger l.store) (g.S.Frozen.records l.store) l.root

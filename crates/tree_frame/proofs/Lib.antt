@@ -1,4 +1,0 @@
-pub mod TimesLemmas
-pub mod DropLemmas
-pub mod Bounds
-pub mod Balance

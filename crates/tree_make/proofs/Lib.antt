@@ -1,0 +1,8 @@
+pub mod Results
+pub mod TimesLemmas
+pub mod MakesLemmas
+pub mod MadeLemmas
+pub mod DropLemmas
+pub mod Balance
+pub mod RootLemmas
+pub mod TopLemmas

@@ -1,0 +1,21 @@
+-- What holds of an answer.
+use Rattle.std.specs.Prelude.{OnOk, OnErr, IfOk}
+use Rattle.std.proofs.Common.{◌≡◌, ◌<◌, ℕ, zero, suc, Bool, true, false, IsTrue, true≢false, Result, Ok, Err, IsErrAnd, ◌∙◌, refl, sym, subst, arith}
+use Rattle.std.proofs.lemmas.Result.{err_from_is_err_and}
+use Rattle.list_facts.proofs.Errors.{same_Err}
+
+pub if_ok-then : {A E : Type 0} {P Q : A → Type 0} (result : Result A E) → ((x : A) → P x → Q x) → IfOk result P → IfOk result Q
+if_ok-then (Ok x) f h = f x h
+if_ok-then (Err e) f h = tt
+
+pub on_err : {A E : Type 0} {P : Type 0} (result : Result A E) → P → OnErr result P
+on_err (Ok x) p = tt
+on_err (Err e) p = p
+
+-- a reference that is not valid is 0
+pub not_valid : (b : Bool) (r : ℕ) → (0 < r → IsTrue b) → b ≡ false → r ≡ 0
+not_valid b zero h e = refl
+not_valid b (suc r) h e = absurd (true≢false (sym (subst IsTrue e (h (omega arith)))))
+
+pub is_valid : (b : Bool) (r : ℕ) → (IsTrue b → 0 < r) → b ≡ true → 0 < r
+is_valid b r h e = h (subst IsTrue (sym e) refl)
