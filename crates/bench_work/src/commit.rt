@@ -2,12 +2,15 @@ ghost use Rattle.std.specs.Prelude.{◌≡◌, ◌<◌, true, false, IfOk, OnOk}
 ghost use Rattle.store_api.specs.Statuses.{in_use};
 ghost use Rattle.bench_work.specs.Units.{UsesOnly, DropsRoot};
 
-use mem_work::OneRecord;
 use entry_ref::EntryRef;
+use mem_work::OneRecord;
 use store_api::{Store, StoreError};
 
 /// Drops the root record, where there is one.
-fn drop_root<const OFFSET_BITS: u32, S: Store<OFFSET_BITS>>(store: &mut S, root: EntryRef<OFFSET_BITS>)
+fn drop_root<const OFFSET_BITS: u32, S: Store<OFFSET_BITS>>(
+    store: &mut S,
+    root: EntryRef<OFFSET_BITS>,
+)
     requires unit { (S.ledger store.old).unit ≡ true }
     requires used { 0 < root → in_use ((S.ledger store.old).status root) ≡ true }
     ensures { DropsRoot (S.ledger store.old) (S.ledger store.new) root.entry }

@@ -64,7 +64,10 @@ fn order_of(name: &str) -> Option<Order> {
 }
 
 /// A store over a memory of buffers of 65,536 words, of which nothing is made yet.
-fn new_store<L: Layout>(alloc: Global, buffers: u32) -> Result<EntryStore<22, MemWork<22, L>>, AllocError>
+fn new_store<L: Layout>(
+    alloc: Global,
+    buffers: u32,
+) -> Result<EntryStore<22, MemWork<22, L>>, AllocError>
     requires some { 1 ≤ buffers }
     requires few { buffers ≤ 1023 }
     ensures { IfOk result (λ s. IsNew (⟦<EntryStore<22, MemWork<22, L>> as Store<22>>⟧.ledger s)) }

@@ -24,7 +24,11 @@ pub fn run_unit<const OFFSET_BITS: u32, S: Store<OFFSET_BITS>>(
 }
 
 /// Makes `count` entries of 34 words.
-fn make_nodes<const OFFSET_BITS: u32, S: Store<OFFSET_BITS>>(store: &mut S, entries: &mut Vec<u32>, count: u32) -> Result<(), StoreError>
+fn make_nodes<const OFFSET_BITS: u32, S: Store<OFFSET_BITS>>(
+    store: &mut S,
+    entries: &mut Vec<u32>,
+    count: u32,
+) -> Result<(), StoreError>
     requires unit { (S.ledger store.old).unit ≡ true }
     ensures { OnOk result (Made (S.ledger store.old) (S.ledger store.new) entries.new.items) }
 {

@@ -3,8 +3,8 @@ ghost use Rattle.store_api.specs.Ledgers.{IsNew};
 
 use crate::commit::commit_root;
 use crate::round::run_unit;
-use mem_work::OneRecord;
 use entry_ref::EntryRef;
+use mem_work::OneRecord;
 use std::alloc::Global;
 use store_api::{Store, StoreError};
 

@@ -2,8 +2,8 @@ ghost use Rattle.std.specs.Prelude.{◌≡◌, ◌<◌, ◌≤◌, ◌+◌, leng
 ghost use Rattle.tree_images.specs.Trees.{IsRootNode};
 ghost use Rattle.store_api.specs.Ledgers.{IsNew};
 
-use frozen_api::Frozen;
 use entry_ref::EntryRef;
+use frozen_api::Frozen;
 use frozen_btree::Cursor;
 use number_tree::{NumberTree, TreeLayout};
 use store_api::{Store, StoreError};
@@ -64,7 +64,10 @@ fn fill<const OFFSET_BITS: u32, S: Store<OFFSET_BITS, Layout = TreeLayout>>(
 }
 
 /// How many of the keys that are looked up are there.
-fn found_in<const OFFSET_BITS: u32, S: Store<OFFSET_BITS, Layout = TreeLayout>>(tree: &mut NumberTree<OFFSET_BITS, S>, load: &TreeLoad) -> u64
+fn found_in<const OFFSET_BITS: u32, S: Store<OFFSET_BITS, Layout = TreeLayout>>(
+    tree: &mut NumberTree<OFFSET_BITS, S>,
+    load: &TreeLoad,
+) -> u64
     ensures found { result ≤ load.now.finds }
     ensures same { tree.new ≡ tree.old }
 {
@@ -94,7 +97,10 @@ fn take_out<const OFFSET_BITS: u32, S: Store<OFFSET_BITS, Layout = TreeLayout>>(
 }
 
 /// The sum of all keys and values of a tree, by one walk.
-fn walk<const OFFSET_BITS: u32, F: Frozen<OFFSET_BITS>>(frozen: &mut F, root: EntryRef<OFFSET_BITS>) -> u64
+fn walk<const OFFSET_BITS: u32, F: Frozen<OFFSET_BITS>>(
+    frozen: &mut F,
+    root: EntryRef<OFFSET_BITS>,
+) -> u64
     requires { 0 < root → IsRootNode (F.records frozen.old) root }
     ensures { frozen.new ≡ frozen.old }
 {

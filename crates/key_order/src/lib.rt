@@ -8,4 +8,3 @@ mod number;
 pub use key::KeyOrder;
 pub use laws::{key_law, put_law, take_out_law};
 pub use number::NumberKey;
-

@@ -8,10 +8,10 @@ use crate::layout::TreeLayout;
 use crate::unit::{commit_tree, insert_unit, remove_unit};
 use crate::walk::{all_pairs, first_from};
 use entry_ref::EntryRef;
+use frozen_btree::{NumberKey, find, total};
 use std::alloc::{AllocError, Global};
 use std::marker::Model;
 use store_api::{Store, StoreError};
-use frozen_btree::{NumberKey, find, total};
 use tree_images::NODE_WORDS;
 
 /// A map of numbers: a tree alone in a store, changed by units of one change each.
@@ -21,7 +21,8 @@ pub struct NumberTree<const OFFSET_BITS: u32, S: Store<OFFSET_BITS, Layout = Tre
     root: EntryRef<OFFSET_BITS>,
 }
 
-impl<const OFFSET_BITS: u32, S: Store<OFFSET_BITS, Layout = TreeLayout>> Model for NumberTree<OFFSET_BITS, S> {
+impl<const OFFSET_BITS: u32, S: Store<OFFSET_BITS, Layout = TreeLayout>> Model
+    for NumberTree<OFFSET_BITS, S> {
     ghost use Rattle.tree_images.specs.Trees.{tree_pairs};
     ghost use Rattle.number_tree.specs.Maps.{MapView, HoldsTree};
 
@@ -38,7 +39,10 @@ impl<const OFFSET_BITS: u32, S: Store<OFFSET_BITS, Layout = TreeLayout>> Model f
     ghost invariant = { λ t. HoldsTree (S.ledger t.store) (S.records t.store) t.root };
 }
 
-impl<const OFFSET_BITS: u32, S: Store<OFFSET_BITS, Layout = TreeLayout>> NumberTree<OFFSET_BITS, S> {
+impl<const OFFSET_BITS: u32, S: Store<OFFSET_BITS, Layout = TreeLayout>> NumberTree<
+    OFFSET_BITS,
+    S,
+> {
     /// The empty map, in a store of which nothing was made yet.
     pub fn new(store: S) -> Self
         requires { IsNew (S.ledger store) }

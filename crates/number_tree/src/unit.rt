@@ -72,7 +72,10 @@ pub fn remove_unit<const OFFSET_BITS: u32, S: Store<OFFSET_BITS>>(
 }
 
 /// Commits a tree that is all that is in use.
-pub fn commit_tree<const OFFSET_BITS: u32, S: Store<OFFSET_BITS, Layout = TreeLayout>>(store: &mut S, root: EntryRef<OFFSET_BITS>) -> u32
+pub fn commit_tree<const OFFSET_BITS: u32, S: Store<OFFSET_BITS, Layout = TreeLayout>>(
+    store: &mut S,
+    root: EntryRef<OFFSET_BITS>,
+) -> u32
     requires holds { HoldsTree (S.ledger store.old) (S.records store.old) root }
     requires room { (S.ledger store.old).work.commits.last < (S.ledger store.old).work.sizes.commits }
     ensures number { result ≡ (S.ledger store.old).work.commits.last + 1 }

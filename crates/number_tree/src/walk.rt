@@ -10,7 +10,11 @@ use frozen_btree::{Cursor, NumberKey};
 use std::alloc::{AllocError, Global};
 
 /// The first pair of a tree by number whose key is this one or above it.
-pub fn first_from<const OFFSET_BITS: u32, F: Frozen<OFFSET_BITS>>(frozen: &mut F, root: EntryRef<OFFSET_BITS>, key: u64) -> Option<(u64, u64)>
+pub fn first_from<const OFFSET_BITS: u32, F: Frozen<OFFSET_BITS>>(
+    frozen: &mut F,
+    root: EntryRef<OFFSET_BITS>,
+    key: u64,
+) -> Option<(u64, u64)>
     requires tree { IsTree nat_cmp by_number (F.records frozen.old) root }
     ensures pair { result ≡ first_of (seek (beside key) (tree_pairs (F.records frozen.old) root.entry)) }
     ensures same { frozen.new ≡ frozen.old }

@@ -4,6 +4,10 @@
 #[cfg(test)]
 mod of_buffers;
 #[cfg(test)]
+mod of_hold_lists;
+#[cfg(test)]
+mod of_holds;
+#[cfg(test)]
 mod of_memory;
 #[cfg(test)]
 mod of_references;

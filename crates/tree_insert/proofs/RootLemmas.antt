@@ -64,4 +64,3 @@ module _ (m : Records) (least level : ℕ) (first second : Part) (pairs : List (
             let all = made-balance old new m n (suc level) ks vs root up q in
             omega arith;
       }
-

@@ -51,7 +51,10 @@ fn split(slots: &mut Slots) -> Slots
 }
 
 /// Makes a node of up to 16 slots, or two of 17, the first with nine.
-pub fn make_parts<const OFFSET_BITS: u32, S: Store<OFFSET_BITS>>(store: &mut S, slots: &mut Slots) -> Result<Parts, StoreError>
+pub fn make_parts<const OFFSET_BITS: u32, S: Store<OFFSET_BITS>>(
+    store: &mut S,
+    slots: &mut Slots,
+) -> Result<Parts, StoreError>
     requires unit { (S.ledger store.old).unit ≡ true }
     requires low { slots.old.level ≤ 7 }
     requires hand { IsInHand (S.records store.old) slots.old.level slots.old.keys.items slots.old.values.items }

@@ -19,7 +19,10 @@ pub struct Part {
 }
 
 /// The number of pairs below slots.
-pub fn pairs_in<const OFFSET_BITS: u32, F: Frozen<OFFSET_BITS>>(frozen: &mut F, slots: &Slots) -> u64
+pub fn pairs_in<const OFFSET_BITS: u32, F: Frozen<OFFSET_BITS>>(
+    frozen: &mut F,
+    slots: &Slots,
+) -> u64
     requires hand { IsInHand (F.records frozen.old) slots.now.level slots.now.keys.items slots.now.values.items }
     requires few { length (slot_pairs (F.records frozen.old) slots.now.level slots.now.keys.items slots.now.values.items) < 2 ^ 32 }
     ensures count { result ≡ length (slot_pairs (F.records frozen.old) slots.now.level slots.now.keys.items slots.now.values.items) }
@@ -63,7 +66,10 @@ fn words_of(slots: &Slots, count: u64) -> ArrayVec<u64, NODE_WORDS>
 }
 
 /// Makes a node of slots in hand.
-pub fn make_part<const OFFSET_BITS: u32, S: Store<OFFSET_BITS>>(store: &mut S, slots: &Slots) -> Result<Part, StoreError>
+pub fn make_part<const OFFSET_BITS: u32, S: Store<OFFSET_BITS>>(
+    store: &mut S,
+    slots: &Slots,
+) -> Result<Part, StoreError>
     requires unit { (S.ledger store.old).unit ≡ true }
     requires low { slots.now.level ≤ 7 }
     requires hand { IsInHand (S.records store.old) slots.now.level slots.now.keys.items slots.now.values.items }

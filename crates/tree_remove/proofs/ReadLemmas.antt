@@ -33,4 +33,3 @@ pub child-node : (m : Records) (level : ℕ) (keys values : List ℕ) (place : �
     → IsNode m 8 (level - 1) (get_or values place 0)
 child-node m level keys values place inner hand low =
     child_at m keys values place (let even = hand.even in omega arith) level (λ e. absurd (omega arith)) hand
-

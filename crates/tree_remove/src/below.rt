@@ -9,9 +9,9 @@ ghost use Rattle.tree_make.specs.Makes.{MakesNodes};
 ghost use Rattle.tree_remove.specs.Removes.{IsStep, Removes};
 
 use crate::parent::put_back;
-use frozen_api::Frozen;
 use arrayvec::ArrayVec;
 use entry_ref::EntryRef;
+use frozen_api::Frozen;
 use key_order::KeyOrder;
 use store_api::{Store, StoreError};
 use tree_images::NODE_WORDS;
@@ -26,7 +26,11 @@ struct Descent<const OFFSET_BITS: u32> {
 }
 
 /// Reads a node above the leaves, and finds the child under which the key is.
-fn step_down<const OFFSET_BITS: u32, F: Frozen<OFFSET_BITS>, K: KeyOrder<OFFSET_BITS>>(frozen: &mut F, node: EntryRef<OFFSET_BITS>, key: &K) -> Descent<OFFSET_BITS>
+fn step_down<const OFFSET_BITS: u32, F: Frozen<OFFSET_BITS>, K: KeyOrder<OFFSET_BITS>>(
+    frozen: &mut F,
+    node: EntryRef<OFFSET_BITS>,
+    key: &K,
+) -> Descent<OFFSET_BITS>
     requires inner { 0 < level_of (F.records frozen.old node) }
     requires node { IsNode (F.records frozen.old) 2 (level_of (F.records frozen.old node)) node }
     requires ascends { Ascends K.order K.read (F.records frozen.old)
@@ -57,7 +61,11 @@ fn step_down<const OFFSET_BITS: u32, F: Frozen<OFFSET_BITS>, K: KeyOrder<OFFSET_
 }
 
 /// Takes a pair out of a leaf, which is in hand then.
-fn remove_in_leaf<const OFFSET_BITS: u32, F: Frozen<OFFSET_BITS>, K: KeyOrder<OFFSET_BITS>>(frozen: &mut F, node: EntryRef<OFFSET_BITS>, key: &K) -> Slots
+fn remove_in_leaf<const OFFSET_BITS: u32, F: Frozen<OFFSET_BITS>, K: KeyOrder<OFFSET_BITS>>(
+    frozen: &mut F,
+    node: EntryRef<OFFSET_BITS>,
+    key: &K,
+) -> Slots
     requires node { IsNode (F.records frozen.old) 1 0 node }
     requires readable { AllReadable K.can_read (F.records frozen.old) (pairs_below (F.records frozen.old) 0 node) }
     requires there { IsSome (lookup (seen_by K.read K.order (K.sought key.now) (F.records frozen.old))

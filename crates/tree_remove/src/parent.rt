@@ -5,9 +5,9 @@ ghost use Rattle.tree_node.specs.Slots.{slot_pairs, IsInHand};
 ghost use Rattle.tree_remove.specs.Removes.{IsChild, PutsBack, spliced};
 
 use crate::neighbours::{make_neighbours, set_part};
-use frozen_api::Frozen;
 use arrayvec::ArrayVec;
 use entry_ref::EntryRef;
+use frozen_api::Frozen;
 use store_api::{Store, StoreError};
 use tree_images::{LEAST_SLOTS, MOST_SLOTS, NODE_WORDS};
 use tree_make::make_part;

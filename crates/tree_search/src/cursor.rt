@@ -7,8 +7,8 @@ ghost use Rattle.key_order.specs.Pairs.{seek};
 ghost use Rattle.tree_search.specs.Places.{Leads, pairs_behind, pairs_from, IsAt, HasPair, first_key, first_value};
 
 use crate::path::Path;
-use frozen_api::Frozen;
 use entry_ref::EntryRef;
+use frozen_api::Frozen;
 use key_order::KeyOrder;
 use std::marker::Model;
 use tree_images::{FIRST_KEY, FIRST_VALUE};
@@ -48,7 +48,10 @@ impl<const OFFSET_BITS: u32> Cursor<OFFSET_BITS> {
     }
 
     /// Before the first pair.
-    pub fn first<F: Frozen<OFFSET_BITS>>(frozen: &mut F, root: EntryRef<OFFSET_BITS>) -> Cursor<OFFSET_BITS>
+    pub fn first<F: Frozen<OFFSET_BITS>>(
+        frozen: &mut F,
+        root: EntryRef<OFFSET_BITS>,
+    ) -> Cursor<OFFSET_BITS>
         requires tree { 0 < root → IsRootNode (F.records frozen.old) root }
         ensures at { IsAt (F.records frozen.old) result }
         ensures pairs { pairs_from (F.records frozen.old) result ≡ tree_pairs (F.records frozen.old) root.entry }
@@ -85,7 +88,11 @@ impl<const OFFSET_BITS: u32> Cursor<OFFSET_BITS> {
     }
 
     /// Before the first pair whose key is not below the key sought.
-    pub fn seek<F: Frozen<OFFSET_BITS>, K: KeyOrder<OFFSET_BITS>>(frozen: &mut F, root: EntryRef<OFFSET_BITS>, key: &K) -> Cursor<OFFSET_BITS>
+    pub fn seek<F: Frozen<OFFSET_BITS>, K: KeyOrder<OFFSET_BITS>>(
+        frozen: &mut F,
+        root: EntryRef<OFFSET_BITS>,
+        key: &K,
+    ) -> Cursor<OFFSET_BITS>
         requires tree { IsTree K.order K.read (F.records frozen.old) root }
         requires readable { AllReadable K.can_read (F.records frozen.old) (tree_pairs (F.records frozen.old) root) }
         ensures at { IsAt (F.records frozen.old) result }

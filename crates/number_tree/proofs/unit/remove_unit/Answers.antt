@@ -6,14 +6,26 @@ use Rattle.number_tree.proofs.HoldLemmas.{all_pairs, nodes_used, holds_next, pai
 use Rattle.number_tree.proofs.unit.remove_unit.Goals as goal
 
 pub remove-requires : goal.remove-requires
-remove-requires g c = (omega arith, (
+remove-requires g c = (
+  omega arith,
+  (
     search rules,
-    (search rules,
-    (all_pairs (λ (p : ℕ × ℕ). Unit {0}) (λ p. tt) (tree_pairs (g.S.Frozen.records c.begin.new.self) c.args.root),
-    (all_pairs (λ (p : ℕ × ℕ). Unit {0}) (λ p. tt) (tree_pairs (g.S.Frozen.records c.begin.new.self) c.args.root),
-    (search rules,
-    ((nodes_used (g.S.Store.ledger c.args.store.now) (g.S.Store.ledger c.begin.new.self) (g.S.Frozen.records c.args.store.now) (g.S.Frozen.records c.begin.new.self) c.args.root c.requires.holds
-    (ap (λ l. l.status) c.begin.ensures.ledger) c.begin.ensures.records))))))))
+    (
+      search rules,
+      (
+        all_pairs (λ (p : ℕ × ℕ). Unit {0}) (λ p. tt) (tree_pairs (g.S.Frozen.records c.begin.new.self) c.args.root),
+        (
+          all_pairs (λ (p : ℕ × ℕ). Unit {0}) (λ p. tt) (tree_pairs (g.S.Frozen.records c.begin.new.self) c.args.root),
+          (
+            search rules,
+            ((nodes_used (g.S.Store.ledger c.args.store.now) (g.S.Store.ledger c.begin.new.self) (g.S.Frozen.records c.args.store.now) (g.S.Frozen.records c.begin.new.self) c.args.root c.requires.holds
+                (ap (λ l. l.status) c.begin.ensures.ledger) c.begin.ensures.records)),
+          ),
+        ),
+      ),
+    ),
+  ),
+)
 
 pub returns-in-Ok-clause-holds : goal.returns-in-Ok-clause-holds
 returns-in-Ok-clause-holds g c =

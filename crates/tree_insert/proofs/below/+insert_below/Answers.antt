@@ -27,12 +27,17 @@ place_of-place-requires g t c =
     let node = c.args.node in
     let can = g.K.KeyOrder.can_read in
     let level = (IsNode-form m 1 c.args.level node c.requires.node).at_level in
-    let read = c.read_node-slots.ensures in
-    (omega arith, (
-    subst (λ f. IsNode (g.S.Frozen.records f) 1 (level_of (g.S.Frozen.records f node)) node) (sym read.same) (subst (λ l. IsNode m 1 l node) (sym level) c.requires.node),
-    (c.len-used.ensures.value ∙ ap length read.keys ∙ keys-length m 1 c.args.level node c.requires.node ∙ ap (λ f. used_of (g.S.Frozen.records f node)) (sym read.same),
-    subst (λ f. AllReadable can (g.S.Frozen.records f) (pairs_below (g.S.Frozen.records f) (level_of (g.S.Frozen.records f node)) node)) (sym read.same)
-    (subst (λ l. AllReadable can m (pairs_below m l node)) (sym level) c.requires.readable))))
+    let read = c.read_node-slots.ensures in (
+      omega arith,
+      (
+        subst (λ f. IsNode (g.S.Frozen.records f) 1 (level_of (g.S.Frozen.records f node)) node) (sym read.same) (subst (λ l. IsNode m 1 l node) (sym level) c.requires.node),
+        (
+          c.len-used.ensures.value ∙ ap length read.keys ∙ keys-length m 1 c.args.level node c.requires.node ∙ ap (λ f. used_of (g.S.Frozen.records f node)) (sym read.same),
+          subst (λ f. AllReadable can (g.S.Frozen.records f) (pairs_below (g.S.Frozen.records f) (level_of (g.S.Frozen.records f node)) node)) (sym read.same)
+              (subst (λ l. AllReadable can m (pairs_below m l node)) (sym level) c.requires.readable),
+        ),
+      ),
+    )
 
 pub bounds-deref-place : goal.bounds-deref-place
 bounds-deref-place g t c =
@@ -126,21 +131,49 @@ insert_below-requires g t c =
     let room = c.requires.room in
     let at_most = c.requires.low in
     λ κs h. (
-      omega arith, (
-      search rules, (
-      h.0, (
-      h.1.0, (
-      h.1.1.0, (
-      h.1.1.1.0, (
-      h.1.1.1.1, (
-      omega arith, (
-      subst (λ f. (g.S.Store.ledger f).unit ≡ true) (sym same) c.requires.unit, (
-      omega arith, (
-      subst (λ f. IsNode (g.S.Frozen.records f) 1 l q) (sym same) (subst (λ r. IsNode m 1 l r) (sym child) lower), (
-      subst (λ f. Ascends key.order key.read (g.S.Frozen.records f) (pairs_below (g.S.Frozen.records f) l q)) (sym same) (subst (λ r. Ascends key.order key.read m (pairs_below m l r)) (sym child) (child-ascends m 1 l node i is low key.order key.read ascends)), (
-      subst (λ f. AllReadable key.can_read (g.S.Frozen.records f) (pairs_below (g.S.Frozen.records f) l q)) (sym same) (subst (λ r. AllReadable key.can_read m (pairs_below m l r)) (sym child) (child-all m 1 l node i is low (λ (p : ℕ × ℕ). key.can_read m p.0) readable)), (
-      subst (λ f. length (pairs_below (g.S.Frozen.records f) l q) + 1 < 2 ^ 32) (sym same) (subst (λ r. length (pairs_below m l r) + 1 < 2 ^ 32) (sym child) here), (
-      omega arith)))))))))))))))
+      omega arith,
+      (
+        search rules,
+        (
+          h.0,
+          (
+            h.1.0,
+            (
+              h.1.1.0,
+              (
+                h.1.1.1.0,
+                (
+                  h.1.1.1.1,
+                  (
+                    omega arith,
+                    (
+                      subst (λ f. (g.S.Store.ledger f).unit ≡ true) (sym same) c.requires.unit,
+                      (
+                        omega arith,
+                        (
+                          subst (λ f. IsNode (g.S.Frozen.records f) 1 l q) (sym same) (subst (λ r. IsNode m 1 l r) (sym child) lower),
+                          (
+                            subst (λ f. Ascends key.order key.read (g.S.Frozen.records f) (pairs_below (g.S.Frozen.records f) l q)) (sym same) (subst (λ r. Ascends key.order key.read m (pairs_below m l r)) (sym child) (child-ascends m 1 l node i is low key.order key.read ascends)),
+                            (
+                              subst (λ f. AllReadable key.can_read (g.S.Frozen.records f) (pairs_below (g.S.Frozen.records f) l q)) (sym same) (subst (λ r. AllReadable key.can_read m (pairs_below m l r)) (sym child) (child-all m 1 l node i is low (λ (p : ℕ × ℕ). key.can_read m p.0) readable)),
+                              (
+                                subst (λ f. length (pairs_below (g.S.Frozen.records f) l q) + 1 < 2 ^ 32) (sym same) (subst (λ r. length (pairs_below m l r) + 1 < 2 ^ 32) (sym child) here),
+                                (
+                                    omega arith),
+                              ),
+                            ),
+                          ),
+                        ),
+                      ),
+                    ),
+                  ),
+                ),
+              ),
+            ),
+          ),
+        ),
+      ),
+    )
 
 pub set_parts-requires-clause-even : goal.set_parts-requires-clause-even
 set_parts-requires-clause-even g t c =

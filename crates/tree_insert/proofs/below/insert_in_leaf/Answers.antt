@@ -26,12 +26,17 @@ first_slot-slot-requires g c =
     let node = c.args.node in
     let can = g.K.KeyOrder.can_read in
     let level = (IsNode-form m 1 0 node c.requires.node).at_level in
-    let read = c.read_node-slots.ensures in
-    (omega arith, (
-    subst (λ f. IsNode (g.S.Frozen.records f) 1 (level_of (g.S.Frozen.records f node)) node) (sym read.same) (subst (λ l. IsNode m 1 l node) (sym level) c.requires.node),
-    (c.len-used.ensures.value ∙ ap length read.keys ∙ keys-length m 1 0 node c.requires.node ∙ ap (λ f. used_of (g.S.Frozen.records f node)) (sym read.same),
-    subst (λ f. AllReadable can (g.S.Frozen.records f) (pairs_below (g.S.Frozen.records f) (level_of (g.S.Frozen.records f node)) node)) (sym read.same)
-    (subst (λ l. AllReadable can m (pairs_below m l node)) (sym level) c.requires.readable))))
+    let read = c.read_node-slots.ensures in (
+      omega arith,
+      (
+        subst (λ f. IsNode (g.S.Frozen.records f) 1 (level_of (g.S.Frozen.records f node)) node) (sym read.same) (subst (λ l. IsNode m 1 l node) (sym level) c.requires.node),
+        (
+          c.len-used.ensures.value ∙ ap length read.keys ∙ keys-length m 1 0 node c.requires.node ∙ ap (λ f. used_of (g.S.Frozen.records f node)) (sym read.same),
+          subst (λ f. AllReadable can (g.S.Frozen.records f) (pairs_below (g.S.Frozen.records f) (level_of (g.S.Frozen.records f node)) node)) (sym read.same)
+              (subst (λ l. AllReadable can m (pairs_below m l node)) (sym level) c.requires.readable),
+        ),
+      ),
+    )
 
 pub put_in_leaf-requires-clause-readable : goal.put_in_leaf-requires-clause-readable
 put_in_leaf-requires-clause-readable g c =

@@ -78,73 +78,87 @@ word-level-requires g c =
     omega arith
 
 pub insert_below-requires : goal.insert_below-requires
-insert_below-requires g c = (omega arith, (
+insert_below-requires g c = (
+  omega arith,
+  (
     search rules,
-    ((let key = g.K.KeyOrder in
-    let s = c.args.store.now in
-    let m = g.S.Frozen.records s in
-    let root = c.args.root in
-    let tree = c.requires.tree in
-    let some : 0 < root = is_valid c.valid.result root c.valid.ensures.0 c.if-not-valid.false in
-    let level = c.word-level.result / 256 in
-    let same = c.word-level.ensures.same in
-    let level_is : level ≡ root_level m root = (ap (λ w. w / 256) c.word-level.ensures.value ∙ root-level key.order key.read m root tree some) in
-    root-low key.order key.read m root tree some level level_is),
-    ((let key = g.K.KeyOrder in
-    let s = c.args.store.now in
-    let m = g.S.Frozen.records s in
-    let root = c.args.root in
-    let tree = c.requires.tree in
-    let some : 0 < root = is_valid c.valid.result root c.valid.ensures.0 c.if-not-valid.false in
-    let level = c.word-level.result / 256 in
-    let same = c.word-level.ensures.same in
-    let level_is : level ≡ root_level m root = (ap (λ w. w / 256) c.word-level.ensures.value ∙ root-level key.order key.read m root tree some) in
-    subst (λ f. IsNode (g.S.Frozen.records f) 1 level root) (sym same) (root-one key.order key.read m root tree some level level_is)),
-    ((let key = g.K.KeyOrder in
-    let s = c.args.store.now in
-    let m = g.S.Frozen.records s in
-    let root = c.args.root in
-    let tree = c.requires.tree in
-    let some : 0 < root = is_valid c.valid.result root c.valid.ensures.0 c.if-not-valid.false in
-    let level = c.word-level.result / 256 in
-    let same = c.word-level.ensures.same in
-    let level_is : level ≡ root_level m root = (ap (λ w. w / 256) c.word-level.ensures.value ∙ root-level key.order key.read m root tree some) in
-    subst (λ f. Ascends key.order key.read (g.S.Frozen.records f) (pairs_below (g.S.Frozen.records f) level root)) (sym same)
-    (subst (Ascends key.order key.read m) (root-pairs key.order key.read m root tree some level level_is) tree.ascends)),
-    ((let key = g.K.KeyOrder in
-    let s = c.args.store.now in
-    let m = g.S.Frozen.records s in
-    let root = c.args.root in
-    let tree = c.requires.tree in
-    let some : 0 < root = is_valid c.valid.result root c.valid.ensures.0 c.if-not-valid.false in
-    let level = c.word-level.result / 256 in
-    let same = c.word-level.ensures.same in
-    let level_is : level ≡ root_level m root = (ap (λ w. w / 256) c.word-level.ensures.value ∙ root-level key.order key.read m root tree some) in
-    subst (λ f. AllReadable key.can_read (g.S.Frozen.records f) (pairs_below (g.S.Frozen.records f) level root)) (sym same)
-    (subst (AllReadable key.can_read m) (root-pairs key.order key.read m root tree some level level_is) c.requires.readable)),
-    ((let key = g.K.KeyOrder in
-    let s = c.args.store.now in
-    let m = g.S.Frozen.records s in
-    let root = c.args.root in
-    let tree = c.requires.tree in
-    let some : 0 < root = is_valid c.valid.result root c.valid.ensures.0 c.if-not-valid.false in
-    let level = c.word-level.result / 256 in
-    let same = c.word-level.ensures.same in
-    let level_is : level ≡ root_level m root = (ap (λ w. w / 256) c.word-level.ensures.value ∙ root-level key.order key.read m root tree some) in
-    let few = root-few key.order key.read m root tree some level level_is g.met.K.KeyOrder.total (g.met.S.Store.few_nodes s) in
-    subst (λ f. length (pairs_below (g.S.Frozen.records f) level root) + 1 < 2 ^ 32) (sym same) (omega arith)),
-    ((let key = g.K.KeyOrder in
-    let s = c.args.store.now in
-    let m = g.S.Frozen.records s in
-    let root = c.args.root in
-    let tree = c.requires.tree in
-    let some : 0 < root = is_valid c.valid.result root c.valid.ensures.0 c.if-not-valid.false in
-    let level = c.word-level.result / 256 in
-    let same = c.word-level.ensures.same in
-    let level_is : level ≡ root_level m root = (ap (λ w. w / 256) c.word-level.ensures.value ∙ root-level key.order key.read m root tree some) in
-    let low = root-low key.order key.read m root tree some level level_is in
-    let none : length c.new-replaced.result.items ≡ 0 = ap length c.new-replaced.ensures in
-    omega arith)))))))))
+    (
+      (let key = g.K.KeyOrder in
+          let s = c.args.store.now in
+          let m = g.S.Frozen.records s in
+          let root = c.args.root in
+          let tree = c.requires.tree in
+          let some : 0 < root = is_valid c.valid.result root c.valid.ensures.0 c.if-not-valid.false in
+          let level = c.word-level.result / 256 in
+          let same = c.word-level.ensures.same in
+          let level_is : level ≡ root_level m root = (ap (λ w. w / 256) c.word-level.ensures.value ∙ root-level key.order key.read m root tree some) in
+          root-low key.order key.read m root tree some level level_is),
+      (
+        (let key = g.K.KeyOrder in
+            let s = c.args.store.now in
+            let m = g.S.Frozen.records s in
+            let root = c.args.root in
+            let tree = c.requires.tree in
+            let some : 0 < root = is_valid c.valid.result root c.valid.ensures.0 c.if-not-valid.false in
+            let level = c.word-level.result / 256 in
+            let same = c.word-level.ensures.same in
+            let level_is : level ≡ root_level m root = (ap (λ w. w / 256) c.word-level.ensures.value ∙ root-level key.order key.read m root tree some) in
+            subst (λ f. IsNode (g.S.Frozen.records f) 1 level root) (sym same) (root-one key.order key.read m root tree some level level_is)),
+        (
+          (let key = g.K.KeyOrder in
+              let s = c.args.store.now in
+              let m = g.S.Frozen.records s in
+              let root = c.args.root in
+              let tree = c.requires.tree in
+              let some : 0 < root = is_valid c.valid.result root c.valid.ensures.0 c.if-not-valid.false in
+              let level = c.word-level.result / 256 in
+              let same = c.word-level.ensures.same in
+              let level_is : level ≡ root_level m root = (ap (λ w. w / 256) c.word-level.ensures.value ∙ root-level key.order key.read m root tree some) in
+              subst (λ f. Ascends key.order key.read (g.S.Frozen.records f) (pairs_below (g.S.Frozen.records f) level root)) (sym same)
+              (subst (Ascends key.order key.read m) (root-pairs key.order key.read m root tree some level level_is) tree.ascends)),
+          (
+            (let key = g.K.KeyOrder in
+                let s = c.args.store.now in
+                let m = g.S.Frozen.records s in
+                let root = c.args.root in
+                let tree = c.requires.tree in
+                let some : 0 < root = is_valid c.valid.result root c.valid.ensures.0 c.if-not-valid.false in
+                let level = c.word-level.result / 256 in
+                let same = c.word-level.ensures.same in
+                let level_is : level ≡ root_level m root = (ap (λ w. w / 256) c.word-level.ensures.value ∙ root-level key.order key.read m root tree some) in
+                subst (λ f. AllReadable key.can_read (g.S.Frozen.records f) (pairs_below (g.S.Frozen.records f) level root)) (sym same)
+                (subst (AllReadable key.can_read m) (root-pairs key.order key.read m root tree some level level_is) c.requires.readable)),
+            (
+              (let key = g.K.KeyOrder in
+                  let s = c.args.store.now in
+                  let m = g.S.Frozen.records s in
+                  let root = c.args.root in
+                  let tree = c.requires.tree in
+                  let some : 0 < root = is_valid c.valid.result root c.valid.ensures.0 c.if-not-valid.false in
+                  let level = c.word-level.result / 256 in
+                  let same = c.word-level.ensures.same in
+                  let level_is : level ≡ root_level m root = (ap (λ w. w / 256) c.word-level.ensures.value ∙ root-level key.order key.read m root tree some) in
+                  let few = root-few key.order key.read m root tree some level level_is g.met.K.KeyOrder.total (g.met.S.Store.few_nodes s) in
+                  subst (λ f. length (pairs_below (g.S.Frozen.records f) level root) + 1 < 2 ^ 32) (sym same) (omega arith)),
+              ((let key = g.K.KeyOrder in
+                  let s = c.args.store.now in
+                  let m = g.S.Frozen.records s in
+                  let root = c.args.root in
+                  let tree = c.requires.tree in
+                  let some : 0 < root = is_valid c.valid.result root c.valid.ensures.0 c.if-not-valid.false in
+                  let level = c.word-level.result / 256 in
+                  let same = c.word-level.ensures.same in
+                  let level_is : level ≡ root_level m root = (ap (λ w. w / 256) c.word-level.ensures.value ∙ root-level key.order key.read m root tree some) in
+                  let low = root-low key.order key.read m root tree some level level_is in
+                  let none : length c.new-replaced.result.items ≡ 0 = ap length c.new-replaced.ensures in
+                  omega arith)),
+            ),
+          ),
+        ),
+      ),
+    ),
+  ),
+)
 
 pub returns-in_err-parts-clause-made : goal.returns-in_err-parts-clause-made
 returns-in_err-parts-clause-made g c =
@@ -186,93 +200,103 @@ returns-in_err-parts-clause-left g c =
     on_err c.from_residual.result (makes-more old mid m n (2 * suc level) (2 * levels m root + 1) (omega arith) x_makes)
 
 pub root_over-requires : goal.root_over-requires
-root_over-requires g c = (omega arith, (
+root_over-requires g c = (
+  omega arith,
+  (
     search rules,
-    ((let key = g.K.KeyOrder in
-    let s = c.args.store.now in
-    let m = g.S.Frozen.records s in
-    let root = c.args.root in
-    let tree = c.requires.tree in
-    let some : 0 < root = is_valid c.valid.result root c.valid.ensures.0 c.if-not-valid.false in
-    let level = c.word-level.result / 256 in
-    let same = c.word-level.ensures.same in
-    let level_is : level ≡ root_level m root = (ap (λ w. w / 256) c.word-level.ensures.value ∙ root-level key.order key.read m root tree some) in
-    let old = g.S.Store.ledger s in
-    let t = c.insert_below.new.store in
-    let n = g.S.Frozen.records t in
-    let mid = g.S.Store.ledger t in
-    let x_makes : MakesNodes old mid m n (2 * suc level) = subst (λ f. MakesNodes (g.S.Store.ledger f) mid (g.S.Frozen.records f) n (2 * suc level)) same c.insert_below.ensures.makes in
-    let sought = key.sought c.args.key.now in
-    let pair : ℕ × ℕ = (c.args.word, c.args.value) in
-    let gone = c.insert_below.new.replaced.items in
-    let parts = c.in_ok-parts.parts in
-    let seen = seen_by key.read key.order sought m in
-    let total = g.met.K.KeyOrder.total in
-    let few = g.met.S.Store.few_nodes s in
-    let x0 : Inserts seen pair old mid m n level root c.new-replaced.result.items gone parts =
-    subst (λ f. Inserts (seen_by key.read key.order sought (g.S.Frozen.records f)) pair (g.S.Store.ledger f) mid (g.S.Frozen.records f) n level root c.new-replaced.result.items gone parts) same c.in_ok-parts.ensures.inserts in
-    let x : Inserts seen pair old mid m n level root [] gone parts = subst (λ xs. Inserts seen pair old mid m n level root xs gone parts) c.new-replaced.ensures x0 in
-    top-parts key.order total key.read sought m n old mid root level pair tree some level_is few gone parts x),
-    ((let key = g.K.KeyOrder in
-    let s = c.args.store.now in
-    let m = g.S.Frozen.records s in
-    let root = c.args.root in
-    let tree = c.requires.tree in
-    let some : 0 < root = is_valid c.valid.result root c.valid.ensures.0 c.if-not-valid.false in
-    let level = c.word-level.result / 256 in
-    let same = c.word-level.ensures.same in
-    let level_is : level ≡ root_level m root = (ap (λ w. w / 256) c.word-level.ensures.value ∙ root-level key.order key.read m root tree some) in
-    let old = g.S.Store.ledger s in
-    let t = c.insert_below.new.store in
-    let n = g.S.Frozen.records t in
-    let mid = g.S.Store.ledger t in
-    let x_makes : MakesNodes old mid m n (2 * suc level) = subst (λ f. MakesNodes (g.S.Store.ledger f) mid (g.S.Frozen.records f) n (2 * suc level)) same c.insert_below.ensures.makes in
-    let sought = key.sought c.args.key.now in
-    let pair : ℕ × ℕ = (c.args.word, c.args.value) in
-    let gone = c.insert_below.new.replaced.items in
-    let parts = c.in_ok-parts.parts in
-    let seen = seen_by key.read key.order sought m in
-    let total = g.met.K.KeyOrder.total in
-    let few = g.met.S.Store.few_nodes s in
-    let x0 : Inserts seen pair old mid m n level root c.new-replaced.result.items gone parts =
-    subst (λ f. Inserts (seen_by key.read key.order sought (g.S.Frozen.records f)) pair (g.S.Store.ledger f) mid (g.S.Frozen.records f) n level root c.new-replaced.result.items gone parts) same c.in_ok-parts.ensures.inserts in
-    let x : Inserts seen pair old mid m n level root [] gone parts = subst (λ xs. Inserts seen pair old mid m n level root xs gone parts) c.new-replaced.ensures x0 in
-    top-few key.order total key.read sought m n old mid root level pair tree some level_is few gone parts x),
-    ((let key = g.K.KeyOrder in
-    let s = c.args.store.now in
-    let m = g.S.Frozen.records s in
-    let root = c.args.root in
-    let tree = c.requires.tree in
-    let some : 0 < root = is_valid c.valid.result root c.valid.ensures.0 c.if-not-valid.false in
-    let level = c.word-level.result / 256 in
-    let same = c.word-level.ensures.same in
-    let level_is : level ≡ root_level m root = (ap (λ w. w / 256) c.word-level.ensures.value ∙ root-level key.order key.read m root tree some) in
-    root-low key.order key.read m root tree some level level_is),
-    ((let key = g.K.KeyOrder in
-    let s = c.args.store.now in
-    let m = g.S.Frozen.records s in
-    let root = c.args.root in
-    let tree = c.requires.tree in
-    let some : 0 < root = is_valid c.valid.result root c.valid.ensures.0 c.if-not-valid.false in
-    let level = c.word-level.result / 256 in
-    let same = c.word-level.ensures.same in
-    let level_is : level ≡ root_level m root = (ap (λ w. w / 256) c.word-level.ensures.value ∙ root-level key.order key.read m root tree some) in
-    let old = g.S.Store.ledger s in
-    let t = c.insert_below.new.store in
-    let n = g.S.Frozen.records t in
-    let mid = g.S.Store.ledger t in
-    let x_makes : MakesNodes old mid m n (2 * suc level) = subst (λ f. MakesNodes (g.S.Store.ledger f) mid (g.S.Frozen.records f) n (2 * suc level)) same c.insert_below.ensures.makes in
-    let sought = key.sought c.args.key.now in
-    let pair : ℕ × ℕ = (c.args.word, c.args.value) in
-    let gone = c.insert_below.new.replaced.items in
-    let parts = c.in_ok-parts.parts in
-    let seen = seen_by key.read key.order sought m in
-    let total = g.met.K.KeyOrder.total in
-    let few = g.met.S.Store.few_nodes s in
-    let x0 : Inserts seen pair old mid m n level root c.new-replaced.result.items gone parts =
-    subst (λ f. Inserts (seen_by key.read key.order sought (g.S.Frozen.records f)) pair (g.S.Store.ledger f) mid (g.S.Frozen.records f) n level root c.new-replaced.result.items gone parts) same c.in_ok-parts.ensures.inserts in
-    let x : Inserts seen pair old mid m n level root [] gone parts = subst (λ xs. Inserts seen pair old mid m n level root xs gone parts) c.new-replaced.ensures x0 in
-    top-one key.order total key.read sought m n old mid root level pair tree some level_is few gone parts x)))))))
+    (
+      (let key = g.K.KeyOrder in
+          let s = c.args.store.now in
+          let m = g.S.Frozen.records s in
+          let root = c.args.root in
+          let tree = c.requires.tree in
+          let some : 0 < root = is_valid c.valid.result root c.valid.ensures.0 c.if-not-valid.false in
+          let level = c.word-level.result / 256 in
+          let same = c.word-level.ensures.same in
+          let level_is : level ≡ root_level m root = (ap (λ w. w / 256) c.word-level.ensures.value ∙ root-level key.order key.read m root tree some) in
+          let old = g.S.Store.ledger s in
+          let t = c.insert_below.new.store in
+          let n = g.S.Frozen.records t in
+          let mid = g.S.Store.ledger t in
+          let x_makes : MakesNodes old mid m n (2 * suc level) = subst (λ f. MakesNodes (g.S.Store.ledger f) mid (g.S.Frozen.records f) n (2 * suc level)) same c.insert_below.ensures.makes in
+          let sought = key.sought c.args.key.now in
+          let pair : ℕ × ℕ = (c.args.word, c.args.value) in
+          let gone = c.insert_below.new.replaced.items in
+          let parts = c.in_ok-parts.parts in
+          let seen = seen_by key.read key.order sought m in
+          let total = g.met.K.KeyOrder.total in
+          let few = g.met.S.Store.few_nodes s in
+          let x0 : Inserts seen pair old mid m n level root c.new-replaced.result.items gone parts =
+          subst (λ f. Inserts (seen_by key.read key.order sought (g.S.Frozen.records f)) pair (g.S.Store.ledger f) mid (g.S.Frozen.records f) n level root c.new-replaced.result.items gone parts) same c.in_ok-parts.ensures.inserts in
+          let x : Inserts seen pair old mid m n level root [] gone parts = subst (λ xs. Inserts seen pair old mid m n level root xs gone parts) c.new-replaced.ensures x0 in
+          top-parts key.order total key.read sought m n old mid root level pair tree some level_is few gone parts x),
+      (
+        (let key = g.K.KeyOrder in
+            let s = c.args.store.now in
+            let m = g.S.Frozen.records s in
+            let root = c.args.root in
+            let tree = c.requires.tree in
+            let some : 0 < root = is_valid c.valid.result root c.valid.ensures.0 c.if-not-valid.false in
+            let level = c.word-level.result / 256 in
+            let same = c.word-level.ensures.same in
+            let level_is : level ≡ root_level m root = (ap (λ w. w / 256) c.word-level.ensures.value ∙ root-level key.order key.read m root tree some) in
+            let old = g.S.Store.ledger s in
+            let t = c.insert_below.new.store in
+            let n = g.S.Frozen.records t in
+            let mid = g.S.Store.ledger t in
+            let x_makes : MakesNodes old mid m n (2 * suc level) = subst (λ f. MakesNodes (g.S.Store.ledger f) mid (g.S.Frozen.records f) n (2 * suc level)) same c.insert_below.ensures.makes in
+            let sought = key.sought c.args.key.now in
+            let pair : ℕ × ℕ = (c.args.word, c.args.value) in
+            let gone = c.insert_below.new.replaced.items in
+            let parts = c.in_ok-parts.parts in
+            let seen = seen_by key.read key.order sought m in
+            let total = g.met.K.KeyOrder.total in
+            let few = g.met.S.Store.few_nodes s in
+            let x0 : Inserts seen pair old mid m n level root c.new-replaced.result.items gone parts =
+            subst (λ f. Inserts (seen_by key.read key.order sought (g.S.Frozen.records f)) pair (g.S.Store.ledger f) mid (g.S.Frozen.records f) n level root c.new-replaced.result.items gone parts) same c.in_ok-parts.ensures.inserts in
+            let x : Inserts seen pair old mid m n level root [] gone parts = subst (λ xs. Inserts seen pair old mid m n level root xs gone parts) c.new-replaced.ensures x0 in
+            top-few key.order total key.read sought m n old mid root level pair tree some level_is few gone parts x),
+        (
+          (let key = g.K.KeyOrder in
+              let s = c.args.store.now in
+              let m = g.S.Frozen.records s in
+              let root = c.args.root in
+              let tree = c.requires.tree in
+              let some : 0 < root = is_valid c.valid.result root c.valid.ensures.0 c.if-not-valid.false in
+              let level = c.word-level.result / 256 in
+              let same = c.word-level.ensures.same in
+              let level_is : level ≡ root_level m root = (ap (λ w. w / 256) c.word-level.ensures.value ∙ root-level key.order key.read m root tree some) in
+              root-low key.order key.read m root tree some level level_is),
+          ((let key = g.K.KeyOrder in
+              let s = c.args.store.now in
+              let m = g.S.Frozen.records s in
+              let root = c.args.root in
+              let tree = c.requires.tree in
+              let some : 0 < root = is_valid c.valid.result root c.valid.ensures.0 c.if-not-valid.false in
+              let level = c.word-level.result / 256 in
+              let same = c.word-level.ensures.same in
+              let level_is : level ≡ root_level m root = (ap (λ w. w / 256) c.word-level.ensures.value ∙ root-level key.order key.read m root tree some) in
+              let old = g.S.Store.ledger s in
+              let t = c.insert_below.new.store in
+              let n = g.S.Frozen.records t in
+              let mid = g.S.Store.ledger t in
+              let x_makes : MakesNodes old mid m n (2 * suc level) = subst (λ f. MakesNodes (g.S.Store.ledger f) mid (g.S.Frozen.records f) n (2 * suc level)) same c.insert_below.ensures.makes in
+              let sought = key.sought c.args.key.now in
+              let pair : ℕ × ℕ = (c.args.word, c.args.value) in
+              let gone = c.insert_below.new.replaced.items in
+              let parts = c.in_ok-parts.parts in
+              let seen = seen_by key.read key.order sought m in
+              let total = g.met.K.KeyOrder.total in
+              let few = g.met.S.Store.few_nodes s in
+              let x0 : Inserts seen pair old mid m n level root c.new-replaced.result.items gone parts =
+              subst (λ f. Inserts (seen_by key.read key.order sought (g.S.Frozen.records f)) pair (g.S.Store.ledger f) mid (g.S.Frozen.records f) n level root c.new-replaced.result.items gone parts) same c.in_ok-parts.ensures.inserts in
+              let x : Inserts seen pair old mid m n level root [] gone parts = subst (λ xs. Inserts seen pair old mid m n level root xs gone parts) c.new-replaced.ensures x0 in
+              top-one key.order total key.read sought m n old mid root level pair tree some level_is few gone parts x)),
+        ),
+      ),
+    ),
+  ),
+)
 
 pub returns-in_err-next-clause-made : goal.returns-in_err-next-clause-made
 returns-in_err-next-clause-made g c =

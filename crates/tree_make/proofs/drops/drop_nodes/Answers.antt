@@ -13,11 +13,14 @@ pub drop_entry-requires : goal.drop_entry-requires
 drop_entry-requires g c =
     let i = c.loop-node.node-index in
     let at : c.from_raw.result ≡ get_or c.args.nodes.now i 0 = c.from_raw.ensures in
-    let before = c.loop-node.invariant in
-    (omega arith, (
-      before.may.unit ∙ c.requires.unit,
-      next_used (g.S.Store.ledger c.args.store.now) (g.S.Store.ledger c.loop-node.store) (g.S.Frozen.records c.args.store.now) (g.S.Frozen.records c.loop-node.store)
-          c.args.nodes.now i c.from_raw.result c.requires.once c.requires.used c.loop-node-test.true at before))
+    let before = c.loop-node.invariant in (
+      omega arith,
+      (
+        before.may.unit ∙ c.requires.unit,
+        next_used (g.S.Store.ledger c.args.store.now) (g.S.Store.ledger c.loop-node.store) (g.S.Frozen.records c.args.store.now) (g.S.Frozen.records c.loop-node.store)
+            c.args.nodes.now i c.from_raw.result c.requires.once c.requires.used c.loop-node-test.true at before,
+      ),
+    )
 
 pub loop-node-preserved : goal.loop-node-preserved
 loop-node-preserved g c =

@@ -11,9 +11,11 @@ word-stored-requires g c =
     let m = records c.args.frozen.now in
     let node = c.args.node in
     let most = room m 1 (level_of (m node)) node c.requires.node in
-    let low : 2 + c.loop-slot.slot < 34 = (let test = c.loop-slot-test.true in let used = c.requires.used in omega arith) in
-    (omega arith, subst (λ (f : g.row.F.Denot). HasWord (records f) node (2 + c.loop-slot.slot)) (sym c.loop-slot.invariant.same)
-    (has_word m 1 (level_of (m node)) node (2 + c.loop-slot.slot) c.requires.node low))
+    let low : 2 + c.loop-slot.slot < 34 = (let test = c.loop-slot-test.true in let used = c.requires.used in omega arith) in (
+      omega arith,
+      subst (λ (f : g.row.F.Denot). HasWord (records f) node (2 + c.loop-slot.slot)) (sym c.loop-slot.invariant.same)
+          (has_word m 1 (level_of (m node)) node (2 + c.loop-slot.slot) c.requires.node low),
+    )
 
 pub compare-requires : goal.compare-requires
 compare-requires g c =

@@ -29,44 +29,57 @@ returns-then-level-eq0-clause-removes g t c =
     (removes-leaf seen (ledger c.args.store.now) m node before c.push.new.self.items leaf.result.keys.items leaf.result.values.items leaf.ensures.even leaf.ensures.pairs leaf.ensures.size pushed))
 
 pub step_down-step-requires : goal.step_down-step-requires
-step_down-step-requires g t c = (omega arith, (omega arith, (
-    (let records = g.S.Frozen.records in
-    let m = records c.args.store.now in
-    let node = c.args.node in
-    let level = c.args.level in
-    let at = node-level m (root_least level) level node c.requires.node in
-    let l = level - 1 in
-    let some = c.if-level-eq0.false in
-    let up : level ≡ suc l = omega arith in
-    omega arith),
-    ((let records = g.S.Frozen.records in
-    let m = records c.args.store.now in
-    let node = c.args.node in
-    let level = c.args.level in
-    let at = node-level m (root_least level) level node c.requires.node in
-    let l = level - 1 in
-    let some = c.if-level-eq0.false in
-    let up : level ≡ suc l = omega arith in
-    subst (λ n. IsNode m 2 n node) (sym at) (subst (λ n. IsNode m n level node) (ap root_least up) c.requires.node)),
-    ((let records = g.S.Frozen.records in
-    let m = records c.args.store.now in
-    let node = c.args.node in
-    let level = c.args.level in
-    let at = node-level m (root_least level) level node c.requires.node in
-    subst (λ n. Ascends g.K.KeyOrder.order g.K.KeyOrder.read m (pairs_below m n node)) (sym at) c.requires.ascends),
-    ((let records = g.S.Frozen.records in
-    let m = records c.args.store.now in
-    let node = c.args.node in
-    let level = c.args.level in
-    let at = node-level m (root_least level) level node c.requires.node in
-    subst (λ n. AllReadable g.K.KeyOrder.can_read m (pairs_below m n node)) (sym at) c.requires.readable),
-    ((let records = g.S.Frozen.records in
-    let m = records c.args.store.now in
-    let node = c.args.node in
-    let level = c.args.level in
-    let at = node-level m (root_least level) level node c.requires.node in
-    let k = g.K.KeyOrder in
-    subst (λ n. IsSome (lookup (seen_by k.read k.order (k.sought c.args.key.now) m) (pairs_below m n node))) (sym at) c.requires.there))))))))
+step_down-step-requires g t c = (
+  omega arith,
+  (
+    omega arith,
+    (
+      (let records = g.S.Frozen.records in
+          let m = records c.args.store.now in
+          let node = c.args.node in
+          let level = c.args.level in
+          let at = node-level m (root_least level) level node c.requires.node in
+          let l = level - 1 in
+          let some = c.if-level-eq0.false in
+          let up : level ≡ suc l = omega arith in
+          omega arith),
+      (
+        (let records = g.S.Frozen.records in
+            let m = records c.args.store.now in
+            let node = c.args.node in
+            let level = c.args.level in
+            let at = node-level m (root_least level) level node c.requires.node in
+            let l = level - 1 in
+            let some = c.if-level-eq0.false in
+            let up : level ≡ suc l = omega arith in
+            subst (λ n. IsNode m 2 n node) (sym at) (subst (λ n. IsNode m n level node) (ap root_least up) c.requires.node)),
+        (
+          (let records = g.S.Frozen.records in
+              let m = records c.args.store.now in
+              let node = c.args.node in
+              let level = c.args.level in
+              let at = node-level m (root_least level) level node c.requires.node in
+              subst (λ n. Ascends g.K.KeyOrder.order g.K.KeyOrder.read m (pairs_below m n node)) (sym at) c.requires.ascends),
+          (
+            (let records = g.S.Frozen.records in
+                let m = records c.args.store.now in
+                let node = c.args.node in
+                let level = c.args.level in
+                let at = node-level m (root_least level) level node c.requires.node in
+                subst (λ n. AllReadable g.K.KeyOrder.can_read m (pairs_below m n node)) (sym at) c.requires.readable),
+            ((let records = g.S.Frozen.records in
+                let m = records c.args.store.now in
+                let node = c.args.node in
+                let level = c.args.level in
+                let at = node-level m (root_least level) level node c.requires.node in
+                let k = g.K.KeyOrder in
+                subst (λ n. IsSome (lookup (seen_by k.read k.order (k.sought c.args.key.now) m) (pairs_below m n node))) (sym at) c.requires.there)),
+          ),
+        ),
+      ),
+    ),
+  ),
+)
 
 pub remove_below-requires : goal.remove_below-requires
 remove_below-requires g t c =
@@ -95,21 +108,49 @@ remove_below-requires g t c =
     let readable = subst (λ n. AllReadable k.can_read m (pairs_below m n child)) down c.step_down-step.ensures.readable in
     let sub = step.child_node in
     λ κs h. (
-      omega arith, (
-      search rules, (
-      h.0, (
-      h.1.0, (
-      h.1.1.0, (
-      h.1.1.1.0, (
-      h.1.1.1.1, (
-      omega arith, (
-      subst (λ f. (g.S.Store.ledger f).unit ≡ true) (sym same) c.requires.unit, (
-      omega arith, (
-      subst (λ f. IsNode (records f) (root_least l) l child) (sym same) (IsNode-lower m 8 (root_least l) l child few sub), (
-      subst (λ f. Ascends k.order k.read (records f) (pairs_below (records f) l child)) (sym same) ascends, (
-      subst (λ f. AllReadable k.can_read (records f) (pairs_below (records f) l child)) (sym same) readable, (
-      subst (λ f. IsSome (lookup (seen_by k.read k.order s (records f)) (pairs_below (records f) l child))) (sym same) step.there, (
-      omega arith)))))))))))))))
+      omega arith,
+      (
+        search rules,
+        (
+          h.0,
+          (
+            h.1.0,
+            (
+              h.1.1.0,
+              (
+                h.1.1.1.0,
+                (
+                  h.1.1.1.1,
+                  (
+                    omega arith,
+                    (
+                      subst (λ f. (g.S.Store.ledger f).unit ≡ true) (sym same) c.requires.unit,
+                      (
+                        omega arith,
+                        (
+                          subst (λ f. IsNode (records f) (root_least l) l child) (sym same) (IsNode-lower m 8 (root_least l) l child few sub),
+                          (
+                            subst (λ f. Ascends k.order k.read (records f) (pairs_below (records f) l child)) (sym same) ascends,
+                            (
+                              subst (λ f. AllReadable k.can_read (records f) (pairs_below (records f) l child)) (sym same) readable,
+                              (
+                                subst (λ f. IsSome (lookup (seen_by k.read k.order s (records f)) (pairs_below (records f) l child))) (sym same) step.there,
+                                (
+                                    omega arith),
+                              ),
+                            ),
+                          ),
+                        ),
+                      ),
+                    ),
+                  ),
+                ),
+              ),
+            ),
+          ),
+        ),
+      ),
+    )
 
 pub put_back-requires-clause-upper : goal.put_back-requires-clause-upper
 put_back-requires-clause-upper g t c =

@@ -13,24 +13,33 @@ use Rattle.tree_images.specs.Trees.{pairs_below, IsNode}
 use Rattle.tree_remove.proofs.below.remove_in_leaf.Goals as goal
 
 pub read_node-slots-requires : goal.read_node-slots-requires
-read_node-slots-requires g c = (omega arith, (
+read_node-slots-requires g c = (
+  omega arith,
+  (
     (let m = g.F.Frozen.records c.args.frozen.now in
-    let node = c.args.node in
-    node-size m 1 0 node c.requires.node),
+        let node = c.args.node in
+        node-size m 1 0 node c.requires.node),
     ((let m = g.F.Frozen.records c.args.frozen.now in
-    let node = c.args.node in
-    node-room m 1 0 node c.requires.node))))
+        let node = c.args.node in
+        node-room m 1 0 node c.requires.node)),
+  ),
+)
 
 pub first_slot-slot-requires : goal.first_slot-slot-requires
 first_slot-slot-requires g c =
     let m = g.F.Frozen.records c.args.frozen.now in
     let node = c.args.node in
     let can = g.K.KeyOrder.can_read in
-    let read = c.read_node-slots.ensures in
-    (omega arith, (
-    subst (λ f. IsNode (g.F.Frozen.records f) 1 (level_of (g.F.Frozen.records f node)) node) (sym read.same) (subst (λ l. IsNode m 1 l node) (sym (node-level m 1 0 node c.requires.node)) c.requires.node),
-    (c.len-used.ensures.value ∙ ap length read.keys ∙ keys-length m 1 0 node c.requires.node ∙ ap (λ f. used_of (g.F.Frozen.records f node)) (sym read.same),
-    subst (λ f. AllReadable can (g.F.Frozen.records f) (pairs_below (g.F.Frozen.records f) (level_of (g.F.Frozen.records f node)) node)) (sym read.same) (subst (λ l. AllReadable can m (pairs_below m l node)) (sym (node-level m 1 0 node c.requires.node)) c.requires.readable))))
+    let read = c.read_node-slots.ensures in (
+      omega arith,
+      (
+        subst (λ f. IsNode (g.F.Frozen.records f) 1 (level_of (g.F.Frozen.records f node)) node) (sym read.same) (subst (λ l. IsNode m 1 l node) (sym (node-level m 1 0 node c.requires.node)) c.requires.node),
+        (
+          c.len-used.ensures.value ∙ ap length read.keys ∙ keys-length m 1 0 node c.requires.node ∙ ap (λ f. used_of (g.F.Frozen.records f node)) (sym read.same),
+          subst (λ f. AllReadable can (g.F.Frozen.records f) (pairs_below (g.F.Frozen.records f) (level_of (g.F.Frozen.records f node)) node)) (sym read.same) (subst (λ l. AllReadable can m (pairs_below m l node)) (sym (node-level m 1 0 node c.requires.node)) c.requires.readable),
+        ),
+      ),
+    )
 
 pub remove-requires : goal.remove-requires
 remove-requires g c =

@@ -12,26 +12,35 @@ use Rattle.tree_node.proofs.ChildLemmas.{keys-length, IsNode-lower}
 use Rattle.tree_remove.proofs.below.step_down.Goals as goal
 
 pub read_node-slots-requires : goal.read_node-slots-requires
-read_node-slots-requires g c = (omega arith, (
+read_node-slots-requires g c = (
+  omega arith,
+  (
     (let m = g.F.Frozen.records c.args.frozen.now in
-    let node = c.args.node in
-    let level = level_of (m node) in
-    node-size m 2 level node c.requires.node),
+        let node = c.args.node in
+        let level = level_of (m node) in
+        node-size m 2 level node c.requires.node),
     ((let m = g.F.Frozen.records c.args.frozen.now in
-    let node = c.args.node in
-    let level = level_of (m node) in
-    node-room m 2 level node c.requires.node))))
+        let node = c.args.node in
+        let level = level_of (m node) in
+        node-room m 2 level node c.requires.node)),
+  ),
+)
 
 pub first_slot-place-requires : goal.first_slot-place-requires
 first_slot-place-requires g c =
     let m = g.F.Frozen.records c.args.frozen.now in
     let node = c.args.node in
     let can = g.K.KeyOrder.can_read in
-    let read = c.read_node-slots.ensures in
-    (omega arith, (
-    subst (λ f. IsNode (g.F.Frozen.records f) 1 (level_of (g.F.Frozen.records f node)) node) (sym read.same) (IsNode-lower m 2 1 (level_of (m node)) node (omega arith) c.requires.node),
-    (c.len-used.ensures.value ∙ ap length read.keys ∙ keys-length m 2 (level_of (m node)) node c.requires.node ∙ ap (λ f. used_of (g.F.Frozen.records f node)) (sym read.same),
-    subst (λ f. AllReadable can (g.F.Frozen.records f) (pairs_below (g.F.Frozen.records f) (level_of (g.F.Frozen.records f node)) node)) (sym read.same) c.requires.readable)))
+    let read = c.read_node-slots.ensures in (
+      omega arith,
+      (
+        subst (λ f. IsNode (g.F.Frozen.records f) 1 (level_of (g.F.Frozen.records f node)) node) (sym read.same) (IsNode-lower m 2 1 (level_of (m node)) node (omega arith) c.requires.node),
+        (
+          c.len-used.ensures.value ∙ ap length read.keys ∙ keys-length m 2 (level_of (m node)) node c.requires.node ∙ ap (λ f. used_of (g.F.Frozen.records f node)) (sym read.same),
+          subst (λ f. AllReadable can (g.F.Frozen.records f) (pairs_below (g.F.Frozen.records f) (level_of (g.F.Frozen.records f node)) node)) (sym read.same) c.requires.readable,
+        ),
+      ),
+    )
 
 pub bounds-deref-place : goal.bounds-deref-place
 bounds-deref-place g c =

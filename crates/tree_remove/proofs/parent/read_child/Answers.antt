@@ -15,17 +15,21 @@ overflow_cast-deref g c =
     omega arith
 
 pub read_node-requires : goal.read_node-requires
-read_node-requires g c = (omega arith, (
+read_node-requires g c = (
+  omega arith,
+  (
     (let m = g.F.Frozen.records c.args.frozen.now in
-    let slots = c.args.slots.now in
-    let node = child-node m slots.level slots.keys.items slots.values.items c.args.place c.requires.inner c.requires.parent c.requires.place in
-    let is = c.from_raw-child.ensures ∙ ap (λ (vs : List ℕ). get_or vs c.args.place 0) c.deref.ensures.0 in
-    ap (λ (r : ℕ). length (m r)) is ∙ node-size m 8 (slots.level - 1) (get_or slots.values.items c.args.place 0) node),
+        let slots = c.args.slots.now in
+        let node = child-node m slots.level slots.keys.items slots.values.items c.args.place c.requires.inner c.requires.parent c.requires.place in
+        let is = c.from_raw-child.ensures ∙ ap (λ (vs : List ℕ). get_or vs c.args.place 0) c.deref.ensures.0 in
+        ap (λ (r : ℕ). length (m r)) is ∙ node-size m 8 (slots.level - 1) (get_or slots.values.items c.args.place 0) node),
     ((let m = g.F.Frozen.records c.args.frozen.now in
-    let slots = c.args.slots.now in
-    let node = child-node m slots.level slots.keys.items slots.values.items c.args.place c.requires.inner c.requires.parent c.requires.place in
-    let is = c.from_raw-child.ensures ∙ ap (λ (vs : List ℕ). get_or vs c.args.place 0) c.deref.ensures.0 in
-    subst (λ (r : ℕ). used_of (m r) ≤ 16) (sym is) (node-room m 8 (slots.level - 1) (get_or slots.values.items c.args.place 0) node)))))
+        let slots = c.args.slots.now in
+        let node = child-node m slots.level slots.keys.items slots.values.items c.args.place c.requires.inner c.requires.parent c.requires.place in
+        let is = c.from_raw-child.ensures ∙ ap (λ (vs : List ℕ). get_or vs c.args.place 0) c.deref.ensures.0 in
+        subst (λ (r : ℕ). used_of (m r) ≤ 16) (sym is) (node-room m 8 (slots.level - 1) (get_or slots.values.items c.args.place 0) node))),
+  ),
+)
 
 pub returns-clause-level : goal.returns-clause-level
 returns-clause-level g c =

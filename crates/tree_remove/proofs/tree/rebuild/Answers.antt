@@ -25,62 +25,76 @@ word-level-requires g c =
     omega arith
 
 pub remove_below-requires : goal.remove_below-requires
-remove_below-requires g c = (omega arith, (
+remove_below-requires g c = (
+  omega arith,
+  (
     search rules,
-    ((let m = g.S.Frozen.records c.args.store.now in
-    let k = g.K.KeyOrder in
-    let root = c.args.root in
-    let tree = c.requires.tree in
-    let some = c.requires.some in
-    let level = c.word-level.result / 256 in
-    let is : level ≡ root_level m root = ap (λ (w : ℕ). w / 256) c.word-level.ensures.value ∙ root-level k.order k.read m root tree some in
-    root-low k.order k.read m root tree some level is),
-    ((let m = g.S.Frozen.records c.args.store.now in
-    let k = g.K.KeyOrder in
-    let root = c.args.root in
-    let tree = c.requires.tree in
-    let some = c.requires.some in
-    let level = c.word-level.result / 256 in
-    let is : level ≡ root_level m root = ap (λ (w : ℕ). w / 256) c.word-level.ensures.value ∙ root-level k.order k.read m root tree some in
-    subst (λ f. IsNode (g.S.Frozen.records f) (root_least level) level root) (sym c.word-level.ensures.same)
-    (root-node k.order k.read m root tree some level is)),
-    ((let m = g.S.Frozen.records c.args.store.now in
-    let k = g.K.KeyOrder in
-    let root = c.args.root in
-    let tree = c.requires.tree in
-    let some = c.requires.some in
-    let level = c.word-level.result / 256 in
-    let is : level ≡ root_level m root = ap (λ (w : ℕ). w / 256) c.word-level.ensures.value ∙ root-level k.order k.read m root tree some in
-    subst (λ f. Ascends k.order k.read (g.S.Frozen.records f) (pairs_below (g.S.Frozen.records f) level root)) (sym c.word-level.ensures.same)
-    (subst (Ascends k.order k.read m) (root-pairs k.order k.read m root tree some level is) tree.ascends)),
-    ((let m = g.S.Frozen.records c.args.store.now in
-    let k = g.K.KeyOrder in
-    let root = c.args.root in
-    let tree = c.requires.tree in
-    let some = c.requires.some in
-    let level = c.word-level.result / 256 in
-    let is : level ≡ root_level m root = ap (λ (w : ℕ). w / 256) c.word-level.ensures.value ∙ root-level k.order k.read m root tree some in
-    subst (λ f. AllReadable k.can_read (g.S.Frozen.records f) (pairs_below (g.S.Frozen.records f) level root)) (sym c.word-level.ensures.same)
-    (subst (AllReadable k.can_read m) (root-pairs k.order k.read m root tree some level is) c.requires.readable)),
-    ((let m = g.S.Frozen.records c.args.store.now in
-    let k = g.K.KeyOrder in
-    let root = c.args.root in
-    let tree = c.requires.tree in
-    let some = c.requires.some in
-    let level = c.word-level.result / 256 in
-    let is : level ≡ root_level m root = ap (λ (w : ℕ). w / 256) c.word-level.ensures.value ∙ root-level k.order k.read m root tree some in
-    subst (λ f. IsSome (lookup (seen_by k.read k.order (k.sought c.args.key.now) (g.S.Frozen.records f)) (pairs_below (g.S.Frozen.records f) level root))) (sym c.word-level.ensures.same)
-    (subst (λ ps. IsSome (lookup (seen_by k.read k.order (k.sought c.args.key.now) m) ps)) (root-pairs k.order k.read m root tree some level is) c.requires.there)),
-    ((let m = g.S.Frozen.records c.args.store.now in
-    let k = g.K.KeyOrder in
-    let root = c.args.root in
-    let tree = c.requires.tree in
-    let some = c.requires.some in
-    let level = c.word-level.result / 256 in
-    let is : level ≡ root_level m root = ap (λ (w : ℕ). w / 256) c.word-level.ensures.value ∙ root-level k.order k.read m root tree some in
-    let low = root-low k.order k.read m root tree some level is in
-    let none = ap length c.requires.replaced in
-    omega arith)))))))))
+    (
+      (let m = g.S.Frozen.records c.args.store.now in
+          let k = g.K.KeyOrder in
+          let root = c.args.root in
+          let tree = c.requires.tree in
+          let some = c.requires.some in
+          let level = c.word-level.result / 256 in
+          let is : level ≡ root_level m root = ap (λ (w : ℕ). w / 256) c.word-level.ensures.value ∙ root-level k.order k.read m root tree some in
+          root-low k.order k.read m root tree some level is),
+      (
+        (let m = g.S.Frozen.records c.args.store.now in
+            let k = g.K.KeyOrder in
+            let root = c.args.root in
+            let tree = c.requires.tree in
+            let some = c.requires.some in
+            let level = c.word-level.result / 256 in
+            let is : level ≡ root_level m root = ap (λ (w : ℕ). w / 256) c.word-level.ensures.value ∙ root-level k.order k.read m root tree some in
+            subst (λ f. IsNode (g.S.Frozen.records f) (root_least level) level root) (sym c.word-level.ensures.same)
+            (root-node k.order k.read m root tree some level is)),
+        (
+          (let m = g.S.Frozen.records c.args.store.now in
+              let k = g.K.KeyOrder in
+              let root = c.args.root in
+              let tree = c.requires.tree in
+              let some = c.requires.some in
+              let level = c.word-level.result / 256 in
+              let is : level ≡ root_level m root = ap (λ (w : ℕ). w / 256) c.word-level.ensures.value ∙ root-level k.order k.read m root tree some in
+              subst (λ f. Ascends k.order k.read (g.S.Frozen.records f) (pairs_below (g.S.Frozen.records f) level root)) (sym c.word-level.ensures.same)
+              (subst (Ascends k.order k.read m) (root-pairs k.order k.read m root tree some level is) tree.ascends)),
+          (
+            (let m = g.S.Frozen.records c.args.store.now in
+                let k = g.K.KeyOrder in
+                let root = c.args.root in
+                let tree = c.requires.tree in
+                let some = c.requires.some in
+                let level = c.word-level.result / 256 in
+                let is : level ≡ root_level m root = ap (λ (w : ℕ). w / 256) c.word-level.ensures.value ∙ root-level k.order k.read m root tree some in
+                subst (λ f. AllReadable k.can_read (g.S.Frozen.records f) (pairs_below (g.S.Frozen.records f) level root)) (sym c.word-level.ensures.same)
+                (subst (AllReadable k.can_read m) (root-pairs k.order k.read m root tree some level is) c.requires.readable)),
+            (
+              (let m = g.S.Frozen.records c.args.store.now in
+                  let k = g.K.KeyOrder in
+                  let root = c.args.root in
+                  let tree = c.requires.tree in
+                  let some = c.requires.some in
+                  let level = c.word-level.result / 256 in
+                  let is : level ≡ root_level m root = ap (λ (w : ℕ). w / 256) c.word-level.ensures.value ∙ root-level k.order k.read m root tree some in
+                  subst (λ f. IsSome (lookup (seen_by k.read k.order (k.sought c.args.key.now) (g.S.Frozen.records f)) (pairs_below (g.S.Frozen.records f) level root))) (sym c.word-level.ensures.same)
+                  (subst (λ ps. IsSome (lookup (seen_by k.read k.order (k.sought c.args.key.now) m) ps)) (root-pairs k.order k.read m root tree some level is) c.requires.there)),
+              ((let m = g.S.Frozen.records c.args.store.now in
+                  let k = g.K.KeyOrder in
+                  let root = c.args.root in
+                  let tree = c.requires.tree in
+                  let some = c.requires.some in
+                  let level = c.word-level.result / 256 in
+                  let is : level ≡ root_level m root = ap (λ (w : ℕ). w / 256) c.word-level.ensures.value ∙ root-level k.order k.read m root tree some in
+                  let low = root-low k.order k.read m root tree some level is in
+                  let none = ap length c.requires.replaced in
+                  omega arith)),
+            ),
+          ),
+        ),
+      ),
+    ),
+  ),
+)
 
 pub returns-in_err-slots-clause-makes : goal.returns-in_err-slots-clause-makes
 returns-in_err-slots-clause-makes g c =
@@ -99,74 +113,86 @@ returns-in_err-slots-clause-makes g c =
     (subst (λ f. MakesNodes (ledger f) mid (g.S.Frozen.records f) n (suc level)) c.word-level.ensures.same c.in_err-slots.ensures.refused)
 
 pub make_root-requires : goal.make_root-requires
-make_root-requires g c = (omega arith, (
+make_root-requires g c = (
+  omega arith,
+  (
     search rules,
-    ((let m = g.S.Frozen.records c.args.store.now in
-    let k = g.K.KeyOrder in
-    let root = c.args.root in
-    let tree = c.requires.tree in
-    let some = c.requires.some in
-    let level = c.word-level.result / 256 in
-    let is : level ≡ root_level m root = ap (λ (w : ℕ). w / 256) c.word-level.ensures.value ∙ root-level k.order k.read m root tree some in
-    let low = root-low k.order k.read m root tree some level is in
-    let same = c.in_ok-slots.ensures.level in
-    omega arith),
-    (search rules,
-    ((let m = g.S.Frozen.records c.args.store.now in
-    let k = g.K.KeyOrder in
-    let root = c.args.root in
-    let tree = c.requires.tree in
-    let some = c.requires.some in
-    let level = c.word-level.result / 256 in
-    let is : level ≡ root_level m root = ap (λ (w : ℕ). w / 256) c.word-level.ensures.value ∙ root-level k.order k.read m root tree some in
-    let seen = seen_by k.read k.order (k.sought c.args.key.now) m in
-    let ledger = g.S.Store.ledger in
-    let old = ledger c.args.store.now in
-    let mid = ledger c.remove_below.new.store in
-    let n = g.S.Frozen.records c.remove_below.new.store in
-    let slots = c.in_ok-slots.slots in
-    let gone = c.remove_below.new.replaced.items in
-    let same = c.word-level.ensures.same in
-    let removes = subst (λ xs. Removes seen old mid m n level root xs gone slots.keys.items slots.values.items) c.requires.replaced
-    (subst (λ f. Removes (seen_by k.read k.order (k.sought c.args.key.now) (g.S.Frozen.records f)) (ledger f) mid (g.S.Frozen.records f) n level root c.args.replaced.now.items gone slots.keys.items slots.values.items) same c.in_ok-slots.ensures.removes) in
-    λ above. top-some k.order k.read m root tree some level is seen old mid n gone slots.keys.items slots.values.items removes (let same_level = c.in_ok-slots.ensures.level in omega arith)),
-    ((let m = g.S.Frozen.records c.args.store.now in
-    let k = g.K.KeyOrder in
-    let root = c.args.root in
-    let tree = c.requires.tree in
-    let some = c.requires.some in
-    let level = c.word-level.result / 256 in
-    let is : level ≡ root_level m root = ap (λ (w : ℕ). w / 256) c.word-level.ensures.value ∙ root-level k.order k.read m root tree some in
-    let seen = seen_by k.read k.order (k.sought c.args.key.now) m in
-    let ledger = g.S.Store.ledger in
-    let old = ledger c.args.store.now in
-    let mid = ledger c.remove_below.new.store in
-    let n = g.S.Frozen.records c.remove_below.new.store in
-    let slots = c.in_ok-slots.slots in
-    let gone = c.remove_below.new.replaced.items in
-    let same = c.word-level.ensures.same in
-    let removes = subst (λ xs. Removes seen old mid m n level root xs gone slots.keys.items slots.values.items) c.requires.replaced
-    (subst (λ f. Removes (seen_by k.read k.order (k.sought c.args.key.now) (g.S.Frozen.records f)) (ledger f) mid (g.S.Frozen.records f) n level root c.args.replaced.now.items gone slots.keys.items slots.values.items) same c.in_ok-slots.ensures.removes) in
-    top-room k.order k.read m root tree some level is seen old mid n gone slots.keys.items slots.values.items removes),
-    ((let m = g.S.Frozen.records c.args.store.now in
-    let k = g.K.KeyOrder in
-    let root = c.args.root in
-    let tree = c.requires.tree in
-    let some = c.requires.some in
-    let level = c.word-level.result / 256 in
-    let is : level ≡ root_level m root = ap (λ (w : ℕ). w / 256) c.word-level.ensures.value ∙ root-level k.order k.read m root tree some in
-    let seen = seen_by k.read k.order (k.sought c.args.key.now) m in
-    let ledger = g.S.Store.ledger in
-    let old = ledger c.args.store.now in
-    let mid = ledger c.remove_below.new.store in
-    let n = g.S.Frozen.records c.remove_below.new.store in
-    let slots = c.in_ok-slots.slots in
-    let gone = c.remove_below.new.replaced.items in
-    let same = c.word-level.ensures.same in
-    let removes = subst (λ xs. Removes seen old mid m n level root xs gone slots.keys.items slots.values.items) c.requires.replaced
-    (subst (λ f. Removes (seen_by k.read k.order (k.sought c.args.key.now) (g.S.Frozen.records f)) (ledger f) mid (g.S.Frozen.records f) n level root c.args.replaced.now.items gone slots.keys.items slots.values.items) same c.in_ok-slots.ensures.removes) in
-    subst (λ j. length (slot_pairs n j slots.keys.items slots.values.items) < 2 ^ 32) (sym c.in_ok-slots.ensures.level)
-    (top-few k.order k.read m root tree some level is seen old mid n gone slots.keys.items slots.values.items removes (subst (λ ps. IsSome (lookup seen ps)) (root-pairs k.order k.read m root tree some level is) c.requires.there))))))))))
+    (
+      (let m = g.S.Frozen.records c.args.store.now in
+          let k = g.K.KeyOrder in
+          let root = c.args.root in
+          let tree = c.requires.tree in
+          let some = c.requires.some in
+          let level = c.word-level.result / 256 in
+          let is : level ≡ root_level m root = ap (λ (w : ℕ). w / 256) c.word-level.ensures.value ∙ root-level k.order k.read m root tree some in
+          let low = root-low k.order k.read m root tree some level is in
+          let same = c.in_ok-slots.ensures.level in
+          omega arith),
+      (
+        search rules,
+        (
+          (let m = g.S.Frozen.records c.args.store.now in
+              let k = g.K.KeyOrder in
+              let root = c.args.root in
+              let tree = c.requires.tree in
+              let some = c.requires.some in
+              let level = c.word-level.result / 256 in
+              let is : level ≡ root_level m root = ap (λ (w : ℕ). w / 256) c.word-level.ensures.value ∙ root-level k.order k.read m root tree some in
+              let seen = seen_by k.read k.order (k.sought c.args.key.now) m in
+              let ledger = g.S.Store.ledger in
+              let old = ledger c.args.store.now in
+              let mid = ledger c.remove_below.new.store in
+              let n = g.S.Frozen.records c.remove_below.new.store in
+              let slots = c.in_ok-slots.slots in
+              let gone = c.remove_below.new.replaced.items in
+              let same = c.word-level.ensures.same in
+              let removes = subst (λ xs. Removes seen old mid m n level root xs gone slots.keys.items slots.values.items) c.requires.replaced
+              (subst (λ f. Removes (seen_by k.read k.order (k.sought c.args.key.now) (g.S.Frozen.records f)) (ledger f) mid (g.S.Frozen.records f) n level root c.args.replaced.now.items gone slots.keys.items slots.values.items) same c.in_ok-slots.ensures.removes) in
+              λ above. top-some k.order k.read m root tree some level is seen old mid n gone slots.keys.items slots.values.items removes (let same_level = c.in_ok-slots.ensures.level in omega arith)),
+          (
+            (let m = g.S.Frozen.records c.args.store.now in
+                let k = g.K.KeyOrder in
+                let root = c.args.root in
+                let tree = c.requires.tree in
+                let some = c.requires.some in
+                let level = c.word-level.result / 256 in
+                let is : level ≡ root_level m root = ap (λ (w : ℕ). w / 256) c.word-level.ensures.value ∙ root-level k.order k.read m root tree some in
+                let seen = seen_by k.read k.order (k.sought c.args.key.now) m in
+                let ledger = g.S.Store.ledger in
+                let old = ledger c.args.store.now in
+                let mid = ledger c.remove_below.new.store in
+                let n = g.S.Frozen.records c.remove_below.new.store in
+                let slots = c.in_ok-slots.slots in
+                let gone = c.remove_below.new.replaced.items in
+                let same = c.word-level.ensures.same in
+                let removes = subst (λ xs. Removes seen old mid m n level root xs gone slots.keys.items slots.values.items) c.requires.replaced
+                (subst (λ f. Removes (seen_by k.read k.order (k.sought c.args.key.now) (g.S.Frozen.records f)) (ledger f) mid (g.S.Frozen.records f) n level root c.args.replaced.now.items gone slots.keys.items slots.values.items) same c.in_ok-slots.ensures.removes) in
+                top-room k.order k.read m root tree some level is seen old mid n gone slots.keys.items slots.values.items removes),
+            ((let m = g.S.Frozen.records c.args.store.now in
+                let k = g.K.KeyOrder in
+                let root = c.args.root in
+                let tree = c.requires.tree in
+                let some = c.requires.some in
+                let level = c.word-level.result / 256 in
+                let is : level ≡ root_level m root = ap (λ (w : ℕ). w / 256) c.word-level.ensures.value ∙ root-level k.order k.read m root tree some in
+                let seen = seen_by k.read k.order (k.sought c.args.key.now) m in
+                let ledger = g.S.Store.ledger in
+                let old = ledger c.args.store.now in
+                let mid = ledger c.remove_below.new.store in
+                let n = g.S.Frozen.records c.remove_below.new.store in
+                let slots = c.in_ok-slots.slots in
+                let gone = c.remove_below.new.replaced.items in
+                let same = c.word-level.ensures.same in
+                let removes = subst (λ xs. Removes seen old mid m n level root xs gone slots.keys.items slots.values.items) c.requires.replaced
+                (subst (λ f. Removes (seen_by k.read k.order (k.sought c.args.key.now) (g.S.Frozen.records f)) (ledger f) mid (g.S.Frozen.records f) n level root c.args.replaced.now.items gone slots.keys.items slots.values.items) same c.in_ok-slots.ensures.removes) in
+                subst (λ j. length (slot_pairs n j slots.keys.items slots.values.items) < 2 ^ 32) (sym c.in_ok-slots.ensures.level)
+                (top-few k.order k.read m root tree some level is seen old mid n gone slots.keys.items slots.values.items removes (subst (λ ps. IsSome (lookup seen ps)) (root-pairs k.order k.read m root tree some level is) c.requires.there)))),
+          ),
+        ),
+      ),
+    ),
+  ),
+)
 
 pub returns-clause-rebuilds : goal.returns-clause-rebuilds
 returns-clause-rebuilds g c =

@@ -20,18 +20,24 @@ push-requires g c =
     omega arith
 
 pub child_at-node-requires : goal.child_at-node-requires
-child_at-node-requires g c = (omega arith, (
+child_at-node-requires g c = (
+  omega arith,
+  (
     search rules,
-    ((let m = g.F.Frozen.records c.args.frozen.now in
-    let it = c.loop-head.invariant in
-    rw it.same (step-size m c.loop-head.self-inside.root c.loop-head.self-inside.path c.loop-head.node it.leads)),
-    (let m = g.F.Frozen.records c.args.frozen.now in
-    let it = c.loop-head.invariant in
-    let root = c.loop-head.self-inside.root in
-    let path = c.loop-head.self-inside.path in
-    let node = c.loop-head.node in
-    let above : 0 < level_of (m node) = (let test = c.loop-head-test.true in let is = it.level in omega arith) in
-    rw it.same (step-child m root path node 0 it.leads above (first-low m root path node it.leads))))))
+    (
+      (let m = g.F.Frozen.records c.args.frozen.now in
+          let it = c.loop-head.invariant in
+          rw it.same (step-size m c.loop-head.self-inside.root c.loop-head.self-inside.path c.loop-head.node it.leads)),
+      (let m = g.F.Frozen.records c.args.frozen.now in
+          let it = c.loop-head.invariant in
+          let root = c.loop-head.self-inside.root in
+          let path = c.loop-head.self-inside.path in
+          let node = c.loop-head.node in
+          let above : 0 < level_of (m node) = (let test = c.loop-head-test.true in let is = it.level in omega arith) in
+          rw it.same (step-child m root path node 0 it.leads above (first-low m root path node it.leads))),
+    ),
+  ),
+)
 
 pub read_head-head-requires-in-loop-head : goal.read_head-head-requires-in-loop-head
 read_head-head-requires-in-loop-head g c =
@@ -43,9 +49,11 @@ read_head-head-requires-in-loop-head g c =
     let node = c.loop-head.node in
     let above : 0 < level_of (m node) = (let test = c.loop-head-test.true in let is = it.level in omega arith) in
     let child : c.child_at-node.result ≡ word_at m node 18 = c.child_at-node.ensures.child ∙ ap (λ (f : g.row.F.Denot). word_at (records f) node 18) it.same in
-    let same = c.child_at-node.ensures.same ∙ it.same in
-    (omega arith, subst (λ (f : g.row.F.Denot). HasWord (records f) c.child_at-node.result 0) (sym same)
-    (subst (λ q. 0 < length (m q)) (sym child) (step-child m root path node 0 it.leads above (first-low m root path node it.leads))))
+    let same = c.child_at-node.ensures.same ∙ it.same in (
+      omega arith,
+      subst (λ (f : g.row.F.Denot). HasWord (records f) c.child_at-node.result 0) (sym same)
+          (subst (λ q. 0 < length (m q)) (sym child) (step-child m root path node 0 it.leads above (first-low m root path node it.leads))),
+    )
 
 pub loop-head-smaller : goal.loop-head-smaller
 loop-head-smaller g c =

@@ -21,24 +21,30 @@ read_head-head-requires g c =
     omega arith
 
 pub first_slot-slot-requires : goal.first_slot-slot-requires
-first_slot-slot-requires g c = (omega arith, (
+first_slot-slot-requires g c = (
+  omega arith,
+  (
     (let records = g.F.Frozen.records in
-    let key = g.K.KeyOrder in
-    let m = records c.args.frozen.now in
-    let root = c.args.root in
-    let some : 0 < root = omega arith in
-    let tree = c.requires.tree.node some in
-    subst (λ (f : g.row.F.Denot). IsNode (records f) 1 (level_of (records f root)) root) (sym c.read_head-head.ensures.same)
-    (leads-node m root [] root (leads-root m root some tree))),
-    (search rules,
-    (let records = g.F.Frozen.records in
-    let key = g.K.KeyOrder in
-    let m = records c.args.frozen.now in
-    let root = c.args.root in
-    let some : 0 < root = omega arith in
-    let tree = c.requires.tree.node some in
-    subst (λ (f : g.row.F.Denot). AllReadable key.can_read (records f) (pairs_below (records f) (level_of (records f root)) root)) (sym c.read_head-head.ensures.same)
-    (root-readable key.order g.met.K.KeyOrder.total (key.read m) (key.sought c.args.key.now) m (key.can_read m) root some tree c.requires.tree.ascends c.requires.readable)))))
+        let key = g.K.KeyOrder in
+        let m = records c.args.frozen.now in
+        let root = c.args.root in
+        let some : 0 < root = omega arith in
+        let tree = c.requires.tree.node some in
+        subst (λ (f : g.row.F.Denot). IsNode (records f) 1 (level_of (records f root)) root) (sym c.read_head-head.ensures.same)
+        (leads-node m root [] root (leads-root m root some tree))),
+    (
+      search rules,
+      (let records = g.F.Frozen.records in
+          let key = g.K.KeyOrder in
+          let m = records c.args.frozen.now in
+          let root = c.args.root in
+          let some : 0 < root = omega arith in
+          let tree = c.requires.tree.node some in
+          subst (λ (f : g.row.F.Denot). AllReadable key.can_read (records f) (pairs_below (records f) (level_of (records f root)) root)) (sym c.read_head-head.ensures.same)
+          (root-readable key.order g.met.K.KeyOrder.total (key.read m) (key.sought c.args.key.now) m (key.can_read m) root some tree c.requires.tree.ascends c.requires.readable)),
+    ),
+  ),
+)
 
 pub returns-then-slot-head-clause-pairs : goal.returns-then-slot-head-clause-pairs
 returns-then-slot-head-clause-pairs g c =
@@ -97,37 +103,43 @@ push-requires g c =
     omega arith
 
 pub child_at-node-requires : goal.child_at-node-requires
-child_at-node-requires g c = (omega arith, (
+child_at-node-requires g c = (
+  omega arith,
+  (
     (let records = g.F.Frozen.records in
-    let m = records c.args.frozen.now in
-    let it = c.loop-head.invariant in
-    let leads = it.sought.leads in
-    let root = c.args.root in
-    let path = c.loop-head.cursor-inside.path in
-    let node = c.loop-head.node in
-    let slot = c.loop-head.slot in
-    let most = step-room m root path node leads in
-    let low = it.sought.low in
-    omega arith),
-    ((let records = g.F.Frozen.records in
-    let m = records c.args.frozen.now in
-    let it = c.loop-head.invariant in
-    let leads = it.sought.leads in
-    let root = c.args.root in
-    let path = c.loop-head.cursor-inside.path in
-    let node = c.loop-head.node in
-    let slot = c.loop-head.slot in
-    rw it.same (step-size m root path node leads)),
-    (let records = g.F.Frozen.records in
-    let m = records c.args.frozen.now in
-    let it = c.loop-head.invariant in
-    let leads = it.sought.leads in
-    let root = c.args.root in
-    let path = c.loop-head.cursor-inside.path in
-    let node = c.loop-head.node in
-    let slot = c.loop-head.slot in
-    let above : 0 < level_of (m node) = (let test = c.loop-head-test.true in let is = it.level in omega arith) in
-    rw it.same (step-child m root path node slot leads above it.sought.low)))))
+        let m = records c.args.frozen.now in
+        let it = c.loop-head.invariant in
+        let leads = it.sought.leads in
+        let root = c.args.root in
+        let path = c.loop-head.cursor-inside.path in
+        let node = c.loop-head.node in
+        let slot = c.loop-head.slot in
+        let most = step-room m root path node leads in
+        let low = it.sought.low in
+        omega arith),
+    (
+      (let records = g.F.Frozen.records in
+          let m = records c.args.frozen.now in
+          let it = c.loop-head.invariant in
+          let leads = it.sought.leads in
+          let root = c.args.root in
+          let path = c.loop-head.cursor-inside.path in
+          let node = c.loop-head.node in
+          let slot = c.loop-head.slot in
+          rw it.same (step-size m root path node leads)),
+      (let records = g.F.Frozen.records in
+          let m = records c.args.frozen.now in
+          let it = c.loop-head.invariant in
+          let leads = it.sought.leads in
+          let root = c.args.root in
+          let path = c.loop-head.cursor-inside.path in
+          let node = c.loop-head.node in
+          let slot = c.loop-head.slot in
+          let above : 0 < level_of (m node) = (let test = c.loop-head-test.true in let is = it.level in omega arith) in
+          rw it.same (step-child m root path node slot leads above it.sought.low)),
+    ),
+  ),
+)
 
 pub read_head-head-requires-in-loop-head : goal.read_head-head-requires-in-loop-head
 read_head-head-requires-in-loop-head g c =
@@ -142,51 +154,59 @@ read_head-head-requires-in-loop-head g c =
     let above : 0 < level_of (m node) = (let test = c.loop-head-test.true in let is = it.level in omega arith) in
     let child : c.child_at-node.result ≡ word_at m node (18 + slot) =
     c.child_at-node.ensures.child ∙ ap (λ (f : g.row.F.Denot). word_at (records f) node (18 + slot)) it.same in
-    let same = c.child_at-node.ensures.same ∙ it.same in
-    (omega arith, subst (λ (f : g.row.F.Denot). HasWord (records f) c.child_at-node.result 0) (sym same)
-    (subst (λ q. 0 < length (m q)) (sym child) (step-child m root path node slot leads above it.sought.low)))
+    let same = c.child_at-node.ensures.same ∙ it.same in (
+      omega arith,
+      subst (λ (f : g.row.F.Denot). HasWord (records f) c.child_at-node.result 0) (sym same)
+          (subst (λ q. 0 < length (m q)) (sym child) (step-child m root path node slot leads above it.sought.low)),
+    )
 
 pub first_slot-slot-requires-in-loop-head : goal.first_slot-slot-requires-in-loop-head
-first_slot-slot-requires-in-loop-head g c = (omega arith, (
+first_slot-slot-requires-in-loop-head g c = (
+  omega arith,
+  (
     (let records = g.F.Frozen.records in
-    let m = records c.args.frozen.now in
-    let it = c.loop-head.invariant in
-    let leads = it.sought.leads in
-    let root = c.args.root in
-    let path = c.loop-head.cursor-inside.path in
-    let node = c.loop-head.node in
-    let slot = c.loop-head.slot in
-    let above : 0 < level_of (m node) = (let test = c.loop-head-test.true in let is = it.level in omega arith) in
-    let child : c.child_at-node.result ≡ word_at m node (18 + slot) =
-    c.child_at-node.ensures.child ∙ ap (λ (f : g.row.F.Denot). word_at (records f) node (18 + slot)) it.same in
-    let same = c.child_at-node.ensures.same ∙ it.same in
-    let read = c.read_head-head-in-loop-head.ensures.same ∙ same in
-    let key = g.K.KeyOrder in
-    let s = key.sought c.args.key.now in
-    let total = g.met.K.KeyOrder.total in
-    let whole = tree_pairs m root in
-    subst (λ (f : g.row.F.Denot). IsNode (records f) 1 (level_of (records f c.child_at-node.result)) c.child_at-node.result) (sym read)
-    (sought-node key.order total (key.read m) s m (key.can_read m) whole root path node slot it.sought above c.child_at-node.result child)),
-    (search rules,
-    (let records = g.F.Frozen.records in
-    let m = records c.args.frozen.now in
-    let it = c.loop-head.invariant in
-    let leads = it.sought.leads in
-    let root = c.args.root in
-    let path = c.loop-head.cursor-inside.path in
-    let node = c.loop-head.node in
-    let slot = c.loop-head.slot in
-    let above : 0 < level_of (m node) = (let test = c.loop-head-test.true in let is = it.level in omega arith) in
-    let child : c.child_at-node.result ≡ word_at m node (18 + slot) =
-    c.child_at-node.ensures.child ∙ ap (λ (f : g.row.F.Denot). word_at (records f) node (18 + slot)) it.same in
-    let same = c.child_at-node.ensures.same ∙ it.same in
-    let read = c.read_head-head-in-loop-head.ensures.same ∙ same in
-    let key = g.K.KeyOrder in
-    let s = key.sought c.args.key.now in
-    let total = g.met.K.KeyOrder.total in
-    let whole = tree_pairs m root in
-    subst (λ (f : g.row.F.Denot). AllReadable key.can_read (records f) (pairs_below (records f) (level_of (records f c.child_at-node.result)) c.child_at-node.result)) (sym read)
-    (sought-readable key.order total (key.read m) s m (key.can_read m) whole root path node slot it.sought above c.child_at-node.result child)))))
+        let m = records c.args.frozen.now in
+        let it = c.loop-head.invariant in
+        let leads = it.sought.leads in
+        let root = c.args.root in
+        let path = c.loop-head.cursor-inside.path in
+        let node = c.loop-head.node in
+        let slot = c.loop-head.slot in
+        let above : 0 < level_of (m node) = (let test = c.loop-head-test.true in let is = it.level in omega arith) in
+        let child : c.child_at-node.result ≡ word_at m node (18 + slot) =
+        c.child_at-node.ensures.child ∙ ap (λ (f : g.row.F.Denot). word_at (records f) node (18 + slot)) it.same in
+        let same = c.child_at-node.ensures.same ∙ it.same in
+        let read = c.read_head-head-in-loop-head.ensures.same ∙ same in
+        let key = g.K.KeyOrder in
+        let s = key.sought c.args.key.now in
+        let total = g.met.K.KeyOrder.total in
+        let whole = tree_pairs m root in
+        subst (λ (f : g.row.F.Denot). IsNode (records f) 1 (level_of (records f c.child_at-node.result)) c.child_at-node.result) (sym read)
+        (sought-node key.order total (key.read m) s m (key.can_read m) whole root path node slot it.sought above c.child_at-node.result child)),
+    (
+      search rules,
+      (let records = g.F.Frozen.records in
+          let m = records c.args.frozen.now in
+          let it = c.loop-head.invariant in
+          let leads = it.sought.leads in
+          let root = c.args.root in
+          let path = c.loop-head.cursor-inside.path in
+          let node = c.loop-head.node in
+          let slot = c.loop-head.slot in
+          let above : 0 < level_of (m node) = (let test = c.loop-head-test.true in let is = it.level in omega arith) in
+          let child : c.child_at-node.result ≡ word_at m node (18 + slot) =
+          c.child_at-node.ensures.child ∙ ap (λ (f : g.row.F.Denot). word_at (records f) node (18 + slot)) it.same in
+          let same = c.child_at-node.ensures.same ∙ it.same in
+          let read = c.read_head-head-in-loop-head.ensures.same ∙ same in
+          let key = g.K.KeyOrder in
+          let s = key.sought c.args.key.now in
+          let total = g.met.K.KeyOrder.total in
+          let whole = tree_pairs m root in
+          subst (λ (f : g.row.F.Denot). AllReadable key.can_read (records f) (pairs_below (records f) (level_of (records f c.child_at-node.result)) c.child_at-node.result)) (sym read)
+          (sought-readable key.order total (key.read m) s m (key.can_read m) whole root path node slot it.sought above c.child_at-node.result child)),
+    ),
+  ),
+)
 
 pub loop-head-smaller : goal.loop-head-smaller
 loop-head-smaller g c =
