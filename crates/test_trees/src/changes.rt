@@ -114,3 +114,26 @@ fn a_full_store_is_told_and_leaves_the_tree_as_it_was(rt: HostRuntime) -> Result
     }
     Ok(())
 }
+
+#[test]
+fn the_readme_example(rt: HostRuntime) -> Result<(), Fail> {
+    let alloc = rt.alloc();
+    let work = MemWork::<22, TreeLayout>::create(alloc, 1, 8192, 1)?;
+    let store = EntryStore::create(alloc, work).map_err(|_| AllocError)?;
+    let mut map = NumberTree::new(store);
+    assert_eq!(rt; map.put(7, 49), Ok(()));
+    assert_eq!(rt; map.get(7), Some(49));
+    assert_eq!(rt; map.at_or_above(3), Some((7, 49)));
+    let mut last = Ok(());
+    for key in 8..5000 {
+        last = map.put(key, key);
+    }
+    let full = StoreError::Full {
+        width: 34,
+        active: 1,
+        held: 0,
+    };
+    assert_eq!(rt; last, Err(full));
+    assert_eq!(rt; map.get(4999), None);
+    Ok(())
+}
