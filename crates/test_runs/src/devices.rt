@@ -1,8 +1,7 @@
 //! One put and one query over devices that fail: a feed of 37 bytes and a report of 44.
-use crate::run::{line_of, words_in};
+use crate::run::{line_of, outcome_of, told as told_in, words_in};
 use crate::tally::Tally;
-use attr_io::{FakeSink, FakeSource, NoGate, VecSink};
-use attr_run::attr_main;
+use attr_io::{FakeSink, FakeSource};
 use std::alloc::{AllocError, Global};
 use std::io;
 
@@ -16,7 +15,7 @@ const REPORT: &str = "final at 1/1: 1/done 1 operations 0 skipped/";
 /// and its sink.
 fn told(alloc: Global, source: &mut FakeSource, sink: &mut FakeSink) -> Result<String, AllocError> {
     let words = words_in(alloc, WORDS)?;
-    let outcome = attr_main(alloc, &words, source, sink, &NoGate);
+    let outcome = outcome_of(alloc, &words, source, sink);
     let line = line_of(alloc, outcome.status.exit_code(), sink.taken())?;
     let loaded = outcome.loaded;
     let reads = source.faults();
@@ -77,11 +76,7 @@ fn compare_steps(rt: &HostRuntime, tally: &mut Tally) -> io::Result<()> {
     let found = told(alloc, &mut source, &mut sink)?;
     tally.note(rt, "seven bytes a write", &found, "5 final a 0 0 1")?;
 
-    let words = words_in(alloc, WORDS)?;
-    let mut source = FakeSource::create(alloc, &[], 2, &[])?;
-    let mut sink = VecSink::create(alloc, 7)?;
-    let outcome = attr_main(alloc, &words, &mut source, &mut sink, &NoGate);
-    let found = line_of(alloc, outcome.status.exit_code(), sink.taken())?;
+    let found = told_in(alloc, &words_in(alloc, WORDS)?, &[], 7)?;
     tally.note(rt, "seven bytes of room", &found, "5 final a")
 }
 

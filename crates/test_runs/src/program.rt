@@ -42,7 +42,7 @@ fn note(
     let alloc = rt.alloc();
     let program = Program { words };
     let words = Words::of_program(&(program, alloc))?;
-    let found = told(alloc, &words, &[])?;
+    let found = told(alloc, &words, &[], 4096)?;
     tally.note(rt, case, &found, wanted)
 }
 

@@ -18,7 +18,7 @@ pub fn compare(rt: &HostRuntime) -> io::Result<()> {
             feed.push_str(rest)?;
             feed.push_str("\n")?;
         } else if let Some(wanted) = line.strip_prefix("said ") {
-            let found = told(alloc, &words_in(alloc, &words)?, feed.as_bytes())?;
+            let found = told(alloc, &words_in(alloc, &words)?, feed.as_bytes(), 4096)?;
             tally.note(rt, &words, &found, wanted)?;
         }
     }

@@ -1,5 +1,5 @@
-use attr_io::{NoGate, SliceSource, VecSink};
-use attr_run::{Words, attr_main};
+use attr_io::{NoGate, Sink, SliceSource, Source, VecSink};
+use attr_run::{Outcome, Words, attr_main};
 use std::alloc::{AllocError, Global};
 
 /// The words of a line, which are parted by single spaces: a space at the end holds an empty word.
@@ -22,10 +22,20 @@ pub fn line_of(alloc: Global, code: u8, bytes: &[u8]) -> Result<String, AllocErr
     Ok(line)
 }
 
-/// What a run over ample memory answers and writes.
-pub fn told(alloc: Global, words: &Words, feed: &[u8]) -> Result<String, AllocError> {
+/// The run itself. It promises nothing, so that no proof of its callers carries its contract.
+pub fn outcome_of<S: Source, K: Sink>(
+    alloc: Global,
+    words: &Words,
+    source: &mut S,
+    sink: &mut K,
+) -> Outcome {
+    attr_main(alloc, words, source, sink, &NoGate)
+}
+
+/// What a run answers and writes, where there is room for so many bytes.
+pub fn told(alloc: Global, words: &Words, feed: &[u8], room: usize) -> Result<String, AllocError> {
     let mut source = SliceSource::new(feed);
-    let mut sink = VecSink::create(alloc, 4096)?;
-    let outcome = attr_main(alloc, words, &mut source, &mut sink, &NoGate);
+    let mut sink = VecSink::create(alloc, room)?;
+    let outcome = outcome_of(alloc, words, &mut source, &mut sink);
     line_of(alloc, outcome.status.exit_code(), sink.taken())
 }

@@ -1,14 +1,56 @@
-//! Values, items, attributes and operations for the tests.
+//! Operations and queries on one attribute, as the rows of tests name them.
 use attr_types::{
-    Change, Doc, Field, FieldChanges, FieldItems, Fields, Item, Items, Kind, Leaf, Name, Op, Query,
-    Text, Value, ValueType,
+    Act, Change, Doc, Field, FieldChanges, FieldItems, Fields, Item, Items, Kind, Leaf, Name, Op,
+    Query, Text, Value, ValueType, Values, WeightAct,
 };
 use std::alloc::{AllocError, Global};
 use std::process::Abort;
 
-pub fn text(rt: &impl Abort, alloc: Global, text: &str) -> Result<Value, AllocError> {
+/// An operation on a document: values by number, each with its weight.
+#[derive(Clone, Copy, Debug)]
+pub enum Step {
+    Put(&'static [(i64, i32)]),
+    /// The value 5 so many times.
+    PutFives(u32),
+    Keep,
+    Assign(&'static [(i64, i32)]),
+    Add(&'static [(i64, i32)]),
+    Take(i64),
+    Shift(i64),
+    SetAt(u32, i64),
+    ShiftAt(u32, i64),
+    SetWeight(i64, i32),
+    ShiftWeight(i64, i64),
+    Remove,
+}
+
+/// A condition on one value, by number.
+#[derive(Clone, Copy, Debug)]
+pub enum Ask {
+    Is(i64),
+    Prefix(i64),
+    Range(Option<i64>, Option<i64>),
+    Below(i64),
+    Above(i64),
+}
+
+/// The words that stand for numbers where values are texts.
+fn word(number: i64) -> &'static str {
+    match number {
+        1 => "a",
+        2 => "b",
+        3 => "t",
+        4 => "te",
+        5 => "tea",
+        6 => "ten",
+        7 => "z",
+        _ => "é",
+    }
+}
+
+pub fn text(rt: &impl Abort, alloc: Global, text: &str) -> Result<Text, AllocError> {
     assert!(rt; text.len() <= Text::MAX_LEN);
-    Ok(Value::Text(Text::from_str(alloc, text)?))
+    Text::from_str(alloc, text)
 }
 
 pub fn doc(rt: &impl Abort, number: u32) -> Doc {
@@ -16,28 +58,162 @@ pub fn doc(rt: &impl Abort, number: u32) -> Doc {
     Doc::new(number)
 }
 
-/// Whole numbers, each with its weight.
-pub fn longs(alloc: Global, rows: &[(i64, i32)]) -> Result<Items, AllocError> {
+/// The value of a number: itself, or its word.
+pub fn value(
+    rt: &impl Abort,
+    alloc: Global,
+    value_type: ValueType,
+    number: i64,
+) -> Result<Value, AllocError> {
+    Ok(match value_type {
+        ValueType::Long => Value::Long(number),
+        ValueType::Text => Value::Text(text(rt, alloc, word(number))?),
+    })
+}
+
+pub fn items(
+    rt: &impl Abort,
+    alloc: Global,
+    value_type: ValueType,
+    rows: &[(i64, i32)],
+) -> Result<Items, AllocError> {
     let mut items = Items::new(alloc);
     for (number, weight) in rows {
-        items.push(Item {
-            value: Value::Long(*number),
-            weight: *weight,
-        })?;
+        let value = value(rt, alloc, value_type, *number)?;
+        let weight = *weight;
+        items.push(Item { value, weight })?;
     }
     Ok(items)
 }
 
-/// Texts, each with its weight.
-pub fn texts(rt: &impl Abort, alloc: Global, rows: &[(&str, i32)]) -> Result<Items, AllocError> {
+fn fives(
+    rt: &impl Abort,
+    alloc: Global,
+    value_type: ValueType,
+    count: u32,
+) -> Result<Items, AllocError> {
     let mut items = Items::new(alloc);
-    for (word, weight) in rows {
-        items.push(Item {
-            value: text(rt, alloc, word)?,
-            weight: *weight,
-        })?;
+    for _ in 0..count {
+        let value = value(rt, alloc, value_type, 5)?;
+        items.push(Item { value, weight: 1 })?;
     }
     Ok(items)
+}
+
+/// What an update does; a put or a remove is none.
+pub fn change(
+    rt: &impl Abort,
+    alloc: Global,
+    value_type: ValueType,
+    step: Step,
+) -> Result<Change, AllocError> {
+    Ok(match step {
+        Step::Keep | Step::Put(_) | Step::PutFives(_) | Step::Remove => Change::Keep,
+        Step::Assign(rows) => Change::Assign(items(rt, alloc, value_type, rows)?),
+        Step::Add(rows) => Change::Add(items(rt, alloc, value_type, rows)?),
+        Step::Take(name) => {
+            let name = value(rt, alloc, value_type, name)?;
+            Change::Take(Values::of_one(alloc, name)?)
+        }
+        Step::Shift(amount) => Change::Shift(amount),
+        Step::SetAt(index, number) => Change::At {
+            index,
+            act: Act::Set(value(rt, alloc, value_type, number)?),
+        },
+        Step::ShiftAt(index, amount) => Change::At {
+            index,
+            act: Act::Shift(amount),
+        },
+        Step::SetWeight(name, weight) => Change::Of {
+            value: value(rt, alloc, value_type, name)?,
+            act: WeightAct::Set(weight),
+        },
+        Step::ShiftWeight(name, amount) => Change::Of {
+            value: value(rt, alloc, value_type, name)?,
+            act: WeightAct::Shift(amount),
+        },
+    })
+}
+
+/// The operation on one attribute.
+pub fn op(
+    rt: &impl Abort,
+    alloc: Global,
+    value_type: ValueType,
+    doc: Doc,
+    create: bool,
+    step: Step,
+) -> Result<Op, AllocError> {
+    Ok(match step {
+        Step::Put(rows) => {
+            let items = FieldItems::of_one(alloc, items(rt, alloc, value_type, rows)?)?;
+            Op::Put { doc, items }
+        }
+        Step::PutFives(count) => {
+            let items = FieldItems::of_one(alloc, fives(rt, alloc, value_type, count)?)?;
+            Op::Put { doc, items }
+        }
+        Step::Remove => Op::Remove { doc },
+        step => {
+            let change = change(rt, alloc, value_type, step)?;
+            let change = FieldChanges::of_one(alloc, change)?;
+            Op::Update {
+                doc,
+                create,
+                change,
+            }
+        }
+    })
+}
+
+fn bound(
+    rt: &impl Abort,
+    alloc: Global,
+    value_type: ValueType,
+    number: Option<i64>,
+) -> Result<Option<Value>, AllocError> {
+    Ok(match number {
+        Some(number) => Some(value(rt, alloc, value_type, number)?),
+        None => None,
+    })
+}
+
+pub fn leaf(
+    rt: &impl Abort,
+    alloc: Global,
+    value_type: ValueType,
+    ask: Ask,
+) -> Result<Leaf, AllocError> {
+    Ok(match ask {
+        Ask::Is(number) => Leaf::Is(value(rt, alloc, value_type, number)?),
+        Ask::Prefix(number) => Leaf::Prefix(text(rt, alloc, word(number))?),
+        Ask::Range(low, high) => Leaf::Range {
+            low: bound(rt, alloc, value_type, low)?,
+            high: bound(rt, alloc, value_type, high)?,
+        },
+        Ask::Below(number) => Leaf::Below(value(rt, alloc, value_type, number)?),
+        Ask::Above(number) => Leaf::Above(value(rt, alloc, value_type, number)?),
+    })
+}
+
+/// All of these asks of attribute 0, or any.
+pub fn query(
+    rt: &impl Abort,
+    alloc: Global,
+    value_type: ValueType,
+    all: bool,
+    asks: &[Ask],
+) -> Result<Query, AllocError> {
+    let mut members = Vec::new(alloc);
+    for ask in asks {
+        let leaf = leaf(rt, alloc, value_type, *ask)?;
+        members.push(Query::One { field: 0, leaf })?;
+    }
+    Ok(if all {
+        Query::And(members)
+    } else {
+        Query::Or(members)
+    })
 }
 
 pub fn field(alloc: Global, name: &str, kind: Kind, value: ValueType) -> Result<Field, AllocError> {
@@ -48,25 +224,4 @@ pub fn field(alloc: Global, name: &str, kind: Kind, value: ValueType) -> Result<
 /// One attribute, `f`.
 pub fn one_field(alloc: Global, kind: Kind, value: ValueType) -> Result<Fields, AllocError> {
     Fields::of_one(alloc, field(alloc, "f", kind, value)?)
-}
-
-/// A put of items in one attribute.
-pub fn put(alloc: Global, doc: Doc, items: Items) -> Result<Op, AllocError> {
-    let items = FieldItems::of_one(alloc, items)?;
-    Ok(Op::Put { doc, items })
-}
-
-/// An update of one attribute.
-pub fn update(alloc: Global, doc: Doc, create: bool, change: Change) -> Result<Op, AllocError> {
-    let change = FieldChanges::of_one(alloc, change)?;
-    Ok(Op::Update {
-        doc,
-        create,
-        change,
-    })
-}
-
-/// A query of one leaf on attribute 0.
-pub fn first(leaf: Leaf) -> Query {
-    Query::One { field: 0, leaf }
 }
