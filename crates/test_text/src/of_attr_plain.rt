@@ -446,22 +446,46 @@ fn one(
     Ok(Query::One { field, leaf })
 }
 
+fn check_one(
+    rt: &impl Abort,
+    alloc: Global,
+    field: u32,
+    value_type: ValueType,
+    ask: Ask,
+    wanted: &[u32],
+) -> Result<(), AllocError> {
+    let table = two_attributes(rt, alloc)?;
+    let query = one(rt, alloc, field, value_type, ask)?;
+    check_hits(rt, alloc, &table, &query, wanted)
+}
+
+/// Both members, each on its attribute.
+fn both(rt: &impl Abort, alloc: Global) -> Result<Query, AllocError> {
+    let mut members = Vec::new(alloc);
+    members.push(one(rt, alloc, 0, ValueType::Long, Ask::Is(5))?)?;
+    members.push(one(rt, alloc, 1, ValueType::Text, Ask::Is(1))?)?;
+    Ok(Query::And(members))
+}
+
+fn check_all(
+    rt: &impl Abort,
+    alloc: Global,
+    query: Query,
+    wanted: &[u32],
+) -> Result<(), AllocError> {
+    let table = two_attributes(rt, alloc)?;
+    check_hits(rt, alloc, &table, &query, wanted)
+}
+
 #[test]
 fn queries_over_two_attributes(rt: HostRuntime) -> Result<(), Fail> {
     let alloc = rt.alloc();
-    let table = two_attributes(&rt, alloc)?;
     let all = Ask::Range(None, None);
-    let five = one(&rt, alloc, 0, ValueType::Long, Ask::Is(5))?;
-    let word = one(&rt, alloc, 1, ValueType::Text, all)?;
-    let nothing = one(&rt, alloc, 2, ValueType::Long, all)?;
-    check_hits(&rt, alloc, &table, &five, &[1, 2])?;
-    check_hits(&rt, alloc, &table, &word, &[1, 3])?;
-    check_hits(&rt, alloc, &table, &nothing, &[])?;
-    let mut both = Vec::new(alloc);
-    both.push(five)?;
-    both.push(word)?;
-    check_hits(&rt, alloc, &table, &Query::And(both), &[1])?;
-    check_hits(&rt, alloc, &table, &Query::And(Vec::new(alloc)), &[1, 2, 3])?;
+    check_one(&rt, alloc, 0, ValueType::Long, Ask::Is(5), &[1, 2])?;
+    check_one(&rt, alloc, 1, ValueType::Text, all, &[1, 3])?;
+    check_one(&rt, alloc, 2, ValueType::Long, all, &[])?;
+    check_all(&rt, alloc, both(&rt, alloc)?, &[1])?;
+    check_all(&rt, alloc, Query::And(Vec::new(alloc)), &[1, 2, 3])?;
     Ok(())
 }
 
