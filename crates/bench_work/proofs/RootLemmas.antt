@@ -1,13 +1,13 @@
 -- A new root record in place of the old one.
-use Rattle.std.proofs.Common.{◌≡◌, ◌≢◌, ℕ, zero, suc, ◌<◌, List, Bool, true, false, refl, sym, ap, subst, ◌∙◌, arith, inl, inr, ⊎_elim, ne_eqb, true≢false}
+use Rattle.std.proofs.Common.{◌≡◌, ◌≢◌, ℕ, zero, suc, ◌<◌, List, Bool, true, false, refl, sym, ap, subst, ◌∙◌, arith, inl, inr, ⊎_elim, ne_eqb, true≢false, length}
 use Rattle.std.specs.Prelude.{cond, ◌↔◌, ◌⊎◌}
 use Rattle.std.proofs.lemmas.Bool.{cases_eq, eq-eqb}
 use Rattle.list_facts.proofs.Tests.{cond-cond}
 use Rattle.std.proofs.Math.Nat.{pos_of_div-pos}
 use Rattle.entry_ref.specs.References.{buffer_limit}
 use Rattle.image_base.specs.Records.{Records, Among}
-use Rattle.mem_work.specs.OneRecord.{one_reaches}
-use Rattle.store_api.specs.Statuses.{Status, in_use, is_let_go, after_drop, after_commit, with_status}
+use Rattle.mem_work.specs.OneRecord.{one_reaches, IsOneRecord}
+use Rattle.store_api.specs.Statuses.{Status, in_use, has_record, is_let_go, after_drop, after_commit, with_status}
 use Rattle.store_api.specs.Ledgers.{Ledger, Makes, IsNew, dropped_from, is_fresh}
 use Rattle.tree_make.proofs.DropLemmas.{drop_ends}
 use Rattle.bench_work.specs.Units.{UsesOnly, DropsRoot}
@@ -84,6 +84,20 @@ module _ {H : Type 0} (bits : ℕ) (old made dropped : Ledger H) (m n : Records)
 
   pub uses_next : UsesOnly dropped next
   uses_next r = (to r, from r)
+
+-- what is in use has a record
+pub used_record : (status : Status) → in_use status ≡ true → has_record status ≡ true
+used_record Status.unmade used = absurd (true≢false (sym used))
+used_record Status.free used = absurd (true≢false (sym used))
+used_record Status.pending used = refl
+used_record Status.live used = refl
+used_record Status.dropped used = absurd (true≢false (sym used))
+used_record Status.let_go used = absurd (true≢false (sym used))
+used_record Status.spent used = absurd (true≢false (sym used))
+
+pub one_there : (shape : ℕ) (m : Records) (root : ℕ) → 0 < length (m root) → IsOneRecord shape m root
+one_there shape m zero there = tt
+one_there shape m (suc r) there = there
 
 -- what a root alone reaches is what is in use
 pub reaches_used : {H : Type 0} (ledger : Ledger H) (shape root : ℕ) (m : Records) → UsesOnly ledger root → (r : ℕ)

@@ -10,11 +10,11 @@ mod store_run;
 mod tree_run;
 
 use crate::store_run::run_store;
-use crate::tree_run::{Order, TreeCounts, TreeLoad, run_tree};
+use crate::tree_run::{Order, TreeCounts, TreeLoad, run_tree, walks};
 use entry_store::EntryStore;
 use image_base::Layout;
 use mem_work::{MemWork, OneRecord};
-use number_tree::TreeLayout;
+use number_tree::{NumberTree, TreeLayout};
 use std::alloc::{AllocError, Global};
 use std::process::ExitCode;
 use store_api::{Store, StoreError};
@@ -87,12 +87,29 @@ fn commits_of(alloc: Global, units: u64) -> Result<u64, StoreError> {
     }
 }
 
-/// The counts of a run over a tree, and how many nodes were made.
-fn counts_of(alloc: Global, load: &TreeLoad) -> Result<(TreeCounts, u64), StoreError> {
+/// What a run over a tree came to.
+#[derive(Clone, Copy, Debug)]
+struct TreeRun {
+    counts: TreeCounts,
+    walked: u64,
+    /// How many nodes were made.
+    nodes: u64,
+}
+
+/// A run over a tree in a store of its own.
+fn tree_run_of(alloc: Global, load: &TreeLoad) -> Result<TreeRun, StoreError> {
     match new_store::<TreeLayout>(alloc, 16) {
         Ok(store) => {
-            let (counts, store) = run_tree(store, load)?;
-            Ok((counts, store.made(NODE_WORDS as u32)))
+            let mut tree = NumberTree::new(store);
+            let counts = run_tree(&mut tree, load)?;
+            let root = tree.root();
+            let mut store = tree.into_store();
+            let walked = walks(&mut store, root, load.walks);
+            Ok(TreeRun {
+                counts,
+                walked,
+                nodes: store.made(NODE_WORDS as u32),
+            })
         }
         Err(_) => Err(StoreError::Memory),
     }
@@ -105,10 +122,10 @@ fn main(rt: HostRuntime) -> ExitCode {
             Ok(commits) => println!(&rt; "units {units} commits {commits}"),
             Err(_) => return ExitCode::from(1),
         },
-        Some(Workload::Tree(load)) => match counts_of(alloc, &load) {
-            Ok((counts, nodes)) => println!(&rt;
-                "nodes {nodes} found {} walked {} left {}",
-                counts.found, counts.walked, counts.left
+        Some(Workload::Tree(load)) => match tree_run_of(alloc, &load) {
+            Ok(run) => println!(&rt;
+                "nodes {} found {} walked {} left {}",
+                run.nodes, run.counts.found, run.walked, run.counts.left
             ),
             Err(_) => return ExitCode::from(1),
         },

@@ -1,6 +1,5 @@
 ghost use Rattle.std.specs.Prelude.{◌≡◌, ◌<◌, ◌≤◌, ◌+◌, length, IfOk, OnOk};
 ghost use Rattle.tree_images.specs.Trees.{IsRootNode};
-ghost use Rattle.store_api.specs.Ledgers.{IsNew};
 
 use entry_ref::EntryRef;
 use frozen_api::Frozen;
@@ -46,7 +45,6 @@ pub struct TreeLoad {
 #[derive(Clone, Copy, Debug)]
 pub struct TreeCounts {
     pub found: u64,
-    pub walked: u64,
     pub left: u32,
 }
 
@@ -114,32 +112,33 @@ fn walk<const OFFSET_BITS: u32, F: Frozen<OFFSET_BITS>>(
     sum
 }
 
-/// Inserts, finds, removes and full walks of a tree. The store is given back.
-pub fn run_tree<const OFFSET_BITS: u32, S: Store<OFFSET_BITS, Layout = TreeLayout> + Drop>(
-    store: S,
-    load: &TreeLoad,
-) -> Result<(TreeCounts, S), StoreError>
-    requires { IsNew (S.ledger store) }
-    ensures found { IfOk result (λ r. r.0.found ≤ load.now.finds) }
-    ensures left { IfOk result (λ r. r.0.left ≤ load.now.keys) }
+/// Full walks of a tree, one after another: the sum of all that they see.
+pub fn walks<const OFFSET_BITS: u32, F: Frozen<OFFSET_BITS>>(
+    frozen: &mut F,
+    root: EntryRef<OFFSET_BITS>,
+    walks: u64,
+) -> u64
+    requires tree { 0 < root → IsRootNode (F.records frozen.old) root }
+    ensures same { frozen.new ≡ frozen.old }
 {
-    let mut tree = NumberTree::new(store);
-    fill(&mut tree, load)?;
-    let found = found_in(&mut tree, load);
-    take_out(&mut tree, load)?;
-    let left = tree.len();
-    let root = tree.root();
-    let mut store = tree.into_store();
     let mut walked: u64 = 0;
-    for _ in 0..load.walks {
-        walked = walked.wrapping_add(walk(&mut store, root));
+    for _ in 0..walks {
+        walked = walked.wrapping_add(walk(frozen, root));
     }
-    Ok((
-        TreeCounts {
-            found,
-            walked,
-            left,
-        },
-        store,
-    ))
+    walked
+}
+
+/// Inserts, finds and removes of a tree, one after another.
+pub fn run_tree<const OFFSET_BITS: u32, S: Store<OFFSET_BITS, Layout = TreeLayout>>(
+    tree: &mut NumberTree<OFFSET_BITS, S>,
+    load: &TreeLoad,
+) -> Result<TreeCounts, StoreError>
+    ensures found { IfOk result (λ counts. counts.found ≤ load.now.finds) }
+    ensures left { IfOk result (λ counts. counts.left ≤ length tree.old.pairs + load.now.keys) }
+{
+    fill(tree, load)?;
+    let found = found_in(tree, load);
+    take_out(tree, load)?;
+    let left = tree.len();
+    Ok(TreeCounts { found, left })
 }
