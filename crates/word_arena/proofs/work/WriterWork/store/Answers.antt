@@ -1,0 +1,65 @@
+use Rattle.std.proofs.Common.{ap, sym, subst, arith, ◌∙◌, ◌≡◌, ◌≢◌, ◌+◌, ◌*◌, ◌<◌, ℕ, Some}
+use Rattle.std.specs.Prelude.{slice_get}
+use Rattle.entry_ref.specs.References.{buffer_of}
+use Rattle.atomic_table.specs.Table.{Me}
+use Rattle.image_base.specs.Places.{place}
+use Rattle.image_base.proofs.Apart.{place-below}
+use Rattle.gen_core.specs.declared.views.Sizes.{Sizes}
+use Rattle.gen_core.specs.declared.views.View.{View}
+use Rattle.gen_core.specs.declared.views.WriterView.{WriterView}
+use Rattle.gen_core.specs.Views.{active_in}
+use Rattle.gen_core.specs.Work.{place_in, writer_records}
+use Rattle.gen_core.specs.Conditions.{MayStoreWord}
+use Rattle.arena_api.specs.Works.{active_width}
+use Rattle.word_arena.specs.Ruled.{Slot, writer_of}
+use Rattle.word_arena.specs.Knows.{api_buffer, view_of}
+use Rattle.word_arena.specs.ProofsForWork.{core-active}
+use Rattle.word_arena.proofs.Allowed.{store_owed}
+use Rattle.word_arena.proofs.Desks.{arena-words, w}
+use Rattle.word_arena.proofs.Stores.{may_store, store-knows}
+use Rattle.word_arena.proofs.work.WriterWork.store.Goals as goal
+use Rattle.word_arena.proofs.Guards.{m}
+
+pub store-requires : goal.store-requires
+store-requires g c =
+    let s = c.args.self.now in
+    let w : WriterView = writer_of s.place.me.0 in
+    let width : ℕ = active_width (api_buffer (slice_get w.buffers (buffer_of c.args.entry))) in
+    let list : c.as_slice.result.now ≡ w.buffers = c.as_slice.ensures.value ∙ sym s.stands.same_buffers in
+    let wide : c.width_of-width.result ≡ width = c.width_of-width.ensures ∙ (λ k. active_width (api_buffer (slice_get (list k) (c.buffer.ensures.value k)))) in
+    let at : c.place_of-place.result ≡ place_in w.sizes width c.args.entry c.args.i =
+        c.place_of-place.ensures ∙ (λ k. place (sym s.stands.same_sizes k).buffers (sym s.stands.same_sizes k).words (wide k) c.args.entry c.args.i) in
+    let below = place-below c.requires.word.entry c.args.i c.requires.word.inside in
+    let inside : c.place_of-place.result < s.arena.now.table.shared.table_id.words =
+        omega (arith, below, at, arena-words s.stands, ap (λ (z : Sizes). z.buffers * z.words) s.stands.same_sizes, ap (λ (z : Sizes). z.buffers) s.stands.same_sizes) in
+    (s.stands.own, inside, store_owed _ _ _ _ _ _ w _ _ s.stands.is (subst (MayStoreWord w) (sym at) (may_store w s.stands.good s.stands.calm s.place.table_id c.args.entry c.args.i c.requires)))
+
+pub returns-clause-knows : goal.returns-clause-knows
+returns-clause-knows g c =
+    let s = c.args.self.now in
+    let w : WriterView = writer_of s.place.me.0 in
+    let width : ℕ = active_width (api_buffer (slice_get w.buffers (buffer_of c.args.entry))) in
+    let list : c.as_slice.result.now ≡ w.buffers = c.as_slice.ensures.value ∙ sym s.stands.same_buffers in
+    let wide : c.width_of-width.result ≡ width = c.width_of-width.ensures ∙ (λ k. active_width (api_buffer (slice_get (list k) (c.buffer.ensures.value k)))) in
+    let at : c.place_of-place.result ≡ place_in w.sizes width c.args.entry c.args.i =
+        c.place_of-place.ensures ∙ (λ k. place (sym s.stands.same_sizes k).buffers (sym s.stands.same_sizes k).words (wide k) c.args.entry c.args.i) in
+    let e = c.store.ensures in
+    let active : active_in w.buffers (buffer_of c.args.entry) ≡ Some width = core-active (slice_get w.buffers (buffer_of c.args.entry)) c.requires.word.entry.wide in
+    let is : writer_of c.store.new.seat.me.0 ≡ stored w (place_in w.sizes width c.args.entry c.args.i) c.args.word =
+        ap (λ (m : Me Slot View). writer_of m.0) e.2.is ∙ ap (λ (q : ℕ). stored w q c.args.word) at in
+    (λ k. view_of (e.0 k) (is k)) ∙ store-knows w c.args.entry c.args.i width c.args.word active c.requires.word.entry c.requires.word.inside s.place.table_id
+
+pub returns-clause-others : goal.returns-clause-others
+returns-clause-others g c q other =
+    let s = c.args.self.now in
+    let w : WriterView = writer_of s.place.me.0 in
+    let width : ℕ = active_width (api_buffer (slice_get w.buffers (buffer_of c.args.entry))) in
+    let list : c.as_slice.result.now ≡ w.buffers = c.as_slice.ensures.value ∙ sym s.stands.same_buffers in
+    let wide : c.width_of-width.result ≡ width = c.width_of-width.ensures ∙ (λ k. active_width (api_buffer (slice_get (list k) (c.buffer.ensures.value k)))) in
+    let at : c.place_of-place.result ≡ place_in w.sizes width c.args.entry c.args.i =
+        c.place_of-place.ensures ∙ (λ k. place (sym s.stands.same_sizes k).buffers (sym s.stands.same_sizes k).words (wide k) c.args.entry c.args.i) in
+    let e = c.store.ensures in
+    let active : active_in w.buffers (buffer_of c.args.entry) ≡ Some width = core-active (slice_get w.buffers (buffer_of c.args.entry)) c.requires.word.entry.wide in
+    let is : writer_of c.store.new.seat.me.0 ≡ stored w (place_in w.sizes width c.args.entry c.args.i) c.args.word =
+        ap (λ (m : Me Slot View). writer_of m.0) e.2.is ∙ ap (λ (q : ℕ). stored w q c.args.word) at in
+    ap (λ (v : WriterView). writer_records v q) is ∙ store-others w c.args.entry c.args.i width c.args.word active c.requires.word.entry c.requires.word.inside q other

@@ -1,0 +1,5 @@
+pub mod Ruled
+pub mod Knows
+pub mod WriterHolds
+pub mod ProofsForGuards
+pub mod ProofsForWork

@@ -1,0 +1,15 @@
+//! One writer and many readers over the words of one table.
+#![tactic(auto)]
+
+mod arena;
+mod buffers;
+mod plays;
+mod reader;
+mod rule;
+mod work;
+mod writer;
+
+pub use arena::{Arena, Token};
+pub use reader::{Guarded, Reader};
+pub use work::Home;
+pub use writer::Writer;

@@ -1,0 +1,138 @@
+//! The readers, and their guards.
+ghost use Rattle.std.specs.Prelude.{◌≡◌, ◌+◌, ◌*◌, ◌<◌, ◌≤◌, ◌^◌, ℕ, List, length, Some, slice_index, IfOk, IfErr};
+ghost use Rattle.image_base.specs.Images.{words_at};
+ghost use Rattle.gen_core.specs.Events.{with_state};
+ghost use Rattle.gen_core.specs.declared.views.ReaderState.TheVariants.{Idle};
+ghost use Rattle.word_arena.specs.Ruled.{reader_of, image_of, number_of, IsLater, IsHigher, IsWatch, IsGuard};
+
+use crate::arena::Arena;
+use crate::plays::{Bounce, LoadNewest, LoadRoot, LoadWord, Raise, Release};
+use crate::rule::Place;
+use frozen_api::Frozen;
+use entry_ref::EntryRef;
+use gen_core::Sizes;
+use image_base::{Layout, place_of};
+
+#[derive(Drop)]
+pub struct Reader<'a, const OFFSET_BITS: u32, L: Layout> {
+    pub(crate) arena: &'a Arena<OFFSET_BITS, L>,
+    pub(crate) sizes: Sizes,
+    pub(crate) place: Place,
+    ghost stands: { IsWatch OFFSET_BITS arena.now.table.shared.table_id sizes place.table_id place.me },
+}
+
+/// A reader that has loaded the root, and the root word.
+#[derive(Drop)]
+pub struct Guarded<'a, const OFFSET_BITS: u32, L: Layout> {
+    pub(crate) arena: &'a Arena<OFFSET_BITS, L>,
+    pub(crate) sizes: Sizes,
+    pub(crate) hold: u64,
+    pub(crate) found: u64,
+    pub(crate) place: Place,
+    ghost stands: { IsGuard OFFSET_BITS arena.now.table.shared.table_id sizes hold found place.table_id place.me },
+}
+
+impl<'a, const OFFSET_BITS: u32, L: Layout> Reader<'a, OFFSET_BITS, L> {
+    /// A guard of the last commit, or the reader again where the hold was closed meanwhile.
+    pub fn try_guard(self) -> Result<Guarded<'a, OFFSET_BITS, L>, Reader<'a, OFFSET_BITS, L>>
+        ensures ok { IfOk result (λ g. IsLater L.reaches L.lawful (reader_of self.entry.place.me.0) (reader_of g.place.me.0)) }
+        ensures again { IfErr result (λ r. IsHigher (reader_of self.entry.place.me.0) (reader_of r.place.me.0)) }
+    {
+        let Reader {
+            arena,
+            sizes,
+            mut place,
+        } = self;
+        let last = arena.table.shared.load::<LoadNewest>(&mut place, 1);
+        let hold = last % 65536;
+        let word = (2 + hold) as usize;
+        let count = arena
+            .table
+            .shared
+            .fetch_add::<Raise>(&mut place, word, 2);
+        if count % 2 == 0 {
+            let found = arena.table.shared.load::<LoadRoot<L>>(&mut place, 0);
+            return Ok(Guarded {
+                arena,
+                sizes,
+                hold,
+                found,
+                place,
+            });
+        }
+        arena
+            .table
+            .shared
+            .fetch_sub::<Bounce>(&mut place, word, 2);
+        Err(Reader {
+            arena,
+            sizes,
+            place,
+        })
+    }
+}
+
+impl<'a, const OFFSET_BITS: u32, L: Layout> Guarded<'a, OFFSET_BITS, L> {
+    pub fn commit(&self) -> u32
+        ensures { result ≡ number_of (reader_of self.now.place.me.0) }
+    {
+        (self.found / 4294967296) as u32
+    }
+
+    pub fn root(&self) -> EntryRef<OFFSET_BITS>
+        ensures { result ≡ (image_of (reader_of self.now.place.me.0)).root }
+    {
+        EntryRef::from_raw((self.found % 4294967296) as u32)
+    }
+
+    pub fn release(self) -> Reader<'a, OFFSET_BITS, L>
+        ensures { reader_of result.place.me.0 ≡ with_state (reader_of self.entry.place.me.0) Idle }
+    {
+        let Guarded {
+            arena,
+            sizes,
+            hold,
+            found: _,
+            mut place,
+        } = self;
+        arena
+            .table
+            .shared
+            .fetch_sub::<Release>(&mut place, (2 + hold) as usize, 2);
+        Reader {
+            arena,
+            sizes,
+            place,
+        }
+    }
+}
+
+impl<'a, const OFFSET_BITS: u32, L: Layout> Frozen<OFFSET_BITS> for Guarded<'a, OFFSET_BITS, L> {
+    ghost use Rattle.word_arena.specs.ProofsForGuards.{guard_references};
+
+    ghost shape = { λ g. g.sizes.shape };
+
+    ghost records = { λ g. words_at (image_of (reader_of g.place.me.0)) };
+
+    fn word(&mut self, entry: EntryRef<OFFSET_BITS>, i: u32) -> u64 {
+        let first = 18 + self.sizes.buffers + u64::from(entry.buffer()) * self.sizes.words;
+        let width = self
+            .arena
+            .table
+            .shared
+            .load::<LoadWord>(&mut self.place, first as usize) as u32;
+        let place = place_of(
+            self.sizes.buffers as u32,
+            self.sizes.words as u32,
+            width,
+            entry,
+            i,
+        );
+        self.arena
+            .table
+            .shared
+            .load::<LoadWord>(&mut self.place, place as usize)
+    }
+
+    ghost references = { λ g. guard_references g.stands };
+}
