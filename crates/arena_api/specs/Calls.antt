@@ -1,5 +1,5 @@
 -- What the calls of a work ask and change.
-use Rattle.std.specs.Prelude.{◌-◌, replicate, length, ◌≡◌, ℕ, ◌+◌, ◌<◌, ◌≤◌, ◌&&◌, true, false, nat_eq, if◌then◌else◌, List, [], ◌∷◌, ◌++◌, None, Some}
+use Rattle.std.specs.Prelude.{◌-◌, replicate, length, ◌≡◌, ℕ, ◌+◌, ◌^◌, ◌<◌, ◌≤◌, ◌&&◌, true, false, nat_eq, if◌then◌else◌, List, [], ◌∷◌, ◌++◌, None, Some}
 use Rattle.std.specs.List.{AllByRecursion}
 use Rattle.entry_ref.specs.References.{buffer_of, buffer_limit, offset_limit}
 use Rattle.image_base.specs.declared.Image.{Image}
@@ -15,8 +15,8 @@ pub record IsWithinLimits (bits : ℕ) (sizes : Sizes) : Type 0 where
   pub some_words : 8192 ≤ sizes.words
   pub few_words : sizes.words ≤ 65536
   pub offsets : sizes.words ≤ offset_limit bits
-  pub commits : sizes.commits ≤ 4294967295
-  pub generations : sizes.generations ≤ 281474976710655
+  pub commits : sizes.commits < 2 ^ 32
+  pub generations : sizes.generations < 2 ^ 48
 
 -- commit 0, of nothing, at generation 0: what a new work knows, of these sizes
 abbrev pub opened : {H : Type 0} → H → Sizes → List Image → WorkView H
@@ -49,8 +49,8 @@ pub record IsKept (commits : Commits) (n : ℕ) : Type 0 where
 abbrev pub InNoCommit : Commits → ℕ → Type 0
 InNoCommit commits r = (n : ℕ) → IsKept commits n → words_at (commits.image n) r ≡ []
 
--- a record of so many words can stand here: at an offset from 1 of a buffer of this width
-pub record Fits (bits : ℕ) (sizes : Sizes) (width r n : ℕ) : Type 0 where
+-- a record of n words fills an entry: it stands at an offset from 1, in a buffer of this width
+pub record FitsEntry (bits : ℕ) (sizes : Sizes) (width r n : ℕ) : Type 0 where
   pub entry : IsEntry bits sizes.buffers sizes.words width r
   pub whole : n ≡ width
 
@@ -68,7 +68,7 @@ pub record MayStore {H : Type 0} (bits : ℕ) (work : WorkView H) (r i : ℕ) : 
 abbrev pub with_stored : Stored → ℕ → ℕ → ℕ → Stored
 with_stored stored r i word q j = if nat_eq q r && nat_eq j i then Some word else stored q j
 
--- words with zeros after them
+-- words with zeros after them, up to a width
 abbrev pub padded : List ℕ → ℕ → List ℕ
 padded words width = words ++ replicate (width - length words) 0
 

@@ -5,7 +5,7 @@ ghost use Rattle.image_base.specs.Images.{words_at};
 ghost use Rattle.image_base.specs.Places.{IsEntry};
 ghost use Rattle.image_base.specs.Records.{Records, with_words};
 ghost use Rattle.arena_api.specs.Works.{WorkView, Buffer, active_width, width_of, free_count, last_image};
-ghost use Rattle.arena_api.specs.Calls.{IsWithinLimits, IsInOrder, IsKept, InNoCommit, IsWordIn, MayStore, Fits, IsLowestFree, AddsCommit, with_stored, padded, handed_out, next_image, published};
+ghost use Rattle.arena_api.specs.Calls.{IsWithinLimits, IsInOrder, IsKept, InNoCommit, IsWordIn, MayStore, FitsEntry, IsLowestFree, AddsCommit, with_stored, padded, handed_out, next_image, published};
 
 use entry_ref::EntryRef;
 use frozen_api::Frozen;
@@ -93,11 +93,11 @@ pub trait Work<const OFFSET_BITS: u32>: Frozen<OFFSET_BITS> {
 
     // a record fills an entry of an active buffer
     ghost entries: { (s : Self) (r : ℕ) → 0 < length (Self.records s r)
-        → Fits OFFSET_BITS (knows s).sizes (active_width ((knows s).buffer (buffer_of OFFSET_BITS r))) r (length (Self.records s r)) };
+        → FitsEntry OFFSET_BITS (knows s).sizes (active_width ((knows s).buffer (buffer_of OFFSET_BITS r))) r (length (Self.records s r)) };
 
     // a kept commit's record fills one of an active or held buffer
     ghost kept: { (s : Self) (n r : ℕ) → IsKept (knows s).commits n → 0 < length (words_at ((knows s).commits.image n) r)
-        → Fits OFFSET_BITS (knows s).sizes (width_of ((knows s).buffer (buffer_of OFFSET_BITS r))) r (length (words_at ((knows s).commits.image n) r)) };
+        → FitsEntry OFFSET_BITS (knows s).sizes (width_of ((knows s).buffer (buffer_of OFFSET_BITS r))) r (length (words_at ((knows s).commits.image n) r)) };
 
     // the last commit's records are records
     ghost last: { (s : Self) (r : ℕ) → 0 < length (words_at (last_image (knows s).commits) r)

@@ -1,11 +1,11 @@
 -- References: the offset of an entry in its buffer and the number of that buffer, packed into one number.
 use Rattle.std.specs.Prelude.{ℕ, ◌+◌, ◌-◌, ◌*◌, ◌/◌, ◌%◌, ◌^◌}
 
--- an offset of so many bits is below this
+-- where `bits` of a reference's 32 bits are the offset's: offsets are below this
 abbrev pub offset_limit : ℕ → ℕ
 offset_limit bits = 2 ^ bits
 
--- a buffer's number is below this, where the offset has so many of the 32 bits
+-- and numbers of buffers below this, which have the other bits
 abbrev pub buffer_limit : ℕ → ℕ
 buffer_limit bits = 2 ^ (32 - bits)
 

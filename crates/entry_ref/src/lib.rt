@@ -1,4 +1,4 @@
-//! References to entries: an offset and a buffer in 32 bits, of which so many are the offset's.
+//! References to entries: 32 bits, of which the high ones are an offset in a buffer and the low ones the buffer's number.
 #![tactic(auto)]
 
 ghost use Rattle.std.specs.Prelude.{◌≡◌, ◌↔◌, ◌<◌, ℕ, IsTrue};
@@ -6,7 +6,8 @@ ghost use Rattle.entry_ref.specs.References.{offset_limit, buffer_limit, packed,
 
 use std::marker::Model;
 
-/// An entry of a buffer. Contracts see its packed number; 0 names no entry.
+/// An entry of a buffer, as the offset in its high `OFFSET_BITS` bits and the buffer in the others. Contracts
+/// see the number; 0 names no entry.
 #[derive(Clone, Copy, PartialEq, Eq, Debug, Drop)]
 pub struct EntryRef<const OFFSET_BITS: u32> {
     raw: u32,
@@ -64,7 +65,7 @@ impl<const OFFSET_BITS: u32> EntryRef<OFFSET_BITS> {
     }
 }
 
-/// So many buffers can be named where an offset has so many bits.
+/// How many buffers can be named, where the offset has `offset_bits` of the 32 bits.
 fn buffers(offset_bits: u32) -> u64
     ensures { result ≡ buffer_limit offset_bits }
 {
@@ -77,23 +78,3 @@ pub fn packing_law()
     ensures buffer { (bits o b : ℕ) → b < buffer_limit bits → buffer_of bits (packed bits o b) ≡ b }
     ensures packed { (bits r : ℕ) → packed bits (offset_of bits r) (buffer_of bits r) ≡ r }
 {}
-
-#[cfg(test)]
-mod tests {
-    use super::*;
-
-    #[test]
-    fn offset_3_of_buffer_2(rt: HostRuntime) {
-        assert_eq!(rt; EntryRef::<22>::new(3, 2).raw(), 3074);
-        assert_eq!(rt; EntryRef::<19>::new(3, 2).raw(), 24578);
-        let entry = EntryRef::<22>::from_raw(3074);
-        assert_eq!(rt; (entry.offset(), entry.buffer()), (3, 2));
-        let entry = EntryRef::<19>::from_raw(24578);
-        assert_eq!(rt; (entry.offset(), entry.buffer()), (3, 2));
-        assert!(rt; entry.valid() && entry == EntryRef::new(3, 2));
-        let last = EntryRef::<22>::new(4_194_303, 1023);
-        assert_eq!(rt; last.raw(), u32::MAX);
-        let last = EntryRef::<19>::new(524_287, 8191);
-        assert_eq!(rt; last.raw(), u32::MAX);
-    }
-}

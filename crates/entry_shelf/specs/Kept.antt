@@ -4,7 +4,7 @@ use Rattle.entry_shelf.specs.declared.state.State.{State}
 use Rattle.entry_shelf.specs.States.{is_free, is_touched}
 use Rattle.entry_shelf.specs.Stacks.{IsStack}
 
-pub record IsKept (states : List State) (free free_places touched touched_places : List ℕ) (room cap1 cap2 cap3 cap4 cap5 : ℕ) : Type 0 where
+pub record IsShelf (states : List State) (free free_places touched touched_places : List ℕ) (room cap1 cap2 cap3 cap4 cap5 : ℕ) : Type 0 where
   pub taken : length states ≤ room
   pub fits : room < 2 ^ 32
   pub long1 : length free_places ≡ length states

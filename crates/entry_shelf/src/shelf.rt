@@ -21,13 +21,13 @@ pub struct Shelf {
 impl Model for Shelf {
     ghost use Rattle.std.specs.Prelude.{vec_capacity};
     ghost use Rattle.entry_shelf.specs.States.{ShelfView};
-    ghost use Rattle.entry_shelf.specs.Kept.{IsKept};
+    ghost use Rattle.entry_shelf.specs.Kept.{IsShelf};
 
     ghost Value = { ShelfView };
 
     ghost view = { λ s. record { states = s.states.items; room = s.room; made = s.made } };
 
-    ghost invariant = { λ s. IsKept s.states.items s.free.items s.free_places.items s.touched.items s.touched_places.items s.room
+    ghost invariant = { λ s. IsShelf s.states.items s.free.items s.free_places.items s.touched.items s.touched_places.items s.room
         (vec_capacity s.states) (vec_capacity s.free) (vec_capacity s.free_places) (vec_capacity s.touched) (vec_capacity s.touched_places) };
 }
 

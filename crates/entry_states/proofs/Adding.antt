@@ -11,7 +11,7 @@ use Rattle.store_api.specs.Ledgers.{is_width, capacity}
 use Rattle.entry_shelf.specs.States.{is_free}
 use Rattle.entry_states.specs.declared.slot.Slot.{Slot}
 use Rattle.entry_states.specs.Entries.{is_made, is_let_go, one, with_buffer}
-use Rattle.entry_states.specs.Rows.{RowView, RowsView, new_row, row_of, row_at, slot_at, has_offset, number_in, state_in, spare_in, IsRow, IsSlot, IsKept}
+use Rattle.entry_states.specs.Rows.{RowView, RowsView, new_row, row_of, row_at, slot_at, has_offset, number_in, state_in, spare_in, IsRow, IsSlot, AreRows}
 use Rattle.entry_states.proofs.Seen.{entries_in}
 use Rattle.entry_states.proofs.Places.{row-field, row-same, row-none, width-bounds}
 use Rattle.entry_states.proofs.Numbers.{one-cond}
@@ -22,16 +22,16 @@ use Rattle.entry_states.proofs.Taking.{idle-room}
 abbrev pub roomy_row : RowView → RowView
 roomy_row row = record row { shelf = record row.shelf { room = row.shelf.room + row.capacity } }
 
-pub reserve-kept : (v : RowsView) → IsKept v → (w : ℕ) → is_width w ≡ true → v.ready ≡ 0 → IsKept (with_row v w (roomy_row (row_at v.rows w)) w)
-reserve-kept v kept w is idle =
+pub reserve-kept : (bits : ℕ) (v : RowsView) → AreRows bits v → (w : ℕ) → is_width w ≡ true → v.ready ≡ 0 → AreRows bits (with_row v w (roomy_row (row_at v.rows w)) w)
+reserve-kept bits v kept w is idle =
     let row = kept.each_row w is in
     let n = row_at v.rows w in
-    let room : n.shelf.room ≡ length n.buffers * n.capacity = idle-room v kept w is idle in
-    let one_more : one (eqb w w) ≡ 1 = ap one (eq-eqb w w refl) in
-    kept-row v kept w is (roomy_row n) w refl
+    let room : n.shelf.room ≡ length n.buffers * n.capacity = idle-room bits v kept w is idle in
+    let one_now : one (eqb w w) ≡ 1 = ap one (eq-eqb w w refl) in
+    kept-row bits v kept w is (roomy_row n) w refl
     (record {
       size = row.size;
-      room = ap (λ m. m + n.capacity) room ∙ sym (ap (λ m. (length n.buffers + m) * n.capacity) one_more ∙ omega (arith, suc-mul (length n.buffers) n.capacity));
+      room = ap (λ m. m + n.capacity) room ∙ sym (ap (λ m. (length n.buffers + m) * n.capacity) one_now ∙ omega (arith, suc-mul (length n.buffers) n.capacity));
       taken = row.taken;
       full = row.full;
       made = row.made;
@@ -40,15 +40,15 @@ reserve-kept v kept w is idle =
     })
     (λ u there ne. ne_eqb w u (λ e. ne (sym e)) ∙ sym (ne_eqb v.ready u (λ e. (let wide = (width-bounds u there).0 in absurd (omega arith)))))
 
-pub reserve-ready : (v : RowsView) → IsKept v → (w : ℕ) → is_width w ≡ true
-    → entries_in (with_row v w (roomy_row (row_at v.rows w)) w) ≡ record (entries_in v) { ready = w }
-reserve-ready v kept w is =
+pub reserve-ready : (bits : ℕ) (v : RowsView) → AreRows bits v → (w : ℕ) → is_width w ≡ true
+    → entries_in bits (with_row v w (roomy_row (row_at v.rows w)) w) ≡ record (entries_in bits v) { ready = w }
+reserve-ready bits v kept w is =
     let new = roomy_row (row_at v.rows w) in
     λ i. record {
       buffers = length v.slots;
       words = v.words;
       width = λ b. (slot_at v.slots b).width;
-      state = λ r. row-same (λ (n : RowView). state_in n (slot_at v.slots (buffer_of r)).rank (offset_of r)) v.rows new w (slot_at v.slots (buffer_of r)).width kept.eleven is refl i;
+      state = λ r. row-same (λ (n : RowView). state_in n (slot_at v.slots (buffer_of bits r)).rank (offset_of bits r)) v.rows new w (slot_at v.slots (buffer_of bits r)).width kept.eleven is refl i;
       made = λ u. row-same (λ (n : RowView). n.shelf.made) v.rows new w u kept.eleven is refl i;
       spare = λ u. row-same spare_in v.rows new w u kept.eleven is refl i;
       count = λ u. row-same (λ (n : RowView). length n.buffers) v.rows new w u kept.eleven is refl i;
@@ -86,11 +86,11 @@ none-new k o = by_test (has_offset (new_row 0) o) refl
     by_test false e = refl
 
 -- nor one of a buffer without a width
-pub state-none : (v : RowsView) → IsKept v → (r : ℕ) → (slot_at v.slots (buffer_of r)).width ≡ 0 → (entries_in v).state r ≡ None
-state-none v kept r unused =
-    ap (λ u. state_in (row_at v.rows u) (slot_at v.slots (buffer_of r)).rank (offset_of r)) unused
-    ∙ ap (λ (n : RowView). state_in n (slot_at v.slots (buffer_of r)).rank (offset_of r)) (row-none v.rows kept.eleven)
-    ∙ none-new (slot_at v.slots (buffer_of r)).rank (offset_of r)
+pub state-none : (bits : ℕ) (v : RowsView) → AreRows bits v → (r : ℕ) → (slot_at v.slots (buffer_of bits r)).width ≡ 0 → (entries_in bits v).state r ≡ None
+state-none bits v kept r unused =
+    ap (λ u. state_in (row_at v.rows u) (slot_at v.slots (buffer_of bits r)).rank (offset_of bits r)) unused
+    ∙ ap (λ (n : RowView). state_in n (slot_at v.slots (buffer_of bits r)).rank (offset_of bits r)) (row-none v.rows kept.eleven)
+    ∙ none-new (slot_at v.slots (buffer_of bits r)).rank (offset_of bits r)
 
 -- nor an entry past those that were taken
 none-past : (row : RowView) (k o : ℕ) → length row.shelf.states ≤ k * row.capacity → state_in row k o ≡ None
@@ -100,7 +100,7 @@ none-past row k o past = by_test (has_offset row o) refl
     by_test true e = slice_get_past row.shelf.states (number_in row k o) (omega arith)
     by_test false e = refl
 
-module _ (v : RowsView) (kept : IsKept v) (b w : ℕ) (inside : b < length v.slots) (unused : (slot_at v.slots b).width ≡ 0) (is : is_width w ≡ true) (ready : v.ready ≡ w)
+module _ (bits : ℕ) (v : RowsView) (kept : AreRows bits v) (b w : ℕ) (inside : b < length v.slots) (unused : (slot_at v.slots b).width ≡ 0) (is : is_width w ≡ true) (ready : v.ready ≡ w)
     (none : spare_in (row_at v.rows w) ≡ 0) where
   new_slot : Slot
   new_slot = record { width = w; rank = length (row_at v.rows w).buffers }
@@ -178,21 +178,22 @@ module _ (v : RowsView) (kept : IsKept v) (b w : ℕ) (inside : b < length v.slo
         member = λ k below. slot-other v.slots b (record { width = w; rank = length (row_at v.rows w).buffers }) (get_or n.buffers k 0) (apart u there k below) ∙ row.member k below;
       }
 
-  pub add-kept : IsKept (with_added v b w)
+  pub add-kept : AreRows bits (with_added v b w)
   add-kept =
       let slots = set v.slots b (record { width = w; rank = length (row_at v.rows w).buffers }) in
       let rows = set v.rows (row_of w) (added_row (row_at v.rows w) b) in
       let size = length-set {A = Slot} v.slots b (record { width = w; rank = length (row_at v.rows w).buffers }) in
       record {
-        some_buffers = omega (arith, size, kept.some_buffers);
         few_buffers = omega (arith, size, kept.few_buffers);
         some_words = kept.some_words;
         few_words = kept.few_words;
+        offsets = kept.offsets;
+        product = subst (λ n. n * v.words ≤ 67108864) (sym size) kept.product;
         eleven = length-set v.rows (row_of w) (added_row (row_at v.rows w) b) ∙ kept.eleven;
         each_row = λ u there. elim (cases_eq u w) [
           | inl e ↦ subst (λ t. IsRow v.words (set v.slots b (record { width = w; rank = length (row_at v.rows w).buffers })) 0 t (row_at (set v.rows (row_of w) (added_row (row_at v.rows w) b)) t)) (sym e)
-              (subst (λ (n : RowView). IsRow v.words (set v.slots b (record { width = w; rank = length (row_at v.rows w).buffers })) 0 w n) (sym (row-here v kept w is (added_row (row_at v.rows w) b))) here)
-          | inr ne ↦ subst (λ (n : RowView). IsRow v.words (set v.slots b (record { width = w; rank = length (row_at v.rows w).buffers })) 0 u n) (sym (row-there v kept w is (added_row (row_at v.rows w) b) u ne)) (others u there ne)
+              (subst (λ (n : RowView). IsRow v.words (set v.slots b (record { width = w; rank = length (row_at v.rows w).buffers })) 0 w n) (sym (row-here bits v kept w is (added_row (row_at v.rows w) b))) here)
+          | inr ne ↦ subst (λ (n : RowView). IsRow v.words (set v.slots b (record { width = w; rank = length (row_at v.rows w).buffers })) 0 u n) (sym (row-there bits v kept w is (added_row (row_at v.rows w) b) u ne)) (others u there ne)
         ];
         each_slot = λ a wide. elim (cases_eq a b) [
           | inl e ↦ subst (IsSlot rows a) (sym (slot-set v.slots b (record { width = w; rank = length (row_at v.rows w).buffers }) a inside e)) (slot_here a e)
@@ -203,7 +204,7 @@ module _ (v : RowsView) (kept : IsKept v) (b w : ℕ) (inside : b < length v.slo
     where
       slot_here : (a : ℕ) → a ≡ b → IsSlot (set v.rows (row_of w) (added_row (row_at v.rows w) b)) a (record { width = w; rank = length (row_at v.rows w).buffers })
       slot_here a e =
-          let row = row-here v kept w is (added_row (row_at v.rows w) b) in
+          let row = row-here bits v kept w is (added_row (row_at v.rows w) b) in
           record {
             of_width = is;
             below = subst (λ (n : RowView). length (row_at v.rows w).buffers < length n.buffers) (sym row) (omega (arith, long));
@@ -213,7 +214,7 @@ module _ (v : RowsView) (kept : IsKept v) (b w : ℕ) (inside : b < length v.slo
       slot_there : (a : ℕ) → IsSlot v.rows a (slot_at v.slots a) → IsSlot (set v.rows (row_of w) (added_row (row_at v.rows w) b)) a (slot_at v.slots a)
       slot_there a stands = elim (cases_eq (slot_at v.slots a).width w) [
         | inl e ↦ (let row : row_at (set v.rows (row_of w) (added_row (row_at v.rows w) b)) (slot_at v.slots a).width ≡ added_row (row_at v.rows w) b =
-            ap (λ u. row_at (set v.rows (row_of w) (added_row (row_at v.rows w) b)) u) e ∙ row-here v kept w is (added_row (row_at v.rows w) b) in
+            ap (λ u. row_at (set v.rows (row_of w) (added_row (row_at v.rows w) b)) u) e ∙ row-here bits v kept w is (added_row (row_at v.rows w) b) in
             let below : (slot_at v.slots a).rank < length (row_at v.rows w).buffers = subst (λ u. (slot_at v.slots a).rank < length (row_at v.rows u).buffers) e stands.below in
             let at : get_or (row_at v.rows w).buffers (slot_at v.slots a).rank 0 ≡ a = subst (λ u. get_or (row_at v.rows u).buffers (slot_at v.slots a).rank 0 ≡ a) e stands.is in
             record {
@@ -221,7 +222,7 @@ module _ (v : RowsView) (kept : IsKept v) (b w : ℕ) (inside : b < length v.slo
               below = subst (λ (n : RowView). (slot_at v.slots a).rank < length n.buffers) (sym row) (omega (arith, long, below));
               is = subst (λ (n : RowView). get_or n.buffers (slot_at v.slots a).rank 0 ≡ a) (sym row) (get_or-append (row_at v.rows w).buffers (b ∷ []) 0 (slot_at v.slots a).rank below ∙ at);
             })
-        | inr ne ↦ (let row = row-there v kept w is (added_row (row_at v.rows w) b) (slot_at v.slots a).width ne in
+        | inr ne ↦ (let row = row-there bits v kept w is (added_row (row_at v.rows w) b) (slot_at v.slots a).width ne in
             record {
               of_width = stands.of_width;
               below = subst (λ (n : RowView). (slot_at v.slots a).rank < length n.buffers) (sym row) stands.below;
@@ -237,19 +238,19 @@ module _ (v : RowsView) (kept : IsKept v) (b w : ℕ) (inside : b < length v.slo
         ∙ sym (ap (λ t. cond t w (slot_at v.slots a).width) (ne_eqb a b ne))
   ]
 
-  add-state : (r : ℕ) → (entries_in (with_added v b w)).state r ≡ (entries_in v).state r
-  add-state r = elim (cases_eq (buffer_of r) b) [
-    | inl e ↦ ap (λ (s : Slot). state_in (row_at (set v.rows (row_of w) (added_row (row_at v.rows w) b)) s.width) s.rank (offset_of r))
-        (slot-set v.slots b (record { width = w; rank = length (row_at v.rows w).buffers }) (buffer_of r) inside e)
-        ∙ ap (λ (n : RowView). state_in n (length (row_at v.rows w).buffers) (offset_of r)) (row-here v kept w is (added_row (row_at v.rows w) b))
-        ∙ none-past (added_row (row_at v.rows w) b) (length (row_at v.rows w).buffers) (offset_of r) (omega (arith, full))
-        ∙ sym (state-none v kept r (ap (λ a. (slot_at v.slots a).width) e ∙ unused))
-    | inr ne ↦ ap (λ (s : Slot). state_in (row_at (set v.rows (row_of w) (added_row (row_at v.rows w) b)) s.width) s.rank (offset_of r))
-        (slot-other v.slots b (record { width = w; rank = length (row_at v.rows w).buffers }) (buffer_of r) ne)
-        ∙ row-same (λ (n : RowView). state_in n (slot_at v.slots (buffer_of r)).rank (offset_of r)) v.rows (added_row (row_at v.rows w) b) w (slot_at v.slots (buffer_of r)).width kept.eleven is refl
+  add-state : (r : ℕ) → (entries_in bits (with_added v b w)).state r ≡ (entries_in bits v).state r
+  add-state r = elim (cases_eq (buffer_of bits r) b) [
+    | inl e ↦ ap (λ (s : Slot). state_in (row_at (set v.rows (row_of w) (added_row (row_at v.rows w) b)) s.width) s.rank (offset_of bits r))
+        (slot-set v.slots b (record { width = w; rank = length (row_at v.rows w).buffers }) (buffer_of bits r) inside e)
+        ∙ ap (λ (n : RowView). state_in n (length (row_at v.rows w).buffers) (offset_of bits r)) (row-here bits v kept w is (added_row (row_at v.rows w) b))
+        ∙ none-past (added_row (row_at v.rows w) b) (length (row_at v.rows w).buffers) (offset_of bits r) (omega (arith, full))
+        ∙ sym (state-none bits v kept r (ap (λ a. (slot_at v.slots a).width) e ∙ unused))
+    | inr ne ↦ ap (λ (s : Slot). state_in (row_at (set v.rows (row_of w) (added_row (row_at v.rows w) b)) s.width) s.rank (offset_of bits r))
+        (slot-other v.slots b (record { width = w; rank = length (row_at v.rows w).buffers }) (buffer_of bits r) ne)
+        ∙ row-same (λ (n : RowView). state_in n (slot_at v.slots (buffer_of bits r)).rank (offset_of bits r)) v.rows (added_row (row_at v.rows w) b) w (slot_at v.slots (buffer_of bits r)).width kept.eleven is refl
   ]
 
-  pub add-added : entries_in (with_added v b w) ≡ with_buffer (entries_in v) b w
+  pub add-added : entries_in bits (with_added v b w) ≡ with_buffer (entries_in bits v) b w
   add-added =
       let row = row_at v.rows w in
       let new = added_row row b in
@@ -292,8 +293,8 @@ put-added v b w place rank row new at is same long =
     λ i. record { words = v.words; rows = rows i; slots = slots i; ready = 0 }
 
 -- where a width is ready, its row has room for one buffer more
-pub ready-room : (v : RowsView) → IsKept v → (w : ℕ) → is_width w ≡ true → v.ready ≡ w
+pub ready-room : (bits : ℕ) (v : RowsView) → AreRows bits v → (w : ℕ) → is_width w ≡ true → v.ready ≡ w
     → (row_at v.rows w).shelf.room ≡ (length (row_at v.rows w).buffers + 1) * (row_at v.rows w).capacity
-ready-room v kept w is ready =
-    let one_more : one (eqb v.ready w) ≡ 1 = ap one (eq-eqb v.ready w ready) in
-    (kept.each_row w is).room ∙ ap (λ n. (length (row_at v.rows w).buffers + n) * (row_at v.rows w).capacity) one_more
+ready-room bits v kept w is ready =
+    let one_now : one (eqb v.ready w) ≡ 1 = ap one (eq-eqb v.ready w ready) in
+    (kept.each_row w is).room ∙ ap (λ n. (length (row_at v.rows w).buffers + n) * (row_at v.rows w).capacity) one_now

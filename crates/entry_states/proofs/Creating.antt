@@ -1,14 +1,14 @@
 -- No buffer has entries.
-use Rattle.std.proofs.Common.{◌≡◌, ◌≢◌, ℕ, zero, suc, ◌+◌, ◌-◌, ◌*◌, ◌/◌, ◌≤◌, Bool, true, false, cond, eqb, List, None, map, length, replicate, refl, sym, ap, subst, ◌∙◌, arith}
+use Rattle.std.proofs.Common.{◌≡◌, ◌≢◌, ℕ, zero, suc, ◌+◌, ◌-◌, ◌*◌, ◌/◌, ◌<◌, ◌≤◌, Bool, true, false, cond, eqb, List, None, map, length, replicate, refl, sym, ap, subst, ◌∙◌, arith}
 use Rattle.std.specs.List.{slice_get, count_by}
 use Rattle.std.proofs.lemmas.List.{length-replicate}
 use Rattle.std.proofs.lemmas.List.Sums.{sum_by-cons}
 use Rattle.std.proofs.lemmas.Bool.{ne_eqb}
-use Rattle.entry_ref.specs.References.{buffer_of, offset_of}
+use Rattle.entry_ref.specs.References.{buffer_of, offset_of, buffer_limit, offset_limit}
 use Rattle.store_api.specs.Ledgers.{widths, is_width}
 use Rattle.entry_states.specs.declared.slot.Slot.{Slot}
 use Rattle.entry_states.specs.Entries.{is_made, is_let_go, one, new_entries}
-use Rattle.entry_states.specs.Rows.{RowView, RowsView, new_row, row_at, slot_at, has_offset, number_in, state_in, spare_in, IsRow, IsKept}
+use Rattle.entry_states.specs.Rows.{RowView, RowsView, new_row, row_at, slot_at, has_offset, number_in, state_in, spare_in, IsRow, AreRows}
 use Rattle.entry_states.proofs.Seen.{entries_in}
 use Rattle.entry_states.proofs.Places.{row-made, row-out, width-bounds}
 use Rattle.entry_states.proofs.Numbers.{one-cond}
@@ -47,14 +47,16 @@ some-row words w = by_test (is_width w) refl
     by_test true e = (words / w - 1, row-made (λ v. new_row (words / v - 1)) w e)
     by_test false e = (0, row-out (λ v. new_row (words / v - 1)) w e)
 
-pub new-kept : (buffers words : ℕ) → 1 ≤ buffers → buffers ≤ 1023 → 8192 ≤ words → words ≤ 65536 → IsKept (new_rows buffers words)
-new-kept buffers words some few many most =
+pub new-kept : (bits : ℕ) (buffers words : ℕ) → buffers < buffer_limit bits → 8192 ≤ words → words ≤ 65536 → words ≤ offset_limit bits → buffers * words ≤ 67108864
+    → AreRows bits (new_rows buffers words)
+new-kept bits buffers words few many most offsets product =
     let long = length-replicate {A = Slot} buffers (record { width = 0; rank = 0 }) in
     record {
-      some_buffers = omega (arith, long);
       few_buffers = omega (arith, long);
       some_words = many;
       few_words = most;
+      offsets = offsets;
+      product = subst (λ n. n * words ≤ 67108864) (sym long) product;
       eleven = refl;
       each_row = λ w is.
           let wide = (width-bounds w is).0 in
@@ -71,8 +73,8 @@ new-kept buffers words some few many most =
       each_slot = λ b wide. (let none : (slot_at (replicate buffers (record { width = 0; rank = 0 })) b).width ≡ 0 = ap (λ (s : Slot). s.width) (no-slot buffers b) in absurd (omega arith));
     }
 
-pub new-entries : (buffers words : ℕ) → entries_in (new_rows buffers words) ≡ new_entries buffers words
-new-entries buffers words = λ i. record {
+pub new-entries : (bits : ℕ) (buffers words : ℕ) → entries_in bits (new_rows buffers words) ≡ new_entries buffers words
+new-entries bits buffers words = λ i. record {
   buffers = length-replicate {A = Slot} buffers (record { width = 0; rank = 0 }) i;
   words = words;
   width = λ b. ap (λ (s : Slot). s.width) (no-slot buffers b) i;
@@ -96,9 +98,9 @@ new-entries buffers words = λ i. record {
         by_test true = refl
         by_test false = refl
 
-    no_state : (r : ℕ) → (entries_in (new_rows buffers words)).state r ≡ None
-    no_state r = of_row (λ (n : RowView). state_in n (slot_at (new_rows buffers words).slots (buffer_of r)).rank (offset_of r)) None
-        (λ size. untaken size (slot_at (new_rows buffers words).slots (buffer_of r)).rank (offset_of r)) (slot_at (new_rows buffers words).slots (buffer_of r)).width
+    no_state : (r : ℕ) → (entries_in bits (new_rows buffers words)).state r ≡ None
+    no_state r = of_row (λ (n : RowView). state_in n (slot_at (new_rows buffers words).slots (buffer_of bits r)).rank (offset_of bits r)) None
+        (λ size. untaken size (slot_at (new_rows buffers words).slots (buffer_of bits r)).rank (offset_of bits r)) (slot_at (new_rows buffers words).slots (buffer_of bits r)).width
 
 pub same-new : (buffers words : ℕ) (rows : List RowView) (slots : List Slot) → rows ≡ map (λ w. new_row (words / w - 1)) widths
     → slots ≡ replicate buffers (record { width = 0; rank = 0 }) → record { words = words; rows = rows; slots = slots; ready = 0 } ≡ new_rows buffers words

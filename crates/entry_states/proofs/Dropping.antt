@@ -10,7 +10,7 @@ use Rattle.entry_shelf.specs.declared.state.State.TheVariants.{Free, Returned, M
 use Rattle.entry_shelf.specs.States.{is_free, is_used, state_at, dropped}
 use Rattle.entry_states.specs.declared.slot.Slot.{Slot}
 use Rattle.entry_states.specs.Entries.{is_made, is_let_go, one, dropped_at}
-use Rattle.entry_states.specs.Rows.{RowView, RowsView, row_of, row_at, slot_at, number_in, entry_in, spare_in, is_used_state, with_states, IsKept}
+use Rattle.entry_states.specs.Rows.{RowView, RowsView, row_of, row_at, slot_at, number_in, entry_in, spare_in, is_used_state, with_states, AreRows}
 use Rattle.entry_states.proofs.Seen.{entries_in}
 use Rattle.entry_states.proofs.Places.{row-field, row-same}
 use Rattle.entry_states.proofs.Numbers.{Puts, puts-set, count-set, entry-number}
@@ -43,43 +43,43 @@ counts last (DroppedNow after) is = absurd (cc)
 counts last (Dropped after) is = absurd (cc)
 
 -- the entry, by its slot
-abbrev pub width_at : RowsView → ℕ → ℕ
-width_at v r = (slot_at v.slots (buffer_of r)).width
+abbrev pub width_at : ℕ → RowsView → ℕ → ℕ
+width_at bits v r = (slot_at v.slots (buffer_of bits r)).width
 
-abbrev pub rank_at : RowsView → ℕ → ℕ
-rank_at v r = (slot_at v.slots (buffer_of r)).rank
+abbrev pub rank_at : ℕ → RowsView → ℕ → ℕ
+rank_at bits v r = (slot_at v.slots (buffer_of bits r)).rank
 
-abbrev pub number_at : RowsView → ℕ → ℕ
-number_at v r = number_in (row_at v.rows (width_at v r)) (rank_at v r) (offset_of r)
+abbrev pub number_at : ℕ → RowsView → ℕ → ℕ
+number_at bits v r = number_in (row_at v.rows (width_at bits v r)) (rank_at bits v r) (offset_of bits r)
 
 -- its row, where it is dropped
 abbrev pub dropped_row : ℕ → RowView → ℕ → RowView
 dropped_row last row x = with_states row (set row.shelf.states x (dropped last (state_at row.shelf.states x)))
 
 -- what is known of an entry with a state
-pub record IsTaken (v : RowsView) (r : ℕ) (s : State) : Type 0 where
-  pub width : is_width (width_at v r) ≡ true
-  pub inside : buffer_of r < length v.slots
-  pub low : rank_at v r < length (row_at v.rows (width_at v r)).buffers
-  pub state : state_at (row_at v.rows (width_at v r)).shelf.states (number_at v r) ≡ s
-  pub there : number_at v r < length (row_at v.rows (width_at v r)).shelf.states
-  pub below : number_at v r < length (row_at v.rows (width_at v r)).buffers * (row_at v.rows (width_at v r)).capacity
-  pub entry : entry_in (row_at v.rows (width_at v r)) (number_at v r) ≡ r
+pub record IsTaken (bits : ℕ) (v : RowsView) (r : ℕ) (s : State) : Type 0 where
+  pub width : is_width (width_at bits v r) ≡ true
+  pub inside : buffer_of bits r < length v.slots
+  pub low : rank_at bits v r < length (row_at v.rows (width_at bits v r)).buffers
+  pub state : state_at (row_at v.rows (width_at bits v r)).shelf.states (number_at bits v r) ≡ s
+  pub there : number_at bits v r < length (row_at v.rows (width_at bits v r)).shelf.states
+  pub below : number_at bits v r < length (row_at v.rows (width_at bits v r)).buffers * (row_at v.rows (width_at bits v r)).capacity
+  pub entry : entry_in bits (row_at v.rows (width_at bits v r)) (number_at bits v r) ≡ r
 
-pub is-taken : (v : RowsView) → IsKept v → (r : ℕ) (s : State) → (entries_in v).state r ≡ Some s → IsTaken v r s
-is-taken v kept r s is =
-    let entry = good-entries v kept r s is in
-    let at = numbered v kept r entry in
-    let row = row_at v.rows (width_at v r) in
-    let get : slice_get row.shelf.states (number_at v r) ≡ Some s = sym (state_in-there row (rank_at v r) (offset_of r) (number_at v r) at.offset refl) ∙ is in
+pub is-taken : (bits : ℕ) (v : RowsView) → AreRows bits v → (r : ℕ) (s : State) → (entries_in bits v).state r ≡ Some s → IsTaken bits v r s
+is-taken bits v kept r s is =
+    let entry = good-entries bits v kept r s is in
+    let at = numbered bits v kept r entry in
+    let row = row_at v.rows (width_at bits v r) in
+    let get : slice_get row.shelf.states (number_at bits v r) ≡ Some s = sym (state_in-there row (rank_at bits v r) (offset_of bits r) (number_at bits v r) at.offset refl) ∙ is in
     record {
       width = at.is;
       inside = entry.inside;
       low = at.below;
-      state = get_or_from_slice_get row.shelf.states (number_at v r) s Free get;
-      there = slice_get_within row.shelf.states (number_at v r) s get;
+      state = get_or_from_slice_get row.shelf.states (number_at bits v r) s Free get;
+      there = slice_get_within row.shelf.states (number_at bits v r) s get;
       below = at.within;
-      entry = entry-number row (rank_at v r) r at.offset at.buffer;
+      entry = entry-number bits row (rank_at bits v r) r at.offset at.buffer;
     }
 
 -- an entry in use has a state
@@ -87,14 +87,14 @@ pub used-taken : (o : Option State) → is_used_state o ≡ true → (s : State)
 used-taken None is = absurd (cc)
 used-taken (Some s) is = (s, refl, is)
 
-module _ (v : RowsView) (kept : IsKept v) (last r : ℕ) (s : State) (is : (entries_in v).state r ≡ Some s) where
-  pub drop-kept : IsKept (with_row v (width_at v r) (dropped_row last (row_at v.rows (width_at v r)) (number_at v r)) v.ready)
+module _ (bits : ℕ) (v : RowsView) (kept : AreRows bits v) (last r : ℕ) (s : State) (is : (entries_in bits v).state r ≡ Some s) where
+  pub drop-kept : AreRows bits (with_row v (width_at bits v r) (dropped_row last (row_at v.rows (width_at bits v r)) (number_at bits v r)) v.ready)
   drop-kept =
-      let taken = is-taken v kept r s is in
-      let row = kept.each_row (width_at v r) taken.width in
-      let states = (row_at v.rows (width_at v r)).shelf.states in
-      let long = length-set {A = State} states (number_at v r) (dropped last (state_at states (number_at v r))) in
-      kept-stays v kept (width_at v r) taken.width (dropped_row last (row_at v.rows (width_at v r)) (number_at v r)) refl (record {
+      let taken = is-taken bits v kept r s is in
+      let row = kept.each_row (width_at bits v r) taken.width in
+      let states = (row_at v.rows (width_at bits v r)).shelf.states in
+      let long = length-set {A = State} states (number_at bits v r) (dropped last (state_at states (number_at bits v r))) in
+      kept-stays bits v kept (width_at bits v r) taken.width (dropped_row last (row_at v.rows (width_at bits v r)) (number_at bits v r)) refl (record {
         size = row.size;
         room = row.room;
         taken = omega (arith, long, row.taken);
@@ -105,11 +105,11 @@ module _ (v : RowsView) (kept : IsKept v) (last r : ℕ) (s : State) (is : (entr
       })
 
   pub drop-dropped : is_used s ≡ true
-      → entries_in (with_row v (width_at v r) (dropped_row last (row_at v.rows (width_at v r)) (number_at v r)) v.ready) ≡ dropped_at (entries_in v) last r s
+      → entries_in bits (with_row v (width_at bits v r) (dropped_row last (row_at v.rows (width_at bits v r)) (number_at bits v r)) v.ready) ≡ dropped_at bits (entries_in bits v) last r s
   drop-dropped used =
-      let taken = is-taken v kept r s is in
-      let w = width_at v r in
-      let x = number_at v r in
+      let taken = is-taken bits v kept r s is in
+      let w = width_at bits v r in
+      let x = number_at bits v r in
       let row = row_at v.rows w in
       let states = row.shelf.states in
       let new = dropped_row last row x in
@@ -136,8 +136,8 @@ module _ (v : RowsView) (kept : IsKept v) (last r : ℕ) (s : State) (is : (entr
         buffers = length v.slots;
         words = v.words;
         width = λ b. (slot_at v.slots b).width;
-        state = λ q. (state-put v kept w taken.width x taken.below (dropped last s) new refl puts q
-            ∙ ap (λ e. cond (eqb q e) (Some (dropped last s)) ((entries_in v).state q)) taken.entry) i;
+        state = λ q. (state-put bits v kept w taken.width x taken.below (dropped last s) new refl puts q
+            ∙ ap (λ e. cond (eqb q e) (Some (dropped last s)) ((entries_in bits v).state q)) taken.entry) i;
         made = λ u. row-same (λ (n : RowView). n.shelf.made) v.rows new w u kept.eleven taken.width refl i;
         spare = λ u. row-field spare_in v.rows new w u (spare_in row + one (is_free (dropped last s))) kept.eleven taken.width spares i;
         count = λ u. row-same (λ (n : RowView). length n.buffers) v.rows new w u kept.eleven taken.width refl i;
@@ -151,11 +151,11 @@ module _ (v : RowsView) (kept : IsKept v) (last r : ℕ) (s : State) (is : (entr
       spare_more n k l a b c long more = omega arith
 
 -- the rows after an entry is dropped, by its slot and its row
-pub put-dropped : (v : RowsView) (last r place o : ℕ) (slot : Slot) (row new : RowView) → slot ≡ slot_at v.slots (buffer_of r) → place ≡ row_of slot.width
-    → row ≡ row_at v.rows slot.width → o ≡ offset_of r → new ≡ dropped_row last row (number_in row slot.rank o)
+pub put-dropped : (bits : ℕ) (v : RowsView) (last r place o : ℕ) (slot : Slot) (row new : RowView) → slot ≡ slot_at v.slots (buffer_of bits r) → place ≡ row_of slot.width
+    → row ≡ row_at v.rows slot.width → o ≡ offset_of bits r → new ≡ dropped_row last row (number_in row slot.rank o)
     → record { words = v.words; rows = set v.rows place new; slots = v.slots; ready = v.ready }
-    ≡ with_row v (width_at v r) (dropped_row last (row_at v.rows (width_at v r)) (number_at v r)) v.ready
-put-dropped v last r place o slot row new slot_is at is offset same =
-    put-row v (width_at v r) place v.ready row new (λ n. dropped_row last n (number_in n (rank_at v r) (offset_of r)))
+    ≡ with_row v (width_at bits v r) (dropped_row last (row_at v.rows (width_at bits v r)) (number_at bits v r)) v.ready
+put-dropped bits v last r place o slot row new slot_is at is offset same =
+    put-row v (width_at bits v r) place v.ready row new (λ n. dropped_row last n (number_in n (rank_at bits v r) (offset_of bits r)))
     (at ∙ ap (λ (n : Slot). row_of n.width) slot_is) (is ∙ ap (λ (n : Slot). row_at v.rows n.width) slot_is)
-    (same ∙ ap (λ (n : Slot). dropped_row last row (number_in row n.rank o)) slot_is ∙ ap (λ t. dropped_row last row (number_in row (rank_at v r) t)) offset)
+    (same ∙ ap (λ (n : Slot). dropped_row last row (number_in row n.rank o)) slot_is ∙ ap (λ t. dropped_row last row (number_in row (rank_at bits v r) t)) offset)

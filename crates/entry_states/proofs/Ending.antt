@@ -11,7 +11,7 @@ use Rattle.entry_shelf.specs.declared.state.State.{State}
 use Rattle.entry_shelf.specs.declared.state.State.TheVariants.{Free, Returned, Made, InUse, LetGo, DroppedNow, Dropped}
 use Rattle.entry_shelf.specs.States.{is_free, accepted, undone}
 use Rattle.entry_states.specs.Entries.{is_made, is_let_go, one, accepted_at, undone_at}
-use Rattle.entry_states.specs.Rows.{RowView, RowsView, row_at, slot_at, has_offset, number_in, state_in, spare_in, with_states, IsRow, IsKept}
+use Rattle.entry_states.specs.Rows.{RowView, RowsView, row_at, slot_at, has_offset, number_in, state_in, spare_in, with_states, IsRow, AreRows}
 use Rattle.entry_states.proofs.Seen.{entries_in}
 use Rattle.entry_states.proofs.Places.{row-map}
 use Rattle.entry_states.proofs.Numbers.{count-map, one-cond}
@@ -24,19 +24,20 @@ changed f row = with_states row (map f row.shelf.states)
 abbrev pub with_changed : (State → State) → RowsView → RowsView
 with_changed f v = record v { rows = map (changed f) v.rows }
 
-module _ (f : State → State) (v : RowsView) where
+module _ (bits : ℕ) (f : State → State) (v : RowsView) where
   at : (w : ℕ) → row_at (map (changed f) v.rows) w ≡ changed f (row_at v.rows w)
   at w = row-map (changed f) v.rows w refl
 
   same_buffers : (w : ℕ) → (row_at (map (changed f) v.rows) w).buffers ≡ (row_at v.rows w).buffers
   same_buffers w = ap (λ (n : RowView). n.buffers) (at w)
 
-  pub changed-kept : IsKept v → IsKept (with_changed f v)
+  pub changed-kept : AreRows bits v → AreRows bits (with_changed f v)
   changed-kept kept = record {
-    some_buffers = kept.some_buffers;
     few_buffers = kept.few_buffers;
     some_words = kept.some_words;
     few_words = kept.few_words;
+    offsets = kept.offsets;
+    product = kept.product;
     eleven = length-map v.rows (changed f) ∙ kept.eleven;
     each_row = λ w is.
         let row = kept.each_row w is in
@@ -61,15 +62,15 @@ module _ (f : State → State) (v : RowsView) where
         };
   }
 
-  pub changed-state : (r : ℕ) → (entries_in (with_changed f v)).state r ≡ option_map f ((entries_in v).state r)
+  pub changed-state : (r : ℕ) → (entries_in bits (with_changed f v)).state r ≡ option_map f ((entries_in bits v).state r)
   changed-state r =
-      let slot = slot_at v.slots (buffer_of r) in
+      let slot = slot_at v.slots (buffer_of bits r) in
       let row = row_at v.rows slot.width in
-      ap (λ (n : RowView). state_in n slot.rank (offset_of r)) (at slot.width) ∙ by_test row slot.rank (has_offset row (offset_of r))
+      ap (λ (n : RowView). state_in n slot.rank (offset_of bits r)) (at slot.width) ∙ by_test row slot.rank (has_offset row (offset_of bits r))
     where
       by_test : (row : RowView) (k : ℕ) (t : Bool)
-          → cond t (slice_get (map f row.shelf.states) (number_in row k (offset_of r))) None ≡ option_map f (cond t (slice_get row.shelf.states (number_in row k (offset_of r))) None)
-      by_test row k true = slice_get-map f row.shelf.states (number_in row k (offset_of r))
+          → cond t (slice_get (map f row.shelf.states) (number_in row k (offset_of bits r))) None ≡ option_map f (cond t (slice_get row.shelf.states (number_in row k (offset_of bits r))) None)
+      by_test row k true = slice_get-map f row.shelf.states (number_in row k (offset_of bits r))
       by_test row k false = refl
 
   pub changed-spare : (more : State → Bool) → ((s : State) → one (is_free (f s)) ≡ one (is_free s) + one (more s)) → (w : ℕ)
@@ -152,33 +153,33 @@ undone-gone last LetGo = refl
 undone-gone last (DroppedNow after) = refl
 undone-gone last (Dropped after) = refl
 
-pub accept-accepted : (v : RowsView) (last : ℕ) → entries_in (with_changed (accepted last) v) ≡ accepted_at (entries_in v) last
-accept-accepted v last = λ i. record {
+pub accept-accepted : (bits : ℕ) (v : RowsView) (last : ℕ) → entries_in bits (with_changed (accepted last) v) ≡ accepted_at (entries_in bits v) last
+accept-accepted bits v last = λ i. record {
   buffers = length v.slots;
   words = v.words;
   width = λ b. (slot_at v.slots b).width;
-  state = λ r. changed-state (accepted last) v r i;
-  made = λ w. changed-row (accepted last) v (λ (n : RowView). n.shelf.made) (λ n. refl) w i;
-  spare = λ w. changed-spare (accepted last) v is_let_go (accepted-free last) w i;
-  count = λ w. changed-row (accepted last) v (λ (n : RowView). length n.buffers) (λ n. refl) w i;
-  filled = λ w. changed-row (accepted last) v (λ (n : RowView). slice_get n.buffers (length n.buffers - 1)) (λ n. refl) w i;
-  fresh = λ w. changed-none (accepted last) v is_made (accepted-made last) w i;
-  gone = λ w. changed-none (accepted last) v is_let_go (accepted-gone last) w i;
+  state = λ r. changed-state bits (accepted last) v r i;
+  made = λ w. changed-row bits (accepted last) v (λ (n : RowView). n.shelf.made) (λ n. refl) w i;
+  spare = λ w. changed-spare bits (accepted last) v is_let_go (accepted-free last) w i;
+  count = λ w. changed-row bits (accepted last) v (λ (n : RowView). length n.buffers) (λ n. refl) w i;
+  filled = λ w. changed-row bits (accepted last) v (λ (n : RowView). slice_get n.buffers (length n.buffers - 1)) (λ n. refl) w i;
+  fresh = λ w. changed-none bits (accepted last) v is_made (accepted-made last) w i;
+  gone = λ w. changed-none bits (accepted last) v is_let_go (accepted-gone last) w i;
   ready = v.ready;
 }
 
-pub undo-undone : (v : RowsView) (last : ℕ) → entries_in (with_changed (undone last) v) ≡ undone_at (entries_in v) last
-undo-undone v last = λ i. record {
+pub undo-undone : (bits : ℕ) (v : RowsView) (last : ℕ) → entries_in bits (with_changed (undone last) v) ≡ undone_at (entries_in bits v) last
+undo-undone bits v last = λ i. record {
   buffers = length v.slots;
   words = v.words;
   width = λ b. (slot_at v.slots b).width;
-  state = λ r. changed-state (undone last) v r i;
-  made = λ w. changed-row (undone last) v (λ (n : RowView). n.shelf.made) (λ n. refl) w i;
-  spare = λ w. changed-spare (undone last) v is_made (undone-free last) w i;
-  count = λ w. changed-row (undone last) v (λ (n : RowView). length n.buffers) (λ n. refl) w i;
-  filled = λ w. changed-row (undone last) v (λ (n : RowView). slice_get n.buffers (length n.buffers - 1)) (λ n. refl) w i;
-  fresh = λ w. changed-none (undone last) v is_made (undone-made last) w i;
-  gone = λ w. changed-none (undone last) v is_let_go (undone-gone last) w i;
+  state = λ r. changed-state bits (undone last) v r i;
+  made = λ w. changed-row bits (undone last) v (λ (n : RowView). n.shelf.made) (λ n. refl) w i;
+  spare = λ w. changed-spare bits (undone last) v is_made (undone-free last) w i;
+  count = λ w. changed-row bits (undone last) v (λ (n : RowView). length n.buffers) (λ n. refl) w i;
+  filled = λ w. changed-row bits (undone last) v (λ (n : RowView). slice_get n.buffers (length n.buffers - 1)) (λ n. refl) w i;
+  fresh = λ w. changed-none bits (undone last) v is_made (undone-made last) w i;
+  gone = λ w. changed-none bits (undone last) v is_let_go (undone-gone last) w i;
   ready = v.ready;
 }
 

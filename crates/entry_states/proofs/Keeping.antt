@@ -6,18 +6,18 @@ use Rattle.std.proofs.lemmas.Bool.{cases_eq, eq-eqb, ne_eqb}
 use Rattle.store_api.specs.Ledgers.{is_width}
 use Rattle.entry_states.specs.declared.slot.Slot.{Slot}
 use Rattle.entry_states.specs.Entries.{one}
-use Rattle.entry_states.specs.Rows.{RowView, RowsView, new_row, row_of, row_at, slot_at, IsRow, IsKept}
+use Rattle.entry_states.specs.Rows.{RowView, RowsView, new_row, row_of, row_at, slot_at, IsRow, AreRows}
 use Rattle.entry_states.proofs.Places.{row-set, row-same}
 
 -- the rows with one row another, and another width with room for a buffer
 abbrev pub with_row : RowsView → ℕ → RowView → ℕ → RowsView
 with_row v w new ready = record { words = v.words; rows = set v.rows (row_of w) new; slots = v.slots; ready = ready }
 
-pub row-here : (v : RowsView) → IsKept v → (w : ℕ) → is_width w ≡ true → (new : RowView) → row_at (set v.rows (row_of w) new) w ≡ new
-row-here v kept w is new = row-set v.rows new w w kept.eleven is ∙ ap (λ t. cond t new (row_at v.rows w)) (eq-eqb w w refl)
+pub row-here : (bits : ℕ) (v : RowsView) → AreRows bits v → (w : ℕ) → is_width w ≡ true → (new : RowView) → row_at (set v.rows (row_of w) new) w ≡ new
+row-here bits v kept w is new = row-set v.rows new w w kept.eleven is ∙ ap (λ t. cond t new (row_at v.rows w)) (eq-eqb w w refl)
 
-pub row-there : (v : RowsView) → IsKept v → (w : ℕ) → is_width w ≡ true → (new : RowView) (u : ℕ) → u ≢ w → row_at (set v.rows (row_of w) new) u ≡ row_at v.rows u
-row-there v kept w is new u ne = row-set v.rows new w u kept.eleven is ∙ ap (λ t. cond t new (row_at v.rows u)) (ne_eqb u w ne)
+pub row-there : (bits : ℕ) (v : RowsView) → AreRows bits v → (w : ℕ) → is_width w ≡ true → (new : RowView) (u : ℕ) → u ≢ w → row_at (set v.rows (row_of w) new) u ≡ row_at v.rows u
+row-there bits v kept w is new u ne = row-set v.rows new w u kept.eleven is ∙ ap (λ t. cond t new (row_at v.rows u)) (ne_eqb u w ne)
 
 -- a row has room by the width that is ready alone
 ready-row : (words : ℕ) (slots : List Slot) (ready other w : ℕ) (row : RowView) → eqb other w ≡ eqb ready w → IsRow words slots ready w row → IsRow words slots other w row
@@ -31,18 +31,19 @@ ready-row words slots ready other w row same is = record {
   member = is.member;
 }
 
-pub kept-row : (v : RowsView) → IsKept v → (w : ℕ) → is_width w ≡ true → (new : RowView) (ready : ℕ) → new.buffers ≡ (row_at v.rows w).buffers
-    → IsRow v.words v.slots ready w new → ((u : ℕ) → is_width u ≡ true → u ≢ w → eqb ready u ≡ eqb v.ready u) → IsKept (with_row v w new ready)
-kept-row v kept w is new ready buffers row others = record {
-  some_buffers = kept.some_buffers;
+pub kept-row : (bits : ℕ) (v : RowsView) → AreRows bits v → (w : ℕ) → is_width w ≡ true → (new : RowView) (ready : ℕ) → new.buffers ≡ (row_at v.rows w).buffers
+    → IsRow v.words v.slots ready w new → ((u : ℕ) → is_width u ≡ true → u ≢ w → eqb ready u ≡ eqb v.ready u) → AreRows bits (with_row v w new ready)
+kept-row bits v kept w is new ready buffers row others = record {
   few_buffers = kept.few_buffers;
   some_words = kept.some_words;
   few_words = kept.few_words;
+  offsets = kept.offsets;
+  product = kept.product;
   eleven = length-set v.rows (row_of w) new ∙ kept.eleven;
   each_row = λ u there. elim (cases_eq u w) [
     | inl e ↦ subst (λ t. IsRow v.words v.slots ready t (row_at (set v.rows (row_of w) new) t)) (sym e)
-        (subst (λ (n : RowView). IsRow v.words v.slots ready w n) (sym (row-here v kept w is new)) row)
-    | inr ne ↦ subst (λ (n : RowView). IsRow v.words v.slots ready u n) (sym (row-there v kept w is new u ne))
+        (subst (λ (n : RowView). IsRow v.words v.slots ready w n) (sym (row-here bits v kept w is new)) row)
+    | inr ne ↦ subst (λ (n : RowView). IsRow v.words v.slots ready u n) (sym (row-there bits v kept w is new u ne))
         (ready-row v.words v.slots v.ready ready u (row_at v.rows u) (others u there ne) (kept.each_row u there))
   ];
   each_slot = λ b wide.
@@ -58,9 +59,9 @@ kept-row v kept w is new ready buffers row others = record {
 }
 
 -- the same where the width that is ready stays
-pub kept-stays : (v : RowsView) → IsKept v → (w : ℕ) → is_width w ≡ true → (new : RowView) → new.buffers ≡ (row_at v.rows w).buffers
-    → IsRow v.words v.slots v.ready w new → IsKept (with_row v w new v.ready)
-kept-stays v kept w is new buffers row = kept-row v kept w is new v.ready buffers row (λ u there ne. refl)
+pub kept-stays : (bits : ℕ) (v : RowsView) → AreRows bits v → (w : ℕ) → is_width w ≡ true → (new : RowView) → new.buffers ≡ (row_at v.rows w).buffers
+    → IsRow v.words v.slots v.ready w new → AreRows bits (with_row v w new v.ready)
+kept-stays bits v kept w is new buffers row = kept-row bits v kept w is new v.ready buffers row (λ u there ne. refl)
 
 -- a row that is put where it was
 pub same-row : (v : RowsView) (w place : ℕ) (row new : RowView) → place ≡ row_of w → row ≡ row_at v.rows w → new ≡ row

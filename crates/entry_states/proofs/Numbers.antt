@@ -5,7 +5,9 @@ use Rattle.std.proofs.Math.Nat.{mul-le-mul_right, mul-le-mul_left, div-mul-le_se
 use Rattle.std.proofs.lemmas.Nat.{div-add-mod', div-mul-add, mod-mul-add, le-div}
 use Rattle.std.proofs.lemmas.List.Sums.{sum_by-set, sum_by_push, sum_by-cons}
 use Rattle.std.proofs.lemmas.Bool.{cases_lt, and_parts, and_from, leb-true, ltb-true, lt-ltb, le-leb}
+use Rattle.list_facts.proofs.Places.{slice_get-set_same, slice_get-set_other}
 use Rattle.entry_ref.specs.References.{buffer_of, offset_of, packed}
+use Rattle.entry_ref.proofs.Bits.{packed-same}
 use Rattle.image_base.specs.Places.{IsEntry}
 use Rattle.store_api.specs.Ledgers.{is_width, capacity}
 use Rattle.entry_shelf.specs.declared.state.State.{State}
@@ -30,6 +32,13 @@ capacity-few words w few is =
     let twice : words / w * 2 ≤ words / w * w = mul-le-mul_left (words / w) bounds.0 in
     omega arith
 
+pub capacity-within : (words w : ℕ) → 8192 ≤ words → is_width w ≡ true → capacity words w < words
+capacity-within words w some is =
+    let bounds = width-bounds w is in
+    let low : words / w * w ≤ words = div-mul-le_self words w in
+    let once : words / w * 1 ≤ words / w * w = mul-le-mul_left (words / w) (omega (arith, bounds.0)) in
+    omega arith
+
 -- the offsets of entries
 pub offset-from : (row : RowView) (o : ℕ) → 0 < o → o ≤ row.capacity → has_offset row o ≡ true
 offset-from row o some few = and_from _ _ (lt-ltb 0 o some) (le-leb o row.capacity few)
@@ -37,18 +46,18 @@ offset-from row o some few = and_from _ _ (lt-ltb 0 o some) (le-leb o row.capaci
 pub offset-parts : (row : RowView) (o : ℕ) → has_offset row o ≡ true → (0 < o) × (o ≤ row.capacity)
 offset-parts row o is = let both = and_parts _ _ is in (ltb-true 0 o both.0, leb-true o row.capacity both.1)
 
-pub entry-from : (buffers words w r : ℕ) → is_width w ≡ true → buffer_of r < buffers → 0 < offset_of r → offset_of r ≤ capacity words w → IsEntry buffers words w r
-entry-from buffers words w r is inside first few =
+pub entry-from : (bits : ℕ) (buffers words w r : ℕ) → is_width w ≡ true → buffer_of bits r < buffers → 0 < offset_of bits r → offset_of bits r ≤ capacity words w → IsEntry bits buffers words w r
+entry-from bits buffers words w r is inside first few =
     let bounds = width-bounds w is in
-    let more : suc (offset_of r) ≤ words / w = omega arith in
-    let wide : suc (offset_of r) * w ≤ words / w * w = mul-le-mul_right w more in
+    let more : suc (offset_of bits r) ≤ words / w = omega arith in
+    let wide : suc (offset_of bits r) * w ≤ words / w * w = mul-le-mul_right w more in
     let low : words / w * w ≤ words = div-mul-le_self words w in
-    record { inside = inside; wide = omega arith; first = first; last = omega (arith, suc-mul (offset_of r) w) }
+    record { inside = inside; wide = omega arith; first = first; last = omega (arith, suc-mul (offset_of bits r) w) }
 
-pub entry-offset : (buffers words w r : ℕ) → IsEntry buffers words w r → offset_of r ≤ capacity words w
-entry-offset buffers words w r e = elim (cases_lt (offset_of r) (words / w)) [
+pub entry-offset : (bits : ℕ) (buffers words w r : ℕ) → IsEntry bits buffers words w r → offset_of bits r ≤ capacity words w
+entry-offset bits buffers words w r e = elim (cases_lt (offset_of bits r) (words / w)) [
   | inl h ↦ (let first = e.first in omega arith)
-  | inr h ↦ (let wide : (words / w) * w ≤ offset_of r * w = mul-le-mul_right w h in
+  | inr h ↦ (let wide : (words / w) * w ≤ offset_of bits r * w = mul-le-mul_right w h in
       let last = e.last in
       let some = e.wide in
       let is : words / w * w + words % w ≡ words = div-add-mod' words w in
@@ -63,42 +72,21 @@ number-div cap k o some few = div-mul-add k cap (o - 1) (omega arith)
 pub number-mod : (cap k o : ℕ) → 0 < o → o ≤ cap → (k * cap + (o - 1)) % cap ≡ o - 1
 number-mod cap k o some few = mod-mul-add k cap (o - 1) (omega arith)
 
-pub packed-buffer : (o b : ℕ) → b < 1024 → buffer_of (packed o b) ≡ b
-packed-buffer o b low = mod-mul-add o 1024 b low
-
-pub packed-offset : (o b : ℕ) → b < 1024 → offset_of (packed o b) ≡ o
-packed-offset o b low = div-mul-add o 1024 b low
-
-pub packed-same : (r : ℕ) → packed (offset_of r) (buffer_of r) ≡ r
-packed-same r = div-add-mod' r 1024
-
 -- the number of an entry names that entry
-pub entry-number : (row : RowView) (k r : ℕ) → has_offset row (offset_of r) ≡ true → get_or row.buffers k 0 ≡ buffer_of r
-    → entry_in row (number_in row k (offset_of r)) ≡ r
-entry-number row k r is same =
-    let parts = offset-parts row (offset_of r) is in
-    let high = number-div row.capacity k (offset_of r) parts.0 parts.1 in
-    let low = number-mod row.capacity k (offset_of r) parts.0 parts.1 in
-    let offset : number_in row k (offset_of r) % row.capacity + 1 ≡ offset_of r = omega arith in
-    ap (λ o. packed o (get_or row.buffers (number_in row k (offset_of r) / row.capacity) 0)) offset
-    ∙ ap (λ i. packed (offset_of r) (get_or row.buffers i 0)) high ∙ ap (λ b. packed (offset_of r) b) same ∙ packed-same r
+pub entry-number : (bits : ℕ) (row : RowView) (k r : ℕ) → has_offset row (offset_of bits r) ≡ true → get_or row.buffers k 0 ≡ buffer_of bits r
+    → entry_in bits row (number_in row k (offset_of bits r)) ≡ r
+entry-number bits row k r is same =
+    let parts = offset-parts row (offset_of bits r) is in
+    let high = number-div row.capacity k (offset_of bits r) parts.0 parts.1 in
+    let low = number-mod row.capacity k (offset_of bits r) parts.0 parts.1 in
+    let offset : number_in row k (offset_of bits r) % row.capacity + 1 ≡ offset_of bits r = omega arith in
+    ap (λ o. packed bits o (get_or row.buffers (number_in row k (offset_of bits r) / row.capacity) 0)) offset
+    ∙ ap (λ i. packed bits (offset_of bits r) (get_or row.buffers i 0)) high ∙ ap (λ b. packed bits (offset_of bits r) b) same ∙ packed-same bits r
 
 -- what is at each place of a list of which one is another, or that has one more
 pub record Puts (old : List State) (x : ℕ) (s : State) (new : List State) : Type 0 where
   pub is : slice_get new x ≡ Some s
   pub others : (n : ℕ) → n ≢ x → slice_get new n ≡ slice_get old n
-
-set-is : (xs : List State) (x : ℕ) (s : State) → x < length xs → slice_get (set xs x s) x ≡ Some s
-set-is [] x s below = absurd (omega arith)
-set-is (y ∷ ys) zero s below = refl
-set-is (y ∷ ys) (suc x) s below = set-is ys x s (omega arith)
-
-set-others : (xs : List State) (x : ℕ) (s : State) (n : ℕ) → n ≢ x → slice_get (set xs x s) n ≡ slice_get xs n
-set-others [] x s n ne = refl
-set-others (y ∷ ys) zero s zero ne = absurd (ne refl)
-set-others (y ∷ ys) zero s (suc n) ne = refl
-set-others (y ∷ ys) (suc x) s zero ne = refl
-set-others (y ∷ ys) (suc x) s (suc n) ne = set-others ys x s n (λ e. ne (ap suc e))
 
 snoc-is : (xs : List State) (s : State) → slice_get (xs ++ s ∷ []) (length xs) ≡ Some s
 snoc-is [] s = refl
@@ -111,7 +99,7 @@ snoc-others (y ∷ ys) s zero ne = refl
 snoc-others (y ∷ ys) s (suc n) ne = snoc-others ys s n (λ e. ne (ap suc e))
 
 pub puts-set : (xs : List State) (x : ℕ) (s : State) → x < length xs → Puts xs x s (set xs x s)
-puts-set xs x s below = record { is = set-is xs x s below; others = λ n ne. set-others xs x s n ne }
+puts-set xs x s below = record { is = slice_get-set_same xs x s below; others = λ n ne. slice_get-set_other xs x n s ne }
 
 pub puts-snoc : (xs : List State) (x : ℕ) (s : State) → x ≡ length xs → Puts xs x s (xs ++ s ∷ [])
 puts-snoc xs x s same = record {

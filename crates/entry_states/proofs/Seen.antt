@@ -1,16 +1,16 @@
 -- What the rows say of all entries, as it computes.
-use Rattle.std.proofs.Common.{◌-◌, length}
+use Rattle.std.proofs.Common.{ℕ, ◌-◌, length}
 use Rattle.std.specs.List.{slice_get, count_by}
 use Rattle.entry_ref.specs.References.{buffer_of, offset_of}
 use Rattle.entry_states.specs.Entries.{EntriesView, is_let_go, is_made}
 use Rattle.entry_states.specs.Rows.{RowsView, row_at, slot_at, state_in, spare_in}
 
-abbrev pub entries_in : RowsView → EntriesView
-entries_in v = record {
+abbrev pub entries_in : ℕ → RowsView → EntriesView
+entries_in bits v = record {
   buffers = length v.slots;
   words = v.words;
   width = λ b. (slot_at v.slots b).width;
-  state = λ r. state_in (row_at v.rows (slot_at v.slots (buffer_of r)).width) (slot_at v.slots (buffer_of r)).rank (offset_of r);
+  state = λ r. state_in (row_at v.rows (slot_at v.slots (buffer_of bits r)).width) (slot_at v.slots (buffer_of bits r)).rank (offset_of bits r);
   made = λ w. (row_at v.rows w).shelf.made;
   spare = λ w. spare_in (row_at v.rows w);
   count = λ w. length (row_at v.rows w).buffers;

@@ -5,13 +5,13 @@ use Rattle.std.proofs.Math.ListN.{length-set}
 use Rattle.std.proofs.lemmas.Bool.{cases_lt, cases_eq, eq-eqb, ne_eqb}
 use Rattle.std.proofs.lemmas.Option.{slice_get-get_or, slice_get_past}
 use Rattle.entry_ref.specs.References.{buffer_of, offset_of}
-use Rattle.store_api.specs.Ledgers.{is_width, counted}
+use Rattle.store_api.specs.Ledgers.{is_width, one_more}
 use Rattle.entry_shelf.specs.declared.state.State.{State}
 use Rattle.entry_shelf.specs.declared.state.State.TheVariants.{Free, Returned, Made, InUse, LetGo, DroppedNow, Dropped}
 use Rattle.entry_shelf.specs.States.{ShelfView, is_free, state_at, with_made, IsOpen, spare_of}
 use Rattle.entry_states.specs.declared.slot.Slot.{Slot}
 use Rattle.entry_states.specs.Entries.{is_made, is_let_go, is_open_state, is_free_state, one, made_at, CanTake}
-use Rattle.entry_states.specs.Rows.{RowView, RowsView, row_at, slot_at, number_in, entry_in, state_in, spare_in, IsKept}
+use Rattle.entry_states.specs.Rows.{RowView, RowsView, row_at, slot_at, number_in, entry_in, state_in, spare_in, AreRows}
 use Rattle.entry_states.proofs.Seen.{entries_in}
 use Rattle.entry_states.proofs.Places.{row-field, row-same, width-bounds}
 use Rattle.entry_states.proofs.Numbers.{Puts, puts-set, puts-snoc, count-set, count-snoc, count-none, entry-from}
@@ -92,17 +92,17 @@ takes n shelf x room fits is = elim (cases_eq x (length shelf.states)) [
 ]
 
 -- where no width is ready, a row has room for its buffers alone
-pub idle-room : (v : RowsView) → IsKept v → (w : ℕ) → is_width w ≡ true → v.ready ≡ 0
+pub idle-room : (bits : ℕ) (v : RowsView) → AreRows bits v → (w : ℕ) → is_width w ≡ true → v.ready ≡ 0
     → (row_at v.rows w).shelf.room ≡ length (row_at v.rows w).buffers * (row_at v.rows w).capacity
-idle-room v kept w is idle =
+idle-room bits v kept w is idle =
     let wide = (width-bounds w is).0 in
     let none : one (eqb v.ready w) ≡ 0 = ap one (ne_eqb v.ready w (λ e. absurd (omega arith))) in
     let row = row_at v.rows w in
     (kept.each_row w is).room ∙ ap (λ n. (length row.buffers + n) * row.capacity) none ∙ ap (λ n. n * row.capacity) (omega arith)
 
-pub idle-spare : (v : RowsView) → IsKept v → (w : ℕ) → is_width w ≡ true → v.ready ≡ 0 → spare_of (row_at v.rows w).shelf ≡ spare_in (row_at v.rows w)
-idle-spare v kept w is idle =
-    ap (λ n. count_by is_free (row_at v.rows w).shelf.states + (n - length (row_at v.rows w).shelf.states)) (idle-room v kept w is idle)
+pub idle-spare : (bits : ℕ) (v : RowsView) → AreRows bits v → (w : ℕ) → is_width w ≡ true → v.ready ≡ 0 → spare_of (row_at v.rows w).shelf ≡ spare_in (row_at v.rows w)
+idle-spare bits v kept w is idle =
+    ap (λ n. count_by is_free (row_at v.rows w).shelf.states + (n - length (row_at v.rows w).shelf.states)) (idle-room bits v kept w is idle)
 
 open-below : (row : RowView) (x : ℕ) → row.shelf.room ≡ length row.buffers * row.capacity → length row.shelf.states ≤ length row.buffers * row.capacity → IsOpen row.shelf x
     → x < length row.buffers * row.capacity
@@ -115,40 +115,40 @@ open-below row x room fits is = elim (cases_eq x (length row.shelf.states)) [
 abbrev pub made_row : RowView → ℕ → RowView
 made_row row x = record row { shelf = with_made row.shelf x }
 
-counted-high : (n m : ℕ) → m ≤ n + 1 → m < 4294967296 → m ≤ counted n
-counted-high n m few low = omega arith
+one_more-high : (n m : ℕ) → m ≤ n + 1 → m < 4294967296 → m ≤ one_more n
+one_more-high n m few low = omega arith
 
-module _ (v : RowsView) (kept : IsKept v) (w : ℕ) (is : is_width w ≡ true) (idle : v.ready ≡ 0) (x : ℕ) (free : IsOpen (row_at v.rows w).shelf x) where
+module _ (bits : ℕ) (v : RowsView) (kept : AreRows bits v) (w : ℕ) (is : is_width w ≡ true) (idle : v.ready ≡ 0) (x : ℕ) (free : IsOpen (row_at v.rows w).shelf x) where
   all : ℕ
   all = length (row_at v.rows w).buffers * (row_at v.rows w).capacity
 
   pub below : x < length (row_at v.rows w).buffers * (row_at v.rows w).capacity
-  below = open-below (row_at v.rows w) x (idle-room v kept w is idle) (kept.each_row w is).taken free
+  below = open-below (row_at v.rows w) x (idle-room bits v kept w is idle) (kept.each_row w is).taken free
 
   step : Takes (length (row_at v.rows w).buffers * (row_at v.rows w).capacity) (row_at v.rows w).shelf.states x (with_made (row_at v.rows w).shelf x).states
-  step = takes (length (row_at v.rows w).buffers * (row_at v.rows w).capacity) (row_at v.rows w).shelf x (idle-room v kept w is idle) (kept.each_row w is).taken free
+  step = takes (length (row_at v.rows w).buffers * (row_at v.rows w).capacity) (row_at v.rows w).shelf x (idle-room bits v kept w is idle) (kept.each_row w is).taken free
 
-  pub take-kept : IsKept (with_row v w (made_row (row_at v.rows w) x) v.ready)
+  pub take-kept : AreRows bits (with_row v w (made_row (row_at v.rows w) x) v.ready)
   take-kept =
       let row = kept.each_row w is in
       let t = step in
-      let few = few-entries v kept w is in
+      let few = few-entries bits v kept w is in
       let full = row.full in
       let made = row.made in
       let low = t.low in
       let high = t.high in
       let within = t.within in
-      kept-stays v kept w is (made_row (row_at v.rows w) x) refl (record {
+      kept-stays bits v kept w is (made_row (row_at v.rows w) x) refl (record {
         size = row.size;
         room = row.room;
         taken = within;
         full = omega arith;
-        made = counted-high (row_at v.rows w).shelf.made (length (with_made (row_at v.rows w).shelf x).states) (omega arith) (omega arith);
+        made = one_more-high (row_at v.rows w).shelf.made (length (with_made (row_at v.rows w).shelf x).states) (omega arith) (omega arith);
         few = row.few;
         member = row.member;
       })
 
-  pub take-made : entries_in (with_row v w (made_row (row_at v.rows w) x) v.ready) ≡ made_at (entries_in v) w (entry_in (row_at v.rows w) x)
+  pub take-made : entries_in bits (with_row v w (made_row (row_at v.rows w) x) v.ready) ≡ made_at (entries_in bits v) w (entry_in bits (row_at v.rows w) x)
   take-made =
       let row = row_at v.rows w in
       let new = made_row row x in
@@ -158,8 +158,8 @@ module _ (v : RowsView) (kept : IsKept v) (w : ℕ) (is : is_width w ≡ true) (
         buffers = length v.slots;
         words = v.words;
         width = λ b. (slot_at v.slots b).width;
-        state = λ r. state-put v kept w is x below Made new refl t.puts r i;
-        made = λ u. row-field (λ (n : RowView). n.shelf.made) v.rows new w u (counted row.shelf.made) kept.eleven is refl i;
+        state = λ r. state-put bits v kept w is x below Made new refl t.puts r i;
+        made = λ u. row-field (λ (n : RowView). n.shelf.made) v.rows new w u (one_more row.shelf.made) kept.eleven is refl i;
         spare = λ u. row-field spare_in v.rows new w u (spare_in row - 1) kept.eleven is spare i;
         count = λ u. row-same (λ (n : RowView). length n.buffers) v.rows new w u kept.eleven is refl i;
         filled = λ u. row-same (λ (n : RowView). slice_get n.buffers (length n.buffers - 1)) v.rows new w u kept.eleven is refl i;
@@ -168,11 +168,11 @@ module _ (v : RowsView) (kept : IsKept v) (w : ℕ) (is : is_width w ≡ true) (
         ready = v.ready;
       }
 
-  state-here : (entries_in v).state (entry_in (row_at v.rows w) x) ≡ slice_get (row_at v.rows w).shelf.states x
+  state-here : (entries_in bits v).state (entry_in bits (row_at v.rows w) x) ≡ slice_get (row_at v.rows w).shelf.states x
   state-here =
-      let at = stands-at v kept w is x below in
-      state-by v.rows v.slots (entry_in (row_at v.rows w) x) w (x / (row_at v.rows w).capacity) at.slot
-      ∙ state_in-there (row_at v.rows w) (x / (row_at v.rows w).capacity) (offset_of (entry_in (row_at v.rows w) x)) x at.offset at.number
+      let at = stands-at bits v kept w is x below in
+      state-by bits v.rows v.slots (entry_in bits (row_at v.rows w) x) w (x / (row_at v.rows w).capacity) at.slot
+      ∙ state_in-there (row_at v.rows w) (x / (row_at v.rows w).capacity) (offset_of bits (entry_in bits (row_at v.rows w) x)) x at.offset at.number
 
   open-here : is_open_state (slice_get (row_at v.rows w).shelf.states x) ≡ true
   open-here = elim (cases_lt x (length (row_at v.rows w).shelf.states)) [
@@ -196,16 +196,16 @@ module _ (v : RowsView) (kept : IsKept v) (w : ℕ) (is : is_width w ≡ true) (
       by_state None e = refl
       by_state (Some s) e = count-none is_free row.shelf.states (number_in row k o) s none (sym (state_in-there row k o (number_in row k o) (some-offset row k o s e) refl) ∙ e)
 
-  pub take-open : CanTake (entries_in v) w (entry_in (row_at v.rows w) x)
+  pub take-open : CanTake bits (entries_in bits v) w (entry_in bits (row_at v.rows w) x)
   take-open =
-      let at = stands-at v kept w is x below in
+      let at = stands-at bits v kept w is x below in
       let size = (kept.each_row w is).size in
       let last = at.last in
       record {
-        entry = entry-from (length v.slots) v.words w (entry_in (row_at v.rows w) x) is at.inside at.first (omega (arith, last, size));
+        entry = entry-from bits (length v.slots) v.words w (entry_in bits (row_at v.rows w) x) is at.inside at.first (omega (arith, last, size));
         of_width = ap (λ (s : Slot). s.width) at.slot;
         is_open = ap is_open_state state-here ∙ open-here;
         free_first = λ untaken q of_width.
-            subst (λ u. is_free_state (state_in (row_at v.rows u) (slot_at v.slots (buffer_of q)).rank (offset_of q)) ≡ false) (sym of_width)
-            (not-free (row_at v.rows w) (slot_at v.slots (buffer_of q)).rank (offset_of q) (none-free (sym state-here ∙ untaken)));
+            subst (λ u. is_free_state (state_in (row_at v.rows u) (slot_at v.slots (buffer_of bits q)).rank (offset_of bits q)) ≡ false) (sym of_width)
+            (not-free (row_at v.rows w) (slot_at v.slots (buffer_of bits q)).rank (offset_of bits q) (none-free (sym state-here ∙ untaken)));
       }

@@ -3,7 +3,7 @@ use Rattle.std.specs.Prelude.{◌≡◌, ℕ, ◌+◌, ◌-◌, ◌*◌, ◌/◌
 use Rattle.std.specs.Option.{option_map}
 use Rattle.entry_ref.specs.References.{buffer_of}
 use Rattle.image_base.specs.Places.{IsEntry}
-use Rattle.store_api.specs.Ledgers.{is_width, capacity, with_count, with_filled, counted}
+use Rattle.store_api.specs.Ledgers.{is_width, capacity, with_count, with_filled, one_more}
 use Rattle.entry_shelf.specs.declared.state.State.{State}
 use Rattle.entry_shelf.specs.declared.state.State.TheVariants.{Free, Returned, Made, InUse, LetGo, DroppedNow, Dropped}
 use Rattle.entry_shelf.specs.States.{is_free, dropped, accepted, undone}
@@ -87,17 +87,17 @@ new_entries buffers words = record {
 abbrev pub made_at : EntriesView → ℕ → ℕ → EntriesView
 made_at e width r = record e {
   state = with_state e.state r Made;
-  made = with_count e.made width (counted (e.made width));
+  made = with_count e.made width (one_more (e.made width));
   spare = with_count e.spare width (e.spare width - 1);
   fresh = with_count e.fresh width (e.fresh width + 1);
 }
 
 -- a make can take this entry: a free one, or where none of the width is free the next
-pub record CanTake (e : EntriesView) (width r : ℕ) : Type 0 where
-  pub entry : IsEntry e.buffers e.words width r
-  pub of_width : e.width (buffer_of r) ≡ width
+pub record CanTake (bits : ℕ) (e : EntriesView) (width r : ℕ) : Type 0 where
+  pub entry : IsEntry bits e.buffers e.words width r
+  pub of_width : e.width (buffer_of bits r) ≡ width
   pub is_open : is_open_state (e.state r) ≡ true
-  pub free_first : e.state r ≡ None → (q : ℕ) → e.width (buffer_of q) ≡ width → is_free_state (e.state q) ≡ false
+  pub free_first : e.state r ≡ None → (q : ℕ) → e.width (buffer_of bits q) ≡ width → is_free_state (e.state q) ≡ false
 
 -- a buffer is for entries of this width
 abbrev pub with_buffer : EntriesView → ℕ → ℕ → EntriesView
@@ -110,9 +110,9 @@ with_buffer e b width = record e {
 }
 
 -- an entry in use is dropped, where `last` is the number of the last commit
-abbrev pub dropped_at : EntriesView → ℕ → ℕ → State → EntriesView
-dropped_at e last r s =
-    let width = e.width (buffer_of r) in
+abbrev pub dropped_at : ℕ → EntriesView → ℕ → ℕ → State → EntriesView
+dropped_at bits e last r s =
+    let width = e.width (buffer_of bits r) in
     record e {
       state = with_state e.state r (dropped last s);
       spare = with_count e.spare width (e.spare width + one (is_free (dropped last s)));
@@ -139,12 +139,12 @@ undone_at e last = record e {
 }
 
 -- what is always so
-pub record IsGood (e : EntriesView) : Type 0 where
-  pub entries : (r : ℕ) (s : State) → e.state r ≡ Some s → IsEntry e.buffers e.words (e.width (buffer_of r)) r
+pub record IsGood (bits : ℕ) (e : EntriesView) : Type 0 where
+  pub entries : (r : ℕ) (s : State) → e.state r ≡ Some s → IsEntry bits e.buffers e.words (e.width (buffer_of bits r)) r
   pub widths : (b : ℕ) → 0 < e.width b → is_width (e.width b) ≡ true
-  pub spares : (r : ℕ) → IsEntry e.buffers e.words (e.width (buffer_of r)) r → is_open_state (e.state r) ≡ true
-      → 0 < e.spare (e.width (buffer_of r))
-  pub filled : (r : ℕ) → IsEntry e.buffers e.words (e.width (buffer_of r)) r → e.state r ≡ None
-      → e.filled (e.width (buffer_of r)) ≡ Some (buffer_of r)
+  pub spares : (r : ℕ) → IsEntry bits e.buffers e.words (e.width (buffer_of bits r)) r → is_open_state (e.state r) ≡ true
+      → 0 < e.spare (e.width (buffer_of bits r))
+  pub filled : (r : ℕ) → IsEntry bits e.buffers e.words (e.width (buffer_of bits r)) r → e.state r ≡ None
+      → e.filled (e.width (buffer_of bits r)) ≡ Some (buffer_of bits r)
   pub few : (w : ℕ) → is_width w ≡ true → e.count w * capacity e.words w ≤ e.made w + e.spare w
   pub bound : (w : ℕ) → is_width w ≡ true → e.count w ≤ 1 + e.made w / capacity e.words w

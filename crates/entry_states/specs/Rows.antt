@@ -2,7 +2,7 @@
 -- buffer in the order in which it got them, and in each by offset, behind the reserved offset 0.
 use Rattle.std.specs.Prelude.{◌≡◌, ℕ, suc, ◌+◌, ◌-◌, ◌*◌, ◌/◌, ◌%◌, ◌<◌, ◌≤◌, Bool, true, false, ◌&&◌, nat_eq, nat_lt, nat_le, if◌then◌else◌, Option, None, Some, List, [], ◌∷◌, length, slice_index, slice_index_or, count_by}
 use Rattle.std.specs.List.{slice_get}
-use Rattle.entry_ref.specs.References.{buffer_of, offset_of, packed}
+use Rattle.entry_ref.specs.References.{buffer_of, offset_of, packed, buffer_limit, offset_limit}
 use Rattle.store_api.specs.Ledgers.{widths, is_width, capacity}
 use Rattle.entry_shelf.specs.declared.state.State.{State}
 use Rattle.entry_shelf.specs.States.{ShelfView, is_free, is_used}
@@ -44,8 +44,8 @@ abbrev pub number_in : RowView → ℕ → ℕ → ℕ
 number_in row rank offset = rank * row.capacity + (offset - 1)
 
 -- the entry of a number
-abbrev pub entry_in : RowView → ℕ → ℕ
-entry_in row x = packed (x % row.capacity + 1) (slice_index row.buffers (x / row.capacity))
+abbrev pub entry_in : ℕ → RowView → ℕ → ℕ
+entry_in bits row x = packed bits (x % row.capacity + 1) (slice_index row.buffers (x / row.capacity))
 
 -- the state of an entry, if it was taken
 abbrev pub state_in : RowView → ℕ → ℕ → Option State
@@ -72,12 +72,12 @@ pub record RowsView : Type 0 where
   pub ready : ℕ
 
 -- what the rows say of all entries
-unfoldable pub entries_of : RowsView → EntriesView
-entries_of v = record {
+unfoldable pub entries_of : ℕ → RowsView → EntriesView
+entries_of bits v = record {
   buffers = length v.slots;
   words = v.words;
   width = λ b. (slot_at v.slots b).width;
-  state = λ r. state_in (row_at v.rows (slot_at v.slots (buffer_of r)).width) (slot_at v.slots (buffer_of r)).rank (offset_of r);
+  state = λ r. state_in (row_at v.rows (slot_at v.slots (buffer_of bits r)).width) (slot_at v.slots (buffer_of bits r)).rank (offset_of bits r);
   made = λ w. (row_at v.rows w).shelf.made;
   spare = λ w. spare_in (row_at v.rows w);
   count = λ w. length (row_at v.rows w).buffers;
@@ -105,11 +105,12 @@ pub record IsSlot (rows : List RowView) (b : ℕ) (slot : Slot) : Type 0 where
   pub below : slot.rank < length (row_at rows slot.width).buffers
   pub is : slice_index (row_at rows slot.width).buffers slot.rank ≡ b
 
-pub record IsKept (v : RowsView) : Type 0 where
-  pub some_buffers : 1 ≤ length v.slots
-  pub few_buffers : length v.slots ≤ 1023
+pub record AreRows (bits : ℕ) (v : RowsView) : Type 0 where
+  pub few_buffers : length v.slots < buffer_limit bits
   pub some_words : 8192 ≤ v.words
   pub few_words : v.words ≤ 65536
+  pub offsets : v.words ≤ offset_limit bits
+  pub product : length v.slots * v.words ≤ 67108864
   pub eleven : length v.rows ≡ 11
   pub each_row : (w : ℕ) → is_width w ≡ true → IsRow v.words v.slots v.ready w (row_at v.rows w)
   pub each_slot : (b : ℕ) → 0 < (slot_at v.slots b).width → IsSlot v.rows b (slot_at v.slots b)

@@ -1,5 +1,5 @@
-ghost use Rattle.std.specs.Prelude.{◌≡◌, ◌↔◌, ◌<◌, ◌≤◌, ◌-◌, ◌/◌, ℕ, true, map, replicate, Some, IsNone, IfSome, IfNone, IfOk, OnOk, OnErr};
-ghost use Rattle.entry_ref.specs.References.{buffer_of};
+ghost use Rattle.std.specs.Prelude.{◌≡◌, ◌↔◌, ◌<◌, ◌≤◌, ◌-◌, ◌*◌, ◌/◌, ℕ, true, map, replicate, Some, IsNone, IfSome, IfNone, IfOk, OnOk, OnErr};
+ghost use Rattle.entry_ref.specs.References.{buffer_limit, offset_limit};
 ghost use Rattle.entry_states.specs.Rows.{row_of, slot_at, new_row};
 ghost use Rattle.store_api.specs.Ledgers.{is_width, widths};
 
@@ -12,21 +12,21 @@ use std::marker::Model;
 
 /// The states of all entries: a row for each width.
 #[derive(Drop)]
-pub struct Entries {
+pub struct Entries<const OFFSET_BITS: u32> {
     words: u32,
     rows: Vec<Row>,
     slots: Vec<Slot>,
     ready: u32,
 }
 
-impl Model for Entries {
-    ghost use Rattle.entry_states.specs.Rows.{RowsView, IsKept};
+impl<const OFFSET_BITS: u32> Model for Entries<OFFSET_BITS> {
+    ghost use Rattle.entry_states.specs.Rows.{RowsView, AreRows};
 
     ghost Value = { RowsView };
 
     ghost view = { λ e. record { words = e.words; rows = e.rows.items; slots = e.slots.items; ready = e.ready } };
 
-    ghost invariant = { λ e. IsKept (record { words = e.words; rows = e.rows.items; slots = e.slots.items; ready = e.ready }) };
+    ghost invariant = { λ e. AreRows OFFSET_BITS (record { words = e.words; rows = e.rows.items; slots = e.slots.items; ready = e.ready }) };
 }
 
 /// The place of a width's row.
@@ -81,18 +81,19 @@ fn new_slots(alloc: Global, buffers: u32) -> Result<Vec<Slot>, AllocError>
     vec![in alloc; Slot { width: 0, rank: 0 }; buffers as usize]
 }
 
-impl Entries {
+impl<const OFFSET_BITS: u32> Entries<OFFSET_BITS> {
     ghost use Rattle.entry_states.specs.Entries.{new_entries, CanTake, IsGood, made_at, with_buffer, dropped_at, accepted_at, undone_at};
     ghost use Rattle.entry_states.specs.Rows.{entries_of, is_used_state};
 
-    /// So many buffers of so many words, none of which has entries.
+    /// `buffers` buffers of `words` words each, none of which has entries.
     pub fn create(alloc: Global, buffers: u32, words: u32) -> Result<Self, AllocError>
-        requires some_buffers { 1 ≤ buffers }
-        requires few_buffers { buffers ≤ 1023 }
+        requires few_buffers { buffers < buffer_limit OFFSET_BITS }
         requires some_words { 8192 ≤ words }
         requires few_words { words ≤ 65536 }
-        ensures new { IfOk result (λ e. entries_of e ≡ new_entries buffers words) }
-        ensures good { IfOk result (λ e. IsGood (entries_of e)) }
+        requires offsets { words ≤ offset_limit OFFSET_BITS }
+        requires product { buffers * words ≤ 67108864 }
+        ensures new { IfOk result (λ e. entries_of OFFSET_BITS e ≡ new_entries buffers words) }
+        ensures good { IfOk result (λ e. IsGood OFFSET_BITS (entries_of OFFSET_BITS e)) }
     {
         let rows = new_rows(alloc, words)?;
         let slots = new_slots(alloc, buffers)?;
@@ -107,15 +108,15 @@ impl Entries {
     /// The width of a buffer's entries, 0 where it has none.
     #[tactic(auto, unfolding(crate::specs::Rows::entries_of))]
     pub fn width(&self, buffer: u32) -> u32
-        ensures { result ≡ (entries_of self.now).width buffer }
+        ensures { result ≡ (entries_of OFFSET_BITS self.now).width buffer }
     {
         slot_of(&self.slots, buffer).width
     }
 
     /// The state of an entry; None where it was not taken, or where there is no such entry.
     #[tactic(auto, unfolding(crate::specs::Rows::entries_of))]
-    pub fn state(&self, entry: EntryRef) -> Option<State>
-        ensures { result ≡ (entries_of self.now).state entry }
+    pub fn state(&self, entry: EntryRef<OFFSET_BITS>) -> Option<State>
+        ensures { result ≡ (entries_of OFFSET_BITS self.now).state entry.entry }
     {
         let slot = slot_of(&self.slots, entry.buffer());
         if slot.width == 0 {
@@ -129,33 +130,34 @@ impl Entries {
     #[tactic(auto, unfolding(crate::specs::Rows::entries_of))]
     pub fn made(&self, width: u32) -> u64
         requires { is_width width ≡ true }
-        ensures { result ≡ (entries_of self.now).made width }
+        ensures { result ≡ (entries_of OFFSET_BITS self.now).made width }
     {
         let row = &self.rows[place_of(width)];
         row.made()
     }
 
     /// Makes an entry: a free one of the width, else the next offset of the buffer that is filled.
-    pub fn take(&mut self, width: u32) -> Option<EntryRef>
+    pub fn take(&mut self, width: u32) -> Option<EntryRef<OFFSET_BITS>>
         requires width { is_width width ≡ true }
-        requires idle { (entries_of self.old).ready ≡ 0 }
-        ensures none { IsNone result ↔ ((entries_of self.old).spare width ≡ 0) }
+        requires idle { (entries_of OFFSET_BITS self.old).ready ≡ 0 }
+        ensures none { IsNone result ↔ ((entries_of OFFSET_BITS self.old).spare width ≡ 0) }
         ensures left { IfNone result (self.new ≡ self.old) }
-        ensures open { IfSome result (CanTake (entries_of self.old) width) }
-        ensures made { IfSome result (λ r. entries_of self.new ≡ made_at (entries_of self.old) width r) }
-        ensures good { IsGood (entries_of self.new) }
+        ensures open { IfSome result (CanTake OFFSET_BITS (entries_of OFFSET_BITS self.old) width) }
+        ensures made { IfSome result (λ r. entries_of OFFSET_BITS self.new ≡ made_at (entries_of OFFSET_BITS self.old) width r) }
+        ensures good { IsGood OFFSET_BITS (entries_of OFFSET_BITS self.new) }
     {
         let row = &mut self.rows[place_of(width)];
         let number = row.take()?;
-        Some(row.entry(number))
+        let (offset, buffer) = row.place(number);
+        Some(EntryRef::new(offset, buffer))
     }
 
     /// Drops an entry in use. `last` is the number of the last commit.
-    pub fn drop_entry(&mut self, entry: EntryRef, last: u32)
-        requires used { is_used_state ((entries_of self.old).state entry) ≡ true }
-        ensures dropped { (s : State) → (entries_of self.old).state entry ≡ Some s
-            → entries_of self.new ≡ dropped_at (entries_of self.old) last entry s }
-        ensures good { IsGood (entries_of self.new) }
+    pub fn drop_entry(&mut self, entry: EntryRef<OFFSET_BITS>, last: u32)
+        requires used { is_used_state ((entries_of OFFSET_BITS self.old).state entry) ≡ true }
+        ensures dropped { (s : State) → (entries_of OFFSET_BITS self.old).state entry.entry ≡ Some s
+            → entries_of OFFSET_BITS self.new ≡ dropped_at OFFSET_BITS (entries_of OFFSET_BITS self.old) last entry.entry s }
+        ensures good { IsGood OFFSET_BITS (entries_of OFFSET_BITS self.new) }
     {
         let slot = slot_of(&self.slots, entry.buffer());
         let row = &mut self.rows[place_of(slot.width)];
@@ -164,8 +166,8 @@ impl Entries {
 
     /// Ends the unit and keeps what it did.
     pub fn accept(&mut self, last: u32)
-        ensures accepted { entries_of self.new ≡ accepted_at (entries_of self.old) last }
-        ensures good { IsGood (entries_of self.new) }
+        ensures accepted { entries_of OFFSET_BITS self.new ≡ accepted_at (entries_of OFFSET_BITS self.old) last }
+        ensures good { IsGood OFFSET_BITS (entries_of OFFSET_BITS self.new) }
     {
         for row in self.rows.iter_mut() {
             row.accept(last);
@@ -174,8 +176,8 @@ impl Entries {
 
     /// Ends the unit and takes back what it did. What it made is free.
     pub fn undo(&mut self, last: u32)
-        ensures undone { entries_of self.new ≡ undone_at (entries_of self.old) last }
-        ensures good { IsGood (entries_of self.new) }
+        ensures undone { entries_of OFFSET_BITS self.new ≡ undone_at (entries_of OFFSET_BITS self.old) last }
+        ensures good { IsGood OFFSET_BITS (entries_of OFFSET_BITS self.new) }
     {
         for row in self.rows.iter_mut() {
             row.undo(last);
@@ -185,10 +187,10 @@ impl Entries {
     /// Makes room for one buffer more of this width.
     pub fn reserve(&mut self, width: u32) -> Result<(), AllocError>
         requires width { is_width width ≡ true }
-        requires idle { (entries_of self.old).ready ≡ 0 }
-        ensures ok { OnOk result (entries_of self.new ≡ record (entries_of self.old) { ready = width }) }
+        requires idle { (entries_of OFFSET_BITS self.old).ready ≡ 0 }
+        ensures ok { OnOk result (entries_of OFFSET_BITS self.new ≡ record (entries_of OFFSET_BITS self.old) { ready = width }) }
         ensures err { OnErr result (self.new ≡ self.old) }
-        ensures good { IsGood (entries_of self.new) }
+        ensures good { IsGood OFFSET_BITS (entries_of OFFSET_BITS self.new) }
     {
         let row = &mut self.rows[place_of(width)];
         row.reserve()?;
@@ -198,13 +200,13 @@ impl Entries {
 
     /// Takes a buffer, for which there is room, for entries of this width. It is filled from now on.
     pub fn add_buffer(&mut self, buffer: u32, width: u32)
-        requires inside { buffer < (entries_of self.old).buffers }
-        requires unused { (entries_of self.old).width buffer ≡ 0 }
+        requires inside { buffer < (entries_of OFFSET_BITS self.old).buffers }
+        requires unused { (entries_of OFFSET_BITS self.old).width buffer ≡ 0 }
         requires width { is_width width ≡ true }
-        requires ready { (entries_of self.old).ready ≡ width }
-        requires spare { (entries_of self.old).spare width ≡ 0 }
-        ensures added { entries_of self.new ≡ with_buffer (entries_of self.old) buffer width }
-        ensures good { IsGood (entries_of self.new) }
+        requires ready { (entries_of OFFSET_BITS self.old).ready ≡ width }
+        requires spare { (entries_of OFFSET_BITS self.old).spare width ≡ 0 }
+        ensures added { entries_of OFFSET_BITS self.new ≡ with_buffer (entries_of OFFSET_BITS self.old) buffer width }
+        ensures good { IsGood OFFSET_BITS (entries_of OFFSET_BITS self.new) }
     {
         let row = &mut self.rows[place_of(width)];
         let rank = row.add_buffer(buffer);

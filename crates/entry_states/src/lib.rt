@@ -6,6 +6,3 @@ mod row;
 mod slot;
 
 pub use entries::Entries;
-
-#[cfg(test)]
-mod tests;

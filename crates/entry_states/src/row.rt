@@ -1,6 +1,5 @@
-ghost use Rattle.std.specs.Prelude.{◌≡◌, ◌≢◌, ◌↔◌, ◌<◌, ◌≤◌, ◌+◌, ◌*◌, ◌/◌, ◌^◌, [], ◌∷◌, ◌++◌, true, length, map, slice_index, slice_set, vec_len, vec_capacity, IsNone, IfSome, IfNone, OnOk, OnErr};
+ghost use Rattle.std.specs.Prelude.{◌≡◌, ◌≢◌, ◌↔◌, ◌<◌, ◌≤◌, ◌+◌, ◌*◌, ◌/◌, ◌%◌, ◌^◌, [], ◌∷◌, ◌++◌, true, length, map, slice_index, slice_set, vec_len, vec_capacity, IsNone, IfSome, IfNone, OnOk, OnErr};
 
-use entry_ref::EntryRef;
 use entry_shelf::{Shelf, State};
 use std::alloc::{AllocError, Global};
 use std::marker::Model;
@@ -26,9 +25,9 @@ impl Model for Row {
 
 impl Row {
     ghost use Rattle.entry_shelf.specs.States.{spare_of, IsOpen, with_made, state_at, dropped, accepted, undone};
-    ghost use Rattle.entry_states.specs.Rows.{new_row, number_in, entry_in, state_in, is_used_state, with_states};
+    ghost use Rattle.entry_states.specs.Rows.{new_row, number_in, state_in, is_used_state, with_states};
 
-    /// The row of entries of which a buffer has so many.
+    /// A row without buffers, each of which will have `capacity` entries.
     pub fn new(alloc: Global, capacity: u32) -> Self
         ensures { result ≡ new_row capacity }
     {
@@ -39,14 +38,13 @@ impl Row {
         }
     }
 
-    /// The entry of a number.
-    pub fn entry(&self, number: u32) -> EntryRef
-        requires below { number < length self.now.buffers * self.now.capacity }
-        requires buffer { slice_index self.now.buffers (number / self.now.capacity) < 1024 }
-        requires size { self.now.capacity < 2 ^ 16 }
-        ensures { result ≡ entry_in self.now number }
+    /// The offset and the buffer of an entry by its number.
+    pub fn place(&self, number: u32) -> (u32, u32)
+        requires { number < length self.now.buffers * self.now.capacity }
+        ensures offset { result.0 ≡ number % self.now.capacity + 1 }
+        ensures buffer { result.1 ≡ slice_index self.now.buffers (number / self.now.capacity) }
     {
-        EntryRef::new(
+        (
             number % self.capacity + 1,
             self.buffers[(number / self.capacity) as usize],
         )
@@ -54,8 +52,7 @@ impl Row {
 
     /// The state of an entry by its buffer's rank and its offset, None where it was not taken.
     pub fn state(&self, rank: u32, offset: u32) -> Option<State>
-        requires rank { rank < 1024 }
-        requires size { self.now.capacity < 2 ^ 16 }
+        requires { rank * self.now.capacity + self.now.capacity < 2 ^ 32 }
         ensures { result ≡ state_in self.now rank offset }
     {
         if offset == 0 || offset > self.capacity {
@@ -83,8 +80,7 @@ impl Row {
 
     /// Drops an entry in use. `last` is the number of the last commit.
     pub fn drop_entry(&mut self, rank: u32, offset: u32, last: u32)
-        requires rank { rank < 1024 }
-        requires size { self.old.capacity < 2 ^ 16 }
+        requires fits { rank * self.old.capacity + self.old.capacity < 2 ^ 32 }
         requires used { is_used_state (state_in self.old rank offset) ≡ true }
         ensures { self.new ≡ with_states self.old (slice_set self.old.shelf.states (number_in self.old rank offset)
             (dropped last (state_at self.old.shelf.states (number_in self.old rank offset)))) }
@@ -110,8 +106,7 @@ impl Row {
     /// Makes room for one buffer more.
     pub fn reserve(&mut self) -> Result<(), AllocError>
         requires room { self.old.shelf.room ≡ length self.old.buffers * self.old.capacity }
-        requires few { length self.old.buffers < 1024 }
-        requires size { self.old.capacity < 2 ^ 16 }
+        requires fits { length self.old.buffers * self.old.capacity + self.old.capacity < 2 ^ 32 }
         ensures ok { OnOk result (self.new ≡ record self.old {
           shelf = record self.old.shelf { room = self.old.shelf.room + self.old.capacity };
         }) }
@@ -125,7 +120,7 @@ impl Row {
     pub fn add_buffer(&mut self, buffer: u32) -> u32
         requires room { self.old.shelf.room ≡ (length self.old.buffers + 1) * self.old.capacity }
         requires size { 0 < self.old.capacity }
-        requires few { length self.old.buffers < 1024 }
+        requires few { length self.old.buffers < 2 ^ 32 }
         ensures rank { result ≡ length self.old.buffers }
         ensures added { self.new ≡ record self.old { buffers = self.old.buffers ++ buffer ∷ [] } }
     {

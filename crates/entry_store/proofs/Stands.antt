@@ -9,17 +9,17 @@ use Rattle.image_base.specs.Records.{Records, with_words}
 use Rattle.image_base.specs.Images.{words_at}
 use Rattle.arena_api.specs.Works.{WorkView, Buffer, active_width, last_image, last_tag}
 use Rattle.arena_api.specs.Calls.{InNoCommit, IsLowestFree, IsFresh, handed_out}
-use Rattle.store_api.specs.Classes.{Class, has_record, is_committed, is_uncommitted}
-use Rattle.store_api.specs.Ledgers.{with_count, counted}
+use Rattle.store_api.specs.Statuses.{Status, has_record, is_committed, is_uncommitted}
+use Rattle.store_api.specs.Ledgers.{with_count, one_more}
 use Rattle.entry_states.specs.Entries.{EntriesView, new_entries, with_buffer, IsGood, with_state, undone_at, dropped_at, made_at, CanTake, is_open_state}
-use Rattle.entry_store.specs.Standing.{Stands, class_by, class_of, is_up_to}
+use Rattle.entry_store.specs.Standing.{Stands, status_by, status_of, is_up_to}
 use Rattle.entry_store.proofs.Counts.{active_count-handed, active_count-free, free-width}
-use Rattle.entry_store.proofs.StateSteps.{IsWeaker, implied, weaker-same, with_state-at, undone-weaker, undone-up_to, undone-settled, dropped-weaker, dropped-up_to, free-class}
+use Rattle.entry_store.proofs.StateSteps.{IsWeaker, implied, weaker-same, with_state-at, undone-weaker, undone-up_to, undone-settled, dropped-weaker, dropped-up_to, free-status}
 
-module _ {H : Type 0} (work : WorkView H) (m : Records) (e : EntriesView) (unit : Bool) (last active : ℕ) (st : Stands work m e unit last active) where
+module _ {H : Type 0} (bits : ℕ) (work : WorkView H) (m : Records) (e : EntriesView) (unit : Bool) (last active : ℕ) (st : Stands bits work m e unit last active) where
   -- after an undo
-  undone-at : (q : ℕ) (o : Option State) → e.state q ≡ o → IsWeaker (class_of last (option_map (undone last) o)) (class_of last o)
-  undone-at q None is = weaker-same Class.unmade
+  undone-at : (q : ℕ) (o : Option State) → e.state q ≡ o → IsWeaker (status_of last (option_map (undone last) o)) (status_of last o)
+  undone-at q None is = weaker-same Status.unmade
   undone-at q (Some s) is = undone-weaker last s (st.up_to q s is)
 
   undone-state : (q : ℕ) (o : Option State) (s : State) → e.state q ≡ o → option_map (undone last) o ≡ Some s → (is_up_to last s ≡ true) × (is_touched s ≡ false)
@@ -28,7 +28,7 @@ module _ {H : Type 0} (work : WorkView H) (m : Records) (e : EntriesView) (unit 
       let e : undone last t ≡ s = same_Some (undone last t) s same in
       (subst (λ u. is_up_to last u ≡ true) e (undone-up_to last t (st.up_to q t is)), subst (λ u. is_touched u ≡ false) e (undone-settled last t))
 
-  pub stands-undone : IsGood (undone_at e last) → Stands work m (undone_at e last) false last active
+  pub stands-undone : IsGood bits (undone_at e last) → Stands bits work m (undone_at e last) false last active
   stands-undone good = record {
     good = good;
     buffers = st.buffers;
@@ -49,17 +49,17 @@ module _ {H : Type 0} (work : WorkView H) (m : Records) (e : EntriesView) (unit 
 
   -- after a drop
   module _ (r : ℕ) (s : State) (is : e.state r ≡ Some s) (used : is_used s ≡ true) (begun : unit ≡ true) where
-    dropped-at : (q : ℕ) → IsWeaker (class_of last (with_state e.state r (dropped last s) q)) (class_of last (e.state q))
+    dropped-at : (q : ℕ) → IsWeaker (status_of last (with_state e.state r (dropped last s) q)) (status_of last (e.state q))
     dropped-at q =
-        with_state-at (λ o. IsWeaker (class_of last o) (class_of last (e.state q))) e.state r (dropped last s) q
-        (λ same. subst (λ o. IsWeaker (class_by last (dropped last s)) (class_of last o)) (sym (ap e.state same ∙ is)) (dropped-weaker last s used)) (λ ne. weaker-same _)
+        with_state-at (λ o. IsWeaker (status_of last o) (status_of last (e.state q))) e.state r (dropped last s) q
+        (λ same. subst (λ o. IsWeaker (status_by last (dropped last s)) (status_of last o)) (sym (ap e.state same ∙ is)) (dropped-weaker last s used)) (λ ne. weaker-same _)
 
     dropped-state : (q : ℕ) (t : State) → with_state e.state r (dropped last s) q ≡ Some t → is_up_to last t ≡ true
     dropped-state q t =
         with_state-at (λ o. o ≡ Some t → is_up_to last t ≡ true) e.state r (dropped last s) q
         (λ same h. subst (λ u. is_up_to last u ≡ true) (same_Some (dropped last s) t h) (dropped-up_to last s (st.up_to r s is))) (λ ne h. st.up_to q t h)
 
-    pub stands-dropped : IsGood (dropped_at e last r s) → Stands work m (dropped_at e last r s) unit last active
+    pub stands-dropped : IsGood bits (dropped_at bits e last r s) → Stands bits work m (dropped_at bits e last r s) unit last active
     stands-dropped good = record {
       good = good;
       buffers = st.buffers;
@@ -79,30 +79,30 @@ module _ {H : Type 0} (work : WorkView H) (m : Records) (e : EntriesView) (unit 
     }
 
   -- after a make
-  module _ (width r : ℕ) (ws : List ℕ) (can : CanTake e width r) (some : 0 < length ws) (begun : unit ≡ true) where
-    open-uncommitted : (o : Option State) → is_open_state o ≡ true → is_uncommitted (class_of last o) ≡ true
+  module _ (width r : ℕ) (ws : List ℕ) (can : CanTake bits e width r) (some : 0 < length ws) (begun : unit ≡ true) where
+    open-uncommitted : (o : Option State) → is_open_state o ≡ true → is_uncommitted (status_of last o) ≡ true
     open-uncommitted None h = refl
-    open-uncommitted (Some s) h = ap is_uncommitted (free-class last s h)
+    open-uncommitted (Some s) h = ap is_uncommitted (free-status last s h)
 
-    put-there : (q : ℕ) → has_record (class_of last (with_state e.state r Made q)) ≡ true → 0 < length (with_words m r ws q)
+    put-there : (q : ℕ) → has_record (status_of last (with_state e.state r Made q)) ≡ true → 0 < length (with_words m r ws q)
     put-there q = elim (cases_eq q r) [
       | inl same ↦ (λ h. subst (λ xs. 0 < length xs) (sym (cond-true (eqb q r) ws (m q) (eq-eqb q r same))) some)
       | inr ne ↦
           (λ h. subst (λ xs. 0 < length xs) (sym (cond-false (eqb q r) ws (m q) (ne_eqb q r ne)))
-          (st.there q (subst (λ o. has_record (class_of last o) ≡ true) (cond-false (eqb q r) (Some Made) (e.state q) (ne_eqb q r ne)) h)))
+          (st.there q (subst (λ o. has_record (status_of last o) ≡ true) (cond-false (eqb q r) (Some Made) (e.state q) (ne_eqb q r ne)) h)))
     ]
 
-    put-committed : (q : ℕ) → is_committed (class_of last (with_state e.state r Made q)) ≡ true → with_words m r ws q ≡ words_at (last_image work.commits) q
+    put-committed : (q : ℕ) → is_committed (status_of last (with_state e.state r Made q)) ≡ true → with_words m r ws q ≡ words_at (last_image work.commits) q
     put-committed q = elim (cases_eq q r) [
-      | inl same ↦ (λ h. absurd (false≢true (subst (λ o. is_committed (class_of last o) ≡ true) (cond-true (eqb q r) (Some Made) (e.state q) (eq-eqb q r same)) h)))
+      | inl same ↦ (λ h. absurd (false≢true (subst (λ o. is_committed (status_of last o) ≡ true) (cond-true (eqb q r) (Some Made) (e.state q) (eq-eqb q r same)) h)))
       | inr ne ↦
           (λ h. cond-false (eqb q r) ws (m q) (ne_eqb q r ne)
-          ∙ st.committed q (subst (λ o. is_committed (class_of last o) ≡ true) (cond-false (eqb q r) (Some Made) (e.state q) (ne_eqb q r ne)) h))
+          ∙ st.committed q (subst (λ o. is_committed (status_of last o) ≡ true) (cond-false (eqb q r) (Some Made) (e.state q) (ne_eqb q r ne)) h))
     ]
 
-    put-unkept : (q : ℕ) → is_uncommitted (class_of last (with_state e.state r Made q)) ≡ true → InNoCommit work.commits q
+    put-unkept : (q : ℕ) → is_uncommitted (status_of last (with_state e.state r Made q)) ≡ true → InNoCommit work.commits q
     put-unkept q =
-        with_state-at (λ o. is_uncommitted (class_of last o) ≡ true → InNoCommit work.commits q) e.state r Made q
+        with_state-at (λ o. is_uncommitted (status_of last o) ≡ true → InNoCommit work.commits q) e.state r Made q
         (λ same h. subst (InNoCommit work.commits) (sym same) (st.unkept r (open-uncommitted (e.state r) can.is_open))) (λ ne h. st.unkept q h)
 
     put-state : (q : ℕ) (t : State) → with_state e.state r Made q ≡ Some t → is_up_to last t ≡ true
@@ -110,14 +110,14 @@ module _ {H : Type 0} (work : WorkView H) (m : Records) (e : EntriesView) (unit 
         with_state-at (λ o. o ≡ Some t → is_up_to last t ≡ true) e.state r Made q
         (λ same h. subst (λ u. is_up_to last u ≡ true) (same_Some Made t h) refl) (λ ne h. st.up_to q t h)
 
-    made-few : (w : ℕ) → with_count e.made width (counted (e.made width)) w ≤ 18446744073709551615
+    made-few : (w : ℕ) → with_count e.made width (one_more (e.made width)) w ≤ 18446744073709551615
     made-few w = by_test (eqb w width)
       where
-        by_test : (t : Bool) → cond t (counted (e.made width)) (e.made w) ≤ 18446744073709551615
+        by_test : (t : Bool) → cond t (one_more (e.made width)) (e.made w) ≤ 18446744073709551615
         by_test true = omega arith
         by_test false = st.few_made w
 
-    pub stands-made : IsGood (made_at e width r) → Stands work (with_words m r ws) (made_at e width r) unit last active
+    pub stands-made : IsGood bits (made_at e width r) → Stands bits work (with_words m r ws) (made_at e width r) unit last active
     stands-made good = record {
       good = good;
       buffers = st.buffers;
@@ -137,7 +137,7 @@ module _ {H : Type 0} (work : WorkView H) (m : Records) (e : EntriesView) (unit 
     }
 
 -- after a buffer is handed out
-module _ {H : Type 0} (work : WorkView H) (m : Records) (e : EntriesView) (unit : Bool) (last active b width : ℕ) (st : Stands work m e unit last active)
+module _ {H : Type 0} (bits : ℕ) (work : WorkView H) (m : Records) (e : EntriesView) (unit : Bool) (last active b width : ℕ) (st : Stands bits work m e unit last active)
     (low : IsLowestFree work.buffer work.sizes.buffers b) where
   width-opened : (a : ℕ) → a < work.sizes.buffers → cond (eqb a b) width (e.width a) ≡ active_width (cond (eqb a b) (Buffer.active width (last_tag (work.buffer b))) (work.buffer a))
   width-opened a below = by_test (eqb a b)
@@ -146,7 +146,7 @@ module _ {H : Type 0} (work : WorkView H) (m : Records) (e : EntriesView) (unit 
       by_test true = refl
       by_test false = st.width a below
 
-  pub stands-opened : IsGood (with_buffer e b width) → Stands (handed_out work b width) m (with_buffer e b width) unit last (active + 1)
+  pub stands-opened : IsGood bits (with_buffer e b width) → Stands bits (handed_out work b width) m (with_buffer e b width) unit last (active + 1)
   stands-opened good = record {
     good = good;
     buffers = st.buffers;
@@ -166,12 +166,12 @@ module _ {H : Type 0} (work : WorkView H) (m : Records) (e : EntriesView) (unit 
   }
 
 -- a store stands over what the work stored
-pub stands-put : {H : Type 0} (work new : WorkView H) (m n : Records) (e f : EntriesView) (unit : Bool) (last active : ℕ) → new ≡ record work { stored = new.stored } → n ≡ m → f ≡ e
-    → Stands work m e unit last active → Stands new n f unit last active
-stands-put work new m n e f unit last active knows written made st =
-    subst (λ w. Stands w n f unit last active) (sym knows)
-    (subst (λ (x : Records). Stands (record work { stored = new.stored }) x f unit last active) (sym written)
-    (subst (λ g. Stands (record work { stored = new.stored }) m g unit last active) (sym made) (record {
+pub stands-put : {H : Type 0} (bits : ℕ) (work new : WorkView H) (m n : Records) (e f : EntriesView) (unit : Bool) (last active : ℕ) → new ≡ record work { stored = new.stored } → n ≡ m → f ≡ e
+    → Stands bits work m e unit last active → Stands bits new n f unit last active
+stands-put bits work new m n e f unit last active knows written made st =
+    subst (λ w. Stands bits w n f unit last active) (sym knows)
+    (subst (λ (x : Records). Stands bits (record work { stored = new.stored }) x f unit last active) (sym written)
+    (subst (λ g. Stands bits (record work { stored = new.stored }) m g unit last active) (sym made) (record {
       good = st.good;
       buffers = st.buffers;
       words = st.words;
@@ -190,11 +190,11 @@ stands-put work new m n e f unit last active knows written made st =
     })))
 
 -- a new store stands
-pub stands-new : {H : Type 0} (work : WorkView H) (m : Records) (e : EntriesView) → IsFresh work → e ≡ new_entries work.sizes.buffers work.sizes.words → IsGood e
-    → Stands work m e false 0 0
-stands-new work m e fresh new good =
-    subst (λ g. Stands work m g false 0 0) (sym new) (record {
-      good = subst IsGood new good;
+pub stands-new : {H : Type 0} (bits : ℕ) (work : WorkView H) (m : Records) (e : EntriesView) → IsFresh work → e ≡ new_entries work.sizes.buffers work.sizes.words → IsGood bits e
+    → Stands bits work m e false 0 0
+stands-new bits work m e fresh new good =
+    subst (λ g. Stands bits work m g false 0 0) (sym new) (record {
+      good = subst (IsGood bits) new good;
       buffers = refl;
       words = refl;
       width = λ b below. sym (free-width (work.buffer b) (fresh.buffers b));

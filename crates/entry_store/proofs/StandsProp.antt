@@ -6,5 +6,5 @@ use Rattle.arena_api.specs.Works.{WorkView}
 use Rattle.entry_states.specs.Entries.{EntriesView}
 use Rattle.entry_store.specs.Standing.{Stands}
 
-pub stands-prop : {H : Type 0} (work : WorkView H) (m : Records) (e : EntriesView) (unit : Bool) (last active : ℕ) → IsProp (Stands work m e unit last active)
-stands-prop work m e unit last active = hlevel props
+pub stands-prop : {H : Type 0} (bits : ℕ) (work : WorkView H) (m : Records) (e : EntriesView) (unit : Bool) (last active : ℕ) → IsProp (Stands bits work m e unit last active)
+stands-prop bits work m e unit last active = hlevel props

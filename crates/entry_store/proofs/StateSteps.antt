@@ -1,19 +1,19 @@
--- What becomes of the classes of entries where their states change.
+-- What becomes of the statuses of entries where their states change.
 use Rattle.std.proofs.Common.{◌≡◌, ℕ, Bool, true, false, cond, eqb, Option, Some, refl, sym, ap, subst, arith, inl, inr}
 use Rattle.std.proofs.lemmas.Bool.{false≢true, cond-true, cond-false, cases_eq, eq-eqb, ne_eqb, ltb-true, leb-true, lt-ltb, le-leb}
 use Rattle.entry_shelf.specs.declared.state.State.{State}
 use Rattle.entry_shelf.specs.declared.state.State.TheVariants.{Free, Returned, Made, InUse, LetGo, DroppedNow, Dropped}
 use Rattle.entry_shelf.specs.States.{is_free, is_used, is_touched, dropped, undone}
-use Rattle.store_api.specs.Classes.{Class, in_use, has_record, is_committed, is_uncommitted}
+use Rattle.store_api.specs.Statuses.{Status, in_use, has_record, is_committed, is_uncommitted}
 use Rattle.entry_states.specs.Entries.{with_state}
-use Rattle.entry_store.specs.Standing.{class_by, is_up_to}
+use Rattle.entry_store.specs.Standing.{status_by, is_up_to}
 
--- of a new class and an old one: whether all that is asked of the new one's records was asked of the old one's
+-- of a new status and an old one: whether all that is asked of the new one's records was asked of the old one's
 abbrev pub implies : Bool → Bool → Bool
 implies true b = b
 implies false b = true
 
-pub record IsWeaker (new old : Class) : Type 0 where
+pub record IsWeaker (new old : Status) : Type 0 where
   pub has : implies (has_record new) (has_record old) ≡ true
   pub uncommitted : implies (is_uncommitted new) (is_uncommitted old) ≡ true
   pub committed : implies (is_committed new) (is_committed old) ≡ true
@@ -26,7 +26,7 @@ pub implies-same : (a : Bool) → implies a a ≡ true
 implies-same true = refl
 implies-same false = refl
 
-pub weaker-same : (c : Class) → IsWeaker c c
+pub weaker-same : (c : Status) → IsWeaker c c
 weaker-same c = record { has = implies-same (has_record c); uncommitted = implies-same (is_uncommitted c); committed = implies-same (is_committed c) }
 
 -- a state that is set at one entry
@@ -40,15 +40,15 @@ pub with_state-same : (state : ℕ → Option State) (r : ℕ) (s : State) → w
 with_state-same state r s = cond-true (eqb r r) (Some s) (state r) (eq-eqb r r refl)
 
 -- an undo
-pub undone-weaker : (last : ℕ) (s : State) → is_up_to last s ≡ true → IsWeaker (class_by last (undone last s)) (class_by last s)
-undone-weaker last Free up = weaker-same Class.free
-undone-weaker last Returned up = weaker-same Class.free
+pub undone-weaker : (last : ℕ) (s : State) → is_up_to last s ≡ true → IsWeaker (status_by last (undone last s)) (status_by last s)
+undone-weaker last Free up = weaker-same Status.free
+undone-weaker last Returned up = weaker-same Status.free
 undone-weaker last Made up = record { has = refl; uncommitted = refl; committed = refl }
 undone-weaker last (InUse after) up = weaker-same _
 undone-weaker last LetGo up =
-    subst (λ t. IsWeaker (cond t Class.pending Class.live) Class.let_go) (sym (eq-eqb last last refl)) (record { has = refl; uncommitted = refl; committed = refl })
+    subst (λ t. IsWeaker (cond t Status.pending Status.live) Status.let_go) (sym (eq-eqb last last refl)) (record { has = refl; uncommitted = refl; committed = refl })
 undone-weaker last (DroppedNow after) up =
-    subst (λ t. IsWeaker (cond t Class.pending Class.live) Class.dropped) (sym (ne_eqb after last (λ e. omega (arith, e, ltb-true after last up))))
+    subst (λ t. IsWeaker (cond t Status.pending Status.live) Status.dropped) (sym (ne_eqb after last (λ e. omega (arith, e, ltb-true after last up))))
     (record { has = refl; uncommitted = refl; committed = refl })
 undone-weaker last (Dropped after) up = weaker-same _
 
@@ -71,13 +71,13 @@ undone-settled last (DroppedNow after) = refl
 undone-settled last (Dropped after) = refl
 
 -- an entry in use is dropped
-pub dropped-weaker : (last : ℕ) (s : State) → is_used s ≡ true → IsWeaker (class_by last (dropped last s)) (class_by last s)
+pub dropped-weaker : (last : ℕ) (s : State) → is_used s ≡ true → IsWeaker (status_by last (dropped last s)) (status_by last s)
 dropped-weaker last Free used = absurd (false≢true used)
 dropped-weaker last Returned used = absurd (false≢true used)
 dropped-weaker last Made used = record { has = refl; uncommitted = refl; committed = refl }
 dropped-weaker last (InUse after) used = by_test (eqb after last)
   where
-    by_test : (t : Bool) → IsWeaker (class_by last (cond t LetGo (DroppedNow after))) (cond t Class.pending Class.live)
+    by_test : (t : Bool) → IsWeaker (status_by last (cond t LetGo (DroppedNow after))) (cond t Status.pending Status.live)
     by_test true = record { has = refl; uncommitted = refl; committed = refl }
     by_test false = record { has = refl; uncommitted = refl; committed = refl }
 dropped-weaker last LetGo used = absurd (false≢true used)
@@ -110,7 +110,7 @@ dropped-back last (DroppedNow after) used = absurd (false≢true used)
 dropped-back last (Dropped after) used = absurd (false≢true used)
 
 -- an entry in use
-pub in_use-used : (last : ℕ) (s : State) → in_use (class_by last s) ≡ true → is_used s ≡ true
+pub in_use-used : (last : ℕ) (s : State) → in_use (status_by last s) ≡ true → is_used s ≡ true
 in_use-used last Free h = h
 in_use-used last Returned h = h
 in_use-used last Made h = refl
@@ -119,19 +119,19 @@ in_use-used last LetGo h = h
 in_use-used last (DroppedNow after) h = h
 in_use-used last (Dropped after) h = by_test (eqb after last) h
   where
-    by_test : (t : Bool) → in_use (cond t Class.dropped Class.spent) ≡ true → false ≡ true
+    by_test : (t : Bool) → in_use (cond t Status.dropped Status.spent) ≡ true → false ≡ true
     by_test true f = f
     by_test false f = f
 
 -- an entry that a make can take
-pub free-class : (last : ℕ) (s : State) → is_free s ≡ true → class_by last s ≡ Class.free
-free-class last Free free = refl
-free-class last Returned free = refl
-free-class last Made free = absurd (false≢true free)
-free-class last (InUse after) free = absurd (false≢true free)
-free-class last LetGo free = absurd (false≢true free)
-free-class last (DroppedNow after) free = absurd (false≢true free)
-free-class last (Dropped after) free = absurd (false≢true free)
+pub free-status : (last : ℕ) (s : State) → is_free s ≡ true → status_by last s ≡ Status.free
+free-status last Free free = refl
+free-status last Returned free = refl
+free-status last Made free = absurd (false≢true free)
+free-status last (InUse after) free = absurd (false≢true free)
+free-status last LetGo free = absurd (false≢true free)
+free-status last (DroppedNow after) free = absurd (false≢true free)
+free-status last (Dropped after) free = absurd (false≢true free)
 
 pub free-undone : (last : ℕ) (s : State) → is_free s ≡ true → undone last s ≡ Free
 free-undone last Free free = refl

@@ -7,31 +7,31 @@ use Rattle.image_base.specs.Images.{words_at}
 use Rattle.image_base.specs.Records.{Records, with_words}
 use Rattle.arena_api.specs.Works.{WorkView, active_width, last_image}
 use Rattle.arena_api.specs.Calls.{InNoCommit, IsLowestFree, handed_out, padded}
-use Rattle.store_api.specs.Classes.{Class, has_record, is_committed, is_uncommitted}
+use Rattle.store_api.specs.Statuses.{Status, has_record, is_committed, is_uncommitted}
 use Rattle.store_api.specs.Ledgers.{Ledger, active_count}
 use Rattle.entry_states.specs.Entries.{EntriesView, IsGood, CanTake, made_at, with_buffer}
 
--- the class of an entry by its state, where this is the last commit
-abbrev pub class_by : ℕ → State → Class
-class_by last Free = Class.free
-class_by last Returned = Class.free
-class_by last Made = Class.pending
-class_by last (InUse after) = if nat_eq after last then Class.pending else Class.live
-class_by last LetGo = Class.let_go
-class_by last (DroppedNow after) = Class.dropped
-class_by last (Dropped after) = if nat_eq after last then Class.dropped else Class.spent
+-- the status of an entry by its state, where this is the last commit
+abbrev pub status_by : ℕ → State → Status
+status_by last Free = Status.free
+status_by last Returned = Status.free
+status_by last Made = Status.pending
+status_by last (InUse after) = if nat_eq after last then Status.pending else Status.live
+status_by last LetGo = Status.let_go
+status_by last (DroppedNow after) = Status.dropped
+status_by last (Dropped after) = if nat_eq after last then Status.dropped else Status.spent
 
-abbrev pub class_of : ℕ → Option State → Class
-class_of last None = Class.unmade
-class_of last (Some state) = class_by last state
+abbrev pub status_of : ℕ → Option State → Status
+status_of last None = Status.unmade
+status_of last (Some state) = status_by last state
 
--- the class that an undo gives back
-abbrev pub back_of : ℕ → Option State → Class
-back_of last state = class_of last (option_map (undone last) state)
+-- the status that an undo gives back
+abbrev pub back_of : ℕ → Option State → Status
+back_of last state = status_of last (option_map (undone last) state)
 
--- the records of these classes
-abbrev pub records_of_classes : (ℕ → Class) → Records → Records
-records_of_classes class m r = if has_record (class r) then m r else []
+-- the records of these statuses
+abbrev pub records_of_statuses : (ℕ → Status) → Records → Records
+records_of_statuses status m r = if has_record (status r) then m r else []
 
 -- the ledger of a store over a work with these records
 abbrev pub ledger_of : {H : Type 0} → WorkView H → ℕ → Records → EntriesView → Bool → ℕ → Ledger H
@@ -39,9 +39,9 @@ ledger_of work shape m entries unit last = record {
   work = work;
   shape = shape;
   unit = unit;
-  class = λ r. class_of last (entries.state r);
+  status = λ r. status_of last (entries.state r);
   back = λ r. back_of last (entries.state r);
-  back_records = records_of_classes (λ r. back_of last (entries.state r)) m;
+  back_records = records_of_statuses (λ r. back_of last (entries.state r)) m;
   made = entries.made;
   spare = entries.spare;
   buffers = entries.count;
@@ -61,8 +61,8 @@ is_up_to last (DroppedNow after) = nat_lt after last
 is_up_to last (Dropped after) = nat_le after last
 
 -- the work and the entries are of one store
-pub record Stands {H : Type 0} (work : WorkView H) (m : Records) (entries : EntriesView) (unit : Bool) (last active : ℕ) : Type 0 where
-  pub good : IsGood entries
+pub record Stands {H : Type 0} (bits : ℕ) (work : WorkView H) (m : Records) (entries : EntriesView) (unit : Bool) (last active : ℕ) : Type 0 where
+  pub good : IsGood bits entries
   pub buffers : entries.buffers ≡ work.sizes.buffers
   pub words : entries.words ≡ work.sizes.words
   pub width : (b : ℕ) → b < work.sizes.buffers → entries.width b ≡ active_width (work.buffer b)
@@ -72,18 +72,18 @@ pub record Stands {H : Type 0} (work : WorkView H) (m : Records) (entries : Entr
   -- a count is one of 64 bits
   pub few_made : (w : ℕ) → entries.made w ≤ 18446744073709551615
   pub up_to : (r : ℕ) (s : State) → entries.state r ≡ Some s → is_up_to last s ≡ true
-  -- each class with records has its record in the work
-  pub there : (r : ℕ) → has_record (class_of last (entries.state r)) ≡ true → 0 < length (m r)
-  pub unkept : (r : ℕ) → is_uncommitted (class_of last (entries.state r)) ≡ true → InNoCommit work.commits r
-  pub committed : (r : ℕ) → is_committed (class_of last (entries.state r)) ≡ true → m r ≡ words_at (last_image work.commits) r
+  -- each status with records has its record in the work
+  pub there : (r : ℕ) → has_record (status_of last (entries.state r)) ≡ true → 0 < length (m r)
+  pub unkept : (r : ℕ) → is_uncommitted (status_of last (entries.state r)) ≡ true → InNoCommit work.commits r
+  pub committed : (r : ℕ) → is_committed (status_of last (entries.state r)) ≡ true → m r ≡ words_at (last_image work.commits) r
   -- where no unit is under way, none has changed an entry
   pub settled : unit ≡ false → (r : ℕ) (s : State) → entries.state r ≡ Some s → is_touched s ≡ false
   pub no_fresh : unit ≡ false → (w : ℕ) → entries.fresh w ≡ 0
   pub no_gone : unit ≡ false → (w : ℕ) → entries.gone w ≡ 0
 
 -- an entry is taken, and its record is put into the work
-pub record Puts {H : Type 0} (old new : WorkView H) (m n : Records) (before after : EntriesView) (width : ℕ) (words : List ℕ) (r : ℕ) : Type 0 where
-  pub can : CanTake before width r
+pub record Puts {H : Type 0} (bits : ℕ) (old new : WorkView H) (m n : Records) (before after : EntriesView) (width : ℕ) (words : List ℕ) (r : ℕ) : Type 0 where
+  pub can : CanTake bits before width r
   pub made : after ≡ made_at before width r
   pub work : new ≡ record old { stored = new.stored }
   pub records : n ≡ with_words m r (padded words width)

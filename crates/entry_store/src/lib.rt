@@ -5,6 +5,3 @@ mod entry_store;
 mod words;
 
 pub use entry_store::{EntryStore, NoMemory};
-
-#[cfg(test)]
-mod tests;

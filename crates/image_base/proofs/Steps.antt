@@ -103,9 +103,9 @@ offset-within bits buffers words width q e = elim (cases_lt (offset_of bits q) (
 ]
 
 -- one entry more is there
-pub one_more : (bits : ℕ) (m : Records) (buffer offset r : ℕ) → buffer < buffer_limit bits → r ≡ packed bits offset buffer → (f g : Records) → f r ≡ m r → ((q : ℕ) → q ≢ r → f q ≡ g q)
+pub reference-more : (bits : ℕ) (m : Records) (buffer offset r : ℕ) → buffer < buffer_limit bits → r ≡ packed bits offset buffer → (f g : Records) → f r ≡ m r → ((q : ℕ) → q ≢ r → f q ≡ g q)
     → ((q : ℕ) → g q ≡ those_before bits m buffer offset q) → (q : ℕ) → f q ≡ those_before bits m buffer (offset + 1) q
-one_more bits m buffer offset r small is f g here others before q = elim (cases_eq q r) [
+reference-more bits m buffer offset r small is f g here others before q = elim (cases_eq q r) [
   | inl same ↦
       (let at : q ≡ packed bits offset buffer = same ∙ is in
       ap f same ∙ here ∙ ap m (sym same)

@@ -1,5 +1,5 @@
 -- A map from numbers of 32 bits to words, seen as records.
-use Rattle.std.specs.Prelude.{ℕ, List, [], cond, nat_lt, Option, Some, None, Vec}
+use Rattle.std.specs.Prelude.{ℕ, List, [], if◌then◌else◌, ◌^◌, nat_lt, Option, Some, None, Vec}
 use Rattle.std.specs.BTreeMap.{BTreeMap, get}
 use Rattle.std.specs.Ordering.{nat_cmp}
 use Rattle.std.specs.declared.alloc.Global.{Global}
@@ -12,4 +12,4 @@ words_of (Some words) = words.items
 
 -- the words at each reference; a number past 32 bits is none of the map's
 abbrev pub seen : BTreeMap ℕ (Vec ℕ Global) → Records
-seen map ref = cond (nat_lt ref 4294967296) (words_of (get nat_cmp map ref)) []
+seen map ref = if nat_lt ref (2 ^ 32) then words_of (get nat_cmp map ref) else []

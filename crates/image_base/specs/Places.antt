@@ -12,11 +12,11 @@ state_place b = 18 + b
 abbrev pub base : ℕ → ℕ → ℕ → ℕ
 base buffers words b = 18 + buffers + b * words
 
--- word i of an entry, in buffers of so many words
+-- word i of an entry of this width
 abbrev pub place : ℕ → ℕ → ℕ → ℕ → ℕ → ℕ → ℕ
 place bits buffers words width ref i = base buffers words (buffer_of bits ref) + (offset_of bits ref * width + i)
 
--- so many words in all
+-- how many words the table has
 abbrev pub size_of : ℕ → ℕ → ℕ
 size_of buffers words = 18 + buffers + buffers * words
 

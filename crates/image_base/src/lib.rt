@@ -3,8 +3,6 @@
 
 mod maps;
 
-pub use maps::words_at;
-
 ghost use Rattle.std.specs.Prelude.{◌≡◌, ◌<◌, ◌≤◌, ℕ, List, [], length};
 ghost use Rattle.entry_ref.specs.References.{buffer_of};
 ghost use Rattle.image_base.specs.Images.{words_at, image_of};
@@ -13,6 +11,7 @@ ghost use Rattle.image_base.specs.Records.{Records, SameAt, AllThere, references
 ghost use Rattle.image_base.specs.declared.Image.{Image};
 
 use entry_ref::EntryRef;
+pub use maps::words_at;
 use std::collections::LinkedList;
 
 /// A root and the records that it reaches, each a reference with its words.
@@ -40,7 +39,7 @@ pub trait Layout {
         → lawful shape m root → lawful shape n root × (reaches shape n root ≡ reaches shape m root) };
 }
 
-/// Where word `i` of an entry stands, in a table of so many buffers of so many words.
+/// Where word `i` of an entry of `width` words stands, in a table of `buffers` buffers of `words` words.
 pub fn place_of<const OFFSET_BITS: u32>(
     buffers: u32,
     words: u32,
@@ -68,23 +67,3 @@ pub fn images_law()
     ensures references { (rs : List ℕ) (m : Records) (root : ℕ) → references_of (image_of rs m root).records ≡ rs }
     ensures words { (rs : List ℕ) (m : Records) (root : ℕ) → SameAt rs m (words_at (image_of rs m root)) }
 {}
-
-#[cfg(test)]
-mod tests {
-    use super::*;
-
-    #[test]
-    fn words_of_entries_stand_at_the_worked_places(rt: HostRuntime) {
-        // buffers, words of each, width, offset, buffer, word
-        let rows = [
-            ((8, 8192, 34), (3, 2, 0), 16512),
-            ((8, 8192, 34), (3, 2, 33), 16545),
-            ((2, 8, 2), (1, 0, 0), 22),
-            ((2, 8, 2), (3, 1, 1), 35),
-        ];
-        for ((buffers, words, width), (offset, buffer, i), place) in rows {
-            let entry = EntryRef::<22>::new(offset, buffer);
-            assert_eq!(rt; place_of(buffers, words, width, entry, i), place);
-        }
-    }
-}

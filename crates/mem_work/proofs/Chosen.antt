@@ -13,7 +13,7 @@ use Rattle.image_base.specs.Records.{Records, pairs_of}
 use Rattle.image_base.proofs.Steps.{none-or, offset-within}
 use Rattle.mem_work.specs.Cells.{width_in, begin_of, standing, is_whole, records_in}
 use Rattle.mem_work.specs.Entries.{is_chosen, chosen, with_those}
-use Rattle.mem_work.specs.Standing.{is_entry-from, standing-entry}
+use Rattle.mem_work.specs.ProofsForMemory.{names_entry-from, standing-entry}
 
 -- an entry's words are those at its place
 pub words-at : (table ts : List ℕ) (bits buffers words r b o w : ℕ) → ts ≡ table → b ≡ buffer_of bits r → o ≡ offset_of bits r → w ≡ width_in table words b
@@ -26,7 +26,7 @@ words-at table ts bits buffers words r b o w st sb so sw e =
     ∙ ap (λ n. take w (drop (n * words + o * w) table)) sb
     ∙ ap (λ n. take w (drop (buffer_of bits r * words + n * w) table)) so
     ∙ ap (λ n. take n (drop (buffer_of bits r * words + offset_of bits r * n) table)) (sw ∙ ap (width_in table words) sb)
-    ∙ sym (cond-true _ _ [] (is_entry-from bits buffers words (width_in table words (buffer_of bits r)) r e))
+    ∙ sym (cond-true _ _ [] (names_entry-from bits buffers words (width_in table words (buffer_of bits r)) r e))
 
 -- an entry whose words were all stored under a number was stored whole
 pub whole-is : (table stamps : List ℕ) (bits buffers words n r : ℕ) → IsEntry bits buffers words (width_in table words (buffer_of bits r)) r
@@ -34,7 +34,7 @@ pub whole-is : (table stamps : List ℕ) (bits buffers words n r : ℕ) → IsEn
 unfolding is_whole
 whole-is table stamps bits buffers words n r e =
     sym (ap (λ t. t && list_all (λ k. nat_eq k n) (take (width_in table words (buffer_of bits r)) (drop (begin_of bits words (width_in table words (buffer_of bits r)) r) stamps)))
-    (is_entry-from bits buffers words (width_in table words (buffer_of bits r)) r e))
+    (names_entry-from bits buffers words (width_in table words (buffer_of bits r)) r e))
 
 some-of : (t : Bool) (xs : List ℕ) → 0 < length (cond t xs []) → 0 < length xs
 some-of true xs h = h

@@ -2,14 +2,17 @@
 use Rattle.std.proofs.Common.{◌≡◌, ◌≢◌, ℕ, zero, suc, ◌+◌, ◌*◌, ◌<◌, inl, inr, true, cond, ◌&&◌, eqb, ltb, List, [], length, get_or, set, take, drop, Option, Some, None, refl, sym, ap, ◌∙◌, arith, get_or-set_other, get_or-set_same}
 use Rattle.std.specs.List.{list_all}
 use Rattle.std.proofs.lemmas.Bool.{cases_eq, false_from_ne_true, eq-eqb, ne_eqb, ltb-true}
+use Rattle.std.proofs.lemmas.Nat.{same_from_place}
 use Rattle.entry_ref.specs.References.{buffer_of, offset_of}
 use Rattle.image_base.specs.Places.{IsEntry}
-use Rattle.image_base.proofs.Apart.{apart, within}
+use Rattle.image_base.proofs.Apart.{within}
 use Rattle.arena_api.specs.Works.{Buffer, last_tag}
 use Rattle.arena_api.specs.Calls.{with_buffer}
-use Rattle.mem_work.specs.Cells.{width_in, begin_of, is_entry, standing, is_whole, stored_in, buffer_by, buffers_in}
-use Rattle.mem_work.specs.Standing.{range-set_other, lacks, not_first, is_entry-true, cond-same, cond-and}
-use Rattle.mem_work.specs.Stamped.{whole-first, is_stored}
+use Rattle.mem_work.specs.Cells.{width_in, begin_of, names_entry, standing, is_whole, stored_in, buffer_by, buffers_in}
+use Rattle.mem_work.proofs.Standing.{range-set_other, lacks, not_first, cond-same, cond-and}
+use Rattle.mem_work.specs.ProofsForMemory.{names_entry-true}
+use Rattle.mem_work.proofs.Standing.{whole-first}
+use Rattle.mem_work.specs.ProofsForMemory.{is_stored}
 
 pub none-from : (o : Option ℕ) → ((x : ℕ) → o ≡ Some x → ⊥) → o ≡ None
 none-from None never = refl
@@ -17,7 +20,7 @@ none-from (Some x) never = absurd (never x refl)
 
 module _ (table : List ℕ) (bits buffers words b width : ℕ) (free : width_in table words b ≡ 0) (some : 0 < words) (inside : b * words < length table) (wide : 0 < width) where
   pub width-other : (a : ℕ) → a ≢ b → width_in (set table (b * words) width) words a ≡ width_in table words a
-  width-other a ne = get_or-set_other table (b * words) (a * words) width 0 (λ same. ne (apart words a b 0 0 some some (omega (arith, same))).0)
+  width-other a ne = get_or-set_other table (b * words) (a * words) width 0 (λ same. ne (same_from_place a 0 b 0 words some some (omega (arith, same))).0)
 
   pub width-new : width_in (set table (b * words) width) words b ≡ width
   width-new = get_or-set_same table (b * words) width 0 inside
@@ -39,19 +42,19 @@ module _ (table : List ℕ) (bits buffers words b width : ℕ) (free : width_in 
       made (suc w) h = refl
 
   -- the words of entries of the other buffers stay
-  range-handed : (q : ℕ) → is_entry bits buffers words (width_in table words (buffer_of bits q)) q ≡ true
+  range-handed : (q : ℕ) → names_entry bits buffers words (width_in table words (buffer_of bits q)) q ≡ true
       → take (width_in table words (buffer_of bits q)) (drop (begin_of bits words (width_in table words (buffer_of bits q)) q) (set table (b * words) width))
       ≡ take (width_in table words (buffer_of bits q)) (drop (begin_of bits words (width_in table words (buffer_of bits q)) q) table)
-  range-handed q there = range-set_other table (b * words) _ _ width (lacks _ _ _ (λ j h same. not_first bits buffers words _ q j b (is_entry-true _ _ _ _ q there) h (sym same)))
+  range-handed q there = range-set_other table (b * words) _ _ width (lacks _ _ _ (λ j h same. not_first bits buffers words _ q j b (names_entry-true _ _ _ _ q there) h (sym same)))
 
-  word-handed : (q i : ℕ) → is_entry bits buffers words (width_in table words (buffer_of bits q)) q ≡ true → ltb i (width_in table words (buffer_of bits q)) ≡ true
+  word-handed : (q i : ℕ) → names_entry bits buffers words (width_in table words (buffer_of bits q)) q ≡ true → ltb i (width_in table words (buffer_of bits q)) ≡ true
       → get_or (set table (b * words) width) (begin_of bits words (width_in table words (buffer_of bits q)) q + i) 0 ≡ get_or table (begin_of bits words (width_in table words (buffer_of bits q)) q + i) 0
-  word-handed q i there below = get_or-set_other table _ _ width 0 (λ same. not_first bits buffers words _ q i b (is_entry-true _ _ _ _ q there) (ltb-true _ _ below) same)
+  word-handed q i there below = get_or-set_other table _ _ width 0 (λ same. not_first bits buffers words _ q i b (names_entry-true _ _ _ _ q there) (ltb-true _ _ below) same)
 
   pub standing-handed : (q : ℕ) → buffer_of bits q ≢ b → standing (set table (b * words) width) bits buffers words q ≡ standing table bits buffers words q
   unfolding standing
   standing-handed q ne =
-      ap (λ w. cond (is_entry bits buffers words w q) (take w (drop (begin_of bits words w q) (set table (b * words) width))) []) (width-other (buffer_of bits q) ne)
+      ap (λ w. cond (names_entry bits buffers words w q) (take w (drop (begin_of bits words w q) (set table (b * words) width))) []) (width-other (buffer_of bits q) ne)
       ∙ cond-same _ _ _ [] (range-handed q)
 
   -- no word of the buffer has this number beside it
@@ -69,7 +72,7 @@ module _ (table : List ℕ) (bits buffers words b width : ℕ) (free : width_in 
       | inl e ↦
           false_from_ne_true _ (λ is. let both = whole-first (set table (b * words) width) stamps bits buffers words n q room is in fresh q 0 e both.0 both.0.wide both.1)
           ∙ sym (false_from_ne_true _ (λ is. let wide : 0 < width_in table words (buffer_of bits q) = (whole-first table stamps bits buffers words n q room is).0.wide in omega (arith, wide, ap (width_in table words) e, free)))
-      | inr ne ↦ ap (λ w. is_entry bits buffers words w q && list_all (λ k. eqb k n) (take w (drop (begin_of bits words w q) stamps))) (width-other (buffer_of bits q) ne)
+      | inr ne ↦ ap (λ w. names_entry bits buffers words w q && list_all (λ k. eqb k n) (take w (drop (begin_of bits words w q) stamps))) (width-other (buffer_of bits q) ne)
     ]
 
     pub stored-handed : (q i : ℕ) → stored_in (set table (b * words) width) stamps bits buffers words n q i ≡ stored_in table stamps bits buffers words n q i
@@ -79,6 +82,6 @@ module _ (table : List ℕ) (bits buffers words b width : ℕ) (free : width_in 
           none-from _ (λ x is. let s = is_stored (set table (b * words) width) stamps bits buffers words n q i x is in fresh q i e s.entry s.inside s.stamp)
           ∙ sym (none-from _ (λ x is. let wide = (is_stored table stamps bits buffers words n q i x is).entry.wide in omega (arith, wide, ap (width_in table words) e, free)))
       | inr ne ↦
-          ap (λ w. cond (is_entry bits buffers words w q && (ltb i w && eqb (get_or stamps (begin_of bits words w q + i) 0) n)) (Some (get_or (set table (b * words) width) (begin_of bits words w q + i) 0)) None) (width-other (buffer_of bits q) ne)
+          ap (λ w. cond (names_entry bits buffers words w q && (ltb i w && eqb (get_or stamps (begin_of bits words w q + i) 0) n)) (Some (get_or (set table (b * words) width) (begin_of bits words w q + i) 0)) None) (width-other (buffer_of bits q) ne)
           ∙ cond-and _ _ _ _ _ _ _ (λ there below. (refl, ap Some (word-handed q i there below)))
     ]

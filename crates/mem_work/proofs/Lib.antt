@@ -5,3 +5,4 @@ pub mod WidthLemmas
 pub mod Ranges
 pub mod Puts
 pub mod Chosen
+pub mod Standing

@@ -7,7 +7,7 @@ use Rattle.image_base.specs.Images.{words_at}
 use Rattle.image_base.specs.Places.{IsEntry}
 use Rattle.image_base.specs.Records.{Records, SameAt, AllThere, with_words}
 use Rattle.mem_work.specs.Cells.{width_in, begin_of, with_range, standing, is_whole, stored_in, image_in, records_in, buffer_by, memory_view}
-use Rattle.mem_work.specs.Reached.{lawful-kept, next_image-kept}
+use Rattle.arena_api.proofs.Reached.{lawful-kept, next_image-kept}
 use Rattle.mem_work.proofs.Ranges.{width-range, standing-elsewhere, standing-range, whole-elsewhere, whole-range}
 
 -- a layout, and words that its last root's image stands in; those of an entry that this image lacks are replaced

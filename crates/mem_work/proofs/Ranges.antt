@@ -6,12 +6,14 @@ use Rattle.std.proofs.Math.Nat.{mul-le-mul_right}
 use Rattle.std.proofs.lemmas.List.{get_or-take, get_or-drop, get_or-append_right, get_or-replicate, length-replicate}
 use Rattle.std.proofs.lemmas.Bool.{cases_lt}
 use Rattle.std.proofs.lemmas.Grind.{same_number_lists}
+use Rattle.std.proofs.lemmas.Nat.{same_from_place}
 use Rattle.entry_ref.specs.References.{buffer_of, offset_of}
 use Rattle.image_base.specs.Places.{IsEntry}
-use Rattle.image_base.proofs.Apart.{apart, within}
-use Rattle.mem_work.specs.Cells.{width_in, begin_of, with_range, is_entry, standing, is_whole}
-use Rattle.mem_work.specs.Standing.{lacks, one_cell, not_first, is_entry-true, cond-same, and-same, length-standing, word-standing}
-use Rattle.mem_work.specs.Stamped.{whole-from}
+use Rattle.image_base.proofs.Apart.{within}
+use Rattle.mem_work.specs.Cells.{width_in, begin_of, with_range, names_entry, standing, is_whole}
+use Rattle.mem_work.proofs.Standing.{lacks, one_cell, not_first, cond-same, and-same}
+use Rattle.mem_work.specs.ProofsForMemory.{names_entry-true, length-standing, word-standing}
+use Rattle.mem_work.specs.ProofsForMemory.{whole-from}
 
 -- words in the place of others
 module _ (table : List ℕ) (p : ℕ) (ws : List ℕ) (n : ℕ) (long : length ws ≡ n) (fits : p + n ≤ length table) where
@@ -58,7 +60,7 @@ module _ (table : List ℕ) (bits buffers words r width : ℕ) (is : width_in ta
       (lacks (b * words) (begin_of bits words width r) width (λ j h same. not_first bits buffers words width r j b e h (sym same)))
 
   -- no other entry has a place of it
-  range-apart : (ts vs : List ℕ) (q : ℕ) → length ts ≡ buffers * words → length vs ≡ width → q ≢ r → is_entry bits buffers words (width_in table words (buffer_of bits q)) q ≡ true
+  range-apart : (ts vs : List ℕ) (q : ℕ) → length ts ≡ buffers * words → length vs ≡ width → q ≢ r → names_entry bits buffers words (width_in table words (buffer_of bits q)) q ≡ true
       → take (width_in table words (buffer_of bits q)) (drop (begin_of bits words (width_in table words (buffer_of bits q)) q) (with_range ts (begin_of bits words width r) vs))
       ≡ take (width_in table words (buffer_of bits q)) (drop (begin_of bits words (width_in table words (buffer_of bits q)) q) ts)
   range-apart ts vs q whole size ne there =
@@ -71,14 +73,14 @@ module _ (table : List ℕ) (bits buffers words r width : ℕ) (is : width_in ta
       let below : k < w = omega (arith, simp length-take at h) in
       get_or-take w (drop from (with_range ts here vs)) k 0 below ∙ get_or-drop from (with_range ts here vs) k 0
       ∙ range-elsewhere ts here vs width size inside (from + k) (lacks (from + k) here width (λ j less same.
-      ne (one_cell bits buffers words w width q r k j (is_entry-true bits buffers words w q there) e (λ b. ap (width_in table words) b ∙ is) below less same).0))
+      ne (one_cell bits buffers words w width q r k j (names_entry-true bits buffers words w q there) e (λ b. ap (width_in table words) b ∙ is) below less same).0))
       ∙ sym (get_or-take w (drop from ts) k 0 below ∙ get_or-drop from ts k 0))
 
   -- and what stands elsewhere
   pub standing-elsewhere : (q : ℕ) → q ≢ r → standing (with_range table (begin_of bits words width r) ws) bits buffers words q ≡ standing table bits buffers words q
   unfolding standing
   standing-elsewhere q ne =
-      ap (λ w. cond (is_entry bits buffers words w q) (take w (drop (begin_of bits words w q) (with_range table (begin_of bits words width r) ws))) []) (width-range (buffer_of bits q))
+      ap (λ w. cond (names_entry bits buffers words w q) (take w (drop (begin_of bits words w q) (with_range table (begin_of bits words width r) ws))) []) (width-range (buffer_of bits q))
       ∙ cond-same _ _ _ [] (range-apart table ws q room long ne)
 
   -- the entry's words stand
@@ -107,7 +109,7 @@ module _ (table : List ℕ) (bits buffers words r width : ℕ) (is : width_in ta
         → is_whole (with_range table (begin_of bits words width r) ws) (with_range stamps (begin_of bits words width r) (replicate width n)) bits buffers words n q ≡ is_whole table stamps bits buffers words n q
     unfolding is_whole
     whole-elsewhere q ne =
-        ap (λ w. is_entry bits buffers words w q && list_all (λ k. eqb k n) (take w (drop (begin_of bits words w q) (with_range stamps (begin_of bits words width r) (replicate width n))))) (width-range (buffer_of bits q))
+        ap (λ w. names_entry bits buffers words w q && list_all (λ k. eqb k n) (take w (drop (begin_of bits words w q) (with_range stamps (begin_of bits words width r) (replicate width n))))) (width-range (buffer_of bits q))
         ∙ and-same _ _ _ (λ there. ap (list_all (λ k. eqb k n)) (range-apart stamps (replicate width n) q also (length-replicate width n) ne there))
 
     -- and the entry was
@@ -142,6 +144,6 @@ module _ (table : List ℕ) (bits buffers words r width : ℕ) (is : width_in ta
     unused-range m old b x below free =
         let none : width_in table words b ≡ 0 = sym (width-range b) ∙ free in
         let outside = lacks (b * words + x) (begin_of bits words width r) width (λ j h same.
-        let one = (apart words b (buffer_of bits r) x (offset_of bits r * width + j) below (within e j h).1 (omega (arith, same))).0 in
+        let one = (same_from_place b x (buffer_of bits r) (offset_of bits r * width + j) words below (within e j h).1 (omega (arith, same))).0 in
         omega (arith, h, ap (width_in table words) one, none, is)) in
         omega (arith, old b x below none, range-elsewhere stamps (begin_of bits words width r) (replicate width n) width (length-replicate width n) stamps-fit (b * words + x) outside)

@@ -2,21 +2,26 @@
 use Rattle.std.proofs.Common.{◌≡◌, ◌≢◌, ℕ, zero, suc, ◌+◌, ◌*◌, ◌<◌, ◌≤◌, inl, inr, true, false, cond, List, [], length, get_or, set, Option, Some, None, refl, sym, ap, subst, ◌∙◌, arith, get_or-set_same, get_or-set_other}
 use Rattle.std.specs.Option.{IfSome, IfNone}
 use Rattle.std.proofs.Math.Nat.{mul-le-mul_right}
-use Rattle.std.proofs.Math.ListN.{get_or-eq_default, replicate}
-use Rattle.std.proofs.lemmas.List.{get_or-replicate, length-replicate}
-use Rattle.std.proofs.lemmas.Bool.{false_from_ne_true, cases_eq, cases_lt, cond-false}
+use Rattle.std.proofs.Math.ListN.{replicate}
+use Rattle.std.proofs.lemmas.List.{length-replicate}
+use Rattle.std.proofs.lemmas.Bool.{false_from_ne_true, cases_eq, cond-false}
+use Rattle.std.proofs.lemmas.Nat.{same_from_place}
+use Rattle.list_facts.proofs.Places.{slice_index-zeros}
 use Rattle.entry_ref.specs.References.{buffer_of, offset_of}
 use Rattle.image_base.specs.Images.{no_image, words_at, image_of}
-use Rattle.image_base.proofs.Apart.{apart, within}
+use Rattle.image_base.proofs.Apart.{within}
 use Rattle.image_base.specs.Places.{IsEntry}
 use Rattle.image_base.specs.Records.{Records, SameAt, AllThere}
 use Rattle.arena_api.specs.Works.{is_free}
 use Rattle.arena_api.specs.Calls.{next_image, with_stored, handed_out, published, AddsCommit, IsLowestFree, opened}
 use Rattle.mem_work.specs.Cells.{width_in, begin_of, standing, is_whole, stored_in, image_in, records_in, buffer_by, buffers_in, memory_view, sizes_of}
-use Rattle.mem_work.specs.Standing.{standing-entry, standing-other, whole-other, stored-store, width-store, cond-same, cell-below, word-standing}
-use Rattle.mem_work.specs.Stamped.{whole-first, is_stored}
-use Rattle.mem_work.specs.Reached.{words-found, image-same, lawful-kept, next_image-kept, same-from, there-among}
-use Rattle.mem_work.specs.Laws.{records-stand}
+use Rattle.mem_work.specs.ProofsForMemory.{standing-entry, word-standing}
+use Rattle.mem_work.proofs.Standing.{standing-other, whole-other, stored-store, width-store, cond-same, cell-below}
+use Rattle.mem_work.proofs.Standing.{whole-first}
+use Rattle.mem_work.specs.ProofsForMemory.{is_stored}
+use Rattle.image_base.proofs.Pairs.{words-found, same-from, there-among}
+use Rattle.arena_api.proofs.Reached.{image-same, lawful-kept, next_image-kept}
+use Rattle.mem_work.specs.ProofsForMemory.{records-stand}
 use Rattle.mem_work.proofs.Handed.{none-from, width-other, buffers-handed, standing-handed, whole-handed, stored-handed}
 
 -- a layout, and words that its last root's image stands in
@@ -79,7 +84,7 @@ module _ (reaches : ℕ → Records → ℕ → List ℕ) (lawful : ℕ → Reco
         let ne : b * words + x ≢ begin_of bits words (width_in table words (buffer_of bits r)) r + i =
         (λ same.
         let w = width_in table words (buffer_of bits r) in
-        let one = (apart words b (buffer_of bits r) x (offset_of bits r * w + i) below (within e i h).1 (omega (arith, same))).0 in
+        let one = (same_from_place b x (buffer_of bits r) (offset_of bits r * w + i) words below (within e i h).1 (omega (arith, same))).0 in
         omega (arith, h, ap (width_in table words) one, none)) in
         omega (arith, old b x below none, get_or-set_other stamps _ (b * words + x) (last + 1) 0 ne)
 
@@ -218,26 +223,20 @@ length-zeros n = length-replicate n 0
 
 -- at the start nothing is there
 module _ (reaches : ℕ → Records → ℕ → List ℕ) (empty : (shape : ℕ) (m : Records) → reaches shape m 0 ≡ []) (shape n bits buffers words : ℕ) (room : n ≡ buffers * words) where
-  zero-at : (i : ℕ) → get_or (zeros n) i 0 ≡ 0
-  zero-at i = elim (cases_lt i n) [
-    | inl h ↦ get_or-replicate n i 0 0 h
-    | inr h ↦ get_or-eq_default (zeros n) 0 (omega (arith, length-zeros n, h))
-  ]
-
   no_image-opened : image_in reaches shape (zeros n) bits buffers words 0 ≡ no_image
   no_image-opened = ap (λ refs. image_of refs (standing (zeros n) bits buffers words) 0) (empty shape (standing (zeros n) bits buffers words))
 
   pub view-opened : memory_view reaches shape (zeros n) (zeros n) bits buffers words 0 0 ≡ opened tt (sizes_of buffers words) []
   view-opened = λ k. record (opened tt (sizes_of buffers words) []) {
-    buffer = λ b. buffer_by (zero-at (b * words) k);
+    buffer = λ b. buffer_by (slice_index-zeros n (b * words) k);
     commits = record { floor = 0; last = 0; image = λ m. no_image-opened k };
     stored = λ r i.
         none-from (stored_in (zeros n) (zeros n) bits buffers words (0 + 1) r i) (λ x is.
-        let wide = (is_stored (zeros n) (zeros n) bits buffers words (0 + 1) r i x is).entry.wide in omega (arith, wide, zero-at (buffer_of bits r * words))) k;
+        let wide = (is_stored (zeros n) (zeros n) bits buffers words (0 + 1) r i x is).entry.wide in omega (arith, wide, slice_index-zeros n (buffer_of bits r * words))) k;
   }
 
   pub records-opened : (r : ℕ) → records_in reaches shape (zeros n) (zeros n) bits buffers words 0 0 r ≡ []
   records-opened r =
       cond-false _ _ _ (false_from_ne_true _ (λ is.
-      let wide = (whole-first (zeros n) (zeros n) bits buffers words (0 + 1) r (length-zeros n ∙ room) is).0.wide in omega (arith, wide, zero-at (buffer_of bits r * words))))
+      let wide = (whole-first (zeros n) (zeros n) bits buffers words (0 + 1) r (length-zeros n ∙ room) is).0.wide in omega (arith, wide, slice_index-zeros n (buffer_of bits r * words))))
       ∙ ap (λ image. words_at image r) no_image-opened

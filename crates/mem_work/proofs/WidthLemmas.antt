@@ -3,7 +3,7 @@ use Rattle.std.proofs.Common.{ℕ, ◌<◌, subst}
 use Rattle.image_base.specs.Places.{IsEntry}
 use Rattle.arena_api.specs.Works.{active_width}
 use Rattle.mem_work.specs.Cells.{buffer_by}
-use Rattle.mem_work.specs.Stamped.{active_width-by}
+use Rattle.mem_work.specs.ProofsForMemory.{active_width-by}
 
 pub entry-by : (bits buffers words width r : ℕ) → IsEntry bits buffers words (active_width (buffer_by width)) r → IsEntry bits buffers words width r
 entry-by bits buffers words width r e = subst (λ w. IsEntry bits buffers words w r) (active_width-by width) e

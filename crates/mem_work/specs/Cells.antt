@@ -1,6 +1,6 @@
 -- Words in memory, one buffer after another. A buffer's first word is the width of its entries, 0 while it is free.
 -- Beside each word stands the number of the commit that was under way when it was last stored.
-use Rattle.std.specs.Prelude.{ℕ, zero, suc, ◌+◌, ◌*◌, Bool, ◌&&◌, nat_eq, nat_lt, nat_le, if◌then◌else◌, List, [], ◌∷◌, ◌++◌, length, slice_index, take, drop, None, Some}
+use Rattle.std.specs.Prelude.{ℕ, zero, suc, ◌+◌, ◌-◌, ◌*◌, ◌^◌, Bool, ◌&&◌, nat_eq, nat_lt, nat_le, if◌then◌else◌, List, [], ◌∷◌, ◌++◌, length, slice_index, take, drop, None, Some}
 use Rattle.std.specs.List.{list_all}
 use Rattle.entry_ref.specs.References.{buffer_of, offset_of}
 use Rattle.image_base.specs.declared.Image.{Image}
@@ -22,28 +22,28 @@ abbrev pub with_range : List ℕ → ℕ → List ℕ → List ℕ
 with_range table p ws = take p table ++ (ws ++ drop (p + length ws) table)
 
 -- whether a reference has an entry of this width
-unfoldable pub is_entry : ℕ → ℕ → ℕ → ℕ → ℕ → Bool
-is_entry bits buffers words width r =
+unfoldable pub names_entry : ℕ → ℕ → ℕ → ℕ → ℕ → Bool
+names_entry bits buffers words width r =
     nat_lt (buffer_of bits r) buffers && (nat_lt 0 width && (nat_lt 0 (offset_of bits r) && nat_le (offset_of bits r * width + width) words))
 
 -- the words of each entry, record or not
 unfoldable pub standing : List ℕ → ℕ → ℕ → ℕ → Records
 standing table bits buffers words r =
     let width = width_in table words (buffer_of bits r) in
-    if is_entry bits buffers words width r then take width (drop (begin_of bits words width r) table) else []
+    if names_entry bits buffers words width r then take width (drop (begin_of bits words width r) table) else []
 
 -- whether each word of an entry was stored under commit n
 unfoldable pub is_whole : List ℕ → List ℕ → ℕ → ℕ → ℕ → ℕ → ℕ → Bool
 is_whole table stamps bits buffers words n r =
     let width = width_in table words (buffer_of bits r) in
-    is_entry bits buffers words width r && list_all (λ k. nat_eq k n) (take width (drop (begin_of bits words width r) stamps))
+    names_entry bits buffers words width r && list_all (λ k. nat_eq k n) (take width (drop (begin_of bits words width r) stamps))
 
 -- the words that were stored under commit n
 unfoldable pub stored_in : List ℕ → List ℕ → ℕ → ℕ → ℕ → ℕ → Stored
 stored_in table stamps bits buffers words n r i =
     let width = width_in table words (buffer_of bits r) in
     let place = begin_of bits words width r + i in
-    if is_entry bits buffers words width r && (nat_lt i width && nat_eq (slice_index stamps place) n) then Some (slice_index table place) else None
+    if names_entry bits buffers words width r && (nat_lt i width && nat_eq (slice_index stamps place) n) then Some (slice_index table place) else None
 
 -- the image of the last commit: what its root reaches of the words that stand
 abbrev pub image_in : (ℕ → Records → ℕ → List ℕ) → ℕ → List ℕ → ℕ → ℕ → ℕ → ℕ → Image
@@ -65,7 +65,7 @@ buffers_in table words b = buffer_by (width_in table words b)
 
 -- the sizes of a memory, with the highest limits
 abbrev pub sizes_of : ℕ → ℕ → Sizes
-sizes_of buffers words = record { buffers = buffers; words = words; commits = 4294967295; generations = 281474976710655 }
+sizes_of buffers words = record { buffers = buffers; words = words; commits = 2 ^ 32 - 1; generations = 2 ^ 48 - 1 }
 
 -- the one hold of a work without readers
 abbrev pub only_hold : Hold

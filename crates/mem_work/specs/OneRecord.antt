@@ -1,7 +1,6 @@
 -- The layout whose root is one record.
-use Rattle.std.specs.Prelude.{◌≡◌, ℕ, zero, suc, ◌<◌, List, [], ◌∷◌, length}
-use Rattle.std.proofs.Common.{refl, sym, subst}
-use Rattle.image_base.specs.Records.{Records, SameAt, AllThere}
+use Rattle.std.specs.Prelude.{ℕ, zero, suc, ◌<◌, List, [], ◌∷◌, length}
+use Rattle.image_base.specs.Records.{Records}
 
 -- the root reaches itself
 abbrev pub one_reaches : ℕ → Records → ℕ → List ℕ
@@ -12,12 +11,3 @@ one_reaches shape m (suc r) = suc r ∷ []
 abbrev pub IsOneRecord : ℕ → Records → ℕ → Type 0
 IsOneRecord shape m zero = Unit {0}
 IsOneRecord shape m (suc r) = 0 < length (m (suc r))
-
-pub one_present : (shape : ℕ) (m : Records) (root : ℕ) → IsOneRecord shape m root → AllThere (one_reaches shape m root) m
-one_present shape m zero lawful = tt
-one_present shape m (suc r) lawful = (lawful, tt)
-
-pub one_stays : (shape : ℕ) (m n : Records) (root : ℕ) → SameAt (one_reaches shape m root) m n → IsOneRecord shape m root
-    → IsOneRecord shape n root × (one_reaches shape n root ≡ one_reaches shape m root)
-one_stays shape m n zero same lawful = (tt, refl)
-one_stays shape m n (suc r) same lawful = (subst (λ ws. 0 < length ws) (sym same.0) lawful, refl)

@@ -10,6 +10,3 @@ mod reach;
 pub use memory::MemWork;
 pub use one_record::OneRecord;
 pub use reach::Reach;
-
-#[cfg(test)]
-mod tests;

@@ -1,4 +1,4 @@
-ghost use Rattle.std.specs.Prelude.{◌≡◌, ◌≢◌, ◌<◌, ◌≤◌, ◌+◌, ◌*◌, ℕ, [], IfOk, length, slice_index};
+ghost use Rattle.std.specs.Prelude.{◌≡◌, ◌≢◌, ◌<◌, ◌≤◌, ◌+◌, ◌*◌, ◌^◌, ℕ, [], IfOk, length, slice_index};
 ghost use Rattle.std.proofs.Common.{sym, ◌∙◌};
 ghost use Rattle.entry_ref.specs.References.{buffer_of, buffer_limit, offset_limit};
 ghost use Rattle.image_base.specs.Images.{words_at};
@@ -32,12 +32,12 @@ pub struct MemWork<const OFFSET_BITS: u32, L: Layout> {
     // those of a free buffer before
     ghost unused: { (b x : ℕ) → x < cells.words → width_in cells.table.items cells.words b ≡ 0
         → slice_index cells.stamps.items (b * cells.words + x) ≤ last },
-    ghost limit: { last ≤ 4294967295 },
+    ghost limit: { last < 2 ^ 32 },
     ghost lawful: { ∥ L.lawful shape (standing cells.table.items OFFSET_BITS cells.buffers cells.words) root ∥₁ },
 }
 
 impl<const OFFSET_BITS: u32, L: Layout> MemWork<OFFSET_BITS, L> {
-    /// So many buffers of so many words, for images of this shape: nothing is committed.
+    /// `buffers` buffers of `words` words each, for images of this shape: nothing is committed.
     pub fn create(alloc: Global, buffers: u32, words: u32, shape: u32) -> Result<Self, AllocError>
         requires some_buffers { 1 ≤ buffers }
         requires few_buffers { buffers < buffer_limit OFFSET_BITS }
@@ -74,7 +74,7 @@ impl<const OFFSET_BITS: u32, L: Reach<OFFSET_BITS>> MemWork<OFFSET_BITS, L> {
 }
 
 impl<const OFFSET_BITS: u32, L: Layout> Frozen<OFFSET_BITS> for MemWork<OFFSET_BITS, L> {
-    ghost use Rattle.mem_work.specs.Laws.{memory_references};
+    ghost use Rattle.mem_work.specs.ProofsForMemory.{memory_references};
 
     ghost shape = { λ s. s.shape };
 
@@ -94,7 +94,7 @@ impl<const OFFSET_BITS: u32, L: Layout> Frozen<OFFSET_BITS> for MemWork<OFFSET_B
 }
 
 impl<const OFFSET_BITS: u32, L: Layout> Work<OFFSET_BITS> for MemWork<OFFSET_BITS, L> {
-    ghost use Rattle.mem_work.specs.Laws.{memory_limits, memory_order, memory_entries, memory_kept, memory_last, memory_whole, memory_stored, no_tag};
+    ghost use Rattle.mem_work.specs.ProofsForMemory.{memory_limits, memory_order, memory_entries, memory_kept, memory_last, memory_whole, memory_stored, no_tag};
 
     type Layout = L;
 

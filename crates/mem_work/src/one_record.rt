@@ -13,7 +13,8 @@ pub struct OneRecord;
 
 impl Layout for OneRecord {
     ghost use Rattle.std.specs.Prelude.{refl};
-    ghost use Rattle.mem_work.specs.OneRecord.{one_reaches, IsOneRecord, one_present, one_stays};
+    ghost use Rattle.mem_work.specs.OneRecord.{one_reaches, IsOneRecord};
+    ghost use Rattle.mem_work.specs.ProofsForOneRecord.{one_present, one_stays};
 
     ghost reaches = { one_reaches };
 

@@ -3,24 +3,24 @@ use Rattle.std.proofs.Common.{◌≡◌, ℕ, suc, ◌+◌, ◌-◌, ◌*◌, �
 use Rattle.std.specs.List.{IsDistinct, AllByRecursion, list_any}
 use Rattle.std.proofs.Math.Nat.{mul-le-mul_right, mul-le-mul_left, mul_comm, mul_assoc}
 use Rattle.std.proofs.lemmas.List.{length-map}
-use Rattle.std.proofs.lemmas.Nat.{div-add-mod'}
+use Rattle.std.proofs.lemmas.Nat.{div-add-mod', same_from_place}
 use Rattle.std.proofs.lemmas.Bool.{cases_lt, or_cases, eqb-true, eqb-false, ne_eqb}
 use Rattle.std.proofs.lemmas.Map.Steps.{length-le_from_distinct_below}
 use Rattle.entry_ref.specs.References.{buffer_of, offset_of}
+use Rattle.entry_ref.proofs.Bits.{same-ref}
 use Rattle.image_base.specs.Places.{IsEntry}
-use Rattle.image_base.proofs.Apart.{apart}
 use Rattle.store_api.specs.Ledgers.{capacity}
 
 -- the number of an entry among those of its width in all buffers
-abbrev number_of : ℕ → ℕ → ℕ → ℕ
-number_of words width r = buffer_of r * capacity words width + (offset_of r - 1)
+abbrev number_of : ℕ → ℕ → ℕ → ℕ → ℕ
+number_of bits words width r = buffer_of bits r * capacity words width + (offset_of bits r - 1)
 
-module _ (buffers words width : ℕ) where
-  -- an offset is one of the first so many
-  offset-below : (r : ℕ) → IsEntry buffers words width r → offset_of r - 1 < capacity words width
-  offset-below r e = elim (cases_lt (offset_of r) (words / width)) [
+module _ (bits buffers words width : ℕ) where
+  -- an offset is one of the buffer's
+  offset-below : (r : ℕ) → IsEntry bits buffers words width r → offset_of bits r - 1 < capacity words width
+  offset-below r e = elim (cases_lt (offset_of bits r) (words / width)) [
     | inl h ↦ (let first = e.first in omega arith)
-    | inr h ↦ (let wide : (words / width) * width ≤ offset_of r * width = mul-le-mul_right width h in
+    | inr h ↦ (let wide : (words / width) * width ≤ offset_of bits r * width = mul-le-mul_right width h in
         let last = e.last in
         let some = e.wide in
         let is : words / width * width + words % width ≡ words = div-add-mod' words width in
@@ -28,39 +28,39 @@ module _ (buffers words width : ℕ) where
         absurd (omega arith))
   ]
 
-  number-below : (r : ℕ) → IsEntry buffers words width r → number_of words width r < buffers * capacity words width
+  number-below : (r : ℕ) → IsEntry bits buffers words width r → number_of bits words width r < buffers * capacity words width
   number-below r e =
       let low = offset-below r e in
-      let more : suc (buffer_of r) * capacity words width ≤ buffers * capacity words width = mul-le-mul_right (capacity words width) e.inside in
-      omega (arith, suc-mul (buffer_of r) (capacity words width), low)
+      let more : suc (buffer_of bits r) * capacity words width ≤ buffers * capacity words width = mul-le-mul_right (capacity words width) e.inside in
+      omega (arith, suc-mul (buffer_of bits r) (capacity words width), low)
 
-  number-apart : (r q : ℕ) → IsEntry buffers words width r → IsEntry buffers words width q → number_of words width r ≡ number_of words width q → r ≡ q
+  number-apart : (r q : ℕ) → IsEntry bits buffers words width r → IsEntry bits buffers words width q → number_of bits words width r ≡ number_of bits words width q → r ≡ q
   number-apart r q e f same =
-      let both = apart (capacity words width) (buffer_of r) (buffer_of q) (offset_of r - 1) (offset_of q - 1) (offset-below r e) (offset-below q f) same in
-      let offsets : offset_of r ≡ offset_of q = (let a = e.first in let b = f.first in omega (arith, both.1)) in
-      sym (div-add-mod' r 1024) ∙ ap (λ n. n * 1024 + r % 1024) offsets ∙ ap (λ n. offset_of q * 1024 + n) both.0 ∙ div-add-mod' q 1024
+      let both = same_from_place (buffer_of bits r) (offset_of bits r - 1) (buffer_of bits q) (offset_of bits q - 1) (capacity words width) (offset-below r e) (offset-below q f) same in
+      let offsets : offset_of bits r ≡ offset_of bits q = (let a = e.first in let b = f.first in omega (arith, both.1)) in
+      same-ref bits r q offsets both.0
 
-  apart-map : (r : ℕ) (refs : List ℕ) → IsEntry buffers words width r → AllByRecursion (IsEntry buffers words width) refs → AllByRecursion (λ q. eqb r q ≡ false) refs
-      → AllByRecursion (λ n. eqb (number_of words width r) n ≡ false) (map (number_of words width) refs)
+  apart-map : (r : ℕ) (refs : List ℕ) → IsEntry bits buffers words width r → AllByRecursion (IsEntry bits buffers words width) refs → AllByRecursion (λ q. eqb r q ≡ false) refs
+      → AllByRecursion (λ n. eqb (number_of bits words width r) n ≡ false) (map (number_of bits words width) refs)
   apart-map r [] e all ne = tt
   apart-map r (q ∷ refs) e all ne =
-      (ne_eqb (number_of words width r) (number_of words width q) (λ same. eqb-false r q ne.0 (number-apart r q e all.0 same)), apart-map r refs e all.1 ne.1)
+      (ne_eqb (number_of bits words width r) (number_of bits words width q) (λ same. eqb-false r q ne.0 (number-apart r q e all.0 same)), apart-map r refs e all.1 ne.1)
 
-  distinct-map : (refs : List ℕ) → AllByRecursion (IsEntry buffers words width) refs → IsDistinct eqb refs → IsDistinct eqb (map (number_of words width) refs)
+  distinct-map : (refs : List ℕ) → AllByRecursion (IsEntry bits buffers words width) refs → IsDistinct eqb refs → IsDistinct eqb (map (number_of bits words width) refs)
   unfolding IsDistinct
   distinct-map [] all distinct = tt
   distinct-map (r ∷ refs) all distinct = (apart-map r refs all.0 all.1 distinct.0, distinct-map refs all.1 distinct.1)
 
-  below-map : (refs : List ℕ) → AllByRecursion (IsEntry buffers words width) refs → (n : ℕ) → list_any (eqb n) (map (number_of words width) refs) ≡ true → n < buffers * capacity words width
+  below-map : (refs : List ℕ) → AllByRecursion (IsEntry bits buffers words width) refs → (n : ℕ) → list_any (eqb n) (map (number_of bits words width) refs) ≡ true → n < buffers * capacity words width
   below-map [] all n among = absurd (cc)
   below-map (r ∷ refs) all n among =
-      ⊎_elim (λ (e : eqb n (number_of words width r) ≡ true). subst (λ m. m < buffers * capacity words width) (sym (eqb-true n (number_of words width r) e)) (number-below r all.0))
+      ⊎_elim (λ (e : eqb n (number_of bits words width r) ≡ true). subst (λ m. m < buffers * capacity words width) (sym (eqb-true n (number_of bits words width r) e)) (number-below r all.0))
       (below-map refs all.1 n) (or_cases _ _ among)
 
-  pub few_entries : (refs : List ℕ) → IsDistinct eqb refs → AllByRecursion (IsEntry buffers words width) refs → length refs ≤ buffers * capacity words width
+  pub few_entries : (refs : List ℕ) → IsDistinct eqb refs → AllByRecursion (IsEntry bits buffers words width) refs → length refs ≤ buffers * capacity words width
   few_entries refs distinct all =
-      subst (λ n. n ≤ buffers * capacity words width) (length-map refs (number_of words width))
-      (length-le_from_distinct_below (map (number_of words width) refs) (buffers * capacity words width) (distinct-map refs all distinct) (below-map refs all))
+      subst (λ n. n ≤ buffers * capacity words width) (length-map refs (number_of bits words width))
+      (length-le_from_distinct_below (map (number_of bits words width) refs) (buffers * capacity words width) (distinct-map refs all distinct) (below-map refs all))
 
 -- nodes of 34 words
 pub few_nodes : (buffers words : ℕ) → buffers * words ≤ 67108864 → buffers * capacity words 34 ≤ 1973790

@@ -1,6 +1,6 @@
 -- What a unit may do: nothing, and one thing after another.
 use Rattle.std.proofs.Common.{◌≡◌, true, refl, sym, ap, ◌∙◌, arith, inl, inr, ⊎_elim}
-use Rattle.store_api.specs.Classes.{Class, is_open}
+use Rattle.store_api.specs.Statuses.{Status, is_open}
 use Rattle.store_api.specs.Ledgers.{Ledger, MayDo, IsSameBack}
 
 pub may_do-same : {H : Type 0} (ledger : Ledger H) → MayDo ledger ledger
@@ -19,13 +19,13 @@ may_do-same ledger = record {
   newly = λ r used. inl used;
 }
 
-back-then : (a b c : Class) → IsSameBack a b → IsSameBack b c → IsSameBack a c
+back-then : (a b c : Status) → IsSameBack a b → IsSameBack b c → IsSameBack a c
 back-then a b c (inl e) (inl f) = inl (f ∙ e)
 back-then a b c (inl e) (inr f) = inr (sym e ∙ f.0, f.1)
 back-then a b c (inr e) (inl f) = inr (e.0, f ∙ e.1)
-back-then a b c (inr e) (inr f) = absurd (let clash : Class.free ≡ Class.unmade = sym e.1 ∙ f.0 in cc)
+back-then a b c (inr e) (inr f) = absurd (let clash : Status.free ≡ Status.unmade = sym e.1 ∙ f.0 in cc)
 
-open-then : (b c : Class) → IsSameBack b c → is_open b ≡ true → is_open c ≡ true
+open-then : (b c : Status) → IsSameBack b c → is_open b ≡ true → is_open c ≡ true
 open-then b c (inl e) h = ap is_open e ∙ h
 open-then b c (inr e) h = ap is_open e.1
 

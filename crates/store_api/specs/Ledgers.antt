@@ -1,5 +1,5 @@
 -- The ledger of a store, and what its calls make of it.
-use Rattle.std.specs.Prelude.{◌≡◌, ◌≢◌, ◌⊎◌, ℕ, zero, suc, ◌+◌, ◌-◌, ◌/◌, ◌<◌, ◌≤◌, Bool, true, false, nat_eq, if◌then◌else◌, min, List, [], ◌∷◌, Option, Some}
+use Rattle.std.specs.Prelude.{◌≡◌, ◌≢◌, ◌⊎◌, ℕ, zero, suc, ◌+◌, ◌-◌, ◌/◌, ◌^◌, ◌<◌, ◌≤◌, Bool, true, false, nat_eq, if◌then◌else◌, min, List, [], ◌∷◌, Option, Some}
 use Rattle.std.specs.List.{list_any}
 use Rattle.entry_ref.specs.References.{buffer_of}
 use Rattle.image_base.specs.Places.{IsEntry}
@@ -8,7 +8,7 @@ use Rattle.image_base.specs.Images.{words_at}
 use Rattle.image_base.specs.declared.Image.{Image}
 use Rattle.arena_api.specs.Works.{WorkView, Commits, Buffer, active_width, free_count}
 use Rattle.arena_api.specs.Calls.{IsLowestFree, handed_out, padded, published}
-use Rattle.store_api.specs.Classes.{Class, in_use, is_open, is_free, is_let_go, after_drop, after_commit, with_class}
+use Rattle.store_api.specs.Statuses.{Status, in_use, is_open, is_free_status, is_let_go, after_drop, after_commit, with_status}
 
 abbrev pub is_active : Buffer → Bool
 is_active (Buffer.free tag) = false
@@ -26,9 +26,9 @@ pub record Ledger (H : Type 0) : Type 0 where
   pub shape : ℕ
   -- whether a unit is under way
   pub unit : Bool
-  pub class : ℕ → Class
-  -- the classes and the records that an undo gives back; where no unit is under way, those that are
-  pub back : ℕ → Class
+  pub status : ℕ → Status
+  -- the statuses and the records that an undo gives back; where no unit is under way, those that are
+  pub back : ℕ → Status
   pub back_records : Records
   -- of each width: how often an entry was made, up to the last 64-bit number
   pub made : ℕ → ℕ
@@ -48,13 +48,13 @@ widths = 2 ∷ 4 ∷ 8 ∷ 16 ∷ 32 ∷ 64 ∷ 128 ∷ 256 ∷ 512 ∷ 1024 ∷
 abbrev pub is_width : ℕ → Bool
 is_width width = list_any (nat_eq width) widths
 
--- so many entries of a width fit a buffer, behind its reserved offset 0
+-- how many entries of a width fit a buffer, behind its reserved offset 0
 abbrev pub capacity : ℕ → ℕ → ℕ
 capacity words width = words / width - 1
 
 -- a reference names an entry of an active buffer
-abbrev pub IsEntryOf : {H : Type 0} → WorkView H → ℕ → Type 0
-IsEntryOf work r = IsEntry work.sizes.buffers work.sizes.words (active_width (work.buffer (buffer_of r))) r
+abbrev pub IsEntryOf : {H : Type 0} → ℕ → WorkView H → ℕ → Type 0
+IsEntryOf bits work r = IsEntry bits work.sizes.buffers work.sizes.words (active_width (work.buffer (buffer_of bits r))) r
 
 -- a number of one width is another
 abbrev pub with_count : (ℕ → ℕ) → ℕ → ℕ → ℕ → ℕ
@@ -65,8 +65,8 @@ abbrev pub with_filled : (ℕ → Option ℕ) → ℕ → ℕ → ℕ → Option
 with_filled filled width b w = if nat_eq w width then Some b else filled w
 
 -- one more, up to the last 64-bit number
-abbrev pub counted : ℕ → ℕ
-counted n = min (n + 1) 18446744073709551615
+abbrev pub one_more : ℕ → ℕ
+one_more n = min (n + 1) (2 ^ 64 - 1)
 
 -- how many of the first n buffers are active, and how many are held
 abbrev pub active_count : (ℕ → Buffer) → ℕ → ℕ
@@ -78,8 +78,8 @@ held_count buffer zero = 0
 held_count buffer (suc n) = held_count buffer n + (if is_held (buffer n) then 1 else 0)
 
 -- an undo gives the same back, but that an offset taken since is free
-abbrev pub IsSameBack : Class → Class → Type 0
-IsSameBack old new = (new ≡ old) ⊎ ((old ≡ Class.unmade) × (new ≡ Class.free))
+abbrev pub IsSameBack : Status → Status → Type 0
+IsSameBack old new = (new ≡ old) ⊎ ((old ≡ Status.unmade) × (new ≡ Status.free))
 
 -- what make and drop_entry may do within a unit
 pub record MayDo {H : Type 0} (old new : Ledger H) : Type 0 where
@@ -95,7 +95,7 @@ pub record MayDo {H : Type 0} (old new : Ledger H) : Type 0 where
   pub back : (r : ℕ) → IsSameBack (old.back r) (new.back r)
   pub back_records : new.back_records ≡ old.back_records
   -- an entry newly in use was made by the unit
-  pub newly : (r : ℕ) → in_use (new.class r) ≡ true → (in_use (old.class r) ≡ true) ⊎ (is_open (new.back r) ≡ true)
+  pub newly : (r : ℕ) → in_use (new.status r) ≡ true → (in_use (old.status r) ≡ true) ⊎ (is_open (new.back r) ≡ true)
 
 -- where a made entry came from: no buffer was handed out, or one was, at spare 0
 pub record TakesSpare {H : Type 0} (old new : Ledger H) (width : ℕ) : Type 0 where
@@ -105,28 +105,28 @@ pub record TakesSpare {H : Type 0} (old new : Ledger H) (width : ℕ) : Type 0 w
   pub filled : new.filled ≡ old.filled
   pub spare : new.spare ≡ with_count old.spare width (old.spare width - 1)
 
-pub record TakesBuffer {H : Type 0} (old new : Ledger H) (width r : ℕ) : Type 0 where
+pub record TakesBuffer {H : Type 0} (bits : ℕ) (old new : Ledger H) (width r : ℕ) : Type 0 where
   pub none : old.spare width ≡ 0
-  pub lowest : IsLowestFree old.work.buffer old.work.sizes.buffers (buffer_of r)
-  pub work : new.work ≡ record (handed_out old.work (buffer_of r) width) { stored = new.work.stored }
+  pub lowest : IsLowestFree old.work.buffer old.work.sizes.buffers (buffer_of bits r)
+  pub work : new.work ≡ record (handed_out old.work (buffer_of bits r) width) { stored = new.work.stored }
   pub buffers : new.buffers ≡ with_count old.buffers width (old.buffers width + 1)
-  pub filled : new.filled ≡ with_filled old.filled width (buffer_of r)
+  pub filled : new.filled ≡ with_filled old.filled width (buffer_of bits r)
   pub spare : new.spare ≡ with_count old.spare width (capacity old.work.sizes.words width - 1)
 
 -- an entry of this width is made, of these words
-pub record Makes {H : Type 0} (old new : Ledger H) (m n : Records) (width : ℕ) (words : List ℕ) (r : ℕ) : Type 0 where
-  pub was : is_open (old.class r) ≡ true
+pub record Makes {H : Type 0} (bits : ℕ) (old new : Ledger H) (m n : Records) (width : ℕ) (words : List ℕ) (r : ℕ) : Type 0 where
+  pub was : is_open (old.status r) ≡ true
   -- an unmade one only where none of the width is free
-  pub free_first : old.class r ≡ Class.unmade → (q : ℕ) → active_width (old.work.buffer (buffer_of q)) ≡ width → old.class q ≢ Class.free
-  pub place : IsEntry new.work.sizes.buffers new.work.sizes.words width r
-  pub of_width : active_width (new.work.buffer (buffer_of r)) ≡ width
-  pub class : new.class ≡ with_class old.class r Class.pending
+  pub free_first : old.status r ≡ Status.unmade → (q : ℕ) → active_width (old.work.buffer (buffer_of bits q)) ≡ width → old.status q ≢ Status.free
+  pub place : IsEntry bits new.work.sizes.buffers new.work.sizes.words width r
+  pub of_width : active_width (new.work.buffer (buffer_of bits r)) ≡ width
+  pub status : new.status ≡ with_status old.status r Status.pending
   pub none : m r ≡ []
   pub records : n ≡ with_words m r (padded words width)
-  pub made : new.made ≡ with_count old.made width (counted (old.made width))
+  pub made : new.made ≡ with_count old.made width (one_more (old.made width))
   pub fresh : new.fresh ≡ with_count old.fresh width (old.fresh width + 1)
   pub gone : new.gone ≡ old.gone
-  pub from : TakesSpare old new width ⊎ TakesBuffer old new width r
+  pub from : TakesSpare old new width ⊎ TakesBuffer bits old new width r
 
 -- what a full store is: the width has no spare and no buffer is free
 pub record IsFull {H : Type 0} (ledger : Ledger H) (width active held : ℕ) : Type 0 where
@@ -138,25 +138,25 @@ pub record IsFull {H : Type 0} (ledger : Ledger H) (width active held : ℕ) : T
 
 -- an entry that the unit made, and so is free at once when it is dropped
 abbrev pub is_fresh : {H : Type 0} → Ledger H → ℕ → Bool
-is_fresh ledger r = is_free (after_drop (ledger.class r) (ledger.back r))
+is_fresh ledger r = is_free_status (after_drop (ledger.status r) (ledger.back r))
 
 -- an entry in use is dropped
 abbrev pub dropped_from : {H : Type 0} → Ledger H → ℕ → ℕ → Ledger H
 dropped_from ledger r width =
-    let dropped = record ledger { class = with_class ledger.class r (after_drop (ledger.class r) (ledger.back r)) } in
+    let dropped = record ledger { status = with_status ledger.status r (after_drop (ledger.status r) (ledger.back r)) } in
     if is_fresh ledger r then record dropped {
       spare = with_count ledger.spare width (ledger.spare width + 1);
       fresh = with_count ledger.fresh width (ledger.fresh width - 1);
-    } else if is_let_go (after_drop (ledger.class r) (ledger.back r)) then record dropped {
+    } else if is_let_go (after_drop (ledger.status r) (ledger.back r)) then record dropped {
       gone = with_count ledger.gone width (ledger.gone width + 1);
     } else dropped
 
--- a unit ends with these classes and records, each width's spare so many more
-abbrev pub ended : {H : Type 0} → Ledger H → (ℕ → Class) → Records → (ℕ → ℕ) → Ledger H
-ended ledger class records more = record ledger {
+-- a unit ends with these statuses and records, with more spare entries in each width
+abbrev pub ended : {H : Type 0} → Ledger H → (ℕ → Status) → Records → (ℕ → ℕ) → Ledger H
+ended ledger status records more = record ledger {
   unit = false;
-  class = class;
-  back = class;
+  status = status;
+  back = status;
   back_records = records;
   spare = λ width. ledger.spare width + more width;
   fresh = λ width. 0;
@@ -164,25 +164,25 @@ ended ledger class records more = record ledger {
 }
 
 -- an entry that is free is no record
-abbrev pub without_free : (ℕ → Class) → Records → Records
-without_free class m r = if is_free (class r) then [] else m r
+abbrev pub without_free : (ℕ → Status) → Records → Records
+without_free status m r = if is_free_status (status r) then [] else m r
 
 -- what was let go is no record any more
 abbrev pub kept_records : {H : Type 0} → Ledger H → Records → Records
-kept_records ledger m r = if is_let_go (ledger.class r) then [] else m r
+kept_records ledger m r = if is_let_go (ledger.status r) then [] else m r
 
 -- a commit of this image: what was pending is live, and what was dropped is spent
 abbrev pub committed : {H : Type 0} → Ledger H → Commits → Image → Ledger H
 committed ledger commits image = record ledger {
   work = published ledger.work commits image;
-  class = λ r. after_commit (ledger.class r);
-  back = λ r. after_commit (ledger.class r);
+  status = λ r. after_commit (ledger.status r);
+  back = λ r. after_commit (ledger.status r);
   back_records = words_at image;
 }
 
 -- no unit is under way, so an undo would change nothing
 pub record IsSettled {H : Type 0} (ledger : Ledger H) (m : Records) : Type 0 where
-  pub back : ledger.back ≡ ledger.class
+  pub back : ledger.back ≡ ledger.status
   pub back_records : ledger.back_records ≡ m
   pub fresh : (width : ℕ) → ledger.fresh width ≡ 0
   pub gone : (width : ℕ) → ledger.gone width ≡ 0
@@ -190,7 +190,7 @@ pub record IsSettled {H : Type 0} (ledger : Ledger H) (m : Records) : Type 0 whe
 -- a store of which nothing was made yet
 pub record IsNew {H : Type 0} (ledger : Ledger H) : Type 0 where
   pub unit : ledger.unit ≡ false
-  pub class : (r : ℕ) → ledger.class r ≡ Class.unmade
+  pub status : (r : ℕ) → ledger.status r ≡ Status.unmade
   pub made : (width : ℕ) → ledger.made width ≡ 0
   pub spare : (width : ℕ) → ledger.spare width ≡ 0
   pub buffers : (width : ℕ) → ledger.buffers width ≡ 0

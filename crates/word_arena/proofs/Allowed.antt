@@ -30,14 +30,12 @@ use Rattle.gen_core.proofs.Law.{image_stands}
 use Rattle.word_arena.specs.Ruled.{Slot, views_of, Ruled, Becomes, writer_of, reader_of, told_hand_out, told_width, told_store, told_publish, told_load_root, told_load_newest, told_raise, told_bounce, told_release, told_load_word, told_load_own, cut_left, cut_right, glued}
 use Rattle.word_arena.specs.ProofsForWork.{coming-least}
 use Rattle.word_arena.proofs.Views.{get_some}
-use Rattle.gen_core.proofs.StoredWords.{p}
 use Rattle.gen_core.proofs.Holds.{at_newest}
 use Rattle.gen_core.proofs.GoodViews.{good_view, some-commit, last-kept, records-placed}
 use Rattle.gen_core.proofs.ViewLemmas.{last_at}
 use Rattle.gen_core.proofs.OneStep.{set_back}
 use Rattle.gen_core.proofs.Layouts.{IsLayout}
 use Rattle.gen_core.proofs.Bounds.{count-small, counted-two}
-use Rattle.word_arena.proofs.Desks.{w}
 use Rattle.word_arena.proofs.Guards.{r, m}
 
 -- the writer's seat is the first, and each other one is a reader's

@@ -24,7 +24,6 @@ use Rattle.gen_core.specs.Conditions.{IsUnder}
 use Rattle.gen_core.specs.Events.{aims, with_state, sees, found_state}
 use Rattle.word_arena.specs.ProofsForGuards.{in_image, image-entry}
 use Rattle.word_arena.specs.Ruled.{Slot, reader_of, ToldLoadRoot, ToldLoadNewest, told_raise, ToldLoadWord, first_of, image_of, number_of, IsPost, IsWatch, IsGuard, IsLater}
-use Rattle.gen_core.proofs.StoredWords.{p}
 
 -- a seat after a step to the view v
 pub post_after : {bits : ℕ} {arena : TableId} {sizes : Sizes} {z z' : TableId} {me me' : Me Slot View} → IsPost bits arena sizes z me → z' ≡ z → (v : ReaderView) → me' ≡ (Reader v, me.1) → v.sizes ≡ (reader_of me.0).sizes

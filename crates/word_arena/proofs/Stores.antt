@@ -29,8 +29,6 @@ use Rattle.arena_api.specs.Works.{Buffer as ApiBuffer, active_width as api_activ
 use Rattle.arena_api.specs.Calls.{MayStore, InNoCommit, AddsCommit, with_stored, with_buffer as api_with_buffer, handed_out as api_handed_out}
 use Rattle.word_arena.specs.Knows.{given, api_buffer, image_at, view_of}
 use Rattle.word_arena.specs.ProofsForWork.{core-active, at_number}
-use Rattle.word_arena.proofs.Desks.{w}
-use Rattle.word_arena.proofs.Guards.{r}
 
 -- a work's commits that have no record are the writer's kept ones
 unkept-all : (w : WriterView) → GoodView w → {H : Type 0} (home : H) (r : ℕ) → InNoCommit (view_of home w).commits r → All (λ image. words_at image r ≡ []) (kept_of w)

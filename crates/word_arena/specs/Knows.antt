@@ -21,7 +21,6 @@ use Rattle.arena_api.specs.Works.{WorkView, Hold, Tag as ApiTag, Buffer as ApiBu
 use Rattle.arena_api.specs.Calls.{IsWithinLimits}
 use Rattle.word_arena.specs.Ruled.{Slot, writer_of, api_sizes}
 use Rattle.gen_core.specs.Good.{GoodView}
-use Rattle.word_arena.proofs.Desks.{w}
 
 abbrev pub api_tag : Tag → ApiTag
 api_tag t = record { generation = t.generation; commit = t.commit }

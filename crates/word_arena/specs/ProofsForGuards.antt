@@ -12,7 +12,6 @@ use Rattle.gen_core.specs.declared.views.Sizes.{Sizes}
 use Rattle.gen_core.specs.declared.views.View.{View}
 use Rattle.gen_core.proofs.Lists.{all_found}
 use Rattle.word_arena.specs.Ruled.{Slot, reader_of, image_of, IsGuard}
-use Rattle.word_arena.proofs.Guards.{r}
 
 there : (o : Option (List ℕ)) → 0 < length (unwrap_or o []) → o ≡ Some (unwrap_or o [])
 there None h = absurd (omega arith)

@@ -29,8 +29,6 @@ use Rattle.arena_api.specs.Works.{Hold, Tag as ApiTag, Buffer as ApiBuffer, acti
 use Rattle.arena_api.specs.Calls.{IsWithinLimits, IsInOrder, IsWordIn, Fits, oldest_first}
 use Rattle.word_arena.specs.Ruled.{api_sizes, Slot, writer_of}
 use Rattle.word_arena.specs.Knows.{api_buffer, api_hold, image_at, view_of, IsDesk}
-use Rattle.word_arena.proofs.Desks.{w}
-use Rattle.word_arena.proofs.Guards.{r}
 use Rattle.gen_core.specs.declared.views.View.{View}
 use Rattle.atomic_table.specs.Seated.{TableId}
 use Rattle.atomic_table.specs.Table.{Me}

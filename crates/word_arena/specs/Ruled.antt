@@ -19,9 +19,6 @@ use Rattle.gen_core.specs.Work.{place_in, writer_records, next_image}
 use Rattle.gen_core.specs.Good.{IsLawfulCommit, Good, GoodView}
 use Rattle.gen_core.specs.Conditions.{IsUnder}
 use Rattle.gen_core.specs.Events.{aims, with_state, found_state, bounced, opening_view, widened, handed_out, published, sees, with_reader, newcomer, joined}
-use Rattle.gen_core.proofs.StoredWords.{p}
-use Rattle.word_arena.proofs.Desks.{w}
-use Rattle.word_arena.proofs.Guards.{r}
 use Rattle.arena_api.specs.Calls.{IsWithinLimits}
 
 -- the sizes as a work tells them

@@ -1,13 +1,13 @@
 use Rattle.std.proofs.Common.{◌≡◌, map, vec_len, vec_capacity}
 use Rattle.entry_shelf.specs.States.{settled}
-use Rattle.entry_shelf.specs.Kept.{IsKept}
+use Rattle.entry_shelf.specs.Kept.{IsShelf}
 use Rattle.entry_shelf.proofs.shelf.Shelf.settle.Given as goal
 
 abbrev pub invariant-loop-entry : goal.invariant-loop-entry
 invariant-loop-entry l =
     let s = l.self-inside in
     record {
-      kept : IsKept s.states.items s.free.items s.free_places.items s.touched.items s.touched_places.items s.room
+      kept : IsShelf s.states.items s.free.items s.free_places.items s.touched.items s.touched_places.items s.room
           (vec_capacity s.states) (vec_capacity s.free) (vec_capacity s.free_places) (vec_capacity s.touched) (vec_capacity s.touched_places);
       same : map (settled l.accepts l.last) s.states.items ≡ map (settled l.accepts l.last) l.fn.self.states;
       room : s.room ≡ l.fn.self.room;

@@ -1,12 +1,12 @@
 use Rattle.std.proofs.Common.{◌≡◌, false, not, length, refl, sym, ap, subst, ◌∙◌, arith}
 use Rattle.std.proofs.Math.ListN.{length-set}
-use Rattle.std.proofs.lemmas.List.{get_or_read}
+use Rattle.std.proofs.lemmas.List.{get_or_read, length_push, nil_from_length}
 use Rattle.std.proofs.lemmas.Bool.{not-true}
 use Rattle.entry_shelf.specs.declared.state.State.{State}
 use Rattle.entry_shelf.specs.declared.state.State.TheVariants.{Free, Made}
 use Rattle.entry_shelf.specs.States.{is_free, is_touched, state_at}
 use Rattle.entry_shelf.specs.Stacks.{IsStack}
-use Rattle.entry_shelf.proofs.StackSteps.{stack-room, stack-enter, stack-pop, stack-top, stack-none, stack-some, length-choice, empty-from, length-one_more}
+use Rattle.entry_shelf.proofs.StackSteps.{stack-room, stack-enter, stack-pop, stack-top, stack-none, stack-some, length-choice}
 use Rattle.entry_shelf.proofs.shelf.Shelf.take.Goals as goal
 
 pub enter-requires-clause-room : goal.enter-requires-clause-room
@@ -49,14 +49,14 @@ invariant_of-self-2 c =
     let k = c.self.invariant in
     let none = c.in_default.ensures.cases in
     let left : c.pop.new.self.items ≡ s.free.items =
-    empty-from _ (omega (arith, none.1, c.pop.new.self.ok.0)) ∙ sym (empty-from s.free.items (omega (arith, none.0, s.free.ok.0))) in
+    nil_from_length _ (omega (arith, none.1, c.pop.new.self.ok.0)) ∙ sym (nil_from_length s.free.items (omega (arith, none.0, s.free.ok.0))) in
     let size : c.len.result ≡ length s.touched.items = c.len.ensures ∙ s.touched.ok.0 in
     let entry : c.len-entry.result ≡ length s.states.items = c.len-entry.ensures ∙ s.states.ok.0 in
     let free = stack-none is_free s.states.items s.free_places.items s.free.items k.free_is Made 0 refl k.long1 in
     let touched = stack-some is_touched s.states.items s.touched_places.items s.touched.items k.touched_is Made refl k.long2 in
-    let long = ap length c.put.ensures.items ∙ length-one_more s.states.items Made in
-    let long1 = ap length c.put-2.ensures.items ∙ length-one_more s.free_places.items 0 in
-    let long2 = ap length c.put-3.ensures.items ∙ length-one_more s.touched_places.items c.len.result in
+    let long = ap length c.put.ensures.items ∙ length_push s.states.items Made in
+    let long1 = ap length c.put-2.ensures.items ∙ length_push s.free_places.items 0 in
+    let long2 = ap length c.put-3.ensures.items ∙ length_push s.touched_places.items c.len.result in
     record {
       taken = omega (arith, long, entry, k.taken, c.if-entry-self.false);
       fits = k.fits;

@@ -1,20 +1,20 @@
 use Rattle.std.proofs.Common.{◌≡◌, ◌++◌, map, take, drop, length, sym, ap, subst, ◌∙◌, arith}
 use Rattle.entry_shelf.specs.States.{accepted}
 use Rattle.entry_states.specs.Entries.{IsGood, accepted_at}
-use Rattle.entry_states.specs.Rows.{RowsView, entries_of, IsKept}
+use Rattle.entry_states.specs.Rows.{RowsView, entries_of, AreRows}
 use Rattle.entry_states.proofs.Good.{good}
 use Rattle.entry_states.proofs.Ending.{changed, with_changed, changed-kept, changed-more, changed-rows, same-changed, accept-accepted}
 use Rattle.entry_states.proofs.entries.Entries.accept.Goals as goal
 
 pub loop-row-preserved : goal.loop-row-preserved
 unfolding entries_of
-loop-row-preserved c =
+loop-row-preserved g c =
     changed-more (accepted c.args.last) c.deref_mut-row-items.result.now c.loop-row.row-items c.loop-row.row-index c.row-item.result c.accept.new.self
     c.loop-row-test.true c.loop-row.auto.row-items c.loop-row.invariant c.row-item.is c.accept.ensures
 
 pub invariant_of-self : goal.invariant_of-self
 unfolding entries_of
-invariant_of-self c =
+invariant_of-self g c =
     let s = c.self.inside in
     let v : RowsView = record { words = s.words; rows = s.rows.items; slots = s.slots.items; ready = s.ready } in
     let len : s.rows.len ≡ length s.rows.items = omega (arith, s.rows.ok.0) in
@@ -22,11 +22,11 @@ invariant_of-self c =
     changed-rows (accepted c.args.last) s.rows.len c.loop-row.row-index s.rows.items c.deref_mut-row-items.result.now c.loop-row.row-items len
     c.deref_mut-row-items.ensures.value c.loop-row.auto.row-items c.loop-row-test.false c.loop-row.invariant in
     let same = same-changed (accepted c.args.last) v (take s.rows.len (c.loop-row.row-items ++ drop (length c.loop-row.row-items) s.rows.items)) rows in
-    subst IsKept (sym same) (changed-kept (accepted c.args.last) v c.self.invariant)
+    subst (AreRows g.row.OFFSET_BITS) (sym same) (changed-kept g.row.OFFSET_BITS (accepted c.args.last) v c.self.invariant)
 
 pub returns-clause-accepted : goal.returns-clause-accepted
 unfolding entries_of
-returns-clause-accepted c =
+returns-clause-accepted g c =
     let s = c.self.inside in
     let v : RowsView = record { words = s.words; rows = s.rows.items; slots = s.slots.items; ready = s.ready } in
     let len : s.rows.len ≡ length s.rows.items = omega (arith, s.rows.ok.0) in
@@ -34,11 +34,11 @@ returns-clause-accepted c =
     changed-rows (accepted c.args.last) s.rows.len c.loop-row.row-index s.rows.items c.deref_mut-row-items.result.now c.loop-row.row-items len
     c.deref_mut-row-items.ensures.value c.loop-row.auto.row-items c.loop-row-test.false c.loop-row.invariant in
     let same = same-changed (accepted c.args.last) v (take s.rows.len (c.loop-row.row-items ++ drop (length c.loop-row.row-items) s.rows.items)) rows in
-    ap entries_of same ∙ accept-accepted v c.args.last ∙ ap (λ (o : RowsView). accepted_at (entries_of o) c.args.last) c.self.view_is
+    ap (entries_of g.row.OFFSET_BITS) same ∙ accept-accepted g.row.OFFSET_BITS v c.args.last ∙ ap (λ (o : RowsView). accepted_at (entries_of g.row.OFFSET_BITS o) c.args.last) c.self.view_is
 
 pub returns-clause-good : goal.returns-clause-good
 unfolding entries_of
-returns-clause-good c =
+returns-clause-good g c =
     let s = c.self.inside in
     let v : RowsView = record { words = s.words; rows = s.rows.items; slots = s.slots.items; ready = s.ready } in
     let len : s.rows.len ≡ length s.rows.items = omega (arith, s.rows.ok.0) in
@@ -46,5 +46,5 @@ returns-clause-good c =
     changed-rows (accepted c.args.last) s.rows.len c.loop-row.row-index s.rows.items c.deref_mut-row-items.result.now c.loop-row.row-items len
     c.deref_mut-row-items.ensures.value c.loop-row.auto.row-items c.loop-row-test.false c.loop-row.invariant in
     let same = same-changed (accepted c.args.last) v (take s.rows.len (c.loop-row.row-items ++ drop (length c.loop-row.row-items) s.rows.items)) rows in
-    subst (λ (o : RowsView). IsGood (entries_of o)) (sym same)
-    (good (with_changed (accepted c.args.last) v) (changed-kept (accepted c.args.last) v c.self.invariant))
+    subst (λ (o : RowsView). IsGood g.row.OFFSET_BITS (entries_of g.row.OFFSET_BITS o)) (sym same)
+    (good g.row.OFFSET_BITS (with_changed (accepted c.args.last) v) (changed-kept g.row.OFFSET_BITS (accepted c.args.last) v c.self.invariant))

@@ -4,5 +4,5 @@ use Rattle.entry_states.proofs.Ending.{changed}
 use Rattle.entry_states.proofs.entries.Entries.accept.Given as goal
 
 abbrev pub invariant-loop-row : goal.invariant-loop-row
-invariant-loop-row l =
+invariant-loop-row g l =
     l.row-items ≡ map (changed (accepted l.last)) (take l.row-index l.initial.row-items) ++ drop l.row-index l.initial.row-items

@@ -1,9 +1,10 @@
-use Rattle.std.proofs.Common.{◌≡◌, ◌<◌, ◌*◌, ◌/◌, length, get_or, refl, sym, ap, subst, ◌∙◌, arith}
+use Rattle.std.proofs.Common.{◌≡◌, ◌<◌, ◌+◌, ◌*◌, ◌/◌, ◌%◌, length, get_or, refl, sym, ap, subst, ◌∙◌, arith}
 use Rattle.std.proofs.lemmas.List.{get_or_read}
+use Rattle.entry_ref.specs.References.{offset_limit, buffer_limit, packed}
 use Rattle.entry_shelf.specs.States.{IsOpen, spare_of}
 use Rattle.entry_states.specs.Entries.{IsGood, CanTake, made_at}
-use Rattle.entry_states.specs.Rows.{RowView, RowsView, new_row, row_at, entry_in, spare_in, entries_of, IsKept}
-use Rattle.entry_states.proofs.Standing.{some-capacity, buffer-low}
+use Rattle.entry_states.specs.Rows.{RowView, RowsView, new_row, row_at, entry_in, spare_in, entries_of, AreRows}
+use Rattle.entry_states.proofs.Standing.{offset-low, buffer-low}
 use Rattle.entry_states.proofs.Good.{good}
 use Rattle.entry_states.proofs.Keeping.{with_row, same-row, put-row}
 use Rattle.entry_states.proofs.Taking.{idle-spare, made_row, below, take-kept, take-made, take-open}
@@ -11,7 +12,7 @@ use Rattle.entry_states.proofs.entries.Entries.take.Goals as goal
 
 pub returns-in_err-number-clause-none : goal.returns-in_err-number-clause-none
 unfolding entries_of
-returns-in_err-number-clause-none c =
+returns-in_err-number-clause-none g c =
     let s = c.self.inside in
     let v : RowsView = record { words = s.words; rows = s.rows.items; slots = s.slots.items; ready = s.ready } in
     let row : c.index_mut-row.result.now ≡ row_at v.rows c.args.width =
@@ -19,25 +20,25 @@ returns-in_err-number-clause-none c =
     ∙ ap (λ p. get_or s.rows.items p (new_row 0)) c.place_of.ensures.place in
     let idle : v.ready ≡ 0 = subst (λ (o : RowsView). o.ready ≡ 0) (sym c.self.view_is) c.requires.idle in
     let none : spare_in (row_at v.rows c.args.width) ≡ 0 =
-    sym (idle-spare v c.self.invariant c.args.width c.requires.width idle) ∙ ap (λ (n : RowView). spare_of n.shelf) (sym row) ∙ c.in_err-number.ensures.none.0 refl in
+    sym (idle-spare g.row.OFFSET_BITS v c.self.invariant c.args.width c.requires.width idle) ∙ ap (λ (n : RowView). spare_of n.shelf) (sym row) ∙ c.in_err-number.ensures.none.0 refl in
     let there : spare_in (row_at c.args.self.now.rows c.args.width) ≡ 0 = subst (λ (o : RowsView). spare_in (row_at o.rows c.args.width) ≡ 0) c.self.view_is none in
     rw c.from_residual.ensures (λ _. there, λ _. refl)
 
 pub returns-in_err-number-clause-good : goal.returns-in_err-number-clause-good
 unfolding entries_of
-returns-in_err-number-clause-good c =
+returns-in_err-number-clause-good g c =
     let s = c.self.inside in
     let v : RowsView = record { words = s.words; rows = s.rows.items; slots = s.slots.items; ready = s.ready } in
     let row : c.index_mut-row.result.now ≡ row_at v.rows c.args.width =
     get_or_read s.rows.items c.place_of.result _ (omega (arith, c.place_of.ensures.below, c.self.invariant.eleven)) c.index_mut-row.ensures.value (new_row 0)
     ∙ ap (λ p. get_or s.rows.items p (new_row 0)) c.place_of.ensures.place in
-    subst (λ (o : RowsView). IsGood (entries_of o))
+    subst (λ (o : RowsView). IsGood g.row.OFFSET_BITS (entries_of g.row.OFFSET_BITS o))
     (sym (same-row v c.args.width c.place_of.result c.index_mut-row.result.now c.take.new.self c.place_of.ensures.place row c.in_err-number.ensures.left))
-    (good v c.self.invariant)
+    (good g.row.OFFSET_BITS v c.self.invariant)
 
-pub entry-requires-clause-below : goal.entry-requires-clause-below
+pub place-offset-requires : goal.place-offset-requires
 unfolding entries_of
-entry-requires-clause-below c =
+place-offset-requires g c =
     let s = c.self.inside in
     let v : RowsView = record { words = s.words; rows = s.rows.items; slots = s.slots.items; ready = s.ready } in
     let row : c.index_mut-row.result.now ≡ row_at v.rows c.args.width =
@@ -46,41 +47,33 @@ entry-requires-clause-below c =
     let idle : v.ready ≡ 0 = subst (λ (o : RowsView). o.ready ≡ 0) (sym c.self.view_is) c.requires.idle in
     let x = c.in_ok-number.number in
     let free : IsOpen (row_at v.rows c.args.width).shelf x = subst (λ (n : RowView). IsOpen n.shelf x) row c.in_ok-number.ensures.open in
-    let low = below v c.self.invariant c.args.width c.requires.width idle x free in
+    let low = below g.row.OFFSET_BITS v c.self.invariant c.args.width c.requires.width idle x free in
     subst (λ (n : RowView). x < length n.buffers * n.capacity) (sym c.in_ok-number.ensures.made)
     (subst (λ (n : RowView). x < length n.buffers * n.capacity) (sym row) low)
 
-pub entry-requires-clause-buffer : goal.entry-requires-clause-buffer
+pub new-requires : goal.new-requires
 unfolding entries_of
-entry-requires-clause-buffer c =
+new-requires g c =
     let s = c.self.inside in
     let v : RowsView = record { words = s.words; rows = s.rows.items; slots = s.slots.items; ready = s.ready } in
     let row : c.index_mut-row.result.now ≡ row_at v.rows c.args.width =
     get_or_read s.rows.items c.place_of.result _ (omega (arith, c.place_of.ensures.below, c.self.invariant.eleven)) c.index_mut-row.ensures.value (new_row 0)
     ∙ ap (λ p. get_or s.rows.items p (new_row 0)) c.place_of.ensures.place in
+    let made = c.in_ok-number.ensures.made ∙ ap (λ n. made_row n c.in_ok-number.number) row in
     let idle : v.ready ≡ 0 = subst (λ (o : RowsView). o.ready ≡ 0) (sym c.self.view_is) c.requires.idle in
     let x = c.in_ok-number.number in
     let free : IsOpen (row_at v.rows c.args.width).shelf x = subst (λ (n : RowView). IsOpen n.shelf x) row c.in_ok-number.ensures.open in
-    let low = below v c.self.invariant c.args.width c.requires.width idle x free in
-    let buffer = buffer-low v c.self.invariant c.args.width c.requires.width x low in
-    subst (λ (n : RowView). get_or n.buffers (x / n.capacity) 0 < 1024) (sym c.in_ok-number.ensures.made)
-    (subst (λ (n : RowView). get_or n.buffers (x / n.capacity) 0 < 1024) (sym row) buffer)
-
-pub entry-requires-clause-size : goal.entry-requires-clause-size
-unfolding entries_of
-entry-requires-clause-size c =
-    let s = c.self.inside in
-    let v : RowsView = record { words = s.words; rows = s.rows.items; slots = s.slots.items; ready = s.ready } in
-    let row : c.index_mut-row.result.now ≡ row_at v.rows c.args.width =
-    get_or_read s.rows.items c.place_of.result _ (omega (arith, c.place_of.ensures.below, c.self.invariant.eleven)) c.index_mut-row.ensures.value (new_row 0)
-    ∙ ap (λ p. get_or s.rows.items p (new_row 0)) c.place_of.ensures.place in
-    let size = (some-capacity v c.self.invariant c.args.width c.requires.width).1 in
-    let same : c.take.new.self.capacity ≡ (row_at v.rows c.args.width).capacity = ap (λ (n : RowView). n.capacity) c.in_ok-number.ensures.made ∙ ap (λ (n : RowView). n.capacity) row in
-    omega (arith, size, same)
+    let low = below g.row.OFFSET_BITS v c.self.invariant c.args.width c.requires.width idle x free in
+    (omega arith, (
+      subst (λ n. n < offset_limit g.row.OFFSET_BITS) (sym (c.place-offset.ensures.offset ∙ ap (λ (n : RowView). x % n.capacity + 1) made))
+      (offset-low g.row.OFFSET_BITS v c.self.invariant c.args.width c.requires.width x),
+      subst (λ n. n < buffer_limit g.row.OFFSET_BITS) (sym (c.place-offset.ensures.buffer ∙ ap (λ (n : RowView). get_or n.buffers (x / n.capacity) 0) made))
+      (buffer-low g.row.OFFSET_BITS v c.self.invariant c.args.width c.requires.width x low),
+    ))
 
 pub invariant_of-self-2 : goal.invariant_of-self-2
 unfolding entries_of
-invariant_of-self-2 c =
+invariant_of-self-2 g c =
     let s = c.self.inside in
     let v : RowsView = record { words = s.words; rows = s.rows.items; slots = s.slots.items; ready = s.ready } in
     let row : c.index_mut-row.result.now ≡ row_at v.rows c.args.width =
@@ -89,13 +82,13 @@ invariant_of-self-2 c =
     let idle : v.ready ≡ 0 = subst (λ (o : RowsView). o.ready ≡ 0) (sym c.self.view_is) c.requires.idle in
     let x = c.in_ok-number.number in
     let free : IsOpen (row_at v.rows c.args.width).shelf x = subst (λ (n : RowView). IsOpen n.shelf x) row c.in_ok-number.ensures.open in
-    subst IsKept
+    subst (AreRows g.row.OFFSET_BITS)
     (sym (put-row v c.args.width c.place_of.result v.ready c.index_mut-row.result.now c.take.new.self (λ n. made_row n x) c.place_of.ensures.place row c.in_ok-number.ensures.made))
-    (take-kept v c.self.invariant c.args.width c.requires.width idle x free)
+    (take-kept g.row.OFFSET_BITS v c.self.invariant c.args.width c.requires.width idle x free)
 
 pub returns-clause-none : goal.returns-clause-none
 unfolding entries_of
-returns-clause-none c =
+returns-clause-none g c =
     let s = c.self.inside in
     let v : RowsView = record { words = s.words; rows = s.rows.items; slots = s.slots.items; ready = s.ready } in
     let row : c.index_mut-row.result.now ≡ row_at v.rows c.args.width =
@@ -104,13 +97,13 @@ returns-clause-none c =
     let idle : v.ready ≡ 0 = subst (λ (o : RowsView). o.ready ≡ 0) (sym c.self.view_is) c.requires.idle in (
       λ e. absurd (cc),
       λ none. c.in_ok-number.ensures.none.1
-          (ap (λ (n : RowView). spare_of n.shelf) row ∙ idle-spare v c.self.invariant c.args.width c.requires.width idle
+          (ap (λ (n : RowView). spare_of n.shelf) row ∙ idle-spare g.row.OFFSET_BITS v c.self.invariant c.args.width c.requires.width idle
           ∙ subst (λ (o : RowsView). spare_in (row_at o.rows c.args.width) ≡ 0) (sym c.self.view_is) none),
     )
 
 pub returns-clause-open : goal.returns-clause-open
 unfolding entries_of
-returns-clause-open c =
+returns-clause-open g c =
     let s = c.self.inside in
     let v : RowsView = record { words = s.words; rows = s.rows.items; slots = s.slots.items; ready = s.ready } in
     let row : c.index_mut-row.result.now ≡ row_at v.rows c.args.width =
@@ -119,14 +112,16 @@ returns-clause-open c =
     let idle : v.ready ≡ 0 = subst (λ (o : RowsView). o.ready ≡ 0) (sym c.self.view_is) c.requires.idle in
     let x = c.in_ok-number.number in
     let free : IsOpen (row_at v.rows c.args.width).shelf x = subst (λ (n : RowView). IsOpen n.shelf x) row c.in_ok-number.ensures.open in
-    let entry : c.entry.result ≡ entry_in (row_at v.rows c.args.width) x =
-    c.entry.ensures ∙ ap (λ (n : RowView). entry_in n x) c.in_ok-number.ensures.made ∙ ap (λ (n : RowView). entry_in n x) row in
-    subst (λ (o : RowsView). CanTake (entries_of o) c.args.width c.entry.result) c.self.view_is
-    (subst (λ r. CanTake (entries_of v) c.args.width r) (sym entry) (take-open v c.self.invariant c.args.width c.requires.width idle x free))
+    let entry : c.new.result ≡ entry_in g.row.OFFSET_BITS (row_at v.rows c.args.width) x =
+    c.new.ensures ∙ ap (λ o. packed g.row.OFFSET_BITS o c.place-offset.result.1) c.place-offset.ensures.offset
+    ∙ ap (λ b. packed g.row.OFFSET_BITS (x % c.take.new.self.capacity + 1) b) c.place-offset.ensures.buffer
+    ∙ ap (λ (n : RowView). entry_in g.row.OFFSET_BITS n x) (c.in_ok-number.ensures.made ∙ ap (λ n. made_row n x) row) in
+    subst (λ (o : RowsView). CanTake g.row.OFFSET_BITS (entries_of g.row.OFFSET_BITS o) c.args.width c.new.result) c.self.view_is
+    (subst (λ r. CanTake g.row.OFFSET_BITS (entries_of g.row.OFFSET_BITS v) c.args.width r) (sym entry) (take-open g.row.OFFSET_BITS v c.self.invariant c.args.width c.requires.width idle x free))
 
 pub returns-clause-made : goal.returns-clause-made
 unfolding entries_of
-returns-clause-made c =
+returns-clause-made g c =
     let s = c.self.inside in
     let v : RowsView = record { words = s.words; rows = s.rows.items; slots = s.slots.items; ready = s.ready } in
     let row : c.index_mut-row.result.now ≡ row_at v.rows c.args.width =
@@ -135,15 +130,17 @@ returns-clause-made c =
     let idle : v.ready ≡ 0 = subst (λ (o : RowsView). o.ready ≡ 0) (sym c.self.view_is) c.requires.idle in
     let x = c.in_ok-number.number in
     let free : IsOpen (row_at v.rows c.args.width).shelf x = subst (λ (n : RowView). IsOpen n.shelf x) row c.in_ok-number.ensures.open in
-    let entry : c.entry.result ≡ entry_in (row_at v.rows c.args.width) x =
-    c.entry.ensures ∙ ap (λ (n : RowView). entry_in n x) c.in_ok-number.ensures.made ∙ ap (λ (n : RowView). entry_in n x) row in
+    let entry : c.new.result ≡ entry_in g.row.OFFSET_BITS (row_at v.rows c.args.width) x =
+    c.new.ensures ∙ ap (λ o. packed g.row.OFFSET_BITS o c.place-offset.result.1) c.place-offset.ensures.offset
+    ∙ ap (λ b. packed g.row.OFFSET_BITS (x % c.take.new.self.capacity + 1) b) c.place-offset.ensures.buffer
+    ∙ ap (λ (n : RowView). entry_in g.row.OFFSET_BITS n x) (c.in_ok-number.ensures.made ∙ ap (λ n. made_row n x) row) in
     let put = put-row v c.args.width c.place_of.result v.ready c.index_mut-row.result.now c.take.new.self (λ n. made_row n x) c.place_of.ensures.place row c.in_ok-number.ensures.made in
-    ap entries_of put ∙ take-made v c.self.invariant c.args.width c.requires.width idle x free
-    ∙ ap (λ r. made_at (entries_of v) c.args.width r) (sym entry) ∙ ap (λ (o : RowsView). made_at (entries_of o) c.args.width c.entry.result) c.self.view_is
+    ap (entries_of g.row.OFFSET_BITS) put ∙ take-made g.row.OFFSET_BITS v c.self.invariant c.args.width c.requires.width idle x free
+    ∙ ap (λ r. made_at (entries_of g.row.OFFSET_BITS v) c.args.width r) (sym entry) ∙ ap (λ (o : RowsView). made_at (entries_of g.row.OFFSET_BITS o) c.args.width c.new.result) c.self.view_is
 
 pub returns-clause-good : goal.returns-clause-good
 unfolding entries_of
-returns-clause-good c =
+returns-clause-good g c =
     let s = c.self.inside in
     let v : RowsView = record { words = s.words; rows = s.rows.items; slots = s.slots.items; ready = s.ready } in
     let row : c.index_mut-row.result.now ≡ row_at v.rows c.args.width =
@@ -152,6 +149,6 @@ returns-clause-good c =
     let idle : v.ready ≡ 0 = subst (λ (o : RowsView). o.ready ≡ 0) (sym c.self.view_is) c.requires.idle in
     let x = c.in_ok-number.number in
     let free : IsOpen (row_at v.rows c.args.width).shelf x = subst (λ (n : RowView). IsOpen n.shelf x) row c.in_ok-number.ensures.open in
-    subst (λ (o : RowsView). IsGood (entries_of o))
+    subst (λ (o : RowsView). IsGood g.row.OFFSET_BITS (entries_of g.row.OFFSET_BITS o))
     (sym (put-row v c.args.width c.place_of.result v.ready c.index_mut-row.result.now c.take.new.self (λ n. made_row n x) c.place_of.ensures.place row c.in_ok-number.ensures.made))
-    (good (with_row v c.args.width (made_row (row_at v.rows c.args.width) x) v.ready) (take-kept v c.self.invariant c.args.width c.requires.width idle x free))
+    (good g.row.OFFSET_BITS (with_row v c.args.width (made_row (row_at v.rows c.args.width) x) v.ready) (take-kept g.row.OFFSET_BITS v c.self.invariant c.args.width c.requires.width idle x free))

@@ -1,7 +1,7 @@
 use Rattle.std.proofs.Common.{◌≡◌, ℕ}
 use Rattle.image_base.specs.Maps.{seen}
 use Rattle.entry_states.specs.Rows.{entries_of}
-use Rattle.entry_store.specs.Standing.{class_of, records_of_classes}
+use Rattle.entry_store.specs.Standing.{status_of, records_of_statuses}
 use Rattle.image_base.specs.Before.{those_before}
 use Rattle.entry_store.proofs.entry_store.EntryStore.add_records.Given as goal
 
@@ -9,6 +9,6 @@ abbrev pub invariant-loop-offset : goal.invariant-loop-offset
 invariant-loop-offset g l =
     let s = l.fn.self in
     record {
-      seen : (q : ℕ) → seen l.map q ≡ those_before (records_of_classes (λ r. class_of s.last ((entries_of s.entries).state r)) (g.W.Frozen.records s.work)) l.buffer l.offset q;
+      seen : (q : ℕ) → seen l.map q ≡ those_before g.row.OFFSET_BITS (records_of_statuses (λ r. status_of s.last ((entries_of g.row.OFFSET_BITS s.entries).state r)) (g.W.Frozen.records s.work)) l.buffer l.offset q;
       same : l.self ≡ s;
     }

@@ -1,15 +1,15 @@
 use Rattle.std.proofs.Common.{refl, ap, ◌∙◌, cond, []}
-use Rattle.store_api.specs.Classes.{has_record}
+use Rattle.store_api.specs.Statuses.{has_record}
 use Rattle.entry_states.specs.Entries.{EntriesView, new_entries}
 use Rattle.entry_states.specs.Rows.{entries_of}
-use Rattle.entry_store.specs.Standing.{class_of}
+use Rattle.entry_store.specs.Standing.{status_of}
 use Rattle.entry_store.proofs.Stands.{stands-new}
 use Rattle.entry_store.proofs.entry_store.EntryStore.create.Goals as goal
 
 pub invariant_of-result : goal.invariant_of-result
 invariant_of-result g c =
     record {
-      stands = stands-new (g.W.Work.knows c.args.work) (g.W.Frozen.records c.args.work) (entries_of c.in-Ok.entries) c.requires
+      stands = stands-new g.row.OFFSET_BITS (g.W.Work.knows c.args.work) (g.W.Frozen.records c.args.work) (entries_of g.row.OFFSET_BITS c.in-Ok.entries) c.requires
           (c.in-Ok.ensures.new ∙ ap (λ n. new_entries n c.words.result) c.buffers.ensures ∙ ap (new_entries (g.W.Work.knows c.args.work).sizes.buffers) c.words.ensures) c.in-Ok.ensures.good;
     }
 
@@ -18,7 +18,7 @@ returns-in-Ok-clause-new g c =
     let new = c.in-Ok.ensures.new in
     record {
       unit = refl;
-      class = λ r. ap (λ (e : EntriesView). class_of 0 (e.state r)) new;
+      status = λ r. ap (λ (e : EntriesView). status_of 0 (e.state r)) new;
       made = λ w. ap (λ (e : EntriesView). e.made w) new;
       spare = λ w. ap (λ (e : EntriesView). e.spare w) new;
       buffers = λ w. ap (λ (e : EntriesView). e.count w) new;
@@ -26,4 +26,4 @@ returns-in-Ok-clause-new g c =
 
 pub returns-in-Ok-clause-records : goal.returns-in-Ok-clause-records
 returns-in-Ok-clause-records g c r =
-    ap (λ (e : EntriesView). cond (has_record (class_of 0 (e.state r))) (g.W.Frozen.records c.args.work r) []) c.in-Ok.ensures.new
+    ap (λ (e : EntriesView). cond (has_record (status_of 0 (e.state r))) (g.W.Frozen.records c.args.work r) []) c.in-Ok.ensures.new

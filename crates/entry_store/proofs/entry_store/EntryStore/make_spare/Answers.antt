@@ -10,6 +10,6 @@ pub invariant_of-self-2 : goal.invariant_of-self-2
 invariant_of-self-2 g c =
     let s = c.args.self.now in
     let e = c.in_ok-entry.ensures in
-    let made = stands-made (g.W.Work.knows s.work) (g.W.Frozen.records s.work) (entries_of s.entries) s.unit s.last s.active s.stands c.args.width c.in_ok-entry.entry (padded c.args.words.now c.args.width) e.«open»
-    (let wide = e.«open».entry.wide in omega (arith, length-padded c.args.words.now c.args.width c.requires.fits)) c.requires.unit (subst IsGood e.made c.take.ensures.good) in
-    record { stands = stands-put _ _ _ _ _ _ s.unit s.last s.active c.put_record.ensures.knows c.put_record.ensures.records e.made made }
+    let made = stands-made g.row.OFFSET_BITS (g.W.Work.knows s.work) (g.W.Frozen.records s.work) (entries_of g.row.OFFSET_BITS s.entries) s.unit s.last s.active s.stands c.args.width c.in_ok-entry.entry (padded c.args.words.now c.args.width) e.«open»
+    (let wide = e.«open».entry.wide in omega (arith, length-padded c.args.words.now c.args.width c.requires.fits)) c.requires.unit (subst (IsGood g.row.OFFSET_BITS) e.made c.take.ensures.good) in
+    record { stands = stands-put g.row.OFFSET_BITS _ _ _ _ _ _ s.unit s.last s.active c.put.ensures.knows c.put.ensures.records e.made made }

@@ -1,6 +1,6 @@
 use Rattle.std.proofs.Common.{◌≤◌, ◌∙◌, subst}
 use Rattle.entry_states.specs.Rows.{entries_of}
-use Rattle.entry_store.specs.Standing.{class_of, records_of_classes}
+use Rattle.entry_store.specs.Standing.{status_of, records_of_statuses}
 use Rattle.image_base.proofs.Steps.{all-before}
 use Rattle.entry_store.proofs.Maps.{none-outside}
 use Rattle.entry_store.proofs.entry_store.EntryStore.records.Goals as goal
@@ -11,5 +11,5 @@ returns-clause-records g c =
     let end = subst (λ n. n ≤ c.loop-buffer.buffer) c.buffers-buffer-end.ensures c.loop-buffer-test.false in
     λ k q.
     (c.loop-buffer.invariant.seen q
-    ∙ all-before (records_of_classes (λ r. class_of s.last ((entries_of s.entries).state r)) (g.W.Frozen.records s.work)) c.loop-buffer.buffer 0 q
-    (none-outside (g.W.Work.knows s.work) (g.W.Frozen.records s.work) (entries_of s.entries) s.unit s.last s.active s.stands (g.met.W.Work.entries s.work) q c.loop-buffer.buffer end)) k
+    ∙ all-before g.row.OFFSET_BITS (records_of_statuses (λ r. status_of s.last ((entries_of g.row.OFFSET_BITS s.entries).state r)) (g.W.Frozen.records s.work)) c.loop-buffer.buffer 0 q
+    (none-outside g.row.OFFSET_BITS (g.W.Work.knows s.work) (g.W.Frozen.records s.work) (entries_of g.row.OFFSET_BITS s.entries) s.unit s.last s.active s.stands (g.met.W.Work.entries s.work) q c.loop-buffer.buffer end)) k

@@ -9,7 +9,7 @@ returns-clause-same g c =
     let s = c.args.self.now in
     subst
     (λ (w : g.row.W.Denot).
-    (st : Stands (g.W.Work.knows w) (g.W.Frozen.records w) (entries_of s.entries) s.unit s.last s.active) → record s { work = w; stands = st } ≡ s)
+    (st : Stands g.row.OFFSET_BITS (g.W.Work.knows w) (g.W.Frozen.records w) (entries_of g.row.OFFSET_BITS s.entries) s.unit s.last s.active) → record s { work = w; stands = st } ≡ s)
     (sym c.word.ensures.same)
-    (λ st. ap (λ (x : Stands (g.W.Work.knows s.work) (g.W.Frozen.records s.work) (entries_of s.entries) s.unit s.last s.active). record s { stands = x })
-    (stands-prop _ _ _ _ _ _ st s.stands)) _
+    (λ st. ap (λ (x : Stands g.row.OFFSET_BITS (g.W.Work.knows s.work) (g.W.Frozen.records s.work) (entries_of g.row.OFFSET_BITS s.entries) s.unit s.last s.active). record s { stands = x })
+    (stands-prop g.row.OFFSET_BITS _ _ _ _ _ _ st s.stands)) _

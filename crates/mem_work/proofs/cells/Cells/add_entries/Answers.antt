@@ -1,8 +1,8 @@
-use Rattle.std.proofs.Common.{◌≡◌, ◌<◌, ℕ, ◌∙◌, ap, sym, arith}
+use Rattle.std.proofs.Common.{◌<◌, ◌∙◌, ap, sym, arith}
 use Rattle.entry_ref.specs.References.{buffer_of, offset_of, buffer_limit}
 use Rattle.entry_ref.proofs.Bits.{packed-buffer, packed-offset}
 use Rattle.image_base.specs.Maps.{seen}
-use Rattle.image_base.proofs.Steps.{next-buffer, first-offset, here-not_yet, one_more}
+use Rattle.image_base.proofs.Steps.{next-buffer, first-offset, here-not_yet, reference-more}
 use Rattle.mem_work.specs.Cells.{width_in}
 use Rattle.mem_work.specs.Entries.{chosen}
 use Rattle.mem_work.proofs.Chosen.{none-free, none-first, none-past, entry-made}
@@ -57,7 +57,7 @@ loop-offset-preserved g c =
     let s = c.args.self.now in
     let bits = g.row.OFFSET_BITS in
     record {
-      seen = λ q. one_more bits (chosen c.args.number s.table.items s.stamps.items bits s.buffers s.words) c.args.buffer c.loop-offset.offset c.new.result (omega (arith, s.few_buffers, c.requires.inside)) c.new.ensures
+      seen = λ q. reference-more bits (chosen c.args.number s.table.items s.stamps.items bits s.buffers s.words) c.args.buffer c.loop-offset.offset c.new.result (omega (arith, s.few_buffers, c.requires.inside)) c.new.ensures
         (seen c.add_entry.new.map) (seen c.loop-offset.map) c.in_ok-add_entry.ensures.here c.in_ok-add_entry.ensures.others c.loop-offset.invariant.seen q;
       first = omega arith;
     }

@@ -1,6 +1,6 @@
 use Rattle.std.proofs.Common.{◌+◌, sym, ◌∙◌, arith}
 use Rattle.arena_api.specs.Calls.{padded}
-use Rattle.mem_work.specs.Stamped.{active_width-by}
+use Rattle.mem_work.specs.ProofsForMemory.{active_width-by}
 use Rattle.arena_api.proofs.Padded.{length-padded}
 use Rattle.mem_work.proofs.Puts.{view-put, records-put, lawful-put}
 use Rattle.mem_work.proofs.Ranges.{stamps-range, unused-range}

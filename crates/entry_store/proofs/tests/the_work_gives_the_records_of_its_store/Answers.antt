@@ -1,7 +1,0 @@
-use Rattle.std.proofs.Common.{sym, subst}
-use Rattle.arena_api.specs.Calls.{IsFresh}
-use Rattle.entry_store.proofs.Fresh.{opened-fresh}
-use Rattle.entry_store.proofs.tests.the_work_gives_the_records_of_its_store.Goals as goal
-
-pub create-requires-2 : goal.create-requires-2
-create-requires-2 g c = subst IsFresh (sym c.in_ok-work.ensures.knows) (opened-fresh _ _ _)

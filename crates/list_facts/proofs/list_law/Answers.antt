@@ -1,0 +1,18 @@
+use Rattle.list_facts.proofs.Each.{AllByRecursion-append}
+use Rattle.list_facts.proofs.Places.{slice_index-zeros}
+use Rattle.list_facts.proofs.Pairs.{length-zip_even}
+use Rattle.list_facts.proofs.Tests.{zero_from_test}
+use Rattle.list_facts.proofs.Counts.{count_by-set}
+use Rattle.list_facts.proofs.Errors.{same_error}
+use Rattle.std.proofs.Common.{◌≡◌, true}
+use Rattle.list_facts.proofs.list_law.Goals as goal
+
+pub returns : goal.returns
+returns c = record {
+  each = λ p. AllByRecursion-append (λ x. p x ≡ true);
+  zeros = slice_index-zeros;
+  pairs = length-zip_even;
+  tests = zero_from_test;
+  errors = same_error;
+  counts = λ p xs i x. count_by-set p xs i x 0;
+}

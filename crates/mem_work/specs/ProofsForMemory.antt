@@ -1,0 +1,166 @@
+-- Nobody has to read this: proofs of the laws of `Work`, which an implementation can cite from specs/ alone.
+use Rattle.std.proofs.Common.{Some, ◌≡◌, ℕ, suc, ◌+◌, ◌*◌, ◌^◌, ◌<◌, ◌≤◌, Bool, true, false, cond, eqb, List, [], length, get_or, take, drop, refl, sym, ap, subst, ◌∙◌, arith, length-take, length-drop, zero, ◌∷◌}
+use Rattle.std.proofs.lemmas.List.{get_or-take, get_or-drop}
+use Rattle.std.specs.List.{list_all, AllByRecursion}
+use Rattle.std.proofs.Math.Nat.{mul-le-mul_right}
+use Rattle.std.proofs.lemmas.Bool.{eq-eqb, ltb-true, cond-true, and_from, eqb-true, and_parts, cond_both}
+use Rattle.std.proofs.lemmas.Bool.Decides.{nat_tests}
+use Rattle.entry_ref.specs.References.{buffer_of, buffer_limit, offset_limit}
+use Rattle.image_base.specs.Places.{IsEntry}
+use Rattle.image_base.proofs.Apart.{entry-small}
+use Rattle.mem_work.specs.Cells.{width_in, begin_of, names_entry, standing, is_whole, stored_in, buffer_by, image_in, records_in, buffers_in, sizes_of, only_hold, memory_view}
+use Rattle.arena_api.specs.Calls.{FitsEntry, IsWordIn, IsInOrder, IsWithinLimits}
+use Rattle.std.proofs.lemmas.Option.{cond_some}
+use Rattle.arena_api.specs.Works.{active_width, width_of, Tag, Buffer, Hold}
+use Rattle.std.proofs.lemmas.Grind.{same_number_lists}
+use Rattle.image_base.specs.Images.{words_at}
+use Rattle.image_base.specs.Records.{Records}
+use Rattle.image_base.proofs.Pairs.{words-found}
+
+pub names_entry-true : (bits buffers words width r : ℕ) → names_entry bits buffers words width r ≡ true → IsEntry bits buffers words width r
+unfolding names_entry
+names_entry-true bits buffers words width r e =
+    record { inside = grind (arith, nat_tests); wide = grind (arith, nat_tests); first = grind (arith, nat_tests); last = grind (arith, nat_tests) }
+
+pub names_entry-from : (bits buffers words width r : ℕ) → IsEntry bits buffers words width r → names_entry bits buffers words width r ≡ true
+unfolding names_entry
+names_entry-from bits buffers words width r e =
+    let inside = e.inside in
+    let wide = e.wide in
+    let first = e.first in
+    let last = e.last in
+    grind (arith, nat_tests)
+
+-- what a choice with nothing has comes from its first part
+cond-some : (t : Bool) (xs : List ℕ) (i : ℕ) → i < length (cond t xs []) → (t ≡ true) × (i < length xs)
+cond-some true xs i h = (refl, h)
+cond-some false xs i h = absurd (omega arith)
+
+-- where a word stands there is an entry, wider than its index
+pub standing-entry : (table : List ℕ) (bits buffers words r i : ℕ) → i < length (standing table bits buffers words r)
+    → IsEntry bits buffers words (width_in table words (buffer_of bits r)) r × (i < width_in table words (buffer_of bits r))
+unfolding standing
+standing-entry table bits buffers words r i h =
+    let part = cond-some _ _ i h in
+    (names_entry-true _ _ _ _ _ part.0, omega (arith, simp length-take at part.1))
+
+-- each entry stands with all its words
+pub length-standing : (table : List ℕ) (bits buffers words r : ℕ) → length table ≡ buffers * words → IsEntry bits buffers words (width_in table words (buffer_of bits r)) r
+    → length (standing table bits buffers words r) ≡ width_in table words (buffer_of bits r)
+unfolding standing
+length-standing table bits buffers words r room e =
+    let width = width_in table words (buffer_of bits r) in
+    let more : suc (buffer_of bits r) * words ≤ buffers * words = mul-le-mul_right words e.inside in
+    let last = e.last in
+    ap (λ t. length (cond t (take width (drop (begin_of bits words width r) table)) [])) (names_entry-from bits buffers words width r e)
+    ∙ simp (length-take, length-drop) (omega arith)
+
+pub word-standing : (table : List ℕ) (bits buffers words r i : ℕ) → IsEntry bits buffers words (width_in table words (buffer_of bits r)) r → i < width_in table words (buffer_of bits r)
+    → get_or (standing table bits buffers words r) i 0 ≡ get_or table (begin_of bits words (width_in table words (buffer_of bits r)) r + i) 0
+unfolding standing
+word-standing table bits buffers words r i e h =
+    let width = width_in table words (buffer_of bits r) in
+    ap (λ t. get_or (cond t (take width (drop (begin_of bits words width r) table)) []) i 0) (names_entry-from bits buffers words width r e)
+    ∙ get_or-take _ _ i 0 h ∙ get_or-drop _ table i 0
+
+-- a buffer by its width has that width
+pub active_width-by : (w : ℕ) → active_width (buffer_by w) ≡ w
+active_width-by zero = refl
+active_width-by (suc w) = refl
+
+pub width_of-by : (w : ℕ) → width_of (buffer_by w) ≡ w
+width_of-by zero = refl
+width_of-by (suc w) = refl
+
+-- a list of one number
+all_from : (xs : List ℕ) (n : ℕ) → ((k : ℕ) → k < length xs → get_or xs k 0 ≡ n) → list_all (λ k. eqb k n) xs ≡ true
+all_from [] n same = refl
+all_from (x ∷ xs) n same = and_from _ _ (eq-eqb x n (same 0 (omega arith))) (all_from xs n (λ k h. same (suc k) (omega arith)))
+
+-- what one word stored says
+pub record IsStored (table stamps : List ℕ) (bits buffers words n r i x : ℕ) : Type 0 where
+  pub entry : IsEntry bits buffers words (width_in table words (buffer_of bits r)) r
+  pub inside : i < width_in table words (buffer_of bits r)
+  pub stamp : get_or stamps (begin_of bits words (width_in table words (buffer_of bits r)) r + i) 0 ≡ n
+  pub word : get_or table (begin_of bits words (width_in table words (buffer_of bits r)) r + i) 0 ≡ x
+
+pub is_stored : (table stamps : List ℕ) (bits buffers words n r i x : ℕ) → stored_in table stamps bits buffers words n r i ≡ Some x → IsStored table stamps bits buffers words n r i x
+unfolding stored_in
+is_stored table stamps bits buffers words n r i x is =
+    let parts = cond_some _ _ _ is in
+    let tests = and_parts _ _ parts.0 in
+    let inner = and_parts _ _ tests.1 in
+    record { entry = names_entry-true _ _ _ _ r tests.0; inside = ltb-true _ _ inner.0; stamp = eqb-true _ _ inner.1; word = parts.1 }
+
+-- where each word is stored, it was stored whole, and those words stand
+pub whole-from : (table stamps : List ℕ) (bits buffers words n r : ℕ) → IsEntry bits buffers words (width_in table words (buffer_of bits r)) r
+    → ((i : ℕ) → i < width_in table words (buffer_of bits r) → get_or stamps (begin_of bits words (width_in table words (buffer_of bits r)) r + i) 0 ≡ n)
+    → is_whole table stamps bits buffers words n r ≡ true
+unfolding is_whole
+whole-from table stamps bits buffers words n r e each =
+    let width = width_in table words (buffer_of bits r) in
+    and_from _ _ (names_entry-from bits buffers words width r e)
+    (all_from (take width (drop (begin_of bits words width r) stamps)) n (λ k h.
+    let below : k < width = omega (arith, simp length-take at h) in
+    get_or-take width _ k 0 below ∙ get_or-drop _ stamps k 0 ∙ each k below))
+
+pub memory_limits : (bits buffers words : ℕ) → 1 ≤ buffers → buffers < buffer_limit bits → 8192 ≤ words → words ≤ 65536 → words ≤ offset_limit bits → IsWithinLimits bits (sizes_of buffers words)
+memory_limits bits buffers words some few long short offsets =
+    record { some_buffers = some; few_buffers = few; some_words = long; few_words = short; offsets = offsets; commits = omega arith; generations = omega arith }
+
+-- a buffer in memory has no tag
+pub no_tag : (width : ℕ) (t : Tag) → buffer_by width ≡ Buffer.free (Some t) → AllByRecursion (λ (h : Hold). t.generation < h.generation) (only_hold ∷ [])
+no_tag zero t same = absurd (cc)
+no_tag (suc width) t same = absurd (cc)
+
+module _ (reaches : ℕ → Records → ℕ → List ℕ) (shape : ℕ) (table stamps : List ℕ) (bits buffers words last root : ℕ) where
+  -- a record's words stand
+  pub records-stand : (r : ℕ) → 0 < length (records_in reaches shape table stamps bits buffers words last root r) → standing table bits buffers words r ≡ records_in reaches shape table stamps bits buffers words last root r
+  records-stand r = cond_both (is_whole table stamps bits buffers words (last + 1) r) (standing table bits buffers words r) (words_at (image_in reaches shape table bits buffers words root) r)
+      (λ ws. 0 < length ws → standing table bits buffers words r ≡ ws) (λ e h. refl) (λ e h. words-found _ (standing table bits buffers words) root r h)
+
+  pub memory_order : last < 2 ^ 32 → IsInOrder (memory_view reaches shape table stamps bits buffers words last root)
+  memory_order small = record { floor = omega arith; limit = omega arith; oldest = omega arith; holds = (omega arith, tt) }
+
+  pub memory_references : words ≤ 65536 → words ≤ offset_limit bits → (r : ℕ) → 0 < length (records_in reaches shape table stamps bits buffers words last root r) → r < 2 ^ 32
+  memory_references few offsets r some = entry-small (standing-entry table bits buffers words r 0 (subst (λ ws. 0 < length ws) (sym (records-stand r some)) some)).0 few offsets
+
+  -- what stands fills an entry of its buffer's width
+  fits : (width r : ℕ) (ws : List ℕ) → length table ≡ buffers * words → width ≡ width_in table words (buffer_of bits r) → standing table bits buffers words r ≡ ws → 0 < length ws
+      → FitsEntry bits (sizes_of buffers words) width r (length ws)
+  fits width r ws room is stands some =
+      let e = (standing-entry table bits buffers words r 0 (subst (λ x. 0 < length x) (sym stands) some)).0 in
+      record {
+        entry = subst (λ w. IsEntry bits buffers words w r) (sym is) e;
+        whole = ap length (sym stands) ∙ length-standing table bits buffers words r room e ∙ sym is;
+      }
+
+  pub memory_entries : length table ≡ buffers * words → (r : ℕ) → 0 < length (records_in reaches shape table stamps bits buffers words last root r)
+      → FitsEntry bits (sizes_of buffers words) (active_width (buffers_in table words (buffer_of bits r))) r (length (records_in reaches shape table stamps bits buffers words last root r))
+  memory_entries room r some = fits _ r _ room (active_width-by (width_in table words (buffer_of bits r))) (records-stand r some) some
+
+  pub memory_kept : length table ≡ buffers * words → (r : ℕ) → 0 < length (words_at (image_in reaches shape table bits buffers words root) r)
+      → FitsEntry bits (sizes_of buffers words) (width_of (buffers_in table words (buffer_of bits r))) r (length (words_at (image_in reaches shape table bits buffers words root) r))
+  memory_kept room r some = fits _ r _ room (width_of-by (width_in table words (buffer_of bits r))) (words-found _ (standing table bits buffers words) root r some) some
+
+  pub memory_last : (r : ℕ) → 0 < length (words_at (image_in reaches shape table bits buffers words root) r)
+      → records_in reaches shape table stamps bits buffers words last root r ≡ words_at (image_in reaches shape table bits buffers words root) r
+  memory_last r some = cond_both (is_whole table stamps bits buffers words (last + 1) r) (standing table bits buffers words r) (words_at (image_in reaches shape table bits buffers words root) r)
+      (λ ws. ws ≡ words_at (image_in reaches shape table bits buffers words root) r) (λ e. words-found _ (standing table bits buffers words) root r some) (λ e. refl)
+
+  pub memory_stored : (r i w : ℕ) → stored_in table stamps bits buffers words (last + 1) r i ≡ Some w → IsWordIn bits (memory_view reaches shape table stamps bits buffers words last root) r i
+  memory_stored r i w is =
+      let s = is_stored table stamps bits buffers words (last + 1) r i w is in
+      let at = active_width-by (width_in table words (buffer_of bits r)) in
+      record { entry = subst (λ x. IsEntry bits buffers words x r) (sym at) s.entry; inside = subst (λ x. i < x) (sym at) s.inside }
+
+  pub memory_whole : length table ≡ buffers * words → (r : ℕ) (ws : List ℕ) → 0 < length ws → length ws ≡ active_width (buffers_in table words (buffer_of bits r))
+      → ((i : ℕ) → i < length ws → stored_in table stamps bits buffers words (last + 1) r i ≡ Some (get_or ws i 0)) → records_in reaches shape table stamps bits buffers words last root r ≡ ws
+  memory_whole room r ws some long each =
+      let width = width_in table words (buffer_of bits r) in
+      let is : length ws ≡ width = long ∙ active_width-by width in
+      let e : IsEntry bits buffers words width r = (is_stored table stamps bits buffers words (last + 1) r 0 (get_or ws 0 0) (each 0 some)).entry in
+      cond-true _ _ _ (whole-from table stamps bits buffers words (last + 1) r e (λ i h. (is_stored table stamps bits buffers words (last + 1) r i (get_or ws i 0) (each i (omega (arith, h, is)))).stamp))
+      ∙ same_number_lists _ ws (length-standing table bits buffers words r room e ∙ sym is) (λ k h.
+      let below : k < width = omega (arith, h, length-standing table bits buffers words r room e) in
+      word-standing table bits buffers words r k e below ∙ (is_stored table stamps bits buffers words (last + 1) r k (get_or ws k 0) (each k (omega (arith, below, is)))).word)

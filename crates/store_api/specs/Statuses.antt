@@ -1,0 +1,84 @@
+-- The statuses of entries: each offset of a buffer is in one.
+use Rattle.std.specs.Prelude.{ℕ, Bool, true, false, nat_eq, if◌then◌else◌}
+
+pub data Status : Type 0 where
+  -- not taken yet
+  unmade : Status
+  -- taken, and in none of those below
+  free : Status
+  -- made since the last commit
+  pending : Status
+  -- of the last commit, and not dropped since
+  live : Status
+  -- of the last commit, and dropped since
+  dropped : Status
+  -- pending before the unit under way, dropped in it
+  let_go : Status
+  -- dropped before the last commit; nothing leaves this status
+  spent : Status
+
+-- pending or live
+abbrev pub in_use : Status → Bool
+in_use Status.pending = true
+in_use Status.live = true
+in_use status = false
+
+-- of the last commit, pending or let go
+abbrev pub has_record : Status → Bool
+has_record Status.pending = true
+has_record Status.live = true
+has_record Status.dropped = true
+has_record Status.let_go = true
+has_record status = false
+
+-- of the last commit
+abbrev pub is_committed : Status → Bool
+is_committed Status.live = true
+is_committed Status.dropped = true
+is_committed status = false
+
+-- in no kept commit
+abbrev pub is_uncommitted : Status → Bool
+is_uncommitted Status.unmade = true
+is_uncommitted Status.free = true
+is_uncommitted Status.pending = true
+is_uncommitted Status.let_go = true
+is_uncommitted status = false
+
+-- free or unmade: a make can take it
+abbrev pub is_open : Status → Bool
+is_open Status.unmade = true
+is_open Status.free = true
+is_open status = false
+
+-- free
+abbrev pub is_free_status : Status → Bool
+is_free_status Status.free = true
+is_free_status status = false
+
+-- let go
+abbrev pub is_let_go : Status → Bool
+is_let_go Status.let_go = true
+is_let_go status = false
+
+-- what becomes of an entry that is dropped, by its status and by the one that an undo would give back
+abbrev pub after_drop : Status → Status → Status
+after_drop Status.live back = Status.dropped
+after_drop Status.pending Status.pending = Status.let_go
+after_drop Status.pending back = Status.free
+after_drop status back = status
+
+-- where a unit is accepted, what it let go is free
+abbrev pub after_accept : Status → Status
+after_accept Status.let_go = Status.free
+after_accept status = status
+
+-- a commit makes the pending live, and what was dropped is spent
+abbrev pub after_commit : Status → Status
+after_commit Status.pending = Status.live
+after_commit Status.dropped = Status.spent
+after_commit status = status
+
+-- one entry is in another status
+abbrev pub with_status : (ℕ → Status) → ℕ → Status → ℕ → Status
+with_status statuses r new q = if nat_eq q r then new else statuses q
