@@ -36,7 +36,6 @@ use Rattle.gen_core.proofs.ViewLemmas.{last_at}
 use Rattle.gen_core.proofs.OneStep.{set_back}
 use Rattle.gen_core.proofs.Layouts.{IsLayout}
 use Rattle.gen_core.proofs.Bounds.{count-small, counted-two}
-use Rattle.word_arena.proofs.Guards.{r, m}
 
 -- the writer's seat is the first, and each other one is a reader's
 writer_at : (w0 : WriterView) (readers : List ReaderView) (id : ℕ) (w : WriterView) → get_elem? (views_of w0 readers) id ≡ some (Writer w) → (id ≡ 0) × (w0 ≡ w)

@@ -29,7 +29,6 @@ use Rattle.word_arena.specs.WriterHolds.{told_reopen, told_store_newest, told_mo
 use Rattle.word_arena.proofs.Allowed.{writing, ruled_by}
 use Rattle.gen_core.proofs.GoodViews.{good_view}
 use Rattle.gen_core.proofs.OneStep.{set_back}
-use Rattle.word_arena.proofs.Guards.{m}
 
 module _ (reaches : ℕ → Records → ℕ → List ℕ) (lawful : ℕ → Records → ℕ → Type 0) (sizes : Sizes) where
   pub store_newest_allowed : (slots id : ℕ) (w : WriterView) (h : ℕ) → w.queue.pending ≡ Next h

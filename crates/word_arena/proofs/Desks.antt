@@ -22,7 +22,7 @@ use Rattle.arena_api.specs.Calls.{IsWithinLimits}
 use Rattle.word_arena.specs.Ruled.{Slot, writer_of, api_sizes, ToldLoadOwn}
 use Rattle.word_arena.specs.Knows.{IsDesk}
 use Rattle.gen_core.proofs.GoodViews.{records-placed}
-use Rattle.word_arena.proofs.Guards.{base-inside, r, m}
+use Rattle.word_arena.proofs.Guards.{base-inside}
 
 pub desk-prop : (bits : ℕ) (arena : TableId) (sizes : Sizes) (buffers : List Buffer) (last made : ℕ) (z : TableId) (me : Me Slot View) → IsProp (IsDesk bits arena sizes buffers last made z me)
 desk-prop bits arena sizes buffers last made z me = hlevel props

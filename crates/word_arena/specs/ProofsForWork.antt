@@ -26,7 +26,7 @@ use Rattle.gen_core.proofs.WriterRecords.{records-whole}
 use Rattle.gen_core.proofs.GoodViews.{some-commit, floor-last, last-in, kept-placed, records-last, records-placed, records-active}
 use Rattle.gen_core.proofs.StoredWords.{is_stored, stored-there}
 use Rattle.arena_api.specs.Works.{Hold, Tag as ApiTag, Buffer as ApiBuffer, active_width as api_active, width_of}
-use Rattle.arena_api.specs.Calls.{IsWithinLimits, IsInOrder, IsWordIn, Fits, oldest_first}
+use Rattle.arena_api.specs.Calls.{IsWithinLimits, IsInOrder, IsWordIn, FitsEntry, oldest_first}
 use Rattle.word_arena.specs.Ruled.{api_sizes, Slot, writer_of}
 use Rattle.word_arena.specs.Knows.{api_buffer, api_hold, image_at, view_of, IsDesk}
 use Rattle.gen_core.specs.declared.views.View.{View}
@@ -82,19 +82,19 @@ module _ (w : WriterView) (g : GoodView w) (bits : ℕ) (same : w.sizes.offset_b
   pub last-image : image_at w.commits (last_number w.commits) ≡ last_image w.commits
   last-image = ap (λ o. unwrap_or o no_image) (last-in w g)
 
-  fits : (width r n : ℕ) → width ≡ n → IsEntry w.sizes.offset_bits w.sizes.buffers w.sizes.words n r → Fits w.sizes.offset_bits (api_sizes w.sizes) width r n
+  fits : (width r n : ℕ) → width ≡ n → IsEntry w.sizes.offset_bits w.sizes.buffers w.sizes.words n r → FitsEntry w.sizes.offset_bits (api_sizes w.sizes) width r n
   fits width r n is e = record { entry = subst (λ x. IsEntry w.sizes.offset_bits w.sizes.buffers w.sizes.words x r) (sym is) e; whole = sym is }
 
-  pub work_entries : (r : ℕ) → 0 < length (writer_records w r) → Fits bits (api_sizes w.sizes) (api_active (api_buffer (slice_get w.buffers (buffer_of bits r)))) r (length (writer_records w r))
-  work_entries r some = subst (λ b. Fits b (api_sizes w.sizes) (api_active (api_buffer (slice_get w.buffers (buffer_of b r)))) r (length (writer_records w r))) same
+  pub work_entries : (r : ℕ) → 0 < length (writer_records w r) → FitsEntry bits (api_sizes w.sizes) (api_active (api_buffer (slice_get w.buffers (buffer_of bits r)))) r (length (writer_records w r))
+  work_entries r some = subst (λ b. FitsEntry b (api_sizes w.sizes) (api_active (api_buffer (slice_get w.buffers (buffer_of b r)))) r (length (writer_records w r))) same
       (fits _ r _ (api-active (slice_get w.buffers (buffer_of w.sizes.offset_bits r)) _ (records-active w g r some)) (records-placed w g r some).inside)
 
   pub work_kept : (n r : ℕ) → floor_of w ≤ n → n ≤ last_number w.commits → 0 < length (words_at (image_at w.commits n) r)
-      → Fits bits (api_sizes w.sizes) (width_of (api_buffer (slice_get w.buffers (buffer_of bits r)))) r (length (words_at (image_at w.commits n) r))
+      → FitsEntry bits (api_sizes w.sizes) (width_of (api_buffer (slice_get w.buffers (buffer_of bits r)))) r (length (words_at (image_at w.commits n) r))
   work_kept n r from to some =
       let at = at_number w.commits n (let c = some-commit w g in omega arith) in
       let placed = kept-placed w g n (image_at w.commits n) from at r _ (there (record_at (image_at w.commits n) r) some) in
-      subst (λ b. Fits b (api_sizes w.sizes) (width_of (api_buffer (slice_get w.buffers (buffer_of b r)))) r (length (words_at (image_at w.commits n) r))) same
+      subst (λ b. FitsEntry b (api_sizes w.sizes) (width_of (api_buffer (slice_get w.buffers (buffer_of b r)))) r (length (words_at (image_at w.commits n) r))) same
       (fits _ r _ (api-width (slice_get w.buffers (buffer_of w.sizes.offset_bits r)) _ placed.width) placed.inside)
 
   pub work_last : (r : ℕ) → 0 < length (words_at (image_at w.commits (last_number w.commits)) r) → writer_records w r ≡ words_at (image_at w.commits (last_number w.commits)) r

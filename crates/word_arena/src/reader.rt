@@ -5,6 +5,8 @@ ghost use Rattle.gen_core.specs.Events.{with_state};
 ghost use Rattle.gen_core.specs.declared.views.ReaderState.TheVariants.{Idle};
 ghost use Rattle.word_arena.specs.Ruled.{reader_of, image_of, number_of, IsLater, IsHigher, IsWatch, IsGuard};
 
+ghost use Rattle.image_base.specs.Records.{HasWord, word_at};
+
 use crate::arena::Arena;
 use crate::plays::{Bounce, LoadNewest, LoadRoot, LoadWord, Raise, Release};
 use crate::rule::Place;
@@ -114,7 +116,11 @@ impl<'a, const OFFSET_BITS: u32, L: Layout> Frozen<OFFSET_BITS> for Guarded<'a, 
 
     ghost records = { λ g. words_at (image_of (reader_of g.place.me.0)) };
 
-    fn word(&mut self, entry: EntryRef<OFFSET_BITS>, i: u32) -> u64 {
+    fn word(&mut self, entry: EntryRef<OFFSET_BITS>, i: u32) -> u64
+        requires { HasWord (⟦<Guarded<'a, OFFSET_BITS, L> as Frozen<OFFSET_BITS>>⟧.records self.old) entry i }
+        ensures value { result ≡ word_at (⟦<Guarded<'a, OFFSET_BITS, L> as Frozen<OFFSET_BITS>>⟧.records self.old) entry.entry i }
+        ensures same { self.new ≡ self.old }
+    {
         let first = 18 + self.sizes.buffers + u64::from(entry.buffer()) * self.sizes.words;
         let width = self
             .arena

@@ -1,7 +1,12 @@
 //! The writer as a work.
 ghost use Rattle.std.specs.Prelude.{◌≡◌, ◌≢◌, ◌<◌, ◌≤◌, ◌+◌, ◌*◌, ℕ, length, Some, slice_index, true};
 ghost use Rattle.word_arena.specs.Ruled.{writer_of};
-ghost use Rattle.arena_api.specs.Works.{is_free};
+ghost use Rattle.image_base.specs.Images.{words_at};
+ghost use Rattle.image_base.specs.Places.{IsEntry};
+ghost use Rattle.image_base.specs.Records.{with_words};
+ghost use Rattle.entry_ref.specs.References.{buffer_of};
+ghost use Rattle.arena_api.specs.Calls.{MayStore, InNoCommit, AddsCommit, with_stored, padded, next_image, published};
+ghost use Rattle.arena_api.specs.Works.{is_free, active_width};
 ghost use Rattle.gen_core.specs.Views.{last_tag_in};
 ghost use Rattle.word_arena.specs.Knows.{view_of, given, buffers_by};
 
@@ -10,6 +15,7 @@ use crate::plays::{HandOut, Publish, StoreWidth, StoreWord};
 use crate::writer::Writer;
 use arena_api::Work;
 use entry_ref::EntryRef;
+use frozen_api::Frozen;
 use gen_core::Buffer;
 use image_base::{Layout, place_of};
 use std::marker::Model;
@@ -61,7 +67,13 @@ impl<'a, const OFFSET_BITS: u32, L: Layout> Work<OFFSET_BITS> for Writer<'a, OFF
 
     ghost knows = { λ w. view_of w.place.table_id (writer_of w.place.me.0) };
 
-    fn store(&mut self, entry: EntryRef<OFFSET_BITS>, i: u32, word: u64) {
+    fn store(&mut self, entry: EntryRef<OFFSET_BITS>, i: u32, word: u64)
+        requires { MayStore OFFSET_BITS (⟦<Writer<'a, OFFSET_BITS, L> as Work<OFFSET_BITS>>⟧.knows self.old) entry i }
+        ensures knows { ⟦<Writer<'a, OFFSET_BITS, L> as Work<OFFSET_BITS>>⟧.knows self.new
+            ≡ record (⟦<Writer<'a, OFFSET_BITS, L> as Work<OFFSET_BITS>>⟧.knows self.old) { stored = with_stored (⟦<Writer<'a, OFFSET_BITS, L> as Work<OFFSET_BITS>>⟧.knows self.old).stored entry.entry i word } }
+        ensures others { (q : ℕ) → q ≢ entry.entry → ⟦<Writer<'a, OFFSET_BITS, L> as Frozen<OFFSET_BITS>>⟧.records self.new q ≡ ⟦<Writer<'a, OFFSET_BITS, L> as Frozen<OFFSET_BITS>>⟧.records self.old q }
+        ensures shape { ⟦<Writer<'a, OFFSET_BITS, L> as Frozen<OFFSET_BITS>>⟧.shape self.new ≡ ⟦<Writer<'a, OFFSET_BITS, L> as Frozen<OFFSET_BITS>>⟧.shape self.old }
+    {
         let width = width_of(self.buffers.as_slice(), entry.buffer()) as u32;
         let place = place_of(
             self.sizes.buffers as u32,
@@ -76,13 +88,40 @@ impl<'a, const OFFSET_BITS: u32, L: Layout> Work<OFFSET_BITS> for Writer<'a, OFF
             .store::<StoreWord>(&mut self.place, place as usize, word);
     }
 
+    fn put(&mut self, entry: EntryRef<OFFSET_BITS>, width: u32, words: &[u64])
+        requires entry { IsEntry OFFSET_BITS (⟦<Writer<'a, OFFSET_BITS, L> as Work<OFFSET_BITS>>⟧.knows self.old).sizes.buffers (⟦<Writer<'a, OFFSET_BITS, L> as Work<OFFSET_BITS>>⟧.knows self.old).sizes.words width entry }
+        requires width { active_width ((⟦<Writer<'a, OFFSET_BITS, L> as Work<OFFSET_BITS>>⟧.knows self.old).buffer (buffer_of OFFSET_BITS entry)) ≡ width }
+        requires fits { length words.now ≤ width }
+        requires unkept { InNoCommit (⟦<Writer<'a, OFFSET_BITS, L> as Work<OFFSET_BITS>>⟧.knows self.old).commits entry }
+        ensures records { ⟦<Writer<'a, OFFSET_BITS, L> as Frozen<OFFSET_BITS>>⟧.records self.new ≡ with_words (⟦<Writer<'a, OFFSET_BITS, L> as Frozen<OFFSET_BITS>>⟧.records self.old) entry.entry (padded words.now width) }
+        ensures knows { ⟦<Writer<'a, OFFSET_BITS, L> as Work<OFFSET_BITS>>⟧.knows self.new ≡ record (⟦<Writer<'a, OFFSET_BITS, L> as Work<OFFSET_BITS>>⟧.knows self.old) { stored = (⟦<Writer<'a, OFFSET_BITS, L> as Work<OFFSET_BITS>>⟧.knows self.new).stored } }
+        ensures shape { ⟦<Writer<'a, OFFSET_BITS, L> as Frozen<OFFSET_BITS>>⟧.shape self.new ≡ ⟦<Writer<'a, OFFSET_BITS, L> as Frozen<OFFSET_BITS>>⟧.shape self.old }
+    {
+        for i in 0..width {
+            let at = i as usize;
+            let word = if at < words.len() { words[at] } else { 0 };
+            self.store(entry, i, word);
+        }
+    }
+
     fn hand_out(&mut self, width: u32) -> Option<u32> {
         let buffer = lowest_free(self.buffers.as_slice(), self.sizes.buffers as u32)?;
         self.take_buffer(buffer, width);
         Some(buffer)
     }
 
-    fn publish(&mut self, root: EntryRef<OFFSET_BITS>) -> u32 {
+    fn publish(&mut self, root: EntryRef<OFFSET_BITS>) -> u32
+        requires lawful { L.lawful (⟦<Writer<'a, OFFSET_BITS, L> as Frozen<OFFSET_BITS>>⟧.shape self.old) (⟦<Writer<'a, OFFSET_BITS, L> as Frozen<OFFSET_BITS>>⟧.records self.old) root }
+        requires room { (⟦<Writer<'a, OFFSET_BITS, L> as Work<OFFSET_BITS>>⟧.knows self.old).commits.last < (⟦<Writer<'a, OFFSET_BITS, L> as Work<OFFSET_BITS>>⟧.knows self.old).sizes.commits }
+        ensures number { result ≡ (⟦<Writer<'a, OFFSET_BITS, L> as Work<OFFSET_BITS>>⟧.knows self.old).commits.last + 1 }
+        ensures commit { AddsCommit (⟦<Writer<'a, OFFSET_BITS, L> as Work<OFFSET_BITS>>⟧.knows self.old).commits (⟦<Writer<'a, OFFSET_BITS, L> as Work<OFFSET_BITS>>⟧.knows self.new).commits
+            (next_image L.reaches (⟦<Writer<'a, OFFSET_BITS, L> as Frozen<OFFSET_BITS>>⟧.shape self.old) (⟦<Writer<'a, OFFSET_BITS, L> as Frozen<OFFSET_BITS>>⟧.records self.old) root.entry) }
+        ensures knows { ⟦<Writer<'a, OFFSET_BITS, L> as Work<OFFSET_BITS>>⟧.knows self.new ≡ published (⟦<Writer<'a, OFFSET_BITS, L> as Work<OFFSET_BITS>>⟧.knows self.old) (⟦<Writer<'a, OFFSET_BITS, L> as Work<OFFSET_BITS>>⟧.knows self.new).commits
+            (next_image L.reaches (⟦<Writer<'a, OFFSET_BITS, L> as Frozen<OFFSET_BITS>>⟧.shape self.old) (⟦<Writer<'a, OFFSET_BITS, L> as Frozen<OFFSET_BITS>>⟧.records self.old) root.entry) }
+        ensures records { ⟦<Writer<'a, OFFSET_BITS, L> as Frozen<OFFSET_BITS>>⟧.records self.new
+            ≡ words_at (next_image L.reaches (⟦<Writer<'a, OFFSET_BITS, L> as Frozen<OFFSET_BITS>>⟧.shape self.old) (⟦<Writer<'a, OFFSET_BITS, L> as Frozen<OFFSET_BITS>>⟧.records self.old) root.entry) }
+        ensures shape { ⟦<Writer<'a, OFFSET_BITS, L> as Frozen<OFFSET_BITS>>⟧.shape self.new ≡ ⟦<Writer<'a, OFFSET_BITS, L> as Frozen<OFFSET_BITS>>⟧.shape self.old }
+    {
         let number = self.last + 1;
         let word = u64::from(number) * 4294967296 + u64::from(root.raw());
         self.arena

@@ -10,6 +10,8 @@ ghost use Rattle.arena_api.specs.Calls.{IsWithinLimits};
 ghost use Rattle.word_arena.specs.Ruled.{api_sizes, writer_of, reader_of};
 ghost use Rattle.word_arena.specs.Knows.{IsDesk};
 
+ghost use Rattle.image_base.specs.Records.{HasWord, word_at};
+
 use crate::arena::{Arena, Token};
 use crate::plays::{Cut, Glue, LoadOwn};
 use crate::reader::Reader;
@@ -102,7 +104,11 @@ impl<'a, const OFFSET_BITS: u32, L: Layout> Frozen<OFFSET_BITS> for Writer<'a, O
 
     ghost records = { λ w. writer_records (writer_of w.place.me.0) };
 
-    fn word(&mut self, entry: EntryRef<OFFSET_BITS>, i: u32) -> u64 {
+    fn word(&mut self, entry: EntryRef<OFFSET_BITS>, i: u32) -> u64
+        requires { HasWord (⟦<Writer<'a, OFFSET_BITS, L> as Frozen<OFFSET_BITS>>⟧.records self.old) entry i }
+        ensures value { result ≡ word_at (⟦<Writer<'a, OFFSET_BITS, L> as Frozen<OFFSET_BITS>>⟧.records self.old) entry.entry i }
+        ensures same { self.new ≡ self.old }
+    {
         let first = 18 + self.sizes.buffers + u64::from(entry.buffer()) * self.sizes.words;
         let width = self
             .arena

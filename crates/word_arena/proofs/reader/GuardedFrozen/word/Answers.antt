@@ -7,8 +7,7 @@ use Rattle.word_arena.specs.Ruled.{Slot, reader_of, IsGuard}
 use Rattle.word_arena.proofs.Allowed.{load_word_owed}
 use Rattle.word_arena.proofs.Guards.{seat_same, guard-prop}
 use Rattle.word_arena.proofs.reader.GuardedFrozen.word.Goals as goal
-use Rattle.gen_core.proofs.StoredWords.{p}
-use Rattle.word_arena.proofs.Desks.{w, the_entry, base-below, place-inside, width_found, word_found}
+use Rattle.word_arena.proofs.Desks.{the_entry, base-below, place-inside, width_found, word_found}
 
 pub load-width-requires : goal.load-width-requires
 load-width-requires g c =

@@ -4,7 +4,7 @@ use Rattle.gen_core.specs.declared.views.View.{View}
 use Rattle.gen_core.specs.Events.{bounced}
 use Rattle.word_arena.specs.Ruled.{Slot, reader_of, IsHigher}
 use Rattle.word_arena.proofs.Allowed.{load_newest_owed, raise_owed, bounce_owed, load_root_owed}
-use Rattle.word_arena.proofs.Guards.{low-inside, even-state, odd-state, guards, aimed_post, raised_post, watch_after, m}
+use Rattle.word_arena.proofs.Guards.{low-inside, even-state, odd-state, guards, aimed_post, raised_post, watch_after}
 use Rattle.word_arena.proofs.reader.Reader.try_guard.Goals as goal
 
 pub load-last-requires : goal.load-last-requires

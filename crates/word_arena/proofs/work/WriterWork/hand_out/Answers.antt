@@ -11,7 +11,6 @@ use Rattle.word_arena.specs.Knows.{buffers_by, view_of}
 use Rattle.word_arena.proofs.Stores.{free-here, hand-knows}
 use Rattle.word_arena.proofs.work.WriterWork.hand_out.Goals as goal
 use Rattle.gen_core.proofs.StoredWords.{hand-records}
-use Rattle.word_arena.proofs.Desks.{w}
 
 pub returns-clause-none : goal.returns-clause-none
 returns-clause-none g c =

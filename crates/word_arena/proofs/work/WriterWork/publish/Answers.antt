@@ -8,11 +8,10 @@ use Rattle.arena_api.specs.Calls.{AddsCommit}
 use Rattle.word_arena.specs.Ruled.{Slot, writer_of}
 use Rattle.word_arena.specs.Knows.{view_of}
 use Rattle.word_arena.proofs.Allowed.{publish_owed}
-use Rattle.word_arena.proofs.Desks.{desk-some, desk_after, w}
+use Rattle.word_arena.proofs.Desks.{desk-some, desk_after}
 use Rattle.word_arena.proofs.Stores.{last-more, publish-adds, publish-records}
 use Rattle.word_arena.proofs.work.WriterWork.publish.Goals as goal
 use Rattle.gen_core.proofs.GoodViews.{some-commit}
-use Rattle.word_arena.proofs.Guards.{m}
 
 pub store-requires : goal.store-requires
 store-requires g c =

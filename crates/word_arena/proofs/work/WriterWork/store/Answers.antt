@@ -15,10 +15,9 @@ use Rattle.word_arena.specs.Ruled.{Slot, writer_of}
 use Rattle.word_arena.specs.Knows.{api_buffer, view_of}
 use Rattle.word_arena.specs.ProofsForWork.{core-active}
 use Rattle.word_arena.proofs.Allowed.{store_owed}
-use Rattle.word_arena.proofs.Desks.{arena-words, w}
+use Rattle.word_arena.proofs.Desks.{arena-words}
 use Rattle.word_arena.proofs.Stores.{may_store, store-knows}
 use Rattle.word_arena.proofs.work.WriterWork.store.Goals as goal
-use Rattle.word_arena.proofs.Guards.{m}
 
 pub store-requires : goal.store-requires
 store-requires g c =

@@ -2,7 +2,7 @@ use Rattle.std.proofs.Common.{arith, ap, refl, ◌+◌, ℕ}
 use Rattle.gen_core.specs.Events.{with_reader}
 use Rattle.word_arena.specs.Ruled.{writer_of}
 use Rattle.word_arena.proofs.Allowed.{split_owed}
-use Rattle.word_arena.proofs.Desks.{desk-some, desk_after, good-reader, w}
+use Rattle.word_arena.proofs.Desks.{desk-some, desk_after, good-reader}
 use Rattle.word_arena.proofs.writer.Writer.reader.Goals as goal
 
 pub split_seat-place-requires : goal.split_seat-place-requires

@@ -12,8 +12,8 @@ use Rattle.gen_core.specs.Events.{handed_out, widened}
 use Rattle.word_arena.specs.Ruled.{Slot, writer_of}
 use Rattle.word_arena.specs.Knows.{given}
 use Rattle.word_arena.proofs.Allowed.{hand_out_owed, width_owed}
-use Rattle.word_arena.proofs.Guards.{base-inside, m}
-use Rattle.word_arena.proofs.Desks.{arena-words, desk_after, w}
+use Rattle.word_arena.proofs.Guards.{base-inside}
+use Rattle.word_arena.proofs.Desks.{arena-words, desk_after}
 use Rattle.word_arena.proofs.Stores.{free-here}
 use Rattle.word_arena.proofs.writer.Writer.take_buffer.Goals as goal
 use Rattle.gen_core.specs.Good.{GoodView}

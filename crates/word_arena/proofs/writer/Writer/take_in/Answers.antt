@@ -6,9 +6,8 @@ use Rattle.gen_core.specs.declared.views.WriterView.{WriterView}
 use Rattle.gen_core.specs.Events.{joined}
 use Rattle.word_arena.specs.Ruled.{Slot, writer_of, reader_of}
 use Rattle.word_arena.proofs.Allowed.{join_owed, load_own_owed}
-use Rattle.word_arena.proofs.Desks.{desk-some, desk_after, good-joined, w}
+use Rattle.word_arena.proofs.Desks.{desk-some, desk_after, good-joined}
 use Rattle.word_arena.proofs.writer.Writer.take_in.Goals as goal
-use Rattle.word_arena.proofs.Guards.{r, m}
 
 pub join_seat-requires : goal.join_seat-requires
 join_seat-requires g c =

@@ -7,9 +7,8 @@ use Rattle.word_arena.specs.Ruled.{Slot, writer_of}
 use Rattle.word_arena.proofs.Allowed.{load_own_owed}
 use Rattle.word_arena.proofs.Guards.{seat_same}
 use Rattle.word_arena.specs.Knows.{IsDesk}
-use Rattle.word_arena.proofs.Desks.{desk-prop, the_entry, base-below, place-inside, width_found, word_found, few-words, w}
+use Rattle.word_arena.proofs.Desks.{desk-prop, the_entry, base-below, place-inside, width_found, word_found, few-words}
 use Rattle.word_arena.proofs.writer.WriterFrozen.word.Goals as goal
-use Rattle.gen_core.proofs.StoredWords.{p}
 
 pub load-width-requires : goal.load-width-requires
 load-width-requires g c =
