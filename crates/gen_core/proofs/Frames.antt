@@ -1,12 +1,13 @@
 -- A word that is written leaves what is said of the other words.
 use Rattle.std.proofs.Common.{length-set, ◌≡◌, ◌≢◌, ℕ, suc, ◌+◌, ◌*◌, ◌<◌, ◌≤◌, List, length, set, Option, Some, None, refl, ◌∙◌, arith, mul-le-mul_right, suc-mul}
 use Rattle.std.proofs.Math.Seq.{get_or-set_other}
+use Rattle.std.proofs.lemmas.Nat.{same_from_place}
 use Rattle.std.specs.Prelude.{slice_get, All, option_and_then}
 use Rattle.std.proofs.lemmas.Option.{slice_get_within}
 use Rattle.entry_ref.specs.References.{buffer_of, offset_of}
 use Rattle.image_base.specs.declared.Image.{Image}
 use Rattle.image_base.specs.Places.{base, state_place, size_of, IsEntry}
-use Rattle.image_base.proofs.Apart.{apart, within}
+use Rattle.image_base.proofs.Apart.{within}
 use Rattle.gen_core.specs.declared.views.Sizes.{Sizes}
 use Rattle.gen_core.specs.declared.views.OpenHold.{OpenHold}
 use Rattle.gen_core.specs.declared.views.Buffer.{Buffer}
@@ -39,11 +40,11 @@ pub behind-base : (sizes : Sizes) (p b : ℕ) → IsBehind sizes p → p ≢ bas
 behind-base sizes p b h same =
     let is = h.is in
     let inside = h.inside in
-    let both = apart sizes.words h.b b h.x 0 h.inside (omega arith) (omega arith) in
+    let both = same_from_place h.b h.x b 0 sizes.words h.inside (omega arith) (omega arith) in
     omega (arith, both.1, h.behind)
 
 pub base-same : (sizes : Sizes) (b c : ℕ) → 0 < sizes.words → base sizes.buffers sizes.words b ≡ base sizes.buffers sizes.words c → b ≡ c
-base-same sizes b c some same = (apart sizes.words b c 0 0 some some (omega (arith, same))).0
+base-same sizes b c some same = (same_from_place b 0 c 0 sizes.words some some (omega (arith, same))).0
 
 pub behind-high : (sizes : Sizes) (p : ℕ) → IsBehind sizes p → 18 + sizes.buffers < p
 behind-high sizes p h = let is = h.is in let o = h.behind in omega arith

@@ -5,7 +5,7 @@ use Rattle.std.proofs.lemmas.Option.{slice_get_within}
 use Rattle.image_base.specs.Images.{words_at, record_at}
 use Rattle.std.proofs.Common.{true, false, zero, suc, Bool, suc, nat_eq, cond, subst, [], ⊎_elim, unwrap_or, get_or, slice_get, length, option_and_then, eq-eqb, ◌≡◌, ◌≢◌, ℕ, ◌+◌, ◌<◌, ◌≤◌, List, ◌∷◌, Option, Some, None, refl, sym, ap, ◌∙◌, arith}
 use Rattle.image_base.specs.Places.{IsEntry, base}
-use Rattle.image_base.proofs.Apart.{one_place, apart}
+use Rattle.image_base.proofs.Apart.{one_place}
 use Rattle.gen_core.specs.Views.{active_in, floor_of, kept_of, last_number, last_image, record_width, width_in, active_width}
 use Rattle.gen_core.specs.Good.{State, GoodView, Good, HoldFits, HasNothingIn, IsPlaced, IsApart, Avoids}
 use Rattle.gen_core.specs.Work.{work_at, place_in, IsWhole, whole_at, writer_records}
@@ -19,6 +19,7 @@ use Rattle.gen_core.specs.declared.views.Buffer.{Buffer}
 use Rattle.gen_core.specs.declared.views.WriterView.{WriterView}
 use Rattle.image_base.specs.declared.Image.{Image}
 use Rattle.entry_ref.specs.References.{buffer_of}
+use Rattle.std.proofs.lemmas.Nat.{same_from_place}
 use Rattle.std.specs.Prelude.{All}
 use Rattle.gen_core.specs.declared.views.Buffer.TheVariants.{Free, Active, Held}
 
@@ -58,7 +59,7 @@ module _ (reaches : ℕ → Records → ℕ → List ℕ) (lawful : ℕ → Reco
       by_word b x lt idle (Some n) e =
           let a = (g.places.stored _ n e).active in
           let is = a.is in
-          let same = (apart s.writer.sizes.words b a.b x a.x lt a.inside (omega (arith, is))).0 in
+          let same = (same_from_place b x a.b a.x s.writer.sizes.words lt a.inside (omega (arith, is))).0 in
           let none : Some a.width ≡ None = sym a.active ∙ ap (active_in s.writer.buffers) (sym same) ∙ idle in
           absurd (cc)
 
