@@ -19,7 +19,7 @@ use Rattle.gen_core.specs.Views.{hold_place, is_counted_on, last_number, last_im
 use Rattle.gen_core.specs.Work.{next_image}
 use Rattle.gen_core.specs.Good.{HoldFits, AimFits, BounceFits, GuardFits, GoodReaderState, IsPlaced, IsLawfulCommit, GoodReader, Good}
 use Rattle.gen_core.specs.Conditions.{MayStoreWidth, MayStoreWord, MayHandOut, MayPublish, MaySplit, MayJoin}
-use Rattle.gen_core.specs.Events.{aims, with_state, found_state, bounced, MayOpen, opening_words, opening_view, handed_out, widened, published, sees, with_reader, newcomer, joined}
+use Rattle.gen_core.specs.Events.{stored, aims, with_state, found_state, bounced, MayOpen, opening_words, opening_view, handed_out, widened, published, sees, with_reader, newcomer, joined}
 use Rattle.gen_core.proofs.Lists.{all_at}
 use Rattle.gen_core.proofs.Frames.{base-same}
 use Rattle.gen_core.proofs.Writer.{store_word_keeps, store_width_keeps, hand_out_keeps}
@@ -334,9 +334,9 @@ module _ (reaches : ℕ → Records → ℕ → List ℕ) (lawful : ℕ → Reco
         good = join_keeps reaches lawful _ it.0 r k.good it.2 may;
       }
 
-  pub opens : EmptyReaches reaches lawful → EmptyLawful reaches lawful → MayOpen sizes
+  pub opens : IsLayout reaches lawful → MayOpen sizes
       → Ruled reaches lawful sizes (record { words = opening_words sizes; homes = []; views = Writer (opening_view sizes) ∷ [] })
-  opens empty_reaches empty_lawful may = record { writer = opening_view sizes; readers = []; views = refl; same_sizes = refl; good = opening_good reaches lawful empty_reaches empty_lawful sizes may }
+  opens l may = record { writer = opening_view sizes; readers = []; views = refl; same_sizes = refl; good = opening_good reaches lawful l sizes may }
 
 -- the same at a seat whose view is known
 module _ (reaches : ℕ → Records → ℕ → List ℕ) (lawful : ℕ → Records → ℕ → Type 0) (sizes : Sizes) (slots id : ℕ) (me : Me Slot View) where
@@ -359,9 +359,9 @@ module _ (reaches : ℕ → Records → ℕ → List ℕ) (lawful : ℕ → Reco
 
   pub publish_owed : IsLayout reaches lawful → (w : WriterView) (root word : ℕ) → me ≡ (Writer w, []) → word ≡ length w.commits * 2 ^ 32 + root → MayPublish lawful w root
       → Allows (Ruled reaches lawful sizes) slots id me 0 (λ _. word) (λ _. told_publish reaches lawful (step slots 0 word 0 none) me word)
-  publish_owed stays present w root word is what may =
+  publish_owed l w root word is what may =
       let P : Me Slot View × ℕ → Type 0 = λ x. Allows (Ruled reaches lawful sizes) slots id x.0 0 (λ _. x.1) (λ _. told_publish reaches lawful (step slots 0 x.1 0 none) x.0 x.1) in
-      subst P (λ i. (sym is i, sym what i)) (publish_allowed reaches lawful sizes stays present slots id w root may)
+      subst P (λ i. (sym is i, sym what i)) (publish_allowed reaches lawful sizes l slots id w root may)
 
   pub load_root_owed : (r : ReaderView) (h : ℕ) → me ≡ (Reader r, []) → r.state ≡ Raised h → Allows (Ruled reaches lawful sizes) slots id me 0 (λ n. n) (told_load_root reaches lawful (step slots 0 0 0 none) me)
   load_root_owed r h is raised = subst (λ (m : Me Slot View). Allows (Ruled reaches lawful sizes) slots id m 0 (λ n. n) (told_load_root reaches lawful (step slots 0 0 0 none) m)) (sym is) (load_root_allowed reaches lawful sizes slots id r h raised)

@@ -20,7 +20,7 @@ use Rattle.gen_core.specs.declared.views.WriterView.{WriterView}
 use Rattle.gen_core.specs.Views.{hold_place, newest_word, active_in}
 use Rattle.gen_core.specs.Good.{State as CoreState, Good}
 use Rattle.gen_core.specs.Conditions.{MayReopen, MayPutOnHold, MayFree}
-use Rattle.gen_core.specs.Events.{coming_hold, advanced, morphed, put_aside, freed, reopened, closed, stopped}
+use Rattle.gen_core.specs.Events.{probed, coming_hold, advanced, morphed, put_aside, freed, reopened, closed, stopped}
 use Rattle.gen_core.proofs.Advancing.{closed-word, reopen_keeps, store_newest_keeps, probe_keeps, stop_keeps}
 use Rattle.gen_core.proofs.Closing.{close_keeps, morph_keeps}
 use Rattle.gen_core.proofs.Buffers.{put_on_hold_keeps, free_keeps}

@@ -40,7 +40,7 @@ module _ {bits : ℕ} {arena : TableId} {sizes : Sizes} {buffers : List Buffer} 
 
   -- the desk after a step to the view v
   pub desk_after : {z' : TableId} {me' : Me Slot View} {buffers' : List Buffer} {last' made' : ℕ} (v : WriterView) → z' ≡ z → me' ≡ (Writer v, me.1) → v.sizes ≡ w.sizes → v.buffers ≡ buffers'
-      → last' ≡ last_number v.commits → made' ≡ v.made → v.pending ≡ Nothing → GoodView v → IsDesk bits arena sizes buffers' last' made' z' me'
+      → last' ≡ last_number v.commits → made' ≡ v.made → v.queue.pending ≡ Nothing → GoodView v → IsDesk bits arena sizes buffers' last' made' z' me'
   desk_after {z'} {me'} {buffers'} {last'} {made'} v same is size of number count calm good =
       let slots : me.1 ≡ [] = ap (λ (m : Me Slot View). m.1) d.is in
       let P : Me Slot View → Type 0 = λ m. IsDesk bits arena sizes buffers' last' made' z' m in

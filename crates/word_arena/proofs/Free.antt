@@ -1,16 +1,8 @@
 -- How many buffers are free.
-use Rattle.std.proofs.Common.{◌≡◌, ℕ, zero, suc, ◌+◌, ◌*◌, ◌<◌, ◌≤◌, Bool, true, false, cond, refl, sym, ap, subst, arith, add-one, inl, inr}
+use Rattle.std.proofs.Common.{◌≡◌, ℕ, zero, suc, ◌+◌, ◌*◌, ◌<◌, ◌≤◌, Bool, true, false, cond, sym, ap, subst, arith, add-one, inl, inr}
 use Rattle.std.proofs.Math.Nat.{mul-le-mul_right}
 use Rattle.std.proofs.lemmas.Bool.{cases_eq}
 use Rattle.arena_api.specs.Works.{Buffer, is_free, free_count}
-use Rattle.mem_work.specs.Cells.{buffer_by}
-
-pub is_free-none : (w : ℕ) → w ≡ 0 → is_free (buffer_by w) ≡ true
-is_free-none w none = ap (λ n. is_free (buffer_by n)) none
-
-pub is_free-some : (w : ℕ) → 0 < w → is_free (buffer_by w) ≡ false
-is_free-some zero some = absurd (omega arith)
-is_free-some (suc w) some = refl
 
 pub free_count-more : (buffer : ℕ → Buffer) (n : ℕ) → free_count buffer (n + 1) ≡ free_count buffer n + cond (is_free (buffer n)) 1 0
 free_count-more buffer n = ap (free_count buffer) (add-one n)

@@ -1,5 +1,5 @@
 -- What the ghost fields of a reader and of a guard give at a call.
-use Rattle.std.proofs.Common.{cond, eq-eqb, ne_eqb, ◌≡◌, ◌≢◌, ℕ, suc, ◌+◌, ◌*◌, ◌/◌, ◌%◌, ◌<◌, ◌≤◌, List, [], ◌∷◌, length, slice_index, Some, refl, sym, ap, ◌∙◌, subst, arith, mul-le-mul_right, suc-mul}
+use Rattle.std.proofs.Common.{◌^◌, mul-le-mul_left, cond, eq-eqb, ne_eqb, ◌≡◌, ◌≢◌, ℕ, suc, ◌+◌, ◌*◌, ◌/◌, ◌%◌, ◌<◌, ◌≤◌, List, [], ◌∷◌, length, slice_index, Some, refl, sym, ap, ◌∙◌, subst, arith, mul-le-mul_right, suc-mul}
 use Rattle.std.specs.Prelude.{slice_get, All}
 use Rattle.std.proofs.Props.{props}
 use Rattle.entry_ref.specs.References.{buffer_of}
@@ -101,6 +101,14 @@ base-inside buffers words b lt some =
 pub seat_same : (s t : Seat Slot View) → t.table_id ≡ s.table_id → t.id ≡ s.id → t.me ≡ s.me → t ≡ s
 seat_same s t a b c i = record { marker = t.marker; table_id = a i; id = b i; me = c i }
 
+-- the buffers of a table are few
+pub post-buffers : {bits : ℕ} {arena : TableId} {sizes : Sizes} {z : TableId} {me : Me Slot View} → IsPost bits arena sizes z me → sizes.buffers ≤ 67108864
+post-buffers {bits} {arena} {sizes} i =
+    let product = i.product in
+    let some : 1 ≤ sizes.words = (let long = i.limits.some_words in omega arith) in
+    let more : sizes.buffers * 1 ≤ sizes.buffers * sizes.words = mul-le-mul_left sizes.buffers some in
+    omega (arith, product, more)
+
 pub guard-prop : (bits : ℕ) (arena : TableId) (sizes : Sizes) (hold word : ℕ) (z : TableId) (me : Me Slot View) → IsProp (IsGuard bits arena sizes hold word z me)
 guard-prop bits arena sizes hold word z me = hlevel props
 
@@ -123,6 +131,9 @@ module _ {bits : ℕ} {arena : TableId} {sizes : Sizes} {hold word : ℕ} {z : T
       by_saw [] h = absurd (omega arith)
       by_saw (x ∷ xs) h = refl
 
+  pub few-buffers : sizes.buffers ≤ 67108864
+  few-buffers = post-buffers g.post
+
   module _ (ref i : ℕ) (inside : i < length (m ref)) where
     some : 0 < length (m ref)
     some = omega (arith, inside)
@@ -134,7 +145,7 @@ module _ {bits : ℕ} {arena : TableId} {sizes : Sizes} {hold word : ℕ} {z : T
     arena-words = ap (λ (x : TableId). x.words) (sym g.post.own) ∙ g.post.words
 
     pub base-below : (p : ℕ) → p ≡ base sizes.buffers sizes.words (buffer_of bits ref) → p < arena.words
-    base-below p is = let e = the_entry in let lt = base-inside sizes.buffers sizes.words (buffer_of ref) e.inside (omega (arith, (within e 0 e.wide).1)) in omega (arith, lt, is, arena-words)
+    base-below p is = let e = the_entry in let lt = base-inside sizes.buffers sizes.words (buffer_of bits ref) e.inside (omega (arith, (within e 0 e.wide).1)) in omega (arith, lt, is, arena-words)
 
     pub place-inside : (p : ℕ) → p ≡ place bits sizes.buffers sizes.words (length (m ref)) ref i → p < arena.words
     place-inside p is = let lt = place-below the_entry i inside in omega (arith, lt, is, arena-words)

@@ -9,7 +9,7 @@ use Rattle.entry_ref.specs.References.{buffer_of, offset_of}
 use Rattle.image_base.specs.declared.Image.{Image}
 use Rattle.image_base.specs.Images.{no_image, words_at}
 use Rattle.image_base.specs.Places.{IsEntry}
-use Rattle.image_base.proofs.Apart.{apart, within}
+use Rattle.image_base.proofs.Apart.{within}
 use Rattle.gen_core.specs.declared.views.Pending.TheVariants.{Nothing}
 use Rattle.gen_core.specs.declared.views.Tag.{Tag}
 use Rattle.gen_core.specs.declared.views.Buffer.{Buffer}
@@ -19,7 +19,7 @@ use Rattle.gen_core.specs.Views.{floor_of, kept_of, last_number, active_in, last
 use Rattle.gen_core.specs.Work.{place_in, writer_records, stored_by}
 use Rattle.gen_core.specs.Good.{GoodView}
 use Rattle.gen_core.specs.Conditions.{MayStoreWord}
-use Rattle.gen_core.specs.Events.{published}
+use Rattle.gen_core.specs.Events.{stored, published}
 use Rattle.gen_core.proofs.Lists.{at_same, at_other, at_longer}
 use Rattle.gen_core.proofs.ViewLemmas.{last_at, last_image-push}
 use Rattle.gen_core.proofs.WriterRecords.{records-published}

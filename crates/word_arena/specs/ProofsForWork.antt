@@ -1,10 +1,10 @@
 -- Nobody has to read this: lemmas that the writer cites for what is always so of a work.
 use Rattle.std.proofs.Common.{◌≡◌, ◌≢◌, ◌⊎◌, ℕ, suc, ◌+◌, ◌*◌, ◌<◌, ◌≤◌, List, [], ◌∷◌, map, length, get_or, slice_index, Option, Some, None, ◌&&◌, refl, sym, ap, subst, ◌∙◌, arith}
-use Rattle.std.specs.Prelude.{slice_get, All, option_and_then}
+use Rattle.std.specs.Prelude.{◌^◌, ◌++◌, slice_get, All, option_and_then}
 use Rattle.std.specs.List.{AllByRecursion}
 use Rattle.std.specs.Option.{unwrap_or}
 use Rattle.std.proofs.lemmas.Option.{slice_get-get_or}
-use Rattle.entry_ref.specs.References.{buffer_of}
+use Rattle.entry_ref.specs.References.{offset_limit, buffer_of}
 use Rattle.image_base.specs.declared.Image.{Image}
 use Rattle.image_base.specs.Images.{no_image, record_at, words_at}
 use Rattle.image_base.specs.Places.{IsEntry}

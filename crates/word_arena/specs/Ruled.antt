@@ -1,5 +1,5 @@
 -- The core's state, read off a table, and what each step tells its seat.
-use Rattle.std.specs.Prelude.{◌≡◌, ◌≢◌, ℕ, ◌+◌, ◌-◌, ◌*◌, ◌<◌, ◌≤◌, List, [], ◌∷◌, map, length, slice_index, Some, All}
+use Rattle.std.specs.Prelude.{◌^◌, ◌≡◌, ◌≢◌, ℕ, ◌+◌, ◌-◌, ◌*◌, ◌<◌, ◌≤◌, List, [], ◌∷◌, map, length, slice_index, Some, All}
 use Rattle.atomic_table.specs.Table.{State, Me, Step}
 use Rattle.atomic_table.specs.Seated.{TableId}
 use Rattle.entry_ref.specs.References.{buffer_of}
@@ -18,7 +18,8 @@ use Rattle.gen_core.specs.Views.{hold_place, newest_word, IsCommit, root_word, s
 use Rattle.gen_core.specs.Work.{place_in, writer_records, next_image}
 use Rattle.gen_core.specs.Good.{IsLawfulCommit, Good, GoodView}
 use Rattle.gen_core.specs.Conditions.{IsUnder}
-use Rattle.gen_core.specs.Events.{aims, with_state, found_state, bounced, opening_view, widened, handed_out, published, sees, with_reader, newcomer, joined}
+use Rattle.gen_core.specs.Events.{stored, aims, with_state, found_state, bounced, opening_view, widened, handed_out, published, sees, with_reader, newcomer, joined}
+use Rattle.arena_api.specs.Works.{Sizes as ApiSizes}
 use Rattle.arena_api.specs.Calls.{IsWithinLimits}
 
 -- the sizes as a work tells them

@@ -8,7 +8,7 @@ use Rattle.gen_core.specs.declared.views.Buffer.TheVariants.{Held}
 use Rattle.gen_core.specs.declared.views.View.{View}
 use Rattle.image_base.specs.Places.{state_place}
 use Rattle.gen_core.specs.Views.{hold_place, active_in}
-use Rattle.gen_core.specs.Events.{advanced, morphed, put_aside, freed, reopened, closed, stopped}
+use Rattle.gen_core.specs.Events.{probed, advanced, morphed, put_aside, freed, reopened, closed, stopped}
 use Rattle.word_arena.specs.Ruled.{Slot, writer_of, Becomes}
 
 abbrev pub told_reopen : Step Slot → Me Slot View → ℕ → Me Slot View → Type 0

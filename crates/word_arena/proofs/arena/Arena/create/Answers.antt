@@ -9,4 +9,4 @@ pub of_words-requires : goal.of_words-requires
 of_words-requires g c =
     let same : c.as_slice.result.now ≡ opening_words c.args.sizes = search rules in
     subst (λ (l : List ℕ). Ruled g.L.Layout.reaches g.L.Layout.lawful c.args.sizes (record { words = l; homes = []; views = Writer (opening_view c.args.sizes) ∷ [] }))
-    (sym same) (opens g.L.Layout.reaches g.L.Layout.lawful c.args.sizes g.L.Layout.empty_reaches g.L.Layout.empty_lawful c.requires.may)
+    (sym same) (opens g.L.Layout.reaches g.L.Layout.lawful c.args.sizes (record { empty_reaches = g.L.Layout.empty_reaches; empty_lawful = g.L.Layout.empty_lawful; present = g.L.Layout.present; stays = g.L.Layout.stays }) c.requires.may)

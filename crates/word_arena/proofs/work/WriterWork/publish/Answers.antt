@@ -1,4 +1,4 @@
-use Rattle.std.proofs.Common.{ap, sym, refl, subst, arith, ◌∙◌, ◌≡◌, ◌+◌, ◌*◌, ◌<◌, ℕ, length}
+use Rattle.std.proofs.Common.{◌^◌, ap, sym, refl, subst, arith, ◌∙◌, ◌≡◌, ◌+◌, ◌*◌, ◌<◌, ℕ, length}
 use Rattle.atomic_table.specs.Table.{Me}
 use Rattle.gen_core.specs.declared.views.View.{View}
 use Rattle.gen_core.specs.declared.views.WriterView.{WriterView}
@@ -21,7 +21,7 @@ store-requires g c =
     let root : c.from-2.result ≡ c.args.root = c.from-2.ensures ∙ c.raw.ensures in
     let small : c.args.root < 2 ^ 32 = let h = c.raw.type_inv in let e = c.raw.ensures in omega arith in
     (s.stands.own, desk-some s.stands,
-      publish_owed g.L.Layout.reaches g.L.Layout.lawful _ _ _ _ g.L.Layout.stays g.L.Layout.present w c.args.root _ s.stands.is (λ k. number k * 2 ^ 32 + root k)
+      publish_owed g.L.Layout.reaches g.L.Layout.lawful _ _ _ _ (record { empty_reaches = g.L.Layout.empty_reaches; empty_lawful = g.L.Layout.empty_lawful; present = g.L.Layout.present; stays = g.L.Layout.stays }) w c.args.root _ s.stands.is (λ k. number k * 2 ^ 32 + root k)
       (record { calm = s.stands.calm; lawful_root = c.requires.lawful; small = small; left = c.requires.room }))
 
 pub invariant_of-self : goal.invariant_of-self

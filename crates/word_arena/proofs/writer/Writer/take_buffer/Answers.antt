@@ -17,7 +17,7 @@ use Rattle.word_arena.proofs.Desks.{arena-words, desk_after}
 use Rattle.word_arena.proofs.Stores.{free-here}
 use Rattle.word_arena.proofs.writer.Writer.take_buffer.Goals as goal
 use Rattle.gen_core.specs.Good.{GoodView}
-use Rattle.gen_core.proofs.StoredWords.{two-steps}
+use Rattle.gen_core.proofs.StoredWords.{two-steps, may-hand-out, may-width}
 
 pub store-requires : goal.store-requires
 store-requires g c =
@@ -27,7 +27,7 @@ store-requires g c =
     let below : b < length w.buffers = let h = c.requires.below in omega (arith, h, s.stands.good.count) in
     let free = free-here w b below c.requires.free in
     let inside : 18 + b < s.arena.now.table.shared.table_id.words = let h = c.requires.below in omega (arith, h, arena-words s.stands, ap (λ (z : Sizes). z.buffers) s.stands.same_sizes) in
-    (s.stands.own, inside, hand_out_owed _ _ _ _ _ _ w b _ s.stands.is refl (may_hand_out w s.stands.good b (last_tag_in w.buffers b) c.args.width free c.requires.some s.stands.calm))
+    (s.stands.own, inside, hand_out_owed _ _ _ _ _ _ w b _ s.stands.is refl (may-hand-out w s.stands.good b (last_tag_in w.buffers b) c.args.width free c.requires.some s.stands.calm))
 
 pub store-requires-2 : goal.store-requires-2
 store-requires-2 g c =
@@ -47,7 +47,7 @@ store-requires-2 g c =
     let slots : s.place.me.1 ≡ [] = ap (λ (m : Me Slot View). m.1) s.stands.is in
     (e.0 ∙ s.stands.own, omega (arith, low, here, arena-words s.stands),
       width_owed _ _ _ _ _ _ (handed_out w b) b _ _ ((e.2 b refl).is ∙ (λ k. (Writer (handed_out w b), slots k))) at
-      (may_width w s.stands.good b (last_tag_in w.buffers b) c.from-2.result free some s.stands.calm))
+      (may-width w s.stands.good b (last_tag_in w.buffers b) c.from-2.result free some s.stands.calm))
 
 pub invariant_of-self : goal.invariant_of-self
 invariant_of-self g c =
