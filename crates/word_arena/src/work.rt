@@ -34,6 +34,14 @@ impl Model for Home {
     ghost view = { λ _. nowhere };
 }
 
+/// The word at a place, 0 behind the last.
+fn word_or_zero(words: &[u64], i: u32) -> u64
+    ensures { result ≡ slice_index words.now i }
+{
+    let at = i as usize;
+    if at < words.len() { words[at] } else { 0 }
+}
+
 impl<'a, const OFFSET_BITS: u32, L: Layout> Writer<'a, OFFSET_BITS, L> {
     // Hands a free buffer out, and stores its width.
     fn take_buffer(&mut self, buffer: u32, width: u32)
@@ -98,8 +106,7 @@ impl<'a, const OFFSET_BITS: u32, L: Layout> Work<OFFSET_BITS> for Writer<'a, OFF
         ensures shape { ⟦<Writer<'a, OFFSET_BITS, L> as Frozen<OFFSET_BITS>>⟧.shape self.new ≡ ⟦<Writer<'a, OFFSET_BITS, L> as Frozen<OFFSET_BITS>>⟧.shape self.old }
     {
         for i in 0..width {
-            let at = i as usize;
-            let word = if at < words.len() { words[at] } else { 0 };
+            let word = word_or_zero(words, i);
             self.store(entry, i, word);
         }
     }
