@@ -23,7 +23,7 @@ use Rattle.gen_core.specs.Good.{IsLawfulCommit}
 use Rattle.gen_core.specs.Conditions.{IsUnder}
 use Rattle.gen_core.specs.Events.{aims, with_state, sees, found_state}
 use Rattle.word_arena.specs.ProofsForGuards.{in_image, image-entry}
-use Rattle.word_arena.specs.Ruled.{Slot, reader_of, ToldLoadRoot, ToldLoadNewest, told_raise, ToldLoadWord, first_of, image_of, number_of, IsPost, IsWatch, IsGuard, IsLater}
+use Rattle.word_arena.specs.Ruled.{IsAim, IsAimOf, Slot, reader_of, ToldLoadRoot, ToldLoadNewest, told_raise, ToldLoadWord, first_of, image_of, number_of, IsPost, IsWatch, IsGuard, IsLater}
 
 -- a seat after a step to the view v
 pub post_after : {bits : ℕ} {arena : TableId} {sizes : Sizes} {z z' : TableId} {me me' : Me Slot View} → IsPost bits arena sizes z me → z' ≡ z → (v : ReaderView) → me' ≡ (Reader v, me.1) → v.sizes ≡ (reader_of me.0).sizes
@@ -164,42 +164,46 @@ module _ {bits : ℕ} {arena : TableId} {sizes : Sizes} {hold word : ℕ} {z : T
         (is ∙ (λ k. place (sym view-bits k) (sym g.post.same_sizes k).buffers (sym g.post.same_sizes k).words (length (m ref)) ref i))
 
 -- a reader that aims
-pub record AimedPost (bits : ℕ) (arena : TableId) (sizes : Sizes) (r : ReaderView) (hold : ℕ) (z : TableId) (me : Me Slot View) : Type 0 where
-  pub post : IsPost bits arena sizes z me
-  pub generation : ℕ
-  pub state : (reader_of me.0).state ≡ Aimed generation hold
-  pub low : hold < 16
-  pub seen : (reader_of me.0).seen ≡ r.seen
-  pub least : r.least ≤ (reader_of me.0).least
-
-pub aimed_post : {bits : ℕ} {arena : TableId} {sizes : Sizes} {z z1 : TableId} {me me1 : Me Slot View} {last : ℕ} → IsWatch bits arena sizes z me → z1 ≡ z → ToldLoadNewest me last me1 → AimedPost bits arena sizes (reader_of me.0) (last % 65536) z1 me1
+pub aimed_post : {bits : ℕ} {arena : TableId} {sizes : Sizes} {z z1 : TableId} {me me1 : Me Slot View} {last : ℕ} → IsWatch bits arena sizes z me → z1 ≡ z → ToldLoadNewest me last me1
+    → IsAim bits arena sizes (last % 65536) z1 me1 × IsAimOf (reader_of me.0) (reader_of me1.0)
 aimed_post {bits} {arena} {sizes} {z} {z1} {me} {me1} {last} i same told =
     let v : ReaderView = aims (reader_of me.0) told.entry in
     let p = post_after i.post same v told.is refl in
-    let hold = hold-found last told.entry told.found_last told.low in
-    record {
-      post = p.0;
-      generation = told.entry.generation;
-      state = ap (λ (x : ReaderView). x.state) p.1 ∙ ap (Aimed told.entry.generation) (sym hold);
-      low = (let l = told.low in omega (arith, hold, l));
-      seen = ap (λ (x : ReaderView). x.seen) p.1;
-      least = subst (λ (x : ReaderView). (reader_of me.0).least ≤ x.least) (sym p.1) told.least;
-    }
+    let hold = hold-found last told.entry told.found_last told.low in (
+      record {
+        post = p.0;
+        low = (let l = told.low in omega (arith, hold, l));
+        aimed = subst (λ (x : ReaderView). x.state ≡ Aimed x.least (last % 65536)) (sym p.1) (ap (Aimed told.entry.generation) (sym hold));
+      },
+      record {
+        same_sizes = ap (λ (x : ReaderView). x.sizes) p.1;
+        seen = ap (λ (x : ReaderView). x.seen) p.1;
+        least = subst (λ (x : ReaderView). (reader_of me.0).least ≤ x.least) (sym p.1) told.least;
+      },
+    )
 
 -- a reader that has raised a hold
 pub record RaisedPost (bits : ℕ) (arena : TableId) (sizes : Sizes) (r : ReaderView) (hold count : ℕ) (z : TableId) (me : Me Slot View) : Type 0 where
   pub post : IsPost bits arena sizes z me
   pub state : (reader_of me.0).state ≡ found_state count hold
   pub low : hold < 16
+  pub sizes_same : (reader_of me.0).sizes ≡ r.sizes
   pub seen : (reader_of me.0).seen ≡ r.seen
   pub least : r.least ≤ (reader_of me.0).least
 
-pub raised_post : {bits : ℕ} {arena : TableId} {sizes : Sizes} {r : ReaderView} {hold count : ℕ} {z z1 : TableId} {me me1 : Me Slot View} → AimedPost bits arena sizes r hold z me → z1 ≡ z → told_raise (step 0 (2 + hold) 2 0 none) me count me1
-    → RaisedPost bits arena sizes r hold count z1 me1
-raised_post {bits} {arena} {sizes} {r} {hold} {count} {z} {z1} {me} {me1} a same told =
+pub raised_post : {bits : ℕ} {arena : TableId} {sizes : Sizes} {hold count : ℕ} {z z1 : TableId} {me me1 : Me Slot View} → IsAim bits arena sizes hold z me → z1 ≡ z → told_raise (step 0 (2 + hold) 2 0 none) me count me1
+    → RaisedPost bits arena sizes (reader_of me.0) hold count z1 me1
+raised_post {bits} {arena} {sizes} {hold} {count} {z} {z1} {me} {me1} a same told =
     let v : ReaderView = with_state (reader_of me.0) (found_state count hold) in
     let p = post_after a.post same v (told hold refl) refl in
-    record { post = p.0; state = ap (λ (x : ReaderView). x.state) p.1; low = a.low; seen = ap (λ (x : ReaderView). x.seen) p.1 ∙ a.seen; least = subst (λ (x : ReaderView). r.least ≤ x.least) (sym p.1) a.least }
+    record {
+      post = p.0;
+      state = ap (λ (x : ReaderView). x.state) p.1;
+      low = a.low;
+      sizes_same = ap (λ (x : ReaderView). x.sizes) p.1;
+      seen = ap (λ (x : ReaderView). x.seen) p.1;
+      least = subst (λ (x : ReaderView). (reader_of me.0).least ≤ x.least) (sym p.1) (omega arith);
+    }
 
 -- and one that stands on nothing again
 pub watch_after : {bits : ℕ} {arena : TableId} {sizes : Sizes} {z z' : TableId} {me me' : Me Slot View} → IsPost bits arena sizes z me → z' ≡ z → (v : ReaderView) → me' ≡ (Reader v, me.1) → v.sizes ≡ (reader_of me.0).sizes → v.state ≡ Idle

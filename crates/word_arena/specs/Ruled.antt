@@ -9,7 +9,7 @@ use Rattle.image_base.specs.Images.{no_image, record_at}
 use Rattle.image_base.specs.Places.{base, state_place, size_of, IsEntry}
 use Rattle.gen_core.specs.declared.views.Sizes.{Sizes}
 use Rattle.gen_core.specs.declared.views.OpenHold.{OpenHold}
-use Rattle.gen_core.specs.declared.views.ReaderState.TheVariants.{Idle, Raised, Guarded}
+use Rattle.gen_core.specs.declared.views.ReaderState.TheVariants.{Idle, Aimed, Raised, Guarded}
 use Rattle.gen_core.specs.declared.views.WriterView.{WriterView}
 use Rattle.gen_core.specs.declared.views.ReaderView.{ReaderView}
 use Rattle.gen_core.specs.declared.views.View.{View}
@@ -174,6 +174,12 @@ pub record IsWatch (bits : ℕ) (arena : TableId) (sizes : Sizes) (z : TableId) 
   pub post : IsPost bits arena sizes z me
   pub idle : (reader_of me.0).state ≡ Idle
 
+-- the seat of a reader that aims at a hold, of its least generation
+pub record IsAim (bits : ℕ) (arena : TableId) (sizes : Sizes) (hold : ℕ) (z : TableId) (me : Me Slot View) : Type 0 where
+  pub post : IsPost bits arena sizes z me
+  pub low : hold < 16
+  pub aimed : (reader_of me.0).state ≡ Aimed (reader_of me.0).least hold
+
 -- the first that was seen is the guard's: its records lie inside the table
 pub record IsGuard (bits : ℕ) (arena : TableId) (sizes : Sizes) (hold word : ℕ) (z : TableId) (me : Me Slot View) : Type 0 where
   pub post : IsPost bits arena sizes z me
@@ -193,4 +199,12 @@ pub record IsLater (reaches : ℕ → Records → ℕ → List ℕ) (lawful : �
 -- after a miss the reader aims higher, and not above the limit
 pub record IsHigher (r : ReaderView) (r' : ReaderView) : Type 0 where
   pub higher : r.least + 1 ≤ r'.least
+  pub seen : r'.seen ≡ r.seen
+  pub same_sizes : r'.sizes ≡ r.sizes
   pub limit : r'.least ≤ r'.sizes.generation_limit
+
+-- an aim is not below the least generation that was asked for, and not above the limit; nothing else was seen
+pub record IsAimOf (r : ReaderView) (r' : ReaderView) : Type 0 where
+  pub same_sizes : r'.sizes ≡ r.sizes
+  pub seen : r'.seen ≡ r.seen
+  pub least : r.least ≤ r'.least

@@ -10,6 +10,6 @@ mod work;
 mod writer;
 
 pub use arena::{Arena, Token};
-pub use reader::{Guarded, Reader};
+pub use reader::{Again, Aimed, Guarded, Reader};
 pub use work::Home;
 pub use writer::Writer;

@@ -1,9 +1,9 @@
 //! The readers, and their guards.
-ghost use Rattle.std.specs.Prelude.{◌≡◌, ◌+◌, ◌*◌, ◌<◌, ◌≤◌, ◌^◌, ℕ, List, length, Some, slice_index, IfOk, IfErr};
+ghost use Rattle.std.specs.Prelude.{◌%◌, ◌≡◌, ◌+◌, ◌*◌, ◌<◌, ◌≤◌, ◌^◌, ℕ, List, length, Some, slice_index, IfOk, IfErr};
 ghost use Rattle.image_base.specs.Images.{words_at};
 ghost use Rattle.gen_core.specs.Events.{with_state};
 ghost use Rattle.gen_core.specs.declared.views.ReaderState.TheVariants.{Idle};
-ghost use Rattle.word_arena.specs.Ruled.{reader_of, image_of, number_of, IsLater, IsHigher, IsWatch, IsGuard};
+ghost use Rattle.word_arena.specs.Ruled.{reader_of, image_of, number_of, IsAimOf, IsLater, IsHigher, IsWatch, IsAim, IsGuard};
 
 ghost use Rattle.image_base.specs.Records.{HasWord, word_at};
 
@@ -34,19 +34,89 @@ pub struct Guarded<'a, const OFFSET_BITS: u32, L: Layout> {
     ghost stands: { IsGuard OFFSET_BITS arena.now.table.shared.table_id sizes hold found place.table_id place.me },
 }
 
+/// A reader that has loaded the newest hold, and goes for it.
+#[derive(Drop)]
+pub struct Aimed<'a, const OFFSET_BITS: u32, L: Layout> {
+    pub(crate) arena: &'a Arena<OFFSET_BITS, L>,
+    pub(crate) sizes: Sizes,
+    pub(crate) hold: u64,
+    pub(crate) place: Place,
+    ghost stands: { IsAim OFFSET_BITS arena.now.table.shared.table_id sizes hold place.table_id place.me },
+}
+
+/// The hold was closed meanwhile: the reader again, and the count that it found.
+#[derive(Drop)]
+pub struct Again<'a, const OFFSET_BITS: u32, L: Layout> {
+    pub reader: Reader<'a, OFFSET_BITS, L>,
+    pub found: u64,
+}
+
 impl<'a, const OFFSET_BITS: u32, L: Layout> Reader<'a, OFFSET_BITS, L> {
-    /// A guard of the last commit, or the reader again where the hold was closed meanwhile.
-    pub fn try_guard(self) -> Result<Guarded<'a, OFFSET_BITS, L>, Reader<'a, OFFSET_BITS, L>>
-        ensures ok { IfOk result (λ g. IsLater L.reaches L.lawful (reader_of self.entry.place.me.0) (reader_of g.place.me.0)) }
-        ensures again { IfErr result (λ r. IsHigher (reader_of self.entry.place.me.0) (reader_of r.place.me.0)) }
+    /// Aims at the newest hold.
+    pub fn aim(self) -> Aimed<'a, OFFSET_BITS, L>
+        ensures { IsAimOf (reader_of self.entry.place.me.0) (reader_of result.place.me.0) }
     {
         let Reader {
             arena,
             sizes,
             mut place,
         } = self;
-        let last = arena.table.shared.load::<LoadNewest>(&mut place, 1);
+        let last = arena
+            .table
+            .shared
+            .load::<LoadNewest>(&mut place, 1);
         let hold = last % 65536;
+        Aimed {
+            arena,
+            sizes,
+            hold,
+            place,
+        }
+    }
+
+    /// Aims and raises: a guard of the last commit, or the reader again where the hold was closed meanwhile.
+    pub fn try_guard(self) -> Result<Guarded<'a, OFFSET_BITS, L>, Again<'a, OFFSET_BITS, L>>
+        ensures ok { IfOk result (λ g. IsLater L.reaches L.lawful (reader_of self.entry.place.me.0) (reader_of g.place.me.0)) }
+        ensures again { IfErr result (λ a. IsHigher (reader_of self.entry.place.me.0) (reader_of a.reader.place.me.0)) }
+        ensures odd { IfErr result (λ a. a.found % 2 ≡ 1) }
+    {
+        self.aim().try_raise()
+    }
+
+    /// A guard of the last commit, after as many tries as it takes: at most one for each generation from the least
+    /// that it asks for to the limit.
+    pub fn guard(self) -> Guarded<'a, OFFSET_BITS, L>
+        ensures { IsLater L.reaches L.lawful (reader_of self.entry.place.me.0) (reader_of result.place.me.0) }
+    {
+        let mut reader = self;
+        loop {
+            match reader.try_guard() {
+                Ok(guard) => return guard,
+                Err(again) => {
+                    let Again {
+                        reader: next,
+                        found: _,
+                    } = again;
+                    reader = next;
+                }
+            }
+        }
+    }
+}
+
+impl<'a, const OFFSET_BITS: u32, L: Layout> Aimed<'a, OFFSET_BITS, L> {
+    /// A guard of the last commit, if the hold is open. Again exactly where the count that it found is odd.
+    pub fn try_raise(self) -> Result<Guarded<'a, OFFSET_BITS, L>, Again<'a, OFFSET_BITS, L>>
+        ensures ok { IfOk result (λ g. IsLater L.reaches L.lawful (reader_of self.entry.place.me.0) (reader_of g.place.me.0)) }
+        ensures again { IfErr result (λ a. IsHigher (reader_of self.entry.place.me.0) (reader_of a.reader.place.me.0)) }
+        ensures odd { IfErr result (λ a. a.found % 2 ≡ 1) }
+    {
+        let Aimed {
+            arena,
+            sizes,
+            hold,
+            mut place,
+        } = self;
         let word = (2 + hold) as usize;
         let count = arena
             .table
@@ -66,10 +136,14 @@ impl<'a, const OFFSET_BITS: u32, L: Layout> Reader<'a, OFFSET_BITS, L> {
             .table
             .shared
             .fetch_sub::<Bounce>(&mut place, word, 2);
-        Err(Reader {
+        let reader = Reader {
             arena,
             sizes,
             place,
+        };
+        Err(Again {
+            reader,
+            found: count,
         })
     }
 }

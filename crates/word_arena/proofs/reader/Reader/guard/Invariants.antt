@@ -1,0 +1,10 @@
+use Rattle.std.proofs.Common.{◌≡◌, ◌+◌, ◌-◌}
+use Rattle.word_arena.specs.Ruled.{reader_of}
+use Rattle.word_arena.proofs.reader.Reader.guard.Given as goal
+
+abbrev pub invariant-loop-guard : goal.invariant-loop-guard
+invariant-loop-guard g l = record { seen : (reader_of l.reader.place.me.0).seen ≡ (reader_of l.fn.self.place.me.0).seen }
+
+-- at most one try for each generation up to the limit
+abbrev pub decreases-loop-guard : goal.decreases-loop-guard
+decreases-loop-guard g l = (reader_of l.reader.place.me.0).sizes.generation_limit + 1 - (reader_of l.reader.place.me.0).least
