@@ -1,4 +1,5 @@
 -- A buffer is put on hold, or given back.
+use Rattle.list_facts.proofs.Places.{slice_get-set_same, slice_get-set_other}
 use Rattle.std.proofs.Common.{◌≡◌, ◌≢◌, ℕ, ◌+◌, ◌<◌, ◌≤◌, List, length, drop, get_or, set, Some, None, sym, ap, ◌∙◌, subst, ⊎_elim, arith, length-set, length-drop, slice_index}
 use mathlib.Core.Logic.{dite}
 use native.Mathlib.Decide.{ℕ_discrete}
@@ -17,7 +18,7 @@ use Rattle.gen_core.specs.Work.{work_at}
 use Rattle.gen_core.specs.Good.{State, HasNothingIn, GoodTag, GoodTags, IsPlaced, IsWorkPlace, InActive, Good}
 use Rattle.gen_core.specs.Conditions.{MayPutOnHold, MayFree}
 use Rattle.gen_core.specs.Events.{with_buffer, tag_of, after_put_on_hold, after_free}
-use Rattle.gen_core.proofs.Lists.{at_set, at_other, at_same, all_drop-more}
+use Rattle.gen_core.proofs.Lists.{at_set, all_drop-more}
 use Rattle.gen_core.proofs.Frames.{active-behind, behind-high, counts-set, records-set, records-behind, active-inside}
 use Rattle.gen_core.proofs.Holds.{at_oldest, newest-most}
 use Rattle.gen_core.proofs.GoodViews.{good_view, some-commit}
@@ -71,7 +72,7 @@ module _ (reaches : ℕ → Records → ℕ → List ℕ) (lawful : ℕ → Reco
           b = a.b;
           width = a.width;
           x = a.x;
-          active = ap (option_and_then active_width) (at_other s.writer.buffers b a.b x (else q m there a)) ∙ a.active;
+          active = ap (option_and_then active_width) (slice_get-set_other s.writer.buffers b a.b x (else q m there a)) ∙ a.active;
           some = a.some;
           behind = a.behind;
           inside = a.inside;
@@ -96,9 +97,9 @@ module _ (reaches : ℕ → Records → ℕ → List ℕ) (lawful : ℕ → Reco
       same : (c : ℕ) → width_in (set s.writer.buffers b (Held width (tag_of s.writer))) c ≡ width_in s.writer.buffers c
       same c = dite (ℕ_discrete c b)
           (λ e. ap (width_in (set s.writer.buffers b (Held width (tag_of s.writer)))) e
-          ∙ ap (option_and_then record_width) (at_same s.writer.buffers b (Held width (tag_of s.writer)) below)
+          ∙ ap (option_and_then record_width) (slice_get-set_same s.writer.buffers b (Held width (tag_of s.writer)) below)
           ∙ sym (ap (width_in s.writer.buffers) e ∙ active-width s.writer.buffers b width may.active))
-          (λ ne. ap (option_and_then record_width) (at_other s.writer.buffers b c (Held width (tag_of s.writer)) ne))
+          (λ ne. ap (option_and_then record_width) (slice_get-set_other s.writer.buffers b c (Held width (tag_of s.writer)) ne))
 
       free : (c : ℕ) (last : Tag) → slice_get (set s.writer.buffers b (Held width (tag_of s.writer))) c ≡ Some (Free (Some last)) → last.generation < (oldest_of s.writer.queue).generation
       free c last at = ⊎_elim
@@ -153,7 +154,7 @@ module _ (reaches : ℕ → Records → ℕ → List ℕ) (lawful : ℕ → Reco
       placed : All (λ image. All (IsPlaced s.writer.sizes (set s.writer.buffers b (Free (Some tag)))) image.records) (kept_of s.writer)
       placed k d lt l e less =
           let was = g.places.records k d lt l e less in
-          record { inside = was.inside; width = ap (option_and_then record_width) (at_other s.writer.buffers b _ (Free (Some tag)) (nothing k d lt l e less)) ∙ was.width }
+          record { inside = was.inside; width = ap (option_and_then record_width) (slice_get-set_other s.writer.buffers b _ (Free (Some tag)) (nothing k d lt l e less)) ∙ was.width }
 
       free : (c : ℕ) (last : Tag) → slice_get (set s.writer.buffers b (Free (Some tag))) c ≡ Some (Free (Some last)) → last.generation < (oldest_of s.writer.queue).generation
       free c last at = ⊎_elim
@@ -172,6 +173,6 @@ module _ (reaches : ℕ → Records → ℕ → List ℕ) (lawful : ℕ → Reco
           (λ e.
           let lt = slice_get_within s.writer.buffers b (Held may.width tag) may.held in
           let none : width_in (set s.writer.buffers b (Free (Some tag))) c ≡ None =
-          ap (width_in (set s.writer.buffers b (Free (Some tag)))) e ∙ ap (option_and_then record_width) (at_same s.writer.buffers b (Free (Some tag)) lt) in
+          ap (width_in (set s.writer.buffers b (Free (Some tag)))) e ∙ ap (option_and_then record_width) (slice_get-set_same s.writer.buffers b (Free (Some tag)) lt) in
           absurd (cc))
-          (λ ne. sym (ap (option_and_then record_width) (at_other s.writer.buffers b c (Free (Some tag)) ne)) ∙ is)
+          (λ ne. sym (ap (option_and_then record_width) (slice_get-set_other s.writer.buffers b c (Free (Some tag)) ne)) ∙ is)

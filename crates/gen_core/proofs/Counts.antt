@@ -1,4 +1,5 @@
 -- The readers' events on holds keep the invariant.
+use Rattle.list_facts.specs.Counting.{one_if}
 use Rattle.std.proofs.Common.{◌≡◌, ◌≢◌, ℕ, ◌+◌, ◌-◌, ◌*◌, ◌%◌, ◌<◌, List, set, Some, Bool, true, false, cond, refl, sym, ap, ◌∙◌, subst, arith, length-set, slice_index, eq-eqb, ne_eqb, true≢false}
 use mathlib.Core.Logic.{dite}
 use native.Mathlib.Decide.{ℕ_discrete}
@@ -13,7 +14,7 @@ use Rattle.gen_core.specs.declared.views.WriterView.{WriterView}
 use Rattle.gen_core.specs.Views.{hold_place, is_open, is_counted_on}
 use Rattle.gen_core.specs.Good.{State, hold_word, AimFits, BounceFits, GuardFits, GoodReaderState, GoodReader, Good, HoldFits}
 use Rattle.gen_core.specs.Events.{aims, after_load_newest, found_state, with_state, after_count, after_raise, bounced, after_bounce, after_release}
-use Rattle.gen_core.proofs.Lists.{all_at, one_if, count_moved, count_some}
+use Rattle.gen_core.proofs.Lists.{all_at, count_moved, count_some}
 use Rattle.gen_core.proofs.Holds.{at_newest, newest-open}
 use Rattle.gen_core.proofs.Frames.{names-hold, memory-low, sizes-set}
 

@@ -1,4 +1,6 @@
 -- Without a condition the invariant is lost, and by a wrong step.
+use Rattle.list_facts.specs.Counting.{one_if}
+use Rattle.list_facts.proofs.Places.{slice_get-set_same}
 use Rattle.std.proofs.Common.{true, false, ◌+◌, ◌*◌, ◌%◌, true≢false, ◌≡◌, ◌≢◌, ℕ, zero, suc, ◌<◌, ◌≤◌, List, [], ◌∷◌, ◌++◌, length, set, Option, Some, None, cond, eq-eqb, refl, sym, ap, ◌∙◌, arith, length-append, slice_index}
 use Rattle.std.proofs.Math.Seq.{get_or-set_other, get_or-set_same}
 use Rattle.std.specs.Prelude.{slice_get, All, Contains, option_and_then, count_by}
@@ -16,7 +18,7 @@ use Rattle.gen_core.specs.Views.{floor_of, kept_of, last_number, last_image, sta
 use Rattle.gen_core.specs.Work.{work_at}
 use Rattle.gen_core.specs.Good.{State, InActive, Avoids, IsPlaced, WordsStand, GoodReader, IsLawfulCommit, Good, HoldFits, hold_word}
 use Rattle.gen_core.specs.Events.{after_store_word, after_store_width, after_hand_out, after_publish, after_split, after_load_root, with_buffer, reopened, coming_hold, with_state, sees, after_free, count_at, after_store_newest, after_morph, after_count}
-use Rattle.gen_core.proofs.Lists.{all_at, all_drop-at, at_same, one_if, count_moved, count_some, some-same}
+use Rattle.gen_core.proofs.Lists.{all_at, all_drop-at, count_moved, count_some, some-same}
 use Rattle.gen_core.proofs.Holds.{at_newest, at_oldest, any-none, or-false, or-right, any-push, newest-open, oldest-open}
 use Rattle.gen_core.proofs.GoodViews.{good_view, some-commit, floor-last}
 use Rattle.gen_core.proofs.ViewLemmas.{last_at, last_image-push}
@@ -55,7 +57,7 @@ module _ (reaches : ℕ → Records → ℕ → List ℕ) (lawful : ℕ → Reco
       let z = s.writer.sizes in
       let buffers : List Buffer = s.writer.buffers in
       let p : ℕ = base z.buffers z.words b in
-      let new : slice_index (set s.words p width) (state_place b) ≡ 1 = t.names.states b (Active width (last_tag_in buffers b)) (at_same buffers b (Active width (last_tag_in buffers b)) (omega (arith, inside, g.sizes.count))) in
+      let new : slice_index (set s.words p width) (state_place b) ≡ 1 = t.names.states b (Active width (last_tag_in buffers b)) (slice_get-set_same buffers b (Active width (last_tag_in buffers b)) (omega (arith, inside, g.sizes.count))) in
       let old : slice_index (set s.words p width) (state_place b) ≡ slice_index s.words (state_place b) = get_or-set_other s.words p (state_place b) width 0 (λ e. omega (arith, inside, e)) in
       by_buffer (slice_get buffers b) refl none (sym old ∙ new)
     where
@@ -81,7 +83,7 @@ module _ (reaches : ℕ → Records → ℕ → List ℕ) (lawful : ℕ → Reco
       let old = kept-width s (kept_of s.writer) buffers image pair g.places.records there inside in
       let new = kept-width s (kept_of s.writer) (set buffers b x) image pair t.places.records there inside in
       let lt : b < length buffers = width-inside buffers b _ (ap (width_in buffers) (sym at) ∙ old.width) in
-      other (some-same _ _ (sym new.width ∙ ap (width_in (set buffers b x)) at ∙ ap (option_and_then record_width) (at_same buffers b x lt)))
+      other (some-same _ _ (sym new.width ∙ ap (width_in (set buffers b x)) at ∙ ap (option_and_then record_width) (slice_get-set_same buffers b x lt)))
 
   pub needs_free : (s : State) (b : ℕ) (image : Image) (pair : ℕ × List ℕ) → Good reaches lawful s → Contains (kept_of s.writer) image → Contains image.records pair
       → buffer_of s.writer.sizes.offset_bits pair.0 ≡ b → Good reaches lawful (after_hand_out s b) → ⊥
@@ -91,7 +93,7 @@ module _ (reaches : ℕ → Records → ℕ → List ℕ) (lawful : ℕ → Reco
       let old = kept-width s (kept_of s.writer) buffers image pair g.places.records there inside in
       let new = kept-width s (kept_of s.writer) (set buffers b x) image pair t.places.records there inside in
       let lt : b < length buffers = width-inside buffers b _ (ap (width_in buffers) (sym at) ∙ old.width) in
-      let none : length pair.1 ≡ 0 = some-same _ _ (sym new.width ∙ ap (width_in (set buffers b x)) at ∙ ap (option_and_then record_width) (at_same buffers b x lt)) in
+      let none : length pair.1 ≡ 0 = some-same _ _ (sym new.width ∙ ap (width_in (set buffers b x)) at ∙ ap (option_and_then record_width) (slice_get-set_same buffers b x lt)) in
       let wide = new.inside.wide in
       omega (arith, none, wide)
 
@@ -163,7 +165,7 @@ module _ (reaches : ℕ → Records → ℕ → List ℕ) (lawful : ℕ → Reco
       → Good reaches lawful (after_count s h (count_at s h + 2) j (with_state r (Raised h))) → ⊥
   forgets_the_bounce s j h r g at is t =
       let v : ReaderView = with_state r (Raised h) in
-      let reader = all_at (GoodReader s.writer.sizes s.writer.queue s.writer.commits) (set s.readers j v) j v t.readers (at_same s.readers j v (slice_get_within s.readers j r at)) in
+      let reader = all_at (GoodReader s.writer.sizes s.writer.queue s.writer.commits) (set s.readers j v) j v t.readers (slice_get-set_same s.readers j v (slice_get_within s.readers j r at)) in
       true≢false (sym reader.state.opened ∙ is)
 
   pub morph_beside_next : (s : State) (h : ℕ) → Good reaches lawful s → s.writer.queue.pending ≡ Next h → Good reaches lawful (after_morph s) → ⊥
@@ -191,13 +193,13 @@ module _ (reaches : ℕ → Records → ℕ → List ℕ) (lawful : ℕ → Reco
   pub frees_at_the_oldest : (s : State) (b width : ℕ) (tag : Tag) → slice_get s.writer.buffers b ≡ Some (Held width tag) → (oldest_of s.writer.queue).generation ≤ tag.generation
       → Good reaches lawful (after_free s b tag) → ⊥
   frees_at_the_oldest s b width tag at le t =
-      let low = t.tags.free b tag (at_same s.writer.buffers b (Free (Some tag)) (slice_get_within s.writer.buffers b (Held width tag) at)) in
+      let low = t.tags.free b tag (slice_get-set_same s.writer.buffers b (Free (Some tag)) (slice_get_within s.writer.buffers b (Held width tag) at)) in
       omega (arith, le, low)
 
   pub tags_too_early : (s : State) (b width : ℕ) (tag : Tag) → b < length s.writer.buffers → tag.generation < s.writer.queue.newest.generation
       → s.writer.queue.newest.first_commit < tag.commit
       → Good reaches lawful (record { words = set s.words (state_place b) 2; writer = with_buffer s.writer b (Held width tag); readers = s.readers }) → ⊥
   tags_too_early s b width tag inside early since t =
-      let good = t.tags.held b width tag (at_same s.writer.buffers b (Held width tag) inside) in
+      let good = t.tags.held b width tag (slice_get-set_same s.writer.buffers b (Held width tag) inside) in
       let le = at_newest (λ e. tag.generation < e.generation → tag.commit ≤ e.first_commit) s.writer.queue.older s.writer.queue.newest good.first_commits early in
       omega (arith, le, since)

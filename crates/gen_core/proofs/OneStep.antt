@@ -1,4 +1,5 @@
 -- Each event is one step of one seat on one word.
+use Rattle.list_facts.proofs.Places.{slice_get-set_other}
 use Rattle.std.proofs.Common.{◌≡◌, ◌≢◌, ℕ, zero, suc, List, [], ◌∷◌, ◌++◌, length, set, Some, cond, refl, sym, ap, ◌∙◌, subst, slice_index, eq-eqb, ne_eqb}
 use Rattle.std.specs.Prelude.{slice_get, option_map}
 use Rattle.std.specs.Option.{unwrap_or}
@@ -6,7 +7,6 @@ use Rattle.gen_core.specs.Views.{oldest_in, oldest_of, last_number, last_image, 
 use Rattle.gen_core.specs.Good.{State}
 use Rattle.gen_core.specs.Steps.{left_by, hold_of, hold_in, next_hold, view_at, IsOneStep, add, subtract, exchange}
 use Rattle.gen_core.specs.Events.{coming_hold, newcomer, with_state, aims, found_state, bounced, sees, count_at, Event, Happens, store_width, store_word, hand_out, publish, put_on_hold, free_buffer, reopen, store_newest, close, stop_at_oldest, probe, stop_at_newest, morph, split, join, meet_load, load_own, load_newest, raise, bounce, load_root, load_word, release}
-use Rattle.gen_core.proofs.Lists.{at_other}
 use Rattle.gen_core.specs.declared.views.OpenHold.{OpenHold}
 use Rattle.gen_core.specs.declared.views.ReaderView.{ReaderView}
 use Rattle.image_base.specs.Records.{Records}
@@ -34,7 +34,7 @@ writer-alone s t e (suc j) off = ap (λ l. option_map Reader (slice_get l j)) e
 -- a reader's step leaves all others
 reader-alone : (s t : State) (j : ℕ) (v : ReaderView) → t.writer ≡ s.writer → t.readers ≡ set s.readers j v → (k : ℕ) → k ≢ suc j → view_at t k ≡ view_at s k
 reader-alone s t j v w e zero off = ap (λ x. Some (Writer x)) w
-reader-alone s t j v w e (suc i) off = ap (λ l. option_map Reader (slice_get l i)) e ∙ ap (option_map Reader) (at_other s.readers j i v (λ same. off (ap suc same)))
+reader-alone s t j v w e (suc i) off = ap (λ l. option_map Reader (slice_get l i)) e ∙ ap (option_map Reader) (slice_get-set_other s.readers j i v (λ same. off (ap suc same)))
 
 -- a split leaves the readers that were there, and a join all but the one that it takes
 split-views : (s t : State) (v : ReaderView) → t.readers ≡ s.readers ++ v ∷ [] → (k : ℕ) → k ≢ 0 → k ≢ suc (length s.readers) → view_at t k ≡ view_at s k
@@ -43,7 +43,7 @@ split-views s t v e (suc i) off far = ap (λ l. option_map Reader (slice_get l i
 
 join-views : (s t : State) (j : ℕ) (v : ReaderView) → t.readers ≡ set s.readers j v → (k : ℕ) → k ≢ 0 → k ≢ suc j → view_at t k ≡ view_at s k
 join-views s t j v e zero off far = absurd (off refl)
-join-views s t j v e (suc i) off far = ap (λ l. option_map Reader (slice_get l i)) e ∙ ap (option_map Reader) (at_other s.readers j i v (λ same. far (ap suc same)))
+join-views s t j v e (suc i) off far = ap (λ l. option_map Reader (slice_get l i)) e ∙ ap (option_map Reader) (slice_get-set_other s.readers j i v (λ same. far (ap suc same)))
 
 -- a load leaves the words
 loaded : (s t : State) (p : ℕ) → t.words ≡ s.words → t.words ≡ set s.words p (slice_index s.words p)

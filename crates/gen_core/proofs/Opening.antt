@@ -1,4 +1,5 @@
 -- The opening state meets the invariant.
+use Rattle.list_facts.proofs.Places.{slice_index-zeros}
 use Rattle.std.proofs.Common.{◌≡◌, ℕ, zero, suc, ◌+◌, ◌*◌, ◌<◌, List, [], ◌∷◌, ◌++◌, length, get_or, Option, Some, None, false, ne_eqb, refl, sym, ap, ◌∙◌, arith, length-append, slice_index}
 use Rattle.std.specs.Prelude.{slice_get, replicate, option_and_then, ◌||◌}
 use Rattle.std.proofs.lemmas.List.{length-replicate, get_or-replicate, get_or_append_left, get_or-append-add}
@@ -20,14 +21,9 @@ use Rattle.gen_core.proofs.Layouts.{IsLayout}
 at_replicate : {A : Type 0} (n k : ℕ) (a b : A) → slice_get (replicate n a) k ≡ Some b → a ≡ b
 at_replicate n k a b at = sym (get_or-replicate n k a b (let lt = slice_get_within (replicate n a) k b at in omega (arith, lt, length-replicate n a))) ∙ get_or_from_slice_get (replicate n a) k b b at
 
-rest-zero : (n i : ℕ) → slice_index (replicate n 0) i ≡ 0
-rest-zero zero i = refl
-rest-zero (suc n) zero = refl
-rest-zero (suc n) (suc i) = rest-zero n i
-
 -- behind the counts every word is 0
 word-zero : (sizes : Sizes) (i : ℕ) → slice_index (opening_words sizes) (18 + i) ≡ 0
-word-zero sizes i = get_or-append-add (0 ∷ 0 ∷ 0 ∷ replicate 15 1) (replicate (sizes.buffers + sizes.buffers * sizes.words) 0) i 0 ∙ rest-zero (sizes.buffers + sizes.buffers * sizes.words) i
+word-zero sizes i = get_or-append-add (0 ∷ 0 ∷ 0 ∷ replicate 15 1) (replicate (sizes.buffers + sizes.buffers * sizes.words) 0) i 0 ∙ slice_index-zeros (sizes.buffers + sizes.buffers * sizes.words) i
 
 -- holds 1 to 15 are closed
 count-one : (h : ℕ) (ys : List ℕ) → h < 15 → slice_index (replicate 15 1 ++ ys) h ≡ 1

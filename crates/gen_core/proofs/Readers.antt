@@ -10,7 +10,7 @@ use Rattle.gen_core.specs.Views.{last_number, last_image, IsCommit, is_open, is_
 use Rattle.gen_core.specs.Good.{State, hold_word, GoodCounts, GoodReaderState, GoodReader, RaiseFits, Good}
 use Rattle.gen_core.specs.Conditions.{MaySplit, MayJoin}
 use Rattle.gen_core.specs.Events.{newcomer, sees, after_load_root, after_split, after_join}
-use Rattle.gen_core.proofs.Lists.{all_at, count_by-set, count_by-push}
+use Rattle.gen_core.proofs.Lists.{all_at, count_kept, count_by-push}
 use Rattle.gen_core.proofs.GoodViews.{good_view, some-commit}
 use Rattle.gen_core.proofs.ViewLemmas.{last_at}
 
@@ -22,7 +22,7 @@ module _ (reaches : ℕ → Records → ℕ → List ℕ) (lawful : ℕ → Reco
   counts_view : (s : State) (j : ℕ) (r v : ReaderView) → Good reaches lawful s → slice_get s.readers j ≡ Some r → ((h : ℕ) → is_counted_on h r.state ≡ is_counted_on h v.state)
       → GoodCounts s.words s.writer.queue s.writer.made (set s.readers j v)
   counts_view s j r v g at same = record {
-    counts = λ h lt. g.counts.counts h lt ∙ ap (λ n. hold_word n (is_open s.writer.queue h)) (sym (count_by-set (λ q. is_counted_on h q.state) s.readers j r v at (same h)));
+    counts = λ h lt. g.counts.counts h lt ∙ ap (λ n. hold_word n (is_open s.writer.queue h)) (sym (count_kept (λ q. is_counted_on h q.state) s.readers j r v at (same h)));
     views = length-set s.readers j v ∙ g.counts.views;
     few = g.counts.few;
   }

@@ -1,4 +1,5 @@
 -- The words that were stored since the last commit, entry by entry: one more word, and one more buffer.
+use Rattle.list_facts.proofs.Places.{slice_get-set_same, slice_get-set_other}
 use Rattle.std.proofs.Common.{◌≡◌, ◌≢◌, inl, inr, ℕ, zero, suc, ◌+◌, ◌*◌, ◌<◌, List, [], ◌∷◌, length, set, Option, Some, None, Bool, true, false, cond, eqb, refl, sym, ap, ◌∙◌, arith, ne_eqb, eq-eqb}
 use Rattle.std.specs.Prelude.{slice_get, option_and_then, nat_eq, nat_lt, ◌&&◌, if◌then◌else◌}
 use Rattle.std.specs.Option.{unwrap_or}
@@ -12,7 +13,7 @@ use Rattle.gen_core.specs.Conditions.{MayStoreWidth, MayHandOut}
 use Rattle.gen_core.specs.Good.{GoodView}
 use Rattle.gen_core.specs.Events.{stored, with_buffer, widened, handed_out}
 use Rattle.gen_core.specs.Work.{work_at, place_in, prepend, run_at, is_entry, only_if, whole_by, writer_records, stored_in, stored_by}
-use Rattle.gen_core.proofs.Lists.{at_other, at_same, some-same}
+use Rattle.gen_core.proofs.Lists.{some-same}
 use Rattle.gen_core.proofs.WriterRecords.{entry-true}
 use Rattle.gen_core.proofs.Work.{is_entry-true}
 use Rattle.gen_core.specs.declared.views.Tag.{Tag}
@@ -106,7 +107,7 @@ module _ (w : WriterView) (g : GoodView w) (b : ℕ) (tag : Option Tag) (width :
   may-hand-out calm = record { calm = calm; tag = tag; free = free }
 
   pub may-width : w.queue.pending ≡ Nothing → MayStoreWidth (handed_out w b) b width
-  may-width calm = record { calm = calm; none_yet = ap (option_and_then active_width) (at_same w.buffers b (Active 0 (last_tag_in w.buffers b)) within-buffers); some = some }
+  may-width calm = record { calm = calm; none_yet = ap (option_and_then active_width) (slice_get-set_same w.buffers b (Active 0 (last_tag_in w.buffers b)) within-buffers); some = some }
 
   -- a buffer that is handed out and then gets its width
   abbrev pub given : WriterView
@@ -116,16 +117,16 @@ module _ (w : WriterView) (g : GoodView w) (b : ℕ) (tag : Option Tag) (width :
   two-steps =
       let last : last_tag_in w.buffers b ≡ tag = ap (option_and_then last_tag) free in
       let there : last_tag_in (set w.buffers b (Active 0 (last_tag_in w.buffers b))) b ≡ tag =
-      ap (option_and_then last_tag) (at_same w.buffers b (Active 0 (last_tag_in w.buffers b)) within-buffers) ∙ last in
+      ap (option_and_then last_tag) (slice_get-set_same w.buffers b (Active 0 (last_tag_in w.buffers b)) within-buffers) ∙ last in
       let list : set (set w.buffers b (Active 0 (last_tag_in w.buffers b))) b (Active width (last_tag_in (set w.buffers b (Active 0 (last_tag_in w.buffers b))) b)) ≡ set w.buffers b (Active width tag) =
       set-set w.buffers b _ _ ∙ ap (λ t. set w.buffers b (Active width t)) there in
       (λ k. record w { buffers = list k })
 
   here : slice_get (set w.buffers b (Active width tag)) b ≡ Some (Active width tag)
-  here = at_same w.buffers b (Active width tag) within-buffers
+  here = slice_get-set_same w.buffers b (Active width tag) within-buffers
 
   other : (a : ℕ) → a ≢ b → slice_get (set w.buffers b (Active width tag)) a ≡ slice_get w.buffers a
-  other a ne = at_other w.buffers b a (Active width tag) ne
+  other a ne = slice_get-set_other w.buffers b a (Active width tag) ne
 
   -- nothing was stored in the buffer
   idle : active_in w.buffers b ≡ None

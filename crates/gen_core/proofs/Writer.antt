@@ -1,4 +1,5 @@
 -- The writer's events keep the invariant.
+use Rattle.list_facts.proofs.Places.{slice_get-set_same, slice_get-set_other}
 use Rattle.std.proofs.Common.{◌≡◌, ◌≢◌, ℕ, suc, ◌+◌, ◌*◌, ◌<◌, ◌≤◌, List, length, set, Option, Some, None, Bool, cond, eqb, true, false, refl, sym, ap, ◌∙◌, subst, ⊎_elim, arith, length-set, slice_index, eqb-true, eq-eqb, true≢false, mul-le-mul_right, suc-mul}
 use mathlib.Core.Logic.{dite}
 use native.Mathlib.Decide.{ℕ_discrete}
@@ -17,7 +18,7 @@ use Rattle.gen_core.specs.Work.{work_at}
 use Rattle.gen_core.specs.Good.{State, IsWorkPlace, Good}
 use Rattle.gen_core.specs.Conditions.{MayStoreWidth, MayStoreWord, MayHandOut}
 use Rattle.gen_core.specs.Events.{with_buffer, after_store_width, after_store_word, after_hand_out}
-use Rattle.gen_core.proofs.Lists.{at_set, at_other, at_same, some-same}
+use Rattle.gen_core.proofs.Lists.{at_set, some-same}
 use Rattle.gen_core.proofs.Frames.{IsBehind, active-behind, behind-base, base-same, behind-high, names-set, counts-set, records-set, records-behind, active-inside, active-below, sizes-set}
 use Rattle.gen_core.proofs.ViewLemmas.{active-width, active-there}
 
@@ -86,7 +87,7 @@ module _ (reaches : ℕ → Records → ℕ → List ℕ) (lawful : ℕ → Reco
                   b = a.b;
                   width = a.width;
                   x = a.x;
-                  active = ap (option_and_then active_width) (at_other buffers b a.b x (λ same. empty a.b a.width same (active-width buffers a.b a.width a.active) a.some)) ∙ a.active;
+                  active = ap (option_and_then active_width) (slice_get-set_other buffers b a.b x (λ same. empty a.b a.width same (active-width buffers a.b a.width a.active) a.some)) ∙ a.active;
                   some = a.some;
                   behind = a.behind;
                   inside = a.inside;
@@ -106,7 +107,7 @@ module _ (reaches : ℕ → Records → ℕ → List ℕ) (lawful : ℕ → Reco
       }
     where
       still : (c w : ℕ) → width_in s.writer.buffers c ≡ Some w → 0 < w → width_in (set s.writer.buffers b (Active width last)) c ≡ Some w
-      still c w is some = ap (option_and_then record_width) (at_other s.writer.buffers b c (Active width last) (λ same. empty c w same is some)) ∙ is
+      still c w is some = ap (option_and_then record_width) (slice_get-set_other s.writer.buffers b c (Active width last) (λ same. empty c w same is some)) ∙ is
 
   pub store_width_keeps : (s : State) (b width : ℕ) → Good reaches lawful s → MayStoreWidth s.writer b width → Good reaches lawful (after_store_width s b width)
   store_width_keeps s b width g may =
@@ -157,12 +158,12 @@ module _ (reaches : ℕ → Records → ℕ → List ℕ) (lawful : ℕ → Reco
       widths : (c w : ℕ) → width_in (set buffers b (Active width (last_tag_in buffers b))) c ≡ Some w → 0 < w → slice_index (set s.words p width) (base sizes.buffers sizes.words c) ≡ w
       widths c w is some = dite (ℕ_discrete c b)
           (λ same.
-          let new : width_in (set buffers b (Active width (last_tag_in buffers b))) b ≡ Some width = ap (option_and_then record_width) (at_same buffers b (Active width (last_tag_in buffers b)) (omega (arith, within, g.sizes.count))) in
+          let new : width_in (set buffers b (Active width (last_tag_in buffers b))) b ≡ Some width = ap (option_and_then record_width) (slice_get-set_same buffers b (Active width (last_tag_in buffers b)) (omega (arith, within, g.sizes.count))) in
           let value : width ≡ w = some-same width w (sym new ∙ ap (width_in (set buffers b (Active width (last_tag_in buffers b)))) (sym same) ∙ is) in
           ap (λ k. slice_index (set s.words p width) (base sizes.buffers sizes.words k)) same ∙ get_or-set_same s.words p width 0 below ∙ value)
           (λ other.
           get_or-set_other s.words p (base sizes.buffers sizes.words c) width 0 (λ e. other (base-same sizes c b g.sizes.some_word e))
-          ∙ g.memory.widths c w (sym (ap (option_and_then record_width) (at_other buffers b c (Active width (last_tag_in buffers b)) other)) ∙ is) some)
+          ∙ g.memory.widths c w (sym (ap (option_and_then record_width) (slice_get-set_other buffers b c (Active width (last_tag_in buffers b)) other)) ∙ is) some)
 
   pub hand_out_keeps : (s : State) (b : ℕ) → Good reaches lawful s → MayHandOut s.writer b → Good reaches lawful (after_hand_out s b)
   hand_out_keeps s b g may =
@@ -198,10 +199,10 @@ module _ (reaches : ℕ → Records → ℕ → List ℕ) (lawful : ℕ → Reco
       widths : (c w : ℕ) → width_in (set buffers b x) c ≡ Some w → 0 < w → slice_index (set s.words (state_place b) 1) (base sizes.buffers sizes.words c) ≡ w
       widths c w is some = dite (ℕ_discrete c b)
           (λ same.
-          let new : width_in (set buffers b x) b ≡ Some 0 = ap (option_and_then record_width) (at_same buffers b x (omega (arith, within, g.sizes.count))) in
+          let new : width_in (set buffers b x) b ≡ Some 0 = ap (option_and_then record_width) (slice_get-set_same buffers b x (omega (arith, within, g.sizes.count))) in
           let value : Some 0 ≡ Some w = sym new ∙ ap (width_in (set buffers b x)) (sym same) ∙ is in
           let nought : 0 ≡ w = cc in
           absurd (omega arith))
           (λ other.
           get_or-set_other s.words (state_place b) (base sizes.buffers sizes.words c) 1 0 (λ e. omega (arith, within))
-          ∙ g.memory.widths c w (sym (ap (option_and_then record_width) (at_other buffers b c x other)) ∙ is) some)
+          ∙ g.memory.widths c w (sym (ap (option_and_then record_width) (slice_get-set_other buffers b c x other)) ∙ is) some)
