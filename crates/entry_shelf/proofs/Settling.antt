@@ -4,9 +4,9 @@ use Rattle.std.specs.List.{count_by}
 use Rattle.std.proofs.lemmas.List.Sums.{sum_by-cons}
 use Rattle.entry_shelf.specs.declared.state.State.{State}
 use Rattle.entry_shelf.specs.declared.state.State.TheVariants.{Free, Returned, Made, InUse, LetGo, DroppedNow, Dropped}
-use Rattle.entry_shelf.specs.States.{is_free, is_touched, is_used, dropped, settled, state_at}
+use Rattle.entry_shelf.specs.States.{is_free_state, is_touched, is_used, dropped, settled, state_at}
 
-pub used-free : (s : State) → is_used s ≡ true → is_free s ≡ false
+pub used-free : (s : State) → is_used s ≡ true → is_free_state s ≡ false
 used-free Free used = absurd (cc)
 used-free Returned used = absurd (cc)
 used-free Made used = refl
@@ -61,7 +61,7 @@ settled-same false last LetGo e = absurd (cc)
 settled-same false last (DroppedNow after) e = absurd (cc)
 settled-same false last (Dropped after) e = refl
 
-pub settled-free : (accepts : Bool) (last : ℕ) (s : State) → is_free s ≡ true → is_free (settled accepts last s) ≡ true
+pub settled-free : (accepts : Bool) (last : ℕ) (s : State) → is_free_state s ≡ true → is_free_state (settled accepts last s) ≡ true
 settled-free true last Free e = refl
 settled-free true last Returned e = refl
 settled-free true last Made e = absurd (cc)

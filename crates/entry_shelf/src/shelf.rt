@@ -1,5 +1,5 @@
 ghost use Rattle.std.specs.Prelude.{◌≡◌, ◌↔◌, ◌<◌, ◌≤◌, ◌+◌, ◌^◌, ℕ, [], true, false, length, map, slice_set, vec_len, vec_capacity, count_by, IsNone, IfSome, IfNone, OnOk, OnErr, if◌then◌else◌, ◌∷◌, ◌++◌};
-ghost use Rattle.entry_shelf.specs.States.{is_free, is_touched};
+ghost use Rattle.entry_shelf.specs.States.{is_free_state, is_touched};
 ghost use Rattle.entry_shelf.specs.Stacks.{IsStack};
 
 use crate::state::State;
@@ -11,9 +11,7 @@ use std::marker::Model;
 pub struct Shelf {
     states: Vec<State>,
     free: Vec<u32>,
-    free_places: Vec<u32>,
     touched: Vec<u32>,
-    touched_places: Vec<u32>,
     room: u32,
     made: u64,
 }
@@ -27,8 +25,8 @@ impl Model for Shelf {
 
     ghost view = { λ s. record { states = s.states.items; room = s.room; made = s.made } };
 
-    ghost invariant = { λ s. IsShelf s.states.items s.free.items s.free_places.items s.touched.items s.touched_places.items s.room
-        (vec_capacity s.states) (vec_capacity s.free) (vec_capacity s.free_places) (vec_capacity s.touched) (vec_capacity s.touched_places) };
+    ghost invariant = { λ s. IsShelf s.states.items s.free.items s.touched.items s.room
+        (vec_capacity s.states) (vec_capacity s.free) (vec_capacity s.touched) };
 }
 
 impl Shelf {
@@ -41,9 +39,7 @@ impl Shelf {
         Shelf {
             states: Vec::new(alloc),
             free: Vec::new(alloc),
-            free_places: Vec::new(alloc),
             touched: Vec::new(alloc),
-            touched_places: Vec::new(alloc),
             room: 0,
             made: 0,
         }
@@ -58,10 +54,7 @@ impl Shelf {
         let room = (self.room + more) as usize;
         self.states.reserve(room - self.states.len())?;
         self.free.reserve(room - self.free.len())?;
-        self.free_places.reserve(room - self.free_places.len())?;
         self.touched.reserve(room - self.touched.len())?;
-        self.touched_places
-            .reserve(room - self.touched_places.len())?;
         self.room += more;
         Ok(())
     }
@@ -96,12 +89,7 @@ impl Shelf {
     {
         if let Some(entry) = self.free.pop() {
             let state = self.states[entry as usize];
-            enter(
-                &mut self.touched,
-                &mut self.touched_places,
-                entry,
-                !state.is_touched(),
-            );
+            enter(&mut self.touched, entry, !state.is_touched());
             self.states[entry as usize] = State::Made;
             self.made = self.made.saturating_add(1);
             return Some(entry);
@@ -111,8 +99,6 @@ impl Shelf {
             return None;
         }
         put(&mut self.states, State::Made);
-        put(&mut self.free_places, 0);
-        put(&mut self.touched_places, self.touched.len() as u32);
         put(&mut self.touched, entry);
         self.made = self.made.saturating_add(1);
         Some(entry)
@@ -128,18 +114,8 @@ impl Shelf {
     {
         let state = self.states[entry as usize];
         let after = state.dropped(last);
-        enter(
-            &mut self.free,
-            &mut self.free_places,
-            entry,
-            after.is_free(),
-        );
-        enter(
-            &mut self.touched,
-            &mut self.touched_places,
-            entry,
-            !state.is_touched(),
-        );
+        enter(&mut self.free, entry, after.is_free());
+        enter(&mut self.touched, entry, !state.is_touched());
         self.states[entry as usize] = after;
     }
 
@@ -163,12 +139,7 @@ impl Shelf {
         while let Some(entry) = self.touched.pop() {
             let state = self.states[entry as usize];
             let after = state.settled(accepts, last);
-            enter(
-                &mut self.free,
-                &mut self.free_places,
-                entry,
-                after.is_free() & !state.is_free(),
-            );
+            enter(&mut self.free, entry, after.is_free() & !state.is_free());
             self.states[entry as usize] = after;
         }
     }
@@ -184,17 +155,12 @@ fn put<T: Drop>(list: &mut Vec<T>, value: T)
 }
 
 /// Puts an entry on a stack, or leaves it as it is.
-fn enter(stack: &mut Vec<u32>, places: &mut Vec<u32>, entry: u32, enters: bool)
-    requires room { enters ≡ true → vec_len stack.old < vec_capacity stack.old }
-    requires fits { vec_len stack.old < 2 ^ 32 }
-    requires there { entry < vec_len places.old }
+fn enter(stack: &mut Vec<u32>, entry: u32, enters: bool)
+    requires { enters ≡ true → vec_len stack.old < vec_capacity stack.old }
     ensures stack { stack.new.items ≡ (if enters then stack.old.items ++ entry ∷ [] else stack.old.items) }
-    ensures places { places.new.items ≡ (if enters then slice_set places.old.items entry (length stack.old.items) else places.old.items) }
     ensures capacity { vec_capacity stack.old ≤ vec_capacity stack.new }
-    ensures room { vec_capacity places.old ≤ vec_capacity places.new }
 {
     if enters {
-        places[entry as usize] = stack.len() as u32;
         put(stack, entry);
     }
 }

@@ -19,10 +19,10 @@ pub enum State {
 }
 
 impl State {
-    ghost use Rattle.entry_shelf.specs.States.{is_free, is_touched, dropped, accepted, undone, settled};
+    ghost use Rattle.entry_shelf.specs.States.{is_free_state, is_touched, dropped, accepted, undone, settled};
 
     pub fn is_free(self) -> bool
-        ensures { result ≡ is_free self }
+        ensures { result ≡ is_free_state self }
     {
         matches!(self, State::Free | State::Returned)
     }

@@ -6,11 +6,12 @@ use Rattle.std.proofs.Math.Seq.{get_or-append_seam}
 use Rattle.std.proofs.lemmas.List.Sums.{sum_by-set}
 use Rattle.std.proofs.lemmas.Option.{slice_get-get_or, slice_get_past}
 use Rattle.std.proofs.lemmas.Bool.{cases_lt, cases_eq, eq-eqb, ne_eqb}
+use Rattle.list_facts.specs.Counting.{one_if}
 use Rattle.entry_ref.specs.References.{buffer_of, offset_of}
 use Rattle.store_api.specs.Ledgers.{is_width, capacity}
-use Rattle.entry_shelf.specs.States.{is_free}
+use Rattle.entry_shelf.specs.States.{is_free_state}
 use Rattle.entry_states.specs.declared.slot.Slot.{Slot}
-use Rattle.entry_states.specs.Entries.{is_made, is_let_go, one, with_buffer}
+use Rattle.entry_states.specs.Entries.{is_made_state, is_let_go_state, with_buffer_of}
 use Rattle.entry_states.specs.Rows.{RowView, RowsView, new_row, row_of, row_at, slot_at, has_offset, number_in, state_in, spare_in, IsRow, IsSlot, AreRows}
 use Rattle.entry_states.proofs.Seen.{entries_in}
 use Rattle.entry_states.proofs.Places.{row-field, row-same, row-none, width-bounds}
@@ -27,7 +28,7 @@ reserve-kept bits v kept w is idle =
     let row = kept.each_row w is in
     let n = row_at v.rows w in
     let room : n.shelf.room ≡ length n.buffers * n.capacity = idle-room bits v kept w is idle in
-    let one_now : one (eqb w w) ≡ 1 = ap one (eq-eqb w w refl) in
+    let one_now : one_if (eqb w w) ≡ 1 = ap one_if (eq-eqb w w refl) in
     kept-row bits v kept w is (roomy_row n) w refl
     (record {
       size = row.size;
@@ -53,8 +54,8 @@ reserve-ready bits v kept w is =
       spare = λ u. row-same spare_in v.rows new w u kept.eleven is refl i;
       count = λ u. row-same (λ (n : RowView). length n.buffers) v.rows new w u kept.eleven is refl i;
       filled = λ u. row-same (λ (n : RowView). slice_get n.buffers (length n.buffers - 1)) v.rows new w u kept.eleven is refl i;
-      fresh = λ u. row-same (λ (n : RowView). count_by is_made n.shelf.states) v.rows new w u kept.eleven is refl i;
-      gone = λ u. row-same (λ (n : RowView). count_by is_let_go n.shelf.states) v.rows new w u kept.eleven is refl i;
+      fresh = λ u. row-same (λ (n : RowView). count_by is_made_state n.shelf.states) v.rows new w u kept.eleven is refl i;
+      gone = λ u. row-same (λ (n : RowView). count_by is_let_go_state n.shelf.states) v.rows new w u kept.eleven is refl i;
       ready = w;
     }
 
@@ -106,11 +107,11 @@ module _ (bits : ℕ) (v : RowsView) (kept : AreRows bits v) (b w : ℕ) (inside
   new_slot = record { width = w; rank = length (row_at v.rows w).buffers }
 
   -- how many slots have a width
-  count-slots : (u : ℕ) → count_by (λ (s : Slot). eqb s.width u) (set v.slots b (record { width = w; rank = length (row_at v.rows w).buffers })) + one (eqb 0 u)
-      ≡ count_by (λ (s : Slot). eqb s.width u) v.slots + one (eqb w u)
+  count-slots : (u : ℕ) → count_by (λ (s : Slot). eqb s.width u) (set v.slots b (record { width = w; rank = length (row_at v.rows w).buffers })) + one_if (eqb 0 u)
+      ≡ count_by (λ (s : Slot). eqb s.width u) v.slots + one_if (eqb w u)
   count-slots u =
       let both = sum_by-set (λ (s : Slot). cond (eqb s.width u) 1 0) v.slots b (record { width = w; rank = length (row_at v.rows w).buffers }) (record { width = 0; rank = 0 }) inside in
-      let old : cond (eqb (slot_at v.slots b).width u) 1 0 ≡ one (eqb 0 u) = ap (λ t. cond (eqb t u) 1 0) unused ∙ one-cond (eqb 0 u) in
+      let old : cond (eqb (slot_at v.slots b).width u) 1 0 ≡ one_if (eqb 0 u) = ap (λ t. cond (eqb t u) 1 0) unused ∙ one-cond (eqb 0 u) in
       let new = one-cond (eqb w u) in
       omega (arith, both, old, new)
 
@@ -132,9 +133,9 @@ module _ (bits : ℕ) (v : RowsView) (kept : AreRows bits v) (b w : ℕ) (inside
       let row = kept.each_row w is in
       let n = row_at v.rows w in
       let wide = (width-bounds w is).0 in
-      let zero_one : one (eqb 0 w) ≡ 0 = ap one (ne_eqb 0 w (λ e. absurd (omega arith))) in
-      let one_one : one (eqb w w) ≡ 1 = ap one (eq-eqb w w refl) in
-      let ready_one : one (eqb v.ready w) ≡ 1 = ap (λ t. one (eqb t w)) ready ∙ one_one in
+      let zero_one : one_if (eqb 0 w) ≡ 0 = ap one_if (ne_eqb 0 w (λ e. absurd (omega arith))) in
+      let one_one : one_if (eqb w w) ≡ 1 = ap one_if (eq-eqb w w refl) in
+      let ready_one : one_if (eqb v.ready w) ≡ 1 = ap (λ t. one_if (eqb t w)) ready ∙ one_one in
       let count = count-slots w in
       record {
         size = row.size;
@@ -166,11 +167,11 @@ module _ (bits : ℕ) (v : RowsView) (kept : AreRows bits v) (b w : ℕ) (inside
       let w_none : eqb w u ≡ false = ne_eqb w u (λ e. ne (sym e)) in
       let ready_none : eqb v.ready u ≡ false = ap (λ t. eqb t u) ready ∙ w_none in
       let count = count-slots u in
-      let zeros : one (eqb 0 u) ≡ 0 = ap one zero_none in
-      let ws : one (eqb w u) ≡ 0 = ap one w_none in
+      let zeros : one_if (eqb 0 u) ≡ 0 = ap one_if zero_none in
+      let ws : one_if (eqb w u) ≡ 0 = ap one_if w_none in
       record {
         size = row.size;
-        room = row.room ∙ ap (λ t. (length n.buffers + one t) * n.capacity) (ready_none ∙ sym zero_none);
+        room = row.room ∙ ap (λ t. (length n.buffers + one_if t) * n.capacity) (ready_none ∙ sym zero_none);
         taken = row.taken;
         full = row.full;
         made = row.made;
@@ -250,13 +251,13 @@ module _ (bits : ℕ) (v : RowsView) (kept : AreRows bits v) (b w : ℕ) (inside
         ∙ row-same (λ (n : RowView). state_in n (slot_at v.slots (buffer_of bits r)).rank (offset_of bits r)) v.rows (added_row (row_at v.rows w) b) w (slot_at v.slots (buffer_of bits r)).width kept.eleven is refl
   ]
 
-  pub add-added : entries_in bits (with_added v b w) ≡ with_buffer (entries_in bits v) b w
+  pub add-added : entries_in bits (with_added v b w) ≡ with_buffer_of (entries_in bits v) b w
   add-added =
       let row = row_at v.rows w in
       let new = added_row row b in
       let size = (kept.each_row w is).size in
       let spare : spare_in new ≡ capacity v.words w =
-      spare_full (count_by is_free row.shelf.states) (length row.buffers) (length new.buffers) row.capacity (length row.shelf.states) none full long ∙ size in
+      spare_full (count_by is_free_state row.shelf.states) (length row.buffers) (length new.buffers) row.capacity (length row.shelf.states) none full long ∙ size in
       let last : slice_get new.buffers (length new.buffers - 1) ≡ Some b =
       slice_get-get_or new.buffers (length new.buffers - 1) 0 (omega (arith, long))
       ∙ ap (λ k. Some (get_or new.buffers k 0)) (minus_one (length new.buffers) (length row.buffers) long) ∙ ap (λ t. Some t) (get_or-append_seam row.buffers b [] 0) in
@@ -269,8 +270,8 @@ module _ (bits : ℕ) (v : RowsView) (kept : AreRows bits v) (b w : ℕ) (inside
         spare = λ u. row-field spare_in v.rows new w u (capacity v.words w) kept.eleven is spare i;
         count = λ u. row-field (λ (n : RowView). length n.buffers) v.rows new w u (length row.buffers + 1) kept.eleven is long i;
         filled = λ u. row-field (λ (n : RowView). slice_get n.buffers (length n.buffers - 1)) v.rows new w u (Some b) kept.eleven is last i;
-        fresh = λ u. row-same (λ (n : RowView). count_by is_made n.shelf.states) v.rows new w u kept.eleven is refl i;
-        gone = λ u. row-same (λ (n : RowView). count_by is_let_go n.shelf.states) v.rows new w u kept.eleven is refl i;
+        fresh = λ u. row-same (λ (n : RowView). count_by is_made_state n.shelf.states) v.rows new w u kept.eleven is refl i;
+        gone = λ u. row-same (λ (n : RowView). count_by is_let_go_state n.shelf.states) v.rows new w u kept.eleven is refl i;
         ready = 0;
       }
     where
@@ -296,5 +297,5 @@ put-added v b w place rank row new at is same long =
 pub ready-room : (bits : ℕ) (v : RowsView) → AreRows bits v → (w : ℕ) → is_width w ≡ true → v.ready ≡ w
     → (row_at v.rows w).shelf.room ≡ (length (row_at v.rows w).buffers + 1) * (row_at v.rows w).capacity
 ready-room bits v kept w is ready =
-    let one_now : one (eqb v.ready w) ≡ 1 = ap one (eq-eqb v.ready w ready) in
+    let one_now : one_if (eqb v.ready w) ≡ 1 = ap one_if (eq-eqb v.ready w ready) in
     (kept.each_row w is).room ∙ ap (λ n. (length (row_at v.rows w).buffers + n) * (row_at v.rows w).capacity) one_now

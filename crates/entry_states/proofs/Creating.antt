@@ -4,10 +4,11 @@ use Rattle.std.specs.List.{slice_get, count_by}
 use Rattle.std.proofs.lemmas.List.{length-replicate}
 use Rattle.std.proofs.lemmas.List.Sums.{sum_by-cons}
 use Rattle.std.proofs.lemmas.Bool.{ne_eqb}
+use Rattle.list_facts.specs.Counting.{one_if}
 use Rattle.entry_ref.specs.References.{buffer_of, offset_of, buffer_limit, offset_limit}
 use Rattle.store_api.specs.Ledgers.{widths, is_width}
 use Rattle.entry_states.specs.declared.slot.Slot.{Slot}
-use Rattle.entry_states.specs.Entries.{is_made, is_let_go, one, new_entries}
+use Rattle.entry_states.specs.Entries.{is_made_state, is_let_go_state, new_entries}
 use Rattle.entry_states.specs.Rows.{RowView, RowsView, new_row, row_at, slot_at, has_offset, number_in, state_in, spare_in, IsRow, AreRows}
 use Rattle.entry_states.proofs.Seen.{entries_in}
 use Rattle.entry_states.proofs.Places.{row-made, row-out, width-bounds}
@@ -30,7 +31,7 @@ none-wide : (buffers w : ℕ) → w ≢ 0 → count_by (λ (s : Slot). eqb s.wid
 none-wide zero w ne = refl
 none-wide (suc n) w ne =
     let later = none-wide n w ne in
-    let here : cond (eqb 0 w) 1 0 ≡ one false = one-cond (eqb 0 w) ∙ ap one (ne_eqb 0 w (λ e. ne (sym e))) in
+    let here : cond (eqb 0 w) 1 0 ≡ one_if false = one-cond (eqb 0 w) ∙ ap one_if (ne_eqb 0 w (λ e. ne (sym e))) in
     omega (arith, sum_by-cons (λ (s : Slot). cond (eqb s.width w) 1 0) (record { width = 0; rank = 0 }) (replicate n (record { width = 0; rank = 0 })), later, here)
 
 zero_room : (n size : ℕ) → n ≡ 0 → 0 ≡ (0 + n) * size
@@ -62,7 +63,7 @@ new-kept bits buffers words few many most offsets product =
           let wide = (width-bounds w is).0 in
           let new : IsRow words (replicate buffers (record { width = 0; rank = 0 })) 0 w (new_row (words / w - 1)) = record {
             size = refl;
-            room = (let none : one (eqb 0 w) ≡ 0 = ap one (ne_eqb 0 w (λ e. absurd (omega arith))) in zero_room (one (eqb 0 w)) (words / w - 1) none);
+            room = (let none : one_if (eqb 0 w) ≡ 0 = ap one_if (ne_eqb 0 w (λ e. absurd (omega arith))) in zero_room (one_if (eqb 0 w)) (words / w - 1) none);
             taken = omega arith;
             full = omega arith;
             made = omega arith;
@@ -83,8 +84,8 @@ new-entries bits buffers words = λ i. record {
   spare = λ w. of_row spare_in 0 (λ size. zero_spare size) w i;
   count = λ w. of_row (λ (n : RowView). length n.buffers) 0 (λ size. refl) w i;
   filled = λ w. of_row (λ (n : RowView). slice_get n.buffers (length n.buffers - 1)) None (λ size. refl) w i;
-  fresh = λ w. of_row (λ (n : RowView). count_by is_made n.shelf.states) 0 (λ size. refl) w i;
-  gone = λ w. of_row (λ (n : RowView). count_by is_let_go n.shelf.states) 0 (λ size. refl) w i;
+  fresh = λ w. of_row (λ (n : RowView). count_by is_made_state n.shelf.states) 0 (λ size. refl) w i;
+  gone = λ w. of_row (λ (n : RowView). count_by is_let_go_state n.shelf.states) 0 (λ size. refl) w i;
   ready = 0;
 }
   where

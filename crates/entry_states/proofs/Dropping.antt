@@ -3,14 +3,15 @@ use Rattle.std.proofs.Common.{◌≡◌, ℕ, ◌+◌, ◌-◌, ◌*◌, ◌<◌
 use Rattle.std.specs.List.{slice_get, count_by}
 use Rattle.std.proofs.Math.ListN.{length-set}
 use Rattle.std.proofs.lemmas.Option.{get_or_from_slice_get, slice_get_within}
+use Rattle.list_facts.specs.Counting.{one_if}
 use Rattle.entry_ref.specs.References.{buffer_of, offset_of}
 use Rattle.store_api.specs.Ledgers.{is_width}
 use Rattle.entry_shelf.specs.declared.state.State.{State}
 use Rattle.entry_shelf.specs.declared.state.State.TheVariants.{Free, Returned, Made, InUse, LetGo, DroppedNow, Dropped}
-use Rattle.entry_shelf.specs.States.{is_free, is_used, state_at, dropped}
+use Rattle.entry_shelf.specs.States.{is_free_state, is_used, state_at, dropped}
 use Rattle.entry_states.specs.declared.slot.Slot.{Slot}
-use Rattle.entry_states.specs.Entries.{is_made, is_let_go, one, dropped_at}
-use Rattle.entry_states.specs.Rows.{RowView, RowsView, row_of, row_at, slot_at, number_in, entry_in, spare_in, is_used_state, with_states, AreRows}
+use Rattle.entry_states.specs.Entries.{is_made_state, is_let_go_state, dropped_at}
+use Rattle.entry_states.specs.Rows.{RowView, RowsView, row_of, row_at, slot_at, number_in, entry_in, spare_in, is_used_entry, with_states, AreRows}
 use Rattle.entry_states.proofs.Seen.{entries_in}
 use Rattle.entry_states.proofs.Places.{row-field, row-same}
 use Rattle.entry_states.proofs.Numbers.{Puts, puts-set, count-set, entry-number}
@@ -20,10 +21,10 @@ use Rattle.entry_states.proofs.Keeping.{with_row, kept-stays, put-row}
 
 -- how the counts change with an entry in use that is dropped
 pub record Counts (last : ℕ) (s : State) : Type 0 where
-  pub free : one (is_free s) ≡ 0
-  pub made : one (is_made (dropped last s)) ≡ 0
-  pub fresh : one (is_made s) ≡ one (is_free (dropped last s))
-  pub gone : one (is_let_go s) ≡ 0
+  pub free : one_if (is_free_state s) ≡ 0
+  pub made : one_if (is_made_state (dropped last s)) ≡ 0
+  pub fresh : one_if (is_made_state s) ≡ one_if (is_free_state (dropped last s))
+  pub gone : one_if (is_let_go_state s) ≡ 0
 
 counts : (last : ℕ) (s : State) → is_used s ≡ true → Counts last s
 counts last Free is = absurd (cc)
@@ -31,11 +32,11 @@ counts last Returned is = absurd (cc)
 counts last Made is = record { free = refl; made = refl; fresh = refl; gone = refl }
 counts last (InUse after) is = record { free = refl; made = by_made (eqb after last); fresh = by_fresh (eqb after last); gone = refl }
   where
-    by_made : (t : Bool) → one (is_made (cond t LetGo (DroppedNow after))) ≡ 0
+    by_made : (t : Bool) → one_if (is_made_state (cond t LetGo (DroppedNow after))) ≡ 0
     by_made true = refl
     by_made false = refl
 
-    by_fresh : (t : Bool) → 0 ≡ one (is_free (cond t LetGo (DroppedNow after)))
+    by_fresh : (t : Bool) → 0 ≡ one_if (is_free_state (cond t LetGo (DroppedNow after)))
     by_fresh true = refl
     by_fresh false = refl
 counts last LetGo is = absurd (cc)
@@ -83,7 +84,7 @@ is-taken bits v kept r s is =
     }
 
 -- an entry in use has a state
-pub used-taken : (o : Option State) → is_used_state o ≡ true → (s : State) × (o ≡ Some s) × (is_used s ≡ true)
+pub used-taken : (o : Option State) → is_used_entry o ≡ true → (s : State) × (o ≡ Some s) × (is_used s ≡ true)
 used-taken None is = absurd (cc)
 used-taken (Some s) is = (s, refl, is)
 
@@ -117,19 +118,19 @@ module _ (bits : ℕ) (v : RowsView) (kept : AreRows bits v) (last r : ℕ) (s :
       let same : new ≡ with_states row (set states x (dropped last s)) = ap (λ t. with_states row (set states x t)) after in
       let long = length-set {A = State} states x (dropped last s) in
       let c = counts last s used in
-      let free = count-set is_free states x (dropped last s) taken.there in
-      let made = count-set is_made states x (dropped last s) taken.there in
-      let gone = count-set is_let_go states x (dropped last s) taken.there in
-      let free0 : one (is_free (state_at states x)) ≡ one (is_free s) = ap (λ t. one (is_free t)) taken.state in
-      let made0 : one (is_made (state_at states x)) ≡ one (is_made s) = ap (λ t. one (is_made t)) taken.state in
-      let gone0 : one (is_let_go (state_at states x)) ≡ one (is_let_go s) = ap (λ t. one (is_let_go t)) taken.state in
-      let spares : spare_in new ≡ spare_in row + one (is_free (dropped last s)) =
+      let free = count-set is_free_state states x (dropped last s) taken.there in
+      let made = count-set is_made_state states x (dropped last s) taken.there in
+      let gone = count-set is_let_go_state states x (dropped last s) taken.there in
+      let free0 : one_if (is_free_state (state_at states x)) ≡ one_if (is_free_state s) = ap (λ t. one_if (is_free_state t)) taken.state in
+      let made0 : one_if (is_made_state (state_at states x)) ≡ one_if (is_made_state s) = ap (λ t. one_if (is_made_state t)) taken.state in
+      let gone0 : one_if (is_let_go_state (state_at states x)) ≡ one_if (is_let_go_state s) = ap (λ t. one_if (is_let_go_state t)) taken.state in
+      let spares : spare_in new ≡ spare_in row + one_if (is_free_state (dropped last s)) =
       ap spare_in same ∙ spare_more (length row.buffers * row.capacity) (length states) (length (set states x (dropped last s)))
-      (count_by is_free states) (count_by is_free (set states x (dropped last s))) (one (is_free (dropped last s))) long (omega (arith, free, free0, c.free)) in
-      let freshes : count_by is_made new.shelf.states ≡ count_by is_made states - one (is_free (dropped last s)) =
-      ap (λ (n : RowView). count_by is_made n.shelf.states) same ∙ omega (arith, made, made0, c.made, c.fresh) in
-      let gones : count_by is_let_go new.shelf.states ≡ count_by is_let_go states + one (is_let_go (dropped last s)) =
-      ap (λ (n : RowView). count_by is_let_go n.shelf.states) same ∙ omega (arith, gone, gone0, c.gone) in
+      (count_by is_free_state states) (count_by is_free_state (set states x (dropped last s))) (one_if (is_free_state (dropped last s))) long (omega (arith, free, free0, c.free)) in
+      let freshes : count_by is_made_state new.shelf.states ≡ count_by is_made_state states - one_if (is_free_state (dropped last s)) =
+      ap (λ (n : RowView). count_by is_made_state n.shelf.states) same ∙ omega (arith, made, made0, c.made, c.fresh) in
+      let gones : count_by is_let_go_state new.shelf.states ≡ count_by is_let_go_state states + one_if (is_let_go_state (dropped last s)) =
+      ap (λ (n : RowView). count_by is_let_go_state n.shelf.states) same ∙ omega (arith, gone, gone0, c.gone) in
       let puts : Puts states x (dropped last s) new.shelf.states =
       subst (λ (n : RowView). Puts states x (dropped last s) n.shelf.states) (sym same) (puts-set states x (dropped last s) taken.there) in
       λ i. record {
@@ -139,11 +140,11 @@ module _ (bits : ℕ) (v : RowsView) (kept : AreRows bits v) (last r : ℕ) (s :
         state = λ q. (state-put bits v kept w taken.width x taken.below (dropped last s) new refl puts q
             ∙ ap (λ e. cond (eqb q e) (Some (dropped last s)) ((entries_in bits v).state q)) taken.entry) i;
         made = λ u. row-same (λ (n : RowView). n.shelf.made) v.rows new w u kept.eleven taken.width refl i;
-        spare = λ u. row-field spare_in v.rows new w u (spare_in row + one (is_free (dropped last s))) kept.eleven taken.width spares i;
+        spare = λ u. row-field spare_in v.rows new w u (spare_in row + one_if (is_free_state (dropped last s))) kept.eleven taken.width spares i;
         count = λ u. row-same (λ (n : RowView). length n.buffers) v.rows new w u kept.eleven taken.width refl i;
         filled = λ u. row-same (λ (n : RowView). slice_get n.buffers (length n.buffers - 1)) v.rows new w u kept.eleven taken.width refl i;
-        fresh = λ u. row-field (λ (n : RowView). count_by is_made n.shelf.states) v.rows new w u (count_by is_made states - one (is_free (dropped last s))) kept.eleven taken.width freshes i;
-        gone = λ u. row-field (λ (n : RowView). count_by is_let_go n.shelf.states) v.rows new w u (count_by is_let_go states + one (is_let_go (dropped last s))) kept.eleven taken.width gones i;
+        fresh = λ u. row-field (λ (n : RowView). count_by is_made_state n.shelf.states) v.rows new w u (count_by is_made_state states - one_if (is_free_state (dropped last s))) kept.eleven taken.width freshes i;
+        gone = λ u. row-field (λ (n : RowView). count_by is_let_go_state n.shelf.states) v.rows new w u (count_by is_let_go_state states + one_if (is_let_go_state (dropped last s))) kept.eleven taken.width gones i;
         ready = v.ready;
       }
     where

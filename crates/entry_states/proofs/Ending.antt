@@ -6,11 +6,12 @@ use Rattle.std.proofs.lemmas.List.{length-map, take_all, drop_all, take-append-l
 use Rattle.std.proofs.lemmas.List.Edits.{map_over_more}
 use Rattle.std.proofs.lemmas.List.Sums.{sum_by-cons}
 use Rattle.std.proofs.lemmas.Option.{slice_get-map}
+use Rattle.list_facts.specs.Counting.{one_if}
 use Rattle.entry_ref.specs.References.{buffer_of, offset_of}
 use Rattle.entry_shelf.specs.declared.state.State.{State}
 use Rattle.entry_shelf.specs.declared.state.State.TheVariants.{Free, Returned, Made, InUse, LetGo, DroppedNow, Dropped}
-use Rattle.entry_shelf.specs.States.{is_free, accepted, undone}
-use Rattle.entry_states.specs.Entries.{is_made, is_let_go, one, accepted_at, undone_at}
+use Rattle.entry_shelf.specs.States.{is_free_state, accepted, undone}
+use Rattle.entry_states.specs.Entries.{is_made_state, is_let_go_state, accepted_at, undone_at}
 use Rattle.entry_states.specs.Rows.{RowView, RowsView, row_at, slot_at, has_offset, number_in, state_in, spare_in, with_states, IsRow, AreRows}
 use Rattle.entry_states.proofs.Seen.{entries_in}
 use Rattle.entry_states.proofs.Places.{row-map}
@@ -73,14 +74,14 @@ module _ (bits : ℕ) (f : State → State) (v : RowsView) where
       by_test row k true = slice_get-map f row.shelf.states (number_in row k (offset_of bits r))
       by_test row k false = refl
 
-  pub changed-spare : (more : State → Bool) → ((s : State) → one (is_free (f s)) ≡ one (is_free s) + one (more s)) → (w : ℕ)
+  pub changed-spare : (more : State → Bool) → ((s : State) → one_if (is_free_state (f s)) ≡ one_if (is_free_state s) + one_if (more s)) → (w : ℕ)
       → spare_in (row_at (map (changed f) v.rows) w) ≡ spare_in (row_at v.rows w) + count_by more (row_at v.rows w).shelf.states
   changed-spare more each w =
       let row = row_at v.rows w in
       let long = length-map row.shelf.states f in
-      let free = count-map f is_free is_free more each row.shelf.states in
+      let free = count-map f is_free_state is_free_state more each row.shelf.states in
       ap spare_in (at w) ∙ adds (length row.buffers * row.capacity) (length row.shelf.states) (length (map f row.shelf.states))
-      (count_by is_free row.shelf.states) (count_by is_free (map f row.shelf.states)) (count_by more row.shelf.states) long free
+      (count_by is_free_state row.shelf.states) (count_by is_free_state (map f row.shelf.states)) (count_by more row.shelf.states) long free
     where
       adds : (n k l a b c : ℕ) → l ≡ k → b ≡ a + c → b + (n - l) ≡ a + (n - k) + c
       adds n k l a b c long more = omega arith
@@ -92,14 +93,14 @@ module _ (bits : ℕ) (f : State → State) (v : RowsView) where
       none [] = refl
       none (x ∷ xs) =
           let later = none xs in
-          let here : cond (test (f x)) 1 0 ≡ one false = one-cond (test (f x)) ∙ ap one (each x) in
+          let here : cond (test (f x)) 1 0 ≡ one_if false = one-cond (test (f x)) ∙ ap one_if (each x) in
           omega (arith, sum_by-cons (λ t. cond (test t) 1 0) (f x) (map f xs), later, here)
 
   -- the row of each width, but its states
   pub changed-row : {A : Type 0} (g : RowView → A) → ((row : RowView) → g (changed f row) ≡ g row) → (w : ℕ) → g (row_at (map (changed f) v.rows) w) ≡ g (row_at v.rows w)
   changed-row {A} g same w = ap g (at w) ∙ same (row_at v.rows w)
 
-accepted-free : (last : ℕ) (s : State) → one (is_free (accepted last s)) ≡ one (is_free s) + one (is_let_go s)
+accepted-free : (last : ℕ) (s : State) → one_if (is_free_state (accepted last s)) ≡ one_if (is_free_state s) + one_if (is_let_go_state s)
 accepted-free last Free = refl
 accepted-free last Returned = refl
 accepted-free last Made = refl
@@ -108,7 +109,7 @@ accepted-free last LetGo = refl
 accepted-free last (DroppedNow after) = refl
 accepted-free last (Dropped after) = refl
 
-undone-free : (last : ℕ) (s : State) → one (is_free (undone last s)) ≡ one (is_free s) + one (is_made s)
+undone-free : (last : ℕ) (s : State) → one_if (is_free_state (undone last s)) ≡ one_if (is_free_state s) + one_if (is_made_state s)
 undone-free last Free = refl
 undone-free last Returned = refl
 undone-free last Made = refl
@@ -117,7 +118,7 @@ undone-free last LetGo = refl
 undone-free last (DroppedNow after) = refl
 undone-free last (Dropped after) = refl
 
-accepted-made : (last : ℕ) (s : State) → is_made (accepted last s) ≡ false
+accepted-made : (last : ℕ) (s : State) → is_made_state (accepted last s) ≡ false
 accepted-made last Free = refl
 accepted-made last Returned = refl
 accepted-made last Made = refl
@@ -126,7 +127,7 @@ accepted-made last LetGo = refl
 accepted-made last (DroppedNow after) = refl
 accepted-made last (Dropped after) = refl
 
-accepted-gone : (last : ℕ) (s : State) → is_let_go (accepted last s) ≡ false
+accepted-gone : (last : ℕ) (s : State) → is_let_go_state (accepted last s) ≡ false
 accepted-gone last Free = refl
 accepted-gone last Returned = refl
 accepted-gone last Made = refl
@@ -135,7 +136,7 @@ accepted-gone last LetGo = refl
 accepted-gone last (DroppedNow after) = refl
 accepted-gone last (Dropped after) = refl
 
-undone-made : (last : ℕ) (s : State) → is_made (undone last s) ≡ false
+undone-made : (last : ℕ) (s : State) → is_made_state (undone last s) ≡ false
 undone-made last Free = refl
 undone-made last Returned = refl
 undone-made last Made = refl
@@ -144,7 +145,7 @@ undone-made last LetGo = refl
 undone-made last (DroppedNow after) = refl
 undone-made last (Dropped after) = refl
 
-undone-gone : (last : ℕ) (s : State) → is_let_go (undone last s) ≡ false
+undone-gone : (last : ℕ) (s : State) → is_let_go_state (undone last s) ≡ false
 undone-gone last Free = refl
 undone-gone last Returned = refl
 undone-gone last Made = refl
@@ -160,11 +161,11 @@ accept-accepted bits v last = λ i. record {
   width = λ b. (slot_at v.slots b).width;
   state = λ r. changed-state bits (accepted last) v r i;
   made = λ w. changed-row bits (accepted last) v (λ (n : RowView). n.shelf.made) (λ n. refl) w i;
-  spare = λ w. changed-spare bits (accepted last) v is_let_go (accepted-free last) w i;
+  spare = λ w. changed-spare bits (accepted last) v is_let_go_state (accepted-free last) w i;
   count = λ w. changed-row bits (accepted last) v (λ (n : RowView). length n.buffers) (λ n. refl) w i;
   filled = λ w. changed-row bits (accepted last) v (λ (n : RowView). slice_get n.buffers (length n.buffers - 1)) (λ n. refl) w i;
-  fresh = λ w. changed-none bits (accepted last) v is_made (accepted-made last) w i;
-  gone = λ w. changed-none bits (accepted last) v is_let_go (accepted-gone last) w i;
+  fresh = λ w. changed-none bits (accepted last) v is_made_state (accepted-made last) w i;
+  gone = λ w. changed-none bits (accepted last) v is_let_go_state (accepted-gone last) w i;
   ready = v.ready;
 }
 
@@ -175,11 +176,11 @@ undo-undone bits v last = λ i. record {
   width = λ b. (slot_at v.slots b).width;
   state = λ r. changed-state bits (undone last) v r i;
   made = λ w. changed-row bits (undone last) v (λ (n : RowView). n.shelf.made) (λ n. refl) w i;
-  spare = λ w. changed-spare bits (undone last) v is_made (undone-free last) w i;
+  spare = λ w. changed-spare bits (undone last) v is_made_state (undone-free last) w i;
   count = λ w. changed-row bits (undone last) v (λ (n : RowView). length n.buffers) (λ n. refl) w i;
   filled = λ w. changed-row bits (undone last) v (λ (n : RowView). slice_get n.buffers (length n.buffers - 1)) (λ n. refl) w i;
-  fresh = λ w. changed-none bits (undone last) v is_made (undone-made last) w i;
-  gone = λ w. changed-none bits (undone last) v is_let_go (undone-gone last) w i;
+  fresh = λ w. changed-none bits (undone last) v is_made_state (undone-made last) w i;
+  gone = λ w. changed-none bits (undone last) v is_let_go_state (undone-gone last) w i;
   ready = v.ready;
 }
 

@@ -9,8 +9,8 @@ use Rattle.entry_ref.specs.References.{buffer_of, offset_of}
 use Rattle.image_base.specs.Places.{IsEntry}
 use Rattle.store_api.specs.Ledgers.{is_width, capacity}
 use Rattle.entry_shelf.specs.declared.state.State.{State}
-use Rattle.entry_shelf.specs.States.{is_free}
-use Rattle.entry_states.specs.Entries.{is_open_state, IsGood}
+use Rattle.entry_shelf.specs.States.{is_free_state}
+use Rattle.entry_states.specs.Entries.{is_open_entry, IsGood}
 use Rattle.entry_states.specs.Rows.{RowView, RowsView, new_row, row_at, slot_at, has_offset, number_in, state_in, spare_in, AreRows}
 use Rattle.entry_states.proofs.Seen.{entries_in}
 use Rattle.entry_states.proofs.Places.{row-none}
@@ -88,21 +88,21 @@ past-taken (s ∷ xs) zero none = absurd (cc)
 past-taken (s ∷ xs) (suc x) none = (let later = past-taken xs x none in omega arith)
 
 -- an open entry is one to spare
-spare-open : (row : RowView) (x : ℕ) → x < length row.buffers * row.capacity → is_open_state (slice_get row.shelf.states x) ≡ true → 0 < spare_in row
+spare-open : (row : RowView) (x : ℕ) → x < length row.buffers * row.capacity → is_open_entry (slice_get row.shelf.states x) ≡ true → 0 < spare_in row
 spare-open row x below is = by_state (slice_get row.shelf.states x) refl is
   where
-    by_state : (o : Option State) → slice_get row.shelf.states x ≡ o → is_open_state o ≡ true → 0 < spare_in row
+    by_state : (o : Option State) → slice_get row.shelf.states x ≡ o → is_open_entry o ≡ true → 0 < spare_in row
     by_state None e free = (let more = past-taken row.shelf.states x e in omega arith)
-    by_state (Some s) e free = (let some = count-some is_free row.shelf.states x s e free in omega (arith, some))
+    by_state (Some s) e free = (let some = count-some is_free_state row.shelf.states x s e free in omega (arith, some))
 
 pub good-spares : (bits : ℕ) (v : RowsView) → AreRows bits v → (r : ℕ) → IsEntry bits (length v.slots) v.words (slot_at v.slots (buffer_of bits r)).width r
-    → is_open_state ((entries_in bits v).state r) ≡ true → 0 < spare_in (row_at v.rows (slot_at v.slots (buffer_of bits r)).width)
+    → is_open_entry ((entries_in bits v).state r) ≡ true → 0 < spare_in (row_at v.rows (slot_at v.slots (buffer_of bits r)).width)
 good-spares bits v kept r entry is =
     let slot = slot_at v.slots (buffer_of bits r) in
     let row = row_at v.rows slot.width in
     let at = numbered bits v kept r entry in
     spare-open row (number_in row slot.rank (offset_of bits r)) at.within
-    (subst (λ o. is_open_state o ≡ true) (state_in-there row slot.rank (offset_of bits r) (number_in row slot.rank (offset_of bits r)) at.offset refl) is)
+    (subst (λ o. is_open_entry o ≡ true) (state_in-there row slot.rank (offset_of bits r) (number_in row slot.rank (offset_of bits r)) at.offset refl) is)
 
 -- an offset that was not taken is in the last buffer
 pub untaken-last : (bits : ℕ) (v : RowsView) → AreRows bits v → (r : ℕ) → IsEntry bits (length v.slots) v.words (slot_at v.slots (buffer_of bits r)).width r → (entries_in bits v).state r ≡ None

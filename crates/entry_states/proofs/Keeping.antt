@@ -4,8 +4,9 @@ use Rattle.std.proofs.Math.ListN.{length-set}
 use Rattle.std.proofs.lemmas.List.{set-get_or}
 use Rattle.std.proofs.lemmas.Bool.{cases_eq, eq-eqb, ne_eqb}
 use Rattle.store_api.specs.Ledgers.{is_width}
+use Rattle.list_facts.specs.Counting.{one_if}
 use Rattle.entry_states.specs.declared.slot.Slot.{Slot}
-use Rattle.entry_states.specs.Entries.{one}
+use Rattle.entry_states.specs.Entries.{}
 use Rattle.entry_states.specs.Rows.{RowView, RowsView, new_row, row_of, row_at, slot_at, IsRow, AreRows}
 use Rattle.entry_states.proofs.Places.{row-set, row-same}
 
@@ -23,7 +24,7 @@ row-there bits v kept w is new u ne = row-set v.rows new w u kept.eleven is ∙ 
 ready-row : (words : ℕ) (slots : List Slot) (ready other w : ℕ) (row : RowView) → eqb other w ≡ eqb ready w → IsRow words slots ready w row → IsRow words slots other w row
 ready-row words slots ready other w row same is = record {
   size = is.size;
-  room = is.room ∙ ap (λ t. (length row.buffers + one t) * row.capacity) (sym same);
+  room = is.room ∙ ap (λ t. (length row.buffers + one_if t) * row.capacity) (sym same);
   taken = is.taken;
   full = is.full;
   made = is.made;

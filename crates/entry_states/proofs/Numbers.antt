@@ -6,6 +6,7 @@ use Rattle.std.proofs.lemmas.Nat.{div-add-mod', div-mul-add, mod-mul-add, le-div
 use Rattle.std.proofs.lemmas.List.Sums.{sum_by-set, sum_by_push, sum_by-cons}
 use Rattle.std.proofs.lemmas.Bool.{cases_lt, and_parts, and_from, leb-true, ltb-true, lt-ltb, le-leb}
 use Rattle.list_facts.proofs.Places.{slice_get-set_same, slice_get-set_other}
+use Rattle.list_facts.specs.Counting.{one_if}
 use Rattle.entry_ref.specs.References.{buffer_of, offset_of, packed}
 use Rattle.entry_ref.proofs.Bits.{packed-same}
 use Rattle.image_base.specs.Places.{IsEntry}
@@ -13,7 +14,7 @@ use Rattle.store_api.specs.Ledgers.{is_width, capacity}
 use Rattle.entry_shelf.specs.declared.state.State.{State}
 use Rattle.entry_shelf.specs.declared.state.State.TheVariants.{Free}
 use Rattle.entry_shelf.specs.States.{state_at}
-use Rattle.entry_states.specs.Entries.{one}
+use Rattle.entry_states.specs.Entries.{}
 use Rattle.entry_states.specs.Rows.{RowView, has_offset, number_in, entry_in}
 use Rattle.entry_states.proofs.Places.{width-bounds}
 
@@ -108,19 +109,19 @@ puts-snoc xs x s same = record {
 }
 
 -- how a count changes with one state
-pub one-cond : (t : Bool) → cond t 1 0 ≡ one t
+pub one-cond : (t : Bool) → cond t 1 0 ≡ one_if t
 one-cond true = refl
 one-cond false = refl
 
 pub count-set : (test : State → Bool) (xs : List State) (x : ℕ) (s : State) → x < length xs
-    → count_by test (set xs x s) + one (test (state_at xs x)) ≡ count_by test xs + one (test s)
+    → count_by test (set xs x s) + one_if (test (state_at xs x)) ≡ count_by test xs + one_if (test s)
 count-set test xs x s below =
     let both = sum_by-set (λ t. cond (test t) 1 0) xs x s Free below in
     let old = one-cond (test (state_at xs x)) in
     let new = one-cond (test s) in
     omega (arith, both, old, new)
 
-pub count-snoc : (test : State → Bool) (xs : List State) (s : State) → count_by test (xs ++ s ∷ []) ≡ count_by test xs + one (test s)
+pub count-snoc : (test : State → Bool) (xs : List State) (s : State) → count_by test (xs ++ s ∷ []) ≡ count_by test xs + one_if (test s)
 count-snoc test xs s =
     let both = sum_by_push (λ t. cond (test t) 1 0) xs s in
     let new = one-cond (test s) in
@@ -131,7 +132,7 @@ pub count-some : (test : State → Bool) (xs : List State) (x : ℕ) (s : State)
 count-some test [] x s at is = absurd (cc)
 count-some test (y ∷ ys) zero s at is =
     let same : y ≡ s = cc in
-    let first : cond (test y) 1 0 ≡ one true = one-cond (test y) ∙ ap one (ap test same ∙ is) in
+    let first : cond (test y) 1 0 ≡ one_if true = one-cond (test y) ∙ ap one_if (ap test same ∙ is) in
     omega (arith, sum_by-cons (λ t. cond (test t) 1 0) y ys, first)
 count-some test (y ∷ ys) (suc x) s at is =
     let later = count-some test ys x s at is in
@@ -146,13 +147,13 @@ count-none test xs x s none at = by_test (test s) refl
     by_test false e = refl
 
 -- a count of the states when each is changed
-pub count-map : (f : State → State) (test a b : State → Bool) → ((s : State) → one (test (f s)) ≡ one (a s) + one (b s))
+pub count-map : (f : State → State) (test a b : State → Bool) → ((s : State) → one_if (test (f s)) ≡ one_if (a s) + one_if (b s))
     → (xs : List State) → count_by test (map f xs) ≡ count_by a xs + count_by b xs
 count-map f test a b each [] = refl
 count-map f test a b each (x ∷ xs) =
     let later = count-map f test a b each xs in
     let here = each x in
-    let ones : cond (test (f x)) 1 0 ≡ one (test (f x)) = one-cond (test (f x)) in
-    let ones1 : cond (a x) 1 0 ≡ one (a x) = one-cond (a x) in
-    let ones2 : cond (b x) 1 0 ≡ one (b x) = one-cond (b x) in
+    let ones : cond (test (f x)) 1 0 ≡ one_if (test (f x)) = one-cond (test (f x)) in
+    let ones1 : cond (a x) 1 0 ≡ one_if (a x) = one-cond (a x) in
+    let ones2 : cond (b x) 1 0 ≡ one_if (b x) = one-cond (b x) in
     omega (arith, sum_by-cons (λ t. cond (test t) 1 0) (f x) (map f xs), sum_by-cons (λ t. cond (a t) 1 0) x xs, sum_by-cons (λ t. cond (b t) 1 0) x xs, later, here, ones, ones1, ones2)

@@ -2,7 +2,7 @@
 use Rattle.std.proofs.Common.{ℕ, ◌-◌, length}
 use Rattle.std.specs.List.{slice_get, count_by}
 use Rattle.entry_ref.specs.References.{buffer_of, offset_of}
-use Rattle.entry_states.specs.Entries.{EntriesView, is_let_go, is_made}
+use Rattle.entry_states.specs.Entries.{EntriesView, is_let_go_state, is_made_state}
 use Rattle.entry_states.specs.Rows.{RowsView, row_at, slot_at, state_in, spare_in}
 
 abbrev pub entries_in : ℕ → RowsView → EntriesView
@@ -15,7 +15,7 @@ entries_in bits v = record {
   spare = λ w. spare_in (row_at v.rows w);
   count = λ w. length (row_at v.rows w).buffers;
   filled = λ w. slice_get (row_at v.rows w).buffers (length (row_at v.rows w).buffers - 1);
-  fresh = λ w. count_by is_made (row_at v.rows w).shelf.states;
-  gone = λ w. count_by is_let_go (row_at v.rows w).shelf.states;
+  fresh = λ w. count_by is_made_state (row_at v.rows w).shelf.states;
+  gone = λ w. count_by is_let_go_state (row_at v.rows w).shelf.states;
   ready = v.ready;
 }

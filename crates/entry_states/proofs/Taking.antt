@@ -4,13 +4,14 @@ use Rattle.std.specs.List.{slice_get, count_by}
 use Rattle.std.proofs.Math.ListN.{length-set}
 use Rattle.std.proofs.lemmas.Bool.{cases_lt, cases_eq, eq-eqb, ne_eqb}
 use Rattle.std.proofs.lemmas.Option.{slice_get-get_or, slice_get_past}
+use Rattle.list_facts.specs.Counting.{one_if}
 use Rattle.entry_ref.specs.References.{buffer_of, offset_of}
 use Rattle.store_api.specs.Ledgers.{is_width, one_more}
 use Rattle.entry_shelf.specs.declared.state.State.{State}
 use Rattle.entry_shelf.specs.declared.state.State.TheVariants.{Free, Returned, Made, InUse, LetGo, DroppedNow, Dropped}
-use Rattle.entry_shelf.specs.States.{ShelfView, is_free, state_at, with_made, IsOpen, spare_of}
+use Rattle.entry_shelf.specs.States.{ShelfView, is_free_state, state_at, with_made, IsOpen, spare_of}
 use Rattle.entry_states.specs.declared.slot.Slot.{Slot}
-use Rattle.entry_states.specs.Entries.{is_made, is_let_go, is_open_state, is_free_state, one, made_at, CanTake}
+use Rattle.entry_states.specs.Entries.{is_made_state, is_let_go_state, is_open_entry, is_free_entry, made_at, CanTake}
 use Rattle.entry_states.specs.Rows.{RowView, RowsView, row_at, slot_at, number_in, entry_in, state_in, spare_in, AreRows}
 use Rattle.entry_states.proofs.Seen.{entries_in}
 use Rattle.entry_states.proofs.Places.{row-field, row-same, width-bounds}
@@ -19,7 +20,7 @@ use Rattle.entry_states.proofs.Standing.{few-entries, stands-at, state-by, state
 use Rattle.entry_states.proofs.Good.{some-offset}
 use Rattle.entry_states.proofs.Keeping.{with_row, kept-stays}
 
-free-made : (s : State) → is_free s ≡ true → one (is_made s) ≡ 0
+free-made : (s : State) → is_free_state s ≡ true → one_if (is_made_state s) ≡ 0
 free-made Free is = refl
 free-made Returned is = refl
 free-made Made is = absurd (cc)
@@ -28,7 +29,7 @@ free-made LetGo is = refl
 free-made (DroppedNow after) is = refl
 free-made (Dropped after) is = refl
 
-free-gone : (s : State) → is_free s ≡ true → one (is_let_go s) ≡ 0
+free-gone : (s : State) → is_free_state s ≡ true → one_if (is_let_go_state s) ≡ 0
 free-gone Free is = refl
 free-gone Returned is = refl
 free-gone Made is = refl
@@ -40,20 +41,20 @@ free-gone (Dropped after) is = refl
 -- what a make does to the states of a row with room for n
 pub record Takes (n : ℕ) (xs : List State) (x : ℕ) (ys : List State) : Type 0 where
   pub puts : Puts xs x Made ys
-  pub spare : count_by is_free ys + (n - length ys) + 1 ≡ count_by is_free xs + (n - length xs)
-  pub fresh : count_by is_made ys ≡ count_by is_made xs + 1
-  pub gone : count_by is_let_go ys ≡ count_by is_let_go xs
+  pub spare : count_by is_free_state ys + (n - length ys) + 1 ≡ count_by is_free_state xs + (n - length xs)
+  pub fresh : count_by is_made_state ys ≡ count_by is_made_state xs + 1
+  pub gone : count_by is_let_go_state ys ≡ count_by is_let_go_state xs
   pub low : length xs ≤ length ys
   pub high : length ys ≤ length xs + 1
   pub within : length ys ≤ n
 
-takes-free : (n : ℕ) (xs : List State) (x : ℕ) → length xs ≤ n → x < length xs → is_free (state_at xs x) ≡ true → Takes n xs x (set xs x Made)
+takes-free : (n : ℕ) (xs : List State) (x : ℕ) → length xs ≤ n → x < length xs → is_free_state (state_at xs x) ≡ true → Takes n xs x (set xs x Made)
 takes-free n xs x fits below is =
     let long = length-set {A = State} xs x Made in
-    let free = count-set is_free xs x Made below in
-    let was : one (is_free (state_at xs x)) ≡ 1 = ap one is in
-    let made = count-set is_made xs x Made below in
-    let gone = count-set is_let_go xs x Made below in
+    let free = count-set is_free_state xs x Made below in
+    let was : one_if (is_free_state (state_at xs x)) ≡ 1 = ap one_if is in
+    let made = count-set is_made_state xs x Made below in
+    let gone = count-set is_let_go_state xs x Made below in
     record {
       puts = puts-set xs x Made below;
       spare = omega (arith, long, free, was);
@@ -67,9 +68,9 @@ takes-free n xs x fits below is =
 takes-next : (n : ℕ) (xs : List State) (x : ℕ) → x ≡ length xs → x < n → Takes n xs x (xs ++ Made ∷ [])
 takes-next n xs x same below =
     let long : length (xs ++ Made ∷ []) ≡ length xs + 1 = length-append xs (Made ∷ []) in
-    let free = count-snoc is_free xs Made in
-    let made = count-snoc is_made xs Made in
-    let gone = count-snoc is_let_go xs Made in
+    let free = count-snoc is_free_state xs Made in
+    let made = count-snoc is_made_state xs Made in
+    let gone = count-snoc is_let_go_state xs Made in
     record {
       puts = puts-snoc xs x Made same;
       spare = omega (arith, long, free, same);
@@ -96,13 +97,13 @@ pub idle-room : (bits : ℕ) (v : RowsView) → AreRows bits v → (w : ℕ) →
     → (row_at v.rows w).shelf.room ≡ length (row_at v.rows w).buffers * (row_at v.rows w).capacity
 idle-room bits v kept w is idle =
     let wide = (width-bounds w is).0 in
-    let none : one (eqb v.ready w) ≡ 0 = ap one (ne_eqb v.ready w (λ e. absurd (omega arith))) in
+    let none : one_if (eqb v.ready w) ≡ 0 = ap one_if (ne_eqb v.ready w (λ e. absurd (omega arith))) in
     let row = row_at v.rows w in
     (kept.each_row w is).room ∙ ap (λ n. (length row.buffers + n) * row.capacity) none ∙ ap (λ n. n * row.capacity) (omega arith)
 
 pub idle-spare : (bits : ℕ) (v : RowsView) → AreRows bits v → (w : ℕ) → is_width w ≡ true → v.ready ≡ 0 → spare_of (row_at v.rows w).shelf ≡ spare_in (row_at v.rows w)
 idle-spare bits v kept w is idle =
-    ap (λ n. count_by is_free (row_at v.rows w).shelf.states + (n - length (row_at v.rows w).shelf.states)) (idle-room bits v kept w is idle)
+    ap (λ n. count_by is_free_state (row_at v.rows w).shelf.states + (n - length (row_at v.rows w).shelf.states)) (idle-room bits v kept w is idle)
 
 open-below : (row : RowView) (x : ℕ) → row.shelf.room ≡ length row.buffers * row.capacity → length row.shelf.states ≤ length row.buffers * row.capacity → IsOpen row.shelf x
     → x < length row.buffers * row.capacity
@@ -163,8 +164,8 @@ module _ (bits : ℕ) (v : RowsView) (kept : AreRows bits v) (w : ℕ) (is : is_
         spare = λ u. row-field spare_in v.rows new w u (spare_in row - 1) kept.eleven is spare i;
         count = λ u. row-same (λ (n : RowView). length n.buffers) v.rows new w u kept.eleven is refl i;
         filled = λ u. row-same (λ (n : RowView). slice_get n.buffers (length n.buffers - 1)) v.rows new w u kept.eleven is refl i;
-        fresh = λ u. row-field (λ (n : RowView). count_by is_made n.shelf.states) v.rows new w u (count_by is_made row.shelf.states + 1) kept.eleven is t.fresh i;
-        gone = λ u. row-same (λ (n : RowView). count_by is_let_go n.shelf.states) v.rows new w u kept.eleven is t.gone i;
+        fresh = λ u. row-field (λ (n : RowView). count_by is_made_state n.shelf.states) v.rows new w u (count_by is_made_state row.shelf.states + 1) kept.eleven is t.fresh i;
+        gone = λ u. row-same (λ (n : RowView). count_by is_let_go_state n.shelf.states) v.rows new w u kept.eleven is t.gone i;
         ready = v.ready;
       }
 
@@ -174,13 +175,13 @@ module _ (bits : ℕ) (v : RowsView) (kept : AreRows bits v) (w : ℕ) (is : is_
       state-by bits v.rows v.slots (entry_in bits (row_at v.rows w) x) w (x / (row_at v.rows w).capacity) at.slot
       ∙ state_in-there (row_at v.rows w) (x / (row_at v.rows w).capacity) (offset_of bits (entry_in bits (row_at v.rows w) x)) x at.offset at.number
 
-  open-here : is_open_state (slice_get (row_at v.rows w).shelf.states x) ≡ true
+  open-here : is_open_entry (slice_get (row_at v.rows w).shelf.states x) ≡ true
   open-here = elim (cases_lt x (length (row_at v.rows w).shelf.states)) [
-    | inl h ↦ ap is_open_state (slice_get-get_or (row_at v.rows w).shelf.states x Free h) ∙ free.free h
-    | inr h ↦ ap is_open_state (slice_get_past (row_at v.rows w).shelf.states x h)
+    | inl h ↦ ap is_open_entry (slice_get-get_or (row_at v.rows w).shelf.states x Free h) ∙ free.free h
+    | inr h ↦ ap is_open_entry (slice_get_past (row_at v.rows w).shelf.states x h)
   ]
 
-  none-free : slice_get (row_at v.rows w).shelf.states x ≡ None → count_by is_free (row_at v.rows w).shelf.states ≡ 0
+  none-free : slice_get (row_at v.rows w).shelf.states x ≡ None → count_by is_free_state (row_at v.rows w).shelf.states ≡ 0
   none-free e = elim (cases_lt x (length (row_at v.rows w).shelf.states)) [
     | inl h ↦ absurd (apart (get_or (row_at v.rows w).shelf.states x Free) (sym (slice_get-get_or (row_at v.rows w).shelf.states x Free h) ∙ e))
     | inr h ↦ (let most = free.within in (free.next (omega arith)).1)
@@ -189,12 +190,12 @@ module _ (bits : ℕ) (v : RowsView) (kept : AreRows bits v) (w : ℕ) (is : is_
       apart : (s : State) → Some s ≡ None → ⊥
       apart s same = cc
 
-  not-free : (row : RowView) (k o : ℕ) → count_by is_free row.shelf.states ≡ 0 → is_free_state (state_in row k o) ≡ false
+  not-free : (row : RowView) (k o : ℕ) → count_by is_free_state row.shelf.states ≡ 0 → is_free_entry (state_in row k o) ≡ false
   not-free row k o none = by_state (state_in row k o) refl
     where
-      by_state : (s : Option State) → state_in row k o ≡ s → is_free_state s ≡ false
+      by_state : (s : Option State) → state_in row k o ≡ s → is_free_entry s ≡ false
       by_state None e = refl
-      by_state (Some s) e = count-none is_free row.shelf.states (number_in row k o) s none (sym (state_in-there row k o (number_in row k o) (some-offset row k o s e) refl) ∙ e)
+      by_state (Some s) e = count-none is_free_state row.shelf.states (number_in row k o) s none (sym (state_in-there row k o (number_in row k o) (some-offset row k o s e) refl) ∙ e)
 
   pub take-open : CanTake bits (entries_in bits v) w (entry_in bits (row_at v.rows w) x)
   take-open =
@@ -204,8 +205,8 @@ module _ (bits : ℕ) (v : RowsView) (kept : AreRows bits v) (w : ℕ) (is : is_
       record {
         entry = entry-from bits (length v.slots) v.words w (entry_in bits (row_at v.rows w) x) is at.inside at.first (omega (arith, last, size));
         of_width = ap (λ (s : Slot). s.width) at.slot;
-        is_open = ap is_open_state state-here ∙ open-here;
+        is_open = ap is_open_entry state-here ∙ open-here;
         free_first = λ untaken q of_width.
-            subst (λ u. is_free_state (state_in (row_at v.rows u) (slot_at v.slots (buffer_of bits q)).rank (offset_of bits q)) ≡ false) (sym of_width)
+            subst (λ u. is_free_entry (state_in (row_at v.rows u) (slot_at v.slots (buffer_of bits q)).rank (offset_of bits q)) ≡ false) (sym of_width)
             (not-free (row_at v.rows w) (slot_at v.slots (buffer_of bits q)).rank (offset_of bits q) (none-free (sym state-here ∙ untaken)));
       }

@@ -1,12 +1,13 @@
 -- The state of each entry of all buffers, and what the calls make of it.
 use Rattle.std.specs.Prelude.{◌≡◌, ℕ, ◌+◌, ◌-◌, ◌*◌, ◌/◌, ◌<◌, ◌≤◌, Bool, true, false, nat_eq, if◌then◌else◌, Option, None, Some}
 use Rattle.std.specs.Option.{option_map}
+use Rattle.list_facts.specs.Counting.{one_if}
 use Rattle.entry_ref.specs.References.{buffer_of}
 use Rattle.image_base.specs.Places.{IsEntry}
 use Rattle.store_api.specs.Ledgers.{is_width, capacity, with_count, with_filled, one_more}
 use Rattle.entry_shelf.specs.declared.state.State.{State}
-use Rattle.entry_shelf.specs.declared.state.State.TheVariants.{Free, Returned, Made, InUse, LetGo, DroppedNow, Dropped}
-use Rattle.entry_shelf.specs.States.{is_free, dropped, accepted, undone}
+use Rattle.entry_shelf.specs.declared.state.State.TheVariants.{Made, LetGo}
+use Rattle.entry_shelf.specs.States.{is_free_state, dropped, accepted, undone}
 
 pub record EntriesView : Type 0 where
   -- how many buffers, and the words of each
@@ -30,38 +31,24 @@ pub record EntriesView : Type 0 where
   pub ready : ℕ
 
 -- in use before the unit and since the last commit, and dropped by the unit
-abbrev pub is_let_go : State → Bool
-is_let_go Free = false
-is_let_go Returned = false
-is_let_go Made = false
-is_let_go (InUse after) = false
-is_let_go LetGo = true
-is_let_go (DroppedNow after) = false
-is_let_go (Dropped after) = false
+abbrev pub is_let_go_state : State → Bool
+is_let_go_state LetGo = true
+is_let_go_state state = false
 
 -- in use, and made by the unit
-abbrev pub is_made : State → Bool
-is_made Free = false
-is_made Returned = false
-is_made Made = true
-is_made (InUse after) = false
-is_made LetGo = false
-is_made (DroppedNow after) = false
-is_made (Dropped after) = false
+abbrev pub is_made_state : State → Bool
+is_made_state Made = true
+is_made_state state = false
 
 -- an entry that was taken and is free
-abbrev pub is_free_state : Option State → Bool
-is_free_state None = false
-is_free_state (Some state) = is_free state
+abbrev pub is_free_entry : Option State → Bool
+is_free_entry None = false
+is_free_entry (Some state) = is_free_state state
 
 -- an entry that a make can take: it was not taken, or is free
-abbrev pub is_open_state : Option State → Bool
-is_open_state None = true
-is_open_state (Some state) = is_free state
-
-abbrev pub one : Bool → ℕ
-one true = 1
-one false = 0
+abbrev pub is_open_entry : Option State → Bool
+is_open_entry None = true
+is_open_entry (Some state) = is_free_state state
 
 -- one entry has another state
 abbrev pub with_state : (ℕ → Option State) → ℕ → State → ℕ → Option State
@@ -96,12 +83,12 @@ made_at e width r = record e {
 pub record CanTake (bits : ℕ) (e : EntriesView) (width r : ℕ) : Type 0 where
   pub entry : IsEntry bits e.buffers e.words width r
   pub of_width : e.width (buffer_of bits r) ≡ width
-  pub is_open : is_open_state (e.state r) ≡ true
-  pub free_first : e.state r ≡ None → (q : ℕ) → e.width (buffer_of bits q) ≡ width → is_free_state (e.state q) ≡ false
+  pub is_open : is_open_entry (e.state r) ≡ true
+  pub free_first : e.state r ≡ None → (q : ℕ) → e.width (buffer_of bits q) ≡ width → is_free_entry (e.state q) ≡ false
 
 -- a buffer is for entries of this width
-abbrev pub with_buffer : EntriesView → ℕ → ℕ → EntriesView
-with_buffer e b width = record e {
+abbrev pub with_buffer_of : EntriesView → ℕ → ℕ → EntriesView
+with_buffer_of e b width = record e {
   width = λ a. if nat_eq a b then width else e.width a;
   spare = with_count e.spare width (capacity e.words width);
   count = with_count e.count width (e.count width + 1);
@@ -115,9 +102,9 @@ dropped_at bits e last r s =
     let width = e.width (buffer_of bits r) in
     record e {
       state = with_state e.state r (dropped last s);
-      spare = with_count e.spare width (e.spare width + one (is_free (dropped last s)));
-      fresh = with_count e.fresh width (e.fresh width - one (is_free (dropped last s)));
-      gone = with_count e.gone width (e.gone width + one (is_let_go (dropped last s)));
+      spare = with_count e.spare width (e.spare width + one_if (is_free_state (dropped last s)));
+      fresh = with_count e.fresh width (e.fresh width - one_if (is_free_state (dropped last s)));
+      gone = with_count e.gone width (e.gone width + one_if (is_let_go_state (dropped last s)));
     }
 
 -- the unit ends, and what it did is kept
@@ -142,7 +129,7 @@ undone_at e last = record e {
 pub record IsGood (bits : ℕ) (e : EntriesView) : Type 0 where
   pub entries : (r : ℕ) (s : State) → e.state r ≡ Some s → IsEntry bits e.buffers e.words (e.width (buffer_of bits r)) r
   pub widths : (b : ℕ) → 0 < e.width b → is_width (e.width b) ≡ true
-  pub spares : (r : ℕ) → IsEntry bits e.buffers e.words (e.width (buffer_of bits r)) r → is_open_state (e.state r) ≡ true
+  pub spares : (r : ℕ) → IsEntry bits e.buffers e.words (e.width (buffer_of bits r)) r → is_open_entry (e.state r) ≡ true
       → 0 < e.spare (e.width (buffer_of bits r))
   pub filled : (r : ℕ) → IsEntry bits e.buffers e.words (e.width (buffer_of bits r)) r → e.state r ≡ None
       → e.filled (e.width (buffer_of bits r)) ≡ Some (buffer_of bits r)

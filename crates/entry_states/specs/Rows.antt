@@ -2,12 +2,13 @@
 -- buffer in the order in which it got them, and in each by offset, behind the reserved offset 0.
 use Rattle.std.specs.Prelude.{◌≡◌, ℕ, suc, ◌+◌, ◌-◌, ◌*◌, ◌/◌, ◌%◌, ◌<◌, ◌≤◌, Bool, true, false, ◌&&◌, nat_eq, nat_lt, nat_le, if◌then◌else◌, Option, None, Some, List, [], ◌∷◌, length, slice_index, slice_index_or, count_by}
 use Rattle.std.specs.List.{slice_get}
+use Rattle.list_facts.specs.Counting.{one_if}
 use Rattle.entry_ref.specs.References.{buffer_of, offset_of, packed, buffer_limit, offset_limit}
 use Rattle.store_api.specs.Ledgers.{widths, is_width, capacity}
 use Rattle.entry_shelf.specs.declared.state.State.{State}
-use Rattle.entry_shelf.specs.States.{ShelfView, is_free, is_used}
+use Rattle.entry_shelf.specs.States.{ShelfView, is_free_state, is_used}
 use Rattle.entry_states.specs.declared.slot.Slot.{Slot}
-use Rattle.entry_states.specs.Entries.{EntriesView, is_let_go, is_made, one}
+use Rattle.entry_states.specs.Entries.{EntriesView, is_let_go_state, is_made_state}
 
 -- how many entries a buffer of the row has, its buffers, and its entries
 pub record RowView : Type 0 where
@@ -53,12 +54,12 @@ state_in row rank offset = if has_offset row offset then slice_get row.shelf.sta
 
 -- the free entries, and the room of the buffers that are there
 abbrev pub spare_in : RowView → ℕ
-spare_in row = count_by is_free row.shelf.states + (length row.buffers * row.capacity - length row.shelf.states)
+spare_in row = count_by is_free_state row.shelf.states + (length row.buffers * row.capacity - length row.shelf.states)
 
 -- the state of an entry in use
-abbrev pub is_used_state : Option State → Bool
-is_used_state None = false
-is_used_state (Some state) = is_used state
+abbrev pub is_used_entry : Option State → Bool
+is_used_entry None = false
+is_used_entry (Some state) = is_used state
 
 -- the row with other states of as many entries
 abbrev pub with_states : RowView → List State → RowView
@@ -82,15 +83,15 @@ entries_of bits v = record {
   spare = λ w. spare_in (row_at v.rows w);
   count = λ w. length (row_at v.rows w).buffers;
   filled = λ w. slice_get (row_at v.rows w).buffers (length (row_at v.rows w).buffers - 1);
-  fresh = λ w. count_by is_made (row_at v.rows w).shelf.states;
-  gone = λ w. count_by is_let_go (row_at v.rows w).shelf.states;
+  fresh = λ w. count_by is_made_state (row_at v.rows w).shelf.states;
+  gone = λ w. count_by is_let_go_state (row_at v.rows w).shelf.states;
   ready = v.ready;
 }
 
 -- what is kept of the row of a width
 pub record IsRow (words : ℕ) (slots : List Slot) (ready w : ℕ) (row : RowView) : Type 0 where
   pub size : row.capacity ≡ capacity words w
-  pub room : row.shelf.room ≡ (length row.buffers + one (nat_eq ready w)) * row.capacity
+  pub room : row.shelf.room ≡ (length row.buffers + one_if (nat_eq ready w)) * row.capacity
   -- only the last buffer has offsets that were not taken
   pub taken : length row.shelf.states ≤ length row.buffers * row.capacity
   pub full : (length row.buffers - 1) * row.capacity ≤ length row.shelf.states

@@ -82,8 +82,8 @@ fn new_slots(alloc: Global, buffers: u32) -> Result<Vec<Slot>, AllocError>
 }
 
 impl<const OFFSET_BITS: u32> Entries<OFFSET_BITS> {
-    ghost use Rattle.entry_states.specs.Entries.{new_entries, CanTake, IsGood, made_at, with_buffer, dropped_at, accepted_at, undone_at};
-    ghost use Rattle.entry_states.specs.Rows.{entries_of, is_used_state};
+    ghost use Rattle.entry_states.specs.Entries.{new_entries, CanTake, IsGood, made_at, with_buffer_of, dropped_at, accepted_at, undone_at};
+    ghost use Rattle.entry_states.specs.Rows.{entries_of, is_used_entry};
 
     /// `buffers` buffers of `words` words each, none of which has entries.
     pub fn create(alloc: Global, buffers: u32, words: u32) -> Result<Self, AllocError>
@@ -154,7 +154,7 @@ impl<const OFFSET_BITS: u32> Entries<OFFSET_BITS> {
 
     /// Drops an entry in use. `last` is the number of the last commit.
     pub fn drop_entry(&mut self, entry: EntryRef<OFFSET_BITS>, last: u32)
-        requires used { is_used_state ((entries_of OFFSET_BITS self.old).state entry) ≡ true }
+        requires used { is_used_entry ((entries_of OFFSET_BITS self.old).state entry) ≡ true }
         ensures dropped { (s : State) → (entries_of OFFSET_BITS self.old).state entry.entry ≡ Some s
             → entries_of OFFSET_BITS self.new ≡ dropped_at OFFSET_BITS (entries_of OFFSET_BITS self.old) last entry.entry s }
         ensures good { IsGood OFFSET_BITS (entries_of OFFSET_BITS self.new) }
@@ -205,7 +205,7 @@ impl<const OFFSET_BITS: u32> Entries<OFFSET_BITS> {
         requires width { is_width width ≡ true }
         requires ready { (entries_of OFFSET_BITS self.old).ready ≡ width }
         requires spare { (entries_of OFFSET_BITS self.old).spare width ≡ 0 }
-        ensures added { entries_of OFFSET_BITS self.new ≡ with_buffer (entries_of OFFSET_BITS self.old) buffer width }
+        ensures added { entries_of OFFSET_BITS self.new ≡ with_buffer_of (entries_of OFFSET_BITS self.old) buffer width }
         ensures good { IsGood OFFSET_BITS (entries_of OFFSET_BITS self.new) }
     {
         let row = &mut self.rows[place_of(width)];

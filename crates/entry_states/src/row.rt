@@ -25,7 +25,7 @@ impl Model for Row {
 
 impl Row {
     ghost use Rattle.entry_shelf.specs.States.{spare_of, IsOpen, with_made, state_at, dropped, accepted, undone};
-    ghost use Rattle.entry_states.specs.Rows.{new_row, number_in, state_in, is_used_state, with_states};
+    ghost use Rattle.entry_states.specs.Rows.{new_row, number_in, state_in, is_used_entry, with_states};
 
     /// A row without buffers, each of which will have `capacity` entries.
     pub fn new(alloc: Global, capacity: u32) -> Self
@@ -81,7 +81,7 @@ impl Row {
     /// Drops an entry in use. `last` is the number of the last commit.
     pub fn drop_entry(&mut self, rank: u32, offset: u32, last: u32)
         requires fits { rank * self.old.capacity + self.old.capacity < 2 ^ 32 }
-        requires used { is_used_state (state_in self.old rank offset) ≡ true }
+        requires used { is_used_entry (state_in self.old rank offset) ≡ true }
         ensures { self.new ≡ with_states self.old (slice_set self.old.shelf.states (number_in self.old rank offset)
             (dropped last (state_at self.old.shelf.states (number_in self.old rank offset)))) }
     {

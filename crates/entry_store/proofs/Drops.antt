@@ -1,15 +1,16 @@
 -- The ledger after an entry is dropped.
 use Rattle.std.proofs.Common.{◌≡◌, ℕ, ◌+◌, ◌-◌, Bool, true, false, cond, eqb, List, [], Option, Some, None, refl, sym, ap, ◌∙◌, arith, inl, inr, ◌⊎◌}
 use Rattle.std.proofs.lemmas.Bool.{false≢true, cond-true, cond-false, cases_eq, eq-eqb, ne_eqb}
+use Rattle.list_facts.specs.Counting.{one_if}
 use Rattle.entry_shelf.specs.declared.state.State.{State}
 use Rattle.entry_shelf.specs.declared.state.State.TheVariants.{Free, Returned, Made, InUse, LetGo, DroppedNow, Dropped}
-use Rattle.entry_shelf.specs.States.{is_free as is_free_entry, is_used, dropped, undone}
+use Rattle.entry_shelf.specs.States.{is_free_state, is_used, dropped, undone}
 use Rattle.entry_ref.specs.References.{buffer_of}
 use Rattle.image_base.specs.Records.{Records}
 use Rattle.arena_api.specs.Works.{WorkView}
 use Rattle.store_api.specs.Statuses.{Status, in_use, is_open, is_free_status, is_let_go, has_record, after_drop, with_status}
 use Rattle.store_api.specs.Ledgers.{Ledger, MayDo, dropped_from, without_free, with_count}
-use Rattle.entry_states.specs.Entries.{EntriesView, with_state, dropped_at, one, is_let_go as is_let_go_state}
+use Rattle.entry_states.specs.Entries.{EntriesView, with_state, dropped_at, is_let_go_state}
 use Rattle.entry_store.specs.Standing.{status_by, status_of, back_of, records_of_statuses, ledger_of}
 use Rattle.entry_store.proofs.StateSteps.{with_state-at, dropped-back, in_use-used}
 
@@ -50,9 +51,9 @@ module _ {H : Type 0} (bits : ℕ) (work : WorkView H) (shape : ℕ) (m : Record
 
   -- the new ledger field by field
   step : (s : State) → e.state r ≡ Some s → is_used s ≡ true → (c : Status) (spare fresh gone : ℕ → ℕ) → status_by last (dropped last s) ≡ c
-      → ((w : ℕ) → with_count e.spare width (e.spare width + one (is_free_entry (dropped last s))) w ≡ spare w)
-      → ((w : ℕ) → with_count e.fresh width (e.fresh width - one (is_free_entry (dropped last s))) w ≡ fresh w)
-      → ((w : ℕ) → with_count e.gone width (e.gone width + one (is_let_go_state (dropped last s))) w ≡ gone w)
+      → ((w : ℕ) → with_count e.spare width (e.spare width + one_if (is_free_state (dropped last s))) w ≡ spare w)
+      → ((w : ℕ) → with_count e.fresh width (e.fresh width - one_if (is_free_state (dropped last s))) w ≡ fresh w)
+      → ((w : ℕ) → with_count e.gone width (e.gone width + one_if (is_let_go_state (dropped last s))) w ≡ gone w)
       → ledger_of work shape m (dropped_at bits e last r s) unit last ≡ record before { status = with_status before.status r c; spare = spare; fresh = fresh; gone = gone }
   step s is used c spare fresh gone now spares freshes gones = λ k. record before {
     status = λ q. (status-set last e.state r (dropped last s) q ∙ ap (λ x. with_status before.status r x q) now) k;
@@ -75,15 +76,15 @@ module _ {H : Type 0} (bits : ℕ) (work : WorkView H) (shape : ℕ) (m : Record
       by_test true at =
           let now : dropped last (InUse after) ≡ LetGo = cond-true (eqb after last) LetGo (DroppedNow after) at in
           step (InUse after) is used Status.let_go e.spare e.fresh (with_count e.gone width (e.gone width + 1)) (ap (status_by last) now)
-          (λ w. ap (λ x. with_count e.spare width (e.spare width + one (is_free_entry x)) w) now ∙ count-same e.spare width (e.spare width + 0) w (omega arith))
-          (λ w. ap (λ x. with_count e.fresh width (e.fresh width - one (is_free_entry x)) w) now ∙ count-same e.fresh width (e.fresh width - 0) w (omega arith))
-          (λ w. ap (λ x. with_count e.gone width (e.gone width + one (is_let_go_state x)) w) now)
+          (λ w. ap (λ x. with_count e.spare width (e.spare width + one_if (is_free_state x)) w) now ∙ count-same e.spare width (e.spare width + 0) w (omega arith))
+          (λ w. ap (λ x. with_count e.fresh width (e.fresh width - one_if (is_free_state x)) w) now ∙ count-same e.fresh width (e.fresh width - 0) w (omega arith))
+          (λ w. ap (λ x. with_count e.gone width (e.gone width + one_if (is_let_go_state x)) w) now)
       by_test false at =
           let now : dropped last (InUse after) ≡ DroppedNow after = cond-false (eqb after last) LetGo (DroppedNow after) at in
           step (InUse after) is used Status.dropped e.spare e.fresh e.gone (ap (status_by last) now)
-          (λ w. ap (λ x. with_count e.spare width (e.spare width + one (is_free_entry x)) w) now ∙ count-same e.spare width (e.spare width + 0) w (omega arith))
-          (λ w. ap (λ x. with_count e.fresh width (e.fresh width - one (is_free_entry x)) w) now ∙ count-same e.fresh width (e.fresh width - 0) w (omega arith))
-          (λ w. ap (λ x. with_count e.gone width (e.gone width + one (is_let_go_state x)) w) now ∙ count-same e.gone width (e.gone width + 0) w (omega arith))
+          (λ w. ap (λ x. with_count e.spare width (e.spare width + one_if (is_free_state x)) w) now ∙ count-same e.spare width (e.spare width + 0) w (omega arith))
+          (λ w. ap (λ x. with_count e.fresh width (e.fresh width - one_if (is_free_state x)) w) now ∙ count-same e.fresh width (e.fresh width - 0) w (omega arith))
+          (λ w. ap (λ x. with_count e.gone width (e.gone width + one_if (is_let_go_state x)) w) now ∙ count-same e.gone width (e.gone width + 0) w (omega arith))
   by_state LetGo is used = absurd (false≢true used)
   by_state (DroppedNow after) is used = absurd (false≢true used)
   by_state (Dropped after) is used = absurd (false≢true used)

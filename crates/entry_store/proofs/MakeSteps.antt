@@ -3,7 +3,7 @@ use Rattle.std.proofs.Common.{◌≡◌, ◌≢◌, ℕ, ◌+◌, ◌-◌, ◌<�
 use Rattle.std.proofs.lemmas.Bool.{true≢false, false≢true, cond-true, cond-false, cases_eq, eq-eqb, ne_eqb}
 use Rattle.entry_shelf.specs.declared.state.State.{State}
 use Rattle.entry_shelf.specs.declared.state.State.TheVariants.{Free, Returned, Made, InUse, LetGo, DroppedNow, Dropped}
-use Rattle.entry_shelf.specs.States.{is_free as is_free_entry}
+use Rattle.entry_shelf.specs.States.{is_free_state}
 use Rattle.entry_ref.specs.References.{buffer_of}
 use Rattle.image_base.specs.Places.{IsEntry}
 use Rattle.image_base.specs.Records.{Records, with_words}
@@ -11,34 +11,35 @@ use Rattle.arena_api.specs.Works.{WorkView, Buffer, Stored, active_width, last_t
 use Rattle.arena_api.specs.Calls.{IsLowestFree, handed_out, padded}
 use Rattle.store_api.specs.Statuses.{Status, in_use, is_open, has_record, with_status}
 use Rattle.store_api.specs.Ledgers.{Ledger, MayDo, IsSameBack, Makes, IsFull, with_count, one_more, capacity, active_count, is_width}
-use Rattle.entry_states.specs.Entries.{EntriesView, CanTake, with_state, made_at, with_buffer, is_open_state, is_free_state}
+use Rattle.entry_states.specs.Entries.{EntriesView, CanTake, with_state, made_at, with_buffer_of, is_open_entry, is_free_entry}
 use Rattle.entry_store.specs.Standing.{Stands, Puts, Opens, status_by, status_of, back_of, records_of_statuses, ledger_of}
 use Rattle.entry_store.specs.ProofsForStore.{unmade-none}
 use Rattle.entry_store.proofs.StateSteps.{with_state-at, free-status, free-undone}
-use Rattle.entry_store.proofs.Counts.{counts-all, capacity-some}
+use Rattle.entry_store.proofs.Counts.{counts-all}
+use Rattle.entry_states.proofs.Numbers.{capacity-some}
 
 -- an open entry has no record, now and in what an undo gives back
-open-status : (last : ℕ) (o : Option State) → is_open_state o ≡ true → is_open (status_of last o) ≡ true
+open-status : (last : ℕ) (o : Option State) → is_open_entry o ≡ true → is_open (status_of last o) ≡ true
 open-status last None h = refl
 open-status last (Some s) h = ap is_open (free-status last s h)
 
-open-none : (last : ℕ) (o : Option State) → is_open_state o ≡ true → (ws : List ℕ) → cond (has_record (status_of last o)) ws [] ≡ []
+open-none : (last : ℕ) (o : Option State) → is_open_entry o ≡ true → (ws : List ℕ) → cond (has_record (status_of last o)) ws [] ≡ []
 open-none last None h ws = refl
 open-none last (Some s) h ws = ap (λ c. cond (has_record c) ws []) (free-status last s h)
 
-back-none : (last : ℕ) (o : Option State) → is_open_state o ≡ true → (ws : List ℕ) → [] ≡ cond (has_record (back_of last o)) ws []
+back-none : (last : ℕ) (o : Option State) → is_open_entry o ≡ true → (ws : List ℕ) → [] ≡ cond (has_record (back_of last o)) ws []
 back-none last None h ws = refl
 back-none last (Some s) h ws = sym (ap (λ t. cond (has_record (status_by last t)) ws []) (free-undone last s h))
 
-same-back : (last : ℕ) (o : Option State) → is_open_state o ≡ true → IsSameBack (back_of last o) Status.free
+same-back : (last : ℕ) (o : Option State) → is_open_entry o ≡ true → IsSameBack (back_of last o) Status.free
 same-back last None h = inr (refl, refl)
 same-back last (Some s) h = inl (sym (ap (status_by last) (free-undone last s h)))
 
-free-state : (last : ℕ) (o : Option State) → status_of last o ≡ Status.free → is_free_state o ≡ true
+free-state : (last : ℕ) (o : Option State) → status_of last o ≡ Status.free → is_free_entry o ≡ true
 free-state last None e = (cc)
 free-state last (Some s) e = by_state s e
   where
-    by_state : (t : State) → status_by last t ≡ Status.free → is_free_entry t ≡ true
+    by_state : (t : State) → status_by last t ≡ Status.free → is_free_state t ≡ true
     by_state Free f = refl
     by_state Returned f = refl
     by_state Made f = (cc)
@@ -55,11 +56,11 @@ free-state last (Some s) e = by_state s e
         by_test true h = (cc)
         by_test false h = (cc)
 
-state-of-free : (o : Option State) → is_free_state o ≡ true → (s : State) × (o ≡ Some s)
+state-of-free : (o : Option State) → is_free_entry o ≡ true → (s : State) × (o ≡ Some s)
 state-of-free None h = absurd (false≢true h)
 state-of-free (Some s) h = (s, refl)
 
-open-of-free : (o : Option State) → is_free_state o ≡ true → is_open_state o ≡ true
+open-of-free : (o : Option State) → is_free_entry o ≡ true → is_open_entry o ≡ true
 open-of-free None h = absurd (false≢true h)
 open-of-free (Some s) h = h
 
@@ -81,7 +82,7 @@ module _ (e : ℕ → Option State) (m : Records) (last r : ℕ) (ws : List ℕ)
 
 module _ {H : Type 0} (bits : ℕ) (work : WorkView H) (shape : ℕ) (m : Records) (e : EntriesView) (unit : Bool) (last active : ℕ) (st : Stands bits work m e unit last active) where
   -- an entry is made, over buffers and entries of these widths
-  module _ (buffer : ℕ → Buffer) (stored : Stored) (width : ℕ) (f : EntriesView) (r : ℕ) (ws : List ℕ) (state : f.state ≡ e.state) (made : f.made ≡ e.made) (can : is_open_state (e.state r) ≡ true) where
+  module _ (buffer : ℕ → Buffer) (stored : Stored) (width : ℕ) (f : EntriesView) (r : ℕ) (ws : List ℕ) (state : f.state ≡ e.state) (made : f.made ≡ e.made) (can : is_open_entry (e.state r) ≡ true) where
     pub may-made : MayDo (ledger_of work shape m e unit last) (ledger_of (record work { buffer = buffer; stored = stored }) shape (with_words m r ws) (made_at f width r) unit last)
     may-made = record {
       unit = refl;
@@ -116,7 +117,7 @@ module _ {H : Type 0} (bits : ℕ) (work : WorkView H) (shape : ℕ) (m : Record
         back_records-at q = elim (cases_eq q r) [
           | inl same ↦
               ap (λ o. cond (has_record (back_of last o)) (with_words m r ws q) []) (cond-true (eqb q r) (Some Made) (e.state q) (eq-eqb q r same))
-              ∙ back-none last (e.state q) (subst (λ o. is_open_state o ≡ true) (sym (ap e.state same)) can) (m q)
+              ∙ back-none last (e.state q) (subst (λ o. is_open_entry o ≡ true) (sym (ap e.state same)) can) (m q)
           | inr ne ↦
               ap (λ o. cond (has_record (back_of last o)) (with_words m r ws q) []) (cond-false (eqb q r) (Some Made) (e.state q) (ne_eqb q r ne))
               ∙ ap (λ xs. cond (has_record (back_of last (e.state q))) xs []) (cond-false (eqb q r) ws (m q) (ne_eqb q r ne))
@@ -162,9 +163,9 @@ module _ {H : Type 0} (bits : ℕ) (work : WorkView H) (shape : ℕ) (m : Record
     }
 
   -- the first entry of a new buffer is taken
-  module _ (width b r : ℕ) (words : List ℕ) (none : e.spare width ≡ 0) (low : IsLowestFree work.buffer work.sizes.buffers b) (can : CanTake bits (with_buffer e b width) width r) (stored : Stored) where
+  module _ (width b r : ℕ) (words : List ℕ) (none : e.spare width ≡ 0) (low : IsLowestFree work.buffer work.sizes.buffers b) (can : CanTake bits (with_buffer_of e b width) width r) (stored : Stored) where
     -- no other buffer of the width has an entry that could be taken
-    taken : (q : ℕ) → IsEntry bits e.buffers e.words (e.width (buffer_of bits q)) q → e.width (buffer_of bits q) ≡ width → is_open_state (e.state q) ≡ true → ⊥
+    taken : (q : ℕ) → IsEntry bits e.buffers e.words (e.width (buffer_of bits q)) q → e.width (buffer_of bits q) ≡ width → is_open_entry (e.state q) ≡ true → ⊥
     taken q entry same open_is =
         let more = st.good.spares q entry open_is in
         omega (arith, more, ap e.spare same, none)
@@ -201,7 +202,7 @@ module _ {H : Type 0} (bits : ℕ) (work : WorkView H) (shape : ℕ) (m : Record
     ]
 
     pub makes-buffer : Makes bits (ledger_of work shape m e unit last)
-        (ledger_of (record (handed_out work b width) { stored = stored }) shape (with_words m r (padded words width)) (made_at (with_buffer e b width) width r) unit last)
+        (ledger_of (record (handed_out work b width) { stored = stored }) shape (with_words m r (padded words width)) (made_at (with_buffer_of e b width) width r) unit last)
         (records_of_statuses (λ q. status_of last (e.state q)) m)
         (records_of_statuses (λ q. status_of last (with_state e.state r Made q)) (with_words m r (padded words width))) width words r
     makes-buffer = record {
@@ -220,7 +221,7 @@ module _ {H : Type 0} (bits : ℕ) (work : WorkView H) (shape : ℕ) (m : Record
         lowest = subst (λ a. IsLowestFree work.buffer work.sizes.buffers a) (sym of-new) low;
         work = ap (λ a. record (handed_out work a width) { stored = stored }) (sym of-new);
         buffers = refl;
-        filled = ap (λ a. (with_buffer e a width).filled) (sym of-new);
+        filled = ap (λ a. (with_buffer_of e a width).filled) (sym of-new);
         spare = λ k w. spare-new w k;
       });
     }
@@ -266,13 +267,13 @@ module _ {H : Type 0} (bits : ℕ) (work new : WorkView H) (shape formed : ℕ) 
     opened : Opens work mid e e1 width
     opened = subst (λ w. Opens w mid e e1 width) work_same (subst (λ g. Opens mid0 mid g e1 width) entries_same opens)
 
-    can : CanTake bits (with_buffer e opened.buffer width) width r
+    can : CanTake bits (with_buffer_of e opened.buffer width) width r
     can = subst (λ g. CanTake bits g width r) opened.added puts.can
 
     work_is : new ≡ record (handed_out work opened.buffer width) { stored = new.stored }
     work_is = puts.work ∙ ap (λ (w : WorkView H). with_stores w new.stored) opened.work
 
-    entries_is : f ≡ made_at (with_buffer e opened.buffer width) width r
+    entries_is : f ≡ made_at (with_buffer_of e opened.buffer width) width r
     entries_is = puts.made ∙ ap (λ g. made_at g width r) opened.added
 
     records_is : n ≡ with_words m r (padded words width)
@@ -288,7 +289,7 @@ module _ {H : Type 0} (bits : ℕ) (work new : WorkView H) (shape formed : ℕ) 
     pub buffer-may : MayDo (ledger_of work shape m e unit last) (ledger_of new formed n f unit' last')
     buffer-may =
         along IsLawful work_is shape_is records_is entries_is unit_is last_is
-        (may-made bits work shape m e unit last active st (handed_out work opened.buffer width).buffer new.stored width (with_buffer e opened.buffer width) r (padded words width) refl refl can.is_open)
+        (may-made bits work shape m e unit last active st (handed_out work opened.buffer width).buffer new.stored width (with_buffer_of e opened.buffer width) r (padded words width) refl refl can.is_open)
 
 -- a full store
 pub is_full : {H : Type 0} (ledger : Ledger H) (width active held : ℕ) → ledger.spare width ≡ 0 → active ≡ active_count ledger.work.buffer ledger.work.sizes.buffers

@@ -11,7 +11,7 @@ use Rattle.arena_api.specs.Works.{WorkView, Buffer, active_width, last_image, la
 use Rattle.arena_api.specs.Calls.{InNoCommit, IsLowestFree, IsFresh, handed_out}
 use Rattle.store_api.specs.Statuses.{Status, has_record, is_committed, is_uncommitted}
 use Rattle.store_api.specs.Ledgers.{with_count, one_more}
-use Rattle.entry_states.specs.Entries.{EntriesView, new_entries, with_buffer, IsGood, with_state, undone_at, dropped_at, made_at, CanTake, is_open_state}
+use Rattle.entry_states.specs.Entries.{EntriesView, new_entries, with_buffer_of, IsGood, with_state, undone_at, dropped_at, made_at, CanTake, is_open_entry}
 use Rattle.entry_store.specs.Standing.{Stands, status_by, status_of, is_up_to}
 use Rattle.entry_store.proofs.Counts.{active_count-handed, active_count-free, free-width}
 use Rattle.entry_store.proofs.StateSteps.{IsWeaker, implied, weaker-same, with_state-at, undone-weaker, undone-up_to, undone-settled, dropped-weaker, dropped-up_to, free-status}
@@ -80,7 +80,7 @@ module _ {H : Type 0} (bits : ℕ) (work : WorkView H) (m : Records) (e : Entrie
 
   -- after a make
   module _ (width r : ℕ) (ws : List ℕ) (can : CanTake bits e width r) (some : 0 < length ws) (begun : unit ≡ true) where
-    open-uncommitted : (o : Option State) → is_open_state o ≡ true → is_uncommitted (status_of last o) ≡ true
+    open-uncommitted : (o : Option State) → is_open_entry o ≡ true → is_uncommitted (status_of last o) ≡ true
     open-uncommitted None h = refl
     open-uncommitted (Some s) h = ap is_uncommitted (free-status last s h)
 
@@ -146,7 +146,7 @@ module _ {H : Type 0} (bits : ℕ) (work : WorkView H) (m : Records) (e : Entrie
       by_test true = refl
       by_test false = st.width a below
 
-  pub stands-opened : IsGood bits (with_buffer e b width) → Stands bits (handed_out work b width) m (with_buffer e b width) unit last (active + 1)
+  pub stands-opened : IsGood bits (with_buffer_of e b width) → Stands bits (handed_out work b width) m (with_buffer_of e b width) unit last (active + 1)
   stands-opened good = record {
     good = good;
     buffers = st.buffers;

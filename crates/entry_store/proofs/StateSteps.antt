@@ -3,7 +3,7 @@ use Rattle.std.proofs.Common.{◌≡◌, ℕ, Bool, true, false, cond, eqb, Opti
 use Rattle.std.proofs.lemmas.Bool.{false≢true, cond-true, cond-false, cases_eq, eq-eqb, ne_eqb, ltb-true, leb-true, lt-ltb, le-leb}
 use Rattle.entry_shelf.specs.declared.state.State.{State}
 use Rattle.entry_shelf.specs.declared.state.State.TheVariants.{Free, Returned, Made, InUse, LetGo, DroppedNow, Dropped}
-use Rattle.entry_shelf.specs.States.{is_free, is_used, is_touched, dropped, undone}
+use Rattle.entry_shelf.specs.States.{is_free_state, is_used, is_touched, dropped, undone}
 use Rattle.store_api.specs.Statuses.{Status, in_use, has_record, is_committed, is_uncommitted}
 use Rattle.entry_states.specs.Entries.{with_state}
 use Rattle.entry_store.specs.Standing.{status_by, is_up_to}
@@ -124,7 +124,7 @@ in_use-used last (Dropped after) h = by_test (eqb after last) h
     by_test false f = f
 
 -- an entry that a make can take
-pub free-status : (last : ℕ) (s : State) → is_free s ≡ true → status_by last s ≡ Status.free
+pub free-status : (last : ℕ) (s : State) → is_free_state s ≡ true → status_by last s ≡ Status.free
 free-status last Free free = refl
 free-status last Returned free = refl
 free-status last Made free = absurd (false≢true free)
@@ -133,7 +133,7 @@ free-status last LetGo free = absurd (false≢true free)
 free-status last (DroppedNow after) free = absurd (false≢true free)
 free-status last (Dropped after) free = absurd (false≢true free)
 
-pub free-undone : (last : ℕ) (s : State) → is_free s ≡ true → undone last s ≡ Free
+pub free-undone : (last : ℕ) (s : State) → is_free_state s ≡ true → undone last s ≡ Free
 free-undone last Free free = refl
 free-undone last Returned free = refl
 free-undone last Made free = absurd (false≢true free)

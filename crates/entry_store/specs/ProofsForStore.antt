@@ -5,7 +5,7 @@ use Rattle.std.proofs.lemmas.List.Elements.{All-head, All-tail}
 use Rattle.std.proofs.lemmas.Bool.{true≢false, cond-true}
 use Rattle.entry_shelf.specs.declared.state.State.{State}
 use Rattle.entry_shelf.specs.declared.state.State.TheVariants.{Free, Returned, Made, InUse, LetGo, DroppedNow, Dropped}
-use Rattle.entry_shelf.specs.States.{is_free, is_touched, undone}
+use Rattle.entry_shelf.specs.States.{is_free_state, is_touched, undone}
 use Rattle.entry_ref.specs.References.{buffer_of}
 use Rattle.image_base.specs.Places.{IsEntry}
 use Rattle.image_base.specs.Records.{Records}
@@ -15,7 +15,7 @@ use Rattle.arena_api.specs.Calls.{FitsEntry}
 use Rattle.store_api.specs.Statuses.{Status, has_record, is_open, is_committed}
 use Rattle.store_api.specs.Ledgers.{IsSettled, IsEntryOf, is_width, capacity}
 use Rattle.store_api.proofs.Counting.{few_entries, few_nodes}
-use Rattle.entry_states.specs.Entries.{EntriesView, is_open_state}
+use Rattle.entry_states.specs.Entries.{EntriesView, is_open_entry}
 use Rattle.entry_store.specs.Standing.{Stands, status_by, status_of, back_of, ledger_of}
 
 -- a record that is filtered by its status is there
@@ -44,7 +44,7 @@ pub unmade-none : (last : ℕ) (o : Option State) → status_of last o ≡ Statu
 unmade-none last None e = refl
 unmade-none last (Some s) e = absurd (status_by-ne_unmade last s e)
 
-pub open-free : (last : ℕ) (s : State) → is_open (status_by last s) ≡ true → is_free s ≡ true
+pub open-free : (last : ℕ) (s : State) → is_open (status_by last s) ≡ true → is_free_state s ≡ true
 open-free last Free h = refl
 open-free last Returned h = refl
 open-free last Made h = h
@@ -61,7 +61,7 @@ open-free last (Dropped after) h = by_test (eqb after last) h
     by_test true f = f
     by_test false f = f
 
-pub open-state : (last : ℕ) (o : Option State) → is_open (status_of last o) ≡ true → is_open_state o ≡ true
+pub open-state : (last : ℕ) (o : Option State) → is_open (status_of last o) ≡ true → is_open_entry o ≡ true
 open-state last None h = refl
 open-state last (Some s) h = open-free last s h
 

@@ -9,7 +9,7 @@ use Rattle.arena_api.specs.Works.{WorkView, active_width, last_image}
 use Rattle.arena_api.specs.Calls.{InNoCommit, IsLowestFree, handed_out, padded}
 use Rattle.store_api.specs.Statuses.{Status, has_record, is_committed, is_uncommitted}
 use Rattle.store_api.specs.Ledgers.{Ledger, active_count}
-use Rattle.entry_states.specs.Entries.{EntriesView, IsGood, CanTake, made_at, with_buffer}
+use Rattle.entry_states.specs.Entries.{EntriesView, IsGood, CanTake, made_at, with_buffer_of}
 
 -- the status of an entry by its state, where this is the last commit
 abbrev pub status_by : ℕ → State → Status
@@ -93,4 +93,4 @@ pub record Opens {H : Type 0} (old new : WorkView H) (before after : EntriesView
   pub buffer : ℕ
   pub lowest : IsLowestFree old.buffer old.sizes.buffers buffer
   pub work : new ≡ handed_out old buffer width
-  pub added : after ≡ with_buffer before buffer width
+  pub added : after ≡ with_buffer_of before buffer width

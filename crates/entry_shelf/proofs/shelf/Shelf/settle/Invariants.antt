@@ -7,8 +7,7 @@ abbrev pub invariant-loop-entry : goal.invariant-loop-entry
 invariant-loop-entry l =
     let s = l.self-inside in
     record {
-      kept : IsShelf s.states.items s.free.items s.free_places.items s.touched.items s.touched_places.items s.room
-          (vec_capacity s.states) (vec_capacity s.free) (vec_capacity s.free_places) (vec_capacity s.touched) (vec_capacity s.touched_places);
+      kept : IsShelf s.states.items s.free.items s.touched.items s.room (vec_capacity s.states) (vec_capacity s.free) (vec_capacity s.touched);
       same : map (settled l.accepts l.last) s.states.items ≡ map (settled l.accepts l.last) l.fn.self.states;
       room : s.room ≡ l.fn.self.room;
       made : s.made ≡ l.fn.self.made;

@@ -1,6 +1,6 @@
 use Rattle.std.proofs.Common.{◌≡◌, ◌<◌, ◌+◌, ◌*◌, length, get_or, sym, ap, subst, ◌∙◌, arith}
 use Rattle.std.proofs.lemmas.List.{get_or_read}
-use Rattle.entry_states.specs.Entries.{IsGood, with_buffer}
+use Rattle.entry_states.specs.Entries.{IsGood, with_buffer_of}
 use Rattle.entry_states.specs.Rows.{RowView, RowsView, new_row, row_at, slot_at, spare_in, entries_of, AreRows}
 use Rattle.entry_states.proofs.Standing.{some-capacity, named-buffers}
 use Rattle.entry_states.proofs.Good.{good}
@@ -71,7 +71,7 @@ returns-clause-added g c =
     let put = put-added v c.args.buffer c.args.width c.place_of.result c.add_buffer-rank.result c.index_mut-row.result.now c.add_buffer-rank.new.self
     c.place_of.ensures.place row c.add_buffer-rank.ensures.added c.add_buffer-rank.ensures.rank in
     ap (entries_of g.row.OFFSET_BITS) put ∙ add-added g.row.OFFSET_BITS v c.self.invariant c.args.buffer c.args.width inside unused c.requires.width ready none
-    ∙ ap (λ (o : RowsView). with_buffer (entries_of g.row.OFFSET_BITS o) c.args.buffer c.args.width) c.self.view_is
+    ∙ ap (λ (o : RowsView). with_buffer_of (entries_of g.row.OFFSET_BITS o) c.args.buffer c.args.width) c.self.view_is
 
 pub returns-clause-good : goal.returns-clause-good
 unfolding entries_of

@@ -2,7 +2,7 @@ use Rattle.std.proofs.Common.{◌≡◌, ◌+◌, ◌-◌, ◌*◌, ◌≤◌, a
 use Rattle.std.proofs.Math.Nat.{mul-le-mul_left}
 use Rattle.image_base.specs.Records.{Records}
 use Rattle.arena_api.specs.Calls.{handed_out}
-use Rattle.entry_states.specs.Entries.{EntriesView, IsGood, with_buffer}
+use Rattle.entry_states.specs.Entries.{EntriesView, IsGood, with_buffer_of}
 use Rattle.entry_store.specs.Standing.{Stands}
 use Rattle.entry_store.proofs.Counts.{counts-all, free-width}
 use Rattle.entry_store.proofs.Stands.{stands-opened}
@@ -35,8 +35,8 @@ invariant_of-self-2 g c =
     let s = c.args.self.now in
     let h = c.in-Some.ensures in
     let ready : entries_of g.row.OFFSET_BITS c.reserve.new.self ≡ record (entries_of g.row.OFFSET_BITS s.entries) { ready = c.args.width } = search rules in
-    let added : entries_of g.row.OFFSET_BITS c.add_buffer.new.self ≡ with_buffer (entries_of g.row.OFFSET_BITS s.entries) c.in-Some.buffer c.args.width =
-    c.add_buffer.ensures.added ∙ ap (λ e. with_buffer e c.in-Some.buffer c.args.width) ready in
+    let added : entries_of g.row.OFFSET_BITS c.add_buffer.new.self ≡ with_buffer_of (entries_of g.row.OFFSET_BITS s.entries) c.in-Some.buffer c.args.width =
+    c.add_buffer.ensures.added ∙ ap (λ e. with_buffer_of e c.in-Some.buffer c.args.width) ready in
     let stands = stands-opened g.row.OFFSET_BITS (g.W.Work.knows s.work) (g.W.Frozen.records s.work) (entries_of g.row.OFFSET_BITS s.entries) s.unit s.last s.active c.in-Some.buffer c.args.width s.stands h.lowest
     (subst (IsGood g.row.OFFSET_BITS) added c.add_buffer.ensures.good) in
     record {
@@ -66,5 +66,5 @@ returns-clause-opens g c =
       buffer = c.in-Some.buffer;
       lowest = c.in-Some.ensures.lowest;
       work = c.in-Some.ensures.handed;
-      added = c.add_buffer.ensures.added ∙ ap (λ (e : EntriesView). with_buffer e c.in-Some.buffer c.args.width) ready;
+      added = c.add_buffer.ensures.added ∙ ap (λ (e : EntriesView). with_buffer_of e c.in-Some.buffer c.args.width) ready;
     }

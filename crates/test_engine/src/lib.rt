@@ -1,0 +1,11 @@
+//! Tests of references, images, the memory and the store, over their public calls, at both widths of references.
+#![tactic(auto)]
+
+#[cfg(test)]
+mod of_buffers;
+#[cfg(test)]
+mod of_memory;
+#[cfg(test)]
+mod of_references;
+#[cfg(test)]
+mod of_store;

@@ -1,0 +1,50 @@
+use entry_ref::EntryRef;
+use image_base::place_of;
+
+#[test]
+fn a_reference_is_its_offset_and_its_buffer(rt: HostRuntime) {
+    // offset, buffer, the reference
+    let rows = [
+        (0, 0, 0),
+        (0, 1023, 1023),
+        (1, 0, 1024),
+        (3, 2, 3074),
+        (4_194_303, 1023, u32::MAX),
+    ];
+    for (offset, buffer, raw) in rows {
+        let entry = EntryRef::<22>::new(offset, buffer);
+        assert_eq!(rt; entry.raw(), raw);
+        assert!(rt; entry == EntryRef::from_raw(raw));
+        assert_eq!(rt; (entry.offset(), entry.buffer(), entry.valid()), (offset, buffer, raw > 0));
+    }
+    let rows = [
+        (0, 0, 0),
+        (0, 8191, 8191),
+        (1, 0, 8192),
+        (3, 2, 24578),
+        (524_287, 8191, u32::MAX),
+    ];
+    for (offset, buffer, raw) in rows {
+        let entry = EntryRef::<19>::new(offset, buffer);
+        assert_eq!(rt; entry.raw(), raw);
+        assert!(rt; entry == EntryRef::from_raw(raw));
+        assert_eq!(rt; (entry.offset(), entry.buffer(), entry.valid()), (offset, buffer, raw > 0));
+    }
+}
+
+#[test]
+fn words_of_entries_stand_at_the_worked_places(rt: HostRuntime) {
+    // buffers, words of each, width; offset, buffer, word; the place
+    let rows = [
+        ((8, 8192, 34), (3, 2, 0), 16512),
+        ((8, 8192, 34), (3, 2, 33), 16545),
+        ((2, 8, 2), (1, 0, 0), 22),
+        ((2, 8, 2), (3, 1, 1), 35),
+    ];
+    for ((buffers, words, width), (offset, buffer, i), place) in rows {
+        let entry = EntryRef::<22>::new(offset, buffer);
+        assert_eq!(rt; place_of(buffers, words, width, entry, i), place);
+        let entry = EntryRef::<19>::new(offset, buffer);
+        assert_eq!(rt; place_of(buffers, words, width, entry, i), place);
+    }
+}
