@@ -1,0 +1,140 @@
+//! The open generation holds of an arena: a queue from the oldest to the newest, of at most 16.
+//!
+//! Readers raise the newest hold. The writer opens a closed hold and appends it where it begins a generation, and closes
+//! holds from the oldest on. The generation of the oldest open hold is the oldest one that a reader may stand on.
+#![tactic(auto)]
+
+ghost use Rattle.std.specs.Prelude.{◌≡◌, ◌↔◌, ◌<◌, ◌++◌, ◌∷◌, [], ℕ, List, false, length, IsNone, IfSome};
+ghost use Rattle.generation_handler.specs.Queues.{has_hold, oldest_of, newest_of, renewed};
+ghost use Rattle.generation_handler.specs.declared.HoldEntry.{HoldEntry};
+
+use arrayvec::ArrayVec;
+use std::marker::Model;
+
+/// The number of holds of an arena.
+pub const HOLDS: u32 = 16;
+
+/// An open hold, the generation that it serves, and the last commit as that generation began.
+#[derive(Clone, Copy, Debug, Default, PartialEq, Eq)]
+pub struct HoldEntry {
+    pub generation: u64,
+    pub hold: u32,
+    pub first_commit: u32,
+}
+
+/// The open holds. There is always one, and none is open twice.
+#[derive(Drop)]
+pub struct Holds {
+    queue: ArrayVec<HoldEntry, 16>,
+}
+
+impl Model for Holds {
+    ghost use Rattle.std.specs.Prelude.{List};
+    ghost use Rattle.generation_handler.specs.declared.HoldEntry.{HoldEntry};
+
+    ghost Value = { List HoldEntry };
+
+    ghost use Rattle.generation_handler.specs.Queues.{IsQueue};
+
+    ghost view = { λ holds. holds.queue.items };
+
+    ghost invariant = { λ holds. IsQueue holds.queue.items };
+}
+
+impl Holds {
+    ghost use Rattle.generation_handler.specs.Queues.{first_entry, has_hold, oldest_of, newest_of, renewed, IsQueue, IsLeastClosed};
+
+    /// The queue of a new arena: generation 0 on hold 0, from commit 0 on.
+    pub fn new() -> Self
+        ensures { result ≡ first_entry ∷ [] }
+    {
+        let mut queue = ArrayVec::new();
+        queue.push(HoldEntry {
+            generation: 0,
+            hold: 0,
+            first_commit: 0,
+        });
+        Holds { queue }
+    }
+
+    /// The number of open holds.
+    pub fn len(&self) -> u32
+        ensures value { result ≡ length self.now }
+        ensures queue { IsQueue self.now }
+    {
+        self.queue.len() as u32
+    }
+
+    pub fn oldest(&self) -> HoldEntry
+        ensures { result ≡ oldest_of self.now }
+    {
+        self.queue[0]
+    }
+
+    pub fn newest(&self) -> HoldEntry
+        ensures { result ≡ newest_of self.now }
+    {
+        self.queue[self.queue.len() - 1]
+    }
+
+    /// The closed hold of lowest number. None where all 16 are open.
+    pub fn open_next(&self) -> Option<u32>
+        ensures none { IsNone result ↔ (length self.now ≡ HOLDS) }
+        ensures least { IfSome result (IsLeastClosed self.now) }
+    {
+        for hold in 0..HOLDS {
+            if !is_open(&self.queue, hold) {
+                return Some(hold);
+            }
+        }
+        None
+    }
+
+    /// Puts a hold that is closed behind the newest.
+    pub fn append(&mut self, generation: u64, hold: u32, first_commit: u32)
+        requires hold { hold < HOLDS }
+        requires closed { has_hold self.old hold ≡ false }
+        ensures { self.new ≡ self.old ++ record { generation = generation; hold = hold; first_commit = first_commit } ∷ [] }
+    {
+        self.queue.push(HoldEntry {
+            generation,
+            hold,
+            first_commit,
+        });
+    }
+
+    /// Takes the oldest hold out, which is not the newest.
+    pub fn pop_oldest(&mut self) -> HoldEntry
+        requires { 1 < length self.old }
+        ensures { self.old ≡ result ∷ self.new }
+    {
+        self.queue.remove(0)
+    }
+
+    /// Gives the newest hold another generation, from another commit on.
+    pub fn renew(&mut self, generation: u64, first_commit: u32)
+        ensures { self.new ≡ renewed self.old generation first_commit }
+    {
+        if let Some(newest) = self.queue.pop() {
+            self.queue.push(HoldEntry {
+                generation,
+                hold: newest.hold,
+                first_commit,
+            });
+        }
+    }
+}
+
+/// A queue that is written out: its oldest, its newest, and itself with the newest renewed.
+pub fn queue_law()
+    ensures oldest { (oldest : HoldEntry) (newer : List HoldEntry) → oldest_of (oldest ∷ newer) ≡ oldest }
+    ensures newest { (older : List HoldEntry) (newest : HoldEntry) → newest_of (older ++ newest ∷ []) ≡ newest }
+    ensures renewed { (older : List HoldEntry) (newest : HoldEntry) (g c : ℕ) → renewed (older ++ newest ∷ []) g c
+        ≡ older ++ record newest { generation = g; first_commit = c } ∷ [] }
+{}
+
+fn is_open(queue: &[HoldEntry], hold: u32) -> bool
+    ensures { result ≡ has_hold queue.now hold }
+{
+    queue.iter().any(|entry| entry.hold == hold)
+}

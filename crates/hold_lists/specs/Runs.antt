@@ -1,0 +1,48 @@
+-- How the list is kept: the entries, and the runs of those that have one tag. Callers see specs/HeldEntry alone.
+use Rattle.std.specs.Prelude.{◌≡◌, ℕ, ◌-◌, ◌<◌, ◌≤◌, List, [], ◌∷◌, ◌++◌, length, map, take, drop, remove, slice_set, slice_index_or, sum_by, All, AllPairs, Some, Bool, true, nat_eq, if◌then◌else◌}
+use Rattle.hold_lists.specs.Held.{HeldEntry, untagged}
+use Rattle.hold_lists.specs.declared.Run.{Run}
+use Rattle.hold_lists.specs.declared.Place.{Place}
+
+abbrev pub run_at : List Run → ℕ → Run
+run_at runs i = slice_index_or runs i (record { generation = 0; commit = 0; count = 0 })
+
+-- an entry of a run
+abbrev pub under : Run → ℕ → HeldEntry
+under run entry = record { entry = entry; tag = Some (record { generation = run.generation; commit = run.commit }) }
+
+-- the entries of the runs in order, and behind them the untagged ones
+abbrev pub held_of : List Run → List ℕ → List HeldEntry
+held_of [] entries = map untagged entries
+held_of (run ∷ runs) entries = map (under run) (take run.count entries) ++ held_of runs (drop run.count entries)
+
+-- the number of tagged entries
+abbrev pub tagged_count : List Run → ℕ
+tagged_count runs = sum_by (λ run. run.count) runs
+
+-- no run has a generation below that of one before it
+pub record IsRising (runs : List Run) : Type 0 where
+  pub rises : AllPairs (λ older newer. older.generation ≤ newer.generation) runs
+
+-- a run with one entry less, and without the run if that was its last
+abbrev pub shortened : List Run → ℕ → List Run
+shortened runs i =
+    if nat_eq (run_at runs i).count 1 then remove runs i else
+    slice_set runs i (record (run_at runs i) { count = (run_at runs i).count - 1 })
+
+-- the first run below a generation, with the number of entries before it
+pub record IsRunBelow (runs : List Run) (oldest : ℕ) (place : Place) : Type 0 where
+  pub inside : place.run < length runs
+  pub before : place.before ≡ tagged_count (take place.run runs)
+  pub below : (run_at runs place.run).generation < oldest
+  pub earlier : (k : ℕ) → k < place.run → oldest ≤ (run_at runs k).generation
+
+-- what holds of each list
+pub record IsHoldList (runs : List Run) (entries : List ℕ) (tagged most : ℕ) (rises : Bool) (entry_capacity run_capacity : ℕ) : Type 0 where
+  pub counted : tagged_count runs ≡ tagged
+  pub within : tagged ≤ length entries
+  pub filled : All (λ run. 0 < run.count) runs
+  pub room : length entries ≤ most
+  pub entry_room : most ≤ entry_capacity
+  pub run_room : most ≤ run_capacity
+  pub rising : rises ≡ true → IsRising runs

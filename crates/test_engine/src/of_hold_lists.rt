@@ -1,0 +1,125 @@
+//! The hold list over pushes, tags and what is taken below a generation.
+use entry_ref::EntryRef;
+use hold_lists::HoldList;
+use std::alloc::{AllocError, Global};
+use std::process::Abort;
+use std::test::Fail;
+
+#[derive(Clone, Copy)]
+enum Step {
+    Push(u32),
+    Tag(u64, u32),
+    /// The oldest generation, and the entry that is taken.
+    Pop(u64, Option<u32>),
+}
+
+fn takes<const OFFSET_BITS: u32>(
+    rt: &impl Abort,
+    list: &mut HoldList<OFFSET_BITS>,
+    step: &Step,
+) -> Result<(), AllocError> {
+    match step {
+        Step::Push(entry) => {
+            list.reserve(1)?;
+            list.push(EntryRef::from_raw(*entry));
+        }
+        Step::Tag(generation, commit) => list.tag(*generation, *commit),
+        Step::Pop(oldest, wanted) => {
+            let taken = list.pop_below(*oldest);
+            assert_eq!(rt; taken.map(|entry| entry.raw()), *wanted);
+        }
+    }
+    Ok(())
+}
+
+fn runs<const OFFSET_BITS: u32>(
+    rt: &impl Abort,
+    alloc: Global,
+    steps: &[Step],
+) -> Result<(), AllocError> {
+    let mut list = HoldList::<OFFSET_BITS>::create(alloc)?;
+    for step in steps {
+        takes(rt, &mut list, step)?;
+    }
+    Ok(())
+}
+
+#[test]
+fn what_is_tagged_below_is_taken_in_order(rt: HostRuntime) -> Result<(), Fail> {
+    let rows: [&[Step]; 5] = [
+        // nothing is there, nothing is tagged
+        &[
+            Step::Pop(9, None),
+            Step::Tag(1, 1),
+            Step::Push(1024),
+            Step::Pop(u64::MAX, None),
+        ],
+        // strictly below, in the order of the pushes
+        &[
+            Step::Push(1024),
+            Step::Push(2048),
+            Step::Tag(3, 5),
+            Step::Push(3072),
+            Step::Pop(3, None),
+            Step::Pop(4, Some(1024)),
+            Step::Pop(4, Some(2048)),
+            Step::Pop(4, None),
+            Step::Tag(4, 6),
+            Step::Pop(4, None),
+            Step::Pop(5, Some(3072)),
+            Step::Pop(5, None),
+        ],
+        // two commits of one generation, and a tag without an entry between them
+        &[
+            Step::Push(1),
+            Step::Tag(7, 1),
+            Step::Tag(7, 2),
+            Step::Push(2),
+            Step::Tag(7, 3),
+            Step::Pop(7, None),
+            Step::Pop(8, Some(1)),
+            Step::Push(3),
+            Step::Pop(8, Some(2)),
+            Step::Pop(8, None),
+        ],
+        // a generation that falls: the first below is not the first of the list
+        &[
+            Step::Push(1),
+            Step::Push(2),
+            Step::Tag(5, 1),
+            Step::Push(3),
+            Step::Push(4),
+            Step::Tag(2, 2),
+            Step::Pop(2, None),
+            Step::Pop(4, Some(3)),
+            Step::Pop(6, Some(1)),
+            Step::Pop(3, Some(4)),
+            Step::Pop(5, None),
+            Step::Pop(6, Some(2)),
+            Step::Pop(6, None),
+        ],
+        // the greatest numbers
+        &[
+            Step::Push(u32::MAX),
+            Step::Tag(u64::MAX - 1, u32::MAX),
+            Step::Pop(u64::MAX - 1, None),
+            Step::Pop(u64::MAX, Some(u32::MAX)),
+        ],
+    ];
+    for steps in rows {
+        runs::<22>(&rt, rt.alloc(), steps)?;
+        runs::<19>(&rt, rt.alloc(), steps)?;
+    }
+    Ok(())
+}
+
+#[test]
+fn room_is_for_so_many_pushes(rt: HostRuntime) -> Result<(), Fail> {
+    let mut list = HoldList::<22>::create(rt.alloc())?;
+    list.reserve(2)?;
+    list.push(EntryRef::new(1, 0));
+    list.push(EntryRef::new(2, 0));
+    list.tag(1, 1);
+    assert_eq!(rt; list.pop_below(2), Some(EntryRef::new(1, 0)));
+    Ok(())
+}
