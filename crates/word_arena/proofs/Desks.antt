@@ -1,5 +1,5 @@
 -- What the ghost field of a writer gives at a call, and how it stands after a step.
-use Rattle.std.proofs.Common.{mul-le-mul_left, ◌≡◌, ◌≢◌, ℕ, ◌+◌, ◌*◌, ◌<◌, ◌≤◌, List, [], ◌∷◌, length, slice_index, refl, sym, ap, ◌∙◌, subst, arith}
+use Rattle.std.proofs.Common.{map, mul-le-mul_left, ◌≡◌, ◌≢◌, ℕ, ◌+◌, ◌*◌, ◌<◌, ◌≤◌, List, [], ◌∷◌, length, slice_index, refl, sym, ap, ◌∙◌, subst, arith}
 use Rattle.std.proofs.Props.{props}
 use mathlib.Core.Option.{none}
 use Rattle.entry_ref.specs.References.{buffer_of}
@@ -7,6 +7,8 @@ use Rattle.atomic_table.specs.Table.{Me, step}
 use Rattle.atomic_table.specs.Seated.{TableId}
 use Rattle.image_base.specs.Places.{base, place, size_of, IsEntry}
 use Rattle.image_base.proofs.Apart.{within, place-below}
+use Rattle.generation_handler.specs.declared.HoldEntry.{HoldEntry}
+use Rattle.gen_core.specs.Views.{open_holds}
 use Rattle.gen_core.specs.declared.views.Sizes.{Sizes}
 use Rattle.gen_core.specs.declared.views.Pending.TheVariants.{Nothing}
 use Rattle.gen_core.specs.declared.views.Buffer.{Buffer}
@@ -20,12 +22,12 @@ use Rattle.gen_core.specs.Good.{GoodView}
 use Rattle.gen_core.specs.Events.{with_reader, joined}
 use Rattle.arena_api.specs.Calls.{IsWithinLimits}
 use Rattle.word_arena.specs.Ruled.{Slot, writer_of, api_sizes, ToldLoadOwn}
-use Rattle.word_arena.specs.Knows.{IsDesk}
+use Rattle.word_arena.specs.Knows.{own_hold, IsDesk}
 use Rattle.gen_core.proofs.GoodViews.{records-placed}
 use Rattle.word_arena.proofs.Guards.{base-inside}
 
-pub desk-prop : (bits : ℕ) (arena : TableId) (sizes : Sizes) (buffers : List Buffer) (last made : ℕ) (z : TableId) (me : Me Slot View) → IsProp (IsDesk bits arena sizes buffers last made z me)
-desk-prop bits arena sizes buffers last made z me = hlevel props
+pub desk-prop : (bits : ℕ) (arena : TableId) (sizes : Sizes) (buffers : List Buffer) (holds : List HoldEntry) (last made : ℕ) (z : TableId) (me : Me Slot View) → IsProp (IsDesk bits arena sizes buffers holds last made z me)
+desk-prop bits arena sizes buffers holds last made z me = hlevel props
 
 -- what is good of a view is good of it with another number of readers, and with more that was seen
 pub good-reader : (w : WriterView) → GoodView w → GoodView (with_reader w)
@@ -34,16 +36,16 @@ good-reader w g = record { count = g.count; some_word = g.some_word; queue = g.q
 pub good-joined : (w : WriterView) (r : ReaderView) → GoodView w → GoodView (joined w r)
 good-joined w r g = record { count = g.count; some_word = g.some_word; queue = g.queue; tags = g.tags; empty = g.empty; records = g.records; apart = g.apart; unstored = g.unstored }
 
-module _ {bits : ℕ} {arena : TableId} {sizes : Sizes} {buffers : List Buffer} {last made : ℕ} {z : TableId} {me : Me Slot View} (d : IsDesk bits arena sizes buffers last made z me) where
+module _ {bits : ℕ} {arena : TableId} {sizes : Sizes} {buffers : List Buffer} {holds : List HoldEntry} {last made : ℕ} {z : TableId} {me : Me Slot View} (d : IsDesk bits arena sizes buffers holds last made z me) where
   abbrev pub w : WriterView
   w = writer_of me.0
 
   -- the desk after a step to the view v
-  pub desk_after : {z' : TableId} {me' : Me Slot View} {buffers' : List Buffer} {last' made' : ℕ} (v : WriterView) → z' ≡ z → me' ≡ (Writer v, me.1) → v.sizes ≡ w.sizes → v.buffers ≡ buffers'
-      → last' ≡ last_number v.commits → made' ≡ v.made → v.queue.pending ≡ Nothing → GoodView v → IsDesk bits arena sizes buffers' last' made' z' me'
-  desk_after {z'} {me'} {buffers'} {last'} {made'} v same is size of number count calm good =
+  pub desk_after : {z' : TableId} {me' : Me Slot View} {buffers' : List Buffer} {holds' : List HoldEntry} {last' made' : ℕ} (v : WriterView) → z' ≡ z → me' ≡ (Writer v, me.1) → v.sizes ≡ w.sizes → v.buffers ≡ buffers' → map own_hold (open_holds v.queue) ≡ holds'
+      → last' ≡ last_number v.commits → made' ≡ v.made → v.queue.pending ≡ Nothing → GoodView v → IsDesk bits arena sizes buffers' holds' last' made' z' me'
+  desk_after {z'} {me'} {buffers'} {holds'} {last'} {made'} v same is size of queue number count calm good =
       let slots : me.1 ≡ [] = ap (λ (m : Me Slot View). m.1) d.is in
-      let P : Me Slot View → Type 0 = λ m. IsDesk bits arena sizes buffers' last' made' z' m in
+      let P : Me Slot View → Type 0 = λ m. IsDesk bits arena sizes buffers' holds' last' made' z' m in
       subst P (sym (is ∙ (λ k. (Writer v, slots k)))) (record {
         own = same ∙ d.own;
         is = refl;
@@ -53,6 +55,7 @@ module _ {bits : ℕ} {arena : TableId} {sizes : Sizes} {buffers : List Buffer} 
         limits = subst (λ (x : Sizes). IsWithinLimits bits (api_sizes x)) (sym size) d.limits;
         product = subst (λ (x : Sizes). x.buffers * x.words ≤ 67108864) (sym size) d.product;
         same_buffers = of;
+        same_holds = queue;
         commits = number;
         readers = count;
         calm = calm;

@@ -20,7 +20,8 @@ use Rattle.gen_core.specs.Work.{place_in, writer_records, stored_by}
 use Rattle.gen_core.specs.Good.{GoodView}
 use Rattle.gen_core.specs.Conditions.{MayStoreWord}
 use Rattle.gen_core.specs.Events.{stored, published}
-use Rattle.gen_core.proofs.Lists.{at_same, at_other, at_longer}
+use Rattle.gen_core.proofs.Lists.{at_longer}
+use Rattle.list_facts.proofs.Places.{slice_get-set_same, slice_get-set_other}
 use Rattle.gen_core.proofs.ViewLemmas.{last_at, last_image-push}
 use Rattle.gen_core.proofs.WriterRecords.{records-published}
 use Rattle.gen_core.proofs.GoodViews.{some-commit, floor-last, unkept-avoids}
@@ -79,11 +80,11 @@ module _ (w : WriterView) (g : GoodView w) (b : ℕ) (tag : Option Tag) (width :
   buffers-given : {H : Type 0} (home : H) (a : ℕ) → (view_of home (given w b width tag)).buffer a ≡ api_with_buffer (view_of home w).buffer b (ApiBuffer.active width (api_last_tag ((view_of home w).buffer b))) a
   buffers-given home a = elim (cases_eq a b) [
     | inl e ↦
-        ap (λ c. api_buffer (slice_get (set w.buffers b (Active width tag)) c)) e ∙ ap api_buffer (at_same w.buffers b (Active width tag) within-buffers)
+        ap (λ c. api_buffer (slice_get (set w.buffers b (Active width tag)) c)) e ∙ ap api_buffer (slice_get-set_same w.buffers b (Active width tag) within-buffers)
         ∙ ap (λ o. ApiBuffer.active width (api_last_tag (api_buffer o))) (sym free)
         ∙ ap (λ t. cond t (ApiBuffer.active width (api_last_tag ((view_of home w).buffer b))) ((view_of home w).buffer a)) (sym (eq-eqb a b e))
     | inr ne ↦
-        ap api_buffer (at_other w.buffers b a (Active width tag) ne) ∙ ap (λ t. cond t (ApiBuffer.active width (api_last_tag ((view_of home w).buffer b))) ((view_of home w).buffer a)) (sym (ne_eqb a b ne))
+        ap api_buffer (slice_get-set_other w.buffers b a (Active width tag) ne) ∙ ap (λ t. cond t (ApiBuffer.active width (api_last_tag ((view_of home w).buffer b))) ((view_of home w).buffer a)) (sym (ne_eqb a b ne))
   ]
 
   pub hand-knows : {H : Type 0} (home : H) → view_of home (given w b width tag) ≡ api_handed_out (view_of home w) b width

@@ -7,6 +7,7 @@ use Rattle.image_base.specs.declared.Image.{Image}
 use Rattle.image_base.specs.Images.{no_image}
 use Rattle.image_base.specs.Places.{size_of}
 use Rattle.gen_core.specs.declared.views.Sizes.{Sizes}
+use Rattle.generation_handler.specs.declared.HoldEntry.{HoldEntry}
 use Rattle.gen_core.specs.declared.views.OpenHold.{OpenHold}
 use Rattle.gen_core.specs.declared.views.Tag.{Tag}
 use Rattle.gen_core.specs.declared.views.Pending.TheVariants.{Nothing}
@@ -55,8 +56,12 @@ view_of home w = record {
   made = w.made;
 }
 
+-- an open hold as the writer's own queue has it
+abbrev pub own_hold : OpenHold → HoldEntry
+own_hold e = record { generation = e.generation; hold = e.hold; first_commit = e.first_commit }
+
 -- what a writer has beside its view
-pub record IsDesk (bits : ℕ) (arena : TableId) (sizes : Sizes) (buffers : List Buffer) (last made : ℕ) (z : TableId) (me : Me Slot View) : Type 0 where
+pub record IsDesk (bits : ℕ) (arena : TableId) (sizes : Sizes) (buffers : List Buffer) (holds : List HoldEntry) (last made : ℕ) (z : TableId) (me : Me Slot View) : Type 0 where
   pub own : z ≡ arena
   pub is : me ≡ (Writer (writer_of me.0), [])
   pub words : z.words ≡ size_of sizes.buffers sizes.words
@@ -65,6 +70,7 @@ pub record IsDesk (bits : ℕ) (arena : TableId) (sizes : Sizes) (buffers : List
   pub limits : IsWithinLimits bits (api_sizes (writer_of me.0).sizes)
   pub product : (writer_of me.0).sizes.buffers * (writer_of me.0).sizes.words ≤ 67108864
   pub same_buffers : (writer_of me.0).buffers ≡ buffers
+  pub same_holds : map own_hold (open_holds (writer_of me.0).queue) ≡ holds
   pub commits : last ≡ last_number (writer_of me.0).commits
   pub readers : made ≡ (writer_of me.0).made
   pub calm : (writer_of me.0).queue.pending ≡ Nothing

@@ -9,6 +9,7 @@ use Rattle.image_base.specs.declared.Image.{Image}
 use Rattle.image_base.specs.Images.{no_image, record_at, words_at}
 use Rattle.image_base.specs.Places.{IsEntry}
 use Rattle.image_base.proofs.Apart.{entry-small}
+use Rattle.generation_handler.specs.declared.HoldEntry.{HoldEntry}
 use Rattle.gen_core.specs.declared.views.Sizes.{Sizes}
 use Rattle.gen_core.specs.declared.views.OpenHold.{OpenHold}
 use Rattle.gen_core.specs.declared.views.Pending.{Pending}
@@ -149,5 +150,5 @@ work_stored home w bits same r i x e =
 pub work_references : (w : WriterView) → GoodView w → (bits : ℕ) → w.sizes.offset_bits ≡ bits → IsWithinLimits bits (api_sizes w.sizes) → (r : ℕ) → 0 < length (writer_records w r) → r < 2 ^ 32
 work_references w g bits same l r some = entry-small (records-placed w g r some).inside l.few_words (subst (λ b. w.sizes.words ≤ offset_limit b) (sym same) l.offsets)
 
-pub desk_bits : {bits : ℕ} {arena : TableId} {sizes : Sizes} {buffers : List Buffer} {last made : ℕ} {z : TableId} {me : Me Slot View} → IsDesk bits arena sizes buffers last made z me → (writer_of me.0).sizes.offset_bits ≡ bits
+pub desk_bits : {bits : ℕ} {arena : TableId} {sizes : Sizes} {buffers : List Buffer} {holds : List HoldEntry} {last made : ℕ} {z : TableId} {me : Me Slot View} → IsDesk bits arena sizes buffers holds last made z me → (writer_of me.0).sizes.offset_bits ≡ bits
 desk_bits d = ap (λ (x : Sizes). x.offset_bits) d.same_sizes ∙ d.same_bits

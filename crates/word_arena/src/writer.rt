@@ -19,6 +19,7 @@ use crate::rule::Place;
 use frozen_api::Frozen;
 use entry_ref::EntryRef;
 use gen_core::{Buffer, Sizes};
+use generation_handler::Holds;
 use image_base::{Layout, place_of};
 use std::alloc::{AllocError, Global};
 
@@ -27,10 +28,11 @@ pub struct Writer<'a, const OFFSET_BITS: u32, L: Layout> {
     pub(crate) arena: &'a Arena<OFFSET_BITS, L>,
     pub(crate) sizes: Sizes,
     pub(crate) buffers: Vec<Buffer>,
+    pub(crate) holds: Holds,
     pub(crate) last: u32,
     pub(crate) made: u32,
     pub(crate) place: Place,
-    ghost stands: { IsDesk OFFSET_BITS arena.now.table.shared.table_id sizes buffers.items last made place.table_id place.me },
+    ghost stands: { IsDesk OFFSET_BITS arena.now.table.shared.table_id sizes buffers.items holds last made place.table_id place.me },
 }
 
 impl<const OFFSET_BITS: u32, L: Layout> Arena<OFFSET_BITS, L> {
@@ -49,6 +51,7 @@ impl<const OFFSET_BITS: u32, L: Layout> Arena<OFFSET_BITS, L> {
             arena: self,
             sizes,
             buffers,
+            holds: Holds::new(),
             last: 0,
             made: 0,
             place,

@@ -17,4 +17,4 @@ invariant_of-self g c =
     let s = c.args.self.now in
     let w = writer_of s.place.me.0 in
     let e = c.split_seat-place.ensures in
-    record { stands = desk_after s.stands (with_reader w) e.0 e.2 refl s.stands.same_buffers s.stands.commits (ap (λ (n : ℕ). n + 1) s.stands.readers) s.stands.calm (good-reader w s.stands.good) }
+    record { stands = desk_after s.stands (with_reader w) e.0 e.2 refl s.stands.same_buffers s.stands.same_holds s.stands.commits (ap (λ (n : ℕ). n + 1) s.stands.readers) s.stands.calm (good-reader w s.stands.good) }

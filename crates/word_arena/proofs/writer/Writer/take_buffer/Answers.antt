@@ -71,7 +71,7 @@ invariant_of-self g c =
         ap (λ (l : List Buffer). last_tag_in l b) (s.stands.same_buffers ∙ sym c.as_slice.ensures.value) ∙ sym c.last_of-last.ensures in
     let list : v.buffers ≡ set s.buffers.items b (Active c.from-3.result c.last_of-last.result) =
         ap (λ (x : WriterView). x.buffers) steps ∙ (λ k. set (s.stands.same_buffers k) b (Active (value k) (tag k))) in
-    record { stands = desk_after s.stands v (f.0 ∙ e.0) (second.is ∙ ap (λ (m : Me Slot View). (Writer (widened (writer_of m.0) b c.from-2.result), m.1)) first) refl list
+    record { stands = desk_after s.stands v (f.0 ∙ e.0) (second.is ∙ ap (λ (m : Me Slot View). (Writer (widened (writer_of m.0) b c.from-2.result), m.1)) first) refl list s.stands.same_holds
         s.stands.commits s.stands.readers s.stands.calm (subst (λ (x : WriterView). GoodView (widened x b c.from-2.result)) mid second.good) }
 
 pub returns-clause-view : goal.returns-clause-view

@@ -61,5 +61,5 @@ returns-clause-same g c =
     let w = c.load-width.ensures in
     let l = c.load.ensures in
     let seat = seat_same s.place c.load.new.seat (l.0 ∙ w.0) (l.1 ∙ w.1) (l.2.same ∙ w.2.same) in
-    subst (λ (p : Seat Slot View). (st : IsDesk g.row.OFFSET_BITS s.arena.now.table.shared.table_id s.sizes s.buffers.items s.last s.made p.table_id p.me) → record s { place = p; stands = st } ≡ s) (sym seat)
-    (λ st. ap (λ x. record s { stands = x }) (desk-prop _ _ _ _ _ _ _ _ st s.stands)) _
+    subst (λ (p : Seat Slot View). (st : IsDesk g.row.OFFSET_BITS s.arena.now.table.shared.table_id s.sizes s.buffers.items s.holds s.last s.made p.table_id p.me) → record s { place = p; stands = st } ≡ s) (sym seat)
+    (λ st. ap (λ x. record s { stands = x }) (desk-prop _ _ _ _ _ _ _ _ _ st s.stands)) _
