@@ -5,7 +5,7 @@ use mathlib.Core.Logic.{dite}
 use native.Mathlib.Decide.{ℕ_discrete}
 use mathlib.Core.Option.{none}
 use Rattle.std.specs.Prelude.{slice_get, ◌||◌}
-use Rattle.atomic_table.specs.Table.{Act, Valid, step, keeps, stepped, carried_after, Allows}
+use Rattle.atomic_table.specs.Table.{Me, Act, Valid, step, keeps, stepped, carried_after, Allows}
 use Rattle.atomic_table.proofs.Lists.{exchanged}
 use Rattle.image_base.specs.Records.{Records}
 use Rattle.image_base.specs.Places.{state_place}
@@ -156,3 +156,47 @@ module _ (reaches : ℕ → Records → ℕ → List ℕ) (lawful : ℕ → Reco
           ruled_by reaches lawful sizes t id w (stopped w found) k _ refl
             (subst (λ (l : List ℕ). Good reaches lawful (record { words = l; writer = stopped w found; readers = k.readers })) (sym (set_back t.words (hold_place w.queue.newest.hold))) good),
           record { hit = λ zero. absurd (ne zero); miss = λ _. record { is = refl; good = good_view reaches lawful _ good } }))
+
+-- the same at a seat whose view is known
+module _ (reaches : ℕ → Records → ℕ → List ℕ) (lawful : ℕ → Records → ℕ → Type 0) (sizes : Sizes) (slots id : ℕ) (me : Me Slot View) where
+  pub hold_owed : (w : WriterView) (b width p : ℕ) → me ≡ (Writer w, []) → p ≡ state_place b → MayPutOnHold w b width
+      → Allows (Ruled reaches lawful sizes) slots id me p (λ _. 2) (λ _. told_hold (step slots p 2 0 none) me 2)
+  hold_owed w b width p is at may =
+      let P : Me Slot View × ℕ → Type 0 = λ x. Allows (Ruled reaches lawful sizes) slots id x.0 x.1 (λ _. 2) (λ _. told_hold (step slots x.1 2 0 none) x.0 2) in
+      subst P (λ i. (sym is i, sym at i)) (hold_allowed reaches lawful sizes slots id w b width may)
+
+  pub free_owed : (w : WriterView) (b : ℕ) (tag : Tag) (p : ℕ) → me ≡ (Writer w, []) → p ≡ state_place b → MayFree w b tag
+      → Allows (Ruled reaches lawful sizes) slots id me p (λ _. 0) (λ _. told_free (step slots p 0 0 none) me 0)
+  free_owed w b tag p is at may =
+      let P : Me Slot View × ℕ → Type 0 = λ x. Allows (Ruled reaches lawful sizes) slots id x.0 x.1 (λ _. 0) (λ _. told_free (step slots x.1 0 0 none) x.0 0) in
+      subst P (λ i. (sym is i, sym at i)) (free_allowed reaches lawful sizes slots id w b tag may)
+
+  pub reopen_owed : (w : WriterView) (h p : ℕ) → me ≡ (Writer w, []) → p ≡ hold_place h → MayReopen w h
+      → Allows (Ruled reaches lawful sizes) slots id me p (λ n. (n + (2 ^ 64 - 1)) % 2 ^ 64) (told_reopen (step slots p 1 0 none) me)
+  reopen_owed w h p is at may =
+      let P : Me Slot View × ℕ → Type 0 = λ x. Allows (Ruled reaches lawful sizes) slots id x.0 x.1 (λ n. (n + (2 ^ 64 - 1)) % 2 ^ 64) (told_reopen (step slots x.1 1 0 none) x.0) in
+      subst P (λ i. (sym is i, sym at i)) (reopen_allowed reaches lawful sizes slots id w h may)
+
+  pub store_newest_owed : (w : WriterView) (h n : ℕ) → me ≡ (Writer w, []) → n ≡ newest_word (coming_hold w h) → w.queue.pending ≡ Next h
+      → Allows (Ruled reaches lawful sizes) slots id me 1 (λ _. n) (λ _. told_store_newest (step slots 1 n 0 none) me n)
+  store_newest_owed w h n is at next =
+      let P : Me Slot View × ℕ → Type 0 = λ x. Allows (Ruled reaches lawful sizes) slots id x.0 1 (λ _. x.1) (λ _. told_store_newest (step slots 1 x.1 0 none) x.0 x.1) in
+      subst P (λ i. (sym is i, sym at i)) (store_newest_allowed reaches lawful sizes slots id w h next)
+
+  pub morph_owed : (w : WriterView) (n : ℕ) → me ≡ (Writer w, []) → n ≡ newest_word (coming_hold w w.queue.newest.hold) → w.queue.pending ≡ Probed
+      → Allows (Ruled reaches lawful sizes) slots id me 1 (λ _. n) (λ _. told_morph (step slots 1 n 0 none) me n)
+  morph_owed w n is at probed =
+      let P : Me Slot View × ℕ → Type 0 = λ x. Allows (Ruled reaches lawful sizes) slots id x.0 1 (λ _. x.1) (λ _. told_morph (step slots 1 x.1 0 none) x.0 x.1) in
+      subst P (λ i. (sym is i, sym at i)) (morph_allowed reaches lawful sizes slots id w probed)
+
+  pub close_owed : (w : WriterView) (e : OpenHold) (es : List OpenHold) (p : ℕ) → me ≡ (Writer w, []) → p ≡ hold_place e.hold → w.queue.pending ≡ Nothing → w.queue.older ≡ e ∷ es
+      → Allows (Ruled reaches lawful sizes) slots id me p (λ n. either (eqb n 0) 1 n) (told_close (step slots p 0 1 none) me)
+  close_owed w e es p is at calm older =
+      let P : Me Slot View × ℕ → Type 0 = λ x. Allows (Ruled reaches lawful sizes) slots id x.0 x.1 (λ n. either (eqb n 0) 1 n) (told_close (step slots x.1 0 1 none) x.0) in
+      subst P (λ i. (sym is i, sym at i)) (close_allowed reaches lawful sizes slots id w e es calm older)
+
+  pub probe_owed : (w : WriterView) (p : ℕ) → me ≡ (Writer w, []) → p ≡ hold_place w.queue.newest.hold → w.queue.pending ≡ Nothing → w.queue.newest.generation + 1 ≤ w.sizes.generation_limit
+      → Allows (Ruled reaches lawful sizes) slots id me p (λ n. n) (told_probe (step slots p 0 0 none) me)
+  probe_owed w p is at calm left =
+      let P : Me Slot View × ℕ → Type 0 = λ x. Allows (Ruled reaches lawful sizes) slots id x.0 x.1 (λ n. n) (told_probe (step slots x.1 0 0 none) x.0) in
+      subst P (λ i. (sym is i, sym at i)) (probe_allowed reaches lawful sizes slots id w calm left)

@@ -3,6 +3,7 @@
 
 mod arena;
 mod buffers;
+mod holds;
 mod plays;
 mod reader;
 mod rule;

@@ -1,5 +1,6 @@
 //! What each step tells.
 ghost use Rattle.word_arena.specs.Ruled.{told_hand_out, told_width, told_store, told_publish, told_load_root, told_load_newest, told_raise, told_bounce, told_release, told_load_word, told_load_own, cut_left, cut_right, glued};
+ghost use Rattle.word_arena.specs.WriterHolds.{told_reopen, told_store_newest, told_morph, told_probe, told_close, told_hold, told_free};
 ghost use Rattle.gen_core.specs.declared.views.View.TheVariants.{Reader};
 ghost use Rattle.gen_core.specs.Views.{spent};
 
@@ -92,4 +93,46 @@ pub(crate) struct Release;
 
 impl Play<(), View> for Release {
     ghost then = { told_release };
+}
+
+pub(crate) struct PutOnHold;
+
+impl Play<(), View> for PutOnHold {
+    ghost then = { told_hold };
+}
+
+pub(crate) struct FreeBuffer;
+
+impl Play<(), View> for FreeBuffer {
+    ghost then = { told_free };
+}
+
+pub(crate) struct Reopen;
+
+impl Play<(), View> for Reopen {
+    ghost then = { told_reopen };
+}
+
+pub(crate) struct StoreNewest;
+
+impl Play<(), View> for StoreNewest {
+    ghost then = { told_store_newest };
+}
+
+pub(crate) struct Close;
+
+impl Play<(), View> for Close {
+    ghost then = { told_close };
+}
+
+pub(crate) struct Probe;
+
+impl Play<(), View> for Probe {
+    ghost then = { told_probe };
+}
+
+pub(crate) struct Morph;
+
+impl Play<(), View> for Morph {
+    ghost then = { told_morph };
 }
