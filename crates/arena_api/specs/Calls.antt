@@ -1,12 +1,11 @@
 -- What the calls of a work ask and change.
 use Rattle.std.specs.Prelude.{◌-◌, replicate, length, ◌≡◌, ℕ, ◌+◌, ◌^◌, ◌<◌, ◌≤◌, ◌&&◌, true, false, nat_eq, if◌then◌else◌, List, [], ◌∷◌, ◌++◌, None, Some}
-use Rattle.std.specs.List.{AllByRecursion}
 use Rattle.entry_ref.specs.References.{buffer_of, buffer_limit, offset_limit}
 use Rattle.image_base.specs.declared.Image.{Image}
 use Rattle.image_base.specs.Images.{no_image, image_of, words_at}
 use Rattle.image_base.specs.Places.{IsEntry}
 use Rattle.image_base.specs.Records.{Records}
-use Rattle.arena_api.specs.Works.{Sizes, Buffer, Hold, Commits, Stored, WorkView, active_width, is_free, last_tag}
+use Rattle.arena_api.specs.Works.{Sizes, Buffer, Commits, Stored, WorkView, active_width, is_free, last_tag, first_hold, oldest_of}
 
 -- from 1 buffer to as many as can be named, of 8,192 to 65,536 words, whose offsets can be named; commits fit 32 bits, generations 48
 pub record IsWithinLimits (bits : ℕ) (sizes : Sizes) : Type 0 where
@@ -24,7 +23,7 @@ opened home sizes told = record {
   home = home;
   sizes = sizes;
   buffer = λ b. Buffer.free None;
-  queue = record { generation = 0; hold = 0; first = 0 } ∷ [];
+  queue = first_hold ∷ [];
   commits = record { floor = 0; last = 0; image = λ n. no_image };
   stored = λ r i. None;
   told = told;
@@ -33,8 +32,9 @@ opened home sizes told = record {
   made = 0;
 }
 
--- nothing is committed or handed out yet
+-- nothing is committed or handed out yet, and no generation was left
 pub record IsFresh {H : Type 0} (work : WorkView H) : Type 0 where
+  pub queue : work.queue ≡ first_hold ∷ []
   pub floor : work.commits.floor ≡ 0
   pub last : work.commits.last ≡ 0
   pub image : work.commits.image 0 ≡ no_image
@@ -111,14 +111,8 @@ told_after (i ∷ is) image = (i ∷ is) ++ image ∷ []
 abbrev pub published : {H : Type 0} → WorkView H → Commits → Image → WorkView H
 published work commits image = record work { commits = commits; stored = nothing_stored; told = told_after work.told image }
 
--- the first commit of the oldest hold
-abbrev pub oldest_first : List Hold → ℕ
-oldest_first [] = 0
-oldest_first (h ∷ hs) = h.first
-
 -- the floor is the last commit or below it, and no hold stands for commits below the floor
 pub record IsInOrder {H : Type 0} (work : WorkView H) : Type 0 where
   pub floor : work.commits.floor ≤ work.commits.last
   pub limit : work.commits.last ≤ work.sizes.commits
-  pub oldest : oldest_first work.queue ≤ work.commits.floor
-  pub holds : AllByRecursion (λ h. h.generation ≤ work.sizes.generations) work.queue
+  pub oldest : (oldest_of work.queue).first ≤ work.commits.floor

@@ -1,5 +1,5 @@
 -- What a work knows: the sizes, each buffer, the open holds, the commits that are kept, and what was stored since the last.
-use Rattle.std.specs.Prelude.{ℕ, suc, zero, ◌+◌, Bool, true, false, if◌then◌else◌, List, Option, Some}
+use Rattle.std.specs.Prelude.{ℕ, suc, zero, ◌+◌, Bool, true, false, if◌then◌else◌, List, [], ◌∷◌, Option, Some}
 use Rattle.image_base.specs.declared.Image.{Image}
 
 -- the numbers of buffers and of words in each, and the highest numbers of a commit and of a generation
@@ -25,6 +25,19 @@ pub record Hold : Type 0 where
   pub generation : ℕ
   pub hold : ℕ
   pub first : ℕ
+
+-- what a work begins with: generation 0 on hold 0, for readers from commit 0 on
+abbrev pub first_hold : Hold
+first_hold = record { generation = 0; hold = 0; first = 0 }
+
+abbrev pub oldest_of : List Hold → Hold
+oldest_of [] = first_hold
+oldest_of (h ∷ hs) = h
+
+abbrev pub newest_of : List Hold → Hold
+newest_of [] = first_hold
+newest_of (h ∷ []) = h
+newest_of (h ∷ g ∷ hs) = newest_of (g ∷ hs)
 
 -- the commits from the floor to the last are kept, each with its image
 pub record Commits : Type 0 where

@@ -1,6 +1,9 @@
-//! What every memory does: a work stores words, hands out buffers and publishes roots.
+//! What every memory does: a work stores words, hands out buffers, publishes roots, and gives
+//! buffers again once no reader can have them.
 #![tactic(auto)]
 
+mod answers;
 mod work;
 
+pub use answers::{Advance, Oldest};
 pub use work::Work;

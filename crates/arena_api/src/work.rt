@@ -1,12 +1,14 @@
-ghost use Rattle.std.specs.Prelude.{◌≡◌, ◌≢◌, ◌<◌, ◌≤◌, ◌+◌, ◌-◌, ◌*◌, ◌↔◌, ℕ, List, length, slice_index, Some, IsNone, IfSome, IfNone};
+ghost use Rattle.std.specs.Prelude.{◌≡◌, ◌≢◌, ◌<◌, ◌≤◌, ◌+◌, ◌-◌, ◌*◌, ◌↔◌, ◌⊎◌, ℕ, List, length, slice_index, Some, IsNone, IfSome, IfNone};
 ghost use Rattle.std.specs.List.{AllByRecursion};
 ghost use Rattle.entry_ref.specs.References.{buffer_of};
 ghost use Rattle.image_base.specs.Images.{words_at};
 ghost use Rattle.image_base.specs.Places.{IsEntry};
 ghost use Rattle.image_base.specs.Records.{Records, with_words};
 ghost use Rattle.arena_api.specs.Works.{WorkView, Buffer, active_width, width_of, free_count, last_image};
+ghost use Rattle.arena_api.specs.Generations.{IsQueue, IsHeldUnder, MayRetire, retired, Advances, advanced, LetsGo, Reclaims, reclaimed};
 ghost use Rattle.arena_api.specs.Calls.{IsWithinLimits, IsInOrder, IsKept, InNoCommit, IsWordIn, MayStore, FitsEntry, IsLowestFree, AddsCommit, with_stored, padded, handed_out, next_image, published};
 
+use crate::answers::{Advance, Oldest};
 use entry_ref::EntryRef;
 use frozen_api::Frozen;
 use image_base::Layout;
@@ -70,6 +72,31 @@ pub trait Work<const OFFSET_BITS: u32>: Frozen<OFFSET_BITS> {
             ≡ words_at (next_image Self.Layout.reaches (Self.shape self.old) (Self.records self.old) root.entry) }
         ensures shape { Self.shape self.new ≡ Self.shape self.old };
 
+    /// Puts an active buffer on hold, under the current generation and the last commit.
+    fn retire_buffer(&mut self, buffer: u32)
+        requires { MayRetire OFFSET_BITS (knows self.old) buffer }
+        ensures knows { knows self.new ≡ retired (knows self.old) buffer }
+        ensures records { Self.records self.new ≡ Self.records self.old }
+        ensures shape { Self.shape self.new ≡ Self.shape self.old };
+
+    /// Makes the next generation current, so that readers to come can be told from those that are there.
+    fn advance(&mut self) -> Advance
+        ensures holds { Advances result (knows self.old) (knows self.new) }
+        ensures commits { LetsGo (knows self.old).commits (knows self.new).commits }
+        ensures knows { knows self.new ≡ advanced (knows self.old) (knows self.new) }
+        ensures alone { (knows self.old).made ≡ 0 → (knows self.new).stops ≡ (knows self.old).stops }
+        ensures records { Self.records self.new ≡ Self.records self.old }
+        ensures shape { Self.shape self.new ≡ Self.shape self.old };
+
+    /// Closes the oldest holds up to the first that is in use, and frees the buffers on hold that no reader can have.
+    fn reclaim(&mut self) -> Oldest
+        ensures holds { Reclaims result (knows self.old) (knows self.new) }
+        ensures commits { LetsGo (knows self.old).commits (knows self.new).commits }
+        ensures knows { knows self.new ≡ reclaimed (knows self.old) (knows self.new) }
+        ensures alone { (knows self.old).made ≡ 0 → (knows self.new).stops ≡ (knows self.old).stops }
+        ensures records { Self.records self.new ≡ Self.records self.old }
+        ensures shape { Self.shape self.new ≡ Self.shape self.old };
+
     /// How many buffers are free.
     fn free_buffers(&self) -> u32
         ensures { result ≡ free_count (knows self.now).buffer (knows self.now).sizes.buffers };
@@ -88,6 +115,8 @@ pub trait Work<const OFFSET_BITS: u32>: Frozen<OFFSET_BITS> {
     ghost limits: { (s : Self) → IsWithinLimits OFFSET_BITS (knows s).sizes };
 
     ghost total_words: { (s : Self) → (knows s).sizes.buffers * (knows s).sizes.words ≤ 67108864 };
+
+    ghost queue: { (s : Self) → IsQueue (knows s) };
 
     ghost order: { (s : Self) → IsInOrder (knows s) };
 
@@ -108,8 +137,16 @@ pub trait Work<const OFFSET_BITS: u32>: Frozen<OFFSET_BITS> {
         → length ws ≡ active_width ((knows s).buffer (buffer_of OFFSET_BITS r))
         → ((i : ℕ) → i < length ws → (knows s).stored r i ≡ Some (slice_index ws i)) → Self.records s r ≡ ws };
 
+    // a record is of the last commit, or was stored whole since
+    ghost only: { (s : Self) (r : ℕ) → 0 < length (Self.records s r)
+        → (Self.records s r ≡ words_at (last_image (knows s).commits) r)
+        ⊎ ((i : ℕ) → i < length (Self.records s r) → (knows s).stored r i ≡ Some (slice_index (Self.records s r) i)) };
+
     // only words of active buffers were stored
     ghost stored: { (s : Self) (r i w : ℕ) → (knows s).stored r i ≡ Some w → IsWordIn OFFSET_BITS (knows s) r i };
+
+    // what is on hold went there by the current generation and the last commit, and no commit since has anything in it
+    ghost held: { (s : Self) (b w : ℕ) (t : _) → (knows s).buffer b ≡ Buffer.held w t → IsHeldUnder OFFSET_BITS (knows s) b t };
 
     // the last tag of a free buffer is below each open generation
     ghost tags: { (s : Self) (b : ℕ) (t : _) → (knows s).buffer b ≡ Buffer.free (Some t)

@@ -1,7 +1,7 @@
 //! Records that can be read: what every structure asks of the memory that it is read from.
 #![tactic(auto)]
 
-ghost use Rattle.std.specs.Prelude.{◌≡◌, ◌<◌, ◌^◌, ℕ, length};
+ghost use Rattle.std.specs.Prelude.{◌≡◌, ◌<◌, ◌≤◌, ◌+◌, ◌^◌, ℕ, length, take, drop};
 ghost use Rattle.image_base.specs.Records.{Records, HasWord, word_at};
 
 use entry_ref::EntryRef;
@@ -18,6 +18,18 @@ pub trait Frozen<const OFFSET_BITS: u32> {
         requires { HasWord (records self.old) entry i }
         ensures value { result ≡ word_at (records self.old) entry.entry i }
         ensures same { self.new ≡ self.old };
+
+    /// Reads words of a record, from word `first` on, as many as there is room for.
+    fn read(&mut self, entry: EntryRef<OFFSET_BITS>, first: u32, into: &mut [u64])
+        requires there { first + length into.old ≤ length (records self.old entry) }
+        requires few { first + length into.old < 2 ^ 32 }
+        ensures words { into.new ≡ take (length into.old) (drop first (records self.old entry.entry)) }
+        ensures same { self.new ≡ self.old }
+    {
+        for i in 0..into.len() {
+            into[i] = self.word(entry, first + i as u32);
+        }
+    }
 
     // a record's reference fits 32 bits
     ghost references: { (s : Self) (r : ℕ) → 0 < length (records s r) → r < 2 ^ 32 };

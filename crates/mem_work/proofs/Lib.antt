@@ -1,5 +1,7 @@
 pub mod Free
 pub mod Handed
+pub mod Marked
+pub mod Cleared
 pub mod Views
 pub mod WidthLemmas
 pub mod Ranges

@@ -1,9 +1,11 @@
 -- What a work in memory knows, and which records it has, after each call.
-use Rattle.std.proofs.Common.{◌≡◌, ◌≢◌, ℕ, zero, suc, ◌+◌, ◌*◌, ◌<◌, ◌≤◌, inl, inr, true, false, cond, List, [], length, get_or, set, Option, Some, None, refl, sym, ap, subst, ◌∙◌, arith, get_or-set_same, get_or-set_other}
+use Rattle.std.proofs.Common.{◌≡◌, ◌≢◌, ℕ, zero, suc, ◌+◌, ◌*◌, ◌<◌, ◌≤◌, inl, inr, true, false, cond, List, [], length, take, drop, length-take, length-drop, get_or, set, Option, Some, None, refl, sym, ap, subst, ◌∙◌, arith, get_or-set_same, get_or-set_other}
 use Rattle.std.specs.Option.{IfSome, IfNone}
 use Rattle.std.proofs.Math.Nat.{mul-le-mul_right}
 use Rattle.std.proofs.Math.ListN.{replicate}
-use Rattle.std.proofs.lemmas.List.{length-replicate}
+use Rattle.std.proofs.lemmas.List.{length-replicate, get_or-take, get_or-drop}
+use Rattle.std.proofs.lemmas.Grind.{same_number_lists}
+use Rattle.mem_work.proofs.Ranges.{range-fits}
 use Rattle.std.proofs.lemmas.Bool.{false_from_ne_true, cases_eq, cond-false}
 use Rattle.std.proofs.lemmas.Nat.{same_from_place}
 use Rattle.list_facts.proofs.Places.{slice_index-zeros}
@@ -15,7 +17,11 @@ use Rattle.image_base.specs.Records.{Records, SameAt, AllThere}
 use Rattle.arena_api.specs.Works.{is_free}
 use Rattle.arena_api.specs.Calls.{next_image, with_stored, handed_out, published, AddsCommit, IsLowestFree, opened}
 use Rattle.mem_work.specs.Cells.{width_in, begin_of, standing, is_whole, stored_in, image_in, records_in, buffer_by, buffers_in, memory_view, sizes_of}
-use Rattle.mem_work.specs.ProofsForMemory.{standing-entry, word-standing}
+use Rattle.mem_work.specs.Marks.{mark_at, marked, marked_buffers, with_marks, IsMark}
+use Rattle.mem_work.specs.declared.marks.Mark.{Mark}
+use Rattle.mem_work.specs.declared.marks.Mark.TheVariants.{Fresh}
+use Rattle.mem_work.proofs.Marked.{fresh-at, free-width, mark-handed, with_marks-handed}
+use Rattle.mem_work.specs.ProofsForMemory.{standing-entry, length-standing, word-standing}
 use Rattle.mem_work.proofs.Standing.{standing-other, whole-other, stored-store, width-store, cond-same, cell-below}
 use Rattle.mem_work.proofs.Standing.{whole-first}
 use Rattle.mem_work.specs.ProofsForMemory.{is_stored}
@@ -168,50 +174,84 @@ module _ (reaches : ℕ → Records → ℕ → List ℕ) (lawful : ℕ → Reco
       let at = standing-entry table bits buffers words r i (subst (λ ws. i < length ws) (sym stands) h) in
       (at.0, at.1, ap (λ ws. get_or ws i 0) (sym stands) ∙ word-standing table bits buffers words r i at.0 at.1)
 
-  -- a buffer is handed out, or none is
-  module _ (width : ℕ) (wide : 0 < width) (some : 0 < words) (room : length table ≡ buffers * words) (also : length stamps ≡ buffers * words)
-      (unused : (b x : ℕ) → x < words → width_in table words b ≡ 0 → get_or stamps (b * words + x) 0 ≤ last) where
-    free-width : (w : ℕ) → is_free (buffer_by w) ≡ true → w ≡ 0
-    free-width zero free = refl
-    free-width (suc w) free = absurd (cc)
+  -- words of a record are those that stand
+  pub record-words : length table ≡ buffers * words → (r first n : ℕ) → 0 < n → first + n ≤ length (records_in reaches shape table stamps bits buffers words last root r)
+      → IsEntry bits buffers words (width_in table words (buffer_of bits r)) r × (first + n ≤ width_in table words (buffer_of bits r))
+      × (take n (drop (begin_of bits words (width_in table words (buffer_of bits r)) r + first) table) ≡ take n (drop first (records_in reaches shape table stamps bits buffers words last root r)))
+  record-words room r first n some within_it =
+      let w = width_in table words (buffer_of bits r) in
+      let from = begin_of bits words w r in
+      let all = records_in reaches shape table stamps bits buffers words last root r in
+      let stands = records-stand reaches shape table stamps bits buffers words last root r (omega arith) in
+      let e = (standing-entry table bits buffers words r 0 (omega (arith, ap length stands))).0 in
+      let long = length-standing table bits buffers words r room e in
+      let wide : first + n ≤ w = omega (arith, within_it, ap length stands, long) in
+      let fits = range-fits bits buffers words w r (length table) e room in (
+        e,
+        wide,
+        same_number_lists (take n (drop (from + first) table)) (take n (drop first all)) (simp (length-take, length-drop) (omega (arith, fits, within_it))) (λ k h.
+            let less : k < n = omega (arith, simp length-take at h) in
+            get_or-take n (drop (from + first) table) k 0 less ∙ get_or-drop (from + first) table k 0
+            ∙ ap (λ i. get_or table i 0) (let at : from + first + k ≡ from + (first + k) = omega arith in at)
+            ∙ sym (word-standing table bits buffers words r (first + k) e (omega (arith, less, wide)))
+            ∙ ap (λ ws. get_or ws (first + k) 0) stands
+            ∙ sym (get_or-take n (drop first all) k 0 less ∙ get_or-drop first all k 0)),
+      )
 
+  -- a buffer is handed out, or none is
+  module _ (marks : List Mark) (width : ℕ) (wide : 0 < width) (some : 0 < words) (room : length table ≡ buffers * words) (also : length stamps ≡ buffers * words)
+      (unused : (b x : ℕ) → x < words → width_in table words b ≡ 0 → get_or stamps (b * words + x) 0 ≤ last) where
     first-inside : (b : ℕ) → b < buffers → b * words < length table
     first-inside b below =
         let more : suc b * words ≤ buffers * words = mul-le-mul_right words below in
         omega arith
 
-    pub hand_out-view : (o : Option ℕ) (t : List ℕ) → IfSome o (IsLowestFree (buffers_in table words) buffers) → IfSome o (λ b. t ≡ set table (b * words) width)
-        → IfSome o (λ b. memory_view reaches shape t stamps bits buffers words last root ≡ handed_out (memory_view reaches shape table stamps bits buffers words last root) b width)
-    hand_out-view None t low at = tt
-    hand_out-view (Some b) t low at =
-        let free = free-width _ low.free in
-        ap (λ (ws : List ℕ). memory_view reaches shape ws stamps bits buffers words last root) at
-        ∙ view-handed b width free some (first-inside b low.below) wide also (λ x h. unused b x h free)
+    pub hand_out-view : (generation first : ℕ) (o : Option ℕ) (t : List ℕ) → IfSome o (IsLowestFree (marked_buffers marks (buffers_in table words)) buffers) → IfSome o (λ b. t ≡ set table (b * words) width)
+        → IfSome o (λ b. with_marks (memory_view reaches shape t stamps bits buffers words last root) marks generation first
+        ≡ handed_out (with_marks (memory_view reaches shape table stamps bits buffers words last root) marks generation first) b width)
+    hand_out-view generation first None t low at = tt
+    hand_out-view generation first (Some b) t low at =
+        let free = free-width _ _ low.free in
+        ap (λ (ws : List ℕ). with_marks (memory_view reaches shape ws stamps bits buffers words last root) marks generation first) at
+        ∙ ap (λ v. with_marks v marks generation first) (view-handed b width free some (first-inside b low.below) wide also (λ x h. unused b x h free))
+        ∙ with_marks-handed (memory_view reaches shape table stamps bits buffers words last root) marks generation first b width (width_in table words b) wide refl low.free
 
-    pub hand_out-records : (o : Option ℕ) (t : List ℕ) → IfSome o (IsLowestFree (buffers_in table words) buffers) → IfSome o (λ b. t ≡ set table (b * words) width) → IfNone o (t ≡ table)
+    pub hand_out-marks : (generation first : ℕ) (o : Option ℕ) (t : List ℕ) → IfSome o (IsLowestFree (marked_buffers marks (buffers_in table words)) buffers)
+        → IfSome o (λ b. t ≡ set table (b * words) width) → IfNone o (t ≡ table)
+        → ((b : ℕ) → IsMark generation first last (width_in table words b) (mark_at marks b))
+        → (b : ℕ) → IsMark generation first last (width_in t words b) (mark_at marks b)
+    hand_out-marks generation first None t low at same old b = subst (λ (ws : List ℕ). IsMark generation first last (width_in ws words b) (mark_at marks b)) (sym same) (old b)
+    hand_out-marks generation first (Some a) t low at same old b =
+        let free = free-width _ _ low.free in
+        subst (λ (ws : List ℕ). IsMark generation first last (width_in ws words b) (mark_at marks b)) (sym at) (elim (cases_eq b a) [
+          | inl e ↦ subst (λ k. IsMark generation first last (width_in (set table (a * words) width) words k) (mark_at marks k)) (sym e) (mark-handed generation first last (width_in table words a) (mark_at marks a) low.free (old a) _)
+          | inr ne ↦ subst (λ w. IsMark generation first last w (mark_at marks b)) (sym (width-other table bits buffers words a width free some (first-inside a low.below) wide b ne)) (old b)
+        ])
+
+    pub hand_out-records : (o : Option ℕ) (t : List ℕ) → IfSome o (IsLowestFree (marked_buffers marks (buffers_in table words)) buffers) → IfSome o (λ b. t ≡ set table (b * words) width) → IfNone o (t ≡ table)
         → records_in reaches shape t stamps bits buffers words last root ≡ records_in reaches shape table stamps bits buffers words last root
     hand_out-records None t low at same = ap (λ (ws : List ℕ). records_in reaches shape ws stamps bits buffers words last root) same
     hand_out-records (Some b) t low at same =
-        let free = free-width _ low.free in
+        let free = free-width _ _ low.free in
         ap (λ (ws : List ℕ). records_in reaches shape ws stamps bits buffers words last root) at
         ∙ (λ k q. records-handed b width free some (first-inside b low.below) wide also (λ x h. unused b x h free) q k)
 
-    pub hand_out-lawful : (o : Option ℕ) (t : List ℕ) → IfSome o (IsLowestFree (buffers_in table words) buffers) → IfSome o (λ b. t ≡ set table (b * words) width) → IfNone o (t ≡ table)
+    pub hand_out-lawful : (o : Option ℕ) (t : List ℕ) → IfSome o (IsLowestFree (marked_buffers marks (buffers_in table words)) buffers) → IfSome o (λ b. t ≡ set table (b * words) width) → IfNone o (t ≡ table)
         → ∥ lawful shape (standing t bits buffers words) root ∥₁
     hand_out-lawful None t low at same = subst (λ (ws : List ℕ). ∥ lawful shape (standing ws bits buffers words) root ∥₁) (sym same) law
     hand_out-lawful (Some b) t low at same =
-        let free = free-width _ low.free in
+        let free = free-width _ _ low.free in
         subst (λ (ws : List ℕ). ∥ lawful shape (standing ws bits buffers words) root ∥₁) (sym at)
         (lawful-handed b width free some (first-inside b low.below) wide also (λ x h. unused b x h free))
 
-    pub hand_out-unused : (o : Option ℕ) (t : List ℕ) → IfSome o (IsLowestFree (buffers_in table words) buffers) → IfSome o (λ b. t ≡ set table (b * words) width) → IfNone o (t ≡ table)
+    pub hand_out-unused : (o : Option ℕ) (t : List ℕ) → IfSome o (IsLowestFree (marked_buffers marks (buffers_in table words)) buffers) → IfSome o (λ b. t ≡ set table (b * words) width) → IfNone o (t ≡ table)
         → (b x : ℕ) → x < words → width_in t words b ≡ 0 → get_or stamps (b * words + x) 0 ≤ last
     hand_out-unused None t low at same b x h free = unused b x h (subst (λ (ws : List ℕ). width_in ws words b ≡ 0) same free)
     hand_out-unused (Some a) t low at same b x h free =
         unused b x h (elim (cases_eq b a) [
-          | inl e ↦ subst (λ k. width_in table words k ≡ 0) (sym e) (free-width _ low.free)
+          | inl e ↦ subst (λ k. width_in table words k ≡ 0) (sym e) (free-width _ _ low.free)
           | inr ne ↦
-              sym (width-other table bits buffers words a width (free-width _ low.free) some (first-inside a low.below) wide b ne)
+              sym (width-other table bits buffers words a width (free-width _ _ low.free) some (first-inside a low.below) wide b ne)
               ∙ subst (λ (ws : List ℕ). width_in ws words b ≡ 0) at free
         ])
 
@@ -226,9 +266,9 @@ module _ (reaches : ℕ → Records → ℕ → List ℕ) (empty : (shape : ℕ)
   no_image-opened : image_in reaches shape (zeros n) bits buffers words 0 ≡ no_image
   no_image-opened = ap (λ refs. image_of refs (standing (zeros n) bits buffers words) 0) (empty shape (standing (zeros n) bits buffers words))
 
-  pub view-opened : memory_view reaches shape (zeros n) (zeros n) bits buffers words 0 0 ≡ opened tt (sizes_of buffers words) []
+  pub view-opened : with_marks (memory_view reaches shape (zeros n) (zeros n) bits buffers words 0 0) (replicate buffers Fresh) 0 0 ≡ opened tt (sizes_of buffers words) []
   view-opened = λ k. record (opened tt (sizes_of buffers words) []) {
-    buffer = λ b. buffer_by (slice_index-zeros n (b * words) k);
+    buffer = λ b. marked (fresh-at buffers b k) (buffer_by (slice_index-zeros n (b * words) k));
     commits = record { floor = 0; last = 0; image = λ m. no_image-opened k };
     stored = λ r i.
         none-from (stored_in (zeros n) (zeros n) bits buffers words (0 + 1) r i) (λ x is.

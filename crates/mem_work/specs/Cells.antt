@@ -6,7 +6,7 @@ use Rattle.entry_ref.specs.References.{buffer_of, offset_of}
 use Rattle.image_base.specs.declared.Image.{Image}
 use Rattle.image_base.specs.Images.{words_at}
 use Rattle.image_base.specs.Records.{Records}
-use Rattle.arena_api.specs.Works.{Sizes, Buffer, Hold, Stored, WorkView}
+use Rattle.arena_api.specs.Works.{Sizes, Buffer, Stored, WorkView, first_hold}
 use Rattle.arena_api.specs.Calls.{next_image}
 
 -- the width of a buffer's entries
@@ -67,17 +67,13 @@ buffers_in table words b = buffer_by (width_in table words b)
 abbrev pub sizes_of : ℕ → ℕ → Sizes
 sizes_of buffers words = record { buffers = buffers; words = words; commits = 2 ^ 32 - 1; generations = 2 ^ 48 - 1 }
 
--- the one hold of a work without readers
-abbrev pub only_hold : Hold
-only_hold = record { generation = 0; hold = 0; first = 0 }
-
--- what a work in memory knows: it has no readers and keeps the last commit alone
+-- what the words of a memory tell: it has no readers and keeps the last commit alone
 abbrev pub memory_view : (ℕ → Records → ℕ → List ℕ) → ℕ → List ℕ → List ℕ → ℕ → ℕ → ℕ → ℕ → ℕ → WorkView (Unit {0})
 memory_view reaches shape table stamps bits buffers words last root = record {
   home = tt;
   sizes = sizes_of buffers words;
   buffer = buffers_in table words;
-  queue = only_hold ∷ [];
+  queue = first_hold ∷ [];
   commits = record { floor = last; last = last; image = λ n. image_in reaches shape table bits buffers words root };
   stored = stored_in table stamps bits buffers words (last + 1);
   told = [];

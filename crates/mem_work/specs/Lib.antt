@@ -1,4 +1,5 @@
 pub mod Cells
+pub mod Marks
 pub mod Entries
 pub mod OneRecord
 pub mod ProofsForMemory

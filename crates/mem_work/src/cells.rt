@@ -1,10 +1,13 @@
-ghost use Rattle.std.specs.Prelude.{◌≡◌, ◌↔◌, ◌<◌, ◌≤◌, ◌+◌, ◌*◌, ℕ, [], IsNone, IfSome, IfNone, IfOk, length, vec_len, slice_index, slice_set, replicate};
+ghost use Rattle.std.specs.Prelude.{◌≡◌, ◌↔◌, ◌<◌, ◌≤◌, ◌+◌, ◌*◌, ℕ, [], IsNone, IfSome, IfNone, IfOk, length, vec_len, slice_index, slice_set, take, drop, map, replicate};
 ghost use Rattle.entry_ref.specs.References.{buffer_of, buffer_limit, offset_limit};
 ghost use Rattle.image_base.specs.Places.{IsEntry};
-ghost use Rattle.arena_api.specs.Works.{free_count};
+ghost use Rattle.arena_api.specs.Works.{is_free, free_count};
 ghost use Rattle.arena_api.specs.Calls.{IsLowestFree, padded};
 ghost use Rattle.mem_work.specs.Cells.{width_in, begin_of, with_range, buffers_in};
+ghost use Rattle.mem_work.specs.Marks.{freed, marked_buffers};
+ghost use Rattle.mem_work.specs.declared.marks.Mark.TheVariants.{Fresh, Held};
 
+use crate::marks::Mark;
 use entry_ref::EntryRef;
 use std::alloc::{AllocError, Global};
 
@@ -15,8 +18,10 @@ pub struct Cells<const OFFSET_BITS: u32> {
     pub words: u32,
     pub table: Vec<u64>,
     pub stamps: Vec<u64>,
+    pub marks: Vec<Mark>,
     ghost room: { vec_len table ≡ buffers * words },
     ghost stamped: { vec_len stamps ≡ buffers * words },
+    ghost marked: { vec_len marks ≡ buffers },
     ghost some_buffers: { 1 ≤ buffers },
     ghost few_buffers: { buffers < buffer_limit OFFSET_BITS },
     ghost some_words: { 8192 ≤ words },
@@ -37,15 +42,18 @@ impl<const OFFSET_BITS: u32> Cells<OFFSET_BITS> {
         ensures words { IfOk result (λ c. c.words ≡ words) }
         ensures table { IfOk result (λ c. c.table.items ≡ replicate (buffers * words) 0) }
         ensures stamps { IfOk result (λ c. c.stamps.items ≡ replicate (buffers * words) 0) }
+        ensures marks { IfOk result (λ c. c.marks.items ≡ replicate buffers Fresh) }
     {
         let count = buffers as usize * words as usize;
         let table = vec![in alloc; 0; count]?;
         let stamps = vec![in alloc; 0; count]?;
+        let marks = vec![in alloc; Mark::Fresh; buffers as usize]?;
         Ok(Cells {
             buffers,
             words,
             table,
             stamps,
+            marks,
         })
     }
 
@@ -70,6 +78,18 @@ impl<const OFFSET_BITS: u32> Cells<OFFSET_BITS> {
         self.table[self.place(entry, i)]
     }
 
+    /// Reads words of an entry, from one on.
+    pub fn read(&self, entry: EntryRef<OFFSET_BITS>, first: u32, into: &mut [u64])
+        requires entry { IsEntry OFFSET_BITS self.now.buffers self.now.words (width_in self.now.table.items self.now.words (buffer_of OFFSET_BITS entry)) entry }
+        requires inside { first + length into.old ≤ width_in self.now.table.items self.now.words (buffer_of OFFSET_BITS entry) }
+        requires some { 0 < length into.old }
+        ensures { into.new ≡ take (length into.old) (drop
+            (begin_of OFFSET_BITS self.now.words (width_in self.now.table.items self.now.words (buffer_of OFFSET_BITS entry.entry)) entry.entry + first) self.now.table.items) }
+    {
+        let from = self.place(entry, first);
+        into.copy_from_slice(&self.table[from..from + into.len()]);
+    }
+
     /// Stores a word under a number.
     pub fn store(&mut self, entry: EntryRef<OFFSET_BITS>, i: u32, word: u64, number: u64)
         requires entry { IsEntry OFFSET_BITS self.old.buffers self.old.words (width_in self.old.table.items self.old.words (buffer_of OFFSET_BITS entry)) entry }
@@ -78,6 +98,7 @@ impl<const OFFSET_BITS: u32> Cells<OFFSET_BITS> {
             (begin_of OFFSET_BITS self.old.words (width_in self.old.table.items self.old.words (buffer_of OFFSET_BITS entry.entry)) entry.entry + i) word }
         ensures stamps { self.new.stamps.items ≡ slice_set self.old.stamps.items
             (begin_of OFFSET_BITS self.old.words (width_in self.old.table.items self.old.words (buffer_of OFFSET_BITS entry.entry)) entry.entry + i) number }
+        ensures marks { self.new.marks.items ≡ self.old.marks.items }
         ensures buffers { self.new.buffers ≡ self.old.buffers }
         ensures words { self.new.words ≡ self.old.words }
     {
@@ -92,6 +113,7 @@ impl<const OFFSET_BITS: u32> Cells<OFFSET_BITS> {
         requires fits { length words.now ≤ width }
         ensures table { self.new.table.items ≡ with_range self.old.table.items (begin_of OFFSET_BITS self.old.words width entry.entry) (padded words.now width) }
         ensures stamps { self.new.stamps.items ≡ with_range self.old.stamps.items (begin_of OFFSET_BITS self.old.words width entry.entry) (replicate width number) }
+        ensures marks { self.new.marks.items ≡ self.old.marks.items }
         ensures buffers { self.new.buffers ≡ self.old.buffers }
         ensures words { self.new.words ≡ self.old.words }
     {
@@ -105,34 +127,76 @@ impl<const OFFSET_BITS: u32> Cells<OFFSET_BITS> {
     /// Takes the free buffer of lowest number, by giving it a width.
     pub fn hand_out(&mut self, width: u32) -> Option<u32>
         requires { 0 < width }
-        ensures none { IsNone result ↔ (free_count (buffers_in self.old.table.items self.old.words) self.old.buffers ≡ 0) }
-        ensures lowest { IfSome result (IsLowestFree (buffers_in self.old.table.items self.old.words) self.old.buffers) }
+        ensures none { IsNone result ↔ (free_count (marked_buffers self.old.marks.items (buffers_in self.old.table.items self.old.words)) self.old.buffers ≡ 0) }
+        ensures lowest { IfSome result (IsLowestFree (marked_buffers self.old.marks.items (buffers_in self.old.table.items self.old.words)) self.old.buffers) }
         ensures handed { IfSome result (λ b. self.new.table.items ≡ slice_set self.old.table.items (b * self.old.words) width) }
         ensures refused { IfNone result (self.new.table.items ≡ self.old.table.items) }
         ensures stamps { self.new.stamps.items ≡ self.old.stamps.items }
+        ensures marks { self.new.marks.items ≡ self.old.marks.items }
         ensures buffers { self.new.buffers ≡ self.old.buffers }
         ensures words { self.new.words ≡ self.old.words }
     {
         for buffer in 0..self.buffers {
-            let first = buffer as usize * self.words as usize;
-            if self.table[first] == 0 {
-                self.table[first] = u64::from(width);
+            if self.is_free(buffer) {
+                self.table[buffer as usize * self.words as usize] = u64::from(width);
                 return Some(buffer);
             }
         }
         None
     }
 
+    fn is_free(&self, buffer: u32) -> bool
+        requires { buffer < self.now.buffers }
+        ensures { result ≡ is_free (marked_buffers self.now.marks.items (buffers_in self.now.table.items self.now.words) buffer) }
+    {
+        let first = buffer as usize * self.words as usize;
+        self.table[first] == 0 && !self.marks[buffer as usize].is_held()
+    }
+
     pub fn free_buffers(&self) -> u32
-        ensures { result ≡ free_count (buffers_in self.now.table.items self.now.words) self.now.buffers }
+        ensures { result ≡ free_count (marked_buffers self.now.marks.items (buffers_in self.now.table.items self.now.words)) self.now.buffers }
     {
         let mut count = 0;
         for buffer in 0..self.buffers {
-            if self.table[buffer as usize * self.words as usize] == 0 {
+            if self.is_free(buffer) {
                 count += 1;
             }
         }
         count
+    }
+
+    /// Puts a buffer on hold under a tag. Its words tell nothing any more.
+    pub fn retire(&mut self, buffer: u32, generation: u64, commit: u32)
+        requires { buffer < self.old.buffers }
+        ensures table { self.new.table.items ≡ slice_set self.old.table.items (buffer * self.old.words) 0 }
+        ensures stamps { self.new.stamps.items ≡ with_range self.old.stamps.items (buffer * self.old.words) (replicate self.old.words 0) }
+        ensures marks { self.new.marks.items ≡ slice_set self.old.marks.items buffer (Held generation commit (width_in self.old.table.items self.old.words buffer)) }
+        ensures buffers { self.new.buffers ≡ self.old.buffers }
+        ensures words { self.new.words ≡ self.old.words }
+    {
+        let first = buffer as usize * self.words as usize;
+        let width = self.table[first];
+        self.table[first] = 0;
+        self.stamps[first..first + self.words as usize].fill(0);
+        self.marks[buffer as usize] = Mark::Held {
+            generation,
+            commit,
+            width,
+        };
+    }
+
+    /// Frees all buffers on hold whose tag is below a generation.
+    pub fn free_below(&mut self, generation: u64)
+        ensures marks { self.new.marks.items ≡ map (freed generation) self.old.marks.items }
+        ensures table { self.new.table.items ≡ self.old.table.items }
+        ensures stamps { self.new.stamps.items ≡ self.old.stamps.items }
+        ensures buffers { self.new.buffers ≡ self.old.buffers }
+        ensures words { self.new.words ≡ self.old.words }
+    {
+        for i in 0..self.marks.len() {
+            let mark = self.marks[i].freed(generation);
+            self.marks[i] = mark;
+        }
     }
 }
 

@@ -3,6 +3,7 @@
 
 mod cells;
 mod entries;
+mod marks;
 mod memory;
 mod one_record;
 mod reach;

@@ -1,4 +1,4 @@
-ghost use Rattle.std.specs.Prelude.{◌≡◌, ◌≢◌, ◌<◌, ◌≤◌, ◌+◌, ◌*◌, ◌^◌, ℕ, [], IfOk, length, slice_index};
+ghost use Rattle.std.specs.Prelude.{◌≡◌, ◌≢◌, ◌<◌, ◌≤◌, ◌+◌, ◌-◌, ◌*◌, ◌^◌, ℕ, [], IfOk, length, slice_index, take, drop};
 ghost use Rattle.std.proofs.Common.{sym, ◌∙◌};
 ghost use Rattle.entry_ref.specs.References.{buffer_of, buffer_limit, offset_limit};
 ghost use Rattle.image_base.specs.Images.{words_at};
@@ -8,10 +8,11 @@ ghost use Rattle.image_base.specs.Maps.{seen};
 ghost use Rattle.arena_api.specs.Calls.{opened, MayStore, InNoCommit, AddsCommit, with_stored, padded, next_image, published};
 ghost use Rattle.arena_api.specs.Works.{active_width};
 ghost use Rattle.mem_work.specs.Cells.{width_in, standing, records_in, sizes_of, memory_view};
+ghost use Rattle.mem_work.specs.Marks.{IsMark, mark_at, with_marks};
 
 use crate::cells::Cells;
 use crate::reach::{Reach, add_those};
-use arena_api::Work;
+use arena_api::{Advance, Oldest, Work};
 use entry_ref::EntryRef;
 use frozen_api::Frozen;
 use image_base::Layout;
@@ -26,12 +27,18 @@ pub struct MemWork<const OFFSET_BITS: u32, L: Layout> {
     shape: u32,
     last: u32,
     root: EntryRef<OFFSET_BITS>,
+    // the generation of the one open hold, and the first commit that a reader of it could have
+    generation: u64,
+    first: u32,
     layout: PhantomData<L>,
     // every word was stored under the next commit or before
     ghost stamped: { (p : ℕ) → slice_index cells.stamps.items p ≤ last + 1 },
     // those of a free buffer before
     ghost unused: { (b x : ℕ) → x < cells.words → width_in cells.table.items cells.words b ≡ 0
         → slice_index cells.stamps.items (b * cells.words + x) ≤ last },
+    ghost marks: { (b : ℕ) → IsMark generation first last (width_in cells.table.items cells.words b) (mark_at cells.marks.items b) },
+    ghost early: { first ≤ last },
+    ghost generations: { generation ≤ 2 ^ 48 - 1 },
     ghost limit: { last < 2 ^ 32 },
     ghost lawful: { ∥ L.lawful shape (standing cells.table.items OFFSET_BITS cells.buffers cells.words) root ∥₁ },
 }
@@ -55,6 +62,8 @@ impl<const OFFSET_BITS: u32, L: Layout> MemWork<OFFSET_BITS, L> {
             shape,
             last: 0,
             root: EntryRef::from_raw(0),
+            generation: 0,
+            first: 0,
             layout: PhantomData,
         })
     }
@@ -89,19 +98,30 @@ impl<const OFFSET_BITS: u32, L: Layout> Frozen<OFFSET_BITS> for MemWork<OFFSET_B
         self.cells.word(entry, i)
     }
 
+    fn read(&mut self, entry: EntryRef<OFFSET_BITS>, first: u32, into: &mut [u64])
+        requires there { first + length into.old ≤ length (⟦<MemWork<OFFSET_BITS, L> as Frozen<OFFSET_BITS>>⟧.records self.old entry) }
+        requires few { first + length into.old < 2 ^ 32 }
+        ensures words { into.new ≡ take (length into.old) (drop first (⟦<MemWork<OFFSET_BITS, L> as Frozen<OFFSET_BITS>>⟧.records self.old entry.entry)) }
+        ensures same { self.new ≡ self.old }
+    {
+        if !into.is_empty() {
+            self.cells.read(entry, first, into);
+        }
+    }
+
     ghost references = { λ s. memory_references L.reaches s.shape s.cells.table.items s.cells.stamps.items
         OFFSET_BITS s.cells.buffers s.cells.words s.last s.root s.cells.few_words s.cells.offsets };
 }
 
 impl<const OFFSET_BITS: u32, L: Layout> Work<OFFSET_BITS> for MemWork<OFFSET_BITS, L> {
-    ghost use Rattle.mem_work.specs.ProofsForMemory.{memory_limits, memory_order, memory_entries, memory_kept, memory_last, memory_whole, memory_stored, no_tag};
+    ghost use Rattle.mem_work.specs.ProofsForMemory.{memory_limits, memory_queue, memory_order, memory_entries, memory_kept, memory_last, memory_whole, memory_only, memory_stored, memory_held, memory_tags};
 
     type Layout = L;
 
     type Home = ();
 
-    ghost knows = { λ s. memory_view L.reaches s.shape s.cells.table.items s.cells.stamps.items
-        OFFSET_BITS s.cells.buffers s.cells.words s.last s.root };
+    ghost knows = { λ s. with_marks (memory_view L.reaches s.shape s.cells.table.items s.cells.stamps.items
+        OFFSET_BITS s.cells.buffers s.cells.words s.last s.root) s.cells.marks.items s.generation s.first };
 
     fn store(&mut self, entry: EntryRef<OFFSET_BITS>, i: u32, word: u64)
         requires { MayStore OFFSET_BITS (⟦<MemWork<OFFSET_BITS, L> as Work<OFFSET_BITS>>⟧.knows self.old) entry i }
@@ -147,6 +167,34 @@ impl<const OFFSET_BITS: u32, L: Layout> Work<OFFSET_BITS> for MemWork<OFFSET_BIT
         self.last
     }
 
+    fn retire_buffer(&mut self, buffer: u32) {
+        self.cells.retire(buffer, self.generation, self.last);
+    }
+
+    fn advance(&mut self) -> Advance {
+        if self.generation == LAST_GENERATION {
+            return Advance::Spent {
+                generation: self.generation,
+            };
+        }
+        self.generation += 1;
+        self.first = self.last;
+        Advance::To {
+            generation: self.generation,
+            hold: 0,
+        }
+    }
+
+    fn reclaim(&mut self) -> Oldest {
+        self.cells.free_below(self.generation);
+        Oldest {
+            generation: self.generation,
+            hold: 0,
+            found: 0,
+            newest: true,
+        }
+    }
+
     fn free_buffers(&self) -> u32 {
         self.cells.free_buffers()
     }
@@ -168,23 +216,36 @@ impl<const OFFSET_BITS: u32, L: Layout> Work<OFFSET_BITS> for MemWork<OFFSET_BIT
 
     ghost total_words = { λ s. s.cells.product };
 
+    ghost queue = { λ s. memory_queue (memory_view L.reaches s.shape s.cells.table.items s.cells.stamps.items
+        OFFSET_BITS s.cells.buffers s.cells.words s.last s.root) s.cells.marks.items s.generation s.first s.early s.generations };
+
     ghost order = { λ s. memory_order L.reaches s.shape s.cells.table.items s.cells.stamps.items
-        OFFSET_BITS s.cells.buffers s.cells.words s.last s.root s.limit };
+        OFFSET_BITS s.cells.buffers s.cells.words s.last s.root s.cells.marks.items s.generation s.first s.early s.limit };
 
     ghost entries = { λ s. memory_entries L.reaches s.shape s.cells.table.items s.cells.stamps.items
-        OFFSET_BITS s.cells.buffers s.cells.words s.last s.root (sym s.cells.table.ok.0 ∙ s.cells.room) };
+        OFFSET_BITS s.cells.buffers s.cells.words s.last s.root (sym s.cells.table.ok.0 ∙ s.cells.room) s.cells.marks.items };
 
     ghost kept = { λ s n r k. memory_kept L.reaches s.shape s.cells.table.items s.cells.stamps.items
-        OFFSET_BITS s.cells.buffers s.cells.words s.last s.root (sym s.cells.table.ok.0 ∙ s.cells.room) r };
+        OFFSET_BITS s.cells.buffers s.cells.words s.last s.root (sym s.cells.table.ok.0 ∙ s.cells.room) s.cells.marks.items r };
 
     ghost last = { λ s. memory_last L.reaches s.shape s.cells.table.items s.cells.stamps.items
         OFFSET_BITS s.cells.buffers s.cells.words s.last s.root };
 
     ghost whole = { λ s. memory_whole L.reaches s.shape s.cells.table.items s.cells.stamps.items
-        OFFSET_BITS s.cells.buffers s.cells.words s.last s.root (sym s.cells.table.ok.0 ∙ s.cells.room) };
+        OFFSET_BITS s.cells.buffers s.cells.words s.last s.root (sym s.cells.table.ok.0 ∙ s.cells.room) s.cells.marks.items };
+
+    ghost only = { λ s. memory_only L.reaches s.shape s.cells.table.items s.cells.stamps.items
+        OFFSET_BITS s.cells.buffers s.cells.words s.last s.root (sym s.cells.stamps.ok.0 ∙ s.cells.stamped) };
 
     ghost stored = { λ s. memory_stored L.reaches s.shape s.cells.table.items s.cells.stamps.items
-        OFFSET_BITS s.cells.buffers s.cells.words s.last s.root };
+        OFFSET_BITS s.cells.buffers s.cells.words s.last s.root s.cells.marks.items s.generation s.first };
 
-    ghost tags = { λ s b. no_tag (width_in s.cells.table.items s.cells.words b) };
+    ghost held = { λ s. memory_held L.reaches s.shape s.cells.table.items s.cells.stamps.items
+        OFFSET_BITS s.cells.buffers s.cells.words s.last s.root s.cells.marks.items s.generation s.first s.marks };
+
+    ghost tags = { λ s b t. memory_tags s.generation s.first s.last (width_in s.cells.table.items s.cells.words b)
+        (mark_at s.cells.marks.items b) (s.marks b) t };
 }
+
+/// The last generation that there can be, of 48 bits.
+const LAST_GENERATION: u64 = (1 << 48) - 1;

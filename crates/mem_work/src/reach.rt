@@ -3,8 +3,7 @@ ghost use Rattle.image_base.specs.Maps.{seen};
 ghost use Rattle.mem_work.specs.Entries.{with_those};
 
 use entry_ref::EntryRef;
-use image_base::Layout;
-use image_base::words_at;
+use image_base::{Layout, words_at};
 use std::alloc::{AllocError, Global};
 use std::collections::BTreeMap;
 

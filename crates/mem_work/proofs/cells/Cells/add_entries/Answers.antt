@@ -44,13 +44,19 @@ add_entry-requires g c =
     let s = c.args.self.now in
     let bits = g.row.OFFSET_BITS in
     let m = chosen c.args.number s.table.items s.stamps.items bits s.buffers s.words in
-    let small : c.args.buffer < buffer_limit bits = omega (arith, s.few_buffers, c.requires.inside) in
-    (omega arith, (omega arith,
-      (entry-made s.table.items bits s.buffers s.words c.width-width.result c.args.buffer c.loop-offset.offset c.new.result c.new.ensures c.requires.inside s.few_buffers
-        (sym c.width-width.ensures) (omega (arith, c.if-width-eq0.false)) c.loop-offset.invariant.first c.loop-offset-test.true,
-       c.loop-offset.invariant.seen c.new.result
-       ∙ here-not_yet bits m c.args.buffer c.loop-offset.offset c.new.result (ap (buffer_of bits) c.new.ensures ∙ packed-buffer bits c.loop-offset.offset c.args.buffer small)
-         (ap (offset_of bits) c.new.ensures ∙ packed-offset bits c.loop-offset.offset c.args.buffer small))))
+    let small : c.args.buffer < buffer_limit bits = omega (arith, s.few_buffers, c.requires.inside) in (
+      omega arith,
+      (
+        omega arith,
+        (
+          entry-made s.table.items bits s.buffers s.words c.width-width.result c.args.buffer c.loop-offset.offset c.new.result c.new.ensures c.requires.inside s.few_buffers
+              (sym c.width-width.ensures) (omega (arith, c.if-width-eq0.false)) c.loop-offset.invariant.first c.loop-offset-test.true,
+          c.loop-offset.invariant.seen c.new.result
+              ∙ here-not_yet bits m c.args.buffer c.loop-offset.offset c.new.result (ap (buffer_of bits) c.new.ensures ∙ packed-buffer bits c.loop-offset.offset c.args.buffer small)
+              (ap (offset_of bits) c.new.ensures ∙ packed-offset bits c.loop-offset.offset c.args.buffer small),
+        ),
+      ),
+    )
 
 pub loop-offset-preserved : goal.loop-offset-preserved
 loop-offset-preserved g c =
@@ -58,6 +64,6 @@ loop-offset-preserved g c =
     let bits = g.row.OFFSET_BITS in
     record {
       seen = λ q. reference-more bits (chosen c.args.number s.table.items s.stamps.items bits s.buffers s.words) c.args.buffer c.loop-offset.offset c.new.result (omega (arith, s.few_buffers, c.requires.inside)) c.new.ensures
-        (seen c.add_entry.new.map) (seen c.loop-offset.map) c.in_ok-add_entry.ensures.here c.in_ok-add_entry.ensures.others c.loop-offset.invariant.seen q;
+          (seen c.add_entry.new.map) (seen c.loop-offset.map) c.in_ok-add_entry.ensures.here c.in_ok-add_entry.ensures.others c.loop-offset.invariant.seen q;
       first = omega arith;
     }

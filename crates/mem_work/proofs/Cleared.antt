@@ -1,0 +1,215 @@
+-- A buffer in which nothing is of the last commit, and nothing was stored since, goes on hold: its words tell nothing any more.
+use Rattle.std.proofs.Common.{◌≡◌, ◌≢◌, ℕ, zero, suc, ◌+◌, ◌-◌, ◌*◌, ◌<◌, ◌≤◌, ◌⊎◌, inl, inr, Bool, true, false, cond, ◌&&◌, eqb, ltb, List, [], ◌∷◌, length, get_or, set, take, drop, Option, Some, None, refl, sym, ap, subst, ◌∙◌, arith, length-take, length-drop, get_or-set_other, get_or-set_same}
+use Rattle.std.specs.List.{list_all}
+use Rattle.std.proofs.Math.ListN.{replicate}
+use Rattle.std.proofs.Math.Nat.{mul-le-mul_right}
+use Rattle.std.proofs.lemmas.List.{get_or-take, get_or-drop, length-replicate}
+use Rattle.std.proofs.lemmas.Bool.{cases_eq, cases_lt, false_from_ne_true, eq-eqb, ne_eqb, ltb-true}
+use Rattle.std.proofs.lemmas.Grind.{same_number_lists}
+use Rattle.std.proofs.lemmas.Nat.{same_from_place}
+use Rattle.list_facts.proofs.Places.{slice_index-zeros}
+use Rattle.entry_ref.specs.References.{buffer_of, offset_of}
+use Rattle.image_base.specs.Images.{words_at}
+use Rattle.image_base.specs.Places.{IsEntry}
+use Rattle.image_base.specs.Records.{Records, SameAt, AllThere}
+use Rattle.image_base.proofs.Apart.{within}
+use Rattle.image_base.proofs.Pairs.{words-found}
+use Rattle.arena_api.proofs.Reached.{lawful-kept, next_image-kept}
+use Rattle.arena_api.specs.Works.{Buffer, active_width}
+use Rattle.arena_api.specs.Generations.{retired}
+use Rattle.mem_work.specs.Cells.{width_in, begin_of, with_range, names_entry, standing, is_whole, stored_in, image_in, records_in, memory_view, buffer_by, buffers_in}
+use Rattle.mem_work.specs.Marks.{tag_of, mark_at, marked, marked_buffers, with_marks, IsMark}
+use Rattle.mem_work.specs.declared.marks.Mark.{Mark}
+use Rattle.mem_work.specs.declared.marks.Mark.TheVariants.{Fresh, Past, Held}
+use Rattle.mem_work.specs.ProofsForMemory.{names_entry-true, standing-entry, is_stored, stored-whole, active_width-by}
+use Rattle.mem_work.proofs.Standing.{range-set_other, lacks, not_first, cond-same, cond-and, and-same, whole-first}
+use Rattle.mem_work.proofs.Handed.{none-from}
+use Rattle.mem_work.proofs.Ranges.{range-elsewhere, range-at, length-range}
+
+module _ (reaches : ℕ → Records → ℕ → List ℕ) (lawful : ℕ → Records → ℕ → Type 0)
+    (present : (shape : ℕ) (m : Records) (root : ℕ) → lawful shape m root → AllThere (reaches shape m root) m)
+    (stays : (shape : ℕ) (m n : Records) (root : ℕ) → SameAt (reaches shape m root) m n → lawful shape m root → lawful shape n root × (reaches shape n root ≡ reaches shape m root))
+    (shape : ℕ) (table stamps : List ℕ) (bits buffers words last root : ℕ) (law : ∥ lawful shape (standing table bits buffers words) root ∥₁)
+    (b : ℕ) (below : b < buffers) (some : 0 < words) (room : length table ≡ buffers * words) (also : length stamps ≡ buffers * words)
+    (uncommitted : (r : ℕ) → buffer_of bits r ≡ b → words_at (image_in reaches shape table bits buffers words root) r ≡ [])
+    (unstored : (r i : ℕ) → buffer_of bits r ≡ b → stored_in table stamps bits buffers words (last + 1) r i ≡ None) where
+  inside : b * words + words ≤ buffers * words
+  inside = let more : suc b * words ≤ buffers * words = mul-le-mul_right words below in omega arith
+
+  abbrev t : List ℕ
+  t = set table (b * words) 0
+
+  abbrev s : List ℕ
+  s = with_range stamps (b * words) (replicate words 0)
+
+  pub width-here : width_in t words b ≡ 0
+  width-here = get_or-set_same table (b * words) 0 0 (omega (arith, inside, room, some))
+
+  pub width-other : (a : ℕ) → a ≢ b → width_in t words a ≡ width_in table words a
+  width-other a ne = get_or-set_other table (b * words) (a * words) 0 0 (λ same. ne (same_from_place a 0 b 0 words some some (omega (arith, same))).0)
+
+  -- a word of an entry elsewhere lies outside the buffer
+  outside : (q i width : ℕ) → IsEntry bits buffers words width q → i < width → buffer_of bits q ≢ b
+      → (begin_of bits words width q + i < b * words) ⊎ (b * words + words ≤ begin_of bits words width q + i)
+  outside q i width e h ne =
+      let at = (within e i h).1 in
+      elim (cases_lt (buffer_of bits q) b) [
+        | inl less ↦ (let more : suc (buffer_of bits q) * words ≤ b * words = mul-le-mul_right words less in inl (omega arith))
+        | inr not ↦ (let more : suc b * words ≤ buffer_of bits q * words = mul-le-mul_right words (omega (arith, not, ne)) in inr (omega arith))
+      ]
+
+  stamp-other : (q i width : ℕ) → IsEntry bits buffers words width q → i < width → buffer_of bits q ≢ b → get_or s (begin_of bits words width q + i) 0 ≡ get_or stamps (begin_of bits words width q + i) 0
+  stamp-other q i width e h ne =
+      range-elsewhere stamps (b * words) (replicate words 0) words (length-replicate words 0) (omega (arith, inside, also)) (begin_of bits words width q + i) (outside q i width e h ne)
+
+  stamps-long : length s ≡ length stamps
+  stamps-long = length-range stamps (b * words) (replicate words 0) words (length-replicate words 0) (omega (arith, inside, also))
+
+  stamps-other : (q : ℕ) → buffer_of bits q ≢ b → names_entry bits buffers words (width_in table words (buffer_of bits q)) q ≡ true
+      → take (width_in table words (buffer_of bits q)) (drop (begin_of bits words (width_in table words (buffer_of bits q)) q) s)
+      ≡ take (width_in table words (buffer_of bits q)) (drop (begin_of bits words (width_in table words (buffer_of bits q)) q) stamps)
+  stamps-other q ne there =
+      let w = width_in table words (buffer_of bits q) in
+      let from = begin_of bits words w q in
+      same_number_lists (take w (drop from s)) (take w (drop from stamps)) (simp (length-take, length-drop) (omega (arith, stamps-long))) (λ k h.
+      let less : k < w = omega (arith, simp length-take at h) in
+      get_or-take w (drop from s) k 0 less ∙ get_or-drop from s k 0
+      ∙ stamp-other q k w (names_entry-true bits buffers words w q there) less ne
+      ∙ sym (get_or-take w (drop from stamps) k 0 less ∙ get_or-drop from stamps k 0))
+
+  standing-elsewhere : (q : ℕ) → buffer_of bits q ≢ b → standing t bits buffers words q ≡ standing table bits buffers words q
+  unfolding standing
+  standing-elsewhere q ne =
+      ap (λ w. cond (names_entry bits buffers words w q) (take w (drop (begin_of bits words w q) t)) []) (width-other (buffer_of bits q) ne)
+      ∙ cond-same (names_entry bits buffers words (width_in table words (buffer_of bits q)) q) _ _ [] (λ there.
+      let w = width_in table words (buffer_of bits q) in
+      range-set_other table (b * words) (begin_of bits words w q) w 0 (lacks (b * words) (begin_of bits words w q) w (λ j h same. not_first bits buffers words w q j b (names_entry-true bits buffers words w q there) h (sym same))))
+
+  kept : (q : ℕ) → 0 < length (words_at (image_in reaches shape table bits buffers words root) q) → standing t bits buffers words q ≡ standing table bits buffers words q
+  kept q there = standing-elsewhere q (λ same. let none = ap length (uncommitted q same) in omega (arith, there, none))
+
+  pub lawful-cleared : ∥ lawful shape (standing t bits buffers words) root ∥₁
+  lawful-cleared = lawful-kept reaches lawful present stays shape (standing table bits buffers words) _ root law kept
+
+  image-cleared : image_in reaches shape t bits buffers words root ≡ image_in reaches shape table bits buffers words root
+  image-cleared = next_image-kept reaches lawful present stays shape (standing table bits buffers words) _ root law kept
+
+  no_entry : (q : ℕ) → buffer_of bits q ≡ b → 0 < width_in t words (buffer_of bits q) → ⊥
+  no_entry q at wide = omega (arith, wide, ap (width_in t words) at, width-here)
+
+  whole-cleared : (q : ℕ) → is_whole t s bits buffers words (last + 1) q ≡ is_whole table stamps bits buffers words (last + 1) q
+  unfolding is_whole
+  whole-cleared q = elim (cases_eq (buffer_of bits q) b) [
+    | inl e ↦
+        false_from_ne_true _ (λ is. no_entry q e (whole-first t s bits buffers words (last + 1) q (stamps-long ∙ also) is).0.wide)
+        ∙ sym (false_from_ne_true _ (λ is.
+        let wide = (whole-first table stamps bits buffers words (last + 1) q also is).0.wide in
+        let one = stored-whole table stamps bits buffers words (last + 1) q 0 also is wide in
+        let none = unstored q 0 e in cc))
+    | inr ne ↦
+        ap (λ w. names_entry bits buffers words w q && list_all (λ k. eqb k (last + 1)) (take w (drop (begin_of bits words w q) s))) (width-other (buffer_of bits q) ne)
+        ∙ and-same _ _ _ (λ there. ap (list_all (λ k. eqb k (last + 1))) (stamps-other q ne there))
+  ]
+
+  stored-cleared : (q i : ℕ) → stored_in t s bits buffers words (last + 1) q i ≡ stored_in table stamps bits buffers words (last + 1) q i
+  unfolding stored_in
+  stored-cleared q i = elim (cases_eq (buffer_of bits q) b) [
+    | inl e ↦
+        none-from _ (λ x is. no_entry q e (is_stored t s bits buffers words (last + 1) q i x is).entry.wide)
+        ∙ sym (unstored q i e)
+    | inr ne ↦
+        ap (λ w. cond (names_entry bits buffers words w q && (ltb i w && eqb (get_or s (begin_of bits words w q + i) 0) (last + 1))) (Some (get_or t (begin_of bits words w q + i) 0)) None) (width-other (buffer_of bits q) ne)
+        ∙ cond-and _ _ _ _ _ _ _ (λ there less.
+        let w = width_in table words (buffer_of bits q) in
+        let e = names_entry-true bits buffers words w q there in
+        let lt = ltb-true i w less in (
+          ap (λ m. eqb m (last + 1)) (stamp-other q i w e lt ne),
+          ap Some (get_or-set_other table (b * words) _ 0 0 (λ same. not_first bits buffers words w q i b e lt same)),
+        ))
+  ]
+
+  pub records-cleared : (q : ℕ) → records_in reaches shape t s bits buffers words last root q ≡ records_in reaches shape table stamps bits buffers words last root q
+  records-cleared q =
+      ap (λ x. cond x (standing t bits buffers words q) (words_at (image_in reaches shape t bits buffers words root) q)) (whole-cleared q)
+      ∙ ap (λ image. cond (is_whole table stamps bits buffers words (last + 1) q) (standing t bits buffers words q) (words_at image q)) image-cleared
+      ∙ cond-same _ _ _ _ (λ is. standing-elsewhere q (λ at.
+      let wide = (whole-first table stamps bits buffers words (last + 1) q also is).0.wide in
+      let one = stored-whole table stamps bits buffers words (last + 1) q 0 also is wide in
+      let none = unstored q 0 at in absurd (cc)))
+
+  -- the numbers beside the words
+  stamp-here : (x : ℕ) → x < words → get_or s (b * words + x) 0 ≡ 0
+  stamp-here x h = range-at stamps (b * words) (replicate words 0) words (length-replicate words 0) (omega (arith, inside, also)) x h ∙ slice_index-zeros words x
+
+  pub stamped-cleared : (n : ℕ) → ((p : ℕ) → get_or stamps p 0 ≤ n) → (p : ℕ) → get_or s p 0 ≤ n
+  stamped-cleared n old p = elim (cases_lt p (b * words)) [
+    | inl h ↦ omega (arith, old p, range-elsewhere stamps (b * words) (replicate words 0) words (length-replicate words 0) (omega (arith, inside, also)) p (inl h))
+    | inr h ↦ elim (cases_lt p (b * words + words)) [
+      | inl g ↦
+          (let at : b * words + (p - b * words) ≡ p = omega (arith, h) in
+          omega (arith, ap (λ k. get_or s k 0) at, stamp-here (p - b * words) (omega (arith, g, h))))
+      | inr g ↦ omega (arith, old p, range-elsewhere stamps (b * words) (replicate words 0) words (length-replicate words 0) (omega (arith, inside, also)) p (inr g))
+    ]
+  ]
+
+  pub unused-cleared : ((a x : ℕ) → x < words → width_in table words a ≡ 0 → get_or stamps (a * words + x) 0 ≤ last)
+      → (a x : ℕ) → x < words → width_in t words a ≡ 0 → get_or s (a * words + x) 0 ≤ last
+  unused-cleared old a x h none = elim (cases_eq a b) [
+    | inl e ↦ omega (arith, ap (λ k. get_or s (k * words + x) 0) e, stamp-here x h)
+    | inr ne ↦
+        (let apart : (a * words + x < b * words) ⊎ (b * words + words ≤ a * words + x) =
+        elim (cases_lt a b) [
+          | inl less ↦ (let more : suc a * words ≤ b * words = mul-le-mul_right words less in inl (omega (arith, h, more)))
+          | inr not ↦ (let more : suc b * words ≤ a * words = mul-le-mul_right words (omega (arith, not, ne)) in inr (omega (arith, more)))
+        ] in
+        omega (arith, old a x h (sym (width-other a ne) ∙ none), range-elsewhere stamps (b * words) (replicate words 0) words (length-replicate words 0) (omega (arith, inside, also)) (a * words + x) apart))
+  ]
+
+  module _ (marks : List Mark) (size : length marks ≡ buffers) (generation first : ℕ) where
+    abbrev m : List Mark
+    m = set marks b (Held generation last (width_in table words b))
+
+    mark-here : mark_at m b ≡ Held generation last (width_in table words b)
+    mark-here = get_or-set_same marks b _ Fresh (omega (arith, below, size))
+
+    mark-other : (a : ℕ) → a ≢ b → mark_at m a ≡ mark_at marks a
+    mark-other a ne = get_or-set_other marks b a _ Fresh ne
+
+    pub marks-cleared : ((a : ℕ) → IsMark generation first last (width_in table words a) (mark_at marks a))
+        → (a : ℕ) → IsMark generation first last (width_in t words a) (mark_at m a)
+    marks-cleared old a = elim (cases_eq a b) [
+      | inl e ↦ subst (λ k. IsMark generation first last (width_in t words k) (mark_at m k)) (sym e) (record {
+        past = λ g c same. absurd (let at = mark-here in cc);
+        held = λ g c v same.
+            let both : Held generation last (width_in table words b) ≡ Held g c v = sym mark-here ∙ same in
+            let gen : generation ≡ g = cc in
+            let at_commit : last ≡ c = cc in
+            record { few = omega (arith, gen); commit = omega (arith, at_commit); later = λ less. absurd (omega (arith, less, gen)); none = width-here };
+      })
+      | inr ne ↦
+          subst (λ k. IsMark generation first last (width_in t words a) k) (sym (mark-other a ne))
+          (subst (λ w. IsMark generation first last w (mark_at marks a)) (sym (width-other a ne)) (old a))
+    ]
+
+    buffer-cleared : (a : ℕ) → marked (mark_at m a) (buffer_by (width_in t words a))
+        ≡ (retired (with_marks (memory_view reaches shape table stamps bits buffers words last root) marks generation first) b).buffer a
+    buffer-cleared a = elim (cases_eq a b) [
+      | inl e ↦
+          ap (λ k. marked (mark_at m k) (buffer_by (width_in t words k))) e
+          ∙ ap (λ k. marked k (buffer_by (width_in t words b))) mark-here
+          ∙ ap (λ w. marked (Held generation last (width_in table words b)) (buffer_by w)) width-here
+          ∙ ap (λ w. Buffer.held w (tag_of generation last)) (sym (active_width-by (mark_at marks b) (width_in table words b)))
+          ∙ ap (λ x. cond x (Buffer.held (active_width (marked (mark_at marks b) (buffer_by (width_in table words b)))) (tag_of generation last)) (marked (mark_at marks a) (buffer_by (width_in table words a)))) (sym (eq-eqb a b e))
+      | inr ne ↦
+          ap (λ k. marked k (buffer_by (width_in t words a))) (mark-other a ne)
+          ∙ ap (λ w. marked (mark_at marks a) (buffer_by w)) (width-other a ne)
+          ∙ ap (λ x. cond x (Buffer.held (active_width (marked (mark_at marks b) (buffer_by (width_in table words b)))) (tag_of generation last)) (marked (mark_at marks a) (buffer_by (width_in table words a)))) (sym (ne_eqb a b ne))
+    ]
+
+    pub view-cleared : with_marks (memory_view reaches shape t s bits buffers words last root) m generation first
+        ≡ retired (with_marks (memory_view reaches shape table stamps bits buffers words last root) marks generation first) b
+    view-cleared = λ k. record (retired (with_marks (memory_view reaches shape table stamps bits buffers words last root) marks generation first) b) {
+      buffer = λ a. buffer-cleared a k;
+      commits = record { floor = last; last = last; image = λ n. image-cleared k };
+      stored = λ q i. stored-cleared q i k;
+    }
