@@ -1,10 +1,10 @@
 -- What the writer's steps on holds owe.
-use Rattle.std.proofs.Common.{◌≡◌, ◌≢◌, ℕ, zero, ◌+◌, ◌-◌, ◌*◌, ◌%◌, ◌^◌, ◌<◌, ◌≤◌, List, [], ◌∷◌, set, slice_index, Some, eqb, refl, sym, ap, ◌∙◌, subst, arith}
+use Rattle.std.proofs.Common.{◌≡◌, ◌≢◌, ℕ, zero, ◌+◌, ◌-◌, ◌*◌, ◌%◌, ◌^◌, ◌<◌, ◌≤◌, List, [], ◌∷◌, length, true, set, slice_index, Some, eqb, refl, sym, ap, ◌∙◌, subst, arith}
 use prog.Atomic.{either}
 use mathlib.Core.Logic.{dite}
 use native.Mathlib.Decide.{ℕ_discrete}
 use mathlib.Core.Option.{none}
-use Rattle.std.specs.Prelude.{slice_get, ◌||◌}
+use Rattle.std.specs.Prelude.{slice_get, count_by, ◌||◌}
 use Rattle.atomic_table.specs.Table.{Me, Act, Valid, step, keeps, stepped, carried_after, Allows}
 use Rattle.atomic_table.proofs.Lists.{exchanged}
 use Rattle.image_base.specs.Records.{Records}
@@ -17,8 +17,10 @@ use Rattle.gen_core.specs.declared.views.Buffer.TheVariants.{Held}
 use Rattle.gen_core.specs.declared.views.View.{View}
 use Rattle.gen_core.specs.declared.views.View.TheVariants.{Writer}
 use Rattle.gen_core.specs.declared.views.WriterView.{WriterView}
-use Rattle.gen_core.specs.Views.{hold_place, newest_word, active_in}
-use Rattle.gen_core.specs.Good.{State as CoreState, Good}
+use Rattle.gen_core.specs.declared.views.ReaderView.{ReaderView}
+use Rattle.gen_core.specs.Views.{hold_place, newest_word, active_in, is_open, is_counted_on, oldest_in, queue_of}
+use Rattle.gen_core.specs.Good.{State as CoreState, HoldFits, Good, hold_word}
+use Rattle.gen_core.proofs.Holds.{at_newest, at_oldest, newest-open, first-open}
 use Rattle.gen_core.specs.Conditions.{MayReopen, MayPutOnHold, MayFree}
 use Rattle.gen_core.specs.Events.{probed, coming_hold, advanced, morphed, put_aside, freed, reopened, closed, stopped}
 use Rattle.gen_core.proofs.Advancing.{closed-word, reopen_keeps, store_newest_keeps, probe_keeps, stop_keeps}
@@ -29,6 +31,16 @@ use Rattle.word_arena.specs.WriterHolds.{told_reopen, told_store_newest, told_mo
 use Rattle.word_arena.proofs.Allowed.{writing, ruled_by}
 use Rattle.gen_core.proofs.GoodViews.{good_view}
 use Rattle.gen_core.proofs.OneStep.{set_back}
+
+-- where no reader was made, an open hold is unused
+alone-unused : (reaches : ℕ → Records → ℕ → List ℕ) (lawful : ℕ → Records → ℕ → Type 0) (s : CoreState) → Good reaches lawful s → (h : ℕ) → h < 16 → is_open s.writer.queue h ≡ true
+    → s.writer.made ≡ 0 → slice_index s.words (hold_place h) ≡ 0
+alone-unused reaches lawful s g h low opened made =
+    g.counts.counts h low ∙ (λ k. hold_word (count_by (λ r. is_counted_on h r.state) (no-readers s.readers (g.counts.views ∙ made) k)) (opened k))
+  where
+    no-readers : (rs : List ReaderView) → length rs ≡ 0 → rs ≡ []
+    no-readers [] e = refl
+    no-readers (r ∷ rs) e = absurd (omega (arith, e))
 
 module _ (reaches : ℕ → Records → ℕ → List ℕ) (lawful : ℕ → Records → ℕ → Type 0) (sizes : Sizes) where
   pub store_newest_allowed : (slots id : ℕ) (w : WriterView) (h : ℕ) → w.queue.pending ≡ Next h
@@ -123,6 +135,7 @@ module _ (reaches : ℕ → Records → ℕ → List ℕ) (lawful : ℕ → Reco
           Writer (closed w es), keeps, tt,
           ruled_by reaches lawful sizes t id w (closed w es) k _ refl good,
           record {
+            alone = λ _. zero;
             hit = λ _ d ds is.
                 let same : es ≡ ds = one_tail e d es ds (sym older ∙ is) in
                 subst (λ (l : List OpenHold). Becomes (Writer w, []) (closed w l) (Writer (closed w es), [])) same (record { is = refl; good = good_view reaches lawful _ good });
@@ -133,7 +146,16 @@ module _ (reaches : ℕ → Records → ℕ → List ℕ) (lawful : ℕ → Reco
           Writer (stopped w found), keeps, tt,
           ruled_by reaches lawful sizes t id w (stopped w found) k _ refl
             (subst (λ (l : List ℕ). Good reaches lawful (record { words = l; writer = stopped w found; readers = k.readers })) (sym (set_back t.words (hold_place e.hold))) good),
-          record { hit = λ zero. absurd (ne zero); miss = λ _. record { is = refl; good = good_view reaches lawful _ good } }))
+          record {
+            hit = λ zero. absurd (ne zero);
+            miss = λ _. record { is = refl; good = good_view reaches lawful _ good };
+            alone = λ made.
+                let low : e.hold < 16 = subst (λ (x : OpenHold). x.hold < 16) (ap (λ (o : List OpenHold). oldest_in o w.queue.newest) older)
+                    (at_oldest (HoldFits w.commits) w.queue.older w.queue.newest k.good.queue.each).hold in
+                let opened : is_open w.queue e.hold ≡ true =
+                    ap (λ (o : List OpenHold). is_open (queue_of o w.queue.newest w.queue.pending) e.hold) older ∙ first-open e es w.queue.newest w.queue.pending in
+                alone-unused reaches lawful _ k.good e.hold low opened made;
+          }))
     where
       one_tail : (a b : OpenHold) (xs ys : List OpenHold) → a ∷ xs ≡ b ∷ ys → xs ≡ ys
       one_tail a b xs ys h = cc
@@ -149,13 +171,17 @@ module _ (reaches : ℕ → Records → ℕ → List ℕ) (lawful : ℕ → Reco
           Writer (probed w), keeps, tt,
           ruled_by reaches lawful sizes t id w (probed w) k _ refl
             (subst (λ (l : List ℕ). Good reaches lawful (record { words = l; writer = probed w; readers = k.readers })) (sym (set_back t.words (hold_place w.queue.newest.hold))) good),
-          record { hit = λ _. record { is = refl; good = good_view reaches lawful _ good }; miss = λ ne. absurd (ne zero) }))
+          record { hit = λ _. record { is = refl; good = good_view reaches lawful _ good }; miss = λ ne. absurd (ne zero); alone = λ _. zero }))
       (λ ne.
         let good = stop_keeps reaches lawful _ found k.good in (
           Writer (stopped w found), keeps, tt,
           ruled_by reaches lawful sizes t id w (stopped w found) k _ refl
             (subst (λ (l : List ℕ). Good reaches lawful (record { words = l; writer = stopped w found; readers = k.readers })) (sym (set_back t.words (hold_place w.queue.newest.hold))) good),
-          record { hit = λ zero. absurd (ne zero); miss = λ _. record { is = refl; good = good_view reaches lawful _ good } }))
+          record {
+            hit = λ zero. absurd (ne zero);
+            miss = λ _. record { is = refl; good = good_view reaches lawful _ good };
+            alone = alone-unused reaches lawful _ k.good w.queue.newest.hold (at_newest (HoldFits w.commits) w.queue.older w.queue.newest k.good.queue.each).hold (newest-open w.queue);
+          }))
 
 -- the same at a seat whose view is known
 module _ (reaches : ℕ → Records → ℕ → List ℕ) (lawful : ℕ → Records → ℕ → Type 0) (sizes : Sizes) (slots id : ℕ) (me : Me Slot View) where

@@ -22,7 +22,7 @@ use Rattle.gen_core.specs.Good.{GoodView}
 use Rattle.gen_core.specs.Events.{with_reader, joined}
 use Rattle.arena_api.specs.Calls.{IsWithinLimits}
 use Rattle.word_arena.specs.Ruled.{Slot, writer_of, api_sizes, ToldLoadOwn}
-use Rattle.word_arena.specs.Knows.{own_hold, IsDesk}
+use Rattle.word_arena.specs.Knows.{own_hold, StoresEntries, IsDesk}
 use Rattle.gen_core.proofs.GoodViews.{records-placed}
 use Rattle.word_arena.proofs.Guards.{base-inside}
 
@@ -42,8 +42,8 @@ module _ {bits : ℕ} {arena : TableId} {sizes : Sizes} {buffers : List Buffer} 
 
   -- the desk after a step to the view v
   pub desk_after : {z' : TableId} {me' : Me Slot View} {buffers' : List Buffer} {holds' : List HoldEntry} {last' made' : ℕ} (v : WriterView) → z' ≡ z → me' ≡ (Writer v, me.1) → v.sizes ≡ w.sizes → v.buffers ≡ buffers' → map own_hold (open_holds v.queue) ≡ holds'
-      → last' ≡ last_number v.commits → made' ≡ v.made → v.queue.pending ≡ Nothing → GoodView v → IsDesk bits arena sizes buffers' holds' last' made' z' me'
-  desk_after {z'} {me'} {buffers'} {holds'} {last'} {made'} v same is size of queue number count calm good =
+      → last' ≡ last_number v.commits → (made' ≡ v.made) × (made' ≤ 64) → v.queue.pending ≡ Nothing → GoodView v → StoresEntries v → IsDesk bits arena sizes buffers' holds' last' made' z' me'
+  desk_after {z'} {me'} {buffers'} {holds'} {last'} {made'} v same is size of queue number count calm good entries =
       let slots : me.1 ≡ [] = ap (λ (m : Me Slot View). m.1) d.is in
       let P : Me Slot View → Type 0 = λ m. IsDesk bits arena sizes buffers' holds' last' made' z' m in
       subst P (sym (is ∙ (λ k. (Writer v, slots k)))) (record {
@@ -60,6 +60,7 @@ module _ {bits : ℕ} {arena : TableId} {sizes : Sizes} {buffers : List Buffer} 
         readers = count;
         calm = calm;
         good = good;
+        entries = entries;
       })
 
   pub arena-words : arena.words ≡ size_of sizes.buffers sizes.words

@@ -69,6 +69,7 @@ guards {reaches} {lawful} {bits} {arena} {sizes} {z} {z'} {me} {me'} {found} h i
       },
       record {
         later = subst (λ (x : ReaderView). r.seen ≤ number_of x) (sym p.1) s.later;
+        least = subst (λ (x : ReaderView). r.least ≤ x.least) (sym p.1) (omega arith);
         commit = subst (λ (x : ReaderView). IsLawfulCommit reaches lawful x.sizes.shape (image_of x)) (sym p.1) s.commit;
       },
     )

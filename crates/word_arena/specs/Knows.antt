@@ -5,7 +5,8 @@ use Rattle.atomic_table.specs.Table.{Me}
 use Rattle.atomic_table.specs.Seated.{TableId}
 use Rattle.image_base.specs.declared.Image.{Image}
 use Rattle.image_base.specs.Images.{no_image}
-use Rattle.image_base.specs.Places.{size_of}
+use Rattle.entry_ref.specs.References.{buffer_of}
+use Rattle.image_base.specs.Places.{base, size_of}
 use Rattle.gen_core.specs.declared.views.Sizes.{Sizes}
 use Rattle.generation_handler.specs.declared.HoldEntry.{HoldEntry}
 use Rattle.gen_core.specs.declared.views.OpenHold.{OpenHold}
@@ -17,7 +18,7 @@ use Rattle.gen_core.specs.declared.views.View.{View}
 use Rattle.gen_core.specs.declared.views.View.TheVariants.{Writer}
 use Rattle.gen_core.specs.declared.views.WriterView.{WriterView}
 use Rattle.gen_core.specs.Views.{floor_of, last_number, open_holds}
-use Rattle.gen_core.specs.Work.{stored_by}
+use Rattle.gen_core.specs.Work.{work_at, stored_by}
 use Rattle.arena_api.specs.Works.{WorkView, Hold, Tag as ApiTag, Buffer as ApiBuffer}
 use Rattle.arena_api.specs.Calls.{IsWithinLimits}
 use Rattle.word_arena.specs.Ruled.{Slot, writer_of, api_sizes}
@@ -60,6 +61,11 @@ view_of home w = record {
 abbrev pub own_hold : OpenHold → HoldEntry
 own_hold e = record { generation = e.generation; hold = e.hold; first_commit = e.first_commit }
 
+-- where no word of an entry of a buffer was stored since the last commit, no word of the buffer was
+pub record StoresEntries (w : WriterView) : Type 0 where
+  pub none : (b x : ℕ) → x < w.sizes.words → ((r i : ℕ) → buffer_of w.sizes.offset_bits r ≡ b → stored_by w r i ≡ None)
+      → work_at w.work (base w.sizes.buffers w.sizes.words b + x) ≡ None
+
 -- what a writer has beside its view
 pub record IsDesk (bits : ℕ) (arena : TableId) (sizes : Sizes) (buffers : List Buffer) (holds : List HoldEntry) (last made : ℕ) (z : TableId) (me : Me Slot View) : Type 0 where
   pub own : z ≡ arena
@@ -72,9 +78,10 @@ pub record IsDesk (bits : ℕ) (arena : TableId) (sizes : Sizes) (buffers : List
   pub same_buffers : (writer_of me.0).buffers ≡ buffers
   pub same_holds : map own_hold (open_holds (writer_of me.0).queue) ≡ holds
   pub commits : last ≡ last_number (writer_of me.0).commits
-  pub readers : made ≡ (writer_of me.0).made
+  pub readers : (made ≡ (writer_of me.0).made) × (made ≤ 64)
   pub calm : (writer_of me.0).queue.pending ≡ Nothing
   pub good : GoodView (writer_of me.0)
+  pub entries : StoresEntries (writer_of me.0)
 
 -- buffers by number
 abbrev pub buffers_by : List Buffer → ℕ → ApiBuffer

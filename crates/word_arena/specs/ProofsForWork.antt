@@ -1,6 +1,6 @@
 -- Nobody has to read this: lemmas that the writer cites for what is always so of a work.
-use Rattle.std.proofs.Common.{◌≡◌, ◌≢◌, ◌⊎◌, ℕ, suc, ◌+◌, ◌*◌, ◌<◌, ◌≤◌, List, [], ◌∷◌, map, length, get_or, slice_index, Option, Some, None, ◌&&◌, refl, sym, ap, subst, ◌∙◌, arith}
-use Rattle.std.specs.Prelude.{◌^◌, ◌++◌, slice_get, All, option_and_then}
+use Rattle.std.proofs.Common.{◌≡◌, ◌≢◌, ◌⊎◌, inl, inr, ⊎_elim, ℕ, suc, ◌+◌, ◌*◌, ◌<◌, ◌≤◌, List, [], ◌∷◌, map, length, get_or, slice_index, Option, Some, None, ◌&&◌, refl, sym, ap, subst, ◌∙◌, arith}
+use Rattle.std.specs.Prelude.{◌^◌, ◌++◌, slice_get, All, AllPairs, option_and_then}
 use Rattle.std.specs.List.{AllByRecursion}
 use Rattle.std.specs.Option.{unwrap_or}
 use Rattle.std.proofs.lemmas.Option.{slice_get-get_or}
@@ -19,17 +19,20 @@ use Rattle.gen_core.specs.declared.views.Buffer.{Buffer}
 use Rattle.gen_core.specs.declared.views.Buffer.TheVariants.{Free, Active, Held}
 use Rattle.gen_core.specs.declared.views.WriterView.{WriterView}
 use Rattle.gen_core.specs.Views.{open_holds, oldest_in, coming_after, floor_of, last_number, last_image, record_width, active_width, active_in}
-use Rattle.gen_core.specs.Work.{writer_records, stored_by}
-use Rattle.gen_core.specs.Good.{GoodView}
-use Rattle.gen_core.proofs.Lists.{some-same}
+use Rattle.gen_core.specs.Work.{writer_records, stored_by, IsWhole}
+use Rattle.gen_core.proofs.Work.{records-found}
+use Rattle.std.proofs.lemmas.List.{length-map, length_push}
+use Rattle.gen_core.specs.Good.{GoodView, IsBefore, HasNothingIn}
+use Rattle.gen_core.proofs.Lists.{some-same, all_drop-at, all_found}
 use Rattle.gen_core.proofs.Holds.{newest-most, oldest-least}
 use Rattle.gen_core.proofs.WriterRecords.{records-whole}
 use Rattle.gen_core.proofs.GoodViews.{some-commit, floor-last, last-in, kept-placed, records-last, records-placed, records-active}
 use Rattle.gen_core.proofs.StoredWords.{is_stored, stored-there}
-use Rattle.arena_api.specs.Works.{Hold, Tag as ApiTag, Buffer as ApiBuffer, active_width as api_active, width_of}
-use Rattle.arena_api.specs.Calls.{IsWithinLimits, IsInOrder, IsWordIn, FitsEntry, oldest_first}
+use Rattle.arena_api.specs.Works.{Hold, Tag as ApiTag, Buffer as ApiBuffer, active_width as api_active, width_of, newest_of, oldest_of}
+use Rattle.arena_api.specs.Generations.{IsBefore as IsLater, AreInOrder, IsOpenHold, IsQueue, IsHeldUnder}
+use Rattle.arena_api.specs.Calls.{IsWithinLimits, IsInOrder, IsWordIn, FitsEntry}
 use Rattle.word_arena.specs.Ruled.{api_sizes, Slot, writer_of}
-use Rattle.word_arena.specs.Knows.{api_buffer, api_hold, image_at, view_of, IsDesk}
+use Rattle.word_arena.specs.Knows.{api_tag, api_buffer, api_hold, image_at, view_of, IsDesk}
 use Rattle.gen_core.specs.declared.views.View.{View}
 use Rattle.atomic_table.specs.Seated.{TableId}
 use Rattle.atomic_table.specs.Table.{Me}
@@ -56,9 +59,27 @@ coming-least newest Nothing = omega arith
 coming-least newest (Next h) = omega arith
 coming-least newest Probed = omega arith
 
-oldest-hold : (older : List OpenHold) (newest : OpenHold) → oldest_first (map api_hold (older ++ newest ∷ [])) ≡ (oldest_in older newest).first_commit
+oldest-hold : (older : List OpenHold) (newest : OpenHold) → (oldest_of (map api_hold (older ++ newest ∷ []))).first ≡ (oldest_in older newest).first_commit
 oldest-hold [] newest = refl
 oldest-hold (e ∷ es) newest = refl
+
+-- the holds of a work are in order
+in_order : (xs : List OpenHold) → AllPairs IsBefore xs → AreInOrder (map api_hold xs)
+in_order [] rising = tt
+in_order (x ∷ xs) rising = (
+      by_places (λ h. IsLater (api_hold x) h) api_hold xs (λ k d lt.
+        let before = rising 0 (suc k) d (omega arith) (omega arith) in
+        record { generation = before.generation; hold = before.hold; first = before.first_commit }),
+      in_order xs (λ i j d less more. rising (suc i) (suc j) d (omega arith) (omega arith)),
+    )
+
+pub length-holds : (older : List OpenHold) (newest : OpenHold) → length (map api_hold (older ++ newest ∷ [])) ≡ length older + 1
+length-holds older newest = length-map (older ++ newest ∷ []) api_hold ∙ length_push older newest
+
+pub newest-api : (older : List OpenHold) (newest : OpenHold) → newest_of (map api_hold (older ++ newest ∷ [])) ≡ api_hold newest
+newest-api [] newest = refl
+newest-api (x ∷ []) newest = refl
+newest-api (x ∷ y ∷ ys) newest = newest-api (y ∷ ys) newest
 
 -- widths as the core and as a work tell them
 pub api-active : (o : Option Buffer) (n : ℕ) → option_and_then active_width o ≡ Some n → api_active (api_buffer o) ≡ n
@@ -119,9 +140,51 @@ module _ (w : WriterView) (g : GoodView w) (bits : ℕ) (same : w.sizes.offset_b
     floor = floor-last w g;
     limit = g.queue.commit;
     oldest = (let e = oldest-hold w.queue.older w.queue.newest in omega (arith, e));
-    holds = by_places (λ h. h.generation ≤ w.sizes.generation_limit) api_hold (open_holds w.queue)
-        (λ k d lt. let a = newest-most w.queue.older w.queue.newest g.queue.rising k d lt in let b = coming-least w.queue.newest w.queue.pending in let c = g.queue.generation in omega arith);
   }
+
+  pub work_queue : {H : Type 0} (home : H) → IsQueue (view_of home w)
+  work_queue home = record {
+    some = omega (arith, length-holds w.queue.older w.queue.newest);
+    few = (let f = g.queue.few in omega (arith, length-holds w.queue.older w.queue.newest));
+    order = in_order (open_holds w.queue) g.queue.rising;
+    each = by_places (IsOpenHold (view_of home w)) api_hold (open_holds w.queue) (λ k d lt.
+        let fits = g.queue.each k d lt in let hold = fits.hold in let first = fits.first_commit in
+        let a = newest-most w.queue.older w.queue.newest g.queue.rising k d lt in let b = coming-least w.queue.newest w.queue.pending in let c = g.queue.generation in
+        record { hold = hold; first = first; generation = omega arith });
+  }
+
+  pub work_only : (r : ℕ) → 0 < length (writer_records w r)
+      → (writer_records w r ≡ words_at (image_at w.commits (last_number w.commits)) r) ⊎ ((i : ℕ) → i < length (writer_records w r) → stored_by w r i ≡ Some (slice_index (writer_records w r) i))
+  work_only r some = ⊎_elim
+      (λ (old : record_at (last_image w.commits) r ≡ Some (writer_records w r)). inl (sym (ap (λ image. words_at image r) last-image ∙ ap (λ o. unwrap_or o []) old)))
+      (λ (whole : IsWhole w r (writer_records w r)). inr (λ i lt. stored-there w r i (length (writer_records w r)) whole.active whole.entry lt ∙ whole.words i lt))
+      (records-found w r some)
+
+  pub work_held : {H : Type 0} (home : H) (b width : ℕ) (t : ApiTag) → api_buffer (slice_get w.buffers b) ≡ ApiBuffer.held width t → IsHeldUnder bits (view_of home w) b t
+  work_held home b width t e = by_buffer (slice_get w.buffers b) refl e
+    where
+      under : (n : ℕ) (tag : Tag) → slice_get w.buffers b ≡ Some (Held n tag) → IsHeldUnder w.sizes.offset_bits (view_of home w) b (api_tag tag)
+      under n tag at = let h = g.tags.held b n tag at in record {
+        generation = subst (λ (x : ℕ). tag.generation ≤ x) (sym (ap (λ (x : Hold). x.generation) (newest-api w.queue.older w.queue.newest))) h.generation;
+        commit = h.commit;
+        unused = λ k r kept from in_b.
+            let to = kept.to in let some = some-commit w g in
+            let none = all_drop-at (HasNothingIn w.sizes.offset_bits b) tag.commit w.commits k (image_at w.commits k) h.unused from (at_number w.commits k (omega arith)) in
+            by_record (image_at w.commits k) r none in_b (record_at (image_at w.commits k) r) refl;
+        later = by_places (λ x. tag.generation < x.generation → tag.commit ≤ x.first) api_hold (open_holds w.queue) h.first_commits;
+      }
+        where
+          by_record : (image : Image) (r : ℕ) → HasNothingIn w.sizes.offset_bits b image → buffer_of w.sizes.offset_bits r ≡ b → (o : Option (List ℕ)) → record_at image r ≡ o → unwrap_or o [] ≡ []
+          by_record image r none in_b None is = refl
+          by_record image r none in_b (Some ws) is = absurd (all_found (λ pair. buffer_of w.sizes.offset_bits pair.0 ≢ b) image.records r ws none is in_b)
+
+      by_buffer : (o : Option Buffer) → slice_get w.buffers b ≡ o → api_buffer o ≡ ApiBuffer.held width t → IsHeldUnder bits (view_of home w) b t
+      by_buffer None at is = absurd (cc)
+      by_buffer (Some (Free last)) at is = absurd (cc)
+      by_buffer (Some (Active n last)) at is = absurd (cc)
+      by_buffer (Some (Held n tag)) at is =
+          let alike : api_tag tag ≡ t = cc in
+          subst (λ x. IsHeldUnder bits (view_of home w) b x) alike (subst (λ x. IsHeldUnder x (view_of home w) b (api_tag tag)) same (under n tag at))
 
   pub work_tags : (b : ℕ) (t : ApiTag) → api_buffer (slice_get w.buffers b) ≡ ApiBuffer.free (Some t) → AllByRecursion (λ (h : Hold). t.generation < h.generation) (map api_hold (open_holds w.queue))
   work_tags b t e = by_buffer (slice_get w.buffers b) refl e

@@ -191,9 +191,10 @@ pub record IsGuard (bits : ℕ) (arena : TableId) (sizes : Sizes) (hold word : �
   pub small_number : number_of (reader_of me.0) < 2 ^ 32
   pub entries : All (λ pair. IsEntry bits sizes.buffers sizes.words (length pair.1) pair.0) (image_of (reader_of me.0)).records
 
--- the guard's commit is lawful, and not below what the reader had seen
+-- the guard's commit is lawful, and not below what the reader had seen; nor is the least generation below the one asked for
 pub record IsLater (reaches : ℕ → Records → ℕ → List ℕ) (lawful : ℕ → Records → ℕ → Type 0) (r : ReaderView) (r' : ReaderView) : Type 0 where
   pub later : r.seen ≤ number_of r'
+  pub least : r.least ≤ r'.least
   pub commit : IsLawfulCommit reaches lawful r'.sizes.shape (image_of r')
 
 -- after a miss the reader aims higher, and not above the limit

@@ -23,6 +23,7 @@ told_morph st me found me' = (writer_of me.0).queue.pending ≡ Probed → Becom
 pub record ToldProbe (me : Me Slot View) (found : ℕ) (me' : Me Slot View) : Type 0 where
   pub hit : found ≡ 0 → Becomes me (probed (writer_of me.0)) me'
   pub miss : found ≢ 0 → Becomes me (stopped (writer_of me.0) found) me'
+  pub alone : (writer_of me.0).made ≡ 0 → found ≡ 0
 
 abbrev pub told_probe : Step Slot → Me Slot View → ℕ → Me Slot View → Type 0
 told_probe st me found me' = ToldProbe me found me'
@@ -30,6 +31,7 @@ told_probe st me found me' = ToldProbe me found me'
 pub record ToldClose (me : Me Slot View) (found : ℕ) (me' : Me Slot View) : Type 0 where
   pub hit : found ≡ 0 → (e : OpenHold) (es : List OpenHold) → (writer_of me.0).queue.older ≡ e ∷ es → Becomes me (closed (writer_of me.0) es) me'
   pub miss : found ≢ 0 → Becomes me (stopped (writer_of me.0) found) me'
+  pub alone : (writer_of me.0).made ≡ 0 → found ≡ 0
 
 abbrev pub told_close : Step Slot → Me Slot View → ℕ → Me Slot View → Type 0
 told_close st me found me' = ToldClose me found me'

@@ -4,6 +4,7 @@ ghost use Rattle.arena_api.specs.Works.{active_width, free_count, is_free as is_
 ghost use Rattle.arena_api.specs.Calls.{IsLowestFree};
 ghost use Rattle.gen_core.specs.Views.{last_tag_in};
 ghost use Rattle.word_arena.specs.Knows.{api_buffer, buffers_by};
+ghost use Rattle.word_arena.specs.WriterSteps.{unused_tag_in};
 
 use gen_core::{Buffer, Tag};
 
@@ -28,6 +29,24 @@ pub(crate) fn last_of(buffers: &[Buffer], buffer: u32) -> Option<Tag>
         Buffer::Free(last) => last,
         Buffer::Active(_, last) => last,
         Buffer::Held(_, tag) => Some(tag),
+    }
+}
+
+/// The tag of a buffer on hold, where it is below a generation.
+pub(crate) fn unused_tag(buffers: &[Buffer], buffer: u32, generation: u64) -> Option<Tag>
+    requires { buffer < length buffers.now }
+    ensures { result ≡ unused_tag_in generation buffers.now buffer }
+{
+    match buffers[buffer as usize] {
+        Buffer::Free(_) => None,
+        Buffer::Active(_, _) => None,
+        Buffer::Held(_, tag) => {
+            if tag.generation < generation {
+                Some(tag)
+            } else {
+                None
+            }
+        }
     }
 }
 

@@ -7,10 +7,12 @@ mod holds;
 mod plays;
 mod reader;
 mod rule;
+mod steps;
 mod work;
 mod writer;
 
 pub use arena::{Arena, Token};
 pub use reader::{Again, Aimed, Guarded, Reader};
+pub use steps::Steps;
 pub use work::Home;
-pub use writer::Writer;
+pub use writer::{NoSeat, Writer};

@@ -1,5 +1,5 @@
 //! The readers, and their guards.
-ghost use Rattle.std.specs.Prelude.{◌%◌, ◌≡◌, ◌+◌, ◌*◌, ◌<◌, ◌≤◌, ◌^◌, ℕ, List, length, Some, slice_index, IfOk, IfErr};
+ghost use Rattle.std.specs.Prelude.{take, drop, ◌%◌, ◌≡◌, ◌+◌, ◌*◌, ◌<◌, ◌≤◌, ◌^◌, ℕ, List, length, Some, slice_index, IfOk, IfErr};
 ghost use Rattle.image_base.specs.Images.{words_at};
 ghost use Rattle.gen_core.specs.Events.{with_state};
 ghost use Rattle.gen_core.specs.declared.views.ReaderState.TheVariants.{Idle};
@@ -10,10 +10,12 @@ ghost use Rattle.image_base.specs.Records.{HasWord, word_at};
 use crate::arena::Arena;
 use crate::plays::{Bounce, LoadNewest, LoadRoot, LoadWord, Raise, Release};
 use crate::rule::Place;
+use crate::steps::Steps;
 use frozen_api::Frozen;
 use entry_ref::EntryRef;
 use gen_core::Sizes;
 use image_base::{Layout, place_of};
+use std::sync::ledger::Ledger;
 
 #[derive(Drop)]
 pub struct Reader<'a, const OFFSET_BITS: u32, L: Layout> {
@@ -83,13 +85,15 @@ impl<'a, const OFFSET_BITS: u32, L: Layout> Reader<'a, OFFSET_BITS, L> {
         self.aim().try_raise()
     }
 
-    /// A guard of the last commit, after as many tries as it takes: at most one for each generation from the least
-    /// that it asks for to the limit.
-    pub fn guard(self) -> Guarded<'a, OFFSET_BITS, L>
-        ensures { IsLater L.reaches L.lawful (reader_of self.entry.place.me.0) (reader_of result.place.me.0) }
+    /// A guard of the last commit, after as many tries as it takes: each that fails leaves a generation behind.
+    pub fn guard<C: Ledger>(self, tries: &mut Steps<C>) -> Guarded<'a, OFFSET_BITS, L>
+        ensures later { IsLater L.reaches L.lawful (reader_of self.entry.place.me.0) (reader_of result.place.me.0) }
+        ensures few { tries.new + (reader_of self.entry.place.me.0).least ≤ tries.old + 1 + (reader_of result.place.me.0).least }
+        ensures limit { tries.new ≤ tries.old + 1 + (reader_of self.entry.place.me.0).sizes.generation_limit }
     {
         let mut reader = self;
         loop {
+            tries.tick();
             match reader.try_guard() {
                 Ok(guard) => return guard,
                 Err(again) => {
@@ -212,6 +216,17 @@ impl<'a, const OFFSET_BITS: u32, L: Layout> Frozen<OFFSET_BITS> for Guarded<'a, 
             .table
             .shared
             .load::<LoadWord>(&mut self.place, place as usize)
+    }
+
+    fn read(&mut self, entry: EntryRef<OFFSET_BITS>, first: u32, into: &mut [u64])
+        requires there { first + length into.old ≤ length (⟦<Guarded<'a, OFFSET_BITS, L> as Frozen<OFFSET_BITS>>⟧.records self.old entry) }
+        requires few { first + length into.old < 2 ^ 32 }
+        ensures words { into.new ≡ take (length into.old) (drop first (⟦<Guarded<'a, OFFSET_BITS, L> as Frozen<OFFSET_BITS>>⟧.records self.old entry.entry)) }
+        ensures same { self.new ≡ self.old }
+    {
+        for i in 0..into.len() {
+            into[i] = self.word(entry, first + i as u32);
+        }
     }
 
     ghost references = { λ g. guard_references g.stands };

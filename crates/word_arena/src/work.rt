@@ -13,7 +13,7 @@ ghost use Rattle.word_arena.specs.Knows.{view_of, given, buffers_by};
 use crate::buffers::{count_free, last_of, lowest_free, width_of};
 use crate::plays::{HandOut, Publish, StoreWidth, StoreWord};
 use crate::writer::Writer;
-use arena_api::Work;
+use arena_api::{Advance, Oldest, Work};
 use entry_ref::EntryRef;
 use frozen_api::Frozen;
 use gen_core::Buffer;
@@ -67,7 +67,7 @@ impl<'a, const OFFSET_BITS: u32, L: Layout> Writer<'a, OFFSET_BITS, L> {
 }
 
 impl<'a, const OFFSET_BITS: u32, L: Layout> Work<OFFSET_BITS> for Writer<'a, OFFSET_BITS, L> {
-    ghost use Rattle.word_arena.specs.ProofsForWork.{desk_bits, work_order, work_entries, work_kept, work_last, work_whole, work_stored, work_tags};
+    ghost use Rattle.word_arena.specs.ProofsForWork.{desk_bits, work_queue, work_order, work_only, work_held, work_entries, work_kept, work_last, work_whole, work_stored, work_tags};
 
     type Layout = L;
 
@@ -139,6 +139,26 @@ impl<'a, const OFFSET_BITS: u32, L: Layout> Work<OFFSET_BITS> for Writer<'a, OFF
         number
     }
 
+    fn retire_buffer(&mut self, buffer: u32) {
+        self.put_on_hold(buffer);
+    }
+
+    fn advance(&mut self) -> Advance {
+        self.go_on()
+    }
+
+    fn reclaim(&mut self) -> Oldest {
+        let found = self.close_unused();
+        self.free_unused();
+        let oldest = self.holds.oldest();
+        Oldest {
+            generation: oldest.generation,
+            hold: oldest.hold,
+            found,
+            newest: found == 0,
+        }
+    }
+
     fn free_buffers(&self) -> u32 {
         count_free(self.buffers.as_slice(), self.sizes.buffers as u32)
     }
@@ -159,6 +179,8 @@ impl<'a, const OFFSET_BITS: u32, L: Layout> Work<OFFSET_BITS> for Writer<'a, OFF
 
     ghost total_words = { λ w. w.stands.product };
 
+    ghost queue = { λ w. work_queue (writer_of w.place.me.0) w.stands.good OFFSET_BITS (desk_bits w.stands) w.place.table_id };
+
     ghost order = { λ w. work_order (writer_of w.place.me.0) w.stands.good OFFSET_BITS (desk_bits w.stands) w.place.table_id };
 
     ghost entries = { λ w. work_entries (writer_of w.place.me.0) w.stands.good OFFSET_BITS (desk_bits w.stands) };
@@ -168,6 +190,10 @@ impl<'a, const OFFSET_BITS: u32, L: Layout> Work<OFFSET_BITS> for Writer<'a, OFF
     ghost last = { λ w. work_last (writer_of w.place.me.0) w.stands.good OFFSET_BITS (desk_bits w.stands) };
 
     ghost whole = { λ w. work_whole (writer_of w.place.me.0) w.stands.good OFFSET_BITS (desk_bits w.stands) };
+
+    ghost only = { λ w. work_only (writer_of w.place.me.0) w.stands.good OFFSET_BITS (desk_bits w.stands) };
+
+    ghost held = { λ w. work_held (writer_of w.place.me.0) w.stands.good OFFSET_BITS (desk_bits w.stands) w.place.table_id };
 
     ghost stored = { λ w. work_stored w.place.table_id (writer_of w.place.me.0) OFFSET_BITS (desk_bits w.stands) };
 

@@ -1,5 +1,5 @@
 //! The one writer.
-ghost use Rattle.std.specs.Prelude.{◌≡◌, ◌+◌, ◌*◌, ◌<◌, ◌≤◌, ℕ, length, [], IfOk, IfSome, IfNone, slice_get, Some, All};
+ghost use Rattle.std.specs.Prelude.{take, drop, ◌≡◌, ◌+◌, ◌*◌, ◌^◌, ◌<◌, ◌≤◌, ℕ, length, [], IfOk, IfErr, slice_get, Some, All};
 ghost use Rattle.image_base.specs.Images.{words_at};
 ghost use Rattle.image_base.specs.Places.{size_of};
 ghost use Rattle.gen_core.specs.declared.views.View.TheVariants.{Writer as WriterSees};
@@ -35,6 +35,12 @@ pub struct Writer<'a, const OFFSET_BITS: u32, L: Layout> {
     ghost stands: { IsDesk OFFSET_BITS arena.now.table.shared.table_id sizes buffers.items holds last made place.table_id place.me },
 }
 
+/// As many readers were made as there can be.
+#[derive(Clone, Copy, PartialEq, Eq, Debug, Drop)]
+pub struct NoSeat {
+    pub made: u32,
+}
+
 impl<const OFFSET_BITS: u32, L: Layout> Arena<OFFSET_BITS, L> {
     pub fn writer(&self, alloc: Global, token: Token) -> Result<Writer<'_, OFFSET_BITS, L>, AllocError>
         requires own { token.place.table_id ≡ self.now.table.shared.table_id }
@@ -60,18 +66,19 @@ impl<const OFFSET_BITS: u32, L: Layout> Arena<OFFSET_BITS, L> {
 }
 
 impl<'a, const OFFSET_BITS: u32, L: Layout> Writer<'a, OFFSET_BITS, L> {
-    /// A reader that has seen the last commit.
-    pub fn reader(&mut self) -> Option<Reader<'a, OFFSET_BITS, L>>
-        ensures some { IfSome result (λ r. (r.place.table_id ≡ self.old.place.table_id) × (reader_of r.place.me.0 ≡ newcomer (writer_of self.old.place.me.0))
+    /// A reader that has seen the last commit. No seat exactly where 64 were made; one that was taken in still counts.
+    pub fn reader(&mut self) -> Result<Reader<'a, OFFSET_BITS, L>, NoSeat>
+        ensures ok { IfOk result (λ r. (r.place.table_id ≡ self.old.place.table_id) × (reader_of r.place.me.0 ≡ newcomer (writer_of self.old.place.me.0))
             × (writer_of self.new.place.me.0 ≡ with_reader (writer_of self.old.place.me.0))) }
-        ensures none { IfNone result (self.new ≡ self.old) }
+        ensures seat { IfOk result (λ r. (writer_of self.old.place.me.0).made < 64) }
+        ensures none { IfErr result (λ e. (e.made ≡ 64) × ((writer_of self.old.place.me.0).made ≡ 64) × (self.new ≡ self.old)) }
     {
         if self.made >= 64 {
-            return None;
+            return Err(NoSeat { made: self.made });
         }
         let place = self.arena.table.shared.split_seat::<Cut>(&mut self.place);
         self.made += 1;
-        Some(Reader {
+        Ok(Reader {
             arena: self.arena,
             sizes: self.sizes,
             place,
@@ -129,6 +136,17 @@ impl<'a, const OFFSET_BITS: u32, L: Layout> Frozen<OFFSET_BITS> for Writer<'a, O
             .table
             .shared
             .load::<LoadOwn>(&mut self.place, place as usize)
+    }
+
+    fn read(&mut self, entry: EntryRef<OFFSET_BITS>, first: u32, into: &mut [u64])
+        requires there { first + length into.old ≤ length (⟦<Writer<'a, OFFSET_BITS, L> as Frozen<OFFSET_BITS>>⟧.records self.old entry) }
+        requires few { first + length into.old < 2 ^ 32 }
+        ensures words { into.new ≡ take (length into.old) (drop first (⟦<Writer<'a, OFFSET_BITS, L> as Frozen<OFFSET_BITS>>⟧.records self.old entry.entry)) }
+        ensures same { self.new ≡ self.old }
+    {
+        for i in 0..into.len() {
+            into[i] = self.word(entry, first + i as u32);
+        }
     }
 
     ghost references = { λ w. work_references (writer_of w.place.me.0) w.stands.good OFFSET_BITS (desk_bits w.stands) w.stands.limits };

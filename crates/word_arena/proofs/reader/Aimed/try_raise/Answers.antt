@@ -34,7 +34,9 @@ returns-then-count-eq0-clause-ok g c =
     let h = guards c.args.self.hold b.post b.low (b.state ∙ even-state c.fetch_add-count.result _ c.if-count-eq0.true) c.load-found.ensures.0 c.load-found.ensures.2 in
     let later = h.1.later in
     let seen = b.seen in
-    record { later = omega arith; commit = h.1.commit }
+    let least = b.least in
+    let more = h.1.least in
+    record { later = omega arith; least = omega (arith, least, more); commit = h.1.commit }
 
 pub fetch_sub-requires : goal.fetch_sub-requires
 fetch_sub-requires g c =

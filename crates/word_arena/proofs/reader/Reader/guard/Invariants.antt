@@ -1,9 +1,15 @@
-use Rattle.std.proofs.Common.{◌≡◌, ◌+◌, ◌-◌}
+use Rattle.std.proofs.Common.{◌≡◌, ◌+◌, ◌-◌, ◌≤◌}
 use Rattle.word_arena.specs.Ruled.{reader_of}
 use Rattle.word_arena.proofs.reader.Reader.guard.Given as goal
 
 abbrev pub invariant-loop-guard : goal.invariant-loop-guard
-invariant-loop-guard g l = record { seen : (reader_of l.reader.place.me.0).seen ≡ (reader_of l.fn.self.place.me.0).seen }
+invariant-loop-guard g l = record {
+  seen : (reader_of l.reader.place.me.0).seen ≡ (reader_of l.fn.self.place.me.0).seen;
+  limit : (reader_of l.reader.place.me.0).sizes.generation_limit ≡ (reader_of l.fn.self.place.me.0).sizes.generation_limit;
+  rises : (reader_of l.fn.self.place.me.0).least ≤ (reader_of l.reader.place.me.0).least;
+  few : l.tries + (reader_of l.fn.self.place.me.0).least ≤ l.fn.tries + (reader_of l.reader.place.me.0).least;
+  within : l.tries ≤ l.fn.tries + (reader_of l.reader.place.me.0).sizes.generation_limit;
+}
 
 -- at most one try for each generation up to the limit
 abbrev pub decreases-loop-guard : goal.decreases-loop-guard

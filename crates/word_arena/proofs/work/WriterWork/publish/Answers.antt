@@ -34,7 +34,7 @@ invariant_of-self g c =
     let b = e.2 c.args.root (λ k. number k * 2 ^ 32 + root k) in
     let image = next_image g.L.Layout.reaches w c.args.root in
     record { stands = desk_after s.stands (published w image) e.0 b.is refl s.stands.same_buffers s.stands.same_holds
-        (ap (λ (n : ℕ). n + 1) s.stands.commits ∙ sym (last-more w s.stands.good image s.place.table_id)) s.stands.readers s.stands.calm b.good }
+        (ap (λ (n : ℕ). n + 1) s.stands.commits ∙ sym (last-more w s.stands.good image s.place.table_id)) s.stands.readers s.stands.calm b.good (record { none = λ _ _ _ _. refl }) }
 
 pub returns-clause-commit : goal.returns-clause-commit
 returns-clause-commit g c =

@@ -10,7 +10,8 @@ use Rattle.gen_core.specs.declared.views.WriterView.{WriterView}
 use Rattle.gen_core.specs.Views.{last_tag_in}
 use Rattle.gen_core.specs.Events.{handed_out, widened}
 use Rattle.word_arena.specs.Ruled.{Slot, writer_of}
-use Rattle.word_arena.specs.Knows.{given}
+use Rattle.word_arena.specs.Knows.{given, StoresEntries}
+use Rattle.word_arena.proofs.Entries.{entries-given}
 use Rattle.word_arena.proofs.Allowed.{hand_out_owed, width_owed}
 use Rattle.word_arena.proofs.Guards.{base-inside}
 use Rattle.word_arena.proofs.Desks.{arena-words, desk_after}
@@ -72,7 +73,8 @@ invariant_of-self g c =
     let list : v.buffers ≡ set s.buffers.items b (Active c.from-3.result c.last_of-last.result) =
         ap (λ (x : WriterView). x.buffers) steps ∙ (λ k. set (s.stands.same_buffers k) b (Active (value k) (tag k))) in
     record { stands = desk_after s.stands v (f.0 ∙ e.0) (second.is ∙ ap (λ (m : Me Slot View). (Writer (widened (writer_of m.0) b c.from-2.result), m.1)) first) refl list s.stands.same_holds
-        s.stands.commits s.stands.readers s.stands.calm (subst (λ (x : WriterView). GoodView (widened x b c.from-2.result)) mid second.good) }
+        s.stands.commits s.stands.readers s.stands.calm (subst (λ (x : WriterView). GoodView (widened x b c.from-2.result)) mid second.good)
+        (subst StoresEntries (sym steps) (entries-given w s.stands.good b (last_tag_in w.buffers b) c.from-2.result free some s.stands.entries)) }
 
 pub returns-clause-view : goal.returns-clause-view
 returns-clause-view g c =

@@ -13,8 +13,9 @@ use Rattle.word_arena.specs.Ruled.{Slot, writer_of}
 use Rattle.word_arena.specs.Knows.{buffers_by}
 use Rattle.word_arena.proofs.AllowedHolds.{hold_owed}
 use Rattle.word_arena.proofs.Desks.{arena-words, desk_after}
+use Rattle.word_arena.proofs.Entries.{entries-held}
 use Rattle.word_arena.proofs.OwnHolds.{own-newest}
-use Rattle.word_arena.proofs.writer.Writer.retire_buffer.Goals as goal
+use Rattle.word_arena.proofs.writer.Writer.put_on_hold.Goals as goal
 
 pub index_mut-requires : goal.index_mut-requires
 index_mut-requires g c =
@@ -45,10 +46,10 @@ invariant_of-self g c =
     let commit = sym (c.from.ensures ∙ s.stands.commits) in
     let list : (put_aside w b width).buffers ≡ set s.buffers.items b (Held c.width_of-width.result (record { generation = c.newest-newest.result.generation; commit = c.from.result })) =
         (λ k. set (s.stands.same_buffers k) b (Held (wide k) (record { generation = generation k; commit = commit k }))) in
-    record { stands = desk_after s.stands (put_aside w b width) e.0 told.is refl list s.stands.same_holds s.stands.commits s.stands.readers s.stands.calm told.good }
+    record { stands = desk_after s.stands (put_aside w b width) e.0 told.is refl list s.stands.same_holds s.stands.commits s.stands.readers s.stands.calm told.good (entries-held w b width c.requires s.stands.entries) }
 
-pub returns : goal.returns
-returns g c =
+pub returns-clause-view : goal.returns-clause-view
+returns-clause-view g c =
     let s = c.args.self.now in
     let w : WriterView = writer_of s.place.me.0 in
     let width : ℕ = active_width (buffers_by w.buffers c.args.buffer) in
