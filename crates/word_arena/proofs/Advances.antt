@@ -43,9 +43,9 @@ open-own (x ∷ xs) h is all = ⊎_elim (λ here. all.0 (eqb-true x.hold h here)
 closed-own : (xs : List OpenHold) (h : ℕ) → has_hold (map own_hold xs) h ≡ false → AllByRecursion (λ (e : Hold). e.hold ≡ h → ⊥) (map api_hold xs)
 closed-own [] h is = tt
 closed-own (x ∷ xs) h is = (
-      λ same. true≢false (sym (ap (λ t. t || has_hold (map own_hold xs) h) (eq-eqb x.hold h same)) ∙ is),
-      closed-own xs h (neither (nat_eq x.hold h) (has_hold (map own_hold xs) h) is),
-    )
+  λ same. true≢false (sym (ap (λ t. t || has_hold (map own_hold xs) h) (eq-eqb x.hold h same)) ∙ is),
+  closed-own xs h (neither (nat_eq x.hold h) (has_hold (map own_hold xs) h) is),
+)
   where
     neither : (a b : Bool) → (a || b) ≡ false → b ≡ false
     neither true b e = absurd (true≢false e)

@@ -114,7 +114,9 @@ module _ (reaches : ℕ → Records → ℕ → List ℕ) (lawful : ℕ → Reco
   hand_out_allowed slots id w b may t rule homes at small =
       let k = writing t rule id w at in
       let good = hand_out_keeps reaches lawful _ b k.good may in (
-        Writer (handed_out w b), keeps, tt,
+        Writer (handed_out w b),
+        keeps,
+        tt,
         ruled_by t id w (handed_out w b) k _ refl good,
         λ other same. let e : b ≡ other = omega arith in
             subst (λ (c : ℕ). Becomes (Writer w, []) (handed_out w c) (Writer (handed_out w b), [])) e (record { is = refl; good = good_view reaches lawful _ good }),
@@ -126,7 +128,9 @@ module _ (reaches : ℕ → Records → ℕ → List ℕ) (lawful : ℕ → Reco
   width_allowed slots id w b width may t rule homes at small =
       let k = writing t rule id w at in
       let good = store_width_keeps reaches lawful _ b width k.good may in (
-        Writer (widened w b width), keeps, tt,
+        Writer (widened w b width),
+        keeps,
+        tt,
         ruled_by t id w (widened w b width) k _ refl good,
         λ other same. let e : b ≡ other = base-same w.sizes b other k.good.sizes.some_word same in
             subst (λ (c : ℕ). Becomes (Writer w, []) (widened w c width) (Writer (widened w b width), [])) e (record { is = refl; good = good_view reaches lawful _ good }),
@@ -137,7 +141,9 @@ module _ (reaches : ℕ → Records → ℕ → List ℕ) (lawful : ℕ → Reco
   store_allowed slots id w p n may t rule homes at small =
       let k = writing t rule id w at in
       let good = store_word_keeps reaches lawful _ p n k.good may in (
-        Writer (stored w p n), keeps, tt,
+        Writer (stored w p n),
+        keeps,
+        tt,
         ruled_by t id w (stored w p n) k _ refl good,
         record { is = refl; good = good_view reaches lawful _ good },
       )
@@ -149,7 +155,9 @@ module _ (reaches : ℕ → Records → ℕ → List ℕ) (lawful : ℕ → Reco
       let k = writing t rule id w at in
       let v : WriterView = published w (next_image reaches w root) in
       let good = publish_keeps reaches lawful l _ root k.good may in (
-        Writer v, keeps, tt,
+        Writer v,
+        keeps,
+        tt,
         ruled_by t id w v k _ refl good,
         λ other same. let e : root ≡ other = omega arith in
             subst (λ (c : ℕ). Becomes (Writer w, []) (published w (next_image reaches w c)) (Writer v, [])) e (record { is = refl; good = good_view reaches lawful _ good }),
@@ -166,11 +174,18 @@ module _ (reaches : ℕ → Records → ℕ → List ℕ) (lawful : ℕ → Reco
   load_newest_allowed slots id r idle t rule homes at small =
       let k = reading t rule id r at in
       let v : ReaderView = aims r k.writer.queue.newest in (
-        Reader v, keeps, tt,
+        Reader v,
+        keeps,
+        tt,
         read_by t id r v k _ (subst (λ (l : List ℕ). Good reaches lawful (record { words = l; writer = k.writer; readers = set k.readers k.j v })) (sym (set_back t.words 1))
-          (load_newest_keeps reaches lawful _ k.j r k.good k.there idle)),
-        record { entry = k.writer.queue.newest; is = refl; found_last = k.good.names.newest_hold; low = (at_newest (HoldFits k.writer.commits) k.writer.queue.older k.writer.queue.newest k.good.queue.each).hold;
-          least = (all_at (GoodReader k.writer.sizes k.writer.queue k.writer.commits) k.readers k.j r k.good.readers k.there).least },
+            (load_newest_keeps reaches lawful _ k.j r k.good k.there idle)),
+        record {
+          entry = k.writer.queue.newest;
+          is = refl;
+          found_last = k.good.names.newest_hold;
+          low = (at_newest (HoldFits k.writer.commits) k.writer.queue.older k.writer.queue.newest k.good.queue.each).hold;
+          least = (all_at (GoodReader k.writer.sizes k.writer.queue k.writer.commits) k.readers k.j r k.good.readers k.there).least;
+        },
       )
 
   pub raise_allowed : (slots id : ℕ) (r : ReaderView) (generation h : ℕ) → r.state ≡ Aimed generation h
@@ -184,9 +199,11 @@ module _ (reaches : ℕ → Records → ℕ → List ℕ) (lawful : ℕ → Reco
       let few = count-small reaches lawful _ h k.good aim.hold in
       let sum : found + 2 ≡ (found + 2) % 2 ^ 64 = omega (arith, few) in
       let v : ReaderView = with_state r (found_state found h) in (
-        Reader v, keeps, tt,
+        Reader v,
+        keeps,
+        tt,
         read_by t id r v k _ (subst (λ (n : ℕ). Good reaches lawful (record { words = set t.words (hold_place h) n; writer = w; readers = set k.readers k.j v })) sum
-          (raise_keeps reaches lawful _ k.j r generation h k.good k.there aimed)),
+            (raise_keeps reaches lawful _ k.j r generation h k.good k.there aimed)),
         λ other same. let e : h ≡ other = omega arith in ap (λ (i : ℕ). (Reader (with_state r (found_state found i)), [])) e,
       )
 
@@ -204,9 +221,11 @@ module _ (reaches : ℕ → Records → ℕ → List ℕ) (lawful : ℕ → Reco
       let two = counted-two reaches lawful _ k.j h r k.good k.there b.hold (ap (is_counted_on h) is ∙ eq-eqb h h refl) in
       let less : found - 2 ≡ (found + (2 ^ 64 - 2)) % 2 ^ 64 = omega (arith, two, small) in
       let v : ReaderView = bounced r in (
-        Reader v, keeps, tt,
+        Reader v,
+        keeps,
+        tt,
         read_by t id r v k _ (subst (λ (n : ℕ). Good reaches lawful (record { words = set t.words (hold_place h) n; writer = w; readers = set k.readers k.j v })) less
-          (bounce_keeps reaches lawful _ k.j r h k.good k.there is)),
+            (bounce_keeps reaches lawful _ k.j r h k.good k.there is)),
         record {
           is = refl;
           limit = (let m = b.missed in let same : r.sizes ≡ w.sizes = mine.same_sizes (λ e. bounce-off h (sym is ∙ e)) in
@@ -225,9 +244,11 @@ module _ (reaches : ℕ → Records → ℕ → List ℕ) (lawful : ℕ → Reco
       let two = counted-two reaches lawful _ k.j h r k.good k.there b.raised.hold (ap (is_counted_on h) is ∙ eq-eqb h h refl) in
       let less : found - 2 ≡ (found + (2 ^ 64 - 2)) % 2 ^ 64 = omega (arith, two, small) in
       let v : ReaderView = with_state r Idle in (
-        Reader v, keeps, tt,
+        Reader v,
+        keeps,
+        tt,
         read_by t id r v k _ (subst (λ (n : ℕ). Good reaches lawful (record { words = set t.words (hold_place h) n; writer = w; readers = set k.readers k.j v })) less
-          (release_keeps reaches lawful _ k.j r h c k.good k.there is)),
+            (release_keeps reaches lawful _ k.j r h c k.good k.there is)),
         refl,
       )
 
@@ -243,9 +264,10 @@ module _ (reaches : ℕ → Records → ℕ → List ℕ) (lawful : ℕ → Reco
       let mine = all_at (GoodReader w.sizes w.queue w.commits) k.readers k.j r k.good.readers k.there in
       let same : r.sizes ≡ w.sizes = mine.same_sizes (λ e. absurd (off h (sym raised ∙ e))) in
       let commit = all_at (IsLawfulCommit reaches lawful w.sizes.shape) w.commits (last_number w.commits) (last_image w.commits) k.good.commits.each (last_at w.commits (some-commit w (good_view reaches lawful _ k.good))) in
-      let placed : All (IsPlaced w.sizes w.buffers) (last_image w.commits).records = last-kept w (good_view reaches lawful _ k.good) (λ image. All (IsPlaced w.sizes w.buffers) image.records) k.good.places.records in
-      (
-        Reader v, keeps, tt,
+      let placed : All (IsPlaced w.sizes w.buffers) (last_image w.commits).records = last-kept w (good_view reaches lawful _ k.good) (λ image. All (IsPlaced w.sizes w.buffers) image.records) k.good.places.records in (
+        Reader v,
+        keeps,
+        tt,
         record {
           writer = w;
           readers = set k.readers k.j v;
@@ -275,7 +297,9 @@ module _ (reaches : ℕ → Records → ℕ → List ℕ) (lawful : ℕ → Reco
   pub load_word_allowed : (slots id : ℕ) (r : ReaderView) (p : ℕ) → Allows (Ruled reaches lawful sizes) slots id (Reader r, []) p (λ n. n) (told_load_word (step slots p 0 0 none) (Reader r, []))
   load_word_allowed slots id r p t rule homes at small =
       let k = reading t rule id r at in (
-        Reader r, keeps, tt,
+        Reader r,
+        keeps,
+        tt,
         record {
           writer = k.writer;
           readers = k.readers;
@@ -297,7 +321,9 @@ module _ (reaches : ℕ → Records → ℕ → List ℕ) (lawful : ℕ → Reco
   pub load_own_allowed : (slots id : ℕ) (w : WriterView) (p : ℕ) → Allows (Ruled reaches lawful sizes) slots id (Writer w, []) p (λ n. n) (told_load_own (step slots p 0 0 none) (Writer w, []))
   load_own_allowed slots id w p t rule homes at small =
       let k = writing t rule id w at in (
-        Writer w, keeps, tt,
+        Writer w,
+        keeps,
+        tt,
         ruled_by t id w w k _ refl (subst (λ (l : List ℕ). Good reaches lawful (record { words = l; writer = w; readers = k.readers })) (sym (set_back t.words p)) k.good),
         record {
           same = refl;

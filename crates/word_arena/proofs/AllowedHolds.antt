@@ -48,7 +48,9 @@ module _ (reaches : ℕ → Records → ℕ → List ℕ) (lawful : ℕ → Reco
   store_newest_allowed slots id w h next t rule homes at small =
       let k = writing reaches lawful sizes t rule id w at in
       let good = store_newest_keeps reaches lawful _ h k.good next in (
-        Writer (advanced w h), keeps, tt,
+        Writer (advanced w h),
+        keeps,
+        tt,
         ruled_by reaches lawful sizes t id w (advanced w h) k _ refl good,
         λ other is. let e : h ≡ other = one_next h other (sym next ∙ is) in
             subst (λ (c : ℕ). Becomes (Writer w, []) (advanced w c) (Writer (advanced w h), [])) e (record { is = refl; good = good_view reaches lawful _ good }),
@@ -62,7 +64,9 @@ module _ (reaches : ℕ → Records → ℕ → List ℕ) (lawful : ℕ → Reco
   morph_allowed slots id w is t rule homes at small =
       let k = writing reaches lawful sizes t rule id w at in
       let good = morph_keeps reaches lawful _ k.good is in (
-        Writer (morphed w), keeps, tt,
+        Writer (morphed w),
+        keeps,
+        tt,
         ruled_by reaches lawful sizes t id w (morphed w) k _ refl good,
         λ _. record { is = refl; good = good_view reaches lawful _ good },
       )
@@ -76,9 +80,11 @@ module _ (reaches : ℕ → Records → ℕ → List ℕ) (lawful : ℕ → Reco
       let found : ℕ = slice_index t.words (hold_place h) in
       let one : 0 < found = closed-some _ k.good h may in
       let less : found - 1 ≡ (found + (2 ^ 64 - 1)) % 2 ^ 64 = omega (arith, one, small) in (
-        Writer (reopened w h), keeps, tt,
+        Writer (reopened w h),
+        keeps,
+        tt,
         ruled_by reaches lawful sizes t id w (reopened w h) k _ refl
-          (subst (λ (n : ℕ). Good reaches lawful (record { words = set t.words (hold_place h) n; writer = reopened w h; readers = k.readers })) less good),
+            (subst (λ (n : ℕ). Good reaches lawful (record { words = set t.words (hold_place h) n; writer = reopened w h; readers = k.readers })) less good),
         λ other same. let e : h ≡ other = omega arith in
             subst (λ (c : ℕ). Becomes (Writer w, []) (reopened w c) (Writer (reopened w h), [])) e (record { is = refl; good = good_view reaches lawful _ good }),
       )
@@ -92,7 +98,9 @@ module _ (reaches : ℕ → Records → ℕ → List ℕ) (lawful : ℕ → Reco
       let k = writing reaches lawful sizes t rule id w at in
       let good = put_on_hold_keeps reaches lawful _ b width k.good may in
       let v : WriterView = put_aside w b width in (
-        Writer v, keeps, tt,
+        Writer v,
+        keeps,
+        tt,
         ruled_by reaches lawful sizes t id w v k _ refl good,
         λ other width' same active.
             let e : b ≡ other = omega arith in
@@ -110,7 +118,9 @@ module _ (reaches : ℕ → Records → ℕ → List ℕ) (lawful : ℕ → Reco
       let k = writing reaches lawful sizes t rule id w at in
       let good = free_keeps reaches lawful _ b tag k.good may in
       let v : WriterView = freed w b tag in (
-        Writer v, keeps, tt,
+        Writer v,
+        keeps,
+        tt,
         ruled_by reaches lawful sizes t id w v k _ refl good,
         λ other width tag' same held.
             let e : b ≡ other = omega arith in
@@ -128,34 +138,40 @@ module _ (reaches : ℕ → Records → ℕ → List ℕ) (lawful : ℕ → Reco
       let k = writing reaches lawful sizes t rule id w at in
       let found : ℕ = slice_index t.words (hold_place e.hold) in
       let F : ℕ → Type 0 = λ n. (v : View) × (a : Act Slot) × Valid t.homes [] a × Ruled reaches lawful sizes (stepped t (hold_place e.hold) n id [] v a)
-          × told_close (step slots (hold_place e.hold) 0 1 none) (Writer w, []) found (v, carried_after [] a) in
+      × told_close (step slots (hold_place e.hold) 0 1 none) (Writer w, []) found (v, carried_after [] a) in
       exchanged found 0 1 F
       (λ zero.
-        let good = close_keeps reaches lawful _ e es k.good (record { calm = calm; is = older }) zero in (
-          Writer (closed w es), keeps, tt,
-          ruled_by reaches lawful sizes t id w (closed w es) k _ refl good,
-          record {
-            alone = λ _. zero;
-            hit = λ _ d ds is.
-                let same : es ≡ ds = one_tail e d es ds (sym older ∙ is) in
-                subst (λ (l : List OpenHold). Becomes (Writer w, []) (closed w l) (Writer (closed w es), [])) same (record { is = refl; good = good_view reaches lawful _ good });
-            miss = λ ne. absurd (ne zero);
-          }))
+      let good = close_keeps reaches lawful _ e es k.good (record { calm = calm; is = older }) zero in (
+        Writer (closed w es),
+        keeps,
+        tt,
+        ruled_by reaches lawful sizes t id w (closed w es) k _ refl good,
+        record {
+          alone = λ _. zero;
+          hit = λ _ d ds is.
+              let same : es ≡ ds = one_tail e d es ds (sym older ∙ is) in
+              subst (λ (l : List OpenHold). Becomes (Writer w, []) (closed w l) (Writer (closed w es), [])) same (record { is = refl; good = good_view reaches lawful _ good });
+          miss = λ ne. absurd (ne zero);
+        },
+      ))
       (λ ne.
-        let good = stop_keeps reaches lawful _ found k.good in (
-          Writer (stopped w found), keeps, tt,
-          ruled_by reaches lawful sizes t id w (stopped w found) k _ refl
+      let good = stop_keeps reaches lawful _ found k.good in (
+        Writer (stopped w found),
+        keeps,
+        tt,
+        ruled_by reaches lawful sizes t id w (stopped w found) k _ refl
             (subst (λ (l : List ℕ). Good reaches lawful (record { words = l; writer = stopped w found; readers = k.readers })) (sym (set_back t.words (hold_place e.hold))) good),
-          record {
-            hit = λ zero. absurd (ne zero);
-            miss = λ _. record { is = refl; good = good_view reaches lawful _ good };
-            alone = λ made.
-                let low : e.hold < 16 = subst (λ (x : OpenHold). x.hold < 16) (ap (λ (o : List OpenHold). oldest_in o w.queue.newest) older)
-                    (at_oldest (HoldFits w.commits) w.queue.older w.queue.newest k.good.queue.each).hold in
-                let opened : is_open w.queue e.hold ≡ true =
-                    ap (λ (o : List OpenHold). is_open (queue_of o w.queue.newest w.queue.pending) e.hold) older ∙ first-open e es w.queue.newest w.queue.pending in
-                alone-unused reaches lawful _ k.good e.hold low opened made;
-          }))
+        record {
+          hit = λ zero. absurd (ne zero);
+          miss = λ _. record { is = refl; good = good_view reaches lawful _ good };
+          alone = λ made.
+              let low : e.hold < 16 = subst (λ (x : OpenHold). x.hold < 16) (ap (λ (o : List OpenHold). oldest_in o w.queue.newest) older)
+              (at_oldest (HoldFits w.commits) w.queue.older w.queue.newest k.good.queue.each).hold in
+              let opened : is_open w.queue e.hold ≡ true =
+              ap (λ (o : List OpenHold). is_open (queue_of o w.queue.newest w.queue.pending) e.hold) older ∙ first-open e es w.queue.newest w.queue.pending in
+              alone-unused reaches lawful _ k.good e.hold low opened made;
+        },
+      ))
     where
       one_tail : (a b : OpenHold) (xs ys : List OpenHold) → a ∷ xs ≡ b ∷ ys → xs ≡ ys
       one_tail a b xs ys h = cc
@@ -167,21 +183,27 @@ module _ (reaches : ℕ → Records → ℕ → List ℕ) (lawful : ℕ → Reco
       let found : ℕ = slice_index t.words (hold_place w.queue.newest.hold) in
       dite (ℕ_discrete found 0)
       (λ zero.
-        let good = probe_keeps reaches lawful _ k.good (record { calm = calm; left = left }) zero in (
-          Writer (probed w), keeps, tt,
-          ruled_by reaches lawful sizes t id w (probed w) k _ refl
+      let good = probe_keeps reaches lawful _ k.good (record { calm = calm; left = left }) zero in (
+        Writer (probed w),
+        keeps,
+        tt,
+        ruled_by reaches lawful sizes t id w (probed w) k _ refl
             (subst (λ (l : List ℕ). Good reaches lawful (record { words = l; writer = probed w; readers = k.readers })) (sym (set_back t.words (hold_place w.queue.newest.hold))) good),
-          record { hit = λ _. record { is = refl; good = good_view reaches lawful _ good }; miss = λ ne. absurd (ne zero); alone = λ _. zero }))
+        record { hit = λ _. record { is = refl; good = good_view reaches lawful _ good }; miss = λ ne. absurd (ne zero); alone = λ _. zero },
+      ))
       (λ ne.
-        let good = stop_keeps reaches lawful _ found k.good in (
-          Writer (stopped w found), keeps, tt,
-          ruled_by reaches lawful sizes t id w (stopped w found) k _ refl
+      let good = stop_keeps reaches lawful _ found k.good in (
+        Writer (stopped w found),
+        keeps,
+        tt,
+        ruled_by reaches lawful sizes t id w (stopped w found) k _ refl
             (subst (λ (l : List ℕ). Good reaches lawful (record { words = l; writer = stopped w found; readers = k.readers })) (sym (set_back t.words (hold_place w.queue.newest.hold))) good),
-          record {
-            hit = λ zero. absurd (ne zero);
-            miss = λ _. record { is = refl; good = good_view reaches lawful _ good };
-            alone = alone-unused reaches lawful _ k.good w.queue.newest.hold (at_newest (HoldFits w.commits) w.queue.older w.queue.newest k.good.queue.each).hold (newest-open w.queue);
-          }))
+        record {
+          hit = λ zero. absurd (ne zero);
+          miss = λ _. record { is = refl; good = good_view reaches lawful _ good };
+          alone = alone-unused reaches lawful _ k.good w.queue.newest.hold (at_newest (HoldFits w.commits) w.queue.older w.queue.newest k.good.queue.each).hold (newest-open w.queue);
+        },
+      ))
 
 -- the same at a seat whose view is known
 module _ (reaches : ℕ → Records → ℕ → List ℕ) (lawful : ℕ → Records → ℕ → Type 0) (sizes : Sizes) (slots id : ℕ) (me : Me Slot View) where

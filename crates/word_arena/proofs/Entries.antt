@@ -45,14 +45,14 @@ entries-stored w r i width n active entry inside old = record { none = none_at }
     none_at b x lt h = elim (cases_eq b (buffer_of w.sizes.offset_bits r)) [
       | inl e ↦
           (let is : stored_by (stored w (place_in w.sizes width r i) n) r i ≡ Some n =
-              stored-step w r i width n active entry inside r i ∙ ap (λ t. cond t (Some n) (stored_by w r i)) (and_from _ _ (eq-eqb r r refl) (eq-eqb i i refl)) in
+          stored-step w r i width n active entry inside r i ∙ ap (λ t. cond t (Some n) (stored_by w r i)) (and_from _ _ (eq-eqb r r refl) (eq-eqb i i refl)) in
           let none = h r i (sym e) in absurd (cc))
       | inr ne ↦
           (let before : work_at w.work (base w.sizes.buffers w.sizes.words b + x) ≡ None = old.none b x lt (λ q j in_b.
-              sym (stored-step w r i width n active entry inside q j
-              ∙ ap (λ t. cond t (Some n) (stored_by w q j)) (and_left _ _ (ne_eqb q r (λ same. ne (sym in_b ∙ ap (buffer_of w.sizes.offset_bits) same))))) ∙ h q j in_b) in
+          sym (stored-step w r i width n active entry inside q j
+          ∙ ap (λ t. cond t (Some n) (stored_by w q j)) (and_left _ _ (ne_eqb q r (λ same. ne (sym in_b ∙ ap (buffer_of w.sizes.offset_bits) same))))) ∙ h q j in_b) in
           let apart : base w.sizes.buffers w.sizes.words b + x ≢ place_in w.sizes width r i = λ same.
-              ne (same_from_place b x (buffer_of w.sizes.offset_bits r) (offset_of w.sizes.offset_bits r * width + i) w.sizes.words lt (within entry i inside).1 (omega (arith, same))).0 in
+          ne (same_from_place b x (buffer_of w.sizes.offset_bits r) (offset_of w.sizes.offset_bits r * width + i) w.sizes.words lt (within entry i inside).1 (omega (arith, same))).0 in
           ap (λ t. cond t (Some n) (work_at w.work (base w.sizes.buffers w.sizes.words b + x))) (ne_eqb _ _ apart) ∙ before)
     ]
 

@@ -29,4 +29,3 @@ image-entry bits sizes image all ref some = all_found (λ pair. IsEntry bits siz
 pub guard_references : {bits : ℕ} {arena : TableId} {sizes : Sizes} {hold word : ℕ} {z : TableId} {me : Me Slot View} → IsGuard bits arena sizes hold word z me
     → (r : ℕ) → 0 < length (words_at (image_of (reader_of me.0)) r) → r < 2 ^ 32
 guard_references {bits} {arena} {sizes} {hold} {word} {z} {me} g r some = entry-small (image-entry bits sizes (image_of (reader_of me.0)) g.entries r some) g.post.limits.few_words g.post.limits.offsets
-

@@ -67,11 +67,11 @@ oldest-hold (e ∷ es) newest = refl
 in_order : (xs : List OpenHold) → AllPairs IsBefore xs → AreInOrder (map api_hold xs)
 in_order [] rising = tt
 in_order (x ∷ xs) rising = (
-      by_places (λ h. IsLater (api_hold x) h) api_hold xs (λ k d lt.
-        let before = rising 0 (suc k) d (omega arith) (omega arith) in
-        record { generation = before.generation; hold = before.hold; first = before.first_commit }),
-      in_order xs (λ i j d less more. rising (suc i) (suc j) d (omega arith) (omega arith)),
-    )
+  by_places (λ h. IsLater (api_hold x) h) api_hold xs (λ k d lt.
+      let before = rising 0 (suc k) d (omega arith) (omega arith) in
+      record { generation = before.generation; hold = before.hold; first = before.first_commit }),
+  in_order xs (λ i j d less more. rising (suc i) (suc j) d (omega arith) (omega arith)),
+)
 
 pub length-holds : (older : List OpenHold) (newest : OpenHold) → length (map api_hold (older ++ newest ∷ [])) ≡ length older + 1
 length-holds older newest = length-map (older ++ newest ∷ []) api_hold ∙ length_push older newest
@@ -129,7 +129,7 @@ module _ (w : WriterView) (g : GoodView w) (bits : ℕ) (same : w.sizes.offset_b
   work_whole r ws some long each =
       let here : length ws ≡ api_active (api_buffer (slice_get w.buffers (buffer_of w.sizes.offset_bits r))) = subst (λ b. length ws ≡ api_active (api_buffer (slice_get w.buffers (buffer_of b r)))) (sym same) long in
       let active : active_in w.buffers (buffer_of w.sizes.offset_bits r) ≡ Some (length ws) =
-          core-active (slice_get w.buffers (buffer_of w.sizes.offset_bits r)) (omega (arith, some, here)) ∙ ap Some (sym here) in
+      core-active (slice_get w.buffers (buffer_of w.sizes.offset_bits r)) (omega (arith, some, here)) ∙ ap Some (sym here) in
       let first = is_stored w r 0 _ (each 0 some) in
       let is : first.width ≡ length ws = some-same _ _ (sym first.active ∙ active) in
       let e : IsEntry w.sizes.offset_bits w.sizes.buffers w.sizes.words (length ws) r = subst (λ n. IsEntry w.sizes.offset_bits w.sizes.buffers w.sizes.words n r) is first.entry in

@@ -79,8 +79,7 @@ impl<'a, const OFFSET_BITS: u32, L: Layout> Writer<'a, OFFSET_BITS, L> {
             .table
             .shared
             .store::<StoreNewest>(&mut self.place, 1, word);
-        self.holds
-            .append(newest.generation + 1, hold, self.last);
+        self.holds.append(newest.generation + 1, hold, self.last);
     }
 
     // Makes the next generation current.

@@ -4,15 +4,14 @@ ghost use Rattle.image_base.specs.Images.{words_at};
 ghost use Rattle.gen_core.specs.Events.{with_state};
 ghost use Rattle.gen_core.specs.declared.views.ReaderState.TheVariants.{Idle};
 ghost use Rattle.word_arena.specs.Ruled.{reader_of, image_of, number_of, IsAimOf, IsLater, IsHigher, IsWatch, IsAim, IsGuard};
-
 ghost use Rattle.image_base.specs.Records.{HasWord, word_at};
 
 use crate::arena::Arena;
 use crate::plays::{Bounce, LoadNewest, LoadRoot, LoadWord, Raise, Release};
 use crate::rule::Place;
 use crate::steps::Steps;
-use frozen_api::Frozen;
 use entry_ref::EntryRef;
+use frozen_api::Frozen;
 use gen_core::Sizes;
 use image_base::{Layout, place_of};
 use std::sync::ledger::Ledger;
@@ -63,10 +62,7 @@ impl<'a, const OFFSET_BITS: u32, L: Layout> Reader<'a, OFFSET_BITS, L> {
             sizes,
             mut place,
         } = self;
-        let last = arena
-            .table
-            .shared
-            .load::<LoadNewest>(&mut place, 1);
+        let last = arena.table.shared.load::<LoadNewest>(&mut place, 1);
         let hold = last % 65536;
         Aimed {
             arena,
@@ -122,10 +118,7 @@ impl<'a, const OFFSET_BITS: u32, L: Layout> Aimed<'a, OFFSET_BITS, L> {
             mut place,
         } = self;
         let word = (2 + hold) as usize;
-        let count = arena
-            .table
-            .shared
-            .fetch_add::<Raise>(&mut place, word, 2);
+        let count = arena.table.shared.fetch_add::<Raise>(&mut place, word, 2);
         if count % 2 == 0 {
             let found = arena.table.shared.load::<LoadRoot<L>>(&mut place, 0);
             return Ok(Guarded {
@@ -136,10 +129,7 @@ impl<'a, const OFFSET_BITS: u32, L: Layout> Aimed<'a, OFFSET_BITS, L> {
                 place,
             });
         }
-        arena
-            .table
-            .shared
-            .fetch_sub::<Bounce>(&mut place, word, 2);
+        arena.table.shared.fetch_sub::<Bounce>(&mut place, word, 2);
         let reader = Reader {
             arena,
             sizes,

@@ -9,15 +9,14 @@ ghost use Rattle.gen_core.specs.Events.{opening_view, with_reader, newcomer, joi
 ghost use Rattle.arena_api.specs.Calls.{IsWithinLimits};
 ghost use Rattle.word_arena.specs.Ruled.{api_sizes, writer_of, reader_of};
 ghost use Rattle.word_arena.specs.Knows.{IsDesk};
-
 ghost use Rattle.image_base.specs.Records.{HasWord, word_at};
 
 use crate::arena::{Arena, Token};
 use crate::plays::{Cut, Glue, LoadOwn};
 use crate::reader::Reader;
 use crate::rule::Place;
-use frozen_api::Frozen;
 use entry_ref::EntryRef;
+use frozen_api::Frozen;
 use gen_core::{Buffer, Sizes};
 use generation_handler::Holds;
 use image_base::{Layout, place_of};
@@ -42,7 +41,11 @@ pub struct NoSeat {
 }
 
 impl<const OFFSET_BITS: u32, L: Layout> Arena<OFFSET_BITS, L> {
-    pub fn writer(&self, alloc: Global, token: Token) -> Result<Writer<'_, OFFSET_BITS, L>, AllocError>
+    pub fn writer(
+        &self,
+        alloc: Global,
+        token: Token,
+    ) -> Result<Writer<'_, OFFSET_BITS, L>, AllocError>
         requires own { token.place.table_id ≡ self.now.table.shared.table_id }
         requires view { token.place.me ≡ (WriterSees (opening_view token.sizes), []) }
         requires words { self.now.table.shared.table_id.words ≡ size_of token.sizes.buffers token.sizes.words }
@@ -100,10 +103,7 @@ impl<'a, const OFFSET_BITS: u32, L: Layout> Writer<'a, OFFSET_BITS, L> {
             .table
             .shared
             .join_seat::<Glue>(&mut self.place, place);
-        self.arena
-            .table
-            .shared
-            .load::<LoadOwn>(&mut self.place, 0);
+        self.arena.table.shared.load::<LoadOwn>(&mut self.place, 0);
     }
 }
 

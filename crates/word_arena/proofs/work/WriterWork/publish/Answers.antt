@@ -19,10 +19,12 @@ store-requires g c =
     let w : WriterView = writer_of s.place.me.0 in
     let number : c.from.result ≡ length w.commits = let a = c.from.ensures in let b = s.stands.commits in let h = some-commit w s.stands.good in omega arith in
     let root : c.from-2.result ≡ c.args.root = c.from-2.ensures ∙ c.raw.ensures in
-    let small : c.args.root < 2 ^ 32 = let h = c.raw.type_inv in let e = c.raw.ensures in omega arith in
-    (s.stands.own, desk-some s.stands,
+    let small : c.args.root < 2 ^ 32 = let h = c.raw.type_inv in let e = c.raw.ensures in omega arith in (
+      s.stands.own,
+      desk-some s.stands,
       publish_owed g.L.Layout.reaches g.L.Layout.lawful _ _ _ _ (record { empty_reaches = g.L.Layout.empty_reaches; empty_lawful = g.L.Layout.empty_lawful; present = g.L.Layout.present; stays = g.L.Layout.stays }) w c.args.root _ s.stands.is (λ k. number k * 2 ^ 32 + root k)
-      (record { calm = s.stands.calm; lawful_root = c.requires.lawful; small = small; left = c.requires.room }))
+          (record { calm = s.stands.calm; lawful_root = c.requires.lawful; small = small; left = c.requires.room }),
+    )
 
 pub invariant_of-self : goal.invariant_of-self
 invariant_of-self g c =
@@ -33,8 +35,10 @@ invariant_of-self g c =
     let e = c.store.ensures in
     let b = e.2 c.args.root (λ k. number k * 2 ^ 32 + root k) in
     let image = next_image g.L.Layout.reaches w c.args.root in
-    record { stands = desk_after s.stands (published w image) e.0 b.is refl s.stands.same_buffers s.stands.same_holds
-        (ap (λ (n : ℕ). n + 1) s.stands.commits ∙ sym (last-more w s.stands.good image s.place.table_id)) s.stands.readers s.stands.calm b.good (record { none = λ _ _ _ _. refl }) }
+    record {
+      stands = desk_after s.stands (published w image) e.0 b.is refl s.stands.same_buffers s.stands.same_holds
+          (ap (λ (n : ℕ). n + 1) s.stands.commits ∙ sym (last-more w s.stands.good image s.place.table_id)) s.stands.readers s.stands.calm b.good (record { none = λ _ _ _ _. refl });
+    }
 
 pub returns-clause-commit : goal.returns-clause-commit
 returns-clause-commit g c =

@@ -4,6 +4,7 @@ use Rattle.generation_handler.specs.Queues.{oldest_of as own_oldest}
 use Rattle.gen_core.specs.Views.{oldest_of}
 use Rattle.gen_core.specs.declared.views.WriterView.{WriterView}
 use Rattle.arena_api.specs.Generations.{Reclaims, reclaimed}
+use Rattle.arena_api.specs.declared.answers.Oldest.{Oldest}
 use Rattle.word_arena.specs.Ruled.{writer_of}
 use Rattle.word_arena.specs.Knows.{own_hold, view_of}
 use Rattle.word_arena.proofs.Reclaims.{reclaim-holds, reclaim-commits, reclaim-knows, reclaim-records, reclaim-shape, reclaim-alone}
@@ -19,9 +20,10 @@ returns-clause-holds g c =
     let t = c.free_unused.ensures.table ∙ c.close_unused-found.ensures.table in
     let found : ℕ = c.close_unused-found.result in
     let oldest : c.oldest-oldest.result ≡ own_hold (oldest_of u.queue) =
-        c.oldest-oldest.ensures ∙ ap own_oldest (sym c.free_unused.new.self.stands.same_holds) ∙ oldest-own v.queue.older v.queue.newest
-        ∙ ap (λ (x : WriterView). own_hold (oldest_of x.queue)) c.free_unused.ensures.view.same in
-    subst (λ h. Reclaims c.result (view_of s.place.table_id w) (view_of h v)) (sym t)
+    c.oldest-oldest.ensures ∙ ap own_oldest (sym c.free_unused.new.self.stands.same_holds) ∙ oldest-own v.queue.older v.queue.newest
+    ∙ ap (λ (x : WriterView). own_hold (oldest_of x.queue)) c.free_unused.ensures.view.same in
+    let answer : Oldest = record { generation = c.oldest-oldest.result.generation; hold = c.oldest-oldest.result.hold; found = found; newest = eqb found 0 } in
+    subst (λ h. Reclaims answer (view_of s.place.table_id w) (view_of h v)) (sym t)
     (reclaim-holds found w u v s.stands.good c.close_unused-found.ensures.view c.free_unused.ensures.view s.place.table_id _ _ _
     (ap (λ (h : HoldEntry). h.generation) oldest) (ap (λ (h : HoldEntry). h.hold) oldest)
     (λ yes. eqb-true found 0 yes) (λ no zero. true≢false (sym (eq-eqb found 0 zero) ∙ no)))

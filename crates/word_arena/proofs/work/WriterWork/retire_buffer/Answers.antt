@@ -1,4 +1,4 @@
-use Rattle.std.proofs.Common.{ap, sym, subst, ◌∙◌}
+use Rattle.std.proofs.Common.{arith, ap, sym, subst, ◌∙◌}
 use Rattle.gen_core.specs.declared.views.WriterView.{WriterView}
 use Rattle.gen_core.specs.Work.{writer_records}
 use Rattle.arena_api.specs.Generations.{MayRetire}
@@ -13,7 +13,7 @@ put_on_hold-requires g c =
     let s = c.args.self.now in
     let w : WriterView = writer_of s.place.me.0 in
     let may = subst (λ b. MayRetire b (view_of s.place.table_id w) c.args.buffer) (sym (view-bits s.stands)) c.requires in
-    may_hold w s.stands.good s.stands.calm s.stands.entries c.args.buffer s.place.table_id may
+    (omega arith, may_hold w s.stands.good s.stands.calm s.stands.entries c.args.buffer s.place.table_id may)
 
 pub returns-clause-knows : goal.returns-clause-knows
 returns-clause-knows g c =

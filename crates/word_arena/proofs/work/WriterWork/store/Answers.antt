@@ -29,16 +29,16 @@ store-requires g c =
     let w : WriterView = writer_of s.place.me.0 in
     let bits = view-bits s.stands in
     let may : MayStore w.sizes.offset_bits (view_of s.place.table_id w) c.args.entry c.args.i =
-        subst (λ b. MayStore b (view_of s.place.table_id w) c.args.entry c.args.i) (sym bits) c.requires in
+    subst (λ b. MayStore b (view_of s.place.table_id w) c.args.entry c.args.i) (sym bits) c.requires in
     let width : ℕ = active_width (api_buffer (slice_get w.buffers (buffer_of w.sizes.offset_bits c.args.entry))) in
     let list : c.as_slice.result.now ≡ w.buffers = c.as_slice.ensures.value ∙ sym s.stands.same_buffers in
     let buffer : c.buffer.result ≡ buffer_of w.sizes.offset_bits c.args.entry = c.buffer.ensures.value ∙ ap (λ b. buffer_of b c.args.entry) (sym bits) in
     let wide : c.width_of-width.result ≡ width = c.width_of-width.ensures ∙ (λ k. active_width (api_buffer (slice_get (list k) (buffer k)))) in
     let at : c.place_of-place.result ≡ place_in w.sizes width c.args.entry c.args.i =
-        c.place_of-place.ensures ∙ (λ k. place (sym bits k) (sym s.stands.same_sizes k).buffers (sym s.stands.same_sizes k).words (wide k) c.args.entry c.args.i) in
+    c.place_of-place.ensures ∙ (λ k. place (sym bits k) (sym s.stands.same_sizes k).buffers (sym s.stands.same_sizes k).words (wide k) c.args.entry c.args.i) in
     let below = place-below may.word.entry c.args.i may.word.inside in
     let inside : c.place_of-place.result < s.arena.now.table.shared.table_id.words =
-        omega (arith, below, at, arena-words s.stands, ap (λ (z : Sizes). z.buffers * z.words) s.stands.same_sizes, ap (λ (z : Sizes). z.buffers) s.stands.same_sizes) in
+    omega (arith, below, at, arena-words s.stands, ap (λ (z : Sizes). z.buffers * z.words) s.stands.same_sizes, ap (λ (z : Sizes). z.buffers) s.stands.same_sizes) in
     (s.stands.own, inside, store_owed _ _ _ _ _ _ w _ _ s.stands.is (subst (MayStoreWord w) (sym at) (may_store w s.stands.good s.stands.calm s.place.table_id c.args.entry c.args.i may)))
 
 pub returns-clause-knows : goal.returns-clause-knows
@@ -47,17 +47,17 @@ returns-clause-knows g c =
     let w : WriterView = writer_of s.place.me.0 in
     let bits = view-bits s.stands in
     let may : MayStore w.sizes.offset_bits (view_of s.place.table_id w) c.args.entry c.args.i =
-        subst (λ b. MayStore b (view_of s.place.table_id w) c.args.entry c.args.i) (sym bits) c.requires in
+    subst (λ b. MayStore b (view_of s.place.table_id w) c.args.entry c.args.i) (sym bits) c.requires in
     let width : ℕ = active_width (api_buffer (slice_get w.buffers (buffer_of w.sizes.offset_bits c.args.entry))) in
     let list : c.as_slice.result.now ≡ w.buffers = c.as_slice.ensures.value ∙ sym s.stands.same_buffers in
     let buffer : c.buffer.result ≡ buffer_of w.sizes.offset_bits c.args.entry = c.buffer.ensures.value ∙ ap (λ b. buffer_of b c.args.entry) (sym bits) in
     let wide : c.width_of-width.result ≡ width = c.width_of-width.ensures ∙ (λ k. active_width (api_buffer (slice_get (list k) (buffer k)))) in
     let at : c.place_of-place.result ≡ place_in w.sizes width c.args.entry c.args.i =
-        c.place_of-place.ensures ∙ (λ k. place (sym bits k) (sym s.stands.same_sizes k).buffers (sym s.stands.same_sizes k).words (wide k) c.args.entry c.args.i) in
+    c.place_of-place.ensures ∙ (λ k. place (sym bits k) (sym s.stands.same_sizes k).buffers (sym s.stands.same_sizes k).words (wide k) c.args.entry c.args.i) in
     let e = c.store.ensures in
     let active : active_in w.buffers (buffer_of w.sizes.offset_bits c.args.entry) ≡ Some width = core-active (slice_get w.buffers (buffer_of w.sizes.offset_bits c.args.entry)) may.word.entry.wide in
     let is : writer_of c.store.new.seat.me.0 ≡ stored w (place_in w.sizes width c.args.entry c.args.i) c.args.word =
-        ap (λ (m : Me Slot View). writer_of m.0) e.2.is ∙ ap (λ (q : ℕ). stored w q c.args.word) at in
+    ap (λ (m : Me Slot View). writer_of m.0) e.2.is ∙ ap (λ (q : ℕ). stored w q c.args.word) at in
     (λ k. view_of (e.0 k) (is k)) ∙ store-knows w c.args.entry c.args.i width c.args.word active may.word.entry may.word.inside s.place.table_id
 
 pub returns-clause-others : goal.returns-clause-others
@@ -66,17 +66,17 @@ returns-clause-others g c q other =
     let w : WriterView = writer_of s.place.me.0 in
     let bits = view-bits s.stands in
     let may : MayStore w.sizes.offset_bits (view_of s.place.table_id w) c.args.entry c.args.i =
-        subst (λ b. MayStore b (view_of s.place.table_id w) c.args.entry c.args.i) (sym bits) c.requires in
+    subst (λ b. MayStore b (view_of s.place.table_id w) c.args.entry c.args.i) (sym bits) c.requires in
     let width : ℕ = active_width (api_buffer (slice_get w.buffers (buffer_of w.sizes.offset_bits c.args.entry))) in
     let list : c.as_slice.result.now ≡ w.buffers = c.as_slice.ensures.value ∙ sym s.stands.same_buffers in
     let buffer : c.buffer.result ≡ buffer_of w.sizes.offset_bits c.args.entry = c.buffer.ensures.value ∙ ap (λ b. buffer_of b c.args.entry) (sym bits) in
     let wide : c.width_of-width.result ≡ width = c.width_of-width.ensures ∙ (λ k. active_width (api_buffer (slice_get (list k) (buffer k)))) in
     let at : c.place_of-place.result ≡ place_in w.sizes width c.args.entry c.args.i =
-        c.place_of-place.ensures ∙ (λ k. place (sym bits k) (sym s.stands.same_sizes k).buffers (sym s.stands.same_sizes k).words (wide k) c.args.entry c.args.i) in
+    c.place_of-place.ensures ∙ (λ k. place (sym bits k) (sym s.stands.same_sizes k).buffers (sym s.stands.same_sizes k).words (wide k) c.args.entry c.args.i) in
     let e = c.store.ensures in
     let active : active_in w.buffers (buffer_of w.sizes.offset_bits c.args.entry) ≡ Some width = core-active (slice_get w.buffers (buffer_of w.sizes.offset_bits c.args.entry)) may.word.entry.wide in
     let is : writer_of c.store.new.seat.me.0 ≡ stored w (place_in w.sizes width c.args.entry c.args.i) c.args.word =
-        ap (λ (m : Me Slot View). writer_of m.0) e.2.is ∙ ap (λ (q : ℕ). stored w q c.args.word) at in
+    ap (λ (m : Me Slot View). writer_of m.0) e.2.is ∙ ap (λ (q : ℕ). stored w q c.args.word) at in
     ap (λ (v : WriterView). writer_records v q) is ∙ records-others w c.args.entry width c.args.i c.args.word active may.word.entry may.word.inside q other
 
 pub invariant_of-self : goal.invariant_of-self
@@ -85,13 +85,13 @@ invariant_of-self g c =
     let w : WriterView = writer_of s.place.me.0 in
     let bits = view-bits s.stands in
     let may : MayStore w.sizes.offset_bits (view_of s.place.table_id w) c.args.entry c.args.i =
-        subst (λ b. MayStore b (view_of s.place.table_id w) c.args.entry c.args.i) (sym bits) c.requires in
+    subst (λ b. MayStore b (view_of s.place.table_id w) c.args.entry c.args.i) (sym bits) c.requires in
     let width : ℕ = active_width (api_buffer (slice_get w.buffers (buffer_of w.sizes.offset_bits c.args.entry))) in
     let list : c.as_slice.result.now ≡ w.buffers = c.as_slice.ensures.value ∙ sym s.stands.same_buffers in
     let buffer : c.buffer.result ≡ buffer_of w.sizes.offset_bits c.args.entry = c.buffer.ensures.value ∙ ap (λ b. buffer_of b c.args.entry) (sym bits) in
     let wide : c.width_of-width.result ≡ width = c.width_of-width.ensures ∙ (λ k. active_width (api_buffer (slice_get (list k) (buffer k)))) in
     let at : c.place_of-place.result ≡ place_in w.sizes width c.args.entry c.args.i =
-        c.place_of-place.ensures ∙ (λ k. place (sym bits k) (sym s.stands.same_sizes k).buffers (sym s.stands.same_sizes k).words (wide k) c.args.entry c.args.i) in
+    c.place_of-place.ensures ∙ (λ k. place (sym bits k) (sym s.stands.same_sizes k).buffers (sym s.stands.same_sizes k).words (wide k) c.args.entry c.args.i) in
     let e = c.store.ensures in
     let active : active_in w.buffers (buffer_of w.sizes.offset_bits c.args.entry) ≡ Some width = core-active (slice_get w.buffers (buffer_of w.sizes.offset_bits c.args.entry)) may.word.entry.wide in
     let kept = subst (λ q. StoresEntries (stored w q c.args.word)) (sym at) (entries-stored w c.args.entry c.args.i width c.args.word active may.word.entry may.word.inside s.stands.entries) in

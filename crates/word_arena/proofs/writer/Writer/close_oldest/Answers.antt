@@ -46,17 +46,21 @@ invariant_of-self g c =
     let older : w.queue.older ≡ e ∷ es = two.2 in
     let b = c.compare_exchange-count.ensures.2.hit c.if-count-eq0.true e es older in
     let queue : map own_hold (open_holds (closed w es).queue) ≡ c.pop_oldest.new.self =
-        own-popped c.pop_oldest.result _ _ (own_hold e) (ap (λ (o : List OpenHold). map own_hold (o ++ w.queue.newest ∷ [])) (sym older) ∙ s.stands.same_holds ∙ c.pop_oldest.ensures) in
-    record { stands = desk_after s.stands (closed w es) c.compare_exchange-count.ensures.0 b.is refl s.stands.same_buffers queue s.stands.commits s.stands.readers s.stands.calm b.good
-        (record { none = s.stands.entries.none }) }
+    own-popped c.pop_oldest.result _ _ (own_hold e) (ap (λ (o : List OpenHold). map own_hold (o ++ w.queue.newest ∷ [])) (sym older) ∙ s.stands.same_holds ∙ c.pop_oldest.ensures) in
+    record {
+      stands = desk_after s.stands (closed w es) c.compare_exchange-count.ensures.0 b.is refl s.stands.same_buffers queue s.stands.commits s.stands.readers s.stands.calm b.good
+          (record { none = s.stands.entries.none });
+    }
 
 pub invariant_of-self-else-count-eq0 : goal.invariant_of-self-else-count-eq0
 invariant_of-self-else-count-eq0 g c =
     let s = c.args.self.now in
     let w : WriterView = writer_of s.place.me.0 in
     let b = c.compare_exchange-count.ensures.2.miss c.if-count-eq0.false in
-    record { stands = desk_after s.stands (stopped w c.compare_exchange-count.result) c.compare_exchange-count.ensures.0 b.is refl s.stands.same_buffers s.stands.same_holds s.stands.commits s.stands.readers
-        s.stands.calm b.good (record { none = s.stands.entries.none }) }
+    record {
+      stands = desk_after s.stands (stopped w c.compare_exchange-count.result) c.compare_exchange-count.ensures.0 b.is refl s.stands.same_buffers s.stands.same_holds s.stands.commits s.stands.readers
+          s.stands.calm b.good (record { none = s.stands.entries.none });
+    }
 
 pub returns-then-count-eq0-clause-view : goal.returns-then-count-eq0-clause-view
 returns-then-count-eq0-clause-view g c =

@@ -35,9 +35,9 @@ store-requires g c =
     let at = tag-found c.args.oldest (slice_get w.buffers b) c.in-Some.tag (ap (λ (l : List Buffer). unused_tag_in c.args.oldest l b) (sym list) ∙ sym c.in-Some.ensures) in
     let below = c.requires.below in
     let inside : 18 + c.args.buffer < s.arena.now.table.shared.table_id.words = omega (arith, below, s.stands.good.count, arena-words s.stands, ap (λ (z : Sizes). z.buffers) s.stands.same_sizes) in
-    let low = at.2.1 in
+    let low = at.2 in
     let oldest = c.requires.oldest in
-    (s.stands.own, inside, free_owed _ _ _ _ _ _ w b c.in-Some.tag _ s.stands.is refl (record { calm = s.stands.calm; width = at.0; held = at.2.0; below = omega (arith, low, oldest) }))
+    (s.stands.own, inside, free_owed _ _ _ _ _ _ w b c.in-Some.tag _ s.stands.is refl (record { calm = s.stands.calm; width = at.0; held = at.1; below = omega (arith, low, oldest) }))
 
 pub invariant_of-self : goal.invariant_of-self
 invariant_of-self g c =
@@ -46,10 +46,12 @@ invariant_of-self g c =
     let b : ℕ = c.args.buffer in
     let list : c.as_slice.result.now ≡ w.buffers = c.as_slice.ensures.value ∙ sym s.stands.same_buffers in
     let at = tag-found c.args.oldest (slice_get w.buffers b) c.in-Some.tag (ap (λ (l : List Buffer). unused_tag_in c.args.oldest l b) (sym list) ∙ sym c.in-Some.ensures) in
-    let told = c.store.ensures.2 b at.0 c.in-Some.tag refl at.2.0 in
+    let told = c.store.ensures.2 b at.0 c.in-Some.tag refl at.1 in
     let buffers : (freed w b c.in-Some.tag).buffers ≡ set s.buffers.items b (Free (Some c.in-Some.tag)) = (λ k. set (s.stands.same_buffers k) b (Free (Some c.in-Some.tag))) in
-    record { stands = desk_after s.stands (freed w b c.in-Some.tag) c.store.ensures.0 told.is refl buffers s.stands.same_holds s.stands.commits s.stands.readers s.stands.calm told.good
-        (entries-buffers w (freed w b c.in-Some.tag).buffers (freed-active w b at.0 c.in-Some.tag at.2.0) s.stands.entries) }
+    record {
+      stands = desk_after s.stands (freed w b c.in-Some.tag) c.store.ensures.0 told.is refl buffers s.stands.same_holds s.stands.commits s.stands.readers s.stands.calm told.good
+          (entries-buffers w (freed w b c.in-Some.tag).buffers (freed-active w b at.0 c.in-Some.tag at.1) s.stands.entries);
+    }
 
 pub returns-in-Some-clause-view : goal.returns-in-Some-clause-view
 returns-in-Some-clause-view g c =
@@ -58,8 +60,8 @@ returns-in-Some-clause-view g c =
     let b : ℕ = c.args.buffer in
     let list : c.as_slice.result.now ≡ w.buffers = c.as_slice.ensures.value ∙ sym s.stands.same_buffers in
     let at = tag-found c.args.oldest (slice_get w.buffers b) c.in-Some.tag (ap (λ (l : List Buffer). unused_tag_in c.args.oldest l b) (sym list) ∙ sym c.in-Some.ensures) in
-    let told = c.store.ensures.2 b at.0 c.in-Some.tag refl at.2.0 in
-    subst (FreesOne c.args.oldest b w) (sym (ap (λ (m : Me Slot View). writer_of m.0) told.is)) (frees-one w b at.0 c.args.oldest c.in-Some.tag at.2.0 at.2.1)
+    let told = c.store.ensures.2 b at.0 c.in-Some.tag refl at.1 in
+    subst (FreesOne c.args.oldest b w) (sym (ap (λ (m : Me Slot View). writer_of m.0) told.is)) (frees-one w b at.0 c.args.oldest c.in-Some.tag at.1 at.2)
 
 pub returns-in-None-clause-view : goal.returns-in-None-clause-view
 returns-in-None-clause-view g c =

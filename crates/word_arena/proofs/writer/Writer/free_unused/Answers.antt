@@ -34,19 +34,14 @@ loop-buffer-init g c =
       frees = record { each = λ a lt. absurd (omega (arith, lt)); rest = λ a le. refl; same = refl };
     }
 
-pub free_one-requires-clause-below : goal.free_one-requires-clause-below
-free_one-requires-clause-below g c =
+pub free_one-requires : goal.free_one-requires
+free_one-requires g c =
     let l = c.loop-buffer.self in
     let i = c.loop-buffer.invariant in
     let count = i.count in
     let test = c.loop-buffer-test.true in
     let size = ap (λ (x : WriterView). x.sizes.buffers) i.frees.same in
-    omega (arith, count, test, size, l.stands.good.count)
-
-pub free_one-requires-clause-oldest : goal.free_one-requires-clause-oldest
-free_one-requires-clause-oldest g c =
-    let i = c.loop-buffer.invariant in
-    i.oldest ∙ sym (ap (λ (x : WriterView). (oldest_of x.queue).generation) i.frees.same)
+    (omega arith, (omega (arith, count, test, size, l.stands.good.count), i.oldest ∙ sym (ap (λ (x : WriterView). (oldest_of x.queue).generation) i.frees.same)))
 
 pub loop-buffer-preserved : goal.loop-buffer-preserved
 loop-buffer-preserved g c =

@@ -36,13 +36,15 @@ open_hold-requires g c =
     let generation : v.queue.newest.generation ≡ w.queue.newest.generation = ap (λ (x : WriterView). x.queue.newest.generation) e in
     let limit : v.sizes.generation_limit ≡ w.sizes.generation_limit = ap (λ (x : WriterView). x.sizes.generation_limit) e in
     let own : c.newest-newest.result.generation ≡ w.queue.newest.generation =
-        ap (λ (h : HoldEntry). h.generation) (c.newest-newest.ensures ∙ own-newest w.queue s.holds s.stands.same_holds) in
+    ap (λ (h : HoldEntry). h.generation) (c.newest-newest.ensures ∙ own-newest w.queue s.holds s.stands.same_holds) in
     let size : w.sizes.generation_limit ≡ s.sizes.generation_limit = ap (λ (z : Sizes). z.generation_limit) s.stands.same_sizes in
-    let below = c.if-newest-self.false in
-    (omega arith, record {
-      calm = n.stands.calm;
-      hold = least.below;
-      others = closed-apart (open_holds v.queue) c.in-Some.hold (ap (λ (l : List HoldEntry). has_hold l c.in-Some.hold) n.stands.same_holds ∙ least.closed);
-      room = dite (ℕ_discrete (length n.holds) 16) (λ all. absurd (true≢false (c.in-Some.ensures.none.1 all))) (λ ne. omega (arith, few, long, ne));
-      left = omega (arith, generation, limit, own, size, below);
-    })
+    let below = c.if-newest-self.false in (
+      omega arith,
+      record {
+        calm = n.stands.calm;
+        hold = least.below;
+        others = closed-apart (open_holds v.queue) c.in-Some.hold (ap (λ (l : List HoldEntry). has_hold l c.in-Some.hold) n.stands.same_holds ∙ least.closed);
+        room = dite (ℕ_discrete (length n.holds) 16) (λ all. absurd (true≢false (c.in-Some.ensures.none.1 all))) (λ ne. omega (arith, few, long, ne));
+        left = omega (arith, generation, limit, own, size, below);
+      },
+    )

@@ -38,7 +38,7 @@ store-requires g c =
     let slots : s.place.me.1 ≡ [] = ap (λ (m : Me Slot View). m.1) s.stands.is in
     let first = (c.fetch_sub.ensures.2 c.args.hold refl).is in
     let at : (c.newest-newest.result.generation + 1) * 65536 + c.from.result ≡ (w.queue.newest.generation + 1) * 65536 + c.args.hold =
-        (λ k. (generation k + 1) * 65536 + c.from.ensures k) in
+    (λ k. (generation k + 1) * 65536 + c.from.ensures k) in
     (c.fetch_sub.ensures.0 ∙ s.stands.own, omega (arith, arena-words s.stands), store_newest_owed _ _ _ _ _ _ (reopened w c.args.hold) c.args.hold _ (first ∙ (λ k. (Writer (reopened w c.args.hold), slots k))) at refl)
 
 pub append-requires-clause-closed : goal.append-requires-clause-closed
@@ -59,11 +59,13 @@ invariant_of-self g c =
     let mid : writer_of c.fetch_sub.new.seat.me.0 ≡ reopened w c.args.hold = ap (λ (m : Me Slot View). writer_of m.0) first in
     let b = c.store.ensures.2 c.args.hold (ap (λ (v : WriterView). v.queue.pending) mid) in
     let queue : map own_hold (open_holds (advanced w c.args.hold).queue) ≡ c.append.new.self =
-        map-append own_hold (open_holds w.queue) (coming_hold w c.args.hold ∷ [])
-        ∙ (λ k. s.stands.same_holds k ++ record { generation = sym generation k + 1; hold = c.args.hold; first_commit = sym s.stands.commits k } ∷ [])
-        ∙ sym c.append.ensures in
-    record { stands = desk_after s.stands (advanced w c.args.hold) (c.store.ensures.0 ∙ c.fetch_sub.ensures.0) (b.is ∙ ap (λ (m : Me Slot View). (Writer (advanced (writer_of m.0) c.args.hold), m.1)) first)
-        refl s.stands.same_buffers queue s.stands.commits s.stands.readers refl (subst (λ (x : WriterView). GoodView (advanced x c.args.hold)) mid b.good) (record { none = s.stands.entries.none }) }
+    map-append own_hold (open_holds w.queue) (coming_hold w c.args.hold ∷ [])
+    ∙ (λ k. s.stands.same_holds k ++ record { generation = sym generation k + 1; hold = c.args.hold; first_commit = sym s.stands.commits k } ∷ [])
+    ∙ sym c.append.ensures in
+    record {
+      stands = desk_after s.stands (advanced w c.args.hold) (c.store.ensures.0 ∙ c.fetch_sub.ensures.0) (b.is ∙ ap (λ (m : Me Slot View). (Writer (advanced (writer_of m.0) c.args.hold), m.1)) first)
+          refl s.stands.same_buffers queue s.stands.commits s.stands.readers refl (subst (λ (x : WriterView). GoodView (advanced x c.args.hold)) mid b.good) (record { none = s.stands.entries.none });
+    }
 
 pub returns-clause-view : goal.returns-clause-view
 returns-clause-view g c =

@@ -45,7 +45,7 @@ invariant_of-self g c =
     let generation : w.queue.newest.generation ≡ c.newest-newest.result.generation = sym (ap (λ (h : HoldEntry). h.generation) (c.newest-newest.ensures ∙ newest)) in
     let commit = sym (c.from.ensures ∙ s.stands.commits) in
     let list : (put_aside w b width).buffers ≡ set s.buffers.items b (Held c.width_of-width.result (record { generation = c.newest-newest.result.generation; commit = c.from.result })) =
-        (λ k. set (s.stands.same_buffers k) b (Held (wide k) (record { generation = generation k; commit = commit k }))) in
+    (λ k. set (s.stands.same_buffers k) b (Held (wide k) (record { generation = generation k; commit = commit k }))) in
     record { stands = desk_after s.stands (put_aside w b width) e.0 told.is refl list s.stands.same_holds s.stands.commits s.stands.readers s.stands.calm told.good (entries-held w b width c.requires s.stands.entries) }
 
 pub returns-clause-view : goal.returns-clause-view

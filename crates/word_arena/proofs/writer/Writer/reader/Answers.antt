@@ -8,9 +8,12 @@ use Rattle.word_arena.proofs.writer.Writer.reader.Goals as goal
 pub split_seat-place-requires : goal.split_seat-place-requires
 split_seat-place-requires g c =
     let s = c.args.self.now in
-    let few = c.if-self-ge64.false in
-    (s.stands.own, desk-some s.stands, split_owed g.L.Layout.reaches g.L.Layout.lawful _ 0 _ _ (writer_of s.place.me.0) s.stands.is
-      (record { calm = s.stands.calm; few = let h = s.stands.readers.0 in omega arith }))
+    let few = c.if-self-ge64.false in (
+      s.stands.own,
+      desk-some s.stands,
+      split_owed g.L.Layout.reaches g.L.Layout.lawful _ 0 _ _ (writer_of s.place.me.0) s.stands.is
+          (record { calm = s.stands.calm; few = let h = s.stands.readers.0 in omega arith }),
+    )
 
 pub invariant_of-self : goal.invariant_of-self
 invariant_of-self g c =

@@ -54,7 +54,7 @@ store-requires g c =
     let slots : s.place.me.1 ≡ [] = ap (λ (m : Me Slot View). m.1) s.stands.is in
     let first = (c.load-count.ensures.2.hit c.if-count-eq0.true).is in
     let at : (c.newest-newest.result.generation + 1) * 65536 + c.from.result ≡ (w.queue.newest.generation + 1) * 65536 + w.queue.newest.hold =
-        (λ k. (generation k + 1) * 65536 + (c.from.ensures ∙ hold) k) in
+    (λ k. (generation k + 1) * 65536 + (c.from.ensures ∙ hold) k) in
     (c.load-count.ensures.0 ∙ s.stands.own, omega (arith, arena-words s.stands), morph_owed _ _ _ _ _ _ (probed w) _ (first ∙ (λ k. (Writer (probed w), slots k))) at refl)
 
 pub invariant_of-self : goal.invariant_of-self
@@ -69,15 +69,19 @@ invariant_of-self g c =
     let mid : writer_of c.load-count.new.seat.me.0 ≡ probed w = ap (λ (m : Me Slot View). writer_of m.0) first in
     let b = c.store.ensures.2 (ap (λ (v : WriterView). v.queue.pending) mid) in
     let queue : map own_hold (open_holds (morphed w).queue) ≡ c.renew.new.self =
-        (λ k. map own_hold (w.queue.older ++ record { generation = sym generation k + 1; hold = w.queue.newest.hold; first_commit = sym s.stands.commits k } ∷ []))
-        ∙ sym (c.renew.ensures ∙ own-renewed w.queue s.holds s.stands.same_holds (c.newest-newest.result.generation + 1) s.last) in
-    record { stands = desk_after s.stands (morphed w) (c.store.ensures.0 ∙ c.load-count.ensures.0) (b.is ∙ ap (λ (m : Me Slot View). (Writer (morphed (writer_of m.0)), m.1)) first)
-        refl s.stands.same_buffers queue s.stands.commits s.stands.readers refl (subst (λ (x : WriterView). GoodView (morphed x)) mid b.good) (record { none = s.stands.entries.none }) }
+    (λ k. map own_hold (w.queue.older ++ record { generation = sym generation k + 1; hold = w.queue.newest.hold; first_commit = sym s.stands.commits k } ∷ []))
+    ∙ sym (c.renew.ensures ∙ own-renewed w.queue s.holds s.stands.same_holds (c.newest-newest.result.generation + 1) s.last) in
+    record {
+      stands = desk_after s.stands (morphed w) (c.store.ensures.0 ∙ c.load-count.ensures.0) (b.is ∙ ap (λ (m : Me Slot View). (Writer (morphed (writer_of m.0)), m.1)) first)
+          refl s.stands.same_buffers queue s.stands.commits s.stands.readers refl (subst (λ (x : WriterView). GoodView (morphed x)) mid b.good) (record { none = s.stands.entries.none });
+    }
 
 pub invariant_of-self-else-count-eq0 : goal.invariant_of-self-else-count-eq0
 invariant_of-self-else-count-eq0 g c =
     let s = c.args.self.now in
     let w : WriterView = writer_of s.place.me.0 in
     let b = c.load-count.ensures.2.miss c.if-count-eq0.false in
-    record { stands = desk_after s.stands (stopped w c.load-count.result) c.load-count.ensures.0 b.is refl s.stands.same_buffers s.stands.same_holds s.stands.commits s.stands.readers s.stands.calm b.good
-        (record { none = s.stands.entries.none }) }
+    record {
+      stands = desk_after s.stands (stopped w c.load-count.result) c.load-count.ensures.0 b.is refl s.stands.same_buffers s.stands.same_holds s.stands.commits s.stands.readers s.stands.calm b.good
+          (record { none = s.stands.entries.none });
+    }

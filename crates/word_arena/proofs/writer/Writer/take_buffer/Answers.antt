@@ -45,10 +45,12 @@ store-requires-2 g c =
     let low = base-inside s.sizes.buffers s.sizes.words b in_table word in
     let here : 18 + s.sizes.buffers + c.from.result * s.sizes.words ≡ base s.sizes.buffers s.sizes.words b = λ k. base s.sizes.buffers s.sizes.words (c.from.ensures k) in
     let e = c.store.ensures in
-    let slots : s.place.me.1 ≡ [] = ap (λ (m : Me Slot View). m.1) s.stands.is in
-    (e.0 ∙ s.stands.own, omega (arith, low, here, arena-words s.stands),
+    let slots : s.place.me.1 ≡ [] = ap (λ (m : Me Slot View). m.1) s.stands.is in (
+      e.0 ∙ s.stands.own,
+      omega (arith, low, here, arena-words s.stands),
       width_owed _ _ _ _ _ _ (handed_out w b) b _ _ ((e.2 b refl).is ∙ (λ k. (Writer (handed_out w b), slots k))) at
-      (may-width w s.stands.good b (last_tag_in w.buffers b) c.from-2.result free some s.stands.calm))
+          (may-width w s.stands.good b (last_tag_in w.buffers b) c.from-2.result free some s.stands.calm),
+    )
 
 pub invariant_of-self : goal.invariant_of-self
 invariant_of-self g c =
@@ -69,12 +71,14 @@ invariant_of-self g c =
     let steps = two-steps w s.stands.good b (last_tag_in w.buffers b) c.from-2.result free some in
     let value : c.from-2.result ≡ c.from-3.result = c.from-2.ensures ∙ sym c.from-3.ensures in
     let tag : last_tag_in w.buffers b ≡ c.last_of-last.result =
-        ap (λ (l : List Buffer). last_tag_in l b) (s.stands.same_buffers ∙ sym c.as_slice.ensures.value) ∙ sym c.last_of-last.ensures in
+    ap (λ (l : List Buffer). last_tag_in l b) (s.stands.same_buffers ∙ sym c.as_slice.ensures.value) ∙ sym c.last_of-last.ensures in
     let list : v.buffers ≡ set s.buffers.items b (Active c.from-3.result c.last_of-last.result) =
-        ap (λ (x : WriterView). x.buffers) steps ∙ (λ k. set (s.stands.same_buffers k) b (Active (value k) (tag k))) in
-    record { stands = desk_after s.stands v (f.0 ∙ e.0) (second.is ∙ ap (λ (m : Me Slot View). (Writer (widened (writer_of m.0) b c.from-2.result), m.1)) first) refl list s.stands.same_holds
-        s.stands.commits s.stands.readers s.stands.calm (subst (λ (x : WriterView). GoodView (widened x b c.from-2.result)) mid second.good)
-        (subst StoresEntries (sym steps) (entries-given w s.stands.good b (last_tag_in w.buffers b) c.from-2.result free some s.stands.entries)) }
+    ap (λ (x : WriterView). x.buffers) steps ∙ (λ k. set (s.stands.same_buffers k) b (Active (value k) (tag k))) in
+    record {
+      stands = desk_after s.stands v (f.0 ∙ e.0) (second.is ∙ ap (λ (m : Me Slot View). (Writer (widened (writer_of m.0) b c.from-2.result), m.1)) first) refl list s.stands.same_holds
+          s.stands.commits s.stands.readers s.stands.calm (subst (λ (x : WriterView). GoodView (widened x b c.from-2.result)) mid second.good)
+          (subst StoresEntries (sym steps) (entries-given w s.stands.good b (last_tag_in w.buffers b) c.from-2.result free some s.stands.entries));
+    }
 
 pub returns-clause-view : goal.returns-clause-view
 returns-clause-view g c =

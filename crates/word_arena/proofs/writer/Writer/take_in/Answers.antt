@@ -12,9 +12,13 @@ use Rattle.word_arena.proofs.writer.Writer.take_in.Goals as goal
 pub join_seat-requires : goal.join_seat-requires
 join_seat-requires g c =
     let s = c.args.self.now in
-    let r = c.args.reader in
-    (s.stands.own, c.requires ∙ s.stands.own, ap (λ (m : Me Slot View). m.1) r.stands.post.is, desk-some s.stands,
-      join_owed g.L.Layout.reaches g.L.Layout.lawful _ 0 _ _ (writer_of s.place.me.0) _ _ (reader_of r.place.me.0) s.stands.is r.stands.post.is (record { calm = s.stands.calm; idle = r.stands.idle }))
+    let r = c.args.reader in (
+      s.stands.own,
+      c.requires ∙ s.stands.own,
+      ap (λ (m : Me Slot View). m.1) r.stands.post.is,
+      desk-some s.stands,
+      join_owed g.L.Layout.reaches g.L.Layout.lawful _ 0 _ _ (writer_of s.place.me.0) _ _ (reader_of r.place.me.0) s.stands.is r.stands.post.is (record { calm = s.stands.calm; idle = r.stands.idle }),
+    )
 
 pub load-requires : goal.load-requires
 load-requires g c =

@@ -14,14 +14,14 @@ pub load-width-requires : goal.load-width-requires
 load-width-requires g c =
     let s = c.args.self.now in
     let at : 18 + s.sizes.buffers + c.from.result * s.sizes.words ≡ base s.sizes.buffers s.sizes.words (buffer_of g.row.OFFSET_BITS c.args.entry) =
-        ap (λ (n : ℕ). 18 + s.sizes.buffers + n * s.sizes.words) (c.from.ensures ∙ c.buffer.ensures.value) in
+    ap (λ (n : ℕ). 18 + s.sizes.buffers + n * s.sizes.words) (c.from.ensures ∙ c.buffer.ensures.value) in
     (s.stands.own, base-below s.stands c.args.entry c.args.i c.requires _ at, load_own_owed _ _ _ _ _ _ _ _ s.stands.is)
 
 pub overflow_cast-width : goal.overflow_cast-width
 overflow_cast-width g c =
     let s = c.args.self.now in
     let at : 18 + s.sizes.buffers + c.from.result * s.sizes.words ≡ base s.sizes.buffers s.sizes.words (buffer_of g.row.OFFSET_BITS c.args.entry) =
-        ap (λ (n : ℕ). 18 + s.sizes.buffers + n * s.sizes.words) (c.from.ensures ∙ c.buffer.ensures.value) in
+    ap (λ (n : ℕ). 18 + s.sizes.buffers + n * s.sizes.words) (c.from.ensures ∙ c.buffer.ensures.value) in
     let width = width_found s.stands c.args.entry c.args.i c.requires at c.load-width.ensures.2 in
     let e = (the_entry s.stands c.args.entry c.args.i c.requires).last in
     let few = few-words s.stands in
@@ -31,7 +31,7 @@ pub place_of-place-requires : goal.place_of-place-requires
 place_of-place-requires g c =
     let s = c.args.self.now in
     let at : 18 + s.sizes.buffers + c.from.result * s.sizes.words ≡ base s.sizes.buffers s.sizes.words (buffer_of g.row.OFFSET_BITS c.args.entry) =
-        ap (λ (n : ℕ). 18 + s.sizes.buffers + n * s.sizes.words) (c.from.ensures ∙ c.buffer.ensures.value) in
+    ap (λ (n : ℕ). 18 + s.sizes.buffers + n * s.sizes.words) (c.from.ensures ∙ c.buffer.ensures.value) in
     let width = width_found s.stands c.args.entry c.args.i c.requires at c.load-width.ensures.2 in
     let h = c.requires in
     (omega arith, (subst (λ (n : ℕ). IsEntry g.row.OFFSET_BITS s.sizes.buffers s.sizes.words n c.args.entry) (sym width) (the_entry s.stands c.args.entry c.args.i c.requires), omega arith))
@@ -40,17 +40,19 @@ pub load-requires : goal.load-requires
 load-requires g c =
     let s = c.args.self.now in
     let at : 18 + s.sizes.buffers + c.from.result * s.sizes.words ≡ base s.sizes.buffers s.sizes.words (buffer_of g.row.OFFSET_BITS c.args.entry) =
-        ap (λ (n : ℕ). 18 + s.sizes.buffers + n * s.sizes.words) (c.from.ensures ∙ c.buffer.ensures.value) in
+    ap (λ (n : ℕ). 18 + s.sizes.buffers + n * s.sizes.words) (c.from.ensures ∙ c.buffer.ensures.value) in
     let width = width_found s.stands c.args.entry c.args.i c.requires at c.load-width.ensures.2 in
-    let is = c.place_of-place.ensures ∙ ap (λ (n : ℕ). place g.row.OFFSET_BITS s.sizes.buffers s.sizes.words n c.args.entry c.args.i) width in
-    (c.load-width.ensures.0 ∙ s.stands.own, place-inside s.stands c.args.entry c.args.i c.requires _ is,
-      load_own_owed _ _ _ _ _ _ (writer_of s.place.me.0) _ (c.load-width.ensures.2.same ∙ s.stands.is))
+    let is = c.place_of-place.ensures ∙ ap (λ (n : ℕ). place g.row.OFFSET_BITS s.sizes.buffers s.sizes.words n c.args.entry c.args.i) width in (
+      c.load-width.ensures.0 ∙ s.stands.own,
+      place-inside s.stands c.args.entry c.args.i c.requires _ is,
+      load_own_owed _ _ _ _ _ _ (writer_of s.place.me.0) _ (c.load-width.ensures.2.same ∙ s.stands.is),
+    )
 
 pub returns-clause-value : goal.returns-clause-value
 returns-clause-value g c =
     let s = c.args.self.now in
     let at : 18 + s.sizes.buffers + c.from.result * s.sizes.words ≡ base s.sizes.buffers s.sizes.words (buffer_of g.row.OFFSET_BITS c.args.entry) =
-        ap (λ (n : ℕ). 18 + s.sizes.buffers + n * s.sizes.words) (c.from.ensures ∙ c.buffer.ensures.value) in
+    ap (λ (n : ℕ). 18 + s.sizes.buffers + n * s.sizes.words) (c.from.ensures ∙ c.buffer.ensures.value) in
     let width = width_found s.stands c.args.entry c.args.i c.requires at c.load-width.ensures.2 in
     let is = c.place_of-place.ensures ∙ ap (λ (n : ℕ). place g.row.OFFSET_BITS s.sizes.buffers s.sizes.words n c.args.entry c.args.i) width in
     word_found s.stands c.args.entry c.args.i c.requires c.load-width.ensures.2.same is c.load.ensures.2
