@@ -55,7 +55,8 @@ pub struct Again<'a, const OFFSET_BITS: u32, L: Layout> {
 impl<'a, const OFFSET_BITS: u32, L: Layout> Reader<'a, OFFSET_BITS, L> {
     /// Aims at the newest hold.
     pub fn aim(self) -> Aimed<'a, OFFSET_BITS, L>
-        ensures { IsAimOf (reader_of self.entry.place.me.0) (reader_of result.place.me.0) }
+        ensures aims { IsAimOf (reader_of self.entry.place.me.0) (reader_of result.place.me.0) }
+        ensures table { result.place.table_id ≡ self.entry.place.table_id }
     {
         let Reader {
             arena,
@@ -77,6 +78,8 @@ impl<'a, const OFFSET_BITS: u32, L: Layout> Reader<'a, OFFSET_BITS, L> {
         ensures ok { IfOk result (λ g. IsLater L.reaches L.lawful (reader_of self.entry.place.me.0) (reader_of g.place.me.0)) }
         ensures again { IfErr result (λ a. IsHigher (reader_of self.entry.place.me.0) (reader_of a.reader.place.me.0)) }
         ensures odd { IfErr result (λ a. a.found % 2 ≡ 1) }
+        ensures table { IfOk result (λ g. g.place.table_id ≡ self.entry.place.table_id) }
+        ensures back { IfErr result (λ a. a.reader.place.table_id ≡ self.entry.place.table_id) }
     {
         self.aim().try_raise()
     }
@@ -85,6 +88,7 @@ impl<'a, const OFFSET_BITS: u32, L: Layout> Reader<'a, OFFSET_BITS, L> {
     pub fn guard<C: Ledger>(self, tries: &mut Steps<C>) -> Guarded<'a, OFFSET_BITS, L>
         ensures later { IsLater L.reaches L.lawful (reader_of self.entry.place.me.0) (reader_of result.place.me.0) }
         ensures few { tries.new + (reader_of self.entry.place.me.0).least ≤ tries.old + 1 + (reader_of result.place.me.0).least }
+        ensures table { result.place.table_id ≡ self.entry.place.table_id }
         ensures limit { tries.new ≤ tries.old + 1 + (reader_of self.entry.place.me.0).sizes.generation_limit }
     {
         let mut reader = self;
@@ -110,6 +114,8 @@ impl<'a, const OFFSET_BITS: u32, L: Layout> Aimed<'a, OFFSET_BITS, L> {
         ensures ok { IfOk result (λ g. IsLater L.reaches L.lawful (reader_of self.entry.place.me.0) (reader_of g.place.me.0)) }
         ensures again { IfErr result (λ a. IsHigher (reader_of self.entry.place.me.0) (reader_of a.reader.place.me.0)) }
         ensures odd { IfErr result (λ a. a.found % 2 ≡ 1) }
+        ensures table { IfOk result (λ g. g.place.table_id ≡ self.entry.place.table_id) }
+        ensures back { IfErr result (λ a. a.reader.place.table_id ≡ self.entry.place.table_id) }
     {
         let Aimed {
             arena,
@@ -156,7 +162,8 @@ impl<'a, const OFFSET_BITS: u32, L: Layout> Guarded<'a, OFFSET_BITS, L> {
     }
 
     pub fn release(self) -> Reader<'a, OFFSET_BITS, L>
-        ensures { reader_of result.place.me.0 ≡ with_state (reader_of self.entry.place.me.0) Idle }
+        ensures view { reader_of result.place.me.0 ≡ with_state (reader_of self.entry.place.me.0) Idle }
+        ensures table { result.place.table_id ≡ self.entry.place.table_id }
     {
         let Guarded {
             arena,

@@ -12,5 +12,5 @@ load-last-requires g c =
 pub invariant_of-result : goal.invariant_of-result
 invariant_of-result g c = record { stands = (aimed_post c.args.self.stands c.load-last.ensures.0 c.load-last.ensures.2).0 }
 
-pub returns : goal.returns
-returns g c = (aimed_post c.args.self.stands c.load-last.ensures.0 c.load-last.ensures.2).1
+pub returns-clause-aims : goal.returns-clause-aims
+returns-clause-aims g c = (aimed_post c.args.self.stands c.load-last.ensures.0 c.load-last.ensures.2).1

@@ -3,7 +3,7 @@ use Rattle.gen_core.specs.declared.views.Sizes.{Sizes}
 use Rattle.word_arena.proofs.reader.Reader.guard.Goals as goal
 
 pub loop-guard-init : goal.loop-guard-init
-loop-guard-init g c = record { seen = refl; limit = refl; rises = omega arith; few = omega arith; within = omega arith }
+loop-guard-init g c = record { table = refl; seen = refl; limit = refl; rises = omega arith; few = omega arith; within = omega arith }
 
 pub returns-in-Ok-clause-later : goal.returns-in-Ok-clause-later
 returns-in-Ok-clause-later g c =
@@ -46,4 +46,7 @@ loop-guard-preserved g c =
     let rises = i.rises in
     let few = i.few in
     let tick = c.tick.ensures in
-    record { seen = h.seen ∙ i.seen; limit = same ∙ i.limit; rises = omega arith; few = omega arith; within = omega arith }
+    record { table = c.in-Err.ensures.back ∙ i.table; seen = h.seen ∙ i.seen; limit = same ∙ i.limit; rises = omega arith; few = omega arith; within = omega arith }
+
+pub returns-in-Ok-clause-table : goal.returns-in-Ok-clause-table
+returns-in-Ok-clause-table g c = c.in-Ok.ensures.table ∙ c.loop-guard.invariant.table

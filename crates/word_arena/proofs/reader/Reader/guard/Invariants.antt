@@ -4,6 +4,7 @@ use Rattle.word_arena.proofs.reader.Reader.guard.Given as goal
 
 abbrev pub invariant-loop-guard : goal.invariant-loop-guard
 invariant-loop-guard g l = record {
+  table : l.reader.place.table_id ≡ l.fn.self.place.table_id;
   seen : (reader_of l.reader.place.me.0).seen ≡ (reader_of l.fn.self.place.me.0).seen;
   limit : (reader_of l.reader.place.me.0).sizes.generation_limit ≡ (reader_of l.fn.self.place.me.0).sizes.generation_limit;
   rises : (reader_of l.fn.self.place.me.0).least ≤ (reader_of l.reader.place.me.0).least;
