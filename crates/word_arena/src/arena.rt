@@ -6,7 +6,7 @@ ghost use Rattle.image_base.specs.Places.{size_of};
 
 use crate::rule::{Place, Words};
 use atomic_table::Table;
-use gen_core::Sizes;
+use gen_core::{Buffer, Sizes};
 use image_base::Layout;
 use std::alloc::{AllocError, Global};
 
@@ -19,6 +19,7 @@ pub struct Arena<const OFFSET_BITS: u32, L: Layout> {
 #[derive(Drop)]
 pub struct Token {
     pub(crate) sizes: Sizes,
+    pub(crate) buffers: Vec<Buffer>,
     pub(crate) place: Place,
 }
 
@@ -46,9 +47,18 @@ impl<const OFFSET_BITS: u32, L: Layout> Arena<OFFSET_BITS, L> {
         ensures words { IfOk result (λ r. r.0.table.shared.table_id.words ≡ size_of sizes.buffers sizes.words) }
         ensures view { IfOk result (λ r. r.1.place.me ≡ (Writer (opening_view sizes), [])) }
         ensures sizes { IfOk result (λ r. r.1.sizes ≡ sizes) }
+        ensures buffers { IfOk result (λ r. r.1.buffers.items ≡ (opening_view sizes).buffers) }
     {
+        let buffers = vec![in alloc; Buffer::Free(None); sizes.buffers as usize]?;
         let words = opening_words(alloc, &sizes)?;
         let (table, place) = Table::of_words(alloc, words.as_slice(), &sizes)?;
-        Ok((Arena { table }, Token { sizes, place }))
+        Ok((
+            Arena { table },
+            Token {
+                sizes,
+                buffers,
+                place,
+            },
+        ))
     }
 }

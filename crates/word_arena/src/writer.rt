@@ -20,7 +20,6 @@ use frozen_api::Frozen;
 use gen_core::{Buffer, Sizes};
 use generation_handler::Holds;
 use image_base::{Layout, place_of};
-use std::alloc::{AllocError, Global};
 
 #[derive(Drop)]
 pub struct Writer<'a, const OFFSET_BITS: u32, L: Layout> {
@@ -41,22 +40,24 @@ pub struct NoSeat {
 }
 
 impl<const OFFSET_BITS: u32, L: Layout> Arena<OFFSET_BITS, L> {
-    pub fn writer(
-        &self,
-        alloc: Global,
-        token: Token,
-    ) -> Result<Writer<'_, OFFSET_BITS, L>, AllocError>
+    /// The token is this arena's.
+    pub fn writer(&self, token: Token) -> Writer<'_, OFFSET_BITS, L>
         requires own { token.place.table_id ≡ self.now.table.shared.table_id }
         requires view { token.place.me ≡ (WriterSees (opening_view token.sizes), []) }
+        requires buffers { token.buffers.items ≡ (opening_view token.sizes).buffers }
         requires words { self.now.table.shared.table_id.words ≡ size_of token.sizes.buffers token.sizes.words }
         requires bits { token.sizes.offset_bits ≡ OFFSET_BITS }
         requires limits { IsWithinLimits OFFSET_BITS (api_sizes token.sizes) }
         requires product { token.sizes.buffers * token.sizes.words ≤ 67108864 }
-        ensures { IfOk result (λ w. writer_of w.place.me.0 ≡ opening_view token.sizes) }
+        ensures view { writer_of result.place.me.0 ≡ opening_view token.sizes }
+        ensures table { result.place.table_id ≡ self.now.table.shared.table_id }
     {
-        let Token { sizes, place } = token;
-        let buffers = vec![in alloc; Buffer::Free(None); sizes.buffers as usize]?;
-        Ok(Writer {
+        let Token {
+            sizes,
+            buffers,
+            place,
+        } = token;
+        Writer {
             arena: self,
             sizes,
             buffers,
@@ -64,7 +65,7 @@ impl<const OFFSET_BITS: u32, L: Layout> Arena<OFFSET_BITS, L> {
             last: 0,
             made: 0,
             place,
-        })
+        }
     }
 }
 
