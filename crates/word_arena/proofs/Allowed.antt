@@ -1,0 +1,429 @@
+-- What each step on the table owes follows from the core's lemma of its event.
+use Rattle.std.proofs.Common.{◌%◌, ◌^◌, eq-eqb, ◌≡◌, ◌≢◌, ◌⊎◌, ℕ, zero, suc, ◌+◌, ◌-◌, ◌*◌, ◌/◌, ◌<◌, ◌≤◌, List, [], ◌∷◌, ◌++◌, map, length, set, slice_index, Some, refl, sym, ap, ◌∙◌, subst, arith}
+use mathlib.Core.Option.{some, none, some-ne-none, some-injective}
+use mathlib.Core.List.{map-append}
+use lib.ListN.{get_elem?}
+use lib.Seq.{map-set}
+use Rattle.std.specs.Prelude.{slice_get, All}
+use Rattle.gen_core.proofs.Counts.{load_newest_keeps, raise_keeps, bounce_keeps, release_keeps}
+use Rattle.atomic_table.specs.Table.{State, Me, step, keeps, Allows, Splits, Joins}
+use Rattle.image_base.specs.Records.{Records}
+use Rattle.image_base.specs.Places.{base, state_place, IsEntry}
+use Rattle.gen_core.specs.declared.views.Sizes.{Sizes}
+use Rattle.gen_core.specs.declared.views.WriterView.{WriterView}
+use Rattle.gen_core.specs.declared.views.ReaderView.{ReaderView}
+use Rattle.gen_core.specs.declared.views.ReaderState.TheVariants.{Idle, Aimed, Raised, Bounced, Guarded, Spent}
+use Rattle.gen_core.specs.declared.views.View.{View}
+use Rattle.gen_core.specs.declared.views.View.TheVariants.{Writer, Reader}
+use Rattle.gen_core.specs.Views.{hold_place, is_counted_on, last_number, last_image, spent}
+use Rattle.gen_core.specs.Work.{next_image}
+use Rattle.gen_core.specs.Good.{HoldFits, AimFits, BounceFits, GuardFits, GoodReaderState, IsPlaced, IsLawfulCommit, GoodReader, Good}
+use Rattle.gen_core.specs.Conditions.{MayStoreWidth, MayStoreWord, MayHandOut, MayPublish, MaySplit, MayJoin}
+use Rattle.gen_core.specs.Events.{stored, aims, with_state, found_state, bounced, MayOpen, opening_words, opening_view, handed_out, widened, published, sees, with_reader, newcomer, joined}
+use Rattle.gen_core.proofs.Lists.{all_at}
+use Rattle.gen_core.proofs.Frames.{base-same}
+use Rattle.gen_core.proofs.Writer.{store_word_keeps, store_width_keeps, hand_out_keeps}
+use Rattle.gen_core.proofs.Publish.{publish_keeps, records-stands}
+use Rattle.gen_core.proofs.Readers.{load_root_keeps, split_keeps, join_keeps}
+use Rattle.gen_core.proofs.Opening.{opening_good}
+use Rattle.gen_core.proofs.Law.{image_stands}
+use Rattle.word_arena.specs.Ruled.{Slot, views_of, Ruled, Becomes, writer_of, reader_of, told_hand_out, told_width, told_store, told_publish, told_load_root, told_load_newest, told_raise, told_bounce, told_release, told_load_word, told_load_own, cut_left, cut_right, glued}
+use Rattle.word_arena.specs.ProofsForWork.{coming-least}
+use Rattle.word_arena.proofs.Views.{get_some}
+use Rattle.gen_core.proofs.Holds.{at_newest}
+use Rattle.gen_core.proofs.GoodViews.{good_view, some-commit, last-kept, records-placed}
+use Rattle.gen_core.proofs.ViewLemmas.{last_at}
+use Rattle.gen_core.proofs.OneStep.{set_back}
+use Rattle.gen_core.proofs.Layouts.{IsLayout}
+use Rattle.gen_core.proofs.Bounds.{count-small, counted-two}
+
+-- the writer's seat is the first, and each other one is a reader's
+writer_at : (w0 : WriterView) (readers : List ReaderView) (id : ℕ) (w : WriterView) → get_elem? (views_of w0 readers) id ≡ some (Writer w) → (id ≡ 0) × (w0 ≡ w)
+writer_at w0 readers zero w e = (refl, ap writer_of (some-injective _ _ e))
+writer_at w0 readers (suc j) w e = absurd (no_writer readers j e)
+  where
+    no_writer : (rs : List ReaderView) (j : ℕ) → get_elem? (map Reader rs) j ≡ some (Writer w) → ⊥
+    no_writer [] j e = some-ne-none _ (sym e)
+    no_writer (r ∷ rs) zero e = cc
+    no_writer (r ∷ rs) (suc j) e = no_writer rs j e
+
+reader_at : (w0 : WriterView) (readers : List ReaderView) (id : ℕ) (r : ReaderView) → get_elem? (views_of w0 readers) id ≡ some (Reader r) → (j : ℕ) × (id ≡ suc j) × (slice_get readers j ≡ Some r)
+reader_at w0 readers zero r e = absurd (cc)
+reader_at w0 readers (suc j) r e = (j, refl, get_some readers j r (mine readers j e))
+  where
+    mine : (rs : List ReaderView) (j : ℕ) → get_elem? (map Reader rs) j ≡ some (Reader r) → get_elem? rs j ≡ some r
+    mine [] j e = absurd (some-ne-none _ (sym e))
+    mine (x ∷ rs) zero e = ap (λ v. some (reader_of v)) (some-injective _ _ e)
+    mine (x ∷ rs) (suc j) e = mine rs j e
+
+-- a place that is written with what stands there
+set_got : {A : Type 0} (l : List A) (i : ℕ) (a : A) → slice_get l i ≡ Some a → set l i a ≡ l
+set_got [] i a e = refl
+set_got (x ∷ xs) zero a e = let same : x ≡ a = cc in λ k. sym same k ∷ xs
+set_got (x ∷ xs) (suc i) a e = λ k. x ∷ set_got xs i a e k
+
+module _ (reaches : ℕ → Records → ℕ → List ℕ) (lawful : ℕ → Records → ℕ → Type 0) (sizes : Sizes) where
+  -- a good state in which the seat id is the writer's, with the view w
+  pub record Writing (t : State Slot View) (id : ℕ) (w : WriterView) : Type 0 where
+    pub readers : List ReaderView
+    pub same_sizes : w.sizes ≡ sizes
+    pub good : Good reaches lawful (record { words = t.words; writer = w; readers = readers })
+    pub set_view : (v : WriterView) → set t.views id (Writer v) ≡ views_of v readers
+
+  pub writing : (t : State Slot View) → Ruled reaches lawful sizes t → (id : ℕ) (w : WriterView) → get_elem? t.views id ≡ some (Writer w) → Writing t id w
+  writing t rule id w e =
+      let at = writer_at rule.writer rule.readers id w (subst (λ l. get_elem? l id ≡ some (Writer w)) rule.views e) in
+      record {
+        readers = rule.readers;
+        same_sizes = sym (ap (λ (v : WriterView). v.sizes) at.1) ∙ rule.same_sizes;
+        good = subst (λ (v : WriterView). Good reaches lawful (record { words = t.words; writer = v; readers = rule.readers })) at.1 rule.good;
+        set_view = λ v i. set (rule.views i) (at.0 i) (Writer v);
+      }
+
+  -- a good state in which the seat id is the reader j's, with the view r
+  record Reading (t : State Slot View) (id : ℕ) (r : ReaderView) : Type 0 where
+    writer : WriterView
+    readers : List ReaderView
+    j : ℕ
+    there : slice_get readers j ≡ Some r
+    same_sizes : writer.sizes ≡ sizes
+    good : Good reaches lawful (record { words = t.words; writer = writer; readers = readers })
+    set_view : (v : ReaderView) → set t.views id (Reader v) ≡ views_of writer (set readers j v)
+
+  reading : (t : State Slot View) → Ruled reaches lawful sizes t → (id : ℕ) (r : ReaderView) → get_elem? t.views id ≡ some (Reader r) → Reading t id r
+  reading t rule id r e =
+      let at = reader_at rule.writer rule.readers id r (subst (λ l. get_elem? l id ≡ some (Reader r)) rule.views e) in
+      record {
+        writer = rule.writer;
+        readers = rule.readers;
+        j = at.0;
+        there = at.2;
+        same_sizes = rule.same_sizes;
+        good = rule.good;
+        set_view = λ v. (λ i. set (rule.views i) (at.1 i) (Reader v)) ∙ ap (λ l. Writer rule.writer ∷ l) (sym (map-set Reader rule.readers at.0 v));
+      }
+
+  -- a step of the writer to a good state
+  pub ruled_by : (t : State Slot View) (id : ℕ) (w v : WriterView) (k : Writing t id w) (words : List ℕ) → v.sizes ≡ w.sizes
+      → Good reaches lawful (record { words = words; writer = v; readers = k.readers })
+      → Ruled reaches lawful sizes (record { words = words; homes = t.homes; views = set t.views id (Writer v) })
+  ruled_by t id w v k words same good = record { writer = v; readers = k.readers; views = k.set_view v; same_sizes = same ∙ k.same_sizes; good = good }
+
+  pub hand_out_allowed : (slots id : ℕ) (w : WriterView) (b : ℕ) → MayHandOut w b
+      → Allows (Ruled reaches lawful sizes) slots id (Writer w, []) (state_place b) (λ _. 1) (λ _. told_hand_out (step slots (state_place b) 1 0 none) (Writer w, []) 1)
+  hand_out_allowed slots id w b may t rule homes at small =
+      let k = writing t rule id w at in
+      let good = hand_out_keeps reaches lawful _ b k.good may in (
+        Writer (handed_out w b),
+        keeps,
+        tt,
+        ruled_by t id w (handed_out w b) k _ refl good,
+        λ other same. let e : b ≡ other = omega arith in
+            subst (λ (c : ℕ). Becomes (Writer w, []) (handed_out w c) (Writer (handed_out w b), [])) e (record { is = refl; good = good_view reaches lawful _ good }),
+      )
+
+  pub width_allowed : (slots id : ℕ) (w : WriterView) (b width : ℕ) → MayStoreWidth w b width
+      → Allows (Ruled reaches lawful sizes) slots id (Writer w, []) (base w.sizes.buffers w.sizes.words b) (λ _. width)
+      (λ _. told_width (step slots (base w.sizes.buffers w.sizes.words b) width 0 none) (Writer w, []) width)
+  width_allowed slots id w b width may t rule homes at small =
+      let k = writing t rule id w at in
+      let good = store_width_keeps reaches lawful _ b width k.good may in (
+        Writer (widened w b width),
+        keeps,
+        tt,
+        ruled_by t id w (widened w b width) k _ refl good,
+        λ other same. let e : b ≡ other = base-same w.sizes b other k.good.sizes.some_word same in
+            subst (λ (c : ℕ). Becomes (Writer w, []) (widened w c width) (Writer (widened w b width), [])) e (record { is = refl; good = good_view reaches lawful _ good }),
+      )
+
+  pub store_allowed : (slots id : ℕ) (w : WriterView) (p n : ℕ) → MayStoreWord w p
+      → Allows (Ruled reaches lawful sizes) slots id (Writer w, []) p (λ _. n) (λ _. told_store (step slots p n 0 none) (Writer w, []) n)
+  store_allowed slots id w p n may t rule homes at small =
+      let k = writing t rule id w at in
+      let good = store_word_keeps reaches lawful _ p n k.good may in (
+        Writer (stored w p n),
+        keeps,
+        tt,
+        ruled_by t id w (stored w p n) k _ refl good,
+        record { is = refl; good = good_view reaches lawful _ good },
+      )
+
+  pub publish_allowed : IsLayout reaches lawful → (slots id : ℕ) (w : WriterView) (root : ℕ) → MayPublish lawful w root
+      → Allows (Ruled reaches lawful sizes) slots id (Writer w, []) 0 (λ _. length w.commits * 2 ^ 32 + root)
+      (λ _. told_publish reaches lawful (step slots 0 (length w.commits * 2 ^ 32 + root) 0 none) (Writer w, []) (length w.commits * 2 ^ 32 + root))
+  publish_allowed l slots id w root may t rule homes at small =
+      let k = writing t rule id w at in
+      let v : WriterView = published w (next_image reaches w root) in
+      let good = publish_keeps reaches lawful l _ root k.good may in (
+        Writer v,
+        keeps,
+        tt,
+        ruled_by t id w v k _ refl good,
+        λ other same. let e : root ≡ other = omega arith in
+            subst (λ (c : ℕ). Becomes (Writer w, []) (published w (next_image reaches w c)) (Writer v, [])) e (record { is = refl; good = good_view reaches lawful _ good }),
+      )
+
+  -- a step of a reader to a good state
+  read_by : (t : State Slot View) (id : ℕ) (r v : ReaderView) (k : Reading t id r) (words : List ℕ)
+      → Good reaches lawful (record { words = words; writer = k.writer; readers = set k.readers k.j v })
+      → Ruled reaches lawful sizes (record { words = words; homes = t.homes; views = set t.views id (Reader v) })
+  read_by t id r v k words good = record { writer = k.writer; readers = set k.readers k.j v; views = k.set_view v; same_sizes = k.same_sizes; good = good }
+
+  pub load_newest_allowed : (slots id : ℕ) (r : ReaderView) → r.state ≡ Idle
+      → Allows (Ruled reaches lawful sizes) slots id (Reader r, []) 1 (λ n. n) (told_load_newest (step slots 1 0 0 none) (Reader r, []))
+  load_newest_allowed slots id r idle t rule homes at small =
+      let k = reading t rule id r at in
+      let v : ReaderView = aims r k.writer.queue.newest in (
+        Reader v,
+        keeps,
+        tt,
+        read_by t id r v k _ (subst (λ (l : List ℕ). Good reaches lawful (record { words = l; writer = k.writer; readers = set k.readers k.j v })) (sym (set_back t.words 1))
+            (load_newest_keeps reaches lawful _ k.j r k.good k.there idle)),
+        record {
+          entry = k.writer.queue.newest;
+          is = refl;
+          found_last = k.good.names.newest_hold;
+          low = (at_newest (HoldFits k.writer.commits) k.writer.queue.older k.writer.queue.newest k.good.queue.each).hold;
+          least = (all_at (GoodReader k.writer.sizes k.writer.queue k.writer.commits) k.readers k.j r k.good.readers k.there).least;
+        },
+      )
+
+  pub raise_allowed : (slots id : ℕ) (r : ReaderView) (generation h : ℕ) → r.state ≡ Aimed generation h
+      → Allows (Ruled reaches lawful sizes) slots id (Reader r, []) (hold_place h) (λ n. (n + 2) % 2 ^ 64) (told_raise (step slots (hold_place h) 2 0 none) (Reader r, []))
+  raise_allowed slots id r generation h aimed t rule homes at small =
+      let k = reading t rule id r at in
+      let w : WriterView = k.writer in
+      let found : ℕ = slice_index t.words (hold_place h) in
+      let mine = all_at (GoodReader w.sizes w.queue w.commits) k.readers k.j r k.good.readers k.there in
+      let aim : AimFits w.queue.newest r.least generation h = subst (GoodReaderState w.queue w.commits r) aimed mine.state in
+      let few = count-small reaches lawful _ h k.good aim.hold in
+      let sum : found + 2 ≡ (found + 2) % 2 ^ 64 = omega (arith, few) in
+      let v : ReaderView = with_state r (found_state found h) in (
+        Reader v,
+        keeps,
+        tt,
+        read_by t id r v k _ (subst (λ (n : ℕ). Good reaches lawful (record { words = set t.words (hold_place h) n; writer = w; readers = set k.readers k.j v })) sum
+            (raise_keeps reaches lawful _ k.j r generation h k.good k.there aimed)),
+        λ other same. let e : h ≡ other = omega arith in ap (λ (i : ℕ). (Reader (with_state r (found_state found i)), [])) e,
+      )
+
+  bounce-off : (h : ℕ) → Bounced h ≡ Spent → ⊥
+  bounce-off h e = cc
+
+  pub bounce_allowed : (slots id : ℕ) (r : ReaderView) (h : ℕ) → r.state ≡ Bounced h
+      → Allows (Ruled reaches lawful sizes) slots id (Reader r, []) (hold_place h) (λ n. (n + (2 ^ 64 - 2)) % 2 ^ 64) (told_bounce (step slots (hold_place h) 2 0 none) (Reader r, []))
+  bounce_allowed slots id r h is t rule homes at small =
+      let k = reading t rule id r at in
+      let w : WriterView = k.writer in
+      let found : ℕ = slice_index t.words (hold_place h) in
+      let mine = all_at (GoodReader w.sizes w.queue w.commits) k.readers k.j r k.good.readers k.there in
+      let b : BounceFits w.queue.newest r.least h = subst (GoodReaderState w.queue w.commits r) is mine.state in
+      let two = counted-two reaches lawful _ k.j h r k.good k.there b.hold (ap (is_counted_on h) is ∙ eq-eqb h h refl) in
+      let less : found - 2 ≡ (found + (2 ^ 64 - 2)) % 2 ^ 64 = omega (arith, two, small) in
+      let v : ReaderView = bounced r in (
+        Reader v,
+        keeps,
+        tt,
+        read_by t id r v k _ (subst (λ (n : ℕ). Good reaches lawful (record { words = set t.words (hold_place h) n; writer = w; readers = set k.readers k.j v })) less
+            (bounce_keeps reaches lawful _ k.j r h k.good k.there is)),
+        record {
+          is = refl;
+          limit = (let m = b.missed in let same : r.sizes ≡ w.sizes = mine.same_sizes (λ e. bounce-off h (sym is ∙ e)) in
+              let up = coming-least w.queue.newest w.queue.pending in let g = k.good.queue.generation in omega (arith, m, up, g, ap (λ (z : Sizes). z.generation_limit) same));
+        },
+      )
+
+  pub release_allowed : (slots id : ℕ) (r : ReaderView) (h c : ℕ) → r.state ≡ Guarded h c
+      → Allows (Ruled reaches lawful sizes) slots id (Reader r, []) (hold_place h) (λ n. (n + (2 ^ 64 - 2)) % 2 ^ 64) (told_release (step slots (hold_place h) 2 0 none) (Reader r, []))
+  release_allowed slots id r h c is t rule homes at small =
+      let k = reading t rule id r at in
+      let w : WriterView = k.writer in
+      let found : ℕ = slice_index t.words (hold_place h) in
+      let mine = all_at (GoodReader w.sizes w.queue w.commits) k.readers k.j r k.good.readers k.there in
+      let b : GuardFits w.queue w.commits r.saw h c = subst (GoodReaderState w.queue w.commits r) is mine.state in
+      let two = counted-two reaches lawful _ k.j h r k.good k.there b.raised.hold (ap (is_counted_on h) is ∙ eq-eqb h h refl) in
+      let less : found - 2 ≡ (found + (2 ^ 64 - 2)) % 2 ^ 64 = omega (arith, two, small) in
+      let v : ReaderView = with_state r Idle in (
+        Reader v,
+        keeps,
+        tt,
+        read_by t id r v k _ (subst (λ (n : ℕ). Good reaches lawful (record { words = set t.words (hold_place h) n; writer = w; readers = set k.readers k.j v })) less
+            (release_keeps reaches lawful _ k.j r h c k.good k.there is)),
+        refl,
+      )
+
+  off : (h : ℕ) → Raised h ≡ Spent → ⊥
+  off h e = cc
+
+  pub load_root_allowed : (slots id : ℕ) (r : ReaderView) (h : ℕ) → r.state ≡ Raised h
+      → Allows (Ruled reaches lawful sizes) slots id (Reader r, []) 0 (λ n. n) (told_load_root reaches lawful (step slots 0 0 0 none) (Reader r, []))
+  load_root_allowed slots id r h raised t rule homes at small =
+      let k = reading t rule id r at in
+      let w : WriterView = k.writer in
+      let v : ReaderView = sees r h (last_number w.commits) (last_image w.commits) in
+      let mine = all_at (GoodReader w.sizes w.queue w.commits) k.readers k.j r k.good.readers k.there in
+      let same : r.sizes ≡ w.sizes = mine.same_sizes (λ e. absurd (off h (sym raised ∙ e))) in
+      let commit = all_at (IsLawfulCommit reaches lawful w.sizes.shape) w.commits (last_number w.commits) (last_image w.commits) k.good.commits.each (last_at w.commits (some-commit w (good_view reaches lawful _ k.good))) in
+      let placed : All (IsPlaced w.sizes w.buffers) (last_image w.commits).records = last-kept w (good_view reaches lawful _ k.good) (λ image. All (IsPlaced w.sizes w.buffers) image.records) k.good.places.records in (
+        Reader v,
+        keeps,
+        tt,
+        record {
+          writer = w;
+          readers = set k.readers k.j v;
+          views = k.set_view v;
+          same_sizes = k.same_sizes;
+          good = subst (λ (l : List ℕ). Good reaches lawful (record { words = l; writer = w; readers = set k.readers k.j v })) (sym (set_back t.words 0))
+              (load_root_keeps reaches lawful _ k.j r h k.good k.there raised);
+        },
+        record {
+          reader = v;
+          is = refl;
+          sees_commit = record {
+            hold = h;
+            raised = raised;
+            number = last_number w.commits;
+            image = last_image w.commits;
+            is = refl;
+            found_root = k.good.names.root;
+            commit = subst (λ (z : Sizes). IsLawfulCommit reaches lawful z.shape (last_image w.commits)) (sym same) commit;
+            later = mine.seen;
+            small_number = let a = k.good.queue.commit in let b = k.good.sizes.commit_limit in omega arith;
+            entries = subst (λ (z : Sizes). All (λ pair. IsEntry z.offset_bits z.buffers z.words (length pair.1) pair.0) (last_image w.commits).records) (sym same) (λ l e less. (placed l e less).inside);
+          };
+        },
+      )
+
+  pub load_word_allowed : (slots id : ℕ) (r : ReaderView) (p : ℕ) → Allows (Ruled reaches lawful sizes) slots id (Reader r, []) p (λ n. n) (told_load_word (step slots p 0 0 none) (Reader r, []))
+  load_word_allowed slots id r p t rule homes at small =
+      let k = reading t rule id r at in (
+        Reader r,
+        keeps,
+        tt,
+        record {
+          writer = k.writer;
+          readers = k.readers;
+          views = k.set_view r ∙ ap (λ l. views_of k.writer l) (set_got k.readers k.j r k.there);
+          same_sizes = k.same_sizes;
+          good = subst (λ (l : List ℕ). Good reaches lawful (record { words = l; writer = k.writer; readers = k.readers })) (sym (set_back t.words p)) k.good;
+        },
+        record {
+          same = refl;
+          word = λ c image saw.
+              let stands = image_stands reaches lawful _ k.j c r image k.good k.there saw in
+              record {
+                word = λ ref ws i there lt is. ap (slice_index t.words) is ∙ ((stands ref ws there).each i lt).is;
+                width = λ ref ws there is. ap (slice_index t.words) is ∙ (stands ref ws there).width.is;
+              };
+        },
+      )
+
+  pub load_own_allowed : (slots id : ℕ) (w : WriterView) (p : ℕ) → Allows (Ruled reaches lawful sizes) slots id (Writer w, []) p (λ n. n) (told_load_own (step slots p 0 0 none) (Writer w, []))
+  load_own_allowed slots id w p t rule homes at small =
+      let k = writing t rule id w at in (
+        Writer w,
+        keeps,
+        tt,
+        ruled_by t id w w k _ refl (subst (λ (l : List ℕ). Good reaches lawful (record { words = l; writer = w; readers = k.readers })) (sym (set_back t.words p)) k.good),
+        record {
+          same = refl;
+          own = record {
+            word = λ ref i lt is. ap (slice_index t.words) is ∙ records-stands reaches lawful _ k.good ref (omega (arith, lt)) i lt;
+            width = λ ref some is. ap (slice_index t.words) is ∙ (let placed = records-placed w (good_view reaches lawful _ k.good) ref some in k.good.memory.widths _ _ placed.width some);
+          };
+          seen = k.good.commits.seen;
+        },
+      )
+
+  pub split_allowed : (id : ℕ) (w : WriterView) → MaySplit w → Splits (Ruled reaches lawful sizes) id (Writer w) (Writer (with_reader w)) (Reader (newcomer w))
+  split_allowed id w may t rule at =
+      let k = writing t rule id w at in
+      let v : WriterView = with_reader w in
+      record {
+        writer = v;
+        readers = k.readers ++ newcomer w ∷ [];
+        views = ap (λ l. l ++ Reader (newcomer w) ∷ []) (k.set_view v) ∙ ap (λ l. Writer v ∷ l) (sym (map-append Reader k.readers (newcomer w ∷ [])));
+        same_sizes = k.same_sizes;
+        good = split_keeps reaches lawful _ k.good may;
+      }
+
+  pub join_allowed : (id : ℕ) (w : WriterView) (other : ℕ) (r : ReaderView) → MayJoin w r → Joins (Ruled reaches lawful sizes) id (Writer w) other (Reader r) (Writer (joined w r)) (Reader spent)
+  join_allowed id w other r may t rule at apart there =
+      let k = writing t rule id w at in
+      let v : WriterView = joined w r in
+      let it = reader_at v k.readers other r (subst (λ l. get_elem? l other ≡ some (Reader r)) (k.set_view v) there) in
+      record {
+        writer = v;
+        readers = set k.readers it.0 spent;
+        views = (λ i. set (k.set_view v i) (it.1 i) (Reader spent)) ∙ ap (λ l. Writer v ∷ l) (sym (map-set Reader k.readers it.0 spent));
+        same_sizes = k.same_sizes;
+        good = join_keeps reaches lawful _ it.0 r k.good it.2 may;
+      }
+
+  pub opens : IsLayout reaches lawful → MayOpen sizes
+      → Ruled reaches lawful sizes (record { words = opening_words sizes; homes = []; views = Writer (opening_view sizes) ∷ [] })
+  opens l may = record { writer = opening_view sizes; readers = []; views = refl; same_sizes = refl; good = opening_good reaches lawful l sizes may }
+
+-- the same at a seat whose view is known
+module _ (reaches : ℕ → Records → ℕ → List ℕ) (lawful : ℕ → Records → ℕ → Type 0) (sizes : Sizes) (slots id : ℕ) (me : Me Slot View) where
+  pub hand_out_owed : (w : WriterView) (b p : ℕ) → me ≡ (Writer w, []) → p ≡ state_place b → MayHandOut w b
+      → Allows (Ruled reaches lawful sizes) slots id me p (λ _. 1) (λ _. told_hand_out (step slots p 1 0 none) me 1)
+  hand_out_owed w b p is at may =
+      let P : Me Slot View × ℕ → Type 0 = λ x. Allows (Ruled reaches lawful sizes) slots id x.0 x.1 (λ _. 1) (λ _. told_hand_out (step slots x.1 1 0 none) x.0 1) in
+      subst P (λ i. (sym is i, sym at i)) (hand_out_allowed reaches lawful sizes slots id w b may)
+
+  pub width_owed : (w : WriterView) (b width p : ℕ) → me ≡ (Writer w, []) → p ≡ base w.sizes.buffers w.sizes.words b → MayStoreWidth w b width
+      → Allows (Ruled reaches lawful sizes) slots id me p (λ _. width) (λ _. told_width (step slots p width 0 none) me width)
+  width_owed w b width p is at may =
+      let P : Me Slot View × ℕ → Type 0 = λ x. Allows (Ruled reaches lawful sizes) slots id x.0 x.1 (λ _. width) (λ _. told_width (step slots x.1 width 0 none) x.0 width) in
+      subst P (λ i. (sym is i, sym at i)) (width_allowed reaches lawful sizes slots id w b width may)
+
+  pub store_owed : (w : WriterView) (p n : ℕ) → me ≡ (Writer w, []) → MayStoreWord w p
+      → Allows (Ruled reaches lawful sizes) slots id me p (λ _. n) (λ _. told_store (step slots p n 0 none) me n)
+  store_owed w p n is may =
+      subst (λ (m : Me Slot View). Allows (Ruled reaches lawful sizes) slots id m p (λ _. n) (λ _. told_store (step slots p n 0 none) m n)) (sym is) (store_allowed reaches lawful sizes slots id w p n may)
+
+  pub publish_owed : IsLayout reaches lawful → (w : WriterView) (root word : ℕ) → me ≡ (Writer w, []) → word ≡ length w.commits * 2 ^ 32 + root → MayPublish lawful w root
+      → Allows (Ruled reaches lawful sizes) slots id me 0 (λ _. word) (λ _. told_publish reaches lawful (step slots 0 word 0 none) me word)
+  publish_owed l w root word is what may =
+      let P : Me Slot View × ℕ → Type 0 = λ x. Allows (Ruled reaches lawful sizes) slots id x.0 0 (λ _. x.1) (λ _. told_publish reaches lawful (step slots 0 x.1 0 none) x.0 x.1) in
+      subst P (λ i. (sym is i, sym what i)) (publish_allowed reaches lawful sizes l slots id w root may)
+
+  pub load_root_owed : (r : ReaderView) (h : ℕ) → me ≡ (Reader r, []) → r.state ≡ Raised h → Allows (Ruled reaches lawful sizes) slots id me 0 (λ n. n) (told_load_root reaches lawful (step slots 0 0 0 none) me)
+  load_root_owed r h is raised = subst (λ (m : Me Slot View). Allows (Ruled reaches lawful sizes) slots id m 0 (λ n. n) (told_load_root reaches lawful (step slots 0 0 0 none) m)) (sym is) (load_root_allowed reaches lawful sizes slots id r h raised)
+
+  pub load_newest_owed : (r : ReaderView) → me ≡ (Reader r, []) → r.state ≡ Idle → Allows (Ruled reaches lawful sizes) slots id me 1 (λ n. n) (told_load_newest (step slots 1 0 0 none) me)
+  load_newest_owed r is idle = subst (λ (m : Me Slot View). Allows (Ruled reaches lawful sizes) slots id m 1 (λ n. n) (told_load_newest (step slots 1 0 0 none) m)) (sym is) (load_newest_allowed reaches lawful sizes slots id r idle)
+
+  pub raise_owed : (r : ReaderView) (generation h p : ℕ) → me ≡ (Reader r, []) → p ≡ hold_place h → r.state ≡ Aimed generation h
+      → Allows (Ruled reaches lawful sizes) slots id me p (λ n. (n + 2) % 2 ^ 64) (told_raise (step slots p 2 0 none) me)
+  raise_owed r generation h p is at aimed =
+      let P : Me Slot View × ℕ → Type 0 = λ x. Allows (Ruled reaches lawful sizes) slots id x.0 x.1 (λ n. (n + 2) % 2 ^ 64) (told_raise (step slots x.1 2 0 none) x.0) in
+      subst P (λ i. (sym is i, sym at i)) (raise_allowed reaches lawful sizes slots id r generation h aimed)
+
+  pub bounce_owed : (r : ReaderView) (h p : ℕ) → me ≡ (Reader r, []) → p ≡ hold_place h → r.state ≡ Bounced h
+      → Allows (Ruled reaches lawful sizes) slots id me p (λ n. (n + (2 ^ 64 - 2)) % 2 ^ 64) (told_bounce (step slots p 2 0 none) me)
+  bounce_owed r h p is at b =
+      let P : Me Slot View × ℕ → Type 0 = λ x. Allows (Ruled reaches lawful sizes) slots id x.0 x.1 (λ n. (n + (2 ^ 64 - 2)) % 2 ^ 64) (told_bounce (step slots x.1 2 0 none) x.0) in
+      subst P (λ i. (sym is i, sym at i)) (bounce_allowed reaches lawful sizes slots id r h b)
+
+  pub release_owed : (r : ReaderView) (h c p : ℕ) → me ≡ (Reader r, []) → p ≡ hold_place h → r.state ≡ Guarded h c
+      → Allows (Ruled reaches lawful sizes) slots id me p (λ n. (n + (2 ^ 64 - 2)) % 2 ^ 64) (told_release (step slots p 2 0 none) me)
+  release_owed r h c p is at b =
+      let P : Me Slot View × ℕ → Type 0 = λ x. Allows (Ruled reaches lawful sizes) slots id x.0 x.1 (λ n. (n + (2 ^ 64 - 2)) % 2 ^ 64) (told_release (step slots x.1 2 0 none) x.0) in
+      subst P (λ i. (sym is i, sym at i)) (release_allowed reaches lawful sizes slots id r h c b)
+
+  pub load_word_owed : (r : ReaderView) (p : ℕ) → me ≡ (Reader r, []) → Allows (Ruled reaches lawful sizes) slots id me p (λ n. n) (told_load_word (step slots p 0 0 none) me)
+  load_word_owed r p is = subst (λ (m : Me Slot View). Allows (Ruled reaches lawful sizes) slots id m p (λ n. n) (told_load_word (step slots p 0 0 none) m)) (sym is) (load_word_allowed reaches lawful sizes slots id r p)
+
+  pub load_own_owed : (w : WriterView) (p : ℕ) → me ≡ (Writer w, []) → Allows (Ruled reaches lawful sizes) slots id me p (λ n. n) (told_load_own (step slots p 0 0 none) me)
+  load_own_owed w p is = subst (λ (m : Me Slot View). Allows (Ruled reaches lawful sizes) slots id m p (λ n. n) (told_load_own (step slots p 0 0 none) m)) (sym is) (load_own_allowed reaches lawful sizes slots id w p)
+
+  pub split_owed : (w : WriterView) → me ≡ (Writer w, []) → MaySplit w → Splits (Ruled reaches lawful sizes) id me.0 (cut_left me.0) (cut_right me.0)
+  split_owed w is may = subst (λ (m : Me Slot View). Splits (Ruled reaches lawful sizes) id m.0 (cut_left m.0) (cut_right m.0)) (sym is) (split_allowed reaches lawful sizes id w may)
+
+  pub join_owed : (w : WriterView) (other : ℕ) (it : Me Slot View) (r : ReaderView) → me ≡ (Writer w, []) → it ≡ (Reader r, []) → MayJoin w r
+      → Joins (Ruled reaches lawful sizes) id me.0 other it.0 (glued me.0 it.0) (Reader spent)
+  join_owed w other it r is that may =
+      let P : Me Slot View × Me Slot View → Type 0 = λ x. Joins (Ruled reaches lawful sizes) id x.0.0 other x.1.0 (glued x.0.0 x.1.0) (Reader spent) in
+      subst P (λ i. (sym is i, sym that i)) (join_allowed reaches lawful sizes id w other r may)

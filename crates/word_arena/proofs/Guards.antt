@@ -1,0 +1,212 @@
+-- What the ghost fields of a reader and of a guard give at a call.
+use Rattle.std.proofs.Common.{◌^◌, mul-le-mul_left, cond, eq-eqb, ne_eqb, ◌≡◌, ◌≢◌, ℕ, suc, ◌+◌, ◌*◌, ◌/◌, ◌%◌, ◌<◌, ◌≤◌, List, [], ◌∷◌, length, slice_index, Some, refl, sym, ap, ◌∙◌, subst, arith, mul-le-mul_right, suc-mul}
+use Rattle.std.specs.Prelude.{slice_get, All}
+use Rattle.std.proofs.Props.{props}
+use Rattle.entry_ref.specs.References.{buffer_of}
+use Rattle.atomic_table.specs.Table.{Me, step}
+use Rattle.atomic_table.specs.Seated.{TableId}
+use Rattle.atomic_table.specs.declared.shared.Seat.{Seat}
+use mathlib.Core.Option.{none}
+use Rattle.image_base.specs.declared.Image.{Image}
+use Rattle.image_base.specs.Records.{Records}
+use Rattle.image_base.specs.Images.{words_at}
+use Rattle.image_base.specs.Places.{base, place, size_of, IsEntry}
+use Rattle.image_base.proofs.Apart.{within, place-below}
+use Rattle.gen_core.specs.declared.views.Sizes.{Sizes}
+use Rattle.gen_core.specs.declared.views.ReaderView.{ReaderView}
+use Rattle.gen_core.specs.declared.views.View.{View}
+use Rattle.gen_core.specs.declared.views.View.TheVariants.{Reader}
+use Rattle.gen_core.specs.declared.views.OpenHold.{OpenHold}
+use Rattle.gen_core.specs.declared.views.ReaderState.TheVariants.{Idle, Aimed, Raised, Bounced, Guarded}
+use Rattle.gen_core.specs.Views.{newest_word}
+use Rattle.gen_core.specs.Good.{IsLawfulCommit}
+use Rattle.gen_core.specs.Conditions.{IsUnder}
+use Rattle.gen_core.specs.Events.{aims, with_state, sees, found_state}
+use Rattle.word_arena.specs.ProofsForGuards.{in_image, image-entry}
+use Rattle.word_arena.specs.Ruled.{IsAim, IsAimOf, Slot, reader_of, ToldLoadRoot, ToldLoadNewest, told_raise, ToldLoadWord, first_of, image_of, number_of, IsPost, IsWatch, IsGuard, IsLater}
+
+-- a seat after a step to the view v
+pub post_after : {bits : ℕ} {arena : TableId} {sizes : Sizes} {z z' : TableId} {me me' : Me Slot View} → IsPost bits arena sizes z me → z' ≡ z → (v : ReaderView) → me' ≡ (Reader v, me.1) → v.sizes ≡ (reader_of me.0).sizes
+    → IsPost bits arena sizes z' me' × (reader_of me'.0 ≡ v)
+post_after {bits} {arena} {sizes} {z} {z'} {me} {me'} i same v is size =
+    let slots : me.1 ≡ [] = ap (λ (m : Me Slot View). m.1) i.is in
+    let view : reader_of me'.0 ≡ v = ap (λ (m : Me Slot View). reader_of m.0) is in (
+      record {
+        own = same ∙ i.own;
+        is = is ∙ (λ k. (Reader (sym view k), slots k));
+        words = ap (λ (x : TableId). x.words) same ∙ i.words;
+        same_sizes = ap (λ (x : ReaderView). x.sizes) view ∙ size ∙ i.same_sizes;
+        same_bits = i.same_bits;
+        limits = i.limits;
+        product = i.product;
+      },
+      view,
+    )
+
+-- what a load of the root leaves
+pub guards : {reaches : ℕ → Records → ℕ → List ℕ} {lawful : ℕ → Records → ℕ → Type 0} {bits : ℕ} {arena : TableId} {sizes : Sizes} {z z' : TableId} {me me' : Me Slot View} {found : ℕ} (h : ℕ)
+    → IsPost bits arena sizes z me → h < 16 → (reader_of me.0).state ≡ Raised h → z' ≡ z → ToldLoadRoot reaches lawful me found me'
+    → IsGuard bits arena sizes h found z' me' × IsLater reaches lawful (reader_of me.0) (reader_of me'.0)
+guards {reaches} {lawful} {bits} {arena} {sizes} {z} {z'} {me} {me'} {found} h i low raised same told =
+    let s = told.sees_commit in
+    let r : ReaderView = reader_of me.0 in
+    let v : ReaderView = sees r s.hold s.number s.image in
+    let hold : s.hold ≡ h = one_hold s.hold h (sym s.raised ∙ raised) in
+    let is : me' ≡ (Reader v, me.1) = told.is ∙ ap (λ (x : ReaderView). (Reader x, me.1)) s.is in
+    let p = post_after i same v is refl in
+    let some : 0 < length v.saw = omega arith in (
+      record {
+        post = p.0;
+        low = low;
+        guarded = subst (λ (x : ReaderView). x.state ≡ Guarded h (number_of x)) (sym p.1) (ap (λ n. Guarded n s.number) hold);
+        some = subst (λ (x : ReaderView). 0 < length x.saw) (sym p.1) some;
+        root = subst (λ (x : ReaderView). found ≡ number_of x * 2 ^ 32 + (image_of x).root) (sym p.1) s.found_root;
+        small = subst (λ (x : ReaderView). (image_of x).root < 2 ^ 32) (sym p.1) s.commit.small;
+        small_number = subst (λ (x : ReaderView). number_of x < 2 ^ 32) (sym p.1) s.small_number;
+        entries = subst (λ (x : ReaderView). All (λ pair. IsEntry bits sizes.buffers sizes.words (length pair.1) pair.0) (image_of x).records) (sym p.1)
+            (subst (λ b. All (λ pair. IsEntry b sizes.buffers sizes.words (length pair.1) pair.0) s.image.records) i.same_bits
+            (subst (λ (y : Sizes). All (λ pair. IsEntry y.offset_bits y.buffers y.words (length pair.1) pair.0) s.image.records) i.same_sizes s.entries));
+      },
+      record {
+        later = subst (λ (x : ReaderView). r.seen ≤ number_of x) (sym p.1) s.later;
+        least = subst (λ (x : ReaderView). r.least ≤ x.least) (sym p.1) (omega arith);
+        commit = subst (λ (x : ReaderView). IsLawfulCommit reaches lawful x.sizes.shape (image_of x)) (sym p.1) s.commit;
+      },
+    )
+  where
+    one_hold : (a b : ℕ) → Raised a ≡ Raised b → a ≡ b
+    one_hold a b e = cc
+
+-- the hold of a last word
+pub hold-found : (found : ℕ) (e : OpenHold) → found ≡ newest_word e → e.hold < 16 → found % 65536 ≡ e.hold
+hold-found found e is low = omega (arith, is, low)
+
+-- a count that is even was of an open hold
+pub even-state : (found h : ℕ) → found % 2 ≡ 0 → found_state found h ≡ Raised h
+even-state found h e = ap (λ t. cond t (Raised h) (Bounced h)) (eq-eqb (found % 2) 0 e)
+
+pub odd-state : (found h : ℕ) → found % 2 ≢ 0 → found_state found h ≡ Bounced h
+odd-state found h ne = ap (λ t. cond t (Raised h) (Bounced h)) (ne_eqb (found % 2) 0 ne)
+
+-- the first words of a table are inside it
+pub low-inside : {bits : ℕ} {arena : TableId} {sizes : Sizes} {z : TableId} {me : Me Slot View} → IsPost bits arena sizes z me → (p : ℕ) → p < 18 → p < arena.words
+low-inside {bits} {arena} {sizes} {z} {me} i p low = subst (λ (x : TableId). p < x.words) i.own (let h = i.words in omega arith)
+
+-- the first word of a buffer is inside the table
+pub base-inside : (buffers words b : ℕ) → b < buffers → 0 < words → base buffers words b < size_of buffers words
+base-inside buffers words b lt some =
+    let more : suc b * words ≤ buffers * words = mul-le-mul_right words lt in
+    omega (arith, suc-mul b words)
+
+-- a seat that a step left
+pub seat_same : (s t : Seat Slot View) → t.table_id ≡ s.table_id → t.id ≡ s.id → t.me ≡ s.me → t ≡ s
+seat_same s t a b c i = record { marker = t.marker; table_id = a i; id = b i; me = c i }
+
+-- the buffers of a table are few
+pub post-buffers : {bits : ℕ} {arena : TableId} {sizes : Sizes} {z : TableId} {me : Me Slot View} → IsPost bits arena sizes z me → sizes.buffers ≤ 67108864
+post-buffers {bits} {arena} {sizes} i =
+    let product = i.product in
+    let some : 1 ≤ sizes.words = (let long = i.limits.some_words in omega arith) in
+    let more : sizes.buffers * 1 ≤ sizes.buffers * sizes.words = mul-le-mul_left sizes.buffers some in
+    omega (arith, product, more)
+
+pub guard-prop : (bits : ℕ) (arena : TableId) (sizes : Sizes) (hold word : ℕ) (z : TableId) (me : Me Slot View) → IsProp (IsGuard bits arena sizes hold word z me)
+guard-prop bits arena sizes hold word z me = hlevel props
+
+module _ {bits : ℕ} {arena : TableId} {sizes : Sizes} {hold word : ℕ} {z : TableId} {me : Me Slot View} (g : IsGuard bits arena sizes hold word z me) where
+  abbrev pub r : ReaderView
+  r = reader_of me.0
+
+  abbrev pub m : Records
+  m = words_at (image_of r)
+
+  -- the width of references
+  view-bits : (reader_of me.0).sizes.offset_bits ≡ bits
+  view-bits = ap (λ (x : Sizes). x.offset_bits) g.post.same_sizes ∙ g.post.same_bits
+
+  -- the reader is under the guard's commit
+  under : IsUnder r (number_of r) (image_of r)
+  under = record { hold = hold; guarded = g.guarded; seen = by_saw r.saw g.some }
+    where
+      by_saw : (l : List (ℕ × Image)) → 0 < length l → slice_get l 0 ≡ Some ((first_of l).0, (first_of l).1)
+      by_saw [] h = absurd (omega arith)
+      by_saw (x ∷ xs) h = refl
+
+  pub few-buffers : sizes.buffers ≤ 67108864
+  few-buffers = post-buffers g.post
+
+  module _ (ref i : ℕ) (inside : i < length (m ref)) where
+    some : 0 < length (m ref)
+    some = omega (arith, inside)
+
+    pub the_entry : IsEntry bits sizes.buffers sizes.words (length (m ref)) ref
+    the_entry = image-entry bits sizes (image_of r) g.entries ref some
+
+    arena-words : arena.words ≡ size_of sizes.buffers sizes.words
+    arena-words = ap (λ (x : TableId). x.words) (sym g.post.own) ∙ g.post.words
+
+    pub base-below : (p : ℕ) → p ≡ base sizes.buffers sizes.words (buffer_of bits ref) → p < arena.words
+    base-below p is = let e = the_entry in let lt = base-inside sizes.buffers sizes.words (buffer_of bits ref) e.inside (omega (arith, (within e 0 e.wide).1)) in omega (arith, lt, is, arena-words)
+
+    pub place-inside : (p : ℕ) → p ≡ place bits sizes.buffers sizes.words (length (m ref)) ref i → p < arena.words
+    place-inside p is = let lt = place-below the_entry i inside in omega (arith, lt, is, arena-words)
+
+    -- the width that was found
+    pub width_found : {slots p found : ℕ} {me' : Me Slot View} → p ≡ base sizes.buffers sizes.words (buffer_of bits ref) → ToldLoadWord (step slots p 0 0 none) me found me' → found ≡ length (m ref)
+    width_found {slots} {p} {found} {me'} is told =
+        (told.word (number_of r) (image_of r) under).width ref (m ref) (in_image (image_of r) ref some) (is ∙ (λ k. base (sym g.post.same_sizes k).buffers (sym g.post.same_sizes k).words (buffer_of (sym view-bits k) ref)))
+
+    -- and the word
+    pub word_found : {slots p found : ℕ} {me1 me' : Me Slot View} → me1 ≡ me → p ≡ place bits sizes.buffers sizes.words (length (m ref)) ref i
+        → ToldLoadWord (step slots p 0 0 none) me1 found me' → found ≡ slice_index (m ref) i
+    word_found {slots} {p} {found} {me1} {me'} same is told =
+        let here : ToldLoadWord (step slots p 0 0 none) me found me' = subst (λ (x : Me Slot View). ToldLoadWord (step slots p 0 0 none) x found me') same told in
+        (here.word (number_of r) (image_of r) under).word ref (m ref) i (in_image (image_of r) ref some) inside
+        (is ∙ (λ k. place (sym view-bits k) (sym g.post.same_sizes k).buffers (sym g.post.same_sizes k).words (length (m ref)) ref i))
+
+-- a reader that aims
+pub aimed_post : {bits : ℕ} {arena : TableId} {sizes : Sizes} {z z1 : TableId} {me me1 : Me Slot View} {last : ℕ} → IsWatch bits arena sizes z me → z1 ≡ z → ToldLoadNewest me last me1
+    → IsAim bits arena sizes (last % 65536) z1 me1 × IsAimOf (reader_of me.0) (reader_of me1.0)
+aimed_post {bits} {arena} {sizes} {z} {z1} {me} {me1} {last} i same told =
+    let v : ReaderView = aims (reader_of me.0) told.entry in
+    let p = post_after i.post same v told.is refl in
+    let hold = hold-found last told.entry told.found_last told.low in (
+      record {
+        post = p.0;
+        low = (let l = told.low in omega (arith, hold, l));
+        aimed = subst (λ (x : ReaderView). x.state ≡ Aimed x.least (last % 65536)) (sym p.1) (ap (Aimed told.entry.generation) (sym hold));
+      },
+      record {
+        same_sizes = ap (λ (x : ReaderView). x.sizes) p.1;
+        seen = ap (λ (x : ReaderView). x.seen) p.1;
+        least = subst (λ (x : ReaderView). (reader_of me.0).least ≤ x.least) (sym p.1) told.least;
+      },
+    )
+
+-- a reader that has raised a hold
+pub record RaisedPost (bits : ℕ) (arena : TableId) (sizes : Sizes) (r : ReaderView) (hold count : ℕ) (z : TableId) (me : Me Slot View) : Type 0 where
+  pub post : IsPost bits arena sizes z me
+  pub state : (reader_of me.0).state ≡ found_state count hold
+  pub low : hold < 16
+  pub sizes_same : (reader_of me.0).sizes ≡ r.sizes
+  pub seen : (reader_of me.0).seen ≡ r.seen
+  pub least : r.least ≤ (reader_of me.0).least
+
+pub raised_post : {bits : ℕ} {arena : TableId} {sizes : Sizes} {hold count : ℕ} {z z1 : TableId} {me me1 : Me Slot View} → IsAim bits arena sizes hold z me → z1 ≡ z → told_raise (step 0 (2 + hold) 2 0 none) me count me1
+    → RaisedPost bits arena sizes (reader_of me.0) hold count z1 me1
+raised_post {bits} {arena} {sizes} {hold} {count} {z} {z1} {me} {me1} a same told =
+    let v : ReaderView = with_state (reader_of me.0) (found_state count hold) in
+    let p = post_after a.post same v (told hold refl) refl in
+    record {
+      post = p.0;
+      state = ap (λ (x : ReaderView). x.state) p.1;
+      low = a.low;
+      sizes_same = ap (λ (x : ReaderView). x.sizes) p.1;
+      seen = ap (λ (x : ReaderView). x.seen) p.1;
+      least = subst (λ (x : ReaderView). (reader_of me.0).least ≤ x.least) (sym p.1) (omega arith);
+    }
+
+-- and one that stands on nothing again
+pub watch_after : {bits : ℕ} {arena : TableId} {sizes : Sizes} {z z' : TableId} {me me' : Me Slot View} → IsPost bits arena sizes z me → z' ≡ z → (v : ReaderView) → me' ≡ (Reader v, me.1) → v.sizes ≡ (reader_of me.0).sizes → v.state ≡ Idle
+    → IsWatch bits arena sizes z' me'
+watch_after i same v is size idle = let p = post_after i same v is size in record { post = p.0; idle = ap (λ (x : ReaderView). x.state) p.1 ∙ idle }

@@ -1,0 +1,12 @@
+use Rattle.std.proofs.Common.{◌≡◌, length, take, drop}
+use Rattle.image_base.specs.Images.{words_at}
+use Rattle.word_arena.specs.Ruled.{reader_of, image_of}
+use Rattle.word_arena.proofs.reader.GuardedFrozen.read.Given as goal
+
+abbrev pub invariant-loop-i : goal.invariant-loop-i
+invariant-loop-i g l =
+    record {
+      same : l.self ≡ l.fn.self;
+      room : length l.into ≡ length l.fn.into;
+      read : take l.i l.into ≡ take l.i (drop l.first (words_at (image_of (reader_of l.fn.self.place.me.0)) l.entry));
+    }

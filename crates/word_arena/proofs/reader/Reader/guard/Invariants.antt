@@ -1,0 +1,17 @@
+use Rattle.std.proofs.Common.{◌≡◌, ◌+◌, ◌-◌, ◌≤◌}
+use Rattle.word_arena.specs.Ruled.{reader_of}
+use Rattle.word_arena.proofs.reader.Reader.guard.Given as goal
+
+abbrev pub invariant-loop-guard : goal.invariant-loop-guard
+invariant-loop-guard g l = record {
+  table : l.reader.place.table_id ≡ l.fn.self.place.table_id;
+  seen : (reader_of l.reader.place.me.0).seen ≡ (reader_of l.fn.self.place.me.0).seen;
+  limit : (reader_of l.reader.place.me.0).sizes.generation_limit ≡ (reader_of l.fn.self.place.me.0).sizes.generation_limit;
+  rises : (reader_of l.fn.self.place.me.0).least ≤ (reader_of l.reader.place.me.0).least;
+  few : l.tries + (reader_of l.fn.self.place.me.0).least ≤ l.fn.tries + (reader_of l.reader.place.me.0).least;
+  within : l.tries ≤ l.fn.tries + (reader_of l.reader.place.me.0).sizes.generation_limit;
+}
+
+-- at most one try for each generation up to the limit
+abbrev pub decreases-loop-guard : goal.decreases-loop-guard
+decreases-loop-guard g l = (reader_of l.reader.place.me.0).sizes.generation_limit + 1 - (reader_of l.reader.place.me.0).least

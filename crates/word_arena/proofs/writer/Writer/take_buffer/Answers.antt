@@ -1,0 +1,97 @@
+use Rattle.std.proofs.Common.{ap, sym, refl, subst, arith, ◌∙◌, ◌≡◌, ◌+◌, ◌*◌, ◌<◌, ℕ, length, set, [], List}
+use Rattle.atomic_table.specs.Table.{Me}
+use Rattle.image_base.specs.Places.{base}
+use Rattle.gen_core.specs.declared.views.Sizes.{Sizes}
+use Rattle.gen_core.specs.declared.views.Buffer.{Buffer}
+use Rattle.gen_core.specs.declared.views.Buffer.TheVariants.{Active}
+use Rattle.gen_core.specs.declared.views.View.{View}
+use Rattle.gen_core.specs.declared.views.View.TheVariants.{Writer}
+use Rattle.gen_core.specs.declared.views.WriterView.{WriterView}
+use Rattle.gen_core.specs.Views.{last_tag_in}
+use Rattle.gen_core.specs.Events.{handed_out, widened}
+use Rattle.word_arena.specs.Ruled.{Slot, writer_of}
+use Rattle.word_arena.specs.Knows.{given, StoresEntries}
+use Rattle.word_arena.proofs.Entries.{entries-given}
+use Rattle.word_arena.proofs.Allowed.{hand_out_owed, width_owed}
+use Rattle.word_arena.proofs.Guards.{base-inside}
+use Rattle.word_arena.proofs.Desks.{arena-words, desk_after}
+use Rattle.word_arena.proofs.Stores.{free-here}
+use Rattle.word_arena.proofs.writer.Writer.take_buffer.Goals as goal
+use Rattle.gen_core.specs.Good.{GoodView}
+use Rattle.gen_core.proofs.StoredWords.{two-steps, may-hand-out, may-width}
+
+pub store-requires : goal.store-requires
+store-requires g c =
+    let s = c.args.self.now in
+    let w : WriterView = writer_of s.place.me.0 in
+    let b : ℕ = c.args.buffer in
+    let below : b < length w.buffers = let h = c.requires.below in omega (arith, h, s.stands.good.count) in
+    let free = free-here w b below c.requires.free in
+    let inside : 18 + b < s.arena.now.table.shared.table_id.words = let h = c.requires.below in omega (arith, h, arena-words s.stands, ap (λ (z : Sizes). z.buffers) s.stands.same_sizes) in
+    (s.stands.own, inside, hand_out_owed _ _ _ _ _ _ w b _ s.stands.is refl (may-hand-out w s.stands.good b (last_tag_in w.buffers b) c.args.width free c.requires.some s.stands.calm))
+
+pub store-requires-2 : goal.store-requires-2
+store-requires-2 g c =
+    let s = c.args.self.now in
+    let w : WriterView = writer_of s.place.me.0 in
+    let b : ℕ = c.args.buffer in
+    let below : b < length w.buffers = let h = c.requires.below in omega (arith, h, s.stands.good.count) in
+    let free = free-here w b below c.requires.free in
+    let some : 0 < c.from-2.result = let h = c.requires.some in omega (arith, h, c.from-2.ensures) in
+    let size = s.stands.same_sizes in
+    let at : 18 + s.sizes.buffers + c.from.result * s.sizes.words ≡ base w.sizes.buffers w.sizes.words b = λ k. base (sym size k).buffers (sym size k).words (c.from.ensures k) in
+    let in_table : b < s.sizes.buffers = let h = c.requires.below in omega (arith, h, ap (λ (z : Sizes). z.buffers) size) in
+    let word : 0 < s.sizes.words = subst (λ (z : Sizes). 0 < z.words) size s.stands.good.some_word in
+    let low = base-inside s.sizes.buffers s.sizes.words b in_table word in
+    let here : 18 + s.sizes.buffers + c.from.result * s.sizes.words ≡ base s.sizes.buffers s.sizes.words b = λ k. base s.sizes.buffers s.sizes.words (c.from.ensures k) in
+    let e = c.store.ensures in
+    let slots : s.place.me.1 ≡ [] = ap (λ (m : Me Slot View). m.1) s.stands.is in (
+      e.0 ∙ s.stands.own,
+      omega (arith, low, here, arena-words s.stands),
+      width_owed _ _ _ _ _ _ (handed_out w b) b _ _ ((e.2 b refl).is ∙ (λ k. (Writer (handed_out w b), slots k))) at
+          (may-width w s.stands.good b (last_tag_in w.buffers b) c.from-2.result free some s.stands.calm),
+    )
+
+pub invariant_of-self : goal.invariant_of-self
+invariant_of-self g c =
+    let s = c.args.self.now in
+    let w : WriterView = writer_of s.place.me.0 in
+    let b : ℕ = c.args.buffer in
+    let below : b < length w.buffers = let h = c.requires.below in omega (arith, h, s.stands.good.count) in
+    let free = free-here w b below c.requires.free in
+    let some : 0 < c.from-2.result = let h = c.requires.some in omega (arith, h, c.from-2.ensures) in
+    let size = s.stands.same_sizes in
+    let at : 18 + s.sizes.buffers + c.from.result * s.sizes.words ≡ base w.sizes.buffers w.sizes.words b = λ k. base (sym size k).buffers (sym size k).words (c.from.ensures k) in
+    let e = c.store.ensures in
+    let first = (e.2 b refl).is in
+    let mid : writer_of c.store.new.seat.me.0 ≡ handed_out w b = ap (λ (m : Me Slot View). writer_of m.0) first in
+    let f = c.store-2.ensures in
+    let second = f.2 b (at ∙ ap (λ (v : WriterView). base v.sizes.buffers v.sizes.words b) (sym mid)) in
+    let v : WriterView = widened (handed_out w b) b c.from-2.result in
+    let steps = two-steps w s.stands.good b (last_tag_in w.buffers b) c.from-2.result free some in
+    let value : c.from-2.result ≡ c.from-3.result = c.from-2.ensures ∙ sym c.from-3.ensures in
+    let tag : last_tag_in w.buffers b ≡ c.last_of-last.result =
+    ap (λ (l : List Buffer). last_tag_in l b) (s.stands.same_buffers ∙ sym c.as_slice.ensures.value) ∙ sym c.last_of-last.ensures in
+    let list : v.buffers ≡ set s.buffers.items b (Active c.from-3.result c.last_of-last.result) =
+    ap (λ (x : WriterView). x.buffers) steps ∙ (λ k. set (s.stands.same_buffers k) b (Active (value k) (tag k))) in
+    record {
+      stands = desk_after s.stands v (f.0 ∙ e.0) (second.is ∙ ap (λ (m : Me Slot View). (Writer (widened (writer_of m.0) b c.from-2.result), m.1)) first) refl list s.stands.same_holds
+          s.stands.commits s.stands.readers s.stands.calm (subst (λ (x : WriterView). GoodView (widened x b c.from-2.result)) mid second.good)
+          (subst StoresEntries (sym steps) (entries-given w s.stands.good b (last_tag_in w.buffers b) c.from-2.result free some s.stands.entries));
+    }
+
+pub returns-clause-view : goal.returns-clause-view
+returns-clause-view g c =
+    let s = c.args.self.now in
+    let w : WriterView = writer_of s.place.me.0 in
+    let b : ℕ = c.args.buffer in
+    let below : b < length w.buffers = let h = c.requires.below in omega (arith, h, s.stands.good.count) in
+    let free = free-here w b below c.requires.free in
+    let some : 0 < c.from-2.result = let h = c.requires.some in omega (arith, h, c.from-2.ensures) in
+    let size = s.stands.same_sizes in
+    let at : 18 + s.sizes.buffers + c.from.result * s.sizes.words ≡ base w.sizes.buffers w.sizes.words b = λ k. base (sym size k).buffers (sym size k).words (c.from.ensures k) in
+    let mid : writer_of c.store.new.seat.me.0 ≡ handed_out w b = ap (λ (m : Me Slot View). writer_of m.0) (c.store.ensures.2 b refl).is in
+    let second = c.store-2.ensures.2 b (at ∙ ap (λ (v : WriterView). base v.sizes.buffers v.sizes.words b) (sym mid)) in
+    ap (λ (m : Me Slot View). writer_of m.0) second.is ∙ ap (λ (x : WriterView). widened x b c.from-2.result) mid
+    ∙ two-steps w s.stands.good b (last_tag_in w.buffers b) c.from-2.result free some
+    ∙ ap (λ (n : ℕ). given w b n (last_tag_in w.buffers b)) c.from-2.ensures

@@ -1,0 +1,39 @@
+use Rattle.std.proofs.Common.{ap, refl, ◌∙◌, ◌≡◌, []}
+use Rattle.atomic_table.specs.Table.{Me}
+use Rattle.gen_core.specs.declared.views.View.{View}
+use Rattle.gen_core.specs.declared.views.View.TheVariants.{Writer}
+use Rattle.gen_core.specs.declared.views.WriterView.{WriterView}
+use Rattle.gen_core.specs.Events.{joined}
+use Rattle.word_arena.specs.Ruled.{Slot, writer_of, reader_of}
+use Rattle.word_arena.proofs.Allowed.{join_owed, load_own_owed}
+use Rattle.word_arena.proofs.Desks.{desk-some, desk_after, good-joined}
+use Rattle.word_arena.proofs.writer.Writer.take_in.Goals as goal
+
+pub join_seat-requires : goal.join_seat-requires
+join_seat-requires g c =
+    let s = c.args.self.now in
+    let r = c.args.reader in (
+      s.stands.own,
+      c.requires ∙ s.stands.own,
+      ap (λ (m : Me Slot View). m.1) r.stands.post.is,
+      desk-some s.stands,
+      join_owed g.L.Layout.reaches g.L.Layout.lawful _ 0 _ _ (writer_of s.place.me.0) _ _ (reader_of r.place.me.0) s.stands.is r.stands.post.is (record { calm = s.stands.calm; idle = r.stands.idle }),
+    )
+
+pub load-requires : goal.load-requires
+load-requires g c =
+    let s = c.args.self.now in
+    let r = c.args.reader in
+    let v : WriterView = joined (writer_of s.place.me.0) (reader_of r.place.me.0) in
+    let slots : s.place.me.1 ≡ [] = ap (λ (m : Me Slot View). m.1) s.stands.is in
+    (c.join_seat.ensures.0 ∙ s.stands.own, desk-some s.stands, load_own_owed _ _ _ _ _ _ v _ (c.join_seat.ensures.2 ∙ (λ k. (Writer v, slots k))))
+
+pub invariant_of-self : goal.invariant_of-self
+invariant_of-self g c =
+    let s = c.args.self.now in
+    let r = c.args.reader in
+    let w : WriterView = writer_of s.place.me.0 in
+    let v : WriterView = joined w (reader_of r.place.me.0) in
+    let j = c.join_seat.ensures in
+    let l = c.load.ensures in
+    record { stands = desk_after s.stands v (l.0 ∙ j.0) (l.2.same ∙ j.2) refl s.stands.same_buffers s.stands.same_holds s.stands.commits s.stands.readers s.stands.calm (good-joined w (reader_of r.place.me.0) s.stands.good) (record { none = s.stands.entries.none }) }

@@ -1,0 +1,96 @@
+-- The work that a writer's view is.
+use Rattle.std.specs.Prelude.{◌*◌, ◌≡◌, ℕ, ◌+◌, ◌<◌, ◌≤◌, List, [], ◌∷◌, map, set, slice_get, Option, Some, None, ◌&&◌}
+use Rattle.std.specs.Option.{unwrap_or}
+use Rattle.atomic_table.specs.Table.{Me}
+use Rattle.atomic_table.specs.Seated.{TableId}
+use Rattle.image_base.specs.declared.Image.{Image}
+use Rattle.image_base.specs.Images.{no_image}
+use Rattle.entry_ref.specs.References.{buffer_of}
+use Rattle.image_base.specs.Places.{base, size_of}
+use Rattle.gen_core.specs.declared.views.Sizes.{Sizes}
+use Rattle.generation_handler.specs.declared.HoldEntry.{HoldEntry}
+use Rattle.gen_core.specs.declared.views.OpenHold.{OpenHold}
+use Rattle.gen_core.specs.declared.views.Tag.{Tag}
+use Rattle.gen_core.specs.declared.views.Pending.TheVariants.{Nothing}
+use Rattle.gen_core.specs.declared.views.Buffer.{Buffer}
+use Rattle.gen_core.specs.declared.views.Buffer.TheVariants.{Free, Active, Held}
+use Rattle.gen_core.specs.declared.views.View.{View}
+use Rattle.gen_core.specs.declared.views.View.TheVariants.{Writer}
+use Rattle.gen_core.specs.declared.views.WriterView.{WriterView}
+use Rattle.gen_core.specs.Views.{floor_of, last_number, open_holds}
+use Rattle.gen_core.specs.Work.{work_at, stored_by}
+use Rattle.arena_api.specs.Works.{WorkView, Hold, Tag as ApiTag, Buffer as ApiBuffer}
+use Rattle.arena_api.specs.Calls.{IsWithinLimits}
+use Rattle.word_arena.specs.Ruled.{Slot, writer_of, api_sizes}
+use Rattle.gen_core.specs.Good.{GoodView}
+
+abbrev pub api_tag : Tag → ApiTag
+api_tag t = record { generation = t.generation; commit = t.commit }
+
+abbrev pub api_last : Option Tag → Option ApiTag
+api_last None = None
+api_last (Some t) = Some (api_tag t)
+
+abbrev pub api_buffer : Option Buffer → ApiBuffer
+api_buffer None = ApiBuffer.free None
+api_buffer (Some (Free last)) = ApiBuffer.free (api_last last)
+api_buffer (Some (Active width last)) = ApiBuffer.active width (api_last last)
+api_buffer (Some (Held width tag)) = ApiBuffer.held width (api_tag tag)
+
+abbrev pub api_hold : OpenHold → Hold
+api_hold e = record { generation = e.generation; hold = e.hold; first = e.first_commit }
+
+abbrev pub image_at : List Image → ℕ → Image
+image_at commits n = unwrap_or (slice_get commits n) no_image
+
+abbrev pub view_of : {H : Type 0} → H → WriterView → WorkView H
+view_of home w = record {
+  home = home;
+  sizes = api_sizes w.sizes;
+  buffer = λ b. api_buffer (slice_get w.buffers b);
+  queue = map api_hold (open_holds w.queue);
+  commits = record { floor = floor_of w; last = last_number w.commits; image = image_at w.commits };
+  stored = stored_by w;
+  told = w.commits;
+  stops = w.stops.count;
+  found = w.stops.found;
+  made = w.made;
+}
+
+-- an open hold as the writer's own queue has it
+abbrev pub own_hold : OpenHold → HoldEntry
+own_hold e = record { generation = e.generation; hold = e.hold; first_commit = e.first_commit }
+
+-- where no word of an entry of a buffer was stored since the last commit, no word of the buffer was
+pub record StoresEntries (w : WriterView) : Type 0 where
+  pub none : (b x : ℕ) → x < w.sizes.words → ((r i : ℕ) → buffer_of w.sizes.offset_bits r ≡ b → stored_by w r i ≡ None)
+      → work_at w.work (base w.sizes.buffers w.sizes.words b + x) ≡ None
+
+-- what a writer has beside its view
+pub record IsDesk (bits : ℕ) (arena : TableId) (sizes : Sizes) (buffers : List Buffer) (holds : List HoldEntry) (last made : ℕ) (z : TableId) (me : Me Slot View) : Type 0 where
+  pub own : z ≡ arena
+  pub is : me ≡ (Writer (writer_of me.0), [])
+  pub words : z.words ≡ size_of sizes.buffers sizes.words
+  pub same_sizes : (writer_of me.0).sizes ≡ sizes
+  pub same_bits : sizes.offset_bits ≡ bits
+  pub limits : IsWithinLimits bits (api_sizes (writer_of me.0).sizes)
+  pub product : (writer_of me.0).sizes.buffers * (writer_of me.0).sizes.words ≤ 67108864
+  pub same_buffers : (writer_of me.0).buffers ≡ buffers
+  pub same_holds : map own_hold (open_holds (writer_of me.0).queue) ≡ holds
+  pub commits : last ≡ last_number (writer_of me.0).commits
+  pub readers : (made ≡ (writer_of me.0).made) × (made ≤ 64)
+  pub calm : (writer_of me.0).queue.pending ≡ Nothing
+  pub good : GoodView (writer_of me.0)
+  pub entries : StoresEntries (writer_of me.0)
+
+-- buffers by number
+abbrev pub buffers_by : List Buffer → ℕ → ApiBuffer
+buffers_by buffers b = api_buffer (slice_get buffers b)
+
+-- which arena no work is of
+abbrev pub nowhere : TableId
+nowhere = record { words = 0; slots = 0; views_name = 0; atom = 0; block = 0; offset = 0; slot_names = [] }
+
+-- the writer's view with a buffer of a width
+abbrev pub given : WriterView → ℕ → ℕ → Option Tag → WriterView
+given w b width last = record w { buffers = set w.buffers b (Active width last) }

@@ -1,0 +1,211 @@
+-- The core's state, read off a table, and what each step tells its seat.
+use Rattle.std.specs.Prelude.{◌^◌, ◌≡◌, ◌≢◌, ℕ, ◌+◌, ◌-◌, ◌*◌, ◌<◌, ◌≤◌, List, [], ◌∷◌, map, length, slice_index, Some, All}
+use Rattle.atomic_table.specs.Table.{State, Me, Step}
+use Rattle.atomic_table.specs.Seated.{TableId}
+use Rattle.entry_ref.specs.References.{buffer_of}
+use Rattle.image_base.specs.declared.Image.{Image}
+use Rattle.image_base.specs.Records.{Records}
+use Rattle.image_base.specs.Images.{no_image, record_at}
+use Rattle.image_base.specs.Places.{base, state_place, size_of, IsEntry}
+use Rattle.gen_core.specs.declared.views.Sizes.{Sizes}
+use Rattle.gen_core.specs.declared.views.OpenHold.{OpenHold}
+use Rattle.gen_core.specs.declared.views.ReaderState.TheVariants.{Idle, Aimed, Raised, Guarded}
+use Rattle.gen_core.specs.declared.views.WriterView.{WriterView}
+use Rattle.gen_core.specs.declared.views.ReaderView.{ReaderView}
+use Rattle.gen_core.specs.declared.views.View.{View}
+use Rattle.gen_core.specs.declared.views.View.TheVariants.{Writer, Reader}
+use Rattle.gen_core.specs.Views.{hold_place, newest_word, IsCommit, root_word, spent}
+use Rattle.gen_core.specs.Work.{place_in, writer_records, next_image}
+use Rattle.gen_core.specs.Good.{IsLawfulCommit, Good, GoodView}
+use Rattle.gen_core.specs.Conditions.{IsUnder}
+use Rattle.gen_core.specs.Events.{stored, aims, with_state, found_state, bounced, opening_view, widened, handed_out, published, sees, with_reader, newcomer, joined}
+use Rattle.arena_api.specs.Works.{Sizes as ApiSizes}
+use Rattle.arena_api.specs.Calls.{IsWithinLimits}
+
+-- the sizes as a work tells them
+abbrev pub api_sizes : Sizes → ApiSizes
+api_sizes z = record { buffers = z.buffers; words = z.words; commits = z.commit_limit; generations = z.generation_limit }
+
+abbrev pub Slot : Type 0
+Slot = Unit {0}
+
+abbrev pub views_of : WriterView → List ReaderView → List View
+views_of w readers = Writer w ∷ map Reader readers
+
+-- the words and the views are those of a good state
+pub record Ruled (reaches : ℕ → Records → ℕ → List ℕ) (lawful : ℕ → Records → ℕ → Type 0) (sizes : Sizes) (t : State Slot View) : Type 0 where
+  pub writer : WriterView
+  pub readers : List ReaderView
+  pub views : t.views ≡ views_of writer readers
+  pub same_sizes : writer.sizes ≡ sizes
+  pub good : Good reaches lawful (record { words = t.words; writer = writer; readers = readers })
+
+abbrev pub writer_of : View → WriterView
+writer_of (Writer w) = w
+writer_of (Reader r) = opening_view r.sizes
+
+abbrev pub reader_of : View → ReaderView
+reader_of (Writer w) = spent
+reader_of (Reader r) = r
+
+-- the seat's view has become this one
+pub record Becomes (me : Me Slot View) (w : WriterView) (me' : Me Slot View) : Type 0 where
+  pub is : me' ≡ (Writer w, me.1)
+  pub good : GoodView w
+
+abbrev pub told_hand_out : Step Slot → Me Slot View → ℕ → Me Slot View → Type 0
+told_hand_out st me found me' = (b : ℕ) → st.word ≡ state_place b → Becomes me (handed_out (writer_of me.0) b) me'
+
+abbrev pub told_width : Step Slot → Me Slot View → ℕ → Me Slot View → Type 0
+told_width st me found me' =
+    (b : ℕ) → st.word ≡ base (writer_of me.0).sizes.buffers (writer_of me.0).sizes.words b → Becomes me (widened (writer_of me.0) b st.first) me'
+
+abbrev pub told_store : Step Slot → Me Slot View → ℕ → Me Slot View → Type 0
+told_store st me found me' = Becomes me (stored (writer_of me.0) st.word st.first) me'
+
+module _ (reaches : ℕ → Records → ℕ → List ℕ) (lawful : ℕ → Records → ℕ → Type 0) where
+  abbrev pub told_publish : Step Slot → Me Slot View → ℕ → Me Slot View → Type 0
+  told_publish st me found me' =
+      (root : ℕ) → st.first ≡ length (writer_of me.0).commits * 2 ^ 32 + root
+      → Becomes me (published (writer_of me.0) (next_image reaches (writer_of me.0) root)) me'
+
+  -- the last commit, whose root word was found, is lawful, lies inside the table and was seen
+  pub record SeesCommit (r : ReaderView) (found : ℕ) (r' : ReaderView) : Type 0 where
+    pub hold : ℕ
+    pub raised : r.state ≡ Raised hold
+    pub number : ℕ
+    pub image : Image
+    pub is : r' ≡ sees r hold number image
+    pub found_root : found ≡ root_word number image
+    pub commit : IsLawfulCommit reaches lawful r.sizes.shape image
+    pub later : r.seen ≤ number
+    pub small_number : number < 2 ^ 32
+    pub entries : All (λ pair. IsEntry r.sizes.offset_bits r.sizes.buffers r.sizes.words (length pair.1) pair.0) image.records
+
+  pub record ToldLoadRoot (me : Me Slot View) (found : ℕ) (me' : Me Slot View) : Type 0 where
+    pub reader : ReaderView
+    pub is : me' ≡ (Reader reader, me.1)
+    pub sees_commit : SeesCommit (reader_of me.0) found reader
+
+  abbrev pub told_load_root : Step Slot → Me Slot View → ℕ → Me Slot View → Type 0
+  told_load_root st me found me' = ToldLoadRoot me found me'
+
+-- the word found is the image's, or a width of it
+pub record IsFound (z : Sizes) (image : Image) (p found : ℕ) : Type 0 where
+  pub word : (ref : ℕ) (ws : List ℕ) (i : ℕ) → record_at image ref ≡ Some ws → i < length ws → p ≡ place_in z (length ws) ref i → found ≡ slice_index ws i
+  pub width : (ref : ℕ) (ws : List ℕ) → record_at image ref ≡ Some ws → p ≡ base z.buffers z.words (buffer_of z.offset_bits ref) → found ≡ length ws
+
+pub record ToldLoadWord (st : Step Slot) (me : Me Slot View) (found : ℕ) (me' : Me Slot View) : Type 0 where
+  pub same : me' ≡ me
+  pub word : (c : ℕ) (image : Image) → IsUnder (reader_of me.0) c image → IsFound (reader_of me.0).sizes image st.word found
+
+abbrev pub told_load_word : Step Slot → Me Slot View → ℕ → Me Slot View → Type 0
+told_load_word st me found me' = ToldLoadWord st me found me'
+
+-- the word found is one of a record of the writer, or the width of an active buffer
+pub record IsOwn (w : WriterView) (p found : ℕ) : Type 0 where
+  pub word : (ref i : ℕ) → i < length (writer_records w ref) → p ≡ place_in w.sizes (length (writer_records w ref)) ref i → found ≡ slice_index (writer_records w ref) i
+  pub width : (ref : ℕ) → 0 < length (writer_records w ref) → p ≡ base w.sizes.buffers w.sizes.words (buffer_of w.sizes.offset_bits ref) → found ≡ length (writer_records w ref)
+
+pub record ToldLoadOwn (st : Step Slot) (me : Me Slot View) (found : ℕ) (me' : Me Slot View) : Type 0 where
+  pub same : me' ≡ me
+  pub own : IsOwn (writer_of me.0) st.word found
+  -- what joined readers saw are commits
+  pub seen : All (IsCommit (writer_of me.0).commits) (writer_of me.0).saw
+
+abbrev pub told_load_own : Step Slot → Me Slot View → ℕ → Me Slot View → Type 0
+told_load_own st me found me' = ToldLoadOwn st me found me'
+
+-- the newest entry, whose last word was found
+pub record ToldLoadNewest (me : Me Slot View) (found : ℕ) (me' : Me Slot View) : Type 0 where
+  pub entry : OpenHold
+  pub is : me' ≡ (Reader (aims (reader_of me.0) entry), me.1)
+  pub found_last : found ≡ newest_word entry
+  pub low : entry.hold < 16
+  pub least : (reader_of me.0).least ≤ entry.generation
+
+abbrev pub told_load_newest : Step Slot → Me Slot View → ℕ → Me Slot View → Type 0
+told_load_newest st me found me' = ToldLoadNewest me found me'
+
+abbrev pub told_raise : Step Slot → Me Slot View → ℕ → Me Slot View → Type 0
+told_raise st me found me' = (h : ℕ) → st.word ≡ hold_place h → me' ≡ (Reader (with_state (reader_of me.0) (found_state found h)), me.1)
+
+pub record ToldBounce (me : Me Slot View) (me' : Me Slot View) : Type 0 where
+  pub is : me' ≡ (Reader (bounced (reader_of me.0)), me.1)
+  pub limit : (reader_of me.0).least + 1 ≤ (reader_of me.0).sizes.generation_limit
+
+abbrev pub told_bounce : Step Slot → Me Slot View → ℕ → Me Slot View → Type 0
+told_bounce st me found me' = ToldBounce me me'
+
+abbrev pub told_release : Step Slot → Me Slot View → ℕ → Me Slot View → Type 0
+told_release st me found me' = me' ≡ (Reader (with_state (reader_of me.0) Idle), me.1)
+
+abbrev pub cut_left : View → View
+cut_left v = Writer (with_reader (writer_of v))
+
+abbrev pub cut_right : View → View
+cut_right v = Reader (newcomer (writer_of v))
+
+abbrev pub glued : View → View → View
+glued v u = Writer (joined (writer_of v) (reader_of u))
+
+abbrev pub first_of : List (ℕ × Image) → ℕ × Image
+first_of [] = (0, no_image)
+first_of (x ∷ xs) = x
+
+-- the commit that was seen last
+abbrev pub number_of : ReaderView → ℕ
+number_of r = (first_of r.saw).0
+
+abbrev pub image_of : ReaderView → Image
+image_of r = (first_of r.saw).1
+
+-- what a reader's seat has, whatever its state
+pub record IsPost (bits : ℕ) (arena : TableId) (sizes : Sizes) (z : TableId) (me : Me Slot View) : Type 0 where
+  pub own : z ≡ arena
+  pub is : me ≡ (Reader (reader_of me.0), [])
+  pub words : z.words ≡ size_of sizes.buffers sizes.words
+  pub same_sizes : (reader_of me.0).sizes ≡ sizes
+  pub same_bits : sizes.offset_bits ≡ bits
+  pub limits : IsWithinLimits bits (api_sizes sizes)
+  pub product : sizes.buffers * sizes.words ≤ 67108864
+
+pub record IsWatch (bits : ℕ) (arena : TableId) (sizes : Sizes) (z : TableId) (me : Me Slot View) : Type 0 where
+  pub post : IsPost bits arena sizes z me
+  pub idle : (reader_of me.0).state ≡ Idle
+
+-- the seat of a reader that aims at a hold, of its least generation
+pub record IsAim (bits : ℕ) (arena : TableId) (sizes : Sizes) (hold : ℕ) (z : TableId) (me : Me Slot View) : Type 0 where
+  pub post : IsPost bits arena sizes z me
+  pub low : hold < 16
+  pub aimed : (reader_of me.0).state ≡ Aimed (reader_of me.0).least hold
+
+-- the first that was seen is the guard's: its records lie inside the table
+pub record IsGuard (bits : ℕ) (arena : TableId) (sizes : Sizes) (hold word : ℕ) (z : TableId) (me : Me Slot View) : Type 0 where
+  pub post : IsPost bits arena sizes z me
+  pub low : hold < 16
+  pub guarded : (reader_of me.0).state ≡ Guarded hold (number_of (reader_of me.0))
+  pub some : 0 < length (reader_of me.0).saw
+  pub root : word ≡ root_word (number_of (reader_of me.0)) (image_of (reader_of me.0))
+  pub small : (image_of (reader_of me.0)).root < 2 ^ 32
+  pub small_number : number_of (reader_of me.0) < 2 ^ 32
+  pub entries : All (λ pair. IsEntry bits sizes.buffers sizes.words (length pair.1) pair.0) (image_of (reader_of me.0)).records
+
+-- the guard's commit is lawful, and not below what the reader had seen; nor is the least generation below the one asked for
+pub record IsLater (reaches : ℕ → Records → ℕ → List ℕ) (lawful : ℕ → Records → ℕ → Type 0) (r : ReaderView) (r' : ReaderView) : Type 0 where
+  pub later : r.seen ≤ number_of r'
+  pub least : r.least ≤ r'.least
+  pub commit : IsLawfulCommit reaches lawful r'.sizes.shape (image_of r')
+
+-- after a miss the reader aims higher, and not above the limit
+pub record IsHigher (r : ReaderView) (r' : ReaderView) : Type 0 where
+  pub higher : r.least + 1 ≤ r'.least
+  pub seen : r'.seen ≡ r.seen
+  pub same_sizes : r'.sizes ≡ r.sizes
+  pub limit : r'.least ≤ r'.sizes.generation_limit
+
+-- an aim is not below the least generation that was asked for, and not above the limit; nothing else was seen
+pub record IsAimOf (r : ReaderView) (r' : ReaderView) : Type 0 where
+  pub same_sizes : r'.sizes ≡ r.sizes
+  pub seen : r'.seen ≡ r.seen
+  pub least : r.least ≤ r'.least

@@ -1,0 +1,180 @@
+//! The writer's steps on holds, and on the buffers that readers can have.
+ghost use Rattle.std.specs.Prelude.{◌≡◌, ◌+◌, ◌<◌, ◌≤◌, length};
+ghost use Rattle.gen_core.specs.Views.{oldest_of};
+ghost use Rattle.gen_core.specs.Conditions.{MayReopen, MayPutOnHold};
+ghost use Rattle.gen_core.specs.Events.{put_aside, advanced};
+ghost use Rattle.arena_api.specs.Works.{active_width};
+ghost use Rattle.word_arena.specs.Ruled.{writer_of};
+ghost use Rattle.word_arena.specs.Knows.{buffers_by};
+ghost use Rattle.word_arena.specs.WriterSteps.{ProbesNewest, AdvancesView, ClosesOldest, ClosesUnused, FreesOne, FreesUnused};
+
+use crate::buffers::{unused_tag, width_of};
+use crate::plays::{Close, FreeBuffer, Morph, Probe, PutOnHold, Reopen, StoreNewest};
+use crate::writer::Writer;
+use arena_api::Advance;
+use gen_core::{Buffer, Tag};
+use generation_handler::HOLDS;
+use image_base::Layout;
+
+impl<'a, const OFFSET_BITS: u32, L: Layout> Writer<'a, OFFSET_BITS, L> {
+    // Puts a buffer on hold that the last commit has no record in, under the current generation and that commit.
+    pub(crate) fn put_on_hold(&mut self, buffer: u32)
+        requires { MayPutOnHold (writer_of self.old.place.me.0) buffer (active_width (buffers_by (writer_of self.old.place.me.0).buffers buffer)) }
+        ensures table { self.new.place.table_id ≡ self.old.place.table_id }
+        ensures view { writer_of self.new.place.me.0
+            ≡ put_aside (writer_of self.old.place.me.0) buffer (active_width (buffers_by (writer_of self.old.place.me.0).buffers buffer)) }
+    {
+        let width = width_of(self.buffers.as_slice(), buffer);
+        let newest = self.holds.newest();
+        let tag = Tag {
+            generation: newest.generation,
+            commit: u64::from(self.last),
+        };
+        let at = buffer as usize;
+        self.arena
+            .table
+            .shared
+            .store::<PutOnHold>(&mut self.place, 18 + at, 2);
+        self.buffers[at] = Buffer::Held(width, tag);
+    }
+
+    // Looks whether the newest hold is in use, and gives it the next generation where it is not. Answers its count.
+    fn renew_unused(&mut self) -> u64
+        requires { (writer_of self.old.place.me.0).queue.newest.generation + 1 ≤ (writer_of self.old.place.me.0).sizes.generation_limit }
+        ensures table { self.new.place.table_id ≡ self.old.place.table_id }
+        ensures view { ProbesNewest result (writer_of self.old.place.me.0) (writer_of self.new.place.me.0) }
+    {
+        let newest = self.holds.newest();
+        let hold = newest.hold as usize;
+        let count = self
+            .arena
+            .table
+            .shared
+            .load::<Probe>(&mut self.place, 2 + hold);
+        if count == 0 {
+            let word = (newest.generation + 1) * 65536 + u64::from(newest.hold);
+            self.arena
+                .table
+                .shared
+                .store::<Morph>(&mut self.place, 1, word);
+            self.holds.renew(newest.generation + 1, self.last);
+        }
+        count
+    }
+
+    // Opens a closed hold behind the newest, for the next generation.
+    fn open_hold(&mut self, hold: u32)
+        requires { MayReopen (writer_of self.old.place.me.0) hold }
+        ensures table { self.new.place.table_id ≡ self.old.place.table_id }
+        ensures view { writer_of self.new.place.me.0 ≡ advanced (writer_of self.old.place.me.0) hold }
+    {
+        let newest = self.holds.newest();
+        let word = (newest.generation + 1) * 65536 + u64::from(hold);
+        let at = hold as usize;
+        self.arena
+            .table
+            .shared
+            .fetch_sub::<Reopen>(&mut self.place, 2 + at, 1);
+        self.arena
+            .table
+            .shared
+            .store::<StoreNewest>(&mut self.place, 1, word);
+        self.holds.append(newest.generation + 1, hold, self.last);
+    }
+
+    // Makes the next generation current.
+    pub(crate) fn go_on(&mut self) -> Advance
+        ensures table { self.new.place.table_id ≡ self.old.place.table_id }
+        ensures view { AdvancesView result (writer_of self.old.place.me.0) (writer_of self.new.place.me.0) }
+    {
+        let newest = self.holds.newest();
+        if newest.generation >= self.sizes.generation_limit {
+            return Advance::Spent {
+                generation: newest.generation,
+            };
+        }
+        let generation = newest.generation + 1;
+        let found = self.renew_unused();
+        if found == 0 {
+            return Advance::To {
+                generation,
+                hold: newest.hold,
+            };
+        }
+        match self.holds.open_next() {
+            None => Advance::NoHold {
+                holds: HOLDS,
+                found,
+            },
+            Some(hold) => {
+                self.open_hold(hold);
+                Advance::To { generation, hold }
+            }
+        }
+    }
+
+    // Closes the oldest hold where it is not in use. Answers its count.
+    fn close_oldest(&mut self) -> u64
+        requires { 1 < length self.old.holds }
+        ensures table { self.new.place.table_id ≡ self.old.place.table_id }
+        ensures view { ClosesOldest result (writer_of self.old.place.me.0) (writer_of self.new.place.me.0) }
+    {
+        let oldest = self.holds.oldest();
+        let hold = oldest.hold as usize;
+        let count = self
+            .arena
+            .table
+            .shared
+            .compare_exchange::<Close>(&mut self.place, 2 + hold, 0, 1);
+        if count == 0 {
+            self.holds.pop_oldest();
+        }
+        count
+    }
+
+    // Closes holds from the oldest on, up to the newest or to one in use. Answers the count of that one, else 0.
+    pub(crate) fn close_unused(&mut self) -> u64
+        ensures table { self.new.place.table_id ≡ self.old.place.table_id }
+        ensures view { ClosesUnused result (writer_of self.old.place.me.0) (writer_of self.new.place.me.0) }
+    {
+        while self.holds.len() > 1 {
+            let count = self.close_oldest();
+            if count != 0 {
+                return count;
+            }
+        }
+        0
+    }
+
+    // Frees a buffer that is on hold under a tag below the oldest open generation.
+    fn free_one(&mut self, buffer: u32, oldest: u64)
+        requires below { buffer < length (writer_of self.old.place.me.0).buffers }
+        requires oldest { oldest ≡ (oldest_of (writer_of self.old.place.me.0).queue).generation }
+        ensures table { self.new.place.table_id ≡ self.old.place.table_id }
+        ensures view { FreesOne oldest buffer (writer_of self.old.place.me.0) (writer_of self.new.place.me.0) }
+    {
+        match unused_tag(self.buffers.as_slice(), buffer, oldest) {
+            None => {}
+            Some(tag) => {
+                let at = buffer as usize;
+                self.arena
+                    .table
+                    .shared
+                    .store::<FreeBuffer>(&mut self.place, 18 + at, 0);
+                self.buffers[at] = Buffer::Free(Some(tag));
+            }
+        }
+    }
+
+    // Frees each such buffer.
+    pub(crate) fn free_unused(&mut self)
+        ensures table { self.new.place.table_id ≡ self.old.place.table_id }
+        ensures view { FreesUnused (writer_of self.old.place.me.0) (writer_of self.new.place.me.0) }
+    {
+        let oldest = self.holds.oldest();
+        let count = self.sizes.buffers as u32;
+        for buffer in 0..count {
+            self.free_one(buffer, oldest.generation);
+        }
+    }
+}

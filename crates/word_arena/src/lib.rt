@@ -1,0 +1,18 @@
+//! One writer and many readers over the words of one table.
+#![tactic(auto)]
+
+mod arena;
+mod buffers;
+mod holds;
+mod plays;
+mod reader;
+mod rule;
+mod steps;
+mod work;
+mod writer;
+
+pub use arena::{Arena, Token};
+pub use reader::{Again, Aimed, Guarded, Reader};
+pub use steps::Steps;
+pub use work::Home;
+pub use writer::{NoSeat, Writer};

@@ -1,0 +1,230 @@
+//! The readers, and their guards.
+ghost use Rattle.std.specs.Prelude.{take, drop, ◌%◌, ◌≡◌, ◌+◌, ◌*◌, ◌<◌, ◌≤◌, ◌^◌, ℕ, List, length, Some, slice_index, IfOk, IfErr};
+ghost use Rattle.image_base.specs.Images.{words_at};
+ghost use Rattle.gen_core.specs.Events.{with_state};
+ghost use Rattle.gen_core.specs.declared.views.ReaderState.TheVariants.{Idle};
+ghost use Rattle.word_arena.specs.Ruled.{reader_of, image_of, number_of, IsAimOf, IsLater, IsHigher, IsWatch, IsAim, IsGuard};
+ghost use Rattle.image_base.specs.Records.{HasWord, word_at};
+
+use crate::arena::Arena;
+use crate::plays::{Bounce, LoadNewest, LoadRoot, LoadWord, Raise, Release};
+use crate::rule::Place;
+use crate::steps::Steps;
+use entry_ref::EntryRef;
+use frozen_api::Frozen;
+use gen_core::Sizes;
+use image_base::{Layout, place_of};
+use std::sync::ledger::Ledger;
+
+#[derive(Drop)]
+pub struct Reader<'a, const OFFSET_BITS: u32, L: Layout> {
+    pub(crate) arena: &'a Arena<OFFSET_BITS, L>,
+    pub(crate) sizes: Sizes,
+    pub(crate) place: Place,
+    ghost stands: { IsWatch OFFSET_BITS arena.now.table.shared.table_id sizes place.table_id place.me },
+}
+
+/// A reader that has loaded the root, and the root word.
+#[derive(Drop)]
+pub struct Guarded<'a, const OFFSET_BITS: u32, L: Layout> {
+    pub(crate) arena: &'a Arena<OFFSET_BITS, L>,
+    pub(crate) sizes: Sizes,
+    pub(crate) hold: u64,
+    pub(crate) found: u64,
+    pub(crate) place: Place,
+    ghost stands: { IsGuard OFFSET_BITS arena.now.table.shared.table_id sizes hold found place.table_id place.me },
+}
+
+/// A reader that has loaded the newest hold, and goes for it.
+#[derive(Drop)]
+pub struct Aimed<'a, const OFFSET_BITS: u32, L: Layout> {
+    pub(crate) arena: &'a Arena<OFFSET_BITS, L>,
+    pub(crate) sizes: Sizes,
+    pub(crate) hold: u64,
+    pub(crate) place: Place,
+    ghost stands: { IsAim OFFSET_BITS arena.now.table.shared.table_id sizes hold place.table_id place.me },
+}
+
+/// The hold was closed meanwhile: the reader again, and the count that it found.
+#[derive(Drop)]
+pub struct Again<'a, const OFFSET_BITS: u32, L: Layout> {
+    pub reader: Reader<'a, OFFSET_BITS, L>,
+    pub found: u64,
+}
+
+impl<'a, const OFFSET_BITS: u32, L: Layout> Reader<'a, OFFSET_BITS, L> {
+    /// Aims at the newest hold.
+    pub fn aim(self) -> Aimed<'a, OFFSET_BITS, L>
+        ensures aims { IsAimOf (reader_of self.entry.place.me.0) (reader_of result.place.me.0) }
+        ensures table { result.place.table_id ≡ self.entry.place.table_id }
+    {
+        let Reader {
+            arena,
+            sizes,
+            mut place,
+        } = self;
+        let last = arena.table.shared.load::<LoadNewest>(&mut place, 1);
+        let hold = last % 65536;
+        Aimed {
+            arena,
+            sizes,
+            hold,
+            place,
+        }
+    }
+
+    /// Aims and raises: a guard of the last commit, or the reader again where the hold was closed meanwhile.
+    pub fn try_guard(self) -> Result<Guarded<'a, OFFSET_BITS, L>, Again<'a, OFFSET_BITS, L>>
+        ensures ok { IfOk result (λ g. IsLater L.reaches L.lawful (reader_of self.entry.place.me.0) (reader_of g.place.me.0)) }
+        ensures again { IfErr result (λ a. IsHigher (reader_of self.entry.place.me.0) (reader_of a.reader.place.me.0)) }
+        ensures odd { IfErr result (λ a. a.found % 2 ≡ 1) }
+        ensures table { IfOk result (λ g. g.place.table_id ≡ self.entry.place.table_id) }
+        ensures back { IfErr result (λ a. a.reader.place.table_id ≡ self.entry.place.table_id) }
+    {
+        self.aim().try_raise()
+    }
+
+    /// A guard of the last commit, after as many tries as it takes: each that fails leaves a generation behind.
+    pub fn guard<C: Ledger>(self, tries: &mut Steps<C>) -> Guarded<'a, OFFSET_BITS, L>
+        ensures later { IsLater L.reaches L.lawful (reader_of self.entry.place.me.0) (reader_of result.place.me.0) }
+        ensures few { tries.new + (reader_of self.entry.place.me.0).least ≤ tries.old + 1 + (reader_of result.place.me.0).least }
+        ensures table { result.place.table_id ≡ self.entry.place.table_id }
+        ensures limit { tries.new ≤ tries.old + 1 + (reader_of self.entry.place.me.0).sizes.generation_limit }
+    {
+        let mut reader = self;
+        loop {
+            tries.tick();
+            match reader.try_guard() {
+                Ok(guard) => return guard,
+                Err(again) => {
+                    let Again {
+                        reader: next,
+                        found: _,
+                    } = again;
+                    reader = next;
+                }
+            }
+        }
+    }
+}
+
+impl<'a, const OFFSET_BITS: u32, L: Layout> Aimed<'a, OFFSET_BITS, L> {
+    /// A guard of the last commit, if the hold is open. Again exactly where the count that it found is odd.
+    pub fn try_raise(self) -> Result<Guarded<'a, OFFSET_BITS, L>, Again<'a, OFFSET_BITS, L>>
+        ensures ok { IfOk result (λ g. IsLater L.reaches L.lawful (reader_of self.entry.place.me.0) (reader_of g.place.me.0)) }
+        ensures again { IfErr result (λ a. IsHigher (reader_of self.entry.place.me.0) (reader_of a.reader.place.me.0)) }
+        ensures odd { IfErr result (λ a. a.found % 2 ≡ 1) }
+        ensures table { IfOk result (λ g. g.place.table_id ≡ self.entry.place.table_id) }
+        ensures back { IfErr result (λ a. a.reader.place.table_id ≡ self.entry.place.table_id) }
+    {
+        let Aimed {
+            arena,
+            sizes,
+            hold,
+            mut place,
+        } = self;
+        let word = (2 + hold) as usize;
+        let count = arena.table.shared.fetch_add::<Raise>(&mut place, word, 2);
+        if count % 2 == 0 {
+            let found = arena.table.shared.load::<LoadRoot<L>>(&mut place, 0);
+            return Ok(Guarded {
+                arena,
+                sizes,
+                hold,
+                found,
+                place,
+            });
+        }
+        arena.table.shared.fetch_sub::<Bounce>(&mut place, word, 2);
+        let reader = Reader {
+            arena,
+            sizes,
+            place,
+        };
+        Err(Again {
+            reader,
+            found: count,
+        })
+    }
+}
+
+impl<'a, const OFFSET_BITS: u32, L: Layout> Guarded<'a, OFFSET_BITS, L> {
+    pub fn commit(&self) -> u32
+        ensures { result ≡ number_of (reader_of self.now.place.me.0) }
+    {
+        (self.found / 4294967296) as u32
+    }
+
+    pub fn root(&self) -> EntryRef<OFFSET_BITS>
+        ensures { result ≡ (image_of (reader_of self.now.place.me.0)).root }
+    {
+        EntryRef::from_raw((self.found % 4294967296) as u32)
+    }
+
+    pub fn release(self) -> Reader<'a, OFFSET_BITS, L>
+        ensures view { reader_of result.place.me.0 ≡ with_state (reader_of self.entry.place.me.0) Idle }
+        ensures table { result.place.table_id ≡ self.entry.place.table_id }
+    {
+        let Guarded {
+            arena,
+            sizes,
+            hold,
+            found: _,
+            mut place,
+        } = self;
+        arena
+            .table
+            .shared
+            .fetch_sub::<Release>(&mut place, (2 + hold) as usize, 2);
+        Reader {
+            arena,
+            sizes,
+            place,
+        }
+    }
+}
+
+impl<'a, const OFFSET_BITS: u32, L: Layout> Frozen<OFFSET_BITS> for Guarded<'a, OFFSET_BITS, L> {
+    ghost use Rattle.word_arena.specs.ProofsForGuards.{guard_references};
+
+    ghost shape = { λ g. g.sizes.shape };
+
+    ghost records = { λ g. words_at (image_of (reader_of g.place.me.0)) };
+
+    fn word(&mut self, entry: EntryRef<OFFSET_BITS>, i: u32) -> u64
+        requires { HasWord (⟦<Guarded<'a, OFFSET_BITS, L> as Frozen<OFFSET_BITS>>⟧.records self.old) entry i }
+        ensures value { result ≡ word_at (⟦<Guarded<'a, OFFSET_BITS, L> as Frozen<OFFSET_BITS>>⟧.records self.old) entry.entry i }
+        ensures same { self.new ≡ self.old }
+    {
+        let first = 18 + self.sizes.buffers + u64::from(entry.buffer()) * self.sizes.words;
+        let width = self
+            .arena
+            .table
+            .shared
+            .load::<LoadWord>(&mut self.place, first as usize) as u32;
+        let place = place_of(
+            self.sizes.buffers as u32,
+            self.sizes.words as u32,
+            width,
+            entry,
+            i,
+        );
+        self.arena
+            .table
+            .shared
+            .load::<LoadWord>(&mut self.place, place as usize)
+    }
+
+    fn read(&mut self, entry: EntryRef<OFFSET_BITS>, first: u32, into: &mut [u64])
+        requires there { first + length into.old ≤ length (⟦<Guarded<'a, OFFSET_BITS, L> as Frozen<OFFSET_BITS>>⟧.records self.old entry) }
+        requires few { first + length into.old < 2 ^ 32 }
+        ensures words { into.new ≡ take (length into.old) (drop first (⟦<Guarded<'a, OFFSET_BITS, L> as Frozen<OFFSET_BITS>>⟧.records self.old entry.entry)) }
+        ensures same { self.new ≡ self.old }
+    {
+        for i in 0..into.len() {
+            into[i] = self.word(entry, first + i as u32);
+        }
+    }
+
+    ghost references = { λ g. guard_references g.stands };
+}

@@ -1,0 +1,201 @@
+//! The writer as a work.
+ghost use Rattle.std.specs.Prelude.{◌≡◌, ◌≢◌, ◌<◌, ◌≤◌, ◌+◌, ◌*◌, ℕ, length, Some, slice_index, true};
+ghost use Rattle.word_arena.specs.Ruled.{writer_of};
+ghost use Rattle.image_base.specs.Images.{words_at};
+ghost use Rattle.image_base.specs.Places.{IsEntry};
+ghost use Rattle.image_base.specs.Records.{with_words};
+ghost use Rattle.entry_ref.specs.References.{buffer_of};
+ghost use Rattle.arena_api.specs.Calls.{MayStore, InNoCommit, AddsCommit, with_stored, padded, next_image, published};
+ghost use Rattle.arena_api.specs.Works.{is_free, active_width};
+ghost use Rattle.gen_core.specs.Views.{last_tag_in};
+ghost use Rattle.word_arena.specs.Knows.{view_of, given, buffers_by};
+
+use crate::buffers::{count_free, last_of, lowest_free, width_of};
+use crate::plays::{HandOut, Publish, StoreWidth, StoreWord};
+use crate::writer::Writer;
+use arena_api::{Advance, Oldest, Work};
+use entry_ref::EntryRef;
+use frozen_api::Frozen;
+use gen_core::Buffer;
+use image_base::{Layout, place_of};
+use std::marker::Model;
+
+/// Which arena a work is of. No value of it is made.
+pub struct Home {
+    nothing: u64,
+}
+
+impl Model for Home {
+    ghost use Rattle.atomic_table.specs.Seated.{TableId};
+    ghost use Rattle.word_arena.specs.Knows.{nowhere};
+
+    ghost Value = { TableId };
+
+    ghost view = { λ _. nowhere };
+}
+
+/// The word at a place, 0 behind the last.
+fn word_or_zero(words: &[u64], i: u32) -> u64
+    ensures { result ≡ slice_index words.now i }
+{
+    let at = i as usize;
+    if at < words.len() { words[at] } else { 0 }
+}
+
+impl<'a, const OFFSET_BITS: u32, L: Layout> Writer<'a, OFFSET_BITS, L> {
+    // Hands a free buffer out, and stores its width.
+    fn take_buffer(&mut self, buffer: u32, width: u32)
+        requires below { buffer < (writer_of self.old.place.me.0).sizes.buffers }
+        requires free { is_free (buffers_by (writer_of self.old.place.me.0).buffers buffer) ≡ true }
+        requires some { 0 < width }
+        ensures table { self.new.place.table_id ≡ self.old.place.table_id }
+        ensures view { writer_of self.new.place.me.0 ≡ given (writer_of self.old.place.me.0) buffer width (last_tag_in (writer_of self.old.place.me.0).buffers buffer) }
+    {
+        let last = last_of(self.buffers.as_slice(), buffer);
+        let at = buffer as usize;
+        self.arena
+            .table
+            .shared
+            .store::<HandOut>(&mut self.place, 18 + at, 1);
+        let first = 18 + self.sizes.buffers + u64::from(buffer) * self.sizes.words;
+        self.arena
+            .table
+            .shared
+            .store::<StoreWidth>(&mut self.place, first as usize, u64::from(width));
+        self.buffers[at] = Buffer::Active(u64::from(width), last);
+    }
+}
+
+impl<'a, const OFFSET_BITS: u32, L: Layout> Work<OFFSET_BITS> for Writer<'a, OFFSET_BITS, L> {
+    ghost use Rattle.word_arena.specs.ProofsForWork.{desk_bits, work_queue, work_order, work_only, work_held, work_entries, work_kept, work_last, work_whole, work_stored, work_tags};
+
+    type Layout = L;
+
+    type Home = Home;
+
+    ghost knows = { λ w. view_of w.place.table_id (writer_of w.place.me.0) };
+
+    fn store(&mut self, entry: EntryRef<OFFSET_BITS>, i: u32, word: u64)
+        requires { MayStore OFFSET_BITS (⟦<Writer<'a, OFFSET_BITS, L> as Work<OFFSET_BITS>>⟧.knows self.old) entry i }
+        ensures knows { ⟦<Writer<'a, OFFSET_BITS, L> as Work<OFFSET_BITS>>⟧.knows self.new
+            ≡ record (⟦<Writer<'a, OFFSET_BITS, L> as Work<OFFSET_BITS>>⟧.knows self.old) { stored = with_stored (⟦<Writer<'a, OFFSET_BITS, L> as Work<OFFSET_BITS>>⟧.knows self.old).stored entry.entry i word } }
+        ensures others { (q : ℕ) → q ≢ entry.entry → ⟦<Writer<'a, OFFSET_BITS, L> as Frozen<OFFSET_BITS>>⟧.records self.new q ≡ ⟦<Writer<'a, OFFSET_BITS, L> as Frozen<OFFSET_BITS>>⟧.records self.old q }
+        ensures shape { ⟦<Writer<'a, OFFSET_BITS, L> as Frozen<OFFSET_BITS>>⟧.shape self.new ≡ ⟦<Writer<'a, OFFSET_BITS, L> as Frozen<OFFSET_BITS>>⟧.shape self.old }
+    {
+        let width = width_of(self.buffers.as_slice(), entry.buffer()) as u32;
+        let place = place_of(
+            self.sizes.buffers as u32,
+            self.sizes.words as u32,
+            width,
+            entry,
+            i,
+        );
+        self.arena
+            .table
+            .shared
+            .store::<StoreWord>(&mut self.place, place as usize, word);
+    }
+
+    fn put(&mut self, entry: EntryRef<OFFSET_BITS>, width: u32, words: &[u64])
+        requires entry { IsEntry OFFSET_BITS (⟦<Writer<'a, OFFSET_BITS, L> as Work<OFFSET_BITS>>⟧.knows self.old).sizes.buffers (⟦<Writer<'a, OFFSET_BITS, L> as Work<OFFSET_BITS>>⟧.knows self.old).sizes.words width entry }
+        requires width { active_width ((⟦<Writer<'a, OFFSET_BITS, L> as Work<OFFSET_BITS>>⟧.knows self.old).buffer (buffer_of OFFSET_BITS entry)) ≡ width }
+        requires fits { length words.now ≤ width }
+        requires unkept { InNoCommit (⟦<Writer<'a, OFFSET_BITS, L> as Work<OFFSET_BITS>>⟧.knows self.old).commits entry }
+        ensures records { ⟦<Writer<'a, OFFSET_BITS, L> as Frozen<OFFSET_BITS>>⟧.records self.new ≡ with_words (⟦<Writer<'a, OFFSET_BITS, L> as Frozen<OFFSET_BITS>>⟧.records self.old) entry.entry (padded words.now width) }
+        ensures knows { ⟦<Writer<'a, OFFSET_BITS, L> as Work<OFFSET_BITS>>⟧.knows self.new ≡ record (⟦<Writer<'a, OFFSET_BITS, L> as Work<OFFSET_BITS>>⟧.knows self.old) { stored = (⟦<Writer<'a, OFFSET_BITS, L> as Work<OFFSET_BITS>>⟧.knows self.new).stored } }
+        ensures shape { ⟦<Writer<'a, OFFSET_BITS, L> as Frozen<OFFSET_BITS>>⟧.shape self.new ≡ ⟦<Writer<'a, OFFSET_BITS, L> as Frozen<OFFSET_BITS>>⟧.shape self.old }
+    {
+        for i in 0..width {
+            let word = word_or_zero(words, i);
+            self.store(entry, i, word);
+        }
+    }
+
+    fn hand_out(&mut self, width: u32) -> Option<u32> {
+        let buffer = lowest_free(self.buffers.as_slice(), self.sizes.buffers as u32)?;
+        self.take_buffer(buffer, width);
+        Some(buffer)
+    }
+
+    fn publish(&mut self, root: EntryRef<OFFSET_BITS>) -> u32
+        requires lawful { L.lawful (⟦<Writer<'a, OFFSET_BITS, L> as Frozen<OFFSET_BITS>>⟧.shape self.old) (⟦<Writer<'a, OFFSET_BITS, L> as Frozen<OFFSET_BITS>>⟧.records self.old) root }
+        requires room { (⟦<Writer<'a, OFFSET_BITS, L> as Work<OFFSET_BITS>>⟧.knows self.old).commits.last < (⟦<Writer<'a, OFFSET_BITS, L> as Work<OFFSET_BITS>>⟧.knows self.old).sizes.commits }
+        ensures number { result ≡ (⟦<Writer<'a, OFFSET_BITS, L> as Work<OFFSET_BITS>>⟧.knows self.old).commits.last + 1 }
+        ensures commit { AddsCommit (⟦<Writer<'a, OFFSET_BITS, L> as Work<OFFSET_BITS>>⟧.knows self.old).commits (⟦<Writer<'a, OFFSET_BITS, L> as Work<OFFSET_BITS>>⟧.knows self.new).commits
+            (next_image L.reaches (⟦<Writer<'a, OFFSET_BITS, L> as Frozen<OFFSET_BITS>>⟧.shape self.old) (⟦<Writer<'a, OFFSET_BITS, L> as Frozen<OFFSET_BITS>>⟧.records self.old) root.entry) }
+        ensures knows { ⟦<Writer<'a, OFFSET_BITS, L> as Work<OFFSET_BITS>>⟧.knows self.new ≡ published (⟦<Writer<'a, OFFSET_BITS, L> as Work<OFFSET_BITS>>⟧.knows self.old) (⟦<Writer<'a, OFFSET_BITS, L> as Work<OFFSET_BITS>>⟧.knows self.new).commits
+            (next_image L.reaches (⟦<Writer<'a, OFFSET_BITS, L> as Frozen<OFFSET_BITS>>⟧.shape self.old) (⟦<Writer<'a, OFFSET_BITS, L> as Frozen<OFFSET_BITS>>⟧.records self.old) root.entry) }
+        ensures records { ⟦<Writer<'a, OFFSET_BITS, L> as Frozen<OFFSET_BITS>>⟧.records self.new
+            ≡ words_at (next_image L.reaches (⟦<Writer<'a, OFFSET_BITS, L> as Frozen<OFFSET_BITS>>⟧.shape self.old) (⟦<Writer<'a, OFFSET_BITS, L> as Frozen<OFFSET_BITS>>⟧.records self.old) root.entry) }
+        ensures shape { ⟦<Writer<'a, OFFSET_BITS, L> as Frozen<OFFSET_BITS>>⟧.shape self.new ≡ ⟦<Writer<'a, OFFSET_BITS, L> as Frozen<OFFSET_BITS>>⟧.shape self.old }
+    {
+        let number = self.last + 1;
+        let word = u64::from(number) * 4294967296 + u64::from(root.raw());
+        self.arena
+            .table
+            .shared
+            .store::<Publish<L>>(&mut self.place, 0, word);
+        self.last = number;
+        number
+    }
+
+    fn retire_buffer(&mut self, buffer: u32) {
+        self.put_on_hold(buffer);
+    }
+
+    fn advance(&mut self) -> Advance {
+        self.go_on()
+    }
+
+    fn reclaim(&mut self) -> Oldest {
+        let found = self.close_unused();
+        self.free_unused();
+        let oldest = self.holds.oldest();
+        Oldest {
+            generation: oldest.generation,
+            hold: oldest.hold,
+            found,
+            newest: found == 0,
+        }
+    }
+
+    fn free_buffers(&self) -> u32 {
+        count_free(self.buffers.as_slice(), self.sizes.buffers as u32)
+    }
+
+    fn buffers(&self) -> u32 {
+        self.sizes.buffers as u32
+    }
+
+    fn words(&self) -> u32 {
+        self.sizes.words as u32
+    }
+
+    fn commits_left(&self) -> u32 {
+        self.sizes.commit_limit as u32 - self.last
+    }
+
+    ghost limits = { λ w. w.stands.limits };
+
+    ghost total_words = { λ w. w.stands.product };
+
+    ghost queue = { λ w. work_queue (writer_of w.place.me.0) w.stands.good OFFSET_BITS (desk_bits w.stands) w.place.table_id };
+
+    ghost order = { λ w. work_order (writer_of w.place.me.0) w.stands.good OFFSET_BITS (desk_bits w.stands) w.place.table_id };
+
+    ghost entries = { λ w. work_entries (writer_of w.place.me.0) w.stands.good OFFSET_BITS (desk_bits w.stands) };
+
+    ghost kept = { λ w n r k. work_kept (writer_of w.place.me.0) w.stands.good OFFSET_BITS (desk_bits w.stands) n r k.from k.to };
+
+    ghost last = { λ w. work_last (writer_of w.place.me.0) w.stands.good OFFSET_BITS (desk_bits w.stands) };
+
+    ghost whole = { λ w. work_whole (writer_of w.place.me.0) w.stands.good OFFSET_BITS (desk_bits w.stands) };
+
+    ghost only = { λ w. work_only (writer_of w.place.me.0) w.stands.good OFFSET_BITS (desk_bits w.stands) };
+
+    ghost held = { λ w. work_held (writer_of w.place.me.0) w.stands.good OFFSET_BITS (desk_bits w.stands) w.place.table_id };
+
+    ghost stored = { λ w. work_stored w.place.table_id (writer_of w.place.me.0) OFFSET_BITS (desk_bits w.stands) };
+
+    ghost tags = { λ w. work_tags (writer_of w.place.me.0) w.stands.good OFFSET_BITS (desk_bits w.stands) };
+}

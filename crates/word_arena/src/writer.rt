@@ -1,0 +1,154 @@
+//! The one writer.
+ghost use Rattle.std.specs.Prelude.{take, drop, ◌≡◌, ◌+◌, ◌*◌, ◌^◌, ◌<◌, ◌≤◌, ℕ, length, [], IfOk, IfErr, slice_get, Some, All};
+ghost use Rattle.image_base.specs.Images.{words_at};
+ghost use Rattle.image_base.specs.Places.{size_of};
+ghost use Rattle.gen_core.specs.declared.views.View.TheVariants.{Writer as WriterSees};
+ghost use Rattle.gen_core.specs.Views.{IsCommit};
+ghost use Rattle.gen_core.specs.Work.{writer_records};
+ghost use Rattle.gen_core.specs.Events.{opening_view, with_reader, newcomer, joined};
+ghost use Rattle.arena_api.specs.Calls.{IsWithinLimits};
+ghost use Rattle.word_arena.specs.Ruled.{api_sizes, writer_of, reader_of};
+ghost use Rattle.word_arena.specs.Knows.{IsDesk};
+ghost use Rattle.image_base.specs.Records.{HasWord, word_at};
+
+use crate::arena::{Arena, Token};
+use crate::plays::{Cut, Glue, LoadOwn};
+use crate::reader::Reader;
+use crate::rule::Place;
+use entry_ref::EntryRef;
+use frozen_api::Frozen;
+use gen_core::{Buffer, Sizes};
+use generation_handler::Holds;
+use image_base::{Layout, place_of};
+
+#[derive(Drop)]
+pub struct Writer<'a, const OFFSET_BITS: u32, L: Layout> {
+    pub(crate) arena: &'a Arena<OFFSET_BITS, L>,
+    pub(crate) sizes: Sizes,
+    pub(crate) buffers: Vec<Buffer>,
+    pub(crate) holds: Holds,
+    pub(crate) last: u32,
+    pub(crate) made: u32,
+    pub(crate) place: Place,
+    ghost stands: { IsDesk OFFSET_BITS arena.now.table.shared.table_id sizes buffers.items holds last made place.table_id place.me },
+}
+
+/// As many readers were made as there can be.
+#[derive(Clone, Copy, PartialEq, Eq, Debug, Drop)]
+pub struct NoSeat {
+    pub made: u32,
+}
+
+impl<const OFFSET_BITS: u32, L: Layout> Arena<OFFSET_BITS, L> {
+    /// The token is this arena's.
+    pub fn writer(&self, token: Token) -> Writer<'_, OFFSET_BITS, L>
+        requires own { token.place.table_id ≡ self.now.table.shared.table_id }
+        requires view { token.place.me ≡ (WriterSees (opening_view token.sizes), []) }
+        requires buffers { token.buffers.items ≡ (opening_view token.sizes).buffers }
+        requires words { self.now.table.shared.table_id.words ≡ size_of token.sizes.buffers token.sizes.words }
+        requires bits { token.sizes.offset_bits ≡ OFFSET_BITS }
+        requires limits { IsWithinLimits OFFSET_BITS (api_sizes token.sizes) }
+        requires product { token.sizes.buffers * token.sizes.words ≤ 67108864 }
+        ensures view { writer_of result.place.me.0 ≡ opening_view token.sizes }
+        ensures table { result.place.table_id ≡ self.now.table.shared.table_id }
+    {
+        let Token {
+            sizes,
+            buffers,
+            place,
+        } = token;
+        Writer {
+            arena: self,
+            sizes,
+            buffers,
+            holds: Holds::new(),
+            last: 0,
+            made: 0,
+            place,
+        }
+    }
+}
+
+impl<'a, const OFFSET_BITS: u32, L: Layout> Writer<'a, OFFSET_BITS, L> {
+    /// A reader that has seen the last commit. No seat exactly where 64 were made; one that was taken in still counts.
+    pub fn reader(&mut self) -> Result<Reader<'a, OFFSET_BITS, L>, NoSeat>
+        ensures ok { IfOk result (λ r. (r.place.table_id ≡ self.old.place.table_id) × (reader_of r.place.me.0 ≡ newcomer (writer_of self.old.place.me.0))
+            × (writer_of self.new.place.me.0 ≡ with_reader (writer_of self.old.place.me.0))) }
+        ensures seat { IfOk result (λ r. (writer_of self.old.place.me.0).made < 64) }
+        ensures none { IfErr result (λ e. (e.made ≡ 64) × ((writer_of self.old.place.me.0).made ≡ 64) × (self.new ≡ self.old)) }
+    {
+        if self.made >= 64 {
+            return Err(NoSeat { made: self.made });
+        }
+        let place = self.arena.table.shared.split_seat::<Cut>(&mut self.place);
+        self.made += 1;
+        Ok(Reader {
+            arena: self.arena,
+            sizes: self.sizes,
+            place,
+        })
+    }
+
+    /// Ends a reader. What it saw is then known to be commits.
+    pub fn take_in(&mut self, reader: Reader<'a, OFFSET_BITS, L>)
+        requires { reader.place.table_id ≡ self.old.place.table_id }
+        ensures view { writer_of self.new.place.me.0 ≡ joined (writer_of self.old.place.me.0) (reader_of reader.entry.place.me.0) }
+        ensures commits { All (IsCommit (writer_of self.new.place.me.0).commits) (writer_of self.new.place.me.0).saw }
+    {
+        let Reader {
+            arena: _,
+            sizes: _,
+            place,
+        } = reader;
+        self.arena
+            .table
+            .shared
+            .join_seat::<Glue>(&mut self.place, place);
+        self.arena.table.shared.load::<LoadOwn>(&mut self.place, 0);
+    }
+}
+
+impl<'a, const OFFSET_BITS: u32, L: Layout> Frozen<OFFSET_BITS> for Writer<'a, OFFSET_BITS, L> {
+    ghost use Rattle.word_arena.specs.ProofsForWork.{desk_bits, work_references};
+
+    ghost shape = { λ w. (writer_of w.place.me.0).sizes.shape };
+
+    ghost records = { λ w. writer_records (writer_of w.place.me.0) };
+
+    fn word(&mut self, entry: EntryRef<OFFSET_BITS>, i: u32) -> u64
+        requires { HasWord (⟦<Writer<'a, OFFSET_BITS, L> as Frozen<OFFSET_BITS>>⟧.records self.old) entry i }
+        ensures value { result ≡ word_at (⟦<Writer<'a, OFFSET_BITS, L> as Frozen<OFFSET_BITS>>⟧.records self.old) entry.entry i }
+        ensures same { self.new ≡ self.old }
+    {
+        let first = 18 + self.sizes.buffers + u64::from(entry.buffer()) * self.sizes.words;
+        let width = self
+            .arena
+            .table
+            .shared
+            .load::<LoadOwn>(&mut self.place, first as usize) as u32;
+        let place = place_of(
+            self.sizes.buffers as u32,
+            self.sizes.words as u32,
+            width,
+            entry,
+            i,
+        );
+        self.arena
+            .table
+            .shared
+            .load::<LoadOwn>(&mut self.place, place as usize)
+    }
+
+    fn read(&mut self, entry: EntryRef<OFFSET_BITS>, first: u32, into: &mut [u64])
+        requires there { first + length into.old ≤ length (⟦<Writer<'a, OFFSET_BITS, L> as Frozen<OFFSET_BITS>>⟧.records self.old entry) }
+        requires few { first + length into.old < 2 ^ 32 }
+        ensures words { into.new ≡ take (length into.old) (drop first (⟦<Writer<'a, OFFSET_BITS, L> as Frozen<OFFSET_BITS>>⟧.records self.old entry.entry)) }
+        ensures same { self.new ≡ self.old }
+    {
+        for i in 0..into.len() {
+            into[i] = self.word(entry, first + i as u32);
+        }
+    }
+
+    ghost references = { λ w. work_references (writer_of w.place.me.0) w.stands.good OFFSET_BITS (desk_bits w.stands) w.stands.limits };
+}
