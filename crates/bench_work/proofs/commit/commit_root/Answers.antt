@@ -27,12 +27,19 @@ commit-requires g c =
     let accepted : UsesOnly (ledger c.accept.new.self) next = only-same (ledger c.drop_root.new.store) (ledger c.accept.new.self) next (λ r. ap (λ l. in_use (l.status r)) c.accept.ensures.ledger ∙ accept_uses _) only in
     let some : 0 < next = pos_of_div-pos (buffer_limit g.row.OFFSET_BITS) c.in_ok-next.ensures.makes.place.first in
     let used = (accepted next).1 (refl, some) in
-    let there = (g.met.S.Store.recorded c.accept.new.self next).0 (used_record _ used) in
-    (omega arith, (
-      search rules, (
-      one_there (g.S.Frozen.shape c.accept.new.self) (g.S.Frozen.records c.accept.new.self) next there, (
-      search rules,
-      reaches_used (ledger c.accept.new.self) (g.S.Frozen.shape c.accept.new.self) next (g.S.Frozen.records c.accept.new.self) accepted))))
+    let there = (g.met.S.Store.recorded c.accept.new.self next).0 (used_record _ used) in (
+      omega arith,
+      (
+        search rules,
+        (
+          one_there (g.S.Frozen.shape c.accept.new.self) (g.S.Frozen.records c.accept.new.self) next there,
+          (
+            search rules,
+            reaches_used (ledger c.accept.new.self) (g.S.Frozen.shape c.accept.new.self) next (g.S.Frozen.records c.accept.new.self) accepted,
+          ),
+        ),
+      ),
+    )
 
 pub returns-clause-used : goal.returns-clause-used
 returns-clause-used g c =
