@@ -5,3 +5,5 @@ mod PresentLemmas
 mod FitsLemmas
 mod TextLemmas
 mod CommandLemmas
+mod PieceLemmas
+mod LawfulLemmas

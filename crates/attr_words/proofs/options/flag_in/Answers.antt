@@ -1,7 +1,7 @@
 use Rattle.std.proofs.Common.{◌∙◌, ap, inl, inr, Some, refl}
 use Rattle.clap.specs.Matches.{found_of}
 use Rattle.clap.proofs.WalkLemmas.{one_text-rows}
-use Rattle.attr_words.proofs.settings.flag_in.Goals as goal
+use Rattle.attr_words.proofs.options.flag_in.Goals as goal
 
 pub returns : goal.returns
 returns c =

@@ -3,7 +3,7 @@ use Rattle.std.specs.Prelude.{option_map, unwrap_or}
 use Rattle.std.proofs.lemmas.Result.{IfOk-weaker}
 use Rattle.clap.specs.Matches.{found_of}
 use Rattle.clap.proofs.WalkLemmas.{first_value-rows}
-use Rattle.attr_words.proofs.settings.text_in.Goals as goal
+use Rattle.attr_words.proofs.options.text_in.Goals as goal
 
 -- the text behind a reference, or none
 behind : (o : Option (Bor (List ℕ))) (other : Bor (List ℕ)) (t : Option (List ℕ))

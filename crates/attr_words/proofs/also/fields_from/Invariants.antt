@@ -1,0 +1,8 @@
+use Rattle.std.proofs.Common.{◌≡◌, ◌∷◌, [], map, drop}
+use Rattle.attr_words.specs.Also.{piece_of, fields_from}
+use Rattle.attr_words.proofs.also.fields_from.Given as goal
+
+-- the attributes so far, with those of the other fields, are all
+abbrev pub invariant-loop-part : goal.invariant-loop-part
+invariant-loop-part l = fields_from l.fields (map piece_of (drop l.part-index l.parts))
+    ≡ fields_from (l.fn.first ∷ []) (map piece_of l.parts)
