@@ -3,12 +3,13 @@ use Rattle.std.specs.Prelude.{◌≡◌, ℕ, List, Option, None, Result, Ok, Er
 use Rattle.std.specs.Io.KnownBytes.{Appends, Keeps}
 use Rattle.clap.specs.Walk.{Text}
 use Rattle.attr_io.specs.Faults.{Rose}
+use Rattle.attr_types.specs.declared.field.Field.{Field}
 use Rattle.attr_words.specs.declared.reading.WordsError.{WordsError}
 use Rattle.attr_words.specs.declared.reading.WordsError.TheVariants as words
 use Rattle.feed_reader.specs.declared.error.FeedError.{FeedError}
 use Rattle.feed_reader.specs.declared.error.FeedError.TheVariants as feed_errors
 use Rattle.attr_report.specs.Run.{Run, Progress}
-use Rattle.attr_run.specs.Run.{asked, fed}
+use Rattle.attr_run.specs.Run.{asked, ops_in, fed}
 use Rattle.attr_run.specs.Settings.{IsAskedBy}
 use Rattle.attr_run.specs.Texts.{answer_text}
 use Rattle.attr_run.specs.Answers.{OfRun, ReadsAsAsked, HasCause, HasNoRun, IsDue, IsProper}
@@ -56,6 +57,14 @@ feed_stop feed_errors.Memory = stops.Memory
 abbrev pub IsStopped : List Text → Option (List ℕ) → ℕ → ℕ → Stop → Type 0
 IsStopped words left before now (stops.Answer status) = HasCause words left before now status
 IsStopped words left before now stops.Memory = Unit {0}
+
+-- why a feed has no operations
+abbrev pub IsFeedStop : List Field → Option (List ℕ) → ℕ → ℕ → Stop → Type 0
+IsFeedStop fields left before now (stops.Answer (BadFeed fault)) =
+    IfSome left (λ bytes. ops_in fields bytes ≡ Err (BadFeed fault))
+IsFeedStop fields left before now (stops.Answer ReadFault) = Rose before now
+IsFeedStop fields left before now (stops.Answer _) = ⊥
+IsFeedStop fields left before now stops.Memory = Unit {0}
 
 -- why a run has no operations
 abbrev pub IsUnfed : Run → Option (List ℕ) → ℕ → ℕ → Stop → Type 0

@@ -1,21 +1,37 @@
 //! The operations of a run.
 ghost use Rattle.std.specs.Prelude.{◌≡◌, ◌<◌, ◌^◌, None, Ok, length, IfOk, IfErr, IfSome};
 ghost use Rattle.std.specs.List.{AllByRecursion};
+ghost use Rattle.std.specs.Io.KnownBytes.{IsAtEnd};
 ghost use Rattle.attr_io.specs.Bytes.{ReadsPieces};
 ghost use Rattle.attr_types.specs.Lawful.{OpFits};
 ghost use Rattle.feed_reader.specs.Feed.{most_bytes};
 ghost use Rattle.attr_report.specs.Run.{run_in};
-ghost use Rattle.attr_run.specs.Run.{fed};
+ghost use Rattle.attr_run.specs.Run.{fed, ops_in as ops_of};
 ghost use Rattle.attr_run.specs.Answers.{ReadsAsAsked};
-ghost use Rattle.attr_run.specs.Steps.{IsUnfed, IsProperStop};
+ghost use Rattle.attr_run.specs.Steps.{IsFeedStop, IsUnfed, IsProperStop};
 
 use crate::stop::Stop;
 use attr_io::Source;
 use attr_report::Request;
-use attr_types::Ops;
+use attr_types::{Fields, Ops};
 use feed_reader::read_feed;
 use made_ops::make_ops;
 use std::alloc::Global;
+
+fn read_in<S: Source>(alloc: Global, source: &mut S, fields: &Fields) -> Result<Ops, Stop>
+    ensures fed { IfOk result (λ ops. IfSome (S.left source.old) (λ bytes. ops_of fields.now bytes ≡ Ok ops)) }
+    ensures few { IfOk result (λ ops. length ops < 2 ^ 32) }
+    ensures fit { IfOk result (λ ops. AllByRecursion (OpFits fields.now) ops) }
+    ensures reads_all { IfOk result (λ _. IsAtEnd (S.left source.new)) }
+    ensures unfed { IfErr result (IsFeedStop fields.now (S.left source.old)
+        (S.faults source.old) (S.faults source.new)) }
+    ensures proper { IfErr result IsProperStop }
+    ensures reads { ReadsPieces most_bytes 65536
+        (S.left source.old) (S.left source.new) (S.reads source.old) (S.reads source.new) }
+{
+    let ops = read_feed(alloc, source, fields)?;
+    Ok(ops)
+}
 
 /// The operations of a run: made where it asks for that, else those that its source gives.
 pub fn ops_in<S: Source>(
@@ -35,7 +51,10 @@ pub fn ops_in<S: Source>(
         (S.left source.old) (S.left source.new) (S.reads source.old) (S.reads source.new) }
 {
     match request.make {
-        Some(make) => Ok(make_ops(alloc, make.count, make.seed, &request.fields)?),
-        None => Ok(read_feed(alloc, source, &request.fields)?),
+        Some(make) => {
+            let ops = make_ops(alloc, make.count, make.seed, &request.fields)?;
+            Ok(ops)
+        }
+        None => read_in(alloc, source, &request.fields),
     }
 }
