@@ -7,3 +7,5 @@ mod TextLemmas
 mod CommandLemmas
 mod PieceLemmas
 mod LawfulLemmas
+mod FieldsLemmas
+mod SettingsLemmas

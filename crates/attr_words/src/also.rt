@@ -30,7 +30,7 @@ fn texts_in<'a>(alloc: Global, text: &'a str, mark: char) -> Result<Vec<&'a str>
 
 /// Texts that stand one after another, with one byte between them, as parts.
 fn placed<'a>(alloc: Global, place: u64, texts: &[&'a str]) -> Result<Vec<Part<'a>>, AllocError>
-    requires { place + span (map (λ t. t.now) texts.now) < 2 ^ 63 }
+    requires { place + span (map (λ t. t.now) texts.now) < 2 ^ 64 }
     ensures { IfOk result (λ parts. map piece_of parts.items ≡ placed place (map (λ t. t.now) texts.now)) }
 {
     let mut parts = Vec::new(alloc);
@@ -45,7 +45,7 @@ fn placed<'a>(alloc: Global, place: u64, texts: &[&'a str]) -> Result<Vec<Part<'
 /// The pieces of a piece, parted by this character.
 fn cut<'a>(alloc: Global, whole: Part<'a>, mark: char) -> Result<Vec<Part<'a>>, AllocError>
     requires ascii { mark < 128 }
-    requires small { whole.place + length whole.text.now + 1 < 2 ^ 63 }
+    requires small { whole.place + length whole.text.now + 1 < 2 ^ 64 }
     ensures pieces { IfOk result (λ parts. map piece_of parts.items ≡ pieces mark (piece_of whole.entry)) }
     ensures ends { IfOk result (λ parts. AllByRecursion
         (EndsBefore (whole.entry.place + length whole.entry.text.now)) (map piece_of parts.items)) }
@@ -56,7 +56,7 @@ fn cut<'a>(alloc: Global, whole: Part<'a>, mark: char) -> Result<Vec<Part<'a>>, 
 
 /// The part with this number of a whole, or the empty one at its end.
 fn part_at<'a>(whole: Part<'a>, parts: &[Part<'a>], number: usize) -> Part<'a>
-    requires { whole.place + length whole.text.now < 2 ^ 63 }
+    requires { whole.place + length whole.text.now < 2 ^ 64 }
     ensures { piece_of result ≡ part_at (piece_of whole.entry) (map piece_of parts.now) number }
 {
     match parts.get(number) {
@@ -98,7 +98,7 @@ fn value_in(part: Part<'_>) -> Result<ValueType, WordsError>
 /// The attribute of a field `name:kind:value`.
 #[tactic(auto, unfolding(crate::specs::Also::field_in))]
 fn field_in(alloc: Global, before: &[Field], whole: Part<'_>) -> Result<Field, WordsError>
-    requires { whole.place + length whole.text.now + 1 < 2 ^ 63 }
+    requires { whole.place + length whole.text.now + 1 < 2 ^ 64 }
     ensures { Says (λ field. field) result (field_in before.now (piece_of whole.entry)) }
 {
     let parts = cut(alloc, whole, ':')?;
@@ -114,7 +114,7 @@ fn field_in(alloc: Global, before: &[Field], whole: Part<'_>) -> Result<Field, W
 /// The attribute of a field, where there is room for one more.
 #[tactic(auto, unfolding(crate::specs::Also::next_field))]
 fn next_field(alloc: Global, before: &[Field], whole: Part<'_>) -> Result<Field, WordsError>
-    requires { whole.place + length whole.text.now + 1 < 2 ^ 63 }
+    requires { whole.place + length whole.text.now + 1 < 2 ^ 64 }
     ensures { Says (λ field. field) result (next_field before.now (piece_of whole.entry)) }
 {
     if before.len() < MOST_FIELDS {
@@ -126,7 +126,7 @@ fn next_field(alloc: Global, before: &[Field], whole: Part<'_>) -> Result<Field,
 
 /// The attributes with those of further fields.
 fn fields_from(alloc: Global, first: Field, parts: &[Part<'_>]) -> Result<Fields, WordsError>
-    requires { AllByRecursion (EndsBefore (2 ^ 62)) (map piece_of parts.now) }
+    requires { AllByRecursion (EndsBefore 18446744073709551614) (map piece_of parts.now) }
     ensures { Says (λ fields. fields) result (fields_from (first ∷ []) (map piece_of parts.now)) }
 {
     let mut fields = Fields::of_one(alloc, first)?;
