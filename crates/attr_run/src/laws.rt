@@ -2,7 +2,7 @@
 ghost use Rattle.attr_run.specs.Settings.{RunsAreAsked};
 
 use attr_words::settings_law as words_law;
-use query_text::grammar_law;
+use query_text::asks_law;
 
 /// What words ask for is lawful: the numbers of the run lie in the ranges of their options, and what
 /// it asks is what the grammar answers to the texts.
@@ -10,5 +10,5 @@ pub fn settings_law()
     ensures { RunsAreAsked }
 {
     words_law();
-    grammar_law();
+    asks_law();
 }

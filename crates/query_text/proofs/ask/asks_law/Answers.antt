@@ -2,6 +2,6 @@ use Rattle.std.proofs.Common.{refl}
 use Rattle.query_text.specs.Asking.{AnswersAsk}
 use Rattle.query_text.proofs.ask.asks_law.Goals as goal
 
-pub returns-clause-reads : goal.returns-clause-reads
+pub returns : goal.returns
 unfolding AnswersAsk
-returns-clause-reads c = λ fields text utf8. refl
+returns c = λ fields text utf8. refl

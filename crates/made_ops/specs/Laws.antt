@@ -1,0 +1,10 @@
+-- Laws of made operations.
+use Rattle.std.specs.Prelude.{ℕ, List}
+use Rattle.std.specs.List.{AllByRecursion}
+use Rattle.attr_types.specs.Lawful.{OpFits}
+use Rattle.attr_types.specs.declared.field.Field.{Field}
+use Rattle.made_ops.specs.Made.{made}
+
+-- made operations fit the attributes, whatever the seed
+abbrev pub MadeOpsFit : Type 0
+MadeOpsFit = (count seed : ℕ) (fields : List Field) → AllByRecursion (OpFits fields) (made count seed fields)

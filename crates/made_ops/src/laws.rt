@@ -1,0 +1,7 @@
+//! Laws of made operations. The function does nothing: its contract is the law.
+ghost use Rattle.made_ops.specs.Laws.{MadeOpsFit};
+
+/// Made operations fit the attributes, whatever the seed.
+pub fn made_law()
+    ensures { MadeOpsFit }
+{}
