@@ -46,13 +46,13 @@ texts_read : AsksByGrammar → (fields : List Field) (number : ℕ) (texts : Lis
     → asks_from fields number texts ≡ Ok asks → AllByRecursion IsUtf8 texts → AllZip (IsTextOf fields) texts asks
 unfolding asks_from
 texts_read reads fields number [] asks is all =
-    subst (λ (as : List AskTree). AllZip (IsTextOf fields) [] as) (same_ok (Ok []) [] asks refl is) tt
+    subst (λ (found : List AskTree). AllZip (IsTextOf fields) [] found) (same_ok (Ok []) [] asks refl is) tt
 texts_read reads fields number (text ∷ texts) asks is all =
     let first = next_ok (ask_or_refused number (ask_of fields text)) _ asks is in
     let others = next_ok (asks_from fields (number + 1) texts) _ asks first.2 in
     let here = subst (AnswersAsk fields text) (read_ok number (ask_of fields text) first.0 first.1)
     (reads fields text all.0) in
-    subst (λ (as : List AskTree). AllZip (IsTextOf fields) (text ∷ texts) as)
+    subst (λ (found : List AskTree). AllZip (IsTextOf fields) (text ∷ texts) found)
     (same_ok (Ok (first.0 ∷ others.0)) (first.0 ∷ others.0) asks refl others.2)
     ((all.0, here), texts_read reads fields (number + 1) texts others.0 others.1 all.1)
 

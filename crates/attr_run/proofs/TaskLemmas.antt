@@ -1,7 +1,7 @@
 -- What words and a feed's bytes say to do, step by step.
 use Rattle.std.proofs.Common.{◌≡◌, ◌∙◌, sym, ap, refl, subst, ℕ, ◌≤◌, ◌<◌, nat_lt, true}
 use Rattle.std.proofs.Common.{false, List, [], length, Option, Some, None}
-use Rattle.std.proofs.Common.{option_map, Result, Ok, Err, IsOk, IfSome, IsOkAnd, arith}
+use Rattle.std.proofs.Common.{option_map, Result, Ok, Err, IsOk, IfOk, IfErr, IfSome, IsOkAnd, arith}
 use Rattle.std.proofs.KnownBytes.{Consumes-nil}
 use Rattle.std.proofs.lemmas.Bool.Decides.{nat_tests}
 use Rattle.clap.specs.Walk.{Text}
@@ -144,6 +144,14 @@ unfed-read run left before now (stops.Answer WriteFault) none is = absurd is
 unfed-read run left before now (stops.Answer (Full operation active held)) none is = absurd is
 unfed-read run left before now (stops.Answer Memory) none is = absurd is
 unfed-read run left before now stops.Memory none is = tt
+
+pub err_then : {A E : Type 0} (r : Result A E) (P Q : E → Type 0) → ((e : E) → P e → Q e) → IfErr r P → IfErr r Q
+err_then (Ok a) P Q follows holds = tt
+err_then (Err e) P Q follows holds = follows e holds
+
+pub ok_always : {A E : Type 0} (r : Result A E) (P : Type 0) → P → IfOk r (λ _. P)
+ok_always (Ok a) P holds = holds
+ok_always (Err e) P holds = tt
 
 told : (f : Option (Result (List Op) Status)) (run : Run) (ops : List Op) (P : Run → List Op → Type 0)
     → IfSome f (λ s. s ≡ Ok ops) → P run ops

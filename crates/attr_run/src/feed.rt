@@ -5,10 +5,12 @@ ghost use Rattle.std.specs.Io.KnownBytes.{IsAtEnd};
 ghost use Rattle.attr_io.specs.Bytes.{ReadsPieces};
 ghost use Rattle.attr_types.specs.Lawful.{OpFits};
 ghost use Rattle.feed_reader.specs.Feed.{most_bytes};
+ghost use Rattle.made_ops.specs.Made.{made};
 ghost use Rattle.attr_report.specs.Run.{run_in};
 ghost use Rattle.attr_run.specs.Run.{fed, ops_in as ops_of};
 ghost use Rattle.attr_run.specs.Answers.{ReadsAsAsked};
 ghost use Rattle.attr_run.specs.Steps.{IsFeedStop, IsUnfed, IsProperStop};
+ghost use Rattle.attr_run.specs.declared.stop.Stop.TheVariants as stops;
 
 use crate::stop::Stop;
 use attr_io::Source;
@@ -33,6 +35,16 @@ fn read_in<S: Source>(alloc: Global, source: &mut S, fields: &Fields) -> Result<
     Ok(ops)
 }
 
+fn made_in(alloc: Global, count: u32, seed: u32, fields: &Fields) -> Result<Ops, Stop>
+    ensures made { IfOk result (λ ops. ops ≡ made count seed fields.now) }
+    ensures few { IfOk result (λ ops. length ops < 2 ^ 32) }
+    ensures fit { IfOk result (λ ops. AllByRecursion (OpFits fields.now) ops) }
+    ensures memory { IfErr result (λ stop. stop ≡ stops.Memory) }
+{
+    let ops = make_ops(alloc, count, seed, fields)?;
+    Ok(ops)
+}
+
 /// The operations of a run: made where it asks for that, else those that its source gives.
 pub fn ops_in<S: Source>(
     alloc: Global,
@@ -51,10 +63,7 @@ pub fn ops_in<S: Source>(
         (S.left source.old) (S.left source.new) (S.reads source.old) (S.reads source.new) }
 {
     match request.make {
-        Some(make) => {
-            let ops = make_ops(alloc, make.count, make.seed, &request.fields)?;
-            Ok(ops)
-        }
+        Some(make) => made_in(alloc, make.count, make.seed, &request.fields),
         None => read_in(alloc, source, &request.fields),
     }
 }

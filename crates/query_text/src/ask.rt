@@ -14,5 +14,5 @@ pub fn parse_ask(_alloc: Global, _text: &str, _fields: &Fields) -> Result<Ask, Q
 
 /// Scratch.
 pub fn asks_law()
-    ensures reads { AsksByGrammar }
+    ensures { AsksByGrammar }
 {}
