@@ -4,4 +4,3 @@ pub mod Survey
 pub mod Reading
 pub mod Parsing
 pub mod Laws
-pub mod Asking
