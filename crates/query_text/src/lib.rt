@@ -6,10 +6,14 @@
 //! most.
 #![tactic(auto)]
 
+mod ask;
+mod asks;
+mod dot;
 mod list;
 mod mode;
 mod parse;
 mod read;
 mod survey;
 
+pub use asks::parse_ask;
 pub use parse::{grammar_law, parse_query};

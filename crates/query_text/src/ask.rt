@@ -1,0 +1,3 @@
+pub mod mode;
+pub mod read;
+pub mod survey;
