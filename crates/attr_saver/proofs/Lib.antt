@@ -1,1 +1,7 @@
+pub mod ColumnLemmas
+pub mod Columns
+pub mod FieldLemmas
 pub mod Loops
+pub mod Rows
+pub mod SaveLemmas
+pub mod Wholes
