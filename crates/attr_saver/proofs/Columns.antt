@@ -1,8 +1,9 @@
 -- Items and documents that follow each other are those that a kind allows, and the other way round.
-use Rattle.std.proofs.Common.{◌≡◌, ℕ, zero, suc, ◌+◌, ◌<◌, ◌≤◌, Bool, true, List, [], ◌∷◌, length, map, Option, Some, None, Ordering, Less, nat_cmp, is_lt, pos, refl, sym, ap, arith, unwrap_or}
+use Rattle.std.proofs.Common.{◌≡◌, ℕ, zero, suc, ◌+◌, ◌<◌, ◌≤◌, ◌^◌, Bool, true, List, [], ◌∷◌, length, map, Option, Some, None, Ordering, Less, nat_cmp, is_lt, pos, refl, sym, ap, arith, unwrap_or}
 use Rattle.std.specs.Cmp.{nat_cmp_is}
 use Rattle.std.specs.List.{AllByRecursion, AllZip}
 use Rattle.std.specs.List.Sorted.{IsStrictlySortedBy}
+use Rattle.std.proofs.lemmas.List.{length-map}
 use Rattle.std.proofs.lemmas.Cmp.{ranked, nat_cmp_total}
 use Rattle.attr_types.specs.Lawful.{last_doc, IsDocNumber, HaveWeightOne, AscendByValue, IsLawfulItems, ItemsFit, IsLawfulDocument, IsLawfulTable, DocumentHasType, HasType}
 use Rattle.attr_types.specs.ProofsForOrder.{value_cmp_total}
@@ -186,8 +187,26 @@ column_chain kind type documents lawful stored =
     documents_chain kind type 0 documents (above_none (docs_of documents) lawful.numbers) lawful.ascends lawful.numbers lawful.items stored
 
 -- there are no more documents than numbers
-pub documents_few : (kind : Kind) (type : ValueType) (before : ℕ) (documents : List SavedDocument) → before ≤ last_doc → DocumentChain kind type before documents
-    → length documents + before ≤ last_doc
-documents_few kind type before [] le chain = omega (arith, le)
-documents_few kind type before (document ∷ documents) le chain =
-    omega (arith, documents_few kind type document.doc documents chain.0.within chain.1, chain.0.above)
+docs_few : (before : ℕ) (docs : List ℕ) → before ≤ last_doc → AllByRecursion (λ doc. nat_cmp before doc ≡ Less) docs → IsStrictlySortedBy nat_cmp docs
+    → AllByRecursion IsDocNumber docs → length docs + before ≤ last_doc
+unfolding IsStrictlySortedBy
+docs_few before [] le above ascends numbers = omega (arith, le)
+docs_few before (doc ∷ docs) le above ascends numbers =
+    let less : before < doc = ranked before doc Less (sym above.0) in
+    omega (arith, docs_few doc docs numbers.0.1 ascends.0 ascends.1 numbers.1, less)
+
+pub column_few : (kind : Kind) (type : ValueType) (documents : List SavedDocument) → IsLawfulColumn kind type documents → length documents ≤ last_doc
+column_few kind type documents lawful =
+    omega (arith, docs_few 0 (docs_of documents) (omega arith) (above_none (docs_of documents) lawful.numbers) lawful.ascends lawful.numbers, length-map documents (λ (d : SavedDocument). d.doc))
+
+-- each has so few items that their number has two bytes
+pub items_few : (kind : Kind) (type : ValueType) (documents : List SavedDocument) → AllByRecursion (HasItemsThatFit kind type) documents
+    → AllByRecursion (λ d. length d.items < 2 ^ 16) documents
+items_few kind type [] fit = tt
+items_few kind type (document ∷ documents) fit =
+    (small kind (few_lawful kind document.items fit.0.0), items_few kind type documents fit.1)
+  where
+    small : (kind : Kind) → length document.items ≤ most_items kind → length document.items < 2 ^ 16
+    small Single le = omega (arith, le)
+    small Array le = omega (arith, le)
+    small WeightedSet le = omega (arith, le)

@@ -4,4 +4,5 @@ pub mod FieldLemmas
 pub mod Loops
 pub mod Rows
 pub mod SaveLemmas
+pub mod SavingLemmas
 pub mod Wholes

@@ -16,7 +16,7 @@ use Rattle.attr_saver.specs.Laws.{AreBytes}
 use Rattle.attr_saver.specs.Lawful.{IsLawfulColumn, IsLawfulSaved}
 use Rattle.attr_saver.specs.declared.saved.Saved.{Saved}
 use Rattle.attr_saver.specs.declared.saved.SavedDocument.{SavedDocument}
-use Rattle.attr_saver.proofs.Columns.{DocumentFits, DocumentChain, StoresItems, column_lawful, column_chain, documents_few}
+use Rattle.attr_saver.proofs.Columns.{DocumentFits, DocumentChain, StoresItems, column_lawful, column_chain, column_few}
 use Rattle.attr_saver.proofs.FieldLemmas.{bind_ok, ok_is, unless_ok, where_ok, Takes, Takes-then, wide16, wide32, number_takes, number_again}
 use Rattle.attr_saver.proofs.FieldLemmas.{magic_takes, magic_again, kind_takes, kind_again, type_takes, type_again, count_takes, count_again}
 use Rattle.attr_saver.proofs.Rows.{Chain, row_takes, row_again}
@@ -162,7 +162,7 @@ unfolding saved_at
 saved_again saved lawful =
     let rows = flat_map (document_bytes saved.kind) saved.table in
     let chain = column_chain saved.kind saved.value saved.table lawful.column lawful.storable in
-    let few : length saved.table ≤ last_doc = omega (arith, documents_few saved.kind saved.value 0 saved.table (omega arith) chain) in
+    let few : length saved.table ≤ last_doc = column_few saved.kind saved.value saved.table lawful.column in
     let count = to_be_bytes w32 (length saved.table) in
     let operations = to_be_bytes w32 saved.operations in
     let read : documents_at saved.kind saved.value (length saved.table) 0 rows ≡ Ok (saved.table, []) =
@@ -178,6 +178,14 @@ saved_again saved lawful =
 placed_ok : {A : Type 0} (len : ℕ) (r : Result A ℕ) (a : A) → placed len r ≡ Ok a → r ≡ Ok a
 placed_ok len (Ok x) a e = e
 placed_ok len (Err left) a e = absurd cc
+
+pub read_ok : (bytes : List ℕ) (saved : Saved) → saved_at bytes ≡ Ok saved → read_of bytes ≡ Ok saved
+unfolding read_of
+read_ok bytes saved e = ap (placed (length bytes)) e
+
+pub read_bad : (bytes : List ℕ) (left : ℕ) → saved_at bytes ≡ Err left → read_of bytes ≡ Err (length bytes - left)
+unfolding read_of
+read_bad bytes left e = ap (placed (length bytes)) e
 
 pub reads_saves : (bytes : List ℕ) (saved : Saved) → AreBytes bytes → read_of bytes ≡ Ok saved → IsLawfulSaved saved × (bytes ≡ saved_bytes saved)
 unfolding read_of
