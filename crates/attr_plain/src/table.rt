@@ -1,6 +1,6 @@
 ghost use Rattle.std.specs.Prelude.{◌≡◌, IfOk, OnOk, OnErr, [], option_and_then, option_copied};
 ghost use Rattle.std.specs.List.Sorted.{IsStrictlyIncreasing};
-ghost use Rattle.attr_types.specs.Lawful.{OpFits};
+ghost use Rattle.attr_types.specs.Lawful.{OpFits, IsLawfulTable, HasType};
 ghost use Rattle.attr_types.specs.Query.{tree_of};
 ghost use Rattle.attr_types.specs.Table.{hits as hits_of, updated, to_update, document_at};
 ghost use Rattle.attr_plain.specs.Answers.{plain_after, answer_to};
@@ -60,6 +60,15 @@ impl PlainTable {
         ensures { option_copied result ≡ document_at self.now.table doc }
     {
         self.documents.get(&doc)
+    }
+
+    /// The documents that are there, each with its items in each attribute.
+    pub fn documents(&self) -> &BTreeMap<Doc, FieldItems>
+        ensures entries { result.now.entries ≡ self.now.table }
+        ensures lawful { IsLawfulTable self.now.fields self.now.table }
+        ensures typed { HasType self.now.fields self.now.table }
+    {
+        &self.documents
     }
 
     /// Applies an operation. Where memory runs out the table is as it was.
