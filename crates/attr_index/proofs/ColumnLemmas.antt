@@ -11,6 +11,7 @@ use Rattle.attr_types.proofs.EntryLemmas.{lookup-remove}
 use Rattle.attr_types.proofs.TableLemmas.{put_is_there}
 use Rattle.attr_types.specs.Change.{changed}
 use Rattle.attr_types.specs.Lawful.{IsLawfulDocument, IsLawfulItems, IsLawfulTable}
+use Rattle.attr_types.specs.Query.{items_in}
 use Rattle.attr_types.specs.Table.{Table, document_at, op_doc, step, both, updated, to_update, with_document, without_document}
 use Rattle.attr_types.specs.Value.{Document}
 use Rattle.attr_types.specs.declared.change.Change.{Change}
@@ -18,7 +19,7 @@ use Rattle.attr_types.specs.declared.field.Field.{Field}
 use Rattle.attr_types.specs.declared.items.Item.{Item}
 use Rattle.attr_types.specs.declared.op.Op.{Op}
 use Rattle.attr_types.specs.declared.op.Op.TheVariants.{Put, Update, Remove}
-use Rattle.attr_index.specs.Columns.{Column, IsLawfulColumn, column_of, items_in, with_change}
+use Rattle.attr_index.specs.Columns.{Column, IsLawfulColumn, column_of, with_change}
 
 -- ---- the column is lawful
 keys-column : (i : ℕ) (table : Table) → keys_of (column_of i table) ≡ keys_of table
@@ -26,7 +27,7 @@ keys-column i [] = refl
 keys-column i (e ∷ es) = ap (λ ks. e.0 ∷ ks) (keys-column i es)
 
 items-lawful : (fields : List Field) (document : Document) (i : ℕ) (field : Field) → IsLawfulDocument fields document
-    → slice_get fields i ≡ Some field → IsLawfulItems field.kind (items_in i document)
+    → slice_get fields i ≡ Some field → IsLawfulItems field.kind (items_in document i)
 items-lawful [] document i field lawful is = cc
 items-lawful (f ∷ fields) [] i field lawful is = absurd lawful
 items-lawful (f ∷ fields) (items ∷ document) zero field lawful is = (let same : f ≡ field = cc is in subst {A = Field} (λ g. IsLawfulItems g.kind items) same lawful.0)
@@ -48,14 +49,14 @@ column_is_lawful fields table i field lawful is = record {
 
 -- ---- an operation
 insert_at : (i : ℕ) (e : ℕ × Document) (es : Table) (doc : ℕ) (document : Document) (o : Ordering) → nat_cmp doc e.0 ≡ o
-    → column_of i (insert_entry nat_cmp es doc document) ≡ insert_entry nat_cmp (column_of i es) doc (items_in i document)
-    → column_of i (insert_entry nat_cmp (e ∷ es) doc document) ≡ insert_entry nat_cmp (column_of i (e ∷ es)) doc (items_in i document)
+    → column_of i (insert_entry nat_cmp es doc document) ≡ insert_entry nat_cmp (column_of i es) doc (items_in document i)
+    → column_of i (insert_entry nat_cmp (e ∷ es) doc document) ≡ insert_entry nat_cmp (column_of i (e ∷ es)) doc (items_in document i)
 insert_at i e es doc document Less is rest = cc
 insert_at i e es doc document Equal is rest = cc
 insert_at i e es doc document Greater is rest = cc
 
 column-insert : (i : ℕ) (table : Table) (doc : ℕ) (document : Document)
-    → column_of i (insert_entry nat_cmp table doc document) ≡ insert_entry nat_cmp (column_of i table) doc (items_in i document)
+    → column_of i (insert_entry nat_cmp table doc document) ≡ insert_entry nat_cmp (column_of i table) doc (items_in document i)
 column-insert i [] doc document = refl
 column-insert i (e ∷ es) doc document = insert_at i e es doc document (nat_cmp doc e.0) refl (column-insert i es doc document)
 
@@ -71,32 +72,32 @@ column-remove i test [] = refl
 column-remove i test (e ∷ es) = remove_at i test e es (test e.0) refl (column-remove i test es)
 
 with_is : (table next : Table) (doc i : ℕ) (document : Document) → next ≡ with_document table doc document
-    → column_of i next ≡ with_change (column_of i table) doc (option_map (items_in i) (document_at next doc))
+    → column_of i next ≡ with_change (column_of i table) doc (option_map (λ d. items_in d i) (document_at next doc))
 with_is table next doc i document is =
     ap (column_of i) is ∙ column-insert i table doc document
-    ∙ ap (λ found. with_change (column_of i table) doc (option_map (items_in i) found))
+    ∙ ap (λ found. with_change (column_of i table) doc (option_map (λ d. items_in d i) found))
     (sym (ap (λ t. document_at t doc) is ∙ put_is_there table doc document))
 
 pub operation_changes : (fields : List Field) (table next : Table) (op : Op) (i : ℕ) → IsLawfulTable fields table
     → step fields table op ≡ Some next
-    → column_of i next ≡ with_change (column_of i table) (op_doc op) (option_map (items_in i) (document_at next (op_doc op)))
+    → column_of i next ≡ with_change (column_of i table) (op_doc op) (option_map (λ d. items_in d i) (document_at next (op_doc op)))
 operation_changes fields table next (Put doc items) i lawful is = with_is table next doc i items (cc is)
 operation_changes fields table next (Update doc create changes) i lawful is =
     told (option_and_then (updated fields changes) (to_update fields create (document_at table doc))) is
   where
     told : (o : Option Document) → option_map (with_document table doc) o ≡ Some next
-        → column_of i next ≡ with_change (column_of i table) doc (option_map (items_in i) (document_at next doc))
+        → column_of i next ≡ with_change (column_of i table) doc (option_map (λ d. items_in d i) (document_at next doc))
     told None got = cc
     told (Some document) got = with_is table next doc i document (cc got)
 operation_changes fields table next (Remove doc) i lawful is = told (document_at table doc) is
   where
     told : (o : Option Document) → option_map (λ _. without_document table doc) o ≡ Some next
-        → column_of i next ≡ with_change (column_of i table) doc (option_map (items_in i) (document_at next doc))
+        → column_of i next ≡ with_change (column_of i table) doc (option_map (λ d. items_in d i) (document_at next doc))
     told None got = cc
     told (Some document) got =
         let gone : next ≡ without_document table doc = cc got in
         ap (column_of i) gone ∙ column-remove i (is_at (nat_cmp doc)) table
-        ∙ ap (λ found. with_change (column_of i table) doc (option_map (items_in i) found))
+        ∙ ap (λ found. with_change (column_of i table) doc (option_map (λ d. items_in d i) found))
         (sym (ap (λ t. document_at t doc) gone ∙ lookup-remove nat_cmp_total table doc doc lawful.ascends
         ∙ ap (λ r. cond (is_eq r) None (document_at table doc)) (tied_itself nat_cmp_total doc)))
 
@@ -116,7 +117,7 @@ joined None rest next is = cc
 pub update_changes : (fields : List Field) (changes : List Change) (document next : Document) (i : ℕ) (field : Field) (change : Change)
     → IsLawfulDocument fields document → updated fields changes document ≡ Some next
     → slice_get fields i ≡ Some field → slice_get changes i ≡ Some change
-    → changed field.kind field.value change (items_in i document) ≡ Some (items_in i next)
+    → changed field.kind field.value change (items_in document i) ≡ Some (items_in next i)
 update_changes [] changes document next i field change lawful is at act = cc
 update_changes (f ∷ fields) [] document next i field change lawful is at act = cc
 update_changes (f ∷ fields) (c ∷ changes) [] next i field change lawful is at act = absurd lawful
@@ -125,8 +126,8 @@ update_changes (f ∷ fields) (c ∷ changes) (items ∷ document) next zero fie
     let same : f ≡ field = cc at in
     let done : c ≡ change = cc act in
     ap (λ g. changed g.kind g.value change items) (sym same) ∙ ap (λ d. changed f.kind f.value d items) (sym done)
-    ∙ parts.is_first ∙ ap (λ n. Some (items_in 0 n)) (sym parts.is_next)
+    ∙ parts.is_first ∙ ap (λ n. Some (items_in n 0)) (sym parts.is_next)
 update_changes (f ∷ fields) (c ∷ changes) (items ∷ document) next (suc i) field change lawful is at act =
     let parts = joined (changed f.kind f.value c items) (updated fields changes document) next is in
     update_changes fields changes document parts.document i field change lawful.1 parts.is_rest at act
-    ∙ ap (λ n. Some (items_in (suc i) n)) (sym parts.is_next)
+    ∙ ap (λ n. Some (items_in n (suc i))) (sym parts.is_next)

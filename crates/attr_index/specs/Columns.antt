@@ -1,10 +1,11 @@
 -- The part of a table that is one attribute's.
-use Rattle.std.specs.Prelude.{ℕ, ℤ, List, [], ◌∷◌, map, slice_get, Option, None, Some, unwrap_or, option_map}
+use Rattle.std.specs.Prelude.{ℕ, ℤ, List, [], ◌∷◌, map, Option, None, Some, unwrap_or, option_map}
 use Rattle.std.specs.BTreeMap.{insert_entry, is_at}
 use Rattle.std.specs.List.{find, filter_map, flat_map, AllByRecursion}
 use Rattle.std.specs.List.Sorted.{IsStrictlySortedBy}
 use Rattle.std.specs.Map.{keys_of, lookup, remove_entry}
 use Rattle.std.specs.Ordering.{nat_cmp, is_eq}
+use Rattle.attr_types.specs.Query.{items_in}
 use Rattle.attr_types.specs.Lawful.{IsDocNumber, IsLawfulItems}
 use Rattle.attr_types.specs.Table.{Table}
 use Rattle.attr_types.specs.Value.{Document, value_cmp, values_of}
@@ -26,13 +27,9 @@ pub record IsLawfulColumn (kind : Kind) (column : Column) : Type 0 where
 abbrev pub table_of_column : Column → Table
 table_of_column column = map (λ e. (e.0, e.1 ∷ [])) column
 
--- the items of a document in the attribute of this number
-abbrev pub items_in : ℕ → Document → List Item
-items_in i document = unwrap_or (slice_get document i) []
-
 -- the column of the attribute of this number
 abbrev pub column_of : ℕ → Table → Column
-column_of i table = map (λ e. (e.0, items_in i e.1)) table
+column_of i table = map (λ e. (e.0, items_in e.1 i)) table
 
 -- the values that the items of a column have
 abbrev pub column_values : Column → List Value

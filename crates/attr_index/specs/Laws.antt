@@ -7,6 +7,7 @@ use Rattle.std.specs.Map.{keys_of, lookup, remove_entry}
 use Rattle.std.specs.Ordering.{nat_cmp, is_eq}
 use Rattle.attr_types.specs.Lawful.{IsDocNumber, IsLawfulDocument, IsLawfulTable}
 use Rattle.attr_types.specs.Change.{changed}
+use Rattle.attr_types.specs.Query.{items_in}
 use Rattle.attr_types.specs.Table.{Table, document_at, op_doc, step, updated}
 use Rattle.attr_types.specs.Value.{Document, value_cmp}
 use Rattle.attr_types.specs.declared.change.Change.{Change}
@@ -15,7 +16,7 @@ use Rattle.attr_types.specs.declared.items.Item.{Item}
 use Rattle.attr_types.specs.declared.kind.Kind.{Kind}
 use Rattle.attr_types.specs.declared.op.Op.{Op}
 use Rattle.attr_types.specs.declared.value.Value.{Value}
-use Rattle.attr_index.specs.Columns.{Column, IsLawfulColumn, column_of, column_values, items_in, items_of, with_change}
+use Rattle.attr_index.specs.Columns.{Column, IsLawfulColumn, column_of, column_values, items_of, with_change}
 use Rattle.attr_index.specs.Index.{Index, IsFormed, IsIndexOf, HasValues, HasLists, list_of, weight_in}
 use Rattle.attr_index.specs.Index.{with_posting, without_posting}
 use Rattle.attr_index.specs.Changes.{HasItems, or_else, IsBetween, IsPartway, first_weights}
@@ -31,14 +32,14 @@ ColumnIsLawful = (fields : List Field) (table : Table) (i : ℕ) (field : Field)
 abbrev pub OperationChangesColumn : Type 0
 OperationChangesColumn = (fields : List Field) (table next : Table) (op : Op) (i : ℕ) → IsLawfulTable fields table
     → step fields table op ≡ Some next
-    → column_of i next ≡ with_change (column_of i table) (op_doc op) (option_map (items_in i) (document_at next (op_doc op)))
+    → column_of i next ≡ with_change (column_of i table) (op_doc op) (option_map (λ d. items_in d i) (document_at next (op_doc op)))
 
 -- an update makes each attribute's change on the document's items in it
 abbrev pub UpdateChangesItems : Type 0
 UpdateChangesItems = (fields : List Field) (changes : List Change) (document next : Document) (i : ℕ) (field : Field) (change : Change)
     → IsLawfulDocument fields document → updated fields changes document ≡ Some next
     → slice_get fields i ≡ Some field → slice_get changes i ≡ Some change
-    → changed field.kind field.value change (items_in i document) ≡ Some (items_in i next)
+    → changed field.kind field.value change (items_in document i) ≡ Some (items_in next i)
 
 -- ---- an index of a column
 
