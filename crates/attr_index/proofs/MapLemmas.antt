@@ -67,9 +67,6 @@ append_none [] = refl
 append_none (x ∷ xs) = ap (λ rest. x ∷ rest) (append_none xs)
 
 module _ (start : Index) (doc : ℕ) (entries : List (Value × ℤ)) where
-  pub walk_begins : (rest : List (Value × ℤ)) → rest ≡ entries → IsFormed start → IsWalk start doc entries rest start
-  walk_begins rest is formed = record { done = []; joins = is; between = record { formed = formed; lists = λ v. refl } }
-
   pub walk_ends : (rest : List (Value × ℤ)) (index : Index) → IsWalk start doc entries rest index → rest ≡ []
       → IsBetween start doc (λ v. lookup (is_at (value_cmp v)) entries) (λ v. None) index
   walk_ends rest index p is =

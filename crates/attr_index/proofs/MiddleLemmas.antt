@@ -65,39 +65,6 @@ between_same start doc a b r s index p same alike = record {
       ∙ ap (λ o. settled (b value) o doc (list_of value start)) (sym (alike value));
 }
 
--- and the table
-pub table_after : (table : Column) (start : Index) (doc : ℕ) (old new : List Item) (index : Index) → IsPartway start doc new old index
-    → IsStrictlySortedBy nat_cmp (keys_of table) → IsIndexOf table start → items_of table doc ≡ old
-    → IsIndexOf (insert_entry nat_cmp table doc new) index
-table_after table start doc old new index p up of is =
-    ends table start doc (Some new) index up of (subst (λ xs. IsPartway start doc new xs index) (sym is) p)
-
--- ---- items whose values ascend: none was seen before
-unseen_by : (value : Value) (before : List Item) → AllByRecursion (λ (x : Item). is_eq (value_cmp value x.value) ≡ false) before
-    → weight_in value before ≡ None
-unseen_by value [] apart = refl
-unseen_by value (first ∷ before) apart =
-    ap (λ b. option_map (λ (x : Item). x.weight) (cond b (Some first) (find (λ (x : Item). is_eq (value_cmp value x.value)) before))) apart.0
-    ∙ unseen_by value before apart.1
-
-below_last : (before : List Item) (item : Item) (rest : List Item) → AscendByValue (before ++ item ∷ rest)
-    → AllByRecursion (λ (x : Item). is_eq (value_cmp item.value x.value) ≡ false) before
-unfolding IsStrictlySortedBy
-below_last [] item rest up = tt
-below_last (first ∷ before) item rest up = (
-  ap is_eq (value_cmp_total.antisymm item.value first.value ∙ ap ordering_reverse (at_place before up.0)),
-  below_last before item rest up.1,
-)
-  where
-    at_place : (xs : List Item) → AllByRecursion (λ y. value_cmp first.value y ≡ Less) (values_of (xs ++ item ∷ rest))
-        → value_cmp first.value item.value ≡ Less
-    at_place [] all = all.0
-    at_place (x ∷ xs) all = at_place xs all.1
-
-pub unseen : (before : List Item) (item : Item) (rest : List Item) → AscendByValue (before ++ item ∷ rest)
-    → weight_in item.value before ≡ None
-unseen before item rest up = unseen_by item.value before (below_last before item rest up)
-
 -- a map's entries as items
 pub weight_in-entries : (value : Value) (entries : List (Value × ℤ))
     → weight_in value (map (λ (e : Value × ℤ). let item : Item = record { value = e.0; weight = e.1 } in item) entries) ≡ lookup (is_at (value_cmp value)) entries

@@ -52,42 +52,13 @@ pub keys-with_list : (value : Value) (first : ℕ × ℤ) (rest : List (ℕ × �
 keys-with_list value first rest index formed there =
     keys-insert_there value_cmp_total index value (first ∷ rest) formed.ascends there
 
--- every other value keeps its list
-pub lookup-with_list_other : (value : Value) (docs : List (ℕ × ℤ)) (index : Index) (other : Value) → IsFormed index
-    → is_eq (value_cmp other value) ≡ false
-    → lookup (is_at (value_cmp other)) (with_list value docs index) ≡ lookup (is_at (value_cmp other)) index
-lookup-with_list_other value [] index other formed apart =
-    lookup-remove value_cmp_total index value other formed.ascends
-    ∙ ap (λ b. cond b None (lookup (is_at (value_cmp other)) index)) (apart_back other value apart)
-lookup-with_list_other value (first ∷ rest) index other formed apart =
-    lookup-insert_other value_cmp_total index value (first ∷ rest) other apart
-
--- a value whose list has a document is in the index
-pub value-there : (value : Value) (doc : ℕ) (weight : ℤ) (index : Index)
-    → lookup (is_at (nat_cmp doc)) (list_of value index) ≡ Some weight → IsSome (lookup (is_at (value_cmp value)) index)
-value-there value doc weight index there = told (lookup (is_at (value_cmp value)) index) there
-  where
-    told : (o : Option (List (ℕ × ℤ))) → lookup (is_at (nat_cmp doc)) (unwrap_or o []) ≡ Some weight → IsSome o
-    told None is = cc
-    told (Some docs) is = refl
-
 length-insert : {Z : Type 0} (k : ℕ) (z : Z) (es : List (ℕ × Z)) → 0 < length (insert_entry nat_cmp es k z)
 length-insert k z [] = omega arith
 length-insert k z (e ∷ es) =
     elim (nat_cmp k e.0) as (λ r. 0 < length (match_ordering r ((k, z) ∷ e ∷ es) ((e.0, z) ∷ es) (e ∷ insert_entry nat_cmp es k z)))
     [ Less ↦ omega arith | Equal ↦ omega arith | Greater ↦ omega arith ]
 
--- ---- steps
 module _ (start : Index) (doc : ℕ) where
-  -- the pair that a removal takes is there
-  pub removal-there : (new removed rest : List Item) (item : Item) (index : Index)
-      → HasItems start doc (removed ++ item ∷ rest) → IsPartway start doc new removed index
-      → weight_in item.value new ≡ None → weight_in item.value removed ≡ None
-      → lookup (is_at (nat_cmp doc)) (list_of item.value index) ≡ Some item.weight
-  removal-there new removed rest item index has p gone none =
-      ap (lookup (is_at (nat_cmp doc))) (untouched start doc new removed index item.value p gone none)
-      ∙ has item.value ∙ weight_in-push_new item removed rest none
-
   -- what it leaves is the list of the value in the new table: where that is empty, no document has it
   pub removal-leaves : (table : Column) (new : Option (List Item)) (removed : List Item) (value : Value) (index : Index)
       → IsStrictlySortedBy nat_cmp (keys_of table) → IsIndexOf table start
@@ -97,23 +68,6 @@ module _ (start : Index) (doc : ℕ) where
   removal-leaves table new removed value index up of p gone none =
       ap (remove_entry (is_at (nat_cmp doc))) (untouched start doc (unwrap_or new []) removed index value p gone none ∙ of.lists value)
       ∙ sym (ap (λ o. placed o doc (documents_with value table)) gone) ∙ sym (documents_with-change table doc new value up)
-
-  -- in the list of a value of the new items the document is, all through the second walk
-  pub addition-stays : (new : List Item) (removed : List Item) (value : Value) (weight : ℤ) (index : Index)
-      → IsPartway start doc new removed index
-      → weight_in value new ≡ Some weight → lookup (is_at (nat_cmp doc)) (list_of value index) ≡ Some weight
-  addition-stays new removed value weight index p has =
-      ap (lookup (is_at (nat_cmp doc))) (p.lists value ∙ ap (λ o. settled o (weight_in value removed) doc (list_of value start)) has)
-      ∙ lookup-insert_here nat_cmp_total (list_of value start) doc weight
-
-  -- and this list is that of the new table
-  pub addition-settled : (table : Column) (new : Option (List Item)) (removed : List Item) (value : Value) (weight : ℤ) (index : Index)
-      → IsStrictlySortedBy nat_cmp (keys_of table) → IsIndexOf table start → IsPartway start doc (unwrap_or new []) removed index
-      → weight_in value (unwrap_or new []) ≡ Some weight → list_of value index ≡ documents_with value (with_change table doc new)
-  addition-settled table new removed value weight index up of p has =
-      p.lists value ∙ ap (λ o. settled o (weight_in value removed) doc (list_of value start)) has
-      ∙ ap (λ docs. insert_entry nat_cmp docs doc weight) (of.lists value)
-      ∙ sym (ap (λ o. placed o doc (documents_with value table)) has) ∙ sym (documents_with-change table doc new value up)
 
 -- a lookup after an addition: a value that was there keeps its place, and a new one comes to its own
 pub keys-with_posting : (value : Value) (doc : ℕ) (weight : ℤ) (index : Index) → IsFormed index
