@@ -11,11 +11,11 @@ use std::alloc::{AllocError, Global};
 pub fn empty_document(alloc: Global, fields: &[Field]) -> Result<FieldItems, AllocError>
     ensures { IfOk result (λ document. document ≡ without_items fields.now) }
 {
-    let mut document = FieldItems::new(alloc);
+    let mut document = Vec::with_capacity(alloc, fields.len())?;
     for _ in fields {
         document.push(Items::new(alloc))?;
     }
-    Ok(document)
+    Ok(FieldItems::from_vec(document))
 }
 
 /// A document after each attribute's change, or none where one of these is skipped.
@@ -28,15 +28,15 @@ pub fn updated_document(
     requires { IsLawfulDocument fields.now document.now }
     ensures { IfOk result (λ new. new ≡ updated fields.now changes document.now) }
 {
-    let mut new = FieldItems::new(alloc);
+    let mut new = Vec::with_capacity(alloc, fields.len())?;
     let mut fields_left = fields;
     let mut document_left = document;
     for change in changes.into_vec() {
         let [field, fields @ ..] = fields_left else {
-            return Ok(Some(new));
+            return Ok(Some(FieldItems::from_vec(new)));
         };
         let [items, document @ ..] = document_left else {
-            return Ok(Some(new));
+            return Ok(Some(FieldItems::from_vec(new)));
         };
         match changed_items(alloc, field.kind, field.value, change, items)? {
             Some(items) => new.push(items)?,
@@ -45,5 +45,5 @@ pub fn updated_document(
         fields_left = fields;
         document_left = document;
     }
-    Ok(Some(new))
+    Ok(Some(FieldItems::from_vec(new)))
 }

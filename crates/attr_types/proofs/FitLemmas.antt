@@ -69,7 +69,7 @@ below_decides Less = (λ _. refl, λ _. refl)
 below_decides Equal = (λ is. cc, λ is. cc)
 below_decides Greater = (λ is. cc, λ is. cc)
 
-ascends_then : (list : List Value) → ascends list ≡ true → IsStrictlySortedBy value_cmp list
+pub ascends_then : (list : List Value) → ascends list ≡ true → IsStrictlySortedBy value_cmp list
 unfolding IsStrictlySortedBy
 ascends_then [] is = tt
 ascends_then (first ∷ []) is = (tt, tt)
@@ -79,7 +79,7 @@ ascends_then (first ∷ second ∷ rest) is =
     let up = ascends_then (second ∷ rest) parts.1 in
     ((below, below_all value_cmp_total first second below rest up.0), up)
 
-then_ascends : (list : List Value) → IsStrictlySortedBy value_cmp list → ascends list ≡ true
+pub then_ascends : (list : List Value) → IsStrictlySortedBy value_cmp list → ascends list ≡ true
 unfolding IsStrictlySortedBy
 then_ascends [] up = refl
 then_ascends (first ∷ []) up = refl

@@ -74,9 +74,9 @@ impl<T: Drop> ListOf<T> {
     pub fn of_one(alloc: Global, item: T) -> Result<ListOf<T>, AllocError>
         ensures { IfOk result (λ list. list ≡ item ∷ []) }
     {
-        let mut list = ListOf::new(alloc);
+        let mut list = Vec::with_capacity(alloc, 1)?;
         list.push(item)?;
-        Ok(list)
+        Ok(ListOf { list })
     }
 
     pub fn push(&mut self, item: T) -> Result<(), AllocError>

@@ -2,7 +2,6 @@ pub mod WordLemmas
 pub mod TextLemmas
 pub mod ValueLemmas
 pub mod ItemLemmas
-pub mod OrderLemmas
 pub mod PairLemmas
 pub mod IndexLemmas
 pub mod LawfulLemmas

@@ -3,4 +3,4 @@ use Rattle.attr_types.specs.Table.{without_items}
 use Rattle.attr_plain.proofs.document.empty_document.Given as goal
 
 abbrev pub invariant-loop : goal.invariant-loop
-invariant-loop l = l.document ≡ without_items (take l.index l.fields)
+invariant-loop l = l.document.items ≡ without_items (take l.index l.fields)

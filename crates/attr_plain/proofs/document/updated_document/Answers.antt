@@ -11,4 +11,4 @@ returns c =
     let rest : into_iter_items loop.change-iterator ≡ [] = nil_from_length _ (sym loop.change-iterator.rest.ok.0 ∙ c.in-None.ensures.steps.0) in
     let last = ap (λ changes. updated loop.fields_left.now changes loop.document_left.now) rest
     ∙ no_changes loop.fields_left.now loop.document_left.now in
-    ap Some (sym (append-nil loop.new)) ∙ sym (ap (option_map (λ more. loop.new ++ more)) last) ∙ loop.invariant.whole
+    ap Some c.from_vec-2.ensures ∙ ap Some (sym (append-nil loop.new.items)) ∙ sym (ap (option_map (λ more. loop.new.items ++ more)) last) ∙ loop.invariant.whole

@@ -7,7 +7,7 @@ use Rattle.attr_plain.proofs.document.updated_document.Given as goal
 -- what is done, before what the rest gives, is what all give
 abbrev pub invariant-loop-change : goal.invariant-loop-change
 invariant-loop-change l = record {
-  whole : option_map (λ rest. l.new ++ rest) (updated l.fields_left (into_iter_items l.change-iterator) l.document_left)
+  whole : option_map (λ rest. l.new.items ++ rest) (updated l.fields_left (into_iter_items l.change-iterator) l.document_left)
       ≡ updated l.fields l.fn.changes l.document;
   lawful : IsLawfulDocument l.fields_left l.document_left;
 }

@@ -2,7 +2,7 @@ use Rattle.std.proofs.Common.{Bool, ◌↔◌, sym, subst}
 use Rattle.std.specs.Bool.{IsTrue}
 use Rattle.attr_types.specs.Lawful.{AscendByValue}
 use Rattle.attr_types.specs.Value.{values_of}
-use Rattle.check_images.proofs.OrderLemmas.{ascends_then, then_ascends}
+use Rattle.attr_types.proofs.FitLemmas.{ascends_then, then_ascends}
 use Rattle.check_images.proofs.documents.ascend.Goals as goal
 
 pub returns : goal.returns
