@@ -1,6 +1,6 @@
 ghost use Rattle.std.specs.Prelude.{◌≡◌, IfOk, OnOk, OnErr, [], option_and_then, option_copied};
 ghost use Rattle.std.specs.List.Sorted.{IsStrictlyIncreasing};
-ghost use Rattle.attr_types.specs.Lawful.{OpFits};
+ghost use Rattle.attr_types.specs.Lawful.{HasType, IsLawfulTable, OpFits};
 ghost use Rattle.attr_types.specs.Query.{tree_of};
 ghost use Rattle.attr_types.specs.Table.{hits as hits_of, updated, to_update, document_at};
 ghost use Rattle.attr_plain.specs.Answers.{plain_after, answer_to};
@@ -53,6 +53,15 @@ impl PlainTable {
         ensures { result.now ≡ self.now.fields }
     {
         &self.fields
+    }
+
+    /// The documents that are there, each with its items in each attribute.
+    pub fn documents(&self) -> &BTreeMap<Doc, FieldItems>
+        ensures entries { result.now.entries ≡ self.now.table }
+        ensures lawful { IsLawfulTable self.now.fields self.now.table }
+        ensures typed { HasType self.now.fields self.now.table }
+    {
+        &self.documents
     }
 
     /// A document's items in each attribute, if it is there.

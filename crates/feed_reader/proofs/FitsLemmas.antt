@@ -47,11 +47,11 @@ some_text_type : (o : Option (List ℕ)) (v : Value) → option_and_then text_re
 some_text_type None v e = cc
 some_text_type (Some s) v e = text_type s v e
 
-value_of_type : (t : ValueType) (d : Data) (v : Value) → value_read t d ≡ Ok v → type_of v ≡ t
+pub value_of_type : (t : ValueType) (d : Data) (v : Value) → value_read t d ≡ Ok v → type_of v ≡ t
 value_of_type types.Long d v e = long_type (long_read d) v (or_else_ok BadValue (option_map values.Long (long_read d)) v e)
 value_of_type types.Text d v e = some_text_type (as_str d) v (or_else_ok BadValue (option_and_then text_read (as_str d)) v e)
 
-value_named_type : (t : ValueType) (name : List ℕ) (v : Value) → name_read t name ≡ Ok v → type_of v ≡ t
+pub value_named_type : (t : ValueType) (name : List ℕ) (v : Value) → name_read t name ≡ Ok v → type_of v ≡ t
 value_named_type types.Long name v e = long_type (long_written name) v (or_else_ok BadValue (option_map values.Long (long_written name)) v e)
 value_named_type types.Text name v e = text_type name v (or_else_ok BadValue (text_read name) v e)
 

@@ -1,11 +1,11 @@
 -- What is read of a value is read exactly where the value has its form, and else it is BadValue.
 use Rattle.std.proofs.Common.{◌≡◌, ℕ, ℤ, pos, ◌<◌, ◌≤◌, ◌^◌, Bool, true, false, cond, ◌&&◌, List, [], ◌∷◌, length, map, Option, Some, None, option_map, option_and_then, Result, Ok, Err, refl, arith, nat_lt, nat_le}
-use Rattle.std.specs.Prelude.{IfSome, IsTrue}
+use Rattle.std.specs.Prelude.{IfSome, IsSomeAnd, IsTrue}
 use Rattle.std.specs.List.{AllByRecursion}
 use Rattle.std.specs.Str.Parse.{signed_digits_value}
 use Rattle.std.proofs.lemmas.Bool.{ltb-true, ltb-false, leb-true, leb-false}
 use Rattle.serde_json.specs.Data.{unsigned, negative, float, Data, null, boolean, number, string, array, object, Items, no_items, item, Members, no_members, member}
-use Rattle.serde_json.specs.Find.{get}
+use Rattle.serde_json.specs.Find.{get, as_object}
 use Rattle.attr_types.specs.Change.{with_item}
 use Rattle.attr_types.specs.declared.change.Change.{Change}
 use Rattle.attr_types.specs.declared.change.Change.TheVariants as changes
@@ -19,14 +19,23 @@ use Rattle.attr_types.specs.declared.value.Value.{Value}
 use Rattle.attr_types.specs.declared.value.Value.TheVariants as values
 use Rattle.feed_reader.specs.declared.refusal.Refusal.{Refusal}
 use Rattle.feed_reader.specs.declared.refusal.Refusal.TheVariants.{BadValue}
-use Rattle.feed_reader.specs.declared.operation.Form.{Form}
-use Rattle.feed_reader.specs.declared.operation.Form.TheVariants as forms
+use Rattle.attr_types.specs.declared.change.Act.{Act}
+use Rattle.attr_types.specs.declared.change.Act.TheVariants as acts
+use Rattle.attr_types.specs.declared.change.WeightAct.{WeightAct}
+use Rattle.attr_types.specs.declared.change.WeightAct.TheVariants as weight_acts
+use Rattle.feed_reader.specs.declared.operator.Form.{Form}
+use Rattle.feed_reader.specs.declared.operator.Form.TheVariants as forms
+use Rattle.feed_reader.specs.declared.operator.ItemForm.{ItemForm}
+use Rattle.feed_reader.specs.declared.operator.ItemForm.TheVariants.{New, Amount}
+use Rattle.feed_reader.specs.declared.operator.Way.{Way}
 use Rattle.feed_reader.specs.Answers.{◌>>=◌, or_else}
 use Rattle.feed_reader.specs.Numerals.{is_whole_numeral, is_long_number, long_written}
 use Rattle.feed_reader.specs.Values.{text_read, long_read, value_read, name_read, is_weight_number, small_read, weight_read}
 use Rattle.feed_reader.specs.Items.{values_read, names_read, weighted_after, set_read, plain_item, list_read, some_items_read, items_read, taken_read}
-use Rattle.feed_reader.specs.Grammar.{each_field, put_read, operator_named, operator_form, change_read, operator_read, update_read}
-use Rattle.feed_reader.specs.Forms.{IsLong, IsValue, IsName, IsWeight, AreValues, AreWeights, AreNames, HasListForm, HasWeightsForm, HasNamesForm, HasKindForm, HasItemsForm, HasForm, IsUpdate}
+use Rattle.feed_reader.specs.Operators.{operator_named, operator_form, value_form, weight_form}
+use Rattle.feed_reader.specs.Elements.{by_way, amount_read, place_of_number, place_read, element_read, match_parts, act_read, weight_act_read, at_read, of_read}
+use Rattle.feed_reader.specs.Grammar.{each_field, put_read, change_read, operator_read, update_read}
+use Rattle.feed_reader.specs.Forms.{IsLong, IsValue, IsName, IsWeight, AreValues, AreWeights, AreNames, HasListForm, HasWeightsForm, HasNamesForm, HasKindForm, HasItemsForm, IsPlace, IsElement, HasValueForm, IsMatch, IsChangeAt, IsChangeOf, HasForm, IsUpdate}
 
 -- ---- what an answer tells
 
@@ -210,21 +219,89 @@ items_tell kind t (string s) = some_items_tell kind t (string s)
 items_tell kind t (array ds) = some_items_tell kind t (array ds)
 items_tell kind t (object ms) = some_items_tell kind t (object ms)
 
--- ---- one field
+-- ---- a put's field
 
 pub put_tells : (field : Field) (value : Option Data) → Tells (IfSome value (HasItemsForm field.kind field.value)) (put_read field value)
 put_tells field None = tt
 put_tells field (Some d) = items_tell field.kind field.value d
 
+-- ---- one item, in `match`
+
+amount_tells : (way : Way) (d : Data) → Tells (IsWeight d) (amount_read way d)
+amount_tells way d = tells_then (IsWeight d) (weight_read d) (by_way way) (weight_tells d)
+
+place_tells : (d : Data) → Tells (IsPlace d) (place_read d)
+place_tells (number (unsigned n)) =
+    tells_option (n ≤ 4294967295) (place_of_number n) (tells_if (n ≤ 4294967295) (nat_le n 4294967295) n (tells_le n 4294967295))
+place_tells (number (negative z)) = (refl, never)
+place_tells (number (float x)) = (refl, never)
+place_tells null = (refl, never)
+place_tells (boolean b) = (refl, never)
+place_tells (string s) = (refl, never)
+place_tells (array ds) = (refl, never)
+place_tells (object ms) = (refl, never)
+
+element_tells : (t : ValueType) (d : Data) → Tells (IsElement t d) (element_read t d)
+element_tells t (string s) = name_tells t s
+element_tells t null = value_tells t null
+element_tells t (boolean b) = value_tells t (boolean b)
+element_tells t (number n) = value_tells t (number n)
+element_tells t (array ds) = value_tells t (array ds)
+element_tells t (object ms) = value_tells t (object ms)
+
+act_tells : (t : ValueType) (form : Option ItemForm) (d : Data) → Tells (IfSome form (λ form. HasValueForm t form d)) (act_read t form d)
+act_tells t None d = tt
+act_tells t (Some New) d = tells_then (IsValue t d) (value_read t d) (λ (v : Value). Some (acts.Set v)) (value_tells t d)
+act_tells t (Some (Amount way)) d = tells_then (IsWeight d) (amount_read way d) (λ (n : ℤ). Some (acts.Shift n)) (amount_tells way d)
+
+weight_act_tells : (form : Option ItemForm) (d : Data) → Tells (IfSome form (λ form. IsWeight d)) (weight_act_read form d)
+weight_act_tells None d = tt
+weight_act_tells (Some New) d = tells_then (IsWeight d) (weight_read d) (λ (w : ℤ). Some (weight_acts.Set w)) (weight_tells d)
+weight_act_tells (Some (Amount way)) d = tells_then (IsWeight d) (amount_read way d) (λ (n : ℤ). Some (weight_acts.Shift n)) (amount_tells way d)
+
+-- the parts of a `match`, one after the other
+parts_tell : {A B : Type 0} (P : Data → Type 0) (Q : List ℕ → Data → Type 0) (first : Data → Result A Refusal) (second : List ℕ → Data → Result (Option B) Refusal) (make : A → B → Change)
+    → ((d : Data) → Tells (P d) (first d)) → ((name : List ℕ) (d : Data) → Tells (Q name d) (second name d)) → (o : Option (Data × List ℕ × Data))
+    → Tells (IsSomeAnd o (λ parts. P parts.0 × Q parts.1 parts.2)) (or_else BadValue o >>= λ parts. first parts.0 >>= λ x. second parts.1 parts.2 >>= λ y. Ok (option_map (make x) y))
+parts_tell P Q first second make one two None = (refl, never)
+parts_tell {A} {B} P Q first second make one two (Some (element, name, d)) =
+    tells_and (P element) (Q name d) (first element) (λ (x : A). second name d >>= λ (y : Option B). Ok (option_map (make x) y)) (one element)
+    (λ x is. tells_then (Q name d) (second name d) (λ (y : Option B). option_map (make x) y) (two name d))
+
+at_tells : (t : ValueType) (d : Data) → Tells (IsMatch (IsChangeAt t) d) (at_read t d)
+at_tells t (object ms) =
+    parts_tell IsPlace (λ (name : List ℕ) (d : Data). IfSome (value_form (operator_named name) t) (λ (form : ItemForm). HasValueForm t form d)) place_read
+    (λ (name : List ℕ). act_read t (value_form (operator_named name) t)) changes.At place_tells (λ name. act_tells t (value_form (operator_named name) t)) (match_parts ms)
+at_tells t null = (refl, never)
+at_tells t (boolean b) = (refl, never)
+at_tells t (number n) = (refl, never)
+at_tells t (string s) = (refl, never)
+at_tells t (array ds) = (refl, never)
+
+of_tells : (t : ValueType) (d : Data) → Tells (IsMatch (IsChangeOf t) d) (of_read t d)
+of_tells t (object ms) =
+    parts_tell (IsElement t) (λ (name : List ℕ) (d : Data). IfSome (weight_form (operator_named name)) (λ (form : ItemForm). IsWeight d)) (element_read t)
+    (λ (name : List ℕ). weight_act_read (weight_form (operator_named name))) changes.Of (element_tells t) (λ name. weight_act_tells (weight_form (operator_named name))) (match_parts ms)
+of_tells t null = (refl, never)
+of_tells t (boolean b) = (refl, never)
+of_tells t (number n) = (refl, never)
+of_tells t (string s) = (refl, never)
+of_tells t (array ds) = (refl, never)
+
+-- ---- one field
+
 change_tells : (field : Field) (form : Form) (d : Data) → Tells (HasForm form field.kind field.value d) (change_read field form d)
-change_tells field forms.Items d = tells_then (HasItemsForm field.kind field.value d) (items_read field.kind field.value d) changes.Assign (items_tell field.kind field.value d)
-change_tells field forms.List d = tells_then (HasListForm field.value d) (list_read field.value d) changes.Add (list_tells field.value d)
-change_tells field forms.Weights d = tells_then (HasWeightsForm field.value d) (set_read field.value d) changes.Add (weighted_tells field.value d)
-change_tells field forms.Names d = tells_then (HasNamesForm field.value d) (taken_read field.value d) changes.Take (taken_tells field.value d)
+change_tells field forms.Items d = tells_then (HasItemsForm field.kind field.value d) (items_read field.kind field.value d) (λ (items : List Item). Some (changes.Assign items)) (items_tell field.kind field.value d)
+change_tells field forms.List d = tells_then (HasListForm field.value d) (list_read field.value d) (λ (items : List Item). Some (changes.Add items)) (list_tells field.value d)
+change_tells field forms.Weights d = tells_then (HasWeightsForm field.value d) (set_read field.value d) (λ (items : List Item). Some (changes.Add items)) (weighted_tells field.value d)
+change_tells field forms.Names d = tells_then (HasNamesForm field.value d) (taken_read field.value d) (λ (names : List Value). Some (changes.Take names)) (taken_tells field.value d)
+change_tells field (forms.Amount way) d = tells_then (IsWeight d) (amount_read way d) (λ (n : ℤ). Some (changes.Shift n)) (amount_tells way d)
+change_tells field forms.AtPlace d = at_tells field.value d
+change_tells field forms.OfValue d = of_tells field.value d
 
 operator_tells : (field : Field) (form : Option Form) (d : Data) → Tells (IfSome form (λ form. HasForm form field.kind field.value d)) (operator_read field form d)
 operator_tells field None d = tt
-operator_tells field (Some form) d = tells_then (HasForm form field.kind field.value d) (change_read field form d) (λ (change : Change). Some change) (change_tells field form d)
+operator_tells field (Some form) d = change_tells field form d
 
 pub update_tells : (field : Field) (value : Option Data) → Tells (IfSome value (IsUpdate field)) (update_read field value)
 update_tells field None = tt
@@ -234,7 +311,7 @@ update_tells field (Some (number n)) = (refl, never)
 update_tells field (Some (string s)) = (refl, never)
 update_tells field (Some (array ds)) = (refl, never)
 update_tells field (Some (object no_members)) = (refl, never)
-update_tells field (Some (object (member name d no_members))) = operator_tells field (operator_form (operator_named name) field.kind) d
+update_tells field (Some (object (member name d no_members))) = operator_tells field (operator_form (operator_named name) field.kind field.value) d
 update_tells field (Some (object (member name d (member other e ms)))) = (refl, never)
 
 -- ---- each field

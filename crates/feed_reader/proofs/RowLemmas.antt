@@ -1,30 +1,42 @@
 -- The answer of a line is the first row that holds.
-use Rattle.std.proofs.Common.{◌≡◌, ℕ, suc, zero, ◌+◌, ◌<◌, Bool, true, false, cond, ◌||◌, List, [], ◌∷◌, length, Option, Some, None, is_some, option_and_then, option_map, Result, Ok, Err, refl, sym, ◌∙◌, ap, subst, arith, inl, inr, nat_lt}
+use Rattle.std.proofs.Common.{◌≡◌, ℕ, ℤ, suc, zero, ◌+◌, ◌<◌, Bool, true, false, cond, ◌||◌, List, [], ◌∷◌, length, Option, Some, None, is_some, option_and_then, option_map, Result, Ok, Err, refl, sym, ◌∙◌, ap, subst, arith, inl, inr, nat_lt}
 use Rattle.std.specs.Prelude.{◌≢◌, ◌⊎◌, IsSome, IfSome, IsSomeAnd, IsOk, is_none, codes}
 use Rattle.std.specs.List.{AllByRecursion, list_any}
 use Rattle.std.proofs.lemmas.Bool.{cases_order}
 use Rattle.serde_json.specs.Data.{Data, null, boolean, number, string, array, object, no_members, member}
-use Rattle.serde_json.specs.Find.{get}
+use Rattle.serde_json.specs.Find.{get, as_bool, as_object}
 use Rattle.attr_types.specs.Change.{most_items}
 use Rattle.attr_types.specs.declared.change.Change.{Change}
 use Rattle.attr_types.specs.declared.change.Change.TheVariants as changes
+use Rattle.attr_types.specs.declared.change.Act.{Act}
+use Rattle.attr_types.specs.declared.change.Act.TheVariants as acts
+use Rattle.attr_types.specs.declared.change.WeightAct.{WeightAct}
+use Rattle.attr_types.specs.declared.change.WeightAct.TheVariants as weight_acts
 use Rattle.attr_types.specs.declared.field.Field.{Field}
+use Rattle.attr_types.specs.declared.kind.ValueType.{ValueType}
+use Rattle.attr_types.specs.declared.value.Value.{Value}
 use Rattle.attr_types.specs.declared.items.Item.{Item}
 use Rattle.attr_types.specs.declared.op.Op.{Op}
 use Rattle.feed_reader.specs.declared.operation.OpName.{OpName}
 use Rattle.feed_reader.specs.declared.operation.OpName.TheVariants.{Put, Update, Remove}
-use Rattle.feed_reader.specs.declared.operation.Form.{Form}
+use Rattle.feed_reader.specs.declared.operator.Form.{Form}
+use Rattle.feed_reader.specs.declared.operator.Form.TheVariants as forms
+use Rattle.feed_reader.specs.declared.operator.ItemForm.{ItemForm}
+use Rattle.feed_reader.specs.declared.operator.ItemForm.TheVariants.{New, Amount}
 use Rattle.feed_reader.specs.declared.operation.Asked.{Asked}
 use Rattle.feed_reader.specs.declared.operation.Asked.TheVariants as asks
 use Rattle.feed_reader.specs.declared.refusal.Refusal.{Refusal}
 use Rattle.feed_reader.specs.declared.refusal.Refusal.TheVariants.{NotJson, NoOperation, BadId, BadValue, Unsupported, TooManyItems}
 use Rattle.feed_reader.specs.Answers.{◌>>=◌, or_else}
-use Rattle.feed_reader.specs.Forms.{HasItemsForm, IsUpdate}
-use Rattle.feed_reader.specs.Grammar.{json_read, only_one, op_name_of, id_of, if_object, fields_of, each_field, put_read, operator_named, operator_form, change_read, operator_read, update_read, all_some, asked_of, has_condition, op_asked, supported, members_given, is_over, some_over, gives_too_many, op_of_value, op_of_line}
-use Rattle.feed_reader.specs.Items.{member_count}
-use Rattle.feed_reader.specs.Rows.{IsJson, name_of, HasNoOperation, IsId, HasBadId, IsObject, HasFields, HasForms, HasBadValue, SomeField, HasOtherOperator, AsksForOther, IsUnsupported, GivesTooMany, HasTooMany, row_number, HasRow, IsFirstRow, RefusedByFirstRow, TakenWithoutRow}
+use Rattle.feed_reader.specs.Forms.{HasItemsForm, IsMatch, IsUpdate}
+use Rattle.feed_reader.specs.Operators.{operator_named, operator_form, value_form, weight_form}
+use Rattle.feed_reader.specs.Elements.{amount_read, place_read, element_read, match_parts, act_read, weight_act_read, at_read, of_read}
+use Rattle.feed_reader.specs.Values.{value_read, weight_read}
+use Rattle.feed_reader.specs.Grammar.{json_read, only_one, op_name_of, id_of, if_object, fields_of, each_field, put_read, operator_read, update_read, all_some, created, create_of, asked_of, has_other_member, op_asked, supported, members_given, is_over, gives_too_many, op_of_value, op_of_line}
+use Rattle.feed_reader.specs.Items.{items_read, list_read, set_read, taken_read, member_count}
+use Rattle.feed_reader.specs.Rows.{IsJson, name_of, HasNoOperation, IsId, HasBadId, IsBoolean, IsObject, HasFields, EachHas, HasForms, HasBadValue, SomeField, IsOther, HasOtherOperator, AsksForOther, RemovesAndCreates, IsUnsupported, GivesTooMany, HasTooMany, row_number, HasRow, IsFirstRow, RefusedByFirstRow, TakenWithoutRow}
 use Rattle.feed_reader.proofs.FitsLemmas.{bind_ok, or_else_ok}
-use Rattle.feed_reader.proofs.FormLemmas.{Tells, TellsBool, never, tells_same, tells_then, tells_lt, put_tells, update_tells, each_tells}
+use Rattle.feed_reader.proofs.FormLemmas.{Tells, TellsSome, TellsBool, never, tells_same, tells_and, tells_then, tells_option, tells_lt, put_tells, update_tells, each_tells}
 use Rattle.feed_reader.proofs.IdLemmas.{form_of_id, id_of_form}
 use Rattle.feed_reader.proofs.Json.{json_there, json_none}
 
@@ -155,32 +167,113 @@ with_fields {A} P d read_of one = at (fields_of d) refl where
       tells_same (P members) ((members : Data) × HasFields d members × P members) (read_of members) (λ p. (members, has, p))
       (λ all. let there = fields_there d all.0 all.1 in let same : all.0 ≡ members = cc in subst P same all.2) (one members)
 
-forms_tell : (fields : List Field) (operation : OpName) (d : Data) → Tells (HasForms fields operation d) (asked_of fields operation d)
+boolean_tells : (d : Data) → TellsSome (IsBoolean d) (as_bool d)
+boolean_tells (boolean b) = tt
+boolean_tells null = never
+boolean_tells (number n) = never
+boolean_tells (string s) = never
+boolean_tells (array ds) = never
+boolean_tells (object ms) = never
+
+create_tells : (o : Option Data) → TellsSome (IfSome o IsBoolean) (created o)
+create_tells None = tt
+create_tells (Some d) = boolean_tells d
+
+-- what is read of each field, after `create`
+each_has : {X : Type 0} (fields : List Field) (d : Data) (read_of : Field → Option Data → Result X Refusal) (make : Bool → List X → Asked) (P : Field → Data → Type 0)
+    → ((field : Field) (value : Option Data) → Tells (IfSome value (P field)) (read_of field value))
+    → Tells (IfSome (get (codes "create") d) IsBoolean × EachHas P fields d)
+    (or_else BadValue (create_of d) >>= λ create. or_else BadValue (fields_of d) >>= λ members. each_field read_of fields members >>= λ xs. Ok (make create xs))
+each_has {X} fields d read_of make P one =
+    tells_and (IfSome (get (codes "create") d) IsBoolean) (EachHas P fields d) (or_else BadValue (create_of d))
+    (λ (create : Bool). or_else BadValue (fields_of d) >>= λ (members : Data). each_field read_of fields members >>= λ (xs : List X). Ok (make create xs))
+    (tells_option (IfSome (get (codes "create") d) IsBoolean) (create_of d) (create_tells (get (codes "create") d)))
+    (λ create is.
+    with_fields (λ (members : Data). AllByRecursion (λ (field : Field). IfSome (get field.name members) (P field)) fields) d
+    (λ (members : Data). each_field read_of fields members >>= λ (xs : List X). Ok (make create xs))
+    (λ members. tells_then (AllByRecursion (λ (field : Field). IfSome (get field.name members) (P field)) fields) (each_field read_of fields members) (make create)
+    (each_tells read_of (λ (field : Field) (value : Option Data). IfSome value (P field)) members one fields)))
+
+forms_tell : (fields : List Field) (operation : OpName) (d : Data) → Tells (HasForms fields operation d) (asked_of fields operation (create_of d) (fields_of d))
 unfolding asked_of
-forms_tell fields Put d =
-    with_fields (λ (members : Data). AllByRecursion (λ (field : Field). IfSome (get field.name members) (HasItemsForm field.kind field.value)) fields) d
-    (λ (members : Data). each_field put_read fields members >>= λ (document : List (List Item)). Ok (asks.Put document))
-    (λ members. tells_then (AllByRecursion (λ (field : Field). IfSome (get field.name members) (HasItemsForm field.kind field.value)) fields) (each_field put_read fields members) asks.Put
-    (each_tells put_read (λ (field : Field) (value : Option Data). IfSome value (HasItemsForm field.kind field.value)) members put_tells fields))
-forms_tell fields Update d =
-    with_fields (λ (members : Data). AllByRecursion (λ (field : Field). IfSome (get field.name members) (IsUpdate field)) fields) d
-    (λ (members : Data). each_field update_read fields members >>= λ (found : List (Option Change)). Ok (asks.Update (all_some found)))
-    (λ members. tells_then (AllByRecursion (λ (field : Field). IfSome (get field.name members) (IsUpdate field)) fields) (each_field update_read fields members) (λ (found : List (Option Change)). asks.Update (all_some found))
-    (each_tells update_read (λ (field : Field) (value : Option Data). IfSome value (IsUpdate field)) members update_tells fields))
+forms_tell fields Put d = each_has fields d put_read (λ (create : Bool) (document : List (List Item)). asks.Put document) (λ (field : Field). HasItemsForm field.kind field.value) put_tells
+forms_tell fields Update d = each_has fields d update_read (λ (create : Bool) (found : List (Option Change)). asks.Update create (all_some found)) IsUpdate update_tells
 forms_tell fields Remove d = tt
 
 -- ---- 5. what is supported
 
-form_tells : (field : Field) (form : Option Form) (d : Data) (change : Option Change) → operator_read field form d ≡ Ok change → TellsBool (form ≡ None) (is_none change)
-form_tells field None d change e = let is : None ≡ change = cc in subst (λ (c : Option Change). TellsBool (let form : Option Form = None in form ≡ None) (is_none c)) is refl
-form_tells field (Some form) d change e =
-    let made = bind_ok (change_read field form d) (λ (c : Change). Ok (Some c)) change e in
-    let is : Some made.0 ≡ change = cc in
-    subst (λ (c : Option Change). TellsBool (Some form ≡ None) (is_none c)) is (λ nothing. cc)
+made_known : {A : Type 0} (make : A → Change) (said : Result A Refusal) (change : Option Change) → (said >>= λ x. Ok (Some (make x))) ≡ Ok change → TellsBool ⊥ (is_none change)
+made_known make (Ok x) change e = let is : Some (make x) ≡ change = cc in subst (λ (c : Option Change). TellsBool ⊥ (is_none c)) is never
+made_known make (Err refusal) change e = cc
+
+act_known : (t : ValueType) (form : Option ItemForm) (d : Data) (act : Option Act) → act_read t form d ≡ Ok act → TellsBool (form ≡ None) (is_none act)
+act_known t None d act e = let is : None ≡ act = cc in subst (λ (a : Option Act). TellsBool (let form : Option ItemForm = None in form ≡ None) (is_none a)) is refl
+act_known t (Some New) d act e =
+    let one = bind_ok (value_read t d) (λ (v : Value). Ok (Some (acts.Set v))) act e in
+    let is : Some (acts.Set one.0) ≡ act = cc in
+    subst (λ (a : Option Act). TellsBool (Some New ≡ None) (is_none a)) is (λ nothing. cc)
+act_known t (Some (Amount way)) d act e =
+    let one = bind_ok (amount_read way d) (λ (n : ℤ). Ok (Some (acts.Shift n))) act e in
+    let is : Some (acts.Shift one.0) ≡ act = cc in
+    subst (λ (a : Option Act). TellsBool (Some (Amount way) ≡ None) (is_none a)) is (λ nothing. cc)
+
+weight_act_known : (form : Option ItemForm) (d : Data) (act : Option WeightAct) → weight_act_read form d ≡ Ok act → TellsBool (form ≡ None) (is_none act)
+weight_act_known None d act e = let is : None ≡ act = cc in subst (λ (a : Option WeightAct). TellsBool (let form : Option ItemForm = None in form ≡ None) (is_none a)) is refl
+weight_act_known (Some New) d act e =
+    let one = bind_ok (weight_read d) (λ (w : ℤ). Ok (Some (weight_acts.Set w))) act e in
+    let is : Some (weight_acts.Set one.0) ≡ act = cc in
+    subst (λ (a : Option WeightAct). TellsBool (Some New ≡ None) (is_none a)) is (λ nothing. cc)
+weight_act_known (Some (Amount way)) d act e =
+    let one = bind_ok (amount_read way d) (λ (n : ℤ). Ok (Some (weight_acts.Shift n))) act e in
+    let is : Some (weight_acts.Shift one.0) ≡ act = cc in
+    subst (λ (a : Option WeightAct). TellsBool (Some (Amount way) ≡ None) (is_none a)) is (λ nothing. cc)
+
+-- the operator in `match` makes no change exactly where it is none
+parts_known : {A B : Type 0} (o : Option (Data × List ℕ × Data)) (first : Data → Result A Refusal) (second : List ℕ → Data → Result (Option B) Refusal) (make : A → B → Change) (Q : List ℕ → Type 0) (change : Option Change)
+    → ((name : List ℕ) (d : Data) (y : Option B) → second name d ≡ Ok y → TellsBool (Q name) (is_none y))
+    → (or_else BadValue o >>= λ parts. first parts.0 >>= λ x. second parts.1 parts.2 >>= λ y. Ok (option_map (make x) y)) ≡ Ok change
+    → TellsBool (IsSomeAnd o (λ parts. Q parts.1)) (is_none change)
+parts_known None first second make Q change known e = cc
+parts_known {A} {B} (Some (element, name, d)) first second make Q change known e =
+    let one = bind_ok (first element) (λ (x : A). second name d >>= λ (y : Option B). Ok (option_map (make x) y)) change e in
+    let two = bind_ok (second name d) (λ (y : Option B). Ok (option_map (make one.0) y)) change one.2 in
+    let is : option_map (make one.0) two.0 ≡ change = cc in
+    subst (λ (c : Option Change). TellsBool (Q name) (is_none c)) is (at one.0 two.0 (known name d two.0 two.1)) where
+      at : (x : A) (y : Option B) → TellsBool (Q name) (is_none y) → TellsBool (Q name) (is_none (option_map (make x) y))
+      at x None t = t
+      at x (Some y) t = t
+
+form_tells : (field : Field) (form : Option Form) (d : Data) (change : Option Change) → operator_read field form d ≡ Ok change → TellsBool (IsOther field.value form d) (is_none change)
+form_tells field None d change e = let is : None ≡ change = cc in subst (λ (c : Option Change). TellsBool (Unit {0}) (is_none c)) is tt
+form_tells field (Some forms.Items) d change e = made_known changes.Assign (items_read field.kind field.value d) change e
+form_tells field (Some forms.List) d change e = made_known changes.Add (list_read field.value d) change e
+form_tells field (Some forms.Weights) d change e = made_known changes.Add (set_read field.value d) change e
+form_tells field (Some forms.Names) d change e = made_known changes.Take (taken_read field.value d) change e
+form_tells field (Some (forms.Amount way)) d change e = made_known changes.Shift (amount_read way d) change e
+form_tells field (Some forms.AtPlace) d change e = at d e where
+  at : (d : Data) → at_read field.value d ≡ Ok change → TellsBool (IsOther field.value (Some forms.AtPlace) d) (is_none change)
+  at (object ms) e =
+      parts_known (match_parts ms) place_read (λ (name : List ℕ). act_read field.value (value_form (operator_named name) field.value)) changes.At
+      (λ (name : List ℕ). value_form (operator_named name) field.value ≡ None) change (λ name. act_known field.value (value_form (operator_named name) field.value)) e
+  at null e = cc
+  at (boolean b) e = cc
+  at (number n) e = cc
+  at (string s) e = cc
+  at (array ds) e = cc
+form_tells field (Some forms.OfValue) d change e = at d e where
+  at : (d : Data) → of_read field.value d ≡ Ok change → TellsBool (IsOther field.value (Some forms.OfValue) d) (is_none change)
+  at (object ms) e =
+      parts_known (match_parts ms) (element_read field.value) (λ (name : List ℕ). weight_act_read (weight_form (operator_named name))) changes.Of
+      (λ (name : List ℕ). weight_form (operator_named name) ≡ None) change (λ name. weight_act_known (weight_form (operator_named name))) e
+  at null e = cc
+  at (boolean b) e = cc
+  at (number n) e = cc
+  at (string s) e = cc
+  at (array ds) e = cc
 
 update_known : (field : Field) (value : Option Data) (change : Option Change) → update_read field value ≡ Ok change → TellsBool (IsSomeAnd value (HasOtherOperator field)) (is_none change)
 update_known field None change e = let is : Some changes.Keep ≡ change = cc in subst (λ (c : Option Change). TellsBool ⊥ (is_none c)) is never
-update_known field (Some (object (member name d no_members))) change e = form_tells field (operator_form (operator_named name) field.kind) d change e
+update_known field (Some (object (member name d no_members))) change e = form_tells field (operator_form (operator_named name) field.kind field.value) d change e
 update_known field (Some (object no_members)) change e = cc
 update_known field (Some (object (member name d (member other b ms)))) change e = cc
 update_known field (Some null) change e = cc
@@ -227,14 +320,15 @@ of_members fields d members there asked =
     let same : asked.1.0 ≡ members = cc in
     subst (SomeField HasOtherOperator fields) same asked.1.2
 
-by_changes : (fields : List Field) (d : Data) (doc : ℕ) (all : Option (List Change)) → TellsBool (AsksForOther fields d) (is_none all) → TellsBool (AsksForOther fields d) (is_none (op_asked doc (asks.Update all)))
-by_changes fields d doc None told = told
-by_changes fields d doc (Some all) told = told
+by_changes : (fields : List Field) (d : Data) (doc : ℕ) (create : Bool) (all : Option (List Change)) → TellsBool (AsksForOther fields d) (is_none all) → TellsBool (AsksForOther fields d) (is_none (op_asked doc (asks.Update create all)))
+by_changes fields d doc create None told = told
+by_changes fields d doc create (Some all) told = told
 
-asked_known : (fields : List Field) (d : Data) (p : OpName × Data) (doc : ℕ) (asked : Asked) → op_name_of d ≡ Some p → asked_of fields p.0 d ≡ Ok asked → TellsBool (AsksForOther fields d) (is_none (op_asked doc asked))
+asked_known : (fields : List Field) (d : Data) (p : OpName × Data) (doc : ℕ) (asked : Asked) → op_name_of d ≡ Some p → asked_of fields p.0 (create_of d) (fields_of d) ≡ Ok asked → TellsBool (AsksForOther fields d) (is_none (op_asked doc asked))
 unfolding asked_of
 asked_known fields d (Put, id) doc asked e read =
-    let at = bind_ok (or_else BadValue (fields_of d)) (λ (members : Data). each_field put_read fields members >>= λ (document : List (List Item)). Ok (asks.Put document)) asked read in
+    let made = bind_ok (or_else BadValue (create_of d)) (λ (create : Bool). or_else BadValue (fields_of d) >>= λ (members : Data). each_field put_read fields members >>= λ (document : List (List Item)). Ok (asks.Put document)) asked read in
+    let at = bind_ok (or_else BadValue (fields_of d)) (λ (members : Data). each_field put_read fields members >>= λ (document : List (List Item)). Ok (asks.Put document)) asked made.2 in
     let all = bind_ok (each_field put_read fields at.0) (λ (document : List (List Item)). Ok (asks.Put document)) asked at.2 in
     let is : asks.Put all.0 ≡ asked = cc in
     subst (λ (a : Asked). TellsBool (AsksForOther fields d) (is_none (op_asked doc a))) is (no_update fields d (Put, id) e (λ same. cc))
@@ -242,35 +336,51 @@ asked_known fields d (Remove, id) doc asked e read =
     let is : asks.Remove ≡ asked = cc in
     subst (λ (a : Asked). TellsBool (AsksForOther fields d) (is_none (op_asked doc a))) is (no_update fields d (Remove, id) e (λ same. cc))
 asked_known fields d (Update, id) doc asked e read =
-    let at = bind_ok (or_else BadValue (fields_of d)) (λ (members : Data). each_field update_read fields members >>= λ (found : List (Option Change)). Ok (asks.Update (all_some found))) asked read in
-    let all = bind_ok (each_field update_read fields at.0) (λ (found : List (Option Change)). Ok (asks.Update (all_some found))) asked at.2 in
-    let is : asks.Update (all_some all.0) ≡ asked = cc in
+    let made = bind_ok (or_else BadValue (create_of d)) (λ (create : Bool). or_else BadValue (fields_of d) >>= λ (members : Data). each_field update_read fields members >>= λ (found : List (Option Change)). Ok (asks.Update create (all_some found))) asked read in
+    let at = bind_ok (or_else BadValue (fields_of d)) (λ (members : Data). each_field update_read fields members >>= λ (found : List (Option Change)). Ok (asks.Update made.0 (all_some found))) asked made.2 in
+    let all = bind_ok (each_field update_read fields at.0) (λ (found : List (Option Change)). Ok (asks.Update made.0 (all_some found))) asked at.2 in
+    let is : asks.Update made.0 (all_some all.0) ≡ asked = cc in
     let there = or_else_ok BadValue (fields_of d) at.0 at.1 in
     let has = object_there (get (codes "fields") d) at.0 there in
     let some = ap is_some (op_there d (Update, id) e) in
     let to = λ (s : SomeField HasOtherOperator fields at.0). with_members fields d at.0 some has s in
     let from = λ (asks : AsksForOther fields d). of_members fields d at.0 there asks in
     subst (λ (a : Asked). TellsBool (AsksForOther fields d) (is_none (op_asked doc a))) is
-    (by_changes fields d doc (all_some all.0) (same_bool (is_none (all_some all.0)) to from (each_known fields at.0 all.0 all.1)))
-
-either_bool : (P Q R : Type 0) (a b c : Bool) → TellsBool P a → TellsBool Q b → TellsBool R c → TellsBool (P ⊎ (Q ⊎ R)) (cond (a || b) true c)
-either_bool P Q R true b c p q r = inl p
-either_bool P Q R false true c p q r = inr (inl q)
-either_bool P Q R false false true p q r = inr (inr r)
-either_bool P Q R false false false p q r = neither p (neither q r)
+    (by_changes fields d doc made.0 (all_some all.0) (same_bool (is_none (all_some all.0)) to from (each_known fields at.0 all.0 all.1)))
 
 is_some_tells : {A : Type 0} (o : Option A) → TellsBool (IsSome o) (is_some o)
 is_some_tells None = λ e. cc
 is_some_tells (Some x) = refl
 
-supported_tells : (fields : List Field) (d : Data) (p : OpName × Data) (doc : ℕ) (asked : Asked) → op_name_of d ≡ Some p → asked_of fields p.0 d ≡ Ok asked → TellsBool (IsUnsupported fields d) (is_none (supported d doc asked))
+or_tells : (P Q : Type 0) (a b : Bool) → TellsBool P a → TellsBool Q b → TellsBool (P ⊎ Q) (a || b)
+or_tells P Q true b p q = inl p
+or_tells P Q false true p q = inr q
+or_tells P Q false false p q = neither p q
+
+left_tells : (P Q : Type 0) (b : Bool) → ¬ Q → TellsBool P b → TellsBool (P ⊎ Q) b
+left_tells P Q true none p = inl p
+left_tells P Q false none p = neither p none
+
+-- a member that the operation has not
+member_tells : (d : Data) (p : OpName × Data) → op_name_of d ≡ Some p → TellsBool (IsSome (get (codes "condition") d) ⊎ RemovesAndCreates d) (has_other_member p.0 d)
+member_tells d (Put, id) e =
+    left_tells (IsSome (get (codes "condition") d)) (RemovesAndCreates d) (is_some (get (codes "condition") d)) (λ both. let same = op_alone d (Put, id) Remove e both.0 in cc) (is_some_tells (get (codes "condition") d))
+member_tells d (Update, id) e =
+    left_tells (IsSome (get (codes "condition") d)) (RemovesAndCreates d) (is_some (get (codes "condition") d)) (λ both. let same = op_alone d (Update, id) Remove e both.0 in cc) (is_some_tells (get (codes "condition") d))
+member_tells d (Remove, id) e =
+    let removes = ap is_some (op_there d (Remove, id) e) in
+    or_tells (IsSome (get (codes "condition") d)) (RemovesAndCreates d) (is_some (get (codes "condition") d)) (is_some (get (codes "create") d)) (is_some_tells (get (codes "condition") d))
+    (same_bool (is_some (get (codes "create") d)) (λ creates. (removes, creates)) (λ both. both.1) (is_some_tells (get (codes "create") d)))
+
+either_none : (P Q R : Type 0) (b : Bool) (o : Option Op) → TellsBool (P ⊎ Q) b → TellsBool R (is_none o) → TellsBool (P ⊎ (Q ⊎ R)) (is_none (cond b None o))
+either_none P Q R true o (inl p) r = inl p
+either_none P Q R true o (inr q) r = inr (inl q)
+either_none P Q R false None pq r = inr (inr r)
+either_none P Q R false (Some op) pq r = neither (λ p. pq (inl p)) (neither (λ q. pq (inr q)) r)
+
+supported_tells : (fields : List Field) (d : Data) (p : OpName × Data) (doc : ℕ) (asked : Asked) → op_name_of d ≡ Some p → asked_of fields p.0 (create_of d) (fields_of d) ≡ Ok asked → TellsBool (IsUnsupported fields d) (is_none (supported p.0 d doc asked))
 supported_tells fields d p doc asked e read =
-    at (has_condition d) (op_asked doc asked)
-    (either_bool (IsSome (get (codes "create") d)) (IsSome (get (codes "condition") d)) (AsksForOther fields d) (is_some (get (codes "create") d)) (is_some (get (codes "condition") d)) (is_none (op_asked doc asked))
-    (is_some_tells (get (codes "create") d)) (is_some_tells (get (codes "condition") d)) (asked_known fields d p doc asked e read)) where
-      at : (b : Bool) (o : Option Op) → TellsBool (IsUnsupported fields d) (cond b true (is_none o)) → TellsBool (IsUnsupported fields d) (is_none (cond b None o))
-      at true o t = t
-      at false o t = t
+    either_none (IsSome (get (codes "condition") d)) (RemovesAndCreates d) (AsksForOther fields d) (has_other_member p.0 d) (op_asked doc asked) (member_tells d p e) (asked_known fields d p doc asked e read)
 
 -- ---- 6. the members
 
@@ -289,11 +399,6 @@ over_tells Update field (Some (array ds)) = never
 over_tells Remove field None = never
 over_tells Remove field (Some d) = never
 
-or_tells : (P Q : Type 0) (a b : Bool) → TellsBool P a → TellsBool Q b → TellsBool (P ⊎ Q) (a || b)
-or_tells P Q true b p q = inl p
-or_tells P Q false true p q = inr q
-or_tells P Q false false p q = neither p q
-
 any_tells : (operation : OpName) (members : Data) (fields : List Field) → TellsBool (SomeField (GivesTooMany operation) fields members) (list_any (is_over operation members) fields)
 any_tells operation members [] = never
 any_tells operation members (field ∷ fields) =
@@ -308,9 +413,9 @@ many_of fields d members p e there (other, some, (others, has, many)) =
     let same : others ≡ members = cc in
     subst (λ (o : OpName). SomeField (GivesTooMany o) fields members) is (subst (SomeField (GivesTooMany other) fields) same many)
 
-many_tells : (fields : List Field) (d : Data) (p : OpName × Data) → op_name_of d ≡ Some p → TellsBool (HasTooMany fields d) (gives_too_many fields p.0 d)
+many_tells : (fields : List Field) (d : Data) (p : OpName × Data) → op_name_of d ≡ Some p → TellsBool (HasTooMany fields d) (gives_too_many fields p.0 (fields_of d))
 many_tells fields d p e = at (fields_of d) refl where
-  at : (o : Option Data) → fields_of d ≡ o → TellsBool (HasTooMany fields d) (some_over fields p.0 o)
+  at : (o : Option Data) → fields_of d ≡ o → TellsBool (HasTooMany fields d) (gives_too_many fields p.0 o)
   at None there = λ many. let again = fields_there d many.2.0 many.2.1 in cc
   at (Some members) there =
       let has = object_there (get (codes "fields") d) members there in
@@ -406,9 +511,9 @@ last_check fields d false op few none = λ row. none_next fields d TooManyItems 
 value_row : (fields : List Field) (d : Data) → RowOf fields d (op_of_value fields d)
 unfolding op_of_value
 value_row fields d =
-    let finish = λ (operation : OpName) (op : Op). cond (gives_too_many fields operation d) (Err TooManyItems) (Ok op) in
-    let with_asked = λ (operation : OpName) (doc : ℕ) (asked : Asked). or_else Unsupported (supported d doc asked) >>= finish operation in
-    let with_doc = λ (operation : OpName) (doc : ℕ). asked_of fields operation d >>= with_asked operation doc in
+    let finish = λ (operation : OpName) (op : Op). cond (gives_too_many fields operation (fields_of d)) (Err TooManyItems) (Ok op) in
+    let with_asked = λ (operation : OpName) (doc : ℕ) (asked : Asked). or_else Unsupported (supported operation d doc asked) >>= finish operation in
+    let with_doc = λ (operation : OpName) (doc : ℕ). asked_of fields operation (create_of d) (fields_of d) >>= with_asked operation doc in
     let with_operation = λ (operation : OpName × Data). or_else BadId (id_of operation.1) >>= with_doc operation.0 in
     check fields d NoOperation (or_else NoOperation (op_name_of d)) with_operation
     (by_option fields d NoOperation (op_name_of d) (no_one (get (codes "put") d) (get (codes "update") d) (get (codes "remove") d)) (λ p e none. none (just_one (get (codes "put") d) (get (codes "update") d) (get (codes "remove") d) p e)))
@@ -419,14 +524,14 @@ value_row fields d =
     (by_option fields d BadId (id_of p.1) (λ none. (p.0, p.1, op_there d p e, λ doc. bad_id p.1 doc none)) (λ doc read. same_id d p doc e read))
     none2
     (λ doc doc_is none3.
-    check fields d BadValue (asked_of fields p.0 d) (with_asked p.0 doc)
-    (by_forms fields d p (asked_of fields p.0 d) e (forms_tell fields p.0 d))
+    check fields d BadValue (asked_of fields p.0 (create_of d) (fields_of d)) (with_asked p.0 doc)
+    (by_forms fields d p (asked_of fields p.0 (create_of d) (fields_of d)) e (forms_tell fields p.0 d))
     none3
     (λ asked asked_is none4.
-    check fields d Unsupported (or_else Unsupported (supported d doc asked)) (finish p.0)
-    (by_none fields d Unsupported (supported d doc asked) (supported_tells fields d p doc asked e asked_is))
+    check fields d Unsupported (or_else Unsupported (supported p.0 d doc asked)) (finish p.0)
+    (by_none fields d Unsupported (supported p.0 d doc asked) (supported_tells fields d p doc asked e asked_is))
     none4
-    (λ op made none5. last_check fields d (gives_too_many fields p.0 d) op (many_tells fields d p e) none5))))
+    (λ op made none5. last_check fields d (gives_too_many fields p.0 (fields_of d)) op (many_tells fields d p e) none5))))
 
 -- ---- the rows of a line
 

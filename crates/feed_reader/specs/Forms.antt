@@ -1,6 +1,6 @@
 -- The forms that the values of a feed have: those of Vespa's document JSON format for an attribute's collection
 -- types, within this project's limits. `Data` is a JSON value as `serde_json` reads it.
-use Rattle.std.specs.Prelude.{ℕ, pos, ◌≡◌, ◌<◌, ◌≤◌, ◌^◌, ◌&&◌, ◌++◌, List, ◌∷◌, length, IsTrue, IfSome, codes}
+use Rattle.std.specs.Prelude.{ℕ, pos, ◌≡◌, ◌<◌, ◌≤◌, ◌^◌, ◌&&◌, ◌++◌, List, ◌∷◌, length, IsTrue, IfSome, IsSomeAnd, codes}
 use Rattle.std.specs.List.{All}
 use Rattle.std.specs.Prelude.{◌≢◌}
 use Rattle.std.specs.Str.Parse.{digits_value, signed_digits_value}
@@ -12,9 +12,12 @@ use Rattle.attr_types.specs.declared.kind.Kind.{Kind}
 use Rattle.attr_types.specs.declared.kind.Kind.TheVariants.{Single, Array, WeightedSet}
 use Rattle.attr_types.specs.declared.kind.ValueType.{ValueType}
 use Rattle.attr_types.specs.declared.kind.ValueType.TheVariants.{Long, Text}
-use Rattle.feed_reader.specs.declared.operation.Form.{Form}
-use Rattle.feed_reader.specs.declared.operation.Form.TheVariants as forms
-use Rattle.feed_reader.specs.Grammar.{operator_form, operator_named}
+use Rattle.feed_reader.specs.declared.operator.Form.{Form}
+use Rattle.feed_reader.specs.declared.operator.Form.TheVariants as forms
+use Rattle.feed_reader.specs.declared.operator.ItemForm.{ItemForm}
+use Rattle.feed_reader.specs.declared.operator.ItemForm.TheVariants.{New, Amount}
+use Rattle.feed_reader.specs.Elements.{match_parts}
+use Rattle.feed_reader.specs.Operators.{operator_named, operator_form, value_form, weight_form}
 use Rattle.feed_reader.specs.Numerals.{is_positive_numeral, is_whole_numeral, is_long_number}
 use Rattle.feed_reader.specs.Values.{is_weight_number}
 
@@ -60,7 +63,7 @@ abbrev pub IsName : ValueType → List ℕ → Type 0
 IsName Long name = IsTrue (is_whole_numeral name && is_long_number (signed_digits_value 10 name))
 IsName Text name = length name ≤ 1024
 
--- a whole number of 32 signed bits
+-- a whole number of 32 signed bits; an amount has the same form
 abbrev pub IsWeight : Data → Type 0
 IsWeight (number (unsigned n)) = IsTrue (is_weight_number (pos n))
 IsWeight (number (negative z)) = IsTrue (is_weight_number z)
@@ -109,14 +112,44 @@ HasItemsForm kind type d = HasKindForm kind type d
 
 -- ---- updates
 
+-- a place of an array, counted from 0
+abbrev pub IsPlace : Data → Type 0
+IsPlace (number (unsigned n)) = n ≤ 4294967295
+IsPlace d = ⊥
+
+-- a value of a weighted set: a text names it, and a whole number stands for itself
+abbrev pub IsElement : ValueType → Data → Type 0
+IsElement type (string name) = IsName type name
+IsElement type d = IsValue type d
+
+-- what becomes of one value: it is set to a value, or moved by an amount
+abbrev pub HasValueForm : ValueType → ItemForm → Data → Type 0
+HasValueForm type New d = IsValue type d
+HasValueForm type (Amount way) d = IsWeight d
+
+-- an object of two members, `element` and an operator, of whose values and name the fact holds
+abbrev pub IsMatch : (Data → List ℕ → Data → Type 0) → Data → Type 0
+IsMatch P (object ms) = IsSomeAnd (match_parts ms) (λ parts. P parts.0 parts.1 parts.2)
+IsMatch P d = ⊥
+
+-- where `match` has the operator, its value has the operator's form
+abbrev pub IsChangeAt : ValueType → Data → List ℕ → Data → Type 0
+IsChangeAt type element name d = IsPlace element × IfSome (value_form (operator_named name) type) (λ form. HasValueForm type form d)
+
+abbrev pub IsChangeOf : ValueType → Data → List ℕ → Data → Type 0
+IsChangeOf type element name d = IsElement type element × IfSome (weight_form (operator_named name)) (λ form. IsWeight d)
+
 abbrev pub HasForm : Form → Kind → ValueType → Data → Type 0
 HasForm forms.Items kind type d = HasItemsForm kind type d
 HasForm forms.List kind type d = HasListForm type d
 HasForm forms.Weights kind type d = HasWeightsForm type d
 HasForm forms.Names kind type d = HasNamesForm type d
+HasForm (forms.Amount way) kind type d = IsWeight d
+HasForm forms.AtPlace kind type d = IsMatch (IsChangeAt type) d
+HasForm forms.OfValue kind type d = IsMatch (IsChangeOf type) d
 
--- an object with one member, the operator; where the kind has that operator, its value has the operator's form
+-- an object with one member, the operator; where the attribute has that operator, its value has the operator's form
 abbrev pub IsUpdate : Field → Data → Type 0
 IsUpdate field (object (member name d no_members)) =
-    IfSome (operator_form (operator_named name) field.kind) (λ form. HasForm form field.kind field.value d)
+    IfSome (operator_form (operator_named name) field.kind field.value) (λ form. HasForm form field.kind field.value d)
 IsUpdate field d = ⊥

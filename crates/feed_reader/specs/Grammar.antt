@@ -2,31 +2,29 @@
 use Rattle.std.specs.Prelude.{ℕ, Bool, false, ◌||◌, List, [], ◌∷◌, nat_lt, if◌then◌else◌, codes}
 use Rattle.std.specs.Prelude.{Option, Some, None, is_some, option_and_then, option_map, unwrap_or, Result, Ok, Err}
 use Rattle.std.specs.List.{list_any}
-use Rattle.std.specs.Str.{is_utf8, bytes_eq}
+use Rattle.std.specs.Str.{is_utf8}
 use Rattle.serde_json.specs.Data.{Data, Members, no_members, member}
 use Rattle.serde_json.specs.Read.{read}
-use Rattle.serde_json.specs.Find.{get, as_str, as_object}
+use Rattle.serde_json.specs.Find.{get, as_bool, as_str, as_object}
 use Rattle.attr_types.specs.Change.{most_items}
 use Rattle.attr_types.specs.declared.change.Change.{Change}
 use Rattle.attr_types.specs.declared.change.Change.TheVariants as changes
 use Rattle.attr_types.specs.declared.field.Field.{Field}
 use Rattle.attr_types.specs.declared.items.Item.{Item}
-use Rattle.attr_types.specs.declared.kind.Kind.{Kind}
-use Rattle.attr_types.specs.declared.kind.Kind.TheVariants.{Single, Array, WeightedSet}
 use Rattle.attr_types.specs.declared.op.Op.{Op}
 use Rattle.attr_types.specs.declared.op.Op.TheVariants as ops
 use Rattle.feed_reader.specs.declared.refusal.Refusal.{Refusal}
 use Rattle.feed_reader.specs.declared.refusal.Refusal.TheVariants.{NotJson, NoOperation, BadId, BadValue, Unsupported, TooManyItems}
 use Rattle.feed_reader.specs.declared.operation.OpName.{OpName}
 use Rattle.feed_reader.specs.declared.operation.OpName.TheVariants as operations
-use Rattle.feed_reader.specs.declared.operation.Operator.{Operator}
-use Rattle.feed_reader.specs.declared.operation.Operator.TheVariants as operators
-use Rattle.feed_reader.specs.declared.operation.Form.{Form}
-use Rattle.feed_reader.specs.declared.operation.Form.TheVariants as forms
+use Rattle.feed_reader.specs.declared.operator.Form.{Form}
+use Rattle.feed_reader.specs.declared.operator.Form.TheVariants as forms
 use Rattle.feed_reader.specs.declared.operation.Asked.{Asked}
 use Rattle.feed_reader.specs.declared.operation.Asked.TheVariants as asks
 use Rattle.feed_reader.specs.Answers.{◌>>=◌, or_else}
 use Rattle.feed_reader.specs.Id.{id_read}
+use Rattle.feed_reader.specs.Operators.{operator_named, operator_form}
+use Rattle.feed_reader.specs.Elements.{amount_read, at_read, of_read}
 use Rattle.feed_reader.specs.Items.{items_read, list_read, set_read, taken_read, member_count}
 
 -- 1. The line is one JSON value in UTF-8, as `serde_json` reads it: what it takes as a number, how
@@ -74,73 +72,72 @@ only_member no_members = None
 only_member (member name d no_members) = Some (name, d)
 only_member (member name d (member _ _ _)) = None
 
-abbrev pub operator_named : List ℕ → Operator
-operator_named name = if bytes_eq name (codes "assign") then operators.Assign
-    else (if bytes_eq name (codes "add") then operators.Add
-    else (if bytes_eq name (codes "remove") then operators.Remove else operators.Other))
-
--- The table of the operators: the kinds that have one, and the form of its value
-abbrev pub operator_form : Operator → Kind → Option Form
-operator_form operators.Assign kind = Some forms.Items
-operator_form operators.Add Single = None
-operator_form operators.Add Array = Some forms.List
-operator_form operators.Add WeightedSet = Some forms.Weights
-operator_form operators.Remove Single = None
-operator_form operators.Remove Array = None
-operator_form operators.Remove WeightedSet = Some forms.Names
-operator_form operators.Other kind = None
-
 -- the change that an operator makes of a value of its form
-abbrev pub change_by : {A : Type 0} → (A → Change) → Result A Refusal → Result Change Refusal
-change_by change said = said >>= λ value. Ok (change value)
+abbrev pub change_by : {A : Type 0} → (A → Change) → Result A Refusal → Result (Option Change) Refusal
+change_by change said = said >>= λ value. Ok (Some (change value))
 
-abbrev pub change_read : Field → Form → Data → Result Change Refusal
+abbrev pub change_read : Field → Form → Data → Result (Option Change) Refusal
 change_read field forms.Items d = change_by changes.Assign (items_read field.kind field.value d)
 change_read field forms.List d = change_by changes.Add (list_read field.value d)
 change_read field forms.Weights d = change_by changes.Add (set_read field.value d)
 change_read field forms.Names d = change_by changes.Take (taken_read field.value d)
+change_read field (forms.Amount way) d = change_by changes.Shift (amount_read way d)
+change_read field forms.AtPlace d = at_read field.value d
+change_read field forms.OfValue d = of_read field.value d
 
--- an operator that the kind has not makes no change, whatever its value
+-- an operator that an attribute has not makes no change, whatever its value
 abbrev pub operator_read : Field → Option Form → Data → Result (Option Change) Refusal
 operator_read field None d = Ok None
-operator_read field (Some form) d = change_read field form d >>= λ change. Ok (Some change)
+operator_read field (Some form) d = change_read field form d
 
 -- an update's field is an object with one member, the operator; without the field nothing changes
 abbrev pub update_read : Field → Option Data → Result (Option Change) Refusal
 update_read field None = Ok (Some changes.Keep)
 update_read field (Some d) = do
   operator ← or_else BadValue (option_and_then only_member (as_object d))
-  operator_read field (operator_form (operator_named operator.0) field.kind) operator.1
+  operator_read field (operator_form (operator_named operator.0) field.kind field.value) operator.1
 
--- all changes, if the kind of each attribute has its operator
+-- all changes, if each attribute has its operator
 abbrev pub all_some : List (Option Change) → Option (List Change)
 all_some [] = Some []
 all_some (None ∷ more) = None
 all_some (Some change ∷ more) = option_map (λ changes. change ∷ changes) (all_some more)
 
-unfoldable pub asked_of : List Field → OpName → Data → Result Asked Refusal
-asked_of fields operations.Put d = do
-  members ← or_else BadValue (fields_of d)
+-- `create` is `true` or `false`, and `false` where it is missing
+abbrev pub created : Option Data → Option Bool
+created None = Some false
+created (Some d) = as_bool d
+
+abbrev pub create_of : Data → Option Bool
+create_of d = created (get (codes "create") d)
+
+-- a put has no use for `create`
+unfoldable pub asked_of : List Field → OpName → Option Bool → Option Data → Result Asked Refusal
+asked_of fields operations.Put create members = do
+  create ← or_else BadValue create
+  members ← or_else BadValue members
   document ← each_field put_read fields members
   Ok (asks.Put document)
-asked_of fields operations.Update d = do
-  members ← or_else BadValue (fields_of d)
+asked_of fields operations.Update create members = do
+  create ← or_else BadValue create
+  members ← or_else BadValue members
   changes ← each_field update_read fields members
-  Ok (asks.Update (all_some changes))
-asked_of fields operations.Remove d = Ok asks.Remove
+  Ok (asks.Update create (all_some changes))
+asked_of fields operations.Remove create members = Ok asks.Remove
 
--- 5. No member `create` or `condition` is there, and each operator is one of its attribute's kind
-abbrev pub has_condition : Data → Bool
-has_condition d = is_some (get (codes "create") d) || is_some (get (codes "condition") d)
+-- 5. No member `condition` is there, in a remove no member `create`, and each operator is one of its attribute's
+abbrev pub has_other_member : OpName → Data → Bool
+has_other_member operations.Put d = is_some (get (codes "condition") d)
+has_other_member operations.Update d = is_some (get (codes "condition") d)
+has_other_member operations.Remove d = is_some (get (codes "condition") d) || is_some (get (codes "create") d)
 
 abbrev pub op_asked : ℕ → Asked → Option Op
 op_asked doc (asks.Put document) = Some (ops.Put doc document)
-op_asked doc (asks.Update (Some changes)) = Some (ops.Update doc false changes)
-op_asked doc (asks.Update None) = None
+op_asked doc (asks.Update create changes) = option_map (ops.Update doc create) changes
 op_asked doc asks.Remove = Some (ops.Remove doc)
 
-abbrev pub supported : Data → ℕ → Asked → Option Op
-supported d doc asked = if has_condition d then None else op_asked doc asked
+abbrev pub supported : OpName → Data → ℕ → Asked → Option Op
+supported operation d doc asked = if has_other_member operation d then None else op_asked doc asked
 
 -- 6. At most 1,023 members are in what a line gives a field: a put its value, an update its operator's value
 abbrev pub value_given : OpName → Option Data → Option Data
@@ -155,21 +152,18 @@ members_given operation value = unwrap_or (option_map member_count (value_given 
 abbrev pub is_over : OpName → Data → Field → Bool
 is_over operation members field = nat_lt most_items (members_given operation (get field.name members))
 
-abbrev pub some_over : List Field → OpName → Option Data → Bool
-some_over fields operation None = false
-some_over fields operation (Some members) = list_any (is_over operation members) fields
-
-abbrev pub gives_too_many : List Field → OpName → Data → Bool
-gives_too_many fields operation d = some_over fields operation (fields_of d)
+abbrev pub gives_too_many : List Field → OpName → Option Data → Bool
+gives_too_many fields operation None = false
+gives_too_many fields operation (Some members) = list_any (is_over operation members) fields
 
 -- the checks in their order
 unfoldable pub op_of_value : List Field → Data → Result Op Refusal
 op_of_value fields d = do
   operation ← or_else NoOperation (op_name_of d)
   doc ← or_else BadId (id_of operation.1)
-  asked ← asked_of fields operation.0 d
-  op ← or_else Unsupported (supported d doc asked)
-  if gives_too_many fields operation.0 d then Err TooManyItems else Ok op
+  asked ← asked_of fields operation.0 (create_of d) (fields_of d)
+  op ← or_else Unsupported (supported operation.0 d doc asked)
+  if gives_too_many fields operation.0 (fields_of d) then Err TooManyItems else Ok op
 
 unfoldable pub op_of_line : List Field → List ℕ → Result Op Refusal
 op_of_line fields line = or_else NotJson (json_read line) >>= op_of_value fields

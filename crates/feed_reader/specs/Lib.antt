@@ -5,6 +5,8 @@ pub mod Answers
 pub mod Values
 pub mod Items
 pub mod Weights
+pub mod Operators
+pub mod Elements
 pub mod Grammar
 pub mod Feed
 pub mod Forms

@@ -1,24 +1,28 @@
 -- The rows of the feed: why a line is refused, and which line decides. Each row is a predicate of the line or of its
 -- JSON value; a line is refused by the first row that holds, and gives an operation exactly where none does.
 use Rattle.std.specs.Prelude.{◌≡◌, ◌≢◌, ◌⊎◌, ◌↔◌, ℕ, ◌+◌, ◌<◌, false, not, IsTrue, List, [], ◌∷◌, ◌++◌, length, filter, codes}
-use Rattle.std.specs.Prelude.{Some, None, is_some, IsSome, IfSome, IsSomeAnd, Ok, Err, IsOk}
+use Rattle.std.specs.Prelude.{Option, Some, None, is_some, IsSome, IfSome, IsSomeAnd, Ok, Err, IsOk}
 use Rattle.std.specs.List.{AllByRecursion, AllZip}
 use Rattle.std.specs.Str.{IsUtf8}
-use Rattle.serde_json.specs.Data.{Data, string, object, no_members, member}
+use Rattle.serde_json.specs.Data.{Data, boolean, string, object, no_members, member}
 use Rattle.serde_json.specs.Read.{read}
 use Rattle.serde_json.specs.Find.{get}
 use Rattle.attr_types.specs.Change.{most_items}
 use Rattle.attr_types.specs.declared.field.Field.{Field}
+use Rattle.attr_types.specs.declared.kind.ValueType.{ValueType}
 use Rattle.attr_types.specs.declared.op.Op.{Op}
 use Rattle.feed_reader.specs.declared.operation.OpName.{OpName}
 use Rattle.feed_reader.specs.declared.operation.OpName.TheVariants.{Put, Update, Remove}
+use Rattle.feed_reader.specs.declared.operator.Form.{Form}
+use Rattle.feed_reader.specs.declared.operator.Form.TheVariants as forms
 use Rattle.feed_reader.specs.declared.refusal.Refusal.{Refusal}
 use Rattle.feed_reader.specs.declared.refusal.Refusal.TheVariants.{NotJson, NoOperation, BadId, BadValue, Unsupported, TooManyItems}
 use Rattle.feed_reader.specs.Feed.{feed_of}
-use Rattle.feed_reader.specs.Forms.{IsIdOf, HasItemsForm, IsUpdate}
-use Rattle.feed_reader.specs.Grammar.{operator_form, operator_named, op_of_line}
+use Rattle.feed_reader.specs.Forms.{IsIdOf, HasItemsForm, IsMatch, IsUpdate}
+use Rattle.feed_reader.specs.Grammar.{op_of_line}
 use Rattle.feed_reader.specs.Items.{member_count}
 use Rattle.feed_reader.specs.Lines.{lines_of, is_blank}
+use Rattle.feed_reader.specs.Operators.{operator_named, operator_form, value_form, weight_form}
 
 -- ---- 1. the line is no JSON value of `serde_json`'s reading, its nesting and its UTF-8 included
 
@@ -51,7 +55,12 @@ abbrev pub HasBadId : Data → Type 0
 HasBadId d =
     (operation : OpName) × (id : Data) × (get (name_of operation) d ≡ Some id) × ((doc : ℕ) → ¬ IsId id doc)
 
--- ---- 4. in a put or an update `fields` is no object, or a named field is there and has not its form
+-- ---- 4. in a put or an update `create` is there and neither `true` nor `false`, or `fields` is no object, or a named
+-- field is there and has not its form
+
+abbrev pub IsBoolean : Data → Type 0
+IsBoolean (boolean b) = Unit {0}
+IsBoolean d = ⊥
 
 abbrev pub IsObject : Data → Type 0
 IsObject (object ms) = Unit {0}
@@ -61,35 +70,49 @@ IsObject d = ⊥
 abbrev pub HasFields : Data → Data → Type 0
 HasFields d members = (get (codes "fields") d ≡ Some members) × IsObject members
 
+-- the line's `fields` is an object, in which each named field that is there has the form
+abbrev pub EachHas : (Field → Data → Type 0) → List Field → Data → Type 0
+EachHas P fields d = (members : Data) × HasFields d members
+    × AllByRecursion (λ field. IfSome (get field.name members) (P field)) fields
+
 abbrev pub HasForms : List Field → OpName → Data → Type 0
-HasForms fields Put d = (members : Data) × HasFields d members
-    × AllByRecursion (λ field. IfSome (get field.name members) (HasItemsForm field.kind field.value)) fields
-HasForms fields Update d = (members : Data) × HasFields d members
-    × AllByRecursion (λ field. IfSome (get field.name members) (IsUpdate field)) fields
+HasForms fields Put d = IfSome (get (codes "create") d) IsBoolean
+    × EachHas (λ field. HasItemsForm field.kind field.value) fields d
+HasForms fields Update d = IfSome (get (codes "create") d) IsBoolean × EachHas IsUpdate fields d
 HasForms fields Remove d = Unit {0}
 
 abbrev pub HasBadValue : List Field → Data → Type 0
 HasBadValue fields d =
     (operation : OpName) × IsSome (get (name_of operation) d) × ¬ (HasForms fields operation d)
 
--- ---- 5. a member `create` or `condition` is there, or an update's operator is none of the field's kind
+-- ---- 5. a member `condition` is there, or in a remove `create`, or an operator, that in `match` too, is none of its
+-- attribute's
 
 -- some named field is there, with such a value
 abbrev pub SomeField : (Field → Data → Type 0) → List Field → Data → Type 0
 SomeField P [] members = ⊥
 SomeField P (field ∷ fields) members = IsSomeAnd (get field.name members) (P field) ⊎ SomeField P fields members
 
+abbrev pub IsOther : ValueType → Option Form → Data → Type 0
+IsOther type None d = Unit {0}
+IsOther type (Some forms.AtPlace) d = IsMatch (λ element name value. value_form (operator_named name) type ≡ None) d
+IsOther type (Some forms.OfValue) d = IsMatch (λ element name value. weight_form (operator_named name) ≡ None) d
+IsOther type (Some form) d = ⊥
+
 abbrev pub HasOtherOperator : Field → Data → Type 0
-HasOtherOperator field (object (member name d no_members)) = operator_form (operator_named name) field.kind ≡ None
+HasOtherOperator field (object (member name d no_members)) =
+    IsOther field.value (operator_form (operator_named name) field.kind field.value) d
 HasOtherOperator field d = ⊥
 
 abbrev pub AsksForOther : List Field → Data → Type 0
 AsksForOther fields d = IsSome (get (codes "update") d)
     × ((members : Data) × HasFields d members × SomeField HasOtherOperator fields members)
 
+abbrev pub RemovesAndCreates : Data → Type 0
+RemovesAndCreates d = IsSome (get (codes "remove") d) × IsSome (get (codes "create") d)
+
 abbrev pub IsUnsupported : List Field → Data → Type 0
-IsUnsupported fields d =
-    IsSome (get (codes "create") d) ⊎ (IsSome (get (codes "condition") d) ⊎ AsksForOther fields d)
+IsUnsupported fields d = IsSome (get (codes "condition") d) ⊎ (RemovesAndCreates d ⊎ AsksForOther fields d)
 
 -- ---- 6. a put's list or object, or that of an update's operator, has more than 1,023 members
 

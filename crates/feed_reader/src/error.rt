@@ -33,10 +33,11 @@ pub enum FeedError {
     /// That member is no id that ends with a document's number.
     #[error("line {line}: BadId")]
     BadId { line: u32 },
-    /// `fields` is no object, or the named field has not its form.
+    /// In a put or an update `create` is neither `true` nor `false`, `fields` is no object, or a named
+    /// field has not its form.
     #[error("line {line}: BadValue")]
     BadValue { line: u32 },
-    /// A member `create` or `condition` is there, or the kind has no such operator.
+    /// A member `condition` is there, or in a remove `create`, or an attribute has no such operator.
     #[error("line {line}: Unsupported")]
     Unsupported { line: u32 },
     /// The list or object of items has more than 1,023 members.

@@ -20,7 +20,7 @@ pub fn document_in(alloc: Global, fields: &[Field], members: &Json) -> Result<Fi
     Ok(FieldItems::from_vec(document))
 }
 
-/// The changes that an update makes of each attribute, `None` for an operator that the kind has not.
+/// The changes that an update makes of each attribute, `None` for an operator that an attribute has not.
 pub fn changes_in(
     alloc: Global,
     fields: &[Field],
@@ -35,7 +35,7 @@ pub fn changes_in(
     Ok(changes)
 }
 
-/// All changes, if the kind of each attribute has its operator.
+/// All changes, if each attribute has its operator.
 pub fn all_known(
     alloc: Global,
     changes: Vec<Option<Change>>,

@@ -2,6 +2,7 @@
 //! <https://docs.vespa.ai/en/reference/document-json-format.html>
 #![tactic(auto)]
 
+mod element;
 mod error;
 mod feed;
 mod fields;
@@ -11,6 +12,7 @@ mod laws;
 mod line;
 mod numeral;
 mod operation;
+mod operator;
 mod refusal;
 mod split;
 mod update;

@@ -3,8 +3,8 @@ ghost use Rattle.std.specs.List.{list_any};
 ghost use Rattle.serde_json.specs.View.{view};
 ghost use Rattle.feed_reader.specs.declared.refusal.Refusal.TheVariants.{NotJson};
 ghost use Rattle.feed_reader.specs.Answers.{ReadsAs, or_else};
-ghost use Rattle.feed_reader.specs.Grammar.{json_read, op_name_of, id_of, fields_of, asked_of};
-ghost use Rattle.feed_reader.specs.Grammar.{has_condition, op_asked, supported, is_over, gives_too_many, op_of_value, op_of_line};
+ghost use Rattle.feed_reader.specs.Grammar.{json_read, op_name_of, id_of, fields_of, create_of, asked_of};
+ghost use Rattle.feed_reader.specs.Grammar.{has_other_member, op_asked, supported, is_over, gives_too_many, op_of_value, op_of_line};
 
 use crate::fields::{all_known, changes_in, document_in};
 use crate::id::document_of_id;
@@ -44,33 +44,53 @@ fn fields_in(line: &Json) -> Option<&Json>
     }
 }
 
+/// Whether a put or an update asks for a document that is not there yet.
+fn create_in(line: &Json) -> Option<bool>
+    ensures { result ≡ create_of (view line.now) }
+{
+    match line.get("create") {
+        Some(json) => json.as_bool(),
+        None => Some(false),
+    }
+}
+
 #[tactic(auto, unfolding(crate::specs::Grammar::asked_of))]
 fn asked_in(
     alloc: Global,
     fields: &[Field],
     operation: OpName,
-    line: &Json,
+    create: Option<bool>,
+    members: Option<&Json>,
 ) -> Result<Asked, LineError>
-    ensures { ReadsAs (λ asked. asked) result (asked_of fields.now operation (view line.now)) }
+    ensures { ReadsAs (λ asked. asked) result
+        (asked_of fields.now operation create (option_map (λ v. view v.now) members.entry)) }
 {
     match operation {
         OpName::Put => {
-            let members = fields_in(line).ok_or(Refusal::BadValue)?;
+            let _create = create.ok_or(Refusal::BadValue)?;
+            let members = members.ok_or(Refusal::BadValue)?;
             Ok(Asked::Put(document_in(alloc, fields, members)?))
         }
         OpName::Update => {
-            let members = fields_in(line).ok_or(Refusal::BadValue)?;
+            let create = create.ok_or(Refusal::BadValue)?;
+            let members = members.ok_or(Refusal::BadValue)?;
             let changes = changes_in(alloc, fields, members)?;
-            Ok(Asked::Update(all_known(alloc, changes)?))
+            let changes = all_known(alloc, changes)?;
+            Ok(Asked::Update { create, changes })
         }
         OpName::Remove => Ok(Asked::Remove),
     }
 }
 
-fn has_condition(line: &Json) -> bool
-    ensures { result ≡ has_condition (view line.now) }
+/// Whether a line has a member that its operation has not.
+fn has_other_member(operation: OpName, line: &Json) -> bool
+    ensures { result ≡ has_other_member operation (view line.now) }
 {
-    line.get("create").is_some() || line.get("condition").is_some()
+    let has_condition = line.get("condition").is_some();
+    match operation {
+        OpName::Put | OpName::Update => has_condition,
+        OpName::Remove => has_condition || line.get("create").is_some(),
+    }
 }
 
 fn op_asked(doc: Doc, asked: Asked) -> Option<Op>
@@ -78,20 +98,19 @@ fn op_asked(doc: Doc, asked: Asked) -> Option<Op>
 {
     match asked {
         Asked::Put(items) => Some(Op::Put { doc, items }),
-        Asked::Update(Some(change)) => Some(Op::Update {
+        Asked::Update { create, changes } => changes.map(|change| Op::Update {
             doc,
-            create: false,
+            create,
             change,
         }),
-        Asked::Update(None) => None,
         Asked::Remove => Some(Op::Remove { doc }),
     }
 }
 
-fn supported_in(line: &Json, doc: Doc, asked: Asked) -> Option<Op>
-    ensures { result ≡ supported (view line.now) doc asked }
+fn supported_in(operation: OpName, line: &Json, doc: Doc, asked: Asked) -> Option<Op>
+    ensures { result ≡ supported operation (view line.now) doc asked }
 {
-    if has_condition(line) {
+    if has_other_member(operation, line) {
         return None;
     }
     op_asked(doc, asked)
@@ -112,10 +131,10 @@ fn is_some_over(fields: &[Field], operation: OpName, members: &Json) -> bool
 }
 
 /// Whether a line gives some field a list or an object of more members than a document has items.
-fn gives_too_many(fields: &[Field], operation: OpName, line: &Json) -> bool
-    ensures { result ≡ gives_too_many fields.now operation (view line.now) }
+fn gives_too_many(fields: &[Field], operation: OpName, members: Option<&Json>) -> bool
+    ensures { result ≡ gives_too_many fields.now operation (option_map (λ v. view v.now) members.entry) }
 {
-    match fields_in(line) {
+    match members {
         None => false,
         Some(members) => is_some_over(fields, operation, members),
     }
@@ -127,9 +146,10 @@ fn op_in(alloc: Global, fields: &[Field], line: &Json) -> Result<Op, LineError>
 {
     let (operation, member) = operation_in(line).ok_or(Refusal::NoOperation)?;
     let doc = id_in(member).ok_or(Refusal::BadId)?;
-    let asked = asked_in(alloc, fields, operation, line)?;
-    let op = supported_in(line, doc, asked).ok_or(Refusal::Unsupported)?;
-    if gives_too_many(fields, operation, line) {
+    let members = fields_in(line);
+    let asked = asked_in(alloc, fields, operation, create_in(line), members)?;
+    let op = supported_in(operation, line, doc, asked).ok_or(Refusal::Unsupported)?;
+    if gives_too_many(fields, operation, members) {
         return Err(LineError::Refused(Refusal::TooManyItems));
     }
     Ok(op)

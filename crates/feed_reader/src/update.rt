@@ -1,12 +1,14 @@
 ghost use Rattle.std.specs.Prelude.{◌≡◌, option_map};
 ghost use Rattle.serde_json.specs.View.{view, members_view};
 ghost use Rattle.feed_reader.specs.Answers.{ReadsAs};
-ghost use Rattle.feed_reader.specs.Grammar.{only_member, operator_named, operator_form, change_read, put_read, update_read, value_given, members_given};
+ghost use Rattle.feed_reader.specs.Grammar.{only_member, change_read, put_read, update_read, value_given, members_given};
 
+use crate::element::{amount_in, at_in, of_in};
 use crate::items::{items_in, list_in, member_count, taken_in, weighted_in};
-use crate::operation::{Form, OpName, Operator};
+use crate::operation::OpName;
+use crate::operator::{Form, operator_form, operator_in};
 use crate::refusal::{LineError, Refusal};
-use attr_types::{Change, Field, Items, Kind};
+use attr_types::{Change, Field, Items};
 use serde_json::{Map, Value as Json};
 use std::alloc::Global;
 
@@ -33,48 +35,28 @@ fn only_member_in(members: &Map<String, Json>) -> Option<(&str, &Json)>
     }
 }
 
-fn operator_in(name: &str) -> Operator
-    ensures { result ≡ operator_named name.now }
-{
-    if name == "assign" {
-        Operator::Assign
-    } else if name == "add" {
-        Operator::Add
-    } else if name == "remove" {
-        Operator::Remove
-    } else {
-        Operator::Other
-    }
-}
-
-/// The form of an operator's value, if the kind has the operator.
-fn operator_form(operator: Operator, kind: Kind) -> Option<Form>
-    ensures { result ≡ operator_form operator kind }
-{
-    match (operator, kind) {
-        (Operator::Assign, _) => Some(Form::Items),
-        (Operator::Add, Kind::Array) => Some(Form::List),
-        (Operator::Add, Kind::WeightedSet) => Some(Form::Weights),
-        (Operator::Remove, Kind::WeightedSet) => Some(Form::Names),
-        (Operator::Add, Kind::Single)
-        | (Operator::Remove, Kind::Single | Kind::Array)
-        | (Operator::Other, _) => None,
-    }
-}
-
-/// The change that a value of a form asks for.
-fn change_in(alloc: Global, field: &Field, form: Form, json: &Json) -> Result<Change, LineError>
+/// The change that a value of a form asks for, `None` for an operator on one item that there is none.
+fn change_in(
+    alloc: Global,
+    field: &Field,
+    form: Form,
+    json: &Json,
+) -> Result<Option<Change>, LineError>
     ensures { ReadsAs (λ change. change) result (change_read field.now form (view json.now)) }
 {
-    match form {
-        Form::Items => Ok(Change::Assign(items_in(alloc, field.kind, field.value, json)?)),
-        Form::List => Ok(Change::Add(list_in(alloc, field.value, json)?)),
-        Form::Weights => Ok(Change::Add(weighted_in(alloc, field.value, json)?)),
-        Form::Names => Ok(Change::Take(taken_in(alloc, field.value, json)?)),
-    }
+    let change = match form {
+        Form::Items => Change::Assign(items_in(alloc, field.kind, field.value, json)?),
+        Form::List => Change::Add(list_in(alloc, field.value, json)?),
+        Form::Weights => Change::Add(weighted_in(alloc, field.value, json)?),
+        Form::Names => Change::Take(taken_in(alloc, field.value, json)?),
+        Form::Amount(way) => Change::Shift(amount_in(way, json)?),
+        Form::AtPlace => return at_in(alloc, field.value, json),
+        Form::OfValue => return of_in(alloc, field.value, json),
+    };
+    Ok(Some(change))
 }
 
-/// The change that an update makes of an attribute, `None` for an operator that the kind has not.
+/// The change that an update makes of an attribute, `None` for an operator that it has not.
 pub fn update_in(
     alloc: Global,
     field: &Field,
@@ -87,9 +69,9 @@ pub fn update_in(
     };
     let members = json.as_object().ok_or(Refusal::BadValue)?;
     let (name, json) = only_member_in(members).ok_or(Refusal::BadValue)?;
-    match operator_form(operator_in(name), field.kind) {
+    match operator_form(operator_in(name), field.kind, field.value) {
         None => Ok(None),
-        Some(form) => Ok(Some(change_in(alloc, field, form, json)?)),
+        Some(form) => change_in(alloc, field, form, json),
     }
 }
 

@@ -1,0 +1,66 @@
+//! What a feed gets, and the table after it.
+use crate::told::{push_document, push_op};
+use attr_io::SliceSource;
+use attr_plain::{Applied, PlainTable};
+use attr_types::{Fields, Ops, fits};
+use feed_reader::{FeedError, read_feed};
+use std::alloc::{AllocError, Global};
+
+/// The reader itself. It promises nothing, so that no proof of its callers carries its contract.
+fn read(alloc: Global, feed: &[u8], fields: &Fields) -> Result<Ops, FeedError> {
+    read_feed(alloc, &mut SliceSource::new(feed), fields)
+}
+
+fn ops_told(alloc: Global, ops: &Ops) -> Result<String, AllocError> {
+    let mut text = String::new(alloc);
+    for op in ops.as_slice() {
+        push_op(&mut text, op)?;
+        write!(text, ";")?;
+    }
+    Ok(text)
+}
+
+/// The operations of a feed, each followed by a semicolon, or why it is refused.
+pub fn answer_to(alloc: Global, feed: &[u8], fields: &Fields) -> Result<String, AllocError> {
+    match read(alloc, feed, fields) {
+        Ok(ops) => ops_told(alloc, &ops),
+        Err(e) => format!(in alloc; "{e}"),
+    }
+}
+
+/// Applies what fits, and tells how many operations were skipped.
+fn apply_all(alloc: Global, table: &mut PlainTable, ops: Ops) -> Result<u32, AllocError> {
+    let mut skipped: u32 = 0;
+    for op in ops.into_vec() {
+        if !fits(table.fields(), &op) {
+            continue;
+        }
+        if table.apply(alloc, op)? == Applied::Skipped {
+            skipped = skipped.saturating_add(1);
+        }
+    }
+    Ok(skipped)
+}
+
+fn table_told(alloc: Global, table: &PlainTable, skipped: u32) -> Result<String, AllocError> {
+    let mut text = String::new(alloc);
+    for (doc, document) in table.documents() {
+        write!(text, "{}:", doc.number())?;
+        push_document(&mut text, document.as_slice())?;
+        write!(text, "; ")?;
+    }
+    write!(text, "skipped {skipped}")?;
+    Ok(text)
+}
+
+/// The documents after a feed, each with its items, and how many operations were skipped.
+pub fn table_after(alloc: Global, feed: &[u8], fields: Fields) -> Result<String, AllocError> {
+    match read(alloc, feed, &fields) {
+        Ok(ops) => {
+            let mut table = PlainTable::new(alloc, fields);
+            let skipped = apply_all(alloc, &mut table, ops)?;
+            table_told(alloc, &table, skipped)
+        }
+        Err(e) => format!(in alloc; "{e}"),
+    }
+}
