@@ -5,3 +5,7 @@ mod PresentLemmas
 mod FitsLemmas
 mod TextLemmas
 mod CommandLemmas
+mod PieceLemmas
+mod LawfulLemmas
+mod FieldsLemmas
+mod SettingsLemmas

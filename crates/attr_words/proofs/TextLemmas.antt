@@ -1,14 +1,15 @@
 -- What the words give where `attr` takes them: each text, and each number in its range.
 use Rattle.std.proofs.Common.{Some, ◌≡◌, ◌⊎◌, ◌∙◌, ◌<◌, ◌^◌, ◌||◌, inl, inr, ℕ, Bool}
 use Rattle.std.proofs.Common.{true, false, refl, sym, ap, subst, arith, List, []}
-use Rattle.std.proofs.Common.{Option, codes, lit<}
-use Rattle.std.specs.Prelude.{unwrap_or}
-use Rattle.std.specs.List.{list_all, list_any}
+use Rattle.std.proofs.Common.{Option, None, IfSome, cond, codes, lit<, ◌∷◌}
+use Rattle.std.proofs.lemmas.Bool.{cases_Bool}
+use Rattle.std.specs.Prelude.{unwrap_or, option_map, option_and_then, slice_get}
+use Rattle.std.specs.List.{find, list_all, list_any}
 use Rattle.std.specs.Str.{bytes_eq}
 use Rattle.std.specs.Str.Parse.{digits_value, without_leading_plus}
 use Rattle.std.proofs.lemmas.Slice.Eq.{bytes_eq-Decides}
 use Rattle.clap.specs.Values.{IsUnsignedIn}
-use Rattle.clap.specs.Walk.{Row, Rule, Text, first_of, has_row}
+use Rattle.clap.specs.Walk.{Row, Rule, Text, first_of, one_of, row_text, has_row}
 use Rattle.clap.specs.Walk.{nothing_held, rows_after}
 use Rattle.clap.specs.Simple.{built, matches_of}
 use Rattle.clap.specs.Faults.{level_fault}
@@ -16,12 +17,11 @@ use Rattle.clap.specs.declared.builder.value_parser.ValueParser.TheVariants as p
 use Rattle.clap.proofs.OnLiterals.{clap_on_literals}
 use Rattle.clap.proofs.FaultLemmas.{leaf_fault}
 use Rattle.clap.proofs.ValueTestLemmas.{accepts-Accepts}
-use Rattle.attr_words.specs.CommandLine.{NumberOption, attr_app, batch, buffers, readers, rounds}
+use Rattle.attr_words.specs.CommandLine.{NumberOption, attr_app, batch, buffers, make, readers, rounds, seed}
 use Rattle.attr_words.specs.CommandLine.{words}
-use Rattle.attr_words.specs.Found.{HasFlagText, HasNumberText, HasText, HasTexts}
-use Rattle.attr_words.specs.Reading.{AreTaken, Given, RangesHold, HasGivenTexts, IsWithin, given_by}
-use Rattle.attr_words.specs.Reading.{number_at, settings_of, text_at}
-use Rattle.attr_words.specs.declared.settings.Settings.{Settings}
+use Rattle.attr_words.specs.Found.{HasFlagText, HasNumberText, HasText, HasTexts, IsNumberText, MayHaveText}
+use Rattle.attr_words.specs.Reading.{AreTaken, RangesHold, TextsAreGiven, IsWithin}
+use Rattle.attr_words.specs.Reading.{number_at, number_in, text_at}
 use Rattle.attr_words.proofs.CommandLemmas.{no_subcommands}
 use Rattle.attr_words.proofs.RowLemmas.{text_found}
 use Rattle.attr_words.proofs.WalkLemmas.{good_level, level_check}
@@ -65,6 +65,43 @@ number_text o line taken fits default =
     (defaults_made o.name _ rules default) in
     subst (HasText (IsUnsignedIn o.least o.most) o.name) (sym (rows_end line))
     (found.0, found.1, found.2, accepts-Accepts false parser found.0 found.3)
+
+-- without a row there is no text
+no_text : (name : Text) (rows : List Row) → has_row name rows ≡ false
+    → (first_of name rows ≡ None) × (one_of name rows ≡ None)
+no_text name [] has = (refl, refl)
+no_text name (r ∷ rs) has = go (bytes_eq r.id name) has (no_text name rs)
+  where
+    go : (b : Bool) → (b || has_row name rs) ≡ false
+        → (has_row name rs ≡ false → (first_of name rs ≡ None) × (one_of name rs ≡ None))
+        → (option_and_then (λ (x : Row). slice_get x.values 0) (cond b (Some r) (find (λ x. bytes_eq x.id name) rs)) ≡ None)
+        × (option_and_then row_text (cond b (Some r) (find (λ x. bytes_eq x.id name) rs)) ≡ None)
+    go true e later = cc
+    go false e later = later e
+
+-- a text that is there is the number
+pub has_number : (name : Text) (rows : List Row) (text : Text) → MayHaveText IsNumberText name rows
+    → first_of name rows ≡ Some text → HasNumberText name rows
+has_number name rows text (inl none) given =
+    let broken : None ≡ Some text = sym none.0 ∙ given in cc
+has_number name rows text (inr found) given = found
+
+-- an option without a default has a number where it was given
+number_if_given : (o : NumberOption) (line : List Text) → AreTaken line
+    → list_all (fits_by (is_unsigned o.least o.most) o.name) rules ≡ true
+    → MayHaveText (IsUnsignedIn o.least o.most) o.name (matches_of attr_app line)
+number_if_given o line taken fits =
+    let parser = parsers.Unsigned o.least o.most in
+    let fit = fits_all (is_unsigned o.least o.most) o.name parser
+    (only_unsigned o.least o.most) rules fits in
+    let holds = good_level o.name parser (built attr_app).top fit line (level_passes line taken) in
+    subst (MayHaveText (IsUnsignedIn o.least o.most) o.name) (sym (rows_end line))
+    (elim (cases_Bool (has_row o.name (rows_after rules [] line))) [
+      | inl has ↦
+          let found = text_found o.name parser (rows_after rules [] line) holds has in
+          inr (found.0, found.1, found.2, accepts-Accepts false parser found.0 found.3)
+      | inr none ↦ inl (no_text o.name (rows_after rules [] line) none)
+    ])
 
 -- an option with a text has it, where its rule is one of `attr` and it has a row
 named_text : (name : Text) (line : List Text) → AreTaken line
@@ -123,24 +160,35 @@ either text e = go (bytes_eq text (codes "true")) refl e
     go true is e = inl ((bytes_eq-Decides text (codes "true")).0 is)
     go false is e = inr ((bytes_eq-Decides text (codes "false")).0 e)
 
-after_fits : list_all (fits_by is_bool (codes "after")) rules ≡ true
-unfolding attr_app clap_on_literals
-after_fits = refl
-
-after_default : list_any (has_default (codes "after")) rules ≡ true
-unfolding attr_app clap_on_literals
-after_default = refl
+flag_text : (name : Text) (line : List Text) → AreTaken line
+    → list_all (fits_by is_bool name) rules ≡ true → list_any (has_default name) rules ≡ true
+    → HasFlagText name (matches_of attr_app line)
+flag_text name line taken fits default =
+    let fit = fits_all is_bool name parsers.Bool only_bool rules fits in
+    let found = text_found name parsers.Bool (rows_after rules [] line)
+    (good_level name parsers.Bool (built attr_app).top fit line (level_passes line taken))
+    (defaults_made name _ rules default) in
+    subst (HasFlagText name) (sym (rows_end line)) (found.0, found.1, found.2, either found.0 found.3)
 
 after_text : (line : List Text) → AreTaken line
     → HasFlagText (codes "after") (matches_of attr_app line)
-after_text line taken =
-    let fit = fits_all is_bool (codes "after") parsers.Bool only_bool rules after_fits in
-    let found = text_found (codes "after") parsers.Bool (rows_after rules [] line)
-    (good_level (codes "after") parsers.Bool (built attr_app).top fit line
-    (level_passes line taken))
-    (defaults_made (codes "after") _ rules after_default) in
-    subst (HasFlagText (codes "after")) (sym (rows_end line))
-    (found.0, found.1, found.2, either found.0 found.3)
+unfolding attr_app clap_on_literals
+after_text line taken = flag_text (codes "after") line taken refl refl
+
+wide_text : (line : List Text) → AreTaken line
+    → HasFlagText (codes "wide") (matches_of attr_app line)
+unfolding attr_app clap_on_literals
+wide_text line taken = flag_text (codes "wide") line taken refl refl
+
+dense_text : (line : List Text) → AreTaken line
+    → HasFlagText (codes "dense") (matches_of attr_app line)
+unfolding attr_app clap_on_literals
+dense_text line taken = flag_text (codes "dense") line taken refl refl
+
+save_text : (line : List Text) → AreTaken line
+    → HasFlagText (codes "save") (matches_of attr_app line)
+unfolding attr_app clap_on_literals
+save_text line taken = flag_text (codes "save") line taken refl refl
 
 batch_text : (line : List Text) → AreTaken line
     → HasNumber batch line
@@ -167,9 +215,24 @@ words_text : (line : List Text) → AreTaken line
 unfolding attr_app clap_on_literals
 words_text line taken = number_text words line taken refl refl
 
+seed_text : (line : List Text) → AreTaken line
+    → HasNumber seed line
+unfolding attr_app clap_on_literals
+seed_text line taken = number_text seed line taken refl refl
+
+make_text : (line : List Text) → AreTaken line
+    → MayHaveText (IsUnsignedIn make.least make.most) make.name (matches_of attr_app line)
+unfolding attr_app clap_on_literals
+make_text line taken = number_if_given make line taken refl
+
 fits_32 : (o : NumberOption) (rows : List Row) → o.most < 2 ^ 32
     → HasText (IsUnsignedIn o.least o.most) o.name rows → HasNumberText o.name rows
 fits_32 o rows small text = (text.0, text.1, text.2, (text.3.0, omega (arith, text.3.3)))
+
+small_or_none : (o : NumberOption) (rows : List Row) → o.most < 2 ^ 32
+    → MayHaveText (IsUnsignedIn o.least o.most) o.name rows → MayHaveText IsNumberText o.name rows
+small_or_none o rows small (inl none) = inl none
+small_or_none o rows small (inr text) = inr (fits_32 o rows small text)
 
 -- where the words are taken, each text that is read as a number or a flag is there
 pub texts_there : (line : List Text) → AreTaken line → HasTexts (matches_of attr_app line)
@@ -179,35 +242,41 @@ texts_there line taken = record {
   rounds = fits_32 rounds (matches_of attr_app line) (lit< tt) (rounds_text line taken);
   buffers = fits_32 buffers (matches_of attr_app line) (lit< tt) (buffers_text line taken);
   words = fits_32 words (matches_of attr_app line) (lit< tt) (words_text line taken);
+  make = small_or_none make (matches_of attr_app line) (lit< tt) (make_text line taken);
+  seed = fits_32 seed (matches_of attr_app line) (lit< tt) (seed_text line taken);
   after = after_text line taken;
+  wide = wide_text line taken;
+  dense = dense_text line taken;
+  save = save_text line taken;
 }
 
-within : (o : NumberOption) (rows : List Row) (n : ℕ)
-    → HasText (IsUnsignedIn o.least o.most) o.name rows → n ≡ number_at o.name rows → IsWithin o n
-within o rows n text is =
+within : (o : NumberOption) (rows : List Row)
+    → HasText (IsUnsignedIn o.least o.most) o.name rows → IsWithin o (number_at o.name rows)
+within o rows text =
     let read : number_at o.name rows ≡ digits_value 10 (without_leading_plus text.0) =
     ap (λ (t : Option Text). digits_value 10 (without_leading_plus (unwrap_or t []))) text.1 in
-    let e = is ∙ read in
-    (omega (arith, e, text.3.2), omega (arith, e, text.3.3))
+    (omega (arith, read, text.3.2), omega (arith, read, text.3.3))
+
+within_if : (o : NumberOption) (rows : List Row)
+    → MayHaveText (IsUnsignedIn o.least o.most) o.name rows
+    → IfSome (option_map number_in (first_of o.name rows)) (IsWithin o)
+within_if o rows (inl none) = rw none.0 tt
+within_if o rows (inr text) = rw text.1 (text.3.2, text.3.3)
 
 -- and each number is in its range
 pub in_range : RangesHold
 in_range line taken =
     let rows = matches_of attr_app line in
     record {
-      in_batch = within batch rows _ (batch_text line taken) refl;
-      in_readers = within readers rows _ (readers_text line taken) refl;
-      in_rounds = within rounds rows _ (rounds_text line taken) refl;
-      in_buffers = within buffers rows _ (buffers_text line taken) refl;
-      in_words = within words rows _ (words_text line taken) refl;
+      in_batch = within batch rows (batch_text line taken);
+      in_readers = within readers rows (readers_text line taken);
+      in_rounds = within rounds rows (rounds_text line taken);
+      in_buffers = within buffers rows (buffers_text line taken);
+      in_words = within words rows (words_text line taken);
+      in_make = within_if make rows (make_text line taken);
+      in_seed = within seed rows (seed_text line taken);
     }
 
 -- and kind, value type and field are texts that the matches have
-pub texts_given : (line : List Text) (s : Settings) → AreTaken line
-    → given_by s ≡ settings_of (matches_of attr_app line)
-    → HasGivenTexts line s
-texts_given line s taken is = (
-  kind_text line taken ∙ ap (λ (g : Given). Some g.kind) (sym is),
-  value_text line taken ∙ ap (λ (g : Given). Some g.value) (sym is),
-  field_text line taken ∙ ap (λ (g : Given). Some g.field) (sym is),
-)
+pub texts_given : TextsAreGiven
+texts_given line taken = (kind_text line taken, value_text line taken, field_text line taken)

@@ -3,21 +3,33 @@ ghost use Rattle.std.specs.Prelude.{◌≡◌, ◌≤◌, IfOk, length, map, str
 ghost use Rattle.clap.specs.Faults.{fault_of};
 ghost use Rattle.attr_words.specs.CommandLine.{attr_app};
 ghost use Rattle.attr_words.specs.Found.{error_of};
-ghost use Rattle.attr_words.specs.Reading.{HasGivenTexts, IsInRange, RangesHold, AnswersWords, given_by};
+ghost use Rattle.attr_words.specs.Reading.{AnswersWords, RangesHold, TextsAreGiven};
+ghost use Rattle.attr_words.specs.Settings.{IsLawful, Says, SettingsAreLawful, given_by, settings_in};
 ghost use Rattle.attr_words.specs.declared.reading.WordsError.TheVariants as errors;
 
 use crate::command::attr_command;
-use crate::settings::{Settings, settings_in};
+use crate::options::{Options, options_in};
+use crate::settings::{Settings, settings_by};
 use clap::error::ErrorKind;
 use std::alloc::{AllocError, Global};
 
-/// Why a list of words gives no settings.
+/// Why a list of words gives no settings. They are looked at in this order.
 #[derive(Clone, Copy, Debug, PartialEq, Eq)]
 pub enum WordsError {
     /// The words ask for help, by `--help` or `-h`, before anything in them is refused.
     Help,
     /// The command does not take the words: a fault comes before any help flag.
     Refused,
+    /// The name of the kind is none.
+    Kind,
+    /// The name of the value type is none.
+    Value,
+    /// So many buffers, or words in all, have no references: above 1,023 buffers without `--wide`, or above
+    /// 67,108,864 words with it.
+    Size { buffers: u32, words: u32 },
+    /// The text of `--also` is not one to seven fields `name:kind:value` with names of their own. `place` is
+    /// the offset of the first part that breaks this.
+    Also { place: u64 },
     /// Memory was refused.
     Memory,
 }
@@ -40,24 +52,39 @@ fn refusal_of(kind: ErrorKind) -> WordsError
     }
 }
 
-/// AnswersWords the words after the program's name, as `clap` reads them by the command `attr`
-/// (<https://docs.rs/clap>): options in any order, `--name=value` too, `--` before queries that
-/// begin with a dash, and the first fault decides.
-#[tactic(auto, using(crate::proofs::CommandLemmas::one_kind_at_most))]
-pub fn read_words(alloc: Global, words: &[String]) -> Result<Settings, WordsError>
-    ensures answer { AnswersWords (map (λ w. string_bytes w) words.now) result }
-    ensures one_kind { length (fault_of attr_app (map (λ w. string_bytes w) words.now)) ≤ 1 }
-    ensures texts { IfOk result (HasGivenTexts (map (λ w. string_bytes w) words.now)) }
-    ensures ranges { IfOk result (λ s. IsInRange (given_by s)) }
+/// What the options say in these words.
+fn read_options(alloc: Global, words: &[String]) -> Result<Options, WordsError>
+    ensures { AnswersWords (map (λ w. string_bytes w) words.now) result }
 {
     let command = attr_command(alloc)?;
     match command.try_get_matches_from(words) {
-        Ok(matches) => Ok(settings_in(alloc, &matches)?),
+        Ok(matches) => Ok(options_in(alloc, &matches)?),
         Err(error) => Err(refusal_of(error.kind())),
     }
 }
 
-/// Words that the command takes give each number in the range of its option.
+/// Reads the words after the program's name, first as `clap` reads them by the command `attr`
+/// (<https://docs.rs/clap>): options in any order, `--name=value` too, `--` before queries that
+/// begin with a dash, and the first fault decides. Then the names of kind and value type, the size of the
+/// store and the further attributes are looked at.
+#[tactic(auto, using(crate::proofs::CommandLemmas::one_kind_at_most))]
+pub fn read_words(alloc: Global, words: &[String]) -> Result<Settings, WordsError>
+    ensures says { Says given_by result (settings_in (map (λ w. string_bytes w) words.now)) }
+    ensures one_kind { length (fault_of attr_app (map (λ w. string_bytes w) words.now)) ≤ 1 }
+    ensures lawful { IfOk result (λ s. IsLawful (given_by s)) }
+{
+    settings_law();
+    let options = read_options(alloc, words)?;
+    settings_by(alloc, options)
+}
+
+/// Words that the command takes give each number in the range of its option, and texts that are there.
 pub fn ranges_law()
-    ensures { RangesHold }
+    ensures ranges { RangesHold }
+    ensures texts { TextsAreGiven }
+{}
+
+/// The settings of words are lawful.
+pub fn settings_law()
+    ensures { SettingsAreLawful }
 {}

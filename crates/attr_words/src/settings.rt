@@ -1,24 +1,22 @@
-//! The settings of a run, and how clap's matches give them.
-ghost use Rattle.std.specs.Prelude.{◌≡◌, IfOk, map, string_bytes};
-ghost use Rattle.clap.specs.Matches.{found_of};
-ghost use Rattle.clap.specs.Walk.{rows_of};
-ghost use Rattle.attr_words.specs.Found.{HasFlagText, HasNumberText, HasTexts};
-ghost use Rattle.attr_words.specs.Reading.{flag_at, given_by, number_at, settings_of};
-ghost use Rattle.attr_words.specs.Reading.{text_at, texts_at};
+//! The settings of a run.
+ghost use Rattle.std.specs.Prelude.{◌≡◌};
+ghost use Rattle.attr_names.specs.Names.{kind_named, value_named};
+ghost use Rattle.attr_words.specs.Reading.{options_said};
+ghost use Rattle.attr_words.specs.Settings.{Says, are_too_many, given_by, if_room, or_refused, settings_by};
+ghost use Rattle.attr_words.specs.declared.reading.WordsError.TheVariants as errors;
 
-use clap::ArgMatches;
-use std::alloc::{AllocError, Global};
+use crate::also::fields_of;
+use crate::options::Options;
+use crate::reading::WordsError;
+use attr_names::{kind_named, value_named};
+use attr_types::{Field, Fields, Kind, Name, ValueType};
+use std::alloc::Global;
 
-/// What the words say of a run. The names of kind and value type, and the queries, are texts as they
-/// were given: which of them there are is not looked at here.
+/// What the words say of a run. The queries are texts as they were given.
 #[derive(Debug, Drop)]
 pub struct Settings {
-    /// The name of the attribute's kind.
-    pub kind: String,
-    /// The name of its value type.
-    pub value: String,
-    /// The field of a document that the attribute holds.
-    pub field: String,
+    /// The attributes: that of `--field` first, then those of `--also`.
+    pub fields: Fields,
     /// How many operations of the feed are committed together.
     pub batch: u32,
     /// How many readers run.
@@ -31,69 +29,76 @@ pub struct Settings {
     pub words: u32,
     /// The readers run after the whole feed is loaded, and not beside the loading.
     pub after: bool,
+    /// How many operations are made in place of a feed.
+    pub make: Option<u32>,
+    /// What they are made from.
+    pub seed: u32,
+    /// References have 19 and 13 bits in place of 22 and 10.
+    pub wide: bool,
+    /// Long posting lists are bit vectors where that is shorter.
+    pub dense: bool,
+    /// The table is saved in place of a report.
+    pub save: bool,
     /// The words that belong to no option, in their order.
     pub queries: Vec<String>,
 }
 
-fn text_in(alloc: Global, matches: &ArgMatches<'_>, name: &str) -> Result<String, AllocError>
-    ensures { IfOk result (λ s. string_bytes s
-        ≡ text_at name.now (rows_of (found_of matches.now))) }
+fn kind_in(name: &str) -> Result<Kind, WordsError>
+    ensures { Says (λ kind. kind) result (or_refused errors.Kind (kind_named name.now)) }
 {
-    String::from_str(alloc, matches.get_str(name).unwrap_or(""))
+    kind_named(name).ok_or(WordsError::Kind)
 }
 
-fn number_in(matches: &ArgMatches<'_>, name: &str) -> u32
-    requires { HasNumberText name.now (rows_of (found_of matches.now)) }
-    ensures { result ≡ number_at name.now (rows_of (found_of matches.now)) }
+fn value_in(name: &str) -> Result<ValueType, WordsError>
+    ensures { Says (λ value. value) result (or_refused errors.Value (value_named name.now)) }
 {
-    match matches.get_one::<u32>(name) {
-        Some(number) => number,
-        None => unreachable!(),
+    value_named(name).ok_or(WordsError::Value)
+}
+
+/// Whether the references of a store cannot tell its buffers and words apart.
+fn are_too_many(wide: bool, buffers: u32, words: u32) -> bool
+    ensures { result ≡ are_too_many wide buffers words }
+{
+    if wide {
+        u64::from(buffers) * u64::from(words) > 1 << 26
+    } else {
+        buffers > 1_023
     }
 }
 
-fn flag_in(matches: &ArgMatches<'_>, name: &str) -> bool
-    requires { HasFlagText name.now (rows_of (found_of matches.now)) }
-    ensures { result ≡ flag_at name.now (rows_of (found_of matches.now)) }
+fn room_in(wide: bool, buffers: u32, words: u32) -> Result<(), WordsError>
+    ensures { Says (λ room. room) result (or_refused (errors.Size buffers words) (if_room wide buffers words)) }
 {
-    matches.get_flag(name)
-}
-
-fn copied(alloc: Global, texts: &[&str]) -> Result<Vec<String>, AllocError>
-    ensures { IfOk result (λ v. map (λ s. string_bytes s) v.items ≡ map (λ t. t.now) texts.now) }
-{
-    let mut copies = Vec::new(alloc);
-    for text in texts {
-        copies.push(String::from_str(alloc, text)?)?;
-    }
-    Ok(copies)
-}
-
-fn texts_in(alloc: Global, matches: &ArgMatches<'_>, name: &str) -> Result<Vec<String>, AllocError>
-    ensures { IfOk result (λ v. map (λ s. string_bytes s) v.items
-        ≡ texts_at name.now (rows_of (found_of matches.now))) }
-{
-    match matches.get_strs(name) {
-        Some(texts) => copied(alloc, texts),
-        None => Ok(Vec::new(alloc)),
+    if are_too_many(wide, buffers, words) {
+        Err(WordsError::Size { buffers, words })
+    } else {
+        Ok(())
     }
 }
 
-/// The settings that the matches of a parse give.
-pub(crate) fn settings_in(alloc: Global, matches: &ArgMatches<'_>) -> Result<Settings, AllocError>
-    requires { HasTexts (rows_of (found_of matches.now)) }
-    ensures { IfOk result (λ s. given_by s ≡ settings_of (rows_of (found_of matches.now))) }
+/// The settings that the options say, or their first refusal.
+#[tactic(auto, unfolding(crate::specs::Settings::settings_by))]
+pub(crate) fn settings_by(alloc: Global, options: Options) -> Result<Settings, WordsError>
+    ensures { Says given_by result (settings_by (options_said options)) }
 {
+    let kind = kind_in(options.kind.as_str())?;
+    let value = value_in(options.value.as_str())?;
+    room_in(options.wide, options.buffers, options.words)?;
+    let name = Name::new(options.field);
+    let fields = fields_of(alloc, Field { name, kind, value }, options.also)?;
     Ok(Settings {
-        kind: text_in(alloc, matches, "kind")?,
-        value: text_in(alloc, matches, "value")?,
-        field: text_in(alloc, matches, "field")?,
-        batch: number_in(matches, "batch"),
-        readers: number_in(matches, "readers"),
-        rounds: number_in(matches, "rounds"),
-        buffers: number_in(matches, "buffers"),
-        words: number_in(matches, "words"),
-        after: flag_in(matches, "after"),
-        queries: texts_in(alloc, matches, "query")?,
+        fields,
+        batch: options.batch,
+        readers: options.readers,
+        rounds: options.rounds,
+        buffers: options.buffers,
+        words: options.words,
+        after: options.after,
+        make: options.make,
+        seed: options.seed,
+        wide: options.wide,
+        dense: options.dense,
+        save: options.save,
+        queries: options.queries,
     })
 }
