@@ -1,0 +1,26 @@
+-- What is written one after another is a save.
+use Rattle.std.proofs.Common.{◌≡◌, ℕ, ◌≤◌, ◌<◌, ◌^◌, List, [], ◌∷◌, ◌++◌, length, Fits, w32, refl, sym, ap, ◌∙◌, arith}
+use Rattle.std.specs.List.{flat_map}
+use Rattle.std.proofs.lemmas.List.{length-map}
+use Rattle.attr_types.specs.Lawful.{last_doc}
+use Rattle.attr_types.specs.Query.{items_in}
+use Rattle.attr_types.specs.Table.{Table}
+use Rattle.attr_types.specs.Value.{Document}
+use Rattle.attr_types.specs.declared.kind.Kind.{Kind}
+use Rattle.attr_types.specs.declared.kind.ValueType.{ValueType}
+use Rattle.attr_saver.specs.Bytes.{head_bytes, document_bytes, saved_bytes}
+use Rattle.attr_saver.specs.Lawful.{column_of, save_of, IsLawfulColumn}
+use Rattle.attr_saver.proofs.Columns.{column_few}
+
+counted : (table : Table) (n : ℕ) → n ≡ length table → n ≡ length (column_of table)
+counted [] n is = is
+counted (e ∷ table) n is = omega (arith, is, counted table (length table) refl)
+
+pub counted_fits : (kind : Kind) (type : ValueType) (table : Table) (n : ℕ) → IsLawfulColumn kind type (column_of table) → n ≡ length table → Fits w32 n
+counted_fits kind type table n lawful is =
+    record { fits = omega (arith, column_few kind type (column_of table) lawful, counted table n is) }
+
+pub saved_is : (kind : Kind) (type : ValueType) (operations n : ℕ) (table : Table) (none head all : List ℕ) → none ≡ []
+    → head ≡ none ++ head_bytes kind type operations n → all ≡ head ++ flat_map (document_bytes kind) (column_of table) → n ≡ length table
+    → all ≡ saved_bytes (save_of kind type operations table)
+saved_is kind type operations n table none head all p q r is = rw (r, q, p, ← counted table n is) refl

@@ -1,0 +1,5 @@
+pub mod Answers
+pub mod Bytes
+pub mod Fields
+pub mod Lawful
+pub mod Laws

@@ -1,0 +1,165 @@
+//! The fields of documents, and all fields.
+ghost use Rattle.std.specs.Prelude.{◌≡◌, ◌≤◌, IfOk};
+ghost use Rattle.attr_saver.specs.Answers.{Gives};
+ghost use Rattle.attr_saver.specs.Fields.{kind_of, kind_at, type_of, type_at, count_at};
+ghost use Rattle.attr_saver.specs.Fields.{doc_at, most_items, item_count_at, document_at, documents_at, saved_at};
+
+use crate::error::Broken;
+use crate::reader::Reader;
+use crate::saved::{Saved, SavedDocument, SavedTable};
+use crate::value::read_items;
+use attr_types::{Doc, Kind, MOST_ITEMS, ValueType};
+use std::alloc::Global;
+
+fn kind_of(byte: u8) -> Option<Kind>
+    ensures { result ≡ kind_of byte }
+{
+    match byte {
+        0 => Some(Kind::Single),
+        1 => Some(Kind::Array),
+        2 => Some(Kind::WeightedSet),
+        _ => None,
+    }
+}
+
+#[tactic(auto, unfolding(crate::specs::Fields::kind_at))]
+fn read_kind(reader: &mut Reader) -> Result<Kind, Broken>
+    ensures { Gives (λ x. (x, reader.new)) result (kind_at reader.old) }
+{
+    let left = reader.left();
+    let byte = reader.u8()?;
+    match kind_of(byte) {
+        Some(kind) => Ok(kind),
+        None => Err(Broken::Field { left }),
+    }
+}
+
+fn type_of(byte: u8) -> Option<ValueType>
+    ensures { result ≡ type_of byte }
+{
+    match byte {
+        0 => Some(ValueType::Long),
+        1 => Some(ValueType::Text),
+        _ => None,
+    }
+}
+
+#[tactic(auto, unfolding(crate::specs::Fields::type_at))]
+fn read_type(reader: &mut Reader) -> Result<ValueType, Broken>
+    ensures { Gives (λ x. (x, reader.new)) result (type_at reader.old) }
+{
+    let left = reader.left();
+    let byte = reader.u8()?;
+    match type_of(byte) {
+        Some(value_type) => Ok(value_type),
+        None => Err(Broken::Field { left }),
+    }
+}
+
+/// How many documents follow.
+#[tactic(auto, unfolding(crate::specs::Fields::count_at))]
+fn read_count(reader: &mut Reader) -> Result<u32, Broken>
+    ensures { Gives (λ x. (x, reader.new)) result (count_at reader.old) }
+{
+    let left = reader.left();
+    let count = reader.u32()?;
+    if Doc::LAST < count {
+        return Err(Broken::Field { left });
+    }
+    Ok(count)
+}
+
+/// The number of a document that comes after the one with number `before`.
+#[tactic(auto, unfolding(crate::specs::Fields::doc_at))]
+fn read_doc(reader: &mut Reader, before: u32) -> Result<Doc, Broken>
+    ensures { Gives (λ x. (x, reader.new)) result (doc_at before reader.old) }
+{
+    let left = reader.left();
+    let number = reader.u32()?;
+    if number <= before || Doc::LAST < number {
+        return Err(Broken::Field { left });
+    }
+    Ok(Doc::new(number))
+}
+
+fn most_items(kind: Kind) -> u16
+    ensures { result ≡ most_items kind }
+{
+    match kind {
+        Kind::Single => 1,
+        Kind::Array | Kind::WeightedSet => MOST_ITEMS as u16,
+    }
+}
+
+/// How many items of a document follow.
+#[tactic(auto, unfolding(crate::specs::Fields::item_count_at))]
+fn read_item_count(reader: &mut Reader, kind: Kind) -> Result<u16, Broken>
+    ensures { Gives (λ x. (x, reader.new)) result (item_count_at kind reader.old) }
+{
+    let left = reader.left();
+    let count = reader.u16()?;
+    if most_items(kind) < count {
+        return Err(Broken::Field { left });
+    }
+    Ok(count)
+}
+
+/// A document that comes after the one with number `before`.
+#[tactic(auto, unfolding(crate::specs::Fields::document_at))]
+fn read_document(
+    alloc: Global,
+    reader: &mut Reader,
+    kind: Kind,
+    value_type: ValueType,
+    before: u32,
+) -> Result<SavedDocument, Broken>
+    ensures { Gives (λ x. (x, reader.new)) result (document_at kind value_type before reader.old) }
+{
+    let doc = read_doc(reader, before)?;
+    let count = read_item_count(reader, kind)?;
+    let items = read_items(alloc, reader, kind, value_type, count)?;
+    Ok(SavedDocument { doc, items })
+}
+
+fn read_documents(
+    alloc: Global,
+    reader: &mut Reader,
+    kind: Kind,
+    value_type: ValueType,
+    count: u32,
+) -> Result<SavedTable, Broken>
+    ensures { Gives (λ x. (x, reader.new)) result (documents_at kind value_type count 0 reader.old) }
+{
+    let mut documents = Vec::new(alloc);
+    let mut before = 0;
+    for _ in 0..count {
+        let document = read_document(alloc, reader, kind, value_type, before)?;
+        before = document.doc.number();
+        documents.push(document)?;
+    }
+    Ok(SavedTable::from_vec(documents))
+}
+
+/// What bytes tell, all of the bytes.
+#[tactic(auto, unfolding(crate::specs::Fields::saved_at))]
+pub(crate) fn saved_in_bytes(alloc: Global, bytes: &[u8]) -> Result<Saved, Broken>
+    ensures { Gives (λ x. x) result (saved_at bytes.now) }
+{
+    let mut reader = Reader::new(bytes);
+    reader.magic()?;
+    let kind = read_kind(&mut reader)?;
+    let value = read_type(&mut reader)?;
+    let operations = reader.u32()?;
+    let count = read_count(&mut reader)?;
+    let table = read_documents(alloc, &mut reader, kind, value, count)?;
+    let left = reader.left();
+    if left != 0 {
+        return Err(Broken::Field { left });
+    }
+    Ok(Saved {
+        kind,
+        value,
+        operations,
+        table,
+    })
+}

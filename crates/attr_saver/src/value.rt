@@ -1,0 +1,143 @@
+//! The fields of an item.
+ghost use Rattle.std.specs.Prelude.{◌≡◌, ◌≤◌, IfOk, None};
+ghost use Rattle.attr_saver.specs.Answers.{Gives};
+ghost use Rattle.attr_saver.specs.Fields.{long_at, text_len_at, text_at, last_value, may_follow};
+ghost use Rattle.attr_saver.specs.Fields.{following, value_at, weight_at, item_at, items_at};
+
+use crate::error::Broken;
+use crate::reader::Reader;
+use attr_types::{Item, Items, Kind, Text, Value, ValueType, compare};
+use std::alloc::Global;
+use std::str;
+
+#[tactic(auto, unfolding(crate::specs::Fields::long_at))]
+fn read_long(reader: &mut Reader) -> Result<Value, Broken>
+    ensures { Gives (λ x. (x, reader.new)) result (long_at reader.old) }
+{
+    let number = reader.u64()?;
+    Ok(Value::Long(number.cast_signed()))
+}
+
+#[tactic(auto, unfolding(crate::specs::Fields::text_len_at))]
+fn read_text_len(reader: &mut Reader) -> Result<usize, Broken>
+    ensures form { Gives (λ x. (x, reader.new)) result (text_len_at reader.old) }
+    ensures short { IfOk result (λ x. x ≤ 1024) }
+{
+    let left = reader.left();
+    let len = usize::from(reader.u16()?);
+    if Text::MAX_LEN < len {
+        return Err(Broken::Field { left });
+    }
+    Ok(len)
+}
+
+#[tactic(auto, unfolding(crate::specs::Fields::text_at))]
+fn read_text(alloc: Global, reader: &mut Reader, len: usize) -> Result<Value, Broken>
+    requires { len ≤ 1024 }
+    ensures { Gives (λ x. (x, reader.new)) result (text_at len reader.old) }
+{
+    let left = reader.left();
+    let bytes = reader.bytes(len)?;
+    match str::from_utf8(bytes) {
+        Ok(text) => Ok(Value::Text(Text::from_str(alloc, text)?)),
+        Err(_) => Err(Broken::Field { left }),
+    }
+}
+
+/// Whether a value may stand behind items: in a weighted set it is above the last.
+fn may_follow(kind: Kind, items: &[Item], value: &Value) -> bool
+    ensures { result ≡ may_follow kind (last_value items.now) value.now }
+{
+    match kind {
+        Kind::Single | Kind::Array => true,
+        Kind::WeightedSet => match items.last() {
+            Some(last) => compare(&last.value, value).is_lt(),
+            None => true,
+        },
+    }
+}
+
+/// The value of an item that stands behind others.
+#[tactic(auto, unfolding(crate::specs::Fields::value_at))]
+fn read_value(
+    alloc: Global,
+    reader: &mut Reader,
+    kind: Kind,
+    value_type: ValueType,
+    items: &[Item],
+) -> Result<Value, Broken>
+    ensures { Gives (λ x. (x, reader.new)) result
+        (value_at kind value_type (last_value items.now) reader.old) }
+{
+    match value_type {
+        ValueType::Long => {
+            let left = reader.left();
+            let value = read_long(reader)?;
+            following(kind, items, value, left)
+        }
+        ValueType::Text => {
+            let len = read_text_len(reader)?;
+            let left = reader.left();
+            let value = read_text(alloc, reader, len)?;
+            following(kind, items, value, left)
+        }
+    }
+}
+
+/// A value, if it may stand behind items. So many bytes are left where its field begins.
+fn following(kind: Kind, items: &[Item], value: Value, left: usize) -> Result<Value, Broken>
+    ensures { Gives (λ x. x) result (following kind (last_value items.now) left value) }
+{
+    if !may_follow(kind, items, &value) {
+        return Err(Broken::Field { left });
+    }
+    Ok(value)
+}
+
+#[tactic(auto, unfolding(crate::specs::Fields::weight_at))]
+fn read_weight(reader: &mut Reader, kind: Kind) -> Result<i32, Broken>
+    ensures { Gives (λ x. (x, reader.new)) result (weight_at kind reader.old) }
+{
+    match kind {
+        Kind::Single | Kind::Array => Ok(1),
+        Kind::WeightedSet => {
+            let weight = reader.u32()?;
+            Ok(weight.cast_signed())
+        }
+    }
+}
+
+/// An item that stands behind others.
+#[tactic(auto, unfolding(crate::specs::Fields::item_at))]
+fn read_item(
+    alloc: Global,
+    reader: &mut Reader,
+    kind: Kind,
+    value_type: ValueType,
+    items: &[Item],
+) -> Result<Item, Broken>
+    ensures { Gives (λ x. (x, reader.new)) result
+        (item_at kind value_type (last_value items.now) reader.old) }
+{
+    let value = read_value(alloc, reader, kind, value_type, items)?;
+    let weight = read_weight(reader, kind)?;
+    Ok(Item { value, weight })
+}
+
+/// The items of a document.
+pub(crate) fn read_items(
+    alloc: Global,
+    reader: &mut Reader,
+    kind: Kind,
+    value_type: ValueType,
+    count: u16,
+) -> Result<Items, Broken>
+    ensures { Gives (λ x. (x, reader.new)) result (items_at kind value_type count None reader.old) }
+{
+    let mut items = Vec::new(alloc);
+    for _ in 0..count {
+        let item = read_item(alloc, reader, kind, value_type, items.as_slice())?;
+        items.push(item)?;
+    }
+    Ok(Items::from_vec(items))
+}
