@@ -3,9 +3,11 @@
 #![tactic(auto)]
 
 mod ask;
+mod laws;
 mod part;
 mod score;
 
 pub use ask::{Ask, Asks};
+pub use laws::scores_law;
 pub use part::{Part, Parts};
-pub use score::{Score, ScoreList};
+pub use score::{Score, ScoreList, scores_of};
