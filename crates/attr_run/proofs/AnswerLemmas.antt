@@ -9,8 +9,10 @@ use Rattle.attr_io.specs.Faults.{Rose}
 use Rattle.attr_types.specs.declared.op.Op.{Op}
 use Rattle.attr_words.specs.CommandLine.{attr_app}
 use Rattle.attr_words.specs.Reading.{AskForHelp, AreRefused}
-use Rattle.attr_run.specs.Run.{Run, Progress, Task, asked, task_of}
-use Rattle.attr_run.specs.Report.{written, answer_text}
+use Rattle.attr_report.specs.Run.{Run, Progress}
+use Rattle.attr_report.specs.Report.{written}
+use Rattle.attr_run.specs.Run.{Task, asked, ReadsFeed, task_of}
+use Rattle.attr_run.specs.Texts.{answer_text}
 use Rattle.attr_run.specs.Answers.{EndsRun, IsEnd, OfRun, ComesExactly, ComesExactlyOfFeed}
 use Rattle.attr_run.specs.Answers.{IsBeforeRun, HasNoRun, IsProper, IsRunUntil, IsDue}
 use Rattle.attr_run.specs.Steps.{IsAnswer}
@@ -113,6 +115,9 @@ ended-run met status progress Q follows answer full ends =
 unasked : (words : List Text) (status : Status) → IsOk (asked words) → asked words ≡ Err status → ⊥
 unasked words status ok err = cc
 
+unasked-feed : (words : List Text) (status : Status) → ReadsFeed (asked words) → asked words ≡ Err status → ⊥
+unasked-feed words status reads err = subst ReadsFeed err reads
+
 -- where the words ask for no run, the answer is why, or a failed write or want of memory in its place
 pub refused-words : (met : Met) (status : Status) (progress : Progress) (why : Status)
     → Answers met status progress → asked met.words ≡ Err why
@@ -120,8 +125,8 @@ pub refused-words : (met : Met) (status : Status) (progress : Progress) (why : S
 refused-words met Done progress why answer asks = absurd (unasked met.words why answer.1.0 asks)
 refused-words met Help progress why answer asks = let is : Help ≡ why = cc (answer.1.0) in inl is
 refused-words met (Usage cause) progress why answer asks = let is : Usage cause ≡ why = cc (answer.1.0) in inl is
-refused-words met (BadFeed fault) progress why answer asks = absurd (unasked met.words why answer.1.0.0 asks)
-refused-words met ReadFault progress why answer asks = absurd (unasked met.words why answer.1.0.0 asks)
+refused-words met (BadFeed fault) progress why answer asks = absurd (unasked-feed met.words why answer.1.0.0 asks)
+refused-words met ReadFault progress why answer asks = absurd (unasked-feed met.words why answer.1.0.0 asks)
 refused-words met WriteFault progress why answer asks = inr (inl refl)
 refused-words met (Full operation active held) progress why answer asks =
     absurd (unasked met.words why answer.1.0 asks)

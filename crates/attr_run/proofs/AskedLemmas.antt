@@ -1,166 +1,138 @@
 -- What the words ask for, step by step.
-use Rattle.std.proofs.Common.{◌≡◌, ◌≢◌, ◌≤◌, ◌∙◌, sym, ap, refl, ℕ, List, [], ◌∷◌, length, ◌+◌}
-use Rattle.std.proofs.Common.{Option, Some, None, Result, Ok, Err, IfErr, subst, arith}
-use Rattle.clap.specs.Walk.{Row, Text}
-use Rattle.clap.specs.Simple.{matches_of}
+use Rattle.std.proofs.Common.{◌≡◌, ◌≢◌, ◌≤◌, ◌∙◌, ap, refl, ℕ, List, [], ◌∷◌, length, ◌+◌}
+use Rattle.std.proofs.Common.{Result, Ok, Err, IfErr, subst, arith}
+use Rattle.clap.specs.Walk.{Text}
 use Rattle.clap.specs.Faults.{fault_of}
-use Rattle.clap.specs.Kinds.{Kinds}
-use Rattle.clap.specs.declared.error.kind.ErrorKind.{ErrorKind}
-use Rattle.clap.specs.declared.error.kind.ErrorKind.TheVariants as kinds
-use Rattle.attr_types.specs.Query.{QueryTree}
 use Rattle.attr_types.specs.declared.error.QueryError.{QueryError}
-use Rattle.attr_types.specs.declared.kind.Kind.{Kind}
-use Rattle.attr_types.specs.declared.kind.ValueType.{ValueType}
+use Rattle.attr_types.specs.declared.field.Field.{Field}
 use Rattle.attr_words.specs.CommandLine.{attr_app}
-use Rattle.attr_words.specs.Reading.{Given, AreTaken, AskForHelp, AreRefused, settings_of, given_by}
-use Rattle.query_text.specs.Parsing.{query_of}
-use Rattle.attr_run.specs.Run.{◌>>=◌, Run, or_refused, settings_by, settings_in, kind_named}
-use Rattle.attr_run.specs.Run.{value_named, query_or_refused, queries_from, field_of, run_of}
-use Rattle.attr_run.specs.Run.{asked}
-use Rattle.attr_run.specs.Steps.{Says, run_in}
+use Rattle.attr_words.specs.Reading.{AskForHelp, AreRefused}
+use Rattle.attr_words.specs.Settings.{Given, Says as SaysOfWords, settings_in}
+use Rattle.attr_words.specs.declared.reading.WordsError.{WordsError}
+use Rattle.attr_words.specs.declared.reading.WordsError.TheVariants as words
+use Rattle.attr_scores.specs.Scores.{AskTree}
+use Rattle.query_text.specs.Asking.{ask_of}
+use Rattle.attr_report.specs.Run.{Run, run_in}
+use Rattle.attr_report.specs.declared.request.Request.{Request}
+use Rattle.attr_run.specs.Run.{◌>>=◌, given_or_refused, ask_or_refused, asks_from, run_of, asked}
+use Rattle.attr_run.specs.Steps.{Says, words_stop, IsWordsStop}
 use Rattle.attr_run.specs.declared.outcome.Status.{Status}
 use Rattle.attr_run.specs.declared.outcome.Status.TheVariants.{Help, Usage}
 use Rattle.attr_run.specs.declared.outcome.UsageCause.TheVariants as usage
 use Rattle.attr_run.specs.declared.stop.Stop.{Stop}
 use Rattle.attr_run.specs.declared.stop.Stop.TheVariants as stops
+use Rattle.attr_run.proofs.HelpLemmas.{help-found, refusal-found, found-help, found-refusal}
 
 -- ---- the settings
 
-pub settings_in-taken : (words : List Text) (given : Given) → AreTaken words
-    → given ≡ settings_of (matches_of attr_app words) → settings_in words ≡ Ok given
-unfolding settings_in
-settings_in-taken words given taken is = ap (λ faults. settings_by faults (matches_of attr_app words)) taken
-    ∙ ap Ok (sym is)
+pub words-refused : {A : Type 0} (shown : A → Given) (error : WordsError) (said : Result Given WordsError)
+    → SaysOfWords shown (Err error) said → Says shown (Err (words_stop error)) (given_or_refused said)
+words-refused shown words.Help said says = ap given_or_refused says
+words-refused shown words.Refused said says = ap given_or_refused says
+words-refused shown words.Kind said says = ap given_or_refused says
+words-refused shown words.Value said says = ap given_or_refused says
+words-refused shown (words.Size buffers each) said says = ap given_or_refused says
+words-refused shown (words.Also place) said says = ap given_or_refused says
+words-refused shown words.Memory said says = tt
 
-pub settings_in-help : (words : List Text) → AskForHelp words → settings_in words ≡ Err Help
-unfolding settings_in
-settings_in-help words help = ap (λ faults. settings_by faults (matches_of attr_app words)) help
-
-refused_by : (kind : ErrorKind) (rows : List Row) → kind ≢ kinds.DisplayHelp
-    → settings_by (kind ∷ []) rows ≡ Err (Usage usage.Words)
-refused_by kinds.DisplayHelp rows other = absurd (other refl)
-refused_by kind rows other = refl
-
-pub settings_in-refused : (words : List Text) → AreRefused words → settings_in words ≡ Err (Usage usage.Words)
-unfolding settings_in
-settings_in-refused words refused =
-    ap (λ faults. settings_by faults (matches_of attr_app words)) refused.2
-    ∙ refused_by refused.0 (matches_of attr_app words) refused.1
+pub words_stop-words : (error : WordsError) → IsWordsStop (words_stop error)
+words_stop-words words.Help = tt
+words_stop-words words.Refused = tt
+words_stop-words words.Kind = tt
+words_stop-words words.Value = tt
+words_stop-words (words.Size buffers each) = tt
+words_stop-words (words.Also place) = tt
+words_stop-words words.Memory = tt
 
 -- ---- the steps after them
 
-pub asked-at_settings : (words : List Text) (stop : Stop) → Says given_by (Err stop) (settings_in words)
-    → Says run_in (Err stop) (asked words)
+pub asked-at_settings : {A : Type 0} (shown : A → Given) (line : List Text) (stop : Stop)
+    → Says shown (Err stop) (given_or_refused (settings_in line)) → Says run_in (Err stop) (asked line)
 unfolding asked
-asked-at_settings words (stops.Answer status) said = rw said refl
-asked-at_settings words stops.Memory said = tt
+asked-at_settings shown line (stops.Answer status) said = rw said refl
+asked-at_settings shown line stops.Memory said = tt
 
-pub asked-at_kind : (words : List Text) (settings : Given) (stop : Stop) → settings_in words ≡ Ok settings
-    → Says (λ (kind : Kind). kind) (Err stop) (or_refused (Usage usage.KindName) (kind_named settings.kind))
-    → Says run_in (Err stop) (asked words)
+pub asked-at_asks : (line : List Text) (given : Given) {A : Type 0} (shown : A → List AskTree) (stop : Stop)
+    → given_or_refused (settings_in line) ≡ Ok given
+    → Says shown (Err stop) (asks_from given.fields 1 given.queries) → Says run_in (Err stop) (asked line)
 unfolding asked
-asked-at_kind words settings (stops.Answer status) given said = rw (given, said) refl
-asked-at_kind words settings stops.Memory given said = tt
+asked-at_asks line given shown (stops.Answer status) is said = rw (is, said) refl
+asked-at_asks line given shown stops.Memory is said = tt
 
-pub asked-at_value : (words : List Text) (settings : Given) (kind : Kind) (stop : Stop)
-    → settings_in words ≡ Ok settings
-    → or_refused (Usage usage.KindName) (kind_named settings.kind) ≡ Ok kind
-    → Says (λ (value : ValueType). value) (Err stop) (or_refused (Usage usage.ValueName)
-    (value_named settings.value)) → Says run_in (Err stop) (asked words)
+pub asked-whole : (line : List Text) (given : Given) (asks : List AskTree)
+    → given_or_refused (settings_in line) ≡ Ok given → asks_from given.fields 1 given.queries ≡ Ok asks
+    → asked line ≡ Ok (run_of given asks)
 unfolding asked
-asked-at_value words settings kind (stops.Answer status) given named said = rw (given, named, said) refl
-asked-at_value words settings kind stops.Memory given named said = tt
-
-pub asked-at_queries : (words : List Text) (settings : Given) (kind : Kind) (value : ValueType) {A : Type 0}
-    (shown : A → List QueryTree) (stop : Stop)
-    → settings_in words ≡ Ok settings
-    → or_refused (Usage usage.KindName) (kind_named settings.kind) ≡ Ok kind
-    → or_refused (Usage usage.ValueName) (value_named settings.value) ≡ Ok value
-    → Says shown (Err stop) (queries_from value 1 settings.queries) → Says run_in (Err stop) (asked words)
-unfolding asked
-asked-at_queries words settings kind value shown (stops.Answer status) given named typed said = rw
-    (given, named, typed, said) refl
-asked-at_queries words settings kind value shown stops.Memory given named typed said = tt
-
-pub asked-whole : (words : List Text) (settings : Given) (kind : Kind) (value : ValueType) (queries : List QueryTree)
-    → settings_in words ≡ Ok settings
-    → or_refused (Usage usage.KindName) (kind_named settings.kind) ≡ Ok kind
-    → or_refused (Usage usage.ValueName) (value_named settings.value) ≡ Ok value
-    → queries_from value 1 settings.queries ≡ Ok queries → asked words
-    ≡ Ok (run_of settings (field_of settings.field kind value ∷ []) queries)
-unfolding asked
-asked-whole words settings kind value queries given named typed read = rw (given, named, typed, read) refl
+asked-whole line given asks is read = rw (is, read) refl
 
 -- ---- what the words give, from what they ask for
 
--- a refusal of a step after the settings
-abbrev IsLater : Status → Type 0
-IsLater (Usage usage.KindName) = Unit {0}
-IsLater (Usage usage.ValueName) = Unit {0}
-IsLater (Usage (usage.Query number error)) = Unit {0}
-IsLater _ = ⊥
+-- a refusal of what is asked
+abbrev IsOfAsks : Status → Type 0
+IsOfAsks (Usage (usage.Query number error)) = Unit {0}
+IsOfAsks _ = ⊥
 
-later-next : {A B : Type 0} (r : Result A Status) (next : A → Result B Status) → IfErr r IsLater
-    → ((a : A) → IfErr (next a) IsLater) → IfErr (r >>= next) IsLater
+later-next : {A B : Type 0} (r : Result A Status) (next : A → Result B Status) → IfErr r IsOfAsks
+    → ((a : A) → IfErr (next a) IsOfAsks) → IfErr (r >>= next) IsOfAsks
 later-next (Ok a) next here after = after a
 later-next (Err status) next here after = here
 
-later-kind : (kind : Option Kind) → IfErr (or_refused (Usage usage.KindName) kind) IsLater
-later-kind (Some kind) = tt
-later-kind None = tt
+later-ask : (number : ℕ) (said : Result AskTree QueryError) → IfErr (ask_or_refused number said) IsOfAsks
+later-ask number (Ok ask) = tt
+later-ask number (Err error) = tt
 
-later-value : (value : Option ValueType) → IfErr (or_refused (Usage usage.ValueName) value) IsLater
-later-value (Some value) = tt
-later-value None = tt
+later-asks : (fields : List Field) (number : ℕ) (texts : List Text) → IfErr (asks_from fields number texts) IsOfAsks
+unfolding asks_from
+later-asks fields number [] = tt
+later-asks fields number (text ∷ texts) = later-next _ _ (later-ask number (ask_of fields text))
+    (λ ask. later-next _ _ (later-asks fields (number + 1) texts) (λ asks. tt))
 
-later-query : (number : ℕ) (said : Result QueryTree QueryError) → IfErr (query_or_refused number said) IsLater
-later-query number (Ok query) = tt
-later-query number (Err error) = tt
+refused_first : (said : Result Given WordsError) (rest : Given → Result Run Status) (status : Status)
+    → (IsOfAsks status → ⊥) → ((given : Given) → IfErr (rest given) IsOfAsks)
+    → (given_or_refused said >>= rest) ≡ Err status → given_or_refused said ≡ Err status
+refused_first (Ok given) rest status early later is =
+    absurd (early (subst (λ (r : Result Run Status). IfErr r IsOfAsks) is (later given)))
+refused_first (Err error) rest status early later is = cc
 
-later-queries : (value : ValueType) (number : ℕ) (texts : List Text) → IfErr (queries_from value number texts) IsLater
-unfolding queries_from
-later-queries value number [] = tt
-later-queries value number (text ∷ texts) = later-next _ _ (later-query number (query_of value text))
-    (λ query. later-next _ _ (later-queries value (number + 1) texts) (λ queries. tt))
+by_help : (said : Result Given WordsError) → given_or_refused said ≡ Err Help → said ≡ Err words.Help
+by_help (Ok given) is = cc
+by_help (Err words.Help) is = refl
+by_help (Err words.Refused) is = cc
+by_help (Err words.Kind) is = cc
+by_help (Err words.Value) is = cc
+by_help (Err (words.Size buffers each)) is = cc
+by_help (Err (words.Also place)) is = cc
+by_help (Err words.Memory) is = cc
 
-from_help : (faults : Kinds) (rows : List Row) (rest : Given → Result Run Status)
-    → ((given : Given) → IfErr (rest given) IsLater)
-    → (settings_by faults rows >>= rest) ≡ Err Help → length faults ≤ 1 → faults ≡ kinds.DisplayHelp ∷ []
-from_help [] rows rest later is one = absurd (subst (λ (r : Result Run Status). IfErr r IsLater) is (later
-    (settings_of rows)))
-from_help (kinds.DisplayHelp ∷ []) rows rest later is one = refl
-from_help (kinds.DisplayHelp ∷ other ∷ more) rows rest later is one = absurd (omega arith)
-from_help (kind ∷ more) rows rest later is one = cc
+by_refusal : (said : Result Given WordsError) → given_or_refused said ≡ Err (Usage usage.Words) → said ≡ Err words.Refused
+by_refusal (Ok given) is = cc
+by_refusal (Err words.Help) is = cc
+by_refusal (Err words.Refused) is = refl
+by_refusal (Err words.Kind) is = cc
+by_refusal (Err words.Value) is = cc
+by_refusal (Err (words.Size buffers each)) is = cc
+by_refusal (Err (words.Also place)) is = cc
+by_refusal (Err words.Memory) is = cc
 
-from_refusal : (faults : Kinds) (rows : List Row) (rest : Given → Result Run Status)
-    → ((given : Given) → IfErr (rest given) IsLater)
-    → (settings_by faults rows >>= rest) ≡ Err (Usage usage.Words) → length faults ≤ 1
-    → (kind : ErrorKind) × (kind ≢ kinds.DisplayHelp) × (faults ≡ kind ∷ [])
-from_refusal [] rows rest later is one = absurd (subst (λ (r : Result Run Status). IfErr r IsLater) is (later
-    (settings_of rows)))
-from_refusal (kinds.DisplayHelp ∷ more) rows rest later is one = cc
-from_refusal (kind ∷ []) rows rest later is one = (kind, (λ same. cc), refl)
-from_refusal (kind ∷ other ∷ more) rows rest later is one = absurd (omega arith)
+rest_later : (given : Given)
+    → IfErr (asks_from given.fields 1 given.queries >>= (λ asks. Ok (run_of given asks))) IsOfAsks
+rest_later given = later-next _ _ (later-asks given.fields 1 given.queries) (λ asks. tt)
 
-pub help-asked : (words : List Text) → length (fault_of attr_app words) ≤ 1 → asked words ≡ Err Help → AskForHelp words
-unfolding asked settings_in
-help-asked words one is = from_help (fault_of attr_app words) (matches_of attr_app words) _
-    (λ given. later-next _ _ (later-kind (kind_named given.kind)) (λ kind. later-next _ _ (later-value
-    (value_named given.value))
-    (λ value. later-next _ _ (later-queries value 1 given.queries) (λ queries. tt)))) is one
-
-pub refusal-asked : (words : List Text) → length (fault_of attr_app words) ≤ 1
-    → asked words ≡ Err (Usage usage.Words) → AreRefused words
-unfolding asked settings_in
-refusal-asked words one is = from_refusal (fault_of attr_app words) (matches_of attr_app words) _
-    (λ given. later-next _ _ (later-kind (kind_named given.kind)) (λ kind. later-next _ _ (later-value
-    (value_named given.value))
-    (λ value. later-next _ _ (later-queries value 1 given.queries) (λ queries. tt)))) is one
-
-pub asked-help : (words : List Text) → AskForHelp words → asked words ≡ Err Help
+pub help-asked : (line : List Text) → length (fault_of attr_app line) ≤ 1 → asked line ≡ Err Help → AskForHelp line
 unfolding asked
-asked-help words help = rw (settings_in-help words help) refl
+help-asked line one is = help-found line one
+    (by_help (settings_in line) (refused_first (settings_in line) _ Help (λ none. none) rest_later is))
 
-pub asked-refused : (words : List Text) → AreRefused words → asked words ≡ Err (Usage usage.Words)
+pub refusal-asked : (line : List Text) → length (fault_of attr_app line) ≤ 1
+    → asked line ≡ Err (Usage usage.Words) → AreRefused line
 unfolding asked
-asked-refused words refused = rw (settings_in-refused words refused) refl
+refusal-asked line one is = refusal-found line one
+    (by_refusal (settings_in line) (refused_first (settings_in line) _ (Usage usage.Words) (λ none. none) rest_later is))
+
+pub asked-help : (line : List Text) → AskForHelp line → asked line ≡ Err Help
+unfolding asked
+asked-help line help = rw (ap given_or_refused (found-help line help)) refl
+
+pub asked-refused : (line : List Text) → AreRefused line → asked line ≡ Err (Usage usage.Words)
+unfolding asked
+asked-refused line refused = rw (ap given_or_refused (found-refusal line refused)) refl

@@ -1,9 +1,7 @@
-pub mod QueriesLemmas
+pub mod AsksLemmas
+pub mod HelpLemmas
 pub mod AskedLemmas
-pub mod LoadLemmas
-pub mod ReportLemmas
-pub mod HistoryLemmas
-pub mod RoundsLemmas
+pub mod RunLemmas
 pub mod TaskLemmas
 pub mod AnswerLemmas
 pub mod SettingsLemmas

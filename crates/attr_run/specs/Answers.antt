@@ -7,9 +7,12 @@ use Rattle.attr_io.specs.Bytes.{AppendsFront}
 use Rattle.attr_io.specs.Faults.{Rose}
 use Rattle.attr_types.specs.declared.op.Op.{Op}
 use Rattle.attr_types.specs.declared.error.QueryError.TheVariants as refusal
-use Rattle.attr_run.specs.Run.{Run, Progress, asked, task_of}
-use Rattle.attr_run.specs.Report.{written, answer_text}
-use Rattle.attr_run.specs.History.{IsLoaded, IsRounds, IsAfterwards, IsLegalHistory, history}
+use Rattle.attr_report.specs.Run.{Run, Progress}
+use Rattle.attr_report.specs.Report.{written}
+use Rattle.attr_report.specs.History.{IsLoaded, IsRounds, IsAfterwards, IsSaved, IsLegalHistory, history}
+use Rattle.attr_report.specs.declared.request.Make.{Make}
+use Rattle.attr_run.specs.Run.{asked, ReadsFeed, task_of}
+use Rattle.attr_run.specs.Texts.{answer_text}
 use Rattle.attr_run.specs.declared.outcome.Outcome.{Outcome}
 use Rattle.attr_run.specs.declared.outcome.Status.{Status}
 use Rattle.attr_run.specs.declared.outcome.Status.TheVariants.{Done, Help, Usage, BadFeed}
@@ -21,7 +24,8 @@ use Rattle.attr_run.specs.declared.outcome.FeedFault.TheVariants as feed
 
 -- how far the run of an outcome came
 abbrev pub progress_of : Outcome → Progress
-progress_of outcome = record { loaded = outcome.loaded; rounds = outcome.rounds }
+progress_of outcome =
+    record { loaded = outcome.loaded; rounds = outcome.rounds; saved = outcome.saved }
 
 -- an answer that ends a run, and the operation that found no room, if one did
 abbrev pub EndsRun : Status → Option ℕ → Type 0
@@ -57,8 +61,8 @@ abbrev pub HasCause : List Text → Option (List ℕ) → ℕ → ℕ → Status
 HasCause words left before now Help = asked words ≡ Err Help
 HasCause words left before now (Usage cause) = asked words ≡ Err (Usage cause)
 HasCause words left before now (BadFeed fault) =
-    IsOk (asked words) × IfSome (task_of words left) (λ said. said ≡ Err (BadFeed fault))
-HasCause words left before now ReadFault = IsOk (asked words) × Rose before now
+    ReadsFeed (asked words) × IfSome (task_of words left) (λ said. said ≡ Err (BadFeed fault))
+HasCause words left before now ReadFault = ReadsFeed (asked words) × Rose before now
 HasCause words left before now _ = ⊥
 
 -- an answer before any run: it has a text of its own
@@ -79,14 +83,19 @@ IsProper _ = Unit {0}
 
 -- ---- what an answer leaves
 
--- no run began: nothing was loaded, and no round was made
+-- no run began: nothing was loaded or saved, and no round was made
 pub record HasNoRun (progress : Progress) : Type 0 where
   pub nothing_loaded : progress.loaded ≡ 0
   pub no_rounds : progress.rounds ≡ []
+  pub nothing_saved : progress.saved ≡ None
 
--- the source of a run is read to its end
-abbrev pub ReadsAsAsked : Run → Option (List ℕ) → Type 0
-ReadsAsAsked run left = IsAtEnd left
+-- the source of a run is read to its end, and where its operations are made it is not read
+abbrev pub ReadsBy : Option Make → Option (List ℕ) → Option (List ℕ) → Type 0
+ReadsBy None old new = IsAtEnd new
+ReadsBy (Some make) old new = new ≡ old
+
+abbrev pub ReadsAsAsked : Run → Option (List ℕ) → Option (List ℕ) → Type 0
+ReadsAsAsked run old new = ReadsBy run.make old new
 
 -- how far a run came that ended so, and its text
 pub record IsRunUntil (progress : Progress) (full : Option ℕ) (text : List ℕ) (run : Run)
@@ -94,6 +103,7 @@ pub record IsRunUntil (progress : Progress) (full : Option ℕ) (text : List ℕ
   pub all_loaded : IsLoaded run (length ops) progress.loaded full
   pub in_rounds : IsRounds run (length ops) progress
   pub afterwards : IsAfterwards run progress
+  pub in_save : IsSaved run (length ops) progress
   pub legal : IsLegalHistory run ops progress (history run ops progress)
   pub is_written : text ≡ written run ops progress full
 

@@ -1,7 +1,5 @@
 pub mod Run
 pub mod Settings
-pub mod Report
-pub mod History
+pub mod Texts
 pub mod Answers
 pub mod Steps
-pub mod Laws

@@ -1,35 +1,46 @@
--- What holds of a run that words ask for: its numbers lie in the ranges of their options, and its
--- queries are those that the grammar answers to their texts.
-use Rattle.std.specs.Prelude.{◌≡◌, List, [], ◌∷◌, Ok}
+-- What holds of a run that words ask for: its numbers lie in the ranges of their options, and what it
+-- asks is what the grammar answers to the texts.
+use Rattle.std.specs.Prelude.{◌≡◌, ◌≤◌, ℕ, false, List, length, IfSome, Ok}
 use Rattle.std.specs.List.{AllByRecursion, AllZip}
 use Rattle.std.specs.Str.{IsUtf8}
 use Rattle.clap.specs.Walk.{Text}
-use Rattle.clap.specs.Simple.{matches_of}
-use Rattle.attr_types.specs.Query.{QueryTree}
 use Rattle.attr_types.specs.declared.field.Field.{Field}
-use Rattle.attr_words.specs.CommandLine.{attr_app, batch, readers, rounds, buffers, words}
-use Rattle.attr_words.specs.Reading.{IsWithin, settings_of}
-use Rattle.query_text.specs.Grammar.{Answers}
-use Rattle.attr_run.specs.Run.{Run, asked}
+use Rattle.attr_words.specs.CommandLine.{batch, readers, rounds, buffers, words, make, seed}
+use Rattle.attr_words.specs.Reading.{IsWithin}
+use Rattle.attr_words.specs.Settings.{Given, settings_in, are_too_many}
+use Rattle.attr_scores.specs.Scores.{AskTree}
+use Rattle.query_text.specs.Asking.{AnswersAsk}
+use Rattle.attr_report.specs.Run.{Run}
+use Rattle.attr_report.specs.declared.request.Make.{Make}
+use Rattle.attr_run.specs.Run.{asked}
 
--- the words that belong to no option: the texts of the queries
-abbrev pub query_texts : List Text → List Text
-query_texts line = (settings_of (matches_of attr_app line)).queries
+-- a text in UTF-8, which the grammar answers with this
+abbrev pub IsTextOf : List Field → Text → AskTree → Type 0
+IsTextOf fields text ask = IsUtf8 text × AnswersAsk fields text (Ok ask)
 
--- a text in UTF-8, which the grammar answers with this query of attribute 0
-abbrev pub IsTextOf : List Field → Text → QueryTree → Type 0
-IsTextOf [] text query = ⊥
-IsTextOf (field ∷ fields) text query = IsUtf8 text × Answers field.value text (Ok query)
+abbrev pub IsWithinRanges : Make → Type 0
+IsWithinRanges made = IsWithin make made.count × IsWithin seed made.seed
 
-pub record IsAskedBy (line : List Text) (run : Run) : Type 0 where
+-- lawful settings, and what these texts ask
+pub record IsLawfulRun (texts : List Text) (run : Run) : Type 0 where
   pub in_batch : IsWithin batch run.batch
   pub in_readers : IsWithin readers run.readers
   pub in_rounds : IsWithin rounds run.rounds
   pub in_buffers : IsWithin buffers run.buffers
   pub in_words : IsWithin words run.words
-  pub queries : AllZip (IsTextOf run.fields) (query_texts line) run.queries
+  pub in_make : IfSome run.make IsWithinRanges
+  pub room : are_too_many run.wide run.buffers run.words ≡ false
+  pub some : 1 ≤ length run.fields
+  pub few : length run.fields ≤ 8
+  pub asks : AllZip (IsTextOf run.fields) texts run.asks
+
+-- the run is lawful, and asks what the words say that belong to no option
+pub record IsAskedBy (line : List Text) (run : Run) : Type 0 where
+  pub given : Given
+  pub is : settings_in line ≡ Ok given
+  pub lawful : IsLawfulRun given.queries run
 
 -- this holds of every run that words ask for
 abbrev pub RunsAreAsked : Type 0
-RunsAreAsked = (line : List Text) (run : Run) → asked line ≡ Ok run
-    → AllByRecursion IsUtf8 (query_texts line) → IsAskedBy line run
+RunsAreAsked = (line : List Text) (run : Run) (given : Given) → asked line ≡ Ok run
+    → settings_in line ≡ Ok given → AllByRecursion IsUtf8 given.queries → IsAskedBy line run

@@ -1,25 +1,26 @@
 -- What the steps of a call answer, before its text is made and written.
-use Rattle.std.specs.Prelude.{◌≡◌, ℕ, map, List, [], length, Option, Result, Ok, Err, IsOkAnd}
+use Rattle.std.specs.Prelude.{◌≡◌, ℕ, List, Option, None, Result, Ok, Err, IfSome, IsOkAnd}
 use Rattle.std.specs.Io.KnownBytes.{Appends, Keeps}
 use Rattle.clap.specs.Walk.{Text}
 use Rattle.attr_io.specs.Faults.{Rose}
-use Rattle.attr_types.specs.Query.{tree_of}
-use Rattle.attr_types.specs.declared.op.Op.{Op}
-use Rattle.attr_words.specs.Reading.{given_by}
+use Rattle.attr_types.specs.declared.field.Field.{Field}
+use Rattle.attr_words.specs.declared.reading.WordsError.{WordsError}
+use Rattle.attr_words.specs.declared.reading.WordsError.TheVariants as words
 use Rattle.feed_reader.specs.declared.error.FeedError.{FeedError}
 use Rattle.feed_reader.specs.declared.error.FeedError.TheVariants as feed_errors
-use Rattle.attr_run.specs.Run.{Run, Progress, run_of, asked}
+use Rattle.attr_report.specs.Run.{Run, Progress}
+use Rattle.attr_run.specs.Run.{asked, ops_in, fed}
 use Rattle.attr_run.specs.Settings.{IsAskedBy}
-use Rattle.attr_run.specs.Report.{answer_text}
+use Rattle.attr_run.specs.Texts.{answer_text}
 use Rattle.attr_run.specs.Answers.{OfRun, ReadsAsAsked, HasCause, HasNoRun, IsDue, IsProper}
 use Rattle.attr_run.specs.Answers.{WritesFront}
 use Rattle.attr_run.specs.declared.outcome.Status.{Status}
 use Rattle.attr_run.specs.declared.outcome.Status.TheVariants.{Help, Usage, BadFeed, ReadFault}
 use Rattle.attr_run.specs.declared.outcome.Status.TheVariants.{WriteFault, Memory}
+use Rattle.attr_run.specs.declared.outcome.UsageCause.TheVariants as usage
 use Rattle.attr_run.specs.declared.outcome.FeedFault.TheVariants as feed
 use Rattle.attr_run.specs.declared.stop.Stop.{Stop}
 use Rattle.attr_run.specs.declared.stop.Stop.TheVariants as stops
-use Rattle.attr_run.specs.declared.request.Request.{Request}
 
 -- what a step returns is what was wanted, or its refusal; want of memory says nothing
 abbrev pub Says : {A B : Type 0} → (A → B) → Result A Stop → Result B Status → Type 0
@@ -27,14 +28,15 @@ Says shown (Ok a) wanted = wanted ≡ Ok (shown a)
 Says shown (Err (stops.Answer status)) wanted = wanted ≡ Err status
 Says shown (Err stops.Memory) wanted = Unit {0}
 
--- the run of a request
-abbrev pub run_in : Request → Run
-run_in request = run_of (given_by request.settings) request.fields
-    (map tree_of request.queries.items)
-
--- a run without readers that loaded all its operations
-abbrev pub all_loaded : List Op → Progress
-all_loaded ops = record { loaded = length ops; rounds = [] }
+-- what a refusal of the words stops a call with
+abbrev pub words_stop : WordsError → Stop
+words_stop words.Help = stops.Answer Help
+words_stop words.Refused = stops.Answer (Usage usage.Words)
+words_stop words.Kind = stops.Answer (Usage usage.KindName)
+words_stop words.Value = stops.Answer (Usage usage.ValueName)
+words_stop (words.Size buffers each) = stops.Answer (Usage (usage.Size buffers each))
+words_stop (words.Also place) = stops.Answer (Usage (usage.Also place))
+words_stop words.Memory = stops.Memory
 
 -- what a refusal of the feed stops a call with
 abbrev pub line_stop : ℕ → ℕ → Stop
@@ -56,6 +58,22 @@ abbrev pub IsStopped : List Text → Option (List ℕ) → ℕ → ℕ → Stop 
 IsStopped words left before now (stops.Answer status) = HasCause words left before now status
 IsStopped words left before now stops.Memory = Unit {0}
 
+-- why a feed has no operations
+abbrev pub IsFeedStop : List Field → Option (List ℕ) → ℕ → ℕ → Stop → Type 0
+IsFeedStop fields left before now (stops.Answer (BadFeed fault)) =
+    IfSome left (λ bytes. ops_in fields bytes ≡ Err (BadFeed fault))
+IsFeedStop fields left before now (stops.Answer ReadFault) = Rose before now
+IsFeedStop fields left before now (stops.Answer _) = ⊥
+IsFeedStop fields left before now stops.Memory = Unit {0}
+
+-- why a run has no operations
+abbrev pub IsUnfed : Run → Option (List ℕ) → ℕ → ℕ → Stop → Type 0
+IsUnfed run left before now (stops.Answer (BadFeed fault)) =
+    (run.make ≡ None) × IfSome (fed run left) (λ said. said ≡ Err (BadFeed fault))
+IsUnfed run left before now (stops.Answer ReadFault) = (run.make ≡ None) × Rose before now
+IsUnfed run left before now (stops.Answer _) = ⊥
+IsUnfed run left before now stops.Memory = Unit {0}
+
 -- a stop for which the words are the reason
 abbrev pub IsWordsStop : Stop → Type 0
 IsWordsStop (stops.Answer Help) = Unit {0}
@@ -70,7 +88,7 @@ IsProperStop stops.Memory = Unit {0}
 -- what holds where a run has ended: lawful words asked for it, and the source was read as they ask
 pub record HasEnded (words : List Text) (left new : Option (List ℕ)) : Type 0 where
   pub asks : IsOkAnd (asked words) (IsAskedBy words)
-  pub reads : OfRun words left (λ run ops. ReadsAsAsked run new)
+  pub reads : OfRun words left (λ run ops. ReadsAsAsked run left new)
 
 -- the answer of a call that stopped: it is no want of memory, and its text is the status's own
 pub record IsEarly (stop : Stop) (status : Status) (progress : Progress) (text : List ℕ)

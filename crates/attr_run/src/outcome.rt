@@ -1,5 +1,5 @@
 ghost use Rattle.std.specs.Prelude.{◌≡◌};
-ghost use Rattle.attr_run.specs.Report.{exit_code};
+ghost use Rattle.attr_run.specs.Texts.{exit_code};
 
 use attr_types::{QueryError, RoundList};
 
@@ -12,6 +12,11 @@ pub enum UsageCause {
     KindName,
     /// The value type's name is none.
     ValueName,
+    /// Buffers are above 1,023 without `--wide`, or the words of all of them above 67,108,864 with it.
+    Size { buffers: u32, words: u32 },
+    /// The text of `--also` is not one to seven fields `name:kind:value` with names of their own.
+    /// `place` is the offset of the first part that breaks this.
+    Also { place: u64 },
     /// The first bad query, by its number from 1. `error` is never `Memory`.
     Query { number: u64, error: QueryError },
 }
@@ -71,10 +76,12 @@ impl Status {
     }
 }
 
-/// What a run did: its answer, how many operations it loaded, and the rounds of its readers.
+/// What a run did: its answer, how many operations it loaded, the rounds of its readers, and at how
+/// many operations the table was saved, if it was.
 #[derive(Debug, Drop)]
 pub struct Outcome {
     pub status: Status,
     pub loaded: u32,
     pub rounds: RoundList,
+    pub saved: Option<u32>,
 }

@@ -1,8 +1,9 @@
 ghost use Rattle.std.specs.Prelude.{◌≡◌};
-ghost use Rattle.attr_run.specs.Steps.{feed_stop};
+ghost use Rattle.attr_run.specs.Steps.{feed_stop, words_stop};
 ghost use Rattle.attr_run.specs.declared.stop.Stop.TheVariants as stops;
 
 use crate::outcome::{FeedFault, Status, UsageCause};
+use attr_words::WordsError;
 use feed_reader::FeedError;
 use std::alloc::{AllocError, AllocFailed};
 
@@ -18,6 +19,21 @@ impl Stop {
         ensures { result ≡ Stop.Answer (Status.Usage cause) }
     {
         Stop::Answer(Status::Usage(cause))
+    }
+
+    /// The stop for words that give no settings.
+    pub fn of_words(error: WordsError) -> Stop
+        ensures { result ≡ words_stop error }
+    {
+        match error {
+            WordsError::Help => Stop::Answer(Status::Help),
+            WordsError::Refused => Stop::usage(UsageCause::Words),
+            WordsError::Kind => Stop::usage(UsageCause::KindName),
+            WordsError::Value => Stop::usage(UsageCause::ValueName),
+            WordsError::Size { buffers, words } => Stop::usage(UsageCause::Size { buffers, words }),
+            WordsError::Also { place } => Stop::usage(UsageCause::Also { place }),
+            WordsError::Memory => Stop::Memory,
+        }
     }
 
     fn line(line: u32, number: u32) -> Stop

@@ -1,24 +1,25 @@
 ghost use Rattle.std.specs.Prelude.{◌≡◌, ◌++◌, ◌≤◌, OnOk, IfOk, string_bytes};
-ghost use Rattle.attr_run.specs.Report.{help_text, query_refusal, query_line, line_refusal};
-ghost use Rattle.attr_run.specs.Report.{feed_line, answer_text};
+ghost use Rattle.attr_run.specs.Texts.{help_text, query_refusal, query_line, line_refusal};
+ghost use Rattle.attr_run.specs.Texts.{feed_line, answer_text};
 ghost use Rattle.attr_run.specs.declared.outcome.Status.TheVariants.{Usage, BadFeed};
 
 use crate::outcome::{FeedFault, Status, UsageCause};
 use attr_types::QueryError;
 use std::alloc::{AllocError, Global};
 
-#[tactic(auto, unfolding(crate::specs::Report::help_text))]
+#[tactic(auto, unfolding(crate::specs::Texts::help_text))]
 fn help_in(alloc: Global) -> Result<String, AllocError>
     ensures { IfOk result (λ text. string_bytes text ≡ help_text) }
 {
     String::from_str(
         alloc,
         "attr --kind single|array|weightedset --value long|string [--field F] [--batch B] \
-         [--readers R]\n     [--rounds N] [--buffers U] [--words W] [--after] [QUERY..]\n",
+         [--readers R]\n     [--rounds N] [--buffers U] [--words W] [--after] \
+         [--make N] [--seed S] [--wide] [--dense] [--also A] [--save] [QUERY..]\n",
     )
 }
 
-#[tactic(auto, unfolding(crate::specs::Report::query_refusal))]
+#[tactic(auto, unfolding(crate::specs::Texts::query_refusal))]
 fn push_refusal(text: &mut String, error: &QueryError) -> Result<(), AllocError>
     ensures { OnOk result (string_bytes text.new ≡ string_bytes text.old
         ++ query_refusal error.now) }
@@ -33,7 +34,7 @@ fn push_refusal(text: &mut String, error: &QueryError) -> Result<(), AllocError>
     }
 }
 
-#[tactic(auto, unfolding(crate::specs::Report::query_line))]
+#[tactic(auto, unfolding(crate::specs::Texts::query_line))]
 fn query_text(alloc: Global, number: u64, error: &QueryError) -> Result<String, AllocError>
     ensures { IfOk result (λ text. string_bytes text ≡ query_line number error.now) }
 {
@@ -44,7 +45,7 @@ fn query_text(alloc: Global, number: u64, error: &QueryError) -> Result<String, 
     Ok(text)
 }
 
-#[tactic(auto, unfolding(crate::specs::Report::answer_text))]
+#[tactic(auto, unfolding(crate::specs::Texts::answer_text))]
 fn usage_text(alloc: Global, cause: &UsageCause) -> Result<String, AllocError>
     ensures { IfOk result (λ text. string_bytes text ≡ answer_text (Usage cause.now)) }
 {
@@ -52,11 +53,13 @@ fn usage_text(alloc: Global, cause: &UsageCause) -> Result<String, AllocError>
         UsageCause::Words => String::from_str(alloc, "attr: usage: words\n"),
         UsageCause::KindName => String::from_str(alloc, "attr: usage: kind\n"),
         UsageCause::ValueName => String::from_str(alloc, "attr: usage: value\n"),
+        UsageCause::Size { .. } => String::from_str(alloc, "attr: usage: size\n"),
+        UsageCause::Also { .. } => String::from_str(alloc, "attr: usage: also\n"),
         UsageCause::Query { number, error } => query_text(alloc, *number, error),
     }
 }
 
-#[tactic(auto, unfolding(crate::specs::Report::line_refusal))]
+#[tactic(auto, unfolding(crate::specs::Texts::line_refusal))]
 fn refusal_name(number: u32) -> &'static str
     ensures { result.now ≡ line_refusal number }
 {
@@ -70,7 +73,7 @@ fn refusal_name(number: u32) -> &'static str
     }
 }
 
-#[tactic(auto, unfolding(crate::specs::Report::feed_line))]
+#[tactic(auto, unfolding(crate::specs::Texts::feed_line))]
 fn line_text(alloc: Global, line: u32, number: u32) -> Result<String, AllocError>
     ensures { IfOk result (λ text. string_bytes text ≡ feed_line line number) }
 {
@@ -81,7 +84,7 @@ fn line_text(alloc: Global, line: u32, number: u32) -> Result<String, AllocError
     Ok(text)
 }
 
-#[tactic(auto, unfolding(crate::specs::Report::answer_text))]
+#[tactic(auto, unfolding(crate::specs::Texts::answer_text))]
 fn feed_text(alloc: Global, fault: &FeedFault) -> Result<String, AllocError>
     ensures { IfOk result (λ text. string_bytes text ≡ answer_text (BadFeed fault.now)) }
 {
@@ -92,7 +95,7 @@ fn feed_text(alloc: Global, fault: &FeedFault) -> Result<String, AllocError>
 }
 
 /// The text of an answer that has one of its own.
-#[tactic(auto, unfolding(crate::specs::Report::answer_text))]
+#[tactic(auto, unfolding(crate::specs::Texts::answer_text))]
 pub fn text_in(alloc: Global, status: &Status) -> Result<String, AllocError>
     ensures { IfOk result (λ text. string_bytes text ≡ answer_text status.now) }
 {

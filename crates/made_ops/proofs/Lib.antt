@@ -1,3 +1,1 @@
-mod FirstLemmas
-mod FitLemmas
-mod MadeLemmas
+pub mod MadeLemmas

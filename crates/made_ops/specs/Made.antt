@@ -1,83 +1,72 @@
--- The operations that a count and a seed make.
-use Rattle.std.specs.Prelude.{ℕ, ℤ, zero, suc, pos, ◌+◌, ◌*◌, ◌<◌, ◌/◌, ◌%◌, ◌-ℤ◌, false, List, [], ◌∷◌, ◌++◌, map, codes}
-use Rattle.std.specs.Prelude.{◌==◌, if◌then◌else◌, Option, Some, None, slice_get}
+-- Operations made from a number: each takes three draws of one sequence.
+use Rattle.std.specs.Prelude.{ℕ, zero, suc, ◌+◌, ◌*◌, ◌/◌, ◌%◌, ◌==◌, pos, ◌-ℤ◌, if◌then◌else◌, false}
+use Rattle.std.specs.Prelude.{List, [], ◌∷◌, ◌++◌, map, codes}
 use Rattle.std.specs.Fmt.{decimal}
 use Rattle.attr_types.specs.declared.change.Change.{Change}
-use Rattle.attr_types.specs.declared.change.Change.TheVariants as changes
+use Rattle.attr_types.specs.declared.change.Change.TheVariants.{Keep, Assign, Add}
 use Rattle.attr_types.specs.declared.field.Field.{Field}
 use Rattle.attr_types.specs.declared.items.Item.{Item}
 use Rattle.attr_types.specs.declared.kind.Kind.{Kind}
-use Rattle.attr_types.specs.declared.kind.Kind.TheVariants as kinds
+use Rattle.attr_types.specs.declared.kind.Kind.TheVariants.{Single, Array, WeightedSet}
 use Rattle.attr_types.specs.declared.kind.ValueType.{ValueType}
 use Rattle.attr_types.specs.declared.kind.ValueType.TheVariants as types
 use Rattle.attr_types.specs.declared.op.Op.{Op}
-use Rattle.attr_types.specs.declared.op.Op.TheVariants as ops
+use Rattle.attr_types.specs.declared.op.Op.TheVariants.{Put, Update, Remove}
 use Rattle.attr_types.specs.declared.value.Value.{Value}
 use Rattle.attr_types.specs.declared.value.Value.TheVariants as values
-use Rattle.made_ops.specs.declared.draws.Draws.{Draws}
 
--- the numbers that are drawn come one after another
-abbrev pub after : ℕ → ℕ
-after number = (number * 25173 + 13849) % 65536
+-- the draw after a draw, or the first one after the seed: from 0 to 65,535
+abbrev pub next_draw : ℕ → ℕ
+next_draw x = (x * 25173 + 13849) % 65536
 
--- each operation takes three
-abbrev pub draws : ℕ → Draws
-draws number = record {
-  doc = after number;
-  value = after (after number);
-  kind = after (after (after number));
-}
+-- a value by a number: it is less 512, or `t` and its digits
+abbrev pub value_by : ValueType → ℕ → Value
+value_by types.Long n = values.Long (pos n -ℤ pos 512)
+value_by types.Text n = values.Text (codes "t" ++ decimal n)
 
-pub record IsDrawn (draws : Draws) : Type 0 where
-  pub doc : draws.doc < 65536
-  pub value : draws.value < 65536
-  pub kind : draws.kind < 65536
+-- the items of the first attribute: one, or two in an array; in a weighted set the first draw gives the weight
+abbrev pub items_by : Kind → ValueType → ℕ → ℕ → List Item
+items_by Single type a b = record { value = value_by type (b / 64); weight = pos 1 } ∷ []
+items_by Array type a b =
+    record { value = value_by type (b / 64); weight = pos 1 }
+    ∷ record { value = value_by type (b / 64 + 1); weight = pos 1 } ∷ []
+items_by WeightedSet type a b = record { value = value_by type (b / 64); weight = pos (a / 64) } ∷ []
 
--- the value of a number: it less 512, or `t` with its digits
-abbrev pub made_value : ValueType → ℕ → Value
-made_value types.Long number = values.Long (pos number -ℤ pos 512)
-made_value types.Text number = values.Text (codes "t" ++ decimal number)
+abbrev pub change_by : Kind → List Item → Change
+change_by Single items = Assign items
+change_by Array items = Add items
+change_by WeightedSet items = Add items
 
-abbrev pub made_item : ValueType → ℕ → ℤ → Item
-made_item type number weight = record { value = made_value type number; weight = weight }
+-- the items of a put: the other attributes have none
+abbrev pub put_items : List Field → ℕ → ℕ → List (List Item)
+put_items [] a b = []
+put_items (field ∷ fields) a b = items_by field.kind field.value a b ∷ map (λ _. []) fields
 
--- a single value; two values of an array; one value of a weighted set, with a weight from the first number
-abbrev pub made_items : Kind → ValueType → Draws → List Item
-made_items kinds.Single type draws = made_item type (draws.value / 64) (pos 1) ∷ []
-made_items kinds.Array type draws =
-    made_item type (draws.value / 64) (pos 1) ∷ made_item type (draws.value / 64 + 1) (pos 1) ∷ []
-made_items kinds.WeightedSet type draws = made_item type (draws.value / 64) (pos (draws.doc / 64)) ∷ []
+-- the changes of an update: the other attributes stay
+abbrev pub update_changes : List Field → ℕ → ℕ → List Change
+update_changes [] a b = []
+update_changes (field ∷ fields) a b =
+    change_by field.kind (items_by field.kind field.value a b) ∷ map (λ _. Keep) fields
 
--- items replace those of a single value, and are added to others
-abbrev pub made_change : Kind → List Item → Change
-made_change kinds.Single items = changes.Assign items
-made_change kinds.Array items = changes.Add items
-made_change kinds.WeightedSet items = changes.Add items
+-- an operation by its three draws: one in eight is a remove, one in eight an update, the others are puts
+abbrev pub op_by : List Field → ℕ → ℕ → ℕ → Op
+op_by fields a b c =
+    if c / 8192 == 0 then Remove (a / 16 + 1)
+    else (if c / 8192 == 1 then Update (a / 16 + 1) false (update_changes fields a b)
+    else Put (a / 16 + 1) (put_items fields a b))
 
--- one thing for attribute 0, and this for each other
-abbrev pub first_alone : {A : Type 0} → A → A → List Field → List A
-first_alone other own [] = []
-first_alone other own (first ∷ others) = own ∷ map (λ _. other) others
+abbrev pub second_draw : ℕ → ℕ
+second_draw x = next_draw (next_draw x)
 
--- a number from 0 to 7 says what is done: 0 removes, 1 updates, any other puts
-abbrev pub op_by : ℕ → List Field → ℕ → Kind → List Item → Op
-op_by number fields doc kind items = if number == 0 then ops.Remove doc
-    else (if number == 1 then ops.Update doc false (first_alone changes.Keep (made_change kind items) fields)
-    else ops.Put doc (first_alone [] items fields))
+abbrev pub third_draw : ℕ → ℕ
+third_draw x = next_draw (second_draw x)
 
-abbrev pub op_with : List Field → ℕ → ℕ → Kind → List Item → Op
-op_with fields doc number kind items = op_by (number / 8192) fields doc kind items
+-- `count` operations from the draws after x
+abbrev pub made_from : ℕ → ℕ → List Field → List Op
+made_from zero x fields = []
+made_from (suc count) x fields =
+    op_by fields (next_draw x) (second_draw x) (third_draw x) ∷ made_from count (third_draw x) fields
 
-abbrev pub op_for : Option Field → List Field → Draws → Op
-op_for None fields draws = op_with fields (draws.doc / 16 + 1) draws.kind kinds.Single []
-op_for (Some first) fields draws =
-    op_with fields (draws.doc / 16 + 1) draws.kind first.kind (made_items first.kind first.value draws)
-
--- the operation that three numbers make, about attribute 0 alone
-abbrev pub made_op : List Field → Draws → Op
-made_op fields draws = op_for (slice_get fields 0) fields draws
-
--- so many operations, the first from the numbers after the seed, each other from those after the last one drawn
-unfoldable pub made : List Field → ℕ → ℕ → List Op
-made fields seed zero = []
-made fields seed (suc count) = made_op fields (draws seed) ∷ made fields (draws seed).kind count
+-- the operations made from a seed
+unfoldable pub made : ℕ → ℕ → List Field → List Op
+made count seed fields = made_from count seed fields

@@ -1,7 +1,7 @@
-ghost use Rattle.made_ops.specs.Laws.{MadeFit, MadeAreSoMany};
+//! Laws of made operations. The function does nothing: its contract is the law.
+ghost use Rattle.made_ops.specs.Laws.{MadeOpsFit};
 
-/// Made operations fit the attributes, and there are as many as were asked for.
+/// Made operations fit the attributes, whatever the seed.
 pub fn made_law()
-    ensures fit { MadeFit }
-    ensures count { MadeAreSoMany }
+    ensures { MadeOpsFit }
 {}

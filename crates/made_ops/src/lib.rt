@@ -1,10 +1,10 @@
-//! Operations made from a number, in place of a feed.
+//! Operations that are made from a number, in place of a feed.
 #![tactic(auto)]
 
-mod draws;
-mod items;
+mod draw;
 mod laws;
-mod ops;
+mod make;
+mod value;
 
 pub use laws::made_law;
-pub use ops::make_ops;
+pub use make::make_ops;

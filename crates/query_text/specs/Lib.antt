@@ -4,3 +4,4 @@ pub mod Survey
 pub mod Reading
 pub mod Parsing
 pub mod Laws
+pub mod Asking

@@ -6,10 +6,12 @@
 //! most.
 #![tactic(auto)]
 
+mod ask;
 mod list;
 mod mode;
 mod parse;
 mod read;
 mod survey;
 
+pub use ask::{asks_law, parse_ask};
 pub use parse::{grammar_law, parse_query};

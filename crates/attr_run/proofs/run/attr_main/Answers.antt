@@ -1,5 +1,5 @@
 use Rattle.std.proofs.Common.{refl}
-use Rattle.attr_run.specs.declared.outcome.Status.TheVariants.{ReadFault, WriteFault, Memory}
+use Rattle.attr_run.specs.declared.outcome.Status.TheVariants.{BadFeed, ReadFault, WriteFault, Memory}
 use Rattle.attr_run.specs.declared.outcome.UsageCause.TheVariants as usage
 use Rattle.attr_run.specs.declared.outcome.FeedFault.TheVariants as feed
 use Rattle.attr_run.proofs.AnswerLemmas.{Met, at, ended-report, ended-run, exactly-usage}
@@ -42,6 +42,10 @@ pub returns-clause-after : goal.returns-clause-after
 returns-clause-after g c = ended-run (met g c) _ _ _ (λ full text run ops until. until.afterwards)
     c.whole_run.ensures.answer
 
+pub returns-clause-saved : goal.returns-clause-saved
+returns-clause-saved g c = ended-run (met g c) _ _ _ (λ full text run ops until. until.in_save)
+    c.whole_run.ensures.answer
+
 pub returns-clause-history : goal.returns-clause-history
 returns-clause-history g c = ended-run (met g c) _ _ _ (λ full text run ops until. until.legal)
     c.whole_run.ensures.answer
@@ -58,6 +62,12 @@ returns-clause-kind_name g c = exactly-usage (met g c) _ _ usage.KindName c.whol
 pub returns-clause-value_name : goal.returns-clause-value_name
 returns-clause-value_name g c = exactly-usage (met g c) _ _ usage.ValueName c.whole_run.ensures.answer
 
+pub returns-clause-size : goal.returns-clause-size
+returns-clause-size g c = λ buffers each. exactly-usage (met g c) _ _ (usage.Size buffers each) c.whole_run.ensures.answer
+
+pub returns-clause-also : goal.returns-clause-also
+returns-clause-also g c = λ place. exactly-usage (met g c) _ _ (usage.Also place) c.whole_run.ensures.answer
+
 pub returns-clause-usage_query : goal.returns-clause-usage_query
 returns-clause-usage_query g c = λ number error. exactly-usage (met g c) _ _
     (usage.Query number error) c.whole_run.ensures.answer
@@ -66,7 +76,10 @@ pub returns-clause-unread : goal.returns-clause-unread
 returns-clause-unread g c = c.whole_run.ensures.unread
 
 pub returns-clause-read_fault : goal.returns-clause-read_fault
-returns-clause-read_fault g c = λ is. (at (met g c) _ ReadFault _ c.whole_run.ensures.answer is).1.0.1
+returns-clause-read_fault g c = λ is. (at (met g c) _ ReadFault _ c.whole_run.ensures.answer is).1.0
+
+pub returns-clause-bad_feed : goal.returns-clause-bad_feed
+returns-clause-bad_feed g c = λ fault is. (at (met g c) _ (BadFeed fault) _ c.whole_run.ensures.answer is).1.0.0
 
 pub returns-clause-too_long : goal.returns-clause-too_long
 returns-clause-too_long g c = exactly-feed (met g c) _ _ feed.TooLong c.whole_run.ensures.answer _ refl

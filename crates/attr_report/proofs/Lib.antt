@@ -1,0 +1,4 @@
+pub mod LoadLemmas
+pub mod ReportLemmas
+pub mod HistoryLemmas
+pub mod RoundsLemmas

@@ -1,0 +1,5 @@
+pub mod Run
+pub mod Report
+pub mod History
+pub mod Laws
+pub mod Steps

@@ -1,0 +1,59 @@
+-- A run that was asked for, how far it came, and its table on the way.
+use Rattle.std.specs.Prelude.{ℕ, Bool, List, map, Option}
+use Rattle.attr_scores.specs.Scores.{AskTree, Answer, ask_tree, answer_to}
+use Rattle.attr_types.specs.declared.field.Field.{Field}
+use Rattle.attr_types.specs.declared.op.Op.{Op}
+use Rattle.attr_types.specs.Table.{Table, after, skipped}
+use Rattle.attr_report.specs.declared.request.Make.{Make}
+use Rattle.attr_report.specs.declared.request.Request.{Request}
+
+-- a run that was asked for; its attributes are numbered from 0
+pub record Run : Type 0 where
+  pub fields : List Field
+  pub batch : ℕ
+  pub readers : ℕ
+  pub rounds : ℕ
+  pub buffers : ℕ
+  pub words : ℕ
+  pub after : Bool
+  pub make : Option Make
+  pub wide : Bool
+  pub dense : Bool
+  pub save : Bool
+  pub asks : List AskTree
+
+-- the run of a request
+abbrev pub run_in : Request → Run
+run_in request = record {
+  fields = request.fields;
+  batch = request.batch;
+  readers = request.readers;
+  rounds = request.rounds;
+  buffers = request.buffers;
+  words = request.words;
+  after = request.after;
+  make = request.make;
+  wide = request.wide;
+  dense = request.dense;
+  save = request.save;
+  asks = map ask_tree request.asks.items;
+}
+
+-- the table of a run after its first n operations
+abbrev pub table_at : Run → List Op → ℕ → Table
+table_at run ops n = after run.fields ops n
+
+-- how many of its first n operations are skipped
+abbrev pub skipped_at : Run → List Op → ℕ → ℕ
+skipped_at run ops n = skipped run.fields ops n
+
+-- what the table after the first n operations answers
+abbrev pub answers_of : Run → List Op → ℕ → List Answer
+answers_of run ops n = map (λ ask. answer_to ask (table_at run ops n)) run.asks
+
+-- how far a run came: how many operations it loaded, for each reader the counts of operations that its rounds
+-- saw, and at how many operations the table was saved, if it was
+pub record Progress : Type 0 where
+  pub loaded : ℕ
+  pub rounds : List (List ℕ)
+  pub saved : Option ℕ

@@ -1,0 +1,122 @@
+-- Words that ask for help, or that the command refuses, by what is read of them.
+use Rattle.std.proofs.Common.{◌≡◌, ◌≢◌, ◌≤◌, ◌∙◌, ap, refl, ℕ, Bool, true, false, cond, List, [], ◌∷◌, ◌++◌, length, nat_lt}
+use Rattle.std.proofs.Common.{Option, Some, None, Result, Ok, Err, IfErr, subst, arith, slice_get}
+use Rattle.clap.specs.Walk.{Row, Text}
+use Rattle.clap.specs.Simple.{matches_of}
+use Rattle.clap.specs.Faults.{fault_of}
+use Rattle.clap.specs.Kinds.{Kinds}
+use Rattle.clap.specs.declared.error.kind.ErrorKind.{ErrorKind}
+use Rattle.clap.specs.declared.error.kind.ErrorKind.TheVariants as kinds
+use Rattle.attr_types.specs.declared.field.Field.{Field}
+use Rattle.attr_names.specs.Names.{kind_named, value_named}
+use Rattle.attr_words.specs.CommandLine.{attr_app}
+use Rattle.attr_words.specs.Reading.{Said, said_by, AskForHelp, AreRefused}
+use Rattle.attr_words.specs.Also.{◌>>=◌, Piece, pieces, part_at, new_name, or_broken, or_surplus, field_of_parts}
+use Rattle.attr_words.specs.Also.{field_in, next_field, fields_from, fields_of}
+use Rattle.attr_words.specs.Settings.{Given, given_with, or_refused, if_room, settings_by, said_or_refused, said_in, settings_in}
+use Rattle.attr_words.specs.declared.reading.WordsError.{WordsError}
+use Rattle.attr_words.specs.declared.reading.WordsError.TheVariants as words
+
+-- a refusal of what the options say
+abbrev IsLate : WordsError → Type 0
+IsLate words.Help = ⊥
+IsLate words.Refused = ⊥
+IsLate _ = Unit {0}
+
+late_next : {A B : Type 0} (r : Result A WordsError) (next : A → Result B WordsError) → IfErr r IsLate
+    → ((a : A) → IfErr (next a) IsLate) → IfErr (r >>= next) IsLate
+late_next (Ok a) next here after = after a
+late_next (Err error) next here after = here
+
+late_option : {A : Type 0} (error : WordsError) (o : Option A) → IsLate error → IfErr (or_refused error o) IsLate
+late_option error (Some a) late = tt
+late_option error None late = late
+
+late_part : {A : Type 0} (part : Piece) (o : Option A) → IfErr (or_broken part o) IsLate
+late_part part (Some a) = tt
+late_part part None = tt
+
+late_surplus : (o : Option Piece) (field : Field) → IfErr (or_surplus o field) IsLate
+late_surplus None field = tt
+late_surplus (Some part) field = tt
+
+late_parts : (before : List Field) (whole : Piece) (parts : List Piece) → IfErr (field_of_parts before whole parts) IsLate
+late_parts before whole parts =
+    late_next _ _ (late_part (part_at whole parts 0) (new_name before (part_at whole parts 0).text)) (λ name.
+    late_next _ _ (late_part (part_at whole parts 1) (kind_named (part_at whole parts 1).text)) (λ kind.
+    late_next _ _ (late_part (part_at whole parts 2) (value_named (part_at whole parts 2).text)) (λ value.
+    late_surplus (slice_get parts 3) (record { name = name; kind = kind; value = value }))))
+
+late_if : (b : Bool) (before : List Field) (piece : Piece)
+    → IfErr (cond b (field_of_parts before piece (pieces 58 piece)) (Err (words.Also piece.place))) IsLate
+late_if true before piece = late_parts before piece (pieces 58 piece)
+late_if false before piece = tt
+
+late_field : (before : List Field) (piece : Piece) → IfErr (next_field before piece) IsLate
+unfolding next_field field_in
+late_field before piece = late_if (nat_lt (length before) 8) before piece
+
+late_fields : (before : List Field) (list : List Piece) → IfErr (fields_from before list) IsLate
+unfolding fields_from
+late_fields before [] = tt
+late_fields before (piece ∷ more) = late_next _ _ (late_field before piece) (λ field. late_fields (before ++ field ∷ []) more)
+
+late_also : (first : Field) (also : Option Text) → IfErr (fields_of first also) IsLate
+unfolding fields_of
+late_also first None = tt
+late_also first (Some text) = late_fields (first ∷ []) (pieces 44 (record { place = 0; text = text }))
+
+late_settings : (said : Said) → IfErr (settings_by said) IsLate
+unfolding settings_by
+late_settings said =
+    late_next _ _ (late_option words.Kind (kind_named said.kind) tt) (λ kind.
+    late_next _ _ (late_option words.Value (value_named said.value) tt) (λ value.
+    late_next _ _ (late_option (words.Size said.buffers said.words) (if_room said.wide said.buffers said.words) tt) (λ room.
+    late_next _ _ (late_also (record { name = said.field; kind = kind; value = value }) said.also) (λ fields. tt))))
+
+-- ---- from what is read
+
+from_help : (faults : Kinds) (rows : List Row) (rest : Said → Result Given WordsError)
+    → ((said : Said) → IfErr (rest said) IsLate)
+    → (said_or_refused faults rows >>= rest) ≡ Err words.Help → length faults ≤ 1 → faults ≡ kinds.DisplayHelp ∷ []
+from_help [] rows rest late is one =
+    absurd (subst (λ (r : Result Given WordsError). IfErr r IsLate) is (late (said_by rows)))
+from_help (kinds.DisplayHelp ∷ []) rows rest late is one = refl
+from_help (kinds.DisplayHelp ∷ other ∷ more) rows rest late is one = absurd (omega arith)
+from_help (kind ∷ more) rows rest late is one = cc
+
+from_refusal : (faults : Kinds) (rows : List Row) (rest : Said → Result Given WordsError)
+    → ((said : Said) → IfErr (rest said) IsLate)
+    → (said_or_refused faults rows >>= rest) ≡ Err words.Refused → length faults ≤ 1
+    → (kind : ErrorKind) × (kind ≢ kinds.DisplayHelp) × (faults ≡ kind ∷ [])
+from_refusal [] rows rest late is one =
+    absurd (subst (λ (r : Result Given WordsError). IfErr r IsLate) is (late (said_by rows)))
+from_refusal (kinds.DisplayHelp ∷ more) rows rest late is one = cc
+from_refusal (kind ∷ []) rows rest late is one = (kind, (λ same. cc), refl)
+from_refusal (kind ∷ other ∷ more) rows rest late is one = absurd (omega arith)
+
+pub help-found : (line : List Text) → length (fault_of attr_app line) ≤ 1 → settings_in line ≡ Err words.Help → AskForHelp line
+unfolding settings_in said_in
+help-found line one is = from_help (fault_of attr_app line) (matches_of attr_app line) settings_by late_settings is one
+
+pub refusal-found : (line : List Text) → length (fault_of attr_app line) ≤ 1 → settings_in line ≡ Err words.Refused
+    → AreRefused line
+unfolding settings_in said_in
+refusal-found line one is = from_refusal (fault_of attr_app line) (matches_of attr_app line) settings_by late_settings is one
+
+-- ---- to what is read
+
+refused_by : (kind : ErrorKind) (rows : List Row) → kind ≢ kinds.DisplayHelp
+    → said_or_refused (kind ∷ []) rows ≡ Err words.Refused
+refused_by kinds.DisplayHelp rows other = absurd (other refl)
+refused_by kind rows other = refl
+
+pub found-help : (line : List Text) → AskForHelp line → settings_in line ≡ Err words.Help
+unfolding settings_in said_in
+found-help line help = ap (λ faults. said_or_refused faults (matches_of attr_app line) >>= settings_by) help
+
+pub found-refusal : (line : List Text) → AreRefused line → settings_in line ≡ Err words.Refused
+unfolding settings_in said_in
+found-refusal line refused =
+    ap (λ faults. said_or_refused faults (matches_of attr_app line) >>= settings_by) refused.2
+    ∙ ap (λ said. said >>= settings_by) (refused_by refused.0 (matches_of attr_app line) refused.1)

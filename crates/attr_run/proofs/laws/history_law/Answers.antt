@@ -1,8 +1,0 @@
-use Rattle.attr_run.proofs.HistoryLemmas.{histories_are_legal}
-use Rattle.attr_run.proofs.laws.history_law.Goals as goal
-
-pub returns-clause-legal : goal.returns-clause-legal
-returns-clause-legal c = histories_are_legal
-
-pub returns-clause-first : goal.returns-clause-first
-returns-clause-first c = λ run ops progress reader round n answers events legal. cc (legal.in_place.2)

@@ -1,0 +1,8 @@
+use Rattle.std.proofs.Common.{◌≡◌, ◌++◌, ◌-◌}
+use Rattle.made_ops.specs.Made.{made_from}
+use Rattle.made_ops.proofs.make.make_ops.Given as goal
+
+-- the operations so far, and those of the draws after the last one, are all
+abbrev pub invariant-loop : goal.invariant-loop
+invariant-loop l =
+    l.ops ++ made_from (l.count - l.counter) l.draw l.fields ≡ made_from l.fn.count l.fn.seed l.fn.fields

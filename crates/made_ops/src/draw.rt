@@ -1,0 +1,10 @@
+ghost use Rattle.std.specs.Prelude.{◌≡◌, ◌<◌};
+ghost use Rattle.made_ops.specs.Made.{next_draw};
+
+/// The draw after a draw, or the first one after the seed.
+pub fn next_draw(x: u32) -> u32
+    ensures value { result ≡ next_draw x }
+    ensures small { result < 65536 }
+{
+    ((u64::from(x) * 25_173 + 13_849) % 65_536) as u32
+}
