@@ -1,4 +1,4 @@
-ghost use Rattle.std.specs.Prelude.{◌≡◌};
+ghost use Rattle.std.specs.Prelude.{◌≡◌, ◌<◌, IfSome, length};
 ghost use Rattle.std.specs.List.{list_all};
 ghost use Rattle.attr_names.specs.Names.{begins_name, continues_name, is_begun, is_name, field_named};
 
@@ -42,7 +42,8 @@ pub fn is_name(text: &[u8]) -> bool
 
 /// The number of the attribute with this name.
 pub fn field_named(fields: &[Field], name: &[u8]) -> Option<usize>
-    ensures { result ≡ field_named fields.now name.now }
+    ensures value { result ≡ field_named fields.now name.now }
+    ensures inside { IfSome result (λ number. number < length fields.now) }
 {
     fields
         .iter()

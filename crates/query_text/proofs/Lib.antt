@@ -10,3 +10,6 @@ pub mod Steps
 pub mod SurveyLemmas
 pub mod TreePaths
 pub mod Utf8Lemmas
+mod AskLemmas
+mod AskSurveyLemmas
+mod PartLemmas

@@ -1,7 +1,11 @@
+pub mod AskModes
+pub mod AskReading
+pub mod AskSurvey
 pub mod Grammar
 pub mod Modes
 pub mod Survey
 pub mod Reading
 pub mod Parsing
 pub mod Laws
-pub mod Asking
+pub mod Dot
+pub mod Asks

@@ -7,11 +7,13 @@
 #![tactic(auto)]
 
 mod ask;
+mod asks;
+mod dot;
 mod list;
 mod mode;
 mod parse;
 mod read;
 mod survey;
 
-pub use ask::{asks_law, parse_ask};
+pub use asks::parse_ask;
 pub use parse::{grammar_law, parse_query};

@@ -8,7 +8,7 @@ use std::alloc::Global;
 
 /// What follows `and(` at the front.
 #[tactic(auto, unfolding(crate::specs::Reading::and_front))]
-fn after_and(bytes: &[u8]) -> Option<&[u8]>
+pub fn after_and(bytes: &[u8]) -> Option<&[u8]>
     ensures { option_map (λ rest. rest.now) result ≡ and_front bytes.now }
 {
     let rest = after(b'a', bytes)?;
@@ -19,7 +19,7 @@ fn after_and(bytes: &[u8]) -> Option<&[u8]>
 
 /// What follows `or(` at the front.
 #[tactic(auto, unfolding(crate::specs::Reading::or_front))]
-fn after_or(bytes: &[u8]) -> Option<&[u8]>
+pub fn after_or(bytes: &[u8]) -> Option<&[u8]>
     ensures { option_map (λ rest. rest.now) result ≡ or_front bytes.now }
 {
     let rest = after(b'o', bytes)?;
@@ -29,7 +29,7 @@ fn after_or(bytes: &[u8]) -> Option<&[u8]>
 
 /// The mark after a member of a list: whether it is a comma, or else the closing bracket.
 #[tactic(auto, unfolding(crate::specs::Reading::mark_front))]
-fn mark_in(bytes: &[u8]) -> Option<(bool, &[u8])>
+pub fn mark_in(bytes: &[u8]) -> Option<(bool, &[u8])>
     ensures { option_map (λ mark. (mark.0, mark.1.now)) result ≡ mark_front bytes.now }
 {
     match after(b',', bytes) {

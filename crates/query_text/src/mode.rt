@@ -95,7 +95,7 @@ fn letter_next(letter: u8, mode: Mode, byte: u8) -> Option<Mode>
     if byte == letter { Some(mode) } else { None }
 }
 
-fn number_begun(role: Role, byte: u8) -> Option<Mode>
+pub fn number_begun(role: Role, byte: u8) -> Option<Mode>
     ensures { result ≡ number_begun role byte }
 {
     if byte == b'-' {
@@ -117,7 +117,7 @@ fn text_begun(role: Role, byte: u8) -> Option<Mode>
     }
 }
 
-fn value_begun(role: Role, byte: u8) -> Option<Mode>
+pub fn value_begun(role: Role, byte: u8) -> Option<Mode>
     ensures { result ≡ value_begun role byte }
 {
     if byte == b'"' {

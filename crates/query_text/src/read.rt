@@ -60,7 +60,7 @@ fn digits_in(bytes: &[u8]) -> (u64, &[u8])
 
 /// The number at the front, where it is of 64 signed bits.
 #[tactic(auto, unfolding(crate::specs::Reading::number_front))]
-fn number_in(bytes: &[u8]) -> Option<(i64, &[u8])>
+pub fn number_in(bytes: &[u8]) -> Option<(i64, &[u8])>
     ensures { option_map (λ found. (found.0, found.1.now)) result ≡ number_front bytes.now }
 {
     match after(b'-', bytes) {
@@ -132,7 +132,7 @@ fn text_of(alloc: Global, bytes: &[u8]) -> Result<Text, ReadError>
 
 /// The value at the front.
 #[tactic(auto, unfolding(crate::specs::Reading::value_front))]
-fn value_in(alloc: Global, bytes: &[u8]) -> Result<(Value, &[u8]), ReadError>
+pub fn value_in(alloc: Global, bytes: &[u8]) -> Result<(Value, &[u8]), ReadError>
     ensures { Finds (λ found. (found.0, found.1.now)) result (value_front bytes.now) }
 {
     match after(b'"', bytes) {

@@ -84,7 +84,7 @@ pub fn survey_of(text: &str, value: ValueType) -> Result<Survey, u64>
     }
 }
 
-fn depth_after(depth: u64, mode: Mode) -> u64
+pub fn depth_after(depth: u64, mode: Mode) -> u64
     requires { depth < 2 ^ 63 }
     ensures value { result ≡ depth_after depth mode }
     ensures next { result ≤ depth + 1 }
@@ -96,7 +96,7 @@ fn depth_after(depth: u64, mode: Mode) -> u64
     }
 }
 
-fn is_right(value: ValueType, mode: Mode) -> bool
+pub fn is_right(value: ValueType, mode: Mode) -> bool
     ensures { result ≡ is_right value mode }
 {
     match mode {
@@ -106,7 +106,7 @@ fn is_right(value: ValueType, mode: Mode) -> bool
     }
 }
 
-fn is_small(mode: Mode) -> bool
+pub fn is_small(mode: Mode) -> bool
     ensures { result ≡ is_in_size mode }
 {
     match mode {
@@ -126,7 +126,7 @@ fn ends_value(role: Role) -> bool
     }
 }
 
-fn ends_query(mode: Mode) -> bool
+pub fn ends_query(mode: Mode) -> bool
     ensures { result ≡ ends_query mode }
 {
     match mode {
