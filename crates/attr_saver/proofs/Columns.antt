@@ -1,5 +1,5 @@
 -- Items and documents that follow each other are those that a kind allows, and the other way round.
-use Rattle.std.proofs.Common.{◌≡◌, ℕ, zero, suc, ◌+◌, ◌<◌, ◌≤◌, ◌^◌, Bool, true, List, [], ◌∷◌, length, map, Option, Some, None, Ordering, Less, nat_cmp, is_lt, pos, refl, sym, ap, arith, unwrap_or}
+use Rattle.std.proofs.Common.{◌≡◌, ℕ, zero, suc, ◌+◌, ◌<◌, ◌≤◌, Bool, true, List, [], ◌∷◌, length, map, Option, Some, None, Ordering, Less, nat_cmp, is_lt, pos, refl, sym, ap, arith, unwrap_or}
 use Rattle.std.specs.Cmp.{nat_cmp_is}
 use Rattle.std.specs.List.{AllByRecursion, AllZip}
 use Rattle.std.specs.List.Sorted.{IsStrictlySortedBy}
@@ -199,14 +199,14 @@ pub column_few : (kind : Kind) (type : ValueType) (documents : List SavedDocumen
 column_few kind type documents lawful =
     omega (arith, docs_few 0 (docs_of documents) (omega arith) (above_none (docs_of documents) lawful.numbers) lawful.ascends lawful.numbers, length-map documents (λ (d : SavedDocument). d.doc))
 
--- each has so few items that their number has two bytes
+-- each has so few items
 pub items_few : (kind : Kind) (type : ValueType) (documents : List SavedDocument) → AllByRecursion (HasItemsThatFit kind type) documents
-    → AllByRecursion (λ d. length d.items < 2 ^ 16) documents
+    → AllByRecursion (λ d. length d.items ≤ 1023) documents
 items_few kind type [] fit = tt
 items_few kind type (document ∷ documents) fit =
     (small kind (few_lawful kind document.items fit.0.0), items_few kind type documents fit.1)
   where
-    small : (kind : Kind) → length document.items ≤ most_items kind → length document.items < 2 ^ 16
+    small : (kind : Kind) → length document.items ≤ most_items kind → length document.items ≤ 1023
     small Single le = omega (arith, le)
-    small Array le = omega (arith, le)
-    small WeightedSet le = omega (arith, le)
+    small Array le = le
+    small WeightedSet le = le

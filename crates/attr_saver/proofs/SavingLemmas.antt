@@ -1,5 +1,5 @@
 -- What is written one after another is a save.
-use Rattle.std.proofs.Common.{◌≡◌, ℕ, ◌≤◌, ◌<◌, ◌^◌, List, [], ◌∷◌, ◌++◌, length, Fits, w32, refl, sym, ap, ◌∙◌, arith}
+use Rattle.std.proofs.Common.{◌≡◌, ℕ, ◌+◌, ◌≤◌, ◌<◌, ◌^◌, List, [], ◌∷◌, ◌++◌, length, Fits, w32, refl, sym, ap, ◌∙◌, arith}
 use Rattle.std.specs.List.{flat_map}
 use Rattle.std.proofs.lemmas.List.{length-map}
 use Rattle.attr_types.specs.Lawful.{last_doc}
@@ -8,7 +8,7 @@ use Rattle.attr_types.specs.Table.{Table}
 use Rattle.attr_types.specs.Value.{Document}
 use Rattle.attr_types.specs.declared.kind.Kind.{Kind}
 use Rattle.attr_types.specs.declared.kind.ValueType.{ValueType}
-use Rattle.attr_saver.specs.Bytes.{head_bytes, document_bytes, saved_bytes}
+use Rattle.attr_saver.specs.Bytes.{form_bytes, head_bytes, document_bytes, saved_bytes}
 use Rattle.attr_saver.specs.Lawful.{column_of, save_of, IsLawfulColumn}
 use Rattle.attr_saver.proofs.Columns.{column_few}
 
@@ -24,3 +24,8 @@ pub saved_is : (kind : Kind) (type : ValueType) (operations n : ℕ) (table : Ta
     → head ≡ none ++ head_bytes kind type operations n → all ≡ head ++ flat_map (document_bytes kind) (column_of table) → n ≡ length table
     → all ≡ saved_bytes (save_of kind type operations table)
 saved_is kind type operations n table none head all p q r is = rw (r, q, p, ← counted table n is) refl
+
+pub saved_len : (kind : Kind) (type : ValueType) (operations : ℕ) (table : Table)
+    → 14 + length (flat_map (document_bytes kind) (column_of table)) ≡ length (saved_bytes (save_of kind type operations table))
+unfolding head_bytes form_bytes
+saved_len kind type operations table = omega arith

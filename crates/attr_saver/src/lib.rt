@@ -8,6 +8,7 @@ mod loading;
 mod reader;
 mod saved;
 mod saving;
+mod sizing;
 mod value;
 mod writing;
 
@@ -16,3 +17,4 @@ pub use laws::{column_law, saved_law};
 pub use loading::read_saved;
 pub use saved::{Saved, SavedDocument, SavedTable};
 pub use saving::{save, saved_in};
+pub use sizing::saved_size;

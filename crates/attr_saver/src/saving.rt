@@ -7,6 +7,7 @@ ghost use Rattle.attr_saver.specs.Fields.{read_of};
 ghost use Rattle.attr_saver.specs.Lawful.{IsLawfulColumn, column_of, save_of};
 
 use crate::error::SaveError;
+use crate::sizing::saved_size;
 use crate::writing::{push_documents, push_head};
 use attr_io::{Sink, write_all};
 use attr_types::{Doc, FieldItems, Kind, ValueType};
@@ -28,7 +29,7 @@ pub fn saved_in(
     ensures again { IfOk result (λ bytes. read_of bytes.items
         ≡ Ok (save_of kind value operations documents.now.entries)) }
 {
-    let mut bytes = Vec::new(alloc);
+    let mut bytes = Vec::with_capacity(alloc, saved_size(kind, value, documents))?;
     push_head(&mut bytes, kind, value, operations, documents.len() as u32)?;
     push_documents(&mut bytes, kind, documents)?;
     Ok(bytes)

@@ -1,5 +1,5 @@
 //! The bytes of fields, written at the end of others.
-ghost use Rattle.std.specs.Prelude.{◌≡◌, ◌<◌, ◌^◌, ◌++◌, length, OnOk};
+ghost use Rattle.std.specs.Prelude.{◌≡◌, ◌≤◌, ◌++◌, length, OnOk};
 ghost use Rattle.std.specs.Int.{w32, to_be_bytes};
 ghost use Rattle.std.specs.List.{flat_map, AllByRecursion};
 ghost use Rattle.attr_types.specs.Query.{items_in};
@@ -132,7 +132,7 @@ fn push_document(
     doc: Doc,
     items: &[Item],
 ) -> Result<(), AllocError>
-    requires { length items.now < 2 ^ 16 }
+    requires { length items.now ≤ 1023 }
     ensures bytes { OnOk result (out.new.items
         ≡ out.old.items ++ document_bytes kind (record { doc = doc; items = items.now })) }
     ensures fits { OnOk result (AllByRecursion IsStorable items.now) }
@@ -149,7 +149,7 @@ pub(crate) fn push_documents(
     kind: Kind,
     documents: &BTreeMap<Doc, FieldItems>,
 ) -> Result<(), AllocError>
-    requires { AllByRecursion (λ d. length d.items < 2 ^ 16) (column_of documents.now.entries) }
+    requires { AllByRecursion (λ d. length d.items ≤ 1023) (column_of documents.now.entries) }
     ensures bytes { OnOk result (out.new.items
         ≡ out.old.items ++ flat_map (document_bytes kind) (column_of documents.now.entries)) }
     ensures fits { OnOk result (AllByRecursion (λ d. AllByRecursion IsStorable d.items)

@@ -1,4 +1,4 @@
-use Rattle.std.proofs.Common.{◌≡◌, ◌++◌, ◌<◌, ◌^◌, length}
+use Rattle.std.proofs.Common.{◌≡◌, ◌++◌, ◌≤◌, length}
 use Rattle.std.specs.List.{flat_map, AllByRecursion}
 use Rattle.attr_saver.specs.Bytes.{document_bytes}
 use Rattle.attr_saver.specs.Lawful.{IsStorable, column_of}
@@ -9,7 +9,7 @@ abbrev pub invariant-loop-doc : goal.invariant-loop-doc
 invariant-loop-doc l = record {
   bytes : l.out.items ++ flat_map (document_bytes l.kind) (column_of l.doc-iterator)
     ≡ l.initial.out.items ++ flat_map (document_bytes l.kind) (column_of l.documents.entries);
-  few : AllByRecursion (λ d. length d.items < 2 ^ 16) (column_of l.doc-iterator);
+  few : AllByRecursion (λ d. length d.items ≤ 1023) (column_of l.doc-iterator);
   fits : AllByRecursion (λ d. AllByRecursion IsStorable d.items) (column_of l.doc-iterator)
     → AllByRecursion (λ d. AllByRecursion IsStorable d.items) (column_of l.documents.entries);
 }

@@ -1,0 +1,98 @@
+//! One document read and written over devices that fail: a save of 28 bytes.
+use crate::saves::{read, table_of};
+use crate::tally::Tally;
+use attr_io::{FakeSink, FakeSource};
+use attr_plain::PlainTable;
+use attr_saver::{LoadError, SaveError, column_law, save};
+use std::alloc::{AllocError, Global};
+use std::io;
+
+const BYTES: [u8; 28] = [
+    0x41, 0x54, 0x53, 0x31, 0, 0, 0, 0, 0, 1, 0, 0, 0, 1, 0, 0, 0, 1, 0, 1, 0, 0, 0, 0, 0, 0, 0, 5,
+];
+
+/// What is read over a source that gives so many bytes a call and fails at one call, and how many faults it counts.
+fn told_by_source(alloc: Global, step: usize, call: u64) -> Result<String, AllocError> {
+    if step == 0 {
+        return Ok(String::new(alloc));
+    }
+    let mut source = FakeSource::create(alloc, &BYTES, step, &[call])?;
+    let answer = read(alloc, &mut source);
+    let faults = source.faults();
+    match answer {
+        Ok(_) => format!(in alloc; "saved {faults}"),
+        Err(LoadError::BadForm { place }) => format!(in alloc; "{place} {faults}"),
+        Err(error) => format!(in alloc; "{error} {faults}"),
+    }
+}
+
+/// A save over a sink. It promises nothing, so that no proof of its callers carries its contract.
+fn write(alloc: Global, table: &PlainTable, sink: &mut FakeSink) -> Result<(), SaveError> {
+    match table.fields().as_slice() {
+        [field, ..] => {
+            column_law();
+            let documents = table.documents();
+            save(alloc, field.kind, field.value, 1, documents, sink)
+        }
+        [] => Ok(()),
+    }
+}
+
+/// What is written over a sink that takes so many bytes a call and fails at one call, and how many of its bytes it took.
+fn told_by_sink(
+    alloc: Global,
+    table: &PlainTable,
+    step: usize,
+    call: u64,
+) -> Result<String, AllocError> {
+    if step == 0 {
+        return Ok(String::new(alloc));
+    }
+    let mut sink = FakeSink::create(alloc, 100, step, &[call])?;
+    let answer = write(alloc, table, &mut sink);
+    let taken = sink.taken();
+    let count = taken.len();
+    let front = if BYTES.starts_with(taken) { "of it" } else { "of others" };
+    match answer {
+        Ok(()) => format!(in alloc; "saved, {count} {front}"),
+        Err(error) => format!(in alloc; "{error}, {count} {front}"),
+    }
+}
+
+fn compare_sources(rt: &HostRuntime, tally: &mut Tally) -> io::Result<()> {
+    let alloc = rt.alloc();
+    tally.note(rt, "28 bytes a read", &told_by_source(alloc, 28, 2)?, "a read failed 1")?;
+    for call in 1..31 {
+        let wanted = if call < 30 { "a read failed 1" } else { "saved 0" };
+        let case = format!(in alloc; "source at call {call}")?;
+        tally.note(rt, &case, &told_by_source(alloc, 1, call)?, wanted)?;
+    }
+    tally.print(rt, "sources that fail")
+}
+
+fn compare_sinks(rt: &HostRuntime, tally: &mut Tally, table: &PlainTable) -> io::Result<()> {
+    let alloc = rt.alloc();
+    let found = told_by_sink(alloc, table, 28, 1)?;
+    tally.note(rt, "28 bytes a write", &found, "a write failed, 0 of it")?;
+    for call in 1..30 {
+        let wanted = if call < 29 {
+            format!(in alloc; "a write failed, {} of it", call - 1)?
+        } else {
+            String::from_str(alloc, "saved, 28 of it")?
+        };
+        let case = format!(in alloc; "sink at call {call}")?;
+        tally.note(rt, &case, &told_by_sink(alloc, table, 1, call)?, &wanted)?;
+    }
+    tally.print(rt, "sinks that fail")
+}
+
+pub fn compare(rt: &HostRuntime) -> io::Result<()> {
+    let alloc = rt.alloc();
+    let mut tally = Tally::new();
+    compare_sources(rt, &mut tally)?;
+    let mut source = FakeSource::create(alloc, &BYTES, 5, &[])?;
+    match read(alloc, &mut source) {
+        Ok(saved) => compare_sinks(rt, &mut tally, &table_of(alloc, saved)?),
+        Err(_) => println!(rt; "28 bytes are not read"),
+    }
+}
