@@ -7,7 +7,7 @@ use Rattle.std.specs.List.Sorted.{IsStrictlySortedBy}
 use Rattle.std.specs.Map.{keys_of}
 use Rattle.std.specs.Ordering.{nat_cmp}
 use Rattle.image_base.specs.Records.{Records}
-use Rattle.attr_images.specs.Columns.{Column, IsLawfulColumn, table_of_column}
+use Rattle.attr_index.specs.Columns.{Column, IsLawfulColumn, table_of_column}
 use Rattle.attr_images.specs.Documents.{items_at, column_at, weighted}
 use Rattle.attr_images.specs.Images.{operations_at, documents_at, dictionary_at, table_of, IsLawfulImage}
 use Rattle.attr_images.specs.Shapes.{shape_of, kind_of_shape, type_of_shape}

@@ -4,7 +4,8 @@ use Rattle.std.specs.List.{AllByRecursion}
 use Rattle.std.specs.Ordering.{nat_cmp}
 use Rattle.image_base.specs.Records.{Records}
 use Rattle.tree_images.specs.Trees.{tree_pairs, tree_nodes, by_number, IsTree}
-use Rattle.attr_images.specs.Columns.{IsLawfulColumn, HasValues, HasLists}
+use Rattle.attr_index.specs.Columns.{IsLawfulColumn}
+use Rattle.attr_index.specs.Index.{HasValues, HasLists}
 use Rattle.attr_images.specs.Documents.{column_at, documents_reach, AreItemRecords}
 use Rattle.attr_images.specs.Postings.{index_of, dictionary_reach, IsDictionaryEntry}
 use Rattle.attr_images.specs.Values.{stored_value}

@@ -5,7 +5,7 @@ use Rattle.image_base.specs.Records.{Records}
 use Rattle.tree_images.specs.Trees.{tree_pairs}
 use Rattle.attr_images.specs.Values.{stored_value, IsValueRecord}
 use Rattle.attr_images.specs.Words.{stored_items, unpacked, IsStoredList}
-use Rattle.attr_images.specs.Columns.{Column}
+use Rattle.attr_index.specs.Columns.{Column}
 use Rattle.attr_types.specs.Change.{most_items}
 use Rattle.attr_types.specs.declared.items.Item.{Item}
 use Rattle.attr_types.specs.declared.kind.Kind.{Kind}

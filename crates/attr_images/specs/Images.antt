@@ -2,7 +2,7 @@
 use Rattle.std.specs.Prelude.{◌≡◌, ℕ, zero, suc, ◌<◌, ◌^◌, List, [], ◌∷◌, length, slice_index}
 use Rattle.image_base.specs.Records.{Records, word_at}
 use Rattle.attr_images.specs.Attributes.{trees_reach, IsLawfulAttribute}
-use Rattle.attr_images.specs.Columns.{table_of_column}
+use Rattle.attr_index.specs.Columns.{table_of_column}
 use Rattle.attr_images.specs.Documents.{column_at}
 use Rattle.attr_images.specs.Shapes.{kind_of_shape, type_of_shape}
 use Rattle.attr_types.specs.Table.{Table}

@@ -1,6 +1,5 @@
 pub mod Words
 pub mod Values
-pub mod Columns
 pub mod Documents
 pub mod Postings
 pub mod Shapes

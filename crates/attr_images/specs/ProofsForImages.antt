@@ -9,7 +9,8 @@ use Rattle.image_base.specs.Records.{Records, SameAt, AllThere}
 use Rattle.tree_images.specs.ProofsForTrees.{SameAt-left, SameAt-right, flat_map-same, map-same, all-same, tree_pairs-same, tree_nodes-same, IsTree-same, there-both, tree_there}
 use Rattle.tree_images.specs.Trees.{tree_pairs, tree_nodes, by_number}
 use Rattle.attr_images.specs.Attributes.{trees_reach, AreFormed, IsLawfulAttribute}
-use Rattle.attr_images.specs.Columns.{IsLawfulColumn, HasValues, HasLists}
+use Rattle.attr_index.specs.Columns.{IsLawfulColumn}
+use Rattle.attr_index.specs.Index.{HasValues, HasLists}
 use Rattle.attr_images.specs.Documents.{weighted, IsItemsRecord, items_reach, items_at, AreItemRecords, column_at, documents_reach}
 use Rattle.attr_images.specs.Images.{documents_at, dictionary_at, IsRootRecord, attr_reaches, IsLawfulImage}
 use Rattle.attr_images.specs.Postings.{ListForm, short, tree, list_form, postings_at, IsPostingList, postings_reach, index_of, IsDictionaryEntry, dictionary_reach}

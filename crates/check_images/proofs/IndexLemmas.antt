@@ -11,7 +11,8 @@ use Rattle.std.specs.Ordering.{nat_cmp}
 use Rattle.list_facts.proofs.Each.{AllByRecursion-append, AllByRecursion-left, AllByRecursion-right}
 use Rattle.image_base.specs.Records.{Records}
 use Rattle.tree_images.specs.Trees.{tree_pairs, by_number, IsTree}
-use Rattle.attr_images.specs.Columns.{Column, column_values, documents_with, IsLawfulColumn, HasValues, HasLists}
+use Rattle.attr_index.specs.Columns.{Column, column_values, documents_with, IsLawfulColumn}
+use Rattle.attr_index.specs.Index.{HasValues, HasLists}
 use Rattle.attr_images.specs.Documents.{items_at, column_at}
 use Rattle.attr_images.specs.Postings.{ListForm, short, tree, list_form, postings_at, IsPostingList, IsDictionaryEntry}
 use Rattle.attr_images.specs.Values.{stored_value}

@@ -3,7 +3,7 @@ ghost use Rattle.std.specs.List.{AllByRecursion};
 ghost use Rattle.std.specs.Ordering.{nat_cmp};
 ghost use Rattle.tree_images.specs.Trees.{tree_pairs, by_number, IsTree};
 ghost use Rattle.attr_images.specs.Attributes.{IsLawfulAttribute};
-ghost use Rattle.attr_images.specs.Columns.{documents_with, table_of_column, IsLawfulColumn};
+ghost use Rattle.attr_index.specs.Columns.{documents_with, table_of_column, IsLawfulColumn};
 ghost use Rattle.attr_images.specs.Documents.{AreItemRecords, column_at};
 ghost use Rattle.attr_images.specs.Images.{table_of, IsRootRecord, IsLawfulImage};
 ghost use Rattle.attr_images.specs.Postings.{list_form, postings_at, IsDictionaryEntry};

@@ -1,4 +1,3 @@
-pub mod Free
 pub mod Handed
 pub mod Marked
 pub mod Cleared

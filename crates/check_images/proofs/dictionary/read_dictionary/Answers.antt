@@ -1,7 +1,7 @@
 use Rattle.std.proofs.Common.{◌≡◌, ℕ}
 use Rattle.std.proofs.lemmas.Result.{err_from_is_err_and}
 use Rattle.list_facts.proofs.Each.{AllByRecursion-at}
-use Rattle.attr_images.specs.Columns.{documents_with}
+use Rattle.attr_index.specs.Columns.{documents_with}
 use Rattle.attr_images.specs.Postings.{list_form, postings_at, IsDictionaryEntry}
 use Rattle.attr_images.specs.Values.{stored_value}
 use Rattle.image_base.specs.Maps.{seen}

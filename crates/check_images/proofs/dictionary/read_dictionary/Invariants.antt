@@ -1,6 +1,6 @@
 use Rattle.std.proofs.Common.{◌≡◌, ℕ, map, take}
 use Rattle.std.specs.List.{AllByRecursion}
-use Rattle.attr_images.specs.Columns.{documents_with}
+use Rattle.attr_index.specs.Columns.{documents_with}
 use Rattle.attr_images.specs.Postings.{list_form, postings_at, IsDictionaryEntry}
 use Rattle.attr_images.specs.Values.{stored_value}
 use Rattle.image_base.specs.Maps.{seen}

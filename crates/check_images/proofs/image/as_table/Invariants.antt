@@ -1,5 +1,5 @@
 use Rattle.std.proofs.Common.{◌≡◌}
-use Rattle.attr_images.specs.Columns.{table_of_column}
+use Rattle.attr_index.specs.Columns.{table_of_column}
 use Rattle.check_images.proofs.image.as_table.Given as goal
 
 abbrev pub invariant-loop-entry : goal.invariant-loop-entry

@@ -1,6 +1,6 @@
 use Rattle.std.proofs.Common.{◌<◌, arith, true≢false, sym, ap, subst, ◌∙◌}
 use Rattle.std.proofs.lemmas.Result.{err_from_is_err_and}
-use Rattle.attr_images.specs.Columns.{table_of_column}
+use Rattle.attr_index.specs.Columns.{table_of_column}
 use Rattle.attr_images.specs.Documents.{column_at}
 use Rattle.attr_images.specs.Images.{IsRootRecord}
 use Rattle.image_base.specs.Maps.{seen}

@@ -2,7 +2,7 @@ use Rattle.std.proofs.Common.{◌≡◌, ◌+◌, false, sym, ap, ◌∙◌, ari
 use Rattle.arena_api.specs.Works.{is_free, free_count}
 use Rattle.mem_work.specs.Cells.{buffers_in}
 use Rattle.mem_work.specs.Marks.{marked_buffers}
-use Rattle.mem_work.proofs.Free.{free_count-more, free_count-some}
+use Rattle.arena_api.proofs.Free.{free_count-more, free_count-some}
 use Rattle.mem_work.proofs.cells.Cells.hand_out.Goals as goal
 
 pub returns-then-is_free-clause-none : goal.returns-then-is_free-clause-none

@@ -1,12 +1,14 @@
--- The part of a table that is one attribute's, and the index of its values.
-use Rattle.std.specs.Prelude.{◌≡◌, ◌↔◌, ℕ, ℤ, List, [], ◌∷◌, map, Contains, option_map}
+-- The part of a table that is one attribute's.
+use Rattle.std.specs.Prelude.{ℕ, ℤ, List, [], ◌∷◌, map, Option, None, Some, unwrap_or, option_map}
+use Rattle.std.specs.BTreeMap.{insert_entry, is_at}
 use Rattle.std.specs.List.{find, filter_map, flat_map, AllByRecursion}
 use Rattle.std.specs.List.Sorted.{IsStrictlySortedBy}
-use Rattle.std.specs.Map.{keys_of}
+use Rattle.std.specs.Map.{keys_of, lookup, remove_entry}
 use Rattle.std.specs.Ordering.{nat_cmp, is_eq}
+use Rattle.attr_types.specs.Query.{items_in}
 use Rattle.attr_types.specs.Lawful.{IsDocNumber, IsLawfulItems}
 use Rattle.attr_types.specs.Table.{Table}
-use Rattle.attr_types.specs.Value.{value_cmp, values_of}
+use Rattle.attr_types.specs.Value.{Document, value_cmp, values_of}
 use Rattle.attr_types.specs.declared.items.Item.{Item}
 use Rattle.attr_types.specs.declared.kind.Kind.{Kind}
 use Rattle.attr_types.specs.declared.value.Value.{Value}
@@ -25,6 +27,10 @@ pub record IsLawfulColumn (kind : Kind) (column : Column) : Type 0 where
 abbrev pub table_of_column : Column → Table
 table_of_column column = map (λ e. (e.0, e.1 ∷ [])) column
 
+-- the column of the attribute of this number
+abbrev pub column_of : ℕ → Table → Column
+column_of i table = map (λ e. (e.0, items_in e.1 i)) table
+
 -- the values that the items of a column have
 abbrev pub column_values : Column → List Value
 column_values column = flat_map (λ e. values_of e.1) column
@@ -34,9 +40,11 @@ abbrev pub documents_with : Value → Column → List (ℕ × ℤ)
 documents_with value column =
     filter_map (λ e. option_map (λ item. (e.0, item.weight)) (find (λ item. is_eq (value_cmp value item.value)) e.1)) column
 
--- an index has exactly the values of a column, and with each the documents that have it
-abbrev pub HasValues : Column → List (Value × List (ℕ × ℤ)) → Type 0
-HasValues column index = (value : Value) → Contains (keys_of index) value ↔ Contains (column_values column) value
+-- a document's list of items, none where it is not there
+abbrev pub items_of : Column → ℕ → List Item
+items_of column doc = unwrap_or (lookup (is_at (nat_cmp doc)) column) []
 
-abbrev pub HasLists : Column → List (Value × List (ℕ × ℤ)) → Type 0
-HasLists column index = AllByRecursion (λ e. e.1 ≡ documents_with e.0 column) index
+-- the column with a document's items changed, or without the document
+abbrev pub with_change : Column → ℕ → Option (List Item) → Column
+with_change column doc None = remove_entry (is_at (nat_cmp doc)) column
+with_change column doc (Some items) = insert_entry nat_cmp column doc items

@@ -1,6 +1,5 @@
 -- How many buffers are free.
-use Rattle.std.proofs.Common.{◌≡◌, ℕ, zero, suc, ◌+◌, ◌*◌, ◌<◌, ◌≤◌, Bool, true, false, cond, sym, ap, subst, arith, add-one, inl, inr}
-use Rattle.std.proofs.Math.Nat.{mul-le-mul_right}
+use Rattle.std.proofs.Common.{◌≡◌, ℕ, zero, suc, ◌+◌, ◌<◌, ◌≤◌, Bool, true, false, cond, sym, ap, subst, arith, add-one, inl, inr}
 use Rattle.std.proofs.lemmas.Bool.{cases_eq}
 use Rattle.arena_api.specs.Works.{Buffer, is_free, free_count}
 
@@ -23,9 +22,3 @@ free_count-some buffer (suc n) b below free = elim (cases_eq b n) [
   | inl e ↦ subst (λ k. 0 < free_count buffer n + cond (is_free (buffer k)) 1 0) e (subst (λ t. 0 < free_count buffer n + cond t 1 0) (sym free) (omega arith))
   | inr e ↦ (let more = free_count-some buffer n b (omega arith) free in omega arith)
 ]
-
--- the first word of a buffer is one of the words
-pub first-below : (b buffers words n : ℕ) → b < buffers → 8192 ≤ words → n ≡ buffers * words → b * words < n
-first-below b buffers words n below some room =
-    let more : suc b * words ≤ buffers * words = mul-le-mul_right words below in
-    omega arith

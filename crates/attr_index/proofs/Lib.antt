@@ -1,0 +1,11 @@
+pub mod ColumnLemmas
+pub mod PartLemmas
+pub mod ListLemmas
+pub mod ChangeLemmas
+pub mod UseLemmas
+pub mod OfLemmas
+pub mod StayLemmas
+pub mod MiddleLemmas
+pub mod BoundLemmas
+pub mod BetweenLemmas
+pub mod MapLemmas

@@ -1,0 +1,49 @@
+-- The index between, while one document's items change: two walks, over the new items and then over the old.
+use Rattle.std.specs.Prelude.{◌≡◌, ℕ, ℤ, Bool, false, ◌||◌, List, [], ◌∷◌, ◌++◌, Option, None, Some, is_some, unwrap_or, option_map, option_and_then}
+use Rattle.std.specs.Prelude.{if◌then◌else◌}
+use Rattle.std.specs.BTreeMap.{insert_entry, is_at}
+use Rattle.std.specs.Map.{lookup, remove_entry}
+use Rattle.std.specs.Ordering.{nat_cmp, int_eq}
+use Rattle.attr_types.specs.declared.items.Item.{Item}
+use Rattle.attr_types.specs.Value.{value_cmp}
+use Rattle.attr_types.specs.declared.value.Value.{Value}
+use Rattle.attr_index.specs.Index.{Index, IsFormed, list_of, weight_in, with_posting, without_posting}
+
+abbrev pub is_weight : ℤ → Option ℤ → Bool
+is_weight weight None = false
+is_weight weight (Some other) = int_eq weight other
+
+-- the list of a value where the document has been given the weight among the items added, if any,
+-- and has been taken out of the lists of the items removed, if it has none
+abbrev pub settled : Option ℤ → Option ℤ → ℕ → List (ℕ × ℤ) → List (ℕ × ℤ)
+settled (Some weight) removed doc docs = insert_entry nat_cmp docs doc weight
+settled None (Some weight) doc docs = remove_entry (is_at (nat_cmp doc)) docs
+settled None None doc docs = docs
+
+-- the lists that have a document are those of its items' values, with the weights of these
+abbrev pub HasItems : Index → ℕ → List Item → Type 0
+HasItems index doc items = (value : Value) → lookup (is_at (nat_cmp doc)) (list_of value index) ≡ weight_in value items
+
+-- between: each list is the old one but for the document, with weights added so far and weights taken out so far
+pub record IsBetween (start : Index) (doc : ℕ) (added removed : Value → Option ℤ) (index : Index) : Type 0 where
+  pub formed : IsFormed index
+  pub lists : (value : Value) → list_of value index ≡ settled (added value) (removed value) doc (list_of value start)
+
+-- with items added so far and items removed so far
+abbrev pub IsPartway : Index → ℕ → List Item → List Item → Index → Type 0
+IsPartway start doc added removed index = IsBetween start doc (λ value. weight_in value added) (λ value. weight_in value removed) index
+
+-- the state in the middle: the document has each value's new weight, or else the old one
+abbrev pub or_else : Option ℤ → Option ℤ → Option ℤ
+or_else (Some weight) other = Some weight
+or_else None other = other
+
+abbrev pub HasBoth : Index → ℕ → List Item → List Item → Type 0
+HasBoth index doc old new = (value : Value)
+    → lookup (is_at (nat_cmp doc)) (list_of value index) ≡ or_else (weight_in value new) (weight_in value old)
+
+-- a map from value to weight, with items that it lacks the values of, one after another
+abbrev pub first_weights : List (Value × ℤ) → List Item → List (Value × ℤ)
+first_weights es [] = es
+first_weights es (item ∷ items) = first_weights
+    (if is_some (lookup (is_at (value_cmp item.value)) es) then es else insert_entry value_cmp es item.value item.weight) items

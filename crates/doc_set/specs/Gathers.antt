@@ -1,0 +1,9 @@
+-- Whether a document was gathered.
+use Rattle.std.specs.Prelude.{ℕ, Bool}
+use Rattle.doc_set.specs.Sets.{has, in_words}
+use Rattle.doc_set.specs.declared.gathered.Gathered.{Gathered}
+use Rattle.doc_set.specs.declared.gathered.Gathered.TheVariants.{Few, Many}
+
+abbrev pub is_in : Gathered → ℕ → Bool
+is_in (Few docs) doc = has docs.items doc
+is_in (Many words) doc = in_words words doc

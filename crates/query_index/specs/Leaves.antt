@@ -1,0 +1,64 @@
+-- The part of an index that a leaf asks for.
+use Rattle.std.specs.Prelude.{ℕ, Bool, not, List, [], ◌∷◌, filter, Option, Some, None, if◌then◌else◌, false}
+use Rattle.std.specs.List.{flat_map}
+use Rattle.std.specs.Map.{keys_of}
+use Rattle.std.specs.Ordering.{is_lt, is_le}
+use Rattle.attr_index.specs.Index.{Index}
+use Rattle.attr_types.specs.Query.{meets, begins_with}
+use Rattle.attr_types.specs.Value.{value_cmp}
+use Rattle.attr_types.specs.declared.query.Leaf.{Leaf}
+use Rattle.attr_types.specs.declared.query.Leaf.TheVariants.{Is, Prefix, Range, Below, Above}
+use Rattle.attr_types.specs.declared.value.Value.{Value}
+use Rattle.attr_types.specs.declared.value.Value.TheVariants as values
+
+-- the documents in the lists of an index
+abbrev pub listed : Index → List ℕ
+listed index = flat_map (λ e. keys_of e.1) index
+
+-- the lists whose values meet a leaf
+abbrev pub meeting : Leaf → Index → Index
+meeting leaf index = filter (λ e. meets leaf e.0) index
+
+-- a value stands before those that meet a leaf, or behind them
+abbrev pub is_before : Leaf → Value → Bool
+is_before (Is wanted) value = is_lt (value_cmp value wanted)
+is_before (Prefix bytes) value = is_lt (value_cmp value (values.Text bytes))
+is_before (Range None high) value = false
+is_before (Range (Some low) high) value = is_lt (value_cmp value low)
+is_before (Below high) value = false
+is_before (Above low) value = is_le (value_cmp value low)
+
+abbrev pub is_beyond : Leaf → Value → Bool
+is_beyond (Is wanted) value = is_lt (value_cmp wanted value)
+is_beyond (Prefix bytes) value = not (begins_with value bytes)
+is_beyond (Range low None) value = false
+is_beyond (Range low (Some high)) value = is_lt (value_cmp high value)
+is_beyond (Below high) value = is_le (value_cmp high value)
+is_beyond (Above low) value = false
+
+-- from the first value that is not before
+abbrev pub from : Leaf → Index → Index
+from leaf [] = []
+from leaf (e ∷ es) = if is_before leaf e.0 then from leaf es else (e ∷ es)
+
+-- up to the first value that is beyond
+abbrev pub run : Leaf → Index → Index
+run leaf [] = []
+run leaf (e ∷ es) = if is_beyond leaf e.0 then [] else (e ∷ run leaf es)
+
+-- the value that a leaf's walk seeks first: none begins at the first value
+abbrev pub sought : Leaf → Option Value
+sought (Is wanted) = Some wanted
+sought (Prefix bytes) = Some (values.Text bytes)
+sought (Range low high) = low
+sought (Below high) = None
+sought (Above low) = Some low
+
+-- from the first value that is not below one sought
+abbrev pub seek : Value → Index → Index
+seek low [] = []
+seek low (e ∷ es) = if is_lt (value_cmp e.0 low) then seek low es else (e ∷ es)
+
+abbrev pub from_sought : Option Value → Index → Index
+from_sought None index = index
+from_sought (Some low) index = seek low index
