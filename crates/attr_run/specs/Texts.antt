@@ -11,7 +11,8 @@ use Rattle.attr_run.specs.declared.outcome.FeedFault.TheVariants as feed
 unfoldable pub help_text : List ℕ
 help_text =
     codes "attr --kind single|array|weightedset --value long|string [--field F] [--batch B] [--readers R]\n"
-    ++ codes "     [--rounds N] [--buffers U] [--words W] [--after] [--make N] [--seed S] [--wide] [--dense] [--also A] [--save] [QUERY..]\n"
+    ++ codes "     [--rounds N] [--buffers U] [--words W] [--after] [--make N] [--seed S]"
+    ++ codes " [--wide] [--dense] [--also A] [--save] [QUERY..]\n"
 
 -- the refusal of a query, in words
 unfoldable pub query_refusal : QueryError → List ℕ

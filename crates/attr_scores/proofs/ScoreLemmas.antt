@@ -92,7 +92,8 @@ score_bound : (parts : List Part) (items : List Item) → AllByRecursion (λ par
     → AllByRecursion (λ item. FitsSigned w32 item.weight) items → unsigned_abs (score_of parts items) ≤ length parts * 2 ^ 62
 score_bound [] items weights fit = omega arith
 score_bound (part ∷ parts) items weights fit =
-    let here = product_bound part.weight (weight_of part.value items) (abs_weight part.weight weights.0) (weight_bound part.value items fit) in
+    let here = product_bound part.weight (weight_of part.value items) (abs_weight part.weight weights.0)
+    (weight_bound part.value items fit) in
     let rest = score_bound parts items weights.1 fit in
     let sum = abs_add (part.weight *ℤ weight_of part.value items) (score_of parts items) (2 ^ 62) (length parts * 2 ^ 62) here rest in
     omega (arith, sum)

@@ -25,7 +25,8 @@ loop-op-preserved-in-Skipped c =
     let fit = rw rest at c.loop-op.invariant.fit in
     let applied = sym c.in_ok-apply.ensures.skipped ∙ c.in-Skipped.is in
     record {
-      table = plain-push c.args.fields c.loop-op.yielded c.in-Some.op c.loop-op.table _ c.loop-op.invariant.table c.in_ok-apply.ensures.table;
+      table = plain-push c.args.fields c.loop-op.yielded c.in-Some.op c.loop-op.table _
+          c.loop-op.invariant.table c.in_ok-apply.ensures.table;
       skipped = ap (λ n. n + 1) c.loop-op.invariant.skipped
           ∙ sym (skipped_ops-skipped c.args.fields c.loop-op.yielded c.in-Some.op c.loop-op.table c.loop-op.invariant.table applied);
       fit = fit.1;
@@ -38,7 +39,8 @@ loop-op-preserved c =
     let fit = rw rest at c.loop-op.invariant.fit in
     let applied = sym c.in_ok-apply.ensures.skipped ∙ c.in-Changed.is in
     record {
-      table = plain-push c.args.fields c.loop-op.yielded c.in-Some.op c.loop-op.table _ c.loop-op.invariant.table c.in_ok-apply.ensures.table;
+      table = plain-push c.args.fields c.loop-op.yielded c.in-Some.op c.loop-op.table _
+          c.loop-op.invariant.table c.in_ok-apply.ensures.table;
       skipped = c.loop-op.invariant.skipped
           ∙ sym (skipped_ops-changed c.args.fields c.loop-op.yielded c.in-Some.op c.loop-op.table c.loop-op.invariant.table applied);
       fit = fit.1;

@@ -24,7 +24,8 @@ returns-in_err-ask-clause-says c =
     let is = ap (λ ts. after_front front (asks_from c.args.fields.now c.loop-text.number ts)) (sym rest)
     ∙ c.loop-text.invariant.read in
     rw (p.1 ∙ ap Err p.2) (says-stopped (λ
-    (asks : Vec Ask Global). map ask_tree asks.items) ask_tree c.in_err-ask.field-0.0 front c.args.fields.now c.loop-text.number (string_bytes c.text-item.result)
+    (asks : Vec Ask Global). map ask_tree asks.items) ask_tree c.in_err-ask.field-0.0 front c.args.fields.now c.loop-text.number
+    (string_bytes c.text-item.result)
     (bytes_of (drop (c.loop-text.text-index + 1) c.args.texts.now)) _ is
     (rw c.as_str.ensures.value at c.in_err-ask.ensures.says))
 
