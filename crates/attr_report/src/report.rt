@@ -88,9 +88,12 @@ pub fn summary_text(
 pub fn saved_table(alloc: Global, table: &PlainTable, loaded: u32) -> Result<Vec<u8>, AllocError>
     ensures { IfOk result (λ bytes. bytes.items ≡ saved_text table.now.fields table.now.table loaded) }
 {
-    column_law();
     match table.fields().as_slice() {
-        [field, ..] => saved_in(alloc, field.kind, field.value, loaded, table.documents()),
+        [field, ..] => {
+            column_law();
+            let documents = table.documents();
+            saved_in(alloc, field.kind, field.value, loaded, documents)
+        }
         [] => Ok(Vec::new(alloc)),
     }
 }

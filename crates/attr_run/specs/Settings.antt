@@ -1,5 +1,5 @@
 -- What holds of a run that words ask for: its numbers lie in the ranges of their options, and what it
--- asks is what the grammar answers to the texts.
+-- asks is what its texts say.
 use Rattle.std.specs.Prelude.{◌≡◌, ◌≤◌, ℕ, false, List, length, IfSome, Ok}
 use Rattle.std.specs.List.{AllByRecursion, AllZip}
 use Rattle.std.specs.Str.{IsUtf8}
@@ -9,14 +9,14 @@ use Rattle.attr_words.specs.CommandLine.{batch, readers, rounds, buffers, words,
 use Rattle.attr_words.specs.Reading.{IsWithin}
 use Rattle.attr_words.specs.Settings.{Given, settings_in, are_too_many}
 use Rattle.attr_scores.specs.Scores.{AskTree}
-use Rattle.query_text.specs.Asking.{AnswersAsk}
+use Rattle.query_text.specs.Asks.{ask_of}
 use Rattle.attr_report.specs.Run.{Run}
 use Rattle.attr_report.specs.declared.request.Make.{Make}
 use Rattle.attr_run.specs.Run.{asked}
 
--- a text in UTF-8, which the grammar answers with this
+-- a text in UTF-8 that asks this of these attributes
 abbrev pub IsTextOf : List Field → Text → AskTree → Type 0
-IsTextOf fields text ask = IsUtf8 text × AnswersAsk fields text (Ok ask)
+IsTextOf fields text ask = IsUtf8 text × (ask_of fields text ≡ Ok ask)
 
 abbrev pub IsWithinRanges : Make → Type 0
 IsWithinRanges made = IsWithin make made.count × IsWithin seed made.seed

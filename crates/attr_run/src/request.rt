@@ -5,7 +5,7 @@ ghost use Rattle.clap.specs.Faults.{fault_of};
 ghost use Rattle.attr_words.specs.CommandLine.{attr_app};
 ghost use Rattle.attr_words.specs.Settings.{settings_in as given_in, given_by, IsLawful};
 ghost use Rattle.attr_scores.specs.Scores.{ask_tree};
-ghost use Rattle.query_text.specs.Asking.{ask_of};
+ghost use Rattle.query_text.specs.Asks.{ask_of};
 ghost use Rattle.attr_report.specs.Run.{run_in};
 ghost use Rattle.attr_run.specs.Run.{given_or_refused, make_of, run_of, ask_or_refused, asks_from, asked};
 ghost use Rattle.attr_run.specs.Settings.{IsAskedBy};
@@ -17,7 +17,7 @@ use crate::stop::Stop;
 use crate::words::Words;
 use attr_report::{Make, Request};
 use attr_scores::{Ask, Asks};
-use attr_types::{Fields, QueryError};
+use attr_types::{Field, QueryError};
 use attr_words::{Settings, read_words};
 use query_text::parse_ask;
 use std::alloc::Global;
@@ -29,6 +29,7 @@ fn settings_in(alloc: Global, words: &Words) -> Result<Settings, Stop>
     ensures refusal { IfErr result IsWordsStop }
     ensures one_kind { length (fault_of attr_app words.now) ≤ 1 }
     ensures alone { IfOk result (λ s. s.readers ≡ 0) }
+    ensures few { IfOk result (λ s. length s.fields < 2 ^ 32) }
     ensures texts { IfOk result (λ s. AllByRecursion IsUtf8 (given_by s).queries) }
 {
     match read_words(alloc, words.as_slice()) {
@@ -37,7 +38,8 @@ fn settings_in(alloc: Global, words: &Words) -> Result<Settings, Stop>
     }
 }
 
-fn ask_in(alloc: Global, fields: &Fields, number: u64, text: &str) -> Result<Ask, Stop>
+fn ask_in(alloc: Global, fields: &[Field], number: u64, text: &str) -> Result<Ask, Stop>
+    requires { length fields.now < 2 ^ 32 }
     ensures says { Says ask_tree result (ask_or_refused number (ask_of fields.now text.now)) }
     ensures refusal { IfErr result IsWordsStop }
 {
@@ -48,8 +50,9 @@ fn ask_in(alloc: Global, fields: &Fields, number: u64, text: &str) -> Result<Ask
     }
 }
 
-fn asks_in(alloc: Global, fields: &Fields, texts: &[String]) -> Result<Asks, Stop>
-    requires { length texts.now < 2 ^ 63 }
+fn asks_in(alloc: Global, fields: &[Field], texts: &[String]) -> Result<Asks, Stop>
+    requires few { length fields.now < 2 ^ 32 }
+    requires small { length texts.now < 2 ^ 63 }
     ensures refusal { IfErr result IsWordsStop }
     ensures says { Says (λ asks. map ask_tree asks.items) result
         (asks_from fields.now 1 (map (λ t. string_bytes t) texts.now)) }
@@ -103,6 +106,6 @@ pub fn request_in(alloc: Global, words: &Words) -> Result<Request, Stop>
 {
     settings_law();
     let settings = settings_in(alloc, words)?;
-    let asks = asks_in(alloc, &settings.fields, settings.queries.as_slice())?;
+    let asks = asks_in(alloc, settings.fields.as_slice(), settings.queries.as_slice())?;
     Ok(request_of(settings, asks))
 }

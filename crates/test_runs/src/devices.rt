@@ -80,6 +80,25 @@ fn compare_steps(rt: &HostRuntime, tally: &mut Tally) -> io::Result<()> {
     tally.note(rt, "seven bytes of room", &found, "5 final a")
 }
 
+/// A save over a sink that fails: the front of its bytes, and at how many operations it was made.
+fn save_at(alloc: Global, call: u64) -> Result<String, AllocError> {
+    let words = words_in(alloc, "--kind single --value long --save 5")?;
+    let mut source = FakeSource::create(alloc, FEED.as_bytes(), 5, &[])?;
+    let mut sink = FakeSink::create(alloc, 100, 4, &[call])?;
+    let outcome = outcome_of(alloc, &words, &mut source, &mut sink);
+    let line = line_of(alloc, outcome.status.exit_code(), sink.taken())?;
+    match outcome.saved {
+        Some(saved) => format!(in alloc; "{line} {saved}"),
+        None => Ok(line),
+    }
+}
+
+fn compare_saves(rt: &HostRuntime, tally: &mut Tally) -> io::Result<()> {
+    let alloc = rt.alloc();
+    tally.note(rt, "a save at its first call", &save_at(alloc, 1)?, "5  1")?;
+    tally.note(rt, "a save at its second call", &save_at(alloc, 2)?, "5 ATS1 1")
+}
+
 pub fn compare(rt: &HostRuntime) -> io::Result<()> {
     let mut sources = Tally::new();
     compare_sources(rt, &mut sources)?;
@@ -89,5 +108,8 @@ pub fn compare(rt: &HostRuntime) -> io::Result<()> {
     sinks.print(rt, "sinks that fail")?;
     let mut steps = Tally::new();
     compare_steps(rt, &mut steps)?;
-    steps.print(rt, "steps of devices")
+    steps.print(rt, "steps of devices")?;
+    let mut saves = Tally::new();
+    compare_saves(rt, &mut saves)?;
+    saves.print(rt, "saves over devices that fail")
 }

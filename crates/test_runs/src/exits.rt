@@ -13,6 +13,14 @@ pub fn compare(rt: &HostRuntime) -> io::Result<()> {
         (Status::Done, "0"),
         (Status::Help, "0"),
         (Status::Usage(UsageCause::Words), "2"),
+        (
+            Status::Usage(UsageCause::Size {
+                buffers: 1024,
+                words: 8192,
+            }),
+            "2",
+        ),
+        (Status::Usage(UsageCause::Also { place: 0 }), "2"),
         (Status::BadFeed(FeedFault::TooLong), "3"),
         (Status::ReadFault, "4"),
         (Status::WriteFault, "5"),

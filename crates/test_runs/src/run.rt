@@ -39,3 +39,16 @@ pub fn told(alloc: Global, words: &Words, feed: &[u8], room: usize) -> Result<St
     let outcome = outcome_of(alloc, words, &mut source, &mut sink);
     line_of(alloc, outcome.status.exit_code(), sink.taken())
 }
+
+/// The exit status of a run and the bytes that it writes, in hexadecimal.
+pub fn saved(alloc: Global, words: &Words, feed: &[u8]) -> Result<String, AllocError> {
+    let mut source = SliceSource::new(feed);
+    let mut sink = VecSink::create(alloc, 4096)?;
+    let outcome = outcome_of(alloc, words, &mut source, &mut sink);
+    let code = outcome.status.exit_code();
+    let mut line = format!(in alloc; "{code} ")?;
+    for byte in sink.taken() {
+        write!(line, "{byte:02x}")?;
+    }
+    Ok(line)
+}

@@ -18,12 +18,12 @@ returns-in_err-asks-clause-asked c =
     let p = err_from_is_err_and c.from_residual-in_err-asks.result c.from_residual-in_err-asks.ensures.1 in
     rw (p.1 ∙ ap Err p.2) (asked-at_asks c.args.words.now (given_by c.in_ok-settings.settings) (λ
     (asks : Vec Ask Global). map ask_tree asks.items) c.in_err-asks.field-0.0
-    c.in_ok-settings.ensures.says (rw c.as_slice.ensures.value at c.in_err-asks.ensures.says))
+    c.in_ok-settings.ensures.says (rw (c.as_slice.ensures, c.as_slice-2.ensures.value) at c.in_err-asks.ensures.says))
 
 pub returns-clause-asked : goal.returns-clause-asked
 returns-clause-asked c =
     asked-whole c.args.words.now (given_by c.in_ok-settings.settings) (map ask_tree c.in_ok-asks.asks.items)
-    c.in_ok-settings.ensures.says (rw c.as_slice.ensures.value at c.in_ok-asks.ensures.says)
+    c.in_ok-settings.ensures.says (rw (c.as_slice.ensures, c.as_slice-2.ensures.value) at c.in_ok-asks.ensures.says)
     ∙ ap (λ (run : Run). Ok run) (sym c.request_of.ensures.run)
 
 pub returns-clause-lawful : goal.returns-clause-lawful

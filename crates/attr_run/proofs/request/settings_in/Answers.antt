@@ -24,5 +24,8 @@ returns-in-Err-clause-refusal c = rw c.of_words.ensures (words_stop-words c.in-E
 pub returns-in-Ok-clause-alone : goal.returns-in-Ok-clause-alone
 returns-in-Ok-clause-alone c = omega (arith, c.in-Ok.ensures.lawful.in_readers.1)
 
+pub returns-in-Ok-clause-few : goal.returns-in-Ok-clause-few
+returns-in-Ok-clause-few c = omega (arith, c.in-Ok.ensures.lawful.few)
+
 pub returns-in-Ok-clause-texts : goal.returns-in-Ok-clause-texts
 returns-in-Ok-clause-texts c = strings_utf8 c.in-Ok.settings.queries.items
