@@ -1,3 +1,0 @@
-mod FirstLemmas
-mod FitLemmas
-mod MadeLemmas
