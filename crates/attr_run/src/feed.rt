@@ -46,11 +46,7 @@ fn made_in(alloc: Global, count: u32, seed: u32, fields: &Fields) -> Result<Ops,
 }
 
 /// The operations of a run: made where it asks for that, else those that its source gives.
-pub fn ops_in<S: Source>(
-    alloc: Global,
-    source: &mut S,
-    request: &Request,
-) -> Result<Ops, Stop>
+pub fn ops_in<S: Source>(alloc: Global, source: &mut S, request: &Request) -> Result<Ops, Stop>
     ensures fed { IfOk result (λ ops. IfSome (fed (run_in request.now) (S.left source.old)) (λ said. said ≡ Ok ops)) }
     ensures few { IfOk result (λ ops. length ops < 2 ^ 32) }
     ensures fit { IfOk result (λ ops. AllByRecursion (OpFits request.now.fields) ops) }

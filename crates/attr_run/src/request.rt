@@ -106,6 +106,10 @@ pub fn request_in(alloc: Global, words: &Words) -> Result<Request, Stop>
 {
     settings_law();
     let settings = settings_in(alloc, words)?;
-    let asks = asks_in(alloc, settings.fields.as_slice(), settings.queries.as_slice())?;
+    let asks = asks_in(
+        alloc,
+        settings.fields.as_slice(),
+        settings.queries.as_slice(),
+    )?;
     Ok(request_of(settings, asks))
 }

@@ -23,9 +23,7 @@ pub type ScoreList = ListOf<Score>;
 fn some_has_value(items: &[Item], value: &Value) -> bool
     ensures { result ≡ list_any (has_value value.now) items.now }
 {
-    items
-        .iter()
-        .any(|item| compare(value, &item.value).is_eq())
+    items.iter().any(|item| compare(value, &item.value).is_eq())
 }
 
 fn some_is_scored(parts: &[Part], items: &[Item]) -> bool

@@ -96,7 +96,12 @@ fn save_at(alloc: Global, call: u64) -> Result<String, AllocError> {
 fn compare_saves(rt: &HostRuntime, tally: &mut Tally) -> io::Result<()> {
     let alloc = rt.alloc();
     tally.note(rt, "a save at its first call", &save_at(alloc, 1)?, "5  1")?;
-    tally.note(rt, "a save at its second call", &save_at(alloc, 2)?, "5 ATS1 1")
+    tally.note(
+        rt,
+        "a save at its second call",
+        &save_at(alloc, 2)?,
+        "5 ATS1 1",
+    )
 }
 
 pub fn compare(rt: &HostRuntime) -> io::Result<()> {
