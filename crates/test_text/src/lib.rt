@@ -10,6 +10,5 @@ mod of_attr_plain;
 #[cfg(test)]
 mod of_attr_types;
 #[cfg(test)]
-mod of_feed_reader;
 #[cfg(test)]
 mod of_query_print;
