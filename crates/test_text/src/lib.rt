@@ -10,5 +10,4 @@ mod of_attr_plain;
 #[cfg(test)]
 mod of_attr_types;
 #[cfg(test)]
-#[cfg(test)]
 mod of_query_print;
