@@ -1,5 +1,5 @@
 -- A run without readers.
-use Rattle.std.proofs.Common.{◌≡◌, sym, refl, ℕ, ◌<◌, Bool, true, false, List, length, Option, IfSome, is_some, arith, inr}
+use Rattle.std.proofs.Common.{◌≡◌, sym, refl, ℕ, ◌<◌, Bool, true, false, List, length, IfSome, is_some, arith, inr}
 use Rattle.attr_types.specs.declared.op.Op.{Op}
 use Rattle.attr_report.specs.Run.{Run}
 use Rattle.attr_report.specs.History.{IsRounds, IsSaved, IsSavedAt, IsAfterwards}

@@ -2,7 +2,7 @@
 use Rattle.std.specs.Prelude.{◌≡◌, ℕ, zero, suc, ◌+◌, ◌-◌, ◌*◌, ◌/◌, ◌%◌, ◌≤◌, ◌==◌, nat_le, ◌&&◌}
 use Rattle.std.specs.Prelude.{◌||◌, Bool}
 use Rattle.std.specs.Prelude.{IsTrue, if◌then◌else◌, IfSome, is_some}
-use Rattle.std.specs.Prelude.{List, [], ◌∷◌, ◌++◌, map, filter, length, All, Option, Some, None}
+use Rattle.std.specs.Prelude.{List, [], ◌∷◌, ◌++◌, filter, length, All, Option, Some, None}
 use Rattle.std.specs.List.{flat_map, filter_map}
 use Rattle.std.specs.List.Sorted.{IsNonDecreasing}
 use Rattle.attr_types.specs.declared.op.Op.{Op}

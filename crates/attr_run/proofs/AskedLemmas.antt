@@ -1,6 +1,6 @@
 -- What the words ask for, step by step.
-use Rattle.std.proofs.Common.{◌≡◌, ◌≢◌, ◌≤◌, ◌∙◌, ap, refl, ℕ, List, [], ◌∷◌, length, ◌+◌}
-use Rattle.std.proofs.Common.{Result, Ok, Err, IfErr, subst, arith}
+use Rattle.std.proofs.Common.{◌≡◌, ◌≤◌, ap, refl, ℕ, List, [], ◌∷◌, length, ◌+◌}
+use Rattle.std.proofs.Common.{Result, Ok, Err, IfErr, subst}
 use Rattle.clap.specs.Walk.{Text}
 use Rattle.clap.specs.Faults.{fault_of}
 use Rattle.attr_types.specs.declared.error.QueryError.{QueryError}
@@ -13,7 +13,6 @@ use Rattle.attr_words.specs.declared.reading.WordsError.TheVariants as words
 use Rattle.attr_scores.specs.Scores.{AskTree}
 use Rattle.query_text.specs.Asks.{ask_of}
 use Rattle.attr_report.specs.Run.{Run, run_in}
-use Rattle.attr_report.specs.declared.request.Request.{Request}
 use Rattle.attr_run.specs.Run.{◌>>=◌, given_or_refused, ask_or_refused, asks_from, run_of, asked}
 use Rattle.attr_run.specs.Steps.{Says, words_stop, IsWordsStop}
 use Rattle.attr_run.specs.declared.outcome.Status.{Status}

@@ -1,5 +1,5 @@
 -- Words that ask for help, or that the command refuses, by what is read of them.
-use Rattle.std.proofs.Common.{◌≡◌, ◌≢◌, ◌≤◌, ◌∙◌, ap, refl, ℕ, Bool, true, false, cond, List, [], ◌∷◌, ◌++◌, length, nat_lt}
+use Rattle.std.proofs.Common.{◌≡◌, ◌≢◌, ◌≤◌, ◌∙◌, ap, refl, Bool, true, false, cond, List, [], ◌∷◌, ◌++◌, length, nat_lt}
 use Rattle.std.proofs.Common.{Option, Some, None, Result, Ok, Err, IfErr, subst, arith, slice_get}
 use Rattle.clap.specs.Walk.{Row, Text}
 use Rattle.clap.specs.Simple.{matches_of}
@@ -13,7 +13,7 @@ use Rattle.attr_words.specs.CommandLine.{attr_app}
 use Rattle.attr_words.specs.Reading.{Said, said_by, AskForHelp, AreRefused}
 use Rattle.attr_words.specs.Also.{◌>>=◌, Piece, pieces, part_at, new_name, or_broken, or_surplus, field_of_parts}
 use Rattle.attr_words.specs.Also.{field_in, next_field, fields_from, fields_of}
-use Rattle.attr_words.specs.Settings.{Given, given_with, or_refused, if_room, settings_by, said_or_refused, said_in, settings_in}
+use Rattle.attr_words.specs.Settings.{Given, or_refused, if_room, settings_by, said_or_refused, said_in, settings_in}
 use Rattle.attr_words.specs.declared.reading.WordsError.{WordsError}
 use Rattle.attr_words.specs.declared.reading.WordsError.TheVariants as words
 

@@ -1,5 +1,5 @@
 -- What holds of a run that words ask for.
-use Rattle.std.proofs.Common.{◌≡◌, sym, ap, refl, subst, ℕ, ◌+◌, List, [], ◌∷◌, map, string_bytes}
+use Rattle.std.proofs.Common.{◌≡◌, ap, refl, subst, ℕ, ◌+◌, List, [], ◌∷◌, map, string_bytes}
 use Rattle.std.proofs.Common.{Option, Some, None, IfSome, Result, Ok, Err, String}
 use Rattle.std.proofs.lemmas.Str.{IsUtf8-string_bytes}
 use Rattle.std.specs.List.{AllByRecursion, AllZip}
@@ -15,7 +15,7 @@ use Rattle.attr_scores.specs.Scores.{AskTree}
 use Rattle.query_text.specs.Asks.{ask_of}
 use Rattle.attr_report.specs.Run.{Run}
 use Rattle.attr_run.specs.Run.{◌>>=◌, given_or_refused, ask_or_refused, asks_from, make_of, run_of, asked}
-use Rattle.attr_run.specs.Settings.{IsTextOf, IsWithinRanges, IsLawfulRun, IsAskedBy, RunsAreAsked}
+use Rattle.attr_run.specs.Settings.{IsTextOf, IsWithinRanges, IsLawfulRun, RunsAreAsked}
 use Rattle.attr_run.specs.declared.outcome.Status.{Status}
 
 -- texts that lie in strings are UTF-8

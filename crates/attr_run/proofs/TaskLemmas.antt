@@ -1,5 +1,5 @@
 -- What words and a feed's bytes say to do, step by step.
-use Rattle.std.proofs.Common.{◌≡◌, ◌∙◌, sym, ap, refl, subst, ℕ, ◌≤◌, ◌<◌, nat_lt, true}
+use Rattle.std.proofs.Common.{◌≡◌, sym, ap, refl, subst, ℕ, ◌≤◌, ◌<◌, nat_lt, true}
 use Rattle.std.proofs.Common.{false, List, [], length, Option, Some, None}
 use Rattle.std.proofs.Common.{option_map, Result, Ok, Err, IsOk, IfOk, IfErr, IfSome, IsOkAnd, arith}
 use Rattle.std.proofs.KnownBytes.{Consumes-nil}

@@ -1,6 +1,6 @@
 -- What holds of a run that words ask for: its numbers lie in the ranges of their options, and what it
 -- asks is what its texts say.
-use Rattle.std.specs.Prelude.{◌≡◌, ◌≤◌, ℕ, false, List, length, IfSome, Ok}
+use Rattle.std.specs.Prelude.{◌≡◌, ◌≤◌, false, List, length, IfSome, Ok}
 use Rattle.std.specs.List.{AllByRecursion, AllZip}
 use Rattle.std.specs.Str.{IsUtf8}
 use Rattle.clap.specs.Walk.{Text}

@@ -1,23 +1,20 @@
 -- Made operations, one after another, and that they fit.
-use Rattle.std.proofs.Common.{◌≡◌, ◌∙◌, sym, ap, refl, subst, ℕ, zero, suc, ◌+◌, ◌-◌, ◌*◌, ◌/◌, ◌%◌, ◌==◌, ◌≤◌, ◌<◌, Bool, true, false}
-use Rattle.std.proofs.Common.{if◌then◌else◌, List, [], ◌∷◌, ◌++◌, map, length, arith, append_assoc, append-nil, pos, codes, ◌^◌}
+use Rattle.std.proofs.Common.{◌≡◌, ◌∙◌, sym, ap, refl, ℕ, zero, suc, ◌+◌, ◌/◌, ◌==◌, ◌≤◌, ◌<◌, Bool, true, false}
+use Rattle.std.proofs.Common.{if◌then◌else◌, List, [], ◌∷◌, ◌++◌, map, length, arith, append_assoc, append-nil, codes, ◌^◌}
 use Rattle.std.proofs.lemmas.Fmt.{length-decimal-le}
 use Rattle.std.specs.Fmt.{decimal}
 use Rattle.std.specs.List.{AllByRecursion, AllZip}
 use Rattle.std.specs.List.Sorted.{IsStrictlySortedBy}
 use Rattle.attr_types.proofs.DocumentLemmas.{without_items_fits}
 use Rattle.attr_types.specs.Lawful.{ItemsFit, ChangeFits, OpFits, IsDocNumber}
-use Rattle.attr_types.specs.Value.{type_of, value_cmp}
-use Rattle.attr_types.specs.declared.change.Change.{Change}
+use Rattle.attr_types.specs.Value.{type_of}
 use Rattle.attr_types.specs.declared.change.Change.TheVariants.{Keep}
 use Rattle.attr_types.specs.declared.field.Field.{Field}
-use Rattle.attr_types.specs.declared.items.Item.{Item}
 use Rattle.attr_types.specs.declared.kind.Kind.{Kind}
 use Rattle.attr_types.specs.declared.kind.Kind.TheVariants.{Single, Array, WeightedSet}
 use Rattle.attr_types.specs.declared.kind.ValueType.{ValueType}
 use Rattle.attr_types.specs.declared.kind.ValueType.TheVariants as types
 use Rattle.attr_types.specs.declared.op.Op.{Op}
-use Rattle.attr_types.specs.declared.op.Op.TheVariants.{Put, Update, Remove}
 use Rattle.made_ops.specs.Laws.{MadeOpsFit}
 use Rattle.made_ops.specs.Made.{next_draw, second_draw, third_draw, value_by, items_by, change_by, put_items}
 use Rattle.made_ops.specs.Made.{update_changes, op_by, made_from, made}

@@ -1,5 +1,5 @@
 use Rattle.std.proofs.Common.{◌≡◌, ◌∙◌, [], sym, ap, ap₂, length, map, ℕ, List, rules}
-use Rattle.attr_scores.specs.Scores.{AskTree, ask_tree}
+use Rattle.attr_scores.specs.Scores.{ask_tree}
 use Rattle.attr_scores.specs.declared.ask.Ask.{Ask}
 use Rattle.attr_types.specs.Table.{Table, after_ops, skipped_ops}
 use Rattle.attr_types.specs.declared.field.Field.{Field}

@@ -1,4 +1,4 @@
-use Rattle.std.proofs.Common.{◌<◌, ◌^◌, arith}
+use Rattle.std.proofs.Common.{arith}
 use Rattle.attr_run.proofs.feed.made_in.Goals as goal
 
 pub returns-clause-few : goal.returns-clause-few

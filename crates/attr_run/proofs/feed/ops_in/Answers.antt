@@ -1,4 +1,4 @@
-use Rattle.std.proofs.Common.{◌≡◌, ap, sym, refl, subst, Ok, Err, List, ℕ, None, Option, Result, IfSome}
+use Rattle.std.proofs.Common.{◌≡◌, ap, sym, refl, subst, Ok, List, Option, Result, IfSome}
 use Rattle.std.proofs.lemmas.Result.{IfOk-weaker}
 use Rattle.feed_reader.specs.Feed.{most_bytes}
 use Rattle.attr_types.specs.declared.op.Op.{Op}

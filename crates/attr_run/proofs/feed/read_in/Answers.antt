@@ -1,6 +1,6 @@
 use Rattle.std.proofs.Common.{◌∙◌, ap, Err}
 use Rattle.std.proofs.lemmas.Result.{err_from_is_err_and}
-use Rattle.attr_run.proofs.TaskLemmas.{read-ops, feed-stopped, feed_stop-proper}
+use Rattle.attr_run.proofs.TaskLemmas.{read-ops, feed-stopped}
 use Rattle.attr_run.proofs.feed.read_in.Goals as goal
 
 pub returns-in_err-ops-clause-unfed : goal.returns-in_err-ops-clause-unfed
