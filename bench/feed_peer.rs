@@ -7,7 +7,7 @@ use std::io::Read;
 
 enum Json {
     Null,
-    Bool,
+    Bool(bool),
     Whole(i64),
     Float,
     Text(String),
@@ -50,8 +50,8 @@ impl Reader<'_> {
             b'[' => self.list(),
             b'"' => Json::Text(self.text()),
             b'n' => self.word(4, Json::Null),
-            b't' => self.word(4, Json::Bool),
-            b'f' => self.word(5, Json::Bool),
+            b't' => self.word(4, Json::Bool(true)),
+            b'f' => self.word(5, Json::Bool(false)),
             _ => self.number(),
         }
     }
@@ -157,6 +157,13 @@ impl Shape {
         let (name, value) = &operators[0];
         match (name.as_str(), self.kind.as_str()) {
             ("assign", _) => *items = self.items(value),
+            ("increment" | "decrement", _) => {
+                let Some((Value::Long(number), _)) = items.first_mut() else { return false };
+                let Some(moved) = number.checked_add(amount(name, value)) else { return false };
+                *number = moved;
+            }
+            ("match", "array") => return self.match_place(items, value),
+            ("match", _) => return self.match_value(items, value),
             ("add", "array") => {
                 let more = self.items(value);
                 if items.len() + more.len() > 1023 {
@@ -185,6 +192,47 @@ impl Shape {
     }
 }
 
+fn amount(operator: &str, value: &Json) -> i64 {
+    let Json::Whole(amount) = value else { panic!("no amount") };
+    if operator == "decrement" { -amount } else { *amount }
+}
+
+/// `element` and the operator beside it.
+fn match_parts(value: &Json) -> (&Json, &str, &Json) {
+    let Json::Object(members) = value else { panic!("no match") };
+    let element = members.iter().find(|m| m.0 == "element").expect("an element");
+    let operator = members.iter().find(|m| m.0 != "element").expect("an operator");
+    (&element.1, &operator.0, &operator.1)
+}
+
+impl Shape {
+    fn match_place(&self, items: &mut Items, value: &Json) -> bool {
+        let (Json::Whole(place), operator, value) = match_parts(value) else { panic!("no place") };
+        let Some((old, _)) = items.get_mut(*place as usize) else { return false };
+        if operator == "assign" {
+            *old = self.value(value);
+            return true;
+        }
+        let Value::Long(number) = old else { return false };
+        let Some(moved) = number.checked_add(amount(operator, value)) else { return false };
+        *number = moved;
+        true
+    }
+
+    fn match_value(&self, items: &mut Items, value: &Json) -> bool {
+        let (element, operator, value) = match_parts(value);
+        let element = match element {
+            Json::Text(name) => self.name(name),
+            other => self.value(other),
+        };
+        let Some((_, weight)) = items.iter_mut().find(|item| item.0 == element) else { return false };
+        let moved = if operator == "assign" { amount(operator, value) } else { i64::from(*weight) + amount(operator, value) };
+        let Ok(moved) = i32::try_from(moved) else { return false };
+        *weight = moved;
+        true
+    }
+}
+
 fn document(id: &Json) -> u32 {
     let Json::Text(id) = id else { panic!("no id") };
     id.rsplit(':').next().expect("a part").parse().expect("a document")
@@ -205,9 +253,19 @@ fn main() {
             table.insert(document(id), field.map_or(Vec::new(), |f| shape.items(f)));
             true
         } else if let Some(id) = json.get("update") {
+            let creates = matches!(json.get("create"), Some(Json::Bool(true)));
             match (table.get_mut(&document(id)), field) {
                 (Some(items), Some(field)) => shape.change(items, field),
-                (there, _) => there.is_some(),
+                (Some(_), None) => true,
+                (None, _) if !creates => false,
+                (None, field) => {
+                    let mut items = Items::new();
+                    let done = field.is_none_or(|field| shape.change(&mut items, field));
+                    if done {
+                        table.insert(document(id), items);
+                    }
+                    done
+                }
             }
         } else {
             table.remove(&document(json.get("remove").expect("an operation"))).is_some()

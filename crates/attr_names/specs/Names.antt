@@ -1,5 +1,5 @@
 -- The names that a user writes: of attributes, of their kinds and of their value types.
-use Rattle.std.specs.Prelude.{ℕ, Bool, true, false, ◌&&◌, ◌||◌, ◌==◌, nat_le, List, codes}
+use Rattle.std.specs.Prelude.{ℕ, Bool, false, ◌&&◌, ◌||◌, ◌==◌, nat_le, List, codes}
 use Rattle.std.specs.Prelude.{slice_get, if◌then◌else◌, Option, Some, None}
 use Rattle.std.specs.List.{list_all, position}
 use Rattle.std.specs.Str.{bytes_eq}

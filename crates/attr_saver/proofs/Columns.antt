@@ -99,9 +99,11 @@ items_fit kind type items few chain = ((lawful kind few chain, typed), stored)
   where
     typed : AreOfType type (values_of items)
     typed = all_map (λ item. item.value) (λ value. type_of value ≡ type) items
-      (chain_all (λ item. Some item.value) (ItemFits kind type) (λ item. type_of item.value ≡ type) (λ before item fits. fits.value.typed) None items chain)
+        (chain_all (λ item. Some item.value) (ItemFits kind type) (λ item. type_of item.value ≡ type) (λ before item fits. fits.value.typed) None items chain)
+
     stored : AllByRecursion IsStorable items
     stored = chain_all (λ item. Some item.value) (ItemFits kind type) IsStorable (λ before item fits. record { value = fits.value.stored; weight = fits.signed }) None items chain
+
     lawful : (kind : Kind) → length items ≤ most_items kind → ItemChain kind type None items → IsLawfulItems kind items
     lawful Single few chain = (few, chain_all (λ item. Some item.value) (ItemFits Single type) (λ item. item.weight ≡ pos 1) (λ before item fits. fits.weight) None items chain)
     lawful Array few chain = (few, chain_all (λ item. Some item.value) (ItemFits Array type) (λ item. item.weight ≡ pos 1) (λ before item fits. fits.weight) None items chain)
@@ -114,9 +116,10 @@ items_chain kind type items fit stored = made None items (follows_lawful kind it
     made : (before : Option Value) (items : List Item) → Follows kind before (values_of items) → AllByRecursion (λ item. WeightFits kind item.weight) items
         → AreOfType type (values_of items) → AllByRecursion IsStorable items → ItemChain kind type before items
     made before [] follows weights typed stored = tt
-    made before (item ∷ items) follows weights typed stored =
-      (record { value = record { stored = stored.0.value; typed = typed.0; follows = follows.0 }; signed = stored.0.weight; weight = weights.0 },
-       made (Some item.value) items follows.1 weights.1 typed.1 stored.1)
+    made before (item ∷ items) follows weights typed stored = (
+      record { value = record { stored = stored.0.value; typed = typed.0; follows = follows.0 }; signed = stored.0.weight; weight = weights.0 },
+      made (Some item.value) items follows.1 weights.1 typed.1 stored.1,
+    )
 
 pub few_lawful : (kind : Kind) (items : List Item) → IsLawfulItems kind items → length items ≤ most_items kind
 few_lawful Single items lawful = lawful.0
@@ -152,15 +155,18 @@ StoresItems document = AllByRecursion IsStorable document.items
 -- documents that were read may be saved
 pub column_lawful : (kind : Kind) (type : ValueType) (documents : List SavedDocument) → DocumentChain kind type 0 documents
     → IsLawfulColumn kind type documents × AllByRecursion StoresItems documents
-column_lawful kind type documents chain = (record {
+column_lawful kind type documents chain = (
+  record {
     ascends = (docs_ascend kind type 0 documents chain).1;
     numbers = all_map (λ document. document.doc) IsDocNumber documents
-      (chain_all (λ document. document.doc) (DocumentFits kind type) (λ document. IsDocNumber document.doc)
-      (λ before document fits. (omega (arith, fits.above), fits.within)) 0 documents chain);
+        (chain_all (λ document. document.doc) (DocumentFits kind type) (λ document. IsDocNumber document.doc)
+        (λ before document fits. (omega (arith, fits.above), fits.within)) 0 documents chain);
     items = chain_all (λ document. document.doc) (DocumentFits kind type) (HasItemsThatFit kind type)
-      (λ before document fits. (items_fit kind type document.items fits.few fits.items).0) 0 documents chain;
-  }, chain_all (λ document. document.doc) (DocumentFits kind type) StoresItems
-  (λ before document fits. (items_fit kind type document.items fits.few fits.items).1) 0 documents chain)
+        (λ before document fits. (items_fit kind type document.items fits.few fits.items).0) 0 documents chain;
+  },
+  chain_all (λ document. document.doc) (DocumentFits kind type) StoresItems
+      (λ before document fits. (items_fit kind type document.items fits.few fits.items).1) 0 documents chain,
+)
 
 -- documents that may be saved follow each other
 pub documents_chain : (kind : Kind) (type : ValueType) (before : ℕ) (documents : List SavedDocument)
@@ -169,13 +175,15 @@ pub documents_chain : (kind : Kind) (type : ValueType) (before : ℕ) (documents
     → DocumentChain kind type before documents
 unfolding IsStrictlySortedBy
 documents_chain kind type before [] above ascends numbers fit stored = tt
-documents_chain kind type before (document ∷ documents) above ascends numbers fit stored =
-    (record {
-      above = ranked before document.doc Less (sym above.0);
-      within = numbers.0.1;
-      few = few_lawful kind document.items fit.0.0;
-      items = items_chain kind type document.items fit.0 stored.0;
-    }, documents_chain kind type document.doc documents ascends.0 ascends.1 numbers.1 fit.1 stored.1)
+documents_chain kind type before (document ∷ documents) above ascends numbers fit stored = (
+  record {
+    above = ranked before document.doc Less (sym above.0);
+    within = numbers.0.1;
+    few = few_lawful kind document.items fit.0.0;
+    items = items_chain kind type document.items fit.0 stored.0;
+  },
+  documents_chain kind type document.doc documents ascends.0 ascends.1 numbers.1 fit.1 stored.1,
+)
 
 above_none : (docs : List ℕ) → AllByRecursion IsDocNumber docs → AllByRecursion (λ doc. nat_cmp 0 doc ≡ Less) docs
 above_none [] numbers = tt

@@ -91,9 +91,11 @@ document_again kind type before document rest fits =
     let regrouped : document_bytes kind document ++ rest ≡ to_be_bytes w32 document.doc ++ (to_be_bytes w16 (length document.items) ++ (flat_map (item_bytes kind) document.items ++ rest)) =
     append_assoc doc (count ++ items) rest ∙ ap (λ (bytes : List ℕ). doc ++ bytes) (append_assoc count items rest) in
     ap (document_at kind type before) regrouped
-    ∙ rw (doc_again before document.doc (count ++ (items ++ rest)) fits.above fits.within,
+    ∙ rw (
+      doc_again before document.doc (count ++ (items ++ rest)) fits.above fits.within,
       item_count_again kind (length document.items) (items ++ rest) fits.few,
-      row_again (item_at kind type) (λ (item : Item). Some item.value) (ItemFits kind type) (item_bytes kind) (item_again kind type) document.items None rest fits.items) refl
+      row_again (item_at kind type) (λ (item : Item). Some item.value) (ItemFits kind type) (item_bytes kind) (item_again kind type) document.items None rest fits.items,
+    ) refl
 
 -- ---- a whole save
 
@@ -118,22 +120,22 @@ saved_takes : (bytes : List ℕ) (saved : Saved) → AreBytes bytes → saved_at
 unfolding saved_at
 saved_takes bytes saved fits e =
     let m = bind_ok (magic_at bytes) (λ start. kind_at start >>= λ kind. type_at kind.1 >>= λ type. number_at w32 type.1 >>= λ operations. count_at operations.1 >>= λ count.
-      documents_at kind.0 type.0 count.0 0 count.1 >>= λ documents. cond (eqb (length documents.1) 0)
-      (Ok (record { kind = kind.0; value = type.0; operations = operations.0; table = documents.0 })) (bad documents.1)) saved e in
+    documents_at kind.0 type.0 count.0 0 count.1 >>= λ documents. cond (eqb (length documents.1) 0)
+    (Ok (record { kind = kind.0; value = type.0; operations = operations.0; table = documents.0 })) (bad documents.1)) saved e in
     let k = bind_ok (kind_at m.0) (λ kind. type_at kind.1 >>= λ type. number_at w32 type.1 >>= λ operations. count_at operations.1 >>= λ count.
-      documents_at kind.0 type.0 count.0 0 count.1 >>= λ documents. cond (eqb (length documents.1) 0)
-      (Ok (record { kind = kind.0; value = type.0; operations = operations.0; table = documents.0 })) (bad documents.1)) saved m.2 in
+    documents_at kind.0 type.0 count.0 0 count.1 >>= λ documents. cond (eqb (length documents.1) 0)
+    (Ok (record { kind = kind.0; value = type.0; operations = operations.0; table = documents.0 })) (bad documents.1)) saved m.2 in
     let t = bind_ok (type_at k.0.1) (λ type. number_at w32 type.1 >>= λ operations. count_at operations.1 >>= λ count.
-      documents_at k.0.0 type.0 count.0 0 count.1 >>= λ documents. cond (eqb (length documents.1) 0)
-      (Ok (record { kind = k.0.0; value = type.0; operations = operations.0; table = documents.0 })) (bad documents.1)) saved k.2 in
+    documents_at k.0.0 type.0 count.0 0 count.1 >>= λ documents. cond (eqb (length documents.1) 0)
+    (Ok (record { kind = k.0.0; value = type.0; operations = operations.0; table = documents.0 })) (bad documents.1)) saved k.2 in
     let o = bind_ok (number_at w32 t.0.1) (λ operations. count_at operations.1 >>= λ count.
-      documents_at k.0.0 t.0.0 count.0 0 count.1 >>= λ documents. cond (eqb (length documents.1) 0)
-      (Ok (record { kind = k.0.0; value = t.0.0; operations = operations.0; table = documents.0 })) (bad documents.1)) saved t.2 in
+    documents_at k.0.0 t.0.0 count.0 0 count.1 >>= λ documents. cond (eqb (length documents.1) 0)
+    (Ok (record { kind = k.0.0; value = t.0.0; operations = operations.0; table = documents.0 })) (bad documents.1)) saved t.2 in
     let c = bind_ok (count_at o.0.1) (λ count.
-      documents_at k.0.0 t.0.0 count.0 0 count.1 >>= λ documents. cond (eqb (length documents.1) 0)
-      (Ok (record { kind = k.0.0; value = t.0.0; operations = o.0.0; table = documents.0 })) (bad documents.1)) saved o.2 in
+    documents_at k.0.0 t.0.0 count.0 0 count.1 >>= λ documents. cond (eqb (length documents.1) 0)
+    (Ok (record { kind = k.0.0; value = t.0.0; operations = o.0.0; table = documents.0 })) (bad documents.1)) saved o.2 in
     let d = bind_ok (documents_at k.0.0 t.0.0 c.0.0 0 c.0.1) (λ documents. cond (eqb (length documents.1) 0)
-      (Ok (record { kind = k.0.0; value = t.0.0; operations = o.0.0; table = documents.0 })) (bad documents.1)) saved c.2 in
+    (Ok (record { kind = k.0.0; value = t.0.0; operations = o.0.0; table = documents.0 })) (bad documents.1)) saved c.2 in
     let kind = k.0.0 in
     let type = t.0.0 in
     let documents = d.0.0 in
@@ -145,7 +147,7 @@ saved_takes bytes saved fits e =
     let t3 = number_takes w32 (2 ^ 32) wide32 t.0.1 o.0 t2.rest_fits o.1 in
     let t4 = count_takes o.0.1 c.0 t3.0.rest_fits c.1 in
     let t5 = row_takes (document_at k.0.0 t.0.0) (λ (document : SavedDocument). document.doc) (DocumentFits k.0.0 t.0.0) (document_bytes k.0.0)
-      (document_takes k.0.0 t.0.0) c.0.0 0 c.0.1 d.0 t4.0.rest_fits d.1 in
+    (document_takes k.0.0 t.0.0) c.0.0 0 c.0.1 d.0 t4.0.rest_fits d.1 in
     let column = column_lawful k.0.0 t.0.0 d.0.0 t5.2 in
     let rows = flat_map (document_bytes k.0.0) d.0.0 in
     let last : c.0.1 ≡ rows = t5.0.parts ∙ ap (λ (rest : List ℕ). rows ++ rest) end.0 ∙ append-nil rows in
@@ -153,9 +155,11 @@ saved_takes bytes saved fits e =
     t4.0.parts ∙ ap (λ (rest : List ℕ). to_be_bytes w32 c.0.0 ++ rest) last ∙ ap (λ (n : ℕ). to_be_bytes w32 n ++ rows) (sym t5.1) in
     let whole : bytes ≡ magic ++ ((kind_byte k.0.0 ∷ []) ++ ((type_byte t.0.0 ∷ []) ++ (to_be_bytes w32 o.0.0 ++ (to_be_bytes w32 (length d.0.0) ++ rows)))) =
     t0.parts ∙ ap (λ (rest : List ℕ). magic ++ rest) (t1.parts ∙ ap (λ (rest : List ℕ). (kind_byte k.0.0 ∷ []) ++ rest) (t2.parts ∙
-      ap (λ (rest : List ℕ). (type_byte t.0.0 ∷ []) ++ rest) (t3.0.parts ∙ ap (λ (rest : List ℕ). to_be_bytes w32 o.0.0 ++ rest) counted))) in
-    subst (IsSave bytes) end.1 (record { operations = t3.1; column = column.0; storable = column.1 },
-      whole ∙ sym (head_parts k.0.0 t.0.0 o.0.0 (length d.0.0) rows))
+    ap (λ (rest : List ℕ). (type_byte t.0.0 ∷ []) ++ rest) (t3.0.parts ∙ ap (λ (rest : List ℕ). to_be_bytes w32 o.0.0 ++ rest) counted))) in
+    subst (IsSave bytes) end.1 (
+      record { operations = t3.1; column = column.0; storable = column.1 },
+      whole ∙ sym (head_parts k.0.0 t.0.0 o.0.0 (length d.0.0) rows),
+    )
 
 saved_again : (saved : Saved) → IsLawfulSaved saved → saved_at (saved_bytes saved) ≡ Ok saved
 unfolding saved_at
@@ -167,13 +171,16 @@ saved_again saved lawful =
     let operations = to_be_bytes w32 saved.operations in
     let read : documents_at saved.kind saved.value (length saved.table) 0 rows ≡ Ok (saved.table, []) =
     ap (documents_at saved.kind saved.value (length saved.table) 0) (sym (append-nil rows))
-      ∙ row_again (document_at saved.kind saved.value) (λ (document : SavedDocument). document.doc) (DocumentFits saved.kind saved.value) (document_bytes saved.kind)
-      (document_again saved.kind saved.value) saved.table 0 [] chain in
+    ∙ row_again (document_at saved.kind saved.value) (λ (document : SavedDocument). document.doc) (DocumentFits saved.kind saved.value) (document_bytes saved.kind)
+    (document_again saved.kind saved.value) saved.table 0 [] chain in
     ap saved_at (head_parts saved.kind saved.value saved.operations (length saved.table) rows)
-    ∙ rw (kind_again saved.kind ((type_byte saved.value ∷ []) ++ (operations ++ (count ++ rows))),
+    ∙ rw (
+      kind_again saved.kind ((type_byte saved.value ∷ []) ++ (operations ++ (count ++ rows))),
       type_again saved.value (operations ++ (count ++ rows)),
       number_again w32 (2 ^ 32) wide32 saved.operations (count ++ rows) lawful.operations,
-      count_again (length saved.table) rows few, read) refl
+      count_again (length saved.table) rows few,
+      read,
+    ) refl
 
 placed_ok : {A : Type 0} (len : ℕ) (r : Result A ℕ) (a : A) → placed len r ≡ Ok a → r ≡ Ok a
 placed_ok len (Ok x) a e = e

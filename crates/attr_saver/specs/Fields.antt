@@ -190,8 +190,8 @@ saved_at bytes = do
   count ← count_at operations.1
   documents ← documents_at kind.0 type.0 count.0 0 count.1
   if nat_eq (length documents.1) 0
-    then Ok (record { kind = kind.0; value = type.0; operations = operations.0; table = documents.0 })
-    else bad documents.1
+      then Ok (record { kind = kind.0; value = type.0; operations = operations.0; table = documents.0 })
+      else bad documents.1
 
 -- how many bytes come before the last so many, of bytes of this number
 abbrev pub placed : {A : Type 0} → ℕ → Result A ℕ → Result A ℕ

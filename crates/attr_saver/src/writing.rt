@@ -126,12 +126,7 @@ pub(crate) fn first_items(document: &FieldItems) -> &[Item]
     }
 }
 
-fn push_document(
-    out: &mut Vec<u8>,
-    kind: Kind,
-    doc: Doc,
-    items: &[Item],
-) -> Result<(), AllocError>
+fn push_document(out: &mut Vec<u8>, kind: Kind, doc: Doc, items: &[Item]) -> Result<(), AllocError>
     requires { length items.now ≤ 1023 }
     ensures bytes { OnOk result (out.new.items
         ≡ out.old.items ++ document_bytes kind (record { doc = doc; items = items.now })) }

@@ -1,5 +1,5 @@
 -- The attributes of further fields, one after another.
-use Rattle.std.proofs.Common.{◌≡◌, ◌∙◌, List, [], ◌∷◌, ◌++◌, Result, Ok, Err, ap, refl}
+use Rattle.std.proofs.Common.{◌≡◌, List, [], ◌∷◌, ◌++◌, Result, Ok, Err, ap, refl}
 use Rattle.attr_types.specs.declared.field.Field.{Field}
 use Rattle.attr_words.specs.Also.{◌>>=◌, Piece, next_field, fields_from}
 use Rattle.attr_words.specs.Settings.{Says}

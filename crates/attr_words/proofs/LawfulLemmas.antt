@@ -1,5 +1,5 @@
 -- The settings of words are lawful.
-use Rattle.std.proofs.Common.{◌≡◌, ◌≤◌, ◌<◌, ◌+◌, ◌∙◌, ℕ, Bool, true, false, List, [], ◌∷◌, ◌++◌, length, sym, ap, subst, refl, arith}
+use Rattle.std.proofs.Common.{◌≡◌, ◌≤◌, ◌<◌, ◌+◌, ℕ, Bool, true, false, List, [], ◌∷◌, ◌++◌, length, subst, refl, arith}
 use Rattle.std.proofs.Common.{Option, Some, None, Result, Ok, Err, cond, nat_lt}
 use Rattle.std.proofs.lemmas.List.{length-append}
 use Rattle.std.proofs.lemmas.Bool.Decides.{nat_tests}
@@ -12,7 +12,7 @@ use Rattle.attr_types.specs.declared.field.Field.{Field}
 use Rattle.attr_names.specs.Names.{kind_named, value_named}
 use Rattle.attr_words.specs.CommandLine.{attr_app}
 use Rattle.attr_words.specs.Reading.{Said, said_by, IsInRange}
-use Rattle.attr_words.specs.Also.{◌>>=◌, Piece, pieces, field_in, next_field, fields_from, fields_of}
+use Rattle.attr_words.specs.Also.{◌>>=◌, Piece, field_in, next_field, fields_from, fields_of}
 use Rattle.attr_words.specs.Settings.{Given, given_with, or_refused, are_too_many, if_room, settings_by, said_or_refused}
 use Rattle.attr_words.specs.Settings.{said_in, settings_in, IsLawful, SettingsAreLawful}
 use Rattle.attr_words.specs.declared.reading.WordsError.{WordsError}

@@ -1,15 +1,13 @@
 -- The settings of words, where the command takes them and where it does not.
 use Rattle.std.proofs.Common.{◌≡◌, ◌∙◌, List, [], ◌∷◌, Result, Ok, Err, IfOk, ap, sym, subst, refl}
-use Rattle.clap.specs.Kinds.{Kinds}
 use Rattle.clap.specs.Walk.{Row, Text}
 use Rattle.clap.specs.Simple.{matches_of}
-use Rattle.clap.specs.Faults.{fault_of}
 use Rattle.clap.specs.declared.error.kind.ErrorKind.{ErrorKind}
 use Rattle.clap.specs.declared.error.kind.ErrorKind.TheVariants as kinds
 use Rattle.attr_words.specs.CommandLine.{attr_app}
 use Rattle.attr_words.specs.Also.{◌>>=◌}
-use Rattle.attr_words.specs.Reading.{Said, said_by, options_said, AnswersWords}
-use Rattle.attr_words.specs.Settings.{Given, Says, settings_by, said_in, settings_in, said_or_refused, given_by, IsLawful, SettingsAreLawful}
+use Rattle.attr_words.specs.Reading.{options_said, AnswersWords}
+use Rattle.attr_words.specs.Settings.{Says, settings_by, said_in, settings_in, said_or_refused, given_by, IsLawful, SettingsAreLawful}
 use Rattle.attr_words.specs.declared.options.Options.{Options}
 use Rattle.attr_words.specs.declared.settings.Settings.{Settings}
 use Rattle.attr_words.specs.declared.reading.WordsError.{WordsError}

@@ -1,5 +1,5 @@
 -- What the words give where `attr` takes them: each text, and each number in its range.
-use Rattle.std.proofs.Common.{Some, ◌≡◌, ◌⊎◌, ◌∙◌, ◌<◌, ◌^◌, ◌||◌, inl, inr, ℕ, Bool}
+use Rattle.std.proofs.Common.{Some, ◌≡◌, ◌⊎◌, ◌∙◌, ◌<◌, ◌^◌, ◌||◌, inl, inr, Bool}
 use Rattle.std.proofs.Common.{true, false, refl, sym, ap, subst, arith, List, []}
 use Rattle.std.proofs.Common.{Option, None, IfSome, cond, codes, lit<, ◌∷◌}
 use Rattle.std.proofs.lemmas.Bool.{cases_Bool}

@@ -139,7 +139,11 @@ fn fields_from(alloc: Global, first: Field, parts: &[Part<'_>]) -> Result<Fields
 
 /// The attribute of `--field`, and those of `--also` where it is given.
 #[tactic(auto, unfolding(crate::specs::Also::fields_of))]
-pub(crate) fn fields_of(alloc: Global, first: Field, also: Option<String>) -> Result<Fields, WordsError>
+pub(crate) fn fields_of(
+    alloc: Global,
+    first: Field,
+    also: Option<String>,
+) -> Result<Fields, WordsError>
     ensures { Says (λ fields. fields) result (fields_of first (text_option also)) }
 {
     match also {

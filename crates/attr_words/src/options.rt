@@ -48,7 +48,11 @@ fn number_in(matches: &ArgMatches<'_>, name: &str) -> u32
     }
 }
 
-fn text_if_given(alloc: Global, matches: &ArgMatches<'_>, name: &str) -> Result<Option<String>, AllocError>
+fn text_if_given(
+    alloc: Global,
+    matches: &ArgMatches<'_>,
+    name: &str,
+) -> Result<Option<String>, AllocError>
     ensures { IfOk result (λ text. text_option text ≡ first_of name.now (rows_of (found_of matches.now))) }
 {
     match matches.get_str(name) {

@@ -1,7 +1,7 @@
 //! The states of buffers: free, active or on hold, with the words that are used, dead and held.
 #![tactic(auto)]
 
-ghost use Rattle.std.specs.Prelude.{◌≡◌, ◌<◌, ◌≤◌, ℕ, true, false, length, replicate, IfOk};
+ghost use Rattle.std.specs.Prelude.{◌≡◌, ◌<◌, ◌≤◌, ◌+◌, ◌^◌, ℕ, true, false, length, map, replicate, count_by, IfSome, IfNone, IfOk};
 
 use std::alloc::{AllocError, Global};
 use std::marker::Model;
@@ -13,17 +13,56 @@ pub enum BufferState {
     OnHold,
 }
 
-/// One buffer. The counts are in words; `filled` marks the buffer of its width that new entries go to.
+impl BufferState {
+    ghost use Rattle.buffer_states.specs.Buffers.{is_free, is_active, is_on_hold};
+
+    pub fn is_free(self) -> bool
+        ensures { result ≡ is_free self }
+    {
+        matches!(self, BufferState::Free)
+    }
+
+    pub fn is_active(self) -> bool
+        ensures { result ≡ is_active self }
+    {
+        matches!(self, BufferState::Active)
+    }
+
+    pub fn is_on_hold(self) -> bool
+        ensures { result ≡ is_on_hold self }
+    {
+        matches!(self, BufferState::OnHold)
+    }
+}
+
+/// One buffer. The counts are in words: `dead` has those of entries that are free, dropped or held, `dropped` those that
+/// the next commit holds. `generation` is the tag of one on hold.
 #[derive(Clone, Copy, Debug, PartialEq, Eq)]
 pub struct Buffer {
     pub state: BufferState,
     pub width: u32,
     pub used: u32,
     pub dead: u32,
+    pub dropped: u32,
     pub held: u32,
-    pub sealed: bool,
+    pub generation: u64,
+    /// New entries of its width go to it.
     pub filled: bool,
+    /// A compaction empties it.
+    pub sealed: bool,
 }
+
+const NEW_BUFFER: Buffer = Buffer {
+    state: BufferState::Free,
+    width: 0,
+    used: 0,
+    dead: 0,
+    dropped: 0,
+    held: 0,
+    generation: 0,
+    filled: false,
+    sealed: false,
+};
 
 /// All buffers of a store, by number.
 #[derive(Drop)]
@@ -41,24 +80,19 @@ impl Model for Buffers {
 }
 
 impl Buffers {
-    ghost use Rattle.buffer_states.specs.Buffers.{new_buffer, buffer_at, activated, with_counts, in_state, sealed_at};
+    ghost use Rattle.buffer_states.specs.Buffers.{new_buffer, buffer_at, activated, with_counts, with_next, with_taken, with_given};
+    ghost use Rattle.buffer_states.specs.Buffers.{with_dropped, with_kept, with_dropped_held, with_released, sealed_at};
+    ghost use Rattle.buffer_states.specs.Buffers.{on_hold_at, freed_at, freed_below, is_free, is_active, is_on_hold};
+    ghost use Rattle.buffer_states.specs.Buffers.{is_candidate, IsVictim, IsLowestFree};
+    ghost use Rattle.std.specs.Prelude.{All};
     ghost use Rattle.buffer_states.specs.declared.BufferState.TheVariants.{Free, Active, OnHold};
 
     /// `count` free buffers.
     pub fn create(alloc: Global, count: u32) -> Result<Self, AllocError>
         ensures { IfOk result (λ b. b ≡ replicate count new_buffer) }
     {
-        let buffer = Buffer {
-            state: BufferState::Free,
-            width: 0,
-            used: 0,
-            dead: 0,
-            held: 0,
-            sealed: false,
-            filled: false,
-        };
         Ok(Buffers {
-            buffers: vec![in alloc; buffer; count as usize]?,
+            buffers: vec![in alloc; NEW_BUFFER; count as usize]?,
         })
     }
 
@@ -116,9 +150,11 @@ impl Buffers {
             width,
             used: width,
             dead: 0,
+            dropped: 0,
             held: 0,
-            sealed: false,
+            generation: 0,
             filled: true,
+            sealed: false,
         };
     }
 
@@ -130,7 +166,83 @@ impl Buffers {
         let buffer = &mut self.buffers[buffer as usize];
         buffer.used = used;
         buffer.dead = dead;
+        buffer.dropped = 0;
         buffer.held = held;
+    }
+
+    /// Counts an entry at the next offset.
+    pub fn take_next(&mut self, buffer: u32)
+        requires inside { buffer < length self.old }
+        requires fits { (buffer_at self.old buffer).used + (buffer_at self.old buffer).width < 2 ^ 32 }
+        ensures { self.new ≡ with_next self.old buffer }
+    {
+        let buffer = &mut self.buffers[buffer as usize];
+        buffer.used += buffer.width;
+    }
+
+    /// Counts a free entry that is made again.
+    pub fn take_free(&mut self, buffer: u32)
+        requires inside { buffer < length self.old }
+        requires fits { (buffer_at self.old buffer).width ≤ (buffer_at self.old buffer).dead }
+        ensures { self.new ≡ with_taken self.old buffer }
+    {
+        let buffer = &mut self.buffers[buffer as usize];
+        buffer.dead -= buffer.width;
+    }
+
+    /// Counts an entry that is free again.
+    pub fn give_back(&mut self, buffer: u32)
+        requires inside { buffer < length self.old }
+        requires fits { (buffer_at self.old buffer).dead + (buffer_at self.old buffer).width < 2 ^ 32 }
+        ensures { self.new ≡ with_given self.old buffer }
+    {
+        let buffer = &mut self.buffers[buffer as usize];
+        buffer.dead += buffer.width;
+    }
+
+    /// Counts an entry of the last commit that is dropped.
+    pub fn drop_entry(&mut self, buffer: u32)
+        requires inside { buffer < length self.old }
+        requires dead { (buffer_at self.old buffer).dead + (buffer_at self.old buffer).width < 2 ^ 32 }
+        requires dropped { (buffer_at self.old buffer).dropped + (buffer_at self.old buffer).width < 2 ^ 32 }
+        ensures { self.new ≡ with_dropped self.old buffer }
+    {
+        let buffer = &mut self.buffers[buffer as usize];
+        buffer.dead += buffer.width;
+        buffer.dropped += buffer.width;
+    }
+
+    /// Counts an entry that was dropped and is kept after all.
+    pub fn keep_entry(&mut self, buffer: u32)
+        requires inside { buffer < length self.old }
+        requires dead { (buffer_at self.old buffer).width ≤ (buffer_at self.old buffer).dead }
+        requires dropped { (buffer_at self.old buffer).width ≤ (buffer_at self.old buffer).dropped }
+        ensures { self.new ≡ with_kept self.old buffer }
+    {
+        let buffer = &mut self.buffers[buffer as usize];
+        buffer.dead -= buffer.width;
+        buffer.dropped -= buffer.width;
+    }
+
+    /// Counts what was dropped in each buffer as held.
+    pub fn hold_dropped(&mut self)
+        requires { All (λ b. b.held + b.dropped < 2 ^ 32) self.old }
+        ensures { self.new ≡ map with_dropped_held self.old }
+    {
+        for buffer in self.buffers.iter_mut() {
+            buffer.held += buffer.dropped;
+            buffer.dropped = 0;
+        }
+    }
+
+    /// Counts a held entry that is free again.
+    pub fn release(&mut self, buffer: u32)
+        requires inside { buffer < length self.old }
+        requires fits { (buffer_at self.old buffer).width ≤ (buffer_at self.old buffer).held }
+        ensures { self.new ≡ with_released self.old buffer }
+    {
+        let buffer = &mut self.buffers[buffer as usize];
+        buffer.held -= buffer.width;
     }
 
     /// Marks the buffer that a compaction empties.
@@ -143,20 +255,131 @@ impl Buffers {
         self.buffers[buffer as usize].sealed = true;
     }
 
-    pub fn put_on_hold(&mut self, buffer: u32)
+    /// Puts an active buffer on hold, under a generation. Its entries are gone.
+    pub fn put_on_hold(&mut self, buffer: u32, generation: u64)
         requires inside { buffer < length self.old }
         requires active { (buffer_at self.old buffer).state ≡ Active }
         requires unfilled { (buffer_at self.old buffer).filled ≡ false }
-        ensures { self.new ≡ in_state self.old buffer OnHold }
+        ensures { self.new ≡ on_hold_at self.old buffer generation }
     {
-        self.buffers[buffer as usize].state = BufferState::OnHold;
+        let width = self.buffers[buffer as usize].width;
+        self.buffers[buffer as usize] = Buffer {
+            state: BufferState::OnHold,
+            width,
+            used: 0,
+            dead: 0,
+            dropped: 0,
+            held: 0,
+            generation,
+            filled: false,
+            sealed: false,
+        };
     }
 
     pub fn free(&mut self, buffer: u32)
         requires inside { buffer < length self.old }
         requires held { (buffer_at self.old buffer).state ≡ OnHold }
-        ensures { self.new ≡ in_state self.old buffer Free }
+        ensures { self.new ≡ freed_at self.old buffer }
     {
-        self.buffers[buffer as usize].state = BufferState::Free;
+        self.buffers[buffer as usize] = NEW_BUFFER;
+    }
+
+    /// Frees each buffer that is on hold under a generation below `oldest`.
+    pub fn free_below(&mut self, oldest: u64)
+        ensures { self.new ≡ map (freed_below oldest) self.old }
+    {
+        for buffer in self.buffers.iter_mut() {
+            *buffer = buffer.after_reclaim(oldest);
+        }
+    }
+
+    /// The free buffer of lowest number.
+    pub fn lowest_free(&self) -> Option<u32>
+        requires { length self.now < 2 ^ 32 }
+        ensures none { IfNone result ((b : ℕ) → b < length self.now → is_free (buffer_at self.now b).state ≡ false) }
+        ensures lowest { IfSome result (IsLowestFree self.now) }
+    {
+        for buffer in 0..self.buffers.len() {
+            if self.buffers[buffer].state.is_free() {
+                return Some(buffer as u32);
+            }
+        }
+        None
+    }
+
+    /// How many buffers are active.
+    pub fn active(&self) -> u32
+        requires { length self.now < 2 ^ 32 }
+        ensures { result ≡ count_by (λ b. is_active b.state) self.now }
+    {
+        self.buffers
+            .iter()
+            .filter(|buffer| buffer.state.is_active())
+            .count() as u32
+    }
+
+    /// How many buffers are on hold.
+    pub fn on_hold(&self) -> u32
+        requires { length self.now < 2 ^ 32 }
+        ensures { result ≡ count_by (λ b. is_on_hold b.state) self.now }
+    {
+        self.buffers
+            .iter()
+            .filter(|buffer| buffer.state.is_on_hold())
+            .count() as u32
+    }
+
+    /// The buffer that a compaction should empty: the candidate with the most dead words, and among equals the first. None
+    /// where no buffer is a candidate.
+    pub fn choose_victim(&self) -> Option<u32>
+        requires { length self.now < 2 ^ 32 }
+        ensures none { IfNone result ((b : ℕ) → b < length self.now → is_candidate (buffer_at self.now b) ≡ false) }
+        ensures victim { IfSome result (IsVictim self.now) }
+    {
+        let mut victim = None;
+        let mut most = 0;
+        for number in 0..self.buffers.len() {
+            let gain = self.buffers[number].gain();
+            if gain > most {
+                victim = Some(number as u32);
+                most = gain;
+            }
+        }
+        victim
+    }
+}
+
+impl Buffer {
+    ghost use Rattle.buffer_states.specs.Buffers.{gain_of, freed_below};
+
+    /// The dead words, where it is a candidate.
+    fn gain(&self) -> u32
+        ensures { result ≡ gain_of self.now }
+    {
+        if !self.state.is_active() {
+            return 0;
+        }
+        if self.filled {
+            return 0;
+        }
+        if self.sealed {
+            return 0;
+        }
+        if u64::from(self.dead) * 20 <= u64::from(self.used) {
+            return 0;
+        }
+        self.dead
+    }
+
+    fn after_reclaim(&self, oldest: u64) -> Buffer
+        ensures { result ≡ freed_below oldest self.now }
+    {
+        if !self.state.is_on_hold() {
+            return *self;
+        }
+        if self.generation >= oldest {
+            return *self;
+        }
+        NEW_BUFFER
     }
 }

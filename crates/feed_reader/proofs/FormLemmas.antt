@@ -5,7 +5,7 @@ use Rattle.std.specs.List.{AllByRecursion}
 use Rattle.std.specs.Str.Parse.{signed_digits_value}
 use Rattle.std.proofs.lemmas.Bool.{ltb-true, ltb-false, leb-true, leb-false}
 use Rattle.serde_json.specs.Data.{unsigned, negative, float, Data, null, boolean, number, string, array, object, Items, no_items, item, Members, no_members, member}
-use Rattle.serde_json.specs.Find.{get, as_object}
+use Rattle.serde_json.specs.Find.{get}
 use Rattle.attr_types.specs.Change.{with_item}
 use Rattle.attr_types.specs.declared.change.Change.{Change}
 use Rattle.attr_types.specs.declared.change.Change.TheVariants as changes
@@ -19,9 +19,7 @@ use Rattle.attr_types.specs.declared.value.Value.{Value}
 use Rattle.attr_types.specs.declared.value.Value.TheVariants as values
 use Rattle.feed_reader.specs.declared.refusal.Refusal.{Refusal}
 use Rattle.feed_reader.specs.declared.refusal.Refusal.TheVariants.{BadValue}
-use Rattle.attr_types.specs.declared.change.Act.{Act}
 use Rattle.attr_types.specs.declared.change.Act.TheVariants as acts
-use Rattle.attr_types.specs.declared.change.WeightAct.{WeightAct}
 use Rattle.attr_types.specs.declared.change.WeightAct.TheVariants as weight_acts
 use Rattle.feed_reader.specs.declared.operator.Form.{Form}
 use Rattle.feed_reader.specs.declared.operator.Form.TheVariants as forms

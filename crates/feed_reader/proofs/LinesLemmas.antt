@@ -1,12 +1,25 @@
 -- The first line of a feed.
-use Rattle.std.proofs.Common.{◌≡◌, ℕ, ◌+◌, ◌<◌, ◌≤◌, Bool, true, false, cond, List, [], ◌∷◌, length, take, drop, Some, None, refl, sym, ◌∙◌, ap, arith, nat_lt, nat_eq}
+use Rattle.std.proofs.Common.{◌≡◌, ℕ, ◌+◌, ◌<◌, ◌≤◌, Bool, true, false, cond, List, [], ◌∷◌, length, take, drop, Option, Some, None, refl, sym, ◌∙◌, ap, arith, nat_lt, nat_eq}
 use Rattle.std.proofs.lemmas.Bool.Decides.{nat_tests}
 use Rattle.std.specs.List.{slice_split, position, position_or_len, before_first, after_first}
 use Rattle.std.proofs.lemmas.List.Splits.{slice_split_first, slice_split_none, length-slice_split}
-use Rattle.std.proofs.lemmas.List.Sums.{fails_before_first}
+use Rattle.std.proofs.lemmas.Bool.{cond-true, cond-false, false_from_ne_true, lt-ltb, le-ltb}
+use Rattle.std.proofs.lemmas.List.Sums.{fails_before_first, position_or_len_is}
 use Rattle.std.proofs.lemmas.Option.{cond_some}
+use Rattle.memchr.specs.Find.{IsFirstByte, is_byte}
 use Rattle.feed_reader.specs.Lines.{is_newline, without_empty_end, lines_of}
 use borrow.Author.Tests.{ltb-true, ltb-false}
+
+-- what `memchr` answers
+pub found_by : (xs : List ℕ) (r : Option ℕ) → IsFirstByte (is_byte 10) xs r → r ≡ position is_newline xs
+found_by xs None none =
+    let at : position_or_len is_newline xs ≡ length xs = position_or_len_is is_newline xs (length xs) 0 (omega arith)
+    (λ k below. false_from_ne_true _ (none k (omega arith) below)) (λ below. absurd (omega arith)) in
+    sym (ap (λ (n : ℕ). cond (nat_lt n (length xs)) (Some n) None) at ∙ cond-false (nat_lt (length xs) (length xs)) (Some (length xs)) None (le-ltb (length xs) (length xs) (omega arith)))
+found_by xs (Some k) (first, passes) =
+    let at : position_or_len is_newline xs ≡ k = position_or_len_is is_newline xs k 0 (omega (arith, first.high))
+    (λ j below. false_from_ne_true _ (first.before j (omega arith) below)) (λ below. passes) in
+    sym (ap (λ (n : ℕ). cond (nat_lt n (length xs)) (Some n) None) at ∙ cond-true (nat_lt k (length xs)) (Some k) None (lt-ltb k (length xs) first.high))
 
 -- the lines behind a whole line
 cons_lines : (x : List ℕ) (pieces : List (List ℕ)) → 0 < length pieces → without_empty_end (x ∷ pieces) ≡ x ∷ without_empty_end pieces

@@ -4,7 +4,7 @@ use Rattle.std.specs.Prelude.{◌≢◌, ◌⊎◌, IsSome, IfSome, IsSomeAnd, I
 use Rattle.std.specs.List.{AllByRecursion, list_any}
 use Rattle.std.proofs.lemmas.Bool.{cases_order}
 use Rattle.serde_json.specs.Data.{Data, null, boolean, number, string, array, object, no_members, member}
-use Rattle.serde_json.specs.Find.{get, as_bool, as_object}
+use Rattle.serde_json.specs.Find.{get, as_bool}
 use Rattle.attr_types.specs.Change.{most_items}
 use Rattle.attr_types.specs.declared.change.Change.{Change}
 use Rattle.attr_types.specs.declared.change.Change.TheVariants as changes
@@ -28,7 +28,7 @@ use Rattle.feed_reader.specs.declared.operation.Asked.TheVariants as asks
 use Rattle.feed_reader.specs.declared.refusal.Refusal.{Refusal}
 use Rattle.feed_reader.specs.declared.refusal.Refusal.TheVariants.{NotJson, NoOperation, BadId, BadValue, Unsupported, TooManyItems}
 use Rattle.feed_reader.specs.Answers.{◌>>=◌, or_else}
-use Rattle.feed_reader.specs.Forms.{HasItemsForm, IsMatch, IsUpdate}
+use Rattle.feed_reader.specs.Forms.{HasItemsForm, IsUpdate}
 use Rattle.feed_reader.specs.Operators.{operator_named, operator_form, value_form, weight_form}
 use Rattle.feed_reader.specs.Elements.{amount_read, place_read, element_read, match_parts, act_read, weight_act_read, at_read, of_read}
 use Rattle.feed_reader.specs.Values.{value_read, weight_read}

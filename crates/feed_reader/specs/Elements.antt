@@ -1,5 +1,5 @@
 -- What `match` says: one item of an array or of a weighted set, and how it changes.
-use Rattle.std.specs.Prelude.{ℕ, ℤ, pos, neg_ℤ, List, nat_le, if◌then◌else◌, codes, Option, Some, None, option_and_then, option_map, Result, Ok, Err}
+use Rattle.std.specs.Prelude.{ℕ, ℤ, neg_ℤ, List, nat_le, if◌then◌else◌, codes, Option, Some, None, option_and_then, option_map, Result, Ok}
 use Rattle.std.specs.Str.{bytes_eq}
 use Rattle.serde_json.specs.Data.{Data, Members, no_members, member}
 use Rattle.serde_json.specs.Find.{as_number, as_u64, as_str, as_object}

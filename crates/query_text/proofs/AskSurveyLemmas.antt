@@ -1,5 +1,5 @@
 -- A survey of a text with names, byte by byte.
-use Rattle.std.proofs.Common.{◌≡◌, ◌<◌, ◌≤◌, ◌+◌, ℕ, List, ◌∷◌, length, get_or, drop, Some, None, Ok, Err, sym, ap, ◌∙◌, cond, add-one, drop-cons}
+use Rattle.std.proofs.Common.{◌≡◌, ◌<◌, ◌≤◌, ◌+◌, ℕ, List, length, get_or, drop, Some, None, Ok, Err, sym, ap, ◌∙◌, cond}
 use Rattle.std.proofs.lemmas.List.{drop_all}
 use Rattle.attr_types.specs.declared.field.Field.{Field}
 use Rattle.query_text.specs.declared.ask.survey.AskSurvey.{AskSurvey}

@@ -1,6 +1,6 @@
 -- The text of a dot product: `dot(` and parts `value:weight`, parted by commas, and `)`.
 use Rattle.std.specs.Prelude.{ℕ, zero, suc, ◌+◌, ◌^◌, ◌==◌, Bool, true, false, ◌&&◌, nat_lt, nat_le, int_le, int_lt, pos, neg_ℤ, ℤ}
-use Rattle.std.specs.Prelude.{List, [], ◌∷◌, length, if◌then◌else◌, Option, Some, None, option_map, Result, Ok, Err}
+use Rattle.std.specs.Prelude.{List, [], ◌∷◌, if◌then◌else◌, Option, Some, None, option_map, Result, Ok, Err}
 use Rattle.attr_types.specs.declared.kind.ValueType.{ValueType}
 use Rattle.attr_scores.specs.declared.part.Part.{Part}
 use Rattle.query_text.specs.declared.mode.Role.TheVariants as roles

@@ -16,9 +16,11 @@ fn a_buffer_goes_from_free_to_active_to_on_hold(rt: HostRuntime) -> Result<(), F
     // the next buffer of the width is filled from now on
     buffers.activate(0, 34);
     buffers.seal(1);
-    buffers.put_on_hold(1);
+    buffers.put_on_hold(1, 7);
     assert!(rt; buffers.state(1) == BufferState::OnHold);
-    buffers.free(1);
+    buffers.free_below(7);
+    assert!(rt; buffers.state(1) == BufferState::OnHold);
+    buffers.free_below(8);
     assert!(rt; buffers.state(1) == BufferState::Free);
     assert!(rt; buffers.state(0) == BufferState::Active);
     Ok(())

@@ -52,26 +52,41 @@ fn told_by_sink(
     let answer = write(alloc, table, &mut sink);
     let taken = sink.taken();
     let count = taken.len();
-    let front = if BYTES.starts_with(taken) { "of it" } else { "of others" };
+    let front = if BYTES.starts_with(taken) {
+        "of it"
+    } else {
+        "of others"
+    };
     match answer {
         Ok(()) => format!(in alloc; "saved, {count} {front}"),
         Err(error) => format!(in alloc; "{error}, {count} {front}"),
     }
 }
 
-fn compare_sources(rt: &HostRuntime, tally: &mut Tally) -> io::Result<()> {
+fn compare_sources(rt: &HostRuntime) -> io::Result<()> {
     let alloc = rt.alloc();
-    tally.note(rt, "28 bytes a read", &told_by_source(alloc, 28, 2)?, "a read failed 1")?;
+    let mut tally = Tally::new();
+    tally.note(
+        rt,
+        "28 bytes a read",
+        &told_by_source(alloc, 28, 2)?,
+        "a read failed 1",
+    )?;
     for call in 1..31 {
-        let wanted = if call < 30 { "a read failed 1" } else { "saved 0" };
+        let wanted = if call < 30 {
+            "a read failed 1"
+        } else {
+            "saved 0"
+        };
         let case = format!(in alloc; "source at call {call}")?;
         tally.note(rt, &case, &told_by_source(alloc, 1, call)?, wanted)?;
     }
     tally.print(rt, "sources that fail")
 }
 
-fn compare_sinks(rt: &HostRuntime, tally: &mut Tally, table: &PlainTable) -> io::Result<()> {
+fn compare_sinks(rt: &HostRuntime, table: &PlainTable) -> io::Result<()> {
     let alloc = rt.alloc();
+    let mut tally = Tally::new();
     let found = told_by_sink(alloc, table, 28, 1)?;
     tally.note(rt, "28 bytes a write", &found, "a write failed, 0 of it")?;
     for call in 1..30 {
@@ -88,11 +103,10 @@ fn compare_sinks(rt: &HostRuntime, tally: &mut Tally, table: &PlainTable) -> io:
 
 pub fn compare(rt: &HostRuntime) -> io::Result<()> {
     let alloc = rt.alloc();
-    let mut tally = Tally::new();
-    compare_sources(rt, &mut tally)?;
+    compare_sources(rt)?;
     let mut source = FakeSource::create(alloc, &BYTES, 5, &[])?;
     match read(alloc, &mut source) {
-        Ok(saved) => compare_sinks(rt, &mut tally, &table_of(alloc, saved)?),
+        Ok(saved) => compare_sinks(rt, &table_of(alloc, saved)?),
         Err(_) => println!(rt; "28 bytes are not read"),
     }
 }

@@ -1,7 +1,7 @@
 //! Operations and queries on one attribute, as the rows of tests name them.
 use attr_types::{
     Act, Change, Doc, Field, FieldChanges, FieldItems, Fields, Item, Items, Kind, Leaf, Name, Op,
-    Query, Text, Value, ValueType, Values, WeightAct,
+    Text, Value, ValueType, Values, WeightAct,
 };
 use std::alloc::{AllocError, Global};
 use std::process::Abort;
@@ -193,26 +193,6 @@ pub fn leaf(
         },
         Ask::Below(number) => Leaf::Below(value(rt, alloc, value_type, number)?),
         Ask::Above(number) => Leaf::Above(value(rt, alloc, value_type, number)?),
-    })
-}
-
-/// All of these asks of attribute 0, or any.
-pub fn query(
-    rt: &impl Abort,
-    alloc: Global,
-    value_type: ValueType,
-    all: bool,
-    asks: &[Ask],
-) -> Result<Query, AllocError> {
-    let mut members = Vec::new(alloc);
-    for ask in asks {
-        let leaf = leaf(rt, alloc, value_type, *ask)?;
-        members.push(Query::One { field: 0, leaf })?;
-    }
-    Ok(if all {
-        Query::And(members)
-    } else {
-        Query::Or(members)
     })
 }
 

@@ -10,10 +10,4 @@ mod of_attr_plain;
 #[cfg(test)]
 mod of_attr_types;
 #[cfg(test)]
-mod of_attr_words;
-#[cfg(test)]
-mod of_feed_reader;
-#[cfg(test)]
 mod of_query_print;
-#[cfg(test)]
-mod of_query_text;

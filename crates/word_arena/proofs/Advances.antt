@@ -1,33 +1,26 @@
 -- What an advance and a reclaim make of the writer's view is what they make of a work.
-use Rattle.std.proofs.Common.{◌≡◌, ◌≢◌, ◌⊎◌, inl, inr, ⊎_elim, ℕ, zero, suc, ◌+◌, ◌<◌, ◌≤◌, List, [], ◌∷◌, ◌++◌, map, length, drop, Bool, true, false, cond, Option, Some, None, refl, sym, ap, subst, ◌∙◌, arith, eq-eqb, eqb-true, true≢false}
+use Rattle.std.proofs.Common.{◌≡◌, inl, inr, ⊎_elim, ℕ, suc, ◌+◌, ◌≤◌, List, [], ◌∷◌, ◌++◌, map, length, Bool, true, false, refl, sym, ap, subst, ◌∙◌, arith, eq-eqb, eqb-true, true≢false}
 use mathlib.Core.List.{map-append}
-use Rattle.std.specs.Prelude.{slice_get, nat_eq, nat_lt, ◌||◌, option_and_then, option_map}
-use Rattle.std.specs.Option.{unwrap_or}
+use Rattle.std.specs.Prelude.{nat_eq, ◌||◌}
 use Rattle.std.specs.List.{AllByRecursion}
-use Rattle.std.proofs.lemmas.List.{length-map, length_push}
+use Rattle.std.proofs.lemmas.List.{length-map}
 use Rattle.std.proofs.lemmas.Bool.{or_cases}
-use Rattle.image_base.specs.Images.{words_at}
-use Rattle.generation_handler.specs.declared.HoldEntry.{HoldEntry}
 use Rattle.generation_handler.specs.Queues.{has_hold, IsLeastClosed}
 use Rattle.gen_core.specs.declared.views.OpenHold.{OpenHold}
-use Rattle.gen_core.specs.declared.views.Queue.{Queue}
-use Rattle.gen_core.specs.declared.views.Buffer.{Buffer}
-use Rattle.gen_core.specs.declared.views.Buffer.TheVariants.{Free, Active, Held}
 use Rattle.gen_core.specs.declared.views.WriterView.{WriterView}
-use Rattle.gen_core.specs.Views.{open_holds, oldest_in, oldest_of, coming_after, floor_of, last_number, active_width, active_in}
-use Rattle.gen_core.specs.Work.{writer_records, stored_by, stored_in, whole_by}
+use Rattle.gen_core.specs.Views.{open_holds, floor_of, last_number}
+use Rattle.gen_core.specs.Work.{writer_records}
 use Rattle.gen_core.specs.Good.{GoodView, HoldFits}
-use Rattle.gen_core.specs.Events.{coming_hold, advanced as core_advanced, morphed, closed, stopped}
-use Rattle.gen_core.proofs.Holds.{at_newest, oldest-push, oldest-replaced, oldest-rises}
+use Rattle.gen_core.specs.Events.{coming_hold, advanced as core_advanced, morphed}
+use Rattle.gen_core.proofs.Holds.{at_newest, oldest-push, oldest-replaced}
 use Rattle.gen_core.proofs.GoodViews.{floor-last}
-use Rattle.arena_api.specs.Works.{Hold, Buffer as ApiBuffer, WorkView, newest_of, oldest_of as api_oldest}
-use Rattle.arena_api.specs.Generations.{current, next_hold, with_newest, IsLowestClosed, Renews, Opens, GoesTo, FindsNoHold, IsSpent, Advances, LetsGo, advanced, freed_below, Reclaims, reclaimed}
+use Rattle.arena_api.specs.Works.{Hold}
+use Rattle.arena_api.specs.Generations.{current, next_hold, with_newest, IsLowestClosed, Renews, Opens, Advances, LetsGo, advanced}
 use Rattle.arena_api.specs.declared.answers.Advance.{Advance}
 use Rattle.arena_api.specs.declared.answers.Advance.TheVariants.{To, NoHold, Spent}
-use Rattle.arena_api.specs.declared.answers.Oldest.{Oldest}
-use Rattle.word_arena.specs.Knows.{own_hold, api_hold, api_buffer, view_of}
-use Rattle.word_arena.specs.ProofsForWork.{coming-least, length-holds, newest-api}
-use Rattle.word_arena.specs.WriterSteps.{RenewsNewest, OpensAnother, GoesOn, OpensNone, IsAtLimit, AdvancesView, without_oldest, ClosesUnused, let_go, WithBuffersOf, FreesUnused}
+use Rattle.word_arena.specs.Knows.{own_hold, api_hold, view_of}
+use Rattle.word_arena.specs.ProofsForWork.{coming-least, newest-api}
+use Rattle.word_arena.specs.WriterSteps.{RenewsNewest, OpensAnother, AdvancesView}
 
 -- the newest hold of a work with another newest one
 newest-other : (older : List OpenHold) (newest e : OpenHold) → map api_hold (older ++ e ∷ []) ≡ with_newest (map api_hold (older ++ newest ∷ [])) (api_hold e)

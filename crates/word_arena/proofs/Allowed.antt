@@ -1,10 +1,13 @@
 -- What each step on the table owes follows from the core's lemma of its event.
-use Rattle.std.proofs.Common.{◌%◌, ◌^◌, eq-eqb, ◌≡◌, ◌≢◌, ◌⊎◌, ℕ, zero, suc, ◌+◌, ◌-◌, ◌*◌, ◌/◌, ◌<◌, ◌≤◌, List, [], ◌∷◌, ◌++◌, map, length, set, slice_index, Some, refl, sym, ap, ◌∙◌, subst, arith}
+use Rattle.std.proofs.Common.{◌%◌, ◌^◌, eq-eqb, ◌≡◌, ℕ, zero, suc, ◌+◌, ◌-◌, ◌*◌, List, [], ◌∷◌, ◌++◌, map, length, set, slice_index, Some, refl, sym, ap, ◌∙◌, subst, arith}
 use mathlib.Core.Option.{some, none, some-ne-none, some-injective}
 use mathlib.Core.List.{map-append}
 use lib.ListN.{get_elem?}
 use lib.Seq.{map-set}
-use Rattle.std.specs.Prelude.{slice_get, All}
+use Rattle.std.specs.Prelude.{slice_get, All, option_map, Option}
+use Rattle.std.specs.Option.{unwrap_or}
+use Rattle.std.proofs.lemmas.Option.{slice_get_within}
+use Rattle.list_facts.proofs.Places.{slice_get-set_same}
 use Rattle.gen_core.proofs.Counts.{load_newest_keeps, raise_keeps, bounce_keeps, release_keeps}
 use Rattle.atomic_table.specs.Table.{State, Me, step, keeps, Allows, Splits, Joins}
 use Rattle.image_base.specs.Records.{Records}
@@ -17,9 +20,12 @@ use Rattle.gen_core.specs.declared.views.View.{View}
 use Rattle.gen_core.specs.declared.views.View.TheVariants.{Writer, Reader}
 use Rattle.gen_core.specs.Views.{hold_place, is_counted_on, last_number, last_image, spent}
 use Rattle.gen_core.specs.Work.{next_image}
-use Rattle.gen_core.specs.Good.{HoldFits, AimFits, BounceFits, GuardFits, GoodReaderState, IsPlaced, IsLawfulCommit, GoodReader, Good}
-use Rattle.gen_core.specs.Conditions.{MayStoreWidth, MayStoreWord, MayHandOut, MayPublish, MaySplit, MayJoin}
-use Rattle.gen_core.specs.Events.{stored, aims, with_state, found_state, bounced, MayOpen, opening_words, opening_view, handed_out, widened, published, sees, with_reader, newcomer, joined}
+use Rattle.gen_core.specs.Steps.{hold_of, hold_in}
+use Rattle.gen_core.specs.Good.{State as CoreState, HoldFits, AimFits, BounceFits, GuardFits, GoodReaderState, IsPlaced, IsLawfulCommit, GoodReader, Good}
+use Rattle.gen_core.specs.Conditions.{MayStoreWidth, MayStoreWord, MayHandOut, MayPublish, MaySplit, MayJoin, MayLoadWord}
+use Rattle.gen_core.specs.declared.views.Pending.TheVariants.{Nothing}
+use Rattle.gen_core.specs.declared.views.ReaderState.{ReaderState}
+use Rattle.gen_core.specs.Events.{after_hand_out, after_store_width, after_store_word, after_publish, after_load_newest, after_raise, after_bounce, after_load_root, after_release, stored, aims, with_state, found_state, bounced, MayOpen, opening_words, opening_view, handed_out, widened, published, sees, with_reader, newcomer, joined}
 use Rattle.gen_core.proofs.Lists.{all_at}
 use Rattle.gen_core.proofs.Frames.{base-same}
 use Rattle.gen_core.proofs.Writer.{store_word_keeps, store_width_keeps, hand_out_keeps}
@@ -27,7 +33,8 @@ use Rattle.gen_core.proofs.Publish.{publish_keeps, records-stands}
 use Rattle.gen_core.proofs.Readers.{load_root_keeps, split_keeps, join_keeps}
 use Rattle.gen_core.proofs.Opening.{opening_good}
 use Rattle.gen_core.proofs.Law.{image_stands}
-use Rattle.word_arena.specs.Ruled.{Slot, views_of, Ruled, Becomes, writer_of, reader_of, told_hand_out, told_width, told_store, told_publish, told_load_root, told_load_newest, told_raise, told_bounce, told_release, told_load_word, told_load_own, cut_left, cut_right, glued}
+use Rattle.word_arena.specs.Ruled.{Slot, views_of, Ruled, Becomes, writer_of, reader_of, cut_left, cut_right, glued}
+use Rattle.word_arena.specs.PlayEvents.{plays_hand_out, plays_width, plays_store, plays_publish, plays_load_root, plays_load_newest, plays_raise, plays_bounce, plays_release, plays_load_word, plays_load_own}
 use Rattle.word_arena.specs.ProofsForWork.{coming-least}
 use Rattle.word_arena.proofs.Views.{get_some}
 use Rattle.gen_core.proofs.Holds.{at_newest}
@@ -55,6 +62,21 @@ reader_at w0 readers (suc j) r e = (j, refl, get_some readers j r (mine readers 
     mine [] j e = absurd (some-ne-none _ (sym e))
     mine (x ∷ rs) zero e = ap (λ v. some (reader_of v)) (some-injective _ _ e)
     mine (x ∷ rs) (suc j) e = mine rs j e
+
+-- the core's state of a table
+abbrev pub state_of : State Slot View → WriterView → List ReaderView → CoreState
+state_of t w readers = record { words = t.words; writer = w; readers = readers }
+
+-- the word of a reader's hold
+held_word : (s : CoreState) (j h : ℕ) (r : ReaderView) (state : ReaderState) → slice_get s.readers j ≡ Some r → r.state ≡ state → hold_of state ≡ h → hold_place h ≡ hold_place (hold_in s j)
+held_word s j h r state there is names = sym (ap (λ (o : Option ReaderView). hold_place (hold_of (unwrap_or o spent).state)) there ∙ ap (λ (x : ReaderState). hold_place (hold_of x)) is ∙ ap hold_place names)
+
+-- the view of a reader, before a step and after
+seen_at : (readers : List ReaderView) (j : ℕ) (r : ReaderView) → slice_get readers j ≡ Some r → option_map Reader (slice_get readers j) ≡ Some (Reader r)
+seen_at readers j r there = ap (option_map Reader) there
+
+then_at : (readers : List ReaderView) (j : ℕ) (r v : ReaderView) → slice_get readers j ≡ Some r → option_map Reader (slice_get (set readers j v) j) ≡ Some (Reader v)
+then_at readers j r v there = ap (option_map Reader) (slice_get-set_same readers j v (slice_get_within readers j r there))
 
 -- a place that is written with what stands there
 set_got : {A : Type 0} (l : List A) (i : ℕ) (a : A) → slice_get l i ≡ Some a → set l i a ≡ l
@@ -110,7 +132,7 @@ module _ (reaches : ℕ → Records → ℕ → List ℕ) (lawful : ℕ → Reco
   ruled_by t id w v k words same good = record { writer = v; readers = k.readers; views = k.set_view v; same_sizes = same ∙ k.same_sizes; good = good }
 
   pub hand_out_allowed : (slots id : ℕ) (w : WriterView) (b : ℕ) → MayHandOut w b
-      → Allows (Ruled reaches lawful sizes) slots id (Writer w, []) (state_place b) (λ _. 1) (λ _. told_hand_out (step slots (state_place b) 1 0 none) (Writer w, []) 1)
+      → Allows (Ruled reaches lawful sizes) slots id (Writer w, []) (state_place b) (λ _. 1) (λ _. plays_hand_out reaches lawful (step slots (state_place b) 1 0 none) (Writer w, []) 1)
   hand_out_allowed slots id w b may t rule homes at small =
       let k = writing t rule id w at in
       let good = hand_out_keeps reaches lawful _ b k.good may in (
@@ -118,13 +140,16 @@ module _ (reaches : ℕ → Records → ℕ → List ℕ) (lawful : ℕ → Reco
         keeps,
         tt,
         ruled_by t id w (handed_out w b) k _ refl good,
-        λ other same. let e : b ≡ other = omega arith in
-            subst (λ (c : ℕ). Becomes (Writer w, []) (handed_out w c) (Writer (handed_out w b), [])) e (record { is = refl; good = good_view reaches lawful _ good }),
+        record {
+          told = λ other same. let e : b ≡ other = omega arith in
+              subst (λ (c : ℕ). Becomes (Writer w, []) (handed_out w c) (Writer (handed_out w b), [])) e (record { is = refl; good = good_view reaches lawful _ good });
+          event = (b, record { before = state_of t w k.readers; after = after_hand_out (state_of t w k.readers) b; good = k.good; happens = (may, refl); word = refl; operands = refl; found_is = refl; sees = refl; then_sees = refl });
+        },
       )
 
   pub width_allowed : (slots id : ℕ) (w : WriterView) (b width : ℕ) → MayStoreWidth w b width
       → Allows (Ruled reaches lawful sizes) slots id (Writer w, []) (base w.sizes.buffers w.sizes.words b) (λ _. width)
-      (λ _. told_width (step slots (base w.sizes.buffers w.sizes.words b) width 0 none) (Writer w, []) width)
+      (λ _. plays_width reaches lawful (step slots (base w.sizes.buffers w.sizes.words b) width 0 none) (Writer w, []) width)
   width_allowed slots id w b width may t rule homes at small =
       let k = writing t rule id w at in
       let good = store_width_keeps reaches lawful _ b width k.good may in (
@@ -132,12 +157,15 @@ module _ (reaches : ℕ → Records → ℕ → List ℕ) (lawful : ℕ → Reco
         keeps,
         tt,
         ruled_by t id w (widened w b width) k _ refl good,
-        λ other same. let e : b ≡ other = base-same w.sizes b other k.good.sizes.some_word same in
-            subst (λ (c : ℕ). Becomes (Writer w, []) (widened w c width) (Writer (widened w b width), [])) e (record { is = refl; good = good_view reaches lawful _ good }),
+        record {
+          told = λ other same. let e : b ≡ other = base-same w.sizes b other k.good.sizes.some_word same in
+              subst (λ (c : ℕ). Becomes (Writer w, []) (widened w c width) (Writer (widened w b width), [])) e (record { is = refl; good = good_view reaches lawful _ good });
+          event = (b, record { before = state_of t w k.readers; after = after_store_width (state_of t w k.readers) b width; good = k.good; happens = (may, refl); word = refl; operands = refl; found_is = refl; sees = refl; then_sees = refl });
+        },
       )
 
   pub store_allowed : (slots id : ℕ) (w : WriterView) (p n : ℕ) → MayStoreWord w p
-      → Allows (Ruled reaches lawful sizes) slots id (Writer w, []) p (λ _. n) (λ _. told_store (step slots p n 0 none) (Writer w, []) n)
+      → Allows (Ruled reaches lawful sizes) slots id (Writer w, []) p (λ _. n) (λ _. plays_store reaches lawful (step slots p n 0 none) (Writer w, []) n)
   store_allowed slots id w p n may t rule homes at small =
       let k = writing t rule id w at in
       let good = store_word_keeps reaches lawful _ p n k.good may in (
@@ -145,12 +173,15 @@ module _ (reaches : ℕ → Records → ℕ → List ℕ) (lawful : ℕ → Reco
         keeps,
         tt,
         ruled_by t id w (stored w p n) k _ refl good,
-        record { is = refl; good = good_view reaches lawful _ good },
+        record {
+          told = record { is = refl; good = good_view reaches lawful _ good };
+          event = record { before = state_of t w k.readers; after = after_store_word (state_of t w k.readers) p n; good = k.good; happens = (may, refl); word = refl; operands = refl; found_is = refl; sees = refl; then_sees = refl };
+        },
       )
 
   pub publish_allowed : IsLayout reaches lawful → (slots id : ℕ) (w : WriterView) (root : ℕ) → MayPublish lawful w root
       → Allows (Ruled reaches lawful sizes) slots id (Writer w, []) 0 (λ _. length w.commits * 2 ^ 32 + root)
-      (λ _. told_publish reaches lawful (step slots 0 (length w.commits * 2 ^ 32 + root) 0 none) (Writer w, []) (length w.commits * 2 ^ 32 + root))
+      (λ _. plays_publish reaches lawful (step slots 0 (length w.commits * 2 ^ 32 + root) 0 none) (Writer w, []) (length w.commits * 2 ^ 32 + root))
   publish_allowed l slots id w root may t rule homes at small =
       let k = writing t rule id w at in
       let v : WriterView = published w (next_image reaches w root) in
@@ -159,8 +190,11 @@ module _ (reaches : ℕ → Records → ℕ → List ℕ) (lawful : ℕ → Reco
         keeps,
         tt,
         ruled_by t id w v k _ refl good,
-        λ other same. let e : root ≡ other = omega arith in
-            subst (λ (c : ℕ). Becomes (Writer w, []) (published w (next_image reaches w c)) (Writer v, [])) e (record { is = refl; good = good_view reaches lawful _ good }),
+        record {
+          told = λ other same. let e : root ≡ other = omega arith in
+              subst (λ (c : ℕ). Becomes (Writer w, []) (published w (next_image reaches w c)) (Writer v, [])) e (record { is = refl; good = good_view reaches lawful _ good });
+          event = (root, record { before = state_of t w k.readers; after = after_publish (state_of t w k.readers) (next_image reaches w root); good = k.good; happens = (may, refl); word = refl; operands = refl; found_is = refl; sees = refl; then_sees = refl });
+        },
       )
 
   -- a step of a reader to a good state
@@ -170,7 +204,7 @@ module _ (reaches : ℕ → Records → ℕ → List ℕ) (lawful : ℕ → Reco
   read_by t id r v k words good = record { writer = k.writer; readers = set k.readers k.j v; views = k.set_view v; same_sizes = k.same_sizes; good = good }
 
   pub load_newest_allowed : (slots id : ℕ) (r : ReaderView) → r.state ≡ Idle
-      → Allows (Ruled reaches lawful sizes) slots id (Reader r, []) 1 (λ n. n) (told_load_newest (step slots 1 0 0 none) (Reader r, []))
+      → Allows (Ruled reaches lawful sizes) slots id (Reader r, []) 1 (λ n. n) (plays_load_newest reaches lawful (step slots 1 0 0 none) (Reader r, []))
   load_newest_allowed slots id r idle t rule homes at small =
       let k = reading t rule id r at in
       let v : ReaderView = aims r k.writer.queue.newest in (
@@ -180,16 +214,19 @@ module _ (reaches : ℕ → Records → ℕ → List ℕ) (lawful : ℕ → Reco
         read_by t id r v k _ (subst (λ (l : List ℕ). Good reaches lawful (record { words = l; writer = k.writer; readers = set k.readers k.j v })) (sym (set_back t.words 1))
             (load_newest_keeps reaches lawful _ k.j r k.good k.there idle)),
         record {
-          entry = k.writer.queue.newest;
-          is = refl;
-          found_last = k.good.names.newest_hold;
-          low = (at_newest (HoldFits k.writer.commits) k.writer.queue.older k.writer.queue.newest k.good.queue.each).hold;
-          least = (all_at (GoodReader k.writer.sizes k.writer.queue k.writer.commits) k.readers k.j r k.good.readers k.there).least;
+          told = record {
+            entry = k.writer.queue.newest;
+            is = refl;
+            found_last = k.good.names.newest_hold;
+            low = (at_newest (HoldFits k.writer.commits) k.writer.queue.older k.writer.queue.newest k.good.queue.each).hold;
+            least = (all_at (GoodReader k.writer.sizes k.writer.queue k.writer.commits) k.readers k.j r k.good.readers k.there).least;
+          };
+          event = (k.j, record { before = state_of t k.writer k.readers; after = after_load_newest (state_of t k.writer k.readers) k.j r; good = k.good; happens = (r, k.there, idle, refl); word = refl; operands = tt; found_is = refl; sees = seen_at k.readers k.j r k.there; then_sees = then_at k.readers k.j r v k.there });
         },
       )
 
   pub raise_allowed : (slots id : ℕ) (r : ReaderView) (generation h : ℕ) → r.state ≡ Aimed generation h
-      → Allows (Ruled reaches lawful sizes) slots id (Reader r, []) (hold_place h) (λ n. (n + 2) % 2 ^ 64) (told_raise (step slots (hold_place h) 2 0 none) (Reader r, []))
+      → Allows (Ruled reaches lawful sizes) slots id (Reader r, []) (hold_place h) (λ n. (n + 2) % 2 ^ 64) (plays_raise reaches lawful (step slots (hold_place h) 2 0 none) (Reader r, []))
   raise_allowed slots id r generation h aimed t rule homes at small =
       let k = reading t rule id r at in
       let w : WriterView = k.writer in
@@ -204,14 +241,17 @@ module _ (reaches : ℕ → Records → ℕ → List ℕ) (lawful : ℕ → Reco
         tt,
         read_by t id r v k _ (subst (λ (n : ℕ). Good reaches lawful (record { words = set t.words (hold_place h) n; writer = w; readers = set k.readers k.j v })) sum
             (raise_keeps reaches lawful _ k.j r generation h k.good k.there aimed)),
-        λ other same. let e : h ≡ other = omega arith in ap (λ (i : ℕ). (Reader (with_state r (found_state found i)), [])) e,
+        record {
+          told = λ other same. let e : h ≡ other = omega arith in ap (λ (i : ℕ). (Reader (with_state r (found_state found i)), [])) e;
+          event = (k.j, record { before = state_of t w k.readers; after = after_raise (state_of t w k.readers) k.j r h; good = k.good; happens = (r, k.there, generation, h, aimed, refl); word = held_word (state_of t w k.readers) k.j h r (Aimed generation h) k.there aimed refl; operands = refl; found_is = refl; sees = seen_at k.readers k.j r k.there; then_sees = then_at k.readers k.j r v k.there });
+        },
       )
 
   bounce-off : (h : ℕ) → Bounced h ≡ Spent → ⊥
   bounce-off h e = cc
 
   pub bounce_allowed : (slots id : ℕ) (r : ReaderView) (h : ℕ) → r.state ≡ Bounced h
-      → Allows (Ruled reaches lawful sizes) slots id (Reader r, []) (hold_place h) (λ n. (n + (2 ^ 64 - 2)) % 2 ^ 64) (told_bounce (step slots (hold_place h) 2 0 none) (Reader r, []))
+      → Allows (Ruled reaches lawful sizes) slots id (Reader r, []) (hold_place h) (λ n. (n + (2 ^ 64 - 2)) % 2 ^ 64) (plays_bounce reaches lawful (step slots (hold_place h) 2 0 none) (Reader r, []))
   bounce_allowed slots id r h is t rule homes at small =
       let k = reading t rule id r at in
       let w : WriterView = k.writer in
@@ -227,14 +267,17 @@ module _ (reaches : ℕ → Records → ℕ → List ℕ) (lawful : ℕ → Reco
         read_by t id r v k _ (subst (λ (n : ℕ). Good reaches lawful (record { words = set t.words (hold_place h) n; writer = w; readers = set k.readers k.j v })) less
             (bounce_keeps reaches lawful _ k.j r h k.good k.there is)),
         record {
-          is = refl;
-          limit = (let m = b.missed in let same : r.sizes ≡ w.sizes = mine.same_sizes (λ e. bounce-off h (sym is ∙ e)) in
-              let up = coming-least w.queue.newest w.queue.pending in let g = k.good.queue.generation in omega (arith, m, up, g, ap (λ (z : Sizes). z.generation_limit) same));
+          told = record {
+            is = refl;
+            limit = (let m = b.missed in let same : r.sizes ≡ w.sizes = mine.same_sizes (λ e. bounce-off h (sym is ∙ e)) in
+                let up = coming-least w.queue.newest w.queue.pending in let g = k.good.queue.generation in omega (arith, m, up, g, ap (λ (z : Sizes). z.generation_limit) same));
+          };
+          event = (k.j, record { before = state_of t w k.readers; after = after_bounce (state_of t w k.readers) k.j r h; good = k.good; happens = (r, k.there, h, is, refl); word = held_word (state_of t w k.readers) k.j h r (Bounced h) k.there is refl; operands = refl; found_is = refl; sees = seen_at k.readers k.j r k.there; then_sees = then_at k.readers k.j r v k.there });
         },
       )
 
   pub release_allowed : (slots id : ℕ) (r : ReaderView) (h c : ℕ) → r.state ≡ Guarded h c
-      → Allows (Ruled reaches lawful sizes) slots id (Reader r, []) (hold_place h) (λ n. (n + (2 ^ 64 - 2)) % 2 ^ 64) (told_release (step slots (hold_place h) 2 0 none) (Reader r, []))
+      → Allows (Ruled reaches lawful sizes) slots id (Reader r, []) (hold_place h) (λ n. (n + (2 ^ 64 - 2)) % 2 ^ 64) (plays_release reaches lawful (step slots (hold_place h) 2 0 none) (Reader r, []))
   release_allowed slots id r h c is t rule homes at small =
       let k = reading t rule id r at in
       let w : WriterView = k.writer in
@@ -249,14 +292,17 @@ module _ (reaches : ℕ → Records → ℕ → List ℕ) (lawful : ℕ → Reco
         tt,
         read_by t id r v k _ (subst (λ (n : ℕ). Good reaches lawful (record { words = set t.words (hold_place h) n; writer = w; readers = set k.readers k.j v })) less
             (release_keeps reaches lawful _ k.j r h c k.good k.there is)),
-        refl,
+        record {
+          told = refl;
+          event = (k.j, record { before = state_of t w k.readers; after = after_release (state_of t w k.readers) k.j r h; good = k.good; happens = (r, k.there, h, c, is, refl); word = held_word (state_of t w k.readers) k.j h r (Guarded h c) k.there is refl; operands = refl; found_is = refl; sees = seen_at k.readers k.j r k.there; then_sees = then_at k.readers k.j r v k.there });
+        },
       )
 
   off : (h : ℕ) → Raised h ≡ Spent → ⊥
   off h e = cc
 
   pub load_root_allowed : (slots id : ℕ) (r : ReaderView) (h : ℕ) → r.state ≡ Raised h
-      → Allows (Ruled reaches lawful sizes) slots id (Reader r, []) 0 (λ n. n) (told_load_root reaches lawful (step slots 0 0 0 none) (Reader r, []))
+      → Allows (Ruled reaches lawful sizes) slots id (Reader r, []) 0 (λ n. n) (plays_load_root reaches lawful (step slots 0 0 0 none) (Reader r, []))
   load_root_allowed slots id r h raised t rule homes at small =
       let k = reading t rule id r at in
       let w : WriterView = k.writer in
@@ -277,25 +323,28 @@ module _ (reaches : ℕ → Records → ℕ → List ℕ) (lawful : ℕ → Reco
               (load_root_keeps reaches lawful _ k.j r h k.good k.there raised);
         },
         record {
-          reader = v;
-          is = refl;
-          sees_commit = record {
-            hold = h;
-            raised = raised;
-            number = last_number w.commits;
-            image = last_image w.commits;
+          told = record {
+            reader = v;
             is = refl;
-            found_root = k.good.names.root;
-            commit = subst (λ (z : Sizes). IsLawfulCommit reaches lawful z.shape (last_image w.commits)) (sym same) commit;
-            later = mine.seen;
-            small_number = let a = k.good.queue.commit in let b = k.good.sizes.commit_limit in omega arith;
-            entries = subst (λ (z : Sizes). All (λ pair. IsEntry z.offset_bits z.buffers z.words (length pair.1) pair.0) (last_image w.commits).records) (sym same) (λ l e less. (placed l e less).inside);
+            sees_commit = record {
+              hold = h;
+              raised = raised;
+              number = last_number w.commits;
+              image = last_image w.commits;
+              is = refl;
+              found_root = k.good.names.root;
+              commit = subst (λ (z : Sizes). IsLawfulCommit reaches lawful z.shape (last_image w.commits)) (sym same) commit;
+              later = mine.seen;
+              small_number = let a = k.good.queue.commit in let b = k.good.sizes.commit_limit in omega arith;
+              entries = subst (λ (z : Sizes). All (λ pair. IsEntry z.offset_bits z.buffers z.words (length pair.1) pair.0) (last_image w.commits).records) (sym same) (λ l e less. (placed l e less).inside);
+            };
           };
+          event = (k.j, record { before = state_of t w k.readers; after = after_load_root (state_of t w k.readers) k.j r h; good = k.good; happens = (r, k.there, h, raised, refl); word = refl; operands = tt; found_is = refl; sees = seen_at k.readers k.j r k.there; then_sees = then_at k.readers k.j r v k.there });
         },
       )
 
-  pub load_word_allowed : (slots id : ℕ) (r : ReaderView) (p : ℕ) → Allows (Ruled reaches lawful sizes) slots id (Reader r, []) p (λ n. n) (told_load_word (step slots p 0 0 none) (Reader r, []))
-  load_word_allowed slots id r p t rule homes at small =
+  pub load_word_allowed : (slots id : ℕ) (r : ReaderView) (p : ℕ) → MayLoadWord r p → Allows (Ruled reaches lawful sizes) slots id (Reader r, []) p (λ n. n) (plays_load_word reaches lawful (step slots p 0 0 none) (Reader r, []))
+  load_word_allowed slots id r p may t rule homes at small =
       let k = reading t rule id r at in (
         Reader r,
         keeps,
@@ -308,30 +357,36 @@ module _ (reaches : ℕ → Records → ℕ → List ℕ) (lawful : ℕ → Reco
           good = subst (λ (l : List ℕ). Good reaches lawful (record { words = l; writer = k.writer; readers = k.readers })) (sym (set_back t.words p)) k.good;
         },
         record {
-          same = refl;
-          word = λ c image saw.
-              let stands = image_stands reaches lawful _ k.j c r image k.good k.there saw in
-              record {
-                word = λ ref ws i there lt is. ap (slice_index t.words) is ∙ ((stands ref ws there).each i lt).is;
-                width = λ ref ws there is. ap (slice_index t.words) is ∙ (stands ref ws there).width.is;
-              };
+          told = record {
+            same = refl;
+            word = λ c image saw.
+                let stands = image_stands reaches lawful _ k.j c r image k.good k.there saw in
+                record {
+                  word = λ ref ws i there lt is. ap (slice_index t.words) is ∙ ((stands ref ws there).each i lt).is;
+                  width = λ ref ws there is. ap (slice_index t.words) is ∙ (stands ref ws there).width.is;
+                };
+          };
+          event = (k.j, record { before = state_of t k.writer k.readers; after = state_of t k.writer k.readers; good = k.good; happens = (r, k.there, may, refl); word = refl; operands = tt; found_is = refl; sees = seen_at k.readers k.j r k.there; then_sees = seen_at k.readers k.j r k.there });
         },
       )
 
-  pub load_own_allowed : (slots id : ℕ) (w : WriterView) (p : ℕ) → Allows (Ruled reaches lawful sizes) slots id (Writer w, []) p (λ n. n) (told_load_own (step slots p 0 0 none) (Writer w, []))
-  load_own_allowed slots id w p t rule homes at small =
+  pub load_own_allowed : (slots id : ℕ) (w : WriterView) (p : ℕ) → w.queue.pending ≡ Nothing → Allows (Ruled reaches lawful sizes) slots id (Writer w, []) p (λ n. n) (plays_load_own reaches lawful (step slots p 0 0 none) (Writer w, []))
+  load_own_allowed slots id w p calm t rule homes at small =
       let k = writing t rule id w at in (
         Writer w,
         keeps,
         tt,
         ruled_by t id w w k _ refl (subst (λ (l : List ℕ). Good reaches lawful (record { words = l; writer = w; readers = k.readers })) (sym (set_back t.words p)) k.good),
         record {
-          same = refl;
-          own = record {
-            word = λ ref i lt is. ap (slice_index t.words) is ∙ records-stands reaches lawful _ k.good ref (omega (arith, lt)) i lt;
-            width = λ ref some is. ap (slice_index t.words) is ∙ (let placed = records-placed w (good_view reaches lawful _ k.good) ref some in k.good.memory.widths _ _ placed.width some);
+          told = record {
+            same = refl;
+            own = record {
+              word = λ ref i lt is. ap (slice_index t.words) is ∙ records-stands reaches lawful _ k.good ref (omega (arith, lt)) i lt;
+              width = λ ref some is. ap (slice_index t.words) is ∙ (let placed = records-placed w (good_view reaches lawful _ k.good) ref some in k.good.memory.widths _ _ placed.width some);
+            };
+            seen = k.good.commits.seen;
           };
-          seen = k.good.commits.seen;
+          event = record { before = state_of t w k.readers; after = state_of t w k.readers; good = k.good; happens = (calm, refl); word = refl; operands = tt; found_is = refl; sees = refl; then_sees = refl };
         },
       )
 
@@ -367,57 +422,57 @@ module _ (reaches : ℕ → Records → ℕ → List ℕ) (lawful : ℕ → Reco
 -- the same at a seat whose view is known
 module _ (reaches : ℕ → Records → ℕ → List ℕ) (lawful : ℕ → Records → ℕ → Type 0) (sizes : Sizes) (slots id : ℕ) (me : Me Slot View) where
   pub hand_out_owed : (w : WriterView) (b p : ℕ) → me ≡ (Writer w, []) → p ≡ state_place b → MayHandOut w b
-      → Allows (Ruled reaches lawful sizes) slots id me p (λ _. 1) (λ _. told_hand_out (step slots p 1 0 none) me 1)
+      → Allows (Ruled reaches lawful sizes) slots id me p (λ _. 1) (λ _. plays_hand_out reaches lawful (step slots p 1 0 none) me 1)
   hand_out_owed w b p is at may =
-      let P : Me Slot View × ℕ → Type 0 = λ x. Allows (Ruled reaches lawful sizes) slots id x.0 x.1 (λ _. 1) (λ _. told_hand_out (step slots x.1 1 0 none) x.0 1) in
+      let P : Me Slot View × ℕ → Type 0 = λ x. Allows (Ruled reaches lawful sizes) slots id x.0 x.1 (λ _. 1) (λ _. plays_hand_out reaches lawful (step slots x.1 1 0 none) x.0 1) in
       subst P (λ i. (sym is i, sym at i)) (hand_out_allowed reaches lawful sizes slots id w b may)
 
   pub width_owed : (w : WriterView) (b width p : ℕ) → me ≡ (Writer w, []) → p ≡ base w.sizes.buffers w.sizes.words b → MayStoreWidth w b width
-      → Allows (Ruled reaches lawful sizes) slots id me p (λ _. width) (λ _. told_width (step slots p width 0 none) me width)
+      → Allows (Ruled reaches lawful sizes) slots id me p (λ _. width) (λ _. plays_width reaches lawful (step slots p width 0 none) me width)
   width_owed w b width p is at may =
-      let P : Me Slot View × ℕ → Type 0 = λ x. Allows (Ruled reaches lawful sizes) slots id x.0 x.1 (λ _. width) (λ _. told_width (step slots x.1 width 0 none) x.0 width) in
+      let P : Me Slot View × ℕ → Type 0 = λ x. Allows (Ruled reaches lawful sizes) slots id x.0 x.1 (λ _. width) (λ _. plays_width reaches lawful (step slots x.1 width 0 none) x.0 width) in
       subst P (λ i. (sym is i, sym at i)) (width_allowed reaches lawful sizes slots id w b width may)
 
   pub store_owed : (w : WriterView) (p n : ℕ) → me ≡ (Writer w, []) → MayStoreWord w p
-      → Allows (Ruled reaches lawful sizes) slots id me p (λ _. n) (λ _. told_store (step slots p n 0 none) me n)
+      → Allows (Ruled reaches lawful sizes) slots id me p (λ _. n) (λ _. plays_store reaches lawful (step slots p n 0 none) me n)
   store_owed w p n is may =
-      subst (λ (m : Me Slot View). Allows (Ruled reaches lawful sizes) slots id m p (λ _. n) (λ _. told_store (step slots p n 0 none) m n)) (sym is) (store_allowed reaches lawful sizes slots id w p n may)
+      subst (λ (m : Me Slot View). Allows (Ruled reaches lawful sizes) slots id m p (λ _. n) (λ _. plays_store reaches lawful (step slots p n 0 none) m n)) (sym is) (store_allowed reaches lawful sizes slots id w p n may)
 
   pub publish_owed : IsLayout reaches lawful → (w : WriterView) (root word : ℕ) → me ≡ (Writer w, []) → word ≡ length w.commits * 2 ^ 32 + root → MayPublish lawful w root
-      → Allows (Ruled reaches lawful sizes) slots id me 0 (λ _. word) (λ _. told_publish reaches lawful (step slots 0 word 0 none) me word)
+      → Allows (Ruled reaches lawful sizes) slots id me 0 (λ _. word) (λ _. plays_publish reaches lawful (step slots 0 word 0 none) me word)
   publish_owed l w root word is what may =
-      let P : Me Slot View × ℕ → Type 0 = λ x. Allows (Ruled reaches lawful sizes) slots id x.0 0 (λ _. x.1) (λ _. told_publish reaches lawful (step slots 0 x.1 0 none) x.0 x.1) in
+      let P : Me Slot View × ℕ → Type 0 = λ x. Allows (Ruled reaches lawful sizes) slots id x.0 0 (λ _. x.1) (λ _. plays_publish reaches lawful (step slots 0 x.1 0 none) x.0 x.1) in
       subst P (λ i. (sym is i, sym what i)) (publish_allowed reaches lawful sizes l slots id w root may)
 
-  pub load_root_owed : (r : ReaderView) (h : ℕ) → me ≡ (Reader r, []) → r.state ≡ Raised h → Allows (Ruled reaches lawful sizes) slots id me 0 (λ n. n) (told_load_root reaches lawful (step slots 0 0 0 none) me)
-  load_root_owed r h is raised = subst (λ (m : Me Slot View). Allows (Ruled reaches lawful sizes) slots id m 0 (λ n. n) (told_load_root reaches lawful (step slots 0 0 0 none) m)) (sym is) (load_root_allowed reaches lawful sizes slots id r h raised)
+  pub load_root_owed : (r : ReaderView) (h : ℕ) → me ≡ (Reader r, []) → r.state ≡ Raised h → Allows (Ruled reaches lawful sizes) slots id me 0 (λ n. n) (plays_load_root reaches lawful (step slots 0 0 0 none) me)
+  load_root_owed r h is raised = subst (λ (m : Me Slot View). Allows (Ruled reaches lawful sizes) slots id m 0 (λ n. n) (plays_load_root reaches lawful (step slots 0 0 0 none) m)) (sym is) (load_root_allowed reaches lawful sizes slots id r h raised)
 
-  pub load_newest_owed : (r : ReaderView) → me ≡ (Reader r, []) → r.state ≡ Idle → Allows (Ruled reaches lawful sizes) slots id me 1 (λ n. n) (told_load_newest (step slots 1 0 0 none) me)
-  load_newest_owed r is idle = subst (λ (m : Me Slot View). Allows (Ruled reaches lawful sizes) slots id m 1 (λ n. n) (told_load_newest (step slots 1 0 0 none) m)) (sym is) (load_newest_allowed reaches lawful sizes slots id r idle)
+  pub load_newest_owed : (r : ReaderView) → me ≡ (Reader r, []) → r.state ≡ Idle → Allows (Ruled reaches lawful sizes) slots id me 1 (λ n. n) (plays_load_newest reaches lawful (step slots 1 0 0 none) me)
+  load_newest_owed r is idle = subst (λ (m : Me Slot View). Allows (Ruled reaches lawful sizes) slots id m 1 (λ n. n) (plays_load_newest reaches lawful (step slots 1 0 0 none) m)) (sym is) (load_newest_allowed reaches lawful sizes slots id r idle)
 
   pub raise_owed : (r : ReaderView) (generation h p : ℕ) → me ≡ (Reader r, []) → p ≡ hold_place h → r.state ≡ Aimed generation h
-      → Allows (Ruled reaches lawful sizes) slots id me p (λ n. (n + 2) % 2 ^ 64) (told_raise (step slots p 2 0 none) me)
+      → Allows (Ruled reaches lawful sizes) slots id me p (λ n. (n + 2) % 2 ^ 64) (plays_raise reaches lawful (step slots p 2 0 none) me)
   raise_owed r generation h p is at aimed =
-      let P : Me Slot View × ℕ → Type 0 = λ x. Allows (Ruled reaches lawful sizes) slots id x.0 x.1 (λ n. (n + 2) % 2 ^ 64) (told_raise (step slots x.1 2 0 none) x.0) in
+      let P : Me Slot View × ℕ → Type 0 = λ x. Allows (Ruled reaches lawful sizes) slots id x.0 x.1 (λ n. (n + 2) % 2 ^ 64) (plays_raise reaches lawful (step slots x.1 2 0 none) x.0) in
       subst P (λ i. (sym is i, sym at i)) (raise_allowed reaches lawful sizes slots id r generation h aimed)
 
   pub bounce_owed : (r : ReaderView) (h p : ℕ) → me ≡ (Reader r, []) → p ≡ hold_place h → r.state ≡ Bounced h
-      → Allows (Ruled reaches lawful sizes) slots id me p (λ n. (n + (2 ^ 64 - 2)) % 2 ^ 64) (told_bounce (step slots p 2 0 none) me)
+      → Allows (Ruled reaches lawful sizes) slots id me p (λ n. (n + (2 ^ 64 - 2)) % 2 ^ 64) (plays_bounce reaches lawful (step slots p 2 0 none) me)
   bounce_owed r h p is at b =
-      let P : Me Slot View × ℕ → Type 0 = λ x. Allows (Ruled reaches lawful sizes) slots id x.0 x.1 (λ n. (n + (2 ^ 64 - 2)) % 2 ^ 64) (told_bounce (step slots x.1 2 0 none) x.0) in
+      let P : Me Slot View × ℕ → Type 0 = λ x. Allows (Ruled reaches lawful sizes) slots id x.0 x.1 (λ n. (n + (2 ^ 64 - 2)) % 2 ^ 64) (plays_bounce reaches lawful (step slots x.1 2 0 none) x.0) in
       subst P (λ i. (sym is i, sym at i)) (bounce_allowed reaches lawful sizes slots id r h b)
 
   pub release_owed : (r : ReaderView) (h c p : ℕ) → me ≡ (Reader r, []) → p ≡ hold_place h → r.state ≡ Guarded h c
-      → Allows (Ruled reaches lawful sizes) slots id me p (λ n. (n + (2 ^ 64 - 2)) % 2 ^ 64) (told_release (step slots p 2 0 none) me)
+      → Allows (Ruled reaches lawful sizes) slots id me p (λ n. (n + (2 ^ 64 - 2)) % 2 ^ 64) (plays_release reaches lawful (step slots p 2 0 none) me)
   release_owed r h c p is at b =
-      let P : Me Slot View × ℕ → Type 0 = λ x. Allows (Ruled reaches lawful sizes) slots id x.0 x.1 (λ n. (n + (2 ^ 64 - 2)) % 2 ^ 64) (told_release (step slots x.1 2 0 none) x.0) in
+      let P : Me Slot View × ℕ → Type 0 = λ x. Allows (Ruled reaches lawful sizes) slots id x.0 x.1 (λ n. (n + (2 ^ 64 - 2)) % 2 ^ 64) (plays_release reaches lawful (step slots x.1 2 0 none) x.0) in
       subst P (λ i. (sym is i, sym at i)) (release_allowed reaches lawful sizes slots id r h c b)
 
-  pub load_word_owed : (r : ReaderView) (p : ℕ) → me ≡ (Reader r, []) → Allows (Ruled reaches lawful sizes) slots id me p (λ n. n) (told_load_word (step slots p 0 0 none) me)
-  load_word_owed r p is = subst (λ (m : Me Slot View). Allows (Ruled reaches lawful sizes) slots id m p (λ n. n) (told_load_word (step slots p 0 0 none) m)) (sym is) (load_word_allowed reaches lawful sizes slots id r p)
+  pub load_word_owed : (r : ReaderView) (p : ℕ) → me ≡ (Reader r, []) → MayLoadWord r p → Allows (Ruled reaches lawful sizes) slots id me p (λ n. n) (plays_load_word reaches lawful (step slots p 0 0 none) me)
+  load_word_owed r p is may = subst (λ (m : Me Slot View). Allows (Ruled reaches lawful sizes) slots id m p (λ n. n) (plays_load_word reaches lawful (step slots p 0 0 none) m)) (sym is) (load_word_allowed reaches lawful sizes slots id r p may)
 
-  pub load_own_owed : (w : WriterView) (p : ℕ) → me ≡ (Writer w, []) → Allows (Ruled reaches lawful sizes) slots id me p (λ n. n) (told_load_own (step slots p 0 0 none) me)
-  load_own_owed w p is = subst (λ (m : Me Slot View). Allows (Ruled reaches lawful sizes) slots id m p (λ n. n) (told_load_own (step slots p 0 0 none) m)) (sym is) (load_own_allowed reaches lawful sizes slots id w p)
+  pub load_own_owed : (w : WriterView) (p : ℕ) → me ≡ (Writer w, []) → w.queue.pending ≡ Nothing → Allows (Ruled reaches lawful sizes) slots id me p (λ n. n) (plays_load_own reaches lawful (step slots p 0 0 none) me)
+  load_own_owed w p is calm = subst (λ (m : Me Slot View). Allows (Ruled reaches lawful sizes) slots id m p (λ n. n) (plays_load_own reaches lawful (step slots p 0 0 none) m)) (sym is) (load_own_allowed reaches lawful sizes slots id w p calm)
 
   pub split_owed : (w : WriterView) → me ≡ (Writer w, []) → MaySplit w → Splits (Ruled reaches lawful sizes) id me.0 (cut_left me.0) (cut_right me.0)
   split_owed w is may = subst (λ (m : Me Slot View). Splits (Ruled reaches lawful sizes) id m.0 (cut_left m.0) (cut_right m.0)) (sym is) (split_allowed reaches lawful sizes id w may)

@@ -1,5 +1,5 @@
 -- What the ghost field of a writer gives at a call, and how it stands after a step.
-use Rattle.std.proofs.Common.{map, mul-le-mul_left, ◌≡◌, ◌≢◌, ℕ, ◌+◌, ◌*◌, ◌<◌, ◌≤◌, List, [], ◌∷◌, length, slice_index, refl, sym, ap, ◌∙◌, subst, arith}
+use Rattle.std.proofs.Common.{map, mul-le-mul_left, ◌≡◌, ℕ, ◌*◌, ◌<◌, ◌≤◌, List, [], length, slice_index, refl, sym, ap, ◌∙◌, subst, arith}
 use Rattle.std.proofs.Props.{props}
 use mathlib.Core.Option.{none}
 use Rattle.entry_ref.specs.References.{buffer_of}

@@ -1,12 +1,11 @@
 -- Only words of entries are stored, after each step; and a buffer that a work may put on hold, the writer may.
-use Rattle.std.proofs.Common.{◌≡◌, ◌≢◌, inl, inr, ℕ, zero, suc, ◌+◌, ◌*◌, ◌<◌, ◌≤◌, List, [], ◌∷◌, length, get_or, set, eqb, Bool, true, false, cond, Option, Some, None, refl, sym, ap, subst, ◌∙◌, arith, ne_eqb, eq-eqb}
+use Rattle.std.proofs.Common.{◌≡◌, ◌≢◌, inl, inr, ℕ, zero, suc, ◌+◌, ◌*◌, ◌<◌, List, [], ◌∷◌, length, get_or, Bool, true, false, cond, Option, Some, None, refl, sym, ap, subst, ◌∙◌, arith, ne_eqb, eq-eqb}
 use Rattle.std.specs.Prelude.{slice_get, All, nat_eq, option_and_then}
 use Rattle.std.specs.Option.{unwrap_or}
 use Rattle.std.specs.Map.{lookup}
 use Rattle.std.proofs.lemmas.Bool.{cases_eq, and_from, and_left}
 use Rattle.std.proofs.lemmas.List.Elements.{All-tail, All-head}
 use Rattle.std.proofs.lemmas.Nat.{same_from_place}
-use Rattle.std.proofs.lemmas.Option.{slice_get_within}
 use Rattle.list_facts.proofs.Places.{slice_get-set_same, slice_get-set_other}
 use Rattle.entry_ref.specs.References.{buffer_of, offset_of}
 use Rattle.image_base.specs.declared.Image.{Image}
@@ -17,7 +16,7 @@ use Rattle.image_base.proofs.Apart.{within}
 use Rattle.gen_core.specs.declared.views.Pending.TheVariants.{Nothing}
 use Rattle.gen_core.specs.declared.views.Tag.{Tag}
 use Rattle.gen_core.specs.declared.views.Buffer.{Buffer}
-use Rattle.gen_core.specs.declared.views.Buffer.TheVariants.{Free, Active, Held}
+use Rattle.gen_core.specs.declared.views.Buffer.TheVariants.{Free, Held}
 use Rattle.gen_core.specs.declared.views.WriterView.{WriterView}
 use Rattle.gen_core.specs.Views.{active_width, active_in, last_image, last_number}
 use Rattle.gen_core.specs.Work.{work_at, place_in, whole_at, whole_by, writer_records, stored_in, stored_by}
@@ -30,7 +29,7 @@ use Rattle.gen_core.proofs.StoredWords.{stored-step, stored-given, stored-there}
 use Rattle.gen_core.proofs.Work.{whole-found}
 use Rattle.arena_api.specs.Works.{Buffer as ApiBuffer, active_width as api_active}
 use Rattle.arena_api.specs.Calls.{with_buffer as api_with_buffer}
-use Rattle.arena_api.specs.Generations.{MayRetire, retired, tag_now, current}
+use Rattle.arena_api.specs.Generations.{MayRetire, retired, tag_now}
 use Rattle.word_arena.specs.Knows.{api_buffer, api_tag, buffers_by, view_of, given, StoresEntries}
 use Rattle.word_arena.specs.ProofsForWork.{core-active, last-image, newest-api}
 use Rattle.arena_api.specs.Works.{Hold}

@@ -1,5 +1,5 @@
 -- What the ghost fields of a reader and of a guard give at a call.
-use Rattle.std.proofs.Common.{◌^◌, mul-le-mul_left, cond, eq-eqb, ne_eqb, ◌≡◌, ◌≢◌, ℕ, suc, ◌+◌, ◌*◌, ◌/◌, ◌%◌, ◌<◌, ◌≤◌, List, [], ◌∷◌, length, slice_index, Some, refl, sym, ap, ◌∙◌, subst, arith, mul-le-mul_right, suc-mul}
+use Rattle.std.proofs.Common.{inl, inr, ◌^◌, mul-le-mul_left, cond, eq-eqb, ne_eqb, ◌≡◌, ◌≢◌, ℕ, suc, ◌+◌, ◌*◌, ◌%◌, ◌<◌, ◌≤◌, List, [], ◌∷◌, length, slice_index, Some, refl, sym, ap, ◌∙◌, subst, arith, mul-le-mul_right, suc-mul}
 use Rattle.std.specs.Prelude.{slice_get, All}
 use Rattle.std.proofs.Props.{props}
 use Rattle.entry_ref.specs.References.{buffer_of}
@@ -20,7 +20,7 @@ use Rattle.gen_core.specs.declared.views.OpenHold.{OpenHold}
 use Rattle.gen_core.specs.declared.views.ReaderState.TheVariants.{Idle, Aimed, Raised, Bounced, Guarded}
 use Rattle.gen_core.specs.Views.{newest_word}
 use Rattle.gen_core.specs.Good.{IsLawfulCommit}
-use Rattle.gen_core.specs.Conditions.{IsUnder}
+use Rattle.gen_core.specs.Conditions.{IsUnder, MayLoadWord}
 use Rattle.gen_core.specs.Events.{aims, with_state, sees, found_state}
 use Rattle.word_arena.specs.ProofsForGuards.{in_image, image-entry}
 use Rattle.word_arena.specs.Ruled.{IsAim, IsAimOf, Slot, reader_of, ToldLoadRoot, ToldLoadNewest, told_raise, ToldLoadWord, first_of, image_of, number_of, IsPost, IsWatch, IsGuard, IsLater}
@@ -150,6 +150,23 @@ module _ {bits : ℕ} {arena : TableId} {sizes : Sizes} {hold word : ℕ} {z : T
 
     pub place-inside : (p : ℕ) → p ≡ place bits sizes.buffers sizes.words (length (m ref)) ref i → p < arena.words
     place-inside p is = let lt = place-below the_entry i inside in omega (arith, lt, is, arena-words)
+
+    -- it may load the width, and the word
+    pub may_load_width : (p : ℕ) → p ≡ base sizes.buffers sizes.words (buffer_of bits ref) → MayLoadWord r p
+    may_load_width p is = record {
+      number = number_of r;
+      image = image_of r;
+      under = under;
+      word = (ref, m ref, in_image (image_of r) ref some, inr (is ∙ (λ k. base (sym g.post.same_sizes k).buffers (sym g.post.same_sizes k).words (buffer_of (sym view-bits k) ref))));
+    }
+
+    pub may_load_word : (p : ℕ) → p ≡ place bits sizes.buffers sizes.words (length (m ref)) ref i → MayLoadWord r p
+    may_load_word p is = record {
+      number = number_of r;
+      image = image_of r;
+      under = under;
+      word = (ref, m ref, in_image (image_of r) ref some, inl (i, inside, is ∙ (λ k. place (sym view-bits k) (sym g.post.same_sizes k).buffers (sym g.post.same_sizes k).words (length (m ref)) ref i)));
+    }
 
     -- the width that was found
     pub width_found : {slots p found : ℕ} {me' : Me Slot View} → p ≡ base sizes.buffers sizes.words (buffer_of bits ref) → ToldLoadWord (step slots p 0 0 none) me found me' → found ≡ length (m ref)

@@ -17,14 +17,13 @@ use Rattle.gen_core.specs.declared.views.WriterView.{WriterView}
 use Rattle.gen_core.specs.Views.{open_holds, oldest_in, oldest_of, floor_of, last_number, last_image, active_width, active_in}
 use Rattle.gen_core.specs.Work.{writer_records, stored_by, stored_in, whole_by}
 use Rattle.gen_core.specs.Good.{GoodView}
-use Rattle.gen_core.specs.Events.{closed, stopped, freed}
+use Rattle.gen_core.specs.Events.{freed}
 use Rattle.gen_core.proofs.GoodViews.{floor-last}
 use Rattle.gen_core.proofs.Holds.{oldest-rises}
-use Rattle.std.specs.Prelude.{All, AllPairs}
+use Rattle.std.specs.Prelude.{AllPairs}
 use Rattle.gen_core.specs.Good.{IsBefore}
-use Rattle.arena_api.specs.Works.{Hold, Buffer as ApiBuffer, WorkView, oldest_of as api_oldest}
+use Rattle.arena_api.specs.Works.{Hold, oldest_of as api_oldest}
 use Rattle.arena_api.specs.Generations.{LetsGo, freed_below, Reclaims, reclaimed}
-use Rattle.arena_api.specs.declared.answers.Oldest.{Oldest}
 use Rattle.word_arena.specs.Knows.{api_hold, api_buffer, view_of}
 use Rattle.word_arena.specs.ProofsForWork.{length-holds}
 use Rattle.word_arena.specs.WriterSteps.{without_oldest, ClosesUnused, let_go, tag_below, WithBuffersOf, FreesOne, FreesBelow, FreesUnused}

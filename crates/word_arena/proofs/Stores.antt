@@ -1,5 +1,5 @@
 -- The steps of a work are the writer's steps on words.
-use Rattle.std.proofs.Common.{◌≡◌, ◌≢◌, ◌⊎◌, inl, inr, ℕ, ◌+◌, ◌-◌, ◌*◌, ◌<◌, ◌≤◌, [], ◌∷◌, ◌++◌, length, get_or, set, Option, Some, None, true, false, cond, ◌&&◌, refl, sym, ap, ◌∙◌, arith, length-drop, length-append, true≢false, ne_eqb, eq-eqb}
+use Rattle.std.proofs.Common.{◌≡◌, inl, inr, ℕ, ◌+◌, ◌*◌, ◌<◌, [], ◌∷◌, ◌++◌, length, get_or, set, Option, Some, None, true, cond, refl, sym, ap, ◌∙◌, arith, length-drop, length-append, true≢false, ne_eqb, eq-eqb}
 use Rattle.std.specs.Prelude.{slice_get, All, option_and_then}
 use Rattle.std.specs.Option.{unwrap_or}
 use Rattle.std.proofs.lemmas.Bool.{cases_eq}

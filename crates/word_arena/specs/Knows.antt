@@ -1,5 +1,5 @@
 -- The work that a writer's view is.
-use Rattle.std.specs.Prelude.{◌*◌, ◌≡◌, ℕ, ◌+◌, ◌<◌, ◌≤◌, List, [], ◌∷◌, map, set, slice_get, Option, Some, None, ◌&&◌}
+use Rattle.std.specs.Prelude.{◌*◌, ◌≡◌, ℕ, ◌+◌, ◌<◌, ◌≤◌, List, [], map, set, slice_get, Option, Some, None}
 use Rattle.std.specs.Option.{unwrap_or}
 use Rattle.atomic_table.specs.Table.{Me}
 use Rattle.atomic_table.specs.Seated.{TableId}
@@ -19,10 +19,12 @@ use Rattle.gen_core.specs.declared.views.View.TheVariants.{Writer}
 use Rattle.gen_core.specs.declared.views.WriterView.{WriterView}
 use Rattle.gen_core.specs.Views.{floor_of, last_number, open_holds}
 use Rattle.gen_core.specs.Work.{work_at, stored_by}
+use Rattle.gen_core.specs.Events.{opening_view}
 use Rattle.arena_api.specs.Works.{WorkView, Hold, Tag as ApiTag, Buffer as ApiBuffer}
 use Rattle.arena_api.specs.Calls.{IsWithinLimits}
 use Rattle.word_arena.specs.Ruled.{Slot, writer_of, api_sizes}
 use Rattle.gen_core.specs.Good.{GoodView}
+use Rattle.word_arena.specs.declared.config.Config.{Config}
 
 abbrev pub api_tag : Tag → ApiTag
 api_tag t = record { generation = t.generation; commit = t.commit }
@@ -82,6 +84,26 @@ pub record IsDesk (bits : ℕ) (arena : TableId) (sizes : Sizes) (buffers : List
   pub calm : (writer_of me.0).queue.pending ≡ Nothing
   pub good : GoodView (writer_of me.0)
   pub entries : StoresEntries (writer_of me.0)
+
+-- the settings of an arena, as the core's sizes
+abbrev pub core_sizes : ℕ → Config → Sizes
+core_sizes bits config = record {
+  offset_bits = bits;
+  buffers = config.buffers;
+  words = config.words;
+  shape = config.shape;
+  commit_limit = config.limits.commits;
+  generation_limit = config.limits.generations;
+}
+
+-- the writer's seat at the opening, and what goes with it
+pub record IsToken (bits : ℕ) (sizes : Sizes) (buffers : List Buffer) (z : TableId) (me : Me Slot View) : Type 0 where
+  pub is : me ≡ (Writer (opening_view sizes), [])
+  pub same_buffers : buffers ≡ (opening_view sizes).buffers
+  pub words : z.words ≡ size_of sizes.buffers sizes.words
+  pub same_bits : sizes.offset_bits ≡ bits
+  pub limits : IsWithinLimits bits (api_sizes sizes)
+  pub product : sizes.buffers * sizes.words ≤ 67108864
 
 -- buffers by number
 abbrev pub buffers_by : List Buffer → ℕ → ApiBuffer

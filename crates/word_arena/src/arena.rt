@@ -1,9 +1,11 @@
 //! The table, and the writer's seat before there is a writer.
-ghost use Rattle.std.specs.Prelude.{◌≡◌, ◌^◌, ◌<◌, ◌≤◌, ◌+◌, ◌*◌, [], IfOk, length};
-ghost use Rattle.gen_core.specs.declared.views.View.TheVariants.{Writer};
-ghost use Rattle.gen_core.specs.Events.{opening_view, opening_words, MayOpen};
-ghost use Rattle.image_base.specs.Places.{size_of};
+ghost use Rattle.std.specs.Prelude.{◌≡◌, ◌^◌, ◌<◌, ◌≤◌, ◌+◌, ◌*◌, IfOk, length};
+ghost use Rattle.entry_ref.specs.References.{buffer_limit, offset_limit};
+ghost use Rattle.gen_core.specs.Events.{opening_view, opening_words};
+ghost use Rattle.word_arena.specs.Ruled.{writer_of};
+ghost use Rattle.word_arena.specs.Knows.{IsToken, core_sizes};
 
+use crate::config::Config;
 use crate::rule::{Place, Words};
 use atomic_table::Table;
 use gen_core::{Buffer, Sizes};
@@ -15,12 +17,13 @@ pub struct Arena<const OFFSET_BITS: u32, L: Layout> {
     pub(crate) table: Words<L>,
 }
 
-/// The writer's seat.
+/// The writer's seat, at the opening.
 #[derive(Drop)]
-pub struct Token {
+pub struct Token<const OFFSET_BITS: u32> {
     pub(crate) sizes: Sizes,
     pub(crate) buffers: Vec<Buffer>,
     pub(crate) place: Place,
+    ghost stands: { IsToken OFFSET_BITS sizes buffers.items place.table_id place.me },
 }
 
 /// Every word is 0, but the counts of holds 1 to 15, which are closed.
@@ -38,18 +41,38 @@ fn opening_words(alloc: Global, sizes: &Sizes) -> Result<Vec<u64>, AllocError>
     Ok(words)
 }
 
+fn sizes_of<const OFFSET_BITS: u32>(config: &Config) -> Sizes
+    ensures { result ≡ core_sizes OFFSET_BITS config.now }
+{
+    Sizes {
+        offset_bits: u64::from(OFFSET_BITS),
+        buffers: u64::from(config.buffers),
+        words: u64::from(config.words),
+        shape: u64::from(config.shape),
+        commit_limit: u64::from(config.limits.commits),
+        generation_limit: config.limits.generations,
+    }
+}
+
 impl<const OFFSET_BITS: u32, L: Layout> Arena<OFFSET_BITS, L> {
-    /// Commit 0, which has no record.
-    pub fn create(alloc: Global, sizes: Sizes) -> Result<(Arena<OFFSET_BITS, L>, Token), AllocError>
-        requires may { MayOpen sizes }
-        requires product { sizes.buffers * sizes.words ≤ 67108864 }
+    /// Commit 0, which has no record, at generation 0 on hold 0, with all buffers free.
+    pub fn create(
+        alloc: Global,
+        config: Config,
+    ) -> Result<(Arena<OFFSET_BITS, L>, Token<OFFSET_BITS>), AllocError>
+        requires some_buffers { 1 ≤ config.buffers }
+        requires few_buffers { config.buffers < buffer_limit OFFSET_BITS }
+        requires some_words { 8192 ≤ config.words }
+        requires few_words { config.words ≤ 65536 }
+        requires offsets { config.words ≤ offset_limit OFFSET_BITS }
+        requires product { config.buffers * config.words ≤ 67108864 }
+        requires generations { config.limits.generations < 2 ^ 48 }
         ensures own { IfOk result (λ r. r.1.place.table_id ≡ r.0.table.shared.table_id) }
-        ensures words { IfOk result (λ r. r.0.table.shared.table_id.words ≡ size_of sizes.buffers sizes.words) }
-        ensures view { IfOk result (λ r. r.1.place.me ≡ (Writer (opening_view sizes), [])) }
-        ensures sizes { IfOk result (λ r. r.1.sizes ≡ sizes) }
-        ensures buffers { IfOk result (λ r. r.1.buffers.items ≡ (opening_view sizes).buffers) }
+        ensures sizes { IfOk result (λ r. r.1.sizes ≡ core_sizes OFFSET_BITS config) }
+        ensures view { IfOk result (λ r. writer_of r.1.place.me.0 ≡ opening_view (core_sizes OFFSET_BITS config)) }
     {
-        let buffers = vec![in alloc; Buffer::Free(None); sizes.buffers as usize]?;
+        let sizes = sizes_of::<OFFSET_BITS>(&config);
+        let buffers = vec![in alloc; Buffer::Free(None); config.buffers as usize]?;
         let words = opening_words(alloc, &sizes)?;
         let (table, place) = Table::of_words(alloc, words.as_slice(), &sizes)?;
         Ok((

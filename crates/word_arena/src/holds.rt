@@ -34,7 +34,7 @@ impl<'a, const OFFSET_BITS: u32, L: Layout> Writer<'a, OFFSET_BITS, L> {
         self.arena
             .table
             .shared
-            .store::<PutOnHold>(&mut self.place, 18 + at, 2);
+            .store::<PutOnHold<L>>(&mut self.place, 18 + at, 2);
         self.buffers[at] = Buffer::Held(width, tag);
     }
 
@@ -50,13 +50,13 @@ impl<'a, const OFFSET_BITS: u32, L: Layout> Writer<'a, OFFSET_BITS, L> {
             .arena
             .table
             .shared
-            .load::<Probe>(&mut self.place, 2 + hold);
+            .load::<Probe<L>>(&mut self.place, 2 + hold);
         if count == 0 {
             let word = (newest.generation + 1) * 65536 + u64::from(newest.hold);
             self.arena
                 .table
                 .shared
-                .store::<Morph>(&mut self.place, 1, word);
+                .store::<Morph<L>>(&mut self.place, 1, word);
             self.holds.renew(newest.generation + 1, self.last);
         }
         count
@@ -74,11 +74,11 @@ impl<'a, const OFFSET_BITS: u32, L: Layout> Writer<'a, OFFSET_BITS, L> {
         self.arena
             .table
             .shared
-            .fetch_sub::<Reopen>(&mut self.place, 2 + at, 1);
+            .fetch_sub::<Reopen<L>>(&mut self.place, 2 + at, 1);
         self.arena
             .table
             .shared
-            .store::<StoreNewest>(&mut self.place, 1, word);
+            .store::<StoreNewest<L>>(&mut self.place, 1, word);
         self.holds.append(newest.generation + 1, hold, self.last);
     }
 
@@ -125,7 +125,7 @@ impl<'a, const OFFSET_BITS: u32, L: Layout> Writer<'a, OFFSET_BITS, L> {
             .arena
             .table
             .shared
-            .compare_exchange::<Close>(&mut self.place, 2 + hold, 0, 1);
+            .compare_exchange::<Close<L>>(&mut self.place, 2 + hold, 0, 1);
         if count == 0 {
             self.holds.pop_oldest();
         }
@@ -160,7 +160,7 @@ impl<'a, const OFFSET_BITS: u32, L: Layout> Writer<'a, OFFSET_BITS, L> {
                 self.arena
                     .table
                     .shared
-                    .store::<FreeBuffer>(&mut self.place, 18 + at, 0);
+                    .store::<FreeBuffer<L>>(&mut self.place, 18 + at, 0);
                 self.buffers[at] = Buffer::Free(Some(tag));
             }
         }

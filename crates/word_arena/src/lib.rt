@@ -3,6 +3,7 @@
 
 mod arena;
 mod buffers;
+mod config;
 mod holds;
 mod plays;
 mod reader;
@@ -12,6 +13,7 @@ mod work;
 mod writer;
 
 pub use arena::{Arena, Token};
+pub use config::{Config, Limits};
 pub use reader::{Again, Aimed, Guarded, Reader};
 pub use steps::Steps;
 pub use work::Home;

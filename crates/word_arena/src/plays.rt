@@ -1,6 +1,6 @@
-//! What each step tells.
-ghost use Rattle.word_arena.specs.Ruled.{told_hand_out, told_width, told_store, told_publish, told_load_root, told_load_newest, told_raise, told_bounce, told_release, told_load_word, told_load_own, cut_left, cut_right, glued};
-ghost use Rattle.word_arena.specs.WriterHolds.{told_reopen, told_store_newest, told_morph, told_probe, told_close, told_hold, told_free};
+//! What each step tells its seat: the view after it, and the event of the core that it was.
+ghost use Rattle.word_arena.specs.Ruled.{cut_left, cut_right, glued};
+ghost use Rattle.word_arena.specs.PlayEvents.{plays_hand_out, plays_width, plays_store, plays_publish, plays_load_own, plays_hold, plays_free, plays_reopen, plays_store_newest, plays_morph, plays_probe, plays_close, plays_load_newest, plays_raise, plays_bounce, plays_load_root, plays_load_word, plays_release};
 ghost use Rattle.gen_core.specs.declared.views.View.TheVariants.{Reader};
 ghost use Rattle.gen_core.specs.Views.{spent};
 
@@ -9,22 +9,28 @@ use gen_core::View;
 use image_base::Layout;
 use std::marker::PhantomData;
 
-pub(crate) struct HandOut;
-
-impl Play<(), View> for HandOut {
-    ghost then = { told_hand_out };
+pub(crate) struct HandOut<L> {
+    layout: PhantomData<L>,
 }
 
-pub(crate) struct StoreWidth;
-
-impl Play<(), View> for StoreWidth {
-    ghost then = { told_width };
+impl<L: Layout> Play<(), View> for HandOut<L> {
+    ghost then = { plays_hand_out L.reaches L.lawful };
 }
 
-pub(crate) struct StoreWord;
+pub(crate) struct StoreWidth<L> {
+    layout: PhantomData<L>,
+}
 
-impl Play<(), View> for StoreWord {
-    ghost then = { told_store };
+impl<L: Layout> Play<(), View> for StoreWidth<L> {
+    ghost then = { plays_width L.reaches L.lawful };
+}
+
+pub(crate) struct StoreWord<L> {
+    layout: PhantomData<L>,
+}
+
+impl<L: Layout> Play<(), View> for StoreWord<L> {
+    ghost then = { plays_store L.reaches L.lawful };
 }
 
 pub(crate) struct Publish<L> {
@@ -32,7 +38,95 @@ pub(crate) struct Publish<L> {
 }
 
 impl<L: Layout> Play<(), View> for Publish<L> {
-    ghost then = { told_publish L.reaches L.lawful };
+    ghost then = { plays_publish L.reaches L.lawful };
+}
+
+pub(crate) struct LoadOwn<L> {
+    layout: PhantomData<L>,
+}
+
+impl<L: Layout> Play<(), View> for LoadOwn<L> {
+    ghost then = { plays_load_own L.reaches L.lawful };
+}
+
+pub(crate) struct PutOnHold<L> {
+    layout: PhantomData<L>,
+}
+
+impl<L: Layout> Play<(), View> for PutOnHold<L> {
+    ghost then = { plays_hold L.reaches L.lawful };
+}
+
+pub(crate) struct FreeBuffer<L> {
+    layout: PhantomData<L>,
+}
+
+impl<L: Layout> Play<(), View> for FreeBuffer<L> {
+    ghost then = { plays_free L.reaches L.lawful };
+}
+
+pub(crate) struct Reopen<L> {
+    layout: PhantomData<L>,
+}
+
+impl<L: Layout> Play<(), View> for Reopen<L> {
+    ghost then = { plays_reopen L.reaches L.lawful };
+}
+
+pub(crate) struct StoreNewest<L> {
+    layout: PhantomData<L>,
+}
+
+impl<L: Layout> Play<(), View> for StoreNewest<L> {
+    ghost then = { plays_store_newest L.reaches L.lawful };
+}
+
+pub(crate) struct Morph<L> {
+    layout: PhantomData<L>,
+}
+
+impl<L: Layout> Play<(), View> for Morph<L> {
+    ghost then = { plays_morph L.reaches L.lawful };
+}
+
+pub(crate) struct Probe<L> {
+    layout: PhantomData<L>,
+}
+
+impl<L: Layout> Play<(), View> for Probe<L> {
+    ghost then = { plays_probe L.reaches L.lawful };
+}
+
+pub(crate) struct Close<L> {
+    layout: PhantomData<L>,
+}
+
+impl<L: Layout> Play<(), View> for Close<L> {
+    ghost then = { plays_close L.reaches L.lawful };
+}
+
+pub(crate) struct LoadNewest<L> {
+    layout: PhantomData<L>,
+}
+
+impl<L: Layout> Play<(), View> for LoadNewest<L> {
+    ghost then = { plays_load_newest L.reaches L.lawful };
+}
+
+pub(crate) struct Raise<L> {
+    layout: PhantomData<L>,
+}
+
+impl<L: Layout> Play<(), View> for Raise<L> {
+    ghost then = { plays_raise L.reaches L.lawful };
+}
+
+pub(crate) struct Bounce<L> {
+    layout: PhantomData<L>,
+}
+
+impl<L: Layout> Play<(), View> for Bounce<L> {
+    ghost then = { plays_bounce L.reaches L.lawful };
 }
 
 pub(crate) struct LoadRoot<L> {
@@ -40,21 +134,26 @@ pub(crate) struct LoadRoot<L> {
 }
 
 impl<L: Layout> Play<(), View> for LoadRoot<L> {
-    ghost then = { told_load_root L.reaches L.lawful };
+    ghost then = { plays_load_root L.reaches L.lawful };
 }
 
-pub(crate) struct LoadWord;
-
-impl Play<(), View> for LoadWord {
-    ghost then = { told_load_word };
+pub(crate) struct LoadWord<L> {
+    layout: PhantomData<L>,
 }
 
-pub(crate) struct LoadOwn;
-
-impl Play<(), View> for LoadOwn {
-    ghost then = { told_load_own };
+impl<L: Layout> Play<(), View> for LoadWord<L> {
+    ghost then = { plays_load_word L.reaches L.lawful };
 }
 
+pub(crate) struct Release<L> {
+    layout: PhantomData<L>,
+}
+
+impl<L: Layout> Play<(), View> for Release<L> {
+    ghost then = { plays_release L.reaches L.lawful };
+}
+
+/// A new reader's seat, cut from the writer's.
 pub(crate) struct Cut;
 
 impl Split<View> for Cut {
@@ -63,76 +162,11 @@ impl Split<View> for Cut {
     ghost right = { cut_right };
 }
 
+/// A reader's seat, taken in.
 pub(crate) struct Glue;
 
 impl Join<View> for Glue {
     ghost both = { glued };
 
     ghost spent = { Reader spent };
-}
-
-pub(crate) struct LoadNewest;
-
-impl Play<(), View> for LoadNewest {
-    ghost then = { told_load_newest };
-}
-
-pub(crate) struct Raise;
-
-impl Play<(), View> for Raise {
-    ghost then = { told_raise };
-}
-
-pub(crate) struct Bounce;
-
-impl Play<(), View> for Bounce {
-    ghost then = { told_bounce };
-}
-
-pub(crate) struct Release;
-
-impl Play<(), View> for Release {
-    ghost then = { told_release };
-}
-
-pub(crate) struct PutOnHold;
-
-impl Play<(), View> for PutOnHold {
-    ghost then = { told_hold };
-}
-
-pub(crate) struct FreeBuffer;
-
-impl Play<(), View> for FreeBuffer {
-    ghost then = { told_free };
-}
-
-pub(crate) struct Reopen;
-
-impl Play<(), View> for Reopen {
-    ghost then = { told_reopen };
-}
-
-pub(crate) struct StoreNewest;
-
-impl Play<(), View> for StoreNewest {
-    ghost then = { told_store_newest };
-}
-
-pub(crate) struct Close;
-
-impl Play<(), View> for Close {
-    ghost then = { told_close };
-}
-
-pub(crate) struct Probe;
-
-impl Play<(), View> for Probe {
-    ghost then = { told_probe };
-}
-
-pub(crate) struct Morph;
-
-impl Play<(), View> for Morph {
-    ghost then = { told_morph };
 }

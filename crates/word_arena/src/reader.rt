@@ -1,9 +1,11 @@
 //! The readers, and their guards.
 ghost use Rattle.std.specs.Prelude.{take, drop, ◌%◌, ◌≡◌, ◌+◌, ◌*◌, ◌<◌, ◌≤◌, ◌^◌, ℕ, List, length, Some, slice_index, IfOk, IfErr};
 ghost use Rattle.image_base.specs.Images.{words_at};
+ghost use Rattle.image_base.specs.Places.{place};
 ghost use Rattle.gen_core.specs.Events.{with_state};
 ghost use Rattle.gen_core.specs.declared.views.ReaderState.TheVariants.{Idle};
 ghost use Rattle.word_arena.specs.Ruled.{reader_of, image_of, number_of, IsAimOf, IsLater, IsHigher, IsWatch, IsAim, IsGuard};
+ghost use Rattle.word_arena.specs.PlayEvents.{LoadsNewest, RaiseFinds, TryFinds};
 ghost use Rattle.image_base.specs.Records.{HasWord, word_at};
 
 use crate::arena::Arena;
@@ -55,6 +57,7 @@ pub struct Again<'a, const OFFSET_BITS: u32, L: Layout> {
 impl<'a, const OFFSET_BITS: u32, L: Layout> Reader<'a, OFFSET_BITS, L> {
     /// Aims at the newest hold.
     pub fn aim(self) -> Aimed<'a, OFFSET_BITS, L>
+        ensures loads { LoadsNewest L.reaches L.lawful self.entry.place.me result.place.me }
         ensures aims { IsAimOf (reader_of self.entry.place.me.0) (reader_of result.place.me.0) }
         ensures table { result.place.table_id ≡ self.entry.place.table_id }
     {
@@ -63,7 +66,7 @@ impl<'a, const OFFSET_BITS: u32, L: Layout> Reader<'a, OFFSET_BITS, L> {
             sizes,
             mut place,
         } = self;
-        let last = arena.table.shared.load::<LoadNewest>(&mut place, 1);
+        let last = arena.table.shared.load::<LoadNewest<L>>(&mut place, 1);
         let hold = last % 65536;
         Aimed {
             arena,
@@ -73,11 +76,13 @@ impl<'a, const OFFSET_BITS: u32, L: Layout> Reader<'a, OFFSET_BITS, L> {
         }
     }
 
-    /// Aims and raises: a guard of the last commit, or the reader again where the hold was closed meanwhile.
+    /// Aims and raises: a guard of the last commit exactly where the count that the raise found is even. Else the
+    /// reader again, since the hold was closed meanwhile.
     pub fn try_guard(self) -> Result<Guarded<'a, OFFSET_BITS, L>, Again<'a, OFFSET_BITS, L>>
         ensures ok { IfOk result (λ g. IsLater L.reaches L.lawful (reader_of self.entry.place.me.0) (reader_of g.place.me.0)) }
         ensures again { IfErr result (λ a. IsHigher (reader_of self.entry.place.me.0) (reader_of a.reader.place.me.0)) }
-        ensures odd { IfErr result (λ a. a.found % 2 ≡ 1) }
+        ensures even { IfOk result (λ g. (n : ℕ) × TryFinds L.reaches L.lawful self.entry.place.me n × (n % 2 ≡ 0)) }
+        ensures odd { IfErr result (λ a. TryFinds L.reaches L.lawful self.entry.place.me a.found × (a.found % 2 ≡ 1)) }
         ensures table { IfOk result (λ g. g.place.table_id ≡ self.entry.place.table_id) }
         ensures back { IfErr result (λ a. a.reader.place.table_id ≡ self.entry.place.table_id) }
     {
@@ -109,11 +114,13 @@ impl<'a, const OFFSET_BITS: u32, L: Layout> Reader<'a, OFFSET_BITS, L> {
 }
 
 impl<'a, const OFFSET_BITS: u32, L: Layout> Aimed<'a, OFFSET_BITS, L> {
-    /// A guard of the last commit, if the hold is open. Again exactly where the count that it found is odd.
+    /// A guard of the last commit, exactly where the count that the raise found is even. Else the reader again, which
+    /// has taken its 2 back.
     pub fn try_raise(self) -> Result<Guarded<'a, OFFSET_BITS, L>, Again<'a, OFFSET_BITS, L>>
         ensures ok { IfOk result (λ g. IsLater L.reaches L.lawful (reader_of self.entry.place.me.0) (reader_of g.place.me.0)) }
         ensures again { IfErr result (λ a. IsHigher (reader_of self.entry.place.me.0) (reader_of a.reader.place.me.0)) }
-        ensures odd { IfErr result (λ a. a.found % 2 ≡ 1) }
+        ensures even { IfOk result (λ g. (n : ℕ) × RaiseFinds L.reaches L.lawful self.entry.place.me n × (n % 2 ≡ 0)) }
+        ensures odd { IfErr result (λ a. RaiseFinds L.reaches L.lawful self.entry.place.me a.found × (a.found % 2 ≡ 1)) }
         ensures table { IfOk result (λ g. g.place.table_id ≡ self.entry.place.table_id) }
         ensures back { IfErr result (λ a. a.reader.place.table_id ≡ self.entry.place.table_id) }
     {
@@ -124,7 +131,10 @@ impl<'a, const OFFSET_BITS: u32, L: Layout> Aimed<'a, OFFSET_BITS, L> {
             mut place,
         } = self;
         let word = (2 + hold) as usize;
-        let count = arena.table.shared.fetch_add::<Raise>(&mut place, word, 2);
+        let count = arena
+            .table
+            .shared
+            .fetch_add::<Raise<L>>(&mut place, word, 2);
         if count % 2 == 0 {
             let found = arena.table.shared.load::<LoadRoot<L>>(&mut place, 0);
             return Ok(Guarded {
@@ -135,7 +145,10 @@ impl<'a, const OFFSET_BITS: u32, L: Layout> Aimed<'a, OFFSET_BITS, L> {
                 place,
             });
         }
-        arena.table.shared.fetch_sub::<Bounce>(&mut place, word, 2);
+        arena
+            .table
+            .shared
+            .fetch_sub::<Bounce<L>>(&mut place, word, 2);
         let reader = Reader {
             arena,
             sizes,
@@ -175,12 +188,33 @@ impl<'a, const OFFSET_BITS: u32, L: Layout> Guarded<'a, OFFSET_BITS, L> {
         arena
             .table
             .shared
-            .fetch_sub::<Release>(&mut place, (2 + hold) as usize, 2);
+            .fetch_sub::<Release<L>>(&mut place, (2 + hold) as usize, 2);
         Reader {
             arena,
             sizes,
             place,
         }
+    }
+
+    // Where a word of a record stands, by the width that its buffer tells.
+    fn place_of_word(&mut self, entry: EntryRef<OFFSET_BITS>, i: u32) -> u64
+        requires { HasWord (words_at (image_of (reader_of self.old.place.me.0))) entry i }
+        ensures place { result ≡ place OFFSET_BITS self.old.sizes.buffers self.old.sizes.words (length (words_at (image_of (reader_of self.old.place.me.0)) entry.entry)) entry.entry i }
+        ensures same { self.new ≡ self.old }
+    {
+        let first = 18 + self.sizes.buffers + u64::from(entry.buffer()) * self.sizes.words;
+        let width = self
+            .arena
+            .table
+            .shared
+            .load::<LoadWord<L>>(&mut self.place, first as usize) as u32;
+        place_of(
+            self.sizes.buffers as u32,
+            self.sizes.words as u32,
+            width,
+            entry,
+            i,
+        )
     }
 }
 
@@ -196,23 +230,11 @@ impl<'a, const OFFSET_BITS: u32, L: Layout> Frozen<OFFSET_BITS> for Guarded<'a, 
         ensures value { result ≡ word_at (⟦<Guarded<'a, OFFSET_BITS, L> as Frozen<OFFSET_BITS>>⟧.records self.old) entry.entry i }
         ensures same { self.new ≡ self.old }
     {
-        let first = 18 + self.sizes.buffers + u64::from(entry.buffer()) * self.sizes.words;
-        let width = self
-            .arena
-            .table
-            .shared
-            .load::<LoadWord>(&mut self.place, first as usize) as u32;
-        let place = place_of(
-            self.sizes.buffers as u32,
-            self.sizes.words as u32,
-            width,
-            entry,
-            i,
-        );
+        let place = self.place_of_word(entry, i);
         self.arena
             .table
             .shared
-            .load::<LoadWord>(&mut self.place, place as usize)
+            .load::<LoadWord<L>>(&mut self.place, place as usize)
     }
 
     fn read(&mut self, entry: EntryRef<OFFSET_BITS>, first: u32, into: &mut [u64])
@@ -221,8 +243,16 @@ impl<'a, const OFFSET_BITS: u32, L: Layout> Frozen<OFFSET_BITS> for Guarded<'a, 
         ensures words { into.new ≡ take (length into.old) (drop first (⟦<Guarded<'a, OFFSET_BITS, L> as Frozen<OFFSET_BITS>>⟧.records self.old entry.entry)) }
         ensures same { self.new ≡ self.old }
     {
+        if into.is_empty() {
+            return;
+        }
+        let place = self.place_of_word(entry, first);
         for i in 0..into.len() {
-            into[i] = self.word(entry, first + i as u32);
+            into[i] = self
+                .arena
+                .table
+                .shared
+                .load::<LoadWord<L>>(&mut self.place, place as usize + i);
         }
     }
 

@@ -56,12 +56,12 @@ impl<'a, const OFFSET_BITS: u32, L: Layout> Writer<'a, OFFSET_BITS, L> {
         self.arena
             .table
             .shared
-            .store::<HandOut>(&mut self.place, 18 + at, 1);
+            .store::<HandOut<L>>(&mut self.place, 18 + at, 1);
         let first = 18 + self.sizes.buffers + u64::from(buffer) * self.sizes.words;
         self.arena
             .table
             .shared
-            .store::<StoreWidth>(&mut self.place, first as usize, u64::from(width));
+            .store::<StoreWidth<L>>(&mut self.place, first as usize, u64::from(width));
         self.buffers[at] = Buffer::Active(u64::from(width), last);
     }
 }
@@ -93,7 +93,7 @@ impl<'a, const OFFSET_BITS: u32, L: Layout> Work<OFFSET_BITS> for Writer<'a, OFF
         self.arena
             .table
             .shared
-            .store::<StoreWord>(&mut self.place, place as usize, word);
+            .store::<StoreWord<L>>(&mut self.place, place as usize, word);
     }
 
     fn put(&mut self, entry: EntryRef<OFFSET_BITS>, width: u32, words: &[u64])

@@ -1,14 +1,14 @@
 //! The one writer.
 ghost use Rattle.std.specs.Prelude.{take, drop, ◌≡◌, ◌+◌, ◌*◌, ◌^◌, ◌<◌, ◌≤◌, ℕ, length, [], IfOk, IfErr, slice_get, Some, All};
 ghost use Rattle.image_base.specs.Images.{words_at};
-ghost use Rattle.image_base.specs.Places.{size_of};
+ghost use Rattle.image_base.specs.Places.{place};
 ghost use Rattle.gen_core.specs.declared.views.View.TheVariants.{Writer as WriterSees};
 ghost use Rattle.gen_core.specs.Views.{IsCommit};
 ghost use Rattle.gen_core.specs.Work.{writer_records};
 ghost use Rattle.gen_core.specs.Events.{opening_view, with_reader, newcomer, joined};
-ghost use Rattle.arena_api.specs.Calls.{IsWithinLimits};
-ghost use Rattle.word_arena.specs.Ruled.{api_sizes, writer_of, reader_of};
-ghost use Rattle.word_arena.specs.Knows.{IsDesk};
+ghost use Rattle.arena_api.specs.Calls.{IsFresh};
+ghost use Rattle.word_arena.specs.Ruled.{writer_of, reader_of};
+ghost use Rattle.word_arena.specs.Knows.{view_of, IsDesk};
 ghost use Rattle.image_base.specs.Records.{HasWord, word_at};
 
 use crate::arena::{Arena, Token};
@@ -41,16 +41,11 @@ pub struct NoSeat {
 
 impl<const OFFSET_BITS: u32, L: Layout> Arena<OFFSET_BITS, L> {
     /// The token is this arena's.
-    pub fn writer(&self, token: Token) -> Writer<'_, OFFSET_BITS, L>
-        requires own { token.place.table_id ≡ self.now.table.shared.table_id }
-        requires view { token.place.me ≡ (WriterSees (opening_view token.sizes), []) }
-        requires buffers { token.buffers.items ≡ (opening_view token.sizes).buffers }
-        requires words { self.now.table.shared.table_id.words ≡ size_of token.sizes.buffers token.sizes.words }
-        requires bits { token.sizes.offset_bits ≡ OFFSET_BITS }
-        requires limits { IsWithinLimits OFFSET_BITS (api_sizes token.sizes) }
-        requires product { token.sizes.buffers * token.sizes.words ≤ 67108864 }
-        ensures view { writer_of result.place.me.0 ≡ opening_view token.sizes }
+    pub fn writer(&self, token: Token<OFFSET_BITS>) -> Writer<'_, OFFSET_BITS, L>
+        requires { token.place.table_id ≡ self.now.table.shared.table_id }
+        ensures view { writer_of result.place.me.0 ≡ opening_view token.entry.sizes }
         ensures table { result.place.table_id ≡ self.now.table.shared.table_id }
+        ensures fresh { IsFresh (view_of result.place.table_id (writer_of result.place.me.0)) }
     {
         let Token {
             sizes,
@@ -104,7 +99,31 @@ impl<'a, const OFFSET_BITS: u32, L: Layout> Writer<'a, OFFSET_BITS, L> {
             .table
             .shared
             .join_seat::<Glue>(&mut self.place, place);
-        self.arena.table.shared.load::<LoadOwn>(&mut self.place, 0);
+        self.arena
+            .table
+            .shared
+            .load::<LoadOwn<L>>(&mut self.place, 0);
+    }
+
+    // Where a word of a record stands, by the width that its buffer tells.
+    fn place_of_word(&mut self, entry: EntryRef<OFFSET_BITS>, i: u32) -> u64
+        requires { HasWord (writer_records (writer_of self.old.place.me.0)) entry i }
+        ensures place { result ≡ place OFFSET_BITS self.old.sizes.buffers self.old.sizes.words (length (writer_records (writer_of self.old.place.me.0) entry.entry)) entry.entry i }
+        ensures same { self.new ≡ self.old }
+    {
+        let first = 18 + self.sizes.buffers + u64::from(entry.buffer()) * self.sizes.words;
+        let width = self
+            .arena
+            .table
+            .shared
+            .load::<LoadOwn<L>>(&mut self.place, first as usize) as u32;
+        place_of(
+            self.sizes.buffers as u32,
+            self.sizes.words as u32,
+            width,
+            entry,
+            i,
+        )
     }
 }
 
@@ -120,23 +139,11 @@ impl<'a, const OFFSET_BITS: u32, L: Layout> Frozen<OFFSET_BITS> for Writer<'a, O
         ensures value { result ≡ word_at (⟦<Writer<'a, OFFSET_BITS, L> as Frozen<OFFSET_BITS>>⟧.records self.old) entry.entry i }
         ensures same { self.new ≡ self.old }
     {
-        let first = 18 + self.sizes.buffers + u64::from(entry.buffer()) * self.sizes.words;
-        let width = self
-            .arena
-            .table
-            .shared
-            .load::<LoadOwn>(&mut self.place, first as usize) as u32;
-        let place = place_of(
-            self.sizes.buffers as u32,
-            self.sizes.words as u32,
-            width,
-            entry,
-            i,
-        );
+        let place = self.place_of_word(entry, i);
         self.arena
             .table
             .shared
-            .load::<LoadOwn>(&mut self.place, place as usize)
+            .load::<LoadOwn<L>>(&mut self.place, place as usize)
     }
 
     fn read(&mut self, entry: EntryRef<OFFSET_BITS>, first: u32, into: &mut [u64])
@@ -145,8 +152,16 @@ impl<'a, const OFFSET_BITS: u32, L: Layout> Frozen<OFFSET_BITS> for Writer<'a, O
         ensures words { into.new ≡ take (length into.old) (drop first (⟦<Writer<'a, OFFSET_BITS, L> as Frozen<OFFSET_BITS>>⟧.records self.old entry.entry)) }
         ensures same { self.new ≡ self.old }
     {
+        if into.is_empty() {
+            return;
+        }
+        let place = self.place_of_word(entry, first);
         for i in 0..into.len() {
-            into[i] = self.word(entry, first + i as u32);
+            into[i] = self
+                .arena
+                .table
+                .shared
+                .load::<LoadOwn<L>>(&mut self.place, place as usize + i);
         }
     }
 

@@ -57,7 +57,11 @@ fn field_in<'a>(fields: &[Field], bytes: &'a [u8]) -> (usize, &'a [u8])
 }
 
 /// The leaf at the front, with the attribute that it names.
-fn named_leaf_in<'a>(alloc: Global, fields: &[Field], bytes: &'a [u8]) -> Result<(Query, &'a [u8]), ReadError>
+fn named_leaf_in<'a>(
+    alloc: Global,
+    fields: &[Field],
+    bytes: &'a [u8],
+) -> Result<(Query, &'a [u8]), ReadError>
     requires { length fields.now < 2 ^ 32 }
     ensures { Finds (λ found. (tree_of found.0, found.1.now)) result (named_leaf (field_front fields.now bytes.entry.now)) }
 {

@@ -9,4 +9,4 @@ pub returns : goal.returns
 unfolding form_bytes
 returns c =
     rw (← c.kind_byte.ensures, ← c.type_byte.ensures) (formed c.args.out.now.items _ _ _ c.kind_byte.result c.type_byte.result
-      c.in_ok-extend_from_slice.ensures.items c.in_ok-push.ensures.items c.in_ok-push-2.ensures.items)
+    c.in_ok-extend_from_slice.ensures.items c.in_ok-push.ensures.items c.in_ok-push-2.ensures.items)

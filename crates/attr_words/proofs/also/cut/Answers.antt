@@ -1,7 +1,7 @@
-use Rattle.std.proofs.Common.{◌≡◌, ◌≤◌, ◌+◌, ◌∙◌, ◌==◌, ap, sym, subst, map, length, arith}
-use Rattle.std.specs.List.{AllByRecursion, slice_split}
+use Rattle.std.proofs.Common.{◌+◌, ◌∙◌, ◌==◌, ap, sym, subst, map, length, arith}
+use Rattle.std.specs.List.{AllByRecursion}
 use Rattle.std.proofs.lemmas.Result.{IfOk-weaker}
-use Rattle.attr_words.specs.Also.{EndsBefore, placed, span}
+use Rattle.attr_words.specs.Also.{EndsBefore, span}
 use Rattle.attr_words.proofs.PieceLemmas.{placed_end, split_span}
 use Rattle.attr_words.proofs.also.cut.Goals as goal
 

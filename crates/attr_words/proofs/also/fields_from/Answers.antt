@@ -4,7 +4,7 @@ use Rattle.std.specs.List.{AllByRecursion}
 use Rattle.std.proofs.lemmas.Result.{err_from_is_err_and}
 use Rattle.list_facts.proofs.Places.{drop-read}
 use Rattle.attr_types.specs.declared.field.Field.{Field}
-use Rattle.attr_words.specs.Also.{EndsBefore, Piece, piece_of, next_field, fields_from}
+use Rattle.attr_words.specs.Also.{EndsBefore, piece_of, fields_from}
 use Rattle.attr_words.specs.Settings.{Says}
 use Rattle.attr_words.specs.declared.also.Part.{Part}
 use Rattle.attr_words.proofs.FieldsLemmas.{fields_stopped, fields_next, fields_end}

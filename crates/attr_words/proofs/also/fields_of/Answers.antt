@@ -1,4 +1,4 @@
-use Rattle.std.proofs.Common.{◌≡◌, ◌≤◌, ◌<◌, ◌+◌, ◌^◌, ◌∙◌, ap, sym, subst, map, length, arith, string_bytes}
+use Rattle.std.proofs.Common.{◌≤◌, ◌+◌, ap, sym, subst, map, length, arith}
 use Rattle.std.specs.List.{AllByRecursion}
 use Rattle.attr_words.specs.Also.{EndsBefore, piece_of}
 use Rattle.attr_words.proofs.PieceLemmas.{ends_weaker}

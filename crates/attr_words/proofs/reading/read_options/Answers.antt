@@ -24,9 +24,11 @@ returns-in_ok-options_in-in-Ok c =
     let is = c.in_ok-command.ensures in
     let found = rows_of (found_of c.in-Ok.matches) in
     let rows = rows_are a is line found c.in-Ok.ensures.matches in
-    let options = c.in_ok-options_in-in-Ok.field-0 in
-    (taken a is line c.in-Ok.ensures.kinds, subst (λ (r : List Row). options_said options ≡ said_by r) rows
-    c.in_ok-options_in-in-Ok.ensures)
+    let options = c.in_ok-options_in-in-Ok.field-0 in (
+      taken a is line c.in-Ok.ensures.kinds,
+      subst (λ (r : List Row). options_said options ≡ said_by r) rows
+          c.in_ok-options_in-in-Ok.ensures,
+    )
 
 pub returns-in-Err : goal.returns-in-Err
 returns-in-Err c =

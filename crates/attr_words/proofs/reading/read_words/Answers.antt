@@ -1,8 +1,5 @@
-use Rattle.std.proofs.Common.{◌≡◌, ◌∙◌, List, ℕ, map, string_bytes, ap, Err, Ok}
-use Rattle.std.proofs.lemmas.Result.{err_from_is_err_and, IfOk-weaker}
-use Rattle.attr_words.specs.Settings.{Says, given_by, settings_in, IsLawful}
-use Rattle.attr_words.specs.declared.settings.Settings.{Settings}
-use Rattle.attr_words.specs.declared.reading.WordsError.{WordsError}
+use Rattle.std.proofs.Common.{◌∙◌, ap, Err}
+use Rattle.std.proofs.lemmas.Result.{err_from_is_err_and}
 use Rattle.attr_words.proofs.SettingsLemmas.{settings_taken, settings_refused, lawful_by}
 use Rattle.attr_words.proofs.reading.read_words.Goals as goal
 

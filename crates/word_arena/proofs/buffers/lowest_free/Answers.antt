@@ -1,4 +1,4 @@
-use Rattle.std.proofs.Common.{◌≡◌, sym, ◌∙◌, arith}
+use Rattle.std.proofs.Common.{sym, ◌∙◌, arith}
 use Rattle.arena_api.proofs.Free.{free_count-some}
 use Rattle.word_arena.specs.Knows.{buffers_by}
 use Rattle.word_arena.proofs.buffers.lowest_free.Goals as goal

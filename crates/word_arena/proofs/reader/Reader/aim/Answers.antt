@@ -10,7 +10,10 @@ load-last-requires g c =
     (s.stands.post.own, low-inside s.stands.post _ (omega arith), load_newest_owed _ _ _ _ _ _ (reader_of s.place.me.0) s.stands.post.is s.stands.idle)
 
 pub invariant_of-result : goal.invariant_of-result
-invariant_of-result g c = record { stands = (aimed_post c.args.self.stands c.load-last.ensures.0 c.load-last.ensures.2).0 }
+invariant_of-result g c = record { stands = (aimed_post c.args.self.stands c.load-last.ensures.0 c.load-last.ensures.2.told).0 }
 
 pub returns-clause-aims : goal.returns-clause-aims
-returns-clause-aims g c = (aimed_post c.args.self.stands c.load-last.ensures.0 c.load-last.ensures.2).1
+returns-clause-aims g c = (aimed_post c.args.self.stands c.load-last.ensures.0 c.load-last.ensures.2.told).1
+
+pub returns-clause-loads : goal.returns-clause-loads
+returns-clause-loads g c = let e = c.load-last.ensures.2.event in record { st = _; found = c.load-last.result; j = e.0; event = e.1 }

@@ -1,4 +1,4 @@
-use Rattle.std.proofs.Common.{refl, ap, sym, ◌∙◌, arith}
+use Rattle.std.proofs.Common.{refl, ap, ◌∙◌, arith}
 use Rattle.gen_core.specs.declared.views.Sizes.{Sizes}
 use Rattle.word_arena.proofs.reader.Reader.guard.Goals as goal
 

@@ -1,6 +1,6 @@
-use Rattle.std.proofs.Common.{ap, subst, sym, ◌∙◌, ◌≡◌}
+use Rattle.std.proofs.Common.{subst, sym, ◌≡◌}
 use Rattle.gen_core.specs.declared.views.WriterView.{WriterView}
-use Rattle.arena_api.specs.Generations.{Advances, LetsGo, advanced}
+use Rattle.arena_api.specs.Generations.{Advances, advanced}
 use Rattle.word_arena.specs.Ruled.{writer_of}
 use Rattle.word_arena.specs.Knows.{view_of}
 use Rattle.word_arena.proofs.Advances.{advance-holds, advance-commits, advance-knows, advance-records, advance-shape, advance-alone}

@@ -1,4 +1,4 @@
-use Rattle.std.proofs.Common.{ap, sym, subst, arith, ◌∙◌, ◌≡◌, ◌+◌, ◌*◌, ◌<◌, ℕ, true, false, List}
+use Rattle.std.proofs.Common.{ap, sym, subst, arith, ◌∙◌, ◌≡◌, ℕ, true, false, List}
 use Rattle.gen_core.specs.declared.views.Sizes.{Sizes}
 use Rattle.gen_core.specs.declared.views.Buffer.{Buffer}
 use Rattle.gen_core.specs.declared.views.WriterView.{WriterView}

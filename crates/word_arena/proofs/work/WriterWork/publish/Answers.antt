@@ -33,7 +33,7 @@ invariant_of-self g c =
     let number : c.from.result ≡ length w.commits = let a = c.from.ensures in let b = s.stands.commits in let h = some-commit w s.stands.good in omega arith in
     let root : c.from-2.result ≡ c.args.root = c.from-2.ensures ∙ c.raw.ensures in
     let e = c.store.ensures in
-    let b = e.2 c.args.root (λ k. number k * 2 ^ 32 + root k) in
+    let b = e.2.told c.args.root (λ k. number k * 2 ^ 32 + root k) in
     let image = next_image g.L.Layout.reaches w c.args.root in
     record {
       stands = desk_after s.stands (published w image) e.0 b.is refl s.stands.same_buffers s.stands.same_holds
@@ -46,7 +46,7 @@ returns-clause-commit g c =
     let w : WriterView = writer_of s.place.me.0 in
     let number : c.from.result ≡ length w.commits = let a = c.from.ensures in let b = s.stands.commits in let h = some-commit w s.stands.good in omega arith in
     let root : c.from-2.result ≡ c.args.root = c.from-2.ensures ∙ c.raw.ensures in
-    let b = c.store.ensures.2 c.args.root (λ k. number k * 2 ^ 32 + root k) in
+    let b = c.store.ensures.2.told c.args.root (λ k. number k * 2 ^ 32 + root k) in
     let image = next_image g.L.Layout.reaches w c.args.root in
     subst (λ (v : WriterView). AddsCommit (view_of s.place.table_id w).commits (view_of s.place.table_id v).commits image) (sym (ap (λ (m : Me Slot View). writer_of m.0) b.is))
     (publish-adds w s.stands.good image s.place.table_id)
@@ -57,6 +57,6 @@ returns-clause-records g c =
     let w : WriterView = writer_of s.place.me.0 in
     let number : c.from.result ≡ length w.commits = let a = c.from.ensures in let b = s.stands.commits in let h = some-commit w s.stands.good in omega arith in
     let root : c.from-2.result ≡ c.args.root = c.from-2.ensures ∙ c.raw.ensures in
-    let b = c.store.ensures.2 c.args.root (λ k. number k * 2 ^ 32 + root k) in
+    let b = c.store.ensures.2.told c.args.root (λ k. number k * 2 ^ 32 + root k) in
     let image = next_image g.L.Layout.reaches w c.args.root in
     ap (λ (v : WriterView). writer_records v) (ap (λ (m : Me Slot View). writer_of m.0) b.is) ∙ publish-records w s.stands.good image s.place.table_id

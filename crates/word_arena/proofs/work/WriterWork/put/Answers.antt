@@ -1,4 +1,4 @@
-use Rattle.std.proofs.Common.{slice_index, subst, refl, ◌<◌, ◌≡◌, ℕ, Some, length, cond, sym, ap, ◌∙◌, arith, inl, inr, List}
+use Rattle.std.proofs.Common.{slice_index, subst, refl, ◌≡◌, ℕ, Some, length, cond, sym, ap, ◌∙◌, arith, inl, inr, List}
 use Rattle.std.proofs.lemmas.Bool.{cases_eq, eq-eqb, ne_eqb, and_from, and_right}
 use Rattle.entry_ref.specs.References.{buffer_of}
 use Rattle.image_base.specs.Records.{with_words}

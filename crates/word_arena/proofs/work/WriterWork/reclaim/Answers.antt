@@ -1,4 +1,4 @@
-use Rattle.std.proofs.Common.{ap, subst, sym, ◌∙◌, ◌≡◌, ◌≢◌, ℕ, true, false, eqb, eqb-true, eq-eqb, true≢false}
+use Rattle.std.proofs.Common.{ap, subst, sym, ◌∙◌, ◌≡◌, ℕ, eqb, eqb-true, eq-eqb, true≢false}
 use Rattle.generation_handler.specs.declared.HoldEntry.{HoldEntry}
 use Rattle.generation_handler.specs.Queues.{oldest_of as own_oldest}
 use Rattle.gen_core.specs.Views.{oldest_of}

@@ -1,4 +1,4 @@
-use Rattle.std.proofs.Common.{refl, ap, sym, subst, arith, ◌∙◌, ◌≡◌, ◌≢◌, ◌+◌, ◌*◌, ◌<◌, ℕ, Some}
+use Rattle.std.proofs.Common.{refl, ap, sym, subst, arith, ◌∙◌, ◌≡◌, ◌*◌, ◌<◌, ℕ, Some}
 use Rattle.std.specs.Prelude.{slice_get}
 use Rattle.entry_ref.specs.References.{buffer_of}
 use Rattle.atomic_table.specs.Table.{Me}
@@ -57,7 +57,7 @@ returns-clause-knows g c =
     let e = c.store.ensures in
     let active : active_in w.buffers (buffer_of w.sizes.offset_bits c.args.entry) ≡ Some width = core-active (slice_get w.buffers (buffer_of w.sizes.offset_bits c.args.entry)) may.word.entry.wide in
     let is : writer_of c.store.new.seat.me.0 ≡ stored w (place_in w.sizes width c.args.entry c.args.i) c.args.word =
-    ap (λ (m : Me Slot View). writer_of m.0) e.2.is ∙ ap (λ (q : ℕ). stored w q c.args.word) at in
+    ap (λ (m : Me Slot View). writer_of m.0) e.2.told.is ∙ ap (λ (q : ℕ). stored w q c.args.word) at in
     (λ k. view_of (e.0 k) (is k)) ∙ store-knows w c.args.entry c.args.i width c.args.word active may.word.entry may.word.inside s.place.table_id
 
 pub returns-clause-others : goal.returns-clause-others
@@ -76,7 +76,7 @@ returns-clause-others g c q other =
     let e = c.store.ensures in
     let active : active_in w.buffers (buffer_of w.sizes.offset_bits c.args.entry) ≡ Some width = core-active (slice_get w.buffers (buffer_of w.sizes.offset_bits c.args.entry)) may.word.entry.wide in
     let is : writer_of c.store.new.seat.me.0 ≡ stored w (place_in w.sizes width c.args.entry c.args.i) c.args.word =
-    ap (λ (m : Me Slot View). writer_of m.0) e.2.is ∙ ap (λ (q : ℕ). stored w q c.args.word) at in
+    ap (λ (m : Me Slot View). writer_of m.0) e.2.told.is ∙ ap (λ (q : ℕ). stored w q c.args.word) at in
     ap (λ (v : WriterView). writer_records v q) is ∙ records-others w c.args.entry width c.args.i c.args.word active may.word.entry may.word.inside q other
 
 pub invariant_of-self : goal.invariant_of-self
@@ -95,4 +95,4 @@ invariant_of-self g c =
     let e = c.store.ensures in
     let active : active_in w.buffers (buffer_of w.sizes.offset_bits c.args.entry) ≡ Some width = core-active (slice_get w.buffers (buffer_of w.sizes.offset_bits c.args.entry)) may.word.entry.wide in
     let kept = subst (λ q. StoresEntries (stored w q c.args.word)) (sym at) (entries-stored w c.args.entry c.args.i width c.args.word active may.word.entry may.word.inside s.stands.entries) in
-    record { stands = desk_after s.stands (stored w c.place_of-place.result c.args.word) e.0 e.2.is refl s.stands.same_buffers s.stands.same_holds s.stands.commits s.stands.readers s.stands.calm e.2.good kept }
+    record { stands = desk_after s.stands (stored w c.place_of-place.result c.args.word) e.0 e.2.told.is refl s.stands.same_buffers s.stands.same_holds s.stands.commits s.stands.readers s.stands.calm e.2.told.good kept }

@@ -1,22 +1,18 @@
-use Rattle.std.proofs.Common.{ap, sym, refl, subst, arith, ◌∙◌, ◌≡◌, ◌≢◌, ◌+◌, ◌*◌, ◌-◌, ◌<◌, ℕ, length, map, [], ◌∷◌, ◌++◌, set, List, Some}
-use mathlib.Core.List.{map-append}
+use Rattle.std.proofs.Common.{ap, sym, refl, subst, arith, ◌∙◌, ◌≡◌, ◌+◌, ◌<◌, ℕ, map, [], ◌∷◌, ◌++◌, List}
 use Rattle.atomic_table.specs.Table.{Me}
 use Rattle.generation_handler.specs.declared.HoldEntry.{HoldEntry}
-use Rattle.gen_core.specs.declared.views.Sizes.{Sizes}
 use Rattle.gen_core.specs.declared.views.OpenHold.{OpenHold}
 use Rattle.gen_core.specs.declared.views.View.{View}
-use Rattle.gen_core.specs.declared.views.View.TheVariants.{Writer}
 use Rattle.gen_core.specs.declared.views.WriterView.{WriterView}
-use Rattle.gen_core.specs.declared.views.Pending.TheVariants.{Nothing}
 use Rattle.gen_core.specs.Views.{open_holds, oldest_in}
-use Rattle.gen_core.specs.Good.{GoodView, HoldFits}
-use Rattle.gen_core.specs.Events.{probed, morphed, stopped, reopened, advanced, closed, coming_hold}
-use Rattle.gen_core.proofs.Holds.{at_newest, at_oldest}
+use Rattle.gen_core.specs.Good.{HoldFits}
+use Rattle.gen_core.specs.Events.{stopped, closed}
+use Rattle.gen_core.proofs.Holds.{at_oldest}
 use Rattle.word_arena.specs.Ruled.{Slot, writer_of}
 use Rattle.word_arena.specs.Knows.{own_hold}
-use Rattle.word_arena.proofs.AllowedHolds.{probe_owed, morph_owed, reopen_owed, store_newest_owed, close_owed, free_owed}
+use Rattle.word_arena.proofs.AllowedHolds.{close_owed}
 use Rattle.word_arena.proofs.Desks.{arena-words, desk_after}
-use Rattle.word_arena.proofs.OwnHolds.{own-newest, own-oldest, own-renewed, own-closed, closed-apart, own-length, own-older, own-popped}
+use Rattle.word_arena.proofs.OwnHolds.{own-oldest, own-length, own-older, own-popped}
 use Rattle.word_arena.proofs.writer.Writer.close_oldest.Goals as goal
 
 pub compare_exchange-count-requires : goal.compare_exchange-count-requires
@@ -44,7 +40,7 @@ invariant_of-self g c =
     let e : OpenHold = two.0 in
     let es : List OpenHold = two.1 in
     let older : w.queue.older ≡ e ∷ es = two.2 in
-    let b = c.compare_exchange-count.ensures.2.hit c.if-count-eq0.true e es older in
+    let b = c.compare_exchange-count.ensures.2.told.hit c.if-count-eq0.true e es older in
     let queue : map own_hold (open_holds (closed w es).queue) ≡ c.pop_oldest.new.self =
     own-popped c.pop_oldest.result _ _ (own_hold e) (ap (λ (o : List OpenHold). map own_hold (o ++ w.queue.newest ∷ [])) (sym older) ∙ s.stands.same_holds ∙ c.pop_oldest.ensures) in
     record {
@@ -56,7 +52,7 @@ pub invariant_of-self-else-count-eq0 : goal.invariant_of-self-else-count-eq0
 invariant_of-self-else-count-eq0 g c =
     let s = c.args.self.now in
     let w : WriterView = writer_of s.place.me.0 in
-    let b = c.compare_exchange-count.ensures.2.miss c.if-count-eq0.false in
+    let b = c.compare_exchange-count.ensures.2.told.miss c.if-count-eq0.false in
     record {
       stands = desk_after s.stands (stopped w c.compare_exchange-count.result) c.compare_exchange-count.ensures.0 b.is refl s.stands.same_buffers s.stands.same_holds s.stands.commits s.stands.readers
           s.stands.calm b.good (record { none = s.stands.entries.none });
@@ -64,7 +60,7 @@ invariant_of-self-else-count-eq0 g c =
 
 pub returns-then-count-eq0-clause-view : goal.returns-then-count-eq0-clause-view
 returns-then-count-eq0-clause-view g c =
-    let t = c.compare_exchange-count.ensures.2 in
+    let t = c.compare_exchange-count.ensures.2.told in
     record {
       hit = λ zero e es is. ap (λ (m : Me Slot View). writer_of m.0) (t.hit zero e es is).is;
       miss = λ ne. ap (λ (m : Me Slot View). writer_of m.0) (t.miss ne).is;

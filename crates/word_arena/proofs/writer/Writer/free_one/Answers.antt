@@ -1,22 +1,11 @@
-use Rattle.std.proofs.Common.{ap, sym, refl, subst, arith, ◌∙◌, ◌≡◌, ◌≢◌, ◌+◌, ◌*◌, ◌-◌, ◌<◌, ℕ, length, map, [], ◌∷◌, ◌++◌, set, List, Some}
-use mathlib.Core.List.{map-append}
+use Rattle.std.proofs.Common.{ap, sym, refl, subst, arith, ◌∙◌, ◌≡◌, ◌+◌, ◌<◌, ℕ, set, List, Some}
 use Rattle.atomic_table.specs.Table.{Me}
-use Rattle.generation_handler.specs.declared.HoldEntry.{HoldEntry}
 use Rattle.gen_core.specs.declared.views.Sizes.{Sizes}
-use Rattle.gen_core.specs.declared.views.OpenHold.{OpenHold}
 use Rattle.gen_core.specs.declared.views.View.{View}
-use Rattle.gen_core.specs.declared.views.View.TheVariants.{Writer}
 use Rattle.gen_core.specs.declared.views.WriterView.{WriterView}
-use Rattle.gen_core.specs.declared.views.Pending.TheVariants.{Nothing}
-use Rattle.gen_core.specs.Views.{open_holds, oldest_in}
-use Rattle.gen_core.specs.Good.{GoodView, HoldFits}
-use Rattle.gen_core.specs.Events.{probed, morphed, stopped, reopened, advanced, closed, coming_hold}
-use Rattle.gen_core.proofs.Holds.{at_newest, at_oldest}
 use Rattle.word_arena.specs.Ruled.{Slot, writer_of}
-use Rattle.word_arena.specs.Knows.{own_hold}
-use Rattle.word_arena.proofs.AllowedHolds.{probe_owed, morph_owed, reopen_owed, store_newest_owed, close_owed, free_owed}
+use Rattle.word_arena.proofs.AllowedHolds.{free_owed}
 use Rattle.word_arena.proofs.Desks.{arena-words, desk_after}
-use Rattle.word_arena.proofs.OwnHolds.{own-newest, own-oldest, own-renewed, own-closed, closed-apart, own-length, own-older, own-popped}
 use Rattle.std.specs.Prelude.{slice_get}
 use Rattle.gen_core.specs.declared.views.Buffer.{Buffer}
 use Rattle.gen_core.specs.declared.views.Buffer.TheVariants.{Free}
@@ -46,7 +35,7 @@ invariant_of-self g c =
     let b : ℕ = c.args.buffer in
     let list : c.as_slice.result.now ≡ w.buffers = c.as_slice.ensures.value ∙ sym s.stands.same_buffers in
     let at = tag-found c.args.oldest (slice_get w.buffers b) c.in-Some.tag (ap (λ (l : List Buffer). unused_tag_in c.args.oldest l b) (sym list) ∙ sym c.in-Some.ensures) in
-    let told = c.store.ensures.2 b at.0 c.in-Some.tag refl at.1 in
+    let told = c.store.ensures.2.told b at.0 c.in-Some.tag refl at.1 in
     let buffers : (freed w b c.in-Some.tag).buffers ≡ set s.buffers.items b (Free (Some c.in-Some.tag)) = (λ k. set (s.stands.same_buffers k) b (Free (Some c.in-Some.tag))) in
     record {
       stands = desk_after s.stands (freed w b c.in-Some.tag) c.store.ensures.0 told.is refl buffers s.stands.same_holds s.stands.commits s.stands.readers s.stands.calm told.good
@@ -60,7 +49,7 @@ returns-in-Some-clause-view g c =
     let b : ℕ = c.args.buffer in
     let list : c.as_slice.result.now ≡ w.buffers = c.as_slice.ensures.value ∙ sym s.stands.same_buffers in
     let at = tag-found c.args.oldest (slice_get w.buffers b) c.in-Some.tag (ap (λ (l : List Buffer). unused_tag_in c.args.oldest l b) (sym list) ∙ sym c.in-Some.ensures) in
-    let told = c.store.ensures.2 b at.0 c.in-Some.tag refl at.1 in
+    let told = c.store.ensures.2.told b at.0 c.in-Some.tag refl at.1 in
     subst (FreesOne c.args.oldest b w) (sym (ap (λ (m : Me Slot View). writer_of m.0) told.is)) (frees-one w b at.0 c.args.oldest c.in-Some.tag at.1 at.2)
 
 pub returns-in-None-clause-view : goal.returns-in-None-clause-view

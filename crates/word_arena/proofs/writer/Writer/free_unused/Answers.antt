@@ -1,22 +1,9 @@
-use Rattle.std.proofs.Common.{ap, sym, refl, subst, arith, ◌∙◌, ◌≡◌, ◌≢◌, ◌+◌, ◌*◌, ◌-◌, ◌<◌, ℕ, length, map, [], ◌∷◌, ◌++◌, set, List, Some}
-use mathlib.Core.List.{map-append}
-use Rattle.atomic_table.specs.Table.{Me}
+use Rattle.std.proofs.Common.{ap, sym, refl, subst, arith, ◌∙◌, ℕ}
 use Rattle.generation_handler.specs.declared.HoldEntry.{HoldEntry}
 use Rattle.gen_core.specs.declared.views.Sizes.{Sizes}
-use Rattle.gen_core.specs.declared.views.OpenHold.{OpenHold}
-use Rattle.gen_core.specs.declared.views.View.{View}
-use Rattle.gen_core.specs.declared.views.View.TheVariants.{Writer}
 use Rattle.gen_core.specs.declared.views.WriterView.{WriterView}
-use Rattle.gen_core.specs.declared.views.Pending.TheVariants.{Nothing}
-use Rattle.gen_core.specs.Views.{open_holds, oldest_in}
-use Rattle.gen_core.specs.Good.{GoodView, HoldFits}
-use Rattle.gen_core.specs.Events.{probed, morphed, stopped, reopened, advanced, closed, coming_hold}
-use Rattle.gen_core.proofs.Holds.{at_newest, at_oldest}
-use Rattle.word_arena.specs.Ruled.{Slot, writer_of}
-use Rattle.word_arena.specs.Knows.{own_hold}
-use Rattle.word_arena.proofs.AllowedHolds.{probe_owed, morph_owed, reopen_owed, store_newest_owed, close_owed, free_owed}
-use Rattle.word_arena.proofs.Desks.{arena-words, desk_after}
-use Rattle.word_arena.proofs.OwnHolds.{own-newest, own-oldest, own-renewed, own-closed, closed-apart, own-length, own-older, own-popped}
+use Rattle.word_arena.specs.Ruled.{writer_of}
+use Rattle.word_arena.proofs.OwnHolds.{own-oldest}
 use Rattle.gen_core.specs.Views.{oldest_of}
 use Rattle.word_arena.specs.WriterSteps.{FreesBelow}
 use Rattle.word_arena.proofs.Reclaims.{frees-more, frees-all}

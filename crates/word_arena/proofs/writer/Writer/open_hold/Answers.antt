@@ -1,22 +1,18 @@
-use Rattle.std.proofs.Common.{ap, sym, refl, subst, arith, ◌∙◌, ◌≡◌, ◌≢◌, ◌+◌, ◌*◌, ◌-◌, ◌<◌, ℕ, length, map, [], ◌∷◌, ◌++◌, set, List, Some}
+use Rattle.std.proofs.Common.{ap, sym, refl, subst, arith, ◌∙◌, ◌≡◌, ◌+◌, ◌*◌, ◌<◌, map, [], ◌∷◌, ◌++◌, List}
 use mathlib.Core.List.{map-append}
 use Rattle.atomic_table.specs.Table.{Me}
 use Rattle.generation_handler.specs.declared.HoldEntry.{HoldEntry}
-use Rattle.gen_core.specs.declared.views.Sizes.{Sizes}
-use Rattle.gen_core.specs.declared.views.OpenHold.{OpenHold}
 use Rattle.gen_core.specs.declared.views.View.{View}
 use Rattle.gen_core.specs.declared.views.View.TheVariants.{Writer}
 use Rattle.gen_core.specs.declared.views.WriterView.{WriterView}
-use Rattle.gen_core.specs.declared.views.Pending.TheVariants.{Nothing}
-use Rattle.gen_core.specs.Views.{open_holds, oldest_in}
-use Rattle.gen_core.specs.Good.{GoodView, HoldFits}
-use Rattle.gen_core.specs.Events.{probed, morphed, stopped, reopened, advanced, closed, coming_hold}
-use Rattle.gen_core.proofs.Holds.{at_newest, at_oldest}
+use Rattle.gen_core.specs.Views.{open_holds}
+use Rattle.gen_core.specs.Good.{GoodView}
+use Rattle.gen_core.specs.Events.{reopened, advanced, coming_hold}
 use Rattle.word_arena.specs.Ruled.{Slot, writer_of}
 use Rattle.word_arena.specs.Knows.{own_hold}
-use Rattle.word_arena.proofs.AllowedHolds.{probe_owed, morph_owed, reopen_owed, store_newest_owed, close_owed, free_owed}
+use Rattle.word_arena.proofs.AllowedHolds.{reopen_owed, store_newest_owed}
 use Rattle.word_arena.proofs.Desks.{arena-words, desk_after}
-use Rattle.word_arena.proofs.OwnHolds.{own-newest, own-oldest, own-renewed, own-closed, closed-apart, own-length, own-older, own-popped}
+use Rattle.word_arena.proofs.OwnHolds.{own-newest, own-closed}
 use Rattle.generation_handler.specs.Queues.{has_hold}
 use Rattle.word_arena.proofs.writer.Writer.open_hold.Goals as goal
 
@@ -36,7 +32,7 @@ store-requires g c =
     let hold : c.newest-newest.result.hold ≡ w.queue.newest.hold = ap (λ (h : HoldEntry). h.hold) newest in
     let generation : c.newest-newest.result.generation ≡ w.queue.newest.generation = ap (λ (h : HoldEntry). h.generation) newest in
     let slots : s.place.me.1 ≡ [] = ap (λ (m : Me Slot View). m.1) s.stands.is in
-    let first = (c.fetch_sub.ensures.2 c.args.hold refl).is in
+    let first = (c.fetch_sub.ensures.2.told c.args.hold refl).is in
     let at : (c.newest-newest.result.generation + 1) * 65536 + c.from.result ≡ (w.queue.newest.generation + 1) * 65536 + c.args.hold =
     (λ k. (generation k + 1) * 65536 + c.from.ensures k) in
     (c.fetch_sub.ensures.0 ∙ s.stands.own, omega (arith, arena-words s.stands), store_newest_owed _ _ _ _ _ _ (reopened w c.args.hold) c.args.hold _ (first ∙ (λ k. (Writer (reopened w c.args.hold), slots k))) at refl)
@@ -55,9 +51,9 @@ invariant_of-self g c =
     let hold : c.newest-newest.result.hold ≡ w.queue.newest.hold = ap (λ (h : HoldEntry). h.hold) newest in
     let generation : c.newest-newest.result.generation ≡ w.queue.newest.generation = ap (λ (h : HoldEntry). h.generation) newest in
     let slots : s.place.me.1 ≡ [] = ap (λ (m : Me Slot View). m.1) s.stands.is in
-    let first = (c.fetch_sub.ensures.2 c.args.hold refl).is in
+    let first = (c.fetch_sub.ensures.2.told c.args.hold refl).is in
     let mid : writer_of c.fetch_sub.new.seat.me.0 ≡ reopened w c.args.hold = ap (λ (m : Me Slot View). writer_of m.0) first in
-    let b = c.store.ensures.2 c.args.hold (ap (λ (v : WriterView). v.queue.pending) mid) in
+    let b = c.store.ensures.2.told c.args.hold (ap (λ (v : WriterView). v.queue.pending) mid) in
     let queue : map own_hold (open_holds (advanced w c.args.hold).queue) ≡ c.append.new.self =
     map-append own_hold (open_holds w.queue) (coming_hold w c.args.hold ∷ [])
     ∙ (λ k. s.stands.same_holds k ++ record { generation = sym generation k + 1; hold = c.args.hold; first_commit = sym s.stands.commits k } ∷ [])
@@ -71,7 +67,7 @@ pub returns-clause-view : goal.returns-clause-view
 returns-clause-view g c =
     let s = c.args.self.now in
     let w : WriterView = writer_of s.place.me.0 in
-    let first = (c.fetch_sub.ensures.2 c.args.hold refl).is in
+    let first = (c.fetch_sub.ensures.2.told c.args.hold refl).is in
     let mid : writer_of c.fetch_sub.new.seat.me.0 ≡ reopened w c.args.hold = ap (λ (m : Me Slot View). writer_of m.0) first in
-    let b = c.store.ensures.2 c.args.hold (ap (λ (v : WriterView). v.queue.pending) mid) in
+    let b = c.store.ensures.2.told c.args.hold (ap (λ (v : WriterView). v.queue.pending) mid) in
     ap (λ (m : Me Slot View). writer_of m.0) b.is ∙ ap (λ (v : WriterView). advanced v c.args.hold) mid

@@ -1,4 +1,4 @@
-use Rattle.std.proofs.Common.{ap, sym, refl, subst, arith, ◌∙◌, ◌≡◌, ◌+◌, ◌*◌, ◌<◌, ℕ, length, set, List}
+use Rattle.std.proofs.Common.{ap, sym, refl, arith, ◌∙◌, ◌≡◌, ◌+◌, ◌<◌, ℕ, length, set, List}
 use Rattle.atomic_table.specs.Table.{Me}
 use Rattle.generation_handler.specs.declared.HoldEntry.{HoldEntry}
 use Rattle.gen_core.specs.declared.views.Sizes.{Sizes}
@@ -6,7 +6,7 @@ use Rattle.gen_core.specs.declared.views.Buffer.{Buffer}
 use Rattle.gen_core.specs.declared.views.Buffer.TheVariants.{Held}
 use Rattle.gen_core.specs.declared.views.View.{View}
 use Rattle.gen_core.specs.declared.views.WriterView.{WriterView}
-use Rattle.gen_core.specs.Events.{put_aside, tag_of}
+use Rattle.gen_core.specs.Events.{put_aside}
 use Rattle.gen_core.proofs.Frames.{active-inside}
 use Rattle.arena_api.specs.Works.{active_width}
 use Rattle.word_arena.specs.Ruled.{Slot, writer_of}
@@ -38,7 +38,7 @@ invariant_of-self g c =
     let b : ℕ = c.args.buffer in
     let width : ℕ = active_width (buffers_by w.buffers b) in
     let e = c.store.ensures in
-    let told = e.2 b width refl c.requires.active in
+    let told = e.2.told b width refl c.requires.active in
     let same : c.as_slice.result.now ≡ w.buffers = c.as_slice.ensures.value ∙ sym s.stands.same_buffers in
     let wide : width ≡ c.width_of-width.result = sym (c.width_of-width.ensures ∙ ap (λ (l : List Buffer). active_width (buffers_by l b)) same) in
     let newest = own-newest w.queue s.holds s.stands.same_holds in
@@ -53,4 +53,4 @@ returns-clause-view g c =
     let s = c.args.self.now in
     let w : WriterView = writer_of s.place.me.0 in
     let width : ℕ = active_width (buffers_by w.buffers c.args.buffer) in
-    ap (λ (m : Me Slot View). writer_of m.0) (c.store.ensures.2 c.args.buffer width refl c.requires.active).is
+    ap (λ (m : Me Slot View). writer_of m.0) (c.store.ensures.2.told c.args.buffer width refl c.requires.active).is

@@ -48,7 +48,7 @@ store-requires-2 g c =
     let slots : s.place.me.1 ≡ [] = ap (λ (m : Me Slot View). m.1) s.stands.is in (
       e.0 ∙ s.stands.own,
       omega (arith, low, here, arena-words s.stands),
-      width_owed _ _ _ _ _ _ (handed_out w b) b _ _ ((e.2 b refl).is ∙ (λ k. (Writer (handed_out w b), slots k))) at
+      width_owed _ _ _ _ _ _ (handed_out w b) b _ _ ((e.2.told b refl).is ∙ (λ k. (Writer (handed_out w b), slots k))) at
           (may-width w s.stands.good b (last_tag_in w.buffers b) c.from-2.result free some s.stands.calm),
     )
 
@@ -63,10 +63,10 @@ invariant_of-self g c =
     let size = s.stands.same_sizes in
     let at : 18 + s.sizes.buffers + c.from.result * s.sizes.words ≡ base w.sizes.buffers w.sizes.words b = λ k. base (sym size k).buffers (sym size k).words (c.from.ensures k) in
     let e = c.store.ensures in
-    let first = (e.2 b refl).is in
+    let first = (e.2.told b refl).is in
     let mid : writer_of c.store.new.seat.me.0 ≡ handed_out w b = ap (λ (m : Me Slot View). writer_of m.0) first in
     let f = c.store-2.ensures in
-    let second = f.2 b (at ∙ ap (λ (v : WriterView). base v.sizes.buffers v.sizes.words b) (sym mid)) in
+    let second = f.2.told b (at ∙ ap (λ (v : WriterView). base v.sizes.buffers v.sizes.words b) (sym mid)) in
     let v : WriterView = widened (handed_out w b) b c.from-2.result in
     let steps = two-steps w s.stands.good b (last_tag_in w.buffers b) c.from-2.result free some in
     let value : c.from-2.result ≡ c.from-3.result = c.from-2.ensures ∙ sym c.from-3.ensures in
@@ -90,8 +90,8 @@ returns-clause-view g c =
     let some : 0 < c.from-2.result = let h = c.requires.some in omega (arith, h, c.from-2.ensures) in
     let size = s.stands.same_sizes in
     let at : 18 + s.sizes.buffers + c.from.result * s.sizes.words ≡ base w.sizes.buffers w.sizes.words b = λ k. base (sym size k).buffers (sym size k).words (c.from.ensures k) in
-    let mid : writer_of c.store.new.seat.me.0 ≡ handed_out w b = ap (λ (m : Me Slot View). writer_of m.0) (c.store.ensures.2 b refl).is in
-    let second = c.store-2.ensures.2 b (at ∙ ap (λ (v : WriterView). base v.sizes.buffers v.sizes.words b) (sym mid)) in
+    let mid : writer_of c.store.new.seat.me.0 ≡ handed_out w b = ap (λ (m : Me Slot View). writer_of m.0) (c.store.ensures.2.told b refl).is in
+    let second = c.store-2.ensures.2.told b (at ∙ ap (λ (v : WriterView). base v.sizes.buffers v.sizes.words b) (sym mid)) in
     ap (λ (m : Me Slot View). writer_of m.0) second.is ∙ ap (λ (x : WriterView). widened x b c.from-2.result) mid
     ∙ two-steps w s.stands.good b (last_tag_in w.buffers b) c.from-2.result free some
     ∙ ap (λ (n : ℕ). given w b n (last_tag_in w.buffers b)) c.from-2.ensures

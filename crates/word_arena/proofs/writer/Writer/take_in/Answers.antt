@@ -26,7 +26,7 @@ load-requires g c =
     let r = c.args.reader in
     let v : WriterView = joined (writer_of s.place.me.0) (reader_of r.place.me.0) in
     let slots : s.place.me.1 ≡ [] = ap (λ (m : Me Slot View). m.1) s.stands.is in
-    (c.join_seat.ensures.0 ∙ s.stands.own, desk-some s.stands, load_own_owed _ _ _ _ _ _ v _ (c.join_seat.ensures.2 ∙ (λ k. (Writer v, slots k))))
+    (c.join_seat.ensures.0 ∙ s.stands.own, desk-some s.stands, load_own_owed _ _ _ _ _ _ v _ (c.join_seat.ensures.2 ∙ (λ k. (Writer v, slots k))) s.stands.calm)
 
 pub invariant_of-self : goal.invariant_of-self
 invariant_of-self g c =
@@ -36,4 +36,4 @@ invariant_of-self g c =
     let v : WriterView = joined w (reader_of r.place.me.0) in
     let j = c.join_seat.ensures in
     let l = c.load.ensures in
-    record { stands = desk_after s.stands v (l.0 ∙ j.0) (l.2.same ∙ j.2) refl s.stands.same_buffers s.stands.same_holds s.stands.commits s.stands.readers s.stands.calm (good-joined w (reader_of r.place.me.0) s.stands.good) (record { none = s.stands.entries.none }) }
+    record { stands = desk_after s.stands v (l.0 ∙ j.0) (l.2.told.same ∙ j.2) refl s.stands.same_buffers s.stands.same_holds s.stands.commits s.stands.readers s.stands.calm (good-joined w (reader_of r.place.me.0) s.stands.good) (record { none = s.stands.entries.none }) }

@@ -1,67 +1,36 @@
-use Rattle.std.proofs.Common.{arith, ap, subst, sym, ◌∙◌, ◌≡◌, ◌+◌, ◌*◌, ℕ}
-use Rattle.entry_ref.specs.References.{buffer_of}
+use Rattle.std.proofs.Common.{refl, ap, subst, sym, ◌∙◌, ◌≡◌, ◌<◌, ℕ, length, slice_index}
 use Rattle.atomic_table.specs.declared.shared.Seat.{Seat}
-use Rattle.image_base.specs.Places.{base, place, IsEntry}
+use Rattle.image_base.specs.Places.{place}
 use Rattle.gen_core.specs.declared.views.View.{View}
+use Rattle.gen_core.specs.Work.{writer_records}
 use Rattle.word_arena.specs.Ruled.{Slot, writer_of}
-use Rattle.word_arena.proofs.Guards.{seat_same}
-use Rattle.word_arena.proofs.Desks.{the_entry, base-below, place-inside, width_found, word_found, few-words, desk-prop}
-use Rattle.word_arena.proofs.Allowed.{load_own_owed}
 use Rattle.word_arena.specs.Knows.{IsDesk}
+use Rattle.word_arena.proofs.Guards.{seat_same}
+use Rattle.word_arena.proofs.Desks.{place-inside, word_found, desk-prop}
+use Rattle.word_arena.proofs.Allowed.{load_own_owed}
 use Rattle.word_arena.proofs.writer.WriterFrozen.word.Goals as goal
-
-pub load-width-requires : goal.load-width-requires
-load-width-requires g c =
-    let s = c.args.self.now in
-    let at : 18 + s.sizes.buffers + c.from.result * s.sizes.words ≡ base s.sizes.buffers s.sizes.words (buffer_of g.row.OFFSET_BITS c.args.entry) =
-    ap (λ (n : ℕ). 18 + s.sizes.buffers + n * s.sizes.words) (c.from.ensures ∙ c.buffer.ensures.value) in
-    (s.stands.own, base-below s.stands c.args.entry c.args.i c.requires _ at, load_own_owed _ _ _ _ _ _ _ _ s.stands.is)
-
-pub overflow_cast-width : goal.overflow_cast-width
-overflow_cast-width g c =
-    let s = c.args.self.now in
-    let at : 18 + s.sizes.buffers + c.from.result * s.sizes.words ≡ base s.sizes.buffers s.sizes.words (buffer_of g.row.OFFSET_BITS c.args.entry) =
-    ap (λ (n : ℕ). 18 + s.sizes.buffers + n * s.sizes.words) (c.from.ensures ∙ c.buffer.ensures.value) in
-    let width = width_found s.stands c.args.entry c.args.i c.requires at c.load-width.ensures.2 in
-    let e = (the_entry s.stands c.args.entry c.args.i c.requires).last in
-    let few = few-words s.stands in
-    omega arith
-
-pub place_of-place-requires : goal.place_of-place-requires
-place_of-place-requires g c =
-    let s = c.args.self.now in
-    let at : 18 + s.sizes.buffers + c.from.result * s.sizes.words ≡ base s.sizes.buffers s.sizes.words (buffer_of g.row.OFFSET_BITS c.args.entry) =
-    ap (λ (n : ℕ). 18 + s.sizes.buffers + n * s.sizes.words) (c.from.ensures ∙ c.buffer.ensures.value) in
-    let width = width_found s.stands c.args.entry c.args.i c.requires at c.load-width.ensures.2 in
-    let h = c.requires in
-    (omega arith, (subst (λ (n : ℕ). IsEntry g.row.OFFSET_BITS s.sizes.buffers s.sizes.words n c.args.entry) (sym width) (the_entry s.stands c.args.entry c.args.i c.requires), omega arith))
 
 pub load-requires : goal.load-requires
 load-requires g c =
-    let s = c.args.self.now in
-    let at : 18 + s.sizes.buffers + c.from.result * s.sizes.words ≡ base s.sizes.buffers s.sizes.words (buffer_of g.row.OFFSET_BITS c.args.entry) =
-    ap (λ (n : ℕ). 18 + s.sizes.buffers + n * s.sizes.words) (c.from.ensures ∙ c.buffer.ensures.value) in
-    let width = width_found s.stands c.args.entry c.args.i c.requires at c.load-width.ensures.2 in
-    let is = c.place_of-place.ensures ∙ ap (λ (n : ℕ). place g.row.OFFSET_BITS s.sizes.buffers s.sizes.words n c.args.entry c.args.i) width in (
-      c.load-width.ensures.0 ∙ s.stands.own,
-      place-inside s.stands c.args.entry c.args.i c.requires _ is,
-      load_own_owed _ _ _ _ _ _ (writer_of s.place.me.0) _ (c.load-width.ensures.2.same ∙ s.stands.is),
-    )
+    let s = c.place_of_word-place.new.self in
+    let same = c.place_of_word-place.ensures.same in
+    let inside = subst (λ (n : ℕ). c.args.i < n) (λ k. length (writer_records (writer_of (sym same k).place.me.0) c.args.entry)) c.requires in
+    let is = c.place_of_word-place.ensures.place ∙ (λ k. place g.row.OFFSET_BITS (sym same k).sizes.buffers (sym same k).sizes.words (length (writer_records (writer_of (sym same k).place.me.0) c.args.entry)) c.args.entry c.args.i) in
+    (s.stands.own, place-inside s.stands c.args.entry c.args.i inside _ is, load_own_owed _ _ _ _ _ _ (writer_of s.place.me.0) _ s.stands.is s.stands.calm)
 
 pub returns-clause-value : goal.returns-clause-value
 returns-clause-value g c =
-    let s = c.args.self.now in
-    let at : 18 + s.sizes.buffers + c.from.result * s.sizes.words ≡ base s.sizes.buffers s.sizes.words (buffer_of g.row.OFFSET_BITS c.args.entry) =
-    ap (λ (n : ℕ). 18 + s.sizes.buffers + n * s.sizes.words) (c.from.ensures ∙ c.buffer.ensures.value) in
-    let width = width_found s.stands c.args.entry c.args.i c.requires at c.load-width.ensures.2 in
-    let is = c.place_of-place.ensures ∙ ap (λ (n : ℕ). place g.row.OFFSET_BITS s.sizes.buffers s.sizes.words n c.args.entry c.args.i) width in
-    word_found s.stands c.args.entry c.args.i c.requires c.load-width.ensures.2.same is c.load.ensures.2
+    let s = c.place_of_word-place.new.self in
+    let same = c.place_of_word-place.ensures.same in
+    let inside = subst (λ (n : ℕ). c.args.i < n) (λ k. length (writer_records (writer_of (sym same k).place.me.0) c.args.entry)) c.requires in
+    let is = c.place_of_word-place.ensures.place ∙ (λ k. place g.row.OFFSET_BITS (sym same k).sizes.buffers (sym same k).sizes.words (length (writer_records (writer_of (sym same k).place.me.0) c.args.entry)) c.args.entry c.args.i) in
+    word_found s.stands c.args.entry c.args.i inside refl is c.load.ensures.2.told ∙ (λ k. slice_index (writer_records (writer_of (same k).place.me.0) c.args.entry) c.args.i)
 
 pub returns-clause-same : goal.returns-clause-same
 returns-clause-same g c =
-    let s = c.args.self.now in
-    let w = c.load-width.ensures in
+    let s = c.place_of_word-place.new.self in
+    let same = c.place_of_word-place.ensures.same in
     let l = c.load.ensures in
-    let seat = seat_same s.place c.load.new.seat (l.0 ∙ w.0) (l.1 ∙ w.1) (l.2.same ∙ w.2.same) in
+    let seat = seat_same s.place c.load.new.seat l.0 l.1 l.2.told.same in
     subst (λ (p : Seat Slot View). (st : IsDesk g.row.OFFSET_BITS s.arena.now.table.shared.table_id s.sizes s.buffers.items s.holds s.last s.made p.table_id p.me) → record s { place = p; stands = st } ≡ s) (sym seat)
-    (λ st. ap (λ x. record s { stands = x }) (desk-prop _ _ _ _ _ _ _ _ _ st s.stands)) _
+    (λ st. ap (λ x. record s { stands = x }) (desk-prop _ _ _ _ _ _ _ _ _ st s.stands)) _ ∙ same

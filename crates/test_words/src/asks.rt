@@ -1,0 +1,93 @@
+use attr_scores::{Ask, Part};
+use attr_types::{Field, QueryError, Value, ValueType};
+use query_text::{parse_ask, parse_query};
+use std::alloc::{AllocError, Global};
+
+fn push_value(alloc: Global, line: &mut String, value: &Value) -> Result<(), AllocError> {
+    match value {
+        Value::Long(number) => {
+            let text = format!(in alloc; "{number}")?;
+            line.push_str(&text)
+        }
+        Value::Text(text) => line.push_str(text.as_str()),
+    }
+}
+
+fn dot_line(alloc: Global, field: u32, parts: &[Part]) -> Result<String, AllocError> {
+    let mut line = format!(in alloc; "dot {field}")?;
+    for part in parts {
+        line.push_str(" ")?;
+        push_value(alloc, &mut line, &part.value)?;
+        let weight = part.weight;
+        let text = format!(in alloc; "={weight}")?;
+        line.push_str(&text)?;
+    }
+    Ok(line)
+}
+
+/// What a query word asks for, in its debug form, or its refusal.
+pub fn told(alloc: Global, text: &str, fields: &[Field]) -> Result<String, AllocError> {
+    if fields.len() > 8 {
+        return String::from_str(alloc, "too many attributes");
+    }
+    match parse_ask(alloc, text, fields) {
+        Ok(Ask::Hits(query)) => format!(in alloc; "{query:?}"),
+        Ok(Ask::Dot { field, parts }) => dot_line(alloc, field, parts.as_slice()),
+        Err(QueryError::NoField { place }) => format!(in alloc; "NoField at {place}"),
+        Err(error) => format!(in alloc; "{error}"),
+    }
+}
+
+/// What a query without names is read as over the first attribute.
+pub fn plain_told(alloc: Global, text: &str, fields: &[Field]) -> Result<String, AllocError> {
+    let value = match fields.first() {
+        Some(field) => field.value,
+        None => ValueType::Long,
+    };
+    match parse_query(alloc, text, value) {
+        Ok(query) => format!(in alloc; "{query:?}"),
+        Err(error) => format!(in alloc; "{error}"),
+    }
+}
+
+/// A middle between a front and a back, each of them as often as is said.
+fn repeated(
+    alloc: Global,
+    count: u32,
+    front: &str,
+    middle: &str,
+    back: &str,
+) -> Result<String, AllocError> {
+    let mut text = String::new(alloc);
+    for _ in 0..count {
+        text.push_str(front)?;
+    }
+    text.push_str(middle)?;
+    for _ in 0..count {
+        text.push_str(back)?;
+    }
+    Ok(text)
+}
+
+/// Whether a text is taken, or its refusal.
+pub fn taken_told(alloc: Global, text: &str, fields: &[Field]) -> Result<String, AllocError> {
+    if fields.len() > 8 {
+        return String::from_str(alloc, "too many attributes");
+    }
+    match parse_ask(alloc, text, fields) {
+        Ok(_) => String::from_str(alloc, "taken"),
+        Err(QueryError::NoField { place }) => format!(in alloc; "NoField at {place}"),
+        Err(error) => format!(in alloc; "{error}"),
+    }
+}
+
+/// Whether a text of many equal parts is taken, or its refusal.
+pub fn many_told(alloc: Global, row: &str, fields: &[Field]) -> Result<String, AllocError> {
+    let mut parts = row.split(' ');
+    let count = parts.next().unwrap_or("").parse::<u32>().unwrap_or(0);
+    let front = parts.next().unwrap_or("");
+    let middle = parts.next().unwrap_or("");
+    let back = parts.next().unwrap_or("");
+    let text = repeated(alloc, count, front, middle, back)?;
+    taken_told(alloc, &text, fields)
+}
