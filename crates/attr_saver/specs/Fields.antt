@@ -1,6 +1,6 @@
 -- A save read field by field, each with its rule. A reader gives the field's value and the bytes after it. The first
 -- field that breaks its rule, or ends past the input, is told by how many bytes are left where it begins.
-use Rattle.std.specs.Prelude.{ℕ, ℤ, zero, suc, pos, ◌-◌, ◌&&◌, Bool, true, false, nat_lt, nat_le, nat_eq, if◌then◌else◌}
+use Rattle.std.specs.Prelude.{ℕ, ℤ, zero, suc, pos, ◌-◌, ◌&&◌, Bool, true, nat_lt, nat_le, nat_eq, if◌then◌else◌}
 use Rattle.std.specs.Prelude.{List, [], ◌∷◌, length, take, drop, slice_get, Option, Some, None, option_map, Result, Ok, Err}
 use Rattle.std.specs.Int.{Width, w8, w16, w32, w64, byte_len, from_be_bytes, cast_signed}
 use Rattle.std.specs.List.{starts_with}
@@ -190,8 +190,8 @@ saved_at bytes = do
   count ← count_at operations.1
   documents ← documents_at kind.0 type.0 count.0 0 count.1
   if nat_eq (length documents.1) 0
-    then Ok (record { kind = kind.0; value = type.0; operations = operations.0; table = documents.0 })
-    else bad documents.1
+      then Ok (record { kind = kind.0; value = type.0; operations = operations.0; table = documents.0 })
+      else bad documents.1
 
 -- how many bytes come before the last so many, of bytes of this number
 abbrev pub placed : {A : Type 0} → ℕ → Result A ℕ → Result A ℕ

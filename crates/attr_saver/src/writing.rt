@@ -3,7 +3,8 @@ ghost use Rattle.std.specs.Prelude.{◌≡◌, ◌≤◌, ◌++◌, length, OnOk
 ghost use Rattle.std.specs.Int.{w32, to_be_bytes};
 ghost use Rattle.std.specs.List.{flat_map, AllByRecursion};
 ghost use Rattle.attr_types.specs.Query.{items_in};
-ghost use Rattle.attr_saver.specs.Bytes.{kind_byte, type_byte, form_bytes, head_bytes, text_bytes, value_bytes, weight_bytes, item_bytes, document_bytes};
+ghost use Rattle.attr_saver.specs.Bytes.{kind_byte, type_byte, form_bytes, head_bytes, text_bytes};
+ghost use Rattle.attr_saver.specs.Bytes.{value_bytes, weight_bytes, item_bytes, document_bytes};
 ghost use Rattle.attr_saver.specs.Lawful.{IsStorable, IsStorableValue, IsStorableText, column_of};
 
 use crate::reader::MAGIC;
@@ -126,12 +127,7 @@ pub(crate) fn first_items(document: &FieldItems) -> &[Item]
     }
 }
 
-fn push_document(
-    out: &mut Vec<u8>,
-    kind: Kind,
-    doc: Doc,
-    items: &[Item],
-) -> Result<(), AllocError>
+fn push_document(out: &mut Vec<u8>, kind: Kind, doc: Doc, items: &[Item]) -> Result<(), AllocError>
     requires { length items.now ≤ 1023 }
     ensures bytes { OnOk result (out.new.items
         ≡ out.old.items ++ document_bytes kind (record { doc = doc; items = items.now })) }

@@ -52,7 +52,11 @@ fn told_by_sink(
     let answer = write(alloc, table, &mut sink);
     let taken = sink.taken();
     let count = taken.len();
-    let front = if BYTES.starts_with(taken) { "of it" } else { "of others" };
+    let front = if BYTES.starts_with(taken) {
+        "of it"
+    } else {
+        "of others"
+    };
     match answer {
         Ok(()) => format!(in alloc; "saved, {count} {front}"),
         Err(error) => format!(in alloc; "{error}, {count} {front}"),
@@ -62,9 +66,18 @@ fn told_by_sink(
 fn compare_sources(rt: &HostRuntime) -> io::Result<()> {
     let alloc = rt.alloc();
     let mut tally = Tally::new();
-    tally.note(rt, "28 bytes a read", &told_by_source(alloc, 28, 2)?, "a read failed 1")?;
+    tally.note(
+        rt,
+        "28 bytes a read",
+        &told_by_source(alloc, 28, 2)?,
+        "a read failed 1",
+    )?;
     for call in 1..31 {
-        let wanted = if call < 30 { "a read failed 1" } else { "saved 0" };
+        let wanted = if call < 30 {
+            "a read failed 1"
+        } else {
+            "saved 0"
+        };
         let case = format!(in alloc; "source at call {call}")?;
         tally.note(rt, &case, &told_by_source(alloc, 1, call)?, wanted)?;
     }

@@ -84,7 +84,15 @@ pub fn compare(rt: &HostRuntime) -> io::Result<()> {
             }
             [name, place, from, to, wanted] if *name == "change" => {
                 let place = number(place);
-                compare_changes(rt, &mut tally, &base, place, number(from), number(to), wanted)?;
+                compare_changes(
+                    rt,
+                    &mut tally,
+                    &base,
+                    place,
+                    number(from),
+                    number(to),
+                    wanted,
+                )?;
             }
             _ => {}
         }

@@ -1,6 +1,4 @@
-use Rattle.std.proofs.Common.{◌≡◌, ◌≤◌, ◌<◌, ◌++◌, ℕ, Ok, ap, sym, ◌∙◌, arith, length}
-use Rattle.std.proofs.lemmas.List.{length-map}
-use Rattle.attr_saver.specs.Bytes.{saved_bytes}
+use Rattle.std.proofs.Common.{ap, ◌∙◌}
 use Rattle.attr_saver.specs.Fields.{read_of}
 use Rattle.attr_saver.specs.Lawful.{column_of, save_of}
 use Rattle.attr_saver.proofs.Columns.{items_few}
@@ -18,6 +16,6 @@ pub returns-clause-again : goal.returns-clause-again
 returns-clause-again c =
     let entries = c.args.documents.now.entries in
     ap read_of (saved_is c.args.kind c.args.value c.args.operations c.len.result entries _ _ _
-      c.in_ok-bytes.ensures.items c.in_ok-push_head.ensures c.in_ok-push_documents.ensures.bytes c.len.ensures.len)
+    c.in_ok-bytes.ensures.items c.in_ok-push_head.ensures c.in_ok-push_documents.ensures.bytes c.len.ensures.len)
     ∙ read_again (save_of c.args.kind c.args.value c.args.operations entries)
-      (record { operations = c.ranges.operations.fits; column = c.requires; storable = c.in_ok-push_documents.ensures.fits })
+    (record { operations = c.ranges.operations.fits; column = c.requires; storable = c.in_ok-push_documents.ensures.fits })

@@ -8,7 +8,7 @@ use Rattle.attr_saver.proofs.sizing.documents_size.Given as goal
 abbrev pub invariant-loop-doc : goal.invariant-loop-doc
 invariant-loop-doc l = record {
   size : l.size + length (flat_map (document_bytes l.kind) (column_of l._doc-iterator))
-    ≡ length (flat_map (document_bytes l.kind) (column_of l.documents.entries));
+      ≡ length (flat_map (document_bytes l.kind) (column_of l.documents.entries));
   small : l.size + 1053696 * length (column_of l._doc-iterator) ≤ 1053696 * length (column_of l.documents.entries);
   short : AllByRecursion (λ d. length d.items ≤ 1023) (column_of l._doc-iterator);
 }

@@ -8,8 +8,8 @@ use Rattle.attr_saver.proofs.writing.push_documents.Given as goal
 abbrev pub invariant-loop-doc : goal.invariant-loop-doc
 invariant-loop-doc l = record {
   bytes : l.out.items ++ flat_map (document_bytes l.kind) (column_of l.doc-iterator)
-    ≡ l.initial.out.items ++ flat_map (document_bytes l.kind) (column_of l.documents.entries);
+      ≡ l.initial.out.items ++ flat_map (document_bytes l.kind) (column_of l.documents.entries);
   few : AllByRecursion (λ d. length d.items ≤ 1023) (column_of l.doc-iterator);
   fits : AllByRecursion (λ d. AllByRecursion IsStorable d.items) (column_of l.doc-iterator)
-    → AllByRecursion (λ d. AllByRecursion IsStorable d.items) (column_of l.documents.entries);
+      → AllByRecursion (λ d. AllByRecursion IsStorable d.items) (column_of l.documents.entries);
 }
