@@ -2,7 +2,9 @@
 ghost use Rattle.std.specs.Prelude.{◌≤◌};
 
 use attr_plain::PlainTable;
-use attr_types::{Doc, Field, FieldItems, Fields, Item, Items, Kind, Name, Op, Text, Value, ValueType, fits};
+use attr_types::{
+    Doc, Field, FieldItems, Fields, Item, Items, Kind, Name, Op, Text, Value, ValueType, fits,
+};
 use std::alloc::{AllocError, Global};
 
 /// What a document has.
