@@ -1,24 +1,26 @@
 -- Items and documents that follow each other are those that a kind allows, and the other way round.
-use Rattle.std.proofs.Common.{◌≡◌, ℕ, ◌+◌, ◌<◌, ◌≤◌, true, List, [], ◌∷◌, length, map, Option, Some, None, Ordering, Less, nat_cmp, is_lt}
-use Rattle.std.proofs.Common.{pos, refl, sym, ap, arith}
+use Rattle.std.proofs.Common.{◌≡◌, ℕ, zero, suc, ◌+◌, ◌<◌, ◌≤◌, Bool, true, List, [], ◌∷◌, length, map, Option, Some, None, Ordering, Less, nat_cmp, is_lt, pos, refl, sym, ap, arith, unwrap_or}
 use Rattle.std.specs.Cmp.{nat_cmp_is}
-use Rattle.std.specs.List.{AllByRecursion}
+use Rattle.std.specs.List.{AllByRecursion, AllZip}
 use Rattle.std.specs.List.Sorted.{IsStrictlySortedBy}
 use Rattle.std.proofs.lemmas.List.{length-map}
 use Rattle.std.proofs.lemmas.Cmp.{ranked, nat_cmp_total}
-use Rattle.attr_types.specs.Lawful.{last_doc, IsDocNumber, IsLawfulItems, ItemsFit}
+use Rattle.attr_types.specs.Lawful.{last_doc, IsDocNumber, HaveWeightOne, AscendByValue, IsLawfulItems, ItemsFit, IsLawfulDocument, IsLawfulTable, DocumentHasType, HasType}
 use Rattle.attr_types.specs.ProofsForOrder.{value_cmp_total}
-use Rattle.attr_types.specs.Value.{value_cmp, values_of, type_of, AreOfType}
+use Rattle.attr_types.specs.Query.{items_in}
+use Rattle.attr_types.specs.Table.{Table}
+use Rattle.attr_types.specs.Value.{value_cmp, values_of, type_of, AreOfType, Document}
+use Rattle.attr_types.specs.declared.field.Field.{Field}
 use Rattle.attr_types.specs.declared.items.Item.{Item}
 use Rattle.attr_types.specs.declared.kind.Kind.{Kind}
 use Rattle.attr_types.specs.declared.kind.Kind.TheVariants.{Single, Array, WeightedSet}
 use Rattle.attr_types.specs.declared.kind.ValueType.{ValueType}
 use Rattle.attr_types.specs.declared.value.Value.{Value}
 use Rattle.attr_saver.specs.Fields.{may_follow, most_items}
-use Rattle.attr_saver.specs.Lawful.{docs_of, IsLawfulColumn, IsStorable}
+use Rattle.attr_saver.specs.Lawful.{column_of, docs_of, IsLawfulColumn, IsStorable}
 use Rattle.attr_saver.specs.declared.saved.SavedDocument.{SavedDocument}
 use Rattle.attr_saver.proofs.Rows.{Chain, chain_all}
-use Rattle.attr_saver.proofs.SaveLemmas.{WeightFits, ItemFits}
+use Rattle.attr_saver.proofs.SaveLemmas.{ValueFits, WeightFits, ItemFits}
 
 all_map : {A B : Type 0} (f : A → B) (Q : B → Type 0) (xs : List A) → AllByRecursion (λ x. Q (f x)) xs → AllByRecursion Q (map f xs)
 all_map f Q [] all = tt
@@ -61,10 +63,7 @@ follows_from_sorted : (before : Option Value) (values : List Value) → AboveAll
 unfolding IsStrictlySortedBy
 follows_from_sorted before [] above sorted = tt
 follows_from_sorted None (value ∷ values) above sorted = (refl, follows_from_sorted (Some value) values sorted.0 sorted.1)
-follows_from_sorted (Some before) (value ∷ values) above sorted = (
-  ap is_lt above.0,
-  follows_from_sorted (Some value) values sorted.0 sorted.1,
-)
+follows_from_sorted (Some before) (value ∷ values) above sorted = (ap is_lt above.0, follows_from_sorted (Some value) values sorted.0 sorted.1)
 
 follows_freely : (kind : Kind) → ((before : Option Value) (value : Value) → may_follow kind before value ≡ true)
     → (before : Option Value) (values : List Value) → Follows kind before values
@@ -89,8 +88,7 @@ weights_lawful WeightedSet (item ∷ items) lawful = (tt, free items)
 abbrev ItemChain : Kind → ValueType → Option Value → List Item → Type 0
 ItemChain kind type before items = Chain (λ item. Some item.value) (ItemFits kind type) before items
 
-follows_chain : (kind : Kind) (type : ValueType) (before : Option Value) (items : List Item) → ItemChain kind type before items
-    → Follows kind before (values_of items)
+follows_chain : (kind : Kind) (type : ValueType) (before : Option Value) (items : List Item) → ItemChain kind type before items → Follows kind before (values_of items)
 follows_chain kind type before [] chain = tt
 follows_chain kind type before (item ∷ items) chain = (chain.0.value.follows, follows_chain kind type (Some item.value) items chain.1)
 
@@ -101,42 +99,25 @@ items_fit kind type items few chain = ((lawful kind few chain, typed), stored)
   where
     typed : AreOfType type (values_of items)
     typed = all_map (λ item. item.value) (λ value. type_of value ≡ type) items
-        (chain_all (λ item. Some item.value) (ItemFits kind type) (λ item. type_of item.value ≡ type)
-        (λ before item fits. fits.value.typed) None items chain)
+        (chain_all (λ item. Some item.value) (ItemFits kind type) (λ item. type_of item.value ≡ type) (λ before item fits. fits.value.typed) None items chain)
 
     stored : AllByRecursion IsStorable items
-    stored = chain_all (λ item. Some item.value) (ItemFits kind type) IsStorable
-        (λ before item fits. record { value = fits.value.stored; weight = fits.signed }) None items chain
+    stored = chain_all (λ item. Some item.value) (ItemFits kind type) IsStorable (λ before item fits. record { value = fits.value.stored; weight = fits.signed }) None items chain
 
     lawful : (kind : Kind) → length items ≤ most_items kind → ItemChain kind type None items → IsLawfulItems kind items
-    lawful Single few chain = (
-      few,
-      chain_all (λ item. Some item.value) (ItemFits Single type) (λ item. item.weight ≡ pos 1)
-          (λ before item fits. fits.weight) None items chain,
-    )
-    lawful Array few chain = (
-      few,
-      chain_all (λ item. Some item.value) (ItemFits Array type) (λ item. item.weight ≡ pos 1)
-          (λ before item fits. fits.weight) None items chain,
-    )
+    lawful Single few chain = (few, chain_all (λ item. Some item.value) (ItemFits Single type) (λ item. item.weight ≡ pos 1) (λ before item fits. fits.weight) None items chain)
+    lawful Array few chain = (few, chain_all (λ item. Some item.value) (ItemFits Array type) (λ item. item.weight ≡ pos 1) (λ before item fits. fits.weight) None items chain)
     lawful WeightedSet few chain = (few, (sorted_from_follows None (values_of items) (follows_chain WeightedSet type None items chain)).1)
 
 -- items that a kind and value type allow follow each other
-pub items_chain : (kind : Kind) (type : ValueType) (items : List Item) → ItemsFit kind type items → AllByRecursion IsStorable items
-    → ItemChain kind type None items
+pub items_chain : (kind : Kind) (type : ValueType) (items : List Item) → ItemsFit kind type items → AllByRecursion IsStorable items → ItemChain kind type None items
 items_chain kind type items fit stored = made None items (follows_lawful kind items fit.0) (weights_lawful kind items fit.0) fit.1 stored
   where
-    made : (before : Option Value) (items : List Item) → Follows kind before (values_of items)
-        → AllByRecursion (λ item. WeightFits kind item.weight) items
+    made : (before : Option Value) (items : List Item) → Follows kind before (values_of items) → AllByRecursion (λ item. WeightFits kind item.weight) items
         → AreOfType type (values_of items) → AllByRecursion IsStorable items → ItemChain kind type before items
     made before [] follows weights typed stored = tt
     made before (item ∷ items) follows weights typed stored = (
-      record {
-        value = record { stored = stored.0.value; typed = typed.0; follows = follows.0 };
-        signed = stored.0.weight;
-        weight =
-            weights.0;
-      },
+      record { value = record { stored = stored.0.value; typed = typed.0; follows = follows.0 }; signed = stored.0.weight; weight = weights.0 },
       made (Some item.value) items follows.1 weights.1 typed.1 stored.1,
     )
 
@@ -190,8 +171,7 @@ column_lawful kind type documents chain = (
 -- documents that may be saved follow each other
 pub documents_chain : (kind : Kind) (type : ValueType) (before : ℕ) (documents : List SavedDocument)
     → AllByRecursion (λ doc. nat_cmp before doc ≡ Less) (docs_of documents) → IsStrictlySortedBy nat_cmp (docs_of documents)
-    → AllByRecursion IsDocNumber (docs_of documents) → AllByRecursion (HasItemsThatFit kind type) documents
-    → AllByRecursion StoresItems documents
+    → AllByRecursion IsDocNumber (docs_of documents) → AllByRecursion (HasItemsThatFit kind type) documents → AllByRecursion StoresItems documents
     → DocumentChain kind type before documents
 unfolding IsStrictlySortedBy
 documents_chain kind type before [] above ascends numbers fit stored = tt
@@ -207,8 +187,7 @@ documents_chain kind type before (document ∷ documents) above ascends numbers 
 
 above_none : (docs : List ℕ) → AllByRecursion IsDocNumber docs → AllByRecursion (λ doc. nat_cmp 0 doc ≡ Less) docs
 above_none [] numbers = tt
-above_none (doc ∷ docs) numbers = let some : 0 < doc = omega (arith, numbers.0.0) in
-    (sym (nat_cmp_is 0 doc Less some), above_none docs numbers.1)
+above_none (doc ∷ docs) numbers = let some : 0 < doc = omega (arith, numbers.0.0) in (sym (nat_cmp_is 0 doc Less some), above_none docs numbers.1)
 
 pub column_chain : (kind : Kind) (type : ValueType) (documents : List SavedDocument) → IsLawfulColumn kind type documents
     → AllByRecursion StoresItems documents → DocumentChain kind type 0 documents
@@ -216,8 +195,7 @@ column_chain kind type documents lawful stored =
     documents_chain kind type 0 documents (above_none (docs_of documents) lawful.numbers) lawful.ascends lawful.numbers lawful.items stored
 
 -- there are no more documents than numbers
-docs_few : (before : ℕ) (docs : List ℕ) → before ≤ last_doc → AllByRecursion (λ doc. nat_cmp before doc ≡ Less) docs
-    → IsStrictlySortedBy nat_cmp docs
+docs_few : (before : ℕ) (docs : List ℕ) → before ≤ last_doc → AllByRecursion (λ doc. nat_cmp before doc ≡ Less) docs → IsStrictlySortedBy nat_cmp docs
     → AllByRecursion IsDocNumber docs → length docs + before ≤ last_doc
 unfolding IsStrictlySortedBy
 docs_few before [] le above ascends numbers = omega (arith, le)
@@ -225,15 +203,9 @@ docs_few before (doc ∷ docs) le above ascends numbers =
     let less : before < doc = ranked before doc Less (sym above.0) in
     omega (arith, docs_few doc docs numbers.0.1 ascends.0 ascends.1 numbers.1, less)
 
-pub column_few : (kind : Kind) (type : ValueType) (documents : List SavedDocument) → IsLawfulColumn kind type documents
-    → length documents ≤ last_doc
+pub column_few : (kind : Kind) (type : ValueType) (documents : List SavedDocument) → IsLawfulColumn kind type documents → length documents ≤ last_doc
 column_few kind type documents lawful =
-    omega (
-      arith,
-      docs_few 0 (docs_of documents) (omega arith) (above_none
-          (docs_of documents) lawful.numbers) lawful.ascends lawful.numbers,
-      length-map documents (λ (d : SavedDocument). d.doc),
-    )
+    omega (arith, docs_few 0 (docs_of documents) (omega arith) (above_none (docs_of documents) lawful.numbers) lawful.ascends lawful.numbers, length-map documents (λ (d : SavedDocument). d.doc))
 
 -- each has so few items
 pub items_few : (kind : Kind) (type : ValueType) (documents : List SavedDocument) → AllByRecursion (HasItemsThatFit kind type) documents

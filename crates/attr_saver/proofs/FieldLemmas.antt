@@ -1,17 +1,14 @@
 -- A field that is read is the field that was written, and what was written is read again.
-use Rattle.std.proofs.Common.{◌≡◌, ℕ, zero, suc, ◌+◌, ◌^◌, ◌<◌, ◌≤◌, Bool, true, false, cond, ltb, List, [], ◌∷◌, ◌++◌, length, take, drop}
-use Rattle.std.proofs.Common.{Option, Some, None, Result, Ok, Err, eqb, ℤ, FitsSigned, IsUtf8, refl, sym, ap, subst, ◌∙◌, append_assoc}
-use Rattle.std.proofs.Common.{arith, inl, inr}
+use Rattle.std.proofs.Common.{◌≡◌, ℕ, zero, suc, ◌+◌, ◌^◌, ◌<◌, ◌≤◌, Bool, true, false, cond, ltb, List, [], ◌∷◌, ◌++◌, length, get_or, take, drop, Option, Some, None, Result, Ok, Err, eqb, ℤ, FitsSigned, IsUtf8, refl, sym, ap, subst, ◌∙◌, append_assoc, arith, inl, inr}
 use Rattle.std.specs.Int.{Width, w8, w16, w32, w64, byte_len, from_be_bytes, to_be_bytes, cast_signed, cast_unsigned}
 use Rattle.std.specs.List.{starts_with}
 use Rattle.std.specs.Str.{is_utf8}
 use Rattle.std.proofs.Math.Facts.{sfits_to_z, Fits-of_lt, Fits-of_z}
-use Rattle.std.proofs.lemmas.Bool.{cases_lt, ltb-false, le-ltb}
+use Rattle.std.proofs.lemmas.Bool.{cases_lt, ltb-false, le-ltb, eqb-true}
 use Rattle.std.proofs.lemmas.Bool.Decides.{Decides-eqb}
 use Rattle.std.proofs.lemmas.Int.{of_z-to_z, to_z-of_z}
 use Rattle.std.proofs.lemmas.List.{take_at, drop_at, take-append-drop, length-append, length-take, get_or-drop, get_or-take, get_or_past}
-use Rattle.std.proofs.lemmas.Nat.{be_bytes_2, be_bytes_4, be_bytes_8, from_be_bytes-to_be_bytes_2, from_be_bytes-to_be_bytes_4}
-use Rattle.std.proofs.lemmas.Nat.{from_be_bytes-to_be_bytes_8}
+use Rattle.std.proofs.lemmas.Nat.{be_bytes_2, be_bytes_4, be_bytes_8, from_be_bytes-to_be_bytes_2, from_be_bytes-to_be_bytes_4, from_be_bytes-to_be_bytes_8}
 use Rattle.std.proofs.lemmas.Slice.Eq.{starts_is}
 use Rattle.std.proofs.lemmas.Str.{is_utf8-from_IsUtf8, IsUtf8-from_is_utf8}
 use Rattle.attr_types.specs.Lawful.{last_doc}
@@ -22,11 +19,11 @@ use Rattle.attr_types.specs.declared.kind.ValueType.{ValueType}
 use Rattle.attr_types.specs.declared.kind.ValueType.TheVariants as types
 use Rattle.attr_types.specs.declared.value.Value.{Value}
 use Rattle.attr_types.specs.declared.value.Value.TheVariants as values
-use Rattle.attr_saver.specs.Bytes.{magic, kind_byte, type_byte, value_bytes}
-use Rattle.attr_saver.specs.Fields.{◌>>=◌, bad, or_bad, bytes_at, number_at, magic_at, kind_of, kind_at, type_of, type_at, count_at}
+use Rattle.attr_saver.specs.Bytes.{magic, kind_byte, type_byte, text_bytes, value_bytes}
+use Rattle.attr_saver.specs.Fields.{◌>>=◌, Read, bad, or_bad, bytes_at, number_at, magic_at, kind_of, kind_at, type_of, type_at, count_at}
 use Rattle.attr_saver.specs.Fields.{long_at, text_len_at, text_at}
 use Rattle.attr_saver.specs.Laws.{AreBytes}
-use Rattle.attr_saver.specs.Lawful.{IsStorableValue}
+use Rattle.attr_saver.specs.Lawful.{IsStorableValue, IsStorableText}
 
 AreBytes-drop : (n : ℕ) (bytes : List ℕ) → AreBytes bytes → AreBytes (drop n bytes)
 AreBytes-drop n bytes h i = rw get_or-drop (h (n + i))
@@ -64,27 +61,18 @@ pub record Takes (bytes text rest : List ℕ) : Type 0 where
   pub rest_fits : AreBytes rest
 
 pub Takes-then : (a x b y c : List ℕ) → Takes a x b → Takes b y c → Takes a (x ++ y) c
-Takes-then a x b y c p q = record {
-  parts = p.parts ∙ ap (λ (t : List ℕ). x ++ t) q.parts
-      ∙ sym (append_assoc x y c);
-  rest_fits = q.rest_fits;
-}
+Takes-then a x b y c p q = record { parts = p.parts ∙ ap (λ (t : List ℕ). x ++ t) q.parts ∙ sym (append_assoc x y c); rest_fits = q.rest_fits }
 
 pub Takes-nothing : (bytes : List ℕ) → AreBytes bytes → Takes bytes [] bytes
 Takes-nothing bytes fits = record { parts = refl; rest_fits = fits }
 
 -- ---- bytes and numbers
 
-pub bytes_take : (len : ℕ) (bytes text rest : List ℕ) → AreBytes bytes → bytes_at len bytes ≡ Ok (text, rest)
-    → Takes bytes text rest × (length text ≡ len)
+pub bytes_take : (len : ℕ) (bytes text rest : List ℕ) → AreBytes bytes → bytes_at len bytes ≡ Ok (text, rest) → Takes bytes text rest × (length text ≡ len)
 bytes_take len bytes text rest fits e =
     let g = unless_ok (ltb (length bytes) len) (length bytes) (take len bytes, drop len bytes) (text, rest) e in
     let long : len ≤ length bytes = ltb-false _ _ g.0 in
-    let whole : Takes bytes (take len bytes) (drop len bytes) = record {
-      parts = sym (take-append-drop len bytes);
-      rest_fits =
-          AreBytes-drop len bytes fits;
-    } in
+    let whole : Takes bytes (take len bytes) (drop len bytes) = record { parts = sym (take-append-drop len bytes); rest_fits = AreBytes-drop len bytes fits } in
     let size : length (take len bytes) ≡ len = omega (arith, length-take len bytes) in
     subst (λ (p : List ℕ × List ℕ). Takes bytes p.0 p.1 × (length p.0 ≡ len)) g.1 (whole, size)
 
@@ -123,11 +111,9 @@ wide64 = record {
   below = λ bytes fits. omega (arith, fits 0, fits 1, fits 2, fits 3, fits 4, fits 5, fits 6, fits 7);
 }
 
-pub number_takes : (w : Width) (limit : ℕ) (wide : IsWide w limit) (bytes : List ℕ) (x : ℕ × List ℕ) → AreBytes bytes
-    → number_at w bytes ≡ Ok x → Takes bytes (to_be_bytes w x.0) x.1 × (x.0 < limit)
+pub number_takes : (w : Width) (limit : ℕ) (wide : IsWide w limit) (bytes : List ℕ) (x : ℕ × List ℕ) → AreBytes bytes → number_at w bytes ≡ Ok x → Takes bytes (to_be_bytes w x.0) x.1 × (x.0 < limit)
 number_takes w limit wide bytes x fits e =
-    let g = unless_ok (ltb (length bytes) (byte_len w)) (length bytes)
-    (from_be_bytes w (take (byte_len w) bytes), drop (byte_len w) bytes) x e in
+    let g = unless_ok (ltb (length bytes) (byte_len w)) (length bytes) (from_be_bytes w (take (byte_len w) bytes), drop (byte_len w) bytes) x e in
     let long : byte_len w ≤ length bytes = ltb-false _ _ g.0 in
     let front : to_be_bytes w (from_be_bytes w (take (byte_len w) bytes)) ≡ take (byte_len w) bytes =
     wide.back (take (byte_len w) bytes) (omega (arith, length-take (byte_len w) bytes)) (AreBytes-take (byte_len w) bytes fits) in
@@ -136,12 +122,10 @@ number_takes w limit wide bytes x fits e =
     subst (λ (p : ℕ × List ℕ). Takes bytes (to_be_bytes w p.0) p.1 × (p.0 < limit)) g.1
     (whole, wide.below (take (byte_len w) bytes) (AreBytes-take (byte_len w) bytes fits))
 
-pub number_again : (w : Width) (limit : ℕ) (wide : IsWide w limit) (n : ℕ) (rest : List ℕ) → n < limit
-    → number_at w (to_be_bytes w n ++ rest) ≡ Ok (n, rest)
+pub number_again : (w : Width) (limit : ℕ) (wide : IsWide w limit) (n : ℕ) (rest : List ℕ) → n < limit → number_at w (to_be_bytes w n ++ rest) ≡ Ok (n, rest)
 number_again w limit wide n rest lt =
     let len = wide.len n in
-    let long : ltb (length (to_be_bytes w n ++ rest)) (byte_len w) ≡ false =
-    le-ltb _ _ (omega (arith, length-append (to_be_bytes w n) rest)) in
+    let long : ltb (length (to_be_bytes w n ++ rest)) (byte_len w) ≡ false = le-ltb _ _ (omega (arith, length-append (to_be_bytes w n) rest)) in
     rw (long, take_at (to_be_bytes w n) rest (byte_len w) len, drop_at (to_be_bytes w n) rest (byte_len w) len, wide.again n lt) refl
 
 -- a byte is itself
@@ -164,16 +148,14 @@ magic_again rest = refl
 some_is : {A : Type 0} (x y : A) → Some x ≡ Some y → x ≡ y
 some_is x y e = cc
 
-or_bad_ok : {A : Type 0} (bytes : List ℕ) (o : Option A) (rest : List ℕ) (x : A × List ℕ) → or_bad bytes o rest ≡ Ok x
-    → (o ≡ Some x.0) × (rest ≡ x.1)
+or_bad_ok : {A : Type 0} (bytes : List ℕ) (o : Option A) (rest : List ℕ) (x : A × List ℕ) → or_bad bytes o rest ≡ Ok x → (o ≡ Some x.0) × (rest ≡ x.1)
 or_bad_ok bytes (Some a) rest x e =
     let is : (a, rest) ≡ x = ok_is (a, rest) x e in
     (λ i. Some (is i).0, λ i. (is i).1)
 or_bad_ok bytes None rest x e = absurd cc
 
 byte_takes : {A : Type 0} (of : ℕ → Option A) (byte_of : A → ℕ) (back : (byte : ℕ) (a : A) → of byte ≡ Some a → byte ≡ byte_of a)
-    (bytes : List ℕ) (x : A × List ℕ) → AreBytes bytes → (number_at w8 bytes >>= λ byte. or_bad bytes (of byte.0) byte.1) ≡ Ok x
-    → Takes bytes (byte_of x.0 ∷ []) x.1
+    (bytes : List ℕ) (x : A × List ℕ) → AreBytes bytes → (number_at w8 bytes >>= λ byte. or_bad bytes (of byte.0) byte.1) ≡ Ok x → Takes bytes (byte_of x.0 ∷ []) x.1
 byte_takes of byte_of back [] x fits e = absurd cc
 byte_takes of byte_of back (byte ∷ rest) x fits e =
     let step : or_bad (byte ∷ rest) (of byte) rest ≡ Ok x = rw (byte_is byte rest) at e in
@@ -213,8 +195,7 @@ unfolding type_at
 type_again types.Long rest = rw (byte_is 0 rest) refl
 type_again types.Text rest = rw (byte_is 1 rest) refl
 
-pub count_takes : (bytes : List ℕ) (x : ℕ × List ℕ) → AreBytes bytes → count_at bytes ≡ Ok x
-    → Takes bytes (to_be_bytes w32 x.0) x.1 × (x.0 ≤ last_doc)
+pub count_takes : (bytes : List ℕ) (x : ℕ × List ℕ) → AreBytes bytes → count_at bytes ≡ Ok x → Takes bytes (to_be_bytes w32 x.0) x.1 × (x.0 ≤ last_doc)
 unfolding count_at
 count_takes bytes x fits e =
     let a = bind_ok (number_at w32 bytes) (λ count. cond (ltb last_doc count.0) (bad bytes) (Ok count)) x e in
@@ -240,17 +221,12 @@ long_takes bytes x fits e =
     subst (λ (y : Value × List ℕ). Takes bytes (value_bytes y.0) y.1 × IsStorableValue y.0 × (value_type_of y.0 ≡ types.Long))
     (ok_is made x a.2) (whole, sfits_to_z {w = w64} {n = a.0.0} (Fits-of_lt {w = w64} {n = a.0.0} t.1), refl)
 
-pub long_again : (number : ℤ) (rest : List ℕ) → FitsSigned w64 number → long_at (value_bytes (values.Long number) ++ rest)
-    ≡ Ok (values.Long number, rest)
+pub long_again : (number : ℤ) (rest : List ℕ) → FitsSigned w64 number → long_at (value_bytes (values.Long number) ++ rest) ≡ Ok (values.Long number, rest)
 unfolding long_at
 long_again number rest fits =
-    rw (
-      number_again w64 (2 ^ 64) wide64 (cast_unsigned w64 number) rest (Fits-of_z {w = w64} {z = number} fits).fits,
-      to_z-of_z w64 number fits,
-    ) refl
+    rw (number_again w64 (2 ^ 64) wide64 (cast_unsigned w64 number) rest (Fits-of_z {w = w64} {z = number} fits).fits, to_z-of_z w64 number fits) refl
 
-pub text_len_takes : (bytes : List ℕ) (x : ℕ × List ℕ) → AreBytes bytes → text_len_at bytes ≡ Ok x
-    → Takes bytes (to_be_bytes w16 x.0) x.1 × (x.0 ≤ 1024)
+pub text_len_takes : (bytes : List ℕ) (x : ℕ × List ℕ) → AreBytes bytes → text_len_at bytes ≡ Ok x → Takes bytes (to_be_bytes w16 x.0) x.1 × (x.0 ≤ 1024)
 unfolding text_len_at
 text_len_takes bytes x fits e =
     let a = bind_ok (number_at w16 bytes) (λ len. cond (ltb 1024 len.0) (bad bytes) (Ok len)) x e in

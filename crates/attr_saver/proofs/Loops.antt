@@ -1,7 +1,6 @@
 -- Things that are read one after another, as a loop does.
-use Rattle.std.proofs.Common.{◌≡◌, ℕ, suc, ◌-◌, ◌+◌, ◌≤◌, ◌<◌, List, [], ◌∷◌, ◌++◌, length, Some, Ok, Err, refl, sym, ap, ◌∙◌, append_assoc}
-use Rattle.std.proofs.Common.{arith, length-append}
-use Rattle.std.specs.Prelude.{slice_get}
+use Rattle.std.proofs.Common.{◌≡◌, ℕ, zero, suc, ◌-◌, ◌+◌, ◌≤◌, ◌<◌, List, [], ◌∷◌, ◌++◌, length, get_or, Option, Some, Result, Ok, Err, refl, sym, ap, ◌∙◌, append_assoc, arith, length-append}
+use Rattle.std.specs.Prelude.{option_map, slice_get}
 use Rattle.std.proofs.Math.Seq.{get_or-append_seam}
 use Rattle.std.proofs.lemmas.List.{append-nil}
 use Rattle.std.proofs.lemmas.Option.{slice_get-get_or}
@@ -15,21 +14,17 @@ use Rattle.attr_saver.specs.declared.error.Broken.TheVariants as broken
 abbrev pub with_front : {A : Type 0} → List A → Read (List A) → Read (List A)
 with_front front read = read >>= λ x. Ok (front ++ x.0, x.1)
 
-regroup : {A : Type 0} (front : List A) (one : A) (read : Read (List A))
-    → with_front front (read >>= λ x. Ok (one ∷ x.0, x.1)) ≡ with_front (front ++ one ∷ []) read
+regroup : {A : Type 0} (front : List A) (one : A) (read : Read (List A)) → with_front front (read >>= λ x. Ok (one ∷ x.0, x.1)) ≡ with_front (front ++ one ∷ []) read
 regroup {A} front one (Ok x) = ap (λ (all : List A). Ok (all, x.1)) (sym (append_assoc front (one ∷ []) x.0))
 regroup front one (Err left) = refl
 
-module _ {A S : Type 0} (read : S → List ℕ → Read A) (next : A → S) (count i : ℕ) (front : List A) (before : S) (bytes : List ℕ)
-    (total : Read (List A)) where
+module _ {A S : Type 0} (read : S → List ℕ → Read A) (next : A → S) (count i : ℕ) (front : List A) (before : S) (bytes : List ℕ) (total : Read (List A)) where
   pub goes_on : (one : A) (then_before : S) (after : List ℕ) → i < count → read before bytes ≡ Ok (one, after) → next one ≡ then_before
-      → with_front front (row_of read next (count - i) before bytes) ≡ total
-      → with_front (front ++ one ∷ []) (row_of read next (count - (i + 1)) then_before after) ≡ total
+      → with_front front (row_of read next (count - i) before bytes) ≡ total → with_front (front ++ one ∷ []) (row_of read next (count - (i + 1)) then_before after) ≡ total
   unfolding row_of
   goes_on one then_before after lt one_is next_is so_far =
       let k : count - i ≡ suc (count - (i + 1)) = omega arith in
-      let step : with_front front (row_of read next (count - i) before bytes)
-      ≡ with_front (front ++ one ∷ []) (row_of read next (count - (i + 1)) (next one) after) =
+      let step : with_front front (row_of read next (count - i) before bytes) ≡ with_front (front ++ one ∷ []) (row_of read next (count - (i + 1)) (next one) after) =
       rw (k, one_is) (regroup front one (row_of read next (count - (i + 1)) (next one) after)) in
       ap (λ (s : S). with_front (front ++ one ∷ []) (row_of read next (count - (i + 1)) s after)) (sym next_is) ∙ (sym step ∙ so_far)
 
@@ -46,8 +41,7 @@ module _ {A S : Type 0} (read : S → List ℕ → Read A) (next : A → S) (cou
   unfolding row_of
   is_done le so_far =
       let k : count - i ≡ 0 = omega arith in
-      let step : with_front front (row_of read next (count - i) before bytes) ≡ Ok (front, bytes) =
-      rw k (ap (λ (all : List A). Ok (all, bytes)) (append-nil front)) in
+      let step : with_front front (row_of read next (count - i) before bytes) ≡ Ok (front, bytes) = rw k (ap (λ (all : List A). Ok (all, bytes)) (append-nil front)) in
       sym so_far ∙ step
 
 pub last_value-push : (front : List Item) (item : Item) → Some item.value ≡ last_value (front ++ item ∷ [])

@@ -1,5 +1,5 @@
 -- Things in a row: what is read is what was written, and what was written is read again.
-use Rattle.std.proofs.Common.{◌≡◌, ℕ, zero, suc, List, [], ◌∷◌, ◌++◌, length, Ok, refl, ap, subst, ◌∙◌, append_assoc}
+use Rattle.std.proofs.Common.{◌≡◌, ℕ, zero, suc, List, [], ◌∷◌, ◌++◌, length, Result, Ok, refl, ap, subst, ◌∙◌, append_assoc}
 use Rattle.std.specs.List.{flat_map, AllByRecursion}
 use Rattle.std.proofs.lemmas.List.Concat.{flat_map-cons}
 use Rattle.attr_saver.specs.Fields.{◌>>=◌, Read, row_of}
@@ -18,19 +18,16 @@ chain_all next P Q each before (x ∷ xs) chain = (each before x chain.0, chain_
 
 module _ {A S : Type 0} (read : S → List ℕ → Read A) (next : A → S) (P : S → A → Type 0) (text : A → List ℕ) where
   abbrev pub ReadsOne : Type 0
-  ReadsOne = (before : S) (bytes : List ℕ) (x : A × List ℕ) → AreBytes bytes → read before bytes ≡ Ok x
-      → Takes bytes (text x.0) x.1 × P before x.0
+  ReadsOne = (before : S) (bytes : List ℕ) (x : A × List ℕ) → AreBytes bytes → read before bytes ≡ Ok x → Takes bytes (text x.0) x.1 × P before x.0
 
-  pub row_takes : ReadsOne → (count : ℕ) (before : S) (bytes : List ℕ) (x : List A × List ℕ) → AreBytes bytes
-      → row_of read next count before bytes ≡ Ok x
+  pub row_takes : ReadsOne → (count : ℕ) (before : S) (bytes : List ℕ) (x : List A × List ℕ) → AreBytes bytes → row_of read next count before bytes ≡ Ok x
       → Takes bytes (flat_map text x.0) x.1 × (length x.0 ≡ count) × Chain next P before x.0
   unfolding row_of
   row_takes each zero before bytes x fits e =
       subst (λ (y : List A × List ℕ). Takes bytes (flat_map text y.0) y.1 × (length y.0 ≡ 0) × Chain next P before y.0)
       (ok_is ([], bytes) x e) (Takes-nothing bytes fits, refl, tt)
   row_takes each (suc count) before bytes x fits e =
-      let a = bind_ok (read before bytes) (λ first. row_of read next count (next first.0) first.1 >>= λ others. Ok
-      (first.0 ∷ others.0, others.1)) x e in
+      let a = bind_ok (read before bytes) (λ first. row_of read next count (next first.0) first.1 >>= λ others. Ok (first.0 ∷ others.0, others.1)) x e in
       let b = bind_ok (row_of read next count (next a.0.0) a.0.1) (λ others. Ok (a.0.0 ∷ others.0, others.1)) x a.2 in
       let first = each before bytes a.0 fits a.1 in
       let second = row_takes each count (next a.0.0) a.0.1 b.0 first.0.rest_fits b.1 in

@@ -1,9 +1,12 @@
 -- A save that is read is the save that was written, and what was written is read again.
-use Rattle.std.proofs.Common.{◌≡◌, ℕ, ◌^◌, ◌≤◌, true, List, ◌++◌, length, Option, Ok, ℤ, pos, FitsSigned, refl, sym, ap, subst, ◌∙◌}
-use Rattle.std.proofs.Common.{append_assoc, arith}
+use Rattle.std.proofs.Common.{◌≡◌, ℕ, zero, suc, ◌+◌, ◌^◌, ◌<◌, ◌≤◌, Bool, true, false, cond, ltb, leb, eqb, ◌&&◌, List, [], ◌∷◌, ◌++◌, length, Option, Some, None, Result, Ok, Err, ℤ, pos, FitsSigned, refl, sym, ap, subst, ◌∙◌, append_assoc, arith}
 use Rattle.std.specs.Int.{w16, w32, to_be_bytes, cast_signed, cast_unsigned}
+use Rattle.std.specs.List.{flat_map}
 use Rattle.std.proofs.Math.Facts.{sfits_to_z, Fits-of_lt, Fits-of_z}
+use Rattle.std.proofs.lemmas.Bool.{ltb-false, ltb-true, le-ltb, lt-ltb, eqb-true, leb-true}
 use Rattle.std.proofs.lemmas.Int.{of_z-to_z, to_z-of_z}
+use Rattle.std.proofs.lemmas.List.{append-nil, nil_from_length}
+use Rattle.attr_types.specs.Lawful.{last_doc}
 use Rattle.attr_types.specs.Value.{type_of}
 use Rattle.attr_types.specs.declared.items.Item.{Item}
 use Rattle.attr_types.specs.declared.kind.Kind.{Kind}
@@ -12,12 +15,13 @@ use Rattle.attr_types.specs.declared.kind.ValueType.{ValueType}
 use Rattle.attr_types.specs.declared.kind.ValueType.TheVariants as types
 use Rattle.attr_types.specs.declared.value.Value.{Value}
 use Rattle.attr_types.specs.declared.value.Value.TheVariants as values
-use Rattle.attr_saver.specs.Bytes.{text_bytes, value_bytes, weight_bytes, item_bytes}
-use Rattle.attr_saver.specs.Fields.{◌>>=◌, number_at, may_follow, following, long_at, text_len_at, text_at, value_at, weight_at, item_at}
+use Rattle.attr_saver.specs.Bytes.{text_bytes, value_bytes, weight_bytes, item_bytes, document_bytes, saved_bytes, form_bytes, head_bytes, magic, kind_byte, type_byte}
+use Rattle.attr_saver.specs.Fields.{◌>>=◌, Read, bad, number_at, may_follow, following, long_at, text_len_at, text_at, value_at, weight_at, item_at, row_of, items_at}
 use Rattle.attr_saver.specs.Laws.{AreBytes}
-use Rattle.attr_saver.specs.Lawful.{IsStorableValue, IsStorableText}
-use Rattle.attr_saver.proofs.FieldLemmas.{bind_ok, ok_is, where_ok, Takes, Takes-then, Takes-nothing, wide32, number_takes, number_again}
+use Rattle.attr_saver.specs.Lawful.{IsStorableValue, IsStorableText, IsStorable}
+use Rattle.attr_saver.proofs.FieldLemmas.{bind_ok, ok_is, unless_ok, where_ok, Takes, Takes-then, Takes-nothing, wide16, wide32, number_takes, number_again}
 use Rattle.attr_saver.proofs.FieldLemmas.{long_takes, long_again, text_len_takes, text_len_again, text_takes, text_again}
+use Rattle.attr_saver.proofs.Rows.{Chain, row_takes, row_again}
 
 -- ---- values
 
@@ -47,14 +51,12 @@ value_takes kind types.Long before bytes x fits e =
     let t = long_takes bytes a.0 fits a.1 in
     value_followed kind types.Long before (length bytes) bytes a.0 x a.2 t.0 t.1 t.2
 value_takes kind types.Text before bytes x fits e =
-    let l = bind_ok (text_len_at bytes) (λ len. text_at len.0 len.1 >>= λ read. following kind before
-    (length len.1) read.0 >>= λ value. Ok (value, read.1)) x e in
+    let l = bind_ok (text_len_at bytes) (λ len. text_at len.0 len.1 >>= λ read. following kind before (length len.1) read.0 >>= λ value. Ok (value, read.1)) x e in
     let a = bind_ok (text_at l.0.0 l.0.1) (λ read. following kind before (length l.0.1) read.0 >>= λ value. Ok (value, read.1)) x l.2 in
     let len = text_len_takes bytes l.0 fits l.1 in
     let text = text_takes l.0.0 l.0.1 a.0 len.0.rest_fits a.1 in
     let both = Takes-then bytes (to_be_bytes w16 l.0.0) l.0.1 text.text a.0.1 len.0 text.takes in
-    let whole : Takes bytes (text_bytes text.text) a.0.1 = subst (λ (n : ℕ). Takes bytes (to_be_bytes w16 n ++ text.text) a.0.1)
-    (sym text.len_is) both in
+    let whole : Takes bytes (text_bytes text.text) a.0.1 = subst (λ (n : ℕ). Takes bytes (to_be_bytes w16 n ++ text.text) a.0.1) (sym text.len_is) both in
     let short : length text.text ≤ 1024 = omega (arith, text.len_is, len.1) in
     let stored : IsStorableText text.text = record { utf8 = text.utf8; short = short } in
     value_followed kind types.Text before (length l.0.1) bytes a.0 x a.2
@@ -62,14 +64,12 @@ value_takes kind types.Text before bytes x fits e =
     (subst IsStorableValue text.is stored)
     (ap type_of (sym text.is))
 
-pub value_again : (kind : Kind) (type : ValueType) (before : Option Value) (value : Value) (rest : List ℕ)
-    → ValueFits kind type before value
+pub value_again : (kind : Kind) (type : ValueType) (before : Option Value) (value : Value) (rest : List ℕ) → ValueFits kind type before value
     → value_at kind type before (value_bytes value ++ rest) ≡ Ok (value, rest)
 unfolding value_at
 value_again kind types.Long before (values.Long number) rest fits = rw (long_again number rest fits.stored, fits.follows) refl
 value_again kind types.Text before (values.Text text) rest fits =
-    let regrouped : text_bytes text ++ rest ≡ to_be_bytes w16 (length text) ++ (text ++ rest) =
-    append_assoc (to_be_bytes w16 (length text)) text rest in
+    let regrouped : text_bytes text ++ rest ≡ to_be_bytes w16 (length text) ++ (text ++ rest) = append_assoc (to_be_bytes w16 (length text)) text rest in
     ap (value_at kind types.Text before) regrouped
     ∙ rw (text_len_again (length text) (text ++ rest) fits.stored.short, text_again text rest fits.stored.utf8, fits.follows) refl
 value_again kind types.Long before (values.Text text) rest fits = absurd cc
@@ -98,12 +98,7 @@ weight_takes WeightedSet bytes x fits e =
     let made : ℤ × List ℕ = (cast_signed w32 a.0.0, a.0.1) in
     let whole : Takes bytes (to_be_bytes w32 (cast_unsigned w32 (cast_signed w32 a.0.0))) a.0.1 =
     subst (λ (n : ℕ). Takes bytes (to_be_bytes w32 n) a.0.1) (sym (of_z-to_z w32 a.0.0 t.1)) t.0 in
-    subst (TakesWeight WeightedSet bytes) (ok_is made x a.2) (
-      whole,
-      sfits_to_z {w = w32} {n = a.0.0}
-          (Fits-of_lt {w = w32} {n = a.0.0} t.1),
-      tt,
-    )
+    subst (TakesWeight WeightedSet bytes) (ok_is made x a.2) (whole, sfits_to_z {w = w32} {n = a.0.0} (Fits-of_lt {w = w32} {n = a.0.0} t.1), tt)
 
 pub weight_again : (kind : Kind) (weight : ℤ) (rest : List ℕ) → FitsSigned w32 weight → WeightFits kind weight
     → weight_at kind (weight_bytes kind weight ++ rest) ≡ Ok (weight, rest)
@@ -111,10 +106,7 @@ unfolding weight_at
 weight_again Single weight rest fits one = ap (λ (w : ℤ). Ok (w, rest)) (sym one)
 weight_again Array weight rest fits one = ap (λ (w : ℤ). Ok (w, rest)) (sym one)
 weight_again WeightedSet weight rest fits one =
-    rw (
-      number_again w32 (2 ^ 32) wide32 (cast_unsigned w32 weight) rest (Fits-of_z {w = w32} {z = weight} fits).fits,
-      to_z-of_z w32 weight fits,
-    ) refl
+    rw (number_again w32 (2 ^ 32) wide32 (cast_unsigned w32 weight) rest (Fits-of_z {w = w32} {z = weight} fits).fits, to_z-of_z w32 weight fits) refl
 
 pub record ItemFits (kind : Kind) (type : ValueType) (before : Option Value) (item : Item) : Type 0 where
   pub value : ValueFits kind type before item.value
@@ -125,8 +117,7 @@ pub item_takes : (kind : Kind) (type : ValueType) (before : Option Value) (bytes
     → item_at kind type before bytes ≡ Ok x → Takes bytes (item_bytes kind x.0) x.1 × ItemFits kind type before x.0
 unfolding item_at
 item_takes kind type before bytes x fits e =
-    let a = bind_ok (value_at kind type before bytes) (λ value. weight_at kind value.1 >>= λ weight. Ok
-    (record { value = value.0; weight = weight.0 }, weight.1)) x e in
+    let a = bind_ok (value_at kind type before bytes) (λ value. weight_at kind value.1 >>= λ weight. Ok (record { value = value.0; weight = weight.0 }, weight.1)) x e in
     let b = bind_ok (weight_at kind a.0.1) (λ weight. Ok (record { value = a.0.0; weight = weight.0 }, weight.1)) x a.2 in
     let value = value_takes kind type before bytes a.0 fits a.1 in
     let weight = weight_takes kind a.0.1 b.0 value.0.rest_fits b.1 in
@@ -142,7 +133,4 @@ item_again kind type before item rest fits =
     let regrouped : item_bytes kind item ++ rest ≡ value_bytes item.value ++ (weight_bytes kind item.weight ++ rest) =
     append_assoc (value_bytes item.value) (weight_bytes kind item.weight) rest in
     ap (item_at kind type before) regrouped
-    ∙ rw (
-      value_again kind type before item.value (weight_bytes kind item.weight ++ rest) fits.value,
-      weight_again kind item.weight rest fits.signed fits.weight,
-    ) refl
+    ∙ rw (value_again kind type before item.value (weight_bytes kind item.weight ++ rest) fits.value, weight_again kind item.weight rest fits.signed fits.weight) refl

@@ -1,7 +1,11 @@
 -- What is written one after another is a save.
-use Rattle.std.proofs.Common.{◌≡◌, ℕ, ◌+◌, List, [], ◌∷◌, ◌++◌, length, Fits, w32, refl, arith}
+use Rattle.std.proofs.Common.{◌≡◌, ℕ, ◌+◌, ◌≤◌, ◌<◌, ◌^◌, List, [], ◌∷◌, ◌++◌, length, Fits, w32, refl, sym, ap, ◌∙◌, arith}
 use Rattle.std.specs.List.{flat_map}
+use Rattle.std.proofs.lemmas.List.{length-map}
+use Rattle.attr_types.specs.Lawful.{last_doc}
+use Rattle.attr_types.specs.Query.{items_in}
 use Rattle.attr_types.specs.Table.{Table}
+use Rattle.attr_types.specs.Value.{Document}
 use Rattle.attr_types.specs.declared.kind.Kind.{Kind}
 use Rattle.attr_types.specs.declared.kind.ValueType.{ValueType}
 use Rattle.attr_saver.specs.Bytes.{form_bytes, head_bytes, document_bytes, saved_bytes}
@@ -12,8 +16,7 @@ counted : (table : Table) (n : ℕ) → n ≡ length table → n ≡ length (col
 counted [] n is = is
 counted (e ∷ table) n is = omega (arith, is, counted table (length table) refl)
 
-pub counted_fits : (kind : Kind) (type : ValueType) (table : Table) (n : ℕ) → IsLawfulColumn kind type (column_of table)
-    → n ≡ length table → Fits w32 n
+pub counted_fits : (kind : Kind) (type : ValueType) (table : Table) (n : ℕ) → IsLawfulColumn kind type (column_of table) → n ≡ length table → Fits w32 n
 counted_fits kind type table n lawful is =
     record { fits = omega (arith, column_few kind type (column_of table) lawful, counted table n is) }
 

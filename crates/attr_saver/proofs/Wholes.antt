@@ -1,8 +1,7 @@
 -- Whole documents and whole saves: what is read is what was written, and what was written is read again.
-use Rattle.std.proofs.Common.{◌≡◌, ℕ, ◌-◌, ◌^◌, ◌<◌, ◌≤◌, Bool, true, false, cond, ltb, leb, eqb, ◌&&◌, List, [], ◌∷◌, ◌++◌, length, Some}
-use Rattle.std.proofs.Common.{None, Result, Ok, Err, refl, sym, ap, subst, ◌∙◌, append_assoc, arith}
+use Rattle.std.proofs.Common.{◌≡◌, ℕ, ◌+◌, ◌-◌, ◌^◌, ◌<◌, ◌≤◌, Bool, true, false, cond, ltb, leb, eqb, ◌&&◌, List, [], ◌∷◌, ◌++◌, length, Option, Some, None, Result, Ok, Err, IfOk, refl, sym, ap, subst, ◌∙◌, append_assoc, arith}
 use Rattle.std.specs.Int.{w16, w32, to_be_bytes}
-use Rattle.std.specs.List.{flat_map}
+use Rattle.std.specs.List.{flat_map, AllByRecursion}
 use Rattle.std.proofs.lemmas.Bool.{ltb-false, ltb-true, le-ltb, lt-ltb, eqb-true, leb-true, le-leb}
 use Rattle.std.proofs.lemmas.List.{append-nil, nil_from_length}
 use Rattle.attr_types.specs.Lawful.{last_doc}
@@ -10,18 +9,17 @@ use Rattle.attr_types.specs.declared.items.Item.{Item}
 use Rattle.attr_types.specs.declared.kind.Kind.{Kind}
 use Rattle.attr_types.specs.declared.kind.Kind.TheVariants.{Single, Array, WeightedSet}
 use Rattle.attr_types.specs.declared.kind.ValueType.{ValueType}
+use Rattle.attr_types.specs.declared.value.Value.{Value}
 use Rattle.attr_saver.specs.Bytes.{item_bytes, document_bytes, saved_bytes, form_bytes, head_bytes, magic, kind_byte, type_byte}
-use Rattle.attr_saver.specs.Fields.{◌>>=◌, bad, number_at, magic_at, kind_at, type_at, count_at, item_at, items_at, doc_at, most_items}
-use Rattle.attr_saver.specs.Fields.{item_count_at, document_at, documents_at, saved_at, placed, read_of}
+use Rattle.attr_saver.specs.Fields.{◌>>=◌, Read, bad, number_at, magic_at, kind_at, type_at, count_at, item_at, items_at, doc_at, most_items, item_count_at, document_at, documents_at, saved_at, placed, read_of}
 use Rattle.attr_saver.specs.Laws.{AreBytes}
-use Rattle.attr_saver.specs.Lawful.{IsLawfulSaved}
+use Rattle.attr_saver.specs.Lawful.{IsLawfulColumn, IsLawfulSaved}
 use Rattle.attr_saver.specs.declared.saved.Saved.{Saved}
 use Rattle.attr_saver.specs.declared.saved.SavedDocument.{SavedDocument}
-use Rattle.attr_saver.proofs.Columns.{DocumentFits, column_lawful, column_chain, column_few}
-use Rattle.attr_saver.proofs.FieldLemmas.{bind_ok, ok_is, unless_ok, where_ok, Takes, Takes-then, wide16, wide32, number_takes}
-use Rattle.attr_saver.proofs.FieldLemmas.{number_again}
-use Rattle.attr_saver.proofs.FieldLemmas.{magic_takes, kind_takes, kind_again, type_takes, type_again, count_takes, count_again}
-use Rattle.attr_saver.proofs.Rows.{row_takes, row_again}
+use Rattle.attr_saver.proofs.Columns.{DocumentFits, DocumentChain, StoresItems, column_lawful, column_chain, column_few}
+use Rattle.attr_saver.proofs.FieldLemmas.{bind_ok, ok_is, unless_ok, where_ok, Takes, Takes-then, wide16, wide32, number_takes, number_again}
+use Rattle.attr_saver.proofs.FieldLemmas.{magic_takes, magic_again, kind_takes, kind_again, type_takes, type_again, count_takes, count_again}
+use Rattle.attr_saver.proofs.Rows.{Chain, row_takes, row_again}
 use Rattle.attr_saver.proofs.SaveLemmas.{ItemFits, item_takes, item_again}
 
 -- ---- documents
@@ -38,8 +36,7 @@ doc_takes before bytes x fits e =
     let g = where_ok (ltb before a.0.0 && leb a.0.0 last_doc) (length bytes) a.0 x a.2 in
     let both = and_true (ltb before a.0.0) (leb a.0.0 last_doc) g.0 in
     let t = number_takes w32 (2 ^ 32) wide32 bytes a.0 fits a.1 in
-    subst (λ (y : ℕ × List ℕ). Takes bytes (to_be_bytes w32 y.0) y.1 × (before < y.0) × (y.0 ≤ last_doc)) g.1
-    (t.0, ltb-true _ _ both.0, leb-true _ _ both.1)
+    subst (λ (y : ℕ × List ℕ). Takes bytes (to_be_bytes w32 y.0) y.1 × (before < y.0) × (y.0 ≤ last_doc)) g.1 (t.0, ltb-true _ _ both.0, leb-true _ _ both.1)
 
 doc_again : (before doc : ℕ) (rest : List ℕ) → before < doc → doc ≤ last_doc → doc_at before (to_be_bytes w32 doc ++ rest) ≡ Ok (doc, rest)
 unfolding doc_at
@@ -60,8 +57,7 @@ small_count Single n le = omega (arith, le)
 small_count Array n le = omega (arith, le)
 small_count WeightedSet n le = omega (arith, le)
 
-item_count_again : (kind : Kind) (n : ℕ) (rest : List ℕ) → n ≤ most_items kind
-    → item_count_at kind (to_be_bytes w16 n ++ rest) ≡ Ok (n, rest)
+item_count_again : (kind : Kind) (n : ℕ) (rest : List ℕ) → n ≤ most_items kind → item_count_at kind (to_be_bytes w16 n ++ rest) ≡ Ok (n, rest)
 unfolding item_count_at
 item_count_again kind n rest le = rw (number_again w16 (2 ^ 16) wide16 n rest (small_count kind n le), le-ltb (most_items kind) n le) refl
 
@@ -72,45 +68,33 @@ document_takes : (kind : Kind) (type : ValueType) (before : ℕ) (bytes : List �
     → document_at kind type before bytes ≡ Ok x → TakesDocument kind type before bytes x
 unfolding document_at
 document_takes kind type before bytes x fits e =
-    let d = bind_ok (doc_at before bytes)
-    (λ doc. item_count_at kind doc.1 >>= λ count. items_at kind type count.0 None count.1 >>= λ items. Ok
-    (record { doc = doc.0; items = items.0 }, items.1)) x e in
-    let n = bind_ok (item_count_at kind d.0.1) (λ count. items_at kind type count.0 None count.1 >>= λ items. Ok
-    (record { doc = d.0.0; items = items.0 }, items.1)) x d.2 in
+    let d = bind_ok (doc_at before bytes) (λ doc. item_count_at kind doc.1 >>= λ count. items_at kind type count.0 None count.1 >>= λ items. Ok (record { doc = doc.0; items = items.0 }, items.1)) x e in
+    let n = bind_ok (item_count_at kind d.0.1) (λ count. items_at kind type count.0 None count.1 >>= λ items. Ok (record { doc = d.0.0; items = items.0 }, items.1)) x d.2 in
     let i = bind_ok (items_at kind type n.0.0 None n.0.1) (λ items. Ok (record { doc = d.0.0; items = items.0 }, items.1)) x n.2 in
     let doc = doc_takes before bytes d.0 fits d.1 in
     let count = item_count_takes kind d.0.1 n.0 doc.0.rest_fits n.1 in
-    let items = row_takes (item_at kind type) (λ (item : Item). Some item.value) (ItemFits kind type) (item_bytes kind)
-    (item_takes kind type) n.0.0 None n.0.1 i.0 count.0.rest_fits i.1 in
-    let counted : Takes d.0.1 (to_be_bytes w16 (length i.0.0)) n.0.1 =
-    subst (λ (len : ℕ). Takes d.0.1 (to_be_bytes w16 len) n.0.1) (sym items.1) count.0 in
+    let items = row_takes (item_at kind type) (λ (item : Item). Some item.value) (ItemFits kind type) (item_bytes kind) (item_takes kind type) n.0.0 None n.0.1 i.0 count.0.rest_fits i.1 in
+    let counted : Takes d.0.1 (to_be_bytes w16 (length i.0.0)) n.0.1 = subst (λ (len : ℕ). Takes d.0.1 (to_be_bytes w16 len) n.0.1) (sym items.1) count.0 in
     let end = Takes-then d.0.1 (to_be_bytes w16 (length i.0.0)) n.0.1 (flat_map (item_bytes kind) i.0.0) i.0.1 counted items.0 in
-    let both = Takes-then bytes (to_be_bytes w32 d.0.0) d.0.1 (to_be_bytes w16 (length i.0.0) ++ flat_map
-    (item_bytes kind) i.0.0) i.0.1 doc.0 end in
+    let both = Takes-then bytes (to_be_bytes w32 d.0.0) d.0.1 (to_be_bytes w16 (length i.0.0) ++ flat_map (item_bytes kind) i.0.0) i.0.1 doc.0 end in
     let made : SavedDocument × List ℕ = (record { doc = d.0.0; items = i.0.0 }, i.0.1) in
     let few : length i.0.0 ≤ most_items kind = omega (arith, items.1, count.1) in
-    subst (TakesDocument kind type before bytes) (ok_is made x i.2) (
-      both,
-      record { above = doc.1; within = doc.2; few = few; items = items.2 },
-    )
+    subst (TakesDocument kind type before bytes) (ok_is made x i.2) (both, record { above = doc.1; within = doc.2; few = few; items = items.2 })
 
-document_again : (kind : Kind) (type : ValueType) (before : ℕ) (document : SavedDocument) (rest : List ℕ)
-    → DocumentFits kind type before document
+document_again : (kind : Kind) (type : ValueType) (before : ℕ) (document : SavedDocument) (rest : List ℕ) → DocumentFits kind type before document
     → document_at kind type before (document_bytes kind document ++ rest) ≡ Ok (document, rest)
 unfolding document_at
 document_again kind type before document rest fits =
     let doc = to_be_bytes w32 document.doc in
     let count = to_be_bytes w16 (length document.items) in
     let items = flat_map (item_bytes kind) document.items in
-    let regrouped : document_bytes kind document ++ rest ≡ to_be_bytes w32 document.doc ++
-    (to_be_bytes w16 (length document.items) ++ (flat_map (item_bytes kind) document.items ++ rest)) =
+    let regrouped : document_bytes kind document ++ rest ≡ to_be_bytes w32 document.doc ++ (to_be_bytes w16 (length document.items) ++ (flat_map (item_bytes kind) document.items ++ rest)) =
     append_assoc doc (count ++ items) rest ∙ ap (λ (bytes : List ℕ). doc ++ bytes) (append_assoc count items rest) in
     ap (document_at kind type before) regrouped
     ∙ rw (
       doc_again before document.doc (count ++ (items ++ rest)) fits.above fits.within,
       item_count_again kind (length document.items) (items ++ rest) fits.few,
-      row_again (item_at kind type) (λ (item : Item). Some item.value) (ItemFits kind type) (item_bytes kind)
-          (item_again kind type) document.items None rest fits.items,
+      row_again (item_at kind type) (λ (item : Item). Some item.value) (ItemFits kind type) (item_bytes kind) (item_again kind type) document.items None rest fits.items,
     ) refl
 
 -- ---- a whole save
@@ -130,18 +114,15 @@ head_parts : (kind : Kind) (type : ValueType) (operations documents : ℕ) (rest
 unfolding head_bytes form_bytes
 head_parts kind type operations documents rest =
     append_assoc (magic ++ kind_byte kind ∷ type_byte type ∷ []) (to_be_bytes w32 operations ++ to_be_bytes w32 documents) rest
-    ∙ ap (λ (bytes : List ℕ). (magic ++ kind_byte kind ∷ type_byte type ∷ []) ++ bytes)
-    (append_assoc (to_be_bytes w32 operations) (to_be_bytes w32 documents) rest)
+    ∙ ap (λ (bytes : List ℕ). (magic ++ kind_byte kind ∷ type_byte type ∷ []) ++ bytes) (append_assoc (to_be_bytes w32 operations) (to_be_bytes w32 documents) rest)
 
 saved_takes : (bytes : List ℕ) (saved : Saved) → AreBytes bytes → saved_at bytes ≡ Ok saved → IsSave bytes saved
 unfolding saved_at
 saved_takes bytes saved fits e =
-    let m = bind_ok (magic_at bytes)
-    (λ start. kind_at start >>= λ kind. type_at kind.1 >>= λ type. number_at w32 type.1 >>= λ operations. count_at operations.1 >>= λ count.
+    let m = bind_ok (magic_at bytes) (λ start. kind_at start >>= λ kind. type_at kind.1 >>= λ type. number_at w32 type.1 >>= λ operations. count_at operations.1 >>= λ count.
     documents_at kind.0 type.0 count.0 0 count.1 >>= λ documents. cond (eqb (length documents.1) 0)
     (Ok (record { kind = kind.0; value = type.0; operations = operations.0; table = documents.0 })) (bad documents.1)) saved e in
-    let k = bind_ok (kind_at m.0)
-    (λ kind. type_at kind.1 >>= λ type. number_at w32 type.1 >>= λ operations. count_at operations.1 >>= λ count.
+    let k = bind_ok (kind_at m.0) (λ kind. type_at kind.1 >>= λ type. number_at w32 type.1 >>= λ operations. count_at operations.1 >>= λ count.
     documents_at kind.0 type.0 count.0 0 count.1 >>= λ documents. cond (eqb (length documents.1) 0)
     (Ok (record { kind = kind.0; value = type.0; operations = operations.0; table = documents.0 })) (bad documents.1)) saved m.2 in
     let t = bind_ok (type_at k.0.1) (λ type. number_at w32 type.1 >>= λ operations. count_at operations.1 >>= λ count.
@@ -165,16 +146,14 @@ saved_takes bytes saved fits e =
     let t2 = type_takes k.0.1 t.0 t1.rest_fits t.1 in
     let t3 = number_takes w32 (2 ^ 32) wide32 t.0.1 o.0 t2.rest_fits o.1 in
     let t4 = count_takes o.0.1 c.0 t3.0.rest_fits c.1 in
-    let t5 = row_takes (document_at k.0.0 t.0.0) (λ (document : SavedDocument). document.doc) (DocumentFits k.0.0 t.0.0)
-    (document_bytes k.0.0)
+    let t5 = row_takes (document_at k.0.0 t.0.0) (λ (document : SavedDocument). document.doc) (DocumentFits k.0.0 t.0.0) (document_bytes k.0.0)
     (document_takes k.0.0 t.0.0) c.0.0 0 c.0.1 d.0 t4.0.rest_fits d.1 in
     let column = column_lawful k.0.0 t.0.0 d.0.0 t5.2 in
     let rows = flat_map (document_bytes k.0.0) d.0.0 in
     let last : c.0.1 ≡ rows = t5.0.parts ∙ ap (λ (rest : List ℕ). rows ++ rest) end.0 ∙ append-nil rows in
     let counted : o.0.1 ≡ to_be_bytes w32 (length d.0.0) ++ rows =
     t4.0.parts ∙ ap (λ (rest : List ℕ). to_be_bytes w32 c.0.0 ++ rest) last ∙ ap (λ (n : ℕ). to_be_bytes w32 n ++ rows) (sym t5.1) in
-    let whole : bytes ≡ magic ++ ((kind_byte k.0.0 ∷ []) ++ ((type_byte t.0.0 ∷ []) ++
-    (to_be_bytes w32 o.0.0 ++ (to_be_bytes w32 (length d.0.0) ++ rows)))) =
+    let whole : bytes ≡ magic ++ ((kind_byte k.0.0 ∷ []) ++ ((type_byte t.0.0 ∷ []) ++ (to_be_bytes w32 o.0.0 ++ (to_be_bytes w32 (length d.0.0) ++ rows)))) =
     t0.parts ∙ ap (λ (rest : List ℕ). magic ++ rest) (t1.parts ∙ ap (λ (rest : List ℕ). (kind_byte k.0.0 ∷ []) ++ rest) (t2.parts ∙
     ap (λ (rest : List ℕ). (type_byte t.0.0 ∷ []) ++ rest) (t3.0.parts ∙ ap (λ (rest : List ℕ). to_be_bytes w32 o.0.0 ++ rest) counted))) in
     subst (IsSave bytes) end.1 (
@@ -192,8 +171,7 @@ saved_again saved lawful =
     let operations = to_be_bytes w32 saved.operations in
     let read : documents_at saved.kind saved.value (length saved.table) 0 rows ≡ Ok (saved.table, []) =
     ap (documents_at saved.kind saved.value (length saved.table) 0) (sym (append-nil rows))
-    ∙ row_again (document_at saved.kind saved.value) (λ (document : SavedDocument). document.doc) (DocumentFits saved.kind saved.value)
-    (document_bytes saved.kind)
+    ∙ row_again (document_at saved.kind saved.value) (λ (document : SavedDocument). document.doc) (DocumentFits saved.kind saved.value) (document_bytes saved.kind)
     (document_again saved.kind saved.value) saved.table 0 [] chain in
     ap saved_at (head_parts saved.kind saved.value saved.operations (length saved.table) rows)
     ∙ rw (
@@ -216,8 +194,7 @@ pub read_bad : (bytes : List ℕ) (left : ℕ) → saved_at bytes ≡ Err left �
 unfolding read_of
 read_bad bytes left e = ap (placed (length bytes)) e
 
-pub reads_saves : (bytes : List ℕ) (saved : Saved) → AreBytes bytes → read_of bytes ≡ Ok saved
-    → IsLawfulSaved saved × (bytes ≡ saved_bytes saved)
+pub reads_saves : (bytes : List ℕ) (saved : Saved) → AreBytes bytes → read_of bytes ≡ Ok saved → IsLawfulSaved saved × (bytes ≡ saved_bytes saved)
 unfolding read_of
 reads_saves bytes saved fits e = saved_takes bytes saved fits (placed_ok (length bytes) (saved_at bytes) saved e)
 

@@ -1,4 +1,6 @@
-use Rattle.std.proofs.Common.{ap, ◌∙◌}
+use Rattle.std.proofs.Common.{◌≡◌, ◌≤◌, ◌<◌, ◌++◌, ℕ, Ok, ap, sym, ◌∙◌, arith, length}
+use Rattle.std.proofs.lemmas.List.{length-map}
+use Rattle.attr_saver.specs.Bytes.{saved_bytes}
 use Rattle.attr_saver.specs.Fields.{read_of}
 use Rattle.attr_saver.specs.Lawful.{column_of, save_of}
 use Rattle.attr_saver.proofs.Columns.{items_few}

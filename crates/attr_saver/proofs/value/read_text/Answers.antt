@@ -1,12 +1,12 @@
 use Rattle.std.proofs.Common.{◌≡◌, ℕ, Bool, true, false, List, length, Ok, Err, refl, sym, ◌∙◌, ap}
 use Rattle.std.specs.Str.{IsUtf8, is_utf8}
 use Rattle.std.proofs.lemmas.Str.{is_utf8-from_IsUtf8, IsUtf8-from_is_utf8}
+use Rattle.attr_types.specs.declared.value.Value.{Value}
 use Rattle.attr_types.specs.declared.value.Value.TheVariants as values
 use Rattle.attr_saver.specs.Fields.{bytes_at, text_at}
 use Rattle.attr_saver.proofs.value.read_text.Goals as goal
 
-text_good : (len : ℕ) (bytes front rest text : List ℕ) → bytes_at len bytes ≡ Ok (front, rest) → IsUtf8 front → text ≡ front
-    → text_at len bytes ≡ Ok (values.Text text, rest)
+text_good : (len : ℕ) (bytes front rest text : List ℕ) → bytes_at len bytes ≡ Ok (front, rest) → IsUtf8 front → text ≡ front → text_at len bytes ≡ Ok (values.Text text, rest)
 unfolding text_at
 text_good len bytes front rest text there utf8 same = rw (there, is_utf8-from_IsUtf8 front utf8, same) refl
 
@@ -14,8 +14,7 @@ told : (front : List ℕ) (b : Bool) → is_utf8 front ≡ b → ¬ (IsUtf8 fron
 told front true is no_utf8 = absurd (no_utf8 (IsUtf8-from_is_utf8 front is))
 told front false is no_utf8 = is
 
-text_bad : (len : ℕ) (bytes front rest : List ℕ) → bytes_at len bytes ≡ Ok (front, rest) → ¬ (IsUtf8 front)
-    → text_at len bytes ≡ Err (length bytes)
+text_bad : (len : ℕ) (bytes front rest : List ℕ) → bytes_at len bytes ≡ Ok (front, rest) → ¬ (IsUtf8 front) → text_at len bytes ≡ Err (length bytes)
 unfolding text_at
 text_bad len bytes front rest there no_utf8 = rw (there, told front (is_utf8 front) refl no_utf8) refl
 
@@ -26,5 +25,4 @@ returns-in_ok-from_str-in-Ok c =
 
 pub returns-in-Err : goal.returns-in-Err
 returns-in-Err c =
-    text_bad c.args.len c.args.reader.now c.in_ok-bytes.bytes.now _ c.in_ok-bytes.ensures c.in-Err.ensures.cases.0
-    ∙ ap Err (sym c.left-left.ensures)
+    text_bad c.args.len c.args.reader.now c.in_ok-bytes.bytes.now _ c.in_ok-bytes.ensures c.in-Err.ensures.cases.0 ∙ ap Err (sym c.left-left.ensures)
