@@ -8,8 +8,7 @@ use Rattle.std.specs.List.{zip, AllByRecursion}
 use Rattle.entry_ref.specs.References.{offset_of}
 use Rattle.image_base.specs.Records.{Records, SameAt}
 use Rattle.tree_images.proofs.DistinctLemmas.{tree_nodes_distinct}
-use Rattle.tree_node.proofs.RootLemmas.{root_least-few, root_least-above}
-use Rattle.tree_images.proofs.TreeLemmas.{IsNode-form, IsNode-count}
+use Rattle.tree_images.proofs.TreeLemmas.{root_least-above, IsNode-form, IsNode-count}
 use Rattle.tree_images.specs.Nodes.{level_of}
 use Rattle.tree_images.specs.ProofsForTrees.{tree_pairs-same, IsRootNode-same}
 use Rattle.tree_images.specs.Trees.{pairs_below, nodes_below, IsNode, root_level, root_least, tree_pairs, tree_nodes, IsRootNode, IsTree}
