@@ -1,7 +1,7 @@
 -- Places: how they move, and that they stay.
 use Rattle.std.proofs.Common.{append_assoc, ◌≡◌, ℕ, zero, suc, ◌+◌, ◌-◌, ◌<◌, ◌≤◌, List, [], ◌∷◌, ◌++◌, length, get_or, drop, refl, sym, ap, subst, ◌∙◌, arith, if◌then◌else◌, nat_lt, lt-ltb, le-ltb, leb, leb-true, leb-false, IsTrue, Bool, true, false}
 use Rattle.std.specs.List.{flat_map}
-use Rattle.image_base.specs.Records.{Records, HasWord, word_at}
+use Rattle.image_base.specs.Records.{Records, word_at}
 use Rattle.tree_images.specs.Nodes.{level_of, used_of, count_of, node_values}
 use Rattle.tree_images.specs.Trees.{pairs_below, root_level, root_least, tree_pairs, IsNode, IsRootNode}
 use Rattle.tree_images.proofs.TreeLemmas.{IsNode-form}

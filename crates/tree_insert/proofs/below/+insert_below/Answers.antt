@@ -1,6 +1,6 @@
 use Rattle.std.proofs.Common.{rules, Err, ◌≡◌, ◌<◌, ◌≤◌, ◌-◌, ◌++◌, ℕ, suc, List, [], ◌∷◌, length, get_or, take, drop, ◌*◌, true, sym, ap, subst, ◌∙◌, arith, ◌+◌, ◌^◌}
 use Rattle.std.specs.List.{AllByRecursion}
-use Rattle.tree_images.specs.Nodes.{level_of, used_of, node_keys, node_values}
+use Rattle.tree_images.specs.Nodes.{node_keys, node_values}
 use Rattle.tree_images.specs.Trees.{pairs_below, IsNode}
 use Rattle.tree_images.proofs.TreeLemmas.{IsNode-form}
 use Rattle.tree_make.proofs.Results.{if_ok-then}

@@ -1,14 +1,13 @@
-use Rattle.std.proofs.Common.{◌≡◌, ◌<◌, ◌≤◌, ℕ, List, length, sym, ap, subst, ◌∙◌, arith, ◌+◌, ◌^◌}
+use Rattle.std.proofs.Common.{◌≡◌, ◌<◌, ◌≤◌, ℕ, List, length, sym, ap, subst, ◌∙◌, arith, ◌^◌}
 use Rattle.std.specs.List.{zip, AllByRecursion}
-use Rattle.tree_images.specs.Nodes.{level_of, used_of, node_keys, node_values}
-use Rattle.tree_images.specs.Trees.{pairs_below, IsNode}
+use Rattle.tree_images.specs.Nodes.{node_keys, node_values}
 use Rattle.std.specs.declared.cmp.Ordering.{Ordering}
 use Rattle.tree_node.specs.Places.{IsSlot, IsFound, IsLacking}
 use Rattle.tree_images.proofs.TreeLemmas.{IsNode-form}
 use Rattle.tree_make.proofs.Results.{if_ok-then}
 use Rattle.tree_node.proofs.ReadLemmas.{node-even, node-keys-all}
 use Rattle.tree_node.proofs.ChildLemmas.{keys-length}
-use Rattle.key_order.specs.Keys.{seen_by, AllReadable}
+use Rattle.key_order.specs.Keys.{seen_by}
 use Rattle.key_order.specs.Pairs.{put}
 use Rattle.tree_node.specs.Slots.{slot_pairs, IsInHand}
 use Rattle.tree_node.proofs.SlotLemmas.{hand-leaf}
@@ -71,7 +70,7 @@ make_parts-requires-clause-low g c =
     let same : spot.new.frozen ≡ s = spot.ensures.same ∙ read.same in
     let left = c.put_in_leaf.new.slots in
     let now : (P : (ℕ → Ordering) → List ℕ → ℕ → Type 0) → P (seen_by g.K.KeyOrder.read g.K.KeyOrder.order (g.K.KeyOrder.sought c.args.key.now) (g.S.Frozen.records c.read_node-slots.new.frozen)) c.deref.result.now spot.result.slot
-        → P seen slots.keys.items spot.result.slot =
+    → P seen slots.keys.items spot.result.slot =
     λ P h. subst (λ (xs : List ℕ). P seen xs spot.result.slot) c.deref.ensures.0
     (subst (λ f. P (seen_by g.K.KeyOrder.read g.K.KeyOrder.order (g.K.KeyOrder.sought c.args.key.now) (g.S.Frozen.records f)) c.deref.result.now spot.result.slot) read.same h) in
     let level : left.level ≡ 0 = c.put_in_leaf.ensures.level ∙ read.level ∙ form.at_level in
@@ -97,7 +96,7 @@ make_parts-requires-clause-hand g c =
     let same : spot.new.frozen ≡ s = spot.ensures.same ∙ read.same in
     let left = c.put_in_leaf.new.slots in
     let now : (P : (ℕ → Ordering) → List ℕ → ℕ → Type 0) → P (seen_by g.K.KeyOrder.read g.K.KeyOrder.order (g.K.KeyOrder.sought c.args.key.now) (g.S.Frozen.records c.read_node-slots.new.frozen)) c.deref.result.now spot.result.slot
-        → P seen slots.keys.items spot.result.slot =
+    → P seen slots.keys.items spot.result.slot =
     λ P h. subst (λ (xs : List ℕ). P seen xs spot.result.slot) c.deref.ensures.0
     (subst (λ f. P (seen_by g.K.KeyOrder.read g.K.KeyOrder.order (g.K.KeyOrder.sought c.args.key.now) (g.S.Frozen.records f)) c.deref.result.now spot.result.slot) read.same h) in
     let level : left.level ≡ 0 = c.put_in_leaf.ensures.level ∙ read.level ∙ form.at_level in
@@ -124,7 +123,7 @@ make_parts-requires-clause-fits g c =
     let same : spot.new.frozen ≡ s = spot.ensures.same ∙ read.same in
     let left = c.put_in_leaf.new.slots in
     let now : (P : (ℕ → Ordering) → List ℕ → ℕ → Type 0) → P (seen_by g.K.KeyOrder.read g.K.KeyOrder.order (g.K.KeyOrder.sought c.args.key.now) (g.S.Frozen.records c.read_node-slots.new.frozen)) c.deref.result.now spot.result.slot
-        → P seen slots.keys.items spot.result.slot =
+    → P seen slots.keys.items spot.result.slot =
     λ P h. subst (λ (xs : List ℕ). P seen xs spot.result.slot) c.deref.ensures.0
     (subst (λ f. P (seen_by g.K.KeyOrder.read g.K.KeyOrder.order (g.K.KeyOrder.sought c.args.key.now) (g.S.Frozen.records f)) c.deref.result.now spot.result.slot) read.same h) in
     let level : left.level ≡ 0 = c.put_in_leaf.ensures.level ∙ read.level ∙ form.at_level in
@@ -154,7 +153,7 @@ make_parts-requires-clause-few g c =
     let same : spot.new.frozen ≡ s = spot.ensures.same ∙ read.same in
     let left = c.put_in_leaf.new.slots in
     let now : (P : (ℕ → Ordering) → List ℕ → ℕ → Type 0) → P (seen_by g.K.KeyOrder.read g.K.KeyOrder.order (g.K.KeyOrder.sought c.args.key.now) (g.S.Frozen.records c.read_node-slots.new.frozen)) c.deref.result.now spot.result.slot
-        → P seen slots.keys.items spot.result.slot =
+    → P seen slots.keys.items spot.result.slot =
     λ P h. subst (λ (xs : List ℕ). P seen xs spot.result.slot) c.deref.ensures.0
     (subst (λ f. P (seen_by g.K.KeyOrder.read g.K.KeyOrder.order (g.K.KeyOrder.sought c.args.key.now) (g.S.Frozen.records f)) c.deref.result.now spot.result.slot) read.same h) in
     let level : left.level ≡ 0 = c.put_in_leaf.ensures.level ∙ read.level ∙ form.at_level in
@@ -182,7 +181,7 @@ returns-clause-inserts g c =
     let same : spot.new.frozen ≡ s = spot.ensures.same ∙ read.same in
     let left = c.put_in_leaf.new.slots in
     let now : (P : (ℕ → Ordering) → List ℕ → ℕ → Type 0) → P (seen_by g.K.KeyOrder.read g.K.KeyOrder.order (g.K.KeyOrder.sought c.args.key.now) (g.S.Frozen.records c.read_node-slots.new.frozen)) c.deref.result.now spot.result.slot
-        → P seen slots.keys.items spot.result.slot =
+    → P seen slots.keys.items spot.result.slot =
     λ P h. subst (λ (xs : List ℕ). P seen xs spot.result.slot) c.deref.ensures.0
     (subst (λ f. P (seen_by g.K.KeyOrder.read g.K.KeyOrder.order (g.K.KeyOrder.sought c.args.key.now) (g.S.Frozen.records f)) c.deref.result.now spot.result.slot) read.same h) in
     let level : left.level ≡ 0 = c.put_in_leaf.ensures.level ∙ read.level ∙ form.at_level in

@@ -1,4 +1,4 @@
-use Rattle.std.proofs.Common.{ap, subst, sym, ◌≤◌, ◌∙◌, arith}
+use Rattle.std.proofs.Common.{subst, sym, ◌≤◌, arith}
 use Rattle.std.specs.List.{AllByRecursion}
 use Rattle.tree_images.specs.Nodes.{level_of, used_of}
 use Rattle.tree_node.proofs.ReadLemmas.{node-size, node-room, node-keys-all}

@@ -1,14 +1,13 @@
-use Rattle.std.proofs.Common.{rules, ◌≡◌, ℕ, suc, ◌-◌, List, length, get_or, sym, ap, subst, ◌∙◌, arith}
+use Rattle.std.proofs.Common.{◌≡◌, ℕ, suc, ◌-◌, List, length, get_or, sym, ap, subst, ◌∙◌, arith}
 use Rattle.std.specs.Prelude.{IsSome}
 use Rattle.std.specs.List.{AllByRecursion}
-use Rattle.tree_images.specs.Nodes.{level_of, used_of, node_keys}
+use Rattle.tree_images.specs.Nodes.{level_of}
 use Rattle.tree_images.specs.Trees.{pairs_below, IsNode}
 use Rattle.key_order.specs.Keys.{seen_by, Ascends, AllReadable}
 use Rattle.key_order.specs.Pairs.{lookup}
 use Rattle.tree_node.specs.Places.{IsSlot}
 use Rattle.tree_node.proofs.ReadLemmas.{node-size, node-room, node-keys-all}
 use Rattle.tree_remove.proofs.StepLemmas.{at-low, at-even, at-node, at-ascends, at-all, at-step}
-use Rattle.tree_node.proofs.ChildLemmas.{keys-length, IsNode-lower}
 use Rattle.tree_remove.proofs.below.step_down.Goals as goal
 
 pub read_node-slots-requires : goal.read_node-slots-requires

@@ -1,10 +1,9 @@
-use Rattle.std.proofs.Common.{rules, ◌≡◌, ℕ, ◌+◌, ◌-◌, ◌<◌, ◌≤◌, ◌^◌, suc, length, get_or, sym, ap, subst, ◌∙◌, arith, None, Some}
+use Rattle.std.proofs.Common.{rules, ◌≡◌, ℕ, ◌+◌, ◌-◌, ◌<◌, ◌≤◌, ◌^◌, suc, get_or, sym, ap, subst, ◌∙◌, arith, Some}
 use Rattle.image_base.specs.Records.{word_at}
-use Rattle.tree_images.specs.Nodes.{level_of, used_of, node_keys}
+use Rattle.tree_images.specs.Nodes.{level_of, used_of}
 use Rattle.tree_images.specs.Trees.{pairs_below, IsNode}
 use Rattle.key_order.specs.Keys.{Ascends, AllReadable, seen_by}
 use Rattle.key_order.specs.Pairs.{lookup_pair}
-use Rattle.tree_node.specs.Places.{IsFound, IsLacking}
 use Rattle.tree_node.proofs.ChildLemmas.{IsNode-lower, child-node, child-all, child-ascends, keys-length}
 use Rattle.tree_node.proofs.ReadLemmas.{node-level, node-room, node-size}
 use Rattle.tree_search.proofs.SeekLemmas.{past-none, child-pair, leaf-found, leaf-lacking}

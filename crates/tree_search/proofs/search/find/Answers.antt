@@ -1,4 +1,4 @@
-use Rattle.std.proofs.Common.{◌≡◌, ◌<◌, ℕ, length, sym, ap, subst, ◌∙◌, arith, []}
+use Rattle.std.proofs.Common.{◌≡◌, ◌<◌, ℕ, sym, ap, subst, ◌∙◌, arith, []}
 use Rattle.std.specs.Option.{option_map}
 use Rattle.tree_images.specs.Nodes.{level_of}
 use Rattle.tree_images.specs.Trees.{pairs_below, tree_pairs, IsNode}
@@ -30,8 +30,7 @@ find_below-requires g c =
     let level = c.read_head-level.result.level in
     let is : level ≡ level_of (m root) = c.read_head-level.ensures.level in
     let same = c.read_head-level.ensures.same in
-    let all = root_pairs m root some tree in
-    (
+    let all = root_pairs m root some tree in (
       omega arith,
       (
         subst (λ (f : g.row.F.Denot). IsNode (records f) 1 level root) (sym same) (subst (λ l. IsNode m 1 l root) (sym is) (leads-node m root [] root (leads-root m root some tree))),

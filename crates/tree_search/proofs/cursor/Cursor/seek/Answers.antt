@@ -1,4 +1,4 @@
-use Rattle.std.proofs.Common.{rules, ◌≡◌, ◌+◌, ◌-◌, ◌/◌, ◌<◌, ◌≤◌, ◌^◌, length, get_or, sym, ap, subst, ◌∙◌, arith, []}
+use Rattle.std.proofs.Common.{◌≡◌, ◌+◌, ◌-◌, ◌<◌, ◌≤◌, ◌^◌, get_or, sym, ap, subst, ◌∙◌, arith, []}
 use Rattle.image_base.specs.Records.{word_at}
 use Rattle.tree_images.specs.Nodes.{level_of, used_of, node_keys}
 use Rattle.tree_images.specs.Trees.{pairs_below, tree_pairs, IsNode}
@@ -136,8 +136,7 @@ visit-spot-requires-in-loop-cursor g c =
     let was = ap level_of it.words in
     let above : 0 < level_of (m node) = (let test = c.loop-cursor-test.true in omega arith) in
     let q = c.from_raw-node.result in
-    let child : q ≡ word_at m node (18 + slot) = c.from_raw-node.ensures ∙ ap (λ ws. get_or ws (18 + slot) 0) it.words in
-    (
+    let child : q ≡ word_at m node (18 + slot) = c.from_raw-node.ensures ∙ ap (λ ws. get_or ws (18 + slot) 0) it.words in (
       omega arith,
       (
         subst (λ (f : g.row.F.Denot). IsNode (records f) 1 (level_of (records f q)) q) (sym it.same) (sought-node key.order total (key.read m) s m (key.can_read m) whole root path node slot it.sought above q child),

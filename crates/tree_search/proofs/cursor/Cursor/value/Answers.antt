@@ -1,4 +1,4 @@
-use Rattle.std.proofs.Common.{◌≡◌, ◌+◌, ap, sym, ◌∙◌, get_or}
+use Rattle.std.proofs.Common.{◌+◌, ap, ◌∙◌, get_or}
 use Rattle.tree_search.specs.Places.{Place}
 use Rattle.tree_search.proofs.PlaceLemmas.{pair-value}
 use Rattle.tree_search.proofs.cursor.Cursor.value.Goals as goal
