@@ -98,7 +98,7 @@ struct TreeRun {
 
 /// A run over a tree in a store of its own.
 fn tree_run_of(alloc: Global, load: &TreeLoad) -> Result<TreeRun, StoreError> {
-    match new_store::<TreeLayout>(alloc, 16) {
+    match new_store::<TreeLayout>(alloc, 96) {
         Ok(store) => {
             let mut tree = NumberTree::new(store);
             let counts = run_tree(&mut tree, load)?;

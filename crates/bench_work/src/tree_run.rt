@@ -105,8 +105,8 @@ fn walk<const OFFSET_BITS: u32, F: Frozen<OFFSET_BITS>>(
     let mut sum: u64 = 0;
     let mut cursor = Cursor::first(frozen, root);
     while !cursor.at_end() {
-        let key = cursor.key(frozen);
-        sum = sum.wrapping_add(key.wrapping_add(cursor.value(frozen)));
+        let key = cursor.key();
+        sum = sum.wrapping_add(key.wrapping_add(cursor.value()));
         cursor.next(frozen);
     }
     sum

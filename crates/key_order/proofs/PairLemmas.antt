@@ -3,10 +3,11 @@ use Rattle.std.proofs.Common.{◌≡◌, ◌≢◌, ℕ, zero, suc, ◌<◌, ◌
 use Rattle.std.specs.declared.cmp.Ordering.{Ordering}
 use Rattle.std.specs.declared.cmp.Ordering.TheVariants.{Less, Equal, Greater}
 use Rattle.std.specs.List.{flat_map, AllByRecursion}
+use Rattle.std.specs.Option.{option_map}
 use Rattle.list_facts.proofs.Each.{AllByRecursion-left, AllByRecursion-right}
 use Rattle.tree_images.specs.Trees.{last_key}
 use Rattle.key_order.specs.Keys.{AllBelow}
-use Rattle.key_order.specs.Pairs.{choose, lookup, put, take_out, seek}
+use Rattle.key_order.specs.Pairs.{choose, lookup, lookup_pair, put, take_out, seek}
 
 pub All-child : {A : Type 0} (P : A → Type 0) (f : ℕ → List A) (cs : List ℕ) (i : ℕ) → i < length cs → AllByRecursion P (flat_map f cs) → AllByRecursion P (f (get_or cs i 0))
 All-child P f [] i h all = absurd (omega arith)
@@ -31,6 +32,10 @@ pub lookup-skip : (c : ℕ → Ordering) (xs ys : List (ℕ × ℕ)) → AllBelo
 lookup-skip c [] ys h = refl
 lookup-skip c (x ∷ xs) ys h = ap (λ o. choose o (lookup c (xs ++ ys)) (Some x.1) None) h.0 ∙ lookup-skip c xs ys h.1
 
+pub lookup_pair-skip : (c : ℕ → Ordering) (xs ys : List (ℕ × ℕ)) → AllBelow c xs → lookup_pair c (xs ++ ys) ≡ lookup_pair c ys
+lookup_pair-skip c [] ys h = refl
+lookup_pair-skip c (x ∷ xs) ys h = ap (λ o. choose o (lookup_pair c (xs ++ ys)) (Some x) None) h.0 ∙ lookup_pair-skip c xs ys h.1
+
 pub put-skip : (c : ℕ → Ordering) (pair : ℕ × ℕ) (xs ys : List (ℕ × ℕ)) → AllBelow c xs → put c pair (xs ++ ys) ≡ xs ++ put c pair ys
 put-skip c pair [] ys h = refl
 put-skip c pair (x ∷ xs) ys h =
@@ -51,6 +56,10 @@ seek-skip c (x ∷ xs) ys h = ap (λ o. choose o (seek c (xs ++ ys)) (x ∷ (xs 
 pub lookup-below : (c : ℕ → Ordering) (xs : List (ℕ × ℕ)) → AllBelow c xs → lookup c xs ≡ None
 lookup-below c [] h = refl
 lookup-below c (x ∷ xs) h = ap (λ o. choose o (lookup c xs) (Some x.1) None) h.0 ∙ lookup-below c xs h.1
+
+pub lookup_pair-below : (c : ℕ → Ordering) (xs : List (ℕ × ℕ)) → AllBelow c xs → lookup_pair c xs ≡ None
+lookup_pair-below c [] h = refl
+lookup_pair-below c (x ∷ xs) h = ap (λ o. choose o (lookup_pair c xs) (Some x) None) h.0 ∙ lookup_pair-below c xs h.1
 
 pub put-below : (c : ℕ → Ordering) (pair : ℕ × ℕ) (xs : List (ℕ × ℕ)) → AllBelow c xs → put c pair xs ≡ xs ++ (pair ∷ [])
 put-below c pair [] h = refl
@@ -77,6 +86,18 @@ lookup-stop c (x ∷ []) ys some h =
 lookup-stop c (x ∷ y ∷ xs) ys some h =
     let rest = lookup-stop c (y ∷ xs) ys (omega arith) h in
     ap (λ o. choose (c x.0) o (Some x.1) None) rest
+
+pub lookup_pair-stop : (c : ℕ → Ordering) (xs ys : List (ℕ × ℕ)) → 0 < length xs → c (last_key xs) ≢ Less → lookup_pair c (xs ++ ys) ≡ lookup_pair c xs
+lookup_pair-stop c [] ys some h = absurd (omega arith)
+lookup_pair-stop c (x ∷ []) ys some h =
+    elim (c x.0) as (λ o. o ≢ Less → choose o (lookup_pair c ys) (Some x) None ≡ choose o None (Some x) None) [
+      | Less ↦ λ n. absurd (n refl)
+      | Equal ↦ λ n. refl
+      | Greater ↦ λ n. refl
+    ] h
+lookup_pair-stop c (x ∷ y ∷ xs) ys some h =
+    let rest = lookup_pair-stop c (y ∷ xs) ys (omega arith) h in
+    ap (λ o. choose (c x.0) o (Some x) None) rest
 
 pub put-stop : (c : ℕ → Ordering) (pair : ℕ × ℕ) (xs ys : List (ℕ × ℕ)) → 0 < length xs → c (last_key xs) ≢ Less → put c pair (xs ++ ys) ≡ put c pair xs ++ ys
 put-stop c pair [] ys some h = absurd (omega arith)
@@ -207,3 +228,13 @@ lookup-put c pair (p ∷ ps) e =
       | Equal ↦ λ h. ap (λ o. choose o (lookup c ps) (Some pair.1) None) e
       | Greater ↦ λ h. ap (λ o. choose o (lookup c (p ∷ ps)) (Some pair.1) None) e
     ]) refl
+
+-- the value at a key is that of the pair at it
+pub lookup-of_pair : (c : ℕ → Ordering) (ps : List (ℕ × ℕ)) → lookup c ps ≡ option_map (λ p. p.1) (lookup_pair c ps)
+lookup-of_pair c [] = refl
+lookup-of_pair c (p ∷ ps) =
+    elim (c p.0) as (λ o. choose o (lookup c ps) (Some p.1) None ≡ option_map (λ (q : ℕ × ℕ). q.1) (choose o (lookup_pair c ps) (Some p) None)) [
+      | Less ↦ lookup-of_pair c ps
+      | Equal ↦ refl
+      | Greater ↦ refl
+    ]

@@ -1,11 +1,12 @@
 -- Stored keys, by what they read as over records.
 use Rattle.std.specs.Prelude.{◌≡◌, ◌≢◌, ◌<◌, ℕ, List, length, map}
 use Rattle.std.specs.declared.cmp.Ordering.{Ordering}
-use Rattle.std.specs.declared.cmp.Ordering.TheVariants.{Less}
+use Rattle.std.specs.declared.cmp.Ordering.TheVariants.{Less, Equal}
 use Rattle.std.specs.List.{AllByRecursion}
 use Rattle.std.specs.List.Sorted.{IsStrictlySortedBy}
 use Rattle.image_base.specs.Records.{Records}
 use Rattle.tree_images.specs.declared.TheConstants.{NODE_WORDS}
+use Rattle.tree_images.specs.Trees.{tree_pairs, IsTree}
 
 -- a stored key beside the one sought
 abbrev pub seen_by : {V : Type 0} → (Records → ℕ → V) → (V → V → Ordering) → V → Records → ℕ → Ordering
@@ -39,3 +40,17 @@ NoneReadsNodes reads_from m ps = AllByRecursion (λ p. ReadsNoNode reads_from m 
 -- each record that is no node is in the second as it was
 abbrev pub KeepsOthers : Records → Records → Type 0
 KeepsOthers m n = (ref : ℕ) → IsNoNode m ref → n ref ≡ m ref
+
+-- a tree whose keys can be read, and from no node
+pub record IsKeyedTree {V : Type 0} (order : V → V → Ordering) (read : Records → ℕ → V) (can_read : Records → ℕ → Type 0)
+    (reads_from : Records → ℕ → List ℕ) (m : Records) (root : ℕ) : Type 0 where
+  pub tree : IsTree order read m root
+  pub readable : AllReadable can_read m (tree_pairs m root)
+  pub apart : NoneReadsNodes reads_from m (tree_pairs m root)
+
+-- a word that reads as the key sought, and from no node
+pub record IsKeyWord {V : Type 0} (order : V → V → Ordering) (read : Records → ℕ → V) (can_read : Records → ℕ → Type 0)
+    (reads_from : Records → ℕ → List ℕ) (sought : V) (m : Records) (word : ℕ) : Type 0 where
+  pub readable : can_read m word
+  pub apart : ReadsNoNode reads_from m word
+  pub equal : seen_by read order sought m word ≡ Equal

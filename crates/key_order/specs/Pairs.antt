@@ -13,6 +13,11 @@ abbrev pub lookup : (ℕ → Ordering) → List (ℕ × ℕ) → Option ℕ
 lookup c [] = None
 lookup c (p ∷ ps) = choose (c p.0) (lookup c ps) (Some p.1) None
 
+-- the pair at the key sought
+abbrev pub lookup_pair : (ℕ → Ordering) → List (ℕ × ℕ) → Option (ℕ × ℕ)
+lookup_pair c [] = None
+lookup_pair c (p ∷ ps) = choose (c p.0) (lookup_pair c ps) (Some p) None
+
 -- the list with a pair in its place, or in place of the pair of an equal key
 abbrev pub put : (ℕ → Ordering) → ℕ × ℕ → List (ℕ × ℕ) → List (ℕ × ℕ)
 put c pair [] = pair ∷ []

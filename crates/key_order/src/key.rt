@@ -32,4 +32,8 @@ pub trait KeyOrder<const OFFSET_BITS: u32> {
     // a key can be read, as the same, wherever the records that it is read from are the same
     ghost stays: { (m n : Records) (key : ℕ) → can_read m key → SameAt (reads_from m key) m n
         → can_read n key × (read n key ≡ read m key) };
+
+    // and is read from the same records there
+    ghost steady: { (m n : Records) (key : ℕ) → can_read m key → SameAt (reads_from m key) m n
+        → reads_from n key ≡ reads_from m key };
 }

@@ -1,11 +1,19 @@
 ghost use Rattle.std.specs.Prelude.{◌≡◌, ◌≤◌, ◌+◌, ℕ, List, None, Some, IsSome, length};
 ghost use Rattle.std.specs.declared.cmp.Ordering.{Ordering};
 ghost use Rattle.std.specs.declared.cmp.Ordering.TheVariants.{Equal};
-ghost use Rattle.image_base.specs.Records.{Records};
-ghost use Rattle.key_order.specs.Keys.{Ascends, KeepsOthers, AllReadable, NoneReadsNodes, seen_by};
-ghost use Rattle.key_order.specs.Pairs.{lookup, put, take_out};
+ghost use Rattle.std.specs.List.{flat_map};
+ghost use Rattle.std.specs.Option.{option_map};
+ghost use Rattle.image_base.specs.Records.{Records, SameAt};
+ghost use Rattle.tree_images.specs.Trees.{tree_nodes, tree_pairs};
+ghost use Rattle.key_order.specs.Keys.{Ascends, KeepsOthers, AllReadable, NoneReadsNodes, IsKeyedTree, IsKeyWord, seen_by};
+ghost use Rattle.key_order.specs.Pairs.{lookup, lookup_pair, put, take_out};
 
 use crate::key::KeyOrder;
+
+/// The value at a key is that of the pair at it.
+pub fn pair_law()
+    ensures { (c : ℕ → Ordering) (ps : List (ℕ × ℕ)) → lookup c ps ≡ option_map (λ p. p.1) (lookup_pair c ps) }
+{}
 
 /// What was put in is found, one pair more or none is there, and keys ascend as before.
 pub fn put_law<const OFFSET_BITS: u32, K: KeyOrder<OFFSET_BITS>>()
@@ -30,6 +38,18 @@ pub fn take_out_law<const OFFSET_BITS: u32, K: KeyOrder<OFFSET_BITS>>()
 pub fn key_law<const OFFSET_BITS: u32, K: KeyOrder<OFFSET_BITS>>()
     ensures readable { (m n : Records) (ps : List (ℕ × ℕ)) → KeepsOthers m n → AllReadable K.can_read m ps
         → NoneReadsNodes K.reads_from m ps → AllReadable K.can_read n ps }
+    ensures apart { (m n : Records) (ps : List (ℕ × ℕ)) → KeepsOthers m n → AllReadable K.can_read m ps
+        → NoneReadsNodes K.reads_from m ps → NoneReadsNodes K.reads_from n ps }
     ensures ascends { (m n : Records) (ps : List (ℕ × ℕ)) → KeepsOthers m n → AllReadable K.can_read m ps
         → NoneReadsNodes K.reads_from m ps → Ascends K.order K.read m ps → Ascends K.order K.read n ps }
+{}
+
+/// A tree stays where its nodes and the records that its keys are read from stay; a word stays a key where
+/// all records but nodes stay.
+pub fn keyed_law<const OFFSET_BITS: u32, K: KeyOrder<OFFSET_BITS>>()
+    ensures tree { (m n : Records) (root : ℕ) → SameAt (tree_nodes m root) m n
+        → SameAt (flat_map (λ p. K.reads_from m p.0) (tree_pairs m root)) m n
+        → IsKeyedTree K.order K.read K.can_read K.reads_from m root → IsKeyedTree K.order K.read K.can_read K.reads_from n root }
+    ensures word { (m n : Records) (s : K.Read) (word : ℕ) → KeepsOthers m n
+        → IsKeyWord K.order K.read K.can_read K.reads_from s m word → IsKeyWord K.order K.read K.can_read K.reads_from s n word }
 {}

@@ -6,5 +6,5 @@ mod laws;
 mod number;
 
 pub use key::KeyOrder;
-pub use laws::{key_law, put_law, take_out_law};
+pub use laws::{key_law, keyed_law, pair_law, put_law, take_out_law};
 pub use number::NumberKey;

@@ -31,4 +31,6 @@ impl<const OFFSET_BITS: u32> KeyOrder<OFFSET_BITS> for NumberKey {
     ghost total = { nat_cmp_total };
 
     ghost stays = { λ m n key h s. (tt, refl) };
+
+    ghost steady = { λ m n key h s. refl };
 }

@@ -1,5 +1,5 @@
 -- A walk, pair by pair.
-use Rattle.std.proofs.Common.{◌≡◌, ◌≢◌, ℕ, List, [], ◌∷◌, ◌++◌, drop, append_assoc, refl, ap, sym, ◌∙◌, arith}
+use Rattle.std.proofs.Common.{◌≡◌, ◌≢◌, ℕ, List, [], ◌∷◌, ◌++◌, drop, append_assoc, refl, ap, ◌∙◌}
 use Rattle.tree_search.specs.Places.{first_key, first_value}
 
 -- the next of the pairs that follow is one of those walked

@@ -132,7 +132,10 @@ impl<const OFFSET_BITS: u32, S: Store<OFFSET_BITS, Layout = TreeLayout>> NumberT
         ensures value { result ≡ lookup (beside key) self.old.pairs }
         ensures same { self.new ≡ self.old }
     {
-        find(&mut self.store, self.root, &NumberKey(key))
+        match find(&mut self.store, self.root, &NumberKey(key)) {
+            Some((_, value)) => Some(value),
+            None => None,
+        }
     }
 
     /// How many keys there are.

@@ -23,8 +23,8 @@ pub fn first_from<const OFFSET_BITS: u32, F: Frozen<OFFSET_BITS>>(
     if cursor.at_end() {
         return None;
     }
-    let stored = cursor.key(frozen);
-    let value = cursor.value(frozen);
+    let stored = cursor.key();
+    let value = cursor.value();
     Some((stored, value))
 }
 
@@ -41,8 +41,8 @@ pub fn all_pairs<const OFFSET_BITS: u32, F: Frozen<OFFSET_BITS>>(
     let mut pairs = Vec::new(alloc);
     let mut cursor = Cursor::first(frozen, root);
     while !cursor.at_end() {
-        let key = cursor.key(frozen);
-        let value = cursor.value(frozen);
+        let key = cursor.key();
+        let value = cursor.value();
         pairs.push((key, value))?;
         cursor.next(frozen);
     }

@@ -33,6 +33,8 @@ impl<const OFFSET_BITS: u32> KeyOrder<OFFSET_BITS> for TensKey {
     ghost total = { nat_cmp_total };
 
     ghost stays = { λ m n key h s. (tt, refl) };
+
+    ghost steady = { λ m n key h s. refl };
 }
 
 /// Puts a word as a key, in place of one of the same tens, within a unit.

@@ -12,7 +12,7 @@ length-slot_words slots few =
     omega arith
 
 -- past the slots there are zeros
-slot_words_past : (slots : List ℕ) (i : ℕ) → length slots ≤ i → slice_index (slot_words slots) i ≡ 0
+pub slot_words_past : (slots : List ℕ) (i : ℕ) → length slots ≤ i → slice_index (slot_words slots) i ≡ 0
 slot_words_past slots i past =
     get_or-append_right slots (replicate (16 - length slots) 0) (length slots) i 0 refl past
     ∙ slice_index-zeros (16 - length slots) (i - length slots)

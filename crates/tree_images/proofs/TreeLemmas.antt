@@ -81,7 +81,7 @@ pairs_many m least (suc level) ref node =
     let power : 8 ^ suc level ≡ 8 * 8 ^ level = omega (arith, pow-suc 8 level) in
     subst (λ k. least * k ≤ length (flat_map (pairs_below m level) (node_values (m ref)))) (sym power) (omega arith)
 
-root_least-above : (level : ℕ) → 0 < level → root_least level ≡ 2
+pub root_least-above : (level : ℕ) → 0 < level → root_least level ≡ 2
 root_least-above zero some = absurd (omega arith)
 root_least-above (suc level) some = refl
 

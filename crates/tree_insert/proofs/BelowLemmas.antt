@@ -10,7 +10,7 @@ use Rattle.image_base.specs.Records.{Records}
 use Rattle.store_api.specs.Ledgers.{Ledger}
 use Rattle.tree_images.specs.Nodes.{used_of, node_keys, node_values}
 use Rattle.tree_images.specs.Trees.{pairs_below, nodes_below, last_key, IsNode, Keeps}
-use Rattle.tree_images.proofs.TreeLemmas.{IsNode-form, length-node_keys, length-node_values}
+use Rattle.tree_images.proofs.TreeLemmas.{IsNode-form}
 use Rattle.tree_node.proofs.ChildLemmas.{pairs-some, IsNode-lower, keys-length}
 use Rattle.key_order.specs.Keys.{seen_by, Ascends, AllBelow}
 use Rattle.key_order.specs.Pairs.{put}
@@ -20,8 +20,8 @@ use Rattle.tree_make.proofs.TimesLemmas.{times-append}
 use Rattle.tree_make.specs.Times.{times}
 use Rattle.tree_node.specs.Places.{IsPlace}
 use Rattle.tree_node.specs.Slots.{slot_pairs, slot_nodes, IsInHand}
-use Rattle.tree_node.proofs.KeyLemmas.{keys_all, key_last}
-use Rattle.tree_node.proofs.SlotLemmas.{hand-node, pairs-slots, nodes-slots, hand-append, hand-children, hand-kept, child_nodes, slot_pairs-inner, slot_pairs-leaf, slot_nodes-inner, slot_nodes-leaf, all_pairs-kept, all_nodes-kept, hand-take, hand-drop}
+use Rattle.tree_node.proofs.KeyLemmas.{key_last}
+use Rattle.tree_node.proofs.SlotLemmas.{pairs-slots, nodes-slots, hand-append, hand-children, hand-kept, child_nodes, slot_pairs-inner, slot_pairs-leaf, slot_nodes-inner, slot_nodes-leaf, all_pairs-kept, all_nodes-kept, hand-take, hand-drop}
 use Rattle.tree_insert.specs.Inserts.{Inserts}
 use Rattle.tree_insert.specs.Parts.{AreParts, MakesParts, part_keys, part_nodes}
 use Rattle.tree_insert.specs.declared.parts.Parts.{Parts}

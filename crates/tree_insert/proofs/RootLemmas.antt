@@ -1,11 +1,10 @@
 -- The root over one part or two.
-use Rattle.std.proofs.Common.{◌≡◌, ℕ, zero, suc, ◌+◌, ◌<◌, ◌≤◌, List, [], ◌∷◌, ◌++◌, length, sym, ap, subst, ◌∙◌, arith, min, ◌^◌}
+use Rattle.std.proofs.Common.{◌≡◌, ℕ, suc, ◌+◌, ◌<◌, ◌≤◌, List, [], ◌∷◌, ◌++◌, length, sym, ap, subst, ◌∙◌, arith, ◌^◌}
 use Rattle.std.proofs.lemmas.List.{append-nil}
 use Rattle.std.specs.List.{flat_map}
 use Rattle.image_base.specs.Records.{Records}
 use Rattle.store_api.specs.Ledgers.{Ledger}
-use Rattle.tree_images.specs.Trees.{pairs_below, nodes_below, IsNode, root_level, root_least, tree_pairs, tree_nodes, IsRootNode}
-use Rattle.tree_images.proofs.TreeLemmas.{IsNode-form}
+use Rattle.tree_images.specs.Trees.{pairs_below, nodes_below, IsNode, root_least}
 use Rattle.tree_make.proofs.RootLemmas.{made-balance}
 use Rattle.tree_make.specs.Times.{times}
 use Rattle.tree_make.specs.Makes.{MakesNode}

@@ -1,5 +1,5 @@
 -- The tree with the pair: what is asked on the way, and what it is at the end.
-use Rattle.std.proofs.Common.{◌≡◌, ℕ, zero, suc, ◌+◌, ◌*◌, ◌/◌, ◌<◌, ◌≤◌, true, List, [], ◌∷◌, length, slice_index, nat_eq, refl, sym, ap, subst, ◌∙◌, arith, ◌^◌}
+use Rattle.std.proofs.Common.{◌≡◌, ℕ, suc, ◌+◌, ◌*◌, ◌<◌, ◌≤◌, true, List, [], ◌∷◌, length, nat_eq, refl, sym, ap, subst, ◌∙◌, arith, ◌^◌}
 use Rattle.std.specs.Cmp.{IsTotalOrder}
 use Rattle.std.specs.declared.cmp.Ordering.{Ordering}
 use Rattle.std.specs.declared.cmp.Ordering.TheVariants.{Equal}
@@ -10,12 +10,10 @@ use Rattle.store_api.specs.Statuses.{in_use}
 use Rattle.store_api.specs.Ledgers.{Ledger}
 use Rattle.tree_images.specs.Nodes.{used_of}
 use Rattle.tree_images.specs.ProofsForTrees.{tree_pairs-same, IsRootNode-same}
-use Rattle.tree_images.specs.Trees.{pairs_below, nodes_below, IsNode, root_level, root_least, tree_pairs, tree_nodes, IsRootNode, IsTree}
+use Rattle.tree_images.specs.Trees.{pairs_below, nodes_below, root_level, root_least, tree_pairs, tree_nodes, IsRootNode, IsTree}
 use Rattle.tree_images.proofs.DistinctLemmas.{tree_nodes_distinct}
-use Rattle.tree_node.proofs.ChildLemmas.{IsNode-lower}
 use Rattle.tree_make.proofs.RootLemmas.{made-balance}
 use Rattle.tree_node.proofs.RootLemmas.{tree_pairs-is, tree_nodes-is, root_node-is}
-use Rattle.tree_images.proofs.TreeLemmas.{IsNode-form}
 use Rattle.key_order.specs.Keys.{seen_by, Ascends, AllReadable, ReadsNoNode, NoneReadsNodes, KeepsOthers}
 use Rattle.key_order.specs.Pairs.{put}
 use Rattle.key_order.proofs.KeyLemmas.{keys-readable, ascends-stay, others_kept}
@@ -25,7 +23,7 @@ use Rattle.tree_make.proofs.Balance.{kept-from, replaces-from}
 use Rattle.tree_node.proofs.Bounds.{nodes_wide, children_many, tree_small}
 use Rattle.tree_make.proofs.DropLemmas.{drops-none}
 use Rattle.tree_make.proofs.TimesLemmas.{once_from_distinct, all_at_times, all_from_times, among-times}
-use Rattle.tree_make.specs.Changes.{Drops, Replaces, levels}
+use Rattle.tree_make.specs.Changes.{Drops, Replaces}
 use Rattle.tree_make.specs.Times.{times, uses, EachOnce}
 use Rattle.tree_make.specs.Makes.{MakesNodes, MakesNode}
 use Rattle.tree_node.specs.Slots.{slot_nodes}

@@ -33,9 +33,8 @@ fn insert_in_leaf<const OFFSET_BITS: u32, S: Store<OFFSET_BITS>, K: KeyOrder<OFF
     ensures full { (w a h : ℕ) → result ≡ Err (StoreError.Full w a h) → (w ≡ NODE_WORDS) × IsFull (S.ledger store.new) w a h }
 {
     let mut slots = read_node(store, node);
-    let used = slots.keys.len() as u32;
-    let slot = first_slot(store, node, used, key) as usize;
-    put_in_leaf(store, &mut slots, slot, key, word, value);
+    let spot = first_slot(store, &slots.keys, key);
+    put_in_leaf(&mut slots, spot, word, value);
     make_parts(store, &mut slots)
 }
 
@@ -68,8 +67,7 @@ pub fn insert_below<const OFFSET_BITS: u32, S: Store<OFFSET_BITS>, K: KeyOrder<O
         return insert_in_leaf(store, node, key, word, value);
     }
     let mut slots = read_node(store, node);
-    let used = slots.keys.len() as u32;
-    let place = place_of(store, node, used, key) as usize;
+    let place = place_of(store, &slots.keys, key);
     let child = EntryRef::from_raw(slots.values[place] as u32);
     let parts = insert_below(store, child, level - 1, key, word, value, replaced)?;
     set_parts(&mut slots, place, &parts);

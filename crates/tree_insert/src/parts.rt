@@ -8,25 +8,13 @@ use arrayvec::ArrayVec;
 use store_api::{Store, StoreError};
 use tree_images::{MOST_SLOTS, NODE_WORDS};
 use tree_make::{Part, make_part};
-use tree_node::Slots;
+use tree_node::{Slots, append};
 
 /// What is made in place of a node: one node, or two.
 #[derive(Clone, Copy, Debug, Drop)]
 pub enum Parts {
     One(Part),
     Two(Part, Part),
-}
-
-/// The words from the ninth on.
-fn behind_nine(words: &ArrayVec<u64, 17>) -> ArrayVec<u64, 17>
-    requires { 9 ≤ length words.now.items }
-    ensures { result.items ≡ drop 9 words.now.items }
-{
-    let mut rest = ArrayVec::new();
-    for word in &words.as_slice()[9..] {
-        rest.push(*word);
-    }
-    rest
 }
 
 /// Takes the slots from the ninth on away.
@@ -40,11 +28,13 @@ fn split(slots: &mut Slots) -> Slots
     ensures keys_left { slots.new.keys.items ≡ take 9 slots.old.keys.items }
     ensures values_left { slots.new.values.items ≡ take 9 slots.old.values.items }
 {
-    let rest = Slots {
+    let mut rest = Slots {
         level: slots.level,
-        keys: behind_nine(&slots.keys),
-        values: behind_nine(&slots.values),
+        keys: ArrayVec::new(),
+        values: ArrayVec::new(),
     };
+    append(&mut rest.keys, &slots.keys[9..]);
+    append(&mut rest.values, &slots.values[9..]);
     slots.keys.truncate(9);
     slots.values.truncate(9);
     rest

@@ -1,8 +1,6 @@
 -- What holds of an answer.
-use Rattle.std.specs.Prelude.{OnOk, OnErr, IfOk}
-use Rattle.std.proofs.Common.{◌≡◌, ◌<◌, ℕ, zero, suc, Bool, true, false, IsTrue, true≢false, Result, Ok, Err, IsErrAnd, ◌∙◌, refl, sym, subst, arith}
-use Rattle.std.proofs.lemmas.Result.{err_from_is_err_and}
-use Rattle.list_facts.proofs.Errors.{same_Err}
+use Rattle.std.specs.Prelude.{OnErr, IfOk}
+use Rattle.std.proofs.Common.{◌≡◌, ◌<◌, ℕ, zero, suc, Bool, true, false, IsTrue, true≢false, Result, Ok, Err, refl, sym, subst, arith}
 
 pub if_ok-then : {A E : Type 0} {P Q : A → Type 0} (result : Result A E) → ((x : A) → P x → Q x) → IfOk result P → IfOk result Q
 if_ok-then (Ok x) f h = f x h

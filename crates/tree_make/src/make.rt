@@ -9,7 +9,7 @@ use entry_ref::EntryRef;
 use frozen_api::Frozen;
 use store_api::{Store, StoreError};
 use tree_images::{MOST_SLOTS, NODE_WORDS};
-use tree_node::Slots;
+use tree_node::{Slots, append};
 
 /// A node that was made, as the slot of its parent is to hold it: its last key and its reference.
 #[derive(Clone, Copy, Debug, Drop)]
@@ -44,10 +44,9 @@ fn push_slots(words: &mut ArrayVec<u64, NODE_WORDS>, slots: &[u64])
     requires room { length words.old.items ≤ 18 }
     ensures words { words.new.items ≡ words.old.items ++ slot_words slots.now }
 {
-    for i in 0..MOST_SLOTS {
-        let word = if i < slots.len() { slots[i] } else { 0 };
-        words.push(word);
-    }
+    let zeros = [0; MOST_SLOTS];
+    append(words, slots);
+    append(words, &zeros[slots.len()..]);
 }
 
 /// The words of a node.

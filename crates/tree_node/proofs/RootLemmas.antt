@@ -13,10 +13,6 @@ pub root_least-few : (level : ℕ) → root_least level ≤ 8
 root_least-few zero = omega arith
 root_least-few (suc level) = omega arith
 
-pub root_least-above : (level : ℕ) → 0 < level → root_least level ≡ 2
-root_least-above zero above = absurd (omega arith)
-root_least-above (suc level) above = refl
-
 pub tree_pairs-at : (n : Records) (root : ℕ) → 0 < root → tree_pairs n root ≡ pairs_below n (root_level n root) root
 tree_pairs-at n zero some = absurd (omega arith)
 tree_pairs-at n (suc ref) some = refl

@@ -1,5 +1,5 @@
 -- Slots put together and taken apart, and what stays of them under more records.
-use Rattle.std.proofs.Common.{◌≡◌, ℕ, zero, suc, List, [], ◌∷◌, ◌++◌, length, map, take, drop, min, refl, sym, ap, subst, ◌∙◌, ◌≤◌, arith, length-append, length-take, length-drop}
+use Rattle.std.proofs.Common.{◌≡◌, ℕ, zero, suc, List, [], ◌∷◌, ◌++◌, length, map, take, drop, min, refl, sym, ap, subst, ◌∙◌, ◌≤◌, arith, length-append, length-take}
 use Rattle.std.proofs.lemmas.List.{map-append, take_at, drop_at, append-nil, take-append-drop, length-map}
 use Rattle.std.proofs.lemmas.Grind.{flat_map-append}
 use Rattle.std.specs.List.{zip, flat_map, AllByRecursion}

@@ -1,10 +1,10 @@
-//! Nodes of trees, read: one node into slots in hand, and a key sought among the slots of one.
+//! Nodes of trees, read: the words of one, its slots in hand, and a key sought among keys.
 #![tactic(auto)]
 
 mod read;
 mod search;
 mod slots;
 
-pub use read::read_node;
-pub use search::{Head, child_at, first_slot, is_found, place_of, read_head};
-pub use slots::Slots;
+pub use read::{Head, read_head, read_node, read_words};
+pub use search::{Spot, child_at, first_slot, place_of, visit};
+pub use slots::{Slots, append};

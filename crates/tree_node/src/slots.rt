@@ -1,3 +1,5 @@
+ghost use Rattle.std.specs.Prelude.{◌≡◌, ◌≤◌, ◌+◌, ◌++◌, length};
+
 use arrayvec::ArrayVec;
 
 /// The slots of a node in hand, up to 17, each a key and a value; a leaf has level 0.
@@ -6,4 +8,15 @@ pub struct Slots {
     pub level: u64,
     pub keys: ArrayVec<u64, 17>,
     pub values: ArrayVec<u64, 17>,
+}
+
+/// Appends words, for which there is room.
+pub fn append<const CAP: usize>(words: &mut ArrayVec<u64, CAP>, more: &[u64])
+    requires { length words.old.items + length more.now ≤ CAP }
+    ensures { words.new.items ≡ words.old.items ++ more.now }
+{
+    match words.try_extend_from_slice(more) {
+        Ok(()) => {}
+        Err(_) => unreachable!(),
+    }
 }

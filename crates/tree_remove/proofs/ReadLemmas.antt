@@ -1,16 +1,14 @@
 -- Nodes that were read as slots.
-use Rattle.std.proofs.Common.{◌≡◌, ℕ, ◌-◌, ◌<◌, ◌≤◌, List, length, get_or, sym, ap, subst, ◌∙◌, arith}
+use Rattle.std.proofs.Common.{◌≡◌, ℕ, ◌-◌, ◌<◌, List, length, get_or, sym, subst, ◌∙◌, arith}
 use Rattle.image_base.specs.Records.{Records}
-use Rattle.tree_images.proofs.TreeLemmas.{IsNode-form, length-node_keys, length-node_values}
-use Rattle.tree_images.specs.Nodes.{level_of, used_of, node_keys, node_values}
-use Rattle.tree_images.specs.Trees.{pairs_below, IsNode}
-use Rattle.std.specs.List.{zip, AllByRecursion}
-use Rattle.tree_node.proofs.KeyLemmas.{keys_all}
-use Rattle.tree_node.proofs.SlotLemmas.{slot_pairs-leaf, hand-node, pairs-slots, nodes-slots}
+use Rattle.tree_images.proofs.TreeLemmas.{IsNode-form}
+use Rattle.tree_images.specs.Nodes.{level_of, node_keys, node_values}
+use Rattle.tree_images.specs.Trees.{IsNode}
+use Rattle.tree_node.proofs.SlotLemmas.{hand-node, pairs-slots, nodes-slots}
 use Rattle.tree_node.proofs.CountLemmas.{child_at}
 use Rattle.tree_node.specs.Slots.{IsInHand}
 use Rattle.tree_remove.specs.Removes.{IsChild}
-use Rattle.tree_node.proofs.ReadLemmas.{node-size, node-room, node-level, node-even}
+use Rattle.tree_node.proofs.ReadLemmas.{node-room, node-level, node-even}
 use Rattle.tree_node.proofs.ChildLemmas.{keys-length}
 
 -- at the level and with the slots that were read

@@ -1,12 +1,12 @@
 -- A pair taken out of a leaf, and of the child of a node.
-use Rattle.std.proofs.Common.{◌≡◌, ℕ, zero, suc, ◌+◌, ◌<◌, ◌≤◌, List, [], ◌∷◌, ◌++◌, length, take, drop, refl, sym, ap, ◌∙◌, arith, length-append, ◌^◌}
+use Rattle.std.proofs.Common.{◌≡◌, ℕ, zero, suc, ◌+◌, ◌<◌, ◌≤◌, List, [], ◌∷◌, ◌++◌, length, take, drop, sym, ap, ◌∙◌, arith, length-append, ◌^◌}
 use Rattle.std.specs.Prelude.{IsSome}
 use Rattle.std.specs.List.{zip, flat_map}
 use Rattle.std.specs.declared.cmp.Ordering.{Ordering}
 use Rattle.image_base.specs.Records.{Records}
 use Rattle.tree_images.proofs.TreeLemmas.{IsNode-form}
 use Rattle.tree_images.specs.Nodes.{used_of, node_values}
-use Rattle.tree_images.specs.Trees.{pairs_below, nodes_below, Keeps, root_least}
+use Rattle.tree_images.specs.Trees.{pairs_below, nodes_below, Keeps}
 use Rattle.key_order.proofs.PairLemmas.{children-cut, length-take_out}
 use Rattle.key_order.specs.Pairs.{lookup, take_out}
 use Rattle.store_api.specs.Ledgers.{Ledger}

@@ -1,18 +1,14 @@
 -- The tree without the pair: its root, and what is left of the store.
-use Rattle.std.proofs.Common.{◌≡◌, ◌≢◌, ℕ, zero, suc, ◌<◌, ◌≤◌, true, List, [], ◌∷◌, length, get_or, min, Bool, false, true≢false, ne_eqb, refl, sym, ap, subst, ◌∙◌, arith, ◌^◌}
-use Rattle.std.specs.Prelude.{IsSome, ◌==◌}
-use Rattle.std.proofs.lemmas.List.{nil_from_length}
+use Rattle.std.proofs.Common.{◌≡◌, ℕ, zero, suc, ◌<◌, ◌≤◌, true, List, [], length, refl, sym, ap, subst, ◌∙◌, arith, ◌^◌}
+use Rattle.std.specs.Prelude.{IsSome}
 use Rattle.std.specs.Cmp.{IsTotalOrder}
 use Rattle.std.specs.declared.cmp.Ordering.{Ordering}
-use Rattle.std.specs.List.{zip, AllByRecursion}
-use Rattle.entry_ref.specs.References.{offset_of}
+use Rattle.std.specs.List.{AllByRecursion}
 use Rattle.image_base.specs.Records.{Records, SameAt}
 use Rattle.tree_images.proofs.DistinctLemmas.{tree_nodes_distinct}
-use Rattle.tree_node.proofs.RootLemmas.{root_least-few, root_least-above}
-use Rattle.tree_images.proofs.TreeLemmas.{IsNode-form, IsNode-count}
-use Rattle.tree_images.specs.Nodes.{level_of}
+use Rattle.tree_images.proofs.TreeLemmas.{root_least-above, IsNode-form, IsNode-count}
 use Rattle.tree_images.specs.ProofsForTrees.{tree_pairs-same, IsRootNode-same}
-use Rattle.tree_images.specs.Trees.{pairs_below, nodes_below, IsNode, root_level, root_least, tree_pairs, tree_nodes, IsRootNode, IsTree}
+use Rattle.tree_images.specs.Trees.{pairs_below, IsNode, root_level, root_least, tree_pairs, tree_nodes, IsRootNode, IsTree}
 use Rattle.key_order.proofs.KeyLemmas.{keys-readable, ascends-stay}
 use Rattle.key_order.proofs.OrderLemmas.{take_out-ascends}
 use Rattle.key_order.proofs.PairLemmas.{All-take_out, length-take_out}
@@ -23,12 +19,11 @@ use Rattle.store_api.specs.Ledgers.{Ledger}
 use Rattle.tree_make.proofs.Balance.{kept-from, replaces-from}
 use Rattle.tree_node.proofs.Bounds.{nodes_wide}
 use Rattle.tree_make.proofs.TimesLemmas.{once_from_distinct, all_at_times, all_from_times}
-use Rattle.tree_make.specs.Changes.{Drops, Replaces, levels}
+use Rattle.tree_make.specs.Changes.{Drops, Replaces}
 use Rattle.tree_make.specs.Times.{times, EachOnce}
-use Rattle.tree_make.proofs.MakesLemmas.{makes-none, makes-stays}
-use Rattle.tree_node.proofs.SlotLemmas.{slot_pairs-leaf, slot_nodes-leaf, slot_pairs-one, slot_nodes-one, child_nodes}
+use Rattle.tree_make.proofs.MakesLemmas.{makes-stays}
 use Rattle.tree_make.specs.Makes.{MakesNodes, MakesRoot}
-use Rattle.tree_node.specs.Slots.{slot_pairs, slot_nodes, IsInHand}
+use Rattle.tree_node.specs.Slots.{slot_pairs}
 use Rattle.tree_make.proofs.TopLemmas.{root-node, root-pairs, root-nodes}
 use Rattle.tree_remove.specs.Removes.{Removes, Rebuilds}
 

@@ -1,11 +1,12 @@
 ghost use Rattle.std.specs.Prelude.{◌≡◌, ◌≤◌, ◌<◌, ◌+◌, ◌-◌, ◌*◌, ◌++◌, ◌∷◌, [], true, length, suc, IsSome, IfOk, OnErr, ℕ};
-ghost use Rattle.std.specs.List.{zip};
+ghost use Rattle.std.specs.List.{zip, AllByRecursion};
 ghost use Rattle.tree_images.specs.Nodes.{level_of, used_of};
 ghost use Rattle.tree_images.specs.Trees.{pairs_below, IsNode, root_least};
 ghost use Rattle.key_order.specs.Keys.{seen_by, Ascends, AllReadable};
 ghost use Rattle.key_order.specs.Pairs.{lookup, take_out};
 ghost use Rattle.store_api.specs.Ledgers.{IsFull};
 ghost use Rattle.tree_make.specs.Makes.{MakesNodes};
+ghost use Rattle.tree_node.specs.Places.{IsSlot};
 ghost use Rattle.tree_remove.specs.Removes.{IsStep, Removes};
 
 use crate::parent::put_back;
@@ -23,6 +24,19 @@ struct Descent<const OFFSET_BITS: u32> {
     slots: Slots,
     place: usize,
     child: EntryRef<OFFSET_BITS>,
+}
+
+/// The first slot whose key is not below the one sought.
+fn slot_of<const OFFSET_BITS: u32, F: Frozen<OFFSET_BITS>, K: KeyOrder<OFFSET_BITS>>(
+    frozen: &mut F,
+    keys: &[u64],
+    key: &K,
+) -> usize
+    requires { AllByRecursion (K.can_read (F.records frozen.old)) keys.now }
+    ensures slot { IsSlot (seen_by K.read K.order (K.sought key.now) (F.records frozen.old)) keys.now result }
+    ensures same { frozen.new ≡ frozen.old }
+{
+    first_slot(frozen, keys, key).slot
 }
 
 /// Reads a node above the leaves, and finds the child under which the key is.
@@ -50,8 +64,7 @@ fn step_down<const OFFSET_BITS: u32, F: Frozen<OFFSET_BITS>, K: KeyOrder<OFFSET_
     ensures same { frozen.new ≡ frozen.old }
 {
     let slots = read_node(frozen, node);
-    let used = slots.keys.len() as u32;
-    let place = first_slot(frozen, node, used, key) as usize;
+    let place = slot_of(frozen, &slots.keys, key);
     let child = EntryRef::from_raw(slots.values[place] as u32);
     Descent {
         slots,
@@ -78,8 +91,7 @@ fn remove_in_leaf<const OFFSET_BITS: u32, F: Frozen<OFFSET_BITS>, K: KeyOrder<OF
     ensures same { frozen.new ≡ frozen.old }
 {
     let mut slots = read_node(frozen, node);
-    let used = slots.keys.len() as u32;
-    let slot = first_slot(frozen, node, used, key) as usize;
+    let slot = slot_of(frozen, &slots.keys, key);
     slots.keys.remove(slot);
     slots.values.remove(slot);
     slots

@@ -7,7 +7,7 @@ ghost use Rattle.tree_remove.specs.Settles.{Settles};
 use store_api::{Store, StoreError};
 use tree_images::{LEAST_SLOTS, MOST_SLOTS, NODE_WORDS};
 use tree_make::{Part, make_part};
-use tree_node::Slots;
+use tree_node::{Slots, append};
 
 /// Appends the slots of the right neighbour.
 fn join(left: &mut Slots, right: &Slots)
@@ -18,10 +18,8 @@ fn join(left: &mut Slots, right: &Slots)
     ensures values { left.new.values.items ≡ left.old.values.items ++ right.now.values.items }
     ensures level { left.new.level ≡ left.old.level }
 {
-    for i in 0..right.keys.len() {
-        left.keys.push(right.keys[i]);
-        left.values.push(right.values[i]);
-    }
+    append(&mut left.keys, &right.keys);
+    append(&mut left.values, &right.values);
 }
 
 /// Moves one slot from the longer of two neighbours to the other.

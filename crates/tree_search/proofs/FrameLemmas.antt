@@ -81,6 +81,7 @@ module _ (m n : Records) (at : Place) (same : SameAt (tree_nodes m at.root) m n)
         };
         leaf = ap level_of e ∙ it.leaf;
         used = it.used ∙ ap used_of (sym e);
+        words = it.words ∙ sym e;
       }
 
   pub at-same : IsAt m at → IsAt n at

@@ -1,12 +1,12 @@
 -- Places: how they move, and that they stay.
-use Rattle.std.proofs.Common.{append_assoc, ◌≡◌, ℕ, zero, suc, ◌+◌, ◌-◌, ◌<◌, ◌≤◌, List, [], ◌∷◌, ◌++◌, length, drop, refl, sym, ap, subst, ◌∙◌, arith, if◌then◌else◌, nat_lt, lt-ltb, le-ltb, leb, leb-true, leb-false, IsTrue, Bool, true, false}
+use Rattle.std.proofs.Common.{append_assoc, ◌≡◌, ℕ, zero, suc, ◌+◌, ◌-◌, ◌<◌, ◌≤◌, List, [], ◌∷◌, ◌++◌, length, get_or, drop, refl, sym, ap, subst, ◌∙◌, arith, if◌then◌else◌, nat_lt, lt-ltb, le-ltb, leb, leb-true, leb-false, IsTrue, Bool, true, false}
 use Rattle.std.specs.List.{flat_map}
-use Rattle.image_base.specs.Records.{Records, HasWord, word_at}
+use Rattle.image_base.specs.Records.{Records, word_at}
 use Rattle.tree_images.specs.Nodes.{level_of, used_of, count_of, node_values}
 use Rattle.tree_images.specs.Trees.{pairs_below, root_level, root_least, tree_pairs, IsNode, IsRootNode}
 use Rattle.tree_images.proofs.TreeLemmas.{IsNode-form}
 use Rattle.tree_search.specs.Steps.{Step}
-use Rattle.tree_search.specs.Places.{Place, LeadsTo, Leads, pairs_behind, HasPair, pairs_from, IsAt}
+use Rattle.tree_search.specs.Places.{Place, LeadsTo, Leads, pairs_behind, HasPair, pairs_from, IsAt, first_key, first_value}
 use Rattle.tree_node.proofs.ChildLemmas.{IsNode-lower, child-node, children, children-from, children-past, leaf-from, leaf-past}
 
 root_some : (level : ℕ) → 0 < root_least level
@@ -129,16 +129,16 @@ pub pairs_from-none : (m : Records) (at : Place) → at.used ≤ at.slot → pai
 pairs_from-none m at h = from_none at.slot at.used (drop at.slot (pairs_below m 0 at.leaf) ++ pairs_behind m 0 at.path) h
 
 -- at a slot of a leaf
-pub at-slot : (m : Records) (root : ℕ) (path : List Step) (leaf slot used : ℕ) → level_of (m leaf) ≡ 0 → slot < used
-    → pairs_from m (record { root = root; path = path; leaf = leaf; slot = slot; used = used })
+pub at-slot : (m : Records) (root : ℕ) (path : List Step) (leaf slot used : ℕ) (words : List ℕ) → level_of (m leaf) ≡ 0 → slot < used
+    → pairs_from m (record { root = root; path = path; leaf = leaf; slot = slot; used = used; words = words })
     ≡ drop slot (pairs_below m (level_of (m leaf)) leaf) ++ pairs_behind m (level_of (m leaf)) path
-at-slot m root path leaf slot used low h =
-    pairs_from-some m (record { root = root; path = path; leaf = leaf; slot = slot; used = used }) h
+at-slot m root path leaf slot used words low h =
+    pairs_from-some m (record { root = root; path = path; leaf = leaf; slot = slot; used = used; words = words }) h
     ∙ ap (λ l. drop slot (pairs_below m l leaf) ++ pairs_behind m l path) (sym low)
 
-pub at-first : (m : Records) (root : ℕ) (path : List Step) (leaf used : ℕ) → Leads m root path leaf → level_of (m leaf) ≡ 0 → used ≡ used_of (m leaf)
-    → pairs_from m (record { root = root; path = path; leaf = leaf; slot = 0; used = used }) ≡ pairs_below m (level_of (m leaf)) leaf ++ pairs_behind m (level_of (m leaf)) path
-at-first m root path leaf used leads low is = at-slot m root path leaf 0 used low (let some = first-low m root path leaf leads in omega arith)
+pub at-first : (m : Records) (root : ℕ) (path : List Step) (leaf used : ℕ) (words : List ℕ) → Leads m root path leaf → level_of (m leaf) ≡ 0 → used ≡ used_of (m leaf)
+    → pairs_from m (record { root = root; path = path; leaf = leaf; slot = 0; used = used; words = words }) ≡ pairs_below m (level_of (m leaf)) leaf ++ pairs_behind m (level_of (m leaf)) path
+at-first m root path leaf used words leads low is = at-slot m root path leaf 0 used words low (let some = first-low m root path leaf leads in omega arith)
 
 -- the way up from a leaf: the pairs behind a path that leads to some node
 pub record Climbs (m : Records) (root : ℕ) (path : List Step) (rest : List (ℕ × ℕ)) : Type 0 where
@@ -207,12 +207,12 @@ climbs-end m root rest it = sym it.pairs
 
 -- one pair on in a leaf, and from its last slot on
 pub next-slot : (m : Records) (at : Place) (next : ℕ) → IsAt m at → HasPair at → next ≡ suc at.slot → next < at.used
-    → pairs_from m (record { root = at.root; path = at.path; leaf = at.leaf; slot = next; used = at.used }) ≡ drop 1 (pairs_from m at)
+    → pairs_from m (record { root = at.root; path = at.path; leaf = at.leaf; slot = next; used = at.used; words = at.words }) ≡ drop 1 (pairs_from m at)
 next-slot m at next is pair e low =
     let leaf = is pair in
     let node = leads-node m at.root at.path at.leaf leaf.leads in
     let used = leaf.used in
-    pairs_from-some m (record { root = at.root; path = at.path; leaf = at.leaf; slot = next; used = at.used }) low
+    pairs_from-some m (record { root = at.root; path = at.path; leaf = at.leaf; slot = next; used = at.used; words = at.words }) low
     ∙ ap (λ i. drop i (pairs_below m 0 at.leaf) ++ pairs_behind m 0 at.path) e
     ∙ ap (λ ps. drop 1 (ps ++ pairs_behind m 0 at.path)) (sym (leaf-from m 1 (level_of (m at.leaf)) at.leaf leaf.leaf node at.slot (omega arith)))
     ∙ ap (drop 1) (sym (pairs_from-some m at pair))
@@ -236,18 +236,19 @@ pair-first m at is pair =
     pairs_from-some m at pair
     ∙ ap (λ ps. ps ++ pairs_behind m 0 at.path) (leaf-from m 1 (level_of (m at.leaf)) at.leaf leaf.leaf node at.slot (omega arith))
 
-pub pair-word : (m : Records) (at : Place) (i : ℕ) → IsAt m at → HasPair at → i < 34 → HasWord m at.leaf i
-pair-word m at i is pair low =
-    let leaf = is pair in
-    let size = step-size m at.root at.path at.leaf leaf.leads in
-    omega arith
-
 pub pair-low : (m : Records) (at : Place) → IsAt m at → HasPair at → at.slot < 16
 pair-low m at is pair =
     let leaf = is pair in
     let used = leaf.used in
     let most = step-room m at.root at.path at.leaf leaf.leads in
     omega arith
+
+-- by the words in hand
+pub pair-key : (m : Records) (at : Place) → IsAt m at → HasPair at → get_or at.words (2 + at.slot) 0 ≡ first_key (pairs_from m at)
+pair-key m at is pair = ap (λ ws. get_or ws (2 + at.slot) 0) (is pair).words ∙ sym (ap first_key (pair-first m at is pair))
+
+pub pair-value : (m : Records) (at : Place) → IsAt m at → HasPair at → get_or at.words (18 + at.slot) 0 ≡ first_value (pairs_from m at)
+pair-value m at is pair = ap (λ ws. get_or ws (18 + at.slot) 0) (is pair).words ∙ sym (ap first_value (pair-first m at is pair))
 
 pub root-few : (m : Records) (root : ℕ) → 0 < root → IsRootNode m root → count_of (m root) < 4294967296
 root-few m root some tree = (IsNode-form m (root_least (root_level m root)) (root_level m root) root tree).few

@@ -1,9 +1,9 @@
 -- The way down to the place of a key.
-use Rattle.std.proofs.Common.{◌≡◌, ◌≢◌, ℕ, zero, suc, ◌+◌, ◌-◌, ◌<◌, ◌≤◌, List, [], ◌∷◌, ◌++◌, length, get_or, take, drop, map, refl, sym, ap, subst, ◌∙◌, arith}
+use Rattle.std.proofs.Common.{◌≡◌, ◌≢◌, ℕ, zero, suc, ◌+◌, ◌-◌, ◌<◌, ◌≤◌, List, [], ◌∷◌, ◌++◌, length, get_or, take, drop, map, refl, sym, ap, subst, ◌∙◌, arith, None, Some}
 use Rattle.std.proofs.lemmas.List.{append-nil, take_all}
 use Rattle.std.specs.Cmp.{IsTotalOrder}
 use Rattle.std.specs.declared.cmp.Ordering.{Ordering}
-use Rattle.std.specs.declared.cmp.Ordering.TheVariants.{Less}
+use Rattle.std.specs.declared.cmp.Ordering.TheVariants.{Less, Equal, Greater}
 use Rattle.std.specs.List.{zip, flat_map, AllByRecursion}
 use Rattle.std.specs.List.Sorted.{IsStrictlySortedBy}
 use Rattle.image_base.specs.Records.{Records, word_at}
@@ -11,12 +11,13 @@ use Rattle.tree_images.specs.Nodes.{level_of, used_of, node_keys, node_values}
 use Rattle.tree_images.specs.Trees.{pairs_below, last_key, tree_pairs, IsNode, IsRootNode}
 use Rattle.tree_images.proofs.TreeLemmas.{IsNode-form, length-node_keys}
 use Rattle.key_order.specs.Keys.{AllBelow}
-use Rattle.key_order.specs.Pairs.{seek}
-use Rattle.key_order.proofs.PairLemmas.{seek-below}
+use Rattle.key_order.specs.Pairs.{choose, lookup_pair, seek}
+use Rattle.key_order.proofs.PairLemmas.{seek-below, lookup_pair-below, lookup_pair-skip, lookup_pair-stop}
 use Rattle.tree_search.specs.Steps.{Step}
 use Rattle.tree_search.specs.Places.{Leads, pairs_behind, pairs_from}
-use Rattle.tree_node.specs.Places.{IsSlot}
-use Rattle.tree_node.proofs.ChildLemmas.{keys-length, All-last, leaf_pairs, get_or-node_keys, children, values-size, child-last, child-all, child-ascends, front-below, child-seek, leaf-seek, pairs-some}
+use Rattle.tree_node.specs.Places.{IsSlot, IsFound, IsLacking}
+use Rattle.tree_node.proofs.ReadLemmas.{node-even}
+use Rattle.tree_node.proofs.ChildLemmas.{keys-length, All-last, leaf_pairs, get_or-node_keys, get_or-node_values, children, children-at, values-size, child-node, child-last, child-all, child-ascends, front-below, child-seek, leaf-seek, pairs-some}
 use Rattle.tree_search.proofs.PlaceLemmas.{leads-node, leads-root, leads-child, child-level, behind-child, root_pairs, at-slot}
 
 -- the first slot whose key is not below the one sought, by the words of a node
@@ -42,7 +43,7 @@ zip-below c (k ∷ ks) (v ∷ vs) before = (before 0 (omega arith), zip-below c 
 
 module _ {V : Type 0} (order : V → V → Ordering) (total : IsTotalOrder order) (reads : ℕ → V) (s : V) (m : Records) where
   -- where the keys of all slots are below, all pairs are
-  all-below : (least level ref : ℕ) → IsNode m least level ref → IsStrictlySortedBy order (map (λ p. reads p.0) (pairs_below m level ref))
+  pub all-below : (least level ref : ℕ) → IsNode m least level ref → IsStrictlySortedBy order (map (λ p. reads p.0) (pairs_below m level ref))
       → ((j : ℕ) → j < used_of (m ref) → order (reads (word_at m ref (2 + j))) s ≡ Less) → AllBelow (λ k. order (reads k) s) (pairs_below m level ref)
   all-below least zero ref node up before =
       let size = length-node_keys 0 least (m ref) (IsNode-form m least 0 ref node) in
@@ -151,14 +152,74 @@ module _ {V : Type 0} (order : V → V → Ordering) (total : IsTotalOrder order
           low_or never = grind (arith, never)
 
     -- at a leaf
-    pub sought-leaf : level_of (m node) ≡ 0 → (used : ℕ) → used ≡ used_of (m node)
-        → pairs_from m (record { root = root; path = path; leaf = node; slot = slot; used = used }) ≡ seek (λ k. order (reads k) s) whole
-    sought-leaf flat used is =
+    pub sought-leaf : level_of (m node) ≡ 0 → (used : ℕ) (words : List ℕ) → used ≡ used_of (m node)
+        → pairs_from m (record { root = root; path = path; leaf = node; slot = slot; used = used; words = words }) ≡ seek (λ k. order (reads k) s) whole
+    sought-leaf flat used words is =
         let low = it.low in
         let node_is = leads-node m root path node it.leads in
-        at-slot m root path node slot used flat (omega arith)
+        at-slot m root path node slot used words flat (omega arith)
         ∙ ap (λ ps. ps ++ pairs_behind m (level_of (m node)) path)
         (ap (λ l. drop slot (pairs_below m l node)) flat
         ∙ sym (leaf-seek m 1 (level_of (m node)) node flat node_is (λ k. order (reads k) s) slot it.first.within it.first.before it.first.at)
         ∙ ap (λ l. seek (λ k. order (reads k) s) (pairs_below m l node)) (sym flat))
         ∙ it.found
+
+-- the pair at a key
+module _ (c : ℕ → Ordering) where
+  zip-found : (ks vs : List ℕ) (i : ℕ) → length vs ≡ length ks → i < length ks → ((j : ℕ) → j < i → c (get_or ks j 0) ≡ Less) → c (get_or ks i 0) ≡ Equal
+      → lookup_pair c (zip ks vs) ≡ Some (get_or ks i 0, get_or vs i 0)
+  zip-found [] vs i e h before at = absurd (omega arith)
+  zip-found (k ∷ ks) [] i e h before at = absurd (omega arith)
+  zip-found (k ∷ ks) (v ∷ vs) zero e h before at = ap (λ o. choose o (lookup_pair c (zip ks vs)) (Some (k, v)) None) at
+  zip-found (k ∷ ks) (v ∷ vs) (suc i) e h before at =
+      ap (λ o. choose o (lookup_pair c (zip ks vs)) (Some (k, v)) None) (before 0 (omega arith))
+      ∙ zip-found ks vs i (omega arith) (omega arith) (λ j g. before (suc j) (omega arith)) at
+
+  zip-lacking : (ks vs : List ℕ) (i : ℕ) → length vs ≡ length ks → i < length ks → ((j : ℕ) → j < i → c (get_or ks j 0) ≡ Less) → c (get_or ks i 0) ≡ Greater
+      → lookup_pair c (zip ks vs) ≡ None
+  zip-lacking [] vs i e h before at = absurd (omega arith)
+  zip-lacking (k ∷ ks) [] i e h before at = absurd (omega arith)
+  zip-lacking (k ∷ ks) (v ∷ vs) zero e h before at = ap (λ o. choose o (lookup_pair c (zip ks vs)) (Some (k, v)) None) at
+  zip-lacking (k ∷ ks) (v ∷ vs) (suc i) e h before at =
+      ap (λ o. choose o (lookup_pair c (zip ks vs)) (Some (k, v)) None) (before 0 (omega arith))
+      ∙ zip-lacking ks vs i (omega arith) (omega arith) (λ j g. before (suc j) (omega arith)) at
+
+  module _ (m : Records) (node slot : ℕ) (is : IsNode m 1 0 node) (at : IsSlot c (node_keys (m node)) slot) (low : slot < used_of (m node)) where
+    even : length (node_values (m node)) ≡ length (node_keys (m node))
+    even = sym (node-even m 1 0 node is)
+
+    inside : slot < length (node_keys (m node))
+    inside = let size = keys-length m 1 0 node is in omega arith
+
+    pub leaf-found : IsFound c (node_keys (m node)) slot
+        → Some (get_or (m node) (2 + slot) 0, get_or (m node) (18 + slot) 0) ≡ lookup_pair c (pairs_below m 0 node)
+    leaf-found found =
+        sym (ap (lookup_pair c) (leaf_pairs m node) ∙ zip-found (node_keys (m node)) (node_values (m node)) slot even inside at.before found.equal
+        ∙ ap (λ k. Some (k, get_or (node_values (m node)) slot 0)) (get_or-node_keys (m node) slot low)
+        ∙ ap (λ v. Some (get_or (m node) (2 + slot) 0, v)) (get_or-node_values (m node) slot low))
+
+    pub leaf-lacking : IsLacking c (node_keys (m node)) slot → None ≡ lookup_pair c (pairs_below m 0 node)
+    leaf-lacking lacking =
+        sym (ap (lookup_pair c) (leaf_pairs m node) ∙ zip-lacking (node_keys (m node)) (node_values (m node)) slot even inside at.before (lacking.above inside))
+
+module _ {V : Type 0} (order : V → V → Ordering) (total : IsTotalOrder order) (reads : ℕ → V) (s : V) (m : Records) (level node slot : ℕ)
+    (is : IsNode m 1 level node) (up : IsStrictlySortedBy order (map (λ p. reads p.0) (pairs_below m level node)))
+    (at : IsSlot (λ k. order (reads k) s) (node_keys (m node)) slot) where
+  first : IsFirstSlot (λ k. order (reads k) s) (m node) slot
+  first = first-words (λ k. order (reads k) s) m 1 level node slot is at
+
+  pub past-none : used_of (m node) ≤ slot → None ≡ lookup_pair (λ k. order (reads k) s) (pairs_below m level node)
+  past-none past = sym (lookup_pair-below (λ k. order (reads k) s) (pairs_below m level node) (all-below order total reads s m 1 level node is up (λ j h. first.before j (omega arith))))
+
+  -- above the leaves it is the one below the child
+  pub child-pair : (l : ℕ) → level ≡ suc l → slot < used_of (m node)
+      → lookup_pair (λ k. order (reads k) s) (pairs_below m level node) ≡ lookup_pair (λ k. order (reads k) s) (pairs_below m l (word_at m node (18 + slot)))
+  child-pair l above low =
+      let c : ℕ → Ordering = λ k. order (reads k) s in
+      let child = pairs_below m l (word_at m node (18 + slot)) in
+      let behind = flat_map (pairs_below m l) (drop (suc slot) (node_values (m node))) in
+      ap (lookup_pair c) (children-at m 1 level l node above is slot low)
+      ∙ lookup_pair-skip c (flat_map (pairs_below m l) (take slot (node_values (m node)))) (child ++ behind)
+      (front-below m 1 level l node above is order reads up total s slot (omega arith) first.before)
+      ∙ lookup_pair-stop c child behind (pairs-some m 8 l (word_at m node (18 + slot)) (omega arith) (child-node m 1 level l node above is slot low))
+      (λ e. first.at low (ap c (child-last m 1 level l node above is slot low) ∙ e))

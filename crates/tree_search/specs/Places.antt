@@ -7,13 +7,14 @@ use Rattle.tree_images.specs.Trees.{pairs_below, root_level, IsRootNode}
 use Rattle.tree_search.specs.Steps.{Step}
 use Rattle.tree_images.specs.declared.TheConstants.{FIRST_VALUE}
 
--- a slot of a leaf; above the leaf, from the lowest up, the nodes with the slots that lead to it. The leaf has so many slots used; at the end, past all pairs, the slot is not below
+-- a slot of a leaf; above the leaf, from the lowest up, the nodes with the slots that lead to it. The leaf has so many slots used; at the end, past all pairs, the slot is not below. The leaf's words are in hand
 pub record Place : Type 0 where
   pub root : ℕ
   pub path : List Step
   pub leaf : ℕ
   pub slot : ℕ
   pub used : ℕ
+  pub words : List ℕ
 
 -- a path leads from the root, which is of level top, down to a node of a level
 abbrev pub LeadsTo : Records → ℕ → ℕ → List Step → ℕ → ℕ → Type 0
@@ -44,6 +45,7 @@ pub record IsInLeaf (m : Records) (at : Place) : Type 0 where
   pub leads : Leads m at.root at.path at.leaf
   pub leaf : level_of (m at.leaf) ≡ 0
   pub used : at.used ≡ used_of (m at.leaf)
+  pub words : at.words ≡ m at.leaf
 
 -- the place is one of the tree
 abbrev pub IsAt : Records → Place → Type 0

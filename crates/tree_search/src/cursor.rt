@@ -1,4 +1,4 @@
-ghost use Rattle.std.specs.Prelude.{◌≡◌, ◌↔◌, ◌<◌, ◌++◌, ℕ, [], drop, IsTrue};
+ghost use Rattle.std.specs.Prelude.{◌≡◌, ◌↔◌, ◌<◌, ◌++◌, ℕ, [], drop, replicate, IsTrue};
 ghost use Rattle.image_base.specs.Records.{Records};
 ghost use Rattle.tree_images.specs.Nodes.{level_of};
 ghost use Rattle.tree_images.specs.Trees.{pairs_below, tree_pairs, IsRootNode, IsTree};
@@ -11,8 +11,8 @@ use entry_ref::EntryRef;
 use frozen_api::Frozen;
 use key_order::KeyOrder;
 use std::marker::Model;
-use tree_images::{FIRST_KEY, FIRST_VALUE};
-use tree_node::{child_at, first_slot, read_head};
+use tree_images::{FIRST_KEY, FIRST_VALUE, MOST_SLOTS, NODE_WORDS};
+use tree_node::{child_at, read_head, read_words, visit};
 
 /// A place before a pair of a tree, or at the end of it.
 #[derive(Drop)]
@@ -23,20 +23,26 @@ pub struct Cursor<const OFFSET_BITS: u32> {
     slot: u32,
     // of the leaf; at the end none
     used: u32,
+    // of the leaf; at the end any
+    words: [u64; NODE_WORDS],
 }
 
 impl<const OFFSET_BITS: u32> Model for Cursor<OFFSET_BITS> {
+    ghost use Rattle.std.specs.Prelude.{◌≤◌};
+    ghost use Rattle.tree_images.specs.declared.TheConstants.{MOST_SLOTS};
     ghost use Rattle.tree_search.specs.Places.{Place};
 
     ghost Value = { Place };
 
-    ghost view = { λ c. record { root = c.root; path = c.path; leaf = c.leaf; slot = c.slot; used = c.used } };
+    ghost view = { λ c. record { root = c.root; path = c.path; leaf = c.leaf; slot = c.slot; used = c.used; words = c.words } };
+
+    ghost invariant = { λ c. c.used ≤ MOST_SLOTS };
 }
 
 impl<const OFFSET_BITS: u32> Cursor<OFFSET_BITS> {
     /// At the end.
     fn at_end_of(root: EntryRef<OFFSET_BITS>) -> Cursor<OFFSET_BITS>
-        ensures { result ≡ record { root = root.entry; path = []; leaf = 0; slot = 0; used = 0 } }
+        ensures { result ≡ record { root = root.entry; path = []; leaf = 0; slot = 0; used = 0; words = replicate NODE_WORDS 0 } }
     {
         Cursor {
             root,
@@ -44,6 +50,7 @@ impl<const OFFSET_BITS: u32> Cursor<OFFSET_BITS> {
             leaf: EntryRef::from_raw(0),
             slot: 0,
             used: 0,
+            words: [0; NODE_WORDS],
         }
     }
 
@@ -82,6 +89,7 @@ impl<const OFFSET_BITS: u32> Cursor<OFFSET_BITS> {
             node = child_at(frozen, node, 0);
             head = read_head(frozen, node);
         }
+        read_words(frozen, node, &mut self.words);
         self.leaf = node;
         self.slot = 0;
         self.used = head.used;
@@ -106,20 +114,18 @@ impl<const OFFSET_BITS: u32> Cursor<OFFSET_BITS> {
             return cursor;
         }
         let mut node = root;
-        let mut head = read_head(frozen, node);
-        let mut slot = first_slot(frozen, node, head.used, key);
-        if slot == head.used {
+        let mut spot = visit(frozen, node, key, &mut cursor.words);
+        if spot.slot as u64 == cursor.words[0] % 256 {
             return cursor;
         }
-        while head.level > 0 {
-            cursor.path.push(node, slot);
-            node = child_at(frozen, node, slot);
-            head = read_head(frozen, node);
-            slot = first_slot(frozen, node, head.used, key);
+        while cursor.words[0] / 256 > 0 {
+            cursor.path.push(node, spot.slot as u32);
+            node = EntryRef::from_raw(cursor.words[FIRST_VALUE + spot.slot] as u32);
+            spot = visit(frozen, node, key, &mut cursor.words);
         }
         cursor.leaf = node;
-        cursor.slot = slot;
-        cursor.used = head.used;
+        cursor.slot = spot.slot as u32;
+        cursor.used = (cursor.words[0] % 256) as u32;
         cursor
     }
 
@@ -132,23 +138,19 @@ impl<const OFFSET_BITS: u32> Cursor<OFFSET_BITS> {
     }
 
     /// The key of the pair that follows.
-    pub fn key<F: Frozen<OFFSET_BITS>>(&self, frozen: &mut F) -> u64
-        requires at { IsAt (F.records frozen.old) self.now }
-        requires pair { HasPair self.now }
-        ensures key { result ≡ first_key (pairs_from (F.records frozen.old) self.now) }
-        ensures same { frozen.new ≡ frozen.old }
+    pub fn key(&self) -> u64
+        requires { HasPair self.now }
+        ensures { (m : Records) → IsAt m self.now → result ≡ first_key (pairs_from m self.now) }
     {
-        frozen.word(self.leaf, FIRST_KEY as u32 + self.slot)
+        self.words[FIRST_KEY + self.slot as usize]
     }
 
     /// The value of the pair that follows.
-    pub fn value<F: Frozen<OFFSET_BITS>>(&self, frozen: &mut F) -> u64
-        requires at { IsAt (F.records frozen.old) self.now }
-        requires pair { HasPair self.now }
-        ensures value { result ≡ first_value (pairs_from (F.records frozen.old) self.now) }
-        ensures same { frozen.new ≡ frozen.old }
+    pub fn value(&self) -> u64
+        requires { HasPair self.now }
+        ensures { (m : Records) → IsAt m self.now → result ≡ first_value (pairs_from m self.now) }
     {
-        frozen.word(self.leaf, FIRST_VALUE as u32 + self.slot)
+        self.words[FIRST_VALUE + self.slot as usize]
     }
 
     /// Goes on behind one pair.

@@ -1,7 +1,6 @@
 use Rattle.std.proofs.Common.{rules, Err, ◌≡◌, ◌<◌, ◌≤◌, ◌-◌, ◌++◌, ℕ, suc, List, [], ◌∷◌, length, get_or, take, drop, ◌*◌, true, sym, ap, subst, ◌∙◌, arith, ◌+◌, ◌^◌}
 use Rattle.std.specs.List.{AllByRecursion}
-use Rattle.list_facts.proofs.Errors.{same_error}
-use Rattle.tree_images.specs.Nodes.{level_of, used_of, node_keys, node_values}
+use Rattle.tree_images.specs.Nodes.{node_keys, node_values}
 use Rattle.tree_images.specs.Trees.{pairs_below, IsNode}
 use Rattle.tree_images.proofs.TreeLemmas.{IsNode-form}
 use Rattle.tree_make.proofs.Results.{if_ok-then}
@@ -10,6 +9,7 @@ use Rattle.tree_node.proofs.ReadLemmas.{node-even, node-keys-all}
 use Rattle.key_order.specs.Keys.{seen_by, Ascends, AllReadable}
 use Rattle.tree_node.specs.Places.{IsPlace}
 use Rattle.tree_make.specs.Makes.{MakesNodes}
+use Rattle.list_facts.proofs.Errors.{same_error}
 use Rattle.tree_node.specs.Slots.{slot_pairs, IsInHand}
 use Rattle.tree_insert.specs.Inserts.{Inserts}
 use Rattle.tree_insert.specs.Parts.{MakesParts, part_keys, part_nodes}
@@ -26,18 +26,17 @@ place_of-place-requires g t c =
     let m = g.S.Frozen.records c.args.store.now in
     let node = c.args.node in
     let can = g.K.KeyOrder.can_read in
-    let level = (IsNode-form m 1 c.args.level node c.requires.node).at_level in
-    let read = c.read_node-slots.ensures in (
-      omega arith,
-      (
-        subst (λ f. IsNode (g.S.Frozen.records f) 1 (level_of (g.S.Frozen.records f node)) node) (sym read.same) (subst (λ l. IsNode m 1 l node) (sym level) c.requires.node),
-        (
-          c.len-used.ensures.value ∙ ap length read.keys ∙ keys-length m 1 c.args.level node c.requires.node ∙ ap (λ f. used_of (g.S.Frozen.records f node)) (sym read.same),
-          subst (λ f. AllReadable can (g.S.Frozen.records f) (pairs_below (g.S.Frozen.records f) (level_of (g.S.Frozen.records f node)) node)) (sym read.same)
-              (subst (λ l. AllReadable can m (pairs_below m l node)) (sym level) c.requires.readable),
-        ),
-      ),
-    )
+    let read = c.read_node-slots.ensures in
+    let form = IsNode-form m 1 c.args.level node c.requires.node in
+    let keys : c.deref.result.now ≡ node_keys (m node) = c.deref.ensures.0 ∙ read.keys in
+    let filled = form.filled in
+    let used = keys-length m 1 c.args.level node c.requires.node in
+    let size = ap length keys in
+    record {
+      some = omega arith;
+      readable = subst (λ f. AllByRecursion (can (g.S.Frozen.records f)) c.deref.result.now) (sym read.same)
+          (subst (AllByRecursion (can m)) (sym keys) (node-keys-all m 1 c.args.level node c.requires.node (can m) c.requires.readable));
+    }
 
 pub bounds-deref-place : goal.bounds-deref-place
 bounds-deref-place g t c =
@@ -60,10 +59,11 @@ bounds-deref-place g t c =
     let i = c.place_of-place.result in
     let same : c.place_of-place.new.frozen ≡ s = c.place_of-place.ensures.same ∙ read.same in
     let place : IsPlace seen ks i =
-    subst (λ f. IsPlace (seen_by key.read key.order sought (g.S.Frozen.records f)) (node_keys (g.S.Frozen.records f node)) i) read.same c.place_of-place.ensures.place in
+    subst (λ (xs : List ℕ). IsPlace seen xs i) (c.deref.ensures.0 ∙ read.keys)
+    (subst (λ f. IsPlace (seen_by key.read key.order sought (g.S.Frozen.records f)) c.deref.result.now i) read.same c.place_of-place.ensures.place) in
     let within = place.within in
     let low : i < length vs = omega arith in
-    let size : length c.deref.result.now ≡ length vs = ap length (c.deref.ensures.0 ∙ read.values) in
+    let size : length c.deref-2.result.now ≡ length vs = ap length (c.deref-2.ensures.0 ∙ read.values) in
     omega arith
 
 pub overflow_cast-deref : goal.overflow_cast-deref
@@ -87,10 +87,11 @@ overflow_cast-deref g t c =
     let i = c.place_of-place.result in
     let same : c.place_of-place.new.frozen ≡ s = c.place_of-place.ensures.same ∙ read.same in
     let place : IsPlace seen ks i =
-    subst (λ f. IsPlace (seen_by key.read key.order sought (g.S.Frozen.records f)) (node_keys (g.S.Frozen.records f node)) i) read.same c.place_of-place.ensures.place in
+    subst (λ (xs : List ℕ). IsPlace seen xs i) (c.deref.ensures.0 ∙ read.keys)
+    (subst (λ f. IsPlace (seen_by key.read key.order sought (g.S.Frozen.records f)) c.deref.result.now i) read.same c.place_of-place.ensures.place) in
     let within = place.within in
     let low : i < length vs = omega arith in
-    let child : get_or c.deref.result.now i 0 ≡ get_or vs i 0 = ap (λ (xs : List ℕ). get_or xs i 0) (c.deref.ensures.0 ∙ read.values) in
+    let child : get_or c.deref-2.result.now i 0 ≡ get_or vs i 0 = ap (λ (xs : List ℕ). get_or xs i 0) (c.deref-2.ensures.0 ∙ read.values) in
     let size : length (m (get_or vs i 0)) ≡ 34 = (IsNode-form m 8 l (get_or vs i 0) (child-node m 1 l node i is low)).size in
     let small : get_or vs i 0 < 2 ^ 32 = g.met.S.Frozen.references s (get_or vs i 0) (omega arith) in
     omega arith
@@ -116,11 +117,12 @@ insert_below-requires g t c =
     let i = c.place_of-place.result in
     let same : c.place_of-place.new.frozen ≡ s = c.place_of-place.ensures.same ∙ read.same in
     let place : IsPlace seen ks i =
-    subst (λ f. IsPlace (seen_by key.read key.order sought (g.S.Frozen.records f)) (node_keys (g.S.Frozen.records f node)) i) read.same c.place_of-place.ensures.place in
+    subst (λ (xs : List ℕ). IsPlace seen xs i) (c.deref.ensures.0 ∙ read.keys)
+    (subst (λ f. IsPlace (seen_by key.read key.order sought (g.S.Frozen.records f)) c.deref.result.now i) read.same c.place_of-place.ensures.place) in
     let within = place.within in
     let low : i < length vs = omega arith in
     let q = c.from_raw-child.result in
-    let child : q ≡ get_or vs i 0 = c.from_raw-child.ensures ∙ ap (λ (xs : List ℕ). get_or xs i 0) (c.deref.ensures.0 ∙ read.values) in
+    let child : q ≡ get_or vs i 0 = c.from_raw-child.ensures ∙ ap (λ (xs : List ℕ). get_or xs i 0) (c.deref-2.ensures.0 ∙ read.values) in
     let readable : AllReadable key.can_read m (pairs_below m (suc l) node) = subst (λ k. AllReadable key.can_read m (pairs_below m k node)) up c.requires.readable in
     let ascends : Ascends key.order key.read m (pairs_below m (suc l) node) = subst (λ k. Ascends key.order key.read m (pairs_below m k node)) up c.requires.ascends in
     let most : length (pairs_below m (suc l) node) + 1 < 2 ^ 32 = subst (λ k. length (pairs_below m k node) + 1 < 2 ^ 32) up c.requires.few in
@@ -232,11 +234,12 @@ make_parts-requires-clause-low g t c =
     let i = c.place_of-place.result in
     let same : c.place_of-place.new.frozen ≡ s = c.place_of-place.ensures.same ∙ read.same in
     let place : IsPlace seen ks i =
-    subst (λ f. IsPlace (seen_by key.read key.order sought (g.S.Frozen.records f)) (node_keys (g.S.Frozen.records f node)) i) read.same c.place_of-place.ensures.place in
+    subst (λ (xs : List ℕ). IsPlace seen xs i) (c.deref.ensures.0 ∙ read.keys)
+    (subst (λ f. IsPlace (seen_by key.read key.order sought (g.S.Frozen.records f)) c.deref.result.now i) read.same c.place_of-place.ensures.place) in
     let within = place.within in
     let low : i < length vs = omega arith in
     let q = c.from_raw-child.result in
-    let child : q ≡ get_or vs i 0 = c.from_raw-child.ensures ∙ ap (λ (xs : List ℕ). get_or xs i 0) (c.deref.ensures.0 ∙ read.values) in
+    let child : q ≡ get_or vs i 0 = c.from_raw-child.ensures ∙ ap (λ (xs : List ℕ). get_or xs i 0) (c.deref-2.ensures.0 ∙ read.values) in
     let pair : ℕ × ℕ = (c.args.word, c.args.value) in
     let t = c.insert_below.new.store in
     let n = g.S.Frozen.records t in
@@ -281,11 +284,12 @@ make_parts-requires-clause-hand g t c =
     let i = c.place_of-place.result in
     let same : c.place_of-place.new.frozen ≡ s = c.place_of-place.ensures.same ∙ read.same in
     let place : IsPlace seen ks i =
-    subst (λ f. IsPlace (seen_by key.read key.order sought (g.S.Frozen.records f)) (node_keys (g.S.Frozen.records f node)) i) read.same c.place_of-place.ensures.place in
+    subst (λ (xs : List ℕ). IsPlace seen xs i) (c.deref.ensures.0 ∙ read.keys)
+    (subst (λ f. IsPlace (seen_by key.read key.order sought (g.S.Frozen.records f)) c.deref.result.now i) read.same c.place_of-place.ensures.place) in
     let within = place.within in
     let low : i < length vs = omega arith in
     let q = c.from_raw-child.result in
-    let child : q ≡ get_or vs i 0 = c.from_raw-child.ensures ∙ ap (λ (xs : List ℕ). get_or xs i 0) (c.deref.ensures.0 ∙ read.values) in
+    let child : q ≡ get_or vs i 0 = c.from_raw-child.ensures ∙ ap (λ (xs : List ℕ). get_or xs i 0) (c.deref-2.ensures.0 ∙ read.values) in
     let pair : ℕ × ℕ = (c.args.word, c.args.value) in
     let t = c.insert_below.new.store in
     let n = g.S.Frozen.records t in
@@ -329,11 +333,12 @@ make_parts-requires-clause-fits g t c =
     let i = c.place_of-place.result in
     let same : c.place_of-place.new.frozen ≡ s = c.place_of-place.ensures.same ∙ read.same in
     let place : IsPlace seen ks i =
-    subst (λ f. IsPlace (seen_by key.read key.order sought (g.S.Frozen.records f)) (node_keys (g.S.Frozen.records f node)) i) read.same c.place_of-place.ensures.place in
+    subst (λ (xs : List ℕ). IsPlace seen xs i) (c.deref.ensures.0 ∙ read.keys)
+    (subst (λ f. IsPlace (seen_by key.read key.order sought (g.S.Frozen.records f)) c.deref.result.now i) read.same c.place_of-place.ensures.place) in
     let within = place.within in
     let low : i < length vs = omega arith in
     let q = c.from_raw-child.result in
-    let child : q ≡ get_or vs i 0 = c.from_raw-child.ensures ∙ ap (λ (xs : List ℕ). get_or xs i 0) (c.deref.ensures.0 ∙ read.values) in
+    let child : q ≡ get_or vs i 0 = c.from_raw-child.ensures ∙ ap (λ (xs : List ℕ). get_or xs i 0) (c.deref-2.ensures.0 ∙ read.values) in
     let pair : ℕ × ℕ = (c.args.word, c.args.value) in
     let t = c.insert_below.new.store in
     let n = g.S.Frozen.records t in
@@ -377,11 +382,12 @@ make_parts-requires-clause-few g t c =
     let i = c.place_of-place.result in
     let same : c.place_of-place.new.frozen ≡ s = c.place_of-place.ensures.same ∙ read.same in
     let place : IsPlace seen ks i =
-    subst (λ f. IsPlace (seen_by key.read key.order sought (g.S.Frozen.records f)) (node_keys (g.S.Frozen.records f node)) i) read.same c.place_of-place.ensures.place in
+    subst (λ (xs : List ℕ). IsPlace seen xs i) (c.deref.ensures.0 ∙ read.keys)
+    (subst (λ f. IsPlace (seen_by key.read key.order sought (g.S.Frozen.records f)) c.deref.result.now i) read.same c.place_of-place.ensures.place) in
     let within = place.within in
     let low : i < length vs = omega arith in
     let q = c.from_raw-child.result in
-    let child : q ≡ get_or vs i 0 = c.from_raw-child.ensures ∙ ap (λ (xs : List ℕ). get_or xs i 0) (c.deref.ensures.0 ∙ read.values) in
+    let child : q ≡ get_or vs i 0 = c.from_raw-child.ensures ∙ ap (λ (xs : List ℕ). get_or xs i 0) (c.deref-2.ensures.0 ∙ read.values) in
     let pair : ℕ × ℕ = (c.args.word, c.args.value) in
     let t = c.insert_below.new.store in
     let n = g.S.Frozen.records t in
@@ -426,11 +432,12 @@ returns-clause-inserts g t c =
     let i = c.place_of-place.result in
     let same : c.place_of-place.new.frozen ≡ s = c.place_of-place.ensures.same ∙ read.same in
     let place : IsPlace seen ks i =
-    subst (λ f. IsPlace (seen_by key.read key.order sought (g.S.Frozen.records f)) (node_keys (g.S.Frozen.records f node)) i) read.same c.place_of-place.ensures.place in
+    subst (λ (xs : List ℕ). IsPlace seen xs i) (c.deref.ensures.0 ∙ read.keys)
+    (subst (λ f. IsPlace (seen_by key.read key.order sought (g.S.Frozen.records f)) c.deref.result.now i) read.same c.place_of-place.ensures.place) in
     let within = place.within in
     let low : i < length vs = omega arith in
     let q = c.from_raw-child.result in
-    let child : q ≡ get_or vs i 0 = c.from_raw-child.ensures ∙ ap (λ (xs : List ℕ). get_or xs i 0) (c.deref.ensures.0 ∙ read.values) in
+    let child : q ≡ get_or vs i 0 = c.from_raw-child.ensures ∙ ap (λ (xs : List ℕ). get_or xs i 0) (c.deref-2.ensures.0 ∙ read.values) in
     let pair : ℕ × ℕ = (c.args.word, c.args.value) in
     let t = c.insert_below.new.store in
     let n = g.S.Frozen.records t in

@@ -1,13 +1,13 @@
-use Rattle.std.proofs.Common.{◌≡◌, ◌<◌, ◌≤◌, ℕ, List, length, sym, ap, subst, ◌∙◌, arith, ◌+◌, ◌^◌}
+use Rattle.std.proofs.Common.{◌≡◌, ◌<◌, ◌≤◌, ℕ, List, length, sym, ap, subst, ◌∙◌, arith, ◌^◌}
 use Rattle.std.specs.List.{zip, AllByRecursion}
-use Rattle.tree_images.specs.Nodes.{level_of, used_of, node_keys, node_values}
-use Rattle.tree_images.specs.Trees.{pairs_below, IsNode}
-use Rattle.tree_node.specs.Places.{IsSlot}
+use Rattle.tree_images.specs.Nodes.{node_keys, node_values}
+use Rattle.std.specs.declared.cmp.Ordering.{Ordering}
+use Rattle.tree_node.specs.Places.{IsSlot, IsFound, IsLacking}
 use Rattle.tree_images.proofs.TreeLemmas.{IsNode-form}
 use Rattle.tree_make.proofs.Results.{if_ok-then}
 use Rattle.tree_node.proofs.ReadLemmas.{node-even, node-keys-all}
 use Rattle.tree_node.proofs.ChildLemmas.{keys-length}
-use Rattle.key_order.specs.Keys.{seen_by, AllReadable}
+use Rattle.key_order.specs.Keys.{seen_by}
 use Rattle.key_order.specs.Pairs.{put}
 use Rattle.tree_node.specs.Slots.{slot_pairs, IsInHand}
 use Rattle.tree_node.proofs.SlotLemmas.{hand-leaf}
@@ -20,32 +20,14 @@ read_node-slots-requires g c =
     let form = IsNode-form (g.S.Frozen.records c.args.store.now) 1 0 c.args.node c.requires.node in
     (omega arith, (form.size, form.room))
 
-pub first_slot-slot-requires : goal.first_slot-slot-requires
-first_slot-slot-requires g c =
-    let m = g.S.Frozen.records c.args.store.now in
-    let node = c.args.node in
-    let can = g.K.KeyOrder.can_read in
-    let level = (IsNode-form m 1 0 node c.requires.node).at_level in
-    let read = c.read_node-slots.ensures in (
-      omega arith,
-      (
-        subst (λ f. IsNode (g.S.Frozen.records f) 1 (level_of (g.S.Frozen.records f node)) node) (sym read.same) (subst (λ l. IsNode m 1 l node) (sym level) c.requires.node),
-        (
-          c.len-used.ensures.value ∙ ap length read.keys ∙ keys-length m 1 0 node c.requires.node ∙ ap (λ f. used_of (g.S.Frozen.records f node)) (sym read.same),
-          subst (λ f. AllReadable can (g.S.Frozen.records f) (pairs_below (g.S.Frozen.records f) (level_of (g.S.Frozen.records f node)) node)) (sym read.same)
-              (subst (λ l. AllReadable can m (pairs_below m l node)) (sym level) c.requires.readable),
-        ),
-      ),
-    )
-
-pub put_in_leaf-requires-clause-readable : goal.put_in_leaf-requires-clause-readable
-put_in_leaf-requires-clause-readable g c =
+pub first_slot-spot-requires : goal.first_slot-spot-requires
+first_slot-spot-requires g c =
     let m = g.S.Frozen.records c.args.store.now in
     let node = c.args.node in
     let can = g.K.KeyOrder.can_read in
     let read = c.read_node-slots.ensures in
-    subst (λ f. AllByRecursion (can (g.S.Frozen.records f)) c.read_node-slots.result.keys.items) (sym (c.first_slot-slot.ensures.same ∙ read.same))
-    (subst (AllByRecursion (can m)) (sym read.keys) (node-keys-all m 1 0 node c.requires.node (can m) c.requires.readable))
+    subst (λ f. AllByRecursion (can (g.S.Frozen.records f)) c.deref.result.now) (sym read.same)
+    (subst (AllByRecursion (can m)) (sym (c.deref.ensures.0 ∙ read.keys)) (node-keys-all m 1 0 node c.requires.node (can m) c.requires.readable))
 
 pub put_in_leaf-requires-clause-even : goal.put_in_leaf-requires-clause-even
 put_in_leaf-requires-clause-even g c =
@@ -53,16 +35,17 @@ put_in_leaf-requires-clause-even g c =
     let read = c.read_node-slots.ensures in
     ap length read.keys ∙ node-even m 1 0 c.args.node c.requires.node ∙ sym (ap length read.values)
 
-pub put_in_leaf-requires-clause-slot : goal.put_in_leaf-requires-clause-slot
-put_in_leaf-requires-clause-slot g c =
-    let node = c.args.node in
-    let key = g.K.KeyOrder in
-    let read = c.read_node-slots.ensures in
-    let first = c.first_slot-slot in
-    let seen = seen_by key.read key.order (key.sought c.args.key.now) in
-    subst (λ f. IsSlot (seen (g.S.Frozen.records f)) c.read_node-slots.result.keys.items first.result) (sym (first.ensures.same ∙ read.same))
-    (subst (λ (ks : List ℕ). IsSlot (seen (g.S.Frozen.records c.args.store.now)) ks first.result) (sym read.keys)
-    (subst (λ f. IsSlot (seen (g.S.Frozen.records f)) (node_keys (g.S.Frozen.records f node)) first.result) read.same first.ensures.slot))
+pub put_in_leaf-requires-clause-within : goal.put_in_leaf-requires-clause-within
+put_in_leaf-requires-clause-within g c =
+    let within = c.first_slot-spot.ensures.slot.within in
+    let size = ap length c.deref.ensures.0 in
+    omega arith
+
+pub put_in_leaf-requires-clause-found : goal.put_in_leaf-requires-clause-found
+put_in_leaf-requires-clause-found g c = λ is.
+    let within = (c.first_slot-spot.ensures.found is).within in
+    let size = ap length c.deref.ensures.0 in
+    omega arith
 
 pub put_in_leaf-requires-clause-room : goal.put_in_leaf-requires-clause-room
 put_in_leaf-requires-clause-room g c =
@@ -83,13 +66,16 @@ make_parts-requires-clause-low g c =
     let slots = c.read_node-slots.result in
     let seen = seen_by g.K.KeyOrder.read g.K.KeyOrder.order (g.K.KeyOrder.sought c.args.key.now) m in
     let pair : ℕ × ℕ = (c.args.word, c.args.value) in
-    let back = c.first_slot-slot.ensures.same ∙ read.same in
-    let same : c.put_in_leaf.new.frozen ≡ s = c.put_in_leaf.ensures.same ∙ back in
+    let spot = c.first_slot-spot in
+    let same : spot.new.frozen ≡ s = spot.ensures.same ∙ read.same in
     let left = c.put_in_leaf.new.slots in
+    let now : (P : (ℕ → Ordering) → List ℕ → ℕ → Type 0) → P (seen_by g.K.KeyOrder.read g.K.KeyOrder.order (g.K.KeyOrder.sought c.args.key.now) (g.S.Frozen.records c.read_node-slots.new.frozen)) c.deref.result.now spot.result.slot
+    → P seen slots.keys.items spot.result.slot =
+    λ P h. subst (λ (xs : List ℕ). P seen xs spot.result.slot) c.deref.ensures.0
+    (subst (λ f. P (seen_by g.K.KeyOrder.read g.K.KeyOrder.order (g.K.KeyOrder.sought c.args.key.now) (g.S.Frozen.records f)) c.deref.result.now spot.result.slot) read.same h) in
     let level : left.level ≡ 0 = c.put_in_leaf.ensures.level ∙ read.level ∙ form.at_level in
     let pairs : zip left.keys.items left.values.items ≡ put seen pair (zip (node_keys (m node)) (node_values (m node))) =
-    c.put_in_leaf.ensures.pairs
-    ∙ ap (λ f. put (seen_by g.K.KeyOrder.read g.K.KeyOrder.order (g.K.KeyOrder.sought c.args.key.now) (g.S.Frozen.records f)) pair (zip slots.keys.items slots.values.items)) back
+    c.put_in_leaf.ensures.pairs seen (now IsSlot spot.ensures.slot) (λ e. now IsFound (spot.ensures.found e)) (λ e. now IsLacking (spot.ensures.lacking e))
     ∙ ap (λ (ks : List ℕ). put seen pair (zip ks slots.values.items)) read.keys
     ∙ ap (λ (vs : List ℕ). put seen pair (zip (node_keys (m node)) vs)) read.values in
     let most : length (node_keys (m node)) ≤ length left.keys.items = subst (λ (ks : List ℕ). length ks ≤ length left.keys.items) read.keys c.put_in_leaf.ensures.least in
@@ -106,13 +92,16 @@ make_parts-requires-clause-hand g c =
     let slots = c.read_node-slots.result in
     let seen = seen_by g.K.KeyOrder.read g.K.KeyOrder.order (g.K.KeyOrder.sought c.args.key.now) m in
     let pair : ℕ × ℕ = (c.args.word, c.args.value) in
-    let back = c.first_slot-slot.ensures.same ∙ read.same in
-    let same : c.put_in_leaf.new.frozen ≡ s = c.put_in_leaf.ensures.same ∙ back in
+    let spot = c.first_slot-spot in
+    let same : spot.new.frozen ≡ s = spot.ensures.same ∙ read.same in
     let left = c.put_in_leaf.new.slots in
+    let now : (P : (ℕ → Ordering) → List ℕ → ℕ → Type 0) → P (seen_by g.K.KeyOrder.read g.K.KeyOrder.order (g.K.KeyOrder.sought c.args.key.now) (g.S.Frozen.records c.read_node-slots.new.frozen)) c.deref.result.now spot.result.slot
+    → P seen slots.keys.items spot.result.slot =
+    λ P h. subst (λ (xs : List ℕ). P seen xs spot.result.slot) c.deref.ensures.0
+    (subst (λ f. P (seen_by g.K.KeyOrder.read g.K.KeyOrder.order (g.K.KeyOrder.sought c.args.key.now) (g.S.Frozen.records f)) c.deref.result.now spot.result.slot) read.same h) in
     let level : left.level ≡ 0 = c.put_in_leaf.ensures.level ∙ read.level ∙ form.at_level in
     let pairs : zip left.keys.items left.values.items ≡ put seen pair (zip (node_keys (m node)) (node_values (m node))) =
-    c.put_in_leaf.ensures.pairs
-    ∙ ap (λ f. put (seen_by g.K.KeyOrder.read g.K.KeyOrder.order (g.K.KeyOrder.sought c.args.key.now) (g.S.Frozen.records f)) pair (zip slots.keys.items slots.values.items)) back
+    c.put_in_leaf.ensures.pairs seen (now IsSlot spot.ensures.slot) (λ e. now IsFound (spot.ensures.found e)) (λ e. now IsLacking (spot.ensures.lacking e))
     ∙ ap (λ (ks : List ℕ). put seen pair (zip ks slots.values.items)) read.keys
     ∙ ap (λ (vs : List ℕ). put seen pair (zip (node_keys (m node)) vs)) read.values in
     let most : length (node_keys (m node)) ≤ length left.keys.items = subst (λ (ks : List ℕ). length ks ≤ length left.keys.items) read.keys c.put_in_leaf.ensures.least in
@@ -130,13 +119,16 @@ make_parts-requires-clause-fits g c =
     let slots = c.read_node-slots.result in
     let seen = seen_by g.K.KeyOrder.read g.K.KeyOrder.order (g.K.KeyOrder.sought c.args.key.now) m in
     let pair : ℕ × ℕ = (c.args.word, c.args.value) in
-    let back = c.first_slot-slot.ensures.same ∙ read.same in
-    let same : c.put_in_leaf.new.frozen ≡ s = c.put_in_leaf.ensures.same ∙ back in
+    let spot = c.first_slot-spot in
+    let same : spot.new.frozen ≡ s = spot.ensures.same ∙ read.same in
     let left = c.put_in_leaf.new.slots in
+    let now : (P : (ℕ → Ordering) → List ℕ → ℕ → Type 0) → P (seen_by g.K.KeyOrder.read g.K.KeyOrder.order (g.K.KeyOrder.sought c.args.key.now) (g.S.Frozen.records c.read_node-slots.new.frozen)) c.deref.result.now spot.result.slot
+    → P seen slots.keys.items spot.result.slot =
+    λ P h. subst (λ (xs : List ℕ). P seen xs spot.result.slot) c.deref.ensures.0
+    (subst (λ f. P (seen_by g.K.KeyOrder.read g.K.KeyOrder.order (g.K.KeyOrder.sought c.args.key.now) (g.S.Frozen.records f)) c.deref.result.now spot.result.slot) read.same h) in
     let level : left.level ≡ 0 = c.put_in_leaf.ensures.level ∙ read.level ∙ form.at_level in
     let pairs : zip left.keys.items left.values.items ≡ put seen pair (zip (node_keys (m node)) (node_values (m node))) =
-    c.put_in_leaf.ensures.pairs
-    ∙ ap (λ f. put (seen_by g.K.KeyOrder.read g.K.KeyOrder.order (g.K.KeyOrder.sought c.args.key.now) (g.S.Frozen.records f)) pair (zip slots.keys.items slots.values.items)) back
+    c.put_in_leaf.ensures.pairs seen (now IsSlot spot.ensures.slot) (λ e. now IsFound (spot.ensures.found e)) (λ e. now IsLacking (spot.ensures.lacking e))
     ∙ ap (λ (ks : List ℕ). put seen pair (zip ks slots.values.items)) read.keys
     ∙ ap (λ (vs : List ℕ). put seen pair (zip (node_keys (m node)) vs)) read.values in
     let most : length (node_keys (m node)) ≤ length left.keys.items = subst (λ (ks : List ℕ). length ks ≤ length left.keys.items) read.keys c.put_in_leaf.ensures.least in
@@ -157,13 +149,16 @@ make_parts-requires-clause-few g c =
     let slots = c.read_node-slots.result in
     let seen = seen_by g.K.KeyOrder.read g.K.KeyOrder.order (g.K.KeyOrder.sought c.args.key.now) m in
     let pair : ℕ × ℕ = (c.args.word, c.args.value) in
-    let back = c.first_slot-slot.ensures.same ∙ read.same in
-    let same : c.put_in_leaf.new.frozen ≡ s = c.put_in_leaf.ensures.same ∙ back in
+    let spot = c.first_slot-spot in
+    let same : spot.new.frozen ≡ s = spot.ensures.same ∙ read.same in
     let left = c.put_in_leaf.new.slots in
+    let now : (P : (ℕ → Ordering) → List ℕ → ℕ → Type 0) → P (seen_by g.K.KeyOrder.read g.K.KeyOrder.order (g.K.KeyOrder.sought c.args.key.now) (g.S.Frozen.records c.read_node-slots.new.frozen)) c.deref.result.now spot.result.slot
+    → P seen slots.keys.items spot.result.slot =
+    λ P h. subst (λ (xs : List ℕ). P seen xs spot.result.slot) c.deref.ensures.0
+    (subst (λ f. P (seen_by g.K.KeyOrder.read g.K.KeyOrder.order (g.K.KeyOrder.sought c.args.key.now) (g.S.Frozen.records f)) c.deref.result.now spot.result.slot) read.same h) in
     let level : left.level ≡ 0 = c.put_in_leaf.ensures.level ∙ read.level ∙ form.at_level in
     let pairs : zip left.keys.items left.values.items ≡ put seen pair (zip (node_keys (m node)) (node_values (m node))) =
-    c.put_in_leaf.ensures.pairs
-    ∙ ap (λ f. put (seen_by g.K.KeyOrder.read g.K.KeyOrder.order (g.K.KeyOrder.sought c.args.key.now) (g.S.Frozen.records f)) pair (zip slots.keys.items slots.values.items)) back
+    c.put_in_leaf.ensures.pairs seen (now IsSlot spot.ensures.slot) (λ e. now IsFound (spot.ensures.found e)) (λ e. now IsLacking (spot.ensures.lacking e))
     ∙ ap (λ (ks : List ℕ). put seen pair (zip ks slots.values.items)) read.keys
     ∙ ap (λ (vs : List ℕ). put seen pair (zip (node_keys (m node)) vs)) read.values in
     let most : length (node_keys (m node)) ≤ length left.keys.items = subst (λ (ks : List ℕ). length ks ≤ length left.keys.items) read.keys c.put_in_leaf.ensures.least in
@@ -182,13 +177,16 @@ returns-clause-inserts g c =
     let slots = c.read_node-slots.result in
     let seen = seen_by g.K.KeyOrder.read g.K.KeyOrder.order (g.K.KeyOrder.sought c.args.key.now) m in
     let pair : ℕ × ℕ = (c.args.word, c.args.value) in
-    let back = c.first_slot-slot.ensures.same ∙ read.same in
-    let same : c.put_in_leaf.new.frozen ≡ s = c.put_in_leaf.ensures.same ∙ back in
+    let spot = c.first_slot-spot in
+    let same : spot.new.frozen ≡ s = spot.ensures.same ∙ read.same in
     let left = c.put_in_leaf.new.slots in
+    let now : (P : (ℕ → Ordering) → List ℕ → ℕ → Type 0) → P (seen_by g.K.KeyOrder.read g.K.KeyOrder.order (g.K.KeyOrder.sought c.args.key.now) (g.S.Frozen.records c.read_node-slots.new.frozen)) c.deref.result.now spot.result.slot
+    → P seen slots.keys.items spot.result.slot =
+    λ P h. subst (λ (xs : List ℕ). P seen xs spot.result.slot) c.deref.ensures.0
+    (subst (λ f. P (seen_by g.K.KeyOrder.read g.K.KeyOrder.order (g.K.KeyOrder.sought c.args.key.now) (g.S.Frozen.records f)) c.deref.result.now spot.result.slot) read.same h) in
     let level : left.level ≡ 0 = c.put_in_leaf.ensures.level ∙ read.level ∙ form.at_level in
     let pairs : zip left.keys.items left.values.items ≡ put seen pair (zip (node_keys (m node)) (node_values (m node))) =
-    c.put_in_leaf.ensures.pairs
-    ∙ ap (λ f. put (seen_by g.K.KeyOrder.read g.K.KeyOrder.order (g.K.KeyOrder.sought c.args.key.now) (g.S.Frozen.records f)) pair (zip slots.keys.items slots.values.items)) back
+    c.put_in_leaf.ensures.pairs seen (now IsSlot spot.ensures.slot) (λ e. now IsFound (spot.ensures.found e)) (λ e. now IsLacking (spot.ensures.lacking e))
     ∙ ap (λ (ks : List ℕ). put seen pair (zip ks slots.values.items)) read.keys
     ∙ ap (λ (vs : List ℕ). put seen pair (zip (node_keys (m node)) vs)) read.values in
     let most : length (node_keys (m node)) ≤ length left.keys.items = subst (λ (ks : List ℕ). length ks ≤ length left.keys.items) read.keys c.put_in_leaf.ensures.least in

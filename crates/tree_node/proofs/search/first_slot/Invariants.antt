@@ -1,14 +1,13 @@
-use Rattle.std.proofs.Common.{◌≡◌, ℕ, ◌+◌, ◌<◌}
+use Rattle.std.proofs.Common.{◌≡◌, ℕ, ◌<◌}
+use Rattle.std.specs.Prelude.{slice_index}
 use Rattle.std.specs.declared.cmp.Ordering.TheVariants.{Less}
-use Rattle.image_base.specs.Records.{word_at}
 use Rattle.key_order.specs.Keys.{seen_by}
 use Rattle.tree_node.proofs.search.first_slot.Given as goal
 
 abbrev pub invariant-loop-slot : goal.invariant-loop-slot
 invariant-loop-slot g l =
-    let m = g.F.Frozen.records l.fn.frozen in
     let key = g.K.KeyOrder in
     record {
       same : l.frozen ≡ l.fn.frozen;
-      before : (j : ℕ) → j < l.slot → seen_by key.read key.order (key.sought l.key) m (word_at m l.node (2 + j)) ≡ Less;
+      before : (j : ℕ) → j < l.slot → seen_by key.read key.order (key.sought l.key) (g.F.Frozen.records l.fn.frozen) (slice_index l.keys j) ≡ Less;
     }

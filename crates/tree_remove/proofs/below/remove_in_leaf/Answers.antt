@@ -1,15 +1,13 @@
-use Rattle.std.proofs.Common.{rules, ◌≡◌, ℕ, List, length, sym, ap, subst, ◌∙◌, arith}
+use Rattle.std.proofs.Common.{◌≡◌, ℕ, List, length, sym, ap, subst, ◌∙◌, arith}
 use Rattle.std.specs.Prelude.{IsSome}
 use Rattle.std.specs.List.{zip, remove, AllByRecursion}
 use Rattle.std.proofs.lemmas.List.Edits.{length-remove}
-use Rattle.key_order.specs.Keys.{seen_by, AllReadable}
+use Rattle.key_order.specs.Keys.{seen_by}
 use Rattle.key_order.specs.Pairs.{lookup, take_out}
 use Rattle.tree_node.specs.Places.{IsSlot}
-use Rattle.tree_node.proofs.ReadLemmas.{node-size, node-room, node-level, node-even, leaf-pairs}
-use Rattle.tree_node.proofs.ChildLemmas.{keys-length, IsNode-lower}
+use Rattle.tree_node.proofs.ReadLemmas.{node-size, node-room, node-level, node-even, node-keys-all, leaf-pairs}
+use Rattle.tree_node.proofs.ChildLemmas.{keys-length}
 use Rattle.tree_remove.proofs.StepLemmas.{leaf-out}
-use Rattle.tree_images.specs.Nodes.{level_of, used_of, node_keys}
-use Rattle.tree_images.specs.Trees.{pairs_below, IsNode}
 use Rattle.tree_remove.proofs.below.remove_in_leaf.Goals as goal
 
 pub read_node-slots-requires : goal.read_node-slots-requires
@@ -25,21 +23,14 @@ read_node-slots-requires g c = (
   ),
 )
 
-pub first_slot-slot-requires : goal.first_slot-slot-requires
-first_slot-slot-requires g c =
+pub slot_of-slot-requires : goal.slot_of-slot-requires
+slot_of-slot-requires g c =
     let m = g.F.Frozen.records c.args.frozen.now in
     let node = c.args.node in
     let can = g.K.KeyOrder.can_read in
-    let read = c.read_node-slots.ensures in (
-      omega arith,
-      (
-        subst (λ f. IsNode (g.F.Frozen.records f) 1 (level_of (g.F.Frozen.records f node)) node) (sym read.same) (subst (λ l. IsNode m 1 l node) (sym (node-level m 1 0 node c.requires.node)) c.requires.node),
-        (
-          c.len-used.ensures.value ∙ ap length read.keys ∙ keys-length m 1 0 node c.requires.node ∙ ap (λ f. used_of (g.F.Frozen.records f node)) (sym read.same),
-          subst (λ f. AllReadable can (g.F.Frozen.records f) (pairs_below (g.F.Frozen.records f) (level_of (g.F.Frozen.records f node)) node)) (sym read.same) (subst (λ l. AllReadable can m (pairs_below m l node)) (sym (node-level m 1 0 node c.requires.node)) c.requires.readable),
-        ),
-      ),
-    )
+    let read = c.read_node-slots.ensures in
+    subst (λ f. AllByRecursion (can (g.F.Frozen.records f)) c.deref.result.now) (sym read.same)
+    (subst (AllByRecursion (can m)) (sym (c.deref.ensures.0 ∙ read.keys)) (node-keys-all m 1 0 node c.requires.node (can m) c.requires.readable))
 
 pub remove-requires : goal.remove-requires
 remove-requires g c =
@@ -52,10 +43,10 @@ remove-requires g c =
     let even : length slots.keys.items ≡ length slots.values.items =
     ap length c.read_node-slots.ensures.keys ∙ node-even m 1 0 node c.requires.node ∙ sym (ap length c.read_node-slots.ensures.values) in
     let pairs = leaf-pairs m node slots.keys.items slots.values.items c.read_node-slots.ensures.keys c.read_node-slots.ensures.values in
-    let i = c.first_slot-slot.result in
+    let i = c.slot_of-slot.result in
     let same = c.read_node-slots.ensures.same in
-    let slot = subst (λ (ks : List ℕ). IsSlot seen ks i) (sym c.read_node-slots.ensures.keys)
-    (subst (λ f. IsSlot (seen_by k.read k.order s (g.F.Frozen.records f)) (node_keys (g.F.Frozen.records f node)) i) same c.first_slot-slot.ensures.slot) in
+    let slot = subst (λ (ks : List ℕ). IsSlot seen ks i) c.deref.ensures.0
+    (subst (λ f. IsSlot (seen_by k.read k.order s (g.F.Frozen.records f)) c.deref.result.now i) same c.slot_of-slot.ensures.slot) in
     let found = leaf-out seen slots.keys.items slots.values.items i even slot (subst (λ ps. IsSome (lookup seen ps)) pairs c.requires.there) in
     (omega arith, found.0)
 
@@ -70,10 +61,10 @@ remove-requires-2 g c =
     let even : length slots.keys.items ≡ length slots.values.items =
     ap length c.read_node-slots.ensures.keys ∙ node-even m 1 0 node c.requires.node ∙ sym (ap length c.read_node-slots.ensures.values) in
     let pairs = leaf-pairs m node slots.keys.items slots.values.items c.read_node-slots.ensures.keys c.read_node-slots.ensures.values in
-    let i = c.first_slot-slot.result in
+    let i = c.slot_of-slot.result in
     let same = c.read_node-slots.ensures.same in
-    let slot = subst (λ (ks : List ℕ). IsSlot seen ks i) (sym c.read_node-slots.ensures.keys)
-    (subst (λ f. IsSlot (seen_by k.read k.order s (g.F.Frozen.records f)) (node_keys (g.F.Frozen.records f node)) i) same c.first_slot-slot.ensures.slot) in
+    let slot = subst (λ (ks : List ℕ). IsSlot seen ks i) c.deref.ensures.0
+    (subst (λ f. IsSlot (seen_by k.read k.order s (g.F.Frozen.records f)) c.deref.result.now i) same c.slot_of-slot.ensures.slot) in
     let found = leaf-out seen slots.keys.items slots.values.items i even slot (subst (λ ps. IsSome (lookup seen ps)) pairs c.requires.there) in
     let low = found.0 in
     (omega arith, omega arith)
@@ -95,10 +86,10 @@ returns-clause-even g c =
     let even : length slots.keys.items ≡ length slots.values.items =
     ap length c.read_node-slots.ensures.keys ∙ node-even m 1 0 node c.requires.node ∙ sym (ap length c.read_node-slots.ensures.values) in
     let pairs = leaf-pairs m node slots.keys.items slots.values.items c.read_node-slots.ensures.keys c.read_node-slots.ensures.values in
-    let i = c.first_slot-slot.result in
+    let i = c.slot_of-slot.result in
     let same = c.read_node-slots.ensures.same in
-    let slot = subst (λ (ks : List ℕ). IsSlot seen ks i) (sym c.read_node-slots.ensures.keys)
-    (subst (λ f. IsSlot (seen_by k.read k.order s (g.F.Frozen.records f)) (node_keys (g.F.Frozen.records f node)) i) same c.first_slot-slot.ensures.slot) in
+    let slot = subst (λ (ks : List ℕ). IsSlot seen ks i) c.deref.ensures.0
+    (subst (λ f. IsSlot (seen_by k.read k.order s (g.F.Frozen.records f)) c.deref.result.now i) same c.slot_of-slot.ensures.slot) in
     let found = leaf-out seen slots.keys.items slots.values.items i even slot (subst (λ ps. IsSome (lookup seen ps)) pairs c.requires.there) in
     let low = found.0 in
     let a = ap length c.remove.ensures.items in
@@ -116,10 +107,10 @@ returns-clause-pairs g c =
     let even : length slots.keys.items ≡ length slots.values.items =
     ap length c.read_node-slots.ensures.keys ∙ node-even m 1 0 node c.requires.node ∙ sym (ap length c.read_node-slots.ensures.values) in
     let pairs = leaf-pairs m node slots.keys.items slots.values.items c.read_node-slots.ensures.keys c.read_node-slots.ensures.values in
-    let i = c.first_slot-slot.result in
+    let i = c.slot_of-slot.result in
     let same = c.read_node-slots.ensures.same in
-    let slot = subst (λ (ks : List ℕ). IsSlot seen ks i) (sym c.read_node-slots.ensures.keys)
-    (subst (λ f. IsSlot (seen_by k.read k.order s (g.F.Frozen.records f)) (node_keys (g.F.Frozen.records f node)) i) same c.first_slot-slot.ensures.slot) in
+    let slot = subst (λ (ks : List ℕ). IsSlot seen ks i) c.deref.ensures.0
+    (subst (λ f. IsSlot (seen_by k.read k.order s (g.F.Frozen.records f)) c.deref.result.now i) same c.slot_of-slot.ensures.slot) in
     let found = leaf-out seen slots.keys.items slots.values.items i even slot (subst (λ ps. IsSome (lookup seen ps)) pairs c.requires.there) in
     ap (λ (ks : List ℕ). zip ks c.remove-2.new.self.items) c.remove.ensures.items
     ∙ ap (zip (remove slots.keys.items i)) c.remove-2.ensures.items
@@ -137,10 +128,10 @@ returns-clause-size g c =
     let even : length slots.keys.items ≡ length slots.values.items =
     ap length c.read_node-slots.ensures.keys ∙ node-even m 1 0 node c.requires.node ∙ sym (ap length c.read_node-slots.ensures.values) in
     let pairs = leaf-pairs m node slots.keys.items slots.values.items c.read_node-slots.ensures.keys c.read_node-slots.ensures.values in
-    let i = c.first_slot-slot.result in
+    let i = c.slot_of-slot.result in
     let same = c.read_node-slots.ensures.same in
-    let slot = subst (λ (ks : List ℕ). IsSlot seen ks i) (sym c.read_node-slots.ensures.keys)
-    (subst (λ f. IsSlot (seen_by k.read k.order s (g.F.Frozen.records f)) (node_keys (g.F.Frozen.records f node)) i) same c.first_slot-slot.ensures.slot) in
+    let slot = subst (λ (ks : List ℕ). IsSlot seen ks i) c.deref.ensures.0
+    (subst (λ f. IsSlot (seen_by k.read k.order s (g.F.Frozen.records f)) c.deref.result.now i) same c.slot_of-slot.ensures.slot) in
     let found = leaf-out seen slots.keys.items slots.values.items i even slot (subst (λ ps. IsSome (lookup seen ps)) pairs c.requires.there) in
     let low = found.0 in
     let a = ap length c.remove.ensures.items in

@@ -1,14 +1,13 @@
-use Rattle.std.proofs.Common.{rules, ◌≡◌, ℕ, suc, ◌-◌, List, length, get_or, sym, ap, subst, ◌∙◌, arith}
+use Rattle.std.proofs.Common.{◌≡◌, ℕ, suc, ◌-◌, List, length, get_or, sym, ap, subst, ◌∙◌, arith}
 use Rattle.std.specs.Prelude.{IsSome}
 use Rattle.std.specs.List.{AllByRecursion}
-use Rattle.tree_images.specs.Nodes.{level_of, used_of, node_keys}
+use Rattle.tree_images.specs.Nodes.{level_of}
 use Rattle.tree_images.specs.Trees.{pairs_below, IsNode}
 use Rattle.key_order.specs.Keys.{seen_by, Ascends, AllReadable}
 use Rattle.key_order.specs.Pairs.{lookup}
 use Rattle.tree_node.specs.Places.{IsSlot}
-use Rattle.tree_node.proofs.ReadLemmas.{node-size, node-room, node-level}
+use Rattle.tree_node.proofs.ReadLemmas.{node-size, node-room, node-keys-all}
 use Rattle.tree_remove.proofs.StepLemmas.{at-low, at-even, at-node, at-ascends, at-all, at-step}
-use Rattle.tree_node.proofs.ChildLemmas.{keys-length, IsNode-lower}
 use Rattle.tree_remove.proofs.below.step_down.Goals as goal
 
 pub read_node-slots-requires : goal.read_node-slots-requires
@@ -26,21 +25,14 @@ read_node-slots-requires g c = (
   ),
 )
 
-pub first_slot-place-requires : goal.first_slot-place-requires
-first_slot-place-requires g c =
+pub slot_of-place-requires : goal.slot_of-place-requires
+slot_of-place-requires g c =
     let m = g.F.Frozen.records c.args.frozen.now in
     let node = c.args.node in
     let can = g.K.KeyOrder.can_read in
-    let read = c.read_node-slots.ensures in (
-      omega arith,
-      (
-        subst (λ f. IsNode (g.F.Frozen.records f) 1 (level_of (g.F.Frozen.records f node)) node) (sym read.same) (IsNode-lower m 2 1 (level_of (m node)) node (omega arith) c.requires.node),
-        (
-          c.len-used.ensures.value ∙ ap length read.keys ∙ keys-length m 2 (level_of (m node)) node c.requires.node ∙ ap (λ f. used_of (g.F.Frozen.records f node)) (sym read.same),
-          subst (λ f. AllReadable can (g.F.Frozen.records f) (pairs_below (g.F.Frozen.records f) (level_of (g.F.Frozen.records f node)) node)) (sym read.same) c.requires.readable,
-        ),
-      ),
-    )
+    let read = c.read_node-slots.ensures in
+    subst (λ f. AllByRecursion (can (g.F.Frozen.records f)) c.deref.result.now) (sym read.same)
+    (subst (AllByRecursion (can m)) (sym (c.deref.ensures.0 ∙ read.keys)) (node-keys-all m 2 (level_of (m node)) node c.requires.node (can m) c.requires.readable))
 
 pub bounds-deref-place : goal.bounds-deref-place
 bounds-deref-place g c =
@@ -59,13 +51,13 @@ bounds-deref-place g c =
     let slots = c.read_node-slots.result in
     let keys = c.read_node-slots.ensures.keys in
     let values = c.read_node-slots.ensures.values in
-    let i = c.first_slot-place.result in
+    let i = c.slot_of-place.result in
     let same = c.read_node-slots.ensures.same in
-    let slot = subst (λ (ks : List ℕ). IsSlot seen ks i) (sym c.read_node-slots.ensures.keys)
-    (subst (λ f. IsSlot (seen_by k.read k.order s (g.F.Frozen.records f)) (node_keys (g.F.Frozen.records f node)) i) same c.first_slot-place.ensures.slot) in
+    let slot = subst (λ (ks : List ℕ). IsSlot seen ks i) c.deref.ensures.0
+    (subst (λ f. IsSlot (seen_by k.read k.order s (g.F.Frozen.records f)) c.deref.result.now i) same c.slot_of-place.ensures.slot) in
     let low = at-low k.order g.met.K.KeyOrder.total k.read s m l node node_is ascends there slots.keys.items slots.values.items keys values i slot in
     let even = at-even k.order g.met.K.KeyOrder.total k.read s m l node node_is ascends there slots.keys.items slots.values.items keys values i slot in
-    let size = ap length c.deref.ensures.0 in
+    let size = ap length c.deref-2.ensures.0 in
     omega arith
 
 pub overflow_cast-deref : goal.overflow_cast-deref
@@ -85,14 +77,14 @@ overflow_cast-deref g c =
     let slots = c.read_node-slots.result in
     let keys = c.read_node-slots.ensures.keys in
     let values = c.read_node-slots.ensures.values in
-    let i = c.first_slot-place.result in
+    let i = c.slot_of-place.result in
     let same = c.read_node-slots.ensures.same in
-    let slot = subst (λ (ks : List ℕ). IsSlot seen ks i) (sym c.read_node-slots.ensures.keys)
-    (subst (λ f. IsSlot (seen_by k.read k.order s (g.F.Frozen.records f)) (node_keys (g.F.Frozen.records f node)) i) same c.first_slot-place.ensures.slot) in
+    let slot = subst (λ (ks : List ℕ). IsSlot seen ks i) c.deref.ensures.0
+    (subst (λ f. IsSlot (seen_by k.read k.order s (g.F.Frozen.records f)) c.deref.result.now i) same c.slot_of-place.ensures.slot) in
     let child = at-node k.order g.met.K.KeyOrder.total k.read s m l node node_is ascends there slots.keys.items slots.values.items keys values i slot in
     let size = node-size m 8 l (get_or slots.values.items i 0) child in
     let small = g.met.F.Frozen.references c.args.frozen.now (get_or slots.values.items i 0) (omega arith) in
-    let is = ap (λ (vs : List ℕ). get_or vs i 0) c.deref.ensures.0 in
+    let is = ap (λ (vs : List ℕ). get_or vs i 0) c.deref-2.ensures.0 in
     omega arith
 
 pub returns-clause-step : goal.returns-clause-step
@@ -112,12 +104,12 @@ returns-clause-step g c =
     let slots = c.read_node-slots.result in
     let keys = c.read_node-slots.ensures.keys in
     let values = c.read_node-slots.ensures.values in
-    let i = c.first_slot-place.result in
+    let i = c.slot_of-place.result in
     let same = c.read_node-slots.ensures.same in
-    let slot = subst (λ (ks : List ℕ). IsSlot seen ks i) (sym c.read_node-slots.ensures.keys)
-    (subst (λ f. IsSlot (seen_by k.read k.order s (g.F.Frozen.records f)) (node_keys (g.F.Frozen.records f node)) i) same c.first_slot-place.ensures.slot) in
+    let slot = subst (λ (ks : List ℕ). IsSlot seen ks i) c.deref.ensures.0
+    (subst (λ f. IsSlot (seen_by k.read k.order s (g.F.Frozen.records f)) c.deref.result.now i) same c.slot_of-place.ensures.slot) in
     at-step k.order g.met.K.KeyOrder.total k.read s m l node node_is ascends there slots.keys.items slots.values.items keys values i slot
-    c.from_raw-child.result (c.from_raw-child.ensures ∙ ap (λ (vs : List ℕ). get_or vs i 0) c.deref.ensures.0)
+    c.from_raw-child.result (c.from_raw-child.ensures ∙ ap (λ (vs : List ℕ). get_or vs i 0) c.deref-2.ensures.0)
 
 pub returns-clause-ascends : goal.returns-clause-ascends
 returns-clause-ascends g c =
@@ -136,11 +128,11 @@ returns-clause-ascends g c =
     let slots = c.read_node-slots.result in
     let keys = c.read_node-slots.ensures.keys in
     let values = c.read_node-slots.ensures.values in
-    let i = c.first_slot-place.result in
+    let i = c.slot_of-place.result in
     let same = c.read_node-slots.ensures.same in
-    let slot = subst (λ (ks : List ℕ). IsSlot seen ks i) (sym c.read_node-slots.ensures.keys)
-    (subst (λ f. IsSlot (seen_by k.read k.order s (g.F.Frozen.records f)) (node_keys (g.F.Frozen.records f node)) i) same c.first_slot-place.ensures.slot) in
-    subst (λ (r : ℕ). Ascends k.order k.read m (pairs_below m l r)) (sym (c.from_raw-child.ensures ∙ ap (λ (vs : List ℕ). get_or vs i 0) c.deref.ensures.0))
+    let slot = subst (λ (ks : List ℕ). IsSlot seen ks i) c.deref.ensures.0
+    (subst (λ f. IsSlot (seen_by k.read k.order s (g.F.Frozen.records f)) c.deref.result.now i) same c.slot_of-place.ensures.slot) in
+    subst (λ (r : ℕ). Ascends k.order k.read m (pairs_below m l r)) (sym (c.from_raw-child.ensures ∙ ap (λ (vs : List ℕ). get_or vs i 0) c.deref-2.ensures.0))
     (at-ascends k.order g.met.K.KeyOrder.total k.read s m l node node_is ascends there slots.keys.items slots.values.items keys values i slot)
 
 pub returns-clause-readable : goal.returns-clause-readable
@@ -160,10 +152,10 @@ returns-clause-readable g c =
     let slots = c.read_node-slots.result in
     let keys = c.read_node-slots.ensures.keys in
     let values = c.read_node-slots.ensures.values in
-    let i = c.first_slot-place.result in
+    let i = c.slot_of-place.result in
     let same = c.read_node-slots.ensures.same in
-    let slot = subst (λ (ks : List ℕ). IsSlot seen ks i) (sym c.read_node-slots.ensures.keys)
-    (subst (λ f. IsSlot (seen_by k.read k.order s (g.F.Frozen.records f)) (node_keys (g.F.Frozen.records f node)) i) same c.first_slot-place.ensures.slot) in
+    let slot = subst (λ (ks : List ℕ). IsSlot seen ks i) c.deref.ensures.0
+    (subst (λ f. IsSlot (seen_by k.read k.order s (g.F.Frozen.records f)) c.deref.result.now i) same c.slot_of-place.ensures.slot) in
     let readable = subst (λ n. AllReadable k.can_read m (pairs_below m n node)) up c.requires.readable in
-    subst (λ (r : ℕ). AllReadable k.can_read m (pairs_below m l r)) (sym (c.from_raw-child.ensures ∙ ap (λ (vs : List ℕ). get_or vs i 0) c.deref.ensures.0))
+    subst (λ (r : ℕ). AllReadable k.can_read m (pairs_below m l r)) (sym (c.from_raw-child.ensures ∙ ap (λ (vs : List ℕ). get_or vs i 0) c.deref-2.ensures.0))
     (at-all k.order g.met.K.KeyOrder.total k.read s m l node node_is ascends there slots.keys.items slots.values.items keys values i slot (λ (p : ℕ × ℕ). k.can_read m p.0) readable)

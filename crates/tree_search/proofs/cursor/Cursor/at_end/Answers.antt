@@ -8,4 +8,4 @@ returns-clause-pairs g c m =
     let inside = c.self.inside in
     let past = leb inside.used inside.slot in
     subst (λ (p : Place). IsAt m p → (IsTrue past → pairs_from m p ≡ []) × (pairs_from m p ≡ [] → IsTrue past)) c.self.view_is
-    (end-pairs m (record { root = inside.root; path = inside.path; leaf = inside.leaf; slot = inside.slot; used = inside.used }))
+    (end-pairs m (record { root = inside.root; path = inside.path; leaf = inside.leaf; slot = inside.slot; used = inside.used; words = inside.words }))

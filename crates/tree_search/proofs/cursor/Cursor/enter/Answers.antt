@@ -3,7 +3,7 @@ use Rattle.image_base.specs.Records.{HasWord, word_at}
 use Rattle.tree_images.specs.Nodes.{level_of, used_of}
 use Rattle.tree_images.specs.Trees.{pairs_below}
 use Rattle.tree_search.specs.Places.{Leads, pairs_behind}
-use Rattle.tree_search.proofs.PlaceLemmas.{leads-length, leads-child, child-level, from-first, first-low, step-size, step-child, at-first}
+use Rattle.tree_search.proofs.PlaceLemmas.{leads-length, step-room, leads-child, child-level, from-first, first-low, step-size, step-child, at-first}
 use Rattle.tree_search.proofs.cursor.Cursor.enter.Goals as goal
 
 pub read_head-head-requires : goal.read_head-head-requires
@@ -101,4 +101,26 @@ returns-clause-pairs g c =
     let m = g.F.Frozen.records c.args.frozen.now in
     let it = c.loop-head.invariant in
     let low : level_of (m c.loop-head.node) ≡ 0 = (let test = c.loop-head-test.false in let is = it.level in omega arith) in
-    at-first m c.loop-head.self-inside.root c.loop-head.self-inside.path c.loop-head.node c.loop-head.head.used it.leads low it.used ∙ it.pairs
+    at-first m c.loop-head.self-inside.root c.loop-head.self-inside.path c.loop-head.node c.loop-head.head.used c.read_words.new.into it.leads low it.used ∙ it.pairs
+
+pub read_words-requires : goal.read_words-requires
+read_words-requires g c =
+    let m = g.F.Frozen.records c.args.frozen.now in
+    let it = c.loop-head.invariant in
+    (omega arith, rw it.same (step-size m c.loop-head.self-inside.root c.loop-head.self-inside.path c.loop-head.node it.leads))
+
+pub invariant_of-self : goal.invariant_of-self
+invariant_of-self g c =
+    let m = g.F.Frozen.records c.args.frozen.now in
+    let it = c.loop-head.invariant in
+    let most = step-room m c.loop-head.self-inside.root c.loop-head.self-inside.path c.loop-head.node it.leads in
+    let used = it.used in
+    omega arith
+
+pub returns-clause-at : goal.returns-clause-at
+returns-clause-at g c pair =
+    let records = g.F.Frozen.records in
+    let m = records c.args.frozen.now in
+    let it = c.loop-head.invariant in
+    let low : level_of (m c.loop-head.node) ≡ 0 = (let test = c.loop-head-test.false in let is = it.level in omega arith) in
+    record { leads = it.leads; leaf = low; used = it.used; words = c.read_words.ensures.words ∙ ap (λ (f : g.row.F.Denot). records f c.loop-head.node) it.same }

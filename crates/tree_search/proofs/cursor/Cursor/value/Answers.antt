@@ -1,19 +1,7 @@
-use Rattle.std.proofs.Common.{◌+◌, ap, sym, subst, ◌∙◌, arith}
-use Rattle.image_base.specs.Records.{HasWord, word_at}
-use Rattle.tree_search.specs.Places.{Place, first_value}
-use Rattle.tree_search.proofs.PlaceLemmas.{pair-first, pair-low, pair-word}
+use Rattle.std.proofs.Common.{◌+◌, ap, ◌∙◌, get_or}
+use Rattle.tree_search.specs.Places.{Place}
+use Rattle.tree_search.proofs.PlaceLemmas.{pair-value}
 use Rattle.tree_search.proofs.cursor.Cursor.value.Goals as goal
 
-pub word-requires : goal.word-requires
-word-requires g c =
-    let m = g.F.Frozen.records c.args.frozen.now in
-    let at = c.args.self.now in
-    let low = pair-low m at c.requires.at c.requires.pair in
-    (omega arith, subst (λ (p : Place). HasWord m p.leaf (18 + p.slot)) (sym c.self.view_is) (pair-word m at (18 + at.slot) c.requires.at c.requires.pair (omega arith)))
-
-pub returns-clause-value : goal.returns-clause-value
-returns-clause-value g c =
-    let m = g.F.Frozen.records c.args.frozen.now in
-    let at = c.args.self.now in
-    c.word.ensures.value ∙ ap (λ (p : Place). word_at m p.leaf (18 + p.slot)) c.self.view_is
-    ∙ sym (ap first_value (pair-first m at c.requires.at c.requires.pair))
+pub returns : goal.returns
+returns g c m is = ap (λ (p : Place). get_or p.words (18 + p.slot) 0) c.self.view_is ∙ pair-value m c.args.self.now is c.requires
