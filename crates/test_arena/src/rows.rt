@@ -1,5 +1,5 @@
 //! Worked rows: generations, holds, buffers and seats.
-ghost use Rattle.std.specs.Prelude.{◌≡◌, ◌<◌, IfSome};
+ghost use Rattle.std.specs.Prelude.{◌≡◌, ◌<◌, ◌^◌, IfOk, IfSome};
 ghost use Rattle.arena_api.specs.Generations.{MayRetire};
 
 use crate::node::OneNode;
@@ -7,27 +7,38 @@ use crate::turn::{Committed, commit, pass, turn};
 use arena_api::{Advance, Oldest, Work};
 use entry_ref::EntryRef;
 use hold_lists::HoldList;
+use std::alloc::{AllocError, Global};
 use std::marker::Brand;
 use std::process::Abort;
 use std::sync::ledger::{Blank, Ledger};
 use std::test::Fail;
-use word_arena::{Again, Aimed, Arena, Config, Guarded, Limits, Reader, Steps, Writer};
+use word_arena::{Again, Aimed, Arena, Config, Guarded, Limits, Reader, Steps, Token, Writer};
 
 const MOST_COMMITS: u32 = 4_294_967_295;
 
 const MOST_GENERATIONS: u64 = 281_474_976_710_655;
 
-/// Eight buffers of 8,192 words.
-const fn eight(commits: u32, generations: u64) -> Config {
-    Config {
-        buffers: 8,
-        words: 8192,
-        shape: 1,
-        limits: Limits {
-            commits,
-            generations,
+/// An arena of eight buffers of 8,192 words.
+fn eight(
+    alloc: Global,
+    commits: u32,
+    generations: u64,
+) -> Result<(Arena<22, OneNode>, Token<22>), AllocError>
+    requires { generations < 2 ^ 48 }
+    ensures { IfOk result (λ r. r.1.place.table_id ≡ r.0.table.shared.table_id) }
+{
+    Arena::<22, OneNode>::create(
+        alloc,
+        Config {
+            buffers: 8,
+            words: 8192,
+            shape: 1,
+            limits: Limits {
+                commits,
+                generations,
+            },
         },
-    }
+    )
 }
 
 const fn newest(generation: u64, hold: u32) -> Oldest {
@@ -104,8 +115,7 @@ fn misses<'a>(
 
 #[test]
 fn a_reader_between_the_first_commit_and_the_third(rt: HostRuntime) -> Result<(), Fail> {
-    let config = eight(MOST_COMMITS, MOST_GENERATIONS);
-    let (arena, token) = Arena::<22, OneNode>::create(rt.alloc(), config)?;
+    let (arena, token) = eight(rt.alloc(), MOST_COMMITS, MOST_GENERATIONS)?;
     let mut writer = arena.writer(token);
     let reader = seat(&rt, &mut writer);
     assert_eq!(rt; commit(&mut writer), to(1, 1, 0, newest(1, 0)));
@@ -120,8 +130,7 @@ fn a_reader_between_the_first_commit_and_the_third(rt: HostRuntime) -> Result<()
 
 #[test]
 fn an_aim_stands_over_a_renewal(rt: HostRuntime) -> Result<(), Fail> {
-    let config = eight(MOST_COMMITS, MOST_GENERATIONS);
-    let (arena, token) = Arena::<22, OneNode>::create(rt.alloc(), config)?;
+    let (arena, token) = eight(rt.alloc(), MOST_COMMITS, MOST_GENERATIONS)?;
     let mut writer = arena.writer(token);
     let aimed = seat(&rt, &mut writer).aim();
     assert_eq!(rt; commit(&mut writer), to(1, 1, 0, newest(1, 0)));
@@ -131,8 +140,7 @@ fn an_aim_stands_over_a_renewal(rt: HostRuntime) -> Result<(), Fail> {
 
 #[test]
 fn an_aim_misses_a_closed_hold_and_finds_it_open_again(rt: HostRuntime) -> Result<(), Fail> {
-    let config = eight(MOST_COMMITS, MOST_GENERATIONS);
-    let (arena, token) = Arena::<22, OneNode>::create(rt.alloc(), config)?;
+    let (arena, token) = eight(rt.alloc(), MOST_COMMITS, MOST_GENERATIONS)?;
     let mut writer = arena.writer(token);
     let aimed = seat(&rt, &mut writer).aim();
     let second = guards(&rt, seat(&rt, &mut writer), 0);
@@ -152,8 +160,7 @@ fn an_aim_misses_a_closed_hold_and_finds_it_open_again(rt: HostRuntime) -> Resul
 
 #[test]
 fn a_guard_over_twenty_commits(rt: HostRuntime) -> Result<(), Fail> {
-    let config = eight(MOST_COMMITS, MOST_GENERATIONS);
-    let (arena, token) = Arena::<22, OneNode>::create(rt.alloc(), config)?;
+    let (arena, token) = eight(rt.alloc(), MOST_COMMITS, MOST_GENERATIONS)?;
     let mut writer = arena.writer(token);
     let guard = guards(&rt, seat(&rt, &mut writer), 0);
     for number in 1..21 {
@@ -169,8 +176,7 @@ fn a_guard_over_twenty_commits(rt: HostRuntime) -> Result<(), Fail> {
 
 #[test]
 fn sixteen_guards_leave_no_hold(rt: HostRuntime) -> Result<(), Fail> {
-    let config = eight(MOST_COMMITS, MOST_GENERATIONS);
-    let (arena, token) = Arena::<22, OneNode>::create(rt.alloc(), config)?;
+    let (arena, token) = eight(rt.alloc(), MOST_COMMITS, MOST_GENERATIONS)?;
     let mut writer = arena.writer(token);
     let mut held = Vec::new(rt.alloc());
     for number in 1..17 {
@@ -195,8 +201,7 @@ fn sixteen_guards_leave_no_hold(rt: HostRuntime) -> Result<(), Fail> {
 
 #[test]
 fn the_65th_reader_has_no_seat(rt: HostRuntime) -> Result<(), Fail> {
-    let config = eight(MOST_COMMITS, MOST_GENERATIONS);
-    let (arena, token) = Arena::<22, OneNode>::create(rt.alloc(), config)?;
+    let (arena, token) = eight(rt.alloc(), MOST_COMMITS, MOST_GENERATIONS)?;
     let mut writer = arena.writer(token);
     for _ in 0..64 {
         let _ = seat(&rt, &mut writer);
@@ -210,7 +215,7 @@ fn the_65th_reader_has_no_seat(rt: HostRuntime) -> Result<(), Fail> {
 
 #[test]
 fn two_commits_are_left_and_no_third(rt: HostRuntime) -> Result<(), Fail> {
-    let (arena, token) = Arena::<22, OneNode>::create(rt.alloc(), eight(2, MOST_GENERATIONS))?;
+    let (arena, token) = eight(rt.alloc(), 2, MOST_GENERATIONS)?;
     let mut writer = arena.writer(token);
     assert_eq!(rt; writer.commits_left(), 2);
     assert_eq!(rt; commit(&mut writer), to(1, 1, 0, newest(1, 0)));
@@ -222,7 +227,7 @@ fn two_commits_are_left_and_no_third(rt: HostRuntime) -> Result<(), Fail> {
 /// With one generation the first commit takes it; what later ones drop stays held.
 #[test]
 fn one_generation_is_spent(rt: HostRuntime) -> Result<(), Fail> {
-    let (arena, token) = Arena::<22, OneNode>::create(rt.alloc(), eight(MOST_COMMITS, 1))?;
+    let (arena, token) = eight(rt.alloc(), MOST_COMMITS, 1)?;
     let mut writer = arena.writer(token);
     let mut list = HoldList::<22>::create(rt.alloc())?;
     assert_eq!(rt; commit(&mut writer), to(1, 1, 0, newest(1, 0)));
@@ -256,8 +261,7 @@ fn hand_out_and_publish<W: Work<22, Layout = OneNode>>(work: &mut W, width: u32)
 
 #[test]
 fn a_buffer_on_hold_waits_for_its_reader(rt: HostRuntime) -> Result<(), Fail> {
-    let config = eight(MOST_COMMITS, MOST_GENERATIONS);
-    let (arena, token) = Arena::<22, OneNode>::create(rt.alloc(), config)?;
+    let (arena, token) = eight(rt.alloc(), MOST_COMMITS, MOST_GENERATIONS)?;
     let mut writer = arena.writer(token);
     let reader = seat(&rt, &mut writer);
     let Some(buffer) = hand_out_and_publish(&mut writer, 2) else {
@@ -299,8 +303,7 @@ fn fill<W: Work<22, Layout = OneNode>>(work: &mut W, most: u32) -> (u32, Oldest)
 
 #[test]
 fn a_guard_that_is_dropped_keeps_its_hold(rt: HostRuntime) -> Result<(), Fail> {
-    let config = eight(MOST_COMMITS, MOST_GENERATIONS);
-    let (arena, token) = Arena::<22, OneNode>::create(rt.alloc(), config)?;
+    let (arena, token) = eight(rt.alloc(), MOST_COMMITS, MOST_GENERATIONS)?;
     let mut writer = arena.writer(token);
     drop(guards(&rt, seat(&rt, &mut writer), 0));
     assert_eq!(rt; fill(&mut writer, 20), (8, in_use(0, 0, 2)));
@@ -329,8 +332,7 @@ fn guard_by<'a, C: Ledger>(
 
 #[test]
 fn a_guard_after_some_tries(rt: HostRuntime) -> Result<(), Fail> {
-    let config = eight(MOST_COMMITS, MOST_GENERATIONS);
-    let (arena, token) = Arena::<22, OneNode>::create(rt.alloc(), config)?;
+    let (arena, token) = eight(rt.alloc(), MOST_COMMITS, MOST_GENERATIONS)?;
     let mut writer = arena.writer(token);
     let reader = seat(&rt, &mut writer);
     assert_eq!(rt; commit(&mut writer), to(1, 1, 0, newest(1, 0)));
@@ -342,8 +344,7 @@ fn a_guard_after_some_tries(rt: HostRuntime) -> Result<(), Fail> {
 
 #[test]
 fn a_reader_is_taken_in(rt: HostRuntime) -> Result<(), Fail> {
-    let config = eight(MOST_COMMITS, MOST_GENERATIONS);
-    let (arena, token) = Arena::<22, OneNode>::create(rt.alloc(), config)?;
+    let (arena, token) = eight(rt.alloc(), MOST_COMMITS, MOST_GENERATIONS)?;
     let mut writer = arena.writer(token);
     let Ok(reader) = writer.reader() else {
         panic!(rt; "no seat")
