@@ -1,9 +1,7 @@
-//! Rows of the running memory, and runs over it: many readers beside a writer whose buffers are given again all the time.
+//! A run over the running memory: many readers beside a writer whose buffers are given again all the time.
 #![tactic(auto)]
 
 mod node;
-#[cfg(test)]
-mod rows;
 mod torture;
 mod turn;
 

@@ -109,7 +109,7 @@ fn look<'a>(aimed: Aimed<'a, 22, OneNode>, sight: &mut Sight) -> Reader<'a, 22, 
 /// that the system stops under a guard stops the writer too.
 fn linger(look: u64) -> u64 {
     let mut sum = 0u64;
-    for i in 0..look % 64 * 512 {
+    for i in 0..look % 64 * 64 {
         sum = sum.rotate_left(5) ^ i;
     }
     sum

@@ -8,14 +8,6 @@ use crate::node::{NODE, OneNode, words_of};
 use arena_api::{Advance, Oldest, Work};
 use entry_ref::EntryRef;
 
-/// What a commit came to.
-#[derive(Clone, Copy, PartialEq, Eq, Debug, Drop)]
-pub struct Committed {
-    pub number: u32,
-    pub advance: Advance,
-    pub oldest: Oldest,
-}
-
 /// A node of a commit's words, in the lowest free buffer, if one is free.
 pub fn put_node<W: Work<22>>(work: &mut W, number: u32) -> Option<EntryRef<22>>
     ensures some { IfSome result (λ r. 0 < r) }
@@ -62,20 +54,4 @@ pub fn pass<W: Work<22>>(work: &mut W, before: Option<u32>) -> (Advance, Oldest)
     let advance = work.advance();
     let oldest = work.reclaim();
     (advance, oldest)
-}
-
-/// A commit of nothing; none where no commit is left.
-pub fn commit<W: Work<22, Layout = OneNode>>(work: &mut W) -> Option<Committed>
-    ensures { (W.knows work.new).home ≡ (W.knows work.old).home }
-{
-    if work.commits_left() == 0 {
-        return None;
-    }
-    let number = work.publish(EntryRef::from_raw(0));
-    let (advance, oldest) = pass(work, None);
-    Some(Committed {
-        number,
-        advance,
-        oldest,
-    })
 }
