@@ -165,7 +165,7 @@ unfolding IsStrictlySortedBy
 ascends_from_sorted [] up = tt
 ascends_from_sorted (x ∷ xs) up = (below_all x xs up.0, ascends_from_sorted xs up.1)
 
-same_bool : (a b : Bool) → (a ≡ true → b ≡ true) → (b ≡ true → a ≡ true) → a ≡ b
+pub same_bool : (a b : Bool) → (a ≡ true → b ≡ true) → (b ≡ true → a ≡ true) → a ≡ b
 same_bool true b to back = sym (to refl)
 same_bool false true to back = back refl
 same_bool false false to back = refl

@@ -5,12 +5,12 @@ use Rattle.std.proofs.lemmas.Bool.{cases_lt, eqb-true, ne_eqb, and_parts, or_cas
 use Rattle.std.proofs.lemmas.Cmp.{eq_by_cmp_equiv, tied_itself}
 use Rattle.std.proofs.lemmas.List.Folds.{list_any-append}
 use Rattle.std.proofs.lemmas.Map.Views.{Contains-from_any, list_any-from_Contains, tells_apart}
-use Rattle.std.specs.Cmp.{Equal-is}
 use Rattle.std.specs.List.{AllByRecursion, list_any, filter, flat_map, find, cons_option, Contains}
 use Rattle.std.specs.Map.{keys_of}
 use Rattle.std.specs.Option.{is_some, unwrap_or}
 use Rattle.std.specs.Ordering.{eq_by_cmp}
 use Rattle.std.specs.Prelude.{slice_get}
+use Rattle.attr_index.proofs.ListLemmas.{same_value}
 use Rattle.attr_index.proofs.OfLemmas.{has_values, has_lists}
 use Rattle.attr_index.specs.Columns.{Column, IsLawfulColumn, column_of, column_values, documents_with}
 use Rattle.attr_index.specs.Index.{Index, IsIndexOf}
@@ -27,18 +27,13 @@ use Rattle.attr_types.specs.declared.kind.Kind.{Kind}
 use Rattle.attr_types.specs.declared.query.Leaf.{Leaf}
 use Rattle.attr_types.specs.declared.query.Leaf.TheVariants.{Range}
 use Rattle.attr_types.specs.declared.value.Value.{Value}
-use Rattle.doc_set.proofs.DocLemmas.{same_ascending, ascends_from_sorted}
+use Rattle.doc_set.proofs.DocLemmas.{same_ascending, same_bool, ascends_from_sorted}
 use Rattle.doc_set.specs.Postings.{AreDocuments}
 use Rattle.doc_set.specs.Sets.{has, Ascends, Holds}
 use Rattle.query_index.specs.Found.{AreIndexesFrom, index_at, is_listed, found, found_all, found_some}
 use Rattle.query_index.specs.Leaves.{listed, meeting}
 
 -- ---- Bools
-same_bool : (a b : Bool) → (a ≡ true → b ≡ true) → (b ≡ true → a ≡ true) → a ≡ b
-same_bool true b to back = sym (to refl)
-same_bool false true to back = back refl
-same_bool false false to back = refl
-
 both : (a b : Bool) → a ≡ true → b ≡ true → (a && b) ≡ true
 both true b on is = is
 both false b on is = cc
@@ -217,9 +212,6 @@ meeting_lists leaf index table doc is =
     any_flat_map (nat_eq doc) (λ e. keys_of e.1) (meeting leaf index)
     ∙ any_filter (λ e. has (keys_of e.1) doc) (λ e. meets leaf e.0) index
     ∙ any_same _ _ index (lists_step leaf index table doc (has_lists table index is))
-
-same_value : (a b : Value) → is_eq (value_cmp a b) ≡ true → a ≡ b
-same_value a b is = value_cmp_exact a b ((Equal-is (value_cmp a b)).0 is)
 
 value_meets : (leaf : Leaf) (value : Value) → meets leaf value ≡ true → (items : List Item) → has_value value items ≡ true
     → meets_some leaf items ≡ true
