@@ -13,6 +13,7 @@ use attr_plain::PlainTable;
 use attr_scores::Ask;
 use attr_types::Ops;
 use std::alloc::{AllocError, Global};
+use std::mem::forget;
 
 /// How far a run came, and what it writes.
 #[derive(Debug, Drop)]
@@ -88,6 +89,8 @@ pub fn written_in(alloc: Global, request: Request, ops: Ops) -> Result<Written, 
     } = request;
     let (table, skipped) = load(alloc, fields, ops)?;
     let text = text_in(alloc, save, make, asks.as_slice(), &table, loaded, skipped)?;
+    // the program ends with this answer, and its memory goes at once: no document is given back by itself
+    forget(table);
     Ok(Written {
         loaded,
         saved: saved_at(save, loaded),

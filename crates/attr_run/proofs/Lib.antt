@@ -5,3 +5,4 @@ pub mod RunLemmas
 pub mod TaskLemmas
 pub mod AnswerLemmas
 pub mod SettingsLemmas
+pub mod RefusalLemmas

@@ -13,6 +13,8 @@ use Rattle.attr_words.specs.Settings.{Given, settings_in, IsLawful, SettingsAreL
 use Rattle.attr_words.specs.declared.reading.WordsError.{WordsError}
 use Rattle.attr_scores.specs.Scores.{AskTree}
 use Rattle.query_text.specs.Asks.{ask_of}
+use Rattle.query_text.specs.Grammar.{any_word, Answers}
+use Rattle.query_text.specs.Laws.{ReadsByGrammar}
 use Rattle.attr_report.specs.Run.{Run}
 use Rattle.attr_run.specs.Run.{◌>>=◌, given_or_refused, ask_or_refused, asks_from, make_of, run_of, asked}
 use Rattle.attr_run.specs.Settings.{IsTextOf, IsWithinRanges, IsLawfulRun, RunsAreAsked}
@@ -42,18 +44,19 @@ shown_ok g other same = cc
 given_ok : (r : Result Given WordsError) (given other : Given) → r ≡ Ok given → given_or_refused r ≡ Ok other → given ≡ other
 given_ok r given other is shown = shown_ok given other (subst (λ (x : Result Given WordsError). given_or_refused x ≡ Ok other) is shown)
 
-texts_read : (fields : List Field) (number : ℕ) (texts : List Text) (asks : List AskTree)
+texts_read : ReadsByGrammar → (fields : List Field) (number : ℕ) (texts : List Text) (asks : List AskTree)
     → asks_from fields number texts ≡ Ok asks → AllByRecursion IsUtf8 texts → AllZip (IsTextOf fields) texts asks
 unfolding asks_from
-texts_read fields number [] asks is all =
+texts_read reads fields number [] asks is all =
     subst (λ (found : List AskTree). AllZip (IsTextOf fields) [] found) (same_ok (Ok []) [] asks refl is) tt
-texts_read fields number (text ∷ texts) asks is all =
+texts_read reads fields number (text ∷ texts) asks is all =
     let first = next_ok (ask_or_refused number (ask_of fields text)) _ asks is in
     let others = next_ok (asks_from fields (number + 1) texts) _ asks first.2 in
-    let here = read_ok number (ask_of fields text) first.0 first.1 in
+    let here = subst (Answers any_word fields text) (read_ok number (ask_of fields text) first.0 first.1)
+    (reads any_word fields text all.0) in
     subst (λ (found : List AskTree). AllZip (IsTextOf fields) (text ∷ texts) found)
     (same_ok (Ok (first.0 ∷ others.0)) (first.0 ∷ others.0) asks refl others.2)
-    ((all.0, here), texts_read fields (number + 1) texts others.0 others.1 all.1)
+    ((all.0, here), texts_read reads fields (number + 1) texts others.0 others.1 all.1)
 
 made_within : (count : Option ℕ) (from : ℕ) → IfSome count (IsWithin make) → IsWithin seed from
     → IfSome (make_of count from) IsWithinRanges
@@ -75,14 +78,14 @@ run_is_lawful given asks lawful found = record {
   asks = found;
 }
 
-pub runs_are_asked : SettingsAreLawful → RunsAreAsked
+pub runs_are_asked : SettingsAreLawful → ReadsByGrammar → RunsAreAsked
 unfolding asked
-runs_are_asked settings line run given is words utf8 =
+runs_are_asked settings reads line run given is words utf8 =
     let g = next_ok (given_or_refused (settings_in line)) _ run is in
     let q = next_ok (asks_from g.0.fields 1 g.0.queries) _ run g.2 in
     let same = given_ok (settings_in line) given g.0 words g.1 in
     let texts = subst (λ (x : Given). AllByRecursion IsUtf8 x.queries) same utf8 in
-    let found = texts_read g.0.fields 1 g.0.queries q.0 q.1 texts in
+    let found = texts_read reads g.0.fields 1 g.0.queries q.0 q.1 texts in
     let here = subst (λ (x : Given). settings_in line ≡ Ok x) same words in
     let lawful = run_is_lawful g.0 q.0 (settings line g.0 here) found in
     record {

@@ -1,22 +1,25 @@
 -- What holds of a run that words ask for: its numbers lie in the ranges of their options, and what it
 -- asks is what its texts say.
-use Rattle.std.specs.Prelude.{◌≡◌, ◌≤◌, false, List, length, IfSome, Ok}
+use Rattle.std.specs.Prelude.{◌≡◌, ◌≤◌, ◌+◌, ℕ, false, List, ◌∷◌, ◌++◌, length, IfSome, Ok, Err}
 use Rattle.std.specs.List.{AllByRecursion, AllZip}
 use Rattle.std.specs.Str.{IsUtf8}
 use Rattle.clap.specs.Walk.{Text}
+use Rattle.attr_types.specs.declared.error.QueryError.{QueryError}
 use Rattle.attr_types.specs.declared.field.Field.{Field}
 use Rattle.attr_words.specs.CommandLine.{batch, readers, rounds, buffers, words, make, seed}
 use Rattle.attr_words.specs.Reading.{IsWithin}
 use Rattle.attr_words.specs.Settings.{Given, settings_in, are_too_many}
 use Rattle.attr_scores.specs.Scores.{AskTree}
-use Rattle.query_text.specs.Asks.{ask_of}
+use Rattle.query_text.specs.Grammar.{any_word, Answers}
 use Rattle.attr_report.specs.Run.{Run}
 use Rattle.attr_report.specs.declared.request.Make.{Make}
 use Rattle.attr_run.specs.Run.{asked}
+use Rattle.attr_run.specs.declared.outcome.Status.TheVariants.{Usage}
+use Rattle.attr_run.specs.declared.outcome.UsageCause.TheVariants as usage
 
--- a text in UTF-8 that asks this of these attributes
+-- a text in UTF-8 that asks this of these attributes, as the grammar of query words has it
 abbrev pub IsTextOf : List Field → Text → AskTree → Type 0
-IsTextOf fields text ask = IsUtf8 text × (ask_of fields text ≡ Ok ask)
+IsTextOf fields text ask = IsUtf8 text × Answers any_word fields text (Ok ask)
 
 abbrev pub IsWithinRanges : Make → Type 0
 IsWithinRanges made = IsWithin make made.count × IsWithin seed made.seed
@@ -44,3 +47,24 @@ pub record IsAskedBy (line : List Text) (run : Run) : Type 0 where
 abbrev pub RunsAreAsked : Type 0
 RunsAreAsked = (line : List Text) (run : Run) (given : Given) → asked line ≡ Ok run
     → settings_in line ≡ Ok given → AllByRecursion IsUtf8 given.queries → IsAskedBy line run
+
+-- the text with this number, counted from 1, is the first that the grammar refuses, and this is its refusal
+pub record IsFirstRefused (fields : List Field) (texts : List Text) (number : ℕ) (error : QueryError) : Type 0 where
+  pub before : List Text
+  pub text : Text
+  pub others : List Text
+  pub is : texts ≡ before ++ text ∷ others
+  pub count : number ≡ length before + 1
+  pub asks : List AskTree
+  pub good : AllZip (IsTextOf fields) before asks
+  pub utf8 : IsUtf8 text
+  pub refused : Answers any_word fields text (Err error)
+
+-- words with these settings are refused by a query exactly where the grammar refuses it first
+pub record IsRefusedSo (line : List Text) (given : Given) (number : ℕ) (error : QueryError) : Type 0 where
+  pub only : asked line ≡ Err (Usage (usage.Query number error)) → IsFirstRefused given.fields given.queries number error
+  pub always : IsFirstRefused given.fields given.queries number error → asked line ≡ Err (Usage (usage.Query number error))
+
+abbrev pub QueriesAreRefused : Type 0
+QueriesAreRefused = (line : List Text) (given : Given) (number : ℕ) (error : QueryError) → settings_in line ≡ Ok given
+    → AllByRecursion IsUtf8 given.queries → IsRefusedSo line given number error

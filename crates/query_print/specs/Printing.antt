@@ -1,21 +1,62 @@
--- The text of a query, piece by piece, and the queries that are read back from it.
-use Rattle.std.specs.Prelude.{◌≡◌, ◌≤◌, ℕ, true, ◌==◌, ◌||◌, List, [], ◌∷◌, encode_utf8, codes, if◌then◌else◌, Ok}
-use Rattle.std.specs.List.{list_all}
-use Rattle.attr_types.specs.declared.kind.ValueType.{ValueType}
+-- What is written of an ask, piece by piece, and which asks are read back from it.
+use Rattle.std.specs.Prelude.{◌≡◌, ◌≤◌, ℕ, true, ◌==◌, ◌||◌, List, [], ◌∷◌, encode_utf8, codes, slice_get}
+use Rattle.std.specs.Prelude.{if◌then◌else◌, Option, Some, None, option_map, Ok}
+use Rattle.attr_types.specs.declared.field.Field.{Field}
 use Rattle.attr_types.specs.Query.{QueryTree}
-use Rattle.query_text.specs.Grammar.{IsFormed, tree_values, is_of_type, is_in_range, levels_of}
-use Rattle.query_text.specs.Parsing.{query_of}
+use Rattle.attr_types.specs.Query as trees
+use Rattle.attr_scores.specs.Scores.{AskTree, hits_of, dot_of}
+use Rattle.query_text.specs.Grammar.{NamedTree, NamedTrees, one, and, or, no_trees, tree, Words, Word, whole_query, dot_product}
+use Rattle.query_text.specs.Grammar.{IsAmong, IsFormedWord, field_of, has_types, has_range, word_levels}
+use Rattle.query_text.specs.Laws.{read_of}
 
--- a lawful query of a value type: no list is empty, and type, range and depth are right
-pub record IsLawful (value : ValueType) (query : QueryTree) : Type 0 where
-  pub formed : IsFormed query
-  pub of_type : list_all (is_of_type value) (tree_values query) ≡ true
-  pub in_range : list_all is_in_range (tree_values query) ≡ true
-  pub levels : levels_of query ≤ 32
+-- the name that stands before what speaks of the attribute with a number: of attribute 0 there is none
+abbrev pub name_at : List Field → ℕ → Option (List ℕ)
+name_at fields number = if number == 0 then None else option_map (λ field. field.name) (slice_get fields number)
 
--- where the query is lawful for a value type, the text is read as it
-abbrev pub ReadsBackAs : List ℕ → QueryTree → Type 0
-ReadsBackAs text query = (value : ValueType) → IsLawful value query → query_of value text ≡ Ok query
+-- a query with the names of its attributes
+abbrev mutual
+  pub named : List Field → QueryTree → NamedTree
+  named fields (trees.one number leaf) = one (name_at fields number) leaf
+  named fields (trees.and list) = and (named_list fields list)
+  named fields (trees.or list) = or (named_list fields list)
+
+  pub named_list : List Field → trees.QueryTrees → NamedTrees
+  named_list fields trees.no_trees = no_trees
+  named_list fields (trees.tree first others) = tree (named fields first) (named_list fields others)
+
+abbrev pub named_word : List Field → AskTree → Word
+named_word fields (hits_of query) = whole_query (named fields query)
+named_word fields (dot_of number parts) = dot_product (name_at fields number) parts
+
+-- the attribute with this number is found by the name that is written for it
+abbrev pub IsFound : List Field → ℕ → Type 0
+IsFound fields number = field_of fields (name_at fields number) ≡ Some number
+
+abbrev mutual
+  pub AllFound : List Field → QueryTree → Type 0
+  AllFound fields (trees.one number leaf) = IsFound fields number
+  AllFound fields (trees.and list) = ListFound fields list
+  AllFound fields (trees.or list) = ListFound fields list
+
+  pub ListFound : List Field → trees.QueryTrees → Type 0
+  ListFound fields trees.no_trees = Unit {0}
+  ListFound fields (trees.tree first others) = AllFound fields first × ListFound fields others
+
+abbrev pub AskFound : List Field → AskTree → Type 0
+AskFound fields (hits_of query) = AllFound fields query
+AskFound fields (dot_of number parts) = IsFound fields number
+
+-- a lawful ask: its word has a text, and its attributes, types, range and depth are right
+pub record IsLawful (fields : List Field) (ask : AskTree) : Type 0 where
+  pub formed : IsFormedWord (named_word fields ask)
+  pub found : AskFound fields ask
+  pub of_types : has_types fields (named_word fields ask) ≡ true
+  pub in_range : has_range (named_word fields ask) ≡ true
+  pub levels : word_levels (named_word fields ask) ≤ 32
+
+-- where the ask is lawful, each parser that reads such words reads the text as it
+abbrev pub ReadsBackAs : List Field → List ℕ → AskTree → Type 0
+ReadsBackAs fields text ask = (words : Words) → IsAmong words (named_word fields ask) → IsLawful fields ask → read_of words fields text ≡ Ok ask
 
 -- what stands before a member of a list, by the number of members before it
 abbrev pub comma_after : ℕ → List ℕ

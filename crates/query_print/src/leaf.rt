@@ -42,7 +42,7 @@ fn push_end(alloc: Global, text: &mut String, end: &Option<Value>) -> Result<(),
     }
 }
 
-fn push_value(alloc: Global, text: &mut String, value: &Value) -> Result<(), AllocError>
+pub fn push_value(alloc: Global, text: &mut String, value: &Value) -> Result<(), AllocError>
     ensures { OnOk result (string_bytes text.new ≡ string_bytes text.old ++ value_text value.now) }
 {
     match value {
@@ -51,7 +51,7 @@ fn push_value(alloc: Global, text: &mut String, value: &Value) -> Result<(), All
     }
 }
 
-fn push_number(alloc: Global, text: &mut String, number: i64) -> Result<(), AllocError>
+pub fn push_number(alloc: Global, text: &mut String, number: i64) -> Result<(), AllocError>
     ensures { OnOk result (string_bytes text.new ≡ string_bytes text.old ++ number_text number) }
 {
     let digits = digits_of(alloc, number)?;

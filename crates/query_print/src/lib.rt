@@ -1,7 +1,7 @@
-//! The text of a query, which `query_text` reads back.
+//! The text of a query word, which `query_text` reads back.
 #![tactic(auto)]
 
 mod leaf;
 mod print;
 
-pub use print::print_query;
+pub use print::{print_ask, print_query};

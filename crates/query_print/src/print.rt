@@ -1,53 +1,128 @@
 ghost use Rattle.std.specs.Prelude.{◌≡◌, ◌++◌, IfOk, OnOk, string_bytes};
+ghost use Rattle.attr_scores.specs.Scores.{hits_of, dot_of, ask_tree};
 ghost use Rattle.attr_types.specs.Query.{tree_of, trees_of};
-ghost use Rattle.query_text.specs.Grammar.{tree_text, list_text};
-ghost use Rattle.query_print.specs.Printing.{ReadsBackAs, comma_after};
+ghost use Rattle.query_text.specs.Grammar.{name_text, tree_text, list_text, part_text, parts_text, word_text};
+ghost use Rattle.query_print.specs.Printing.{name_at, named, named_list, named_word, ReadsBackAs, comma_after};
 
-use crate::leaf::push_leaf;
-use attr_types::Query;
+use crate::leaf::{push_leaf, push_number, push_value};
+use attr_scores::{Ask, Part};
+use attr_types::{Field, Query};
 use query_text::grammar_law;
 use std::alloc::{AllocError, Global};
 
-/// The one text of a query. Of a lawful query of a value type `parse_query` makes that query again.
+/// The one text of a query over these attributes, with their names; a leaf of attribute 0 has none. Of a lawful
+/// query `parse_query` makes that query again.
 ///
-/// Any query is written, also one that no text is read as: with an empty list, with values of both
-/// types or of more than 32 levels.
-pub fn print_query(alloc: Global, query: &Query) -> Result<String, AllocError>
-    ensures written { IfOk result (λ text. string_bytes text ≡ tree_text (tree_of query.now)) }
-    ensures back { IfOk result (λ text. ReadsBackAs (string_bytes text) (tree_of query.now)) }
+/// Any query is written, also one that no text is read as: with an empty list, with values of another type, with
+/// an attribute that there is not, or of more than 32 levels.
+pub fn print_query(alloc: Global, query: &Query, fields: &[Field]) -> Result<String, AllocError>
+    ensures written { IfOk result (λ text. string_bytes text ≡ tree_text (named fields.now (tree_of query.now))) }
+    ensures back { IfOk result (λ text. ReadsBackAs fields.now (string_bytes text) (hits_of (tree_of query.now))) }
 {
     grammar_law();
     let mut text = String::new(alloc);
-    push_query(alloc, &mut text, query)?;
+    push_query(alloc, &mut text, query, fields)?;
     Ok(text)
 }
 
+/// The one text of what is asked of these attributes. Of a lawful ask `parse_ask` makes that ask again.
+pub fn print_ask(alloc: Global, ask: &Ask, fields: &[Field]) -> Result<String, AllocError>
+    ensures written { IfOk result (λ text. string_bytes text ≡ word_text (named_word fields.now (ask_tree ask.now))) }
+    ensures back { IfOk result (λ text. ReadsBackAs fields.now (string_bytes text) (ask_tree ask.now)) }
+{
+    grammar_law();
+    let mut text = String::new(alloc);
+    push_ask(alloc, &mut text, ask, fields)?;
+    Ok(text)
+}
+
+fn push_ask(alloc: Global, text: &mut String, ask: &Ask, fields: &[Field]) -> Result<(), AllocError>
+    ensures { OnOk result (string_bytes text.new ≡ string_bytes text.old ++ word_text (named_word fields.now (ask_tree ask.now))) }
+{
+    match ask {
+        Ask::Hits(query) => push_query(alloc, text, query, fields),
+        Ask::Dot { field, parts } => {
+            push_name(text, fields, *field as usize)?;
+            text.push_str("dot(")?;
+            push_parts(alloc, text, parts.as_slice())?;
+            text.push_str(")")
+        }
+    }
+}
+
+/// The name before what speaks of the attribute with a number.
+fn push_name(text: &mut String, fields: &[Field], number: usize) -> Result<(), AllocError>
+    ensures { OnOk result (string_bytes text.new ≡ string_bytes text.old ++ name_text (name_at fields.now number)) }
+{
+    if number == 0 {
+        return Ok(());
+    }
+    match fields.get(number) {
+        Some(field) => {
+            text.push_str(field.name.as_str())?;
+            text.push_str(":")
+        }
+        None => Ok(()),
+    }
+}
+
 #[cycle(print)]
-fn push_query(alloc: Global, text: &mut String, query: &Query) -> Result<(), AllocError>
-    ensures { OnOk result (string_bytes text.new ≡ string_bytes text.old ++ tree_text (tree_of query.now)) }
+fn push_query(
+    alloc: Global,
+    text: &mut String,
+    query: &Query,
+    fields: &[Field],
+) -> Result<(), AllocError>
+    ensures { OnOk result (string_bytes text.new ≡ string_bytes text.old ++ tree_text (named fields.now (tree_of query.now))) }
 {
     match query {
-        Query::One { leaf, .. } => push_leaf(alloc, text, leaf),
+        Query::One { field, leaf } => {
+            push_name(text, fields, *field as usize)?;
+            push_leaf(alloc, text, leaf)
+        }
         Query::And(list) => {
             text.push_str("and(")?;
-            push_list(alloc, text, list)?;
+            push_list(alloc, text, list, fields)?;
             text.push_str(")")
         }
         Query::Or(list) => {
             text.push_str("or(")?;
-            push_list(alloc, text, list)?;
+            push_list(alloc, text, list, fields)?;
             text.push_str(")")
         }
     }
 }
 
 #[cycle(print)]
-fn push_list(alloc: Global, text: &mut String, list: &[Query]) -> Result<(), AllocError>
-    ensures { OnOk result (string_bytes text.new ≡ string_bytes text.old ++ list_text (trees_of list.now)) }
+fn push_list(
+    alloc: Global,
+    text: &mut String,
+    list: &[Query],
+    fields: &[Field],
+) -> Result<(), AllocError>
+    ensures { OnOk result (string_bytes text.new ≡ string_bytes text.old ++ list_text (named_list fields.now (trees_of list.now))) }
 {
     for (i, member) in list.iter().enumerate() {
         push_comma(text, i)?;
-        push_query(alloc, text, member)?;
+        push_query(alloc, text, member, fields)?;
+    }
+    Ok(())
+}
+
+fn push_part(alloc: Global, text: &mut String, part: &Part) -> Result<(), AllocError>
+    ensures { OnOk result (string_bytes text.new ≡ string_bytes text.old ++ part_text part.now) }
+{
+    push_value(alloc, text, &part.value)?;
+    text.push_str(":")?;
+    push_number(alloc, text, i64::from(part.weight))
+}
+
+fn push_parts(alloc: Global, text: &mut String, parts: &[Part]) -> Result<(), AllocError>
+    ensures { OnOk result (string_bytes text.new ≡ string_bytes text.old ++ parts_text parts.now) }
+{
+    for (i, part) in parts.iter().enumerate() {
+        push_comma(text, i)?;
+        push_part(alloc, text, part)?;
     }
     Ok(())
 }

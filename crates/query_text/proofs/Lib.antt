@@ -1,15 +1,19 @@
-pub mod Completions
-pub mod Fronts
 pub mod GrammarLemmas
 pub mod LeafPaths
 pub mod ListLemmas
 pub mod Paths
+pub mod QueryLemmas
 pub mod ReadBack
 pub mod ReadingLemmas
-pub mod Steps
-pub mod SurveyLemmas
+pub mod RunLemmas
 pub mod TreePaths
+pub mod Completions
+pub mod DotBack
+pub mod DotFronts
+pub mod DotLemmas
+pub mod DotPaths
+pub mod Fronts
+pub mod Steps
 pub mod Utf8Lemmas
-mod AskLemmas
-mod AskSurveyLemmas
+pub mod Walks
 mod PartLemmas

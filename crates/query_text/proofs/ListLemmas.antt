@@ -1,5 +1,6 @@
 -- Reading a list member by member.
 use Rattle.std.proofs.Common.{◌≡◌, ◌<◌, ◌≤◌, ◌+◌, ◌-◌, ℕ, zero, suc, List, [], ◌∷◌, ◌++◌, true, false, Option, Some, None, refl, sym, ap, ◌∙◌, append_assoc, arith}
+use Rattle.attr_types.specs.declared.field.Field.{Field}
 use Rattle.attr_types.specs.Query.{QueryTree}
 use Rattle.query_text.specs.declared.read.ReadError.{ReadError}
 use Rattle.query_text.specs.declared.read.ReadError.TheVariants as errors
@@ -34,15 +35,16 @@ list_front-end member n i bytes h =
     let counted : n - i ≡ zero = omega arith in
     ap (λ k. list_front member k bytes) counted
 
-pub query_front-zero : (levels : ℕ) (bytes : List ℕ) → levels ≡ 0 → query_front levels bytes ≡ None
+pub query_front-zero : (fields : List Field) (levels : ℕ) (bytes : List ℕ) → levels ≡ 0 → query_front fields levels bytes ≡ None
 unfolding query_front
-query_front-zero levels bytes h = ap (λ n. query_front n bytes) h
+query_front-zero fields levels bytes h = ap (λ n. query_front fields n bytes) h
 
-pub query_front-suc : (levels : ℕ) (bytes : List ℕ) → (levels ≡ 0 → ⊥) → query_front levels bytes ≡ query_with (query_front (levels - 1)) bytes
+pub query_front-suc : (fields : List Field) (levels : ℕ) (bytes : List ℕ) → (levels ≡ 0 → ⊥)
+    → query_front fields levels bytes ≡ query_with fields (query_front fields (levels - 1)) bytes
 unfolding query_front
-query_front-suc levels bytes h =
+query_front-suc fields levels bytes h =
     let counted : levels ≡ suc (levels - 1) = omega arith in
-    ap (λ n. query_front n bytes) counted
+    ap (λ n. query_front fields n bytes) counted
 
 -- the list with the members read before, where the next member is read or not
 module _ (member : List ℕ → Option (QueryTree × List ℕ)) (front : List QueryTree) (n i : ℕ) (rest : List ℕ)

@@ -1,7 +1,9 @@
 -- What is written is read back.
-use Rattle.std.proofs.Common.{◌≡◌, ◌<◌, ◌≤◌, ◌+◌, ◌-◌, ◌*◌, ◌/◌, ◌%◌, ◌^◌, ℕ, zero, suc, ℤ, pos, negsuc, List, [], ◌∷◌, ◌++◌, map, length, true, false, ◌||◌, ◌==◌, cond, eqb, nat_lt, Option, Some, None, refl, sym, ap, ap₂, ◌∙◌, inl, inr, append_assoc, append-nil, add-one, codes, arith}
-use Rattle.std.specs.Option.{option_map}
-use Rattle.std.specs.List.{flat_map}
+use Rattle.std.proofs.Common.{◌≡◌, ◌<◌, ◌≤◌, ◌+◌, ◌-◌, ◌*◌, ◌/◌, ◌%◌, ◌^◌, ℕ, zero, suc, ℤ, pos, negsuc, List, [], ◌∷◌, ◌++◌, map, length, take, drop, true, false, ◌||◌, ◌==◌, cond, eqb, nat_lt, Option, Some, None, refl, sym, ap, ap₂, ◌∙◌, inl, inr, append_assoc, append-nil, add-one, codes, arith}
+use Rattle.std.specs.Option.{option_map, unwrap_or}
+use Rattle.std.specs.List.{flat_map, list_all, position_or_len}
+use Rattle.std.proofs.Math.Seq.{take-append_seam, drop-append_seam}
+use Rattle.std.proofs.lemmas.Bool.{and_parts}
 use Rattle.std.specs.Int.Digits.{digits_of}
 use lib.IntN.{neg_ℤ}
 use Rattle.std.proofs.lemmas.Bool.Decides.{nat_tests, eqb_tells}
@@ -10,11 +12,17 @@ use Rattle.attr_types.specs.declared.value.Value.{Value}
 use Rattle.attr_types.specs.declared.value.Value.TheVariants as values
 use Rattle.attr_types.specs.declared.query.Leaf.{Leaf}
 use Rattle.attr_types.specs.declared.query.Leaf.TheVariants as leaves
-use Rattle.attr_types.specs.Query.{QueryTree, QueryTrees, one, and, or, no_trees, tree, trees}
-use Rattle.query_text.specs.Grammar.{numeral, number_text, escaped, quoted, value_text, option_text, leaf_text, tree_text, list_text, others_text, IsFormed, IsFormedList, is_in_range, levels_of, list_levels}
+use Rattle.attr_types.specs.declared.field.Field.{Field}
+use Rattle.attr_types.specs.Query.{QueryTree}
+use Rattle.attr_types.specs.Query as query
+use Rattle.attr_names.specs.Names.{begins_name, continues_name, is_name}
+use Rattle.query_text.specs.Grammar.{NamedTree, NamedTrees, one, and, or, no_trees, tree, numeral, number_text, escaped, quoted, value_text, option_text, leaf_text, tree_text, list_text, others_text}
+use Rattle.query_text.specs.Grammar.{IsFormedName, IsFormed, IsFormedList, number_of, resolved, resolved_list, is_in_range, levels_of, list_levels}
 use Rattle.query_text.specs.Modes.{is_digit, capped}
-use Rattle.query_text.specs.Reading.{◌>>=◌, after_byte, digits_front, sized_number, signed_front, number_front, with_byte, bytes_front, is_short_text, text_front, value_behind, value_front, end_of, end_front, range_front, starred, whole_of, whole_front, leaf_of, leaf_front, and_front, or_front, mark_front, with_tree, listed, list_front, query_by, query_with, query_front}
-use Rattle.query_text.proofs.Paths.{digits_by_steps, capped_digit, size_of_negative}
+use Rattle.query_text.specs.Reading.{◌>>=◌, after_byte, digits_front, sized_number, signed_front, number_front, with_byte, bytes_front, is_short_text, text_front, value_behind, value_front}
+use Rattle.query_text.specs.Reading.{end_of, end_front, range_front, starred, whole_of, whole_front, leaf_of, leaf_front, and_front, or_front, mark_front, with_tree, listed, list_front}
+use Rattle.query_text.specs.Reading.{ends_name, name_end, name_at_front, begins_so, after_name, leaf_of_field, query_by, query_with, query_front}
+use Rattle.query_text.proofs.Paths.{digits_by_steps, capped_digit, size_of_negative, name_parts}
 
 -- no value goes on with this
 abbrev pub EndsValue : List ℕ → Type 0
@@ -61,7 +69,7 @@ numeral_read n rest ends =
           ∙ digits_read n (omega (arith, some.1)) rest ∙ digits_end (capped n) rest ends
     ]
 
-numeral_first : (wanted n : ℕ) (rest : List ℕ) → is_digit wanted ≡ false → after_byte wanted (numeral n ++ rest) ≡ None
+pub numeral_first : (wanted n : ℕ) (rest : List ℕ) → is_digit wanted ≡ false → after_byte wanted (numeral n ++ rest) ≡ None
 unfolding numeral
 numeral_first wanted n rest other =
     elim (eqb_tells n 0) [
@@ -80,7 +88,7 @@ numeral_first wanted n rest other =
 capped_long : (n : ℕ) → nat_lt n (2 ^ 63) ≡ true → (capped n ≡ n) × (capped (n + 1) ≡ n + 1)
 capped_long n h = (grind (arith, nat_tests), grind (arith, nat_tests))
 
-number_read : (z : ℤ) (rest : List ℕ) → is_in_range (values.Long z) ≡ true → EndsValue rest → number_front (number_text z ++ rest) ≡ Some (z, rest)
+pub number_read : (z : ℤ) (rest : List ℕ) → is_in_range (values.Long z) ≡ true → EndsValue rest → number_front (number_text z ++ rest) ≡ Some (z, rest)
 unfolding number_front
 number_read (pos n) rest small ends =
     ap (λ o. signed_front o (numeral n ++ rest)) (numeral_first 45 n rest refl)
@@ -115,20 +123,20 @@ text_read bytes rest small =
     ap (λ o. o >>= (λ found. cond (is_short_text found.0) (Some found) None)) (bytes_read bytes rest) ∙ ap (λ b. cond b (Some (bytes, rest)) None) small
 
 -- values and leaves
-value_first : (wanted : ℕ) (v : Value) (rest : List ℕ) → is_digit wanted ≡ false → eqb 45 wanted ≡ false → eqb 34 wanted ≡ false
+pub value_first : (wanted : ℕ) (v : Value) (rest : List ℕ) → is_digit wanted ≡ false → eqb 45 wanted ≡ false → eqb 34 wanted ≡ false
     → after_byte wanted (value_text v ++ rest) ≡ None
 value_first wanted (values.Long (pos n)) rest digit minus quote = numeral_first wanted n rest digit
 value_first wanted (values.Long (negsuc n)) rest digit minus quote = ap (λ b. cond b (Some (numeral (n + 1) ++ rest)) None) minus
 value_first wanted (values.Text bytes) rest digit minus quote = ap (λ b. cond b (Some ((flat_map escaped bytes ++ 34 ∷ []) ++ rest)) None) quote
 
-number_first : (z : ℤ) (rest : List ℕ) → after_byte 34 (number_text z ++ rest) ≡ None
+pub number_first : (z : ℤ) (rest : List ℕ) → after_byte 34 (number_text z ++ rest) ≡ None
 number_first (pos n) rest = numeral_first 34 n rest refl
 number_first (negsuc n) rest = refl
 
 quoted_read : (bytes rest : List ℕ) → is_short_text bytes ≡ true → text_front ((flat_map escaped bytes ++ 34 ∷ []) ++ rest) ≡ Some (bytes, rest)
 quoted_read bytes rest small = ap text_front (append_assoc (flat_map escaped bytes) (34 ∷ []) rest) ∙ text_read bytes rest small
 
-value_read : (v : Value) (rest : List ℕ) → IsReadable v → EndsValue rest → value_front (value_text v ++ rest) ≡ Some (v, rest)
+pub value_read : (v : Value) (rest : List ℕ) → IsReadable v → EndsValue rest → value_front (value_text v ++ rest) ≡ Some (v, rest)
 unfolding value_front
 value_read (values.Long z) rest small ends =
     ap (λ o. value_behind o (number_text z ++ rest)) (number_first z rest)
@@ -210,55 +218,115 @@ leaf_read (leaves.Below v) rest readable ends = ap (option_map (λ found. (leave
 leaf_read (leaves.Above v) rest readable ends = ap (option_map (λ found. (leaves.Above found.0, found.1))) (value_read v rest readable ends)
 
 -- a leaf begins with no letter
-leaf_first : (letter : ℕ) (leaf : Leaf) (rest : List ℕ) → 96 < letter → after_byte letter (leaf_text leaf ++ rest) ≡ None
-leaf_first letter (leaves.Is v) rest h =
-    value_first letter v rest (grind (arith, nat_tests)) (grind (arith, nat_tests)) (grind (arith, nat_tests))
-leaf_first letter (leaves.Prefix bytes) rest h =
-    ap (after_byte letter) (append_assoc (quoted bytes) (codes "*") rest)
-    ∙ value_first letter (values.Text bytes) (42 ∷ rest) (grind (arith, nat_tests)) (grind (arith, nat_tests)) (grind (arith, nat_tests))
-leaf_first letter (leaves.Range low high) rest h =
-    let apart : eqb 91 letter ≡ false = grind (arith, nat_tests) in
-    ap (after_byte letter) (range_text (option_text low) (option_text high) rest)
-    ∙ ap (λ b. cond b (Some (option_text low ++ (59 ∷ (option_text high ++ (93 ∷ rest))))) None) apart
-leaf_first letter (leaves.Below v) rest h =
-    let apart : eqb 60 letter ≡ false = grind (arith, nat_tests) in ap (λ b. cond b (Some (value_text v ++ rest)) None) apart
-leaf_first letter (leaves.Above v) rest h =
-    let apart : eqb 62 letter ≡ false = grind (arith, nat_tests) in ap (λ b. cond b (Some (value_text v ++ rest)) None) apart
+numeral_plain : (n : ℕ) (rest : List ℕ) → begins_so (numeral n ++ rest) ≡ false
+unfolding numeral
+numeral_plain n rest =
+    elim (eqb_tells n 0) [
+      | inl none ↦ ap (λ b. begins_so (cond b (codes "0") (map (λ digit. 48 + digit) (digits_of 10 n)) ++ rest)) none.0
+      | inr some ↦
+          ap (λ b. begins_so (cond b (codes "0") (map (λ digit. 48 + digit) (digits_of 10 n)) ++ rest)) some.0
+          ∙ digits_by_steps (λ n digits. (rest : List ℕ) → begins_so (digits ++ rest) ≡ false)
+          (λ n some small rest. digit_plain n small)
+          (λ n digits large before rest. ap begins_so (append_assoc digits ((48 + n % 10) ∷ []) rest) ∙ before ((48 + n % 10) ∷ rest))
+          n n (omega arith) (omega (arith, some.1)) rest
+    ]
+  where
+    digit_plain : (n : ℕ) → n < 10 → begins_name (48 + n) ≡ false
+    digit_plain n small = grind (arith, nat_tests)
+
+value_plain : (v : Value) (rest : List ℕ) → begins_so (value_text v ++ rest) ≡ false
+value_plain (values.Long (pos n)) rest = numeral_plain n rest
+value_plain (values.Long (negsuc n)) rest = refl
+value_plain (values.Text bytes) rest = refl
+
+leaf_plain : (leaf : Leaf) (rest : List ℕ) → begins_so (leaf_text leaf ++ rest) ≡ false
+leaf_plain (leaves.Is v) rest = value_plain v rest
+leaf_plain (leaves.Prefix bytes) rest = refl
+leaf_plain (leaves.Range low high) rest = refl
+leaf_plain (leaves.Below v) rest = refl
+leaf_plain (leaves.Above v) rest = refl
+
+no_letter : (letter : ℕ) (bytes : List ℕ) → begins_name letter ≡ true → begins_so bytes ≡ false → after_byte letter bytes ≡ None
+no_letter letter [] is plain = refl
+no_letter letter (byte ∷ rest) is plain = ap (λ b. cond b (Some rest) None) apart
+  where
+    apart : eqb byte letter ≡ false
+    apart = elim (eqb_tells byte letter) [
+      | inl same ↦ absurd (let both : true ≡ false = sym is ∙ ap begins_name (sym same.1) ∙ plain in cc)
+      | inr other ↦ other.0
+    ]
+
+-- names
+len_at : (cs : List ℕ) (byte : ℕ) (rest : List ℕ) → list_all continues_name cs ≡ true → continues_name byte ≡ false
+    → position_or_len ends_name (cs ++ (byte ∷ rest)) ≡ length cs
+len_at [] byte rest all ends = rw ends refl
+len_at (c ∷ cs) byte rest all ends =
+    let parts = and_parts (continues_name c) (list_all continues_name cs) all in
+    let more : 1 + length cs ≡ suc (length cs) = omega arith in
+    rw parts.0 (ap (λ n. 1 + n) (len_at cs byte rest parts.1 ends) ∙ more)
+
+end_at : (cs : List ℕ) (byte : ℕ) (rest : List ℕ) → list_all continues_name cs ≡ true → continues_name byte ≡ false
+    → name_end (cs ++ (byte ∷ rest)) ≡ length cs
+end_at cs byte rest all ends =
+    let inside : nat_lt (length cs) (length (cs ++ (byte ∷ rest))) ≡ true = grind (arith, nat_tests, length-append) in
+    ap (λ n. unwrap_or (cond (nat_lt n (length (cs ++ (byte ∷ rest)))) (Some n) None) (length (cs ++ (byte ∷ rest)))) (len_at cs byte rest all ends)
+    ∙ ap (λ b. unwrap_or (cond b (Some (length cs)) None) (length (cs ++ (byte ∷ rest)))) inside
+
+pub name_ends : (cs : List ℕ) (byte : ℕ) (rest : List ℕ) → list_all continues_name cs ≡ true → continues_name byte ≡ false
+    → after_name (cs ++ (byte ∷ rest)) ≡ cond (begins_so (cs ++ (byte ∷ rest))) (after_byte 58 (byte ∷ rest)) None
+unfolding after_name
+name_ends cs byte rest all ends =
+    ap (λ n. cond (begins_so (cs ++ (byte ∷ rest))) (after_byte 58 (drop n (cs ++ (byte ∷ rest)))) None) (end_at cs byte rest all ends)
+    ∙ ap (λ t. cond (begins_so (cs ++ (byte ∷ rest))) (after_byte 58 t) None) (drop-append_seam cs (byte ∷ rest))
+
+pub name_read : (name rest : List ℕ) → is_name name ≡ true
+    → (after_name (name ++ (58 ∷ rest)) ≡ Some rest) × (name_at_front (name ++ (58 ∷ rest)) ≡ name)
+name_read [] rest is = absurd cc
+name_read (c ∷ cs) rest is =
+    let parts = name_parts c cs is in
+    let all = (and_parts (begins_name c) (list_all continues_name (c ∷ cs)) is).1 in (
+      name_ends (c ∷ cs) 58 rest all refl ∙ ap (λ b. cond b (Some rest) None) parts.0,
+      ap (λ n. take n ((c ∷ cs) ++ (58 ∷ rest))) (end_at (c ∷ cs) 58 rest all refl) ∙ take-append_seam (c ∷ cs) (58 ∷ rest),
+    )
+
+pub no_name : (bytes : List ℕ) → begins_so bytes ≡ false → after_name bytes ≡ None
+unfolding after_name
+no_name bytes plain = ap (λ b. cond b (after_byte 58 (drop (name_end bytes) bytes)) None) plain
 
 -- queries
 abbrev mutual
-  pub IsReadableTree : QueryTree → Type 0
-  IsReadableTree (one field leaf) = IsReadableLeaf leaf
+  pub IsReadableTree : NamedTree → Type 0
+  IsReadableTree (one name leaf) = IsReadableLeaf leaf
   IsReadableTree (and list) = AreReadable list
   IsReadableTree (or list) = AreReadable list
 
-  pub AreReadable : QueryTrees → Type 0
+  pub AreReadable : NamedTrees → Type 0
   AreReadable no_trees = Unit {0}
   AreReadable (tree first others) = IsReadableTree first × AreReadable others
 
-abbrev list_of : QueryTrees → List QueryTree
-list_of no_trees = []
-list_of (tree first others) = first ∷ list_of others
+abbrev list_of : List Field → NamedTrees → List QueryTree
+list_of fields no_trees = []
+list_of fields (tree first others) = resolved fields first ∷ list_of fields others
 
-trees-list_of : (list : QueryTrees) → trees (list_of list) ≡ list
-trees-list_of no_trees = refl
-trees-list_of (tree first others) = ap (tree first) (trees-list_of others)
+trees-list_of : (fields : List Field) (list : NamedTrees) → query.trees (list_of fields list) ≡ resolved_list fields list
+trees-list_of fields no_trees = refl
+trees-list_of fields (tree first others) = ap (query.tree (resolved fields first)) (trees-list_of fields others)
 
-abbrev count_of : QueryTrees → ℕ
+abbrev count_of : NamedTrees → ℕ
 count_of no_trees = 0
 count_of (tree first others) = count_of others + 1
 
-count-others : (list : QueryTrees) → count_of list ≤ length (others_text list)
+count-others : (list : NamedTrees) → count_of list ≤ length (others_text list)
 count-others no_trees = omega arith
 count-others (tree first others) =
     omega (arith, count-others others, length-append (codes "," ++ tree_text first) (others_text others), length-append (codes ",") (tree_text first))
 
-count-list : (list : QueryTrees) (rest : List ℕ) → count_of list ≤ length (list_text list ++ (41 ∷ rest))
+count-list : (list : NamedTrees) (rest : List ℕ) → count_of list ≤ length (list_text list ++ (41 ∷ rest))
 count-list no_trees rest = omega arith
 count-list (tree first others) rest =
     omega (arith, count-others others, length-append (tree_text first ++ others_text others) (41 ∷ rest), length-append (tree_text first) (others_text others))
 
-list_ends : (list : QueryTrees) (rest : List ℕ) → EndsValue (others_text list ++ (41 ∷ rest))
+list_ends : (list : NamedTrees) (rest : List ℕ) → EndsValue (others_text list ++ (41 ∷ rest))
 list_ends no_trees rest = (refl, refl)
 list_ends (tree first others) rest = (refl, refl)
 
@@ -273,73 +341,93 @@ no_or : (bytes : List ℕ) → after_byte 111 bytes ≡ None → or_front bytes 
 unfolding or_front
 no_or bytes none = ap (λ o. o >>= (λ rest. after_byte 114 rest >>= after_byte 40)) none
 
-one_read : (member : List ℕ → Option (QueryTree × List ℕ)) (leaf : Leaf) (rest : List ℕ) → IsReadableLeaf leaf → EndsValue rest
-    → query_with member (leaf_text leaf ++ rest) ≡ Some (one 0 leaf, rest)
+one_read : (fields : List Field) (member : List ℕ → Option (QueryTree × List ℕ)) (name : Option (List ℕ)) (leaf : Leaf) (rest : List ℕ)
+    → IsFormedName name → IsReadableLeaf leaf → EndsValue rest
+    → query_with fields member (tree_text (one name leaf) ++ rest) ≡ Some (resolved fields (one name leaf), rest)
 unfolding query_with
-one_read member leaf rest readable ends =
-    ap₂ (λ a b. query_by a b member (leaf_text leaf ++ rest)) (no_and _ (leaf_first 97 leaf rest (omega arith))) (no_or _ (leaf_first 111 leaf rest (omega arith)))
-    ∙ ap (option_map (λ found. (one 0 found.0, found.1))) (leaf_read leaf rest readable ends)
+one_read fields member None leaf rest named readable ends =
+    let bytes = leaf_text leaf ++ rest in
+    let plain = leaf_plain leaf rest in
+    ap (λ o. query_by fields o (and_front bytes) (or_front bytes) member bytes) (no_name bytes plain)
+    ∙ ap₂ (λ a b. query_by fields None a b member bytes) (no_and bytes (no_letter 97 bytes refl plain)) (no_or bytes (no_letter 111 bytes refl plain))
+    ∙ ap (option_map (λ found. (query.one 0 found.0, found.1))) (leaf_read leaf rest readable ends)
+one_read fields member (Some name) leaf rest named readable ends =
+    let bytes = name ++ (58 ∷ (leaf_text leaf ++ rest)) in
+    let read = name_read name (leaf_text leaf ++ rest) named in
+    ap (λ t. query_by fields (after_name t) (and_front t) (or_front t) member t) (named_text name (leaf_text leaf) rest)
+    ∙ ap (λ o. query_by fields o (and_front bytes) (or_front bytes) member bytes) read.0
+    ∙ ap (λ n. leaf_of_field (number_of fields (Some n)) (leaf_text leaf ++ rest)) read.1
+    ∙ ap (option_map (λ found. (query.one (number_of fields (Some name)) found.0, found.1))) (leaf_read leaf rest readable ends)
+  where
+    named_text : (name leaf rest : List ℕ) → ((name ++ codes ":") ++ leaf) ++ rest ≡ name ++ (58 ∷ (leaf ++ rest))
+    named_text name leaf rest = simp append_assoc
 
-and_read : (member : List ℕ → Option (QueryTree × List ℕ)) (list : QueryTrees) (rest : List ℕ)
-    → list_front member (length (list_text list ++ (41 ∷ rest))) (list_text list ++ (41 ∷ rest)) ≡ Some (list_of list, rest)
-    → query_with member (tree_text (and list) ++ rest) ≡ Some (and list, rest)
+and_read : (fields : List Field) (member : List ℕ → Option (QueryTree × List ℕ)) (list : NamedTrees) (rest : List ℕ)
+    → list_front member (length (list_text list ++ (41 ∷ rest))) (list_text list ++ (41 ∷ rest)) ≡ Some (list_of fields list, rest)
+    → query_with fields member (tree_text (and list) ++ rest) ≡ Some (resolved fields (and list), rest)
 unfolding query_with and_front
-and_read member list rest read =
-    ap (λ t. option_map (λ found. (and (trees found.0), found.1)) (list_front member (length t) t)) (close_list (list_text list) rest)
-    ∙ ap (option_map (λ found. (and (trees found.0), found.1))) read
-    ∙ ap (λ l. Some (and l, rest)) (trees-list_of list)
+and_read fields member list rest read =
+    let bytes = tree_text (and list) ++ rest in
+    ap (λ o. query_by fields o (and_front bytes) (or_front bytes) member bytes) (name_ends (codes "and") 40 ((list_text list ++ codes ")") ++ rest) refl refl)
+    ∙ ap (λ t. option_map (λ found. (query.and (query.trees found.0), found.1)) (list_front member (length t) t)) (close_list (list_text list) rest)
+    ∙ ap (option_map (λ found. (query.and (query.trees found.0), found.1))) read
+    ∙ ap (λ l. Some (query.and l, rest)) (trees-list_of fields list)
 
-or_read : (member : List ℕ → Option (QueryTree × List ℕ)) (list : QueryTrees) (rest : List ℕ)
-    → list_front member (length (list_text list ++ (41 ∷ rest))) (list_text list ++ (41 ∷ rest)) ≡ Some (list_of list, rest)
-    → query_with member (tree_text (or list) ++ rest) ≡ Some (or list, rest)
+or_read : (fields : List Field) (member : List ℕ → Option (QueryTree × List ℕ)) (list : NamedTrees) (rest : List ℕ)
+    → list_front member (length (list_text list ++ (41 ∷ rest))) (list_text list ++ (41 ∷ rest)) ≡ Some (list_of fields list, rest)
+    → query_with fields member (tree_text (or list) ++ rest) ≡ Some (resolved fields (or list), rest)
 unfolding query_with and_front or_front
-or_read member list rest read =
-    ap (λ t. option_map (λ found. (or (trees found.0), found.1)) (list_front member (length t) t)) (close_list (list_text list) rest)
-    ∙ ap (option_map (λ found. (or (trees found.0), found.1))) read
-    ∙ ap (λ l. Some (or l, rest)) (trees-list_of list)
+or_read fields member list rest read =
+    let bytes = tree_text (or list) ++ rest in
+    ap (λ o. query_by fields o (and_front bytes) (or_front bytes) member bytes) (name_ends (codes "or") 40 ((list_text list ++ codes ")") ++ rest) refl refl)
+    ∙ ap (λ t. option_map (λ found. (query.or (query.trees found.0), found.1)) (list_front member (length t) t)) (close_list (list_text list) rest)
+    ∙ ap (option_map (λ found. (query.or (query.trees found.0), found.1))) read
+    ∙ ap (λ l. Some (query.or l, rest)) (trees-list_of fields list)
 
-last_read : (member : List ℕ → Option (QueryTree × List ℕ)) (k : ℕ) (first : QueryTree) (rest : List ℕ)
-    → member (tree_text first ++ (41 ∷ rest)) ≡ Some (first, 41 ∷ rest)
-    → list_front member (suc k) (list_text (tree first no_trees) ++ (41 ∷ rest)) ≡ Some (first ∷ [], rest)
+last_read : (fields : List Field) (member : List ℕ → Option (QueryTree × List ℕ)) (k : ℕ) (first : NamedTree) (rest : List ℕ)
+    → member (tree_text first ++ (41 ∷ rest)) ≡ Some (resolved fields first, 41 ∷ rest)
+    → list_front member (suc k) (list_text (tree first no_trees) ++ (41 ∷ rest)) ≡ Some (resolved fields first ∷ [], rest)
 unfolding list_front mark_front
-last_read member k first rest read =
+last_read fields member k first rest read =
     ap (λ t. listed (member (t ++ (41 ∷ rest))) (list_front member k)) (append-nil (tree_text first))
     ∙ ap (λ o. listed o (list_front member k)) read
 
-more_read : (member : List ℕ → Option (QueryTree × List ℕ)) (k : ℕ) (first second : QueryTree) (others : QueryTrees) (rest : List ℕ)
-    → member (tree_text first ++ (44 ∷ (list_text (tree second others) ++ (41 ∷ rest)))) ≡ Some (first, 44 ∷ (list_text (tree second others) ++ (41 ∷ rest)))
-    → list_front member k (list_text (tree second others) ++ (41 ∷ rest)) ≡ Some (list_of (tree second others), rest)
-    → list_front member (suc k) (list_text (tree first (tree second others)) ++ (41 ∷ rest)) ≡ Some (first ∷ list_of (tree second others), rest)
+more_read : (fields : List Field) (member : List ℕ → Option (QueryTree × List ℕ)) (k : ℕ) (first second : NamedTree) (others : NamedTrees) (rest : List ℕ)
+    → member (tree_text first ++ (44 ∷ (list_text (tree second others) ++ (41 ∷ rest))))
+    ≡ Some (resolved fields first, 44 ∷ (list_text (tree second others) ++ (41 ∷ rest)))
+    → list_front member k (list_text (tree second others) ++ (41 ∷ rest)) ≡ Some (list_of fields (tree second others), rest)
+    → list_front member (suc k) (list_text (tree first (tree second others)) ++ (41 ∷ rest))
+    ≡ Some (resolved fields first ∷ list_of fields (tree second others), rest)
 unfolding list_front mark_front
-more_read member k first second others rest read more =
+more_read fields member k first second others rest read more =
     ap (λ t. listed (member t) (list_front member k)) (append_assoc (tree_text first) (others_text (tree second others)) (41 ∷ rest))
     ∙ ap (λ o. listed o (list_front member k)) read
-    ∙ ap (with_tree first) more
+    ∙ ap (with_tree (resolved fields first)) more
 
-at_suc : (n : ℕ) (bytes : List ℕ) → query_front (suc n) bytes ≡ query_with (query_front n) bytes
+at_suc : (fields : List Field) (n : ℕ) (bytes : List ℕ) → query_front fields (suc n) bytes ≡ query_with fields (query_front fields n) bytes
 unfolding query_front
-at_suc n bytes = refl
+at_suc fields n bytes = refl
 
 mutual
-  pub query_read : (query : QueryTree) (n : ℕ) (rest : List ℕ) → IsFormed query → IsReadableTree query → levels_of query ≤ n → EndsValue rest
-      → query_front n (tree_text query ++ rest) ≡ Some (query, rest)
-  query_read (one field leaf) zero rest formed readable deep ends = absurd (omega arith)
-  query_read (one field leaf) (suc n) rest formed readable deep ends =
-      at_suc n _ ∙ one_read (query_front n) leaf rest readable ends ∙ ap (λ k. Some (one k leaf, rest)) (sym formed.0)
-  query_read (and list) zero rest formed readable deep ends = absurd (omega arith)
-  query_read (and list) (suc n) rest formed readable deep ends =
-      at_suc n _ ∙ and_read (query_front n) list rest (list_read list n _ rest formed readable (omega arith) (count-list list rest))
-  query_read (or list) zero rest formed readable deep ends = absurd (omega arith)
-  query_read (or list) (suc n) rest formed readable deep ends =
-      at_suc n _ ∙ or_read (query_front n) list rest (list_read list n _ rest formed readable (omega arith) (count-list list rest))
+  pub query_read : (fields : List Field) (query : NamedTree) (n : ℕ) (rest : List ℕ) → IsFormed query → IsReadableTree query → levels_of query ≤ n → EndsValue rest
+      → query_front fields n (tree_text query ++ rest) ≡ Some (resolved fields query, rest)
+  query_read fields (one name leaf) zero rest formed readable deep ends = absurd (omega arith)
+  query_read fields (one name leaf) (suc n) rest formed readable deep ends =
+      at_suc fields n _ ∙ one_read fields (query_front fields n) name leaf rest formed.0 readable ends
+  query_read fields (and list) zero rest formed readable deep ends = absurd (omega arith)
+  query_read fields (and list) (suc n) rest formed readable deep ends =
+      at_suc fields n _ ∙ and_read fields (query_front fields n) list rest (list_read fields list n _ rest formed readable (omega arith) (count-list list rest))
+  query_read fields (or list) zero rest formed readable deep ends = absurd (omega arith)
+  query_read fields (or list) (suc n) rest formed readable deep ends =
+      at_suc fields n _ ∙ or_read fields (query_front fields n) list rest (list_read fields list n _ rest formed readable (omega arith) (count-list list rest))
 
-  list_read : (list : QueryTrees) (n fuel : ℕ) (rest : List ℕ) → IsFormedList list → AreReadable list → list_levels list ≤ n → count_of list ≤ fuel
-      → list_front (query_front n) fuel (list_text list ++ (41 ∷ rest)) ≡ Some (list_of list, rest)
-  list_read no_trees n fuel rest formed readable deep counted = absurd formed
-  list_read (tree first others) n zero rest formed readable deep counted = absurd (omega arith)
-  list_read (tree first no_trees) n (suc k) rest formed readable deep counted =
-      last_read (query_front n) k first rest (query_read first n (41 ∷ rest) formed.0 readable.0 (omega arith) (refl, refl))
-  list_read (tree first (tree second others)) n (suc k) rest formed readable deep counted =
-      more_read (query_front n) k first second others rest
-      (query_read first n _ formed.0 readable.0 (omega arith) (refl, refl))
-      (list_read (tree second others) n k rest formed.1 readable.1 (omega arith) (omega arith))
+  list_read : (fields : List Field) (list : NamedTrees) (n fuel : ℕ) (rest : List ℕ) → IsFormedList list → AreReadable list → list_levels list ≤ n → count_of list ≤ fuel
+      → list_front (query_front fields n) fuel (list_text list ++ (41 ∷ rest)) ≡ Some (list_of fields list, rest)
+  list_read fields no_trees n fuel rest formed readable deep counted = absurd formed
+  list_read fields (tree first others) n zero rest formed readable deep counted = absurd (omega arith)
+  list_read fields (tree first no_trees) n (suc k) rest formed readable deep counted =
+      last_read fields (query_front fields n) k first rest (query_read fields first n (41 ∷ rest) formed.0 readable.0 (omega arith) (refl, refl))
+  list_read fields (tree first (tree second others)) n (suc k) rest formed readable deep counted =
+      more_read fields (query_front fields n) k first second others rest
+      (query_read fields first n _ formed.0 readable.0 (omega arith) (refl, refl))
+      (list_read fields (tree second others) n k rest formed.1 readable.1 (omega arith) (omega arith))

@@ -13,12 +13,11 @@ use Rattle.attr_types.specs.declared.value.Value.{Value}
 use Rattle.attr_types.specs.declared.value.Value.TheVariants as values
 use Rattle.attr_types.specs.declared.query.Leaf.{Leaf}
 use Rattle.attr_types.specs.declared.query.Leaf.TheVariants as leaves
-use Rattle.attr_types.specs.Query.{QueryTree, QueryTrees, one, and, or, no_trees, tree}
-use Rattle.query_text.specs.Grammar.{escaped, quoted, value_text, option_text, leaf_text, tree_text, list_text, leaf_values, tree_values, list_values, is_in_range}
+use Rattle.query_text.specs.Grammar.{NamedTree, NamedTrees, one, and, or, no_trees, tree, escaped, quoted, value_text, option_text, leaf_text, tree_text, list_text, leaf_values, is_in_range, tree_in_range, list_in_range}
 use Rattle.query_text.proofs.ReadBack.{IsReadable, IsReadableEnd, IsReadableLeaf, IsReadableTree, AreReadable}
 
 -- a text may be cut at a byte below 128
-cut : (front rest : List ℕ) (byte : ℕ) → byte < 128 → IsUtf8 (front ++ (byte ∷ rest)) → IsUtf8 front × IsUtf8 rest
+pub cut : (front rest : List ℕ) (byte : ℕ) → byte < 128 → IsUtf8 (front ++ (byte ∷ rest)) → IsUtf8 front × IsUtf8 rest
 cut front rest byte small u =
     let whole = front ++ (byte ∷ rest) in
     let inside : length front < length whole = omega (arith, length-append front (byte ∷ rest)) in
@@ -29,7 +28,7 @@ cut front rest byte small u =
           (IsUtf8-drop whole (length front + 1) u (IsCharBoundary-after_ascii whole (length front) u inside ascii)),
     )
 
-utf8_tail : (byte : ℕ) (rest : List ℕ) → byte < 128 → IsUtf8 (byte ∷ rest) → IsUtf8 rest
+pub utf8_tail : (byte : ℕ) (rest : List ℕ) → byte < 128 → IsUtf8 (byte ∷ rest) → IsUtf8 rest
 utf8_tail byte rest small u = (cut [] rest byte small u).1
 
 utf8_byte : (byte : ℕ) → byte < 128 → IsUtf8 (byte ∷ [])
@@ -55,7 +54,7 @@ quoted_utf8 bytes rest u =
     let inner : IsUtf8 ((flat_map escaped bytes ++ 34 ∷ []) ++ rest) = utf8_tail 34 _ (omega arith) u in
     unescaped [] bytes (cut (flat_map escaped bytes) rest 34 (omega arith) (subst IsUtf8 (append_assoc (flat_map escaped bytes) (34 ∷ []) rest) inner)).0
 
-value_readable : (v : Value) (rest : List ℕ) → IsUtf8 (value_text v ++ rest) → is_in_range v ≡ true → IsReadable v
+pub value_readable : (v : Value) (rest : List ℕ) → IsUtf8 (value_text v ++ rest) → is_in_range v ≡ true → IsReadable v
 value_readable (values.Long z) rest u h = h
 value_readable (values.Text bytes) rest u h = ap₂ (λ a b. a && b) h (is_utf8-from_IsUtf8 bytes (quoted_utf8 bytes rest u))
 
@@ -83,9 +82,14 @@ leaf_readable (leaves.Above v) u h =
 list_inside : (list : List ℕ) → IsUtf8 (list ++ codes ")") → IsUtf8 list
 list_inside list u = (cut list [] 41 (omega arith) u).0
 
+named_readable : (name : Option (List ℕ)) (leaf : Leaf) → IsUtf8 (tree_text (one name leaf)) → tree_in_range (one name leaf) ≡ true → IsReadableLeaf leaf
+named_readable None leaf u h = leaf_readable leaf u h
+named_readable (Some name) leaf u h =
+    leaf_readable leaf (cut name (leaf_text leaf) 58 (omega arith) (subst IsUtf8 (append_assoc name (codes ":") (leaf_text leaf)) u)).1 h
+
 mutual
-  pub tree_readable : (query : QueryTree) → IsUtf8 (tree_text query) → list_all is_in_range (tree_values query) ≡ true → IsReadableTree query
-  tree_readable (one field leaf) u h = leaf_readable leaf u h
+  pub tree_readable : (query : NamedTree) → IsUtf8 (tree_text query) → tree_in_range query ≡ true → IsReadableTree query
+  tree_readable (one name leaf) u h = named_readable name leaf u h
   tree_readable (and list) u h =
       list_readable list (list_inside (list_text list)
       (utf8_tail 40 _ (omega arith) (utf8_tail 100 _ (omega arith) (utf8_tail 110 _ (omega arith) (utf8_tail 97 _ (omega arith) u))))) h
@@ -93,12 +97,11 @@ mutual
       list_readable list (list_inside (list_text list)
       (utf8_tail 40 _ (omega arith) (utf8_tail 114 _ (omega arith) (utf8_tail 111 _ (omega arith) u)))) h
 
-  list_readable : (list : QueryTrees) → IsUtf8 (list_text list) → list_all is_in_range (list_values list) ≡ true → AreReadable list
+  list_readable : (list : NamedTrees) → IsUtf8 (list_text list) → list_in_range list ≡ true → AreReadable list
   list_readable no_trees u h = tt
   list_readable (tree first no_trees) u h =
-      (tree_readable first (subst IsUtf8 (append-nil (tree_text first)) u) (and_parts _ _ (sym (list_all-append is_in_range (tree_values first) []) ∙ h)).0, tt)
+      (tree_readable first (subst IsUtf8 (append-nil (tree_text first)) u) (and_parts (tree_in_range first) true h).0, tt)
   list_readable (tree first (tree second others)) u h =
       let parts : IsUtf8 (tree_text first) × IsUtf8 (list_text (tree second others)) = cut (tree_text first) (list_text (tree second others)) 44 (omega arith) u in
-      let ranges : (list_all is_in_range (tree_values first) ≡ true) × (list_all is_in_range (list_values (tree second others)) ≡ true) =
-      and_parts _ _ (sym (list_all-append is_in_range (tree_values first) (list_values (tree second others))) ∙ h) in
+      let ranges = and_parts (tree_in_range first) (list_in_range (tree second others)) h in
       (tree_readable first parts.0 ranges.0, list_readable (tree second others) parts.1 ranges.1)

@@ -1,18 +1,48 @@
--- The grammar of queries: the one text that each query is written as, and which trees have one.
-use Rattle.std.specs.Prelude.{◌≡◌, ◌<◌, ◌≤◌, ℕ, ℤ, pos, negsuc, ◌+◌, ◌^◌, ◌==◌, Bool, true, false, ◌||◌, nat_lt, nat_le, max, List, [], ◌∷◌, ◌++◌, map, length, take, codes, if◌then◌else◌, Option, Some, None, option_to_list, Result, Ok, Err}
+-- The grammar of query words: the one text that each word is written as, which words have one, and what each asks for.
+use Rattle.std.specs.Prelude.{◌≡◌, ◌<◌, ◌≤◌, ℕ, ℤ, pos, negsuc, ◌+◌, ◌^◌, ◌==◌, Bool, true, false, ◌&&◌, ◌||◌, nat_lt}
+use Rattle.std.specs.Prelude.{nat_le, max, List, [], ◌∷◌, ◌++◌, map, length, take, codes, slice_get, if◌then◌else◌, Option, Some, None}
+use Rattle.std.specs.Prelude.{option_to_list, unwrap_or, Result, Ok, Err}
 use Rattle.std.specs.List.{flat_map, list_all}
 use Rattle.std.specs.Int.Digits.{digits_of}
+use Rattle.attr_types.specs.declared.kind.Kind.{Kind}
+use Rattle.attr_types.specs.declared.kind.Kind.TheVariants.{Single, Array, WeightedSet}
 use Rattle.attr_types.specs.declared.kind.ValueType.{ValueType}
+use Rattle.attr_types.specs.declared.kind.ValueType.TheVariants as types
+use Rattle.attr_types.specs.declared.field.Field.{Field}
 use Rattle.attr_types.specs.declared.error.QueryError.{QueryError}
 use Rattle.attr_types.specs.declared.error.QueryError.TheVariants.{Syntax, NoField, WrongType, OutOfRange, TooDeep, Memory}
 use Rattle.attr_types.specs.declared.query.Query.{Query}
-use Rattle.attr_types.specs.Query.{QueryTree, QueryTrees, one, and, or, no_trees, tree, tree_of}
-pub use Rattle.attr_types.specs.Fitting.{is_of_type}
+use Rattle.attr_types.specs.Query as trees
+use Rattle.attr_types.specs.Fitting.{is_of_type}
 use Rattle.attr_types.specs.Value.{type_of}
 use Rattle.attr_types.specs.declared.value.Value.{Value}
 use Rattle.attr_types.specs.declared.value.Value.TheVariants.{Long, Text}
 use Rattle.attr_types.specs.declared.query.Leaf.{Leaf}
 use Rattle.attr_types.specs.declared.query.Leaf.TheVariants.{Is, Prefix, Range, Below, Above}
+use Rattle.attr_names.specs.Names.{is_name, field_named}
+use Rattle.attr_scores.specs.Scores.{AskTree, hits_of, dot_of, ask_tree}
+use Rattle.attr_scores.specs.declared.ask.Ask.{Ask}
+use Rattle.attr_scores.specs.declared.part.Part.{Part}
+
+-- ---- what is written
+
+-- a query as it is written: a leaf may have a name before it
+mutual
+  pub data NamedTree : Type 0 where
+    one : Option (List ℕ) → Leaf → NamedTree
+    and : NamedTrees → NamedTree
+    or : NamedTrees → NamedTree
+
+  pub data NamedTrees : Type 0 where
+    no_trees : NamedTrees
+    tree : NamedTree → NamedTrees → NamedTrees
+
+-- a query word: a query, or a dot product that may have a name before it
+pub data Word : Type 0 where
+  whole_query : NamedTree → Word
+  dot_product : Option (List ℕ) → List Part → Word
+
+-- ---- its text
 
 -- the decimal digits of a number, with no leading zero
 unfoldable pub numeral : ℕ → List ℕ
@@ -46,20 +76,44 @@ leaf_text (Range low high) = codes "[" ++ option_text low ++ codes ";" ++ option
 leaf_text (Below value) = codes "<" ++ value_text value
 leaf_text (Above value) = codes ">" ++ value_text value
 
+-- the name before a leaf or a dot product, where there is one
+abbrev pub name_text : Option (List ℕ) → List ℕ
+name_text None = []
+name_text (Some name) = name ++ codes ":"
+
 -- the members of a list stand between commas
 abbrev mutual
-  pub tree_text : QueryTree → List ℕ
-  tree_text (one field leaf) = leaf_text leaf
+  pub tree_text : NamedTree → List ℕ
+  tree_text (one name leaf) = name_text name ++ leaf_text leaf
   tree_text (and list) = codes "and(" ++ list_text list ++ codes ")"
   tree_text (or list) = codes "or(" ++ list_text list ++ codes ")"
 
-  pub list_text : QueryTrees → List ℕ
+  pub list_text : NamedTrees → List ℕ
   list_text no_trees = []
   list_text (tree first others) = tree_text first ++ others_text others
 
-  pub others_text : QueryTrees → List ℕ
+  pub others_text : NamedTrees → List ℕ
   others_text no_trees = []
   others_text (tree first others) = codes "," ++ tree_text first ++ others_text others
+
+abbrev pub part_text : Part → List ℕ
+part_text part = value_text part.value ++ codes ":" ++ number_text part.weight
+
+-- so do the parts of a dot product
+abbrev pub parts_text : List Part → List ℕ
+parts_text [] = []
+parts_text (part ∷ []) = part_text part
+parts_text (part ∷ second ∷ parts) = part_text part ++ codes "," ++ parts_text (second ∷ parts)
+
+abbrev pub word_text : Word → List ℕ
+word_text (whole_query query) = tree_text query
+word_text (dot_product name parts) = name_text name ++ codes "dot(" ++ parts_text parts ++ codes ")"
+
+-- ---- which words have a text
+
+abbrev pub IsFormedName : Option (List ℕ) → Type 0
+IsFormedName None = Unit {0}
+IsFormedName (Some name) = is_name name ≡ true
 
 -- the ends of a range are of one type
 abbrev pub HaveOneType : Option Value → Option Value → Type 0
@@ -74,27 +128,121 @@ IsFormedLeaf (Range low high) = HaveOneType low high
 IsFormedLeaf (Below value) = Unit {0}
 IsFormedLeaf (Above value) = Unit {0}
 
--- no list is empty, and each leaf speaks of attribute 0: the grammar has no names of attributes yet
+-- no list is empty
 abbrev mutual
-  pub IsFormed : QueryTree → Type 0
-  IsFormed (one field leaf) = (field ≡ 0) × IsFormedLeaf leaf
+  pub IsFormed : NamedTree → Type 0
+  IsFormed (one name leaf) = IsFormedName name × IsFormedLeaf leaf
   IsFormed (and list) = IsFormedList list
   IsFormed (or list) = IsFormedList list
 
-  pub IsFormedList : QueryTrees → Type 0
+  pub IsFormedList : NamedTrees → Type 0
   IsFormedList no_trees = ⊥
   IsFormedList (tree first others) = IsFormed first × AreFormed others
 
-  pub AreFormed : QueryTrees → Type 0
+  pub AreFormed : NamedTrees → Type 0
   AreFormed no_trees = Unit {0}
   AreFormed (tree first others) = IsFormed first × AreFormed others
 
--- the text is this query, of any depth and with numbers and texts of any size
-pub record IsQueryText (text : List ℕ) (query : QueryTree) : Type 0 where
-  pub formed : IsFormed query
-  pub written : text ≡ tree_text query
+abbrev pub IsFormedWord : Word → Type 0
+IsFormedWord (whole_query query) = IsFormed query
+IsFormedWord (dot_product name parts) = IsFormedName name × (0 < length parts)
 
--- the values in a query
+-- the words that a parser reads: any, or queries alone
+pub data Words : Type 0 where
+  any_word : Words
+  queries : Words
+
+abbrev pub IsAmong : Words → Word → Type 0
+IsAmong any_word word = Unit {0}
+IsAmong queries (whole_query query) = Unit {0}
+IsAmong queries (dot_product name parts) = ⊥
+
+-- the text is this word, of any depth and with numbers and texts of any size
+pub record IsWordText (words : Words) (text : List ℕ) (word : Word) : Type 0 where
+  pub among : IsAmong words word
+  pub formed : IsFormedWord word
+  pub written : text ≡ word_text word
+
+-- ---- what it speaks of
+
+-- the number of the attribute that is named; without a name it is attribute 0
+abbrev pub field_of : List Field → Option (List ℕ) → Option ℕ
+field_of fields None = Some 0
+field_of fields (Some name) = field_named fields name
+
+abbrev pub number_of : List Field → Option (List ℕ) → ℕ
+number_of fields name = unwrap_or (field_of fields name) 0
+
+-- the type of an attribute; there is none without one
+abbrev pub type_of_field : Option Field → ValueType
+type_of_field (Some field) = field.value
+type_of_field None = types.Long
+
+abbrev pub type_at : List Field → ℕ → ValueType
+type_at fields number = type_of_field (slice_get fields number)
+
+abbrev pub is_weighted_kind : Kind → Bool
+is_weighted_kind WeightedSet = true
+is_weighted_kind Array = false
+is_weighted_kind Single = false
+
+-- the attribute is there, and a weighted set
+abbrev pub is_weighted : Option Field → Bool
+is_weighted (Some field) = is_weighted_kind field.kind
+is_weighted None = false
+
+-- the query over the attributes' numbers
+abbrev mutual
+  pub resolved : List Field → NamedTree → trees.QueryTree
+  resolved fields (one name leaf) = trees.one (number_of fields name) leaf
+  resolved fields (and list) = trees.and (resolved_list fields list)
+  resolved fields (or list) = trees.or (resolved_list fields list)
+
+  pub resolved_list : List Field → NamedTrees → trees.QueryTrees
+  resolved_list fields no_trees = trees.no_trees
+  resolved_list fields (tree first others) = trees.tree (resolved fields first) (resolved_list fields others)
+
+abbrev pub asked_by : List Field → Word → AskTree
+asked_by fields (whole_query query) = hits_of (resolved fields query)
+asked_by fields (dot_product name parts) = dot_of (number_of fields name) parts
+
+-- ---- the checks
+
+-- the place of the first of two, if there is one
+abbrev pub first_of : Option ℕ → Option ℕ → Option ℕ
+first_of (Some first) second = Some first
+first_of None second = second
+
+-- the place where a name begins, if it is none of the attributes
+abbrev pub unknown_if : ℕ → Option ℕ → Option ℕ
+unknown_if place (Some number) = None
+unknown_if place None = Some place
+
+abbrev pub unknown_name : List Field → ℕ → Option (List ℕ) → Option ℕ
+unknown_name fields place name = unknown_if place (field_of fields name)
+
+-- where the first such name begins in the text of a query, or of a list, that begins at this place
+abbrev mutual
+  pub unknown_in : List Field → ℕ → NamedTree → Option ℕ
+  unknown_in fields place (one name leaf) = unknown_name fields place name
+  unknown_in fields place (and list) = unknown_list fields (place + 4) list
+  unknown_in fields place (or list) = unknown_list fields (place + 3) list
+
+  pub unknown_list : List Field → ℕ → NamedTrees → Option ℕ
+  unknown_list fields place no_trees = None
+  unknown_list fields place (tree first others) =
+      first_of (unknown_in fields place first) (unknown_others fields (place + length (tree_text first)) others)
+
+  pub unknown_others : List Field → ℕ → NamedTrees → Option ℕ
+  unknown_others fields place no_trees = None
+  unknown_others fields place (tree first others) =
+      first_of (unknown_in fields (place + 1) first) (unknown_others fields ((place + 1) + length (tree_text first)) others)
+
+abbrev pub unknown_at : List Field → Word → Option ℕ
+unknown_at fields (whole_query query) = unknown_in fields 0 query
+unknown_at fields (dot_product name parts) = unknown_name fields 0 name
+
+-- the values in a leaf
 abbrev pub leaf_values : Leaf → List Value
 leaf_values (Is value) = value ∷ []
 leaf_values (Prefix bytes) = Text bytes ∷ []
@@ -102,15 +250,25 @@ leaf_values (Range low high) = option_to_list low ++ option_to_list high
 leaf_values (Below value) = value ∷ []
 leaf_values (Above value) = value ∷ []
 
+-- the values are of the types of their attributes
 abbrev mutual
-  pub tree_values : QueryTree → List Value
-  tree_values (one field leaf) = leaf_values leaf
-  tree_values (and list) = list_values list
-  tree_values (or list) = list_values list
+  pub tree_has_types : List Field → NamedTree → Bool
+  tree_has_types fields (one name leaf) = list_all (is_of_type (type_at fields (number_of fields name))) (leaf_values leaf)
+  tree_has_types fields (and list) = list_has_types fields list
+  tree_has_types fields (or list) = list_has_types fields list
 
-  pub list_values : QueryTrees → List Value
-  list_values no_trees = []
-  list_values (tree first others) = tree_values first ++ list_values others
+  pub list_has_types : List Field → NamedTrees → Bool
+  list_has_types fields no_trees = true
+  list_has_types fields (tree first others) = tree_has_types fields first && list_has_types fields others
+
+abbrev pub parts_have_type : ValueType → List Part → Bool
+parts_have_type wanted parts = list_all (λ part. is_of_type wanted part.value) parts
+
+-- a dot product speaks of a weighted set
+abbrev pub has_types : List Field → Word → Bool
+has_types fields (whole_query query) = tree_has_types fields query
+has_types fields (dot_product name parts) =
+    is_weighted (slice_get fields (number_of fields name)) && parts_have_type (type_at fields (number_of fields name)) parts
 
 -- a number of 64 signed bits, or a text of at most 1,024 bytes
 abbrev pub is_in_range : Value → Bool
@@ -118,49 +276,90 @@ is_in_range (Long (pos n)) = nat_lt n (2 ^ 63)
 is_in_range (Long (negsuc n)) = nat_lt n (2 ^ 63)
 is_in_range (Text bytes) = nat_le (length bytes) 1024
 
+-- a number of 32 signed bits
+abbrev pub is_weight : ℤ → Bool
+is_weight (pos n) = nat_lt n (2 ^ 31)
+is_weight (negsuc n) = nat_lt n (2 ^ 31)
+
+abbrev mutual
+  pub tree_in_range : NamedTree → Bool
+  tree_in_range (one name leaf) = list_all is_in_range (leaf_values leaf)
+  tree_in_range (and list) = list_in_range list
+  tree_in_range (or list) = list_in_range list
+
+  pub list_in_range : NamedTrees → Bool
+  list_in_range no_trees = true
+  list_in_range (tree first others) = tree_in_range first && list_in_range others
+
+abbrev pub parts_in_range : List Part → Bool
+parts_in_range parts = list_all (λ part. is_in_range part.value && is_weight part.weight) parts
+
+abbrev pub has_range : Word → Bool
+has_range (whole_query query) = tree_in_range query
+has_range (dot_product name parts) = parts_in_range parts
+
 -- a leaf has one level, a list one more than its deepest member
 abbrev mutual
-  pub levels_of : QueryTree → ℕ
-  levels_of (one field leaf) = 1
+  pub levels_of : NamedTree → ℕ
+  levels_of (one name leaf) = 1
   levels_of (and list) = list_levels list + 1
   levels_of (or list) = list_levels list + 1
 
-  pub list_levels : QueryTrees → ℕ
+  pub list_levels : NamedTrees → ℕ
   list_levels no_trees = 0
   list_levels (tree first others) = max (levels_of first) (list_levels others)
 
--- some query begins so
-abbrev pub Continues : List ℕ → Type 0
-Continues front = (query : QueryTree) × (rest : List ℕ) × IsQueryText (front ++ rest) query
+abbrev pub word_levels : Word → ℕ
+word_levels (whole_query query) = levels_of query
+word_levels (dot_product name parts) = 1
 
--- the text is no query, and this is the first byte with which none begins, or the text's length
-pub record StopsAt (text : List ℕ) (place : ℕ) : Type 0 where
+-- a refusal goes before those below it
+abbrev pub unless_unknown : Option ℕ → Result AskTree QueryError → Result AskTree QueryError
+unless_unknown (Some place) answer = Err (NoField place)
+unless_unknown None answer = answer
+
+abbrev pub checked_by : Bool → Bool → Bool → AskTree → Result AskTree QueryError
+checked_by types range deep ask = if types
+    then (if range then (if deep then Err TooDeep else Ok ask) else Err OutOfRange)
+    else Err WrongType
+
+-- what a word asks of these attributes, or the first of its refusals
+abbrev pub judged : List Field → Word → Result AskTree QueryError
+judged fields word = unless_unknown (unknown_at fields word)
+    (checked_by (has_types fields word) (has_range word) (nat_lt 32 (word_levels word)) (asked_by fields word))
+
+-- ---- what the grammar answers
+
+-- some word begins so
+abbrev pub Continues : Words → List ℕ → Type 0
+Continues words front = (word : Word) × (rest : List ℕ) × IsWordText words (front ++ rest) word
+
+-- the text is no word, and this is the first byte with which none goes on, or the text's length
+pub record StopsAt (words : Words) (text : List ℕ) (place : ℕ) : Type 0 where
   pub within : place ≤ length text
-  pub continues : Continues (take place text)
-  pub stops : place < length text → ¬ (Continues (take (place + 1) text))
-  pub unfinished : place ≡ length text → (query : QueryTree) → ¬ (IsQueryText text query)
+  pub continues : Continues words (take place text)
+  pub stops : place < length text → ¬ (Continues words (take (place + 1) text))
+  pub unfinished : place ≡ length text → (word : Word) → ¬ (IsWordText words text word)
 
--- what the grammar answers, by the checks in their order; without names no text has a wrong one
-abbrev pub Answers : ValueType → List ℕ → Result QueryTree QueryError → Type 0
-Answers value text (Ok query) = IsQueryText text query × (list_all (is_of_type value) (tree_values query) ≡ true)
-    × (list_all is_in_range (tree_values query) ≡ true) × (levels_of query ≤ 32)
-Answers value text (Err (Syntax place)) = StopsAt text place
-Answers value text (Err (NoField place)) = ⊥
-Answers value text (Err WrongType) = (query : QueryTree) × IsQueryText text query
-    × (list_all (is_of_type value) (tree_values query) ≡ false)
-Answers value text (Err OutOfRange) = (query : QueryTree) × IsQueryText text query
-    × (list_all (is_of_type value) (tree_values query) ≡ true) × (list_all is_in_range (tree_values query) ≡ false)
-Answers value text (Err TooDeep) = (query : QueryTree) × IsQueryText text query
-    × (list_all (is_of_type value) (tree_values query) ≡ true) × (list_all is_in_range (tree_values query) ≡ true)
-    × (32 < levels_of query)
-Answers value text (Err Memory) = ⊥
+-- the answer to a text: that of the word which it is, or the place where it stops being one
+pub data Answers (words : Words) (fields : List Field) (text : List ℕ) (answer : Result AskTree QueryError) : Type 0 where
+  by_word : (word : Word) → IsWordText words text word → judged fields word ≡ answer → Answers words fields text answer
+  by_place : (place : ℕ) → StopsAt words text place → Err (Syntax place) ≡ answer → Answers words fields text answer
 
--- what a parser returned is what the grammar answers, unless memory ran out
-abbrev pub AnswersAs : ValueType → List ℕ → Result Query QueryError → Type 0
-AnswersAs value text (Ok query) = Answers value text (Ok (tree_of query))
-AnswersAs value text (Err (Syntax place)) = Answers value text (Err (Syntax place))
-AnswersAs value text (Err (NoField place)) = Answers value text (Err (NoField place))
-AnswersAs value text (Err WrongType) = Answers value text (Err WrongType)
-AnswersAs value text (Err OutOfRange) = Answers value text (Err OutOfRange)
-AnswersAs value text (Err TooDeep) = Answers value text (Err TooDeep)
-AnswersAs value text (Err Memory) = Unit {0}
+-- a parser's refusal is the grammar's, unless memory ran out
+abbrev pub RefusesAs : Words → List Field → List ℕ → QueryError → Type 0
+RefusesAs words fields text (Syntax place) = Answers words fields text (Err (Syntax place))
+RefusesAs words fields text (NoField place) = Answers words fields text (Err (NoField place))
+RefusesAs words fields text WrongType = Answers words fields text (Err WrongType)
+RefusesAs words fields text OutOfRange = Answers words fields text (Err OutOfRange)
+RefusesAs words fields text TooDeep = Answers words fields text (Err TooDeep)
+RefusesAs words fields text Memory = Unit {0}
+
+-- what a parser of words returned, and one of queries
+abbrev pub AnswersAs : List Field → List ℕ → Result Ask QueryError → Type 0
+AnswersAs fields text (Ok ask) = Answers any_word fields text (Ok (ask_tree ask))
+AnswersAs fields text (Err error) = RefusesAs any_word fields text error
+
+abbrev pub AnswersQuery : List Field → List ℕ → Result Query QueryError → Type 0
+AnswersQuery fields text (Ok query) = Answers queries fields text (Ok (hits_of (trees.tree_of query)))
+AnswersQuery fields text (Err error) = RefusesAs queries fields text error

@@ -1,9 +1,13 @@
--- What may follow in a text: the mode after each byte, by the mode before it.
+-- What may follow in the text of a query: the mode after each byte, by the mode before it.
 use Rattle.std.specs.Prelude.{ℕ, ◌+◌, ◌-◌, ◌*◌, ◌^◌, ◌==◌, Bool, true, false, ◌&&◌, ◌||◌, not, nat_le, min, if◌then◌else◌, Option, Some, None}
+use Rattle.attr_names.specs.Names.{begins_name, continues_name}
 use Rattle.query_text.specs.declared.mode.Role.{Role}
 use Rattle.query_text.specs.declared.mode.Role.TheVariants as roles
+use Rattle.query_text.specs.declared.mode.Spell.{Spell}
+use Rattle.query_text.specs.declared.mode.Spell.TheVariants as spells
 use Rattle.query_text.specs.declared.mode.Mode.{Mode}
-use Rattle.query_text.specs.declared.mode.Mode.TheVariants.{Start, Opened, A, An, O, Word, Bound, Low, High, HighNumber, HighText, Minus, Number, Text, Escape, Quoted, Ended, Closed}
+use Rattle.query_text.specs.declared.mode.Mode.TheVariants.{Start, Opened, Name, Named, Bound, Low, High, HighNumber, HighText}
+use Rattle.query_text.specs.declared.mode.Mode.TheVariants.{Minus, Number, Text, Escape, Quoted, Ended, Closed}
 
 abbrev pub is_digit : ℕ → Bool
 is_digit byte = nat_le 48 byte && nat_le byte 57
@@ -23,12 +27,43 @@ text_begun role byte = if byte == 34 then Some (Text role 0) else None
 abbrev pub value_begun : Role → ℕ → Option Mode
 value_begun role byte = if byte == 34 then Some (Text role 0) else number_begun role byte
 
+-- what the letters so far are
+abbrev pub spell_begun : ℕ → Spell
+spell_begun byte = if byte == 97 then spells.A
+    else (if byte == 111 then spells.O
+    else (if byte == 100 then spells.D else spells.Other))
+
+abbrev pub spell_next : Spell → ℕ → Spell
+spell_next spells.A byte = if byte == 110 then spells.An else spells.Other
+spell_next spells.An byte = if byte == 100 then spells.And else spells.Other
+spell_next spells.O byte = if byte == 114 then spells.Or else spells.Other
+spell_next spells.D byte = if byte == 111 then spells.Do else spells.Other
+spell_next spells.Do byte = if byte == 116 then spells.Dot else spells.Other
+spell_next spells.And byte = spells.Other
+spell_next spells.Or byte = spells.Other
+spell_next spells.Dot byte = spells.Other
+spell_next spells.Other byte = spells.Other
+
+-- `and` and `or` open lists
+abbrev pub opens_list : Spell → Bool
+opens_list spells.And = true
+opens_list spells.Or = true
+opens_list _ = false
+
+-- the byte that a leaf may begin with
+abbrev pub leaf_begun : ℕ → Option Mode
+leaf_begun byte = if byte == 91 then Some Low
+    else (if (byte == 60) || (byte == 62) then Some Bound else value_begun roles.Alone byte)
+
 -- the byte that a query may begin with
 abbrev pub query_begun : ℕ → Option Mode
-query_begun byte = if byte == 97 then Some A
-    else (if byte == 111 then Some O
-    else (if byte == 91 then Some Low
-    else (if (byte == 60) || (byte == 62) then Some Bound else value_begun roles.Alone byte)))
+query_begun byte = if begins_name byte then Some (Name (spell_begun byte)) else leaf_begun byte
+
+-- the byte after a letter of a name or of a list's word
+abbrev pub name_next : Spell → ℕ → Option Mode
+name_next spell byte = if continues_name byte then Some (Name (spell_next spell byte))
+    else (if byte == 58 then Some Named
+    else (if opens_list spell && (byte == 40) then Some Opened else None))
 
 -- the byte after a query, where nested says that a bracket is open
 abbrev pub query_ended : Bool → ℕ → Option Mode
@@ -82,10 +117,8 @@ letter_next letter mode byte = if byte == letter then Some mode else None
 unfoldable pub next_mode : Bool → Mode → ℕ → Option Mode
 next_mode nested Start byte = query_begun byte
 next_mode nested Opened byte = query_begun byte
-next_mode nested A byte = letter_next 110 An byte
-next_mode nested An byte = letter_next 100 Word byte
-next_mode nested O byte = letter_next 114 Word byte
-next_mode nested Word byte = letter_next 40 Opened byte
+next_mode nested (Name spell) byte = name_next spell byte
+next_mode nested Named byte = leaf_begun byte
 next_mode nested Bound byte = value_begun roles.Bound byte
 next_mode nested Low byte = low_next byte
 next_mode nested High byte = high_next byte

@@ -1,14 +1,19 @@
 -- The value, leaf or query at the front of a text, and what follows it.
-use Rattle.std.specs.Prelude.{◌≡◌, ℕ, ℤ, pos, zero, suc, ◌+◌, ◌-◌, ◌*◌, ◌==◌, Bool, true, false, ◌&&◌, nat_le, List, [], ◌∷◌, length, if◌then◌else◌, Option, Some, None, option_map, Result, Ok, Err}
+use Rattle.std.specs.Prelude.{◌≡◌, ℕ, ℤ, pos, zero, suc, ◌+◌, ◌-◌, ◌*◌, ◌==◌, Bool, true, false, ◌&&◌, not, nat_le, List, [], ◌∷◌, length}
+use Rattle.std.specs.Prelude.{take, drop, if◌then◌else◌, Option, Some, None, option_map, unwrap_or, Result, Ok, Err}
+use Rattle.std.specs.List.{position}
 use Rattle.std.specs.Str.{is_utf8}
 use lib.IntN.{neg_ℤ}
 use Rattle.attr_types.specs.declared.value.Value.{Value}
 use Rattle.attr_types.specs.declared.value.Value.TheVariants as values
 use Rattle.attr_types.specs.declared.query.Leaf.{Leaf}
 use Rattle.attr_types.specs.declared.query.Leaf.TheVariants as leaves
+use Rattle.attr_types.specs.declared.field.Field.{Field}
 use Rattle.attr_types.specs.Query.{QueryTree, one, and, or, trees}
+use Rattle.attr_names.specs.Names.{begins_name, continues_name}
 use Rattle.query_text.specs.declared.read.ReadError.{ReadError}
 use Rattle.query_text.specs.declared.read.ReadError.TheVariants as errors
+use Rattle.query_text.specs.Grammar.{number_of}
 use Rattle.query_text.specs.Modes.{is_digit, capped}
 use Rattle.query_text.specs.Survey.{is_long_size}
 
@@ -154,16 +159,40 @@ unfoldable pub list_front : (List ℕ → Option (QueryTree × List ℕ)) → �
 list_front member zero bytes = None
 list_front member (suc n) bytes = listed (member bytes) (list_front member n)
 
-abbrev pub query_by : Option (List ℕ) → Option (List ℕ) → (List ℕ → Option (QueryTree × List ℕ)) → List ℕ → Option (QueryTree × List ℕ)
-query_by (Some rest) disjunction member bytes = option_map (λ found. (and (trees found.0), found.1)) (list_front member (length rest) rest)
-query_by None (Some rest) member bytes = option_map (λ found. (or (trees found.0), found.1)) (list_front member (length rest) rest)
-query_by None None member bytes = option_map (λ found. (one 0 found.0, found.1)) (leaf_front bytes)
+abbrev pub ends_name : ℕ → Bool
+ends_name byte = not (continues_name byte)
+
+-- where the letters of a name end
+abbrev pub name_end : List ℕ → ℕ
+name_end bytes = unwrap_or (position ends_name bytes) (length bytes)
+
+abbrev pub name_at_front : List ℕ → List ℕ
+name_at_front bytes = take (name_end bytes) bytes
+
+abbrev pub begins_so : List ℕ → Bool
+begins_so [] = false
+begins_so (byte ∷ rest) = begins_name byte
+
+-- what follows the name at the front and its `:`
+unfoldable pub after_name : List ℕ → Option (List ℕ)
+after_name bytes = if begins_so bytes then after_byte 58 (drop (name_end bytes) bytes) else None
+
+-- the leaf at the front, which speaks of this attribute
+abbrev pub leaf_of_field : ℕ → List ℕ → Option (QueryTree × List ℕ)
+leaf_of_field field bytes = option_map (λ found. (one field found.0, found.1)) (leaf_front bytes)
+
+abbrev pub query_by : List Field → Option (List ℕ) → Option (List ℕ) → Option (List ℕ) → (List ℕ → Option (QueryTree × List ℕ)) → List ℕ
+    → Option (QueryTree × List ℕ)
+query_by fields (Some rest) conjunction disjunction member bytes = leaf_of_field (number_of fields (Some (name_at_front bytes))) rest
+query_by fields None (Some rest) disjunction member bytes = option_map (λ found. (and (trees found.0), found.1)) (list_front member (length rest) rest)
+query_by fields None None (Some rest) member bytes = option_map (λ found. (or (trees found.0), found.1)) (list_front member (length rest) rest)
+query_by fields None None None member bytes = leaf_of_field 0 bytes
 
 -- a query whose members are read so
-unfoldable pub query_with : (List ℕ → Option (QueryTree × List ℕ)) → List ℕ → Option (QueryTree × List ℕ)
-query_with member bytes = query_by (and_front bytes) (or_front bytes) member bytes
+unfoldable pub query_with : List Field → (List ℕ → Option (QueryTree × List ℕ)) → List ℕ → Option (QueryTree × List ℕ)
+query_with fields member bytes = query_by fields (after_name bytes) (and_front bytes) (or_front bytes) member bytes
 
 -- a query of so many levels at most
-unfoldable pub query_front : ℕ → List ℕ → Option (QueryTree × List ℕ)
-query_front zero bytes = None
-query_front (suc n) bytes = query_with (query_front n) bytes
+unfoldable pub query_front : List Field → ℕ → List ℕ → Option (QueryTree × List ℕ)
+query_front fields zero bytes = None
+query_front fields (suc n) bytes = query_with fields (query_front fields n) bytes

@@ -1,12 +1,17 @@
--- What a text has shown after each of its bytes.
-use Rattle.std.specs.Prelude.{ℕ, ◌+◌, ◌-◌, ◌^◌, ◌==◌, Bool, true, false, ◌&&◌, nat_lt, nat_le, max, List, [], ◌∷◌, if◌then◌else◌, Option, Some, None, option_map, Result, Ok, Err}
+-- What the text of a query has shown after each of its bytes.
+use Rattle.std.specs.Prelude.{ℕ, ◌+◌, ◌-◌, ◌^◌, ◌==◌, Bool, true, false, ◌&&◌, nat_lt, nat_le, max, List, take, drop}
+use Rattle.std.specs.Prelude.{Option, Some, None, option_map, unwrap_or, Result}
 use Rattle.attr_types.specs.declared.kind.ValueType.{ValueType}
 use Rattle.attr_types.specs.declared.kind.ValueType.TheVariants as types
+use Rattle.attr_types.specs.declared.field.Field.{Field}
+use Rattle.attr_names.specs.Names.{field_named}
 use Rattle.query_text.specs.declared.mode.Role.{Role}
 use Rattle.query_text.specs.declared.mode.Role.TheVariants as roles
 use Rattle.query_text.specs.declared.mode.Mode.{Mode}
 use Rattle.query_text.specs.declared.mode.Mode.TheVariants as modes
 use Rattle.query_text.specs.declared.survey.Survey.{Survey}
+use Rattle.query_text.specs.Grammar.{type_at, first_of, unknown_if}
+use Rattle.query_text.specs.Machine.{run_from}
 use Rattle.query_text.specs.Modes.{next_mode}
 
 abbrev pub wants_long : ValueType → Bool
@@ -40,21 +45,60 @@ depth_after depth modes.Opened = depth + 1
 depth_after depth modes.Closed = depth - 1
 depth_after depth _ = depth
 
-abbrev pub start : Survey
-start = record { mode = modes.Start; depth = 0; levels = 1; right = true; small = true }
+-- where the query begins that is read after the byte at this place
+abbrev pub begins_after : ℕ → ℕ → Mode → ℕ
+begins_after begins place modes.Start = place + 1
+begins_after begins place modes.Opened = place + 1
+begins_after begins place _ = begins
 
-abbrev pub entered : ValueType → Survey → Mode → Survey
-entered value survey mode = record {
+-- the attribute that a leaf speaks of, by the name before it; one without a name speaks of attribute 0
+abbrev pub found_at : List Field → List ℕ → Mode → Option ℕ
+found_at fields name modes.Named = field_named fields name
+found_at fields name _ = Some 0
+
+-- the type of the values of the leaf that is read next
+abbrev pub wanted_after : List Field → ValueType → Mode → Option ℕ → ValueType
+wanted_after fields wanted modes.Start found = type_at fields 0
+wanted_after fields wanted modes.Opened found = type_at fields 0
+wanted_after fields wanted modes.Named found = type_at fields (unwrap_or found 0)
+wanted_after fields wanted _ found = wanted
+
+abbrev pub start : List Field → Survey
+start fields = record {
+  mode = modes.Start;
+  depth = 0;
+  levels = 1;
+  begins = 0;
+  wanted = type_at fields 0;
+  unknown = None;
+  right = true;
+  small = true;
+}
+
+-- what stands before this place of the query that is being read
+abbrev pub name_before : List ℕ → ℕ → ℕ → List ℕ
+name_before text begins place = take (place - begins) (drop begins text)
+
+abbrev pub entered_by : List Field → Survey → ℕ → Mode → Option ℕ → Survey
+entered_by fields survey place mode found = record {
   mode = mode;
   depth = depth_after survey.depth mode;
   levels = max survey.levels (depth_after survey.depth mode + 1);
-  right = survey.right && is_right value mode;
+  begins = begins_after survey.begins place mode;
+  wanted = wanted_after fields survey.wanted mode found;
+  unknown = first_of survey.unknown (unknown_if survey.begins found);
+  right = survey.right && is_right survey.wanted mode;
   small = survey.small && is_in_size mode;
 }
 
--- after one more byte, where some query goes on so
-abbrev pub surveyed_after : ValueType → Survey → ℕ → Option Survey
-surveyed_after value survey byte = option_map (entered value survey) (next_mode (nat_lt 0 survey.depth) survey.mode byte)
+abbrev pub entered : List Field → List ℕ → Survey → ℕ → Mode → Survey
+entered fields text survey place mode =
+    entered_by fields survey place mode (found_at fields (name_before text survey.begins place) mode)
+
+-- after the byte at this place, where some query goes on so
+abbrev pub surveyed_after : List Field → List ℕ → Survey → ℕ → ℕ → Option Survey
+surveyed_after fields text survey place byte =
+    option_map (entered fields text survey place) (next_mode (nat_lt 0 survey.depth) survey.mode byte)
 
 abbrev pub ends_value : Role → Bool
 ends_value roles.Alone = true
@@ -73,14 +117,6 @@ ends_query _ = false
 abbrev pub is_complete : Survey → Bool
 is_complete survey = (survey.depth == 0) && ends_query survey.mode
 
-abbrev pub on_next : {X : Type 0} → Option Survey → (Survey → Result X ℕ) → ℕ → Result X ℕ
-on_next None go place = Err place
-on_next (Some survey) go place = go survey
-
--- from a place on, the survey of the whole text, or the place where no query goes on
-unfoldable pub surveyed_from : ValueType → Survey → ℕ → List ℕ → Result Survey ℕ
-surveyed_from value survey place [] = if is_complete survey then Ok survey else Err place
-surveyed_from value survey place (byte ∷ rest) = on_next (surveyed_after value survey byte) (λ next. surveyed_from value next (place + 1) rest) place
-
-abbrev pub surveyed : ValueType → List ℕ → Result Survey ℕ
-surveyed value text = surveyed_from value start 0 text
+-- the survey of the whole text, or the place where no query goes on
+abbrev pub surveyed : List Field → List ℕ → Result Survey ℕ
+surveyed fields text = run_from (surveyed_after fields text) is_complete (start fields) 0 text

@@ -1,58 +1,85 @@
-ghost use Rattle.std.specs.Prelude.{◌≡◌, ◌≤◌, ◌<◌, ◌^◌, IfSome, length, option_map, slice_get};
-ghost use Rattle.query_text.specs.AskReading.{after_name};
-ghost use Rattle.query_text.specs.Asks.{hits_in, hits_checked, head_by, named_head, dot_head, dot_front, is_weighted, is_weighted_kind};
-ghost use Rattle.query_text.specs.Asks.{parts_behind, dot_in, dot_checked, ask_of, AsksAs};
-ghost use Rattle.query_text.specs.Reading.{Finds};
+ghost use Rattle.std.specs.Prelude.{◌≡◌, ◌<◌, ◌^◌, length, slice_get, true};
+ghost use Rattle.query_text.specs.Asks.{hits_checked, hits_judged, query_of, dot_checked, dot_judged, dot_if, ask_of, ParsesAs, AsksAs};
+ghost use Rattle.query_text.specs.Dot.{dot_surveyed};
+ghost use Rattle.query_text.specs.Grammar.{is_weighted, is_weighted_kind, AnswersAs, AnswersQuery};
+ghost use Rattle.query_text.specs.Laws.{ReadsByGrammar, AnswersOnce, AsksOneThing, ReadsBack};
 
-use crate::ask::read::{after_name, ask_query_in, name_end};
-use crate::ask::survey::{AskSurvey, ask_survey_of, type_at};
 use crate::dot::read::parts_in;
 use crate::dot::survey::{DotSurvey, dot_survey_of};
-use crate::read::{ReadError, after};
-use attr_names::{field_named, is_name};
-use attr_scores::{Ask, Parts};
-use attr_types::{Field, Kind, QueryError};
+use crate::list::query_in;
+use crate::read::ReadError;
+use crate::survey::{Survey, survey_of};
+use attr_scores::Ask;
+use attr_types::{Field, Kind, Query, QueryError};
 use std::alloc::Global;
 
 /// How many levels a query has at most. A leaf has one level.
 const MAX_LEVELS: u32 = 32;
 
-/// The number of the attribute that a dot product speaks of, if there is one, and the offset at which `dot` begins.
-#[derive(Clone, Copy, Debug, PartialEq, Eq)]
-struct DotHead {
-    number: Option<usize>,
-    begins: usize,
+/// The query that a text is, over these attributes. A leaf without a name speaks of attribute 0.
+///
+/// A text that is no query, or not such a one, is refused by the first of `Syntax`, `NoField`, `WrongType`,
+/// `OutOfRange` and `TooDeep` that holds of the whole text.
+pub fn parse_query(alloc: Global, text: &str, fields: &[Field]) -> Result<Query, QueryError>
+    requires { length fields.now < 2 ^ 32 }
+    ensures says { ParsesAs result (query_of fields.now text.now) }
+    ensures grammar { AnswersQuery fields.now text.now result }
+{
+    read_query(alloc, text, fields)
+}
+
+#[tactic(auto, unfolding(crate::specs::Asks::query_of))]
+fn read_query(alloc: Global, text: &str, fields: &[Field]) -> Result<Query, QueryError>
+    requires { length fields.now < 2 ^ 32 }
+    ensures { ParsesAs result (query_of fields.now text.now) }
+{
+    match survey_of(text.as_bytes(), fields) {
+        Ok(survey) => hits_judged(alloc, fields, text.as_bytes(), survey),
+        Err(place) => Err(QueryError::Syntax { place }),
+    }
 }
 
 /// What a text asks for of these attributes: the documents that a query matches, or a dot product.
 ///
 /// A text that asks for nothing is refused by the first of `Syntax`, `NoField`, `WrongType`, `OutOfRange` and
 /// `TooDeep` that holds of the whole text. A leaf or a dot product without a name speaks of attribute 0.
-#[tactic(auto, unfolding(crate::specs::Asks::ask_of))]
 pub fn parse_ask(alloc: Global, text: &str, fields: &[Field]) -> Result<Ask, QueryError>
     requires { length fields.now < 2 ^ 32 }
     ensures says { AsksAs result (ask_of fields.now text.now) }
+    ensures grammar { AnswersAs fields.now text.now result }
 {
-    match dot_head(fields, text.as_bytes()) {
-        Some(head) => dot_in(alloc, fields, text.as_bytes(), head),
-        None => hits_in(alloc, fields, text),
+    read_ask(alloc, text, fields)
+}
+
+#[tactic(auto, unfolding(crate::specs::Asks::ask_of))]
+fn read_ask(alloc: Global, text: &str, fields: &[Field]) -> Result<Ask, QueryError>
+    requires { length fields.now < 2 ^ 32 }
+    ensures { AsksAs result (ask_of fields.now text.now) }
+{
+    match survey_of(text.as_bytes(), fields) {
+        Ok(survey) => match hits_judged(alloc, fields, text.as_bytes(), survey) {
+            Ok(query) => Ok(Ask::Hits(query)),
+            Err(error) => Err(error),
+        },
+        Err(place) => dot_or_refused(alloc, fields, text.as_bytes(), place),
     }
 }
 
 /// The query of a text.
-#[tactic(auto, unfolding(crate::specs::Asks::hits_in))]
-fn hits_in(alloc: Global, fields: &[Field], text: &str) -> Result<Ask, QueryError>
+fn hits_judged(
+    alloc: Global,
+    fields: &[Field],
+    text: &[u8],
+    survey: Survey,
+) -> Result<Query, QueryError>
     requires { length fields.now < 2 ^ 32 }
-    ensures { AsksAs result (hits_in fields.now text.now) }
+    ensures { ParsesAs result (hits_judged fields.now text.now survey) }
 {
-    match ask_survey_of(text.as_bytes(), fields) {
-        Ok(survey) => match survey.unknown {
-            Some(place) => Err(QueryError::NoField {
-                place: place as u64,
-            }),
-            None => hits_checked(alloc, fields, text, survey),
-        },
-        Err(place) => Err(QueryError::Syntax { place }),
+    match survey.unknown {
+        Some(place) => Err(QueryError::NoField {
+            place: place as u64,
+        }),
+        None => hits_checked(alloc, fields, text, survey),
     }
 }
 
@@ -60,11 +87,11 @@ fn hits_in(alloc: Global, fields: &[Field], text: &str) -> Result<Ask, QueryErro
 fn hits_checked(
     alloc: Global,
     fields: &[Field],
-    text: &str,
-    survey: AskSurvey,
-) -> Result<Ask, QueryError>
+    text: &[u8],
+    survey: Survey,
+) -> Result<Query, QueryError>
     requires { length fields.now < 2 ^ 32 }
-    ensures { AsksAs result (hits_checked fields.now text.now survey) }
+    ensures { ParsesAs result (hits_checked fields.now text.now survey) }
 {
     if !survey.right {
         return Err(QueryError::WrongType);
@@ -75,8 +102,8 @@ fn hits_checked(
     if survey.levels > u64::from(MAX_LEVELS) {
         return Err(QueryError::TooDeep);
     }
-    match ask_query_in(alloc, fields, text.as_bytes(), MAX_LEVELS) {
-        Ok((query, _)) => Ok(Ask::Hits(query)),
+    match query_in(alloc, fields, text, MAX_LEVELS) {
+        Ok((query, _)) => Ok(query),
         Err(ReadError::NotRead) => Err(QueryError::Syntax {
             place: text.len() as u64,
         }),
@@ -84,55 +111,21 @@ fn hits_checked(
     }
 }
 
-/// What follows `dot(`.
-#[tactic(auto, unfolding(crate::specs::Asks::dot_front))]
-fn after_dot(bytes: &[u8]) -> Option<&[u8]>
-    ensures { option_map (λ rest. rest.now) result ≡ dot_front bytes.now }
+/// The dot product of a text that stops being a query at this place.
+fn dot_or_refused(
+    alloc: Global,
+    fields: &[Field],
+    text: &[u8],
+    place: u64,
+) -> Result<Ask, QueryError>
+    requires { length fields.now < 2 ^ 32 }
+    ensures { AsksAs result (dot_if fields.now text.now place (dot_surveyed fields.now text.now)) }
 {
-    let rest = after(b'd', bytes)?;
-    let rest = after(b'o', rest)?;
-    let rest = after(b't', rest)?;
-    after(b'(', rest)
-}
-
-fn head_by(fields: &[Field], text: &[u8], begins: bool, rest: &[u8]) -> Option<DotHead>
-    ensures value { result ≡ head_by fields.now text.now begins rest.now }
-    ensures inside { IfSome result (λ head. head.begins ≤ length text.now) }
-    ensures known { IfSome result (λ head. IfSome head.number (λ number. number ≤ length fields.now)) }
-{
-    if !begins {
-        return None;
-    }
-    Some(DotHead {
-        number: field_named(fields, &text[..name_end(text)]),
-        begins: text.len().saturating_sub(rest.len()),
-    })
-}
-
-/// The dot product of the attribute that is named at the front, where a `d` follows the name.
-fn named_head(fields: &[Field], text: &[u8]) -> Option<DotHead>
-    ensures value { result ≡ named_head fields.now text.now (after_name text.now) }
-    ensures inside { IfSome result (λ head. head.begins ≤ length text.now) }
-    ensures known { IfSome result (λ head. IfSome head.number (λ number. number ≤ length fields.now)) }
-{
-    let rest = after_name(text)?;
-    let begins = is_name(&text[..name_end(text)]) && after(b'd', rest).is_some();
-    head_by(fields, text, begins, rest)
-}
-
-/// The dot product that begins a text.
-#[tactic(auto, unfolding(crate::specs::Asks::dot_head))]
-fn dot_head(fields: &[Field], text: &[u8]) -> Option<DotHead>
-    ensures value { result ≡ dot_head fields.now text.now }
-    ensures inside { IfSome result (λ head. head.begins ≤ length text.now) }
-    ensures known { IfSome result (λ head. IfSome head.number (λ number. number ≤ length fields.now)) }
-{
-    match after_dot(text) {
-        Some(_) => Some(DotHead {
-            number: Some(0),
-            begins: 0,
+    match dot_survey_of(text, fields) {
+        Ok(survey) => dot_judged(alloc, fields, text, survey),
+        Err(other) => Err(QueryError::Syntax {
+            place: place.max(other),
         }),
-        None => named_head(fields, text),
     }
 }
 
@@ -147,7 +140,8 @@ fn is_weighted_kind(kind: Kind) -> bool
 
 /// Whether the attribute with a number is there, and a weighted set.
 fn is_weighted(fields: &[Field], number: usize) -> bool
-    ensures { result ≡ is_weighted (slice_get fields.now number) }
+    ensures value { result ≡ is_weighted (slice_get fields.now number) }
+    ensures inside { result ≡ true → number < length fields.now }
 {
     match fields.get(number) {
         Some(field) => is_weighted_kind(field.kind),
@@ -155,44 +149,32 @@ fn is_weighted(fields: &[Field], number: usize) -> bool
     }
 }
 
-fn parts_behind(alloc: Global, bytes: &[u8]) -> Result<Parts, ReadError>
-    ensures { Finds (λ parts. parts) result (parts_behind (dot_front bytes.now)) }
+/// The dot product of a text.
+fn dot_judged(
+    alloc: Global,
+    fields: &[Field],
+    text: &[u8],
+    survey: DotSurvey,
+) -> Result<Ask, QueryError>
+    requires { length fields.now < 2 ^ 32 }
+    ensures { AsksAs result (dot_judged fields.now text.now survey.found survey) }
 {
-    match after_dot(bytes) {
-        Some(rest) => parts_in(alloc, rest),
-        None => Err(ReadError::NotRead),
+    match survey.found {
+        Some(number) => dot_checked(alloc, fields, text, number, survey),
+        None => Err(QueryError::NoField { place: 0 }),
     }
 }
 
-/// The dot product that begins there.
-#[tactic(auto, unfolding(crate::specs::Asks::dot_in))]
-fn dot_in(alloc: Global, fields: &[Field], text: &[u8], head: DotHead) -> Result<Ask, QueryError>
-    requires inside { head.begins ≤ length text.now }
-    requires known { IfSome head.number (λ number. number < 2 ^ 32) }
-    ensures { AsksAs result (dot_in fields.now text.now head) }
-{
-    let wanted = type_at(fields, head.number.unwrap_or(0));
-    match dot_survey_of(&text[head.begins..], head.begins, wanted) {
-        Ok(survey) => match head.number {
-            Some(number) => dot_checked(alloc, fields, text, head.begins, number, survey),
-            None => Err(QueryError::NoField { place: 0 }),
-        },
-        Err(place) => Err(QueryError::Syntax { place }),
-    }
-}
-
-/// The dot product over an attribute that is there.
+/// The dot product over the attribute with a number.
 fn dot_checked(
     alloc: Global,
     fields: &[Field],
     text: &[u8],
-    begins: usize,
     number: usize,
     survey: DotSurvey,
 ) -> Result<Ask, QueryError>
-    requires inside { begins ≤ length text.now }
-    requires known { number < 2 ^ 32 }
-    ensures { AsksAs result (dot_checked fields.now text.now begins number survey) }
+    requires { length fields.now < 2 ^ 32 }
+    ensures { AsksAs result (dot_checked fields.now text.now number survey) }
 {
     if !is_weighted(fields, number) {
         return Err(QueryError::WrongType);
@@ -203,7 +185,7 @@ fn dot_checked(
     if !survey.small {
         return Err(QueryError::OutOfRange);
     }
-    match parts_behind(alloc, &text[begins..]) {
+    match parts_in(alloc, text) {
         Ok(parts) => Ok(Ask::Dot {
             field: number as u32,
             parts,
@@ -214,3 +196,12 @@ fn dot_checked(
         Err(ReadError::Memory) => Err(QueryError::Memory),
     }
 }
+
+/// The grammar answers one thing of each text, and that is what is read. Each word that has a text is read
+/// as what it asks, or as the first of its refusals.
+pub fn grammar_law()
+    ensures reads { ReadsByGrammar }
+    ensures once { AnswersOnce }
+    ensures one { AsksOneThing }
+    ensures back { ReadsBack }
+{}

@@ -1,9 +1,13 @@
-ghost use Rattle.std.specs.Prelude.{◌≡◌, length, map, option_map};
+ghost use Rattle.std.specs.Prelude.{◌≡◌, ◌≤◌, ◌<◌, ◌^◌, length, map, option_map, Some};
 ghost use Rattle.attr_types.specs.Query.{tree_of};
-ghost use Rattle.query_text.specs.Reading.{Finds, and_front, or_front, mark_front, list_front, query_with, query_front};
+ghost use Rattle.query_text.specs.Grammar.{number_of};
+ghost use Rattle.query_text.specs.Reading.{Finds, and_front, or_front, mark_front, list_front, name_at_front, leaf_of_field};
+ghost use Rattle.query_text.specs.Reading.{query_with, query_front};
 
+use crate::name::{after_name, name_at_front};
 use crate::read::{ReadError, after, leaf_in};
-use attr_types::{Queries, Query};
+use attr_names::field_named;
+use attr_types::{Field, Queries, Query};
 use std::alloc::Global;
 
 /// What follows `and(` at the front.
@@ -38,46 +42,89 @@ pub fn mark_in(bytes: &[u8]) -> Option<(bool, &[u8])>
     }
 }
 
+/// The number of the attribute that is named at the front.
+fn named_at_front(fields: &[Field], bytes: &[u8]) -> usize
+    ensures value { result ≡ number_of fields.now (Some (name_at_front bytes.now)) }
+    ensures inside { result ≤ length fields.now }
+{
+    field_named(fields, name_at_front(bytes)).unwrap_or(0)
+}
+
+/// The leaf at the front, which speaks of this attribute.
+fn leaf_of_field(alloc: Global, field: usize, bytes: &[u8]) -> Result<(Query, &[u8]), ReadError>
+    requires { field < 2 ^ 32 }
+    ensures { Finds (λ found. (tree_of found.0, found.1.now)) result (leaf_of_field field bytes.now) }
+{
+    let (leaf, rest) = leaf_in(alloc, bytes)?;
+    Ok((
+        Query::One {
+            field: field as u32,
+            leaf,
+        },
+        rest,
+    ))
+}
+
 /// The query at the front, where it has so many levels at most.
 #[cycle(query)]
-pub fn query_in(alloc: Global, bytes: &[u8], levels: u32) -> Result<(Query, &[u8]), ReadError>
-    ensures { Finds (λ found. (tree_of found.0, found.1.now)) result (query_front levels bytes.now) }
+pub fn query_in<'a>(
+    alloc: Global,
+    fields: &[Field],
+    bytes: &'a [u8],
+    levels: u32,
+) -> Result<(Query, &'a [u8]), ReadError>
+    requires { length fields.now < 2 ^ 32 }
+    ensures { Finds (λ found. (tree_of found.0, found.1.now)) result (query_front fields.now levels bytes.entry.now) }
 {
     if levels == 0 {
         return Err(ReadError::NotRead);
     }
-    query_with(alloc, bytes, levels - 1)
+    query_with(alloc, fields, bytes, levels - 1)
 }
 
 /// The query at the front, where its members have so many levels at most.
 #[cycle(query)]
 #[tactic(auto, unfolding(crate::specs::Reading::query_with))]
-fn query_with(alloc: Global, bytes: &[u8], levels: u32) -> Result<(Query, &[u8]), ReadError>
+fn query_with<'a>(
+    alloc: Global,
+    fields: &[Field],
+    bytes: &'a [u8],
+    levels: u32,
+) -> Result<(Query, &'a [u8]), ReadError>
+    requires { length fields.now < 2 ^ 32 }
     ensures { Finds (λ found. (tree_of found.0, found.1.now)) result
-        (query_with (query_front levels) bytes.now) }
+        (query_with fields.now (query_front fields.now levels) bytes.entry.now) }
 {
+    if let Some(rest) = after_name(bytes) {
+        return leaf_of_field(alloc, named_at_front(fields, bytes), rest);
+    }
     if let Some(rest) = after_and(bytes) {
-        let (list, rest) = list_in(alloc, rest, levels)?;
+        let (list, rest) = list_in(alloc, fields, rest, levels)?;
         return Ok((Query::And(list), rest));
     }
     if let Some(rest) = after_or(bytes) {
-        let (list, rest) = list_in(alloc, rest, levels)?;
+        let (list, rest) = list_in(alloc, fields, rest, levels)?;
         return Ok((Query::Or(list), rest));
     }
-    let (leaf, rest) = leaf_in(alloc, bytes)?;
-    Ok((Query::One { field: 0, leaf }, rest))
+    leaf_of_field(alloc, 0, bytes)
 }
 
 /// The members of the list whose bracket was opened, each of so many levels at most.
 #[cycle(query)]
-fn list_in(alloc: Global, bytes: &[u8], levels: u32) -> Result<(Queries, &[u8]), ReadError>
+fn list_in<'a>(
+    alloc: Global,
+    fields: &[Field],
+    bytes: &'a [u8],
+    levels: u32,
+) -> Result<(Queries, &'a [u8]), ReadError>
+    requires { length fields.now < 2 ^ 32 }
     ensures { Finds (λ found. (map tree_of found.0.items, found.1.now)) result
-        (list_front (query_front levels) (length bytes.now) bytes.now) }
+        (list_front (query_front fields.now levels) (length bytes.entry.now) bytes.entry.now) }
 {
     let mut list = Vec::new(alloc);
     let mut rest = bytes;
     for _count in 0..bytes.len() {
-        let (member, next) = match query_in(alloc, rest, levels) {
+        let (member, next) = match query_in(alloc, fields, rest, levels) {
             Ok(found) => found,
             Err(error) => return Err(error),
         };

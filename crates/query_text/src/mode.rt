@@ -1,5 +1,11 @@
 ghost use Rattle.std.specs.Prelude.{◌≡◌};
-ghost use Rattle.query_text.specs.Modes.{is_digit, number_begun, text_begun, value_begun, query_begun, query_ended, number_ended, quoted_next, minus_next, number_next, text_next, escape_next, low_next, high_next, high_number_next, high_text_next, letter_next, next_mode};
+ghost use Rattle.query_text.specs.Modes.{is_digit, number_begun, text_begun, value_begun, leaf_begun, query_begun, query_ended};
+ghost use Rattle.query_text.specs.Modes.{number_ended};
+ghost use Rattle.query_text.specs.Modes.{spell_begun, spell_next, opens_list, name_next, quoted_next, minus_next, number_next};
+ghost use Rattle.query_text.specs.Modes.{text_next, escape_next};
+ghost use Rattle.query_text.specs.Modes.{low_next, high_next, high_number_next, high_text_next, letter_next, next_mode};
+
+use attr_names::{begins_name, continues_name};
 
 /// What the value that is being read is in its leaf.
 #[derive(Clone, Copy, Debug, PartialEq, Eq)]
@@ -14,21 +20,32 @@ pub enum Role {
     High,
 }
 
-/// Where the text stands between two of its bytes.
+/// What the letters of a name so far are.
+#[derive(Clone, Copy, Debug, PartialEq, Eq)]
+pub enum Spell {
+    A,
+    An,
+    And,
+    O,
+    Or,
+    D,
+    Do,
+    Dot,
+    /// A name alone.
+    Other,
+}
+
+/// Where the text of a query stands between two of its bytes.
 #[derive(Clone, Copy, Debug, PartialEq, Eq)]
 pub enum Mode {
     /// Before a query: at the front, or after a comma.
     Start,
     /// After the `(` of a list.
     Opened,
-    /// After `a`.
-    A,
-    /// After `an`.
-    An,
-    /// After `o`.
-    O,
-    /// After `and` or `or`.
-    Word,
+    /// In a name, or in the word of a list.
+    Name(Spell),
+    /// After the `:` of a name.
+    Named,
     /// After `<` or `>`.
     Bound,
     /// After `[`.
@@ -55,6 +72,43 @@ pub enum Mode {
     Closed,
 }
 
+impl Spell {
+    pub fn begun(byte: u8) -> Spell
+        ensures { result ≡ spell_begun byte }
+    {
+        match byte {
+            b'a' => Spell::A,
+            b'o' => Spell::O,
+            b'd' => Spell::D,
+            _ => Spell::Other,
+        }
+    }
+
+    pub fn next(self, byte: u8) -> Spell
+        ensures { result ≡ spell_next self byte }
+    {
+        match self {
+            Spell::A if byte == b'n' => Spell::An,
+            Spell::An if byte == b'd' => Spell::And,
+            Spell::O if byte == b'r' => Spell::Or,
+            Spell::D if byte == b'o' => Spell::Do,
+            Spell::Do if byte == b't' => Spell::Dot,
+            Spell::A | Spell::An | Spell::O | Spell::D | Spell::Do => Spell::Other,
+            Spell::And | Spell::Or | Spell::Dot | Spell::Other => Spell::Other,
+        }
+    }
+
+    fn opens_list(self) -> bool
+        ensures { result ≡ opens_list self }
+    {
+        match self {
+            Spell::And | Spell::Or => true,
+            Spell::A | Spell::An | Spell::O | Spell::D => false,
+            Spell::Do | Spell::Dot | Spell::Other => false,
+        }
+    }
+}
+
 impl Mode {
     /// The mode after one more byte, where some query goes on so. `nested` says that a bracket is
     /// open.
@@ -64,10 +118,8 @@ impl Mode {
     {
         match self {
             Mode::Start | Mode::Opened => query_begun(byte),
-            Mode::A => letter_next(b'n', Mode::An, byte),
-            Mode::An => letter_next(b'd', Mode::Word, byte),
-            Mode::O => letter_next(b'r', Mode::Word, byte),
-            Mode::Word => letter_next(b'(', Mode::Opened, byte),
+            Mode::Name(spell) => name_next(spell, byte),
+            Mode::Named => leaf_begun(byte),
             Mode::Bound => value_begun(Role::Bound, byte),
             Mode::Low => low_next(byte),
             Mode::High => high_next(byte),
@@ -127,19 +179,39 @@ pub fn value_begun(role: Role, byte: u8) -> Option<Mode>
     }
 }
 
-fn query_begun(byte: u8) -> Option<Mode>
-    ensures { result ≡ query_begun byte }
+fn leaf_begun(byte: u8) -> Option<Mode>
+    ensures { result ≡ leaf_begun byte }
 {
-    if byte == b'a' {
-        Some(Mode::A)
-    } else if byte == b'o' {
-        Some(Mode::O)
-    } else if byte == b'[' {
+    if byte == b'[' {
         Some(Mode::Low)
     } else if byte == b'<' || byte == b'>' {
         Some(Mode::Bound)
     } else {
         value_begun(Role::Alone, byte)
+    }
+}
+
+fn query_begun(byte: u8) -> Option<Mode>
+    ensures { result ≡ query_begun byte }
+{
+    if begins_name(byte) {
+        Some(Mode::Name(Spell::begun(byte)))
+    } else {
+        leaf_begun(byte)
+    }
+}
+
+fn name_next(spell: Spell, byte: u8) -> Option<Mode>
+    ensures { result ≡ name_next spell byte }
+{
+    if continues_name(byte) {
+        Some(Mode::Name(spell.next(byte)))
+    } else if byte == b':' {
+        Some(Mode::Named)
+    } else if spell.opens_list() && byte == b'(' {
+        Some(Mode::Opened)
+    } else {
+        None
     }
 }
 

@@ -1,7 +1,8 @@
 ghost use Rattle.std.specs.Prelude.{◌≡◌, ◌≤◌, length, option_map, true, false, Some, None, if◌then◌else◌};
 ghost use Rattle.query_text.specs.Modes.{is_digit};
 ghost use Rattle.query_text.specs.Survey.{is_long_size};
-ghost use Rattle.query_text.specs.Reading.{Finds, after_byte, digits_front, signed, number_front, bytes_front, is_short_text, text_front, value_front, end_front, range_front, whole_front, leaf_front};
+ghost use Rattle.query_text.specs.Reading.{Finds, after_byte, digits_front, signed, number_front, bytes_front, is_short_text};
+ghost use Rattle.query_text.specs.Reading.{text_front, value_front, end_front, range_front, whole_front, leaf_front};
 ghost use Rattle.query_text.specs.declared.read.ReadError.TheVariants as errors;
 
 use crate::mode::is_digit;

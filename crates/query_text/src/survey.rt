@@ -1,8 +1,11 @@
 ghost use Rattle.std.specs.Prelude.{◌≡◌, ◌<◌, ◌≤◌, ◌^◌, ◌+◌, IfSome, length};
-ghost use Rattle.query_text.specs.Survey.{is_right, is_in_size, ends_value, ends_query, is_complete, depth_after, start, entered, surveyed_after, surveyed};
+ghost use Rattle.query_text.specs.Grammar.{type_at, first_of, unknown_if};
+ghost use Rattle.query_text.specs.Survey.{is_right, is_in_size, ends_value, ends_query, is_complete, depth_after, begins_after, found_at};
+ghost use Rattle.query_text.specs.Survey.{wanted_after, start, name_before, entered_by, entered, surveyed_after, surveyed};
 
 use crate::mode::{Mode, Role};
-use attr_types::ValueType;
+use attr_names::field_named;
+use attr_types::{Field, ValueType};
 
 /// What the front of a text has shown.
 #[derive(Clone, Copy, Debug, PartialEq, Eq)]
@@ -12,50 +15,134 @@ pub struct Survey {
     pub depth: u64,
     /// How many levels its queries have.
     pub levels: u64,
-    /// Whether all values are of the type that was asked for.
+    /// The offset at which the query begins that is being read.
+    pub begins: usize,
+    /// The type of the values of the leaf that is being read.
+    pub wanted: ValueType,
+    /// The offset at which the first name begins that is none of the attributes.
+    pub unknown: Option<usize>,
+    /// Whether all values are of the types of their attributes.
     pub right: bool,
     /// Whether all numbers and texts are in range.
     pub small: bool,
 }
 
+/// The type of the values of the attribute with a number.
+pub fn type_at(fields: &[Field], number: usize) -> ValueType
+    ensures { result ≡ type_at fields.now number }
+{
+    match fields.get(number) {
+        Some(field) => field.value,
+        None => ValueType::Long,
+    }
+}
+
+/// The attribute that the next leaf speaks of, where a name or nothing stands before it.
+fn found_at(fields: &[Field], name: &[u8], mode: Mode) -> Option<usize>
+    ensures { result ≡ found_at fields.now name.now mode }
+{
+    match mode {
+        Mode::Named => field_named(fields, name),
+        _ => Some(0),
+    }
+}
+
+fn wanted_after(fields: &[Field], wanted: ValueType, mode: Mode, found: Option<usize>) -> ValueType
+    ensures { result ≡ wanted_after fields.now wanted mode found }
+{
+    match mode {
+        Mode::Start => type_at(fields, 0),
+        Mode::Opened => type_at(fields, 0),
+        Mode::Named => type_at(fields, found.unwrap_or(0)),
+        _ => wanted,
+    }
+}
+
+fn begins_after(begins: usize, place: usize, mode: Mode) -> usize
+    requires place { place < 2 ^ 63 }
+    requires begins { begins ≤ place }
+    ensures value { result ≡ begins_after begins place mode }
+    ensures next { result ≤ place + 1 }
+{
+    match mode {
+        Mode::Start => place + 1,
+        Mode::Opened => place + 1,
+        _ => begins,
+    }
+}
+
+fn unknown_after(unknown: Option<usize>, begins: usize, found: Option<usize>) -> Option<usize>
+    ensures { result ≡ first_of unknown (unknown_if begins found) }
+{
+    match (unknown, found) {
+        (Some(first), _) => Some(first),
+        (None, Some(_)) => None,
+        (None, None) => Some(begins),
+    }
+}
+
 impl Survey {
     /// Before the first byte.
-    pub fn start() -> Survey
-        ensures { result ≡ start }
+    pub fn start(fields: &[Field]) -> Survey
+        ensures { result ≡ start fields.now }
     {
         Survey {
             mode: Mode::Start,
             depth: 0,
             levels: 1,
+            begins: 0,
+            wanted: type_at(fields, 0),
+            unknown: None,
             right: true,
             small: true,
         }
     }
 
-    /// After a byte that leads to this mode.
-    fn entered(self, value: ValueType, mode: Mode) -> Survey
-        requires { self.depth < 2 ^ 63 }
-        ensures value { result ≡ entered value self mode }
+    fn entered_by(self, fields: &[Field], place: usize, mode: Mode, found: Option<usize>) -> Survey
+        requires deep { self.depth < 2 ^ 63 }
+        requires begins { self.begins ≤ place }
+        requires place { place < 2 ^ 63 }
+        ensures value { result ≡ entered_by fields.now self place mode found }
         ensures depth { result.depth ≤ self.depth + 1 }
+        ensures begins { result.begins ≤ place + 1 }
     {
         let depth = depth_after(self.depth, mode);
         Survey {
             mode,
             depth,
             levels: self.levels.max(depth + 1),
-            right: self.right && is_right(value, mode),
+            begins: begins_after(self.begins, place, mode),
+            wanted: wanted_after(fields, self.wanted, mode, found),
+            unknown: unknown_after(self.unknown, self.begins, found),
+            right: self.right && is_right(self.wanted, mode),
             small: self.small && is_small(mode),
         }
     }
 
-    /// After one more byte, where some query goes on so.
-    fn after(self, value: ValueType, byte: u8) -> Option<Survey>
-        requires { self.depth < 2 ^ 63 }
-        ensures value { result ≡ surveyed_after value self byte }
+    /// After the byte at this place, which leads to this mode.
+    fn entered(self, fields: &[Field], text: &[u8], place: usize, mode: Mode) -> Survey
+        requires deep { self.depth < 2 ^ 63 }
+        requires begins { self.begins ≤ place }
+        requires place { place < length text.now }
+        ensures value { result ≡ entered fields.now text.now self place mode }
+        ensures depth { result.depth ≤ self.depth + 1 }
+        ensures begins { result.begins ≤ place + 1 }
+    {
+        let found = found_at(fields, &text[self.begins..place], mode);
+        self.entered_by(fields, place, mode, found)
+    }
+
+    /// After the byte at this place, where some query goes on so.
+    fn after(self, fields: &[Field], text: &[u8], place: usize, byte: u8) -> Option<Survey>
+        requires deep { self.depth < 2 ^ 63 }
+        requires begins { self.begins ≤ place }
+        requires place { place < length text.now }
+        ensures value { result ≡ surveyed_after fields.now text.now self place byte }
         ensures depth { IfSome result (λ next. next.depth ≤ self.depth + 1) }
+        ensures begins { IfSome result (λ next. next.begins ≤ place + 1) }
     {
         let mode = self.mode.next(self.depth > 0, byte)?;
-        Some(self.entered(value, mode))
+        Some(self.entered(fields, text, place, mode))
     }
 
     /// Whether a whole query has been read.
@@ -67,12 +154,12 @@ impl Survey {
 }
 
 /// What a text shows, or the place where it stops being a query.
-pub fn survey_of(text: &str, value: ValueType) -> Result<Survey, u64>
-    ensures { result ≡ surveyed value text.now }
+pub fn survey_of(text: &[u8], fields: &[Field]) -> Result<Survey, u64>
+    ensures { result ≡ surveyed fields.now text.now }
 {
-    let mut survey = Survey::start();
-    for (place, byte) in text.as_bytes().iter().enumerate() {
-        match survey.after(value, *byte) {
+    let mut survey = Survey::start(fields);
+    for (place, byte) in text.iter().enumerate() {
+        match survey.after(fields, text, place, *byte) {
             Some(next) => survey = next,
             None => return Err(place as u64),
         }
@@ -84,7 +171,7 @@ pub fn survey_of(text: &str, value: ValueType) -> Result<Survey, u64>
     }
 }
 
-pub fn depth_after(depth: u64, mode: Mode) -> u64
+fn depth_after(depth: u64, mode: Mode) -> u64
     requires { depth < 2 ^ 63 }
     ensures value { result ≡ depth_after depth mode }
     ensures next { result ≤ depth + 1 }

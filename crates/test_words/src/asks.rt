@@ -1,5 +1,5 @@
 use attr_scores::{Ask, Part};
-use attr_types::{Field, QueryError, Value, ValueType};
+use attr_types::{Field, QueryError, Value};
 use query_text::{parse_ask, parse_query};
 use std::alloc::{AllocError, Global};
 
@@ -38,14 +38,14 @@ pub fn told(alloc: Global, text: &str, fields: &[Field]) -> Result<String, Alloc
     }
 }
 
-/// What a query without names is read as over the first attribute.
-pub fn plain_told(alloc: Global, text: &str, fields: &[Field]) -> Result<String, AllocError> {
-    let value = match fields.first() {
-        Some(field) => field.value,
-        None => ValueType::Long,
-    };
-    match parse_query(alloc, text, value) {
+/// The query that a text is, in its debug form, or its refusal.
+pub fn query_told(alloc: Global, text: &str, fields: &[Field]) -> Result<String, AllocError> {
+    if fields.len() > 8 {
+        return String::from_str(alloc, "too many attributes");
+    }
+    match parse_query(alloc, text, fields) {
         Ok(query) => format!(in alloc; "{query:?}"),
+        Err(QueryError::NoField { place }) => format!(in alloc; "NoField at {place}"),
         Err(error) => format!(in alloc; "{error}"),
     }
 }

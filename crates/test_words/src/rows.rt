@@ -1,4 +1,4 @@
-//! Rows of standard input: `words LINE`, `ask QUERY`, `plain QUERY` without names, `takes QUERY`, or
+//! Rows of standard input: `words LINE`, `ask QUERY`, `query QUERY` without dot products, `takes QUERY`, or
 //! `many COUNT FRONT MIDDLE BACK`, and then `said LINE`, what it must be read as. `on LINE` gives the words that name the attributes
 //! of the rows after it. Other lines are remarks.
 use crate::{asks, words};
@@ -22,8 +22,8 @@ pub fn compare(rt: &HostRuntime) -> io::Result<()> {
         } else if let Some(row) = line.strip_prefix("ask ") {
             found = asks::told(alloc, row, fields.as_slice())?;
             case = String::from_str(alloc, row)?;
-        } else if let Some(row) = line.strip_prefix("plain ") {
-            found = asks::plain_told(alloc, row, fields.as_slice())?;
+        } else if let Some(row) = line.strip_prefix("query ") {
+            found = asks::query_told(alloc, row, fields.as_slice())?;
             case = String::from_str(alloc, row)?;
         } else if let Some(row) = line.strip_prefix("takes ") {
             found = asks::taken_told(alloc, row, fields.as_slice())?;

@@ -1,8 +1,10 @@
-ghost use Rattle.std.specs.Prelude.{◌≡◌, length};
+ghost use Rattle.std.specs.Prelude.{◌≡◌, length, option_map};
+ghost use Rattle.query_text.specs.Asks.{dot_front, parts_behind, parts_in};
 ghost use Rattle.query_text.specs.Dot.{if_weight, part_front, parts_front};
 ghost use Rattle.query_text.specs.Reading.{Finds};
 
 use crate::list::mark_in;
+use crate::name::after_name;
 use crate::read::{ReadError, after, number_in, value_in};
 use attr_scores::{Part, Parts};
 use std::alloc::Global;
@@ -26,7 +28,7 @@ fn part_in(alloc: Global, bytes: &[u8]) -> Result<(Part, &[u8]), ReadError>
 }
 
 /// The parts up to the closing bracket.
-pub fn parts_in(alloc: Global, bytes: &[u8]) -> Result<Parts, ReadError>
+pub fn parts_up_to_end(alloc: Global, bytes: &[u8]) -> Result<Parts, ReadError>
     ensures { Finds (λ parts. parts) result (parts_front (length bytes.now) bytes.now) }
 {
     let mut parts = Parts::new(alloc);
@@ -44,4 +46,34 @@ pub fn parts_in(alloc: Global, bytes: &[u8]) -> Result<Parts, ReadError>
         }
     }
     Err(ReadError::NotRead)
+}
+
+/// What follows `dot(`.
+#[tactic(auto, unfolding(crate::specs::Asks::dot_front))]
+fn after_dot(bytes: &[u8]) -> Option<&[u8]>
+    ensures { option_map (λ rest. rest.now) result ≡ dot_front bytes.now }
+{
+    let rest = after(b'd', bytes)?;
+    let rest = after(b'o', rest)?;
+    let rest = after(b't', rest)?;
+    after(b'(', rest)
+}
+
+fn parts_behind(alloc: Global, bytes: &[u8]) -> Result<Parts, ReadError>
+    ensures { Finds (λ parts. parts) result (parts_behind (dot_front bytes.now)) }
+{
+    match after_dot(bytes) {
+        Some(rest) => parts_up_to_end(alloc, rest),
+        None => Err(ReadError::NotRead),
+    }
+}
+
+/// The parts of the dot product, which may have a name before it.
+pub fn parts_in(alloc: Global, text: &[u8]) -> Result<Parts, ReadError>
+    ensures { Finds (λ parts. parts) result (parts_in text.now) }
+{
+    match after_name(text) {
+        Some(rest) => parts_behind(alloc, rest),
+        None => parts_behind(alloc, text),
+    }
 }

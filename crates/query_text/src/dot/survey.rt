@@ -1,16 +1,22 @@
-ghost use Rattle.std.specs.Prelude.{◌≡◌, ◌≤◌, ◌+◌, ◌<◌, ◌^◌, length};
-ghost use Rattle.query_text.specs.Dot.{letter, value_more, after_value, after_weight, dot_next, is_weight_size, is_right_part};
-ghost use Rattle.query_text.specs.Dot.{is_small_part, dot_start, dot_entered, dot_after, dot_is_ended, dot_surveyed};
+ghost use Rattle.std.specs.Prelude.{◌≡◌, ◌<◌, length, take};
+ghost use Rattle.query_text.specs.Dot.{letter, is_dot, head_begun, head_next, value_more, after_value, after_weight, dot_next};
+ghost use Rattle.query_text.specs.Dot.{found_after, is_right_part, is_weight_size, is_small_weight, is_small_part, dot_start};
+ghost use Rattle.query_text.specs.Dot.{wanted_by, dot_entered, dot_after, has_ended, dot_is_ended, dot_surveyed};
 
-use crate::mode::{Mode, Role, number_begun, value_begun};
-use crate::survey::{ends_query, is_right, is_small};
-use attr_types::ValueType;
+use crate::mode::{Mode, Role, Spell, number_begun, value_begun};
+use crate::survey::{ends_query, is_right, is_small, type_at};
+use attr_names::{begins_name, continues_name, field_named};
+use attr_types::{Field, ValueType};
 
 /// Where the text of a dot product stands between two of its bytes.
 #[derive(Clone, Copy, Debug, PartialEq, Eq)]
 pub enum DotMode {
-    /// Before `dot`.
+    /// Before the first byte.
     Front,
+    /// In a name, or in `dot`.
+    Name(Spell),
+    /// After the `:` of a name.
+    Named,
     /// After `d`.
     D,
     /// After `do`.
@@ -33,6 +39,8 @@ pub enum DotMode {
 #[derive(Clone, Copy, Debug, PartialEq, Eq)]
 pub struct DotSurvey {
     pub mode: DotMode,
+    /// The number of the attribute, where it is there.
+    pub found: Option<usize>,
     /// Whether all values are of the type of the attribute.
     pub right: bool,
     /// Whether all values and weights are in range.
@@ -43,6 +51,39 @@ fn letter(wanted: u8, mode: DotMode, byte: u8) -> Option<DotMode>
     ensures { result ≡ letter wanted mode byte }
 {
     if byte == wanted { Some(mode) } else { None }
+}
+
+fn is_dot(spell: Spell) -> bool
+    ensures { result ≡ is_dot spell }
+{
+    match spell {
+        Spell::Dot => true,
+        _ => false,
+    }
+}
+
+fn head_begun(byte: u8) -> Option<DotMode>
+    ensures { result ≡ head_begun byte }
+{
+    if begins_name(byte) {
+        Some(DotMode::Name(Spell::begun(byte)))
+    } else {
+        None
+    }
+}
+
+fn head_next(spell: Spell, byte: u8) -> Option<DotMode>
+    ensures { result ≡ head_next spell byte }
+{
+    if continues_name(byte) {
+        Some(DotMode::Name(spell.next(byte)))
+    } else if byte == b':' {
+        Some(DotMode::Named)
+    } else if is_dot(spell) && byte == b'(' {
+        Some(DotMode::Part)
+    } else {
+        None
+    }
 }
 
 fn value_more(mode: Mode, byte: u8) -> Option<Mode>
@@ -93,7 +134,9 @@ impl DotMode {
         ensures { result ≡ dot_next self byte }
     {
         match self {
-            DotMode::Front => letter(b'd', DotMode::D, byte),
+            DotMode::Front => head_begun(byte),
+            DotMode::Name(spell) => head_next(spell, byte),
+            DotMode::Named => letter(b'd', DotMode::D, byte),
             DotMode::D => letter(b'o', DotMode::Do, byte),
             DotMode::Do => letter(b't', DotMode::Dot, byte),
             DotMode::Dot => letter(b'(', DotMode::Part, byte),
@@ -114,18 +157,29 @@ impl DotMode {
         }
     }
 
+    /// Whether a value that is being read is in range so far.
     fn is_small(self) -> bool
         ensures { result ≡ is_small_part self }
     {
         match self {
             DotMode::Value(mode) => is_small(mode),
-            DotMode::Weight(mode) => is_weight_size(mode),
             _ => true,
         }
     }
 
-    fn is_ended(self) -> bool
-        ensures { result ≡ dot_is_ended self }
+    /// Whether a weight that ends with the step to the next mode is in range.
+    fn is_small_weight(self, next: DotMode) -> bool
+        ensures { result ≡ is_small_weight self next }
+    {
+        match (self, next) {
+            (DotMode::Weight(mode), DotMode::Part) => is_weight_size(mode),
+            (DotMode::Weight(mode), DotMode::Ended) => is_weight_size(mode),
+            _ => true,
+        }
+    }
+
+    fn has_ended(self) -> bool
+        ensures { result ≡ has_ended self }
     {
         match self {
             DotMode::Ended => true,
@@ -134,50 +188,75 @@ impl DotMode {
     }
 }
 
+fn found_after(fields: &[Field], name: &[u8], found: Option<usize>, mode: DotMode) -> Option<usize>
+    ensures { result ≡ found_after fields.now name.now found mode }
+{
+    match mode {
+        DotMode::Named => field_named(fields, name),
+        _ => found,
+    }
+}
+
+fn wanted_by(fields: &[Field], found: Option<usize>) -> ValueType
+    ensures { result ≡ wanted_by fields.now found }
+{
+    type_at(fields, found.unwrap_or(0))
+}
+
 impl DotSurvey {
     fn start() -> DotSurvey
         ensures { result ≡ dot_start }
     {
         DotSurvey {
             mode: DotMode::Front,
+            found: Some(0),
             right: true,
             small: true,
         }
     }
 
-    fn entered(self, wanted: ValueType, mode: DotMode) -> DotSurvey
-        ensures { result ≡ dot_entered wanted self mode }
+    fn entered(self, fields: &[Field], text: &[u8], place: usize, mode: DotMode) -> DotSurvey
+        requires { place < length text.now }
+        ensures { result ≡ dot_entered fields.now text.now self place mode }
     {
+        let wanted = wanted_by(fields, self.found);
         DotSurvey {
             mode,
+            found: found_after(fields, &text[..place], self.found, mode),
             right: self.right && mode.is_right(wanted),
-            small: self.small && mode.is_small(),
+            small: self.small && (mode.is_small() && self.mode.is_small_weight(mode)),
         }
     }
 
-    fn after(self, wanted: ValueType, byte: u8) -> Option<DotSurvey>
-        ensures { result ≡ dot_after wanted self byte }
+    fn after(self, fields: &[Field], text: &[u8], place: usize, byte: u8) -> Option<DotSurvey>
+        requires { place < length text.now }
+        ensures { result ≡ dot_after fields.now text.now self place byte }
     {
         let mode = self.mode.next(byte)?;
-        Some(self.entered(wanted, mode))
+        Some(self.entered(fields, text, place, mode))
+    }
+
+    fn is_whole(self) -> bool
+        ensures { result ≡ dot_is_ended self }
+    {
+        self.mode.has_ended()
     }
 }
 
-/// What the text of a dot product shows, or the place where it stops being one. It begins at this offset.
-pub fn dot_survey_of(bytes: &[u8], begins: usize, wanted: ValueType) -> Result<DotSurvey, u64>
-    requires { begins + length bytes.now < 2 ^ 64 }
-    ensures { result ≡ dot_surveyed wanted dot_start begins bytes.now }
+/// What a text shows, or the place where it stops being a dot product.
+pub fn dot_survey_of(text: &[u8], fields: &[Field]) -> Result<DotSurvey, u64>
+    ensures { result ≡ dot_surveyed fields.now text.now }
 {
     let mut survey = DotSurvey::start();
-    for (place, byte) in bytes.iter().enumerate() {
-        match survey.after(wanted, *byte) {
+    for (place, byte) in text.iter().enumerate() {
+        match survey.after(fields, text, place, *byte) {
             Some(next) => survey = next,
-            None => return Err((begins + place) as u64),
+            None => return Err(place as u64),
         }
     }
-    if survey.mode.is_ended() {
+    if survey.is_whole() {
         Ok(survey)
     } else {
-        Err((begins + bytes.len()) as u64)
+        Err(text.len() as u64)
     }
 }

@@ -28,5 +28,5 @@ returns-clause-asked c =
 
 pub returns-clause-lawful : goal.returns-clause-lawful
 returns-clause-lawful c =
-    c.settings_law.ensures c.args.words.now _ (given_by c.in_ok-settings.settings) (returns-clause-asked c)
+    c.settings_law.ensures.asked c.args.words.now _ (given_by c.in_ok-settings.settings) (returns-clause-asked c)
     c.in_ok-settings.ensures.given c.in_ok-settings.ensures.texts

@@ -15,5 +15,5 @@ decreases-query_with l = 3 * l.levels + 2
 
 abbrev pub invariant-list_in-loop-count : goal.invariant-list_in-loop-count
 invariant-list_in-loop-count l =
-    after_trees (map tree_of l.list.items) (list_front (query_front l.levels) (length l.bytes - l._count) l.rest)
-    ≡ list_front (query_front l.levels) (length l.bytes) l.bytes
+    after_trees (map tree_of l.list.items) (list_front (query_front l.fields l.levels) (length l.bytes - l._count) l.rest)
+    ≡ list_front (query_front l.fields l.levels) (length l.bytes) l.bytes

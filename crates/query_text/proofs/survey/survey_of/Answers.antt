@@ -1,35 +1,35 @@
-use Rattle.std.proofs.Common.{rules, arith, ◌≡◌, ◌∙◌, ◌<◌, ◌≤◌, sym, ap, cond, length, Ok, Err}
-use Rattle.query_text.specs.Survey.{is_complete}
-use Rattle.query_text.proofs.SurveyLemmas.{surveyed_from-more, surveyed_from-none, surveyed_from-end}
+use Rattle.std.proofs.Common.{rules, arith, ◌≡◌, ◌∙◌, ◌<◌, ◌≤◌, sym, ap, cond, true, false, length, Ok, Err}
+use Rattle.query_text.specs.Survey.{is_complete, surveyed_after}
+use Rattle.query_text.proofs.RunLemmas.{run-more, run-none, run-end}
 use Rattle.query_text.proofs.survey.survey_of.Goals as goal
 
 pub returns-in-None : goal.returns-in-None
 returns-in-None c =
     let inside : c.loop-place.place < length c.args.text.now = search rules in
-    let none = sym c.in-None.ensures.value in
-    sym (surveyed_from-none _ _ c.args.text.now _ _ inside (search rules) none) ∙ c.loop-place.invariant.whole
+    sym (run-none (surveyed_after c.args.fields.now c.args.text.now) is_complete _ c.args.text.now _ _ inside (search rules) (sym c.in-None.ensures.value)) ∙ c.loop-place.invariant.whole
 
 pub loop-place-preserved : goal.loop-place-preserved
 loop-place-preserved c =
     let inside : c.loop-place.place < length c.args.text.now = search rules in
-    let more = sym c.in-Some.ensures.value in
+    let more = sym (run-more (surveyed_after c.args.fields.now c.args.text.now) is_complete _ c.args.text.now _ _ _ inside (search rules) (sym c.in-Some.ensures.value)) ∙ c.loop-place.invariant.whole in
     record {
-      whole = sym (surveyed_from-more _ _ _ c.args.text.now _ _ inside (search rules) more) ∙ c.loop-place.invariant.whole;
-      small = omega (arith, c.in-Some.ensures.depth);
+      whole = more;
+      deep = omega (arith, c.in-Some.ensures.depth);
+      begins = omega (arith, c.in-Some.ensures.begins);
     }
 
 pub returns-then-is_whole : goal.returns-then-is_whole
 returns-then-is_whole c =
     let past : length c.args.text.now ≤ c.loop-place.place = search rules in
-    let whole : is_complete c.loop-place.survey ≡ Rattle.std.proofs.Common.true = sym c.is_whole.ensures ∙ c.if-is_whole.true in
+    let whole : is_complete c.loop-place.survey ≡ true = sym c.is_whole.ensures ∙ c.if-is_whole.true in
     ap (λ b. cond b (Ok c.loop-place.survey) (Err c.loop-place.place)) (sym whole)
-    ∙ sym (surveyed_from-end _ _ c.args.text.now _ past) ∙ c.loop-place.invariant.whole
+    ∙ sym (run-end (surveyed_after c.args.fields.now c.args.text.now) is_complete _ c.args.text.now _ past) ∙ c.loop-place.invariant.whole
 
 pub returns-else-is_whole : goal.returns-else-is_whole
 returns-else-is_whole c =
     let past : length c.args.text.now ≤ c.loop-place.place = search rules in
     let here : length c.args.text.now ≡ c.loop-place.place = search rules in
-    let part : is_complete c.loop-place.survey ≡ Rattle.std.proofs.Common.false = sym c.is_whole.ensures ∙ c.if-is_whole.false in
+    let part : is_complete c.loop-place.survey ≡ false = sym c.is_whole.ensures ∙ c.if-is_whole.false in
     ap Err here
     ∙ ap (λ b. cond b (Ok c.loop-place.survey) (Err c.loop-place.place)) (sym part)
-    ∙ sym (surveyed_from-end _ _ c.args.text.now _ past) ∙ c.loop-place.invariant.whole
+    ∙ sym (run-end (surveyed_after c.args.fields.now c.args.text.now) is_complete _ c.args.text.now _ past) ∙ c.loop-place.invariant.whole

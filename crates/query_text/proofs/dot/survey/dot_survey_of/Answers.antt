@@ -1,30 +1,31 @@
-use Rattle.std.proofs.Common.{rules, arith, ◌≡◌, ◌∙◌, ◌+◌, ◌<◌, ◌≤◌, sym, ap, cond, length, Ok, Err}
-use Rattle.query_text.specs.Dot.{dot_is_ended}
-use Rattle.query_text.proofs.PartLemmas.{dot_surveyed-more, dot_surveyed-none, dot_surveyed-end}
+use Rattle.std.proofs.Common.{rules, ◌≡◌, ◌∙◌, ◌<◌, ◌≤◌, sym, ap, cond, true, false, length, Ok, Err}
+use Rattle.query_text.specs.Dot.{dot_is_ended, dot_after}
+use Rattle.query_text.proofs.RunLemmas.{run-more, run-none, run-end}
 use Rattle.query_text.proofs.dot.survey.dot_survey_of.Goals as goal
 
 pub returns-in-None : goal.returns-in-None
 returns-in-None c =
-    let inside : c.loop-place.place < length c.args.bytes.now = search rules in
-    sym (dot_surveyed-none _ _ c.args.bytes.now _ _ _ inside (search rules) (sym c.in-None.ensures)) ∙ c.loop-place.invariant
+    let inside : c.loop-place.place < length c.args.text.now = search rules in
+    sym (run-none (dot_after c.args.fields.now c.args.text.now) dot_is_ended _ c.args.text.now _ _ inside (search rules) (sym c.in-None.ensures)) ∙ c.loop-place.invariant
 
 pub loop-place-preserved : goal.loop-place-preserved
 loop-place-preserved c =
-    let inside : c.loop-place.place < length c.args.bytes.now = search rules in
-    sym (dot_surveyed-more _ _ _ c.args.bytes.now _ _ _ inside (search rules) (sym c.in-Some.ensures)) ∙ c.loop-place.invariant
+    let inside : c.loop-place.place < length c.args.text.now = search rules in
+    let more = sym (run-more (dot_after c.args.fields.now c.args.text.now) dot_is_ended _ c.args.text.now _ _ _ inside (search rules) (sym c.in-Some.ensures)) ∙ c.loop-place.invariant in
+    more
 
-pub returns-then-is_ended : goal.returns-then-is_ended
-returns-then-is_ended c =
-    let past : length c.args.bytes.now ≤ c.loop-place.place = search rules in
-    let whole : dot_is_ended c.loop-place.survey.mode ≡ Rattle.std.proofs.Common.true = sym c.is_ended.ensures ∙ c.if-is_ended.true in
-    ap (λ b. cond b (Ok c.loop-place.survey) (Err (c.args.begins + c.loop-place.place))) (sym whole)
-    ∙ sym (dot_surveyed-end _ _ c.args.bytes.now _ _ past) ∙ c.loop-place.invariant
+pub returns-then-is_whole : goal.returns-then-is_whole
+returns-then-is_whole c =
+    let past : length c.args.text.now ≤ c.loop-place.place = search rules in
+    let whole : dot_is_ended c.loop-place.survey ≡ true = sym c.is_whole.ensures ∙ c.if-is_whole.true in
+    ap (λ b. cond b (Ok c.loop-place.survey) (Err c.loop-place.place)) (sym whole)
+    ∙ sym (run-end (dot_after c.args.fields.now c.args.text.now) dot_is_ended _ c.args.text.now _ past) ∙ c.loop-place.invariant
 
-pub returns-else-is_ended : goal.returns-else-is_ended
-returns-else-is_ended c =
-    let past : length c.args.bytes.now ≤ c.loop-place.place = search rules in
-    let here : length c.args.bytes.now ≡ c.loop-place.place = search rules in
-    let part : dot_is_ended c.loop-place.survey.mode ≡ Rattle.std.proofs.Common.false = sym c.is_ended.ensures ∙ c.if-is_ended.false in
-    ap (λ n. Err (c.args.begins + n)) here
-    ∙ ap (λ b. cond b (Ok c.loop-place.survey) (Err (c.args.begins + c.loop-place.place))) (sym part)
-    ∙ sym (dot_surveyed-end _ _ c.args.bytes.now _ _ past) ∙ c.loop-place.invariant
+pub returns-else-is_whole : goal.returns-else-is_whole
+returns-else-is_whole c =
+    let past : length c.args.text.now ≤ c.loop-place.place = search rules in
+    let here : length c.args.text.now ≡ c.loop-place.place = search rules in
+    let part : dot_is_ended c.loop-place.survey ≡ false = sym c.is_whole.ensures ∙ c.if-is_whole.false in
+    ap Err here
+    ∙ ap (λ b. cond b (Ok c.loop-place.survey) (Err c.loop-place.place)) (sym part)
+    ∙ sym (run-end (dot_after c.args.fields.now c.args.text.now) dot_is_ended _ c.args.text.now _ past) ∙ c.loop-place.invariant

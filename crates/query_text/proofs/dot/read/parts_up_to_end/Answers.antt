@@ -2,7 +2,7 @@ use Rattle.std.proofs.Common.{rules, ◌≡◌, ◌∙◌, ◌+◌, ◌-◌, len
 use Rattle.query_text.specs.Dot.{part_front, parts_front}
 use Rattle.query_text.proofs.ListLemmas.{FindsNone-along}
 use Rattle.query_text.proofs.PartLemmas.{after_parts, parts_front-end, no_part, no_part_mark, last_part, one_part}
-use Rattle.query_text.proofs.dot.read.parts_in.Goals as goal
+use Rattle.query_text.proofs.dot.read.parts_up_to_end.Goals as goal
 
 pub returns-in-Err : goal.returns-in-Err
 returns-in-Err c =

@@ -1,3 +1,0 @@
-pub mod mode;
-pub mod read;
-pub mod survey;
