@@ -70,6 +70,7 @@ impl<'a, const OFFSET_BITS: u32, L: Layout> Writer<'a, OFFSET_BITS, L> {
         ensures ok { IfOk result (λ r. (r.place.table_id ≡ self.old.place.table_id) × (reader_of r.place.me.0 ≡ newcomer (writer_of self.old.place.me.0))
             × (writer_of self.new.place.me.0 ≡ with_reader (writer_of self.old.place.me.0))) }
         ensures seat { IfOk result (λ r. (writer_of self.old.place.me.0).made < 64) }
+        ensures table { self.new.place.table_id ≡ self.old.place.table_id }
         ensures none { IfErr result (λ e. (e.made ≡ 64) × ((writer_of self.old.place.me.0).made ≡ 64) × (self.new ≡ self.old)) }
     {
         if self.made >= 64 {
@@ -88,6 +89,7 @@ impl<'a, const OFFSET_BITS: u32, L: Layout> Writer<'a, OFFSET_BITS, L> {
     pub fn take_in(&mut self, reader: Reader<'a, OFFSET_BITS, L>)
         requires { reader.place.table_id ≡ self.old.place.table_id }
         ensures view { writer_of self.new.place.me.0 ≡ joined (writer_of self.old.place.me.0) (reader_of reader.entry.place.me.0) }
+        ensures table { self.new.place.table_id ≡ self.old.place.table_id }
         ensures commits { All (IsCommit (writer_of self.new.place.me.0).commits) (writer_of self.new.place.me.0).saw }
     {
         let Reader {

@@ -1,0 +1,186 @@
+//! Guards by many readers, beside a writer or not; reads of a node under one guard.
+use arena_api::Work;
+use node_turns::{Held, OneNode, commit, pass, tried, turn};
+use std::alloc::{AllocError, Global};
+use std::thread::{Threads, map_vec};
+use word_arena::{Again, Arena, Config, Limits, Reader, Writer};
+
+/// What is run.
+#[derive(Clone, Copy, Debug)]
+pub enum Load {
+    Guards {
+        readers: u32,
+        loops: u64,
+        commits: u32,
+    },
+    Read {
+        loops: u64,
+    },
+}
+
+/// The one seat of a thread.
+#[derive(Drop)]
+enum Post<'a> {
+    Write(Writer<'a, 22, OneNode>),
+    Read(Reader<'a, 22, OneNode>),
+}
+
+/// What one thread does.
+#[derive(Drop)]
+struct Job<'a> {
+    post: Post<'a>,
+    loops: u64,
+    commits: u32,
+}
+
+/// Guards, each released at once: so many, or until this commit is seen.
+fn guards(reader: Reader<'_, 22, OneNode>, loops: u64, last: u32) -> u64 {
+    let mut reader = reader;
+    let mut counted = 0u64;
+    for _ in 0..loops {
+        match tried(reader) {
+            Ok(held) => {
+                counted = counted.saturating_add(1);
+                let seen = held.commit();
+                reader = held.release();
+                if last > 0 && seen >= last {
+                    break;
+                }
+            }
+            Err(again) => {
+                let Again {
+                    reader: next,
+                    found: _,
+                } = again;
+                reader = next;
+            }
+        }
+    }
+    counted
+}
+
+/// Commits of nothing.
+fn commits<W: Work<22, Layout = OneNode>>(work: &mut W, most: u32) {
+    for _ in 0..most {
+        if commit(work).is_none() {
+            break;
+        }
+    }
+}
+
+fn work_on(job: Job<'_>) -> u64 {
+    let Job {
+        post,
+        loops,
+        commits: most,
+    } = job;
+    match post {
+        Post::Write(writer) => {
+            let mut writer = writer;
+            commits(&mut writer, most);
+            0
+        }
+        Post::Read(reader) => guards(reader, loops, most),
+    }
+}
+
+/// The writer, and as many readers as there are to be.
+fn jobs_of<'a>(
+    alloc: Global,
+    writer: Writer<'a, 22, OneNode>,
+    readers: u32,
+    loops: u64,
+    commits: u32,
+) -> Result<Vec<Job<'a>>, AllocError> {
+    let mut writer = writer;
+    let mut jobs = Vec::new(alloc);
+    for _ in 0..readers {
+        if let Ok(reader) = writer.reader() {
+            let job = Job {
+                post: Post::Read(reader),
+                loops,
+                commits,
+            };
+            if jobs.push(job).is_err() {
+                return Err(AllocError);
+            }
+        }
+    }
+    let job = Job {
+        post: Post::Write(writer),
+        loops,
+        commits,
+    };
+    if jobs.push(job).is_err() {
+        return Err(AllocError);
+    }
+    Ok(jobs)
+}
+
+fn work_all<'a, R: Threads + Sync>(rt: &R, jobs: Vec<Job<'a>>) -> Result<Vec<u64>, AllocError> {
+    map_vec(
+        rt,
+        jobs,
+        &|job| -> u64
+            ensures { Unit {0} }
+        { work_on(job) },
+    )
+}
+
+/// Reads the node so often, and counts the reads that found the last word as it was stored.
+fn reads(held: Held<'_>, loops: u64) -> u64 {
+    let mut held = held;
+    let mut words = [0; 34];
+    let mut counted = 0u64;
+    for _ in 0..loops {
+        if held.read(&mut words) && words[33] == 4294967296 + 33 {
+            counted = counted.saturating_add(1);
+        }
+    }
+    counted
+}
+
+fn read_node(writer: Writer<'_, 22, OneNode>, loops: u64) -> u64 {
+    let mut writer = writer;
+    let Ok(reader) = writer.reader() else {
+        return 0;
+    };
+    if turn(&mut writer, None, 1).is_none() {
+        return 0;
+    }
+    let _ = pass(&mut writer, None);
+    match tried(reader) {
+        Ok(held) => reads(held, loops),
+        Err(_) => 0,
+    }
+}
+
+/// How many guards or reads were made.
+pub fn count<R: Threads + Sync>(rt: &R, alloc: Global, load: Load) -> Result<u64, AllocError> {
+    let config = Config {
+        buffers: 8,
+        words: 8192,
+        shape: 1,
+        limits: Limits {
+            commits: u32::MAX,
+            generations: 281_474_976_710_655,
+        },
+    };
+    let (arena, token) = Arena::<22, OneNode>::create(alloc, config)?;
+    let writer = arena.writer(token);
+    match load {
+        Load::Guards {
+            readers,
+            loops,
+            commits,
+        } => {
+            let jobs = jobs_of(alloc, writer, readers, loops, commits)?;
+            let mut counted = 0u64;
+            for part in work_all(rt, jobs)? {
+                counted = counted.saturating_add(part);
+            }
+            Ok(counted)
+        }
+        Load::Read { loops } => Ok(read_node(writer, loops)),
+    }
+}

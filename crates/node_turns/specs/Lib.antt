@@ -1,0 +1,3 @@
+pub mod OneNode
+pub mod ProofsForOneNode
+pub mod Turns

@@ -1,0 +1,12 @@
+-- The layout whose root is one record of 34 words.
+use Rattle.std.specs.Prelude.{◌≡◌, ◌<◌, ℕ, zero, suc, List, [], ◌∷◌, length}
+use Rattle.image_base.specs.Records.{Records}
+
+-- the root reaches itself
+abbrev pub node_reaches : ℕ → Records → ℕ → List ℕ
+node_reaches shape m zero = []
+node_reaches shape m (suc r) = suc r ∷ []
+
+-- and is there, with 34 words
+abbrev pub IsNode : ℕ → Records → ℕ → Type 0
+IsNode shape m root = 0 < root → length (m root) ≡ 34

@@ -1,0 +1,6 @@
+use Rattle.std.specs.Prelude.{IfSome}
+use Rattle.node_turns.specs.Turns.{IsActive}
+use Rattle.test_arena.proofs.torture.place.Given as goal
+
+abbrev pub invariant-loop-wait : goal.invariant-loop-wait
+invariant-loop-wait g l = record { active : IfSome l.fn.before (IsActive (g.W.Work.knows l.work)) }

@@ -1,0 +1,11 @@
+-- What the writer of a row knows of its steps so far.
+use Rattle.std.specs.Prelude.{IfSome}
+use Rattle.arena_api.specs.Works.{WorkView}
+use Rattle.arena_api.specs.Generations.{MayRetire}
+use Rattle.node_turns.specs.Turns.{IsActive}
+use Rattle.test_arena.specs.declared.writing.Past.{Past}
+
+-- the buffer of the last node is active, and the buffer that was claimed may be put on hold
+pub record IsPast {H : Type 0} (work : WorkView H) (p : Past) : Type 0 where
+  pub active : IfSome p.node (IsActive work)
+  pub clear : IfSome p.claimed (MayRetire 22 work)

@@ -1,0 +1,84 @@
+//! What a call of a row comes to, and how a row says it.
+use arena_api::{Advance, Oldest};
+use node_turns::{Committed, Look};
+use std::alloc::AllocError;
+
+#[derive(Clone, Copy, Drop)]
+pub enum Answer {
+    Buffer(u32),
+    NoBuffer,
+    /// A buffer, and the commit of its node.
+    Placed(u32, Committed),
+    /// A buffer, and an empty commit after it.
+    Claimed(u32, u32),
+    Committed(Committed),
+    NoCommit,
+    Advanced(Advance),
+    Reclaimed(Oldest),
+    Count(u32),
+    Seat,
+    NoSeat(u32),
+    Aimed,
+    Guards(Look),
+    Closed(u64),
+    Done,
+    /// The seat is in no state for what it was asked.
+    Unfit,
+}
+
+fn push_advance(text: &mut String, advance: Advance) -> Result<(), AllocError> {
+    match advance {
+        Advance::To { generation, hold } => write!(text, "to {generation} on {hold}"),
+        Advance::NoHold { holds, found } => write!(text, "no hold of {holds}, found {found}"),
+        Advance::Spent { generation } => write!(text, "spent at {generation}"),
+    }
+}
+
+fn push_oldest(text: &mut String, oldest: Oldest) -> Result<(), AllocError> {
+    write!(text, "oldest {} on {}", oldest.generation, oldest.hold)?;
+    if oldest.newest {
+        return Ok(());
+    }
+    write!(text, " in use {}", oldest.found)
+}
+
+fn push_commit(text: &mut String, committed: Committed) -> Result<(), AllocError> {
+    write!(text, "commit {}, ", committed.number)?;
+    push_advance(text, committed.advance)?;
+    write!(text, ", ")?;
+    push_oldest(text, committed.oldest)
+}
+
+fn push_look(text: &mut String, look: Look) -> Result<(), AllocError> {
+    let Look { commit, whole } = look;
+    match whole {
+        None => write!(text, "commit {commit} empty"),
+        Some(true) => write!(text, "commit {commit} whole"),
+        Some(false) => write!(text, "commit {commit} with words of another"),
+    }
+}
+
+/// What a row says of an answer.
+pub fn push_answer(text: &mut String, answer: Answer) -> Result<(), AllocError> {
+    match answer {
+        Answer::Buffer(buffer) => write!(text, "buffer {buffer}"),
+        Answer::NoBuffer => write!(text, "no buffer"),
+        Answer::Placed(buffer, committed) => {
+            write!(text, "buffer {buffer}, ")?;
+            push_commit(text, committed)
+        }
+        Answer::Claimed(buffer, number) => write!(text, "buffer {buffer}, commit {number}"),
+        Answer::Committed(committed) => push_commit(text, committed),
+        Answer::NoCommit => write!(text, "no commit"),
+        Answer::Advanced(advance) => push_advance(text, advance),
+        Answer::Reclaimed(oldest) => push_oldest(text, oldest),
+        Answer::Count(count) => write!(text, "{count}"),
+        Answer::Seat => write!(text, "seat"),
+        Answer::NoSeat(made) => write!(text, "no seat after {made}"),
+        Answer::Aimed => write!(text, "aimed"),
+        Answer::Guards(look) => push_look(text, look),
+        Answer::Closed(found) => write!(text, "closed {found}"),
+        Answer::Done => write!(text, "done"),
+        Answer::Unfit => write!(text, "unfit"),
+    }
+}

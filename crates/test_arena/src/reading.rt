@@ -1,0 +1,88 @@
+//! A reader's seat, and what a row asks of it.
+ghost use Rattle.std.specs.Prelude.{◌≡◌, ◌<◌};
+
+use crate::answers::Answer;
+use crate::steps::Task;
+use node_turns::{Held, OneNode, guarded, raised, tried};
+use std::marker::Brand;
+use std::sync::ledger::{Blank, Ledger};
+use word_arena::{Again, Aimed, Reader, Steps};
+
+/// What a reader's seat stands at.
+#[derive(Drop)]
+pub enum Stand<'a> {
+    Idle(Reader<'a, 22, OneNode>),
+    Aimed(Aimed<'a, 22, OneNode>),
+    Guards(Held<'a>),
+    Gone,
+}
+
+fn told<'a>(held: Held<'a>) -> (Stand<'a>, Answer) {
+    let mut held = held;
+    let look = held.look();
+    (Stand::Guards(held), Answer::Guards(look))
+}
+
+fn missed<'a>(again: Again<'a, 22, OneNode>) -> (Stand<'a>, Answer) {
+    let Again { reader, found } = again;
+    (Stand::Idle(reader), Answer::Closed(found))
+}
+
+fn raise<'a>(aimed: Aimed<'a, 22, OneNode>) -> (Stand<'a>, Answer) {
+    match raised(aimed) {
+        Ok(held) => told(held),
+        Err(again) => missed(again),
+    }
+}
+
+fn try_once<'a>(reader: Reader<'a, 22, OneNode>) -> (Stand<'a>, Answer) {
+    match tried(reader) {
+        Ok(held) => told(held),
+        Err(again) => missed(again),
+    }
+}
+
+/// A guard after as many tries as it takes.
+fn guard_by<'a, C: Ledger>(reader: Reader<'a, 22, OneNode>, blank: Blank) -> Held<'a>
+    requires name { blank.name ≡ C.name }
+    requires parts { blank.parts ≡ C.parts }
+    requires some { 0 < C.parts }
+{
+    let mut tries = Steps::<C>::new(blank);
+    guarded(reader, &mut tries)
+}
+
+/// What an idle reader comes to.
+fn from_idle<'a>(reader: Reader<'a, 22, OneNode>, task: Task) -> (Stand<'a>, Answer) {
+    match task {
+        Task::Aim => (Stand::Aimed(reader.aim()), Answer::Aimed),
+        Task::Try => try_once(reader),
+        Task::Guard => told(guard_by::<Brand>(reader, Blank::new(1))),
+        _ => (Stand::Idle(reader), Answer::Unfit),
+    }
+}
+
+fn from_guard<'a>(held: Held<'a>, task: Task) -> (Stand<'a>, Answer) {
+    match task {
+        Task::Read => told(held),
+        Task::Release => (Stand::Idle(held.release()), Answer::Done),
+        Task::Forget => {
+            drop(held);
+            (Stand::Gone, Answer::Done)
+        }
+        _ => (Stand::Guards(held), Answer::Unfit),
+    }
+}
+
+/// What a reader's seat comes to.
+pub fn read_on<'a>(stand: Stand<'a>, task: Task) -> (Stand<'a>, Answer) {
+    match stand {
+        Stand::Idle(reader) => from_idle(reader, task),
+        Stand::Aimed(aimed) => match task {
+            Task::Raise => raise(aimed),
+            _ => (Stand::Aimed(aimed), Answer::Unfit),
+        },
+        Stand::Guards(held) => from_guard(held, task),
+        Stand::Gone => (Stand::Gone, Answer::Unfit),
+    }
+}

@@ -1,0 +1,112 @@
+//! A row's steps as its lines say them.
+use std::alloc::{AllocError, Global};
+
+#[derive(Clone, Copy, Drop)]
+pub enum Task {
+    /// A node in a buffer of its own, its commit, the next generation, and a reclaim.
+    Node,
+    /// The same with no node.
+    Commit,
+    /// A buffer for entries of this width, and an empty commit.
+    Claim(u32),
+    HandOut(u32),
+    /// Puts the buffer that was claimed on hold.
+    Retire,
+    Advance,
+    Reclaim,
+    Free,
+    Left,
+    /// A reader that is dropped at once.
+    Seat,
+    /// A reader that is taken in at once.
+    TakeIn,
+    Aim,
+    Raise,
+    /// Both in one call.
+    Try,
+    /// As often as it takes.
+    Guard,
+    Read,
+    Release,
+    /// Drops a guard that is not released.
+    Forget,
+    Unknown,
+}
+
+/// What one of the parties is asked, and what must be answered. The writer is party 0.
+#[derive(Drop)]
+pub struct Step {
+    pub party: u32,
+    pub task: Task,
+    pub asked: String,
+    pub wanted: String,
+}
+
+fn number_in(word: &str) -> u32 {
+    word.parse::<u32>().unwrap_or(0)
+}
+
+fn task_in(words: &str) -> Task {
+    let (name, rest) = words.split_once(' ').unwrap_or((words, ""));
+    match name {
+        "node" => Task::Node,
+        "commit" => Task::Commit,
+        "claim" => Task::Claim(number_in(rest)),
+        "hand-out" => Task::HandOut(number_in(rest)),
+        "retire" => Task::Retire,
+        "advance" => Task::Advance,
+        "reclaim" => Task::Reclaim,
+        "free" => Task::Free,
+        "left" => Task::Left,
+        "seat" => Task::Seat,
+        "take-in" => Task::TakeIn,
+        "aim" => Task::Aim,
+        "raise" => Task::Raise,
+        "try" => Task::Try,
+        "guard" => Task::Guard,
+        "read" => Task::Read,
+        "release" => Task::Release,
+        "forget" => Task::Forget,
+        _ => Task::Unknown,
+    }
+}
+
+/// A step from `PARTY TASK = ANSWER`, if the line is one.
+pub fn step_in(alloc: Global, line: &str) -> Result<Option<Step>, AllocError> {
+    let Some((asked, wanted)) = line.split_once(" = ") else {
+        return Ok(None);
+    };
+    let (party, words) = asked.split_once(' ').unwrap_or((asked, ""));
+    Ok(Some(Step {
+        party: number_in(party),
+        task: task_in(words),
+        asked: String::from_str(alloc, asked)?,
+        wanted: String::from_str(alloc, wanted)?,
+    }))
+}
+
+/// What a row is made of: how many readers, and the limits.
+#[derive(Clone, Copy, Default, Drop)]
+pub struct Setting {
+    pub readers: u32,
+    pub commits: u32,
+    pub generations: u64,
+}
+
+/// The next number of a line, and what follows a space after it.
+fn next_number(words: &str) -> (u64, &str) {
+    let (number, rest) = words.split_once(' ').unwrap_or((words, ""));
+    (number.parse::<u64>().unwrap_or(0), rest)
+}
+
+/// A setting from `READERS COMMITS GENERATIONS`.
+pub fn setting_in(words: &str) -> Setting {
+    let (readers, rest) = next_number(words);
+    let (commits, rest) = next_number(rest);
+    let (generations, _) = next_number(rest);
+    Setting {
+        readers: u32::try_from(readers).unwrap_or(0),
+        commits: u32::try_from(commits).unwrap_or(0),
+        generations,
+    }
+}

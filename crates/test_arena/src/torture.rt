@@ -1,0 +1,256 @@
+//! Many readers beside a writer that goes round its buffers.
+ghost use Rattle.std.specs.Prelude.{IfSome};
+ghost use Rattle.node_turns.specs.Turns.{IsActive};
+
+use arena_api::Work;
+use node_turns::{Look, OneNode, pass, raised, turn};
+use std::alloc::{AllocError, Global};
+use std::sync::atomic::{AtomicU64, Ordering};
+use std::thread::{Threads, map_vec, yield_now};
+use word_arena::{Again, Aimed, Arena, Config, Limits, Reader, Writer};
+
+pub const READERS: u32 = 8;
+
+const BUFFERS: u32 = 8;
+
+/// How often a writer that finds no buffer free tries again.
+const WAITS: u32 = 1_000_000_000;
+
+/// How often a reader looks, at most.
+const LOOKS: u64 = 1_000_000_000_000;
+
+/// What a reader saw.
+#[derive(Clone, Copy, Debug, Default, Drop)]
+pub struct Sight {
+    pub guards: u64,
+    /// Holds that were closed when it came.
+    pub bounces: u64,
+    /// Guards under which some word was not of the guard's commit.
+    pub wrong: u64,
+    /// Guards of a commit below one that was seen before.
+    pub falls: u64,
+    pub last: u32,
+}
+
+/// What the writer did.
+#[derive(Clone, Copy, Debug, Default, Drop)]
+pub struct Turns {
+    pub commits: u32,
+    /// Buffers handed out that had been handed out before.
+    pub again: u64,
+    /// The most looks for a buffer, for one commit, that found none free.
+    pub longest: u32,
+}
+
+/// What all of them came to.
+#[derive(Clone, Copy, Debug, Default, Drop)]
+pub struct Tally {
+    pub turns: Turns,
+    pub sights: Sight,
+}
+
+impl Sight {
+    fn note(&mut self, look: Look) {
+        let Look { commit, whole } = look;
+        self.guards = self.guards.saturating_add(1);
+        if !whole.unwrap_or(commit == 0) {
+            self.wrong = self.wrong.saturating_add(1);
+        }
+        if commit < self.last {
+            self.falls = self.falls.saturating_add(1);
+        }
+        self.last = commit;
+    }
+
+    fn plus(self, other: Sight) -> Sight {
+        Sight {
+            guards: self.guards.saturating_add(other.guards),
+            bounces: self.bounces.saturating_add(other.bounces),
+            wrong: self.wrong.saturating_add(other.wrong),
+            falls: self.falls.saturating_add(other.falls),
+            last: self.last.min(other.last),
+        }
+    }
+}
+
+/// One look: a guard, its words, and its release; or the hold was closed.
+fn look<'a>(aimed: Aimed<'a, 22, OneNode>, sight: &mut Sight) -> Reader<'a, 22, OneNode> {
+    match raised(aimed) {
+        Ok(held) => {
+            let mut held = held;
+            sight.note(held.look());
+            held.release()
+        }
+        Err(again) => {
+            let Again { reader, found: _ } = again;
+            sight.bounces = sight.bounces.saturating_add(1);
+            reader
+        }
+    }
+}
+
+/// Between its aim and its raise a reader lets some time pass, each time another, so that most of it is behind no guard: a
+/// reader that the system stops under a guard stops the writer too.
+fn linger(ticks: &AtomicU64, look: u64) {
+    for _ in 0..look % 64 * 16 {
+        ticks.fetch_add(1, Ordering::SeqCst);
+    }
+}
+
+/// Looks until the last commit is seen.
+fn watch<'a>(reader: Reader<'a, 22, OneNode>, commits: u32) -> Sight {
+    let mut reader = reader;
+    let mut sight = Sight::default();
+    let ticks = AtomicU64::new(0);
+    for number in 0..LOOKS {
+        let aimed = reader.aim();
+        linger(&ticks, number);
+        reader = look(aimed, &mut sight);
+        if sight.last >= commits {
+            break;
+        }
+    }
+    sight
+}
+
+/// The next commit, as soon as a buffer is free.
+fn place<W: Work<22, Layout = OneNode>>(
+    work: &mut W,
+    before: Option<u32>,
+    number: u32,
+    turns: &mut Turns,
+) -> Option<u32>
+    requires { IfSome before (IsActive (W.knows work.old)) }
+    ensures { IfSome result (IsActive (W.knows work.new)) }
+{
+    for wait in 0..WAITS {
+        if let Some(placed) = turn(work, before, number) {
+            return Some(placed.buffer);
+        }
+        turns.longest = turns.longest.max(wait);
+        let _ = pass(work, before);
+        if wait % 1024 == 1023 {
+            yield_now();
+        }
+    }
+    None
+}
+
+/// Commits a node after another, each in a buffer of its own.
+pub fn write<W: Work<22, Layout = OneNode>>(work: &mut W, commits: u32) -> Turns {
+    let mut turns = Turns::default();
+    let mut seen = [false; 8];
+    let mut before = None;
+    for number in 0..commits {
+        match place(work, before, number.saturating_add(1), &mut turns) {
+            None => break,
+            Some(buffer) => {
+                let _ = pass(work, Some(buffer));
+                turns.commits = turns.commits.saturating_add(1);
+                if let Some(known) = seen.get_mut(buffer as usize) {
+                    if *known {
+                        turns.again = turns.again.saturating_add(1);
+                    }
+                    *known = true;
+                }
+                before = Some(buffer);
+            }
+        }
+    }
+    turns
+}
+
+/// The one seat of a thread.
+#[derive(Drop)]
+enum Post<'a> {
+    Write(Writer<'a, 22, OneNode>),
+    Watch(Reader<'a, 22, OneNode>),
+}
+
+/// What one thread does.
+#[derive(Drop)]
+struct Job<'a> {
+    post: Post<'a>,
+    commits: u32,
+}
+
+fn work_on(job: Job<'_>) -> Tally {
+    let Job { post, commits } = job;
+    let mut tally = Tally::default();
+    tally.sights.last = commits;
+    match post {
+        Post::Write(writer) => {
+            let mut writer = writer;
+            tally.turns = write(&mut writer, commits);
+        }
+        Post::Watch(reader) => tally.sights = watch(reader, commits),
+    }
+    tally
+}
+
+/// The writer, and as many readers as there are to be.
+fn jobs_of<'a>(
+    alloc: Global,
+    writer: Writer<'a, 22, OneNode>,
+    readers: u32,
+    commits: u32,
+) -> Result<Vec<Job<'a>>, AllocError> {
+    let mut writer = writer;
+    let mut jobs = Vec::new(alloc);
+    for _ in 0..readers {
+        if let Ok(reader) = writer.reader() {
+            let post = Post::Watch(reader);
+            if jobs.push(Job { post, commits }).is_err() {
+                return Err(AllocError);
+            }
+        }
+    }
+    let post = Post::Write(writer);
+    if jobs.push(Job { post, commits }).is_err() {
+        return Err(AllocError);
+    }
+    Ok(jobs)
+}
+
+fn work_all<'a, R: Threads + Sync>(rt: &R, jobs: Vec<Job<'a>>) -> Result<Vec<Tally>, AllocError> {
+    map_vec(
+        rt,
+        jobs,
+        &|job| -> Tally
+            ensures { Unit {0} }
+        { work_on(job) },
+    )
+}
+
+fn tally_of(parts: &[Tally], commits: u32) -> Tally {
+    let mut tally = Tally::default();
+    tally.sights.last = commits;
+    for part in parts {
+        if part.turns.commits > 0 {
+            tally.turns = part.turns;
+        }
+        tally.sights = tally.sights.plus(part.sights);
+    }
+    tally
+}
+
+/// Readers beside a writer of so many commits, each in a thread of its own.
+pub fn torture<R: Threads + Sync>(
+    rt: &R,
+    alloc: Global,
+    commits: u32,
+) -> Result<Tally, AllocError> {
+    let config = Config {
+        buffers: BUFFERS,
+        words: 8192,
+        shape: 1,
+        limits: Limits {
+            commits,
+            generations: 281_474_976_710_655,
+        },
+    };
+    let (arena, token) = Arena::<22, OneNode>::create(alloc, config)?;
+    let jobs = jobs_of(alloc, arena.writer(token), READERS, commits)?;
+    let parts = work_all(rt, jobs)?;
+    Ok(tally_of(parts.as_slice(), commits))
+}
