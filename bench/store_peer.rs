@@ -1,22 +1,21 @@
 //! What `bench/store` compares with: a plain compiled program that keeps a free list over a `Vec` of words and stores the same
-//! words in the same order. It proves nothing. Usage: store_peer ENTRIES
-
-const WIDTH: usize = 34;
+//! words in the same order. It proves nothing. Usage: store_peer ROUNDS UNITS ENTRIES
 
 /// Entries of one width in one `Vec`, with those that are free.
 struct Entries {
+    width: usize,
     words: Vec<u64>,
     free: Vec<usize>,
 }
 
 impl Entries {
     fn make(&mut self, first: u64) -> usize {
-        let entry = self.free.pop().unwrap_or(self.words.len() / WIDTH);
-        let begin = entry * WIDTH;
+        let entry = self.free.pop().unwrap_or(self.words.len() / self.width);
+        let begin = entry * self.width;
         if begin == self.words.len() {
-            self.words.resize(begin + WIDTH, 0);
+            self.words.resize(begin + self.width, 0);
         }
-        let words = &mut self.words[begin..begin + WIDTH];
+        let words = &mut self.words[begin..begin + self.width];
         words[0] = first;
         words[1] = 1;
         words[2..].fill(0);
@@ -25,20 +24,24 @@ impl Entries {
 }
 
 fn main() {
-    let count: u64 = std::env::args().nth(1).and_then(|word| word.parse().ok()).expect("store_peer ENTRIES");
-    let mut entries = Entries { words: Vec::new(), free: Vec::new() };
-    let (mut made, mut commits) = (0, 0);
-    let mut round = Vec::with_capacity(1000);
-    while made < count {
-        for _ in 0..1000 {
-            round.push(entries.make(made));
-            made += 1;
+    let mut words = std::env::args().skip(1).map(|word| word.parse::<u64>().ok());
+    let mut next = || words.next().flatten().expect("store_peer ROUNDS UNITS ENTRIES");
+    let (rounds, units, count) = (next(), next(), next());
+    let mut entries = Entries { width: 34, words: Vec::new(), free: Vec::new() };
+    let mut roots = Entries { width: 2, words: Vec::new(), free: Vec::new() };
+    let mut root = None;
+    let mut unit = Vec::new();
+    for round in 0..rounds {
+        for _ in 0..units {
+            for n in 0..count {
+                unit.push(entries.make(n));
+            }
+            entries.free.append(&mut unit);
         }
-        entries.free.append(&mut round);
-        if made % 100_000 == 0 {
-            commits += 1;
-        }
+        // the root before is held until the new one is out
+        let held = root.replace(roots.make(round));
+        roots.free.extend(held);
     }
-    std::hint::black_box(&entries.words);
-    println!("made {made} commits {commits}");
+    std::hint::black_box((&entries.words, &roots.words));
+    println!("rounds {rounds} made {}", rounds * units * count);
 }

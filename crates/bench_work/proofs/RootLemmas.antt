@@ -1,114 +1,114 @@
--- A new root record in place of the old one.
-use Rattle.std.proofs.Common.{◌≡◌, ◌≢◌, ℕ, zero, suc, ◌<◌, List, Bool, true, false, refl, sym, ap, subst, ◌∙◌, arith, inl, inr, ⊎_elim, ne_eqb, true≢false, length}
-use Rattle.std.specs.Prelude.{cond, ◌↔◌, ◌⊎◌}
-use Rattle.std.proofs.lemmas.Bool.{cases_eq, eq-eqb}
-use Rattle.list_facts.proofs.Tests.{cond-cond}
+-- A new root record in place of the old one, and its commit.
+use Rattle.std.proofs.Common.{◌≡◌, ℕ, zero, suc, ◌<◌, List, [], ◌∷◌, length, false, true, None, refl, sym, ap, subst, ◌∙◌, arith}
 use Rattle.std.proofs.Math.Nat.{pos_of_div-pos}
-use Rattle.entry_ref.specs.References.{buffer_limit}
+use Rattle.entry_ref.specs.References.{buffer_of, buffer_limit}
+use Rattle.image_base.specs.Images.{image_of, words_at}
 use Rattle.image_base.specs.Records.{Records, Among}
+use Rattle.arena_api.specs.Calls.{FitsEntry}
+use Rattle.arena_api.specs.Works.{Sizes, WorkView}
 use Rattle.mem_work.specs.OneRecord.{one_reaches, IsOneRecord}
-use Rattle.store_api.specs.Statuses.{Status, in_use, has_record, is_let_go, after_drop, after_commit, with_status}
-use Rattle.store_api.specs.Ledgers.{Ledger, Makes, IsNew, dropped_from, is_fresh}
-use Rattle.tree_make.proofs.DropLemmas.{drop_ends}
-use Rattle.bench_work.specs.Units.{UsesOnly, DropsRoot}
-use Rattle.tree_make.proofs.MakesLemmas.{open_unused}
+use Rattle.store_api.specs.Statuses.{in_use, has_record}
+use Rattle.store_api.specs.Ledgers.{Ledger, IsNew, is_this}
+use Rattle.store_api.specs.Units.{MayDo}
+use Rattle.store_api.specs.Calls.{Accepts, IsWhole, StoresCommit}
+use Rattle.store_api.specs.Parts.{Owns, OwnsAll, Turns, uses, count_in, entry}
+use Rattle.store_api.specs.declared.store.Stored.{Stored}
+use Rattle.store_api.proofs.CommitLemmas.{whole-from, commit-owns}
+use Rattle.store_api.proofs.Times.{times-same}
+use Rattle.store_api.proofs.UnitLemmas.{turns-accept}
+use Rattle.store_api.proofs.Uses.{uses-out, in-uses, used_has}
+use Rattle.bench_work.specs.Units.{HoldsRoot, root_parts}
 
-pub drops-root : {H : Type 0} (old : Ledger H) (root width : ℕ) → 0 < root → in_use (old.status root) ≡ true
-    → DropsRoot old (dropped_from old root width) root
-drops-root old root width positive used =
-    cond-cond (λ new. DropsRoot old new root) (is_fresh old root) (is_let_go (after_drop (old.status root) (old.back root))) _ _ _
-    (record { others = others; dropped = λ some. dropped; work = refl; unit = refl })
-    (record { others = others; dropped = λ some. dropped; work = refl; unit = refl })
-    (record { others = others; dropped = λ some. dropped; work = refl; unit = refl })
-  where
-    after : Status
-    after = after_drop (old.status root) (old.back root)
+-- a root that is not 0 is one record, whatever the others are
+pub root-some : (root : ℕ) → 0 < root → root_parts root ≡ entry root ∷ []
+root-some zero some = absurd (omega arith)
+root-some (suc ref) some = refl
 
-    others : (r : ℕ) → (r ≢ root) ⊎ (root ≡ 0) → with_status old.status root after r ≡ old.status r
-    others r (inr none) = absurd (let some = positive in omega arith)
-    others r (inl ne) = ap (λ b. cond b after (old.status r)) (ne_eqb r root ne)
+pub root-none : (root : ℕ) → root ≡ 0 → root_parts root ≡ []
+root-none zero none = refl
+root-none (suc ref) none = absurd (omega arith)
 
-    dropped : in_use (with_status old.status root after root) ≡ false
-    dropped = ap (λ b. in_use (cond b after (old.status root))) (eq-eqb root root refl) ∙ drop_ends (old.status root) (old.back root) used
+root-count : (r root : ℕ) (m n : Records) → count_in r n (root_parts root) ≡ count_in r m (root_parts root)
+root-count r zero m n = refl
+root-count r (suc ref) m n = refl
 
--- the new root alone is in use
-module _ {H : Type 0} (bits : ℕ) (old made : Ledger H) (m n : Records) (width root next : ℕ) (words : List ℕ)
-    (before : UsesOnly old root) (makes : Makes bits old made m n width words next) where
-  next_unused : in_use (old.status next) ≡ false
-  next_unused = open_unused (old.status next) makes.was
+-- the same entries are in use
+pub holds-after : {H : Type 0} (old new : Ledger H) (m n : Records) (root : ℕ) → HoldsRoot old m root → ((r : ℕ) → uses new r ≡ uses old r)
+    → new.unit ≡ false → new.finished ≡ old.finished → HoldsRoot new n root
+holds-after old new m n root holds same unit finished = record {
+  owns = record { each = λ r. let x = holds.owns.each r in let y = root-count r root m n in let z = same r in omega arith };
+  unit = unit;
+  finished = finished ∙ holds.finished;
+}
 
-  next_some : 0 < next
-  next_some = pos_of_div-pos (buffer_limit bits) makes.place.first
+-- nothing is in use in a new store
+pub new-holds : {H : Type 0} (ledger : Ledger H) (m : Records) → IsNew ledger → HoldsRoot ledger m 0
+new-holds ledger m new = record {
+  owns = record { each = λ r. let none = uses-out ledger r (ap in_use (new.status r)) in omega arith };
+  unit = new.unit;
+  finished = new.finished;
+}
 
-  apart : next ≢ root
-  apart e = true≢false (sym ((before next).1 (e, next_some)) ∙ next_unused)
+-- a unit in which a new root is made and the old one dropped
+module _ {H : Type 0} (old begun made dropped new : Ledger H) (m k n o p : Records) (root next : ℕ) (holds : HoldsRoot old m root)
+    (begins : begun ≡ record old { unit = true }) (makes : Turns begun made k n [] (entry next ∷ [])) where
+  begun-uses : (r : ℕ) → uses begun r ≡ uses old r
+  begun-uses r = ap (λ (l : Ledger H). uses l r) begins
 
-  made_other : (r : ℕ) → r ≢ next → made.status r ≡ old.status r
-  made_other r ne = ap (λ (f : ℕ → Status). f r) makes.status ∙ ap (λ b. cond b Status.pending (old.status r)) (ne_eqb r next ne)
+  -- the old root is owned until it is dropped
+  pub root-owned : Owns made n (root_parts root)
+  root-owned = record {
+    each = λ r. let x = holds.owns.each r in let y = root-count r root m n in let z = begun-uses r in let t = makes.balance r in omega arith;
+  }
 
-  made_same : made.status next ≡ Status.pending
-  made_same = ap (λ (f : ℕ → Status). f next) makes.status ∙ ap (λ b. cond b Status.pending (old.status next)) (eq-eqb next next refl)
+  module _ (drops : Turns made dropped n o (root_parts root) []) (accepts : Accepts dropped new o p) where
+    pub next-owns : OwnsAll new p (entry next ∷ [])
+    next-owns = record {
+      each = λ r. let x = holds.owns.each r in let y = root-count r root m n in let z = begun-uses r in let t = makes.balance r in
+          let d = drops.balance r in let e = (turns-accept dropped new o p accepts).balance r in omega arith;
+    }
 
-  -- the old root is in use until it is dropped
-  pub used_root : 0 < root → in_use (made.status root) ≡ true
-  used_root some =
-      let used = (before root).1 (refl, some) in
-      ap in_use (made_other root (λ e. true≢false (sym used ∙ ap (λ q. in_use (old.status q)) e ∙ next_unused))) ∙ used
+    pub next-finished : MayDo begun made → MayDo made dropped → new.finished ≡ None
+    next-finished first second = accepts.finished ∙ second.finished ∙ first.finished ∙ ap (λ (l : Ledger H). l.finished) begins ∙ holds.finished
 
-module _ {H : Type 0} (bits : ℕ) (old made dropped : Ledger H) (m n : Records) (width root next : ℕ) (words : List ℕ)
-    (before : UsesOnly old root) (makes : Makes bits old made m n width words next) (drops : DropsRoot made dropped root) where
-  was : (r : ℕ) → r ≢ next → (r ≢ root) ⊎ (root ≡ 0) → in_use (dropped.status r) ≡ in_use (old.status r)
-  was r ne side = ap in_use (drops.others r side) ∙ ap in_use ((made_other bits old made m n width root next words before makes r ne))
+    -- as many commits are left
+    pub next-room : MayDo begun made → MayDo made dropped → old.work.commits.last < old.work.sizes.commits → new.work.commits.last < new.work.sizes.commits
+    next-room first second room =
+        let last : new.work.commits.last ≡ old.work.commits.last = ap (λ (w : WorkView H). w.commits.last) accepts.work ∙ second.commits.last
+        ∙ first.commits.last ∙ ap (λ (l : Ledger H). l.work.commits.last) begins in
+        let most : new.work.sizes.commits ≡ old.work.sizes.commits = ap (λ (w : WorkView H). w.sizes.commits) accepts.work
+        ∙ ap (λ (s : Sizes). s.commits) second.sizes ∙ ap (λ (s : Sizes). s.commits) first.sizes ∙ ap (λ (l : Ledger H). l.work.sizes.commits) begins in
+        omega arith
 
-  not_root : (r : ℕ) → r ≢ next → in_use (dropped.status r) ≡ true → (r ≢ root) ⊎ (root ≡ 0) → ⊥
-  not_root r ne used (inl other) = other ((before r).0 (sym (was r ne (inl other)) ∙ used)).0
-  not_root r ne used (inr none) = let h = (before r).0 (sym (was r ne (inr none)) ∙ used) in let e = h.0 in let some = h.1 in absurd (omega arith)
+-- what is owned alone is in use
+pub owned-used : {H : Type 0} (ledger : Ledger H) (m : Records) (q : ℕ) → OwnsAll ledger m (entry q ∷ []) → in_use (ledger.status q) ≡ true
+owned-used ledger m q owns = let x = owns.each q in let one = times-same q q [] refl in in-uses ledger q (omega arith)
 
-  to : (r : ℕ) → in_use (dropped.status r) ≡ true → (r ≡ next) × (0 < r)
-  to r used = elim (cases_eq r next) [
-    | inl e ↦ (e, subst (λ q. 0 < q) (sym e) (next_some bits old made m n width root next words before makes))
-    | inr ne ↦ absurd (elim (cases_eq root 0) [
-      | inl none ↦ not_root r ne used (inr none)
-      | inr some ↦ elim (cases_eq r root) [
-        | inl e ↦ true≢false (sym used ∙ ap (λ q. in_use (dropped.status q)) e ∙ drops.dropped (omega arith))
-        | inr other ↦ not_root r ne used (inl other)
-      ]
-    ])
-  ]
+pub owned-has : {H : Type 0} (ledger : Ledger H) (m : Records) (q : ℕ) → OwnsAll ledger m (entry q ∷ []) → has_record (ledger.status q) ≡ true
+owned-has ledger m q owns = used_has (ledger.status q) (owned-used ledger m q owns)
 
-  apart_sides : (next ≢ root) ⊎ (root ≡ 0)
-  apart_sides = elim (cases_eq root 0) [ inl none ↦ inr none | inr some ↦ inl (λ e. (apart bits old made m n width root next words before makes) e) ]
+pub fits-some : (bits : ℕ) (sizes : Sizes) (width q n : ℕ) → FitsEntry bits sizes width q n → 0 < q
+fits-some bits sizes width q n fits = pos_of_div-pos (buffer_limit bits) fits.entry.first
 
-  from : (r : ℕ) → (r ≡ next) × (0 < r) → in_use (dropped.status r) ≡ true
-  from r h = ap (λ q. in_use (dropped.status q)) h.0 ∙ ap in_use (drops.others next apart_sides) ∙ ap in_use (made_same bits old made m n width root next words before makes)
+-- a root alone is lawful, and can be committed
+pub one-lawful : (shape : ℕ) (m : Records) (root : ℕ) → 0 < length (m root) → IsOneRecord shape m root
+one-lawful shape m zero there = tt
+one-lawful shape m (suc ref) there = there
 
-  pub uses_next : UsesOnly dropped next
-  uses_next r = (to r, from r)
+pub one-whole : {H : Type 0} (bits : ℕ) (ledger : Ledger H) (shape : ℕ) (m : Records) (root : ℕ) → 0 < root → OwnsAll ledger m (entry root ∷ [])
+    → ledger.finished ≡ None → IsWhole bits ledger (one_reaches shape m root)
+one-whole bits ledger shape m zero some owns finished = absurd (omega arith)
+one-whole bits ledger shape m (suc ref) some owns finished =
+    whole-from bits ledger m (entry (suc ref)) [] owns (λ r more. absurd (omega arith)) (λ r among. ap (λ f. is_this f (buffer_of bits r)) finished)
 
--- what is in use has a record
-pub used_record : (status : Status) → in_use status ≡ true → has_record status ≡ true
-used_record Status.unmade used = absurd (true≢false (sym used))
-used_record Status.free used = absurd (true≢false (sym used))
-used_record Status.pending used = refl
-used_record Status.live used = refl
-used_record Status.dropped used = absurd (true≢false (sym used))
-used_record Status.let_go used = absurd (true≢false (sym used))
-used_record Status.spent used = absurd (true≢false (sym used))
-
-pub one_there : (shape : ℕ) (m : Records) (root : ℕ) → 0 < length (m root) → IsOneRecord shape m root
-one_there shape m zero there = tt
-one_there shape m (suc r) there = there
-
--- what a root alone reaches is what is in use
-pub reaches_used : {H : Type 0} (ledger : Ledger H) (shape root : ℕ) (m : Records) → UsesOnly ledger root → (r : ℕ)
-    → Among r (one_reaches shape m root) ↔ (in_use (ledger.status r) ≡ true)
-reaches_used ledger shape zero m only r = ((λ h. absurd h), (λ used. let h = (only r).0 used in let e = h.0 in let some = h.1 in absurd (omega arith)))
-reaches_used ledger shape (suc root) m only r =
-    (⊎_elim (λ e. (only r).1 (e, subst (λ q. 0 < q) (sym e) (omega arith))) (λ h. absurd h), (λ used. inl ((only r).0 used).0))
-
-pub only-same : {H : Type 0} (old new : Ledger H) (root : ℕ) → ((r : ℕ) → in_use (new.status r) ≡ in_use (old.status r)) → UsesOnly old root → UsesOnly new root
-only-same old new root same only r = ((λ used. (only r).0 (sym (same r) ∙ used)), (λ h. same r ∙ (only r).1 h))
-
-pub new-uses-none : {H : Type 0} (ledger : Ledger H) → IsNew ledger → UsesOnly ledger 0
-new-uses-none ledger new r =
-    ((λ used. absurd (true≢false (sym used ∙ ap in_use (new.status r)))), (λ h. let e = h.0 in let some = h.1 in absurd (omega arith)))
+-- and is all that is in use then
+pub one-commits : {H : Type 0} (bits : ℕ) (old new : Ledger H) (shape : ℕ) (m n : Records) (root : ℕ) (answer : Stored) → 0 < root → 0 < length (m root)
+    → OwnsAll old m (entry root ∷ []) → old.finished ≡ None → n ≡ words_at (image_of (one_reaches shape m root) m root)
+    → StoresCommit bits old new (image_of (one_reaches shape m root) m root) answer → HoldsRoot new n root
+one-commits bits old new shape m n zero answer some there owns finished records stores = absurd (omega arith)
+one-commits bits old new shape m n (suc ref) answer some there owns finished records stores = record {
+  owns = subst (λ f. OwnsAll new f (entry (suc ref) ∷ [])) (sym records)
+      (commit-owns bits old new m (entry (suc ref)) [] (suc ref) answer owns (one-whole bits old shape m (suc ref) some owns finished) (there, tt) stores);
+  unit = stores.unit;
+  finished = stores.finished;
+}

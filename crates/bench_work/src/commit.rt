@@ -1,10 +1,11 @@
-ghost use Rattle.std.specs.Prelude.{◌≡◌, ◌<◌, true, false, IfOk, OnOk};
-ghost use Rattle.store_api.specs.Statuses.{in_use};
-ghost use Rattle.bench_work.specs.Units.{UsesOnly, DropsRoot};
+ghost use Rattle.std.specs.Prelude.{◌≡◌, ◌<◌, [], true, IfOk};
+ghost use Rattle.store_api.specs.Parts.{Owns, Turns};
+ghost use Rattle.store_api.specs.Units.{MayDo};
+ghost use Rattle.bench_work.specs.Units.{HoldsRoot, root_parts};
 
 use entry_ref::EntryRef;
 use mem_work::OneRecord;
-use store_api::{Store, StoreError};
+use store_api::{Store, StoreError, drop_one, make_entry};
 
 /// Drops the root record, where there is one.
 fn drop_root<const OFFSET_BITS: u32, S: Store<OFFSET_BITS>>(
@@ -12,11 +13,13 @@ fn drop_root<const OFFSET_BITS: u32, S: Store<OFFSET_BITS>>(
     root: EntryRef<OFFSET_BITS>,
 )
     requires unit { (S.ledger store.old).unit ≡ true }
-    requires used { 0 < root → in_use ((S.ledger store.old).status root) ≡ true }
-    ensures { DropsRoot (S.ledger store.old) (S.ledger store.new) root.entry }
+    requires owns { Owns (S.ledger store.old) (S.records store.old) (root_parts root) }
+    ensures turns { Turns (S.ledger store.old) (S.ledger store.new) (S.records store.old) (S.records store.new)
+        (root_parts root.entry) [] }
+    ensures may { MayDo (S.ledger store.old) (S.ledger store.new) }
 {
     if root.valid() {
-        store.drop_entry(root);
+        drop_one(store, root);
     }
 }
 
@@ -26,14 +29,12 @@ pub fn commit_root<const OFFSET_BITS: u32, S: Store<OFFSET_BITS, Layout = OneRec
     root: EntryRef<OFFSET_BITS>,
     number: u64,
 ) -> Result<EntryRef<OFFSET_BITS>, StoreError>
-    requires unit { (S.ledger store.old).unit ≡ false }
-    requires used { UsesOnly (S.ledger store.old) root }
+    requires holds { HoldsRoot (S.ledger store.old) (S.records store.old) root }
     requires room { (S.ledger store.old).work.commits.last < (S.ledger store.old).work.sizes.commits }
-    ensures unit { OnOk result ((S.ledger store.new).unit ≡ false) }
-    ensures used { IfOk result (UsesOnly (S.ledger store.new)) }
+    ensures { IfOk result (HoldsRoot (S.ledger store.new) (S.records store.new)) }
 {
     store.begin();
-    let next = store.make(2, &[number, 0])?;
+    let next = make_entry(store, 2, &[number, 0])?;
     drop_root(store, root);
     store.accept();
     store.commit(next);

@@ -9,7 +9,7 @@ mod round;
 mod store_run;
 mod tree_run;
 
-use crate::store_run::run_store;
+use crate::store_run::{StoreLoad, run_store};
 use crate::tree_run::{Order, TreeCounts, TreeLoad, run_tree, walks};
 use entry_store::EntryStore;
 use image_base::Layout;
@@ -23,8 +23,8 @@ use tree_images::NODE_WORDS;
 /// What is run.
 #[derive(Clone, Copy, Debug)]
 enum Workload {
-    /// Units of a thousand entries, made and dropped.
-    Store { units: u64 },
+    /// Entries in units, made and dropped.
+    Store(StoreLoad),
     /// A tree by number.
     Tree(TreeLoad),
 }
@@ -34,8 +34,16 @@ fn workload_in(rt: &HostRuntime) -> Option<Workload> {
     let mut words = std::env::args(rt).ok()?.skip(1);
     let name = words.next()?;
     if name.as_str() == "store" {
+        let rounds = words.next()?.parse::<u64>().ok()?;
         let units = words.next()?.parse::<u64>().ok()?;
-        return Some(Workload::Store { units });
+        let entries = words.next()?.parse::<u32>().ok()?;
+        let buffers = words.next()?.parse::<u32>().ok()?;
+        return Some(Workload::Store(StoreLoad {
+            rounds,
+            units,
+            entries,
+            buffers,
+        }));
     }
     if name.as_str() != "tree" {
         return None;
@@ -79,10 +87,14 @@ fn new_store<L: Layout>(
     }
 }
 
-/// The commits of a run over a store.
-fn commits_of(alloc: Global, units: u64) -> Result<u64, StoreError> {
-    match new_store::<OneRecord>(alloc, 8) {
-        Ok(mut store) => run_store(alloc, &mut store, units),
+/// The rounds of a run over a store of its own, of 1 to 1,023 buffers, and the entries made.
+fn store_run_of(alloc: Global, load: StoreLoad) -> Result<(u64, u64), StoreError> {
+    let buffers = load.buffers.max(1).min(1023);
+    match new_store::<OneRecord>(alloc, buffers) {
+        Ok(mut store) => {
+            let rounds = run_store(alloc, &mut store, load)?;
+            Ok((rounds, store.made(NODE_WORDS as u32)))
+        }
         Err(_) => Err(StoreError::Memory),
     }
 }
@@ -118,8 +130,8 @@ fn tree_run_of(alloc: Global, load: &TreeLoad) -> Result<TreeRun, StoreError> {
 fn main(rt: HostRuntime) -> ExitCode {
     let alloc = rt.alloc();
     let told = match workload_in(&rt) {
-        Some(Workload::Store { units }) => match commits_of(alloc, units) {
-            Ok(commits) => println!(&rt; "units {units} commits {commits}"),
+        Some(Workload::Store(load)) => match store_run_of(alloc, load) {
+            Ok((rounds, made)) => println!(&rt; "rounds {rounds} made {made}"),
             Err(_) => return ExitCode::from(1),
         },
         Some(Workload::Tree(load)) => match tree_run_of(alloc, &load) {
@@ -130,7 +142,7 @@ fn main(rt: HostRuntime) -> ExitCode {
             Err(_) => return ExitCode::from(1),
         },
         None => println!(&rt;
-            "bench_work store UNITS, or tree ascending|descending|random KEYS FINDS WALKS REMOVES"
+            "bench_work store ROUNDS UNITS ENTRIES BUFFERS, or tree ascending|descending|random KEYS FINDS WALKS REMOVES"
         ),
     };
     match told {

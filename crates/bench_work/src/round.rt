@@ -1,8 +1,8 @@
-ghost use Rattle.std.specs.Prelude.{◌≡◌, ◌≤◌, true, false, OnOk};
-ghost use Rattle.bench_work.specs.Units.{UsesSame, Made};
+ghost use Rattle.std.specs.Prelude.{◌≡◌, ℕ, true, false, OnOk};
+ghost use Rattle.bench_work.specs.Units.{HoldsRoot, Made};
 
 use entry_ref::EntryRef;
-use store_api::{Store, StoreError};
+use store_api::{Store, StoreError, make_entry};
 use tree_images::NODE_WORDS;
 use tree_make::drop_nodes;
 
@@ -13,8 +13,8 @@ pub fn run_unit<const OFFSET_BITS: u32, S: Store<OFFSET_BITS>>(
     count: u32,
 ) -> Result<(), StoreError>
     requires unit { (S.ledger store.old).unit ≡ false }
-    ensures unit { OnOk result ((S.ledger store.new).unit ≡ false) }
-    ensures used { OnOk result (UsesSame (S.ledger store.old) (S.ledger store.new)) }
+    ensures { (root : ℕ) → HoldsRoot (S.ledger store.old) (S.records store.old) root
+        → OnOk result (HoldsRoot (S.ledger store.new) (S.records store.new) root) }
 {
     store.begin();
     make_nodes(store, entries, count)?;
@@ -30,11 +30,11 @@ fn make_nodes<const OFFSET_BITS: u32, S: Store<OFFSET_BITS>>(
     count: u32,
 ) -> Result<(), StoreError>
     requires unit { (S.ledger store.old).unit ≡ true }
-    ensures { OnOk result (Made (S.ledger store.old) (S.ledger store.new) entries.new.items) }
+    ensures { OnOk result (Made (S.ledger store.old) (S.ledger store.new) (S.records store.old) (S.records store.new) entries.new.items) }
 {
     entries.clear();
     for n in 0..count {
-        let entry = store.make(NODE_WORDS as u32, &[u64::from(n), 1])?;
+        let entry = make_entry(store, NODE_WORDS as u32, &[u64::from(n), 1])?;
         match entries.push(entry.raw()) {
             Ok(()) => {}
             Err(_) => return Err(StoreError::Memory),

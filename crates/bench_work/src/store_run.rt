@@ -1,5 +1,6 @@
 ghost use Rattle.std.specs.Prelude.{◌≤◌, IfOk};
 ghost use Rattle.store_api.specs.Ledgers.{IsNew};
+ghost use Rattle.bench_work.specs.Units.{HoldsRoot};
 
 use crate::commit::commit_root;
 use crate::round::run_unit;
@@ -8,25 +9,50 @@ use mem_work::OneRecord;
 use std::alloc::Global;
 use store_api::{Store, StoreError};
 
-/// Units of 1,000 entries, and a commit of a new root after each hundred units. Answers how many commits
-/// were made.
+/// What a run over a store is: rounds of so many units, of so many entries each, with a commit after each round.
+#[derive(Clone, Copy, Debug)]
+pub struct StoreLoad {
+    pub rounds: u64,
+    pub units: u64,
+    pub entries: u32,
+    pub buffers: u32,
+}
+
+/// The units of a round, and the commit of a new root. None where no commit can be made.
+fn run_round<const OFFSET_BITS: u32, S: Store<OFFSET_BITS, Layout = OneRecord>>(
+    store: &mut S,
+    entries: &mut Vec<u32>,
+    load: StoreLoad,
+    round: u64,
+    root: EntryRef<OFFSET_BITS>,
+) -> Result<EntryRef<OFFSET_BITS>, StoreError>
+    requires { HoldsRoot (S.ledger store.old) (S.records store.old) root }
+    ensures { IfOk result (HoldsRoot (S.ledger store.new) (S.records store.new)) }
+{
+    for _ in 0..load.units {
+        run_unit(store, entries, load.entries)?;
+    }
+    if store.commits_left() == 0 {
+        return Ok(root);
+    }
+    commit_root(store, root, round)
+}
+
+/// The rounds of a run. Answers how many there were.
 pub fn run_store<const OFFSET_BITS: u32, S: Store<OFFSET_BITS, Layout = OneRecord>>(
     alloc: Global,
     store: &mut S,
-    units: u64,
+    load: StoreLoad,
 ) -> Result<u64, StoreError>
     requires { IsNew (S.ledger store.old) }
-    ensures { IfOk result (λ commits. commits ≤ units) }
+    ensures { IfOk result (λ rounds. rounds ≤ load.rounds) }
 {
     let mut entries = Vec::new(alloc);
     let mut root = EntryRef::from_raw(0);
-    let mut commits = 0;
-    for unit in 0..units {
-        run_unit(store, &mut entries, 1000)?;
-        if unit % 100 == 99 && store.commits_left() > 0 {
-            root = commit_root(store, root, unit)?;
-            commits += 1;
-        }
+    let mut rounds = 0;
+    for round in 0..load.rounds {
+        root = run_round(store, &mut entries, load, round, root)?;
+        rounds += 1;
     }
-    Ok(commits)
+    Ok(rounds)
 }

@@ -1,214 +1,261 @@
 -- A store stands after each of its calls.
-use Rattle.std.proofs.Common.{◌≡◌, ℕ, ◌+◌, ◌<◌, ◌≤◌, Bool, true, false, cond, eqb, List, length, Option, Some, None, refl, sym, ap, subst, ◌∙◌, arith, option_map, inl, inr}
-use Rattle.std.proofs.lemmas.Bool.{true≢false, false≢true, cond-true, cond-false, cases_eq, eq-eqb, ne_eqb}
-use Rattle.std.proofs.lemmas.Option.{none-some, same_Some}
-use Rattle.entry_shelf.specs.declared.state.State.{State}
-use Rattle.entry_shelf.specs.declared.state.State.TheVariants.{Made}
-use Rattle.entry_shelf.specs.States.{is_used, is_touched, dropped, undone}
-use Rattle.image_base.specs.Records.{Records, with_words}
+use Rattle.std.proofs.Common.{◌≡◌, ℕ, ◌<◌, ◌≤◌, Bool, true, false, cond, eqb, List, length, Option, Some, None, refl, sym, ap, subst, ◌∙◌, arith, inl, inr, option_map}
+use Rattle.std.proofs.lemmas.Bool.{true≢false, false≢true, cases_eq, eq-eqb, ne_eqb}
+use Rattle.buffer_shelf.specs.declared.state.State.{State}
+use Rattle.buffer_shelf.specs.declared.state.State.TheVariants.{Made}
+use Rattle.buffer_shelf.specs.States.{dropped, undone}
+use Rattle.entry_ref.specs.References.{buffer_of}
 use Rattle.image_base.specs.Images.{words_at}
-use Rattle.arena_api.specs.Works.{WorkView, Buffer, active_width, last_image, last_tag}
-use Rattle.arena_api.specs.Calls.{InNoCommit, IsLowestFree, IsFresh, handed_out}
-use Rattle.store_api.specs.Statuses.{Status, has_record, is_committed, is_uncommitted}
-use Rattle.store_api.specs.Ledgers.{with_count, one_more}
-use Rattle.entry_states.specs.Entries.{EntriesView, new_entries, with_buffer_of, IsGood, with_state, undone_at, dropped_at, made_at, CanTake, is_open_entry}
-use Rattle.entry_store.specs.Standing.{Stands, status_by, status_of, is_up_to}
-use Rattle.entry_store.proofs.Counts.{active_count-handed, active_count-free, free-width}
-use Rattle.entry_store.proofs.StateSteps.{IsWeaker, implied, weaker-same, with_state-at, undone-weaker, undone-up_to, undone-settled, dropped-weaker, dropped-up_to, free-status}
+use Rattle.image_base.specs.Records.{Records, with_words}
+use Rattle.arena_api.specs.Works.{WorkView, Buffer, active_width, width_of, last_image, last_tag, oldest_of, newest_of}
+use Rattle.arena_api.specs.Works.{is_free as is_free_buffer}
+use Rattle.arena_api.specs.Calls.{IsKept, IsInOrder, IsLowestFree, IsFresh, FitsEntry, handed_out}
+use Rattle.arena_api.specs.Generations.{LetsGo, Reclaims, current, reclaimed, freed_below}
+use Rattle.arena_api.specs.declared.answers.Oldest.{Oldest}
+use Rattle.store_api.specs.Statuses.{Status, in_use, free_below, with_status}
+use Rattle.store_api.specs.Ledgers.{is_in, is_held}
+use Rattle.entry_ledger.specs.Entries.{EntriesView, IsGood, is_settled_entry}
+use Rattle.entry_ledger.specs.Calls.{CanTake, free_mark, Drops, Accepts, Undoes, Frees, made_at, opened_at, new_entries, with_state, freed}
+use Rattle.entry_store.specs.Standing.{Stands, IsOver, status_by, status_of, statuses, backs, back_of, is_since, is_mark_of}
+use Rattle.entry_store.specs.ProofsForMarks.{marks-opened, marks-freed, held-freed, width-freed}
+use Rattle.entry_store.proofs.Queues.{newest-drop}
+use Rattle.entry_store.proofs.Soundness.{sound-made, sound-opened, sound-reclaimed, sound-same, lets-last}
+use Rattle.entry_store.specs.ProofsForStates.{IsWeaker, sound-weaker, with_state-at, in_use-used, dropped-weaker, dropped-since, undone-weaker, undone-settled, undone-since, accepted-status, accepted-settled, accepted-since, weaker-accept, open-status, freed-status, freed-undone, freed-settled, freed-since}
 
-module _ {H : Type 0} (bits : ℕ) (work : WorkView H) (m : Records) (e : EntriesView) (unit : Bool) (last active : ℕ) (st : Stands bits work m e unit last active) where
-  -- after an undo
-  undone-at : (q : ℕ) (o : Option State) → e.state q ≡ o → IsWeaker (status_of last (option_map (undone last) o)) (status_of last o)
-  undone-at q None is = weaker-same Status.unmade
-  undone-at q (Some s) is = undone-weaker last s (st.up_to q s is)
+pub status-set : (has : Bool) (last : ℕ) (state : ℕ → Option State) (r : ℕ) (s : State) (q : ℕ) (c : Status) → (q ≡ r → status_by has last s ≡ c) → status_of has last (with_state state r s q) ≡ cond (eqb q r) c (status_of has last (state q))
+status-set has last state r s q c is = elim (cases_eq q r) [
+  | inl e ↦ subst (λ t. status_of has last (cond t (Some s) (state q)) ≡ cond t c (status_of has last (state q))) (sym (eq-eqb q r e)) (is e)
+  | inr ne ↦ subst (λ t. status_of has last (cond t (Some s) (state q)) ≡ cond t c (status_of has last (state q))) (sym (ne_eqb q r ne)) refl
+]
 
-  undone-state : (q : ℕ) (o : Option State) (s : State) → e.state q ≡ o → option_map (undone last) o ≡ Some s → (is_up_to last s ≡ true) × (is_touched s ≡ false)
-  undone-state q None s is same = absurd (none-some s same)
-  undone-state q (Some t) s is same =
-      let e : undone last t ≡ s = same_Some (undone last t) s same in
-      (subst (λ u. is_up_to last u ≡ true) e (undone-up_to last t (st.up_to q t is)), subst (λ u. is_touched u ≡ false) e (undone-settled last t))
+module _ {H : Type 0} (bits : ℕ) (work : WorkView H) (m : Records) (e : EntriesView) (unit : Bool) (st : Stands bits work m e unit) where
+  abbrev has : ℕ → Bool
+  has q = is_in (last_image work.commits) q
 
-  pub stands-undone : IsGood bits (undone_at e last) → Stands bits work m (undone_at e last) false last active
-  stands-undone good = record {
+  -- the states and the counts change
+  pub stands-changed : (new : EntriesView) (now : Bool) → new ≡ record e { state = new.state; of_width = new.of_width } → IsGood bits new
+      → ((q : ℕ) → IsWeaker (status_of (has q) e.last (new.state q)) (statuses work.commits e q))
+      → ((q : ℕ) → is_since e.last e.generation (new.state q) ≡ true)
+      → (now ≡ false → (q : ℕ) → is_settled_entry (new.state q) ≡ true) → (now ≡ false → (w : ℕ) → (new.of_width w).fresh ≡ 0)
+      → Stands bits work m new now
+  stands-changed new now same good weaker since settled fresh = record {
     good = good;
-    buffers = st.buffers;
-    words = st.words;
-    width = st.width;
-    ready = st.ready;
-    active_is = st.active_is;
-    last_is = st.last_is;
-    few_made = st.few_made;
-    up_to = λ q s is. (undone-state q (e.state q) s refl is).0;
-    there = λ q h. st.there q (implied _ _ (undone-at q (e.state q) refl).has h);
-    unkept = λ q h. st.unkept q (implied _ _ (undone-at q (e.state q) refl).uncommitted h);
-    committed = λ q h. st.committed q (implied _ _ (undone-at q (e.state q) refl).committed h);
-    settled = λ _ q s is. (undone-state q (e.state q) s refl is).1;
-    no_fresh = λ _ w. refl;
-    no_gone = λ _ w. refl;
+    count = ap (λ x. x.count) same ∙ st.count;
+    words = ap (λ x. x.words) same ∙ st.words;
+    last = ap (λ x. x.last) same ∙ st.last;
+    generation = ap (λ x. x.generation) same ∙ st.generation;
+    oldest = ap (λ x. x.oldest) same ∙ st.oldest;
+    marks = λ b below. subst (λ x. is_mark_of (x.mark b) (work.buffer b) ≡ true) (sym same) (st.marks b below);
+    sound = sound-weaker bits work m (statuses work.commits e) (statuses work.commits new) st.sound
+        (λ q. subst (λ l. IsWeaker (status_of (has q) l (new.state q)) (statuses work.commits e q)) (sym (ap (λ x. x.last) same)) (weaker q));
+    since = λ q. subst (λ l. is_since l new.generation (new.state q) ≡ true) (sym (ap (λ x. x.last) same)) (subst (λ g. is_since e.last g (new.state q) ≡ true) (sym (ap (λ x. x.generation) same)) (since q));
+    settled = settled;
+    no_fresh = fresh;
+    unread = st.unread;
   }
 
-  -- after a drop
-  module _ (r : ℕ) (s : State) (is : e.state r ≡ Some s) (used : is_used s ≡ true) (begun : unit ≡ true) where
-    dropped-at : (q : ℕ) → IsWeaker (status_of last (with_state e.state r (dropped last s) q)) (status_of last (e.state q))
-    dropped-at q =
-        with_state-at (λ o. IsWeaker (status_of last o) (status_of last (e.state q))) e.state r (dropped last s) q
-        (λ same. subst (λ o. IsWeaker (status_by last (dropped last s)) (status_of last o)) (sym (ap e.state same ∙ is)) (dropped-weaker last s used)) (λ ne. weaker-same _)
+  -- a drop
+  module _ (new : EntriesView) (r : ℕ) (s : State) (is : e.state r ≡ Some s) (used : in_use (status_by (has r) e.last s) ≡ true) (begun : unit ≡ true) (drops : Drops e new r s) where
+    state-dropped : (P : ℕ → Option State → Type 0) (q : ℕ) → (q ≡ r → P q (Some (dropped e.last s))) → ((q ≡ r → ⊥) → P q (e.state q)) → P q (new.state q)
+    state-dropped P q here other = subst (P q) (sym (ap (λ (f : ℕ → Option State). f q) drops.state)) (with_state-at (P q) e.state r (dropped e.last s) q here other)
 
-    dropped-state : (q : ℕ) (t : State) → with_state e.state r (dropped last s) q ≡ Some t → is_up_to last t ≡ true
-    dropped-state q t =
-        with_state-at (λ o. o ≡ Some t → is_up_to last t ≡ true) e.state r (dropped last s) q
-        (λ same h. subst (λ u. is_up_to last u ≡ true) (same_Some (dropped last s) t h) (dropped-up_to last s (st.up_to r s is))) (λ ne h. st.up_to q t h)
+    pub dropped-at : (q : ℕ) → IsWeaker (status_of (has q) e.last (new.state q)) (statuses work.commits e q)
+    dropped-at q = state-dropped (λ q o. IsWeaker (status_of (has q) e.last o) (statuses work.commits e q)) q
+        (λ same. subst (λ x. IsWeaker (status_by (has x) e.last (dropped e.last s)) (status_of (has x) e.last (e.state x))) (sym same)
+        (subst (λ o. IsWeaker (status_by (has r) e.last (dropped e.last s)) (status_of (has r) e.last o)) (sym is) (dropped-weaker (has r) e.last s used)))
+        (λ ne. inl refl)
 
-    pub stands-dropped : IsGood bits (dropped_at bits e last r s) → Stands bits work m (dropped_at bits e last r s) unit last active
-    stands-dropped good = record {
-      good = good;
-      buffers = st.buffers;
-      words = st.words;
-      width = st.width;
-      ready = st.ready;
-      active_is = st.active_is;
-      last_is = st.last_is;
-      few_made = st.few_made;
-      up_to = dropped-state;
-      there = λ q h. st.there q (implied _ _ (dropped-at q).has h);
-      unkept = λ q h. st.unkept q (implied _ _ (dropped-at q).uncommitted h);
-      committed = λ q h. st.committed q (implied _ _ (dropped-at q).committed h);
-      settled = λ ended q t at. absurd (true≢false (sym begun ∙ ended));
-      no_fresh = λ ended w. absurd (true≢false (sym begun ∙ ended));
-      no_gone = λ ended w. absurd (true≢false (sym begun ∙ ended));
-    }
+    pub stands-dropped : IsGood bits new → Stands bits work m new unit
+    stands-dropped good =
+        stands-changed new unit drops.same good dropped-at
+        (λ q. state-dropped (λ q o. is_since e.last e.generation o ≡ true) q (λ same. dropped-since e.last e.generation s (in_use-used (has r) e.last s used)) (λ ne. st.since q))
+        (λ ended q. absurd (true≢false (sym begun ∙ ended))) (λ ended w. absurd (true≢false (sym begun ∙ ended)))
 
-  -- after a make
+  -- a unit ends
+  pub stands-accepted : (new : EntriesView) → Accepts e new → IsGood bits new → Stands bits work m new false
+  stands-accepted new accepts good =
+      stands-changed new false accepts.same good
+      (λ q. subst (λ o. IsWeaker (status_of (has q) e.last o) (statuses work.commits e q)) (sym (accepts.state q))
+      (subst (λ c. IsWeaker c (statuses work.commits e q)) (sym (accepted-status (has q) e.last e.generation (e.state q))) (weaker-accept (statuses work.commits e q))))
+      (λ q. subst (λ o. is_since e.last e.generation o ≡ true) (sym (accepts.state q)) (accepted-since e.last e.generation (e.state q) (st.since q)))
+      (λ ended q. subst (λ o. is_settled_entry o ≡ true) (sym (accepts.state q)) (accepted-settled e.last e.generation (e.state q)))
+      (λ ended. accepts.fresh)
+
+  undone-at : (q : ℕ) (o : Option State) → e.state q ≡ o → IsWeaker (status_of (has q) e.last (option_map (undone e.last) o)) (status_of (has q) e.last o)
+  undone-at q None is = inl refl
+  undone-at q (Some s) is = undone-weaker (has q) e s (st.good.up_to q s is)
+
+  pub stands-undone : (new : EntriesView) → Undoes e new → IsGood bits new → Stands bits work m new false
+  stands-undone new undoes good =
+      stands-changed new false undoes.same good
+      (λ q. subst (λ o. IsWeaker (status_of (has q) e.last o) (statuses work.commits e q)) (sym (undoes.state q)) (undone-at q (e.state q) refl))
+      (λ q. subst (λ o. is_since e.last e.generation o ≡ true) (sym (undoes.state q)) (undone-since e.last e.generation (e.state q) (st.since q)))
+      (λ ended q. subst (λ o. is_settled_entry o ≡ true) (sym (undoes.state q)) (undone-settled e.last (e.state q)))
+      (λ ended. undoes.fresh)
+
+  -- an entry is made
   module _ (width r : ℕ) (ws : List ℕ) (can : CanTake bits e width r) (some : 0 < length ws) (begun : unit ≡ true) where
-    open-uncommitted : (o : Option State) → is_open_entry o ≡ true → is_uncommitted (status_of last o) ≡ true
-    open-uncommitted None h = refl
-    open-uncommitted (Some s) h = ap is_uncommitted (free-status last s h)
+    pub status-made : (q : ℕ) → statuses work.commits (made_at e width r) q ≡ with_status (statuses work.commits e) r Status.pending q
+    status-made q = status-set (has q) e.last e.state r Made q Status.pending (λ same. refl)
 
-    put-there : (q : ℕ) → has_record (status_of last (with_state e.state r Made q)) ≡ true → 0 < length (with_words m r ws q)
-    put-there q = elim (cases_eq q r) [
-      | inl same ↦ (λ h. subst (λ xs. 0 < length xs) (sym (cond-true (eqb q r) ws (m q) (eq-eqb q r same))) some)
-      | inr ne ↦
-          (λ h. subst (λ xs. 0 < length xs) (sym (cond-false (eqb q r) ws (m q) (ne_eqb q r ne)))
-          (st.there q (subst (λ o. has_record (status_of last o) ≡ true) (cond-false (eqb q r) (Some Made) (e.state q) (ne_eqb q r ne)) h)))
-    ]
-
-    put-committed : (q : ℕ) → is_committed (status_of last (with_state e.state r Made q)) ≡ true → with_words m r ws q ≡ words_at (last_image work.commits) q
-    put-committed q = elim (cases_eq q r) [
-      | inl same ↦ (λ h. absurd (false≢true (subst (λ o. is_committed (status_of last o) ≡ true) (cond-true (eqb q r) (Some Made) (e.state q) (eq-eqb q r same)) h)))
-      | inr ne ↦
-          (λ h. cond-false (eqb q r) ws (m q) (ne_eqb q r ne)
-          ∙ st.committed q (subst (λ o. is_committed (status_of last o) ≡ true) (cond-false (eqb q r) (Some Made) (e.state q) (ne_eqb q r ne)) h))
-    ]
-
-    put-unkept : (q : ℕ) → is_uncommitted (status_of last (with_state e.state r Made q)) ≡ true → InNoCommit work.commits q
-    put-unkept q =
-        with_state-at (λ o. is_uncommitted (status_of last o) ≡ true → InNoCommit work.commits q) e.state r Made q
-        (λ same h. subst (InNoCommit work.commits) (sym same) (st.unkept r (open-uncommitted (e.state r) can.is_open))) (λ ne h. st.unkept q h)
-
-    put-state : (q : ℕ) (t : State) → with_state e.state r Made q ≡ Some t → is_up_to last t ≡ true
-    put-state q t =
-        with_state-at (λ o. o ≡ Some t → is_up_to last t ≡ true) e.state r Made q
-        (λ same h. subst (λ u. is_up_to last u ≡ true) (same_Some Made t h) refl) (λ ne h. st.up_to q t h)
-
-    made-few : (w : ℕ) → with_count e.made width (one_more (e.made width)) w ≤ 18446744073709551615
-    made-few w = by_test (eqb w width)
-      where
-        by_test : (t : Bool) → cond t (one_more (e.made width)) (e.made w) ≤ 18446744073709551615
-        by_test true = omega arith
-        by_test false = st.few_made w
-
-    pub stands-made : IsGood bits (made_at e width r) → Stands bits work (with_words m r ws) (made_at e width r) unit last active
-    stands-made good = record {
+    pub stands-made : (stored : _) → IsGood bits (made_at e width r) → Stands bits (record work { stored = stored }) (with_words m r ws) (made_at e width r) unit
+    stands-made stored good = record {
       good = good;
-      buffers = st.buffers;
+      count = st.count;
       words = st.words;
-      width = st.width;
-      ready = st.ready;
-      active_is = st.active_is;
-      last_is = st.last_is;
-      few_made = made-few;
-      up_to = put-state;
-      there = put-there;
-      unkept = put-unkept;
-      committed = put-committed;
-      settled = λ ended q t at. absurd (true≢false (sym begun ∙ ended));
+      last = st.last;
+      generation = st.generation;
+      oldest = st.oldest;
+      marks = st.marks;
+      sound =
+          let here = sound-made bits work m (statuses work.commits e) st.sound r ws (open-status (has r) e.last (e.state r) can.is_open) some in
+          sound-same bits (record work { stored = stored }) (with_words m r ws) (with_status (statuses work.commits e) r Status.pending) (statuses work.commits (made_at e width r))
+          (record { there = here.there; committed = here.committed; unkept = here.unkept; out = here.out }) status-made;
+      since = λ q. with_state-at (λ o. is_since e.last e.generation o ≡ true) e.state r Made q (λ same. refl) (λ ne. st.since q);
+      settled = λ ended q. absurd (true≢false (sym begun ∙ ended));
       no_fresh = λ ended w. absurd (true≢false (sym begun ∙ ended));
-      no_gone = λ ended w. absurd (true≢false (sym begun ∙ ended));
+      unread = st.unread;
     }
 
--- after a buffer is handed out
-module _ {H : Type 0} (bits : ℕ) (work : WorkView H) (m : Records) (e : EntriesView) (unit : Bool) (last active b width : ℕ) (st : Stands bits work m e unit last active)
-    (low : IsLowestFree work.buffer work.sizes.buffers b) where
-  width-opened : (a : ℕ) → a < work.sizes.buffers → cond (eqb a b) width (e.width a) ≡ active_width (cond (eqb a b) (Buffer.active width (last_tag (work.buffer b))) (work.buffer a))
-  width-opened a below = by_test (eqb a b)
-    where
-      by_test : (t : Bool) → cond t width (e.width a) ≡ active_width (cond t (Buffer.active width (last_tag (work.buffer b))) (work.buffer a))
-      by_test true = refl
-      by_test false = st.width a below
+  -- a buffer is handed out
+  module _ (b width : ℕ) (low : IsLowestFree work.buffer work.sizes.buffers b)
+      (kept : (n r : ℕ) → IsKept work.commits n → 0 < length (words_at (work.commits.image n) r)
+      → FitsEntry bits work.sizes (width_of (work.buffer (buffer_of bits r))) r (length (words_at (work.commits.image n) r))) where
+    pub held-opened : (a : ℕ) → is_held (work.buffer a) ≡ false → is_held (cond (eqb a b) (Buffer.active width (last_tag (work.buffer b))) (work.buffer a)) ≡ false
+    held-opened a h = by_test (eqb a b)
+      where
+        by_test : (t : Bool) → is_held (cond t (Buffer.active width (last_tag (work.buffer b))) (work.buffer a)) ≡ false
+        by_test true = refl
+        by_test false = h
 
-  pub stands-opened : IsGood bits (with_buffer_of e b width) → Stands bits (handed_out work b width) m (with_buffer_of e b width) unit last (active + 1)
-  stands-opened good = record {
+    pub stands-opened : IsGood bits (opened_at e b width) → ((w : ℕ) → ((opened_at e b width).of_width w).fresh ≡ (e.of_width w).fresh) → Stands bits (handed_out work b width) m (opened_at e b width) unit
+    stands-opened good fresh =
+        let here = sound-opened bits work m (statuses work.commits e) st.sound b width low.free kept in
+        record {
+          good = good;
+          count = st.count;
+          words = st.words;
+          last = st.last;
+          generation = st.generation;
+          oldest = st.oldest;
+          marks = λ a below. marks-opened e.mark work.buffer b width (last_tag (work.buffer b)) a (st.marks a below);
+          sound = record { there = here.there; committed = here.committed; unkept = here.unkept; out = here.out };
+          since = st.since;
+          settled = st.settled;
+          no_fresh = λ ended w. fresh w ∙ st.no_fresh ended w;
+          unread = λ a below alone low. held-opened a (st.unread a below alone low);
+        }
+
+-- a reclaim
+module _ {H : Type 0} (bits : ℕ) (work : WorkView H) (m : Records) (e : EntriesView) (unit : Bool) (st : IsOver bits work m e unit) (next : WorkView H) (new : EntriesView) (answer : Oldest) (reclaims : Reclaims answer work next) (goes : LetsGo work.commits next.commits)
+    (knows : next ≡ reclaimed work next) (frees : Frees e new answer.generation) (order : IsInOrder next) where
+  abbrev now-has : ℕ → Bool
+  now-has q = is_in (last_image work.commits) q
+
+  low : answer.generation ≤ e.generation → (q : ℕ) → status_of (now-has q) e.last (option_map (freed answer.generation) (e.state q)) ≡ free_below answer.generation (statuses work.commits e q)
+  low below q = freed-status (now-has q) e.last e.generation answer.generation (e.state q) (st.since q) below
+
+  has-same : (q : ℕ) → is_in (last_image next.commits) q ≡ now-has q
+  has-same q = ap (λ i. is_in i q) (lets-last work.commits next.commits goes)
+
+  pub status-freed : answer.generation ≤ e.generation → (q : ℕ) → statuses next.commits new q ≡ free_below answer.generation (statuses work.commits e q)
+  status-freed below q =
+      ap (λ h. status_of h new.last (new.state q)) (has-same q)
+      ∙ ap (λ l. status_of (now-has q) l (new.state q)) (ap (λ x. x.last) frees.same)
+      ∙ ap (status_of (now-has q) e.last) (frees.state q)
+      ∙ low below q
+
+  pub back-freed : answer.generation ≤ e.generation → (q : ℕ) → backs next.commits new q ≡ free_below answer.generation (backs work.commits e q)
+  back-freed below q =
+      ap (λ h. back_of h new.last (new.state q)) (has-same q)
+      ∙ ap (λ l. back_of (now-has q) l (new.state q)) (ap (λ x. x.last) frees.same)
+      ∙ ap (back_of (now-has q) e.last) (frees.state q)
+      ∙ ap (status_of (now-has q) e.last) (freed-undone e.last answer.generation (e.state q))
+      ∙ freed-status (now-has q) e.last e.generation answer.generation (option_map (undone e.last) (e.state q)) (undone-since e.last e.generation (e.state q) (st.since q)) below
+
+  newest-same : newest_of next.queue ≡ newest_of work.queue
+  newest-same = ap newest_of reclaims.queue ∙ newest-drop reclaims.closed work.queue reclaims.left
+
+  pub stands-reclaimed : answer.generation ≤ e.generation → IsGood bits new
+      → ((b : ℕ) → b < next.sizes.buffers → next.made ≡ 0 → current next < next.sizes.generations → is_held (next.buffer b) ≡ false) → Stands bits next m new unit
+  stands-reclaimed below good unread = record {
     good = good;
-    buffers = st.buffers;
-    words = st.words;
-    width = width-opened;
-    ready = refl;
-    active_is = ap (λ n. n + 1) st.active_is ∙ sym (active_count-handed work.buffer b width (last_tag (work.buffer b)) work.sizes.buffers low.below low.free);
-    last_is = st.last_is;
-    few_made = st.few_made;
-    up_to = st.up_to;
-    there = st.there;
-    unkept = st.unkept;
-    committed = st.committed;
-    settled = st.settled;
-    no_fresh = st.no_fresh;
-    no_gone = st.no_gone;
+    count = ap (λ x. x.count) frees.same ∙ st.count ∙ sym (ap (λ w. w.sizes.buffers) knows);
+    words = ap (λ x. x.words) frees.same ∙ st.words ∙ sym (ap (λ w. w.sizes.words) knows);
+    last = ap (λ x. x.last) frees.same ∙ st.last ∙ sym goes.last;
+    generation = ap (λ x. x.generation) frees.same ∙ st.generation ∙ sym (ap (λ h. h.generation) newest-same);
+    oldest = ap (λ x. x.oldest) frees.same ∙ reclaims.generation;
+    marks = λ b inside.
+        subst (λ f. is_mark_of (new.mark b) (f b) ≡ true) (sym reclaims.buffer)
+        (subst (λ g. is_mark_of (new.mark b) (freed_below g (work.buffer b)) ≡ true) reclaims.generation
+        (subst (λ k. is_mark_of k (freed_below answer.generation (work.buffer b)) ≡ true) (sym (frees.mark b)) (marks-freed answer.generation (e.mark b) (work.buffer b) (st.marks b (subst (λ n. b < n) (ap (λ w. w.sizes.buffers) knows) inside)))));
+    sound = sound-reclaimed bits work next m (statuses work.commits e) st.sound reclaims.closed reclaims.left reclaims.queue goes order
+        (λ b. ap (λ f. active_width (f b)) reclaims.buffer ∙ width-freed (oldest_of next.queue).generation (work.buffer b)) (ap (λ w. w.sizes) knows)
+        (statuses next.commits new) (λ q. status-freed below q ∙ ap (λ g. free_below g (statuses work.commits e q)) reclaims.generation);
+    since = λ q.
+        subst (λ o. is_since new.last new.generation o ≡ true) (sym (frees.state q))
+        (subst (λ l. is_since l new.generation (option_map (freed answer.generation) (e.state q)) ≡ true) (sym (ap (λ x. x.last) frees.same))
+        (subst (λ g. is_since e.last g (option_map (freed answer.generation) (e.state q)) ≡ true) (sym (ap (λ x. x.generation) frees.same)) (freed-since e.last e.generation answer.generation (e.state q) (st.since q))));
+    settled = λ ended q. subst (λ o. is_settled_entry o ≡ true) (sym (frees.state q)) (freed-settled answer.generation (e.state q) (st.settled ended q));
+    no_fresh = λ ended w. (frees.counts w).fresh ∙ st.no_fresh ended w;
+    unread = unread;
   }
 
--- a store stands over what the work stored
-pub stands-put : {H : Type 0} (bits : ℕ) (work new : WorkView H) (m n : Records) (e f : EntriesView) (unit : Bool) (last active : ℕ) → new ≡ record work { stored = new.stored } → n ≡ m → f ≡ e
-    → Stands bits work m e unit last active → Stands bits new n f unit last active
-stands-put bits work new m n e f unit last active knows written made st =
-    subst (λ w. Stands bits w n f unit last active) (sym knows)
-    (subst (λ (x : Records). Stands bits (record work { stored = new.stored }) x f unit last active) (sym written)
-    (subst (λ g. Stands bits (record work { stored = new.stored }) m g unit last active) (sym made) (record {
-      good = st.good;
-      buffers = st.buffers;
-      words = st.words;
-      width = st.width;
-      ready = st.ready;
-      active_is = st.active_is;
-      last_is = st.last_is;
-      few_made = st.few_made;
-      up_to = st.up_to;
-      there = st.there;
-      unkept = st.unkept;
-      committed = st.committed;
-      settled = st.settled;
-      no_fresh = st.no_fresh;
-      no_gone = st.no_gone;
-    })))
+-- without readers nothing is on hold after a reclaim either
+pub unread-reclaimed : {H : Type 0} (bits : ℕ) (work : WorkView H) (m : Records) (e : EntriesView) (unit : Bool) → Stands bits work m e unit → (next : WorkView H) (answer : Oldest) → Reclaims answer work next
+    → next ≡ reclaimed work next → (b : ℕ) → b < next.sizes.buffers → next.made ≡ 0 → current next < next.sizes.generations → is_held (next.buffer b) ≡ false
+unread-reclaimed bits work m e unit st next answer reclaims knows b inside alone limit =
+    let newest : newest_of next.queue ≡ newest_of work.queue = ap newest_of reclaims.queue ∙ newest-drop reclaims.closed work.queue reclaims.left in
+    subst (λ f. is_held (f b) ≡ false) (sym reclaims.buffer) (held-freed (oldest_of next.queue).generation (work.buffer b)
+    (st.unread b (subst (λ n. b < n) (ap (λ w. w.sizes.buffers) knows) inside) (sym (ap (λ w. w.made) knows) ∙ alone)
+    (subst (λ h. h.generation < work.sizes.generations) newest (subst (λ z. (newest_of next.queue).generation < z.generations) (ap (λ w. w.sizes) knows) limit))))
+
+pub over-from : {H : Type 0} (bits : ℕ) (work : WorkView H) (m : Records) (e : EntriesView) (unit : Bool) → Stands bits work m e unit → IsOver bits work m e unit
+over-from bits work m e unit st = record {
+  good = st.good;
+  count = st.count;
+  words = st.words;
+  last = st.last;
+  generation = st.generation;
+  marks = st.marks;
+  sound = st.sound;
+  since = st.since;
+  settled = st.settled;
+  no_fresh = st.no_fresh;
+}
 
 -- a new store stands
 pub stands-new : {H : Type 0} (bits : ℕ) (work : WorkView H) (m : Records) (e : EntriesView) → IsFresh work → e ≡ new_entries work.sizes.buffers work.sizes.words → IsGood bits e
-    → Stands bits work m e false 0 0
+    → Stands bits work m e false
 stands-new bits work m e fresh new good =
-    subst (λ g. Stands bits work m g false 0 0) (sym new) (record {
+    subst (λ g. Stands bits work m g false) (sym new) (record {
       good = subst (IsGood bits) new good;
-      buffers = refl;
+      count = refl;
       words = refl;
-      width = λ b below. sym (free-width (work.buffer b) (fresh.buffers b));
-      ready = refl;
-      active_is = sym (active_count-free work.buffer work.sizes.buffers fresh.buffers);
-      last_is = sym fresh.last;
-      few_made = λ w. omega arith;
-      up_to = λ r s is. absurd (none-some s is);
-      there = λ r h. absurd (false≢true h);
-      unkept = λ r _ n kept.
-          let first : n ≡ 0 = (let to = kept.to in let last = fresh.last in omega arith) in
-          ap (λ k. words_at (work.commits.image k) r) first ∙ ap (λ i. words_at i r) fresh.image;
-      committed = λ r h. absurd (false≢true h);
-      settled = λ _ r s is. absurd (none-some s is);
+      last = sym fresh.last;
+      generation = sym (ap (λ q. (newest_of q).generation) fresh.queue);
+      oldest = sym (ap (λ q. (oldest_of q).generation) fresh.queue);
+      marks = λ b below. free-mark (work.buffer b) (fresh.buffers b);
+      sound = record {
+        there = λ r h. absurd (false≢true h);
+        committed = λ r h. absurd (false≢true h);
+        unkept = λ r lives below _ n kept.
+            let first : n ≡ 0 = (let to = kept.to in let last = fresh.last in omega arith) in
+            ap (λ k. words_at (work.commits.image k) r) first ∙ ap (λ i. words_at i r) fresh.image;
+        out = λ r tag h. absurd (cc);
+      };
+      since = λ r. refl;
+      settled = λ _ r. refl;
       no_fresh = λ _ w. refl;
-      no_gone = λ _ w. refl;
+      unread = λ b below alone limit. free-held (work.buffer b) (fresh.buffers b);
     })
+  where
+    free-mark : (b : Buffer) → is_free_buffer b ≡ true → is_mark_of free_mark b ≡ true
+    free-mark (Buffer.free t) h = refl
+    free-mark (Buffer.active w t) h = absurd (false≢true h)
+    free-mark (Buffer.held w t) h = absurd (false≢true h)
+
+    free-held : (b : Buffer) → is_free_buffer b ≡ true → is_held b ≡ false
+    free-held (Buffer.free t) h = refl
+    free-held (Buffer.active w t) h = refl
+    free-held (Buffer.held w t) h = absurd (false≢true h)

@@ -1,2 +1,5 @@
 pub mod Standing
+pub mod Steps
+pub mod ProofsForStates
+pub mod ProofsForMarks
 pub mod ProofsForStore

@@ -1,102 +1,98 @@
 -- Nobody has to read this: proofs of the laws of `Store`, which an implementation can cite from specs/ alone.
-use Rattle.std.proofs.Common.{◌≡◌, ℕ, ◌+◌, ◌*◌, ◌/◌, ◌<◌, ◌≤◌, Bool, true, false, cond, eqb, List, [], ◌∷◌, length, Option, Some, None, refl, sym, ap, subst, ◌∙◌, arith}
+use Rattle.std.proofs.Common.{◌≡◌, ℕ, zero, suc, ◌+◌, ◌*◌, ◌/◌, ◌<◌, ◌≤◌, Bool, true, false, cond, eqb, List, [], ◌∷◌, length, Option, Some, None, refl, sym, ap, subst, ◌∙◌, arith}
 use Rattle.std.specs.List.{IsDistinct, All, AllByRecursion}
-use Rattle.std.proofs.lemmas.List.Elements.{All-head, All-tail}
-use Rattle.std.proofs.lemmas.Bool.{true≢false, cond-true}
-use Rattle.entry_shelf.specs.declared.state.State.{State}
-use Rattle.entry_shelf.specs.declared.state.State.TheVariants.{Free, Returned, Made, InUse, LetGo, DroppedNow, Dropped}
-use Rattle.entry_shelf.specs.States.{is_free_state, is_touched, undone}
+use Rattle.std.proofs.lemmas.List.Elements.{All-head, All-tail, All-from_recursion}
+use Rattle.std.proofs.Common.{inl, inr, leb}
+use Rattle.std.specs.Prelude.{◌&&◌}
+use Rattle.std.proofs.lemmas.Bool.{false≢true, cond-true, cases_Bool, ne_eqb, leb-true, and_parts}
+use Rattle.buffer_shelf.specs.declared.state.State.{State}
+use Rattle.buffer_shelf.specs.declared.state.State.TheVariants.{Dropped}
 use Rattle.entry_ref.specs.References.{buffer_of}
 use Rattle.image_base.specs.Places.{IsEntry}
 use Rattle.image_base.specs.Records.{Records}
 use Rattle.image_base.specs.Images.{words_at}
-use Rattle.arena_api.specs.Works.{WorkView, active_width, last_image}
-use Rattle.arena_api.specs.Calls.{FitsEntry}
-use Rattle.store_api.specs.Statuses.{Status, has_record, is_open, is_committed}
-use Rattle.store_api.specs.Ledgers.{IsSettled, IsEntryOf, is_width, capacity}
+use Rattle.arena_api.specs.Works.{WorkView, Tag, active_width, free_count, last_image}
+use Rattle.arena_api.specs.Calls.{FitsEntry, InNoCommit}
+use Rattle.store_api.specs.Statuses.{Status, has_record, is_taken, is_committed, is_uncommitted}
+use Rattle.store_api.specs.Ledgers.{IsSettled, IsEntryOf, IsSpare, IsHeldEntry, IsUnfilled, is_this, is_in, is_width, buffers_in, widths, capacity}
 use Rattle.store_api.proofs.Counting.{few_entries, few_nodes}
-use Rattle.entry_states.specs.Entries.{EntriesView, is_open_entry}
-use Rattle.entry_store.specs.Standing.{Stands, status_by, status_of, back_of, ledger_of}
+use Rattle.buffer_states.specs.declared.BufferState.{BufferState}
+use Rattle.buffer_states.specs.Buffers.{is_free, is_active}
+use Rattle.entry_ledger.specs.Entries.{EntriesView, is_up_to, width_of, count_marks}
+use Rattle.entry_ledger.specs.Entries.{IsSpare as IsSpareEntry}
+use Rattle.entry_store.specs.Standing.{Stands, status_of, statuses, backs, ledger_of, tag_at}
+use Rattle.entry_store.specs.ProofsForMarks.{mark-width, count-free}
+use Rattle.entry_store.specs.ProofsForStates.{open-state, unmade-none, untouched}
 
 -- a record that is filtered by its status is there
 pub some_filtered : (t : Bool) (ws : List ℕ) → 0 < length (cond t ws []) → (t ≡ true) × (0 < length ws)
 some_filtered true ws h = (refl, h)
 some_filtered false ws h = absurd (omega arith)
 
-pub status_by-ne_unmade : (last : ℕ) (s : State) → status_by last s ≡ Status.unmade → ⊥
-status_by-ne_unmade last Free e = (cc)
-status_by-ne_unmade last Returned e = (cc)
-status_by-ne_unmade last Made e = (cc)
-status_by-ne_unmade last (InUse after) e = by_test (eqb after last) e
-  where
-    by_test : (t : Bool) → cond t Status.pending Status.live ≡ Status.unmade → ⊥
-    by_test true f = (cc)
-    by_test false f = (cc)
-status_by-ne_unmade last LetGo e = (cc)
-status_by-ne_unmade last (DroppedNow after) e = (cc)
-status_by-ne_unmade last (Dropped after) e = by_test (eqb after last) e
-  where
-    by_test : (t : Bool) → cond t Status.dropped Status.spent ≡ Status.unmade → ⊥
-    by_test true f = (cc)
-    by_test false f = (cc)
-
-pub unmade-none : (last : ℕ) (o : Option State) → status_of last o ≡ Status.unmade → o ≡ None
-unmade-none last None e = refl
-unmade-none last (Some s) e = absurd (status_by-ne_unmade last s e)
-
-pub open-free : (last : ℕ) (s : State) → is_open (status_by last s) ≡ true → is_free_state s ≡ true
-open-free last Free h = refl
-open-free last Returned h = refl
-open-free last Made h = h
-open-free last (InUse after) h = by_test (eqb after last) h
-  where
-    by_test : (t : Bool) → is_open (cond t Status.pending Status.live) ≡ true → false ≡ true
-    by_test true f = f
-    by_test false f = f
-open-free last LetGo h = h
-open-free last (DroppedNow after) h = h
-open-free last (Dropped after) h = by_test (eqb after last) h
-  where
-    by_test : (t : Bool) → is_open (cond t Status.dropped Status.spent) ≡ true → false ≡ true
-    by_test true f = f
-    by_test false f = f
-
-pub open-state : (last : ℕ) (o : Option State) → is_open (status_of last o) ≡ true → is_open_entry o ≡ true
-open-state last None h = refl
-open-state last (Some s) h = open-free last s h
-
-pub committed-has : (c : Status) → is_committed c ≡ true → has_record c ≡ true
+committed-has : (c : Status) → is_committed c ≡ true → has_record c ≡ true
 committed-has Status.unmade h = h
 committed-has Status.free h = h
 committed-has Status.pending h = refl
 committed-has Status.live h = refl
 committed-has Status.dropped h = refl
 committed-has Status.let_go h = refl
-committed-has Status.spent h = h
+committed-has (Status.held tag) h = h
+committed-has Status.left h = h
 
--- what no unit has changed stays through an undo
-pub untouched : (last : ℕ) (s : State) → is_touched s ≡ false → undone last s ≡ s
-untouched last Free h = refl
-untouched last Returned h = absurd (true≢false h)
-untouched last Made h = absurd (true≢false h)
-untouched last (InUse after) h = refl
-untouched last LetGo h = absurd (true≢false h)
-untouched last (DroppedNow after) h = absurd (true≢false h)
-untouched last (Dropped after) h = refl
+abbrev tag-in : Tag → Status → Tag
+tag-in other (Status.held tag) = tag
+tag-in other status = other
 
-module _ {H : Type 0} (bits : ℕ) (work : WorkView H) (m : Records) (e : EntriesView) (unit : Bool) (last active : ℕ) (st : Stands bits work m e unit last active) where
+-- a held entry was dropped in its tag's generation, before its commit
+use-held : (t has : Bool) (tag : Tag) → cond t Status.pending (cond has Status.live Status.left) ≡ Status.held tag → ⊥
+use-held true has tag e = (cc)
+use-held false true tag e = (cc)
+use-held false false tag e = (cc)
+
+held-dropped : (t : Bool) (after last g : ℕ) (tag : Tag) → eqb after last ≡ t → cond t Status.dropped (Status.held (tag_at g after)) ≡ Status.held tag → (eqb after last ≡ false) × (tag_at g after ≡ tag)
+held-dropped true after last g tag is e = absurd (cc)
+held-dropped false after last g tag is e = (is, ap (tag-in tag) e)
+
+pub held-state : (has : Bool) (last : ℕ) (o : Option State) (tag : Tag) → status_of has last o ≡ Status.held tag
+    → (after : ℕ) × (g : ℕ) × (o ≡ Some (Dropped after g)) × (eqb after last ≡ false) × (tag_at g after ≡ tag)
+held-state has last None tag e = absurd (cc)
+held-state has last (Some State.Free) tag e = absurd (cc)
+held-state has last (Some State.Returned) tag e = absurd (cc)
+held-state has last (Some State.Made) tag e = absurd (cc)
+held-state has last (Some (State.InUse after)) tag e = absurd (use-held (eqb after last) has tag e)
+held-state has last (Some State.LetGo) tag e = absurd (cc)
+held-state has last (Some (State.DroppedNow after)) tag e = absurd (cc)
+held-state has last (Some (State.Dropped after g)) tag e =
+    let both = held-dropped (eqb after last) after last g tag refl e in (after, g, refl, both.0, both.1)
+
+up-parts : (e : EntriesView) (after g : ℕ) → is_up_to e (Dropped after g) ≡ true → (e.oldest ≤ g) × (g ≤ e.generation)
+up-parts e after g up =
+    let parts = and_parts (leb after e.last && leb e.oldest g) (leb g e.generation) up in
+    let more = and_parts (leb after e.last) (leb e.oldest g) parts.0 in
+    (leb-true e.oldest g more.1, leb-true g e.generation parts.1)
+
+module _ {H : Type 0} (bits : ℕ) (work : WorkView H) (m : Records) (e : EntriesView) (unit : Bool) (st : Stands bits work m e unit) where
   abbrev status : ℕ → Status
-  status r = status_of last (e.state r)
+  status r = statuses work.commits e r
 
   abbrev records : Records
-  records r = cond (has_record (status_of last (e.state r))) (m r) []
+  records r = cond (has_record (statuses work.commits e r)) (m r) []
+
+  -- an entry of the entries is one of the work
+  pub entry-inside : (r : ℕ) (s : State) → e.state r ≡ Some s → IsEntry bits work.sizes.buffers work.sizes.words (active_width (work.buffer (buffer_of bits r))) r
+  entry-inside r s is =
+      let entry = st.good.entries r s is in
+      let inside : buffer_of bits r < work.sizes.buffers = subst (λ n. buffer_of bits r < n) st.count entry.inside in
+      subst (λ n. IsEntry bits n work.sizes.words (active_width (work.buffer (buffer_of bits r))) r) st.count
+      (subst (λ n. IsEntry bits e.count n (active_width (work.buffer (buffer_of bits r))) r) st.words
+      (subst (λ n. IsEntry bits e.count e.words n r) (mark-width (e.mark (buffer_of bits r)) (work.buffer (buffer_of bits r)) (st.marks (buffer_of bits r) inside)) entry))
 
   pub store_references : ((r : ℕ) → 0 < length (m r) → r < 4294967296) → (r : ℕ) → 0 < length (records r) → r < 4294967296
   store_references small r some = small r (some_filtered _ _ some).1
 
   pub store_recorded : (r : ℕ) → (has_record (status r) ≡ true → 0 < length (records r)) × (0 < length (records r) → has_record (status r) ≡ true)
   store_recorded r =
-      (λ h. subst (λ ws. 0 < length ws) (sym (cond-true (has_record (status r)) (m r) [] h)) (st.there r h), λ some. (some_filtered (has_record (status r)) (m r) some).0)
+      (λ h. subst (λ ws. 0 < length ws) (sym (cond-true (has_record (status r)) (m r) [] h)) (st.sound.there r h), λ some. (some_filtered (has_record (status r)) (m r) some).0)
 
   pub store_placed : ((r : ℕ) → 0 < length (m r) → FitsEntry bits work.sizes (active_width (work.buffer (buffer_of bits r))) r (length (m r)))
       → (r : ℕ) → 0 < length (records r) → FitsEntry bits work.sizes (active_width (work.buffer (buffer_of bits r))) r (length (records r))
@@ -104,39 +100,132 @@ module _ {H : Type 0} (bits : ℕ) (work : WorkView H) (m : Records) (e : Entrie
       let both = some_filtered (has_record (status r)) (m r) some in
       subst (λ ws. FitsEntry bits work.sizes (active_width (work.buffer (buffer_of bits r))) r (length ws)) (sym (cond-true (has_record (status r)) (m r) [] both.0)) (fits r both.1)
 
+  pub store_taken : (r : ℕ) → is_taken (status r) ≡ true → IsEntryOf bits work r
+  store_taken r taken = by_state (e.state r) refl taken
+    where
+      by_state : (o : Option State) → e.state r ≡ o → is_taken (status_of (is_in (last_image work.commits) r) e.last o) ≡ true → IsEntryOf bits work r
+      by_state None is h = absurd (false≢true h)
+      by_state (Some s) is h = entry-inside r s is
+
+  -- the width of a buffer
+  width-of : (b : ℕ) → b < work.sizes.buffers → width_of e b ≡ active_width (work.buffer b)
+  width-of b below = mark-width (e.mark b) (work.buffer b) (st.marks b below)
+
   -- an entry of an active buffer of the work is one of the entries
-  pub entry-of : (r : ℕ) → IsEntryOf bits work r → IsEntry bits e.buffers e.words (e.width (buffer_of bits r)) r
+  entry-of : (r : ℕ) → IsEntryOf bits work r → IsEntry bits e.count e.words (width_of e (buffer_of bits r)) r
   entry-of r entry =
-      subst (λ n. IsEntry bits n e.words (e.width (buffer_of bits r)) r) (sym st.buffers)
-      (subst (λ n. IsEntry bits work.sizes.buffers n (e.width (buffer_of bits r)) r) (sym st.words)
-      (subst (λ n. IsEntry bits work.sizes.buffers work.sizes.words n r) (sym (st.width (buffer_of bits r) entry.inside)) entry))
+      subst (λ n. IsEntry bits n e.words (width_of e (buffer_of bits r)) r) (sym st.count)
+      (subst (λ n. IsEntry bits work.sizes.buffers n (width_of e (buffer_of bits r)) r) (sym st.words)
+      (subst (λ n. IsEntry bits work.sizes.buffers work.sizes.words n r) (sym (width-of (buffer_of bits r) entry.inside)) entry))
 
-  pub store_filled : (r : ℕ) → IsEntryOf bits work r → status r ≡ Status.unmade → e.filled (active_width (work.buffer (buffer_of bits r))) ≡ Some (buffer_of bits r)
+  pub store_filled : (r : ℕ) → IsEntryOf bits work r → status r ≡ Status.unmade → (e.of_width (active_width (work.buffer (buffer_of bits r)))).filled ≡ Some (buffer_of bits r)
   store_filled r entry none =
-      subst (λ n. e.filled n ≡ Some (buffer_of bits r)) (st.width (buffer_of bits r) entry.inside)
-      (st.good.filled r (entry-of r entry) (unmade-none last (e.state r) none))
+      subst (λ n. (e.of_width n).filled ≡ Some (buffer_of bits r)) (width-of (buffer_of bits r) entry.inside)
+      (st.good.filled r (entry-of r entry) (unmade-none (is_in (last_image work.commits) r) e.last (e.state r) none))
 
-  pub store_spares : (r : ℕ) → IsEntryOf bits work r → is_open (status r) ≡ true → 0 < e.spare (active_width (work.buffer (buffer_of bits r)))
-  store_spares r entry open_is =
-      subst (λ n. 0 < e.spare n) (st.width (buffer_of bits r) entry.inside) (st.good.spares r (entry-of r entry) (open-state last (e.state r) open_is))
+  spare-entry : (shape width r : ℕ) → IsSpare bits (ledger_of work shape m e unit) width r → IsSpareEntry bits e width r
+  spare-entry shape width r spare =
+      let wide : width_of e (buffer_of bits r) ≡ width = width-of (buffer_of bits r) spare.entry.inside ∙ spare.of_width in
+      record {
+        entry = subst (λ n. IsEntry bits e.count e.words n r) wide (entry-of r spare.entry);
+        of_width = wide;
+        is_open = open-state (is_in (last_image work.commits) r) e.last (e.state r) spare.opened;
+        unsealed = spare.unsealed;
+      }
+
+  each-spare : (shape width : ℕ) (refs : List ℕ) → All (IsSpare bits (ledger_of work shape m e unit) width) refs → AllByRecursion (IsSpareEntry bits e width) refs
+  each-spare shape width [] all = tt
+  each-spare shape width (r ∷ rs) all =
+      (spare-entry shape width r (All-head (IsSpare bits (ledger_of work shape m e unit) width) r rs all), each-spare shape width rs (All-tail (IsSpare bits (ledger_of work shape m e unit) width) r rs all))
+
+  -- an active buffer has one of the widths
+  width-is : (r : ℕ) (width : ℕ) → IsSpareEntry bits e width r → is_width width ≡ true
+  width-is r width spare = elim (cases_Bool (is_active (e.mark (buffer_of bits r)).state)) [
+    | inl t ↦ (let same : (e.mark (buffer_of bits r)).width ≡ width = sym (ap (λ u. cond u (e.mark (buffer_of bits r)).width 0) t) ∙ spare.of_width in
+        ap is_width (sym same) ∙ (st.good.marks (buffer_of bits r)).width (active-busy _ t))
+    | inr t ↦ (let wide = spare.entry.wide in
+        let none : 0 ≡ width = sym (ap (λ u. cond u (e.mark (buffer_of bits r)).width 0) t) ∙ spare.of_width in absurd (omega arith))
+  ]
+    where
+      active-busy : (s : BufferState) → is_active s ≡ true → is_free s ≡ false
+      active-busy BufferState.Free h = absurd (false≢true h)
+      active-busy BufferState.Active h = refl
+      active-busy BufferState.OnHold h = absurd (false≢true h)
+
+  pub store_spares : (shape width : ℕ) (refs : List ℕ) → IsDistinct eqb refs → All (IsSpare bits (ledger_of work shape m e unit) width) refs → length refs ≤ (e.of_width width).spare
+  store_spares shape width [] distinct all = omega arith
+  store_spares shape width (r ∷ rs) distinct all =
+      let each = each-spare shape width (r ∷ rs) all in
+      st.good.spares width (r ∷ rs) (width-is r width each.0) distinct (All-from_recursion (IsSpareEntry bits e width) (r ∷ rs) each)
+
+  pub store_unkept : (r : ℕ) → IsEntryOf bits work r → is_uncommitted (status r) ≡ true → InNoCommit work.commits r
+  store_unkept r entry h = st.sound.unkept r entry.wide entry.inside h
+
+  pub store_held : (shape r : ℕ) (tag : Tag) → status r ≡ Status.held tag → IsHeldEntry (ledger_of work shape m e unit) r tag
+  store_held shape r tag is =
+      let from = held-state (is_in (last_image work.commits) r) e.last (e.state r) tag is in
+      let up = st.good.up_to r (Dropped from.0 from.1) from.2 in
+      let parts = up-parts e from.0 from.1 up in
+      let low : e.oldest ≤ from.1 = parts.0 in
+      let high : from.1 ≤ e.generation = parts.1 in
+      let out = st.sound.out r tag is in
+      let same : from.1 ≡ tag.generation = ap (λ t. t.generation) from.4 in
+      record {
+        unused = out.unused;
+        open_still = let o = st.oldest in omega arith;
+        generation = let g = st.generation in omega arith;
+        commit = out.commit;
+      }
 
   pub store_last : (r : ℕ) → is_committed (status r) ≡ true → records r ≡ words_at (last_image work.commits) r
-  store_last r h = cond-true (has_record (status r)) (m r) [] (committed-has _ h) ∙ st.committed r h
+  store_last r h = cond-true (has_record (status r)) (m r) [] (committed-has _ h) ∙ st.sound.committed r h
 
-  back-same : unit ≡ false → (r : ℕ) (o : Option State) → e.state r ≡ o → back_of last o ≡ status_of last o
-  back-same ended r None is = refl
-  back-same ended r (Some s) is = ap (status_by last) (untouched last s (st.settled ended r s is))
+  back-same : unit ≡ false → (r : ℕ) → backs work.commits e r ≡ statuses work.commits e r
+  back-same ended r = ap (status_of (is_in (last_image work.commits) r) e.last) (untouched e.last (e.state r) (st.settled ended r))
 
-  pub store_settled : (shape : ℕ) → unit ≡ false → IsSettled (ledger_of work shape m e unit last) records
+  pub store_settled : (shape : ℕ) → unit ≡ false → IsSettled (ledger_of work shape m e unit) records
   store_settled shape ended = record {
-    back = λ k r. back-same ended r (e.state r) refl k;
-    back_records = λ k r. cond (has_record (back-same ended r (e.state r) refl k)) (m r) [];
+    back = λ k r. back-same ended r k;
+    back_records = λ k r. cond (has_record (back-same ended r k)) (m r) [];
     fresh = st.no_fresh ended;
-    gone = st.no_gone ended;
   }
 
-  pub store_few_buffers : (w : ℕ) → is_width w ≡ true → e.count w ≤ 1 + e.made w / capacity work.sizes.words w
-  store_few_buffers w is = subst (λ n. e.count w ≤ 1 + e.made w / capacity n w) st.words (st.good.bound w is)
+  pub store_sealed : (shape b : ℕ) → (e.mark b).sealed ≡ true → IsUnfilled (ledger_of work shape m e unit) b
+  store_sealed shape b is =
+      let sealed = st.good.sealed b is in
+      let below : b < work.sizes.buffers = subst (λ n. b < n) st.count sealed.below in
+      let wide : (e.mark b).width ≡ active_width (work.buffer b) = sym (ap (λ u. cond u (e.mark b).width 0) sealed.active) ∙ width-of b below in
+      record {
+        below = below;
+        active = subst (λ n. 0 < n) wide (wide-some (e.mark b).width ((st.good.marks b).width (active-busy _ sealed.active)));
+        unfilled = unfilled-from (e.of_width (active_width (work.buffer b))).filled (λ h. sealed.unfilled (ap (λ n. (e.of_width n).filled) wide ∙ h));
+      }
+    where
+      active-busy : (s : BufferState) → is_active s ≡ true → is_free s ≡ false
+      active-busy BufferState.Free h = absurd (false≢true h)
+      active-busy BufferState.Active h = refl
+      active-busy BufferState.OnHold h = absurd (false≢true h)
+
+      wide-some : (w : ℕ) → is_width w ≡ true → 0 < w
+      wide-some zero h = absurd (false≢true h)
+      wide-some (suc w) h = omega arith
+
+      unfilled-from : (o : Option ℕ) → (o ≡ Some b → ⊥) → is_this o b ≡ false
+      unfilled-from None none = refl
+      unfilled-from (Some a) none = ne_eqb a b (λ same. none (ap (λ n. Some n) same))
+
+  pub store_finished : (b : ℕ) → e.finished ≡ Some b → (e.mark b).sealed ≡ true
+  store_finished b is = st.good.finished b is
+
+  pub store_counted : free_count work.buffer work.sizes.buffers + buffers_in e.of_width widths ≡ work.sizes.buffers
+  store_counted =
+      let free : count_marks is_free e.mark work.sizes.buffers ≡ free_count work.buffer work.sizes.buffers = count-free e.mark work.buffer work.sizes.buffers st.marks in
+      let whole : count_marks is_free e.mark work.sizes.buffers + buffers_in e.of_width widths ≡ work.sizes.buffers =
+      subst (λ n. count_marks is_free e.mark n + buffers_in e.of_width widths ≡ n) st.count st.good.whole in
+      omega arith
+
+  pub store_few_buffers : (w : ℕ) → is_width w ≡ true → (e.of_width w).buffers ≤ 1 + (e.of_width w).made / capacity work.sizes.words w
+  store_few_buffers w is = subst (λ n. (e.of_width w).buffers ≤ 1 + (e.of_width w).made / capacity n w) st.words (st.good.few w is)
 
   entries-each : ((r : ℕ) → 0 < length (m r) → FitsEntry bits work.sizes (active_width (work.buffer (buffer_of bits r))) r (length (m r))) → (w : ℕ) → 0 < w
       → (refs : List ℕ) → All (λ r. length (records r) ≡ w) refs → AllByRecursion (IsEntry bits work.sizes.buffers work.sizes.words w) refs

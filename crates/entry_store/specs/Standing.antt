@@ -1,85 +1,129 @@
 -- What a store shows of its work and its entries, and what is always so of them.
-use Rattle.std.specs.Prelude.{◌≡◌, ℕ, ◌<◌, ◌≤◌, Bool, true, false, nat_eq, nat_lt, nat_le, if◌then◌else◌, List, [], length, Option, Some, None, option_map}
-use Rattle.entry_shelf.specs.declared.state.State.{State}
-use Rattle.entry_shelf.specs.declared.state.State.TheVariants.{Free, Returned, Made, InUse, LetGo, DroppedNow, Dropped}
-use Rattle.entry_shelf.specs.States.{undone, is_touched}
+use Rattle.std.specs.Prelude.{◌≡◌, ℕ, ◌+◌, ◌<◌, ◌≤◌, Bool, true, false, ◌&&◌, ◌||◌, not, nat_eq, nat_lt, nat_le, if◌then◌else◌, List, [], ◌∷◌, length, Option, Some, None, option_map}
+use Rattle.entry_ref.specs.References.{buffer_of}
 use Rattle.image_base.specs.Images.{words_at}
 use Rattle.image_base.specs.Records.{Records, with_words}
-use Rattle.arena_api.specs.Works.{WorkView, active_width, last_image}
-use Rattle.arena_api.specs.Calls.{InNoCommit, IsLowestFree, handed_out, padded}
+use Rattle.arena_api.specs.Works.{WorkView, Commits, Hold, Buffer, Tag, active_width, last_image, oldest_of}
+use Rattle.arena_api.specs.Calls.{IsKept, InNoCommit, padded}
+use Rattle.arena_api.specs.Generations.{current}
 use Rattle.store_api.specs.Statuses.{Status, has_record, is_committed, is_uncommitted}
-use Rattle.store_api.specs.Ledgers.{Ledger, active_count}
-use Rattle.entry_states.specs.Entries.{EntriesView, IsGood, CanTake, made_at, with_buffer_of}
+use Rattle.store_api.specs.Ledgers.{Ledger, is_in, is_held}
+use Rattle.buffer_states.specs.Buffers.{is_free, is_active, is_on_hold}
+use Rattle.buffer_shelf.specs.declared.state.State.{State}
+use Rattle.buffer_shelf.specs.declared.state.State.TheVariants.{Free, Returned, Made, InUse, LetGo, DroppedNow, Dropped}
+use Rattle.buffer_shelf.specs.States.{undone}
+use Rattle.entry_ledger.specs.Entries.{EntriesView, Mark, IsGood, is_settled_entry}
+use Rattle.entry_ledger.specs.Calls.{CanTake, made_at}
 
--- the status of an entry by its state, where this is the last commit
-abbrev pub status_by : ℕ → State → Status
-status_by last Free = Status.free
-status_by last Returned = Status.free
-status_by last Made = Status.pending
-status_by last (InUse after) = if nat_eq after last then Status.pending else Status.live
-status_by last LetGo = Status.let_go
-status_by last (DroppedNow after) = Status.dropped
-status_by last (Dropped after) = if nat_eq after last then Status.dropped else Status.spent
+-- the tag of what is dropped in a generation, after a commit
+abbrev pub tag_at : ℕ → ℕ → Tag
+tag_at generation after = record { generation = generation; commit = after + 1 }
 
-abbrev pub status_of : ℕ → Option State → Status
-status_of last None = Status.unmade
-status_of last (Some state) = status_by last state
+-- the status of an entry by its state, where this is the last commit, which has the entry or not
+abbrev pub status_by : Bool → ℕ → State → Status
+status_by has last Free = Status.free
+status_by has last Returned = Status.free
+status_by has last Made = Status.pending
+status_by has last (InUse after) = if nat_eq after last then Status.pending else (if has then Status.live else Status.left)
+status_by has last LetGo = Status.let_go
+status_by has last (DroppedNow after) = Status.dropped
+status_by has last (Dropped after generation) = if nat_eq after last then Status.dropped else Status.held (tag_at generation after)
+
+abbrev pub status_of : Bool → ℕ → Option State → Status
+status_of has last None = Status.unmade
+status_of has last (Some state) = status_by has last state
 
 -- the status that an undo gives back
-abbrev pub back_of : ℕ → Option State → Status
-back_of last state = status_of last (option_map (undone last) state)
+abbrev pub back_of : Bool → ℕ → Option State → Status
+back_of has last state = status_of has last (option_map (undone last) state)
+
+-- of all entries, where these are the commits
+abbrev pub statuses : Commits → EntriesView → ℕ → Status
+statuses commits e r = status_of (is_in (last_image commits) r) e.last (e.state r)
+
+abbrev pub backs : Commits → EntriesView → ℕ → Status
+backs commits e r = back_of (is_in (last_image commits) r) e.last (e.state r)
 
 -- the records of these statuses
-abbrev pub records_of_statuses : (ℕ → Status) → Records → Records
-records_of_statuses status m r = if has_record (status r) then m r else []
+abbrev pub records_of : (ℕ → Status) → Records → Records
+records_of status m r = if has_record (status r) then m r else []
 
 -- the ledger of a store over a work with these records
-abbrev pub ledger_of : {H : Type 0} → WorkView H → ℕ → Records → EntriesView → Bool → ℕ → Ledger H
-ledger_of work shape m entries unit last = record {
+abbrev pub ledger_of : {H : Type 0} → WorkView H → ℕ → Records → EntriesView → Bool → Ledger H
+ledger_of work shape m e unit = record {
   work = work;
   shape = shape;
   unit = unit;
-  status = λ r. status_of last (entries.state r);
-  back = λ r. back_of last (entries.state r);
-  back_records = records_of_statuses (λ r. back_of last (entries.state r)) m;
-  made = entries.made;
-  spare = entries.spare;
-  buffers = entries.count;
-  filled = entries.filled;
-  fresh = entries.fresh;
-  gone = entries.gone;
+  status = statuses work.commits e;
+  back = backs work.commits e;
+  back_records = records_of (backs work.commits e) m;
+  of_width = e.of_width;
+  sealed = λ b. (e.mark b).sealed;
+  finished = e.finished;
 }
 
--- a state names no commit after the last
-abbrev pub is_up_to : ℕ → State → Bool
-is_up_to last Free = true
-is_up_to last Returned = true
-is_up_to last Made = true
-is_up_to last (InUse after) = nat_le after last
-is_up_to last LetGo = true
-is_up_to last (DroppedNow after) = nat_lt after last
-is_up_to last (Dropped after) = nat_le after last
+-- a buffer of the entries is that of the work
+abbrev pub is_mark_of : Mark → Buffer → Bool
+is_mark_of mark (Buffer.free tag) = is_free mark.state
+is_mark_of mark (Buffer.active width tag) = is_active mark.state && nat_eq mark.width width
+is_mark_of mark (Buffer.held width tag) = is_on_hold mark.state && (nat_eq mark.width width && nat_eq mark.generation tag.generation)
+
+-- readers on holds of later generations have the tag's commit or later ones
+abbrev pub is_later : Tag → Hold → Bool
+is_later tag h = not (nat_lt tag.generation h.generation) || nat_le tag.commit h.first
+
+abbrev pub all_later : Tag → List Hold → Bool
+all_later tag [] = true
+all_later tag (h ∷ hs) = is_later tag h && all_later tag hs
+
+-- no commit that is kept, from the tag's on, has the entry, and readers of later generations have such commits alone
+pub record IsOut (commits : Commits) (queue : List Hold) (tag : Tag) (r : ℕ) : Type 0 where
+  pub unused : (n : ℕ) → IsKept commits n → tag.commit ≤ n → words_at (commits.image n) r ≡ []
+  pub later : all_later tag queue ≡ true
+  pub commit : tag.commit ≤ commits.last
+
+-- what was dropped after the last commit was dropped in the current generation
+abbrev pub is_since : ℕ → ℕ → Option State → Bool
+is_since last generation None = true
+is_since last generation (Some (Dropped after g)) = not (nat_eq after last) || nat_eq g generation
+is_since last generation (Some state) = true
+
+-- what the statuses of entries say of the records and of the commits
+pub record IsSound {H : Type 0} (bits : ℕ) (work : WorkView H) (m : Records) (status : ℕ → Status) : Type 0 where
+  pub there : (r : ℕ) → has_record (status r) ≡ true → 0 < length (m r)
+  pub committed : (r : ℕ) → is_committed (status r) ≡ true → m r ≡ words_at (last_image work.commits) r
+  pub unkept : (r : ℕ) → 0 < active_width (work.buffer (buffer_of bits r)) → buffer_of bits r < work.sizes.buffers
+      → is_uncommitted (status r) ≡ true → InNoCommit work.commits r
+  pub out : (r : ℕ) (tag : Tag) → status r ≡ Status.held tag → IsOut work.commits work.queue tag r
+
+-- the work and the entries are of one store, but that the oldest holds may have been closed since
+pub record IsOver {H : Type 0} (bits : ℕ) (work : WorkView H) (m : Records) (e : EntriesView) (unit : Bool) : Type 0 where
+  pub good : IsGood bits e
+  pub count : e.count ≡ work.sizes.buffers
+  pub words : e.words ≡ work.sizes.words
+  pub last : e.last ≡ work.commits.last
+  pub generation : e.generation ≡ current work
+  pub marks : (b : ℕ) → b < work.sizes.buffers → is_mark_of (e.mark b) (work.buffer b) ≡ true
+  pub sound : IsSound bits work m (statuses work.commits e)
+  pub since : (r : ℕ) → is_since e.last e.generation (e.state r) ≡ true
+  pub settled : unit ≡ false → (r : ℕ) → is_settled_entry (e.state r) ≡ true
+  pub no_fresh : unit ≡ false → (w : ℕ) → (e.of_width w).fresh ≡ 0
 
 -- the work and the entries are of one store
-pub record Stands {H : Type 0} (bits : ℕ) (work : WorkView H) (m : Records) (entries : EntriesView) (unit : Bool) (last active : ℕ) : Type 0 where
-  pub good : IsGood bits entries
-  pub buffers : entries.buffers ≡ work.sizes.buffers
-  pub words : entries.words ≡ work.sizes.words
-  pub width : (b : ℕ) → b < work.sizes.buffers → entries.width b ≡ active_width (work.buffer b)
-  pub ready : entries.ready ≡ 0
-  pub active_is : active ≡ active_count work.buffer work.sizes.buffers
-  pub last_is : last ≡ work.commits.last
-  -- a count is one of 64 bits
-  pub few_made : (w : ℕ) → entries.made w ≤ 18446744073709551615
-  pub up_to : (r : ℕ) (s : State) → entries.state r ≡ Some s → is_up_to last s ≡ true
-  -- each status with records has its record in the work
-  pub there : (r : ℕ) → has_record (status_of last (entries.state r)) ≡ true → 0 < length (m r)
-  pub unkept : (r : ℕ) → is_uncommitted (status_of last (entries.state r)) ≡ true → InNoCommit work.commits r
-  pub committed : (r : ℕ) → is_committed (status_of last (entries.state r)) ≡ true → m r ≡ words_at (last_image work.commits) r
+pub record Stands {H : Type 0} (bits : ℕ) (work : WorkView H) (m : Records) (e : EntriesView) (unit : Bool) : Type 0 where
+  pub good : IsGood bits e
+  pub count : e.count ≡ work.sizes.buffers
+  pub words : e.words ≡ work.sizes.words
+  pub last : e.last ≡ work.commits.last
+  pub generation : e.generation ≡ current work
+  pub oldest : e.oldest ≡ (oldest_of work.queue).generation
+  pub marks : (b : ℕ) → b < work.sizes.buffers → is_mark_of (e.mark b) (work.buffer b) ≡ true
+  pub sound : IsSound bits work m (statuses work.commits e)
+  pub since : (r : ℕ) → is_since e.last e.generation (e.state r) ≡ true
   -- where no unit is under way, none has changed an entry
-  pub settled : unit ≡ false → (r : ℕ) (s : State) → entries.state r ≡ Some s → is_touched s ≡ false
-  pub no_fresh : unit ≡ false → (w : ℕ) → entries.fresh w ≡ 0
-  pub no_gone : unit ≡ false → (w : ℕ) → entries.gone w ≡ 0
+  pub settled : unit ≡ false → (r : ℕ) → is_settled_entry (e.state r) ≡ true
+  pub no_fresh : unit ≡ false → (w : ℕ) → (e.of_width w).fresh ≡ 0
+  pub unread : (b : ℕ) → b < work.sizes.buffers → work.made ≡ 0 → current work < work.sizes.generations → is_held (work.buffer b) ≡ false
 
 -- an entry is taken, and its record is put into the work
 pub record Puts {H : Type 0} (bits : ℕ) (old new : WorkView H) (m n : Records) (before after : EntriesView) (width : ℕ) (words : List ℕ) (r : ℕ) : Type 0 where
@@ -87,10 +131,3 @@ pub record Puts {H : Type 0} (bits : ℕ) (old new : WorkView H) (m n : Records)
   pub made : after ≡ made_at before width r
   pub work : new ≡ record old { stored = new.stored }
   pub records : n ≡ with_words m r (padded words width)
-
--- a buffer is handed out for a width
-pub record Opens {H : Type 0} (old new : WorkView H) (before after : EntriesView) (width : ℕ) : Type 0 where
-  pub buffer : ℕ
-  pub lowest : IsLowestFree old.buffer old.sizes.buffers buffer
-  pub work : new ≡ handed_out old buffer width
-  pub added : after ≡ with_buffer_of before buffer width

@@ -1,37 +1,35 @@
-ghost use Rattle.std.specs.Prelude.{◌≡◌, ◌≢◌, ◌↔◌, ◌<◌, ◌≤◌, ◌+◌, ◌^◌, ℕ, true, false, [], length, take, drop};
-ghost use Rattle.std.specs.Prelude.{IsNone, IfSome, IfNone, IfOk, IfErr, OnOk, OnErr};
-ghost use Rattle.arena_api.specs.Works.{free_count, active_width};
+ghost use Rattle.std.specs.Prelude.{◌≡◌, ◌<◌, ◌≤◌, ◌+◌, ◌^◌, ℕ, Some, None, true, false, [], length, take, drop};
+ghost use Rattle.std.specs.Prelude.{IfSome, IfNone, IfOk, IfErr, OnOk, OnErr};
+ghost use Rattle.arena_api.specs.Works.{last_image};
+ghost use Rattle.arena_api.specs.Generations.{MayRetire};
 ghost use Rattle.arena_api.specs.Calls.{IsFresh, AddsCommit, next_image};
-ghost use Rattle.store_api.specs.Ledgers.{is_width, IsNew, MayDo, dropped_from, without_free, committed};
-ghost use Rattle.store_api.specs.Statuses.{has_record, in_use};
+ghost use Rattle.store_api.specs.Ledgers.{is_width, is_this, IsNew};
+ghost use Rattle.store_api.specs.Units.{MayDo};
+ghost use Rattle.store_api.specs.Calls.{GivesBack, MayGiveBack, Makes, Refuses, DropsEntry, IsWhole, StoresCommit, with_hold};
+ghost use Rattle.store_api.specs.Statuses.{in_use};
 ghost use Rattle.image_base.specs.Images.{words_at};
-ghost use Rattle.image_base.specs.Records.{HasWord, word_at, Among};
-ghost use Rattle.image_base.specs.Maps.{seen};
+ghost use Rattle.image_base.specs.Records.{HasWord, word_at};
 ghost use Rattle.entry_ref.specs.References.{buffer_of};
-ghost use Rattle.entry_states.specs.Rows.{entries_of};
-ghost use Rattle.entry_store.specs.Standing.{Stands, status_of, records_of_statuses, ledger_of, Puts, Opens};
-ghost use Rattle.image_base.specs.Before.{those_before};
+ghost use Rattle.entry_ledger.specs.Ledgers.{entries_of};
+ghost use Rattle.entry_ledger.specs.Entries.{IsGood, is_settled_entry, is_dropped_since};
+ghost use Rattle.entry_store.specs.Standing.{Stands, statuses, records_of, ledger_of};
+ghost use Rattle.entry_store.specs.Steps.{TakesOne, OpensBuffer, MakesOpened, TellsOldest, FullAs, Publishes, EndsCommit, retired_by, generation_by};
 
-use crate::words::words_of_record;
-use arena_api::Work;
+use arena_api::{Advance, Oldest, Work};
+use entry_ledger::EntryLedger;
 use entry_ref::EntryRef;
-use entry_shelf::State;
-use entry_states::Entries;
 use frozen_api::Frozen;
-use std::alloc::{AllocError, Global};
-use std::collections::BTreeMap;
-use store_api::{Store, StoreError};
+use std::alloc::Global;
+use store_api::{Store, StoreError, Stored};
 
 /// A store over a work.
 #[derive(Drop)]
 pub struct EntryStore<const OFFSET_BITS: u32, W: Work<OFFSET_BITS>> {
     work: W,
-    entries: Entries<OFFSET_BITS>,
+    entries: EntryLedger<OFFSET_BITS>,
     unit: bool,
-    last: u32,
-    active: u32,
-    // it stands over the work, whose active buffers are counted
-    ghost stands: { Stands OFFSET_BITS (W.knows work) (W.records work) (entries_of OFFSET_BITS entries) unit last active },
+    // it stands over the work
+    ghost stands: { Stands OFFSET_BITS (W.knows work) (W.records work) (entries_of OFFSET_BITS entries) unit },
 }
 
 /// Out of memory: there is no store, and the work is given back.
@@ -50,13 +48,11 @@ impl<const OFFSET_BITS: u32, W: Work<OFFSET_BITS>> EntryStore<OFFSET_BITS, W> {
         ensures shape { IfOk result (λ s. ⟦<EntryStore<OFFSET_BITS, W> as Frozen<OFFSET_BITS>>⟧.shape s ≡ W.shape work) }
         ensures left { IfErr result (λ e. e.work ≡ work) }
     {
-        match Entries::create(alloc, work.buffers(), work.words()) {
+        match EntryLedger::create(alloc, work.buffers(), work.words()) {
             Ok(entries) => Ok(EntryStore {
                 work,
                 entries,
                 unit: false,
-                last: 0,
-                active: 0,
             }),
             Err(_) => Err(NoMemory { work }),
         }
@@ -75,78 +71,22 @@ impl<const OFFSET_BITS: u32, W: Work<OFFSET_BITS>> EntryStore<OFFSET_BITS, W> {
     /// How often an entry of this width was made, up to the last 64-bit number.
     pub fn made(&self, width: u32) -> u64
         requires { is_width width ≡ true }
-        ensures { result ≡ (⟦<EntryStore<OFFSET_BITS, W> as Store<OFFSET_BITS>>⟧.ledger self.now).made width }
+        ensures { result ≡ ((⟦<EntryStore<OFFSET_BITS, W> as Store<OFFSET_BITS>>⟧.ledger self.now).of_width width).made }
     {
         self.entries.made(width)
     }
 
-    /// Every record of the store.
-    pub fn records(&mut self, alloc: Global) -> Result<BTreeMap<u32, Vec<u64>>, AllocError>
-        ensures records { IfOk result (λ map. seen map ≡ ⟦<EntryStore<OFFSET_BITS, W> as Frozen<OFFSET_BITS>>⟧.records self.old) }
-        ensures same { self.new ≡ self.old }
+    /// Gives back what no reader can have, and answers the oldest open hold.
+    fn reclaim(&mut self) -> Oldest
+        ensures tells { TellsOldest (W.knows self.old.work) (W.knows self.new.work) result }
+        ensures gives { GivesBack (⟦<EntryStore<OFFSET_BITS, W> as Store<OFFSET_BITS>>⟧.ledger self.old)
+            (⟦<EntryStore<OFFSET_BITS, W> as Store<OFFSET_BITS>>⟧.ledger self.new) }
+        ensures records { ⟦<EntryStore<OFFSET_BITS, W> as Frozen<OFFSET_BITS>>⟧.records self.new
+            ≡ ⟦<EntryStore<OFFSET_BITS, W> as Frozen<OFFSET_BITS>>⟧.records self.old }
     {
-        let mut map = BTreeMap::new(alloc);
-        for buffer in 0..self.work.buffers() {
-            self.add_records(alloc, buffer, &mut map)?;
-        }
-        Ok(map)
-    }
-
-    /// Adds the records of a buffer to those of the buffers before it.
-    fn add_records(
-        &mut self,
-        alloc: Global,
-        buffer: u32,
-        map: &mut BTreeMap<u32, Vec<u64>>,
-    ) -> Result<(), AllocError>
-        requires inside { buffer < (W.knows self.old.work).sizes.buffers }
-        requires before { (q : ℕ) → seen map.old q ≡ those_before OFFSET_BITS (⟦<EntryStore<OFFSET_BITS, W> as Frozen<OFFSET_BITS>>⟧.records self.old) buffer 0 q }
-        ensures records { OnOk result ((q : ℕ) → seen map.new q
-            ≡ those_before OFFSET_BITS (⟦<EntryStore<OFFSET_BITS, W> as Frozen<OFFSET_BITS>>⟧.records self.old) (buffer + 1) 0 q) }
-        ensures same { self.new ≡ self.old }
-    {
-        let width = self.entries.width(buffer);
-        if width == 0 {
-            return Ok(());
-        }
-        for offset in 1..self.work.words() / width {
-            self.add_record(alloc, EntryRef::new(offset, buffer), width, map)?;
-        }
-        Ok(())
-    }
-
-    /// Adds the record of an entry, if it has one, to those of others.
-    fn add_record(
-        &mut self,
-        alloc: Global,
-        entry: EntryRef<OFFSET_BITS>,
-        width: u32,
-        map: &mut BTreeMap<u32, Vec<u64>>,
-    ) -> Result<(), AllocError>
-        requires inside { buffer_of OFFSET_BITS entry < (W.knows self.old.work).sizes.buffers }
-        requires width { (entries_of OFFSET_BITS self.old.entries).width (buffer_of OFFSET_BITS entry) ≡ width }
-        requires absent { seen map.old entry ≡ [] }
-        ensures here { OnOk result (seen map.new entry.entry ≡ ⟦<EntryStore<OFFSET_BITS, W> as Frozen<OFFSET_BITS>>⟧.records self.old entry.entry) }
-        ensures others { OnOk result ((q : ℕ) → q ≢ entry.entry → seen map.new q ≡ seen map.old q) }
-        ensures same { self.new ≡ self.old }
-    {
-        if self.has_record(entry) {
-            let words = words_of_record(alloc, self, entry, width)?;
-            map.insert(entry.raw(), words)?;
-        }
-        Ok(())
-    }
-
-    /// Whether an entry has a record.
-    fn has_record(&self, entry: EntryRef<OFFSET_BITS>) -> bool
-        ensures { result ≡ has_record (status_of self.now.last ((entries_of OFFSET_BITS self.now.entries).state entry.entry)) }
-    {
-        match self.entries.state(entry) {
-            Some(State::Made | State::InUse { .. } | State::LetGo | State::DroppedNow { .. }) =>
-                true,
-            Some(State::Dropped { after }) => after == self.last,
-            Some(State::Free | State::Returned) | None => false,
-        }
+        let oldest = self.work.reclaim();
+        self.entries.free_below(oldest.generation);
+        oldest
     }
 
     /// Makes an entry where the width has one to spare.
@@ -154,50 +94,204 @@ impl<const OFFSET_BITS: u32, W: Work<OFFSET_BITS>> EntryStore<OFFSET_BITS, W> {
         requires unit { self.old.unit ≡ true }
         requires width { is_width width ≡ true }
         requires fits { length words.now ≤ width }
-        ensures none { IsNone result ↔ ((entries_of OFFSET_BITS self.old.entries).spare width ≡ 0) }
-        ensures left { IfNone result (entries_of OFFSET_BITS self.new.entries ≡ entries_of OFFSET_BITS self.old.entries) }
-        ensures work_left { IfNone result (self.new.work ≡ self.old.work) }
-        ensures puts { IfSome result (Puts OFFSET_BITS (W.knows self.old.work) (W.knows self.new.work) (W.records self.old.work)
-            (W.records self.new.work) (entries_of OFFSET_BITS self.old.entries) (entries_of OFFSET_BITS self.new.entries) width words.now) }
-        ensures shape { W.shape self.new.work ≡ W.shape self.old.work }
-        ensures unit { self.new.unit ≡ self.old.unit }
-        ensures last { self.new.last ≡ self.old.last }
+        ensures none { IfNone result (((⟦<EntryStore<OFFSET_BITS, W> as Store<OFFSET_BITS>>⟧.ledger self.old).of_width width).spare ≡ 0) }
+        ensures some { IfSome result (λ r. 0 < ((⟦<EntryStore<OFFSET_BITS, W> as Store<OFFSET_BITS>>⟧.ledger self.old).of_width width).spare) }
+        ensures left { IfNone result (self.new ≡ self.old) }
+        ensures takes { IfSome result (TakesOne OFFSET_BITS (⟦<EntryStore<OFFSET_BITS, W> as Store<OFFSET_BITS>>⟧.ledger self.old)
+            (⟦<EntryStore<OFFSET_BITS, W> as Store<OFFSET_BITS>>⟧.ledger self.new)
+            (⟦<EntryStore<OFFSET_BITS, W> as Frozen<OFFSET_BITS>>⟧.records self.old)
+            (⟦<EntryStore<OFFSET_BITS, W> as Frozen<OFFSET_BITS>>⟧.records self.new) width words.now) }
     {
-        let entry = self.entries.take(width)?;
-        self.work.put(entry, width, words);
-        Some(entry)
+        match self.entries.take(width) {
+            Some(entry) => {
+                self.work.put(entry, width, words);
+                Some(entry)
+            }
+            None => None,
+        }
     }
 
     /// Hands out a buffer for entries of a width that has none to spare.
-    fn open_buffer(&mut self, width: u32) -> Result<(), StoreError>
+    fn open_buffer(&mut self, width: u32, oldest: Oldest) -> Result<(), StoreError>
         requires width { is_width width ≡ true }
-        requires spare { (entries_of OFFSET_BITS self.old.entries).spare width ≡ 0 }
-        ensures opens { OnOk result (Opens (W.knows self.old.work) (W.knows self.new.work)
-            (entries_of OFFSET_BITS self.old.entries) (entries_of OFFSET_BITS self.new.entries) width) }
-        ensures full { (w a h : ℕ) → result ≡ Err (StoreError.Full w a h) → (w ≡ width) × (a ≡ self.old.active)
-            × (a + h ≡ (W.knows self.old.work).sizes.buffers)
-            × (free_count (W.knows self.old.work).buffer (W.knows self.old.work).sizes.buffers ≡ 0) }
-        ensures left { OnErr result (entries_of OFFSET_BITS self.new.entries ≡ entries_of OFFSET_BITS self.old.entries) }
-        ensures work_left { OnErr result (self.new.work ≡ self.old.work) }
-        ensures records { W.records self.new.work ≡ W.records self.old.work }
-        ensures shape { W.shape self.new.work ≡ W.shape self.old.work }
+        requires spare { ((⟦<EntryStore<OFFSET_BITS, W> as Store<OFFSET_BITS>>⟧.ledger self.old).of_width width).spare ≡ 0 }
+        ensures opens { OnOk result (OpensBuffer (⟦<EntryStore<OFFSET_BITS, W> as Store<OFFSET_BITS>>⟧.ledger self.old)
+            (⟦<EntryStore<OFFSET_BITS, W> as Store<OFFSET_BITS>>⟧.ledger self.new) width) }
+        ensures full { IfErr result (FullAs (W.knows self.old.work) width oldest) }
+        ensures left { OnErr result (⟦<EntryStore<OFFSET_BITS, W> as Store<OFFSET_BITS>>⟧.ledger self.new
+            ≡ ⟦<EntryStore<OFFSET_BITS, W> as Store<OFFSET_BITS>>⟧.ledger self.old) }
+        ensures records { ⟦<EntryStore<OFFSET_BITS, W> as Frozen<OFFSET_BITS>>⟧.records self.new
+            ≡ ⟦<EntryStore<OFFSET_BITS, W> as Frozen<OFFSET_BITS>>⟧.records self.old }
         ensures unit { self.new.unit ≡ self.old.unit }
-        ensures last { self.new.last ≡ self.old.last }
     {
-        if self.work.free_buffers() == 0 {
+        let Some(buffer) = self.entries.lowest_free() else {
             return Err(StoreError::Full {
                 width,
-                active: self.active,
-                held: self.work.buffers() - self.active,
+                active: self.entries.active(),
+                held: self.entries.on_hold(),
+                oldest,
             });
-        }
-        self.entries.reserve(width).map_err(|_| StoreError::Memory)?;
-        let Some(buffer) = self.work.hand_out(width) else {
-            unreachable!()
         };
-        self.entries.add_buffer(buffer, width);
-        self.active += 1;
-        Ok(())
+        match self.entries.open_buffer(buffer, width) {
+            Ok(()) => {
+                let _ = self.work.hand_out(width);
+                Ok(())
+            }
+            Err(_) => Err(StoreError::Memory),
+        }
+    }
+
+    /// Hands out a buffer, and makes an entry of it.
+    fn make_opened(
+        &mut self,
+        width: u32,
+        words: &[u64],
+        oldest: Oldest,
+    ) -> Result<EntryRef<OFFSET_BITS>, StoreError>
+        requires unit { self.old.unit ≡ true }
+        requires width { is_width width ≡ true }
+        requires fits { length words.now ≤ width }
+        requires spare { ((⟦<EntryStore<OFFSET_BITS, W> as Store<OFFSET_BITS>>⟧.ledger self.old).of_width width).spare ≡ 0 }
+        ensures makes { IfOk result (MakesOpened OFFSET_BITS (⟦<EntryStore<OFFSET_BITS, W> as Store<OFFSET_BITS>>⟧.ledger self.old)
+            (⟦<EntryStore<OFFSET_BITS, W> as Store<OFFSET_BITS>>⟧.ledger self.new)
+            (⟦<EntryStore<OFFSET_BITS, W> as Frozen<OFFSET_BITS>>⟧.records self.old)
+            (⟦<EntryStore<OFFSET_BITS, W> as Frozen<OFFSET_BITS>>⟧.records self.new) width words.now) }
+        ensures full { IfErr result (FullAs (W.knows self.old.work) width oldest) }
+        ensures refused { OnErr result
+            (⟦<EntryStore<OFFSET_BITS, W> as Store<OFFSET_BITS>>⟧.ledger self.new ≡ ⟦<EntryStore<OFFSET_BITS, W> as Store<OFFSET_BITS>>⟧.ledger self.old) }
+        ensures left { OnErr result
+            (⟦<EntryStore<OFFSET_BITS, W> as Frozen<OFFSET_BITS>>⟧.records self.new ≡ ⟦<EntryStore<OFFSET_BITS, W> as Frozen<OFFSET_BITS>>⟧.records self.old) }
+        ensures may { MayDo (⟦<EntryStore<OFFSET_BITS, W> as Store<OFFSET_BITS>>⟧.ledger self.old)
+            (⟦<EntryStore<OFFSET_BITS, W> as Store<OFFSET_BITS>>⟧.ledger self.new) }
+    {
+        match self.open_buffer(width, oldest) {
+            Ok(()) => match self.make_spare(width, words) {
+                Some(entry) => Ok(entry),
+                None => unreachable!(),
+            },
+            Err(error) => Err(error),
+        }
+    }
+
+    /// Makes an entry where the width has none to spare: after a reclaim, else of a new buffer.
+    fn make_again(&mut self, width: u32, words: &[u64]) -> Result<EntryRef<OFFSET_BITS>, StoreError>
+        requires unit { self.old.unit ≡ true }
+        requires width { is_width width ≡ true }
+        requires fits { length words.now ≤ width }
+        ensures makes { IfOk result (Makes OFFSET_BITS (⟦<EntryStore<OFFSET_BITS, W> as Store<OFFSET_BITS>>⟧.ledger self.old)
+            (⟦<EntryStore<OFFSET_BITS, W> as Store<OFFSET_BITS>>⟧.ledger self.new)
+            (⟦<EntryStore<OFFSET_BITS, W> as Frozen<OFFSET_BITS>>⟧.records self.old)
+            (⟦<EntryStore<OFFSET_BITS, W> as Frozen<OFFSET_BITS>>⟧.records self.new) width words.now) }
+        ensures refuses { IfErr result (Refuses (⟦<EntryStore<OFFSET_BITS, W> as Store<OFFSET_BITS>>⟧.ledger self.old)
+            (⟦<EntryStore<OFFSET_BITS, W> as Store<OFFSET_BITS>>⟧.ledger self.new) width) }
+        ensures refused { OnErr result (MayGiveBack (⟦<EntryStore<OFFSET_BITS, W> as Store<OFFSET_BITS>>⟧.ledger self.old)
+            (⟦<EntryStore<OFFSET_BITS, W> as Store<OFFSET_BITS>>⟧.ledger self.new)) }
+        ensures left { OnErr result
+            (⟦<EntryStore<OFFSET_BITS, W> as Frozen<OFFSET_BITS>>⟧.records self.new ≡ ⟦<EntryStore<OFFSET_BITS, W> as Frozen<OFFSET_BITS>>⟧.records self.old) }
+        ensures may { MayDo (⟦<EntryStore<OFFSET_BITS, W> as Store<OFFSET_BITS>>⟧.ledger self.old)
+            (⟦<EntryStore<OFFSET_BITS, W> as Store<OFFSET_BITS>>⟧.ledger self.new) }
+    {
+        let oldest = self.reclaim();
+        match self.make_spare(width, words) {
+            Some(entry) => Ok(entry),
+            None => self.make_opened(width, words, oldest),
+        }
+    }
+
+    /// Publishes what the root reaches, and counts the commit.
+    fn publish(&mut self, root: EntryRef<OFFSET_BITS>) -> u32
+        requires unit { self.old.unit ≡ false }
+        requires lawful { W.Layout.lawful (⟦<EntryStore<OFFSET_BITS, W> as Frozen<OFFSET_BITS>>⟧.shape self.old)
+            (⟦<EntryStore<OFFSET_BITS, W> as Frozen<OFFSET_BITS>>⟧.records self.old) root }
+        requires room { (W.knows self.old.work).commits.last < (W.knows self.old.work).sizes.commits }
+        requires whole { IsWhole OFFSET_BITS (⟦<EntryStore<OFFSET_BITS, W> as Store<OFFSET_BITS>>⟧.ledger self.old)
+            (W.Layout.reaches (⟦<EntryStore<OFFSET_BITS, W> as Frozen<OFFSET_BITS>>⟧.shape self.old)
+            (⟦<EntryStore<OFFSET_BITS, W> as Frozen<OFFSET_BITS>>⟧.records self.old) root) }
+        ensures publishes { Publishes (⟦<EntryStore<OFFSET_BITS, W> as Store<OFFSET_BITS>>⟧.ledger self.old)
+            (⟦<EntryStore<OFFSET_BITS, W> as Store<OFFSET_BITS>>⟧.ledger self.new)
+            (next_image W.Layout.reaches (⟦<EntryStore<OFFSET_BITS, W> as Frozen<OFFSET_BITS>>⟧.shape self.old)
+            (⟦<EntryStore<OFFSET_BITS, W> as Frozen<OFFSET_BITS>>⟧.records self.old) root.entry) result }
+        ensures records { ⟦<EntryStore<OFFSET_BITS, W> as Frozen<OFFSET_BITS>>⟧.records self.new ≡ words_at (last_image
+            (W.knows self.new.work).commits) }
+        ensures unit { self.new.unit ≡ false }
+        ensures tagged { (r : ℕ)
+            → is_dropped_since (entries_of OFFSET_BITS self.new.entries).last ((entries_of OFFSET_BITS self.new.entries).state r) ≡ false }
+        ensures apart { (r : ℕ) → is_this (entries_of OFFSET_BITS self.new.entries).finished (buffer_of OFFSET_BITS r) ≡ true
+            → words_at (last_image (W.knows self.new.work).commits) r ≡ [] }
+    {
+        let commit = self.work.publish(root);
+        self.entries.commit(commit);
+        commit
+    }
+
+    /// Puts the finished buffer on hold, advances the generation, and gives back what no reader can have.
+    fn end_commit(&mut self, commit: u32) -> Stored
+        requires unit { self.old.unit ≡ false }
+        requires records { ⟦<EntryStore<OFFSET_BITS, W> as Frozen<OFFSET_BITS>>⟧.records self.old ≡ words_at (last_image
+            (W.knows self.old.work).commits) }
+        requires tagged { (r : ℕ)
+            → is_dropped_since (entries_of OFFSET_BITS self.old.entries).last ((entries_of OFFSET_BITS self.old.entries).state r) ≡ false }
+        requires apart { (r : ℕ) → is_this (entries_of OFFSET_BITS self.old.entries).finished (buffer_of OFFSET_BITS r) ≡ true
+            → words_at (last_image (W.knows self.old.work).commits) r ≡ [] }
+        requires unstored { (r i : ℕ) → (W.knows self.old.work).stored r i ≡ None }
+        ensures ends { EndsCommit OFFSET_BITS (⟦<EntryStore<OFFSET_BITS, W> as Store<OFFSET_BITS>>⟧.ledger self.old)
+            (⟦<EntryStore<OFFSET_BITS, W> as Store<OFFSET_BITS>>⟧.ledger self.new) result }
+        ensures number { result.commit ≡ commit }
+        ensures records { ⟦<EntryStore<OFFSET_BITS, W> as Frozen<OFFSET_BITS>>⟧.records self.new ≡ ⟦<EntryStore<OFFSET_BITS, W> as Frozen<OFFSET_BITS>>⟧.records self.old }
+    {
+        retire_finished(&mut self.work, &mut self.entries);
+        let advance = self.work.advance();
+        follow(&mut self.entries, advance);
+        let left = self.work.reclaim();
+        self.entries.free_below(left.generation);
+        Stored {
+            commit,
+            advance,
+            oldest: left,
+        }
+    }
+}
+
+/// Puts the finished buffer, if there is one, on hold.
+fn retire_finished<const OFFSET_BITS: u32, W: Work<OFFSET_BITS>>(
+    work: &mut W,
+    entries: &mut EntryLedger<OFFSET_BITS>,
+)
+    requires good { IsGood OFFSET_BITS (entries_of OFFSET_BITS entries.old) }
+    requires may { (b : ℕ) → (entries_of OFFSET_BITS entries.old).finished ≡ Some b → MayRetire OFFSET_BITS (W.knows work.old) b }
+    requires settled { (r : ℕ) → is_settled_entry ((entries_of OFFSET_BITS entries.old).state r) ≡ true }
+    requires tagged { (r : ℕ)
+        → is_dropped_since (entries_of OFFSET_BITS entries.old).last ((entries_of OFFSET_BITS entries.old).state r) ≡ false }
+    ensures knows { W.knows work.new ≡ with_hold (W.knows work.old) (entries_of OFFSET_BITS entries.old).finished }
+    ensures retired { entries_of OFFSET_BITS entries.new
+        ≡ retired_by OFFSET_BITS (entries_of OFFSET_BITS entries.old) (entries_of OFFSET_BITS entries.old).finished }
+    ensures good { IsGood OFFSET_BITS (entries_of OFFSET_BITS entries.new) }
+    ensures records { W.records work.new ≡ W.records work.old }
+    ensures shape { W.shape work.new ≡ W.shape work.old }
+{
+    match entries.finished() {
+        Some(buffer) => {
+            work.retire_buffer(buffer);
+            entries.retire(buffer);
+        }
+        None => {}
+    }
+}
+
+/// Follows an advance of the generation.
+fn follow<const OFFSET_BITS: u32>(entries: &mut EntryLedger<OFFSET_BITS>, advance: Advance)
+    requires good { IsGood OFFSET_BITS (entries_of OFFSET_BITS entries.old) }
+    requires rises { (entries_of OFFSET_BITS entries.old).generation ≤ generation_by advance (entries_of OFFSET_BITS entries.old).generation }
+    requires tagged { (r : ℕ)
+        → is_dropped_since (entries_of OFFSET_BITS entries.old).last ((entries_of OFFSET_BITS entries.old).state r) ≡ false }
+    ensures advanced { entries_of OFFSET_BITS entries.new ≡ record (entries_of OFFSET_BITS entries.old) {
+      generation = generation_by advance (entries_of OFFSET_BITS entries.old).generation;
+    } }
+    ensures good { IsGood OFFSET_BITS (entries_of OFFSET_BITS entries.new) }
+{
+    match advance {
+        Advance::To { generation, .. } => entries.advance_to(generation),
+        Advance::NoHold { .. } | Advance::Spent { .. } => {}
     }
 }
 
@@ -207,7 +301,7 @@ impl<const OFFSET_BITS: u32, W: Work<OFFSET_BITS>> Frozen<OFFSET_BITS>
 
     ghost shape = { λ s. W.shape s.work };
 
-    ghost records = { λ s. records_of_statuses (λ r. status_of s.last ((entries_of OFFSET_BITS s.entries).state r)) (W.records s.work) };
+    ghost records = { λ s. records_of (statuses (W.knows s.work).commits (entries_of OFFSET_BITS s.entries)) (W.records s.work) };
 
     fn word(&mut self, entry: EntryRef<OFFSET_BITS>, i: u32) -> u64
         requires { HasWord (⟦<EntryStore<OFFSET_BITS, W> as Frozen<OFFSET_BITS>>⟧.records self.old) entry i }
@@ -220,82 +314,99 @@ impl<const OFFSET_BITS: u32, W: Work<OFFSET_BITS>> Frozen<OFFSET_BITS>
     fn read(&mut self, entry: EntryRef<OFFSET_BITS>, first: u32, into: &mut [u64])
         requires there { first + length into.old ≤ length (⟦<EntryStore<OFFSET_BITS, W> as Frozen<OFFSET_BITS>>⟧.records self.old entry) }
         requires few { first + length into.old < 2 ^ 32 }
-        ensures words { into.new ≡ take (length into.old) (drop first (⟦<EntryStore<OFFSET_BITS, W> as Frozen<OFFSET_BITS>>⟧.records self.old entry.entry)) }
+        ensures words { into.new ≡ take (length into.old) (drop first
+            (⟦<EntryStore<OFFSET_BITS, W> as Frozen<OFFSET_BITS>>⟧.records self.old entry.entry)) }
         ensures same { self.new ≡ self.old }
     {
         self.work.read(entry, first, into);
     }
 
     ghost references = { λ s. store_references OFFSET_BITS (W.knows s.work) (W.records s.work) (entries_of OFFSET_BITS s.entries)
-        s.unit s.last s.active s.stands (W.references s.work) };
+        s.unit s.stands (W.references s.work) };
 }
 
 impl<const OFFSET_BITS: u32, W: Work<OFFSET_BITS>> Store<OFFSET_BITS>
     for EntryStore<OFFSET_BITS, W> {
     ghost use Rattle.std.specs.Prelude.{refl};
-    ghost use Rattle.entry_store.specs.ProofsForStore.{store_recorded, store_placed, store_filled, store_spares, store_last, store_settled};
+    ghost use Rattle.entry_store.specs.ProofsForStore.{store_recorded, store_placed, store_taken, store_filled, store_spares, store_unkept};
+    ghost use Rattle.entry_store.specs.ProofsForStore.{store_held, store_last, store_settled, store_sealed, store_finished, store_counted};
     ghost use Rattle.entry_store.specs.ProofsForStore.{store_few_buffers, store_few_records, store_few_nodes};
 
     type Layout = W::Layout;
 
     type Home = W::Home;
 
-    ghost ledger = { λ s. ledger_of (W.knows s.work) (W.shape s.work) (W.records s.work) (entries_of OFFSET_BITS s.entries)
-        s.unit s.last };
+    ghost ledger = { λ s. ledger_of (W.knows s.work) (W.shape s.work) (W.records s.work) (entries_of OFFSET_BITS s.entries) s.unit };
 
     fn begin(&mut self) {
         self.unit = true;
     }
 
     fn make(&mut self, width: u32, words: &[u64]) -> Result<EntryRef<OFFSET_BITS>, StoreError> {
-        if let Some(entry) = self.make_spare(width, words) {
-            return Ok(entry);
-        }
-        self.open_buffer(width)?;
         match self.make_spare(width, words) {
             Some(entry) => Ok(entry),
-            None => unreachable!(),
+            None => self.make_again(width, words),
         }
     }
 
     fn drop_entry(&mut self, entry: EntryRef<OFFSET_BITS>)
         requires unit { (⟦<EntryStore<OFFSET_BITS, W> as Store<OFFSET_BITS>>⟧.ledger self.old).unit ≡ true }
         requires used { in_use ((⟦<EntryStore<OFFSET_BITS, W> as Store<OFFSET_BITS>>⟧.ledger self.old).status entry) ≡ true }
-        ensures ledger { ⟦<EntryStore<OFFSET_BITS, W> as Store<OFFSET_BITS>>⟧.ledger self.new ≡ dropped_from (⟦<EntryStore<OFFSET_BITS, W> as Store<OFFSET_BITS>>⟧.ledger self.old) entry.entry
-            (active_width ((⟦<EntryStore<OFFSET_BITS, W> as Store<OFFSET_BITS>>⟧.ledger self.old).work.buffer (buffer_of OFFSET_BITS entry.entry))) }
-        ensures records { ⟦<EntryStore<OFFSET_BITS, W> as Frozen<OFFSET_BITS>>⟧.records self.new
-            ≡ without_free (⟦<EntryStore<OFFSET_BITS, W> as Store<OFFSET_BITS>>⟧.ledger self.new).status (⟦<EntryStore<OFFSET_BITS, W> as Frozen<OFFSET_BITS>>⟧.records self.old) }
-        ensures may { MayDo (⟦<EntryStore<OFFSET_BITS, W> as Store<OFFSET_BITS>>⟧.ledger self.old) (⟦<EntryStore<OFFSET_BITS, W> as Store<OFFSET_BITS>>⟧.ledger self.new) }
+        ensures drops { DropsEntry (⟦<EntryStore<OFFSET_BITS, W> as Store<OFFSET_BITS>>⟧.ledger self.old)
+            (⟦<EntryStore<OFFSET_BITS, W> as Store<OFFSET_BITS>>⟧.ledger self.new)
+            (⟦<EntryStore<OFFSET_BITS, W> as Frozen<OFFSET_BITS>>⟧.records self.old)
+            (⟦<EntryStore<OFFSET_BITS, W> as Frozen<OFFSET_BITS>>⟧.records self.new) entry.entry }
+        ensures may { MayDo (⟦<EntryStore<OFFSET_BITS, W> as Store<OFFSET_BITS>>⟧.ledger self.old)
+            (⟦<EntryStore<OFFSET_BITS, W> as Store<OFFSET_BITS>>⟧.ledger self.new) }
     {
-        self.entries.drop_entry(entry, self.last);
+        self.entries.drop_entry(entry);
     }
 
     fn accept(&mut self) {
-        self.entries.accept(self.last);
+        self.entries.accept();
         self.unit = false;
     }
 
     fn undo(&mut self) {
-        self.entries.undo(self.last);
+        self.entries.undo();
         self.unit = false;
     }
 
-    fn commit(&mut self, root: EntryRef<OFFSET_BITS>) -> u32
+    fn commit(&mut self, root: EntryRef<OFFSET_BITS>) -> Stored
         requires unit { (⟦<EntryStore<OFFSET_BITS, W> as Store<OFFSET_BITS>>⟧.ledger self.old).unit ≡ false }
-        requires lawful { W.Layout.lawful (⟦<EntryStore<OFFSET_BITS, W> as Frozen<OFFSET_BITS>>⟧.shape self.old) (⟦<EntryStore<OFFSET_BITS, W> as Frozen<OFFSET_BITS>>⟧.records self.old) root }
-        requires room { (⟦<EntryStore<OFFSET_BITS, W> as Store<OFFSET_BITS>>⟧.ledger self.old).work.commits.last < (⟦<EntryStore<OFFSET_BITS, W> as Store<OFFSET_BITS>>⟧.ledger self.old).work.sizes.commits }
-        requires exact { (r : ℕ) → Among r (W.Layout.reaches (⟦<EntryStore<OFFSET_BITS, W> as Frozen<OFFSET_BITS>>⟧.shape self.old) (⟦<EntryStore<OFFSET_BITS, W> as Frozen<OFFSET_BITS>>⟧.records self.old) root)
-            ↔ (in_use ((⟦<EntryStore<OFFSET_BITS, W> as Store<OFFSET_BITS>>⟧.ledger self.old).status r) ≡ true) }
-        ensures number { result ≡ (⟦<EntryStore<OFFSET_BITS, W> as Store<OFFSET_BITS>>⟧.ledger self.old).work.commits.last + 1 }
-        ensures commit { AddsCommit (⟦<EntryStore<OFFSET_BITS, W> as Store<OFFSET_BITS>>⟧.ledger self.old).work.commits (⟦<EntryStore<OFFSET_BITS, W> as Store<OFFSET_BITS>>⟧.ledger self.new).work.commits
-            (next_image W.Layout.reaches (⟦<EntryStore<OFFSET_BITS, W> as Frozen<OFFSET_BITS>>⟧.shape self.old) (⟦<EntryStore<OFFSET_BITS, W> as Frozen<OFFSET_BITS>>⟧.records self.old) root.entry) }
-        ensures ledger { ⟦<EntryStore<OFFSET_BITS, W> as Store<OFFSET_BITS>>⟧.ledger self.new ≡ committed (⟦<EntryStore<OFFSET_BITS, W> as Store<OFFSET_BITS>>⟧.ledger self.old) (⟦<EntryStore<OFFSET_BITS, W> as Store<OFFSET_BITS>>⟧.ledger self.new).work.commits
-            (next_image W.Layout.reaches (⟦<EntryStore<OFFSET_BITS, W> as Frozen<OFFSET_BITS>>⟧.shape self.old) (⟦<EntryStore<OFFSET_BITS, W> as Frozen<OFFSET_BITS>>⟧.records self.old) root.entry) }
+        requires lawful { W.Layout.lawful (⟦<EntryStore<OFFSET_BITS, W> as Frozen<OFFSET_BITS>>⟧.shape self.old)
+            (⟦<EntryStore<OFFSET_BITS, W> as Frozen<OFFSET_BITS>>⟧.records self.old) root }
+        requires room { (⟦<EntryStore<OFFSET_BITS, W> as Store<OFFSET_BITS>>⟧.ledger self.old).work.commits.last <
+            (⟦<EntryStore<OFFSET_BITS, W> as Store<OFFSET_BITS>>⟧.ledger self.old).work.sizes.commits }
+        requires whole { IsWhole OFFSET_BITS (⟦<EntryStore<OFFSET_BITS, W> as Store<OFFSET_BITS>>⟧.ledger self.old)
+            (W.Layout.reaches (⟦<EntryStore<OFFSET_BITS, W> as Frozen<OFFSET_BITS>>⟧.shape self.old)
+            (⟦<EntryStore<OFFSET_BITS, W> as Frozen<OFFSET_BITS>>⟧.records self.old) root) }
+        ensures commit { AddsCommit (⟦<EntryStore<OFFSET_BITS, W> as Store<OFFSET_BITS>>⟧.ledger self.old).work.commits
+            (⟦<EntryStore<OFFSET_BITS, W> as Store<OFFSET_BITS>>⟧.ledger self.new).work.commits
+            (next_image W.Layout.reaches (⟦<EntryStore<OFFSET_BITS, W> as Frozen<OFFSET_BITS>>⟧.shape self.old)
+            (⟦<EntryStore<OFFSET_BITS, W> as Frozen<OFFSET_BITS>>⟧.records self.old) root.entry) }
+        ensures stores { StoresCommit OFFSET_BITS (⟦<EntryStore<OFFSET_BITS, W> as Store<OFFSET_BITS>>⟧.ledger self.old)
+            (⟦<EntryStore<OFFSET_BITS, W> as Store<OFFSET_BITS>>⟧.ledger self.new)
+            (next_image W.Layout.reaches (⟦<EntryStore<OFFSET_BITS, W> as Frozen<OFFSET_BITS>>⟧.shape self.old)
+            (⟦<EntryStore<OFFSET_BITS, W> as Frozen<OFFSET_BITS>>⟧.records self.old) root.entry) result }
         ensures records { ⟦<EntryStore<OFFSET_BITS, W> as Frozen<OFFSET_BITS>>⟧.records self.new
-            ≡ words_at (next_image W.Layout.reaches (⟦<EntryStore<OFFSET_BITS, W> as Frozen<OFFSET_BITS>>⟧.shape self.old) (⟦<EntryStore<OFFSET_BITS, W> as Frozen<OFFSET_BITS>>⟧.records self.old) root.entry) }
+            ≡ words_at (next_image W.Layout.reaches (⟦<EntryStore<OFFSET_BITS, W> as Frozen<OFFSET_BITS>>⟧.shape self.old)
+            (⟦<EntryStore<OFFSET_BITS, W> as Frozen<OFFSET_BITS>>⟧.records self.old) root.entry) }
     {
-        self.last = self.work.publish(root);
-        self.last
+        let commit = self.publish(root);
+        self.end_commit(commit)
+    }
+
+    fn seal(&mut self, buffer: u32) {
+        self.entries.seal(buffer);
+    }
+
+    fn finish(&mut self, buffer: u32) {
+        self.entries.finish(buffer);
+    }
+
+    fn choose_victim(&self) -> Option<u32> {
+        self.entries.choose_victim()
     }
 
     fn commits_left(&self) -> u32 {
@@ -306,32 +417,54 @@ impl<const OFFSET_BITS: u32, W: Work<OFFSET_BITS>> Store<OFFSET_BITS>
 
     ghost limits = { λ s. W.limits s.work };
 
+    ghost order = { λ s. W.order s.work };
+
+    ghost queue = { λ s. W.queue s.work };
+
     ghost recorded = { λ s. store_recorded OFFSET_BITS (W.knows s.work) (W.records s.work) (entries_of OFFSET_BITS s.entries)
-        s.unit s.last s.active s.stands };
+        s.unit s.stands };
 
     ghost placed = { λ s. store_placed OFFSET_BITS (W.knows s.work) (W.records s.work) (entries_of OFFSET_BITS s.entries)
-        s.unit s.last s.active s.stands (W.entries s.work) };
+        s.unit s.stands (W.entries s.work) };
+
+    ghost taken = { λ s. store_taken OFFSET_BITS (W.knows s.work) (W.records s.work) (entries_of OFFSET_BITS s.entries)
+        s.unit s.stands };
 
     ghost filled = { λ s. store_filled OFFSET_BITS (W.knows s.work) (W.records s.work) (entries_of OFFSET_BITS s.entries)
-        s.unit s.last s.active s.stands };
+        s.unit s.stands };
 
     ghost spares = { λ s. store_spares OFFSET_BITS (W.knows s.work) (W.records s.work) (entries_of OFFSET_BITS s.entries)
-        s.unit s.last s.active s.stands };
+        s.unit s.stands (W.shape s.work) };
 
-    ghost unkept = { λ s. s.stands.unkept };
+    ghost unkept = { λ s. store_unkept OFFSET_BITS (W.knows s.work) (W.records s.work) (entries_of OFFSET_BITS s.entries)
+        s.unit s.stands };
+
+    ghost held = { λ s. store_held OFFSET_BITS (W.knows s.work) (W.records s.work) (entries_of OFFSET_BITS s.entries)
+        s.unit s.stands (W.shape s.work) };
 
     ghost last = { λ s. store_last OFFSET_BITS (W.knows s.work) (W.records s.work) (entries_of OFFSET_BITS s.entries)
-        s.unit s.last s.active s.stands };
+        s.unit s.stands };
 
     ghost settled = { λ s. store_settled OFFSET_BITS (W.knows s.work) (W.records s.work) (entries_of OFFSET_BITS s.entries)
-        s.unit s.last s.active s.stands (W.shape s.work) };
+        s.unit s.stands (W.shape s.work) };
+
+    ghost sealed = { λ s. store_sealed OFFSET_BITS (W.knows s.work) (W.records s.work) (entries_of OFFSET_BITS s.entries)
+        s.unit s.stands (W.shape s.work) };
+
+    ghost finished = { λ s. store_finished OFFSET_BITS (W.knows s.work) (W.records s.work) (entries_of OFFSET_BITS s.entries)
+        s.unit s.stands };
+
+    ghost unread = { λ s. s.stands.unread };
+
+    ghost counted = { λ s. store_counted OFFSET_BITS (W.knows s.work) (W.records s.work) (entries_of OFFSET_BITS s.entries)
+        s.unit s.stands };
 
     ghost few_buffers = { λ s. store_few_buffers OFFSET_BITS (W.knows s.work) (W.records s.work) (entries_of OFFSET_BITS s.entries)
-        s.unit s.last s.active s.stands };
+        s.unit s.stands };
 
     ghost few_records = { λ s. store_few_records OFFSET_BITS (W.knows s.work) (W.records s.work) (entries_of OFFSET_BITS s.entries)
-        s.unit s.last s.active s.stands (W.entries s.work) };
+        s.unit s.stands (W.entries s.work) };
 
     ghost few_nodes = { λ s. store_few_nodes OFFSET_BITS (W.knows s.work) (W.records s.work) (entries_of OFFSET_BITS s.entries)
-        s.unit s.last s.active s.stands (W.entries s.work) (W.total_words s.work) };
+        s.unit s.stands (W.entries s.work) (W.total_words s.work) };
 }

@@ -1,7 +1,6 @@
-//! A store over a work: it says of each entry what it is, and makes, drops and commits entries.
+//! A store of entries over any work: what each entry is, and its words.
 #![tactic(auto)]
 
 mod entry_store;
-mod words;
 
 pub use entry_store::{EntryStore, NoMemory};

@@ -7,6 +7,8 @@
 #![tactic(auto)]
 
 pub use key_order::{KeyOrder, NumberKey};
+pub use tree_build::{build, build_leaf, drop_tree};
 pub use tree_insert::insert;
 pub use tree_remove::remove;
 pub use tree_search::{Cursor, find, total};
+pub use tree_touch::touch;

@@ -1,120 +1,142 @@
--- A tree that is all that is in use stays so through the end of a unit and through a commit.
-use Rattle.std.proofs.Common.{◌≡◌, ℕ, List, [], ◌∷◌, true, false, Option, None, Some, is_some, cond, refl, sym, ap, subst, ◌∙◌, arith, inl, inr, ⊎_elim, true≢false}
-use Rattle.std.specs.Prelude.{◌↔◌}
+-- A tree that is all that is in use stays so through a unit and through a commit.
+use Rattle.std.proofs.Common.{◌≡◌, ℕ, ◌+◌, ◌<◌, List, [], ◌∷◌, true, false, Option, None, Some, is_some, refl, sym, ap, subst, ◌∙◌, arith, true≢false}
 use Rattle.std.specs.List.{AllByRecursion}
 use Rattle.std.specs.List.Sorted.{IsStrictlySortedBy}
 use Rattle.std.specs.Ordering.{nat_cmp}
+use Rattle.entry_ref.specs.References.{buffer_of}
 use Rattle.image_base.specs.Images.{image_of, words_at}
-use Rattle.image_base.specs.Records.{Records, SameAt, Among}
-use Rattle.image_base.proofs.Pairs.{words-among, same-from}
-use Rattle.tree_images.specs.ProofsForTrees.{tree_pairs-same, tree_nodes-same, IsTree-same}
+use Rattle.image_base.specs.Records.{Records, SameAt, AllThere, Among}
+use Rattle.arena_api.specs.Calls.{published}
+use Rattle.arena_api.specs.Works.{Sizes, WorkView}
+use Rattle.tree_images.specs.ProofsForTrees.{tree_pairs-same, IsTree-same, tree_there}
 use Rattle.tree_images.specs.Trees.{tree_pairs, tree_nodes, by_number, IsTree}
-use Rattle.store_api.specs.Statuses.{Status, in_use, is_let_go, after_accept, after_commit}
-use Rattle.store_api.specs.Ledgers.{Ledger, IsNew, kept_records}
-use Rattle.tree_make.specs.Changes.{Replaces}
-use Rattle.number_tree.specs.Maps.{HoldsTree}
-
-pub accept_uses : (status : Status) → in_use (after_accept status) ≡ in_use status
-accept_uses Status.unmade = refl
-accept_uses Status.free = refl
-accept_uses Status.pending = refl
-accept_uses Status.live = refl
-accept_uses Status.dropped = refl
-accept_uses Status.let_go = refl
-accept_uses Status.spent = refl
-
-pub commit_uses : (status : Status) → in_use (after_commit status) ≡ in_use status
-commit_uses Status.unmade = refl
-commit_uses Status.free = refl
-commit_uses Status.pending = refl
-commit_uses Status.live = refl
-commit_uses Status.dropped = refl
-commit_uses Status.let_go = refl
-commit_uses Status.spent = refl
-
--- what is in use is not let go
-used_stays : (status : Status) → in_use status ≡ true → is_let_go status ≡ false
-used_stays Status.unmade h = refl
-used_stays Status.free h = refl
-used_stays Status.pending h = refl
-used_stays Status.live h = refl
-used_stays Status.dropped h = refl
-used_stays Status.let_go h = absurd (true≢false (sym h))
-used_stays Status.spent h = refl
-
--- what holds of each that stands in a list
-pub all_among : (P : ℕ → Type 0) (refs : List ℕ) → ((r : ℕ) → Among r refs → P r) → AllByRecursion P refs
-all_among P [] each = tt
-all_among P (q ∷ qs) each = (each q (inl refl), all_among P qs (λ r h. each r (inr h)))
+use Rattle.key_order.specs.Keys.{IsKeyedTree}
+use Rattle.store_api.specs.Statuses.{Status, in_use}
+use Rattle.store_api.specs.Ledgers.{Ledger, IsNew, IsSettled, is_this}
+use Rattle.store_api.specs.Units.{MayDo}
+use Rattle.store_api.specs.Calls.{Accepts, Undoes, Refuses, IsWhole, StoresCommit, with_hold}
+use Rattle.store_api.specs.Parts.{Owns, OwnsAll, Turns, After, times, uses}
+use Rattle.store_api.specs.declared.store.Stored.{Stored}
+use Rattle.store_api.specs.declared.store.StoreError.{StoreError}
+use Rattle.store_api.specs.declared.store.StoreError.TheVariants.{Full, Memory}
+use Rattle.store_api.proofs.CommitLemmas.{whole-from, commit-same, commit-owns}
+use Rattle.store_api.proofs.PartLemmas.{all-owns, all-then}
+use Rattle.store_api.proofs.UnitLemmas.{unit-accepts, accept-stays, undone}
+use Rattle.store_api.proofs.Uses.{uses-out}
+use Rattle.tree_make.specs.Changes.{tree}
+use Rattle.number_tree.specs.Maps.{HoldsTree, IsRefusal}
 
 -- what holds of all pairs
 pub all_pairs : (P : ℕ × ℕ → Type 0) → ((p : ℕ × ℕ) → P p) → (ps : List (ℕ × ℕ)) → AllByRecursion P ps
 all_pairs P each [] = tt
 all_pairs P each (p ∷ ps) = (each p, all_pairs P each ps)
 
--- the nodes of a tree that is held are in use, by a ledger of the same statuses
-pub nodes_used : {H : Type 0} (old new : Ledger H) (m n : Records) (root : ℕ) → HoldsTree old m root → new.status ≡ old.status → n ≡ m
-    → AllByRecursion (λ r. in_use (new.status r) ≡ true) (tree_nodes n root)
-nodes_used old new m n root holds status records =
-    all_among (λ r. in_use (new.status r) ≡ true) (tree_nodes n root) (λ r h.
-    ap (λ (f : ℕ → Status). in_use (f r)) status ∙ (holds.exact r).0 (subst (λ k. Among r (tree_nodes k root)) records h))
+-- a number is read from nothing
+pub number_keyed : (m : Records) (root : ℕ) → IsTree nat_cmp by_number m root → IsKeyedTree nat_cmp by_number (λ n key. Unit {0}) (λ n key. []) m root
+number_keyed m root is = record {
+  tree = is;
+  readable = all_pairs (λ (p : ℕ × ℕ). Unit {0}) (λ p. tt) (tree_pairs m root);
+  apart = all_pairs (λ (p : ℕ × ℕ). Unit {0}) (λ p. tt) (tree_pairs m root);
+}
 
--- a tree that is held in records that agree at its nodes
-pub holds_same : {H : Type 0} (old new : Ledger H) (m n : Records) (root : ℕ) → SameAt (tree_nodes m root) m n
-    → IsTree nat_cmp by_number m root → ((r : ℕ) → Among r (tree_nodes m root) ↔ (in_use (old.status r) ≡ true))
-    → ((r : ℕ) → in_use (new.status r) ≡ in_use (old.status r)) → new.unit ≡ false → HoldsTree new n root
-holds_same old new m n root same tree exact uses unit =
-    let nodes = tree_nodes-same m n root same in
-    record {
-      tree = IsTree-same nat_cmp by_number m n root same refl tree;
-      exact = λ r. ((λ h. uses r ∙ (exact r).0 (subst (Among r) nodes h)), (λ h. subst (Among r) (sym nodes) ((exact r).1 (sym (uses r) ∙ h))));
-      unit = unit;
+module _ {H : Type 0} (old begun mid new : Ledger H) (m k o : Records) (root : ℕ) (holds : HoldsTree old m root)
+    (begins : begun ≡ record old { unit = true }) (records : k ≡ m) where
+  pub begun_owns : Owns begun k (tree root ∷ [])
+  begun_owns = record {
+    each = λ r.
+        let all = holds.owns.each r in
+        let same : uses begun r ≡ uses old r = ap (λ (l : Ledger H). uses l r) begins in
+        let nodes = ap (λ (f : Records). times r (tree_nodes f root)) records in
+        omega arith;
+  }
+
+  pub begun_tree : IsTree nat_cmp by_number k root
+  begun_tree = subst (λ f. IsTree nat_cmp by_number f root) (sym records) holds.is_tree
+
+  module _ (may : MayDo begun mid) where
+    ends_finished : new.finished ≡ mid.finished → new.finished ≡ None
+    ends_finished e = e ∙ may.finished ∙ ap (λ (l : Ledger H). l.finished) begins ∙ holds.finished
+
+    -- the work below has as many commits, and is as large
+    pub ends_last : new.work ≡ mid.work → new.work.commits.last ≡ old.work.commits.last
+    ends_last e = ap (λ (w : WorkView H). w.commits.last) e ∙ may.commits.last ∙ ap (λ (l : Ledger H). l.work.commits.last) begins
+
+    pub ends_sizes : new.work ≡ mid.work → new.work.sizes ≡ old.work.sizes
+    ends_sizes e = ap (λ (w : WorkView H). w.sizes) e ∙ may.sizes ∙ ap (λ (l : Ledger H). l.work.sizes) begins
+
+    pub is_refusal : (e : StoreError) → Refuses begun mid 34 e → IsRefusal old.work.sizes.buffers e
+    is_refusal (Full w a h oldest) (is, full) = (is, full.all ∙ ap (λ (s : Sizes). s.buffers) (may.sizes ∙ ap (λ (l : Ledger H). l.work.sizes) begins))
+    is_refusal Memory refuses = tt
+
+    -- a unit that is accepted
+    module _ (n : Records) (next : ℕ) (turns : Turns begun mid k n (tree root ∷ []) (tree next ∷ [])) (accepts : Accepts mid new n o) where
+      done : After old new m o (tree root ∷ []) (tree next ∷ []) []
+      done = unit-accepts old begun mid new m k n o (tree root ∷ []) (tree next ∷ []) (all-owns old m (tree root ∷ []) holds.owns) begins records turns accepts
+
+      same_next : SameAt (tree_nodes n next) n o
+      same_next = (accept-stays old begun mid new m k n o (tree root ∷ []) (tree next ∷ []) (all-owns old m (tree root ∷ []) holds.owns) begins records turns accepts).0
+
+      pub holds_next : IsTree nat_cmp by_number n next → HoldsTree new o next
+      holds_next is = record {
+        is_tree = IsTree-same nat_cmp by_number n o next same_next refl is;
+        owns = all-then old new m o (tree root ∷ []) (tree next ∷ []) holds.owns done.turns;
+        unit = accepts.unit;
+        finished = ends_finished accepts.finished;
+      }
+
+      pub pairs_next : tree_pairs o next ≡ tree_pairs n next
+      pairs_next = tree_pairs-same n o next same_next
+
+    -- a unit that is undone
+    module _ (settled : IsSettled old m) (undoes : Undoes mid new o) where
+      pub left_same : o ≡ m
+      left_same = (undone old begun mid new m o settled begins may undoes).0
+
+      pub holds_still : HoldsTree new o root
+      holds_still =
+          let both = undone old begun mid new m o settled begins may undoes in
+          record {
+            is_tree = subst (λ f. IsTree nat_cmp by_number f root) (sym both.0) holds.is_tree;
+            owns = record { each = λ r. let all = holds.owns.each r in let used = both.1 r in let nodes = ap (λ (f : Records). times r (tree_nodes f root)) both.0 in omega arith };
+            unit = undoes.unit;
+            finished = ends_finished undoes.finished;
+          }
+
+-- a commit
+module _ {H : Type 0} (bits : ℕ) (old new : Ledger H) (m n : Records) (root : ℕ) (holds : HoldsTree old m root) where
+  pub tree_whole : IsWhole bits old (tree_nodes m root)
+  tree_whole = whole-from bits old m (tree root) [] holds.owns (λ r some. absurd (omega arith)) (λ r among. ap (λ f. is_this f (buffer_of bits r)) holds.finished)
+
+  module _ (answer : Stored) (records : n ≡ words_at (image_of (tree_nodes m root) m root)) (stores : StoresCommit bits old new (image_of (tree_nodes m root) m root) answer) where
+    there : AllThere (tree_nodes m root) m
+    there = tree_there m root holds.is_tree.node
+
+    pub same_commit : SameAt (tree_nodes m root) m n
+    same_commit =
+        subst (λ f. SameAt (tree_nodes m root) m f) (sym records)
+        (commit-same bits old new m (tree root) [] root answer holds.owns tree_whole there stores)
+
+    pub holds_commit : HoldsTree new n root
+    holds_commit = record {
+      is_tree = IsTree-same nat_cmp by_number m n root same_commit refl holds.is_tree;
+      owns = subst (λ f. OwnsAll new f (tree root ∷ [])) (sym records) (commit-owns bits old new m (tree root) [] root answer holds.owns tree_whole there stores);
+      unit = stores.unit;
+      finished = stores.finished;
     }
 
--- one tree in place of another is all that is in use
-module _ {H : Type 0} (old begun mid : Ledger H) (m k n : Records) (root next : ℕ) (holds : HoldsTree old m root)
-    (status : begun.status ≡ old.status) (records : k ≡ m) (replaces : Replaces begun mid k n root next) where
-  was_among : (r : ℕ) → in_use (begun.status r) ≡ true → Among r (tree_nodes k root)
-  was_among r h =
-      subst (λ f. Among r (tree_nodes f root)) (sym records) ((holds.exact r).1 (sym (ap (λ (f : ℕ → Status). in_use (f r)) status) ∙ h))
-
-  pub exact_next : (r : ℕ) → Among r (tree_nodes n next) ↔ (in_use (mid.status r) ≡ true)
-  exact_next r =
-      ((λ h. (replaces.used r).1 (inr h)), (λ h. ⊎_elim (λ (rest : (in_use (begun.status r) ≡ true) × ¬ Among r (tree_nodes k root)). absurd (rest.1 (was_among r rest.0))) (λ among. among) ((replaces.used r).0 h)))
-
-  pub kept_same : SameAt (tree_nodes n next) n (kept_records mid n)
-  kept_same =
-      same-from (tree_nodes n next) n (kept_records mid n) (λ r h.
-      ap (λ b. cond b [] (n r)) (used_stays (mid.status r) ((exact_next r).0 h)))
-
-  pub holds_next : (new : Ledger H) (l : Records) → IsTree nat_cmp by_number n next → l ≡ kept_records mid n
-      → ((r : ℕ) → new.status r ≡ after_accept (mid.status r)) → new.unit ≡ false → HoldsTree new l next
-  holds_next new l tree kept accepted unit =
-      holds_same mid new n l next (subst (λ f. SameAt (tree_nodes n next) n f) (sym kept) kept_same) tree exact_next
-      (λ r. ap in_use (accepted r) ∙ accept_uses (mid.status r)) unit
-
-  pub pairs_next : (l : Records) → l ≡ kept_records mid n → tree_pairs l next ≡ tree_pairs n next
-  pairs_next l kept = tree_pairs-same n l next (subst (λ f. SameAt (tree_nodes n next) n f) (sym kept) kept_same)
-
--- the records of an image of a tree's nodes have them all
-pub image_same : (m n : Records) (root : ℕ) → n ≡ words_at (image_of (tree_nodes m root) m root) → SameAt (tree_nodes m root) m n
-image_same m n root is =
-    same-from (tree_nodes m root) m n (λ r h. ap (λ (f : Records). f r) is ∙ words-among (tree_nodes m root) m root r h)
-
-pub holds_commit : {H : Type 0} (old new : Ledger H) (m n : Records) (root : ℕ) → HoldsTree old m root
-    → n ≡ words_at (image_of (tree_nodes m root) m root) → ((r : ℕ) → new.status r ≡ after_commit (old.status r)) → new.unit ≡ old.unit
-    → HoldsTree new n root
-holds_commit old new m n root holds is status unit =
-    holds_same old new m n root (image_same m n root is) holds.tree holds.exact
-    (λ r. ap in_use (status r) ∙ commit_uses (old.status r)) (unit ∙ holds.unit)
+    pub sizes_commit : new.work.sizes ≡ old.work.sizes
+    sizes_commit =
+        ap (λ (w : WorkView H). w.sizes) stores.work ∙ ap (λ (w : WorkView H). w.sizes) stores.next_is
+        ∙ ap (λ f. (with_hold (published old.work stores.commits (image_of (tree_nodes m root) m root)) f).sizes) holds.finished
 
 -- a store of which nothing was made holds the empty tree
 pub holds_nothing : {H : Type 0} (ledger : Ledger H) (m : Records) → IsNew ledger → HoldsTree ledger m 0
 unfolding IsStrictlySortedBy
 holds_nothing ledger m new = record {
-  tree = record { node = λ some. absurd (omega arith); ascends = tt };
-  exact = λ r. ((λ h. absurd h), (λ h. absurd (true≢false (sym h ∙ ap in_use (new.status r)))));
+  is_tree = record { node = λ some. absurd (omega arith); ascends = tt };
+  owns = record { each = λ r. let none = uses-out ledger r (ap in_use (new.status r)) in omega arith };
   unit = new.unit;
+  finished = new.finished;
 }
 
 pub none_of : (o : Option ℕ) → is_some o ≡ false → o ≡ None

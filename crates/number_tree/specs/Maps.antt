@@ -1,11 +1,15 @@
 -- A map by number: a tree that is all that a store has in use.
-use Rattle.std.specs.Prelude.{◌≡◌, ◌↔◌, ℕ, List, [], ◌∷◌, Option, None, Some, true, false}
+use Rattle.std.specs.Prelude.{◌≡◌, ℕ, ◌+◌, List, [], ◌∷◌, Option, None, Some, false}
 use Rattle.std.specs.declared.cmp.Ordering.{Ordering}
 use Rattle.std.specs.Ordering.{nat_cmp}
-use Rattle.image_base.specs.Records.{Records, Among}
-use Rattle.tree_images.specs.Trees.{tree_nodes, by_number, IsTree}
-use Rattle.store_api.specs.Statuses.{in_use}
+use Rattle.image_base.specs.Records.{Records}
+use Rattle.tree_images.specs.Trees.{by_number, IsTree}
+use Rattle.tree_images.specs.declared.TheConstants.{NODE_WORDS}
 use Rattle.store_api.specs.Ledgers.{Ledger}
+use Rattle.store_api.specs.Parts.{OwnsAll}
+use Rattle.store_api.specs.declared.store.StoreError.{StoreError}
+use Rattle.store_api.specs.declared.store.StoreError.TheVariants.{Full, Memory}
+use Rattle.tree_make.specs.Changes.{tree}
 
 -- the pairs of a tree, its root, how many commits were made of those that can be, and the buffers of its store
 pub record MapView : Type 0 where
@@ -24,8 +28,14 @@ abbrev pub first_of : List (ℕ × ℕ) → Option (ℕ × ℕ)
 first_of [] = None
 first_of (p ∷ ps) = Some p
 
--- the nodes of a tree by number are exactly what is in use, and no unit is under way
+-- the nodes of a tree by number are exactly what is in use, no unit is under way, and no buffer is to go on hold
 pub record HoldsTree {H : Type 0} (ledger : Ledger H) (m : Records) (root : ℕ) : Type 0 where
-  pub tree : IsTree nat_cmp by_number m root
-  pub exact : (r : ℕ) → Among r (tree_nodes m root) ↔ (in_use (ledger.status r) ≡ true)
+  pub is_tree : IsTree nat_cmp by_number m root
+  pub owns : OwnsAll ledger m (tree root ∷ [])
   pub unit : ledger.unit ≡ false
+  pub finished : ledger.finished ≡ None
+
+-- why nothing was changed: no buffer has room for a node, or memory is short
+abbrev pub IsRefusal : ℕ → StoreError → Type 0
+IsRefusal buffers (Full width active held oldest) = (width ≡ NODE_WORDS) × (active + held ≡ buffers)
+IsRefusal buffers Memory = Unit {0}

@@ -1,8 +1,8 @@
-ghost use Rattle.std.specs.Prelude.{◌≡◌, ◌↔◌, ◌-◌, ◌+◌, ℕ, [], length, is_some, Err, IsNone, IfSome, IfNone, IfOk, OnOk, OnErr};
+ghost use Rattle.std.specs.Prelude.{◌≡◌, ◌↔◌, ◌-◌, ◌+◌, [], length, is_some, IsNone, IfSome, IfNone, IfOk, IfErr, OnOk, OnErr};
 ghost use Rattle.tree_images.specs.Trees.{tree_pairs};
 ghost use Rattle.key_order.specs.Pairs.{lookup, put, take_out, seek};
 ghost use Rattle.store_api.specs.Ledgers.{IsNew};
-ghost use Rattle.number_tree.specs.Maps.{HoldsTree, beside, first_of};
+ghost use Rattle.number_tree.specs.Maps.{HoldsTree, IsRefusal, beside, first_of};
 
 use crate::layout::TreeLayout;
 use crate::unit::{commit_tree, insert_unit, remove_unit};
@@ -12,7 +12,6 @@ use frozen_btree::{NumberKey, find, total};
 use std::alloc::{AllocError, Global};
 use std::marker::Model;
 use store_api::{Store, StoreError};
-use tree_images::NODE_WORDS;
 
 /// A map of numbers: a tree alone in a store, changed by units of one change each.
 #[derive(Drop)]
@@ -104,7 +103,7 @@ impl<const OFFSET_BITS: u32, S: Store<OFFSET_BITS, Layout = TreeLayout>> NumberT
         ensures most { self.new.most ≡ self.old.most }
         ensures buffers { self.new.buffers ≡ self.old.buffers }
         ensures left { OnErr result (self.new ≡ self.old) }
-        ensures full { (w a h : ℕ) → result ≡ Err (StoreError.Full w a h) → (w ≡ NODE_WORDS) × (a + h ≡ self.old.buffers) }
+        ensures refused { IfErr result (IsRefusal self.old.buffers) }
     {
         self.root = insert_unit(&mut self.store, self.root, key, value)?;
         Ok(())
@@ -118,7 +117,7 @@ impl<const OFFSET_BITS: u32, S: Store<OFFSET_BITS, Layout = TreeLayout>> NumberT
         ensures most { self.new.most ≡ self.old.most }
         ensures buffers { self.new.buffers ≡ self.old.buffers }
         ensures left { OnErr result (self.new ≡ self.old) }
-        ensures full { (w a h : ℕ) → result ≡ Err (StoreError.Full w a h) → (w ≡ NODE_WORDS) × (a + h ≡ self.old.buffers) }
+        ensures refused { IfErr result (IsRefusal self.old.buffers) }
     {
         if self.get(key).is_none() {
             return Ok(false);

@@ -1,13 +1,12 @@
-ghost use Rattle.std.specs.Prelude.{◌≡◌, ◌<◌, ◌+◌, ℕ, Err, IfOk, OnErr, IsSome};
+ghost use Rattle.std.specs.Prelude.{◌≡◌, ◌<◌, ◌+◌, IfOk, IfErr, OnErr, IsSome};
 ghost use Rattle.tree_images.specs.Trees.{tree_pairs};
 ghost use Rattle.key_order.specs.Pairs.{lookup, put, take_out};
-ghost use Rattle.number_tree.specs.Maps.{HoldsTree, beside};
+ghost use Rattle.number_tree.specs.Maps.{HoldsTree, IsRefusal, beside};
 
 use crate::layout::TreeLayout;
 use entry_ref::EntryRef;
 use frozen_btree::{NumberKey, insert, remove};
 use store_api::{Store, StoreError};
-use tree_images::NODE_WORDS;
 
 /// One unit in which a pair is put.
 pub fn insert_unit<const OFFSET_BITS: u32, S: Store<OFFSET_BITS>>(
@@ -22,9 +21,8 @@ pub fn insert_unit<const OFFSET_BITS: u32, S: Store<OFFSET_BITS>>(
         ≡ put (beside key) (key, value) (tree_pairs (S.records store.old) root.entry)) }
     ensures still { OnErr result (HoldsTree (S.ledger store.new) (S.records store.new) root.entry) }
     ensures left { OnErr result (S.records store.new ≡ S.records store.old) }
-    ensures full { (w a h : ℕ) → result ≡ Err (StoreError.Full w a h)
-        → (w ≡ NODE_WORDS) × (a + h ≡ (S.ledger store.old).work.sizes.buffers) }
-    ensures commits { (S.ledger store.new).work.commits ≡ (S.ledger store.old).work.commits }
+    ensures refused { IfErr result (IsRefusal (S.ledger store.old).work.sizes.buffers) }
+    ensures commits { (S.ledger store.new).work.commits.last ≡ (S.ledger store.old).work.commits.last }
     ensures sizes { (S.ledger store.new).work.sizes ≡ (S.ledger store.old).work.sizes }
 {
     store.begin();
@@ -53,9 +51,8 @@ pub fn remove_unit<const OFFSET_BITS: u32, S: Store<OFFSET_BITS>>(
         ≡ take_out (beside key) (tree_pairs (S.records store.old) root.entry)) }
     ensures still { OnErr result (HoldsTree (S.ledger store.new) (S.records store.new) root.entry) }
     ensures left { OnErr result (S.records store.new ≡ S.records store.old) }
-    ensures full { (w a h : ℕ) → result ≡ Err (StoreError.Full w a h)
-        → (w ≡ NODE_WORDS) × (a + h ≡ (S.ledger store.old).work.sizes.buffers) }
-    ensures commits { (S.ledger store.new).work.commits ≡ (S.ledger store.old).work.commits }
+    ensures refused { IfErr result (IsRefusal (S.ledger store.old).work.sizes.buffers) }
+    ensures commits { (S.ledger store.new).work.commits.last ≡ (S.ledger store.old).work.commits.last }
     ensures sizes { (S.ledger store.new).work.sizes ≡ (S.ledger store.old).work.sizes }
 {
     store.begin();
@@ -84,5 +81,5 @@ pub fn commit_tree<const OFFSET_BITS: u32, S: Store<OFFSET_BITS, Layout = TreeLa
     ensures last { (S.ledger store.new).work.commits.last ≡ (S.ledger store.old).work.commits.last + 1 }
     ensures sizes { (S.ledger store.new).work.sizes ≡ (S.ledger store.old).work.sizes }
 {
-    store.commit(root)
+    store.commit(root).commit
 }

@@ -1,7 +1,20 @@
 -- What a unit may do: nothing, and one thing after another.
-use Rattle.std.proofs.Common.{◌≡◌, true, refl, sym, ap, ◌∙◌, arith, inl, inr, ⊎_elim}
-use Rattle.store_api.specs.Statuses.{Status, is_open}
-use Rattle.store_api.specs.Ledgers.{Ledger, MayDo, IsSameBack}
+use Rattle.std.proofs.Common.{◌≡◌, true, true≢false, refl, sym, ap, ◌∙◌, arith, inl, inr, ⊎_elim}
+use Rattle.arena_api.specs.Works.{Commits}
+use Rattle.store_api.specs.Statuses.{Status, is_open, can_become_free}
+use Rattle.store_api.specs.Ledgers.{Ledger}
+use Rattle.store_api.specs.Units.{MayDo, IsSameBack, KeepsCommits}
+
+pub keeps_commits-same : (commits : Commits) → KeepsCommits commits commits
+keeps_commits-same commits = record { last = refl; image = refl; rises = omega arith; kept = λ n from to. refl }
+
+pub keeps_commits-then : (a b c : Commits) → KeepsCommits a b → KeepsCommits b c → KeepsCommits a c
+keeps_commits-then a b c x y = record {
+  last = y.last ∙ x.last;
+  image = y.image ∙ x.image;
+  rises = omega (arith, x.rises, y.rises);
+  kept = λ n from to. y.kept n from (omega (arith, to, x.last)) ∙ x.kept n (omega (arith, from, y.rises)) to;
+}
 
 pub may_do-same : {H : Type 0} (ledger : Ledger H) → MayDo ledger ledger
 may_do-same ledger = record {
@@ -9,21 +22,28 @@ may_do-same ledger = record {
   home = refl;
   shape = refl;
   sizes = refl;
-  commits = refl;
+  commits = keeps_commits-same ledger.work.commits;
   told = refl;
   readers = refl;
   stops = omega arith;
+  alone = λ none. refl;
+  newest = refl;
+  sealed = refl;
+  finished = refl;
   made = λ width. omega arith;
   back = λ r. inl refl;
   back_records = refl;
   newly = λ r used. inl used;
 }
 
+free-stays : (c : Status) → can_become_free Status.free ≡ true → ⊥
+free-stays c h = true≢false (sym h)
+
 back-then : (a b c : Status) → IsSameBack a b → IsSameBack b c → IsSameBack a c
 back-then a b c (inl e) (inl f) = inl (f ∙ e)
-back-then a b c (inl e) (inr f) = inr (sym e ∙ f.0, f.1)
+back-then a b c (inl e) (inr f) = inr (ap can_become_free (sym e) ∙ f.0, f.1)
 back-then a b c (inr e) (inl f) = inr (e.0, f ∙ e.1)
-back-then a b c (inr e) (inr f) = absurd (let clash : Status.free ≡ Status.unmade = sym e.1 ∙ f.0 in cc)
+back-then a b c (inr e) (inr f) = inr (e.0, f.1)
 
 open-then : (b c : Status) → IsSameBack b c → is_open b ≡ true → is_open c ≡ true
 open-then b c (inl e) h = ap is_open e ∙ h
@@ -35,10 +55,14 @@ may_do-then a b c m n = record {
   home = n.home ∙ m.home;
   shape = n.shape ∙ m.shape;
   sizes = n.sizes ∙ m.sizes;
-  commits = n.commits ∙ m.commits;
+  commits = keeps_commits-then _ _ _ m.commits n.commits;
   told = n.told ∙ m.told;
   readers = n.readers ∙ m.readers;
   stops = omega (arith, m.stops, n.stops);
+  alone = λ none. n.alone (m.readers ∙ none) ∙ m.alone none;
+  newest = n.newest ∙ m.newest;
+  sealed = n.sealed ∙ m.sealed;
+  finished = n.finished ∙ m.finished;
   made = λ width. omega (arith, m.made width, n.made width);
   back = λ r. back-then (a.back r) (b.back r) (c.back r) (m.back r) (n.back r);
   back_records = n.back_records ∙ m.back_records;

@@ -1,2 +1,6 @@
 pub mod Statuses
 pub mod Ledgers
+pub mod Units
+pub mod Calls
+pub mod Parts
+pub mod Victims

@@ -1,8 +1,9 @@
--- The statuses of entries: each offset of a buffer is in one.
-use Rattle.std.specs.Prelude.{ℕ, Bool, true, false, nat_eq, if◌then◌else◌}
+-- The statuses of entries: each offset of an active buffer is in one.
+use Rattle.std.specs.Prelude.{ℕ, Bool, true, false, nat_eq, nat_lt, if◌then◌else◌}
+use Rattle.arena_api.specs.Works.{Tag}
 
 pub data Status : Type 0 where
-  -- not taken yet
+  -- not taken yet, and every entry of a buffer that is not active
   unmade : Status
   -- taken, and in none of those below
   free : Status
@@ -14,8 +15,10 @@ pub data Status : Type 0 where
   dropped : Status
   -- pending before the unit under way, dropped in it
   let_go : Status
-  -- dropped before the last commit; nothing leaves this status
-  spent : Status
+  -- dropped before the last commit, and tagged by the commit that followed
+  held : Tag → Status
+  -- in use in a sealed buffer when a commit left it out; it goes with the buffer
+  left : Status
 
 -- pending or live
 abbrev pub in_use : Status → Bool
@@ -51,15 +54,30 @@ is_open Status.unmade = true
 is_open Status.free = true
 is_open status = false
 
--- free
 abbrev pub is_free_status : Status → Bool
 is_free_status Status.free = true
 is_free_status status = false
 
--- let go
 abbrev pub is_let_go : Status → Bool
 is_let_go Status.let_go = true
 is_let_go status = false
+
+-- taken, and free, dropped or held
+abbrev pub is_dead : Status → Bool
+is_dead Status.free = true
+is_dead Status.dropped = true
+is_dead (Status.held tag) = true
+is_dead status = false
+
+abbrev pub is_taken : Status → Bool
+is_taken Status.unmade = false
+is_taken status = true
+
+-- what is free later: an offset that is taken, or an entry that is held no more
+abbrev pub can_become_free : Status → Bool
+can_become_free Status.unmade = true
+can_become_free (Status.held tag) = true
+can_become_free status = false
 
 -- what becomes of an entry that is dropped, by its status and by the one that an undo would give back
 abbrev pub after_drop : Status → Status → Status
@@ -73,11 +91,17 @@ abbrev pub after_accept : Status → Status
 after_accept Status.let_go = Status.free
 after_accept status = status
 
--- a commit makes the pending live, and what was dropped is spent
-abbrev pub after_commit : Status → Status
-after_commit Status.pending = Status.live
-after_commit Status.dropped = Status.spent
-after_commit status = status
+-- a commit under this tag, that has the entry or not
+abbrev pub after_commit : Tag → Bool → Status → Status
+after_commit tag has Status.pending = if has then Status.live else Status.left
+after_commit tag has Status.live = if has then Status.live else Status.left
+after_commit tag has Status.dropped = Status.held tag
+after_commit tag has status = status
+
+-- what is held under a tag below a generation is free
+abbrev pub free_below : ℕ → Status → Status
+free_below generation (Status.held tag) = if nat_lt tag.generation generation then Status.free else Status.held tag
+free_below generation status = status
 
 -- one entry is in another status
 abbrev pub with_status : (ℕ → Status) → ℕ → Status → ℕ → Status

@@ -2,7 +2,9 @@
 #![tactic(auto)]
 
 mod laws;
+mod parts;
 mod store;
 
-pub use laws::{counting_law, may_do_law};
-pub use store::{Store, StoreError};
+pub use laws::{counting_law, may_do_law, parts_law};
+pub use parts::{drop_one, make_entry};
+pub use store::{Store, StoreError, Stored};

@@ -1,24 +1,42 @@
-ghost use Rattle.std.specs.Prelude.{◌≡◌, ◌<◌, ◌≤◌, ◌+◌, ◌-◌, ◌*◌, ◌/◌, ◌↔◌, ℕ, List, [], Some, true, false, length, IfOk, IfErr, OnErr};
+ghost use Rattle.std.specs.Prelude.{◌≡◌, ◌<◌, ◌≤◌, ◌+◌, ◌-◌, ◌*◌, ◌/◌, ◌↔◌, ℕ, List, None, Some, true, false, length, IfOk, IfErr, OnErr, IfSome, IfNone};
 ghost use Rattle.std.specs.List.{IsDistinct, All};
 ghost use Rattle.std.specs.Prelude.{nat_eq};
 ghost use Rattle.entry_ref.specs.References.{buffer_of};
 ghost use Rattle.image_base.specs.Images.{words_at};
-ghost use Rattle.image_base.specs.Records.{Records, Among};
-ghost use Rattle.arena_api.specs.Works.{WorkView, active_width, last_image};
-ghost use Rattle.arena_api.specs.Calls.{IsWithinLimits, AddsCommit, FitsEntry, InNoCommit, next_image};
-ghost use Rattle.store_api.specs.Statuses.{in_use, has_record, is_committed, is_uncommitted, is_open, after_accept, Status};
-ghost use Rattle.store_api.specs.Ledgers.{Ledger, IsEntryOf, MayDo, Makes, IsFull, IsSettled, is_width, capacity, dropped_from, ended, kept_records, without_free, committed};
+ghost use Rattle.image_base.specs.Records.{Records};
+ghost use Rattle.arena_api.specs.Works.{WorkView, active_width, free_count, last_image};
+ghost use Rattle.arena_api.specs.Calls.{IsWithinLimits, IsInOrder, AddsCommit, FitsEntry, InNoCommit, next_image};
+ghost use Rattle.arena_api.specs.Generations.{IsQueue, current};
+ghost use Rattle.store_api.specs.Statuses.{in_use, has_record, is_committed, is_uncommitted, is_taken, Status};
+ghost use Rattle.store_api.specs.Ledgers.{Ledger, IsEntryOf, IsSpare, IsHeldEntry, IsUnfilled, IsSettled, buffers_in, capacity, is_held, is_width, widths};
+ghost use Rattle.store_api.specs.Units.{MayDo};
+ghost use Rattle.store_api.specs.Calls.{GivesBack, MayGiveBack, Makes, Refuses, DropsEntry, Accepts, Undoes, IsWhole, StoresCommit, Seals};
+ghost use Rattle.store_api.specs.Victims.{IsVictim, HasNoVictim};
 
+use arena_api::{Advance, Oldest};
 use entry_ref::EntryRef;
 use frozen_api::Frozen;
 use image_base::Layout;
 
 /// Why no entry was made.
-#[derive(Clone, Copy, Debug, PartialEq, Eq)]
+#[derive(Clone, Copy, Debug, PartialEq, Eq, Drop)]
 pub enum StoreError {
-    /// The width has no free entry and no room in its filled buffer, and no buffer is free.
-    Full { width: u32, active: u32, held: u32 },
+    /// The width has no free entry and no room in its filled buffer, and after a reclaim no buffer is free.
+    Full {
+        width: u32,
+        active: u32,
+        held: u32,
+        oldest: Oldest,
+    },
     Memory,
+}
+
+/// What a commit came to: its number, and what the advance of the generation and the reclaim after it answered.
+#[derive(Clone, Copy, Debug, PartialEq, Eq, Drop)]
+pub struct Stored {
+    pub commit: u32,
+    pub advance: Advance,
+    pub oldest: Oldest,
 }
 
 /// Entries in the buffers of a work, by a ledger that says of each what it is.
@@ -39,15 +57,16 @@ pub trait Store<const OFFSET_BITS: u32>: Frozen<OFFSET_BITS> {
         ensures records { Self.records self.new ≡ Self.records self.old };
 
     /// Makes an entry of `width` words: those given, and zeros after them. It takes a free entry of the
-    /// width, else the next offset of the buffer that is filled, else a new buffer.
+    /// width, else the next offset of the buffer that is filled; else it reclaims and looks again; else it
+    /// takes a new buffer. Nothing is taken of a sealed buffer.
     fn make(&mut self, width: u32, words: &[u64]) -> Result<EntryRef<OFFSET_BITS>, StoreError>
         requires unit { (ledger self.old).unit ≡ true }
         requires width { is_width width ≡ true }
         requires fits { length words.now ≤ width }
         ensures makes { IfOk result (Makes OFFSET_BITS (ledger self.old) (ledger self.new)
             (Self.records self.old) (Self.records self.new) width words.now) }
-        ensures full { (w a h : ℕ) → result ≡ Err (StoreError.Full w a h) → (w ≡ width) × IsFull (ledger self.new) width a h }
-        ensures refused { OnErr result (ledger self.new ≡ ledger self.old) }
+        ensures refuses { IfErr result (Refuses (ledger self.old) (ledger self.new) width) }
+        ensures refused { OnErr result (MayGiveBack (ledger self.old) (ledger self.new)) }
         ensures left { OnErr result (Self.records self.new ≡ Self.records self.old) }
         ensures may { MayDo (ledger self.old) (ledger self.new) };
 
@@ -56,41 +75,51 @@ pub trait Store<const OFFSET_BITS: u32>: Frozen<OFFSET_BITS> {
     fn drop_entry(&mut self, entry: EntryRef<OFFSET_BITS>)
         requires unit { (ledger self.old).unit ≡ true }
         requires used { in_use ((ledger self.old).status entry) ≡ true }
-        ensures ledger { ledger self.new ≡ dropped_from (ledger self.old) entry.entry
-            (active_width ((ledger self.old).work.buffer (buffer_of OFFSET_BITS entry.entry))) }
-        ensures records { Self.records self.new
-            ≡ without_free (ledger self.new).status (Self.records self.old) }
+        ensures drops { DropsEntry (ledger self.old) (ledger self.new) (Self.records self.old) (Self.records self.new) entry.entry }
         ensures may { MayDo (ledger self.old) (ledger self.new) };
 
     /// Closes the unit. What it let go is free.
     fn accept(&mut self)
         requires { (ledger self.old).unit ≡ true }
-        ensures ledger { ledger self.new ≡ ended (ledger self.old) (λ r. after_accept ((ledger self.old).status r))
-            (Self.records self.new) (ledger self.old).gone }
-        ensures records { Self.records self.new ≡ kept_records (ledger self.old) (Self.records self.old) };
+        ensures { Accepts (ledger self.old) (ledger self.new) (Self.records self.old) (Self.records self.new) };
 
     /// Closes the unit with the entries in use and the dropped ones of `begin`, with their words. What it
-    /// made is free; a buffer that it took stays.
+    /// made is free; a buffer that it took stays, and what was reclaimed stays so.
     fn undo(&mut self)
         requires { (ledger self.old).unit ≡ true }
-        ensures ledger { ledger self.new ≡ ended (ledger self.old) (ledger self.old).back
-            (Self.records self.new) (ledger self.old).fresh }
-        ensures records { Self.records self.new ≡ (ledger self.old).back_records };
+        ensures { Undoes (ledger self.old) (ledger self.new) (Self.records self.new) };
 
-    /// Commits what the root reaches, which is all that is in use, and answers the commit's number.
-    fn commit(&mut self, root: EntryRef<OFFSET_BITS>) -> u32
+    /// Commits what the root reaches: all that is in use outside sealed buffers, and nothing of the
+    /// finished one, which goes on hold.
+    fn commit(&mut self, root: EntryRef<OFFSET_BITS>) -> Stored
         requires unit { (ledger self.old).unit ≡ false }
         requires lawful { Self.Layout.lawful (Self.shape self.old) (Self.records self.old) root }
         requires room { (ledger self.old).work.commits.last < (ledger self.old).work.sizes.commits }
-        requires exact { (r : ℕ) → Among r (Self.Layout.reaches (Self.shape self.old) (Self.records self.old) root)
-            ↔ (in_use ((ledger self.old).status r) ≡ true) }
-        ensures number { result ≡ (ledger self.old).work.commits.last + 1 }
+        requires whole { IsWhole OFFSET_BITS (ledger self.old) (Self.Layout.reaches (Self.shape self.old) (Self.records self.old) root) }
         ensures commit { AddsCommit (ledger self.old).work.commits (ledger self.new).work.commits
             (next_image Self.Layout.reaches (Self.shape self.old) (Self.records self.old) root.entry) }
-        ensures ledger { ledger self.new ≡ committed (ledger self.old) (ledger self.new).work.commits
-            (next_image Self.Layout.reaches (Self.shape self.old) (Self.records self.old) root.entry) }
+        ensures stores { StoresCommit OFFSET_BITS (ledger self.old) (ledger self.new)
+            (next_image Self.Layout.reaches (Self.shape self.old) (Self.records self.old) root.entry) result }
         ensures records { Self.records self.new
             ≡ words_at (next_image Self.Layout.reaches (Self.shape self.old) (Self.records self.old) root.entry) };
+
+    /// Marks a buffer that a compaction empties: nothing of it is handed out.
+    fn seal(&mut self, buffer: u32)
+        requires { IsUnfilled (ledger self.old) buffer }
+        ensures seals { Seals (ledger self.old) (ledger self.new) buffer }
+        ensures records { Self.records self.new ≡ Self.records self.old };
+
+    /// Marks a sealed buffer for hold in the next commit.
+    fn finish(&mut self, buffer: u32)
+        requires sealed { (ledger self.old).sealed buffer ≡ true }
+        requires none { (ledger self.old).finished ≡ None }
+        ensures ledger { ledger self.new ≡ record (ledger self.old) { finished = Some buffer } }
+        ensures records { Self.records self.new ≡ Self.records self.old };
+
+    /// The buffer of which a compaction has most to win, if any is worth it.
+    fn choose_victim(&self) -> Option<u32>
+        ensures some { IfSome result (IsVictim OFFSET_BITS (ledger self.now)) }
+        ensures none { IfNone result (HasNoVictim OFFSET_BITS (ledger self.now)) };
 
     /// How many commits can still be made.
     fn commits_left(&self) -> u32
@@ -100,23 +129,36 @@ pub trait Store<const OFFSET_BITS: u32>: Frozen<OFFSET_BITS> {
 
     ghost limits: { (s : Self) → IsWithinLimits OFFSET_BITS (ledger s).work.sizes };
 
+    ghost order: { (s : Self) → IsInOrder (ledger s).work };
+
+    ghost queue: { (s : Self) → IsQueue (ledger s).work };
+
     // exactly the statuses with records have one
     ghost recorded: { (s : Self) (r : ℕ) → (has_record ((ledger s).status r) ≡ true) ↔ (0 < length (Self.records s r)) };
 
     // a record fills an entry of an active buffer
     ghost placed: { (s : Self) (r : ℕ) → 0 < length (Self.records s r)
-        → FitsEntry OFFSET_BITS (ledger s).work.sizes (active_width ((ledger s).work.buffer (buffer_of OFFSET_BITS r))) r (length (Self.records s r)) };
+        → FitsEntry OFFSET_BITS (ledger s).work.sizes (active_width ((ledger s).work.buffer (buffer_of OFFSET_BITS r))) r
+        (length (Self.records s r)) };
+
+    // what was taken is an entry of an active buffer
+    ghost taken: { (s : Self) (r : ℕ) → is_taken ((ledger s).status r) ≡ true → IsEntryOf OFFSET_BITS (ledger s).work r };
 
     // only the filled buffer of a width has unmade offsets
     ghost filled: { (s : Self) (r : ℕ) → IsEntryOf OFFSET_BITS (ledger s).work r → (ledger s).status r ≡ Status.unmade
-        → (ledger s).filled (active_width ((ledger s).work.buffer (buffer_of OFFSET_BITS r))) ≡ Some (buffer_of OFFSET_BITS r) };
+        → ((ledger s).of_width (active_width ((ledger s).work.buffer (buffer_of OFFSET_BITS r)))).filled
+        ≡ Some (buffer_of OFFSET_BITS r) };
 
-    // a free or unmade entry is one to spare
-    ghost spares: { (s : Self) (r : ℕ) → IsEntryOf OFFSET_BITS (ledger s).work r → is_open ((ledger s).status r) ≡ true
-        → 0 < (ledger s).spare (active_width ((ledger s).work.buffer (buffer_of OFFSET_BITS r))) };
+    // distinct entries of a width that can be taken are at most its spare ones
+    ghost spares: { (s : Self) (width : ℕ) (refs : List ℕ) → IsDistinct nat_eq refs
+        → All (IsSpare OFFSET_BITS (ledger s) width) refs → length refs ≤ ((ledger s).of_width width).spare };
 
-    // no kept commit has an unmade, free, pending or let go entry
-    ghost unkept: { (s : Self) (r : ℕ) → is_uncommitted ((ledger s).status r) ≡ true → InNoCommit (ledger s).work.commits r };
+    // no kept commit has an unmade, free, pending or let go entry of an active buffer
+    ghost unkept: { (s : Self) (r : ℕ) → IsEntryOf OFFSET_BITS (ledger s).work r → is_uncommitted ((ledger s).status r) ≡ true
+        → InNoCommit (ledger s).work.commits r };
+
+    // nothing is held under a tag below the oldest open generation, and no commit from the tag's on has it
+    ghost held: { (s : Self) (r : ℕ) (tag : _) → (ledger s).status r ≡ Status.held tag → IsHeldEntry (ledger s) r tag };
 
     // the last commit has exactly the live and the dropped
     ghost last: { (s : Self) (r : ℕ) → is_committed ((ledger s).status r) ≡ true
@@ -124,9 +166,22 @@ pub trait Store<const OFFSET_BITS: u32>: Frozen<OFFSET_BITS> {
 
     ghost settled: { (s : Self) → (ledger s).unit ≡ false → IsSettled (ledger s) (Self.records s) };
 
+    // sealed buffers are active and not filled; the finished one is sealed
+    ghost sealed: { (s : Self) (b : ℕ) → (ledger s).sealed b ≡ true → IsUnfilled (ledger s) b };
+
+    ghost finished: { (s : Self) (b : ℕ) → (ledger s).finished ≡ Some b → (ledger s).sealed b ≡ true };
+
+    // without readers, and below the last generation, no buffer is on hold
+    ghost unread: { (s : Self) (b : ℕ) → b < (ledger s).work.sizes.buffers → (ledger s).work.made ≡ 0
+        → current (ledger s).work < (ledger s).work.sizes.generations → is_held ((ledger s).work.buffer b) ≡ false };
+
+    // each buffer is free or of one width
+    ghost counted: { (s : Self) → free_count (ledger s).work.buffer (ledger s).work.sizes.buffers + buffers_in (ledger s).of_width widths
+        ≡ (ledger s).work.sizes.buffers };
+
     // a width's buffers are at most one more than those that its entries made would fill
     ghost few_buffers: { (s : Self) (width : ℕ) → is_width width ≡ true
-        → (ledger s).buffers width ≤ 1 + (ledger s).made width / capacity (ledger s).work.sizes.words width };
+        → ((ledger s).of_width width).buffers ≤ 1 + ((ledger s).of_width width).made / capacity (ledger s).work.sizes.words width };
 
     // distinct records of one width are at most its offsets in all buffers
     ghost few_records: { (s : Self) (width : ℕ) (refs : List ℕ) → 0 < width → IsDistinct nat_eq refs

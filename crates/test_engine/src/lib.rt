@@ -4,6 +4,8 @@
 #[cfg(test)]
 mod of_buffers;
 #[cfg(test)]
+mod of_commits;
+#[cfg(test)]
 mod of_hold_lists;
 #[cfg(test)]
 mod of_holds;
@@ -13,3 +15,5 @@ mod of_memory;
 mod of_references;
 #[cfg(test)]
 mod of_store;
+#[cfg(test)]
+mod stores;

@@ -1,5 +1,4 @@
 use buffer_states::{BufferState, Buffers};
-use entry_shelf::Shelf;
 use std::test::Fail;
 
 #[test]
@@ -23,19 +22,5 @@ fn a_buffer_goes_from_free_to_active_to_on_hold(rt: HostRuntime) -> Result<(), F
     buffers.free_below(8);
     assert!(rt; buffers.state(1) == BufferState::Free);
     assert!(rt; buffers.state(0) == BufferState::Active);
-    Ok(())
-}
-
-#[test]
-fn what_a_unit_took_is_free_after_an_undo(rt: HostRuntime) -> Result<(), Fail> {
-    let mut shelf = Shelf::new(rt.alloc());
-    assert_eq!(rt; shelf.take(), None);
-    shelf.reserve(2)?;
-    assert_eq!(rt; shelf.take(), Some(0));
-    shelf.undo(7);
-    assert_eq!(rt; shelf.take(), Some(0));
-    shelf.accept(7);
-    assert_eq!(rt; (shelf.take(), shelf.take()), (Some(1), None));
-    assert_eq!(rt; shelf.made(), 3);
     Ok(())
 }

@@ -1,1 +1,2 @@
 pub mod TensLemmas
+pub mod NodeLemmas

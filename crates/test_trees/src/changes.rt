@@ -1,4 +1,5 @@
 use crate::trees::{look, new_tree};
+use arena_api::Oldest;
 use entry_store::EntryStore;
 use mem_work::MemWork;
 use number_tree::{NumberTree, TreeLayout};
@@ -7,6 +8,14 @@ use std::test::Fail;
 use store_api::StoreError;
 
 type Tree = NumberTree<22, EntryStore<22, MemWork<22, TreeLayout>>>;
+
+/// The oldest open hold of a store without commits: the first, and the newest.
+const FIRST: Oldest = Oldest {
+    generation: 0,
+    hold: 0,
+    found: 0,
+    newest: true,
+};
 
 /// The next number of a fixed order that looks like none.
 fn scrambled(number: u64) -> u64 {
@@ -105,6 +114,7 @@ fn a_full_store_is_told_and_leaves_the_tree_as_it_was(rt: HostRuntime) -> Result
             width: 34,
             active: buffers,
             held: 0,
+            oldest: FIRST,
         };
         assert_eq!(rt; last, Err(full));
         assert_eq!(rt; tree.get(put), None);
@@ -132,6 +142,7 @@ fn the_readme_example(rt: HostRuntime) -> Result<(), Fail> {
         width: 34,
         active: 1,
         held: 0,
+        oldest: FIRST,
     };
     assert_eq!(rt; last, Err(full));
     assert_eq!(rt; map.get(4999), None);

@@ -1,14 +1,16 @@
+ghost use Rattle.std.specs.Prelude.{IfOk};
 ghost use Rattle.store_api.specs.Ledgers.{IsNew};
+ghost use Rattle.test_trees.specs.Tens.{HoldsTens};
 
 use crate::tens::put_word;
-use crate::trees::new_tree;
+use crate::trees::{new_tree, records_of};
 use entry_ref::EntryRef;
 use entry_store::EntryStore;
 use frozen_btree::{KeyOrder, NumberKey};
 use image_base::{word_in, words_at};
 use mem_work::MemWork;
 use number_tree::TreeLayout;
-use std::alloc::AllocError;
+use std::alloc::{AllocError, Global};
 use std::cmp::Ordering;
 use std::test::Fail;
 use store_api::{Store, StoreError};
@@ -60,6 +62,7 @@ fn two_replaced<const OFFSET_BITS: u32, S: Store<OFFSET_BITS>>(
     store: &mut S,
 ) -> Result<EntryRef<OFFSET_BITS>, StoreError>
     requires { IsNew (S.ledger store.old) }
+    ensures { IfOk result (HoldsTens (S.ledger store.new) (S.records store.new)) }
 {
     store.begin();
     let mut root = EntryRef::from_raw(0);
@@ -70,13 +73,23 @@ fn two_replaced<const OFFSET_BITS: u32, S: Store<OFFSET_BITS>>(
     put_word(store, root, 179, 2)
 }
 
+/// A store of eight buffers, of which nothing is made yet.
+fn new_store(alloc: Global) -> Result<EntryStore<22, MemWork<22, TreeLayout>>, AllocError>
+    ensures new { IfOk result (λ s. IsNew (⟦<EntryStore<22, MemWork<22, TreeLayout>> as Store<22>>⟧.ledger s)) }
+{
+    let work = MemWork::<22, TreeLayout>::create(alloc, 8, 8192, 1)?;
+    match EntryStore::create(alloc, work) {
+        Ok(store) => Ok(store),
+        Err(_) => Err(AllocError),
+    }
+}
+
 #[test]
 fn the_last_key_of_a_subtree_is_replaced_by_another_word(rt: HostRuntime) -> Result<(), Fail> {
     let alloc = rt.alloc();
-    let work = MemWork::<22, TreeLayout>::create(alloc, 8, 8192, 1)?;
-    let mut store = EntryStore::create(alloc, work).map_err(|_| AllocError)?;
+    let mut store = new_store(alloc)?;
     let root = two_replaced(&mut store).map_err(|_| AllocError)?;
-    let records = store.records(alloc)?;
+    let records = records_of(alloc, &mut store, root)?;
     let top = words_at(&records, u64::from(root.raw()));
     assert_eq!(rt; (word_in(top, 0), word_in(top, 1)), (258, 17));
     assert_eq!(rt; (word_in(top, 2), word_in(top, 3)), (95, 179));

@@ -1,14 +1,19 @@
 //! Trees to be tested, and what their records say.
-ghost use Rattle.std.specs.Prelude.{◌≤◌, ◌<◌};
+ghost use Rattle.std.specs.Prelude.{◌≡◌, ◌≤◌, ◌<◌};
 ghost use Rattle.entry_ref.specs.References.{offset_limit, buffer_limit};
+ghost use Rattle.tree_images.specs.Trees.{IsNode, IsRootNode};
 
 use check_trees::{Keys, check_tree};
+use entry_ref::EntryRef;
 use entry_store::EntryStore;
+use frozen_api::Frozen;
 use image_base::{word_in, words_at};
 use mem_work::MemWork;
 use number_tree::{NumberTree, TreeLayout};
 use std::alloc::{AllocError, Global};
 use std::collections::BTreeMap;
+use tree_images::NODE_WORDS;
+use tree_node::{read_head, read_node, read_words};
 
 /// The empty tree in a store of its own, of a number of buffers of 8,192 words.
 pub fn new_tree<const OFFSET_BITS: u32>(
@@ -58,14 +63,56 @@ fn heads(
     Ok(heads)
 }
 
-/// Looks at all records of a tree's store, which the slow checker finds to be a tree.
+/// Adds the records of a node, and of all nodes below it, to those of others.
+fn add_below<const OFFSET_BITS: u32, F: Frozen<OFFSET_BITS>>(
+    alloc: Global,
+    frozen: &mut F,
+    node: EntryRef<OFFSET_BITS>,
+    level: u64,
+    records: &mut BTreeMap<u32, Vec<u64>>,
+) -> Result<(), AllocError>
+    requires { IsNode (F.records frozen.old) 1 level node }
+    ensures { frozen.new ≡ frozen.old }
+{
+    let mut words = [0; NODE_WORDS];
+    read_words(frozen, node, &mut words);
+    records.insert(node.raw(), words.as_slice().to_vec(alloc)?)?;
+    if level == 0 {
+        return Ok(());
+    }
+    let slots = read_node(frozen, node);
+    for child in slots.values.as_slice() {
+        let below = EntryRef::from_raw(*child as u32);
+        add_below(alloc, frozen, below, level - 1, records)?;
+    }
+    Ok(())
+}
+
+/// The records of a tree's nodes.
+pub fn records_of<const OFFSET_BITS: u32, F: Frozen<OFFSET_BITS>>(
+    alloc: Global,
+    frozen: &mut F,
+    root: EntryRef<OFFSET_BITS>,
+) -> Result<BTreeMap<u32, Vec<u64>>, AllocError>
+    requires { 0 < root → IsRootNode (F.records frozen.old) root }
+{
+    let mut records = BTreeMap::new(alloc);
+    if root.valid() {
+        let level = read_head(frozen, root).level;
+        add_below(alloc, frozen, root, level, &mut records)?;
+    }
+    Ok(records)
+}
+
+/// Looks at the records of a tree, which the slow checker finds to be one.
 pub fn look<const OFFSET_BITS: u32>(
     alloc: Global,
     tree: NumberTree<OFFSET_BITS, EntryStore<OFFSET_BITS, MemWork<OFFSET_BITS, TreeLayout>>>,
 ) -> Result<Seen, AllocError> {
-    let root = tree.root().raw();
+    let top = tree.root();
+    let root = top.raw();
     let mut store = tree.into_store();
-    let records = store.records(alloc)?;
+    let records = records_of(alloc, &mut store, top)?;
     let number = u64::from(root);
     match check_tree(alloc, Keys::Numbers, &records, number) {
         Ok(pairs) => Ok(Seen {

@@ -16,8 +16,8 @@ use Rattle.key_order.specs.Keys.{seen_by, Ascends, AllBelow}
 use Rattle.key_order.specs.Pairs.{put}
 use Rattle.key_order.proofs.PairLemmas.{All-child, children-cut, put-skip, put-stop, length-put_most}
 use Rattle.key_order.proofs.OrderLemmas.{ascends-child, children-below}
-use Rattle.tree_make.proofs.TimesLemmas.{times-append}
-use Rattle.tree_make.specs.Times.{times}
+use Rattle.store_api.proofs.Times.{times-append}
+use Rattle.store_api.specs.Parts.{times}
 use Rattle.tree_node.specs.Places.{IsPlace}
 use Rattle.tree_node.specs.Slots.{slot_pairs, slot_nodes, IsInHand}
 use Rattle.tree_node.proofs.KeyLemmas.{key_last}

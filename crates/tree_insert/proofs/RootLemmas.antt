@@ -6,7 +6,7 @@ use Rattle.image_base.specs.Records.{Records}
 use Rattle.store_api.specs.Ledgers.{Ledger}
 use Rattle.tree_images.specs.Trees.{pairs_below, nodes_below, IsNode, root_least}
 use Rattle.tree_make.proofs.RootLemmas.{made-balance}
-use Rattle.tree_make.specs.Times.{times}
+use Rattle.store_api.specs.Parts.{times}
 use Rattle.tree_make.specs.Makes.{MakesNode}
 use Rattle.tree_node.specs.Slots.{slot_pairs, slot_nodes, IsInHand}
 use Rattle.tree_make.specs.declared.make.Part.{Part}

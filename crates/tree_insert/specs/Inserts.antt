@@ -7,7 +7,7 @@ use Rattle.store_api.specs.Ledgers.{Ledger}
 use Rattle.tree_images.specs.Nodes.{used_of}
 use Rattle.tree_images.specs.Trees.{pairs_below, nodes_below}
 use Rattle.key_order.specs.Pairs.{put}
-use Rattle.tree_make.specs.Times.{times, uses}
+use Rattle.store_api.specs.Parts.{times, uses}
 use Rattle.tree_insert.specs.declared.parts.Parts.{Parts}
 use Rattle.tree_insert.specs.Parts.{AreParts, part_nodes}
 

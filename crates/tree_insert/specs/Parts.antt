@@ -4,7 +4,7 @@ use Rattle.std.specs.List.{flat_map, AllByRecursion}
 use Rattle.image_base.specs.Records.{Records}
 use Rattle.store_api.specs.Ledgers.{Ledger}
 use Rattle.tree_images.specs.Trees.{pairs_below, nodes_below, last_key, IsNode, root_least}
-use Rattle.tree_make.specs.Times.{times, uses}
+use Rattle.store_api.specs.Parts.{times, uses}
 use Rattle.tree_node.specs.Slots.{slot_pairs, slot_nodes}
 use Rattle.tree_make.specs.Makes.{MakesNodes}
 use Rattle.tree_insert.specs.declared.parts.Parts.{Parts}

@@ -1,7 +1,7 @@
-ghost use Rattle.std.specs.Prelude.{◌≡◌, ◌≤◌, ◌<◌, ◌+◌, ◌*◌, ◌^◌, ◌++◌, ◌∷◌, [], ℕ, List, true, length, suc, Err, IfOk};
+ghost use Rattle.std.specs.Prelude.{◌≡◌, ◌≤◌, ◌<◌, ◌+◌, ◌*◌, ◌^◌, ◌++◌, ◌∷◌, [], ℕ, List, true, length, suc, IfOk, IfErr};
 ghost use Rattle.tree_images.specs.Trees.{pairs_below, IsNode};
 ghost use Rattle.key_order.specs.Keys.{seen_by, Ascends, AllReadable};
-ghost use Rattle.store_api.specs.Ledgers.{IsFull};
+ghost use Rattle.store_api.specs.Calls.{Refuses};
 ghost use Rattle.tree_make.specs.Makes.{MakesNodes};
 ghost use Rattle.tree_insert.specs.Inserts.{Inserts};
 
@@ -30,7 +30,7 @@ fn insert_in_leaf<const OFFSET_BITS: u32, S: Store<OFFSET_BITS>, K: KeyOrder<OFF
         (Inserts (seen_by K.read K.order (K.sought key.now) (S.records store.old)) (word, value)
         (S.ledger store.old) (S.ledger store.new) (S.records store.old) (S.records store.new) 0 node.entry before after) }
     ensures makes { MakesNodes (S.ledger store.old) (S.ledger store.new) (S.records store.old) (S.records store.new) 2 }
-    ensures full { (w a h : ℕ) → result ≡ Err (StoreError.Full w a h) → (w ≡ NODE_WORDS) × IsFull (S.ledger store.new) w a h }
+    ensures refuses { IfErr result (Refuses (S.ledger store.old) (S.ledger store.new) NODE_WORDS) }
 {
     let mut slots = read_node(store, node);
     let spot = first_slot(store, &slots.keys, key);
@@ -60,7 +60,7 @@ pub fn insert_below<const OFFSET_BITS: u32, S: Store<OFFSET_BITS>, K: KeyOrder<O
         (S.ledger store.old) (S.ledger store.new) (S.records store.old) (S.records store.new)
         level node.entry replaced.old.items replaced.new.items) }
     ensures makes { MakesNodes (S.ledger store.old) (S.ledger store.new) (S.records store.old) (S.records store.new) (2 * suc level) }
-    ensures full { (w a h : ℕ) → result ≡ Err (StoreError.Full w a h) → (w ≡ NODE_WORDS) × IsFull (S.ledger store.new) w a h }
+    ensures refuses { IfErr result (Refuses (S.ledger store.old) (S.ledger store.new) NODE_WORDS) }
 {
     replaced.push(node.raw());
     if level == 0 {

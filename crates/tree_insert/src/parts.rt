@@ -1,5 +1,5 @@
-ghost use Rattle.std.specs.Prelude.{◌≡◌, ◌≤◌, ◌<◌, ◌^◌, ◌∷◌, ◌++◌, ℕ, true, length, take, drop, suc, Err, IfOk};
-ghost use Rattle.store_api.specs.Ledgers.{IsFull};
+ghost use Rattle.std.specs.Prelude.{◌≡◌, ◌≤◌, ◌<◌, ◌^◌, ◌∷◌, ◌++◌, ℕ, true, length, take, drop, suc, IfOk, IfErr};
+ghost use Rattle.store_api.specs.Calls.{Refuses};
 ghost use Rattle.tree_node.specs.Slots.{slot_pairs, IsInHand};
 ghost use Rattle.tree_make.specs.Makes.{MakesNodes};
 ghost use Rattle.tree_insert.specs.Parts.{MakesParts, part_keys, part_nodes};
@@ -54,7 +54,7 @@ pub fn make_parts<const OFFSET_BITS: u32, S: Store<OFFSET_BITS>>(
     ensures parts { IfOk result (MakesParts (S.ledger store.old) (S.ledger store.new) (S.records store.old) (S.records store.new)
         slots.old.level slots.old.keys.items slots.old.values.items) }
     ensures makes { MakesNodes (S.ledger store.old) (S.ledger store.new) (S.records store.old) (S.records store.new) 2 }
-    ensures full { (w a h : ℕ) → result ≡ Err (StoreError.Full w a h) → (w ≡ NODE_WORDS) × IsFull (S.ledger store.new) w a h }
+    ensures refuses { IfErr result (Refuses (S.ledger store.old) (S.ledger store.new) NODE_WORDS) }
 {
     if slots.keys.len() <= MOST_SLOTS {
         return Ok(Parts::One(make_part(store, slots)?));

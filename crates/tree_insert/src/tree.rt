@@ -1,13 +1,13 @@
-ghost use Rattle.std.specs.Prelude.{◌≡◌, ◌≢◌, ◌≤◌, ◌<◌, ◌+◌, ◌*◌, ◌^◌, ℕ, true, length, Err, IfOk, OnErr};
-ghost use Rattle.std.specs.List.{AllByRecursion, flat_map};
-ghost use Rattle.std.specs.declared.cmp.Ordering.TheVariants.{Equal};
-ghost use Rattle.tree_images.specs.Trees.{pairs_below, tree_pairs, tree_nodes, IsTree, root_least};
-ghost use Rattle.key_order.specs.Keys.{seen_by, AllReadable, ReadsNoNode, NoneReadsNodes};
+ghost use Rattle.std.specs.Prelude.{◌≡◌, ◌≤◌, ◌<◌, ◌+◌, ◌*◌, ◌^◌, ◌∷◌, [], true, length, IfOk, IfErr, OnErr};
+ghost use Rattle.std.specs.List.{flat_map};
+ghost use Rattle.tree_images.specs.Trees.{pairs_below, tree_pairs, IsTree, Keeps, root_least};
+ghost use Rattle.key_order.specs.Keys.{seen_by, AllReadable, KeepsOthers, IsKeyedTree, IsKeyWord};
 ghost use Rattle.key_order.specs.Pairs.{put};
-ghost use Rattle.store_api.specs.Statuses.{in_use};
-ghost use Rattle.store_api.specs.Ledgers.{IsFull};
-ghost use Rattle.tree_make.specs.Changes.{Replaces, levels};
-ghost use Rattle.tree_make.specs.Makes.{MakesNodes};
+ghost use Rattle.store_api.specs.Calls.{Refuses};
+ghost use Rattle.store_api.specs.Parts.{Owns, Turns};
+ghost use Rattle.store_api.specs.Units.{MayDo};
+ghost use Rattle.tree_make.specs.Changes.{Rebuilds, levels, tree};
+ghost use Rattle.tree_make.specs.Makes.{CountsNodes, MakesNodes};
 ghost use Rattle.tree_insert.specs.Parts.{AreParts, IsRootOver, part_nodes};
 
 use crate::below::insert_below;
@@ -34,7 +34,7 @@ fn root_over<const OFFSET_BITS: u32, S: Store<OFFSET_BITS>>(
     requires two { level ≡ 7 → length (part_nodes parts.now) ≡ 1 }
     ensures root { IfOk result (IsRootOver (S.ledger store.old) (S.ledger store.new) (S.records store.old) (S.records store.new) level parts.now) }
     ensures makes { MakesNodes (S.ledger store.old) (S.ledger store.new) (S.records store.old) (S.records store.new) 1 }
-    ensures full { (w a h : ℕ) → result ≡ Err (StoreError.Full w a h) → (w ≡ NODE_WORDS) × IsFull (S.ledger store.new) w a h }
+    ensures refuses { IfErr result (Refuses (S.ledger store.old) (S.ledger store.new) NODE_WORDS) }
 {
     match *parts {
         Parts::One(part) => Ok(EntryRef::from_raw(part.node)),
@@ -54,6 +54,34 @@ fn root_over<const OFFSET_BITS: u32, S: Store<OFFSET_BITS>>(
     }
 }
 
+/// Makes the tree with a pair, with the nodes of the old one that it lacks added to those that are replaced.
+fn rebuild<const OFFSET_BITS: u32, S: Store<OFFSET_BITS>, K: KeyOrder<OFFSET_BITS>>(
+    store: &mut S,
+    root: EntryRef<OFFSET_BITS>,
+    key: &K,
+    word: u64,
+    value: u64,
+    replaced: &mut ArrayVec<u32, 8>,
+) -> Result<EntryRef<OFFSET_BITS>, StoreError>
+    requires unit { (S.ledger store.old).unit ≡ true }
+    requires tree { IsTree K.order K.read (S.records store.old) root }
+    requires readable { AllReadable K.can_read (S.records store.old) (tree_pairs (S.records store.old) root) }
+    requires replaced { replaced.old.items ≡ [] }
+    ensures rebuilds { IfOk result (λ r. Rebuilds (S.ledger store.old) (S.ledger store.new) (S.records store.old) (S.records store.new)
+        root.entry r replaced.new.items (put (seen_by K.read K.order (K.sought key.now) (S.records store.old)) (word, value)
+        (tree_pairs (S.records store.old) root.entry))) }
+    ensures makes { MakesNodes (S.ledger store.old) (S.ledger store.new) (S.records store.old) (S.records store.new)
+        (2 * levels (S.records store.old) root.entry + 1) }
+    ensures refuses { IfErr result (Refuses (S.ledger store.old) (S.ledger store.new) NODE_WORDS) }
+{
+    if !root.valid() {
+        return make_leaf(store, word, value);
+    }
+    let level = store.word(root, 0) / 256;
+    let parts = insert_below(store, root, level, key, word, value, replaced)?;
+    root_over(store, level, &parts)
+}
+
 /// Puts a pair, its key `word` in place of an equal one. The answer is the new root; the nodes of the old
 /// tree that are not in the new one are dropped.
 pub fn insert<const OFFSET_BITS: u32, S: Store<OFFSET_BITS>, K: KeyOrder<OFFSET_BITS>>(
@@ -64,31 +92,23 @@ pub fn insert<const OFFSET_BITS: u32, S: Store<OFFSET_BITS>, K: KeyOrder<OFFSET_
     value: u64,
 ) -> Result<EntryRef<OFFSET_BITS>, StoreError>
     requires unit { (S.ledger store.old).unit ≡ true }
-    requires tree { IsTree K.order K.read (S.records store.old) root }
-    requires readable { AllReadable K.can_read (S.records store.old) (tree_pairs (S.records store.old) root) }
-    requires apart { NoneReadsNodes K.reads_from (S.records store.old) (tree_pairs (S.records store.old) root) }
-    requires word_readable { K.can_read (S.records store.old) word }
-    requires word_apart { ReadsNoNode K.reads_from (S.records store.old) word }
-    requires word_equal { seen_by K.read K.order (K.sought key.now) (S.records store.old) word ≡ Equal }
-    requires used { AllByRecursion (λ r. in_use ((S.ledger store.old).status r) ≡ true) (tree_nodes (S.records store.old) root) }
-    ensures tree { IfOk result (IsTree K.order K.read (S.records store.new)) }
+    requires keyed { IsKeyedTree K.order K.read K.can_read K.reads_from (S.records store.old) root }
+    requires word { IsKeyWord K.order K.read K.can_read K.reads_from (K.sought key.now) (S.records store.old) word }
+    requires owns { Owns (S.ledger store.old) (S.records store.old) (tree root ∷ []) }
+    ensures keyed { IfOk result (IsKeyedTree K.order K.read K.can_read K.reads_from (S.records store.new)) }
+    ensures owns { IfOk result (λ r. Owns (S.ledger store.new) (S.records store.new) (tree r ∷ [])) }
     ensures pairs { IfOk result (λ r. tree_pairs (S.records store.new) r
         ≡ put (seen_by K.read K.order (K.sought key.now) (S.records store.old)) (word, value) (tree_pairs (S.records store.old) root.entry)) }
-    ensures readable { IfOk result (λ r. AllReadable K.can_read (S.records store.new) (tree_pairs (S.records store.new) r)) }
-    ensures replaces { IfOk result (Replaces (S.ledger store.old) (S.ledger store.new) (S.records store.old) (S.records store.new) root.entry) }
-    ensures made { (S.ledger store.new).made NODE_WORDS ≤ (S.ledger store.old).made NODE_WORDS + (2 * levels (S.records store.old) root.entry + 1) }
-    ensures others { (width : ℕ) → width ≢ NODE_WORDS → (S.ledger store.new).made width ≡ (S.ledger store.old).made width }
-    ensures full { (w a h : ℕ) → result ≡ Err (StoreError.Full w a h) → (w ≡ NODE_WORDS) × IsFull (S.ledger store.new) w a h }
-    ensures left { OnErr result (MakesNodes (S.ledger store.old) (S.ledger store.new) (S.records store.old) (S.records store.new)
-        (2 * levels (S.records store.old) root.entry + 1)) }
+    ensures turns { IfOk result (λ r. Turns (S.ledger store.old) (S.ledger store.new) (S.records store.old) (S.records store.new)
+        (tree root.entry ∷ []) (tree r ∷ [])) }
+    ensures others { KeepsOthers (S.records store.old) (S.records store.new) }
+    ensures counts { CountsNodes (S.ledger store.old) (S.ledger store.new) (2 * levels (S.records store.old) root.entry + 1) }
+    ensures left { OnErr result (Keeps (S.records store.old) (S.records store.new)) }
+    ensures refuses { IfErr result (Refuses (S.ledger store.old) (S.ledger store.new) NODE_WORDS) }
+    ensures may { MayDo (S.ledger store.old) (S.ledger store.new) }
 {
-    if !root.valid() {
-        return make_leaf(store, word, value);
-    }
-    let level = store.word(root, 0) / 256;
     let mut replaced = ArrayVec::new();
-    let parts = insert_below(store, root, level, key, word, value, &mut replaced)?;
-    let next = root_over(store, level, &parts)?;
+    let next = rebuild(store, root, key, word, value, &mut replaced)?;
     drop_nodes(store, &replaced);
     Ok(next)
 }

@@ -1,6 +1,6 @@
 -- A node that was made.
-use Rattle.std.proofs.Common.{◌^◌, ◌≡◌, ◌≢◌, ◌⊎◌, inl, inr, ℕ, zero, suc, ◌+◌, ◌<◌, ◌≤◌, true, cond, ◌-◌, List, [], ◌∷◌, ◌++◌, length, map, replicate, refl, sym, ap, subst, ◌∙◌, arith}
-use Rattle.std.proofs.lemmas.Bool.{eq-eqb, ne_eqb, cases_eq}
+use Rattle.std.proofs.Common.{◌^◌, ◌≡◌, ◌≢◌, ℕ, zero, suc, ◌+◌, ◌<◌, ◌≤◌, cond, ◌-◌, List, [], ◌∷◌, ◌++◌, length, map, replicate, refl, sym, ap, subst, ◌∙◌, arith, Result, Ok, Err}
+use Rattle.std.proofs.lemmas.Bool.{eq-eqb, ne_eqb}
 use Rattle.std.specs.List.{zip, flat_map, AllByRecursion}
 use Rattle.image_base.specs.Records.{Records, with_words}
 use Rattle.tree_images.specs.Nodes.{count_of, node_keys, node_values, node_words, IsNodeForm}
@@ -11,8 +11,14 @@ use Rattle.std.proofs.lemmas.List.{append-nil}
 use Rattle.list_facts.proofs.Each.{AllByRecursion-weaker}
 use Rattle.entry_ref.specs.References.{buffer_limit}
 use Rattle.arena_api.specs.Calls.{padded as words_padded}
-use Rattle.store_api.specs.Statuses.{Status, is_open, with_status}
-use Rattle.store_api.specs.Ledgers.{Ledger, MayDo, Makes, with_count, one_more}
+use Rattle.store_api.specs.Ledgers.{Ledger}
+use Rattle.store_api.specs.Units.{MayDo}
+use Rattle.store_api.specs.Calls.{Makes, MayGiveBack}
+use Rattle.store_api.specs.Parts.{times, uses}
+use Rattle.store_api.specs.declared.store.StoreError.{StoreError}
+use Rattle.tree_make.proofs.MakesLemmas.{makes-more}
+use Rattle.store_api.proofs.UnitLemmas.{back-uses, back-counts, makes-turns, makes-here, makes-elsewhere}
+use Rattle.std.specs.Prelude.{IfOk, OnErr}
 use Rattle.tree_make.specs.Makes.{MakesNodes, MakesNode}
 use Rattle.tree_node.specs.Slots.{slot_pairs, slot_nodes, HaveChildren, IsInHand}
 use Rattle.tree_node.proofs.SlotLemmas.{all_pairs-kept, all_nodes-kept, last_keys-kept, node-kept}
@@ -68,34 +74,15 @@ module _ (m n : Records) (keys values : List ℕ) (ref count : ℕ) (few : lengt
 node_words-size : (level count : ℕ) (keys values : List ℕ) → length keys ≡ length values → length keys ≤ 16 → length (node_words level count keys values) ≡ 34
 node_words-size level count keys values even few = (node_formed level 0 keys values even few (omega arith)).size
 
-pub with_status-here : (statuses : ℕ → Status) (r : ℕ) (new : Status) → with_status statuses r new r ≡ new
-with_status-here statuses r new = ap (λ b. cond b new (statuses r)) (eq-eqb r r refl)
-
-pub with_status-other : (statuses : ℕ → Status) (r q : ℕ) (new : Status) → q ≢ r → with_status statuses r new q ≡ statuses q
-with_status-other statuses r q new ne = ap (λ b. cond b new (statuses q)) (ne_eqb q r ne)
-
-pub with_count-here : (counts : ℕ → ℕ) (width k : ℕ) → with_count counts width k width ≡ k
-with_count-here counts width k = ap (λ b. cond b k (counts width)) (eq-eqb width width refl)
-
-pub with_count-other : (counts : ℕ → ℕ) (width k w : ℕ) → w ≢ width → with_count counts width k w ≡ counts w
-with_count-other counts width k w ne = ap (λ b. cond b k (counts w)) (ne_eqb w width ne)
-
 module _ {H : Type 0} (bits : ℕ) (old new : Ledger H) (m n : Records) (words : List ℕ) (ref : ℕ) (makes : Makes bits old new m n 34 words ref) (may : MayDo old new) where
-  make_statuses : (q : ℕ) → (new.status q ≡ old.status q) ⊎ ((is_open (old.status q) ≡ true) × (new.status q ≡ Status.pending))
-  make_statuses q = elim (cases_eq q ref) [
-    | inl e ↦ inr (ap (λ r. is_open (old.status r)) e ∙ makes.was, (λ k. makes.status k q) ∙ ap (with_status old.status ref Status.pending) e ∙ with_status-here old.status ref Status.pending)
-    | inr ne ↦ inl ((λ k. makes.status k q) ∙ with_status-other old.status ref q Status.pending ne)
-  ]
+  used_is : (r : ℕ) → uses new r ≡ uses old r + times r (ref ∷ [])
+  used_is r = let even = (makes-turns bits old new m n 34 words ref makes).balance r in omega arith
 
-  make_made : new.made 34 ≤ old.made 34 + 1
-  make_made = let is : new.made 34 ≡ one_more (old.made 34) = (λ k. makes.made k 34) ∙ with_count-here old.made 34 (one_more (old.made 34)) in omega arith
-
-  makes_one : length words ≡ 34 → MakesNodes old new m n 1
-  makes_one size = record {
+  makes_one : MakesNodes old new m n 1
+  makes_one = record {
     keeps = keeps-words m n ref (words_padded words 34) makes.none makes.records;
-    statuses = make_statuses;
-    made = make_made;
-    others = λ width ne. (λ k. makes.made k width) ∙ with_count-other old.made 34 (one_more (old.made 34)) width ne;
+    stays = λ r. let is = used_is r in omega arith;
+    counts = record { nodes = makes-here bits old new m n 34 words ref makes; others = λ c width ne. makes-elsewhere bits old new m n 34 words ref makes c width ne };
     may = may;
   }
 
@@ -111,15 +98,29 @@ module _ {H : Type 0} (bits : ℕ) (old new : Ledger H) (m n : Records) (words :
       → count ≡ length (slot_pairs m level keys values) → length (slot_pairs m level keys values) < 2 ^ 32 → MakesNode old new m n level keys values ref
   makes-node level count keys values is few hand counted small =
       let size : length words ≡ 34 = ap length is ∙ node_words-size level count keys values hand.even few in
-      let made = makes_one size in
       let words_are = record_is size ∙ is in
       record {
         some = some_ref;
-        none = makes.none;
-        node = made-node m n keys values ref count few level hand made.keeps words_are counted (omega arith);
-        pairs = made-pairs m n keys values ref count few level hand made.keeps words_are;
-        nodes = made-nodes m n keys values ref count few level hand made.keeps words_are;
-        was = makes.was;
-        status = makes.status;
-        makes = made;
+        node = made-node m n keys values ref count few level hand makes_one.keeps words_are counted (omega arith);
+        pairs = made-pairs m n keys values ref count few level hand makes_one.keeps words_are;
+        nodes = made-nodes m n keys values ref count few level hand makes_one.keeps words_are;
+        used = used_is;
+        makes = makes_one;
       }
+
+-- a make that was refused
+pub makes-refused : {H A : Type 0} (old new : Ledger H) (m n : Records) (result : Result A StoreError) → OnErr result (MayGiveBack old new) → OnErr result (n ≡ m) → MayDo old new
+    → OnErr result (MakesNodes old new m n 0)
+makes-refused old new m n (Ok x) back left may = tt
+makes-refused old new m n (Err e) back left may = record {
+  keeps = λ q some. ap (λ (f : Records). f q) left;
+  stays = λ r. let same = back-uses old new back r in omega arith;
+  counts = record { nodes = back-counts old new back _ 34; others = λ c width ne. back-counts old new back c width };
+  may = may;
+}
+
+-- a make, answered or refused
+pub makes-any : {H : Type 0} (bits : ℕ) (old new : Ledger H) (m n : Records) (words : List ℕ) (result : Result ℕ StoreError) → IfOk result (Makes bits old new m n 34 words)
+    → OnErr result (MayGiveBack old new) → OnErr result (n ≡ m) → MayDo old new → MakesNodes old new m n 1
+makes-any bits old new m n words (Ok ref) makes back left may = makes_one bits old new m n words ref makes may
+makes-any bits old new m n words (Err e) makes back left may = makes-more old new m n 0 1 (omega arith) (makes-refused {A = ℕ} old new m n (Err e) back left may)

@@ -1,64 +1,86 @@
 -- Nodes made one after another.
-use Rattle.std.proofs.Common.{◌≡◌, ◌⊎◌, inl, inr, ℕ, ◌+◌, ◌<◌, ◌≤◌, true, false, true≢false, length, refl, sym, ap, subst, ◌∙◌, arith}
+use Rattle.std.proofs.Common.{◌≡◌, ℕ, ◌+◌, ◌<◌, ◌≤◌, true, length, refl, sym, ap, subst, ◌∙◌, arith, Result, Ok, Err, IsErrAnd}
+use Rattle.std.specs.Prelude.{IfErr}
 use Rattle.image_base.specs.Records.{Records}
-use Rattle.store_api.specs.Statuses.{Status, in_use, is_open}
-use Rattle.store_api.specs.Ledgers.{Ledger}
+use Rattle.arena_api.specs.Works.{Sizes}
+use Rattle.store_api.specs.Statuses.{in_use}
+use Rattle.store_api.specs.Ledgers.{Ledger, capacity}
+use Rattle.store_api.specs.Units.{MayDo, MakesAtMost}
+use Rattle.store_api.specs.Calls.{Refuses}
+use Rattle.store_api.specs.declared.store.StoreError.{StoreError}
+use Rattle.store_api.specs.declared.store.StoreError.TheVariants.{Full, Memory}
+use Rattle.store_api.proofs.Counts.{at_most-none, at_most-then, at_most-more}
 use Rattle.store_api.proofs.May.{may_do-same, may_do-then}
+use Rattle.store_api.proofs.Uses.{uses-in, in-uses}
 use Rattle.tree_images.specs.Trees.{Keeps}
-use Rattle.tree_make.specs.Makes.{MakesNodes}
+use Rattle.tree_make.specs.Makes.{CountsNodes, MakesNodes}
 
 pub keeps-then : (m n o : Records) → Keeps m n → Keeps n o → Keeps m o
 keeps-then m n o a b q some = let same = a q some in b q (subst (λ ws. 0 < length ws) (sym same) some) ∙ same
 
-pub open_unused : (status : Status) → is_open status ≡ true → in_use status ≡ false
-open_unused Status.unmade e = refl
-open_unused Status.free e = refl
-open_unused Status.pending e = absurd (true≢false (sym e))
-open_unused Status.live e = absurd (true≢false (sym e))
-open_unused Status.dropped e = absurd (true≢false (sym e))
-open_unused Status.let_go e = absurd (true≢false (sym e))
-open_unused Status.spent e = absurd (true≢false (sym e))
-
-abbrev BecomesPending : Status → Status → Type 0
-BecomesPending old new = (new ≡ old) ⊎ ((is_open old ≡ true) × (new ≡ Status.pending))
-
-becomes-then : (a b c : Status) → BecomesPending a b → BecomesPending b c → BecomesPending a c
-becomes-then a b c (inl e) (inl f) = inl (f ∙ e)
-becomes-then a b c (inl e) (inr f) = inr (ap is_open (sym e) ∙ f.0, f.1)
-becomes-then a b c (inr e) (inl f) = inr (e.0, f ∙ e.1)
-becomes-then a b c (inr e) (inr f) = absurd (true≢false (sym f.0 ∙ ap is_open e.1))
+pub counts-then : {H : Type 0} (a b c : Ledger H) (first second most : ℕ) → first + second ≤ most → MayDo a b → CountsNodes a b first → CountsNodes b c second → CountsNodes a c most
+counts-then a b c first second most room may x y =
+    let same : capacity b.work.sizes.words 34 ≡ capacity a.work.sizes.words 34 = ap (λ (s : Sizes). capacity s.words 34) may.sizes in
+    let next = subst (λ k. MakesAtMost k second (b.of_width 34) (c.of_width 34)) same y.nodes in
+    record {
+      nodes = at_most-more _ (first + second) most _ _ room (at_most-then _ first second _ _ _ x.nodes next);
+      others = λ k width ne. at_most-then k 0 0 _ _ _ (x.others k width ne) (y.others k width ne);
+    }
 
 -- nothing was made
 pub makes-none : {H : Type 0} (ledger : Ledger H) (m : Records) (most : ℕ) → MakesNodes ledger ledger m m most
 makes-none ledger m most = record {
   keeps = λ q some. refl;
-  statuses = λ q. inl refl;
-  made = omega arith;
-  others = λ width ne. refl;
+  stays = λ r. omega arith;
+  counts = record { nodes = at_most-more _ 0 most _ _ (omega arith) (at_most-none _ _); others = λ c width ne. at_most-none c _ };
   may = may_do-same ledger;
 }
-
-pub makes-refused : {H : Type 0} (old new : Ledger H) (m n : Records) (most : ℕ) → new ≡ old → n ≡ m → MakesNodes old new m n most
-makes-refused old new m n most ledger records =
-    subst (λ l. MakesNodes old l m n most) (sym ledger) (subst (λ k. MakesNodes old old m k most) (sym records) (makes-none old m most))
 
 -- one thing after another
 pub makes-then : {H : Type 0} (a b c : Ledger H) (m n o : Records) (first second most : ℕ) → first + second ≤ most → MakesNodes a b m n first → MakesNodes b c n o second → MakesNodes a c m o most
 makes-then a b c m n o first second most room x y = record {
   keeps = keeps-then m n o x.keeps y.keeps;
-  statuses = λ q. becomes-then (a.status q) (b.status q) (c.status q) (x.statuses q) (y.statuses q);
-  made = let p = x.made in let q = y.made in omega arith;
-  others = λ width ne. y.others width ne ∙ x.others width ne;
+  stays = λ r. let p = x.stays r in let q = y.stays r in omega arith;
+  counts = counts-then a b c first second most room x.may x.counts y.counts;
   may = may_do-then a b c x.may y.may;
 }
 
 pub makes-more : {H : Type 0} (a b : Ledger H) (m n : Records) (few most : ℕ) → few ≤ most → MakesNodes a b m n few → MakesNodes a b m n most
-makes-more a b m n few most room x = record { keeps = x.keeps; statuses = x.statuses; made = let p = x.made in omega arith; others = x.others; may = x.may }
+makes-more a b m n few most room x = record {
+  keeps = x.keeps;
+  stays = x.stays;
+  counts = record { nodes = at_most-more _ few most _ _ room x.counts.nodes; others = x.counts.others };
+  may = x.may;
+}
 
 -- what is in use stays so
-used-pending : (old new : Status) → BecomesPending old new → in_use old ≡ true → in_use new ≡ true
-used-pending old new (inl e) used = ap in_use e ∙ used
-used-pending old new (inr e) used = ap in_use e.1
-
 pub makes-stays : {H : Type 0} (a b : Ledger H) (m n : Records) (most : ℕ) → MakesNodes a b m n most → (q : ℕ) → in_use (a.status q) ≡ true → in_use (b.status q) ≡ true
-makes-stays a b m n most makes q used = used-pending (a.status q) (b.status q) (makes.statuses q) used
+makes-stays a b m n most makes q used = let one = uses-in a q used in let more = makes.stays q in in-uses b q (omega arith)
+
+-- a refusal, seen from before
+pub refuses-from : {H : Type 0} (a b c : Ledger H) (width : ℕ) (e : StoreError) → MayDo a b → Refuses b c width e → Refuses a c width e
+refuses-from a b c width (Full w active held oldest) may (is, full) = (
+  is,
+  record {
+    spare = full.spare;
+    free = full.free;
+    active_is = full.active_is;
+    held_is = full.held_is;
+    all = full.all;
+    unread = full.unread;
+    generation = full.generation;
+    hold = full.hold;
+    newest = full.newest;
+    stopped = λ it. let rest = full.stopped it in (rest.0, rest.1, let less = rest.2 in let more = may.stops in omega arith);
+  },
+)
+refuses-from a b c width Memory may refuses = tt
+
+pub refuses-if : {H A : Type 0} (a b c : Ledger H) (width : ℕ) (result : Result A StoreError) → MayDo a b → IfErr result (Refuses b c width) → IfErr result (Refuses a c width)
+refuses-if a b c width (Ok x) may refuses = tt
+refuses-if a b c width (Err e) may refuses = refuses-from a b c width e may refuses
+
+-- the error of a `?` is the one that was answered
+pub refuses-exit : {H A : Type 0} (a c : Ledger H) (width : ℕ) (result : Result A StoreError) (e : StoreError) → IsErrAnd result (λ x. x ≡ e) → Refuses a c width e → IfErr result (Refuses a c width)
+refuses-exit a c width (Ok x) e told refuses = tt
+refuses-exit a c width (Err x) e told refuses = subst (Refuses a c width) (sym told) refuses

@@ -1,40 +1,25 @@
 -- The root of slots in hand: none, a single child, or a node that was made.
-use Rattle.std.proofs.Common.{◌≡◌, ◌≢◌, inl, inr, ℕ, zero, suc, ◌+◌, ◌<◌, ◌≤◌, true, cond, List, [], ◌∷◌, ◌++◌, length, get_or, refl, sym, ap, subst, ◌∙◌, arith}
+use Rattle.std.proofs.Common.{◌≡◌, ◌≢◌, inl, inr, ℕ, zero, suc, ◌+◌, ◌<◌, ◌≤◌, true, false, cond, Bool, true≢false, ne_eqb, List, [], ◌∷◌, ◌++◌, length, get_or, refl, sym, ap, subst, ◌∙◌, arith}
 use Rattle.std.proofs.Math.Nat.{pos_of_div-pos}
-use Rattle.std.proofs.lemmas.Bool.{cases_eq}
 use Rattle.std.proofs.lemmas.List.{nil_from_length}
 use Rattle.std.specs.List.{zip, AllByRecursion}
 use Rattle.entry_ref.specs.References.{buffer_limit, offset_of}
 use Rattle.image_base.specs.Records.{Records}
 use Rattle.tree_images.specs.Trees.{pairs_below, nodes_below, IsNode, root_least}
-use Rattle.store_api.specs.Statuses.{Status, in_use, is_open, with_status}
 use Rattle.store_api.specs.Ledgers.{Ledger}
 use Rattle.tree_node.specs.Slots.{slot_pairs, slot_nodes, IsInHand}
 use Rattle.tree_node.proofs.RootLemmas.{root_least-few, root_node-is, tree_pairs-is, tree_nodes-is}
 use Rattle.tree_node.proofs.SlotLemmas.{slot_pairs-leaf, slot_nodes-leaf, slot_pairs-one, slot_nodes-one, child_nodes}
 use Rattle.tree_make.specs.Makes.{MakesNode, MakesRoot}
-use Rattle.tree_make.specs.Times.{times, uses}
-use Rattle.tree_make.proofs.MadeLemmas.{with_status-here, with_status-other}
-use Rattle.tree_make.proofs.MakesLemmas.{open_unused, makes-none}
-use Rattle.tree_make.proofs.TimesLemmas.{times-same, times-other, times-append}
-
-module _ {H : Type 0} (old new : Ledger H) (ref : ℕ) (status : new.status ≡ with_status old.status ref Status.pending) (was : is_open (old.status ref) ≡ true) where
-  pub uses-made : (q : ℕ) → uses new q ≡ uses old q + times q (ref ∷ [])
-  uses-made q = elim (cases_eq q ref) [
-    | inl e ↦ (let after : uses new q ≡ 1 = ap (λ c. cond (in_use c) 1 0) ((λ k. status k q) ∙ ap (with_status old.status ref Status.pending) e ∙ with_status-here old.status ref Status.pending) in
-        let before : uses old q ≡ 0 = ap (λ r. uses old r) e ∙ ap (λ b. cond b 1 0) (open_unused (old.status ref) was) in
-        let one = times-same q ref [] e in
-        omega arith)
-    | inr ne ↦ (let same : uses new q ≡ uses old q = ap (λ c. cond (in_use c) 1 0) ((λ k. status k q) ∙ with_status-other old.status ref q Status.pending ne) in
-        let none = times-other q ref [] ne in
-        omega arith)
-  ]
+use Rattle.store_api.specs.Parts.{times, uses}
+use Rattle.store_api.proofs.Times.{times-append}
+use Rattle.tree_make.proofs.MakesLemmas.{makes-none}
 
 -- a node made: what is below it and what is newly in use
 pub made-balance : {H : Type 0} (old new : Ledger H) (m n : Records) (level : ℕ) (ks vs : List ℕ) (ref : ℕ) → MakesNode old new m n level ks vs ref
     → (q : ℕ) → times q (slot_nodes m level vs) + uses new q ≡ uses old q + times q (nodes_below n level ref)
 made-balance old new m n level ks vs ref made q =
-    let used = uses-made old new ref made.status made.was q in
+    let used = made.used q in
     let all : times q (nodes_below n level ref) ≡ times q ((ref ∷ []) ++ slot_nodes m level vs) = ap (times q) made.nodes in
     let parts = times-append q (ref ∷ []) (slot_nodes m level vs) in
     omega arith

@@ -1,31 +1,33 @@
 -- What is made of a store when nodes are made.
-use Rattle.std.specs.Prelude.{◌≡◌, ◌≢◌, ◌⊎◌, ℕ, ◌+◌, ◌<◌, ◌≤◌, true, List, [], ◌∷◌, length}
+use Rattle.std.specs.Prelude.{◌≡◌, ◌≢◌, ℕ, ◌+◌, ◌<◌, ◌≤◌, List, [], ◌∷◌, length}
 use Rattle.image_base.specs.Records.{Records}
-use Rattle.store_api.specs.Statuses.{Status, is_open, with_status}
-use Rattle.store_api.specs.Ledgers.{Ledger, MayDo}
+use Rattle.store_api.specs.Ledgers.{Ledger, capacity}
+use Rattle.store_api.specs.Units.{MayDo, MakesAtMost}
+use Rattle.store_api.specs.Parts.{times, uses}
 use Rattle.tree_images.specs.Trees.{pairs_below, nodes_below, tree_pairs, tree_nodes, last_key, IsNode, IsRootNode, Keeps}
 use Rattle.tree_node.specs.Slots.{slot_pairs, slot_nodes}
-use Rattle.tree_make.specs.Times.{times, uses}
 use Rattle.tree_make.specs.declared.make.Part.{Part}
 use Rattle.tree_images.specs.declared.TheConstants.{NODE_WORDS}
 
--- at most so many nodes were made and nothing else: all records stay, and what is newly in use was open
+-- of the entries of tree nodes at most so many were made, and of no other width any
+pub record CountsNodes {H : Type 0} (old new : Ledger H) (most : ℕ) : Type 0 where
+  pub nodes : MakesAtMost (capacity old.work.sizes.words NODE_WORDS) most (old.of_width NODE_WORDS) (new.of_width NODE_WORDS)
+  pub others : (c width : ℕ) → width ≢ NODE_WORDS → MakesAtMost c 0 (old.of_width width) (new.of_width width)
+
+-- at most so many nodes were made and nothing else: all records stay, and what was in use is so still
 pub record MakesNodes {H : Type 0} (old new : Ledger H) (m n : Records) (most : ℕ) : Type 0 where
   pub keeps : Keeps m n
-  pub statuses : (ref : ℕ) → (new.status ref ≡ old.status ref) ⊎ ((is_open (old.status ref) ≡ true) × (new.status ref ≡ Status.pending))
-  pub made : new.made NODE_WORDS ≤ old.made NODE_WORDS + most
-  pub others : (width : ℕ) → width ≢ NODE_WORDS → new.made width ≡ old.made width
+  pub stays : (r : ℕ) → uses old r ≤ uses new r
+  pub counts : CountsNodes old new most
   pub may : MayDo old new
 
 -- a node of these slots was made, where no record was
 pub record MakesNode {H : Type 0} (old new : Ledger H) (m n : Records) (level : ℕ) (keys values : List ℕ) (ref : ℕ) : Type 0 where
   pub some : 0 < ref
-  pub none : m ref ≡ []
   pub node : IsNode n (length keys) level ref
   pub pairs : pairs_below n level ref ≡ slot_pairs m level keys values
   pub nodes : nodes_below n level ref ≡ ref ∷ slot_nodes m level values
-  pub was : is_open (old.status ref) ≡ true
-  pub status : new.status ≡ with_status old.status ref Status.pending
+  pub used : (r : ℕ) → uses new r ≡ uses old r + times r (ref ∷ [])
   pub makes : MakesNodes old new m n 1
 
 -- the same of a part, with its last key

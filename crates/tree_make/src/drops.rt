@@ -1,17 +1,14 @@
-ghost use Rattle.std.specs.Prelude.{◌≡◌, true};
-ghost use Rattle.std.specs.List.{AllByRecursion};
-ghost use Rattle.store_api.specs.Statuses.{in_use};
+ghost use Rattle.std.specs.Prelude.{◌≡◌, ◌∷◌, [], true};
+ghost use Rattle.store_api.specs.Parts.{Owns, entries};
 ghost use Rattle.tree_make.specs.Changes.{Drops};
-ghost use Rattle.tree_make.specs.Times.{EachOnce};
 
 use entry_ref::EntryRef;
 use store_api::Store;
 
-/// Drops the entries of these references. They are in use, and none is there twice.
+/// Drops the entries of these references, which are owned.
 pub fn drop_nodes<const OFFSET_BITS: u32, S: Store<OFFSET_BITS>>(store: &mut S, nodes: &[u32])
     requires unit { (S.ledger store.old).unit ≡ true }
-    requires once { EachOnce nodes.now }
-    requires used { AllByRecursion (λ r. in_use ((S.ledger store.old).status r) ≡ true) nodes.now }
+    requires owns { Owns (S.ledger store.old) (S.records store.old) (entries nodes.now ∷ []) }
     ensures { Drops (S.ledger store.old) (S.ledger store.new) (S.records store.old) (S.records store.new) nodes.now }
 {
     for node in nodes {

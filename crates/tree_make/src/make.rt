@@ -1,8 +1,8 @@
-ghost use Rattle.std.specs.Prelude.{◌≡◌, ◌^◌, ◌<◌, ◌≤◌, ◌+◌, ◌∷◌, ◌++◌, [], true, ℕ, length, IfOk, OnErr, Err};
+ghost use Rattle.std.specs.Prelude.{◌≡◌, ◌^◌, ◌<◌, ◌≤◌, ◌+◌, ◌∷◌, ◌++◌, true, length, IfOk, IfErr, OnErr};
 ghost use Rattle.tree_images.specs.Nodes.{slot_words, node_words};
-ghost use Rattle.store_api.specs.Ledgers.{IsFull};
+ghost use Rattle.store_api.specs.Calls.{Refuses};
 ghost use Rattle.tree_node.specs.Slots.{slot_pairs, IsInHand};
-ghost use Rattle.tree_make.specs.Makes.{MakesPart};
+ghost use Rattle.tree_make.specs.Makes.{MakesNodes, MakesPart};
 
 use arrayvec::ArrayVec;
 use entry_ref::EntryRef;
@@ -77,9 +77,9 @@ pub fn make_part<const OFFSET_BITS: u32, S: Store<OFFSET_BITS>>(
     requires few { length (slot_pairs (S.records store.old) slots.now.level slots.now.keys.items slots.now.values.items) < 2 ^ 32 }
     ensures makes { IfOk result (MakesPart (S.ledger store.old) (S.ledger store.new) (S.records store.old) (S.records store.new)
         slots.now.level slots.now.keys.items slots.now.values.items) }
-    ensures full { (w a h : ℕ) → result ≡ Err (StoreError.Full w a h) → (w ≡ NODE_WORDS) × IsFull (S.ledger store.new) w a h }
-    ensures ledger { OnErr result (S.ledger store.new ≡ S.ledger store.old) }
-    ensures left { OnErr result (S.records store.new ≡ S.records store.old) }
+    ensures nodes { MakesNodes (S.ledger store.old) (S.ledger store.new) (S.records store.old) (S.records store.new) 1 }
+    ensures refused { OnErr result (MakesNodes (S.ledger store.old) (S.ledger store.new) (S.records store.old) (S.records store.new) 0) }
+    ensures refuses { IfErr result (Refuses (S.ledger store.old) (S.ledger store.new) NODE_WORDS) }
 {
     let count = pairs_in(store, slots);
     let words = words_of(slots, count);

@@ -1,5 +1,5 @@
-ghost use Rattle.std.specs.Prelude.{◌≡◌, ◌^◌, ◌≤◌, ◌<◌, ◌∷◌, [], ℕ, true, length, Err, IfOk};
-ghost use Rattle.store_api.specs.Ledgers.{IsFull};
+ghost use Rattle.std.specs.Prelude.{◌≡◌, ◌^◌, ◌≤◌, ◌<◌, ◌∷◌, [], true, length, IfOk, IfErr};
+ghost use Rattle.store_api.specs.Calls.{Refuses};
 ghost use Rattle.tree_make.specs.Makes.{MakesNodes, MakesNode, MakesRoot};
 ghost use Rattle.tree_node.specs.Slots.{slot_pairs, IsInHand};
 
@@ -20,7 +20,7 @@ pub fn make_leaf<const OFFSET_BITS: u32, S: Store<OFFSET_BITS>>(
     ensures leaf { IfOk result (MakesNode (S.ledger store.old) (S.ledger store.new) (S.records store.old) (S.records store.new)
         0 (word ∷ []) (value ∷ [])) }
     ensures makes { MakesNodes (S.ledger store.old) (S.ledger store.new) (S.records store.old) (S.records store.new) 1 }
-    ensures full { (w a h : ℕ) → result ≡ Err (StoreError.Full w a h) → (w ≡ NODE_WORDS) × IsFull (S.ledger store.new) w a h }
+    ensures refuses { IfErr result (Refuses (S.ledger store.old) (S.ledger store.new) NODE_WORDS) }
 {
     let mut slots = Slots {
         level: 0,
@@ -46,7 +46,7 @@ pub fn make_root<const OFFSET_BITS: u32, S: Store<OFFSET_BITS>>(
     requires few { length (slot_pairs (S.records store.old) slots.now.level slots.now.keys.items slots.now.values.items) < 2 ^ 32 }
     ensures root { IfOk result (MakesRoot (S.ledger store.old) (S.ledger store.new) (S.records store.old) (S.records store.new)
         slots.now.level slots.now.keys.items slots.now.values.items) }
-    ensures full { (w a h : ℕ) → result ≡ Err (StoreError.Full w a h) → (w ≡ NODE_WORDS) × IsFull (S.ledger store.new) w a h }
+    ensures refuses { IfErr result (Refuses (S.ledger store.old) (S.ledger store.new) NODE_WORDS) }
     ensures makes { MakesNodes (S.ledger store.old) (S.ledger store.new) (S.records store.old) (S.records store.new) 1 }
 {
     if slots.keys.is_empty() {

@@ -10,8 +10,8 @@ use Rattle.tree_images.specs.Trees.{pairs_below, nodes_below, Keeps}
 use Rattle.key_order.proofs.PairLemmas.{children-cut, length-take_out}
 use Rattle.key_order.specs.Pairs.{lookup, take_out}
 use Rattle.store_api.specs.Ledgers.{Ledger}
-use Rattle.tree_make.proofs.TimesLemmas.{times-append}
-use Rattle.tree_make.specs.Times.{times}
+use Rattle.store_api.proofs.Times.{times-append}
+use Rattle.store_api.specs.Parts.{times}
 use Rattle.tree_node.proofs.SlotLemmas.{nodes-slots, slot_pairs-leaf, slot_nodes-leaf, slot_nodes-inner, slot_pairs-kept, slot_nodes-kept, hand-leaf, hand-kept, hand-take, hand-drop}
 use Rattle.tree_make.proofs.MakesLemmas.{makes-none, makes-then}
 use Rattle.tree_node.specs.Slots.{slot_pairs, slot_nodes, IsInHand}

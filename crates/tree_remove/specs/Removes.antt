@@ -3,10 +3,10 @@ use Rattle.std.specs.Prelude.{◌≡◌, ◌^◌, ℕ, suc, ◌+◌, ◌*◌, �
 use Rattle.std.specs.declared.cmp.Ordering.{Ordering}
 use Rattle.image_base.specs.Records.{Records}
 use Rattle.tree_images.specs.Nodes.{used_of}
-use Rattle.tree_images.specs.Trees.{pairs_below, nodes_below, tree_pairs, tree_nodes, IsNode, IsRootNode}
+use Rattle.tree_images.specs.Trees.{pairs_below, nodes_below, IsNode}
 use Rattle.key_order.specs.Pairs.{lookup, take_out}
 use Rattle.store_api.specs.Ledgers.{Ledger}
-use Rattle.tree_make.specs.Times.{times, uses}
+use Rattle.store_api.specs.Parts.{times, uses}
 use Rattle.tree_make.specs.Makes.{MakesNodes}
 use Rattle.tree_node.specs.Slots.{slot_pairs, slot_nodes, IsInHand}
 use Rattle.tree_images.specs.declared.TheConstants.{MOST_SLOTS, LEAST_SLOTS}
@@ -77,10 +77,3 @@ pub record Removes {H : Type 0} (c : ℕ → Ordering) (old new : Ledger H) (m n
   pub one : extra ≤ 1
   pub filled : extra + used_of (m node) ≡ suc (length keys)
   pub makes : MakesNodes old new m n (level + extra)
-
--- a tree was made that has the pairs of another but the one sought; these nodes of the other it lacks
-pub record Rebuilds {H : Type 0} (c : ℕ → Ordering) (old new : Ledger H) (m n : Records) (root next : ℕ) (gone : List ℕ) : Type 0 where
-  pub node : 0 < next → IsRootNode n next
-  pub pairs_are : tree_pairs n next ≡ take_out c (tree_pairs m root)
-  pub balance : (r : ℕ) → times r (tree_nodes m root) + uses new r ≡ uses old r + times r gone + times r (tree_nodes n next)
-  pub gone_of : (r : ℕ) → times r gone ≤ times r (tree_nodes m root)

@@ -2,7 +2,7 @@
 use Rattle.std.specs.Prelude.{◌≡◌, ℕ, suc, ◌+◌, ◌<◌, ◌≤◌, List, ◌++◌, length, take, drop}
 use Rattle.image_base.specs.Records.{Records}
 use Rattle.store_api.specs.Ledgers.{Ledger}
-use Rattle.tree_make.specs.Times.{times, uses}
+use Rattle.store_api.specs.Parts.{times, uses}
 use Rattle.tree_make.specs.Makes.{MakesNodes}
 use Rattle.tree_node.specs.Slots.{slot_pairs, slot_nodes, IsInHand}
 

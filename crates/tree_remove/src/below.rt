@@ -1,10 +1,10 @@
-ghost use Rattle.std.specs.Prelude.{◌≡◌, ◌≤◌, ◌<◌, ◌+◌, ◌-◌, ◌*◌, ◌++◌, ◌∷◌, [], true, length, suc, IsSome, IfOk, OnErr, ℕ};
+ghost use Rattle.std.specs.Prelude.{◌≡◌, ◌≤◌, ◌<◌, ◌+◌, ◌-◌, ◌*◌, ◌++◌, ◌∷◌, [], true, length, suc, IsSome, IfOk, OnErr, IfErr};
 ghost use Rattle.std.specs.List.{zip, AllByRecursion};
 ghost use Rattle.tree_images.specs.Nodes.{level_of, used_of};
 ghost use Rattle.tree_images.specs.Trees.{pairs_below, IsNode, root_least};
 ghost use Rattle.key_order.specs.Keys.{seen_by, Ascends, AllReadable};
 ghost use Rattle.key_order.specs.Pairs.{lookup, take_out};
-ghost use Rattle.store_api.specs.Ledgers.{IsFull};
+ghost use Rattle.store_api.specs.Calls.{Refuses};
 ghost use Rattle.tree_make.specs.Makes.{MakesNodes};
 ghost use Rattle.tree_node.specs.Places.{IsSlot};
 ghost use Rattle.tree_remove.specs.Removes.{IsStep, Removes};
@@ -118,7 +118,7 @@ pub fn remove_below<const OFFSET_BITS: u32, S: Store<OFFSET_BITS>, K: KeyOrder<O
         (S.ledger store.old) (S.ledger store.new) (S.records store.old) (S.records store.new)
         level node.entry replaced.old.items replaced.new.items slots.keys.items slots.values.items) }
     ensures level { IfOk result (λ slots. slots.level ≡ level) }
-    ensures full { (w a h : ℕ) → result ≡ Err (StoreError.Full w a h) → (w ≡ NODE_WORDS) × IsFull (S.ledger store.new) w a h }
+    ensures refuses { IfErr result (Refuses (S.ledger store.old) (S.ledger store.new) NODE_WORDS) }
     ensures refused { OnErr result (MakesNodes (S.ledger store.old) (S.ledger store.new) (S.records store.old) (S.records store.new) (suc level)) }
 {
     replaced.push(node.raw());

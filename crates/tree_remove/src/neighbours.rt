@@ -1,5 +1,5 @@
-ghost use Rattle.std.specs.Prelude.{◌≡◌, ◌^◌, ◌≤◌, ◌<◌, ◌+◌, ◌++◌, true, length, slice_set, suc, OnOk, OnErr, ℕ};
-ghost use Rattle.store_api.specs.Ledgers.{IsFull};
+ghost use Rattle.std.specs.Prelude.{◌≡◌, ◌^◌, ◌≤◌, ◌<◌, ◌+◌, ◌++◌, true, length, slice_set, suc, OnOk, OnErr, IfErr};
+ghost use Rattle.store_api.specs.Calls.{Refuses};
 ghost use Rattle.tree_make.specs.Makes.{MakesNodes};
 ghost use Rattle.tree_node.specs.Slots.{slot_pairs, slot_nodes, IsInHand};
 ghost use Rattle.tree_remove.specs.Settles.{Settles};
@@ -85,7 +85,7 @@ fn merge<const OFFSET_BITS: u32, S: Store<OFFSET_BITS>>(
         (left.old.keys.items ++ right.now.keys.items) (left.old.values.items ++ right.now.values.items))
         (slot_nodes (S.records store.old) left.old.level (left.old.values.items ++ right.now.values.items))
         first 2 slots.old.keys.items slots.old.values.items slots.new.keys.items slots.new.values.items) }
-    ensures full { (w a h : ℕ) → result ≡ Err (StoreError.Full w a h) → (w ≡ NODE_WORDS) × IsFull (S.ledger store.new) w a h }
+    ensures refuses { IfErr result (Refuses (S.ledger store.old) (S.ledger store.new) NODE_WORDS) }
     ensures refused { OnErr result (MakesNodes (S.ledger store.old) (S.ledger store.new) (S.records store.old) (S.records store.new) 1) }
     ensures level { slots.new.level ≡ slots.old.level }
 {
@@ -129,7 +129,7 @@ fn share<const OFFSET_BITS: u32, S: Store<OFFSET_BITS>>(
         (left.old.keys.items ++ right.old.keys.items) (left.old.values.items ++ right.old.values.items))
         (slot_nodes (S.records store.old) left.old.level (left.old.values.items ++ right.old.values.items))
         first 2 slots.old.keys.items slots.old.values.items slots.new.keys.items slots.new.values.items) }
-    ensures full { (w a h : ℕ) → result ≡ Err (StoreError.Full w a h) → (w ≡ NODE_WORDS) × IsFull (S.ledger store.new) w a h }
+    ensures refuses { IfErr result (Refuses (S.ledger store.old) (S.ledger store.new) NODE_WORDS) }
     ensures refused { OnErr result (MakesNodes (S.ledger store.old) (S.ledger store.new) (S.records store.old) (S.records store.new) 1) }
     ensures level { slots.new.level ≡ slots.old.level }
 {
@@ -172,7 +172,7 @@ pub fn make_neighbours<const OFFSET_BITS: u32, S: Store<OFFSET_BITS>>(
         (left.old.keys.items ++ right.old.keys.items) (left.old.values.items ++ right.old.values.items))
         (slot_nodes (S.records store.old) left.old.level (left.old.values.items ++ right.old.values.items))
         first 2 slots.old.keys.items slots.old.values.items slots.new.keys.items slots.new.values.items) }
-    ensures full { (w a h : ℕ) → result ≡ Err (StoreError.Full w a h) → (w ≡ NODE_WORDS) × IsFull (S.ledger store.new) w a h }
+    ensures refuses { IfErr result (Refuses (S.ledger store.old) (S.ledger store.new) NODE_WORDS) }
     ensures refused { OnErr result (MakesNodes (S.ledger store.old) (S.ledger store.new) (S.records store.old) (S.records store.new) 1) }
     ensures level { slots.new.level ≡ slots.old.level }
 {

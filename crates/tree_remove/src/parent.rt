@@ -1,5 +1,5 @@
-ghost use Rattle.std.specs.Prelude.{◌≡◌, ◌^◌, ◌≤◌, ◌<◌, ◌++◌, ◌∷◌, [], true, length, slice_index, suc, OnOk, OnErr, ℕ};
-ghost use Rattle.store_api.specs.Ledgers.{IsFull};
+ghost use Rattle.std.specs.Prelude.{◌≡◌, ◌^◌, ◌≤◌, ◌<◌, ◌++◌, ◌∷◌, [], true, length, slice_index, suc, OnOk, OnErr, IfErr};
+ghost use Rattle.store_api.specs.Calls.{Refuses};
 ghost use Rattle.tree_make.specs.Makes.{MakesNodes};
 ghost use Rattle.tree_node.specs.Slots.{slot_pairs, IsInHand};
 ghost use Rattle.tree_remove.specs.Removes.{IsChild, PutsBack, spliced};
@@ -60,7 +60,7 @@ pub fn put_back<const OFFSET_BITS: u32, S: Store<OFFSET_BITS>>(
     ensures puts { OnOk result (PutsBack (S.ledger store.old) (S.ledger store.new) (S.records store.old) (S.records store.new)
         child.old.level place slots.old.keys.items slots.old.values.items child.old.keys.items child.old.values.items
         replaced.old.items replaced.new.items slots.new.keys.items slots.new.values.items) }
-    ensures full { (w a h : ℕ) → result ≡ Err (StoreError.Full w a h) → (w ≡ NODE_WORDS) × IsFull (S.ledger store.new) w a h }
+    ensures refuses { IfErr result (Refuses (S.ledger store.old) (S.ledger store.new) NODE_WORDS) }
     ensures refused { OnErr result (MakesNodes (S.ledger store.old) (S.ledger store.new) (S.records store.old) (S.records store.new) 1) }
     ensures level { slots.new.level ≡ slots.old.level }
 {

@@ -1,13 +1,12 @@
-ghost use Rattle.std.specs.Prelude.{◌≡◌, ◌≢◌, ◌≤◌, ◌<◌, ◌+◌, ◌*◌, [], ℕ, true, length, IsSome, IfOk, OnErr};
-ghost use Rattle.std.specs.List.{AllByRecursion};
-ghost use Rattle.tree_images.specs.Trees.{tree_pairs, tree_nodes, IsTree};
-ghost use Rattle.key_order.specs.Keys.{seen_by, AllReadable, NoneReadsNodes};
+ghost use Rattle.std.specs.Prelude.{◌≡◌, ◌<◌, ◌+◌, ◌∷◌, [], true, IsSome, IfOk, IfErr, OnErr};
+ghost use Rattle.tree_images.specs.Trees.{tree_pairs, IsTree, Keeps};
+ghost use Rattle.key_order.specs.Keys.{seen_by, AllReadable, KeepsOthers, IsKeyedTree};
 ghost use Rattle.key_order.specs.Pairs.{lookup, take_out};
-ghost use Rattle.store_api.specs.Statuses.{in_use};
-ghost use Rattle.tree_make.specs.Changes.{Replaces, levels};
-ghost use Rattle.store_api.specs.Ledgers.{IsFull};
-ghost use Rattle.tree_make.specs.Makes.{MakesNodes};
-ghost use Rattle.tree_remove.specs.Removes.{Rebuilds};
+ghost use Rattle.store_api.specs.Calls.{Refuses};
+ghost use Rattle.store_api.specs.Parts.{Owns, Turns};
+ghost use Rattle.store_api.specs.Units.{MayDo};
+ghost use Rattle.tree_make.specs.Changes.{Rebuilds, levels, tree};
+ghost use Rattle.tree_make.specs.Makes.{CountsNodes, MakesNodes};
 
 use crate::below::remove_below;
 use arrayvec::ArrayVec;
@@ -31,9 +30,10 @@ fn rebuild<const OFFSET_BITS: u32, S: Store<OFFSET_BITS>, K: KeyOrder<OFFSET_BIT
     requires there { IsSome (lookup (seen_by K.read K.order (K.sought key.now) (S.records store.old))
         (tree_pairs (S.records store.old) root)) }
     requires replaced { replaced.old.items ≡ [] }
-    ensures rebuilds { IfOk result (λ r. Rebuilds (seen_by K.read K.order (K.sought key.now) (S.records store.old))
-        (S.ledger store.old) (S.ledger store.new) (S.records store.old) (S.records store.new) root.entry r replaced.new.items) }
-    ensures full { (w a h : ℕ) → result ≡ Err (StoreError.Full w a h) → (w ≡ NODE_WORDS) × IsFull (S.ledger store.new) w a h }
+    ensures rebuilds { IfOk result (λ r. Rebuilds (S.ledger store.old) (S.ledger store.new) (S.records store.old) (S.records store.new)
+        root.entry r replaced.new.items (take_out (seen_by K.read K.order (K.sought key.now) (S.records store.old))
+        (tree_pairs (S.records store.old) root.entry))) }
+    ensures refuses { IfErr result (Refuses (S.ledger store.old) (S.ledger store.new) NODE_WORDS) }
     ensures makes { MakesNodes (S.ledger store.old) (S.ledger store.new) (S.records store.old) (S.records store.new)
         (levels (S.records store.old) root.entry + 1) }
 {
@@ -50,22 +50,21 @@ pub fn remove<const OFFSET_BITS: u32, S: Store<OFFSET_BITS>, K: KeyOrder<OFFSET_
     key: &K,
 ) -> Result<EntryRef<OFFSET_BITS>, StoreError>
     requires unit { (S.ledger store.old).unit ≡ true }
-    requires tree { IsTree K.order K.read (S.records store.old) root }
-    requires readable { AllReadable K.can_read (S.records store.old) (tree_pairs (S.records store.old) root) }
-    requires apart { NoneReadsNodes K.reads_from (S.records store.old) (tree_pairs (S.records store.old) root) }
+    requires keyed { IsKeyedTree K.order K.read K.can_read K.reads_from (S.records store.old) root }
     requires there { IsSome (lookup (seen_by K.read K.order (K.sought key.now) (S.records store.old))
         (tree_pairs (S.records store.old) root)) }
-    requires used { AllByRecursion (λ r. in_use ((S.ledger store.old).status r) ≡ true) (tree_nodes (S.records store.old) root) }
-    ensures tree { IfOk result (IsTree K.order K.read (S.records store.new)) }
+    requires owns { Owns (S.ledger store.old) (S.records store.old) (tree root ∷ []) }
+    ensures keyed { IfOk result (IsKeyedTree K.order K.read K.can_read K.reads_from (S.records store.new)) }
+    ensures owns { IfOk result (λ r. Owns (S.ledger store.new) (S.records store.new) (tree r ∷ [])) }
     ensures pairs { IfOk result (λ r. tree_pairs (S.records store.new) r
         ≡ take_out (seen_by K.read K.order (K.sought key.now) (S.records store.old)) (tree_pairs (S.records store.old) root.entry)) }
-    ensures readable { IfOk result (λ r. AllReadable K.can_read (S.records store.new) (tree_pairs (S.records store.new) r)) }
-    ensures replaces { IfOk result (Replaces (S.ledger store.old) (S.ledger store.new) (S.records store.old) (S.records store.new) root.entry) }
-    ensures made { (S.ledger store.new).made NODE_WORDS ≤ (S.ledger store.old).made NODE_WORDS + (levels (S.records store.old) root.entry + 1) }
-    ensures others { (width : ℕ) → width ≢ NODE_WORDS → (S.ledger store.new).made width ≡ (S.ledger store.old).made width }
-    ensures full { (w a h : ℕ) → result ≡ Err (StoreError.Full w a h) → (w ≡ NODE_WORDS) × IsFull (S.ledger store.new) w a h }
-    ensures left { OnErr result (MakesNodes (S.ledger store.old) (S.ledger store.new) (S.records store.old) (S.records store.new)
-        (levels (S.records store.old) root.entry + 1)) }
+    ensures turns { IfOk result (λ r. Turns (S.ledger store.old) (S.ledger store.new) (S.records store.old) (S.records store.new)
+        (tree root.entry ∷ []) (tree r ∷ [])) }
+    ensures others { KeepsOthers (S.records store.old) (S.records store.new) }
+    ensures counts { CountsNodes (S.ledger store.old) (S.ledger store.new) (levels (S.records store.old) root.entry + 1) }
+    ensures left { OnErr result (Keeps (S.records store.old) (S.records store.new)) }
+    ensures refuses { IfErr result (Refuses (S.ledger store.old) (S.ledger store.new) NODE_WORDS) }
+    ensures may { MayDo (S.ledger store.old) (S.ledger store.new) }
 {
     let mut replaced = ArrayVec::new();
     let next = rebuild(store, root, key, &mut replaced)?;

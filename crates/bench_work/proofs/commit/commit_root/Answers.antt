@@ -1,49 +1,71 @@
-use Rattle.std.proofs.Common.{rules, arith, refl, ◌<◌, ap, ◌∙◌}
-use Rattle.std.proofs.Math.Nat.{pos_of_div-pos}
-use Rattle.entry_ref.specs.References.{buffer_limit}
-use Rattle.store_api.specs.Statuses.{in_use}
-use Rattle.bench_work.specs.Units.{UsesOnly}
-use Rattle.number_tree.proofs.HoldLemmas.{accept_uses, commit_uses}
-use Rattle.bench_work.proofs.RootLemmas.{uses_next, used_root, reaches_used, only-same, used_record, one_there}
+use Rattle.std.proofs.Common.{◌≡◌, ◌<◌, length, ap, sym, subst, ◌∙◌, arith}
+use Rattle.arena_api.specs.Calls.{padded}
+use Rattle.bench_work.proofs.RootLemmas.{root-owned, next-owns, next-finished, next-room, owned-has, fits-some, one-lawful, one-whole, one-commits}
 use Rattle.bench_work.proofs.commit.commit_root.Goals as goal
 
 pub drop_root-requires : goal.drop_root-requires
-drop_root-requires g c = (
-  omega arith,
-  (
-    search rules,
-    ((λ some.
-        let begun : UsesOnly (g.S.Store.ledger c.begin.new.self) c.args.root = only-same (g.S.Store.ledger c.args.store.now) (g.S.Store.ledger c.begin.new.self) c.args.root (λ r. ap (λ l. in_use (l.status r)) c.begin.ensures.ledger) c.requires.used in
-        used_root g.row.OFFSET_BITS (g.S.Store.ledger c.begin.new.self) (g.S.Store.ledger c.make.new.self) _ _ 2 c.args.root c.in_ok-next.next _ begun c.in_ok-next.ensures.makes some)),
-  ),
-)
+drop_root-requires g c =
+    let ledger = g.S.Store.ledger in
+    let records = g.S.Frozen.records in
+    let s = c.args.store.now in
+    let b = c.begin.new.self in
+    let t = c.make_entry.new.store in (
+      omega arith,
+      (
+        c.make_entry.ensures.may.unit ∙ ap (λ l. l.unit) c.begin.ensures.ledger,
+        root-owned (ledger s) (ledger b) (ledger t) (ledger t) (ledger t) (records s) (records b) (records t) (records t) (records t) c.args.root c.in_ok-next.next
+            c.requires.holds c.begin.ensures.ledger c.in_ok-next.ensures.turns,
+      ),
+    )
 
 pub commit-requires : goal.commit-requires
 commit-requires g c =
     let ledger = g.S.Store.ledger in
+    let records = g.S.Frozen.records in
+    let s = c.args.store.now in
+    let b = c.begin.new.self in
+    let t = c.make_entry.new.store in
+    let u = c.drop_root.new.store in
+    let v = c.accept.new.self in
     let next = c.in_ok-next.next in
-    let begun : UsesOnly (ledger c.begin.new.self) c.args.root = only-same (ledger c.args.store.now) (ledger c.begin.new.self) c.args.root (λ r. ap (λ l. in_use (l.status r)) c.begin.ensures.ledger) c.requires.used in
-    let only : UsesOnly (ledger c.drop_root.new.store) next = uses_next g.row.OFFSET_BITS (ledger c.begin.new.self) (ledger c.make.new.self) (ledger c.drop_root.new.store) _ _ 2 c.args.root next _ begun c.in_ok-next.ensures.makes c.drop_root.ensures in
-    let accepted : UsesOnly (ledger c.accept.new.self) next = only-same (ledger c.drop_root.new.store) (ledger c.accept.new.self) next (λ r. ap (λ l. in_use (l.status r)) c.accept.ensures.ledger ∙ accept_uses _) only in
-    let some : 0 < next = pos_of_div-pos (buffer_limit g.row.OFFSET_BITS) c.in_ok-next.ensures.makes.place.first in
-    let used = (accepted next).1 (refl, some) in
-    let there = (g.met.S.Store.recorded c.accept.new.self next).0 (used_record _ used) in (
+    let turns = c.in_ok-next.ensures.turns in
+    let owns = next-owns (ledger s) (ledger b) (ledger t) (ledger u) (ledger v) (records s) (records b) (records t) (records u) (records v) c.args.root next
+    c.requires.holds c.begin.ensures.ledger turns c.drop_root.ensures.turns c.accept.ensures in
+    let finished = next-finished (ledger s) (ledger b) (ledger t) (ledger u) (ledger v) (records s) (records b) (records t) (records u) (records v) c.args.root next
+    c.requires.holds c.begin.ensures.ledger turns c.drop_root.ensures.turns c.accept.ensures c.make_entry.ensures.may c.drop_root.ensures.may in
+    let room = next-room (ledger s) (ledger b) (ledger t) (ledger u) (ledger v) (records s) (records b) (records t) (records u) (records v) c.args.root next
+    c.requires.holds c.begin.ensures.ledger turns c.drop_root.ensures.turns c.accept.ensures c.make_entry.ensures.may c.drop_root.ensures.may c.requires.room in
+    let there = (g.met.S.Store.recorded v next).0 (owned-has (ledger v) (records v) next owns) in
+    let some = fits-some g.row.OFFSET_BITS _ _ next _ (g.met.S.Store.placed v next there) in (
       omega arith,
       (
-        search rules,
+        c.accept.ensures.unit,
         (
-          one_there (g.S.Frozen.shape c.accept.new.self) (g.S.Frozen.records c.accept.new.self) next there,
+          one-lawful (g.S.Frozen.shape v) (records v) next there,
           (
-            search rules,
-            reaches_used (ledger c.accept.new.self) (g.S.Frozen.shape c.accept.new.self) next (g.S.Frozen.records c.accept.new.self) accepted,
+            room,
+            one-whole g.row.OFFSET_BITS (ledger v) (g.S.Frozen.shape v) (records v) next some owns finished,
           ),
         ),
       ),
     )
 
-pub returns-clause-used : goal.returns-clause-used
-returns-clause-used g c =
-    let begun : UsesOnly (g.S.Store.ledger c.begin.new.self) c.args.root = only-same (g.S.Store.ledger c.args.store.now) (g.S.Store.ledger c.begin.new.self) c.args.root (λ r. ap (λ l. in_use (l.status r)) c.begin.ensures.ledger) c.requires.used in
-    let only : UsesOnly (g.S.Store.ledger c.drop_root.new.store) c.in_ok-next.next = uses_next g.row.OFFSET_BITS (g.S.Store.ledger c.begin.new.self) (g.S.Store.ledger c.make.new.self) (g.S.Store.ledger c.drop_root.new.store) _ _ 2 c.args.root c.in_ok-next.next _ begun c.in_ok-next.ensures.makes c.drop_root.ensures in
-    let accepted : UsesOnly (g.S.Store.ledger c.accept.new.self) c.in_ok-next.next = only-same (g.S.Store.ledger c.drop_root.new.store) (g.S.Store.ledger c.accept.new.self) c.in_ok-next.next (λ r. ap (λ l. in_use (l.status r)) c.accept.ensures.ledger ∙ accept_uses _) only in
-    only-same (g.S.Store.ledger c.accept.new.self) (g.S.Store.ledger c.commit.new.self) c.in_ok-next.next (λ r. ap (λ l. in_use (l.status r)) c.commit.ensures.ledger ∙ commit_uses _) accepted
+pub returns : goal.returns
+returns g c =
+    let ledger = g.S.Store.ledger in
+    let records = g.S.Frozen.records in
+    let s = c.args.store.now in
+    let b = c.begin.new.self in
+    let t = c.make_entry.new.store in
+    let u = c.drop_root.new.store in
+    let v = c.accept.new.self in
+    let w = c.commit.new.self in
+    let next = c.in_ok-next.next in
+    let turns = c.in_ok-next.ensures.turns in
+    let owns = next-owns (ledger s) (ledger b) (ledger t) (ledger u) (ledger v) (records s) (records b) (records t) (records u) (records v) c.args.root next
+    c.requires.holds c.begin.ensures.ledger turns c.drop_root.ensures.turns c.accept.ensures in
+    let finished = next-finished (ledger s) (ledger b) (ledger t) (ledger u) (ledger v) (records s) (records b) (records t) (records u) (records v) c.args.root next
+    c.requires.holds c.begin.ensures.ledger turns c.drop_root.ensures.turns c.accept.ensures c.make_entry.ensures.may c.drop_root.ensures.may in
+    let there = (g.met.S.Store.recorded v next).0 (owned-has (ledger v) (records v) next owns) in
+    let some = fits-some g.row.OFFSET_BITS _ _ next _ (g.met.S.Store.placed v next there) in
+    one-commits g.row.OFFSET_BITS (ledger v) (ledger w) (g.S.Frozen.shape v) (records v) (records w) next c.commit.result some there owns finished c.commit.ensures.records c.commit.ensures.stores

@@ -1,14 +1,31 @@
-use Rattle.std.proofs.Common.{ap, subst, ◌∙◌}
-use Rattle.store_api.specs.Statuses.{in_use}
+use Rattle.std.proofs.Common.{[], ◌∷◌, ap, sym, subst, ◌∙◌, arith}
+use Rattle.store_api.specs.Parts.{Owns, entries}
 use Rattle.tree_make.specs.Changes.{Drops}
-use Rattle.bench_work.proofs.MadeLemmas.{uses-same}
+use Rattle.bench_work.proofs.MadeLemmas.{made-owns, unit-holds}
 use Rattle.bench_work.proofs.round.run_unit.Goals as goal
 
-pub returns-clause-used : goal.returns-clause-used
-returns-clause-used g c r =
+pub drop_nodes-requires : goal.drop_nodes-requires
+drop_nodes-requires g c =
     let ledger = g.S.Store.ledger in
-    let begun = ap (λ l. in_use (l.status r)) c.begin.ensures.ledger in
-    let dropped : Drops (ledger c.make_nodes.new.store) (ledger c.drop_nodes.new.store) (g.S.Frozen.records c.make_nodes.new.store) (g.S.Frozen.records c.drop_nodes.new.store) c.make_nodes.new.entries.items =
-    subst (λ refs. Drops (ledger c.make_nodes.new.store) (ledger c.drop_nodes.new.store) (g.S.Frozen.records c.make_nodes.new.store) (g.S.Frozen.records c.drop_nodes.new.store) refs) c.deref.ensures.value c.drop_nodes.ensures in
-    uses-same (ledger c.begin.new.self) (ledger c.make_nodes.new.store) (ledger c.drop_nodes.new.store) (ledger c.accept.new.self) _ _ c.make_nodes.new.entries.items
-    c.in_ok-make_nodes.ensures dropped (λ q. ap (λ l. l.status q) c.accept.ensures.ledger) r ∙ begun
+    let records = g.S.Frozen.records in
+    let b = c.begin.new.self in
+    let t = c.make_nodes.new.store in
+    let made = c.in_ok-make_nodes.ensures in
+    record {
+      unit = made.may.unit ∙ ap (λ l. l.unit) c.begin.ensures.ledger;
+      owns = subst (λ refs. Owns (ledger t) (records t) (entries refs ∷ [])) (sym c.deref.ensures.value) (made-owns (ledger b) (ledger t) (records b) (records t) c.make_nodes.new.entries.items made);
+    }
+
+pub returns : goal.returns
+returns g c =
+    let ledger = g.S.Store.ledger in
+    let records = g.S.Frozen.records in
+    let s = c.args.store.now in
+    let b = c.begin.new.self in
+    let t = c.make_nodes.new.store in
+    let u = c.drop_nodes.new.store in
+    let v = c.accept.new.self in
+    let refs = c.make_nodes.new.entries.items in
+    let dropped : Drops (ledger t) (ledger u) (records t) (records u) refs = subst (Drops (ledger t) (ledger u) (records t) (records u)) c.deref.ensures.value c.drop_nodes.ensures in
+    λ root holds. unit-holds (ledger s) (ledger b) (ledger t) (ledger u) (ledger v) (records s) (records b) (records t) (records u) (records v) refs
+    c.begin.ensures.ledger c.in_ok-make_nodes.ensures dropped c.accept.ensures root holds

@@ -2,47 +2,106 @@ use Rattle.std.proofs.Common.{rules, ℕ, arith, ap, ◌∙◌}
 use Rattle.tree_images.specs.Trees.{tree_pairs}
 use Rattle.key_order.specs.Pairs.{take_out}
 use Rattle.number_tree.specs.Maps.{beside}
-use Rattle.number_tree.proofs.HoldLemmas.{all_pairs, nodes_used, holds_next, pairs_next}
+use Rattle.number_tree.proofs.HoldLemmas.{number_keyed, begun_owns, begun_tree, ends_last, ends_sizes, is_refusal, holds_next, pairs_next, left_same, holds_still}
 use Rattle.number_tree.proofs.unit.remove_unit.Goals as goal
 
 pub remove-requires : goal.remove-requires
-remove-requires g c = (
-  omega arith,
-  (
-    search rules,
-    (
-      search rules,
-      (
-        all_pairs (λ (p : ℕ × ℕ). Unit {0}) (λ p. tt) (tree_pairs (g.S.Frozen.records c.begin.new.self) c.args.root),
-        (
-          all_pairs (λ (p : ℕ × ℕ). Unit {0}) (λ p. tt) (tree_pairs (g.S.Frozen.records c.begin.new.self) c.args.root),
-          (
-            search rules,
-            ((nodes_used (g.S.Store.ledger c.args.store.now) (g.S.Store.ledger c.begin.new.self) (g.S.Frozen.records c.args.store.now) (g.S.Frozen.records c.begin.new.self) c.args.root c.requires.holds
-                (ap (λ l. l.status) c.begin.ensures.ledger) c.begin.ensures.records)),
-          ),
-        ),
-      ),
-    ),
-  ),
-)
+remove-requires g c =
+    let ledger = g.S.Store.ledger in
+    let records = g.S.Frozen.records in
+    let s = c.args.store.now in
+    let b = c.begin.new.self in
+    let owns = begun_owns (ledger s) (ledger b) (ledger b) (ledger b) (records s) (records b) (records b) c.args.root c.requires.holds c.begin.ensures.ledger c.begin.ensures.records in
+    let is = begun_tree (ledger s) (ledger b) (ledger b) (ledger b) (records s) (records b) (records b) c.args.root c.requires.holds c.begin.ensures.ledger c.begin.ensures.records in
+    (omega arith, (ap (λ l. l.unit) c.begin.ensures.ledger, (number_keyed (records b) c.args.root is, (search rules, owns))))
 
 pub returns-in-Ok-clause-holds : goal.returns-in-Ok-clause-holds
 returns-in-Ok-clause-holds g c =
-    holds_next (g.S.Store.ledger c.args.store.now) (g.S.Store.ledger c.begin.new.self) (g.S.Store.ledger c.remove.new.store)
-    (g.S.Frozen.records c.args.store.now) (g.S.Frozen.records c.begin.new.self) (g.S.Frozen.records c.remove.new.store) c.args.root c.in-Ok.rest c.requires.holds
-    (ap (λ l. l.status) c.begin.ensures.ledger) c.begin.ensures.records c.in-Ok.ensures.replaces
-    (g.S.Store.ledger c.accept.new.self) (g.S.Frozen.records c.accept.new.self) c.in-Ok.ensures.tree c.accept.ensures.records
-    (λ r. ap (λ l. l.status r) c.accept.ensures.ledger) (ap (λ l. l.unit) c.accept.ensures.ledger)
+    let ledger = g.S.Store.ledger in
+    let records = g.S.Frozen.records in
+    let s = c.args.store.now in
+    let b = c.begin.new.self in
+    let t = c.remove.new.store in
+    let u = c.accept.new.self in
+    holds_next (ledger s) (ledger b) (ledger t) (ledger u) (records s) (records b) (records u) c.args.root c.requires.holds c.begin.ensures.ledger c.begin.ensures.records c.remove.ensures.may (records t) c.in-Ok.rest c.in-Ok.ensures.turns c.accept.ensures c.in-Ok.ensures.keyed.tree
 
 pub returns-in-Ok-clause-pairs : goal.returns-in-Ok-clause-pairs
 returns-in-Ok-clause-pairs g c =
-    pairs_next (g.S.Store.ledger c.args.store.now) (g.S.Store.ledger c.begin.new.self) (g.S.Store.ledger c.remove.new.store)
-    (g.S.Frozen.records c.args.store.now) (g.S.Frozen.records c.begin.new.self) (g.S.Frozen.records c.remove.new.store) c.args.root c.in-Ok.rest c.requires.holds
-    (ap (λ l. l.status) c.begin.ensures.ledger) c.begin.ensures.records c.in-Ok.ensures.replaces (g.S.Frozen.records c.accept.new.self) c.accept.ensures.records
+    let ledger = g.S.Store.ledger in
+    let records = g.S.Frozen.records in
+    let s = c.args.store.now in
+    let b = c.begin.new.self in
+    let t = c.remove.new.store in
+    let u = c.accept.new.self in
+    pairs_next (ledger s) (ledger b) (ledger t) (ledger u) (records s) (records b) (records u) c.args.root c.requires.holds c.begin.ensures.ledger c.begin.ensures.records c.remove.ensures.may (records t) c.in-Ok.rest c.in-Ok.ensures.turns c.accept.ensures
     ∙ c.in-Ok.ensures.pairs ∙ ap (λ m. take_out (beside c.args.key) (tree_pairs m c.args.root)) c.begin.ensures.records
 
-pub returns-in-Err-clause-full : goal.returns-in-Err-clause-full
-returns-in-Err-clause-full g c w a h e =
-    let it = c.in-Err.ensures.full w a h e in
-    (it.0, it.1.all ∙ ap (λ s. s.buffers) (c.in-Err.ensures.left.may.sizes ∙ ap (λ l. l.work.sizes) c.begin.ensures.ledger))
+pub returns-in-Ok-clause-commits : goal.returns-in-Ok-clause-commits
+returns-in-Ok-clause-commits g c =
+    let ledger = g.S.Store.ledger in
+    let records = g.S.Frozen.records in
+    let s = c.args.store.now in
+    let b = c.begin.new.self in
+    let t = c.remove.new.store in
+    let u = c.accept.new.self in
+    ends_last (ledger s) (ledger b) (ledger t) (ledger u) (records s) (records b) (records u) c.args.root c.requires.holds c.begin.ensures.ledger c.begin.ensures.records c.remove.ensures.may c.accept.ensures.work
+
+pub returns-in-Ok-clause-sizes : goal.returns-in-Ok-clause-sizes
+returns-in-Ok-clause-sizes g c =
+    let ledger = g.S.Store.ledger in
+    let records = g.S.Frozen.records in
+    let s = c.args.store.now in
+    let b = c.begin.new.self in
+    let t = c.remove.new.store in
+    let u = c.accept.new.self in
+    ends_sizes (ledger s) (ledger b) (ledger t) (ledger u) (records s) (records b) (records u) c.args.root c.requires.holds c.begin.ensures.ledger c.begin.ensures.records c.remove.ensures.may c.accept.ensures.work
+
+pub returns-in-Err-clause-commits : goal.returns-in-Err-clause-commits
+returns-in-Err-clause-commits g c =
+    let ledger = g.S.Store.ledger in
+    let records = g.S.Frozen.records in
+    let s = c.args.store.now in
+    let b = c.begin.new.self in
+    let t = c.remove.new.store in
+    let u = c.undo.new.self in
+    ends_last (ledger s) (ledger b) (ledger t) (ledger u) (records s) (records b) (records u) c.args.root c.requires.holds c.begin.ensures.ledger c.begin.ensures.records c.remove.ensures.may c.undo.ensures.work
+
+pub returns-in-Err-clause-sizes : goal.returns-in-Err-clause-sizes
+returns-in-Err-clause-sizes g c =
+    let ledger = g.S.Store.ledger in
+    let records = g.S.Frozen.records in
+    let s = c.args.store.now in
+    let b = c.begin.new.self in
+    let t = c.remove.new.store in
+    let u = c.undo.new.self in
+    ends_sizes (ledger s) (ledger b) (ledger t) (ledger u) (records s) (records b) (records u) c.args.root c.requires.holds c.begin.ensures.ledger c.begin.ensures.records c.remove.ensures.may c.undo.ensures.work
+
+pub returns-in-Err-clause-still : goal.returns-in-Err-clause-still
+returns-in-Err-clause-still g c =
+    let ledger = g.S.Store.ledger in
+    let records = g.S.Frozen.records in
+    let s = c.args.store.now in
+    let b = c.begin.new.self in
+    let t = c.remove.new.store in
+    let u = c.undo.new.self in
+    holds_still (ledger s) (ledger b) (ledger t) (ledger u) (records s) (records b) (records u) c.args.root c.requires.holds c.begin.ensures.ledger c.begin.ensures.records c.remove.ensures.may (g.met.S.Store.settled s c.requires.holds.unit) c.undo.ensures
+
+pub returns-in-Err-clause-left : goal.returns-in-Err-clause-left
+returns-in-Err-clause-left g c =
+    let ledger = g.S.Store.ledger in
+    let records = g.S.Frozen.records in
+    let s = c.args.store.now in
+    let b = c.begin.new.self in
+    let t = c.remove.new.store in
+    let u = c.undo.new.self in
+    left_same (ledger s) (ledger b) (ledger t) (ledger u) (records s) (records b) (records u) c.args.root c.requires.holds c.begin.ensures.ledger c.begin.ensures.records c.remove.ensures.may (g.met.S.Store.settled s c.requires.holds.unit) c.undo.ensures
+
+pub returns-in-Err-clause-refused : goal.returns-in-Err-clause-refused
+returns-in-Err-clause-refused g c =
+    let ledger = g.S.Store.ledger in
+    let records = g.S.Frozen.records in
+    let s = c.args.store.now in
+    let b = c.begin.new.self in
+    let t = c.remove.new.store in
+    let u = c.undo.new.self in
+    is_refusal (ledger s) (ledger b) (ledger t) (ledger u) (records s) (records b) (records u) c.args.root c.requires.holds c.begin.ensures.ledger c.begin.ensures.records c.remove.ensures.may _ c.in-Err.ensures.refuses

@@ -1,6 +1,6 @@
 use Rattle.std.proofs.Common.{rules, Err, ◌≡◌, ◌<◌, ◌≤◌, ◌-◌, ◌++◌, ℕ, suc, List, [], ◌∷◌, length, get_or, take, drop, ◌*◌, true, sym, ap, subst, ◌∙◌, arith, ◌+◌, ◌^◌}
 use Rattle.std.specs.List.{AllByRecursion}
-use Rattle.tree_images.specs.Nodes.{node_keys, node_values}
+use Rattle.tree_images.specs.Nodes.{level_of, used_of, node_keys, node_values}
 use Rattle.tree_images.specs.Trees.{pairs_below, IsNode}
 use Rattle.tree_images.proofs.TreeLemmas.{IsNode-form}
 use Rattle.tree_make.proofs.Results.{if_ok-then}
@@ -9,7 +9,7 @@ use Rattle.tree_node.proofs.ReadLemmas.{node-even, node-keys-all}
 use Rattle.key_order.specs.Keys.{seen_by, Ascends, AllReadable}
 use Rattle.tree_node.specs.Places.{IsPlace}
 use Rattle.tree_make.specs.Makes.{MakesNodes}
-use Rattle.list_facts.proofs.Errors.{same_error}
+use Rattle.tree_make.proofs.MakesLemmas.{makes-more, makes-then, refuses-if}
 use Rattle.tree_node.specs.Slots.{slot_pairs, IsInHand}
 use Rattle.tree_insert.specs.Inserts.{Inserts}
 use Rattle.tree_insert.specs.Parts.{MakesParts, part_keys, part_nodes}
@@ -465,5 +465,42 @@ returns-clause-inserts g t c =
     subst (λ k. Inserts seen pair old (g.S.Store.ledger u) m (g.S.Frozen.records u) k node before after made) (sym up)
     (over-inserts key.order total key.read sought m n 1 l node i pair is place ascends makes.keeps ps x.parts_are left.keys.items left.values.items k2 v2 old mid (g.S.Store.ledger u) (g.S.Frozen.records u) before after made x y1)) c.make_parts.ensures.parts
 
-pub returns-in_err-parts-clause-full : goal.returns-in_err-parts-clause-full
-returns-in_err-parts-clause-full g t c = λ w a h e. c.in_err-parts.ensures.full w a h (ap Err (same_error c.from_residual.result c.in_err-parts.field-0.0 _ c.from_residual.ensures.1 e))
+pub returns-in_err-parts-clause-makes : goal.returns-in_err-parts-clause-makes
+returns-in_err-parts-clause-makes g t c =
+    let ledger = g.S.Store.ledger in
+    let records = g.S.Frozen.records in
+    let s = c.args.store.now in
+    let m = records s in
+    let l = c.args.level - 1 in
+    let up : c.args.level ≡ suc l = (let other = c.if-level-eq0.false in omega arith) in
+    let same = c.place_of-place.ensures.same ∙ c.read_node-slots.ensures.same in
+    let t = c.insert_below.new.store in
+    let makes : MakesNodes (ledger s) (ledger t) m (records t) (2 * suc l) = subst (λ f. MakesNodes (ledger f) (ledger t) (records f) (records t) (2 * suc l)) same c.insert_below.ensures.makes in
+    makes-more (ledger s) (ledger t) m (records t) (2 * suc l) (2 * suc c.args.level) (omega arith) makes
+
+pub returns-clause-makes : goal.returns-clause-makes
+returns-clause-makes g t c =
+    let ledger = g.S.Store.ledger in
+    let records = g.S.Frozen.records in
+    let s = c.args.store.now in
+    let m = records s in
+    let l = c.args.level - 1 in
+    let up : c.args.level ≡ suc l = (let other = c.if-level-eq0.false in omega arith) in
+    let same = c.place_of-place.ensures.same ∙ c.read_node-slots.ensures.same in
+    let t = c.insert_below.new.store in
+    let makes : MakesNodes (ledger s) (ledger t) m (records t) (2 * suc l) = subst (λ f. MakesNodes (ledger f) (ledger t) (records f) (records t) (2 * suc l)) same c.insert_below.ensures.makes in
+    let u = c.make_parts.new.store in
+    makes-then (ledger s) (ledger t) (ledger u) m (records t) (records u) (2 * suc l) 2 (2 * suc c.args.level) (omega arith) makes c.make_parts.ensures.makes
+
+pub returns-clause-refuses : goal.returns-clause-refuses
+returns-clause-refuses g t c =
+    let ledger = g.S.Store.ledger in
+    let records = g.S.Frozen.records in
+    let s = c.args.store.now in
+    let m = records s in
+    let l = c.args.level - 1 in
+    let up : c.args.level ≡ suc l = (let other = c.if-level-eq0.false in omega arith) in
+    let same = c.place_of-place.ensures.same ∙ c.read_node-slots.ensures.same in
+    let t = c.insert_below.new.store in
+    let makes : MakesNodes (ledger s) (ledger t) m (records t) (2 * suc l) = subst (λ f. MakesNodes (ledger f) (ledger t) (records f) (records t) (2 * suc l)) same c.insert_below.ensures.makes in
+    refuses-if (ledger s) (ledger t) (ledger c.make_parts.new.store) 34 c.make_parts.result makes.may c.make_parts.ensures.refuses

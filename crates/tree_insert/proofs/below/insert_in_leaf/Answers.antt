@@ -1,13 +1,14 @@
-use Rattle.std.proofs.Common.{◌≡◌, ◌<◌, ◌≤◌, ℕ, List, length, sym, ap, subst, ◌∙◌, arith, ◌^◌}
+use Rattle.std.proofs.Common.{◌≡◌, ◌<◌, ◌≤◌, ℕ, List, length, sym, ap, subst, ◌∙◌, arith, ◌+◌, ◌^◌}
 use Rattle.std.specs.List.{zip, AllByRecursion}
-use Rattle.tree_images.specs.Nodes.{node_keys, node_values}
+use Rattle.tree_images.specs.Nodes.{level_of, used_of, node_keys, node_values}
+use Rattle.tree_images.specs.Trees.{pairs_below, IsNode}
 use Rattle.std.specs.declared.cmp.Ordering.{Ordering}
 use Rattle.tree_node.specs.Places.{IsSlot, IsFound, IsLacking}
 use Rattle.tree_images.proofs.TreeLemmas.{IsNode-form}
 use Rattle.tree_make.proofs.Results.{if_ok-then}
 use Rattle.tree_node.proofs.ReadLemmas.{node-even, node-keys-all}
 use Rattle.tree_node.proofs.ChildLemmas.{keys-length}
-use Rattle.key_order.specs.Keys.{seen_by}
+use Rattle.key_order.specs.Keys.{seen_by, AllReadable}
 use Rattle.key_order.specs.Pairs.{put}
 use Rattle.tree_node.specs.Slots.{slot_pairs, IsInHand}
 use Rattle.tree_node.proofs.SlotLemmas.{hand-leaf}

@@ -1,5 +1,5 @@
 use Rattle.std.proofs.Common.{ap, Err, ◌≡◌, length, arith}
-use Rattle.list_facts.proofs.Errors.{same_error}
+use Rattle.tree_make.proofs.MakesLemmas.{makes-then}
 use Rattle.tree_insert.proofs.PartsLemmas.{IsSplit, first-hand, first-few, second-hand, second-few, two_made}
 use Rattle.tree_insert.proofs.parts.make_parts.Goals as goal
 
@@ -67,11 +67,20 @@ returns-clause-parts g c =
     (g.S.Frozen.records c.make_part-2.new.store) (g.S.Frozen.records c.make_part-3.new.store) c.in_ok-first.first c.in_ok-second.second full
     c.in_ok-first.ensures.makes c.in_ok-second.ensures.makes
 
-pub returns-in_err-make_part-clause-full : goal.returns-in_err-make_part-clause-full
-returns-in_err-make_part-clause-full g c = λ w a h e. c.in_err-make_part.ensures.full w a h (ap Err (same_error c.from_residual.result c.in_err-make_part.field-0.0 _ c.from_residual.ensures.1 e))
+pub returns-in_err-second-clause-makes : goal.returns-in_err-second-clause-makes
+returns-in_err-second-clause-makes g c =
+    let ledger = g.S.Store.ledger in
+    let records = g.S.Frozen.records in
+    let s = c.args.store.now in
+    let t = c.make_part-2.new.store in
+    let u = c.make_part-3.new.store in
+    makes-then (ledger s) (ledger t) (ledger u) (records s) (records t) (records u) 1 1 2 (omega arith) c.make_part-2.ensures.nodes c.make_part-3.ensures.nodes
 
-pub returns-in_err-first-clause-full : goal.returns-in_err-first-clause-full
-returns-in_err-first-clause-full g c = λ w a h e. c.in_err-first.ensures.full w a h (ap Err (same_error c.from_residual-in_err-first.result c.in_err-first.field-0.0 _ c.from_residual-in_err-first.ensures.1 e))
-
-pub returns-in_err-second-clause-full : goal.returns-in_err-second-clause-full
-returns-in_err-second-clause-full g c = λ w a h e. c.in_err-second.ensures.full w a h (ap Err (same_error c.from_residual-in_err-second.result c.in_err-second.field-0.0 _ c.from_residual-in_err-second.ensures.1 e))
+pub returns-clause-makes : goal.returns-clause-makes
+returns-clause-makes g c =
+    let ledger = g.S.Store.ledger in
+    let records = g.S.Frozen.records in
+    let s = c.args.store.now in
+    let t = c.make_part-2.new.store in
+    let u = c.make_part-3.new.store in
+    makes-then (ledger s) (ledger t) (ledger u) (records s) (records t) (records u) 1 1 2 (omega arith) c.make_part-2.ensures.nodes c.make_part-3.ensures.nodes

@@ -1,7 +1,6 @@
 use Rattle.std.proofs.Common.{Err, ◌≡◌, ◌<◌, inl, inr, ℕ, List, [], ◌∷◌, ◌++◌, length, sym, ap, subst, ◌∙◌, arith, ◌^◌}
 use Rattle.std.proofs.lemmas.Bool.{cases_eq}
 use Rattle.std.specs.List.{flat_map}
-use Rattle.list_facts.proofs.Errors.{same_error}
 use Rattle.tree_images.specs.Trees.{pairs_below, root_least}
 use Rattle.tree_insert.specs.declared.parts.Parts.TheVariants.{Two}
 use Rattle.tree_insert.specs.Parts.{AreParts, IsRootOver, part_nodes}
@@ -69,6 +68,3 @@ returns-in_ok-root-in-Two-clause-root g c =
     (subst (λ p. IsRootOver old new m n level p c.in_ok-root-in-Two.root.node) (sym c.in-Two.is)
     (two_root m (root_least level) level first second (flat_map (pairs_below m level) (part_nodes c.args.parts.now)) parts c.push-in-Two-2.new.self.items c.push-in-Two-3.new.self.items keys values
     old new n c.in_ok-root-in-Two.root.node below c.in_ok-root-in-Two.ensures.makes.node))
-
-pub returns-in_err-root-in-Two-clause-full : goal.returns-in_err-root-in-Two-clause-full
-returns-in_err-root-in-Two-clause-full g c = λ w a h e. c.in_err-root-in-Two.ensures.full w a h (ap Err (same_error c.from_residual.result c.in_err-root-in-Two.field-0.0 _ c.from_residual.ensures.1 e))

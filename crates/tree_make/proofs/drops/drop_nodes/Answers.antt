@@ -1,9 +1,7 @@
 use Rattle.std.proofs.Common.{◌≡◌, [], ◌∷◌, ◌++◌, take, get_or, sym, ap, subst, ◌∙◌, arith}
 use Rattle.std.proofs.lemmas.List.{take_more, take_all}
-use Rattle.tree_make.proofs.TimesLemmas.{next_once}
 use Rattle.tree_make.proofs.DropLemmas.{drops-none, drops-more, next_used}
 use Rattle.tree_make.specs.Changes.{Drops}
-use Rattle.tree_make.specs.Times.{times}
 use Rattle.tree_make.proofs.drops.drop_nodes.Goals as goal
 
 pub loop-node-init : goal.loop-node-init
@@ -11,14 +9,12 @@ loop-node-init g c = drops-none (g.S.Store.ledger c.args.store.now) (g.S.Frozen.
 
 pub drop_entry-requires : goal.drop_entry-requires
 drop_entry-requires g c =
-    let i = c.loop-node.node-index in
-    let at : c.from_raw.result ≡ get_or c.args.nodes.now i 0 = c.from_raw.ensures in
     let before = c.loop-node.invariant in (
       omega arith,
       (
         before.may.unit ∙ c.requires.unit,
         next_used (g.S.Store.ledger c.args.store.now) (g.S.Store.ledger c.loop-node.store) (g.S.Frozen.records c.args.store.now) (g.S.Frozen.records c.loop-node.store)
-            c.args.nodes.now i c.from_raw.result c.requires.once c.requires.used c.loop-node-test.true at before,
+            c.args.nodes.now c.loop-node.node-index c.from_raw.result c.requires.owns c.loop-node-test.true c.from_raw.ensures before,
       ),
     )
 
@@ -29,9 +25,10 @@ loop-node-preserved g c =
     let i = c.loop-node.node-index in
     let q = c.from_raw.result in
     let at : q ≡ get_or c.args.nodes.now i 0 = c.from_raw.ensures in
-    let apart : times q (take i c.args.nodes.now) ≡ 0 = ap (λ r. times r (take i c.args.nodes.now)) at ∙ next_once c.args.nodes.now i c.requires.once c.loop-node-test.true in
+    let before = c.loop-node.invariant in
+    let used = next_used (ledger c.args.store.now) (ledger c.loop-node.store) (records c.args.store.now) (records c.loop-node.store) c.args.nodes.now i q c.requires.owns c.loop-node-test.true at before in
     let more = drops-more (ledger c.args.store.now) (ledger c.loop-node.store) (ledger c.drop_entry.new.self) (records c.args.store.now) (records c.loop-node.store) (records c.drop_entry.new.self)
-    (take i c.args.nodes.now) q _ c.loop-node.invariant apart (λ r some. (g.met.S.Store.recorded c.loop-node.store r).1 some) c.drop_entry.ensures.ledger c.drop_entry.ensures.records c.drop_entry.ensures.may in
+    (take i c.args.nodes.now) q before used (λ r some. (g.met.S.Store.recorded c.loop-node.store r).1 some) c.drop_entry.ensures.drops c.drop_entry.ensures.may in
     subst (Drops (ledger c.args.store.now) (ledger c.drop_entry.new.self) (records c.args.store.now) (records c.drop_entry.new.self))
     (ap (λ r. take i c.args.nodes.now ++ r ∷ []) at ∙ sym (take_more c.args.nodes.now i 0 c.loop-node-test.true)) more
 

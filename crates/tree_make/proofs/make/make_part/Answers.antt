@@ -1,10 +1,12 @@
-use Rattle.std.proofs.Common.{◌≡◌, ◌-◌, ℕ, suc, List, length, get_or, sym, ap, subst, ◌∙◌, arith}
+use Rattle.std.proofs.Common.{◌≡◌, ◌-◌, ℕ, suc, List, length, get_or, sym, ap, subst, ◌∙◌, arith, Err}
 use Rattle.tree_images.specs.Nodes.{node_words}
 use Rattle.tree_images.specs.Trees.{last_key}
-use Rattle.store_api.specs.Ledgers.{Makes, MayDo}
-use Rattle.tree_make.specs.Makes.{MakesNode}
+use Rattle.store_api.specs.Calls.{Makes}
+use Rattle.store_api.specs.Units.{MayDo}
+use Rattle.tree_make.specs.Makes.{MakesNodes, MakesNode}
 use Rattle.tree_node.proofs.CountLemmas.{last_slot}
-use Rattle.tree_make.proofs.MadeLemmas.{makes-node}
+use Rattle.tree_make.proofs.MadeLemmas.{makes-node, makes-any, makes-refused}
+use Rattle.tree_make.proofs.Results.{on_err}
 use Rattle.tree_make.proofs.make.make_part.Goals as goal
 
 pub returns-clause-makes : goal.returns-clause-makes
@@ -35,3 +37,34 @@ returns-clause-makes g c =
           ∙ last_slot m ks vs slots.level (c.len.result - 1) at c.requires.hand
           ∙ ap last_key (sym made.pairs);
     }
+
+pub returns-clause-nodes : goal.returns-clause-nodes
+returns-clause-nodes g c =
+    let ledger = g.S.Store.ledger in
+    let records = g.S.Frozen.records in
+    let t = c.make.new.self in
+    let s = c.pairs_in-count.new.frozen in
+    let e = c.make.ensures in
+    subst (λ u. MakesNodes (ledger u) (ledger t) (records u) (records t) 1) c.pairs_in-count.ensures.same
+    (makes-any g.row.OFFSET_BITS (ledger s) (ledger t) (records s) (records t) c.deref.result.now c.make.result e.makes e.refused e.left e.may)
+
+pub returns-in_err-node-clause-nodes : goal.returns-in_err-node-clause-nodes
+returns-in_err-node-clause-nodes g c =
+    let ledger = g.S.Store.ledger in
+    let records = g.S.Frozen.records in
+    let t = c.make.new.self in
+    let s = c.pairs_in-count.new.frozen in
+    let e = c.make.ensures in
+    subst (λ u. MakesNodes (ledger u) (ledger t) (records u) (records t) 1) c.pairs_in-count.ensures.same
+    (makes-any g.row.OFFSET_BITS (ledger s) (ledger t) (records s) (records t) c.deref.result.now c.make.result e.makes e.refused e.left e.may)
+
+pub returns-in_err-node-clause-refused : goal.returns-in_err-node-clause-refused
+returns-in_err-node-clause-refused g c =
+    let ledger = g.S.Store.ledger in
+    let records = g.S.Frozen.records in
+    let t = c.make.new.self in
+    let s = c.pairs_in-count.new.frozen in
+    let e = c.in_err-node.ensures in
+    on_err c.from_residual.result
+    (subst (λ u. MakesNodes (ledger u) (ledger t) (records u) (records t) 0) c.pairs_in-count.ensures.same
+    (makes-refused {A = ℕ} (ledger s) (ledger t) (records s) (records t) (Err c.in_err-node.field-0.0) e.refused e.left c.make.ensures.may))

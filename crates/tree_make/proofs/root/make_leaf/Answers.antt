@@ -1,5 +1,4 @@
 use Rattle.std.proofs.Common.{Err, ◌≡◌, ℕ, List, [], ◌∷◌, ◌++◌, length, refl, sym, ap, ◌∙◌, arith}
-use Rattle.list_facts.proofs.Errors.{same_error}
 use Rattle.tree_node.proofs.CountLemmas.{leaf_count}
 use Rattle.tree_node.proofs.SlotLemmas.{hand-leaf}
 use Rattle.tree_make.proofs.root.make_leaf.Goals as goal
@@ -21,6 +20,3 @@ make_part-requires-clause-few g c =
     let count = leaf_count m ks vs 0 refl (hand-leaf m ks vs (ap length keys ∙ sym (ap length values))) in
     let one : length ks ≡ 1 = ap length keys in
     omega arith
-
-pub returns-in_err-part-clause-full : goal.returns-in_err-part-clause-full
-returns-in_err-part-clause-full g c = λ w a h e. c.in_err-part.ensures.full w a h (ap Err (same_error c.from_residual.result c.in_err-part.field-0.0 _ c.from_residual.ensures.1 e))

@@ -1,6 +1,5 @@
 use Rattle.std.proofs.Common.{◌≡◌, ◌≢◌, ℕ, suc, ◌-◌, ◌<◌, List, length, get_or, sym, ap, subst, ◌∙◌, arith, Err}
 use Rattle.list_facts.proofs.Tests.{zero_from_test, above_zero_from_test}
-use Rattle.list_facts.proofs.Errors.{same_error}
 use Rattle.tree_images.specs.Trees.{IsNode}
 use Rattle.tree_node.specs.Slots.{IsInHand}
 use Rattle.tree_node.proofs.ReadLemmas.{node-size}
@@ -64,6 +63,3 @@ returns-clause-root g c =
     (sym c.from_raw-2.ensures)
     (root-made (ledger c.args.store.now) (ledger c.make_part.new.store) (records c.args.store.now) (records c.make_part.new.store)
     slots.level slots.keys.items slots.values.items part.node c.requires.low (many_from slots.level (length slots.keys.items) some other) c.in_ok-part.ensures.makes.node)
-
-pub returns-in_err-part-clause-full : goal.returns-in_err-part-clause-full
-returns-in_err-part-clause-full g c = λ w a h e. c.in_err-part.ensures.full w a h (ap Err (same_error c.from_residual.result c.in_err-part.field-0.0 _ c.from_residual.ensures.1 e))

@@ -1,6 +1,5 @@
-use Rattle.std.proofs.Common.{rules, ◌≡◌, ℕ, suc, ◌-◌, ◌<◌, ◌≤◌, [], ◌∷◌, ◌++◌, length, true, sym, ap, subst, ◌∙◌, arith, Err, ◌^◌}
+use Rattle.std.proofs.Common.{rules, ◌≡◌, ◌+◌, ℕ, suc, ◌-◌, ◌<◌, ◌≤◌, [], ◌∷◌, ◌++◌, length, true, sym, ap, subst, ◌∙◌, arith, Err, ◌^◌}
 use Rattle.std.specs.Prelude.{IsSome}
-use Rattle.list_facts.proofs.Errors.{same_error}
 use Rattle.tree_images.specs.Nodes.{level_of}
 use Rattle.tree_images.specs.Trees.{pairs_below, IsNode, root_least}
 use Rattle.key_order.specs.Keys.{seen_by, Ascends, AllReadable}
@@ -11,6 +10,10 @@ use Rattle.tree_node.proofs.RootLemmas.{root_least-few}
 use Rattle.tree_node.proofs.ChildLemmas.{IsNode-lower}
 use Rattle.tree_remove.proofs.RemoveLemmas.{removes-leaf, removes-over, over-few, over-least, over-most, over-hand}
 use Rattle.tree_remove.specs.Removes.{Removes, PutsBack, IsStep, spliced}
+use Rattle.tree_make.proofs.MakesLemmas.{makes-more, makes-then, refuses-from, refuses-exit}
+use Rattle.tree_make.proofs.Results.{on_err}
+use Rattle.store_api.specs.Calls.{Refuses}
+use Rattle.tree_make.specs.Makes.{MakesNodes}
 use Rattle.tree_remove.proofs.below.+remove_below.Goals as goal
 
 pub returns-then-level-eq0-clause-removes : goal.returns-then-level-eq0-clause-removes
@@ -342,8 +345,85 @@ returns-clause-level g t c =
     let at = node-level m (root_least level) level node c.requires.node in
     c.put_back.ensures.level ∙ c.step_down-step.ensures.level ∙ at
 
-pub returns-in_err-child-clause-full : goal.returns-in_err-child-clause-full
-returns-in_err-child-clause-full g t c = λ w a h e. c.in_err-child.ensures.full w a h (ap Err (same_error c.from_residual.result c.in_err-child.field-0.0 _ c.from_residual.ensures.1 e))
+pub returns-in_err-put_back-clause-refused : goal.returns-in_err-put_back-clause-refused
+returns-in_err-put_back-clause-refused g t c =
+    let records = g.S.Frozen.records in
+    let m = records c.args.store.now in
+    let node = c.args.node in
+    let level = c.args.level in
+    let at = node-level m (root_least level) level node c.requires.node in
+    let l = level - 1 in
+    let some = c.if-level-eq0.false in
+    let up : level ≡ suc l = omega arith in
+    let k = g.K.KeyOrder in
+    let s = k.sought c.args.key.now in
+    let seen = seen_by k.read k.order s m in
+    let slots = c.step_down-step.result.slots in
+    let place = c.step_down-step.result.place in
+    let child = c.step_down-step.result.child in
+    let same = c.step_down-step.ensures.same in
+    let down : level_of (m node) - 1 ≡ l = ap (λ n. n - 1) at in
+    let step = subst (λ n. IsStep seen m n node slots.keys.items slots.values.items place child) down c.step_down-step.ensures.step in
+    let ledger = g.S.Store.ledger in
+    let old = ledger c.args.store.now in
+    let mid = ledger c.remove_below.new.store in
+    let n = records c.remove_below.new.store in
+    let below = c.in_ok-child.child in
+    let before = c.args.replaced.now.items in
+    let middle = c.remove_below.new.replaced.items in
+    let pushed : c.push.new.self.items ≡ before ++ (node ∷ []) = c.push.ensures.items ∙ ap (λ (r : ℕ). before ++ (r ∷ [])) c.raw.ensures in
+    let removes = subst (λ xs. Removes seen old mid m n l child xs middle below.keys.items below.values.items) pushed
+    (subst (λ f. Removes (seen_by k.read k.order s (records f)) (ledger f) mid (records f) n l child c.push.new.self.items middle below.keys.items below.values.items) same c.in_ok-child.ensures.removes) in
+    let new = ledger c.put_back.new.store in
+    let o = records c.put_back.new.store in
+    let one = removes.one in
+    on_err c.from_residual-in_err-put_back.result (makes-then old mid new m n o (l + removes.extra) 1 (suc c.args.level) (omega arith) removes.makes c.in_err-put_back.ensures.refused)
 
-pub returns-in_err-put_back-clause-full : goal.returns-in_err-put_back-clause-full
-returns-in_err-put_back-clause-full g t c = λ w a h e. c.in_err-put_back.ensures.full w a h (ap Err (same_error c.from_residual-in_err-put_back.result c.in_err-put_back.field-0.0 _ c.from_residual-in_err-put_back.ensures.1 e))
+pub returns-in_err-put_back-clause-refuses : goal.returns-in_err-put_back-clause-refuses
+returns-in_err-put_back-clause-refuses g t c =
+    let records = g.S.Frozen.records in
+    let m = records c.args.store.now in
+    let node = c.args.node in
+    let level = c.args.level in
+    let at = node-level m (root_least level) level node c.requires.node in
+    let l = level - 1 in
+    let some = c.if-level-eq0.false in
+    let up : level ≡ suc l = omega arith in
+    let k = g.K.KeyOrder in
+    let s = k.sought c.args.key.now in
+    let seen = seen_by k.read k.order s m in
+    let slots = c.step_down-step.result.slots in
+    let place = c.step_down-step.result.place in
+    let child = c.step_down-step.result.child in
+    let same = c.step_down-step.ensures.same in
+    let down : level_of (m node) - 1 ≡ l = ap (λ n. n - 1) at in
+    let step = subst (λ n. IsStep seen m n node slots.keys.items slots.values.items place child) down c.step_down-step.ensures.step in
+    let ledger = g.S.Store.ledger in
+    let old = ledger c.args.store.now in
+    let mid = ledger c.remove_below.new.store in
+    let n = records c.remove_below.new.store in
+    let below = c.in_ok-child.child in
+    let before = c.args.replaced.now.items in
+    let middle = c.remove_below.new.replaced.items in
+    let pushed : c.push.new.self.items ≡ before ++ (node ∷ []) = c.push.ensures.items ∙ ap (λ (r : ℕ). before ++ (r ∷ [])) c.raw.ensures in
+    let removes = subst (λ xs. Removes seen old mid m n l child xs middle below.keys.items below.values.items) pushed
+    (subst (λ f. Removes (seen_by k.read k.order s (records f)) (ledger f) mid (records f) n l child c.push.new.self.items middle below.keys.items below.values.items) same c.in_ok-child.ensures.removes) in
+    refuses-exit old (ledger c.put_back.new.store) 34 c.from_residual-in_err-put_back.result c.in_err-put_back.field-0.0 c.from_residual-in_err-put_back.ensures.1
+    (refuses-from old mid (ledger c.put_back.new.store) 34 c.in_err-put_back.field-0.0 removes.makes.may c.in_err-put_back.ensures.refuses)
+
+pub returns-in_err-child-clause-refused : goal.returns-in_err-child-clause-refused
+returns-in_err-child-clause-refused g t c =
+    let ledger = g.S.Store.ledger in
+    let records = g.S.Frozen.records in
+    let s = c.args.store.now in
+    let u = c.remove_below.new.store in
+    let l = c.args.level - 1 in
+    let other = c.if-level-eq0.false in
+    on_err c.from_residual.result (makes-more (ledger s) (ledger u) (records s) (records u) (suc l) (suc c.args.level) (omega arith)
+    (subst (λ f. MakesNodes (ledger f) (ledger u) (records f) (records u) (suc l)) c.step_down-step.ensures.same c.in_err-child.ensures.refused))
+
+pub returns-in_err-child-clause-refuses : goal.returns-in_err-child-clause-refuses
+returns-in_err-child-clause-refuses g t c =
+    let ledger = g.S.Store.ledger in
+    refuses-exit (ledger c.args.store.now) (ledger c.remove_below.new.store) 34 c.from_residual.result c.in_err-child.field-0.0 c.from_residual.ensures.1
+    (subst (λ f. Refuses (ledger f) (ledger c.remove_below.new.store) 34 c.in_err-child.field-0.0) c.step_down-step.ensures.same c.in_err-child.ensures.refuses)

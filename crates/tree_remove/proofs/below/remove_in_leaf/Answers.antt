@@ -1,13 +1,15 @@
-use Rattle.std.proofs.Common.{◌≡◌, ℕ, List, length, sym, ap, subst, ◌∙◌, arith}
+use Rattle.std.proofs.Common.{rules, ◌≡◌, ℕ, List, length, sym, ap, subst, ◌∙◌, arith}
 use Rattle.std.specs.Prelude.{IsSome}
 use Rattle.std.specs.List.{zip, remove, AllByRecursion}
 use Rattle.std.proofs.lemmas.List.Edits.{length-remove}
-use Rattle.key_order.specs.Keys.{seen_by}
+use Rattle.key_order.specs.Keys.{seen_by, AllReadable}
 use Rattle.key_order.specs.Pairs.{lookup, take_out}
 use Rattle.tree_node.specs.Places.{IsSlot}
 use Rattle.tree_node.proofs.ReadLemmas.{node-size, node-room, node-level, node-even, node-keys-all, leaf-pairs}
-use Rattle.tree_node.proofs.ChildLemmas.{keys-length}
+use Rattle.tree_node.proofs.ChildLemmas.{keys-length, IsNode-lower}
 use Rattle.tree_remove.proofs.StepLemmas.{leaf-out}
+use Rattle.tree_images.specs.Nodes.{level_of, used_of, node_keys}
+use Rattle.tree_images.specs.Trees.{pairs_below, IsNode}
 use Rattle.tree_remove.proofs.below.remove_in_leaf.Goals as goal
 
 pub read_node-slots-requires : goal.read_node-slots-requires

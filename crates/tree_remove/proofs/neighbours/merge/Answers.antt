@@ -1,6 +1,7 @@
 use Rattle.std.proofs.Common.{◌≤◌, ◌++◌, length, set, ap, ◌∙◌, arith, length-append, Err}
-use Rattle.list_facts.proofs.Errors.{same_error}
 use Rattle.tree_remove.proofs.SettleLemmas.{settles-merged, part-at}
+use Rattle.tree_make.proofs.MakesLemmas.{makes-more}
+use Rattle.tree_make.proofs.Results.{on_err}
 use Rattle.tree_remove.proofs.neighbours.merge.Goals as goal
 
 pub returns-clause-settles : goal.returns-clause-settles
@@ -23,5 +24,10 @@ returns-clause-settles g c =
     (c.set_part.ensures.keys ∙ ap (λ ks. set ks c.args.first part.key) c.remove.ensures.items)
     (c.set_part.ensures.values ∙ ap (λ vs. set vs c.args.first part.node) c.remove-2.ensures.items)
 
-pub returns-in_err-part-clause-full : goal.returns-in_err-part-clause-full
-returns-in_err-part-clause-full g c = λ w a h e. c.in_err-part.ensures.full w a h (ap Err (same_error c.from_residual.result c.in_err-part.field-0.0 _ c.from_residual.ensures.1 e))
+pub returns-in_err-part-clause-refused : goal.returns-in_err-part-clause-refused
+returns-in_err-part-clause-refused g c =
+    let ledger = g.S.Store.ledger in
+    let records = g.S.Frozen.records in
+    let s = c.args.store.now in
+    let t = c.make_part.new.store in
+    on_err c.from_residual.result (makes-more (ledger s) (ledger t) (records s) (records t) 0 1 (omega arith) c.in_err-part.ensures.refused)

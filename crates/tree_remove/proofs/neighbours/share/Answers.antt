@@ -1,8 +1,9 @@
 use Rattle.std.proofs.Common.{◌≡◌, ◌+◌, ◌<◌, length, set, sym, ap, subst, ◌∙◌, arith, length-append, Err, ◌^◌}
-use Rattle.list_facts.proofs.Errors.{same_error}
 use Rattle.tree_node.proofs.SlotLemmas.{hand-kept, hand-left, hand-right}
 use Rattle.tree_node.specs.Slots.{slot_pairs, IsInHand}
 use Rattle.tree_remove.proofs.SettleLemmas.{settles-shared, part-at, hand-at, few-left, few-right, shifted-sizes}
+use Rattle.tree_make.proofs.MakesLemmas.{makes-more, makes-then, refuses-from, refuses-exit}
+use Rattle.tree_make.proofs.Results.{on_err}
 use Rattle.tree_remove.proofs.neighbours.share.Goals as goal
 
 pub make_part-requires-clause-hand : goal.make_part-requires-clause-hand
@@ -75,8 +76,29 @@ returns-clause-settles g c =
     (c.set_part-2.ensures.keys ∙ ap (λ ks. set ks (c.args.first + 1) two.key) c.set_part.ensures.keys)
     (c.set_part-2.ensures.values ∙ ap (λ vs. set vs (c.args.first + 1) two.node) c.set_part.ensures.values)
 
-pub returns-in_err-part-clause-full : goal.returns-in_err-part-clause-full
-returns-in_err-part-clause-full g c = λ w a h e. c.in_err-part.ensures.full w a h (ap Err (same_error c.from_residual.result c.in_err-part.field-0.0 _ c.from_residual.ensures.1 e))
+pub returns-in_err-part-clause-refused : goal.returns-in_err-part-clause-refused
+returns-in_err-part-clause-refused g c =
+    let ledger = g.S.Store.ledger in
+    let records = g.S.Frozen.records in
+    let s = c.args.store.now in
+    let t = c.make_part.new.store in
+    on_err c.from_residual.result (makes-more (ledger s) (ledger t) (records s) (records t) 0 1 (omega arith) c.in_err-part.ensures.refused)
 
-pub returns-in_err-part-2-clause-full : goal.returns-in_err-part-2-clause-full
-returns-in_err-part-2-clause-full g c = λ w a h e. c.in_err-part-2.ensures.full w a h (ap Err (same_error c.from_residual-in_err-part-2.result c.in_err-part-2.field-0.0 _ c.from_residual-in_err-part-2.ensures.1 e))
+pub returns-in_err-part-2-clause-refused : goal.returns-in_err-part-2-clause-refused
+returns-in_err-part-2-clause-refused g c =
+    let ledger = g.S.Store.ledger in
+    let records = g.S.Frozen.records in
+    let s = c.args.store.now in
+    let t = c.make_part.new.store in
+    let u = c.make_part-2.new.store in
+    on_err c.from_residual-in_err-part-2.result (makes-then (ledger s) (ledger t) (ledger u) (records s) (records t) (records u) 1 0 1 (omega arith) c.in_ok-part.ensures.makes.node.makes c.in_err-part-2.ensures.refused)
+
+pub returns-in_err-part-2-clause-refuses : goal.returns-in_err-part-2-clause-refuses
+returns-in_err-part-2-clause-refuses g c =
+    let ledger = g.S.Store.ledger in
+    let records = g.S.Frozen.records in
+    let s = c.args.store.now in
+    let t = c.make_part.new.store in
+    let u = c.make_part-2.new.store in
+    refuses-exit (ledger s) (ledger u) 34 c.from_residual-in_err-part-2.result c.in_err-part-2.field-0.0 c.from_residual-in_err-part-2.ensures.1
+    (refuses-from (ledger s) (ledger t) (ledger u) 34 c.in_err-part-2.field-0.0 c.in_ok-part.ensures.makes.node.makes.may c.in_err-part-2.ensures.refuses)

@@ -1,12 +1,13 @@
 use Rattle.std.proofs.Common.{◌≡◌, suc, ◌-◌, ◌<◌, ◌≤◌, ◌++◌, length, get_or, refl, sym, subst, arith, Err, ap, ◌^◌}
 use Rattle.std.proofs.lemmas.Result.{on_ok_weaker}
-use Rattle.list_facts.proofs.Errors.{same_error}
 use Rattle.tree_node.proofs.SlotLemmas.{hand-append}
 use Rattle.tree_node.specs.Slots.{slot_pairs, slot_nodes, IsInHand}
 use Rattle.tree_remove.proofs.ParentLemmas.{puts-alone, puts-left, puts-right, few-before, few-behind}
 use Rattle.tree_remove.proofs.SettleLemmas.{settles-alone}
 use Rattle.tree_remove.specs.Removes.{IsChild, PutsBack, spliced}
 use Rattle.tree_remove.specs.Settles.{Settles}
+use Rattle.tree_make.proofs.MakesLemmas.{makes-more}
+use Rattle.tree_make.proofs.Results.{on_err}
 use Rattle.tree_remove.proofs.parent.put_back.Goals as goal
 
 pub returns-then-len-ge-LEAST_SLOTS-clause-puts : goal.returns-then-len-ge-LEAST_SLOTS-clause-puts
@@ -158,5 +159,10 @@ returns-else-place-gt0-clause-puts g c =
     0 2 slots.keys.items slots.values.items after.keys.items after.values.items) same settles)))
     c.make_neighbours-else-place-gt0.ensures.settles
 
-pub returns-in_err-part-clause-full : goal.returns-in_err-part-clause-full
-returns-in_err-part-clause-full g c = λ w a h e. c.in_err-part.ensures.full w a h (ap Err (same_error c.from_residual.result c.in_err-part.field-0.0 _ c.from_residual.ensures.1 e))
+pub returns-in_err-part-clause-refused : goal.returns-in_err-part-clause-refused
+returns-in_err-part-clause-refused g c =
+    let ledger = g.S.Store.ledger in
+    let records = g.S.Frozen.records in
+    let s = c.args.store.now in
+    let t = c.make_part.new.store in
+    on_err c.from_residual.result (makes-more (ledger s) (ledger t) (records s) (records t) 0 1 (omega arith) c.in_err-part.ensures.refused)

@@ -1,11 +1,10 @@
 use Rattle.std.proofs.Common.{rules, ◌≡◌, ℕ, suc, ◌+◌, ◌/◌, ◌<◌, length, sym, ap, subst, ◌∙◌, arith, Err, ◌^◌}
 use Rattle.std.specs.Prelude.{IsSome}
-use Rattle.list_facts.proofs.Errors.{same_error}
 use Rattle.tree_images.specs.Trees.{pairs_below, root_level, root_least, IsNode}
 use Rattle.key_order.specs.Keys.{seen_by, Ascends, AllReadable}
 use Rattle.key_order.specs.Pairs.{lookup}
 use Rattle.tree_make.specs.Changes.{levels}
-use Rattle.tree_make.proofs.MakesLemmas.{makes-then, makes-more}
+use Rattle.tree_make.proofs.MakesLemmas.{makes-then, makes-more, refuses-if}
 use Rattle.tree_make.proofs.Results.{if_ok-then}
 use Rattle.tree_make.proofs.TopLemmas.{root-size, root-level, root-low, root-node, root-pairs, root-levels}
 use Rattle.tree_make.specs.Makes.{MakesNodes, MakesRoot}
@@ -243,5 +242,24 @@ returns-clause-makes g c =
     let one = removes.one in
     makes-then old mid (ledger c.make_root.new.store) m n (g.S.Frozen.records c.make_root.new.store) (level + removes.extra) 1 (levels m root + 1) (omega arith) removes.makes c.make_root.ensures.makes
 
-pub returns-in_err-slots-clause-full : goal.returns-in_err-slots-clause-full
-returns-in_err-slots-clause-full g c = λ w a h e. c.in_err-slots.ensures.full w a h (ap Err (same_error c.from_residual.result c.in_err-slots.field-0.0 _ c.from_residual.ensures.1 e))
+pub returns-clause-refuses : goal.returns-clause-refuses
+returns-clause-refuses g c =
+    let m = g.S.Frozen.records c.args.store.now in
+    let k = g.K.KeyOrder in
+    let root = c.args.root in
+    let tree = c.requires.tree in
+    let some = c.requires.some in
+    let level = c.word-level.result / 256 in
+    let is : level ≡ root_level m root = ap (λ (w : ℕ). w / 256) c.word-level.ensures.value ∙ root-level k.order k.read m root tree some in
+    let seen = seen_by k.read k.order (k.sought c.args.key.now) m in
+    let ledger = g.S.Store.ledger in
+    let old = ledger c.args.store.now in
+    let mid = ledger c.remove_below.new.store in
+    let n = g.S.Frozen.records c.remove_below.new.store in
+    let slots = c.in_ok-slots.slots in
+    let gone = c.remove_below.new.replaced.items in
+    let same = c.word-level.ensures.same in
+    let removes = subst (λ xs. Removes seen old mid m n level root xs gone slots.keys.items slots.values.items) c.requires.replaced
+    (subst (λ f. Removes (seen_by k.read k.order (k.sought c.args.key.now) (g.S.Frozen.records f)) (ledger f) mid (g.S.Frozen.records f) n level root c.args.replaced.now.items gone slots.keys.items slots.values.items) same c.in_ok-slots.ensures.removes) in
+    let more = root-levels k.order k.read m root tree some level is in
+    refuses-if old mid (ledger c.make_root.new.store) 34 c.make_root.result removes.makes.may c.make_root.ensures.refuses

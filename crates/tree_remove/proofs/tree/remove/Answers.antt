@@ -1,84 +1,161 @@
-use Rattle.std.proofs.Common.{◌≡◌, ◌+◌, sym, subst, true, Err, ap}
-use Rattle.std.specs.List.{AllByRecursion}
-use Rattle.list_facts.proofs.Errors.{same_error}
-use Rattle.key_order.specs.Keys.{seen_by}
-use Rattle.store_api.specs.Statuses.{in_use}
+use Rattle.std.proofs.Common.{◌≡◌, ◌+◌, ℕ, [], ◌∷◌, sym, subst}
+use Rattle.tree_images.specs.Trees.{tree_pairs}
+use Rattle.key_order.specs.Keys.{seen_by, ReadsNoNode}
+use Rattle.key_order.specs.Pairs.{take_out}
+use Rattle.key_order.proofs.KeyLemmas.{others_kept}
+use Rattle.key_order.proofs.OrderLemmas.{take_out-ascends}
+use Rattle.key_order.proofs.PairLemmas.{All-take_out}
+use Rattle.store_api.specs.Parts.{Owns, entries}
 use Rattle.tree_make.specs.Changes.{Drops, levels}
-use Rattle.tree_make.specs.Times.{EachOnce}
-use Rattle.tree_remove.proofs.TreeLemmas.{gone-once, gone-used, end-replaces, end-pairs, end-readable, end-tree}
+use Rattle.tree_make.proofs.ChangeLemmas.{gone-owned, end-turns, end-owns, end-pairs, end-others, end-may, end-counts, end-keyed}
+use Rattle.tree_make.proofs.Results.{on_err}
 use Rattle.tree_remove.proofs.tree.remove.Goals as goal
 
-pub drop_nodes-requires-clause-once : goal.drop_nodes-requires-clause-once
-drop_nodes-requires-clause-once g c =
+pub drop_nodes-requires-clause-owns : goal.drop_nodes-requires-clause-owns
+drop_nodes-requires-clause-owns g c =
     let k = g.K.KeyOrder in
     let ledger = g.S.Store.ledger in
-    let m = g.S.Frozen.records c.args.store.now in
-    let n = g.S.Frozen.records c.rebuild.new.store in
+    let records = g.S.Frozen.records in
+    let s = c.args.store.now in
+    let t = c.rebuild.new.store in
+    let m = records s in
+    let seen = seen_by k.read k.order (k.sought c.args.key.now) m in
     let gone = c.rebuild.new.replaced.items in
-    subst EachOnce (sym c.deref.ensures.0)
-    (gone-once k.order g.met.K.KeyOrder.total k.can_read k.read k.reads_from g.met.K.KeyOrder.stays (seen_by k.read k.order (k.sought c.args.key.now) m)
-    (ledger c.args.store.now) (ledger c.rebuild.new.store) (ledger c.rebuild.new.store) m n n c.args.root c.in_ok-next.next gone
-    c.requires.tree c.requires.readable c.requires.apart c.requires.used (levels m c.args.root + 1) c.rebuild.ensures.makes c.in_ok-next.ensures.rebuilds)
+    let pairs = take_out seen (tree_pairs m c.args.root) in
+    let most = levels m c.args.root + 1 in
+    subst (λ xs. Owns (ledger t) (records t) (entries xs ∷ [])) (sym c.deref.ensures.0) (gone-owned (ledger s) (ledger t) m (records t) most c.args.root c.in_ok-next.next gone pairs c.requires.owns c.in_ok-next.ensures.rebuilds c.rebuild.ensures.makes (g.met.S.Store.recorded s))
 
-pub drop_nodes-requires-clause-used : goal.drop_nodes-requires-clause-used
-drop_nodes-requires-clause-used g c =
+pub returns-clause-keyed : goal.returns-clause-keyed
+returns-clause-keyed g c =
     let k = g.K.KeyOrder in
     let ledger = g.S.Store.ledger in
-    let m = g.S.Frozen.records c.args.store.now in
-    let n = g.S.Frozen.records c.rebuild.new.store in
+    let records = g.S.Frozen.records in
+    let s = c.args.store.now in
+    let t = c.rebuild.new.store in
+    let m = records s in
+    let seen = seen_by k.read k.order (k.sought c.args.key.now) m in
     let gone = c.rebuild.new.replaced.items in
-    subst (AllByRecursion (λ r. in_use ((ledger c.rebuild.new.store).status r) ≡ true)) (sym c.deref.ensures.0)
-    (gone-used k.order g.met.K.KeyOrder.total k.can_read k.read k.reads_from g.met.K.KeyOrder.stays (seen_by k.read k.order (k.sought c.args.key.now) m)
-    (ledger c.args.store.now) (ledger c.rebuild.new.store) (ledger c.rebuild.new.store) m n n c.args.root c.in_ok-next.next gone
-    c.requires.tree c.requires.readable c.requires.apart c.requires.used (levels m c.args.root + 1) c.rebuild.ensures.makes c.in_ok-next.ensures.rebuilds)
+    let pairs = take_out seen (tree_pairs m c.args.root) in
+    let most = levels m c.args.root + 1 in
+    let u = c.drop_nodes.new.store in
+    let drops = subst (λ xs. Drops (ledger t) (ledger u) (records t) (records u) xs) c.deref.ensures.0 c.drop_nodes.ensures in
+    let ps = tree_pairs m c.args.root in
+    let keyed = c.requires.keyed in
+    end-keyed (ledger s) (ledger t) m (records t) most c.args.root c.in_ok-next.next gone pairs c.requires.owns c.in_ok-next.ensures.rebuilds c.rebuild.ensures.makes (g.met.S.Store.recorded s) (ledger u) (records u) drops c.requires.keyed.tree.node
+    k.order k.can_read k.read k.reads_from g.met.K.KeyOrder.stays g.met.K.KeyOrder.steady
+    (All-take_out (λ (p : ℕ × ℕ). k.can_read m p.0) seen ps keyed.readable)
+    (All-take_out (λ (p : ℕ × ℕ). ReadsNoNode k.reads_from m p.0) seen ps keyed.apart)
+    (take_out-ascends k.order (k.read m) seen ps keyed.tree.ascends)
 
-pub returns-clause-tree : goal.returns-clause-tree
-returns-clause-tree g c =
+pub returns-clause-turns : goal.returns-clause-turns
+returns-clause-turns g c =
     let k = g.K.KeyOrder in
     let ledger = g.S.Store.ledger in
-    let m = g.S.Frozen.records c.args.store.now in
-    let n = g.S.Frozen.records c.rebuild.new.store in
+    let records = g.S.Frozen.records in
+    let s = c.args.store.now in
+    let t = c.rebuild.new.store in
+    let m = records s in
+    let seen = seen_by k.read k.order (k.sought c.args.key.now) m in
     let gone = c.rebuild.new.replaced.items in
-    let drops = subst (λ xs. Drops (ledger c.rebuild.new.store) (ledger c.drop_nodes.new.store) n (g.S.Frozen.records c.drop_nodes.new.store) xs) c.deref.ensures.0 c.drop_nodes.ensures in
-    end-tree k.order g.met.K.KeyOrder.total k.can_read k.read k.reads_from g.met.K.KeyOrder.stays (seen_by k.read k.order (k.sought c.args.key.now) m)
-    (ledger c.args.store.now) (ledger c.rebuild.new.store) (ledger c.drop_nodes.new.store) m n (g.S.Frozen.records c.drop_nodes.new.store) c.args.root c.in_ok-next.next gone
-    c.requires.tree c.requires.readable c.requires.apart c.requires.used (levels m c.args.root + 1) c.rebuild.ensures.makes c.in_ok-next.ensures.rebuilds drops
+    let pairs = take_out seen (tree_pairs m c.args.root) in
+    let most = levels m c.args.root + 1 in
+    let u = c.drop_nodes.new.store in
+    let drops = subst (λ xs. Drops (ledger t) (ledger u) (records t) (records u) xs) c.deref.ensures.0 c.drop_nodes.ensures in
+    end-turns (ledger s) (ledger t) m (records t) most c.args.root c.in_ok-next.next gone pairs c.requires.owns c.in_ok-next.ensures.rebuilds c.rebuild.ensures.makes (g.met.S.Store.recorded s) (ledger u) (records u) drops c.requires.keyed.tree.node
+
+pub returns-clause-owns : goal.returns-clause-owns
+returns-clause-owns g c =
+    let k = g.K.KeyOrder in
+    let ledger = g.S.Store.ledger in
+    let records = g.S.Frozen.records in
+    let s = c.args.store.now in
+    let t = c.rebuild.new.store in
+    let m = records s in
+    let seen = seen_by k.read k.order (k.sought c.args.key.now) m in
+    let gone = c.rebuild.new.replaced.items in
+    let pairs = take_out seen (tree_pairs m c.args.root) in
+    let most = levels m c.args.root + 1 in
+    let u = c.drop_nodes.new.store in
+    let drops = subst (λ xs. Drops (ledger t) (ledger u) (records t) (records u) xs) c.deref.ensures.0 c.drop_nodes.ensures in
+    end-owns (ledger s) (ledger t) m (records t) most c.args.root c.in_ok-next.next gone pairs c.requires.owns c.in_ok-next.ensures.rebuilds c.rebuild.ensures.makes (g.met.S.Store.recorded s) (ledger u) (records u) drops c.requires.keyed.tree.node
 
 pub returns-clause-pairs : goal.returns-clause-pairs
 returns-clause-pairs g c =
     let k = g.K.KeyOrder in
     let ledger = g.S.Store.ledger in
-    let m = g.S.Frozen.records c.args.store.now in
-    let n = g.S.Frozen.records c.rebuild.new.store in
+    let records = g.S.Frozen.records in
+    let s = c.args.store.now in
+    let t = c.rebuild.new.store in
+    let m = records s in
+    let seen = seen_by k.read k.order (k.sought c.args.key.now) m in
     let gone = c.rebuild.new.replaced.items in
-    let drops = subst (λ xs. Drops (ledger c.rebuild.new.store) (ledger c.drop_nodes.new.store) n (g.S.Frozen.records c.drop_nodes.new.store) xs) c.deref.ensures.0 c.drop_nodes.ensures in
-    end-pairs k.order g.met.K.KeyOrder.total k.can_read k.read k.reads_from g.met.K.KeyOrder.stays (seen_by k.read k.order (k.sought c.args.key.now) m)
-    (ledger c.args.store.now) (ledger c.rebuild.new.store) (ledger c.drop_nodes.new.store) m n (g.S.Frozen.records c.drop_nodes.new.store) c.args.root c.in_ok-next.next gone
-    c.requires.tree c.requires.readable c.requires.apart c.requires.used (levels m c.args.root + 1) c.rebuild.ensures.makes c.in_ok-next.ensures.rebuilds drops
+    let pairs = take_out seen (tree_pairs m c.args.root) in
+    let most = levels m c.args.root + 1 in
+    let u = c.drop_nodes.new.store in
+    let drops = subst (λ xs. Drops (ledger t) (ledger u) (records t) (records u) xs) c.deref.ensures.0 c.drop_nodes.ensures in
+    end-pairs (ledger s) (ledger t) m (records t) most c.args.root c.in_ok-next.next gone pairs c.requires.owns c.in_ok-next.ensures.rebuilds c.rebuild.ensures.makes (g.met.S.Store.recorded s) (ledger u) (records u) drops c.requires.keyed.tree.node
 
-pub returns-clause-readable : goal.returns-clause-readable
-returns-clause-readable g c =
+pub returns-clause-others : goal.returns-clause-others
+returns-clause-others g c =
     let k = g.K.KeyOrder in
     let ledger = g.S.Store.ledger in
-    let m = g.S.Frozen.records c.args.store.now in
-    let n = g.S.Frozen.records c.rebuild.new.store in
+    let records = g.S.Frozen.records in
+    let s = c.args.store.now in
+    let t = c.rebuild.new.store in
+    let m = records s in
+    let seen = seen_by k.read k.order (k.sought c.args.key.now) m in
     let gone = c.rebuild.new.replaced.items in
-    let drops = subst (λ xs. Drops (ledger c.rebuild.new.store) (ledger c.drop_nodes.new.store) n (g.S.Frozen.records c.drop_nodes.new.store) xs) c.deref.ensures.0 c.drop_nodes.ensures in
-    end-readable k.order g.met.K.KeyOrder.total k.can_read k.read k.reads_from g.met.K.KeyOrder.stays (seen_by k.read k.order (k.sought c.args.key.now) m)
-    (ledger c.args.store.now) (ledger c.rebuild.new.store) (ledger c.drop_nodes.new.store) m n (g.S.Frozen.records c.drop_nodes.new.store) c.args.root c.in_ok-next.next gone
-    c.requires.tree c.requires.readable c.requires.apart c.requires.used (levels m c.args.root + 1) c.rebuild.ensures.makes c.in_ok-next.ensures.rebuilds drops
+    let pairs = take_out seen (tree_pairs m c.args.root) in
+    let most = levels m c.args.root + 1 in
+    let u = c.drop_nodes.new.store in
+    let drops = subst (λ xs. Drops (ledger t) (ledger u) (records t) (records u) xs) c.deref.ensures.0 c.drop_nodes.ensures in
+    end-others (ledger s) (ledger t) m (records t) most c.args.root c.in_ok-next.next gone pairs c.requires.owns c.in_ok-next.ensures.rebuilds c.rebuild.ensures.makes (g.met.S.Store.recorded s) (ledger u) (records u) drops c.requires.keyed.tree.node
 
-pub returns-clause-replaces : goal.returns-clause-replaces
-returns-clause-replaces g c =
+pub returns-clause-may : goal.returns-clause-may
+returns-clause-may g c =
     let k = g.K.KeyOrder in
     let ledger = g.S.Store.ledger in
-    let m = g.S.Frozen.records c.args.store.now in
-    let n = g.S.Frozen.records c.rebuild.new.store in
+    let records = g.S.Frozen.records in
+    let s = c.args.store.now in
+    let t = c.rebuild.new.store in
+    let m = records s in
+    let seen = seen_by k.read k.order (k.sought c.args.key.now) m in
     let gone = c.rebuild.new.replaced.items in
-    let drops = subst (λ xs. Drops (ledger c.rebuild.new.store) (ledger c.drop_nodes.new.store) n (g.S.Frozen.records c.drop_nodes.new.store) xs) c.deref.ensures.0 c.drop_nodes.ensures in
-    end-replaces k.order g.met.K.KeyOrder.total k.can_read k.read k.reads_from g.met.K.KeyOrder.stays (seen_by k.read k.order (k.sought c.args.key.now) m)
-    (ledger c.args.store.now) (ledger c.rebuild.new.store) (ledger c.drop_nodes.new.store) m n (g.S.Frozen.records c.drop_nodes.new.store) c.args.root c.in_ok-next.next gone
-    c.requires.tree c.requires.readable c.requires.apart c.requires.used (levels m c.args.root + 1) c.rebuild.ensures.makes c.in_ok-next.ensures.rebuilds drops
+    let pairs = take_out seen (tree_pairs m c.args.root) in
+    let most = levels m c.args.root + 1 in
+    let u = c.drop_nodes.new.store in
+    let drops = subst (λ xs. Drops (ledger t) (ledger u) (records t) (records u) xs) c.deref.ensures.0 c.drop_nodes.ensures in
+    end-may (ledger s) (ledger t) m (records t) most c.args.root c.in_ok-next.next gone pairs c.requires.owns c.in_ok-next.ensures.rebuilds c.rebuild.ensures.makes (g.met.S.Store.recorded s) (ledger u) (records u) drops c.requires.keyed.tree.node
 
-pub returns-in_err-next-clause-full : goal.returns-in_err-next-clause-full
-returns-in_err-next-clause-full g c = λ w a h e. c.in_err-next.ensures.full w a h (ap Err (same_error c.from_residual.result c.in_err-next.field-0.0 _ c.from_residual.ensures.1 e))
+pub returns-clause-counts : goal.returns-clause-counts
+returns-clause-counts g c =
+    let k = g.K.KeyOrder in
+    let ledger = g.S.Store.ledger in
+    let records = g.S.Frozen.records in
+    let s = c.args.store.now in
+    let t = c.rebuild.new.store in
+    let m = records s in
+    let seen = seen_by k.read k.order (k.sought c.args.key.now) m in
+    let gone = c.rebuild.new.replaced.items in
+    let pairs = take_out seen (tree_pairs m c.args.root) in
+    let most = levels m c.args.root + 1 in
+    let u = c.drop_nodes.new.store in
+    let drops = subst (λ xs. Drops (ledger t) (ledger u) (records t) (records u) xs) c.deref.ensures.0 c.drop_nodes.ensures in
+    end-counts (ledger s) (ledger t) m (records t) most c.args.root c.in_ok-next.next gone pairs c.requires.owns c.in_ok-next.ensures.rebuilds c.rebuild.ensures.makes (g.met.S.Store.recorded s) (ledger u) (records u) drops c.requires.keyed.tree.node
+
+pub returns-in_err-next-clause-others : goal.returns-in_err-next-clause-others
+returns-in_err-next-clause-others g c =
+    let records = g.S.Frozen.records in
+    others_kept (records c.args.store.now) (records c.rebuild.new.store) c.rebuild.ensures.makes.keeps
+
+pub returns-in_err-next-clause-left : goal.returns-in_err-next-clause-left
+returns-in_err-next-clause-left g c =
+    on_err c.from_residual.result c.rebuild.ensures.makes.keeps
+
+pub returns-in_err-next-clause-may : goal.returns-in_err-next-clause-may
+returns-in_err-next-clause-may g c =
+    c.rebuild.ensures.makes.may
+
+pub returns-in_err-next-clause-counts : goal.returns-in_err-next-clause-counts
+returns-in_err-next-clause-counts g c =
+    c.rebuild.ensures.makes.counts

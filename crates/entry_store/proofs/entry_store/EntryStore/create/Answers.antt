@@ -1,8 +1,9 @@
 use Rattle.std.proofs.Common.{refl, ap, ◌∙◌, cond, []}
 use Rattle.store_api.specs.Statuses.{has_record}
-use Rattle.entry_states.specs.Entries.{EntriesView, new_entries}
-use Rattle.entry_states.specs.Rows.{entries_of}
-use Rattle.entry_store.specs.Standing.{status_of}
+use Rattle.entry_ledger.specs.Entries.{EntriesView}
+use Rattle.entry_ledger.specs.Calls.{new_entries}
+use Rattle.entry_ledger.specs.Ledgers.{entries_of}
+use Rattle.entry_store.specs.Standing.{statuses}
 use Rattle.entry_store.proofs.Stands.{stands-new}
 use Rattle.entry_store.proofs.entry_store.EntryStore.create.Goals as goal
 
@@ -18,12 +19,12 @@ returns-in-Ok-clause-new g c =
     let new = c.in-Ok.ensures.new in
     record {
       unit = refl;
-      status = λ r. ap (λ (e : EntriesView). status_of 0 (e.state r)) new;
-      made = λ w. ap (λ (e : EntriesView). e.made w) new;
-      spare = λ w. ap (λ (e : EntriesView). e.spare w) new;
-      buffers = λ w. ap (λ (e : EntriesView). e.count w) new;
+      status = λ r. ap (λ (e : EntriesView). statuses (g.W.Work.knows c.args.work).commits e r) new;
+      counts = λ w. ap (λ (e : EntriesView). e.of_width w) new;
+      sealed = λ b. ap (λ (e : EntriesView). (e.mark b).sealed) new;
+      finished = ap (λ (e : EntriesView). e.finished) new;
     }
 
 pub returns-in-Ok-clause-records : goal.returns-in-Ok-clause-records
 returns-in-Ok-clause-records g c r =
-    ap (λ (e : EntriesView). cond (has_record (status_of 0 (e.state r))) (g.W.Frozen.records c.args.work r) []) c.in-Ok.ensures.new
+    ap (λ (e : EntriesView). cond (has_record (statuses (g.W.Work.knows c.args.work).commits e r)) (g.W.Frozen.records c.args.work r) []) c.in-Ok.ensures.new

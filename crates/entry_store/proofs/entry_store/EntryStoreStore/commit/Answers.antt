@@ -1,33 +1,23 @@
-use Rattle.std.proofs.Common.{arith}
-use Rattle.entry_store.proofs.Commits.{read-work, commit-adds, commit-stands, commit-ledger, commit-records}
-use Rattle.entry_states.specs.Rows.{entries_of}
+use Rattle.std.proofs.Common.{ap, ◌∙◌, arith}
+use Rattle.image_base.specs.Images.{words_at}
+use Rattle.entry_store.proofs.Storing.{adds-all, stores-commit}
 use Rattle.entry_store.proofs.entry_store.EntryStoreStore.commit.Goals as goal
 
-pub publish-self-requires : goal.publish-self-requires
-publish-self-requires g c =
-    let s = c.args.self.now in
-    (omega arith, ((read-work g.row.OFFSET_BITS g.W.Layout.Layout.reaches g.W.Layout.Layout.lawful g.W.Layout.Layout.present g.W.Layout.Layout.stays (g.W.Work.knows s.work) (g.W.Frozen.records s.work) (entries_of g.row.OFFSET_BITS s.entries) s.unit s.last s.active s.stands c.requires.unit (g.W.Frozen.shape s.work) c.args.root c.requires.lawful).0, c.requires.room))
+pub publish-commit-requires : goal.publish-commit-requires
+publish-commit-requires g c = (omega arith, (omega arith, (c.requires.unit, (c.requires.lawful, (c.requires.room, c.requires.whole)))))
 
-pub invariant_of-self : goal.invariant_of-self
-invariant_of-self g c =
-    let s = c.args.self.now in
-    let p = c.publish-self.ensures in
-    record { stands = commit-stands g.row.OFFSET_BITS g.W.Layout.Layout.reaches g.W.Layout.Layout.lawful g.W.Layout.Layout.present g.W.Layout.Layout.stays (g.W.Work.knows s.work) (g.W.Frozen.records s.work) (entries_of g.row.OFFSET_BITS s.entries) s.unit s.last s.active s.stands c.requires.unit (g.W.Frozen.shape s.work) c.args.root c.requires.lawful c.requires.exact (g.W.Work.knows c.publish-self.new.self) (g.W.Frozen.records c.publish-self.new.self) c.publish-self.result p.number p.commit p.knows p.records }
+pub end_commit-requires : goal.end_commit-requires
+end_commit-requires g c =
+    let p = c.publish-commit.ensures in
+    (omega arith, (p.unit, (p.records, (p.tagged, (p.apart, λ r i. ap (λ w. w.stored r i) p.publishes.work)))))
 
 pub returns-clause-commit : goal.returns-clause-commit
-returns-clause-commit g c =
-    let s = c.args.self.now in
-    let p = c.publish-self.ensures in
-    commit-adds g.row.OFFSET_BITS g.W.Layout.Layout.reaches g.W.Layout.Layout.lawful g.W.Layout.Layout.present g.W.Layout.Layout.stays (g.W.Work.knows s.work) (g.W.Frozen.records s.work) (entries_of g.row.OFFSET_BITS s.entries) s.unit s.last s.active s.stands c.requires.unit (g.W.Frozen.shape s.work) c.args.root c.requires.lawful c.requires.exact (g.W.Work.knows c.publish-self.new.self) (g.W.Frozen.records c.publish-self.new.self) c.publish-self.result p.number p.commit p.knows p.records
+returns-clause-commit g c = adds-all g.row.OFFSET_BITS _ _ _ _ _ c.end_commit.result c.publish-commit.ensures.publishes c.end_commit.ensures.ends
 
-pub returns-clause-ledger : goal.returns-clause-ledger
-returns-clause-ledger g c =
-    let s = c.args.self.now in
-    let p = c.publish-self.ensures in
-    commit-ledger g.row.OFFSET_BITS g.W.Layout.Layout.reaches g.W.Layout.Layout.lawful g.W.Layout.Layout.present g.W.Layout.Layout.stays (g.W.Work.knows s.work) (g.W.Frozen.records s.work) (entries_of g.row.OFFSET_BITS s.entries) s.unit s.last s.active s.stands c.requires.unit (g.W.Frozen.shape s.work) c.args.root c.requires.lawful c.requires.exact (g.W.Work.knows c.publish-self.new.self) (g.W.Frozen.records c.publish-self.new.self) c.publish-self.result p.number p.commit p.knows p.records _ p.shape
+pub returns-clause-stores : goal.returns-clause-stores
+returns-clause-stores g c = stores-commit g.row.OFFSET_BITS _ _ _ _ c.publish-commit.result c.end_commit.result c.publish-commit.ensures.publishes c.end_commit.ensures.ends c.end_commit.ensures.number
 
 pub returns-clause-records : goal.returns-clause-records
 returns-clause-records g c =
-    let s = c.args.self.now in
-    let p = c.publish-self.ensures in
-    commit-records g.row.OFFSET_BITS g.W.Layout.Layout.reaches g.W.Layout.Layout.lawful g.W.Layout.Layout.present g.W.Layout.Layout.stays (g.W.Work.knows s.work) (g.W.Frozen.records s.work) (entries_of g.row.OFFSET_BITS s.entries) s.unit s.last s.active s.stands c.requires.unit (g.W.Frozen.shape s.work) c.args.root c.requires.lawful c.requires.exact (g.W.Work.knows c.publish-self.new.self) (g.W.Frozen.records c.publish-self.new.self) c.publish-self.result p.number p.commit p.knows p.records
+    let p = c.publish-commit.ensures in
+    c.end_commit.ensures.records ∙ p.records ∙ ap words_at p.publishes.adds.image_is

@@ -1,0 +1,3 @@
+pub mod StackSteps
+pub mod StackRemoval
+pub mod Settling

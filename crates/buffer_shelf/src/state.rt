@@ -1,0 +1,94 @@
+ghost use Rattle.std.specs.Prelude.{◌≡◌};
+
+/// What an entry is.
+#[derive(Clone, Copy, Debug, PartialEq, Eq)]
+pub enum State {
+    Free,
+    /// Made and dropped by the unit under way.
+    Returned,
+    /// Made by the unit under way.
+    Made,
+    /// Made after that commit, or in it or before where it is not the last.
+    InUse { after: u32 },
+    /// Made since the last commit, and dropped by the unit under way.
+    LetGo,
+    /// Of the last commit, and dropped by the unit under way.
+    DroppedNow { after: u32 },
+    /// Dropped after that commit, and in that generation.
+    Dropped { after: u32, generation: u64 },
+}
+
+impl State {
+    ghost use Rattle.buffer_shelf.specs.States.{is_free_state, is_touched, is_dropped, dropped, accepted, undone, settled};
+
+    pub fn is_free(self) -> bool
+        ensures { result ≡ is_free_state self }
+    {
+        matches!(self, State::Free | State::Returned)
+    }
+
+    pub fn is_touched(self) -> bool
+        ensures { result ≡ is_touched self }
+    {
+        match self {
+            State::Returned | State::Made | State::LetGo | State::DroppedNow { .. } => true,
+            State::Free | State::InUse { .. } | State::Dropped { .. } => false,
+        }
+    }
+
+    /// Dropped by a unit that was accepted.
+    pub fn is_dropped(self) -> bool
+        ensures { result ≡ is_dropped self }
+    {
+        matches!(self, State::Dropped { .. })
+    }
+
+    /// What becomes of it when it is dropped.
+    pub fn dropped(self, last: u32) -> State
+        ensures { result ≡ dropped last self }
+    {
+        match self {
+            State::Made => State::Returned,
+            State::InUse { after } if after == last => State::LetGo,
+            State::InUse { after } => State::DroppedNow { after },
+            other => other,
+        }
+    }
+
+    /// What becomes of it when the unit is accepted.
+    fn accepted(self, last: u32, generation: u64) -> State
+        ensures { result ≡ accepted last generation self }
+    {
+        match self {
+            State::Returned | State::LetGo => State::Free,
+            State::Made => State::InUse { after: last },
+            State::DroppedNow { .. } => State::Dropped {
+                after: last,
+                generation,
+            },
+            other => other,
+        }
+    }
+
+    /// What becomes of it when the unit is undone.
+    fn undone(self, last: u32) -> State
+        ensures { result ≡ undone last self }
+    {
+        match self {
+            State::Returned | State::Made => State::Free,
+            State::LetGo => State::InUse { after: last },
+            State::DroppedNow { after } => State::InUse { after },
+            other => other,
+        }
+    }
+
+    pub fn settled(self, accepts: bool, last: u32, generation: u64) -> State
+        ensures { result ≡ settled accepts last generation self }
+    {
+        if accepts {
+            self.accepted(last, generation)
+        } else {
+            self.undone(last)
+        }
+    }
+}

@@ -1,0 +1,439 @@
+ghost use Rattle.std.specs.Prelude.{◌≡◌, ◌≢◌, ◌↔◌, ◌<◌, ◌≤◌, ◌+◌, ◌-◌, ◌*◌, ◌/◌, ◌^◌, if◌then◌else◌, ℕ, true, false};
+ghost use Rattle.std.specs.Prelude.{length, slice_set, Some, None, IsNone, IfSome, IfNone, IfOk, OnOk, OnErr};
+ghost use Rattle.entry_ref.specs.References.{buffer_limit, offset_limit, buffer_of};
+ghost use Rattle.store_api.specs.Ledgers.{is_width};
+ghost use Rattle.buffer_states.specs.Buffers.{buffer_at, is_free, is_active, is_on_hold};
+ghost use Rattle.buffer_shelf.specs.declared.state.State.{State};
+ghost use Rattle.entry_shelves.specs.Shelves.{shelf_at};
+ghost use Rattle.entry_ledger.specs.Ledgers.{entries_of, taken_buffer, dropped_buffer, settled_buffer};
+ghost use Rattle.entry_ledger.specs.Ledgers.{is_dropped_now, is_dead_after, touched_total, held_after, CanRelease, Releases};
+
+use buffer_shelf::State;
+use buffer_states::Buffers;
+use entry_ref::EntryRef;
+use entry_shelves::Shelves;
+use hold_lists::HoldList;
+use std::alloc::{AllocError, Global};
+use std::marker::Model;
+
+/// The states of all entries. What a unit did is kept or taken back at its end; what was dropped is held from the next commit on,
+/// until no reader can have it.
+#[derive(Drop)]
+pub struct EntryLedger<const OFFSET_BITS: u32> {
+    shelves: Shelves,
+    buffers: Buffers,
+    held: HoldList<OFFSET_BITS>,
+    unheld: u32,
+    last: u32,
+    generation: u64,
+    oldest: u64,
+    finished: Option<u32>,
+}
+
+impl<const OFFSET_BITS: u32> Model for EntryLedger<OFFSET_BITS> {
+    ghost use Rattle.entry_ledger.specs.Ledgers.{LedgerView, AreEntries};
+
+    ghost Value = { LedgerView };
+
+    ghost view = { λ l. record {
+      shelves = l.shelves;
+      buffers = l.buffers;
+      last = l.last;
+      generation = l.generation;
+      oldest = l.oldest;
+      finished = l.finished;
+    } };
+
+    ghost invariant = { λ l. AreEntries OFFSET_BITS
+        (record {
+          shelves = l.shelves;
+          buffers = l.buffers;
+          last = l.last;
+          generation = l.generation;
+          oldest = l.oldest;
+          finished = l.finished;
+        })
+        l.held.held l.held.room l.unheld };
+}
+
+impl<const OFFSET_BITS: u32> EntryLedger<OFFSET_BITS> {
+    ghost use Rattle.entry_ledger.specs.Entries.{IsGood, width_of, is_used_entry, is_settled_entry, is_dropped_since, count_marks};
+    ghost use Rattle.entry_ledger.specs.Calls.{new_entries, CanTake, made_at, opened_at, Drops, StepsEnd, IsEnded, Accepts, Undoes};
+    ghost use Rattle.entry_ledger.specs.Calls.{Frees, Seals, retired_at};
+    ghost use Rattle.entry_ledger.specs.Calls.{IsCandidate, IsVictim, IsLowestFree};
+
+    /// `buffers` free buffers of `words` words each.
+    #[tactic(none)]
+    pub fn create(alloc: Global, buffers: u32, words: u32) -> Result<Self, AllocError>
+        requires few_buffers { buffers < buffer_limit OFFSET_BITS }
+        requires some_words { 8192 ≤ words }
+        requires few_words { words ≤ 65536 }
+        requires offsets { words ≤ offset_limit OFFSET_BITS }
+        requires product { buffers * words ≤ 67108864 }
+        ensures new { IfOk result (λ e. entries_of OFFSET_BITS e ≡ new_entries buffers words) }
+        ensures good { IfOk result (λ e. IsGood OFFSET_BITS (entries_of OFFSET_BITS e)) }
+    {
+        let shelves = Shelves::create(alloc, buffers, words)?;
+        let buffers = Buffers::create(alloc, buffers)?;
+        let held = HoldList::create(alloc)?;
+        Ok(EntryLedger {
+            shelves,
+            buffers,
+            held,
+            unheld: 0,
+            last: 0,
+            generation: 0,
+            oldest: 0,
+            finished: None,
+        })
+    }
+
+    /// The words of an active buffer's entries, 0 for the others.
+    #[tactic(auto, unfolding(crate::specs::Ledgers::entries_of))]
+    pub fn width(&self, buffer: u32) -> u32
+        ensures { result ≡ width_of (entries_of OFFSET_BITS self.now) buffer }
+    {
+        self.shelves.width(buffer)
+    }
+
+    /// The state of an entry; None where it was not taken, or where there is no such entry.
+    #[tactic(auto, unfolding(crate::specs::Ledgers::entries_of))]
+    pub fn state(&self, entry: EntryRef<OFFSET_BITS>) -> Option<State>
+        ensures { result ≡ (entries_of OFFSET_BITS self.now).state entry.entry }
+    {
+        if entry.offset() == 0 {
+            return None;
+        }
+        self.shelves.state(entry.buffer(), entry.offset() - 1)
+    }
+
+    /// How often an entry of this width was made, up to the last 64-bit number.
+    #[tactic(auto, unfolding(crate::specs::Ledgers::entries_of))]
+    pub fn made(&self, width: u32) -> u64
+        requires { is_width width ≡ true }
+        ensures { result ≡ ((entries_of OFFSET_BITS self.now).of_width width).made }
+    {
+        self.shelves.made(width)
+    }
+
+    /// The sealed buffer that the next commit is to put on hold.
+    #[tactic(auto, unfolding(crate::specs::Ledgers::entries_of))]
+    pub fn finished(&self) -> Option<u32>
+        ensures { result ≡ (entries_of OFFSET_BITS self.now).finished }
+    {
+        self.finished
+    }
+
+    /// The free buffer of lowest number.
+    #[tactic(none)]
+    pub fn lowest_free(&self) -> Option<u32>
+        ensures none { IfNone result ((b : ℕ) → b < (entries_of OFFSET_BITS self.now).count
+            → is_free ((entries_of OFFSET_BITS self.now).mark b).state ≡ false) }
+        ensures lowest { IfSome result (IsLowestFree (entries_of OFFSET_BITS self.now)) }
+    {
+        self.buffers.lowest_free()
+    }
+
+    /// How many buffers are active.
+    #[tactic(none)]
+    pub fn active(&self) -> u32
+        ensures { result ≡ count_marks is_active (entries_of OFFSET_BITS self.now).mark (entries_of OFFSET_BITS self.now).count }
+    {
+        self.buffers.active()
+    }
+
+    /// How many buffers are on hold.
+    #[tactic(none)]
+    pub fn on_hold(&self) -> u32
+        ensures { result ≡ count_marks is_on_hold (entries_of OFFSET_BITS self.now).mark (entries_of OFFSET_BITS self.now).count }
+    {
+        self.buffers.on_hold()
+    }
+
+    /// The buffer of which a compaction has most to win, if any is worth it.
+    #[tactic(none)]
+    pub fn choose_victim(&self) -> Option<u32>
+        ensures none { IfNone result ((b : ℕ) → IsCandidate OFFSET_BITS (entries_of OFFSET_BITS self.now) b → ⊥) }
+        ensures victim { IfSome result (IsVictim OFFSET_BITS (entries_of OFFSET_BITS self.now)) }
+    {
+        self.buffers.choose_victim()
+    }
+
+    /// Makes an entry: a free one of the width, else the next offset of the buffer that is filled. None where there is neither.
+    #[tactic(none)]
+    pub fn take(&mut self, width: u32) -> Option<EntryRef<OFFSET_BITS>>
+        requires { is_width width ≡ true }
+        ensures none { IsNone result ↔ (((entries_of OFFSET_BITS self.old).of_width width).spare ≡ 0) }
+        ensures left { IfNone result (self.new ≡ self.old) }
+        ensures open { IfSome result (CanTake OFFSET_BITS (entries_of OFFSET_BITS self.old) width) }
+        ensures made { IfSome result (λ r. entries_of OFFSET_BITS self.new ≡ made_at (entries_of OFFSET_BITS self.old) width r) }
+        ensures good { IsGood OFFSET_BITS (entries_of OFFSET_BITS self.new) }
+    {
+        let taken = self.shelves.take(width)?;
+        count_take(&mut self.buffers, taken.buffer, taken.again);
+        Some(EntryRef::new(taken.place + 1, taken.buffer))
+    }
+
+    /// Drops an entry in use. What the unit made is free at once, what was made before since the last commit when the unit is
+    /// accepted.
+    #[tactic(none)]
+    pub fn drop_entry(&mut self, entry: EntryRef<OFFSET_BITS>)
+        requires used { is_used_entry ((entries_of OFFSET_BITS self.old).state entry) ≡ true }
+        ensures drops { (s : State) → (entries_of OFFSET_BITS self.old).state entry.entry ≡ Some s
+            → Drops (entries_of OFFSET_BITS self.old) (entries_of OFFSET_BITS self.new) entry.entry s }
+        ensures good { IsGood OFFSET_BITS (entries_of OFFSET_BITS self.new) }
+    {
+        let buffer = entry.buffer();
+        let now = self
+            .shelves
+            .drop_entry(buffer, entry.offset() - 1, self.last);
+        count_drop(&mut self.buffers, buffer, now);
+    }
+
+    /// Ends the unit and keeps what it did.
+    #[tactic(none)]
+    pub fn accept(&mut self)
+        ensures accepts { Accepts (entries_of OFFSET_BITS self.old) (entries_of OFFSET_BITS self.new) }
+        ensures good { IsGood OFFSET_BITS (entries_of OFFSET_BITS self.new) }
+    {
+        while self.settle(true) {}
+    }
+
+    /// Ends the unit and takes back what it did. What it made is free.
+    #[tactic(none)]
+    pub fn undo(&mut self)
+        ensures undoes { Undoes (entries_of OFFSET_BITS self.old) (entries_of OFFSET_BITS self.new) }
+        ensures good { IsGood OFFSET_BITS (entries_of OFFSET_BITS self.new) }
+    {
+        while self.settle(false) {}
+    }
+
+    /// Ends the unit for one entry that it changed. False where there is no more.
+    #[tactic(none)]
+    fn settle(&mut self, accepts: bool) -> bool
+        ensures ended { result ≡ false → IsEnded (entries_of OFFSET_BITS self.old) }
+        ensures left { result ≡ false → self.new ≡ self.old }
+        ensures step { result ≡ true → StepsEnd accepts (entries_of OFFSET_BITS self.old) (entries_of OFFSET_BITS self.new) }
+        ensures less { result ≡ true → touched_total self.new + 1 ≡ touched_total self.old }
+        ensures good { IsGood OFFSET_BITS (entries_of OFFSET_BITS self.new) }
+    {
+        let Some(entry) = self.shelves.settle(accepts, self.last, self.generation) else {
+            return false;
+        };
+        count_settled(&mut self.buffers, entry.buffer, accepts, entry.was);
+        let reference = EntryRef::new(entry.place + 1, entry.buffer);
+        let enters = accepts & is_dropped_now(entry.was);
+        self.unheld = hold(&mut self.held, self.unheld, reference, enters);
+        true
+    }
+
+    /// Counts a commit of this number: what was dropped is held, under its tag.
+    #[tactic(none)]
+    pub fn commit(&mut self, number: u32)
+        requires next { (entries_of OFFSET_BITS self.old).last + 1 ≡ number }
+        requires settled { (r : ℕ) → is_settled_entry ((entries_of OFFSET_BITS self.old).state r) ≡ true }
+        ensures commit { entries_of OFFSET_BITS self.new ≡ record (entries_of OFFSET_BITS self.old) { last = number } }
+        ensures good { IsGood OFFSET_BITS (entries_of OFFSET_BITS self.new) }
+    {
+        self.held.tag(self.generation, number);
+        self.buffers.hold_dropped();
+        self.last = number;
+    }
+
+    /// Another generation is the current one.
+    #[tactic(none)]
+    pub fn advance_to(&mut self, generation: u64)
+        requires rises { (entries_of OFFSET_BITS self.old).generation ≤ generation }
+        requires tagged { (r : ℕ)
+            → is_dropped_since (entries_of OFFSET_BITS self.old).last ((entries_of OFFSET_BITS self.old).state r) ≡ false }
+        ensures advanced { entries_of OFFSET_BITS self.new ≡ record (entries_of OFFSET_BITS self.old) { generation = generation } }
+        ensures good { IsGood OFFSET_BITS (entries_of OFFSET_BITS self.new) }
+    {
+        self.generation = generation;
+    }
+
+    /// Frees the entries and the buffers that are held under a generation below `oldest`.
+    #[tactic(none)]
+    pub fn free_below(&mut self, oldest: u64)
+        requires rises { (entries_of OFFSET_BITS self.old).oldest ≤ oldest }
+        requires current { oldest ≤ (entries_of OFFSET_BITS self.old).generation }
+        ensures frees { Frees (entries_of OFFSET_BITS self.old) (entries_of OFFSET_BITS self.new) oldest }
+        ensures good { IsGood OFFSET_BITS (entries_of OFFSET_BITS self.new) }
+    {
+        while let Some(entry) = self.held.pop_below(oldest) {
+            self.unheld = release(&mut self.shelves, &mut self.buffers, self.unheld, entry);
+        }
+        self.buffers.free_below(oldest);
+        self.oldest = oldest;
+    }
+
+    /// Opens a free buffer for entries of a width that has none to spare. It is filled from now on.
+    #[tactic(none)]
+    pub fn open_buffer(&mut self, buffer: u32, width: u32) -> Result<(), AllocError>
+        requires inside { buffer < (entries_of OFFSET_BITS self.old).count }
+        requires free { is_free ((entries_of OFFSET_BITS self.old).mark buffer).state ≡ true }
+        requires width { is_width width ≡ true }
+        requires spare { ((entries_of OFFSET_BITS self.old).of_width width).spare ≡ 0 }
+        ensures ok { OnOk result (entries_of OFFSET_BITS self.new ≡ opened_at (entries_of OFFSET_BITS self.old) buffer width) }
+        ensures err { OnErr result (entries_of OFFSET_BITS self.new ≡ entries_of OFFSET_BITS self.old) }
+        ensures good { IsGood OFFSET_BITS (entries_of OFFSET_BITS self.new) }
+    {
+        let room = self.shelves.words() / width - 1;
+        self.held.reserve(self.unheld + room)?;
+        self.shelves.open(buffer, width)?;
+        self.unheld += room;
+        self.buffers.activate(buffer, width);
+        Ok(())
+    }
+
+    /// Marks an active buffer, which is not the filled one of its width: nothing of it is made any more.
+    #[tactic(none)]
+    pub fn seal(&mut self, buffer: u32)
+        requires active { is_active ((entries_of OFFSET_BITS self.old).mark buffer).state ≡ true }
+        requires unfilled { ((entries_of OFFSET_BITS self.old).of_width ((entries_of OFFSET_BITS self.old).mark buffer).width).filled
+            ≢ Some buffer }
+        ensures seals { Seals (entries_of OFFSET_BITS self.old) (entries_of OFFSET_BITS self.new) buffer }
+        ensures good { IsGood OFFSET_BITS (entries_of OFFSET_BITS self.new) }
+    {
+        self.shelves.seal(buffer);
+        self.buffers.seal(buffer);
+    }
+
+    /// Marks a sealed buffer for hold in the next commit.
+    #[tactic(none)]
+    pub fn finish(&mut self, buffer: u32)
+        requires sealed { ((entries_of OFFSET_BITS self.old).mark buffer).sealed ≡ true }
+        requires none { (entries_of OFFSET_BITS self.old).finished ≡ None }
+        ensures finished { entries_of OFFSET_BITS self.new ≡ record (entries_of OFFSET_BITS self.old) { finished = Some buffer } }
+        ensures good { IsGood OFFSET_BITS (entries_of OFFSET_BITS self.new) }
+    {
+        self.finished = Some(buffer);
+    }
+
+    /// Puts the finished buffer on hold, with all its entries.
+    #[tactic(none)]
+    pub fn retire(&mut self, buffer: u32)
+        requires finished { (entries_of OFFSET_BITS self.old).finished ≡ Some buffer }
+        requires settled { (r : ℕ) → is_settled_entry ((entries_of OFFSET_BITS self.old).state r) ≡ true }
+        requires tagged { (r : ℕ)
+            → is_dropped_since (entries_of OFFSET_BITS self.old).last ((entries_of OFFSET_BITS self.old).state r) ≡ false }
+        ensures retired { entries_of OFFSET_BITS self.new ≡ retired_at OFFSET_BITS (entries_of OFFSET_BITS self.old) buffer }
+        ensures good { IsGood OFFSET_BITS (entries_of OFFSET_BITS self.new) }
+    {
+        self.unheld -= self.shelves.unheld(buffer);
+        self.shelves.close(buffer);
+        self.buffers.put_on_hold(buffer, self.generation);
+        self.finished = None;
+    }
+}
+
+/// Counts an entry that is made: in a free place again, or in the next.
+fn count_take(buffers: &mut Buffers, buffer: u32, again: bool)
+    requires inside { buffer < length buffers.old }
+    requires next { again ≡ false → (buffer_at buffers.old buffer).used + (buffer_at buffers.old buffer).width < 2 ^ 32 }
+    requires free { again ≡ true → (buffer_at buffers.old buffer).width ≤ (buffer_at buffers.old buffer).dead }
+    ensures { buffers.new ≡ slice_set buffers.old buffer (taken_buffer again (buffer_at buffers.old buffer)) }
+{
+    if again {
+        buffers.take_free(buffer);
+    } else {
+        buffers.take_next(buffer);
+    }
+}
+
+/// Counts an entry that came to this state by a drop.
+fn count_drop(buffers: &mut Buffers, buffer: u32, now: State)
+    requires inside { buffer < length buffers.old }
+    requires dead { (buffer_at buffers.old buffer).dead + (buffer_at buffers.old buffer).width < 2 ^ 32 }
+    requires dropped { (buffer_at buffers.old buffer).dropped + (buffer_at buffers.old buffer).width < 2 ^ 32 }
+    ensures { buffers.new ≡ slice_set buffers.old buffer (dropped_buffer now (buffer_at buffers.old buffer)) }
+{
+    match now {
+        State::Returned => buffers.give_back(buffer),
+        State::DroppedNow { .. } => buffers.drop_entry(buffer),
+        State::Free | State::Made | State::InUse { .. } | State::LetGo | State::Dropped { .. } => {}
+    }
+}
+
+/// Counts an entry of this state that is settled.
+fn count_settled(buffers: &mut Buffers, buffer: u32, accepts: bool, was: State)
+    requires inside { buffer < length buffers.old }
+    requires given { is_dead_after accepts was ≡ true
+        → (buffer_at buffers.old buffer).dead + (buffer_at buffers.old buffer).width < 2 ^ 32 }
+    requires dead { accepts ≡ false → is_dropped_now was ≡ true
+        → (buffer_at buffers.old buffer).width ≤ (buffer_at buffers.old buffer).dead }
+    requires dropped { accepts ≡ false → is_dropped_now was ≡ true
+        → (buffer_at buffers.old buffer).width ≤ (buffer_at buffers.old buffer).dropped }
+    ensures { buffers.new ≡ slice_set buffers.old buffer (settled_buffer accepts was (buffer_at buffers.old buffer)) }
+{
+    if accepts {
+        match was {
+            State::LetGo => buffers.give_back(buffer),
+            State::Free
+            | State::Returned
+            | State::Made
+            | State::InUse { .. }
+            | State::DroppedNow { .. }
+            | State::Dropped { .. } => {}
+        }
+    } else {
+        match was {
+            State::Made => buffers.give_back(buffer),
+            State::DroppedNow { .. } => buffers.keep_entry(buffer),
+            State::Free
+            | State::Returned
+            | State::InUse { .. }
+            | State::LetGo
+            | State::Dropped { .. } => {}
+        }
+    }
+}
+
+fn is_dropped_now(state: State) -> bool
+    ensures { result ≡ is_dropped_now state }
+{
+    matches!(state, State::DroppedNow { .. })
+}
+
+/// Puts an entry on the list, where that is to be, and answers how many are not on it.
+fn hold<const OFFSET_BITS: u32>(
+    held: &mut HoldList<OFFSET_BITS>,
+    unheld: u32,
+    entry: EntryRef<OFFSET_BITS>,
+    enters: bool,
+) -> u32
+    requires room { enters ≡ true → 0 < held.old.room }
+    requires some { enters ≡ true → 0 < unheld }
+    ensures held { held.new ≡ held_after enters entry.entry held.old }
+    ensures unheld { result ≡ (if enters then unheld - 1 else unheld) }
+{
+    if enters {
+        held.push(entry);
+        unheld - 1
+    } else {
+        unheld
+    }
+}
+
+/// Makes an entry free that was on the list, where its buffer has entries still, and answers how many are not on it then.
+fn release<const OFFSET_BITS: u32>(
+    shelves: &mut Shelves,
+    buffers: &mut Buffers,
+    unheld: u32,
+    entry: EntryRef<OFFSET_BITS>,
+) -> u32
+    requires { 0 < (shelf_at shelves.old.shelves (buffer_of OFFSET_BITS entry)).width
+        → CanRelease OFFSET_BITS shelves.old buffers.old unheld entry }
+    ensures free { 0 < (shelf_at shelves.old.shelves (buffer_of OFFSET_BITS entry.entry)).width
+        → Releases OFFSET_BITS entry.entry shelves.old shelves.new buffers.old buffers.new unheld result }
+    ensures gone { (shelf_at shelves.old.shelves (buffer_of OFFSET_BITS entry.entry)).width ≡ 0
+        → (shelves.new ≡ shelves.old) × (buffers.new ≡ buffers.old) × (result ≡ unheld) }
+{
+    let buffer = entry.buffer();
+    if shelves.width(buffer) == 0 {
+        return unheld;
+    }
+    shelves.release(buffer, entry.offset() - 1);
+    buffers.release(buffer);
+    unheld + 1
+}

@@ -1,2 +1,0 @@
-pub mod StackSteps
-pub mod Settling

@@ -1,0 +1,97 @@
+-- An entry of a shelf is made, dropped, settled or released: what its counts are then.
+use Rattle.std.proofs.Common.{◌≡◌, ℕ, ◌+◌, ◌<◌, ◌≤◌, Bool, true, false, not, ◌&&◌, cond, [], ◌∷◌, ◌++◌, length, set, refl, sym, ap, ◌∙◌, arith, inl, inr, get_or-set_same}
+use Rattle.std.specs.Prelude.{nat_lt}
+use Rattle.std.specs.List.{count_by}
+use Rattle.std.proofs.Math.ListN.{length-set}
+use Rattle.std.proofs.Math.Seq.{get_or-append_seam}
+use Rattle.std.proofs.lemmas.List.{length_push}
+use Rattle.std.proofs.lemmas.List.Sums.{sum_by_push}
+use Rattle.std.proofs.lemmas.Bool.{cases_eq, eq-eqb, ne_eqb, true≢false, lt-ltb, ltb-true}
+use Rattle.list_facts.specs.Counting.{one_if}
+use Rattle.list_facts.proofs.Counts.{count_by-set}
+use Rattle.buffer_shelf.specs.declared.state.State.{State}
+use Rattle.buffer_shelf.specs.declared.state.State.TheVariants.{Free, Made}
+use Rattle.buffer_shelf.specs.States.{ShelfView, can_make, has_touched, spare_of, is_free_state, is_touched, state_at, IsOpen, with_made, with_state_at}
+use Rattle.buffer_shelf.proofs.StackSteps.{count-some}
+
+-- after a take one less is to spare
+pub made-spare : (s : ShelfView) (x : ℕ) → length s.states ≤ s.room → IsOpen s x → spare_of (with_made s x) + 1 ≡ spare_of s
+made-spare s x fits can = elim (cases_eq x (length s.states)) [
+  | inl e ↦
+      (let is : with_made s x ≡ record s { states = s.states ++ Made ∷ [] } = ap (λ t. record s { states = cond t (s.states ++ Made ∷ []) (set s.states x Made) }) (eq-eqb x (length s.states) e) in
+      let count : count_by is_free_state (s.states ++ Made ∷ []) ≡ count_by is_free_state s.states + 0 = sum_by_push (λ t. cond (is_free_state t) 1 0) s.states Made in
+      ap (λ v. spare_of v + 1) is ∙ omega (arith, count, (can.next e).0, e, length_push s.states Made))
+  | inr ne ↦
+      (let is : with_made s x ≡ record s { states = set s.states x Made } = ap (λ t. record s { states = cond t (s.states ++ Made ∷ []) (set s.states x Made) }) (ne_eqb x (length s.states) ne) in
+      let below : x < length s.states = omega (arith, can.within, ne) in
+      let count = count_by-set is_free_state s.states x Made Free below in
+      let was : one_if (is_free_state (state_at s.states x)) ≡ 1 = ap one_if (can.free below) in
+      ap (λ v. spare_of v + 1) is ∙ omega (arith, count, was, length-set {A = State} s.states x Made))
+]
+
+-- and the unit has changed an entry
+pub made-touched : (s : ShelfView) (x : ℕ) → IsOpen s x → has_touched (with_made s x) ≡ true
+made-touched s x can = elim (cases_eq x (length s.states)) [
+  | inl e ↦
+      (let is : with_made s x ≡ record s { states = s.states ++ Made ∷ [] } = ap (λ t. record s { states = cond t (s.states ++ Made ∷ []) (set s.states x Made) }) (eq-eqb x (length s.states) e) in
+      let some : 0 < count_by is_touched (s.states ++ Made ∷ []) =
+      count-some Free is_touched (s.states ++ Made ∷ []) (length s.states) (omega (arith, length_push s.states Made)) (ap is_touched (get_or-append_seam s.states Made [] Free)) in
+      ap has_touched is ∙ lt-ltb 0 _ some)
+  | inr ne ↦
+      (let is : with_made s x ≡ record s { states = set s.states x Made } = ap (λ t. record s { states = cond t (s.states ++ Made ∷ []) (set s.states x Made) }) (ne_eqb x (length s.states) ne) in
+      let below : x < length s.states = omega (arith, can.within, ne) in
+      let some : 0 < count_by is_touched (set s.states x Made) =
+      count-some Free is_touched (set s.states x Made) x (omega (arith, below, length-set {A = State} s.states x Made)) (ap is_touched (get_or-set_same s.states x Made Free below)) in
+      ap has_touched is ∙ lt-ltb 0 _ some)
+]
+
+pub made-taken : (s : ShelfView) (x : ℕ) → length s.states ≤ s.room → IsOpen s x → length (with_made s x).states ≤ s.room
+made-taken s x fits can = elim (cases_eq x (length s.states)) [
+  | inl e ↦
+      (let is : length (with_made s x).states ≡ length (s.states ++ Made ∷ []) = ap (λ t. length (cond t (s.states ++ Made ∷ []) (set s.states x Made))) (eq-eqb x (length s.states) e) in
+      omega (arith, is, (can.next e).0, e, length_push s.states Made))
+  | inr ne ↦
+      (let is : length (with_made s x).states ≡ length (set s.states x Made) = ap (λ t. length (cond t (s.states ++ Made ∷ []) (set s.states x Made))) (ne_eqb x (length s.states) ne) in
+      omega (arith, is, fits, length-set {A = State} s.states x Made))
+]
+
+-- where one entry has another state, what was free is free still
+pub state-spare : (s : ShelfView) (x : ℕ) (state : State) → x < length s.states → (is_free_state (state_at s.states x) ≡ true → is_free_state state ≡ true)
+    → spare_of s ≤ spare_of (with_state_at s x state)
+state-spare s x state below keeps =
+    let count = count_by-set is_free_state s.states x state Free below in
+    let less : one_if (is_free_state (state_at s.states x)) ≤ one_if (is_free_state state) = by_test (is_free_state (state_at s.states x)) (is_free_state state) keeps in
+    omega (arith, count, less, length-set {A = State} s.states x state)
+  where
+    by_test : (t u : Bool) → (t ≡ true → u ≡ true) → one_if t ≤ one_if u
+    by_test true true k = omega arith
+    by_test true false k = absurd (true≢false (sym (k refl)))
+    by_test false u k = omega arith
+
+-- so it can be made in if it could
+pub state-can : (s : ShelfView) (x : ℕ) (state : State) → x < length s.states → (is_free_state (state_at s.states x) ≡ true → is_free_state state ≡ true)
+    → can_make s ≡ true → can_make (with_state_at s x state) ≡ true
+state-can s x state below keeps = by_seal s.sealed
+  where
+    more : spare_of s ≤ spare_of (with_state_at s x state)
+    more = state-spare s x state below keeps
+
+    by_seal : (t : Bool) → (not t && nat_lt 0 (spare_of s)) ≡ true → (not t && nat_lt 0 (spare_of (with_state_at s x state))) ≡ true
+    by_seal true e = e
+    by_seal false e = (let some = ltb-true 0 (spare_of s) e in lt-ltb 0 _ (omega (arith, some, more)))
+
+pub made-length : (s : ShelfView) (x : ℕ) → IsOpen s x → length s.states ≤ length (with_made s x).states
+made-length s x can = elim (cases_eq x (length s.states)) [
+  | inl e ↦
+      (let is : length (with_made s x).states ≡ length (s.states ++ Made ∷ []) = ap (λ t. length (cond t (s.states ++ Made ∷ []) (set s.states x Made))) (eq-eqb x (length s.states) e) in
+      omega (arith, is, length_push s.states Made))
+  | inr ne ↦
+      (let is : length (with_made s x).states ≡ length (set s.states x Made) = ap (λ t. length (cond t (s.states ++ Made ∷ []) (set s.states x Made))) (ne_eqb x (length s.states) ne) in
+      omega (arith, is, length-set {A = State} s.states x Made))
+]
+
+-- where an entry was not taken, one can be made
+pub can-from : (s : ShelfView) → s.sealed ≡ false → length s.states < s.room → can_make s ≡ true
+can-from s unsealed less =
+    let some : 0 < spare_of s = omega (arith, less) in
+    ap (λ t. not t && nat_lt 0 (spare_of s)) unsealed ∙ lt-ltb 0 (spare_of s) some

@@ -1,8 +1,0 @@
-//! The state of each entry of all buffers.
-#![tactic(auto)]
-
-mod entries;
-mod row;
-mod slot;
-
-pub use entries::Entries;

@@ -1,0 +1,44 @@
+-- What the calls of a unit leave, and how many entries they make.
+use Rattle.std.specs.Prelude.{◌≡◌, ◌⊎◌, ℕ, ◌+◌, ◌*◌, ◌≤◌, true, min}
+use Rattle.arena_api.specs.Works.{Commits, last_image, newest_of}
+use Rattle.store_api.specs.Statuses.{Status, in_use, is_open, can_become_free}
+use Rattle.store_api.specs.Ledgers.{Ledger, OfWidth}
+
+-- only old commits are let go
+pub record KeepsCommits (old new : Commits) : Type 0 where
+  pub last : new.last ≡ old.last
+  pub image : last_image new ≡ last_image old
+  pub rises : old.floor ≤ new.floor
+  pub kept : (n : ℕ) → new.floor ≤ n → n ≤ old.last → new.image n ≡ old.image n
+
+-- an undo gives the same back, but that an offset taken since is free, and what is held no more
+abbrev pub IsSameBack : Status → Status → Type 0
+IsSameBack old new = (new ≡ old) ⊎ ((can_become_free old ≡ true) × (new ≡ Status.free))
+
+-- what make and drop_entry may do within a unit
+pub record MayDo {H : Type 0} (old new : Ledger H) : Type 0 where
+  pub unit : new.unit ≡ old.unit
+  pub home : new.work.home ≡ old.work.home
+  pub shape : new.shape ≡ old.shape
+  pub sizes : new.work.sizes ≡ old.work.sizes
+  pub commits : KeepsCommits old.work.commits new.work.commits
+  pub told : new.work.told ≡ old.work.told
+  pub readers : new.work.made ≡ old.work.made
+  pub stops : old.work.stops ≤ new.work.stops
+  pub alone : old.work.made ≡ 0 → new.work.stops ≡ old.work.stops
+  pub newest : newest_of new.work.queue ≡ newest_of old.work.queue
+  pub sealed : new.sealed ≡ old.sealed
+  pub finished : new.finished ≡ old.finished
+  pub made : (width : ℕ) → (old.of_width width).made ≤ (new.of_width width).made
+  pub back : (r : ℕ) → IsSameBack (old.back r) (new.back r)
+  pub back_records : new.back_records ≡ old.back_records
+  -- an entry newly in use was made by the unit
+  pub newly : (r : ℕ) → in_use (new.status r) ≡ true → (in_use (old.status r) ≡ true) ⊎ (is_open (new.back r) ≡ true)
+
+-- in one width at most so many entries were made; a buffer was handed out only where nothing was to spare, so of at most as many
+-- entries as fit a buffer at most one buffer was handed out
+pub record MakesAtMost (capacity most : ℕ) (old new : OfWidth) : Type 0 where
+  pub made : new.made ≤ old.made + most
+  pub fresh : new.fresh ≤ old.fresh + most
+  pub buffers : new.buffers ≤ old.buffers + most
+  pub room : new.buffers * capacity + min old.spare capacity ≤ most + min new.spare capacity + old.buffers * capacity

@@ -1,0 +1,201 @@
+ghost use Rattle.std.specs.Prelude.{◌≡◌, ◌<◌, ◌≤◌, true, false, [], ◌∷◌, None, IfOk, OnOk};
+ghost use Rattle.entry_ref.specs.References.{buffer_of};
+ghost use Rattle.store_api.specs.Ledgers.{is_width, is_this, IsNew};
+ghost use Rattle.store_api.specs.Parts.{OwnsAll, entry};
+
+use crate::stores::{Filled, fill, fill_undone, new_store};
+use arena_api::{Advance, Oldest};
+use entry_ref::EntryRef;
+use mem_work::OneRecord;
+use std::test::Fail;
+use store_api::{Store, StoreError, Stored, drop_one, make_entry};
+
+/// A first record, where nothing is in use.
+fn make_root<const OFFSET_BITS: u32, S: Store<OFFSET_BITS>>(
+    store: &mut S,
+    width: u32,
+) -> Result<EntryRef<OFFSET_BITS>, StoreError>
+    requires unit { (S.ledger store.old).unit ≡ false }
+    requires width { is_width width ≡ true }
+    requires owns { OwnsAll (S.ledger store.old) (S.records store.old) [] }
+    ensures unit { OnOk result ((S.ledger store.new).unit ≡ false) }
+    ensures owns { IfOk result (λ r. OwnsAll (S.ledger store.new) (S.records store.new) (entry r ∷ [])) }
+    ensures apart { IfOk result (λ r. is_this (S.ledger store.new).finished (buffer_of OFFSET_BITS r) ≡ false) }
+{
+    store.begin();
+    let root = make_entry(store, width, &[])?;
+    store.accept();
+    Ok(root)
+}
+
+/// Another record in place of the one that is in use.
+fn next_root<const OFFSET_BITS: u32, S: Store<OFFSET_BITS>>(
+    store: &mut S,
+    width: u32,
+    root: EntryRef<OFFSET_BITS>,
+) -> Result<EntryRef<OFFSET_BITS>, StoreError>
+    requires unit { (S.ledger store.old).unit ≡ false }
+    requires width { is_width width ≡ true }
+    requires owns { OwnsAll (S.ledger store.old) (S.records store.old) (entry root ∷ []) }
+    ensures unit { OnOk result ((S.ledger store.new).unit ≡ false) }
+    ensures owns { IfOk result (λ r. OwnsAll (S.ledger store.new) (S.records store.new) (entry r ∷ [])) }
+    ensures apart { IfOk result (λ r. is_this (S.ledger store.new).finished (buffer_of OFFSET_BITS r) ≡ false) }
+{
+    store.begin();
+    let next = make_entry(store, width, &[])?;
+    drop_one(store, root);
+    store.accept();
+    Ok(next)
+}
+
+/// Commits the record that is in use, where a commit can be made.
+fn commit_root<const OFFSET_BITS: u32, S: Store<OFFSET_BITS, Layout = OneRecord>>(
+    store: &mut S,
+    root: EntryRef<OFFSET_BITS>,
+) -> Option<Stored>
+    requires unit { (S.ledger store.old).unit ≡ false }
+    requires owns { OwnsAll (S.ledger store.old) (S.records store.old) (entry root ∷ []) }
+    requires apart { is_this (S.ledger store.old).finished (buffer_of OFFSET_BITS root) ≡ false }
+    ensures unit { (S.ledger store.new).unit ≡ false }
+    ensures owns { OwnsAll (S.ledger store.new) (S.records store.new) (entry root.entry ∷ []) }
+{
+    if store.commits_left() == 0 {
+        return None;
+    }
+    Some(store.commit(root))
+}
+
+/// Four records, each in place of the one before and committed, and what the last commit answers.
+fn replace_roots<const OFFSET_BITS: u32, S: Store<OFFSET_BITS, Layout = OneRecord>>(
+    store: &mut S,
+    width: u32,
+) -> Result<([u32; 4], Option<Stored>), StoreError>
+    requires new { IsNew (S.ledger store.old) }
+    requires width { is_width width ≡ true }
+{
+    let first = make_root(store, width)?;
+    let _ = commit_root(store, first);
+    let second = next_root(store, width, first)?;
+    let _ = commit_root(store, second);
+    let third = next_root(store, width, second)?;
+    let _ = commit_root(store, third);
+    let fourth = next_root(store, width, third)?;
+    let last = commit_root(store, fourth);
+    Ok(([first.raw(), second.raw(), third.raw(), fourth.raw()], last))
+}
+
+#[test]
+fn what_is_dropped_is_made_again_after_a_commit(rt: HostRuntime) -> Result<(), Fail> {
+    let mut store = new_store::<22>(rt.alloc(), 1)?;
+    let last = Stored {
+        commit: 4,
+        advance: Advance::To {
+            generation: 4,
+            hold: 0,
+        },
+        oldest: Oldest {
+            generation: 4,
+            hold: 0,
+            found: 0,
+            newest: true,
+        },
+    };
+    assert_eq!(rt;
+        replace_roots::<22, _>(&mut store, 1024),
+        Ok(([1024, 2048, 1024, 2048], Some(last)))
+    );
+    assert_eq!(rt;
+        (store.made(1024), store.commits_left()),
+        (4, 4_294_967_291)
+    );
+    Ok(())
+}
+
+/// What is made of a width where a committed record was dropped in the unit, and where the drop was undone.
+fn fill_after_drop<const OFFSET_BITS: u32, S: Store<OFFSET_BITS, Layout = OneRecord>>(
+    store: &mut S,
+    width: u32,
+) -> Result<[Filled; 2], StoreError>
+    requires new { IsNew (S.ledger store.old) }
+    requires width { is_width width ≡ true }
+{
+    let root = make_root(store, width)?;
+    let _ = commit_root(store, root);
+    store.begin();
+    drop_one(store, root);
+    let dropped = fill(store, width);
+    store.undo();
+    Ok([dropped, fill_undone(store, width)])
+}
+
+#[test]
+fn what_a_commit_has_is_not_made_again(rt: HostRuntime) -> Result<(), Fail> {
+    let mut store = new_store::<22>(rt.alloc(), 1)?;
+    let full = StoreError::Full {
+        width: 1024,
+        active: 1,
+        held: 0,
+        oldest: Oldest {
+            generation: 1,
+            hold: 0,
+            found: 0,
+            newest: true,
+        },
+    };
+    let both = fill_after_drop::<22, _>(&mut store, 1024)?;
+    assert_eq!(rt; both[0], (6, 7168, Some(full)));
+    assert_eq!(rt; (both[1].0, both[1].2), (6, Some(full)));
+    Ok(())
+}
+
+/// Seals the victim, if there is one, and finishes it where that is wanted.
+fn seal_victim<const OFFSET_BITS: u32, S: Store<OFFSET_BITS>>(
+    store: &mut S,
+    finishes: bool,
+) -> Option<u32>
+    requires unit { (S.ledger store.old).unit ≡ false }
+    requires none { (S.ledger store.old).finished ≡ None }
+    requires owns { OwnsAll (S.ledger store.old) (S.records store.old) [] }
+    ensures unit { (S.ledger store.new).unit ≡ false }
+    ensures owns { OwnsAll (S.ledger store.new) (S.records store.new) [] }
+{
+    match store.choose_victim() {
+        Some(buffer) => {
+            store.seal(buffer);
+            if finishes {
+                store.finish(buffer);
+                return Some(buffer);
+            }
+            Some(buffer)
+        }
+        None => None,
+    }
+}
+
+/// What is made where two buffers were filled and are free again; then where the victim was sealed and a record
+/// was made; and then after a commit, which puts the victim on hold if it is finished.
+fn empty_victim<const OFFSET_BITS: u32, S: Store<OFFSET_BITS, Layout = OneRecord>>(
+    store: &mut S,
+    finishes: bool,
+) -> Result<(Option<u32>, [Filled; 3]), StoreError>
+    requires new { IsNew (S.ledger store.old) }
+{
+    let first = fill_undone(store, 1024);
+    let victim = seal_victim(store, finishes);
+    let root = make_root(store, 1024)?;
+    let sealed = fill_undone(store, 1024);
+    let _ = commit_root(store, root);
+    Ok((victim, [first, sealed, fill_undone(store, 34)]))
+}
+
+#[test]
+fn a_victim_goes_on_hold_with_all_its_entries(rt: HostRuntime) -> Result<(), Fail> {
+    // whether the victim is finished, and how many entries of 34 words are made then
+    for (finishes, made) in [(false, 0), (true, 239)] {
+        let mut store = new_store::<22>(rt.alloc(), 2)?;
+        let (victim, [first, sealed, wide]) = empty_victim::<22, _>(&mut store, finishes)?;
+        assert_eq!(rt; victim, Some(0));
+        assert_eq!(rt; (first.0, sealed.0, wide.0), (14, 6, made));
+    }
+    Ok(())
+}

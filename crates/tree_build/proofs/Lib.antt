@@ -1,0 +1,5 @@
+pub mod LeafLemmas
+pub mod TreeLemmas
+pub mod GroupLemmas
+pub mod RowLemmas
+pub mod BuildLemmas

@@ -1,0 +1,4 @@
+pub mod PathLemmas
+pub mod CopyLemmas
+pub mod TouchLemmas
+pub mod TreeLemmas

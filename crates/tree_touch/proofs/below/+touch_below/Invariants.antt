@@ -1,0 +1,4 @@
+use Rattle.tree_touch.proofs.below.+touch_below.Given as goal
+
+abbrev pub decreases-touch_below : goal.decreases-touch_below
+decreases-touch_below g l = l.level
