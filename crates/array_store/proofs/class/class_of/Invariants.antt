@@ -1,0 +1,8 @@
+use Rattle.std.proofs.Common.{◌≡◌, drop, nat_le}
+use Rattle.std.specs.List.{find}
+use Rattle.attr_images.specs.Words.{classes}
+use Rattle.array_store.proofs.class.class_of.Given as goal
+
+-- the widths that are left hold it just where all do
+abbrev pub invariant-loop-width : goal.invariant-loop-width
+invariant-loop-width l = find (nat_le l.words) (drop l.width-index classes) ≡ find (nat_le l.words) classes

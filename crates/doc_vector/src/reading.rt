@@ -1,0 +1,42 @@
+ghost use Rattle.std.specs.Prelude.{◌≡◌};
+ghost use Rattle.tree_images.specs.Trees.{tree_pairs};
+ghost use Rattle.key_order.specs.Pairs.{lookup, seek};
+ghost use Rattle.tree_search.specs.Places.{IsAt, pairs_from};
+ghost use Rattle.doc_vector.specs.Documents.{beside, IsDocumentMap};
+
+use attr_types::Doc;
+use entry_ref::EntryRef;
+use frozen_api::Frozen;
+use frozen_btree::{Cursor, NumberKey, find};
+
+/// The reference of a document's items, 0 where it has none. There is no answer where the document is not there.
+pub fn get<const OFFSET_BITS: u32, F: Frozen<OFFSET_BITS>>(
+    frozen: &mut F,
+    root: EntryRef<OFFSET_BITS>,
+    doc: Doc,
+) -> Option<EntryRef<OFFSET_BITS>>
+    requires { IsDocumentMap (F.records frozen.old) root }
+    ensures items { result ≡ lookup (beside doc) (tree_pairs (F.records frozen.old) root.entry) }
+    ensures same { frozen.new ≡ frozen.old }
+{
+    match find(frozen, root, &NumberKey(doc.number() as u64)) {
+        Some((_, items)) => Some(EntryRef::from_raw(items as u32)),
+        None => None,
+    }
+}
+
+/// Before the first document that is not below this one. A pair's key is the document, its value the reference
+/// of the items.
+pub fn walk_from<const OFFSET_BITS: u32, F: Frozen<OFFSET_BITS>>(
+    frozen: &mut F,
+    root: EntryRef<OFFSET_BITS>,
+    doc: Doc,
+) -> Cursor<OFFSET_BITS>
+    requires { IsDocumentMap (F.records frozen.old) root }
+    ensures at { IsAt (F.records frozen.old) result }
+    ensures pairs { pairs_from (F.records frozen.old) result ≡ seek (beside doc) (tree_pairs (F.records frozen.old) root.entry) }
+    ensures root { result.root ≡ root.entry }
+    ensures same { frozen.new ≡ frozen.old }
+{
+    Cursor::seek(frozen, root, &NumberKey(doc.number() as u64))
+}

@@ -1,0 +1,2 @@
+pub mod DictionaryLemmas
+pub mod BehindLemmas

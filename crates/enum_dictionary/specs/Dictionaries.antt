@@ -1,0 +1,41 @@
+-- A dictionary: a tree by value, whose keys are the records of its values. The word of each pair is that of the value's list.
+use Rattle.std.specs.Prelude.{◌≡◌, ℕ, List, [], ◌∷◌}
+use Rattle.std.specs.declared.cmp.Ordering.{Ordering}
+use Rattle.std.specs.List.{AllByRecursion}
+use Rattle.image_base.specs.Records.{Records}
+use Rattle.store_api.specs.Ledgers.{Ledger}
+use Rattle.store_api.specs.Parts.{Owns, Turns}
+use Rattle.tree_images.specs.Trees.{tree_pairs, IsTree}
+use Rattle.key_order.specs.Pairs.{choose}
+use Rattle.tree_make.specs.Changes.{tree}
+use Rattle.attr_images.specs.Values.{stored_value, IsValueRecord}
+use Rattle.attr_types.specs.Value.{type_of, value_cmp}
+use Rattle.attr_types.specs.declared.kind.ValueType.{ValueType}
+use Rattle.attr_types.specs.declared.value.Value.{Value}
+use Rattle.enum_dictionary.specs.declared.finding.DictEntry.{DictEntry}
+
+-- a stored key beside the value sought
+abbrev pub beside : Value → Records → ℕ → Ordering
+beside value m key = value_cmp (stored_value (type_of value) m key) value
+
+-- the root of a dictionary of values of a type
+pub record IsDictionary (type : ValueType) (m : Records) (root : ℕ) : Type 0 where
+  pub tree_is : IsTree value_cmp (stored_value type) m root
+  pub keys : AllByRecursion (λ p. IsValueRecord type (m p.0)) (tree_pairs m root)
+
+-- a pair as it is found
+abbrev pub entry_of : (bits : ℕ) → ℕ × ℕ → DictEntry bits
+entry_of bits p = record { key = p.0; posting = p.1 }
+
+-- the pairs from the first whose key is above the one sought
+abbrev pub behind : (ℕ → Ordering) → List (ℕ × ℕ) → List (ℕ × ℕ)
+behind c [] = []
+behind c (p ∷ ps) = choose (c p.0) (behind c ps) (behind c ps) (p ∷ ps)
+
+-- a dictionary was made of these pairs, in place of another
+pub record MakesDictionary {H : Type 0} (type : ValueType) (old new : Ledger H) (m n : Records) (root : ℕ) (pairs : List (ℕ × ℕ))
+    (next : ℕ) : Type 0 where
+  pub dictionary_is : IsDictionary type n next
+  pub pairs_are : tree_pairs n next ≡ pairs
+  pub owns : Owns new n (tree next ∷ [])
+  pub turns : Turns old new m n (tree root ∷ []) (tree next ∷ [])

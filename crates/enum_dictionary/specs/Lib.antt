@@ -1,0 +1,3 @@
+pub mod ProofsForKeys
+pub mod Dictionaries
+pub mod Laws

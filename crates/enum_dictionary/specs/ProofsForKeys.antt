@@ -1,0 +1,19 @@
+-- Nobody has to read this: the laws that keys by value owe, proved. They stand here since an impl takes its laws from specs/ alone.
+use Rattle.std.proofs.Common.{◌≡◌, ℕ, [], ◌∷◌, refl, sym, ap, subst}
+use Rattle.std.specs.Cmp.{IsTotalOrder}
+use Rattle.image_base.specs.Records.{Records, SameAt}
+use Rattle.attr_images.specs.Values.{value_of, stored_value, IsValueRecord}
+use Rattle.attr_types.specs.ProofsForOrder.{value_cmp_total}
+use Rattle.attr_types.specs.Value.{value_cmp}
+use Rattle.attr_types.specs.declared.kind.ValueType.{ValueType}
+
+pub value_total : IsTotalOrder value_cmp
+value_total = value_cmp_total
+
+-- a value is read from its own record alone
+pub value_stays : (type : ValueType) (m n : Records) (key : ℕ) → IsValueRecord type (m key) → SameAt (key ∷ []) m n
+    → IsValueRecord type (n key) × (stored_value type n key ≡ stored_value type m key)
+value_stays type m n key is same = (subst (IsValueRecord type) (sym same.0) is, ap (value_of type) same.0)
+
+pub value_steady : (type : ValueType) (m n : Records) (key : ℕ) → IsValueRecord type (m key) → SameAt (key ∷ []) m n → key ∷ [] ≡ key ∷ []
+value_steady type m n key is same = refl

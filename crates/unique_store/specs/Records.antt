@@ -1,0 +1,12 @@
+-- What the record of a value is, as a law.
+use Rattle.std.specs.Prelude.{◌≢◌, ℕ, ◌<◌, List, length}
+use Rattle.tree_images.specs.declared.TheConstants.{NODE_WORDS}
+use Rattle.attr_images.specs.Values.{IsValueRecord}
+use Rattle.attr_types.specs.declared.kind.ValueType.{ValueType}
+
+-- a value's record has two words at least, and is no node of a tree
+abbrev pub ValueIsThere : Type 0
+ValueIsThere = (type : ValueType) (ws : List ℕ) → IsValueRecord type ws → 1 < length ws
+
+abbrev pub ValueIsNoNode : Type 0
+ValueIsNoNode = (type : ValueType) (ws : List ℕ) → IsValueRecord type ws → length ws ≢ NODE_WORDS

@@ -1,0 +1,51 @@
+ghost use Rattle.std.specs.Prelude.{◌≡◌, ◌≤◌, length};
+ghost use Rattle.std.specs.Cmp.Lexicographic.{slice_cmp};
+ghost use Rattle.std.specs.Ordering.{nat_cmp};
+ghost use Rattle.attr_images.specs.Values.{stored_text, stored_value, IsValueRecord};
+ghost use Rattle.attr_types.specs.Value.{type_of, value_cmp};
+ghost use Rattle.attr_types.specs.declared.kind.ValueType.TheVariants as types;
+
+use crate::bytes::{behind_eight, first_word};
+use attr_types::Value;
+use entry_ref::EntryRef;
+use frozen_api::Frozen;
+use std::cmp::Ordering;
+
+/// Compares a stored text with bytes. Its words are read as far as they are equal, and no further.
+fn compare_text<const OFFSET_BITS: u32, F: Frozen<OFFSET_BITS>>(
+    frozen: &mut F,
+    stored: EntryRef<OFFSET_BITS>,
+    bytes: &[u8],
+) -> Ordering
+    requires record { IsValueRecord types.Text (F.records frozen.old stored) }
+    requires few { length bytes.now ≤ 1024 }
+    ensures answer { result ≡ slice_cmp nat_cmp (stored_text (F.records frozen.old stored.entry)) bytes.now }
+    ensures same { frozen.new ≡ frozen.old }
+{
+    let count = frozen.word(stored, 0) as usize;
+    let mut rest = bytes;
+    for i in 0..(count.min(bytes.len()) + 7) / 8 {
+        let order = frozen.word(stored, 1 + i as u32).cmp(&first_word(rest));
+        if order.is_ne() {
+            return order;
+        }
+        rest = behind_eight(rest);
+    }
+    count.cmp(&bytes.len())
+}
+
+/// Compares a stored value with one of its type.
+pub fn compare<const OFFSET_BITS: u32, F: Frozen<OFFSET_BITS>>(
+    frozen: &mut F,
+    stored: EntryRef<OFFSET_BITS>,
+    value: &Value,
+) -> Ordering
+    requires { IsValueRecord (type_of value.now) (F.records frozen.old stored) }
+    ensures answer { result ≡ value_cmp (stored_value (type_of value.now) (F.records frozen.old) stored.entry) value.now }
+    ensures same { frozen.new ≡ frozen.old }
+{
+    match value {
+        Value::Long(number) => frozen.word(stored, 1).cast_signed().cmp(number),
+        Value::Text(text) => compare_text(frozen, stored, text.as_str().as_bytes()),
+    }
+}

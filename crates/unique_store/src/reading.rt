@@ -1,0 +1,71 @@
+ghost use Rattle.std.specs.Prelude.{◌≡◌, ◌++◌, IfOk, OnOk};
+ghost use Rattle.std.specs.Int.{to_be_bytes, w64};
+ghost use Rattle.attr_images.specs.Values.{stored_text, stored_value, IsValueRecord};
+ghost use Rattle.attr_types.specs.declared.kind.ValueType.TheVariants as types;
+
+use attr_types::{Text, Value, ValueType};
+use entry_ref::EntryRef;
+use frozen_api::Frozen;
+use std::alloc::{AllocError, Global};
+
+/// Appends the bytes of a word, the highest first.
+fn push_word(bytes: &mut Vec<u8>, word: u64) -> Result<(), AllocError>
+    ensures { OnOk result (bytes.new.items ≡ bytes.old.items ++ to_be_bytes w64 word) }
+{
+    bytes.extend_from_slice(&word.to_be_bytes())
+}
+
+/// The bytes of a stored text.
+fn read_bytes<const OFFSET_BITS: u32, F: Frozen<OFFSET_BITS>>(
+    alloc: Global,
+    frozen: &mut F,
+    stored: EntryRef<OFFSET_BITS>,
+) -> Result<Vec<u8>, AllocError>
+    requires { IsValueRecord types.Text (F.records frozen.old stored) }
+    ensures bytes { IfOk result (λ bytes. bytes.items ≡ stored_text (F.records frozen.old stored.entry)) }
+    ensures same { frozen.new ≡ frozen.old }
+{
+    let count = frozen.word(stored, 0) as usize;
+    let words = (count + 7) / 8;
+    let mut bytes = Vec::with_capacity(alloc, 8 * words)?;
+    for i in 0..words {
+        let word = frozen.word(stored, 1 + i as u32);
+        push_word(&mut bytes, word)?;
+    }
+    bytes.truncate(count);
+    Ok(bytes)
+}
+
+/// A stored text.
+fn read_text<const OFFSET_BITS: u32, F: Frozen<OFFSET_BITS>>(
+    alloc: Global,
+    frozen: &mut F,
+    stored: EntryRef<OFFSET_BITS>,
+) -> Result<Text, AllocError>
+    requires { IsValueRecord types.Text (F.records frozen.old stored) }
+    ensures text { IfOk result (λ text. text ≡ stored_text (F.records frozen.old stored.entry)) }
+    ensures same { frozen.new ≡ frozen.old }
+{
+    let bytes = read_bytes(alloc, frozen, stored)?;
+    match String::from_utf8(bytes) {
+        Ok(text) => Ok(Text::new(text)),
+        Err(_) => unreachable!(),
+    }
+}
+
+/// A stored value, of the type that is given.
+pub fn get<const OFFSET_BITS: u32, F: Frozen<OFFSET_BITS>>(
+    alloc: Global,
+    frozen: &mut F,
+    stored: EntryRef<OFFSET_BITS>,
+    value_type: ValueType,
+) -> Result<Value, AllocError>
+    requires { IsValueRecord value_type (F.records frozen.old stored) }
+    ensures value { IfOk result (λ value. value ≡ stored_value value_type (F.records frozen.old) stored.entry) }
+    ensures same { frozen.new ≡ frozen.old }
+{
+    match value_type {
+        ValueType::Long => Ok(Value::Long(frozen.word(stored, 1).cast_signed())),
+        ValueType::Text => Ok(Value::Text(read_text(alloc, frozen, stored)?)),
+    }
+}
