@@ -1,2 +1,3 @@
 pub mod TensLemmas
 pub mod NodeLemmas
+pub mod RowLemmas

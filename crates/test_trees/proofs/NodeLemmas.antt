@@ -1,5 +1,5 @@
 -- The children of a node that was read.
-use Rattle.std.proofs.Common.{◌≡◌, ℕ, suc, ◌<◌, ◌≤◌, List, length, get_or, sym, subst, arith}
+use Rattle.std.proofs.Common.{◌≡◌, ℕ, suc, ◌<◌, ◌≤◌, length, get_or, sym, subst, arith}
 use Rattle.list_facts.proofs.Each.{AllByRecursion-at}
 use Rattle.image_base.specs.Records.{Records}
 use Rattle.tree_images.specs.Nodes.{node_values}

@@ -13,4 +13,6 @@ mod fillings;
 #[cfg(test)]
 mod keys;
 #[cfg(test)]
+mod of_build;
+#[cfg(test)]
 mod trees;

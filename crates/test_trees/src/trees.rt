@@ -46,7 +46,7 @@ pub struct Seen {
 }
 
 /// The first word of the root, and of each of its children where it is above the leaves.
-fn heads(
+pub fn heads(
     alloc: Global,
     records: &BTreeMap<u32, Vec<u64>>,
     root: u64,

@@ -1,4 +1,4 @@
-use Rattle.std.proofs.Common.{rules, sym, subst, arith}
+use Rattle.std.proofs.Common.{sym, subst, arith}
 use Rattle.arena_api.specs.Calls.{IsFresh}
 use Rattle.entry_store.proofs.Fresh.{opened-fresh}
 use Rattle.test_trees.proofs.trees.new_tree.Goals as goal

@@ -1,0 +1,31 @@
+use Rattle.std.proofs.Common.{ℕ, refl, sym, ap, subst, arith}
+use Rattle.std.specs.List.{zip}
+use Rattle.std.specs.List.Sorted.{IsStrictlySortedBy}
+use Rattle.std.specs.Ordering.{nat_cmp}
+use Rattle.number_tree.proofs.HoldLemmas.{all_pairs}
+use Rattle.tree_make.proofs.Results.{if_ok-then}
+use Rattle.test_trees.proofs.RowLemmas.{keys_of_pairs}
+use Rattle.test_trees.proofs.of_build.build_numbers.Goals as goal
+
+pub build-requires : goal.build-requires
+build-requires g c =
+    let m = g.S.Frozen.records c.begin.new.self in
+    let ks = c.args.numbers.now in (
+      omega arith,
+      (
+        ap (λ l. l.unit) c.begin.ensures.ledger,
+        (
+          refl,
+          (
+            subst (IsStrictlySortedBy nat_cmp) (sym (keys_of_pairs m ks)) c.requires.sorted,
+            (
+              all_pairs (λ (p : ℕ × ℕ). Unit {0}) (λ p. tt) (zip ks ks),
+              all_pairs (λ (p : ℕ × ℕ). Unit {0}) (λ p. tt) (zip ks ks),
+            ),
+          ),
+        ),
+      ),
+    )
+
+pub returns : goal.returns
+returns g c = if_ok-then c.build.result (λ r keyed. keyed.tree.node) c.build.ensures.keyed
