@@ -1,2 +1,1 @@
-pub mod WeightLemmas
 pub mod TableSteps

@@ -1,8 +1,12 @@
 -- A table after an operation, at what the program finds.
-use Rattle.std.proofs.Common.{◌≡◌, ℕ, Bool, List, [], ◌∷◌, Some, option_map, refl, sym, ap, subst}
+use Rattle.std.proofs.Common.{◌≡◌, ℕ, Bool, List, Option, Some, None, option_map, sym, ap, subst}
+use Rattle.std.specs.BTreeMap.{is_at}
+use Rattle.std.specs.Ordering.{nat_cmp}
+use Rattle.std.specs.Option.{IfSome}
+use Rattle.attr_types.proofs.EntryLemmas.{all-lookup}
 use Rattle.std.specs.Option.{option_and_then, unwrap_or}
 use Rattle.attr_types.proofs.TableLemmas.{step_keeps}
-use Rattle.attr_types.specs.Lawful.{IsLawfulTable, HasType, OpFits}
+use Rattle.attr_types.specs.Lawful.{IsLawfulDocument, IsLawfulTable, HasType, OpFits}
 use Rattle.attr_types.specs.Table.{Table, document_at, with_document, to_update, updated, after_op}
 use Rattle.attr_types.specs.Value.{Document}
 use Rattle.attr_types.specs.declared.change.Change.{Change}
@@ -29,7 +33,9 @@ pub after_keeps : (fields : List Field) (table new : Table) (op : Op) → OpFits
 after_keeps fields table new op fits sound is =
     subst (λ t. IsLawfulTable fields t × HasType fields t) (sym is) (step_keeps fields table op fits sound)
 
--- without changes nothing is left to do
-pub no_changes : (fields : List Field) (document : Document) → updated fields [] document ≡ Some []
-no_changes [] document = refl
-no_changes (field ∷ fields) document = refl
+-- a document of a lawful table is lawful
+pub found_lawful : (fields : List Field) (table : Table) (doc : ℕ) (document : Option Document) → IsLawfulTable fields table
+    → document ≡ document_at table doc → IfSome document (IsLawfulDocument fields)
+found_lawful fields table doc None lawful is = tt
+found_lawful fields table doc (Some document) lawful is =
+    all-lookup (IsLawfulDocument fields) (is_at (nat_cmp doc)) table lawful.documents document (sym is)

@@ -1,22 +1,9 @@
 -- What a plain table is to its callers.
-use Rattle.std.specs.Prelude.{ℤ, List, [], ◌∷◌, map}
-use Rattle.std.specs.BTreeMap.{insert_entry}
+use Rattle.std.specs.Prelude.{List}
 use Rattle.attr_types.specs.Table.{Table}
-use Rattle.attr_types.specs.Value.{value_cmp}
 use Rattle.attr_types.specs.declared.field.Field.{Field}
-use Rattle.attr_types.specs.declared.items.Item.{Item}
-use Rattle.attr_types.specs.declared.value.Value.{Value}
 
 -- a table, and the attributes that it keeps
 pub record Plain : Type 0 where
   pub fields : List Field
   pub table : Table
-
--- the weights of items by their values
-abbrev pub weights_of : List Item → List (Value × ℤ)
-weights_of items = map (λ item. (item.value, item.weight)) items
-
--- the weights with those of items put into them, one after another
-abbrev pub put_weights : List (Value × ℤ) → List Item → List (Value × ℤ)
-put_weights weights [] = weights
-put_weights weights (item ∷ items) = put_weights (insert_entry value_cmp weights item.value item.weight) items

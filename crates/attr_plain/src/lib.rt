@@ -2,11 +2,8 @@
 //! every other way to keep attributes is compared with.
 #![tactic(auto)]
 
-mod act;
-mod change;
-mod document;
 mod matching;
-mod set;
 mod table;
 
-pub use table::{Applied, PlainTable};
+pub use attr_changes::Applied;
+pub use table::PlainTable;

@@ -5,19 +5,12 @@ ghost use Rattle.attr_types.specs.Query.{tree_of};
 ghost use Rattle.attr_types.specs.Table.{hits as hits_of, updated, to_update, document_at};
 ghost use Rattle.attr_plain.specs.Answers.{plain_after, answer_to};
 
-use crate::document::{empty_document, updated_document};
 use crate::matching::matches_document;
+use attr_changes::{Applied, updated_document};
 use attr_types::{Doc, DocList, FieldChanges, FieldItems, Fields, Op, Query};
 use std::alloc::{AllocError, Global};
 use std::collections::BTreeMap;
 use std::marker::Model;
-
-/// What became of an operation.
-#[derive(Clone, Copy, Debug, PartialEq, Eq)]
-pub enum Applied {
-    Changed,
-    Skipped,
-}
 
 /// The table of some attributes.
 #[derive(Debug, Drop)]
@@ -126,14 +119,8 @@ impl PlainTable {
         ensures { IfOk result (λ new. new ≡ option_and_then (updated self.now.fields change) (to_update self.now.fields create (document_at self.now.table doc))) }
     {
         let fields = self.fields.as_slice();
-        match self.documents.get(&doc) {
-            Some(document) => updated_document(alloc, fields, change, document.as_slice()),
-            None if create => {
-                let empty = empty_document(alloc, fields)?;
-                updated_document(alloc, fields, change, empty.as_slice())
-            }
-            None => Ok(None),
-        }
+        let document = self.documents.get(&doc);
+        updated_document(alloc, fields, create, change.as_slice(), document)
     }
 
     /// The documents that a query matches, ascending.

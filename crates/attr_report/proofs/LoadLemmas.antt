@@ -4,7 +4,7 @@ use Rattle.std.proofs.Common.{if◌then◌else◌, List, [], ◌∷◌, ◌++◌
 use Rattle.std.proofs.Common.{arith}
 use Rattle.std.proofs.Math.Seq.{take-length}
 use Rattle.attr_plain.specs.Plain.{Plain}
-use Rattle.attr_plain.specs.declared.table.Applied.TheVariants.{Changed, Skipped}
+use Rattle.attr_changes.specs.declared.applied.Applied.TheVariants.{Changed, Skipped}
 use Rattle.attr_types.specs.declared.field.Field.{Field}
 use Rattle.attr_types.specs.declared.op.Op.{Op}
 use Rattle.attr_types.specs.Table.{Table, after_op, is_skipped, after_ops, skipped_ops}

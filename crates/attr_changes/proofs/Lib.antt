@@ -1,0 +1,2 @@
+pub mod WeightLemmas
+pub mod DocumentSteps
