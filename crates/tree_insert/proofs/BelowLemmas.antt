@@ -8,9 +8,9 @@ use Rattle.std.specs.List.{zip, flat_map, AllByRecursion}
 use Rattle.list_facts.proofs.Each.{AllByRecursion-at}
 use Rattle.image_base.specs.Records.{Records}
 use Rattle.store_api.specs.Ledgers.{Ledger}
-use Rattle.tree_images.specs.Nodes.{used_of, node_keys, node_values}
+use Rattle.tree_images.specs.Nodes.{used_of, count_of, node_keys, node_values}
 use Rattle.tree_images.specs.Trees.{pairs_below, nodes_below, last_key, IsNode, Keeps}
-use Rattle.tree_images.proofs.TreeLemmas.{IsNode-form}
+use Rattle.tree_images.proofs.TreeLemmas.{IsNode-form, IsNode-count}
 use Rattle.tree_node.proofs.ChildLemmas.{pairs-some, IsNode-lower, keys-length}
 use Rattle.key_order.specs.Keys.{seen_by, Ascends, AllBelow}
 use Rattle.key_order.specs.Pairs.{put}
@@ -23,7 +23,7 @@ use Rattle.tree_node.specs.Slots.{slot_pairs, slot_nodes, IsInHand}
 use Rattle.tree_node.proofs.KeyLemmas.{key_last}
 use Rattle.tree_node.proofs.SlotLemmas.{pairs-slots, nodes-slots, hand-append, hand-children, hand-kept, child_nodes, slot_pairs-inner, slot_pairs-leaf, slot_nodes-inner, slot_nodes-leaf, all_pairs-kept, all_nodes-kept, hand-take, hand-drop}
 use Rattle.tree_insert.specs.Inserts.{Inserts}
-use Rattle.tree_insert.specs.Parts.{AreParts, MakesParts, part_keys, part_nodes}
+use Rattle.tree_insert.specs.Parts.{AreParts, MakesParts, part_keys, part_nodes, parts_count}
 use Rattle.tree_insert.specs.declared.parts.Parts.{Parts}
 use Rattle.tree_insert.specs.declared.parts.Parts.TheVariants.{One, Two}
 use Rattle.tree_node.proofs.ReadLemmas.{hand-read, inner-pairs, inner-nodes, node-even}
@@ -49,6 +49,35 @@ parts-hand n least level parts pairs many x = hand-children n level (part_keys p
 parts_few : (parts : Parts) → length (part_keys parts) ≤ 2
 parts_few (One part) = omega arith
 parts_few (Two first second) = omega arith
+
+-- each part can be asked for its count
+pub parts-there : (n : Records) (least level : ℕ) (parts : Parts) (pairs : List (ℕ × ℕ)) → AreParts n least level parts pairs → AllByRecursion (λ node. 1 < length (n node)) (part_nodes parts)
+parts-there n least level (One part) pairs x =
+    let size = (IsNode-form n least level part.node x.nodes.0).size in
+    let one : 1 < length (n part.node) = omega arith in
+    (one, tt)
+parts-there n least level (Two first second) pairs x =
+    let size = (IsNode-form n 8 level first.node x.nodes.0).size in
+    let more = (IsNode-form n 8 level second.node x.nodes.1.0).size in
+    let one : 1 < length (n first.node) = omega arith in
+    let two : 1 < length (n second.node) = omega arith in
+    (one, (two, tt))
+
+parts-counted : (n : Records) (least level : ℕ) (parts : Parts) (pairs : List (ℕ × ℕ)) → AreParts n least level parts pairs → parts_count n parts ≡ length pairs
+parts-counted n least level (One part) pairs x =
+    let f : ℕ → List (ℕ × ℕ) = pairs_below n level in
+    let here = IsNode-count n least level part.node x.nodes.0 in
+    let all : length (f part.node ++ []) ≡ length pairs = ap length x.pairs_are in
+    let one : length (f part.node ++ []) ≡ length (f part.node) = ap length (append-nil (f part.node)) in
+    omega arith
+parts-counted n least level (Two first second) pairs x =
+    let f : ℕ → List (ℕ × ℕ) = pairs_below n level in
+    let here = IsNode-count n 8 level first.node x.nodes.0 in
+    let other = IsNode-count n 8 level second.node x.nodes.1.0 in
+    let all : length (f first.node ++ (f second.node ++ [])) ≡ length pairs = ap length x.pairs_are in
+    let both = length-append (f first.node) (f second.node ++ []) in
+    let last : length (f second.node ++ []) ≡ length (f second.node) = ap length (append-nil (f second.node)) in
+    omega arith
 
 parts_some : (parts : Parts) → 1 ≤ length (part_keys parts)
 parts_some (One part) = omega arith
@@ -93,6 +122,13 @@ module _ (m : Records) (least l node i : ℕ) (node_is : IsNode m least (suc l) 
       let all : length (pairs_below m (suc l) node) ≡ length (flat_map f (take i vs) ++ (f (get_or vs i 0) ++ flat_map f (drop (suc i) vs))) = ap length (inner-pairs m l node ∙ children-cut f vs i low) in
       let both = length-append (flat_map f (take i vs)) (f (get_or vs i 0) ++ flat_map f (drop (suc i) vs)) in
       let more = length-append (f (get_or vs i 0)) (flat_map f (drop (suc i) vs)) in
+      omega arith
+
+  pub child-count : count_of (m (get_or (node_values (m node)) i 0)) ≤ count_of (m node)
+  child-count =
+      let whole = IsNode-count m least (suc l) node node_is in
+      let less = IsNode-count m 8 l (get_or (node_values (m node)) i 0) child-node in
+      let fewer = child-few in
       omega arith
 
   pub child-nodes : (q : ℕ) → times q (nodes_below m (suc l) node)
@@ -159,6 +195,24 @@ module _ {V : Type 0} (order : V → V → Ordering) (total : IsTotalOrder order
       ∙ ap (λ zs. flat_map f (take i vs) ++ (zs ++ flat_map g (drop (suc i) vs))) parts.pairs_are
       ∙ ap (λ zs. flat_map f (take i vs) ++ (put (seen_by read order s m) pair (f (get_or vs i 0)) ++ zs)) (all_pairs-kept m n keeps 8 l (drop (suc i) vs) (child_nodes m l (drop (suc i) (node_keys (m node))) (drop (suc i) vs) back))
       ∙ sym put_is
+
+  -- the node's count, less the child's, plus those of the parts
+  pub over-counted : count_of (m node) - count_of (m (get_or (node_values (m node)) i 0)) + parts_count n ps ≡ length (slot_pairs n (suc l) k2 v2)
+  over-counted =
+      let vs = node_values (m node) in
+      let f : ℕ → List (ℕ × ℕ) = pairs_below m l in
+      let child = get_or vs i 0 in
+      let new : List (ℕ × ℕ) = put (seen_by read order s m) pair (f child) in
+      let now : length (slot_pairs n (suc l) k2 v2) ≡ length (flat_map f (take i vs) ++ (new ++ flat_map f (drop (suc i) vs))) = ap length (over-pairs ∙ put_is) in
+      let old : length (pairs_below m (suc l) node) ≡ length (flat_map f (take i vs) ++ (f child ++ flat_map f (drop (suc i) vs))) = ap length (inner-pairs m l node ∙ children-cut f vs i low) in
+      let a = length-append (flat_map f (take i vs)) (f child ++ flat_map f (drop (suc i) vs)) in
+      let b = length-append (f child) (flat_map f (drop (suc i) vs)) in
+      let c = length-append (flat_map f (take i vs)) (new ++ flat_map f (drop (suc i) vs)) in
+      let d = length-append new (flat_map f (drop (suc i) vs)) in
+      let whole = IsNode-count m least (suc l) node node_is in
+      let less = IsNode-count m 8 l child (child-node m least l node i node_is low) in
+      let more = parts-counted n (used_of (m child)) l ps new parts in
+      omega arith
 
   pub over-few : length (pairs_below m (suc l) node) + 1 < 2 ^ 32 → length (slot_pairs n (suc l) k2 v2) < 2 ^ 32
   over-few few =

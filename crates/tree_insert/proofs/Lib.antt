@@ -3,3 +3,4 @@ pub mod EditLemmas
 pub mod RootLemmas
 pub mod BelowLemmas
 pub mod TreeLemmas
+pub mod HandLemmas

@@ -1,19 +1,17 @@
 -- One node made of slots, or two, as parts.
-use Rattle.std.proofs.Common.{◌≡◌, inl, inr, ℕ, zero, suc, ◌+◌, ◌<◌, ◌≤◌, true, cond, List, [], ◌∷◌, ◌++◌, length, take, drop, min, length-take, length-drop, sym, ap, subst, ◌∙◌, arith, length-append, ◌^◌}
-use Rattle.std.proofs.lemmas.Bool.{cases_eq}
+use Rattle.std.proofs.Common.{◌≡◌, ℕ, ◌+◌, ◌<◌, ◌≤◌, List, [], ◌∷◌, ◌++◌, length, take, drop, length-take, length-drop, sym, ap, subst, ◌∙◌, arith, ◌^◌}
 use Rattle.std.proofs.lemmas.List.{append-nil, take-append-drop}
 use Rattle.std.specs.List.{flat_map}
 use Rattle.image_base.specs.Records.{Records}
 use Rattle.store_api.specs.Ledgers.{Ledger}
-use Rattle.tree_images.specs.Nodes.{IsNodeForm}
-use Rattle.tree_images.specs.Trees.{pairs_below, nodes_below, last_key, IsNode, Keeps}
-use Rattle.store_api.proofs.Times.{times-same, times-other, times-append}
+use Rattle.tree_images.specs.Trees.{pairs_below, nodes_below, last_key, Keeps}
+use Rattle.store_api.proofs.Times.{times-append}
 use Rattle.store_api.specs.Parts.{times, uses}
-use Rattle.tree_make.specs.Makes.{MakesNode, MakesPart}
+use Rattle.tree_make.specs.Makes.{MakesPart}
 use Rattle.tree_node.specs.Slots.{slot_pairs, slot_nodes, IsInHand}
 use Rattle.tree_make.specs.declared.make.Part.{Part}
 use Rattle.tree_make.proofs.MakesLemmas.{makes-then, makes-more}
-use Rattle.tree_node.proofs.SlotLemmas.{slot_pairs-append, slot_nodes-append, hand-left, hand-right, pairs-kept, nodes_below-kept, node-kept, slot_pairs-kept, slot_nodes-kept, hand-kept, hand-take, hand-drop, few-take, few-drop, even-take, cut}
+use Rattle.tree_node.proofs.SlotLemmas.{slot_pairs-append, slot_nodes-append, hand-right, pairs-kept, nodes_below-kept, node-kept, slot_pairs-kept, slot_nodes-kept, hand-kept, hand-take, hand-drop, few-take, few-drop, even-take, cut}
 use Rattle.tree_insert.specs.Parts.{MakesParts}
 use Rattle.tree_insert.specs.declared.parts.Parts.TheVariants.{One, Two}
 use Rattle.tree_make.proofs.RootLemmas.{made-balance}

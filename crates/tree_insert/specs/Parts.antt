@@ -1,8 +1,9 @@
 -- One or two nodes in place of one.
-use Rattle.std.specs.Prelude.{◌≡◌, ℕ, ◌+◌, ◌<◌, ◌≤◌, List, [], ◌∷◌, length, map}
+use Rattle.std.specs.Prelude.{◌≡◌, ℕ, suc, ◌+◌, ◌<◌, ◌≤◌, Bool, true, false, List, [], ◌∷◌, ◌++◌, length, take, drop, insert, map}
 use Rattle.std.specs.List.{flat_map, AllByRecursion}
 use Rattle.image_base.specs.Records.{Records}
 use Rattle.store_api.specs.Ledgers.{Ledger}
+use Rattle.tree_images.specs.Nodes.{count_of}
 use Rattle.tree_images.specs.Trees.{pairs_below, nodes_below, last_key, IsNode, root_least}
 use Rattle.store_api.specs.Parts.{times, uses}
 use Rattle.tree_node.specs.Slots.{slot_pairs, slot_nodes}
@@ -18,6 +19,16 @@ part_keys (Two first second) = first.key ∷ second.key ∷ []
 abbrev pub part_nodes : Parts → List ℕ
 part_nodes (One part) = part.node ∷ []
 part_nodes (Two first second) = first.node ∷ second.node ∷ []
+
+-- the pairs of parts, as their nodes say
+abbrev pub parts_count : Records → Parts → ℕ
+parts_count m (One part) = count_of (m part.node)
+parts_count m (Two first second) = count_of (m first.node) + count_of (m second.node)
+
+-- a word in place of another, where that is found, or before it
+abbrev pub put_at : Bool → ℕ → ℕ → List ℕ → List ℕ
+put_at true place word words = take place words ++ (word ∷ drop (suc place) words)
+put_at false place word words = insert words place word
 
 -- one part has as many slots as what it stands for, two have at least 8 each
 abbrev pub parts_least : ℕ → Parts → ℕ

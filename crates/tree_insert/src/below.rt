@@ -1,18 +1,21 @@
 ghost use Rattle.std.specs.Prelude.{◌≡◌, ◌≤◌, ◌<◌, ◌+◌, ◌*◌, ◌^◌, ◌++◌, ◌∷◌, [], ℕ, List, true, length, suc, IfOk, IfErr};
+ghost use Rattle.tree_images.specs.Nodes.{level_of, node_keys};
 ghost use Rattle.tree_images.specs.Trees.{pairs_below, IsNode};
 ghost use Rattle.key_order.specs.Keys.{seen_by, Ascends, AllReadable};
 ghost use Rattle.store_api.specs.Calls.{Refuses};
 ghost use Rattle.tree_make.specs.Makes.{MakesNodes};
+ghost use Rattle.tree_node.specs.Places.{IsPlace};
 ghost use Rattle.tree_insert.specs.Inserts.{Inserts};
 
-use crate::leaf::put_in_leaf;
-use crate::parts::{Parts, make_parts, set_parts};
+use crate::leaf::put_pair;
+use crate::parts::{Parts, count_parts, put_parts};
 use arrayvec::ArrayVec;
 use entry_ref::EntryRef;
+use frozen_api::Frozen;
 use key_order::KeyOrder;
 use store_api::{Store, StoreError};
-use tree_images::NODE_WORDS;
-use tree_node::{first_slot, place_of, read_node};
+use tree_images::{FIRST_VALUE, NODE_WORDS};
+use tree_node::{used_in, visit};
 
 /// Makes a leaf anew with a pair put in.
 fn insert_in_leaf<const OFFSET_BITS: u32, S: Store<OFFSET_BITS>, K: KeyOrder<OFFSET_BITS>>(
@@ -32,10 +35,32 @@ fn insert_in_leaf<const OFFSET_BITS: u32, S: Store<OFFSET_BITS>, K: KeyOrder<OFF
     ensures makes { MakesNodes (S.ledger store.old) (S.ledger store.new) (S.records store.old) (S.records store.new) 2 }
     ensures refuses { IfErr result (Refuses (S.ledger store.old) (S.ledger store.new) NODE_WORDS) }
 {
-    let mut slots = read_node(store, node);
-    let spot = first_slot(store, &slots.keys, key);
-    put_in_leaf(&mut slots, spot, word, value);
-    make_parts(store, &mut slots)
+    let mut words = [0; NODE_WORDS];
+    let spot = visit(store, node, key, &mut words);
+    put_pair(store, &mut words, spot, word, value)
+}
+
+/// Reads a node above the leaves, and finds the slot under which a key is put.
+fn visit_inner<const OFFSET_BITS: u32, F: Frozen<OFFSET_BITS>, K: KeyOrder<OFFSET_BITS>>(
+    frozen: &mut F,
+    node: EntryRef<OFFSET_BITS>,
+    key: &K,
+    words: &mut [u64; NODE_WORDS],
+) -> usize
+    requires node { IsNode (F.records frozen.old) 1 (level_of (F.records frozen.old node)) node }
+    requires readable { AllReadable K.can_read (F.records frozen.old)
+        (pairs_below (F.records frozen.old) (level_of (F.records frozen.old node)) node) }
+    ensures words { words.new ≡ F.records frozen.old node.entry }
+    ensures place { IsPlace (seen_by K.read K.order (K.sought key.now) (F.records frozen.old)) (node_keys (F.records frozen.old node.entry)) result }
+    ensures same { frozen.new ≡ frozen.old }
+{
+    let spot = visit(frozen, node, key, words);
+    let used = used_in(words);
+    if spot.slot < used {
+        spot.slot
+    } else {
+        used - 1
+    }
 }
 
 /// Puts a pair below a node of this level, by new nodes on the path of its key. The nodes of the path are
@@ -66,10 +91,11 @@ pub fn insert_below<const OFFSET_BITS: u32, S: Store<OFFSET_BITS>, K: KeyOrder<O
     if level == 0 {
         return insert_in_leaf(store, node, key, word, value);
     }
-    let mut slots = read_node(store, node);
-    let place = place_of(store, &slots.keys, key);
-    let child = EntryRef::from_raw(slots.values[place] as u32);
+    let mut words = [0; NODE_WORDS];
+    let place = visit_inner(store, node, key, &mut words);
+    let child = EntryRef::from_raw(words[FIRST_VALUE + place] as u32);
+    let before = store.word(child, 1);
     let parts = insert_below(store, child, level - 1, key, word, value, replaced)?;
-    set_parts(&mut slots, place, &parts);
-    make_parts(store, &mut slots)
+    let pairs = words[1] - before + count_parts(store, &parts);
+    put_parts(store, &mut words, pairs, place, &parts)
 }

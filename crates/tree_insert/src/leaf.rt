@@ -1,34 +1,36 @@
-ghost use Rattle.std.specs.Prelude.{◌≡◌, ◌≤◌, ◌<◌, ℕ, length, suc, true, false};
-ghost use Rattle.std.specs.List.{zip};
-ghost use Rattle.std.specs.declared.cmp.Ordering.{Ordering};
-ghost use Rattle.key_order.specs.Pairs.{put};
-ghost use Rattle.tree_node.specs.Places.{IsSlot, IsFound, IsLacking};
+ghost use Rattle.std.specs.Prelude.{◌≡◌, ◌≤◌, ◌<◌, true, IfOk, IfErr};
+ghost use Rattle.tree_images.specs.Nodes.{used_of, node_keys, node_values, IsNodeForm};
+ghost use Rattle.store_api.specs.Calls.{Refuses};
+ghost use Rattle.tree_make.specs.Makes.{MakesNodes};
+ghost use Rattle.tree_insert.specs.Parts.{MakesParts, put_at};
 
-use crate::parts::put_word;
-use tree_images::MOST_SLOTS;
-use tree_node::{Slots, Spot};
+use crate::parts::{Parts, make_one, put_slot};
+use store_api::{Store, StoreError};
+use tree_images::NODE_WORDS;
+use tree_make::set_slot;
+use tree_node::{Spot, used_in};
 
-/// Puts a pair among the slots of a leaf, where its key was sought.
-pub fn put_in_leaf(slots: &mut Slots, spot: Spot, word: u64, value: u64)
-    requires even { length slots.old.keys.items ≡ length slots.old.values.items }
-    requires within { spot.slot ≤ length slots.old.keys.items }
-    requires found { spot.found ≡ true → spot.slot < length slots.old.keys.items }
-    requires room { length slots.old.keys.items ≤ MOST_SLOTS }
-    ensures pairs { (c : ℕ → Ordering) → IsSlot c slots.old.keys.items spot.slot
-        → (spot.found ≡ true → IsFound c slots.old.keys.items spot.slot)
-        → (spot.found ≡ false → IsLacking c slots.old.keys.items spot.slot)
-        → zip slots.new.keys.items slots.new.values.items ≡ put c (word, value) (zip slots.old.keys.items slots.old.values.items) }
-    ensures even { length slots.new.keys.items ≡ length slots.new.values.items }
-    ensures least { length slots.old.keys.items ≤ length slots.new.keys.items }
-    ensures some { 0 < length slots.new.keys.items }
-    ensures most { length slots.new.keys.items ≤ suc (length slots.old.keys.items) }
-    ensures level { slots.new.level ≡ slots.old.level }
+/// Puts a pair among the slots of a leaf in hand, where its key was sought, and makes it, or two of one that was full.
+pub fn put_pair<const OFFSET_BITS: u32, S: Store<OFFSET_BITS>>(
+    store: &mut S,
+    words: &mut [u64; NODE_WORDS],
+    spot: Spot,
+    word: u64,
+    value: u64,
+) -> Result<Parts, StoreError>
+    requires unit { (S.ledger store.old).unit ≡ true }
+    requires form { IsNodeForm 0 1 words.old }
+    requires within { spot.slot ≤ used_of words.old }
+    requires found { spot.found ≡ true → spot.slot < used_of words.old }
+    ensures parts { IfOk result (MakesParts (S.ledger store.old) (S.ledger store.new) (S.records store.old) (S.records store.new)
+        0 (put_at spot.found spot.slot word (node_keys words.old)) (put_at spot.found spot.slot value (node_values words.old))) }
+    ensures makes { MakesNodes (S.ledger store.old) (S.ledger store.new) (S.records store.old) (S.records store.new) 2 }
+    ensures refuses { IfErr result (Refuses (S.ledger store.old) (S.ledger store.new) NODE_WORDS) }
 {
+    let pairs = used_in(words) as u64;
     if spot.found {
-        put_word(&mut slots.keys, spot.slot, word);
-        put_word(&mut slots.values, spot.slot, value);
-    } else {
-        slots.keys.insert(spot.slot, word);
-        slots.values.insert(spot.slot, value);
+        set_slot(words, pairs, spot.slot, word, value);
+        return make_one(store, words);
     }
+    put_slot(store, words, pairs + 1, spot.slot, word, value)
 }

@@ -1,14 +1,19 @@
-ghost use Rattle.std.specs.Prelude.{◌≡◌, ◌≤◌, ◌<◌, ◌^◌, ◌∷◌, ◌++◌, ℕ, true, length, take, drop, suc, IfOk, IfErr};
+ghost use Rattle.std.specs.Prelude.{◌≡◌, ◌≤◌, ◌<◌, ◌^◌, ◌++◌, ℕ, List, true, length, take, drop, insert, suc, IfOk, IfErr};
+ghost use Rattle.std.specs.List.{AllByRecursion};
+ghost use Rattle.tree_images.specs.Nodes.{level_of, used_of, node_keys, node_values, IsNodeForm};
 ghost use Rattle.store_api.specs.Calls.{Refuses};
 ghost use Rattle.tree_node.specs.Slots.{slot_pairs, IsInHand};
 ghost use Rattle.tree_make.specs.Makes.{MakesNodes};
-ghost use Rattle.tree_insert.specs.Parts.{MakesParts, part_keys, part_nodes};
+ghost use Rattle.tree_make.specs.Words.{AreWords};
+ghost use Rattle.tree_insert.specs.Parts.{MakesParts, part_keys, part_nodes, parts_count};
 
 use arrayvec::ArrayVec;
+use entry_ref::EntryRef;
+use frozen_api::Frozen;
 use store_api::{Store, StoreError};
 use tree_images::{MOST_SLOTS, NODE_WORDS};
-use tree_make::{Part, make_part};
-use tree_node::{Slots, append};
+use tree_make::{Part, add_slot, make_part, make_words, set_slot};
+use tree_node::{Slots, append, slots_of, used_in};
 
 /// What is made in place of a node: one node, or two.
 #[derive(Clone, Copy, Debug, Drop)]
@@ -65,42 +70,117 @@ pub fn make_parts<const OFFSET_BITS: u32, S: Store<OFFSET_BITS>>(
     Ok(Parts::Two(first, second))
 }
 
-/// Puts a word in place of one.
-pub fn put_word(words: &mut ArrayVec<u64, 17>, place: usize, word: u64)
-    requires { place < length words.old.items }
-    ensures { words.new.items ≡ take place words.old.items ++ (word ∷ drop (suc place) words.old.items) }
+/// Makes a node of words in hand.
+pub fn make_one<const OFFSET_BITS: u32, S: Store<OFFSET_BITS>>(
+    store: &mut S,
+    words: &[u64; NODE_WORDS],
+) -> Result<Parts, StoreError>
+    requires unit { (S.ledger store.old).unit ≡ true }
+    requires some { 0 < used_of words.now }
+    requires fits { used_of words.now ≤ MOST_SLOTS }
+    ensures parts { (level : ℕ) (keys values : List ℕ)
+        → AreWords level (length (slot_pairs (S.records store.old) level keys values)) keys values words.now
+        → IsInHand (S.records store.old) level keys values → 0 < length keys
+        → length (slot_pairs (S.records store.old) level keys values) < 2 ^ 32
+        → IfOk result (MakesParts (S.ledger store.old) (S.ledger store.new) (S.records store.old) (S.records store.new) level keys values) }
+    ensures makes { MakesNodes (S.ledger store.old) (S.ledger store.new) (S.records store.old) (S.records store.new) 2 }
+    ensures refuses { IfErr result (Refuses (S.ledger store.old) (S.ledger store.new) NODE_WORDS) }
 {
-    words[place] = word;
+    Ok(Parts::One(make_words(store, words)?))
 }
 
-/// Puts two words in place of one.
-fn put_two(words: &mut ArrayVec<u64, 17>, place: usize, first: u64, second: u64)
-    requires place { place < length words.old.items }
-    requires room { length words.old.items ≤ MOST_SLOTS }
-    ensures { words.new.items ≡ take place words.old.items ++ (first ∷ second ∷ drop (suc place) words.old.items) }
+/// Puts a slot before another, or behind all, and makes the node, or two of one that was full. `pairs` is the
+/// count of both.
+pub fn put_slot<const OFFSET_BITS: u32, S: Store<OFFSET_BITS>>(
+    store: &mut S,
+    words: &mut [u64; NODE_WORDS],
+    pairs: u64,
+    slot: usize,
+    key: u64,
+    value: u64,
+) -> Result<Parts, StoreError>
+    requires unit { (S.ledger store.old).unit ≡ true }
+    requires form { IsNodeForm (level_of words.old) 1 words.old }
+    requires low { level_of words.old ≤ 7 }
+    requires slot { slot ≤ used_of words.old }
+    requires hand { IsInHand (S.records store.old) (level_of words.old)
+        (insert (node_keys words.old) slot key) (insert (node_values words.old) slot value) }
+    requires few { length (slot_pairs (S.records store.old) (level_of words.old)
+        (insert (node_keys words.old) slot key) (insert (node_values words.old) slot value)) < 2 ^ 32 }
+    requires counted { pairs ≡ length (slot_pairs (S.records store.old) (level_of words.old)
+        (insert (node_keys words.old) slot key) (insert (node_values words.old) slot value)) }
+    ensures parts { IfOk result (MakesParts (S.ledger store.old) (S.ledger store.new) (S.records store.old) (S.records store.new)
+        (level_of words.old) (insert (node_keys words.old) slot key) (insert (node_values words.old) slot value)) }
+    ensures makes { MakesNodes (S.ledger store.old) (S.ledger store.new) (S.records store.old) (S.records store.new) 2 }
+    ensures refuses { IfErr result (Refuses (S.ledger store.old) (S.ledger store.new) NODE_WORDS) }
 {
-    put_word(words, place, first);
-    words.insert(place + 1, second);
+    if used_in(words) < MOST_SLOTS {
+        add_slot(words, pairs, slot, key, value);
+        return make_one(store, words);
+    }
+    let mut slots = slots_of(words);
+    slots.keys.insert(slot, key);
+    slots.values.insert(slot, value);
+    make_parts(store, &mut slots)
 }
 
-/// Puts parts in place of a slot.
-pub fn set_parts(slots: &mut Slots, place: usize, parts: &Parts)
-    requires place { place < length slots.old.keys.items }
-    requires even { length slots.old.keys.items ≡ length slots.old.values.items }
-    requires room { length slots.old.keys.items ≤ MOST_SLOTS }
-    ensures keys { slots.new.keys.items ≡ take place slots.old.keys.items ++ (part_keys parts.now ++ drop (suc place) slots.old.keys.items) }
-    ensures values { slots.new.values.items ≡ take place slots.old.values.items ++ (part_nodes parts.now ++ drop (suc place) slots.old.values.items) }
-    ensures level { slots.new.level ≡ slots.old.level }
+/// Puts parts in place of a slot, and makes the node, or two of one that was full. `pairs` is the count of both.
+pub fn put_parts<const OFFSET_BITS: u32, S: Store<OFFSET_BITS>>(
+    store: &mut S,
+    words: &mut [u64; NODE_WORDS],
+    pairs: u64,
+    place: usize,
+    parts: &Parts,
+) -> Result<Parts, StoreError>
+    requires unit { (S.ledger store.old).unit ≡ true }
+    requires form { IsNodeForm (level_of words.old) 1 words.old }
+    requires low { level_of words.old ≤ 7 }
+    requires place { place < used_of words.old }
+    requires hand { IsInHand (S.records store.old) (level_of words.old)
+        (take place (node_keys words.old) ++ (part_keys parts.now ++ drop (suc place) (node_keys words.old)))
+        (take place (node_values words.old) ++ (part_nodes parts.now ++ drop (suc place) (node_values words.old))) }
+    requires few { length (slot_pairs (S.records store.old) (level_of words.old)
+        (take place (node_keys words.old) ++ (part_keys parts.now ++ drop (suc place) (node_keys words.old)))
+        (take place (node_values words.old) ++ (part_nodes parts.now ++ drop (suc place) (node_values words.old)))) < 2 ^ 32 }
+    requires counted { pairs ≡ length (slot_pairs (S.records store.old) (level_of words.old)
+        (take place (node_keys words.old) ++ (part_keys parts.now ++ drop (suc place) (node_keys words.old)))
+        (take place (node_values words.old) ++ (part_nodes parts.now ++ drop (suc place) (node_values words.old)))) }
+    ensures parts { IfOk result (MakesParts (S.ledger store.old) (S.ledger store.new) (S.records store.old) (S.records store.new)
+        (level_of words.old)
+        (take place (node_keys words.old) ++ (part_keys parts.now ++ drop (suc place) (node_keys words.old)))
+        (take place (node_values words.old) ++ (part_nodes parts.now ++ drop (suc place) (node_values words.old)))) }
+    ensures makes { MakesNodes (S.ledger store.old) (S.ledger store.new) (S.records store.old) (S.records store.new) 2 }
+    ensures refuses { IfErr result (Refuses (S.ledger store.old) (S.ledger store.new) NODE_WORDS) }
 {
     match *parts {
         Parts::One(part) => {
-            put_word(&mut slots.keys, place, part.key);
-            put_word(&mut slots.values, place, u64::from(part.node));
+            set_slot(words, pairs, place, part.key, u64::from(part.node));
+            make_one(store, words)
         }
         Parts::Two(first, second) => {
-            put_two(&mut slots.keys, place, first.key, second.key);
-            let (low, high) = (first.node, second.node);
-            put_two(&mut slots.values, place, u64::from(low), u64::from(high));
+            set_slot(words, pairs, place, first.key, u64::from(first.node));
+            let (key, node) = (second.key, second.node);
+            put_slot(store, words, pairs, place + 1, key, u64::from(node))
+        }
+    }
+}
+
+/// The pairs of parts, as their nodes say.
+pub fn count_parts<const OFFSET_BITS: u32, F: Frozen<OFFSET_BITS>>(
+    frozen: &mut F,
+    parts: &Parts,
+) -> u64
+    requires there { AllByRecursion (λ node. 1 < length (F.records frozen.old node)) (part_nodes parts.now) }
+    requires few { parts_count (F.records frozen.old) parts.now < 2 ^ 32 }
+    ensures count { result ≡ parts_count (F.records frozen.old) parts.now }
+    ensures same { frozen.new ≡ frozen.old }
+{
+    match *parts {
+        Parts::One(part) => frozen.word(EntryRef::from_raw(part.node), 1),
+        Parts::Two(first, second) => {
+            let count = frozen.word(EntryRef::from_raw(first.node), 1);
+            let other = second.node;
+            count + frozen.word(EntryRef::from_raw(other), 1)
         }
     }
 }

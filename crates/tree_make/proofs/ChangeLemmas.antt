@@ -1,15 +1,14 @@
 -- A tree in place of another: what it turns, and that its keys can be read.
-use Rattle.std.proofs.Common.{◌≡◌, ◌↔◌, ℕ, zero, suc, ◌+◌, ◌<◌, ◌≤◌, List, [], ◌∷◌, length, true, refl, sym, ap, subst, ◌∙◌, arith}
+use Rattle.std.proofs.Common.{◌≡◌, ◌↔◌, ℕ, zero, suc, ◌<◌, List, [], ◌∷◌, length, true, refl, ◌∙◌, arith}
 use Rattle.std.specs.declared.cmp.Ordering.{Ordering}
 use Rattle.std.specs.List.{AllByRecursion}
-use Rattle.image_base.specs.Records.{Records, SameAt, Among}
+use Rattle.image_base.specs.Records.{Records, SameAt}
 use Rattle.key_order.specs.Keys.{AllReadable, NoneReadsNodes, Ascends, KeepsOthers, IsKeyedTree}
 use Rattle.key_order.proofs.KeyLemmas.{keyed-from}
 use Rattle.store_api.specs.Statuses.{has_record}
 use Rattle.store_api.specs.Ledgers.{Ledger}
 use Rattle.store_api.specs.Units.{MayDo}
-use Rattle.store_api.specs.Parts.{times, uses, entries, Owns, Turns, After}
-use Rattle.store_api.proofs.Counts.{at_most-then}
+use Rattle.store_api.specs.Parts.{times, entries, Owns, Turns, After}
 use Rattle.store_api.proofs.May.{may_do-then}
 use Rattle.store_api.proofs.PartLemmas.{after, owns-then, owns-some, turns-then}
 use Rattle.store_api.proofs.Times.{all_at_times}

@@ -1,11 +1,11 @@
 -- Entries dropped one after another.
-use Rattle.std.proofs.Common.{◌≡◌, ◌≢◌, ℕ, ◌+◌, ◌<◌, List, [], ◌∷◌, ◌++◌, length, take, get_or, true, false, cond, true≢false, refl, sym, ap, subst, ◌∙◌, arith}
+use Rattle.std.proofs.Common.{◌≡◌, ◌≢◌, ℕ, ◌+◌, ◌<◌, List, [], ◌∷◌, ◌++◌, length, take, get_or, true, cond, true≢false, refl, sym, ap, ◌∙◌, arith}
 use Rattle.image_base.specs.Records.{Records}
-use Rattle.store_api.specs.Statuses.{Status, has_record, is_free_status, in_use, after_drop}
+use Rattle.store_api.specs.Statuses.{Status, has_record, is_free_status, in_use}
 use Rattle.store_api.specs.Ledgers.{Ledger}
 use Rattle.store_api.specs.Units.{MayDo}
 use Rattle.store_api.specs.Calls.{DropsEntry}
-use Rattle.store_api.specs.Parts.{times, uses, entries, Owns, Turns}
+use Rattle.store_api.specs.Parts.{times, entries, Owns}
 use Rattle.store_api.proofs.Counts.{at_most-none, at_most-then}
 use Rattle.store_api.proofs.May.{may_do-same, may_do-then}
 use Rattle.store_api.proofs.Times.{times-same, times-append, times-take, times-take-le}

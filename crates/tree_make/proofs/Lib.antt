@@ -5,3 +5,4 @@ pub mod RootLemmas
 pub mod DropLemmas
 pub mod ChangeLemmas
 pub mod TopLemmas
+pub mod WordLemmas

@@ -1,6 +1,6 @@
 -- What holds of an answer.
 use Rattle.std.specs.Prelude.{OnErr, IfOk}
-use Rattle.std.proofs.Common.{◌≡◌, ◌<◌, ℕ, zero, suc, Bool, true, false, IsTrue, true≢false, Result, Ok, Err, refl, sym, subst, arith}
+use Rattle.std.proofs.Common.{◌≡◌, ◌<◌, ℕ, zero, suc, Bool, true, false, IsTrue, true≢false, Result, Ok, Err, IsErrAnd, refl, sym, subst, arith}
 
 pub if_ok-then : {A E : Type 0} {P Q : A → Type 0} (result : Result A E) → ((x : A) → P x → Q x) → IfOk result P → IfOk result Q
 if_ok-then (Ok x) f h = f x h
@@ -17,3 +17,8 @@ not_valid b (suc r) h e = absurd (true≢false (sym (subst IsTrue e (h (omega ar
 
 pub is_valid : (b : Bool) (r : ℕ) → (IsTrue b → 0 < r) → b ≡ true → 0 < r
 is_valid b r h e = h (subst IsTrue (sym e) refl)
+
+-- an answer that is an error
+pub if_err : {A E : Type 0} (P : A → Type 0) (Q : E → Type 0) (result : Result A E) → IsErrAnd result Q → IfOk result P
+if_err P Q (Ok x) told = absurd told
+if_err P Q (Err e) told = tt

@@ -1,15 +1,16 @@
-ghost use Rattle.std.specs.Prelude.{◌≡◌, ◌^◌, ◌<◌, ◌≤◌, ◌+◌, ◌∷◌, ◌++◌, true, length, IfOk, IfErr, OnErr};
-ghost use Rattle.tree_images.specs.Nodes.{slot_words, node_words};
+ghost use Rattle.std.specs.Prelude.{◌≡◌, ◌^◌, ◌<◌, ◌≤◌, ◌+◌, ◌∷◌, ◌++◌, ℕ, List, true, length, IfOk, IfErr, OnErr};
+ghost use Rattle.tree_images.specs.Nodes.{slot_words, node_words, used_of};
 ghost use Rattle.store_api.specs.Calls.{Refuses};
 ghost use Rattle.tree_node.specs.Slots.{slot_pairs, IsInHand};
 ghost use Rattle.tree_make.specs.Makes.{MakesNodes, MakesPart};
+ghost use Rattle.tree_make.specs.Words.{AreWords};
 
 use arrayvec::ArrayVec;
 use entry_ref::EntryRef;
 use frozen_api::Frozen;
 use store_api::{Store, StoreError};
 use tree_images::{MOST_SLOTS, NODE_WORDS};
-use tree_node::{Slots, append};
+use tree_node::{Slots, append, used_in};
 
 /// A node that was made, as the slot of its parent is to hold it: its last key and its reference.
 #[derive(Clone, Copy, Debug, Drop)]
@@ -85,6 +86,31 @@ pub fn make_part<const OFFSET_BITS: u32, S: Store<OFFSET_BITS>>(
     let words = words_of(slots, count);
     let node = store.make(NODE_WORDS as u32, &words)?;
     let key = slots.keys[slots.keys.len() - 1];
+    Ok(Part {
+        key,
+        node: node.raw(),
+    })
+}
+
+/// Makes the node of words in hand.
+pub fn make_words<const OFFSET_BITS: u32, S: Store<OFFSET_BITS>>(
+    store: &mut S,
+    words: &[u64; NODE_WORDS],
+) -> Result<Part, StoreError>
+    requires unit { (S.ledger store.old).unit ≡ true }
+    requires some { 0 < used_of words.now }
+    requires fits { used_of words.now ≤ MOST_SLOTS }
+    ensures makes { (level : ℕ) (keys values : List ℕ)
+        → AreWords level (length (slot_pairs (S.records store.old) level keys values)) keys values words.now
+        → IsInHand (S.records store.old) level keys values → 0 < length keys
+        → length (slot_pairs (S.records store.old) level keys values) < 2 ^ 32
+        → IfOk result (MakesPart (S.ledger store.old) (S.ledger store.new) (S.records store.old) (S.records store.new) level keys values) }
+    ensures nodes { MakesNodes (S.ledger store.old) (S.ledger store.new) (S.records store.old) (S.records store.new) 1 }
+    ensures refused { OnErr result (MakesNodes (S.ledger store.old) (S.ledger store.new) (S.records store.old) (S.records store.new) 0) }
+    ensures refuses { IfErr result (Refuses (S.ledger store.old) (S.ledger store.new) NODE_WORDS) }
+{
+    let node = store.make(NODE_WORDS as u32, words)?;
+    let key = words[1 + used_in(words)];
     Ok(Part {
         key,
         node: node.raw(),

@@ -5,6 +5,6 @@ mod read;
 mod search;
 mod slots;
 
-pub use read::{Head, read_head, read_node, read_words};
+pub use read::{Head, read_head, read_node, read_words, slots_of, used_in};
 pub use search::{Spot, child_at, first_slot, place_of, visit};
 pub use slots::{Slots, append};

@@ -72,7 +72,7 @@ fn values_in(words: &[u64]) -> &[u64]
 }
 
 /// The slots of a node's words.
-fn slots_of(words: &[u64]) -> Slots
+pub fn slots_of(words: &[u64]) -> Slots
     requires size { length words.now ≡ NODE_WORDS }
     requires room { used_of words.now ≤ MOST_SLOTS }
     ensures level { result.level ≡ level_of words.now }

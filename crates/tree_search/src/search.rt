@@ -1,14 +1,74 @@
-ghost use Rattle.std.specs.Prelude.{◌≡◌, ◌<◌, length};
+ghost use Rattle.std.specs.Prelude.{◌≡◌, ◌<◌, length, slice_index, true, false};
 ghost use Rattle.std.specs.Option.{option_map};
+ghost use Rattle.tree_images.specs.Nodes.{level_of, node_keys};
 ghost use Rattle.tree_images.specs.Trees.{pairs_below, tree_pairs, IsNode, IsRootNode, IsTree};
 ghost use Rattle.key_order.specs.Keys.{AllReadable, Ascends, seen_by};
 ghost use Rattle.key_order.specs.Pairs.{lookup, lookup_pair};
+ghost use Rattle.tree_node.specs.Places.{IsSlot, IsFound, IsLacking};
 
 use entry_ref::EntryRef;
 use frozen_api::Frozen;
 use key_order::KeyOrder;
-use tree_images::{FIRST_KEY, FIRST_VALUE, NODE_WORDS};
-use tree_node::{read_head, visit};
+use std::cmp::Ordering;
+use tree_images::{FIRST_KEY, FIRST_VALUE};
+use tree_node::{Spot, read_head};
+
+/// The key of a slot beside the one sought.
+fn compare_slot<const OFFSET_BITS: u32, F: Frozen<OFFSET_BITS>, K: KeyOrder<OFFSET_BITS>>(
+    frozen: &mut F,
+    node: EntryRef<OFFSET_BITS>,
+    slot: u32,
+    key: &K,
+) -> Ordering
+    requires node { IsNode (F.records frozen.old) 1 (level_of (F.records frozen.old node)) node }
+    requires readable { AllReadable K.can_read (F.records frozen.old)
+        (pairs_below (F.records frozen.old) (level_of (F.records frozen.old node)) node) }
+    requires slot { slot < length (node_keys (F.records frozen.old node)) }
+    ensures answer { result ≡ seen_by K.read K.order (K.sought key.now) (F.records frozen.old)
+        (slice_index (node_keys (F.records frozen.old node.entry)) slot) }
+    ensures same { frozen.new ≡ frozen.old }
+{
+    let stored = frozen.word(node, FIRST_KEY as u32 + slot);
+    key.compare(frozen, stored)
+}
+
+/// Seeks a key among the keys of a node, of which no more words are read than it takes.
+fn seek_slot<const OFFSET_BITS: u32, F: Frozen<OFFSET_BITS>, K: KeyOrder<OFFSET_BITS>>(
+    frozen: &mut F,
+    node: EntryRef<OFFSET_BITS>,
+    used: u32,
+    key: &K,
+) -> Spot
+    requires node { IsNode (F.records frozen.old) 1 (level_of (F.records frozen.old node)) node }
+    requires readable { AllReadable K.can_read (F.records frozen.old)
+        (pairs_below (F.records frozen.old) (level_of (F.records frozen.old node)) node) }
+    requires used { used ≡ length (node_keys (F.records frozen.old node)) }
+    ensures slot { IsSlot (seen_by K.read K.order (K.sought key.now) (F.records frozen.old))
+        (node_keys (F.records frozen.old node.entry)) result.slot }
+    ensures found { result.found ≡ true → IsFound (seen_by K.read K.order (K.sought key.now) (F.records frozen.old))
+        (node_keys (F.records frozen.old node.entry)) result.slot }
+    ensures lacking { result.found ≡ false → IsLacking (seen_by K.read K.order (K.sought key.now) (F.records frozen.old))
+        (node_keys (F.records frozen.old node.entry)) result.slot }
+    ensures same { frozen.new ≡ frozen.old }
+{
+    for slot in 0..used {
+        match compare_slot(frozen, node, slot, key) {
+            Ordering::Less => {}
+            Ordering::Equal => return Spot {
+                slot: slot as usize,
+                found: true,
+            },
+            Ordering::Greater => return Spot {
+                slot: slot as usize,
+                found: false,
+            },
+        }
+    }
+    Spot {
+        slot: used as usize,
+        found: false,
+    }
+}
 
 /// The pair at a key below a node of this level.
 fn find_below<const OFFSET_BITS: u32, F: Frozen<OFFSET_BITS>, K: KeyOrder<OFFSET_BITS>>(
@@ -24,17 +84,18 @@ fn find_below<const OFFSET_BITS: u32, F: Frozen<OFFSET_BITS>, K: KeyOrder<OFFSET
         (pairs_below (F.records frozen.old) level node.entry) }
     ensures same { frozen.new ≡ frozen.old }
 {
-    let mut words = [0; NODE_WORDS];
-    let spot = visit(frozen, node, key, &mut words);
-    if spot.slot as u64 == words[0] % 256 {
+    let used = read_head(frozen, node).used;
+    let spot = seek_slot(frozen, node, used, key);
+    let slot = spot.slot as u32;
+    if slot == used {
         return None;
     }
-    let value = words[FIRST_VALUE + spot.slot];
+    let value = frozen.word(node, FIRST_VALUE as u32 + slot);
     if level > 0 {
         return find_below(frozen, EntryRef::from_raw(value as u32), level - 1, key);
     }
     if spot.found {
-        Some((words[FIRST_KEY + spot.slot], value))
+        Some((frozen.word(node, FIRST_KEY as u32 + slot), value))
     } else {
         None
     }

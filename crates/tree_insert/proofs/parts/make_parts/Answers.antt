@@ -1,4 +1,4 @@
-use Rattle.std.proofs.Common.{ap, Err, ◌≡◌, length, arith}
+use Rattle.std.proofs.Common.{◌≡◌, length, arith}
 use Rattle.tree_make.proofs.MakesLemmas.{makes-then}
 use Rattle.tree_insert.proofs.PartsLemmas.{IsSplit, first-hand, first-few, second-hand, second-few, two_made}
 use Rattle.tree_insert.proofs.parts.make_parts.Goals as goal

@@ -1,4 +1,4 @@
-use Rattle.std.proofs.Common.{Err, ◌≡◌, ℕ, List, [], ◌∷◌, ◌++◌, length, refl, sym, ap, ◌∙◌, arith}
+use Rattle.std.proofs.Common.{◌≡◌, ℕ, List, [], ◌∷◌, ◌++◌, length, refl, sym, ap, ◌∙◌, arith}
 use Rattle.tree_node.proofs.CountLemmas.{leaf_count}
 use Rattle.tree_node.proofs.SlotLemmas.{hand-leaf}
 use Rattle.tree_make.proofs.root.make_leaf.Goals as goal

@@ -1,4 +1,4 @@
-use Rattle.std.proofs.Common.{◌≡◌, ◌≢◌, ℕ, suc, ◌-◌, ◌<◌, List, length, get_or, sym, ap, subst, ◌∙◌, arith, Err}
+use Rattle.std.proofs.Common.{◌≡◌, ◌≢◌, ℕ, suc, ◌-◌, ◌<◌, List, length, get_or, sym, ap, subst, ◌∙◌, arith}
 use Rattle.list_facts.proofs.Tests.{zero_from_test, above_zero_from_test}
 use Rattle.tree_images.specs.Trees.{IsNode}
 use Rattle.tree_node.specs.Slots.{IsInHand}

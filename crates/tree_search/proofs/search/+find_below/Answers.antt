@@ -1,16 +1,17 @@
-use Rattle.std.proofs.Common.{rules, ◌≡◌, ℕ, ◌+◌, ◌-◌, ◌<◌, ◌≤◌, ◌^◌, suc, get_or, sym, ap, subst, ◌∙◌, arith, Some}
+use Rattle.std.proofs.Common.{rules, ◌≡◌, ℕ, ◌+◌, ◌-◌, ◌<◌, ◌≤◌, ◌^◌, suc, length, sym, ap, subst, ◌∙◌, arith, Some}
 use Rattle.image_base.specs.Records.{word_at}
-use Rattle.tree_images.specs.Nodes.{level_of, used_of}
+use Rattle.tree_images.specs.Nodes.{level_of, used_of, node_keys}
 use Rattle.tree_images.specs.Trees.{pairs_below, IsNode}
 use Rattle.key_order.specs.Keys.{Ascends, AllReadable, seen_by}
 use Rattle.key_order.specs.Pairs.{lookup_pair}
+use Rattle.tree_node.specs.Places.{IsSlot, IsFound, IsLacking}
 use Rattle.tree_node.proofs.ChildLemmas.{IsNode-lower, child-node, child-all, child-ascends, keys-length}
 use Rattle.tree_node.proofs.ReadLemmas.{node-level, node-room, node-size}
 use Rattle.tree_search.proofs.SeekLemmas.{past-none, child-pair, leaf-found, leaf-lacking}
 use Rattle.tree_search.proofs.search.+find_below.Goals as goal
 
-pub visit-spot-requires : goal.visit-spot-requires
-visit-spot-requires g t c =
+pub read_head-used-requires : goal.read_head-used-requires
+read_head-used-requires g t c =
     let records = g.F.Frozen.records in
     let key = g.K.KeyOrder in
     let total = g.met.K.KeyOrder.total in
@@ -20,31 +21,84 @@ visit-spot-requires g t c =
     let s = key.sought c.args.key.now in
     let is = c.requires.node in
     let at_level : level_of (m node) ≡ level = node-level m 1 level node is in
-    (omega arith, (subst (λ l. IsNode m 1 l node) (sym at_level) is, subst (λ l. AllReadable key.can_read m (pairs_below m l node)) (sym at_level) c.requires.readable))
-
-pub returns-then-spot-words-clause-pair : goal.returns-then-spot-words-clause-pair
-returns-then-spot-words-clause-pair g t c =
-    let records = g.F.Frozen.records in
-    let key = g.K.KeyOrder in
-    let total = g.met.K.KeyOrder.total in
-    let m = records c.args.frozen.now in
-    let node = c.args.node in
-    let level = c.args.level in
-    let s = key.sought c.args.key.now in
-    let is = c.requires.node in
-    let at_level : level_of (m node) ≡ level = node-level m 1 level node is in
-    let slot = c.visit-spot.result.slot in
-    let at = c.visit-spot.ensures.slot in
-    let words = c.visit-spot.ensures.words in
-    let used = ap used_of words in
     let most = node-room m 1 level node is in
     let size = keys-length m 1 level node is in
+    let wide = node-size m 1 level node is in
+    (omega arith, omega arith)
+
+pub seek_slot-spot-requires : goal.seek_slot-spot-requires
+seek_slot-spot-requires g t c =
+    let records = g.F.Frozen.records in
+    let key = g.K.KeyOrder in
+    let total = g.met.K.KeyOrder.total in
+    let m = records c.args.frozen.now in
+    let node = c.args.node in
+    let level = c.args.level in
+    let s = key.sought c.args.key.now in
+    let is = c.requires.node in
+    let at_level : level_of (m node) ≡ level = node-level m 1 level node is in
+    let most = node-room m 1 level node is in
+    let size = keys-length m 1 level node is in
+    let head = c.read_head-used.ensures.same in
+    let used : c.read_head-used.result.used ≡ length (node_keys (m node)) = c.read_head-used.ensures.used ∙ sym size in (
+      omega arith,
+      (
+        subst (λ (f : g.row.F.Denot). IsNode (records f) 1 (level_of (records f node)) node) (sym head) (subst (λ l. IsNode m 1 l node) (sym at_level) is),
+        (
+          subst (λ (f : g.row.F.Denot). AllReadable key.can_read (records f) (pairs_below (records f) (level_of (records f node)) node)) (sym head)
+              (subst (λ l. AllReadable key.can_read m (pairs_below m l node)) (sym at_level) c.requires.readable),
+          subst (λ (f : g.row.F.Denot). c.read_head-used.result.used ≡ length (node_keys (records f node))) (sym head) used,
+        ),
+      ),
+    )
+
+pub overflow_cast-slot : goal.overflow_cast-slot
+overflow_cast-slot g t c =
+    let records = g.F.Frozen.records in
+    let key = g.K.KeyOrder in
+    let total = g.met.K.KeyOrder.total in
+    let m = records c.args.frozen.now in
+    let node = c.args.node in
+    let level = c.args.level in
+    let s = key.sought c.args.key.now in
+    let is = c.requires.node in
+    let at_level : level_of (m node) ≡ level = node-level m 1 level node is in
+    let most = node-room m 1 level node is in
+    let size = keys-length m 1 level node is in
+    let seen = seen_by key.read key.order s m in
+    let slot = c.seek_slot-spot.result.slot in
+    let head = c.read_head-used.ensures.same in
+    let at : IsSlot seen (node_keys (m node)) slot =
+    subst (λ (f : g.row.F.Denot). IsSlot (seen_by key.read key.order s (records f)) (node_keys (records f node)) slot) head c.seek_slot-spot.ensures.slot in
     let within = at.within in
-    let past : used_of (m node) ≤ slot = (let test = c.if-spot-words.true in omega arith) in
+    let used = c.read_head-used.ensures.used in
+    omega arith
+
+pub returns-then-slot-used-clause-pair : goal.returns-then-slot-used-clause-pair
+returns-then-slot-used-clause-pair g t c =
+    let records = g.F.Frozen.records in
+    let key = g.K.KeyOrder in
+    let total = g.met.K.KeyOrder.total in
+    let m = records c.args.frozen.now in
+    let node = c.args.node in
+    let level = c.args.level in
+    let s = key.sought c.args.key.now in
+    let is = c.requires.node in
+    let at_level : level_of (m node) ≡ level = node-level m 1 level node is in
+    let most = node-room m 1 level node is in
+    let size = keys-length m 1 level node is in
+    let seen = seen_by key.read key.order s m in
+    let slot = c.seek_slot-spot.result.slot in
+    let head = c.read_head-used.ensures.same in
+    let at : IsSlot seen (node_keys (m node)) slot =
+    subst (λ (f : g.row.F.Denot). IsSlot (seen_by key.read key.order s (records f)) (node_keys (records f node)) slot) head c.seek_slot-spot.ensures.slot in
+    let within = at.within in
+    let used = c.read_head-used.ensures.used in
+    let past : used_of (m node) ≤ slot = (let test = c.if-slot-used.true in omega arith) in
     past-none key.order total (key.read m) s m level node slot is c.requires.ascends at past
 
-pub bounds-words-spot : goal.bounds-words-spot
-bounds-words-spot g t c =
+pub overflow_add-slot : goal.overflow_add-slot
+overflow_add-slot g t c =
     let records = g.F.Frozen.records in
     let key = g.K.KeyOrder in
     let total = g.met.K.KeyOrder.total in
@@ -54,15 +108,41 @@ bounds-words-spot g t c =
     let s = key.sought c.args.key.now in
     let is = c.requires.node in
     let at_level : level_of (m node) ≡ level = node-level m 1 level node is in
-    let slot = c.visit-spot.result.slot in
-    let at = c.visit-spot.ensures.slot in
-    let words = c.visit-spot.ensures.words in
-    let used = ap used_of words in
     let most = node-room m 1 level node is in
     let size = keys-length m 1 level node is in
+    let seen = seen_by key.read key.order s m in
+    let slot = c.seek_slot-spot.result.slot in
+    let head = c.read_head-used.ensures.same in
+    let at : IsSlot seen (node_keys (m node)) slot =
+    subst (λ (f : g.row.F.Denot). IsSlot (seen_by key.read key.order s (records f)) (node_keys (records f node)) slot) head c.seek_slot-spot.ensures.slot in
     let within = at.within in
-    let low : slot < used_of (m node) = (let test = c.if-spot-words.false in omega arith) in
+    let used = c.read_head-used.ensures.used in
     omega arith
+
+pub word-value-requires : goal.word-value-requires
+word-value-requires g t c =
+    let records = g.F.Frozen.records in
+    let key = g.K.KeyOrder in
+    let total = g.met.K.KeyOrder.total in
+    let m = records c.args.frozen.now in
+    let node = c.args.node in
+    let level = c.args.level in
+    let s = key.sought c.args.key.now in
+    let is = c.requires.node in
+    let at_level : level_of (m node) ≡ level = node-level m 1 level node is in
+    let most = node-room m 1 level node is in
+    let size = keys-length m 1 level node is in
+    let seen = seen_by key.read key.order s m in
+    let slot = c.seek_slot-spot.result.slot in
+    let head = c.read_head-used.ensures.same in
+    let at : IsSlot seen (node_keys (m node)) slot =
+    subst (λ (f : g.row.F.Denot). IsSlot (seen_by key.read key.order s (records f)) (node_keys (records f node)) slot) head c.seek_slot-spot.ensures.slot in
+    let within = at.within in
+    let used = c.read_head-used.ensures.used in
+    let low : slot < used_of (m node) = (let test = c.if-slot-used.false in omega arith) in
+    let same : c.seek_slot-spot.new.frozen ≡ c.args.frozen.now = c.seek_slot-spot.ensures.same ∙ head in
+    let wide = node-size m 1 level node is in
+    (omega arith, subst (λ (f : g.row.F.Denot). 18 + slot < length (records f node)) (sym same) (omega arith))
 
 pub overflow_cast-value : goal.overflow_cast-value
 overflow_cast-value g t c =
@@ -75,21 +155,25 @@ overflow_cast-value g t c =
     let s = key.sought c.args.key.now in
     let is = c.requires.node in
     let at_level : level_of (m node) ≡ level = node-level m 1 level node is in
-    let slot = c.visit-spot.result.slot in
-    let at = c.visit-spot.ensures.slot in
-    let words = c.visit-spot.ensures.words in
-    let used = ap used_of words in
     let most = node-room m 1 level node is in
     let size = keys-length m 1 level node is in
+    let seen = seen_by key.read key.order s m in
+    let slot = c.seek_slot-spot.result.slot in
+    let head = c.read_head-used.ensures.same in
+    let at : IsSlot seen (node_keys (m node)) slot =
+    subst (λ (f : g.row.F.Denot). IsSlot (seen_by key.read key.order s (records f)) (node_keys (records f node)) slot) head c.seek_slot-spot.ensures.slot in
     let within = at.within in
-    let low : slot < used_of (m node) = (let test = c.if-spot-words.false in omega arith) in
+    let used = c.read_head-used.ensures.used in
+    let low : slot < used_of (m node) = (let test = c.if-slot-used.false in omega arith) in
+    let same : c.seek_slot-spot.new.frozen ≡ c.args.frozen.now = c.seek_slot-spot.ensures.same ∙ head in
+    let wide = node-size m 1 level node is in
+    let q = word_at m node (18 + slot) in
+    let is_q : c.word-value.result ≡ q = c.word-value.ensures.value ∙ ap (λ (f : g.row.F.Denot). word_at (records f) node (18 + slot)) same in
     let l = level - 1 in
     let above : level ≡ suc l = (let test = c.if-level-gt0.true in omega arith) in
-    let q = word_at m node (18 + slot) in
     let child : IsNode m 8 l q = child-node m 1 level l node above is slot low in
-    let wide = node-size m 8 l q child in
+    let size_q = node-size m 8 l q child in
     let small : q < 2 ^ 32 = g.met.F.Frozen.references c.args.frozen.now q (omega arith) in
-    let is_q : get_or c.visit-spot.new.words (18 + slot) 0 ≡ q = ap (λ ws. get_or ws (18 + slot) 0) words in
     omega arith
 
 pub find_below-requires : goal.find_below-requires
@@ -103,21 +187,26 @@ find_below-requires g t c =
     let s = key.sought c.args.key.now in
     let is = c.requires.node in
     let at_level : level_of (m node) ≡ level = node-level m 1 level node is in
-    let slot = c.visit-spot.result.slot in
-    let at = c.visit-spot.ensures.slot in
-    let words = c.visit-spot.ensures.words in
-    let used = ap used_of words in
     let most = node-room m 1 level node is in
     let size = keys-length m 1 level node is in
+    let seen = seen_by key.read key.order s m in
+    let slot = c.seek_slot-spot.result.slot in
+    let head = c.read_head-used.ensures.same in
+    let at : IsSlot seen (node_keys (m node)) slot =
+    subst (λ (f : g.row.F.Denot). IsSlot (seen_by key.read key.order s (records f)) (node_keys (records f node)) slot) head c.seek_slot-spot.ensures.slot in
     let within = at.within in
-    let low : slot < used_of (m node) = (let test = c.if-spot-words.false in omega arith) in
+    let used = c.read_head-used.ensures.used in
+    let low : slot < used_of (m node) = (let test = c.if-slot-used.false in omega arith) in
+    let same : c.seek_slot-spot.new.frozen ≡ c.args.frozen.now = c.seek_slot-spot.ensures.same ∙ head in
+    let wide = node-size m 1 level node is in
+    let q = word_at m node (18 + slot) in
+    let is_q : c.word-value.result ≡ q = c.word-value.ensures.value ∙ ap (λ (f : g.row.F.Denot). word_at (records f) node (18 + slot)) same in
     let l = level - 1 in
     let above : level ≡ suc l = (let test = c.if-level-gt0.true in omega arith) in
-    let q = word_at m node (18 + slot) in
     let child : IsNode m 8 l q = child-node m 1 level l node above is slot low in
     let ref = c.from_raw.result in
-    let ref_is : ref ≡ q = c.from_raw.ensures ∙ ap (λ ws. get_or ws (18 + slot) 0) words in
-    let same = c.visit-spot.ensures.same in
+    let ref_is : ref ≡ q = c.from_raw.ensures ∙ is_q in
+    let kept : c.word-value.new.self ≡ c.args.frozen.now = c.word-value.ensures.same ∙ same in
     let lower = IsNode-lower m 8 1 l q (let e : 1 ≤ 8 = omega arith in e) child in
     let up = child-ascends m 1 level l node above is key.order (key.read m) c.requires.ascends slot low in
     let can = child-all m 1 level l node above is (λ p. key.can_read m p.0) c.requires.readable slot low in
@@ -135,10 +224,10 @@ find_below-requires g t c =
               (
                 omega arith,
                 (
-                  subst (λ (f : g.row.F.Denot). IsNode (records f) 1 l ref) (sym same) (put (IsNode m 1 l) lower),
+                  subst (λ (f : g.row.F.Denot). IsNode (records f) 1 l ref) (sym kept) (put (IsNode m 1 l) lower),
                   (
-                    subst (λ (f : g.row.F.Denot). Ascends key.order key.read (records f) (pairs_below (records f) l ref)) (sym same) (put (λ r. Ascends key.order key.read m (pairs_below m l r)) up),
-                    subst (λ (f : g.row.F.Denot). AllReadable key.can_read (records f) (pairs_below (records f) l ref)) (sym same) (put (λ r. AllReadable key.can_read m (pairs_below m l r)) can),
+                    subst (λ (f : g.row.F.Denot). Ascends key.order key.read (records f) (pairs_below (records f) l ref)) (sym kept) (put (λ r. Ascends key.order key.read m (pairs_below m l r)) up),
+                    subst (λ (f : g.row.F.Denot). AllReadable key.can_read (records f) (pairs_below (records f) l ref)) (sym kept) (put (λ r. AllReadable key.can_read m (pairs_below m l r)) can),
                   ),
                 ),
               ),
@@ -159,25 +248,82 @@ returns-then-level-gt0-clause-pair g t c =
     let s = key.sought c.args.key.now in
     let is = c.requires.node in
     let at_level : level_of (m node) ≡ level = node-level m 1 level node is in
-    let slot = c.visit-spot.result.slot in
-    let at = c.visit-spot.ensures.slot in
-    let words = c.visit-spot.ensures.words in
-    let used = ap used_of words in
     let most = node-room m 1 level node is in
     let size = keys-length m 1 level node is in
+    let seen = seen_by key.read key.order s m in
+    let slot = c.seek_slot-spot.result.slot in
+    let head = c.read_head-used.ensures.same in
+    let at : IsSlot seen (node_keys (m node)) slot =
+    subst (λ (f : g.row.F.Denot). IsSlot (seen_by key.read key.order s (records f)) (node_keys (records f node)) slot) head c.seek_slot-spot.ensures.slot in
     let within = at.within in
-    let low : slot < used_of (m node) = (let test = c.if-spot-words.false in omega arith) in
+    let used = c.read_head-used.ensures.used in
+    let low : slot < used_of (m node) = (let test = c.if-slot-used.false in omega arith) in
+    let same : c.seek_slot-spot.new.frozen ≡ c.args.frozen.now = c.seek_slot-spot.ensures.same ∙ head in
+    let wide = node-size m 1 level node is in
+    let q = word_at m node (18 + slot) in
+    let is_q : c.word-value.result ≡ q = c.word-value.ensures.value ∙ ap (λ (f : g.row.F.Denot). word_at (records f) node (18 + slot)) same in
     let l = level - 1 in
     let above : level ≡ suc l = (let test = c.if-level-gt0.true in omega arith) in
-    let q = word_at m node (18 + slot) in
     let child : IsNode m 8 l q = child-node m 1 level l node above is slot low in
     let ref = c.from_raw.result in
-    let ref_is : ref ≡ q = c.from_raw.ensures ∙ ap (λ ws. get_or ws (18 + slot) 0) words in
-    let same = c.visit-spot.ensures.same in
+    let ref_is : ref ≡ q = c.from_raw.ensures ∙ is_q in
+    let kept : c.word-value.new.self ≡ c.args.frozen.now = c.word-value.ensures.same ∙ same in
     c.find_below.ensures.pair
-    ∙ ap (λ (f : g.row.F.Denot). lookup_pair (seen_by key.read key.order s (records f)) (pairs_below (records f) l ref)) same
+    ∙ ap (λ (f : g.row.F.Denot). lookup_pair (seen_by key.read key.order s (records f)) (pairs_below (records f) l ref)) kept
     ∙ ap (λ r. lookup_pair (seen_by key.read key.order s m) (pairs_below m l r)) ref_is
     ∙ sym (child-pair key.order total (key.read m) s m level node slot is c.requires.ascends at l above low)
+
+pub overflow_add-slot-then-spot : goal.overflow_add-slot-then-spot
+overflow_add-slot-then-spot g t c =
+    let records = g.F.Frozen.records in
+    let key = g.K.KeyOrder in
+    let total = g.met.K.KeyOrder.total in
+    let m = records c.args.frozen.now in
+    let node = c.args.node in
+    let level = c.args.level in
+    let s = key.sought c.args.key.now in
+    let is = c.requires.node in
+    let at_level : level_of (m node) ≡ level = node-level m 1 level node is in
+    let most = node-room m 1 level node is in
+    let size = keys-length m 1 level node is in
+    let seen = seen_by key.read key.order s m in
+    let slot = c.seek_slot-spot.result.slot in
+    let head = c.read_head-used.ensures.same in
+    let at : IsSlot seen (node_keys (m node)) slot =
+    subst (λ (f : g.row.F.Denot). IsSlot (seen_by key.read key.order s (records f)) (node_keys (records f node)) slot) head c.seek_slot-spot.ensures.slot in
+    let within = at.within in
+    let used = c.read_head-used.ensures.used in
+    omega arith
+
+pub word-requires : goal.word-requires
+word-requires g t c =
+    let records = g.F.Frozen.records in
+    let key = g.K.KeyOrder in
+    let total = g.met.K.KeyOrder.total in
+    let m = records c.args.frozen.now in
+    let node = c.args.node in
+    let level = c.args.level in
+    let s = key.sought c.args.key.now in
+    let is = c.requires.node in
+    let at_level : level_of (m node) ≡ level = node-level m 1 level node is in
+    let most = node-room m 1 level node is in
+    let size = keys-length m 1 level node is in
+    let seen = seen_by key.read key.order s m in
+    let slot = c.seek_slot-spot.result.slot in
+    let head = c.read_head-used.ensures.same in
+    let at : IsSlot seen (node_keys (m node)) slot =
+    subst (λ (f : g.row.F.Denot). IsSlot (seen_by key.read key.order s (records f)) (node_keys (records f node)) slot) head c.seek_slot-spot.ensures.slot in
+    let within = at.within in
+    let used = c.read_head-used.ensures.used in
+    let low : slot < used_of (m node) = (let test = c.if-slot-used.false in omega arith) in
+    let same : c.seek_slot-spot.new.frozen ≡ c.args.frozen.now = c.seek_slot-spot.ensures.same ∙ head in
+    let wide = node-size m 1 level node is in
+    let q = word_at m node (18 + slot) in
+    let is_q : c.word-value.result ≡ q = c.word-value.ensures.value ∙ ap (λ (f : g.row.F.Denot). word_at (records f) node (18 + slot)) same in
+    let flat : level ≡ 0 = (let test = c.if-level-gt0.false in omega arith) in
+    let leaf : IsNode m 1 0 node = subst (λ l. IsNode m 1 l node) flat is in
+    let kept : c.word-value.new.self ≡ c.args.frozen.now = c.word-value.ensures.same ∙ same in
+    (omega arith, subst (λ (f : g.row.F.Denot). 2 + slot < length (records f node)) (sym kept) (omega arith))
 
 pub returns-then-spot-clause-pair : goal.returns-then-spot-clause-pair
 returns-then-spot-clause-pair g t c =
@@ -190,19 +336,29 @@ returns-then-spot-clause-pair g t c =
     let s = key.sought c.args.key.now in
     let is = c.requires.node in
     let at_level : level_of (m node) ≡ level = node-level m 1 level node is in
-    let slot = c.visit-spot.result.slot in
-    let at = c.visit-spot.ensures.slot in
-    let words = c.visit-spot.ensures.words in
-    let used = ap used_of words in
     let most = node-room m 1 level node is in
     let size = keys-length m 1 level node is in
+    let seen = seen_by key.read key.order s m in
+    let slot = c.seek_slot-spot.result.slot in
+    let head = c.read_head-used.ensures.same in
+    let at : IsSlot seen (node_keys (m node)) slot =
+    subst (λ (f : g.row.F.Denot). IsSlot (seen_by key.read key.order s (records f)) (node_keys (records f node)) slot) head c.seek_slot-spot.ensures.slot in
     let within = at.within in
-    let low : slot < used_of (m node) = (let test = c.if-spot-words.false in omega arith) in
+    let used = c.read_head-used.ensures.used in
+    let low : slot < used_of (m node) = (let test = c.if-slot-used.false in omega arith) in
+    let same : c.seek_slot-spot.new.frozen ≡ c.args.frozen.now = c.seek_slot-spot.ensures.same ∙ head in
+    let wide = node-size m 1 level node is in
+    let q = word_at m node (18 + slot) in
+    let is_q : c.word-value.result ≡ q = c.word-value.ensures.value ∙ ap (λ (f : g.row.F.Denot). word_at (records f) node (18 + slot)) same in
     let flat : level ≡ 0 = (let test = c.if-level-gt0.false in omega arith) in
     let leaf : IsNode m 1 0 node = subst (λ l. IsNode m 1 l node) flat is in
-    ap (λ ws. Some (get_or ws (2 + slot) 0, get_or ws (18 + slot) 0)) words
-    ∙ leaf-found (seen_by key.read key.order s m) m node slot leaf at low (c.visit-spot.ensures.found c.if-spot.true)
-    ∙ ap (λ l. lookup_pair (seen_by key.read key.order s m) (pairs_below m l node)) (sym flat)
+    let kept : c.word-value.new.self ≡ c.args.frozen.now = c.word-value.ensures.same ∙ same in
+    let found : IsFound seen (node_keys (m node)) slot =
+    subst (λ (f : g.row.F.Denot). IsFound (seen_by key.read key.order s (records f)) (node_keys (records f node)) slot) head (c.seek_slot-spot.ensures.found c.if-spot.true) in
+    let is_k : c.word.result ≡ word_at m node (2 + slot) = c.word.ensures.value ∙ ap (λ (f : g.row.F.Denot). word_at (records f) node (2 + slot)) kept in
+    ap (λ k. Some (k, c.word-value.result)) is_k ∙ ap (λ v. Some (word_at m node (2 + slot), v)) is_q
+    ∙ leaf-found seen m node slot leaf at low found
+    ∙ ap (λ l. lookup_pair seen (pairs_below m l node)) (sym flat)
 
 pub returns-else-spot-clause-pair : goal.returns-else-spot-clause-pair
 returns-else-spot-clause-pair g t c =
@@ -215,15 +371,24 @@ returns-else-spot-clause-pair g t c =
     let s = key.sought c.args.key.now in
     let is = c.requires.node in
     let at_level : level_of (m node) ≡ level = node-level m 1 level node is in
-    let slot = c.visit-spot.result.slot in
-    let at = c.visit-spot.ensures.slot in
-    let words = c.visit-spot.ensures.words in
-    let used = ap used_of words in
     let most = node-room m 1 level node is in
     let size = keys-length m 1 level node is in
+    let seen = seen_by key.read key.order s m in
+    let slot = c.seek_slot-spot.result.slot in
+    let head = c.read_head-used.ensures.same in
+    let at : IsSlot seen (node_keys (m node)) slot =
+    subst (λ (f : g.row.F.Denot). IsSlot (seen_by key.read key.order s (records f)) (node_keys (records f node)) slot) head c.seek_slot-spot.ensures.slot in
     let within = at.within in
-    let low : slot < used_of (m node) = (let test = c.if-spot-words.false in omega arith) in
+    let used = c.read_head-used.ensures.used in
+    let low : slot < used_of (m node) = (let test = c.if-slot-used.false in omega arith) in
+    let same : c.seek_slot-spot.new.frozen ≡ c.args.frozen.now = c.seek_slot-spot.ensures.same ∙ head in
+    let wide = node-size m 1 level node is in
+    let q = word_at m node (18 + slot) in
+    let is_q : c.word-value.result ≡ q = c.word-value.ensures.value ∙ ap (λ (f : g.row.F.Denot). word_at (records f) node (18 + slot)) same in
     let flat : level ≡ 0 = (let test = c.if-level-gt0.false in omega arith) in
     let leaf : IsNode m 1 0 node = subst (λ l. IsNode m 1 l node) flat is in
-    leaf-lacking (seen_by key.read key.order s m) m node slot leaf at low (c.visit-spot.ensures.lacking c.if-spot.false)
-    ∙ ap (λ l. lookup_pair (seen_by key.read key.order s m) (pairs_below m l node)) (sym flat)
+    let kept : c.word-value.new.self ≡ c.args.frozen.now = c.word-value.ensures.same ∙ same in
+    let lacking : IsLacking seen (node_keys (m node)) slot =
+    subst (λ (f : g.row.F.Denot). IsLacking (seen_by key.read key.order s (records f)) (node_keys (records f node)) slot) head (c.seek_slot-spot.ensures.lacking c.if-spot.false) in
+    leaf-lacking seen m node slot leaf at low lacking
+    ∙ ap (λ l. lookup_pair seen (pairs_below m l node)) (sym flat)
