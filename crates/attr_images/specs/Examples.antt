@@ -1,11 +1,9 @@
--- Images made by hand: one of a weighted set of texts, and one broken image for each part of what is lawful.
-use Rattle.std.specs.Prelude.{◌≡◌, ℕ, negsuc, List, [], ◌∷◌}
+-- Images made by hand: one of a weighted set of texts, one with a second attribute, and a broken one for each part of what is lawful.
+use Rattle.std.specs.Prelude.{◌≡◌, ℕ, ◌+◌, ◌*◌, ◌^◌, pos, negsuc, List, [], ◌∷◌}
 use Rattle.image_base.specs.Images.{words_at}
 use Rattle.image_base.specs.declared.Image.{Image}
 use Rattle.tree_images.specs.Nodes.{node_words}
 use Rattle.attr_images.specs.Images.{table_of, IsLawfulImage}
-use Rattle.attr_types.specs.declared.kind.Kind.TheVariants.{WeightedSet}
-use Rattle.attr_types.specs.declared.kind.ValueType.TheVariants as types
 use Rattle.attr_types.specs.declared.value.Value.TheVariants as values
 
 -- document 7 has the text `te` with weight -3: one operation
@@ -31,7 +29,7 @@ abbrev pub OneTextIsLawful : Type 0
 OneTextIsLawful = IsLawfulText one_text
 
 abbrev pub OneTextReads : Type 0
-OneTextReads = table_of WeightedSet types.Text (words_at one_text) one_text.root
+OneTextReads = table_of 6 (words_at one_text) one_text.root
     ≡ (7, (record { value = values.Text (116 ∷ 101 ∷ []); weight = negsuc 2 } ∷ []) ∷ []) ∷ []
 
 -- the value's record is missing
@@ -53,3 +51,31 @@ MissingValue = ¬ IsLawfulText (broken 1027 (1 ∷ 1026 ∷ 0 ∷ 0 ∷ []))
 -- the posting list has weight -2
 abbrev pub WrongWeight : Type 0
 WrongWeight = ¬ IsLawfulText (broken 2048 (1 ∷ 34359738366 ∷ []))
+
+-- a second attribute of single longs, in which one document has the number 5
+abbrev pub two_fields : ℕ → Image
+two_fields doc = record {
+  root = 1028;
+  records = (1028, 1 ∷ 1026 ∷ 2050 ∷ 3074 ∷ 4098 ∷ 0 ∷ 0 ∷ 0 ∷ [])
+      ∷ (3074, node_words 0 1 (doc ∷ []) (4096 ∷ []))
+      ∷ (4096, 8 ∷ 5 ∷ [])
+      ∷ (4098, node_words 0 1 (4096 ∷ []) (10240 ∷ []))
+      ∷ (5120, 1 ∷ (doc * 2 ^ 32 + 1) ∷ [])
+      ∷ one_text.records;
+}
+
+-- shape 14: digit 6 of the weighted set of texts, and digit 1 of the longs times 8
+abbrev pub TwoFieldsAreLawful : Type 0
+TwoFieldsAreLawful = IsLawfulImage 14 (words_at (two_fields 7)) 1028
+
+abbrev pub TwoFieldsRead : Type 0
+TwoFieldsRead = table_of 14 (words_at (two_fields 7)) 1028
+    ≡ (
+      7,
+      (record { value = values.Text (116 ∷ 101 ∷ []); weight = negsuc 2 } ∷ [])
+          ∷ (record { value = values.Long (pos 5); weight = pos 1 } ∷ []) ∷ [],
+    ) ∷ []
+
+-- it is another document than the first attribute's
+abbrev pub OtherDocument : Type 0
+OtherDocument = ¬ IsLawfulImage 14 (words_at (two_fields 8)) 1028

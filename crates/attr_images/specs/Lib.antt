@@ -4,6 +4,7 @@ pub mod Documents
 pub mod Postings
 pub mod Shapes
 pub mod Attributes
+pub mod Tables
 pub mod Images
 pub mod ProofsForImages
 pub mod Laws

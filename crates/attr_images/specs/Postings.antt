@@ -1,39 +1,62 @@
 -- The dictionary: each value with the list of documents that have it.
-use Rattle.std.specs.Prelude.{ℕ, ℤ, ◌/◌, ◌%◌, ◌^◌, ◌<◌, nat_eq, List, [], ◌∷◌, length, map, if◌then◌else◌}
-use Rattle.std.specs.List.{flat_map, AllByRecursion}
+use Rattle.std.specs.Prelude.{◌≡◌, ℕ, ℤ, pos, ◌+◌, ◌-◌, ◌*◌, ◌/◌, ◌%◌, ◌^◌, ◌<◌, nat_eq, nat_le, if◌then◌else◌}
+use Rattle.std.specs.Prelude.{List, [], ◌∷◌, ◌++◌, length, map, filter}
+use Rattle.std.specs.List.{flat_map, range_with_len, AllByRecursion}
 use Rattle.std.specs.Ordering.{nat_cmp}
 use Rattle.image_base.specs.Records.{Records}
 use Rattle.tree_images.specs.Trees.{tree_pairs, tree_nodes, by_number, IsTree}
-use Rattle.attr_images.specs.declared.TheConstants.{MOST_SHORT}
+use Rattle.attr_images.specs.declared.TheConstants.{MOST_SHORT, FIRST_VECTOR, BLOCK_WORDS, BLOCK_DOCUMENTS}
 use Rattle.attr_images.specs.Values.{stored_value, IsValueRecord}
 use Rattle.attr_images.specs.Words.{stored_items, unpacked, weight_of, IsStoredList}
 use Rattle.attr_types.specs.declared.kind.ValueType.{ValueType}
 use Rattle.attr_types.specs.declared.value.Value.{Value}
+use Rattle.doc_set.specs.Sets.{in_words}
 
--- the form of a posting list: a short one's record, or a tree's root
+-- the form of a posting list: the record of a short one, or the root of a tree or of a bit vector
 pub data ListForm : Type 0 where
   short : ℕ → ListForm
   tree : ℕ → ListForm
+  vector : ℕ → ListForm
 
--- the lowest bit of a dictionary's value tells the form
+-- a dictionary's value tells the form: a bit vector's root is counted from FIRST_VECTOR, and below it the lowest bit tells
 abbrev pub list_form : ℕ → ListForm
-list_form word = if nat_eq (word % 2) 0 then short (word / 2) else tree (word / 2)
+list_form word =
+    if nat_le FIRST_VECTOR word then vector (word - FIRST_VECTOR)
+    else if nat_eq (word % 2) 0 then short (word / 2) else tree (word / 2)
+
+-- the documents of block `k`: those whose bit is 1, the lowest bit of the first word first
+unfoldable pub block_documents : ℕ → List ℕ → List ℕ
+block_documents k ws = map (λ i. BLOCK_DOCUMENTS * k + i) (filter (in_words ws) (range_with_len 0 BLOCK_DOCUMENTS))
+
+-- the documents of a bit vector: a tree of its blocks by their numbers
+abbrev pub vector_documents : Records → ℕ → List ℕ
+vector_documents m root = flat_map (λ p. block_documents p.0 (m p.1)) (tree_pairs m root)
 
 -- the documents of a list, each with its weight
 abbrev pub postings_at : Records → ListForm → List (ℕ × ℤ)
 postings_at m (short ref) = map unpacked (stored_items (m ref))
 postings_at m (tree root) = map (λ p. (p.0, weight_of p.1)) (tree_pairs m root)
+postings_at m (vector root) = map (λ doc. (doc, pos 1)) (vector_documents m root)
 
--- a short list has at most MOST_SHORT documents, a tree more
+-- a block, some bit of which is 1, and whose documents have 32 bits
+pub record IsBlock (k : ℕ) (ws : List ℕ) : Type 0 where
+  pub few : k < 2 ^ 20
+  pub size : length ws ≡ BLOCK_WORDS
+  pub some : 0 < length (block_documents k ws)
+
+-- a short list has at most MOST_SHORT documents, a tree more; a bit vector has some block
 abbrev pub IsPostingList : Records → ListForm → Type 0
 IsPostingList m (short ref) = IsStoredList MOST_SHORT (m ref)
 IsPostingList m (tree root) = IsTree nat_cmp by_number m root × (MOST_SHORT < length (tree_pairs m root))
     × AllByRecursion (λ p. p.1 < 2 ^ 32) (tree_pairs m root)
+IsPostingList m (vector root) = IsTree nat_cmp by_number m root × (0 < length (tree_pairs m root))
+    × AllByRecursion (λ p. IsBlock p.0 (m p.1)) (tree_pairs m root)
 
 -- what a list reaches
 abbrev pub postings_reach : Records → ListForm → List ℕ
 postings_reach m (short ref) = ref ∷ []
 postings_reach m (tree root) = tree_nodes m root
+postings_reach m (vector root) = tree_nodes m root ++ map (λ p. p.1) (tree_pairs m root)
 
 -- the values of a dictionary, each with its list
 abbrev pub index_of : ValueType → Records → ℕ → List (Value × List (ℕ × ℤ))

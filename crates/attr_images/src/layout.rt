@@ -3,7 +3,7 @@ ghost use Rattle.attr_images.specs.Images.{attr_reaches, IsLawfulImage};
 
 use image_base::Layout;
 
-/// The layout of an attribute's images, where the shape is `1 + 2 * kind + value type`.
+/// The layout of images of one to eight attributes, whose kinds and value types the shape tells.
 pub struct AttrLayout;
 
 impl Layout for AttrLayout {

@@ -1,7 +1,7 @@
-ghost use Rattle.std.specs.Prelude.{◌≡◌, ◌≤◌};
-ghost use Rattle.attr_images.specs.Shapes.{kind_number, type_number, shape_of};
+ghost use Rattle.std.specs.Prelude.{◌≡◌, ◌<◌, ◌≤◌, ◌^◌, length};
+ghost use Rattle.attr_images.specs.Shapes.{kind_number, type_number, digit_of, shape_of, types_of};
 
-use attr_types::{Kind, ValueType};
+use attr_types::{Field, Fields, Kind, MOST_FIELDS, ValueType};
 
 fn kind_number(kind: Kind) -> u32
     ensures value { result ≡ kind_number kind }
@@ -24,9 +24,29 @@ fn type_number(value_type: ValueType) -> u32
     }
 }
 
-/// The shape of an attribute's images: 1 for a single long to 6 for a weighted set of texts.
-pub fn shape_of(kind: Kind, value_type: ValueType) -> u32
-    ensures { result ≡ shape_of kind value_type }
+/// An attribute's digit: 1 for a single long to 6 for a weighted set of texts.
+fn digit_of(kind: Kind, value_type: ValueType) -> u32
+    ensures value { result ≡ digit_of (kind, value_type) }
+    ensures small { result ≤ 6 }
 {
     1 + 2 * kind_number(kind) + type_number(value_type)
+}
+
+fn digits_of(fields: &[Field]) -> u32
+    requires { length fields.now ≤ MOST_FIELDS }
+    ensures value { result ≡ shape_of (types_of fields.now) }
+    ensures small { result < 8 ^ length fields.now }
+{
+    match fields {
+        [] => 0,
+        [first, rest @ ..] => digit_of(first.kind, first.value) + 8 * digits_of(rest),
+    }
+}
+
+/// The shape of images of these attributes: their digits to base 8, the first attribute's lowest.
+pub fn shape_of(fields: &Fields) -> u32
+    requires { length fields.now ≤ MOST_FIELDS }
+    ensures { result ≡ shape_of (types_of fields.now) }
+{
+    digits_of(fields.as_slice())
 }

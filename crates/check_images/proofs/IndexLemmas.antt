@@ -1,7 +1,6 @@
 -- A dictionary with the right lists has exactly the values of a column, if it has all of them.
 use Rattle.std.proofs.Common.{◌≡◌, ℕ, ◌<◌, Bool, true, false, cond, List, [], ◌∷◌, length, map, Option, Some, None, option_map, is_eq, refl, sym, ap, subst, arith}
 use Rattle.std.specs.Prelude.{ℤ, Contains}
-use Rattle.std.proofs.lemmas.List.{length-map}
 use Rattle.std.proofs.lemmas.List.Elements.{All-contains, All-from_recursion, Contains-append_left, Contains-append_right}
 use Rattle.std.specs.Cmp.{Equal-is}
 use Rattle.std.specs.List.{find, cons_option, AllByRecursion}
@@ -14,9 +13,9 @@ use Rattle.tree_images.specs.Trees.{tree_pairs, by_number, IsTree}
 use Rattle.attr_index.specs.Columns.{Column, column_values, documents_with, IsLawfulColumn}
 use Rattle.attr_index.specs.Index.{HasValues, HasLists}
 use Rattle.attr_images.specs.Documents.{items_at, column_at}
-use Rattle.attr_images.specs.Postings.{ListForm, short, tree, list_form, postings_at, IsPostingList, IsDictionaryEntry}
+use Rattle.attr_images.proofs.ListLemmas.{lists_filled}
+use Rattle.attr_images.specs.Postings.{list_form, postings_at, IsDictionaryEntry}
 use Rattle.attr_images.specs.Values.{stored_value}
-use Rattle.attr_images.specs.Words.{stored_items, unpacked, weight_of}
 use Rattle.attr_types.specs.Lawful.{IsDocNumber, IsLawfulItems}
 use Rattle.attr_types.specs.ProofsForOrder.{value_cmp_exact}
 use Rattle.attr_types.specs.Value.{value_cmp, values_of}
@@ -78,13 +77,6 @@ module _ (type : ValueType) (m : Records) (column : Column) where
   from_lists [] all = tt
   from_lists (p ∷ ps) all = (all.0, from_lists ps all.1)
 
-  -- a list has some document
-  some_posting : (form : ListForm) → IsPostingList m form → 0 < length (postings_at m form)
-  some_posting (short ref) list = let size = length-map (stored_items (m ref)) unpacked in let some = list.some in omega arith
-  some_posting (tree root) list =
-      let weigh : ℕ × ℕ → ℕ × ℤ = λ p. (p.0, weight_of p.1) in
-      let size = length-map (tree_pairs m root) weigh in let many = list.1 in omega arith
-
 -- a value that some document has
 module _ (value : Value) where
   found_value : (items : List Item) (item : Item) → find (λ (other : Item). is_eq (value_cmp value other.value)) items ≡ Some item → Contains (values_of items) value
@@ -120,7 +112,7 @@ module _ (type : ValueType) (m : Records) (column : Column) where
   all_in_column : (ps : List (ℕ × ℕ)) → AllByRecursion (IsDictionaryEntry type m) ps → AllByRecursion (IsRight type m column) ps → AllByRecursion (Contains (column_values column)) (map (λ (p : ℕ × ℕ). stored_value type m p.0) ps)
   all_in_column [] entries right = tt
   all_in_column (p ∷ ps) entries right =
-      (value_of_some (stored_value type m p.0) column (subst (λ (list : List (ℕ × ℤ)). 0 < length list) right.0 (some_posting type m column (list_form p.1) entries.0.1)), all_in_column ps entries.1 right.1)
+      (value_of_some (stored_value type m p.0) column (subst (λ (list : List (ℕ × ℤ)). 0 < length list) right.0 (lists_filled m (list_form p.1) entries.0.1)), all_in_column ps entries.1 right.1)
 
   pub has_values : (ps : List (ℕ × ℕ)) → AllByRecursion (IsDictionaryEntry type m) ps → AllByRecursion (IsRight type m column) ps
       → AllByRecursion (λ (e : ℕ × List Item). AllByRecursion (λ (item : Item). Contains (map (λ (p : ℕ × ℕ). stored_value type m p.0) ps) item.value) e.1) column

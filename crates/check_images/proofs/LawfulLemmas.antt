@@ -1,60 +1,63 @@
--- An image is lawful just where its root record has its form and its attribute is lawful.
-use Rattle.std.proofs.Common.{◌≡◌, ℕ, zero, suc, ◌<◌, List, refl, sym, ap, subst, ◌∙◌, arith}
-use Rattle.std.specs.Prelude.{slice_index}
+-- An image is lawful just where its root record has its form and the attributes that it names are lawful.
+use Rattle.std.proofs.Common.{◌≡◌, ℕ, zero, suc, ◌<◌, ◌≤◌, List, [], length, Result, Ok, Err, refl, sym, ap, ap₂, subst, ◌∙◌, arith}
+use Rattle.std.specs.Prelude.{IfOk, IfErr}
+use Rattle.std.proofs.lemmas.List.{length-map}
 use Rattle.image_base.specs.Records.{Records}
-use Rattle.attr_images.proofs.ImageLemmas.{shape_tells}
-use Rattle.attr_images.specs.Attributes.{IsLawfulAttribute}
-use Rattle.attr_images.specs.Images.{documents_at, dictionary_at, IsRootRecord, IsLawfulImage}
-use Rattle.attr_images.specs.Shapes.{shape_of, kind_of_shape, type_of_shape}
-use Rattle.attr_types.specs.declared.kind.Kind.{Kind}
-use Rattle.attr_types.specs.declared.kind.ValueType.{ValueType}
+use Rattle.attr_images.proofs.ImageLemmas.{attributes_lawful, image_lawful, table_empty}
+use Rattle.attr_images.proofs.ShapeLemmas.{shape_tells}
+use Rattle.attr_images.specs.Images.{root_words, attributes_from, attributes_of, table_of, IsRootRecord, IsLawfulImage}
+use Rattle.attr_images.specs.Shapes.{shape_of, types_of_shape, types_of}
+use Rattle.attr_images.specs.Tables.{table_of_columns, columns_at, AreLawfulAttributes}
+use Rattle.attr_types.specs.Table.{Table}
+use Rattle.attr_types.specs.declared.field.Field.{Field}
+use Rattle.attr_types.specs.declared.field.TheConstants.{MOST_FIELDS}
+use Rattle.check_trees.proofs.Walks.{refuted_by}
+use Rattle.check_trees.specs.Refutations.{Refutes}
+use Rattle.check_trees.specs.declared.fault.CheckFault.{CheckFault}
 
-lawful_at : (kind : Kind) (type : ValueType) (shape : ℕ) (m : Records) (root : ℕ) → kind_of_shape shape ≡ kind → type_of_shape shape ≡ type → 0 < root
-    → IsRootRecord (m root) → IsLawfulAttribute kind type m (documents_at m root) (dictionary_at m root) → IsLawfulImage shape m root
-lawful_at kind type shape m zero k t some form attribute = absurd (omega arith)
-lawful_at kind type shape m (suc ref) k t some form attribute =
-    let documents = documents_at m (suc ref) in
-    let dictionary = dictionary_at m (suc ref) in
-    record {
-      root_record = form;
-      attribute = subst (λ x. IsLawfulAttribute (kind_of_shape shape) x m documents dictionary) (sym t) (subst (λ x. IsLawfulAttribute x type m documents dictionary) (sym k) attribute);
-    }
+words_here : (m : Records) (root : ℕ) → 0 < root → root_words m root ≡ m root
+words_here m zero some = absurd (omega arith)
+words_here m (suc root) some = refl
 
-parts_at : (kind : Kind) (type : ValueType) (shape : ℕ) (m : Records) (root : ℕ) → kind_of_shape shape ≡ kind → type_of_shape shape ≡ type → 0 < root → IsLawfulImage shape m root
-    → IsRootRecord (m root) × IsLawfulAttribute kind type m (documents_at m root) (dictionary_at m root)
-parts_at kind type shape m zero k t some lawful = absurd (omega arith)
-parts_at kind type shape m (suc ref) k t some lawful =
-    let documents = documents_at m (suc ref) in
-    let dictionary = dictionary_at m (suc ref) in
-    (lawful.root_record, subst (λ x. IsLawfulAttribute kind x m documents dictionary) t (subst (λ x. IsLawfulAttribute x (type_of_shape shape) m documents dictionary) k lawful.attribute))
+form_here : (shape : ℕ) (m : Records) (root : ℕ) → 0 < root → IsLawfulImage shape m root → IsRootRecord (length (types_of_shape shape)) (m root)
+form_here shape m zero some lawful = absurd (omega arith)
+form_here shape m (suc root) some lawful = lawful.root_record
 
-documents_is : (m : Records) (root : ℕ) → 0 < root → documents_at m root ≡ slice_index (m root) 1
-documents_is m zero some = absurd (omega arith)
-documents_is m (suc ref) some = refl
+module _ (fields : List Field) (m : Records) (root : ℕ) (some : 0 < root) (few : length fields ≤ MOST_FIELDS) (words : List ℕ) (at : words ≡ m root) where
+  tells : types_of_shape (shape_of (types_of fields)) ≡ types_of fields
+  tells = shape_tells (types_of fields) (subst (λ n. n ≤ MOST_FIELDS) (sym (length-map fields (λ (f : Field). (f.kind, f.value)))) few)
 
-dictionary_is : (m : Records) (root : ℕ) → 0 < root → dictionary_at m root ≡ slice_index (m root) 2
-dictionary_is m zero some = absurd (omega arith)
-dictionary_is m (suc ref) some = refl
+  count : length (types_of_shape (shape_of (types_of fields))) ≡ length fields
+  count = ap length tells ∙ length-map fields (λ (f : Field). (f.kind, f.value))
 
--- the attribute that the words of the root record name
-module _ (kind : Kind) (type : ValueType) (m : Records) (root : ℕ) (some : 0 < root) (words : List ℕ) (at : words ≡ m root) (documents dictionary : ℕ)
-    (first : documents ≡ slice_index words 1) (second : dictionary ≡ slice_index words 2) where
-  pub documents_read : documents ≡ documents_at m root
-  documents_read = first ∙ ap (λ ws. slice_index ws 1) at ∙ sym (documents_is m root some)
+  named : attributes_of (shape_of (types_of fields)) m root ≡ attributes_from 0 (types_of fields) words
+  named = ap₂ (λ ts ws. attributes_from 0 ts ws) tells (words_here m root some ∙ sym at)
 
-  dictionary_read : dictionary ≡ dictionary_at m root
-  dictionary_read = second ∙ ap (λ ws. slice_index ws 2) at ∙ sym (dictionary_is m root some)
+  pub lawful_image : IsRootRecord (length fields) words → AreLawfulAttributes m (attributes_from 0 (types_of fields) words)
+      → IsLawfulImage (shape_of (types_of fields)) m root
+  lawful_image form good =
+      image_lawful (shape_of (types_of fields)) m root
+      (subst (λ n. IsRootRecord n (root_words m root)) (sym count) (subst (IsRootRecord (length fields)) (at ∙ sym (words_here m root some)) form))
+      (subst (AreLawfulAttributes m) (sym named) good)
 
-  pub lawful_image : IsRootRecord words → IsLawfulAttribute kind type m documents dictionary → IsLawfulImage (shape_of kind type) m root
-  lawful_image form attribute =
-      lawful_at kind type (shape_of kind type) m root (shape_tells kind type).0 (shape_tells kind type).1 some
-      (subst IsRootRecord at form)
-      (subst (λ d. IsLawfulAttribute kind type m (documents_at m root) d) dictionary_read (subst (λ d. IsLawfulAttribute kind type m d dictionary) documents_read attribute))
+  pub image_record : IsLawfulImage (shape_of (types_of fields)) m root → IsRootRecord (length fields) words
+  image_record lawful =
+      subst (IsRootRecord (length fields)) (sym at) (subst (λ n. IsRootRecord n (m root)) count (form_here (shape_of (types_of fields)) m root some lawful))
 
-  pub image_attribute : IsLawfulImage (shape_of kind type) m root → IsLawfulAttribute kind type m documents dictionary
-  image_attribute lawful =
-      let parts = parts_at kind type (shape_of kind type) m root (shape_tells kind type).0 (shape_tells kind type).1 some lawful in
-      subst (λ d. IsLawfulAttribute kind type m documents d) (sym dictionary_read) (subst (λ d. IsLawfulAttribute kind type m d (dictionary_at m root)) (sym documents_read) parts.1)
+  pub image_attributes : IsLawfulImage (shape_of (types_of fields)) m root → AreLawfulAttributes m (attributes_from 0 (types_of fields) words)
+  image_attributes lawful = subst (AreLawfulAttributes m) named (attributes_lawful (shape_of (types_of fields)) m root lawful)
 
-pub image_record : (kind : Kind) (type : ValueType) (m : Records) (root : ℕ) → 0 < root → IsLawfulImage (shape_of kind type) m root → IsRootRecord (m root)
-image_record kind type m root some lawful = (parts_at kind type (shape_of kind type) m root (shape_tells kind type).0 (shape_tells kind type).1 some lawful).0
+  pub image_table : table_of_columns (columns_at m (attributes_from 0 (types_of fields) words)) ≡ table_of (shape_of (types_of fields)) m root
+  image_table = sym (ap (λ list. table_of_columns (columns_at m list)) named)
+
+pub if_ok_then : {T E : Type 0} {P Q : T → Type 0} (r : Result T E) → ((x : T) → P x → Q x) → IfOk r P → IfOk r Q
+if_ok_then (Ok x) f here = f x here
+if_ok_then (Err e) f here = tt
+
+pub refuted_then : {T P Q : Type 0} (r : Result T CheckFault) → (Q → P) → IfErr r (Refutes P) → IfErr r (Refutes Q)
+refuted_then (Ok x) f here = tt
+refuted_then (Err fault) f here = refuted_by fault f here
+
+-- the empty image
+pub no_table : (shape : ℕ) (m : Records) (root : ℕ) (xs : Table) → root ≡ 0 → xs ≡ [] → xs ≡ table_of shape m root
+no_table shape m root xs none empty = empty ∙ sym (table_empty shape m) ∙ ap (table_of shape m) (sym none)

@@ -3,5 +3,7 @@ pub mod TextLemmas
 pub mod ValueLemmas
 pub mod ItemLemmas
 pub mod PairLemmas
-pub mod IndexLemmas
+pub mod BlockLemmas
+pub mod TableLemmas
 pub mod LawfulLemmas
+pub mod IndexLemmas

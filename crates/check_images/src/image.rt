@@ -1,137 +1,108 @@
-ghost use Rattle.std.specs.Prelude.{◌≡◌, ◌↔◌, ℕ, map, IsTrue, OnOk, IfOk, IfErr};
+ghost use Rattle.std.specs.Prelude.{◌≡◌, ◌↔◌, ◌≤◌, ◌+◌, ℕ, length, drop, IsTrue, OnOk, IfOk, IfErr};
 ghost use Rattle.std.specs.List.{AllByRecursion};
-ghost use Rattle.std.specs.Ordering.{nat_cmp};
-ghost use Rattle.tree_images.specs.Trees.{tree_pairs, by_number, IsTree};
-ghost use Rattle.attr_images.specs.Attributes.{IsLawfulAttribute};
-ghost use Rattle.attr_index.specs.Columns.{documents_with, table_of_column, IsLawfulColumn};
-ghost use Rattle.attr_images.specs.Documents.{AreItemRecords, column_at};
-ghost use Rattle.attr_images.specs.Images.{table_of, IsRootRecord, IsLawfulImage};
-ghost use Rattle.attr_images.specs.Postings.{list_form, postings_at, IsDictionaryEntry};
-ghost use Rattle.attr_images.specs.Shapes.{shape_of};
-ghost use Rattle.attr_images.specs.Values.{stored_value};
-ghost use Rattle.attr_types.specs.Value.{value_cmp};
+ghost use Rattle.attr_images.specs.Images.{attributes_from, table_of, IsRootRecord, IsLawfulImage};
+ghost use Rattle.attr_images.specs.Shapes.{shape_of, types_of};
+ghost use Rattle.attr_images.specs.Tables.{table_of_columns, columns_at, AreLawfulAttributes};
 ghost use Rattle.image_base.specs.Maps.{seen};
 ghost use Rattle.check_trees.specs.Refutations.{Refutes};
 
-use crate::coverage::have_all_values;
-use crate::dictionary::read_dictionary;
-use crate::documents::are_lawful_documents;
-use crate::items::read_documents;
-use attr_types::{FieldItems, Items, Kind, Value, ValueType};
-use check_trees::{CheckFault, Keys, check_tree};
+use crate::attribute::check_attribute;
+use crate::tables::{have_same_documents, put_beside, table_of_column};
+use crate::words::class_of;
+use attr_types::{Field, FieldItems, Fields, MOST_FIELDS};
+use check_trees::CheckFault;
 use image_base::{word_in, words_at};
-use std::alloc::{AllocError, Global};
+use std::alloc::Global;
 use std::collections::BTreeMap;
 
-/// The documents of a document tree with their items, if its nodes and the records of the items have
-/// their forms and the documents are lawful.
-fn read_column(
-    alloc: Global,
-    kind: Kind,
-    value_type: ValueType,
-    records: &BTreeMap<u32, Vec<u64>>,
-    documents: u64,
-) -> Result<Vec<(u64, Items)>, CheckFault>
-    ensures tree { OnOk result (IsTree nat_cmp by_number (seen records.now) documents) }
-    ensures items { OnOk result (AllByRecursion (λ (p : ℕ × ℕ). AreItemRecords kind value_type (seen records.now) p.1) (tree_pairs (seen records.now) documents)) }
-    ensures lawful { OnOk result (IsLawfulColumn kind (column_at kind value_type (seen records.now) documents)) }
-    ensures column { IfOk result (λ column. column.items ≡ column_at kind value_type (seen records.now) documents) }
-    ensures exact { IfErr result (Refutes (IsTree nat_cmp by_number (seen records.now) documents
-        × AllByRecursion (λ (p : ℕ × ℕ). AreItemRecords kind value_type (seen records.now) p.1) (tree_pairs (seen records.now) documents)
-        × IsLawfulColumn kind (column_at kind value_type (seen records.now) documents))) }
+/// The words from one of them on.
+fn words_from(words: &[u64], first: usize) -> &[u64]
+    ensures { result.now ≡ drop first words.now }
 {
-    let pairs = check_tree(alloc, Keys::Numbers, records, documents)?;
-    let column = read_documents(alloc, kind, value_type, records, pairs.as_slice())?;
-    if !are_lawful_documents(kind, column.as_slice()) {
+    match words.get(first..) {
+        Some(rest) => rest,
+        None => &[],
+    }
+}
+
+fn are_zeros(words: &[u64]) -> bool
+    ensures { IsTrue result ↔ AllByRecursion (λ w. w ≡ 0) words.now }
+{
+    for word in words {
+        if *word != 0 {
+            return false;
+        }
+    }
+    true
+}
+
+/// Whether the root record of so many attributes has its form.
+fn is_root_record(count: usize, words: &[u64]) -> bool
+    requires { count ≤ MOST_FIELDS }
+    ensures { IsTrue result ↔ IsRootRecord count words.now }
+{
+    if words.len() != class_of(1 + 2 * count) || word_in(words, 0) > u64::from(u32::MAX) {
+        return false;
+    }
+    are_zeros(words_from(words, 1 + 2 * count))
+}
+
+/// The table of the attributes that a root record's words name from number `first` on, if they are lawful.
+fn check_attributes(
+    alloc: Global,
+    fields: &[Field],
+    first: usize,
+    records: &BTreeMap<u32, Vec<u64>>,
+    words: &[u64],
+) -> Result<Vec<(u64, FieldItems)>, CheckFault>
+    requires { first + length fields.now ≤ MOST_FIELDS }
+    ensures lawful { OnOk result (AreLawfulAttributes (seen records.now) (attributes_from first (types_of fields.now) words.now)) }
+    ensures table { IfOk result (λ table. table.items
+        ≡ table_of_columns (columns_at (seen records.now) (attributes_from first (types_of fields.now) words.now))) }
+    ensures exact { IfErr result (Refutes (AreLawfulAttributes (seen records.now) (attributes_from first (types_of fields.now) words.now))) }
+{
+    let [field, rest @ ..] = fields else {
+        return Ok(Vec::new(alloc));
+    };
+    let documents = word_in(words, 1 + 2 * first);
+    let dictionary = word_in(words, 2 + 2 * first);
+    let column = check_attribute(
+        alloc,
+        field.kind,
+        field.value,
+        records,
+        documents,
+        dictionary,
+    )?;
+    if rest.is_empty() {
+        return Ok(table_of_column(alloc, column)?);
+    }
+    let table = check_attributes(alloc, rest, first + 1, records, words)?;
+    if !have_same_documents(column.as_slice(), table.as_slice()) {
         return Err(CheckFault::Broken);
     }
-    Ok(column)
+    Ok(put_beside(alloc, column, table)?)
 }
 
-/// The values of a dictionary, if its nodes and records have their forms and its lists are those of a column.
-fn read_values(
-    alloc: Global,
-    value_type: ValueType,
-    records: &BTreeMap<u32, Vec<u64>>,
-    column: &[(u64, Items)],
-    dictionary: u64,
-) -> Result<Vec<Value>, CheckFault>
-    ensures tree { OnOk result (IsTree value_cmp (stored_value value_type) (seen records.now) dictionary) }
-    ensures entries { OnOk result (AllByRecursion (IsDictionaryEntry value_type (seen records.now)) (tree_pairs (seen records.now) dictionary)) }
-    ensures lists { OnOk result (AllByRecursion (λ (p : ℕ × ℕ).
-        postings_at (seen records.now) (list_form p.1) ≡ documents_with (stored_value value_type (seen records.now) p.0) column.now) (tree_pairs (seen records.now) dictionary)) }
-    ensures values { IfOk result (λ values. values.items ≡ map (λ (p : ℕ × ℕ). stored_value value_type (seen records.now) p.0) (tree_pairs (seen records.now) dictionary)) }
-    ensures exact { IfErr result (Refutes (IsTree value_cmp (stored_value value_type) (seen records.now) dictionary
-        × AllByRecursion (IsDictionaryEntry value_type (seen records.now)) (tree_pairs (seen records.now) dictionary)
-        × AllByRecursion (λ (p : ℕ × ℕ).
-        postings_at (seen records.now) (list_form p.1) ≡ documents_with (stored_value value_type (seen records.now) p.0) column.now) (tree_pairs (seen records.now) dictionary))) }
-{
-    let pairs = check_tree(alloc, Keys::Values(value_type), records, dictionary)?;
-    read_dictionary(alloc, value_type, records, column, pairs.as_slice())
-}
-
-/// The documents of an attribute by the roots of its document tree and of its dictionary, if it is lawful.
-fn check_attribute(
-    alloc: Global,
-    kind: Kind,
-    value_type: ValueType,
-    records: &BTreeMap<u32, Vec<u64>>,
-    documents: u64,
-    dictionary: u64,
-) -> Result<Vec<(u64, Items)>, CheckFault>
-    ensures lawful { OnOk result (IsLawfulAttribute kind value_type (seen records.now) documents dictionary) }
-    ensures column { IfOk result (λ column. column.items ≡ column_at kind value_type (seen records.now) documents) }
-    ensures exact { IfErr result (Refutes (IsLawfulAttribute kind value_type (seen records.now) documents dictionary)) }
-{
-    let column = read_column(alloc, kind, value_type, records, documents)?;
-    let values = read_values(alloc, value_type, records, column.as_slice(), dictionary)?;
-    if !have_all_values(values.as_slice(), column.as_slice()) {
-        return Err(CheckFault::Broken);
-    }
-    Ok(column)
-}
-
-/// Whether a root record has its form.
-fn is_root_record(words: &[u64]) -> bool
-    ensures { IsTrue result ↔ IsRootRecord words.now }
-{
-    words.len() == 4 && words[0] <= u64::from(u32::MAX) && words[3] == 0
-}
-
-/// Each document with one list of items, that of the one attribute.
-fn as_table(alloc: Global, column: Vec<(u64, Items)>) -> Result<Vec<(u64, FieldItems)>, AllocError>
-    ensures { IfOk result (λ table. table.items ≡ table_of_column column.items) }
-{
-    let mut table = Vec::new(alloc);
-    for entry in column {
-        let (number, items) = entry;
-        table.push((number, FieldItems::of_one(alloc, items)?))?;
-    }
-    Ok(table)
-}
-
-/// The table of the image at a root, if the image is lawful for this kind and value type; or that it is
-/// not. It ends on any records, with cycles too.
+/// The table of the image at a root, if the image is lawful for these attributes; or that it is not. It
+/// ends on any records, with cycles too.
 pub fn check_image(
     alloc: Global,
-    kind: Kind,
-    value_type: ValueType,
+    fields: &Fields,
     records: &BTreeMap<u32, Vec<u64>>,
     root: u64,
 ) -> Result<Vec<(u64, FieldItems)>, CheckFault>
-    ensures lawful { OnOk result (IsLawfulImage (shape_of kind value_type) (seen records.now) root) }
-    ensures table { IfOk result (λ table. table.items ≡ table_of kind value_type (seen records.now) root) }
-    ensures exact { IfErr result (Refutes (IsLawfulImage (shape_of kind value_type) (seen records.now) root)) }
+    requires { length fields.now ≤ MOST_FIELDS }
+    ensures lawful { OnOk result (IsLawfulImage (shape_of (types_of fields.now)) (seen records.now) root) }
+    ensures table { IfOk result (λ table. table.items ≡ table_of (shape_of (types_of fields.now)) (seen records.now) root) }
+    ensures exact { IfErr result (Refutes (IsLawfulImage (shape_of (types_of fields.now)) (seen records.now) root)) }
 {
     if root == 0 {
         return Ok(Vec::new(alloc));
     }
     let words = words_at(records, root);
-    if !is_root_record(words) {
+    if !is_root_record(fields.len(), words) {
         return Err(CheckFault::Broken);
     }
-    let documents = word_in(words, 1);
-    let dictionary = word_in(words, 2);
-    let column = check_attribute(alloc, kind, value_type, records, documents, dictionary)?;
-    Ok(as_table(alloc, column)?)
+    check_attributes(alloc, fields.as_slice(), 0, records, words)
 }

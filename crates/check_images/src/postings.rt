@@ -1,13 +1,14 @@
 ghost use Rattle.std.specs.Prelude.{◌≡◌, ◌<◌, ◌^◌, ℕ, map, OnOk, IfOk, IfErr};
 ghost use Rattle.std.specs.List.{AllByRecursion};
-ghost use Rattle.attr_images.specs.Postings.{list_form, tree, postings_at, IsPostingList};
+ghost use Rattle.attr_images.specs.Postings.{list_form, tree, vector, postings_at, IsPostingList};
 ghost use Rattle.attr_images.specs.Words.{weight_of};
 ghost use Rattle.image_base.specs.Maps.{seen};
 ghost use Rattle.check_trees.specs.Refutations.{Refutes};
 ghost use Rattle.check_images.specs.Told.{Tells};
 
+use crate::blocks::read_blocks;
 use crate::words::{read_list, unpack_all};
-use attr_images::MOST_SHORT;
+use attr_images::{FIRST_VECTOR, MOST_SHORT};
 use check_trees::{CheckFault, Keys, check_tree};
 use image_base::words_at;
 use std::alloc::{AllocError, Global};
@@ -48,6 +49,23 @@ fn read_tree(
     }
 }
 
+/// The documents of a bit vector, if it has some block.
+fn read_vector(
+    alloc: Global,
+    records: &BTreeMap<u32, Vec<u64>>,
+    root: u64,
+) -> Result<Vec<(u64, i32)>, CheckFault>
+    ensures form { OnOk result (IsPostingList (seen records.now) (vector root)) }
+    ensures list { IfOk result (λ list. list.items ≡ postings_at (seen records.now) (vector root)) }
+    ensures exact { IfErr result (Refutes (IsPostingList (seen records.now) (vector root))) }
+{
+    let pairs = check_tree(alloc, Keys::Numbers, records, root)?;
+    if pairs.is_empty() {
+        return Err(CheckFault::Broken);
+    }
+    read_blocks(alloc, records, pairs.as_slice())
+}
+
 /// The documents of the list that a word of the dictionary names.
 pub fn read_postings(
     alloc: Global,
@@ -58,6 +76,9 @@ pub fn read_postings(
     ensures list { IfOk result (λ list. list.items ≡ postings_at (seen records.now) (list_form word)) }
     ensures exact { IfErr result (Refutes (IsPostingList (seen records.now) (list_form word))) }
 {
+    if word >= FIRST_VECTOR {
+        return read_vector(alloc, records, word - FIRST_VECTOR);
+    }
     if word % 2 != 0 {
         return read_tree(alloc, records, word / 2);
     }

@@ -9,7 +9,7 @@ use std::alloc::{AllocError, Global};
 const CLASSES: [usize; 10] = [2, 4, 8, 16, 32, 64, 128, 256, 512, 1024];
 
 /// The least width that holds `count` words, 1024 at most.
-fn class_of(count: usize) -> usize
+pub fn class_of(count: usize) -> usize
     ensures { result ≡ class_of count }
 {
     for width in CLASSES {

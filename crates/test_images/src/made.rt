@@ -1,4 +1,7 @@
-//! Records made by hand.
+//! Records made by hand, and fields.
+ghost use Rattle.std.specs.Prelude.{◌≡◌, length, IfOk};
+
+use attr_types::{Field, Fields, Kind, Name, ValueType};
 use image_base::word_in;
 use std::alloc::{AllocError, Global};
 use std::collections::BTreeMap;
@@ -52,4 +55,25 @@ pub fn records_of(alloc: Global, rows: &[Row], others: &[Row]) -> Result<Map, Al
     put(alloc, &mut records, rows)?;
     put(alloc, &mut records, others)?;
     Ok(records)
+}
+
+fn field(alloc: Global, kind: Kind, value: ValueType) -> Result<Field, AllocError> {
+    let name = Name::from_str(alloc, "f")?;
+    Ok(Field { name, kind, value })
+}
+
+/// One attribute.
+pub fn one_field(alloc: Global, kind: Kind, value: ValueType) -> Result<Fields, AllocError>
+    ensures { IfOk result (λ fields. length fields ≡ 1) }
+{
+    Fields::of_one(alloc, field(alloc, kind, value)?)
+}
+
+/// A weighted set of texts, and single longs.
+pub fn two_fields(alloc: Global) -> Result<Fields, AllocError>
+    ensures { IfOk result (λ fields. length fields ≡ 2) }
+{
+    let mut fields = one_field(alloc, Kind::WeightedSet, ValueType::Text)?;
+    fields.push(field(alloc, Kind::Single, ValueType::Long)?)?;
+    Ok(fields)
 }

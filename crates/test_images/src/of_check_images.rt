@@ -1,4 +1,4 @@
-use crate::made::{Row, node, records_of, root, run};
+use crate::made::{Row, node, one_field, records_of, root, run, two_fields};
 use attr_images::shape_of;
 use attr_types::{FieldItems, Item, Kind, Value, ValueType};
 use check_images::check_image;
@@ -6,7 +6,8 @@ use check_trees::CheckFault;
 use std::alloc::{AllocError, Global};
 
 #[test]
-fn shapes_count_kinds_and_then_types(rt: HostRuntime) {
+fn shapes_count_kinds_and_then_types(rt: HostRuntime) -> Result<(), AllocError> {
+    let alloc = rt.alloc();
     let rows = [
         (Kind::Single, ValueType::Long, 1),
         (Kind::Single, ValueType::Text, 2),
@@ -16,8 +17,10 @@ fn shapes_count_kinds_and_then_types(rt: HostRuntime) {
         (Kind::WeightedSet, ValueType::Text, 6),
     ];
     for (kind, value_type, shape) in rows {
-        assert_eq!(rt; shape_of(kind, value_type), shape);
+        assert_eq!(rt; shape_of(&one_field(alloc, kind, value_type)?), shape);
     }
+    assert_eq!(rt; shape_of(&two_fields(alloc)?), 14);
+    Ok(())
 }
 
 /// Whether an item is this number or this text, with this weight.
@@ -76,7 +79,8 @@ fn reads(
 ) -> Result<bool, AllocError> {
     let (of_items, of_list) = (run(7, 1, 3072), run(1024, 1, 4096));
     let records = records_of(alloc, &one_text(&of_items, &of_list), others)?;
-    let table = match check_image(alloc, kind, value_type, &records, 1027) {
+    let fields = one_field(alloc, kind, value_type)?;
+    let table = match check_image(alloc, &fields, &records, 1027) {
         Ok(table) => table,
         Err(_) => return Ok(false),
     };
@@ -214,11 +218,82 @@ fn broken_images_are_refused(rt: HostRuntime) -> Result<(), AllocError> {
         (2048, &[0, 0]),
         (2048, &[1, 34359738366]),
     ];
+    let fields = one_field(alloc, Kind::WeightedSet, ValueType::Text)?;
     for row in rows {
         let records = records_of(alloc, &one_text(&of_items, &of_list), &[row])?;
-        match check_image(alloc, Kind::WeightedSet, ValueType::Text, &records, 1027) {
+        match check_image(alloc, &fields, &records, 1027) {
             Ok(_) => assert!(rt; false),
             Err(fault) => assert_eq!(rt; fault, CheckFault::Broken),
+        }
+    }
+    Ok(())
+}
+
+/// Whether the image with a second attribute of longs beside that of texts is lawful. In it one document
+/// has 5, as the posting's word says too.
+fn has_both(alloc: Global, root: [u64; 8], document: u64, word: u64) -> Result<bool, AllocError> {
+    let (of_items, of_list) = (run(7, 1, 3072), run(1024, 1, 4096));
+    let (of_number, of_numbers) = (run(document, 1, 4096), run(4096, 1, 10240));
+    let posting = [1, word];
+    let others: [Row; 6] = [
+        (1028, &root),
+        (3074, &of_number),
+        (4096, &[8, 5]),
+        (4098, &of_numbers),
+        (5120, &posting),
+        (1027, &[]),
+    ];
+    let records = records_of(alloc, &one_text(&of_items, &of_list), &others)?;
+    match check_image(alloc, &two_fields(alloc)?, &records, 1028) {
+        Ok(table) => Ok(table.len() == 1 && table[0].1.len() == 2),
+        Err(_) => Ok(false),
+    }
+}
+
+#[test]
+fn images_of_two_attributes_have_the_same_documents(rt: HostRuntime) -> Result<(), AllocError> {
+    let alloc = rt.alloc();
+    assert!(rt; has_both(alloc, [1, 1026, 2050, 3074, 4098, 0, 0, 0], 7, 30064771073)?);
+    assert!(rt; !has_both(alloc, [1, 1026, 2050, 3074, 4098, 0, 0, 0], 8, 34359738369)?);
+    assert!(rt; !has_both(alloc, [1, 1026, 2050, 3074, 4098, 0, 0, 1], 7, 30064771073)?);
+    assert!(rt; !has_both(alloc, [1, 1026, 2050, 0, 0, 0, 0, 0], 7, 30064771073)?);
+    Ok(())
+}
+
+#[test]
+fn a_bit_vector_is_a_posting_list(rt: HostRuntime) -> Result<(), AllocError> {
+    let alloc = rt.alloc();
+    let (documents, dictionary) = (run(7, 2, 1024), run(1024, 1, 8589941762));
+    let (of_block, of_other) = (run(0, 1, 1029), run(1, 1, 1029));
+    let mut block = [0; 64];
+    block[0] = 0x180;
+    let (none, short) = ([0; 64], [0x180; 2]);
+    let mut more = block;
+    more[63] = 1;
+    let fields = one_field(alloc, Kind::Single, ValueType::Long)?;
+    let image: [Row; 6] = [
+        (1027, &[2, 1026, 2050, 0]),
+        (1026, &documents),
+        (1024, &[8, 5]),
+        (2050, &dictionary),
+        (7170, &of_block),
+        (1029, &block),
+    ];
+    let rows: [(Row, usize); 5] = [
+        ((1029, &block), 2),
+        ((1029, &none), 0),
+        ((1029, &short), 0),
+        ((1029, &more), 0),
+        ((7170, &of_other), 0),
+    ];
+    for (row, count) in rows {
+        let records = records_of(alloc, &image, &[row])?;
+        match check_image(alloc, &fields, &records, 1027) {
+            Ok(table) => assert_eq!(rt; table.len(), count),
+            Err(fault) => {
+                assert_eq!(rt; count, 0);
+                assert_eq!(rt; fault, CheckFault::Broken);
+            }
         }
     }
     Ok(())

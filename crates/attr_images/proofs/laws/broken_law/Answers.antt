@@ -1,4 +1,4 @@
-use Rattle.attr_images.proofs.ExampleLemmas.{missing_record, wrong_count, unlawful_table, missing_value, wrong_weight}
+use Rattle.attr_images.proofs.ExampleLemmas.{missing_record, wrong_count, unlawful_table, missing_value, wrong_weight, other_document}
 use Rattle.attr_images.proofs.laws.broken_law.Goals as goal
 
 pub returns-clause-missing : goal.returns-clause-missing
@@ -15,3 +15,6 @@ returns-clause-value c = missing_value
 
 pub returns-clause-weight : goal.returns-clause-weight
 returns-clause-weight c = wrong_weight
+
+pub returns-clause-document : goal.returns-clause-document
+returns-clause-document c = other_document

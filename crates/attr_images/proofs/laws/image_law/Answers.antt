@@ -1,8 +1,4 @@
-use Rattle.attr_images.proofs.ImageLemmas.{table_lawful, table_has_type, operations_few, values_ascend}
-use Rattle.tree_images.proofs.DistinctLemmas.{tree_nodes_distinct}
-use Rattle.attr_images.specs.Values.{stored_value}
-use Rattle.attr_types.specs.Value.{value_cmp}
-use Rattle.attr_types.specs.ProofsForOrder.{value_cmp_total}
+use Rattle.attr_images.proofs.ImageLemmas.{table_lawful, table_has_type, field_is_there, operations_few, table_empty}
 use Rattle.attr_images.proofs.laws.image_law.Goals as goal
 
 pub returns-clause-table : goal.returns-clause-table
@@ -11,11 +7,11 @@ returns-clause-table c = table_lawful
 pub returns-clause-values : goal.returns-clause-values
 returns-clause-values c = table_has_type
 
+pub returns-clause-fields : goal.returns-clause-fields
+returns-clause-fields c = λ fields m root i field few lawful at. field_is_there fields m root few lawful i field at
+
 pub returns-clause-operations : goal.returns-clause-operations
 returns-clause-operations c = operations_few
 
-pub returns-clause-dictionary : goal.returns-clause-dictionary
-returns-clause-dictionary c = values_ascend
-
-pub returns-clause-distinct : goal.returns-clause-distinct
-returns-clause-distinct c = λ type. tree_nodes_distinct value_cmp value_cmp_total (stored_value type)
+pub returns-clause-empty : goal.returns-clause-empty
+returns-clause-empty c = table_empty

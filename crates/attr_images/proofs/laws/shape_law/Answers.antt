@@ -1,4 +1,4 @@
-use Rattle.attr_images.proofs.ImageLemmas.{shape_tells}
+use Rattle.attr_images.proofs.ShapeLemmas.{shape_tells}
 use Rattle.attr_images.proofs.laws.shape_law.Goals as goal
 
 pub returns : goal.returns

@@ -1,40 +1,49 @@
-use Rattle.std.proofs.Common.{◌<◌, arith, true≢false, sym, ap, subst, ◌∙◌}
-use Rattle.std.proofs.lemmas.Result.{err_from_is_err_and}
-use Rattle.attr_index.specs.Columns.{table_of_column}
-use Rattle.attr_images.specs.Documents.{column_at}
-use Rattle.attr_images.specs.Images.{IsRootRecord}
+use Rattle.std.proofs.Common.{◌<◌, ◌≡◌, ℕ, List, arith, true≢false, sym, subst, ◌∙◌}
+use Rattle.std.specs.Prelude.{OnOk, IfOk, IfErr, Vec}
+use Rattle.std.proofs.lemmas.Result.{on_ok_weaker}
+use Rattle.std.specs.declared.alloc.Global.{Global}
+use Rattle.attr_images.specs.Images.{attributes_from, IsRootRecord}
+use Rattle.attr_images.specs.Shapes.{shape_of, types_of}
+use Rattle.attr_images.specs.Tables.{table_of_columns, columns_at, AreLawfulAttributes}
+use Rattle.attr_types.specs.Value.{Document}
+use Rattle.attr_types.specs.declared.field.Field.{Field}
 use Rattle.image_base.specs.Maps.{seen}
-use Rattle.check_trees.proofs.Walks.{refuted_by}
-use Rattle.check_images.proofs.LawfulLemmas.{lawful_image, image_attribute, image_record, documents_read}
+use Rattle.check_trees.specs.Refutations.{Refutes}
+use Rattle.check_images.proofs.LawfulLemmas.{lawful_image, image_record, image_attributes, image_table, if_ok_then, refuted_then, no_table}
 use Rattle.check_images.proofs.image.check_image.Goals as goal
+
+pub returns-then-root-eq0-clause-table : goal.returns-then-root-eq0-clause-table
+returns-then-root-eq0-clause-table c = no_table (shape_of (types_of c.args.fields.now)) (seen c.args.records.now) c.args.root c.new.result.items c.if-root-eq0.true c.new.ensures.items
 
 pub returns-then-not-is_root_record-clause-exact : goal.returns-then-not-is_root_record-clause-exact
 returns-then-not-is_root_record-clause-exact c = λ lawful.
     let m = seen c.args.records.now in
     let some : 0 < c.args.root = (let other = c.if-root-eq0.false in omega arith) in
-    let form = image_record c.args.kind c.args.value_type m c.args.root some lawful in
-    true≢false (sym (c.is_root_record.ensures.1 (subst IsRootRecord (sym c.words_at-words.ensures.words) form)) ∙ c.if-not-is_root_record.true)
-
-pub returns-in_err-column-clause-exact : goal.returns-in_err-column-clause-exact
-returns-in_err-column-clause-exact c =
-    let m = seen c.args.records.now in
-    let some : 0 < c.args.root = (let other = c.if-root-eq0.false in omega arith) in
-    let p = err_from_is_err_and c.from_residual.result c.from_residual.ensures.1 in
-    rw (p.1, p.2)
-    (refuted_by c.in_err-column.field-0.0
-    (image_attribute c.args.kind c.args.value_type m c.args.root some c.words_at-words.result.now c.words_at-words.ensures.words c.word_in-documents.result c.word_in-dictionary.result c.word_in-documents.ensures c.word_in-dictionary.ensures)
-    c.in_err-column.ensures.exact)
+    let form = image_record c.args.fields.now m c.args.root some c.requires c.words_at-words.result.now c.words_at-words.ensures.words lawful in
+    true≢false (sym (c.is_root_record.ensures.1 (subst (λ n. IsRootRecord n c.words_at-words.result.now) (sym c.len.ensures) form)) ∙ c.if-not-is_root_record.true)
 
 pub returns-clause-lawful : goal.returns-clause-lawful
 returns-clause-lawful c =
     let m = seen c.args.records.now in
+    let words = c.words_at-words.result.now in
     let some : 0 < c.args.root = (let other = c.if-root-eq0.false in omega arith) in
-    lawful_image c.args.kind c.args.value_type m c.args.root some c.words_at-words.result.now c.words_at-words.ensures.words c.word_in-documents.result c.word_in-dictionary.result c.word_in-documents.ensures c.word_in-dictionary.ensures
-    (c.is_root_record.ensures.0 c.if-not-is_root_record.false) c.in_ok-column.ensures.lawful
+    let form = subst (λ n. IsRootRecord n words) c.len.ensures (c.is_root_record.ensures.0 c.if-not-is_root_record.false) in
+    on_ok_weaker c.check_attributes.result (lawful_image c.args.fields.now m c.args.root some c.requires words c.words_at-words.ensures.words form)
+    (subst (λ (fs : List Field). OnOk c.check_attributes.result (AreLawfulAttributes m (attributes_from 0 (types_of fs) words))) c.as_slice.ensures c.check_attributes.ensures.lawful)
 
 pub returns-clause-table : goal.returns-clause-table
 returns-clause-table c =
     let m = seen c.args.records.now in
+    let words = c.words_at-words.result.now in
     let some : 0 < c.args.root = (let other = c.if-root-eq0.false in omega arith) in
-    let documents = documents_read c.args.kind c.args.value_type m c.args.root some c.words_at-words.result.now c.words_at-words.ensures.words c.word_in-documents.result c.word_in-dictionary.result c.word_in-documents.ensures c.word_in-dictionary.ensures in
-    c.in_ok-as_table.ensures ∙ ap table_of_column (c.in_ok-column.ensures.column ∙ ap (column_at c.args.kind c.args.value_type m) documents)
+    let whole = image_table c.args.fields.now m c.args.root some c.requires words c.words_at-words.ensures.words in
+    if_ok_then c.check_attributes.result (λ table is. is ∙ whole)
+    (subst (λ (fs : List Field). IfOk c.check_attributes.result (λ (table : Vec (ℕ × Document) Global). table.items ≡ table_of_columns (columns_at m (attributes_from 0 (types_of fs) words)))) c.as_slice.ensures c.check_attributes.ensures.table)
+
+pub returns-clause-exact : goal.returns-clause-exact
+returns-clause-exact c =
+    let m = seen c.args.records.now in
+    let words = c.words_at-words.result.now in
+    let some : 0 < c.args.root = (let other = c.if-root-eq0.false in omega arith) in
+    refuted_then c.check_attributes.result (image_attributes c.args.fields.now m c.args.root some c.requires words c.words_at-words.ensures.words)
+    (subst (λ (fs : List Field). IfErr c.check_attributes.result (Refutes (AreLawfulAttributes m (attributes_from 0 (types_of fs) words)))) c.as_slice.ensures c.check_attributes.ensures.exact)

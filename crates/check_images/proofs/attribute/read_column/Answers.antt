@@ -7,7 +7,7 @@ use Rattle.attr_types.specs.declared.items.Item.{Item}
 use Rattle.image_base.specs.Maps.{seen}
 use Rattle.check_trees.proofs.Walks.{refuted_by}
 use Rattle.check_images.proofs.IndexLemmas.{lawful_column, lawful_rows}
-use Rattle.check_images.proofs.image.read_column.Goals as goal
+use Rattle.check_images.proofs.attribute.read_column.Goals as goal
 
 pub returns-in_err-pairs-clause-exact : goal.returns-in_err-pairs-clause-exact
 returns-in_err-pairs-clause-exact c =

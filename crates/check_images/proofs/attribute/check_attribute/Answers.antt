@@ -12,7 +12,7 @@ use Rattle.attr_types.specs.declared.value.Value.{Value}
 use Rattle.image_base.specs.Maps.{seen}
 use Rattle.check_trees.proofs.Walks.{refuted_by}
 use Rattle.check_images.proofs.IndexLemmas.{index_keys, to_lists, from_lists, has_values, values_cover}
-use Rattle.check_images.proofs.image.check_attribute.Goals as goal
+use Rattle.check_images.proofs.attribute.check_attribute.Goals as goal
 
 pub returns-in_err-column-clause-exact : goal.returns-in_err-column-clause-exact
 returns-in_err-column-clause-exact c =

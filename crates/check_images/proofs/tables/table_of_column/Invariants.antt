@@ -1,6 +1,6 @@
 use Rattle.std.proofs.Common.{◌≡◌}
 use Rattle.attr_index.specs.Columns.{table_of_column}
-use Rattle.check_images.proofs.image.as_table.Given as goal
+use Rattle.check_images.proofs.tables.table_of_column.Given as goal
 
 abbrev pub invariant-loop-entry : goal.invariant-loop-entry
 invariant-loop-entry l = l.table.items ≡ table_of_column l.yielded
