@@ -1,0 +1,103 @@
+-- Places in a list.
+use Rattle.std.proofs.Common.{◌≡◌, ℕ, zero, suc, ◌+◌, ◌<◌, ◌≤◌, ◌/◌, ◌%◌, ◌^◌, ℤ, List, [], ◌∷◌, map, take, drop, refl, sym, ap, subst, ◌∙◌, arith}
+use Rattle.std.specs.Prelude.{slice_index}
+use Rattle.std.proofs.lemmas.List.{drop-map}
+use Rattle.std.specs.List.{AllByRecursion}
+use Rattle.std.specs.Map.{keys_of}
+use Rattle.image_base.specs.Records.{Records}
+use Rattle.std.proofs.lemmas.Int.{of_z-to_z}
+use Rattle.std.specs.Int.{cast_signed, cast_unsigned, w32}
+use Rattle.list_facts.proofs.Places.{drop-read}
+use Rattle.tree_search.specs.Places.{Place, IsAt, pairs_from, first_key}
+use Rattle.tree_search.proofs.PlaceLemmas.{pair-first}
+use Rattle.array_store.specs.Arrays.{IsArray}
+use Rattle.array_store.proofs.ArrayLemmas.{count_read, item_read}
+use Rattle.attr_types.specs.Lawful.{IsDocNumber}
+use Rattle.attr_images.specs.Words.{unpacked, weight_of, stored_items}
+use Rattle.posting_store.specs.declared.cursor.PostingCursor.{PostingCursor}
+use Rattle.posting_store.specs.declared.cursor.PostingCursor.TheVariants.{Short, Tree}
+use Rattle.posting_store.specs.Walks.{postings_from, first_doc, first_weight, HasPosting, StandsIn, IsPlace}
+
+-- the first document of some is one
+pub first_is_doc : (es rest : List (ℕ × ℤ)) (e : ℕ × ℤ) → es ≡ e ∷ rest → AllByRecursion IsDocNumber (keys_of es) → IsDocNumber (first_doc es)
+first_is_doc es rest e is all = subst (λ (es : List (ℕ × ℤ)). AllByRecursion IsDocNumber (keys_of es) → IsDocNumber (first_doc es)) (sym is) (λ all. all.0) all
+
+-- the items left at a place of a record
+module _ (ws : List ℕ) (count at : ℕ) (low : at < count) (array : IsArray ws) (is : count ≡ slice_index ws 0) where
+  pub items_left : drop at (take count (drop 1 ws)) ≡ slice_index ws (1 + at) ∷ drop (at + 1) (take count (drop 1 ws))
+  items_left =
+      subst (λ n. drop at (take n (drop 1 ws)) ≡ slice_index ws (1 + at) ∷ drop (at + 1) (take n (drop 1 ws))) (sym is)
+      (let size = count_read ws array in
+      drop-read (stored_items ws) at (slice_index ws (1 + at)) 0 (omega arith) (item_read ws at (omega arith)))
+
+  pub short_doc : slice_index ws (1 + at) / 4294967296 ≡ first_doc (map unpacked (drop at (take count (drop 1 ws))))
+  short_doc = ap (λ items. first_doc (map unpacked items)) (sym items_left)
+
+  pub short_weight : weight_of (slice_index ws (1 + at) % 4294967296) ≡ first_weight (map unpacked (drop at (take count (drop 1 ws))))
+  short_weight = ap (λ items. first_weight (map unpacked items)) (sym items_left)
+
+-- behind one item
+drop_suc : {A : Type 0} (at : ℕ) (xs : List A) → drop (suc at) xs ≡ drop 1 (drop at xs)
+drop_suc zero xs = refl
+drop_suc (suc at) [] = refl
+drop_suc (suc at) (x ∷ xs) = drop_suc at xs
+
+drop_one_more : {A : Type 0} (at : ℕ) (xs : List A) → drop (at + 1) xs ≡ drop 1 (drop at xs)
+drop_one_more at xs = ap (λ n. drop n xs) (let e : at + 1 ≡ suc at = omega arith in e) ∙ drop_suc at xs
+
+pub short_next : (at : ℕ) (items : List ℕ) → map unpacked (drop (at + 1) items) ≡ drop 1 (map unpacked (drop at items))
+short_next at items = ap (map unpacked) (drop_one_more at items) ∙ sym (drop-map unpacked 1 (drop at items))
+
+-- what holds of the keys left holds behind one
+pub numbers_next : (es next : List (ℕ × ℤ)) → next ≡ drop 1 es → AllByRecursion IsDocNumber (keys_of es) → AllByRecursion IsDocNumber (keys_of next)
+numbers_next es next is all = subst (λ (es : List (ℕ × ℤ)). AllByRecursion IsDocNumber (keys_of es)) (sym is) (behind es all)
+  where
+    behind : (es : List (ℕ × ℤ)) → AllByRecursion IsDocNumber (keys_of es) → AllByRecursion IsDocNumber (keys_of (drop 1 es))
+    behind [] all = tt
+    behind (e ∷ es) all = all.1
+
+-- a place in a record that is seen as one of a list
+module _ {bits : ℕ} (m : Records) (self : PostingCursor bits) (list count at : ℕ) (is : self ≡ Short list count at) (place : IsPlace m self) where
+  pub next_place : (next : PostingCursor bits) → next ≡ Short list count (at + 1) → HasPosting self → IsPlace m next
+  next_place next step some = subst (IsPlace m) (sym step) (
+      record {
+        stands = λ low. subst (StandsIn m) is place.stands (omega arith);
+        numbers = numbers_next (map unpacked (drop at (take count (drop 1 (m list))))) (map unpacked (drop (at + 1) (take count (drop 1 (m list)))))
+            (short_next at (take count (drop 1 (m list))))
+            (subst (λ (s : PostingCursor bits). AllByRecursion IsDocNumber (keys_of (postings_from m s))) is place.numbers);
+      }
+      )
+
+  pub next_postings : map unpacked (drop (at + 1) (take count (drop 1 (m list)))) ≡ drop 1 (postings_from m self)
+  next_postings = short_next at (take count (drop 1 (m list))) ∙ ap (λ (s : PostingCursor bits). drop 1 (postings_from m s)) (sym is)
+
+  module _ (some : HasPosting self) where
+    low : at < count
+    low = subst HasPosting is some
+
+    stands : IsArray (m list) × (count ≡ slice_index (m list) 0)
+    stands = subst (StandsIn m) is place.stands low
+
+    pub this_doc : slice_index (m list) (1 + at) / 4294967296 ≡ first_doc (postings_from m self)
+    this_doc = short_doc (m list) count at low stands.0 stands.1 ∙ ap (λ (s : PostingCursor bits). first_doc (postings_from m s)) (sym is)
+
+    pub this_weight : weight_of (slice_index (m list) (1 + at) % 4294967296) ≡ first_weight (postings_from m self)
+    this_weight = short_weight (m list) count at low stands.0 stands.1 ∙ ap (λ (s : PostingCursor bits). first_weight (postings_from m s)) (sym is)
+
+-- a place in a tree
+pub tree_doc : {bits : ℕ} (m : Records) (self : PostingCursor bits) (at : Place) (key : ℕ) → self ≡ Tree at → IsPlace m self → HasPosting self
+    → ((m : Records) → IsAt m at → key ≡ first_key (pairs_from m at)) → 1 ≤ key
+tree_doc {bits} m self at key is place some reads =
+    let place_is : PostingCursor bits = Tree at in
+    let stands : StandsIn m place_is = subst (StandsIn m) is place.stands in
+    let numbers : AllByRecursion IsDocNumber (keys_of (postings_from m place_is)) = subst (λ (s : PostingCursor bits). AllByRecursion IsDocNumber (keys_of (postings_from m s))) is place.numbers in
+    let first = pair-first m at stands.0 (subst HasPosting is some) in
+    let e : key ≡ first_key (pairs_from m at) = reads m stands.0 in
+    subst (λ k. 1 ≤ k) (sym e) (above (pairs_from m at) _ _ first numbers)
+  where
+    above : (ps rest : List (ℕ × ℕ)) (p : ℕ × ℕ) → ps ≡ p ∷ rest → AllByRecursion IsDocNumber (keys_of (map {B = ℕ × ℤ} (λ p. (p.0, weight_of p.1)) ps)) → 1 ≤ first_key ps
+    above ps rest p is all = subst (λ (ps : List (ℕ × ℕ)). AllByRecursion IsDocNumber (keys_of (map {B = ℕ × ℤ} (λ p. (p.0, weight_of p.1)) ps)) → 1 ≤ first_key ps) (sym is) (λ all. all.0.0) all
+
+-- 32 bits read as a weight, written and read again
+pub weight_again : (bits : ℕ) (weight : ℤ) → weight ≡ weight_of bits → bits < 2 ^ 32 → cast_signed w32 (cast_unsigned w32 weight) ≡ weight
+weight_again bits weight is low = ap (λ z. cast_signed w32 (cast_unsigned w32 z)) is ∙ ap (cast_signed w32) (of_z-to_z w32 bits low) ∙ sym is

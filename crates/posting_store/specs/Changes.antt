@@ -1,0 +1,41 @@
+-- What a change of a list leaves of a store.
+use Rattle.std.specs.Prelude.{◌≡◌, ℕ, ℤ, ◌+◌, ◌*◌, true, nat_eq, nat_le, if◌then◌else◌, List, [], ◌∷◌}
+use Rattle.image_base.specs.Records.{Records}
+use Rattle.store_api.specs.Calls.{Refuses}
+use Rattle.store_api.specs.Ledgers.{Ledger, capacity, is_width}
+use Rattle.store_api.specs.Parts.{Part, Owns, Turns}
+use Rattle.store_api.specs.Units.{MakesAtMost}
+use Rattle.store_api.specs.declared.store.StoreError.{StoreError}
+use Rattle.tree_images.specs.declared.TheConstants.{NODE_WORDS}
+use Rattle.attr_images.specs.declared.TheConstants.{MOST_SHORT}
+use Rattle.attr_images.specs.Words.{class_of}
+use Rattle.posting_store.specs.Lists.{list_at, list_reach, IsList, IsPlain}
+use Rattle.posting_store.specs.ProofsForLists.{list_reach-same}
+
+-- a list, by its records
+abbrev pub list_part : ℕ → Part
+list_part word = record { reach = λ m. list_reach m word; stays = λ m n same. list_reach-same m n word same }
+
+-- a list was made of these documents, in place of another
+pub record MakesList {H : Type 0} (old new : Ledger H) (m n : Records) (word : ℕ) (docs : List (ℕ × ℤ)) (next : ℕ) : Type 0 where
+  pub list_is : IsList n next
+  pub plain : IsPlain next
+  pub docs_are : list_at n next ≡ docs
+  pub owns : Owns new n (list_part next ∷ [])
+  pub turns : Turns old new m n (list_part word ∷ []) (list_part next ∷ [])
+
+-- of each width at most so many records were made
+pub record MakesWithin {H : Type 0} (old new : Ledger H) (most : ℕ → ℕ) : Type 0 where
+  pub each : (width : ℕ) → MakesAtMost (capacity old.work.sizes.words width) (most width) (old.of_width width) (new.of_width width)
+
+-- of a list that has so many levels of nodes, and then so many documents: one record where it is short then, else nodes alone
+abbrev pub list_most : ℕ → ℕ → ℕ → ℕ
+list_most levels count width =
+    if nat_le count MOST_SHORT then (if nat_eq width (class_of (1 + count)) then 1 else 0)
+    else if nat_eq width NODE_WORDS then 2 * levels + 1 else 0
+
+-- a refusal is one of some width of records
+pub record RefusesSome {H : Type 0} (old new : Ledger H) (error : StoreError) : Type 0 where
+  pub width : ℕ
+  pub is : is_width width ≡ true
+  pub refuses : Refuses old new width error

@@ -1,0 +1,5 @@
+pub mod Lists
+pub mod ProofsForLists
+pub mod Changes
+pub mod Walks
+pub mod Laws

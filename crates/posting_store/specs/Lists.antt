@@ -1,0 +1,45 @@
+-- A list of documents with weights, by the word that a dictionary keeps for it: 0 is the empty list.
+use Rattle.std.specs.Prelude.{ℕ, zero, suc, ℤ, ◌<◌, List, []}
+use Rattle.std.specs.List.{AllByRecursion}
+use Rattle.std.specs.List.Sorted.{IsStrictlySortedBy}
+use Rattle.std.specs.Map.{keys_of}
+use Rattle.std.specs.Ordering.{nat_cmp}
+use Rattle.image_base.specs.Records.{Records}
+use Rattle.tree_make.specs.Changes.{levels}
+use Rattle.attr_types.specs.Lawful.{IsDocNumber}
+use Rattle.attr_images.specs.declared.TheConstants.{FIRST_VECTOR}
+use Rattle.attr_images.specs.Postings.{ListForm, short, tree, vector, list_form, postings_at, postings_reach, IsPostingList}
+
+-- the documents of a list, each with its weight
+abbrev pub list_at : Records → ℕ → List (ℕ × ℤ)
+list_at m zero = []
+list_at m (suc word) = postings_at m (list_form (suc word))
+
+-- the references of its records
+abbrev pub list_reach : Records → ℕ → List ℕ
+list_reach m zero = []
+list_reach m (suc word) = postings_reach m (list_form (suc word))
+
+-- how many levels of nodes it has, none where it is short
+abbrev pub form_levels : Records → ListForm → ℕ
+form_levels m (short ref) = 0
+form_levels m (tree root) = levels m root
+form_levels m (vector root) = levels m root
+
+abbrev pub list_levels : Records → ℕ → ℕ
+list_levels m word = form_levels m (list_form word)
+
+-- a list in its form, whose documents ascend
+pub record IsList (m : Records) (word : ℕ) : Type 0 where
+  pub form : 0 < word → IsPostingList m (list_form word)
+  pub ascends : IsStrictlySortedBy nat_cmp (keys_of (list_at m word))
+  pub numbers : AllByRecursion IsDocNumber (keys_of (list_at m word))
+
+-- documents that ascend
+pub record AreDocuments (docs : List (ℕ × ℤ)) : Type 0 where
+  pub ascends : IsStrictlySortedBy nat_cmp (keys_of docs)
+  pub numbers : AllByRecursion IsDocNumber (keys_of docs)
+
+-- it is no bit vector
+abbrev pub IsPlain : ℕ → Type 0
+IsPlain word = word < FIRST_VECTOR

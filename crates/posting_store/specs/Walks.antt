@@ -1,0 +1,39 @@
+-- Places in a list.
+use Rattle.std.specs.Prelude.{◌≡◌, ℕ, ℤ, pos, ◌<◌, ◌^◌, List, [], ◌∷◌, map, take, drop, slice_index}
+use Rattle.std.specs.List.{AllByRecursion}
+use Rattle.std.specs.Map.{keys_of}
+use Rattle.image_base.specs.Records.{Records}
+use Rattle.tree_search.specs.Places.{IsAt, HasPair, pairs_from}
+use Rattle.attr_types.specs.Lawful.{IsDocNumber}
+use Rattle.attr_images.specs.Words.{unpacked, weight_of}
+use Rattle.array_store.specs.Arrays.{IsArray}
+use Rattle.posting_store.specs.declared.cursor.PostingCursor.{PostingCursor}
+use Rattle.posting_store.specs.declared.cursor.PostingCursor.TheVariants.{Short, Tree}
+
+-- the postings from a place on
+abbrev pub postings_from : {bits : ℕ} → Records → PostingCursor bits → List (ℕ × ℤ)
+postings_from m (Short list count at) = map unpacked (drop at (take count (drop 1 (m list))))
+postings_from m (Tree at) = map (λ p. (p.0, weight_of p.1)) (pairs_from m at)
+
+-- a posting follows
+abbrev pub HasPosting : {bits : ℕ} → PostingCursor bits → Type 0
+HasPosting (Short list count at) = at < count
+HasPosting (Tree at) = HasPair at
+
+-- the place is one of a record or of a tree
+abbrev pub StandsIn : {bits : ℕ} → Records → PostingCursor bits → Type 0
+StandsIn m (Short list count at) = at < count → IsArray (m list) × (count ≡ slice_index (m list) 0)
+StandsIn m (Tree at) = IsAt m at × AllByRecursion (λ p. p.1 < 2 ^ 32) (pairs_from m at)
+
+-- the place is one of a list
+pub record IsPlace {bits : ℕ} (m : Records) (at : PostingCursor bits) : Type 0 where
+  pub stands : StandsIn m at
+  pub numbers : AllByRecursion IsDocNumber (keys_of (postings_from m at))
+
+abbrev pub first_doc : List (ℕ × ℤ) → ℕ
+first_doc [] = 0
+first_doc (e ∷ es) = e.0
+
+abbrev pub first_weight : List (ℕ × ℤ) → ℤ
+first_weight [] = pos 0
+first_weight (e ∷ es) = e.1

@@ -1,0 +1,92 @@
+ghost use Rattle.std.specs.Prelude.{◌≡◌, ◌%◌, ◌∷◌, [], true, false, length, IfOk, IfErr};
+ghost use Rattle.std.specs.BTreeMap.{insert_entry};
+ghost use Rattle.std.specs.Ordering.{nat_cmp};
+ghost use Rattle.store_api.specs.Parts.{Owns};
+ghost use Rattle.store_api.specs.Units.{MayDo};
+ghost use Rattle.posting_store.specs.Lists.{list_at, list_levels, IsList, IsPlain};
+ghost use Rattle.posting_store.specs.Changes.{list_part, list_most, MakesList, MakesWithin, RefusesSome};
+
+use crate::items::{items_of, number_law, put_item};
+use crate::posting::Posting;
+use crate::replacing::replace_list;
+use attr_types::Doc;
+use frozen_btree::{NumberKey, insert};
+use store_api::{Store, StoreError};
+
+/// Puts a document into a tree, or replaces its weight there.
+fn add_to_tree<const OFFSET_BITS: u32, S: Store<OFFSET_BITS>>(
+    store: &mut S,
+    list: Posting,
+    doc: Doc,
+    weight: i32,
+) -> Result<Posting, StoreError>
+    requires unit { (S.ledger store.old).unit ≡ true }
+    requires list { IsList (S.records store.old) list }
+    requires plain { IsPlain list }
+    requires tree { list % 2 ≡ 1 }
+    requires owns { Owns (S.ledger store.old) (S.records store.old) (list_part list ∷ []) }
+    ensures makes { IfOk result (MakesList (S.ledger store.old) (S.ledger store.new) (S.records store.old) (S.records store.new)
+        list (insert_entry nat_cmp (list_at (S.records store.old) list) doc weight)) }
+    ensures counts { MakesWithin (S.ledger store.old) (S.ledger store.new) (list_most (list_levels (S.records store.old) list)
+        (length (insert_entry nat_cmp (list_at (S.records store.old) list) doc weight))) }
+    ensures refuses { IfErr result (RefusesSome (S.ledger store.old) (S.ledger store.new)) }
+    ensures may { MayDo (S.ledger store.old) (S.ledger store.new) }
+{
+    let number = doc.number() as u64;
+    let bits = weight.cast_unsigned() as u64;
+    let root = insert(store, list.entry(), &NumberKey(number), number, bits)?;
+    Ok(Posting::tree(root))
+}
+
+/// Puts a document into a short list, or replaces its weight there.
+fn add_to_short<const OFFSET_BITS: u32, S: Store<OFFSET_BITS>>(
+    store: &mut S,
+    list: Posting,
+    doc: Doc,
+    weight: i32,
+) -> Result<Posting, StoreError>
+    requires unit { (S.ledger store.old).unit ≡ true }
+    requires list { IsList (S.records store.old) list }
+    requires plain { IsPlain list }
+    requires short { list % 2 ≡ 0 }
+    requires owns { Owns (S.ledger store.old) (S.records store.old) (list_part list ∷ []) }
+    ensures makes { IfOk result (MakesList (S.ledger store.old) (S.ledger store.new) (S.records store.old) (S.records store.new)
+        list (insert_entry nat_cmp (list_at (S.records store.old) list) doc weight)) }
+    ensures counts { MakesWithin (S.ledger store.old) (S.ledger store.new) (list_most (list_levels (S.records store.old) list)
+        (length (insert_entry nat_cmp (list_at (S.records store.old) list) doc weight))) }
+    ensures refuses { IfErr result (RefusesSome (S.ledger store.old) (S.ledger store.new)) }
+    ensures may { MayDo (S.ledger store.old) (S.ledger store.new) }
+{
+    number_law(doc);
+    let mut items = items_of(store, list);
+    put_item(&mut items, doc, weight);
+    replace_list(store, list, items.as_slice())
+}
+
+/// Puts a document into a list, or replaces its weight there. The answer is the new list.
+pub fn add<const OFFSET_BITS: u32, S: Store<OFFSET_BITS>>(
+    store: &mut S,
+    list: Posting,
+    doc: Doc,
+    weight: i32,
+    dense: bool,
+    documents: u32,
+) -> Result<Posting, StoreError>
+    requires unit { (S.ledger store.old).unit ≡ true }
+    requires list { IsList (S.records store.old) list }
+    requires plain { IsPlain list }
+    requires sparse { dense ≡ false }
+    requires owns { Owns (S.ledger store.old) (S.records store.old) (list_part list ∷ []) }
+    ensures makes { IfOk result (MakesList (S.ledger store.old) (S.ledger store.new) (S.records store.old) (S.records store.new)
+        list (insert_entry nat_cmp (list_at (S.records store.old) list) doc weight)) }
+    ensures counts { MakesWithin (S.ledger store.old) (S.ledger store.new) (list_most (list_levels (S.records store.old) list)
+        (length (insert_entry nat_cmp (list_at (S.records store.old) list) doc weight))) }
+    ensures refuses { IfErr result (RefusesSome (S.ledger store.old) (S.ledger store.new)) }
+    ensures may { MayDo (S.ledger store.old) (S.ledger store.new) }
+{
+    if list.is_tree() {
+        add_to_tree(store, list, doc, weight)
+    } else {
+        add_to_short(store, list, doc, weight)
+    }
+}

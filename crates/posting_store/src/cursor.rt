@@ -1,0 +1,125 @@
+ghost use Rattle.std.specs.Prelude.{◌≡◌, ◌↔◌, drop, length, [], false, IsTrue};
+ghost use Rattle.image_base.specs.Records.{Records};
+ghost use Rattle.posting_store.specs.Lists.{list_at, IsList, IsPlain};
+ghost use Rattle.posting_store.specs.Walks.{postings_from, first_doc, first_weight, HasPosting, IsPlace};
+
+use crate::posting::Posting;
+use attr_types::Doc;
+use entry_ref::EntryRef;
+use frozen_api::Frozen;
+use frozen_btree::{Cursor, total};
+
+/// A place before a document of a list, or at the end of it.
+#[derive(Drop)]
+pub enum PostingCursor<const OFFSET_BITS: u32> {
+    /// Before item `at` of the record of a short list, or of none.
+    Short {
+        list: EntryRef<OFFSET_BITS>,
+        count: u32,
+        at: u32,
+    },
+    Tree(Cursor<OFFSET_BITS>),
+}
+
+/// Before the first document of a list.
+pub fn walk<const OFFSET_BITS: u32, F: Frozen<OFFSET_BITS>>(
+    frozen: &mut F,
+    list: Posting,
+) -> PostingCursor<OFFSET_BITS>
+    requires list { IsList (F.records frozen.old) list }
+    requires plain { IsPlain list }
+    ensures place { IsPlace (F.records frozen.old) result }
+    ensures postings { postings_from (F.records frozen.old) result ≡ list_at (F.records frozen.old) list }
+    ensures same { frozen.new ≡ frozen.old }
+{
+    let root = EntryRef::from_raw((list.word() / 2) as u32);
+    if list.word() % 2 == 1 {
+        return PostingCursor::Tree(Cursor::first(frozen, root));
+    }
+    let count = if root.valid() {
+        frozen.word(root, 0) as u32
+    } else {
+        0
+    };
+    PostingCursor::Short {
+        list: root,
+        count,
+        at: 0,
+    }
+}
+
+/// How many documents a list has.
+pub fn count<const OFFSET_BITS: u32, F: Frozen<OFFSET_BITS>>(frozen: &mut F, list: Posting) -> u32
+    requires list { IsList (F.records frozen.old) list }
+    requires plain { IsPlain list }
+    ensures count { result ≡ length (list_at (F.records frozen.old) list) }
+    ensures same { frozen.new ≡ frozen.old }
+{
+    let root = EntryRef::from_raw((list.word() / 2) as u32);
+    if list.word() % 2 == 1 {
+        return total(frozen, root);
+    }
+    if root.valid() {
+        frozen.word(root, 0) as u32
+    } else {
+        0
+    }
+}
+
+impl<const OFFSET_BITS: u32> PostingCursor<OFFSET_BITS> {
+    /// Whether no document follows.
+    pub fn at_end(&self) -> bool
+        ensures posting { IsTrue result ↔ ¬ HasPosting self.now }
+        ensures follows { result ≡ false → HasPosting self.now }
+        ensures postings { (m : Records) → IsPlace m self.now → IsTrue result ↔ (postings_from m self.now ≡ []) }
+    {
+        match self {
+            PostingCursor::Short { count, at, .. } => *at >= *count,
+            PostingCursor::Tree(cursor) => cursor.at_end(),
+        }
+    }
+
+    /// The document that follows.
+    pub fn doc<F: Frozen<OFFSET_BITS>>(&self, frozen: &mut F) -> Doc
+        requires place { IsPlace (F.records frozen.old) self.now }
+        requires posting { HasPosting self.now }
+        ensures doc { result ≡ first_doc (postings_from (F.records frozen.old) self.now) }
+        ensures same { frozen.new ≡ frozen.old }
+    {
+        match self {
+            PostingCursor::Short { list, at, .. } => {
+                Doc::new((frozen.word(*list, 1 + *at) / 4_294_967_296) as u32)
+            }
+            PostingCursor::Tree(cursor) => Doc::new(cursor.key() as u32),
+        }
+    }
+
+    /// Its weight.
+    pub fn weight<F: Frozen<OFFSET_BITS>>(&self, frozen: &mut F) -> i32
+        requires place { IsPlace (F.records frozen.old) self.now }
+        requires posting { HasPosting self.now }
+        ensures weight { result ≡ first_weight (postings_from (F.records frozen.old) self.now) }
+        ensures same { frozen.new ≡ frozen.old }
+    {
+        match self {
+            PostingCursor::Short { list, at, .. } => {
+                ((frozen.word(*list, 1 + *at) % 4_294_967_296) as u32).cast_signed()
+            }
+            PostingCursor::Tree(cursor) => (cursor.value() as u32).cast_signed(),
+        }
+    }
+
+    /// Goes on behind one document.
+    pub fn next<F: Frozen<OFFSET_BITS>>(&mut self, frozen: &mut F)
+        requires place { IsPlace (F.records frozen.old) self.old }
+        requires posting { HasPosting self.old }
+        ensures place { IsPlace (F.records frozen.old) self.new }
+        ensures postings { postings_from (F.records frozen.old) self.new ≡ drop 1 (postings_from (F.records frozen.old) self.old) }
+        ensures same { frozen.new ≡ frozen.old }
+    {
+        match self {
+            PostingCursor::Short { at, .. } => *at += 1,
+            PostingCursor::Tree(cursor) => cursor.next(frozen),
+        }
+    }
+}

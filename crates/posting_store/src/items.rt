@@ -1,0 +1,88 @@
+ghost use Rattle.std.specs.Prelude.{◌≡◌, ◌≤◌, length, map};
+ghost use Rattle.std.specs.BTreeMap.{insert_entry, is_at};
+ghost use Rattle.std.specs.Map.{remove_entry};
+ghost use Rattle.std.specs.Ordering.{nat_cmp};
+ghost use Rattle.attr_images.specs.Words.{unpacked};
+ghost use Rattle.posting_store.specs.Lists.{list_at, IsList, IsPlain};
+
+use crate::ITEM_BASE;
+use crate::cursor::walk;
+use crate::posting::Posting;
+use arrayvec::ArrayVec;
+use attr_types::Doc;
+use frozen_api::Frozen;
+
+/// The items of a short list, and of one with a document more.
+pub type Items = ArrayVec<u64, 9>;
+
+/// The item of a document with a weight.
+fn item_of(doc: Doc, weight: i32) -> u64
+    ensures { unpacked result ≡ (doc, weight) }
+{
+    doc.number() as u64 * ITEM_BASE + weight.cast_unsigned() as u64
+}
+
+/// A document has a number of one. It does nothing: its contract is the law.
+pub fn number_law(doc: Doc)
+    ensures first { 1 ≤ doc }
+    ensures last { doc ≤ 1048575 }
+{
+    let _ = doc.number();
+}
+
+/// The items of a list that has nine documents at most.
+pub fn items_of<const OFFSET_BITS: u32, F: Frozen<OFFSET_BITS>>(
+    frozen: &mut F,
+    list: Posting,
+) -> Items
+    requires list { IsList (F.records frozen.old) list }
+    requires plain { IsPlain list }
+    requires few { length (list_at (F.records frozen.old) list) ≤ 9 }
+    ensures items { map unpacked result.items ≡ list_at (F.records frozen.old) list }
+    ensures same { frozen.new ≡ frozen.old }
+{
+    let mut items = ArrayVec::new();
+    let mut cursor = walk(frozen, list);
+    while !cursor.at_end() {
+        let doc = cursor.doc(frozen);
+        let weight = cursor.weight(frozen);
+        items.push(item_of(doc, weight));
+        cursor.next(frozen);
+    }
+    items
+}
+
+/// Puts a document in, or replaces its weight.
+pub fn put_item(items: &mut Items, doc: Doc, weight: i32)
+    requires { length items.old.items ≤ 8 }
+    ensures { map unpacked items.new.items ≡ insert_entry nat_cmp (map unpacked items.old.items) doc weight }
+{
+    let number = doc.number() as u64;
+    let item = item_of(doc, weight);
+    for i in 0..items.len() {
+        let here = items[i] / ITEM_BASE;
+        if here == number {
+            items.remove(i);
+            items.insert(i, item);
+            return;
+        }
+        if here > number {
+            items.insert(i, item);
+            return;
+        }
+    }
+    items.push(item);
+}
+
+/// Takes a document out.
+pub fn take_item(items: &mut Items, doc: Doc)
+    ensures { map unpacked items.new.items ≡ remove_entry (is_at (nat_cmp doc)) (map unpacked items.old.items) }
+{
+    let number = doc.number() as u64;
+    for i in 0..items.len() {
+        if items[i] / ITEM_BASE == number {
+            items.remove(i);
+            return;
+        }
+    }
+}

@@ -1,0 +1,21 @@
+//! Lists of documents with weights in a store: a short one is a record, a longer one a tree by document.
+#![tactic(auto)]
+
+mod adding;
+mod cursor;
+mod dropping;
+mod items;
+mod laws;
+mod making;
+mod posting;
+mod removing;
+mod replacing;
+
+pub use adding::add;
+pub use cursor::{PostingCursor, count, walk};
+pub use laws::list_law;
+pub use posting::Posting;
+pub use removing::remove;
+
+/// What the documents of items are multiplied by: an item of a short list is `document * ITEM_BASE + weight`.
+const ITEM_BASE: u64 = 4_294_967_296;

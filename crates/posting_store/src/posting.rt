@@ -1,0 +1,73 @@
+ghost use Rattle.std.specs.Prelude.{◌≡◌, ◌↔◌, ◌<◌, ◌+◌, ◌*◌, ◌/◌, ◌%◌, ◌^◌, IsTrue};
+ghost use Rattle.posting_store.specs.Lists.{IsPlain};
+
+use entry_ref::EntryRef;
+use std::marker::Model;
+
+/// A list of documents with weights, as the word that a dictionary keeps for it. 0 is the empty list.
+#[derive(Clone, Copy, Debug, PartialEq, Eq)]
+pub struct Posting {
+    word: u64,
+}
+
+impl Model for Posting {
+    ghost use Rattle.std.specs.Prelude.{ℕ};
+
+    ghost Value = { ℕ };
+
+    ghost view = { λ list. list.word };
+
+    ghost inverse = { λ n. record { word = n } };
+}
+
+impl Posting {
+    /// The empty list.
+    pub const EMPTY: Posting = Posting { word: 0 };
+
+    pub fn from_word(word: u64) -> Posting
+        ensures { result ≡ word }
+    {
+        Posting { word }
+    }
+
+    pub fn word(self) -> u64
+        ensures { result ≡ self }
+    {
+        self.word
+    }
+
+    /// The short list of an array.
+    pub(crate) fn short<const OFFSET_BITS: u32>(array: EntryRef<OFFSET_BITS>) -> Posting
+        ensures word { result ≡ 2 * array.entry }
+        ensures plain { IsPlain result }
+    {
+        Posting {
+            word: 2 * array.raw() as u64,
+        }
+    }
+
+    /// The list of a tree's root.
+    pub(crate) fn tree<const OFFSET_BITS: u32>(root: EntryRef<OFFSET_BITS>) -> Posting
+        ensures word { result ≡ 2 * root.entry + 1 }
+        ensures plain { IsPlain result }
+    {
+        Posting {
+            word: 2 * root.raw() as u64 + 1,
+        }
+    }
+
+    /// Whether the list is a tree and no record.
+    pub(crate) fn is_tree(self) -> bool
+        ensures { IsTrue result ↔ (self % 2 ≡ 1) }
+    {
+        self.word % 2 == 1
+    }
+
+    /// The record of a short list or the root of a tree, 0 of the empty list.
+    pub(crate) fn entry<const OFFSET_BITS: u32>(self) -> EntryRef<OFFSET_BITS>
+        requires { IsPlain self }
+        ensures { result ≡ self / 2 }
+    {
+        EntryRef::from_raw((self.word / 2) as u32)
+    }
+}

@@ -1,0 +1,90 @@
+ghost use Rattle.std.specs.Prelude.{◌≡◌, ◌<◌, ◌≤◌, ◌∷◌, [], true, false, length, IsSome, IfOk, IfErr};
+ghost use Rattle.std.specs.BTreeMap.{is_at};
+ghost use Rattle.std.specs.Map.{lookup, remove_entry};
+ghost use Rattle.std.specs.Ordering.{nat_cmp};
+ghost use Rattle.store_api.specs.Parts.{Owns};
+ghost use Rattle.store_api.specs.Units.{MayDo};
+ghost use Rattle.posting_store.specs.Lists.{list_at, list_levels, IsList, IsPlain};
+ghost use Rattle.posting_store.specs.Changes.{list_part, list_most, MakesList, MakesWithin, RefusesSome};
+
+use crate::cursor::count;
+use crate::items::{items_of, take_item};
+use crate::posting::Posting;
+use crate::replacing::replace_list;
+use attr_types::Doc;
+use frozen_btree::{NumberKey, remove as remove_pair};
+use store_api::{Store, StoreError};
+
+/// Takes a document out of a list that stays a tree.
+fn remove_from_tree<const OFFSET_BITS: u32, S: Store<OFFSET_BITS>>(
+    store: &mut S,
+    list: Posting,
+    doc: Doc,
+) -> Result<Posting, StoreError>
+    requires unit { (S.ledger store.old).unit ≡ true }
+    requires list { IsList (S.records store.old) list }
+    requires plain { IsPlain list }
+    requires many { 9 < length (list_at (S.records store.old) list) }
+    requires there { IsSome (lookup (is_at (nat_cmp doc)) (list_at (S.records store.old) list)) }
+    requires owns { Owns (S.ledger store.old) (S.records store.old) (list_part list ∷ []) }
+    ensures makes { IfOk result (MakesList (S.ledger store.old) (S.ledger store.new) (S.records store.old) (S.records store.new)
+        list (remove_entry (is_at (nat_cmp doc)) (list_at (S.records store.old) list))) }
+    ensures counts { MakesWithin (S.ledger store.old) (S.ledger store.new) (list_most (list_levels (S.records store.old) list)
+        (length (remove_entry (is_at (nat_cmp doc)) (list_at (S.records store.old) list)))) }
+    ensures refuses { IfErr result (RefusesSome (S.ledger store.old) (S.ledger store.new)) }
+    ensures may { MayDo (S.ledger store.old) (S.ledger store.new) }
+{
+    let root = remove_pair(store, list.entry(), &NumberKey(doc.number() as u64))?;
+    Ok(Posting::tree(root))
+}
+
+/// Takes a document out of a list of nine at most, which is short then.
+fn remove_from_short<const OFFSET_BITS: u32, S: Store<OFFSET_BITS>>(
+    store: &mut S,
+    list: Posting,
+    doc: Doc,
+) -> Result<Posting, StoreError>
+    requires unit { (S.ledger store.old).unit ≡ true }
+    requires list { IsList (S.records store.old) list }
+    requires plain { IsPlain list }
+    requires few { length (list_at (S.records store.old) list) ≤ 9 }
+    requires owns { Owns (S.ledger store.old) (S.records store.old) (list_part list ∷ []) }
+    ensures makes { IfOk result (MakesList (S.ledger store.old) (S.ledger store.new) (S.records store.old) (S.records store.new)
+        list (remove_entry (is_at (nat_cmp doc)) (list_at (S.records store.old) list))) }
+    ensures counts { MakesWithin (S.ledger store.old) (S.ledger store.new) (list_most (list_levels (S.records store.old) list)
+        (length (remove_entry (is_at (nat_cmp doc)) (list_at (S.records store.old) list)))) }
+    ensures refuses { IfErr result (RefusesSome (S.ledger store.old) (S.ledger store.new)) }
+    ensures may { MayDo (S.ledger store.old) (S.ledger store.new) }
+{
+    let mut items = items_of(store, list);
+    take_item(&mut items, doc);
+    replace_list(store, list, items.as_slice())
+}
+
+/// Takes a document that is there out of a list. The answer is the new list, 0 where no document is left.
+pub fn remove<const OFFSET_BITS: u32, S: Store<OFFSET_BITS>>(
+    store: &mut S,
+    list: Posting,
+    doc: Doc,
+    dense: bool,
+    documents: u32,
+) -> Result<Posting, StoreError>
+    requires unit { (S.ledger store.old).unit ≡ true }
+    requires list { IsList (S.records store.old) list }
+    requires plain { IsPlain list }
+    requires sparse { dense ≡ false }
+    requires there { IsSome (lookup (is_at (nat_cmp doc)) (list_at (S.records store.old) list)) }
+    requires owns { Owns (S.ledger store.old) (S.records store.old) (list_part list ∷ []) }
+    ensures makes { IfOk result (MakesList (S.ledger store.old) (S.ledger store.new) (S.records store.old) (S.records store.new)
+        list (remove_entry (is_at (nat_cmp doc)) (list_at (S.records store.old) list))) }
+    ensures counts { MakesWithin (S.ledger store.old) (S.ledger store.new) (list_most (list_levels (S.records store.old) list)
+        (length (remove_entry (is_at (nat_cmp doc)) (list_at (S.records store.old) list)))) }
+    ensures refuses { IfErr result (RefusesSome (S.ledger store.old) (S.ledger store.new)) }
+    ensures may { MayDo (S.ledger store.old) (S.ledger store.new) }
+{
+    if count(store, list) > 9 {
+        remove_from_tree(store, list, doc)
+    } else {
+        remove_from_short(store, list, doc)
+    }
+}
