@@ -1,0 +1,35 @@
+-- The indexes that dictionaries stand for.
+use Rattle.std.specs.Prelude.{ℕ, suc, ◌+◌, ◌*◌, ◌<◌, ◌^◌, Bool, true, List, [], ◌∷◌, length, map, Option, Some, None}
+use Rattle.std.specs.List.{AllByRecursion}
+use Rattle.image_base.specs.Records.{Records}
+use Rattle.attr_images.specs.Images.{dictionary_at}
+use Rattle.attr_images.specs.Postings.{index_of}
+use Rattle.attr_index.specs.Index.{Index}
+use Rattle.attr_types.specs.declared.field.Field.{Field}
+use Rattle.doc_set.specs.Sets.{has}
+use Rattle.query_leaves.specs.Parts.{IsIndexed}
+use Rattle.query_eval.specs.declared.dictionary.Dictionary.{Dictionary}
+
+-- each dictionary with its lists has its form
+abbrev pub AreIndexed : (bits : ℕ) → Records → List (Dictionary bits) → Type 0
+AreIndexed bits m dictionaries = AllByRecursion (λ d. IsIndexed d.values m d.root) dictionaries
+
+abbrev pub indexes_in : (bits : ℕ) → Records → List (Dictionary bits) → List Index
+indexes_in bits m dictionaries = map (λ d. index_of d.values m d.root) dictionaries
+
+-- the dictionaries of some attributes, from number `i` on
+abbrev pub dictionaries_at : (bits : ℕ) → Records → ℕ → ℕ → List Field → List (Dictionary bits)
+dictionaries_at bits m root i [] = []
+dictionaries_at bits m root i (field ∷ fields) =
+    record { root = dictionary_at m root i; values = field.value } ∷ dictionaries_at bits m root (suc i) fields
+
+-- the root record has a word for each, which fits a reference
+abbrev pub HasDictionaries : Records → ℕ → ℕ → List Field → Type 0
+HasDictionaries m root i [] = Unit {0}
+HasDictionaries m root i (field ∷ fields) =
+    (0 < root → 2 + 2 * i < length (m root)) × (dictionary_at m root i < 2 ^ 32) × HasDictionaries m root (suc i) fields
+
+-- a document is in all sets so far: in each before the first
+abbrev pub is_common : Option (List ℕ) → ℕ → Bool
+is_common None doc = true
+is_common (Some docs) doc = has docs doc

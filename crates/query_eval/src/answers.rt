@@ -1,0 +1,32 @@
+//! What an image answers.
+ghost use Rattle.attr_images.specs.Images.{table_of, IsLawfulImage};
+ghost use Rattle.attr_images.specs.Shapes.{shape_of, types_of};
+ghost use Rattle.attr_types.specs.Query.{tree_of};
+ghost use Rattle.attr_types.specs.Table.{hits};
+ghost use Rattle.attr_types.specs.declared.field.TheConstants.{MOST_FIELDS};
+ghost use Rattle.std.specs.Prelude.{◌≡◌, ◌≤◌, length, IfOk};
+
+use crate::image::dictionaries_of;
+use crate::queries::matching;
+use attr_types::{DocList, Fields, Query};
+use entry_ref::EntryRef;
+use frozen_api::Frozen;
+use std::alloc::{AllocError, Global};
+
+/// The documents of an image that a query matches, ascending.
+pub fn hits<const OFFSET_BITS: u32, F: Frozen<OFFSET_BITS>>(
+    alloc: Global,
+    frozen: &mut F,
+    root: EntryRef<OFFSET_BITS>,
+    fields: &Fields,
+    query: &Query,
+) -> Result<DocList, AllocError>
+    requires few { length fields.now ≤ MOST_FIELDS }
+    requires shape { F.shape frozen.old ≡ shape_of (types_of fields.now) }
+    requires image { IsLawfulImage (F.shape frozen.old) (F.records frozen.old) root }
+    ensures hits { IfOk result (λ docs. docs ≡ hits (tree_of query.now) (table_of (F.shape frozen.old) (F.records frozen.old) root.entry)) }
+    ensures same { frozen.new ≡ frozen.old }
+{
+    let dictionaries = dictionaries_of(alloc, frozen, root, fields.as_slice())?;
+    matching(alloc, frozen, dictionaries.as_slice(), query)
+}

@@ -1,0 +1,17 @@
+-- The blocks of a bit vector.
+use Rattle.std.specs.Prelude.{◌≡◌, ℕ, ◌≤◌, true, List}
+use Rattle.std.specs.List.{flat_map}
+use Rattle.image_base.specs.Records.{Records}
+use Rattle.attr_images.specs.Postings.{block_documents, IsBlock}
+use Rattle.attr_types.specs.Lawful.{IsDocNumber}
+use Rattle.doc_set.specs.Sets.{has}
+
+-- a block of documents alone
+pub record IsDocumentBlock (m : Records) (p : ℕ × ℕ) : Type 0 where
+  pub block : IsBlock p.0 (m p.1)
+  pub few : p.0 ≤ 255
+  pub documents : (doc : ℕ) → has (block_documents p.0 (m p.1)) doc ≡ true → IsDocNumber doc
+
+-- the documents of blocks
+abbrev pub documents_of : Records → List (ℕ × ℕ) → List ℕ
+documents_of m blocks = flat_map (λ p. block_documents p.0 (m p.1)) blocks

@@ -1,0 +1,28 @@
+-- A dictionary and its lists of documents, as the index that they stand for.
+use Rattle.std.specs.Prelude.{ℕ, List, map}
+use Rattle.std.specs.List.{AllByRecursion}
+use Rattle.image_base.specs.Records.{Records}
+use Rattle.tree_images.specs.Trees.{tree_pairs, IsTree}
+use Rattle.attr_images.specs.Postings.{list_form, postings_at, IsDictionaryEntry}
+use Rattle.attr_images.specs.Values.{stored_value}
+use Rattle.attr_index.specs.Index.{Index}
+use Rattle.attr_types.specs.Value.{value_cmp}
+use Rattle.attr_types.specs.declared.kind.ValueType.{ValueType}
+use Rattle.doc_set.specs.Postings.{AreDocuments}
+
+-- the values of some pairs of a dictionary, each with its list
+abbrev pub part_of : ValueType → Records → List (ℕ × ℕ) → Index
+part_of type m pairs = map (λ p. (stored_value type m p.0, postings_at m (list_form p.1))) pairs
+
+-- the records behind a pair have their form, and its list has numbers of documents
+pub record IsIndexPair (type : ValueType) (m : Records) (p : ℕ × ℕ) : Type 0 where
+  pub entry : IsDictionaryEntry type m p
+  pub documents : AreDocuments (postings_at m (list_form p.1))
+
+abbrev pub AreIndexPairs : ValueType → Records → List (ℕ × ℕ) → Type 0
+AreIndexPairs type m pairs = AllByRecursion (IsIndexPair type m) pairs
+
+-- the root of a dictionary whose values ascend, with its lists
+pub record IsIndexed (type : ValueType) (m : Records) (root : ℕ) : Type 0 where
+  pub tree_is : IsTree value_cmp (stored_value type) m root
+  pub pairs : AreIndexPairs type m (tree_pairs m root)

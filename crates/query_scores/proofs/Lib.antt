@@ -1,0 +1,5 @@
+pub mod LookupLemmas
+pub mod WordLemmas
+pub mod VectorLemmas
+pub mod WeightLemmas
+pub mod ListLemmas

@@ -1,0 +1,29 @@
+-- The weights of a document in lists, and its score by them.
+use Rattle.std.specs.Prelude.{◌≡◌, ℕ, ℤ, pos, Bool, List, [], map, Option, Some, None, unwrap_or}
+use Rattle.std.specs.BTreeMap.{is_at}
+use Rattle.std.specs.List.{list_any}
+use Rattle.std.specs.Map.{keys_of, lookup}
+use Rattle.std.specs.Ordering.{nat_cmp}
+use Rattle.image_base.specs.Records.{Records}
+use Rattle.attr_images.specs.Postings.{list_form, postings_at, IsPostingList}
+use Rattle.attr_index.specs.Index.{Index, list_of}
+use Rattle.attr_scores.specs.declared.part.Part.{Part}
+use Rattle.doc_set.specs.Postings.{AreDocuments}
+use Rattle.doc_set.specs.Sets.{has}
+
+-- the weight of a document in a list, 0 where it is not there
+abbrev pub weight_at : ℕ → List (ℕ × ℤ) → ℤ
+weight_at doc list = unwrap_or (lookup (is_at (nat_cmp doc)) list) (pos 0)
+
+-- the list of a dictionary's word, none where there is no word
+abbrev pub word_list : Records → Option ℕ → List (ℕ × ℤ)
+word_list m None = []
+word_list m (Some word) = postings_at m (list_form word)
+
+abbrev pub IsWord : Records → Option ℕ → Type 0
+IsWord m None = Unit {0}
+IsWord m (Some word) = IsPostingList m (list_form word) × AreDocuments (postings_at m (list_form word))
+
+-- some part's value has the document in its list
+abbrev pub is_found : List Part → Index → ℕ → Bool
+is_found parts index doc = list_any (λ part. has (keys_of (list_of part.value index)) doc) parts
