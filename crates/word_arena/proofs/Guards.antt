@@ -43,6 +43,10 @@ post_after {bits} {arena} {sizes} {z} {z'} {me} {me'} i same v is size =
       view,
     )
 
+-- what was seen since, after what had been seen
+pub saw_on : {x : ℕ × Image} {now middle before : List (ℕ × Image)} → now ≡ x ∷ middle → middle ≡ before → now ≡ x ∷ before
+saw_on {x} is same = is ∙ ap (λ seen. x ∷ seen) same
+
 -- what a load of the root leaves
 pub guards : {reaches : ℕ → Records → ℕ → List ℕ} {lawful : ℕ → Records → ℕ → Type 0} {bits : ℕ} {arena : TableId} {sizes : Sizes} {z z' : TableId} {me me' : Me Slot View} {found : ℕ} (h : ℕ)
     → IsPost bits arena sizes z me → h < 16 → (reader_of me.0).state ≡ Raised h → z' ≡ z → ToldLoadRoot reaches lawful me found me'
@@ -68,7 +72,10 @@ guards {reaches} {lawful} {bits} {arena} {sizes} {z} {z'} {me} {me'} {found} h i
             (subst (λ (y : Sizes). All (λ pair. IsEntry y.offset_bits y.buffers y.words (length pair.1) pair.0) s.image.records) i.same_sizes s.entries));
       },
       record {
+        same_sizes = ap (λ (x : ReaderView). x.sizes) p.1;
         later = subst (λ (x : ReaderView). r.seen ≤ number_of x) (sym p.1) s.later;
+        seen = subst (λ (x : ReaderView). x.seen ≡ number_of x) (sym p.1) refl;
+        saw = subst (λ (x : ReaderView). x.saw ≡ (number_of x, image_of x) ∷ r.saw) (sym p.1) refl;
         least = subst (λ (x : ReaderView). r.least ≤ x.least) (sym p.1) (omega arith);
         commit = subst (λ (x : ReaderView). IsLawfulCommit reaches lawful x.sizes.shape (image_of x)) (sym p.1) s.commit;
       },
@@ -196,6 +203,7 @@ aimed_post {bits} {arena} {sizes} {z} {z1} {me} {me1} {last} i same told =
       record {
         same_sizes = ap (λ (x : ReaderView). x.sizes) p.1;
         seen = ap (λ (x : ReaderView). x.seen) p.1;
+        saw = ap (λ (x : ReaderView). x.saw) p.1;
         least = subst (λ (x : ReaderView). (reader_of me.0).least ≤ x.least) (sym p.1) told.least;
       },
     )
@@ -207,6 +215,7 @@ pub record RaisedPost (bits : ℕ) (arena : TableId) (sizes : Sizes) (r : Reader
   pub low : hold < 16
   pub sizes_same : (reader_of me.0).sizes ≡ r.sizes
   pub seen : (reader_of me.0).seen ≡ r.seen
+  pub saw : (reader_of me.0).saw ≡ r.saw
   pub least : r.least ≤ (reader_of me.0).least
 
 pub raised_post : {bits : ℕ} {arena : TableId} {sizes : Sizes} {hold count : ℕ} {z z1 : TableId} {me me1 : Me Slot View} → IsAim bits arena sizes hold z me → z1 ≡ z → told_raise (step 0 (2 + hold) 2 0 none) me count me1
@@ -220,6 +229,7 @@ raised_post {bits} {arena} {sizes} {hold} {count} {z} {z1} {me} {me1} a same tol
       low = a.low;
       sizes_same = ap (λ (x : ReaderView). x.sizes) p.1;
       seen = ap (λ (x : ReaderView). x.seen) p.1;
+      saw = ap (λ (x : ReaderView). x.saw) p.1;
       least = subst (λ (x : ReaderView). (reader_of me.0).least ≤ x.least) (sym p.1) (omega arith);
     }
 

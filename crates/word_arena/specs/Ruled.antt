@@ -191,16 +191,21 @@ pub record IsGuard (bits : ℕ) (arena : TableId) (sizes : Sizes) (hold word : �
   pub small_number : number_of (reader_of me.0) < 2 ^ 32
   pub entries : All (λ pair. IsEntry bits sizes.buffers sizes.words (length pair.1) pair.0) (image_of (reader_of me.0)).records
 
--- the guard's commit is lawful, and not below what the reader had seen; nor is the least generation below the one asked for
+-- the guard's commit is lawful, not below what the reader had seen, and all that was seen since; nor is the least
+-- generation below the one asked for
 pub record IsLater (reaches : ℕ → Records → ℕ → List ℕ) (lawful : ℕ → Records → ℕ → Type 0) (r : ReaderView) (r' : ReaderView) : Type 0 where
+  pub same_sizes : r'.sizes ≡ r.sizes
   pub later : r.seen ≤ number_of r'
+  pub seen : r'.seen ≡ number_of r'
+  pub saw : r'.saw ≡ (number_of r', image_of r') ∷ r.saw
   pub least : r.least ≤ r'.least
   pub commit : IsLawfulCommit reaches lawful r'.sizes.shape (image_of r')
 
--- after a miss the reader aims higher, and not above the limit
+-- after a miss the reader aims higher, and not above the limit; nothing else was seen
 pub record IsHigher (r : ReaderView) (r' : ReaderView) : Type 0 where
   pub higher : r.least + 1 ≤ r'.least
   pub seen : r'.seen ≡ r.seen
+  pub saw : r'.saw ≡ r.saw
   pub same_sizes : r'.sizes ≡ r.sizes
   pub limit : r'.least ≤ r'.sizes.generation_limit
 
@@ -208,4 +213,5 @@ pub record IsHigher (r : ReaderView) (r' : ReaderView) : Type 0 where
 pub record IsAimOf (r : ReaderView) (r' : ReaderView) : Type 0 where
   pub same_sizes : r'.sizes ≡ r.sizes
   pub seen : r'.seen ≡ r.seen
+  pub saw : r'.saw ≡ r.saw
   pub least : r.least ≤ r'.least

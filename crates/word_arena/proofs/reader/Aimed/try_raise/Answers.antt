@@ -4,7 +4,7 @@ use Rattle.gen_core.specs.declared.views.View.{View}
 use Rattle.gen_core.specs.Events.{bounced}
 use Rattle.word_arena.specs.Ruled.{Slot, reader_of, IsHigher}
 use Rattle.word_arena.proofs.Allowed.{raise_owed, bounce_owed, load_root_owed}
-use Rattle.word_arena.proofs.Guards.{low-inside, even-state, odd-state, guards, raised_post, watch_after}
+use Rattle.word_arena.proofs.Guards.{low-inside, even-state, odd-state, guards, raised_post, saw_on, watch_after}
 use Rattle.word_arena.proofs.reader.Aimed.try_raise.Goals as goal
 
 pub fetch_add-count-requires : goal.fetch_add-count-requires
@@ -36,7 +36,14 @@ returns-then-count-eq0-clause-ok g c =
     let seen = b.seen in
     let least = b.least in
     let more = h.1.least in
-    record { later = omega arith; least = omega (arith, least, more); commit = h.1.commit }
+    record {
+      same_sizes = h.1.same_sizes ∙ b.sizes_same;
+      later = omega arith;
+      seen = h.1.seen;
+      saw = saw_on h.1.saw b.saw;
+      least = omega (arith, least, more);
+      commit = h.1.commit;
+    }
 
 pub fetch_sub-requires : goal.fetch_sub-requires
 fetch_sub-requires g c =
@@ -59,7 +66,7 @@ returns-clause-again g c =
     let least = b.least in
     let limit = told.limit in
     let view : reader_of c.fetch_sub.new.seat.me.0 ≡ bounced (reader_of c.fetch_add-count.new.seat.me.0) = ap (λ (m : Me Slot View). reader_of m.0) told.is in
-    subst (IsHigher (reader_of c.args.self.place.me.0)) (sym view) (record { higher = omega arith; seen = b.seen; same_sizes = b.sizes_same; limit = limit })
+    subst (IsHigher (reader_of c.args.self.place.me.0)) (sym view) (record { higher = omega arith; seen = b.seen; saw = b.saw; same_sizes = b.sizes_same; limit = limit })
 
 pub returns-then-count-eq0-clause-even : goal.returns-then-count-eq0-clause-even
 returns-then-count-eq0-clause-even g c =

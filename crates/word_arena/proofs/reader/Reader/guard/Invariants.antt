@@ -6,6 +6,8 @@ abbrev pub invariant-loop-guard : goal.invariant-loop-guard
 invariant-loop-guard g l = record {
   table : l.reader.place.table_id ≡ l.fn.self.place.table_id;
   seen : (reader_of l.reader.place.me.0).seen ≡ (reader_of l.fn.self.place.me.0).seen;
+  saw : (reader_of l.reader.place.me.0).saw ≡ (reader_of l.fn.self.place.me.0).saw;
+  same_sizes : (reader_of l.reader.place.me.0).sizes ≡ (reader_of l.fn.self.place.me.0).sizes;
   limit : (reader_of l.reader.place.me.0).sizes.generation_limit ≡ (reader_of l.fn.self.place.me.0).sizes.generation_limit;
   rises : (reader_of l.fn.self.place.me.0).least ≤ (reader_of l.reader.place.me.0).least;
   few : l.tries + (reader_of l.fn.self.place.me.0).least ≤ l.fn.tries + (reader_of l.reader.place.me.0).least;

@@ -1,0 +1,30 @@
+use Rattle.std.proofs.Common.{subst, sym, refl, ◌∙◌, ap, length, arith}
+use Rattle.word_arena.specs.Ruled.{reader_of}
+use Rattle.attr_rounds.proofs.RoundLemmas.{no_rounds}
+use Rattle.attr_rounds.specs.Rounds.{MakesRounds}
+use Rattle.attr_rounds.proofs.rounds.go_round.Goals as goal
+
+pub loop-init : goal.loop-init
+loop-init g c =
+    let answers = g.Q.Question.answers c.args.question.now in
+    let r = reader_of c.args.reader.place.me.0 in
+    record {
+      rounds = subst (MakesRounds g.Q.Question.operations answers g.L.Layout.lawful r r) (sym c.new-rounds.ensures.items) (no_rounds g.Q.Question.operations answers g.L.Layout.lawful r);
+      count = ap length c.new-rounds.ensures.items;
+      table = refl;
+    }
+
+pub one_round-requires : goal.one_round-requires
+one_round-requires g c =
+    let made = c.loop.invariant.count in
+    let below = c.loop-test.true in
+    let fits = c.ranges.count.fits in
+    (omega arith, omega arith)
+
+pub loop-preserved : goal.loop-preserved
+loop-preserved g c =
+    let i = c.loop.invariant in
+    let next = c.in_ok-reader.ensures in
+    let one = next.count in
+    let made = i.count in
+    record { rounds = next.rounds (reader_of c.args.reader.place.me.0) i.rounds; count = omega (arith, one, made); table = next.table ∙ i.table }

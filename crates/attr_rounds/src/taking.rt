@@ -1,0 +1,27 @@
+ghost use Rattle.std.specs.Prelude.{◌≡◌, All};
+ghost use Rattle.gen_core.specs.Events.{joined};
+ghost use Rattle.word_arena.specs.Ruled.{reader_of, writer_of};
+ghost use Rattle.attr_rounds.specs.Rounds.{AreSeen, IsOfCommit};
+
+use crate::question::Question;
+use crate::rounds::{Reading, Round};
+use image_base::Layout;
+use word_arena::Writer;
+
+/// Ends a reader after its rounds to this question. Each of them is then known to be of a commit of the writer.
+pub fn take_in<'a, const OFFSET_BITS: u32, L: Layout, Q: Question<OFFSET_BITS, L>>(
+    writer: &mut Writer<'a, OFFSET_BITS, L>,
+    reading: Reading<'a, OFFSET_BITS, L, Q::Answer>,
+    _question: &Q,
+) -> Vec<Round<Q::Answer>>
+    requires table { reading.reader.place.table_id ≡ writer.old.place.table_id }
+    requires seen { AreSeen Q.operations (Q.answers _question.now) L.lawful (reader_of reading.reader.place.me.0) reading.rounds.items }
+    ensures rounds { All (IsOfCommit Q.operations (Q.answers _question.now) (reader_of reading.entry.reader.place.me.0).sizes.shape (writer_of writer.new.place.me.0).commits) result.items }
+    ensures same { result.items ≡ reading.entry.rounds.items }
+    ensures view { writer_of writer.new.place.me.0 ≡ joined (writer_of writer.old.place.me.0) (reader_of reading.entry.reader.place.me.0) }
+    ensures table { writer.new.place.table_id ≡ writer.old.place.table_id }
+{
+    let Reading { reader, rounds } = reading;
+    writer.take_in(reader);
+    rounds
+}
