@@ -1,0 +1,9 @@
+pub mod FrameLemmas
+pub mod RefusalLemmas
+pub mod PairLemmas
+pub mod RecordLemmas
+pub mod LawLemmas
+pub mod KeyLemmas
+pub mod ChangeLemmas
+pub mod ReadLemmas
+pub mod CountLemmas

@@ -1,0 +1,5 @@
+pub mod ProofsForDocuments
+pub mod Documents
+pub mod Items
+pub mod Changes
+pub mod Laws

@@ -1,0 +1,14 @@
+-- Nobody has to read this: what documents own stays where these records stay. It stands here since a part cites it.
+use Rattle.std.proofs.Common.{◌≡◌, ℕ, List, ◌++◌, ap, ◌∙◌}
+use Rattle.std.specs.List.{flat_map}
+use Rattle.image_base.specs.Records.{Records, SameAt}
+use Rattle.tree_images.specs.ProofsForTrees.{SameAt-left, tree_pairs-same, tree_nodes-same}
+use Rattle.tree_images.specs.Trees.{tree_nodes, tree_pairs}
+
+pub owned-same : (own : ℕ → List ℕ) (m n : Records) (root : ℕ)
+    → SameAt (tree_nodes m root ++ flat_map (λ p. own p.1) (tree_pairs m root)) m n
+    → tree_nodes n root ++ flat_map (λ p. own p.1) (tree_pairs n root) ≡ tree_nodes m root ++ flat_map (λ p. own p.1) (tree_pairs m root)
+owned-same own m n root same =
+    let nodes = SameAt-left m n (tree_nodes m root) (flat_map (λ p. own p.1) (tree_pairs m root)) same in
+    ap (λ rs. rs ++ flat_map (λ p. own p.1) (tree_pairs n root)) (tree_nodes-same m n root nodes)
+    ∙ ap (λ ps. tree_nodes m root ++ flat_map (λ p. own p.1) ps) (tree_pairs-same m n root nodes)

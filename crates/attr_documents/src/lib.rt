@@ -1,0 +1,14 @@
+//! The documents of an attribute with their items, in a store: a map by document, and a record for each array and weighted set.
+#![tactic(auto)]
+
+mod changing;
+mod laws;
+mod making;
+mod reading;
+
+pub use changing::{remove_document, set_document};
+pub use laws::documents_law;
+pub use reading::items;
+
+/// What a reference is multiplied by in a word of a weighted set, whose low part is the weight.
+const WEIGHT_BASE: u64 = 4_294_967_296;

@@ -1,0 +1,7 @@
+pub mod RefLemmas
+pub mod LawLemmas
+pub mod StepLemmas
+pub mod WeightLemmas
+pub mod SearchLemmas
+pub mod ChangeLemmas
+pub mod CompareLemmas

@@ -1,0 +1,129 @@
+-- A change of the index beside the documents, and of the documents beside the index.
+use Rattle.std.proofs.Common.{◌≡◌, ℕ, suc, ◌<◌, List, [], ◌∷◌, length, map, refl, sym, ap, subst, arith, inl, inr}
+use Rattle.std.specs.Prelude.{Contains, ℤ, Option, None}
+use Rattle.std.specs.List.{AllByRecursion}
+use Rattle.image_base.specs.Records.{Records, Among, SameAt}
+use Rattle.store_api.specs.Ledgers.{Ledger}
+use Rattle.store_api.specs.Parts.{After, Turns, times}
+use Rattle.store_api.proofs.PartLemmas.{after}
+use Rattle.store_api.proofs.Times.{among-times}
+use Rattle.attr_documents.specs.Changes.{AreBeside, MakesDocuments}
+use Rattle.attr_documents.specs.Documents.{documents_part, documents_refer, IsDocuments}
+use Rattle.attr_documents.specs.Laws.{DocumentsStay, DocumentsHaveValues}
+use Rattle.attr_images.specs.Documents.{column_at}
+use Rattle.attr_images.specs.Postings.{index_of}
+use Rattle.attr_images.specs.Values.{stored_value}
+use Rattle.attr_index.proofs.OfLemmas.{no_documents}
+use Rattle.attr_index.specs.Changes.{IsBetween}
+use Rattle.attr_index.specs.Columns.{Column, column_values, documents_with}
+use Rattle.attr_index.specs.Index.{Index, IsIndexOf, list_of}
+use Rattle.attr_types.specs.declared.kind.Kind.{Kind}
+use Rattle.attr_types.specs.declared.kind.ValueType.{ValueType}
+use Rattle.attr_types.specs.declared.value.Value.{Value}
+use Rattle.attr_walks.proofs.KeyLemmas.{settled_long}
+use Rattle.value_index.specs.Changes.{KeepsKeys}
+use Rattle.value_index.specs.Indexes.{index_part, index_reach, IsIndex, IsKey}
+use Rattle.value_index.specs.Laws.{IndexStays, KeyIsRead}
+use Rattle.attr_field.specs.Steps.{StandsField, StepsField}
+use Rattle.attr_field.proofs.RefLemmas.{all_among, same_each}
+
+-- ---- the index is another
+module _ (documents_stay : DocumentsStay) {H : Type 0} (kind : Kind) (type : ValueType) (old new : Ledger H) (m n : Records) (documents dictionary next : ℕ)
+    (stands : StandsField kind type old m documents dictionary) (index_is : IsIndex type n next) (keys : KeepsKeys type m n dictionary next)
+    (turns : Turns old new m n (index_part dictionary ∷ []) (index_part next ∷ []))
+    (listed : (r : ℕ) → Among r (documents_refer kind m documents) → 0 < length (list_of (stored_value type m r) (index_of type n next))) where
+  index_after : After old new m n (documents_part kind documents ∷ index_part dictionary ∷ []) (documents_part kind documents ∷ index_part next ∷ [])
+      (documents_part kind documents ∷ [])
+  index_after = after old new m n (index_part dictionary ∷ []) (index_part next ∷ []) (documents_part kind documents ∷ [])
+      (documents_part kind documents ∷ index_part dictionary ∷ []) (documents_part kind documents ∷ index_part next ∷ []) stands.owns turns
+      (λ k r. omega arith) (λ k r. omega arith)
+
+  index_refer : SameAt (documents_refer kind m documents) m n
+  index_refer = same_each m n (documents_refer kind m documents) (λ r among. (keys.kept r (stands.keys r among) (listed r among)).1)
+
+  index_documents : IsDocuments kind type n documents × (column_at kind type n documents ≡ column_at kind type m documents)
+      × (documents_refer kind n documents ≡ documents_refer kind m documents)
+  index_documents = documents_stay kind type m n documents index_after.stay.0 index_refer stands.documents_are
+
+  pub index_steps : StepsField kind type old new m n documents dictionary (column_at kind type m documents) documents next
+  index_steps = record {
+    stands = record {
+      documents_are = index_documents.0;
+      index_is = index_is;
+      keys = λ r among. let was = subst (Among r) index_documents.2 among in (keys.kept r (stands.keys r was) (listed r was)).0;
+      owns = index_after.owns;
+    };
+    column_is = index_documents.1;
+    turns = index_after.turns;
+  }
+
+-- ---- the documents are others
+module _ (index_stays : IndexStays) {H : Type 0} (kind : Kind) (type : ValueType) (old new : Ledger H) (m n : Records) (documents dictionary next : ℕ) (keys : List ℕ)
+    (column : Column) (stands : StandsField kind type old m documents dictionary) (makes : MakesDocuments kind type old new m n documents keys column next)
+    (are : AllByRecursion (IsKey m dictionary) keys) where
+  documents_after : After old new m n (documents_part kind documents ∷ index_part dictionary ∷ []) (documents_part kind next ∷ index_part dictionary ∷ [])
+      (index_part dictionary ∷ [])
+  documents_after = after old new m n (documents_part kind documents ∷ []) (documents_part kind next ∷ []) (index_part dictionary ∷ [])
+      (documents_part kind documents ∷ index_part dictionary ∷ []) (documents_part kind next ∷ index_part dictionary ∷ []) stands.owns makes.turns
+      (λ k r. omega arith) (λ k r. omega arith)
+
+  documents_index : IsIndex type n dictionary × (index_of type n dictionary ≡ index_of type m dictionary) × ((ref : ℕ) → IsKey m dictionary ref → IsKey n dictionary ref)
+  documents_index = index_stays type m n dictionary documents_after.stay.0 stands.index_is
+
+  pub documents_index_same : index_of type n dictionary ≡ index_of type m dictionary
+  documents_index_same = documents_index.1
+
+  pub documents_steps : StepsField kind type old new m n documents dictionary column next dictionary
+  documents_steps = record {
+    stands = record {
+      documents_are = makes.documents_are;
+      index_is = documents_index.0;
+      keys = λ r among. elim (makes.refers r among) [
+        | inl was ↦ documents_index.2 r (stands.keys r was)
+        | inr given ↦ documents_index.2 r (all_among (IsKey m dictionary) keys are r given)
+      ];
+      owns = documents_after.owns;
+    };
+    column_is = makes.column_is;
+    turns = documents_after.turns;
+  }
+
+-- keys are owned beside the documents
+module _ (key_read : KeyIsRead) {H : Type 0} (kind : Kind) (type : ValueType) (ledger : Ledger H) (m : Records) (documents dictionary : ℕ)
+    (stands : StandsField kind type ledger m documents dictionary) where
+  key_beside : (r : ℕ) → IsKey m dictionary r → Rattle.store_api.specs.Parts.count_in r m (documents_part kind documents ∷ []) < Rattle.store_api.specs.Parts.uses ledger r
+  key_beside r key =
+      let some = among-times r (index_reach m dictionary) (key_read type m dictionary r stands.index_is key).owned in
+      let all = stands.owns.each r in
+      omega arith
+
+  pub refer_beside : AreBeside ledger m (documents_part kind documents ∷ []) (documents_refer kind m documents)
+  refer_beside = record { each = λ r among. key_beside r (stands.keys r among) }
+
+  pub keys_beside : (keys : List ℕ) → AllByRecursion (IsKey m dictionary) keys → AreBeside ledger m (documents_part kind documents ∷ []) keys
+  keys_beside keys are = record { each = λ r among. key_beside r (all_among (IsKey m dictionary) keys are r among) }
+
+  -- each value stays while documents are added
+  pub added_listed : (doc : ℕ) (added : Value → Option ℤ) (index : Index) → IsBetween (index_of type m dictionary) doc added (λ v. None) index
+      → (r : ℕ) → Among r (documents_refer kind m documents) → 0 < length (list_of (stored_value type m r) index)
+  added_listed doc added index between r among =
+      let value = stored_value type m r in
+      subst (λ docs. 0 < length docs) (sym (between.lists value))
+      (settled_long (added value) doc (list_of value (index_of type m dictionary)) (key_read type m dictionary r stands.index_is (stands.keys r among)).filled)
+
+-- ---- each value of the documents is in their index
+contains_map : (f : ℕ → Value) (refs : List ℕ) (r : ℕ) → Among r refs → Contains (map f refs) (f r)
+contains_map f [] r among = absurd among
+contains_map f (q ∷ refs) r (inl e) = (0, omega arith, ap f (sym e))
+contains_map f (q ∷ refs) r (inr later) = let there = contains_map f refs r later in (suc there.0, (let below = there.1 in omega arith), there.2)
+
+some_documents : (value : Value) (column : Column) (docs : List (ℕ × ℤ)) → documents_with value column ≡ docs → Contains (column_values column) value → 0 < length docs
+some_documents value column [] is there = absurd (no_documents value column is there)
+some_documents value column (e ∷ docs) is there = omega arith
+
+pub ended_listed : DocumentsHaveValues → (kind : Kind) (type : ValueType) (m : Records) (documents : ℕ) (index : Index) → IsIndexOf (column_at kind type m documents) index
+    → (r : ℕ) → Among r (documents_refer kind m documents) → 0 < length (list_of (stored_value type m r) index)
+ended_listed values kind type m documents index of r among =
+    let value = stored_value type m r in
+    let there = subst (λ vs. Contains vs value) (values kind type m documents) (contains_map (stored_value type m) (documents_refer kind m documents) r among) in
+    subst (λ docs. 0 < length docs) (sym (of.lists value)) (some_documents value (column_at kind type m documents) (documents_with value (column_at kind type m documents)) refl there)

@@ -1,0 +1,103 @@
+-- Maps of first weights.
+use Rattle.std.proofs.Common.{◌≡◌, ℕ, ℤ, ◌<◌, Bool, true, false, cond, List, [], ◌∷◌, length, Option, None, Some, option_map, nat_cmp, is_eq, refl, sym, ap, subst, ◌∙◌, arith}
+use Rattle.std.proofs.lemmas.Cmp.{tied_itself}
+use Rattle.std.specs.Prelude.{IsSome}
+use Rattle.std.specs.BTreeMap.{insert_entry, is_at}
+use Rattle.std.specs.List.{AllByRecursion, find}
+use Rattle.std.specs.Map.{keys_of, lookup}
+use Rattle.std.specs.Option.{is_some}
+use Rattle.attr_images.specs.Documents.{column_at, items_at, weighted}
+use Rattle.attr_images.specs.Values.{stored_value, value_of}
+use Rattle.attr_index.proofs.MapLemmas.{lookup-first_weights}
+use Rattle.attr_index.proofs.OfLemmas.{all_then}
+use Rattle.attr_index.specs.Changes.{first_weights, settled, IsBetween}
+use Rattle.attr_index.specs.Columns.{items_of}
+use Rattle.attr_index.specs.Index.{Index, list_of, weight_in}
+use Rattle.attr_types.proofs.EntryLemmas.{all_keys-insert, all-lookup}
+use Rattle.attr_types.specs.ProofsForOrder.{value_cmp_total}
+use Rattle.attr_types.specs.Value.{value_cmp, values_of, type_of, AreOfType}
+use Rattle.attr_types.specs.declared.items.Item.{Item}
+use Rattle.attr_types.specs.declared.kind.Kind.{Kind}
+use Rattle.attr_types.specs.declared.kind.ValueType.{ValueType}
+use Rattle.attr_types.specs.declared.kind.ValueType.TheVariants as types
+use Rattle.attr_types.specs.declared.value.Value.{Value}
+use Rattle.image_base.specs.Records.{Records}
+use Rattle.tree_images.specs.Trees.{tree_pairs}
+
+-- a map of first weights has the weights of its items
+pub weights_are : (entries : List (Value × ℤ)) (items : List Item) → entries ≡ first_weights [] items → (value : Value)
+    → lookup (is_at (value_cmp value)) entries ≡ weight_in value items
+weights_are entries items is value = ap (lookup (is_at (value_cmp value))) is ∙ lookup-first_weights value [] items
+
+-- and values of their type
+typed_first : (type : ValueType) (es : List (Value × ℤ)) (item : Item) (b : Bool) → AreOfType type (keys_of es) → type_of item.value ≡ type
+    → AreOfType type (keys_of (cond b es (insert_entry value_cmp es item.value item.weight)))
+typed_first type es item true typed here = typed
+typed_first type es item false typed here = all_keys-insert value_cmp_total (λ value. type_of value ≡ type) es item.value item.weight typed here
+
+typed_from : (type : ValueType) (es : List (Value × ℤ)) (items : List Item) → AreOfType type (keys_of es) → AreOfType type (values_of items)
+    → AreOfType type (keys_of (first_weights es items))
+typed_from type es [] typed all = typed
+typed_from type es (item ∷ items) typed all =
+    typed_from type (cond (is_some (lookup (is_at (value_cmp item.value)) es)) es (insert_entry value_cmp es item.value item.weight)) items
+    (typed_first type es item (is_some (lookup (is_at (value_cmp item.value)) es)) typed all.0) all.1
+
+pub weights_typed : (type : ValueType) (entries : List (Value × ℤ)) (items : List Item) → entries ≡ first_weights [] items → AreOfType type (values_of items)
+    → AreOfType type (keys_of entries)
+weights_typed type entries items is typed = subst (λ (es : List (Value × ℤ)). AreOfType type (keys_of es)) (sym is) (typed_from type [] items tt typed)
+
+-- the values of stored documents are of the type by which they are read
+value_typed : (type : ValueType) (ws : List ℕ) → type_of (value_of type ws) ≡ type
+value_typed types.Long ws = refl
+value_typed types.Text ws = refl
+
+entries_typed : (type : ValueType) (m : Records) (es : List (ℕ × ℤ))
+    → AreOfType type (values_of (Rattle.std.proofs.Common.map (λ (e : ℕ × ℤ). let item : Item = record { value = stored_value type m e.0; weight = e.1 } in item) es))
+entries_typed type m [] = tt
+entries_typed type m (e ∷ es) = (value_typed type (m e.0), entries_typed type m es)
+
+column_typed : (kind : Kind) (type : ValueType) (m : Records) (ps : List (ℕ × ℕ))
+    → AllByRecursion (λ (e : ℕ × List Item). AreOfType type (values_of e.1)) (Rattle.std.proofs.Common.map (λ (p : ℕ × ℕ). (p.0, items_at kind type m p.1)) ps)
+column_typed kind type m [] = tt
+column_typed kind type m (p ∷ ps) = (entries_typed type m (weighted kind p.1 (m p.1)), column_typed kind type m ps)
+
+pub items_typed : (kind : Kind) (type : ValueType) (m : Records) (documents doc : ℕ) → AreOfType type (values_of (items_of (column_at kind type m documents) doc))
+items_typed kind type m documents doc = told (lookup (is_at (nat_cmp doc)) (column_at kind type m documents)) refl
+  where
+    told : (o : Option (List Item)) → lookup (is_at (nat_cmp doc)) (column_at kind type m documents) ≡ o
+        → AreOfType type (values_of (Rattle.std.specs.Prelude.unwrap_or o []))
+    told None is = tt
+    told (Some items) is = all-lookup (λ items. AreOfType type (values_of items)) (is_at (nat_cmp doc)) (column_at kind type m documents) (column_typed kind type m (tree_pairs m documents)) items is
+
+-- each item has a weight among the items
+weight_at : (value : Value) (item : Item) (items : List Item) (b : Bool) → is_eq (value_cmp value item.value) ≡ b → IsSome (weight_in value items)
+    → IsSome (weight_in value (item ∷ items))
+weight_at value item items true is some = ap (λ c. is_some (option_map (λ (x : Item). x.weight) (cond c (Some item) (find (λ (x : Item). is_eq (value_cmp value x.value)) items)))) is
+weight_at value item items false is some =
+    ap (λ c. is_some (option_map (λ (x : Item). x.weight) (cond c (Some item) (find (λ (x : Item). is_eq (value_cmp value x.value)) items)))) is ∙ some
+
+weight_first : (item : Item) (items : List Item) → IsSome (weight_in item.value (item ∷ items))
+weight_first item items =
+    ap (λ r. is_some (option_map (λ (x : Item). x.weight) (cond (is_eq r) (Some item) (find (λ (x : Item). is_eq (value_cmp item.value x.value)) items))))
+    (tied_itself value_cmp_total item.value)
+
+all_weighed : (items : List Item) → AllByRecursion (λ (item : Item). IsSome (weight_in item.value items)) items
+all_weighed [] = tt
+all_weighed (item ∷ items) = (
+  weight_first item items,
+  all_then (λ (x : Item). IsSome (weight_in x.value items)) (λ (x : Item). IsSome (weight_in x.value (item ∷ items))) items
+      (λ x some. weight_at x.value item items (is_eq (value_cmp x.value item.value)) refl some) (all_weighed items),
+)
+
+-- the values that were added have documents
+insert_some : (o : Option ℤ) (doc : ℕ) (docs : List (ℕ × ℤ)) → IsSome o → 0 < length (settled o None doc docs)
+insert_some None doc docs some = cc
+insert_some (Some weight) doc docs some = Rattle.attr_walks.proofs.KeyLemmas.insert_long doc weight docs
+
+pub items_listed : (start index : Index) (doc : ℕ) (added : Value → Option ℤ) (items : List Item) → ((value : Value) → added value ≡ weight_in value items)
+    → IsBetween start doc added (λ v. None) index → AllByRecursion (λ (item : Item). 0 < length (list_of item.value index)) items
+items_listed start index doc added items are between =
+    all_then (λ (item : Item). IsSome (weight_in item.value items)) (λ (item : Item). 0 < length (list_of item.value index)) items
+    (λ item some. subst (λ docs. 0 < length docs) (sym (between.lists item.value))
+    (insert_some (added item.value) doc (list_of item.value start) (ap is_some (are item.value) ∙ some)))
+    (all_weighed items)

@@ -1,0 +1,161 @@
+use Rattle.std.proofs.Common.{None, Some, sym, subst, ◌∙◌, arith}
+use Rattle.std.proofs.lemmas.Result.{err_from_is_err_and}
+use Rattle.store_api.proofs.May.{may_do-then}
+use Rattle.attr_images.specs.Documents.{column_at}
+use Rattle.attr_images.specs.Postings.{index_of}
+use Rattle.attr_index.specs.Changes.{IsBetween}
+use Rattle.attr_index.specs.Columns.{Column, items_of, with_change}
+use Rattle.attr_index.specs.Index.{Index, IsIndexOf}
+use Rattle.attr_walks.proofs.KeyLemmas.{refuses_after}
+use Rattle.attr_field.proofs.ChangeLemmas.{weights, field_stands, has_before, has_middle, index_ends, step_ends, steps_then}
+use Rattle.attr_field.proofs.WeightLemmas.{items_listed, items_typed, weights_are, weights_typed}
+use Rattle.attr_field.proofs.changing.put_weighed.Goals as goal
+
+pub add_values-requires : goal.add_values-requires
+add_values-requires g c =
+    let begun = g.S.Store.ledger c.args.store.now in
+    let k = g.S.Frozen.records c.args.store.now in
+    let kind = c.args.kind in
+    let type = c.args.value_type in
+    let documents = c.args.roots.documents in
+    let dictionary = c.args.roots.dictionary in (
+      omega arith,
+      (
+        c.requires.unit,
+        (
+          field_stands kind type begun k documents dictionary c.args.doc c.requires.field c.requires.owns,
+          (
+            weights_typed type c.args.new.now.entries c.args.items.now c.requires.after c.requires.fits.1,
+            has_before kind type begun k documents dictionary c.args.doc c.requires.field c.documents_law.ensures.lawful c.args.old.now.entries c.requires.before,
+          ),
+        ),
+      ),
+    )
+
+pub returns-in_err-added-clause-makes : goal.returns-in_err-added-clause-makes
+returns-in_err-added-clause-makes g c = let p = err_from_is_err_and c.from_residual.result c.from_residual.ensures.1 in rw p.1 tt
+
+pub returns-in_err-added-clause-refuses : goal.returns-in_err-added-clause-refuses
+returns-in_err-added-clause-refuses g c = let p = err_from_is_err_and c.from_residual.result c.from_residual.ensures.1 in rw (p.1, p.2) c.in_err-added.ensures.refuses
+
+pub returns-in_err-added-clause-may : goal.returns-in_err-added-clause-may
+returns-in_err-added-clause-may g c = c.add_values.ensures.may
+
+pub set_items-requires : goal.set_items-requires
+set_items-requires g c =
+    let k = g.S.Frozen.records c.args.store.now in
+    let m = g.S.Frozen.records c.add_values.new.store in
+    let type = c.args.value_type in (
+      omega arith,
+      (
+        c.add_values.ensures.may.unit ∙ c.requires.unit,
+        (
+          c.in_ok-added.ensures.steps.stands,
+          (
+            c.requires.fits,
+            items_listed (index_of type k c.args.roots.dictionary) (index_of type m c.in_ok-added.added) c.args.doc (weights c.args.new.now.entries) c.args.items.now
+                (weights_are c.args.new.now.entries c.args.items.now c.requires.after) c.in_ok-added.ensures.between,
+          ),
+        ),
+      ),
+    )
+
+pub returns-in_err-documents-clause-makes : goal.returns-in_err-documents-clause-makes
+returns-in_err-documents-clause-makes g c =
+    let p = err_from_is_err_and c.from_residual-in_err-documents.result c.from_residual-in_err-documents.ensures.1 in rw p.1 tt
+
+pub returns-in_err-documents-clause-refuses : goal.returns-in_err-documents-clause-refuses
+returns-in_err-documents-clause-refuses g c =
+    let ledger = g.S.Store.ledger in
+    let p = err_from_is_err_and c.from_residual-in_err-documents.result c.from_residual-in_err-documents.ensures.1 in
+    rw (p.1, p.2) (refuses_after (ledger c.args.store.now) (ledger c.add_values.new.store) (ledger c.set_items.new.store) _ c.add_values.ensures.may c.in_err-documents.ensures.refuses)
+
+pub returns-in_err-documents-clause-may : goal.returns-in_err-documents-clause-may
+returns-in_err-documents-clause-may g c =
+    let ledger = g.S.Store.ledger in
+    may_do-then (ledger c.args.store.now) (ledger c.add_values.new.store) (ledger c.set_items.new.store) c.add_values.ensures.may c.set_items.ensures.may
+
+pub remove_values-requires : goal.remove_values-requires
+remove_values-requires g c =
+    let ledger = g.S.Store.ledger in
+    let records = g.S.Frozen.records in
+    let begun = ledger c.args.store.now in
+    let k = records c.args.store.now in
+    let m = records c.add_values.new.store in
+    let n = records c.set_items.new.store in
+    let kind = c.args.kind in
+    let type = c.args.value_type in
+    let D = c.args.roots.documents in
+    let I = c.args.roots.dictionary in
+    let doc = c.args.doc in
+    let items = c.args.items.now in
+    let old = c.args.old.now.entries in
+    let new = c.args.new.now.entries in
+    let root = c.in_ok-added.added in
+    let next = c.in_ok-documents.documents in
+    let lawful = c.documents_law.ensures.lawful in
+    let both = steps_then kind type begun k D I doc c.requires.field (ledger c.add_values.new.store) (ledger c.set_items.new.store) m n root next (Some items)
+    c.in_ok-added.ensures.steps c.in_ok-documents.ensures.steps in
+    let between = subst (λ (i : Index). IsBetween (index_of type k I) doc (weights new) (λ v. None) i) (sym c.in_ok-documents.ensures.index) c.in_ok-added.ensures.between in (
+      omega arith,
+      (
+        c.set_items.ensures.may.unit ∙ c.add_values.ensures.may.unit ∙ c.requires.unit,
+        (
+          c.in_ok-documents.ensures.steps.stands,
+          (
+            weights_typed type old (items_of (column_at kind type k D) doc) c.requires.before (items_typed kind type k D doc),
+            (
+              has_middle kind type begun k D I doc c.requires.field lawful old c.requires.before (Some items) new c.requires.after (index_of type n root) between,
+              λ index ends. subst (λ (column : Column). IsIndexOf column index) (sym both.column_is)
+                  (index_ends kind type begun k D I doc c.requires.field lawful old c.requires.before (Some items) new c.requires.after (index_of type n root) between index ends),
+            ),
+          ),
+        ),
+      ),
+    )
+
+pub returns-in_err-dictionary-clause-makes : goal.returns-in_err-dictionary-clause-makes
+returns-in_err-dictionary-clause-makes g c =
+    let p = err_from_is_err_and c.from_residual-in_err-dictionary.result c.from_residual-in_err-dictionary.ensures.1 in rw p.1 tt
+
+pub returns-in_err-dictionary-clause-refuses : goal.returns-in_err-dictionary-clause-refuses
+returns-in_err-dictionary-clause-refuses g c =
+    let ledger = g.S.Store.ledger in
+    let p = err_from_is_err_and c.from_residual-in_err-dictionary.result c.from_residual-in_err-dictionary.ensures.1 in
+    let may = may_do-then (ledger c.args.store.now) (ledger c.add_values.new.store) (ledger c.set_items.new.store) c.add_values.ensures.may c.set_items.ensures.may in
+    rw (p.1, p.2) (refuses_after (ledger c.args.store.now) (ledger c.set_items.new.store) (ledger c.remove_values.new.store) _ may c.in_err-dictionary.ensures.refuses)
+
+pub returns-in_err-dictionary-clause-may : goal.returns-in_err-dictionary-clause-may
+returns-in_err-dictionary-clause-may g c =
+    let ledger = g.S.Store.ledger in
+    let may = may_do-then (ledger c.args.store.now) (ledger c.add_values.new.store) (ledger c.set_items.new.store) c.add_values.ensures.may c.set_items.ensures.may in
+    may_do-then (ledger c.args.store.now) (ledger c.set_items.new.store) (ledger c.remove_values.new.store) may c.remove_values.ensures.may
+
+pub returns-clause-makes : goal.returns-clause-makes
+returns-clause-makes g c =
+    let ledger = g.S.Store.ledger in
+    let records = g.S.Frozen.records in
+    let begun = ledger c.args.store.now in
+    let k = records c.args.store.now in
+    let m = records c.add_values.new.store in
+    let n = records c.set_items.new.store in
+    let o = records c.remove_values.new.store in
+    let kind = c.args.kind in
+    let type = c.args.value_type in
+    let D = c.args.roots.documents in
+    let I = c.args.roots.dictionary in
+    let doc = c.args.doc in
+    let items = c.args.items.now in
+    let root = c.in_ok-added.added in
+    let next = c.in_ok-documents.documents in
+    let last = c.in_ok-dictionary.dictionary in
+    let both = steps_then kind type begun k D I doc c.requires.field (ledger c.add_values.new.store) (ledger c.set_items.new.store) m n root next (Some items)
+    c.in_ok-added.ensures.steps c.in_ok-documents.ensures.steps in
+    step_ends kind type begun k D I doc c.requires.field (ledger c.set_items.new.store) (ledger c.remove_values.new.store) n o next root last
+    (with_change (column_at kind type k D) doc (Some items)) both c.in_ok-dictionary.ensures.steps c.in_ok-dictionary.ensures.index
+
+pub returns-clause-may : goal.returns-clause-may
+returns-clause-may g c =
+    let ledger = g.S.Store.ledger in
+    let may = may_do-then (ledger c.args.store.now) (ledger c.add_values.new.store) (ledger c.set_items.new.store) c.add_values.ensures.may c.set_items.ensures.may in
+    may_do-then (ledger c.args.store.now) (ledger c.set_items.new.store) (ledger c.remove_values.new.store) may c.remove_values.ensures.may

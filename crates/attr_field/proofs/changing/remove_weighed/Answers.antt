@@ -1,0 +1,101 @@
+use Rattle.std.proofs.Common.{ℤ, List, None, sym, subst, ◌∙◌, arith}
+use Rattle.std.proofs.lemmas.Result.{err_from_is_err_and}
+use Rattle.store_api.proofs.May.{may_do-then}
+use Rattle.attr_images.specs.Documents.{column_at}
+use Rattle.attr_images.specs.Postings.{index_of}
+use Rattle.attr_index.specs.Changes.{IsBetween}
+use Rattle.attr_index.specs.Columns.{Column, items_of, with_change}
+use Rattle.attr_index.specs.Index.{Index, IsIndexOf}
+use Rattle.attr_types.specs.declared.value.Value.{Value}
+use Rattle.attr_walks.proofs.KeyLemmas.{refuses_after}
+use Rattle.attr_field.proofs.ChangeLemmas.{weights, field_stands, has_middle, index_ends, none_added, step_ends}
+use Rattle.attr_field.proofs.WeightLemmas.{items_typed, weights_typed}
+use Rattle.attr_field.proofs.changing.remove_weighed.Goals as goal
+
+pub take_out-requires : goal.take_out-requires
+take_out-requires g c =
+    let begun = g.S.Store.ledger c.args.store.now in
+    let k = g.S.Frozen.records c.args.store.now in (
+      omega arith,
+      (
+        c.requires.unit,
+        (field_stands c.args.kind c.args.value_type begun k c.args.roots.documents c.args.roots.dictionary c.args.doc c.requires.field c.requires.owns, c.requires.there),
+      ),
+    )
+
+pub returns-in_err-documents-clause-makes : goal.returns-in_err-documents-clause-makes
+returns-in_err-documents-clause-makes g c = let p = err_from_is_err_and c.from_residual.result c.from_residual.ensures.1 in rw p.1 tt
+
+pub returns-in_err-documents-clause-refuses : goal.returns-in_err-documents-clause-refuses
+returns-in_err-documents-clause-refuses g c =
+    let p = err_from_is_err_and c.from_residual.result c.from_residual.ensures.1 in rw (p.1, p.2) c.in_err-documents.ensures.refuses
+
+pub returns-in_err-documents-clause-may : goal.returns-in_err-documents-clause-may
+returns-in_err-documents-clause-may g c = c.take_out.ensures.may
+
+pub remove_values-requires : goal.remove_values-requires
+remove_values-requires g c =
+    let records = g.S.Frozen.records in
+    let begun = g.S.Store.ledger c.args.store.now in
+    let k = records c.args.store.now in
+    let m = records c.take_out.new.store in
+    let kind = c.args.kind in
+    let type = c.args.value_type in
+    let D = c.args.roots.documents in
+    let I = c.args.roots.dictionary in
+    let doc = c.args.doc in
+    let old = c.args.old.now.entries in
+    let new = c.no_weights-none.result.entries in
+    let lawful = c.documents_law.ensures.lawful in
+    let between = subst (λ (i : Index). IsBetween (index_of type k I) doc (weights new) (λ v. None) i) (sym c.in_ok-documents.ensures.index)
+    (subst (λ (es : List (Value × ℤ)). IsBetween (index_of type k I) doc (weights es) (λ v. None) (index_of type k I)) (sym c.no_weights-none.ensures)
+    (none_added kind type begun k D I doc c.requires.field)) in (
+      omega arith,
+      (
+        c.take_out.ensures.may.unit ∙ c.requires.unit,
+        (
+          c.in_ok-documents.ensures.steps.stands,
+          (
+            weights_typed type old (items_of (column_at kind type k D) doc) c.requires.before (items_typed kind type k D doc),
+            (
+              has_middle kind type begun k D I doc c.requires.field lawful old c.requires.before None new c.no_weights-none.ensures (index_of type m I) between,
+              λ index ends. subst (λ (column : Column). IsIndexOf column index) (sym c.in_ok-documents.ensures.steps.column_is)
+                  (index_ends kind type begun k D I doc c.requires.field lawful old c.requires.before None new c.no_weights-none.ensures (index_of type m I) between index ends),
+            ),
+          ),
+        ),
+      ),
+    )
+
+pub returns-in_err-dictionary-clause-makes : goal.returns-in_err-dictionary-clause-makes
+returns-in_err-dictionary-clause-makes g c =
+    let p = err_from_is_err_and c.from_residual-in_err-dictionary.result c.from_residual-in_err-dictionary.ensures.1 in rw p.1 tt
+
+pub returns-in_err-dictionary-clause-refuses : goal.returns-in_err-dictionary-clause-refuses
+returns-in_err-dictionary-clause-refuses g c =
+    let ledger = g.S.Store.ledger in
+    let p = err_from_is_err_and c.from_residual-in_err-dictionary.result c.from_residual-in_err-dictionary.ensures.1 in
+    rw (p.1, p.2) (refuses_after (ledger c.args.store.now) (ledger c.take_out.new.store) (ledger c.remove_values.new.store) _ c.take_out.ensures.may c.in_err-dictionary.ensures.refuses)
+
+pub returns-in_err-dictionary-clause-may : goal.returns-in_err-dictionary-clause-may
+returns-in_err-dictionary-clause-may g c =
+    let ledger = g.S.Store.ledger in
+    may_do-then (ledger c.args.store.now) (ledger c.take_out.new.store) (ledger c.remove_values.new.store) c.take_out.ensures.may c.remove_values.ensures.may
+
+pub returns-clause-makes : goal.returns-clause-makes
+returns-clause-makes g c =
+    let ledger = g.S.Store.ledger in
+    let records = g.S.Frozen.records in
+    let k = records c.args.store.now in
+    let kind = c.args.kind in
+    let type = c.args.value_type in
+    let D = c.args.roots.documents in
+    let I = c.args.roots.dictionary in
+    step_ends kind type (ledger c.args.store.now) k D I c.args.doc c.requires.field (ledger c.take_out.new.store) (ledger c.remove_values.new.store)
+    (records c.take_out.new.store) (records c.remove_values.new.store) c.in_ok-documents.documents I c.in_ok-dictionary.dictionary
+    (with_change (column_at kind type k D) c.args.doc None) c.in_ok-documents.ensures.steps c.in_ok-dictionary.ensures.steps c.in_ok-dictionary.ensures.index
+
+pub returns-clause-may : goal.returns-clause-may
+returns-clause-may g c =
+    let ledger = g.S.Store.ledger in
+    may_do-then (ledger c.args.store.now) (ledger c.take_out.new.store) (ledger c.remove_values.new.store) c.take_out.ensures.may c.remove_values.ensures.may

@@ -1,0 +1,120 @@
+use Rattle.std.proofs.Common.{◌≡◌, ℕ, List, [], ◌∷◌, Option, Some, refl, sym, ap, subst, ◌∙◌, arith}
+use Rattle.std.specs.List.{AllByRecursion}
+use Rattle.store_api.specs.Parts.{Owns}
+use Rattle.store_api.specs.Units.{MayDo}
+use Rattle.store_api.proofs.May.{may_do-same}
+use Rattle.attr_documents.specs.Changes.{AreBeside, AreKeysOf, MakesDocuments}
+use Rattle.attr_documents.specs.Documents.{documents_part, documents_refer, IsDocuments}
+use Rattle.attr_images.specs.Documents.{column_at}
+use Rattle.attr_images.specs.Postings.{index_of}
+use Rattle.attr_index.specs.Columns.{with_change}
+use Rattle.posting_store.specs.Changes.{RefusesSome}
+use Rattle.value_index.specs.Indexes.{IsKey}
+use Rattle.attr_field.specs.Steps.{StepsField}
+use Rattle.attr_field.proofs.RefLemmas.{owns_documents, if_ok}
+use Rattle.attr_field.proofs.StepLemmas.{documents_steps, documents_index_same, refer_beside, keys_beside}
+use Rattle.attr_field.proofs.steps.set_items.Goals as goal
+
+pub keys_of-requires : goal.keys_of-requires
+keys_of-requires g c = (omega arith, (c.requires.stands.index_is, (c.requires.fits.1, c.requires.listed)))
+
+pub returns-in_default-clause-refuses : goal.returns-in_default-clause-refuses
+returns-in_default-clause-refuses g c = record { width = 2; is = refl; refuses = tt }
+
+pub returns-in_default-clause-may : goal.returns-in_default-clause-may
+returns-in_default-clause-may g c =
+    let ledger = g.S.Store.ledger in
+    subst (λ s. MayDo (ledger c.args.store.now) (ledger s)) (sym c.keys_of.ensures.same) (may_do-same (ledger c.args.store.now))
+
+pub set_document-requires : goal.set_document-requires
+set_document-requires g c =
+    let ledger = g.S.Store.ledger in
+    let records = g.S.Frozen.records in
+    let old = ledger c.args.store.now in
+    let m = records c.args.store.now in
+    let kind = c.args.kind in
+    let type = c.args.value_type in
+    let documents = c.args.documents in
+    let same = sym c.keys_of.ensures.same in
+    let keys = c.in-Ok.keys.items in (
+      omega arith,
+      (
+        subst (λ s. (ledger s).unit ≡ Rattle.std.proofs.Common.true) same c.requires.unit,
+        (
+          subst (λ s. IsDocuments kind type (records s) documents) same c.requires.stands.documents_are,
+          (
+            subst (λ s. Owns (ledger s) (records s) (documents_part kind documents ∷ [])) same (owns_documents old m kind documents c.args.dictionary c.requires.stands.owns),
+            (
+              subst (λ s. AreBeside (ledger s) (records s) (documents_part kind documents ∷ []) (documents_refer kind (records s) documents)) same
+                  (refer_beside c.key_law.ensures.read kind type old m documents c.args.dictionary c.requires.stands),
+              (
+                subst (λ s. AreKeysOf type (records s) c.as_slice.result.now c.args.items.now) same
+                    (subst (λ refs. AreKeysOf type m refs c.args.items.now) (sym c.as_slice.ensures.value) c.in-Ok.ensures.keys),
+                (
+                  subst (λ s. AreBeside (ledger s) (records s) (documents_part kind documents ∷ []) c.as_slice.result.now) same
+                      (subst (λ refs. AreBeside old m (documents_part kind documents ∷ []) refs) (sym c.as_slice.ensures.value)
+                      (keys_beside c.key_law.ensures.read kind type old m documents c.args.dictionary c.requires.stands keys c.in-Ok.ensures.kept)),
+                  c.requires.fits.0,
+                ),
+              ),
+            ),
+          ),
+        ),
+      ),
+    )
+
+pub returns-clause-steps : goal.returns-clause-steps
+returns-clause-steps g c =
+    let ledger = g.S.Store.ledger in
+    let records = g.S.Frozen.records in
+    let old = ledger c.args.store.now in
+    let new = ledger c.set_document.new.store in
+    let m = records c.args.store.now in
+    let n = records c.set_document.new.store in
+    let kind = c.args.kind in
+    let type = c.args.value_type in
+    let documents = c.args.documents in
+    let dictionary = c.args.dictionary in
+    let doc = c.args.doc in
+    let items = c.args.items.now in
+    let keys = c.as_slice.result.now in
+    let column = with_change (column_at kind type m documents) doc (Some items) in
+    let kept = subst (AllByRecursion (IsKey m dictionary)) (sym c.as_slice.ensures.value) c.in-Ok.ensures.kept in
+    if_ok (λ next. MakesDocuments kind type (ledger c.keys_of.new.frozen) new (records c.keys_of.new.frozen) n documents keys
+    (with_change (column_at kind type (records c.keys_of.new.frozen) documents) doc (Some items)) next)
+    (λ next. StepsField kind type old new m n documents dictionary column next dictionary) c.set_document.result c.set_document.ensures.makes
+    (λ next makes. documents_steps c.index_law.ensures.stays kind type old new m n documents dictionary next keys column c.requires.stands
+    (subst (λ s. MakesDocuments kind type (ledger s) new (records s) n documents keys (with_change (column_at kind type (records s) documents) doc (Some items)) next) c.keys_of.ensures.same makes) kept)
+
+pub returns-clause-index : goal.returns-clause-index
+returns-clause-index g c =
+    let ledger = g.S.Store.ledger in
+    let records = g.S.Frozen.records in
+    let old = ledger c.args.store.now in
+    let new = ledger c.set_document.new.store in
+    let m = records c.args.store.now in
+    let n = records c.set_document.new.store in
+    let kind = c.args.kind in
+    let type = c.args.value_type in
+    let documents = c.args.documents in
+    let dictionary = c.args.dictionary in
+    let doc = c.args.doc in
+    let items = c.args.items.now in
+    let keys = c.as_slice.result.now in
+    let column = with_change (column_at kind type m documents) doc (Some items) in
+    let kept = subst (AllByRecursion (IsKey m dictionary)) (sym c.as_slice.ensures.value) c.in-Ok.ensures.kept in
+    if_ok (λ next. MakesDocuments kind type (ledger c.keys_of.new.frozen) new (records c.keys_of.new.frozen) n documents keys
+    (with_change (column_at kind type (records c.keys_of.new.frozen) documents) doc (Some items)) next)
+    (λ next. index_of type n dictionary ≡ index_of type m dictionary) c.set_document.result c.set_document.ensures.makes
+    (λ next makes. documents_index_same c.index_law.ensures.stays kind type old new m n documents dictionary next keys column c.requires.stands
+    (subst (λ s. MakesDocuments kind type (ledger s) new (records s) n documents keys (with_change (column_at kind type (records s) documents) doc (Some items)) next) c.keys_of.ensures.same makes) kept)
+
+pub returns-clause-refuses : goal.returns-clause-refuses
+returns-clause-refuses g c =
+    let ledger = g.S.Store.ledger in
+    subst (λ s. Rattle.std.specs.Prelude.IfErr c.set_document.result (RefusesSome (ledger s) (ledger c.set_document.new.store))) c.keys_of.ensures.same c.set_document.ensures.refuses
+
+pub returns-clause-may : goal.returns-clause-may
+returns-clause-may g c =
+    let ledger = g.S.Store.ledger in
+    subst (λ s. MayDo (ledger s) (ledger c.set_document.new.store)) c.keys_of.ensures.same c.set_document.ensures.may

@@ -1,0 +1,26 @@
+-- One attribute in a store: its documents and the index of their values, each by the root of its tree.
+use Rattle.std.specs.Prelude.{ℕ, ◌++◌}
+use Rattle.image_base.specs.Records.{Records, Among}
+use Rattle.store_api.specs.Parts.{Part}
+use Rattle.attr_documents.specs.Documents.{documents_own, documents_refer, IsDocuments}
+use Rattle.attr_images.specs.Documents.{column_at}
+use Rattle.attr_images.specs.Postings.{index_of}
+use Rattle.attr_index.specs.Index.{IsIndexOf}
+use Rattle.attr_types.specs.declared.kind.Kind.{Kind}
+use Rattle.attr_types.specs.declared.kind.ValueType.{ValueType}
+use Rattle.value_index.specs.Indexes.{index_reach, IsIndex, IsKey}
+use Rattle.attr_field.specs.ProofsForFields.{field_own-same}
+
+-- what an attribute owns: what its documents own, and what its index does
+abbrev pub field_part : Kind → ℕ → ℕ → Part
+field_part kind documents dictionary = record {
+  reach = λ m. documents_own kind m documents ++ index_reach m dictionary;
+  stays = λ m n same. field_own-same kind m n documents dictionary same;
+}
+
+-- documents, and the index of exactly their values, to whose keys the documents refer
+pub record IsField (kind : Kind) (type : ValueType) (m : Records) (documents dictionary : ℕ) : Type 0 where
+  pub documents_are : IsDocuments kind type m documents
+  pub index_is : IsIndex type m dictionary
+  pub index_of_documents : IsIndexOf (column_at kind type m documents) (index_of type m dictionary)
+  pub keys : (r : ℕ) → Among r (documents_refer kind m documents) → IsKey m dictionary r

@@ -1,0 +1,16 @@
+-- Nobody has to read this: what an attribute owns stays where these records stay. It stands here since a part cites it.
+use Rattle.std.proofs.Common.{◌≡◌, ℕ, ◌++◌, ap, ◌∙◌}
+use Rattle.image_base.specs.Records.{Records, SameAt}
+use Rattle.tree_images.specs.ProofsForTrees.{SameAt-left, SameAt-right}
+use Rattle.attr_documents.specs.Documents.{documents_own, documents_part}
+use Rattle.attr_types.specs.declared.kind.Kind.{Kind}
+use Rattle.value_index.specs.Indexes.{index_part, index_reach}
+
+pub field_own-same : (kind : Kind) (m n : Records) (documents dictionary : ℕ)
+    → SameAt (documents_own kind m documents ++ index_reach m dictionary) m n
+    → documents_own kind n documents ++ index_reach n dictionary ≡ documents_own kind m documents ++ index_reach m dictionary
+field_own-same kind m n documents dictionary same =
+    let own = documents_own kind m documents in
+    let reach = index_reach m dictionary in
+    ap (λ refs. refs ++ index_reach n dictionary) ((documents_part kind documents).stays m n (SameAt-left m n own reach same))
+    ∙ ap (λ refs. own ++ refs) ((index_part dictionary).stays m n (SameAt-right m n own reach same))

@@ -1,0 +1,35 @@
+-- The steps of a change: documents and an index that have to become one another's again.
+use Rattle.std.specs.Prelude.{◌≡◌, ℕ, [], ◌∷◌}
+use Rattle.image_base.specs.Records.{Records, Among}
+use Rattle.store_api.specs.Ledgers.{Ledger}
+use Rattle.store_api.specs.Parts.{Owns, Turns}
+use Rattle.attr_documents.specs.Documents.{documents_part, documents_refer, IsDocuments}
+use Rattle.attr_images.specs.Documents.{column_at}
+use Rattle.attr_images.specs.Values.{stored_value, IsValueRecord}
+use Rattle.attr_index.specs.Columns.{Column}
+use Rattle.attr_types.specs.declared.kind.Kind.{Kind}
+use Rattle.attr_types.specs.declared.kind.ValueType.{ValueType}
+use Rattle.attr_types.specs.declared.value.Value.{Value}
+use Rattle.value_index.specs.Indexes.{index_part, IsIndex, IsKey}
+
+-- documents and an index to whose keys they refer, whatever its lists are
+pub record StandsField {H : Type 0} (kind : Kind) (type : ValueType) (ledger : Ledger H) (m : Records) (documents dictionary : ℕ)
+    : Type 0 where
+  pub documents_are : IsDocuments kind type m documents
+  pub index_is : IsIndex type m dictionary
+  pub keys : (r : ℕ) → Among r (documents_refer kind m documents) → IsKey m dictionary r
+  pub owns : Owns ledger m (documents_part kind documents ∷ index_part dictionary ∷ [])
+
+-- others stand in their place, with this column
+pub record StepsField {H : Type 0} (kind : Kind) (type : ValueType) (old new : Ledger H) (m n : Records) (documents dictionary : ℕ)
+    (column : Column) (next_documents next_dictionary : ℕ) : Type 0 where
+  pub stands : StandsField kind type new n next_documents next_dictionary
+  pub column_is : column_at kind type n next_documents ≡ column
+  pub turns : Turns old new m n (documents_part kind documents ∷ index_part dictionary ∷ [])
+      (documents_part kind next_documents ∷ index_part next_dictionary ∷ [])
+
+-- the key of a value
+pub record FindsKey (type : ValueType) (m : Records) (root : ℕ) (value : Value) (ref : ℕ) : Type 0 where
+  pub is_key : IsKey m root ref
+  pub record_is : IsValueRecord type (m ref)
+  pub value_is : stored_value type m ref ≡ value

@@ -1,0 +1,218 @@
+ghost use Rattle.std.specs.Prelude.{◌≡◌, ◌∷◌, [], true, IsSome, Some, None, IfOk, IfErr};
+ghost use Rattle.std.specs.BTreeMap.{is_at};
+ghost use Rattle.std.specs.Map.{lookup};
+ghost use Rattle.std.specs.Ordering.{nat_cmp};
+ghost use Rattle.store_api.specs.Parts.{Owns};
+ghost use Rattle.store_api.specs.Units.{MayDo};
+ghost use Rattle.attr_field.specs.Changes.{MakesField};
+ghost use Rattle.attr_field.specs.Fields.{field_part, IsField};
+ghost use Rattle.attr_images.specs.Documents.{column_at};
+ghost use Rattle.attr_index.specs.Changes.{first_weights};
+ghost use Rattle.attr_index.specs.Columns.{items_of, with_change};
+ghost use Rattle.attr_types.specs.Lawful.{ItemsFit};
+ghost use Rattle.posting_store.specs.Changes.{RefusesSome};
+
+use crate::comparing::has_already;
+use crate::roots::FieldRoots;
+use crate::steps::{add_values, remove_values, set_items, take_out};
+use attr_documents::documents_law;
+use attr_index::weights_of;
+use attr_types::{Doc, Item, Kind, Value, ValueType};
+use std::alloc::Global;
+use std::collections::BTreeMap;
+use store_api::{Store, StoreError};
+
+/// Sets the items of a document, by the weights of its values before and after.
+#[tactic(none)]
+fn put_weighed<const OFFSET_BITS: u32, S: Store<OFFSET_BITS>>(
+    alloc: Global,
+    store: &mut S,
+    kind: Kind,
+    value_type: ValueType,
+    roots: FieldRoots<OFFSET_BITS>,
+    doc: Doc,
+    items: &[Item],
+    old: &BTreeMap<Value, i32>,
+    new: &BTreeMap<Value, i32>,
+) -> Result<FieldRoots<OFFSET_BITS>, StoreError>
+    requires unit { (S.ledger store.old).unit ≡ true }
+    requires field { IsField kind value_type (S.records store.old) roots.documents roots.dictionary }
+    requires owns { Owns (S.ledger store.old) (S.records store.old) (field_part kind roots.documents roots.dictionary ∷ []) }
+    requires fits { ItemsFit kind value_type items.now }
+    requires before { old.now.entries ≡ first_weights [] (items_of (column_at kind value_type (S.records store.old) roots.documents) doc) }
+    requires after { new.now.entries ≡ first_weights [] items.now }
+    ensures makes { IfOk result (λ next. MakesField kind value_type (S.ledger store.old) (S.ledger store.new) (S.records store.old)
+        (S.records store.new) roots.entry.documents roots.entry.dictionary
+        (with_change (column_at kind value_type (S.records store.old) roots.entry.documents) doc (Some items.now))
+        next.documents next.dictionary) }
+    ensures refuses { IfErr result (RefusesSome (S.ledger store.old) (S.ledger store.new)) }
+    ensures may { MayDo (S.ledger store.old) (S.ledger store.new) }
+{
+    documents_law();
+    let added = add_values(
+        store,
+        kind,
+        value_type,
+        roots.documents,
+        roots.dictionary,
+        doc,
+        old,
+        new,
+    )?;
+    let documents = set_items(
+        alloc,
+        store,
+        kind,
+        value_type,
+        roots.documents,
+        added,
+        doc,
+        items,
+    )?;
+    let dictionary = remove_values(store, kind, value_type, documents, added, doc, old, new)?;
+    Ok(FieldRoots {
+        documents,
+        dictionary,
+    })
+}
+
+/// Sets the items of a document, which had these before, if any. The answer is the new roots. Lists of documents are
+/// sparse, whatever the number of documents.
+#[tactic(none)]
+pub fn put<const OFFSET_BITS: u32, S: Store<OFFSET_BITS>>(
+    alloc: Global,
+    store: &mut S,
+    kind: Kind,
+    value_type: ValueType,
+    roots: FieldRoots<OFFSET_BITS>,
+    doc: Doc,
+    old: &[Item],
+    new: &[Item],
+    documents: u32,
+) -> Result<FieldRoots<OFFSET_BITS>, StoreError>
+    requires unit { (S.ledger store.old).unit ≡ true }
+    requires field { IsField kind value_type (S.records store.old) roots.documents roots.dictionary }
+    requires owns { Owns (S.ledger store.old) (S.records store.old) (field_part kind roots.documents roots.dictionary ∷ []) }
+    requires was { old.now ≡ items_of (column_at kind value_type (S.records store.old) roots.documents) doc }
+    requires fits { ItemsFit kind value_type new.now }
+    ensures makes { IfOk result (λ next. MakesField kind value_type (S.ledger store.old) (S.ledger store.new) (S.records store.old)
+        (S.records store.new) roots.entry.documents roots.entry.dictionary
+        (with_change (column_at kind value_type (S.records store.old) roots.entry.documents) doc (Some new.now))
+        next.documents next.dictionary) }
+    ensures refuses { IfErr result (RefusesSome (S.ledger store.old) (S.ledger store.new)) }
+    ensures may { MayDo (S.ledger store.old) (S.ledger store.new) }
+{
+    documents_law();
+    let _ = documents;
+    let Ok(same) = has_already(
+        alloc,
+        store,
+        kind,
+        value_type,
+        roots.documents,
+        doc,
+        old,
+        new,
+    ) else {
+        return Err(StoreError::Memory);
+    };
+    if same {
+        return Ok(roots);
+    }
+    let Ok(before) = weights_of(alloc, old) else {
+        return Err(StoreError::Memory);
+    };
+    let Ok(after) = weights_of(alloc, new) else {
+        return Err(StoreError::Memory);
+    };
+    put_weighed(
+        alloc, store, kind, value_type, roots, doc, new, &before, &after,
+    )
+}
+
+/// No weights.
+fn no_weights(alloc: Global) -> BTreeMap<Value, i32>
+    ensures { result.entries ≡ [] }
+{
+    BTreeMap::new(alloc)
+}
+
+/// Takes a document out, by the weights of its values.
+#[tactic(none)]
+fn remove_weighed<const OFFSET_BITS: u32, S: Store<OFFSET_BITS>>(
+    alloc: Global,
+    store: &mut S,
+    kind: Kind,
+    value_type: ValueType,
+    roots: FieldRoots<OFFSET_BITS>,
+    doc: Doc,
+    old: &BTreeMap<Value, i32>,
+) -> Result<FieldRoots<OFFSET_BITS>, StoreError>
+    requires unit { (S.ledger store.old).unit ≡ true }
+    requires field { IsField kind value_type (S.records store.old) roots.documents roots.dictionary }
+    requires owns { Owns (S.ledger store.old) (S.records store.old) (field_part kind roots.documents roots.dictionary ∷ []) }
+    requires there { IsSome (lookup (is_at (nat_cmp doc)) (column_at kind value_type (S.records store.old) roots.documents)) }
+    requires before { old.now.entries ≡ first_weights [] (items_of (column_at kind value_type (S.records store.old) roots.documents) doc) }
+    ensures makes { IfOk result (λ next. MakesField kind value_type (S.ledger store.old) (S.ledger store.new) (S.records store.old)
+        (S.records store.new) roots.entry.documents roots.entry.dictionary
+        (with_change (column_at kind value_type (S.records store.old) roots.entry.documents) doc None)
+        next.documents next.dictionary) }
+    ensures refuses { IfErr result (RefusesSome (S.ledger store.old) (S.ledger store.new)) }
+    ensures may { MayDo (S.ledger store.old) (S.ledger store.new) }
+{
+    documents_law();
+    let none = no_weights(alloc);
+    let documents = take_out(
+        store,
+        kind,
+        value_type,
+        roots.documents,
+        roots.dictionary,
+        doc,
+    )?;
+    let dictionary = remove_values(
+        store,
+        kind,
+        value_type,
+        documents,
+        roots.dictionary,
+        doc,
+        old,
+        &none,
+    )?;
+    Ok(FieldRoots {
+        documents,
+        dictionary,
+    })
+}
+
+/// Takes a document out, which is there with these items. The answer is the new roots.
+#[tactic(none)]
+pub fn remove<const OFFSET_BITS: u32, S: Store<OFFSET_BITS>>(
+    alloc: Global,
+    store: &mut S,
+    kind: Kind,
+    value_type: ValueType,
+    roots: FieldRoots<OFFSET_BITS>,
+    doc: Doc,
+    old: &[Item],
+    documents: u32,
+) -> Result<FieldRoots<OFFSET_BITS>, StoreError>
+    requires unit { (S.ledger store.old).unit ≡ true }
+    requires field { IsField kind value_type (S.records store.old) roots.documents roots.dictionary }
+    requires owns { Owns (S.ledger store.old) (S.records store.old) (field_part kind roots.documents roots.dictionary ∷ []) }
+    requires there { IsSome (lookup (is_at (nat_cmp doc)) (column_at kind value_type (S.records store.old) roots.documents)) }
+    requires was { old.now ≡ items_of (column_at kind value_type (S.records store.old) roots.documents) doc }
+    ensures makes { IfOk result (λ next. MakesField kind value_type (S.ledger store.old) (S.ledger store.new) (S.records store.old)
+        (S.records store.new) roots.entry.documents roots.entry.dictionary
+        (with_change (column_at kind value_type (S.records store.old) roots.entry.documents) doc None)
+        next.documents next.dictionary) }
+    ensures refuses { IfErr result (RefusesSome (S.ledger store.old) (S.ledger store.new)) }
+    ensures may { MayDo (S.ledger store.old) (S.ledger store.new) }
+{
+    let _ = documents;
+    let Ok(before) = weights_of(alloc, old) else {
+        return Err(StoreError::Memory);
+    };
+    remove_weighed(alloc, store, kind, value_type, roots, doc, &before)
+}

@@ -1,0 +1,10 @@
+use entry_ref::EntryRef;
+
+/// An attribute by the roots of its two trees, each 0 where it has no documents.
+#[derive(Clone, Copy, Debug, PartialEq, Eq, Drop)]
+pub struct FieldRoots<const OFFSET_BITS: u32> {
+    /// The tree of documents, each with the reference of its items.
+    pub documents: EntryRef<OFFSET_BITS>,
+    /// The tree of values, each with the documents that have it.
+    pub dictionary: EntryRef<OFFSET_BITS>,
+}

@@ -1,0 +1,167 @@
+//! The steps of a change: the index gets the document's new values, the documents its new items, and the index loses its
+//! old values.
+ghost use Rattle.std.specs.Prelude.{◌≡◌, ◌<◌, ◌∷◌, [], true, length, IsSome, None, Some, IfOk, IfErr};
+ghost use Rattle.std.specs.BTreeMap.{get, is_at};
+ghost use Rattle.std.specs.List.{AllByRecursion};
+ghost use Rattle.std.specs.Map.{keys_of as values_in, lookup};
+ghost use Rattle.std.specs.Ordering.{nat_cmp};
+ghost use Rattle.store_api.specs.Units.{MayDo};
+ghost use Rattle.attr_field.specs.Steps.{StandsField, StepsField};
+ghost use Rattle.attr_images.specs.Documents.{column_at};
+ghost use Rattle.attr_images.specs.Postings.{index_of};
+ghost use Rattle.attr_index.specs.Changes.{IsBetween, or_else};
+ghost use Rattle.attr_index.specs.Columns.{with_change};
+ghost use Rattle.attr_index.specs.Index.{Index, IsIndexOf, list_of};
+ghost use Rattle.attr_types.specs.Lawful.{ItemsFit};
+ghost use Rattle.attr_types.specs.Value.{value_cmp, AreOfType};
+ghost use Rattle.attr_types.specs.declared.value.Value.{Value as OneValue};
+ghost use Rattle.posting_store.specs.Changes.{RefusesSome};
+
+use crate::keys::keys_of;
+use attr_documents::{documents_law, remove_document, set_document};
+use attr_types::{Doc, Item, Kind, Value, ValueType};
+use attr_walks::{add_all, remove_all};
+use entry_ref::EntryRef;
+use std::alloc::Global;
+use std::collections::BTreeMap;
+use store_api::{Store, StoreError};
+use value_index::{index_law, key_law};
+
+/// Puts the document into the lists of its new values. The answer is the root of the new index.
+#[tactic(none)]
+pub fn add_values<const OFFSET_BITS: u32, S: Store<OFFSET_BITS>>(
+    store: &mut S,
+    kind: Kind,
+    value_type: ValueType,
+    documents: EntryRef<OFFSET_BITS>,
+    dictionary: EntryRef<OFFSET_BITS>,
+    doc: Doc,
+    old: &BTreeMap<Value, i32>,
+    new: &BTreeMap<Value, i32>,
+) -> Result<EntryRef<OFFSET_BITS>, StoreError>
+    requires unit { (S.ledger store.old).unit ≡ true }
+    requires stands { StandsField kind value_type (S.ledger store.old) (S.records store.old) documents dictionary }
+    requires typed { AreOfType value_type (values_in new.now.entries) }
+    requires has { (value : OneValue) → lookup (is_at (nat_cmp doc)) (list_of value (index_of value_type (S.records store.old) dictionary))
+        ≡ get value_cmp old.now value }
+    ensures steps { IfOk result (λ next. StepsField kind value_type (S.ledger store.old) (S.ledger store.new)
+        (S.records store.old) (S.records store.new) documents.entry dictionary.entry
+        (column_at kind value_type (S.records store.old) documents.entry) documents.entry next) }
+    ensures between { IfOk result (λ next. IsBetween (index_of value_type (S.records store.old) dictionary.entry) doc
+        (get value_cmp new.now) (λ value. None) (index_of value_type (S.records store.new) next)) }
+    ensures refuses { IfErr result (RefusesSome (S.ledger store.old) (S.ledger store.new)) }
+    ensures may { MayDo (S.ledger store.old) (S.ledger store.new) }
+{
+    documents_law();
+    index_law();
+    key_law();
+    let _ = kind;
+    let _ = documents;
+    add_all(store, value_type, dictionary, doc, old, new)
+}
+
+/// Sets the items of the document, by the keys of their values. The answer is the root of the new documents.
+#[tactic(none)]
+pub fn set_items<const OFFSET_BITS: u32, S: Store<OFFSET_BITS>>(
+    alloc: Global,
+    store: &mut S,
+    kind: Kind,
+    value_type: ValueType,
+    documents: EntryRef<OFFSET_BITS>,
+    dictionary: EntryRef<OFFSET_BITS>,
+    doc: Doc,
+    items: &[Item],
+) -> Result<EntryRef<OFFSET_BITS>, StoreError>
+    requires unit { (S.ledger store.old).unit ≡ true }
+    requires stands { StandsField kind value_type (S.ledger store.old) (S.records store.old) documents dictionary }
+    requires fits { ItemsFit kind value_type items.now }
+    requires listed { AllByRecursion (λ item.
+        0 < length (list_of item.value (index_of value_type (S.records store.old) dictionary))) items.now }
+    ensures steps { IfOk result (λ next. StepsField kind value_type (S.ledger store.old) (S.ledger store.new)
+        (S.records store.old) (S.records store.new) documents.entry dictionary.entry
+        (with_change (column_at kind value_type (S.records store.old) documents.entry) doc (Some items.now)) next dictionary.entry) }
+    ensures index { IfOk result (λ next. index_of value_type (S.records store.new) dictionary.entry
+        ≡ index_of value_type (S.records store.old) dictionary.entry) }
+    ensures refuses { IfErr result (RefusesSome (S.ledger store.old) (S.ledger store.new)) }
+    ensures may { MayDo (S.ledger store.old) (S.ledger store.new) }
+{
+    index_law();
+    key_law();
+    let Ok(keys) = keys_of(alloc, store, value_type, dictionary, items) else {
+        return Err(StoreError::Memory);
+    };
+    set_document(
+        alloc,
+        store,
+        kind,
+        value_type,
+        documents,
+        doc,
+        keys.as_slice(),
+        items,
+    )
+}
+
+/// Takes the document out, which is there. The answer is the root of the new documents.
+#[tactic(none)]
+pub fn take_out<const OFFSET_BITS: u32, S: Store<OFFSET_BITS>>(
+    store: &mut S,
+    kind: Kind,
+    value_type: ValueType,
+    documents: EntryRef<OFFSET_BITS>,
+    dictionary: EntryRef<OFFSET_BITS>,
+    doc: Doc,
+) -> Result<EntryRef<OFFSET_BITS>, StoreError>
+    requires unit { (S.ledger store.old).unit ≡ true }
+    requires stands { StandsField kind value_type (S.ledger store.old) (S.records store.old) documents dictionary }
+    requires there { IsSome (lookup (is_at (nat_cmp doc)) (column_at kind value_type (S.records store.old) documents)) }
+    ensures steps { IfOk result (λ next. StepsField kind value_type (S.ledger store.old) (S.ledger store.new)
+        (S.records store.old) (S.records store.new) documents.entry dictionary.entry
+        (with_change (column_at kind value_type (S.records store.old) documents.entry) doc None) next dictionary.entry) }
+    ensures index { IfOk result (λ next. index_of value_type (S.records store.new) dictionary.entry
+        ≡ index_of value_type (S.records store.old) dictionary.entry) }
+    ensures refuses { IfErr result (RefusesSome (S.ledger store.old) (S.ledger store.new)) }
+    ensures may { MayDo (S.ledger store.old) (S.ledger store.new) }
+{
+    index_law();
+    key_law();
+    let _ = dictionary;
+    remove_document(store, kind, value_type, documents, doc)
+}
+
+/// Takes the document out of the lists of its old values. The answer is the root of the new index, which is that of the
+/// documents.
+#[tactic(none)]
+pub fn remove_values<const OFFSET_BITS: u32, S: Store<OFFSET_BITS>>(
+    store: &mut S,
+    kind: Kind,
+    value_type: ValueType,
+    documents: EntryRef<OFFSET_BITS>,
+    dictionary: EntryRef<OFFSET_BITS>,
+    doc: Doc,
+    old: &BTreeMap<Value, i32>,
+    new: &BTreeMap<Value, i32>,
+) -> Result<EntryRef<OFFSET_BITS>, StoreError>
+    requires unit { (S.ledger store.old).unit ≡ true }
+    requires stands { StandsField kind value_type (S.ledger store.old) (S.records store.old) documents dictionary }
+    requires typed { AreOfType value_type (values_in old.now.entries) }
+    requires has { (value : OneValue) → lookup (is_at (nat_cmp doc)) (list_of value (index_of value_type (S.records store.old) dictionary))
+        ≡ or_else (get value_cmp new.now value) (get value_cmp old.now value) }
+    requires ends { (index : Index)
+        → IsBetween (index_of value_type (S.records store.old) dictionary) doc (get value_cmp new.now) (get value_cmp old.now) index
+        → IsIndexOf (column_at kind value_type (S.records store.old) documents) index }
+    ensures steps { IfOk result (λ next. StepsField kind value_type (S.ledger store.old) (S.ledger store.new)
+        (S.records store.old) (S.records store.new) documents.entry dictionary.entry
+        (column_at kind value_type (S.records store.old) documents.entry) documents.entry next) }
+    ensures index { IfOk result (λ next. IsIndexOf (column_at kind value_type (S.records store.old) documents.entry)
+        (index_of value_type (S.records store.new) next)) }
+    ensures refuses { IfErr result (RefusesSome (S.ledger store.old) (S.ledger store.new)) }
+    ensures may { MayDo (S.ledger store.old) (S.ledger store.new) }
+{
+    documents_law();
+    index_law();
+    key_law();
+    let _ = kind;
+    let _ = documents;
+    remove_all(store, value_type, dictionary, doc, old, new)
+}

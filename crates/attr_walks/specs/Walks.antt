@@ -1,0 +1,20 @@
+-- What a walk over the weights of a document makes of an index in a store.
+use Rattle.std.specs.Prelude.{ℕ, ℤ, [], ◌∷◌, Option}
+use Rattle.image_base.specs.Records.{Records}
+use Rattle.store_api.specs.Ledgers.{Ledger}
+use Rattle.store_api.specs.Parts.{Owns, Turns}
+use Rattle.attr_images.specs.Postings.{index_of}
+use Rattle.attr_index.specs.Changes.{IsBetween}
+use Rattle.attr_types.specs.declared.kind.ValueType.{ValueType}
+use Rattle.attr_types.specs.declared.value.Value.{Value}
+use Rattle.value_index.specs.Changes.{KeepsKeys}
+use Rattle.value_index.specs.Indexes.{index_part, IsIndex}
+
+-- an index was made in place of another: its lists have the document with the weights added, and not with those that were removed
+pub record WalksIndex {H : Type 0} (type : ValueType) (old new : Ledger H) (m n : Records) (root doc : ℕ)
+    (added removed : Value → Option ℤ) (next : ℕ) : Type 0 where
+  pub index_is : IsIndex type n next
+  pub between : IsBetween (index_of type m root) doc added removed (index_of type n next)
+  pub keys : KeepsKeys type m n root next
+  pub owns : Owns new n (index_part next ∷ [])
+  pub turns : Turns old new m n (index_part root ∷ []) (index_part next ∷ [])

@@ -1,0 +1,52 @@
+ghost use Rattle.std.specs.Prelude.{◌≡◌, ◌∷◌, [], true, IfOk, IfErr};
+ghost use Rattle.std.specs.BTreeMap.{get, is_at};
+ghost use Rattle.std.specs.Map.{keys_of, lookup};
+ghost use Rattle.std.specs.Ordering.{nat_cmp};
+ghost use Rattle.store_api.specs.Parts.{Owns};
+ghost use Rattle.store_api.specs.Units.{MayDo};
+ghost use Rattle.attr_images.specs.Postings.{index_of};
+ghost use Rattle.attr_index.specs.Changes.{or_else};
+ghost use Rattle.attr_index.specs.Index.{list_of};
+ghost use Rattle.attr_types.specs.Value.{value_cmp, AreOfType};
+ghost use Rattle.attr_types.specs.declared.value.Value.{Value as OneValue};
+ghost use Rattle.posting_store.specs.Changes.{RefusesSome};
+ghost use Rattle.value_index.specs.Indexes.{index_part, IsIndex};
+ghost use Rattle.attr_walks.specs.Walks.{WalksIndex};
+
+use attr_types::{Doc, Value, ValueType};
+use entry_ref::EntryRef;
+use std::collections::BTreeMap;
+use store_api::{Store, StoreError};
+use value_index::{index_law, remove};
+
+/// Takes a document out of the lists of its old values that the new ones lack. The answer is the root of the new index.
+#[tactic(none)]
+pub fn remove_all<const OFFSET_BITS: u32, S: Store<OFFSET_BITS>>(
+    store: &mut S,
+    value_type: ValueType,
+    root: EntryRef<OFFSET_BITS>,
+    doc: Doc,
+    old: &BTreeMap<Value, i32>,
+    new: &BTreeMap<Value, i32>,
+) -> Result<EntryRef<OFFSET_BITS>, StoreError>
+    requires unit { (S.ledger store.old).unit ≡ true }
+    requires index { IsIndex value_type (S.records store.old) root }
+    requires owns { Owns (S.ledger store.old) (S.records store.old) (index_part root ∷ []) }
+    requires typed { AreOfType value_type (keys_of old.now.entries) }
+    requires has { (value : OneValue) → lookup (is_at (nat_cmp doc)) (list_of value (index_of value_type (S.records store.old) root))
+        ≡ or_else (get value_cmp new.now value) (get value_cmp old.now value) }
+    ensures makes { IfOk result (WalksIndex value_type (S.ledger store.old) (S.ledger store.new) (S.records store.old) (S.records store.new)
+        root.entry doc (get value_cmp new.now) (get value_cmp old.now)) }
+    ensures refuses { IfErr result (RefusesSome (S.ledger store.old) (S.ledger store.new)) }
+    ensures may { MayDo (S.ledger store.old) (S.ledger store.new) }
+{
+    index_law();
+    let _ = value_type;
+    let mut next = root;
+    for (value, _) in old.iter() {
+        if !new.contains_key(value) {
+            next = remove(store, next, value, doc)?;
+        }
+    }
+    Ok(next)
+}

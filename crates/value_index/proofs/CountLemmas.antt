@@ -1,0 +1,100 @@
+-- How many records a change makes of each width.
+use Rattle.std.proofs.Common.{◌≡◌, ◌≢◌, ℕ, zero, suc, ◌+◌, ◌*◌, ◌≤◌, Bool, true, false, cond, nat_eq, Option, None, Some, option_map, refl, sym, ap, subst, ◌∙◌, arith}
+use Rattle.std.proofs.lemmas.Bool.{eqb-true, eqb-false}
+use Rattle.std.specs.Option.{is_some, unwrap_or}
+use Rattle.std.specs.Prelude.{min}
+use Rattle.image_base.specs.Records.{Records, SameAt}
+use Rattle.key_order.specs.Pairs.{lookup, lookup_pair}
+use Rattle.key_order.proofs.PairLemmas.{lookup-of_pair}
+use Rattle.store_api.specs.Ledgers.{Ledger, capacity}
+use Rattle.store_api.specs.Units.{MayDo, MakesAtMost}
+use Rattle.store_api.proofs.Counts.{at_most-more, at_most-none, at_most-then}
+use Rattle.tree_images.specs.Nodes.{level_of}
+use Rattle.tree_images.specs.ProofsForTrees.{node-same}
+use Rattle.tree_images.specs.Trees.{root_level, tree_nodes, tree_pairs}
+use Rattle.tree_make.specs.Changes.{levels}
+use Rattle.tree_make.specs.Makes.{CountsNodes}
+use Rattle.array_store.specs.Adding.{MakesOneOf}
+use Rattle.attr_types.specs.declared.value.Value.{Value}
+use Rattle.enum_dictionary.specs.Dictionaries.{beside}
+use Rattle.posting_store.specs.Changes.{list_most, MakesWithin}
+use Rattle.posting_store.specs.Lists.{list_levels}
+use Rattle.value_index.specs.Changes.{add_most, change_most, nodes_most, record_most}
+
+pub within_more : {H : Type 0} (a b : Ledger H) (f g : ℕ → ℕ) → ((w : ℕ) → f w ≤ g w) → MakesWithin a b f → MakesWithin a b g
+within_more a b f g more made = record {
+  each = λ w. at_most-more (capacity a.work.sizes.words w) (f w) (g w) (a.of_width w) (b.of_width w) (more w) (made.each w);
+}
+
+pub within_then : {H : Type 0} (a b c : Ledger H) (f g : ℕ → ℕ) → MayDo a b → MakesWithin a b f → MakesWithin b c g → MakesWithin a c (λ w. f w + g w)
+within_then a b c f g may first second = record {
+  each = λ w. at_most-then (capacity a.work.sizes.words w) (f w) (g w) (a.of_width w) (b.of_width w) (c.of_width w) (first.each w)
+      (subst (λ sizes. MakesAtMost (capacity sizes.words w) (g w) (b.of_width w) (c.of_width w)) may.sizes (second.each w));
+}
+
+pub within_none : {H : Type 0} (a : Ledger H) (f : ℕ → ℕ) → MakesWithin a a f
+within_none a f = record {
+  each = λ w. at_most-more (capacity a.work.sizes.words w) 0 (f w) (a.of_width w) (a.of_width w) (omega arith) (at_most-none (capacity a.work.sizes.words w) (a.of_width w));
+}
+
+-- records of one width alone
+one_width : {H : Type 0} (a b : Ledger H) (width most : ℕ) → MakesAtMost (capacity a.work.sizes.words width) most (a.of_width width) (b.of_width width)
+    → ((c w : ℕ) → w ≢ width → MakesAtMost c 0 (a.of_width w) (b.of_width w)) → MakesWithin a b (λ w. cond (nat_eq w width) most 0)
+one_width a b width most here others = record { each = λ w. told w (nat_eq w width) refl }
+  where
+    told : (w : ℕ) (t : Bool) → nat_eq w width ≡ t → MakesAtMost (capacity a.work.sizes.words w) (cond t most 0) (a.of_width w) (b.of_width w)
+    told w true is = subst (λ x. MakesAtMost (capacity a.work.sizes.words x) most (a.of_width x) (b.of_width x)) (sym (eqb-true w width is)) here
+    told w false is = others (capacity a.work.sizes.words w) w (eqb-false w width is)
+
+pub within_nodes : {H : Type 0} (a b : Ledger H) (h most : ℕ) → most ≤ 2 * h + 1 → CountsNodes a b most → MakesWithin a b (nodes_most h)
+within_nodes a b h most few counts =
+    one_width a b 34 (2 * h + 1) (at_most-more (capacity a.work.sizes.words 34) most (2 * h + 1) (a.of_width 34) (b.of_width 34) few counts.nodes) counts.others
+
+pub within_record : {H : Type 0} (a b : Ledger H) (width : ℕ) → MakesOneOf width a b → MakesWithin a b (λ w. cond (nat_eq w width) 1 0)
+within_record a b width made = one_width a b width 1 made.one made.others
+
+pub within_dropped : {H : Type 0} (a b c : Ledger H) (f : ℕ → ℕ) → MayDo a b → MakesWithin a b f → ((k w : ℕ) → MakesAtMost k 0 (b.of_width w) (c.of_width w)) → MakesWithin a c f
+within_dropped a b c f may made none =
+    within_more a c (λ w. f w + 0) f (λ w. omega arith) (within_then a b c f (λ w. 0) may made (record { each = λ w. none (capacity b.work.sizes.words w) w }))
+
+-- the tree of an index that is open has as many levels as at the start
+pub levels_same : (m n : Records) (root : ℕ) → SameAt (tree_nodes m root) m n → levels n root ≡ levels m root
+levels_same m n zero same = refl
+levels_same m n (suc ref) same = ap (λ ws. suc (min 7 (level_of ws))) (node-same m n (root_level m (suc ref)) (suc ref) same)
+
+-- nodes of a dictionary that is as it was at the start
+pub within_tree : {H : Type 0} (a b : Ledger H) (m n : Records) (root most : ℕ) → SameAt (tree_nodes m root) m n → most ≤ 2 * levels n root + 1
+    → CountsNodes a b most → MakesWithin a b (nodes_most (levels m root))
+within_tree a b m n root most same few counts =
+    subst (λ h. MakesWithin a b (nodes_most h)) (levels_same m n root same) (within_nodes a b (levels n root) most few counts)
+
+-- ---- what a change makes, by what is found
+module _ (value : Value) (m : Records) (root : ℕ) where
+  pair_word : lookup (beside value m) (tree_pairs m root) ≡ option_map (λ p. p.1) (lookup_pair (beside value m) (tree_pairs m root))
+  pair_word = lookup-of_pair (beside value m) (tree_pairs m root)
+
+  change_by : (word count w : ℕ) → unwrap_or (lookup (beside value m) (tree_pairs m root)) 0 ≡ word
+      → change_most value m root count w ≡ list_most (list_levels m word) count w + nodes_most (levels m root) w
+  change_by word count w is = ap (λ x. list_most (list_levels m x) count w + nodes_most (levels m root) w) is
+
+  pub change_found : (key word count w : ℕ) → lookup_pair (beside value m) (tree_pairs m root) ≡ Some (key, word)
+      → list_most (list_levels m word) count w + nodes_most (levels m root) w ≤ change_most value m root count w
+  change_found key word count w found =
+      let word_is : unwrap_or (lookup (beside value m) (tree_pairs m root)) 0 ≡ word =
+      ap (λ (o : Option ℕ). unwrap_or o 0) (pair_word ∙ ap (λ (o : Option (ℕ × ℕ)). option_map (λ (p : ℕ × ℕ). p.1) o) found) in
+      let same = change_by word count w word_is in
+      omega arith
+
+  pub add_found : (key word count w : ℕ) → lookup_pair (beside value m) (tree_pairs m root) ≡ Some (key, word)
+      → list_most (list_levels m word) count w + nodes_most (levels m root) w ≤ add_most value m root count w
+  add_found key word count w found = let few = change_found key word count w found in omega arith
+
+  pub add_none : (count w : ℕ) → lookup_pair (beside value m) (tree_pairs m root) ≡ None
+      → record_most value w + (list_most 0 count w + nodes_most (levels m root) w) ≤ add_most value m root count w
+  add_none count w none =
+      let word_is : unwrap_or (lookup (beside value m) (tree_pairs m root)) 0 ≡ 0 =
+      ap (λ (o : Option ℕ). unwrap_or o 0) (pair_word ∙ ap (λ (o : Option (ℕ × ℕ)). option_map (λ (p : ℕ × ℕ). p.1) o) none) in
+      let same = change_by 0 count w word_is in
+      let fresh : cond (is_some (option_map (λ (p : ℕ × ℕ). p.0) (lookup_pair (beside value m) (tree_pairs m root)))) 0 (record_most value w) ≡ record_most value w =
+      ap (λ (o : Option (ℕ × ℕ)). cond (is_some (option_map (λ (p : ℕ × ℕ). p.0) o)) 0 (record_most value w)) none in
+      omega arith

@@ -1,0 +1,154 @@
+-- A call's steps together: why it was refused, and the index that it makes.
+use Rattle.std.proofs.Common.{◌≡◌, ℕ, zero, suc, ℤ, ◌<◌, [], ◌∷◌, length, None, Some, Option, option_map, IsSome, Result, Ok, Err, true, refl, sym, ap, subst, ◌∙◌, arith}
+use Rattle.std.specs.Prelude.{IfOk, IfErr}
+use Rattle.std.specs.BTreeMap.{insert_entry, is_at}
+use Rattle.std.specs.declared.cmp.Ordering.TheVariants.{Less, Equal, Greater}
+use Rattle.std.specs.Map.{lookup as lookup_in}
+use Rattle.std.specs.Ordering.{nat_cmp, match_ordering}
+use Rattle.image_base.specs.Records.{Records}
+use Rattle.key_order.specs.Pairs.{lookup_pair, put, take_out}
+use Rattle.store_api.specs.Calls.{Refuses}
+use Rattle.store_api.specs.Ledgers.{Ledger, is_width}
+use Rattle.store_api.specs.Parts.{Owns, Turns, entry}
+use Rattle.store_api.proofs.PartLemmas.{owns-some}
+use Rattle.store_api.specs.Units.{MayDo}
+use Rattle.store_api.specs.declared.store.StoreError.{StoreError}
+use Rattle.store_api.specs.declared.store.StoreError.TheVariants.{Full, Memory}
+use Rattle.tree_images.specs.Trees.{tree_pairs}
+use Rattle.array_store.specs.Adding.{AddsRecord}
+use Rattle.attr_images.specs.Postings.{index_of}
+use Rattle.attr_images.specs.Values.{stored_value, value_words, IsValueRecord}
+use Rattle.attr_index.specs.Index.{list_of, with_list}
+use Rattle.attr_types.specs.Value.{type_of, value_cmp}
+use Rattle.attr_types.specs.declared.value.Value.{Value}
+use Rattle.enum_dictionary.specs.Dictionaries.{beside, entry_of, MakesDictionary}
+use Rattle.enum_dictionary.specs.declared.finding.DictEntry.{DictEntry}
+use Rattle.posting_store.specs.Changes.{list_part, MakesList, RefusesSome}
+use Rattle.posting_store.specs.Lists.{list_at, IsList}
+use Rattle.posting_store.proofs.FormLemmas.{at_form}
+use Rattle.posting_store.proofs.ListLemmas.{list_filled}
+use Rattle.value_index.specs.Changes.{MakesIndex}
+use Rattle.value_index.specs.Indexes.{index_part, IsIndex}
+use Rattle.value_index.proofs.ChangeLemmas.{value_out, value_set}
+use Rattle.value_index.proofs.KeyLemmas.{list_found, list_none, pair_found}
+use Rattle.value_index.proofs.OpenLemmas.{IsOpen, open_found, open_list, open_made, others, parts}
+use Rattle.value_index.proofs.ShownLemmas.{Docs, with_some}
+
+-- ---- a refusal after calls that may be made in a unit
+refuses_before : {H : Type 0} (a b c : Ledger H) (width : ℕ) (e : StoreError) → MayDo a b → Refuses b c width e → Refuses a c width e
+refuses_before a b c width (Full w active held oldest) may refuses = (
+  refuses.0,
+  record {
+    spare = refuses.1.spare;
+    free = refuses.1.free;
+    active_is = refuses.1.active_is;
+    held_is = refuses.1.held_is;
+    all = refuses.1.all;
+    unread = refuses.1.unread;
+    generation = refuses.1.generation;
+    hold = refuses.1.hold;
+    newest = refuses.1.newest;
+    stopped = λ old. let s = refuses.1.stopped old in let rises = may.stops in (s.0, s.1, omega arith);
+  },
+)
+refuses_before a b c width Memory may refuses = tt
+
+pub refuses_after : {H : Type 0} (a b c : Ledger H) (e : StoreError) → MayDo a b → RefusesSome b c e → RefusesSome a c e
+refuses_after a b c e may refuses = record { width = refuses.width; is = refuses.is; refuses = refuses_before a b c refuses.width e may refuses.refuses }
+
+pub refuses_width : {H : Type 0} (a b c : Ledger H) (width : ℕ) (e : StoreError) → is_width width ≡ true → MayDo a b → Refuses b c width e → RefusesSome a c e
+refuses_width a b c width e is may refuses = record { width = width; is = is; refuses = refuses_before a b c width e may refuses }
+
+pub if_refuses_width : {H : Type 0} (a b c : Ledger H) (width : ℕ) (answer : Result ℕ StoreError) → is_width width ≡ true → MayDo a b → IfErr answer (Refuses b c width)
+    → IfErr answer (RefusesSome a c)
+if_refuses_width a b c width (Ok next) is may refuses = tt
+if_refuses_width a b c width (Err e) is may refuses = refuses_width a b c width e is may refuses
+
+-- ---- what is found
+pub entry_found : (bits : ℕ) (o : Option (ℕ × ℕ)) (entry : DictEntry bits) (word : ℕ) → Some entry ≡ option_map (entry_of bits) o → word ≡ entry.posting
+    → o ≡ Some (entry.key, word)
+entry_found bits None entry word is same = absurd (grind (arith, is))
+entry_found bits (Some p) entry word is same =
+    let at : entry ≡ entry_of bits p = entry_same entry (entry_of bits p) is in
+    ap (λ (k : ℕ). Some (k, p.1)) (sym (ap {A = DictEntry bits} {B = ℕ} (λ e. e.key) at)) ∙ ap (λ (w : ℕ). Some (entry.key, w)) (sym (ap {A = DictEntry bits} {B = ℕ} (λ e. e.posting) at) ∙ sym same)
+  where
+    entry_same : (a b : DictEntry bits) → Some a ≡ Some b → a ≡ b
+    entry_same a b e = cc
+
+pub entry_none : (bits : ℕ) (o : Option (ℕ × ℕ)) → None ≡ option_map (entry_of bits) o → o ≡ None
+entry_none bits None is = refl
+entry_none bits (Some p) is = absurd (grind (arith, is))
+
+-- a value of which a list has a document is found
+pub value_found : (value : Value) (m : Records) (root doc : ℕ) → IsIndex (type_of value) m root
+    → IsSome (lookup_in (is_at (nat_cmp doc)) (list_of value (index_of (type_of value) m root))) → lookup_pair (beside value m) (tree_pairs m root) ≡ None → ⊥
+value_found value m root doc is there none =
+    no_doc (subst {A = Docs} (λ docs. IsSome (lookup_in (is_at (nat_cmp doc)) docs)) (list_none value m root is none) there)
+  where
+    no_doc : IsSome {T = ℤ} None → ⊥
+    no_doc h = grind (arith, h)
+
+-- ---- documents
+pub inserted_some : (docs : Docs) (doc : ℕ) (weight : ℤ) → 0 < length (insert_entry nat_cmp docs doc weight)
+inserted_some [] doc weight = omega arith
+inserted_some (e ∷ es) doc weight =
+    elim (nat_cmp doc e.0) as (λ o. 0 < length (match_ordering o ((doc, weight) ∷ e ∷ es) ((e.0, weight) ∷ es) (e ∷ insert_entry nat_cmp es doc weight))) [
+      | Less ↦ omega arith
+      | Equal ↦ omega arith
+      | Greater ↦ omega arith
+    ]
+
+pub filled_list : (m : Records) (word : ℕ) (docs : Docs) → IsList m word → list_at m word ≡ docs → 0 < word → 0 < length docs
+filled_list m word docs is reads some = subst {A = Docs} (λ ds. 0 < length ds) reads (list_filled m word is some)
+
+pub word_some : (m : Records) (word : ℕ) → 0 < length (list_at m word) → 0 < word
+word_some m zero some = absurd (omega arith)
+word_some m (suc word) some = omega arith
+
+-- the list of a value that is there
+module _ (value : Value) (m : Records) (root : ℕ) (is : IsIndex (type_of value) m root) (key word : ℕ)
+    (found : lookup_pair (beside value m) (tree_pairs m root) ≡ Some (key, word)) where
+  pub list_is : list_at m word ≡ list_of value (index_of (type_of value) m root)
+  list_is = at_form m word (pair_found value m root is (key, word) found).some ∙ sym (list_found value m root is (key, word) found)
+
+  pub list_owned : {H : Type 0} (a : Ledger H) → Owns a m (index_part root ∷ []) → Owns a m (list_part word ∷ [])
+  list_owned a owns =
+      owns-some a m (parts root key word (others value m root)) (list_part word ∷ []) (open_found value a m root is owns key word found).owns (λ r. omega arith)
+
+  -- its list was changed
+  pub open_next : {H : Type 0} (a b : Ledger H) (n : Records) (next : ℕ) (docs : Docs) → Owns a m (index_part root ∷ []) → MakesList a b m n word docs next
+      → IsOpen value a b m n root key next
+  open_next a b n next docs owns makes = open_list value a a b m m n root key word next docs (open_found value a m root is owns key word found) makes
+
+  pub list_there : (doc : ℕ) → IsSome (lookup_in (is_at (nat_cmp doc)) (list_of value (index_of (type_of value) m root)))
+      → IsSome (lookup_in (is_at (nat_cmp doc)) (list_at m word))
+  list_there doc there = subst {A = Docs} (λ docs. IsSome (lookup_in (is_at (nat_cmp doc)) docs)) (sym list_is) there
+
+-- a new value's record and list were made
+pub open_new : {H : Type 0} (value : Value) (bits : ℕ) (a b c : Ledger H) (m n o : Records) (root key next : ℕ) (docs : Docs) → IsIndex (type_of value) m root
+    → Owns a m (index_part root ∷ []) → lookup_pair (beside value m) (tree_pairs m root) ≡ None → AddsRecord bits a b m n (value_words value) key
+    → IsValueRecord (type_of value) (n key) → stored_value (type_of value) n key ≡ value → MakesList b c n o 0 docs next → IsOpen value a c m o root key next
+open_new value bits a b c m n o root key next docs is owns none adds record_is reads makes =
+    open_list value a b c m n o root key 0 next docs (open_made value a m root is owns bits b n (value_words value) key none adds record_is reads) makes
+
+-- ---- the index that a call makes
+module _ {H : Type 0} (value : Value) (a b c : Ledger H) (m n o : Records) (root key word : ℕ) (start : IsIndex (type_of value) m root)
+    (is : IsOpen value a b m n root key word) (docs : Docs) (reads : list_at n word ≡ docs) where
+  pub set_index : (answer : Result ℕ StoreError) (posting : ℕ) → posting ≡ word → 0 < length docs
+      → IfOk answer (MakesDictionary (type_of value) b c n o root (put (beside value n) (key, posting) (tree_pairs n root)))
+      → IfOk answer (MakesIndex (type_of value) a c m o root (with_list value docs (index_of (type_of value) m root)))
+  set_index (Err e) posting same some makes = tt
+  set_index (Ok next) posting same some makes =
+      let filled : 0 < word = word_some n word (subst {A = Docs} (λ ds. 0 < length ds) (sym reads) some) in
+      let set = value_set value a b m n root key word start is c o next (put (beside value n) (key, posting) (tree_pairs n root)) makes filled
+      (ap (λ (w : ℕ). put (beside value n) (key, w) (tree_pairs n root)) same) in
+      subst (λ index. MakesIndex (type_of value) a c m o root index next)
+      (ap (λ (ds : Docs). insert_entry value_cmp (index_of (type_of value) m root) value ds) reads ∙ sym (with_some value docs (index_of (type_of value) m root) some)) set
+
+  pub out_index : (next : ℕ) (d : Ledger H) (p : Records) → word ≡ 0
+      → MakesDictionary (type_of value) b c n o root (take_out (beside value n) (tree_pairs n root)) next → Turns c d o p (entry key ∷ []) []
+      → MakesIndex (type_of value) a d m p root (with_list value docs (index_of (type_of value) m root)) next
+  out_index next d p empty makes dropped =
+      let out = value_out value a b m n root key word start is c o next (take_out (beside value n) (tree_pairs n root)) makes empty refl d p dropped in
+      let none : docs ≡ [] = sym reads ∙ ap (list_at n) empty in
+      subst (λ (ds : Docs). MakesIndex (type_of value) a d m p root (with_list value ds (index_of (type_of value) m root)) next) (sym none) out

@@ -1,0 +1,145 @@
+use Rattle.std.proofs.Common.{ℤ, w32, to_z, of_z, refl, ap, subst, ◌∙◌, arith, ◌≡◌, ◌+◌, ◌*◌, ℕ, length}
+use Rattle.std.proofs.lemmas.Int.{to_z-of_z}
+use Rattle.std.proofs.lemmas.Result.{err_from_is_err_and}
+use Rattle.std.specs.BTreeMap.{insert_entry}
+use Rattle.std.specs.Ordering.{nat_cmp}
+use Rattle.attr_images.specs.Postings.{index_of}
+use Rattle.attr_index.specs.Index.{list_of}
+use Rattle.attr_types.specs.Value.{type_of}
+use Rattle.tree_make.specs.Changes.{levels}
+use Rattle.posting_store.specs.Changes.{list_most, MakesList, MakesWithin}
+use Rattle.posting_store.specs.Lists.{list_at, list_levels}
+use Rattle.store_api.proofs.May.{may_do-then}
+use Rattle.value_index.proofs.ChangeLemmas.{open_dictionary, open_owns}
+use Rattle.value_index.specs.Changes.{add_most, nodes_most}
+use Rattle.value_index.proofs.CountLemmas.{add_found, within_more, within_then, within_tree}
+use Rattle.value_index.proofs.KeyLemmas.{pair_found}
+use Rattle.value_index.proofs.ShownLemmas.{Docs}
+use Rattle.value_index.proofs.StepLemmas.{if_refuses_width, inserted_some, list_is, list_owned, open_next, set_index}
+use Rattle.value_index.proofs.adding.add_more.Goals as goal
+
+pub add-requires-clause-unit : goal.add-requires-clause-unit
+add-requires-clause-unit g c = c.requires.unit
+
+pub add-requires-clause-list : goal.add-requires-clause-list
+add-requires-clause-list g c =
+    (pair_found c.args.value.now (g.S.Frozen.records c.args.store.now) c.args.root c.requires.index (c.args.key, c.args.list) c.requires.found).list_is
+
+pub add-requires-clause-plain : goal.add-requires-clause-plain
+add-requires-clause-plain g c =
+    (pair_found c.args.value.now (g.S.Frozen.records c.args.store.now) c.args.root c.requires.index (c.args.key, c.args.list) c.requires.found).plain
+
+pub add-requires-clause-sparse : goal.add-requires-clause-sparse
+add-requires-clause-sparse g c = refl
+
+pub add-requires-clause-owns : goal.add-requires-clause-owns
+add-requires-clause-owns g c =
+    list_owned c.args.value.now (g.S.Frozen.records c.args.store.now) c.args.root c.requires.index c.args.key c.args.list c.requires.found
+    (g.S.Store.ledger c.args.store.now) c.requires.owns
+
+pub returns-in_err-next-clause-makes : goal.returns-in_err-next-clause-makes
+returns-in_err-next-clause-makes g c = let p = err_from_is_err_and c.from_residual.result c.from_residual.ensures.1 in rw p.1 tt
+
+pub returns-in_err-next-clause-refuses : goal.returns-in_err-next-clause-refuses
+returns-in_err-next-clause-refuses g c =
+    let p = err_from_is_err_and c.from_residual.result c.from_residual.ensures.1 in rw (p.1, p.2) c.in_err-next.ensures.refuses
+
+pub returns-in_err-next-clause-may : goal.returns-in_err-next-clause-may
+returns-in_err-next-clause-may g c = c.add.ensures.may
+
+pub set-requires : goal.set-requires
+set-requires g c =
+    let ledger = g.S.Store.ledger in
+    let records = g.S.Frozen.records in
+    let value = c.args.value.now in
+    let root = c.args.root in
+    let key = c.args.key in
+    let next = c.in_ok-next.next in
+    let a = ledger c.args.store.now in
+    let b = ledger c.add.new.store in
+    let m = records c.args.store.now in
+    let n = records c.add.new.store in
+    let is = open_next value m root c.requires.index key c.args.list c.requires.found a b n next (insert_entry nat_cmp (list_at m c.args.list) c.args.doc (to_z w32 (of_z w32 c.args.weight))) c.requires.owns c.in_ok-next.ensures.makes in (
+      omega arith,
+      (
+        c.add.ensures.may.unit ∙ c.requires.unit,
+        (
+          open_dictionary value a b m n root key next c.requires.index is,
+          (is.record_is, (is.reads, open_owns value a b m n root key next c.requires.index is)),
+        ),
+      ),
+    )
+
+pub returns-clause-makes : goal.returns-clause-makes
+returns-clause-makes g c =
+    let ledger = g.S.Store.ledger in
+    let records = g.S.Frozen.records in
+    let value = c.args.value.now in
+    let root = c.args.root in
+    let key = c.args.key in
+    let list = c.args.list in
+    let next = c.in_ok-next.next in
+    let a = ledger c.args.store.now in
+    let b = ledger c.add.new.store in
+    let m = records c.args.store.now in
+    let n = records c.add.new.store in
+    let makes = subst (λ (w : ℤ). MakesList a b m n list (insert_entry nat_cmp (list_at m list) c.args.doc w) next) (to_z-of_z w32 c.args.weight c.ranges.weight) c.in_ok-next.ensures.makes in
+    let is = open_next value m root c.requires.index key list c.requires.found a b n next (insert_entry nat_cmp (list_at m list) c.args.doc c.args.weight) c.requires.owns makes in
+    let was = list_is value m root c.requires.index key list c.requires.found in
+    set_index value a b (ledger c.set.new.store) m n (records c.set.new.store) root key next c.requires.index is
+    (insert_entry nat_cmp (list_of value (index_of (type_of value) m root)) c.args.doc c.args.weight)
+    (makes.docs_are ∙ ap (λ (ds : Docs). insert_entry nat_cmp ds c.args.doc c.args.weight) was)
+    c.set.result c.word.result c.word.ensures (inserted_some (list_of value (index_of (type_of value) m root)) c.args.doc c.args.weight)
+    c.set.ensures.makes
+
+pub returns-clause-refuses : goal.returns-clause-refuses
+returns-clause-refuses g c =
+    let ledger = g.S.Store.ledger in
+    if_refuses_width (ledger c.args.store.now) (ledger c.add.new.store) (ledger c.set.new.store) 34 c.set.result refl c.add.ensures.may c.set.ensures.refuses
+
+pub returns-clause-may : goal.returns-clause-may
+returns-clause-may g c =
+    let ledger = g.S.Store.ledger in
+    may_do-then (ledger c.args.store.now) (ledger c.add.new.store) (ledger c.set.new.store) c.add.ensures.may c.set.ensures.may
+
+pub returns-in_err-next-clause-counts : goal.returns-in_err-next-clause-counts
+returns-in_err-next-clause-counts g c =
+    let ledger = g.S.Store.ledger in
+    let value = c.args.value.now in
+    let root = c.args.root in
+    let list = c.args.list in
+    let a = ledger c.args.store.now in
+    let b = ledger c.add.new.store in
+    let m = g.S.Frozen.records c.args.store.now in
+    let was = list_is value m root c.requires.index c.args.key list c.requires.found in
+    let count : ℕ = length (insert_entry nat_cmp (list_of value (index_of (type_of value) m root)) c.args.doc c.args.weight) in
+    let size : length (insert_entry nat_cmp (list_at m list) c.args.doc (to_z w32 (of_z w32 c.args.weight))) ≡ count =
+    ap (λ (w : ℤ). length (insert_entry nat_cmp (list_at m list) c.args.doc w)) (to_z-of_z w32 c.args.weight c.ranges.weight)
+    ∙ ap (λ (ds : Docs). length (insert_entry nat_cmp ds c.args.doc c.args.weight)) was in
+    let made = subst (λ k. MakesWithin a b (list_most (list_levels m list) k)) size c.add.ensures.counts in
+    within_more a b (list_most (list_levels m list) count) (add_most value m root count) (λ w. let e = add_found value m root c.args.key list count w c.requires.found in omega arith) made
+
+pub returns-clause-counts : goal.returns-clause-counts
+returns-clause-counts g c =
+    let ledger = g.S.Store.ledger in
+    let records = g.S.Frozen.records in
+    let value = c.args.value.now in
+    let root = c.args.root in
+    let list = c.args.list in
+    let next = c.in_ok-next.next in
+    let a = ledger c.args.store.now in
+    let b = ledger c.add.new.store in
+    let d = ledger c.set.new.store in
+    let m = records c.args.store.now in
+    let n = records c.add.new.store in
+    let was = list_is value m root c.requires.index c.args.key list c.requires.found in
+    let count : ℕ = length (insert_entry nat_cmp (list_of value (index_of (type_of value) m root)) c.args.doc c.args.weight) in
+    let size : length (insert_entry nat_cmp (list_at m list) c.args.doc (to_z w32 (of_z w32 c.args.weight))) ≡ count =
+    ap (λ (w : ℤ). length (insert_entry nat_cmp (list_at m list) c.args.doc w)) (to_z-of_z w32 c.args.weight c.ranges.weight)
+    ∙ ap (λ (ds : Docs). length (insert_entry nat_cmp ds c.args.doc c.args.weight)) was in
+    let made = subst (λ k. MakesWithin a b (list_most (list_levels m list) k)) size c.add.ensures.counts in
+    let is = open_next value m root c.requires.index c.args.key list c.requires.found a b n next (insert_entry nat_cmp (list_at m list) c.args.doc (to_z w32 (of_z w32 c.args.weight))) c.requires.owns c.in_ok-next.ensures.makes in
+    let nodes = within_tree b d m n root (2 * levels n root + 1) is.nodes (omega arith) c.set.ensures.counts in
+    within_more a d (λ w. list_most (list_levels m list) count w + nodes_most (levels m root) w) (add_most value m root count)
+    (λ w. add_found value m root c.args.key list count w c.requires.found)
+    (within_then a b d (list_most (list_levels m list) count) (nodes_most (levels m root)) c.add.ensures.may made nodes)

@@ -1,0 +1,186 @@
+use Rattle.std.proofs.Common.{[], ℤ, w32, refl, sym, ap, subst, ◌∙◌, arith, ◌≡◌, ◌+◌, ◌*◌, ℕ}
+use Rattle.std.proofs.lemmas.Int.{to_z-of_z}
+use Rattle.std.proofs.lemmas.Result.{err_from_is_err_and}
+use Rattle.std.specs.Prelude.{length}
+use Rattle.std.specs.BTreeMap.{insert_entry}
+use Rattle.std.specs.Ordering.{nat_cmp}
+use Rattle.array_store.proofs.ClassLemmas.{class_width}
+use Rattle.attr_images.specs.Postings.{index_of}
+use Rattle.attr_images.specs.Values.{value_words}
+use Rattle.attr_images.specs.Words.{class_of}
+use Rattle.attr_index.specs.Index.{list_of}
+use Rattle.attr_types.specs.Value.{type_of}
+use Rattle.tree_make.specs.Changes.{levels}
+use Rattle.posting_store.specs.Changes.{list_most, MakesList, MakesWithin}
+use Rattle.posting_store.proofs.ListLemmas.{nothing_is}
+use Rattle.store_api.proofs.May.{may_do-same, may_do-then}
+use Rattle.value_index.proofs.ChangeLemmas.{open_dictionary, open_owns}
+use Rattle.value_index.specs.Changes.{add_most, nodes_most, record_most}
+use Rattle.value_index.proofs.CountLemmas.{add_none, within_more, within_record, within_then, within_tree}
+use Rattle.value_index.proofs.KeyLemmas.{list_none}
+use Rattle.value_index.proofs.ShownLemmas.{Docs}
+use Rattle.value_index.proofs.StepLemmas.{if_refuses_width, inserted_some, open_new, refuses_after, refuses_width, set_index}
+use Rattle.value_index.proofs.adding.add_new.Goals as goal
+
+pub add-requires : goal.add-requires
+add-requires g c = (omega arith, c.requires.unit)
+
+pub returns-in_err-key-clause-makes : goal.returns-in_err-key-clause-makes
+returns-in_err-key-clause-makes g c = let p = err_from_is_err_and c.from_residual.result c.from_residual.ensures.1 in rw p.1 tt
+
+pub returns-in_err-key-clause-refuses : goal.returns-in_err-key-clause-refuses
+returns-in_err-key-clause-refuses g c =
+    let ledger = g.S.Store.ledger in
+    let p = err_from_is_err_and c.from_residual.result c.from_residual.ensures.1 in
+    rw (p.1, p.2) (refuses_width (ledger c.args.store.now) (ledger c.args.store.now) (ledger c.add.new.store) _ _
+    (class_width (length (value_words c.args.value.now))) (may_do-same (ledger c.args.store.now)) c.in_err-key.ensures.refuses)
+
+pub returns-in_err-key-clause-may : goal.returns-in_err-key-clause-may
+returns-in_err-key-clause-may g c = c.add.ensures.may
+
+pub add-requires-2-clause-unit : goal.add-requires-2-clause-unit
+add-requires-2-clause-unit g c = c.add.ensures.may.unit ∙ c.requires.unit
+
+pub add-requires-2-clause-list : goal.add-requires-2-clause-list
+add-requires-2-clause-list g c = nothing_is (g.S.Frozen.records c.add.new.store)
+
+pub add-requires-2-clause-plain : goal.add-requires-2-clause-plain
+add-requires-2-clause-plain g c = omega arith
+
+pub add-requires-2-clause-sparse : goal.add-requires-2-clause-sparse
+add-requires-2-clause-sparse g c = refl
+
+pub add-requires-2-clause-owns : goal.add-requires-2-clause-owns
+add-requires-2-clause-owns g c = record { each = λ r. omega arith }
+
+pub returns-in_err-list-clause-makes : goal.returns-in_err-list-clause-makes
+returns-in_err-list-clause-makes g c = let p = err_from_is_err_and c.from_residual-in_err-list.result c.from_residual-in_err-list.ensures.1 in rw p.1 tt
+
+pub returns-in_err-list-clause-refuses : goal.returns-in_err-list-clause-refuses
+returns-in_err-list-clause-refuses g c =
+    let ledger = g.S.Store.ledger in
+    let p = err_from_is_err_and c.from_residual-in_err-list.result c.from_residual-in_err-list.ensures.1 in
+    rw (p.1, p.2) (refuses_after (ledger c.args.store.now) (ledger c.add.new.store) (ledger c.add-2.new.store) _ c.add.ensures.may c.in_err-list.ensures.refuses)
+
+pub returns-in_err-list-clause-may : goal.returns-in_err-list-clause-may
+returns-in_err-list-clause-may g c =
+    let ledger = g.S.Store.ledger in
+    may_do-then (ledger c.args.store.now) (ledger c.add.new.store) (ledger c.add-2.new.store) c.add.ensures.may c.add-2.ensures.may
+
+pub set-requires : goal.set-requires
+set-requires g c =
+    let ledger = g.S.Store.ledger in
+    let records = g.S.Frozen.records in
+    let value = c.args.value.now in
+    let root = c.args.root in
+    let a = ledger c.args.store.now in
+    let b = ledger c.add.new.store in
+    let d = ledger c.add-2.new.store in
+    let m = records c.args.store.now in
+    let n = records c.add.new.store in
+    let o = records c.add-2.new.store in
+    let key = c.in_ok-key.key in
+    let list = c.in_ok-list.list in
+    let docs = insert_entry nat_cmp [] c.args.doc c.args.weight in
+    let makes = subst (λ (w : ℤ). MakesList b d n o 0 (insert_entry nat_cmp [] c.args.doc w) list) (to_z-of_z w32 c.args.weight c.ranges.weight) c.in_ok-list.ensures.makes in
+    let is = open_new value g.row.OFFSET_BITS a b d m n o root key list docs c.requires.index c.requires.owns c.requires.new
+    c.in_ok-key.ensures.adds c.in_ok-key.ensures.record c.in_ok-key.ensures.value makes in (
+      omega arith,
+      (
+        c.add-2.ensures.may.unit ∙ c.add.ensures.may.unit ∙ c.requires.unit,
+        (
+          open_dictionary value a d m o root key list c.requires.index is,
+          (is.record_is, (is.reads, open_owns value a d m o root key list c.requires.index is)),
+        ),
+      ),
+    )
+
+pub returns-clause-makes : goal.returns-clause-makes
+returns-clause-makes g c =
+    let ledger = g.S.Store.ledger in
+    let records = g.S.Frozen.records in
+    let value = c.args.value.now in
+    let root = c.args.root in
+    let a = ledger c.args.store.now in
+    let b = ledger c.add.new.store in
+    let d = ledger c.add-2.new.store in
+    let m = records c.args.store.now in
+    let n = records c.add.new.store in
+    let o = records c.add-2.new.store in
+    let key = c.in_ok-key.key in
+    let list = c.in_ok-list.list in
+    let docs = insert_entry nat_cmp [] c.args.doc c.args.weight in
+    let makes = subst (λ (w : ℤ). MakesList b d n o 0 (insert_entry nat_cmp [] c.args.doc w) list) (to_z-of_z w32 c.args.weight c.ranges.weight) c.in_ok-list.ensures.makes in
+    let is = open_new value g.row.OFFSET_BITS a b d m n o root key list docs c.requires.index c.requires.owns c.requires.new
+    c.in_ok-key.ensures.adds c.in_ok-key.ensures.record c.in_ok-key.ensures.value makes in
+    let was = list_none value m root c.requires.index c.requires.new in
+    set_index value a d (ledger c.set.new.store) m o (records c.set.new.store) root key list c.requires.index is
+    (insert_entry nat_cmp (list_of value (index_of (type_of value) m root)) c.args.doc c.args.weight)
+    (makes.docs_are ∙ ap (λ (ds : Docs). insert_entry nat_cmp ds c.args.doc c.args.weight) (sym was))
+    c.set.result c.word.result c.word.ensures (inserted_some (list_of value (index_of (type_of value) m root)) c.args.doc c.args.weight)
+    c.set.ensures.makes
+
+pub returns-clause-refuses : goal.returns-clause-refuses
+returns-clause-refuses g c =
+    let ledger = g.S.Store.ledger in
+    if_refuses_width (ledger c.args.store.now) (ledger c.add-2.new.store) (ledger c.set.new.store) 34 c.set.result refl
+    (may_do-then (ledger c.args.store.now) (ledger c.add.new.store) (ledger c.add-2.new.store) c.add.ensures.may c.add-2.ensures.may) c.set.ensures.refuses
+
+pub returns-clause-may : goal.returns-clause-may
+returns-clause-may g c =
+    let ledger = g.S.Store.ledger in
+    may_do-then (ledger c.args.store.now) (ledger c.add-2.new.store) (ledger c.set.new.store)
+    (may_do-then (ledger c.args.store.now) (ledger c.add.new.store) (ledger c.add-2.new.store) c.add.ensures.may c.add-2.ensures.may) c.set.ensures.may
+
+pub returns-in_err-key-clause-counts : goal.returns-in_err-key-clause-counts
+returns-in_err-key-clause-counts g c =
+    let ledger = g.S.Store.ledger in
+    let value = c.args.value.now in
+    let m = g.S.Frozen.records c.args.store.now in
+    let a = ledger c.args.store.now in
+    let b = ledger c.add.new.store in
+    let count : ℕ = length (insert_entry nat_cmp (list_of value (index_of (type_of value) m c.args.root)) c.args.doc c.args.weight) in
+    within_more a b (record_most value) (add_most value m c.args.root count) (λ w. let e = add_none value m c.args.root count w c.requires.new in omega arith)
+    (within_record a b (class_of (length (value_words value))) c.add.ensures.counts)
+
+pub returns-in_err-list-clause-counts : goal.returns-in_err-list-clause-counts
+returns-in_err-list-clause-counts g c =
+    let ledger = g.S.Store.ledger in
+    let value = c.args.value.now in
+    let m = g.S.Frozen.records c.args.store.now in
+    let a = ledger c.args.store.now in
+    let b = ledger c.add.new.store in
+    let d = ledger c.add-2.new.store in
+    let size : length (insert_entry nat_cmp (list_of value (index_of (type_of value) m c.args.root)) c.args.doc c.args.weight) ≡ 1 =
+    ap (λ (ds : Docs). length (insert_entry nat_cmp ds c.args.doc c.args.weight)) (list_none value m c.args.root c.requires.index c.requires.new) in
+    subst (λ k. MakesWithin a d (add_most value m c.args.root k)) (sym size)
+    (within_more a d (λ w. record_most value w + list_most 0 1 w) (add_most value m c.args.root 1) (λ w. let e = add_none value m c.args.root 1 w c.requires.new in omega arith)
+    (within_then a b d (record_most value) (list_most 0 1) c.add.ensures.may (within_record a b (class_of (length (value_words value))) c.add.ensures.counts) c.add-2.ensures.counts))
+
+pub returns-clause-counts : goal.returns-clause-counts
+returns-clause-counts g c =
+    let ledger = g.S.Store.ledger in
+    let records = g.S.Frozen.records in
+    let value = c.args.value.now in
+    let root = c.args.root in
+    let a = ledger c.args.store.now in
+    let b = ledger c.add.new.store in
+    let d = ledger c.add-2.new.store in
+    let f = ledger c.set.new.store in
+    let m = records c.args.store.now in
+    let n = records c.add.new.store in
+    let o = records c.add-2.new.store in
+    let key = c.in_ok-key.key in
+    let list = c.in_ok-list.list in
+    let docs = insert_entry nat_cmp [] c.args.doc c.args.weight in
+    let makes = subst (λ (w : ℤ). MakesList b d n o 0 (insert_entry nat_cmp [] c.args.doc w) list) (to_z-of_z w32 c.args.weight c.ranges.weight) c.in_ok-list.ensures.makes in
+    let is = open_new value g.row.OFFSET_BITS a b d m n o root key list docs c.requires.index c.requires.owns c.requires.new
+    c.in_ok-key.ensures.adds c.in_ok-key.ensures.record c.in_ok-key.ensures.value makes in
+    let size : length (insert_entry nat_cmp (list_of value (index_of (type_of value) m root)) c.args.doc c.args.weight) ≡ 1 =
+    ap (λ (ds : Docs). length (insert_entry nat_cmp ds c.args.doc c.args.weight)) (list_none value m root c.requires.index c.requires.new) in
+    let may = may_do-then a b d c.add.ensures.may c.add-2.ensures.may in
+    let made = within_then a b d (record_most value) (list_most 0 1) c.add.ensures.may (within_record a b (class_of (length (value_words value))) c.add.ensures.counts) c.add-2.ensures.counts in
+    let nodes = within_tree d f m o root (2 * levels o root + 1) is.nodes (omega arith) c.set.ensures.counts in
+    subst (λ k. MakesWithin a f (add_most value m root k)) (sym size)
+    (within_more a f (λ w. record_most value w + list_most 0 1 w + nodes_most (levels m root) w) (add_most value m root 1) (λ w. let e = add_none value m root 1 w c.requires.new in omega arith)
+    (within_then a d f (λ w. record_most value w + list_most 0 1 w) (nodes_most (levels m root)) may made nodes))

@@ -1,0 +1,289 @@
+use Rattle.std.proofs.Common.{subst, ◌≡◌, ◌<◌, refl, ap, ◌∙◌, arith, ◌+◌, ◌*◌, ℕ, length}
+use Rattle.std.proofs.lemmas.Result.{err_from_is_err_and}
+use Rattle.std.specs.BTreeMap.{is_at}
+use Rattle.std.specs.Map.{remove_entry}
+use Rattle.std.specs.Ordering.{nat_cmp}
+use Rattle.attr_images.specs.Postings.{index_of}
+use Rattle.attr_index.specs.Index.{list_of}
+use Rattle.attr_types.specs.Value.{type_of}
+use Rattle.tree_make.specs.Changes.{levels}
+use Rattle.posting_store.specs.Changes.{list_most, MakesWithin}
+use Rattle.posting_store.specs.Lists.{list_at, list_levels}
+use Rattle.store_api.proofs.May.{may_do-then}
+use Rattle.value_index.proofs.ChangeLemmas.{drop_owns, open_dictionary, open_owns, open_there}
+use Rattle.value_index.specs.Changes.{change_most, nodes_most}
+use Rattle.value_index.proofs.CountLemmas.{change_found, within_dropped, within_more, within_then, within_tree}
+use Rattle.value_index.proofs.KeyLemmas.{pair_found}
+use Rattle.value_index.proofs.ShownLemmas.{Docs}
+use Rattle.value_index.proofs.StepLemmas.{filled_list, if_refuses_width, list_is, list_owned, list_there, open_next, out_index, refuses_width, set_index}
+use Rattle.value_index.proofs.removing.remove_from.Goals as goal
+
+pub remove-requires-clause-unit : goal.remove-requires-clause-unit
+remove-requires-clause-unit g c = c.requires.unit
+
+pub remove-requires-clause-list : goal.remove-requires-clause-list
+remove-requires-clause-list g c =
+    (pair_found c.args.value.now (g.S.Frozen.records c.args.store.now) c.args.root c.requires.index (c.args.key, c.args.list) c.requires.found).list_is
+
+pub remove-requires-clause-plain : goal.remove-requires-clause-plain
+remove-requires-clause-plain g c =
+    (pair_found c.args.value.now (g.S.Frozen.records c.args.store.now) c.args.root c.requires.index (c.args.key, c.args.list) c.requires.found).plain
+
+pub remove-requires-clause-sparse : goal.remove-requires-clause-sparse
+remove-requires-clause-sparse g c = refl
+
+pub remove-requires-clause-there : goal.remove-requires-clause-there
+remove-requires-clause-there g c =
+    list_there c.args.value.now (g.S.Frozen.records c.args.store.now) c.args.root c.requires.index c.args.key c.args.list c.requires.found
+    c.args.doc c.requires.there
+
+pub remove-requires-clause-owns : goal.remove-requires-clause-owns
+remove-requires-clause-owns g c =
+    list_owned c.args.value.now (g.S.Frozen.records c.args.store.now) c.args.root c.requires.index c.args.key c.args.list c.requires.found
+    (g.S.Store.ledger c.args.store.now) c.requires.owns
+
+pub returns-in_err-next-clause-makes : goal.returns-in_err-next-clause-makes
+returns-in_err-next-clause-makes g c = let p = err_from_is_err_and c.from_residual.result c.from_residual.ensures.1 in rw p.1 tt
+
+pub returns-in_err-next-clause-refuses : goal.returns-in_err-next-clause-refuses
+returns-in_err-next-clause-refuses g c =
+    let p = err_from_is_err_and c.from_residual.result c.from_residual.ensures.1 in rw (p.1, p.2) c.in_err-next.ensures.refuses
+
+pub returns-in_err-next-clause-may : goal.returns-in_err-next-clause-may
+returns-in_err-next-clause-may g c = c.remove.ensures.may
+
+pub set-requires : goal.set-requires
+set-requires g c =
+    let ledger = g.S.Store.ledger in
+    let records = g.S.Frozen.records in
+    let value = c.args.value.now in
+    let root = c.args.root in
+    let key = c.args.key in
+    let next = c.in_ok-next.next in
+    let a = ledger c.args.store.now in
+    let b = ledger c.remove.new.store in
+    let m = records c.args.store.now in
+    let n = records c.remove.new.store in
+    let is = open_next value m root c.requires.index key c.args.list c.requires.found a b n next (remove_entry (is_at (nat_cmp c.args.doc)) (list_at m c.args.list)) c.requires.owns c.in_ok-next.ensures.makes in (
+      omega arith,
+      (
+        c.remove.ensures.may.unit ∙ c.requires.unit,
+        (
+          open_dictionary value a b m n root key next c.requires.index is,
+          (is.record_is, (is.reads, open_owns value a b m n root key next c.requires.index is)),
+        ),
+      ),
+    )
+
+pub returns-then-word-ne0-clause-makes : goal.returns-then-word-ne0-clause-makes
+returns-then-word-ne0-clause-makes g c =
+    let ledger = g.S.Store.ledger in
+    let records = g.S.Frozen.records in
+    let value = c.args.value.now in
+    let root = c.args.root in
+    let key = c.args.key in
+    let list = c.args.list in
+    let next = c.in_ok-next.next in
+    let a = ledger c.args.store.now in
+    let b = ledger c.remove.new.store in
+    let m = records c.args.store.now in
+    let n = records c.remove.new.store in
+    let makes = c.in_ok-next.ensures.makes in
+    let is = open_next value m root c.requires.index key list c.requires.found a b n next (remove_entry (is_at (nat_cmp c.args.doc)) (list_at m c.args.list)) c.requires.owns makes in
+    let was = list_is value m root c.requires.index key list c.requires.found in
+    let docs = remove_entry (is_at (nat_cmp c.args.doc)) (list_of value (index_of (type_of value) m root)) in
+    let reads = makes.docs_are ∙ ap (λ (ds : Docs). remove_entry (is_at (nat_cmp c.args.doc)) ds) was in
+    let some : 0 < next = let w = c.word.ensures in let more = c.if-word-ne0.true in omega arith in
+    set_index value a b (ledger c.set.new.store) m n (records c.set.new.store) root key next c.requires.index is docs reads
+    c.set.result c.word-then-word-ne0.result c.word-then-word-ne0.ensures (filled_list n next docs is.list_is reads some) c.set.ensures.makes
+
+pub returns-then-word-ne0-clause-refuses : goal.returns-then-word-ne0-clause-refuses
+returns-then-word-ne0-clause-refuses g c =
+    let ledger = g.S.Store.ledger in
+    if_refuses_width (ledger c.args.store.now) (ledger c.remove.new.store) (ledger c.set.new.store) 34 c.set.result refl c.remove.ensures.may c.set.ensures.refuses
+
+pub returns-then-word-ne0-clause-may : goal.returns-then-word-ne0-clause-may
+returns-then-word-ne0-clause-may g c =
+    let ledger = g.S.Store.ledger in
+    may_do-then (ledger c.args.store.now) (ledger c.remove.new.store) (ledger c.set.new.store) c.remove.ensures.may c.set.ensures.may
+
+pub remove-requires-2 : goal.remove-requires-2
+remove-requires-2 g c =
+    let ledger = g.S.Store.ledger in
+    let records = g.S.Frozen.records in
+    let value = c.args.value.now in
+    let root = c.args.root in
+    let key = c.args.key in
+    let next = c.in_ok-next.next in
+    let a = ledger c.args.store.now in
+    let b = ledger c.remove.new.store in
+    let m = records c.args.store.now in
+    let n = records c.remove.new.store in
+    let is = open_next value m root c.requires.index key c.args.list c.requires.found a b n next (remove_entry (is_at (nat_cmp c.args.doc)) (list_at m c.args.list)) c.requires.owns c.in_ok-next.ensures.makes in (
+      omega arith,
+      (
+        c.remove.ensures.may.unit ∙ c.requires.unit,
+        (
+          open_dictionary value a b m n root key next c.requires.index is,
+          (
+            open_there value a b m n root key next c.requires.index is c.args.list c.requires.found,
+            open_owns value a b m n root key next c.requires.index is,
+          ),
+        ),
+      ),
+    )
+
+pub returns-in_err-left-clause-makes : goal.returns-in_err-left-clause-makes
+returns-in_err-left-clause-makes g c =
+    let p = err_from_is_err_and c.from_residual-in_err-left.result c.from_residual-in_err-left.ensures.1 in rw p.1 tt
+
+pub returns-in_err-left-clause-refuses : goal.returns-in_err-left-clause-refuses
+returns-in_err-left-clause-refuses g c =
+    let ledger = g.S.Store.ledger in
+    let p = err_from_is_err_and c.from_residual-in_err-left.result c.from_residual-in_err-left.ensures.1 in
+    rw (p.1, p.2) (refuses_width (ledger c.args.store.now) (ledger c.remove.new.store) (ledger c.remove-2.new.store) 34 _ refl c.remove.ensures.may c.in_err-left.ensures.refuses)
+
+pub returns-in_err-left-clause-may : goal.returns-in_err-left-clause-may
+returns-in_err-left-clause-may g c =
+    let ledger = g.S.Store.ledger in
+    may_do-then (ledger c.args.store.now) (ledger c.remove.new.store) (ledger c.remove-2.new.store) c.remove.ensures.may c.remove-2.ensures.may
+
+pub drop_one-requires : goal.drop_one-requires
+drop_one-requires g c =
+    let ledger = g.S.Store.ledger in
+    let records = g.S.Frozen.records in
+    let value = c.args.value.now in
+    let root = c.args.root in
+    let key = c.args.key in
+    let next = c.in_ok-next.next in
+    let a = ledger c.args.store.now in
+    let b = ledger c.remove.new.store in
+    let m = records c.args.store.now in
+    let n = records c.remove.new.store in
+    let is = open_next value m root c.requires.index key c.args.list c.requires.found a b n next (remove_entry (is_at (nat_cmp c.args.doc)) (list_at m c.args.list)) c.requires.owns c.in_ok-next.ensures.makes in
+    let empty : next ≡ 0 = let w = c.word.ensures in let none = c.if-word-ne0.false in omega arith in (
+      omega arith,
+      (
+        c.remove-2.ensures.may.unit ∙ c.remove.ensures.may.unit ∙ c.requires.unit,
+        drop_owns value a b m n root key next c.requires.index is (ledger c.remove-2.new.store) (records c.remove-2.new.store) c.in_ok-left.left _
+            c.in_ok-left.ensures.makes empty refl,
+      ),
+    )
+
+pub returns-clause-makes : goal.returns-clause-makes
+returns-clause-makes g c =
+    let ledger = g.S.Store.ledger in
+    let records = g.S.Frozen.records in
+    let value = c.args.value.now in
+    let root = c.args.root in
+    let key = c.args.key in
+    let list = c.args.list in
+    let next = c.in_ok-next.next in
+    let a = ledger c.args.store.now in
+    let b = ledger c.remove.new.store in
+    let m = records c.args.store.now in
+    let n = records c.remove.new.store in
+    let makes = c.in_ok-next.ensures.makes in
+    let is = open_next value m root c.requires.index key list c.requires.found a b n next (remove_entry (is_at (nat_cmp c.args.doc)) (list_at m c.args.list)) c.requires.owns makes in
+    let was = list_is value m root c.requires.index key list c.requires.found in
+    let docs = remove_entry (is_at (nat_cmp c.args.doc)) (list_of value (index_of (type_of value) m root)) in
+    let reads = makes.docs_are ∙ ap (λ (ds : Docs). remove_entry (is_at (nat_cmp c.args.doc)) ds) was in
+    let empty : next ≡ 0 = let w = c.word.ensures in let none = c.if-word-ne0.false in omega arith in
+    out_index value a b (ledger c.remove-2.new.store) m n (records c.remove-2.new.store) root key next c.requires.index is docs reads
+    c.in_ok-left.left (ledger c.drop_one.new.store) (records c.drop_one.new.store) empty c.in_ok-left.ensures.makes c.drop_one.ensures.turns
+
+pub returns-clause-may : goal.returns-clause-may
+returns-clause-may g c =
+    let ledger = g.S.Store.ledger in
+    may_do-then (ledger c.args.store.now) (ledger c.remove-2.new.store) (ledger c.drop_one.new.store)
+    (may_do-then (ledger c.args.store.now) (ledger c.remove.new.store) (ledger c.remove-2.new.store) c.remove.ensures.may c.remove-2.ensures.may) c.drop_one.ensures.may
+
+pub returns-in_err-next-clause-counts : goal.returns-in_err-next-clause-counts
+returns-in_err-next-clause-counts g c =
+    let ledger = g.S.Store.ledger in
+    let records = g.S.Frozen.records in
+    let value = c.args.value.now in
+    let root = c.args.root in
+    let list = c.args.list in
+    let a = ledger c.args.store.now in
+    let b = ledger c.remove.new.store in
+    let m = records c.args.store.now in
+    let n = records c.remove.new.store in
+    let was = list_is value m root c.requires.index c.args.key list c.requires.found in
+    let count : ℕ = length (remove_entry (is_at (nat_cmp c.args.doc)) (list_of value (index_of (type_of value) m root))) in
+    let size : length (remove_entry (is_at (nat_cmp c.args.doc)) (list_at m list)) ≡ count =
+    ap (λ (ds : Docs). length (remove_entry (is_at (nat_cmp c.args.doc)) ds)) was in
+    let made = subst (λ k. MakesWithin a b (list_most (list_levels m list) k)) size c.remove.ensures.counts in
+    within_more a b (list_most (list_levels m list) count) (change_most value m root count) (λ w. let e = change_found value m root c.args.key list count w c.requires.found in omega arith) made
+
+pub returns-then-word-ne0-clause-counts : goal.returns-then-word-ne0-clause-counts
+returns-then-word-ne0-clause-counts g c =
+    let ledger = g.S.Store.ledger in
+    let records = g.S.Frozen.records in
+    let value = c.args.value.now in
+    let root = c.args.root in
+    let list = c.args.list in
+    let a = ledger c.args.store.now in
+    let b = ledger c.remove.new.store in
+    let m = records c.args.store.now in
+    let n = records c.remove.new.store in
+    let was = list_is value m root c.requires.index c.args.key list c.requires.found in
+    let count : ℕ = length (remove_entry (is_at (nat_cmp c.args.doc)) (list_of value (index_of (type_of value) m root))) in
+    let size : length (remove_entry (is_at (nat_cmp c.args.doc)) (list_at m list)) ≡ count =
+    ap (λ (ds : Docs). length (remove_entry (is_at (nat_cmp c.args.doc)) ds)) was in
+    let made = subst (λ k. MakesWithin a b (list_most (list_levels m list) k)) size c.remove.ensures.counts in
+    let is = open_next value m root c.requires.index c.args.key list c.requires.found a b n c.in_ok-next.next (remove_entry (is_at (nat_cmp c.args.doc)) (list_at m list)) c.requires.owns c.in_ok-next.ensures.makes in
+    let d = ledger c.set.new.store in
+    let nodes = within_tree b d m n root (2 * levels n root + 1) is.nodes (omega arith) c.set.ensures.counts in
+    within_more a d (λ w. list_most (list_levels m list) count w + nodes_most (levels m root) w) (change_most value m root count)
+    (λ w. change_found value m root c.args.key list count w c.requires.found)
+    (within_then a b d (list_most (list_levels m list) count) (nodes_most (levels m root)) c.remove.ensures.may made nodes)
+
+pub returns-in_err-left-clause-counts : goal.returns-in_err-left-clause-counts
+returns-in_err-left-clause-counts g c =
+    let ledger = g.S.Store.ledger in
+    let records = g.S.Frozen.records in
+    let value = c.args.value.now in
+    let root = c.args.root in
+    let list = c.args.list in
+    let a = ledger c.args.store.now in
+    let b = ledger c.remove.new.store in
+    let m = records c.args.store.now in
+    let n = records c.remove.new.store in
+    let was = list_is value m root c.requires.index c.args.key list c.requires.found in
+    let count : ℕ = length (remove_entry (is_at (nat_cmp c.args.doc)) (list_of value (index_of (type_of value) m root))) in
+    let size : length (remove_entry (is_at (nat_cmp c.args.doc)) (list_at m list)) ≡ count =
+    ap (λ (ds : Docs). length (remove_entry (is_at (nat_cmp c.args.doc)) ds)) was in
+    let made = subst (λ k. MakesWithin a b (list_most (list_levels m list) k)) size c.remove.ensures.counts in
+    let is = open_next value m root c.requires.index c.args.key list c.requires.found a b n c.in_ok-next.next (remove_entry (is_at (nat_cmp c.args.doc)) (list_at m list)) c.requires.owns c.in_ok-next.ensures.makes in
+    let d = ledger c.remove-2.new.store in
+    let nodes = within_tree b d m n root (levels n root + 1) is.nodes (omega arith) c.remove-2.ensures.counts in
+    within_more a d (λ w. list_most (list_levels m list) count w + nodes_most (levels m root) w) (change_most value m root count)
+    (λ w. change_found value m root c.args.key list count w c.requires.found)
+    (within_then a b d (list_most (list_levels m list) count) (nodes_most (levels m root)) c.remove.ensures.may made nodes)
+
+pub returns-clause-counts : goal.returns-clause-counts
+returns-clause-counts g c =
+    let ledger = g.S.Store.ledger in
+    let records = g.S.Frozen.records in
+    let value = c.args.value.now in
+    let root = c.args.root in
+    let list = c.args.list in
+    let a = ledger c.args.store.now in
+    let b = ledger c.remove.new.store in
+    let m = records c.args.store.now in
+    let n = records c.remove.new.store in
+    let was = list_is value m root c.requires.index c.args.key list c.requires.found in
+    let count : ℕ = length (remove_entry (is_at (nat_cmp c.args.doc)) (list_of value (index_of (type_of value) m root))) in
+    let size : length (remove_entry (is_at (nat_cmp c.args.doc)) (list_at m list)) ≡ count =
+    ap (λ (ds : Docs). length (remove_entry (is_at (nat_cmp c.args.doc)) ds)) was in
+    let made = subst (λ k. MakesWithin a b (list_most (list_levels m list) k)) size c.remove.ensures.counts in
+    let is = open_next value m root c.requires.index c.args.key list c.requires.found a b n c.in_ok-next.next (remove_entry (is_at (nat_cmp c.args.doc)) (list_at m list)) c.requires.owns c.in_ok-next.ensures.makes in
+    let d = ledger c.remove-2.new.store in
+    let nodes = within_tree b d m n root (levels n root + 1) is.nodes (omega arith) c.remove-2.ensures.counts in
+    let f = ledger c.drop_one.new.store in
+    let may = may_do-then a b d c.remove.ensures.may c.remove-2.ensures.may in
+    within_dropped a d f (change_most value m root count) may
+    (within_more a d (λ w. list_most (list_levels m list) count w + nodes_most (levels m root) w) (change_most value m root count)
+    (λ w. change_found value m root c.args.key list count w c.requires.found)
+    (within_then a b d (list_most (list_levels m list) count) (nodes_most (levels m root)) c.remove.ensures.may made nodes)) c.drop_one.ensures.none_made

@@ -1,0 +1,53 @@
+-- What a change of an index leaves of a store.
+use Rattle.std.specs.Prelude.{◌≡◌, ℕ, ◌+◌, ◌*◌, ◌<◌, [], ◌∷◌, length, nat_eq, if◌then◌else◌}
+use Rattle.std.specs.Option.{is_some, unwrap_or}
+use Rattle.image_base.specs.Records.{Records}
+use Rattle.store_api.specs.Ledgers.{Ledger}
+use Rattle.store_api.specs.Parts.{Owns, Turns}
+use Rattle.key_order.specs.Pairs.{lookup}
+use Rattle.tree_images.specs.declared.TheConstants.{NODE_WORDS}
+use Rattle.tree_images.specs.Trees.{tree_pairs}
+use Rattle.tree_make.specs.Changes.{levels}
+use Rattle.attr_images.specs.Postings.{index_of}
+use Rattle.attr_images.specs.Values.{stored_value, value_words}
+use Rattle.attr_images.specs.Words.{class_of}
+use Rattle.attr_index.specs.Index.{Index, list_of}
+use Rattle.attr_types.specs.declared.kind.ValueType.{ValueType}
+use Rattle.attr_types.specs.declared.value.Value.{Value}
+use Rattle.enum_dictionary.specs.Dictionaries.{beside}
+use Rattle.posting_store.specs.Changes.{list_most}
+use Rattle.posting_store.specs.Lists.{list_levels}
+use Rattle.value_index.specs.Indexes.{index_part, key_at, IsIndex, IsKey}
+
+-- a key whose value still has documents is a key still, and its record is as it was
+pub record KeepsKeys (type : ValueType) (m n : Records) (root next : ℕ) : Type 0 where
+  pub kept : (ref : ℕ) → IsKey m root ref → 0 < length (list_of (stored_value type m ref) (index_of type n next))
+      → IsKey n next ref × (n ref ≡ m ref)
+
+-- an index was made that reads as this one, in place of another
+pub record MakesIndex {H : Type 0} (type : ValueType) (old new : Ledger H) (m n : Records) (root : ℕ) (index : Index) (next : ℕ)
+    : Type 0 where
+  pub index_is : IsIndex type n next
+  pub reads_as : index_of type n next ≡ index
+  pub keys : KeepsKeys type m n root next
+  pub owns : Owns new n (index_part next ∷ [])
+  pub turns : Turns old new m n (index_part root ∷ []) (index_part next ∷ [])
+
+-- how many records of each width a change makes at most: of a dictionary with so many levels of nodes, and of a list
+abbrev pub nodes_most : ℕ → ℕ → ℕ
+nodes_most levels width = if nat_eq width NODE_WORDS then 2 * levels + 1 else 0
+
+abbrev pub value_levels : Value → Records → ℕ → ℕ
+value_levels value m root = list_levels m (unwrap_or (lookup (beside value m) (tree_pairs m root)) 0)
+
+-- of a value's list that has so many documents then, and of its pair in the dictionary
+abbrev pub change_most : Value → Records → ℕ → ℕ → ℕ → ℕ
+change_most value m root count width = list_most (value_levels value m root) count width + nodes_most (levels m root) width
+
+-- and the record of a value that is new
+abbrev pub record_most : Value → ℕ → ℕ
+record_most value width = if nat_eq width (class_of (length (value_words value))) then 1 else 0
+
+abbrev pub add_most : Value → Records → ℕ → ℕ → ℕ → ℕ
+add_most value m root count width =
+    (if is_some (key_at value m root) then 0 else record_most value width) + change_most value m root count width

@@ -1,0 +1,4 @@
+pub mod ProofsForIndexes
+pub mod Indexes
+pub mod Changes
+pub mod Laws

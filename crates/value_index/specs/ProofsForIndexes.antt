@@ -1,0 +1,12 @@
+-- Nobody has to read this: an index stays where its records stay. It stands here since a part cites it.
+use Rattle.std.proofs.Common.{◌≡◌, ℕ, ◌++◌}
+use Rattle.image_base.specs.Records.{Records, SameAt}
+use Rattle.tree_images.specs.Trees.{tree_nodes}
+use Rattle.attr_images.specs.Postings.{dictionary_reach}
+use Rattle.attr_images.specs.ProofsForImages.{trees_reach-same}
+use Rattle.attr_types.specs.declared.kind.Kind.TheVariants.{Single}
+use Rattle.attr_types.specs.declared.kind.ValueType.TheVariants.{Long}
+
+pub index_reach-same : (m n : Records) (root : ℕ) → SameAt (tree_nodes m root ++ dictionary_reach m root) m n
+    → tree_nodes n root ++ dictionary_reach n root ≡ tree_nodes m root ++ dictionary_reach m root
+index_reach-same m n root same = trees_reach-same Single Long m n 0 root same

@@ -1,0 +1,109 @@
+ghost use Rattle.std.specs.Prelude.{◌≡◌, ◌∷◌, [], true, length, IfOk, IfErr, None, Some};
+ghost use Rattle.std.specs.BTreeMap.{insert_entry};
+ghost use Rattle.std.specs.Ordering.{nat_cmp};
+ghost use Rattle.tree_images.specs.Trees.{tree_pairs};
+ghost use Rattle.key_order.specs.Pairs.{lookup_pair};
+ghost use Rattle.store_api.specs.Parts.{Owns};
+ghost use Rattle.store_api.specs.Units.{MayDo};
+ghost use Rattle.attr_images.specs.Postings.{index_of};
+ghost use Rattle.attr_index.specs.Index.{list_of, with_posting};
+ghost use Rattle.attr_types.specs.Value.{type_of};
+ghost use Rattle.enum_dictionary.specs.Dictionaries.{beside};
+ghost use Rattle.posting_store.specs.Changes.{MakesWithin, RefusesSome};
+ghost use Rattle.value_index.specs.Changes.{add_most, MakesIndex};
+ghost use Rattle.value_index.specs.Indexes.{index_part, IsIndex};
+
+use attr_types::{Doc, Value};
+use entry_ref::EntryRef;
+use enum_dictionary::{find, set};
+use posting_store::{Posting, add as add_posting};
+use store_api::{Store, StoreError};
+use unique_store::add as add_value;
+
+/// Gives a value that no document has its first one.
+#[tactic(none)]
+fn add_new<const OFFSET_BITS: u32, S: Store<OFFSET_BITS>>(
+    store: &mut S,
+    root: EntryRef<OFFSET_BITS>,
+    value: &Value,
+    doc: Doc,
+    weight: i32,
+) -> Result<EntryRef<OFFSET_BITS>, StoreError>
+    requires unit { (S.ledger store.old).unit ≡ true }
+    requires index { IsIndex (type_of value.now) (S.records store.old) root }
+    requires owns { Owns (S.ledger store.old) (S.records store.old) (index_part root ∷ []) }
+    requires new { lookup_pair (beside value.now (S.records store.old)) (tree_pairs (S.records store.old) root) ≡ None }
+    ensures makes { IfOk result (MakesIndex (type_of value.now) (S.ledger store.old) (S.ledger store.new)
+        (S.records store.old) (S.records store.new) root.entry
+        (with_posting value.now doc weight (index_of (type_of value.now) (S.records store.old) root.entry))) }
+    ensures counts { MakesWithin (S.ledger store.old) (S.ledger store.new) (add_most value.now (S.records store.old) root.entry
+        (length (insert_entry nat_cmp (list_of value.now (index_of (type_of value.now) (S.records store.old) root.entry)) doc weight))) }
+    ensures refuses { IfErr result (RefusesSome (S.ledger store.old) (S.ledger store.new)) }
+    ensures may { MayDo (S.ledger store.old) (S.ledger store.new) }
+{
+    let key = add_value(store, value)?;
+    let list = add_posting(store, Posting::EMPTY, doc, weight, false, 0)?;
+    set(store, root, value, key, list.word())
+}
+
+/// Puts a document into the list of a value that is there.
+#[tactic(none)]
+fn add_more<const OFFSET_BITS: u32, S: Store<OFFSET_BITS>>(
+    store: &mut S,
+    root: EntryRef<OFFSET_BITS>,
+    value: &Value,
+    key: EntryRef<OFFSET_BITS>,
+    list: Posting,
+    doc: Doc,
+    weight: i32,
+) -> Result<EntryRef<OFFSET_BITS>, StoreError>
+    requires unit { (S.ledger store.old).unit ≡ true }
+    requires index { IsIndex (type_of value.now) (S.records store.old) root }
+    requires owns { Owns (S.ledger store.old) (S.records store.old) (index_part root ∷ []) }
+    requires found { lookup_pair (beside value.now (S.records store.old)) (tree_pairs (S.records store.old) root)
+        ≡ Some (key, list) }
+    ensures makes { IfOk result (MakesIndex (type_of value.now) (S.ledger store.old) (S.ledger store.new)
+        (S.records store.old) (S.records store.new) root.entry
+        (with_posting value.now doc weight (index_of (type_of value.now) (S.records store.old) root.entry))) }
+    ensures counts { MakesWithin (S.ledger store.old) (S.ledger store.new) (add_most value.now (S.records store.old) root.entry
+        (length (insert_entry nat_cmp (list_of value.now (index_of (type_of value.now) (S.records store.old) root.entry)) doc weight))) }
+    ensures refuses { IfErr result (RefusesSome (S.ledger store.old) (S.ledger store.new)) }
+    ensures may { MayDo (S.ledger store.old) (S.ledger store.new) }
+{
+    let next = add_posting(store, list, doc, weight, false, 0)?;
+    set(store, root, value, key, next.word())
+}
+
+/// Puts a document into the list of a value, or replaces its weight there. The answer is the root of the new index.
+#[tactic(none)]
+pub fn add<const OFFSET_BITS: u32, S: Store<OFFSET_BITS>>(
+    store: &mut S,
+    root: EntryRef<OFFSET_BITS>,
+    value: &Value,
+    doc: Doc,
+    weight: i32,
+) -> Result<EntryRef<OFFSET_BITS>, StoreError>
+    requires unit { (S.ledger store.old).unit ≡ true }
+    requires index { IsIndex (type_of value.now) (S.records store.old) root }
+    requires owns { Owns (S.ledger store.old) (S.records store.old) (index_part root ∷ []) }
+    ensures makes { IfOk result (MakesIndex (type_of value.now) (S.ledger store.old) (S.ledger store.new)
+        (S.records store.old) (S.records store.new) root.entry
+        (with_posting value.now doc weight (index_of (type_of value.now) (S.records store.old) root.entry))) }
+    ensures counts { MakesWithin (S.ledger store.old) (S.ledger store.new) (add_most value.now (S.records store.old) root.entry
+        (length (insert_entry nat_cmp (list_of value.now (index_of (type_of value.now) (S.records store.old) root.entry)) doc weight))) }
+    ensures refuses { IfErr result (RefusesSome (S.ledger store.old) (S.ledger store.new)) }
+    ensures may { MayDo (S.ledger store.old) (S.ledger store.new) }
+{
+    match find(store, root, value) {
+        Some(entry) => add_more(
+            store,
+            root,
+            value,
+            entry.key,
+            Posting::from_word(entry.posting),
+            doc,
+            weight,
+        ),
+        None => add_new(store, root, value, doc, weight),
+    }
+}

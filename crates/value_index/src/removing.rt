@@ -1,0 +1,89 @@
+ghost use Rattle.std.specs.Prelude.{◌≡◌, ◌∷◌, [], true, length, IsSome, IfOk, IfErr, Some};
+ghost use Rattle.std.specs.BTreeMap.{is_at};
+ghost use Rattle.std.specs.Map.{lookup as lookup_in, remove_entry};
+ghost use Rattle.std.specs.Ordering.{nat_cmp};
+ghost use Rattle.tree_images.specs.Trees.{tree_pairs};
+ghost use Rattle.key_order.specs.Pairs.{lookup_pair};
+ghost use Rattle.store_api.specs.Parts.{Owns};
+ghost use Rattle.store_api.specs.Units.{MayDo};
+ghost use Rattle.attr_images.specs.Postings.{index_of};
+ghost use Rattle.attr_index.specs.Index.{list_of, without_posting};
+ghost use Rattle.attr_types.specs.Value.{type_of};
+ghost use Rattle.enum_dictionary.specs.Dictionaries.{beside};
+ghost use Rattle.posting_store.specs.Changes.{MakesWithin, RefusesSome};
+ghost use Rattle.value_index.specs.Changes.{change_most, MakesIndex};
+ghost use Rattle.value_index.specs.Indexes.{index_part, IsIndex};
+
+use attr_types::{Doc, Value};
+use entry_ref::EntryRef;
+use enum_dictionary::{find, remove as remove_pair, set};
+use posting_store::{Posting, remove as remove_posting};
+use store_api::{Store, StoreError, drop_one};
+
+/// Takes a document out of the list of a value that is there, and the value where its list is empty then.
+#[tactic(none)]
+fn remove_from<const OFFSET_BITS: u32, S: Store<OFFSET_BITS>>(
+    store: &mut S,
+    root: EntryRef<OFFSET_BITS>,
+    value: &Value,
+    key: EntryRef<OFFSET_BITS>,
+    list: Posting,
+    doc: Doc,
+) -> Result<EntryRef<OFFSET_BITS>, StoreError>
+    requires unit { (S.ledger store.old).unit ≡ true }
+    requires index { IsIndex (type_of value.now) (S.records store.old) root }
+    requires owns { Owns (S.ledger store.old) (S.records store.old) (index_part root ∷ []) }
+    requires found { lookup_pair (beside value.now (S.records store.old)) (tree_pairs (S.records store.old) root)
+        ≡ Some (key, list) }
+    requires there { IsSome (lookup_in (is_at (nat_cmp doc))
+        (list_of value.now (index_of (type_of value.now) (S.records store.old) root))) }
+    ensures makes { IfOk result (MakesIndex (type_of value.now) (S.ledger store.old) (S.ledger store.new)
+        (S.records store.old) (S.records store.new) root.entry
+        (without_posting value.now doc (index_of (type_of value.now) (S.records store.old) root.entry))) }
+    ensures counts { MakesWithin (S.ledger store.old) (S.ledger store.new) (change_most value.now (S.records store.old) root.entry
+        (length (remove_entry (is_at (nat_cmp doc)) (list_of value.now (index_of (type_of value.now) (S.records store.old) root.entry))))) }
+    ensures refuses { IfErr result (RefusesSome (S.ledger store.old) (S.ledger store.new)) }
+    ensures may { MayDo (S.ledger store.old) (S.ledger store.new) }
+{
+    let next = remove_posting(store, list, doc, false, 0)?;
+    if next.word() != 0 {
+        return set(store, root, value, key, next.word());
+    }
+    let left = remove_pair(store, root, value)?;
+    drop_one(store, key);
+    Ok(left)
+}
+
+/// Takes a document that is there out of the list of a value. The answer is the root of the new index, 0 where no
+/// value is left.
+pub fn remove<const OFFSET_BITS: u32, S: Store<OFFSET_BITS>>(
+    store: &mut S,
+    root: EntryRef<OFFSET_BITS>,
+    value: &Value,
+    doc: Doc,
+) -> Result<EntryRef<OFFSET_BITS>, StoreError>
+    requires unit { (S.ledger store.old).unit ≡ true }
+    requires index { IsIndex (type_of value.now) (S.records store.old) root }
+    requires owns { Owns (S.ledger store.old) (S.records store.old) (index_part root ∷ []) }
+    requires there { IsSome (lookup_in (is_at (nat_cmp doc))
+        (list_of value.now (index_of (type_of value.now) (S.records store.old) root))) }
+    ensures makes { IfOk result (MakesIndex (type_of value.now) (S.ledger store.old) (S.ledger store.new)
+        (S.records store.old) (S.records store.new) root.entry
+        (without_posting value.now doc (index_of (type_of value.now) (S.records store.old) root.entry))) }
+    ensures counts { MakesWithin (S.ledger store.old) (S.ledger store.new) (change_most value.now (S.records store.old) root.entry
+        (length (remove_entry (is_at (nat_cmp doc)) (list_of value.now (index_of (type_of value.now) (S.records store.old) root.entry))))) }
+    ensures refuses { IfErr result (RefusesSome (S.ledger store.old) (S.ledger store.new)) }
+    ensures may { MayDo (S.ledger store.old) (S.ledger store.new) }
+{
+    match find(store, root, value) {
+        Some(entry) => remove_from(
+            store,
+            root,
+            value,
+            entry.key,
+            Posting::from_word(entry.posting),
+            doc,
+        ),
+        None => unreachable!(),
+    }
+}
