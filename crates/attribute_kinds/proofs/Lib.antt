@@ -1,0 +1,16 @@
+pub mod TreeLists
+pub mod PartLists
+pub mod Columns
+pub mod Walk
+pub mod FieldSteps
+pub mod Reading
+pub mod Units
+pub mod StepLemmas
+pub mod Holding
+pub mod Committing
+pub mod ApplyLemmas
+pub mod Opening
+pub mod RootLemmas
+pub mod CommitLemmas
+pub mod CommitViews
+pub mod Taking

@@ -1,0 +1,52 @@
+use Rattle.std.proofs.Common.{Some, arith, refl}
+use Rattle.std.proofs.lemmas.Result.{err_from_is_err_and}
+use Rattle.attr_types.specs.declared.op.Op.TheVariants.{Put}
+use Rattle.attribute_kinds.specs.Fields.{trees_of}
+use Rattle.attribute_kinds.proofs.StepLemmas.{document_fits_fields, made_step}
+use Rattle.attribute_kinds.proofs.step.put_document.Goals as goal
+
+pub change_unit-requires : goal.change_unit-requires
+change_unit-requires g c = (
+  omega arith,
+  (
+    c.requires.unit,
+    (
+      c.requires.sized,
+      (
+        c.requires.fields,
+        (
+          c.requires.owns,
+          (
+            c.requires.fits.0,
+            (
+              c.requires.there,
+              (
+                tt,
+                document_fits_fields c.args.fields.now c.args.items.now c.requires.fits.1,
+              ),
+            ),
+          ),
+        ),
+      ),
+    ),
+  ),
+)
+
+pub returns-in_err-next-clause-steps : goal.returns-in_err-next-clause-steps
+returns-in_err-next-clause-steps g c =
+    let p = err_from_is_err_and c.from_residual.result c.from_residual.ensures.1 in
+    rw (p.1, p.2) (record { left = c.in_err-next.ensures.left; refused = c.in_err-next.ensures.refused })
+
+pub returns-in_err-next-clause-keeps : goal.returns-in_err-next-clause-keeps
+returns-in_err-next-clause-keeps g c = c.change_unit.ensures.keeps
+
+pub returns-clause-keeps : goal.returns-clause-keeps
+returns-clause-keeps g c = c.change_unit.ensures.keeps
+
+pub returns-clause-steps : goal.returns-clause-steps
+returns-clause-steps g c =
+    let m = g.S.Frozen.records c.args.store.now in
+    let fields = c.args.fields.now in
+    let trees = trees_of fields c.args.roots.now in
+    made_step fields (g.S.Store.ledger c.args.store.now) (g.S.Store.ledger c.change_unit.new.store) m (g.S.Frozen.records c.change_unit.new.store) trees (Put c.args.doc c.args.items.now) c.args.doc (Some c.args.items.now)
+    c.in_ok-next.next.items c.in_ok-next.ensures.sized c.in_ok-next.ensures.changes refl

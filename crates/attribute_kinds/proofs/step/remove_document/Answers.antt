@@ -1,0 +1,42 @@
+use Rattle.std.proofs.Common.{None, arith, refl, rules}
+use Rattle.std.proofs.lemmas.Result.{err_from_is_err_and}
+use Rattle.std.specs.Option.{option_copied}
+use Rattle.attr_types.specs.declared.op.Op.TheVariants.{Remove}
+use Rattle.attribute_kinds.specs.Fields.{trees_of}
+use Rattle.attribute_kinds.specs.Views.{table_at}
+use Rattle.attribute_kinds.proofs.StepLemmas.{remove_made, remove_skipped, made_step, keeps_same}
+use Rattle.attribute_kinds.proofs.step.remove_document.Goals as goal
+
+pub returns-then-is_none-clause-steps : goal.returns-then-is_none-clause-steps
+returns-then-is_none-clause-steps g c = record {
+  step_is = remove_skipped c.args.fields.now (table_at (g.S.Frozen.records c.args.store.now) (trees_of c.args.fields.now c.args.roots.now)) c.args.doc (option_copied c.args.old) c.requires.there
+      (search rules);
+  store_is = refl;
+}
+
+pub returns-then-is_none-clause-keeps : goal.returns-then-is_none-clause-keeps
+returns-then-is_none-clause-keeps g c = keeps_same (g.S.Store.ledger c.args.store.now)
+
+pub change_unit-requires : goal.change_unit-requires
+change_unit-requires g c =
+    (omega arith, (c.requires.unit, (c.requires.sized, (c.requires.fields, (c.requires.owns, (c.requires.fits, (c.requires.there, (search rules, tt))))))))
+
+pub returns-in_err-next-clause-steps : goal.returns-in_err-next-clause-steps
+returns-in_err-next-clause-steps g c =
+    let p = err_from_is_err_and c.from_residual.result c.from_residual.ensures.1 in
+    rw (p.1, p.2) (record { left = c.in_err-next.ensures.left; refused = c.in_err-next.ensures.refused })
+
+pub returns-in_err-next-clause-keeps : goal.returns-in_err-next-clause-keeps
+returns-in_err-next-clause-keeps g c = c.change_unit.ensures.keeps
+
+pub returns-clause-keeps : goal.returns-clause-keeps
+returns-clause-keeps g c = c.change_unit.ensures.keeps
+
+pub returns-clause-steps : goal.returns-clause-steps
+returns-clause-steps g c =
+    let m = g.S.Frozen.records c.args.store.now in
+    let fields = c.args.fields.now in
+    let trees = trees_of fields c.args.roots.now in
+    made_step fields (g.S.Store.ledger c.args.store.now) (g.S.Store.ledger c.change_unit.new.store) m (g.S.Frozen.records c.change_unit.new.store) trees (Remove c.args.doc) c.args.doc None
+    c.in_ok-next.next.items c.in_ok-next.ensures.sized c.in_ok-next.ensures.changes
+    (remove_made fields (table_at m trees) c.args.doc (option_copied c.args.old) c.requires.there (search rules))

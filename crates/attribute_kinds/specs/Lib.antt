@@ -1,0 +1,7 @@
+pub mod Views
+pub mod Fields
+pub mod Calls
+pub mod Steps
+pub mod Standing
+pub mod Refusals
+pub mod Commits

@@ -1,0 +1,27 @@
+-- What holds of attributes between calls.
+use Rattle.std.specs.Prelude.{◌≡◌, ℕ, ◌≤◌, List, length}
+use Rattle.image_base.specs.Images.{words_at}
+use Rattle.image_base.specs.Records.{Records}
+use Rattle.arena_api.specs.Works.{last_image}
+use Rattle.store_api.specs.Ledgers.{Ledger}
+use Rattle.attr_field.specs.declared.roots.FieldRoots.{FieldRoots}
+use Rattle.attr_images.specs.Images.{IsLawfulImage, operations_at}
+use Rattle.attr_images.specs.Shapes.{shape_of, types_of}
+use Rattle.attr_types.specs.declared.field.TheConstants.{MOST_FIELDS}
+use Rattle.attr_types.specs.declared.field.Field.{Field}
+use Rattle.attribute_kinds.specs.Fields.{HoldsAttributes, trees_of}
+
+-- the last commit: its root record, its number, and how many operations it has
+pub record IsLast {H : Type 0} (ledger : Ledger H) (fields : List Field) (root commit operations : ℕ) : Type 0 where
+  pub root_is : (last_image ledger.work.commits).root ≡ root
+  pub lawful : IsLawfulImage (shape_of (types_of fields)) (words_at (last_image ledger.work.commits)) root
+  pub operations_are : operations_at (words_at (last_image ledger.work.commits)) root ≡ operations
+  pub number : commit ≡ ledger.work.commits.last
+
+pub record StandsAttribute {H : Type 0} {bits : ℕ} (ledger : Ledger H) (m : Records) (fields : List Field)
+    (roots : List (FieldRoots bits)) (root commit operations : ℕ) : Type 0 where
+  pub sized : length roots ≡ length fields
+  pub few : length fields ≤ MOST_FIELDS
+  pub shape : ledger.shape ≡ shape_of (types_of fields)
+  pub holds : HoldsAttributes ledger m fields (trees_of fields roots) root
+  pub last : IsLast ledger fields root commit operations

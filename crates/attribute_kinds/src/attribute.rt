@@ -1,0 +1,284 @@
+ghost use Rattle.std.specs.Prelude.{◌≡◌, ◌<◌, ◌≤◌, ◌+◌, ◌-◌, ◌^◌, [], false, length, IfOk, IfErr, OnOk, OnErr, Ok, Err, replicate};
+ghost use Rattle.image_base.specs.Images.{words_at};
+ghost use Rattle.arena_api.specs.Calls.{IsFresh, told_after};
+ghost use Rattle.arena_api.specs.Works.{last_image};
+ghost use Rattle.attr_changes.specs.declared.applied.Applied.TheVariants.{Skipped};
+ghost use Rattle.attr_images.specs.Images.{IsLawfulImage, table_of, operations_at};
+ghost use Rattle.attr_images.specs.Shapes.{shape_of, types_of};
+ghost use Rattle.attr_types.specs.Lawful.{OpFits};
+ghost use Rattle.attr_types.specs.Table.{after_op};
+ghost use Rattle.attr_types.specs.declared.field.TheConstants.{MOST_FIELDS};
+ghost use Rattle.attribute_kinds.specs.Fields.{no_roots};
+ghost use Rattle.attribute_kinds.specs.Calls.{applied_to, KeepsStore, LeavesEntries, RefusesOperation};
+ghost use Rattle.attribute_kinds.specs.Calls.{RefusesCommit, CommitsImage, HasCommit};
+
+use crate::answers::{AttrError, CommitInfo, Published, refusal};
+use crate::commit::commit_attributes;
+use crate::step::step;
+use arena_api::Work;
+use attr_changes::Applied;
+use attr_field::{FieldRoots, field_law};
+use attr_images::AttrLayout;
+use attr_types::{Fields, Op};
+use entry_ref::EntryRef;
+use entry_store::{EntryStore, NoMemory};
+use frozen_api::Frozen;
+use std::alloc::{AllocError, Global};
+use std::marker::Model;
+use store_api::Store;
+
+/// The attributes of a collection, up to eight, in a store of their own. Operations are applied one by one, each
+/// whole or not at all, and what was applied is committed as one image.
+#[derive(Drop)]
+pub struct Attribute<const OFFSET_BITS: u32, S: Store<OFFSET_BITS, Layout = AttrLayout>> {
+    store: S,
+    fields: Fields,
+    roots: Vec<FieldRoots<OFFSET_BITS>>,
+    operations: u32,
+    last: Published<OFFSET_BITS>,
+}
+
+impl<const OFFSET_BITS: u32, S: Store<OFFSET_BITS, Layout = AttrLayout>> Model
+    for Attribute<OFFSET_BITS, S> {
+    ghost use Rattle.image_base.specs.Images.{words_at};
+    ghost use Rattle.arena_api.specs.Works.{last_image};
+    ghost use Rattle.attr_images.specs.Images.{table_of};
+    ghost use Rattle.attr_images.specs.Shapes.{shape_of, types_of};
+    ghost use Rattle.attribute_kinds.specs.Fields.{trees_of};
+    ghost use Rattle.attribute_kinds.specs.Standing.{StandsAttribute};
+    ghost use Rattle.attribute_kinds.specs.Views.{AttributeView, table_at};
+
+    ghost Value = { AttributeView S };
+
+    ghost view = { λ a. record {
+      store = a.store;
+      fields = a.fields;
+      trees = trees_of a.fields a.roots.items;
+      table = table_at (S.records a.store) (trees_of a.fields a.roots.items);
+      operations = a.operations;
+      root = a.last.root;
+      committed = table_of (shape_of (types_of a.fields)) (words_at (last_image (S.ledger a.store).work.commits)) a.last.root;
+      committed_operations = a.last.operations;
+    } };
+
+    ghost invariant = { λ a. StandsAttribute (S.ledger a.store) (S.records a.store) a.fields a.roots.items
+        a.last.root a.last.commit a.last.operations };
+}
+
+impl<const OFFSET_BITS: u32, W: Work<OFFSET_BITS, Layout = AttrLayout>> Attribute<
+    OFFSET_BITS,
+    EntryStore<OFFSET_BITS, W>,
+> {
+    /// Attributes without a document, over a work of which nothing is committed or handed out yet.
+    #[tactic(none)]
+    pub fn create(alloc: Global, work: W, fields: &Fields, dense: bool) -> Result<Self, NoMemory<W>>
+        requires some { 0 < length fields.now }
+        requires few { length fields.now ≤ MOST_FIELDS }
+        requires shape { W.shape work ≡ shape_of (types_of fields.now) }
+        requires fresh { IsFresh (W.knows work) }
+        requires dense { dense ≡ false }
+        ensures fields { IfOk result (λ a. a.fields ≡ fields.now) }
+        ensures table { IfOk result (λ a. a.table ≡ []) }
+        ensures operations { IfOk result (λ a. a.operations ≡ 0) }
+        ensures root { IfOk result (λ a. a.root ≡ 0) }
+        ensures work { IfOk result (λ a. (⟦<EntryStore<OFFSET_BITS, W> as Store<OFFSET_BITS>>⟧.ledger a.store).work ≡ W.knows work) }
+        ensures left { IfErr result (λ e. e.work ≡ work) }
+    {
+        let _ = dense;
+        field_law();
+        let Ok(own) = copied_fields(fields) else {
+            return Err(NoMemory { work });
+        };
+        let Ok(roots) = empty_roots(alloc, fields.len()) else {
+            return Err(NoMemory { work });
+        };
+        let store = EntryStore::create(alloc, work)?;
+        Ok(Attribute {
+            store,
+            fields: own,
+            roots,
+            operations: 0,
+            last: Published {
+                root: EntryRef::from_raw(0),
+                commit: 0,
+                operations: 0,
+            },
+        })
+    }
+
+    /// The work with all that was committed, and the last commit.
+    #[tactic(none)]
+    pub fn into_work(self) -> (W, Published<OFFSET_BITS>)
+        ensures knows { W.knows result.0 ≡ (⟦<EntryStore<OFFSET_BITS, W> as Store<OFFSET_BITS>>⟧.ledger self.store).work }
+        ensures shape { W.shape result.0 ≡ shape_of (types_of self.fields) }
+        ensures root { result.1.root ≡ self.root }
+        ensures commit { result.1.commit ≡ (W.knows result.0).commits.last }
+        ensures operations { result.1.operations ≡ self.committed_operations }
+        ensures lawful { IsLawfulImage (shape_of (types_of self.fields)) (W.records result.0) self.root }
+        ensures table { table_of (shape_of (types_of self.fields)) (W.records result.0) self.root ≡ self.committed }
+        ensures published { operations_at (W.records result.0) self.root ≡ self.committed_operations }
+    {
+        (self.store.into_work(), self.last)
+    }
+}
+
+impl<const OFFSET_BITS: u32, S: Store<OFFSET_BITS, Layout = AttrLayout>> Attribute<OFFSET_BITS, S> {
+    /// The store with all that was committed, and the last commit.
+    #[tactic(none)]
+    pub fn into_store(self) -> (S, Published<OFFSET_BITS>)
+        ensures store { result.0 ≡ self.store }
+        ensures shape { S.shape result.0 ≡ shape_of (types_of self.fields) }
+        ensures root { result.1.root ≡ self.root }
+        ensures number { result.1.commit ≡ (S.ledger result.0).work.commits.last }
+        ensures operations { result.1.operations ≡ self.committed_operations }
+        ensures commit { HasCommit (S.ledger result.0) self.fields result.1.root self.committed self.committed_operations }
+    {
+        (self.store, self.last)
+    }
+
+    /// How many operations were applied so far, the skipped ones counted.
+    pub fn operations(&self) -> u32
+        ensures operations { result ≡ self.now.operations }
+        ensures commit { HasCommit (S.ledger self.now.store) self.now.fields self.now.root
+            self.now.committed self.now.committed_operations }
+        ensures unit { (S.ledger self.now.store).unit ≡ false }
+    {
+        self.operations
+    }
+
+    /// Applies an operation to the attributes, or skips it. Where it is refused all is as it was, and it may be
+    /// tried again.
+    #[tactic(none)]
+    pub fn apply(&mut self, alloc: Global, op: &Op) -> Result<Applied, AttrError>
+        requires room { self.old.operations < 2 ^ 32 - 1 }
+        requires fits { OpFits self.old.fields op.now }
+        ensures table { OnOk result (self.new.table ≡ after_op self.old.fields self.old.table op.now) }
+        ensures applied { IfOk result (λ applied. applied ≡ applied_to self.old.fields self.old.table op.now) }
+        ensures operations { OnOk result (self.new.operations ≡ self.old.operations + 1) }
+        ensures skips { result ≡ Ok Skipped → self.new ≡ record self.old { operations = self.old.operations + 1 } }
+        ensures left { OnErr result (self.new ≡ record self.old { store = self.new.store }) }
+        ensures entries { OnErr result (LeavesEntries (S.ledger self.old.store) (S.ledger self.new.store)
+            (S.records self.old.store) (S.records self.new.store)) }
+        ensures refused { IfErr result (RefusesOperation (S.ledger self.old.store) (S.ledger self.new.store)) }
+        ensures keeps { KeepsStore (S.ledger self.old.store) (S.ledger self.new.store) }
+        ensures fields { self.new.fields ≡ self.old.fields }
+        ensures root { self.new.root ≡ self.old.root }
+        ensures committed { self.new.committed ≡ self.old.committed }
+        ensures published { self.new.committed_operations ≡ self.old.committed_operations }
+    {
+        match step(
+            alloc,
+            &mut self.store,
+            self.fields.as_slice(),
+            &self.roots,
+            op,
+        ) {
+            Ok(Some(roots)) => {
+                self.roots = roots;
+                self.operations += 1;
+                Ok(Applied::Changed)
+            }
+            Ok(None) => {
+                self.operations += 1;
+                Ok(Applied::Skipped)
+            }
+            Err(error) => Err(refusal(error)),
+        }
+    }
+
+    /// Commits the table and the count of operations. Where it is refused all is as it was, and it may be tried
+    /// again.
+    #[tactic(none)]
+    pub fn commit(&mut self) -> Result<CommitInfo, AttrError>
+        ensures commits { IfOk result (CommitsImage OFFSET_BITS (S.ledger self.old.store) (S.ledger self.new.store)
+            (last_image (S.ledger self.new.store).work.commits)) }
+        ensures number { IfOk result (λ info. info.commit ≡ (S.ledger self.old.store).work.commits.last + 1) }
+        ensures counts { IfOk result (λ info. info.operations ≡ self.old.operations) }
+        ensures committed { OnOk result (self.new.committed ≡ self.old.table) }
+        ensures published { OnOk result (self.new.committed_operations ≡ self.old.operations) }
+        ensures told { OnOk result ((S.ledger self.new.store).work.told
+            ≡ told_after (S.ledger self.old.store).work.told (last_image (S.ledger self.new.store).work.commits)) }
+        ensures table { self.new.table ≡ self.old.table }
+        ensures operations { self.new.operations ≡ self.old.operations }
+        ensures fields { self.new.fields ≡ self.old.fields }
+        ensures left { OnErr result (self.new ≡ record self.old { store = self.new.store }) }
+        ensures entries { OnErr result (LeavesEntries (S.ledger self.old.store) (S.ledger self.new.store)
+            (S.records self.old.store) (S.records self.new.store)) }
+        ensures keeps { OnErr result (KeepsStore (S.ledger self.old.store) (S.ledger self.new.store)) }
+        ensures refused { IfErr result (RefusesCommit (S.ledger self.old.store) (S.ledger self.new.store)) }
+        ensures spent { (S.ledger self.old.store).work.commits.last ≡ (S.ledger self.old.store).work.sizes.commits
+            → result ≡ Err (AttrError.CommitsSpent (S.ledger self.old.store).work.commits.last) }
+    {
+        if self.store.commits_left() == 0 {
+            return Err(AttrError::CommitsSpent {
+                commit: self.last.commit,
+            });
+        }
+        let fields = self.fields.as_slice();
+        match commit_attributes(
+            &mut self.store,
+            fields,
+            &self.roots,
+            self.operations,
+            self.last.root,
+        ) {
+            Ok(made) => {
+                self.last = Published {
+                    root: made.0,
+                    commit: made.1.commit,
+                    operations: self.operations,
+                };
+                Ok(CommitInfo {
+                    commit: made.1.commit,
+                    operations: self.operations,
+                    advance: made.1.advance,
+                    oldest: made.1.oldest,
+                })
+            }
+            Err(error) => Err(refusal(error)),
+        }
+    }
+}
+
+/// The roots of fields without documents.
+fn empty_roots<const OFFSET_BITS: u32>(
+    alloc: Global,
+    count: usize,
+) -> Result<Vec<FieldRoots<OFFSET_BITS>>, AllocError>
+    ensures { IfOk result (λ roots. roots.items ≡ replicate count no_roots) }
+{
+    let empty = FieldRoots {
+        documents: EntryRef::from_raw(0),
+        dictionary: EntryRef::from_raw(0),
+    };
+    vec![in alloc; empty; count]
+}
+
+/// The same fields once more.
+fn copied_fields(fields: &Fields) -> Result<Fields, AllocError>
+    ensures { IfOk result (λ own. own ≡ fields.now) }
+{
+    Ok(fields.clone()?)
+}
+
+/// The work of a store, whose records read as the last commit.
+#[tactic(none)]
+pub fn committed_work<const OFFSET_BITS: u32, W: Work<OFFSET_BITS, Layout = AttrLayout>>(
+    store: EntryStore<OFFSET_BITS, W>,
+    fields: &Fields,
+    root: EntryRef<OFFSET_BITS>,
+) -> W
+    requires lawful { IsLawfulImage (shape_of (types_of fields.now))
+        (words_at (last_image (⟦<EntryStore<OFFSET_BITS, W> as Store<OFFSET_BITS>>⟧.ledger store).work.commits)) root }
+    ensures knows { W.knows result ≡ (⟦<EntryStore<OFFSET_BITS, W> as Store<OFFSET_BITS>>⟧.ledger store).work }
+    ensures shape { W.shape result ≡ ⟦<EntryStore<OFFSET_BITS, W> as Frozen<OFFSET_BITS>>⟧.shape store }
+    ensures image { IsLawfulImage (shape_of (types_of fields.now)) (W.records result) root.entry }
+    ensures table { table_of (shape_of (types_of fields.now)) (W.records result) root.entry ≡ table_of (shape_of (types_of fields.now))
+        (words_at (last_image (⟦<EntryStore<OFFSET_BITS, W> as Store<OFFSET_BITS>>⟧.ledger store).work.commits)) root.entry }
+    ensures published { operations_at (W.records result) root.entry ≡ operations_at
+        (words_at (last_image (⟦<EntryStore<OFFSET_BITS, W> as Store<OFFSET_BITS>>⟧.ledger store).work.commits)) root.entry }
+{
+    let _ = fields;
+    let _ = root;
+    store.into_work()
+}
