@@ -31,13 +31,13 @@ are_pairs type m [] entries documents = tt
 are_pairs type m (p ∷ ps) entries documents = (record { entry = entries.0; documents = documents.0 }, are_pairs type m ps entries.1 documents.1)
 
 module _ (fields : List Field) (m : Records) (root : ℕ) (few : length fields ≤ MOST_FIELDS) (lawful : IsLawfulImage (shape_of (types_of fields)) m root) where
-  abbrev table : Table
+  abbrev pub table : Table
   table = table_of (shape_of (types_of fields)) m root
 
-  field_at : (i : ℕ) (field : Field) → slice_get fields i ≡ Some field → HasField field table m (documents_at m root i) (dictionary_at m root i) i
+  pub field_at : (i : ℕ) (field : Field) → slice_get fields i ≡ Some field → HasField field table m (documents_at m root i) (dictionary_at m root i) i
   field_at i field at = field_is_there fields m root few lawful i field at
 
-  is_indexed : (i : ℕ) (field : Field) → slice_get fields i ≡ Some field → IsIndexed field.value m (dictionary_at m root i)
+  pub is_indexed : (i : ℕ) (field : Field) → slice_get fields i ≡ Some field → IsIndexed field.value m (dictionary_at m root i)
   is_indexed i field at =
       let own = field_at i field at in
       let index = subst (λ column. IsIndexOf column (index_of field.value m (dictionary_at m root i))) own.column own.index in
@@ -87,7 +87,7 @@ module _ (fields : List Field) (m : Records) (root : ℕ) (few : length fields �
       (table_lawful fields m root few lawful) (as_many bits 0 fields) (are_indexes bits 0 fields self_rest) holds
 
   module _ (references : (r : ℕ) → 0 < length (m r) → r < 2 ^ 32) where
-    small : (i : ℕ) (field : Field) → slice_get fields i ≡ Some field → dictionary_at m root i < 2 ^ 32
+    pub small : (i : ℕ) (field : Field) → slice_get fields i ≡ Some field → dictionary_at m root i < 2 ^ 32
     small i field at = told (dictionary_at m root i) (roots_there field.kind field.value m (documents_at m root i) (dictionary_at m root i) (field_at i field at).attribute).1
       where
         told : (r : ℕ) → (0 < r → 0 < length (m r)) → r < 2 ^ 32

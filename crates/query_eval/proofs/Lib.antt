@@ -1,3 +1,4 @@
 pub mod QueryLemmas
 pub mod ImageLemmas
 pub mod CountLemmas
+pub mod ScoreLemmas

@@ -1,54 +1,127 @@
 -- Members of a query.
-use Rattle.std.proofs.Common.{◌≡◌, ◌≤◌, ◌<◌, ℕ, Bool, true, false, ◌&&◌, ◌||◌, List, [], ◌∷◌, length, drop, refl, sym, ap, ◌∙◌, Option, Some, arith}
-use Rattle.std.proofs.Common.{◌+◌, get_or}
+use Rattle.std.proofs.Common.{◌≡◌, ◌≤◌, ◌<◌, ◌+◌, ℕ, Bool, true, false, zero, suc, ◌&&◌, List, [], ◌∷◌, length, drop, get_or, refl, sym, ap, subst, ◌∙◌, Some, arith}
+use Rattle.std.specs.Prelude.{slice_get}
 use Rattle.std.proofs.lemmas.List.{drop_all, at_drop_more}
+use Rattle.std.proofs.lemmas.Option.{slice_get_read}
 use Rattle.attr_index.specs.Index.{Index}
 use Rattle.attr_types.specs.Query.{and, tree_of, trees_of}
 use Rattle.attr_types.specs.declared.query.Query.{Query}
-use Rattle.doc_set.specs.Sets.{has}
-use Rattle.query_index.specs.Found.{found, found_all}
-use Rattle.query_eval.specs.Indexes.{is_common}
+use Rattle.doc_set.specs.Sets.{has, Holds}
+use Rattle.query_index.specs.Found.{found, found_all, is_listed}
+use Rattle.query_eval.specs.Indexes.{AreMatched, IsMatched}
 
-found_and : (queries : List Query) (indexes : List Index) (doc : ℕ) → 0 < length queries
-    → found_all (trees_of queries) indexes doc ≡ found (and (trees_of queries)) indexes doc
-found_and [] indexes doc some = absurd (omega (arith, some))
-found_and (query ∷ queries) indexes doc some = refl
+module _ (indexes : List Index) (doc : ℕ) where
+  -- what all members match a member does
+  member_found : (queries : List Query) (n : ℕ) (query : Query) → slice_get queries n ≡ Some query
+      → (found (tree_of query) indexes doc && found_all (trees_of queries) indexes doc) ≡ found_all (trees_of queries) indexes doc
+  member_found [] n query at = absurd (grind (arith, at))
+  member_found (q ∷ queries) zero query at =
+      ap (λ (r : Query). found (tree_of r) indexes doc && found_all (trees_of (q ∷ queries)) indexes doc) (some_same query q (sym at))
+      ∙ twice (found (tree_of q) indexes doc) (found_all (trees_of queries) indexes doc)
+    where
+      some_same : (a b : Query) → Some a ≡ Some b → a ≡ b
+      some_same a b e = cc
 
-and_true : (b : Bool) → b ≡ (b && true)
-and_true true = refl
-and_true false = refl
+      twice : (a b : Bool) → (a && (a && b)) ≡ (a && b)
+      twice true b = refl
+      twice false b = refl
+  member_found (q ∷ queries) (suc n) query at =
+      inside (found (tree_of query) indexes doc) (found (tree_of q) indexes doc) (found_all (trees_of queries) indexes doc)
+      (member_found queries n query at)
+    where
+      inside : (a b c : Bool) → (a && c) ≡ c → (a && (b && c)) ≡ (b && c)
+      inside true b c h = refl
+      inside false true c h = h
+      inside false false c h = refl
 
--- what is common to all members
-pub common_found : (queries : List Query) (indexes : List Index) (doc n : ℕ) (common : Option (List ℕ)) (docs : List ℕ)
-    → common ≡ Some docs → 0 < n → n ≤ length queries → length queries ≤ n
-    → (is_common common doc && found_all (trees_of (drop n queries)) indexes doc) ≡ found_all (trees_of queries) indexes doc
-    → has docs doc ≡ found (and (trees_of queries)) indexes doc
-common_found queries indexes doc n common docs is some within all whole =
-    and_true (has docs doc)
-    ∙ ap (λ rest. has docs doc && found_all (trees_of rest) indexes doc) (sym (drop_all n queries all))
-    ∙ ap (λ o. is_common o doc && found_all (trees_of (drop n queries)) indexes doc) (sym is)
-    ∙ whole ∙ found_and queries indexes doc (omega (arith, some, within))
+  and_found : (queries : List Query) (n : ℕ) (query : Query) → slice_get queries n ≡ Some query
+      → found_all (trees_of queries) indexes doc ≡ found (and (trees_of queries)) indexes doc
+  and_found [] n query at = absurd (grind (arith, at))
+  and_found (q ∷ queries) n query at = refl
 
-or_false : (b : Bool) → b ≡ (b || false)
-or_false true = refl
-or_false false = refl
+  -- the documents of one member that all match
+  common_found : (queries : List Query) (n : ℕ) (query : Query) (common docs : List ℕ) → slice_get queries n ≡ Some query
+      → has docs doc ≡ found (tree_of query) indexes doc → has common doc ≡ (has docs doc && found_all (trees_of queries) indexes doc)
+      → has common doc ≡ found (and (trees_of queries)) indexes doc
+  common_found queries n query common docs at own is =
+      is ∙ ap (λ b. b && found_all (trees_of queries) indexes doc) own
+      ∙ member_found queries n query at ∙ and_found queries n query at
 
--- where a member leaves none, the whole has none
-pub none_common : (queries : List Query) (indexes : List Index) (doc n : ℕ) (query : Query) (common own gathered : Bool) (docs : List ℕ)
-    → n < length queries → query ≡ get_or queries n query → docs ≡ [] → has docs doc ≡ (common && own)
-    → own ≡ found (tree_of query) indexes doc
-    → (common && found_all (trees_of (drop n queries)) indexes doc) ≡ found_all (trees_of queries) indexes doc
-    → gathered ≡ (gathered || found (and (trees_of queries)) indexes doc)
-none_common queries indexes doc n query common own gathered docs within item empty narrows is whole =
-    or_false gathered
-    ∙ ap (λ b. gathered || b)
-    (told common (found (tree_of query) indexes doc) (found_all (trees_of (drop (n + 1) queries)) indexes doc)
-    (ap (λ xs. has xs doc) (sym empty) ∙ narrows ∙ ap (λ b. common && b) is)
-    ∙ ap (λ q. common && (found (tree_of q) indexes doc && found_all (trees_of (drop (n + 1) queries)) indexes doc)) item
-    ∙ sym (at_drop_more (λ qs. common && found_all (trees_of qs) indexes doc) queries n query within)
-    ∙ whole ∙ found_and queries indexes doc (omega (arith, within)))
-  where
-    told : (a b c : Bool) → false ≡ (a && b) → false ≡ (a && (b && c))
-    told true true c h = cc
-    told true false c h = refl
-    told false b c h = refl
+  -- without members
+  pub none_found : (queries : List Query) (n : ℕ) → (0 < length queries → n < length queries) → length queries ≤ n
+      → is_listed indexes doc ≡ found (and (trees_of queries)) indexes doc
+  none_found [] n within past = refl
+  none_found (q ∷ queries) n within past = let below = within (omega arith) in absurd (omega (arith, below, past))
+
+  -- one member more
+  member_more : (queries : List Query) (n : ℕ) (query : Query) (common next all : Bool) → n < length queries → query ≡ get_or queries n query
+      → next ≡ (common && found (tree_of query) indexes doc)
+      → (common && found_all (trees_of (drop n queries)) indexes doc) ≡ all
+      → (next && found_all (trees_of (drop (n + 1) queries)) indexes doc) ≡ all
+  member_more queries n query common next all within item narrows whole =
+      ap (λ b. b && found_all (trees_of (drop (n + 1) queries)) indexes doc) narrows
+      ∙ apart common (found (tree_of query) indexes doc) (found_all (trees_of (drop (n + 1) queries)) indexes doc)
+      ∙ ap (λ q. common && (found (tree_of q) indexes doc && found_all (trees_of (drop (n + 1) queries)) indexes doc)) item
+      ∙ sym (at_drop_more (λ qs. common && found_all (trees_of qs) indexes doc) queries n query within)
+      ∙ whole
+    where
+      apart : (a b c : Bool) → ((a && b) && c) ≡ (a && (b && c))
+      apart true b c = refl
+      apart false b c = refl
+
+  -- at the end, and where none is left
+  pub all_members : (queries : List Query) (n : ℕ) (common all : Bool) → length queries ≤ n
+      → (common && found_all (trees_of (drop n queries)) indexes doc) ≡ all → common ≡ all
+  all_members queries n common all past whole =
+      and_true common ∙ ap (λ rest. common && found_all (trees_of rest) indexes doc) (sym (drop_all n queries past)) ∙ whole
+    where
+      and_true : (b : Bool) → b ≡ (b && true)
+      and_true true = refl
+      and_true false = refl
+
+  pub none_left : (rest : Bool) (common : List ℕ) (all : Bool) → common ≡ [] → (has common doc && rest) ≡ all → has common doc ≡ all
+  none_left rest common all none whole =
+      ap (λ xs. has xs doc) none ∙ sym (ap (λ xs. has xs doc && rest) none) ∙ whole
+
+pub kept_known : (a b : Bool) → (a ≡ true → b ≡ true) → a ≡ (a && b)
+kept_known true b h = sym (h refl)
+kept_known false b h = refl
+
+pub query_there : (xs queries : List Query) (n : ℕ) (query : Query) → xs ≡ queries → n < length xs → query ≡ get_or xs n query → slice_get queries n ≡ Some query
+query_there xs queries n query same within item = subst (λ qs. slice_get qs n ≡ Some query) same (slice_get_read xs (length xs) n query refl within item)
+
+module _ (indexes : List Index) where
+  -- the documents of one member, and those of them that all match
+  pub common_of : (queries : List Query) (n : ℕ) (query : Query) (common docs : List ℕ) → slice_get queries n ≡ Some query
+      → Holds docs (found (tree_of query) indexes)
+      → (AreMatched docs (slice_get queries n) indexes → (doc : ℕ) → has common doc ≡ (has docs doc && found_all (trees_of queries) indexes doc))
+      → (doc : ℕ) → has common doc ≡ found (and (trees_of queries)) indexes doc
+  common_of queries n query common docs at holds are doc =
+      common_found indexes doc queries n query common docs at (holds.exact doc)
+      (are (subst (λ o. AreMatched docs o indexes) (sym at) (λ other there. sym (holds.exact other) ∙ there)) doc)
+
+  -- what is common to the members so far lies in the documents that there were, and with the members that are left it is what all match
+  abbrev pub IsCommon : List Query → ℕ → List ℕ → List ℕ → ℕ → Type 0
+  IsCommon queries n docs common doc =
+      (has common doc ≡ true → has docs doc ≡ true)
+      × ((has common doc && found_all (trees_of (drop n queries)) indexes doc) ≡ (has docs doc && found_all (trees_of queries) indexes doc))
+
+  pub one_more : (queries : List Query) (n known : ℕ) (query : Query) (docs common next : List ℕ) → slice_get queries n ≡ Some query
+      → n < length queries → query ≡ get_or queries n query → AreMatched docs (slice_get queries known) indexes
+      → ((doc : ℕ) → IsCommon queries n docs common doc)
+      → ((n ≡ known → IsMatched common query indexes) → (doc : ℕ) → has next doc ≡ (has common doc && found (tree_of query) indexes doc))
+      → (doc : ℕ) → IsCommon queries (n + 1) docs next doc
+  one_more queries n known query docs common next at within item matched before narrows doc = (
+    λ there. (before doc).0 (left (has common doc) (found (tree_of query) indexes doc) (sym is ∙ there)),
+    member_more indexes doc queries n query (has common doc) (has next doc) (has docs doc && found_all (trees_of queries) indexes doc) within item is (before doc).1,
+  )
+    where
+      left : (a b : Bool) → (a && b) ≡ true → a ≡ true
+      left true b h = refl
+      left false b h = h
+
+      here : n ≡ known → IsMatched docs query indexes
+      here same = subst (λ o. AreMatched docs o indexes) (ap (slice_get queries) (sym same) ∙ at) matched
+
+      is : has next doc ≡ (has common doc && found (tree_of query) indexes doc)
+      is = narrows (λ same other there. here same other ((before other).0 there)) doc

@@ -1,12 +1,15 @@
 -- The indexes that dictionaries stand for.
-use Rattle.std.specs.Prelude.{ℕ, suc, ◌+◌, ◌*◌, ◌<◌, ◌^◌, Bool, true, List, [], ◌∷◌, length, map, Option, Some, None}
+use Rattle.std.specs.Prelude.{◌≡◌, ℕ, suc, ◌+◌, ◌*◌, ◌<◌, ◌^◌, true, List, [], ◌∷◌, length, map, Option, Some, None}
 use Rattle.std.specs.List.{AllByRecursion}
 use Rattle.image_base.specs.Records.{Records}
 use Rattle.attr_images.specs.Images.{dictionary_at}
 use Rattle.attr_images.specs.Postings.{index_of}
 use Rattle.attr_index.specs.Index.{Index}
+use Rattle.attr_types.specs.Query.{tree_of}
 use Rattle.attr_types.specs.declared.field.Field.{Field}
+use Rattle.attr_types.specs.declared.query.Query.{Query}
 use Rattle.doc_set.specs.Sets.{has}
+use Rattle.query_index.specs.Found.{found}
 use Rattle.query_leaves.specs.Parts.{IsIndexed}
 use Rattle.query_eval.specs.declared.dictionary.Dictionary.{Dictionary}
 
@@ -29,7 +32,11 @@ HasDictionaries m root i [] = Unit {0}
 HasDictionaries m root i (field ∷ fields) =
     (0 < root → 2 + 2 * i < length (m root)) × (dictionary_at m root i < 2 ^ 32) × HasDictionaries m root (suc i) fields
 
--- a document is in all sets so far: in each before the first
-abbrev pub is_common : Option (List ℕ) → ℕ → Bool
-is_common None doc = true
-is_common (Some docs) doc = has docs doc
+-- a query matches all of some documents
+abbrev pub IsMatched : List ℕ → Query → List Index → Type 0
+IsMatched docs query indexes = (doc : ℕ) → has docs doc ≡ true → found (tree_of query) indexes doc ≡ true
+
+-- and one does that may be there
+abbrev pub AreMatched : List ℕ → Option Query → List Index → Type 0
+AreMatched docs None indexes = Unit {0}
+AreMatched docs (Some query) indexes = IsMatched docs query indexes

@@ -12,7 +12,7 @@ use frozen_btree::total;
 use std::alloc::{AllocError, Global};
 
 /// The root that word `i` of the root record names.
-fn root_at<const OFFSET_BITS: u32, F: Frozen<OFFSET_BITS>>(
+pub fn root_at<const OFFSET_BITS: u32, F: Frozen<OFFSET_BITS>>(
     frozen: &mut F,
     root: EntryRef<OFFSET_BITS>,
     i: u32,

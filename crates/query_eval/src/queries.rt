@@ -1,12 +1,13 @@
 //! A query, by the dictionaries of the attributes.
-ghost use Rattle.std.specs.Prelude.{◌≡◌, ◌||◌, ◌&&◌, ℕ, IfOk};
+ghost use Rattle.std.specs.Prelude.{◌≡◌, ◌||◌, ◌&&◌, ℕ, IfOk, slice_get};
 ghost use Rattle.attr_types.specs.Query.{tree_of, trees_of, and, or, one};
 ghost use Rattle.doc_set.specs.Gathers.{is_in};
 ghost use Rattle.doc_set.specs.Sets.{has, Holds};
-ghost use Rattle.query_index.specs.Found.{found, is_listed};
-ghost use Rattle.query_eval.specs.Indexes.{AreIndexed, indexes_in, is_common};
+ghost use Rattle.query_index.specs.Found.{found, found_all, is_listed};
+ghost use Rattle.query_eval.specs.Indexes.{AreIndexed, AreMatched, IsMatched, indexes_in};
 
 use crate::dictionary::Dictionary;
+use crate::sizes::shortest_of;
 use attr_types::{DocList, Leaf, Query};
 use doc_set::Gathered;
 use frozen_api::Frozen;
@@ -59,16 +60,6 @@ fn gather_one<const OFFSET_BITS: u32, F: Frozen<OFFSET_BITS>>(
     }
 }
 
-/// The documents of a member that are among those so far, if there was a member before.
-fn narrowed(alloc: Global, common: Option<DocList>, own: Gathered) -> Result<DocList, AllocError>
-    ensures { IfOk result (λ docs. (doc : ℕ) → has docs doc ≡ (is_common common doc && is_in own doc)) }
-{
-    match common {
-        Some(docs) => own.kept_of(alloc, &docs),
-        None => own.into_list(alloc),
-    }
-}
-
 /// The documents with those that a query matches.
 #[cycle(gathering)]
 fn gather<const OFFSET_BITS: u32, F: Frozen<OFFSET_BITS>>(
@@ -118,7 +109,47 @@ fn gather_some<const OFFSET_BITS: u32, F: Frozen<OFFSET_BITS>>(
     Ok(all)
 }
 
-/// The documents with those that all members match. It ends with the member that leaves none.
+/// The documents that a query matches, ascending.
+#[cycle(gathering)]
+pub fn matching<const OFFSET_BITS: u32, F: Frozen<OFFSET_BITS>>(
+    alloc: Global,
+    frozen: &mut F,
+    dictionaries: &[Dictionary<OFFSET_BITS>],
+    query: &Query,
+) -> Result<DocList, AllocError>
+    requires { AreIndexed OFFSET_BITS (F.records frozen.old) dictionaries.now }
+    ensures docs { IfOk result (λ docs. Holds docs (found (tree_of query.now) (indexes_in OFFSET_BITS (F.records frozen.old) dictionaries.now))) }
+    ensures same { frozen.new ≡ frozen.old }
+{
+    let all = gather(alloc, frozen, dictionaries, query, Gathered::new(alloc))?;
+    all.into_list(alloc)
+}
+
+/// Those of some documents that member `i` matches, which are all where it is the member that is known to match them.
+#[cycle(gathering)]
+fn kept<const OFFSET_BITS: u32, F: Frozen<OFFSET_BITS>>(
+    alloc: Global,
+    frozen: &mut F,
+    dictionaries: &[Dictionary<OFFSET_BITS>],
+    query: &Query,
+    i: usize,
+    known: usize,
+    docs: DocList,
+) -> Result<DocList, AllocError>
+    requires { AreIndexed OFFSET_BITS (F.records frozen.old) dictionaries.now }
+    ensures docs { IfOk result (λ kept.
+        (i ≡ known → IsMatched docs query.now (indexes_in OFFSET_BITS (F.records frozen.old) dictionaries.now))
+        → (doc : ℕ) → has kept doc ≡ (has docs doc && found (tree_of query.now) (indexes_in OFFSET_BITS (F.records frozen.old) dictionaries.now) doc)) }
+    ensures same { frozen.new ≡ frozen.old }
+{
+    if i == known {
+        return Ok(docs);
+    }
+    let own = gather(alloc, frozen, dictionaries, query, Gathered::new(alloc))?;
+    own.kept_of(alloc, &docs)
+}
+
+/// The documents with those that all members match. It begins with the member that has the fewest as far as is known.
 #[cycle(gathering)]
 fn gather_common<const OFFSET_BITS: u32, F: Frozen<OFFSET_BITS>>(
     alloc: Global,
@@ -132,32 +163,40 @@ fn gather_common<const OFFSET_BITS: u32, F: Frozen<OFFSET_BITS>>(
         ≡ (is_in gathered doc || found (and (trees_of queries.now.items)) (indexes_in OFFSET_BITS (F.records frozen.old) dictionaries.now) doc)) }
     ensures same { frozen.new ≡ frozen.old }
 {
-    let mut common = None;
-    for query in queries {
-        let own = gather(alloc, frozen, dictionaries, query, Gathered::new(alloc))?;
-        let docs = narrowed(alloc, common, own)?;
-        if docs.is_empty() {
-            return Ok(gathered);
+    let first = shortest_of(frozen, dictionaries, queries.as_slice());
+    match queries.as_slice().get(first) {
+        Some(query) => {
+            let docs = matching(alloc, frozen, dictionaries, query)?;
+            let common = keep_common(alloc, frozen, dictionaries, queries, first, docs)?;
+            gathered.with_docs(alloc, common.as_slice())
         }
-        common = Some(docs);
-    }
-    match common {
-        Some(docs) => gathered.with_docs(alloc, docs.as_slice()),
         None => gather_listed(alloc, frozen, dictionaries, gathered),
     }
 }
 
-/// The documents that a query matches, ascending.
-pub fn matching<const OFFSET_BITS: u32, F: Frozen<OFFSET_BITS>>(
+/// Those of some documents that all members match, of which one is known to match them. It ends with the member that leaves none.
+#[cycle(gathering)]
+fn keep_common<const OFFSET_BITS: u32, F: Frozen<OFFSET_BITS>>(
     alloc: Global,
     frozen: &mut F,
     dictionaries: &[Dictionary<OFFSET_BITS>],
-    query: &Query,
+    queries: &Vec<Query>,
+    known: usize,
+    docs: DocList,
 ) -> Result<DocList, AllocError>
     requires { AreIndexed OFFSET_BITS (F.records frozen.old) dictionaries.now }
-    ensures docs { IfOk result (λ docs. Holds docs (found (tree_of query.now) (indexes_in OFFSET_BITS (F.records frozen.old) dictionaries.now))) }
+    ensures docs { IfOk result (λ common.
+        AreMatched docs (slice_get queries.now.items known) (indexes_in OFFSET_BITS (F.records frozen.old) dictionaries.now)
+        → (doc : ℕ) → has common doc
+        ≡ (has docs doc && found_all (trees_of queries.now.items) (indexes_in OFFSET_BITS (F.records frozen.old) dictionaries.now) doc)) }
     ensures same { frozen.new ≡ frozen.old }
 {
-    let all = gather(alloc, frozen, dictionaries, query, Gathered::new(alloc))?;
-    all.into_list(alloc)
+    let mut common = docs;
+    for (i, query) in queries.iter().enumerate() {
+        if common.is_empty() {
+            return Ok(common);
+        }
+        common = kept(alloc, frozen, dictionaries, query, i, known, common)?;
+    }
+    Ok(common)
 }

@@ -4,4 +4,4 @@
 mod parts;
 mod weights;
 
-pub use parts::scored;
+pub use parts::{scored, word_of};

@@ -23,7 +23,7 @@ use query_leaves::{gather_list, is_of_type};
 use std::alloc::{AllocError, Global};
 
 /// The word of a value's list, where the dictionary has the value.
-fn word_of<const OFFSET_BITS: u32, F: Frozen<OFFSET_BITS>>(
+pub fn word_of<const OFFSET_BITS: u32, F: Frozen<OFFSET_BITS>>(
     frozen: &mut F,
     root: EntryRef<OFFSET_BITS>,
     value_type: ValueType,

@@ -1,46 +1,103 @@
-use Rattle.std.proofs.Common.{◌≡◌, ◌||◌, ℕ, Bool, List, get_or, refl, length, arith, sym, ap, ◌∙◌, subst}
+use Rattle.std.proofs.Common.{◌≡◌, ◌<◌, ◌||◌, ◌&&◌, ℕ, Bool, List, length, drop, get_or, arith, ap, ◌∙◌, subst}
 use Rattle.std.proofs.lemmas.Result.{IfOk-weaker}
-use Rattle.std.specs.Option.{IsSome}
-use Rattle.attr_types.specs.Query.{tree_of}
+use Rattle.std.specs.Prelude.{slice_get}
+use Rattle.attr_types.specs.Query.{tree_of, trees_of}
 use Rattle.attr_types.specs.declared.query.Query.{Query}
 use Rattle.doc_set.specs.Gathers.{is_in}
-use Rattle.doc_set.specs.Sets.{has}
-use Rattle.query_index.specs.Found.{found}
-use Rattle.query_eval.specs.Indexes.{indexes_in, is_common}
-use Rattle.query_eval.proofs.QueryLemmas.{common_found, none_common}
+use Rattle.doc_set.specs.Sets.{has, Holds}
+use Rattle.query_index.specs.Found.{found, found_all, is_listed}
+use Rattle.query_eval.specs.Indexes.{AreMatched, IsMatched, indexes_in}
+use Rattle.query_eval.proofs.QueryLemmas.{common_of, none_found, one_more, kept_known, query_there, all_members, none_left}
 use Rattle.query_eval.proofs.queries.+gathering.Goals as goal
 
-kept : (a b c : Bool) → a ≡ b → (a || c) ≡ (b || c)
-kept a b c same = cc
+pub kept-returns-then-i-known-clause-docs : goal.kept-returns-then-i-known-clause-docs
+kept-returns-then-i-known-clause-docs g t c = λ known doc. kept_known _ _ (known c.if-i-known.true doc)
 
-pub gather_common-returns-in-Some-clause-docs : goal.gather_common-returns-in-Some-clause-docs
-gather_common-returns-in-Some-clause-docs g t c =
+pub kept-returns-clause-docs : goal.kept-returns-clause-docs
+kept-returns-clause-docs g t c =
     let indexes = indexes_in g.row.OFFSET_BITS (g.F.Frozen.records c.args.frozen.now) c.args.dictionaries.now in
+    IfOk-weaker c.kept_of.result _ _
+    (λ list is. λ known doc. is doc
+    ∙ ap (λ (b : Bool). has c.args.docs doc && b)
+    (c.in_ok-own.ensures.docs doc ∙ ap (λ (b : Bool). b || found (tree_of c.args.query.now) indexes doc) (c.new.ensures doc)))
+    c.kept_of.ensures
+
+pub gather_common-returns-in_ok-common-in-Some-clause-docs : goal.gather_common-returns-in_ok-common-in-Some-clause-docs
+gather_common-returns-in_ok-common-in-Some-clause-docs g t c =
+    let bits = g.row.OFFSET_BITS in
+    let ds = c.args.dictionaries.now in
+    let indexes = indexes_in bits (g.F.Frozen.records c.args.frozen.now) ds in
     let queries = c.args.queries.now.items in
-    let loop = c.loop-query in
-    let same = ap length c.deref-query-items.ensures.value in
+    let first = c.shortest_of-first.result in
+    let query = c.in-Some.query.now in
+    let docs = c.in_ok-docs-in-Some.docs in
+    let common = c.in_ok-common-in-Some.common in
+    let at = query_there c.as_slice-2.result.now queries first query c.as_slice-2.ensures.value c.in-Some.ensures.lookup.3.0 c.in-Some.ensures.lookup.1 in
+    let holds = subst (λ (f : g.row.F.Denot). Holds docs (found (tree_of query) (indexes_in bits (g.F.Frozen.records f) ds))) c.shortest_of-first.ensures.same c.in_ok-docs-in-Some.ensures.docs in
+    let are = subst (λ (f : g.row.F.Denot).
+    AreMatched docs (slice_get queries first) (indexes_in bits (g.F.Frozen.records f) ds) → (doc : ℕ)
+    → has common doc ≡ (has docs doc && found_all (trees_of queries) (indexes_in bits (g.F.Frozen.records f) ds) doc))
+    (c.matching.ensures.same ∙ c.shortest_of-first.ensures.same) c.in_ok-common-in-Some.ensures.docs in
     IfOk-weaker c.with_docs.result _ _
-    (λ all is. λ doc. is doc ∙ kept _ _ _ (loop.invariant.kept doc)
+    (λ all is. λ doc. is doc
     ∙ ap (λ (b : Bool). is_in c.args.gathered doc || b)
-    (ap (λ (xs : List ℕ). has xs doc) c.as_slice.ensures
-    ∙ common_found queries indexes doc loop.query-index loop.common c.in-Some.docs c.in-Some.is
-    (loop.invariant.begun (subst IsSome (sym c.in-Some.is) refl)) (omega (arith, same, loop.auto.query-index-end))
-    (omega (arith, same, c.loop-query-test.false))
-    (loop.invariant.whole doc)))
+    (ap (λ (xs : List ℕ). has xs doc) c.as_slice-in-Some.ensures ∙ common_of indexes queries first query common docs at holds are doc))
     c.with_docs.ensures
 
-pub gather_common-returns-then-is_empty-clause-docs : goal.gather_common-returns-then-is_empty-clause-docs
-gather_common-returns-then-is_empty-clause-docs g t c =
+pub gather_common-returns-in-None-clause-docs : goal.gather_common-returns-in-None-clause-docs
+gather_common-returns-in-None-clause-docs g t c =
+    let bits = g.row.OFFSET_BITS in
+    let ds = c.args.dictionaries.now in
+    let indexes = indexes_in bits (g.F.Frozen.records c.args.frozen.now) ds in
+    let queries = c.args.queries.now.items in
+    let first = c.shortest_of-first.result in
+    let within = subst (λ (qs : List Query). 0 < length qs → first < length qs) c.as_slice.ensures.value c.shortest_of-first.ensures.within in
+    let past = c.in-None.ensures.lookup.3 in
+    let same = ap length c.as_slice-2.ensures.value in
+    IfOk-weaker c.gather_listed.result _ _
+    (λ all is. λ doc. is doc
+    ∙ ap (λ (b : Bool). is_in c.args.gathered doc || b)
+    (ap (λ (f : g.row.F.Denot). is_listed (indexes_in bits (g.F.Frozen.records f) ds) doc) c.shortest_of-first.ensures.same
+    ∙ none_found indexes doc queries first within (omega (arith, same, past))))
+    c.gather_listed.ensures.docs
+
+pub keep_common-returns-then-is_empty-clause-docs : goal.keep_common-returns-then-is_empty-clause-docs
+keep_common-returns-then-is_empty-clause-docs g t c =
     let indexes = indexes_in g.row.OFFSET_BITS (g.F.Frozen.records c.args.frozen.now) c.args.dictionaries.now in
     let queries = c.args.queries.now.items in
-    let loop = c.loop-query in
+    let loop = c.loop-i in
+    λ known doc.
+    none_left indexes doc (found_all (trees_of (drop loop.i queries)) indexes doc) loop.common (has c.args.docs doc && found_all (trees_of queries) indexes doc)
+    (c.is_empty.ensures.0 c.if-is_empty.true) (loop.invariant.matched known doc).1
+
+pub keep_common-returns-clause-docs : goal.keep_common-returns-clause-docs
+keep_common-returns-clause-docs g t c =
+    let indexes = indexes_in g.row.OFFSET_BITS (g.F.Frozen.records c.args.frozen.now) c.args.dictionaries.now in
+    let queries = c.args.queries.now.items in
+    let loop = c.loop-i in
     let same = ap length c.deref-query-items.ensures.value in
-    let item = c.query-item.is ∙ ap (λ (qs : List Query). get_or qs loop.query-index c.query-item.result) c.deref-query-items.ensures.value in
-    λ doc.
-    let own : is_in c.in_ok-own.own doc ≡ found (tree_of c.query-item.result) indexes doc =
-    c.in_ok-own.ensures.docs doc
-    ∙ ap (λ (b : Bool). b || found (tree_of c.query-item.result) (indexes_in g.row.OFFSET_BITS (g.F.Frozen.records loop.frozen) c.args.dictionaries.now) doc) (c.new.ensures doc)
-    ∙ ap (λ (f : g.row.F.Denot). found (tree_of c.query-item.result) (indexes_in g.row.OFFSET_BITS (g.F.Frozen.records f) c.args.dictionaries.now) doc) loop.invariant.same in
-    loop.invariant.kept doc
-    ∙ none_common queries indexes doc loop.query-index c.query-item.result (is_common loop.common doc) (is_in c.in_ok-own.own doc) (is_in c.args.gathered doc) c.in_ok-docs.docs
-    (omega (arith, same, c.loop-query-test.true)) item (c.is_empty.ensures.0 c.if-is_empty.true) (c.in_ok-docs.ensures doc) own (loop.invariant.whole doc)
+    λ known doc.
+    all_members indexes doc queries loop.i (has loop.common doc) (has c.args.docs doc && found_all (trees_of queries) indexes doc)
+    (omega (arith, same, c.loop-i-test.false)) (loop.invariant.matched known doc).1
+
+pub keep_common-loop-i-preserved : goal.keep_common-loop-i-preserved
+keep_common-loop-i-preserved g t c =
+    let bits = g.row.OFFSET_BITS in
+    let ds = c.args.dictionaries.now in
+    let indexes = indexes_in bits (g.F.Frozen.records c.args.frozen.now) ds in
+    let queries = c.args.queries.now.items in
+    let loop = c.loop-i in
+    let query = c.query-item.result in
+    let next = c.in_ok-common.common in
+    let size = ap length c.deref-query-items.ensures.value in
+    let item = c.query-item.is ∙ ap (λ (qs : List Query). get_or qs loop.i query) c.deref-query-items.ensures.value in
+    let at = query_there c.deref-query-items.result.now queries loop.i query c.deref-query-items.ensures.value c.loop-i-test.true c.query-item.is in
+    let narrows = subst (λ (f : g.row.F.Denot).
+    (loop.i ≡ c.args.known → IsMatched loop.common query (indexes_in bits (g.F.Frozen.records f) ds)) → (doc : ℕ)
+    → has next doc ≡ (has loop.common doc && found (tree_of query) (indexes_in bits (g.F.Frozen.records f) ds) doc)) loop.invariant.same c.in_ok-common.ensures.docs in
+    record {
+      same = c.in_ok-common.ensures.same ∙ loop.invariant.same;
+      matched = λ known doc.
+          one_more indexes queries loop.i c.args.known query c.args.docs loop.common next at (omega (arith, size, c.loop-i-test.true)) item known
+          (loop.invariant.matched known) narrows doc;
+    }

@@ -1,10 +1,11 @@
-use Rattle.std.proofs.Common.{◌≡◌, ◌||◌, ◌&&◌, ◌<◌, ℕ, drop}
-use Rattle.std.specs.Option.{IsSome}
+use Rattle.std.proofs.Common.{◌≡◌, ◌||◌, ℕ, drop}
+use Rattle.std.specs.Prelude.{slice_get}
 use Rattle.attr_types.specs.Query.{trees_of}
 use Rattle.doc_set.specs.Gathers.{is_in}
-use Rattle.query_index.specs.Found.{found_all, found_some}
+use Rattle.query_index.specs.Found.{found_some}
 use Rattle.query_eval.proofs.queries.+gathering.Given as goal
-use Rattle.query_eval.specs.Indexes.{indexes_in, is_common}
+use Rattle.query_eval.proofs.QueryLemmas.{IsCommon}
+use Rattle.query_eval.specs.Indexes.{AreMatched, indexes_in}
 
 -- what is there, and what the members that are left bring
 abbrev pub invariant-gather_some-loop-query : goal.invariant-gather_some-loop-query
@@ -16,15 +17,10 @@ invariant-gather_some-loop-query g l =
           ≡ (is_in l.fn.gathered doc || found_some (trees_of l.queries.items) (indexes_in g.row.OFFSET_BITS m l.dictionaries) doc);
     }
 
--- what is common so far, and in all members that are left
-abbrev pub invariant-gather_common-loop-query : goal.invariant-gather_common-loop-query
-invariant-gather_common-loop-query g l =
-    let m = g.F.Frozen.records l.fn.frozen in
+abbrev pub invariant-keep_common-loop-i : goal.invariant-keep_common-loop-i
+invariant-keep_common-loop-i g l =
+    let indexes = indexes_in g.row.OFFSET_BITS (g.F.Frozen.records l.fn.frozen) l.dictionaries in
     record {
       same : l.frozen ≡ l.fn.frozen;
-      kept : (doc : ℕ) → is_in l.gathered doc ≡ is_in l.fn.gathered doc;
-      some : 0 < l.query-index → IsSome l.common;
-      begun : IsSome l.common → 0 < l.query-index;
-      whole : (doc : ℕ) → (is_common l.common doc && found_all (trees_of (drop l.query-index l.queries.items)) (indexes_in g.row.OFFSET_BITS m l.dictionaries) doc)
-          ≡ found_all (trees_of l.queries.items) (indexes_in g.row.OFFSET_BITS m l.dictionaries) doc;
+      matched : AreMatched l.fn.docs (slice_get l.queries.items l.known) indexes → (doc : ℕ) → IsCommon indexes l.queries.items l.i l.fn.docs l.common doc;
     }
