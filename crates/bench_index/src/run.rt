@@ -1,0 +1,161 @@
+use crate::draws::draws;
+use attr_types::{Doc, Text, Value, ValueType};
+use std::alloc::{AllocError, Global};
+use store_api::Store;
+use value_lists::ValueLists;
+
+/// Postings of so many values are drawn; the first of them are added, and the first of those removed.
+#[derive(Clone, Copy)]
+pub struct Load {
+    pub value_type: ValueType,
+    pub zipf: bool,
+    pub values: u32,
+    pub postings: u32,
+    pub adds: u32,
+    pub removes: u32,
+}
+
+/// So many lists of so many documents each are made, and all of them read in each round.
+#[derive(Clone, Copy)]
+pub struct Reads {
+    pub value_type: ValueType,
+    pub values: u32,
+    pub documents: u32,
+    pub rounds: u32,
+}
+
+/// What was counted.
+#[derive(Clone, Copy)]
+pub struct Counts {
+    pub added: u32,
+    pub removed: u32,
+}
+
+/// A text of 20 digits.
+fn text_at(alloc: Global, number: u64) -> Result<Text, AllocError> {
+    let digits = format!(in alloc; "{number}")?;
+    let mut text = String::new(alloc);
+    for _ in digits.len()..20 {
+        text.push_str("0")?;
+    }
+    text.push_str(&digits)?;
+    if text.len() > Text::MAX_LEN {
+        return Text::from_str(alloc, "");
+    }
+    Text::from_str(alloc, &text)
+}
+
+/// Different values, in no order.
+fn values_of(alloc: Global, value_type: ValueType, count: u32) -> Result<Vec<Value>, AllocError> {
+    let mut values = Vec::new(alloc);
+    for number in 0..count {
+        let scattered = u64::from(number).wrapping_mul(0x9E37_79B9_7F4A_7C15);
+        let value = match value_type {
+            ValueType::Long => Value::Long(scattered.cast_signed()),
+            ValueType::Text => Value::Text(text_at(alloc, scattered)?),
+        };
+        values.push(value)?;
+    }
+    Ok(values)
+}
+
+/// The document of posting `i`: each number up to `most` once, in no order.
+fn doc_at(i: u32, most: u32) -> Doc {
+    let most = most.max(1).min(Doc::LAST);
+    Doc::new((u64::from(i) * 611_953 % u64::from(most)) as u32 + 1)
+}
+
+/// Adds the first postings. A store that is full is an error here as well.
+fn add_all<const OFFSET_BITS: u32, S: Store<OFFSET_BITS>>(
+    lists: &mut ValueLists<OFFSET_BITS, S>,
+    values: &[Value],
+    ranks: &[u32],
+    most: u32,
+) -> Result<u32, AllocError> {
+    let mut added: u32 = 0;
+    for rank in ranks {
+        if let Some(value) = values.get(*rank as usize) {
+            if lists.add(value, doc_at(added, most), 1).is_err() {
+                return Err(AllocError);
+            }
+            added = added.saturating_add(1);
+        }
+    }
+    Ok(added)
+}
+
+/// Removes the first postings.
+fn remove_all<const OFFSET_BITS: u32, S: Store<OFFSET_BITS>>(
+    lists: &mut ValueLists<OFFSET_BITS, S>,
+    values: &[Value],
+    ranks: &[u32],
+    most: u32,
+) -> Result<u32, AllocError> {
+    let mut removed: u32 = 0;
+    for rank in ranks {
+        if let Some(value) = values.get(*rank as usize) {
+            if lists.remove(value, doc_at(removed, most)).is_err() {
+                return Err(AllocError);
+            }
+            removed = removed.saturating_add(1);
+        }
+    }
+    Ok(removed)
+}
+
+/// The postings of a run, added and removed.
+pub fn run<const OFFSET_BITS: u32, S: Store<OFFSET_BITS>>(
+    alloc: Global,
+    lists: &mut ValueLists<OFFSET_BITS, S>,
+    load: Load,
+) -> Result<Counts, AllocError> {
+    let values = values_of(alloc, load.value_type, load.values)?;
+    let ranks = draws(alloc, load.zipf, load.values, load.postings)?;
+    let adds = (load.adds as usize).min(ranks.len());
+    let removes = (load.removes as usize).min(ranks.len());
+    let added = add_all(lists, &values, &ranks[..adds], load.postings)?;
+    let removed = remove_all(lists, &values, &ranks[..removes], load.postings)?;
+    Ok(Counts { added, removed })
+}
+
+/// Puts documents into the list of a value.
+fn fill_list<const OFFSET_BITS: u32, S: Store<OFFSET_BITS>>(
+    lists: &mut ValueLists<OFFSET_BITS, S>,
+    value: &Value,
+    documents: u32,
+) -> Result<(), AllocError> {
+    for i in 0..documents {
+        if lists.add(value, doc_at(i, documents), 1).is_err() {
+            return Err(AllocError);
+        }
+    }
+    Ok(())
+}
+
+/// The values of the lists of a run, which are put in.
+pub fn fill_lists<const OFFSET_BITS: u32, S: Store<OFFSET_BITS>>(
+    alloc: Global,
+    lists: &mut ValueLists<OFFSET_BITS, S>,
+    load: Reads,
+) -> Result<Vec<Value>, AllocError> {
+    let values = values_of(alloc, load.value_type, load.values)?;
+    for value in &values {
+        fill_list(lists, value, load.documents)?;
+    }
+    Ok(values)
+}
+
+/// The sum of the documents of all values, so many times.
+pub fn read_lists<const OFFSET_BITS: u32, S: Store<OFFSET_BITS>>(
+    lists: &mut ValueLists<OFFSET_BITS, S>,
+    values: &[Value],
+    rounds: u32,
+) -> u64 {
+    let mut sum: u64 = 0;
+    for _ in 0..rounds {
+        for value in values {
+            sum = sum.wrapping_add(lists.sum(value));
+        }
+    }
+    sum
+}

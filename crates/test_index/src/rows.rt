@@ -1,0 +1,78 @@
+//! Rows of standard input: `TYPE SEED CHANGES VALUES DOCUMENTS PERIOD EVERY BUFFERS`, and then `said LINE`, what the run must come
+//! to. Other lines are remarks.
+use crate::new_store;
+use crate::run::{Load, Told, run};
+use crate::values::values_of;
+use attr_types::ValueType;
+use std::alloc::{AllocError, Global};
+use std::io;
+use value_lists::ValueLists;
+
+fn number_at(row: &str, place: usize) -> u32 {
+    match row.split(' ').skip(place).next() {
+        Some(word) => word.parse::<u32>().unwrap_or(0),
+        None => 0,
+    }
+}
+
+fn load_in(row: &str) -> Load {
+    Load {
+        seed: number_at(row, 0),
+        changes: number_at(row, 1).min(1_000_000),
+        documents: number_at(row, 3),
+        period: number_at(row, 4),
+        every: number_at(row, 5),
+    }
+}
+
+/// A run as a line: whether all was the same, whether lists came over eight documents and back at least ten times, whether
+/// some units were refused, and whether most of the others were accepted.
+fn line_of(alloc: Global, told: Told) -> Result<String, AllocError> {
+    if let Some(turn) = told.differs {
+        return format!(in alloc; "differs after change {turn}");
+    }
+    let mut line = String::from_str(alloc, "same")?;
+    if told.ups >= 10 && told.downs >= 10 {
+        line.push_str(", over eight and back")?;
+    }
+    if told.refused >= 10 {
+        line.push_str(", refused")?;
+    }
+    if told.accepted >= 1000 {
+        line.push_str(", accepted")?;
+    }
+    Ok(line)
+}
+
+fn told(alloc: Global, row: &str, value_type: ValueType) -> Result<String, AllocError> {
+    let values = values_of(alloc, value_type, number_at(row, 2).min(10_000))?;
+    let store = new_store(alloc, number_at(row, 6).max(1).min(1000))?;
+    let mut lists = ValueLists::new(store, value_type);
+    line_of(alloc, run(alloc, &mut lists, &values, load_in(row))?)
+}
+
+pub fn compare(rt: &HostRuntime) -> io::Result<()> {
+    let alloc = rt.alloc();
+    let mut case = String::new(alloc);
+    let mut found = String::new(alloc);
+    let mut compared = 0u32;
+    let mut right = 0u32;
+    for line in rt.lines(alloc) {
+        let line = line?;
+        if let Some(row) = line.strip_prefix("long ") {
+            found = told(alloc, row, ValueType::Long)?;
+            case = String::from_str(alloc, row)?;
+        } else if let Some(row) = line.strip_prefix("text ") {
+            found = told(alloc, row, ValueType::Text)?;
+            case = String::from_str(alloc, row)?;
+        } else if let Some(wanted) = line.strip_prefix("said ") {
+            compared = compared.saturating_add(1);
+            if found.as_str() == wanted {
+                right = right.saturating_add(1);
+            } else {
+                println!(rt; "{case}: {found} in place of {wanted}")?;
+            }
+        }
+    }
+    println!(rt; "rows: {compared} compared, {right} as wanted")
+}
