@@ -1,0 +1,9 @@
+//! Tests of attributes in a store, and of what their commits answer, over their public calls.
+#![tactic(auto)]
+
+#[cfg(test)]
+mod attributes;
+#[cfg(test)]
+mod build;
+#[cfg(test)]
+mod of_rows;
