@@ -2,6 +2,7 @@
 use arena_api::{Advance, Oldest};
 use node_turns::{Committed, Look};
 use std::alloc::AllocError;
+use store_api::StoreError;
 
 #[derive(Clone, Copy, Drop)]
 pub enum Answer {
@@ -13,6 +14,13 @@ pub enum Answer {
     Claimed(u32, u32),
     Committed(Committed),
     NoCommit,
+    /// The reference of a new entry, none of one that was made before.
+    Entry(Option<u32>),
+    /// The same of a node, and its commit.
+    Turned(Option<u32>, Committed),
+    Refused(StoreError),
+    /// How many entries a unit made, how many of them new, and why no more.
+    Made(u32, u32, Option<StoreError>),
     Advanced(Advance),
     Reclaimed(Oldest),
     Count(u32),
@@ -49,6 +57,44 @@ fn push_commit(text: &mut String, committed: Committed) -> Result<(), AllocError
     push_oldest(text, committed.oldest)
 }
 
+fn push_entry(text: &mut String, made: Option<u32>) -> Result<(), AllocError> {
+    match made {
+        Some(reference) => write!(text, "new {reference}"),
+        None => write!(text, "again"),
+    }
+}
+
+fn push_error(text: &mut String, error: StoreError) -> Result<(), AllocError> {
+    match error {
+        StoreError::Full {
+            width,
+            active,
+            held,
+            oldest,
+        } => {
+            write!(text, "full for {width}, {active} active, {held} held, ")?;
+            push_oldest(text, oldest)
+        }
+        StoreError::Memory => write!(text, "no memory"),
+    }
+}
+
+fn push_made(
+    text: &mut String,
+    made: u32,
+    fresh: u32,
+    error: Option<StoreError>,
+) -> Result<(), AllocError> {
+    write!(text, "{made} made, {fresh} new")?;
+    match error {
+        Some(error) => {
+            write!(text, ", ")?;
+            push_error(text, error)
+        }
+        None => Ok(()),
+    }
+}
+
 fn push_look(text: &mut String, look: Look) -> Result<(), AllocError> {
     let Look { commit, whole } = look;
     match whole {
@@ -70,6 +116,14 @@ pub fn push_answer(text: &mut String, answer: Answer) -> Result<(), AllocError> 
         Answer::Claimed(buffer, number) => write!(text, "buffer {buffer}, commit {number}"),
         Answer::Committed(committed) => push_commit(text, committed),
         Answer::NoCommit => write!(text, "no commit"),
+        Answer::Entry(made) => push_entry(text, made),
+        Answer::Turned(made, committed) => {
+            push_entry(text, made)?;
+            write!(text, ", ")?;
+            push_commit(text, committed)
+        }
+        Answer::Refused(error) => push_error(text, error),
+        Answer::Made(made, fresh, error) => push_made(text, made, fresh, error),
         Answer::Advanced(advance) => push_advance(text, advance),
         Answer::Reclaimed(oldest) => push_oldest(text, oldest),
         Answer::Count(count) => write!(text, "{count}"),

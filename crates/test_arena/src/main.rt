@@ -3,6 +3,8 @@
 #![tactic(auto)]
 
 mod answers;
+mod keeping;
+mod marks;
 mod parties;
 mod reading;
 mod rows;

@@ -1,4 +1,4 @@
-//! Rows: `row READERS COMMITS GENERATIONS` begins one, `PARTY TASK = ANSWER` is a step of it. Other lines are remarks.
+//! Rows: `row READERS COMMITS GENERATIONS BUFFERS`, or `store ..`, begins one, `PARTY TASK = ANSWER` is a step of it. Other lines are remarks.
 use crate::answers::push_answer;
 use crate::parties::{Told, answers};
 use crate::steps::{Setting, Step, setting_in, step_in};
@@ -54,9 +54,9 @@ pub fn compare<R: Threads + Sync>(rt: &HostRuntime, threads: &R) -> io::Result<T
     let mut steps = Vec::new(alloc);
     for line in rt.lines(alloc) {
         let line = line?;
-        if let Some(words) = line.strip_prefix("row ") {
+        if let Some(next) = setting_in(&line) {
             compare_row(rt, threads, setting, steps.as_slice(), &mut tally)?;
-            setting = setting_in(words);
+            setting = next;
             steps = Vec::new(alloc);
         } else if let Some(step) = step_in(alloc, &line)? {
             steps.push(step)?;

@@ -7,6 +7,14 @@ pub enum Task {
     Node,
     /// The same with no node.
     Commit,
+    /// A node of a store, with no commit.
+    Put,
+    /// Entries of this width, at most so many, in a unit that is undone.
+    Fill(u32, u32),
+    /// Seals the victim.
+    Seal,
+    /// Finishes the sealed buffer.
+    Finish,
     /// A buffer for entries of this width, and an empty commit.
     Claim(u32),
     HandOut(u32),
@@ -51,6 +59,13 @@ fn task_in(words: &str) -> Task {
     match name {
         "node" => Task::Node,
         "commit" => Task::Commit,
+        "put" => Task::Put,
+        "fill" => {
+            let (width, most) = rest.split_once(' ').unwrap_or((rest, ""));
+            Task::Fill(number_in(width), number_in(most))
+        }
+        "seal" => Task::Seal,
+        "finish" => Task::Finish,
         "claim" => Task::Claim(number_in(rest)),
         "hand-out" => Task::HandOut(number_in(rest)),
         "retire" => Task::Retire,
@@ -85,12 +100,14 @@ pub fn step_in(alloc: Global, line: &str) -> Result<Option<Step>, AllocError> {
     }))
 }
 
-/// What a row is made of: how many readers, and the limits.
+/// What a row is made of: whether the writer is in a store, how many readers there are, the limits, and how many buffers.
 #[derive(Clone, Copy, Default, Drop)]
 pub struct Setting {
+    pub store: bool,
     pub readers: u32,
     pub commits: u32,
     pub generations: u64,
+    pub buffers: u32,
 }
 
 /// The next number of a line, and what follows a space after it.
@@ -99,14 +116,26 @@ fn next_number(words: &str) -> (u64, &str) {
     (number.parse::<u64>().unwrap_or(0), rest)
 }
 
-/// A setting from `READERS COMMITS GENERATIONS`.
-pub fn setting_in(words: &str) -> Setting {
+/// A setting from `READERS COMMITS GENERATIONS BUFFERS`.
+fn setting_of(words: &str, store: bool) -> Setting {
     let (readers, rest) = next_number(words);
     let (commits, rest) = next_number(rest);
-    let (generations, _) = next_number(rest);
+    let (generations, rest) = next_number(rest);
+    let (buffers, _) = next_number(rest);
     Setting {
+        store,
         readers: u32::try_from(readers).unwrap_or(0),
         commits: u32::try_from(commits).unwrap_or(0),
         generations,
+        buffers: u32::try_from(buffers).unwrap_or(0),
     }
+}
+
+/// A setting from `row ..` or `store ..`, if the line is one.
+pub fn setting_in(line: &str) -> Option<Setting> {
+    if let Some(words) = line.strip_prefix("row ") {
+        return Some(setting_of(words, false));
+    }
+    let words = line.strip_prefix("store ")?;
+    Some(setting_of(words, true))
 }
