@@ -1,0 +1,13 @@
+-- Structures in a store, within a unit.
+use Rattle.std.specs.Prelude.{◌≡◌, ℕ, [], ◌∷◌, true}
+use Rattle.image_base.specs.Records.{Records}
+use Rattle.store_api.specs.Ledgers.{Ledger}
+use Rattle.store_api.specs.Parts.{Owns}
+use Rattle.tree_make.specs.Changes.{tree}
+use Rattle.doc_vector.specs.Documents.{IsDocumentMap}
+
+-- a map by document whose nodes are in use
+pub record HoldsMap {H : Type 0} (ledger : Ledger H) (m : Records) (root : ℕ) : Type 0 where
+  pub unit : ledger.unit ≡ true
+  pub map_is : IsDocumentMap m root
+  pub owns : Owns ledger m (tree root ∷ [])
