@@ -8,8 +8,9 @@ use attr_scores::{Ask, Score, scores_of};
 use attr_types::Doc;
 use std::alloc::{AllocError, Global};
 
+/// Writes the line of documents.
 #[tactic(auto, unfolding(crate::specs::Report::answer_line))]
-fn push_documents(text: &mut String, number: u64, docs: &[Doc]) -> Result<(), AllocError>
+pub fn push_documents(text: &mut String, number: u64, docs: &[Doc]) -> Result<(), AllocError>
     ensures { OnOk result (string_bytes text.new ≡ string_bytes text.old
         ++ answer_line number (documents docs.now)) }
 {
@@ -21,8 +22,9 @@ fn push_documents(text: &mut String, number: u64, docs: &[Doc]) -> Result<(), Al
     writeln!(text)
 }
 
+/// Writes the line of documents with their scores.
 #[tactic(auto, unfolding(crate::specs::Report::answer_line))]
-fn push_scores(text: &mut String, number: u64, scores: &[Score]) -> Result<(), AllocError>
+pub fn push_scores(text: &mut String, number: u64, scores: &[Score]) -> Result<(), AllocError>
     ensures { OnOk result (string_bytes text.new ≡ string_bytes text.old
         ++ answer_line number (scored scores.now)) }
 {
@@ -92,8 +94,9 @@ fn count_in(alloc: Global, ask: &Ask, table: &PlainTable) -> Result<usize, Alloc
     }
 }
 
+/// Writes the line of how many documents an answer has.
 #[tactic(auto, unfolding(crate::specs::Report::count_line))]
-fn push_count(text: &mut String, number: u64, count: usize) -> Result<(), AllocError>
+pub fn push_count(text: &mut String, number: u64, count: usize) -> Result<(), AllocError>
     ensures { OnOk result (string_bytes text.new ≡ string_bytes text.old ++ count_line number count) }
 {
     writeln!(text, "{number}: {count}")

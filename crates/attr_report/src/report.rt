@@ -11,15 +11,17 @@ use attr_saver::{column_law, saved_in};
 use attr_scores::Ask;
 use std::alloc::{AllocError, Global};
 
+/// Writes at how many operations the last answers are.
 #[tactic(auto, unfolding(crate::specs::Report::final_line))]
-fn push_final_line(text: &mut String, loaded: u32) -> Result<(), AllocError>
+pub fn push_final_line(text: &mut String, loaded: u32) -> Result<(), AllocError>
     ensures { OnOk result (string_bytes text.new ≡ string_bytes text.old ++ final_line loaded) }
 {
     writeln!(text, "final at {loaded}")
 }
 
+/// Writes how many operations were loaded and skipped.
 #[tactic(auto, unfolding(crate::specs::Report::done_line))]
-fn push_done_line(text: &mut String, loaded: u32, skipped: u32) -> Result<(), AllocError>
+pub fn push_done_line(text: &mut String, loaded: u32, skipped: u32) -> Result<(), AllocError>
     ensures { OnOk result (string_bytes text.new ≡ string_bytes text.old
         ++ done_line loaded skipped) }
 {
@@ -45,16 +47,22 @@ pub fn report_text(
     Ok(text)
 }
 
+/// Writes from what operations were made.
 #[tactic(auto, unfolding(crate::specs::Report::made_line))]
-fn push_made_line(text: &mut String, make: Make) -> Result<(), AllocError>
+pub fn push_made_line(text: &mut String, make: Make) -> Result<(), AllocError>
     ensures { OnOk result (string_bytes text.new ≡ string_bytes text.old ++ made_line make) }
 {
     let Make { count, seed } = make;
     writeln!(text, "made {count} seed {seed}")
 }
 
+/// Writes how many documents there are after all that was loaded.
 #[tactic(auto, unfolding(crate::specs::Report::documents_line))]
-fn push_documents_line(text: &mut String, loaded: u32, documents: usize) -> Result<(), AllocError>
+pub fn push_documents_line(
+    text: &mut String,
+    loaded: u32,
+    documents: usize,
+) -> Result<(), AllocError>
     ensures { OnOk result (string_bytes text.new ≡ string_bytes text.old
         ++ documents_line loaded documents) }
 {

@@ -71,6 +71,21 @@ module _ {A : Type 0} (operations : ℕ → Records → ℕ → ℕ) (answers : 
             (record { commit = refl; lawful_image = later.commit.lawful_image; is = record { count = count; answer = answer } });
       })
 
+  -- the same, by what was asked of the guard under its own sizes and root
+  pub of_question : (reaches : ℕ → Records → ℕ → List ℕ) (z : Sizes) (r g t : ReaderView) (root : ℕ) (round : Round A) → g.sizes ≡ z → root ≡ (image_of g).root → IsLater reaches lawful r g → t ≡ with_state g Idle
+      → round.commit ≡ number_of g → round.operations ≡ operations z.shape (words_at (image_of g)) root → answers z.shape (words_at (image_of g)) root round.answer
+      → MakesRound operations answers lawful r t round
+  of_question reaches z r g t root round same named later is commit count answer =
+      of_guard reaches r g t round later is commit
+      (count ∙ ap (λ (s : Sizes). operations s.shape (words_at (image_of g)) root) (sym same) ∙ ap (λ n. operations g.sizes.shape (words_at (image_of g)) n) named)
+      (subst (λ n. answers g.sizes.shape (words_at (image_of g)) n round.answer) named
+      (subst (λ (s : Sizes). answers s.shape (words_at (image_of g)) root round.answer) (sym same) answer))
+
+  pub lawful_at : (z : Sizes) (g : ReaderView) (root : ℕ) → g.sizes ≡ z → root ≡ (image_of g).root → lawful g.sizes.shape (words_at (image_of g)) (image_of g).root
+      → lawful z.shape (words_at (image_of g)) root
+  lawful_at z g root same named is =
+      subst (λ n. lawful z.shape (words_at (image_of g)) n) (sym named) (subst (λ (s : Sizes). lawful s.shape (words_at (image_of g)) (image_of g).root) same is)
+
   pub no_rounds : (r : ReaderView) → Makes r r []
   no_rounds r = record {
     same_sizes = refl;

@@ -27,7 +27,7 @@ impl<'a, const OFFSET_BITS: u32, L: Layout, Q: Question<OFFSET_BITS, L>, G: Gate
     for Job<'a, OFFSET_BITS, L, Q, G> {
     type Output = Result<Reading<'a, OFFSET_BITS, L, Q::Answer>, AllocError>;
 
-    ghost can_run = { λ job. Unit {0} };
+    ghost can_run = { λ job. Q.fits job.question.now (reader_of job.reader.place.me.0).sizes.shape };
 
     ghost run_gives = { λ job result. IfOk result (λ r.
         MakesRounds Q.operations (Q.answers job.question.now) L.lawful (reader_of job.reader.place.me.0) (reader_of r.reader.place.me.0) r.rounds.items

@@ -1,11 +1,10 @@
 ghost use Rattle.std.specs.Prelude.{◌≡◌, ℕ, IfOk};
 ghost use Rattle.image_base.specs.Records.{Records};
-ghost use Rattle.image_base.specs.Images.{words_at};
-ghost use Rattle.word_arena.specs.Ruled.{reader_of, image_of};
 
+use entry_ref::EntryRef;
+use frozen_api::Frozen;
 use image_base::Layout;
 use std::alloc::{AllocError, Global};
-use word_arena::Guarded;
 
 /// What is asked of a commit in each round.
 pub trait Question<const OFFSET_BITS: u32, L: Layout> {
@@ -17,17 +16,22 @@ pub trait Question<const OFFSET_BITS: u32, L: Layout> {
     /// What is the answer to this at an image.
     ghost answers: { Self → ℕ → Records → ℕ → Self.Answer → Type 0 };
 
-    fn operations(&self, guard: &mut Guarded<'_, OFFSET_BITS, L>) -> u32
-        requires { L.lawful (reader_of guard.old.place.me.0).sizes.shape (words_at (image_of (reader_of guard.old.place.me.0))) (image_of (reader_of guard.old.place.me.0)).root }
-        ensures count { result ≡ operations (reader_of guard.old.place.me.0).sizes.shape (words_at (image_of (reader_of guard.old.place.me.0))) (image_of (reader_of guard.old.place.me.0)).root }
-        ensures same { guard.new ≡ guard.old };
+    /// Of which shapes of images it can be asked.
+    ghost fits: { Self → ℕ → Type 0 };
 
-    fn answer(
+    fn operations<F: Frozen<OFFSET_BITS>>(&self, frozen: &mut F, root: EntryRef<OFFSET_BITS>) -> u32
+        requires lawful { L.lawful (F.shape frozen.old) (F.records frozen.old) root }
+        ensures count { result ≡ operations (F.shape frozen.old) (F.records frozen.old) root.entry }
+        ensures same { frozen.new ≡ frozen.old };
+
+    fn answer<F: Frozen<OFFSET_BITS>>(
         &self,
         alloc: Global,
-        guard: &mut Guarded<'_, OFFSET_BITS, L>,
+        frozen: &mut F,
+        root: EntryRef<OFFSET_BITS>,
     ) -> Result<Self::Answer, AllocError>
-        requires { L.lawful (reader_of guard.old.place.me.0).sizes.shape (words_at (image_of (reader_of guard.old.place.me.0))) (image_of (reader_of guard.old.place.me.0)).root }
-        ensures answer { IfOk result (answers self.now (reader_of guard.old.place.me.0).sizes.shape (words_at (image_of (reader_of guard.old.place.me.0))) (image_of (reader_of guard.old.place.me.0)).root) }
-        ensures same { guard.new ≡ guard.old };
+        requires fits { fits self.now (F.shape frozen.old) }
+        requires lawful { L.lawful (F.shape frozen.old) (F.records frozen.old) root }
+        ensures answer { IfOk result (answers self.now (F.shape frozen.old) (F.records frozen.old) root.entry) }
+        ensures same { frozen.new ≡ frozen.old };
 }

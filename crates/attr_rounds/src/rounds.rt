@@ -55,6 +55,7 @@ fn one_round<'a, const OFFSET_BITS: u32, L: Layout, Q: Question<OFFSET_BITS, L>,
     gate: &G,
     rounds: &mut Vec<Round<Q::Answer>>,
 ) -> Result<Reader<'a, OFFSET_BITS, L>, AllocError>
+    requires fits { Q.fits question.now (reader_of reader.place.me.0).sizes.shape }
     requires few { length rounds.old.items < 2 ^ 32 - 1 }
     ensures rounds { IfOk result (λ next. (start : ReaderView)
         → MakesRounds Q.operations (Q.answers question.now) L.lawful start (reader_of reader.entry.place.me.0) rounds.old.items
@@ -69,8 +70,9 @@ fn one_round<'a, const OFFSET_BITS: u32, L: Layout, Q: Question<OFFSET_BITS, L>,
     });
     let mut guard = guarded(reader);
     let commit = guard.commit();
-    let operations = question.operations(&mut guard);
-    let answer = question.answer(alloc, &mut guard);
+    let root = guard.root();
+    let operations = question.operations(&mut guard, root);
+    let answer = question.answer(alloc, &mut guard, root);
     let reader = guard.release();
     gate.pass(Point::RoundEnd {
         reader: number,
@@ -95,6 +97,7 @@ pub fn go_round<'a, const OFFSET_BITS: u32, L: Layout, Q: Question<OFFSET_BITS, 
     question: &Q,
     gate: &G,
 ) -> Result<Reading<'a, OFFSET_BITS, L, Q::Answer>, AllocError>
+    requires { Q.fits question.now (reader_of reader.place.me.0).sizes.shape }
     ensures rounds { IfOk result (λ r. MakesRounds Q.operations (Q.answers question.now) L.lawful (reader_of reader.entry.place.me.0) (reader_of r.reader.place.me.0) r.rounds.items) }
     ensures count { IfOk result (λ r. length r.rounds.items ≡ count) }
     ensures table { IfOk result (λ r. r.reader.place.table_id ≡ reader.entry.place.table_id) }

@@ -50,12 +50,13 @@ pub fn run_each<R: Threads + Sync, T: Task<Output = A> + Send + Drop, A: Send + 
     )
 }
 
-/// A task beside others of one kind, each in a thread; no thread is started where there are no others.
+/// A task on the caller's own thread, beside others of one kind, each in a thread; no thread is started where there are
+/// no others.
 pub fn run_beside<
     R: Threads + Sync,
-    S: Task<Output = A> + Send + Drop,
+    S: Task<Output = A> + Drop,
     T: Task<Output = B> + Send + Drop,
-    A: Send + Drop,
+    A: Drop,
     B: Send + Drop,
 >(rt: &R, alloc: Global, first: S, others: Vec<T>) -> Result<(A, Vec<B>), AllocError>
     requires first { S.can_run first }
@@ -66,16 +67,16 @@ pub fn run_beside<
     if others.is_empty() {
         return Ok((first.run(), Vec::new(alloc)));
     }
-    let (given, each) = join(
+    let (each, given) = join(
         rt,
-        move || -> A
-            requires { S.can_run first }
-            ensures { S.run_gives first result }
-        { first.run() },
         move || -> Result<Vec<B>, AllocError>
             requires { IsSync R.row × IsSend T.row × IsSend B.row × All T.can_run others.items }
             ensures { IfOk result (λ given. AllZip T.run_gives others.items given.items) }
         { run_each(rt, others) },
+        move || -> A
+            requires { S.can_run first }
+            ensures { S.run_gives first result }
+        { first.run() },
     );
     Ok((given, each?))
 }

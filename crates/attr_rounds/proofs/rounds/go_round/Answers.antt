@@ -1,4 +1,5 @@
 use Rattle.std.proofs.Common.{subst, sym, refl, ◌∙◌, ap, length, arith}
+use Rattle.gen_core.specs.declared.views.Sizes.{Sizes}
 use Rattle.word_arena.specs.Ruled.{reader_of}
 use Rattle.attr_rounds.proofs.RoundLemmas.{no_rounds}
 use Rattle.attr_rounds.specs.Rounds.{MakesRounds}
@@ -19,7 +20,7 @@ one_round-requires g c =
     let made = c.loop.invariant.count in
     let below = c.loop-test.true in
     let fits = c.ranges.count.fits in
-    (omega arith, omega arith)
+    (omega arith, (subst (λ (z : Sizes). g.Q.Question.fits c.args.question.now z.shape) (sym c.loop.invariant.rounds.same_sizes) c.requires, omega arith))
 
 pub loop-preserved : goal.loop-preserved
 loop-preserved g c =

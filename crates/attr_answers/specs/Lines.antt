@@ -1,0 +1,30 @@
+-- The lines that a table's answers are written as.
+use Rattle.std.specs.Prelude.{◌≡◌, ℕ, ◌+◌, ◌<◌, ◌≤◌, ◌^◌, Bool, true, false, List, [], ◌∷◌, ◌++◌, length, string_bytes}
+use Rattle.attr_scores.specs.Scores.{AskTree, Answer, answer_to, count_of}
+use Rattle.attr_images.specs.Shapes.{shape_of, types_of}
+use Rattle.attr_types.specs.Table.{Table}
+use Rattle.attr_types.specs.declared.field.Field.{Field}
+use Rattle.attr_types.specs.declared.field.TheConstants.{MOST_FIELDS}
+use Rattle.attr_report.specs.Report.{answer_line, count_line}
+use Rattle.attr_answers.specs.declared.asked.Told.{Told}
+
+-- a line of a report, or of a summary, which counts the documents
+abbrev pub line_of : Bool → ℕ → Answer → List ℕ
+line_of false number answer = answer_line number answer
+line_of true number answer = count_line number (count_of answer)
+
+-- those of what is asked, numbered from `number` on, over a table
+abbrev pub lines_from : Bool → ℕ → List AskTree → Table → List ℕ
+lines_from counted number [] table = []
+lines_from counted number (ask ∷ asks) table = line_of counted number (answer_to ask table) ++ lines_from counted (number + 1) asks table
+
+-- a table is told: how many documents it has, and the lines of its answers
+pub record TellsTable (counted : Bool) (asks : List AskTree) (table : Table) (told : Told) : Type 0 where
+  pub documents : told.documents ≡ length table
+  pub lines : string_bytes told.lines ≡ lines_from counted 1 asks table
+
+-- so many things can be asked of images of this shape
+pub record CanAsk (fields : List Field) (count shape : ℕ) : Type 0 where
+  pub few : length fields ≤ MOST_FIELDS
+  pub shape_is : shape ≡ shape_of (types_of fields)
+  pub small : count < 2 ^ 63

@@ -1,0 +1,108 @@
+-- Operations applied one after another, and what stays of a store.
+use Rattle.std.proofs.Common.{◌≡◌, ℕ, zero, suc, ◌+◌, ◌<◌, ◌≤◌, Bool, true, false, if◌then◌else◌, List, [], ◌∷◌, ◌++◌, length, refl, sym, ap, ◌∙◌, subst, arith}
+use Rattle.std.specs.Prelude.{Result, Ok, Err, IfOk}
+use Rattle.std.proofs.lemmas.List.{length_push}
+use Rattle.store_api.specs.Ledgers.{Ledger}
+use Rattle.attr_changes.specs.declared.applied.Applied.{Applied}
+use Rattle.attr_changes.specs.declared.applied.Applied.TheVariants.{Changed, Skipped}
+use Rattle.attr_types.specs.Table.{Table, after_op, is_skipped, after_ops, skipped_ops}
+use Rattle.attr_types.specs.declared.field.Field.{Field}
+use Rattle.attr_types.specs.declared.op.Op.{Op}
+use Rattle.attribute_kinds.specs.Views.{AttributeView}
+use Rattle.attribute_kinds.specs.Calls.{applied_to, KeepsStore}
+use Rattle.attr_loader.specs.Loading.{StaysIn}
+use Rattle.attr_loader.specs.Batches.{skips_of, KeepsCommit, AppliesAll, CommitsBatch, LoadsBatch}
+use Rattle.attr_loader.specs.declared.batch.Batch.{Batch}
+use Rattle.attr_loader.specs.declared.batch.Batch.TheVariants.{Done, Full}
+
+pub after_ops-append : (fields : List Field) (table : Table) (xs ys : List Op) → after_ops fields table (xs ++ ys) ≡ after_ops fields (after_ops fields table xs) ys
+after_ops-append fields table [] ys = refl
+after_ops-append fields table (x ∷ xs) ys = after_ops-append fields (after_op fields table x) xs ys
+
+pub skipped_ops-append : (fields : List Field) (table : Table) (xs ys : List Op)
+    → skipped_ops fields table (xs ++ ys) ≡ skipped_ops fields table xs + skipped_ops fields (after_ops fields table xs) ys
+skipped_ops-append fields table [] ys = omega arith
+skipped_ops-append fields table (x ∷ xs) ys = let h = skipped_ops-append fields (after_op fields table x) xs ys in omega (arith, h)
+
+abbrev by_one : Bool → ℕ
+by_one b = if b then 1 else 0
+
+skips_by : (b : Bool) → skips_of (if b then Skipped else Changed) ≡ (if b then 1 else 0)
+skips_by true = refl
+skips_by false = refl
+
+pub at_most_one : (applied : Applied) → skips_of applied ≤ 1
+at_most_one Skipped = omega arith
+at_most_one Changed = omega arith
+
+one_at_most : (b : Bool) → (if b then 1 else 0) ≤ 1
+one_at_most true = omega arith
+one_at_most false = omega arith
+
+pub skipped_ops-few : (fields : List Field) (table : Table) (ops : List Op) → skipped_ops fields table ops ≤ length ops
+skipped_ops-few fields table [] = omega arith
+skipped_ops-few fields table (x ∷ ops) =
+    let rest = skipped_ops-few fields (after_op fields table x) ops in
+    let one = one_at_most (is_skipped fields table x) in
+    omega (arith, rest, one)
+
+module _ {S H : Type 0} (ledger : S → Ledger H) where
+  pub keeps_of : (old new : AttributeView S) → KeepsStore (ledger old.store) (ledger new.store) → new.fields ≡ old.fields → new.committed ≡ old.committed → new.committed_operations ≡ old.committed_operations
+      → KeepsCommit ledger old new
+  keeps_of old new keeps fields committed count = record {
+    stays = record { home = keeps.home; sizes = keeps.sizes; fields = fields };
+    told = keeps.told;
+    committed = committed;
+    committed_operations = count;
+  }
+
+  pub stays_on : (a b c : AttributeView S) → StaysIn ledger a b → StaysIn ledger b c → StaysIn ledger a c
+  stays_on a b c first second = record { home = second.home ∙ first.home; sizes = second.sizes ∙ first.sizes; fields = second.fields ∙ first.fields }
+
+  pub keeps_on : (a b c : AttributeView S) → KeepsCommit ledger a b → KeepsCommit ledger b c → KeepsCommit ledger a c
+  keeps_on a b c first second = record {
+    stays = stays_on a b c first.stays second.stays;
+    told = second.told ∙ first.told;
+    committed = second.committed ∙ first.committed;
+    committed_operations = second.committed_operations ∙ first.committed_operations;
+  }
+
+  -- what is applied and then committed, or finds no room for the commit
+  pub loads_of : {E : Type 0} (a b c : AttributeView S) (ops : List Op) (skipped count : ℕ) (o : Result Batch E) → 0 < length ops → count ≡ length ops → AppliesAll ledger a b ops skipped
+      → IfOk o (CommitsBatch ledger b c count skipped) → IfOk o (LoadsBatch ledger a c ops)
+  loads_of a b c ops skipped count (Err e) some long applies made = tt
+  loads_of a b c ops skipped count (Ok (Done more)) some long applies made =
+      record { mid = b; applies = subst (AppliesAll ledger a b ops) (sym made.0) applies; commits = made.1 }
+  loads_of a b c ops skipped count (Ok (Full before active held)) some long applies made =
+      let is = made.1 in
+      record { keeps = keeps_on a b c applies.keeps made.0; some = omega (arith, is, long, some); most = omega (arith, is, long); all = made.2 }
+
+  pub applies_none : (a : AttributeView S) → AppliesAll ledger a a [] 0
+  applies_none a = record {
+    keeps = record { stays = record { home = refl; sizes = refl; fields = refl }; told = refl; committed = refl; committed_operations = refl };
+    table = refl;
+    operations = omega arith;
+    skips = refl;
+  }
+
+  module _ (a b c : AttributeView S) (ops : List Op) (op : Op) (skipped : ℕ) (before : AppliesAll ledger a b ops skipped) (keeps : KeepsCommit ledger b c)
+      (table : c.table ≡ after_op b.fields b.table op) (operations : c.operations ≡ b.operations + 1) (applied : Applied) (is : applied ≡ applied_to b.fields b.table op) where
+    here : is_skipped b.fields b.table op ≡ is_skipped a.fields (after_ops a.fields a.table ops) op
+    here = ap (λ fields. is_skipped fields b.table op) before.keeps.stays.fields ∙ ap (λ t. is_skipped a.fields t op) before.table
+
+    one : skipped_ops a.fields a.table (ops ++ op ∷ []) ≡ skipped_ops a.fields a.table ops + (if is_skipped b.fields b.table op then 1 else 0)
+    one =
+        let more = skipped_ops-append a.fields a.table ops (op ∷ []) in
+        let same = ap by_one here in
+        omega (arith, more, same)
+
+    more : (now : ℕ) → now ≡ skipped + (if is_skipped b.fields b.table op then 1 else 0) → AppliesAll ledger a c (ops ++ op ∷ []) now
+    more now count = record {
+      keeps = keeps_on a b c before.keeps keeps;
+      table = table ∙ ap (λ fields. after_op fields b.table op) before.keeps.stays.fields ∙ ap (λ t. after_op a.fields t op) before.table ∙ sym (after_ops-append a.fields a.table ops (op ∷ []));
+      operations = (let o = before.operations in let l = length_push ops op in omega (arith, operations, o, l));
+      skips = (let s = before.skips in omega (arith, count, s, one));
+    }
+
+    pub one_more : AppliesAll ledger a c (ops ++ op ∷ []) (skipped + skips_of applied)
+    one_more = more (skipped + skips_of applied) (ap (λ n. skipped + n) (ap skips_of is ∙ skips_by (is_skipped b.fields b.table op)))

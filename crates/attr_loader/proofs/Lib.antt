@@ -1,0 +1,3 @@
+pub mod Applying
+pub mod Points
+pub mod Stands

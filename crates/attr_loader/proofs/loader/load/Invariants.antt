@@ -1,0 +1,14 @@
+use Rattle.std.proofs.Common.{◌≡◌, ◌≤◌, length}
+use Rattle.std.specs.Prelude.{drop}
+use Rattle.attr_loader.proofs.Stands.{Stands}
+use Rattle.attr_loader.proofs.loader.load.Given as goal
+
+abbrev pub invariant-loop-rest : goal.invariant-loop-rest
+invariant-loop-rest g l = record {
+  rest : l.rest ≡ drop l.operations l.fn.ops;
+  within : l.operations ≤ length l.fn.ops;
+  stands : Stands g.S.Store.ledger l.fn.batch l.fn.ops l.fn.attribute l.attribute l.operations l.skipped;
+}
+
+abbrev pub decreases-loop-rest : goal.decreases-loop-rest
+decreases-loop-rest g l = length l.rest

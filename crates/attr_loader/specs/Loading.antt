@@ -1,0 +1,74 @@
+-- What a loading makes of attributes and of what their store tells.
+use Rattle.std.specs.Prelude.{◌≡◌, ℕ, zero, suc, ◌+◌, ◌-◌, ◌*◌, ◌/◌, ◌^◌, ◌<◌, ◌≤◌, min, List, [], length, slice_get, Option, Some, None, All}
+use Rattle.std.specs.List.{AllByRecursion}
+use Rattle.image_base.specs.declared.Image.{Image}
+use Rattle.image_base.specs.Images.{no_image, words_at}
+use Rattle.arena_api.specs.Works.{WorkView}
+use Rattle.store_api.specs.Ledgers.{Ledger}
+use Rattle.attr_images.specs.Images.{IsLawfulImage, table_of, operations_at}
+use Rattle.attr_images.specs.Shapes.{shape_of, types_of}
+use Rattle.attr_types.specs.Lawful.{OpFits}
+use Rattle.attr_types.specs.Table.{after, skipped}
+use Rattle.attr_types.specs.declared.field.Field.{Field}
+use Rattle.attr_types.specs.declared.op.Op.{Op}
+use Rattle.attribute_kinds.specs.Views.{AttributeView}
+use Rattle.attr_loader.specs.declared.loaded.Loaded.{Loaded}
+use Rattle.attr_loader.specs.declared.loaded.NoRoom.{NoRoom}
+
+-- how many operations commit k has, of so many in all
+abbrev pub commit_point : ℕ → ℕ → ℕ → ℕ
+commit_point batch total k = min (batch * k) total
+
+-- a lawful image of the first n operations
+pub record IsImageAfter (fields : List Field) (ops : List Op) (n : ℕ) (image : Image) : Type 0 where
+  pub lawful : IsLawfulImage (shape_of (types_of fields)) (words_at image) image.root
+  pub operations : operations_at (words_at image) image.root ≡ n
+  pub table : table_of (shape_of (types_of fields)) (words_at image) image.root ≡ after fields ops n
+
+-- the images of commits 0 to `last`, where images are told
+pub record AreCommits (fields : List Field) (batch : ℕ) (ops : List Op) (last : ℕ) (told : List Image) : Type 0 where
+  pub count : 0 < length told → length told ≡ suc last
+  pub each : (k : ℕ) (image : Image) → slice_get told k ≡ Some image → IsImageAfter fields ops (commit_point batch (length ops) k) image
+
+-- all operations are committed; or, where one found no room, those of the whole batches before it, and every buffer is in use or held
+abbrev pub EndsAt : ℕ → ℕ → ℕ → ℕ → Option NoRoom → Type 0
+EndsAt batch total buffers n None = n ≡ total
+EndsAt batch total buffers n (Some full) = (1 ≤ full.operation) × (full.operation ≤ total)
+    × (n ≡ batch * ((full.operation - 1) / batch)) × (full.active + full.held ≡ buffers)
+
+module _ {S H : Type 0} (ledger : S → Ledger H) where
+  abbrev pub told_of : AttributeView S → List Image
+  told_of a = (ledger a.store).work.told
+
+  -- nothing was applied yet, and only the empty commit 0 is told
+  pub record IsAtStart (a : AttributeView S) : Type 0 where
+    pub table : a.table ≡ []
+    pub operations : a.operations ≡ 0
+    pub committed : a.committed ≡ []
+    pub committed_operations : a.committed_operations ≡ 0
+    pub few : length (told_of a) ≤ 1
+    pub empty : All (λ image. image ≡ no_image) (told_of a)
+
+  -- operations can be loaded in batches of this size
+  pub record CanLoad (batch : ℕ) (ops : List Op) (a : AttributeView S) : Type 0 where
+    pub some : 0 < batch
+    pub few : length ops < 2 ^ 32
+    pub fit : AllByRecursion (OpFits a.fields) ops
+    pub start : IsAtStart a
+
+  -- the store is in the same memory, and the attributes are the same
+  pub record StaysIn (old new : AttributeView S) : Type 0 where
+    pub home : (ledger new.store).work.home ≡ (ledger old.store).work.home
+    pub sizes : (ledger new.store).work.sizes ≡ (ledger old.store).work.sizes
+    pub fields : new.fields ≡ old.fields
+
+  -- a loading: what is told are the images of its commits, and the last of them has all that was loaded
+  pub record Loads (batch : ℕ) (ops : List Op) (old new : AttributeView S) (loaded : Loaded) : Type 0 where
+    pub stays : StaysIn old new
+    pub last : ℕ
+    pub told : AreCommits old.fields batch ops last (told_of new)
+    pub point : loaded.operations ≡ commit_point batch (length ops) last
+    pub committed : new.committed ≡ after old.fields ops loaded.operations
+    pub committed_operations : new.committed_operations ≡ loaded.operations
+    pub skips : loaded.skipped ≡ skipped old.fields ops loaded.operations
+    pub ends : EndsAt batch (length ops) (ledger new.store).work.sizes.buffers loaded.operations loaded.full

@@ -1,0 +1,117 @@
+//! One batch: its operations are applied, and it is committed.
+ghost use Rattle.std.specs.Prelude.{◌≡◌, ◌<◌, ◌+◌, ◌^◌, length, IfOk};
+ghost use Rattle.std.specs.List.{AllByRecursion};
+ghost use Rattle.attr_types.specs.Lawful.{OpFits};
+ghost use Rattle.attr_loader.specs.Batches.{skips_of, AppliesBatch, LoadsBatch, CommitsBatch};
+
+use arena_api::Work;
+use attr_changes::Applied;
+use attr_images::AttrLayout;
+use attr_io::{Gate, Point};
+use attr_types::Op;
+use attribute_kinds::{AttrError, Attribute};
+use std::alloc::{AllocError, Global};
+use store_api::Store;
+
+/// What became of a batch: how many of its operations were skipped; or the operation, counted from 1, that found no
+/// room, or before whose commit there was none.
+#[derive(Clone, Copy, Drop)]
+pub enum Batch {
+    Done { skipped: u32 },
+    Full { before: u32, active: u32, held: u32 },
+}
+
+fn skips_of(applied: Applied) -> u32
+    ensures { result ≡ skips_of applied }
+{
+    match applied {
+        Applied::Skipped => 1,
+        Applied::Changed => 0,
+    }
+}
+
+/// Applies the operations of a batch, as far as there is room.
+fn apply_all<const OFFSET_BITS: u32, S: Store<OFFSET_BITS, Layout = AttrLayout>>(
+    alloc: Global,
+    attribute: &mut Attribute<OFFSET_BITS, S>,
+    ops: &[Op],
+) -> Result<Batch, AllocError>
+    requires room { attribute.old.operations + length ops.now < 2 ^ 32 }
+    requires fit { AllByRecursion (OpFits attribute.old.fields) ops.now }
+    ensures { IfOk result (AppliesBatch S.ledger attribute.old attribute.new ops.now) }
+{
+    let mut skipped: u32 = 0;
+    let mut done: u32 = 0;
+    for op in ops {
+        let applied = match attribute.apply(alloc, op) {
+            Ok(applied) => applied,
+            Err(AttrError::Full { active, held, .. }) => {
+                let before = done + 1;
+                return Ok(Batch::Full {
+                    before,
+                    active,
+                    held,
+                });
+            }
+            Err(AttrError::CommitsSpent { .. }) => return Err(AllocError),
+            Err(AttrError::Memory) => return Err(AllocError),
+        };
+        skipped += skips_of(applied);
+        done += 1;
+    }
+    Ok(Batch::Done { skipped })
+}
+
+/// Commits what was applied, if there is room, and passes the gate.
+fn commit_all<const OFFSET_BITS: u32, S: Store<OFFSET_BITS, Layout = AttrLayout>, G: Gate>(
+    attribute: &mut Attribute<OFFSET_BITS, S>,
+    count: u32,
+    skipped: u32,
+    gate: &G,
+) -> Result<Batch, AllocError>
+    ensures { IfOk result (CommitsBatch S.ledger attribute.old attribute.new count skipped) }
+{
+    match attribute.commit() {
+        Ok(info) => {
+            let operations = attribute.operations();
+            gate.pass(Point::Committed {
+                commit: info.commit,
+                operations,
+            });
+            Ok(Batch::Done { skipped })
+        }
+        Err(AttrError::Full { active, held, .. }) => Ok(Batch::Full {
+            before: count,
+            active,
+            held,
+        }),
+        Err(AttrError::CommitsSpent { .. }) => Err(AllocError),
+        Err(AttrError::Memory) => Err(AllocError),
+    }
+}
+
+/// Applies the operations of a batch and commits them.
+pub fn load_batch<const OFFSET_BITS: u32, S: Store<OFFSET_BITS, Layout = AttrLayout>, G: Gate>(
+    alloc: Global,
+    attribute: &mut Attribute<OFFSET_BITS, S>,
+    ops: &[Op],
+    gate: &G,
+) -> Result<Batch, AllocError>
+    requires some { 0 < length ops.now }
+    requires room { attribute.old.operations + length ops.now < 2 ^ 32 }
+    requires fit { AllByRecursion (OpFits attribute.old.fields) ops.now }
+    ensures { IfOk result (LoadsBatch S.ledger attribute.old attribute.new ops.now) }
+{
+    match apply_all(alloc, attribute, ops)? {
+        Batch::Done { skipped } => commit_all(attribute, ops.len() as u32, skipped, gate),
+        Batch::Full {
+            before,
+            active,
+            held,
+        } => Ok(Batch::Full {
+            before,
+            active,
+            held,
+        }),
+    }
+}

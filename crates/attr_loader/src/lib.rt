@@ -1,0 +1,11 @@
+//! Operations loaded into attributes in batches, with a commit after each.
+#![tactic(auto)]
+
+mod batch;
+mod loaded;
+mod loader;
+mod loading;
+
+pub use loaded::{Loaded, NoRoom};
+pub use loader::load;
+pub use loading::Loading;

@@ -1,0 +1,60 @@
+ghost use Rattle.std.specs.Prelude.{IfOk};
+ghost use Rattle.attr_loader.specs.Loading.{CanLoad, Loads};
+
+use crate::batch::{Batch, load_batch};
+use crate::loaded::{Loaded, NoRoom};
+use attr_images::{AttrLayout, image_law};
+use attr_io::Gate;
+use attr_types::Op;
+use attribute_kinds::Attribute;
+use std::alloc::{AllocError, Global};
+use store_api::Store;
+
+/// Loads operations in batches of this size, with a commit and a pass of the gate after each, the last one maybe
+/// smaller. It stops where there is no room: the last commit stands.
+pub fn load<const OFFSET_BITS: u32, S: Store<OFFSET_BITS, Layout = AttrLayout>, G: Gate>(
+    alloc: Global,
+    attribute: &mut Attribute<OFFSET_BITS, S>,
+    ops: &[Op],
+    batch: u32,
+    gate: &G,
+) -> Result<Loaded, AllocError>
+    requires { CanLoad S.ledger batch ops.now attribute.old }
+    ensures { IfOk result (Loads S.ledger batch ops.now attribute.old attribute.new) }
+{
+    image_law();
+    let mut rest = ops;
+    let mut operations: u32 = 0;
+    let mut skipped: u32 = 0;
+    while !rest.is_empty() {
+        let (part, next) = rest.split_at(rest.len().min(batch as usize));
+        match load_batch(alloc, attribute, part, gate)? {
+            Batch::Done { skipped: more } => {
+                operations += part.len() as u32;
+                skipped += more;
+                rest = next;
+            }
+            Batch::Full {
+                before,
+                active,
+                held,
+            } => {
+                let full = Some(NoRoom {
+                    operation: operations + before,
+                    active,
+                    held,
+                });
+                return Ok(Loaded {
+                    operations,
+                    skipped,
+                    full,
+                });
+            }
+        }
+    }
+    Ok(Loaded {
+        operations,
+        skipped,
+        full: None,
+    })
+}

@@ -1,0 +1,43 @@
+ghost use Rattle.std.specs.Prelude.{IfOk};
+ghost use Rattle.attr_loader.specs.Loading.{CanLoad, Loads};
+
+use crate::loaded::Loaded;
+use crate::loader::load;
+use attr_images::AttrLayout;
+use attr_io::Gate;
+use attr_threads::Task;
+use attr_types::Op;
+use attribute_kinds::Attribute;
+use std::alloc::{AllocError, Global};
+use store_api::Store;
+
+/// A loading, as a task that gives the attributes back.
+#[derive(Drop)]
+pub struct Loading<'a, const OFFSET_BITS: u32, S: Store<OFFSET_BITS, Layout = AttrLayout>, G> {
+    pub alloc: Global,
+    pub attribute: Attribute<OFFSET_BITS, S>,
+    pub ops: &'a [Op],
+    pub batch: u32,
+    pub gate: &'a G,
+}
+
+impl<'a, const OFFSET_BITS: u32, S: Store<OFFSET_BITS, Layout = AttrLayout> + Drop, G: Gate> Task
+    for Loading<'a, OFFSET_BITS, S, G> {
+    type Output = Result<(Attribute<OFFSET_BITS, S>, Loaded), AllocError>;
+
+    ghost can_run = { λ loading. CanLoad S.ledger loading.batch loading.ops.now loading.attribute };
+
+    ghost run_gives = { λ loading result. IfOk result (λ r. Loads S.ledger loading.batch loading.ops.now loading.attribute r.0 r.1) };
+
+    fn run(self) -> Result<(Attribute<OFFSET_BITS, S>, Loaded), AllocError> {
+        let Loading {
+            alloc,
+            mut attribute,
+            ops,
+            batch,
+            gate,
+        } = self;
+        let loaded = load(alloc, &mut attribute, ops, batch, gate)?;
+        Ok((attribute, loaded))
+    }
+}
