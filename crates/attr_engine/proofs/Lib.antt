@@ -1,0 +1,5 @@
+pub mod WriterLemmas
+pub mod ReaderLemmas
+pub mod JobLemmas
+pub mod RunLemmas
+pub mod HistoryLemmas

@@ -1,0 +1,117 @@
+-- What stays of a writer, and what a loading makes of it.
+use Rattle.std.proofs.Common.{◌≡◌, ◌<◌, ◌≤◌, ◌+◌, ℕ, zero, suc, List, [], ◌∷◌, length, Some, refl, sym, ap, subst, ◌∙◌, arith}
+use Rattle.std.specs.Prelude.{slice_get, All, ◌^◌}
+use Rattle.std.specs.List.{AllByRecursion}
+use Rattle.std.proofs.lemmas.Option.{slice_get_within}
+use Rattle.atomic_table.specs.Seated.{TableId}
+use Rattle.image_base.specs.declared.Image.{Image}
+use Rattle.image_base.specs.Images.{no_image, words_at}
+use Rattle.image_base.specs.Records.{Records}
+use Rattle.arena_api.specs.Works.{Sizes as ApiSizes, WorkView, last_image}
+use Rattle.gen_core.specs.declared.views.WriterView.{WriterView}
+use Rattle.gen_core.specs.declared.views.ReaderView.{ReaderView}
+use Rattle.gen_core.specs.Views.{last_number}
+use Rattle.gen_core.specs.Events.{newcomer}
+use Rattle.store_api.specs.Ledgers.{Ledger}
+use Rattle.word_arena.specs.Knows.{view_of}
+use Rattle.attr_images.specs.Images.{table_of, operations_at}
+use Rattle.attr_images.specs.Shapes.{shape_of, types_of}
+use Rattle.attr_types.specs.Lawful.{OpFits}
+use Rattle.attr_types.specs.Table.{skipped}
+use Rattle.attr_types.specs.declared.field.Field.{Field}
+use Rattle.attr_types.specs.declared.op.Op.{Op}
+use Rattle.attribute_kinds.specs.Calls.{HasCommit}
+use Rattle.attribute_kinds.specs.Views.{AttributeView}
+use Rattle.attr_loader.specs.Loading.{CanLoad, IsAtStart, Loads, AreCommits, EndsAt}
+use Rattle.attr_loader.specs.declared.loaded.Loaded.{Loaded}
+use Rattle.attr_engine.specs.Steps.{KeepsWriter, IsReader, IsNewWriter, LoadsInto}
+
+pub keeps_on : (a b c : WriterView) → KeepsWriter a b → KeepsWriter b c → KeepsWriter a c
+keeps_on a b c first second = second ∙ ap (λ (x : WriterView). record x { saw = c.saw; made = c.made }) first
+
+pub reader_on : (a b : WriterView) (home z : TableId) (r : ReaderView) (table : TableId) → KeepsWriter a b → z ≡ home → IsReader b z r table → IsReader a home r table
+reader_on a b home z r table keeps same is = record {
+  same_sizes = is.same_sizes ∙ ap (λ (x : WriterView). x.sizes) keeps;
+  seen_last = is.seen_last ∙ ap (λ (x : WriterView). last_number x.commits) keeps;
+  at_home = is.at_home ∙ same;
+}
+
+-- a loading by attributes over a writer, as the writer sees it
+module _ {S : Type 0} (ledger : S → Ledger TableId) (fields : List Field) (batch : ℕ) (ops : List Op) (a b : AttributeView S) (loaded : Loaded) (home z : TableId) (w v : WriterView)
+    (loads : Loads ledger batch ops a b loaded) (fields_are : a.fields ≡ fields) (from : (ledger a.store).work ≡ view_of home w) (to : view_of z v ≡ (ledger b.store).work) where
+  told_is : (ledger b.store).work.told ≡ v.commits
+  told_is = ap (λ (x : WorkView TableId). x.told) (sym to)
+
+  pub table_stays : z ≡ home
+  table_stays = ap (λ (x : WorkView TableId). x.home) to ∙ loads.stays.home ∙ ap (λ (x : WorkView TableId). x.home) from
+
+  buffers_stay : (ledger b.store).work.sizes.buffers ≡ w.sizes.buffers
+  buffers_stay = ap (λ (x : ApiSizes). x.buffers) loads.stays.sizes ∙ ap (λ (x : WorkView TableId). x.sizes.buffers) from
+
+  pub loads_into : v.sizes.shape ≡ shape_of (types_of b.fields) → w.sizes.shape ≡ shape_of (types_of fields) → slice_get v.commits 0 ≡ Some no_image
+      → LoadsInto fields batch ops w v loaded
+  loads_into shape_now shape_was first =
+      let are : AreCommits fields batch ops loads.last v.commits =
+      subst (AreCommits fields batch ops loads.last) told_is (subst (λ fs. AreCommits fs batch ops loads.last ((ledger b.store).work.told)) fields_are loads.told) in
+      let long = are.count (slice_get_within v.commits 0 no_image first) in
+      record {
+        shape_is = shape_now ∙ ap (λ fs. shape_of (types_of fs)) (loads.stays.fields ∙ fields_are) ∙ sym shape_was;
+        last = loads.last;
+        commits = are;
+        count = omega (arith, long);
+        point = loads.point;
+        skips = loads.skips ∙ ap (λ fs. skipped fs ops loaded.operations) fields_are;
+        ends = subst (λ n. EndsAt batch (length ops) n loaded.operations loaded.full) buffers_stay loads.ends;
+      }
+
+pub new_on : (fields : List Field) (home z : TableId) (w v : WriterView) → KeepsWriter w v → z ≡ home → IsNewWriter fields home w → IsNewWriter fields z v
+new_on fields home z w v keeps same is =
+    subst (IsNewWriter fields z) (sym keeps) (subst (λ (h : TableId). IsNewWriter fields h (record w { saw = v.saw; made = v.made })) (sym same) (record {
+      some = is.some;
+      few = is.few;
+      shape_is = is.shape_is;
+      fresh = record { queue = is.fresh.queue; floor = is.fresh.floor; last = is.fresh.last; image = is.fresh.image; buffers = is.fresh.buffers };
+      commits = is.commits;
+    }))
+
+-- a loading into a writer that had got readers before is one into the writer that it was
+pub loads_from : (fields : List Field) (batch : ℕ) (ops : List Op) (w v x : WriterView) (loaded : Loaded) → KeepsWriter w v → LoadsInto fields batch ops v x loaded → LoadsInto fields batch ops w x loaded
+loads_from fields batch ops w v x loaded keeps is =
+    let moved = subst (λ (y : WriterView). LoadsInto fields batch ops y x loaded) keeps is in
+    record { shape_is = moved.shape_is; last = moved.last; commits = moved.commits; count = moved.count; point = moved.point; skips = moved.skips; ends = moved.ends }
+
+-- and one into a writer that then took readers in
+pub loads_kept : (fields : List Field) (batch : ℕ) (ops : List Op) (w v x : WriterView) (loaded : Loaded) → KeepsWriter v x → LoadsInto fields batch ops w v loaded → LoadsInto fields batch ops w x loaded
+loads_kept fields batch ops w v x loaded keeps is =
+    subst (λ (y : WriterView). LoadsInto fields batch ops w y loaded) (sym keeps)
+    (record { shape_is = is.shape_is; last = is.last; commits = is.commits; count = is.count; point = is.point; skips = is.skips; ends = is.ends })
+
+one_image : (image : Image) → All (λ x. x ≡ image) (image ∷ [])
+one_image image zero d below = refl
+one_image image (suc k) d below = absurd (omega (arith, below))
+
+-- attributes that were made over a new writer, with what its last commit is
+pub at_start : {S : Type 0} (ledger : S → Ledger TableId) (fields : List Field) (home : TableId) (w : WriterView) (a : AttributeView S)
+    → ((shape : ℕ) (m : Records) → table_of shape m 0 ≡ []) → IsNewWriter fields home w → (ledger a.store).work ≡ view_of home w
+    → a.table ≡ [] → a.operations ≡ 0 → a.root ≡ 0 → HasCommit (ledger a.store) a.fields a.root a.committed a.committed_operations → IsAtStart ledger a
+at_start ledger fields home w a empty new work table operations root has =
+    let told : (ledger a.store).work.told ≡ no_image ∷ [] = ap (λ (x : WorkView TableId). x.told) work ∙ new.commits in
+    let m : Records = words_at (last_image (ledger a.store).work.commits) in
+    let long : length ((ledger a.store).work.told) ≡ 1 = ap length told in
+    record {
+      table = table;
+      operations = operations;
+      committed = sym has.table_is ∙ ap (λ r. table_of (shape_of (types_of a.fields)) m r) root ∙ empty (shape_of (types_of a.fields)) m;
+      committed_operations = sym has.operations_are ∙ ap (λ r. operations_at m r) root;
+      few = omega (arith, long);
+      empty = subst (λ (list : List Image). All (λ image. image ≡ no_image) list) (sym told) (one_image no_image);
+    }
+
+pub can_load : {S : Type 0} (ledger : S → Ledger TableId) (fields : List Field) (batch : ℕ) (ops : List Op) (a : AttributeView S) → a.fields ≡ fields → 0 < batch
+    → length ops < 2 ^ 32 → AllByRecursion (OpFits fields) ops → IsAtStart ledger a → CanLoad ledger batch ops a
+can_load ledger fields batch ops a same some few fit start = record {
+  some = some;
+  few = few;
+  fit = subst (λ fs. AllByRecursion (OpFits fs) ops) (sym same) fit;
+  start = start;
+}

@@ -1,0 +1,52 @@
+-- The rounds of a run: each of one commit, with the lines of the plain table there.
+use Rattle.std.specs.Prelude.{◌≡◌, ℕ, ◌+◌, ◌≤◌, Bool, true, false, List, ◌∷◌, map, length, Option, is_some, IfSome, All}
+use Rattle.std.specs.List.{AllByRecursion}
+use Rattle.std.specs.List.Sorted.{IsNonDecreasing}
+use Rattle.attr_types.specs.declared.op.Op.{Op}
+use Rattle.attr_loader.specs.Loading.{commit_point}
+use Rattle.attr_rounds.specs.declared.rounds.Round.{Round}
+use Rattle.attr_answers.specs.declared.asked.Told.{Told}
+use Rattle.attr_answers.specs.Lines.{TellsTable}
+use Rattle.attr_report.specs.Run.{Run, Progress, table_at, skipped_at}
+use Rattle.attr_report.specs.History.{IsLoaded}
+use Rattle.attr_engine.specs.declared.came.Came.{Came}
+use Rattle.attr_engine.specs.Run.{full_of}
+
+-- a round is of a commit up to the last, and tells the table of the operations that this commit has
+pub record IsRoundAt (run : Run) (ops : List Op) (last : ℕ) (round : Round Told) : Type 0 where
+  pub commit : round.commit ≤ last
+  pub point : round.operations ≡ commit_point run.batch (length ops) round.commit
+  pub tells : TellsTable (is_some run.make) run.asks (table_at run ops round.operations) round.answer
+
+abbrev pub commits_of : List (Round Told) → List ℕ
+commits_of rounds = map (λ round. round.commit) rounds
+
+-- a reader's rounds, as many as were asked for: their commits never fall, and none is below the one that it had seen
+pub record AreRoundsAt (run : Run) (ops : List Op) (seen last : ℕ) (rounds : List (Round Told)) : Type 0 where
+  pub made : length rounds ≡ run.rounds
+  pub each : All (IsRoundAt run ops last) rounds
+  pub forward : IsNonDecreasing (seen ∷ commits_of rounds)
+
+-- what readers have seen before their rounds: the last commit where they run after the loading
+abbrev pub seen_before : Bool → ℕ → ℕ
+seen_before true last = last
+seen_before false last = 0
+
+-- how far a run came, with all rounds and the last answers
+pub record IsCame (run : Run) (ops : List Op) (came : Came) : Type 0 where
+  pub last : ℕ
+  pub is_loaded : IsLoaded run (length ops) came.loaded.operations (full_of came.loaded.full)
+  pub point : came.loaded.operations ≡ commit_point run.batch (length ops) last
+  pub skips : came.loaded.skipped ≡ skipped_at run ops came.loaded.operations
+  pub room : IfSome came.loaded.full (λ r. r.active + r.held ≡ run.buffers)
+  pub readers : length came.rounds.items ≡ run.readers
+  pub rounds : AllByRecursion (λ rounds. AreRoundsAt run ops (seen_before run.after last) last rounds.items) came.rounds.items
+  pub tells : TellsTable (is_some run.make) run.asks (table_at run ops came.loaded.operations) came.last
+
+-- the counts of operations that the rounds saw, as the report's statement has them
+abbrev pub progress_at : Came → Option ℕ → Progress
+progress_at came saved = record {
+  loaded = came.loaded.operations;
+  rounds = map (λ r. map (λ round. round.operations) r.items) came.rounds.items;
+  saved = saved;
+}

@@ -1,0 +1,106 @@
+-- What the steps of a run make of the writer, and what its readers' tasks come to.
+use Rattle.std.specs.Prelude.{◌≡◌, ℕ, ◌+◌, ◌<◌, ◌≤◌, ◌^◌, Bool, true, false, ◌∷◌, List, [], length, is_some, All}
+use Rattle.std.specs.List.Sorted.{IsNonDecreasing}
+use Rattle.atomic_table.specs.Seated.{TableId}
+use Rattle.image_base.specs.declared.Image.{Image}
+use Rattle.image_base.specs.Images.{no_image}
+use Rattle.image_base.specs.Records.{Records}
+use Rattle.arena_api.specs.Calls.{IsFresh}
+use Rattle.gen_core.specs.declared.views.ReaderView.{ReaderView}
+use Rattle.gen_core.specs.declared.views.WriterView.{WriterView}
+use Rattle.gen_core.specs.Views.{last_number}
+use Rattle.word_arena.specs.Knows.{view_of}
+use Rattle.attr_images.specs.Images.{operations_at, table_of, IsLawfulImage}
+use Rattle.attr_images.specs.Shapes.{shape_of, types_of}
+use Rattle.attr_scores.specs.Scores.{AskTree}
+use Rattle.attr_types.specs.Table.{skipped}
+use Rattle.attr_types.specs.declared.field.Field.{Field}
+use Rattle.attr_types.specs.declared.field.TheConstants.{MOST_FIELDS}
+use Rattle.attr_types.specs.declared.op.Op.{Op}
+use Rattle.attr_loader.specs.Loading.{AreCommits, EndsAt, commit_point}
+use Rattle.attr_loader.specs.declared.loaded.Loaded.{Loaded}
+use Rattle.attr_rounds.specs.Rounds.{AreSeen, IsOfCommit, MakesRounds}
+use Rattle.attr_rounds.specs.declared.rounds.Round.{Round}
+use Rattle.attr_answers.specs.declared.asked.Told.{Told}
+use Rattle.attr_answers.specs.Lines.{TellsTable}
+use Rattle.attr_report.specs.Run.{Run}
+use Rattle.attr_engine.specs.Rounds.{commits_of}
+
+-- how many readers run beside the loading, and how many after it
+abbrev pub parts : Bool → ℕ → ℕ × ℕ
+parts true readers = (0, readers)
+parts false readers = (readers, 0)
+
+-- the writer has the same commits, work and buffers
+abbrev pub KeepsWriter : WriterView → WriterView → Type 0
+KeepsWriter w w' = w' ≡ record w { saw = w'.saw; made = w'.made }
+
+-- a writer that has committed nothing, of images of these attributes
+pub record IsNewWriter (fields : List Field) (home : TableId) (w : WriterView) : Type 0 where
+  pub some : 0 < length fields
+  pub few : length fields ≤ MOST_FIELDS
+  pub shape_is : w.sizes.shape ≡ shape_of (types_of fields)
+  pub fresh : IsFresh (view_of home w)
+  pub commits : w.commits ≡ no_image ∷ []
+
+-- what a loading makes of a writer: its commits are those of the operations
+pub record LoadsInto (fields : List Field) (batch : ℕ) (ops : List Op) (old new : WriterView) (loaded : Loaded) : Type 0 where
+  pub shape_is : new.sizes.shape ≡ old.sizes.shape
+  pub last : ℕ
+  pub commits : AreCommits fields batch ops last new.commits
+  pub count : length new.commits ≡ last + 1
+  pub point : loaded.operations ≡ commit_point batch (length ops) last
+  pub skips : loaded.skipped ≡ skipped fields ops loaded.operations
+  pub ends : EndsAt batch (length ops) old.sizes.buffers loaded.operations loaded.full
+
+-- what is asked of an image, as a question of rounds
+abbrev pub operations_of : ℕ → Records → ℕ → ℕ
+operations_of shape m root = operations_at m root
+
+abbrev pub tells_of : Bool → List AskTree → ℕ → Records → ℕ → Told → Type 0
+tells_of counted asks shape m root told = TellsTable counted asks (table_of shape m root) told
+
+-- a reader that was made of the writer, before any round
+pub record IsReader (w : WriterView) (home : TableId) (r : ReaderView) (table : TableId) : Type 0 where
+  pub same_sizes : r.sizes ≡ w.sizes
+  pub seen_last : r.seen ≡ last_number w.commits
+  pub at_home : table ≡ home
+
+-- a reader after so many rounds, that was made of this writer
+pub record HasRead (counted : Bool) (asks : List AskTree) (w : WriterView) (home : TableId) (count : ℕ) (r : ReaderView) (table : TableId) (rounds : List (Round Told)) : Type 0 where
+  pub start : ReaderView
+  pub seat : TableId
+  pub is : IsReader w home start seat
+  pub makes : MakesRounds operations_of (tells_of counted asks) IsLawfulImage start r rounds
+  pub made : length rounds ≡ count
+  pub same : table ≡ seat
+
+-- a reader after its rounds, which can be taken in
+pub record IsReading (counted : Bool) (asks : List AskTree) (shape : ℕ) (home : TableId) (r : ReaderView) (table : TableId) (rounds : List (Round Told)) : Type 0 where
+  pub shape_is : r.sizes.shape ≡ shape
+  pub are_seen : AreSeen operations_of (tells_of counted asks) IsLawfulImage r rounds
+  pub at_home : table ≡ home
+
+-- its rounds, taken in at the writer
+pub record IsTakenFrom (counted : Bool) (asks : List AskTree) (shape : ℕ) (commits : List Image) (before after : List (Round Told)) : Type 0 where
+  pub same : after ≡ before
+  pub each : All (IsOfCommit operations_of (tells_of counted asks) shape commits) after
+
+-- the rounds of a reader: so many, each of a commit, the commits never falling, and none below what it had seen
+pub record AreTaken (counted : Bool) (asks : List AskTree) (shape seen count : ℕ) (commits : List Image) (rounds : List (Round Told)) : Type 0 where
+  pub made : length rounds ≡ count
+  pub each : All (IsOfCommit operations_of (tells_of counted asks) shape commits) rounds
+  pub forward : IsNonDecreasing (seen ∷ commits_of rounds)
+
+-- what one more round tells, of a reader that had seen the last commit
+pub record IsLast (counted : Bool) (asks : List AskTree) (w : WriterView) (told : Told) : Type 0 where
+  pub round : Round Told
+  pub is : told ≡ round.answer
+  pub taken : AreTaken counted asks w.sizes.shape (last_number w.commits) 1 w.commits (round ∷ [])
+
+-- what is asked in a run
+pub record IsQuestionOf (run : Run) (fields : List Field) (counted : Bool) (asks : List AskTree) (count : ℕ) : Type 0 where
+  pub fields_are : fields ≡ run.fields
+  pub counted_is : counted ≡ is_some run.make
+  pub asks_are : asks ≡ run.asks
+  pub small : count < 2 ^ 63

@@ -1,0 +1,178 @@
+//! The loading, beside other tasks.
+ghost use Rattle.std.specs.Prelude.{◌≡◌, ◌<◌, ◌^◌, length, map, IfOk, All};
+ghost use Rattle.std.specs.List.{AllByRecursion, AllZip};
+ghost use Rattle.word_arena.specs.Knows.{view_of};
+ghost use Rattle.word_arena.specs.Ruled.{reader_of, writer_of};
+ghost use Rattle.attr_answers.specs.Lines.{CanAsk};
+ghost use Rattle.attr_images.specs.Shapes.{shape_of, types_of};
+ghost use Rattle.attr_scores.specs.Scores.{ask_tree};
+ghost use Rattle.attr_types.specs.Lawful.{OpFits};
+ghost use Rattle.attr_loader.specs.Loading.{CanLoad, IsAtStart, Loads};
+ghost use Rattle.attr_engine.specs.Steps.{HasRead, IsNewWriter, LoadsInto};
+
+use crate::readers::jobs_of;
+use attr_answers::{Asked, Told};
+use attr_images::{AttrLayout, image_law};
+use attr_io::Gate;
+use attr_loader::{Loaded, Loading};
+use attr_rounds::Reading;
+use attr_threads::{Task, run_beside};
+use attr_types::{Fields, Op};
+use attribute_kinds::Attribute;
+use entry_store::EntryStore;
+use std::alloc::{AllocError, Global};
+use std::thread::Threads;
+use store_api::Store;
+use word_arena::Writer;
+
+/// The writer after the loading, how much was loaded, and the rounds of the readers beside it.
+#[derive(Drop)]
+pub struct LoadedBeside<'a, const OFFSET_BITS: u32> {
+    pub writer: Writer<'a, OFFSET_BITS, AttrLayout>,
+    pub loaded: Loaded,
+    pub readings: Vec<Result<Reading<'a, OFFSET_BITS, AttrLayout, Told>, AllocError>>,
+}
+
+/// Attributes without a document over a writer that has committed nothing.
+fn opened<'a, const OFFSET_BITS: u32>(
+    alloc: Global,
+    writer: Writer<'a, OFFSET_BITS, AttrLayout>,
+    fields: &Fields,
+) -> Result<
+    Attribute<OFFSET_BITS, EntryStore<OFFSET_BITS, Writer<'a, OFFSET_BITS, AttrLayout>>>,
+    AllocError,
+>
+    requires new { IsNewWriter fields.now writer.place.table_id (writer_of writer.place.me.0) }
+    ensures fields { IfOk result (λ a. a.fields ≡ fields.now) }
+    ensures start { IfOk result (IsAtStart ⟦<EntryStore<OFFSET_BITS, Writer<'a, OFFSET_BITS, AttrLayout>> as Store<OFFSET_BITS>>⟧.ledger) }
+    ensures work { IfOk result (λ a. (⟦<EntryStore<OFFSET_BITS, Writer<'a, OFFSET_BITS, AttrLayout>> as Store<OFFSET_BITS>>⟧.ledger a.store).work
+        ≡ view_of writer.entry.place.table_id (writer_of writer.entry.place.me.0)) }
+{
+    image_law();
+    let attribute = match Attribute::create(alloc, writer, fields, false) {
+        Ok(attribute) => attribute,
+        Err(_) => return Err(AllocError),
+    };
+    let _ = attribute.operations();
+    Ok(attribute)
+}
+
+/// The writer again, with all that was committed.
+fn closed<'a, const OFFSET_BITS: u32>(
+    attribute: Attribute<OFFSET_BITS, EntryStore<OFFSET_BITS, Writer<'a, OFFSET_BITS, AttrLayout>>>,
+) -> Writer<'a, OFFSET_BITS, AttrLayout>
+    ensures knows { view_of result.place.table_id (writer_of result.place.me.0)
+        ≡ (⟦<EntryStore<OFFSET_BITS, Writer<'a, OFFSET_BITS, AttrLayout>> as Store<OFFSET_BITS>>⟧.ledger attribute.entry.store).work }
+    ensures shape { (writer_of result.place.me.0).sizes.shape ≡ shape_of (types_of attribute.entry.fields) }
+{
+    let (store, _) = attribute.into_store();
+    store.into_work()
+}
+
+/// Loads operations into attributes beside other tasks; no thread is started where there are none.
+fn run_loading<
+    'a,
+    const OFFSET_BITS: u32,
+    R: Threads + Sync,
+    G: Gate + Sync,
+    S: Store<OFFSET_BITS, Layout = AttrLayout> + Drop,
+    T: Task<Output = B> + Send + Drop,
+    B: Send + Drop,
+>(
+    rt: &R,
+    alloc: Global,
+    loading: Loading<'a, OFFSET_BITS, S, G>,
+    others: Vec<T>,
+) -> Result<(Attribute<OFFSET_BITS, S>, Loaded, Vec<B>), AllocError>
+    requires load { CanLoad S.ledger loading.batch loading.ops.now loading.attribute }
+    requires others { All T.can_run others.items }
+    ensures loads { IfOk result (λ r. Loads S.ledger loading.entry.batch loading.entry.ops.now loading.entry.attribute r.0 r.1) }
+    ensures others { IfOk result (λ r. AllZip T.run_gives others.items r.2.items) }
+{
+    let (given, gives) = run_beside(rt, alloc, loading, others)?;
+    let (attribute, loaded) = given?;
+    Ok((attribute, loaded, gives))
+}
+
+/// Loads operations into attributes over a writer, beside other tasks.
+fn load_at<
+    'a,
+    const OFFSET_BITS: u32,
+    R: Threads + Sync,
+    G: Gate + Sync,
+    T: Task<Output = B> + Send + Drop,
+    B: Send + Drop,
+>(
+    rt: &R,
+    alloc: Global,
+    writer: Writer<'a, OFFSET_BITS, AttrLayout>,
+    fields: &Fields,
+    ops: &'a [Op],
+    batch: u32,
+    gate: &'a G,
+    others: Vec<T>,
+) -> Result<(Writer<'a, OFFSET_BITS, AttrLayout>, Loaded, Vec<B>), AllocError>
+    requires new { IsNewWriter fields.now writer.place.table_id (writer_of writer.place.me.0) }
+    requires some { 0 < batch }
+    requires few { length ops.now < 2 ^ 32 }
+    requires fit { AllByRecursion (OpFits fields.now) ops.now }
+    requires others { All T.can_run others.items }
+    ensures table { IfOk result (λ r. r.0.place.table_id ≡ writer.entry.place.table_id) }
+    ensures loads { IfOk result (λ r. LoadsInto fields.now batch ops.now (writer_of writer.entry.place.me.0) (writer_of r.0.place.me.0) r.1) }
+    ensures others { IfOk result (λ r. AllZip T.run_gives others.items r.2.items) }
+{
+    let attribute = opened(alloc, writer, fields)?;
+    let loading = Loading {
+        alloc,
+        attribute,
+        ops,
+        batch,
+        gate,
+    };
+    let (attribute, loaded, gives) = run_loading(rt, alloc, loading, others)?;
+    let writer = closed(attribute);
+    Ok((writer, loaded, gives))
+}
+
+/// Loads operations into attributes over a writer, beside so many readers; no thread is started where there are none.
+pub fn load_beside<'a, const OFFSET_BITS: u32, R: Threads + Sync, G: Gate + Sync + 'static>(
+    rt: &R,
+    alloc: Global,
+    writer: Writer<'a, OFFSET_BITS, AttrLayout>,
+    ops: &'a [Op],
+    batch: u32,
+    readers: u32,
+    rounds: u32,
+    question: &'a Asked<'a>,
+    gate: &'a G,
+) -> Result<LoadedBeside<'a, OFFSET_BITS>, AllocError>
+    requires new { IsNewWriter question.now.fields.now writer.place.table_id (writer_of writer.place.me.0) }
+    requires asks { CanAsk question.now.fields.now (length question.now.asks.now) (writer_of writer.place.me.0).sizes.shape }
+    requires some { 0 < batch }
+    requires few { length ops.now < 2 ^ 32 }
+    requires fit { AllByRecursion (OpFits question.now.fields.now) ops.now }
+    ensures table { IfOk result (λ r. r.writer.place.table_id ≡ writer.entry.place.table_id) }
+    ensures loads { IfOk result (λ r. LoadsInto question.now.fields.now batch ops.now (writer_of writer.entry.place.me.0) (writer_of r.writer.place.me.0) r.loaded) }
+    ensures count { IfOk result (λ r. length r.readings.items ≡ readers) }
+    ensures readings { IfOk result (λ r. AllByRecursion (λ reading. IfOk reading (λ x.
+        HasRead question.now.counted (map ask_tree question.now.asks.now) (writer_of writer.entry.place.me.0) writer.entry.place.table_id rounds
+        (reader_of x.reader.place.me.0) x.reader.place.table_id x.rounds.items)) r.readings.items) }
+{
+    let mut writer = writer;
+    let jobs = jobs_of(alloc, &mut writer, readers, rounds, question, gate)?;
+    let (writer, loaded, readings) = load_at(
+        rt,
+        alloc,
+        writer,
+        question.fields,
+        ops,
+        batch,
+        gate,
+        jobs,
+    )?;
+    Ok(LoadedBeside {
+        writer,
+        loaded,
+        readings,
+    })
+}

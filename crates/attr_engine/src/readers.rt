@@ -1,0 +1,129 @@
+//! The readers of a run: their tasks, and their rounds taken in at the writer.
+ghost use Rattle.std.specs.Prelude.{◌≡◌, ◌<◌, length, map, IfOk, IsOkAnd, All};
+ghost use Rattle.std.specs.List.{AllByRecursion, AllZip};
+ghost use Rattle.gen_core.specs.Views.{last_number};
+ghost use Rattle.word_arena.specs.Ruled.{reader_of, writer_of};
+ghost use Rattle.attr_answers.specs.Lines.{CanAsk, TellsTable};
+ghost use Rattle.attr_images.specs.Images.{table_of};
+ghost use Rattle.attr_scores.specs.Scores.{ask_tree};
+ghost use Rattle.attr_engine.specs.Steps.{KeepsWriter, IsReader, IsReading, IsTakenFrom, AreTaken, IsLast};
+
+use attr_answers::{Asked, Told};
+use attr_images::AttrLayout;
+use attr_io::{Gate, NoGate};
+use attr_rounds::{Job, Reading, Round, go_round, take_in};
+use attr_threads::run_each;
+use std::alloc::{AllocError, Global};
+use std::thread::Threads;
+use word_arena::{Reader, Writer};
+
+/// A new reader, which has seen the last commit.
+fn reader_in<'a, const OFFSET_BITS: u32>(
+    writer: &mut Writer<'a, OFFSET_BITS, AttrLayout>,
+) -> Result<Reader<'a, OFFSET_BITS, AttrLayout>, AllocError>
+    ensures reader { IfOk result (λ r. IsReader (writer_of writer.old.place.me.0) writer.old.place.table_id (reader_of r.place.me.0) r.place.table_id) }
+    ensures keeps { KeepsWriter (writer_of writer.old.place.me.0) (writer_of writer.new.place.me.0) }
+    ensures table { writer.new.place.table_id ≡ writer.old.place.table_id }
+{
+    match writer.reader() {
+        Ok(reader) => Ok(reader),
+        Err(_) => Err(AllocError),
+    }
+}
+
+/// The tasks of so many new readers, each of which has seen the last commit.
+pub fn jobs_of<'a, const OFFSET_BITS: u32, G: Gate>(
+    alloc: Global,
+    writer: &mut Writer<'a, OFFSET_BITS, AttrLayout>,
+    readers: u32,
+    rounds: u32,
+    question: &'a Asked<'a>,
+    gate: &'a G,
+) -> Result<Vec<Job<'a, OFFSET_BITS, AttrLayout, Asked<'a>, G>>, AllocError>
+    ensures count { IfOk result (λ jobs. length jobs.items ≡ readers) }
+    ensures jobs { IfOk result (λ jobs. All (λ job.
+        IsReader (writer_of writer.old.place.me.0) writer.old.place.table_id (reader_of job.reader.place.me.0) job.reader.place.table_id
+        × (job.count ≡ rounds) × (job.question.now ≡ question.now)) jobs.items) }
+    ensures keeps { KeepsWriter (writer_of writer.old.place.me.0) (writer_of writer.new.place.me.0) }
+    ensures table { writer.new.place.table_id ≡ writer.old.place.table_id }
+{
+    let mut jobs = Vec::new(alloc);
+    for i in 0..readers {
+        let reader = reader_in(writer)?;
+        let number = i + 1;
+        jobs.push(Job {
+            alloc,
+            reader,
+            number,
+            count: rounds,
+            question,
+            gate,
+        })?;
+    }
+    Ok(jobs)
+}
+
+/// Takes readers in after their rounds.
+pub fn take_all<'a, const OFFSET_BITS: u32>(
+    alloc: Global,
+    writer: &mut Writer<'a, OFFSET_BITS, AttrLayout>,
+    readings: Vec<Result<Reading<'a, OFFSET_BITS, AttrLayout, Told>, AllocError>>,
+    question: &Asked<'_>,
+) -> Result<Vec<Vec<Round<Told>>>, AllocError>
+    requires { AllByRecursion (λ reading. IfOk reading (λ r. IsReading question.now.counted (map ask_tree question.now.asks.now) (writer_of writer.old.place.me.0).sizes.shape
+        writer.old.place.table_id (reader_of r.reader.place.me.0) r.reader.place.table_id r.rounds.items)) readings.items }
+    ensures rounds { IfOk result (λ rounds. AllZip (λ reading taken. IsOkAnd reading (λ r.
+        IsTakenFrom question.now.counted (map ask_tree question.now.asks.now) (writer_of writer.old.place.me.0).sizes.shape (writer_of writer.old.place.me.0).commits
+        r.rounds.items taken.items)) readings.entry.items rounds.items) }
+    ensures keeps { KeepsWriter (writer_of writer.old.place.me.0) (writer_of writer.new.place.me.0) }
+    ensures table { writer.new.place.table_id ≡ writer.old.place.table_id }
+{
+    let mut rounds = Vec::new(alloc);
+    for reading in readings {
+        let reading = reading?;
+        let taken = take_in(writer, reading, question);
+        rounds.push(taken)?;
+    }
+    Ok(rounds)
+}
+
+/// The rounds of so many readers after the loading.
+pub fn read_after<'a, const OFFSET_BITS: u32, R: Threads + Sync, G: Gate + Sync + 'static>(
+    rt: &R,
+    alloc: Global,
+    writer: &mut Writer<'a, OFFSET_BITS, AttrLayout>,
+    readers: u32,
+    count: u32,
+    question: &'a Asked<'a>,
+    gate: &'a G,
+) -> Result<Vec<Vec<Round<Told>>>, AllocError>
+    requires { CanAsk question.now.fields.now (length question.now.asks.now) (writer_of writer.old.place.me.0).sizes.shape }
+    ensures count { IfOk result (λ rounds. length rounds.items ≡ readers) }
+    ensures rounds { IfOk result (λ rounds. AllByRecursion (λ r.
+        AreTaken question.now.counted (map ask_tree question.now.asks.now) (writer_of writer.old.place.me.0).sizes.shape (last_number (writer_of writer.old.place.me.0).commits) count
+        (writer_of writer.old.place.me.0).commits r.items) rounds.items) }
+    ensures keeps { KeepsWriter (writer_of writer.old.place.me.0) (writer_of writer.new.place.me.0) }
+    ensures table { writer.new.place.table_id ≡ writer.old.place.table_id }
+{
+    let jobs = jobs_of(alloc, writer, readers, count, question, gate)?;
+    let readings = run_each(rt, jobs)?;
+    take_all(alloc, writer, readings, question)
+}
+
+/// What the last commit answers: one round of one more reader, which passes no gate.
+pub fn last_told<'a, const OFFSET_BITS: u32>(
+    alloc: Global,
+    writer: &mut Writer<'a, OFFSET_BITS, AttrLayout>,
+    question: &Asked<'_>,
+) -> Result<Told, AllocError>
+    requires { CanAsk question.now.fields.now (length question.now.asks.now) (writer_of writer.old.place.me.0).sizes.shape }
+    ensures { IfOk result (IsLast question.now.counted (map ask_tree question.now.asks.now) (writer_of writer.old.place.me.0)) }
+{
+    let reader = reader_in(writer)?;
+    let reading = go_round(alloc, reader, 0, 1, question, &NoGate)?;
+    let mut rounds = take_in(writer, reading, question);
+    match rounds.pop() {
+        Some(round) => Ok(round.answer),
+        None => Err(AllocError),
+    }
+}
