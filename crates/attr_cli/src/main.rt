@@ -10,7 +10,7 @@ fn main(rt: HostRuntime) -> ExitCode {
         Ok(words) => {
             let mut source = StdSource::new(&rt);
             let mut sink = StdSink::new(&rt);
-            attr_main(rt.alloc(), &words, &mut source, &mut sink, &NoGate).status
+            attr_main(&rt, rt.alloc(), &words, &mut source, &mut sink, &NoGate).status
         }
         Err(_) => Status::Memory,
     };

@@ -1,5 +1,5 @@
 -- The rounds of a run are those that its report's statement wants.
-use Rattle.std.proofs.Common.{◌≡◌, ◌≤◌, ◌<◌, ◌+◌, ◌*◌, slice_index_or, ℕ, zero, suc, List, [], ◌∷◌, length, map, Option, inl, inr, refl, sym, ap, ap₂, subst, ◌∙◌, arith}
+use Rattle.std.proofs.Common.{◌≡◌, ◌≤◌, ◌*◌, slice_index_or, ℕ, zero, suc, List, [], ◌∷◌, length, map, Option, inl, inr, refl, sym, ap, ap₂, subst, ◌∙◌, arith}
 use Rattle.std.specs.Prelude.{Bool, true, false, IsTrue, All, Vec}
 use Rattle.std.specs.Global.{Global}
 use Rattle.std.specs.List.{AllByRecursion}
@@ -25,7 +25,7 @@ each_all P [] all k d below = absurd (omega (arith, below))
 each_all P (x ∷ xs) all zero d below = all.0
 each_all P (x ∷ xs) all (suc k) d below = each_all P xs all.1 k d (omega (arith, below))
 
-is_point : (batch total k : ℕ) → IsCommitPoint batch total (commit_point batch total k)
+pub is_point : (batch total k : ℕ) → IsCommitPoint batch total (commit_point batch total k)
 is_point batch total k = elim (cases_lt (batch * k) total) [
   | inl below ↦ (omega arith, inl (k, omega (arith, below)))
   | inr above ↦ (omega arith, inr (omega (arith, above)))

@@ -1,5 +1,5 @@
 -- The tasks of readers, what they give, and these taken in.
-use Rattle.std.proofs.Common.{◌≡◌, ◌∙◌, ◌++◌, slice_index_or, ℕ, List, [], ◌∷◌, length, map, sym, ap, subst}
+use Rattle.std.proofs.Common.{◌≡◌, ◌∙◌, slice_index_or, ℕ, List, length, map, sym, subst}
 use Rattle.std.specs.Prelude.{All, Result, Ok, Err, IfOk, IsOkAnd, Vec}
 use Rattle.std.specs.Global.{Global}
 use Rattle.std.specs.List.{AllByRecursion, AllZip}

@@ -3,3 +3,4 @@ pub mod ReaderLemmas
 pub mod JobLemmas
 pub mod RunLemmas
 pub mod HistoryLemmas
+pub mod WritingLemmas

@@ -1,22 +1,23 @@
 -- Readers, their rounds, and these taken in.
-use Rattle.std.proofs.Common.{◌≡◌, ◌≤◌, ◌<◌, ◌+◌, ◌++◌, ℕ, zero, suc, List, [], ◌∷◌, length, map, refl, sym, ap, subst, ◌∙◌, arith}
-use Rattle.std.specs.Prelude.{Bool, All, Result, Ok, Err, IfOk}
+use Rattle.std.proofs.Common.{◌≡◌, ◌++◌, ℕ, suc, List, [], ◌∷◌, length, map, refl, sym, ap, subst, ◌∙◌, arith}
+use Rattle.std.specs.Prelude.{Bool, All}
 use Rattle.std.specs.List.{AllByRecursion, AllZip}
 use Rattle.std.specs.List.Sorted.{IsNonDecreasing}
 use Rattle.std.proofs.lemmas.List.{length-append, get_or_append_left}
 use Rattle.atomic_table.specs.Seated.{TableId}
 use Rattle.image_base.specs.declared.Image.{Image}
+use Rattle.image_base.specs.Records.{Records}
 use Rattle.gen_core.specs.declared.views.Sizes.{Sizes}
 use Rattle.gen_core.specs.declared.views.ReaderView.{ReaderView}
 use Rattle.gen_core.specs.declared.views.WriterView.{WriterView}
 use Rattle.gen_core.specs.Views.{last_number}
 use Rattle.attr_scores.specs.Scores.{AskTree}
 use Rattle.gen_core.specs.Events.{joined}
-use Rattle.attr_rounds.specs.Rounds.{IsOfCommit}
+use Rattle.attr_rounds.specs.Rounds.{IsOfCommit, MakesRounds}
 use Rattle.attr_rounds.specs.declared.rounds.Round.{Round}
 use Rattle.attr_answers.specs.declared.asked.Told.{Told}
 use Rattle.attr_engine.specs.Rounds.{commits_of}
-use Rattle.attr_engine.specs.Steps.{operations_of, tells_of, KeepsWriter, HasRead, IsReading, IsTakenFrom, AreTaken}
+use Rattle.attr_engine.specs.Steps.{operations_of, tells_of, KeepsWriter, IsReader, HasRead, IsReading, IsTakenFrom, AreTaken, IsLast}
 
 pub all_first : {X : Type 0} (P : X → Type 0) (x : X) (xs : List X) → All P (x ∷ xs) → P x
 all_first P x xs all = all 0 x (omega arith)
@@ -103,6 +104,27 @@ taken_in counted asks w v v' home table r rounds taken keeps is reading same all
 
 pub keeps_joined : (w v : WriterView) (r : ReaderView) → v ≡ joined w r → KeepsWriter w v
 keeps_joined w v r is = subst (KeepsWriter w) (sym is) refl
+
+-- a round of a reader of this writer, taken in, is of the last commit that it has
+pub last_of : {A : Type 0} (operations : ℕ → Records → ℕ → ℕ) (answers : ℕ → Records → ℕ → A → Type 0) (lawful : ℕ → Records → ℕ → Type 0) (w v v' : WriterView) (home table : TableId)
+    (start r : ReaderView) (rounds taken : List (Round A)) (round : Round A) → IsReader w home start table → MakesRounds operations answers lawful start r rounds
+    → KeepsWriter w v → v' ≡ joined v r → taken ≡ rounds → All (IsOfCommit operations answers r.sizes.shape v'.commits) taken → taken ≡ round ∷ []
+    → IsLast operations answers w round.answer
+last_of {A = A} operations answers lawful w v v' home table start r rounds taken round is makes keeps joins same all one =
+    let stay : v'.commits ≡ w.commits = ap (λ (x : WriterView). x.commits) joins ∙ ap (λ (x : WriterView). x.commits) keeps in
+    let shape : r.sizes.shape ≡ w.sizes.shape = ap (λ (x : Sizes). x.shape) (makes.same_sizes ∙ is.same_sizes) in
+    let forward = subst (λ (list : List (Round A)). IsNonDecreasing ((start.seen ∷ map (λ (x : Round A). x.commit) list) ++ r.seen ∷ [])) (sym same ∙ one) makes.forward in
+    let up = forward 0 1 0 (omega arith) (omega arith) in
+    let seen = is.seen_last in
+    record {
+      round = round;
+      is = refl;
+      of_commit = subst (λ n. IsOfCommit operations answers n w.commits round) shape
+          (subst (λ (cs : List Image). IsOfCommit operations answers r.sizes.shape cs round) stay
+          (all_first (IsOfCommit operations answers r.sizes.shape v'.commits) round []
+          (subst (All (IsOfCommit operations answers r.sizes.shape v'.commits)) one all)));
+      later = omega (arith, up, seen);
+    }
 
 pub one_of : {X : Type 0} (xs ys : List X) (x : X) → xs ≡ ys ++ x ∷ [] → length xs ≡ 1 → xs ≡ x ∷ []
 one_of xs [] x is one = is

@@ -1,18 +1,21 @@
 -- Rounds of commits are rounds of the plain table, and the rounds of a run are what its report tells.
-use Rattle.std.proofs.Common.{◌≡◌, ◌≤◌, ◌<◌, ◌+◌, ◌*◌, ◌-◌, ℕ, zero, suc, List, [], ◌∷◌, length, map, Some, inl, inr, refl, sym, ap, subst, ◌∙◌, arith}
-use Rattle.std.specs.Prelude.{Bool, true, false, if◌then◌else◌, is_some, All, min, Option, None, IfSome, Vec}
+use Rattle.std.proofs.Common.{◌≡◌, ◌≤◌, ◌+◌, ℕ, List, [], ◌∷◌, length, Some, sym, ap, subst, ◌∙◌, arith}
+use Rattle.std.specs.Prelude.{Bool, true, false, if◌then◌else◌, is_some, Option, None, IfSome, Vec}
 use Rattle.std.specs.Global.{Global}
-use Rattle.std.specs.List.Sorted.{IsNonDecreasing}
-use Rattle.std.proofs.lemmas.Option.{slice_get_within}
+use Rattle.std.specs.BTreeMap.{BTreeMap}
+use Rattle.std.proofs.lemmas.Option.{slice_get_within, IfSome_then}
 use Rattle.image_base.specs.declared.Image.{Image}
 use Rattle.image_base.specs.Images.{no_image, words_at}
+use Rattle.image_base.specs.Records.{Records}
 use Rattle.gen_core.specs.declared.views.WriterView.{WriterView}
 use Rattle.gen_core.specs.Views.{last_number}
 use Rattle.attr_images.specs.Images.{table_of}
 use Rattle.attr_images.specs.Shapes.{shape_of, types_of}
 use Rattle.attr_scores.specs.Scores.{AskTree}
 use Rattle.std.specs.List.{AllByRecursion}
-use Rattle.attr_types.specs.Table.{after}
+use Rattle.attr_column.specs.Columns.{TellsColumn}
+use Rattle.attr_types.specs.Table.{Table, after}
+use Rattle.attr_types.specs.declared.items.Item.{Item}
 use Rattle.attr_types.specs.declared.op.Op.{Op}
 use Rattle.attr_loader.specs.Loading.{AreCommits, EndsAt, commit_point}
 use Rattle.attr_loader.specs.declared.loaded.Loaded.{Loaded}
@@ -24,9 +27,13 @@ use Rattle.attr_answers.specs.Lines.{TellsTable}
 use Rattle.attr_report.specs.Run.{Run, table_at}
 use Rattle.attr_report.specs.History.{IsLoaded}
 use Rattle.attr_engine.specs.Run.{full_of}
-use Rattle.attr_engine.specs.Rounds.{IsRoundAt, AreRoundsAt, IsCame, commits_of, seen_before}
-use Rattle.attr_engine.specs.Steps.{KeepsWriter, operations_of, tells_of, parts, AreTaken, IsLast, LoadsInto}
+use Rattle.attr_engine.specs.Rounds.{IsRoundAt, AreRoundsAt, IsCame, seen_before}
+use Rattle.attr_engine.specs.Steps.{KeepsWriter, operations_of, tells_of, saves_of, parts, AreTaken, IsLast, LoadsInto}
 use Rattle.attr_engine.proofs.ReaderLemmas.{AllOf, each_weaker}
+
+-- what is answered at an image, by its table
+abbrev pub over_table : {A : Type 0} → (Table → A → Type 0) → ℕ → Records → ℕ → A → Type 0
+over_table Answers shape m root answer = Answers (table_of shape m root) answer
 
 module _ (run : Run) (ops : List Op) (last : ℕ) (commits : List Image) (are : AreCommits run.fields run.batch ops last commits) (count : length commits ≡ last + 1)
     (shape : ℕ) (shape_is : shape ≡ shape_of (types_of run.fields)) where
@@ -49,16 +56,16 @@ module _ (run : Run) (ops : List Op) (last : ℕ) (commits : List Image) (are : 
     forward = taken.forward;
   }
 
-  -- one round of a reader that had seen the last commit tells all that was loaded
-  pub last_at : (loaded : ℕ) → loaded ≡ commit_point run.batch (length ops) last → (round : Round Told)
-      → AreTaken (is_some run.make) run.asks shape last 1 commits (round ∷ []) → TellsTable (is_some run.make) run.asks (table_at run ops loaded) round.answer
-  last_at loaded point round taken =
-      let at = round_at round (taken.each 0 round (omega arith)) in
-      let up = taken.forward 0 1 0 (omega arith) (omega arith) in
-      let low = at.commit in
-      let same : round.commit ≡ last = omega (arith, up, low) in
-      let here : round.operations ≡ loaded = at.point ∙ ap (commit_point run.batch (length ops)) same ∙ sym point in
-      subst (λ n. TellsTable (is_some run.make) run.asks (table_at run ops n) round.answer) here at.tells
+  -- a round of the last commit answers from the table of all that was loaded
+  pub last_at : {A : Type 0} (Answers : Table → A → Type 0) (loaded : ℕ) → loaded ≡ commit_point run.batch (length ops) last → (round : Round A)
+      → IsOfCommit operations_of (over_table Answers) shape commits round → last ≤ round.commit → Answers (table_at run ops loaded) round.answer
+  last_at Answers loaded point round of later =
+      let within = slice_get_within commits round.commit of.image of.there in
+      let same : round.commit ≡ last = omega (arith, within, count, later) in
+      let here : commit_point run.batch (length ops) round.commit ≡ loaded = ap (commit_point run.batch (length ops)) same ∙ sym point in
+      let table_is : table_of shape (words_at of.image) of.image.root ≡ table_at run ops loaded =
+      ap (λ s. table_of s (words_at of.image) of.image.root) shape_is ∙ (are.each round.commit of.image of.there).table ∙ ap (λ k. after run.fields ops k) here in
+      subst (λ (table : Table). Answers table round.answer) table_is of.is.answer
 
 -- those of the readers that a run has: after the loading or beside it
 pub chosen_rounds : {C : Type 0} (P : ℕ → C → Type 0) (last readers : ℕ) (b : Bool) (first later chosen : List C) → chosen ≡ (if b then later else first)
@@ -72,6 +79,12 @@ each_at P Q n xs step all = record { each = each_weaker P Q step xs all.each; co
 ended : (run : Run) (total loaded : ℕ) (full : Option NoRoom) → EndsAt run.batch total run.buffers loaded full → IsLoaded run total loaded (full_of full) × IfSome full (λ r. r.active + r.held ≡ run.buffers)
 ended run total loaded None ends = (ends, tt)
 ended run total loaded (Some room) ends = ((ends.0, ends.1, ends.2), ends.3)
+
+abbrev pub Documents : Type 0
+Documents = BTreeMap ℕ (List (List Item))
+
+abbrev Saves : Table → Documents → Type 0
+Saves table documents = TellsColumn table documents.entries
 
 -- what a run came to, by the writer before and after the loading
 module _ (run : Run) (ops : List Op) (w v : WriterView) (loaded : Loaded) (loads : LoadsInto run.fields run.batch ops w v loaded) (buffers : w.sizes.buffers ≡ run.buffers)
@@ -88,10 +101,21 @@ module _ (run : Run) (ops : List Op) (w v : WriterView) (loaded : Loaded) (loads
   at : (seen : ℕ) (rounds : Vec (Round Told) Global) → TakenAt seen rounds → At seen rounds
   at seen rounds taken = rounds_at run ops loads.last v.commits loads.commits loads.count v.sizes.shape (loads.shape_is ∙ shape) seen rounds.items taken
 
-  pub came_of : (first later : List (Vec (Round Told) Global)) (rounds : Vec (Vec (Round Told) Global) Global) (last : Told) → rounds.items ≡ (if run.after then later else first)
+  -- what is answered last is of the table of all that was loaded
+  answers_last : {A : Type 0} (Answers : Table → A → Type 0) (answer : A) → IsLast operations_of (over_table Answers) v answer → Answers (table_at run ops loaded.operations) answer
+  answers_last Answers answer is =
+      let count = loads.count in
+      let later = is.later in
+      let final : loads.last ≤ is.round.commit = omega (arith, count, later) in
+      subst (Answers (table_at run ops loaded.operations)) (sym is.is)
+      (last_at run ops loads.last v.commits loads.commits loads.count v.sizes.shape (loads.shape_is ∙ shape) Answers loaded.operations loads.point is.round is.of_commit final)
+
+  pub came_of : (first later : List (Vec (Round Told) Global)) (rounds : Vec (Vec (Round Told) Global) Global) (last : Told) (documents : Option Documents)
+      → rounds.items ≡ (if run.after then later else first)
       → AllOf (TakenAt (last_number w.commits)) (parts run.after run.readers).0 first → AllOf (TakenAt (last_number v.commits)) (parts run.after run.readers).1 later
-      → IsLast counted run.asks v last → IsCame run ops (record { loaded = loaded; rounds = rounds; last = last })
-  came_of first later rounds last is one two told =
+      → IsLast operations_of (tells_of counted run.asks) v last → is_some documents ≡ run.save → IfSome documents (IsLast operations_of saves_of v)
+      → IsCame run ops (record { loaded = loaded; rounds = rounds; last = last; documents = documents })
+  came_of first later rounds last documents is one two told asked saved =
       let count = loads.count in
       let zero : last_number w.commits ≡ 0 = ap last_number none in
       let final : last_number v.commits ≡ loads.last = omega (arith, count) in
@@ -107,9 +131,9 @@ module _ (run : Run) (ops : List Op) (w v : WriterView) (loaded : Loaded) (loads
         room = ends.1;
         readers = all.count;
         rounds = all.each;
-        tells = subst (λ (t : Told). TellsTable counted run.asks (table_at run ops loaded.operations) t) (sym told.is)
-            (last_at run ops loads.last v.commits loads.commits loads.count v.sizes.shape (loads.shape_is ∙ shape) loaded.operations loads.point told.round
-            (subst (λ n. AreTaken counted run.asks v.sizes.shape n 1 v.commits (told.round ∷ [])) final told.taken));
+        tells = answers_last (TellsTable counted run.asks) last told;
+        asked = asked;
+        column = IfSome_then documents saved (answers_last Saves);
       }
 
 -- what is asked, under its other names
@@ -120,12 +144,13 @@ module _ (counted counted' : Bool) (asks asks' : List AskTree) (flag : counted �
       subst (λ b. AllByRecursion (λ r. AreTaken b asks' shape seen count commits r.items) rounds) flag
       (subst (λ (ts : List AskTree). AllByRecursion (λ r. AreTaken counted ts shape seen count commits r.items) rounds) trees all)
 
-  pub last_as : (v x : WriterView) (told : Told) → KeepsWriter v x → IsLast counted asks x told → IsLast counted' asks' v told
-  last_as v x told keeps is =
-      let moved = subst (λ (y : WriterView). IsLast counted asks y told) keeps is in
-      record {
-        round = moved.round;
-        is = moved.is;
-        taken = subst (λ b. AreTaken b asks' v.sizes.shape (last_number v.commits) 1 v.commits (moved.round ∷ [])) flag
-            (subst (λ (ts : List AskTree). AreTaken counted ts v.sizes.shape (last_number v.commits) 1 v.commits (moved.round ∷ [])) trees moved.taken);
-      }
+  pub last_as : (w : WriterView) (told : Told) → IsLast operations_of (tells_of counted asks) w told → IsLast operations_of (tells_of counted' asks') w told
+  last_as w told is =
+      subst (λ b. IsLast operations_of (tells_of b asks') w told) flag (subst (λ (ts : List AskTree). IsLast operations_of (tells_of counted ts) w told) trees is)
+
+-- what the last commit answers, of a writer with the same commits
+pub last_on : {A : Type 0} (operations : ℕ → Records → ℕ → ℕ) (answers : ℕ → Records → ℕ → A → Type 0) (v x : WriterView) (answer : A) → KeepsWriter v x
+    → IsLast operations answers x answer → IsLast operations answers v answer
+last_on operations answers v x answer keeps is =
+    let moved = subst (λ (y : WriterView). IsLast operations answers y answer) keeps is in
+    record { round = moved.round; is = moved.is; of_commit = moved.of_commit; later = moved.later }

@@ -1,5 +1,5 @@
 -- What stays of a writer, and what a loading makes of it.
-use Rattle.std.proofs.Common.{◌≡◌, ◌<◌, ◌≤◌, ◌+◌, ℕ, zero, suc, List, [], ◌∷◌, length, Some, refl, sym, ap, subst, ◌∙◌, arith}
+use Rattle.std.proofs.Common.{◌≡◌, ◌<◌, ℕ, zero, suc, List, [], ◌∷◌, length, Some, refl, sym, ap, subst, ◌∙◌, arith}
 use Rattle.std.specs.Prelude.{slice_get, All, ◌^◌}
 use Rattle.std.specs.List.{AllByRecursion}
 use Rattle.std.proofs.lemmas.Option.{slice_get_within}
@@ -11,7 +11,6 @@ use Rattle.arena_api.specs.Works.{Sizes as ApiSizes, WorkView, last_image}
 use Rattle.gen_core.specs.declared.views.WriterView.{WriterView}
 use Rattle.gen_core.specs.declared.views.ReaderView.{ReaderView}
 use Rattle.gen_core.specs.Views.{last_number}
-use Rattle.gen_core.specs.Events.{newcomer}
 use Rattle.store_api.specs.Ledgers.{Ledger}
 use Rattle.word_arena.specs.Knows.{view_of}
 use Rattle.attr_images.specs.Images.{table_of, operations_at}

@@ -2,3 +2,4 @@ pub mod Run
 pub mod Rounds
 pub mod Steps
 pub mod Laws
+pub mod Writing

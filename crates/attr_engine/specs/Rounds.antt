@@ -7,6 +7,7 @@ use Rattle.attr_loader.specs.Loading.{commit_point}
 use Rattle.attr_rounds.specs.declared.rounds.Round.{Round}
 use Rattle.attr_answers.specs.declared.asked.Told.{Told}
 use Rattle.attr_answers.specs.Lines.{TellsTable}
+use Rattle.attr_column.specs.Columns.{TellsColumn}
 use Rattle.attr_report.specs.Run.{Run, Progress, table_at, skipped_at}
 use Rattle.attr_report.specs.History.{IsLoaded}
 use Rattle.attr_engine.specs.declared.came.Came.{Came}
@@ -32,7 +33,7 @@ abbrev pub seen_before : Bool → ℕ → ℕ
 seen_before true last = last
 seen_before false last = 0
 
--- how far a run came, with all rounds and the last answers
+-- how far a run came, with all rounds and the last answers, and with the documents where the table is saved
 pub record IsCame (run : Run) (ops : List Op) (came : Came) : Type 0 where
   pub last : ℕ
   pub is_loaded : IsLoaded run (length ops) came.loaded.operations (full_of came.loaded.full)
@@ -42,6 +43,8 @@ pub record IsCame (run : Run) (ops : List Op) (came : Came) : Type 0 where
   pub readers : length came.rounds.items ≡ run.readers
   pub rounds : AllByRecursion (λ rounds. AreRoundsAt run ops (seen_before run.after last) last rounds.items) came.rounds.items
   pub tells : TellsTable (is_some run.make) run.asks (table_at run ops came.loaded.operations) came.last
+  pub asked : is_some came.documents ≡ run.save
+  pub column : IfSome came.documents (λ documents. TellsColumn (table_at run ops came.loaded.operations) documents.entries)
 
 -- the counts of operations that the rounds saw, as the report's statement has them
 abbrev pub progress_at : Came → Option ℕ → Progress

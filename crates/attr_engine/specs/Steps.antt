@@ -1,5 +1,6 @@
 -- What the steps of a run make of the writer, and what its readers' tasks come to.
 use Rattle.std.specs.Prelude.{◌≡◌, ℕ, ◌+◌, ◌<◌, ◌≤◌, ◌^◌, Bool, true, false, ◌∷◌, List, [], length, is_some, All}
+use Rattle.std.specs.BTreeMap.{BTreeMap}
 use Rattle.std.specs.List.Sorted.{IsNonDecreasing}
 use Rattle.atomic_table.specs.Seated.{TableId}
 use Rattle.image_base.specs.declared.Image.{Image}
@@ -16,6 +17,7 @@ use Rattle.attr_scores.specs.Scores.{AskTree}
 use Rattle.attr_types.specs.Table.{skipped}
 use Rattle.attr_types.specs.declared.field.Field.{Field}
 use Rattle.attr_types.specs.declared.field.TheConstants.{MOST_FIELDS}
+use Rattle.attr_types.specs.declared.items.Item.{Item}
 use Rattle.attr_types.specs.declared.op.Op.{Op}
 use Rattle.attr_loader.specs.Loading.{AreCommits, EndsAt, commit_point}
 use Rattle.attr_loader.specs.declared.loaded.Loaded.{Loaded}
@@ -23,6 +25,7 @@ use Rattle.attr_rounds.specs.Rounds.{AreSeen, IsOfCommit, MakesRounds}
 use Rattle.attr_rounds.specs.declared.rounds.Round.{Round}
 use Rattle.attr_answers.specs.declared.asked.Told.{Told}
 use Rattle.attr_answers.specs.Lines.{TellsTable}
+use Rattle.attr_column.specs.Columns.{TellsColumn}
 use Rattle.attr_report.specs.Run.{Run}
 use Rattle.attr_engine.specs.Rounds.{commits_of}
 
@@ -60,6 +63,10 @@ operations_of shape m root = operations_at m root
 abbrev pub tells_of : Bool → List AskTree → ℕ → Records → ℕ → Told → Type 0
 tells_of counted asks shape m root told = TellsTable counted asks (table_of shape m root) told
 
+-- what a save is answered: the documents of an image, each with its items in the first attribute
+abbrev pub saves_of : ℕ → Records → ℕ → BTreeMap ℕ (List (List Item)) → Type 0
+saves_of shape m root documents = TellsColumn (table_of shape m root) documents.entries
+
 -- a reader that was made of the writer, before any round
 pub record IsReader (w : WriterView) (home : TableId) (r : ReaderView) (table : TableId) : Type 0 where
   pub same_sizes : r.sizes ≡ w.sizes
@@ -92,11 +99,12 @@ pub record AreTaken (counted : Bool) (asks : List AskTree) (shape seen count : �
   pub each : All (IsOfCommit operations_of (tells_of counted asks) shape commits) rounds
   pub forward : IsNonDecreasing (seen ∷ commits_of rounds)
 
--- what one more round tells, of a reader that had seen the last commit
-pub record IsLast (counted : Bool) (asks : List AskTree) (w : WriterView) (told : Told) : Type 0 where
-  pub round : Round Told
-  pub is : told ≡ round.answer
-  pub taken : AreTaken counted asks w.sizes.shape (last_number w.commits) 1 w.commits (round ∷ [])
+-- what is answered in one more round, of a reader that had seen the last commit
+pub record IsLast {A : Type 0} (operations : ℕ → Records → ℕ → ℕ) (answers : ℕ → Records → ℕ → A → Type 0) (w : WriterView) (answer : A) : Type 0 where
+  pub round : Round A
+  pub is : answer ≡ round.answer
+  pub of_commit : IsOfCommit operations answers w.sizes.shape w.commits round
+  pub later : last_number w.commits ≤ round.commit
 
 -- what is asked in a run
 pub record IsQuestionOf (run : Run) (fields : List Field) (counted : Bool) (asks : List AskTree) (count : ℕ) : Type 0 where

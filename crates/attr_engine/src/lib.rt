@@ -3,12 +3,16 @@
 
 mod beside;
 mod came;
+mod engine;
 mod laws;
 mod readers;
 mod run;
+mod saving;
+mod writing;
 mod written;
 
 pub use came::Came;
+pub use engine::engine_run;
 pub use laws::came_law;
 pub use run::run_engine;
 pub use written::Written;

@@ -1,19 +1,23 @@
 //! The readers of a run: their tasks, and their rounds taken in at the writer.
-ghost use Rattle.std.specs.Prelude.{◌≡◌, ◌<◌, length, map, IfOk, IsOkAnd, All};
+ghost use Rattle.std.specs.Prelude.{◌≡◌, ◌<◌, ◌≤◌, length, map, is_some, IfOk, IfSome, IsOkAnd, All};
 ghost use Rattle.std.specs.List.{AllByRecursion, AllZip};
 ghost use Rattle.gen_core.specs.Views.{last_number};
 ghost use Rattle.word_arena.specs.Ruled.{reader_of, writer_of};
-ghost use Rattle.attr_answers.specs.Lines.{CanAsk, TellsTable};
-ghost use Rattle.attr_images.specs.Images.{table_of};
+ghost use Rattle.attr_answers.specs.Lines.{CanAsk};
+ghost use Rattle.attr_images.specs.Shapes.{shape_of, types_of};
 ghost use Rattle.attr_scores.specs.Scores.{ask_tree};
-ghost use Rattle.attr_engine.specs.Steps.{KeepsWriter, IsReader, IsReading, IsTakenFrom, AreTaken, IsLast};
+ghost use Rattle.attr_types.specs.declared.field.TheConstants.{MOST_FIELDS};
+ghost use Rattle.attr_engine.specs.Steps.{operations_of, saves_of, KeepsWriter, IsReader, IsReading, IsTakenFrom, AreTaken, IsLast};
 
 use attr_answers::{Asked, Told};
+use attr_column::Saving;
 use attr_images::AttrLayout;
 use attr_io::{Gate, NoGate};
-use attr_rounds::{Job, Reading, Round, go_round, take_in};
+use attr_rounds::{Job, Question, Reading, Round, go_round, take_in};
 use attr_threads::run_each;
+use attr_types::{Doc, FieldItems, Fields};
 use std::alloc::{AllocError, Global};
+use std::collections::BTreeMap;
 use std::thread::Threads;
 use word_arena::{Reader, Writer};
 
@@ -111,13 +115,14 @@ pub fn read_after<'a, const OFFSET_BITS: u32, R: Threads + Sync, G: Gate + Sync 
 }
 
 /// What the last commit answers: one round of one more reader, which passes no gate.
-pub fn last_told<'a, const OFFSET_BITS: u32>(
+pub fn last_answer<'a, const OFFSET_BITS: u32, Q: Question<OFFSET_BITS, AttrLayout>>(
     alloc: Global,
     writer: &mut Writer<'a, OFFSET_BITS, AttrLayout>,
-    question: &Asked<'_>,
-) -> Result<Told, AllocError>
-    requires { CanAsk question.now.fields.now (length question.now.asks.now) (writer_of writer.old.place.me.0).sizes.shape }
-    ensures { IfOk result (IsLast question.now.counted (map ask_tree question.now.asks.now) (writer_of writer.old.place.me.0)) }
+    question: &Q,
+) -> Result<Q::Answer, AllocError>
+    requires { Q.fits question.now (writer_of writer.old.place.me.0).sizes.shape }
+    ensures last { IfOk result (IsLast Q.operations (Q.answers question.now) (writer_of writer.old.place.me.0)) }
+    ensures keeps { KeepsWriter (writer_of writer.old.place.me.0) (writer_of writer.new.place.me.0) }
 {
     let reader = reader_in(writer)?;
     let reading = go_round(alloc, reader, 0, 1, question, &NoGate)?;
@@ -125,5 +130,30 @@ pub fn last_told<'a, const OFFSET_BITS: u32>(
     match rounds.pop() {
         Some(round) => Ok(round.answer),
         None => Err(AllocError),
+    }
+}
+
+/// The documents of the last commit, each with its items in the first attribute, where the table is saved.
+pub fn last_documents<'a, const OFFSET_BITS: u32>(
+    alloc: Global,
+    writer: &mut Writer<'a, OFFSET_BITS, AttrLayout>,
+    fields: &Fields,
+    save: bool,
+) -> Result<Option<BTreeMap<Doc, FieldItems>>, AllocError>
+    requires some { 0 < length fields.now }
+    requires few { length fields.now ≤ MOST_FIELDS }
+    requires shape { (writer_of writer.old.place.me.0).sizes.shape ≡ shape_of (types_of fields.now) }
+    ensures asked { IfOk result (λ documents. is_some documents ≡ save) }
+    ensures last { IfOk result (λ documents. IfSome documents (IsLast operations_of saves_of (writer_of writer.old.place.me.0))) }
+{
+    if !save {
+        return Ok(None);
+    }
+    match fields.as_slice() {
+        [field, ..] => {
+            let documents = last_answer(alloc, writer, &Saving { fields, field })?;
+            Ok(Some(documents))
+        }
+        [] => unreachable!(),
     }
 }

@@ -14,7 +14,7 @@ ghost use Rattle.gen_core.specs.Views.{last_number};
 
 use crate::beside::load_beside;
 use crate::came::Came;
-use crate::readers::{last_told, read_after, take_all};
+use crate::readers::{last_answer, last_documents, read_after, take_all};
 use attr_answers::{Asked, Told};
 use attr_images::{AttrLayout, shape_of};
 use attr_io::Gate;
@@ -125,12 +125,14 @@ fn run_over<'a, const OFFSET_BITS: u32, R: Threads + Sync, G: Gate + Sync + 'sta
         question,
         gate,
     )?;
-    let last = last_told(alloc, &mut writer, question)?;
+    let last = last_answer(alloc, &mut writer, question)?;
+    let documents = last_documents(alloc, &mut writer, &request.fields, request.save)?;
     let rounds = chosen(request.after, later, loading.first);
     Ok(Came {
         loaded: loading.loaded,
         rounds,
         last,
+        documents,
     })
 }
 

@@ -1,4 +1,1 @@
-pub mod LoadLemmas
-pub mod ReportLemmas
 pub mod HistoryLemmas
-pub mod RoundsLemmas

@@ -2,4 +2,3 @@ pub mod Run
 pub mod Report
 pub mod History
 pub mod Laws
-pub mod Steps

@@ -3,13 +3,10 @@
 
 mod answers;
 mod laws;
-mod load;
 mod report;
 mod request;
-mod written;
 
 pub use answers::{push_count, push_documents, push_scores};
 pub use laws::history_law;
 pub use report::{push_documents_line, push_done_line, push_final_line, push_made_line};
 pub use request::{Make, Request};
-pub use written::{Written, written_in};

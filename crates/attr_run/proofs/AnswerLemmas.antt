@@ -1,5 +1,5 @@
 -- What an answer of a call says, status by status.
-use Rattle.std.proofs.Common.{◌≡◌, ◌≤◌, ◌⊎◌, inl, inr, sym, refl, subst, ℕ, List}
+use Rattle.std.proofs.Common.{◌≡◌, ◌+◌, ◌≤◌, ◌⊎◌, inl, inr, sym, refl, subst, ℕ, List}
 use Rattle.std.proofs.Common.{length, Option, Some, None, Result, Ok, Err, IsOk, IfSome}
 use Rattle.std.proofs.Common.{IsOkAnd}
 use Rattle.std.specs.Io.KnownBytes.{Appends}
@@ -14,7 +14,7 @@ use Rattle.attr_report.specs.Report.{written}
 use Rattle.attr_run.specs.Run.{Task, asked, ReadsFeed, task_of}
 use Rattle.attr_run.specs.Texts.{answer_text}
 use Rattle.attr_run.specs.Answers.{EndsRun, IsEnd, OfRun, ComesExactly, ComesExactlyOfFeed}
-use Rattle.attr_run.specs.Answers.{IsBeforeRun, HasNoRun, IsProper, IsRunUntil, IsDue}
+use Rattle.attr_run.specs.Answers.{IsBeforeRun, HasNoRun, IsProper, IsRunUntil, IsFullRun, IsDue}
 use Rattle.attr_run.specs.Steps.{IsAnswer}
 use Rattle.attr_run.specs.declared.outcome.Status.{Status}
 use Rattle.attr_run.specs.declared.outcome.Status.TheVariants.{Done, Help, Usage, BadFeed}
@@ -87,7 +87,12 @@ ended-text met Done progress full answer ends =
     × Appends met.old met.new text) (sym ends) answer
 ended-text met (Full operation active held) progress full answer ends =
     subst (λ (f : Option ℕ). (text : List ℕ) × OfRun met.words met.left (IsRunUntil progress f text)
-    × Appends met.old met.new text) (sym ends) answer
+    × Appends met.old met.new text) (sym ends) (
+      answer.0,
+      OfRun-weaker met.words met.left (IsFullRun progress operation active held answer.0) (IsRunUntil progress (Some operation) answer.0)
+          (λ run ops is. is.until) answer.1,
+      answer.2,
+    )
 ended-text met Help progress full answer ends = absurd ends
 ended-text met (Usage cause) progress full answer ends = absurd ends
 ended-text met (BadFeed fault) progress full answer ends = absurd ends
@@ -109,6 +114,13 @@ pub ended-run : (met : Met) (status : Status) (progress : Progress) (Q : Option 
 ended-run met status progress Q follows answer full ends =
     let ended = ended-text met status progress full answer ends in
     OfRun-weaker met.words met.left (IsRunUntil progress full ended.0) (Q full) (follows full ended.0) ended.1
+
+-- where an operation found no room, the buffers are counted
+pub full-room : (met : Met) (status : Status) (progress : Progress) → Answers met status progress → (operation active held : ℕ)
+    → status ≡ Full operation active held → OfRun met.words met.left (λ run ops. active + held ≡ run.buffers)
+full-room met status progress answer operation active held is =
+    let here = at met status (Full operation active held) progress answer is in
+    OfRun-weaker met.words met.left (IsFullRun progress operation active held here.0) (λ run ops. active + held ≡ run.buffers) (λ run ops full. full.room) here.1
 
 -- ---- the words
 
@@ -253,7 +265,7 @@ complete met said (BadFeed fault) progress proper told answer ok reads writes =
     absurd (unrefused _ said (BadFeed fault) told ok answer.1.0.1)
 complete met said ReadFault progress proper told answer ok reads writes = absurd (reads answer.1.0.1)
 complete met said WriteFault progress proper told answer ok reads writes = absurd (writes answer.0)
-complete met said (Full operation active held) progress proper told answer ok reads writes = absurd proper
+complete met said (Full operation active held) progress proper told answer ok reads writes = inl tt
 complete met said Memory progress proper told answer ok reads writes = inr refl
 
 pub complete-told : (met : Met) (status : Status) (progress : Progress) → IsProper status

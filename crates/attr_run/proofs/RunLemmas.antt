@@ -1,31 +1,84 @@
--- A run without readers that loaded all its operations.
-use Rattle.std.proofs.Common.{◌≡◌, ◌∙◌, sym, ap, ap₂, refl, subst, ℕ, List, [], length, Option, None}
+-- A run of the engine is what its answer says.
+use Rattle.std.proofs.Common.{◌≡◌, ◌+◌, ◌*◌, ◌≤◌, ◌<◌, refl, sym, subst, ℕ, List, length, Option, Some, None, nat_lt, true, false, IfSome, IfOk, IsOk, Ok, arith}
+use Rattle.std.proofs.lemmas.Bool.Decides.{nat_tests}
+use Rattle.std.proofs.Math.Nat.{mul-le-mul}
+use Rattle.clap.specs.Walk.{Text}
 use Rattle.attr_types.specs.declared.op.Op.{Op}
+use Rattle.attr_words.specs.Settings.{are_too_many}
+use Rattle.attr_loader.specs.declared.loaded.NoRoom.{NoRoom}
 use Rattle.attr_report.specs.Run.{Run, Progress}
 use Rattle.attr_report.specs.Report.{written}
-use Rattle.attr_report.specs.Steps.{all_loaded, saved_at}
+use Rattle.attr_report.specs.History.{IsLoaded}
 use Rattle.attr_report.proofs.HistoryLemmas.{histories_are_legal}
-use Rattle.attr_report.proofs.RoundsLemmas.{rounds-alone, afterwards-alone, saved-alone}
-use Rattle.attr_run.specs.Answers.{IsRunUntil}
+use Rattle.attr_engine.specs.Run.{IsRunOf, full_of, progress_of}
+use Rattle.attr_engine.specs.declared.written.Written.{Written}
+use Rattle.attr_run.specs.Answers.{IsRunUntil, IsFullRun, IsDue, IsProper}
+use Rattle.attr_run.specs.Run.{asked, fed}
+use Rattle.attr_run.specs.Steps.{status_of}
+use Rattle.attr_run.specs.declared.outcome.Status.{Status}
+use Rattle.attr_run.proofs.TaskLemmas.{of-run}
 
-whole-alone : (run : Run) (ops : List Op) (text : List ℕ) → run.readers ≡ 0
-    → text ≡ written run ops (all_loaded run ops) None → IsRunUntil (all_loaded run ops) None text run ops
-whole-alone run ops text alone is = record {
-  all_loaded = refl;
-  in_rounds = rounds-alone run ops alone;
-  afterwards = afterwards-alone run ops;
-  in_save = saved-alone run ops;
-  legal = histories_are_legal run ops (all_loaded run ops) (rounds-alone run ops alone);
-  is_written = is;
-}
+-- ---- how far it came
 
 abbrev so_far : ℕ → List (List ℕ) → Option ℕ → Progress
 so_far loaded rounds saved = record { loaded = loaded; rounds = rounds; saved = saved }
 
-pub until-alone : (run : Run) (ops : List Op) (text : List ℕ) (loaded : ℕ) (rounds : List (List ℕ)) (saved : Option ℕ)
-    → run.readers ≡ 0 → loaded ≡ length ops → rounds ≡ [] → saved ≡ saved_at run.save (length ops)
-    → text ≡ written run ops (all_loaded run ops) None
-    → IsRunUntil (record { loaded = loaded; rounds = rounds; saved = saved }) None text run ops
-until-alone run ops text loaded rounds saved alone all no_rounds at is =
-    let same = ap₂ (λ n r. so_far n r saved) all no_rounds ∙ ap (so_far (length ops) []) at in
-    subst (λ (progress : Progress). IsRunUntil progress None text run ops) (sym same) (whole-alone run ops text alone is)
+until : (run : Run) (ops : List Op) (w : Written) (full : Option NoRoom) → IsRunOf run ops w → w.full ≡ full
+    → IsRunUntil (progress_of w) (full_of full) w.text.items run ops
+until run ops w full is at = record {
+  all_loaded = subst (λ (f : Option NoRoom). IsLoaded run (length ops) w.loaded (full_of f)) at is.is_loaded;
+  in_rounds = is.in_rounds;
+  afterwards = is.afterwards;
+  in_save = is.in_save;
+  legal = histories_are_legal run ops (progress_of w) is.in_rounds;
+  is_written = subst (λ (f : Option NoRoom). w.text.items ≡ written run ops (progress_of w) (full_of f)) at is.is_written;
+}
+
+-- its text is due at its answer
+due-by : (words : List Text) (left : Option (List ℕ)) (before now : ℕ) (run : Run) (ops : List Op) (w : Written) (full : Option NoRoom)
+    → asked words ≡ Ok run → IfSome (fed run left) (λ said. said ≡ Ok ops) → IsRunOf run ops w → w.full ≡ full
+    → IsDue words left before now (status_of full) (progress_of w) w.text.items
+due-by words left before now run ops w None asks feeds is at =
+    of-run words left run ops (IsRunUntil (progress_of w) None w.text.items) asks feeds (until run ops w None is at)
+due-by words left before now run ops w (Some room) asks feeds is at =
+    of-run words left run ops (IsFullRun (progress_of w) room.operation room.active room.held w.text.items) asks feeds (record {
+      until = until run ops w (Some room) is at;
+      room = subst (λ (f : Option NoRoom). IfSome f (λ r. r.active + r.held ≡ run.buffers)) at is.room;
+    })
+
+pub due-of : (words : List Text) (left : Option (List ℕ)) (before now : ℕ) (run : Run) (ops : List Op) (w : Written)
+    → asked words ≡ Ok run → IfSome (fed run left) (λ said. said ≡ Ok ops) → IsRunOf run ops w
+    → IsDue words left before now (status_of w.full) (progress_of w) w.text.items
+due-of words left before now run ops w asks feeds is = due-by words left before now run ops w w.full asks feeds is refl
+
+-- the same of an answer with these parts
+pub answered : (words : List Text) (left : Option (List ℕ)) (before now : ℕ) (run : Run) (ops : List Op) (w : Written)
+    (status : Status) (loaded : ℕ) (rounds : List (List ℕ)) (saved : Option ℕ) (text : List ℕ)
+    → status ≡ status_of w.full → loaded ≡ w.loaded → rounds ≡ w.rounds → saved ≡ w.saved → text ≡ w.text.items
+    → asked words ≡ Ok run → IfSome (fed run left) (λ said. said ≡ Ok ops) → IsRunOf run ops w
+    → IsDue words left before now status (record { loaded = loaded; rounds = rounds; saved = saved }) text
+answered words left before now run ops w status loaded rounds saved text st l r s t asks feeds is =
+    let same : progress_of w ≡ so_far loaded rounds saved = λ i. record { loaded = sym l i; rounds = sym r i; saved = sym s i } in
+    subst (λ (x : Status). IsDue words left before now x (so_far loaded rounds saved) text) (sym st)
+    (subst (λ (p : Progress). IsDue words left before now (status_of w.full) p text) same
+    (subst (λ (x : List ℕ). IsDue words left before now (status_of w.full) (progress_of w) x) (sym t) (due-of words left before now run ops w asks feeds is)))
+
+proper-by : (full : Option NoRoom) → IsProper (status_of full)
+proper-by None = tt
+proper-by (Some room) = tt
+
+pub proper-of : (status : Status) (full : Option NoRoom) → status ≡ status_of full → IsProper status
+proper-of status full is = subst IsProper (sym is) (proper-by full)
+
+-- ---- the size of its store
+
+pub wide-fits : (buffers words : ℕ) → are_too_many true buffers words ≡ false → buffers * words ≤ 67108864
+wide-fits buffers words room = grind (arith, nat_tests)
+
+pub narrow-few : (buffers words : ℕ) → are_too_many false buffers words ≡ false → buffers < 1024
+narrow-few buffers words room = grind (arith, nat_tests)
+
+pub narrow-fits : (buffers words : ℕ) → are_too_many false buffers words ≡ false → words ≤ 65536 → buffers * words ≤ 67108864
+narrow-fits buffers words room few =
+    let most : buffers ≤ 1023 = grind (arith, nat_tests) in
+    let product : buffers * words ≤ 1023 * 65536 = mul-le-mul most few in omega (arith, product)

@@ -1,5 +1,5 @@
 -- When each answer of a call comes, and what it leaves.
-use Rattle.std.specs.Prelude.{◌≡◌, ◌≢◌, ℕ, ◌≤◌, ◌⊎◌, List, [], length, Option, Some, None, IfSome}
+use Rattle.std.specs.Prelude.{◌≡◌, ◌≢◌, ℕ, ◌+◌, ◌≤◌, ◌⊎◌, List, [], length, Option, Some, None, IfSome}
 use Rattle.std.specs.Prelude.{Err, IsOk, IsOkAnd}
 use Rattle.std.specs.Io.KnownBytes.{IsAtEnd}
 use Rattle.clap.specs.Walk.{Text}
@@ -33,9 +33,10 @@ EndsRun Done full = full ≡ None
 EndsRun (Full operation active held) full = full ≡ Some operation
 EndsRun _ full = ⊥
 
--- an answer where nothing is refused and nothing fails: with room for any run, it is done
+-- an answer where nothing is refused and nothing fails: the run is done, or it found no room
 abbrev pub IsEnd : Status → Type 0
 IsEnd Done = Unit {0}
+IsEnd (Full operation active held) = Unit {0}
 IsEnd _ = ⊥
 
 -- the words ask for a run, its operations are there where they are told, and of both this holds
@@ -73,12 +74,10 @@ IsBeforeRun (BadFeed fault) = Unit {0}
 IsBeforeRun ReadFault = Unit {0}
 IsBeforeRun _ = ⊥
 
--- a refused query is no want of memory, a faulty line has one of the six refusals of the feed's
--- grammar, and no run over a plain table is out of room
+-- a refused query is no want of memory, and a faulty line has one of the six refusals of the feed's grammar
 abbrev pub IsProper : Status → Type 0
 IsProper (Usage (usage.Query number error)) = error ≢ refusal.Memory
 IsProper (BadFeed (feed.Line line number)) = (1 ≤ number) × (number ≤ 6)
-IsProper (Full operation active held) = ⊥
 IsProper _ = Unit {0}
 
 -- ---- what an answer leaves
@@ -107,13 +106,18 @@ pub record IsRunUntil (progress : Progress) (full : Option ℕ) (text : List ℕ
   pub legal : IsLegalHistory run ops progress (history run ops progress)
   pub is_written : text ≡ written run ops progress full
 
+-- the same of a run that found no room at an operation: each of its buffers is in use, or held for readers
+pub record IsFullRun (progress : Progress) (operation active held : ℕ) (text : List ℕ) (run : Run) (ops : List Op) : Type 0 where
+  pub until : IsRunUntil progress (Some operation) text run ops
+  pub room : active + held ≡ run.buffers
+
 -- the text that is due at an answer, by the words, what the source has left to give, its counts of
 -- faults before and after, and how far the run came
 abbrev pub IsDue : List Text → Option (List ℕ) → ℕ → ℕ → Status → Progress → List ℕ → Type 0
 IsDue words left before now Done progress text =
     OfRun words left (IsRunUntil progress None text)
 IsDue words left before now (Full operation active held) progress text =
-    OfRun words left (IsRunUntil progress (Some operation) text)
+    OfRun words left (IsFullRun progress operation active held text)
 IsDue words left before now status progress text =
     HasCause words left before now status × HasNoRun progress × (text ≡ answer_text status)
 

@@ -1,5 +1,5 @@
 -- What the steps of a call answer, before its text is made and written.
-use Rattle.std.specs.Prelude.{◌≡◌, ℕ, List, Option, None, Result, Ok, Err, IfSome, IsOkAnd}
+use Rattle.std.specs.Prelude.{◌≡◌, ℕ, List, Option, Some, None, Result, Ok, Err, IfSome, IsOkAnd}
 use Rattle.std.specs.Io.KnownBytes.{Appends, Keeps}
 use Rattle.clap.specs.Walk.{Text}
 use Rattle.attr_io.specs.Faults.{Rose}
@@ -8,6 +8,7 @@ use Rattle.attr_words.specs.declared.reading.WordsError.{WordsError}
 use Rattle.attr_words.specs.declared.reading.WordsError.TheVariants as words
 use Rattle.feed_reader.specs.declared.error.FeedError.{FeedError}
 use Rattle.feed_reader.specs.declared.error.FeedError.TheVariants as feed_errors
+use Rattle.attr_loader.specs.declared.loaded.NoRoom.{NoRoom}
 use Rattle.attr_report.specs.Run.{Run, Progress}
 use Rattle.attr_run.specs.Run.{asked, ops_in, fed}
 use Rattle.attr_run.specs.Settings.{IsAskedBy}
@@ -15,8 +16,8 @@ use Rattle.attr_run.specs.Texts.{answer_text}
 use Rattle.attr_run.specs.Answers.{OfRun, ReadsAsAsked, HasCause, HasNoRun, IsDue, IsProper}
 use Rattle.attr_run.specs.Answers.{WritesFront}
 use Rattle.attr_run.specs.declared.outcome.Status.{Status}
-use Rattle.attr_run.specs.declared.outcome.Status.TheVariants.{Help, Usage, BadFeed, ReadFault}
-use Rattle.attr_run.specs.declared.outcome.Status.TheVariants.{WriteFault, Memory}
+use Rattle.attr_run.specs.declared.outcome.Status.TheVariants.{Done, Help, Usage, BadFeed, ReadFault}
+use Rattle.attr_run.specs.declared.outcome.Status.TheVariants.{WriteFault, Full, Memory}
 use Rattle.attr_run.specs.declared.outcome.UsageCause.TheVariants as usage
 use Rattle.attr_run.specs.declared.outcome.FeedFault.TheVariants as feed
 use Rattle.attr_run.specs.declared.stop.Stop.{Stop}
@@ -106,3 +107,8 @@ IsAnswer words left before now old new sink_before sink_now Memory progress =
     Keeps old new × HasNoRun progress
 IsAnswer words left before now old new sink_before sink_now status progress =
     (text : List ℕ) × IsDue words left before now status progress text × Appends old new text
+
+-- the answer to a run that ended, by the operation that found no room, if one did
+abbrev pub status_of : Option NoRoom → Status
+status_of None = Done
+status_of (Some room) = Full room.operation room.active room.held

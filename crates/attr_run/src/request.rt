@@ -28,7 +28,6 @@ fn settings_in(alloc: Global, words: &Words) -> Result<Settings, Stop>
     ensures given { IfOk result (λ s. given_in words.now ≡ Ok (given_by s)) }
     ensures refusal { IfErr result IsWordsStop }
     ensures one_kind { length (fault_of attr_app words.now) ≤ 1 }
-    ensures alone { IfOk result (λ s. s.readers ≡ 0) }
     ensures few { IfOk result (λ s. length s.fields < 2 ^ 32) }
     ensures texts { IfOk result (λ s. AllByRecursion IsUtf8 (given_by s).queries) }
 {
@@ -78,7 +77,6 @@ fn make_of(count: Option<u32>, seed: u32) -> Option<Make>
 
 fn request_of(settings: Settings, asks: Asks) -> Request
     ensures run { run_in result ≡ run_of (given_by settings) (map ask_tree asks.items) }
-    ensures alone { result.readers ≡ settings.readers }
 {
     Request {
         fields: settings.fields,
@@ -101,7 +99,6 @@ pub fn request_in(alloc: Global, words: &Words) -> Result<Request, Stop>
     ensures asked { Says run_in result (asked words.now) }
     ensures refusal { IfErr result IsWordsStop }
     ensures one_kind { length (fault_of attr_app words.now) ≤ 1 }
-    ensures alone { IfOk result (λ request. request.readers ≡ 0) }
     ensures lawful { IfOk result (λ request. IsAskedBy words.now (run_in request)) }
 {
     settings_law();

@@ -17,7 +17,13 @@ ghost use Rattle.attr_run.specs.Texts.{answer_text};
 ghost use Rattle.attr_run.specs.Answers.{progress_of, EndsRun, IsEnd, OfRun, ComesExactly};
 ghost use Rattle.attr_run.specs.Answers.{ComesExactlyOfFeed, IsBeforeRun, IsProper, HasNoRun};
 ghost use Rattle.attr_run.specs.Answers.{ReadsAsAsked, IsDue, WritesFront};
-ghost use Rattle.attr_run.specs.Steps.{IsStopped, IsProperStop, IsEarly, IsAnswer, HasEnded};
+ghost use Rattle.attr_run.specs.Steps.{IsStopped, IsProperStop, IsEarly, IsAnswer, HasEnded, status_of};
+ghost use Rattle.std.specs.Prelude.{◌+◌, false};
+ghost use Rattle.std.specs.List.{AllByRecursion};
+ghost use Rattle.attr_words.specs.Settings.{are_too_many};
+ghost use Rattle.attr_types.specs.Lawful.{OpFits};
+ghost use Rattle.attr_report.specs.Run.{run_in};
+ghost use Rattle.attr_engine.specs.Run.{IsRunOf};
 
 use crate::feed::ops_in;
 use crate::outcome::{FeedFault, Outcome, Status, UsageCause};
@@ -25,10 +31,13 @@ use crate::request::request_in;
 use crate::stop::Stop;
 use crate::texts::text_in;
 use crate::words::Words;
+use attr_engine::{Written, engine_run};
 use attr_io::{Gate, Sink, Source, write_all};
-use attr_report::written_in;
-use attr_types::RoundList;
+use attr_loader::NoRoom;
+use attr_report::Request;
+use attr_types::{Op, RoundList};
 use std::alloc::{AllocError, Global};
+use std::thread::Threads;
 
 /// What is to be answered and written.
 #[derive(Debug, Drop)]
@@ -37,9 +46,80 @@ struct Answer {
     text: Vec<u8>,
 }
 
-/// Reads the words and then the feed, loads it and makes what is written.
-fn reported<S: Source>(alloc: Global, words: &Words, source: &mut S) -> Result<Answer, Stop>
-    ensures done { IfOk result (λ a. a.outcome.status ≡ Status.Done) }
+/// The answer to a run that ended.
+fn status_of(full: Option<NoRoom>) -> Status
+    ensures { result ≡ status_of full }
+{
+    match full {
+        Some(room) => Status::Full {
+            operation: room.operation,
+            active: room.active,
+            held: room.held,
+        },
+        None => Status::Done,
+    }
+}
+
+/// The run, with references as it asks for them.
+fn run_by<R: Threads + Sync, G: Gate + Sync + 'static>(
+    rt: &R,
+    alloc: Global,
+    request: &Request,
+    ops: &[Op],
+    gate: &G,
+) -> Result<Written, AllocError>
+    requires in_batch { 1 ≤ request.now.batch }
+    requires some_buffers { 1 ≤ request.now.buffers }
+    requires few_buffers { request.now.buffers ≤ 8191 }
+    requires some_words { 8192 ≤ request.now.words }
+    requires few_words { request.now.words ≤ 65536 }
+    requires room { are_too_many request.now.wide request.now.buffers request.now.words ≡ false }
+    requires some_fields { 1 ≤ length request.now.fields }
+    requires few_fields { length request.now.fields ≤ 8 }
+    requires few { length ops.now < 2 ^ 32 }
+    requires fit { AllByRecursion (OpFits request.now.fields) ops.now }
+    ensures { IfOk result (IsRunOf (run_in request.now) ops.now) }
+{
+    if request.wide {
+        engine_run::<19, R, G>(rt, alloc, request, ops, gate)
+    } else {
+        engine_run::<22, R, G>(rt, alloc, request, ops, gate)
+    }
+}
+
+/// What is answered where a run ended.
+fn answer_of(written: Written) -> Answer
+    ensures status { result.outcome.status ≡ status_of written.full }
+    ensures loaded { result.outcome.loaded ≡ written.loaded }
+    ensures rounds { result.outcome.rounds ≡ written.rounds }
+    ensures saved { result.outcome.saved ≡ written.saved }
+    ensures text { result.text.items ≡ written.text.items }
+{
+    let Written {
+        loaded,
+        full,
+        rounds,
+        saved,
+        text,
+    } = written;
+    let outcome = Outcome {
+        status: status_of(full),
+        loaded,
+        rounds,
+        saved,
+    };
+    Answer { outcome, text }
+}
+
+/// Reads the words and then the feed, loads it beside the readers and makes what is written.
+fn reported<R: Threads + Sync, S: Source, G: Gate + Sync + 'static>(
+    rt: &R,
+    alloc: Global,
+    words: &Words,
+    source: &mut S,
+    gate: &G,
+) -> Result<Answer, Stop>
+    ensures whole { IfOk result (λ a. IsProper a.outcome.status) }
     ensures due { IfOk result (λ a. IsDue words.now
         (S.left source.old) (S.faults source.old) (S.faults source.new)
         a.outcome.status (progress_of a.outcome) a.text.items) }
@@ -54,15 +134,8 @@ fn reported<S: Source>(alloc: Global, words: &Words, source: &mut S) -> Result<A
 {
     let request = request_in(alloc, words)?;
     let ops = ops_in(alloc, source, &request)?;
-    let written = written_in(alloc, request, ops)?;
-    let outcome = Outcome {
-        status: Status::Done,
-        loaded: written.loaded,
-        rounds: RoundList::new(alloc),
-        saved: written.saved,
-    };
-    let text = written.text;
-    Ok(Answer { outcome, text })
+    let written = run_by(rt, alloc, &request, ops.as_slice(), gate)?;
+    Ok(answer_of(written))
 }
 
 /// The answer of a call that stops before it has a report.
@@ -87,7 +160,13 @@ fn stopped(alloc: Global, stop: Stop) -> Result<Answer, AllocError>
 }
 
 /// The answer to words and a source, with every cause but those of the sink.
-fn answer_to<S: Source>(alloc: Global, words: &Words, source: &mut S) -> Result<Answer, AllocError>
+fn answer_to<R: Threads + Sync, S: Source, G: Gate + Sync + 'static>(
+    rt: &R,
+    alloc: Global,
+    words: &Words,
+    source: &mut S,
+    gate: &G,
+) -> Result<Answer, AllocError>
     ensures due { IfOk result (λ a. IsDue words.now
         (S.left source.old) (S.faults source.old) (S.faults source.new)
         a.outcome.status (progress_of a.outcome) a.text.items) }
@@ -99,18 +178,20 @@ fn answer_to<S: Source>(alloc: Global, words: &Words, source: &mut S) -> Result<
         (S.left source.old) (S.left source.new) (S.reads source.old) (S.reads source.new) }
     ensures one_kind { length (fault_of attr_app words.now) ≤ 1 }
 {
-    match reported(alloc, words, source) {
+    match reported(rt, alloc, words, source, gate) {
         Ok(answer) => Ok(answer),
         Err(stop) => stopped(alloc, stop),
     }
 }
 
 /// Plans the whole answer, and then writes it.
-fn whole_run<S: Source, K: Sink>(
+fn whole_run<R: Threads + Sync, S: Source, K: Sink, G: Gate + Sync + 'static>(
+    rt: &R,
     alloc: Global,
     words: &Words,
     source: &mut S,
     sink: &mut K,
+    gate: &G,
 ) -> Outcome
     ensures answer { IsAnswer words.now
         (S.left source.old) (S.faults source.old) (S.faults source.new)
@@ -124,7 +205,7 @@ fn whole_run<S: Source, K: Sink>(
         (S.left source.old) (S.left source.new) (S.reads source.old) (S.reads source.new) }
     ensures one_kind { length (fault_of attr_app words.now) ≤ 1 }
 {
-    match answer_to(alloc, words, source) {
+    match answer_to(rt, alloc, words, source, gate) {
         Err(_) => Outcome {
             status: Status::Memory,
             loaded: 0,
@@ -149,15 +230,15 @@ fn whole_run<S: Source, K: Sink>(
 /// refusal is the answer.
 ///
 /// What a clause says of bytes holds where the source tells its bytes and the sink what it took.
-/// Out of memory may be the answer in place of any other. There is no reader yet, so no round is
-/// made; `--batch`, `--buffers`, `--words`, `--rounds`, `--after`, `--wide` and `--dense` change no
-/// answer but the refusal of a size, no commit is made, and the gate is not called.
-pub fn attr_main<S: Source, K: Sink, G: Gate + Sync>(
+/// Out of memory may be the answer in place of any other. Each reader is a thread; the loading stays on the caller's
+/// own, and with `--readers 0` no thread is started. `--dense` changes no answer.
+pub fn attr_main<R: Threads + Sync, S: Source, K: Sink, G: Gate + Sync + 'static>(
+    rt: &R,
     alloc: Global,
     words: &Words,
     source: &mut S,
     sink: &mut K,
-    _gate: &G,
+    gate: &G,
 ) -> Outcome
     // A run that ended, done or out of room at an operation: the words ask for it, the source gave
     // its operations and was read as the run asks, and exactly its text was written.
@@ -183,6 +264,9 @@ pub fn attr_main<S: Source, K: Sink, G: Gate + Sync>(
     ensures history { (full : Option ℕ) → EndsRun result.status full
         → OfRun words.now (S.left source.old) (λ run ops. IsLegalHistory run ops
         (progress_of result) (history run ops (progress_of result))) }
+    // Where an operation found no room, each buffer is in use, or held for readers.
+    ensures room { (operation active held : ℕ) → result.status ≡ Status.Full operation active held
+        → OfRun words.now (S.left source.old) (λ run ops. active + held ≡ run.buffers) }
 
     // The words.
     ensures help { ComesExactly (AskForHelp words.now) Status.Help result.status }
@@ -230,11 +314,11 @@ pub fn attr_main<S: Source, K: Sink, G: Gate + Sync>(
         Keeps (K.taken sink.old) (K.taken sink.new) × HasNoRun (progress_of result) }
     ensures proper { IsProper result.status }
 
-    // Where nothing is refused and nothing fails, the run comes to its end, or is out of memory.
+    // Where nothing is refused and nothing fails, the run is done or finds no room, or is out of memory.
     ensures complete { IfSome (task_of words.now (S.left source.old)) (λ said. IsOk said
         → ¬ Rose (S.faults source.old) (S.faults source.new)
         → ¬ Rose (K.faults sink.old) (K.faults sink.new)
         → IsEnd result.status ⊎ (result.status ≡ Status.Memory)) }
 {
-    whole_run(alloc, words, source, sink)
+    whole_run(rt, alloc, words, source, sink, gate)
 }

@@ -17,7 +17,7 @@ abbrev pub batch : NumberOption
 batch = record { name = codes "batch"; least = 1; most = 1000000; default = codes "100" ∷ [] }
 
 abbrev pub readers : NumberOption
-readers = record { name = codes "readers"; least = 0; most = 0; default = codes "0" ∷ [] }
+readers = record { name = codes "readers"; least = 0; most = 8; default = codes "2" ∷ [] }
 
 abbrev pub rounds : NumberOption
 rounds = record { name = codes "rounds"; least = 1; most = 1000; default = codes "4" ∷ [] }

@@ -97,7 +97,7 @@ fn with_numbers<'a>(alloc: Global, command: Command<'a>) -> Result<Command<'a>, 
 {
     command
         .arg(number_option(alloc, "batch", 1, 1_000_000, "100"))?
-        .arg(number_option(alloc, "readers", 0, 0, "0"))?
+        .arg(number_option(alloc, "readers", 0, 8, "2"))?
         .arg(number_option(alloc, "rounds", 1, 1_000, "4"))?
         .arg(number_option(alloc, "buffers", 8, 8_191, "64"))?
         .arg(number_option(alloc, "words", 8_192, 65_536, "16384"))?

@@ -1,20 +1,28 @@
 //! Whole runs of `attr`, compared with what they must write. The rows of words, feeds and answers
-//! are read from standard input; runs over failing devices and the exit statuses stand here.
-//! A case that differs prints itself.
+//! are read from standard input; runs over failing devices, readers held at the gate, and the exit
+//! statuses stand here. A case that differs prints itself.
 #![tactic(auto)]
 
 mod devices;
 mod exits;
 mod program;
+mod rounds;
 mod rows;
 mod run;
 mod tally;
+mod turns;
 
 use std::io;
+use std::thread::Threads;
+
+fn compare_all<R: Threads + Sync>(rt: &HostRuntime, threads: &R) -> io::Result<()> {
+    rows::compare(rt, threads)?;
+    exits::compare(rt)?;
+    devices::compare(rt, threads)?;
+    program::compare(rt, threads)?;
+    turns::compare(rt, threads)
+}
 
 fn main(rt: HostRuntime) -> io::Result<()> {
-    rows::compare(&rt)?;
-    exits::compare(&rt)?;
-    devices::compare(&rt)?;
-    program::compare(&rt)
+    compare_all(&rt, &rt)
 }

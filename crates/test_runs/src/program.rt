@@ -5,6 +5,7 @@ use attr_run::Words;
 use std::env::FillError;
 use std::io;
 use std::rt::Env;
+use std::thread::Threads;
 
 #[derive(Clone, Copy)]
 struct Program<'a> {
@@ -32,8 +33,9 @@ impl Env for Program<'_> {
     }
 }
 
-fn note(
+fn note<R: Threads + Sync>(
     rt: &HostRuntime,
+    threads: &R,
     tally: &mut Tally,
     words: &[&[u8]],
     case: &str,
@@ -42,19 +44,41 @@ fn note(
     let alloc = rt.alloc();
     let program = Program { words };
     let words = Words::of_program(&(program, alloc))?;
-    let found = told(alloc, &words, &[], 4096)?;
+    let found = told(threads, alloc, &words, &[], 4096)?;
     tally.note(rt, case, &found, wanted)
 }
 
-pub fn compare(rt: &HostRuntime) -> io::Result<()> {
+pub fn compare<R: Threads + Sync>(rt: &HostRuntime, threads: &R) -> io::Result<()> {
     let mut tally = Tally::new();
-    let words: [&[u8]; 6] = [b"attr", b"--kind", b"single", b"--value", b"long", b"[;]"];
+    let words: [&[u8]; 7] = [
+        b"attr",
+        b"--kind=single",
+        b"--value",
+        b"long",
+        b"--readers",
+        b"0",
+        b"[;]",
+    ];
     let report = "0 final at 0/1:/done 0 operations 0 skipped/";
-    note(rt, &mut tally, &words, "the words after a name", report)?;
+    note(
+        rt,
+        threads,
+        &mut tally,
+        &words,
+        "the words after a name",
+        report,
+    )?;
     let refused = "2 attr: usage: words/";
-    note(rt, &mut tally, &[], "no name", refused)?;
-    note(rt, &mut tally, &[b"attr"], "a name alone", refused)?;
+    note(rt, threads, &mut tally, &[], "no name", refused)?;
+    note(rt, threads, &mut tally, &[b"attr"], "a name alone", refused)?;
     let words: [&[u8]; 3] = [b"attr", b"--help", b"\xFF"];
-    note(rt, &mut tally, &words, "a word that is no UTF-8", refused)?;
+    note(
+        rt,
+        threads,
+        &mut tally,
+        &words,
+        "a word that is no UTF-8",
+        refused,
+    )?;
     tally.print(rt, "words of a program")
 }

@@ -1,4 +1,4 @@
-use Rattle.std.proofs.Common.{◌≡◌, ◌∙◌, refl}
+use Rattle.std.proofs.Common.{◌∙◌, refl}
 use Rattle.attr_engine.proofs.beside.closed.Goals as goal
 
 pub returns-clause-knows : goal.returns-clause-knows

@@ -1,5 +1,5 @@
 use contract.BorrowLft.{⊑_static}
-use Rattle.std.proofs.Common.{◌≡◌, ◌∙◌}
+use Rattle.std.proofs.Common.{◌∙◌}
 use Rattle.word_arena.specs.Ruled.{writer_of}
 use Rattle.attr_engine.proofs.JobLemmas.{all_given}
 use Rattle.attr_engine.proofs.beside.load_beside.Goals as goal

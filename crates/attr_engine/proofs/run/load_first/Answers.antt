@@ -1,4 +1,4 @@
-use Rattle.std.proofs.Common.{◌≡◌, ◌∙◌, map, sym, subst, arith}
+use Rattle.std.proofs.Common.{◌∙◌, map, sym, subst, arith}
 use Rattle.std.specs.List.{AllByRecursion}
 use Rattle.gen_core.specs.Views.{last_number}
 use Rattle.gen_core.specs.declared.views.WriterView.{WriterView}

@@ -1,18 +1,14 @@
-use Rattle.std.proofs.Common.{◌≡◌, ◌∙◌, ℕ, List, map, length, sym, ap, subst}
-use Rattle.std.specs.Prelude.{Bool, is_some, Vec}
-use Rattle.std.specs.Global.{Global}
-use Rattle.std.specs.List.{AllByRecursion}
+use Rattle.std.proofs.Common.{◌∙◌, ℕ, List, map, ap, subst}
+use Rattle.std.specs.Prelude.{is_some}
+use Rattle.std.proofs.lemmas.Option.{IfSome_then}
 use Rattle.gen_core.specs.Views.{last_number}
-use Rattle.gen_core.specs.declared.views.WriterView.{WriterView}
 use Rattle.word_arena.specs.Ruled.{writer_of}
-use Rattle.attr_scores.specs.Scores.{AskTree, ask_tree}
+use Rattle.attr_scores.specs.Scores.{ask_tree}
 use Rattle.attr_types.specs.declared.field.Field.{Field}
-use Rattle.attr_rounds.specs.declared.rounds.Round.{Round}
-use Rattle.attr_answers.specs.declared.asked.Told.{Told}
 use Rattle.attr_report.specs.Run.{run_in}
-use Rattle.attr_engine.specs.Steps.{parts, AreTaken, IsLast, LoadsInto}
-use Rattle.attr_engine.proofs.ReaderLemmas.{AllOf}
-use Rattle.attr_engine.proofs.RunLemmas.{asked_as, last_as, came_of}
+use Rattle.attr_engine.specs.Steps.{operations_of, tells_of, saves_of, LoadsInto}
+use Rattle.attr_engine.proofs.RunLemmas.{Documents, asked_as, last_as, last_on, came_of}
+use Rattle.attr_engine.proofs.WriterLemmas.{keeps_on}
 use Rattle.attr_engine.proofs.run.run_over.Goals as goal
 
 pub returns : goal.returns
@@ -28,8 +24,12 @@ returns g c =
     let loads = subst (λ (fs : List Field). LoadsInto fs run.batch c.args.ops.now w v c.in_ok-loading.loading.loaded) q.fields_are has.loads in
     let first = asked_as counted (is_some run.make) asks run.asks q.counted_is q.asks_are v.sizes.shape (last_number w.commits) run.rounds v.commits c.in_ok-loading.loading.first.items has.rounds in
     let later = asked_as counted (is_some run.make) asks run.asks q.counted_is q.asks_are v.sizes.shape (last_number v.commits) run.rounds v.commits c.in_ok-later.later.items c.in_ok-later.ensures.rounds in
-    let told = last_as counted (is_some run.make) asks run.asks q.counted_is q.asks_are v x c.in_ok-last.last c.in_ok-later.ensures.keeps c.in_ok-last.ensures in
+    let told = last_as counted (is_some run.make) asks run.asks q.counted_is q.asks_are v c.in_ok-last.last
+    (last_on operations_of (tells_of counted asks) v x c.in_ok-last.last c.in_ok-later.ensures.keeps c.in_ok-last.ensures.last) in
+    let y = writer_of c.last_answer.new.writer.place.me.0 in
+    let saved = IfSome_then c.in_ok-documents.documents c.in_ok-documents.ensures.last
+    (λ (documents : Documents). last_on operations_of saves_of v y documents (keeps_on v x y c.in_ok-later.ensures.keeps c.in_ok-last.ensures.keeps)) in
     came_of run c.args.ops.now w v c.in_ok-loading.loading.loaded loads c.requires.buffers c.requires.new.shape_is c.requires.new.commits
-    c.in_ok-loading.loading.first.items c.in_ok-later.later.items c.chosen-rounds.result c.in_ok-last.last c.chosen-rounds.ensures
+    c.in_ok-loading.loading.first.items c.in_ok-later.later.items c.chosen-rounds.result c.in_ok-last.last c.in_ok-documents.documents c.chosen-rounds.ensures
     (record { each = first; count = has.count ∙ ap (λ (p : ℕ × ℕ). p.0) c.parts-beside.ensures })
-    (record { each = later; count = c.in_ok-later.ensures.count ∙ ap (λ (p : ℕ × ℕ). p.1) c.parts-beside.ensures }) told
+    (record { each = later; count = c.in_ok-later.ensures.count ∙ ap (λ (p : ℕ × ℕ). p.1) c.parts-beside.ensures }) told c.in_ok-documents.ensures.asked saved

@@ -21,9 +21,6 @@ returns-in-Err-clause-says c =
 pub returns-in-Err-clause-refusal : goal.returns-in-Err-clause-refusal
 returns-in-Err-clause-refusal c = rw c.of_words.ensures (words_stop-words c.in-Err.error)
 
-pub returns-in-Ok-clause-alone : goal.returns-in-Ok-clause-alone
-returns-in-Ok-clause-alone c = omega (arith, c.in-Ok.ensures.lawful.in_readers.1)
-
 pub returns-in-Ok-clause-few : goal.returns-in-Ok-clause-few
 returns-in-Ok-clause-few c = omega (arith, c.in-Ok.ensures.lawful.few)
 

@@ -4,7 +4,7 @@ use Rattle.attr_run.specs.declared.outcome.UsageCause.TheVariants as usage
 use Rattle.attr_run.specs.declared.outcome.FeedFault.TheVariants as feed
 use Rattle.attr_run.proofs.AnswerLemmas.{Met, at, ended-report, ended-run, exactly-usage}
 use Rattle.attr_run.proofs.AnswerLemmas.{exactly-help, exactly-refused, exactly-feed, early-text}
-use Rattle.attr_run.proofs.AnswerLemmas.{early-no_run, complete-told}
+use Rattle.attr_run.proofs.AnswerLemmas.{early-no_run, complete-told, full-room}
 use Rattle.attr_run.proofs.run.attr_main.Given.{Over}
 use Rattle.attr_run.proofs.run.attr_main.Goals as goal
 
@@ -49,6 +49,9 @@ returns-clause-saved g c = ended-run (met g c) _ _ _ (λ full text run ops until
 pub returns-clause-history : goal.returns-clause-history
 returns-clause-history g c = ended-run (met g c) _ _ _ (λ full text run ops until. until.legal)
     c.whole_run.ensures.answer
+
+pub returns-clause-room : goal.returns-clause-room
+returns-clause-room g c = full-room (met g c) _ _ c.whole_run.ensures.answer
 
 pub returns-clause-help : goal.returns-clause-help
 returns-clause-help g c = exactly-help (met g c) _ _ c.whole_run.ensures.one_kind c.whole_run.ensures.answer

@@ -5,7 +5,10 @@ use Rattle.attr_report.specs.Run.{Run, run_in}
 use Rattle.attr_run.specs.Answers.{ReadsAsAsked}
 use Rattle.attr_run.specs.Settings.{IsAskedBy}
 use Rattle.attr_run.specs.declared.outcome.Status.{Status}
-use Rattle.attr_run.proofs.RunLemmas.{until-alone}
+use Rattle.std.proofs.Common.{List}
+use Rattle.attr_types.specs.declared.op.Op.{Op}
+use Rattle.attr_engine.specs.Run.{IsRunOf}
+use Rattle.attr_run.proofs.RunLemmas.{answered, proper-of}
 use Rattle.attr_run.proofs.TaskLemmas.{of-run, unfed-stopped, unread-run, read_nothing}
 use Rattle.attr_run.proofs.run.reported.Goals as goal
 
@@ -26,12 +29,13 @@ returns-clause-unread g c =
 pub returns-clause-due : goal.returns-clause-due
 returns-clause-due g c =
     let run = run_in c.in_ok-request.request in
-    let written = c.in_ok-written.written in
-    let until = until-alone run c.in_ok-ops.ops written.text.items written.loaded c.new.result written.saved
-    c.in_ok-request.ensures.alone c.in_ok-written.ensures.loaded c.new.ensures c.in_ok-written.ensures.saved
-    c.in_ok-written.ensures.text in
-    of-run c.args.words.now (g.S.Source.left c.args.source.now) run c.in_ok-ops.ops _
-    c.in_ok-request.ensures.asked c.in_ok-ops.ensures.fed until
+    let a = c.answer_of.ensures in
+    let is = subst (λ (ops : List Op). IsRunOf run ops c.in_ok-written.written) c.as_slice.ensures c.in_ok-written.ensures in
+    answered c.args.words.now (g.S.Source.left c.args.source.now) _ _ run c.in_ok-ops.ops c.in_ok-written.written
+    _ _ _ _ _ a.status a.loaded a.rounds a.saved a.text c.in_ok-request.ensures.asked c.in_ok-ops.ensures.fed is
+
+pub returns-clause-whole : goal.returns-clause-whole
+returns-clause-whole g c = proper-of _ c.in_ok-written.written.full c.answer_of.ensures.status
 
 pub returns-clause-ended : goal.returns-clause-ended
 returns-clause-ended g c =

@@ -1,0 +1,177 @@
+-- What is written of a run is what its report's statement wants.
+use Rattle.std.proofs.Common.{◌≡◌, ◌∙◌, refl, sym, ap, ap₂, subst, ℕ, ◌+◌, List, [], ◌∷◌, ◌++◌, append_assoc, map, length, string_bytes, arith}
+use Rattle.std.specs.Prelude.{true, false, Option, Some, None, is_some, All, Vec, IfSome}
+use Rattle.std.specs.Global.{Global}
+use Rattle.std.specs.List.{AllByRecursion}
+use Rattle.attr_scores.specs.Scores.{AskTree, answer_to, count_of}
+use Rattle.attr_types.specs.Table.{Table, IsCommitPoint}
+use Rattle.attr_types.specs.declared.op.Op.{Op}
+use Rattle.attr_rounds.specs.declared.rounds.Round.{Round}
+use Rattle.attr_answers.specs.declared.asked.Told.{Told}
+use Rattle.attr_answers.specs.Lines.{TellsTable, lines_from}
+use Rattle.attr_report.specs.Run.{Run, Progress, table_at}
+use Rattle.attr_report.specs.Report.{answer_line, answers_from, answers_at, count_line, counts_from, reader_line, rounds_from, readers_from, final_line, full_line}
+use Rattle.attr_report.specs.Report.{done_line, report, made_line, documents_line, summary, told_by, written, saved_text}
+use Rattle.attr_report.specs.declared.request.Make.{Make}
+use Rattle.attr_index.specs.Columns.{Column, column_of as column_in}
+use Rattle.attr_saver.specs.Lawful.{column_of}
+use Rattle.attr_saver.specs.declared.saved.SavedDocument.{SavedDocument}
+use Rattle.attr_types.specs.Query.{items_in}
+use Rattle.attr_types.specs.declared.items.Item.{Item}
+use Rattle.attr_engine.specs.declared.came.Came.{Came}
+use Rattle.attr_engine.specs.Run.{full_of, progress_of, IsRunOf}
+use Rattle.attr_engine.specs.declared.written.Written.{Written}
+use Rattle.attr_engine.proofs.ReaderLemmas.{all_first, all_rest}
+use Rattle.attr_engine.proofs.HistoryLemmas.{in_rounds, afterwards, is_point}
+use Rattle.attr_loader.specs.declared.loaded.NoRoom.{NoRoom}
+use Rattle.attr_report.specs.History.{IsLoaded, IsRounds, IsAfterwards, IsSaved, IsSavedAt}
+use Rattle.attr_engine.specs.Rounds.{IsRoundAt, AreRoundsAt, IsCame, seen_before, progress_at}
+use Rattle.attr_engine.specs.Writing.{round_text, rounds_text, readers_text, report_text, summary_text, text_of, counts_of, IsWrittenOf, IsSavedOf}
+
+-- ---- one after another
+
+pub rounds_text-next : (front : List ℕ) (reader number : ℕ) (round : Round Told) (rounds : List (Round Told)) (text : List ℕ) → text ≡ front ++ round_text reader number round
+    → text ++ rounds_text reader (number + 1) rounds ≡ front ++ rounds_text reader number (round ∷ rounds)
+rounds_text-next front reader number round rounds text written =
+    ap (λ t. t ++ rounds_text reader (number + 1) rounds) written ∙ append_assoc front (round_text reader number round) (rounds_text reader (number + 1) rounds)
+
+pub readers_text-next : (front : List ℕ) (reader : ℕ) (made : Vec (Round Told) Global) (others : List (Vec (Round Told) Global)) (text : List ℕ)
+    → text ≡ front ++ rounds_text reader 1 made.items → text ++ readers_text (reader + 1) others ≡ front ++ readers_text reader (made ∷ others)
+readers_text-next front reader made others text written =
+    ap (λ t. t ++ readers_text (reader + 1) others) written ∙ append_assoc front (rounds_text reader 1 made.items) (readers_text (reader + 1) others)
+
+-- ---- the lines that are told
+
+lines-answers : (number : ℕ) (asks : List AskTree) (table : Table) → lines_from false number asks table ≡ answers_from number asks table
+unfolding answers_from
+lines-answers number [] table = refl
+lines-answers number (ask ∷ asks) table = ap (λ t. answer_line number (answer_to ask table) ++ t) (lines-answers (number + 1) asks table)
+
+lines-counts : (number : ℕ) (asks : List AskTree) (table : Table) → lines_from true number asks table ≡ counts_from number asks table
+unfolding counts_from
+lines-counts number [] table = refl
+lines-counts number (ask ∷ asks) table = ap (λ t. count_line number (count_of (answer_to ask table)) ++ t) (lines-counts (number + 1) asks table)
+
+told_lines : (run : Run) (ops : List Op) (n : ℕ) (told : Told) → run.make ≡ None → TellsTable (is_some run.make) run.asks (table_at run ops n) told
+    → string_bytes told.lines ≡ answers_at run ops n
+unfolding answers_at
+told_lines run ops n told none tells =
+    tells.lines ∙ ap (λ (m : Option Make). lines_from (is_some m) 1 run.asks (table_at run ops n)) none ∙ lines-answers 1 run.asks (table_at run ops n)
+
+told_counts : (run : Run) (table : Table) (make : Make) (told : Told) → run.make ≡ Some make → TellsTable (is_some run.make) run.asks table told
+    → string_bytes told.lines ≡ counts_from 1 run.asks table
+told_counts run table make told some tells =
+    tells.lines ∙ ap (λ (m : Option Make). lines_from (is_some m) 1 run.asks table) some ∙ lines-counts 1 run.asks table
+
+-- ---- the rounds
+
+module _ (run : Run) (ops : List Op) (none : run.make ≡ None) where
+  rounds-told : (last reader number : ℕ) (rounds : List (Round Told)) → All (IsRoundAt run ops last) rounds
+      → rounds_text reader number rounds ≡ rounds_from run ops reader number (counts_of rounds)
+  unfolding rounds_from
+  rounds-told last reader number [] all = refl
+  rounds-told last reader number (round ∷ rounds) all =
+      ap₂ (λ (a b : List ℕ). reader_line reader number round.operations ++ a ++ b)
+      (told_lines run ops round.operations round.answer none (all_first (IsRoundAt run ops last) round rounds all).tells)
+      (rounds-told last reader (number + 1) rounds (all_rest (IsRoundAt run ops last) round rounds all))
+
+  readers-told : (seen last reader : ℕ) (all_rounds : List (Vec (Round Told) Global)) → AllByRecursion (λ r. AreRoundsAt run ops seen last r.items) all_rounds
+      → readers_text reader all_rounds ≡ readers_from run ops reader (map (λ r. counts_of r.items) all_rounds)
+  unfolding readers_from
+  readers-told seen last reader [] all = refl
+  readers-told seen last reader (made ∷ others) all =
+      ap₂ (λ (a b : List ℕ). a ++ b) (rounds-told last reader 1 made.items all.0.each)
+      (readers-told seen last (reader + 1) others all.1)
+
+-- ---- the whole
+
+-- the end of a text, after what stands before it
+ends : (front full done : List ℕ) → front ++ (full ++ done) ≡ front ++ full ++ done
+ends front full done = sym (append_assoc front full done)
+
+report-told : (run : Run) (ops : List Op) (came : Came) → IsCame run ops came → run.make ≡ None
+    → report_text came ≡ report run ops (progress_at came None) (full_of came.loaded.full)
+unfolding report
+report-told run ops came is none =
+    let loaded = came.loaded.operations in
+    let full = full_line (full_of came.loaded.full) in
+    ends (readers_text 1 came.rounds.items ++ final_line loaded ++ string_bytes came.last.lines) full (done_line loaded came.loaded.skipped)
+    ∙ ap₂ (λ (a b : List ℕ). a ++ final_line loaded ++ b ++ full ++ done_line loaded came.loaded.skipped)
+    (readers-told run ops none (seen_before run.after is.last) is.last 1 came.rounds.items is.rounds) (told_lines run ops loaded came.last none is.tells)
+    ∙ ap (λ k. readers_from run ops 1 (map (λ r. counts_of r.items) came.rounds.items) ++ final_line loaded ++ answers_at run ops loaded ++ full ++ done_line loaded k) is.skips
+
+summary-told : (run : Run) (ops : List Op) (came : Came) (make : Make) → IsCame run ops came → run.make ≡ Some make
+    → summary_text make came ≡ summary make run ops (progress_at came None) (full_of came.loaded.full)
+unfolding summary
+summary-told run ops came make is some =
+    let loaded = came.loaded.operations in
+    let full = full_line (full_of came.loaded.full) in
+    let table = table_at run ops loaded in
+    ends (made_line make ++ documents_line loaded came.last.documents ++ string_bytes came.last.lines) full (done_line loaded came.loaded.skipped)
+    ∙ ap₂ (λ (n : ℕ) (b : List ℕ). made_line make ++ documents_line loaded n ++ b ++ full ++ done_line loaded came.loaded.skipped)
+    is.tells.documents (told_counts run table make came.last some is.tells)
+    ∙ ap (λ k. made_line make ++ documents_line loaded (length table) ++ counts_from 1 run.asks table ++ full ++ done_line loaded k) is.skips
+
+told-by : (run : Run) (ops : List Op) (came : Came) (make : Option Make) → IsCame run ops came → run.make ≡ make
+    → text_of make came ≡ told_by make run ops (progress_at came None) (full_of came.loaded.full)
+told-by run ops came None is none = report-told run ops came is none
+told-by run ops came (Some make) is some = summary-told run ops came make is some
+
+-- what is written of a run that saves no table
+pub written-told : (run : Run) (ops : List Op) (came : Came) → IsCame run ops came → text_of run.make came ≡ written run ops (progress_at came None) (full_of came.loaded.full)
+unfolding written
+written-told run ops came is = told-by run ops came run.make is refl
+
+-- and so it is a run, where none was to be saved
+pub run_of : (run : Run) (ops : List Op) (came : Came) (w : Written) → IsCame run ops came → run.save ≡ false → IsWrittenOf run.make came w → IsRunOf run ops w
+run_of run ops came w is unsaved wrote =
+    let same : progress_of w ≡ progress_at came None = λ i. record { loaded = wrote.loaded i; rounds = wrote.rounds i; saved = wrote.saved i } in
+    record {
+      is_loaded = subst (λ n. IsLoaded run (length ops) n (full_of w.full)) (sym wrote.loaded)
+          (subst (λ (f : Option NoRoom). IsLoaded run (length ops) came.loaded.operations (full_of f)) (sym wrote.full) is.is_loaded);
+      in_rounds = subst (IsRounds run (length ops)) (sym same) (in_rounds run ops came None is);
+      afterwards = subst (IsAfterwards run) (sym same) (afterwards run ops came None is);
+      in_save = subst (IsSaved run (length ops)) (sym same) (sym unsaved, tt);
+      is_written = wrote.text ∙ written-told run ops came is ∙ ap₂ (λ (p : Progress) (f : Option ℕ). written run ops p f) (sym same) (ap full_of (sym wrote.full));
+      room = subst (λ (f : Option NoRoom). IfSome f (λ r. r.active + r.held ≡ run.buffers)) (sym wrote.full) is.room;
+    }
+
+saved-written : (run : Run) (ops : List Op) (came : Came) (n : ℕ) (full : Option ℕ)
+    → saved_text run.fields (table_at run ops n) n ≡ written run ops (progress_at came (Some n)) full
+unfolding written
+saved-written run ops came n full = refl
+
+-- the same, where the table was saved after all that was loaded
+pub saved_run_of : (run : Run) (ops : List Op) (came : Came) (w : Written) → IsCame run ops came → run.save ≡ true → IsSavedOf run ops came w → IsRunOf run ops w
+saved_run_of run ops came w is saves wrote =
+    let n = came.loaded.operations in
+    let at : Option ℕ = Some n in
+    let same : progress_of w ≡ progress_at came at = λ i. record { loaded = wrote.loaded i; rounds = wrote.rounds i; saved = wrote.saved i } in
+    let point : IsCommitPoint run.batch (length ops) n = subst (IsCommitPoint run.batch (length ops)) (sym is.point) (is_point run.batch (length ops) is.last) in
+    let saved_at : IsSavedAt run (length ops) n n = (point, omega arith, λ after. refl) in
+    record {
+      is_loaded = subst (λ k. IsLoaded run (length ops) k (full_of w.full)) (sym wrote.loaded)
+          (subst (λ (f : Option NoRoom). IsLoaded run (length ops) n (full_of f)) (sym wrote.full) is.is_loaded);
+      in_rounds = subst (IsRounds run (length ops)) (sym same) (in_rounds run ops came at is);
+      afterwards = subst (IsAfterwards run) (sym same) (afterwards run ops came at is);
+      in_save = subst (IsSaved run (length ops)) (sym same) (sym saves, saved_at);
+      is_written = wrote.text ∙ saved-written run ops came n (full_of came.loaded.full)
+          ∙ ap₂ (λ (p : Progress) (f : Option ℕ). written run ops p f) (sym same) (ap full_of (sym wrote.full));
+      room = subst (λ (f : Option NoRoom). IfSome f (λ r. r.active + r.held ≡ run.buffers)) (sym wrote.full) is.room;
+    }
+
+-- ---- the first attribute, as a save has it
+
+abbrev pub column_at_first : Table → Column
+column_at_first table = column_in 0 table
+
+abbrev as_saved : ℕ × List Item → SavedDocument
+as_saved e = record { doc = e.0; items = e.1 }
+
+saved_column : (table : Table) → column_of table ≡ map as_saved (column_at_first table)
+saved_column [] = refl
+saved_column (e ∷ table) = ap (λ (c : List SavedDocument). as_saved (e.0, items_in e.1 0) ∷ c) (saved_column table)
+
+-- documents with the items of a table's first attribute are saved as that table is
+pub saved_alike : (documents table : Table) → column_at_first documents ≡ column_at_first table → column_of documents ≡ column_of table
+saved_alike documents table same = saved_column documents ∙ ap (λ (c : Column). map as_saved c) same ∙ sym (saved_column table)

@@ -1,0 +1,62 @@
+-- What is written of a run, by how far it came.
+use Rattle.std.specs.Prelude.{◌≡◌, ℕ, ◌+◌, List, [], ◌∷◌, ◌++◌, map, string_bytes, Option, Some, None, Vec}
+use Rattle.std.specs.Global.{Global}
+use Rattle.attr_rounds.specs.declared.rounds.Round.{Round}
+use Rattle.attr_answers.specs.declared.asked.Told.{Told}
+use Rattle.attr_loader.specs.declared.loaded.Loaded.{Loaded}
+use Rattle.attr_report.specs.Report.{reader_line, final_line, full_line, done_line, made_line, documents_line, saved_text}
+use Rattle.attr_report.specs.Run.{Run, table_at}
+use Rattle.attr_report.specs.declared.request.Make.{Make}
+use Rattle.attr_types.specs.declared.op.Op.{Op}
+use Rattle.attr_engine.specs.declared.came.Came.{Came}
+use Rattle.attr_engine.specs.declared.written.Written.{Written}
+use Rattle.attr_engine.specs.Run.{full_of}
+
+-- a round, and the lines that it tells
+abbrev pub round_text : ℕ → ℕ → Round Told → List ℕ
+round_text reader number round = reader_line reader number round.operations ++ string_bytes round.answer.lines
+
+-- a reader's rounds, numbered from `number` on
+abbrev pub rounds_text : ℕ → ℕ → List (Round Told) → List ℕ
+rounds_text reader number [] = []
+rounds_text reader number (round ∷ rounds) = round_text reader number round ++ rounds_text reader (number + 1) rounds
+
+-- those of the readers from number `reader` on
+abbrev pub readers_text : ℕ → List (Vec (Round Told) Global) → List ℕ
+readers_text reader [] = []
+readers_text reader (rounds ∷ others) = rounds_text reader 1 rounds.items ++ readers_text (reader + 1) others
+
+-- the operation that found no room, if one did, and how many were loaded and skipped
+abbrev pub end_text : Loaded → List ℕ
+end_text loaded = full_line (full_of loaded.full) ++ done_line loaded.operations loaded.skipped
+
+abbrev pub report_text : Came → List ℕ
+report_text came = readers_text 1 came.rounds.items ++ final_line came.loaded.operations ++ string_bytes came.last.lines ++ end_text came.loaded
+
+abbrev pub summary_text : Make → Came → List ℕ
+summary_text make came = made_line make ++ documents_line came.loaded.operations came.last.documents ++ string_bytes came.last.lines ++ end_text came.loaded
+
+-- the report, or the summary where the operations were made
+abbrev pub text_of : Option Make → Came → List ℕ
+text_of None came = report_text came
+text_of (Some make) came = summary_text make came
+
+-- how many operations a reader's rounds saw
+abbrev pub counts_of : List (Round Told) → List ℕ
+counts_of rounds = map (λ round. round.operations) rounds
+
+-- what is written of a run that saves no table
+pub record IsWrittenOf (make : Option Make) (came : Came) (w : Written) : Type 0 where
+  pub loaded : w.loaded ≡ came.loaded.operations
+  pub full : w.full ≡ came.loaded.full
+  pub rounds : w.rounds ≡ map (λ r. counts_of r.items) came.rounds.items
+  pub saved : w.saved ≡ None
+  pub text : w.text.items ≡ text_of make came
+
+-- what is written of a run that saves the table, after all that was loaded
+pub record IsSavedOf (run : Run) (ops : List Op) (came : Came) (w : Written) : Type 0 where
+  pub loaded : w.loaded ≡ came.loaded.operations
+  pub full : w.full ≡ came.loaded.full
+  pub rounds : w.rounds ≡ map (λ r. counts_of r.items) came.rounds.items
+  pub saved : w.saved ≡ Some came.loaded.operations
+  pub text : w.text.items ≡ saved_text run.fields (table_at run ops came.loaded.operations) came.loaded.operations

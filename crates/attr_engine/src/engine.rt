@@ -1,0 +1,47 @@
+//! A run and what it writes.
+ghost use Rattle.std.specs.Prelude.{◌≡◌, ◌≤◌, ◌<◌, ◌*◌, ◌^◌, length, IfOk};
+ghost use Rattle.std.specs.List.{AllByRecursion};
+ghost use Rattle.entry_ref.specs.References.{buffer_limit, offset_limit};
+ghost use Rattle.attr_types.specs.Lawful.{OpFits};
+ghost use Rattle.attr_types.specs.declared.field.TheConstants.{MOST_FIELDS};
+ghost use Rattle.attr_report.specs.Run.{run_in};
+ghost use Rattle.attr_engine.specs.Run.{IsRunOf};
+
+use crate::run::run_engine;
+use crate::saving::saved_run;
+use crate::writing::written_of;
+use crate::written::Written;
+use attr_io::Gate;
+use attr_report::Request;
+use attr_types::Op;
+use std::alloc::{AllocError, Global};
+use std::thread::Threads;
+
+/// A run over a new memory, and what it writes: the report, the summary where its operations were made, or the table
+/// where it is saved.
+pub fn engine_run<const OFFSET_BITS: u32, R: Threads + Sync, G: Gate + Sync + 'static>(
+    rt: &R,
+    alloc: Global,
+    request: &Request,
+    ops: &[Op],
+    gate: &G,
+) -> Result<Written, AllocError>
+    requires some_buffers { 1 ≤ request.now.buffers }
+    requires few_buffers { request.now.buffers < buffer_limit OFFSET_BITS }
+    requires some_words { 8192 ≤ request.now.words }
+    requires few_words { request.now.words ≤ 65536 }
+    requires offsets { request.now.words ≤ offset_limit OFFSET_BITS }
+    requires product { request.now.buffers * request.now.words ≤ 67108864 }
+    requires some_fields { 0 < length request.now.fields }
+    requires few_fields { length request.now.fields ≤ MOST_FIELDS }
+    requires some { 0 < request.now.batch }
+    requires few { length ops.now < 2 ^ 32 }
+    requires fit { AllByRecursion (OpFits request.now.fields) ops.now }
+    ensures { IfOk result (IsRunOf (run_in request.now) ops.now) }
+{
+    let came = run_engine::<OFFSET_BITS, R, G>(rt, alloc, request, ops, gate)?;
+    match &came.documents {
+        Some(documents) => saved_run(alloc, request, ops, &came, documents),
+        None => written_of(alloc, request.make, &came),
+    }
+}
