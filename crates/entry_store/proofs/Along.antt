@@ -112,12 +112,12 @@ put-may bits work m e unit st width r can =
 module _ {H : Type 0} (bits : ℕ) (work : WorkView H) (shape : ℕ) (m : Records) (e : EntriesView) (unit : Bool) (st : Stands bits work m e unit) (width r : ℕ) (words : List ℕ) (can : CanTake bits e width r)
     (v : WorkView H) (i : ℕ) (n : Records) (f : EntriesView) (knows : v ≡ record work { stored = v.stored }) (shaped : i ≡ shape) (written : n ≡ with_words m r (padded words width)) (made : f ≡ made_at e width r) where
   pub takes-put : 0 < (e.of_width width).spare
-      → TakesOne bits (ledger_of work shape m e unit) (ledger_of v i n f unit) (records_of (statuses work.commits e) m) (records_of (statuses v.commits f) n) width words r
+      → TakesOne bits (ledger_of bits work shape m e unit) (ledger_of bits v i n f unit) (records_of (statuses work.commits e) m) (records_of (statuses v.commits f) n) width words r
   takes-put some =
-      subst (λ w. TakesOne bits (ledger_of work shape m e unit) (ledger_of w i n f unit) (records_of (statuses work.commits e) m) (records_of (statuses w.commits f) n) width words r) (sym knows)
-      (subst (λ k. TakesOne bits (ledger_of work shape m e unit) (ledger_of (record work { stored = v.stored }) k n f unit) (records_of (statuses work.commits e) m) (records_of (statuses work.commits f) n) width words r) (sym shaped)
-      (subst (λ (x : Records). TakesOne bits (ledger_of work shape m e unit) (ledger_of (record work { stored = v.stored }) shape x f unit) (records_of (statuses work.commits e) m) (records_of (statuses work.commits f) x) width words r) (sym written)
-      (subst (λ g. TakesOne bits (ledger_of work shape m e unit) (ledger_of (record work { stored = v.stored }) shape (with_words m r (padded words width)) g unit) (records_of (statuses work.commits e) m)
+      subst (λ w. TakesOne bits (ledger_of bits work shape m e unit) (ledger_of bits w i n f unit) (records_of (statuses work.commits e) m) (records_of (statuses w.commits f) n) width words r) (sym knows)
+      (subst (λ k. TakesOne bits (ledger_of bits work shape m e unit) (ledger_of bits (record work { stored = v.stored }) k n f unit) (records_of (statuses work.commits e) m) (records_of (statuses work.commits f) n) width words r) (sym shaped)
+      (subst (λ (x : Records). TakesOne bits (ledger_of bits work shape m e unit) (ledger_of bits (record work { stored = v.stored }) shape x f unit) (records_of (statuses work.commits e) m) (records_of (statuses work.commits f) x) width words r) (sym written)
+      (subst (λ g. TakesOne bits (ledger_of bits work shape m e unit) (ledger_of bits (record work { stored = v.stored }) shape (with_words m r (padded words width)) g unit) (records_of (statuses work.commits e) m)
       (records_of (statuses work.commits g) (with_words m r (padded words width))) width words r) (sym made)
       (takes-one bits work shape m e unit st width r words can v.stored some))))
 
@@ -139,12 +139,12 @@ module _ {H : Type 0} (bits : ℕ) (work : WorkView H) (shape : ℕ) (m : Record
       by_state BufferState.Active h = absurd (true≢false (sym h))
       by_state BufferState.OnHold h = refl
 
-  pub opens-handed : OpensBuffer (ledger_of work shape m e unit) (ledger_of v i n f unit) width
+  pub opens-handed : OpensBuffer (ledger_of bits work shape m e unit) (ledger_of bits v i n f unit) width
   opens-handed =
-      subst (λ w. OpensBuffer (ledger_of work shape m e unit) (ledger_of w i n f unit) width) (sym knows)
-      (subst (λ k. OpensBuffer (ledger_of work shape m e unit) (ledger_of (handed_out work b width) k n f unit) width) (sym shaped)
-      (subst (λ (x : Records). OpensBuffer (ledger_of work shape m e unit) (ledger_of (handed_out work b width) shape x f unit) width) (sym written)
-      (subst (λ g. OpensBuffer (ledger_of work shape m e unit) (ledger_of (handed_out work b width) shape m g unit) width) (sym opened)
+      subst (λ w. OpensBuffer (ledger_of bits work shape m e unit) (ledger_of bits w i n f unit) width) (sym knows)
+      (subst (λ k. OpensBuffer (ledger_of bits work shape m e unit) (ledger_of bits (handed_out work b width) k n f unit) width) (sym shaped)
+      (subst (λ (x : Records). OpensBuffer (ledger_of bits work shape m e unit) (ledger_of bits (handed_out work b width) shape x f unit) width) (sym written)
+      (subst (λ g. OpensBuffer (ledger_of bits work shape m e unit) (ledger_of bits (handed_out work b width) shape m g unit) width) (sym opened)
       (opens-buffer bits work shape m e unit st b width (lowest-is bits work m e unit st b low) not-active))))
 
   pub records-handed : records_of (statuses v.commits f) n ≡ records_of (statuses work.commits e) m

@@ -49,6 +49,7 @@ back-may old new back = record {
   unit = ap (λ l. l.unit) back.same;
   home = ap (λ w. w.home) back.work;
   shape = ap (λ l. l.shape) back.same;
+  bits = ap (λ l. l.bits) back.same;
   sizes = ap (λ w. w.sizes) back.work;
   commits = back.commits;
   told = ap (λ w. w.told) back.work;
@@ -62,6 +63,7 @@ back-may old new back = record {
   back = λ r. subst (IsSameBack (old.back r)) (sym (back.back r)) (below-back (oldest_of new.work.queue).generation (old.back r));
   back_records = ap (λ l. l.back_records) back.same;
   newly = λ r used. inl (sym (below_uses (oldest_of new.work.queue).generation (old.status r)) ∙ sym (ap in_use (back.status r)) ∙ used);
+  unsealed = λ r used sealed. sym (below_uses (oldest_of new.work.queue).generation (old.status r)) ∙ sym (ap in_use (back.status r)) ∙ used;
 }
 
 -- what the making of one entry may do
@@ -69,11 +71,12 @@ made-more : (made : ℕ) → made ≤ 18446744073709551615 → made ≤ one_more
 made-more made few = omega arith
 
 pub one-may : {H : Type 0} (bits : ℕ) (old new : Ledger H) (m n : Records) (width : ℕ) (words : List ℕ) (r : ℕ) → TakesOne bits old new m n width words r
-    → (old.of_width width).made ≤ 18446744073709551615 → MayDo old new
-one-may bits old new m n width words r one few = record {
+    → (old.of_width width).made ≤ 18446744073709551615 → new.bits ≡ bits → MayDo old new
+one-may bits old new m n width words r one few sized = record {
   unit = ap (λ l. l.unit) one.same;
   home = ap (λ w. w.home) one.takes.work;
   shape = ap (λ l. l.shape) one.same;
+  bits = ap (λ l. l.bits) one.same;
   sizes = ap (λ w. w.sizes) one.takes.work;
   commits = subst (λ w. KeepsCommits old.work.commits w.commits) (sym one.takes.work) (keeps_commits-same old.work.commits);
   told = ap (λ w. w.told) one.takes.work;
@@ -90,6 +93,10 @@ one-may bits old new m n width words r one few = record {
     | inl e ↦ inr (ap (λ x. is_open (new.back x)) e ∙ one.opened)
     | inr ne ↦ inl (sym (ap in_use (ap (λ (f : ℕ → Status). f q) one.status ∙ with_status-other old.status r q Status.pending ne)) ∙ used)
   ];
+  unsealed = λ q used sealed. elim (cases_eq q r) [
+    | inl e ↦ absurd (true≢false (sym sealed ∙ ap (λ x. new.sealed (buffer_of new.bits x)) e ∙ ap (λ k. new.sealed (buffer_of k r)) sized ∙ one.unsealed))
+    | inr ne ↦ sym (ap in_use (ap (λ (f : ℕ → Status). f q) one.status ∙ with_status-other old.status r q Status.pending ne)) ∙ used
+  ];
 }
   where
     by_width : (w : ℕ) → (old.of_width w).made ≤ (with_counts old.of_width width (took_spare (old.of_width width)) w).made
@@ -105,6 +112,7 @@ opens-may old new width opens = record {
   unit = ap (λ l. l.unit) opens.same;
   home = ap (λ w. w.home) opens.work;
   shape = ap (λ l. l.shape) opens.same;
+  bits = ap (λ l. l.bits) opens.same;
   sizes = ap (λ w. w.sizes) opens.work;
   commits = subst (λ w. KeepsCommits old.work.commits w.commits) (sym opens.work) (keeps_commits-same old.work.commits);
   told = ap (λ w. w.told) opens.work;
@@ -118,6 +126,7 @@ opens-may old new width opens = record {
   back = λ r. inl (ap (λ l. l.back r) opens.same);
   back_records = ap (λ l. l.back_records) opens.same;
   newly = λ q used. inl (sym (ap (λ l. in_use (l.status q)) opens.same) ∙ used);
+  unsealed = λ q used sealed. sym (ap (λ l. in_use (l.status q)) opens.same) ∙ used;
 }
   where
     now : OfWidth
@@ -272,6 +281,7 @@ drop-may old new m n r used drops = record {
   unit = ap (λ l. l.unit) drops.same;
   home = ap (λ l. l.work.home) drops.same;
   shape = ap (λ l. l.shape) drops.same;
+  bits = ap (λ l. l.bits) drops.same;
   sizes = ap (λ l. l.work.sizes) drops.same;
   commits = subst (λ l. KeepsCommits old.work.commits l.work.commits) (sym drops.same) (keeps_commits-same old.work.commits);
   told = ap (λ l. l.work.told) drops.same;
@@ -287,6 +297,10 @@ drop-may old new m n r used drops = record {
   newly = λ q now. elim (cases_eq q r) [
     | inl e ↦ absurd (true≢false (sym now ∙ ap in_use (ap (λ (f : ℕ → Status). f q) drops.status ∙ with_status-same old.status r q _ e) ∙ drop_ends (old.status r) (old.back r) used))
     | inr ne ↦ inl (sym (ap in_use (ap (λ (f : ℕ → Status). f q) drops.status ∙ with_status-other old.status r q _ ne)) ∙ now)
+  ];
+  unsealed = λ q now sealed. elim (cases_eq q r) [
+    | inl e ↦ absurd (true≢false (sym now ∙ ap in_use (ap (λ (f : ℕ → Status). f q) drops.status ∙ with_status-same old.status r q _ e) ∙ drop_ends (old.status r) (old.back r) used))
+    | inr ne ↦ sym (ap in_use (ap (λ (f : ℕ → Status). f q) drops.status ∙ with_status-other old.status r q _ ne)) ∙ now
   ];
 }
 

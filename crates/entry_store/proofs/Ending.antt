@@ -165,7 +165,7 @@ module _ {H : Type 0} (bits : ℕ) (work : WorkView H) (m : Records) (e : Entrie
         counts-2 = ap (λ x. x.of_width) e2_is ∙ ap (λ x. x.of_width) e1_is ∙ counts-retired bits work m e (over-from bits work m e false st) e.finished
 
         pub ends : (shape formed number : ℕ) (n : Records) → formed ≡ shape → n ≡ m
-            → EndsCommit bits (ledger_of work shape m e false) (ledger_of v formed n e3 false) (record { commit = number; advance = advance; oldest = oldest })
+            → EndsCommit bits (ledger_of bits work shape m e false) (ledger_of bits v formed n e3 false) (record { commit = number; advance = advance; oldest = oldest })
         ends shape formed number n same written = record {
           next = next;
           advances = subst (λ w. Advances advance w next) held_is advances;

@@ -109,7 +109,7 @@ lets-keep old new goes = record { last = goes.last; image = lets-last old new go
 
 module _ {H : Type 0} (bits : ℕ) (work : WorkView H) (shape : ℕ) (m : Records) (e : EntriesView) (unit : Bool) (st : Stands bits work m e unit) where
   abbrev before : Ledger H
-  before = ledger_of work shape m e unit
+  before = ledger_of bits work shape m e unit
 
   abbrev has : ℕ → Bool
   has q = is_in (last_image work.commits) q
@@ -123,7 +123,7 @@ module _ {H : Type 0} (bits : ℕ) (work : WorkView H) (shape : ℕ) (m : Record
     ws = padded words width
 
     abbrev after : Ledger H
-    after = ledger_of (record work { stored = stored }) shape (with_words m r ws) (made_at e width r) unit
+    after = ledger_of bits (record work { stored = stored }) shape (with_words m r ws) (made_at e width r) unit
 
     place-in : IsEntry bits work.sizes.buffers work.sizes.words width r
     place-in =
@@ -220,13 +220,13 @@ module _ {H : Type 0} (bits : ℕ) (work : WorkView H) (shape : ℕ) (m : Record
       | inr t ↦ ap (λ u. (cond u (record { state = Active; width = width; generation = 0; sealed = false }) (e.mark a)).sealed) (ne_eqb a b t)
     ]
 
-    pub opens-buffer : OpensBuffer before (ledger_of (handed_out work b width) shape m (opened_at e b width) unit) width
+    pub opens-buffer : OpensBuffer before (ledger_of bits (handed_out work b width) shape m (opened_at e b width) unit) width
     opens-buffer = record {
       buffer = b;
       lowest = low;
       work = refl;
       counts = ap (λ n. with_counts e.of_width width (record (e.of_width width) { spare = capacity n width; buffers = (e.of_width width).buffers + 1; filled = Some b })) st.words;
-      same = λ k. record (ledger_of (handed_out work b width) shape m (opened_at e b width) unit) { sealed = λ a. sealed-opened a k };
+      same = λ k. record (ledger_of bits (handed_out work b width) shape m (opened_at e b width) unit) { sealed = λ a. sealed-opened a k };
     }
 
   -- a drop
@@ -262,12 +262,12 @@ module _ {H : Type 0} (bits : ℕ) (work : WorkView H) (shape : ℕ) (m : Record
         (dropped-records (has r) e.last s (m r) used)))
         (λ t. free-none (statuses work.commits e q) (m q)))
 
-    pub drops-entry : DropsEntry before (ledger_of work shape m new unit) records (records_of (statuses work.commits new) m) r
+    pub drops-entry : DropsEntry before (ledger_of bits work shape m new unit) records (records_of (statuses work.commits new) m) r
     drops-entry = record {
       status = λ k q. status-now q k;
       records = λ k q. record-now q k;
       counts = drops.counts;
-      same = λ k. record (ledger_of work shape m new unit) {
+      same = λ k. record (ledger_of bits work shape m new unit) {
         back = λ q. back-now q k;
         back_records = λ q. cond (has_record (back-now q k)) (m q) [];
         sealed = λ b. ((drops.same k).mark b).sealed;
@@ -276,7 +276,7 @@ module _ {H : Type 0} (bits : ℕ) (work : WorkView H) (shape : ℕ) (m : Record
     }
 
   -- the ends of a unit
-  pub accepts-unit : (new : EntriesView) → Accepts e new → AcceptsUnit before (ledger_of work shape m new false) records (records_of (statuses work.commits new) m)
+  pub accepts-unit : (new : EntriesView) → Accepts e new → AcceptsUnit before (ledger_of bits work shape m new false) records (records_of (statuses work.commits new) m)
   accepts-unit new accepts = record {
     unit = refl;
     status = status-now;
@@ -293,7 +293,7 @@ module _ {H : Type 0} (bits : ℕ) (work : WorkView H) (shape : ℕ) (m : Record
           ap (λ l. status_of (has q) l (new.state q)) (ap (λ x. x.last) accepts.same)
           ∙ ap (status_of (has q) e.last) (accepts.state q) ∙ accepted-status (has q) e.last e.generation (e.state q)
 
-  pub undoes-unit : (new : EntriesView) → Undoes e new → UndoesUnit before (ledger_of work shape m new false) (records_of (statuses work.commits new) m)
+  pub undoes-unit : (new : EntriesView) → Undoes e new → UndoesUnit before (ledger_of bits work shape m new false) (records_of (statuses work.commits new) m)
   undoes-unit new undoes = record {
     unit = refl;
     status = λ k q. status-now q k;
@@ -310,11 +310,11 @@ module _ {H : Type 0} (bits : ℕ) (work : WorkView H) (shape : ℕ) (m : Record
       status-now q = ap (λ l. status_of (has q) l (new.state q)) (ap (λ x. x.last) undoes.same) ∙ ap (status_of (has q) e.last) (undoes.state q)
 
   -- a seal
-  pub seals-buffer : (new : EntriesView) (b : ℕ) → Seals e new b → SealsBuffer before (ledger_of work shape m new unit) b
+  pub seals-buffer : (new : EntriesView) (b : ℕ) → Seals e new b → SealsBuffer before (ledger_of bits work shape m new unit) b
   seals-buffer new b seals = record {
     sealed = λ a. ap (λ f. (f a).sealed) seals.mark ∙ by_test (eqb a b) a;
     counts = seals.counts;
-    same = λ k. record (ledger_of work shape m new unit) {
+    same = λ k. record (ledger_of bits work shape m new unit) {
       status = λ q. (status-now q) k;
       back = λ q. (back-now q) k;
       back_records = λ q. cond (has_record (back-now q k)) (m q) [];
@@ -339,10 +339,10 @@ module _ {H : Type 0} (bits : ℕ) (work : WorkView H) (shape : ℕ) (m : Record
 module _ {H : Type 0} (bits : ℕ) (work : WorkView H) (shape : ℕ) (m : Records) (e : EntriesView) (unit : Bool) (st : IsOver bits work m e unit) (next : WorkView H) (new : EntriesView) (answer : Oldest) (reclaims : Reclaims answer work next) (goes : LetsGo work.commits next.commits)
     (knows : next ≡ reclaimed work next) (alone : work.made ≡ 0 → next.stops ≡ work.stops) (frees : Frees e new answer.generation) (order : IsInOrder next) (below : answer.generation ≤ e.generation) where
   abbrev earlier : Ledger H
-  earlier = ledger_of work shape m e unit
+  earlier = ledger_of bits work shape m e unit
 
   abbrev freed-ledger : Ledger H
-  freed-ledger = ledger_of next shape m new unit
+  freed-ledger = ledger_of bits next shape m new unit
 
   pub stops-rise : (t : Bool) → answer.newest ≡ t → work.stops ≤ next.stops
   stops-rise true is = let same = (reclaims.newest is).2 in omega arith

@@ -126,7 +126,7 @@ module _ (bits : ℕ) (reaches : ℕ → Records → ℕ → List ℕ) (lawful :
       let some = there-among (reaches shape records root) records q (present shape records root law) among in
       sym (cond-true (has_record (statuses work.commits e q)) (m q) [] (some_filtered (has_record (statuses work.commits e q)) (m q) some).0))) law
 
-  module _ (whole : IsWhole bits (ledger_of work shape m e unit) (reaches shape records root)) where
+  module _ (whole : IsWhole bits (ledger_of bits work shape m e unit) (reaches shape records root)) where
     used-in : (r : ℕ) → is_in image r ≡ true → in_use (statuses work.commits e r) ≡ true
     used-in r h = whole.used r (in-among (reaches shape records root) records root r h)
 
@@ -180,13 +180,13 @@ module _ (bits : ℕ) (reaches : ℕ → Records → ℕ → List ℕ) (lawful :
       tag-now : tag_now new ≡ tag
       tag-now = ap (λ w. record { generation = current w; commit = new.commits.last }) knows ∙ ap (λ k. record { generation = current work; commit = k }) adds.last
 
-      pub publishes : (formed : ℕ) → formed ≡ shape → Publishes (ledger_of work shape m e unit) (ledger_of new formed n after unit) image number
+      pub publishes : (formed : ℕ) → formed ≡ shape → Publishes (ledger_of bits work shape m e unit) (ledger_of bits new formed n after unit) image number
       publishes formed same = record {
         number_is = number_is;
         adds = adds;
         work = knows;
         status = λ r. status-now r ∙ ap (λ t. after_commit t (is_in image r) (statuses work.commits e r)) (sym tag-now);
-        same = λ k. record (ledger_of new formed n after unit) {
+        same = λ k. record (ledger_of bits new formed n after unit) {
           shape = same k;
           of_width = (counts k).of_width;
           sealed = λ b. ((counts k).mark b).sealed;

@@ -82,7 +82,7 @@ count-same bits p q status state b (suc n) same =
 
 module _ {H : Type 0} (bits : ℕ) (work : WorkView H) (shape : ℕ) (m : Records) (e : EntriesView) (unit : Bool) (st : Stands bits work m e unit) where
   abbrev ledger : Ledger H
-  ledger = ledger_of work shape m e unit
+  ledger = ledger_of bits work shape m e unit
 
   width-is : (b : ℕ) → b < work.sizes.buffers → width_of e b ≡ active_width (work.buffer b)
   width-is b below = mark-width (e.mark b) (work.buffer b) (st.marks b below)

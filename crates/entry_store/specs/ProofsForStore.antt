@@ -13,14 +13,14 @@ use Rattle.image_base.specs.Records.{Records}
 use Rattle.image_base.specs.Images.{words_at}
 use Rattle.arena_api.specs.Works.{WorkView, Tag, active_width, free_count, last_image}
 use Rattle.arena_api.specs.Calls.{FitsEntry, InNoCommit}
-use Rattle.store_api.specs.Statuses.{Status, has_record, is_taken, is_committed, is_uncommitted}
+use Rattle.store_api.specs.Statuses.{Status, in_use, has_record, is_taken, is_committed, is_uncommitted}
 use Rattle.store_api.specs.Ledgers.{IsSettled, IsEntryOf, IsSpare, IsHeldEntry, IsUnfilled, is_this, is_in, is_width, buffers_in, widths, capacity}
 use Rattle.store_api.proofs.Counting.{few_entries, few_nodes}
 use Rattle.buffer_states.specs.declared.BufferState.{BufferState}
 use Rattle.buffer_states.specs.Buffers.{is_free, is_active}
 use Rattle.entry_ledger.specs.Entries.{EntriesView, is_up_to, width_of, count_marks}
 use Rattle.entry_ledger.specs.Entries.{IsSpare as IsSpareEntry}
-use Rattle.entry_store.specs.Standing.{Stands, status_of, statuses, backs, ledger_of, tag_at}
+use Rattle.entry_store.specs.Standing.{Stands, status_of, back_of, statuses, backs, ledger_of, tag_at}
 use Rattle.entry_store.specs.ProofsForMarks.{mark-width, count-free}
 use Rattle.entry_store.specs.ProofsForStates.{open-state, unmade-none, untouched}
 
@@ -38,6 +38,27 @@ committed-has Status.dropped h = refl
 committed-has Status.let_go h = refl
 committed-has (Status.held tag) h = h
 committed-has Status.left h = h
+
+-- an entry in use before the unit under way has a record, then and now
+use-has : (c : Status) → in_use c ≡ true → has_record c ≡ true
+use-has Status.unmade h = h
+use-has Status.free h = h
+use-has Status.pending h = refl
+use-has Status.live h = refl
+use-has Status.dropped h = refl
+use-has Status.let_go h = refl
+use-has (Status.held tag) h = h
+use-has Status.left h = h
+
+back-has : (has : Bool) (last : ℕ) (o : Option State) → in_use (back_of has last o) ≡ true → has_record (status_of has last o) ≡ true
+back-has has last None h = absurd (false≢true h)
+back-has has last (Some State.Free) h = absurd (false≢true h)
+back-has has last (Some State.Returned) h = absurd (false≢true h)
+back-has has last (Some State.Made) h = absurd (false≢true h)
+back-has has last (Some (State.InUse after)) h = use-has (status_of has last (Some (State.InUse after))) h
+back-has has last (Some State.LetGo) h = refl
+back-has has last (Some (State.DroppedNow after)) h = refl
+back-has has last (Some (State.Dropped after g)) h = use-has (status_of has last (Some (State.Dropped after g))) h
 
 abbrev tag-in : Tag → Status → Tag
 tag-in other (Status.held tag) = tag
@@ -123,7 +144,7 @@ module _ {H : Type 0} (bits : ℕ) (work : WorkView H) (m : Records) (e : Entrie
       subst (λ n. (e.of_width n).filled ≡ Some (buffer_of bits r)) (width-of (buffer_of bits r) entry.inside)
       (st.good.filled r (entry-of r entry) (unmade-none (is_in (last_image work.commits) r) e.last (e.state r) none))
 
-  spare-entry : (shape width r : ℕ) → IsSpare bits (ledger_of work shape m e unit) width r → IsSpareEntry bits e width r
+  spare-entry : (shape width r : ℕ) → IsSpare bits (ledger_of bits work shape m e unit) width r → IsSpareEntry bits e width r
   spare-entry shape width r spare =
       let wide : width_of e (buffer_of bits r) ≡ width = width-of (buffer_of bits r) spare.entry.inside ∙ spare.of_width in
       record {
@@ -133,10 +154,10 @@ module _ {H : Type 0} (bits : ℕ) (work : WorkView H) (m : Records) (e : Entrie
         unsealed = spare.unsealed;
       }
 
-  each-spare : (shape width : ℕ) (refs : List ℕ) → All (IsSpare bits (ledger_of work shape m e unit) width) refs → AllByRecursion (IsSpareEntry bits e width) refs
+  each-spare : (shape width : ℕ) (refs : List ℕ) → All (IsSpare bits (ledger_of bits work shape m e unit) width) refs → AllByRecursion (IsSpareEntry bits e width) refs
   each-spare shape width [] all = tt
   each-spare shape width (r ∷ rs) all =
-      (spare-entry shape width r (All-head (IsSpare bits (ledger_of work shape m e unit) width) r rs all), each-spare shape width rs (All-tail (IsSpare bits (ledger_of work shape m e unit) width) r rs all))
+      (spare-entry shape width r (All-head (IsSpare bits (ledger_of bits work shape m e unit) width) r rs all), each-spare shape width rs (All-tail (IsSpare bits (ledger_of bits work shape m e unit) width) r rs all))
 
   -- an active buffer has one of the widths
   width-is : (r : ℕ) (width : ℕ) → IsSpareEntry bits e width r → is_width width ≡ true
@@ -152,7 +173,7 @@ module _ {H : Type 0} (bits : ℕ) (work : WorkView H) (m : Records) (e : Entrie
       active-busy BufferState.Active h = refl
       active-busy BufferState.OnHold h = absurd (false≢true h)
 
-  pub store_spares : (shape width : ℕ) (refs : List ℕ) → IsDistinct eqb refs → All (IsSpare bits (ledger_of work shape m e unit) width) refs → length refs ≤ (e.of_width width).spare
+  pub store_spares : (shape width : ℕ) (refs : List ℕ) → IsDistinct eqb refs → All (IsSpare bits (ledger_of bits work shape m e unit) width) refs → length refs ≤ (e.of_width width).spare
   store_spares shape width [] distinct all = omega arith
   store_spares shape width (r ∷ rs) distinct all =
       let each = each-spare shape width (r ∷ rs) all in
@@ -161,7 +182,7 @@ module _ {H : Type 0} (bits : ℕ) (work : WorkView H) (m : Records) (e : Entrie
   pub store_unkept : (r : ℕ) → IsEntryOf bits work r → is_uncommitted (status r) ≡ true → InNoCommit work.commits r
   store_unkept r entry h = st.sound.unkept r entry.wide entry.inside h
 
-  pub store_held : (shape r : ℕ) (tag : Tag) → status r ≡ Status.held tag → IsHeldEntry (ledger_of work shape m e unit) r tag
+  pub store_held : (shape r : ℕ) (tag : Tag) → status r ≡ Status.held tag → IsHeldEntry (ledger_of bits work shape m e unit) r tag
   store_held shape r tag is =
       let from = held-state (is_in (last_image work.commits) r) e.last (e.state r) tag is in
       let up = st.good.up_to r (Dropped from.0 from.1) from.2 in
@@ -180,17 +201,22 @@ module _ {H : Type 0} (bits : ℕ) (work : WorkView H) (m : Records) (e : Entrie
   pub store_last : (r : ℕ) → is_committed (status r) ≡ true → records r ≡ words_at (last_image work.commits) r
   store_last r h = cond-true (has_record (status r)) (m r) [] (committed-has _ h) ∙ st.sound.committed r h
 
+  pub store_steady : (r : ℕ) → in_use (backs work.commits e r) ≡ true → records r ≡ cond (has_record (backs work.commits e r)) (m r) []
+  store_steady r h =
+      cond-true (has_record (status r)) (m r) [] (back-has (is_in (last_image work.commits) r) e.last (e.state r) h)
+      ∙ sym (cond-true (has_record (backs work.commits e r)) (m r) [] (use-has (backs work.commits e r) h))
+
   back-same : unit ≡ false → (r : ℕ) → backs work.commits e r ≡ statuses work.commits e r
   back-same ended r = ap (status_of (is_in (last_image work.commits) r) e.last) (untouched e.last (e.state r) (st.settled ended r))
 
-  pub store_settled : (shape : ℕ) → unit ≡ false → IsSettled (ledger_of work shape m e unit) records
+  pub store_settled : (shape : ℕ) → unit ≡ false → IsSettled (ledger_of bits work shape m e unit) records
   store_settled shape ended = record {
     back = λ k r. back-same ended r k;
     back_records = λ k r. cond (has_record (back-same ended r k)) (m r) [];
     fresh = st.no_fresh ended;
   }
 
-  pub store_sealed : (shape b : ℕ) → (e.mark b).sealed ≡ true → IsUnfilled (ledger_of work shape m e unit) b
+  pub store_sealed : (shape b : ℕ) → (e.mark b).sealed ≡ true → IsUnfilled (ledger_of bits work shape m e unit) b
   store_sealed shape b is =
       let sealed = st.good.sealed b is in
       let below : b < work.sizes.buffers = subst (λ n. b < n) st.count sealed.below in

@@ -49,10 +49,11 @@ abbrev pub records_of : (ℕ → Status) → Records → Records
 records_of status m r = if has_record (status r) then m r else []
 
 -- the ledger of a store over a work with these records
-abbrev pub ledger_of : {H : Type 0} → WorkView H → ℕ → Records → EntriesView → Bool → Ledger H
-ledger_of work shape m e unit = record {
+abbrev pub ledger_of : {H : Type 0} → ℕ → WorkView H → ℕ → Records → EntriesView → Bool → Ledger H
+ledger_of bits work shape m e unit = record {
   work = work;
   shape = shape;
+  bits = bits;
   unit = unit;
   status = statuses work.commits e;
   back = backs work.commits e;

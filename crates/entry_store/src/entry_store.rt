@@ -329,14 +329,14 @@ impl<const OFFSET_BITS: u32, W: Work<OFFSET_BITS>> Store<OFFSET_BITS>
     for EntryStore<OFFSET_BITS, W> {
     ghost use Rattle.std.specs.Prelude.{refl};
     ghost use Rattle.entry_store.specs.ProofsForStore.{store_recorded, store_placed, store_taken, store_filled, store_spares, store_unkept};
-    ghost use Rattle.entry_store.specs.ProofsForStore.{store_held, store_last, store_settled, store_sealed, store_finished, store_counted};
+    ghost use Rattle.entry_store.specs.ProofsForStore.{store_held, store_last, store_settled, store_steady, store_sealed, store_finished, store_counted};
     ghost use Rattle.entry_store.specs.ProofsForStore.{store_few_buffers, store_few_records, store_few_nodes};
 
     type Layout = W::Layout;
 
     type Home = W::Home;
 
-    ghost ledger = { λ s. ledger_of (W.knows s.work) (W.shape s.work) (W.records s.work) (entries_of OFFSET_BITS s.entries) s.unit };
+    ghost ledger = { λ s. ledger_of OFFSET_BITS (W.knows s.work) (W.shape s.work) (W.records s.work) (entries_of OFFSET_BITS s.entries) s.unit };
 
     fn begin(&mut self) {
         self.unit = true;
@@ -415,6 +415,8 @@ impl<const OFFSET_BITS: u32, W: Work<OFFSET_BITS>> Store<OFFSET_BITS>
 
     ghost shaped = { λ s. refl };
 
+    ghost sized = { λ s. refl };
+
     ghost limits = { λ s. W.limits s.work };
 
     ghost order = { λ s. W.order s.work };
@@ -447,6 +449,9 @@ impl<const OFFSET_BITS: u32, W: Work<OFFSET_BITS>> Store<OFFSET_BITS>
 
     ghost settled = { λ s. store_settled OFFSET_BITS (W.knows s.work) (W.records s.work) (entries_of OFFSET_BITS s.entries)
         s.unit s.stands (W.shape s.work) };
+
+    ghost steady = { λ s. store_steady OFFSET_BITS (W.knows s.work) (W.records s.work) (entries_of OFFSET_BITS s.entries)
+        s.unit s.stands };
 
     ghost sealed = { λ s. store_sealed OFFSET_BITS (W.knows s.work) (W.records s.work) (entries_of OFFSET_BITS s.entries)
         s.unit s.stands (W.shape s.work) };

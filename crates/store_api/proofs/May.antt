@@ -1,5 +1,6 @@
 -- What a unit may do: nothing, and one thing after another.
 use Rattle.std.proofs.Common.{◌≡◌, true, true≢false, refl, sym, ap, ◌∙◌, arith, inl, inr, ⊎_elim}
+use Rattle.entry_ref.specs.References.{buffer_of}
 use Rattle.arena_api.specs.Works.{Commits}
 use Rattle.store_api.specs.Statuses.{Status, is_open, can_become_free}
 use Rattle.store_api.specs.Ledgers.{Ledger}
@@ -21,6 +22,7 @@ may_do-same ledger = record {
   unit = refl;
   home = refl;
   shape = refl;
+  bits = refl;
   sizes = refl;
   commits = keeps_commits-same ledger.work.commits;
   told = refl;
@@ -34,6 +36,7 @@ may_do-same ledger = record {
   back = λ r. inl refl;
   back_records = refl;
   newly = λ r used. inl used;
+  unsealed = λ r used sealed. used;
 }
 
 free-stays : (c : Status) → can_become_free Status.free ≡ true → ⊥
@@ -54,6 +57,7 @@ may_do-then a b c m n = record {
   unit = n.unit ∙ m.unit;
   home = n.home ∙ m.home;
   shape = n.shape ∙ m.shape;
+  bits = n.bits ∙ m.bits;
   sizes = n.sizes ∙ m.sizes;
   commits = keeps_commits-then _ _ _ m.commits n.commits;
   told = n.told ∙ m.told;
@@ -67,4 +71,5 @@ may_do-then a b c m n = record {
   back = λ r. back-then (a.back r) (b.back r) (c.back r) (m.back r) (n.back r);
   back_records = n.back_records ∙ m.back_records;
   newly = λ r used. ⊎_elim (λ before. ⊎_elim inl (λ opened. inr (open-then (b.back r) (c.back r) (n.back r) opened)) (m.newly r before)) inr (n.newly r used);
+  unsealed = λ r used sealed. m.unsealed r (n.unsealed r used sealed) (ap (λ k. b.sealed (buffer_of k r)) (sym n.bits) ∙ sym (ap (λ f. f (buffer_of c.bits r)) n.sealed) ∙ sealed);
 }

@@ -38,6 +38,8 @@ pub record Ledger (H : Type 0) : Type 0 where
   -- what the work below knows
   pub work : WorkView H
   pub shape : ℕ
+  -- the bits of an offset in a reference
+  pub bits : ℕ
   -- whether a unit is under way
   pub unit : Bool
   pub status : ℕ → Status

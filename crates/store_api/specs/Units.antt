@@ -1,5 +1,6 @@
 -- What the calls of a unit leave, and how many entries they make.
 use Rattle.std.specs.Prelude.{◌≡◌, ◌⊎◌, ℕ, ◌+◌, ◌*◌, ◌≤◌, true, min}
+use Rattle.entry_ref.specs.References.{buffer_of}
 use Rattle.arena_api.specs.Works.{Commits, last_image, newest_of}
 use Rattle.store_api.specs.Statuses.{Status, in_use, is_open, can_become_free}
 use Rattle.store_api.specs.Ledgers.{Ledger, OfWidth}
@@ -20,6 +21,7 @@ pub record MayDo {H : Type 0} (old new : Ledger H) : Type 0 where
   pub unit : new.unit ≡ old.unit
   pub home : new.work.home ≡ old.work.home
   pub shape : new.shape ≡ old.shape
+  pub bits : new.bits ≡ old.bits
   pub sizes : new.work.sizes ≡ old.work.sizes
   pub commits : KeepsCommits old.work.commits new.work.commits
   pub told : new.work.told ≡ old.work.told
@@ -34,6 +36,8 @@ pub record MayDo {H : Type 0} (old new : Ledger H) : Type 0 where
   pub back_records : new.back_records ≡ old.back_records
   -- an entry newly in use was made by the unit
   pub newly : (r : ℕ) → in_use (new.status r) ≡ true → (in_use (old.status r) ≡ true) ⊎ (is_open (new.back r) ≡ true)
+  -- and lies in no sealed buffer
+  pub unsealed : (r : ℕ) → in_use (new.status r) ≡ true → new.sealed (buffer_of new.bits r) ≡ true → in_use (old.status r) ≡ true
 
 -- in one width at most so many entries were made; a buffer was handed out only where nothing was to spare, so of at most as many
 -- entries as fit a buffer at most one buffer was handed out

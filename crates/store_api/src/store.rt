@@ -127,6 +127,8 @@ pub trait Store<const OFFSET_BITS: u32>: Frozen<OFFSET_BITS> {
 
     ghost shaped: { (s : Self) → (ledger s).shape ≡ Self.shape s };
 
+    ghost sized: { (s : Self) → (ledger s).bits ≡ OFFSET_BITS };
+
     ghost limits: { (s : Self) → IsWithinLimits OFFSET_BITS (ledger s).work.sizes };
 
     ghost order: { (s : Self) → IsInOrder (ledger s).work };
@@ -165,6 +167,9 @@ pub trait Store<const OFFSET_BITS: u32>: Frozen<OFFSET_BITS> {
         → Self.records s r ≡ words_at (last_image (ledger s).work.commits) r };
 
     ghost settled: { (s : Self) → (ledger s).unit ≡ false → IsSettled (ledger s) (Self.records s) };
+
+    // what was in use before the unit under way keeps its words until the unit ends
+    ghost steady: { (s : Self) (r : ℕ) → in_use ((ledger s).back r) ≡ true → Self.records s r ≡ (ledger s).back_records r };
 
     // sealed buffers are active and not filled; the finished one is sealed
     ghost sealed: { (s : Self) (b : ℕ) → (ledger s).sealed b ≡ true → IsUnfilled (ledger s) b };

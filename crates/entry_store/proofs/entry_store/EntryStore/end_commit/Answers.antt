@@ -82,8 +82,8 @@ returns-clause-ends g c =
     let p = c.reclaim-left.ensures in
     let st = subst (Stands g.row.OFFSET_BITS _ _ _) c.requires.unit s.stands in
     subst
-    (λ u. EndsCommit g.row.OFFSET_BITS (ledger_of (g.W.Work.knows s.work) (g.W.Frozen.shape s.work) (g.W.Frozen.records s.work) (entries_of g.row.OFFSET_BITS s.entries) u)
-    (ledger_of (g.W.Work.knows c.reclaim-left.new.self) (g.W.Frozen.shape c.reclaim-left.new.self) (g.W.Frozen.records c.reclaim-left.new.self) (entries_of g.row.OFFSET_BITS c.free_below.new.self) u)
+    (λ u. EndsCommit g.row.OFFSET_BITS (ledger_of g.row.OFFSET_BITS (g.W.Work.knows s.work) (g.W.Frozen.shape s.work) (g.W.Frozen.records s.work) (entries_of g.row.OFFSET_BITS s.entries) u)
+    (ledger_of g.row.OFFSET_BITS (g.W.Work.knows c.reclaim-left.new.self) (g.W.Frozen.shape c.reclaim-left.new.self) (g.W.Frozen.records c.reclaim-left.new.self) (entries_of g.row.OFFSET_BITS c.free_below.new.self) u)
     (record { commit = c.args.commit; advance = c.advance-advance.result; oldest = c.reclaim-left.result }))
     (sym c.requires.unit)
     (ends g.row.OFFSET_BITS (g.W.Work.knows s.work) (g.W.Frozen.records s.work) (entries_of g.row.OFFSET_BITS s.entries) st c.requires.tagged (g.W.Work.knows c.retire_finished.new.work) r.knows (entries_of g.row.OFFSET_BITS c.retire_finished.new.entries) r.retired r.good

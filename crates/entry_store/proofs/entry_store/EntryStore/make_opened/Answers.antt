@@ -1,4 +1,4 @@
-use Rattle.std.proofs.Common.{arith}
+use Rattle.std.proofs.Common.{arith, refl}
 use Rattle.store_api.proofs.May.{may_do-then}
 use Rattle.entry_ledger.specs.Ledgers.{entries_of}
 use Rattle.entry_store.specs.Standing.{ledger_of}
@@ -9,7 +9,7 @@ pub returns-in-Some-clause-makes : goal.returns-in-Some-clause-makes
 returns-in-Some-clause-makes g c =
     let t = c.open_buffer.new.self in
     record {
-      opened = ledger_of (g.W.Work.knows t.work) (g.W.Frozen.shape t.work) (g.W.Frozen.records t.work) (entries_of g.row.OFFSET_BITS t.entries) t.unit;
+      opened = ledger_of g.row.OFFSET_BITS (g.W.Work.knows t.work) (g.W.Frozen.shape t.work) (g.W.Frozen.records t.work) (entries_of g.row.OFFSET_BITS t.entries) t.unit;
       opens = c.in-Ok.ensures.opens;
       takes = takes-over c.open_buffer.ensures.records c.in-Some.ensures.takes;
     }
@@ -17,7 +17,7 @@ returns-in-Some-clause-makes g c =
 pub returns-in-Some-clause-may : goal.returns-in-Some-clause-may
 returns-in-Some-clause-may g c =
     may_do-then _ _ _ (opens-may _ _ c.args.width c.in-Ok.ensures.opens)
-    (one-may g.row.OFFSET_BITS _ _ _ _ c.args.width c.args.words.now c.in-Some.entry c.in-Some.ensures.takes (c.open_buffer.new.self.stands.good.few_made c.args.width))
+    (one-may g.row.OFFSET_BITS _ _ _ _ c.args.width c.args.words.now c.in-Some.entry c.in-Some.ensures.takes (c.open_buffer.new.self.stands.good.few_made c.args.width) refl)
 
 pub unreachable-requires : goal.unreachable-requires
 unreachable-requires g c =

@@ -42,7 +42,7 @@ returns-in-Ok-clause-records g c =
 pub returns-in-Err-clause-left : goal.returns-in-Err-clause-left
 returns-in-Err-clause-left g c =
     let s = c.args.self.now in
-    ap (λ e. ledger_of (g.W.Work.knows s.work) (g.W.Frozen.shape s.work) (g.W.Frozen.records s.work) e s.unit) c.in-Err.ensures.err
+    ap (λ e. ledger_of g.row.OFFSET_BITS (g.W.Work.knows s.work) (g.W.Frozen.shape s.work) (g.W.Frozen.records s.work) e s.unit) c.in-Err.ensures.err
 
 pub returns-in-Err-clause-records : goal.returns-in-Err-clause-records
 returns-in-Err-clause-records g c =

@@ -41,8 +41,8 @@ returns-clause-gives g c =
     let s = c.args.self.now in
     let p = c.reclaim-oldest.ensures in
     along
-    (λ i x. GivesBack (ledger_of (g.W.Work.knows s.work) (g.W.Frozen.shape s.work) (g.W.Frozen.records s.work) (entries_of g.row.OFFSET_BITS s.entries) s.unit)
-    (ledger_of (g.W.Work.knows c.reclaim-oldest.new.self) i x (entries_of g.row.OFFSET_BITS c.free_below.new.self) s.unit)) p.shape p.records
+    (λ i x. GivesBack (ledger_of g.row.OFFSET_BITS (g.W.Work.knows s.work) (g.W.Frozen.shape s.work) (g.W.Frozen.records s.work) (entries_of g.row.OFFSET_BITS s.entries) s.unit)
+    (ledger_of g.row.OFFSET_BITS (g.W.Work.knows c.reclaim-oldest.new.self) i x (entries_of g.row.OFFSET_BITS c.free_below.new.self) s.unit)) p.shape p.records
     (gives-back g.row.OFFSET_BITS _ (g.W.Frozen.shape s.work) _ _ s.unit (over-from _ _ _ _ _ s.stands) (g.W.Work.knows c.reclaim-oldest.new.self) (entries_of g.row.OFFSET_BITS c.free_below.new.self) c.reclaim-oldest.result p.holds p.commits p.knows p.alone c.free_below.ensures.frees
     (g.met.W.Work.order c.reclaim-oldest.new.self) (reclaimed-low g.row.OFFSET_BITS _ _ _ s.unit (over-from _ _ _ _ _ s.stands) _ c.reclaim-oldest.result (g.met.W.Work.queue s.work) p.holds))
 

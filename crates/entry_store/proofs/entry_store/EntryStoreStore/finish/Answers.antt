@@ -12,7 +12,7 @@ invariant_of-self g c =
 pub returns-clause-ledger : goal.returns-clause-ledger
 returns-clause-ledger g c =
     let s = c.args.self.now in
-    ap (λ e. ledger_of (g.W.Work.knows s.work) (g.W.Frozen.shape s.work) (g.W.Frozen.records s.work) e s.unit) c.finish.ensures.finished
+    ap (λ e. ledger_of g.row.OFFSET_BITS (g.W.Work.knows s.work) (g.W.Frozen.shape s.work) (g.W.Frozen.records s.work) e s.unit) c.finish.ensures.finished
 
 pub returns-clause-records : goal.returns-clause-records
 returns-clause-records g c =
