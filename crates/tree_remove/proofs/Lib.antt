@@ -5,3 +5,4 @@ pub mod ReadLemmas
 pub mod StepLemmas
 pub mod RemoveLemmas
 pub mod TreeLemmas
+mod WordLemmas

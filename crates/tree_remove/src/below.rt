@@ -1,42 +1,30 @@
-ghost use Rattle.std.specs.Prelude.{◌≡◌, ◌≤◌, ◌<◌, ◌+◌, ◌-◌, ◌*◌, ◌++◌, ◌∷◌, [], true, length, suc, IsSome, IfOk, OnErr, IfErr};
-ghost use Rattle.std.specs.List.{zip, AllByRecursion};
-ghost use Rattle.tree_images.specs.Nodes.{level_of, used_of};
+ghost use Rattle.std.specs.Prelude.{◌≡◌, ◌≤◌, ◌<◌, ◌+◌, ◌-◌, ◌*◌, true, length, suc, IsSome, OnOk, OnErr, IfErr};
+ghost use Rattle.std.specs.List.{zip};
+ghost use Rattle.tree_images.specs.Nodes.{level_of, used_of, node_keys, node_values};
 ghost use Rattle.tree_images.specs.Trees.{pairs_below, IsNode, root_least};
 ghost use Rattle.key_order.specs.Keys.{seen_by, Ascends, AllReadable};
 ghost use Rattle.key_order.specs.Pairs.{lookup, take_out};
 ghost use Rattle.store_api.specs.Calls.{Refuses};
 ghost use Rattle.tree_make.specs.Makes.{MakesNodes};
-ghost use Rattle.tree_node.specs.Places.{IsSlot};
+ghost use Rattle.tree_make.specs.Words.{AreWords};
+ghost use Rattle.tree_node.specs.Slots.{slot_pairs};
 ghost use Rattle.tree_remove.specs.Removes.{IsStep, Removes};
 
-use crate::parent::put_back;
+use crate::parent::put_child;
+use crate::words::take_slot;
 use arrayvec::ArrayVec;
 use entry_ref::EntryRef;
 use frozen_api::Frozen;
 use key_order::KeyOrder;
 use store_api::{Store, StoreError};
-use tree_images::NODE_WORDS;
-use tree_node::{Slots, first_slot, read_node};
+use tree_images::{FIRST_VALUE, NODE_WORDS};
+use tree_node::visit;
 
-/// A node above the leaves in hand, and the child under which a key is.
-#[derive(Drop)]
+/// The child of a node above the leaves under which a key is.
+#[derive(Clone, Copy, Drop)]
 struct Descent<const OFFSET_BITS: u32> {
-    slots: Slots,
     place: usize,
     child: EntryRef<OFFSET_BITS>,
-}
-
-/// The first slot whose key is not below the one sought.
-fn slot_of<const OFFSET_BITS: u32, F: Frozen<OFFSET_BITS>, K: KeyOrder<OFFSET_BITS>>(
-    frozen: &mut F,
-    keys: &[u64],
-    key: &K,
-) -> usize
-    requires { AllByRecursion (K.can_read (F.records frozen.old)) keys.now }
-    ensures slot { IsSlot (seen_by K.read K.order (K.sought key.now) (F.records frozen.old)) keys.now result }
-    ensures same { frozen.new ≡ frozen.old }
-{
-    first_slot(frozen, keys, key).slot
 }
 
 /// Reads a node above the leaves, and finds the child under which the key is.
@@ -44,6 +32,7 @@ fn step_down<const OFFSET_BITS: u32, F: Frozen<OFFSET_BITS>, K: KeyOrder<OFFSET_
     frozen: &mut F,
     node: EntryRef<OFFSET_BITS>,
     key: &K,
+    words: &mut [u64; NODE_WORDS],
 ) -> Descent<OFFSET_BITS>
     requires inner { 0 < level_of (F.records frozen.old node) }
     requires node { IsNode (F.records frozen.old) 2 (level_of (F.records frozen.old node)) node }
@@ -53,24 +42,19 @@ fn step_down<const OFFSET_BITS: u32, F: Frozen<OFFSET_BITS>, K: KeyOrder<OFFSET_
         (pairs_below (F.records frozen.old) (level_of (F.records frozen.old node)) node) }
     requires there { IsSome (lookup (seen_by K.read K.order (K.sought key.now) (F.records frozen.old))
         (pairs_below (F.records frozen.old) (level_of (F.records frozen.old node)) node)) }
-    ensures level { result.slots.level ≡ level_of (F.records frozen.old node.entry) }
+    ensures words { words.new ≡ F.records frozen.old node.entry }
     ensures step { IsStep (seen_by K.read K.order (K.sought key.now) (F.records frozen.old)) (F.records frozen.old)
         (level_of (F.records frozen.old node.entry) - 1) node.entry
-        result.slots.keys.items result.slots.values.items result.place result.child }
+        (node_keys (F.records frozen.old node.entry)) (node_values (F.records frozen.old node.entry)) result.place result.child }
     ensures ascends { Ascends K.order K.read (F.records frozen.old)
         (pairs_below (F.records frozen.old) (level_of (F.records frozen.old node.entry) - 1) result.child) }
     ensures readable { AllReadable K.can_read (F.records frozen.old)
         (pairs_below (F.records frozen.old) (level_of (F.records frozen.old node.entry) - 1) result.child) }
     ensures same { frozen.new ≡ frozen.old }
 {
-    let slots = read_node(frozen, node);
-    let place = slot_of(frozen, &slots.keys, key);
-    let child = EntryRef::from_raw(slots.values[place] as u32);
-    Descent {
-        slots,
-        place,
-        child,
-    }
+    let place = visit(frozen, node, key, words).slot;
+    let child = EntryRef::from_raw(words[FIRST_VALUE + place] as u32);
+    Descent { place, child }
 }
 
 /// Takes a pair out of a leaf, which is in hand then.
@@ -78,34 +62,33 @@ fn remove_in_leaf<const OFFSET_BITS: u32, F: Frozen<OFFSET_BITS>, K: KeyOrder<OF
     frozen: &mut F,
     node: EntryRef<OFFSET_BITS>,
     key: &K,
-) -> Slots
+    words: &mut [u64; NODE_WORDS],
+)
     requires node { IsNode (F.records frozen.old) 1 0 node }
     requires readable { AllReadable K.can_read (F.records frozen.old) (pairs_below (F.records frozen.old) 0 node) }
     requires there { IsSome (lookup (seen_by K.read K.order (K.sought key.now) (F.records frozen.old))
         (pairs_below (F.records frozen.old) 0 node)) }
-    ensures level { result.level ≡ 0 }
-    ensures even { length result.keys.items ≡ length result.values.items }
-    ensures pairs { zip result.keys.items result.values.items
+    ensures words { AreWords 0 (length (node_keys words.new)) (node_keys words.new) (node_values words.new) words.new }
+    ensures pairs { zip (node_keys words.new) (node_values words.new)
         ≡ take_out (seen_by K.read K.order (K.sought key.now) (F.records frozen.old)) (pairs_below (F.records frozen.old) 0 node.entry) }
-    ensures size { used_of (F.records frozen.old node.entry) ≡ suc (length result.keys.items) }
+    ensures size { used_of (F.records frozen.old node.entry) ≡ suc (length (node_keys words.new)) }
     ensures same { frozen.new ≡ frozen.old }
 {
-    let mut slots = read_node(frozen, node);
-    let slot = slot_of(frozen, &slots.keys, key);
-    slots.keys.remove(slot);
-    slots.values.remove(slot);
-    slots
+    let slot = visit(frozen, node, key, words).slot;
+    let pairs = words[1] - 1;
+    take_slot(words, pairs, slot);
 }
 
-/// Takes a pair out below a node, by new nodes under it; the node itself is in hand then. The old nodes are
-/// added to those that are replaced.
+/// Takes a pair out below a node, by new nodes under it; the words of the node itself are in hand then. The old
+/// nodes are added to those that are replaced.
 pub fn remove_below<const OFFSET_BITS: u32, S: Store<OFFSET_BITS>, K: KeyOrder<OFFSET_BITS>>(
     store: &mut S,
     node: EntryRef<OFFSET_BITS>,
     level: u64,
     key: &K,
     replaced: &mut ArrayVec<u32, 16>,
-) -> Result<Slots, StoreError>
+    words: &mut [u64; NODE_WORDS],
+) -> Result<(), StoreError>
     requires unit { (S.ledger store.old).unit ≡ true }
     requires low { level ≤ 7 }
     requires node { IsNode (S.records store.old) (root_least level) level node }
@@ -114,19 +97,21 @@ pub fn remove_below<const OFFSET_BITS: u32, S: Store<OFFSET_BITS>, K: KeyOrder<O
     requires there { IsSome (lookup (seen_by K.read K.order (K.sought key.now) (S.records store.old))
         (pairs_below (S.records store.old) level node)) }
     requires room { length replaced.old.items + (2 * level + 1) ≤ 16 }
-    ensures removes { IfOk result (λ slots. Removes (seen_by K.read K.order (K.sought key.now) (S.records store.old))
+    ensures removes { OnOk result (Removes (seen_by K.read K.order (K.sought key.now) (S.records store.old))
         (S.ledger store.old) (S.ledger store.new) (S.records store.old) (S.records store.new)
-        level node.entry replaced.old.items replaced.new.items slots.keys.items slots.values.items) }
-    ensures level { IfOk result (λ slots. slots.level ≡ level) }
+        level node.entry replaced.old.items replaced.new.items (node_keys words.new) (node_values words.new)) }
+    ensures words { OnOk result (AreWords level (length (slot_pairs (S.records store.new) level (node_keys words.new) (node_values words.new)))
+        (node_keys words.new) (node_values words.new) words.new) }
     ensures refuses { IfErr result (Refuses (S.ledger store.old) (S.ledger store.new) NODE_WORDS) }
     ensures refused { OnErr result (MakesNodes (S.ledger store.old) (S.ledger store.new) (S.records store.old) (S.records store.new) (suc level)) }
 {
     replaced.push(node.raw());
     if level == 0 {
-        return Ok(remove_in_leaf(store, node, key));
+        remove_in_leaf(store, node, key, words);
+        return Ok(());
     }
-    let mut step = step_down(store, node, key);
-    let mut child = remove_below(store, step.child, level - 1, key, replaced)?;
-    put_back(store, &mut step.slots, step.place, &mut child, replaced)?;
-    Ok(step.slots)
+    let step = step_down(store, node, key, words);
+    let mut child = [0; NODE_WORDS];
+    remove_below(store, step.child, level - 1, key, replaced, &mut child)?;
+    put_child(store, words, step.place, &child, replaced)
 }

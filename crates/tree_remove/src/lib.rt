@@ -5,5 +5,6 @@ mod below;
 mod neighbours;
 mod parent;
 mod tree;
+mod words;
 
 pub use tree::remove;

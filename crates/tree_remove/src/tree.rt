@@ -1,4 +1,5 @@
-ghost use Rattle.std.specs.Prelude.{◌≡◌, ◌<◌, ◌+◌, ◌∷◌, [], true, IsSome, IfOk, IfErr, OnErr};
+ghost use Rattle.std.specs.Prelude.{◌≡◌, ◌<◌, ◌≤◌, ◌+◌, ◌^◌, ◌∷◌, [], true, length, IsSome, IfOk, IfErr, OnErr};
+ghost use Rattle.tree_images.specs.Nodes.{level_of, node_keys, node_values};
 ghost use Rattle.tree_images.specs.Trees.{tree_pairs, IsTree, Keeps};
 ghost use Rattle.key_order.specs.Keys.{seen_by, AllReadable, KeepsOthers, IsKeyedTree};
 ghost use Rattle.key_order.specs.Pairs.{lookup, take_out};
@@ -6,7 +7,9 @@ ghost use Rattle.store_api.specs.Calls.{Refuses};
 ghost use Rattle.store_api.specs.Parts.{Owns, Turns};
 ghost use Rattle.store_api.specs.Units.{MayDo};
 ghost use Rattle.tree_make.specs.Changes.{Rebuilds, levels, tree};
-ghost use Rattle.tree_make.specs.Makes.{CountsNodes, MakesNodes};
+ghost use Rattle.tree_make.specs.Makes.{CountsNodes, MakesNodes, MakesRoot};
+ghost use Rattle.tree_make.specs.Words.{AreWords};
+ghost use Rattle.tree_node.specs.Slots.{slot_pairs, IsInHand};
 
 use crate::below::remove_below;
 use arrayvec::ArrayVec;
@@ -14,7 +17,33 @@ use entry_ref::EntryRef;
 use key_order::KeyOrder;
 use store_api::{Store, StoreError};
 use tree_images::NODE_WORDS;
-use tree_make::{drop_nodes, make_root};
+use tree_make::{drop_nodes, make_root, make_words};
+use tree_node::{slots_of, used_in};
+
+/// The root of words in hand: none where no slot is left, and above the leaves the child of a single one.
+fn make_top<const OFFSET_BITS: u32, S: Store<OFFSET_BITS>>(
+    store: &mut S,
+    words: &[u64; NODE_WORDS],
+) -> Result<EntryRef<OFFSET_BITS>, StoreError>
+    requires unit { (S.ledger store.old).unit ≡ true }
+    requires low { level_of words.now ≤ 7 }
+    requires are { AreWords (level_of words.now)
+        (length (slot_pairs (S.records store.old) (level_of words.now) (node_keys words.now) (node_values words.now)))
+        (node_keys words.now) (node_values words.now) words.now }
+    requires hand { IsInHand (S.records store.old) (level_of words.now) (node_keys words.now) (node_values words.now) }
+    requires some { 0 < level_of words.now → 0 < length (node_keys words.now) }
+    requires few { length (slot_pairs (S.records store.old) (level_of words.now) (node_keys words.now) (node_values words.now)) < 2 ^ 32 }
+    ensures root { IfOk result (MakesRoot (S.ledger store.old) (S.ledger store.new) (S.records store.old) (S.records store.new)
+        (level_of words.now) (node_keys words.now) (node_values words.now)) }
+    ensures refuses { IfErr result (Refuses (S.ledger store.old) (S.ledger store.new) NODE_WORDS) }
+    ensures makes { MakesNodes (S.ledger store.old) (S.ledger store.new) (S.records store.old) (S.records store.new) 1 }
+{
+    if used_in(words) < 2 {
+        return make_root(store, &slots_of(words));
+    }
+    let part = make_words(store, words)?;
+    Ok(EntryRef::from_raw(part.node))
+}
 
 /// Makes the tree without a pair, with the nodes of the old one that it lacks added to those that are replaced.
 fn rebuild<const OFFSET_BITS: u32, S: Store<OFFSET_BITS>, K: KeyOrder<OFFSET_BITS>>(
@@ -38,8 +67,9 @@ fn rebuild<const OFFSET_BITS: u32, S: Store<OFFSET_BITS>, K: KeyOrder<OFFSET_BIT
         (levels (S.records store.old) root.entry + 1) }
 {
     let level = store.word(root, 0) / 256;
-    let slots = remove_below(store, root, level, key, replaced)?;
-    make_root(store, &slots)
+    let mut words = [0; NODE_WORDS];
+    remove_below(store, root, level, key, replaced, &mut words)?;
+    make_top(store, &words)
 }
 
 /// Takes out the pair of a key that is there. The answer is the new root, 0 where no pair is left; the nodes

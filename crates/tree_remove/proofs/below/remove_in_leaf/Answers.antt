@@ -1,141 +1,203 @@
-use Rattle.std.proofs.Common.{rules, ◌≡◌, ℕ, List, length, sym, ap, subst, ◌∙◌, arith}
-use Rattle.std.specs.Prelude.{IsSome}
-use Rattle.std.specs.List.{zip, remove, AllByRecursion}
+use Rattle.std.proofs.Common.{◌≡◌, ◌-◌, ◌<◌, ◌≤◌, ℕ, suc, List, length, slice_index, refl, sym, ap, subst, ◌∙◌, arith}
+use Rattle.std.specs.Prelude.{IsSome, slice_index_or}
 use Rattle.std.proofs.lemmas.List.Edits.{length-remove}
+use Rattle.std.specs.List.{zip, remove}
+use Rattle.list_facts.proofs.Pairs.{length-zip_even}
+use Rattle.tree_images.specs.Nodes.{level_of, used_of, count_of, node_keys, node_values}
+use Rattle.tree_images.specs.Trees.{pairs_below, IsNode}
+use Rattle.tree_images.proofs.TreeLemmas.{IsNode-form, IsNode-count}
 use Rattle.key_order.specs.Keys.{seen_by, AllReadable}
 use Rattle.key_order.specs.Pairs.{lookup, take_out}
-use Rattle.tree_node.specs.Places.{IsSlot}
-use Rattle.tree_node.proofs.ReadLemmas.{node-size, node-room, node-level, node-even, node-keys-all, leaf-pairs}
-use Rattle.tree_node.proofs.ChildLemmas.{keys-length, IsNode-lower}
+use Rattle.tree_node.proofs.ChildLemmas.{keys-length}
+use Rattle.tree_node.proofs.ReadLemmas.{node-even, leaf-pairs}
+use Rattle.tree_make.specs.Words.{AreWords}
+use Rattle.tree_make.proofs.WordLemmas.{form-words, words-keys, words-values}
 use Rattle.tree_remove.proofs.StepLemmas.{leaf-out}
-use Rattle.tree_images.specs.Nodes.{level_of, used_of, node_keys}
-use Rattle.tree_images.specs.Trees.{pairs_below, IsNode}
+use Rattle.tree_remove.proofs.WordLemmas.{words-own}
 use Rattle.tree_remove.proofs.below.remove_in_leaf.Goals as goal
 
-pub read_node-slots-requires : goal.read_node-slots-requires
-read_node-slots-requires g c = (
-  omega arith,
-  (
-    (let m = g.F.Frozen.records c.args.frozen.now in
-        let node = c.args.node in
-        node-size m 1 0 node c.requires.node),
-    ((let m = g.F.Frozen.records c.args.frozen.now in
-        let node = c.args.node in
-        node-room m 1 0 node c.requires.node)),
-  ),
-)
-
-pub slot_of-slot-requires : goal.slot_of-slot-requires
-slot_of-slot-requires g c =
+pub visit-slot-requires : goal.visit-slot-requires
+visit-slot-requires g c =
     let m = g.F.Frozen.records c.args.frozen.now in
     let node = c.args.node in
-    let can = g.K.KeyOrder.can_read in
-    let read = c.read_node-slots.ensures in
-    subst (λ f. AllByRecursion (can (g.F.Frozen.records f)) c.deref.result.now) (sym read.same)
-    (subst (AllByRecursion (can m)) (sym (c.deref.ensures.0 ∙ read.keys)) (node-keys-all m 1 0 node c.requires.node (can m) c.requires.readable))
+    let at = (IsNode-form m 1 0 node c.requires.node).at_level in (
+      omega arith,
+      (
+        subst (λ l. IsNode m 1 l node) (sym at) c.requires.node,
+        subst (λ l. AllReadable g.K.KeyOrder.can_read m (pairs_below m l node)) (sym at) c.requires.readable,
+      ),
+    )
 
-pub remove-requires : goal.remove-requires
-remove-requires g c =
+pub overflow_sub-pairs : goal.overflow_sub-pairs
+overflow_sub-pairs g c =
     let m = g.F.Frozen.records c.args.frozen.now in
     let node = c.args.node in
+    let is = c.requires.node in
+    let form = IsNode-form m 1 0 node is in
     let k = g.K.KeyOrder in
     let s = k.sought c.args.key.now in
     let seen = seen_by k.read k.order s m in
-    let slots = c.read_node-slots.result in
-    let even : length slots.keys.items ≡ length slots.values.items =
-    ap length c.read_node-slots.ensures.keys ∙ node-even m 1 0 node c.requires.node ∙ sym (ap length c.read_node-slots.ensures.values) in
-    let pairs = leaf-pairs m node slots.keys.items slots.values.items c.read_node-slots.ensures.keys c.read_node-slots.ensures.values in
-    let i = c.slot_of-slot.result in
-    let same = c.read_node-slots.ensures.same in
-    let slot = subst (λ (ks : List ℕ). IsSlot seen ks i) c.deref.ensures.0
-    (subst (λ f. IsSlot (seen_by k.read k.order s (g.F.Frozen.records f)) c.deref.result.now i) same c.slot_of-slot.ensures.slot) in
-    let found = leaf-out seen slots.keys.items slots.values.items i even slot (subst (λ ps. IsSome (lookup seen ps)) pairs c.requires.there) in
-    (omega arith, found.0)
-
-pub remove-requires-2 : goal.remove-requires-2
-remove-requires-2 g c =
-    let m = g.F.Frozen.records c.args.frozen.now in
-    let node = c.args.node in
-    let k = g.K.KeyOrder in
-    let s = k.sought c.args.key.now in
-    let seen = seen_by k.read k.order s m in
-    let slots = c.read_node-slots.result in
-    let even : length slots.keys.items ≡ length slots.values.items =
-    ap length c.read_node-slots.ensures.keys ∙ node-even m 1 0 node c.requires.node ∙ sym (ap length c.read_node-slots.ensures.values) in
-    let pairs = leaf-pairs m node slots.keys.items slots.values.items c.read_node-slots.ensures.keys c.read_node-slots.ensures.values in
-    let i = c.slot_of-slot.result in
-    let same = c.read_node-slots.ensures.same in
-    let slot = subst (λ (ks : List ℕ). IsSlot seen ks i) c.deref.ensures.0
-    (subst (λ f. IsSlot (seen_by k.read k.order s (g.F.Frozen.records f)) c.deref.result.now i) same c.slot_of-slot.ensures.slot) in
-    let found = leaf-out seen slots.keys.items slots.values.items i even slot (subst (λ ps. IsSome (lookup seen ps)) pairs c.requires.there) in
+    let ks = node_keys (m node) in
+    let vs = node_values (m node) in
+    let even = node-even m 1 0 node is in
+    let size = keys-length m 1 0 node is in
+    let old = c.visit-slot.new.words in
+    let words : old ≡ m node = c.visit-slot.ensures.words in
+    let i = c.visit-slot.result.slot in
+    let pairs = leaf-pairs m node ks vs refl refl in
+    let found = leaf-out seen ks vs i even c.visit-slot.ensures.slot (subst (λ ps. IsSome (lookup seen ps)) pairs c.requires.there) in
     let low = found.0 in
-    (omega arith, omega arith)
+    let total : count_of (m node) ≡ length ks = IsNode-count m 1 0 node is ∙ ap length pairs ∙ length-zip_even ks vs even in
+    let room = form.room in
+    let filled = form.filled in
+    let count : slice_index_or old 1 0 ≡ count_of (m node) = ap (λ (ws : List ℕ). slice_index_or ws 1 0) words in
+    omega arith
 
-pub returns-clause-level : goal.returns-clause-level
-returns-clause-level g c =
+pub take_slot-requires-clause-slot : goal.take_slot-requires-clause-slot
+take_slot-requires-clause-slot g c =
     let m = g.F.Frozen.records c.args.frozen.now in
     let node = c.args.node in
-    c.read_node-slots.ensures.level ∙ node-level m 1 0 node c.requires.node
-
-pub returns-clause-even : goal.returns-clause-even
-returns-clause-even g c =
-    let m = g.F.Frozen.records c.args.frozen.now in
-    let node = c.args.node in
+    let is = c.requires.node in
+    let form = IsNode-form m 1 0 node is in
     let k = g.K.KeyOrder in
     let s = k.sought c.args.key.now in
     let seen = seen_by k.read k.order s m in
-    let slots = c.read_node-slots.result in
-    let even : length slots.keys.items ≡ length slots.values.items =
-    ap length c.read_node-slots.ensures.keys ∙ node-even m 1 0 node c.requires.node ∙ sym (ap length c.read_node-slots.ensures.values) in
-    let pairs = leaf-pairs m node slots.keys.items slots.values.items c.read_node-slots.ensures.keys c.read_node-slots.ensures.values in
-    let i = c.slot_of-slot.result in
-    let same = c.read_node-slots.ensures.same in
-    let slot = subst (λ (ks : List ℕ). IsSlot seen ks i) c.deref.ensures.0
-    (subst (λ f. IsSlot (seen_by k.read k.order s (g.F.Frozen.records f)) c.deref.result.now i) same c.slot_of-slot.ensures.slot) in
-    let found = leaf-out seen slots.keys.items slots.values.items i even slot (subst (λ ps. IsSome (lookup seen ps)) pairs c.requires.there) in
+    let ks = node_keys (m node) in
+    let vs = node_values (m node) in
+    let even = node-even m 1 0 node is in
+    let size = keys-length m 1 0 node is in
+    let old = c.visit-slot.new.words in
+    let words : old ≡ m node = c.visit-slot.ensures.words in
+    let i = c.visit-slot.result.slot in
+    let pairs = leaf-pairs m node ks vs refl refl in
+    let found = leaf-out seen ks vs i even c.visit-slot.ensures.slot (subst (λ ps. IsSome (lookup seen ps)) pairs c.requires.there) in
     let low = found.0 in
-    let a = ap length c.remove.ensures.items in
-    let b = ap length c.remove-2.ensures.items in
-    omega (arith, length-remove slots.keys.items i low, length-remove slots.values.items i (omega arith))
+    let total : count_of (m node) ≡ length ks = IsNode-count m 1 0 node is ∙ ap length pairs ∙ length-zip_even ks vs even in
+    let room = form.room in
+    let filled = form.filled in
+    let count : slice_index_or old 1 0 ≡ count_of (m node) = ap (λ (ws : List ℕ). slice_index_or ws 1 0) words in
+    omega arith
+
+pub take_slot-requires-clause-head : goal.take_slot-requires-clause-head
+take_slot-requires-clause-head g c =
+    let m = g.F.Frozen.records c.args.frozen.now in
+    let node = c.args.node in
+    let is = c.requires.node in
+    let form = IsNode-form m 1 0 node is in
+    let k = g.K.KeyOrder in
+    let s = k.sought c.args.key.now in
+    let seen = seen_by k.read k.order s m in
+    let ks = node_keys (m node) in
+    let vs = node_values (m node) in
+    let even = node-even m 1 0 node is in
+    let size = keys-length m 1 0 node is in
+    let old = c.visit-slot.new.words in
+    let words : old ≡ m node = c.visit-slot.ensures.words in
+    let i = c.visit-slot.result.slot in
+    let pairs = leaf-pairs m node ks vs refl refl in
+    let found = leaf-out seen ks vs i even c.visit-slot.ensures.slot (subst (λ ps. IsSome (lookup seen ps)) pairs c.requires.there) in
+    let low = found.0 in
+    let total : count_of (m node) ≡ length ks = IsNode-count m 1 0 node is ∙ ap length pairs ∙ length-zip_even ks vs even in
+    let room = form.room in
+    let filled = form.filled in
+    let count : slice_index_or old 1 0 ≡ count_of (m node) = ap (λ (ws : List ℕ). slice_index_or ws 1 0) words in
+    let head : slice_index old 0 ≡ slice_index (m node) 0 = ap (λ (ws : List ℕ). slice_index ws 0) words in
+    omega arith
+
+pub returns-clause-words : goal.returns-clause-words
+returns-clause-words g c =
+    let m = g.F.Frozen.records c.args.frozen.now in
+    let node = c.args.node in
+    let is = c.requires.node in
+    let form = IsNode-form m 1 0 node is in
+    let k = g.K.KeyOrder in
+    let s = k.sought c.args.key.now in
+    let seen = seen_by k.read k.order s m in
+    let ks = node_keys (m node) in
+    let vs = node_values (m node) in
+    let even = node-even m 1 0 node is in
+    let size = keys-length m 1 0 node is in
+    let old = c.visit-slot.new.words in
+    let words : old ≡ m node = c.visit-slot.ensures.words in
+    let i = c.visit-slot.result.slot in
+    let pairs = leaf-pairs m node ks vs refl refl in
+    let found = leaf-out seen ks vs i even c.visit-slot.ensures.slot (subst (λ ps. IsSome (lookup seen ps)) pairs c.requires.there) in
+    let low = found.0 in
+    let total : count_of (m node) ≡ length ks = IsNode-count m 1 0 node is ∙ ap length pairs ∙ length-zip_even ks vs even in
+    let room = form.room in
+    let filled = form.filled in
+    let count : slice_index_or old 1 0 ≡ count_of (m node) = ap (λ (ws : List ℕ). slice_index_or ws 1 0) words in
+    let new = c.take_slot.new.words in
+    let left = slice_index_or old 1 0 - 1 in
+    let are : AreWords 0 left (remove ks i) (remove vs i) new =
+    c.take_slot.ensures 0 (count_of (m node)) ks vs (subst (AreWords 0 (count_of (m node)) ks vs) (sym words) (form-words 0 1 (m node) form)) low in
+    let keys_are : node_keys new ≡ remove ks i = words-keys 0 left (remove ks i) (remove vs i) new are in
+    let values_are : node_values new ≡ remove vs i = words-values 0 left (remove ks i) (remove vs i) new are in
+    let less = length-remove ks i low in
+    let size_now : left ≡ length (node_keys new) = (let now = ap length keys_are in omega arith) in
+    subst (λ n. AreWords 0 n (node_keys new) (node_values new) new) size_now (words-own 0 left (remove ks i) (remove vs i) new are)
 
 pub returns-clause-pairs : goal.returns-clause-pairs
 returns-clause-pairs g c =
     let m = g.F.Frozen.records c.args.frozen.now in
     let node = c.args.node in
+    let is = c.requires.node in
+    let form = IsNode-form m 1 0 node is in
     let k = g.K.KeyOrder in
     let s = k.sought c.args.key.now in
     let seen = seen_by k.read k.order s m in
-    let slots = c.read_node-slots.result in
-    let even : length slots.keys.items ≡ length slots.values.items =
-    ap length c.read_node-slots.ensures.keys ∙ node-even m 1 0 node c.requires.node ∙ sym (ap length c.read_node-slots.ensures.values) in
-    let pairs = leaf-pairs m node slots.keys.items slots.values.items c.read_node-slots.ensures.keys c.read_node-slots.ensures.values in
-    let i = c.slot_of-slot.result in
-    let same = c.read_node-slots.ensures.same in
-    let slot = subst (λ (ks : List ℕ). IsSlot seen ks i) c.deref.ensures.0
-    (subst (λ f. IsSlot (seen_by k.read k.order s (g.F.Frozen.records f)) c.deref.result.now i) same c.slot_of-slot.ensures.slot) in
-    let found = leaf-out seen slots.keys.items slots.values.items i even slot (subst (λ ps. IsSome (lookup seen ps)) pairs c.requires.there) in
-    ap (λ (ks : List ℕ). zip ks c.remove-2.new.self.items) c.remove.ensures.items
-    ∙ ap (zip (remove slots.keys.items i)) c.remove-2.ensures.items
-    ∙ sym found.1
-    ∙ ap (take_out seen) (sym pairs)
+    let ks = node_keys (m node) in
+    let vs = node_values (m node) in
+    let even = node-even m 1 0 node is in
+    let size = keys-length m 1 0 node is in
+    let old = c.visit-slot.new.words in
+    let words : old ≡ m node = c.visit-slot.ensures.words in
+    let i = c.visit-slot.result.slot in
+    let pairs = leaf-pairs m node ks vs refl refl in
+    let found = leaf-out seen ks vs i even c.visit-slot.ensures.slot (subst (λ ps. IsSome (lookup seen ps)) pairs c.requires.there) in
+    let low = found.0 in
+    let total : count_of (m node) ≡ length ks = IsNode-count m 1 0 node is ∙ ap length pairs ∙ length-zip_even ks vs even in
+    let room = form.room in
+    let filled = form.filled in
+    let count : slice_index_or old 1 0 ≡ count_of (m node) = ap (λ (ws : List ℕ). slice_index_or ws 1 0) words in
+    let new = c.take_slot.new.words in
+    let left = slice_index_or old 1 0 - 1 in
+    let are : AreWords 0 left (remove ks i) (remove vs i) new =
+    c.take_slot.ensures 0 (count_of (m node)) ks vs (subst (AreWords 0 (count_of (m node)) ks vs) (sym words) (form-words 0 1 (m node) form)) low in
+    let keys_are : node_keys new ≡ remove ks i = words-keys 0 left (remove ks i) (remove vs i) new are in
+    let values_are : node_values new ≡ remove vs i = words-values 0 left (remove ks i) (remove vs i) new are in
+    let less = length-remove ks i low in
+    ap (λ (xs : List ℕ). zip xs (node_values new)) keys_are ∙ ap (zip (remove ks i)) values_are ∙ sym found.1 ∙ ap (take_out seen) (sym pairs)
 
 pub returns-clause-size : goal.returns-clause-size
 returns-clause-size g c =
     let m = g.F.Frozen.records c.args.frozen.now in
     let node = c.args.node in
+    let is = c.requires.node in
+    let form = IsNode-form m 1 0 node is in
     let k = g.K.KeyOrder in
     let s = k.sought c.args.key.now in
     let seen = seen_by k.read k.order s m in
-    let slots = c.read_node-slots.result in
-    let even : length slots.keys.items ≡ length slots.values.items =
-    ap length c.read_node-slots.ensures.keys ∙ node-even m 1 0 node c.requires.node ∙ sym (ap length c.read_node-slots.ensures.values) in
-    let pairs = leaf-pairs m node slots.keys.items slots.values.items c.read_node-slots.ensures.keys c.read_node-slots.ensures.values in
-    let i = c.slot_of-slot.result in
-    let same = c.read_node-slots.ensures.same in
-    let slot = subst (λ (ks : List ℕ). IsSlot seen ks i) c.deref.ensures.0
-    (subst (λ f. IsSlot (seen_by k.read k.order s (g.F.Frozen.records f)) c.deref.result.now i) same c.slot_of-slot.ensures.slot) in
-    let found = leaf-out seen slots.keys.items slots.values.items i even slot (subst (λ ps. IsSome (lookup seen ps)) pairs c.requires.there) in
+    let ks = node_keys (m node) in
+    let vs = node_values (m node) in
+    let even = node-even m 1 0 node is in
+    let size = keys-length m 1 0 node is in
+    let old = c.visit-slot.new.words in
+    let words : old ≡ m node = c.visit-slot.ensures.words in
+    let i = c.visit-slot.result.slot in
+    let pairs = leaf-pairs m node ks vs refl refl in
+    let found = leaf-out seen ks vs i even c.visit-slot.ensures.slot (subst (λ ps. IsSome (lookup seen ps)) pairs c.requires.there) in
     let low = found.0 in
-    let a = ap length c.remove.ensures.items in
-    let size = ap length c.read_node-slots.ensures.keys ∙ keys-length m 1 0 node c.requires.node in
-    omega (arith, length-remove slots.keys.items i low)
+    let total : count_of (m node) ≡ length ks = IsNode-count m 1 0 node is ∙ ap length pairs ∙ length-zip_even ks vs even in
+    let room = form.room in
+    let filled = form.filled in
+    let count : slice_index_or old 1 0 ≡ count_of (m node) = ap (λ (ws : List ℕ). slice_index_or ws 1 0) words in
+    let new = c.take_slot.new.words in
+    let left = slice_index_or old 1 0 - 1 in
+    let are : AreWords 0 left (remove ks i) (remove vs i) new =
+    c.take_slot.ensures 0 (count_of (m node)) ks vs (subst (AreWords 0 (count_of (m node)) ks vs) (sym words) (form-words 0 1 (m node) form)) low in
+    let keys_are : node_keys new ≡ remove ks i = words-keys 0 left (remove ks i) (remove vs i) new are in
+    let values_are : node_values new ≡ remove vs i = words-values 0 left (remove ks i) (remove vs i) new are in
+    let less = length-remove ks i low in
+    let now = ap length keys_are in
+    omega arith

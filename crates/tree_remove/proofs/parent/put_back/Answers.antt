@@ -10,23 +10,6 @@ use Rattle.tree_make.proofs.MakesLemmas.{makes-more}
 use Rattle.tree_make.proofs.Results.{on_err}
 use Rattle.tree_remove.proofs.parent.put_back.Goals as goal
 
-pub returns-then-len-ge-LEAST_SLOTS-clause-puts : goal.returns-then-len-ge-LEAST_SLOTS-clause-puts
-returns-then-len-ge-LEAST_SLOTS-clause-puts g c =
-    let ledger = g.S.Store.ledger in
-    let records = g.S.Frozen.records in
-    let m = records c.args.store.now in
-    let n = records c.make_part.new.store in
-    let slots = c.args.slots.now in
-    let child = c.args.child.now in
-    let part = c.in_ok-part.part in
-    let many : 8 ≤ length child.keys.items = omega arith in
-    let settles = settles-alone (ledger c.args.store.now) (ledger c.make_part.new.store) m n child.level child.keys.items child.values.items
-    part.key part.node c.in_ok-part.ensures.makes.node c.in_ok-part.ensures.makes.key many c.args.place slots.keys.items slots.values.items
-    c.set_part.new.slots.keys.items c.set_part.new.slots.values.items c.requires.parent.even c.requires.place c.set_part.ensures.keys c.set_part.ensures.values in
-    puts-alone (ledger c.args.store.now) (ledger c.make_part.new.store) m n child.level slots.keys.items slots.values.items child.keys.items child.values.items
-    c.args.replaced.now.items c.args.replaced.now.items c.set_part.new.slots.keys.items c.set_part.new.slots.values.items
-    c.requires.parent c.requires.hand c.args.place c.requires.place refl settles
-
 pub make_neighbours-requires-clause-hand : goal.make_neighbours-requires-clause-hand
 make_neighbours-requires-clause-hand g c =
     let records = g.S.Frozen.records in
@@ -158,11 +141,3 @@ returns-else-place-gt0-clause-puts g c =
     (slot_nodes (records s) child.level (child.values.items ++ right.values.items))
     0 2 slots.keys.items slots.values.items after.keys.items after.values.items) same settles)))
     c.make_neighbours-else-place-gt0.ensures.settles
-
-pub returns-in_err-part-clause-refused : goal.returns-in_err-part-clause-refused
-returns-in_err-part-clause-refused g c =
-    let ledger = g.S.Store.ledger in
-    let records = g.S.Frozen.records in
-    let s = c.args.store.now in
-    let t = c.make_part.new.store in
-    on_err c.from_residual.result (makes-more (ledger s) (ledger t) (records s) (records t) 0 1 (omega arith) c.in_err-part.ensures.refused)
