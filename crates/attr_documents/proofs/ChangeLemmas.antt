@@ -7,12 +7,13 @@ use Rattle.std.specs.List.{flat_map, AllByRecursion}
 use Rattle.std.specs.Map.{lookup as lookup_in}
 use Rattle.std.specs.Ordering.{nat_cmp}
 use Rattle.image_base.specs.Records.{Records, SameAt, Among}
-use Rattle.tree_images.specs.ProofsForTrees.{SameAt-right}
+use Rattle.tree_images.specs.ProofsForTrees.{SameAt-right, tree_nodes-same}
 use Rattle.tree_images.specs.Trees.{tree_nodes, tree_pairs}
 use Rattle.key_order.specs.Pairs.{lookup, put, take_out}
 use Rattle.key_order.proofs.PairLemmas.{All-take_out}
 use Rattle.store_api.specs.Ledgers.{Ledger}
-use Rattle.store_api.specs.Parts.{Part, After, Owns, Turns, count_in, entries, times}
+use Rattle.store_api.specs.Parts.{Part, After, Owns, Turns, count_in, entries, times, uses}
+use Rattle.store_api.specs.Units.{MayDo}
 use Rattle.store_api.proofs.PartLemmas.{after, owns-some, owns-then, turns-as, turns-then}
 use Rattle.store_api.proofs.Times.{times-append, among-times, times-among}
 use Rattle.tree_make.specs.Changes.{tree}
@@ -25,9 +26,11 @@ use Rattle.attr_types.specs.Lawful.{IsLawfulItems}
 use Rattle.attr_types.specs.declared.items.Item.{Item}
 use Rattle.attr_types.specs.declared.kind.Kind.{Kind}
 use Rattle.attr_types.specs.declared.kind.ValueType.{ValueType}
-use Rattle.attr_documents.specs.Changes.{AreBeside, AreKeysOf, ChangesPair, MakesDocuments, pairs_own}
+use Rattle.attr_documents.specs.Changes.{AreBeside, AreKeysOf, ChangesPair, MakesDocuments, SetsItems, pairs_own}
 use Rattle.attr_documents.specs.Documents.{documents_part, documents_refer, items_own, items_refer, AreItemsAt, IsDocuments}
+use Rattle.attr_documents.specs.Flows.{ComesFrom}
 use Rattle.attr_documents.specs.Items.{entries_of, item_of, MakesItems}
+use Rattle.attr_documents.proofs.FlowLemmas.{began-then, flow_made, flow_part, made_fresh, out_flows, set_flows, sets_items}
 use Rattle.attr_documents.proofs.FrameLemmas.{beside-same, same-then, same-some}
 use Rattle.attr_documents.proofs.KeyLemmas.{keys_are, keys_items, keys_values}
 use Rattle.attr_documents.proofs.PairLemmas.{found, found-or, times-out, times-put, all-put, columned, columned-put, columned-same, columned-out, columned-found, there-mapped}
@@ -67,7 +70,7 @@ module _ {H : Type 0} (kind : Kind) (a b c : Ledger H) (m n o : Records) (root d
     pub owns_old : Owns b n (entries (items_own kind old) ∷ [])
     owns_old = owns-some b n between (entries (items_own kind old) ∷ []) first.owns (λ r. omega arith)
 
-    module _ (dropped : Turns b c n o (entries (items_own kind old) ∷ []) []) where
+    module _ (may : MayDo a b) (dropped : Turns b c n o (entries (items_own kind old) ∷ []) []) where
       abbrev left : List Part
       left = tree next ∷ entries (pairs_own kind others) ∷ []
 
@@ -81,6 +84,7 @@ module _ {H : Type 0} (kind : Kind) (a b c : Ledger H) (m n o : Records) (root d
             map_is = map.0;
             pairs_are = map.1 ∙ makes.pairs_are;
             stay = same-then m n o (pairs_own kind others) first.stay.1.0 second.stay.1.0;
+            nodes = λ r began among. flow_part a b m n (tree root) (tree next) may makes.turns r began (subst (Among r) (tree_nodes-same n o next second.stay.0) among);
             turns = turns-as a c m o split left (documents_part kind root ∷ []) left (turns-then a b c m n o split between left first.turns second.turns) (λ r. sym (counts_split r)) (λ r. refl);
           }
 
@@ -115,7 +119,8 @@ module _ {H : Type 0} (kind : Kind) (type : ValueType) (a d : Ledger H) (m o : R
   module _ (ref next : ℕ) (keys : List ℕ) (items : List Item) (are : AreKeysOf type m keys items) (there : AreBeside a m (documents_part kind root ∷ []) keys) (lawful : IsLawfulItems kind items)
       (map_is : IsDocumentMap o next) (pairs_are : tree_pairs o next ≡ put (beside doc) (doc, ref) ps) (stay : SameAt (pairs_own kind rest) m o)
       (turns : Turns a d m o (documents_part kind root ∷ []) (tree next ∷ entries (pairs_own kind rest) ∷ entries (items_own kind ref) ∷ []))
-      (form : IsItemsRecord kind ref (o ref)) (weighted_are : weighted kind ref (o ref) ≡ entries_of keys items) where
+      (form : IsItemsRecord kind ref (o ref)) (weighted_are : weighted kind ref (o ref) ≡ entries_of keys items)
+      (nodes : ComesFrom a (tree_nodes o next) (tree_nodes m root)) (made : ComesFrom a (items_own kind ref) []) where
     abbrev parts : List Part
     parts = tree next ∷ entries (pairs_own kind rest) ∷ entries (items_own kind ref) ∷ []
 
@@ -167,9 +172,13 @@ module _ {H : Type 0} (kind : Kind) (type : ValueType) (a d : Ledger H) (m o : R
       column_is = ap (columned (items_at kind type o)) pairs_are
           ∙ columned-put (items_at kind type m) (items_at kind type o) doc ref items items_read ps (same-on kind type m o rest (stays next parts turns stay));
       refers = refers_set;
+      flows = set_flows kind a m o root doc next is.map_is.tree_is.ascends stay nodes ref keys pairs_are refers_new made;
       owns = owns-then a d m o (documents_part kind root ∷ []) (documents_part kind next ∷ []) owns turns_set;
       turns = turns_set;
     }
+
+    pub sets_set : ((r : ℕ) → Among r (items_own kind ref) → uses a r ≡ 0) → SetsItems kind a m o root doc keys next
+    sets_set fresh = sets_items kind a m o root doc next is.map_is.tree_is.ascends stay nodes ref keys pairs_are refers_new fresh
 
   -- one document taken out
   module _ (next : ℕ) (changes : ChangesPair kind a d m o root rest rest next) where
@@ -203,6 +212,7 @@ module _ {H : Type 0} (kind : Kind) (type : ValueType) (a d : Ledger H) (m o : R
           ∙ columned-same (items_at kind type m) (items_at kind type o) rest (same-on kind type m o rest (stays next parts_left changes.turns changes.stay))
           ∙ columned-out (items_at kind type m) doc ps is.map_is.tree_is.ascends;
       refers = refers_out;
+      flows = out_flows kind a m o root doc next is.map_is.tree_is.ascends changes.stay changes.nodes changes.pairs_are;
       owns = owns-then a d m o (documents_part kind root ∷ []) (documents_part kind next ∷ []) owns turns_out;
       turns = turns_out;
     }
@@ -234,7 +244,7 @@ module _ {H : Type 0} (kind : Kind) (type : ValueType) (a b c : Ledger H) (m n o
 
   module _ (next : ℕ) (changed : ChangesPair kind b c n o root (take_out (beside doc) (tree_pairs n root)) (put (beside doc) (doc, ref) (tree_pairs n root)) next)
       (values : AreBeside a m (documents_part kind root ∷ []) (documents_refer kind m root)) (keys : List ℕ) (items : List Item) (is_list : list ≡ entries_of keys items)
-      (are : AreKeysOf type m keys items) (there : AreBeside a m (documents_part kind root ∷ []) keys) (lawful : IsLawfulItems kind items) where
+      (are : AreKeysOf type m keys items) (there : AreBeside a m (documents_part kind root ∷ []) keys) (lawful : IsLawfulItems kind items) (may : MayDo a b) where
     abbrev others_m : List (ℕ × ℕ)
     others_m = take_out (beside doc) (tree_pairs m root)
 
@@ -254,16 +264,41 @@ module _ {H : Type 0} (kind : Kind) (type : ValueType) (a b c : Ledger H) (m n o
         (λ r some. let e = times-out r (items_own kind) (beside doc) (tree_pairs m root) in omega arith))
         changes.stay
 
+    all_turns : Turns a c m o own end
+    all_turns = turns-then a b c m n o own (entries (items_own kind ref) ∷ documents_part kind root ∷ []) end begun.turns ended.turns
+
+    nodes_flow : ComesFrom a (tree_nodes o next) (tree_nodes m root)
+    nodes_flow r began among = subst (Among r) (tree_nodes-same m n root nodes_stay) (changed.nodes r (began-then a b may r began) among)
+
+    new_form : IsItemsRecord kind ref (o ref)
+    new_form = form-on kind n o ref ended.stay.0 makes.form
+
+    new_weighted : weighted kind ref (o ref) ≡ entries_of keys items
+    new_weighted = weighted-on kind n o ref ended.stay.0 ∙ makes.weighted_are ∙ is_list
+
+    new_made : ComesFrom a (items_own kind ref) []
+    new_made = flow_made a b m n (entries (items_own kind ref)) may makes.turns
+
     pub makes_documents : MakesDocuments kind type a c m o root keys (with_change (column_at kind type m root) doc (Some items)) next
     makes_documents = makes_set kind type a c m o root doc is owns values ref next keys items are there lawful changes.map_is changes.pairs_are others_stay
-        (turns-then a b c m n o own (entries (items_own kind ref) ∷ documents_part kind root ∷ []) end begun.turns ended.turns)
-        (form-on kind n o ref ended.stay.0 makes.form) (weighted-on kind n o ref ended.stay.0 ∙ makes.weighted_are ∙ is_list)
+        all_turns new_form new_weighted nodes_flow new_made
+
+    pub sets_document : SetsItems kind a m o root doc keys next
+    sets_document = sets_set kind type a c m o root doc is owns values ref next keys items are there lawful changes.map_is changes.pairs_are others_stay
+        all_turns new_form new_weighted nodes_flow new_made (made_fresh a b m n (entries (items_own kind ref)) makes.turns)
 
 module _ {H : Type 0} (kind : Kind) (type : ValueType) (a b c : Ledger H) (m n o : Records) (root doc ref : ℕ) (is : IsDocuments kind type m root) (owns : Owns a m (documents_part kind root ∷ []))
     (values : AreBeside a m (documents_part kind root ∷ []) (documents_refer kind m root)) (keys : List ℕ) (items : List Item) (are : AreKeysOf type m keys items)
-    (there : AreBeside a m (documents_part kind root ∷ []) keys) (lawful : IsLawfulItems kind items) (makes : MakesItems kind a b m n (entries_of keys items) ref) where
+    (there : AreBeside a m (documents_part kind root ∷ []) keys) (lawful : IsLawfulItems kind items) (makes : MakesItems kind a b m n (entries_of keys items) ref)
+    (may : MayDo a b) where
   pub made_documents : (result : Result ℕ StoreError)
       → IfOk result (ChangesPair kind b c n o root (take_out (beside doc) (tree_pairs n root)) (put (beside doc) (doc, ref) (tree_pairs n root)))
       → IfOk result (MakesDocuments kind type a c m o root keys (with_change (column_at kind type m root) doc (Some items)))
-  made_documents (Ok next) changed = makes_documents kind type a b c m n o root doc ref is owns (entries_of keys items) makes next changed values keys items refl are there lawful
+  made_documents (Ok next) changed = makes_documents kind type a b c m n o root doc ref is owns (entries_of keys items) makes next changed values keys items refl are there lawful may
   made_documents (Err e) changed = tt
+
+  pub set_documents : (result : Result ℕ StoreError)
+      → IfOk result (ChangesPair kind b c n o root (take_out (beside doc) (tree_pairs n root)) (put (beside doc) (doc, ref) (tree_pairs n root)))
+      → IfOk result (SetsItems kind a m o root doc keys)
+  set_documents (Ok next) changed = sets_document kind type a b c m n o root doc ref is owns (entries_of keys items) makes next changed values keys items refl are there lawful may
+  set_documents (Err e) changed = tt

@@ -2,6 +2,7 @@ pub mod FrameLemmas
 pub mod RefusalLemmas
 pub mod PairLemmas
 pub mod RecordLemmas
+pub mod FlowLemmas
 pub mod LawLemmas
 pub mod KeyLemmas
 pub mod ChangeLemmas

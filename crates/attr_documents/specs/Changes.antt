@@ -2,12 +2,13 @@
 use Rattle.std.specs.Prelude.{◌≡◌, ◌⊎◌, ℕ, ◌+◌, ◌<◌, nat_eq, if◌then◌else◌, List, [], ◌∷◌}
 use Rattle.std.specs.List.{flat_map, AllZip}
 use Rattle.image_base.specs.Records.{Records, Among, SameAt}
-use Rattle.tree_images.specs.Trees.{tree_pairs}
+use Rattle.key_order.specs.Pairs.{take_out}
+use Rattle.tree_images.specs.Trees.{tree_nodes, tree_pairs}
 use Rattle.tree_images.specs.declared.TheConstants.{NODE_WORDS}
 use Rattle.store_api.specs.Ledgers.{Ledger}
 use Rattle.store_api.specs.Parts.{Part, Owns, Turns, count_in, entries, uses}
 use Rattle.tree_make.specs.Changes.{tree}
-use Rattle.doc_vector.specs.Documents.{IsDocumentMap}
+use Rattle.doc_vector.specs.Documents.{beside, IsDocumentMap}
 use Rattle.attr_images.specs.Documents.{column_at}
 use Rattle.attr_images.specs.Values.{stored_value, IsValueRecord}
 use Rattle.attr_images.specs.Words.{class_of}
@@ -17,6 +18,7 @@ use Rattle.attr_types.specs.declared.kind.Kind.{Kind}
 use Rattle.attr_types.specs.declared.kind.ValueType.{ValueType}
 use Rattle.attr_types.specs.declared.value.Value.{Value}
 use Rattle.attr_documents.specs.Documents.{documents_part, documents_refer, items_own, IsDocuments}
+use Rattle.attr_documents.specs.Flows.{own_at, refer_at, ComesFrom, FlowsDocuments}
 
 -- these records are in use, and the parts own none of them
 pub record AreBeside {H : Type 0} (ledger : Ledger H) (m : Records) (parts : List Part) (refs : List ℕ) : Type 0 where
@@ -37,6 +39,7 @@ pub record MakesDocuments {H : Type 0} (kind : Kind) (type : ValueType) (old new
   pub documents_are : IsDocuments kind type n next
   pub column_is : column_at kind type n next ≡ column
   pub refers : (r : ℕ) → Among r (documents_refer kind n next) → Among r (documents_refer kind m root) ⊎ Among r keys
+  pub flows : FlowsDocuments kind old m n root keys next
   pub owns : Owns new n (documents_part kind next ∷ [])
   pub turns : Turns old new m n (documents_part kind root ∷ []) (documents_part kind next ∷ [])
 
@@ -54,4 +57,13 @@ pub record ChangesPair {H : Type 0} (kind : Kind) (old new : Ledger H) (m n : Re
   pub map_is : IsDocumentMap n next
   pub pairs_are : tree_pairs n next ≡ pairs
   pub stay : SameAt (pairs_own kind others) m n
+  pub nodes : ComesFrom old (tree_nodes n next) (tree_nodes m root)
   pub turns : Turns old new m n (documents_part kind root ∷ []) (tree next ∷ entries (pairs_own kind others) ∷ [])
+
+-- a document's items were set: a record that it has of its own is new, and it refers to exactly these. All others have the references that
+-- they had, and the records that they own are as they were
+pub record SetsItems {H : Type 0} (kind : Kind) (old : Ledger H) (m n : Records) (root doc : ℕ) (keys : List ℕ) (next : ℕ) : Type 0 where
+  pub fresh : (r : ℕ) → Among r (own_at kind n next doc) → uses old r ≡ 0
+  pub refer : refer_at kind n next doc ≡ keys
+  pub others : take_out (beside doc) (tree_pairs n next) ≡ take_out (beside doc) (tree_pairs m root)
+  pub stay : SameAt (pairs_own kind (take_out (beside doc) (tree_pairs m root))) m n

@@ -13,7 +13,7 @@ ghost use Rattle.attr_images.specs.Documents.{column_at};
 ghost use Rattle.attr_index.specs.Columns.{with_change};
 ghost use Rattle.attr_types.specs.Lawful.{IsLawfulItems};
 ghost use Rattle.posting_store.specs.Changes.{MakesWithin, RefusesSome};
-ghost use Rattle.attr_documents.specs.Changes.{documents_most, AreBeside, AreKeysOf, ChangesPair, MakesDocuments};
+ghost use Rattle.attr_documents.specs.Changes.{documents_most, AreBeside, AreKeysOf, ChangesPair, MakesDocuments, SetsItems};
 ghost use Rattle.attr_documents.specs.Documents.{documents_part, documents_refer, IsDocuments};
 
 use crate::making::{drop_items, make_items};
@@ -87,6 +87,7 @@ pub fn set_document<const OFFSET_BITS: u32, S: Store<OFFSET_BITS>>(
     ensures makes { IfOk result (MakesDocuments kind value_type (S.ledger store.old) (S.ledger store.new) (S.records store.old)
         (S.records store.new) root.entry keys.now
         (with_change (column_at kind value_type (S.records store.old) root.entry) doc (Some items.now))) }
+    ensures sets { IfOk result (SetsItems kind (S.ledger store.old) (S.records store.old) (S.records store.new) root.entry doc keys.now) }
     ensures counts { MakesWithin (S.ledger store.old) (S.ledger store.new)
         (documents_most (1 + length items.now) (2 * levels (S.records store.old) root.entry + 1)) }
     ensures refuses { IfErr result (RefusesSome (S.ledger store.old) (S.ledger store.new)) }

@@ -8,9 +8,10 @@ use Rattle.key_order.specs.Pairs.{lookup, lookup_pair, put, take_out}
 use Rattle.key_order.proofs.PairLemmas.{lookup-of_pair}
 use Rattle.store_api.specs.Ledgers.{Ledger}
 use Rattle.store_api.specs.Parts.{Part, After, Owns, Turns, count_in, entry, times}
+use Rattle.store_api.specs.Units.{MayDo}
 use Rattle.store_api.proofs.PartLemmas.{after, owns-some, turns-as, turns-then}
-use Rattle.tree_images.specs.ProofsForTrees.{SameAt-right, all-same}
-use Rattle.tree_images.specs.Trees.{tree_pairs}
+use Rattle.tree_images.specs.ProofsForTrees.{SameAt-right, all-same, tree_nodes-same}
+use Rattle.tree_images.specs.Trees.{tree_nodes, tree_pairs}
 use Rattle.tree_make.specs.Changes.{tree}
 use Rattle.attr_images.specs.Postings.{list_form, postings_reach, index_of}
 use Rattle.attr_images.specs.ProofsForImages.{postings_at-same}
@@ -24,12 +25,16 @@ use Rattle.enum_dictionary.specs.Dictionaries.{beside, IsDictionary, MakesDictio
 use Rattle.enum_dictionary.proofs.DictionaryLemmas.{dictionary_stays}
 use Rattle.posting_store.specs.Changes.{list_part}
 use Rattle.posting_store.specs.Lists.{list_at, list_reach}
-use Rattle.posting_store.specs.ProofsForLists.{IsList-same, list_at-same}
+use Rattle.posting_store.specs.ProofsForLists.{IsList-same, list_at-same, list_reach-same}
 use Rattle.posting_store.proofs.FormLemmas.{at_form}
 use Rattle.value_index.specs.Changes.{KeepsKeys, MakesIndex}
+use Rattle.value_index.specs.Flows.{word_at, ComesFrom}
 use Rattle.value_index.specs.Indexes.{index_part, IsIndex, IsKey, IsValuePair}
+use Rattle.value_index.proofs.FlowLemmas.{began-then, flow_part}
+use Rattle.value_index.proofs.IndexFlows.{flows_out, flows_set}
 use Rattle.value_index.proofs.IndexLemmas.{docs_at, index_formed, keys_same, pair_reach, pair_same}
 use Rattle.value_index.proofs.OpenLemmas.{IsOpen, index_count, others, pair_count, pairs_part, pairs_reach-same, parts, same_among, same_by, same_then}
+use Rattle.value_index.proofs.OpenFlows.{FlowsOpen}
 use Rattle.value_index.proofs.PairLemmas.{keys, all_by_keys, all_put, all_taken, among_put, key_put, lookup_pair_as, put_as, put_times, take_out_as}
 use Rattle.value_index.proofs.ShownLemmas.{Docs, shown, shown_out, shown_put}
 
@@ -98,6 +103,12 @@ module _ {H : Type 0} (value : Value) (a b : Ledger H) (m n : Records) (root key
     both : Turns a c m o (index_part root ∷ []) (parts next key word rest)
     both = turns-then a b c m n o (index_part root ∷ []) (parts root key word rest) (parts next key word rest) is.turns tree_step.turns
 
+    -- the nodes were the dictionary's
+    nodes_from : MayDo a b → MayDo b c → ComesFrom a (tree_nodes o next) (tree_nodes m root)
+    nodes_from first then r began among =
+        subst (λ rs. Among r rs) (tree_nodes-same m n root is.nodes)
+        (flow_part b c n o (tree root) (tree next) then makes.turns r (began-then a b first r began) among)
+
     -- the value was set
     module _ (some : 0 < word) (are : pairs ≡ put (beside value n) (key, word) (tree_pairs n root)) where
       pairs_are : tree_pairs o next ≡ put (beside value m) (key, word) (tree_pairs m root)
@@ -147,11 +158,17 @@ module _ {H : Type 0} (value : Value) (a b : Ledger H) (m n : Records) (root key
           let one = pair_count o key word r some in
           omega arith
 
-      pub value_set : MakesIndex type a c m o root (insert_entry value_cmp (index_of type m root) value (list_at n word)) next
-      value_set = record {
+      -- the list is as it was before the dictionary changed
+      list_from : FlowsOpen value a b m n root key word → ComesFrom a (list_reach o word) (list_reach m (word_at value m root))
+      list_from taken r began among = taken.from_list r began (subst (λ rs. Among r rs) (list_reach-same n o word tree_step.stay.1.0) among)
+
+      pub value_set : FlowsOpen value a b m n root key word → MayDo b c
+          → MakesIndex type a c m o root (insert_entry value_cmp (index_of type m root) value (list_at n word)) next
+      value_set taken may = record {
         index_is = index_set;
         reads_as = reads_set;
         keys = keys_set;
+        flows = flows_set value a m o root next (nodes_from taken.may may) rest_stays key word pairs_are (ap (value_of type) key_stays ∙ is.reads) taken.from_key (list_from taken);
         owns = owns-some c o (parts next key word rest) (index_part next ∷ []) tree_step.owns (λ r. let e = set_count r in omega arith);
         turns = turns-as a c m o (index_part root ∷ []) (parts next key word rest) (index_part root ∷ []) (index_part next ∷ []) both (λ r. refl) set_count;
       }
@@ -219,11 +236,16 @@ module _ {H : Type 0} (value : Value) (a b : Ledger H) (m n : Records) (root key
             let same : times r (flat_map (pair_reach p) (tree_pairs p next)) ≡ times r (flat_map (pair_reach p) rest) = ap (λ ps. times r (flat_map (pair_reach p) ps)) pairs_left in
             omega arith
 
-        pub value_out : MakesIndex type a d m p root (remove_entry (is_at (value_cmp value)) (index_of type m root)) next
-        value_out = record {
+        -- the nodes are as they were before the key was dropped
+        nodes_left : MayDo a b → MayDo b c → ComesFrom a (tree_nodes p next) (tree_nodes m root)
+        nodes_left first then r began among = nodes_from first then r began (subst (λ rs. Among r rs) (tree_nodes-same o p next drop_step.stay.0) among)
+
+        pub value_out : MayDo a b → MayDo b c → MakesIndex type a d m p root (remove_entry (is_at (value_cmp value)) (index_of type m root)) next
+        value_out first then = record {
           index_is = index_left;
           reads_as = reads_left;
           keys = keys_left;
+          flows = flows_out value a m p root next (nodes_left first then) rest_left pairs_left start.dictionary_is.tree_is.ascends;
           owns = owns-some d p (tree next ∷ pairs_part rest ∷ []) (index_part next ∷ []) drop_step.owns (λ r. let e = left_count r in omega arith);
           turns = turns-as a d m p (index_part root ∷ []) (tree next ∷ pairs_part rest ∷ []) (index_part root ∷ []) (index_part next ∷ [])
               (turns-then a c d m o p (index_part root ∷ []) (entry key ∷ tree next ∷ pairs_part rest ∷ []) (tree next ∷ pairs_part rest ∷ [])

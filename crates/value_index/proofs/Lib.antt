@@ -1,8 +1,12 @@
+pub mod FlowLemmas
 pub mod PairLemmas
+pub mod WordLemmas
 pub mod ShownLemmas
 pub mod IndexLemmas
 pub mod KeyLemmas
 pub mod OpenLemmas
+pub mod IndexFlows
+pub mod OpenFlows
 pub mod ChangeLemmas
 pub mod StepLemmas
 pub mod CountLemmas

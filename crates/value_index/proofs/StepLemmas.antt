@@ -31,6 +31,7 @@ use Rattle.value_index.specs.Changes.{MakesIndex}
 use Rattle.value_index.specs.Indexes.{index_part, IsIndex}
 use Rattle.value_index.proofs.ChangeLemmas.{value_out, value_set}
 use Rattle.value_index.proofs.KeyLemmas.{list_found, list_none, pair_found}
+use Rattle.value_index.proofs.OpenFlows.{FlowsOpen}
 use Rattle.value_index.proofs.OpenLemmas.{IsOpen, open_found, open_list, open_made, others, parts}
 use Rattle.value_index.proofs.ShownLemmas.{Docs, with_some}
 
@@ -133,7 +134,7 @@ open_new value bits a b c m n o root key next docs is owns none adds record_is r
 
 -- ---- the index that a call makes
 module _ {H : Type 0} (value : Value) (a b c : Ledger H) (m n o : Records) (root key word : ℕ) (start : IsIndex (type_of value) m root)
-    (is : IsOpen value a b m n root key word) (docs : Docs) (reads : list_at n word ≡ docs) where
+    (is : IsOpen value a b m n root key word) (taken : FlowsOpen value a b m n root key word) (may : MayDo b c) (docs : Docs) (reads : list_at n word ≡ docs) where
   pub set_index : (answer : Result ℕ StoreError) (posting : ℕ) → posting ≡ word → 0 < length docs
       → IfOk answer (MakesDictionary (type_of value) b c n o root (put (beside value n) (key, posting) (tree_pairs n root)))
       → IfOk answer (MakesIndex (type_of value) a c m o root (with_list value docs (index_of (type_of value) m root)))
@@ -141,7 +142,7 @@ module _ {H : Type 0} (value : Value) (a b c : Ledger H) (m n o : Records) (root
   set_index (Ok next) posting same some makes =
       let filled : 0 < word = word_some n word (subst {A = Docs} (λ ds. 0 < length ds) (sym reads) some) in
       let set = value_set value a b m n root key word start is c o next (put (beside value n) (key, posting) (tree_pairs n root)) makes filled
-      (ap (λ (w : ℕ). put (beside value n) (key, w) (tree_pairs n root)) same) in
+      (ap (λ (w : ℕ). put (beside value n) (key, w) (tree_pairs n root)) same) taken may in
       subst (λ index. MakesIndex (type_of value) a c m o root index next)
       (ap (λ (ds : Docs). insert_entry value_cmp (index_of (type_of value) m root) value ds) reads ∙ sym (with_some value docs (index_of (type_of value) m root) some)) set
 
@@ -149,6 +150,6 @@ module _ {H : Type 0} (value : Value) (a b c : Ledger H) (m n o : Records) (root
       → MakesDictionary (type_of value) b c n o root (take_out (beside value n) (tree_pairs n root)) next → Turns c d o p (entry key ∷ []) []
       → MakesIndex (type_of value) a d m p root (with_list value docs (index_of (type_of value) m root)) next
   out_index next d p empty makes dropped =
-      let out = value_out value a b m n root key word start is c o next (take_out (beside value n) (tree_pairs n root)) makes empty refl d p dropped in
+      let out = value_out value a b m n root key word start is c o next (take_out (beside value n) (tree_pairs n root)) makes empty refl d p dropped taken.may may in
       let none : docs ≡ [] = sym reads ∙ ap (list_at n) empty in
       subst (λ (ds : Docs). MakesIndex (type_of value) a d m p root (with_list value ds (index_of (type_of value) m root)) next) (sym none) out

@@ -17,6 +17,7 @@ use Rattle.attr_types.specs.declared.value.Value.{Value}
 use Rattle.enum_dictionary.specs.Dictionaries.{beside}
 use Rattle.posting_store.specs.Changes.{list_most}
 use Rattle.posting_store.specs.Lists.{list_levels}
+use Rattle.value_index.specs.Flows.{FlowsIndex}
 use Rattle.value_index.specs.Indexes.{index_part, key_at, IsIndex, IsKey}
 
 -- a key whose value still has documents is a key still, and its record is as it was
@@ -30,6 +31,7 @@ pub record MakesIndex {H : Type 0} (type : ValueType) (old new : Ledger H) (m n 
   pub index_is : IsIndex type n next
   pub reads_as : index_of type n next ≡ index
   pub keys : KeepsKeys type m n root next
+  pub flows : FlowsIndex type old m n root next
   pub owns : Owns new n (index_part next ∷ [])
   pub turns : Turns old new m n (index_part root ∷ []) (index_part next ∷ [])
 

@@ -1,4 +1,5 @@
 pub mod ProofsForIndexes
 pub mod Indexes
+pub mod Flows
 pub mod Changes
 pub mod Laws

@@ -73,7 +73,7 @@ returns-clause-makes g c =
     (with_change (column_at kind type (records f) c.args.root) c.args.doc None) c.in_ok-next.next) c.reference_of-old.ensures.same
     (makes_out kind type (ledger s) (ledger u) (records s) (records u) c.args.root c.args.doc is owns values c.in_ok-next.next
     (changes_pair kind (ledger s) (ledger t) (ledger u) (records s) (records t) (records u) c.args.root c.args.doc c.reference_of-old.result c.in_ok-next.next owns was
-    (take_out (beside c.args.doc) (tree_pairs (records s) c.args.root)) c.in_ok-next.ensures.makes c.drop_items.ensures.turns))
+    (take_out (beside c.args.doc) (tree_pairs (records s) c.args.root)) c.in_ok-next.ensures.makes c.remove.ensures.may c.drop_items.ensures.turns))
 
 pub returns-in_err-next-clause-counts : goal.returns-in_err-next-clause-counts
 returns-in_err-next-clause-counts g c =

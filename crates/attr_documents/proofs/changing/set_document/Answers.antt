@@ -5,7 +5,7 @@ use Rattle.attr_documents.specs.Items.{entries_of}
 use Rattle.tree_make.specs.Changes.{levels}
 use Rattle.tree_make.specs.Makes.{CountsNodes}
 use Rattle.attr_documents.proofs.CountLemmas.{counts-one, counts-both, levels-same}
-use Rattle.attr_documents.proofs.ChangeLemmas.{nodes_stay, still_map, still_owned, made_documents}
+use Rattle.attr_documents.proofs.ChangeLemmas.{nodes_stay, still_map, still_owned, made_documents, set_documents}
 use Rattle.attr_documents.proofs.KeyLemmas.{keys_length, keys_there}
 use Rattle.attr_documents.proofs.changing.set_document.Goals as goal
 
@@ -42,7 +42,17 @@ returns-clause-makes g c =
     let t = c.make_items.new.store in
     let u = c.set_reference.new.store in
     made_documents c.args.kind c.args.value_type (ledger s) (ledger t) (ledger u) (records s) (records t) (records u) c.args.root c.args.doc c.in_ok-reference.reference c.requires.documents c.requires.owns
-    c.requires.beside c.args.keys.now c.args.items.now c.requires.keys c.requires.keys_beside c.requires.lawful c.in_ok-reference.ensures.makes c.set_reference.result c.set_reference.ensures.changes
+    c.requires.beside c.args.keys.now c.args.items.now c.requires.keys c.requires.keys_beside c.requires.lawful c.in_ok-reference.ensures.makes c.make_items.ensures.may c.set_reference.result c.set_reference.ensures.changes
+
+pub returns-clause-sets : goal.returns-clause-sets
+returns-clause-sets g c =
+    let ledger = g.S.Store.ledger in
+    let records = g.S.Frozen.records in
+    let s = c.args.store.now in
+    let t = c.make_items.new.store in
+    let u = c.set_reference.new.store in
+    set_documents c.args.kind c.args.value_type (ledger s) (ledger t) (ledger u) (records s) (records t) (records u) c.args.root c.args.doc c.in_ok-reference.reference c.requires.documents c.requires.owns
+    c.requires.beside c.args.keys.now c.args.items.now c.requires.keys c.requires.keys_beside c.requires.lawful c.in_ok-reference.ensures.makes c.make_items.ensures.may c.set_reference.result c.set_reference.ensures.changes
 
 pub returns-in_err-reference-clause-counts : goal.returns-in_err-reference-clause-counts
 returns-in_err-reference-clause-counts g c =

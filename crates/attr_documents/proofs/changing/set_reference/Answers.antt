@@ -61,7 +61,7 @@ returns-clause-changes g c =
     subst (λ (f : g.row.S.Denot). ChangesPair c.args.kind (ledger f) (ledger u) (records f) (records u) c.args.root (take_out (beside c.args.doc) (tree_pairs (records f) c.args.root))
     (put (beside c.args.doc) (c.args.doc, c.args.reference) (tree_pairs (records f) c.args.root)) c.in_ok-next.next) c.reference_of-old.ensures.same
     (changes_pair c.args.kind (ledger s) (ledger t) (ledger u) (records s) (records t) (records u) c.args.root c.args.doc c.reference_of-old.result c.in_ok-next.next owns was
-    (put (beside c.args.doc) (c.args.doc, c.args.reference) (tree_pairs (records s) c.args.root)) c.in_ok-next.ensures.makes c.drop_items.ensures.turns)
+    (put (beside c.args.doc) (c.args.doc, c.args.reference) (tree_pairs (records s) c.args.root)) c.in_ok-next.ensures.makes c.set.ensures.may c.drop_items.ensures.turns)
 
 pub returns-in_err-next-clause-counts : goal.returns-in_err-next-clause-counts
 returns-in_err-next-clause-counts g c =

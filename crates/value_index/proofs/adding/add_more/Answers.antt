@@ -14,6 +14,7 @@ use Rattle.value_index.proofs.ChangeLemmas.{open_dictionary, open_owns}
 use Rattle.value_index.specs.Changes.{add_most, nodes_most}
 use Rattle.value_index.proofs.CountLemmas.{add_found, within_more, within_then, within_tree}
 use Rattle.value_index.proofs.KeyLemmas.{pair_found}
+use Rattle.value_index.proofs.OpenFlows.{flows_found}
 use Rattle.value_index.proofs.ShownLemmas.{Docs}
 use Rattle.value_index.proofs.StepLemmas.{if_refuses_width, inserted_some, list_is, list_owned, open_next, set_index}
 use Rattle.value_index.proofs.adding.add_more.Goals as goal
@@ -86,7 +87,8 @@ returns-clause-makes g c =
     let makes = subst (λ (w : ℤ). MakesList a b m n list (insert_entry nat_cmp (list_at m list) c.args.doc w) next) (to_z-of_z w32 c.args.weight c.ranges.weight) c.in_ok-next.ensures.makes in
     let is = open_next value m root c.requires.index key list c.requires.found a b n next (insert_entry nat_cmp (list_at m list) c.args.doc c.args.weight) c.requires.owns makes in
     let was = list_is value m root c.requires.index key list c.requires.found in
-    set_index value a b (ledger c.set.new.store) m n (records c.set.new.store) root key next c.requires.index is
+    let taken = flows_found value a b m n root key list next (insert_entry nat_cmp (list_at m list) c.args.doc c.args.weight) c.requires.found c.add.ensures.may makes in
+    set_index value a b (ledger c.set.new.store) m n (records c.set.new.store) root key next c.requires.index is taken c.set.ensures.may
     (insert_entry nat_cmp (list_of value (index_of (type_of value) m root)) c.args.doc c.args.weight)
     (makes.docs_are ∙ ap (λ (ds : Docs). insert_entry nat_cmp ds c.args.doc c.args.weight) was)
     c.set.result c.word.result c.word.ensures (inserted_some (list_of value (index_of (type_of value) m root)) c.args.doc c.args.weight)

@@ -18,6 +18,7 @@ use Rattle.value_index.proofs.ChangeLemmas.{open_dictionary, open_owns}
 use Rattle.value_index.specs.Changes.{add_most, nodes_most, record_most}
 use Rattle.value_index.proofs.CountLemmas.{add_none, within_more, within_record, within_then, within_tree}
 use Rattle.value_index.proofs.KeyLemmas.{list_none}
+use Rattle.value_index.proofs.OpenFlows.{flows_new}
 use Rattle.value_index.proofs.ShownLemmas.{Docs}
 use Rattle.value_index.proofs.StepLemmas.{if_refuses_width, inserted_some, open_new, refuses_after, refuses_width, set_index}
 use Rattle.value_index.proofs.adding.add_new.Goals as goal
@@ -114,7 +115,8 @@ returns-clause-makes g c =
     let is = open_new value g.row.OFFSET_BITS a b d m n o root key list docs c.requires.index c.requires.owns c.requires.new
     c.in_ok-key.ensures.adds c.in_ok-key.ensures.record c.in_ok-key.ensures.value makes in
     let was = list_none value m root c.requires.index c.requires.new in
-    set_index value a d (ledger c.set.new.store) m o (records c.set.new.store) root key list c.requires.index is
+    let taken = flows_new value g.row.OFFSET_BITS a b d m n o root key list (value_words value) docs c.add.ensures.may c.in_ok-key.ensures.adds c.add-2.ensures.may makes in
+    set_index value a d (ledger c.set.new.store) m o (records c.set.new.store) root key list c.requires.index is taken c.set.ensures.may
     (insert_entry nat_cmp (list_of value (index_of (type_of value) m root)) c.args.doc c.args.weight)
     (makes.docs_are ∙ ap (λ (ds : Docs). insert_entry nat_cmp ds c.args.doc c.args.weight) (sym was))
     c.set.result c.word.result c.word.ensures (inserted_some (list_of value (index_of (type_of value) m root)) c.args.doc c.args.weight)

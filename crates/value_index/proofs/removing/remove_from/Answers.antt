@@ -14,6 +14,7 @@ use Rattle.value_index.proofs.ChangeLemmas.{drop_owns, open_dictionary, open_own
 use Rattle.value_index.specs.Changes.{change_most, nodes_most}
 use Rattle.value_index.proofs.CountLemmas.{change_found, within_dropped, within_more, within_then, within_tree}
 use Rattle.value_index.proofs.KeyLemmas.{pair_found}
+use Rattle.value_index.proofs.OpenFlows.{flows_found}
 use Rattle.value_index.proofs.ShownLemmas.{Docs}
 use Rattle.value_index.proofs.StepLemmas.{filled_list, if_refuses_width, list_is, list_owned, list_there, open_next, out_index, refuses_width, set_index}
 use Rattle.value_index.proofs.removing.remove_from.Goals as goal
@@ -94,7 +95,8 @@ returns-then-word-ne0-clause-makes g c =
     let docs = remove_entry (is_at (nat_cmp c.args.doc)) (list_of value (index_of (type_of value) m root)) in
     let reads = makes.docs_are ∙ ap (λ (ds : Docs). remove_entry (is_at (nat_cmp c.args.doc)) ds) was in
     let some : 0 < next = let w = c.word.ensures in let more = c.if-word-ne0.true in omega arith in
-    set_index value a b (ledger c.set.new.store) m n (records c.set.new.store) root key next c.requires.index is docs reads
+    let taken = flows_found value a b m n root key list next (remove_entry (is_at (nat_cmp c.args.doc)) (list_at m list)) c.requires.found c.remove.ensures.may makes in
+    set_index value a b (ledger c.set.new.store) m n (records c.set.new.store) root key next c.requires.index is taken c.set.ensures.may docs reads
     c.set.result c.word-then-word-ne0.result c.word-then-word-ne0.ensures (filled_list n next docs is.list_is reads some) c.set.ensures.makes
 
 pub returns-then-word-ne0-clause-refuses : goal.returns-then-word-ne0-clause-refuses
@@ -189,7 +191,8 @@ returns-clause-makes g c =
     let docs = remove_entry (is_at (nat_cmp c.args.doc)) (list_of value (index_of (type_of value) m root)) in
     let reads = makes.docs_are ∙ ap (λ (ds : Docs). remove_entry (is_at (nat_cmp c.args.doc)) ds) was in
     let empty : next ≡ 0 = let w = c.word.ensures in let none = c.if-word-ne0.false in omega arith in
-    out_index value a b (ledger c.remove-2.new.store) m n (records c.remove-2.new.store) root key next c.requires.index is docs reads
+    let taken = flows_found value a b m n root key list next (remove_entry (is_at (nat_cmp c.args.doc)) (list_at m list)) c.requires.found c.remove.ensures.may makes in
+    out_index value a b (ledger c.remove-2.new.store) m n (records c.remove-2.new.store) root key next c.requires.index is taken c.remove-2.ensures.may docs reads
     c.in_ok-left.left (ledger c.drop_one.new.store) (records c.drop_one.new.store) empty c.in_ok-left.ensures.makes c.drop_one.ensures.turns
 
 pub returns-clause-may : goal.returns-clause-may

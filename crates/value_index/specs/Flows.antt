@@ -1,0 +1,29 @@
+-- What a change takes over of an index: a reference that was in use when the unit began has no role in the new index that it had not in
+-- the old one.
+use Rattle.std.specs.Prelude.{◌≡◌, ℕ, true, List, map}
+use Rattle.std.specs.Option.{unwrap_or}
+use Rattle.image_base.specs.Records.{Records, Among}
+use Rattle.store_api.specs.Ledgers.{Ledger}
+use Rattle.store_api.specs.Statuses.{in_use}
+use Rattle.key_order.specs.Pairs.{lookup}
+use Rattle.tree_images.specs.Trees.{tree_nodes, tree_pairs}
+use Rattle.attr_types.specs.Value.{type_of}
+use Rattle.attr_types.specs.declared.kind.ValueType.{ValueType}
+use Rattle.attr_types.specs.declared.value.Value.{Value}
+use Rattle.enum_dictionary.specs.Dictionaries.{beside}
+use Rattle.posting_store.specs.Lists.{list_reach}
+
+-- each of these references that was in use when the unit began is one of those
+abbrev pub ComesFrom : {H : Type 0} → Ledger H → List ℕ → List ℕ → Type 0
+ComesFrom ledger refs those = (r : ℕ) → in_use (ledger.back r) ≡ true → Among r refs → Among r those
+
+-- the word of a value's list, 0 where no document has it
+abbrev pub word_at : Value → Records → ℕ → ℕ
+word_at value m root = unwrap_or (lookup (beside value m) (tree_pairs m root)) 0
+
+-- keys come from keys, nodes from nodes, and the records of a value's list from those of its list
+pub record FlowsIndex {H : Type 0} (type : ValueType) (old : Ledger H) (m n : Records) (root next : ℕ) : Type 0 where
+  pub keys : ComesFrom old (map (λ p. p.0) (tree_pairs n next)) (map (λ p. p.0) (tree_pairs m root))
+  pub nodes : ComesFrom old (tree_nodes n next) (tree_nodes m root)
+  pub lists : (value : Value) → type_of value ≡ type
+      → ComesFrom old (list_reach n (word_at value n next)) (list_reach m (word_at value m root))
