@@ -6,6 +6,7 @@ use Rattle.std.specs.Map.{lookup}
 use Rattle.image_base.specs.Records.{Records}
 use Rattle.store_api.specs.Ledgers.{Ledger}
 use Rattle.store_api.specs.Parts.{Owns}
+use Rattle.store_api.specs.Units.{MayDo}
 use Rattle.store_api.proofs.PartLemmas.{turns-same, turns-then}
 use Rattle.attr_documents.specs.Documents.{documents_part}
 use Rattle.attr_documents.specs.Laws.{DocumentsAreLawful}
@@ -26,6 +27,7 @@ use Rattle.value_index.specs.Indexes.{index_part}
 use Rattle.attr_field.specs.Changes.{MakesField}
 use Rattle.attr_field.specs.Fields.{field_part, IsField}
 use Rattle.attr_field.specs.Steps.{StandsField, StepsField}
+use Rattle.attr_field.proofs.FlowLemmas.{field_flows_same, field_flows_then}
 use Rattle.attr_field.proofs.RefLemmas.{field_owns, field_turns}
 use Rattle.attr_field.proofs.WeightLemmas.{weights_are}
 
@@ -67,12 +69,12 @@ module _ {H : Type 0} (kind : Kind) (type : ValueType) (begun : Ledger H) (k : R
   none_added = record { formed = is.index_of_documents.formed; lists = λ value. refl }
 
   -- the last step makes the attribute whole
-  pub step_ends : (mid new : Ledger H) (m n : Records) (next root last : ℕ) (next_column : Column)
+  pub step_ends : (mid new : Ledger H) (m n : Records) (next root last : ℕ) (next_column : Column) → MayDo begun mid
       → StepsField kind type begun mid k m documents dictionary next_column next root
       → StepsField kind type mid new m n next root (column_at kind type m next) next last
       → IsIndexOf (column_at kind type m next) (index_of type n last)
       → MakesField kind type begun new k n documents dictionary next_column next last
-  step_ends mid new m n next root last next_column first second of = record {
+  step_ends mid new m n next root last next_column may first second of = record {
     field_is = record {
       documents_are = second.stands.documents_are;
       index_is = second.stands.index_is;
@@ -80,19 +82,21 @@ module _ {H : Type 0} (kind : Kind) (type : ValueType) (begun : Ledger H) (k : R
       keys = second.stands.keys;
     };
     column_is = second.column_is ∙ first.column_is;
+    flows = field_flows_then kind type begun mid k m n documents dictionary next root next last may first.flows second.flows;
     turns = field_turns begun new k n kind documents dictionary next last
         (turns-then begun mid new k m n (documents_part kind documents ∷ index_part dictionary ∷ []) (documents_part kind next ∷ index_part root ∷ [])
         (documents_part kind next ∷ index_part last ∷ []) first.turns second.turns);
   }
 
   -- two steps are one
-  pub steps_then : (mid new : Ledger H) (m n : Records) (root next : ℕ) (items : Option (List Item))
+  pub steps_then : (mid new : Ledger H) (m n : Records) (root next : ℕ) (items : Option (List Item)) → MayDo begun mid
       → StepsField kind type begun mid k m documents dictionary column documents root
       → StepsField kind type mid new m n documents root (with_change (column_at kind type m documents) doc items) next root
       → StepsField kind type begun new k n documents dictionary (with_change column doc items) next root
-  steps_then mid new m n root next items first second = record {
+  steps_then mid new m n root next items may first second = record {
     stands = second.stands;
     column_is = second.column_is ∙ ap (λ (c : Column). with_change c doc items) first.column_is;
+    flows = field_flows_then kind type begun mid k m n documents dictionary documents root next root may first.flows second.flows;
     turns = turns-then begun mid new k m n (documents_part kind documents ∷ index_part dictionary ∷ []) (documents_part kind documents ∷ index_part root ∷ [])
         (documents_part kind next ∷ index_part root ∷ []) first.turns second.turns;
   }
@@ -103,5 +107,6 @@ module _ {H : Type 0} (kind : Kind) (type : ValueType) (begun : Ledger H) (k : R
   same_field lawful items there = record {
     field_is = is;
     column_is = sym (insert_same doc items column (lawful kind type k documents is.documents_are).2.ascends there);
+    flows = field_flows_same kind type begun k documents dictionary;
     turns = turns-same begun k (field_part kind documents dictionary ∷ []);
   }

@@ -1,7 +1,10 @@
 pub mod RefLemmas
 pub mod LawLemmas
+pub mod FlowLemmas
 pub mod StepLemmas
 pub mod WeightLemmas
 pub mod SearchLemmas
 pub mod ChangeLemmas
 pub mod CompareLemmas
+pub mod CountLemmas
+pub mod SizeLemmas

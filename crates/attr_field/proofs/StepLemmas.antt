@@ -22,15 +22,17 @@ use Rattle.attr_types.specs.declared.kind.ValueType.{ValueType}
 use Rattle.attr_types.specs.declared.value.Value.{Value}
 use Rattle.attr_walks.proofs.KeyLemmas.{settled_long}
 use Rattle.value_index.specs.Changes.{KeepsKeys}
+use Rattle.value_index.specs.Flows.{FlowsIndex}
 use Rattle.value_index.specs.Indexes.{index_part, index_reach, IsIndex, IsKey}
 use Rattle.value_index.specs.Laws.{IndexStays, KeyIsRead}
 use Rattle.attr_field.specs.Steps.{StandsField, StepsField}
+use Rattle.attr_field.proofs.FlowLemmas.{field_flows_documents, field_flows_index}
 use Rattle.attr_field.proofs.RefLemmas.{all_among, same_each}
 
 -- ---- the index is another
 module _ (documents_stay : DocumentsStay) {H : Type 0} (kind : Kind) (type : ValueType) (old new : Ledger H) (m n : Records) (documents dictionary next : ℕ)
     (stands : StandsField kind type old m documents dictionary) (index_is : IsIndex type n next) (keys : KeepsKeys type m n dictionary next)
-    (turns : Turns old new m n (index_part dictionary ∷ []) (index_part next ∷ []))
+    (flows : FlowsIndex type old m n dictionary next) (turns : Turns old new m n (index_part dictionary ∷ []) (index_part next ∷ []))
     (listed : (r : ℕ) → Among r (documents_refer kind m documents) → 0 < length (list_of (stored_value type m r) (index_of type n next))) where
   index_after : After old new m n (documents_part kind documents ∷ index_part dictionary ∷ []) (documents_part kind documents ∷ index_part next ∷ [])
       (documents_part kind documents ∷ [])
@@ -54,6 +56,7 @@ module _ (documents_stay : DocumentsStay) {H : Type 0} (kind : Kind) (type : Val
       owns = index_after.owns;
     };
     column_is = index_documents.1;
+    flows = field_flows_index kind type old m n documents dictionary next index_after.stay.0 flows;
     turns = index_after.turns;
   }
 
@@ -85,6 +88,7 @@ module _ (index_stays : IndexStays) {H : Type 0} (kind : Kind) (type : ValueType
       owns = documents_after.owns;
     };
     column_is = makes.column_is;
+    flows = field_flows_documents kind type old m n documents dictionary next keys documents_after.stay.0 makes.flows;
     turns = documents_after.turns;
   }
 

@@ -1,5 +1,7 @@
 pub mod ProofsForFields
+pub mod Counts
 pub mod Fields
+pub mod Flows
 pub mod Changes
 pub mod Steps
 pub mod Laws

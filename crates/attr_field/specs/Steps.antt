@@ -11,6 +11,7 @@ use Rattle.attr_types.specs.declared.kind.Kind.{Kind}
 use Rattle.attr_types.specs.declared.kind.ValueType.{ValueType}
 use Rattle.attr_types.specs.declared.value.Value.{Value}
 use Rattle.value_index.specs.Indexes.{index_part, IsIndex, IsKey}
+use Rattle.attr_field.specs.Flows.{FlowsField}
 
 -- documents and an index to whose keys they refer, whatever its lists are
 pub record StandsField {H : Type 0} (kind : Kind) (type : ValueType) (ledger : Ledger H) (m : Records) (documents dictionary : ℕ)
@@ -25,6 +26,7 @@ pub record StepsField {H : Type 0} (kind : Kind) (type : ValueType) (old new : L
     (column : Column) (next_documents next_dictionary : ℕ) : Type 0 where
   pub stands : StandsField kind type new n next_documents next_dictionary
   pub column_is : column_at kind type n next_documents ≡ column
+  pub flows : FlowsField kind type old m n documents dictionary next_documents next_dictionary
   pub turns : Turns old new m n (documents_part kind documents ∷ index_part dictionary ∷ [])
       (documents_part kind next_documents ∷ index_part next_dictionary ∷ [])
 

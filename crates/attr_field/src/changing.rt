@@ -1,15 +1,17 @@
-ghost use Rattle.std.specs.Prelude.{◌≡◌, ◌∷◌, [], true, IsSome, Some, None, IfOk, IfErr};
+ghost use Rattle.std.specs.Prelude.{◌≡◌, ℕ, ◌∷◌, [], true, IsSome, Some, None, IfOk, IfErr};
 ghost use Rattle.std.specs.BTreeMap.{is_at};
 ghost use Rattle.std.specs.Map.{lookup};
 ghost use Rattle.std.specs.Ordering.{nat_cmp};
 ghost use Rattle.store_api.specs.Parts.{Owns};
 ghost use Rattle.store_api.specs.Units.{MayDo};
 ghost use Rattle.attr_field.specs.Changes.{MakesField};
+ghost use Rattle.attr_field.specs.Counts.{field_nodes, field_records, low_nodes, StaysLow};
 ghost use Rattle.attr_field.specs.Fields.{field_part, IsField};
 ghost use Rattle.attr_images.specs.Documents.{column_at};
 ghost use Rattle.attr_index.specs.Changes.{first_weights};
 ghost use Rattle.attr_index.specs.Columns.{items_of, with_change};
 ghost use Rattle.attr_types.specs.Lawful.{ItemsFit};
+ghost use Rattle.attr_walks.specs.Counts.{MakesFew};
 ghost use Rattle.posting_store.specs.Changes.{RefusesSome};
 
 use crate::comparing::has_already;
@@ -45,6 +47,11 @@ fn put_weighed<const OFFSET_BITS: u32, S: Store<OFFSET_BITS>>(
         (S.records store.new) roots.entry.documents roots.entry.dictionary
         (with_change (column_at kind value_type (S.records store.old) roots.entry.documents) doc (Some items.now))
         next.documents next.dictionary) }
+    ensures counts { MakesFew (S.ledger store.old) (S.ledger store.new)
+        (field_nodes old.now.entries new.now.entries) (field_records old.now.entries new.now.entries) }
+    ensures low { (levels : ℕ) → StaysLow levels (column_at kind value_type (S.records store.old) roots.entry.documents) new.now.entries
+        → MakesFew (S.ledger store.old) (S.ledger store.new)
+        (low_nodes levels old.now.entries new.now.entries) (field_records old.now.entries new.now.entries) }
     ensures refuses { IfErr result (RefusesSome (S.ledger store.old) (S.ledger store.new)) }
     ensures may { MayDo (S.ledger store.old) (S.ledger store.new) }
 {
@@ -99,6 +106,13 @@ pub fn put<const OFFSET_BITS: u32, S: Store<OFFSET_BITS>>(
         (S.records store.new) roots.entry.documents roots.entry.dictionary
         (with_change (column_at kind value_type (S.records store.old) roots.entry.documents) doc (Some new.now))
         next.documents next.dictionary) }
+    ensures counts { MakesFew (S.ledger store.old) (S.ledger store.new)
+        (field_nodes (first_weights [] old.now) (first_weights [] new.now))
+        (field_records (first_weights [] old.now) (first_weights [] new.now)) }
+    ensures low { (levels : ℕ) → StaysLow levels (column_at kind value_type (S.records store.old) roots.entry.documents) (first_weights [] new.now)
+        → MakesFew (S.ledger store.old) (S.ledger store.new)
+        (low_nodes levels (first_weights [] old.now) (first_weights [] new.now))
+        (field_records (first_weights [] old.now) (first_weights [] new.now)) }
     ensures refuses { IfErr result (RefusesSome (S.ledger store.old) (S.ledger store.new)) }
     ensures may { MayDo (S.ledger store.old) (S.ledger store.new) }
 {
@@ -157,6 +171,11 @@ fn remove_weighed<const OFFSET_BITS: u32, S: Store<OFFSET_BITS>>(
         (S.records store.new) roots.entry.documents roots.entry.dictionary
         (with_change (column_at kind value_type (S.records store.old) roots.entry.documents) doc None)
         next.documents next.dictionary) }
+    ensures counts { MakesFew (S.ledger store.old) (S.ledger store.new)
+        (field_nodes old.now.entries []) (field_records old.now.entries []) }
+    ensures low { (levels : ℕ) → StaysLow levels (column_at kind value_type (S.records store.old) roots.entry.documents) []
+        → MakesFew (S.ledger store.old) (S.ledger store.new)
+        (low_nodes levels old.now.entries []) (field_records old.now.entries []) }
     ensures refuses { IfErr result (RefusesSome (S.ledger store.old) (S.ledger store.new)) }
     ensures may { MayDo (S.ledger store.old) (S.ledger store.new) }
 {
@@ -207,6 +226,11 @@ pub fn remove<const OFFSET_BITS: u32, S: Store<OFFSET_BITS>>(
         (S.records store.new) roots.entry.documents roots.entry.dictionary
         (with_change (column_at kind value_type (S.records store.old) roots.entry.documents) doc None)
         next.documents next.dictionary) }
+    ensures counts { MakesFew (S.ledger store.old) (S.ledger store.new)
+        (field_nodes (first_weights [] old.now) []) (field_records (first_weights [] old.now) []) }
+    ensures low { (levels : ℕ) → StaysLow levels (column_at kind value_type (S.records store.old) roots.entry.documents) []
+        → MakesFew (S.ledger store.old) (S.ledger store.new)
+        (low_nodes levels (first_weights [] old.now) []) (field_records (first_weights [] old.now) []) }
     ensures refuses { IfErr result (RefusesSome (S.ledger store.old) (S.ledger store.new)) }
     ensures may { MayDo (S.ledger store.old) (S.ledger store.new) }
 {

@@ -1,6 +1,6 @@
 //! The steps of a change: the index gets the document's new values, the documents its new items, and the index loses its
 //! old values.
-ghost use Rattle.std.specs.Prelude.{◌≡◌, ◌<◌, ◌∷◌, [], true, length, IsSome, None, Some, IfOk, IfErr};
+ghost use Rattle.std.specs.Prelude.{◌≡◌, ℕ, ◌+◌, ◌*◌, ◌^◌, ◌<◌, ◌∷◌, [], true, length, IsSome, None, Some, IfOk, IfErr};
 ghost use Rattle.std.specs.BTreeMap.{get, is_at};
 ghost use Rattle.std.specs.List.{AllByRecursion};
 ghost use Rattle.std.specs.Map.{keys_of as values_in, lookup};
@@ -15,6 +15,7 @@ ghost use Rattle.attr_index.specs.Index.{Index, IsIndexOf, list_of};
 ghost use Rattle.attr_types.specs.Lawful.{ItemsFit};
 ghost use Rattle.attr_types.specs.Value.{value_cmp, AreOfType};
 ghost use Rattle.attr_types.specs.declared.value.Value.{Value as OneValue};
+ghost use Rattle.attr_walks.specs.Counts.{added_count, gone_count, value_nodes, AddsLow, MakesFew, RemovesLow};
 ghost use Rattle.posting_store.specs.Changes.{RefusesSome};
 
 use crate::keys::keys_of;
@@ -49,6 +50,12 @@ pub fn add_values<const OFFSET_BITS: u32, S: Store<OFFSET_BITS>>(
         (column_at kind value_type (S.records store.old) documents.entry) documents.entry next) }
     ensures between { IfOk result (λ next. IsBetween (index_of value_type (S.records store.old) dictionary.entry) doc
         (get value_cmp new.now) (λ value. None) (index_of value_type (S.records store.new) next)) }
+    ensures counts { MakesFew (S.ledger store.old) (S.ledger store.new)
+        (34 * added_count (get value_cmp old.now) new.now.entries) (2 * added_count (get value_cmp old.now) new.now.entries) }
+    ensures low { (levels : ℕ) → AddsLow levels (index_of value_type (S.records store.old) dictionary.entry) doc new.now.entries
+        → MakesFew (S.ledger store.old) (S.ledger store.new)
+        (value_nodes levels * added_count (get value_cmp old.now) new.now.entries)
+        (2 * added_count (get value_cmp old.now) new.now.entries) }
     ensures refuses { IfErr result (RefusesSome (S.ledger store.old) (S.ledger store.new)) }
     ensures may { MayDo (S.ledger store.old) (S.ledger store.new) }
 {
@@ -82,6 +89,9 @@ pub fn set_items<const OFFSET_BITS: u32, S: Store<OFFSET_BITS>>(
         (with_change (column_at kind value_type (S.records store.old) documents.entry) doc (Some items.now)) next dictionary.entry) }
     ensures index { IfOk result (λ next. index_of value_type (S.records store.new) dictionary.entry
         ≡ index_of value_type (S.records store.old) dictionary.entry) }
+    ensures counts { MakesFew (S.ledger store.old) (S.ledger store.new) 17 1 }
+    ensures low { (levels : ℕ) → 0 < levels → length (column_at kind value_type (S.records store.old) documents.entry) < 2 * 8 ^ levels
+        → MakesFew (S.ledger store.old) (S.ledger store.new) (2 * levels + 1) 1 }
     ensures refuses { IfErr result (RefusesSome (S.ledger store.old) (S.ledger store.new)) }
     ensures may { MayDo (S.ledger store.old) (S.ledger store.new) }
 {
@@ -120,6 +130,9 @@ pub fn take_out<const OFFSET_BITS: u32, S: Store<OFFSET_BITS>>(
         (with_change (column_at kind value_type (S.records store.old) documents.entry) doc None) next dictionary.entry) }
     ensures index { IfOk result (λ next. index_of value_type (S.records store.new) dictionary.entry
         ≡ index_of value_type (S.records store.old) dictionary.entry) }
+    ensures counts { MakesFew (S.ledger store.old) (S.ledger store.new) 17 1 }
+    ensures low { (levels : ℕ) → 0 < levels → length (column_at kind value_type (S.records store.old) documents.entry) < 2 * 8 ^ levels
+        → MakesFew (S.ledger store.old) (S.ledger store.new) (2 * levels + 1) 1 }
     ensures refuses { IfErr result (RefusesSome (S.ledger store.old) (S.ledger store.new)) }
     ensures may { MayDo (S.ledger store.old) (S.ledger store.new) }
 {
@@ -155,6 +168,12 @@ pub fn remove_values<const OFFSET_BITS: u32, S: Store<OFFSET_BITS>>(
         (column_at kind value_type (S.records store.old) documents.entry) documents.entry next) }
     ensures index { IfOk result (λ next. IsIndexOf (column_at kind value_type (S.records store.old) documents.entry)
         (index_of value_type (S.records store.new) next)) }
+    ensures counts { MakesFew (S.ledger store.old) (S.ledger store.new)
+        (34 * gone_count (get value_cmp new.now) old.now.entries) (gone_count (get value_cmp new.now) old.now.entries) }
+    ensures low { (levels : ℕ)
+        → RemovesLow levels (index_of value_type (S.records store.old) dictionary.entry) doc (get value_cmp new.now) old.now.entries
+        → MakesFew (S.ledger store.old) (S.ledger store.new)
+        (value_nodes levels * gone_count (get value_cmp new.now) old.now.entries) (gone_count (get value_cmp new.now) old.now.entries) }
     ensures refuses { IfErr result (RefusesSome (S.ledger store.old) (S.ledger store.new)) }
     ensures may { MayDo (S.ledger store.old) (S.ledger store.new) }
 {

@@ -17,8 +17,10 @@ use Rattle.attr_types.specs.Value.{value_cmp, type_of, AreOfType}
 use Rattle.attr_types.specs.declared.kind.ValueType.{ValueType}
 use Rattle.attr_types.specs.declared.value.Value.{Value}
 use Rattle.value_index.specs.Changes.{KeepsKeys, MakesIndex}
+use Rattle.value_index.specs.Flows.{FlowsIndex}
 use Rattle.value_index.specs.Indexes.{index_part, IsIndex}
 use Rattle.value_index.specs.Laws.{KeyIsRead}
+use Rattle.value_index.proofs.IndexFlows.{flows_same, flows_then}
 use Rattle.attr_walks.specs.Walks.{WalksIndex}
 use Rattle.attr_walks.proofs.KeyLemmas.{typed_at, keeps_same, keeps_then, settled_long}
 
@@ -28,6 +30,7 @@ pub record AddsSoFar {H : Type 0} (type : ValueType) (begun now : Ledger H) (k m
   pub index_is : IsIndex type m root
   pub walk : IsWalk (index_of type k first) doc entries rest (index_of type m root)
   pub keys : KeepsKeys type k m first root
+  pub flows : FlowsIndex type begun k m first root
   pub owns : Owns now m (index_part root ∷ [])
   pub turns : Turns begun now k m (index_part first ∷ []) (index_part root ∷ [])
   pub may : MayDo begun now
@@ -40,6 +43,7 @@ module _ {H : Type 0} (type : ValueType) (begun : Ledger H) (k : Records) (first
     index_is = index;
     walk = record { done = []; joins = is; between = record { formed = formed; lists = λ v. refl } };
     keys = keeps_same type k first;
+    flows = flows_same type begun k first;
     owns = owns;
     turns = turns-same begun k (index_part first ∷ []);
     may = may_do-same begun;
@@ -61,6 +65,7 @@ module _ {H : Type 0} (type : ValueType) (begun : Ledger H) (k : Records) (first
       keys = keeps_then type k m n first root next p.keys makes.keys
           (λ ref key listed. subst (λ docs. 0 < length docs) (sym (p.walk.between.lists (stored_value type k ref)))
           (settled_long (lookup (is_at (value_cmp (stored_value type k ref))) p.walk.done) doc (list_of (stored_value type k ref) (index_of type k first)) (read type k first ref index key).filled));
+      flows = flows_then type begun now k m n first root next p.may p.flows makes.flows;
       owns = makes.owns;
       turns = turns-then begun now new k m n (index_part first ∷ []) (index_part root ∷ []) (index_part next ∷ []) p.turns makes.turns;
       may = may_do-then begun now new p.may may;
@@ -72,6 +77,7 @@ module _ {H : Type 0} (type : ValueType) (begun : Ledger H) (k : Records) (first
       index_is = p.index_is;
       walk = walk_same (index_of type k first) doc entries rest more value weight (index_of type m root) (index_of type m root) up p.walk is refl had;
       keys = p.keys;
+      flows = p.flows;
       owns = p.owns;
       turns = p.turns;
       may = p.may;
@@ -83,6 +89,7 @@ module _ {H : Type 0} (type : ValueType) (begun : Ledger H) (k : Records) (first
     index_is = p.index_is;
     between = walk_ends (index_of type k first) doc entries rest (index_of type m root) p.walk is;
     keys = p.keys;
+    flows = p.flows;
     owns = p.owns;
     turns = p.turns;
   }

@@ -1,3 +1,5 @@
 pub mod KeyLemmas
+pub mod CountLemmas
 pub mod AddLemmas
 pub mod RemoveLemmas
+pub mod LevelLemmas

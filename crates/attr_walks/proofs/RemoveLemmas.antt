@@ -18,7 +18,9 @@ use Rattle.attr_types.specs.Value.{value_cmp, type_of, AreOfType}
 use Rattle.attr_types.specs.declared.kind.ValueType.{ValueType}
 use Rattle.attr_types.specs.declared.value.Value.{Value}
 use Rattle.value_index.specs.Changes.{KeepsKeys, MakesIndex}
+use Rattle.value_index.specs.Flows.{FlowsIndex}
 use Rattle.value_index.specs.Indexes.{index_part, IsIndex}
+use Rattle.value_index.proofs.IndexFlows.{flows_same, flows_then}
 use Rattle.attr_walks.specs.Walks.{WalksIndex}
 use Rattle.attr_walks.proofs.KeyLemmas.{typed_at, keeps_same, keeps_then, without_long}
 
@@ -29,6 +31,7 @@ pub record RemovesSoFar {H : Type 0} (type : ValueType) (begun now : Ledger H) (
   pub index_is : IsIndex type m root
   pub walk : IsWalkBack (index_of type k first) doc added entries rest (index_of type m root)
   pub keys : KeepsKeys type k m first root
+  pub flows : FlowsIndex type begun k m first root
   pub owns : Owns now m (index_part root ∷ [])
   pub turns : Turns begun now k m (index_part first ∷ []) (index_part root ∷ [])
   pub may : MayDo begun now
@@ -51,6 +54,7 @@ module _ {H : Type 0} (type : ValueType) (begun : Ledger H) (k : Records) (first
     index_is = index;
     walk = back_begins (index_of type k first) doc added entries rest is formed has;
     keys = keeps_same type k first;
+    flows = flows_same type begun k first;
     owns = owns;
     turns = turns-same begun k (index_part first ∷ []);
     may = may_do-same begun;
@@ -75,6 +79,7 @@ module _ {H : Type 0} (type : ValueType) (begun : Ledger H) (k : Records) (first
       keys = keeps_then type k m n first root next p.keys makes.keys
           (λ ref key listed. without_long value doc (index_of type m root) p.walk.between.formed (stored_value type k ref)
           (subst (λ index. 0 < length (list_of (stored_value type k ref) index)) makes.reads_as listed));
+      flows = flows_then type begun now k m n first root next p.may p.flows makes.flows;
       owns = makes.owns;
       turns = turns-then begun now new k m n (index_part first ∷ []) (index_part root ∷ []) (index_part next ∷ []) p.turns makes.turns;
       may = may_do-then begun now new p.may may;
@@ -86,6 +91,7 @@ module _ {H : Type 0} (type : ValueType) (begun : Ledger H) (k : Records) (first
       index_is = p.index_is;
       walk = back_stay (index_of type k first) doc added entries rest more value weight (index_of type m root) (index_of type m root) up p.walk is other refl stays;
       keys = p.keys;
+      flows = p.flows;
       owns = p.owns;
       turns = p.turns;
       may = p.may;
@@ -97,6 +103,7 @@ module _ {H : Type 0} (type : ValueType) (begun : Ledger H) (k : Records) (first
     index_is = p.index_is;
     between = back_ends (index_of type k first) doc added entries rest (index_of type m root) p.walk is;
     keys = p.keys;
+    flows = p.flows;
     owns = p.owns;
     turns = p.turns;
   }

@@ -8,6 +8,7 @@ use Rattle.attr_index.specs.Changes.{IsBetween}
 use Rattle.attr_types.specs.declared.kind.ValueType.{ValueType}
 use Rattle.attr_types.specs.declared.value.Value.{Value}
 use Rattle.value_index.specs.Changes.{KeepsKeys}
+use Rattle.value_index.specs.Flows.{FlowsIndex}
 use Rattle.value_index.specs.Indexes.{index_part, IsIndex}
 
 -- an index was made in place of another: its lists have the document with the weights added, and not with those that were removed
@@ -16,5 +17,6 @@ pub record WalksIndex {H : Type 0} (type : ValueType) (old new : Ledger H) (m n 
   pub index_is : IsIndex type n next
   pub between : IsBetween (index_of type m root) doc added removed (index_of type n next)
   pub keys : KeepsKeys type m n root next
+  pub flows : FlowsIndex type old m n root next
   pub owns : Owns new n (index_part next ∷ [])
   pub turns : Turns old new m n (index_part root ∷ []) (index_part next ∷ [])

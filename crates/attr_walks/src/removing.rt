@@ -1,4 +1,4 @@
-ghost use Rattle.std.specs.Prelude.{◌≡◌, ◌∷◌, [], true, IfOk, IfErr};
+ghost use Rattle.std.specs.Prelude.{◌≡◌, ℕ, ◌*◌, ◌∷◌, [], true, IfOk, IfErr};
 ghost use Rattle.std.specs.BTreeMap.{get, is_at};
 ghost use Rattle.std.specs.Map.{keys_of, lookup};
 ghost use Rattle.std.specs.Ordering.{nat_cmp};
@@ -11,6 +11,7 @@ ghost use Rattle.attr_types.specs.Value.{value_cmp, AreOfType};
 ghost use Rattle.attr_types.specs.declared.value.Value.{Value as OneValue};
 ghost use Rattle.posting_store.specs.Changes.{RefusesSome};
 ghost use Rattle.value_index.specs.Indexes.{index_part, IsIndex};
+ghost use Rattle.attr_walks.specs.Counts.{gone_count, value_nodes, MakesFew, RemovesLow};
 ghost use Rattle.attr_walks.specs.Walks.{WalksIndex};
 
 use attr_types::{Doc, Value, ValueType};
@@ -37,6 +38,12 @@ pub fn remove_all<const OFFSET_BITS: u32, S: Store<OFFSET_BITS>>(
         ≡ or_else (get value_cmp new.now value) (get value_cmp old.now value) }
     ensures makes { IfOk result (WalksIndex value_type (S.ledger store.old) (S.ledger store.new) (S.records store.old) (S.records store.new)
         root.entry doc (get value_cmp new.now) (get value_cmp old.now)) }
+    ensures counts { MakesFew (S.ledger store.old) (S.ledger store.new)
+        (34 * gone_count (get value_cmp new.now) old.now.entries) (gone_count (get value_cmp new.now) old.now.entries) }
+    ensures low { (levels : ℕ)
+        → RemovesLow levels (index_of value_type (S.records store.old) root.entry) doc (get value_cmp new.now) old.now.entries
+        → MakesFew (S.ledger store.old) (S.ledger store.new)
+        (value_nodes levels * gone_count (get value_cmp new.now) old.now.entries) (gone_count (get value_cmp new.now) old.now.entries) }
     ensures refuses { IfErr result (RefusesSome (S.ledger store.old) (S.ledger store.new)) }
     ensures may { MayDo (S.ledger store.old) (S.ledger store.new) }
 {

@@ -1,5 +1,5 @@
 -- What callers see of a commit.
-use Rattle.std.proofs.Common.{◌≡◌, ℕ, ◌<◌, List, Result, Err, sym, ap, ◌∙◌}
+use Rattle.std.proofs.Common.{◌≡◌, ℕ, ◌+◌, ◌*◌, ◌<◌, List, length, Result, Err, sym, ap, ◌∙◌}
 use Rattle.image_base.specs.Images.{words_at}
 use Rattle.image_base.specs.Records.{Records}
 use Rattle.arena_api.specs.Works.{last_image}
@@ -10,9 +10,10 @@ use Rattle.store_api.specs.declared.store.StoreError.TheVariants.{Full, Memory}
 use Rattle.attr_field.specs.declared.roots.FieldRoots.{FieldRoots}
 use Rattle.attr_images.specs.Images.{table_of}
 use Rattle.attr_images.specs.Shapes.{shape_of, types_of}
+use Rattle.attr_images.specs.Words.{class_of}
 use Rattle.attr_types.specs.declared.field.Field.{Field}
-use Rattle.attribute_kinds.specs.Calls.{CommitsImage, RefusesCommit}
-use Rattle.attribute_kinds.specs.Commits.{CommitsAttributes, RefusesRoot}
+use Rattle.attribute_kinds.specs.Calls.{CommitsImage, IsForRoot, RefusesCommit}
+use Rattle.attribute_kinds.specs.Commits.{CommitsAttributes, IsForWidth, RefusesRoot}
 use Rattle.attribute_kinds.specs.Fields.{trees_of}
 use Rattle.attribute_kinds.specs.Refusals.{refusal_of}
 use Rattle.attribute_kinds.specs.Standing.{StandsAttribute}
@@ -27,6 +28,10 @@ spent_same a b e = ap (λ n. Err (CommitsSpent n)) e
 pub refuses_commit : {H : Type 0} (old new : Ledger H) (e : StoreError) → old.work.commits.last < old.work.sizes.commits → RefusesRoot old new e → RefusesCommit old new (refusal_of e)
 refuses_commit old new (Full width active held oldest) left refuses = record { left = left; room = refuses.0; spare = refuses.1; before = refuses.2 }
 refuses_commit old new Memory left refuses = tt
+
+pub for_root : (fields : List Field) (e : StoreError) → IsForWidth (class_of (1 + 2 * length fields)) e → IsForRoot fields (refusal_of e)
+for_root fields (Full width active held oldest) is = is
+for_root fields Memory is = tt
 
 module _ {H : Type 0} {bits : ℕ} (old new : Ledger H) (m n : Records) (fields : List Field) (roots : List (FieldRoots bits)) (operations before commit published root : ℕ) (answer : Stored)
     (stands : StandsAttribute old m fields roots before commit published) (commits : CommitsAttributes bits fields (trees_of fields roots) operations old new m n root answer) where

@@ -100,7 +100,7 @@ module _ {bits : ℕ} {H : Type 0} (begun now : Ledger H) (k m : Records) (field
   at_tree : slice_get (trees_of fields roots) i ≡ Some (trees_of_field field root)
   at_tree = tree_get fields roots i field root at_field at_root
 
-  column_is : column_in m (trees_of_field field root) ≡ column_of i (table_at k (trees_of fields first))
+  pub column_is : column_in m (trees_of_field field root) ≡ column_of i (table_at k (trees_of fields first))
   column_is = way.partly.rest i (trees_of_field field root) (omega arith) at_tree
 
   module _ (there : old ≡ document_at (table_at k (trees_of fields first)) doc) (gone : IfNone new (IsSome old)) (fits : IfSome new (FitsFields fields))

@@ -3,12 +3,14 @@ pub mod PartLists
 pub mod Columns
 pub mod Walk
 pub mod FieldSteps
+pub mod CountLemmas
 pub mod Reading
 pub mod Units
 pub mod StepLemmas
 pub mod Holding
 pub mod Committing
 pub mod ApplyLemmas
+pub mod RoomLemmas
 pub mod Opening
 pub mod RootLemmas
 pub mod CommitLemmas

@@ -6,6 +6,7 @@ use Rattle.image_base.specs.Records.{Records, SameAt}
 use Rattle.arena_api.specs.Works.{Sizes, free_count}
 use Rattle.attr_field.specs.declared.roots.FieldRoots.{FieldRoots}
 use Rattle.attr_images.specs.Tables.{AttributeTrees}
+use Rattle.attr_images.specs.Words.{class_of}
 use Rattle.attr_types.specs.declared.field.Field.{Field}
 use Rattle.array_store.specs.Adding.{AddsRecord}
 use Rattle.store_api.specs.Calls.{Accepts, Undoes, Refuses}
@@ -17,7 +18,7 @@ use Rattle.store_api.specs.declared.store.StoreError.TheVariants.{Full, Memory}
 use Rattle.store_api.proofs.PartLemmas.{after, owns-some, turns-then}
 use Rattle.store_api.proofs.UnitLemmas.{unit-accepts, accept-stays}
 use Rattle.attribute_kinds.specs.Calls.{RefusesUnit}
-use Rattle.attribute_kinds.specs.Commits.{MakesRoot, RefusesRoot, roots_listed}
+use Rattle.attribute_kinds.specs.Commits.{IsForWidth, MakesRoot, RefusesRoot, roots_listed}
 use Rattle.attribute_kinds.specs.Fields.{root_entries, trees_of}
 use Rattle.attribute_kinds.proofs.TreeLists.{some_is}
 use Rattle.attribute_kinds.proofs.Units.{refused_unit}
@@ -140,3 +141,15 @@ refuses_root old mid new m o width (Full w active held oldest) is settled refuse
     let back = undoes.spare w in
     (unit, omega arith, none_before old mid before after sizes none_made refuses.1.free)
 refuses_root old mid new m o width Memory is settled refuses none_made undoes before after sizes = tt
+
+-- and the width is that of the root record
+pub for_width : {H : Type 0} (begun mid : Ledger H) (width : ℕ) (e : StoreError) → Refuses begun mid width e → IsForWidth width e
+for_width begun mid width (Full w active held oldest) refuses = refuses.0
+for_width begun mid width Memory refuses = tt
+
+pub for_fields : {bits : ℕ} (fields : List Field) (roots : List (FieldRoots bits)) (operations : ℕ) (e : StoreError) → length roots ≡ length fields
+    → IsForWidth (class_of (length (operations ∷ roots_listed roots))) e → IsForWidth (class_of (1 + 2 * length fields)) e
+for_fields fields roots operations e sized is =
+    let words = listed_size roots in
+    let same : length (operations ∷ roots_listed roots) ≡ 1 + 2 * length fields = omega (arith, words, sized) in
+    subst (λ n. IsForWidth (class_of n) e) same is

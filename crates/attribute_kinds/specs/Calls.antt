@@ -1,5 +1,5 @@
 -- What an operation and a commit make of attributes, and what a refusal leaves.
-use Rattle.std.specs.Prelude.{◌≡◌, ℕ, ◌+◌, ◌<◌, ◌≤◌, true, false, if◌then◌else◌, List, length}
+use Rattle.std.specs.Prelude.{◌≡◌, ℕ, ◌+◌, ◌*◌, ◌<◌, ◌≤◌, true, false, if◌then◌else◌, List, length}
 use Rattle.image_base.specs.declared.Image.{Image}
 use Rattle.image_base.specs.Images.{words_at}
 use Rattle.image_base.specs.Records.{Records}
@@ -15,6 +15,7 @@ use Rattle.attr_changes.specs.declared.applied.Applied.{Applied}
 use Rattle.attr_changes.specs.declared.applied.Applied.TheVariants.{Changed, Skipped}
 use Rattle.attr_images.specs.Images.{IsLawfulImage, table_of, operations_at}
 use Rattle.attr_images.specs.Shapes.{shape_of, types_of}
+use Rattle.attr_images.specs.Words.{class_of}
 use Rattle.attr_types.specs.Table.{Table, is_skipped}
 use Rattle.attr_types.specs.declared.field.Field.{Field}
 use Rattle.attr_types.specs.declared.op.Op.{Op}
@@ -86,6 +87,12 @@ abbrev pub RefusesCommit : {H : Type 0} → Ledger H → Ledger H → AttrError 
 RefusesCommit old new (Full width active held oldest) = IsFullCommit old new width active held oldest
 RefusesCommit old new (CommitsSpent commit) = IsSpent old commit
 RefusesCommit old new Memory = Unit {0}
+
+-- where the store was full it was so for the root record: the operations, and two roots of each attribute
+abbrev pub IsForRoot : List Field → AttrError → Type 0
+IsForRoot fields (Full width active held oldest) = width ≡ class_of (1 + 2 * length fields)
+IsForRoot fields (CommitsSpent commit) = Unit {0}
+IsForRoot fields Memory = Unit {0}
 
 -- an image was committed: after a unit in which its root record was made, as the store commits it
 pub record CommitsImage {H : Type 0} (bits : ℕ) (old new : Ledger H) (image : Image) (info : CommitInfo) : Type 0 where

@@ -37,6 +37,11 @@ RefusesRoot old new (errors.Full width active held oldest) = IsOutOfRoom old new
     × (free_count old.work.buffer old.work.sizes.buffers ≡ 0)
 RefusesRoot old new errors.Memory = Unit {0}
 
+-- a full store is told for this width
+abbrev pub IsForWidth : ℕ → StoreError → Type 0
+IsForWidth width (errors.Full other active held oldest) = other ≡ width
+IsForWidth width errors.Memory = Unit {0}
+
 -- attributes were committed, after so many operations: the last image is of them, and they are all that is in use
 pub record CommitsAttributes {H : Type 0} (bits : ℕ) (fields : List Field) (trees : List AttributeTrees) (operations : ℕ)
     (old new : Ledger H) (m n : Records) (root : ℕ) (answer : Stored) : Type 0 where

@@ -10,7 +10,8 @@ ghost use Rattle.attr_types.specs.Table.{after_op};
 ghost use Rattle.attr_types.specs.declared.field.TheConstants.{MOST_FIELDS};
 ghost use Rattle.attribute_kinds.specs.Fields.{no_roots};
 ghost use Rattle.attribute_kinds.specs.Calls.{applied_to, KeepsStore, LeavesEntries, RefusesOperation};
-ghost use Rattle.attribute_kinds.specs.Calls.{RefusesCommit, CommitsImage, HasCommit};
+ghost use Rattle.attribute_kinds.specs.Calls.{RefusesCommit, CommitsImage, HasCommit, IsForRoot};
+ghost use Rattle.attribute_kinds.specs.Counts.{LacksBuffers, MakesOperation, SparesOf};
 
 use crate::answers::{AttrError, CommitInfo, Published, refusal};
 use crate::commit::commit_attributes;
@@ -160,12 +161,16 @@ impl<const OFFSET_BITS: u32, S: Store<OFFSET_BITS, Layout = AttrLayout>> Attribu
         ensures entries { OnErr result (LeavesEntries (S.ledger self.old.store) (S.ledger self.new.store)
             (S.records self.old.store) (S.records self.new.store)) }
         ensures refused { IfErr result (RefusesOperation (S.ledger self.old.store) (S.ledger self.new.store)) }
+        ensures counts { MakesOperation (S.ledger self.old.store) (S.ledger self.new.store) self.old.fields self.old.table op.now }
+        ensures spares { IfErr result (SparesOf (S.ledger self.new.store) self.old.fields self.old.table op.now) }
+        ensures room { IfErr result (LacksBuffers (S.ledger self.old.store) self.old.fields) }
         ensures keeps { KeepsStore (S.ledger self.old.store) (S.ledger self.new.store) }
         ensures fields { self.new.fields ≡ self.old.fields }
         ensures root { self.new.root ≡ self.old.root }
         ensures committed { self.new.committed ≡ self.old.committed }
         ensures published { self.new.committed_operations ≡ self.old.committed_operations }
     {
+        field_law();
         match step(
             alloc,
             &mut self.store,
@@ -206,6 +211,7 @@ impl<const OFFSET_BITS: u32, S: Store<OFFSET_BITS, Layout = AttrLayout>> Attribu
             (S.records self.old.store) (S.records self.new.store)) }
         ensures keeps { OnErr result (KeepsStore (S.ledger self.old.store) (S.ledger self.new.store)) }
         ensures refused { IfErr result (RefusesCommit (S.ledger self.old.store) (S.ledger self.new.store)) }
+        ensures width { IfErr result (IsForRoot self.old.fields) }
         ensures spent { (S.ledger self.old.store).work.commits.last ≡ (S.ledger self.old.store).work.sizes.commits
             → result ≡ Err (AttrError.CommitsSpent (S.ledger self.old.store).work.commits.last) }
     {

@@ -1,9 +1,10 @@
 //! Attributes committed: their root record is made, and the store commits what it reaches.
-ghost use Rattle.std.specs.Prelude.{◌≡◌, ◌<◌, ◌≤◌, length, IfOk, IfErr, OnErr};
+ghost use Rattle.std.specs.Prelude.{◌≡◌, ◌+◌, ◌*◌, ◌<◌, ◌≤◌, length, IfOk, IfErr, OnErr};
 ghost use Rattle.attr_images.specs.Shapes.{shape_of, types_of};
+ghost use Rattle.attr_images.specs.Words.{class_of};
 ghost use Rattle.attr_types.specs.declared.field.TheConstants.{MOST_FIELDS};
 ghost use Rattle.attribute_kinds.specs.Calls.{KeepsStore, LeavesEntries};
-ghost use Rattle.attribute_kinds.specs.Commits.{CommitsAttributes, RefusesRoot};
+ghost use Rattle.attribute_kinds.specs.Commits.{CommitsAttributes, IsForWidth, RefusesRoot};
 ghost use Rattle.attribute_kinds.specs.Fields.{HoldsAttributes, trees_of};
 
 use crate::root::root_unit;
@@ -32,6 +33,7 @@ pub fn commit_attributes<const OFFSET_BITS: u32, S: Store<OFFSET_BITS, Layout = 
         (S.ledger store.old) (S.ledger store.new) (S.records store.old) (S.records store.new) made.0 made.1) }
     ensures left { OnErr result (LeavesEntries (S.ledger store.old) (S.ledger store.new) (S.records store.old) (S.records store.new)) }
     ensures refused { IfErr result (RefusesRoot (S.ledger store.old) (S.ledger store.new)) }
+    ensures width { IfErr result (IsForWidth (class_of (1 + 2 * length fields.now))) }
     ensures keeps { OnErr result (KeepsStore (S.ledger store.old) (S.ledger store.new)) }
 {
     field_law();

@@ -1,5 +1,5 @@
 //! One document of all attributes, read and changed.
-ghost use Rattle.std.specs.Prelude.{◌≡◌, ◌<◌, ◌∷◌, [], true, length, IsSome, IfOk, IfErr, OnOk};
+ghost use Rattle.std.specs.Prelude.{◌≡◌, ℕ, ◌<◌, ◌∷◌, [], true, length, IsSome, IfOk, IfErr, OnOk};
 ghost use Rattle.std.specs.Prelude.{IfSome, IfNone, option_copied, option_map, unwrap_or};
 ghost use Rattle.std.specs.BTreeMap.{is_at};
 ghost use Rattle.std.specs.Map.{lookup};
@@ -9,11 +9,15 @@ ghost use Rattle.store_api.specs.Units.{MayDo};
 ghost use Rattle.attr_field.specs.Changes.{MakesField};
 ghost use Rattle.attr_field.specs.Fields.{field_part, IsField};
 ghost use Rattle.attr_images.specs.Documents.{column_at};
+ghost use Rattle.attr_field.specs.Counts.{field_nodes, field_records, low_nodes, StaysLow};
+ghost use Rattle.attr_index.specs.Changes.{first_weights};
 ghost use Rattle.attr_index.specs.Columns.{items_of as items_had, with_change};
 ghost use Rattle.attr_types.specs.Lawful.{IsDocNumber, ItemsFit};
 ghost use Rattle.attr_types.specs.Query.{items_in};
 ghost use Rattle.attr_types.specs.Table.{document_at};
+ghost use Rattle.attr_walks.specs.Counts.{MakesFew};
 ghost use Rattle.posting_store.specs.Changes.{RefusesSome};
+ghost use Rattle.attribute_kinds.specs.Counts.{MakesDocument};
 ghost use Rattle.attribute_kinds.specs.Fields.{AreFields, ChangesFields, FitsFields, parts_of, trees_of};
 ghost use Rattle.attribute_kinds.specs.Views.{table_at};
 
@@ -94,6 +98,15 @@ fn change_field<const OFFSET_BITS: u32, S: Store<OFFSET_BITS>>(
         (S.records store.old) (S.records store.new) roots.entry.documents roots.entry.dictionary
         (with_change (column_at field.now.kind field.now.value (S.records store.old) roots.entry.documents) doc (option_copied new.entry))
         next.documents next.dictionary) }
+    ensures counts { MakesFew (S.ledger store.old) (S.ledger store.new)
+        (field_nodes (first_weights [] old.now) (first_weights [] (unwrap_or (option_copied new.entry) [])))
+        (field_records (first_weights [] old.now) (first_weights [] (unwrap_or (option_copied new.entry) []))) }
+    ensures low { (levels : ℕ)
+        → StaysLow levels (column_at field.now.kind field.now.value (S.records store.old) roots.entry.documents)
+        (first_weights [] (unwrap_or (option_copied new.entry) []))
+        → MakesFew (S.ledger store.old) (S.ledger store.new)
+        (low_nodes levels (first_weights [] old.now) (first_weights [] (unwrap_or (option_copied new.entry) [])))
+        (field_records (first_weights [] old.now) (first_weights [] (unwrap_or (option_copied new.entry) []))) }
     ensures refuses { IfErr result (RefusesSome (S.ledger store.old) (S.ledger store.new)) }
     ensures may { MayDo (S.ledger store.old) (S.ledger store.new) }
 {
@@ -136,6 +149,8 @@ fn change_each<const OFFSET_BITS: u32, S: Store<OFFSET_BITS>>(
     ensures changes { OnOk result (ChangesFields fields.now (S.ledger store.old) (S.ledger store.new)
         (S.records store.old) (S.records store.new)
         (trees_of fields.now roots.old) doc (option_copied new.entry) (trees_of fields.now roots.new)) }
+    ensures counts { MakesDocument (S.ledger store.old) (S.ledger store.new) (table_at (S.records store.old) (trees_of fields.now roots.old))
+        (option_copied old.entry) (option_copied new.entry) (length fields.now) }
     ensures refuses { IfErr result (RefusesSome (S.ledger store.old) (S.ledger store.new)) }
     ensures may { MayDo (S.ledger store.old) (S.ledger store.new) }
 {
@@ -171,6 +186,8 @@ pub fn change_document<const OFFSET_BITS: u32, S: Store<OFFSET_BITS>>(
     ensures changes { IfOk result (λ next. ChangesFields fields.now (S.ledger store.old) (S.ledger store.new)
         (S.records store.old) (S.records store.new)
         (trees_of fields.now roots.now) doc (option_copied new.entry) (trees_of fields.now next.items)) }
+    ensures counts { MakesDocument (S.ledger store.old) (S.ledger store.new) (table_at (S.records store.old) (trees_of fields.now roots.now))
+        (option_copied old.entry) (option_copied new.entry) (length fields.now) }
     ensures refuses { IfErr result (RefusesSome (S.ledger store.old) (S.ledger store.new)) }
     ensures may { MayDo (S.ledger store.old) (S.ledger store.new) }
 {

@@ -7,7 +7,7 @@ ghost use Rattle.store_api.specs.Parts.{Owns, Turns, entries};
 ghost use Rattle.store_api.specs.Units.{MayDo, MakesAtMost};
 ghost use Rattle.array_store.specs.Adding.{AddsRecord, AddsNothing};
 ghost use Rattle.attribute_kinds.specs.Calls.{KeepsStore, LeavesEntries};
-ghost use Rattle.attribute_kinds.specs.Commits.{MakesRoot, RefusesRoot, roots_listed};
+ghost use Rattle.attribute_kinds.specs.Commits.{IsForWidth, MakesRoot, RefusesRoot, roots_listed};
 ghost use Rattle.attribute_kinds.specs.Fields.{root_entries};
 
 use array_store::{class_law, make_record};
@@ -113,6 +113,7 @@ pub fn root_unit<const OFFSET_BITS: u32, S: Store<OFFSET_BITS>>(
         (operations ∷ roots_listed roots.now) before.entry) }
     ensures left { OnErr result (LeavesEntries (S.ledger store.old) (S.ledger store.new) (S.records store.old) (S.records store.new)) }
     ensures refused { IfErr result (RefusesRoot (S.ledger store.old) (S.ledger store.new)) }
+    ensures width { IfErr result (IsForWidth (class_of (length (operations ∷ roots_listed roots.now)))) }
     ensures keeps { KeepsStore (S.ledger store.old) (S.ledger store.new) }
 {
     class_law();

@@ -1,10 +1,11 @@
 //! One operation on the attributes.
-ghost use Rattle.std.specs.Prelude.{◌≡◌, false, length, IsSome, IfSome, IfNone, option_copied};
+ghost use Rattle.std.specs.Prelude.{◌≡◌, false, length, IsSome, IfErr, IfSome, IfNone, option_copied};
 ghost use Rattle.store_api.specs.Parts.{Owns};
 ghost use Rattle.attr_types.specs.Lawful.{IsDocNumber, OpFits};
 ghost use Rattle.attr_types.specs.Table.{document_at, updated, to_update};
 ghost use Rattle.attr_types.specs.declared.op.Op.TheVariants.{Put, Update, Remove};
 ghost use Rattle.attribute_kinds.specs.Calls.{KeepsStore};
+ghost use Rattle.attribute_kinds.specs.Counts.{MakesOperation, SparesOperation};
 ghost use Rattle.attribute_kinds.specs.Fields.{AreFields, FitsFields, parts_of, trees_of};
 ghost use Rattle.attribute_kinds.specs.Steps.{Stepped};
 ghost use Rattle.attribute_kinds.specs.Views.{table_at};
@@ -36,6 +37,10 @@ fn put_document<const OFFSET_BITS: u32, S: Store<OFFSET_BITS>>(
     requires fits { OpFits fields.now (Put doc items.now) }
     ensures steps { Stepped fields.now (S.ledger store.old) (S.ledger store.new) (S.records store.old) (S.records store.new)
         (trees_of fields.now roots.now) (Put doc items.now) (store.new ≡ store.old) result }
+    ensures counts { MakesOperation (S.ledger store.old) (S.ledger store.new) fields.now
+        (table_at (S.records store.old) (trees_of fields.now roots.now)) (Put doc items.now) }
+    ensures spares { IfErr result (SparesOperation (S.ledger store.new) fields.now
+        (table_at (S.records store.old) (trees_of fields.now roots.now)) (Put doc items.now)) }
     ensures keeps { KeepsStore (S.ledger store.old) (S.ledger store.new) }
 {
     let next = change_unit(alloc, store, fields, roots, doc, old, Some(items))?;
@@ -60,8 +65,13 @@ fn remove_document<const OFFSET_BITS: u32, S: Store<OFFSET_BITS>>(
     requires fits { OpFits fields.now (Remove doc) }
     ensures steps { Stepped fields.now (S.ledger store.old) (S.ledger store.new) (S.records store.old) (S.records store.new)
         (trees_of fields.now roots.now) (Remove doc) (store.new ≡ store.old) result }
+    ensures counts { MakesOperation (S.ledger store.old) (S.ledger store.new) fields.now
+        (table_at (S.records store.old) (trees_of fields.now roots.now)) (Remove doc) }
+    ensures spares { IfErr result (SparesOperation (S.ledger store.new) fields.now
+        (table_at (S.records store.old) (trees_of fields.now roots.now)) (Remove doc)) }
     ensures keeps { KeepsStore (S.ledger store.old) (S.ledger store.new) }
 {
+    field_law();
     if old.is_none() {
         return Ok(None);
     }
@@ -89,6 +99,10 @@ fn update_document<const OFFSET_BITS: u32, S: Store<OFFSET_BITS>>(
     requires fits { OpFits fields.now (Update doc create changes.now) }
     ensures steps { Stepped fields.now (S.ledger store.old) (S.ledger store.new) (S.records store.old) (S.records store.new)
         (trees_of fields.now roots.now) (Update doc create changes.now) (store.new ≡ store.old) result }
+    ensures counts { MakesOperation (S.ledger store.old) (S.ledger store.new) fields.now
+        (table_at (S.records store.old) (trees_of fields.now roots.now)) (Update doc create changes.now) }
+    ensures spares { IfErr result (SparesOperation (S.ledger store.new) fields.now
+        (table_at (S.records store.old) (trees_of fields.now roots.now)) (Update doc create changes.now)) }
     ensures keeps { KeepsStore (S.ledger store.old) (S.ledger store.new) }
 {
     field_law();
@@ -118,6 +132,10 @@ pub fn step<const OFFSET_BITS: u32, S: Store<OFFSET_BITS>>(
     requires fits { OpFits fields.now op.now }
     ensures steps { Stepped fields.now (S.ledger store.old) (S.ledger store.new) (S.records store.old) (S.records store.new)
         (trees_of fields.now roots.now) op.now (store.new ≡ store.old) result }
+    ensures counts { MakesOperation (S.ledger store.old) (S.ledger store.new) fields.now
+        (table_at (S.records store.old) (trees_of fields.now roots.now)) op.now }
+    ensures spares { IfErr result (SparesOperation (S.ledger store.new) fields.now
+        (table_at (S.records store.old) (trees_of fields.now roots.now)) op.now) }
     ensures keeps { KeepsStore (S.ledger store.old) (S.ledger store.new) }
 {
     let doc = op.doc();

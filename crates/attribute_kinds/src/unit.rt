@@ -4,6 +4,7 @@ ghost use Rattle.store_api.specs.Parts.{Owns};
 ghost use Rattle.attr_types.specs.Lawful.{IsDocNumber};
 ghost use Rattle.attr_types.specs.Table.{document_at};
 ghost use Rattle.attribute_kinds.specs.Calls.{KeepsStore, LeavesEntries, RefusesUnit};
+ghost use Rattle.attribute_kinds.specs.Counts.{document_nodes, document_records, MakesDocument, SparesAtMost};
 ghost use Rattle.attribute_kinds.specs.Fields.{AreFields, ChangesFields, FitsFields, parts_of, trees_of};
 ghost use Rattle.attribute_kinds.specs.Views.{table_at};
 
@@ -38,6 +39,11 @@ pub fn change_unit<const OFFSET_BITS: u32, S: Store<OFFSET_BITS>>(
         (trees_of fields.now roots.now) doc (option_copied new.entry) (trees_of fields.now next.items)) }
     ensures left { OnErr result (LeavesEntries (S.ledger store.old) (S.ledger store.new) (S.records store.old) (S.records store.new)) }
     ensures refused { IfErr result (RefusesUnit (S.ledger store.old) (S.ledger store.new)) }
+    ensures counts { MakesDocument (S.ledger store.old) (S.ledger store.new) (table_at (S.records store.old) (trees_of fields.now roots.now))
+        (option_copied old.entry) (option_copied new.entry) (length fields.now) }
+    ensures spares { IfErr result (SparesAtMost (S.ledger store.new)
+        (document_nodes (option_copied old.entry) (option_copied new.entry) (length fields.now))
+        (document_records (option_copied old.entry) (option_copied new.entry) (length fields.now))) }
     ensures keeps { KeepsStore (S.ledger store.old) (S.ledger store.new) }
 {
     field_law();

@@ -1,4 +1,4 @@
-use Rattle.std.proofs.Common.{◌≡◌, [], ◌∷◌, Some, refl, sym, ap, subst, ◌∙◌, arith, true}
+use Rattle.std.proofs.Common.{◌≡◌, ℤ, List, [], ◌∷◌, Some, refl, sym, ap, subst, ◌∙◌, arith, true}
 use Rattle.std.specs.Prelude.{IfOk, IfErr}
 use Rattle.store_api.specs.Parts.{Owns}
 use Rattle.store_api.specs.Units.{MayDo}
@@ -6,8 +6,12 @@ use Rattle.store_api.proofs.May.{may_do-same}
 use Rattle.attr_images.specs.Documents.{column_at}
 use Rattle.attr_index.specs.Changes.{first_weights}
 use Rattle.attr_index.specs.Columns.{items_of, with_change}
+use Rattle.attr_types.specs.declared.value.Value.{Value}
 use Rattle.posting_store.specs.Changes.{RefusesSome}
+use Rattle.attr_walks.specs.Counts.{MakesFew}
+use Rattle.attr_walks.proofs.CountLemmas.{few_none}
 use Rattle.attr_field.specs.Changes.{MakesField}
+use Rattle.attr_field.specs.Counts.{field_nodes, field_records, low_nodes, StaysLow}
 use Rattle.attr_field.specs.Fields.{field_part, IsField}
 use Rattle.attr_field.specs.declared.roots.FieldRoots.{FieldRoots}
 use Rattle.attr_field.proofs.ChangeLemmas.{same_field}
@@ -105,7 +109,93 @@ returns-clause-refuses g c =
     let ledger = g.S.Store.ledger in
     subst (λ s. IfErr c.put_weighed.result (RefusesSome (ledger s) (ledger c.put_weighed.new.store))) c.has_already.ensures.same c.put_weighed.ensures.refuses
 
+pub returns-in_default-clause-counts : goal.returns-in_default-clause-counts
+returns-in_default-clause-counts g c =
+    let ledger = g.S.Store.ledger in
+    let nodes = field_nodes (first_weights [] c.args.old.now) (first_weights [] c.args.new.now) in
+    let records = field_records (first_weights [] c.args.old.now) (first_weights [] c.args.new.now) in
+    subst (λ s. MakesFew (ledger c.args.store.now) (ledger s) nodes records) (sym c.has_already.ensures.same) (few_none (ledger c.args.store.now) nodes records)
+
+pub returns-then-same-clause-counts : goal.returns-then-same-clause-counts
+returns-then-same-clause-counts g c =
+    let ledger = g.S.Store.ledger in
+    let nodes = field_nodes (first_weights [] c.args.old.now) (first_weights [] c.args.new.now) in
+    let records = field_records (first_weights [] c.args.old.now) (first_weights [] c.args.new.now) in
+    subst (λ s. MakesFew (ledger c.args.store.now) (ledger s) nodes records) (sym c.has_already.ensures.same) (few_none (ledger c.args.store.now) nodes records)
+
+pub returns-in_default-weights_of-clause-counts : goal.returns-in_default-weights_of-clause-counts
+returns-in_default-weights_of-clause-counts g c =
+    let ledger = g.S.Store.ledger in
+    let nodes = field_nodes (first_weights [] c.args.old.now) (first_weights [] c.args.new.now) in
+    let records = field_records (first_weights [] c.args.old.now) (first_weights [] c.args.new.now) in
+    subst (λ s. MakesFew (ledger c.args.store.now) (ledger s) nodes records) (sym c.has_already.ensures.same) (few_none (ledger c.args.store.now) nodes records)
+
+pub returns-in_default-weights_of-2-clause-counts : goal.returns-in_default-weights_of-2-clause-counts
+returns-in_default-weights_of-2-clause-counts g c =
+    let ledger = g.S.Store.ledger in
+    let nodes = field_nodes (first_weights [] c.args.old.now) (first_weights [] c.args.new.now) in
+    let records = field_records (first_weights [] c.args.old.now) (first_weights [] c.args.new.now) in
+    subst (λ s. MakesFew (ledger c.args.store.now) (ledger s) nodes records) (sym c.has_already.ensures.same) (few_none (ledger c.args.store.now) nodes records)
+
+pub returns-clause-counts : goal.returns-clause-counts
+returns-clause-counts g c =
+    let ledger = g.S.Store.ledger in
+    let new = ledger c.put_weighed.new.store in
+    let was = c.in-Ok-weights_of.before.entries in
+    let is = c.in-Ok-weights_of-2.after.entries in
+    let first = first_weights [] c.args.old.now in
+    subst (λ (es : List (Value × ℤ)). MakesFew (ledger c.args.store.now) new (field_nodes first es) (field_records first es)) c.in-Ok-weights_of-2.ensures.weights
+    (subst (λ (es : List (Value × ℤ)). MakesFew (ledger c.args.store.now) new (field_nodes es is) (field_records es is)) c.in-Ok-weights_of.ensures.weights
+    (subst (λ s. MakesFew (ledger s) new (field_nodes was is) (field_records was is)) c.has_already.ensures.same c.put_weighed.ensures.counts))
+
 pub returns-clause-may : goal.returns-clause-may
 returns-clause-may g c =
     let ledger = g.S.Store.ledger in
     subst (λ s. MayDo (ledger s) (ledger c.put_weighed.new.store)) c.has_already.ensures.same c.put_weighed.ensures.may
+
+pub returns-in_default-clause-low : goal.returns-in_default-clause-low
+returns-in_default-clause-low g c =
+    let ledger = g.S.Store.ledger in
+    let records = field_records (first_weights [] c.args.old.now) (first_weights [] c.args.new.now) in
+    λ levels stays.
+    let nodes = low_nodes levels (first_weights [] c.args.old.now) (first_weights [] c.args.new.now) in
+    subst (λ s. MakesFew (ledger c.args.store.now) (ledger s) nodes records) (sym c.has_already.ensures.same) (few_none (ledger c.args.store.now) nodes records)
+
+pub returns-then-same-clause-low : goal.returns-then-same-clause-low
+returns-then-same-clause-low g c =
+    let ledger = g.S.Store.ledger in
+    let records = field_records (first_weights [] c.args.old.now) (first_weights [] c.args.new.now) in
+    λ levels stays.
+    let nodes = low_nodes levels (first_weights [] c.args.old.now) (first_weights [] c.args.new.now) in
+    subst (λ s. MakesFew (ledger c.args.store.now) (ledger s) nodes records) (sym c.has_already.ensures.same) (few_none (ledger c.args.store.now) nodes records)
+
+pub returns-in_default-weights_of-clause-low : goal.returns-in_default-weights_of-clause-low
+returns-in_default-weights_of-clause-low g c =
+    let ledger = g.S.Store.ledger in
+    let records = field_records (first_weights [] c.args.old.now) (first_weights [] c.args.new.now) in
+    λ levels stays.
+    let nodes = low_nodes levels (first_weights [] c.args.old.now) (first_weights [] c.args.new.now) in
+    subst (λ s. MakesFew (ledger c.args.store.now) (ledger s) nodes records) (sym c.has_already.ensures.same) (few_none (ledger c.args.store.now) nodes records)
+
+pub returns-in_default-weights_of-2-clause-low : goal.returns-in_default-weights_of-2-clause-low
+returns-in_default-weights_of-2-clause-low g c =
+    let ledger = g.S.Store.ledger in
+    let records = field_records (first_weights [] c.args.old.now) (first_weights [] c.args.new.now) in
+    λ levels stays.
+    let nodes = low_nodes levels (first_weights [] c.args.old.now) (first_weights [] c.args.new.now) in
+    subst (λ s. MakesFew (ledger c.args.store.now) (ledger s) nodes records) (sym c.has_already.ensures.same) (few_none (ledger c.args.store.now) nodes records)
+
+pub returns-clause-low : goal.returns-clause-low
+returns-clause-low g c =
+    let ledger = g.S.Store.ledger in
+    let records = g.S.Frozen.records in
+    let new = ledger c.put_weighed.new.store in
+    let was = c.in-Ok-weights_of.before.entries in
+    let is = c.in-Ok-weights_of-2.after.entries in
+    let first = first_weights [] c.args.old.now in
+    λ levels stays.
+    let here = subst (λ s. StaysLow levels (column_at c.args.kind c.args.value_type (records s) c.args.roots.documents) is) (sym c.has_already.ensures.same)
+    (subst (λ (es : List (Value × ℤ)). StaysLow levels (column_at c.args.kind c.args.value_type (records c.args.store.now) c.args.roots.documents) es) (sym c.in-Ok-weights_of-2.ensures.weights) stays) in
+    subst (λ (es : List (Value × ℤ)). MakesFew (ledger c.args.store.now) new (low_nodes levels first es) (field_records first es)) c.in-Ok-weights_of-2.ensures.weights
+    (subst (λ (es : List (Value × ℤ)). MakesFew (ledger c.args.store.now) new (low_nodes levels es is) (field_records es is)) c.in-Ok-weights_of.ensures.weights
+    (subst (λ s. MakesFew (ledger s) new (low_nodes levels was is) (field_records was is)) c.has_already.ensures.same (c.put_weighed.ensures.low levels here)))

@@ -1,4 +1,4 @@
-use Rattle.std.proofs.Common.{None, Some, sym, subst, ◌∙◌, arith}
+use Rattle.std.proofs.Common.{◌*◌, ◌^◌, ◌<◌, length, None, Some, sym, subst, ◌∙◌, arith}
 use Rattle.std.proofs.lemmas.Result.{err_from_is_err_and}
 use Rattle.store_api.proofs.May.{may_do-then}
 use Rattle.attr_images.specs.Documents.{column_at}
@@ -8,6 +8,8 @@ use Rattle.attr_index.specs.Columns.{Column, items_of, with_change}
 use Rattle.attr_index.specs.Index.{Index, IsIndexOf}
 use Rattle.attr_walks.proofs.KeyLemmas.{refuses_after}
 use Rattle.attr_field.proofs.ChangeLemmas.{weights, field_stands, has_before, has_middle, index_ends, step_ends, steps_then}
+use Rattle.attr_field.proofs.CountLemmas.{counts_first, counts_two, counts_three, low_one, low_two, low_three}
+use Rattle.attr_field.proofs.SizeLemmas.{adds_low, removes_low}
 use Rattle.attr_field.proofs.WeightLemmas.{items_listed, items_typed, weights_are, weights_typed}
 use Rattle.attr_field.proofs.changing.put_weighed.Goals as goal
 
@@ -95,7 +97,7 @@ remove_values-requires g c =
     let next = c.in_ok-documents.documents in
     let lawful = c.documents_law.ensures.lawful in
     let both = steps_then kind type begun k D I doc c.requires.field (ledger c.add_values.new.store) (ledger c.set_items.new.store) m n root next (Some items)
-    c.in_ok-added.ensures.steps c.in_ok-documents.ensures.steps in
+    c.add_values.ensures.may c.in_ok-added.ensures.steps c.in_ok-documents.ensures.steps in
     let between = subst (λ (i : Index). IsBetween (index_of type k I) doc (weights new) (λ v. None) i) (sym c.in_ok-documents.ensures.index) c.in_ok-added.ensures.between in (
       omega arith,
       (
@@ -150,12 +152,124 @@ returns-clause-makes g c =
     let next = c.in_ok-documents.documents in
     let last = c.in_ok-dictionary.dictionary in
     let both = steps_then kind type begun k D I doc c.requires.field (ledger c.add_values.new.store) (ledger c.set_items.new.store) m n root next (Some items)
-    c.in_ok-added.ensures.steps c.in_ok-documents.ensures.steps in
+    c.add_values.ensures.may c.in_ok-added.ensures.steps c.in_ok-documents.ensures.steps in
+    let may = may_do-then (ledger c.args.store.now) (ledger c.add_values.new.store) (ledger c.set_items.new.store) c.add_values.ensures.may c.set_items.ensures.may in
     step_ends kind type begun k D I doc c.requires.field (ledger c.set_items.new.store) (ledger c.remove_values.new.store) n o next root last
-    (with_change (column_at kind type k D) doc (Some items)) both c.in_ok-dictionary.ensures.steps c.in_ok-dictionary.ensures.index
+    (with_change (column_at kind type k D) doc (Some items)) may both c.in_ok-dictionary.ensures.steps c.in_ok-dictionary.ensures.index
+
+pub returns-in_err-added-clause-counts : goal.returns-in_err-added-clause-counts
+returns-in_err-added-clause-counts g c =
+    let ledger = g.S.Store.ledger in
+    let last = ledger c.add_values.new.store in
+    counts_first c.args.old.now.entries c.args.new.now.entries (ledger c.args.store.now) last last last c.add_values.ensures.counts
+
+pub returns-in_err-documents-clause-counts : goal.returns-in_err-documents-clause-counts
+returns-in_err-documents-clause-counts g c =
+    let ledger = g.S.Store.ledger in
+    let last = ledger c.set_items.new.store in
+    counts_two c.args.old.now.entries c.args.new.now.entries (ledger c.args.store.now) (ledger c.add_values.new.store) last last
+    c.add_values.ensures.may c.add_values.ensures.counts c.set_items.ensures.counts
+
+pub returns-in_err-dictionary-clause-counts : goal.returns-in_err-dictionary-clause-counts
+returns-in_err-dictionary-clause-counts g c =
+    let ledger = g.S.Store.ledger in
+    counts_three c.args.old.now.entries c.args.new.now.entries (ledger c.args.store.now) (ledger c.add_values.new.store) (ledger c.set_items.new.store) (ledger c.remove_values.new.store)
+    c.add_values.ensures.may c.set_items.ensures.may c.add_values.ensures.counts c.set_items.ensures.counts c.remove_values.ensures.counts
+
+pub returns-clause-counts : goal.returns-clause-counts
+returns-clause-counts g c =
+    let ledger = g.S.Store.ledger in
+    counts_three c.args.old.now.entries c.args.new.now.entries (ledger c.args.store.now) (ledger c.add_values.new.store) (ledger c.set_items.new.store) (ledger c.remove_values.new.store)
+    c.add_values.ensures.may c.set_items.ensures.may c.add_values.ensures.counts c.set_items.ensures.counts c.remove_values.ensures.counts
 
 pub returns-clause-may : goal.returns-clause-may
 returns-clause-may g c =
     let ledger = g.S.Store.ledger in
     let may = may_do-then (ledger c.args.store.now) (ledger c.add_values.new.store) (ledger c.set_items.new.store) c.add_values.ensures.may c.set_items.ensures.may in
     may_do-then (ledger c.args.store.now) (ledger c.set_items.new.store) (ledger c.remove_values.new.store) may c.remove_values.ensures.may
+
+pub returns-in_err-added-clause-low : goal.returns-in_err-added-clause-low
+returns-in_err-added-clause-low g c =
+    let ledger = g.S.Store.ledger in
+    let records = g.S.Frozen.records in
+    let k = records c.args.store.now in
+    let kind = c.args.kind in
+    let type = c.args.value_type in
+    let D = c.args.roots.documents in
+    let I = c.args.roots.dictionary in
+    let doc = c.args.doc in
+    let old = c.args.old.now.entries in
+    let new = c.args.new.now.entries in
+    let column = column_at kind type k D in
+    let of = c.requires.field.index_of_documents in
+    λ levels stays.
+    let added = c.add_values.ensures.low levels (adds_low column (index_of type k I) doc levels new of stays) in
+    let last = ledger c.add_values.new.store in
+    low_one levels old new (ledger c.args.store.now) last last last added
+
+pub returns-in_err-documents-clause-low : goal.returns-in_err-documents-clause-low
+returns-in_err-documents-clause-low g c =
+    let ledger = g.S.Store.ledger in
+    let records = g.S.Frozen.records in
+    let k = records c.args.store.now in
+    let kind = c.args.kind in
+    let type = c.args.value_type in
+    let D = c.args.roots.documents in
+    let I = c.args.roots.dictionary in
+    let doc = c.args.doc in
+    let old = c.args.old.now.entries in
+    let new = c.args.new.now.entries in
+    let column = column_at kind type k D in
+    let of = c.requires.field.index_of_documents in
+    λ levels stays.
+    let added = c.add_values.ensures.low levels (adds_low column (index_of type k I) doc levels new of stays) in
+    let few = subst (λ (cl : Column). length cl < 2 * 8 ^ levels) (sym c.in_ok-added.ensures.steps.column_is) (let low = stays.documents in let less : length column < 2 * 8 ^ levels = omega arith in less) in
+    let entry = c.set_items.ensures.low levels stays.some few in
+    let last = ledger c.set_items.new.store in
+    low_two levels old new (ledger c.args.store.now) (ledger c.add_values.new.store) last last c.add_values.ensures.may added entry
+
+pub returns-in_err-dictionary-clause-low : goal.returns-in_err-dictionary-clause-low
+returns-in_err-dictionary-clause-low g c =
+    let ledger = g.S.Store.ledger in
+    let records = g.S.Frozen.records in
+    let k = records c.args.store.now in
+    let kind = c.args.kind in
+    let type = c.args.value_type in
+    let D = c.args.roots.documents in
+    let I = c.args.roots.dictionary in
+    let doc = c.args.doc in
+    let old = c.args.old.now.entries in
+    let new = c.args.new.now.entries in
+    let column = column_at kind type k D in
+    let of = c.requires.field.index_of_documents in
+    λ levels stays.
+    let added = c.add_values.ensures.low levels (adds_low column (index_of type k I) doc levels new of stays) in
+    let few = subst (λ (cl : Column). length cl < 2 * 8 ^ levels) (sym c.in_ok-added.ensures.steps.column_is) (let low = stays.documents in let less : length column < 2 * 8 ^ levels = omega arith in less) in
+    let entry = c.set_items.ensures.low levels stays.some few in
+    let between = subst (λ (i : Index). IsBetween (index_of type k I) doc (weights new) (λ v. None) i) (sym c.in_ok-documents.ensures.index) c.in_ok-added.ensures.between in
+    let gone = c.remove_values.ensures.low levels (removes_low column (index_of type k I) doc levels new of stays (index_of type (records c.set_items.new.store) c.in_ok-added.added) old between) in
+    low_three levels old new (ledger c.args.store.now) (ledger c.add_values.new.store) (ledger c.set_items.new.store) (ledger c.remove_values.new.store)
+    c.add_values.ensures.may c.set_items.ensures.may added entry gone
+
+pub returns-clause-low : goal.returns-clause-low
+returns-clause-low g c =
+    let ledger = g.S.Store.ledger in
+    let records = g.S.Frozen.records in
+    let k = records c.args.store.now in
+    let kind = c.args.kind in
+    let type = c.args.value_type in
+    let D = c.args.roots.documents in
+    let I = c.args.roots.dictionary in
+    let doc = c.args.doc in
+    let old = c.args.old.now.entries in
+    let new = c.args.new.now.entries in
+    let column = column_at kind type k D in
+    let of = c.requires.field.index_of_documents in
+    λ levels stays.
+    let added = c.add_values.ensures.low levels (adds_low column (index_of type k I) doc levels new of stays) in
+    let few = subst (λ (cl : Column). length cl < 2 * 8 ^ levels) (sym c.in_ok-added.ensures.steps.column_is) (let low = stays.documents in let less : length column < 2 * 8 ^ levels = omega arith in less) in
+    let entry = c.set_items.ensures.low levels stays.some few in
+    let between = subst (λ (i : Index). IsBetween (index_of type k I) doc (weights new) (λ v. None) i) (sym c.in_ok-documents.ensures.index) c.in_ok-added.ensures.between in
+    let gone = c.remove_values.ensures.low levels (removes_low column (index_of type k I) doc levels new of stays (index_of type (records c.set_items.new.store) c.in_ok-added.added) old between) in
+    low_three levels old new (ledger c.args.store.now) (ledger c.add_values.new.store) (ledger c.set_items.new.store) (ledger c.remove_values.new.store)
+    c.add_values.ensures.may c.set_items.ensures.may added entry gone

@@ -1,6 +1,10 @@
-use Rattle.std.proofs.Common.{[], refl, ap, ◌∙◌, arith}
+use Rattle.std.proofs.Common.{ℤ, List, [], refl, ap, subst, ◌∙◌, arith}
 use Rattle.store_api.proofs.May.{may_do-same}
 use Rattle.attr_index.specs.Changes.{first_weights}
+use Rattle.attr_types.specs.declared.value.Value.{Value}
+use Rattle.attr_walks.specs.Counts.{MakesFew}
+use Rattle.attr_walks.proofs.CountLemmas.{few_none}
+use Rattle.attr_field.specs.Counts.{field_nodes, field_records, low_nodes}
 use Rattle.attr_field.proofs.changing.remove.Goals as goal
 
 pub returns-in_default-clause-refuses : goal.returns-in_default-clause-refuses
@@ -33,5 +37,24 @@ returns-clause-makes g c = c.remove_weighed.ensures.makes
 pub returns-clause-refuses : goal.returns-clause-refuses
 returns-clause-refuses g c = c.remove_weighed.ensures.refuses
 
+pub returns-in_default-clause-counts : goal.returns-in_default-clause-counts
+returns-in_default-clause-counts g c = few_none (g.S.Store.ledger c.args.store.now) (field_nodes (first_weights [] c.args.old.now) []) (field_records (first_weights [] c.args.old.now) [])
+
+pub returns-clause-counts : goal.returns-clause-counts
+returns-clause-counts g c =
+    let ledger = g.S.Store.ledger in
+    subst (λ (es : List (Value × ℤ)). MakesFew (ledger c.args.store.now) (ledger c.remove_weighed.new.store) (field_nodes es []) (field_records es [])) c.in-Ok.ensures.weights c.remove_weighed.ensures.counts
+
 pub returns-clause-may : goal.returns-clause-may
 returns-clause-may g c = c.remove_weighed.ensures.may
+
+pub returns-in_default-clause-low : goal.returns-in_default-clause-low
+returns-in_default-clause-low g c =
+    λ levels stays. few_none (g.S.Store.ledger c.args.store.now) (low_nodes levels (first_weights [] c.args.old.now) []) (field_records (first_weights [] c.args.old.now) [])
+
+pub returns-clause-low : goal.returns-clause-low
+returns-clause-low g c =
+    let ledger = g.S.Store.ledger in
+    λ levels stays.
+    subst (λ (es : List (Value × ℤ)). MakesFew (ledger c.args.store.now) (ledger c.remove_weighed.new.store) (low_nodes levels es []) (field_records es [])) c.in-Ok.ensures.weights
+    (c.remove_weighed.ensures.low levels stays)

@@ -37,7 +37,7 @@ returns-clause-steps g c =
     let added = get value_cmp c.args.new.now in
     if_ok (λ next. WalksIndex type old new m n dictionary c.args.doc added (λ v. None) next)
     (λ next. StepsField kind type old new m n documents dictionary (column_at kind type m documents) documents next) c.add_all.result c.add_all.ensures.makes
-    (λ next walks. index_steps c.documents_law.ensures.stays kind type old new m n documents dictionary next c.requires.stands walks.index_is walks.keys walks.turns
+    (λ next walks. index_steps c.documents_law.ensures.stays kind type old new m n documents dictionary next c.requires.stands walks.index_is walks.keys walks.flows walks.turns
     (added_listed c.key_law.ensures.read kind type old m documents dictionary c.requires.stands c.args.doc added (index_of type n next) walks.between))
 
 pub returns-clause-between : goal.returns-clause-between
@@ -55,5 +55,11 @@ returns-clause-between g c =
 pub returns-clause-refuses : goal.returns-clause-refuses
 returns-clause-refuses g c = c.add_all.ensures.refuses
 
+pub returns-clause-counts : goal.returns-clause-counts
+returns-clause-counts g c = c.add_all.ensures.counts
+
 pub returns-clause-may : goal.returns-clause-may
 returns-clause-may g c = c.add_all.ensures.may
+
+pub returns-clause-low : goal.returns-clause-low
+returns-clause-low g c = c.add_all.ensures.low

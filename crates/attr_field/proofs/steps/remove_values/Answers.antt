@@ -38,7 +38,7 @@ returns-clause-steps g c =
     let removed = get value_cmp c.args.old.now in
     if_ok (λ next. WalksIndex type old new m n dictionary c.args.doc added removed next)
     (λ next. StepsField kind type old new m n documents dictionary (column_at kind type m documents) documents next) c.remove_all.result c.remove_all.ensures.makes
-    (λ next walks. index_steps c.documents_law.ensures.stays kind type old new m n documents dictionary next c.requires.stands walks.index_is walks.keys walks.turns
+    (λ next walks. index_steps c.documents_law.ensures.stays kind type old new m n documents dictionary next c.requires.stands walks.index_is walks.keys walks.flows walks.turns
     (ended_listed c.documents_law.ensures.values kind type m documents (index_of type n next) (c.requires.ends (index_of type n next) walks.between)))
 
 pub returns-clause-index : goal.returns-clause-index
@@ -59,5 +59,11 @@ returns-clause-index g c =
 pub returns-clause-refuses : goal.returns-clause-refuses
 returns-clause-refuses g c = c.remove_all.ensures.refuses
 
+pub returns-clause-counts : goal.returns-clause-counts
+returns-clause-counts g c = c.remove_all.ensures.counts
+
 pub returns-clause-may : goal.returns-clause-may
 returns-clause-may g c = c.remove_all.ensures.may
+
+pub returns-clause-low : goal.returns-clause-low
+returns-clause-low g c = c.remove_all.ensures.low

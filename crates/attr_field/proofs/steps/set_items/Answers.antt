@@ -1,4 +1,4 @@
-use Rattle.std.proofs.Common.{◌≡◌, ℕ, List, [], ◌∷◌, Option, Some, refl, sym, ap, subst, ◌∙◌, arith}
+use Rattle.std.proofs.Common.{◌≡◌, ℕ, ◌+◌, ◌*◌, ◌≤◌, List, [], ◌∷◌, length, Option, Some, refl, sym, ap, subst, ◌∙◌, arith}
 use Rattle.std.specs.List.{AllByRecursion}
 use Rattle.store_api.specs.Parts.{Owns}
 use Rattle.store_api.specs.Units.{MayDo}
@@ -9,8 +9,12 @@ use Rattle.attr_images.specs.Documents.{column_at}
 use Rattle.attr_images.specs.Postings.{index_of}
 use Rattle.attr_index.specs.Columns.{with_change}
 use Rattle.posting_store.specs.Changes.{RefusesSome}
+use Rattle.attr_walks.specs.Counts.{MakesFew}
+use Rattle.tree_make.specs.Changes.{levels as levels_of}
 use Rattle.value_index.specs.Indexes.{IsKey}
 use Rattle.attr_field.specs.Steps.{StepsField}
+use Rattle.attr_walks.proofs.CountLemmas.{few_none}
+use Rattle.attr_field.proofs.CountLemmas.{documents_low, few_entry, low_entry}
 use Rattle.attr_field.proofs.RefLemmas.{owns_documents, if_ok}
 use Rattle.attr_field.proofs.StepLemmas.{documents_steps, documents_index_same, refer_beside, keys_beside}
 use Rattle.attr_field.proofs.steps.set_items.Goals as goal
@@ -114,7 +118,37 @@ returns-clause-refuses g c =
     let ledger = g.S.Store.ledger in
     subst (λ s. Rattle.std.specs.Prelude.IfErr c.set_document.result (RefusesSome (ledger s) (ledger c.set_document.new.store))) c.keys_of.ensures.same c.set_document.ensures.refuses
 
+pub returns-in_default-clause-counts : goal.returns-in_default-clause-counts
+returns-in_default-clause-counts g c =
+    let ledger = g.S.Store.ledger in
+    subst (λ s. MakesFew (ledger c.args.store.now) (ledger s) 17 1) (sym c.keys_of.ensures.same) (few_none (ledger c.args.store.now) 17 1)
+
+pub returns-clause-counts : goal.returns-clause-counts
+returns-clause-counts g c =
+    let ledger = g.S.Store.ledger in
+    let made = few_entry (ledger c.keys_of.new.frozen) (ledger c.set_document.new.store) (g.S.Frozen.records c.keys_of.new.frozen) c.args.documents
+    (1 + length c.args.items.now) c.set_document.ensures.counts in
+    subst (λ s. MakesFew (ledger s) (ledger c.set_document.new.store) 17 1) c.keys_of.ensures.same made
+
 pub returns-clause-may : goal.returns-clause-may
 returns-clause-may g c =
     let ledger = g.S.Store.ledger in
     subst (λ s. MayDo (ledger s) (ledger c.set_document.new.store)) c.keys_of.ensures.same c.set_document.ensures.may
+
+pub returns-in_default-clause-low : goal.returns-in_default-clause-low
+returns-in_default-clause-low g c =
+    let ledger = g.S.Store.ledger in
+    λ levels some few.
+    subst (λ s. MakesFew (ledger c.args.store.now) (ledger s) (2 * levels + 1) 1) (sym c.keys_of.ensures.same) (few_none (ledger c.args.store.now) (2 * levels + 1) 1)
+
+pub returns-clause-low : goal.returns-clause-low
+returns-clause-low g c =
+    let ledger = g.S.Store.ledger in
+    let records = g.S.Frozen.records in
+    let m = records c.args.store.now in
+    λ levels some few.
+    let low = subst (λ s. levels_of (records s) c.args.documents ≤ levels) (sym c.keys_of.ensures.same)
+    (documents_low c.args.kind c.args.value_type m c.args.documents levels c.requires.stands.documents_are some few) in
+    let made = low_entry (ledger c.keys_of.new.frozen) (ledger c.set_document.new.store) (records c.keys_of.new.frozen) c.args.documents
+    (1 + length c.args.items.now) levels low c.set_document.ensures.counts in
+    subst (λ s. MakesFew (ledger s) (ledger c.set_document.new.store) (2 * levels + 1) 1) c.keys_of.ensures.same made

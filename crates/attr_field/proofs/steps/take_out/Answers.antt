@@ -4,6 +4,7 @@ use Rattle.attr_images.specs.Documents.{column_at}
 use Rattle.attr_images.specs.Postings.{index_of}
 use Rattle.attr_index.specs.Columns.{with_change}
 use Rattle.attr_field.specs.Steps.{StepsField}
+use Rattle.attr_field.proofs.CountLemmas.{documents_low, few_taken, low_taken}
 use Rattle.attr_field.proofs.RefLemmas.{owns_documents, if_ok}
 use Rattle.attr_field.proofs.StepLemmas.{documents_steps, documents_index_same, refer_beside}
 use Rattle.attr_field.proofs.steps.take_out.Goals as goal
@@ -58,5 +59,18 @@ returns-clause-index g c =
 pub returns-clause-refuses : goal.returns-clause-refuses
 returns-clause-refuses g c = c.remove_document.ensures.refuses
 
+pub returns-clause-counts : goal.returns-clause-counts
+returns-clause-counts g c =
+    let ledger = g.S.Store.ledger in
+    few_taken (ledger c.args.store.now) (ledger c.remove_document.new.store) (g.S.Frozen.records c.args.store.now) c.args.documents c.remove_document.ensures.counts
+
 pub returns-clause-may : goal.returns-clause-may
 returns-clause-may g c = c.remove_document.ensures.may
+
+pub returns-clause-low : goal.returns-clause-low
+returns-clause-low g c =
+    let ledger = g.S.Store.ledger in
+    let m = g.S.Frozen.records c.args.store.now in
+    λ levels some few.
+    low_taken (ledger c.args.store.now) (ledger c.remove_document.new.store) m c.args.documents levels
+    (documents_low c.args.kind c.args.value_type m c.args.documents levels c.requires.stands.documents_are some few) c.remove_document.ensures.counts

@@ -1,4 +1,4 @@
-use Rattle.std.proofs.Common.{ℤ, sym, ap, subst, ◌∙◌, arith, rules, w32, SFits}
+use Rattle.std.proofs.Common.{ℕ, ℤ, not, sym, ap, subst, ◌∙◌, arith, rules, w32, SFits}
 use Rattle.std.proofs.lemmas.Int.{to_z-of_z}
 use Rattle.std.proofs.lemmas.Result.{err_from_is_err_and}
 use Rattle.std.specs.BTreeMap.{get}
@@ -12,6 +12,9 @@ use Rattle.attr_types.specs.declared.kind.ValueType.{ValueType}
 use Rattle.value_index.specs.Changes.{MakesIndex}
 use Rattle.value_index.specs.Indexes.{IsIndex}
 use Rattle.attr_walks.proofs.AddLemmas.{adds_begin, adds_typed, adds_put, adds_same, adds_end}
+use Rattle.attr_walks.specs.Counts.{is_added, value_nodes, AddsLow, IsLow}
+use Rattle.attr_walks.proofs.CountLemmas.{few_added, low_added, added_grows, added_records, counts_begin, counts_put, counts_pass, counts_end}
+use Rattle.attr_walks.proofs.LevelLemmas.{dictionary_low, list_low}
 use Rattle.attr_walks.proofs.KeyLemmas.{refuses_after}
 use Rattle.attr_walks.proofs.adding.add_all.Goals as goal
 
@@ -19,15 +22,20 @@ pub loop-value-init : goal.loop-value-init
 loop-value-init g c =
     let ledger = g.S.Store.ledger c.args.store.now in
     let m = g.S.Frozen.records c.args.store.now in
-    adds_begin c.args.value_type ledger m c.args.root c.args.doc c.args.new.now.entries c.into_iter-value-iterator.result
-    (c.into_iter-value-iterator.ensures.into_iter_gives ∙ c.iter-value-items.ensures.rest) c.requires.unit c.requires.index
-    (c.index_law.ensures.lawful c.args.value_type m c.args.root c.requires.index).formed c.requires.owns
+    let rest = c.into_iter-value-iterator.ensures.into_iter_gives ∙ c.iter-value-items.ensures.rest in
+    record {
+      adds = adds_begin c.args.value_type ledger m c.args.root c.args.doc c.args.new.now.entries c.into_iter-value-iterator.result
+          rest c.requires.unit c.requires.index
+          (c.index_law.ensures.lawful c.args.value_type m c.args.root c.requires.index).formed c.requires.owns;
+      counts = counts_begin 34 added_records added_grows ledger (is_added (get value_cmp c.args.old.now)) c.args.new.now.entries c.into_iter-value-iterator.result rest;
+      low = λ levels low. counts_begin (value_nodes levels) added_records added_grows ledger (is_added (get value_cmp c.args.old.now)) c.args.new.now.entries c.into_iter-value-iterator.result rest;
+    }
 
 pub add-requires : goal.add-requires
 add-requires g c =
     let ledger = g.S.Store.ledger in
     let records = g.S.Frozen.records in
-    let p = c.loop-value.invariant in
+    let p = c.loop-value.invariant.adds in
     let typed = adds_typed c.args.value_type (ledger c.args.store.now) (records c.args.store.now) c.args.root c.args.doc c.args.new.now.entries
     (ledger c.loop-value.store) (records c.loop-value.store) c.loop-value.next c.loop-value.value-iterator c.next.new.self
     c.in-Some.value.now c.in-Some.weight.now c.iter-value-items.ensures.ordered p c.in-Some.ensures.steps c.requires.typed in
@@ -36,16 +44,60 @@ add-requires g c =
 pub returns-in_err-next-clause-makes : goal.returns-in_err-next-clause-makes
 returns-in_err-next-clause-makes g c = let p = err_from_is_err_and c.from_residual.result c.from_residual.ensures.1 in rw p.1 tt
 
+pub returns-in_err-next-clause-counts : goal.returns-in_err-next-clause-counts
+returns-in_err-next-clause-counts g c =
+    let ledger = g.S.Store.ledger in
+    let now = ledger c.loop-value.store in
+    let new = ledger c.add.new.store in
+    let value = c.in-Some.value.now in
+    let weight = c.in-Some.weight.now in
+    let fits : SFits w32 c.in-Some.weight.now = search rules in
+    let test = is_added (get value_cmp c.args.old.now) in
+    counts_end 34 added_records added_grows (ledger c.args.store.now) test c.args.new.now.entries new c.next.new.self
+    (counts_put 34 added_records added_grows (ledger c.args.store.now) test c.args.new.now.entries
+    now c.loop-value.value-iterator c.next.new.self value weight c.loop-value.invariant.counts c.in-Some.ensures.steps
+    (ap not (ap (λ (w : ℤ). is_weight w (get value_cmp c.args.old.now value)) (sym (to_z-of_z w32 weight fits)) ∙ sym c.has_weight.ensures ∙ c.if-not-has_weight.true))
+    new c.loop-value.invariant.adds.may
+    (few_added value (g.S.Frozen.records c.loop-value.store) c.loop-value.next _ now new c.add.ensures.counts))
+
+pub returns-in_err-next-clause-low : goal.returns-in_err-next-clause-low
+returns-in_err-next-clause-low g c =
+    let ledger = g.S.Store.ledger in
+    let records = g.S.Frozen.records in
+    let begun = ledger c.args.store.now in
+    let now = ledger c.loop-value.store in
+    let new = ledger c.add.new.store in
+    let m = records c.loop-value.store in
+    let root = c.loop-value.next in
+    let value = c.in-Some.value.now in
+    let weight = c.in-Some.weight.now in
+    let entries = c.args.new.now.entries in
+    let fits : SFits w32 c.in-Some.weight.now = search rules in
+    let test = is_added (get value_cmp c.args.old.now) in
+    let p = c.loop-value.invariant.adds in
+    let typed = adds_typed c.args.value_type begun (records c.args.store.now) c.args.root c.args.doc entries now m root c.loop-value.value-iterator c.next.new.self
+    value weight c.iter-value-items.ensures.ordered p c.in-Some.ensures.steps c.requires.typed in
+    λ levels low.
+    let here : IsLow levels (index_of c.args.value_type m root) = low p.walk.done c.loop-value.value-iterator (index_of c.args.value_type m root) p.walk.joins p.walk.between in
+    counts_end (value_nodes levels) added_records added_grows begun test entries new c.next.new.self
+    (counts_put (value_nodes levels) added_records added_grows begun test entries
+    now c.loop-value.value-iterator c.next.new.self value weight (c.loop-value.invariant.low levels low) c.in-Some.ensures.steps
+    (ap not (ap (λ (w : ℤ). is_weight w (get value_cmp c.args.old.now value)) (sym (to_z-of_z w32 weight fits)) ∙ sym c.has_weight.ensures ∙ c.if-not-has_weight.true))
+    new p.may
+    (low_added value m root _ levels (dictionary_low c.args.value_type m root levels p.index_is here)
+    (list_low value m root levels (subst (λ t. IsIndex t m root) (sym typed) p.index_is) (subst (λ t. IsLow levels (index_of t m root)) (sym typed) here))
+    now new c.add.ensures.counts))
+
 pub returns-in_err-next-clause-refuses : goal.returns-in_err-next-clause-refuses
 returns-in_err-next-clause-refuses g c =
     let ledger = g.S.Store.ledger in
     let p = err_from_is_err_and c.from_residual.result c.from_residual.ensures.1 in
-    rw (p.1, p.2) (refuses_after (ledger c.args.store.now) (ledger c.loop-value.store) (ledger c.add.new.store) _ c.loop-value.invariant.may c.in_err-next.ensures.refuses)
+    rw (p.1, p.2) (refuses_after (ledger c.args.store.now) (ledger c.loop-value.store) (ledger c.add.new.store) _ c.loop-value.invariant.adds.may c.in_err-next.ensures.refuses)
 
 pub returns-in_err-next-clause-may : goal.returns-in_err-next-clause-may
 returns-in_err-next-clause-may g c =
     let ledger = g.S.Store.ledger in
-    may_do-then (ledger c.args.store.now) (ledger c.loop-value.store) (ledger c.add.new.store) c.loop-value.invariant.may c.add.ensures.may
+    may_do-then (ledger c.args.store.now) (ledger c.loop-value.store) (ledger c.add.new.store) c.loop-value.invariant.adds.may c.add.ensures.may
 
 pub loop-value-preserved-then-not-has_weight : goal.loop-value-preserved-then-not-has_weight
 loop-value-preserved-then-not-has_weight g c =
@@ -60,17 +112,32 @@ loop-value-preserved-then-not-has_weight g c =
     let value = c.in-Some.value.now in
     let weight = c.in-Some.weight.now in
     let doc = c.args.doc in
-    let p = c.loop-value.invariant in
+    let p = c.loop-value.invariant.adds in
     let up = c.iter-value-items.ensures.ordered in
     let fits : SFits w32 c.in-Some.weight.now = search rules in
     let typed = adds_typed c.args.value_type (ledger c.args.store.now) (records c.args.store.now) c.args.root doc c.args.new.now.entries
     now m root c.loop-value.value-iterator c.next.new.self value weight up p c.in-Some.ensures.steps c.requires.typed in
-    adds_put c.args.value_type (ledger c.args.store.now) (records c.args.store.now) c.args.root doc c.args.new.now.entries
-    now m root c.loop-value.value-iterator c.next.new.self value weight up p c.in-Some.ensures.steps
-    c.key_law.ensures.read c.requires.index new n next c.add.ensures.may
-    (subst (λ (t : ValueType). MakesIndex t now new m n root (with_posting value doc weight (index_of t m root)) next) typed
-    (subst (λ (w : ℤ). MakesIndex (type_of value) now new m n root (with_posting value doc w (index_of (type_of value) m root)) next) (to_z-of_z w32 weight fits)
-    c.in_ok-next.ensures.makes))
+    record {
+      adds = adds_put c.args.value_type (ledger c.args.store.now) (records c.args.store.now) c.args.root doc c.args.new.now.entries
+          now m root c.loop-value.value-iterator c.next.new.self value weight up p c.in-Some.ensures.steps
+          c.key_law.ensures.read c.requires.index new n next c.add.ensures.may
+          (subst (λ (t : ValueType). MakesIndex t now new m n root (with_posting value doc weight (index_of t m root)) next) typed
+          (subst (λ (w : ℤ). MakesIndex (type_of value) now new m n root (with_posting value doc w (index_of (type_of value) m root)) next) (to_z-of_z w32 weight fits)
+          c.in_ok-next.ensures.makes));
+      counts = counts_put 34 added_records added_grows (ledger c.args.store.now) (is_added (get value_cmp c.args.old.now)) c.args.new.now.entries
+          now c.loop-value.value-iterator c.next.new.self value weight c.loop-value.invariant.counts c.in-Some.ensures.steps
+          (ap not (ap (λ (w : ℤ). is_weight w (get value_cmp c.args.old.now value)) (sym (to_z-of_z w32 weight fits)) ∙ sym c.has_weight.ensures ∙ c.if-not-has_weight.true))
+          new p.may (few_added value m root _ now new c.add.ensures.counts);
+      low = λ levels low.
+          let here : IsLow levels (index_of c.args.value_type m root) = low p.walk.done c.loop-value.value-iterator (index_of c.args.value_type m root) p.walk.joins p.walk.between in
+          counts_put (value_nodes levels) added_records added_grows (ledger c.args.store.now) (is_added (get value_cmp c.args.old.now)) c.args.new.now.entries
+          now c.loop-value.value-iterator c.next.new.self value weight (c.loop-value.invariant.low levels low) c.in-Some.ensures.steps
+          (ap not (ap (λ (w : ℤ). is_weight w (get value_cmp c.args.old.now value)) (sym (to_z-of_z w32 weight fits)) ∙ sym c.has_weight.ensures ∙ c.if-not-has_weight.true))
+          new p.may
+          (low_added value m root _ levels (dictionary_low c.args.value_type m root levels p.index_is here)
+          (list_low value m root levels (subst (λ t. IsIndex t m root) (sym typed) p.index_is) (subst (λ t. IsLow levels (index_of t m root)) (sym typed) here))
+          now new c.add.ensures.counts);
+    }
 
 pub loop-value-preserved : goal.loop-value-preserved
 loop-value-preserved g c =
@@ -79,19 +146,38 @@ loop-value-preserved g c =
     let value = c.in-Some.value.now in
     let weight = c.in-Some.weight.now in
     let fits : SFits w32 c.in-Some.weight.now = search rules in
-    adds_same c.args.value_type (ledger c.args.store.now) (records c.args.store.now) c.args.root c.args.doc c.args.new.now.entries
-    (ledger c.loop-value.store) (records c.loop-value.store) c.loop-value.next c.loop-value.value-iterator c.next.new.self value weight
-    c.iter-value-items.ensures.ordered c.loop-value.invariant c.in-Some.ensures.steps
-    (c.requires.has value ∙ was_weight weight (get value_cmp c.args.old.now value)
-    (ap (λ (w : ℤ). is_weight w (get value_cmp c.args.old.now value)) (sym (to_z-of_z w32 weight fits))
-    ∙ sym c.has_weight.ensures ∙ c.if-not-has_weight.false))
+    let same = ap (λ (w : ℤ). is_weight w (get value_cmp c.args.old.now value)) (sym (to_z-of_z w32 weight fits))
+    ∙ sym c.has_weight.ensures ∙ c.if-not-has_weight.false in
+    record {
+      adds = adds_same c.args.value_type (ledger c.args.store.now) (records c.args.store.now) c.args.root c.args.doc c.args.new.now.entries
+          (ledger c.loop-value.store) (records c.loop-value.store) c.loop-value.next c.loop-value.value-iterator c.next.new.self value weight
+          c.iter-value-items.ensures.ordered c.loop-value.invariant.adds c.in-Some.ensures.steps
+          (c.requires.has value ∙ was_weight weight (get value_cmp c.args.old.now value) same);
+      counts = counts_pass 34 added_records added_grows (ledger c.args.store.now) (is_added (get value_cmp c.args.old.now)) c.args.new.now.entries
+          (ledger c.loop-value.store) c.loop-value.value-iterator c.next.new.self value weight c.loop-value.invariant.counts c.in-Some.ensures.steps (ap not same);
+      low = λ levels low. counts_pass (value_nodes levels) added_records added_grows (ledger c.args.store.now) (is_added (get value_cmp c.args.old.now)) c.args.new.now.entries
+          (ledger c.loop-value.store) c.loop-value.value-iterator c.next.new.self value weight (c.loop-value.invariant.low levels low) c.in-Some.ensures.steps (ap not same);
+    }
 
 pub returns-clause-makes : goal.returns-clause-makes
 returns-clause-makes g c =
     let ledger = g.S.Store.ledger in
     let records = g.S.Frozen.records in
     adds_end c.args.value_type (ledger c.args.store.now) (records c.args.store.now) c.args.root c.args.doc c.args.new.now.entries
-    (ledger c.loop-value.store) (records c.loop-value.store) c.loop-value.next c.loop-value.value-iterator c.loop-value.invariant c.in-None.ensures.steps.0
+    (ledger c.loop-value.store) (records c.loop-value.store) c.loop-value.next c.loop-value.value-iterator c.loop-value.invariant.adds c.in-None.ensures.steps.0
+
+pub returns-clause-counts : goal.returns-clause-counts
+returns-clause-counts g c =
+    let ledger = g.S.Store.ledger in
+    counts_end 34 added_records added_grows (ledger c.args.store.now) (is_added (get value_cmp c.args.old.now)) c.args.new.now.entries
+    (ledger c.loop-value.store) c.loop-value.value-iterator c.loop-value.invariant.counts
+
+pub returns-clause-low : goal.returns-clause-low
+returns-clause-low g c =
+    let ledger = g.S.Store.ledger in
+    λ levels low.
+    counts_end (value_nodes levels) added_records added_grows (ledger c.args.store.now) (is_added (get value_cmp c.args.old.now)) c.args.new.now.entries
+    (ledger c.loop-value.store) c.loop-value.value-iterator (c.loop-value.invariant.low levels low)
 
 pub returns-clause-may : goal.returns-clause-may
-returns-clause-may g c = c.loop-value.invariant.may
+returns-clause-may g c = c.loop-value.invariant.adds.may

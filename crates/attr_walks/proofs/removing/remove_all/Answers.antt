@@ -1,4 +1,4 @@
-use Rattle.std.proofs.Common.{sym, subst, ◌∙◌, arith}
+use Rattle.std.proofs.Common.{ℕ, not, sym, ap, subst, ◌∙◌, arith}
 use Rattle.std.proofs.lemmas.Result.{err_from_is_err_and}
 use Rattle.std.specs.BTreeMap.{get}
 use Rattle.store_api.proofs.May.{may_do-then}
@@ -9,7 +9,10 @@ use Rattle.attr_types.specs.Value.{value_cmp}
 use Rattle.attr_types.specs.declared.kind.ValueType.{ValueType}
 use Rattle.value_index.specs.Changes.{MakesIndex}
 use Rattle.value_index.specs.Indexes.{IsIndex}
+use Rattle.attr_walks.specs.Counts.{is_gone, value_nodes, IsLow, RemovesLow}
+use Rattle.attr_walks.proofs.CountLemmas.{few_gone, low_gone, gone_grows, gone_records, counts_begin, counts_put, counts_pass, counts_end}
 use Rattle.attr_walks.proofs.RemoveLemmas.{removes_begin, removes_typed, removes_there, removes_take, removes_stay, removes_end, IsThere}
+use Rattle.attr_walks.proofs.LevelLemmas.{dictionary_low, list_low}
 use Rattle.attr_walks.proofs.KeyLemmas.{refuses_after}
 use Rattle.attr_walks.proofs.removing.remove_all.Goals as goal
 
@@ -17,15 +20,20 @@ pub loop-value-init : goal.loop-value-init
 loop-value-init g c =
     let ledger = g.S.Store.ledger c.args.store.now in
     let m = g.S.Frozen.records c.args.store.now in
-    removes_begin c.args.value_type ledger m c.args.root c.args.doc (get value_cmp c.args.new.now) c.args.old.now.entries c.into_iter-value-iterator.result
-    (c.into_iter-value-iterator.ensures.into_iter_gives ∙ c.iter-value-items.ensures.rest) c.requires.unit c.requires.index
-    (c.index_law.ensures.lawful c.args.value_type m c.args.root c.requires.index).formed c.requires.owns c.requires.has
+    let rest = c.into_iter-value-iterator.ensures.into_iter_gives ∙ c.iter-value-items.ensures.rest in
+    record {
+      removes = removes_begin c.args.value_type ledger m c.args.root c.args.doc (get value_cmp c.args.new.now) c.args.old.now.entries c.into_iter-value-iterator.result
+          rest c.requires.unit c.requires.index
+          (c.index_law.ensures.lawful c.args.value_type m c.args.root c.requires.index).formed c.requires.owns c.requires.has;
+      counts = counts_begin 34 gone_records gone_grows ledger (is_gone (get value_cmp c.args.new.now)) c.args.old.now.entries c.into_iter-value-iterator.result rest;
+      low = λ levels low. counts_begin (value_nodes levels) gone_records gone_grows ledger (is_gone (get value_cmp c.args.new.now)) c.args.old.now.entries c.into_iter-value-iterator.result rest;
+    }
 
 pub remove-requires : goal.remove-requires
 remove-requires g c =
     let ledger = g.S.Store.ledger in
     let records = g.S.Frozen.records in
-    let p = c.loop-value.invariant in
+    let p = c.loop-value.invariant.removes in
     let m = records c.loop-value.store in
     let value = c.in-Some.value.now in
     let added = get value_cmp c.args.new.now in
@@ -52,16 +60,56 @@ remove-requires g c =
 pub returns-in_err-next-clause-makes : goal.returns-in_err-next-clause-makes
 returns-in_err-next-clause-makes g c = let p = err_from_is_err_and c.from_residual.result c.from_residual.ensures.1 in rw p.1 tt
 
+pub returns-in_err-next-clause-counts : goal.returns-in_err-next-clause-counts
+returns-in_err-next-clause-counts g c =
+    let ledger = g.S.Store.ledger in
+    let now = ledger c.loop-value.store in
+    let new = ledger c.remove.new.store in
+    let value = c.in-Some.value.now in
+    let test = is_gone (get value_cmp c.args.new.now) in
+    counts_end 34 gone_records gone_grows (ledger c.args.store.now) test c.args.old.now.entries new c.next.new.self
+    (counts_put 34 gone_records gone_grows (ledger c.args.store.now) test c.args.old.now.entries
+    now c.loop-value.value-iterator c.next.new.self value c.in-Some.field-0-1.now c.loop-value.invariant.counts c.in-Some.ensures.steps
+    (ap not (sym c.contains_key.ensures ∙ c.if-not-contains_key.true)) new c.loop-value.invariant.removes.may
+    (few_gone value (g.S.Frozen.records c.loop-value.store) c.loop-value.next _ now new c.remove.ensures.counts))
+
+pub returns-in_err-next-clause-low : goal.returns-in_err-next-clause-low
+returns-in_err-next-clause-low g c =
+    let ledger = g.S.Store.ledger in
+    let records = g.S.Frozen.records in
+    let begun = ledger c.args.store.now in
+    let now = ledger c.loop-value.store in
+    let new = ledger c.remove.new.store in
+    let m = records c.loop-value.store in
+    let root = c.loop-value.next in
+    let value = c.in-Some.value.now in
+    let weight = c.in-Some.field-0-1.now in
+    let entries = c.args.old.now.entries in
+    let added = get value_cmp c.args.new.now in
+    let test = is_gone added in
+    let p = c.loop-value.invariant.removes in
+    let typed = removes_typed c.args.value_type begun (records c.args.store.now) c.args.root c.args.doc added entries now m root c.loop-value.value-iterator c.next.new.self
+    value weight c.iter-value-items.ensures.ordered p c.in-Some.ensures.steps c.requires.typed in
+    λ levels low.
+    let here : IsLow levels (index_of c.args.value_type m root) = low p.walk.done c.loop-value.value-iterator (index_of c.args.value_type m root) p.walk.joins p.walk.between in
+    counts_end (value_nodes levels) gone_records gone_grows begun test entries new c.next.new.self
+    (counts_put (value_nodes levels) gone_records gone_grows begun test entries
+    now c.loop-value.value-iterator c.next.new.self value weight (c.loop-value.invariant.low levels low) c.in-Some.ensures.steps
+    (ap not (sym c.contains_key.ensures ∙ c.if-not-contains_key.true)) new p.may
+    (low_gone value m root _ levels (dictionary_low c.args.value_type m root levels p.index_is here)
+    (list_low value m root levels (subst (λ t. IsIndex t m root) (sym typed) p.index_is) (subst (λ t. IsLow levels (index_of t m root)) (sym typed) here))
+    now new c.remove.ensures.counts))
+
 pub returns-in_err-next-clause-refuses : goal.returns-in_err-next-clause-refuses
 returns-in_err-next-clause-refuses g c =
     let ledger = g.S.Store.ledger in
     let p = err_from_is_err_and c.from_residual.result c.from_residual.ensures.1 in
-    rw (p.1, p.2) (refuses_after (ledger c.args.store.now) (ledger c.loop-value.store) (ledger c.remove.new.store) _ c.loop-value.invariant.may c.in_err-next.ensures.refuses)
+    rw (p.1, p.2) (refuses_after (ledger c.args.store.now) (ledger c.loop-value.store) (ledger c.remove.new.store) _ c.loop-value.invariant.removes.may c.in_err-next.ensures.refuses)
 
 pub returns-in_err-next-clause-may : goal.returns-in_err-next-clause-may
 returns-in_err-next-clause-may g c =
     let ledger = g.S.Store.ledger in
-    may_do-then (ledger c.args.store.now) (ledger c.loop-value.store) (ledger c.remove.new.store) c.loop-value.invariant.may c.remove.ensures.may
+    may_do-then (ledger c.args.store.now) (ledger c.loop-value.store) (ledger c.remove.new.store) c.loop-value.invariant.removes.may c.remove.ensures.may
 
 pub loop-value-preserved-then-not-contains_key : goal.loop-value-preserved-then-not-contains_key
 loop-value-preserved-then-not-contains_key g c =
@@ -77,14 +125,28 @@ loop-value-preserved-then-not-contains_key g c =
     let weight = c.in-Some.field-0-1.now in
     let doc = c.args.doc in
     let added = get value_cmp c.args.new.now in
-    let p = c.loop-value.invariant in
+    let p = c.loop-value.invariant.removes in
     let up = c.iter-value-items.ensures.ordered in
     let typed = removes_typed c.args.value_type (ledger c.args.store.now) (records c.args.store.now) c.args.root doc added c.args.old.now.entries
     now m root c.loop-value.value-iterator c.next.new.self value weight up p c.in-Some.ensures.steps c.requires.typed in
-    removes_take c.args.value_type (ledger c.args.store.now) (records c.args.store.now) c.args.root doc added c.args.old.now.entries
-    now m root c.loop-value.value-iterator c.next.new.self value weight up p c.in-Some.ensures.steps
-    (none_then (added value) (sym c.contains_key.ensures ∙ c.if-not-contains_key.true)) new n next c.remove.ensures.may
-    (subst (λ (t : ValueType). MakesIndex t now new m n root (without_posting value doc (index_of t m root)) next) typed c.in_ok-next.ensures.makes)
+    let gone = sym c.contains_key.ensures ∙ c.if-not-contains_key.true in
+    record {
+      removes = removes_take c.args.value_type (ledger c.args.store.now) (records c.args.store.now) c.args.root doc added c.args.old.now.entries
+          now m root c.loop-value.value-iterator c.next.new.self value weight up p c.in-Some.ensures.steps
+          (none_then (added value) gone) new n next c.remove.ensures.may
+          (subst (λ (t : ValueType). MakesIndex t now new m n root (without_posting value doc (index_of t m root)) next) typed c.in_ok-next.ensures.makes);
+      counts = counts_put 34 gone_records gone_grows (ledger c.args.store.now) (is_gone added) c.args.old.now.entries
+          now c.loop-value.value-iterator c.next.new.self value weight c.loop-value.invariant.counts c.in-Some.ensures.steps
+          (ap not gone) new p.may (few_gone value m root _ now new c.remove.ensures.counts);
+      low = λ levels low.
+          let here : IsLow levels (index_of c.args.value_type m root) = low p.walk.done c.loop-value.value-iterator (index_of c.args.value_type m root) p.walk.joins p.walk.between in
+          counts_put (value_nodes levels) gone_records gone_grows (ledger c.args.store.now) (is_gone added) c.args.old.now.entries
+          now c.loop-value.value-iterator c.next.new.self value weight (c.loop-value.invariant.low levels low) c.in-Some.ensures.steps
+          (ap not gone) new p.may
+          (low_gone value m root _ levels (dictionary_low c.args.value_type m root levels p.index_is here)
+          (list_low value m root levels (subst (λ t. IsIndex t m root) (sym typed) p.index_is) (subst (λ t. IsLow levels (index_of t m root)) (sym typed) here))
+          now new c.remove.ensures.counts);
+    }
 
 pub loop-value-preserved : goal.loop-value-preserved
 loop-value-preserved g c =
@@ -92,17 +154,37 @@ loop-value-preserved g c =
     let records = g.S.Frozen.records in
     let value = c.in-Some.value.now in
     let added = get value_cmp c.args.new.now in
-    let other = some_then (added value) (sym c.contains_key.ensures ∙ c.if-not-contains_key.false) in
-    removes_stay c.args.value_type (ledger c.args.store.now) (records c.args.store.now) c.args.root c.args.doc added c.args.old.now.entries
-    (ledger c.loop-value.store) (records c.loop-value.store) c.loop-value.next c.loop-value.value-iterator c.next.new.self value c.in-Some.field-0-1.now
-    c.iter-value-items.ensures.ordered c.loop-value.invariant c.in-Some.ensures.steps other.0 other.1
+    let there = sym c.contains_key.ensures ∙ c.if-not-contains_key.false in
+    let other = some_then (added value) there in
+    record {
+      removes = removes_stay c.args.value_type (ledger c.args.store.now) (records c.args.store.now) c.args.root c.args.doc added c.args.old.now.entries
+          (ledger c.loop-value.store) (records c.loop-value.store) c.loop-value.next c.loop-value.value-iterator c.next.new.self value c.in-Some.field-0-1.now
+          c.iter-value-items.ensures.ordered c.loop-value.invariant.removes c.in-Some.ensures.steps other.0 other.1;
+      counts = counts_pass 34 gone_records gone_grows (ledger c.args.store.now) (is_gone added) c.args.old.now.entries
+          (ledger c.loop-value.store) c.loop-value.value-iterator c.next.new.self value c.in-Some.field-0-1.now c.loop-value.invariant.counts c.in-Some.ensures.steps (ap not there);
+      low = λ levels low. counts_pass (value_nodes levels) gone_records gone_grows (ledger c.args.store.now) (is_gone added) c.args.old.now.entries
+          (ledger c.loop-value.store) c.loop-value.value-iterator c.next.new.self value c.in-Some.field-0-1.now (c.loop-value.invariant.low levels low) c.in-Some.ensures.steps (ap not there);
+    }
 
 pub returns-clause-makes : goal.returns-clause-makes
 returns-clause-makes g c =
     let ledger = g.S.Store.ledger in
     let records = g.S.Frozen.records in
     removes_end c.args.value_type (ledger c.args.store.now) (records c.args.store.now) c.args.root c.args.doc (get value_cmp c.args.new.now) c.args.old.now.entries
-    (ledger c.loop-value.store) (records c.loop-value.store) c.loop-value.next c.loop-value.value-iterator c.loop-value.invariant c.in-None.ensures.steps.0
+    (ledger c.loop-value.store) (records c.loop-value.store) c.loop-value.next c.loop-value.value-iterator c.loop-value.invariant.removes c.in-None.ensures.steps.0
+
+pub returns-clause-counts : goal.returns-clause-counts
+returns-clause-counts g c =
+    let ledger = g.S.Store.ledger in
+    counts_end 34 gone_records gone_grows (ledger c.args.store.now) (is_gone (get value_cmp c.args.new.now)) c.args.old.now.entries
+    (ledger c.loop-value.store) c.loop-value.value-iterator c.loop-value.invariant.counts
+
+pub returns-clause-low : goal.returns-clause-low
+returns-clause-low g c =
+    let ledger = g.S.Store.ledger in
+    λ levels low.
+    counts_end (value_nodes levels) gone_records gone_grows (ledger c.args.store.now) (is_gone (get value_cmp c.args.new.now)) c.args.old.now.entries
+    (ledger c.loop-value.store) c.loop-value.value-iterator (c.loop-value.invariant.low levels low)
 
 pub returns-clause-may : goal.returns-clause-may
-returns-clause-may g c = c.loop-value.invariant.may
+returns-clause-may g c = c.loop-value.invariant.removes.may

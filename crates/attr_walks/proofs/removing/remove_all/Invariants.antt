@@ -1,11 +1,20 @@
+use Rattle.std.specs.Prelude.{ℕ}
 use Rattle.std.specs.BTreeMap.{get}
+use Rattle.attr_images.specs.Postings.{index_of}
 use Rattle.attr_types.specs.Value.{value_cmp}
+use Rattle.attr_walks.specs.Counts.{is_gone, value_nodes, RemovesLow}
+use Rattle.attr_walks.proofs.CountLemmas.{CountsSoFar, gone_records}
 use Rattle.attr_walks.proofs.RemoveLemmas.{RemovesSoFar}
 use Rattle.attr_walks.proofs.removing.remove_all.Given as goal
 
--- the entries so far are taken out
+-- the entries so far are taken out, and what that made is counted
 abbrev pub invariant-loop-value : goal.invariant-loop-value
 invariant-loop-value g l =
     let ledger = g.S.Store.ledger in
     let records = g.S.Frozen.records in
-    RemovesSoFar l.fn.value_type (ledger l.fn.store) (ledger l.store) (records l.fn.store) (records l.store) l.fn.root l.next l.doc (get value_cmp l.new) l.old.entries l.value-iterator
+    record {
+      removes : RemovesSoFar l.fn.value_type (ledger l.fn.store) (ledger l.store) (records l.fn.store) (records l.store) l.fn.root l.next l.doc (get value_cmp l.new) l.old.entries l.value-iterator;
+      counts : CountsSoFar 34 gone_records (ledger l.fn.store) (ledger l.store) (is_gone (get value_cmp l.new)) l.old.entries l.value-iterator;
+      low : (levels : ℕ) → RemovesLow levels (index_of l.fn.value_type (records l.fn.store) l.fn.root) l.doc (get value_cmp l.new) l.old.entries
+          → CountsSoFar (value_nodes levels) gone_records (ledger l.fn.store) (ledger l.store) (is_gone (get value_cmp l.new)) l.old.entries l.value-iterator;
+    }

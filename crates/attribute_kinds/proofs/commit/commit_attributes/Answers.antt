@@ -3,6 +3,7 @@ use Rattle.std.proofs.lemmas.Result.{err_from_is_err_and}
 use Rattle.attribute_kinds.specs.Fields.{trees_of}
 use Rattle.attribute_kinds.proofs.CommitLemmas.{before_owns, commits_attributes, mid_lawful, mid_unit, mid_whole}
 use Rattle.attribute_kinds.proofs.FieldSteps.{laws_of}
+use Rattle.attribute_kinds.proofs.RootLemmas.{for_fields}
 use Rattle.attribute_kinds.proofs.commit.commit_attributes.Goals as goal
 
 pub root_unit-requires : goal.root_unit-requires
@@ -78,3 +79,8 @@ returns-in_err-root-clause-refused g c = let p = err_from_is_err_and c.from_resi
 
 pub returns-in_err-root-clause-keeps : goal.returns-in_err-root-clause-keeps
 returns-in_err-root-clause-keeps g c = let p = err_from_is_err_and c.from_residual.result c.from_residual.ensures.1 in rw p.1 c.root_unit.ensures.keeps
+
+pub returns-in_err-root-clause-width : goal.returns-in_err-root-clause-width
+returns-in_err-root-clause-width g c =
+    let p = err_from_is_err_and c.from_residual.result c.from_residual.ensures.1 in
+    rw (p.1, p.2) (for_fields c.args.fields.now c.args.roots.now c.args.operations _ c.requires.sized c.in_err-root.ensures.width)

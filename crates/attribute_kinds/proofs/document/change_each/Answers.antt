@@ -1,13 +1,17 @@
-use Rattle.std.proofs.Common.{◌≡◌, length, sym, subst, ◌∙◌, arith, refl, rules}
+use Rattle.std.proofs.Common.{◌≡◌, ◌+◌, [], length, sym, subst, ◌∙◌, arith, refl, rules}
 use Rattle.std.proofs.lemmas.Option.{slice_get_read}
 use Rattle.std.proofs.lemmas.Result.{err_from_is_err_and}
-use Rattle.std.specs.Option.{option_copied}
+use Rattle.std.specs.Option.{option_copied, unwrap_or}
+use Rattle.attr_field.specs.Counts.{StaysLow}
+use Rattle.attr_index.specs.Changes.{first_weights}
+use Rattle.attr_index.specs.Columns.{Column}
 use Rattle.attribute_kinds.specs.Fields.{table_with, trees_of}
 use Rattle.attribute_kinds.specs.Views.{table_at}
 use Rattle.attribute_kinds.proofs.TreeLists.{set_length}
 use Rattle.attribute_kinds.proofs.Columns.{trees_sound}
 use Rattle.attribute_kinds.proofs.Walk.{IsPartway, way_begins, way_ends}
-use Rattle.attribute_kinds.proofs.FieldSteps.{laws_of, found_size, fit_size, can_change, way_on, refuses_after}
+use Rattle.attribute_kinds.proofs.FieldSteps.{column_is, laws_of, found_size, fit_size, can_change, way_on, refuses_after}
+use Rattle.attribute_kinds.proofs.CountLemmas.{counts_on, counts_all, makes_none}
 use Rattle.attribute_kinds.proofs.document.change_each.Goals as goal
 
 pub loop-i-init : goal.loop-i-init
@@ -19,6 +23,7 @@ loop-i-init g c =
       unit = c.requires.unit;
       sized = c.requires.sized;
       way = way_begins ledger m c.args.fields.now trees (table_with (table_at m trees) c.args.doc (option_copied c.args.new)) c.requires.fields c.requires.owns;
+      counts = makes_none ledger (table_at m trees) (option_copied c.args.old) (option_copied c.args.new) 0;
       may = c.may_do_law.ensures.same c.args.store.now;
     }
 
@@ -64,6 +69,23 @@ returns-in_err-roots-clause-sized g c = let p = err_from_is_err_and c.from_resid
 pub returns-in_err-roots-clause-changes : goal.returns-in_err-roots-clause-changes
 returns-in_err-roots-clause-changes g c = let p = err_from_is_err_and c.from_residual.result c.from_residual.ensures.1 in rw p.1 tt
 
+pub returns-in_err-roots-clause-counts : goal.returns-in_err-roots-clause-counts
+returns-in_err-roots-clause-counts g c =
+    let ledger = g.S.Store.ledger in
+    let records = g.S.Frozen.records in
+    let table = table_at (records c.args.store.now) (trees_of c.args.fields.now c.args.roots.now) in
+    let below = c.loop-i-test.true in
+    let same = c.loop-i.invariant.sized in
+    counts_all table (option_copied c.args.old) (option_copied c.args.new) (ledger c.args.store.now) (ledger c.change_field.new.store) (c.loop-i.i + 1) (length c.args.fields.now) (omega arith)
+    (counts_on table (option_copied c.args.old) (option_copied c.args.new) (ledger c.args.store.now) (ledger c.loop-i.store) c.loop-i.i (ledger c.change_field.new.store)
+    c.items_before-before.result.now (option_copied c.items_after-after.result) c.items_before-before.ensures c.items_after-after.ensures
+    c.loop-i.invariant.may c.loop-i.invariant.counts c.change_field.ensures.counts
+    (λ levels stays. c.change_field.ensures.low levels (subst (λ (column : Column). StaysLow levels column (first_weights [] (unwrap_or (option_copied c.items_after-after.result) [])))
+    (sym (column_is (ledger c.args.store.now) (ledger c.loop-i.store) (records c.args.store.now) (records c.loop-i.store) c.args.fields.now c.args.roots.now c.loop-i.roots
+    c.args.doc c.loop-i.i (option_copied c.args.old) (option_copied c.args.new) c.index-fields-i.result c.index-roots-i.result c.loop-i.invariant.way
+    (slice_get_read c.args.fields.now (length c.args.fields.now) c.loop-i.i c.index-fields-i.result refl below c.index-fields-i.is)
+    (slice_get_read c.loop-i.roots (length c.args.fields.now) c.loop-i.i c.index-roots-i.result (sym same) below c.index-roots-i.is))) stays)))
+
 pub returns-in_err-roots-clause-refuses : goal.returns-in_err-roots-clause-refuses
 returns-in_err-roots-clause-refuses g c =
     let p = err_from_is_err_and c.from_residual.result c.from_residual.ensures.1 in
@@ -94,6 +116,15 @@ loop-i-preserved g c =
           (slice_get_read c.loop-i.roots (length c.args.fields.now) c.loop-i.i c.index-roots-i.result (sym same) below c.index-roots-i.is)
           laws (trees_sound (records c.args.store.now) laws c.args.fields.now c.args.roots.now c.requires.sized c.requires.fields)
           (option_copied c.items_after-after.result) c.items_after-after.ensures (ledger c.change_field.new.store) (records c.change_field.new.store) c.in_ok-roots.field-0 c.in_ok-roots.ensures.makes;
+      counts = counts_on (table_at (records c.args.store.now) (trees_of c.args.fields.now c.args.roots.now)) (option_copied c.args.old) (option_copied c.args.new)
+          (ledger c.args.store.now) (ledger c.loop-i.store) c.loop-i.i (ledger c.change_field.new.store)
+          c.items_before-before.result.now (option_copied c.items_after-after.result) c.items_before-before.ensures c.items_after-after.ensures
+          c.loop-i.invariant.may c.loop-i.invariant.counts c.change_field.ensures.counts
+          (λ levels stays. c.change_field.ensures.low levels (subst (λ (column : Column). StaysLow levels column (first_weights [] (unwrap_or (option_copied c.items_after-after.result) [])))
+          (sym (column_is (ledger c.args.store.now) (ledger c.loop-i.store) (records c.args.store.now) (records c.loop-i.store) c.args.fields.now c.args.roots.now c.loop-i.roots
+          c.args.doc c.loop-i.i (option_copied c.args.old) (option_copied c.args.new) c.index-fields-i.result c.index-roots-i.result c.loop-i.invariant.way
+          (slice_get_read c.args.fields.now (length c.args.fields.now) c.loop-i.i c.index-fields-i.result refl below c.index-fields-i.is)
+          (slice_get_read c.loop-i.roots (length c.args.fields.now) c.loop-i.i c.index-roots-i.result (sym same) below c.index-roots-i.is))) stays));
       may = c.may_do_law.ensures.then c.args.store.now c.loop-i.store c.change_field.new.store c.loop-i.invariant.may c.change_field.ensures.may;
     }
 
@@ -111,6 +142,13 @@ returns-clause-changes g c =
     way_ends (ledger c.args.store.now) (ledger c.loop-i.store) m (records c.loop-i.store) fields trees (trees_of fields c.loop-i.roots) c.args.doc (option_copied c.args.new)
     c.requires.fields.some (trees_sound m (laws_of c.field_law.ensures.stays c.field_law.ensures.lawful) fields c.args.roots.now c.requires.sized c.requires.fields) c.requires.number c.requires.fits
     (subst (λ j. IsPartway (ledger c.args.store.now) (ledger c.loop-i.store) m (records c.loop-i.store) fields trees (trees_of fields c.loop-i.roots) (table_with (table_at m trees) c.args.doc (option_copied c.args.new)) j) last c.loop-i.invariant.way)
+
+pub returns-clause-counts : goal.returns-clause-counts
+returns-clause-counts g c =
+    let ledger = g.S.Store.ledger in
+    let most = c.loop-i.auto.i-end in
+    counts_all (table_at (g.S.Frozen.records c.args.store.now) (trees_of c.args.fields.now c.args.roots.now)) (option_copied c.args.old) (option_copied c.args.new)
+    (ledger c.args.store.now) (ledger c.loop-i.store) c.loop-i.i (length c.args.fields.now) (omega arith) c.loop-i.invariant.counts
 
 pub returns-clause-may : goal.returns-clause-may
 returns-clause-may g c = c.loop-i.invariant.may

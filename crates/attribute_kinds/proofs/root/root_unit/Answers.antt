@@ -3,7 +3,7 @@ use Rattle.store_api.specs.Calls.{Refuses}
 use Rattle.store_api.specs.Units.{MakesAtMost, MayDo}
 use Rattle.attr_images.specs.Words.{class_of}
 use Rattle.attribute_kinds.specs.Commits.{roots_listed}
-use Rattle.attribute_kinds.proofs.RootLemmas.{begun_root, accepts_root, refuses_root}
+use Rattle.attribute_kinds.proofs.RootLemmas.{begun_root, accepts_root, for_width, refuses_root}
 use Rattle.attribute_kinds.proofs.Units.{left_unit, keeps_unit}
 use Rattle.attribute_kinds.proofs.root.root_unit.Goals as goal
 
@@ -59,6 +59,11 @@ returns-in-Err-clause-refused g c =
     (c.class_law.ensures.width (length (c.args.operations ∷ roots_listed c.args.roots.now))) (g.met.S.Store.settled c.args.store.now c.requires.unit)
     (subst (λ l. Refuses l mid width c.in-Err.error) c.begin.ensures.ledger c.in-Err.ensures.refuses) none c.undo.ensures
     (g.met.S.Store.counted c.args.store.now) (g.met.S.Store.counted c.turn_root.new.store) (c.turn_root.ensures.may.sizes ∙ ap (λ l. l.work.sizes) c.begin.ensures.ledger)
+
+pub returns-in-Err-clause-width : goal.returns-in-Err-clause-width
+returns-in-Err-clause-width g c =
+    let ledger = g.S.Store.ledger in
+    for_width (ledger c.begin.new.self) (ledger c.turn_root.new.store) (class_of (length (c.args.operations ∷ roots_listed c.args.roots.now))) c.in-Err.error c.in-Err.ensures.refuses
 
 pub returns-in-Err-clause-keeps : goal.returns-in-Err-clause-keeps
 returns-in-Err-clause-keeps g c =

@@ -1,14 +1,17 @@
-use Rattle.std.proofs.Common.{◌≡◌, false, sym, ap, subst, ◌∙◌, arith}
+use Rattle.std.proofs.Common.{◌≡◌, false, sym, ap, subst, ◌∙◌, arith, length}
 use Rattle.std.specs.List.{AllZip}
 use Rattle.store_api.specs.Parts.{Owns}
 use Rattle.store_api.specs.declared.store.StoreError.TheVariants.{Memory}
 use Rattle.attr_types.specs.Lawful.{OpFits, ChangeFits}
 use Rattle.attr_types.specs.Table.{document_at, op_doc}
 use Rattle.attr_types.specs.declared.op.Op.TheVariants.{Put, Update, Remove}
+use Rattle.std.specs.Prelude.{IfErr}
 use Rattle.attribute_kinds.specs.Calls.{KeepsStore}
+use Rattle.attribute_kinds.specs.Counts.{MakesOperation, SparesOperation, document_after, document_before}
 use Rattle.attribute_kinds.specs.Fields.{AreFields, parts_of, trees_of}
 use Rattle.attribute_kinds.specs.Steps.{Stepped, RefusedStep}
 use Rattle.attribute_kinds.specs.Views.{table_at}
+use Rattle.attribute_kinds.proofs.CountLemmas.{makes_none}
 use Rattle.attribute_kinds.proofs.StepLemmas.{keeps_same, leaves_same}
 use Rattle.attribute_kinds.proofs.step.step.Goals as goal
 
@@ -142,3 +145,79 @@ returns-clause-steps g c =
 
 pub returns-clause-keeps : goal.returns-clause-keeps
 returns-clause-keeps g c = subst (λ f. KeepsStore (g.S.Store.ledger f) (g.S.Store.ledger c.remove_document.new.store)) c.read_document.ensures.same c.remove_document.ensures.keeps
+
+pub returns-in_default-clause-counts : goal.returns-in_default-clause-counts
+returns-in_default-clause-counts g c =
+    let ledger = g.S.Store.ledger in
+    let fields = c.args.fields.now in
+    let table = table_at (g.S.Frozen.records c.args.store.now) (trees_of fields c.args.roots.now) in
+    subst (λ f. MakesOperation (ledger c.args.store.now) (ledger f) fields table c.args.op.now) (sym c.read_document.ensures.same)
+    (makes_none (ledger c.args.store.now) table (document_before table c.args.op.now) (document_after fields table c.args.op.now) (length fields))
+
+pub returns-in-Put-clause-counts : goal.returns-in-Put-clause-counts
+returns-in-Put-clause-counts g c =
+    let ledger = g.S.Store.ledger in
+    let records = g.S.Frozen.records in
+    let fields = c.args.fields.now in
+    let trees = trees_of fields c.args.roots.now in
+    let new = c.put_document.new.store in
+    let old = c.args.store.now in
+    let here = subst (λ f. MakesOperation (ledger f) (ledger new) fields (table_at (records f) trees) (Put c.doc-doc.result c.in-Put.items)) c.read_document.ensures.same c.put_document.ensures.counts in
+    subst (λ o. MakesOperation (ledger old) (ledger new) fields (table_at (records old) trees) o) (ap (λ d. Put d c.in-Put.items) (c.doc-doc.ensures.doc ∙ ap op_doc c.in-Put.is) ∙ sym c.in-Put.is) here
+
+pub returns-in-Put-clause-spares : goal.returns-in-Put-clause-spares
+returns-in-Put-clause-spares g c =
+    let ledger = g.S.Store.ledger in
+    let records = g.S.Frozen.records in
+    let fields = c.args.fields.now in
+    let trees = trees_of fields c.args.roots.now in
+    let new = c.put_document.new.store in
+    let old = c.args.store.now in
+    let here = subst (λ f. IfErr c.put_document.result (SparesOperation (ledger new) fields (table_at (records f) trees) (Put c.doc-doc.result c.in-Put.items))) c.read_document.ensures.same c.put_document.ensures.spares in
+    subst (λ o. IfErr c.put_document.result (SparesOperation (ledger new) fields (table_at (records old) trees) o)) (ap (λ d. Put d c.in-Put.items) (c.doc-doc.ensures.doc ∙ ap op_doc c.in-Put.is) ∙ sym c.in-Put.is) here
+
+pub returns-in-Update-clause-counts : goal.returns-in-Update-clause-counts
+returns-in-Update-clause-counts g c =
+    let ledger = g.S.Store.ledger in
+    let records = g.S.Frozen.records in
+    let fields = c.args.fields.now in
+    let trees = trees_of fields c.args.roots.now in
+    let new = c.update_document.new.store in
+    let old = c.args.store.now in
+    let here = subst (λ f. MakesOperation (ledger f) (ledger new) fields (table_at (records f) trees) (Update c.doc-doc.result c.in-Update.create c.as_slice.result.now)) c.read_document.ensures.same c.update_document.ensures.counts in
+    subst (λ o. MakesOperation (ledger old) (ledger new) fields (table_at (records old) trees) o) (ap (λ changes. Update c.doc-doc.result c.in-Update.create changes) c.as_slice.ensures
+    ∙ ap (λ d. Update d c.in-Update.create c.in-Update.change) (c.doc-doc.ensures.doc ∙ ap op_doc c.in-Update.is) ∙ sym c.in-Update.is) here
+
+pub returns-in-Update-clause-spares : goal.returns-in-Update-clause-spares
+returns-in-Update-clause-spares g c =
+    let ledger = g.S.Store.ledger in
+    let records = g.S.Frozen.records in
+    let fields = c.args.fields.now in
+    let trees = trees_of fields c.args.roots.now in
+    let new = c.update_document.new.store in
+    let old = c.args.store.now in
+    let here = subst (λ f. IfErr c.update_document.result (SparesOperation (ledger new) fields (table_at (records f) trees) (Update c.doc-doc.result c.in-Update.create c.as_slice.result.now))) c.read_document.ensures.same c.update_document.ensures.spares in
+    subst (λ o. IfErr c.update_document.result (SparesOperation (ledger new) fields (table_at (records old) trees) o)) (ap (λ changes. Update c.doc-doc.result c.in-Update.create changes) c.as_slice.ensures
+    ∙ ap (λ d. Update d c.in-Update.create c.in-Update.change) (c.doc-doc.ensures.doc ∙ ap op_doc c.in-Update.is) ∙ sym c.in-Update.is) here
+
+pub returns-clause-counts : goal.returns-clause-counts
+returns-clause-counts g c =
+    let ledger = g.S.Store.ledger in
+    let records = g.S.Frozen.records in
+    let fields = c.args.fields.now in
+    let trees = trees_of fields c.args.roots.now in
+    let new = c.remove_document.new.store in
+    let old = c.args.store.now in
+    let here = subst (λ f. MakesOperation (ledger f) (ledger new) fields (table_at (records f) trees) (Remove c.doc-doc.result)) c.read_document.ensures.same c.remove_document.ensures.counts in
+    subst (λ o. MakesOperation (ledger old) (ledger new) fields (table_at (records old) trees) o) (ap Remove (c.doc-doc.ensures.doc ∙ ap op_doc c.in-Remove.is) ∙ sym c.in-Remove.is) here
+
+pub returns-clause-spares : goal.returns-clause-spares
+returns-clause-spares g c =
+    let ledger = g.S.Store.ledger in
+    let records = g.S.Frozen.records in
+    let fields = c.args.fields.now in
+    let trees = trees_of fields c.args.roots.now in
+    let new = c.remove_document.new.store in
+    let old = c.args.store.now in
+    let here = subst (λ f. IfErr c.remove_document.result (SparesOperation (ledger new) fields (table_at (records f) trees) (Remove c.doc-doc.result))) c.read_document.ensures.same c.remove_document.ensures.spares in
+    subst (λ o. IfErr c.remove_document.result (SparesOperation (ledger new) fields (table_at (records old) trees) o)) (ap Remove (c.doc-doc.ensures.doc ∙ ap op_doc c.in-Remove.is) ∙ sym c.in-Remove.is) here

@@ -1,11 +1,13 @@
-use Rattle.std.proofs.Common.{◌≡◌, sym, ap, subst, ◌∙◌, arith}
+use Rattle.std.proofs.Common.{◌≡◌, length, sym, ap, subst, ◌∙◌, arith}
 use Rattle.std.specs.Option.{option_copied}
 use Rattle.store_api.specs.Units.{MayDo}
 use Rattle.posting_store.specs.Changes.{RefusesSome}
 use Rattle.attr_types.specs.Table.{document_at}
+use Rattle.attribute_kinds.specs.Counts.{document_nodes, document_records, MakesDocument}
 use Rattle.attribute_kinds.specs.Fields.{AreFields, trees_of}
 use Rattle.attribute_kinds.specs.Views.{table_at}
 use Rattle.attribute_kinds.proofs.FieldSteps.{laws_of}
+use Rattle.attribute_kinds.proofs.CountLemmas.{document_unit, spares_unit}
 use Rattle.attribute_kinds.proofs.Units.{begun_owns, unit_changes, left_unit, refused_unit, keeps_unit}
 use Rattle.attribute_kinds.proofs.unit.change_unit.Goals as goal
 
@@ -64,6 +66,15 @@ returns-in-Ok-clause-changes g c =
     (records c.args.store.now) (records c.begin.new.self) (records c.change_document.new.store) (records c.accept.new.self) fields (trees_of fields c.args.roots.now) (trees_of fields c.in-Ok.next.items)
     c.args.doc (option_copied c.args.new) c.begin.ensures.ledger c.begin.ensures.records c.requires.owns c.in-Ok.ensures.changes c.accept.ensures
 
+pub returns-in-Ok-clause-counts : goal.returns-in-Ok-clause-counts
+returns-in-Ok-clause-counts g c =
+    let ledger = g.S.Store.ledger in
+    let trees = trees_of c.args.fields.now c.args.roots.now in
+    let made = subst (λ f. MakesDocument (ledger c.begin.new.self) (ledger c.change_document.new.store) (table_at f trees) (option_copied c.args.old) (option_copied c.args.new) (length c.args.fields.now))
+    c.begin.ensures.records c.change_document.ensures.counts in
+    document_unit (ledger c.args.store.now) (ledger c.begin.new.self) (ledger c.change_document.new.store) (ledger c.accept.new.self) (table_at (g.S.Frozen.records c.args.store.now) trees)
+    (option_copied c.args.old) (option_copied c.args.new) (length c.args.fields.now) c.begin.ensures.ledger made (g.S.Frozen.records c.accept.new.self) c.accept.ensures.counts (g.met.S.Store.settled c.accept.new.self c.accept.ensures.unit)
+
 pub returns-in-Ok-clause-keeps : goal.returns-in-Ok-clause-keeps
 returns-in-Ok-clause-keeps g c =
     let ledger = g.S.Store.ledger in
@@ -85,6 +96,23 @@ returns-in-Err-clause-refused g c =
     let mid = ledger c.change_document.new.store in
     refused_unit (ledger c.args.store.now) mid (ledger c.undo.new.self) c.in-Err.error c.undo.ensures.work
     (subst (λ l. RefusesSome l mid c.in-Err.error) c.begin.ensures.ledger c.in-Err.ensures.refuses)
+
+pub returns-in-Err-clause-counts : goal.returns-in-Err-clause-counts
+returns-in-Err-clause-counts g c =
+    let ledger = g.S.Store.ledger in
+    let trees = trees_of c.args.fields.now c.args.roots.now in
+    let made = subst (λ f. MakesDocument (ledger c.begin.new.self) (ledger c.change_document.new.store) (table_at f trees) (option_copied c.args.old) (option_copied c.args.new) (length c.args.fields.now))
+    c.begin.ensures.records c.change_document.ensures.counts in
+    document_unit (ledger c.args.store.now) (ledger c.begin.new.self) (ledger c.change_document.new.store) (ledger c.undo.new.self) (table_at (g.S.Frozen.records c.args.store.now) trees)
+    (option_copied c.args.old) (option_copied c.args.new) (length c.args.fields.now) c.begin.ensures.ledger made (g.S.Frozen.records c.undo.new.self) c.undo.ensures.counts (g.met.S.Store.settled c.undo.new.self c.undo.ensures.unit)
+
+pub returns-in-Err-clause-spares : goal.returns-in-Err-clause-spares
+returns-in-Err-clause-spares g c =
+    let ledger = g.S.Store.ledger in
+    spares_unit (ledger c.args.store.now) (ledger c.begin.new.self) (ledger c.change_document.new.store) (ledger c.undo.new.self)
+    (document_nodes (option_copied c.args.old) (option_copied c.args.new) (length c.args.fields.now)) (document_records (option_copied c.args.old) (option_copied c.args.new) (length c.args.fields.now))
+    c.begin.ensures.ledger c.change_document.ensures.counts.few (g.S.Frozen.records c.args.store.now) (g.S.Frozen.records c.undo.new.self) c.in-Err.error
+    (g.met.S.Store.settled c.args.store.now c.requires.unit) c.in-Err.ensures.refuses c.undo.ensures
 
 pub returns-in-Err-clause-keeps : goal.returns-in-Err-clause-keeps
 returns-in-Err-clause-keeps g c =

@@ -7,12 +7,17 @@ use Rattle.attr_images.specs.Images.{table_of}
 use Rattle.attr_images.specs.Shapes.{shape_of, types_of}
 use Rattle.attr_types.specs.Lawful.{OpFits}
 use Rattle.attr_types.specs.Table.{after_op}
+use Rattle.std.specs.Prelude.{IfErr}
 use Rattle.attribute_kinds.specs.Calls.{KeepsStore, LeavesEntries, RefusesOperation, applied_to}
+use Rattle.attribute_kinds.specs.Counts.{LacksBuffers, MakesOperation, SparesOf, SparesOperation}
 use Rattle.attribute_kinds.specs.Fields.{AreFields, parts_of, trees_of}
 use Rattle.attribute_kinds.specs.Steps.{Stepped}
 use Rattle.attribute_kinds.specs.Views.{AttributeView, table_at}
 use Rattle.attribute_kinds.proofs.ApplyLemmas.{changed_not, refused_not, refuses_operation, table_made, table_skipped, applied_made, applied_skipped}
 use Rattle.attribute_kinds.proofs.Holding.{holds_owns, stands_turned, stands_left}
+use Rattle.attribute_kinds.proofs.Columns.{trees_sound}
+use Rattle.attribute_kinds.proofs.FieldSteps.{laws_of}
+use Rattle.attribute_kinds.proofs.RoomLemmas.{lacks_buffers, spares_operation}
 use Rattle.attribute_kinds.proofs.StepLemmas.{leaves_same}
 use Rattle.attribute_kinds.proofs.attribute.Attribute.apply.Goals as goal
 
@@ -360,3 +365,84 @@ returns-in-Err-clause-committed g c =
 pub returns-in-Err-clause-published : goal.returns-in-Err-clause-published
 returns-in-Err-clause-published g c =
     ap (λ (v : AttributeView g.row.S.Denot). v.committed_operations) c.self.view_is
+
+pub returns-in-Ok-Some-clause-counts : goal.returns-in-Ok-Some-clause-counts
+returns-in-Ok-Some-clause-counts g c =
+    let ledger = g.S.Store.ledger in
+    let records = g.S.Frozen.records in
+    let inside = c.self.inside in
+    let old = inside.store in
+    let new = c.step.new.store in
+    let fields = inside.fields in
+    let trees = trees_of fields inside.roots.items in
+    let op = c.args.op.now in
+    let made = subst (λ fs. MakesOperation (ledger old) (ledger new) fs (table_at (records old) (trees_of fs inside.roots.items)) op) c.as_slice.ensures
+    (subst (λ rs. MakesOperation (ledger old) (ledger new) c.as_slice.result.now (table_at (records old) (trees_of c.as_slice.result.now rs)) op) c.deref.ensures.value c.step.ensures.counts) in
+    subst (λ (v : AttributeView g.row.S.Denot). MakesOperation (ledger v.store) (ledger new) v.fields v.table op) c.self.view_is made
+
+pub returns-in-Ok-None-clause-counts : goal.returns-in-Ok-None-clause-counts
+returns-in-Ok-None-clause-counts g c =
+    let ledger = g.S.Store.ledger in
+    let records = g.S.Frozen.records in
+    let inside = c.self.inside in
+    let old = inside.store in
+    let new = c.step.new.store in
+    let fields = inside.fields in
+    let trees = trees_of fields inside.roots.items in
+    let op = c.args.op.now in
+    let made = subst (λ fs. MakesOperation (ledger old) (ledger new) fs (table_at (records old) (trees_of fs inside.roots.items)) op) c.as_slice.ensures
+    (subst (λ rs. MakesOperation (ledger old) (ledger new) c.as_slice.result.now (table_at (records old) (trees_of c.as_slice.result.now rs)) op) c.deref.ensures.value c.step.ensures.counts) in
+    subst (λ (v : AttributeView g.row.S.Denot). MakesOperation (ledger v.store) (ledger new) v.fields v.table op) c.self.view_is made
+
+pub returns-in-Err-clause-counts : goal.returns-in-Err-clause-counts
+returns-in-Err-clause-counts g c =
+    let ledger = g.S.Store.ledger in
+    let records = g.S.Frozen.records in
+    let inside = c.self.inside in
+    let old = inside.store in
+    let new = c.step.new.store in
+    let fields = inside.fields in
+    let trees = trees_of fields inside.roots.items in
+    let op = c.args.op.now in
+    let made = subst (λ fs. MakesOperation (ledger old) (ledger new) fs (table_at (records old) (trees_of fs inside.roots.items)) op) c.as_slice.ensures
+    (subst (λ rs. MakesOperation (ledger old) (ledger new) c.as_slice.result.now (table_at (records old) (trees_of c.as_slice.result.now rs)) op) c.deref.ensures.value c.step.ensures.counts) in
+    subst (λ (v : AttributeView g.row.S.Denot). MakesOperation (ledger v.store) (ledger new) v.fields v.table op) c.self.view_is made
+
+pub returns-in-Err-clause-spares : goal.returns-in-Err-clause-spares
+returns-in-Err-clause-spares g c =
+    let ledger = g.S.Store.ledger in
+    let records = g.S.Frozen.records in
+    let inside = c.self.inside in
+    let old = inside.store in
+    let new = c.step.new.store in
+    let fields = inside.fields in
+    let trees = trees_of fields inside.roots.items in
+    let op = c.args.op.now in
+    let few = subst (λ fs. SparesOperation (ledger new) fs (table_at (records old) (trees_of fs inside.roots.items)) op c.in-Err.error) c.as_slice.ensures
+    (subst (λ rs. SparesOperation (ledger new) c.as_slice.result.now (table_at (records old) (trees_of c.as_slice.result.now rs)) op c.in-Err.error) c.deref.ensures.value c.in-Err.ensures.spares) in
+    let spares = spares_operation (ledger new) fields (table_at (records old) trees) op c.in-Err.error few in
+    subst (λ (v : AttributeView g.row.S.Denot). SparesOf (ledger new) v.fields v.table op c.refusal.result) c.self.view_is
+    (subst (λ a. SparesOf (ledger new) fields (table_at (records old) trees) op a) (sym c.refusal.ensures) spares)
+
+pub returns-in-Err-clause-room : goal.returns-in-Err-clause-room
+returns-in-Err-clause-room g c =
+    let ledger = g.S.Store.ledger in
+    let records = g.S.Frozen.records in
+    let inside = c.self.inside in
+    let old = inside.store in
+    let new = c.step.new.store in
+    let fields = inside.fields in
+    let trees = trees_of fields inside.roots.items in
+    let op = c.args.op.now in
+    let made = subst (λ fs. MakesOperation (ledger old) (ledger new) fs (table_at (records old) (trees_of fs inside.roots.items)) op) c.as_slice.ensures
+    (subst (λ rs. MakesOperation (ledger old) (ledger new) c.as_slice.result.now (table_at (records old) (trees_of c.as_slice.result.now rs)) op) c.deref.ensures.value c.step.ensures.counts) in
+    let first = subst (λ rs. Stepped c.as_slice.result.now (ledger old) (ledger new) (records old) (records new) (trees_of c.as_slice.result.now rs) op (new ≡ old) c.step.result)
+    c.deref.ensures.value c.step.ensures.steps in
+    let steps = subst (λ fs. Stepped fs (ledger old) (ledger new) (records old) (records new) (trees_of fs inside.roots.items) op (new ≡ old) c.step.result) c.as_slice.ensures first in
+    let is = subst (λ r. Stepped fields (ledger old) (ledger new) (records old) (records new) trees op (new ≡ old) r) (c.in-Err.is) steps in
+    let sound = trees_sound (records old) (laws_of c.field_law.ensures.stays c.field_law.ensures.lawful) fields inside.roots.items c.self.invariant.sized c.self.invariant.holds.are_fields in
+    let fits = subst (λ (v : AttributeView g.row.S.Denot). OpFits v.fields op) (sym c.self.view_is) c.requires.fits in
+    let lacks = lacks_buffers (ledger old) (ledger new) fields (table_at (records old) trees) op c.in-Err.error sound fits (g.met.S.Store.counted old) (g.met.S.Store.counted new)
+    (g.met.S.Store.limits old).some_words c.step.ensures.keeps is.refused made in
+    subst (λ (v : AttributeView g.row.S.Denot). LacksBuffers (ledger v.store) v.fields c.refusal.result) c.self.view_is
+    (subst (λ a. LacksBuffers (ledger old) fields a) (sym c.refusal.ensures) lacks)

@@ -1,16 +1,17 @@
-use Rattle.std.proofs.Common.{◌≡◌, ◌+◌, ◌<◌, ◌≤◌, length, refl, sym, ap, ap₂, subst, ◌∙◌, arith}
+use Rattle.std.proofs.Common.{◌≡◌, ◌+◌, ◌*◌, ◌<◌, ◌≤◌, length, refl, sym, ap, ap₂, subst, ◌∙◌, arith}
 use Rattle.image_base.specs.Images.{words_at}
 use Rattle.image_base.specs.declared.Image.{Image}
 use Rattle.arena_api.specs.Calls.{told_after}
 use Rattle.arena_api.specs.Works.{last_image}
 use Rattle.attr_images.specs.Images.{table_of}
 use Rattle.attr_images.specs.Shapes.{shape_of, types_of}
+use Rattle.attr_images.specs.Words.{class_of}
 use Rattle.attr_types.specs.declared.field.TheConstants.{MOST_FIELDS}
-use Rattle.attribute_kinds.specs.Calls.{CommitsImage, IsSpent, KeepsStore, LeavesEntries, RefusesCommit}
-use Rattle.attribute_kinds.specs.Commits.{CommitsAttributes}
+use Rattle.attribute_kinds.specs.Calls.{CommitsImage, IsForRoot, IsSpent, KeepsStore, LeavesEntries, RefusesCommit}
+use Rattle.attribute_kinds.specs.Commits.{CommitsAttributes, IsForWidth}
 use Rattle.attribute_kinds.specs.Fields.{HoldsAttributes, trees_of}
 use Rattle.attribute_kinds.specs.Views.{AttributeView, table_at}
-use Rattle.attribute_kinds.proofs.CommitViews.{image_committed, refuses_commit, spent_same, stands_committed, table_committed}
+use Rattle.attribute_kinds.proofs.CommitViews.{for_root, image_committed, refuses_commit, spent_same, stands_committed, table_committed}
 use Rattle.attribute_kinds.proofs.Holding.{stands_left}
 use Rattle.attribute_kinds.proofs.StepLemmas.{keeps_same, leaves_same}
 use Rattle.attribute_kinds.proofs.attribute.Attribute.commit.Goals as goal
@@ -297,6 +298,12 @@ returns-in-Err-clause-refused g c =
     let room : (ledger inside.store).work.commits.last < (ledger inside.store).work.sizes.commits = (let no = c.if-commits_left-eq0.false in let is = c.commits_left.ensures in omega arith) in
     subst (λ (v : AttributeView g.row.S.Denot). RefusesCommit (ledger v.store) (ledger new) c.refusal.result) c.self.view_is
     (subst (λ e. RefusesCommit (ledger old) (ledger new) e) (sym c.refusal.ensures) (refuses_commit (ledger old) (ledger new) c.in-Err.error room c.in-Err.ensures.refused))
+
+pub returns-in-Err-clause-width : goal.returns-in-Err-clause-width
+returns-in-Err-clause-width g c =
+    let width = subst (λ fs. IsForWidth (class_of (1 + 2 * length fs)) c.in-Err.error) c.as_slice-fields.ensures c.in-Err.ensures.width in
+    subst (λ (v : AttributeView g.row.S.Denot). IsForRoot v.fields c.refusal.result) c.self.view_is
+    (subst (λ e. IsForRoot c.self.inside.fields e) (sym c.refusal.ensures) (for_root c.self.inside.fields c.in-Err.error width))
 
 pub returns-in-Err-clause-spent : goal.returns-in-Err-clause-spent
 returns-in-Err-clause-spent g c =

@@ -1,0 +1,38 @@
+-- How many records a change of one document's items makes at most.
+use Rattle.std.specs.Prelude.{ℕ, ℤ, ◌+◌, ◌*◌, ◌^◌, ◌<◌, List, length, Option}
+use Rattle.std.specs.BTreeMap.{is_at}
+use Rattle.std.specs.Map.{lookup}
+use Rattle.attr_index.specs.Columns.{Column}
+use Rattle.attr_index.specs.Index.{Index, IsIndexOf}
+use Rattle.attr_types.specs.Value.{value_cmp}
+use Rattle.attr_types.specs.declared.value.Value.{Value}
+use Rattle.attr_walks.specs.Counts.{added_count, gone_count, value_nodes}
+
+-- the weight of a value among entries
+abbrev pub weight_at : List (Value × ℤ) → Value → Option ℤ
+weight_at entries value = lookup (is_at (value_cmp value)) entries
+
+-- the values of a document that are new or get another weight, and those that are no more
+abbrev pub new_values : List (Value × ℤ) → List (Value × ℤ) → ℕ
+new_values old new = added_count (weight_at old) new
+
+abbrev pub lost_values : List (Value × ℤ) → List (Value × ℤ) → ℕ
+lost_values old new = gone_count (weight_at new) old
+
+-- the nodes that a document's change makes at most: in two trees for each such value, and in the tree of documents
+abbrev pub field_nodes : List (Value × ℤ) → List (Value × ℤ) → ℕ
+field_nodes old new = 34 * new_values old new + 17 + 34 * lost_values old new
+
+-- and the other records: a list for each such value, its own where it is new, and one of the document's items
+abbrev pub field_records : List (Value × ℤ) → List (Value × ℤ) → ℕ
+field_records old new = 2 * new_values old new + 1 + lost_values old new
+
+-- no tree of an attribute gets more levels while a document gets these values: it has so few values, and so few documents
+pub record StaysLow (levels : ℕ) (column : Column) (new : List (Value × ℤ)) : Type 0 where
+  pub some : 0 < levels
+  pub values : (index : Index) → IsIndexOf column index → length index + length new < 2 * 8 ^ levels
+  pub documents : length column + 1 < 2 * 8 ^ levels
+
+-- the nodes of a change that such trees make at most
+abbrev pub low_nodes : ℕ → List (Value × ℤ) → List (Value × ℤ) → ℕ
+low_nodes levels old new = value_nodes levels * new_values old new + (2 * levels + 1) + value_nodes levels * lost_values old new

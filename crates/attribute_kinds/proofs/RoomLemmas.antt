@@ -1,0 +1,177 @@
+-- What an operation makes, and what a store that refused it had.
+use Rattle.std.proofs.Common.{◌≡◌, ℕ, ℤ, zero, suc, ◌+◌, ◌*◌, ◌/◌, ◌<◌, ◌≤◌, Bool, true, false, cond, nat_eq, nat_cmp, List, [], ◌∷◌, length, Option, Some, None, option_map, refl, sym, ap, subst, ◌∙◌, arith, inl, inr, suc-mul}
+use Rattle.std.proofs.Math.Nat.{mul-le-mul_right}
+use Rattle.std.proofs.lemmas.Bool.{cases_lt}
+use Rattle.std.proofs.lemmas.Cmp.{nat_cmp_total, tied_itself}
+use Rattle.std.proofs.lemmas.List.Sums.{count_by-le-length}
+use Rattle.std.proofs.lemmas.Nat.{le-div}
+use Rattle.std.specs.Option.{IfSome, unwrap_or}
+use Rattle.std.specs.Ordering.{is_eq}
+use Rattle.std.specs.Prelude.{min}
+use Rattle.arena_api.specs.Works.{free_count}
+use Rattle.store_api.specs.Ledgers.{Ledger, OfWidth, buffers_in, capacity, widths}
+use Rattle.store_api.specs.Units.{MakesAtMost}
+use Rattle.store_api.specs.declared.store.StoreError.{StoreError}
+use Rattle.store_api.specs.declared.store.StoreError.TheVariants.{Full, Memory}
+use Rattle.attr_field.specs.Counts.{lost_values, new_values, weight_at}
+use Rattle.attr_index.specs.Changes.{first_weights}
+use Rattle.attr_types.proofs.EntryLemmas.{lookup-remove}
+use Rattle.attr_types.proofs.TableLemmas.{Sound, put_is_there, step_keeps}
+use Rattle.attr_types.specs.Lawful.{IsLawfulDocument, IsLawfulItems, OpFits}
+use Rattle.attr_types.specs.Table.{Table, after_op, document_at, op_doc, step, with_document, without_document}
+use Rattle.attr_types.specs.Value.{Document}
+use Rattle.attr_types.specs.declared.field.Field.{Field}
+use Rattle.attr_types.specs.declared.items.Item.{Item}
+use Rattle.attr_types.specs.declared.op.Op.{Op}
+use Rattle.attr_types.specs.declared.op.Op.TheVariants.{Put, Remove}
+use Rattle.attr_types.specs.declared.value.Value.{Value}
+use Rattle.attr_walks.specs.Counts.{MakesFew, is_added, is_gone}
+use Rattle.attribute_kinds.specs.Calls.{KeepsStore, RefusesUnit}
+use Rattle.attribute_kinds.specs.Counts.{document_after, document_before, document_nodes, document_records, items_at, of_width}
+use Rattle.attribute_kinds.specs.Counts.{operation_nodes, operation_records, operation_values, weights_at}
+use Rattle.attribute_kinds.specs.Counts.{IsOneSingle, LacksBuffers, MakesOperation, SparesFew, SparesOf, SparesOperation}
+use Rattle.attribute_kinds.specs.Refusals.{refusal_of}
+use Rattle.attribute_kinds.proofs.StepLemmas.{found_lawful}
+
+-- ---- the document after an operation
+module _ (fields : List Field) (table : Table) where
+  pub put_after : (doc : ℕ) (items : Document) → Some items ≡ document_after fields table (Put doc items)
+  put_after doc items = sym (put_is_there table doc items)
+
+  pub with_after : (op : Op) (doc : ℕ) (document : Document) → step fields table op ≡ Some (with_document table doc document)
+      → Some document ≡ document_at (after_op fields table op) doc
+  with_after op doc document is = sym (ap (λ (o : Option Table). document_at (unwrap_or o table) doc) is ∙ put_is_there table doc document)
+
+  pub without_after : (op : Op) (doc : ℕ) → Sound fields table → step fields table op ≡ Some (without_document table doc)
+      → None ≡ document_at (after_op fields table op) doc
+  without_after op doc sound is =
+      sym (ap (λ (o : Option Table). document_at (unwrap_or o table) doc) is ∙ lookup-remove nat_cmp_total table doc doc sound.0.ascends
+      ∙ ap (λ r. cond (is_eq r) None (document_at table doc)) (tied_itself nat_cmp_total doc))
+
+-- ---- a bound by the documents before and after is one by the operation
+module _ (fields : List Field) (table : Table) (op : Op) (before after : Option Document) (was : before ≡ document_before table op) (is : after ≡ document_after fields table op) where
+  pub of_operation : (P : Option Document → Option Document → Type 0) → P before after → P (document_before table op) (document_after fields table op)
+  of_operation P p = subst (λ (d : Option Document). P (document_before table op) d) is (subst (λ (d : Option Document). P d after) was p)
+
+-- ---- what is to spare
+values_few : (old new : List (Value × ℤ)) → new_values old new ≤ length new
+values_few old new = count_by-le-length (is_added (weight_at old)) new
+
+lost_few : (old new : List (Value × ℤ)) → lost_values old new ≤ length old
+lost_few old new = count_by-le-length (is_gone (weight_at new)) old
+
+width_few : (t : Bool) (spare new kept gone : ℕ) → spare ≤ cond t (0 + (34 * new + 17 + 34 * gone)) (0 + (2 * new + 1 + gone)) → new ≤ kept
+    → spare < 34 * (kept + gone + 1)
+width_few true spare new kept gone most few = omega arith
+width_few false spare new kept gone most few = omega arith
+
+spares_one : (fields : List Field) (table : Table) (op : Op) (spare width : ℕ) → spare ≤ of_width (operation_nodes fields table op) (operation_records fields table op) width
+    → length fields ≡ 1 → spare < 34 * (operation_values fields table op + 1)
+spares_one fields table op spare width few one =
+    let before = document_before table op in
+    let after = document_after fields table op in
+    let old = weights_at before 0 in
+    let new = weights_at after 0 in
+    width_few (nat_eq width 34) spare (new_values old new) (length new) (lost_values old new)
+    (subst (λ n. spare ≤ of_width (document_nodes before after n) (document_records before after n) width) one few) (values_few old new)
+
+pub spares_operation : {H : Type 0} (now : Ledger H) (fields : List Field) (table : Table) (op : Op) (e : StoreError) → SparesOperation now fields table op e
+    → SparesOf now fields table op (refusal_of e)
+spares_operation now fields table op (Full width active held oldest) few =
+    record { few = few; one = λ one. spares_one fields table op ((now.of_width width).spare) width few one }
+spares_operation now fields table op Memory few = tt
+
+-- ---- one attribute of kind single
+single_items : (fields : List Field) (document : Option Document) → IsOneSingle fields → IfSome document (IsLawfulDocument fields) → length (items_at document 0) ≤ 1
+single_items [] None single lawful = absurd single
+single_items [] (Some d) single lawful = absurd single
+single_items (field ∷ []) None single lawful = omega arith
+single_items (field ∷ []) (Some []) single lawful = absurd lawful
+single_items (field ∷ []) (Some (items ∷ d)) single lawful = (subst (λ kind. IsLawfulItems kind items) single lawful.0).0
+single_items (field ∷ next ∷ fields) None single lawful = absurd single
+single_items (field ∷ next ∷ fields) (Some d) single lawful = absurd single
+
+single_one : (fields : List Field) → IsOneSingle fields → length fields ≡ 1
+single_one [] single = absurd single
+single_one (field ∷ []) single = refl
+single_one (field ∷ next ∷ fields) single = absurd single
+
+single_weights : (items : List Item) → length items ≤ 1 → length (first_weights [] items) ≤ 1
+single_weights [] few = omega arith
+single_weights (item ∷ []) few = omega arith
+single_weights (item ∷ next ∷ items) few = absurd (omega arith)
+
+module _ (fields : List Field) (table : Table) (op : Op) (sound : Sound fields table) (fits : OpFits fields op) (single : IsOneSingle fields) where
+  weights_few : (document : Option Document) → IfSome document (IsLawfulDocument fields) → length (weights_at document 0) ≤ 1
+  weights_few document lawful = single_weights (items_at document 0) (single_items fields document single lawful)
+
+  before_few : length (weights_at (document_before table op) 0) ≤ 1
+  before_few = weights_few (document_before table op) (found_lawful fields table (op_doc op) (document_before table op) sound refl)
+
+  after_few : length (weights_at (document_after fields table op) 0) ≤ 1
+  after_few = weights_few (document_after fields table op) (found_lawful fields (after_op fields table op) (op_doc op) (document_after fields table op) (step_keeps fields table op fits sound) refl)
+
+  single_few : (operation_nodes fields table op ≤ 85) × (operation_records fields table op ≤ 4)
+  single_few =
+      let before = document_before table op in
+      let after = document_after fields table op in
+      let old = weights_at before 0 in
+      let new = weights_at after 0 in
+      let values = values_few old new in
+      let lost = lost_few old new in
+      let was = before_few in
+      let is = after_few in
+      let nodes : document_nodes before after 1 ≤ 85 = omega (arith, values, lost, was, is) in
+      let records : document_records before after 1 ≤ 4 = omega (arith, values, lost, was, is) in (
+        subst (λ n. document_nodes before after n ≤ 85) (sym (single_one fields single)) nodes,
+        subst (λ n. document_records before after n ≤ 4) (sym (single_one fields single)) records,
+      )
+
+-- ---- buffers: where fewer entries are made than fit one, at most one is handed out
+one_buffer : (room most : ℕ) (a b : OfWidth) → MakesAtMost room most a b → most < room → b.buffers ≤ a.buffers + 1
+one_buffer room most a b made few = elim (cases_lt (a.buffers + 1) b.buffers) [
+  | inl over ↦ absurd (
+      let more : suc (suc a.buffers) * room ≤ b.buffers * room = mul-le-mul_right room (omega arith) in
+      let first = suc-mul (suc a.buffers) room in
+      let second = suc-mul a.buffers room in
+      let space = made.room in
+      omega (arith, more, first, second, space, few))
+  | inr low ↦ low
+]
+
+few_buffers : {H : Type 0} (old new : Ledger H) (nodes records : ℕ) → MakesFew old new nodes records → nodes < capacity old.work.sizes.words 34
+    → buffers_in new.of_width widths ≤ buffers_in old.of_width widths + records + 1
+few_buffers old new nodes records made low =
+    let each = made.counts.each in
+    let few = made.nodes_few in
+    let node = one_buffer (capacity old.work.sizes.words 34) (made.most 34) (old.of_width 34) (new.of_width 34) (each 34) (omega arith) in
+    omega (
+      arith,
+      node,
+      made.records_few,
+      (each 2).buffers,
+      (each 4).buffers,
+      (each 8).buffers,
+      (each 16).buffers,
+      (each 32).buffers,
+      (each 64).buffers,
+      (each 128).buffers,
+      (each 256).buffers,
+      (each 512).buffers,
+      (each 1024).buffers,
+    )
+
+many_nodes : (words : ℕ) → 8192 ≤ words → 85 < capacity words 34
+many_nodes words some = let many = le-div 240 words 34 (omega arith) (omega arith) in omega arith
+
+pub lacks_buffers : {H : Type 0} (old new : Ledger H) (fields : List Field) (table : Table) (op : Op) (e : StoreError) → Sound fields table → OpFits fields op
+    → free_count old.work.buffer old.work.sizes.buffers + buffers_in old.of_width widths ≡ old.work.sizes.buffers
+    → free_count new.work.buffer new.work.sizes.buffers + buffers_in new.of_width widths ≡ new.work.sizes.buffers
+    → 8192 ≤ old.work.sizes.words → KeepsStore old new → RefusesUnit old new e → MakesOperation old new fields table op → LacksBuffers old fields (refusal_of e)
+lacks_buffers old new fields table op (Full width active held oldest) sound fits before after words keeps room made = λ single.
+    let few = single_few fields table op sound fits single in
+    let many = many_nodes old.work.sizes.words words in
+    let more = few_buffers old new (operation_nodes fields table op) (operation_records fields table op) made.few (let nodes = few.0 in omega arith) in
+    let sizes : new.work.sizes.buffers ≡ old.work.sizes.buffers = ap (λ s. s.buffers) keeps.sizes in
+    omega (arith, few.1, more, before, after, room.free, sizes)
+lacks_buffers old new fields table op Memory sound fits before after words keeps room made = tt
