@@ -1,0 +1,164 @@
+ghost use Rattle.std.specs.Prelude.{◌≡◌, ◌⊎◌, ◌<◌, ◌≤◌, false, if◌then◌else◌};
+ghost use Rattle.std.specs.declared.cmp.Ordering.TheVariants.{Less};
+ghost use Rattle.attr_compaction.specs.Places.{first_place, is_start, next_stage, place_after, place_cmp, HasKey, IsPast};
+ghost use Rattle.attr_compaction.specs.declared.plan.PlanKey.TheVariants as keys;
+
+use attr_types::Value;
+use std::marker::Model;
+
+/// The phase of the keys of an attribute's dictionary, which are the records of its values.
+pub const KEYS: u32 = 0;
+
+/// The phase of the documents with their items.
+pub const DOCUMENTS: u32 = 1;
+
+/// The phase of the lists of the values.
+pub const LISTS: u32 = 2;
+
+/// The phase of the nodes of the dictionary, and then of the tree of documents.
+pub const NODES: u32 = 3;
+
+/// How many phases there are; this one is past all keys.
+pub const PHASES: u32 = 4;
+
+/// What a step of a compaction visits: a value in its dictionary, a document, or a document in the list of a value, which
+/// is 0 for a list that is one record.
+#[derive(Drop)]
+pub enum PlanKey {
+    /// Before the first key of a phase.
+    Start,
+    Value(Value),
+    Doc(u32),
+    Pair(Value, u32),
+}
+
+/// A phase of an attribute.
+#[derive(Clone, Copy, Drop)]
+struct Stage {
+    field: u32,
+    phase: u32,
+}
+
+/// The place of a compaction that empties one buffer: all keys up to it were visited. It rises, and never falls.
+#[derive(Drop)]
+pub struct Plan {
+    victim: u32,
+    fields: u32,
+    stage: Stage,
+    next_key: PlanKey,
+}
+
+impl Model for Plan {
+    ghost use Rattle.attr_compaction.specs.Places.{IsPlace, PlanView};
+
+    ghost Value = { PlanView };
+
+    ghost view = { λ p. record { victim = p.victim; fields = p.fields; place = record { stage = p.stage; key = p.next_key } } };
+
+    ghost invariant = { λ p. IsPlace p.fields (record { stage = p.stage; key = p.next_key }) };
+}
+
+impl Plan {
+    /// Before the first key of the first of so many attributes, in a compaction of this buffer.
+    pub fn start(victim: u32, fields: u32) -> Plan
+        requires { 0 < fields }
+        ensures victim { result.victim ≡ victim }
+        ensures fields { result.fields ≡ fields }
+        ensures place { result.place ≡ first_place }
+    {
+        Plan {
+            victim,
+            fields,
+            stage: Stage {
+                field: 0,
+                phase: KEYS,
+            },
+            next_key: PlanKey::Start,
+        }
+    }
+
+    /// The buffer that is emptied.
+    pub fn victim(&self) -> u32
+        ensures { result ≡ self.now.victim }
+    {
+        self.victim
+    }
+
+    /// The attribute in which the place is.
+    pub fn field(&self) -> u32
+        ensures field { result ≡ self.now.place.stage.field }
+        ensures below { result < self.now.fields }
+    {
+        self.stage.field
+    }
+
+    /// The phase in which the place is, `PHASES` where all keys were visited.
+    pub fn phase(&self) -> u32
+        ensures phase { result ≡ self.now.place.stage.phase }
+        ensures most { result ≤ PHASES }
+    {
+        self.stage.phase
+    }
+
+    /// The last key of the phase that was visited.
+    pub fn key(&self) -> &PlanKey
+        ensures key { result.now ≡ self.now.place.key }
+        ensures of_phase { HasKey self.now.place.stage.phase self.now.place.key }
+    {
+        &self.next_key
+    }
+
+    /// A key was visited that is past the place; the place is this key then. With `Start` the phase has no further key,
+    /// and the place is before the first key of the next phase, or of the next attribute after the last phase; past all
+    /// keys after the last attribute.
+    pub fn next(&mut self, done: PlanKey)
+        requires phase { self.old.place.stage.phase < PHASES }
+        requires done { (done ≡ keys.Start) ⊎ IsPast self.old.place done }
+        ensures victim { self.new.victim ≡ self.old.victim }
+        ensures fields { self.new.fields ≡ self.old.fields }
+        ensures place { self.new.place ≡ place_after self.old.fields self.old.place done }
+        ensures rises { place_cmp self.old.place self.new.place ≡ Less }
+    {
+        let stage = stage_after(self.fields, self.stage, is_start(&done));
+        self.stage = stage;
+        self.next_key = done;
+    }
+}
+
+/// Whether it is before the first key.
+fn is_start(key: &PlanKey) -> bool
+    ensures { result ≡ is_start key.now }
+{
+    match key {
+        PlanKey::Start => true,
+        PlanKey::Value(_) => false,
+        PlanKey::Doc(_) => false,
+        PlanKey::Pair(_, _) => false,
+    }
+}
+
+/// The same phase, or where it is over the next one.
+fn stage_after(fields: u32, stage: Stage, is_over: bool) -> Stage
+    requires { stage.field < fields }
+    ensures { result ≡ (if is_over then next_stage fields stage else stage) }
+{
+    if !is_over {
+        return stage;
+    }
+    if stage.phase < NODES {
+        return Stage {
+            field: stage.field,
+            phase: stage.phase + 1,
+        };
+    }
+    if stage.field + 1 < fields {
+        return Stage {
+            field: stage.field + 1,
+            phase: KEYS,
+        };
+    }
+    Stage {
+        field: stage.field,
+        phase: PHASES,
+    }
+}

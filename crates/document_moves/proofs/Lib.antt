@@ -1,0 +1,4 @@
+pub mod SearchLemmas
+pub mod LyingLemmas
+pub mod SetLemmas
+pub mod NodeLemmas

@@ -1,0 +1,14 @@
+//! What a compaction does to documents: a document's items, or the nodes on its path, are made anew where they lie in the
+//! buffer that is emptied.
+#![tactic(auto)]
+
+mod keys;
+mod lying;
+mod moving;
+mod nodes;
+
+pub use moving::move_items;
+pub use nodes::move_document_nodes;
+
+/// What a reference is multiplied by in a word of a weighted set, whose low part is the weight.
+const WEIGHT_BASE: u64 = 4_294_967_296;

@@ -1,0 +1,70 @@
+-- What is left of a store when a part of an index was moved out of a buffer: the index reads as it did.
+use Rattle.std.specs.Prelude.{◌≡◌, ◌≢◌, ℕ, ◌+◌, List, [], ◌∷◌, Some}
+use Rattle.std.specs.List.{flat_map, AllByRecursion}
+use Rattle.std.specs.Ordering.{nat_cmp}
+use Rattle.entry_ref.specs.References.{buffer_of}
+use Rattle.image_base.specs.Records.{Records, SameAt}
+use Rattle.key_order.specs.Pairs.{lookup, take_out}
+use Rattle.store_api.specs.Ledgers.{Ledger}
+use Rattle.store_api.specs.Parts.{Owns, Turns, entries}
+use Rattle.tree_images.specs.Trees.{tree_pairs}
+use Rattle.tree_make.specs.Changes.{levels, tree as tree_part}
+use Rattle.tree_touch.specs.Paths.{path_nodes, NoneIn}
+use Rattle.attr_images.specs.Postings.{ListForm, short, tree, vector, dictionary_reach, index_of, list_form, postings_reach}
+use Rattle.attr_types.specs.Value.{type_of}
+use Rattle.attr_types.specs.declared.value.Value.{Value}
+use Rattle.enum_dictionary.specs.Dictionaries.{beside}
+use Rattle.value_index.specs.Changes.{nodes_most, record_most}
+use Rattle.value_index.specs.Indexes.{index_part, key_at, IsIndex, IsKey}
+
+-- a key of the index that lies in the buffer
+pub record IsKeyIn (bits buffer : ℕ) (m : Records) (root ref : ℕ) : Type 0 where
+  pub is_key : IsKey m root ref
+  pub lies : buffer_of bits ref ≡ buffer
+
+-- the key of a value lies in the buffer no more. The pairs of all other values are as they were, and so is the value's list. What was its
+-- key, if it is another now, is in use still and belongs to no index. Each record of the old keys and lists is as it was.
+pub record MovesKey {H : Type 0} (bits buffer : ℕ) (value : Value) (old new : Ledger H) (m n : Records) (root next : ℕ) : Type 0 where
+  pub left : List ℕ
+  pub left_in : AllByRecursion (IsKeyIn bits buffer m root) left
+  pub index_is : IsIndex (type_of value) n next
+  pub reads_as : index_of (type_of value) n next ≡ index_of (type_of value) m root
+  pub apart : (key : ℕ) → key_at value n next ≡ Some key → buffer_of bits key ≢ buffer
+  pub others : take_out (beside value n) (tree_pairs n next) ≡ take_out (beside value m) (tree_pairs m root)
+  pub list : lookup (beside value n) (tree_pairs n next) ≡ lookup (beside value m) (tree_pairs m root)
+  pub stay : SameAt (dictionary_reach m root) m n
+  pub owns : Owns new n (index_part next ∷ entries left ∷ [])
+  pub turns : Turns old new m n (index_part root ∷ []) (index_part next ∷ entries left ∷ [])
+
+-- on the way to a document nothing of a list lies in the buffer: its record, or the nodes of the tree. It is said of no bit vector
+abbrev pub FormIsApart : ℕ → ℕ → ℕ → Records → ListForm → Type 0
+FormIsApart bits buffer doc m (short ref) = buffer_of bits ref ≢ buffer
+FormIsApart bits buffer doc m (tree root) = NoneIn bits buffer (path_nodes m (λ key. nat_cmp key doc) root)
+FormIsApart bits buffer doc m (vector root) = ⊥
+
+-- the list of a value was moved out of the buffer, as far as a document leads. The value's key and all other pairs, with all that these
+-- reach, are as they were, and each key of before is one still, with its record.
+pub record MovesList {H : Type 0} (bits buffer doc : ℕ) (value : Value) (old new : Ledger H) (m n : Records) (root next : ℕ) : Type 0 where
+  pub index_is : IsIndex (type_of value) n next
+  pub reads_as : index_of (type_of value) n next ≡ index_of (type_of value) m root
+  pub apart : (list : ℕ) → lookup (beside value n) (tree_pairs n next) ≡ Some list → FormIsApart bits buffer doc n (list_form list)
+  pub key : key_at value n next ≡ key_at value m root
+  pub others : take_out (beside value n) (tree_pairs n next) ≡ take_out (beside value m) (tree_pairs m root)
+  pub rest : SameAt (flat_map (λ p. p.0 ∷ postings_reach m (list_form p.1)) (take_out (beside value m) (tree_pairs m root))) m n
+  pub keys : (ref : ℕ) → IsKey m root ref → IsKey n next ref × (n ref ≡ m ref)
+  pub owns : Owns new n (index_part next ∷ [])
+  pub turns : Turns old new m n (index_part root ∷ []) (index_part next ∷ [])
+
+-- no node of the dictionary on the way to a value lies in the buffer. Its pairs are as they were, with all that they reach.
+pub record MovesNodes {H : Type 0} (bits buffer : ℕ) (value : Value) (old new : Ledger H) (m n : Records) (root next : ℕ) : Type 0 where
+  pub index_is : IsIndex (type_of value) n next
+  pub reads_as : index_of (type_of value) n next ≡ index_of (type_of value) m root
+  pub apart : NoneIn bits buffer (path_nodes n (beside value m) next)
+  pub pairs : tree_pairs n next ≡ tree_pairs m root
+  pub stay : SameAt (dictionary_reach m root) m n
+  pub owns : Owns new n (index_part next ∷ [])
+  pub turns : Turns old new m n (tree_part root ∷ []) (tree_part next ∷ [])
+
+-- how many records of each width are made at most: the value's, and nodes of the dictionary
+abbrev pub key_most : Value → Records → ℕ → ℕ → ℕ
+key_most value m root width = record_most value width + nodes_most (levels m root) width

@@ -1,0 +1,64 @@
+ghost use Rattle.std.specs.Prelude.{◌≡◌, ◌≤◌, ◌+◌, ◌∷◌, true, length, IfOk, IfErr};
+ghost use Rattle.store_api.specs.Calls.{Refuses};
+ghost use Rattle.store_api.specs.Units.{MayDo};
+ghost use Rattle.array_store.specs.Adding.{AddsRecord, MakesOneOf};
+ghost use Rattle.attr_images.specs.Words.{class_of, stored_items, IsStoredList};
+
+use array_store::add;
+use attr_images::MOST_SHORT;
+use entry_ref::EntryRef;
+use store_api::{Store, StoreError};
+
+/// Makes a record of the items of another, by a buffer of their size.
+fn copy_by<const OFFSET_BITS: u32, S: Store<OFFSET_BITS>>(
+    store: &mut S,
+    array: EntryRef<OFFSET_BITS>,
+    items: &mut [u64],
+) -> Result<EntryRef<OFFSET_BITS>, StoreError>
+    requires unit { (S.ledger store.old).unit ≡ true }
+    requires stored { IsStoredList MOST_SHORT (S.records store.old array) }
+    requires size { length items.old ≡ length (stored_items (S.records store.old array)) }
+    ensures adds { IfOk result (AddsRecord OFFSET_BITS (S.ledger store.old) (S.ledger store.new) (S.records store.old) (S.records store.new)
+        (length (stored_items (S.records store.old array.entry)) ∷ stored_items (S.records store.old array.entry))) }
+    ensures items { IfOk result (λ r. stored_items (S.records store.new r) ≡ stored_items (S.records store.old array.entry)) }
+    ensures counts { MakesOneOf (class_of (1 + length (stored_items (S.records store.old array.entry)))) (S.ledger store.old) (S.ledger store.new) }
+    ensures refuses { IfErr result (Refuses (S.ledger store.old) (S.ledger store.new)
+        (class_of (1 + length (stored_items (S.records store.old array.entry))))) }
+    ensures may { MayDo (S.ledger store.old) (S.ledger store.new) }
+{
+    store.read(array, 1, items);
+    add(store, items)
+}
+
+/// Makes a record of the items of a short list once more.
+pub fn copy_record<const OFFSET_BITS: u32, S: Store<OFFSET_BITS>>(
+    store: &mut S,
+    array: EntryRef<OFFSET_BITS>,
+) -> Result<EntryRef<OFFSET_BITS>, StoreError>
+    requires unit { (S.ledger store.old).unit ≡ true }
+    requires stored { IsStoredList MOST_SHORT (S.records store.old array) }
+    ensures adds { IfOk result (AddsRecord OFFSET_BITS (S.ledger store.old) (S.ledger store.new) (S.records store.old) (S.records store.new)
+        (length (stored_items (S.records store.old array.entry)) ∷ stored_items (S.records store.old array.entry))) }
+    ensures items { IfOk result (λ r. stored_items (S.records store.new r) ≡ stored_items (S.records store.old array.entry)) }
+    ensures counts { MakesOneOf (class_of (1 + length (stored_items (S.records store.old array.entry)))) (S.ledger store.old) (S.ledger store.new) }
+    ensures refuses { IfErr result (Refuses (S.ledger store.old) (S.ledger store.new)
+        (class_of (1 + length (stored_items (S.records store.old array.entry))))) }
+    ensures may { MayDo (S.ledger store.old) (S.ledger store.new) }
+{
+    let mut buffer = [0; MOST_SHORT];
+    let count = count_of(store, array);
+    copy_by(store, array, &mut buffer[..count])
+}
+
+/// How many items a short list has.
+fn count_of<const OFFSET_BITS: u32, S: Store<OFFSET_BITS>>(
+    store: &mut S,
+    array: EntryRef<OFFSET_BITS>,
+) -> usize
+    requires { IsStoredList MOST_SHORT (S.records store.old array) }
+    ensures count { result ≡ length (stored_items (S.records store.old array.entry)) }
+    ensures few { result ≤ MOST_SHORT }
+    ensures same { store.new ≡ store.old }
+{
+    store.word(array, 0) as usize
+}

@@ -1,0 +1,28 @@
+ghost use Rattle.std.specs.Prelude.{◌≡◌, ◌+◌, ◌*◌, ◌/◌};
+ghost use Rattle.posting_store.specs.Lists.{IsPlain};
+
+use entry_ref::EntryRef;
+
+/// The record of a short list or the root of a tree, by the word of a list.
+pub fn record_of<const OFFSET_BITS: u32>(list: u64) -> EntryRef<OFFSET_BITS>
+    requires { IsPlain list }
+    ensures { result ≡ list / 2 }
+{
+    EntryRef::from_raw((list / 2) as u32)
+}
+
+/// The word of a short list.
+pub fn short_word<const OFFSET_BITS: u32>(array: EntryRef<OFFSET_BITS>) -> u64
+    ensures word { result ≡ 2 * array.entry }
+    ensures plain { IsPlain result }
+{
+    2 * array.raw() as u64
+}
+
+/// The word of a list that is a tree.
+pub fn tree_word<const OFFSET_BITS: u32>(root: EntryRef<OFFSET_BITS>) -> u64
+    ensures word { result ≡ 2 * root.entry + 1 }
+    ensures plain { IsPlain result }
+{
+    2 * root.raw() as u64 + 1
+}

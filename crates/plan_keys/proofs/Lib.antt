@@ -1,0 +1,3 @@
+pub mod NextLemmas
+pub mod ListLemmas
+pub mod OrderLemmas

@@ -1,0 +1,2 @@
+pub mod PhaseKeys
+pub mod Laws
