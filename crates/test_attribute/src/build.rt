@@ -1,7 +1,7 @@
 //! Operations and queries on one attribute, as the rows of tests name them.
 use attr_types::{
-    Change, Doc, Field, FieldChanges, FieldItems, Fields, Item, Items, Kind, Leaf, Name, Op, Query,
-    Text, Value, ValueType, Values,
+    Act, Change, Doc, Field, FieldChanges, FieldItems, Fields, Item, Items, Kind, Leaf, Name, Op,
+    Query, Text, Value, ValueType, Values, WeightAct,
 };
 use std::alloc::{AllocError, Global};
 use std::process::Abort;
@@ -15,6 +15,17 @@ pub enum Step {
     Assign(&'static [(i64, i32)]),
     Add(&'static [(i64, i32)]),
     Take(i64),
+    /// A single number is moved.
+    Shift(i64),
+    /// The item at a place of an array.
+    SetAt(u32, i64),
+    ShiftAt(u32, i64),
+    /// The weight of a value.
+    SetOf(i64, i32),
+    ShiftOf(i64, i64),
+    /// Updates that make the document where it is not there.
+    CreateWith(&'static [(i64, i32)]),
+    CreateShifted(i64),
     Remove,
 }
 
@@ -59,7 +70,7 @@ fn value(
     })
 }
 
-fn items(
+pub fn items(
     rt: &impl Abort,
     alloc: Global,
     value_type: ValueType,
@@ -74,7 +85,7 @@ fn items(
     Ok(items)
 }
 
-fn fives(
+pub fn fives(
     rt: &impl Abort,
     alloc: Global,
     value_type: ValueType,
@@ -97,13 +108,38 @@ fn change(
 ) -> Result<Change, AllocError> {
     Ok(match step {
         Step::Put(_) | Step::PutFives(_) | Step::Remove => Change::Keep,
-        Step::Assign(rows) => Change::Assign(items(rt, alloc, value_type, rows)?),
+        Step::Assign(rows) | Step::CreateWith(rows) => {
+            Change::Assign(items(rt, alloc, value_type, rows)?)
+        }
         Step::Add(rows) => Change::Add(items(rt, alloc, value_type, rows)?),
         Step::Take(name) => {
             let name = value(rt, alloc, value_type, name)?;
             Change::Take(Values::of_one(alloc, name)?)
         }
+        Step::Shift(amount) | Step::CreateShifted(amount) => Change::Shift(amount),
+        Step::SetAt(index, number) => {
+            let act = Act::Set(value(rt, alloc, value_type, number)?);
+            Change::At { index, act }
+        }
+        Step::ShiftAt(index, amount) => {
+            let act = Act::Shift(amount);
+            Change::At { index, act }
+        }
+        Step::SetOf(name, weight) => {
+            let value = value(rt, alloc, value_type, name)?;
+            let act = WeightAct::Set(weight);
+            Change::Of { value, act }
+        }
+        Step::ShiftOf(name, amount) => {
+            let value = value(rt, alloc, value_type, name)?;
+            let act = WeightAct::Shift(amount);
+            Change::Of { value, act }
+        }
     })
+}
+
+fn creates(step: Step) -> bool {
+    matches!(step, Step::CreateWith(_) | Step::CreateShifted(_))
 }
 
 /// The operation on one attribute.
@@ -127,9 +163,10 @@ pub fn op(
         step => {
             let change = change(rt, alloc, value_type, step)?;
             let change = FieldChanges::of_one(alloc, change)?;
+            let create = creates(step);
             Op::Update {
                 doc,
-                create: false,
+                create,
                 change,
             }
         }

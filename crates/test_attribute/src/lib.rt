@@ -2,8 +2,14 @@
 #![tactic(auto)]
 
 #[cfg(test)]
+mod answers;
+#[cfg(test)]
 mod attributes;
 #[cfg(test)]
 mod build;
+#[cfg(test)]
+mod of_changes;
+#[cfg(test)]
+mod of_room;
 #[cfg(test)]
 mod of_rows;

@@ -1,9 +1,11 @@
-//! Rows of standard input: `TYPE SEED CHANGES VALUES DOCUMENTS PERIOD EVERY BUFFERS`, and then `said LINE`, what the run must come
-//! to. Other lines are remarks.
+//! Rows of standard input: `TYPE SEED CHANGES VALUES DOCUMENTS PERIOD EVERY BUFFERS CHECKS`, and then `said LINE`, what the run must
+//! come to. Other lines are remarks.
+use crate::checked::is_sound_after;
 use crate::new_store;
+use crate::plain::Plain;
 use crate::run::{Load, Told, run};
 use crate::values::values_of;
-use attr_types::ValueType;
+use attr_types::{Value, ValueType};
 use std::alloc::{AllocError, Global};
 use std::io;
 use value_lists::ValueLists;
@@ -26,8 +28,8 @@ fn load_in(row: &str) -> Load {
 }
 
 /// A run as a line: whether all was the same, whether lists came over eight documents and back at least ten times, whether
-/// some units were refused, and whether most of the others were accepted.
-fn line_of(alloc: Global, told: Told) -> Result<String, AllocError> {
+/// some units were refused, whether most of the others were accepted, and how often the records were checked.
+fn line_of(alloc: Global, told: Told, checks: u32) -> Result<String, AllocError> {
     if let Some(turn) = told.differs {
         return format!(in alloc; "differs after change {turn}");
     }
@@ -41,14 +43,49 @@ fn line_of(alloc: Global, told: Told) -> Result<String, AllocError> {
     if told.accepted >= 1000 {
         line.push_str(", accepted")?;
     }
+    if checks > 0 {
+        let checked = format!(in alloc; ", {checks} checked")?;
+        line.push_str(&checked)?;
+    }
     Ok(line)
+}
+
+/// After how many changes of a run the records are not those of the plain map, first, of so many looks at them.
+fn first_unsound(
+    alloc: Global,
+    value_type: ValueType,
+    values: &[Value],
+    load: Load,
+    buffers: u32,
+    checks: u32,
+) -> Result<Option<u32>, AllocError> {
+    for check in 0..checks {
+        let mut part = load;
+        part.changes = (load.changes / checks.max(1)).saturating_mul(check.saturating_add(1));
+        part.every = load.changes;
+        if !is_sound_after(alloc, value_type, values, part, buffers)? {
+            return Ok(Some(part.changes));
+        }
+    }
+    Ok(None)
 }
 
 fn told(alloc: Global, row: &str, value_type: ValueType) -> Result<String, AllocError> {
     let values = values_of(alloc, value_type, number_at(row, 2).min(10_000))?;
-    let store = new_store(alloc, number_at(row, 6).max(1).min(1000))?;
+    let buffers = number_at(row, 6).max(1).min(1000);
+    let checks = number_at(row, 7).min(100);
+    let load = load_in(row);
+    if let Some(changes) = first_unsound(alloc, value_type, &values, load, buffers, checks)? {
+        return format!(in alloc; "not sound after {changes} changes");
+    }
+    let store = new_store(alloc, buffers)?;
     let mut lists = ValueLists::new(store, value_type);
-    line_of(alloc, run(alloc, &mut lists, &values, load_in(row))?)
+    let mut plain = Plain::new(alloc, values.len())?;
+    line_of(
+        alloc,
+        run(alloc, &mut lists, &values, load, &mut plain)?,
+        checks,
+    )
 }
 
 pub fn compare(rt: &HostRuntime) -> io::Result<()> {

@@ -176,15 +176,15 @@ fn change<const OFFSET_BITS: u32, S: Store<OFFSET_BITS>>(
     }
 }
 
-/// The changes of a run, one after another, until something differs.
+/// The changes of a run on an index and on a plain map, one after another, until something differs.
 pub fn run<const OFFSET_BITS: u32, S: Store<OFFSET_BITS>>(
     alloc: Global,
     lists: &mut ValueLists<OFFSET_BITS, S>,
     values: &[Value],
     load: Load,
+    plain: &mut Plain,
 ) -> Result<Told, AllocError> {
     let mut random = Random::new(load.seed);
-    let mut plain = Plain::new(alloc, values.len())?;
     let mut told = Told {
         differs: None,
         refused: 0,
@@ -193,7 +193,7 @@ pub fn run<const OFFSET_BITS: u32, S: Store<OFFSET_BITS>>(
         downs: 0,
     };
     for turn in 0..load.changes {
-        let look = match change(lists, values, load, turn, &mut random, &mut plain)? {
+        let look = match change(lists, values, load, turn, &mut random, plain)? {
             Outcome::Accepted => {
                 told.accepted = told.accepted.saturating_add(1);
                 turn % load.every.max(1) == 0
@@ -207,12 +207,12 @@ pub fn run<const OFFSET_BITS: u32, S: Store<OFFSET_BITS>>(
                 return Ok(told);
             }
         };
-        if look && !is_same(alloc, lists, values, &plain)? {
+        if look && !is_same(alloc, lists, values, plain)? {
             told.differs = Some(turn);
             return Ok(told);
         }
     }
-    if !is_same(alloc, lists, values, &plain)? {
+    if !is_same(alloc, lists, values, plain)? {
         told.differs = Some(load.changes);
     }
     told.ups = plain.ups;

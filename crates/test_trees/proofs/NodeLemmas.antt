@@ -9,11 +9,14 @@ use Rattle.tree_node.proofs.ReadLemmas.{hand-read}
 use Rattle.tree_node.proofs.RootLemmas.{root_least-some}
 use Rattle.tree_node.proofs.SlotLemmas.{child_nodes}
 
-pub child-is : (m : Records) (l node i : ℕ) → IsNode m 1 (suc l) node → i < length (node_values (m node)) → IsNode m 1 l (get_or (node_values (m node)) i 0)
+pub child-is : (m : Records) (l node i : ℕ) → IsNode m 1 (suc l) node → i < length (node_values (m node))
+    → IsNode m 1 l (get_or (node_values (m node)) i 0)
 child-is m l node i is low =
     let few : 1 ≤ 8 = omega arith in
     IsNode-lower m 8 1 l (get_or (node_values (m node)) i 0) few
     (AllByRecursion-at (IsNode m 8 l) (node_values (m node)) i 0 low (child_nodes m l _ _ (hand-read m 1 (suc l) node is)))
 
 pub top-is : (m : Records) (root level : ℕ) → level ≡ root_level m root → IsRootNode m root → IsNode m 1 level root
-top-is m root level is node = subst (λ k. IsNode m 1 k root) (sym is) (IsNode-lower m (root_least (root_level m root)) 1 (root_level m root) root (root_least-some (root_level m root)) node)
+top-is m root level is node =
+    let top = root_level m root in
+    subst (λ k. IsNode m 1 k root) (sym is) (IsNode-lower m (root_least top) 1 top root (root_least-some top) node)

@@ -1,5 +1,5 @@
 //! Tests of trees over their public calls: how nodes are filled, where keys are sought, many changes beside a
-//! sorted list, a full store, and keys that are equal and yet other words.
+//! sorted list, trees built at once and touched, a full store, and keys that are equal and yet other words.
 #![tactic(auto)]
 
 mod tens;
@@ -14,5 +14,7 @@ mod fillings;
 mod keys;
 #[cfg(test)]
 mod of_build;
+#[cfg(test)]
+mod of_touch;
 #[cfg(test)]
 mod trees;

@@ -95,6 +95,7 @@ pub fn records_of<const OFFSET_BITS: u32, F: Frozen<OFFSET_BITS>>(
     root: EntryRef<OFFSET_BITS>,
 ) -> Result<BTreeMap<u32, Vec<u64>>, AllocError>
     requires { 0 < root → IsRootNode (F.records frozen.old) root }
+    ensures { frozen.new ≡ frozen.old }
 {
     let mut records = BTreeMap::new(alloc);
     if root.valid() {

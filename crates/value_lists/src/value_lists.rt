@@ -64,6 +64,11 @@ impl<const OFFSET_BITS: u32, S: Store<OFFSET_BITS>> ValueLists<OFFSET_BITS, S> {
         self.store
     }
 
+    /// The root of the dictionary, 0 where no value is there.
+    pub fn root(&self) -> EntryRef<OFFSET_BITS> {
+        self.root
+    }
+
     /// Puts a document into the list of a value, or replaces its weight there, which is the answer: a value of another
     /// type is left out. On an error all is as before.
     pub fn add(&mut self, value: &Value, doc: Doc, weight: i32) -> Result<bool, StoreError>

@@ -32,7 +32,8 @@ overflow_cast-child g κ c =
     let is : IsNode m 1 (suc l) node = subst (λ k. IsNode m 1 k node) up c.requires in
     let vs = node_values (m node) in
     let items : c.as_slice-child-items.result.now ≡ vs =
-    c.as_slice-child-items.ensures.value ∙ c.read_node-slots.ensures.values ∙ ap (λ f. node_values (records f node)) c.read_words.ensures.same in
+    c.as_slice-child-items.ensures.value ∙ c.read_node-slots.ensures.values
+    ∙ ap (λ f. node_values (records f node)) c.read_words.ensures.same in
     let i = c.loop-child.child-index in
     let q = get_or vs i 0 in
     let low : i < length vs = subst (λ (xs : List ℕ). i < length xs) items c.loop-child-test.true in
@@ -52,7 +53,8 @@ add_below-requires g κ c =
     let is : IsNode m 1 (suc l) node = subst (λ k. IsNode m 1 k node) up c.requires in
     let vs = node_values (m node) in
     let items : c.as_slice-child-items.result.now ≡ vs =
-    c.as_slice-child-items.ensures.value ∙ c.read_node-slots.ensures.values ∙ ap (λ f. node_values (records f node)) c.read_words.ensures.same in
+    c.as_slice-child-items.ensures.value ∙ c.read_node-slots.ensures.values
+    ∙ ap (λ f. node_values (records f node)) c.read_words.ensures.same in
     let i = c.loop-child.child-index in
     let q = get_or vs i 0 in
     let low : i < length vs = subst (λ (xs : List ℕ). i < length xs) items c.loop-child-test.true in

@@ -1,0 +1,147 @@
+//! Queries and dot products by chance.
+use crate::make::Sizes;
+use crate::random::Random;
+use crate::values::value_at;
+use attr_scores::{Part, Parts};
+use attr_types::{Field, Leaf, Query, Text, Value, ValueType};
+use std::alloc::{AllocError, Global};
+
+/// The type of an attribute's values, and that of texts for one that is not there.
+fn type_at(fields: &[Field], place: u32) -> ValueType {
+    match fields.get(place as usize) {
+        Some(field) => field.value,
+        None => ValueType::Text,
+    }
+}
+
+fn prefix_of(alloc: Global, value: Value) -> Result<Text, AllocError> {
+    match value {
+        Value::Text(text) => Ok(text),
+        Value::Long(_) => Text::from_str(alloc, "a"),
+    }
+}
+
+fn bound_of(
+    alloc: Global,
+    value_type: ValueType,
+    sizes: Sizes,
+    random: &mut Random,
+) -> Result<Option<Value>, AllocError> {
+    if random.once_in(4) {
+        return Ok(None);
+    }
+    Ok(Some(value_at(alloc, value_type, random.below(sizes.values))?))
+}
+
+fn leaf_of(
+    alloc: Global,
+    value_type: ValueType,
+    sizes: Sizes,
+    random: &mut Random,
+) -> Result<Leaf, AllocError> {
+    let value = value_at(alloc, value_type, random.below(sizes.values))?;
+    match random.below(8) {
+        0 => Ok(Leaf::Prefix(prefix_of(alloc, value)?)),
+        1 => Ok(Leaf::Below(value)),
+        2 => Ok(Leaf::Above(value)),
+        3 | 4 => {
+            let low = bound_of(alloc, value_type, sizes, random)?;
+            let high = bound_of(alloc, value_type, sizes, random)?;
+            Ok(Leaf::Range { low, high })
+        }
+        _ => Ok(Leaf::Is(value)),
+    }
+}
+
+/// A leaf on some attribute, seldom on one that is not there or with a value of another type.
+fn one_of(
+    alloc: Global,
+    fields: &[Field],
+    sizes: Sizes,
+    random: &mut Random,
+) -> Result<Query, AllocError> {
+    let most = fields.len().min(8) as u32;
+    let field = if random.once_in(16) {
+        most
+    } else {
+        random.below(most)
+    };
+    let value_type = if random.once_in(16) {
+        ValueType::Long
+    } else {
+        type_at(fields, field)
+    };
+    let leaf = leaf_of(alloc, value_type, sizes, random)?;
+    Ok(Query::One { field, leaf })
+}
+
+fn ones_of(
+    alloc: Global,
+    fields: &[Field],
+    sizes: Sizes,
+    random: &mut Random,
+) -> Result<Vec<Query>, AllocError> {
+    let mut members = Vec::new(alloc);
+    for _ in 0..random.below(4) {
+        members.push(one_of(alloc, fields, sizes, random)?)?;
+    }
+    Ok(members)
+}
+
+/// A leaf, or some of them joined.
+fn flat_of(
+    alloc: Global,
+    fields: &[Field],
+    sizes: Sizes,
+    random: &mut Random,
+) -> Result<Query, AllocError> {
+    match random.below(4) {
+        0 => Ok(Query::And(ones_of(alloc, fields, sizes, random)?)),
+        1 => Ok(Query::Or(ones_of(alloc, fields, sizes, random)?)),
+        _ => one_of(alloc, fields, sizes, random),
+    }
+}
+
+fn flats_of(
+    alloc: Global,
+    fields: &[Field],
+    sizes: Sizes,
+    random: &mut Random,
+) -> Result<Vec<Query>, AllocError> {
+    let mut members = Vec::new(alloc);
+    for _ in 0..random.below(4) {
+        members.push(flat_of(alloc, fields, sizes, random)?)?;
+    }
+    Ok(members)
+}
+
+/// A query of at most three levels.
+pub fn query_of(
+    alloc: Global,
+    fields: &[Field],
+    sizes: Sizes,
+    random: &mut Random,
+) -> Result<Query, AllocError> {
+    match random.below(3) {
+        0 => Ok(Query::And(flats_of(alloc, fields, sizes, random)?)),
+        1 => Ok(Query::Or(flats_of(alloc, fields, sizes, random)?)),
+        _ => flat_of(alloc, fields, sizes, random),
+    }
+}
+
+/// Some values of an attribute, each with a weight.
+pub fn parts_of(
+    alloc: Global,
+    fields: &[Field],
+    field: u32,
+    sizes: Sizes,
+    random: &mut Random,
+) -> Result<Parts, AllocError> {
+    let mut parts = Parts::new(alloc);
+    for _ in 0..random.below(4) {
+        let value = value_at(alloc, type_at(fields, field), random.below(sizes.values))?;
+        let weight = random.weight();
+        parts.push(Part { value, weight })?;
+    }
+    Ok(parts)
+}

@@ -1,0 +1,276 @@
+//! What the last commit of attributes answers, beside a plain table.
+ghost use Rattle.std.specs.Prelude.{◌≡◌, ◌≤◌, length};
+ghost use Rattle.attr_images.specs.Images.{IsLawfulImage};
+ghost use Rattle.attr_images.specs.Shapes.{shape_of, types_of};
+ghost use Rattle.attr_types.specs.declared.field.TheConstants.{MOST_FIELDS};
+
+use crate::ask::{parts_of, query_of};
+use crate::make::Sizes;
+use crate::random::Random;
+use crate::turn::{Kinds, Memory};
+use attr_plain::PlainTable;
+use attr_scores::{Score, scores_of};
+use attr_types::{Doc, FieldItems, Fields, Items};
+use attribute_kinds::committed_work;
+use check_images::check_image;
+use check_trees::CheckFault;
+use entry_ref::EntryRef;
+use frozen_api::Frozen;
+use image_base::{word_in, words_at};
+use query_eval::{documents, hits, scores};
+use std::alloc::{AllocError, Global};
+use std::collections::BTreeMap;
+
+/// What was asked, and how many documents were answered, unless something differed.
+#[derive(Clone, Copy)]
+pub struct Asked {
+    pub differs: bool,
+    pub operations: u32,
+    pub queries: u32,
+    pub hits: u64,
+    pub scores: u64,
+    /// Whether the slow checker was given the image.
+    pub checked: bool,
+}
+
+fn are_same_documents(found: &[Doc], wanted: &[Doc]) -> bool {
+    if found.len() != wanted.len() {
+        return false;
+    }
+    for (doc, other) in found.iter().zip(wanted) {
+        if doc.number() != other.number() {
+            return false;
+        }
+    }
+    true
+}
+
+fn are_same_scores(found: &[Score], wanted: &[Score]) -> bool {
+    if found.len() != wanted.len() {
+        return false;
+    }
+    for (score, other) in found.iter().zip(wanted) {
+        if score.doc.number() != other.doc.number() || score.score != other.score {
+            return false;
+        }
+    }
+    true
+}
+
+/// One query: how many documents it has, if these are the plain table's.
+fn hits_same<F: Frozen<22>>(
+    alloc: Global,
+    frozen: &mut F,
+    root: EntryRef<22>,
+    fields: &Fields,
+    plain: &PlainTable,
+    sizes: Sizes,
+    random: &mut Random,
+) -> Result<Option<usize>, AllocError>
+    requires few { length fields.now ≤ MOST_FIELDS }
+    requires shape { F.shape frozen.old ≡ shape_of (types_of fields.now) }
+    requires image { IsLawfulImage (F.shape frozen.old) (F.records frozen.old) root }
+    ensures same { frozen.new ≡ frozen.old }
+{
+    let query = query_of(alloc, fields.as_slice(), sizes, random)?;
+    let found = hits(alloc, frozen, root, fields, &query)?;
+    let wanted = plain.hits(alloc, &query)?;
+    if are_same_documents(found.as_slice(), wanted.as_slice()) {
+        Ok(Some(found.len()))
+    } else {
+        Ok(None)
+    }
+}
+
+/// One dot product: how many documents have a score, if these are the plain table's.
+fn scores_same<F: Frozen<22>>(
+    alloc: Global,
+    frozen: &mut F,
+    root: EntryRef<22>,
+    fields: &Fields,
+    plain: &PlainTable,
+    sizes: Sizes,
+    random: &mut Random,
+) -> Result<Option<usize>, AllocError>
+    requires few { length fields.now ≤ MOST_FIELDS }
+    requires shape { F.shape frozen.old ≡ shape_of (types_of fields.now) }
+    requires image { IsLawfulImage (F.shape frozen.old) (F.records frozen.old) root }
+    ensures same { frozen.new ≡ frozen.old }
+{
+    let field = random.below(fields.len().min(8) as u32);
+    let parts = parts_of(alloc, fields.as_slice(), field, sizes, random)?;
+    let found = scores(alloc, frozen, root, fields, field, &parts)?;
+    let wanted = scores_of(alloc, plain.documents(), field, &parts)?;
+    if are_same_scores(found.as_slice(), wanted.as_slice()) {
+        Ok(Some(found.len()))
+    } else {
+        Ok(None)
+    }
+}
+
+/// One query and one dot product more.
+fn ask_one<F: Frozen<22>>(
+    alloc: Global,
+    frozen: &mut F,
+    root: EntryRef<22>,
+    fields: &Fields,
+    plain: &PlainTable,
+    sizes: Sizes,
+    random: &mut Random,
+    asked: Asked,
+) -> Result<Asked, AllocError>
+    requires few { length fields.now ≤ MOST_FIELDS }
+    requires shape { F.shape frozen.old ≡ shape_of (types_of fields.now) }
+    requires image { IsLawfulImage (F.shape frozen.old) (F.records frozen.old) root }
+    ensures same { frozen.new ≡ frozen.old }
+{
+    let mut next = asked;
+    next.queries = asked.queries.saturating_add(1);
+    match hits_same(alloc, frozen, root, fields, plain, sizes, random)? {
+        Some(count) => next.hits = next.hits.saturating_add(count as u64),
+        None => next.differs = true,
+    }
+    match scores_same(alloc, frozen, root, fields, plain, sizes, random)? {
+        Some(count) => next.scores = next.scores.saturating_add(count as u64),
+        None => next.differs = true,
+    }
+    Ok(next)
+}
+
+/// So many queries and dot products.
+fn ask_each<F: Frozen<22>>(
+    alloc: Global,
+    frozen: &mut F,
+    root: EntryRef<22>,
+    fields: &Fields,
+    plain: &PlainTable,
+    sizes: Sizes,
+    queries: u32,
+    random: &mut Random,
+    asked: Asked,
+) -> Result<Asked, AllocError>
+    requires few { length fields.now ≤ MOST_FIELDS }
+    requires shape { F.shape frozen.old ≡ shape_of (types_of fields.now) }
+    requires image { IsLawfulImage (F.shape frozen.old) (F.records frozen.old) root }
+    ensures same { frozen.new ≡ frozen.old }
+{
+    let mut all = asked;
+    for _ in 0..queries {
+        all = ask_one(alloc, frozen, root, fields, plain, sizes, random, all)?;
+    }
+    Ok(all)
+}
+
+fn are_same_items(told: &Items, wanted: &Items) -> bool {
+    if told.len() != wanted.len() {
+        return false;
+    }
+    for (item, other) in told.as_slice().iter().zip(wanted.as_slice()) {
+        if item.value != other.value || item.weight != other.weight {
+            return false;
+        }
+    }
+    true
+}
+
+/// Whether each attribute has the same items, in the same order.
+fn are_same_fields(told: &FieldItems, wanted: &FieldItems) -> bool {
+    if told.len() != wanted.len() {
+        return false;
+    }
+    for (items, other) in told.as_slice().iter().zip(wanted.as_slice()) {
+        if !are_same_items(items, other) {
+            return false;
+        }
+    }
+    true
+}
+
+fn is_same_table(told: &[(u64, FieldItems)], plain: &PlainTable) -> bool {
+    let mut rest = told;
+    for (doc, items) in plain.documents() {
+        let [row, others @ ..] = rest else {
+            return false;
+        };
+        if row.0 != u64::from(doc.number()) || !are_same_fields(&row.1, items) {
+            return false;
+        }
+        rest = others;
+    }
+    rest.is_empty()
+}
+
+/// Whether these records are a lawful image of the plain table, after so many operations, by the slow checker.
+fn is_lawful(
+    alloc: Global,
+    fields: &Fields,
+    records: &BTreeMap<u32, Vec<u64>>,
+    root: u64,
+    operations: u32,
+    plain: &PlainTable,
+) -> Result<bool, AllocError>
+    requires { length fields.now ≤ MOST_FIELDS }
+{
+    if word_in(words_at(records, root), 0) != u64::from(operations) {
+        return Ok(false);
+    }
+    match check_image(alloc, fields, records, root) {
+        Ok(table) => Ok(is_same_table(&table, plain)),
+        Err(CheckFault::Broken) => Ok(false),
+        Err(CheckFault::Memory) => Err(AllocError),
+    }
+}
+
+/// Has the slow checker read the image, where its records were noted.
+fn check_notes(
+    alloc: Global,
+    fields: &Fields,
+    work: &Memory,
+    root: u64,
+    plain: &PlainTable,
+    asked: Asked,
+) -> Result<Asked, AllocError>
+    requires { length fields.now ≤ MOST_FIELDS }
+{
+    let mut next = asked;
+    if let Some(records) = work.records() {
+        next.checked = true;
+        if !is_lawful(alloc, fields, records, root, asked.operations, plain)? {
+            next.differs = true;
+        }
+    }
+    Ok(next)
+}
+
+/// Asks the last commit of attributes for its documents, and so many queries and dot products; and the slow checker, where its records
+/// were noted.
+pub fn ask_image(
+    alloc: Global,
+    attribute: Kinds,
+    fields: &Fields,
+    plain: &PlainTable,
+    sizes: Sizes,
+    queries: u32,
+    random: &mut Random,
+) -> Result<Asked, AllocError>
+    requires few { length fields.now ≤ MOST_FIELDS }
+    requires same { attribute.fields ≡ fields.now }
+{
+    let (store, published) = attribute.into_store();
+    let root = published.root;
+    let operations = published.operations;
+    let mut work = committed_work(store, fields, root);
+    let count = documents(&mut work, root);
+    let asked = Asked {
+        differs: count as usize != plain.documents().len(),
+        operations,
+        queries: 0,
+        hits: 0,
+        scores: 0,
+        checked: false,
+    };
+    let checked = check_notes(alloc, fields, &work, u64::from(root.raw()), plain, asked)?;
+    ask_each(
+        alloc, &mut work, root, fields, plain, sizes, queries, random, checked,
+    )
+}

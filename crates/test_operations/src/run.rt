@@ -1,0 +1,340 @@
+//! Episodes of operations: each begins without a document, and at its end the last commit is asked.
+ghost use Rattle.std.specs.Prelude.{◌≡◌, ◌<◌, ◌≤◌, length, IfOk};
+ghost use Rattle.attr_types.specs.declared.field.TheConstants.{MOST_FIELDS};
+
+use crate::image::{Asked, ask_image};
+use crate::make::{Sizes, op_of};
+use crate::random::Random;
+use crate::turn::{
+    Answer, Committed, Kinds, apply_one, apply_plain, commit_one, new_attribute, new_plain,
+};
+use attr_changes::Applied;
+use attr_plain::PlainTable;
+use attr_types::{Fields, Op};
+use std::alloc::{AllocError, Global};
+
+/// What a run is.
+#[derive(Clone, Copy)]
+pub struct Load {
+    pub seed: u32,
+    pub episodes: u32,
+    /// How many operations an episode has at most.
+    pub operations: u32,
+    pub sizes: Sizes,
+    /// A commit comes after so many operations.
+    pub commits: u32,
+    pub buffers: u32,
+    /// How many queries, and as many dot products, are asked at the end of each episode.
+    pub queries: u32,
+    /// Whether the slow checker reads the image at the end of each episode.
+    pub checks: bool,
+}
+
+/// What a run came to.
+#[derive(Clone, Copy)]
+pub struct Told {
+    pub differs: bool,
+    pub episodes: u32,
+    /// The operations of the last commit of the episode.
+    pub committed: u32,
+    pub commits: u32,
+    pub changed: u32,
+    pub skipped: u32,
+    /// Operations that were refused, those accepted after a commit, and those refused then too.
+    pub refused: u32,
+    pub again: u32,
+    pub twice: u32,
+    /// Commits that were refused.
+    pub full: u32,
+    pub queries: u32,
+    /// The images that the slow checker read.
+    pub images: u32,
+    pub hits: u64,
+    pub scores: u64,
+}
+
+/// Commits; whether it goes on.
+fn commit_now(
+    attribute: &mut Kinds,
+    fields: &Fields,
+    operations: u32,
+    told: &mut Told,
+) -> Result<bool, AllocError>
+    requires same { attribute.old.fields ≡ fields.now }
+    ensures same { attribute.new.fields ≡ fields.now }
+{
+    match commit_one(attribute, fields)? {
+        Committed::At(count) => {
+            told.commits = told.commits.saturating_add(1);
+            told.committed = operations;
+            if count != operations {
+                told.differs = true;
+            }
+            Ok(count == operations)
+        }
+        Committed::Full => {
+            told.full = told.full.saturating_add(1);
+            Ok(false)
+        }
+        Committed::Odd => {
+            told.differs = true;
+            Ok(false)
+        }
+    }
+}
+
+/// What was refused once more, after a commit; nothing where the episode ends.
+fn apply_again(
+    alloc: Global,
+    attribute: &mut Kinds,
+    fields: &Fields,
+    op: &Op,
+    told: &mut Told,
+) -> Result<Option<Applied>, AllocError>
+    requires same { attribute.old.fields ≡ fields.now }
+    ensures same { attribute.new.fields ≡ fields.now }
+{
+    match apply_one(alloc, attribute, fields, op)? {
+        Answer::Applied(applied) => {
+            told.again = told.again.saturating_add(1);
+            Ok(Some(applied))
+        }
+        Answer::Full => {
+            told.twice = told.twice.saturating_add(1);
+            Ok(None)
+        }
+        Answer::Odd => {
+            told.differs = true;
+            Ok(None)
+        }
+    }
+}
+
+/// After a refusal: one episode in eight ends as it is, one in eight after a commit, and the others go on.
+fn apply_refused(
+    alloc: Global,
+    attribute: &mut Kinds,
+    fields: &Fields,
+    op: &Op,
+    operations: u32,
+    told: &mut Told,
+) -> Result<Option<Applied>, AllocError>
+    requires same { attribute.old.fields ≡ fields.now }
+    ensures same { attribute.new.fields ≡ fields.now }
+{
+    told.refused = told.refused.saturating_add(1);
+    if told.refused % 8 == 4 {
+        return Ok(None);
+    }
+    if !commit_now(attribute, fields, operations, told)? {
+        return Ok(None);
+    }
+    if told.refused % 8 == 0 {
+        return Ok(None);
+    }
+    apply_again(alloc, attribute, fields, op, told)
+}
+
+/// An operation on attributes; nothing where the episode ends.
+fn apply(
+    alloc: Global,
+    attribute: &mut Kinds,
+    fields: &Fields,
+    op: &Op,
+    operations: u32,
+    told: &mut Told,
+) -> Result<Option<Applied>, AllocError>
+    requires same { attribute.old.fields ≡ fields.now }
+    ensures same { attribute.new.fields ≡ fields.now }
+{
+    match apply_one(alloc, attribute, fields, op)? {
+        Answer::Applied(applied) => Ok(Some(applied)),
+        Answer::Full => apply_refused(alloc, attribute, fields, op, operations, told),
+        Answer::Odd => {
+            told.differs = true;
+            Ok(None)
+        }
+    }
+}
+
+fn count(told: &mut Told, applied: Applied) {
+    match applied {
+        Applied::Changed => told.changed = told.changed.saturating_add(1),
+        Applied::Skipped => told.skipped = told.skipped.saturating_add(1),
+    }
+}
+
+/// One operation on both; whether it goes on.
+fn apply_both(
+    alloc: Global,
+    attribute: &mut Kinds,
+    plain: &mut PlainTable,
+    fields: &Fields,
+    op: Op,
+    operations: u32,
+    told: &mut Told,
+) -> Result<bool, AllocError>
+    requires same { attribute.old.fields ≡ fields.now }
+    requires beside { plain.old.fields ≡ fields.now }
+    ensures same { attribute.new.fields ≡ fields.now }
+    ensures beside { plain.new.fields ≡ fields.now }
+{
+    let Some(applied) = apply(alloc, attribute, fields, &op, operations, told)? else {
+        return Ok(false);
+    };
+    let wanted = apply_plain(alloc, plain, fields, op)?;
+    if wanted != Some(applied) {
+        told.differs = true;
+        return Ok(false);
+    }
+    count(told, applied);
+    Ok(true)
+}
+
+/// A turn: an operation, and a commit where it is due; whether it goes on.
+fn take_turn(
+    alloc: Global,
+    attribute: &mut Kinds,
+    plain: &mut PlainTable,
+    fields: &Fields,
+    load: Load,
+    turn: u32,
+    random: &mut Random,
+    told: &mut Told,
+) -> Result<bool, AllocError>
+    requires same { attribute.old.fields ≡ fields.now }
+    requires beside { plain.old.fields ≡ fields.now }
+    ensures same { attribute.new.fields ≡ fields.now }
+    ensures beside { plain.new.fields ≡ fields.now }
+{
+    let op = op_of(alloc, fields.as_slice(), load.sizes, turn, random)?;
+    if !apply_both(alloc, attribute, plain, fields, op, turn, told)? {
+        return Ok(false);
+    }
+    let operations = turn.saturating_add(1);
+    if operations % load.commits.max(1) == 0 {
+        return commit_now(attribute, fields, operations, told);
+    }
+    Ok(true)
+}
+
+/// The turns of an episode, until something is refused for good.
+fn take_turns(
+    alloc: Global,
+    attribute: &mut Kinds,
+    plain: &mut PlainTable,
+    fields: &Fields,
+    load: Load,
+    random: &mut Random,
+    told: &mut Told,
+) -> Result<(), AllocError>
+    requires same { attribute.old.fields ≡ fields.now }
+    requires beside { plain.old.fields ≡ fields.now }
+    ensures same { attribute.new.fields ≡ fields.now }
+{
+    for turn in 0..load.operations {
+        if !take_turn(alloc, attribute, plain, fields, load, turn, random, told)? {
+            return Ok(());
+        }
+    }
+    Ok(())
+}
+
+/// The plain table after so many operations of an episode.
+fn plain_after(
+    alloc: Global,
+    fields: &Fields,
+    sizes: Sizes,
+    start: Random,
+    operations: u32,
+) -> Result<PlainTable, AllocError> {
+    let mut random = start;
+    let mut plain = new_plain(alloc, fields)?;
+    for turn in 0..operations {
+        let op = op_of(alloc, fields.as_slice(), sizes, turn, &mut random)?;
+        let _ = apply_plain(alloc, &mut plain, fields, op)?;
+    }
+    Ok(plain)
+}
+
+/// What an episode's end came to.
+fn add(told: &mut Told, asked: Asked) {
+    told.queries = told.queries.saturating_add(asked.queries);
+    told.hits = told.hits.saturating_add(asked.hits);
+    told.scores = told.scores.saturating_add(asked.scores);
+    told.episodes = told.episodes.saturating_add(1);
+    if asked.checked {
+        told.images = told.images.saturating_add(1);
+    }
+}
+
+fn episode(
+    alloc: Global,
+    fields: &Fields,
+    load: Load,
+    random: &mut Random,
+    told: &mut Told,
+) -> Result<(), AllocError>
+    requires some { 0 < length fields.now }
+    requires few { length fields.now ≤ MOST_FIELDS }
+{
+    let start = *random;
+    let mut attribute = new_attribute(alloc, fields, load.buffers.max(1).min(1000), load.checks)?;
+    let mut plain = new_plain(alloc, fields)?;
+    told.committed = 0;
+    take_turns(
+        alloc,
+        &mut attribute,
+        &mut plain,
+        fields,
+        load,
+        random,
+        told,
+    )?;
+    let wanted = plain_after(alloc, fields, load.sizes, start, told.committed)?;
+    let asked = ask_image(
+        alloc,
+        attribute,
+        fields,
+        &wanted,
+        load.sizes,
+        load.queries,
+        random,
+    )?;
+    if asked.differs || asked.operations != told.committed {
+        told.differs = true;
+    }
+    add(told, asked);
+    Ok(())
+}
+
+/// The episodes of a run, one after another, until something differs.
+pub fn run(alloc: Global, fields: &Fields, load: Load) -> Result<Told, AllocError>
+    requires some { 0 < length fields.now }
+    requires few { length fields.now ≤ MOST_FIELDS }
+{
+    let mut random = Random::new(load.seed);
+    let mut told = Told {
+        differs: false,
+        episodes: 0,
+        committed: 0,
+        commits: 0,
+        changed: 0,
+        skipped: 0,
+        refused: 0,
+        again: 0,
+        twice: 0,
+        full: 0,
+        queries: 0,
+        images: 0,
+        hits: 0,
+        scores: 0,
+    };
+    for _ in 0..load.episodes {
+        episode(alloc, fields, load, &mut random, &mut told)?;
+        if told.differs {
+            return Ok(told);
+        }
+    }
+    Ok(told)
+}

@@ -1,0 +1,147 @@
+//! One operation on attributes in a store and on the plain table.
+ghost use Rattle.std.specs.Prelude.{◌≡◌, ◌<◌, ◌≤◌, length, IfOk};
+ghost use Rattle.arena_api.specs.Calls.{IsFresh};
+ghost use Rattle.attr_images.specs.Shapes.{shape_of, types_of};
+ghost use Rattle.attr_types.specs.declared.field.TheConstants.{MOST_FIELDS};
+
+use arena_api::Work;
+use attr_changes::Applied;
+use attr_images::{AttrLayout, shape_of};
+use attr_plain::PlainTable;
+use attr_types::{Fields, Op, fits};
+use attribute_kinds::{AttrError, Attribute};
+use entry_store::EntryStore;
+use frozen_api::Frozen;
+use mem_work::MemWork;
+use noted_work::NotedWork;
+use std::alloc::{AllocError, Global};
+
+/// A memory without readers, and beside it the words of each record as they were stored.
+pub type Memory = NotedWork<22, MemWork<22, AttrLayout>>;
+
+/// Attributes over a memory without readers.
+pub type Kinds = Attribute<22, EntryStore<22, Memory>>;
+
+/// What an operation came to.
+#[derive(Clone, Copy)]
+pub enum Answer {
+    Applied(Applied),
+    Full,
+    /// Refused for a reason that there is not.
+    Odd,
+}
+
+/// What a commit came to.
+#[derive(Clone, Copy)]
+pub enum Committed {
+    /// With so many operations.
+    At(u32),
+    Full,
+    /// Refused for a reason that there is not.
+    Odd,
+}
+
+/// A memory of so many buffers of 8,192 words, with notes of what is stored in it or without.
+fn new_memory(
+    alloc: Global,
+    fields: &Fields,
+    buffers: u32,
+    noting: bool,
+) -> Result<Memory, AllocError>
+    requires few { length fields.now ≤ MOST_FIELDS }
+    requires buffers { 1 ≤ buffers }
+    requires fit { buffers ≤ 1000 }
+    ensures shape { IfOk result (λ w. ⟦<NotedWork<22, MemWork<22, AttrLayout>> as Frozen<22>>⟧.shape w ≡ shape_of (types_of fields.now)) }
+    ensures fresh { IfOk result (λ w. IsFresh (⟦<NotedWork<22, MemWork<22, AttrLayout>> as Work<22>>⟧.knows w)) }
+{
+    let work = MemWork::create(alloc, buffers, 8192, shape_of(fields))?;
+    Ok(NotedWork::new(alloc, work, noting))
+}
+
+/// Attributes without a document, in so many buffers of 8,192 words.
+pub fn new_attribute(
+    alloc: Global,
+    fields: &Fields,
+    buffers: u32,
+    noting: bool,
+) -> Result<Kinds, AllocError>
+    requires some { 0 < length fields.now }
+    requires few { length fields.now ≤ MOST_FIELDS }
+    requires buffers { 1 ≤ buffers }
+    requires fit { buffers ≤ 1000 }
+    ensures fields { IfOk result (λ a. a.fields ≡ fields.now) }
+{
+    let work = new_memory(alloc, fields, buffers, noting)?;
+    match Attribute::create(alloc, work, fields, false) {
+        Ok(attribute) => Ok(attribute),
+        Err(_) => Err(AllocError),
+    }
+}
+
+/// The same fields once more.
+fn copied_fields(fields: &Fields) -> Result<Fields, AllocError>
+    ensures { IfOk result (λ own. own ≡ fields.now) }
+{
+    Ok(fields.clone()?)
+}
+
+/// A plain table without a document.
+pub fn new_plain(alloc: Global, fields: &Fields) -> Result<PlainTable, AllocError>
+    ensures fields { IfOk result (λ p. p.fields ≡ fields.now) }
+{
+    let own = copied_fields(fields)?;
+    Ok(PlainTable::new(alloc, own))
+}
+
+/// Applies an operation to attributes.
+pub fn apply_one(
+    alloc: Global,
+    attribute: &mut Kinds,
+    fields: &Fields,
+    op: &Op,
+) -> Result<Answer, AllocError>
+    requires same { attribute.old.fields ≡ fields.now }
+    ensures same { attribute.new.fields ≡ fields.now }
+{
+    if !fits(fields, op) {
+        return Ok(Answer::Odd);
+    }
+    if attribute.operations() == u32::MAX {
+        return Ok(Answer::Odd);
+    }
+    match attribute.apply(alloc, op) {
+        Ok(applied) => Ok(Answer::Applied(applied)),
+        Err(AttrError::Full { .. }) => Ok(Answer::Full),
+        Err(AttrError::CommitsSpent { .. }) => Ok(Answer::Odd),
+        Err(AttrError::Memory) => Err(AllocError),
+    }
+}
+
+/// Applies an operation to the plain table; nothing where it does not fit.
+pub fn apply_plain(
+    alloc: Global,
+    plain: &mut PlainTable,
+    fields: &Fields,
+    op: Op,
+) -> Result<Option<Applied>, AllocError>
+    requires same { plain.old.fields ≡ fields.now }
+    ensures same { plain.new.fields ≡ fields.now }
+{
+    if !fits(fields, &op) {
+        return Ok(None);
+    }
+    Ok(Some(plain.apply(alloc, op)?))
+}
+
+/// Commits the attributes.
+pub fn commit_one(attribute: &mut Kinds, fields: &Fields) -> Result<Committed, AllocError>
+    requires same { attribute.old.fields ≡ fields.now }
+    ensures same { attribute.new.fields ≡ fields.now }
+{
+    match attribute.commit() {
+        Ok(info) => Ok(Committed::At(info.operations)),
+        Err(AttrError::Full { .. }) => Ok(Committed::Full),
+        Err(AttrError::CommitsSpent { .. }) => Ok(Committed::Odd),
+        Err(AttrError::Memory) => Err(AllocError),
+    }
+}
