@@ -1,0 +1,113 @@
+//! Attributes of one field over a memory without readers.
+ghost use Rattle.std.specs.Prelude.{◌≡◌, ◌<◌, ◌≤◌, true, length, IfOk};
+ghost use Rattle.arena_api.specs.Calls.{IsFresh};
+ghost use Rattle.attr_images.specs.Shapes.{shape_of, types_of};
+ghost use Rattle.attr_types.specs.declared.field.TheConstants.{MOST_FIELDS};
+ghost use Rattle.store_api.specs.Ledgers.{is_width};
+
+use arena_api::Work;
+use attr_changes::Applied;
+use attr_images::{AttrLayout, shape_of};
+use attr_types::{Field, Fields, Kind, Name, Op, ValueType, fits};
+use attribute_kinds::Attribute;
+use entry_store::EntryStore;
+use frozen_api::Frozen;
+use mem_work::MemWork;
+use std::alloc::{AllocError, Global};
+
+pub type Store = EntryStore<22, MemWork<22, AttrLayout>>;
+
+pub type Kinds = Attribute<22, Store>;
+
+/// One field.
+pub fn one_field(alloc: Global, kind: Kind, value: ValueType) -> Result<Fields, AllocError>
+    ensures { IfOk result (λ fields. length fields ≡ 1) }
+{
+    let name = Name::from_str(alloc, "f")?;
+    Fields::of_one(alloc, Field { name, kind, value })
+}
+
+fn new_memory(
+    alloc: Global,
+    fields: &Fields,
+    buffers: u32,
+) -> Result<MemWork<22, AttrLayout>, AllocError>
+    requires few { length fields.now ≤ MOST_FIELDS }
+    requires buffers { 1 ≤ buffers }
+    requires fit { buffers ≤ 1000 }
+    ensures shape { IfOk result (λ w. ⟦<MemWork<22, AttrLayout> as Frozen<22>>⟧.shape w ≡ shape_of (types_of fields.now)) }
+    ensures fresh { IfOk result (λ w. IsFresh (⟦<MemWork<22, AttrLayout> as Work<22>>⟧.knows w)) }
+{
+    let work = MemWork::create(alloc, buffers, 65536, shape_of(fields))?;
+    Ok(work)
+}
+
+/// Attributes without a document, over so many buffers of 65,536 words.
+pub fn new_attribute(alloc: Global, fields: &Fields, buffers: u32) -> Result<Kinds, AllocError>
+    requires some { 0 < length fields.now }
+    requires few { length fields.now ≤ MOST_FIELDS }
+    requires buffers { 1 ≤ buffers }
+    requires fit { buffers ≤ 1000 }
+    ensures fields { IfOk result (λ a. a.fields ≡ fields.now) }
+{
+    let work = new_memory(alloc, fields, buffers)?;
+    match Attribute::create(alloc, work, fields, false) {
+        Ok(attribute) => Ok(attribute),
+        Err(_) => Err(AllocError),
+    }
+}
+
+/// Applies an operation. A store that is full is an error here as well.
+pub fn apply_one(
+    alloc: Global,
+    attribute: &mut Kinds,
+    fields: &Fields,
+    op: &Op,
+) -> Result<Applied, AllocError>
+    requires same { attribute.old.fields ≡ fields.now }
+    ensures same { attribute.new.fields ≡ fields.now }
+{
+    if !fits(fields, op) {
+        return Err(AllocError);
+    }
+    if attribute.operations() == u32::MAX {
+        return Err(AllocError);
+    }
+    match attribute.apply(alloc, op) {
+        Ok(applied) => Ok(applied),
+        Err(_) => Err(AllocError),
+    }
+}
+
+/// Commits.
+pub fn commit_one(attribute: &mut Kinds, fields: &Fields) -> Result<(), AllocError>
+    requires same { attribute.old.fields ≡ fields.now }
+    ensures same { attribute.new.fields ≡ fields.now }
+{
+    match attribute.commit() {
+        Ok(_) => Ok(()),
+        Err(_) => Err(AllocError),
+    }
+}
+
+/// The words of all entries of a width that were made.
+fn words_of(store: &Store, width: u32) -> u64
+    requires { is_width width ≡ true }
+{
+    store.made(width).saturating_mul(u64::from(width))
+}
+
+/// The words of all entries that were made.
+pub fn words_made(store: &Store) -> u64 {
+    words_of(store, 2)
+        .saturating_add(words_of(store, 4))
+        .saturating_add(words_of(store, 8))
+        .saturating_add(words_of(store, 16))
+        .saturating_add(words_of(store, 32))
+        .saturating_add(words_of(store, 34))
+        .saturating_add(words_of(store, 64))
+        .saturating_add(words_of(store, 128))
+        .saturating_add(words_of(store, 256))
+        .saturating_add(words_of(store, 512))
+        .saturating_add(words_of(store, 1024))
+}

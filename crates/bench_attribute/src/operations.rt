@@ -1,0 +1,84 @@
+//! Operations on one attribute, with a commit after each batch.
+ghost use Rattle.std.specs.Prelude.{◌≡◌};
+
+use crate::draws::{Random, doc_at, items_of};
+use crate::memory::{Kinds, apply_one, commit_one, new_attribute, one_field, words_made};
+use attr_changes::Applied;
+use attr_types::{FieldItems, Fields, Kind, Op, ValueType};
+use std::alloc::{AllocError, Global};
+
+/// So many operations are made, and the first of them applied.
+#[derive(Clone, Copy)]
+pub struct Load {
+    pub kind: Kind,
+    pub value: ValueType,
+    pub operations: u32,
+    pub applied: u32,
+    pub batch: u32,
+    pub buffers: u32,
+}
+
+/// Operation `i`: a document of half as many is put, each eighth time removed.
+fn op_of(alloc: Global, load: Load, i: u32, random: &mut Random) -> Result<Op, AllocError> {
+    let most = load.operations / 2;
+    let doc = doc_at(random.below(most).min(1_000_000) + 1);
+    if i % 8 == 7 {
+        return Ok(Op::Remove { doc });
+    }
+    let items = items_of(alloc, load.kind, load.value, most, random)?;
+    let items = FieldItems::of_one(alloc, items)?;
+    Ok(Op::Put { doc, items })
+}
+
+/// Applies an operation, and commits where it is due; whether it changed something.
+fn take_turn(
+    alloc: Global,
+    attribute: &mut Kinds,
+    fields: &Fields,
+    load: Load,
+    i: u32,
+    op: &Op,
+) -> Result<bool, AllocError>
+    requires same { attribute.old.fields ≡ fields.now }
+    ensures same { attribute.new.fields ≡ fields.now }
+{
+    if i >= load.applied {
+        return Ok(false);
+    }
+    let applied = apply_one(alloc, attribute, fields, op)?;
+    if i % load.batch.max(1) == load.batch.max(1) - 1 {
+        commit_one(attribute, fields)?;
+    }
+    Ok(matches!(applied, Applied::Changed))
+}
+
+/// How many of the operations changed something.
+fn apply_all(
+    alloc: Global,
+    attribute: &mut Kinds,
+    fields: &Fields,
+    load: Load,
+) -> Result<u32, AllocError>
+    requires same { attribute.old.fields ≡ fields.now }
+    ensures same { attribute.new.fields ≡ fields.now }
+{
+    let mut random = Random::new();
+    let mut changed: u32 = 0;
+    for i in 0..load.operations {
+        let op = op_of(alloc, load, i, &mut random)?;
+        if take_turn(alloc, attribute, fields, load, i, &op)? {
+            changed = changed.saturating_add(1);
+        }
+    }
+    Ok(changed)
+}
+
+/// A run, as a line.
+pub fn apply_told(alloc: Global, load: Load) -> Result<String, AllocError> {
+    let fields = one_field(alloc, load.kind, load.value)?;
+    let mut attribute = new_attribute(alloc, &fields, load.buffers.max(1).min(1000))?;
+    let changed = apply_all(alloc, &mut attribute, &fields, load)?;
+    let (store, _) = attribute.into_store();
+    let words = words_made(&store);
+    format!(in alloc; "changed {changed} words {words}")
+}

@@ -1,0 +1,167 @@
+//! Queries on an array of numbers, of which each document has three: one of 3, one of 10, and one that 9 documents have.
+ghost use Rattle.std.specs.Prelude.{◌≡◌, ◌≤◌, length};
+ghost use Rattle.attr_images.specs.Images.{IsLawfulImage};
+ghost use Rattle.attr_images.specs.Shapes.{shape_of, types_of};
+ghost use Rattle.attr_types.specs.declared.field.TheConstants.{MOST_FIELDS};
+
+use crate::draws::doc_at;
+use crate::memory::{Kinds, apply_one, commit_one, new_attribute, one_field};
+use attr_types::{FieldItems, Fields, Item, Items, Kind, Leaf, Op, Query, Value, ValueType};
+use attribute_kinds::committed_work;
+use entry_ref::EntryRef;
+use frozen_api::Frozen;
+use query_eval::hits;
+use std::alloc::{AllocError, Global};
+
+/// What is asked.
+#[derive(Clone, Copy)]
+pub enum Question {
+    Nothing,
+    /// A value of a tenth of the documents.
+    Term,
+    /// A value of a third and one of a tenth.
+    Terms,
+    /// Eleven values of nine documents each.
+    Range,
+    /// All values of the first two kinds, and half of the second with all of the third.
+    Wide,
+}
+
+/// So many documents, of which a question is asked so many times.
+#[derive(Clone, Copy)]
+pub struct Asks {
+    pub question: Question,
+    pub documents: u32,
+    pub rounds: u32,
+    pub buffers: u32,
+}
+
+fn push_number(items: &mut Items, number: u32) -> Result<(), AllocError> {
+    let value = Value::Long(i64::from(number));
+    items.push(Item { value, weight: 1 })?;
+    Ok(())
+}
+
+fn put_of(alloc: Global, number: u32) -> Result<Op, AllocError> {
+    let mut items = Items::new(alloc);
+    push_number(&mut items, number % 3)?;
+    push_number(&mut items, number % 10 + 10)?;
+    push_number(&mut items, number / 9 + 1000)?;
+    let items = FieldItems::of_one(alloc, items)?;
+    let doc = doc_at(number);
+    Ok(Op::Put { doc, items })
+}
+
+fn fill(
+    alloc: Global,
+    attribute: &mut Kinds,
+    fields: &Fields,
+    documents: u32,
+) -> Result<(), AllocError>
+    requires same { attribute.old.fields ≡ fields.now }
+    ensures same { attribute.new.fields ≡ fields.now }
+{
+    for i in 0..documents {
+        let put = put_of(alloc, i.saturating_add(1))?;
+        apply_one(alloc, attribute, fields, &put)?;
+        if i % 1000 == 999 {
+            commit_one(attribute, fields)?;
+        }
+    }
+    commit_one(attribute, fields)
+}
+
+fn is(number: u32) -> Query {
+    let leaf = Leaf::Is(Value::Long(i64::from(number)));
+    Query::One { field: 0, leaf }
+}
+
+fn between(low: u32, high: u32) -> Query {
+    let leaf = Leaf::Range {
+        low: Some(Value::Long(i64::from(low))),
+        high: Some(Value::Long(i64::from(high))),
+    };
+    Query::One { field: 0, leaf }
+}
+
+fn both(alloc: Global, first: Query, second: Query) -> Result<Query, AllocError> {
+    let mut members = Vec::new(alloc);
+    members.push(first)?;
+    members.push(second)?;
+    Ok(Query::And(members))
+}
+
+/// The query of a round.
+fn query_of(alloc: Global, asks: Asks, round: u32) -> Result<Query, AllocError> {
+    match asks.question {
+        Question::Nothing => Ok(Query::Or(Vec::new(alloc))),
+        Question::Term => Ok(is(round % 10 + 10)),
+        Question::Terms => both(alloc, is(round % 3), is(round % 10 + 10)),
+        Question::Range => {
+            let rare = asks.documents / 9;
+            let first = round.wrapping_mul(37) % rare.max(1) + 1000;
+            Ok(between(first, first + 10))
+        }
+        Question::Wide => both(alloc, between(0, 19), between(15, 1_000_000_000)),
+    }
+}
+
+/// The sum of the documents that the query of a round has.
+fn ask_one<F: Frozen<22>>(
+    alloc: Global,
+    frozen: &mut F,
+    root: EntryRef<22>,
+    fields: &Fields,
+    asks: Asks,
+    round: u32,
+) -> Result<u64, AllocError>
+    requires few { length fields.now ≤ MOST_FIELDS }
+    requires shape { F.shape frozen.old ≡ shape_of (types_of fields.now) }
+    requires image { IsLawfulImage (F.shape frozen.old) (F.records frozen.old) root }
+    ensures same { frozen.new ≡ frozen.old }
+{
+    let query = query_of(alloc, asks, round)?;
+    let docs = hits(alloc, frozen, root, fields, &query)?;
+    let mut sum: u64 = 0;
+    for doc in docs.as_slice() {
+        sum = sum.wrapping_add(u64::from(doc.number()));
+    }
+    Ok(sum)
+}
+
+/// The sum over all rounds.
+fn ask_each<F: Frozen<22>>(
+    alloc: Global,
+    frozen: &mut F,
+    root: EntryRef<22>,
+    fields: &Fields,
+    asks: Asks,
+) -> Result<u64, AllocError>
+    requires few { length fields.now ≤ MOST_FIELDS }
+    requires shape { F.shape frozen.old ≡ shape_of (types_of fields.now) }
+    requires image { IsLawfulImage (F.shape frozen.old) (F.records frozen.old) root }
+    ensures same { frozen.new ≡ frozen.old }
+{
+    let mut sum: u64 = 0;
+    for round in 0..asks.rounds {
+        sum = sum.wrapping_add(ask_one(alloc, frozen, root, fields, asks, round)?);
+    }
+    Ok(sum)
+}
+
+/// A run, as a line.
+pub fn asked_told(alloc: Global, asks: Asks) -> Result<String, AllocError> {
+    let fields = one_field(alloc, Kind::Array, ValueType::Long)?;
+    let mut attribute = new_attribute(alloc, &fields, asks.buffers.max(1).min(1000))?;
+    fill(
+        alloc,
+        &mut attribute,
+        &fields,
+        asks.documents.min(1_000_000),
+    )?;
+    let (store, published) = attribute.into_store();
+    let root = published.root;
+    let mut work = committed_work(store, &fields, root);
+    let sum = ask_each(alloc, &mut work, root, &fields, asks)?;
+    format!(in alloc; "sum {sum}")
+}
