@@ -28,9 +28,10 @@ use Rattle.attr_types.specs.declared.kind.Kind.{Kind}
 use Rattle.attr_types.specs.declared.kind.ValueType.{ValueType}
 use Rattle.attr_documents.specs.Changes.{AreBeside, AreKeysOf, ChangesPair, MakesDocuments, SetsItems, pairs_own}
 use Rattle.attr_documents.specs.Documents.{documents_part, documents_refer, items_own, items_refer, AreItemsAt, IsDocuments}
-use Rattle.attr_documents.specs.Flows.{ComesFrom}
+use Rattle.store_api.specs.Flows.{ComesFrom}
 use Rattle.attr_documents.specs.Items.{entries_of, item_of, MakesItems}
-use Rattle.attr_documents.proofs.FlowLemmas.{began-then, flow_made, flow_part, made_fresh, out_flows, set_flows, sets_items}
+use Rattle.store_api.proofs.Flows.{began-then, flow_made, flow_part, made_fresh}
+use Rattle.attr_documents.proofs.FlowLemmas.{out_flows, set_flows, sets_items}
 use Rattle.attr_documents.proofs.FrameLemmas.{beside-same, same-then, same-some}
 use Rattle.attr_documents.proofs.KeyLemmas.{keys_are, keys_items, keys_values}
 use Rattle.attr_documents.proofs.PairLemmas.{found, found-or, times-out, times-put, all-put, columned, columned-put, columned-same, columned-out, columned-found, there-mapped}

@@ -18,7 +18,8 @@ use Rattle.attr_types.specs.declared.kind.Kind.{Kind}
 use Rattle.attr_types.specs.declared.kind.ValueType.{ValueType}
 use Rattle.attr_types.specs.declared.value.Value.{Value}
 use Rattle.attr_documents.specs.Documents.{documents_part, documents_refer, items_own, IsDocuments}
-use Rattle.attr_documents.specs.Flows.{own_at, refer_at, ComesFrom, FlowsDocuments}
+use Rattle.attr_documents.specs.Flows.{own_at, refer_at, FlowsDocuments}
+use Rattle.store_api.specs.Flows.{ComesFrom}
 
 -- these records are in use, and the parts own none of them
 pub record AreBeside {H : Type 0} (ledger : Ledger H) (m : Records) (parts : List Part) (refs : List ℕ) : Type 0 where

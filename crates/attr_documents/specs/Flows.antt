@@ -3,16 +3,12 @@
 use Rattle.std.specs.Prelude.{◌≡◌, ◌⊎◌, ℕ, true, List, unwrap_or}
 use Rattle.image_base.specs.Records.{Records, Among}
 use Rattle.store_api.specs.Ledgers.{Ledger}
-use Rattle.store_api.specs.Statuses.{in_use}
+use Rattle.store_api.specs.Flows.{ComesFrom}
 use Rattle.key_order.specs.Pairs.{lookup}
 use Rattle.tree_images.specs.Trees.{tree_nodes, tree_pairs}
 use Rattle.doc_vector.specs.Documents.{beside}
 use Rattle.attr_types.specs.declared.kind.Kind.{Kind}
 use Rattle.attr_documents.specs.Documents.{items_own, items_refer}
-
--- each of these references that was in use when the unit began is one of those
-abbrev pub ComesFrom : {H : Type 0} → Ledger H → List ℕ → List ℕ → Type 0
-ComesFrom ledger refs those = (r : ℕ) → in_use (ledger.back r) ≡ true → Among r refs → Among r those
 
 -- the reference of a document's items, 0 where it has none
 abbrev pub reference_at : Records → ℕ → ℕ → ℕ

@@ -29,7 +29,7 @@ use Rattle.enum_dictionary.specs.ProofsForKeys.{value_stays, value_steady}
 abbrev pub IsValueTree : ValueType → Records → ℕ → Type 0
 IsValueTree type m root = IsKeyedTree value_cmp (stored_value type) (λ n key. IsValueRecord type (n key)) (λ n key. key ∷ []) m root
 
-no_node : (type : ValueType) (m : Records) (key : ℕ) → IsValueRecord type (m key) → IsNoNode m key
+pub no_node : (type : ValueType) (m : Records) (key : ℕ) → IsValueRecord type (m key) → IsNoNode m key
 no_node type m key is = record { there = omega (arith, value_there type (m key) is); width = value_no_node type (m key) is }
 
 none_nodes : (type : ValueType) (m : Records) (ps : List (ℕ × ℕ)) → AllByRecursion (λ p. IsValueRecord type (m p.0)) ps

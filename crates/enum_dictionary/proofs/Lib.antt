@@ -1,2 +1,4 @@
 pub mod DictionaryLemmas
 pub mod BehindLemmas
+pub mod MapLemmas
+pub mod FindLemmas

@@ -1,9 +1,14 @@
 -- What a dictionary is, as laws.
-use Rattle.std.specs.Prelude.{◌≡◌, ℕ, map}
+use Rattle.std.specs.Prelude.{◌≡◌, ◌≢◌, ℕ, map, None, Some}
 use Rattle.image_base.specs.Records.{Records, SameAt}
 use Rattle.tree_images.specs.Trees.{tree_nodes, tree_pairs}
+use Rattle.key_order.specs.Keys.{KeepsOthers}
+use Rattle.key_order.specs.Pairs.{lookup_pair, put, take_out}
+use Rattle.attr_images.specs.Values.{stored_value, IsValueRecord}
+use Rattle.attr_types.specs.Value.{type_of}
 use Rattle.attr_types.specs.declared.kind.ValueType.{ValueType}
-use Rattle.enum_dictionary.specs.Dictionaries.{IsDictionary}
+use Rattle.attr_types.specs.declared.value.Value.{Value}
+use Rattle.enum_dictionary.specs.Dictionaries.{beside, IsDictionary}
 
 -- the empty dictionary
 abbrev pub NothingIsDictionary : Type 0
@@ -14,3 +19,26 @@ abbrev pub DictionaryStays : Type 0
 DictionaryStays = (type : ValueType) (m n : Records) (root : ℕ) → SameAt (tree_nodes m root) m n
     → SameAt (map (λ p. p.0) (tree_pairs m root)) m n → IsDictionary type m root
     → IsDictionary type n root × (tree_pairs n root ≡ tree_pairs m root)
+
+-- what is found at each value of the type after a change: the pair that was set, and at every other value what was there
+pub record FindsSet (m n : Records) (root next : ℕ) (value : Value) (pair : ℕ × ℕ) : Type 0 where
+  pub found : lookup_pair (beside value n) (tree_pairs n next) ≡ Some pair
+  pub others : (other : Value) → type_of other ≡ type_of value → other ≢ value
+      → lookup_pair (beside other n) (tree_pairs n next) ≡ lookup_pair (beside other m) (tree_pairs m root)
+
+-- nothing at the value that was removed, and at every other one what was there
+pub record FindsRest (m n : Records) (root next : ℕ) (value : Value) : Type 0 where
+  pub gone : lookup_pair (beside value n) (tree_pairs n next) ≡ None
+  pub others : (other : Value) → type_of other ≡ type_of value → other ≢ value
+      → lookup_pair (beside other n) (tree_pairs n next) ≡ lookup_pair (beside other m) (tree_pairs m root)
+
+-- it is so after `set`, by what its clauses `makes` and `others` say
+abbrev pub SetIsFound : Type 0
+SetIsFound = (m n : Records) (root next : ℕ) (value : Value) (pair : ℕ × ℕ) → IsDictionary (type_of value) m root
+    → IsValueRecord (type_of value) (m pair.0) → stored_value (type_of value) m pair.0 ≡ value → KeepsOthers m n
+    → tree_pairs n next ≡ put (beside value m) pair (tree_pairs m root) → FindsSet m n root next value pair
+
+-- and after `remove`
+abbrev pub RemovedIsGone : Type 0
+RemovedIsGone = (m n : Records) (root next : ℕ) (value : Value) → IsDictionary (type_of value) m root → KeepsOthers m n
+    → tree_pairs n next ≡ take_out (beside value m) (tree_pairs m root) → FindsRest m n root next value

@@ -12,4 +12,4 @@ pub use changing::{remove, set};
 pub use cursors::{lower, upper};
 pub use finding::{DictEntry, find};
 pub use keys::{LongKey, TextKey};
-pub use laws::dictionary_law;
+pub use laws::{dictionary_law, found_law};

@@ -6,3 +6,4 @@ pub mod PartLemmas
 pub mod Counts
 pub mod UnitLemmas
 pub mod CommitLemmas
+pub mod Flows

@@ -4,3 +4,4 @@ pub mod Units
 pub mod Calls
 pub mod Parts
 pub mod Victims
+pub mod Flows

@@ -28,9 +28,10 @@ use Rattle.posting_store.specs.Lists.{list_at, list_reach}
 use Rattle.posting_store.specs.ProofsForLists.{IsList-same, list_at-same, list_reach-same}
 use Rattle.posting_store.proofs.FormLemmas.{at_form}
 use Rattle.value_index.specs.Changes.{KeepsKeys, MakesIndex}
-use Rattle.value_index.specs.Flows.{word_at, ComesFrom}
+use Rattle.value_index.specs.Flows.{word_at}
 use Rattle.value_index.specs.Indexes.{index_part, IsIndex, IsKey, IsValuePair}
-use Rattle.value_index.proofs.FlowLemmas.{began-then, flow_part}
+use Rattle.store_api.specs.Flows.{ComesFrom}
+use Rattle.store_api.proofs.Flows.{began-then, flow_part}
 use Rattle.value_index.proofs.IndexFlows.{flows_out, flows_set}
 use Rattle.value_index.proofs.IndexLemmas.{docs_at, index_formed, keys_same, pair_reach, pair_same}
 use Rattle.value_index.proofs.OpenLemmas.{IsOpen, index_count, others, pair_count, pairs_part, pairs_reach-same, parts, same_among, same_by, same_then}

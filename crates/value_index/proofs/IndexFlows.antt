@@ -21,9 +21,10 @@ use Rattle.attr_types.specs.declared.value.Value.{Value}
 use Rattle.enum_dictionary.specs.Dictionaries.{beside}
 use Rattle.enum_dictionary.proofs.DictionaryLemmas.{value_same}
 use Rattle.posting_store.specs.Lists.{list_reach}
-use Rattle.value_index.specs.Flows.{word_at, ComesFrom, FlowsIndex}
+use Rattle.value_index.specs.Flows.{word_at, FlowsIndex}
 use Rattle.value_index.specs.Indexes.{index_reach}
-use Rattle.value_index.proofs.FlowLemmas.{comes-then}
+use Rattle.store_api.specs.Flows.{ComesFrom}
+use Rattle.store_api.proofs.Flows.{comes-then}
 use Rattle.value_index.proofs.IndexLemmas.{pair_reach}
 use Rattle.value_index.proofs.OpenLemmas.{others}
 use Rattle.value_index.proofs.PairLemmas.{keys}

@@ -1,4 +1,3 @@
-pub mod FlowLemmas
 pub mod PairLemmas
 pub mod WordLemmas
 pub mod ShownLemmas

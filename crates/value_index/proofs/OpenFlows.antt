@@ -14,8 +14,9 @@ use Rattle.attr_types.specs.declared.value.Value.{Value}
 use Rattle.enum_dictionary.specs.Dictionaries.{beside}
 use Rattle.posting_store.specs.Changes.{list_part, MakesList}
 use Rattle.posting_store.specs.Lists.{list_reach}
-use Rattle.value_index.specs.Flows.{word_at, ComesFrom}
-use Rattle.value_index.proofs.FlowLemmas.{began-then, flow_made, flow_part}
+use Rattle.value_index.specs.Flows.{word_at}
+use Rattle.store_api.specs.Flows.{ComesFrom}
+use Rattle.store_api.proofs.Flows.{began-then, flow_made, flow_part}
 use Rattle.value_index.proofs.PairLemmas.{keys, found_among}
 
 pub record FlowsOpen {H : Type 0} (value : Value) (a b : Ledger H) (m n : Records) (root key word : ℕ) : Type 0 where

@@ -1,10 +1,10 @@
 -- What a change takes over of an index: a reference that was in use when the unit began has no role in the new index that it had not in
 -- the old one.
-use Rattle.std.specs.Prelude.{◌≡◌, ℕ, true, List, map}
+use Rattle.std.specs.Prelude.{◌≡◌, ℕ, map}
 use Rattle.std.specs.Option.{unwrap_or}
-use Rattle.image_base.specs.Records.{Records, Among}
+use Rattle.image_base.specs.Records.{Records}
 use Rattle.store_api.specs.Ledgers.{Ledger}
-use Rattle.store_api.specs.Statuses.{in_use}
+use Rattle.store_api.specs.Flows.{ComesFrom}
 use Rattle.key_order.specs.Pairs.{lookup}
 use Rattle.tree_images.specs.Trees.{tree_nodes, tree_pairs}
 use Rattle.attr_types.specs.Value.{type_of}
@@ -12,10 +12,6 @@ use Rattle.attr_types.specs.declared.kind.ValueType.{ValueType}
 use Rattle.attr_types.specs.declared.value.Value.{Value}
 use Rattle.enum_dictionary.specs.Dictionaries.{beside}
 use Rattle.posting_store.specs.Lists.{list_reach}
-
--- each of these references that was in use when the unit began is one of those
-abbrev pub ComesFrom : {H : Type 0} → Ledger H → List ℕ → List ℕ → Type 0
-ComesFrom ledger refs those = (r : ℕ) → in_use (ledger.back r) ≡ true → Among r refs → Among r those
 
 -- the word of a value's list, 0 where no document has it
 abbrev pub word_at : Value → Records → ℕ → ℕ

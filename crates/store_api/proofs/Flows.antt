@@ -1,13 +1,13 @@
 -- What was in use when a unit began, through its calls: of what a call makes of parts, that was of these parts.
 use Rattle.std.proofs.Common.{◌≡◌, ℕ, zero, suc, ◌<◌, List, [], ◌∷◌, true, true≢false, ⊎_elim, refl, sym, ◌∙◌, arith}
-use Rattle.image_base.specs.Records.{Records}
+use Rattle.image_base.specs.Records.{Records, Among}
 use Rattle.store_api.specs.Ledgers.{Ledger}
-use Rattle.store_api.specs.Parts.{Part, Turns, count_in}
+use Rattle.store_api.specs.Parts.{Part, Turns, count_in, uses}
 use Rattle.store_api.specs.Statuses.{in_use}
 use Rattle.store_api.specs.Units.{MayDo}
 use Rattle.store_api.proofs.Times.{among-times, times-among}
 use Rattle.store_api.proofs.Uses.{back_uses, in-uses, open_unused, uses-few, uses-in}
-use Rattle.value_index.specs.Flows.{ComesFrom}
+use Rattle.store_api.specs.Flows.{ComesFrom}
 
 -- what was in use when the unit began was so throughout the unit
 pub began-then : {H : Type 0} (a b : Ledger H) → MayDo a b → (r : ℕ) → in_use (a.back r) ≡ true → in_use (b.back r) ≡ true
@@ -42,7 +42,15 @@ flow_made a b m n q may turns r began among =
     let some = flow_from_turns a b m n [] (q ∷ []) may turns r began (omega arith) in
     absurd (omega arith)
 
+-- a part that was made was not in use
+pub made_fresh : {H : Type 0} (a b : Ledger H) (m n : Records) (q : Part) → Turns a b m n [] (q ∷ []) → (r : ℕ) → Among r (q.reach n) → uses a r ≡ 0
+made_fresh a b m n q turns r among =
+    let here = among-times r (q.reach n) among in
+    let balance = turns.balance r in
+    let few = uses-few b r in
+    omega arith
+
 -- one call after another
-pub comes-then : {H : Type 0} (a b : Ledger H) (first then last : List ℕ) → MayDo a b → ComesFrom a then first → ComesFrom b last then
+pub comes-then : {H : Type 0} (a b : Ledger H) (first next last : List ℕ) → MayDo a b → ComesFrom a next first → ComesFrom b last next
     → ComesFrom a last first
-comes-then a b first then last may one two r began among = one r began (two r (began-then a b may r began) among)
+comes-then a b first next last may one two r began among = one r began (two r (began-then a b may r began) among)
