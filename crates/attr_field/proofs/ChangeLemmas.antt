@@ -1,5 +1,5 @@
 -- The steps of a change one after another.
-use Rattle.std.proofs.Common.{◌≡◌, ℕ, ℤ, List, [], ◌∷◌, Option, None, Some, nat_cmp, refl, sym, ap, subst, ◌∙◌}
+use Rattle.std.proofs.Common.{◌≡◌, ℕ, ℤ, List, [], ◌∷◌, Option, None, Some, nat_cmp, refl, sym, ap, subst, ◌∙◌, arith}
 use Rattle.std.specs.Prelude.{unwrap_or}
 use Rattle.std.specs.BTreeMap.{is_at}
 use Rattle.std.specs.Map.{lookup}
@@ -24,11 +24,14 @@ use Rattle.attr_types.specs.declared.kind.Kind.{Kind}
 use Rattle.attr_types.specs.declared.kind.ValueType.{ValueType}
 use Rattle.attr_types.specs.declared.value.Value.{Value}
 use Rattle.value_index.specs.Indexes.{index_part}
+use Rattle.value_index.specs.Laws.{KeyIsRead}
 use Rattle.attr_field.specs.Changes.{MakesField}
-use Rattle.attr_field.specs.Fields.{field_part, IsField}
+use Rattle.attr_field.specs.Fields.{field_part, IsField, RefersBeside}
 use Rattle.attr_field.specs.Steps.{StandsField, StepsField}
+use Rattle.attr_field.proofs.CopyLemmas.{keeps_same, keeps_some, keeps_then, refers_some}
 use Rattle.attr_field.proofs.FlowLemmas.{field_flows_same, field_flows_then}
-use Rattle.attr_field.proofs.RefLemmas.{field_owns, field_turns}
+use Rattle.attr_field.proofs.RefLemmas.{field_count, field_owns, field_turns}
+use Rattle.attr_field.proofs.StepLemmas.{keys_owned}
 use Rattle.attr_field.proofs.WeightLemmas.{weights_are}
 
 abbrev pub weights : List (Value × ℤ) → Value → Option ℤ
@@ -38,11 +41,13 @@ module _ {H : Type 0} (kind : Kind) (type : ValueType) (begun : Ledger H) (k : R
   abbrev column : Column
   column = column_at kind type k documents
 
-  pub field_stands : Owns begun k (field_part kind documents dictionary ∷ []) → StandsField kind type begun k documents dictionary
-  field_stands owns = record {
+  pub field_stands : Owns begun k (field_part kind documents dictionary ∷ []) → RefersBeside begun kind k documents dictionary (field_part kind documents dictionary ∷ [])
+      → StandsField kind type begun k documents dictionary
+  field_stands owns refers = record {
     documents_are = is.documents_are;
     index_is = is.index_is;
-    keys = is.keys;
+    refers = refers_some kind begun k documents dictionary (field_part kind documents dictionary ∷ []) (documents_part kind documents ∷ index_part dictionary ∷ []) refers
+        (λ r. let e = field_count kind documents dictionary k r in omega arith);
     owns = field_owns begun k kind documents dictionary owns;
   }
 
@@ -69,19 +74,22 @@ module _ {H : Type 0} (kind : Kind) (type : ValueType) (begun : Ledger H) (k : R
   none_added = record { formed = is.index_of_documents.formed; lists = λ value. refl }
 
   -- the last step makes the attribute whole
-  pub step_ends : (mid new : Ledger H) (m n : Records) (next root last : ℕ) (next_column : Column) → MayDo begun mid
+  pub step_ends : KeyIsRead → (mid new : Ledger H) (m n : Records) (next root last : ℕ) (next_column : Column) → MayDo begun mid
       → StepsField kind type begun mid k m documents dictionary next_column next root
       → StepsField kind type mid new m n next root (column_at kind type m next) next last
       → IsIndexOf (column_at kind type m next) (index_of type n last)
       → MakesField kind type begun new k n documents dictionary next_column next last
-  step_ends mid new m n next root last next_column may first second of = record {
+  step_ends key_read mid new m n next root last next_column may first second of = record {
     field_is = record {
       documents_are = second.stands.documents_are;
       index_is = second.stands.index_is;
       index_of_documents = subst (λ (c : Column). IsIndexOf c (index_of type n last)) (sym second.column_is) of;
-      keys = second.stands.keys;
     };
     column_is = second.column_is ∙ first.column_is;
+    refers = keeps_some kind begun k n documents (documents_part kind documents ∷ index_part dictionary ∷ []) (field_part kind documents dictionary ∷ []) next last
+        (keeps_then kind begun mid k m n documents next root next last (documents_part kind documents ∷ index_part dictionary ∷ []) (documents_part kind next ∷ index_part root ∷ [])
+        (keys_owned key_read kind type mid m next root first.stands) first.refers second.refers)
+        (λ r. let e = field_count kind documents dictionary k r in omega arith);
     flows = field_flows_then kind type begun mid k m n documents dictionary next root next last may first.flows second.flows;
     turns = field_turns begun new k n kind documents dictionary next last
         (turns-then begun mid new k m n (documents_part kind documents ∷ index_part dictionary ∷ []) (documents_part kind next ∷ index_part root ∷ [])
@@ -89,24 +97,27 @@ module _ {H : Type 0} (kind : Kind) (type : ValueType) (begun : Ledger H) (k : R
   }
 
   -- two steps are one
-  pub steps_then : (mid new : Ledger H) (m n : Records) (root next : ℕ) (items : Option (List Item)) → MayDo begun mid
+  pub steps_then : KeyIsRead → (mid new : Ledger H) (m n : Records) (root next : ℕ) (items : Option (List Item)) → MayDo begun mid
       → StepsField kind type begun mid k m documents dictionary column documents root
       → StepsField kind type mid new m n documents root (with_change (column_at kind type m documents) doc items) next root
       → StepsField kind type begun new k n documents dictionary (with_change column doc items) next root
-  steps_then mid new m n root next items may first second = record {
+  steps_then key_read mid new m n root next items may first second = record {
     stands = second.stands;
     column_is = second.column_is ∙ ap (λ (c : Column). with_change c doc items) first.column_is;
+    refers = keeps_then kind begun mid k m n documents documents root next root (documents_part kind documents ∷ index_part dictionary ∷ []) (documents_part kind documents ∷ index_part root ∷ [])
+        (keys_owned key_read kind type mid m documents root first.stands) first.refers second.refers;
     flows = field_flows_then kind type begun mid k m n documents dictionary documents root next root may first.flows second.flows;
     turns = turns-then begun mid new k m n (documents_part kind documents ∷ index_part dictionary ∷ []) (documents_part kind documents ∷ index_part root ∷ [])
         (documents_part kind next ∷ index_part root ∷ []) first.turns second.turns;
   }
 
   -- a document that has the items already
-  pub same_field : DocumentsAreLawful → (items : List Item) → lookup (is_at (nat_cmp doc)) column ≡ Some items
+  pub same_field : DocumentsAreLawful → RefersBeside begun kind k documents dictionary (field_part kind documents dictionary ∷ []) → (items : List Item) → lookup (is_at (nat_cmp doc)) column ≡ Some items
       → MakesField kind type begun begun k k documents dictionary (with_change column doc (Some items)) documents dictionary
-  same_field lawful items there = record {
+  same_field lawful refers items there = record {
     field_is = is;
     column_is = sym (insert_same doc items column (lawful kind type k documents is.documents_are).2.ascends there);
+    refers = keeps_same kind begun k documents dictionary (field_part kind documents dictionary ∷ []) refers;
     flows = field_flows_same kind type begun k documents dictionary;
     turns = turns-same begun k (field_part kind documents dictionary ∷ []);
   }

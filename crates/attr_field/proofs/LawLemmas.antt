@@ -1,6 +1,5 @@
 -- What an attribute in a store is: the laws, by those of its documents and of its index.
 use Rattle.std.proofs.Common.{◌++◌, refl, sym, subst, inl, inr}
-use Rattle.image_base.specs.Records.{Among}
 use Rattle.tree_images.specs.ProofsForTrees.{SameAt-left, SameAt-right}
 use Rattle.tree_images.specs.Trees.{tree_nodes}
 use Rattle.attr_documents.specs.Documents.{documents_own, documents_refer}
@@ -11,8 +10,8 @@ use Rattle.attr_index.proofs.OfLemmas.{empty_index, has_values, has_lists}
 use Rattle.attr_index.specs.Index.{IsIndexOf}
 use Rattle.value_index.specs.Indexes.{index_reach}
 use Rattle.value_index.specs.Laws.{NothingIsIndex, IndexStays, IndexIsLawful, KeyIsRead}
-use Rattle.attr_field.specs.Laws.{NothingIsField, FieldStays, FieldIsLawful, FieldReaches}
-use Rattle.attr_field.proofs.RefLemmas.{among_left, among_right, among_either, same_each, same_among}
+use Rattle.attr_field.specs.Laws.{NothingIsField, FieldStays, FieldIsLawful, FieldOwnsKeys, FieldReaches, FieldReachesOwn}
+use Rattle.attr_field.proofs.RefLemmas.{among_left, among_right, among_either}
 
 pub field_nothing : NothingIsDocuments → NothingIsIndex → NothingIsField
 field_nothing documents index kind type m = (
@@ -20,29 +19,28 @@ field_nothing documents index kind type m = (
     documents_are = (documents kind type m).0;
     index_is = (index type m).0;
     index_of_documents = empty_index;
-    keys = λ r among. absurd among;
   },
   refl,
   refl,
 )
 
-pub field_stays : DocumentsStay → IndexStays → KeyIsRead → FieldStays
-field_stays documents_stay index_stays key_read kind type m n documents dictionary same is =
+pub field_stays : DocumentsStay → IndexStays → FieldStays
+field_stays documents_stay index_stays kind type m n documents dictionary same refer is =
     let own = SameAt-left m n (documents_own kind m documents) (index_reach m dictionary) same in
     let rest = SameAt-right m n (documents_own kind m documents) (index_reach m dictionary) same in
     let index = index_stays type m n dictionary rest is.index_is in
-    let refer = same_each m n (documents_refer kind m documents)
-    (λ r among. same_among m n (index_reach m dictionary) rest r (key_read type m dictionary r is.index_is (is.keys r among)).owned) in
-    let stay = documents_stay kind type m n documents own refer is.documents_are in (
-      record {
+    let stay = documents_stay kind type m n documents own refer is.documents_are in
+    record {
+      field_is = record {
         documents_are = stay.0;
         index_is = index.0;
         index_of_documents = subst (λ column. IsIndexOf column (index_of type n dictionary)) (sym stay.1)
             (subst (λ index. IsIndexOf (column_at kind type m documents) index) (sym index.1) is.index_of_documents);
-        keys = λ r among. index.2 r (is.keys r (subst (Among r) stay.2 among));
-      },
-      stay.1,
-    )
+      };
+      column_is = stay.1;
+      refers = stay.2;
+      keys = index.2;
+    }
 
 pub field_lawful : DocumentsAreLawful → IndexIsLawful → FieldIsLawful
 field_lawful documents index kind type m D I is =
@@ -55,18 +53,34 @@ field_lawful documents index kind type m D I is =
       lists = has_lists (column_at kind type m D) (index_of type m I) is.index_of_documents;
     }
 
-pub field_reaches : DocumentsReach → KeyIsRead → FieldReaches
-field_reaches documents key_read kind type m D I r is = (
+pub field_owns_keys : KeyIsRead → FieldOwnsKeys
+field_owns_keys key_read kind type m D I r is key = among_right r (documents_own kind m D) (index_reach m I) (key_read type m I r is.index_is key).owned
+
+pub field_reaches : DocumentsReach → FieldReaches
+field_reaches documents kind m D I r = (
   λ among. elim (among_either r (tree_nodes m D ++ documents_reach kind m D) (index_reach m I) among) [
     | inl here ↦ elim (among_either r (documents_own kind m D) (documents_refer kind m D) ((documents kind m D r).0 here)) [
-      | inl own ↦ among_left r (documents_own kind m D) (index_reach m I) own
-      | inr refer ↦ among_right r (documents_own kind m D) (index_reach m I) (key_read type m I r is.index_is (is.keys r refer)).owned
+      | inl own ↦ inl (among_left r (documents_own kind m D) (index_reach m I) own)
+      | inr refer ↦ inr refer
     ]
-    | inr there ↦ among_right r (documents_own kind m D) (index_reach m I) there
+    | inr there ↦ inl (among_right r (documents_own kind m D) (index_reach m I) there)
   ],
-  λ among. elim (among_either r (documents_own kind m D) (index_reach m I) among) [
-    | inl own ↦ among_left r (tree_nodes m D ++ documents_reach kind m D) (index_reach m I)
-        ((documents kind m D r).1 (among_left r (documents_own kind m D) (documents_refer kind m D) own))
-    | inr there ↦ among_right r (tree_nodes m D ++ documents_reach kind m D) (index_reach m I) there
+  λ either. elim either [
+    | inl owned ↦ elim (among_either r (documents_own kind m D) (index_reach m I) owned) [
+      | inl own ↦ among_left r (tree_nodes m D ++ documents_reach kind m D) (index_reach m I)
+          ((documents kind m D r).1 (among_left r (documents_own kind m D) (documents_refer kind m D) own))
+      | inr there ↦ among_right r (tree_nodes m D ++ documents_reach kind m D) (index_reach m I) there
+    ]
+    | inr refer ↦ among_left r (tree_nodes m D ++ documents_reach kind m D) (index_reach m I)
+        ((documents kind m D r).1 (among_right r (documents_own kind m D) (documents_refer kind m D) refer))
   ],
+)
+
+pub field_reaches_own : DocumentsReach → KeyIsRead → FieldReachesOwn
+field_reaches_own documents key_read kind type m D I r is refers = (
+  λ among. elim ((field_reaches documents kind m D I r).0 among) [
+    | inl own ↦ own
+    | inr refer ↦ field_owns_keys key_read kind type m D I r is (refers.each r refer)
+  ],
+  λ own. (field_reaches documents kind m D I r).1 (inl own),
 )

@@ -1,5 +1,6 @@
 pub mod RefLemmas
 pub mod LawLemmas
+pub mod CopyLemmas
 pub mod FlowLemmas
 pub mod StepLemmas
 pub mod WeightLemmas

@@ -1,7 +1,8 @@
 -- One attribute in a store: its documents and the index of their values, each by the root of its tree.
-use Rattle.std.specs.Prelude.{ℕ, ◌++◌}
+use Rattle.std.specs.Prelude.{◌⊎◌, ℕ, ◌<◌, List, ◌++◌}
 use Rattle.image_base.specs.Records.{Records, Among}
-use Rattle.store_api.specs.Parts.{Part}
+use Rattle.store_api.specs.Ledgers.{Ledger}
+use Rattle.store_api.specs.Parts.{Part, count_in, uses}
 use Rattle.attr_documents.specs.Documents.{documents_own, documents_refer, IsDocuments}
 use Rattle.attr_images.specs.Documents.{column_at}
 use Rattle.attr_images.specs.Postings.{index_of}
@@ -18,9 +19,17 @@ field_part kind documents dictionary = record {
   stays = λ m n same. field_own-same kind m n documents dictionary same;
 }
 
--- documents, and the index of exactly their values, to whose keys the documents refer
+-- documents, and the index of exactly their values
 pub record IsField (kind : Kind) (type : ValueType) (m : Records) (documents dictionary : ℕ) : Type 0 where
   pub documents_are : IsDocuments kind type m documents
   pub index_is : IsIndex type m dictionary
   pub index_of_documents : IsIndexOf (column_at kind type m documents) (index_of type m dictionary)
-  pub keys : (r : ℕ) → Among r (documents_refer kind m documents) → IsKey m dictionary r
+
+-- each record that documents refer to is a key of their index; or it is the old copy of one, in use still, which none of these parts own
+pub record RefersBeside {H : Type 0} (ledger : Ledger H) (kind : Kind) (m : Records) (documents dictionary : ℕ) (parts : List Part)
+    : Type 0 where
+  pub each : (r : ℕ) → Among r (documents_refer kind m documents) → IsKey m dictionary r ⊎ (count_in r m parts < uses ledger r)
+
+-- each is a key: there are no old copies
+pub record RefersToKeys (kind : Kind) (m : Records) (documents dictionary : ℕ) : Type 0 where
+  pub each : (r : ℕ) → Among r (documents_refer kind m documents) → IsKey m dictionary r

@@ -1,29 +1,50 @@
 -- What an attribute in a store is, as laws.
-use Rattle.std.specs.Prelude.{◌≡◌, ◌↔◌, ℕ, []}
+use Rattle.std.specs.Prelude.{◌≡◌, ◌↔◌, ◌⊎◌, ℕ, []}
 use Rattle.image_base.specs.Records.{Records, SameAt, Among}
+use Rattle.attr_documents.specs.Documents.{documents_refer}
 use Rattle.attr_images.specs.Attributes.{trees_reach, IsLawfulAttribute}
 use Rattle.attr_images.specs.Documents.{column_at}
 use Rattle.attr_types.specs.declared.kind.Kind.{Kind}
 use Rattle.attr_types.specs.declared.kind.ValueType.{ValueType}
-use Rattle.attr_field.specs.Fields.{field_part, IsField}
+use Rattle.value_index.specs.Indexes.{IsKey}
+use Rattle.attr_field.specs.Fields.{field_part, IsField, RefersToKeys}
 
 -- roots 0 are an attribute without documents, which owns nothing
 abbrev pub NothingIsField : Type 0
 NothingIsField = (kind : Kind) (type : ValueType) (m : Records) → IsField kind type m 0 0 × (column_at kind type m 0 ≡ [])
     × ((field_part kind 0 0).reach m ≡ [])
 
--- an attribute stays, with its column, where the records that it owns stay
+-- an attribute in other records, with its column, what its documents refer to, and its keys
+pub record FieldIsSame (kind : Kind) (type : ValueType) (m n : Records) (documents dictionary : ℕ) : Type 0 where
+  pub field_is : IsField kind type n documents dictionary
+  pub column_is : column_at kind type n documents ≡ column_at kind type m documents
+  pub refers : documents_refer kind n documents ≡ documents_refer kind m documents
+  pub keys : (r : ℕ) → IsKey m dictionary r → IsKey n dictionary r
+
+-- it stays where the records stay that it owns, and those that its documents refer to
 abbrev pub FieldStays : Type 0
 FieldStays = (kind : Kind) (type : ValueType) (m n : Records) (documents dictionary : ℕ)
-    → SameAt ((field_part kind documents dictionary).reach m) m n → IsField kind type m documents dictionary
-    → IsField kind type n documents dictionary × (column_at kind type n documents ≡ column_at kind type m documents)
+    → SameAt ((field_part kind documents dictionary).reach m) m n → SameAt (documents_refer kind m documents) m n
+    → IsField kind type m documents dictionary → FieldIsSame kind type m n documents dictionary
 
 -- it is lawful as a part of an image
 abbrev pub FieldIsLawful : Type 0
 FieldIsLawful = (kind : Kind) (type : ValueType) (m : Records) (documents dictionary : ℕ) → IsField kind type m documents dictionary
     → IsLawfulAttribute kind type m documents dictionary
 
--- it owns exactly the records that an image reaches of it
+-- it owns its keys
+abbrev pub FieldOwnsKeys : Type 0
+FieldOwnsKeys = (kind : Kind) (type : ValueType) (m : Records) (documents dictionary r : ℕ) → IsField kind type m documents dictionary
+    → IsKey m dictionary r → Among r ((field_part kind documents dictionary).reach m)
+
+-- an image reaches of it exactly the records that it owns, and those that its documents refer to
 abbrev pub FieldReaches : Type 0
-FieldReaches = (kind : Kind) (type : ValueType) (m : Records) (documents dictionary r : ℕ) → IsField kind type m documents dictionary
+FieldReaches = (kind : Kind) (m : Records) (documents dictionary r : ℕ)
+    → Among r (trees_reach kind m documents dictionary)
+    ↔ (Among r ((field_part kind documents dictionary).reach m) ⊎ Among r (documents_refer kind m documents))
+
+-- where there are no old copies it owns exactly the records that an image reaches of it
+abbrev pub FieldReachesOwn : Type 0
+FieldReachesOwn = (kind : Kind) (type : ValueType) (m : Records) (documents dictionary r : ℕ) → IsField kind type m documents dictionary
+    → RefersToKeys kind m documents dictionary
     → Among r (trees_reach kind m documents dictionary) ↔ Among r ((field_part kind documents dictionary).reach m)

@@ -1,9 +1,9 @@
 -- The steps of a change: documents and an index that have to become one another's again.
 use Rattle.std.specs.Prelude.{◌≡◌, ℕ, [], ◌∷◌}
-use Rattle.image_base.specs.Records.{Records, Among}
+use Rattle.image_base.specs.Records.{Records}
 use Rattle.store_api.specs.Ledgers.{Ledger}
 use Rattle.store_api.specs.Parts.{Owns, Turns}
-use Rattle.attr_documents.specs.Documents.{documents_part, documents_refer, IsDocuments}
+use Rattle.attr_documents.specs.Documents.{documents_part, IsDocuments}
 use Rattle.attr_images.specs.Documents.{column_at}
 use Rattle.attr_images.specs.Values.{stored_value, IsValueRecord}
 use Rattle.attr_index.specs.Columns.{Column}
@@ -11,14 +11,16 @@ use Rattle.attr_types.specs.declared.kind.Kind.{Kind}
 use Rattle.attr_types.specs.declared.kind.ValueType.{ValueType}
 use Rattle.attr_types.specs.declared.value.Value.{Value}
 use Rattle.value_index.specs.Indexes.{index_part, IsIndex, IsKey}
+use Rattle.attr_field.specs.Changes.{KeepsCopies}
+use Rattle.attr_field.specs.Fields.{RefersBeside}
 use Rattle.attr_field.specs.Flows.{FlowsField}
 
--- documents and an index to whose keys they refer, whatever its lists are
+-- documents and an index to whose keys they refer, or to old copies of these, whatever its lists are
 pub record StandsField {H : Type 0} (kind : Kind) (type : ValueType) (ledger : Ledger H) (m : Records) (documents dictionary : ℕ)
     : Type 0 where
   pub documents_are : IsDocuments kind type m documents
   pub index_is : IsIndex type m dictionary
-  pub keys : (r : ℕ) → Among r (documents_refer kind m documents) → IsKey m dictionary r
+  pub refers : RefersBeside ledger kind m documents dictionary (documents_part kind documents ∷ index_part dictionary ∷ [])
   pub owns : Owns ledger m (documents_part kind documents ∷ index_part dictionary ∷ [])
 
 -- others stand in their place, with this column
@@ -26,6 +28,8 @@ pub record StepsField {H : Type 0} (kind : Kind) (type : ValueType) (old new : L
     (column : Column) (next_documents next_dictionary : ℕ) : Type 0 where
   pub stands : StandsField kind type new n next_documents next_dictionary
   pub column_is : column_at kind type n next_documents ≡ column
+  pub refers : KeepsCopies old kind m n documents (documents_part kind documents ∷ index_part dictionary ∷ [])
+      next_documents next_dictionary
   pub flows : FlowsField kind type old m n documents dictionary next_documents next_dictionary
   pub turns : Turns old new m n (documents_part kind documents ∷ index_part dictionary ∷ [])
       (documents_part kind next_documents ∷ index_part next_dictionary ∷ [])

@@ -6,7 +6,7 @@ ghost use Rattle.store_api.specs.Parts.{Owns};
 ghost use Rattle.store_api.specs.Units.{MayDo};
 ghost use Rattle.attr_field.specs.Changes.{MakesField};
 ghost use Rattle.attr_field.specs.Counts.{field_nodes, field_records, low_nodes, StaysLow};
-ghost use Rattle.attr_field.specs.Fields.{field_part, IsField};
+ghost use Rattle.attr_field.specs.Fields.{field_part, IsField, RefersBeside};
 ghost use Rattle.attr_images.specs.Documents.{column_at};
 ghost use Rattle.attr_index.specs.Changes.{first_weights};
 ghost use Rattle.attr_index.specs.Columns.{items_of, with_change};
@@ -23,6 +23,7 @@ use attr_types::{Doc, Item, Kind, Value, ValueType};
 use std::alloc::Global;
 use std::collections::BTreeMap;
 use store_api::{Store, StoreError};
+use value_index::key_law;
 
 /// Sets the items of a document, by the weights of its values before and after.
 #[tactic(none)]
@@ -40,6 +41,8 @@ fn put_weighed<const OFFSET_BITS: u32, S: Store<OFFSET_BITS>>(
     requires unit { (S.ledger store.old).unit ≡ true }
     requires field { IsField kind value_type (S.records store.old) roots.documents roots.dictionary }
     requires owns { Owns (S.ledger store.old) (S.records store.old) (field_part kind roots.documents roots.dictionary ∷ []) }
+    requires refers { RefersBeside (S.ledger store.old) kind (S.records store.old) roots.documents roots.dictionary
+        (field_part kind roots.documents roots.dictionary ∷ []) }
     requires fits { ItemsFit kind value_type items.now }
     requires before { old.now.entries ≡ first_weights [] (items_of (column_at kind value_type (S.records store.old) roots.documents) doc) }
     requires after { new.now.entries ≡ first_weights [] items.now }
@@ -56,6 +59,7 @@ fn put_weighed<const OFFSET_BITS: u32, S: Store<OFFSET_BITS>>(
     ensures may { MayDo (S.ledger store.old) (S.ledger store.new) }
 {
     documents_law();
+    key_law();
     let added = add_values(
         store,
         kind,
@@ -100,6 +104,8 @@ pub fn put<const OFFSET_BITS: u32, S: Store<OFFSET_BITS>>(
     requires unit { (S.ledger store.old).unit ≡ true }
     requires field { IsField kind value_type (S.records store.old) roots.documents roots.dictionary }
     requires owns { Owns (S.ledger store.old) (S.records store.old) (field_part kind roots.documents roots.dictionary ∷ []) }
+    requires refers { RefersBeside (S.ledger store.old) kind (S.records store.old) roots.documents roots.dictionary
+        (field_part kind roots.documents roots.dictionary ∷ []) }
     requires was { old.now ≡ items_of (column_at kind value_type (S.records store.old) roots.documents) doc }
     requires fits { ItemsFit kind value_type new.now }
     ensures makes { IfOk result (λ next. MakesField kind value_type (S.ledger store.old) (S.ledger store.new) (S.records store.old)
@@ -165,6 +171,8 @@ fn remove_weighed<const OFFSET_BITS: u32, S: Store<OFFSET_BITS>>(
     requires unit { (S.ledger store.old).unit ≡ true }
     requires field { IsField kind value_type (S.records store.old) roots.documents roots.dictionary }
     requires owns { Owns (S.ledger store.old) (S.records store.old) (field_part kind roots.documents roots.dictionary ∷ []) }
+    requires refers { RefersBeside (S.ledger store.old) kind (S.records store.old) roots.documents roots.dictionary
+        (field_part kind roots.documents roots.dictionary ∷ []) }
     requires there { IsSome (lookup (is_at (nat_cmp doc)) (column_at kind value_type (S.records store.old) roots.documents)) }
     requires before { old.now.entries ≡ first_weights [] (items_of (column_at kind value_type (S.records store.old) roots.documents) doc) }
     ensures makes { IfOk result (λ next. MakesField kind value_type (S.ledger store.old) (S.ledger store.new) (S.records store.old)
@@ -180,6 +188,7 @@ fn remove_weighed<const OFFSET_BITS: u32, S: Store<OFFSET_BITS>>(
     ensures may { MayDo (S.ledger store.old) (S.ledger store.new) }
 {
     documents_law();
+    key_law();
     let none = no_weights(alloc);
     let documents = take_out(
         store,
@@ -220,6 +229,8 @@ pub fn remove<const OFFSET_BITS: u32, S: Store<OFFSET_BITS>>(
     requires unit { (S.ledger store.old).unit ≡ true }
     requires field { IsField kind value_type (S.records store.old) roots.documents roots.dictionary }
     requires owns { Owns (S.ledger store.old) (S.records store.old) (field_part kind roots.documents roots.dictionary ∷ []) }
+    requires refers { RefersBeside (S.ledger store.old) kind (S.records store.old) roots.documents roots.dictionary
+        (field_part kind roots.documents roots.dictionary ∷ []) }
     requires there { IsSome (lookup (is_at (nat_cmp doc)) (column_at kind value_type (S.records store.old) roots.documents)) }
     requires was { old.now ≡ items_of (column_at kind value_type (S.records store.old) roots.documents) doc }
     ensures makes { IfOk result (λ next. MakesField kind value_type (S.ledger store.old) (S.ledger store.new) (S.records store.old)

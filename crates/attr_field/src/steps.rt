@@ -42,6 +42,8 @@ pub fn add_values<const OFFSET_BITS: u32, S: Store<OFFSET_BITS>>(
 ) -> Result<EntryRef<OFFSET_BITS>, StoreError>
     requires unit { (S.ledger store.old).unit ≡ true }
     requires stands { StandsField kind value_type (S.ledger store.old) (S.records store.old) documents dictionary }
+    requires indexed { IsIndexOf (column_at kind value_type (S.records store.old) documents)
+        (index_of value_type (S.records store.old) dictionary) }
     requires typed { AreOfType value_type (values_in new.now.entries) }
     requires has { (value : OneValue) → lookup (is_at (nat_cmp doc)) (list_of value (index_of value_type (S.records store.old) dictionary))
         ≡ get value_cmp old.now value }

@@ -12,7 +12,7 @@ use Rattle.attr_walks.specs.Counts.{MakesFew}
 use Rattle.attr_walks.proofs.CountLemmas.{few_none}
 use Rattle.attr_field.specs.Changes.{MakesField}
 use Rattle.attr_field.specs.Counts.{field_nodes, field_records, low_nodes, StaysLow}
-use Rattle.attr_field.specs.Fields.{field_part, IsField}
+use Rattle.attr_field.specs.Fields.{field_part, IsField, RefersBeside}
 use Rattle.attr_field.specs.declared.roots.FieldRoots.{FieldRoots}
 use Rattle.attr_field.proofs.ChangeLemmas.{same_field}
 use Rattle.attr_field.proofs.changing.put.Goals as goal
@@ -40,7 +40,7 @@ returns-then-same-clause-makes g c =
     let items = c.args.new.now in
     subst (λ s. MakesField kind type (ledger c.args.store.now) (ledger s) k (records s) D I (with_change (column_at kind type k D) c.args.doc (Some items)) D I)
     (sym c.has_already.ensures.same)
-    (same_field kind type (ledger c.args.store.now) k D I c.args.doc c.requires.field c.documents_law.ensures.lawful items (c.in-Ok.ensures.has c.if-same.true))
+    (same_field kind type (ledger c.args.store.now) k D I c.args.doc c.requires.field c.documents_law.ensures.lawful c.requires.refers items (c.in-Ok.ensures.has c.if-same.true))
 
 pub returns-then-same-clause-may : goal.returns-then-same-clause-may
 returns-then-same-clause-may g c =
@@ -80,11 +80,14 @@ put_weighed-requires g c =
           (
             subst (λ s. Owns (ledger s) (records s) (field_part kind D I ∷ [])) same c.requires.owns,
             (
-              c.requires.fits,
+              subst (λ s. RefersBeside (ledger s) kind (records s) D I (field_part kind D I ∷ [])) same c.requires.refers,
               (
-                subst (λ s. c.in-Ok-weights_of.before.entries ≡ first_weights [] (items_of (column_at kind type (records s) D) c.args.doc)) same
-                    (c.in-Ok-weights_of.ensures.weights ∙ ap (first_weights []) c.requires.was),
-                c.in-Ok-weights_of-2.ensures.weights,
+                c.requires.fits,
+                (
+                  subst (λ s. c.in-Ok-weights_of.before.entries ≡ first_weights [] (items_of (column_at kind type (records s) D) c.args.doc)) same
+                      (c.in-Ok-weights_of.ensures.weights ∙ ap (first_weights []) c.requires.was),
+                  c.in-Ok-weights_of-2.ensures.weights,
+                ),
               ),
             ),
           ),

@@ -25,10 +25,13 @@ add_values-requires g c =
       (
         c.requires.unit,
         (
-          field_stands kind type begun k documents dictionary c.args.doc c.requires.field c.requires.owns,
+          field_stands kind type begun k documents dictionary c.args.doc c.requires.field c.requires.owns c.requires.refers,
           (
-            weights_typed type c.args.new.now.entries c.args.items.now c.requires.after c.requires.fits.1,
-            has_before kind type begun k documents dictionary c.args.doc c.requires.field c.documents_law.ensures.lawful c.args.old.now.entries c.requires.before,
+            c.requires.field.index_of_documents,
+            (
+              weights_typed type c.args.new.now.entries c.args.items.now c.requires.after c.requires.fits.1,
+              has_before kind type begun k documents dictionary c.args.doc c.requires.field c.documents_law.ensures.lawful c.args.old.now.entries c.requires.before,
+            ),
           ),
         ),
       ),
@@ -96,7 +99,7 @@ remove_values-requires g c =
     let root = c.in_ok-added.added in
     let next = c.in_ok-documents.documents in
     let lawful = c.documents_law.ensures.lawful in
-    let both = steps_then kind type begun k D I doc c.requires.field (ledger c.add_values.new.store) (ledger c.set_items.new.store) m n root next (Some items)
+    let both = steps_then kind type begun k D I doc c.requires.field c.key_law.ensures.read (ledger c.add_values.new.store) (ledger c.set_items.new.store) m n root next (Some items)
     c.add_values.ensures.may c.in_ok-added.ensures.steps c.in_ok-documents.ensures.steps in
     let between = subst (λ (i : Index). IsBetween (index_of type k I) doc (weights new) (λ v. None) i) (sym c.in_ok-documents.ensures.index) c.in_ok-added.ensures.between in (
       omega arith,
@@ -151,10 +154,10 @@ returns-clause-makes g c =
     let root = c.in_ok-added.added in
     let next = c.in_ok-documents.documents in
     let last = c.in_ok-dictionary.dictionary in
-    let both = steps_then kind type begun k D I doc c.requires.field (ledger c.add_values.new.store) (ledger c.set_items.new.store) m n root next (Some items)
+    let both = steps_then kind type begun k D I doc c.requires.field c.key_law.ensures.read (ledger c.add_values.new.store) (ledger c.set_items.new.store) m n root next (Some items)
     c.add_values.ensures.may c.in_ok-added.ensures.steps c.in_ok-documents.ensures.steps in
     let may = may_do-then (ledger c.args.store.now) (ledger c.add_values.new.store) (ledger c.set_items.new.store) c.add_values.ensures.may c.set_items.ensures.may in
-    step_ends kind type begun k D I doc c.requires.field (ledger c.set_items.new.store) (ledger c.remove_values.new.store) n o next root last
+    step_ends kind type begun k D I doc c.requires.field c.key_law.ensures.read (ledger c.set_items.new.store) (ledger c.remove_values.new.store) n o next root last
     (with_change (column_at kind type k D) doc (Some items)) may both c.in_ok-dictionary.ensures.steps c.in_ok-dictionary.ensures.index
 
 pub returns-in_err-added-clause-counts : goal.returns-in_err-added-clause-counts

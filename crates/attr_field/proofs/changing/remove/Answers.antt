@@ -23,8 +23,11 @@ remove_weighed-requires g c = (
       (
         c.requires.owns,
         (
-          c.requires.there,
-          c.in-Ok.ensures.weights ∙ ap (first_weights []) c.requires.was,
+          c.requires.refers,
+          (
+            c.requires.there,
+            c.in-Ok.ensures.weights ∙ ap (first_weights []) c.requires.was,
+          ),
         ),
       ),
     ),

@@ -22,7 +22,7 @@ take_out-requires g c =
       omega arith,
       (
         c.requires.unit,
-        (field_stands c.args.kind c.args.value_type begun k c.args.roots.documents c.args.roots.dictionary c.args.doc c.requires.field c.requires.owns, c.requires.there),
+        (field_stands c.args.kind c.args.value_type begun k c.args.roots.documents c.args.roots.dictionary c.args.doc c.requires.field c.requires.owns c.requires.refers, c.requires.there),
       ),
     )
 
@@ -94,7 +94,7 @@ returns-clause-makes g c =
     let type = c.args.value_type in
     let D = c.args.roots.documents in
     let I = c.args.roots.dictionary in
-    step_ends kind type (ledger c.args.store.now) k D I c.args.doc c.requires.field (ledger c.take_out.new.store) (ledger c.remove_values.new.store)
+    step_ends kind type (ledger c.args.store.now) k D I c.args.doc c.requires.field c.key_law.ensures.read (ledger c.take_out.new.store) (ledger c.remove_values.new.store)
     (records c.take_out.new.store) (records c.remove_values.new.store) c.in_ok-documents.documents I c.in_ok-dictionary.dictionary
     (with_change (column_at kind type k D) c.args.doc None) c.take_out.ensures.may c.in_ok-documents.ensures.steps c.in_ok-dictionary.ensures.steps c.in_ok-dictionary.ensures.index
 

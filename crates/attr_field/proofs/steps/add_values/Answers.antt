@@ -38,7 +38,7 @@ returns-clause-steps g c =
     if_ok (λ next. WalksIndex type old new m n dictionary c.args.doc added (λ v. None) next)
     (λ next. StepsField kind type old new m n documents dictionary (column_at kind type m documents) documents next) c.add_all.result c.add_all.ensures.makes
     (λ next walks. index_steps c.documents_law.ensures.stays kind type old new m n documents dictionary next c.requires.stands walks.index_is walks.keys walks.flows walks.turns
-    (added_listed c.key_law.ensures.read kind type old m documents dictionary c.requires.stands c.args.doc added (index_of type n next) walks.between))
+    (added_listed c.documents_law.ensures.values kind type m documents dictionary c.args.doc added (index_of type n next) c.requires.indexed walks.between))
 
 pub returns-clause-between : goal.returns-clause-between
 returns-clause-between g c =
