@@ -1,0 +1,33 @@
+-- The document after an operation.
+use Rattle.std.proofs.Common.{◌≡◌, ℕ, cond, List, Option, Some, None, sym, ap, subst, ◌∙◌, arith}
+use Rattle.std.proofs.lemmas.Cmp.{nat_cmp_total, tied_itself}
+use Rattle.std.specs.Option.{unwrap_or}
+use Rattle.std.specs.Ordering.{is_eq}
+use Rattle.attr_types.proofs.EntryLemmas.{lookup-remove}
+use Rattle.attr_types.proofs.TableLemmas.{Sound, put_is_there}
+use Rattle.attr_types.specs.Table.{Table, after_op, document_at, step, with_document, without_document}
+use Rattle.attr_types.specs.Value.{Document}
+use Rattle.attr_types.specs.declared.field.Field.{Field}
+use Rattle.attr_types.specs.declared.op.Op.{Op}
+use Rattle.attr_types.specs.declared.op.Op.TheVariants.{Put}
+use Rattle.attr_steps.specs.Counts.{document_after, document_before}
+
+-- ---- the document after an operation
+module _ (fields : List Field) (table : Table) where
+  pub put_after : (doc : ℕ) (items : Document) → Some items ≡ document_after fields table (Put doc items)
+  put_after doc items = sym (put_is_there table doc items)
+
+  pub with_after : (op : Op) (doc : ℕ) (document : Document) → step fields table op ≡ Some (with_document table doc document)
+      → Some document ≡ document_at (after_op fields table op) doc
+  with_after op doc document is = sym (ap (λ (o : Option Table). document_at (unwrap_or o table) doc) is ∙ put_is_there table doc document)
+
+  pub without_after : (op : Op) (doc : ℕ) → Sound fields table → step fields table op ≡ Some (without_document table doc)
+      → None ≡ document_at (after_op fields table op) doc
+  without_after op doc sound is =
+      sym (ap (λ (o : Option Table). document_at (unwrap_or o table) doc) is ∙ lookup-remove nat_cmp_total table doc doc sound.0.ascends
+      ∙ ap (λ r. cond (is_eq r) None (document_at table doc)) (tied_itself nat_cmp_total doc))
+
+-- ---- a bound by the documents before and after is one by the operation
+module _ (fields : List Field) (table : Table) (op : Op) (before after : Option Document) (was : before ≡ document_before table op) (is : after ≡ document_after fields table op) where
+  pub of_operation : (P : Option Document → Option Document → Type 0) → P before after → P (document_before table op) (document_after fields table op)
+  of_operation P p = subst (λ (d : Option Document). P (document_before table op) d) is (subst (λ (d : Option Document). P d after) was p)

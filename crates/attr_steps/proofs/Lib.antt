@@ -1,0 +1,16 @@
+pub mod TreeLists
+pub mod PartLists
+pub mod Columns
+pub mod Referring
+pub mod Flowing
+pub mod Walk
+pub mod FieldSteps
+pub mod CountLemmas
+pub mod Reading
+pub mod Units
+pub mod StepLemmas
+pub mod AfterLemmas
+pub mod Holding
+pub mod Committing
+pub mod RootLemmas
+pub mod CommitLemmas

@@ -1,0 +1,162 @@
+-- The words of a root record, and the record made in place of the one before.
+use Rattle.std.proofs.Common.{◌≡◌, ℕ, zero, suc, ◌+◌, ◌*◌, ◌<◌, ◌≤◌, Bool, List, [], ◌∷◌, ◌++◌, length, drop, true, Some, refl, sym, ap, subst, ◌∙◌, arith}
+use Rattle.std.specs.Prelude.{slice_get}
+use Rattle.std.proofs.lemmas.List.{append_assoc}
+use Rattle.entry_ref.specs.References.{buffer_of}
+use Rattle.image_base.specs.Records.{Records, SameAt}
+use Rattle.arena_api.specs.Works.{Sizes, free_count}
+use Rattle.attr_field.specs.declared.roots.FieldRoots.{FieldRoots}
+use Rattle.attr_images.specs.Tables.{AttributeTrees}
+use Rattle.attr_images.specs.Words.{class_of}
+use Rattle.attr_types.specs.declared.field.Field.{Field}
+use Rattle.array_store.specs.Adding.{AddsRecord}
+use Rattle.store_api.specs.Calls.{Accepts, Undoes, Refuses}
+use Rattle.store_api.specs.Ledgers.{Ledger, OfWidth, IsSettled, buffers_in, is_width, widths}
+use Rattle.store_api.specs.Parts.{Part, Owns, Turns, After, AllStay, entries, entry, uses}
+use Rattle.store_api.specs.Units.{MakesAtMost}
+use Rattle.store_api.specs.declared.store.StoreError.{StoreError}
+use Rattle.store_api.specs.declared.store.StoreError.TheVariants.{Full, Memory}
+use Rattle.store_api.proofs.PartLemmas.{after, owns-some, turns-then}
+use Rattle.store_api.proofs.UnitLemmas.{unit-accepts, accept-stays}
+use Rattle.attr_steps.specs.Calls.{RefusesUnit}
+use Rattle.attr_steps.specs.Commits.{IsForWidth, MakesRoot, RefusesRoot, roots_listed}
+use Rattle.attr_steps.specs.Fields.{root_entries, trees_of}
+use Rattle.attr_steps.proofs.TreeLists.{some_is}
+use Rattle.attr_steps.proofs.Units.{refused_unit}
+
+-- ---- the words
+module _ {bits : ℕ} where
+  listed_at : (ws : List ℕ) (roots : List (FieldRoots bits)) (i : ℕ) (root : FieldRoots bits) → slice_get roots i ≡ Some root
+      → ((ws ++ root.documents ∷ []) ++ root.dictionary ∷ []) ++ roots_listed (drop (suc i) roots) ≡ ws ++ roots_listed (drop i roots)
+  listed_at ws [] i root at = cc
+  listed_at ws (first ∷ roots) zero root at =
+      subst (λ (r : FieldRoots bits). ((ws ++ r.documents ∷ []) ++ r.dictionary ∷ []) ++ roots_listed roots ≡ ws ++ (first.documents ∷ first.dictionary ∷ roots_listed roots)) (some_is first root at)
+      (append_assoc (ws ++ first.documents ∷ []) (first.dictionary ∷ []) (roots_listed roots) ∙ append_assoc ws (first.documents ∷ []) (first.dictionary ∷ roots_listed roots))
+  listed_at ws (first ∷ roots) (suc i) root at = listed_at ws roots i root at
+
+  pub listed_more : (ws all : List ℕ) (roots : List (FieldRoots bits)) (i next : ℕ) (root : FieldRoots bits) → slice_get roots i ≡ Some root → next ≡ suc i
+      → ws ++ roots_listed (drop i roots) ≡ all → ((ws ++ root.documents ∷ []) ++ root.dictionary ∷ []) ++ roots_listed (drop next roots) ≡ all
+  listed_more ws all roots i next root at is before =
+      ap (λ j. ((ws ++ root.documents ∷ []) ++ root.dictionary ∷ []) ++ roots_listed (drop j roots)) is ∙ listed_at ws roots i root at ∙ before
+
+  pub listed_size : (roots : List (FieldRoots bits)) → length (roots_listed roots) ≡ 2 * length roots
+  listed_size [] = refl
+  listed_size (root ∷ roots) = let rest = listed_size roots in omega arith
+
+  pub listed_trees : (fields : List Field) (roots : List (FieldRoots bits)) → length roots ≡ length fields
+      → roots_listed roots ≡ Rattle.std.specs.List.flat_map (λ (a : AttributeTrees). a.documents ∷ a.dictionary ∷ []) (trees_of fields roots)
+  listed_trees [] [] same = refl
+  listed_trees [] (root ∷ roots) same = absurd (omega arith)
+  listed_trees (field ∷ fields) [] same = refl
+  listed_trees (field ∷ fields) (root ∷ roots) same = ap (λ ws. root.documents ∷ root.dictionary ∷ ws) (listed_trees fields roots (omega arith))
+
+-- ---- the entry of a root record, if there is one
+pub entries_some : (root : ℕ) → 0 < root → root_entries root ≡ root ∷ []
+entries_some zero some = absurd (omega arith)
+entries_some (suc root) some = refl
+
+pub entries_none : (root : ℕ) → ¬ (0 < root) → root_entries root ≡ []
+entries_none zero no_one = refl
+entries_none (suc root) no_one = absurd (no_one (omega arith))
+
+abbrev roots_part : ℕ → List Part
+roots_part root = entries (root_entries root) ∷ []
+
+module _ {H : Type 0} (old new : Ledger H) (m n : Records) (root : ℕ) where
+  pub owns_root : 0 < root → Owns old m (entries (root_entries root) ∷ []) → Owns old m (entry root ∷ [])
+  owns_root some owns = subst (λ refs. Owns old m (entries refs ∷ [])) (entries_some root some) owns
+
+  pub drops_root : 0 < root → Turns old new m n (entry root ∷ []) [] → Turns old new m n (entries (root_entries root) ∷ []) []
+  drops_root some turns = subst (λ refs. Turns old new m n (entries refs ∷ []) []) (sym (entries_some root some)) turns
+
+pub drops_nothing : {H : Type 0} (old : Ledger H) (m : Records) (root : ℕ) → ¬ (0 < root) → Turns old old m m (entries (root_entries root) ∷ []) []
+drops_nothing old m root no_one =
+    subst (λ refs. Turns old old m m (entries refs ∷ []) []) (sym (entries_none root no_one))
+    (record { kept = λ r h. refl; balance = λ r. omega arith })
+
+-- ---- a record made, and the one before dropped
+module _ {H : Type 0} (bits : ℕ) (old mid new : Ledger H) (m k n : Records) (words : List ℕ) (before root : ℕ)
+    (owns : Owns old m (entries (root_entries before) ∷ [])) (adds : AddsRecord bits old mid m k words root) where
+  both : After old mid m k (entries (root_entries before) ∷ []) (entry root ∷ entries (root_entries before) ∷ []) (entries (root_entries before) ∷ [])
+  both = after old mid m k [] (entry root ∷ []) (roots_part before) (roots_part before) (entry root ∷ entries (root_entries before) ∷ []) owns adds.turns (λ k r. omega arith) (λ k r. omega arith)
+
+  pub owns_still : Owns mid k (entries (root_entries before) ∷ [])
+  owns_still = owns-some mid k (entry root ∷ entries (root_entries before) ∷ []) (roots_part before) both.owns (λ r. omega arith)
+
+  module _ (drops : Turns mid new k n (entries (root_entries before) ∷ []) []) (sealed : new.sealed ≡ mid.sealed) where
+    alone : After mid new k n (entry root ∷ entries (root_entries before) ∷ []) (entry root ∷ []) (entry root ∷ [])
+    alone = after mid new k n (roots_part before) [] (entry root ∷ []) (entry root ∷ entries (root_entries before) ∷ []) (entry root ∷ []) both.owns drops (λ k r. omega arith) (λ k r. omega arith)
+
+    pub makes_root : MakesRoot bits old new m n words before root
+    makes_root = record {
+      some = adds.some;
+      words_are = alone.stay.0.0 ∙ adds.words_are;
+      unsealed = ap (λ (s : ℕ → Bool). s (buffer_of bits root)) sealed ∙ adds.unsealed;
+      turns = subst (λ refs. Turns old new m n (entries (root_entries before) ∷ []) (entries refs ∷ [])) (sym (entries_some root adds.some))
+          (turns-then old mid new m k n (roots_part before) (entry root ∷ entries (root_entries before) ∷ []) (entry root ∷ []) both.turns alone.turns);
+    }
+
+-- ---- the unit
+module _ {H : Type 0} (old begun mid new : Ledger H) (m k n o : Records) (words : List ℕ) (before root : ℕ)
+    (begins : begun ≡ record old { unit = true }) (records : k ≡ m) (owns : Owns old m (entries (root_entries before) ∷ [])) where
+  pub begun_root : Owns begun k (entries (root_entries before) ∷ [])
+  begun_root = record {
+    each = λ r. let each = owns.each r in let same : uses begun r ≡ uses old r = ap (λ (l : Ledger H). uses l r) begins in omega arith;
+  }
+
+  module _ (bits : ℕ) (makes : MakesRoot bits begun mid k n words before root) (accepts : Accepts mid new n o) where
+    whole : After old new m o (entries (root_entries before) ∷ []) (entries (root_entries root) ∷ []) []
+    whole = unit-accepts old begun mid new m k n o (roots_part before) (roots_part root) owns begins records makes.turns accepts
+
+    stays : AllStay (entries (root_entries root) ∷ []) n o
+    stays = accept-stays old begun mid new m k n o (roots_part before) (roots_part root) owns begins records makes.turns accepts
+
+    pub accepts_root : MakesRoot bits old new m o words before root
+    accepts_root =
+        let there : SameAt (root ∷ []) n o = subst (λ refs. SameAt refs n o) (entries_some root makes.some) stays.0 in
+        record {
+          some = makes.some;
+          words_are = there.0 ∙ makes.words_are;
+          unsealed = ap (λ (s : ℕ → Bool). s (buffer_of bits root)) accepts.sealed ∙ makes.unsealed;
+          turns = whole.turns;
+        }
+
+-- where nothing was made no width has a buffer more, so that no buffer less is free
+fewer_buffers : (f g : ℕ → OfWidth) (ws : List ℕ) → ((w : ℕ) → (g w).buffers ≤ (f w).buffers) → buffers_in g ws ≤ buffers_in f ws
+fewer_buffers f g [] fewer = omega arith
+fewer_buffers f g (w ∷ ws) fewer = let here = fewer w in let rest = fewer_buffers f g ws fewer in omega arith
+
+abbrev IsCounted : {H : Type 0} → Ledger H → Type 0
+IsCounted ledger = free_count ledger.work.buffer ledger.work.sizes.buffers + buffers_in ledger.of_width widths ≡ ledger.work.sizes.buffers
+
+none_before : {H : Type 0} (old mid : Ledger H) → IsCounted old → IsCounted mid → mid.work.sizes ≡ old.work.sizes → ((c w : ℕ) → MakesAtMost c 0 (old.of_width w) (mid.of_width w))
+    → free_count mid.work.buffer mid.work.sizes.buffers ≡ 0 → free_count old.work.buffer old.work.sizes.buffers ≡ 0
+none_before old mid before after sizes none_made none =
+    let fewer = fewer_buffers old.of_width mid.of_width widths (λ w. let most = (none_made 0 w).buffers in omega arith) in
+    let same : mid.work.sizes.buffers ≡ old.work.sizes.buffers = ap (λ (s : Sizes). s.buffers) sizes in
+    omega arith
+
+-- a refusal: nothing was made, so an undo gives nothing to spare
+pub refuses_root : {H : Type 0} (old mid new : Ledger H) (m o : Records) (width : ℕ) (e : StoreError) → is_width width ≡ true → IsSettled old m → Refuses (record old { unit = true }) mid width e
+    → ((c w : ℕ) → MakesAtMost c 0 (old.of_width w) (mid.of_width w)) → Undoes mid new o → IsCounted old → IsCounted mid → mid.work.sizes ≡ old.work.sizes → RefusesRoot old new e
+refuses_root old mid new m o width (Full w active held oldest) is settled refuses none_made undoes before after sizes =
+    let unit : RefusesUnit old new (Full w active held oldest) =
+    refused_unit old mid new (Full w active held oldest) undoes.work (record { width = width; is = is; refuses = refuses }) in
+    let fresh = (none_made 0 w).fresh in
+    let none = settled.fresh w in
+    let spare : (mid.of_width w).spare ≡ 0 = subst (λ v. (mid.of_width v).spare ≡ 0) (sym refuses.0) refuses.1.spare in
+    let back = undoes.spare w in
+    (unit, omega arith, none_before old mid before after sizes none_made refuses.1.free)
+refuses_root old mid new m o width Memory is settled refuses none_made undoes before after sizes = tt
+
+-- and the width is that of the root record
+pub for_width : {H : Type 0} (begun mid : Ledger H) (width : ℕ) (e : StoreError) → Refuses begun mid width e → IsForWidth width e
+for_width begun mid width (Full w active held oldest) refuses = refuses.0
+for_width begun mid width Memory refuses = tt
+
+pub for_fields : {bits : ℕ} (fields : List Field) (roots : List (FieldRoots bits)) (operations : ℕ) (e : StoreError) → length roots ≡ length fields
+    → IsForWidth (class_of (length (operations ∷ roots_listed roots))) e → IsForWidth (class_of (1 + 2 * length fields)) e
+for_fields fields roots operations e sized is =
+    let words = listed_size roots in
+    let same : length (operations ∷ roots_listed roots) ≡ 1 + 2 * length fields = omega (arith, words, sized) in
+    subst (λ n. IsForWidth (class_of n) e) same is

@@ -1,0 +1,13 @@
+use Rattle.attr_steps.proofs.document.change_field.Goals as goal
+
+pub returns-in-Some-clause-counts : goal.returns-in-Some-clause-counts
+returns-in-Some-clause-counts g c = rw c.in-Some.is c.put.ensures.counts
+
+pub returns-in-None-clause-counts : goal.returns-in-None-clause-counts
+returns-in-None-clause-counts g c = rw c.in-None.is c.remove.ensures.counts
+
+pub returns-in-Some-clause-low : goal.returns-in-Some-clause-low
+returns-in-Some-clause-low g c = rw c.in-Some.is c.put.ensures.low
+
+pub returns-in-None-clause-low : goal.returns-in-None-clause-low
+returns-in-None-clause-low g c = rw c.in-None.is c.remove.ensures.low

@@ -1,0 +1,122 @@
+use Rattle.std.proofs.Common.{◌≡◌, length, sym, ap, subst, ◌∙◌, arith}
+use Rattle.std.specs.Option.{option_copied}
+use Rattle.store_api.specs.Units.{MayDo}
+use Rattle.posting_store.specs.Changes.{RefusesSome}
+use Rattle.attr_types.specs.Table.{document_at}
+use Rattle.attr_steps.specs.Counts.{document_nodes, document_records, MakesDocument}
+use Rattle.attr_steps.specs.Fields.{AreFields, trees_of}
+use Rattle.attr_steps.specs.Views.{table_at}
+use Rattle.attr_steps.proofs.FieldSteps.{laws_of}
+use Rattle.attr_steps.proofs.CountLemmas.{document_unit, spares_unit}
+use Rattle.attr_steps.proofs.Units.{begun_owns, unit_changes, left_unit, refused_unit, keeps_unit}
+use Rattle.attr_steps.proofs.unit.change_unit.Goals as goal
+
+pub begin-requires : goal.begin-requires
+begin-requires g c = c.requires.unit
+
+pub change_document-requires : goal.change_document-requires
+change_document-requires g c =
+    let ledger = g.S.Store.ledger in
+    let records = g.S.Frozen.records in
+    let old = ledger c.args.store.now in
+    let m = records c.args.store.now in
+    let fields = c.args.fields.now in
+    let trees = trees_of fields c.args.roots.now in
+    let document = option_copied c.args.new in
+    let laws = laws_of c.field_law.ensures.stays c.field_law.ensures.lawful c.field_law.ensures.keys in
+    let owns = begun_owns laws old (ledger c.begin.new.self) old old m (records c.begin.new.self) m m fields trees trees c.args.doc document
+    c.begin.ensures.ledger c.begin.ensures.records c.requires.owns in (
+      omega arith,
+      (
+        ap (λ l. l.unit) c.begin.ensures.ledger,
+        (
+          c.requires.sized,
+          (
+            subst (λ f. AreFields f fields trees) (sym c.begin.ensures.records) c.requires.fields,
+            (
+              owns,
+              (
+                c.requires.number,
+                (
+                  subst (λ f. option_copied c.args.old ≡ document_at (table_at f trees) c.args.doc) (sym c.begin.ensures.records) c.requires.there,
+                  (c.requires.gone, c.requires.fits),
+                ),
+              ),
+            ),
+          ),
+        ),
+      ),
+    )
+
+pub accept-requires : goal.accept-requires
+accept-requires g c = c.change_document.ensures.may.unit ∙ ap (λ l. l.unit) c.begin.ensures.ledger
+
+pub undo-requires : goal.undo-requires
+undo-requires g c = c.change_document.ensures.may.unit ∙ ap (λ l. l.unit) c.begin.ensures.ledger
+
+pub returns-in-Ok-clause-sized : goal.returns-in-Ok-clause-sized
+returns-in-Ok-clause-sized g c = c.in-Ok.ensures.sized
+
+pub returns-in-Ok-clause-changes : goal.returns-in-Ok-clause-changes
+returns-in-Ok-clause-changes g c =
+    let ledger = g.S.Store.ledger in
+    let records = g.S.Frozen.records in
+    let fields = c.args.fields.now in
+    unit_changes (laws_of c.field_law.ensures.stays c.field_law.ensures.lawful c.field_law.ensures.keys) (ledger c.args.store.now) (ledger c.begin.new.self) (ledger c.change_document.new.store) (ledger c.accept.new.self)
+    (records c.args.store.now) (records c.begin.new.self) (records c.change_document.new.store) (records c.accept.new.self) fields (trees_of fields c.args.roots.now) (trees_of fields c.in-Ok.next.items)
+    c.args.doc (option_copied c.args.new) c.begin.ensures.ledger c.begin.ensures.records c.requires.owns c.change_document.ensures.may c.in-Ok.ensures.changes c.accept.ensures
+
+pub returns-in-Ok-clause-counts : goal.returns-in-Ok-clause-counts
+returns-in-Ok-clause-counts g c =
+    let ledger = g.S.Store.ledger in
+    let trees = trees_of c.args.fields.now c.args.roots.now in
+    let made = subst (λ f. MakesDocument (ledger c.begin.new.self) (ledger c.change_document.new.store) (table_at f trees) (option_copied c.args.old) (option_copied c.args.new) (length c.args.fields.now))
+    c.begin.ensures.records c.change_document.ensures.counts in
+    document_unit (ledger c.args.store.now) (ledger c.begin.new.self) (ledger c.change_document.new.store) (ledger c.accept.new.self) (table_at (g.S.Frozen.records c.args.store.now) trees)
+    (option_copied c.args.old) (option_copied c.args.new) (length c.args.fields.now) c.begin.ensures.ledger made (g.S.Frozen.records c.accept.new.self) c.accept.ensures.counts (g.met.S.Store.settled c.accept.new.self c.accept.ensures.unit)
+
+pub returns-in-Ok-clause-keeps : goal.returns-in-Ok-clause-keeps
+returns-in-Ok-clause-keeps g c =
+    let ledger = g.S.Store.ledger in
+    let mid = ledger c.change_document.new.store in
+    keeps_unit (ledger c.args.store.now) mid (ledger c.accept.new.self) c.requires.unit (subst (λ l. MayDo l mid) c.begin.ensures.ledger c.change_document.ensures.may)
+    c.accept.ensures.unit c.accept.ensures.work c.accept.ensures.shape c.accept.ensures.sealed c.accept.ensures.finished
+
+pub returns-in-Err-clause-left : goal.returns-in-Err-clause-left
+returns-in-Err-clause-left g c =
+    let ledger = g.S.Store.ledger in
+    let records = g.S.Frozen.records in
+    let mid = ledger c.change_document.new.store in
+    left_unit (ledger c.args.store.now) mid (ledger c.undo.new.self) (records c.args.store.now) (records c.undo.new.self) (g.met.S.Store.settled c.args.store.now c.requires.unit)
+    (subst (λ l. MayDo l mid) c.begin.ensures.ledger c.change_document.ensures.may) c.undo.ensures
+
+pub returns-in-Err-clause-refused : goal.returns-in-Err-clause-refused
+returns-in-Err-clause-refused g c =
+    let ledger = g.S.Store.ledger in
+    let mid = ledger c.change_document.new.store in
+    refused_unit (ledger c.args.store.now) mid (ledger c.undo.new.self) c.in-Err.error c.undo.ensures.work
+    (subst (λ l. RefusesSome l mid c.in-Err.error) c.begin.ensures.ledger c.in-Err.ensures.refuses)
+
+pub returns-in-Err-clause-counts : goal.returns-in-Err-clause-counts
+returns-in-Err-clause-counts g c =
+    let ledger = g.S.Store.ledger in
+    let trees = trees_of c.args.fields.now c.args.roots.now in
+    let made = subst (λ f. MakesDocument (ledger c.begin.new.self) (ledger c.change_document.new.store) (table_at f trees) (option_copied c.args.old) (option_copied c.args.new) (length c.args.fields.now))
+    c.begin.ensures.records c.change_document.ensures.counts in
+    document_unit (ledger c.args.store.now) (ledger c.begin.new.self) (ledger c.change_document.new.store) (ledger c.undo.new.self) (table_at (g.S.Frozen.records c.args.store.now) trees)
+    (option_copied c.args.old) (option_copied c.args.new) (length c.args.fields.now) c.begin.ensures.ledger made (g.S.Frozen.records c.undo.new.self) c.undo.ensures.counts (g.met.S.Store.settled c.undo.new.self c.undo.ensures.unit)
+
+pub returns-in-Err-clause-spares : goal.returns-in-Err-clause-spares
+returns-in-Err-clause-spares g c =
+    let ledger = g.S.Store.ledger in
+    spares_unit (ledger c.args.store.now) (ledger c.begin.new.self) (ledger c.change_document.new.store) (ledger c.undo.new.self)
+    (document_nodes (option_copied c.args.old) (option_copied c.args.new) (length c.args.fields.now)) (document_records (option_copied c.args.old) (option_copied c.args.new) (length c.args.fields.now))
+    c.begin.ensures.ledger c.change_document.ensures.counts.few (g.S.Frozen.records c.args.store.now) (g.S.Frozen.records c.undo.new.self) c.in-Err.error
+    (g.met.S.Store.settled c.args.store.now c.requires.unit) c.in-Err.ensures.refuses c.undo.ensures
+
+pub returns-in-Err-clause-keeps : goal.returns-in-Err-clause-keeps
+returns-in-Err-clause-keeps g c =
+    let ledger = g.S.Store.ledger in
+    let mid = ledger c.change_document.new.store in
+    keeps_unit (ledger c.args.store.now) mid (ledger c.undo.new.self) c.requires.unit (subst (λ l. MayDo l mid) c.begin.ensures.ledger c.change_document.ensures.may)
+    c.undo.ensures.unit c.undo.ensures.work c.undo.ensures.shape c.undo.ensures.sealed c.undo.ensures.finished

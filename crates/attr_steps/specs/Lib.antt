@@ -1,0 +1,6 @@
+pub mod Counts
+pub mod Views
+pub mod Fields
+pub mod Calls
+pub mod Steps
+pub mod Commits

@@ -1,0 +1,9 @@
+-- The table that attributes read as.
+use Rattle.std.specs.Prelude.{List}
+use Rattle.image_base.specs.Records.{Records}
+use Rattle.attr_images.specs.Tables.{AttributeTrees, table_of_columns, columns_at}
+use Rattle.attr_types.specs.Table.{Table}
+
+-- the table that trees read as
+abbrev pub table_at : Records → List AttributeTrees → Table
+table_at m trees = table_of_columns (columns_at m trees)

@@ -1,0 +1,202 @@
+//! One document of all attributes, read and changed.
+ghost use Rattle.std.specs.Prelude.{◌≡◌, ℕ, ◌<◌, ◌∷◌, [], true, length, IsSome, IfOk, IfErr, OnOk};
+ghost use Rattle.std.specs.Prelude.{IfSome, IfNone, option_copied, option_map, unwrap_or};
+ghost use Rattle.std.specs.BTreeMap.{is_at};
+ghost use Rattle.std.specs.Map.{lookup};
+ghost use Rattle.std.specs.Ordering.{nat_cmp};
+ghost use Rattle.store_api.specs.Parts.{Owns};
+ghost use Rattle.store_api.specs.Units.{MayDo};
+ghost use Rattle.attr_field.specs.Changes.{MakesField};
+ghost use Rattle.attr_field.specs.Fields.{field_part, IsField, RefersBeside};
+ghost use Rattle.attr_images.specs.Documents.{column_at};
+ghost use Rattle.attr_field.specs.Counts.{field_nodes, field_records, low_nodes, StaysLow};
+ghost use Rattle.attr_index.specs.Changes.{first_weights};
+ghost use Rattle.attr_index.specs.Columns.{items_of as items_had, with_change};
+ghost use Rattle.attr_types.specs.Lawful.{IsDocNumber, ItemsFit};
+ghost use Rattle.attr_types.specs.Query.{items_in};
+ghost use Rattle.attr_types.specs.Table.{document_at};
+ghost use Rattle.attr_walks.specs.Counts.{MakesFew};
+ghost use Rattle.posting_store.specs.Changes.{RefusesSome};
+ghost use Rattle.attr_steps.specs.Counts.{MakesDocument};
+ghost use Rattle.attr_steps.specs.Fields.{AreFields, ChangesFields, FitsFields, OwnsFields, trees_of};
+ghost use Rattle.attr_steps.specs.Views.{table_at};
+
+use attr_field::{FieldRoots, field_law, items, put, remove};
+use attr_types::{Doc, Field, FieldItems, Item};
+use frozen_api::Frozen;
+use std::alloc::{AllocError, Global};
+use store_api::{Store, StoreError, may_do_law};
+
+/// A document with its items in each attribute, if it is there.
+#[tactic(none)]
+pub fn read_document<const OFFSET_BITS: u32, F: Frozen<OFFSET_BITS>>(
+    alloc: Global,
+    frozen: &mut F,
+    fields: &[Field],
+    roots: &[FieldRoots<OFFSET_BITS>],
+    doc: Doc,
+) -> Result<Option<FieldItems>, AllocError>
+    requires sized { length roots.now ≡ length fields.now }
+    requires fields { AreFields (F.records frozen.old) fields.now (trees_of fields.now roots.now) }
+    ensures document { IfOk result (λ document. document
+        ≡ document_at (table_at (F.records frozen.old) (trees_of fields.now roots.now)) doc) }
+    ensures same { frozen.new ≡ frozen.old }
+{
+    field_law();
+    let mut document = Vec::with_capacity(alloc, fields.len())?;
+    for i in 0..fields.len() {
+        let field = &fields[i];
+        match items(alloc, frozen, field.kind, field.value, roots[i], doc)? {
+            Some(items) => document.push(items)?,
+            None => return Ok(None),
+        }
+    }
+    Ok(Some(FieldItems::from_vec(document)))
+}
+
+/// The items that a document has in an attribute, none where it is not there.
+fn items_before(document: Option<&FieldItems>, i: usize) -> &[Item]
+    requires { IfSome (option_copied document) (λ d. i < length d) }
+    ensures { result.now ≡ unwrap_or (option_map (λ d. items_in d i) (option_copied document.entry)) [] }
+{
+    match document {
+        Some(document) => document.as_slice()[i].as_slice(),
+        None => &[],
+    }
+}
+
+/// The items that a document is to have in an attribute, if it is to be there.
+fn items_after(document: Option<&FieldItems>, i: usize) -> Option<&[Item]>
+    requires { IfSome (option_copied document) (λ d. i < length d) }
+    ensures { option_copied result ≡ option_map (λ d. items_in d i) (option_copied document.entry) }
+{
+    match document {
+        Some(document) => Some(document.as_slice()[i].as_slice()),
+        None => None,
+    }
+}
+
+/// Sets a document's items in one attribute, or takes the document out. Lists are sparse, whatever the number of
+/// documents.
+fn change_field<const OFFSET_BITS: u32, S: Store<OFFSET_BITS>>(
+    alloc: Global,
+    store: &mut S,
+    field: &Field,
+    roots: FieldRoots<OFFSET_BITS>,
+    doc: Doc,
+    old: &[Item],
+    new: Option<&[Item]>,
+) -> Result<FieldRoots<OFFSET_BITS>, StoreError>
+    requires unit { (S.ledger store.old).unit ≡ true }
+    requires field { IsField field.now.kind field.now.value (S.records store.old) roots.documents roots.dictionary }
+    requires owns { Owns (S.ledger store.old) (S.records store.old) (field_part field.now.kind roots.documents roots.dictionary ∷ []) }
+    requires refers { RefersBeside (S.ledger store.old) field.now.kind (S.records store.old) roots.documents roots.dictionary
+        (field_part field.now.kind roots.documents roots.dictionary ∷ []) }
+    requires there { IfNone (option_copied new)
+        (IsSome (lookup (is_at (nat_cmp doc)) (column_at field.now.kind field.now.value (S.records store.old) roots.documents))) }
+    requires was { old.now ≡ items_had (column_at field.now.kind field.now.value (S.records store.old) roots.documents) doc }
+    requires fits { IfSome (option_copied new) (ItemsFit field.now.kind field.now.value) }
+    ensures makes { IfOk result (λ next. MakesField field.now.kind field.now.value (S.ledger store.old) (S.ledger store.new)
+        (S.records store.old) (S.records store.new) roots.entry.documents roots.entry.dictionary
+        (with_change (column_at field.now.kind field.now.value (S.records store.old) roots.entry.documents) doc (option_copied new.entry))
+        next.documents next.dictionary) }
+    ensures counts { MakesFew (S.ledger store.old) (S.ledger store.new)
+        (field_nodes (first_weights [] old.now) (first_weights [] (unwrap_or (option_copied new.entry) [])))
+        (field_records (first_weights [] old.now) (first_weights [] (unwrap_or (option_copied new.entry) []))) }
+    ensures low { (levels : ℕ)
+        → StaysLow levels (column_at field.now.kind field.now.value (S.records store.old) roots.entry.documents)
+        (first_weights [] (unwrap_or (option_copied new.entry) []))
+        → MakesFew (S.ledger store.old) (S.ledger store.new)
+        (low_nodes levels (first_weights [] old.now) (first_weights [] (unwrap_or (option_copied new.entry) [])))
+        (field_records (first_weights [] old.now) (first_weights [] (unwrap_or (option_copied new.entry) []))) }
+    ensures refuses { IfErr result (RefusesSome (S.ledger store.old) (S.ledger store.new)) }
+    ensures may { MayDo (S.ledger store.old) (S.ledger store.new) }
+{
+    match new {
+        Some(items) => put(
+            alloc,
+            store,
+            field.kind,
+            field.value,
+            roots,
+            doc,
+            old,
+            items,
+            0,
+        ),
+        None => remove(alloc, store, field.kind, field.value, roots, doc, old, 0),
+    }
+}
+
+/// Changes a document's items in each attribute, in place.
+#[tactic(none)]
+fn change_each<const OFFSET_BITS: u32, S: Store<OFFSET_BITS>>(
+    alloc: Global,
+    store: &mut S,
+    fields: &[Field],
+    roots: &mut [FieldRoots<OFFSET_BITS>],
+    doc: Doc,
+    old: Option<&FieldItems>,
+    new: Option<&FieldItems>,
+) -> Result<(), StoreError>
+    requires unit { (S.ledger store.old).unit ≡ true }
+    requires sized { length roots.old ≡ length fields.now }
+    requires fields { AreFields (S.records store.old) fields.now (trees_of fields.now roots.old) }
+    requires owns { OwnsFields (S.ledger store.old) (S.records store.old) (trees_of fields.now roots.old) }
+    requires number { IsDocNumber doc }
+    requires there { option_copied old ≡ document_at (table_at (S.records store.old) (trees_of fields.now roots.old)) doc }
+    requires gone { IfNone (option_copied new) (IsSome (option_copied old)) }
+    requires fits { IfSome (option_copied new) (FitsFields fields.now) }
+    ensures sized { OnOk result (length roots.new ≡ length fields.now) }
+    ensures changes { OnOk result (ChangesFields fields.now (S.ledger store.old) (S.ledger store.new)
+        (S.records store.old) (S.records store.new)
+        (trees_of fields.now roots.old) doc (option_copied new.entry) (trees_of fields.now roots.new)) }
+    ensures counts { MakesDocument (S.ledger store.old) (S.ledger store.new) (table_at (S.records store.old) (trees_of fields.now roots.old))
+        (option_copied old.entry) (option_copied new.entry) (length fields.now) }
+    ensures refuses { IfErr result (RefusesSome (S.ledger store.old) (S.ledger store.new)) }
+    ensures may { MayDo (S.ledger store.old) (S.ledger store.new) }
+{
+    field_law();
+    may_do_law::<OFFSET_BITS, S>();
+    for i in 0..fields.len() {
+        let before = items_before(old, i);
+        let after = items_after(new, i);
+        roots[i] = change_field(alloc, store, &fields[i], roots[i], doc, before, after)?;
+    }
+    Ok(())
+}
+
+/// Changes a document's items in each attribute, or takes the document out. The answer is the new roots.
+pub fn change_document<const OFFSET_BITS: u32, S: Store<OFFSET_BITS>>(
+    alloc: Global,
+    store: &mut S,
+    fields: &[Field],
+    roots: &[FieldRoots<OFFSET_BITS>],
+    doc: Doc,
+    old: Option<&FieldItems>,
+    new: Option<&FieldItems>,
+) -> Result<Vec<FieldRoots<OFFSET_BITS>>, StoreError>
+    requires unit { (S.ledger store.old).unit ≡ true }
+    requires sized { length roots.now ≡ length fields.now }
+    requires fields { AreFields (S.records store.old) fields.now (trees_of fields.now roots.now) }
+    requires owns { OwnsFields (S.ledger store.old) (S.records store.old) (trees_of fields.now roots.now) }
+    requires number { IsDocNumber doc }
+    requires there { option_copied old ≡ document_at (table_at (S.records store.old) (trees_of fields.now roots.now)) doc }
+    requires gone { IfNone (option_copied new) (IsSome (option_copied old)) }
+    requires fits { IfSome (option_copied new) (FitsFields fields.now) }
+    ensures sized { IfOk result (λ next. length next.items ≡ length fields.now) }
+    ensures changes { IfOk result (λ next. ChangesFields fields.now (S.ledger store.old) (S.ledger store.new)
+        (S.records store.old) (S.records store.new)
+        (trees_of fields.now roots.now) doc (option_copied new.entry) (trees_of fields.now next.items)) }
+    ensures counts { MakesDocument (S.ledger store.old) (S.ledger store.new) (table_at (S.records store.old) (trees_of fields.now roots.now))
+        (option_copied old.entry) (option_copied new.entry) (length fields.now) }
+    ensures refuses { IfErr result (RefusesSome (S.ledger store.old) (S.ledger store.new)) }
+    ensures may { MayDo (S.ledger store.old) (S.ledger store.new) }
+{
+    may_do_law::<OFFSET_BITS, S>();
+    let Ok(mut next) = Vec::from_slice(alloc, roots) else {
+        return Err(StoreError::Memory);
+    };
+    change_each(alloc, store, fields, &mut next, doc, old, new)?;
+    Ok(next)
+}
