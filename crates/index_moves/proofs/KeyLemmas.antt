@@ -20,14 +20,14 @@ use Rattle.enum_dictionary.specs.Dictionaries.{beside, MakesDictionary}
 use Rattle.posting_store.specs.Lists.{list_reach}
 use Rattle.posting_store.specs.ProofsForLists.{list_at-same, list_reach-same, IsList-same}
 use Rattle.posting_store.proofs.FormLemmas.{at_form, reach_form}
-use Rattle.value_index.specs.Indexes.{index_part, key_at, IsIndex, IsValuePair}
+use Rattle.value_index.specs.Indexes.{index_part, key_at, IsIndex, IsKey, IsValuePair}
 use Rattle.value_index.proofs.IndexLemmas.{docs_at, keys_same, pair_reach}
 use Rattle.value_index.proofs.KeyLemmas.{pair_found}
 use Rattle.value_index.proofs.OpenLemmas.{IsOpen, open_found, others, parts, same_among, same_self, same_then}
-use Rattle.value_index.proofs.PairLemmas.{keys, found_among}
+use Rattle.value_index.proofs.PairLemmas.{keys, among_put, found_among}
 use Rattle.index_moves.specs.Moves.{MovesKey}
 use Rattle.index_moves.proofs.PairLemmas.{same_found}
-use Rattle.index_moves.proofs.SetLemmas.{IsReady, parts_with, extra_stays, list_stays, rest_stays, set_index, set_is, set_key, set_list, set_owns, set_rest, set_turns}
+use Rattle.index_moves.proofs.SetLemmas.{IsReady, parts_with, extra_stays, list_stays, rest_stays, set_index, set_is, set_key, set_list, set_owns, set_pairs, set_rest, set_turns}
 
 same_option : (a b : ℕ) → Some a ≡ Some b → a ≡ b
 same_option a b e = cc
@@ -39,6 +39,7 @@ pub key_unmoved : {H : Type 0} (bits buffer : ℕ) (value : Value) (a : Ledger H
 key_unmoved bits buffer value a m root is owns apart = record {
   left = [];
   left_in = tt;
+  keys = λ ref among. inl among;
   index_is = is;
   reads_as = refl;
   apart = apart;
@@ -118,6 +119,7 @@ module _ {H : Type 0} (bits buffer : ℕ) (value : Value) (a b : Ledger H) (m n 
         record {
           left = key ∷ [];
           left_in = (record { is_key = found_among (beside value m) (key, word) (tree_pairs m root) found; lies = lies }, tt);
+          keys = λ ref among. kept ref (opened.was ref among);
           index_is = set_is value b m n root key word copy word (entry key ∷ []) start found opened.reads key_ready c o next makes;
           reads_as = set_index value b m n root key word copy word (entry key ∷ []) start found opened.reads key_ready c o next makes;
           apart = λ k is there. elsewhere k (same_option copy k (sym (set_key value b m n root key word copy word (entry key ∷ []) start found opened.reads key_ready c o next makes) ∙ is)) there;
@@ -132,6 +134,12 @@ module _ {H : Type 0} (bits buffer : ℕ) (value : Value) (a b : Ledger H) (m n 
               (set_turns value b m n root key word copy word (entry key ∷ []) start found opened.reads key_ready c o next makes);
         }
       where
+        kept : (ref : ℕ) → (ref ≡ key) ⊎ Among ref (keys rest) → IsKey o next ref ⊎ Among ref (key ∷ [])
+        kept ref (inl is) = inr (inl is)
+        kept ref (inr later) = inl (subst (λ ps. Among ref (keys ps))
+            (sym (set_pairs value b m n root key word copy word (entry key ∷ []) start found opened.reads key_ready c o next makes))
+            (among_put (beside value m) (copy, word) ref (tree_pairs m root) later))
+
         elsewhere : (k : ℕ) → copy ≡ k → buffer_of bits k ≡ buffer → ⊥
         elsewhere k same there =
             let here : buffer_of bits copy ≡ buffer = ap (buffer_of bits) same ∙ there in

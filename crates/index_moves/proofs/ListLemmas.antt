@@ -1,17 +1,23 @@
 -- The list of a value moved.
-use Rattle.std.proofs.Common.{◌≡◌, ℕ, ℤ, ◌<◌, List, [], ◌∷◌, length, None, Some, Option, option_map, Result, Ok, Err, inl, inr, ◌⊎◌, refl, sym, ap, subst, ◌∙◌, arith}
+use Rattle.std.proofs.Common.{◌≡◌, ℕ, ℤ, ◌+◌, ◌<◌, ◌≤◌, true, List, [], ◌∷◌, length, None, Some, Option, option_map, Result, Ok, Err, inl, inr, ◌⊎◌, refl, sym, ap, subst, ◌∙◌, arith}
+use Rattle.std.specs.Option.{unwrap_or}
 use Rattle.std.specs.Prelude.{IfOk}
 use Rattle.std.specs.declared.cmp.Ordering.{Ordering}
 use Rattle.std.specs.declared.cmp.Ordering.TheVariants.{Less, Equal, Greater}
 use Rattle.std.specs.List.{flat_map}
 use Rattle.image_base.specs.Records.{Records, SameAt, Among}
-use Rattle.key_order.specs.Pairs.{choose, lookup_pair, put}
+use Rattle.key_order.specs.Pairs.{choose, lookup, lookup_pair, put}
 use Rattle.key_order.proofs.PairLemmas.{lookup-of_pair}
 use Rattle.store_api.specs.Ledgers.{Ledger}
 use Rattle.store_api.specs.Parts.{Owns}
 use Rattle.store_api.specs.declared.store.StoreError.{StoreError}
+use Rattle.store_api.specs.Statuses.{in_use}
 use Rattle.store_api.proofs.PartLemmas.{turns-then}
+use Rattle.store_api.proofs.Times.{among-times, times-among}
+use Rattle.store_api.proofs.Uses.{uses-few, uses-in}
 use Rattle.tree_images.specs.Trees.{tree_pairs}
+use Rattle.tree_make.specs.Changes.{levels}
+use Rattle.value_index.specs.Changes.{nodes_most}
 use Rattle.attr_images.specs.Postings.{list_form, postings_reach, IsPostingList}
 use Rattle.attr_images.specs.Values.{stored_value, value_of}
 use Rattle.attr_types.specs.Value.{type_of, value_cmp}
@@ -19,16 +25,18 @@ use Rattle.attr_types.specs.declared.value.Value.{Value}
 use Rattle.enum_dictionary.specs.Dictionaries.{beside, IsDictionary, MakesDictionary}
 use Rattle.enum_dictionary.proofs.DictionaryLemmas.{dictionary_stays}
 use Rattle.posting_store.specs.Changes.{MakesList}
-use Rattle.posting_store.specs.Lists.{list_at}
+use Rattle.posting_store.specs.Lists.{list_at, list_levels, list_reach}
+use Rattle.posting_store.specs.ProofsForLists.{list_reach-same}
 use Rattle.posting_store.proofs.FormLemmas.{at_form, reach_form}
 use Rattle.posting_store.proofs.ListLemmas.{list_filled}
+use Rattle.value_index.specs.Flows.{word_at}
 use Rattle.value_index.specs.Indexes.{index_part, IsIndex, IsKey, IsValuePair}
 use Rattle.value_index.proofs.IndexLemmas.{docs_at, keys_same, pair_reach}
 use Rattle.value_index.proofs.KeyLemmas.{pair_found, reads_found}
 use Rattle.value_index.proofs.OpenLemmas.{IsOpen, others, parts, same_among, same_by, same_self}
 use Rattle.value_index.proofs.PairLemmas.{keys, all_by_keys, among_put, key_put, lookup_pair_as}
 use Rattle.value_index.proofs.StepLemmas.{open_next, word_some}
-use Rattle.index_moves.specs.Moves.{FormIsApart, MovesList}
+use Rattle.index_moves.specs.Moves.{move_most, word_most, FormIsApart, MovesList}
 use Rattle.index_moves.proofs.KeyLemmas.{key_of}
 use Rattle.index_moves.proofs.SetLemmas.{IsReady, key_stays, list_stays, ready_dictionary, ready_owns, rest_stays, set_index, set_is, set_key, set_list, set_owns, set_pairs, set_rest, set_turns}
 use Rattle.index_moves.proofs.WordLemmas.{form_same}
@@ -49,6 +57,18 @@ put_found c p (q ∷ ps) is =
       | Greater ↦ λ h. absurd (grind (arith, h))
     ]) is
 
+-- what a move makes, by what is found
+pub most_found : (value : Value) (m : Records) (root key word count w : ℕ) → lookup_pair (beside value m) (tree_pairs m root) ≡ Some (key, word)
+    → word_most (list_levels m word) count w + nodes_most (levels m root) w ≤ move_most value m root count w
+most_found value m root key word count w found =
+    let word_is : unwrap_or (lookup (beside value m) (tree_pairs m root)) 0 ≡ word =
+    ap (λ (o : Option ℕ). unwrap_or o 0) (lookup-of_pair (beside value m) (tree_pairs m root) ∙ ap (λ (o : Option (ℕ × ℕ)). option_map (λ (p : ℕ × ℕ). p.1) o) found) in
+    let same = by word_is in
+    omega arith
+  where
+    by : unwrap_or (lookup (beside value m) (tree_pairs m root)) 0 ≡ word → move_most value m root count w ≡ word_most (list_levels m word) count w + nodes_most (levels m root) w
+    by is = ap (λ x. word_most (list_levels m x) count w + nodes_most (levels m root) w) is
+
 -- nothing is done where the value is not there
 pub list_unmoved : {H : Type 0} (bits buffer doc : ℕ) (value : Value) (a : Ledger H) (m : Records) (root : ℕ) → IsIndex (type_of value) m root
     → Owns a m (index_part root ∷ []) → lookup_pair (beside value m) (tree_pairs m root) ≡ None → MovesList bits buffer doc value a a m m root root
@@ -61,6 +81,7 @@ list_unmoved bits buffer doc value a m root is owns none = record {
   others = refl;
   rest = same_self m (flat_map (pair_reach m) (others value m root));
   keys = λ ref among. (among, refl);
+  came = λ r used among. among;
   owns = owns;
   turns = record { kept = λ r h. refl; balance = λ r. refl };
 }
@@ -136,11 +157,29 @@ module _ {H : Type 0} (bits buffer doc : ℕ) (value : Value) (a b : Ledger H) (
           others = set_rest value b m n root key word key next [] start found was_reads list_ready c o top set;
           rest = rest_same;
           keys = λ ref among. kept ref among rest_same (opened.was ref among);
+          came = came_from;
           owns = set_owns value b m n root key word key next [] start found was_reads list_ready c o top set;
           turns = turns-then a b c m n o (index_part root ∷ []) (parts root key next rest) (index_part top ∷ []) opened.turns
               (set_turns value b m n root key word key next [] start found was_reads list_ready c o top set);
         }
       where
+        top_word : word_at value o top ≡ next
+        top_word = ap (λ (f : Option ℕ). unwrap_or f 0) (set_list value b m n root key word key next [] start found was_reads list_ready c o top set)
+
+        root_word : word_at value m root ≡ word
+        root_word = ap (λ (f : Option ℕ). unwrap_or f 0) (lookup-of_pair (beside value m) (tree_pairs m root) ∙ ap (λ (f : Option (ℕ × ℕ)). option_map (λ (p : ℕ × ℕ). p.1) f) found)
+
+        top_reach : list_reach o (word_at value o top) ≡ list_reach n next
+        top_reach = ap (list_reach o) top_word ∙ list_reach-same n o next (list_stays value b m n root key word key next [] start found was_reads list_ready c o top set)
+
+        came_from : (r : ℕ) → in_use (a.status r) ≡ true → Among r (list_reach o (word_at value o top)) → Among r (list_reach m (word_at value m root))
+        came_from r used among =
+            let some = among-times r (list_reach n next) (subst (Among r) top_reach among) in
+            let t = makes.turns.balance r in
+            let was = uses-in a r used in
+            let few = uses-few b r in
+            subst (λ w. Among r (list_reach m w)) (sym root_word) (times-among r (list_reach m word) (omega arith))
+
         key_same : o key ≡ n key
         key_same = key_stays value b m n root key word key next [] start found was_reads list_ready c o top set
 

@@ -1,13 +1,14 @@
 -- A list made anew, of the same documents.
-use Rattle.std.proofs.Common.{◌≡◌, ◌≢◌, ℕ, ℤ, ◌+◌, ◌*◌, ◌/◌, ◌%◌, ◌<◌, List, [], ◌∷◌, map, length, true, true≢false, refl, sym, ap, subst, ◌∙◌, arith}
+use Rattle.std.proofs.Common.{◌≡◌, ◌≢◌, ℕ, ℤ, ◌+◌, ◌*◌, ◌/◌, ◌%◌, ◌<◌, ◌≤◌, Bool, cond, nat_eq, List, [], ◌∷◌, map, length, true, false, true≢false, refl, sym, ap, subst, ◌∙◌, arith}
+use Rattle.std.proofs.lemmas.Bool.{eqb-false, eqb-true, le-leb, lt-leb}
 use Rattle.std.proofs.lemmas.List.{length-map}
 use Rattle.std.specs.Ordering.{nat_cmp}
 use Rattle.std.specs.List.{AllByRecursion}
 use Rattle.entry_ref.specs.References.{buffer_of}
 use Rattle.image_base.specs.Records.{Records, SameAt}
-use Rattle.store_api.specs.Ledgers.{Ledger}
+use Rattle.store_api.specs.Ledgers.{Ledger, capacity}
 use Rattle.store_api.specs.Parts.{Owns, Turns, count_in, entry, times}
-use Rattle.store_api.specs.Units.{MayDo}
+use Rattle.store_api.specs.Units.{MakesAtMost, MayDo}
 use Rattle.store_api.proofs.PartLemmas.{after, owns-some, turns-as}
 use Rattle.tree_images.specs.Trees.{tree_pairs, by_number, IsTree}
 use Rattle.tree_make.specs.Changes.{levels, tree as tree_part}
@@ -19,13 +20,30 @@ use Rattle.attr_images.specs.Postings.{ListForm, short, tree, vector, list_form,
 use Rattle.attr_images.specs.Words.{class_of, stored_items, unpacked, IsStoredList}
 use Rattle.posting_store.specs.Changes.{list_part, list_most, MakesList, MakesWithin}
 use Rattle.posting_store.specs.Lists.{list_at, list_levels, list_reach, AreDocuments, IsList, IsPlain}
-use Rattle.posting_store.proofs.ChangeLemmas.{counts_short, counts_more, counts_tree, makes_short, makes_tree, replaces}
+use Rattle.posting_store.proofs.ChangeLemmas.{counts_short, makes_short, makes_tree, replaces}
 use Rattle.posting_store.proofs.FormLemmas.{form_short, form_tree, short_at, short_few, short_reach, tree_at, tree_form, tree_levels, tree_reach}
 use Rattle.posting_store.proofs.PairLemmas.{weighed, weighed-length}
-use Rattle.index_moves.specs.Moves.{FormIsApart}
+use Rattle.value_index.proofs.CountLemmas.{within_more}
+use Rattle.index_moves.specs.Moves.{word_most, FormIsApart}
 
 are_documents : (m : Records) (word : ℕ) → IsList m word → AreDocuments (list_at m word)
 are_documents m word list = record { ascends = list.ascends; numbers = list.numbers }
+
+-- ---- how many records are made
+short_most : (levels count : ℕ) → count ≤ 8 → (w : ℕ) → list_most 0 count w ≤ word_most levels count w
+short_most levels count few w =
+    subst (λ b. cond b (cond (nat_eq w (class_of (1 + count))) 1 0) (cond (nat_eq w 34) (2 * 0 + 1) 0) ≤ cond b (cond (nat_eq w (class_of (1 + count))) 1 0) (cond (nat_eq w 34) levels 0))
+    (sym (le-leb count 8 few)) (omega arith)
+
+tree_within : {H : Type 0} (a b : Ledger H) (levels count : ℕ) → 8 < count → CountsNodes a b levels → MakesWithin a b (word_most levels count)
+tree_within a b levels count many made = record {
+  each = λ w. subst (λ t. MakesAtMost (capacity a.work.sizes.words w) (cond t (cond (nat_eq w (class_of (1 + count))) 1 0) (cond (nat_eq w 34) levels 0)) (a.of_width w) (b.of_width w))
+      (sym (lt-leb count 8 many)) (told w (nat_eq w 34) refl);
+}
+  where
+    told : (w : ℕ) (t : Bool) → nat_eq w 34 ≡ t → MakesAtMost (capacity a.work.sizes.words w) (cond t levels 0) (a.of_width w) (b.of_width w)
+    told w true is = subst (λ x. MakesAtMost (capacity a.work.sizes.words x) levels (a.of_width x) (b.of_width x)) (sym (eqb-true w 34 is)) made.nodes
+    told w false is = made.others (capacity a.work.sizes.words w) w (eqb-false w 34 is)
 
 -- ---- nothing is done
 pub list_kept : {H : Type 0} (a : Ledger H) (m : Records) (word : ℕ) → IsList m word → IsPlain word → Owns a m (list_part word ∷ [])
@@ -104,11 +122,12 @@ module _ (m : Records) (word ref : ℕ) (list : IsList m word) (plain : IsPlain 
           elsewhere : buffer_of bits copy ≢ buffer
           elsewhere here = true≢false (sym (ap (λ (s : ℕ → _). s buffer) may.sealed ∙ sealed) ∙ sym (ap b.sealed here) ∙ adds.unsealed)
 
-  pub short_counts : {H : Type 0} (a b : Ledger H) → MakesOneOf (class_of (1 + length (stored_items (m ref)))) a b → MakesWithin a b (list_most (list_levels m word) (length (list_at m word)))
+  pub short_counts : {H : Type 0} (a b : Ledger H) → MakesOneOf (class_of (1 + length (stored_items (m ref)))) a b → MakesWithin a b (word_most (list_levels m word) (length (list_at m word)))
   short_counts a b one =
       let few = short_few m word plain even list in
       let made : MakesOneOf (class_of (1 + length (list_at m word))) a b = subst (λ k. MakesOneOf (class_of (1 + k)) a b) (sym short_size) one in
-      counts_more a b (list_levels m word) (length (list_at m word)) (counts_short a b (length (list_at m word)) few made)
+      within_more a b (list_most 0 (length (list_at m word))) (word_most (list_levels m word) (length (list_at m word))) (short_most (list_levels m word) (length (list_at m word)) few)
+      (counts_short a b (length (list_at m word)) few made)
 
 -- ---- a list that is a tree
 module _ {H : Type 0} (a b : Ledger H) (m n : Records) (word root : ℕ) (list : IsList m word) (plain : IsPlain word) (odd : word % 2 ≡ 1) (at : root ≡ word / 2) where
@@ -130,10 +149,10 @@ module _ {H : Type 0} (a b : Ledger H) (m n : Records) (word root : ℕ) (list :
       many (ap weighed pairs ∙ sym (tree_at m word root plain tree_is_word)) (are_documents m word list) owns turns
       (λ r. ap (λ rs. times r rs + 0) (tree_reach m word root plain tree_is_word))
 
-  pub tree_counts : CountsNodes a b (levels m root) → MakesWithin a b (list_most (list_levels m word) (length (list_at m word)))
+  pub tree_counts : CountsNodes a b (levels m root) → MakesWithin a b (word_most (list_levels m word) (length (list_at m word)))
   tree_counts made =
-      subst (λ h. MakesWithin a b (list_most h (length (list_at m word)))) (sym (tree_levels m word root plain tree_is_word))
-      (counts_tree a b (levels m root) (length (list_at m word)) (levels m root) many (omega arith) made)
+      subst (λ h. MakesWithin a b (word_most h (length (list_at m word)))) (sym (tree_levels m word root plain tree_is_word))
+      (tree_within a b (levels m root) (length (list_at m word)) many made)
 
 pub tree_apart : (bits buffer doc : ℕ) (n : Records) (next top : ℕ) → next ≡ 2 * top + 1 → IsPlain next
     → NoneIn bits buffer (path_nodes n (λ key. nat_cmp key doc) top) → FormIsApart bits buffer doc n (list_form next)

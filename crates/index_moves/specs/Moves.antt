@@ -1,20 +1,26 @@
 -- What is left of a store when a part of an index was moved out of a buffer: the index reads as it did.
-use Rattle.std.specs.Prelude.{◌≡◌, ◌≢◌, ℕ, ◌+◌, List, [], ◌∷◌, Some}
+use Rattle.std.specs.Prelude.{◌≡◌, ◌≢◌, ◌⊎◌, ℕ, ◌+◌, true, nat_eq, nat_le, if◌then◌else◌, List, [], ◌∷◌, Some}
 use Rattle.std.specs.List.{flat_map, AllByRecursion}
 use Rattle.std.specs.Ordering.{nat_cmp}
 use Rattle.entry_ref.specs.References.{buffer_of}
-use Rattle.image_base.specs.Records.{Records, SameAt}
+use Rattle.image_base.specs.Records.{Records, Among, SameAt}
 use Rattle.key_order.specs.Pairs.{lookup, take_out}
 use Rattle.store_api.specs.Ledgers.{Ledger}
 use Rattle.store_api.specs.Parts.{Owns, Turns, entries}
+use Rattle.store_api.specs.Statuses.{in_use}
 use Rattle.tree_images.specs.Trees.{tree_pairs}
+use Rattle.tree_images.specs.declared.TheConstants.{NODE_WORDS}
 use Rattle.tree_make.specs.Changes.{levels, tree as tree_part}
 use Rattle.tree_touch.specs.Paths.{path_nodes, NoneIn}
 use Rattle.attr_images.specs.Postings.{ListForm, short, tree, vector, dictionary_reach, index_of, list_form, postings_reach}
+use Rattle.attr_images.specs.Words.{class_of}
+use Rattle.attr_images.specs.declared.TheConstants.{MOST_SHORT}
 use Rattle.attr_types.specs.Value.{type_of}
 use Rattle.attr_types.specs.declared.value.Value.{Value}
 use Rattle.enum_dictionary.specs.Dictionaries.{beside}
-use Rattle.value_index.specs.Changes.{nodes_most, record_most}
+use Rattle.posting_store.specs.Lists.{list_reach}
+use Rattle.value_index.specs.Changes.{nodes_most, record_most, value_levels}
+use Rattle.value_index.specs.Flows.{word_at}
 use Rattle.value_index.specs.Indexes.{index_part, key_at, IsIndex, IsKey}
 
 -- a key of the index that lies in the buffer
@@ -23,10 +29,12 @@ pub record IsKeyIn (bits buffer : ℕ) (m : Records) (root ref : ℕ) : Type 0 w
   pub lies : buffer_of bits ref ≡ buffer
 
 -- the key of a value lies in the buffer no more. The pairs of all other values are as they were, and so is the value's list. What was its
--- key, if it is another now, is in use still and belongs to no index. Each record of the old keys and lists is as it was.
+-- key, if it is another now, is in use still and belongs to no index; each other key is one still. Each record of the old keys and lists is
+-- as it was.
 pub record MovesKey {H : Type 0} (bits buffer : ℕ) (value : Value) (old new : Ledger H) (m n : Records) (root next : ℕ) : Type 0 where
   pub left : List ℕ
   pub left_in : AllByRecursion (IsKeyIn bits buffer m root) left
+  pub keys : (ref : ℕ) → IsKey m root ref → IsKey n next ref ⊎ Among ref left
   pub index_is : IsIndex (type_of value) n next
   pub reads_as : index_of (type_of value) n next ≡ index_of (type_of value) m root
   pub apart : (key : ℕ) → key_at value n next ≡ Some key → buffer_of bits key ≢ buffer
@@ -43,7 +51,7 @@ FormIsApart bits buffer doc m (tree root) = NoneIn bits buffer (path_nodes m (λ
 FormIsApart bits buffer doc m (vector root) = ⊥
 
 -- the list of a value was moved out of the buffer, as far as a document leads. The value's key and all other pairs, with all that these
--- reach, are as they were, and each key of before is one still, with its record.
+-- reach, are as they were, and each key of before is one still, with its record. What of the list was in use was of the list.
 pub record MovesList {H : Type 0} (bits buffer doc : ℕ) (value : Value) (old new : Ledger H) (m n : Records) (root next : ℕ) : Type 0 where
   pub index_is : IsIndex (type_of value) n next
   pub reads_as : index_of (type_of value) n next ≡ index_of (type_of value) m root
@@ -52,6 +60,8 @@ pub record MovesList {H : Type 0} (bits buffer doc : ℕ) (value : Value) (old n
   pub others : take_out (beside value n) (tree_pairs n next) ≡ take_out (beside value m) (tree_pairs m root)
   pub rest : SameAt (flat_map (λ p. p.0 ∷ postings_reach m (list_form p.1)) (take_out (beside value m) (tree_pairs m root))) m n
   pub keys : (ref : ℕ) → IsKey m root ref → IsKey n next ref × (n ref ≡ m ref)
+  pub came : (r : ℕ) → in_use (old.status r) ≡ true → Among r (list_reach n (word_at value n next))
+      → Among r (list_reach m (word_at value m root))
   pub owns : Owns new n (index_part next ∷ [])
   pub turns : Turns old new m n (index_part root ∷ []) (index_part next ∷ [])
 
@@ -68,3 +78,13 @@ pub record MovesNodes {H : Type 0} (bits buffer : ℕ) (value : Value) (old new 
 -- how many records of each width are made at most: the value's, and nodes of the dictionary
 abbrev pub key_most : Value → Records → ℕ → ℕ → ℕ
 key_most value m root width = record_most value width + nodes_most (levels m root) width
+
+-- of a list that has so many levels of nodes, and so many documents: one record where it is short, else a node of each level; and nodes of
+-- the dictionary
+abbrev pub word_most : ℕ → ℕ → ℕ → ℕ
+word_most levels count width =
+    if nat_le count MOST_SHORT then (if nat_eq width (class_of (1 + count)) then 1 else 0)
+    else if nat_eq width NODE_WORDS then levels else 0
+
+abbrev pub move_most : Value → Records → ℕ → ℕ → ℕ → ℕ
+move_most value m root count width = word_most (value_levels value m root) count width + nodes_most (levels m root) width

@@ -7,11 +7,10 @@ ghost use Rattle.attr_images.specs.Postings.{index_of, list_form};
 ghost use Rattle.attr_index.specs.Index.{list_of};
 ghost use Rattle.attr_types.specs.Value.{type_of};
 ghost use Rattle.enum_dictionary.specs.Dictionaries.{beside};
-ghost use Rattle.posting_store.specs.Changes.{list_part, list_most, MakesList, MakesWithin, RefusesSome};
+ghost use Rattle.posting_store.specs.Changes.{list_part, MakesList, MakesWithin, RefusesSome};
 ghost use Rattle.posting_store.specs.Lists.{list_at, list_levels, IsList, IsPlain};
-ghost use Rattle.value_index.specs.Changes.{change_most};
 ghost use Rattle.value_index.specs.Indexes.{index_part, IsIndex};
-ghost use Rattle.index_moves.specs.Moves.{FormIsApart, MovesList};
+ghost use Rattle.index_moves.specs.Moves.{move_most, word_most, FormIsApart, MovesList};
 
 use crate::records::copy_record;
 use crate::words::{record_of, short_word, tree_word};
@@ -37,7 +36,7 @@ fn move_short<const OFFSET_BITS: u32, S: Store<OFFSET_BITS>>(
     ensures makes { IfOk result (MakesList (S.ledger store.old) (S.ledger store.new) (S.records store.old) (S.records store.new)
         list (list_at (S.records store.old) list)) }
     ensures apart { (doc : ℕ) → IfOk result (λ next. FormIsApart OFFSET_BITS buffer doc (S.records store.new) (list_form next)) }
-    ensures counts { MakesWithin (S.ledger store.old) (S.ledger store.new) (list_most (list_levels (S.records store.old) list)
+    ensures counts { MakesWithin (S.ledger store.old) (S.ledger store.new) (word_most (list_levels (S.records store.old) list)
         (length (list_at (S.records store.old) list))) }
     ensures refuses { IfErr result (RefusesSome (S.ledger store.old) (S.ledger store.new)) }
     ensures may { MayDo (S.ledger store.old) (S.ledger store.new) }
@@ -68,7 +67,7 @@ fn move_tree<const OFFSET_BITS: u32, S: Store<OFFSET_BITS>>(
     ensures makes { IfOk result (MakesList (S.ledger store.old) (S.ledger store.new) (S.records store.old) (S.records store.new)
         list (list_at (S.records store.old) list)) }
     ensures apart { IfOk result (λ next. FormIsApart OFFSET_BITS buffer doc (S.records store.new) (list_form next)) }
-    ensures counts { MakesWithin (S.ledger store.old) (S.ledger store.new) (list_most (list_levels (S.records store.old) list)
+    ensures counts { MakesWithin (S.ledger store.old) (S.ledger store.new) (word_most (list_levels (S.records store.old) list)
         (length (list_at (S.records store.old) list))) }
     ensures refuses { IfErr result (RefusesSome (S.ledger store.old) (S.ledger store.new)) }
     ensures may { MayDo (S.ledger store.old) (S.ledger store.new) }
@@ -93,7 +92,7 @@ fn move_word<const OFFSET_BITS: u32, S: Store<OFFSET_BITS>>(
     ensures makes { IfOk result (MakesList (S.ledger store.old) (S.ledger store.new) (S.records store.old) (S.records store.new)
         list (list_at (S.records store.old) list)) }
     ensures apart { IfOk result (λ next. FormIsApart OFFSET_BITS buffer doc (S.records store.new) (list_form next)) }
-    ensures counts { MakesWithin (S.ledger store.old) (S.ledger store.new) (list_most (list_levels (S.records store.old) list)
+    ensures counts { MakesWithin (S.ledger store.old) (S.ledger store.new) (word_most (list_levels (S.records store.old) list)
         (length (list_at (S.records store.old) list))) }
     ensures refuses { IfErr result (RefusesSome (S.ledger store.old) (S.ledger store.new)) }
     ensures may { MayDo (S.ledger store.old) (S.ledger store.new) }
@@ -121,7 +120,7 @@ fn move_found<const OFFSET_BITS: u32, S: Store<OFFSET_BITS>>(
     requires found { lookup_pair (beside value.now (S.records store.old)) (tree_pairs (S.records store.old) root) ≡ Some (key, list) }
     ensures moves { IfOk result (MovesList OFFSET_BITS buffer doc value.now (S.ledger store.old) (S.ledger store.new)
         (S.records store.old) (S.records store.new) root.entry) }
-    ensures counts { MakesWithin (S.ledger store.old) (S.ledger store.new) (change_most value.now (S.records store.old) root.entry
+    ensures counts { MakesWithin (S.ledger store.old) (S.ledger store.new) (move_most value.now (S.records store.old) root.entry
         (length (list_of value.now (index_of (type_of value.now) (S.records store.old) root.entry)))) }
     ensures refuses { IfErr result (RefusesSome (S.ledger store.old) (S.ledger store.new)) }
     ensures may { MayDo (S.ledger store.old) (S.ledger store.new) }
@@ -148,7 +147,7 @@ pub fn move_list<const OFFSET_BITS: u32, S: Store<OFFSET_BITS>>(
     requires owns { Owns (S.ledger store.old) (S.records store.old) (index_part root ∷ []) }
     ensures moves { IfOk result (MovesList OFFSET_BITS buffer doc value.now (S.ledger store.old) (S.ledger store.new)
         (S.records store.old) (S.records store.new) root.entry) }
-    ensures counts { MakesWithin (S.ledger store.old) (S.ledger store.new) (change_most value.now (S.records store.old) root.entry
+    ensures counts { MakesWithin (S.ledger store.old) (S.ledger store.new) (move_most value.now (S.records store.old) root.entry
         (length (list_of value.now (index_of (type_of value.now) (S.records store.old) root.entry)))) }
     ensures refuses { IfErr result (RefusesSome (S.ledger store.old) (S.ledger store.new)) }
     ensures may { MayDo (S.ledger store.old) (S.ledger store.new) }

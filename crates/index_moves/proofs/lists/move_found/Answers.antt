@@ -3,17 +3,18 @@ use Rattle.std.proofs.lemmas.Result.{err_from_is_err_and}
 use Rattle.attr_images.specs.Postings.{index_of}
 use Rattle.attr_index.specs.Index.{list_of}
 use Rattle.attr_types.specs.Value.{type_of}
-use Rattle.posting_store.specs.Changes.{list_most, MakesWithin}
+use Rattle.posting_store.specs.Changes.{MakesWithin}
 use Rattle.posting_store.specs.Lists.{list_levels}
 use Rattle.store_api.proofs.May.{may_do-then}
 use Rattle.tree_images.specs.Trees.{tree_pairs}
 use Rattle.tree_make.specs.Changes.{levels}
-use Rattle.value_index.specs.Changes.{change_most, nodes_most}
-use Rattle.value_index.proofs.CountLemmas.{change_found, within_more, within_then, within_tree}
+use Rattle.value_index.specs.Changes.{nodes_most}
+use Rattle.value_index.proofs.CountLemmas.{within_more, within_then, within_tree}
 use Rattle.value_index.proofs.KeyLemmas.{pair_found, reads_found}
 use Rattle.value_index.proofs.ShownLemmas.{Docs}
 use Rattle.value_index.proofs.StepLemmas.{if_refuses_width, list_is, list_owned}
-use Rattle.index_moves.proofs.ListLemmas.{dictionary_same, list_dictionary, list_ready, list_set, list_set_by}
+use Rattle.index_moves.specs.Moves.{move_most, word_most}
+use Rattle.index_moves.proofs.ListLemmas.{dictionary_same, list_dictionary, list_ready, list_set, list_set_by, most_found}
 use Rattle.index_moves.proofs.SetLemmas.{ready_owns}
 use Rattle.index_moves.proofs.lists.move_found.Goals as goal
 
@@ -53,9 +54,9 @@ returns-in_err-next-clause-counts g c =
     let a = g.S.Store.ledger c.args.store.now in
     let b = g.S.Store.ledger c.move_word.new.store in
     let count : ℕ = length (list_of value (index_of (type_of value) m root)) in
-    let made = subst (λ k. MakesWithin a b (list_most (list_levels m list) k)) (ap (λ (ds : Docs). length ds) (list_is value m root c.requires.index c.args.key list c.requires.found)) c.move_word.ensures.counts in
-    within_more a b (list_most (list_levels m list) count) (change_most value m root count)
-    (λ w. let e = change_found value m root c.args.key list count w c.requires.found in omega arith) made
+    let made = subst (λ k. MakesWithin a b (word_most (list_levels m list) k)) (ap (λ (ds : Docs). length ds) (list_is value m root c.requires.index c.args.key list c.requires.found)) c.move_word.ensures.counts in
+    within_more a b (word_most (list_levels m list) count) (move_most value m root count)
+    (λ w. let e = most_found value m root c.args.key list count w c.requires.found in omega arith) made
 
 pub returns-then-next-list-clause-moves : goal.returns-then-next-list-clause-moves
 returns-then-next-list-clause-moves g c =
@@ -81,9 +82,9 @@ returns-then-next-list-clause-counts g c =
     let a = g.S.Store.ledger c.args.store.now in
     let b = g.S.Store.ledger c.move_word.new.store in
     let count : ℕ = length (list_of value (index_of (type_of value) m root)) in
-    let made = subst (λ k. MakesWithin a b (list_most (list_levels m list) k)) (ap (λ (ds : Docs). length ds) (list_is value m root c.requires.index c.args.key list c.requires.found)) c.move_word.ensures.counts in
-    within_more a b (list_most (list_levels m list) count) (change_most value m root count)
-    (λ w. let e = change_found value m root c.args.key list count w c.requires.found in omega arith) made
+    let made = subst (λ k. MakesWithin a b (word_most (list_levels m list) k)) (ap (λ (ds : Docs). length ds) (list_is value m root c.requires.index c.args.key list c.requires.found)) c.move_word.ensures.counts in
+    within_more a b (word_most (list_levels m list) count) (move_most value m root count)
+    (λ w. let e = most_found value m root c.args.key list count w c.requires.found in omega arith) made
 
 pub set-requires : goal.set-requires
 set-requires g c =
@@ -152,9 +153,9 @@ returns-clause-counts g c =
     let n = records c.move_word.new.store in
     let next = c.in_ok-next.next in
     let count : ℕ = length (list_of value (index_of (type_of value) m root)) in
-    let made = subst (λ k. MakesWithin a b (list_most (list_levels m list) k)) (ap (λ (ds : Docs). length ds) (list_is value m root c.requires.index key list c.requires.found)) c.move_word.ensures.counts in
+    let made = subst (λ k. MakesWithin a b (word_most (list_levels m list) k)) (ap (λ (ds : Docs). length ds) (list_is value m root c.requires.index key list c.requires.found)) c.move_word.ensures.counts in
     let ready = list_ready g.row.OFFSET_BITS c.args.buffer c.args.doc value a b m n root key list next c.requires.index c.requires.owns c.requires.found c.in_ok-next.ensures.makes in
     let nodes = within_tree b d m n root (2 * levels n root + 1) ready.nodes (omega arith) c.set.ensures.counts in
-    within_more a d (λ w. list_most (list_levels m list) count w + nodes_most (levels m root) w) (change_most value m root count)
-    (λ w. let e = change_found value m root key list count w c.requires.found in omega arith)
-    (within_then a b d (list_most (list_levels m list) count) (nodes_most (levels m root)) c.move_word.ensures.may made nodes)
+    within_more a d (λ w. word_most (list_levels m list) count w + nodes_most (levels m root) w) (move_most value m root count)
+    (λ w. let e = most_found value m root key list count w c.requires.found in omega arith)
+    (within_then a b d (word_most (list_levels m list) count) (nodes_most (levels m root)) c.move_word.ensures.may made nodes)

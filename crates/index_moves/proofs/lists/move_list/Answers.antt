@@ -10,11 +10,10 @@ use Rattle.enum_dictionary.specs.Dictionaries.{beside}
 use Rattle.posting_store.specs.Changes.{MakesWithin, RefusesSome}
 use Rattle.attr_images.specs.Postings.{index_of}
 use Rattle.attr_index.specs.Index.{list_of}
-use Rattle.value_index.specs.Changes.{change_most}
 use Rattle.value_index.specs.Indexes.{index_part, IsIndex}
 use Rattle.value_index.proofs.CountLemmas.{within_none}
 use Rattle.value_index.proofs.StepLemmas.{entry_found, entry_none}
-use Rattle.index_moves.specs.Moves.{MovesList}
+use Rattle.index_moves.specs.Moves.{move_most, MovesList}
 use Rattle.index_moves.proofs.ListLemmas.{list_unmoved}
 use Rattle.index_moves.proofs.lists.move_list.Goals as goal
 
@@ -57,7 +56,7 @@ returns-in-Some-clause-moves g c =
 pub returns-in-Some-clause-counts : goal.returns-in-Some-clause-counts
 returns-in-Some-clause-counts g c =
     let ledger = g.S.Store.ledger in
-    subst (λ s. MakesWithin (ledger s) (ledger c.move_found.new.store) (change_most c.args.value.now (g.S.Frozen.records s) c.args.root
+    subst (λ s. MakesWithin (ledger s) (ledger c.move_found.new.store) (move_most c.args.value.now (g.S.Frozen.records s) c.args.root
     (length (list_of c.args.value.now (index_of (type_of c.args.value.now) (g.S.Frozen.records s) c.args.root)))))
     c.find.ensures.same c.move_found.ensures.counts
 
@@ -85,7 +84,7 @@ returns-in-None-clause-counts g c =
     let a = g.S.Store.ledger c.args.store.now in
     let m = g.S.Frozen.records c.args.store.now in
     let value = c.args.value.now in
-    let most = change_most value m c.args.root (length (list_of value (index_of (type_of value) m c.args.root))) in
+    let most = move_most value m c.args.root (length (list_of value (index_of (type_of value) m c.args.root))) in
     subst (λ s. MakesWithin a (g.S.Store.ledger s) most) (sym c.find.ensures.same) (within_none a most)
 
 pub returns-in-None-clause-may : goal.returns-in-None-clause-may

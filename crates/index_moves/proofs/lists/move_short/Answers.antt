@@ -3,11 +3,11 @@ use Rattle.std.proofs.lemmas.Result.{err_from_is_err_and}
 use Rattle.entry_ref.specs.References.{buffer_of}
 use Rattle.array_store.proofs.ClassLemmas.{class_width}
 use Rattle.attr_images.specs.Words.{stored_items}
-use Rattle.posting_store.specs.Changes.{list_most}
 use Rattle.posting_store.specs.Lists.{list_at, list_levels}
 use Rattle.store_api.proofs.May.{may_do-same, may_do-then}
 use Rattle.value_index.proofs.CountLemmas.{within_dropped, within_none}
 use Rattle.value_index.proofs.StepLemmas.{refuses_width}
+use Rattle.index_moves.specs.Moves.{word_most}
 use Rattle.index_moves.proofs.WordLemmas.{copy_apart, list_kept, old_record, short_apart, short_counts, short_moved, short_stored}
 use Rattle.index_moves.proofs.lists.move_short.Goals as goal
 
@@ -25,7 +25,7 @@ returns-then-buffer-clause-apart g c =
 pub returns-then-buffer-clause-counts : goal.returns-then-buffer-clause-counts
 returns-then-buffer-clause-counts g c =
     let m = g.S.Frozen.records c.args.store.now in
-    within_none (g.S.Store.ledger c.args.store.now) (list_most (list_levels m c.args.list) (length (list_at m c.args.list)))
+    within_none (g.S.Store.ledger c.args.store.now) (word_most (list_levels m c.args.list) (length (list_at m c.args.list)))
 
 pub copy_record-requires : goal.copy_record-requires
 copy_record-requires g c = (
@@ -91,7 +91,7 @@ returns-clause-counts g c =
     let m = g.S.Frozen.records c.args.store.now in
     let a = ledger c.args.store.now in
     let b = ledger c.copy_record.new.store in
-    within_dropped a b (ledger c.drop_one.new.store) (list_most (list_levels m c.args.list) (length (list_at m c.args.list))) c.copy_record.ensures.may
+    within_dropped a b (ledger c.drop_one.new.store) (word_most (list_levels m c.args.list) (length (list_at m c.args.list))) c.copy_record.ensures.may
     (short_counts m c.args.list c.record_of-record.result c.requires.list c.requires.plain c.requires.some c.requires.short c.record_of-record.ensures
     a b c.copy_record.ensures.counts) c.drop_one.ensures.none_made
 
