@@ -1,0 +1,15 @@
+pub mod VisitLemmas
+pub mod LeftLemmas
+pub mod PlanVisits
+pub mod IndexPairs
+pub mod BelowLemmas
+pub mod IndexKeys
+pub mod IndexLeaves
+pub mod IndexClauses
+pub mod KeyMoved
+pub mod ListMoved
+pub mod NodeMoved
+pub mod DocumentsIndex
+pub mod ItemsMoved
+pub mod MapMoved
+pub mod DocumentsCan
