@@ -1,0 +1,6 @@
+pub mod KeyLemmas
+pub mod Moving
+pub mod UnitSteps
+pub mod TurnLemmas
+pub mod WalkLemmas
+pub mod OpenLemmas

@@ -1,0 +1,202 @@
+-- A unit of a compaction: what the move of its key asks for, and what all attributes are after it.
+use Rattle.std.proofs.Common.{◌≡◌, ◌≢◌, ℕ, zero, suc, ◌<◌, ◌≤◌, Bool, true, false, cond, nat_eq, List, [], ◌∷◌, set, Some, refl, sym, ap, subst, ◌∙◌, arith, inl, inr}
+use Rattle.std.proofs.lemmas.Bool.{cases_eq}
+use Rattle.std.specs.Prelude.{slice_get}
+use Rattle.std.specs.List.{AllByRecursion}
+use Rattle.std.specs.Option.{IfSome}
+use Rattle.entry_ref.specs.References.{buffer_of}
+use Rattle.image_base.specs.Records.{Among, Records, SameAt}
+use Rattle.store_api.specs.Calls.{Accepts, Undoes}
+use Rattle.store_api.specs.Ledgers.{Ledger, IsSettled}
+use Rattle.store_api.specs.Parts.{AllStay, Owns, Part, Turns, count_in, entries}
+use Rattle.store_api.specs.Statuses.{Status, in_use}
+use Rattle.store_api.specs.declared.store.StoreError.{StoreError}
+use Rattle.store_api.specs.declared.store.StoreError.TheVariants.{Full, Memory}
+use Rattle.store_api.proofs.PartLemmas.{owns-some}
+use Rattle.tree_images.specs.declared.TheConstants.{NODE_WORDS}
+use Rattle.index_moves.specs.Moves.{IsKeyIn}
+use Rattle.posting_store.specs.Changes.{RefusesSome}
+use Rattle.attr_documents.specs.Documents.{documents_refer}
+use Rattle.attr_images.specs.Documents.{column_at}
+use Rattle.attr_walks.specs.Counts.{MakesFew}
+use Rattle.attr_field.specs.Fields.{field_part, IsField}
+use Rattle.attr_cleared.specs.Cleared.{IsCleared, IsClearedField}
+use Rattle.cleared_steps.specs.StepsLaws.{OthersStayCleared, StayLeavesCleared}
+use Rattle.attr_compaction.specs.Places.{Place, PlanView}
+use Rattle.attr_compaction.specs.declared.plan.PlanKey.{PlanKey}
+use Rattle.attr_compaction.specs.declared.plan.TheConstants.{PHASES}
+use Rattle.attr_images.specs.Tables.{AttributeTrees}
+use Rattle.attr_types.specs.declared.field.Field.{Field}
+use Rattle.attr_types.specs.declared.kind.Kind.{Kind}
+use Rattle.attr_types.specs.declared.kind.ValueType.{ValueType}
+use Rattle.attr_field.proofs.CopyLemmas.{refers_some}
+use Rattle.plan_keys.specs.PhaseKeys.{key_past, phase_keys, HasType}
+use Rattle.attr_steps.specs.Calls.{KeepsStore}
+use Rattle.attr_steps.specs.Counts.{SparesAtMost}
+use Rattle.attr_steps.specs.Fields.{AllReferBeside, HoldsAttributes, IsFieldAt, part_of, parts_of, root_entries}
+use Rattle.attr_steps.proofs.Columns.{FieldLaws}
+use Rattle.attr_steps.proofs.CountLemmas.{spares_unit}
+use Rattle.attr_steps.proofs.PartLists.{count_at}
+use Rattle.attr_steps.proofs.Referring.{RefersAt, all_weaker}
+use Rattle.attr_steps.proofs.TreeLists.{all_at, get_set-same, get_set-other, set_length, some_is}
+use Rattle.field_moves.specs.Moves.{HasBegun, MovesField}
+use Rattle.compact_steps.specs.Units.{keys_at, CompactsTo, IsUnderWay, SparesBelow}
+use Rattle.compact_steps.proofs.KeyLemmas.{all_keep, keys_stay, next_fits}
+use Rattle.compact_steps.proofs.Moving.{MovesPart, all_stay, mid_are, new_holds, new_table, other_stays}
+
+-- what the move of one key asks for
+pub record MeetsMove {H : Type 0} (bits : ℕ) (ledger : Ledger H) (m : Records) (a : AttributeTrees) (plan : PlanView) : Type 0 where
+  pub unit : ledger.unit ≡ true
+  pub begun : HasBegun ledger
+  pub sealed : ledger.sealed plan.victim ≡ true
+  pub field : IsFieldAt m a
+  pub owns : Owns ledger m (part_of a ∷ [])
+  pub refers : RefersAt ledger m (part_of a ∷ []) a
+  pub cleared : IsClearedField bits plan.victim plan.place plan.place.stage.field m a
+
+module _ {H : Type 0} (bits : ℕ) (old : Ledger H) (m : Records) (fields : List Field) (trees : List AttributeTrees) (root : ℕ) (plan : PlanView) (a : AttributeTrees)
+    (holds : HoldsAttributes bits old m fields trees root) (way : IsUnderWay bits old m trees plan) (at : slice_get trees plan.place.stage.field ≡ Some a) where
+  abbrev before : List Part
+  before = entries (root_entries root) ∷ parts_of trees
+
+  begun_owns : Owns (record old { unit = true }) m before
+  begun_owns = record { each = λ r. holds.owns.each r }
+
+  begun_refer : AllReferBeside (record old { unit = true }) m trees before
+  begun_refer = all_weaker old (record old { unit = true }) m trees before before holds.refer (λ r less. less)
+
+  one_few : (r : ℕ) → count_in r m (part_of a ∷ []) ≤ count_in r m before
+  one_few r = let e = count_at trees plan.place.stage.field a m r at in omega arith
+
+  pub meets_move : IsSettled old m → MeetsMove bits (record old { unit = true }) m a plan
+  meets_move settled = record {
+    unit = refl;
+    begun = record { each = λ r used. ap (λ (s : ℕ → Status). in_use (s r)) settled.back ∙ used };
+    sealed = way.sealed;
+    field = all_at (IsFieldAt m) trees plan.place.stage.field a holds.are_fields.each at;
+    owns = owns-some (record old { unit = true }) m before (part_of a ∷ []) begun_owns one_few;
+    refers = refers_some a.kind (record old { unit = true }) m a.documents a.dictionary before (part_of a ∷ [])
+        (all_at (RefersAt (record old { unit = true }) m before) trees plan.place.stage.field a begun_refer at) one_few;
+    cleared = way.cleared plan.place.stage.field a at;
+  }
+
+  -- after begin
+  pub meets_begun : IsSettled old m → (begun : Ledger H) (k : Records) → begun ≡ record old { unit = true } → k ≡ m → MeetsMove bits begun k a plan
+  meets_begun settled begun k begins records = subst (λ (l : Ledger H). MeetsMove bits l k a plan) (sym begins)
+      (subst (λ (f : Records). MeetsMove bits (record old { unit = true }) f a plan) (sym records) (meets_move settled))
+
+  -- ---- the key was moved, and the unit accepted
+  module _ (laws : FieldLaws) (stays : StayLeavesCleared) (others : OthersStayCleared) (mid new : Ledger H) (n o : Records) (key : PlanKey) (b : AttributeTrees) (type : b.type ≡ a.type)
+      (few : plan.place.stage.phase < PHASES) (next : key_past plan.place.key (keys_at m a plan.place.stage.phase) ≡ Some key)
+      (part : MovesPart bits plan.victim (record old { unit = true }) mid m n a b)
+      (cleared : IsClearedField bits plan.victim (record { stage = plan.place.stage; key = key }) plan.place.stage.field n b)
+      (accepts : Accepts mid new n o) (keeps : KeepsStore old new) where
+    abbrev i : ℕ
+    i = plan.place.stage.field
+
+    abbrev after : List AttributeTrees
+    after = set trees i b
+
+    abbrev place : Place
+    place = record { stage = plan.place.stage; key = key }
+
+    apart_stays : (j : ℕ) (c : AttributeTrees) → j ≢ i → slice_get trees j ≡ Some c → SameAt ((part_of c).reach m) m n
+    apart_stays = other_stays laws bits plan.victim (record old { unit = true }) mid m n fields trees root i a b at holds.are_fields begun_owns begun_refer part
+
+    parts_stay : AllStay (parts_of after) n o
+    parts_stay = all_stay laws bits plan.victim (record old { unit = true }) mid m n fields trees root i a b at holds.are_fields begun_owns begun_refer part new o accepts
+
+    mid_each : AllByRecursion (IsFieldAt n) after
+    mid_each = (mid_are laws bits plan.victim (record old { unit = true }) mid m n fields trees root i a b at holds.are_fields begun_owns begun_refer part).each
+
+    one_stays : (list : List AttributeTrees) → AllStay (parts_of list) n o → (j : ℕ) (c : AttributeTrees) → slice_get list j ≡ Some c → SameAt ((part_of c).reach n) n o
+    one_stays [] stay j c there = cc
+    one_stays (x ∷ list) stay zero c there = subst (λ (y : AttributeTrees). SameAt ((part_of y).reach n) n o) (some_is x c there) stay.0
+    one_stays (x ∷ list) stay (suc j) c there = one_stays list stay.1 j c there
+
+    is_b : (j : ℕ) (c : AttributeTrees) → j ≡ i → slice_get after j ≡ Some c → b ≡ c
+    is_b j c e there = some_is b c (sym (get_set-same trees i a b at) ∙ ap (slice_get after) (sym e) ∙ there)
+
+    was : (j : ℕ) (c : AttributeTrees) → j ≢ i → slice_get after j ≡ Some c → slice_get trees j ≡ Some c
+    was j c apart there = sym (get_set-other trees i j b apart) ∙ there
+
+    -- in the unit
+    mid_cleared : IsCleared bits plan.victim place n after
+    mid_cleared j c there = elim (cases_eq j i) [
+      | inl e ↦ subst (λ (f : ℕ). IsClearedField bits plan.victim place f n c) (sym e)
+          (subst (λ (d : AttributeTrees). IsClearedField bits plan.victim place i n d) (is_b j c e there) cleared)
+      | inr apart ↦ (let here = was j c apart there in
+          let is = all_at (IsFieldAt m) trees j c holds.are_fields.each here in
+          stays bits plan.victim j place m n c is (apart_stays j c apart here) (others bits plan.victim j plan.place key m c is (λ e. apart (sym e)) (way.cleared j c here)))
+    ]
+
+    new_cleared : IsCleared bits plan.victim place o after
+    new_cleared j c there = stays bits plan.victim j place n o c (all_at (IsFieldAt n) after j c mid_each there) (one_stays after parts_stay j c there) (mid_cleared j c there)
+
+    mid_keys : (j : ℕ) (c d : AttributeTrees) → slice_get trees j ≡ Some c → slice_get after j ≡ Some d → (phase : ℕ) → keys_at n d phase ≡ keys_at m c phase
+    mid_keys j c d here there phase = elim (cases_eq j i) [
+      | inl e ↦ (let first : a ≡ c = some_is a c (sym at ∙ ap (slice_get trees) (sym e) ∙ here) in
+          subst (λ (x : AttributeTrees). keys_at n d phase ≡ keys_at m x phase) first
+          (subst (λ (y : AttributeTrees). keys_at n y phase ≡ keys_at m a phase) (is_b j d e there) (part.keys phase)))
+      | inr apart ↦ (let same : c ≡ d = some_is c d (sym here ∙ was j d apart there) in
+          subst (λ (y : AttributeTrees). keys_at n y phase ≡ keys_at m c phase) same (keys_stay m n c (apart_stays j c apart here) phase))
+    ]
+
+    typed : IfSome (slice_get after i) (λ c. HasType c.type key)
+    typed = subst (λ o. IfSome o (λ (c : AttributeTrees). HasType c.type key)) (sym (get_set-same trees i a b at))
+        (subst (λ (t : ValueType). HasType t key) (sym type) (next_fits m a plan.place key few next).0)
+
+    pub unit_compacts : CompactsTo bits new m o fields trees after root (record { victim = plan.victim; fields = plan.fields; place = place })
+    unit_compacts = record {
+      holds = new_holds laws bits plan.victim (record old { unit = true }) mid m n fields trees root i a b at holds.are_fields begun_owns begun_refer part new o accepts old way.sealed
+          (λ r. refl) holds.owns keeps.sealed (keeps.unit ∙ holds.unit) (keeps.finished ∙ way.unfinished);
+      under_way = record {
+        sealed = ap (λ (s : ℕ → Bool). s plan.victim) keeps.sealed ∙ way.sealed;
+        unfinished = keeps.finished ∙ way.unfinished;
+        all = way.all ∙ sym (set_length trees i b);
+        typed = typed;
+        cleared = new_cleared;
+      };
+      table = new_table laws bits plan.victim (record old { unit = true }) mid m n fields trees root i a b at holds.are_fields begun_owns begun_refer part new o accepts;
+      keys = all_keep m o trees after (set_length trees i b) (λ j c d here there phase. keys_stay n o d (one_stays after parts_stay j d there) phase ∙ mid_keys j c d here there phase);
+    }
+
+-- ---- what the move says, as of the state before the unit
+key_lies : (bits victim dictionary : ℕ) (m : Records) (left : List ℕ) → AllByRecursion (IsKeyIn bits victim m dictionary) left → (r : ℕ) → Among r left → buffer_of bits r ≡ victim
+key_lies bits victim dictionary m [] all r among = absurd among
+key_lies bits victim dictionary m (q ∷ left) all r (inl e) = ap (buffer_of bits) e ∙ all.0.lies
+key_lies bits victim dictionary m (q ∷ left) all r (inr later) = key_lies bits victim dictionary m left all.1 r later
+
+part_moved : {H : Type 0} (bits victim : ℕ) (old mid : Ledger H) (m n : Records) (a b : AttributeTrees) → b.kind ≡ a.kind → b.type ≡ a.type
+    → MovesField bits victim a.kind a.type old mid m n a.documents a.dictionary b.documents b.dictionary → MovesPart bits victim old mid m n a b
+part_moved bits victim old mid m n a b kind type moves = record {
+  left = moves.left;
+  left_in = key_lies bits victim a.dictionary m moves.left moves.left_in;
+  is_field = subst (λ (k : Kind). IsField k b.type n b.documents b.dictionary) (sym kind)
+      (subst (λ (t : ValueType). IsField a.kind t n b.documents b.dictionary) (sym type) moves.field_is);
+  column_is = ap (λ (k : Kind). column_at k b.type n b.documents) kind ∙ ap (λ (t : ValueType). column_at a.kind t n b.documents) type ∙ moves.column_is;
+  refers = λ r among. moves.refers r (subst (λ (k : Kind). Among r (documents_refer k n b.documents)) kind among);
+  keys = λ phase. ap (λ (t : ValueType). phase_keys t n b.documents b.dictionary phase) type ∙ moves.keys_are phase;
+  turns = subst (λ (k : Kind). Turns old mid m n (part_of a ∷ []) (field_part k b.documents b.dictionary ∷ entries moves.left ∷ [])) (sym kind) moves.turns;
+}
+
+pub part_begun : {H : Type 0} (bits victim : ℕ) (old begun mid : Ledger H) (m k n : Records) (a b : AttributeTrees) → b.kind ≡ a.kind → b.type ≡ a.type
+    → begun ≡ record old { unit = true } → k ≡ m
+    → MovesField bits victim a.kind a.type begun mid k n a.documents a.dictionary b.documents b.dictionary → MovesPart bits victim (record old { unit = true }) mid m n a b
+part_begun bits victim old begun mid m k n a b kind type begins records moves =
+    subst (λ (l : Ledger _). MovesPart bits victim l mid m n a b) begins
+    (subst (λ (f : Records). MovesPart bits victim begun mid f n a b) records (part_moved bits victim begun mid k n a b kind type moves))
+
+-- ---- what a full store has to spare
+few_below : {H : Type 0} (new : Ledger H) (e : StoreError) → SparesAtMost new 25 1 e → SparesBelow new 34 e
+few_below new (Full width active held oldest) spares = told (nat_eq width NODE_WORDS) spares
+  where
+    told : (t : Bool) → (new.of_width width).spare ≤ cond t 25 1 → (new.of_width width).spare < 34
+    told true most = omega arith
+    told false most = omega arith
+few_below new Memory spares = tt
+
+pub spares_begun : {H : Type 0} (old begun mid new : Ledger H) → begun ≡ record old { unit = true } → MakesFew begun mid 25 1 → (m o : Records) (e : StoreError) → IsSettled old m
+    → RefusesSome begun mid e → Undoes mid new o → SparesBelow new 34 e
+spares_begun old begun mid new begins made m o e settled refuses undoes =
+    few_below new e (spares_unit old begun mid new 25 1 begins made m o e settled refuses undoes)

@@ -1,0 +1,116 @@
+use Rattle.std.proofs.Common.{◌≡◌, Option, None, Some, Result, Ok, Err, refl, ap, subst, ◌∙◌, arith}
+use Rattle.std.specs.Option.{IfNone, IfSome}
+use Rattle.store_api.specs.declared.store.StoreError.{StoreError}
+use Rattle.attr_compaction.specs.Places.{PlanView}
+use Rattle.attr_steps.specs.Fields.{trees_of}
+use Rattle.compact_steps.specs.Compactions.{BeginsNone, Opens}
+use Rattle.compact_steps.specs.Walks.{Walks}
+use Rattle.compact_steps.specs.declared.walk.Walk.{Walk}
+use Rattle.compact_steps.specs.declared.walk.Walk.TheVariants.{Over, Visited}
+use Rattle.compact_steps.proofs.OpenLemmas.{goes_to, step_over, step_refused, stops_then}
+use Rattle.compact_steps.proofs.stepping.compact.Goals as goal
+
+pub open_plan-requires : goal.open_plan-requires
+open_plan-requires g c = (omega arith, (omega arith, (c.requires.few, (c.requires.holds, (c.requires.under_way, (c.requires.last, c.requires.unfinished))))))
+
+pub returns-in_default-clause-sized : goal.returns-in_default-clause-sized
+returns-in_default-clause-sized g c = c.requires.sized
+
+pub returns-in_default-clause-compacts : goal.returns-in_default-clause-compacts
+returns-in_default-clause-compacts g c =
+    let old = c.args.store.now in
+    let mid = c.open_plan.new.store in
+    let none = subst (λ (o : Option PlanView). IfNone o (BeginsNone g.row.OFFSET_BITS (g.S.Store.ledger old) c.args.before (mid ≡ old))) c.in_default.is c.open_plan.ensures.none in
+    record { none = none; gone = refl; trees_are = refl }
+
+pub visit_keys-requires : goal.visit_keys-requires
+visit_keys-requires g c =
+    let ledger = g.S.Store.ledger in
+    let records = g.S.Frozen.records in
+    let old = c.args.store.now in
+    let mid = c.open_plan.new.store in
+    let fields = c.args.fields.now in
+    let trees = trees_of fields c.args.roots.now in
+    let opens = subst (λ (o : Option PlanView). IfSome o (Opens g.row.OFFSET_BITS c.args.root (ledger old) (ledger mid) (records old) (records mid) fields trees c.args.before)) c.in-Some.is c.open_plan.ensures.opens in
+    (omega arith, (omega arith, (c.requires.sized, (opens.holds, (opens.under_way, opens.last)))))
+
+pub end_plan-buffer-requires : goal.end_plan-buffer-requires
+end_plan-buffer-requires g c =
+    let ledger = g.S.Store.ledger in
+    let records = g.S.Frozen.records in
+    let old = c.args.store.now in
+    let mid = c.open_plan.new.store in
+    let new = c.visit_keys.new.store in
+    let fields = c.args.fields.now in
+    let trees = trees_of fields c.args.roots.now in
+    let next = trees_of fields c.visit_keys.new.roots in
+    let opens = subst (λ (o : Option PlanView). IfSome o (Opens g.row.OFFSET_BITS c.args.root (ledger old) (ledger mid) (records old) (records mid) fields trees c.args.before)) c.in-Some.is c.open_plan.ensures.opens in
+    let walks : (r : _) → c.visit_keys.result ≡ r → Walks g.row.OFFSET_BITS c.args.root (ledger mid) (ledger new) (records mid) (records new) fields trees next c.in-Some.plan c.visit_keys.new.plan c.args.keys r =
+    λ r e. subst (λ (x : Result Walk StoreError). Walks g.row.OFFSET_BITS c.args.root (ledger mid) (ledger new) (records mid) (records new) fields trees next c.in-Some.plan c.visit_keys.new.plan c.args.keys x) e
+    c.visit_keys.ensures.walks in
+    let over = walks (Ok Over) (c.in-Ok-Over.is ∙ ap Ok c.in-Ok-Over.field-0-is) in
+    (omega arith, (omega arith, (over.visits.holds, (over.visits.under_way, (over.visits.last, over.over)))))
+
+pub returns-in-Ok-Visited-clause-sized : goal.returns-in-Ok-Visited-clause-sized
+returns-in-Ok-Visited-clause-sized g c = c.visit_keys.ensures.sized
+
+pub returns-in-Ok-Visited-clause-compacts : goal.returns-in-Ok-Visited-clause-compacts
+returns-in-Ok-Visited-clause-compacts g c =
+    let ledger = g.S.Store.ledger in
+    let records = g.S.Frozen.records in
+    let old = c.args.store.now in
+    let mid = c.open_plan.new.store in
+    let new = c.visit_keys.new.store in
+    let fields = c.args.fields.now in
+    let trees = trees_of fields c.args.roots.now in
+    let next = trees_of fields c.visit_keys.new.roots in
+    let opens = subst (λ (o : Option PlanView). IfSome o (Opens g.row.OFFSET_BITS c.args.root (ledger old) (ledger mid) (records old) (records mid) fields trees c.args.before)) c.in-Some.is c.open_plan.ensures.opens in
+    let walks : (r : _) → c.visit_keys.result ≡ r → Walks g.row.OFFSET_BITS c.args.root (ledger mid) (ledger new) (records mid) (records new) fields trees next c.in-Some.plan c.visit_keys.new.plan c.args.keys r =
+    λ r e. subst (λ (x : Result Walk StoreError). Walks g.row.OFFSET_BITS c.args.root (ledger mid) (ledger new) (records mid) (records new) fields trees next c.in-Some.plan c.visit_keys.new.plan c.args.keys x) e
+    c.visit_keys.ensures.walks in
+    let is = walks (Ok (Visited c.in-Ok-Visited.visited c.in-Ok-Visited.stop)) (c.in-Ok-Visited.is ∙ ap Ok c.in-Ok-Visited.field-0-is) in (
+      goes_to g.row.OFFSET_BITS c.args.root (ledger old) (ledger mid) (ledger new) (records old) (records mid) (records new) fields trees next c.args.before c.in-Some.plan c.visit_keys.new.plan opens c.in-Ok-Visited.visited is.0 (Some c.visit_keys.new.plan) refl,
+      stops_then g.row.OFFSET_BITS c.args.root (ledger old) (ledger mid) (ledger new) (records old) (records mid) (records new) fields trees next c.args.before c.in-Some.plan c.visit_keys.new.plan opens c.args.keys c.in-Ok-Visited.visited c.in-Ok-Visited.stop is.1,
+    )
+
+pub returns-in-Ok-Over-clause-sized : goal.returns-in-Ok-Over-clause-sized
+returns-in-Ok-Over-clause-sized g c = c.visit_keys.ensures.sized
+
+pub returns-in-Ok-Over-clause-compacts : goal.returns-in-Ok-Over-clause-compacts
+returns-in-Ok-Over-clause-compacts g c =
+    let ledger = g.S.Store.ledger in
+    let records = g.S.Frozen.records in
+    let old = c.args.store.now in
+    let mid = c.open_plan.new.store in
+    let new = c.visit_keys.new.store in
+    let fields = c.args.fields.now in
+    let trees = trees_of fields c.args.roots.now in
+    let next = trees_of fields c.visit_keys.new.roots in
+    let opens = subst (λ (o : Option PlanView). IfSome o (Opens g.row.OFFSET_BITS c.args.root (ledger old) (ledger mid) (records old) (records mid) fields trees c.args.before)) c.in-Some.is c.open_plan.ensures.opens in
+    let walks : (r : _) → c.visit_keys.result ≡ r → Walks g.row.OFFSET_BITS c.args.root (ledger mid) (ledger new) (records mid) (records new) fields trees next c.in-Some.plan c.visit_keys.new.plan c.args.keys r =
+    λ r e. subst (λ (x : Result Walk StoreError). Walks g.row.OFFSET_BITS c.args.root (ledger mid) (ledger new) (records mid) (records new) fields trees next c.in-Some.plan c.visit_keys.new.plan c.args.keys x) e
+    c.visit_keys.ensures.walks in
+    let over = walks (Ok Over) (c.in-Ok-Over.is ∙ ap Ok c.in-Ok-Over.field-0-is) in
+    let end = c.end_plan-buffer.new.store in
+    let told = c.end_plan-buffer.ensures in
+    step_over g.row.OFFSET_BITS c.args.root (ledger old) (ledger mid) (ledger new) (records old) (records mid) (records new) fields trees next c.args.before c.in-Some.plan c.visit_keys.new.plan opens None c.args.keys c.end_plan-buffer.result (ledger end) (records end) over refl told.buffer told.ledger told.records told.holds told.apart
+
+pub returns-in-Err-clause-sized : goal.returns-in-Err-clause-sized
+returns-in-Err-clause-sized g c = c.visit_keys.ensures.sized
+
+pub returns-in-Err-clause-compacts : goal.returns-in-Err-clause-compacts
+returns-in-Err-clause-compacts g c =
+    let ledger = g.S.Store.ledger in
+    let records = g.S.Frozen.records in
+    let old = c.args.store.now in
+    let mid = c.open_plan.new.store in
+    let new = c.visit_keys.new.store in
+    let fields = c.args.fields.now in
+    let trees = trees_of fields c.args.roots.now in
+    let next = trees_of fields c.visit_keys.new.roots in
+    let opens = subst (λ (o : Option PlanView). IfSome o (Opens g.row.OFFSET_BITS c.args.root (ledger old) (ledger mid) (records old) (records mid) fields trees c.args.before)) c.in-Some.is c.open_plan.ensures.opens in
+    let walks : (r : _) → c.visit_keys.result ≡ r → Walks g.row.OFFSET_BITS c.args.root (ledger mid) (ledger new) (records mid) (records new) fields trees next c.in-Some.plan c.visit_keys.new.plan c.args.keys r =
+    λ r e. subst (λ (x : Result Walk StoreError). Walks g.row.OFFSET_BITS c.args.root (ledger mid) (ledger new) (records mid) (records new) fields trees next c.in-Some.plan c.visit_keys.new.plan c.args.keys x) e
+    c.visit_keys.ensures.walks in
+    let is = walks (Err c.in-Err.error) c.in-Err.is in
+    step_refused g.row.OFFSET_BITS c.args.root (ledger old) (ledger mid) (ledger new) (records old) (records mid) (records new) fields trees next c.args.before c.in-Some.plan c.visit_keys.new.plan opens (Some c.visit_keys.new.plan) c.in-Err.error refl is

@@ -1,0 +1,4 @@
+pub mod Units
+pub mod Walks
+pub mod Compactions
+pub mod LeavesCleared

@@ -1,0 +1,76 @@
+-- A compaction of attributes under way, and what one turn of it makes.
+use Rattle.std.specs.Prelude.{◌≡◌, ℕ, ◌<◌, true, List, length, slice_get, Option, None, Some, unwrap_or}
+use Rattle.std.specs.List.{AllZip}
+use Rattle.std.specs.Option.{IfSome, option_and_then}
+use Rattle.std.specs.declared.cmp.Ordering.TheVariants.{Less}
+use Rattle.image_base.specs.Records.{Records}
+use Rattle.store_api.specs.Ledgers.{Ledger}
+use Rattle.store_api.specs.declared.store.StoreError.{StoreError}
+use Rattle.store_api.specs.declared.store.StoreError.TheVariants as errors
+use Rattle.attr_cleared.specs.Cleared.{IsCleared}
+use Rattle.attr_compaction.specs.Places.{place_after, place_cmp, Place, PlanView}
+use Rattle.attr_compaction.specs.declared.plan.PlanKey.{PlanKey}
+use Rattle.attr_compaction.specs.declared.plan.PlanKey.TheVariants.{Start}
+use Rattle.attr_images.specs.Tables.{AttributeTrees}
+use Rattle.attr_types.specs.declared.field.Field.{Field}
+use Rattle.plan_keys.specs.PhaseKeys.{key_past, phase_keys, HasType}
+use Rattle.attr_steps.specs.Fields.{HoldsAttributes}
+use Rattle.attr_steps.specs.Views.{table_at}
+use Rattle.compact_steps.specs.declared.unit.Turn.{Turn}
+use Rattle.compact_steps.specs.declared.unit.Turn.TheVariants.{Moved, PhaseOver}
+
+-- an attribute's keys of a phase
+abbrev pub keys_at : Records → AttributeTrees → ℕ → List PlanKey
+keys_at m a phase = phase_keys a.type m a.documents a.dictionary phase
+
+-- the key that a place goes on to: the first of its phase that is past it, none where the phase is over
+abbrev pub next_at : Records → List AttributeTrees → Place → Option PlanKey
+next_at m trees at = option_and_then (λ a. key_past at.key (keys_at m a at.stage.phase)) (slice_get trees at.stage.field)
+
+-- attributes are emptied out of a sealed buffer: what they reach of it is past the plan's place, whose key is of its attribute's type
+pub record IsUnderWay {H : Type 0} (bits : ℕ) (ledger : Ledger H) (m : Records) (trees : List AttributeTrees) (plan : PlanView)
+    : Type 0 where
+  pub sealed : ledger.sealed plan.victim ≡ true
+  pub unfinished : ledger.finished ≡ None
+  pub all : plan.fields ≡ length trees
+  pub typed : IfSome (slice_get trees plan.place.stage.field) (λ a. HasType a.type plan.place.key)
+  pub cleared : IsCleared bits plan.victim plan.place m trees
+
+-- what a turn came to
+abbrev pub turn_of : Option PlanKey → Turn
+turn_of None = PhaseOver
+turn_of (Some key) = Moved
+
+-- the plan went on to the next key, or where the phase had none to the next phase
+pub record GoesOn (old new : PlanView) (next : Option PlanKey) (turn : Turn) : Type 0 where
+  pub turn_is : turn ≡ turn_of next
+  pub victim : new.victim ≡ old.victim
+  pub fields : new.fields ≡ old.fields
+  pub place : new.place ≡ place_after old.fields old.place (unwrap_or next Start)
+  pub rises : place_cmp old.place new.place ≡ Less
+
+-- each attribute has the keys in each phase that it had
+abbrev pub KeepKeys : Records → Records → List AttributeTrees → List AttributeTrees → Type 0
+KeepKeys m n trees next = AllZip (λ a b. (phase : ℕ) → keys_at n b phase ≡ keys_at m a phase) trees next
+
+-- attributes stand in place of others: they read the same, have the same keys, and all up to the plan's place lies elsewhere
+pub record CompactsTo {H : Type 0} (bits : ℕ) (new : Ledger H) (m n : Records) (fields : List Field)
+    (trees next : List AttributeTrees) (root : ℕ) (plan : PlanView) : Type 0 where
+  pub holds : HoldsAttributes bits new n fields next root
+  pub under_way : IsUnderWay bits new n next plan
+  pub table : table_at n next ≡ table_at m trees
+  pub keys : KeepKeys m n trees next
+
+-- the plan once a key of the place's phase was visited
+abbrev pub plan_at : PlanView → PlanKey → PlanView
+plan_at plan key = record { victim = plan.victim; fields = plan.fields; place = record { stage = plan.place.stage; key = key } }
+
+-- a store that was full for a width has fewer entries of it to spare than this
+abbrev pub SparesBelow : {H : Type 0} → Ledger H → ℕ → StoreError → Type 0
+SparesBelow new few (errors.Full width active held oldest) = (new.of_width width).spare < few
+SparesBelow new few errors.Memory = Unit {0}
+
+-- where a phase was over nothing else was changed
+abbrev pub LeavesAtEnd : Type 0 → Type 0 → Turn → Type 0
+LeavesAtEnd store roots PhaseOver = store × roots
+LeavesAtEnd store roots Moved = Unit {0}

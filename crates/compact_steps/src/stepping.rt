@@ -1,0 +1,74 @@
+//! A step of a compaction.
+ghost use Rattle.std.specs.Prelude.{◌≡◌, ◌≤◌, None, length, IfSome};
+ghost use Rattle.attr_steps.specs.Fields.{HoldsAttributes, trees_of};
+ghost use Rattle.attr_types.specs.declared.field.TheConstants.{MOST_FIELDS};
+ghost use Rattle.compact_steps.specs.Units.{IsUnderWay};
+ghost use Rattle.compact_steps.specs.Walks.{HasLastField};
+ghost use Rattle.compact_steps.specs.Compactions.{Compacts};
+
+use crate::ending::end_plan;
+use crate::opening::open_plan;
+use crate::walk::{Walk, visit_keys};
+use attr_compaction::Plan;
+use attr_field::FieldRoots;
+use attr_types::Field;
+use entry_ref::EntryRef;
+use std::alloc::Global;
+use store_api::{Store, StoreError};
+
+/// What a step came to.
+#[derive(Clone, Copy, Debug, PartialEq, Eq, Drop)]
+pub enum Step {
+    /// None is under way, and none was worth it.
+    Idle,
+    /// So many keys were visited; where there is a refusal, the next one met it.
+    Moved { keys: u32, stop: Option<StoreError> },
+    /// No key is left, and nothing of this buffer is reached.
+    Finished(u32),
+}
+
+/// Visits so many keys of a compaction, which is begun where none is under way. The answer is the compaction that is under way
+/// then, and what the step came to; it is refused where the first key was.
+#[tactic(none)]
+pub fn compact<const OFFSET_BITS: u32, S: Store<OFFSET_BITS>>(
+    alloc: Global,
+    store: &mut S,
+    fields: &[Field],
+    roots: &mut [FieldRoots<OFFSET_BITS>],
+    root: EntryRef<OFFSET_BITS>,
+    before: Option<Plan>,
+    keys: u32,
+) -> (Option<Plan>, Result<Step, StoreError>)
+    requires sized { length roots.old ≡ length fields.now }
+    requires few { length fields.now ≤ MOST_FIELDS }
+    requires holds { HoldsAttributes OFFSET_BITS (S.ledger store.old) (S.records store.old) fields.now (trees_of fields.now roots.old) root }
+    requires under_way { IfSome before (IsUnderWay OFFSET_BITS (S.ledger store.old) (S.records store.old) (trees_of fields.now roots.old)) }
+    requires last { IfSome before HasLastField }
+    requires unfinished { (S.ledger store.old).finished ≡ None }
+    ensures sized { length roots.new ≡ length fields.now }
+    ensures compacts { Compacts OFFSET_BITS root.entry (S.ledger store.old) (S.ledger store.new) (S.records store.old) (S.records store.new)
+        fields.now (trees_of fields.now roots.old) (trees_of fields.now roots.new) before result.0 (store.new ≡ store.old) keys result.1 }
+{
+    let Some(mut plan) = open_plan(store, fields, roots, root, before) else {
+        return (None, Ok(Step::Idle));
+    };
+    match visit_keys(alloc, store, fields, roots, root, &mut plan, keys) {
+        Ok(
+            Walk::Visited {
+                keys: visited,
+                stop,
+            },
+        ) => (
+            Some(plan),
+            Ok(Step::Moved {
+                keys: visited,
+                stop,
+            }),
+        ),
+        Ok(Walk::Over) => {
+            let buffer = end_plan(store, fields, roots, root, &plan);
+            (None, Ok(Step::Finished(buffer)))
+        }
+        Err(error) => (Some(plan), Err(error)),
+    }
+}

@@ -1,0 +1,4 @@
+pub mod KeyLemmas
+pub mod FieldLemmas
+pub mod MakeLemmas
+pub mod MoveLemmas
