@@ -9,7 +9,8 @@ use Rattle.attr_changes.specs.declared.applied.Applied.TheVariants.{Changed, Ski
 use Rattle.attr_types.specs.Table.{Table, after_op, step}
 use Rattle.attr_types.specs.declared.field.Field.{Field}
 use Rattle.attr_types.specs.declared.op.Op.{Op}
-use Rattle.attribute_kinds.specs.Calls.{RefusesUnit, RefusesOperation, applied_to}
+use Rattle.attr_steps.specs.Calls.{RefusesUnit}
+use Rattle.attribute_kinds.specs.Calls.{RefusesOperation, applied_to}
 use Rattle.attribute_kinds.specs.Refusals.{refusal_of}
 use Rattle.attribute_kinds.specs.declared.answers.AttrError.{AttrError}
 

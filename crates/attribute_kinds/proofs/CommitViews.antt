@@ -13,11 +13,11 @@ use Rattle.attr_images.specs.Shapes.{shape_of, types_of}
 use Rattle.attr_images.specs.Words.{class_of}
 use Rattle.attr_types.specs.declared.field.Field.{Field}
 use Rattle.attribute_kinds.specs.Calls.{CommitsImage, IsForRoot, RefusesCommit}
-use Rattle.attribute_kinds.specs.Commits.{CommitsAttributes, IsForWidth, RefusesRoot}
-use Rattle.attribute_kinds.specs.Fields.{trees_of}
+use Rattle.attr_steps.specs.Commits.{CommitsAttributes, IsForWidth, RefusesRoot}
+use Rattle.attr_steps.specs.Fields.{trees_of}
 use Rattle.attribute_kinds.specs.Refusals.{refusal_of}
 use Rattle.attribute_kinds.specs.Standing.{StandsAttribute}
-use Rattle.attribute_kinds.specs.Views.{table_at}
+use Rattle.attr_steps.specs.Views.{table_at}
 use Rattle.attribute_kinds.specs.declared.answers.AttrError.{AttrError}
 use Rattle.attribute_kinds.specs.declared.answers.AttrError.TheVariants.{CommitsSpent}
 use Rattle.attribute_kinds.specs.declared.answers.CommitInfo.{CommitInfo}

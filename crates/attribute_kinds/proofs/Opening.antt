@@ -2,13 +2,14 @@
 use Rattle.std.proofs.Common.{◌≡◌, ℕ, zero, suc, ◌<◌, ◌≤◌, List, [], ◌∷◌, length, replicate, refl, sym, ap, subst, ◌∙◌, arith}
 use Rattle.std.specs.List.{AllByRecursion}
 use Rattle.std.specs.Map.{keys_of}
+use Rattle.entry_ref.specs.References.{buffer_of}
 use Rattle.image_base.specs.Images.{no_image}
 use Rattle.image_base.specs.Records.{Records}
 use Rattle.image_base.specs.declared.Image.{Image}
 use Rattle.arena_api.specs.Calls.{IsFresh}
 use Rattle.arena_api.specs.Works.{WorkView, last_image}
-use Rattle.store_api.specs.Ledgers.{Ledger, IsNew}
-use Rattle.store_api.specs.Parts.{count_in, times}
+use Rattle.store_api.specs.Ledgers.{Ledger, IsNew, is_this}
+use Rattle.store_api.specs.Parts.{Part, count_in, entries, times}
 use Rattle.store_api.specs.Statuses.{in_use}
 use Rattle.store_api.proofs.Uses.{uses-out}
 use Rattle.attr_field.specs.Laws.{NothingIsField}
@@ -18,10 +19,10 @@ use Rattle.attr_images.specs.Tables.{HaveSameDocuments, columns_at, table_of_col
 use Rattle.attr_index.specs.Columns.{Column}
 use Rattle.attr_types.specs.declared.field.TheConstants.{MOST_FIELDS}
 use Rattle.attr_types.specs.declared.field.Field.{Field}
-use Rattle.attribute_kinds.specs.Fields.{AreFields, IsFieldAt, no_roots, parts_of, trees_of}
+use Rattle.attr_steps.specs.Fields.{AllReferBeside, AreFields, IsFieldAt, no_roots, parts_of, trees_of}
 use Rattle.attribute_kinds.specs.Standing.{StandsAttribute}
-use Rattle.attribute_kinds.specs.Views.{table_at}
-use Rattle.attribute_kinds.proofs.TreeLists.{trees_length}
+use Rattle.attr_steps.specs.Views.{table_at}
+use Rattle.attr_steps.proofs.TreeLists.{trees_length}
 
 module _ (laws : NothingIsField) (bits : ℕ) (m : Records) where
   abbrev none : ℕ → List (FieldRoots bits)
@@ -38,6 +39,10 @@ module _ (laws : NothingIsField) (bits : ℕ) (m : Records) where
   owns_none : (fields : List Field) (r : ℕ) → count_in r m (parts_of (trees_of fields (none (length fields)))) ≡ 0
   owns_none [] r = refl
   owns_none (field ∷ fields) r = let here = ap (times r) (laws field.kind field.value m).2 in let rest = owns_none fields r in omega arith
+
+  refers_none : {H : Type 0} (ledger : Ledger H) (p : List Part) (fields : List Field) → AllReferBeside ledger m (trees_of fields (none (length fields))) p
+  refers_none ledger p [] = tt
+  refers_none ledger p (field ∷ fields) = (record { each = λ r among. absurd among }, refers_none ledger p fields)
 
   same_empty : (columns : List Column) → AllByRecursion (λ (column : Column). column ≡ []) columns → HaveSameDocuments columns
   same_empty [] all = tt
@@ -80,9 +85,13 @@ module _ (laws : NothingIsField) (bits : ℕ) (m : Records) where
         shape = shape;
         holds = record {
           are_fields = fields_opened fields some;
-          owns = record { each = λ r. let unused = uses-out ledger r (ap in_use (new.status r)) in let owned = owns_none fields r in omega arith };
+          owns = record {
+            each = λ r. let unused = uses-out ledger r (ap in_use (new.status r)) in let owned = owns_none fields r in omega arith;
+            all = λ r unsealed. let unused = uses-out ledger r (ap in_use (new.status r)) in omega arith;
+          };
+          refer = refers_none ledger (entries [] ∷ parts_of (trees_of fields (none (length fields)))) fields;
           unit = new.unit;
-          finished = new.finished;
+          apart = λ r among. ap (λ f. is_this f (buffer_of bits r)) new.finished;
         };
         last = record {
           root_is = ap (λ (i : Image). i.root) image;

@@ -1,13 +1,10 @@
 -- What an operation makes, and what a store that refused it had.
-use Rattle.std.proofs.Common.{◌≡◌, ℕ, ℤ, zero, suc, ◌+◌, ◌*◌, ◌/◌, ◌<◌, ◌≤◌, Bool, true, false, cond, nat_eq, nat_cmp, List, [], ◌∷◌, length, Option, Some, None, option_map, refl, sym, ap, subst, ◌∙◌, arith, inl, inr, suc-mul}
+use Rattle.std.proofs.Common.{◌≡◌, ℕ, ℤ, suc, ◌+◌, ◌*◌, ◌<◌, ◌≤◌, Bool, true, false, cond, nat_eq, List, [], ◌∷◌, length, Option, Some, None, refl, sym, ap, subst, arith, inl, inr, suc-mul}
 use Rattle.std.proofs.Math.Nat.{mul-le-mul_right}
 use Rattle.std.proofs.lemmas.Bool.{cases_lt}
-use Rattle.std.proofs.lemmas.Cmp.{nat_cmp_total, tied_itself}
 use Rattle.std.proofs.lemmas.List.Sums.{count_by-le-length}
 use Rattle.std.proofs.lemmas.Nat.{le-div}
-use Rattle.std.specs.Option.{IfSome, unwrap_or}
-use Rattle.std.specs.Ordering.{is_eq}
-use Rattle.std.specs.Prelude.{min}
+use Rattle.std.specs.Option.{IfSome}
 use Rattle.arena_api.specs.Works.{free_count}
 use Rattle.store_api.specs.Ledgers.{Ledger, OfWidth, buffers_in, capacity, widths}
 use Rattle.store_api.specs.Units.{MakesAtMost}
@@ -15,43 +12,23 @@ use Rattle.store_api.specs.declared.store.StoreError.{StoreError}
 use Rattle.store_api.specs.declared.store.StoreError.TheVariants.{Full, Memory}
 use Rattle.attr_field.specs.Counts.{lost_values, new_values, weight_at}
 use Rattle.attr_index.specs.Changes.{first_weights}
-use Rattle.attr_types.proofs.EntryLemmas.{lookup-remove}
-use Rattle.attr_types.proofs.TableLemmas.{Sound, put_is_there, step_keeps}
+use Rattle.attr_types.proofs.TableLemmas.{Sound, step_keeps}
 use Rattle.attr_types.specs.Lawful.{IsLawfulDocument, IsLawfulItems, OpFits}
-use Rattle.attr_types.specs.Table.{Table, after_op, document_at, op_doc, step, with_document, without_document}
+use Rattle.attr_types.specs.Table.{Table, after_op, op_doc}
 use Rattle.attr_types.specs.Value.{Document}
 use Rattle.attr_types.specs.declared.field.Field.{Field}
 use Rattle.attr_types.specs.declared.items.Item.{Item}
 use Rattle.attr_types.specs.declared.op.Op.{Op}
-use Rattle.attr_types.specs.declared.op.Op.TheVariants.{Put, Remove}
 use Rattle.attr_types.specs.declared.value.Value.{Value}
 use Rattle.attr_walks.specs.Counts.{MakesFew, is_added, is_gone}
-use Rattle.attribute_kinds.specs.Calls.{KeepsStore, RefusesUnit}
-use Rattle.attribute_kinds.specs.Counts.{document_after, document_before, document_nodes, document_records, items_at, of_width}
-use Rattle.attribute_kinds.specs.Counts.{operation_nodes, operation_records, operation_values, weights_at}
-use Rattle.attribute_kinds.specs.Counts.{IsOneSingle, LacksBuffers, MakesOperation, SparesFew, SparesOf, SparesOperation}
+use Rattle.attr_steps.specs.Calls.{KeepsStore, RefusesUnit}
+use Rattle.attr_steps.specs.Counts.{document_after, document_before, document_nodes, document_records, items_at, of_width}
+use Rattle.attr_steps.specs.Counts.{operation_nodes, operation_records, weights_at}
+use Rattle.attribute_kinds.specs.Counts.{operation_values}
+use Rattle.attr_steps.specs.Counts.{MakesOperation, SparesOperation}
+use Rattle.attribute_kinds.specs.Counts.{IsOneSingle, LacksBuffers, SparesOf}
 use Rattle.attribute_kinds.specs.Refusals.{refusal_of}
-use Rattle.attribute_kinds.proofs.StepLemmas.{found_lawful}
-
--- ---- the document after an operation
-module _ (fields : List Field) (table : Table) where
-  pub put_after : (doc : ℕ) (items : Document) → Some items ≡ document_after fields table (Put doc items)
-  put_after doc items = sym (put_is_there table doc items)
-
-  pub with_after : (op : Op) (doc : ℕ) (document : Document) → step fields table op ≡ Some (with_document table doc document)
-      → Some document ≡ document_at (after_op fields table op) doc
-  with_after op doc document is = sym (ap (λ (o : Option Table). document_at (unwrap_or o table) doc) is ∙ put_is_there table doc document)
-
-  pub without_after : (op : Op) (doc : ℕ) → Sound fields table → step fields table op ≡ Some (without_document table doc)
-      → None ≡ document_at (after_op fields table op) doc
-  without_after op doc sound is =
-      sym (ap (λ (o : Option Table). document_at (unwrap_or o table) doc) is ∙ lookup-remove nat_cmp_total table doc doc sound.0.ascends
-      ∙ ap (λ r. cond (is_eq r) None (document_at table doc)) (tied_itself nat_cmp_total doc))
-
--- ---- a bound by the documents before and after is one by the operation
-module _ (fields : List Field) (table : Table) (op : Op) (before after : Option Document) (was : before ≡ document_before table op) (is : after ≡ document_after fields table op) where
-  pub of_operation : (P : Option Document → Option Document → Type 0) → P before after → P (document_before table op) (document_after fields table op)
-  of_operation P p = subst (λ (d : Option Document). P (document_before table op) d) is (subst (λ (d : Option Document). P d after) was p)
+use Rattle.attr_steps.proofs.StepLemmas.{found_lawful}
 
 -- ---- what is to spare
 values_few : (old new : List (Value × ℤ)) → new_values old new ≤ length new

@@ -1,16 +1,11 @@
 -- What an operation and a commit make of attributes, and what a refusal leaves.
-use Rattle.std.specs.Prelude.{◌≡◌, ℕ, ◌+◌, ◌*◌, ◌<◌, ◌≤◌, true, false, if◌then◌else◌, List, length}
+use Rattle.std.specs.Prelude.{◌≡◌, ℕ, ◌+◌, ◌*◌, ◌<◌, if◌then◌else◌, List, length}
 use Rattle.image_base.specs.declared.Image.{Image}
 use Rattle.image_base.specs.Images.{words_at}
-use Rattle.image_base.specs.Records.{Records}
-use Rattle.arena_api.specs.Generations.{current}
-use Rattle.arena_api.specs.Works.{free_count, last_image, oldest_of}
+use Rattle.arena_api.specs.Works.{free_count, last_image}
 use Rattle.arena_api.specs.declared.answers.Oldest.{Oldest}
 use Rattle.store_api.specs.Calls.{StoresCommit}
-use Rattle.store_api.specs.Ledgers.{Ledger, active_count, held_count, is_width}
-use Rattle.store_api.specs.Units.{IsSameBack, KeepsCommits}
-use Rattle.store_api.specs.declared.store.StoreError.{StoreError}
-use Rattle.store_api.specs.declared.store.StoreError.TheVariants as errors
+use Rattle.store_api.specs.Ledgers.{Ledger}
 use Rattle.attr_changes.specs.declared.applied.Applied.{Applied}
 use Rattle.attr_changes.specs.declared.applied.Applied.TheVariants.{Changed, Skipped}
 use Rattle.attr_images.specs.Images.{IsLawfulImage, table_of, operations_at}
@@ -22,48 +17,13 @@ use Rattle.attr_types.specs.declared.op.Op.{Op}
 use Rattle.attribute_kinds.specs.declared.answers.AttrError.{AttrError}
 use Rattle.attribute_kinds.specs.declared.answers.AttrError.TheVariants.{Full, CommitsSpent, Memory}
 use Rattle.attribute_kinds.specs.declared.answers.CommitInfo.{CommitInfo}
+use Rattle.attr_steps.specs.Calls.{IsOutOfRoom}
+pub use Rattle.attr_steps.specs.Calls.{KeepsStore}
+pub use Rattle.compact_steps.specs.Compactions.{KeepsStoreBut}
 
 -- what becomes of an operation
 abbrev pub applied_to : List Field → Table → Op → Applied
 applied_to fields table op = if is_skipped fields table op then Skipped else Changed
-
--- the store after units: its work has the same commits and readers, and no buffer was sealed or finished
-pub record KeepsStore {H : Type 0} (old new : Ledger H) : Type 0 where
-  pub unit : new.unit ≡ old.unit
-  pub home : new.work.home ≡ old.work.home
-  pub shape : new.shape ≡ old.shape
-  pub sizes : new.work.sizes ≡ old.work.sizes
-  pub commits : KeepsCommits old.work.commits new.work.commits
-  pub told : new.work.told ≡ old.work.told
-  pub readers : new.work.made ≡ old.work.made
-  pub stops : old.work.stops ≤ new.work.stops
-  pub alone : old.work.made ≡ 0 → new.work.stops ≡ old.work.stops
-  pub sealed : new.sealed ≡ old.sealed
-  pub finished : new.finished ≡ old.finished
-
--- each entry is what it was, but that one taken or given back since is free; and so is each record
-pub record LeavesEntries {H : Type 0} (old new : Ledger H) (m n : Records) : Type 0 where
-  pub status : (r : ℕ) → IsSameBack (old.status r) (new.status r)
-  pub records : n ≡ m
-
--- the store was full for a width: no buffer is free, and all are active or on hold
-pub record IsOutOfRoom {H : Type 0} (old new : Ledger H) (width active held : ℕ) (oldest : Oldest) : Type 0 where
-  pub is_width_of : is_width width ≡ true
-  pub free : free_count new.work.buffer new.work.sizes.buffers ≡ 0
-  pub active_is : active ≡ active_count new.work.buffer new.work.sizes.buffers
-  pub held_is : held ≡ held_count new.work.buffer new.work.sizes.buffers
-  pub all : active + held ≡ new.work.sizes.buffers
-  pub unread : new.work.made ≡ 0 → current new.work < new.work.sizes.generations → held ≡ 0
-  -- the oldest open hold is the newest, or was found in use
-  pub generation : oldest.generation ≡ (oldest_of new.work.queue).generation
-  pub hold : oldest.hold ≡ (oldest_of new.work.queue).hold
-  pub newest : oldest.newest ≡ true → (length new.work.queue ≡ 1) × (oldest.found ≡ 0)
-  pub stopped : oldest.newest ≡ false → (1 < length new.work.queue) × (0 < oldest.found) × (old.work.stops < new.work.stops)
-
--- why a unit was refused: a width has no room, or memory is short
-abbrev pub RefusesUnit : {H : Type 0} → Ledger H → Ledger H → StoreError → Type 0
-RefusesUnit old new (errors.Full width active held oldest) = IsOutOfRoom old new width active held oldest
-RefusesUnit old new errors.Memory = Unit {0}
 
 -- why an operation was refused
 abbrev pub RefusesOperation : {H : Type 0} → Ledger H → Ledger H → AttrError → Type 0

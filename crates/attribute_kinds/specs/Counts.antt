@@ -1,86 +1,16 @@
--- How many records an operation makes at most, and what a store has to spare where it refused one.
-use Rattle.std.specs.Prelude.{◌≡◌, ℕ, ℤ, zero, suc, ◌+◌, ◌*◌, ◌<◌, ◌≤◌, nat_eq, if◌then◌else◌, List, [], ◌∷◌, length, Option, option_map, unwrap_or}
+-- What a store has to spare where it refused an operation, by the values that the operation is about.
+use Rattle.std.specs.Prelude.{◌≡◌, ℕ, ℤ, ◌+◌, ◌*◌, ◌<◌, ◌≤◌, if◌then◌else◌, List, [], ◌∷◌, length}
 use Rattle.arena_api.specs.Works.{free_count}
 use Rattle.store_api.specs.Ledgers.{Ledger}
-use Rattle.store_api.specs.declared.store.StoreError.{StoreError}
-use Rattle.store_api.specs.declared.store.StoreError.TheVariants as errors
-use Rattle.tree_images.specs.declared.TheConstants.{NODE_WORDS}
-use Rattle.attr_field.specs.Counts.{field_nodes, field_records, lost_values, low_nodes, StaysLow}
-use Rattle.attr_index.specs.Changes.{first_weights}
-use Rattle.attr_index.specs.Columns.{column_of}
-use Rattle.attr_types.specs.Query.{items_in}
-use Rattle.attr_types.specs.Table.{Table, after_op, document_at, op_doc}
-use Rattle.attr_types.specs.Value.{Document}
+use Rattle.attr_field.specs.Counts.{lost_values}
+use Rattle.attr_types.specs.Table.{Table}
 use Rattle.attr_types.specs.declared.field.Field.{Field}
-use Rattle.attr_types.specs.declared.items.Item.{Item}
 use Rattle.attr_types.specs.declared.kind.Kind.TheVariants.{Single}
 use Rattle.attr_types.specs.declared.op.Op.{Op}
 use Rattle.attr_types.specs.declared.value.Value.{Value}
-use Rattle.attr_walks.specs.Counts.{MakesFew}
 use Rattle.attribute_kinds.specs.declared.answers.AttrError.{AttrError}
 use Rattle.attribute_kinds.specs.declared.answers.AttrError.TheVariants.{Full, CommitsSpent, Memory}
-
--- the items that a document has in the attribute of this number, none where it is not there; and their values, with first weights
-abbrev pub items_at : Option Document → ℕ → List Item
-items_at document field = unwrap_or (option_map (λ d. items_in d field) document) []
-
-abbrev pub weights_at : Option Document → ℕ → List (Value × ℤ)
-weights_at document field = first_weights [] (items_at document field)
-
--- what a document's change from one to another makes at most, nodes and other records: the sum over the first so many attributes
-abbrev pub document_nodes : Option Document → Option Document → ℕ → ℕ
-document_nodes old new zero = 0
-document_nodes old new (suc field) = document_nodes old new field + field_nodes (weights_at old field) (weights_at new field)
-
-abbrev pub document_records : Option Document → Option Document → ℕ → ℕ
-document_records old new zero = 0
-document_records old new (suc field) = document_records old new field + field_records (weights_at old field) (weights_at new field)
-
--- no tree of the first so many attributes gets more levels while the document becomes this one: each has so few values, and so few
--- documents
-abbrev pub StayLow : ℕ → Table → Option Document → ℕ → Type 0
-StayLow levels table after count = (field : ℕ) → field < count → StaysLow levels (column_of field table) (weights_at after field)
-
--- the nodes that a document's change makes at most then
-abbrev pub low_document : ℕ → Option Document → Option Document → ℕ → ℕ
-low_document levels old new zero = 0
-low_document levels old new (suc field) = low_document levels old new field + low_nodes levels (weights_at old field) (weights_at new field)
-
--- what a document's change in the first so many attributes makes at most: whatever their trees are, and where these have few levels
-pub record MakesDocument {H : Type 0} (old new : Ledger H) (table : Table) (before after : Option Document) (count : ℕ) : Type 0 where
-  pub few : MakesFew old new (document_nodes before after count) (document_records before after count)
-  pub low : (levels : ℕ) → StayLow levels table after count
-      → MakesFew old new (low_document levels before after count) (document_records before after count)
-
--- so many nodes, or other records
-abbrev pub of_width : ℕ → ℕ → ℕ → ℕ
-of_width nodes records width = if nat_eq width NODE_WORDS then nodes else records
-
--- where a store was full for a width, it has at most so many entries of it to spare as the call ends
-abbrev pub SparesAtMost : {H : Type 0} → Ledger H → ℕ → ℕ → StoreError → Type 0
-SparesAtMost new nodes records (errors.Full width active held oldest) = (new.of_width width).spare ≤ of_width nodes records width
-SparesAtMost new nodes records errors.Memory = Unit {0}
-
--- the document that an operation is about, before it and after
-abbrev pub document_before : Table → Op → Option Document
-document_before table op = document_at table (op_doc op)
-
-abbrev pub document_after : List Field → Table → Op → Option Document
-document_after fields table op = document_at (after_op fields table op) (op_doc op)
-
-abbrev pub operation_nodes : List Field → Table → Op → ℕ
-operation_nodes fields table op = document_nodes (document_before table op) (document_after fields table op) (length fields)
-
-abbrev pub operation_records : List Field → Table → Op → ℕ
-operation_records fields table op = document_records (document_before table op) (document_after fields table op) (length fields)
-
--- what an operation makes at most, and what is to spare where it was refused
-abbrev pub MakesOperation : {H : Type 0} → Ledger H → Ledger H → List Field → Table → Op → Type 0
-MakesOperation old new fields table op =
-    MakesDocument old new table (document_before table op) (document_after fields table op) (length fields)
-
-abbrev pub SparesOperation : {H : Type 0} → Ledger H → List Field → Table → Op → StoreError → Type 0
-SparesOperation new fields table op error = SparesAtMost new (operation_nodes fields table op) (operation_records fields table op) error
+use Rattle.attr_steps.specs.Counts.{weights_at, of_width, document_before, document_after, operation_nodes, operation_records}
 
 -- how many distinct values the document's items have in the first attribute, before and after: those after, and those before that are
 -- no more

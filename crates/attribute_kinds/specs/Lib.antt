@@ -1,8 +1,6 @@
 pub mod Counts
 pub mod Views
-pub mod Fields
 pub mod Calls
-pub mod Steps
 pub mod Standing
 pub mod Refusals
-pub mod Commits
+pub mod Compacting

@@ -1,9 +1,28 @@
--- A store's refusal, as one of the attributes.
+-- A store's refusal, as one of the attributes, and what a step came to.
+use Rattle.std.specs.Prelude.{Bool, true, false, Option, Result, Ok, Err}
+use Rattle.std.specs.Option.{option_map}
 use Rattle.store_api.specs.declared.store.StoreError.{StoreError}
 use Rattle.store_api.specs.declared.store.StoreError.TheVariants as errors
+use Rattle.compact_steps.specs.declared.stepping.Step.{Step}
+use Rattle.compact_steps.specs.declared.stepping.Step.TheVariants as steps
 use Rattle.attribute_kinds.specs.declared.answers.AttrError.{AttrError}
 use Rattle.attribute_kinds.specs.declared.answers.AttrError.TheVariants.{Full, Memory}
+use Rattle.attribute_kinds.specs.declared.answers.Compacted.{Compacted}
+use Rattle.attribute_kinds.specs.declared.answers.Compacted.TheVariants.{Idle, Moved, Finished}
 
 abbrev pub refusal_of : StoreError → AttrError
 refusal_of (errors.Full width active held oldest) = Full width active held oldest
 refusal_of errors.Memory = Memory
+
+abbrev pub told_of : Result Step StoreError → Result Compacted AttrError
+told_of (Ok steps.Idle) = Ok Idle
+told_of (Ok (steps.Moved keys stop)) = Ok (Moved keys (option_map refusal_of stop))
+told_of (Ok (steps.Finished buffer)) = Ok (Finished buffer)
+told_of (Err error) = Err (refusal_of error)
+
+-- whether an emptied buffer waits for its commit from now on
+abbrev pub has_finished : Result Step StoreError → Bool
+has_finished (Ok steps.Idle) = false
+has_finished (Ok (steps.Moved keys stop)) = false
+has_finished (Ok (steps.Finished buffer)) = true
+has_finished (Err error) = false

@@ -1,15 +1,19 @@
 -- What holds of attributes between calls.
-use Rattle.std.specs.Prelude.{◌≡◌, ℕ, ◌≤◌, List, length}
+use Rattle.std.specs.Prelude.{◌≡◌, ℕ, ◌≤◌, Bool, List, length, Option, is_some}
+use Rattle.std.specs.Option.{IfSome}
 use Rattle.image_base.specs.Images.{words_at}
 use Rattle.image_base.specs.Records.{Records}
 use Rattle.arena_api.specs.Works.{last_image}
 use Rattle.store_api.specs.Ledgers.{Ledger}
+use Rattle.attr_compaction.specs.Places.{PlanView}
 use Rattle.attr_field.specs.declared.roots.FieldRoots.{FieldRoots}
 use Rattle.attr_images.specs.Images.{IsLawfulImage, operations_at}
 use Rattle.attr_images.specs.Shapes.{shape_of, types_of}
 use Rattle.attr_types.specs.declared.field.TheConstants.{MOST_FIELDS}
 use Rattle.attr_types.specs.declared.field.Field.{Field}
-use Rattle.attribute_kinds.specs.Fields.{HoldsAttributes, trees_of}
+use Rattle.attr_steps.specs.Fields.{HoldsAttributes, trees_of}
+use Rattle.compact_steps.specs.Units.{IsUnderWay}
+use Rattle.compact_steps.specs.Walks.{HasLastField}
 
 -- the last commit: its root record, its number, and how many operations it has
 pub record IsLast {H : Type 0} (ledger : Ledger H) (fields : List Field) (root commit operations : ℕ) : Type 0 where
@@ -23,5 +27,13 @@ pub record StandsAttribute {H : Type 0} {bits : ℕ} (ledger : Ledger H) (m : Re
   pub sized : length roots ≡ length fields
   pub few : length fields ≤ MOST_FIELDS
   pub shape : ledger.shape ≡ shape_of (types_of fields)
-  pub holds : HoldsAttributes ledger m fields (trees_of fields roots) root
+  pub holds : HoldsAttributes bits ledger m fields (trees_of fields roots) root
   pub last : IsLast ledger fields root commit operations
+
+-- and the compaction that is under way, or the emptied buffer that waits for its commit
+pub record IsAttribute {H : Type 0} {bits : ℕ} (ledger : Ledger H) (m : Records) (fields : List Field) (roots : List (FieldRoots bits))
+    (root commit operations : ℕ) (plan : Option PlanView) (waits : Bool) : Type 0 where
+  pub stands : StandsAttribute ledger m fields roots root commit operations
+  pub plan_is : IfSome plan (IsUnderWay bits ledger m (trees_of fields roots))
+  pub last_is : IfSome plan HasLastField
+  pub waits_is : waits ≡ is_some ledger.finished

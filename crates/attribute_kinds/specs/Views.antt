@@ -1,7 +1,7 @@
 -- Attributes as callers see them.
-use Rattle.std.specs.Prelude.{ℕ, List}
-use Rattle.image_base.specs.Records.{Records}
-use Rattle.attr_images.specs.Tables.{AttributeTrees, table_of_columns, columns_at}
+use Rattle.std.specs.Prelude.{ℕ, List, Option}
+use Rattle.attr_compaction.specs.Places.{PlanView}
+use Rattle.attr_images.specs.Tables.{AttributeTrees}
 use Rattle.attr_types.specs.Table.{Table}
 use Rattle.attr_types.specs.declared.field.Field.{Field}
 
@@ -18,7 +18,5 @@ pub record AttributeView (S : Type 0) : Type 0 where
   pub root : ℕ
   pub committed : Table
   pub committed_operations : ℕ
-
--- the table that trees read as
-abbrev pub table_at : Records → List AttributeTrees → Table
-table_at m trees = table_of_columns (columns_at m trees)
+  -- the compaction that is under way
+  pub plan : Option PlanView

@@ -1,4 +1,4 @@
-ghost use Rattle.std.specs.Prelude.{◌≡◌, ◌<◌, ◌≤◌, ◌+◌, ◌-◌, ◌^◌, [], false, length, IfOk, IfErr, OnOk, OnErr, Ok, Err, replicate};
+ghost use Rattle.std.specs.Prelude.{◌≡◌, ◌<◌, ◌≤◌, ◌+◌, ◌-◌, ◌^◌, [], None, false, length, IfOk, IfErr, OnOk, OnErr, Ok, Err, replicate};
 ghost use Rattle.image_base.specs.Images.{words_at};
 ghost use Rattle.arena_api.specs.Calls.{IsFresh, told_after};
 ghost use Rattle.arena_api.specs.Works.{last_image};
@@ -8,19 +8,25 @@ ghost use Rattle.attr_images.specs.Shapes.{shape_of, types_of};
 ghost use Rattle.attr_types.specs.Lawful.{OpFits};
 ghost use Rattle.attr_types.specs.Table.{after_op};
 ghost use Rattle.attr_types.specs.declared.field.TheConstants.{MOST_FIELDS};
-ghost use Rattle.attribute_kinds.specs.Fields.{no_roots};
-ghost use Rattle.attribute_kinds.specs.Calls.{applied_to, KeepsStore, LeavesEntries, RefusesOperation};
+ghost use Rattle.attr_steps.specs.Fields.{no_roots};
+ghost use Rattle.attr_steps.specs.Calls.{KeepsStore, LeavesEntries};
+ghost use Rattle.attribute_kinds.specs.Calls.{applied_to, RefusesOperation};
 ghost use Rattle.attribute_kinds.specs.Calls.{RefusesCommit, CommitsImage, HasCommit, IsForRoot};
-ghost use Rattle.attribute_kinds.specs.Counts.{LacksBuffers, MakesOperation, SparesOf};
+ghost use Rattle.attr_steps.specs.Counts.{MakesOperation};
+ghost use Rattle.attribute_kinds.specs.Counts.{LacksBuffers, SparesOf};
+ghost use Rattle.attribute_kinds.specs.Compacting.{CompactsTo, IsIdle, RefusesStep};
+ghost use Rattle.compact_steps.specs.Compactions.{KeepsStoreBut};
+ghost use Rattle.attribute_kinds.specs.declared.answers.Compacted.TheVariants.{Idle};
 
-use crate::answers::{AttrError, CommitInfo, Published, refusal};
-use crate::commit::commit_attributes;
-use crate::step::step;
+use crate::answers::{AttrError, CommitInfo, Compacted, Published, has_finished, refusal, told};
 use arena_api::Work;
 use attr_changes::Applied;
+use attr_compaction::Plan;
 use attr_field::{FieldRoots, field_law};
 use attr_images::AttrLayout;
+use attr_steps::{commit_attributes, step};
 use attr_types::{Fields, Op};
+use compact_steps::{compact, same_law, step_law};
 use entry_ref::EntryRef;
 use entry_store::{EntryStore, NoMemory};
 use frozen_api::Frozen;
@@ -37,6 +43,9 @@ pub struct Attribute<const OFFSET_BITS: u32, S: Store<OFFSET_BITS, Layout = Attr
     roots: Vec<FieldRoots<OFFSET_BITS>>,
     operations: u32,
     last: Published<OFFSET_BITS>,
+    plan: Option<Plan>,
+    /// Whether an emptied buffer waits for its commit.
+    waits: bool,
 }
 
 impl<const OFFSET_BITS: u32, S: Store<OFFSET_BITS, Layout = AttrLayout>> Model
@@ -45,9 +54,10 @@ impl<const OFFSET_BITS: u32, S: Store<OFFSET_BITS, Layout = AttrLayout>> Model
     ghost use Rattle.arena_api.specs.Works.{last_image};
     ghost use Rattle.attr_images.specs.Images.{table_of};
     ghost use Rattle.attr_images.specs.Shapes.{shape_of, types_of};
-    ghost use Rattle.attribute_kinds.specs.Fields.{trees_of};
-    ghost use Rattle.attribute_kinds.specs.Standing.{StandsAttribute};
-    ghost use Rattle.attribute_kinds.specs.Views.{AttributeView, table_at};
+    ghost use Rattle.attr_steps.specs.Fields.{trees_of};
+    ghost use Rattle.attribute_kinds.specs.Standing.{IsAttribute};
+    ghost use Rattle.attr_steps.specs.Views.{table_at};
+    ghost use Rattle.attribute_kinds.specs.Views.{AttributeView};
 
     ghost Value = { AttributeView S };
 
@@ -60,10 +70,11 @@ impl<const OFFSET_BITS: u32, S: Store<OFFSET_BITS, Layout = AttrLayout>> Model
       root = a.last.root;
       committed = table_of (shape_of (types_of a.fields)) (words_at (last_image (S.ledger a.store).work.commits)) a.last.root;
       committed_operations = a.last.operations;
+      plan = a.plan;
     } };
 
-    ghost invariant = { λ a. StandsAttribute (S.ledger a.store) (S.records a.store) a.fields a.roots.items
-        a.last.root a.last.commit a.last.operations };
+    ghost invariant = { λ a. IsAttribute (S.ledger a.store) (S.records a.store) a.fields a.roots.items
+        a.last.root a.last.commit a.last.operations a.plan a.waits };
 }
 
 impl<const OFFSET_BITS: u32, W: Work<OFFSET_BITS, Layout = AttrLayout>> Attribute<
@@ -82,6 +93,7 @@ impl<const OFFSET_BITS: u32, W: Work<OFFSET_BITS, Layout = AttrLayout>> Attribut
         ensures table { IfOk result (λ a. a.table ≡ []) }
         ensures operations { IfOk result (λ a. a.operations ≡ 0) }
         ensures root { IfOk result (λ a. a.root ≡ 0) }
+        ensures plan { IfOk result (λ a. a.plan ≡ None) }
         ensures work { IfOk result (λ a. (⟦<EntryStore<OFFSET_BITS, W> as Store<OFFSET_BITS>>⟧.ledger a.store).work ≡ W.knows work) }
         ensures left { IfErr result (λ e. e.work ≡ work) }
     {
@@ -104,6 +116,8 @@ impl<const OFFSET_BITS: u32, W: Work<OFFSET_BITS, Layout = AttrLayout>> Attribut
                 commit: 0,
                 operations: 0,
             },
+            plan: None,
+            waits: false,
         })
     }
 
@@ -169,8 +183,10 @@ impl<const OFFSET_BITS: u32, S: Store<OFFSET_BITS, Layout = AttrLayout>> Attribu
         ensures root { self.new.root ≡ self.old.root }
         ensures committed { self.new.committed ≡ self.old.committed }
         ensures published { self.new.committed_operations ≡ self.old.committed_operations }
+        ensures plan { self.new.plan ≡ self.old.plan }
     {
         field_law();
+        step_law::<OFFSET_BITS, S>();
         match step(
             alloc,
             &mut self.store,
@@ -206,6 +222,7 @@ impl<const OFFSET_BITS: u32, S: Store<OFFSET_BITS, Layout = AttrLayout>> Attribu
         ensures table { self.new.table ≡ self.old.table }
         ensures operations { self.new.operations ≡ self.old.operations }
         ensures fields { self.new.fields ≡ self.old.fields }
+        ensures plan { self.new.plan ≡ self.old.plan }
         ensures left { OnErr result (self.new ≡ record self.old { store = self.new.store }) }
         ensures entries { OnErr result (LeavesEntries (S.ledger self.old.store) (S.ledger self.new.store)
             (S.records self.old.store) (S.records self.new.store)) }
@@ -220,6 +237,7 @@ impl<const OFFSET_BITS: u32, S: Store<OFFSET_BITS, Layout = AttrLayout>> Attribu
                 commit: self.last.commit,
             });
         }
+        same_law();
         let fields = self.fields.as_slice();
         match commit_attributes(
             &mut self.store,
@@ -234,6 +252,7 @@ impl<const OFFSET_BITS: u32, S: Store<OFFSET_BITS, Layout = AttrLayout>> Attribu
                     commit: made.1.commit,
                     operations: self.operations,
                 };
+                self.waits = false;
                 Ok(CommitInfo {
                     commit: made.1.commit,
                     operations: self.operations,
@@ -243,6 +262,39 @@ impl<const OFFSET_BITS: u32, S: Store<OFFSET_BITS, Layout = AttrLayout>> Attribu
             }
             Err(error) => Err(refusal(error)),
         }
+    }
+
+    /// Visits so many keys of the compaction that is under way, or of one that is begun: all that lies under a key is moved out of its
+    /// victim. The table stays. Where the first key is refused each entry is as it was; the compaction stays begun.
+    #[tactic(none)]
+    pub fn compact_step(&mut self, alloc: Global, keys: u32) -> Result<Compacted, AttrError>
+        ensures steps { IfOk result (CompactsTo OFFSET_BITS S.ledger S.records self.old self.new keys) }
+        ensures refuses { IfErr result (RefusesStep OFFSET_BITS S.ledger S.records self.old self.new) }
+        ensures idle { IsIdle OFFSET_BITS (S.ledger self.old.store) self.old.plan → result ≡ Ok Idle }
+        ensures keeps { KeepsStoreBut (S.ledger self.old.store) (S.ledger self.new.store) }
+        ensures table { self.new.table ≡ self.old.table }
+        ensures operations { self.new.operations ≡ self.old.operations }
+        ensures fields { self.new.fields ≡ self.old.fields }
+        ensures root { self.new.root ≡ self.old.root }
+        ensures committed { self.new.committed ≡ self.old.committed }
+        ensures published { self.new.committed_operations ≡ self.old.committed_operations }
+    {
+        if self.waits {
+            return Ok(Compacted::Idle);
+        }
+        let before = self.plan.take();
+        let (plan, step) = compact(
+            alloc,
+            &mut self.store,
+            self.fields.as_slice(),
+            &mut self.roots,
+            self.last.root,
+            before,
+            keys,
+        );
+        self.plan = plan;
+        self.waits = has_finished(&step);
+        told(step)
     }
 }
 

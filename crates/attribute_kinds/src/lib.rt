@@ -3,11 +3,6 @@
 
 mod answers;
 mod attribute;
-mod commit;
-mod document;
-mod root;
-mod step;
-mod unit;
 
-pub use answers::{AttrError, CommitInfo, Published};
+pub use answers::{AttrError, CommitInfo, Compacted, Published};
 pub use attribute::{Attribute, committed_work};

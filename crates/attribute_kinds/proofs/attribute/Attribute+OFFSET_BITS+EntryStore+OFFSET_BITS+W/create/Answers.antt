@@ -1,4 +1,5 @@
 use Rattle.std.proofs.Common.{◌<◌, ◌≤◌, ◌∙◌, length, refl, sym, ap, subst, arith, rules}
+use Rattle.std.specs.Prelude.{is_some}
 use Rattle.std.proofs.lemmas.Result.{err_from_is_err_and}
 use Rattle.attr_images.specs.Shapes.{shape_of, types_of}
 use Rattle.attr_types.specs.declared.field.TheConstants.{MOST_FIELDS}
@@ -45,9 +46,14 @@ pub invariant_of-result : goal.invariant_of-result
 invariant_of-result g c =
     let own = c.in-Ok.own in
     let is = c.in-Ok.ensures in
-    stands_made c.field_law.ensures.nothing g.row.OFFSET_BITS _ _ _ own c.in-Ok-empty_roots.roots.items c.len.result c.from_raw.result c.in-Ok-empty_roots.ensures (c.len.ensures ∙ sym (ap length is)) c.from_raw.ensures
-    (subst (λ fs. 0 < length fs) (sym is) c.requires.some) (subst (λ fs. length fs ≤ MOST_FIELDS) (sym is) c.requires.few)
-    (c.in_ok-store.ensures.shape ∙ c.requires.shape ∙ sym (ap (λ fs. shape_of (types_of fs)) is)) c.in_ok-store.ensures.new c.in_ok-store.ensures.work c.requires.fresh
+    record {
+      stands = stands_made c.field_law.ensures.nothing g.row.OFFSET_BITS _ _ _ own c.in-Ok-empty_roots.roots.items c.len.result c.from_raw.result c.in-Ok-empty_roots.ensures (c.len.ensures ∙ sym (ap length is)) c.from_raw.ensures
+          (subst (λ fs. 0 < length fs) (sym is) c.requires.some) (subst (λ fs. length fs ≤ MOST_FIELDS) (sym is) c.requires.few)
+          (c.in_ok-store.ensures.shape ∙ c.requires.shape ∙ sym (ap (λ fs. shape_of (types_of fs)) is)) c.in_ok-store.ensures.new c.in_ok-store.ensures.work c.requires.fresh;
+      plan_is = tt;
+      last_is = tt;
+      waits_is = sym (ap is_some c.in_ok-store.ensures.new.finished);
+    }
 
 pub returns-clause-fields : goal.returns-clause-fields
 returns-clause-fields g c = c.in-Ok.ensures
@@ -64,3 +70,9 @@ returns-clause-root g c = c.from_raw.ensures
 
 pub returns-clause-work : goal.returns-clause-work
 returns-clause-work g c = c.in_ok-store.ensures.work
+
+pub returns-in_err-store-clause-plan : goal.returns-in_err-store-clause-plan
+returns-in_err-store-clause-plan g c = let p = err_from_is_err_and c.from_residual.result c.from_residual.ensures.1 in rw p.1 tt
+
+pub returns-clause-plan : goal.returns-clause-plan
+returns-clause-plan g c = refl

@@ -1,24 +1,29 @@
 use Rattle.std.proofs.Common.{◌≡◌, ◌+◌, Ok, length, sym, ap, ap₂, subst, ◌∙◌, arith}
+use Rattle.std.specs.Prelude.{is_some}
 use Rattle.image_base.specs.Images.{words_at}
 use Rattle.image_base.specs.declared.Image.{Image}
 use Rattle.arena_api.specs.Works.{last_image}
-use Rattle.store_api.specs.Parts.{Owns}
 use Rattle.attr_images.specs.Images.{table_of}
 use Rattle.attr_images.specs.Shapes.{shape_of, types_of}
 use Rattle.attr_types.specs.Lawful.{OpFits}
 use Rattle.attr_types.specs.Table.{after_op}
-use Rattle.std.specs.Prelude.{IfErr}
-use Rattle.attribute_kinds.specs.Calls.{KeepsStore, LeavesEntries, RefusesOperation, applied_to}
-use Rattle.attribute_kinds.specs.Counts.{LacksBuffers, MakesOperation, SparesOf, SparesOperation}
-use Rattle.attribute_kinds.specs.Fields.{AreFields, parts_of, trees_of}
-use Rattle.attribute_kinds.specs.Steps.{Stepped}
-use Rattle.attribute_kinds.specs.Views.{AttributeView, table_at}
+use Rattle.attr_steps.specs.Calls.{KeepsStore, LeavesEntries}
+use Rattle.attribute_kinds.specs.Calls.{RefusesOperation, applied_to}
+use Rattle.attr_steps.specs.Counts.{MakesOperation, SparesOperation}
+use Rattle.attribute_kinds.specs.Counts.{LacksBuffers, SparesOf}
+use Rattle.attr_steps.specs.Fields.{AreFields, OwnsFields, trees_of}
+use Rattle.attr_steps.specs.Steps.{Stepped}
+use Rattle.attr_steps.specs.Views.{table_at}
+use Rattle.attribute_kinds.specs.Views.{AttributeView}
 use Rattle.attribute_kinds.proofs.ApplyLemmas.{changed_not, refused_not, refuses_operation, table_made, table_skipped, applied_made, applied_skipped}
-use Rattle.attribute_kinds.proofs.Holding.{holds_owns, stands_turned, stands_left}
-use Rattle.attribute_kinds.proofs.Columns.{trees_sound}
-use Rattle.attribute_kinds.proofs.FieldSteps.{laws_of}
+use Rattle.attr_steps.proofs.Holding.{holds_owns}
+use Rattle.attribute_kinds.proofs.StandLemmas.{stands_turned, stands_left}
+use Rattle.attr_steps.proofs.Columns.{trees_sound}
+use Rattle.attr_steps.proofs.FieldSteps.{laws_of}
 use Rattle.attribute_kinds.proofs.RoomLemmas.{lacks_buffers, spares_operation}
-use Rattle.attribute_kinds.proofs.StepLemmas.{leaves_same}
+use Rattle.attr_steps.proofs.StepLemmas.{leaves_same}
+use Rattle.compact_steps.specs.Units.{IsUnderWay}
+use Rattle.attribute_kinds.proofs.PlanLemmas.{if_some_map, under_same, under_stepped}
 use Rattle.attribute_kinds.proofs.attribute.Attribute.apply.Goals as goal
 
 pub step-requires : goal.step-requires
@@ -29,19 +34,19 @@ step-requires g c =
     let old = inside.store in
     let fields = inside.fields in
     let trees = trees_of fields inside.roots.items in
-    let holds = c.self.invariant.holds in
+    let holds = c.self.invariant.stands.holds in
     let fs = sym c.as_slice.ensures in
     let rs = sym c.deref.ensures.value in (
       omega arith,
       (
         holds.unit,
         (
-          ap length c.deref.ensures.value ∙ c.self.invariant.sized ∙ sym (ap length c.as_slice.ensures),
+          ap length c.deref.ensures.value ∙ c.self.invariant.stands.sized ∙ sym (ap length c.as_slice.ensures),
           (
             subst (λ xs. AreFields (records old) xs (trees_of xs c.deref.result.now)) fs (subst (λ xs. AreFields (records old) fields (trees_of fields xs)) rs holds.are_fields),
             (
-              subst (λ xs. Owns (ledger old) (records old) (parts_of (trees_of xs c.deref.result.now))) fs
-                  (subst (λ xs. Owns (ledger old) (records old) (parts_of (trees_of fields xs))) rs (holds_owns (ledger old) (records old) fields trees inside.last.root holds)),
+              subst (λ xs. OwnsFields (ledger old) (records old) (trees_of xs c.deref.result.now)) fs
+                  (subst (λ xs. OwnsFields (ledger old) (records old) (trees_of fields xs)) rs (holds_owns g.row.OFFSET_BITS (ledger old) (records old) fields trees inside.last.root holds)),
               subst (λ xs. OpFits xs c.args.op.now) fs (subst (λ (v : AttributeView g.row.S.Denot). OpFits v.fields c.args.op.now) (sym c.self.view_is) c.requires.fits),
             ),
           ),
@@ -67,7 +72,18 @@ invariant_of-self g c =
     c.deref.ensures.value c.step.ensures.steps in
     let steps = subst (λ fs. Stepped fs (ledger old) (ledger new) (records old) (records new) (trees_of fs inside.roots.items) c.args.op.now (new ≡ old) c.step.result) c.as_slice.ensures first in
     let is = subst (λ r. Stepped fields (ledger old) (ledger new) (records old) (records new) trees c.args.op.now (new ≡ old) r) (c.in-Ok-Some.is ∙ ap Ok c.in-Ok-Some.field-0-is) steps in
-    stands_turned (ledger old) (ledger new) (records old) (records new) fields inside.roots.items c.in-Ok-Some.roots.items inside.last.root inside.last.commit inside.last.operations c.self.invariant c.step.ensures.keeps is.sized is.steps.are_fields is.steps.turns
+    let now = stands_turned (ledger old) (ledger new) (records old) (records new) fields inside.roots.items c.in-Ok-Some.roots.items inside.last.root inside.last.commit inside.last.operations c.self.invariant.stands c.step.ensures.keeps is.sized is.steps.are_fields is.steps.turns is.steps.refer is.steps.unsealed
+    (laws_of c.field_law.ensures.stays c.field_law.ensures.lawful c.field_law.ensures.keys) c.field_law.ensures.reaches (record { bits_are = g.met.S.Store.sized old; sealed = g.met.S.Store.finished old }) in
+    let next = trees_of fields c.in-Ok-Some.roots.items in
+    let settled = (g.met.S.Store.settled old c.self.invariant.stands.holds.unit).back in
+    record {
+      stands = now;
+      plan_is = if_some_map (IsUnderWay g.row.OFFSET_BITS (ledger old) (records old) trees) (IsUnderWay g.row.OFFSET_BITS (ledger new) (records new) next) inside.plan
+          (λ plan under. under_stepped g.row.OFFSET_BITS (ledger old) (ledger new) (records old) (records new) fields trees next c.args.op.now inside.last.root plan c.step_law.ensures settled (g.met.S.Store.sized old)
+          c.self.invariant.stands.holds now.holds c.step.ensures.keeps is.steps under) c.self.invariant.plan_is;
+      last_is = c.self.invariant.last_is;
+      waits_is = c.self.invariant.waits_is ∙ ap is_some (sym c.step.ensures.keeps.finished);
+    }
 
 pub overflow_add-self-in-Ok-None : goal.overflow_add-self-in-Ok-None
 overflow_add-self-in-Ok-None g c =
@@ -87,8 +103,14 @@ invariant_of-self-in-Ok-None g c =
     c.deref.ensures.value c.step.ensures.steps in
     let steps = subst (λ fs. Stepped fs (ledger old) (ledger new) (records old) (records new) (trees_of fs inside.roots.items) c.args.op.now (new ≡ old) c.step.result) c.as_slice.ensures first in
     let is = subst (λ r. Stepped fields (ledger old) (ledger new) (records old) (records new) trees c.args.op.now (new ≡ old) r) (c.in-Ok-None.is ∙ ap Ok c.in-Ok-None.field-0-is) steps in
-    stands_left (ledger old) (ledger new) (records old) (records new) fields inside.roots.items inside.roots.items inside.last.root inside.last.commit inside.last.operations c.self.invariant c.step.ensures.keeps
-    (subst (λ s. LeavesEntries (ledger old) (ledger s) (records old) (records s)) (sym is.store_is) (leaves_same (ledger old) (records old)))
+    record {
+      stands = stands_left (ledger old) (ledger new) (records old) (records new) fields inside.roots.items inside.roots.items inside.last.root inside.last.commit inside.last.operations c.self.invariant.stands c.step.ensures.keeps
+          (subst (λ s. LeavesEntries (ledger old) (ledger s) (records old) (records s)) (sym is.store_is) (leaves_same (ledger old) (records old)));
+      plan_is = if_some_map (IsUnderWay g.row.OFFSET_BITS (ledger old) (records old) trees) (IsUnderWay g.row.OFFSET_BITS (ledger new) (records new) trees) inside.plan
+          (λ plan under. under_same g.row.OFFSET_BITS (ledger old) (ledger new) (records old) (records new) trees plan c.step.ensures.keeps (ap records is.store_is) under) c.self.invariant.plan_is;
+      last_is = c.self.invariant.last_is;
+      waits_is = c.self.invariant.waits_is ∙ ap is_some (sym c.step.ensures.keeps.finished);
+    }
 
 pub invariant_of-self-in-Err : goal.invariant_of-self-in-Err
 invariant_of-self-in-Err g c =
@@ -103,7 +125,13 @@ invariant_of-self-in-Err g c =
     c.deref.ensures.value c.step.ensures.steps in
     let steps = subst (λ fs. Stepped fs (ledger old) (ledger new) (records old) (records new) (trees_of fs inside.roots.items) c.args.op.now (new ≡ old) c.step.result) c.as_slice.ensures first in
     let is = subst (λ r. Stepped fields (ledger old) (ledger new) (records old) (records new) trees c.args.op.now (new ≡ old) r) (c.in-Err.is) steps in
-    stands_left (ledger old) (ledger new) (records old) (records new) fields inside.roots.items inside.roots.items inside.last.root inside.last.commit inside.last.operations c.self.invariant c.step.ensures.keeps is.left
+    record {
+      stands = stands_left (ledger old) (ledger new) (records old) (records new) fields inside.roots.items inside.roots.items inside.last.root inside.last.commit inside.last.operations c.self.invariant.stands c.step.ensures.keeps is.left;
+      plan_is = if_some_map (IsUnderWay g.row.OFFSET_BITS (ledger old) (records old) trees) (IsUnderWay g.row.OFFSET_BITS (ledger new) (records new) trees) inside.plan
+          (λ plan under. under_same g.row.OFFSET_BITS (ledger old) (ledger new) (records old) (records new) trees plan c.step.ensures.keeps (is.left.records) under) c.self.invariant.plan_is;
+      last_is = c.self.invariant.last_is;
+      waits_is = c.self.invariant.waits_is ∙ ap is_some (sym c.step.ensures.keeps.finished);
+    }
 
 pub returns-in-Ok-Some-clause-table : goal.returns-in-Ok-Some-clause-table
 returns-in-Ok-Some-clause-table g c =
@@ -233,6 +261,7 @@ returns-in-Ok-None-clause-skips g c =
       root = inside.last.root;
       committed = table_of (shape_of (types_of fields)) (words_at (last_image (ledger s).work.commits)) inside.last.root;
       committed_operations = inside.last.operations;
+      plan = inside.plan;
     } in
     λ e. ap seen is.store_is ∙ ap (λ (v : AttributeView g.row.S.Denot). record v { operations = v.operations + 1 }) c.self.view_is
 
@@ -298,6 +327,7 @@ returns-in-Err-clause-left g c =
       root = inside.last.root;
       committed = k;
       committed_operations = inside.last.operations;
+      plan = inside.plan;
     } in
     ap₂ seen tables commits ∙ ap (λ (v : AttributeView g.row.S.Denot). record v { store = new }) c.self.view_is
 
@@ -440,9 +470,21 @@ returns-in-Err-clause-room g c =
     c.deref.ensures.value c.step.ensures.steps in
     let steps = subst (λ fs. Stepped fs (ledger old) (ledger new) (records old) (records new) (trees_of fs inside.roots.items) op (new ≡ old) c.step.result) c.as_slice.ensures first in
     let is = subst (λ r. Stepped fields (ledger old) (ledger new) (records old) (records new) trees op (new ≡ old) r) (c.in-Err.is) steps in
-    let sound = trees_sound (records old) (laws_of c.field_law.ensures.stays c.field_law.ensures.lawful) fields inside.roots.items c.self.invariant.sized c.self.invariant.holds.are_fields in
+    let sound = trees_sound (records old) (laws_of c.field_law.ensures.stays c.field_law.ensures.lawful c.field_law.ensures.keys) fields inside.roots.items c.self.invariant.stands.sized c.self.invariant.stands.holds.are_fields in
     let fits = subst (λ (v : AttributeView g.row.S.Denot). OpFits v.fields op) (sym c.self.view_is) c.requires.fits in
     let lacks = lacks_buffers (ledger old) (ledger new) fields (table_at (records old) trees) op c.in-Err.error sound fits (g.met.S.Store.counted old) (g.met.S.Store.counted new)
     (g.met.S.Store.limits old).some_words c.step.ensures.keeps is.refused made in
     subst (λ (v : AttributeView g.row.S.Denot). LacksBuffers (ledger v.store) v.fields c.refusal.result) c.self.view_is
     (subst (λ a. LacksBuffers (ledger old) fields a) (sym c.refusal.ensures) lacks)
+
+pub returns-in-Ok-Some-clause-plan : goal.returns-in-Ok-Some-clause-plan
+returns-in-Ok-Some-clause-plan g c =
+    ap (λ (v : AttributeView g.row.S.Denot). v.plan) c.self.view_is
+
+pub returns-in-Ok-None-clause-plan : goal.returns-in-Ok-None-clause-plan
+returns-in-Ok-None-clause-plan g c =
+    ap (λ (v : AttributeView g.row.S.Denot). v.plan) c.self.view_is
+
+pub returns-in-Err-clause-plan : goal.returns-in-Err-clause-plan
+returns-in-Err-clause-plan g c =
+    ap (λ (v : AttributeView g.row.S.Denot). v.plan) c.self.view_is

@@ -1,4 +1,5 @@
 use Rattle.std.proofs.Common.{◌≡◌, ◌+◌, ◌*◌, ◌<◌, ◌≤◌, length, refl, sym, ap, ap₂, subst, ◌∙◌, arith}
+use Rattle.std.specs.Prelude.{is_some}
 use Rattle.image_base.specs.Images.{words_at}
 use Rattle.image_base.specs.declared.Image.{Image}
 use Rattle.arena_api.specs.Calls.{told_after}
@@ -7,13 +8,17 @@ use Rattle.attr_images.specs.Images.{table_of}
 use Rattle.attr_images.specs.Shapes.{shape_of, types_of}
 use Rattle.attr_images.specs.Words.{class_of}
 use Rattle.attr_types.specs.declared.field.TheConstants.{MOST_FIELDS}
-use Rattle.attribute_kinds.specs.Calls.{CommitsImage, IsForRoot, IsSpent, KeepsStore, LeavesEntries, RefusesCommit}
-use Rattle.attribute_kinds.specs.Commits.{CommitsAttributes, IsForWidth}
-use Rattle.attribute_kinds.specs.Fields.{HoldsAttributes, trees_of}
-use Rattle.attribute_kinds.specs.Views.{AttributeView, table_at}
+use Rattle.attr_steps.specs.Calls.{KeepsStore, LeavesEntries}
+use Rattle.attribute_kinds.specs.Calls.{CommitsImage, IsForRoot, IsSpent, RefusesCommit}
+use Rattle.attr_steps.specs.Commits.{CommitsAttributes, IsForWidth}
+use Rattle.attr_steps.specs.Fields.{HoldsAttributes, trees_of}
+use Rattle.attr_steps.specs.Views.{table_at}
+use Rattle.attribute_kinds.specs.Views.{AttributeView}
 use Rattle.attribute_kinds.proofs.CommitViews.{for_root, image_committed, refuses_commit, spent_same, stands_committed, table_committed}
-use Rattle.attribute_kinds.proofs.Holding.{stands_left}
-use Rattle.attribute_kinds.proofs.StepLemmas.{keeps_same, leaves_same}
+use Rattle.attribute_kinds.proofs.StandLemmas.{stands_left}
+use Rattle.attr_steps.proofs.StepLemmas.{keeps_same, leaves_same}
+use Rattle.compact_steps.specs.Units.{IsUnderWay}
+use Rattle.attribute_kinds.proofs.PlanLemmas.{if_some_map, under_committed, under_same}
 use Rattle.attribute_kinds.proofs.attribute.Attribute.commit.Goals as goal
 
 pub same-self : goal.same-self
@@ -54,7 +59,7 @@ returns-then-commits_left-eq0-clause-refused g c =
     subst (λ (v : AttributeView g.row.S.Denot). IsSpent (ledger v.store) inside.last.commit) c.self.view_is
     (record {
       last = (let none = c.if-commits_left-eq0.true in let is = c.commits_left.ensures in let few = (g.met.S.Store.order old).limit in omega arith);
-      number = c.self.invariant.last.number;
+      number = c.self.invariant.stands.last.number;
     })
 
 pub returns-then-commits_left-eq0-clause-spent : goal.returns-then-commits_left-eq0-clause-spent
@@ -64,7 +69,7 @@ returns-then-commits_left-eq0-clause-spent g c =
     let inside = c.self.inside in
     let old = inside.store in
     let fields = inside.fields in
-    λ e. spent_same inside.last.commit (ledger c.args.self.now.store).work.commits.last (c.self.invariant.last.number ∙ ap (λ (v : AttributeView g.row.S.Denot). (ledger v.store).work.commits.last) c.self.view_is)
+    λ e. spent_same inside.last.commit (ledger c.args.self.now.store).work.commits.last (c.self.invariant.stands.last.number ∙ ap (λ (v : AttributeView g.row.S.Denot). (ledger v.store).work.commits.last) c.self.view_is)
 
 pub commit_attributes-requires : goal.commit_attributes-requires
 commit_attributes-requires g c =
@@ -78,14 +83,14 @@ commit_attributes-requires g c =
       (
         omega arith,
         (
-          ap length c.deref.ensures.value ∙ c.self.invariant.sized ∙ sym (ap length c.as_slice-fields.ensures),
+          ap length c.deref.ensures.value ∙ c.self.invariant.stands.sized ∙ sym (ap length c.as_slice-fields.ensures),
           (
-            subst (λ fs. length fs ≤ MOST_FIELDS) (sym c.as_slice-fields.ensures) c.self.invariant.few,
+            subst (λ fs. length fs ≤ MOST_FIELDS) (sym c.as_slice-fields.ensures) c.self.invariant.stands.few,
             (
-              c.self.invariant.shape ∙ sym (ap (λ fs. shape_of (types_of fs)) c.as_slice-fields.ensures),
+              c.self.invariant.stands.shape ∙ sym (ap (λ fs. shape_of (types_of fs)) c.as_slice-fields.ensures),
               (
-                subst (λ fs. HoldsAttributes (ledger old) (records old) fs (trees_of fs c.deref.result.now) inside.last.root) (sym c.as_slice-fields.ensures)
-                    (subst (λ rs. HoldsAttributes (ledger old) (records old) fields (trees_of fields rs) inside.last.root) (sym c.deref.ensures.value) c.self.invariant.holds),
+                subst (λ fs. HoldsAttributes g.row.OFFSET_BITS (ledger old) (records old) fs (trees_of fs c.deref.result.now) inside.last.root) (sym c.as_slice-fields.ensures)
+                    (subst (λ rs. HoldsAttributes g.row.OFFSET_BITS (ledger old) (records old) fields (trees_of fields rs) inside.last.root) (sym c.deref.ensures.value) c.self.invariant.stands.holds),
                 room,
               ),
             ),
@@ -106,7 +111,13 @@ invariant_of-self g c =
     let first = subst (λ rs. CommitsAttributes g.row.OFFSET_BITS c.as_slice-fields.result.now (trees_of c.as_slice-fields.result.now rs) inside.operations (ledger old) (ledger new) (records old) (records new) c.in-Ok.made.0 c.in-Ok.made.1)
     c.deref.ensures.value c.in-Ok.ensures.commits in
     let made = subst (λ fs. CommitsAttributes g.row.OFFSET_BITS fs (trees_of fs inside.roots.items) inside.operations (ledger old) (ledger new) (records old) (records new) c.in-Ok.made.0 c.in-Ok.made.1) c.as_slice-fields.ensures first in
-    stands_committed (ledger old) (ledger new) (records old) (records new) fields inside.roots.items inside.operations inside.last.root inside.last.commit inside.last.operations c.in-Ok.made.0 c.in-Ok.made.1 c.self.invariant made
+    record {
+      stands = stands_committed (ledger old) (ledger new) (records old) (records new) fields inside.roots.items inside.operations inside.last.root inside.last.commit inside.last.operations c.in-Ok.made.0 c.in-Ok.made.1 c.self.invariant.stands made;
+      plan_is = if_some_map (IsUnderWay g.row.OFFSET_BITS (ledger old) (records old) trees) (IsUnderWay g.row.OFFSET_BITS (ledger new) (records new) trees) inside.plan
+          (λ plan under. under_committed g.row.OFFSET_BITS (ledger old) (ledger new) (records old) (records new) fields trees inside.operations inside.last.root c.in-Ok.made.0 c.in-Ok.made.1 plan c.same_law.ensures.all c.self.invariant.stands.holds made under) c.self.invariant.plan_is;
+      last_is = c.self.invariant.last_is;
+      waits_is = ap is_some (sym made.stores.finished);
+    }
 
 pub invariant_of-self-in-Err : goal.invariant_of-self-in-Err
 invariant_of-self-in-Err g c =
@@ -117,7 +128,13 @@ invariant_of-self-in-Err g c =
     let fields = inside.fields in
     let new = c.commit_attributes.new.store in
     let trees = trees_of fields inside.roots.items in
-    stands_left (ledger old) (ledger new) (records old) (records new) fields inside.roots.items inside.roots.items inside.last.root inside.last.commit inside.last.operations c.self.invariant c.in-Err.ensures.keeps c.in-Err.ensures.left
+    record {
+      stands = stands_left (ledger old) (ledger new) (records old) (records new) fields inside.roots.items inside.roots.items inside.last.root inside.last.commit inside.last.operations c.self.invariant.stands c.in-Err.ensures.keeps c.in-Err.ensures.left;
+      plan_is = if_some_map (IsUnderWay g.row.OFFSET_BITS (ledger old) (records old) trees) (IsUnderWay g.row.OFFSET_BITS (ledger new) (records new) trees) inside.plan
+          (λ plan under. under_same g.row.OFFSET_BITS (ledger old) (ledger new) (records old) (records new) trees plan c.in-Err.ensures.keeps c.in-Err.ensures.left.records under) c.self.invariant.plan_is;
+      last_is = c.self.invariant.last_is;
+      waits_is = c.self.invariant.waits_is ∙ ap is_some (sym c.in-Err.ensures.keeps.finished);
+    }
 
 pub returns-in-Ok-clause-commits : goal.returns-in-Ok-clause-commits
 returns-in-Ok-clause-commits g c =
@@ -133,7 +150,7 @@ returns-in-Ok-clause-commits g c =
     let made = subst (λ fs. CommitsAttributes g.row.OFFSET_BITS fs (trees_of fs inside.roots.items) inside.operations (ledger old) (ledger new) (records old) (records new) c.in-Ok.made.0 c.in-Ok.made.1) c.as_slice-fields.ensures first in
     subst (λ (v : AttributeView g.row.S.Denot). CommitsImage g.row.OFFSET_BITS (ledger v.store) (ledger new) (last_image (ledger new).work.commits)
     (record { commit = c.in-Ok.made.1.commit; operations = inside.operations; advance = c.in-Ok.made.1.advance; oldest = c.in-Ok.made.1.oldest })) c.self.view_is
-    (image_committed (ledger old) (ledger new) (records old) (records new) fields inside.roots.items inside.operations inside.last.root inside.last.commit inside.last.operations c.in-Ok.made.0 c.in-Ok.made.1 c.self.invariant made)
+    (image_committed (ledger old) (ledger new) (records old) (records new) fields inside.roots.items inside.operations inside.last.root inside.last.commit inside.last.operations c.in-Ok.made.0 c.in-Ok.made.1 c.self.invariant.stands made)
 
 pub returns-in-Ok-clause-number : goal.returns-in-Ok-clause-number
 returns-in-Ok-clause-number g c =
@@ -165,7 +182,7 @@ returns-in-Ok-clause-committed g c =
     let first = subst (λ rs. CommitsAttributes g.row.OFFSET_BITS c.as_slice-fields.result.now (trees_of c.as_slice-fields.result.now rs) inside.operations (ledger old) (ledger new) (records old) (records new) c.in-Ok.made.0 c.in-Ok.made.1)
     c.deref.ensures.value c.in-Ok.ensures.commits in
     let made = subst (λ fs. CommitsAttributes g.row.OFFSET_BITS fs (trees_of fs inside.roots.items) inside.operations (ledger old) (ledger new) (records old) (records new) c.in-Ok.made.0 c.in-Ok.made.1) c.as_slice-fields.ensures first in
-    table_committed (ledger old) (ledger new) (records old) (records new) fields inside.roots.items inside.operations inside.last.root inside.last.commit inside.last.operations c.in-Ok.made.0 c.in-Ok.made.1 c.self.invariant made ∙ ap (λ (v : AttributeView g.row.S.Denot). v.table) c.self.view_is
+    table_committed (ledger old) (ledger new) (records old) (records new) fields inside.roots.items inside.operations inside.last.root inside.last.commit inside.last.operations c.in-Ok.made.0 c.in-Ok.made.1 c.self.invariant.stands made ∙ ap (λ (v : AttributeView g.row.S.Denot). v.table) c.self.view_is
 
 pub returns-in-Ok-clause-published : goal.returns-in-Ok-clause-published
 returns-in-Ok-clause-published g c =
@@ -261,6 +278,7 @@ returns-in-Err-clause-left g c =
       root = inside.last.root;
       committed = k;
       committed_operations = inside.last.operations;
+      plan = inside.plan;
     } in
     ap₂ seen tables commits ∙ ap (λ (v : AttributeView g.row.S.Denot). record v { store = new }) c.self.view_is
 
@@ -318,3 +336,15 @@ returns-in-Err-clause-spent g c =
     let sizes = ap (λ (v : AttributeView g.row.S.Denot). (ledger v.store).work.sizes.commits) c.self.view_is in
     absurd (omega arith)
     )
+
+pub returns-then-commits_left-eq0-clause-plan : goal.returns-then-commits_left-eq0-clause-plan
+returns-then-commits_left-eq0-clause-plan g c =
+    refl
+
+pub returns-in-Ok-clause-plan : goal.returns-in-Ok-clause-plan
+returns-in-Ok-clause-plan g c =
+    ap (λ (v : AttributeView g.row.S.Denot). v.plan) c.self.view_is
+
+pub returns-in-Err-clause-plan : goal.returns-in-Err-clause-plan
+returns-in-Err-clause-plan g c =
+    ap (λ (v : AttributeView g.row.S.Denot). v.plan) c.self.view_is

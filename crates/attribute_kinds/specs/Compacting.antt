@@ -1,0 +1,84 @@
+-- What a step of a compaction makes of attributes, and what it came to.
+use Rattle.std.specs.Prelude.{◌≡◌, ◌≢◌, ◌⊎◌, ℕ, ◌<◌, ◌≤◌, length, Option, None, Some, IsSome}
+use Rattle.std.specs.declared.cmp.Ordering.TheVariants.{Greater}
+use Rattle.entry_ref.specs.References.{buffer_of}
+use Rattle.image_base.specs.Records.{Records, Among}
+use Rattle.store_api.specs.Ledgers.{Ledger}
+use Rattle.store_api.specs.Victims.{HasNoVictim}
+use Rattle.attr_compaction.specs.Places.{place_cmp, Place, PlanView}
+use Rattle.attr_compaction.specs.declared.plan.TheConstants.{PHASES}
+use Rattle.attr_images.specs.Tables.{attributes_reach}
+use Rattle.attr_steps.specs.Calls.{IsOutOfRoom, LeavesEntries}
+use Rattle.compact_steps.specs.Compactions.{place_of, IsUnder}
+use Rattle.plan_counts.specs.Counts.{keys_between}
+use Rattle.attribute_kinds.specs.Views.{AttributeView}
+use Rattle.attribute_kinds.specs.declared.answers.AttrError.{AttrError}
+use Rattle.attribute_kinds.specs.declared.answers.AttrError.TheVariants.{Full, CommitsSpent, Memory}
+use Rattle.attribute_kinds.specs.declared.answers.Compacted.{Compacted}
+use Rattle.attribute_kinds.specs.declared.answers.Compacted.TheVariants.{Idle, Moved, Finished}
+
+-- no compaction is under way, and an emptied buffer waits for its commit, or none is worth it
+pub record IsIdle {H : Type 0} (bits : ℕ) (ledger : Ledger H) (plan : Option PlanView) : Type 0 where
+  pub none : plan ≡ None
+  pub why : IsSome ledger.finished ⊎ HasNoVictim bits ledger
+
+-- why a key was refused: the store was full for a width, of which it has fewer entries to spare than a node has words
+abbrev pub RefusesKey : {H : Type 0} → Ledger H → Ledger H → AttrError → Type 0
+RefusesKey old new (Full width active held oldest) = IsOutOfRoom old new width active held oldest × ((new.of_width width).spare < 34)
+RefusesKey old new (CommitsSpent commit) = ⊥
+RefusesKey old new Memory = Unit {0}
+
+module _ {S H : Type 0} (bits : ℕ) (ledger : S → Ledger H) (records : S → Records) (old new : AttributeView S) where
+  -- how many keys lie past the place where the compaction stood, and not past this one
+  abbrev pub keys_to : Place → ℕ
+  keys_to place = keys_between (place_of old.plan) place (records old.store) old.trees
+
+  -- the compaction that was under way, or was begun; it did not go back
+  pub record IsAt (plan : PlanView) : Type 0 where
+    pub under : IsUnder bits (length old.fields) (ledger old.store) (ledger new.store) old.plan plan
+    pub rises : place_cmp (place_of old.plan) plan.place ≢ Greater
+
+  -- it is under way, so many keys further
+  pub record GoesTo (moved : ℕ) : Type 0 where
+    pub plan : PlanView
+    pub plan_is : new.plan ≡ Some plan
+    pub at : IsAt plan
+    pub count : keys_to plan.place ≡ moved
+    pub unfinished : (ledger new.store).finished ≡ None
+
+  -- all keys were visited; or at least one and not all, since the next one was refused
+  pub record StopsAt (keys moved : ℕ) (error : AttrError) : Type 0 where
+    pub some : 0 < moved
+    pub few : moved < keys
+    pub refused : RefusesKey (ledger old.store) (ledger new.store) error
+
+  abbrev pub Stops : ℕ → ℕ → Option AttrError → Type 0
+  Stops keys moved None = moved ≡ keys
+  Stops keys moved (Some error) = StopsAt keys moved error
+
+  -- no key is left, and nothing that the attributes reach lies in the buffer
+  pub record Empties (keys buffer : ℕ) : Type 0 where
+    pub plan : PlanView
+    pub at : IsAt plan
+    pub few : keys_to plan.place ≤ keys
+    pub over : plan.place.stage.phase ≡ PHASES
+    pub victim : buffer ≡ plan.victim
+    pub gone : new.plan ≡ None
+    pub finished : (ledger new.store).finished ≡ Some buffer
+    pub apart : (r : ℕ) → Among r (attributes_reach (records new.store) new.trees) → buffer_of bits r ≢ buffer
+
+  pub record StaysIdle : Type 0 where
+    pub idle : IsIdle bits (ledger old.store) old.plan
+    pub same : new ≡ old
+
+  abbrev pub CompactsTo : ℕ → Compacted → Type 0
+  CompactsTo keys Idle = StaysIdle
+  CompactsTo keys (Moved moved stop) = GoesTo moved × Stops keys moved stop
+  CompactsTo keys (Finished buffer) = Empties keys buffer
+
+  -- the first key was refused: each entry is what it was
+  pub record RefusesStep (error : AttrError) : Type 0 where
+    pub goes : GoesTo 0
+    pub refused : RefusesKey (ledger old.store) (ledger new.store) error
+    pub entries : LeavesEntries (ledger old.store) (ledger new.store) (records old.store) (records new.store)
+    pub trees_are : new.trees ≡ old.trees
