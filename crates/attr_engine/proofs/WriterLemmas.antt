@@ -19,8 +19,7 @@ use Rattle.attr_types.specs.Lawful.{OpFits}
 use Rattle.attr_types.specs.Table.{skipped}
 use Rattle.attr_types.specs.declared.field.Field.{Field}
 use Rattle.attr_types.specs.declared.op.Op.{Op}
-use Rattle.attribute_kinds.specs.Calls.{HasCommit}
-use Rattle.attribute_kinds.specs.Views.{AttributeView}
+use Rattle.attr_loader.specs.Attributes.{AttributeView, HasCommit}
 use Rattle.attr_loader.specs.Loading.{CanLoad, IsAtStart, Loads, AreCommits, EndsAt}
 use Rattle.attr_loader.specs.declared.loaded.Loaded.{Loaded}
 use Rattle.attr_engine.specs.Steps.{KeepsWriter, IsReader, IsNewWriter, LoadsInto}

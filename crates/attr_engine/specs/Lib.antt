@@ -3,3 +3,4 @@ pub mod Rounds
 pub mod Steps
 pub mod Laws
 pub mod Writing
+pub mod FullStore

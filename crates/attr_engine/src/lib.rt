@@ -11,6 +11,7 @@ mod saving;
 mod writing;
 mod written;
 
+pub use attr_loader::NoRoom;
 pub use came::Came;
 pub use engine::engine_run;
 pub use laws::came_law;

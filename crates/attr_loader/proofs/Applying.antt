@@ -2,16 +2,19 @@
 use Rattle.std.proofs.Common.{◌≡◌, ℕ, zero, suc, ◌+◌, ◌<◌, ◌≤◌, Bool, true, false, if◌then◌else◌, List, [], ◌∷◌, ◌++◌, length, refl, sym, ap, ◌∙◌, subst, arith}
 use Rattle.std.specs.Prelude.{Result, Ok, Err, IfOk}
 use Rattle.std.proofs.lemmas.List.{length_push}
+use Rattle.image_base.specs.Images.{words_at}
 use Rattle.store_api.specs.Ledgers.{Ledger}
 use Rattle.attr_changes.specs.declared.applied.Applied.{Applied}
 use Rattle.attr_changes.specs.declared.applied.Applied.TheVariants.{Changed, Skipped}
+use Rattle.attr_images.specs.Images.{IsLawfulImage, table_of}
+use Rattle.attr_images.specs.Shapes.{shape_of, types_of}
 use Rattle.attr_types.specs.Table.{Table, after_op, is_skipped, after_ops, skipped_ops}
 use Rattle.attr_types.specs.declared.field.Field.{Field}
 use Rattle.attr_types.specs.declared.op.Op.{Op}
 use Rattle.attribute_kinds.specs.Views.{AttributeView}
-use Rattle.attribute_kinds.specs.Calls.{applied_to, KeepsStore}
+use Rattle.attribute_kinds.specs.Calls.{KeepsStore, KeepsStoreBut, applied_to}
 use Rattle.attr_loader.specs.Loading.{StaysIn}
-use Rattle.attr_loader.specs.Batches.{skips_of, KeepsCommit, AppliesAll, CommitsBatch, LoadsBatch}
+use Rattle.attr_loader.specs.Batches.{skips_of, AppliesAll, CommitsBatch, KeepsCommit, KeepsTable, LoadsBatch}
 use Rattle.attr_loader.specs.declared.batch.Batch.{Batch}
 use Rattle.attr_loader.specs.declared.batch.Batch.TheVariants.{Done, Full}
 
@@ -56,6 +59,15 @@ module _ {S H : Type 0} (ledger : S → Ledger H) where
     committed_operations = count;
   }
 
+  -- a step of a compaction
+  pub keeps_table : (old new : AttributeView S) → KeepsStoreBut (ledger old.store) (ledger new.store) → new.fields ≡ old.fields → new.table ≡ old.table → new.operations ≡ old.operations
+      → new.committed ≡ old.committed → new.committed_operations ≡ old.committed_operations → KeepsTable ledger old new
+  keeps_table old new keeps fields table operations committed count = record {
+    keeps = record { stays = record { home = keeps.home; sizes = keeps.sizes; fields = fields }; told = keeps.told; committed = committed; committed_operations = count };
+    table = table;
+    operations = operations;
+  }
+
   pub stays_on : (a b c : AttributeView S) → StaysIn ledger a b → StaysIn ledger b c → StaysIn ledger a c
   stays_on a b c first second = record { home = second.home ∙ first.home; sizes = second.sizes ∙ first.sizes; fields = second.fields ∙ first.fields }
 
@@ -66,6 +78,26 @@ module _ {S H : Type 0} (ledger : S → Ledger H) where
     committed = second.committed ∙ first.committed;
     committed_operations = second.committed_operations ∙ first.committed_operations;
   }
+
+  -- what is committed and then compacted
+  pub commits_on : (a b c : AttributeView S) (count skipped more : ℕ) → CommitsBatch ledger a b count skipped (Done more) → KeepsTable ledger b c → CommitsBatch ledger a c count skipped (Done more)
+  commits_on a b c count skipped more made kept =
+      let commit = made.1 in
+      let fields : c.fields ≡ b.fields = kept.keeps.stays.fields in (
+        made.0,
+        record {
+          stays = stays_on a b c commit.stays kept.keeps.stays;
+          table = kept.table ∙ commit.table;
+          operations = kept.operations ∙ commit.operations;
+          committed = kept.keeps.committed ∙ commit.committed ∙ sym kept.table;
+          committed_operations = kept.keeps.committed_operations ∙ commit.committed_operations ∙ sym kept.operations;
+          image = commit.image;
+          told = kept.keeps.told ∙ commit.told;
+          lawful = subst (λ (fs : List Field). IsLawfulImage (shape_of (types_of fs)) (words_at commit.image) commit.image.root) (sym fields) commit.lawful;
+          image_operations = commit.image_operations ∙ sym kept.operations;
+          image_table = ap (λ (fs : List Field). table_of (shape_of (types_of fs)) (words_at commit.image) commit.image.root) fields ∙ commit.image_table ∙ sym kept.table;
+        },
+      )
 
   -- what is applied and then committed, or finds no room for the commit
   pub loads_of : {E : Type 0} (a b c : AttributeView S) (ops : List Op) (skipped count : ℕ) (o : Result Batch E) → 0 < length ops → count ≡ length ops → AppliesAll ledger a b ops skipped

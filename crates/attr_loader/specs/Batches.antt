@@ -28,6 +28,12 @@ module _ {S H : Type 0} (ledger : S → Ledger H) where
     pub committed : new.committed ≡ old.committed
     pub committed_operations : new.committed_operations ≡ old.committed_operations
 
+  -- the table and the last commit stand
+  pub record KeepsTable (old new : AttributeView S) : Type 0 where
+    pub keeps : KeepsCommit old new
+    pub table : new.table ≡ old.table
+    pub operations : new.operations ≡ old.operations
+
   -- one commit more, of the table as it is
   pub record MakesCommit (old new : AttributeView S) : Type 0 where
     pub stays : StaysIn ledger old new

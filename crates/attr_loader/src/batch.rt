@@ -1,8 +1,8 @@
-//! One batch: its operations are applied, and it is committed.
-ghost use Rattle.std.specs.Prelude.{◌≡◌, ◌<◌, ◌+◌, ◌^◌, length, IfOk};
+//! One batch: its operations are applied, it is committed, and a compaction goes one step on.
+ghost use Rattle.std.specs.Prelude.{◌≡◌, ◌<◌, ◌+◌, ◌^◌, length, IfOk, OnOk};
 ghost use Rattle.std.specs.List.{AllByRecursion};
 ghost use Rattle.attr_types.specs.Lawful.{OpFits};
-ghost use Rattle.attr_loader.specs.Batches.{skips_of, AppliesBatch, LoadsBatch, CommitsBatch};
+ghost use Rattle.attr_loader.specs.Batches.{skips_of, AppliesBatch, CommitsBatch, KeepsTable, LoadsBatch};
 
 use arena_api::Work;
 use attr_changes::Applied;
@@ -62,8 +62,26 @@ fn apply_all<const OFFSET_BITS: u32, S: Store<OFFSET_BITS, Layout = AttrLayout>>
     Ok(Batch::Done { skipped })
 }
 
+/// How many keys of a compaction are visited after a commit.
+const COMPACT_KEYS: u32 = 256;
+
+/// One step of a compaction. Where it finds no room the loading goes on without it.
+fn compact_after<const OFFSET_BITS: u32, S: Store<OFFSET_BITS, Layout = AttrLayout>>(
+    alloc: Global,
+    attribute: &mut Attribute<OFFSET_BITS, S>,
+) -> Result<(), AllocError>
+    ensures { OnOk result (KeepsTable S.ledger attribute.old attribute.new) }
+{
+    match attribute.compact_step(alloc, COMPACT_KEYS) {
+        Ok(_) => Ok(()),
+        Err(AttrError::Full { .. }) => Ok(()),
+        Err(AttrError::CommitsSpent { .. }) => Err(AllocError),
+        Err(AttrError::Memory) => Err(AllocError),
+    }
+}
+
 /// Commits what was applied, if there is room, and passes the gate.
-fn commit_all<const OFFSET_BITS: u32, S: Store<OFFSET_BITS, Layout = AttrLayout>, G: Gate>(
+fn commit_table<const OFFSET_BITS: u32, S: Store<OFFSET_BITS, Layout = AttrLayout>, G: Gate>(
     attribute: &mut Attribute<OFFSET_BITS, S>,
     count: u32,
     skipped: u32,
@@ -90,6 +108,33 @@ fn commit_all<const OFFSET_BITS: u32, S: Store<OFFSET_BITS, Layout = AttrLayout>
     }
 }
 
+/// Commits what was applied, and goes one step on in a compaction.
+fn commit_all<const OFFSET_BITS: u32, S: Store<OFFSET_BITS, Layout = AttrLayout>, G: Gate>(
+    alloc: Global,
+    attribute: &mut Attribute<OFFSET_BITS, S>,
+    count: u32,
+    skipped: u32,
+    gate: &G,
+) -> Result<Batch, AllocError>
+    ensures { IfOk result (CommitsBatch S.ledger attribute.old attribute.new count skipped) }
+{
+    match commit_table(attribute, count, skipped, gate)? {
+        Batch::Done { skipped: more } => {
+            compact_after(alloc, attribute)?;
+            Ok(Batch::Done { skipped: more })
+        }
+        Batch::Full {
+            before,
+            active,
+            held,
+        } => Ok(Batch::Full {
+            before,
+            active,
+            held,
+        }),
+    }
+}
+
 /// Applies the operations of a batch and commits them.
 pub fn load_batch<const OFFSET_BITS: u32, S: Store<OFFSET_BITS, Layout = AttrLayout>, G: Gate>(
     alloc: Global,
@@ -103,7 +148,7 @@ pub fn load_batch<const OFFSET_BITS: u32, S: Store<OFFSET_BITS, Layout = AttrLay
     ensures { IfOk result (LoadsBatch S.ledger attribute.old attribute.new ops.now) }
 {
     match apply_all(alloc, attribute, ops)? {
-        Batch::Done { skipped } => commit_all(attribute, ops.len() as u32, skipped, gate),
+        Batch::Done { skipped } => commit_all(alloc, attribute, ops.len() as u32, skipped, gate),
         Batch::Full {
             before,
             active,

@@ -6,6 +6,7 @@ mod loaded;
 mod loader;
 mod loading;
 
+pub use attribute_kinds::Attribute;
 pub use loaded::{Loaded, NoRoom};
 pub use loader::load;
 pub use loading::Loading;

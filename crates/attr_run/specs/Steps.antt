@@ -8,7 +8,7 @@ use Rattle.attr_words.specs.declared.reading.WordsError.{WordsError}
 use Rattle.attr_words.specs.declared.reading.WordsError.TheVariants as words
 use Rattle.feed_reader.specs.declared.error.FeedError.{FeedError}
 use Rattle.feed_reader.specs.declared.error.FeedError.TheVariants as feed_errors
-use Rattle.attr_loader.specs.declared.loaded.NoRoom.{NoRoom}
+use Rattle.attr_engine.specs.FullStore.{NoRoom}
 use Rattle.attr_report.specs.Run.{Run, Progress}
 use Rattle.attr_run.specs.Run.{asked, ops_in, fed}
 use Rattle.attr_run.specs.Settings.{IsAskedBy}
