@@ -1,13 +1,11 @@
 -- What a change of a list leaves of a store.
 use Rattle.std.specs.Prelude.{◌≡◌, ℕ, ℤ, ◌+◌, ◌*◌, true, nat_eq, nat_le, if◌then◌else◌, List, [], ◌∷◌}
 use Rattle.image_base.specs.Records.{Records}
-use Rattle.arena_api.specs.declared.answers.Oldest.{Oldest}
-use Rattle.store_api.specs.Calls.{Refuses, IsFull}
+use Rattle.store_api.specs.Calls.{Refuses}
 use Rattle.store_api.specs.Ledgers.{Ledger, capacity, is_width}
 use Rattle.store_api.specs.Parts.{Part, Owns, Turns}
 use Rattle.store_api.specs.Units.{MakesAtMost}
 use Rattle.store_api.specs.declared.store.StoreError.{StoreError}
-use Rattle.store_api.specs.declared.store.StoreError.TheVariants as errors
 use Rattle.tree_images.specs.declared.TheConstants.{NODE_WORDS}
 use Rattle.attr_images.specs.declared.TheConstants.{MOST_SHORT}
 use Rattle.attr_images.specs.Words.{class_of}
@@ -41,14 +39,3 @@ pub record RefusesSome {H : Type 0} (old new : Ledger H) (error : StoreError) : 
   pub width : ℕ
   pub is : is_width width ≡ true
   pub refuses : Refuses old new width error
-
--- the store was full for a width that is one of these
-pub record IsFullOf {H : Type 0} (among : ℕ → Type 0) (old new : Ledger H) (width active held : ℕ) (oldest : Oldest) : Type 0 where
-  pub one : among width
-  pub is : is_width width ≡ true
-  pub full : IsFull old new width active held oldest
-
--- a refusal is one of a width among these, or memory is short
-abbrev pub RefusesOf : {H : Type 0} → (ℕ → Type 0) → Ledger H → Ledger H → StoreError → Type 0
-RefusesOf among old new (errors.Full width active held oldest) = IsFullOf among old new width active held oldest
-RefusesOf among old new errors.Memory = Unit {0}

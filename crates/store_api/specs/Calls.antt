@@ -9,7 +9,7 @@ use Rattle.arena_api.specs.Calls.{AddsCommit, IsLowestFree, handed_out, padded, 
 use Rattle.arena_api.specs.Generations.{Advances, LetsGo, Reclaims, advanced, current, reclaimed, retired, freed_below, tag_now}
 use Rattle.arena_api.specs.declared.answers.Oldest.{Oldest}
 use Rattle.store_api.specs.Statuses.{Status, in_use, is_open, is_free_status, is_let_go, after_drop, after_commit, after_accept, free_below, with_status}
-use Rattle.store_api.specs.Ledgers.{Ledger, OfWidth, active_count, held_count, capacity, is_in, is_this, one_more, with_counts}
+use Rattle.store_api.specs.Ledgers.{Ledger, OfWidth, active_count, held_count, capacity, is_in, is_this, is_width, one_more, with_counts}
 use Rattle.store_api.specs.Units.{KeepsCommits}
 use Rattle.store_api.specs.declared.store.Stored.{Stored}
 use Rattle.store_api.specs.declared.store.StoreError.{StoreError}
@@ -102,6 +102,23 @@ pub record IsFull {H : Type 0} (old new : Ledger H) (width active held : ℕ) (o
 abbrev pub Refuses : {H : Type 0} → Ledger H → Ledger H → ℕ → StoreError → Type 0
 Refuses old new width (Full w active held oldest) = (w ≡ width) × IsFull old new width active held oldest
 Refuses old new width Memory = Unit {0}
+
+-- the store was full for a width that is one of these
+pub record IsFullOf {H : Type 0} (among : ℕ → Type 0) (old new : Ledger H) (width active held : ℕ) (oldest : Oldest) : Type 0 where
+  pub one : among width
+  pub is : is_width width ≡ true
+  pub full : IsFull old new width active held oldest
+
+-- a refusal of a change that makes several entries, each of a width among these
+abbrev pub RefusesOf : {H : Type 0} → (ℕ → Type 0) → Ledger H → Ledger H → StoreError → Type 0
+RefusesOf among old new (Full width active held oldest) = IsFullOf among old new width active held oldest
+RefusesOf among old new Memory = Unit {0}
+
+-- a width of which a record is in use
+pub record IsUsedWidth {H : Type 0} (ledger : Ledger H) (m : Records) (width : ℕ) : Type 0 where
+  pub ref : ℕ
+  pub used : in_use (ledger.status ref) ≡ true
+  pub length_is : length (m ref) ≡ width
 
 -- an entry that is free is no record
 abbrev pub without_free : (ℕ → Status) → Records → Records
