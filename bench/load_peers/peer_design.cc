@@ -1,9 +1,11 @@
 // The job over the engine's own structures, without proofs: words in one array of
 // atomics, entries by width, copy-on-write trees of 16 slots in 34 words, postings
 // short up to 8, the document tree, dropped entries freed below the oldest reader.
-// It says what the design can do; compile with -DORDER=std::memory_order_release
-// for the stores to see what sequential consistency costs. Left out: compaction,
-// buffers handed out by width, holds (readers have a slot each).
+// It says what the design can do. The stores of words are sequentially consistent,
+// as attr's are; -DORDER=std::memory_order_release makes them release stores, so
+// the two builds show what the order costs. All loads are sequentially consistent.
+// With PEER_TIMES set it tells how many words it stored in how many entries.
+// Left out: compaction, buffers handed out by width, holds (readers have a slot each).
 #include "peer_common.h"
 #include <atomic>
 #include <array>
@@ -23,8 +25,9 @@ struct Design {
   vector<Ref> free_by[1025], made; vector<char> fresh;  // made since the last commit: the list, and a flag by ref
   vector<Dropped> dropping; vector<std::pair<uint32_t, vector<Dropped>>> held; uint32_t generation = 0;
   std::atomic<uint64_t> root{0}; std::array<std::atomic<uint64_t>, 16> slots{}; std::atomic<uint32_t> seats{0};
-  Ref docs = 0, dict = 0;
+  Ref docs = 0, dict = 0; uint64_t stored = 0, entries = 0;
   explicit Design(Setup const& s) : text(s.text) { fresh.resize(1 << 16); }
+  ~Design() { if (getenv("PEER_TIMES")) fprintf(stderr, "stored words %lu entries %lu\n", stored, entries); }
   uint64_t get(Ref r, uint32_t i) const { return words[size_t(r) * 2 + i].load(); }
   void put(Ref r, uint32_t i, uint64_t w) { words[size_t(r) * 2 + i].store(w, ORDER); }
   static uint32_t width_of(uint32_t n) { uint32_t w = 2; while (w < n) w *= 2; return w; }
@@ -33,7 +36,7 @@ struct Design {
     if (!free_by[width].empty()) { r = free_by[width].back(); free_by[width].pop_back(); }
     else { r = used / 2; used += width; if (used > LIMIT) fail("full", 6); if (r >= fresh.size()) fresh.resize(fresh.size() * 2 + r); }
     for (uint32_t i = 0; i < width; i++) put(r, i, i < n ? w[i] : 0);
-    fresh[r] = 1; made.push_back(r); return r;
+    stored += width; entries++; fresh[r] = 1; made.push_back(r); return r;
   }
   void drop(Ref r, uint32_t width) { if (fresh[r]) { fresh[r] = 0; free_by[width].push_back(r); } else dropping.push_back({r, width}); }
 
