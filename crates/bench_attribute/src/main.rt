@@ -1,11 +1,14 @@
-//! A workload over attributes for `bench/attribute`: counts alone are printed.
+//! A workload over attributes for `bench/attribute` and `bench/compaction`: counts alone are printed.
 #![tactic(auto)]
 
+mod compaction;
 mod draws;
+mod live;
 mod memory;
 mod operations;
 mod queries;
 
+use crate::compaction::{Updates, updates_told};
 use crate::operations::{Load, apply_told};
 use crate::queries::{Asks, Question, asked_told};
 use attr_types::{Kind, ValueType};
@@ -16,6 +19,7 @@ use std::process::ExitCode;
 #[derive(Clone, Copy)]
 enum Workload {
     Operations(Load),
+    Updates(Updates),
     Queries(Asks),
 }
 
@@ -47,10 +51,35 @@ fn question_of(name: &str) -> Option<Question> {
     }
 }
 
+/// Updates with compactions, by the words after the first: `KIND long|text DOCUMENTS UPDATES LEFT BATCH BUFFERS WORDS uniform|zipf APPLIES
+/// KEYS COUNTS`.
+fn updates_in(rt: &HostRuntime) -> Option<Workload> {
+    let mut words = std::env::args(rt).ok()?.skip(2);
+    let kind = kind_of(words.next()?.as_str())?;
+    let value = type_of(words.next()?.as_str())?;
+    Some(Workload::Updates(Updates {
+        kind,
+        value,
+        documents: words.next()?.parse::<u32>().ok()?.min(1_000_000),
+        updates: words.next()?.parse::<u32>().ok()?,
+        left: words.next()?.parse::<u32>().ok()?,
+        batch: words.next()?.parse::<u32>().ok()?,
+        buffers: words.next()?.parse::<u32>().ok()?,
+        words: words.next()?.parse::<u32>().ok()?,
+        zipf: words.next()?.as_str() == "zipf",
+        applies: words.next()?.as_str() == "1",
+        keys: words.next()?.parse::<u32>().ok()?,
+        counts: words.next()?.as_str() == "1",
+    }))
+}
+
 /// The workload that the words after the program's name ask for.
 fn workload_in(rt: &HostRuntime) -> Option<Workload> {
     let mut words = std::env::args(rt).ok()?.skip(1);
     let name = words.next()?;
+    if name.as_str() == "compaction" {
+        return updates_in(rt);
+    }
     let of = words.next()?;
     let first = words.next()?.parse::<u32>().ok()?;
     let second = words.next()?.parse::<u32>().ok()?;
@@ -77,6 +106,7 @@ fn main(rt: HostRuntime) -> ExitCode {
     let alloc = rt.alloc();
     let told = match workload_in(&rt) {
         Some(Workload::Operations(load)) => apply_told(alloc, load),
+        Some(Workload::Updates(load)) => updates_told(alloc, load),
         Some(Workload::Queries(asks)) => asked_told(alloc, asks),
         None => Err(AllocError),
     };

@@ -1,0 +1,20 @@
+use Rattle.std.proofs.Common.{refl, arith}
+use Rattle.bench_attribute.proofs.compaction.new_attribute.Goals as goal
+
+pub create-requires : goal.create-requires
+create-requires c = (
+  omega arith,
+  (
+    omega arith,
+    (
+      omega arith,
+      (
+        omega arith,
+        (
+          c.in_ok-work.ensures.shape,
+          (c.in_ok-work.ensures.fresh, refl),
+        ),
+      ),
+    ),
+  ),
+)

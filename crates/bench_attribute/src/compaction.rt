@@ -1,0 +1,244 @@
+//! Updates of one attribute with a step of a compaction after each commit, or without.
+ghost use Rattle.std.specs.Prelude.{◌≡◌, ◌≤◌, length, IfOk};
+ghost use Rattle.arena_api.specs.Calls.{IsFresh};
+ghost use Rattle.attr_images.specs.Shapes.{shape_of, types_of};
+ghost use Rattle.attr_types.specs.declared.field.TheConstants.{MOST_FIELDS};
+
+use crate::draws::{Random, doc_at, items_of};
+use crate::live::live_words;
+use crate::memory::one_field;
+use arena_api::Work;
+use attr_images::{AttrLayout, shape_of};
+use attr_types::{FieldItems, Fields, Kind, Op, ValueType, fits};
+use attribute_kinds::{AttrError, Attribute, Compacted};
+use entry_store::EntryStore;
+use frozen_api::Frozen;
+use mem_work::MemWork;
+use noted_work::NotedWork;
+use std::alloc::{AllocError, Global};
+
+type Memory = NotedWork<22, MemWork<22, AttrLayout>>;
+
+type Kinds = Attribute<22, EntryStore<22, Memory>>;
+
+/// Documents are put; then so many updates put to some of them. After half of these the documents above `left` are removed, and the others
+/// go to documents up to it.
+#[derive(Clone, Copy)]
+pub struct Updates {
+    pub kind: Kind,
+    pub value: ValueType,
+    pub documents: u32,
+    pub updates: u32,
+    pub left: u32,
+    pub batch: u32,
+    pub buffers: u32,
+    pub words: u32,
+    /// The lower a document's number the likelier it is drawn.
+    pub zipf: bool,
+    /// The operations are not only made.
+    pub applies: bool,
+    /// How many keys of a compaction are visited after a commit.
+    pub keys: u32,
+    /// The words that live are counted.
+    pub counts: bool,
+}
+
+/// What a run came to.
+#[derive(Clone, Copy)]
+struct Told {
+    operations: u32,
+    commits: u32,
+    finished: u32,
+    /// Steps without room.
+    stopped: u32,
+}
+
+fn new_memory(alloc: Global, fields: &Fields, load: Updates) -> Result<Memory, AllocError>
+    requires few { length fields.now ≤ MOST_FIELDS }
+    ensures shape { IfOk result (λ w. ⟦<NotedWork<22, MemWork<22, AttrLayout>> as Frozen<22>>⟧.shape w ≡ shape_of (types_of fields.now)) }
+    ensures fresh { IfOk result (λ w. IsFresh (⟦<NotedWork<22, MemWork<22, AttrLayout>> as Work<22>>⟧.knows w)) }
+{
+    let buffers = load.buffers.max(1).min(1000);
+    let words = load.words.max(8192).min(65536);
+    let work = MemWork::create(alloc, buffers, words, shape_of(fields))?;
+    Ok(NotedWork::new(alloc, work, load.counts))
+}
+
+fn new_attribute(alloc: Global, fields: &Fields, load: Updates) -> Result<Kinds, AllocError>
+    requires one { length fields.now ≡ 1 }
+    ensures fields { IfOk result (λ a. a.fields ≡ fields.now) }
+{
+    let work = new_memory(alloc, fields, load)?;
+    match Attribute::create(alloc, work, fields, false) {
+        Ok(attribute) => Ok(attribute),
+        Err(_) => Err(AllocError),
+    }
+}
+
+/// A number below `most`: each as likely as any other; or one of 16 octaves, and a number of it.
+fn number_of(load: Updates, most: u32, random: &mut Random) -> u32 {
+    if !load.zipf {
+        return random.below(most);
+    }
+    let octave = 1u32 << (random.below(16) % 16);
+    let number = octave
+        .saturating_sub(1)
+        .saturating_add(random.below(octave));
+    number % most.max(1)
+}
+
+/// Puts items to a document.
+fn put_of(
+    alloc: Global,
+    load: Updates,
+    number: u32,
+    random: &mut Random,
+) -> Result<Op, AllocError> {
+    let doc = doc_at(number.saturating_add(1));
+    let items = items_of(alloc, load.kind, load.value, load.documents, random)?;
+    let items = FieldItems::of_one(alloc, items)?;
+    Ok(Op::Put { doc, items })
+}
+
+/// Operation `i`: the documents one after another; half of the updates; the removes; the other half.
+fn op_of(alloc: Global, load: Updates, i: u32, random: &mut Random) -> Result<Op, AllocError> {
+    if i < load.documents {
+        return put_of(alloc, load, i, random);
+    }
+    let update = i.saturating_sub(load.documents);
+    let half = load.updates / 2;
+    if update < half {
+        let number = number_of(load, load.documents, random);
+        return put_of(alloc, load, number, random);
+    }
+    let number = load.left.saturating_add(update.saturating_sub(half));
+    if number < load.documents {
+        return Ok(Op::Remove {
+            doc: doc_at(number.saturating_add(1)),
+        });
+    }
+    let number = number_of(load, load.left, random);
+    put_of(alloc, load, number, random)
+}
+
+fn operations_of(load: Updates) -> u32 {
+    let removes = load.documents.saturating_sub(load.left);
+    load.documents
+        .saturating_add(load.updates)
+        .saturating_add(removes)
+}
+
+/// One step of a compaction, as the loader takes it.
+fn step_one(
+    alloc: Global,
+    attribute: &mut Kinds,
+    fields: &Fields,
+    load: Updates,
+    told: &mut Told,
+) -> Result<(), AllocError>
+    requires same { attribute.old.fields ≡ fields.now }
+    ensures same { attribute.new.fields ≡ fields.now }
+{
+    if load.keys == 0 {
+        return Ok(());
+    }
+    match attribute.compact_step(alloc, load.keys) {
+        Ok(Compacted::Finished(_)) => {
+            told.finished = told.finished.saturating_add(1);
+            Ok(())
+        }
+        Ok(Compacted::Idle) => Ok(()),
+        Ok(Compacted::Moved { stop, .. }) => {
+            if stop.is_some() {
+                told.stopped = told.stopped.saturating_add(1);
+            }
+            Ok(())
+        }
+        Err(AttrError::Full { .. }) => {
+            told.stopped = told.stopped.saturating_add(1);
+            Ok(())
+        }
+        Err(AttrError::CommitsSpent { .. }) => Err(AllocError),
+        Err(AttrError::Memory) => Err(AllocError),
+    }
+}
+
+/// Applies an operation, and commits where it is due.
+fn take_turn(
+    alloc: Global,
+    attribute: &mut Kinds,
+    fields: &Fields,
+    load: Updates,
+    op: &Op,
+    told: &mut Told,
+) -> Result<(), AllocError>
+    requires same { attribute.old.fields ≡ fields.now }
+    ensures same { attribute.new.fields ≡ fields.now }
+{
+    if !fits(fields, op) || attribute.operations() == u32::MAX {
+        return Err(AllocError);
+    }
+    if attribute.apply(alloc, op).is_err() {
+        return Err(AllocError);
+    }
+    told.operations = told.operations.saturating_add(1);
+    if told.operations % load.batch.max(1) != 0 {
+        return Ok(());
+    }
+    if attribute.commit().is_err() {
+        return Err(AllocError);
+    }
+    told.commits = told.commits.saturating_add(1);
+    step_one(alloc, attribute, fields, load, told)
+}
+
+fn apply_all(
+    alloc: Global,
+    attribute: &mut Kinds,
+    fields: &Fields,
+    load: Updates,
+    told: &mut Told,
+) -> Result<(), AllocError>
+    requires same { attribute.old.fields ≡ fields.now }
+    ensures same { attribute.new.fields ≡ fields.now }
+{
+    let mut random = Random::new();
+    for i in 0..operations_of(load) {
+        let op = op_of(alloc, load, i, &mut random)?;
+        if load.applies {
+            take_turn(alloc, attribute, fields, load, &op, told)?;
+        }
+    }
+    Ok(())
+}
+
+/// The words that live, 0 where they were not counted.
+fn counted(alloc: Global, fields: &Fields, work: &Memory, root: u64) -> u64 {
+    match (work.records(), fields.as_slice().get(0)) {
+        (Some(records), Some(field)) => live_words(alloc, field, records, root).unwrap_or(0),
+        _ => 0,
+    }
+}
+
+/// A run, as a line.
+pub fn updates_told(alloc: Global, load: Updates) -> Result<String, AllocError> {
+    let fields = one_field(alloc, load.kind, load.value)?;
+    let mut attribute = new_attribute(alloc, &fields, load)?;
+    let mut told = Told {
+        operations: 0,
+        commits: 0,
+        finished: 0,
+        stopped: 0,
+    };
+    let all = apply_all(alloc, &mut attribute, &fields, load, &mut told);
+    let full = all.is_err();
+    let (work, published) = attribute.into_work();
+    let taken = work.buffers().saturating_sub(work.free_buffers());
+    let held = u64::from(taken).saturating_mul(u64::from(work.words()));
+    let live = counted(alloc, &fields, &work, u64::from(published.root.raw()));
+    let (operations, commits) = (told.operations, told.commits);
+    let (finished, stopped) = (told.finished, told.stopped);
+    format!(in alloc;
+        "operations {operations} commits {commits} finished {finished} stopped {stopped} full {full} held {held} live {live}"
+    )
+}

@@ -1,0 +1,78 @@
+//! The words of the records that an image reaches.
+use attr_types::{Field, Kind};
+use check_trees::{CheckFault, Keys, check_tree};
+use image_base::{word_in, words_at};
+use std::alloc::Global;
+use std::collections::BTreeMap;
+use tree_images::FIRST_VALUE;
+
+/// The words of a record.
+fn words_of(records: &BTreeMap<u32, Vec<u64>>, reference: u64) -> u64 {
+    words_at(records, reference).len() as u64
+}
+
+/// The words of the nodes from one of this level on.
+fn node_words(records: &BTreeMap<u32, Vec<u64>>, reference: u64, level: u32) -> u64 {
+    let words = words_at(records, reference);
+    let mut sum = words.len() as u64;
+    if level == 0 {
+        return sum;
+    }
+    let used = (word_in(words, 0) % 256) as usize;
+    for i in 0..used {
+        sum = sum.saturating_add(node_words(
+            records,
+            word_in(words, FIRST_VALUE.saturating_add(i)),
+            level - 1,
+        ));
+    }
+    sum
+}
+
+/// The words of a tree's nodes.
+fn tree_words(records: &BTreeMap<u32, Vec<u64>>, root: u64) -> u64 {
+    if root == 0 {
+        return 0;
+    }
+    let level = word_in(words_at(records, root), 0) / 256 % 8;
+    node_words(records, root, level as u32)
+}
+
+/// The words of a document's own record, where it has one.
+fn document_words(kind: Kind, records: &BTreeMap<u32, Vec<u64>>, reference: u64) -> u64 {
+    match kind {
+        Kind::Single => 0,
+        Kind::Array => words_of(records, reference),
+        Kind::WeightedSet => words_of(records, reference),
+    }
+}
+
+/// The words of a value and its list.
+fn value_words(records: &BTreeMap<u32, Vec<u64>>, key: u64, list: u64) -> u64 {
+    let own = words_of(records, key);
+    if list % 2 == 1 {
+        own.saturating_add(tree_words(records, list / 2))
+    } else {
+        own.saturating_add(words_of(records, list / 2))
+    }
+}
+
+/// The words of all that one attribute's root record leads to, itself too.
+pub fn live_words(
+    alloc: Global,
+    field: &Field,
+    records: &BTreeMap<u32, Vec<u64>>,
+    root: u64,
+) -> Result<u64, CheckFault> {
+    let words = words_at(records, root);
+    let (documents, dictionary) = (word_in(words, 1), word_in(words, 2));
+    let mut sum = words.len() as u64;
+    for pair in &check_tree(alloc, Keys::Numbers, records, documents)? {
+        sum = sum.saturating_add(document_words(field.kind, records, pair.1));
+    }
+    for pair in &check_tree(alloc, Keys::Values(field.value), records, dictionary)? {
+        sum = sum.saturating_add(value_words(records, pair.0, pair.1));
+    }
+    sum = sum.saturating_add(tree_words(records, documents));
+    Ok(sum.saturating_add(tree_words(records, dictionary)))
+}
