@@ -1,5 +1,5 @@
 //! Updates of one attribute with a step of a compaction after each commit, or without.
-ghost use Rattle.std.specs.Prelude.{◌≡◌, ◌≤◌, length, IfOk};
+ghost use Rattle.std.specs.Prelude.{◌≡◌, ◌<◌, ◌≤◌, length, IfOk};
 ghost use Rattle.arena_api.specs.Calls.{IsFresh};
 ghost use Rattle.attr_images.specs.Shapes.{shape_of, types_of};
 ghost use Rattle.attr_types.specs.declared.field.TheConstants.{MOST_FIELDS};
@@ -10,7 +10,7 @@ use crate::memory::one_field;
 use arena_api::Work;
 use attr_images::{AttrLayout, shape_of};
 use attr_types::{FieldItems, Fields, Kind, Op, ValueType, fits};
-use attribute_kinds::{AttrError, Attribute, Compacted};
+use attribute_kinds::{AttrError, Attribute, Compacted, committed_work};
 use entry_store::EntryStore;
 use frozen_api::Frozen;
 use mem_work::MemWork;
@@ -31,8 +31,8 @@ pub struct Updates {
     pub updates: u32,
     pub left: u32,
     pub batch: u32,
+    /// Of 8,192 words each.
     pub buffers: u32,
-    pub words: u32,
     /// The lower a document's number the likelier it is drawn.
     pub zipf: bool,
     /// The operations are not only made.
@@ -53,22 +53,35 @@ struct Told {
     stopped: u32,
 }
 
-fn new_memory(alloc: Global, fields: &Fields, load: Updates) -> Result<Memory, AllocError>
+fn new_memory(
+    alloc: Global,
+    fields: &Fields,
+    buffers: u32,
+    noting: bool,
+) -> Result<Memory, AllocError>
     requires few { length fields.now ≤ MOST_FIELDS }
+    requires buffers { 1 ≤ buffers }
+    requires fit { buffers ≤ 1000 }
     ensures shape { IfOk result (λ w. ⟦<NotedWork<22, MemWork<22, AttrLayout>> as Frozen<22>>⟧.shape w ≡ shape_of (types_of fields.now)) }
     ensures fresh { IfOk result (λ w. IsFresh (⟦<NotedWork<22, MemWork<22, AttrLayout>> as Work<22>>⟧.knows w)) }
 {
-    let buffers = load.buffers.max(1).min(1000);
-    let words = load.words.max(8192).min(65536);
-    let work = MemWork::create(alloc, buffers, words, shape_of(fields))?;
-    Ok(NotedWork::new(alloc, work, load.counts))
+    let work = MemWork::create(alloc, buffers, 8192, shape_of(fields))?;
+    Ok(NotedWork::new(alloc, work, noting))
 }
 
-fn new_attribute(alloc: Global, fields: &Fields, load: Updates) -> Result<Kinds, AllocError>
-    requires one { length fields.now ≡ 1 }
+fn new_attribute(
+    alloc: Global,
+    fields: &Fields,
+    buffers: u32,
+    noting: bool,
+) -> Result<Kinds, AllocError>
+    requires some { 0 < length fields.now }
+    requires few { length fields.now ≤ MOST_FIELDS }
+    requires buffers { 1 ≤ buffers }
+    requires fit { buffers ≤ 1000 }
     ensures fields { IfOk result (λ a. a.fields ≡ fields.now) }
 {
-    let work = new_memory(alloc, fields, load)?;
+    let work = new_memory(alloc, fields, buffers, noting)?;
     match Attribute::create(alloc, work, fields, false) {
         Ok(attribute) => Ok(attribute),
         Err(_) => Err(AllocError),
@@ -223,7 +236,8 @@ fn counted(alloc: Global, fields: &Fields, work: &Memory, root: u64) -> u64 {
 /// A run, as a line.
 pub fn updates_told(alloc: Global, load: Updates) -> Result<String, AllocError> {
     let fields = one_field(alloc, load.kind, load.value)?;
-    let mut attribute = new_attribute(alloc, &fields, load)?;
+    let buffers = load.buffers.max(1).min(1000);
+    let mut attribute = new_attribute(alloc, &fields, buffers, load.counts)?;
     let mut told = Told {
         operations: 0,
         commits: 0,
@@ -232,10 +246,12 @@ pub fn updates_told(alloc: Global, load: Updates) -> Result<String, AllocError> 
     };
     let all = apply_all(alloc, &mut attribute, &fields, load, &mut told);
     let full = all.is_err();
-    let (work, published) = attribute.into_work();
+    let (store, published) = attribute.into_store();
+    let root = published.root;
+    let work = committed_work(store, &fields, root);
     let taken = work.buffers().saturating_sub(work.free_buffers());
     let held = u64::from(taken).saturating_mul(u64::from(work.words()));
-    let live = counted(alloc, &fields, &work, u64::from(published.root.raw()));
+    let live = counted(alloc, &fields, &work, u64::from(root.raw()));
     let (operations, commits) = (told.operations, told.commits);
     let (finished, stopped) = (told.finished, told.stopped);
     format!(in alloc;

@@ -51,8 +51,8 @@ fn question_of(name: &str) -> Option<Question> {
     }
 }
 
-/// Updates with compactions, by the words after the first: `KIND long|text DOCUMENTS UPDATES LEFT BATCH BUFFERS WORDS uniform|zipf APPLIES
-/// KEYS COUNTS`.
+/// Updates with compactions, by the words after the first: `KIND long|text DOCUMENTS UPDATES LEFT BATCH BUFFERS uniform|zipf APPLIES KEYS
+/// COUNTS`.
 fn updates_in(rt: &HostRuntime) -> Option<Workload> {
     let mut words = std::env::args(rt).ok()?.skip(2);
     let kind = kind_of(words.next()?.as_str())?;
@@ -65,7 +65,6 @@ fn updates_in(rt: &HostRuntime) -> Option<Workload> {
         left: words.next()?.parse::<u32>().ok()?,
         batch: words.next()?.parse::<u32>().ok()?,
         buffers: words.next()?.parse::<u32>().ok()?,
-        words: words.next()?.parse::<u32>().ok()?,
         zipf: words.next()?.as_str() == "zipf",
         applies: words.next()?.as_str() == "1",
         keys: words.next()?.parse::<u32>().ok()?,

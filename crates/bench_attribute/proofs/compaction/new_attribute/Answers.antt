@@ -7,9 +7,9 @@ create-requires c = (
   (
     omega arith,
     (
-      omega arith,
+      c.requires.some,
       (
-        omega arith,
+        c.requires.few,
         (
           c.in_ok-work.ensures.shape,
           (c.in_ok-work.ensures.fresh, refl),
