@@ -4,7 +4,9 @@
 // It says what the design can do. The stores of words are sequentially consistent,
 // as attr's are; -DORDER=std::memory_order_release makes them release stores, so
 // the two builds show what the order costs. All loads are sequentially consistent.
-// With PEER_TIMES set it tells how many words it stored in how many entries.
+// With -DLOOKS a word is loaded first, and stored only where it differs. With
+// PEER_TIMES set it tells how many words of how many entries it had to store, and
+// how many of these it left since they were there.
 // Left out: compaction, buffers handed out by width, holds (readers have a slot each).
 #include "peer_common.h"
 #include <atomic>
@@ -25,11 +27,15 @@ struct Design {
   vector<Ref> free_by[1025], made; vector<char> fresh;  // made since the last commit: the list, and a flag by ref
   vector<Dropped> dropping; vector<std::pair<uint32_t, vector<Dropped>>> held; uint32_t generation = 0;
   std::atomic<uint64_t> root{0}; std::array<std::atomic<uint64_t>, 16> slots{}; std::atomic<uint32_t> seats{0};
-  Ref docs = 0, dict = 0; uint64_t stored = 0, entries = 0;
+  Ref docs = 0, dict = 0; uint64_t stored = 0, entries = 0, left = 0;
   explicit Design(Setup const& s) : text(s.text) { fresh.resize(1 << 16); }
-  ~Design() { if (getenv("PEER_TIMES")) fprintf(stderr, "stored words %lu entries %lu\n", stored, entries); }
+  ~Design() { if (getenv("PEER_TIMES")) fprintf(stderr, "stored words %lu entries %lu left %lu\n", stored, entries, left); }
   uint64_t get(Ref r, uint32_t i) const { return words[size_t(r) * 2 + i].load(); }
+#ifdef LOOKS
+  void put(Ref r, uint32_t i, uint64_t w) { auto& word = words[size_t(r) * 2 + i]; if (word.load() == w) left++; else word.store(w, ORDER); }
+#else
   void put(Ref r, uint32_t i, uint64_t w) { words[size_t(r) * 2 + i].store(w, ORDER); }
+#endif
   static uint32_t width_of(uint32_t n) { uint32_t w = 2; while (w < n) w *= 2; return w; }
   Ref make(uint32_t width, uint64_t const* w, uint32_t n) {
     Ref r;
