@@ -42,8 +42,8 @@ returns-clause-records g c = λ k q. at q k
       | inr ne ↦ c.loop-i.invariant.others q ne ∙ ap (λ t. cond t ws (writer_records (writer_of c.args.self.now.place.me.0) q)) (sym (ne_eqb q c.args.entry ne))
     ]
 
-pub store_in-requires : goal.store_in-requires
-store_in-requires g c =
+pub put_in-requires : goal.put_in-requires
+put_in-requires g c =
     let B : ℕ = g.row.OFFSET_BITS in
     let old = view_of c.args.self.now.place.table_id (writer_of c.args.self.now.place.me.0) in
     let now = view_of c.loop-i.self.place.table_id (writer_of c.loop-i.self.place.me.0) in
@@ -64,7 +64,7 @@ pub loop-i-preserved : goal.loop-i-preserved
 loop-i-preserved g c =
     let now = view_of c.loop-i.self.place.table_id (writer_of c.loop-i.self.place.me.0) in
     let old = view_of c.args.self.now.place.table_id (writer_of c.args.self.now.place.me.0) in
-    let e = c.store_in.ensures in
+    let e = c.put_in.ensures in
     let inv = c.loop-i.invariant in
     record {
       knows =
