@@ -76,7 +76,7 @@ impl<const OFFSET_BITS: u32, L: Reach<OFFSET_BITS>> MemWork<OFFSET_BITS, L> {
     {
         let standing = self.cells.entries(alloc, None)?;
         let reached = L::reached(alloc, self.shape, &standing, self.root)?;
-        let mut map = self.cells.entries(alloc, Some(u64::from(self.last) + 1))?;
+        let mut map = self.cells.entries(alloc, Some(self.last + 1))?;
         add_those(alloc, reached, &standing, &mut map)?;
         Ok(map)
     }
@@ -130,7 +130,7 @@ impl<const OFFSET_BITS: u32, L: Layout> Work<OFFSET_BITS> for MemWork<OFFSET_BIT
         ensures others { (q : ℕ) → q ≢ entry.entry → ⟦<MemWork<OFFSET_BITS, L> as Frozen<OFFSET_BITS>>⟧.records self.new q ≡ ⟦<MemWork<OFFSET_BITS, L> as Frozen<OFFSET_BITS>>⟧.records self.old q }
         ensures shape { ⟦<MemWork<OFFSET_BITS, L> as Frozen<OFFSET_BITS>>⟧.shape self.new ≡ ⟦<MemWork<OFFSET_BITS, L> as Frozen<OFFSET_BITS>>⟧.shape self.old }
     {
-        self.cells.store(entry, i, word, u64::from(self.last) + 1);
+        self.cells.store(entry, i, word, self.last + 1);
     }
 
     fn put(&mut self, entry: EntryRef<OFFSET_BITS>, width: u32, words: &[u64])
@@ -143,7 +143,7 @@ impl<const OFFSET_BITS: u32, L: Layout> Work<OFFSET_BITS> for MemWork<OFFSET_BIT
         ensures shape { ⟦<MemWork<OFFSET_BITS, L> as Frozen<OFFSET_BITS>>⟧.shape self.new ≡ ⟦<MemWork<OFFSET_BITS, L> as Frozen<OFFSET_BITS>>⟧.shape self.old }
     {
         self.cells
-            .put(entry, width, words, u64::from(self.last) + 1);
+            .put(entry, width, words, self.last + 1);
     }
 
     fn hand_out(&mut self, width: u32) -> Option<u32> {
