@@ -177,6 +177,7 @@ impl<const OFFSET_BITS: u32, S: Store<OFFSET_BITS, Layout = AttrLayout>> Attribu
         ensures refused { IfErr result (RefusesOperation (S.ledger self.old.store) (S.ledger self.new.store)) }
         ensures counts { MakesOperation (S.ledger self.old.store) (S.ledger self.new.store) self.old.fields self.old.table op.now }
         ensures spares { IfErr result (SparesOf (S.ledger self.new.store) self.old.fields self.old.table op.now) }
+        ensures widths { IfErr result (NamesWidth self.old.fields self.old.table op.now) }
         ensures room { IfErr result (LacksBuffers (S.ledger self.old.store) self.old.fields) }
         ensures keeps { KeepsStore (S.ledger self.old.store) (S.ledger self.new.store) }
         ensures fields { self.new.fields ≡ self.old.fields }
