@@ -21,8 +21,8 @@ use Rattle.tree_make.specs.Makes.{CountsNodes}
 use Rattle.attr_images.specs.Words.{unpacked, weight_of}
 use Rattle.attr_types.specs.Lawful.{IsDocNumber}
 use Rattle.posting_store.specs.Lists.{list_at, list_levels, IsList, IsPlain, AreDocuments}
-use Rattle.posting_store.specs.Changes.{list_part, list_most, MakesList, MakesWithin}
-use Rattle.posting_store.proofs.ChangeLemmas.{makes_tree, counts_tree}
+use Rattle.posting_store.specs.Changes.{list_part, list_most, IsListWidth, MakesList, MakesWithin}
+use Rattle.posting_store.proofs.ChangeLemmas.{makes_tree, counts_tree, is_tree_width}
 use Rattle.posting_store.proofs.FormLemmas.{tree_at, tree_reach, tree_levels, tree_form}
 use Rattle.posting_store.proofs.PairLemmas.{weighed, weighed-length, against, weighed-put, weighed-take_out, weighed-there, documents_in, documents_out, length_out_some, zipped, zipped_small}
 
