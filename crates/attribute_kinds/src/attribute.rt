@@ -13,7 +13,7 @@ ghost use Rattle.attr_steps.specs.Calls.{KeepsStore, LeavesEntries};
 ghost use Rattle.attribute_kinds.specs.Calls.{applied_to, RefusesOperation};
 ghost use Rattle.attribute_kinds.specs.Calls.{RefusesCommit, CommitsImage, HasCommit, IsForRoot};
 ghost use Rattle.attr_steps.specs.Counts.{MakesOperation};
-ghost use Rattle.attribute_kinds.specs.Counts.{LacksBuffers, SparesOf};
+ghost use Rattle.attribute_kinds.specs.Counts.{LacksBuffers, NamesWidth, SparesOf};
 ghost use Rattle.attribute_kinds.specs.Compacting.{CompactsTo, IsIdle, RefusesStep};
 ghost use Rattle.compact_steps.specs.Compactions.{KeepsStoreBut};
 ghost use Rattle.attribute_kinds.specs.declared.answers.Compacted.TheVariants.{Idle};

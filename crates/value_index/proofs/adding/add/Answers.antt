@@ -88,7 +88,6 @@ returns-in-Some-clause-refuses g c =
     (subst (λ s. IfErr c.add_more.result (RefusesOf (IsChangeWidth value
     (length (insert_entry nat_cmp (list_of value (index_of (type_of value) (records s) root)) c.args.doc (to_z w32 (of_z w32 c.args.weight))))) (ledger s) (ledger t))) c.find.ensures.same c.add_more.ensures.refuses)
 
-
 pub returns-in-Some-clause-may : goal.returns-in-Some-clause-may
 returns-in-Some-clause-may g c = subst (λ s. MayDo (g.S.Store.ledger s) (g.S.Store.ledger c.add_more.new.store)) c.find.ensures.same c.add_more.ensures.may
 
@@ -114,7 +113,6 @@ returns-in-None-clause-refuses g c =
     (length (insert_entry nat_cmp (list_of value (index_of (type_of value) (records c.args.store.now) root)) c.args.doc w))) (ledger c.args.store.now) (ledger t))) (to_z-of_z w32 c.args.weight c.ranges.weight)
     (subst (λ s. IfErr c.add_new.result (RefusesOf (IsChangeWidth value
     (length (insert_entry nat_cmp (list_of value (index_of (type_of value) (records s) root)) c.args.doc (to_z w32 (of_z w32 c.args.weight))))) (ledger s) (ledger t))) c.find.ensures.same c.add_new.ensures.refuses)
-
 
 pub returns-in-None-clause-may : goal.returns-in-None-clause-may
 returns-in-None-clause-may g c = subst (λ s. MayDo (g.S.Store.ledger s) (g.S.Store.ledger c.add_new.new.store)) c.find.ensures.same c.add_new.ensures.may

@@ -59,7 +59,6 @@ returns-in_err-next-clause-refuses g c =
     rw (p.1, p.2) (of_more (IsListWidth (length (insert_entry nat_cmp (list_at m list) c.args.doc (to_z w32 (of_z w32 c.args.weight))))) (IsChangeWidth value count) a a (ledger c.add.new.store) _ (may_do-same a)
     (λ w is. list_change value count w (subst (λ k. IsListWidth k w) size is)) c.in_err-next.ensures.refuses)
 
-
 pub returns-in_err-next-clause-may : goal.returns-in_err-next-clause-may
 returns-in_err-next-clause-may g c = c.add.ensures.may
 
@@ -117,7 +116,6 @@ returns-clause-refuses g c =
     let m = g.S.Frozen.records c.args.store.now in
     let count : ℕ = length (insert_entry nat_cmp (list_of value (index_of (type_of value) m root)) c.args.doc c.args.weight) in
     if_one (IsChangeWidth value count) (ledger c.args.store.now) (ledger c.add.new.store) (ledger c.set.new.store) 34 c.set.result c.add.ensures.may refl (node_change value count) c.set.ensures.refuses
-
 
 pub returns-clause-may : goal.returns-clause-may
 returns-clause-may g c =

@@ -42,7 +42,6 @@ returns-in_err-key-clause-refuses g c =
     rw (p.1, p.2) (of_one (IsChangeWidth value count) a a (ledger c.add.new.store) (class_of (length (value_words value))) _ (may_do-same a) (class_width (length (value_words value)))
     (record_change value count (inserted_some (list_of value (index_of (type_of value) m root)) c.args.doc c.args.weight)) c.in_err-key.ensures.refuses)
 
-
 pub returns-in_err-key-clause-may : goal.returns-in_err-key-clause-may
 returns-in_err-key-clause-may g c = c.add.ensures.may
 
@@ -75,7 +74,6 @@ returns-in_err-list-clause-refuses g c =
     let p = err_from_is_err_and c.from_residual-in_err-list.result c.from_residual-in_err-list.ensures.1 in
     rw (p.1, p.2) (of_more (IsListWidth 1) (IsChangeWidth value count) (ledger c.args.store.now) (ledger c.add.new.store) (ledger c.add-2.new.store) _ c.add.ensures.may
     (λ w is. subst (λ k. IsChangeWidth value k w) (sym size) (list_change value 1 w is)) c.in_err-list.ensures.refuses)
-
 
 pub returns-in_err-list-clause-may : goal.returns-in_err-list-clause-may
 returns-in_err-list-clause-may g c =
@@ -145,7 +143,6 @@ returns-clause-refuses g c =
     let count : ℕ = length (insert_entry nat_cmp (list_of value (index_of (type_of value) m root)) c.args.doc c.args.weight) in
     if_one (IsChangeWidth value count) (ledger c.args.store.now) (ledger c.add-2.new.store) (ledger c.set.new.store) 34 c.set.result
     (may_do-then (ledger c.args.store.now) (ledger c.add.new.store) (ledger c.add-2.new.store) c.add.ensures.may c.add-2.ensures.may) refl (node_change value count) c.set.ensures.refuses
-
 
 pub returns-clause-may : goal.returns-clause-may
 returns-clause-may g c =

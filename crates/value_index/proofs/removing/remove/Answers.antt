@@ -72,7 +72,6 @@ returns-clause-refuses g c =
     subst (λ s. IfErr c.remove_from.result (RefusesOf (IsChangeWidth value
     (length (remove_entry (is_at (nat_cmp c.args.doc)) (list_of value (index_of (type_of value) (records s) root))))) (ledger s) (ledger t))) c.find.ensures.same c.remove_from.ensures.refuses
 
-
 pub returns-clause-may : goal.returns-clause-may
 returns-clause-may g c = subst (λ s. MayDo (g.S.Store.ledger s) (g.S.Store.ledger c.remove_from.new.store)) c.find.ensures.same c.remove_from.ensures.may
 

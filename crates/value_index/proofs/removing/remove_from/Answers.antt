@@ -63,7 +63,6 @@ returns-in_err-next-clause-refuses g c =
     rw (p.1, p.2) (of_more (IsListWidth (length (remove_entry (is_at (nat_cmp c.args.doc)) (list_at m list)))) (IsChangeWidth value count) a a (ledger c.remove.new.store) _ (may_do-same a)
     (λ w is. list_change value count w (subst (λ k. IsListWidth k w) size is)) c.in_err-next.ensures.refuses)
 
-
 pub returns-in_err-next-clause-may : goal.returns-in_err-next-clause-may
 returns-in_err-next-clause-may g c = c.remove.ensures.may
 
@@ -122,7 +121,6 @@ returns-then-word-ne0-clause-refuses g c =
     let count : ℕ = length (remove_entry (is_at (nat_cmp c.args.doc)) (list_of value (index_of (type_of value) m root))) in
     if_one (IsChangeWidth value count) (ledger c.args.store.now) (ledger c.remove.new.store) (ledger c.set.new.store) 34 c.set.result c.remove.ensures.may refl (node_change value count) c.set.ensures.refuses
 
-
 pub returns-then-word-ne0-clause-may : goal.returns-then-word-ne0-clause-may
 returns-then-word-ne0-clause-may g c =
     let ledger = g.S.Store.ledger in
@@ -167,7 +165,6 @@ returns-in_err-left-clause-refuses g c =
     let count : ℕ = length (remove_entry (is_at (nat_cmp c.args.doc)) (list_of value (index_of (type_of value) m root))) in
     let p = err_from_is_err_and c.from_residual-in_err-left.result c.from_residual-in_err-left.ensures.1 in
     rw (p.1, p.2) (of_one (IsChangeWidth value count) (ledger c.args.store.now) (ledger c.remove.new.store) (ledger c.remove-2.new.store) 34 _ c.remove.ensures.may refl (node_change value count) c.in_err-left.ensures.refuses)
-
 
 pub returns-in_err-left-clause-may : goal.returns-in_err-left-clause-may
 returns-in_err-left-clause-may g c =
