@@ -15,7 +15,8 @@ ghost use Rattle.attr_images.specs.Documents.{column_at};
 ghost use Rattle.attr_index.specs.Columns.{with_change};
 ghost use Rattle.attr_types.specs.Lawful.{IsLawfulItems};
 ghost use Rattle.posting_store.specs.Changes.{MakesWithin};
-ghost use Rattle.attr_documents.specs.Changes.{documents_most, AreBeside, AreKeysOf, ChangesPair, IsDocumentWidth, MakesDocuments, SetsItems};
+ghost use Rattle.attr_documents.specs.Changes.{documents_most, AreBeside, AreKeysOf, ChangesPair, IsDocumentWidth, MakesDocuments};
+ghost use Rattle.attr_documents.specs.Changes.{SetsItems};
 ghost use Rattle.attr_documents.specs.Documents.{documents_part, documents_refer, IsDocuments};
 
 use crate::making::{drop_items, make_items};

@@ -30,7 +30,8 @@ fn add_to_tree<const OFFSET_BITS: u32, S: Store<OFFSET_BITS>>(
         list (insert_entry nat_cmp (list_at (S.records store.old) list) doc weight)) }
     ensures counts { MakesWithin (S.ledger store.old) (S.ledger store.new) (list_most (list_levels (S.records store.old) list)
         (length (insert_entry nat_cmp (list_at (S.records store.old) list) doc weight))) }
-    ensures refuses { IfErr result (RefusesOf (IsListWidth (length (insert_entry nat_cmp (list_at (S.records store.old) list) doc weight)))
+    ensures refuses { IfErr result (RefusesOf
+        (IsListWidth (length (insert_entry nat_cmp (list_at (S.records store.old) list) doc weight)))
         (S.ledger store.old) (S.ledger store.new)) }
     ensures may { MayDo (S.ledger store.old) (S.ledger store.new) }
 {
@@ -56,7 +57,8 @@ fn add_to_short<const OFFSET_BITS: u32, S: Store<OFFSET_BITS>>(
         list (insert_entry nat_cmp (list_at (S.records store.old) list) doc weight)) }
     ensures counts { MakesWithin (S.ledger store.old) (S.ledger store.new) (list_most (list_levels (S.records store.old) list)
         (length (insert_entry nat_cmp (list_at (S.records store.old) list) doc weight))) }
-    ensures refuses { IfErr result (RefusesOf (IsListWidth (length (insert_entry nat_cmp (list_at (S.records store.old) list) doc weight)))
+    ensures refuses { IfErr result (RefusesOf
+        (IsListWidth (length (insert_entry nat_cmp (list_at (S.records store.old) list) doc weight)))
         (S.ledger store.old) (S.ledger store.new)) }
     ensures may { MayDo (S.ledger store.old) (S.ledger store.new) }
 {
@@ -84,7 +86,8 @@ pub fn add<const OFFSET_BITS: u32, S: Store<OFFSET_BITS>>(
         list (insert_entry nat_cmp (list_at (S.records store.old) list) doc weight)) }
     ensures counts { MakesWithin (S.ledger store.old) (S.ledger store.new) (list_most (list_levels (S.records store.old) list)
         (length (insert_entry nat_cmp (list_at (S.records store.old) list) doc weight))) }
-    ensures refuses { IfErr result (RefusesOf (IsListWidth (length (insert_entry nat_cmp (list_at (S.records store.old) list) doc weight)))
+    ensures refuses { IfErr result (RefusesOf
+        (IsListWidth (length (insert_entry nat_cmp (list_at (S.records store.old) list) doc weight)))
         (S.ledger store.old) (S.ledger store.new)) }
     ensures may { MayDo (S.ledger store.old) (S.ledger store.new) }
 {

@@ -32,7 +32,8 @@ fn remove_from_tree<const OFFSET_BITS: u32, S: Store<OFFSET_BITS>>(
         list (remove_entry (is_at (nat_cmp doc)) (list_at (S.records store.old) list))) }
     ensures counts { MakesWithin (S.ledger store.old) (S.ledger store.new) (list_most (list_levels (S.records store.old) list)
         (length (remove_entry (is_at (nat_cmp doc)) (list_at (S.records store.old) list)))) }
-    ensures refuses { IfErr result (RefusesOf (IsListWidth (length (remove_entry (is_at (nat_cmp doc)) (list_at (S.records store.old) list))))
+    ensures refuses { IfErr result (RefusesOf
+        (IsListWidth (length (remove_entry (is_at (nat_cmp doc)) (list_at (S.records store.old) list))))
         (S.ledger store.old) (S.ledger store.new)) }
     ensures may { MayDo (S.ledger store.old) (S.ledger store.new) }
 {
@@ -55,7 +56,8 @@ fn remove_from_short<const OFFSET_BITS: u32, S: Store<OFFSET_BITS>>(
         list (remove_entry (is_at (nat_cmp doc)) (list_at (S.records store.old) list))) }
     ensures counts { MakesWithin (S.ledger store.old) (S.ledger store.new) (list_most (list_levels (S.records store.old) list)
         (length (remove_entry (is_at (nat_cmp doc)) (list_at (S.records store.old) list)))) }
-    ensures refuses { IfErr result (RefusesOf (IsListWidth (length (remove_entry (is_at (nat_cmp doc)) (list_at (S.records store.old) list))))
+    ensures refuses { IfErr result (RefusesOf
+        (IsListWidth (length (remove_entry (is_at (nat_cmp doc)) (list_at (S.records store.old) list))))
         (S.ledger store.old) (S.ledger store.new)) }
     ensures may { MayDo (S.ledger store.old) (S.ledger store.new) }
 {
@@ -82,7 +84,8 @@ pub fn remove<const OFFSET_BITS: u32, S: Store<OFFSET_BITS>>(
         list (remove_entry (is_at (nat_cmp doc)) (list_at (S.records store.old) list))) }
     ensures counts { MakesWithin (S.ledger store.old) (S.ledger store.new) (list_most (list_levels (S.records store.old) list)
         (length (remove_entry (is_at (nat_cmp doc)) (list_at (S.records store.old) list)))) }
-    ensures refuses { IfErr result (RefusesOf (IsListWidth (length (remove_entry (is_at (nat_cmp doc)) (list_at (S.records store.old) list))))
+    ensures refuses { IfErr result (RefusesOf
+        (IsListWidth (length (remove_entry (is_at (nat_cmp doc)) (list_at (S.records store.old) list))))
         (S.ledger store.old) (S.ledger store.new)) }
     ensures may { MayDo (S.ledger store.old) (S.ledger store.new) }
 {
