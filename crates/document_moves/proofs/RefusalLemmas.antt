@@ -1,5 +1,5 @@
 -- A refused move is one of a width of which a record was in use when it began.
-use Rattle.std.proofs.Common.{◌≡◌, ℕ, zero, suc, ◌+◌, ◌<◌, List, [], ◌∷◌, length, map, true, true≢false, None, Some, Option, option_map, Result, Ok, Err, inl, inr, refl, sym, ap, subst, ◌∙◌, arith}
+use Rattle.std.proofs.Common.{◌≡◌, ℕ, zero, suc, ℤ, ◌+◌, ◌<◌, List, [], ◌∷◌, length, map, true, true≢false, None, Some, Option, option_map, Result, Ok, Err, inl, inr, refl, sym, ap, subst, ◌∙◌, arith}
 use Rattle.std.proofs.lemmas.List.{length-map}
 use Rattle.std.specs.BTreeMap.{is_at}
 use Rattle.std.specs.Map.{lookup as lookup_in}
@@ -68,8 +68,9 @@ items_size Array type m (suc ref) are list some =
     let stored : IsStoredList most_items (m (suc ref)) = are in
     let few = stored.few in
     let size = ap length stored.words ∙ filled_size (length items ∷ items) (omega arith) in
-    let same = length-map (map (λ value. (value, pos 1)) items) (item_of type m) in
-    let inner = length-map items (λ (value : ℕ). (value, pos 1)) in
+    let ones : List (ℕ × ℤ) = map (λ (value : ℕ). (value, pos 1)) items in
+    let same = length-map ones (item_of type m) in
+    let inner : length ones ≡ length items = length-map items (λ (value : ℕ). (value, pos 1)) in
     (inl refl, size ∙ ap class_of (let e : suc (length items) ≡ 1 + length (items_at Array type m (suc ref)) = omega arith in e))
 items_size WeightedSet type m (suc ref) are list some =
     let items = stored_items (m (suc ref)) in
@@ -77,7 +78,7 @@ items_size WeightedSet type m (suc ref) are list some =
     let few = stored.few in
     let size = ap length stored.words ∙ filled_size (length items ∷ items) (omega arith) in
     let same = length-map (map unpacked items) (item_of type m) in
-    let inner = length-map items unpacked in
+    let inner : length (map {B = ℕ × ℤ} unpacked items) ≡ length items = length-map items unpacked in
     (inl refl, size ∙ ap class_of (let e : suc (length items) ≡ 1 + length (items_at WeightedSet type m (suc ref)) = omega arith in e))
 
 module _ {H : Type 0} (kind : Kind) (type : ValueType) (a : Ledger H) (m : Records) (root doc : ℕ) (documents : IsDocuments kind type m root)
