@@ -18,7 +18,6 @@ use Rattle.store_api.proofs.PartLemmas.{owns-some}
 use Rattle.store_api.proofs.Uses.{used_has}
 use Rattle.tree_images.specs.declared.TheConstants.{NODE_WORDS}
 use Rattle.index_moves.specs.Moves.{IsKeyIn}
-use Rattle.posting_store.specs.Changes.{RefusesSome}
 use Rattle.attr_documents.specs.Documents.{documents_refer}
 use Rattle.attr_images.specs.Documents.{column_at}
 use Rattle.attr_walks.specs.Counts.{MakesFew}
@@ -38,7 +37,7 @@ use Rattle.attr_steps.specs.Calls.{KeepsStore}
 use Rattle.attr_steps.specs.Counts.{SparesAtMost}
 use Rattle.attr_steps.specs.Fields.{AllReferBeside, HoldsAttributes, IsFieldAt, part_of, parts_of, root_entries}
 use Rattle.attr_steps.proofs.Columns.{FieldLaws}
-use Rattle.attr_steps.proofs.CountLemmas.{spares_unit}
+use Rattle.attr_steps.proofs.CountLemmas.{spares_among}
 use Rattle.attr_steps.proofs.PartLists.{count_at}
 use Rattle.attr_steps.proofs.Referring.{RefersAt, all_weaker}
 use Rattle.attr_steps.proofs.TreeLists.{all_at, get_set-same, get_set-other, set_length, some_is}
@@ -191,10 +190,6 @@ part_begun bits victim old begun mid m k n a b kind type begins records moves =
     (subst (λ (f : Records). MovesPart bits victim begun mid f n a b) records (part_moved bits victim begun mid k n a b kind type moves))
 
 -- ---- the width of a full store
-pub some_width : {H : Type 0} (among : ℕ → Type 0) (old new : Ledger H) (e : StoreError) → RefusesOf among old new e → RefusesSome old new e
-some_width among old new (Full width active held oldest) refuses = record { width = width; is = refuses.is; refuses = (refl, refuses.full) }
-some_width among old new Memory refuses = record { width = 2; is = refl; refuses = tt }
-
 -- a record of it was in use as the unit began, and so it is again: it lies in an active buffer
 pub active_begun : {H : Type 0} (bits : ℕ) (old begun mid new : Ledger H) (m k o : Records) (e : StoreError) → begun ≡ record old { unit = true } → k ≡ m
     → ((r : ℕ) → (has_record (old.status r) ≡ true) ↔ (0 < length (m r))) → o ≡ m
@@ -219,7 +214,7 @@ few_below new (Full width active held oldest) spares = told (nat_eq width NODE_W
     told false most = omega arith
 few_below new Memory spares = tt
 
-pub spares_begun : {H : Type 0} (old begun mid new : Ledger H) → begun ≡ record old { unit = true } → MakesFew begun mid 25 1 → (m o : Records) (e : StoreError) → IsSettled old m
-    → RefusesSome begun mid e → Undoes mid new o → SparesBelow new 34 e
-spares_begun old begun mid new begins made m o e settled refuses undoes =
-    few_below new e (spares_unit old begun mid new 25 1 begins made m o e settled refuses undoes)
+pub spares_begun : {H : Type 0} (among : ℕ → Type 0) (old begun mid new : Ledger H) → begun ≡ record old { unit = true } → MakesFew begun mid 25 1 → (m o : Records) (e : StoreError) → IsSettled old m
+    → RefusesOf among begun mid e → Undoes mid new o → SparesBelow new 34 e
+spares_begun among old begun mid new begins made m o e settled refuses undoes =
+    few_below new e (spares_among old begun mid new 25 1 begins made among m o e settled refuses undoes)

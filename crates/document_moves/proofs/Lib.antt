@@ -2,4 +2,4 @@ pub mod SearchLemmas
 pub mod LyingLemmas
 pub mod SetLemmas
 pub mod NodeLemmas
-pub mod RefusalLemmas
+pub mod UsedLemmas

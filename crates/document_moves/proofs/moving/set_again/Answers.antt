@@ -9,12 +9,13 @@ use Rattle.tree_make.specs.Changes.{levels}
 use Rattle.attr_images.specs.Documents.{column_at}
 use Rattle.attr_index.specs.Columns.{with_change}
 use Rattle.posting_store.specs.Changes.{MakesWithin}
+use Rattle.posting_store.proofs.RefusalLemmas.{if_more}
 use Rattle.value_index.specs.Indexes.{IsKey}
 use Rattle.value_index.proofs.CountLemmas.{within_none}
 use Rattle.attr_documents.specs.Changes.{documents_most, AreBeside, AreKeysOf, IsDocumentWidth, MakesDocuments, SetsItems}
 use Rattle.attr_documents.specs.Documents.{documents_part, documents_refer, IsDocuments}
-use Rattle.document_moves.proofs.RefusalLemmas.{document_used, refuses_weaker}
 use Rattle.document_moves.proofs.SetLemmas.{items_lawful, items_listed, items_typed, keys_beside, moved_by, owns_documents}
+use Rattle.document_moves.proofs.UsedLemmas.{document_used}
 use Rattle.document_moves.proofs.moving.set_again.Goals as goal
 
 pub keys_of-requires : goal.keys_of-requires
@@ -126,7 +127,7 @@ returns-clause-refuses g c =
     let d = ledger c.set_document.new.store in
     let among = IsDocumentWidth c.args.kind (length c.args.items.now) in
     let owns = owns_documents g.row.OFFSET_BITS c.args.buffer c.args.kind c.args.value_type a m c.args.documents c.args.dictionary c.args.doc c.requires.can in
-    refuses_weaker among (IsUsedWidth a m) a d c.set_document.result
+    if_more among (IsUsedWidth a m) a a d c.set_document.result (may_do-same a)
     (document_used c.args.kind c.args.value_type a m c.args.documents c.args.doc c.requires.can.documents_are owns c.args.items.now c.requires.there)
     (subst (λ s. IfErr c.set_document.result (RefusesOf among (ledger s) d)) c.keys_of.ensures.same c.set_document.ensures.refuses)
 

@@ -7,7 +7,7 @@ use Rattle.tree_touch.specs.Paths.{path_nodes, NoneIn}
 use Rattle.doc_vector.specs.Documents.{beside}
 use Rattle.doc_vector.proofs.DocumentLemmas.{number_keyed}
 use Rattle.document_moves.proofs.NodeLemmas.{counts_nothing, nodes_moved_by, nodes_owned, nodes_unmoved}
-use Rattle.document_moves.proofs.RefusalLemmas.{node_used}
+use Rattle.document_moves.proofs.UsedLemmas.{node_used}
 use Rattle.document_moves.proofs.nodes.move_document_nodes.Goals as goal
 
 pub returns-then-not-valid-clause-moves : goal.returns-then-not-valid-clause-moves

@@ -2,7 +2,7 @@ use Rattle.std.proofs.Common.{◌≡◌, true, refl, sym, subst, arith}
 use Rattle.std.proofs.lemmas.Result.{err_from_is_err_and}
 use Rattle.store_api.specs.Calls.{IsUsedWidth}
 use Rattle.store_api.proofs.May.{may_do-same}
-use Rattle.index_moves.proofs.RefusalLemmas.{refuses_one}
+use Rattle.posting_store.proofs.RefusalLemmas.{of_one}
 use Rattle.document_moves.specs.Moves.{MovesDocumentNodes}
 use Rattle.field_moves.proofs.MakeLemmas.{few_nodes}
 use Rattle.field_moves.proofs.MoveLemmas.{map_done, nodes_can}
@@ -39,7 +39,7 @@ returns-in_err-documents-clause-refuses g c =
     let a = g.S.Store.ledger c.args.store.now in
     let m = g.S.Frozen.records c.args.store.now in
     let p = err_from_is_err_and c.from_residual.result c.from_residual.ensures.1 in
-    rw (p.1, p.2) (refuses_one (IsUsedWidth a m) a a (g.S.Store.ledger c.move_document_nodes.new.store) 34 _ c.in_err-documents.ensures.used refl (may_do-same a) c.in_err-documents.ensures.refuses)
+    rw (p.1, p.2) (of_one (IsUsedWidth a m) a a (g.S.Store.ledger c.move_document_nodes.new.store) 34 _ (may_do-same a) refl c.in_err-documents.ensures.used c.in_err-documents.ensures.refuses)
 
 pub returns-in_err-documents-clause-may : goal.returns-in_err-documents-clause-may
 returns-in_err-documents-clause-may g c = c.move_document_nodes.ensures.may

@@ -9,14 +9,15 @@ use Rattle.store_api.specs.Calls.{IsUsedWidth}
 use Rattle.store_api.specs.Parts.{entry}
 use Rattle.store_api.proofs.May.{may_do-same, may_do-then}
 use Rattle.tree_make.specs.Changes.{levels}
+use Rattle.posting_store.proofs.RefusalLemmas.{if_one, of_one}
 use Rattle.value_index.specs.Changes.{nodes_most, record_most}
 use Rattle.value_index.proofs.CountLemmas.{within_more, within_none, within_record, within_then, within_tree}
 use Rattle.value_index.proofs.KeyLemmas.{reads_found}
 use Rattle.tree_images.specs.Trees.{tree_pairs}
 use Rattle.index_moves.specs.Moves.{key_most}
 use Rattle.index_moves.proofs.KeyLemmas.{found_apart, key_moved, key_ready, key_unmoved}
-use Rattle.index_moves.proofs.RefusalLemmas.{dictionary_used, if_refuses_one, key_used, refuses_one}
 use Rattle.index_moves.proofs.SetLemmas.{ready_dictionary, ready_owns}
+use Rattle.index_moves.proofs.UsedLemmas.{dictionary_used, key_used}
 use Rattle.index_moves.proofs.keys.move_found.Goals as goal
 
 pub buffer-requires : goal.buffer-requires
@@ -52,7 +53,7 @@ returns-in_err-copy-clause-refuses g c =
     let m = g.S.Frozen.records c.args.store.now in
     let used = key_used c.args.value.now a m c.args.root c.args.key c.args.list c.requires.index c.requires.owns c.requires.found in
     let p = err_from_is_err_and c.from_residual.result c.from_residual.ensures.1 in
-    rw (p.1, p.2) (refuses_one (IsUsedWidth a m) a a (ledger c.add.new.store) _ _ used (class_width (length (value_words c.args.value.now))) (may_do-same a) c.in_err-copy.ensures.refuses)
+    rw (p.1, p.2) (of_one (IsUsedWidth a m) a a (ledger c.add.new.store) _ _ (may_do-same a) (class_width (length (value_words c.args.value.now))) used c.in_err-copy.ensures.refuses)
 
 pub returns-in_err-copy-clause-may : goal.returns-in_err-copy-clause-may
 returns-in_err-copy-clause-may g c = c.add.ensures.may
@@ -117,7 +118,7 @@ returns-clause-refuses g c =
     let a = ledger c.args.store.now in
     let m = g.S.Frozen.records c.args.store.now in
     let used = dictionary_used c.args.value.now a m c.args.root c.args.key c.args.list c.requires.index c.requires.owns c.requires.found in
-    if_refuses_one (IsUsedWidth a m) a (ledger c.add.new.store) (ledger c.set.new.store) 34 c.set.result used refl c.add.ensures.may c.set.ensures.refuses
+    if_one (IsUsedWidth a m) a (ledger c.add.new.store) (ledger c.set.new.store) 34 c.set.result c.add.ensures.may refl used c.set.ensures.refuses
 
 pub returns-clause-may : goal.returns-clause-may
 returns-clause-may g c =

@@ -6,7 +6,7 @@ use Rattle.attr_types.specs.Value.{type_of}
 use Rattle.attr_types.specs.declared.kind.ValueType.TheVariants as types
 use Rattle.enum_dictionary.proofs.DictionaryLemmas.{dictionary_keyed, of_type}
 use Rattle.index_moves.proofs.NodeLemmas.{counts_nothing, nodes_moved_by, nodes_owned, nodes_unmoved}
-use Rattle.index_moves.proofs.RefusalLemmas.{node_used}
+use Rattle.index_moves.proofs.UsedLemmas.{node_used}
 use Rattle.index_moves.proofs.nodes.move_nodes.Goals as goal
 
 pub returns-then-not-valid-clause-moves : goal.returns-then-not-valid-clause-moves

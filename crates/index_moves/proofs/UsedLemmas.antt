@@ -1,14 +1,10 @@
--- A refused move is one of a width of which a record was in use when it began.
-use Rattle.std.proofs.Common.{◌≡◌, ℕ, zero, suc, ◌+◌, ◌*◌, ◌/◌, ◌%◌, ◌<◌, List, [], ◌∷◌, length, true, Some, Result, Ok, Err, inl, refl, sym, ap, subst, ◌∙◌, arith}
-use Rattle.std.specs.Prelude.{IfErr}
+-- A refused move is one of a width of which a record was in use as it began: the value's, the list's, or a node.
+use Rattle.std.proofs.Common.{◌≡◌, ℕ, zero, suc, ◌+◌, ◌*◌, ◌/◌, ◌%◌, ◌<◌, List, [], ◌∷◌, length, Some, inl, ap, subst, ◌∙◌, arith}
 use Rattle.image_base.specs.Records.{Among, Records}
 use Rattle.key_order.specs.Pairs.{lookup_pair}
-use Rattle.store_api.specs.Calls.{IsUsedWidth, Refuses, RefusesOf}
-use Rattle.store_api.specs.Ledgers.{Ledger, is_width}
+use Rattle.store_api.specs.Calls.{IsUsedWidth}
+use Rattle.store_api.specs.Ledgers.{Ledger}
 use Rattle.store_api.specs.Parts.{Owns, Part, entry}
-use Rattle.store_api.specs.Units.{MayDo}
-use Rattle.store_api.specs.declared.store.StoreError.{StoreError}
-use Rattle.store_api.specs.declared.store.StoreError.TheVariants.{Full, Memory}
 use Rattle.store_api.proofs.PartLemmas.{owns-some}
 use Rattle.store_api.proofs.Times.{all_at_times, among-times}
 use Rattle.store_api.proofs.Uses.{in-uses}
@@ -30,32 +26,6 @@ use Rattle.value_index.specs.Indexes.{index_part, IsIndex}
 use Rattle.value_index.proofs.KeyLemmas.{reads_found, record_found}
 use Rattle.value_index.proofs.OpenLemmas.{open_found, others, parts}
 use Rattle.index_moves.proofs.WordLemmas.{short_owned, short_stored}
-
--- ---- a refusal of one width, after calls that may be made in a unit
-pub refuses_one : {H : Type 0} (among : ℕ → Type 0) (a b c : Ledger H) (width : ℕ) (e : StoreError) → among width → is_width width ≡ true → MayDo a b → Refuses b c width e
-    → RefusesOf among a c e
-refuses_one among a b c width (Full w active held oldest) one is may refuses = record {
-  one = subst among (sym refuses.0) one;
-  is = subst (λ x. is_width x ≡ true) (sym refuses.0) is;
-  full = record {
-    spare = subst (λ x. (c.of_width x).spare ≡ 0) (sym refuses.0) refuses.1.spare;
-    free = refuses.1.free;
-    active_is = refuses.1.active_is;
-    held_is = refuses.1.held_is;
-    all = refuses.1.all;
-    unread = refuses.1.unread;
-    generation = refuses.1.generation;
-    hold = refuses.1.hold;
-    newest = refuses.1.newest;
-    stopped = λ old. let s = refuses.1.stopped old in let rises = may.stops in (s.0, s.1, omega arith);
-  };
-}
-refuses_one among a b c width Memory one is may refuses = tt
-
-pub if_refuses_one : {H : Type 0} (among : ℕ → Type 0) (a b c : Ledger H) (width : ℕ) (answer : Result ℕ StoreError) → among width → is_width width ≡ true → MayDo a b
-    → IfErr answer (Refuses b c width) → IfErr answer (RefusesOf among a c)
-if_refuses_one among a b c width (Ok next) one is may refuses = tt
-if_refuses_one among a b c width (Err e) one is may refuses = refuses_one among a b c width e one is may refuses
 
 -- ---- what is owned is in use
 used_at : {H : Type 0} (a : Ledger H) (m : Records) (part : Part) (r width : ℕ) → Owns a m (part ∷ []) → Among r (part.reach m) → length (m r) ≡ width → IsUsedWidth a m width

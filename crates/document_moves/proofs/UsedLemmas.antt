@@ -1,17 +1,15 @@
--- A refused move is one of a width of which a record was in use when it began.
-use Rattle.std.proofs.Common.{◌≡◌, ℕ, zero, suc, ℤ, ◌+◌, ◌<◌, List, [], ◌∷◌, length, map, true, true≢false, None, Some, Option, option_map, Result, Ok, Err, inl, inr, refl, sym, ap, subst, ◌∙◌, arith}
+-- A refused move is one of a width of which a record was in use as it began: the document's, or a node.
+use Rattle.std.proofs.Common.{◌≡◌, ℕ, zero, suc, ℤ, ◌+◌, ◌<◌, List, [], ◌∷◌, length, map, true, true≢false, None, Some, Option, option_map, inl, inr, refl, sym, ap, subst, ◌∙◌, arith}
 use Rattle.std.proofs.lemmas.List.{length-map}
 use Rattle.std.specs.BTreeMap.{is_at}
 use Rattle.std.specs.Map.{lookup as lookup_in}
 use Rattle.std.specs.Ordering.{nat_cmp}
-use Rattle.std.specs.Prelude.{IfErr, pos}
+use Rattle.std.specs.Prelude.{pos}
 use Rattle.image_base.specs.Records.{Among, Records}
 use Rattle.key_order.specs.Pairs.{lookup}
-use Rattle.store_api.specs.Calls.{IsUsedWidth, RefusesOf}
+use Rattle.store_api.specs.Calls.{IsUsedWidth}
 use Rattle.store_api.specs.Ledgers.{Ledger}
 use Rattle.store_api.specs.Parts.{Owns, Part, times}
-use Rattle.store_api.specs.declared.store.StoreError.{StoreError}
-use Rattle.store_api.specs.declared.store.StoreError.TheVariants.{Full, Memory}
 use Rattle.store_api.proofs.Times.{all_at_times, among-times, times-append}
 use Rattle.store_api.proofs.Uses.{in-uses}
 use Rattle.tree_images.specs.Trees.{nodes_below, root_level, tree_nodes, tree_pairs, IsRootNode}
@@ -31,13 +29,6 @@ use Rattle.attr_documents.specs.Documents.{documents_own, documents_part, items_
 use Rattle.attr_documents.specs.Items.{has_list, item_of}
 use Rattle.attr_documents.proofs.PairLemmas.{found, times-out}
 use Rattle.attr_documents.proofs.ReadLemmas.{found_items, found_records}
-
--- ---- a refusal of other widths
-pub refuses_weaker : {H : Type 0} (among wider : ℕ → Type 0) (a b : Ledger H) (answer : Result ℕ StoreError) → ((width : ℕ) → among width → wider width)
-    → IfErr answer (RefusesOf among a b) → IfErr answer (RefusesOf wider a b)
-refuses_weaker among wider a b (Ok next) more refuses = tt
-refuses_weaker among wider a b (Err (Full width active held oldest)) more refuses = record { one = more width refuses.one; is = refuses.is; full = refuses.full }
-refuses_weaker among wider a b (Err Memory) more refuses = tt
 
 -- ---- what is owned is in use
 used_at : {H : Type 0} (a : Ledger H) (m : Records) (part : Part) (r width : ℕ) → Owns a m (part ∷ []) → 0 < times r (part.reach m) → length (m r) ≡ width → IsUsedWidth a m width
