@@ -1,5 +1,5 @@
 -- A refused move is one of a width of which a record was in use as it began: the value's, the list's, or a node.
-use Rattle.std.proofs.Common.{◌≡◌, ℕ, zero, suc, ◌+◌, ◌*◌, ◌/◌, ◌%◌, ◌<◌, List, [], ◌∷◌, length, Some, inl, ap, subst, ◌∙◌, arith}
+use Rattle.std.proofs.Common.{◌≡◌, ℕ, zero, suc, ◌+◌, ◌*◌, ◌/◌, ◌%◌, ◌<◌, [], ◌∷◌, length, Some, inl, refl, ap, ◌∙◌, arith}
 use Rattle.image_base.specs.Records.{Among, Records}
 use Rattle.key_order.specs.Pairs.{lookup_pair}
 use Rattle.store_api.specs.Calls.{IsUsedWidth}

@@ -1,4 +1,4 @@
-use Rattle.std.proofs.Common.{◌≡◌, ◌<◌, arith, ap}
+use Rattle.std.proofs.Common.{◌≡◌, arith, ap}
 use Rattle.store_api.proofs.May.{may_do-same}
 use Rattle.tree_make.specs.Changes.{levels}
 use Rattle.tree_make.proofs.Results.{is_valid, not_valid, on_err}
