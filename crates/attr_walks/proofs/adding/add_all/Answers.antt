@@ -1,4 +1,4 @@
-use Rattle.std.proofs.Common.{ℕ, ℤ, None, length, not, sym, ap, subst, ◌∙◌, arith, rules, w32, SFits, to_z, of_z, nat_cmp}
+use Rattle.std.proofs.Common.{ℤ, None, length, not, sym, ap, subst, ◌∙◌, arith, rules, w32, SFits, to_z, of_z, nat_cmp}
 use Rattle.std.proofs.lemmas.Int.{to_z-of_z}
 use Rattle.std.proofs.lemmas.Result.{err_from_is_err_and}
 use Rattle.std.specs.BTreeMap.{get, insert_entry}
@@ -12,7 +12,7 @@ use Rattle.attr_types.specs.declared.kind.ValueType.{ValueType}
 use Rattle.value_index.specs.Changes.{IsChangeWidth, MakesIndex}
 use Rattle.value_index.specs.Indexes.{IsIndex}
 use Rattle.attr_walks.proofs.AddLemmas.{adds_begin, adds_typed, adds_put, adds_same, adds_end}
-use Rattle.attr_walks.specs.Counts.{is_added, value_nodes, AddsLow, IsLow}
+use Rattle.attr_walks.specs.Counts.{is_added, value_nodes, IsLow}
 use Rattle.attr_walks.proofs.CountLemmas.{few_added, low_added, added_grows, added_records, counts_begin, counts_put, counts_pass, counts_end}
 use Rattle.attr_walks.proofs.LevelLemmas.{dictionary_low, list_low}
 use Rattle.attr_walks.proofs.WidthLemmas.{put_width}

@@ -1,4 +1,4 @@
-use Rattle.std.proofs.Common.{ℕ, length, not, nat_cmp, sym, ap, subst, ◌∙◌, arith}
+use Rattle.std.proofs.Common.{length, not, nat_cmp, sym, ap, subst, ◌∙◌, arith}
 use Rattle.std.proofs.lemmas.Result.{err_from_is_err_and}
 use Rattle.std.specs.BTreeMap.{get, is_at}
 use Rattle.std.specs.Map.{remove_entry}
@@ -10,7 +10,7 @@ use Rattle.attr_types.specs.Value.{type_of, value_cmp}
 use Rattle.attr_types.specs.declared.kind.ValueType.{ValueType}
 use Rattle.value_index.specs.Changes.{IsChangeWidth, MakesIndex}
 use Rattle.value_index.specs.Indexes.{IsIndex}
-use Rattle.attr_walks.specs.Counts.{is_gone, value_nodes, IsLow, RemovesLow}
+use Rattle.attr_walks.specs.Counts.{is_gone, value_nodes, IsLow}
 use Rattle.attr_walks.proofs.CountLemmas.{few_gone, low_gone, gone_grows, gone_records, counts_begin, counts_put, counts_pass, counts_end}
 use Rattle.attr_walks.proofs.RemoveLemmas.{removes_begin, removes_typed, removes_there, removes_take, removes_stay, removes_end, IsThere}
 use Rattle.attr_walks.proofs.LevelLemmas.{dictionary_low, list_low}
