@@ -1,5 +1,5 @@
 -- Of which width a step was refused, by the column after the change.
-use Rattle.std.proofs.Common.{◌≡◌, ℕ, ℤ, List, length, Option, Some, None, nat_cmp, refl, sym, ap, subst, ◌∙◌, inl, inr}
+use Rattle.std.proofs.Common.{◌≡◌, ℕ, ℤ, List, [], length, Option, Some, None, nat_cmp, refl, sym, ap, subst, ◌∙◌, inl, inr}
 use Rattle.std.proofs.lemmas.Cmp.{nat_cmp_total}
 use Rattle.std.specs.Prelude.{◌⊎◌, IsSome, unwrap_or}
 use Rattle.std.specs.BTreeMap.{insert_entry, is_at}
@@ -11,7 +11,7 @@ use Rattle.attr_index.proofs.ListLemmas.{list_of-sorted}
 use Rattle.attr_index.proofs.PartLemmas.{insert_same, placed, remove_none}
 use Rattle.attr_index.specs.Changes.{first_weights, settled, IsBetween}
 use Rattle.attr_index.specs.Columns.{Column, documents_with, items_of, with_change}
-use Rattle.attr_index.specs.Index.{Index, IsFormed, IsIndexOf, list_of, weight_in}
+use Rattle.attr_index.specs.Index.{Index, IsIndexOf, list_of, weight_in}
 use Rattle.attr_types.proofs.EntryLemmas.{lookup-insert_here, sorted-insert}
 use Rattle.attr_types.specs.declared.items.Item.{Item}
 use Rattle.attr_types.specs.declared.kind.Kind.{Kind}
