@@ -33,7 +33,7 @@ use Rattle.attribute_kinds.specs.declared.answers.Compacted.TheVariants.{Idle}
 use Rattle.attribute_kinds.specs.declared.answers.AttrError.{AttrError}
 
 refuses_key : {H : Type 0} (old new : Ledger H) (error : StoreError) → RefusesNext old new error → RefusesKey old new (refusal_of error)
-refuses_key old new (errors.Full width active held oldest) refused = (refused.why, refused.spare)
+refuses_key old new (errors.Full width active held oldest) refused = record { room = refused.why; spare = refused.spare; buffer = refused.active }
 refuses_key old new errors.Memory refused = tt
 
 no_victim : {H : Type 0} (bits fields : ℕ) (old new : Ledger H) (before : Option PlanView) (plan : PlanView) → IsIdle bits old before → old.finished ≡ None → IsUnder bits fields old new before plan → ⊥
