@@ -4,12 +4,12 @@ ghost use Rattle.arena_api.specs.Calls.{IsFresh};
 ghost use Rattle.attr_images.specs.Shapes.{shape_of, types_of};
 ghost use Rattle.attr_types.specs.declared.field.TheConstants.{MOST_FIELDS};
 
-use arena_api::{Oldest, Work};
+use arena_api::{Advance, Oldest, Work};
 use attr_images::AttrLayout;
 use attr_types::{
     Doc, Field, FieldItems, Fields, Item, Items, Kind, Name, Op, Value, ValueType, fits,
 };
-use attribute_kinds::{AttrError, Attribute};
+use attribute_kinds::{AttrError, Attribute, CommitInfo};
 use entry_store::EntryStore;
 use frozen_api::Frozen;
 use std::alloc::{AllocError, Global};
@@ -138,5 +138,33 @@ pub fn compact<'a>(
             let _ = refused(error)?;
             Ok(())
         }
+    }
+}
+
+fn line_of(alloc: Global, info: CommitInfo) -> Result<String, AllocError> {
+    let commit = info.commit;
+    match info.advance {
+        Advance::To { generation, .. } => format!(in alloc; "{commit} to {generation}"),
+        Advance::NoHold { holds, found } => {
+            format!(in alloc; "{commit} no hold of {holds} found {found}")
+        }
+        Advance::Spent { generation } => format!(in alloc; "{commit} spent at {generation}"),
+    }
+}
+
+/// What a commit comes to, as a line: its number and the generation after it, or the commit after which there is none.
+pub fn commit_line<'a>(
+    alloc: Global,
+    attribute: &mut Kinds<'a>,
+    fields: &Fields,
+) -> Result<String, AllocError>
+    requires same { attribute.old.fields ≡ fields.now }
+    ensures same { attribute.new.fields ≡ fields.now }
+{
+    match attribute.commit() {
+        Ok(info) => line_of(alloc, info),
+        Err(AttrError::CommitsSpent { commit }) => format!(in alloc; "none after {commit}"),
+        Err(AttrError::Full { .. }) => Err(AllocError),
+        Err(AttrError::Memory) => Err(AllocError),
     }
 }

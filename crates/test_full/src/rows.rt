@@ -1,7 +1,8 @@
 //! Rows of standard input: `row BUFFERS DOCUMENTS PUTS BATCH GUARD KEYS LEAST MOST`: after GUARD puts a guard is taken; so many are
-//! committed before its release, from LEAST to MOST, and all of them after it. Other lines are remarks.
+//! committed before its release, from LEAST to MOST, and all of them after it.
+//! `limits PUTS COMMITS GENERATIONS = LINE`: what the commits after each of so many puts come to. Other lines are remarks.
 use crate::attributes::NoRoom;
-use crate::run::{Load, Told, run};
+use crate::run::{Load, Told, run, tell};
 use std::alloc::{AllocError, Global};
 use std::io;
 
@@ -70,23 +71,51 @@ fn line_of(alloc: Global, told: Told) -> Result<String, AllocError> {
     Ok(line)
 }
 
-pub fn compare(rt: &HostRuntime) -> io::Result<()> {
+/// Whether a row is as wanted; it prints itself else.
+fn compare_row(rt: &HostRuntime, row: &str) -> io::Result<bool> {
     let alloc = rt.alloc();
+    let load = load_in(row);
+    let told = run(alloc, load)?;
+    if is_wanted(load, told, number_at(row, 7), number_at(row, 8)) {
+        return Ok(true);
+    }
+    let told = line_of(alloc, told)?;
+    println!(rt; "{row}: {told}")?;
+    Ok(false)
+}
+
+fn compare_limits(rt: &HostRuntime, row: &str) -> io::Result<bool> {
+    let Some((asked, wanted)) = row.split_once(" = ") else {
+        return Ok(false);
+    };
+    let told = tell(
+        rt.alloc(),
+        number_at(asked, 1),
+        number_at(asked, 2),
+        number_at(asked, 3),
+    )?;
+    if told.as_str() == wanted {
+        return Ok(true);
+    }
+    println!(rt; "{asked}: {told} in place of {wanted}")?;
+    Ok(false)
+}
+
+pub fn compare(rt: &HostRuntime) -> io::Result<()> {
     let mut compared: u32 = 0;
     let mut right: u32 = 0;
-    for line in rt.lines(alloc) {
+    for line in rt.lines(rt.alloc()) {
         let line = line?;
-        if !line.starts_with("row ") {
-            continue;
-        }
-        compared = compared.saturating_add(1);
-        let load = load_in(&line);
-        let told = run(alloc, load)?;
-        if is_wanted(load, told, number_at(&line, 7), number_at(&line, 8)) {
-            right = right.saturating_add(1);
+        let wanted = if line.starts_with("row ") {
+            compare_row(rt, &line)?
+        } else if line.starts_with("limits ") {
+            compare_limits(rt, &line)?
         } else {
-            let told = line_of(alloc, told)?;
-            println!(rt; "{line}: {told}")?;
+            continue;
+        };
+        compared = compared.saturating_add(1);
+        if wanted {
+            right = right.saturating_add(1);
         }
     }
     println!(rt; "rows: {compared} compared, {right} as wanted")

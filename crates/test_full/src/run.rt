@@ -1,8 +1,10 @@
 //! Puts before a guard, under it, and after its release.
-ghost use Rattle.std.specs.Prelude.{◌≡◌, ◌<◌, ◌≤◌, length, IfOk};
+ghost use Rattle.std.specs.Prelude.{◌≡◌, ◌<◌, ◌≤◌, ◌^◌, length};
 ghost use Rattle.attr_types.specs.declared.field.TheConstants.{MOST_FIELDS};
 
-use crate::attributes::{Kinds, NoRoom, commit, compact, new_attribute, one_field, put};
+use crate::attributes::{
+    Kinds, NoRoom, commit, commit_line, compact, new_attribute, one_field, put,
+};
 use attr_images::{AttrLayout, shape_of};
 use attr_types::Fields;
 use std::alloc::{AllocError, Global};
@@ -148,4 +150,63 @@ pub fn run(alloc: Global, load: Load) -> Result<Told, AllocError> {
         return Err(AllocError);
     }
     run_with(alloc, &fields, load)
+}
+
+/// So many puts to one document with a commit after each: what the commits come to, one after another.
+fn put_and_tell<'a>(
+    alloc: Global,
+    attribute: &mut Kinds<'a>,
+    fields: &Fields,
+    puts: u32,
+) -> Result<String, AllocError>
+    requires same { attribute.old.fields ≡ fields.now }
+{
+    let mut told = String::new(alloc);
+    for i in 0..puts {
+        let _ = put(alloc, attribute, fields, 1, i)?;
+        if i > 0 {
+            told.push_str(", ")?;
+        }
+        let line = commit_line(alloc, attribute, fields)?;
+        told.push_str(&line)?;
+    }
+    Ok(told)
+}
+
+/// The same over a new memory of eight buffers with these limits.
+fn tell_with(
+    alloc: Global,
+    fields: &Fields,
+    puts: u32,
+    limits: Limits,
+) -> Result<String, AllocError>
+    requires some_fields { 0 < length fields.now }
+    requires few_fields { length fields.now ≤ MOST_FIELDS }
+    requires generations { limits.generations < 2 ^ 48 }
+{
+    let config = Config {
+        buffers: 8,
+        words: 8192,
+        shape: shape_of(fields),
+        limits,
+    };
+    let (arena, token) = Arena::create(alloc, config)?;
+    let writer = arena.writer(token);
+    let mut attribute = new_attribute(alloc, writer, fields)?;
+    put_and_tell(alloc, &mut attribute, fields, puts)
+}
+
+/// So many puts under limits of commits and of generations.
+pub fn tell(
+    alloc: Global,
+    puts: u32,
+    commits: u32,
+    generations: u32,
+) -> Result<String, AllocError> {
+    let fields = one_field(alloc)?;
+    let limits = Limits {
+        commits,
+        generations: u64::from(generations),
+    };
+    tell_with(alloc, &fields, puts, limits)
 }
