@@ -1,19 +1,17 @@
 //! One attribute of longs over a running memory: its operations and commits.
-ghost use Rattle.std.specs.Prelude.{◌≡◌, ◌<◌, ◌≤◌, length, IfOk};
-ghost use Rattle.arena_api.specs.Calls.{IsFresh};
-ghost use Rattle.attr_images.specs.Shapes.{shape_of, types_of};
-ghost use Rattle.attr_types.specs.declared.field.TheConstants.{MOST_FIELDS};
+ghost use Rattle.std.specs.Prelude.{◌≡◌, length, IfOk, OnOk};
+ghost use Rattle.word_arena.specs.Ruled.{writer_of};
+ghost use Rattle.test_full.specs.New.{IsNewWriter};
 
-use arena_api::{Advance, Oldest, Work};
+use arena_api::{Advance, Oldest};
 use attr_images::AttrLayout;
 use attr_types::{
     Doc, Field, FieldItems, Fields, Item, Items, Kind, Name, Op, Value, ValueType, fits,
 };
 use attribute_kinds::{AttrError, Attribute, CommitInfo};
 use entry_store::EntryStore;
-use frozen_api::Frozen;
 use std::alloc::{AllocError, Global};
-use word_arena::Writer;
+use word_arena::{Reader, Writer};
 
 /// Attributes over a running memory.
 pub type Kinds<'a> = Attribute<22, EntryStore<22, Writer<'a, 22, AttrLayout>>>;
@@ -41,16 +39,27 @@ pub fn one_field(alloc: Global) -> Result<Fields, AllocError>
     )
 }
 
+/// A reader of a new memory.
+pub fn seat_in<'a>(
+    writer: &mut Writer<'a, 22, AttrLayout>,
+    fields: &Fields,
+) -> Result<Reader<'a, 22, AttrLayout>, AllocError>
+    requires new { IsNewWriter fields.now writer.old.place.table_id (writer_of writer.old.place.me.0) }
+    ensures new { OnOk result (IsNewWriter fields.now writer.new.place.table_id (writer_of writer.new.place.me.0)) }
+{
+    match writer.reader() {
+        Ok(reader) => Ok(reader),
+        Err(_) => Err(AllocError),
+    }
+}
+
 /// Attributes without a document.
 pub fn new_attribute<'a>(
     alloc: Global,
     writer: Writer<'a, 22, AttrLayout>,
     fields: &Fields,
 ) -> Result<Kinds<'a>, AllocError>
-    requires some { 0 < length fields.now }
-    requires few { length fields.now ≤ MOST_FIELDS }
-    requires shape { ⟦<Writer<'a, 22, AttrLayout> as Frozen<22>>⟧.shape writer ≡ shape_of (types_of fields.now) }
-    requires fresh { IsFresh (⟦<Writer<'a, 22, AttrLayout> as Work<22>>⟧.knows writer) }
+    requires new { IsNewWriter fields.now writer.place.table_id (writer_of writer.place.me.0) }
     ensures fields { IfOk result (λ a. a.fields ≡ fields.now) }
 {
     match Attribute::create(alloc, writer, fields, false) {

@@ -1,14 +1,16 @@
 //! Puts before a guard, under it, and after its release.
 ghost use Rattle.std.specs.Prelude.{◌≡◌, ◌<◌, ◌≤◌, ◌^◌, length};
 ghost use Rattle.attr_types.specs.declared.field.TheConstants.{MOST_FIELDS};
+ghost use Rattle.word_arena.specs.Ruled.{writer_of};
+ghost use Rattle.test_full.specs.New.{IsNewWriter};
 
 use crate::attributes::{
-    Kinds, NoRoom, commit, commit_line, compact, new_attribute, one_field, put,
+    Kinds, NoRoom, commit, commit_line, compact, new_attribute, one_field, put, seat_in,
 };
 use attr_images::{AttrLayout, shape_of};
 use attr_types::Fields;
 use std::alloc::{AllocError, Global};
-use word_arena::{Arena, Config, Limits, Reader};
+use word_arena::{Arena, Config, Limits, Reader, Writer};
 
 /// What is put: the numbers 1, 2, 3 and so on, each to the next of so many documents.
 #[derive(Clone, Copy, Drop)]
@@ -118,6 +120,21 @@ fn put_under<'a>(
     })
 }
 
+/// A run over a writer that has committed nothing.
+fn run_over<'a>(
+    alloc: Global,
+    writer: Writer<'a, 22, AttrLayout>,
+    fields: &Fields,
+    load: Load,
+) -> Result<Told, AllocError>
+    requires new { IsNewWriter fields.now writer.place.table_id (writer_of writer.place.me.0) }
+{
+    let mut writer = writer;
+    let reader = seat_in(&mut writer, fields)?;
+    let mut attribute = new_attribute(alloc, writer, fields)?;
+    put_under(alloc, &mut attribute, reader, fields, load)
+}
+
 /// A run over a new memory of so many buffers.
 fn run_with(alloc: Global, fields: &Fields, load: Load) -> Result<Told, AllocError>
     requires some_fields { 0 < length fields.now }
@@ -135,12 +152,8 @@ fn run_with(alloc: Global, fields: &Fields, load: Load) -> Result<Told, AllocErr
         },
     };
     let (arena, token) = Arena::create(alloc, config)?;
-    let mut writer = arena.writer(token);
-    let Ok(reader) = writer.reader() else {
-        return Err(AllocError);
-    };
-    let mut attribute = new_attribute(alloc, writer, fields)?;
-    put_under(alloc, &mut attribute, reader, fields, load)
+    let writer = arena.writer(token);
+    run_over(alloc, writer, fields, load)
 }
 
 /// A run over a new memory of 1 to 64 buffers.
@@ -173,6 +186,19 @@ fn put_and_tell<'a>(
     Ok(told)
 }
 
+/// The same over a writer that has committed nothing.
+fn tell_over<'a>(
+    alloc: Global,
+    writer: Writer<'a, 22, AttrLayout>,
+    fields: &Fields,
+    puts: u32,
+) -> Result<String, AllocError>
+    requires new { IsNewWriter fields.now writer.place.table_id (writer_of writer.place.me.0) }
+{
+    let mut attribute = new_attribute(alloc, writer, fields)?;
+    put_and_tell(alloc, &mut attribute, fields, puts)
+}
+
 /// The same over a new memory of eight buffers with these limits.
 fn tell_with(
     alloc: Global,
@@ -192,8 +218,7 @@ fn tell_with(
     };
     let (arena, token) = Arena::create(alloc, config)?;
     let writer = arena.writer(token);
-    let mut attribute = new_attribute(alloc, writer, fields)?;
-    put_and_tell(alloc, &mut attribute, fields, puts)
+    tell_over(alloc, writer, fields, puts)
 }
 
 /// So many puts under limits of commits and of generations.
