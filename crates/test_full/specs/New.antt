@@ -1,5 +1,5 @@
 -- What a running memory is before its first commit.
-use Rattle.std.specs.Prelude.{◌≡◌, ℕ, ◌<◌, ◌≤◌, List, length}
+use Rattle.std.specs.Prelude.{◌≡◌, ◌<◌, ◌≤◌, List, length}
 use Rattle.atomic_table.specs.Seated.{TableId}
 use Rattle.arena_api.specs.Calls.{IsFresh}
 use Rattle.gen_core.specs.declared.views.WriterView.{WriterView}
