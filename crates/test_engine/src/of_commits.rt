@@ -106,7 +106,7 @@ fn what_is_dropped_is_made_again_after_a_commit(rt: HostRuntime) -> Result<(), F
     );
     assert_eq!(rt;
         (store.made(1024), store.commits_left()),
-        (4, 4_294_967_290)
+        (4, 4_294_967_291)
     );
     Ok(())
 }
