@@ -1,0 +1,79 @@
+//! A run over a running memory, while readers keep guards.
+ghost use Rattle.std.specs.Prelude.{◌≡◌, ◌<◌, ◌≤◌, length};
+ghost use Rattle.attr_types.specs.declared.field.TheConstants.{MOST_FIELDS};
+
+use crate::ended::Ended;
+use crate::guards::keep_guards;
+use crate::memory::{close, open_watched};
+use crate::run::{Load, Outcome, load_all, nothing, outcome_of};
+use crate::seats::seats_in;
+use crate::sights::Sight;
+use crate::watch::Watch;
+use attr_images::{AttrLayout, shape_of};
+use attr_plain::PlainTable;
+use attr_types::Fields;
+use noted_work::NotedWork;
+use std::alloc::{AllocError, Global};
+use word_arena::{Arena, Config, Limits, Writer};
+
+fn config_of(fields: &Fields, buffers: u32) -> Config {
+    Config {
+        buffers,
+        words: 8192,
+        shape: shape_of(fields),
+        limits: Limits {
+            commits: 4_294_967_295,
+            generations: 281_474_976_710_655,
+        },
+    }
+}
+
+/// A run over a writer that has committed nothing.
+fn run_over<'a, const OFFSET_BITS: u32>(
+    alloc: Global,
+    writer: Writer<'a, OFFSET_BITS, AttrLayout>,
+    fields: &Fields,
+    load: Load,
+) -> Result<Outcome, AllocError> {
+    let mut writer = writer;
+    let mut told = nothing();
+    let mut ended: Vec<Ended> = Vec::new(alloc);
+    let mut sights: Vec<Sight> = Vec::new(alloc);
+    let seats = seats_in(alloc, &mut writer, load.guards, shape_of(fields))?;
+    let watch = Watch::new(alloc, fields, load.script, load.checks as usize, true)?;
+    let mut plain = PlainTable::new(alloc, fields.clone()?);
+    let work = NotedWork::new(alloc, writer, true);
+    let mut attribute = open_watched(alloc, work, fields, watch)?;
+    if load_all(alloc, &mut attribute, &mut plain, fields, load, &mut told)? {
+        sights = keep_guards(
+            alloc,
+            &mut attribute,
+            &mut plain,
+            fields,
+            load,
+            &mut told,
+            &mut ended,
+            seats,
+        )?;
+    }
+    let (commits, watch) = close(attribute);
+    Ok(outcome_of(
+        load,
+        told,
+        commits,
+        &watch,
+        ended.as_slice(),
+        sights.as_slice(),
+    ))
+}
+
+/// A run from attributes without a document, while readers keep guards.
+pub fn run_guarded(alloc: Global, fields: &Fields, load: Load) -> Result<Outcome, AllocError>
+    requires some { 0 < length fields.now }
+    requires few { length fields.now ≤ MOST_FIELDS }
+{
+    let buffers = load.buffers.max(1).min(1000);
+    let (arena, token) = Arena::<22, AttrLayout>::create(alloc, config_of(fields, buffers))?;
+    let writer = arena.writer(token);
+    run_over(alloc, writer, fields, load)
+}
