@@ -45,7 +45,12 @@ impl Census {
         if let Some(count) = self.counts.get_mut(place_of(role, buffer)) {
             *count = count.saturating_add(1);
         }
-        self.reached.push(reference)
+        self.add(reference)
+    }
+
+    fn add(&mut self, reference: u64) -> Result<(), AllocError> {
+        self.reached.push(reference)?;
+        Ok(())
     }
 
     /// How many there are of one in a buffer.
@@ -180,7 +185,7 @@ pub fn take(
     root: u64,
 ) -> Result<Census, CheckFault> {
     let mut census = Census::new(alloc)?;
-    census.reached.push(root)?;
+    census.add(root)?;
     let words = words_at(records, root);
     let mut place = 1usize;
     for field in fields {

@@ -70,6 +70,13 @@ impl Words {
         }
     }
 
+    /// How many words of a record are known.
+    fn count(&self, reference: u32) -> u32 {
+        words_at(&self.records, u64::from(reference))
+            .len()
+            .min(1024) as u32
+    }
+
     /// Whether all were kept, and each was read as one thing only.
     pub fn are_sure(&self) -> bool {
         !self.failed && !self.differs
@@ -81,7 +88,23 @@ impl Words {
     }
 }
 
-/// Records, and what was read of them. As records they are what they were.
+/// Reads the words of a record that are not known, up to this one.
+fn read_front<const OFFSET_BITS: u32, F: Frozen<OFFSET_BITS>>(
+    frozen: &mut F,
+    words: &mut Words,
+    entry: EntryRef<OFFSET_BITS>,
+    to: u32,
+)
+    requires { to ≤ length (F.records frozen.old entry) }
+    ensures same { frozen.new ≡ frozen.old }
+{
+    for i in words.count(entry.raw())..to {
+        let word = frozen.word(entry, i);
+        words.note(entry.raw(), i as usize, word);
+    }
+}
+
+/// Records, and what was read of them: where a word is asked for, those before it are read too. As records they are what they were.
 #[derive(Drop)]
 pub struct Heard<const OFFSET_BITS: u32, F: Frozen<OFFSET_BITS>> {
     frozen: F,
@@ -124,6 +147,7 @@ impl<const OFFSET_BITS: u32, F: Frozen<OFFSET_BITS>> Frozen<OFFSET_BITS> for Hea
         ensures value { result ≡ word_at (F.records self.old) entry.entry i }
         ensures same { self.new ≡ self.old }
     {
+        read_front(&mut self.frozen, &mut self.words, entry, i);
         let word = self.frozen.word(entry, i);
         self.words.note(entry.raw(), i as usize, word);
         word
@@ -135,6 +159,7 @@ impl<const OFFSET_BITS: u32, F: Frozen<OFFSET_BITS>> Frozen<OFFSET_BITS> for Hea
         ensures words { into.new ≡ take (length into.old) (drop first (F.records self.old entry.entry)) }
         ensures same { self.new ≡ self.old }
     {
+        read_front(&mut self.frozen, &mut self.words, entry, first);
         self.frozen.read(entry, first, into);
         self.words.note_all(entry.raw(), first, into);
     }

@@ -22,7 +22,7 @@ pub type Kinds = Attribute<22, EntryStore<22, Watched<22, NotedWork<22, MemWork<
 /// Attributes without a document over a work whose commits are watched.
 pub fn open_watched<
     const OFFSET_BITS: u32,
-    W: Work<OFFSET_BITS, Layout = AttrLayout> + KeepsRecords,
+    W: Work<OFFSET_BITS, Layout = AttrLayout> + KeepsRecords + Drop,
 >(
     alloc: Global,
     work: W,

@@ -156,7 +156,8 @@ impl Watch {
             Err(CheckFault::Memory) => return Err(AllocError),
         };
         one.free = free;
-        self.seen.push(one)
+        self.seen.push(one)?;
+        Ok(())
     }
 
     /// A commit, while so many buffers are free.
@@ -188,8 +189,11 @@ impl Watch {
     /// Reads the last commit once more, wholly.
     pub fn look_again(&mut self, records: &BTreeMap<u32, Vec<u64>>, root: u64) {
         let seen = self.compare(records, root, true);
-        let _ = self.seen.pop();
-        if self.add(seen, 0).is_err() {
+        let free = match self.seen.pop() {
+            Some(last) => last.free,
+            None => 0,
+        };
+        if self.add(seen, free).is_err() {
             self.failed = true;
         }
     }
