@@ -16,6 +16,8 @@ pub struct Ended {
 #[derive(Clone, Copy)]
 pub struct Copied {
     pub differs: bool,
+    /// What was seen could not be kept.
+    pub lost: bool,
     pub counts: [u32; ROLES],
     pub twos: u32,
     pub fours: u32,
@@ -66,9 +68,10 @@ fn add_one(copied: &mut Copied, watch: &Watch, seen: &[Seen], ended: Ended) {
 }
 
 /// All compactions of a run, and whether each of its commits was as the plain table.
-pub fn look_back(watch: &Watch, all: &[Ended]) -> Copied {
+pub fn look_back(watch: &Watch, all: &[Ended], commits: usize) -> Copied {
     let mut copied = Copied {
         differs: false,
+        lost: false,
         counts: [0; ROLES],
         twos: 0,
         fours: 0,
@@ -77,6 +80,7 @@ pub fn look_back(watch: &Watch, all: &[Ended]) -> Copied {
     };
     match watch.seen() {
         Some(seen) => {
+            copied.lost = seen.len() != commits;
             for commit in seen {
                 if !commit.same {
                     copied.differs = true;
@@ -86,7 +90,7 @@ pub fn look_back(watch: &Watch, all: &[Ended]) -> Copied {
                 add_one(&mut copied, watch, seen, *ended);
             }
         }
-        None => copied.differs = true,
+        None => copied.lost = true,
     }
     copied
 }

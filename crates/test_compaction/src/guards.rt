@@ -96,7 +96,7 @@ fn under_guards<'a, const OFFSET_BITS: u32, S: Store<OFFSET_BITS, Layout = AttrL
     Ok(())
 }
 
-/// Compactions under guards, then two commits behind the guards, and the compactions that are left.
+/// Compactions under guards, then three commits behind the guards, and the compactions that are left.
 pub fn keep_guards<'a, const OFFSET_BITS: u32, S: Store<OFFSET_BITS, Layout = AttrLayout>>(
     alloc: Global,
     attribute: &mut Attribute<OFFSET_BITS, S>,
@@ -130,7 +130,7 @@ pub fn keep_guards<'a, const OFFSET_BITS: u32, S: Store<OFFSET_BITS, Layout = At
         load.guards,
     )?;
     told.released = told.commits.saturating_add(1);
-    for _ in 0..2u32 {
+    for _ in 0..3u32 {
         if !commit_now(attribute, fields, told)? {
             return Ok(sights);
         }

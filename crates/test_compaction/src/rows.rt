@@ -69,6 +69,9 @@ fn fields_in(alloc: Global, row: &str) -> Result<Fields, AllocError> {
 fn counts_of(alloc: Global, outcome: Outcome) -> Result<String, AllocError> {
     let told = outcome.told;
     let finished = told.finished;
+    if outcome.copied.lost {
+        return String::from_str(alloc, "no memory for what was seen");
+    }
     if told.differs {
         return format!(in alloc; "differs in compaction {finished}");
     }

@@ -52,7 +52,7 @@ pub struct Told {
     /// Steps that were refused, and those that ended early.
     pub refused: u32,
     pub stopped: u32,
-    /// Steps for whose first key there was no memory, those that ended early for want of it, and whether the last one was the first of these.
+    /// Steps for whose first key there was no memory, those that ended early for want of it, and whether the last step was one of these.
     pub short: u32,
     pub cut: u32,
     pub lacks: bool,
@@ -143,7 +143,7 @@ pub fn outcome_of(
     sights: &[Sight],
 ) -> Outcome {
     let mut told = told;
-    let copied = look_back(watch, ended);
+    let copied = look_back(watch, ended, commits as usize);
     if commits != told.commits || copied.differs {
         told.differs = true;
     }

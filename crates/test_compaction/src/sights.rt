@@ -72,11 +72,11 @@ fn free_at(seen: &[Seen], number: u32) -> u32 {
     }
 }
 
-/// How many buffers came back with a commit.
+/// How many buffers came back with a commit and the next: a generation for which there was no hold begins with the second.
 pub fn came_back(watch: &Watch, number: u32) -> u32 {
     match watch.seen() {
         Some(seen) => {
-            free_at(seen, number.saturating_add(1)).saturating_sub(free_at(seen, number))
+            free_at(seen, number.saturating_add(2)).saturating_sub(free_at(seen, number))
         }
         None => 0,
     }

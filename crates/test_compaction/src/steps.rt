@@ -170,7 +170,7 @@ fn make_room<const OFFSET_BITS: u32, S: Store<OFFSET_BITS, Layout = AttrLayout>>
     remove_lowest(alloc, attribute, plain, fields, load, told)
 }
 
-/// A step went through, maybe behind one that was refused.
+/// A step went through, maybe behind one that was refused or was cut off for want of memory.
 fn go_on(told: &mut Told) {
     if told.tries > 0 || told.lacks {
         told.resumed = told.resumed.saturating_add(1);
@@ -239,6 +239,7 @@ fn step_now<const OFFSET_BITS: u32, S: Store<OFFSET_BITS, Layout = AttrLayout>>(
                 told.differs = true;
             }
             go_on(told);
+            told.lacks = true;
             told.is_first = false;
             Ok(true)
         }
