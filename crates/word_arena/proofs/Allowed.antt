@@ -34,7 +34,7 @@ use Rattle.gen_core.proofs.Readers.{load_root_keeps, split_keeps, join_keeps}
 use Rattle.gen_core.proofs.Opening.{opening_good}
 use Rattle.gen_core.proofs.Law.{image_stands}
 use Rattle.word_arena.specs.Ruled.{Slot, views_of, Ruled, Becomes, writer_of, reader_of, cut_left, cut_right, glued}
-use Rattle.word_arena.specs.PlayEvents.{plays_hand_out, plays_width, plays_store, plays_publish, plays_load_root, plays_load_newest, plays_raise, plays_bounce, plays_release, plays_load_word, plays_load_own}
+use Rattle.word_arena.specs.PlayEvents.{plays_hand_out, plays_width, plays_store, plays_find, plays_publish, plays_load_root, plays_load_newest, plays_raise, plays_bounce, plays_release, plays_load_word, plays_load_own}
 use Rattle.word_arena.specs.ProofsForWork.{coming-least}
 use Rattle.word_arena.proofs.Views.{get_some}
 use Rattle.gen_core.proofs.Holds.{at_newest}
@@ -176,6 +176,22 @@ module _ (reaches : ℕ → Records → ℕ → List ℕ) (lawful : ℕ → Reco
         record {
           told = record { is = refl; good = good_view reaches lawful _ good };
           event = record { before = state_of t w k.readers; after = after_store_word (state_of t w k.readers) p n; good = k.good; happens = (may, refl); word = refl; operands = refl; found_is = refl; sees = refl; then_sees = refl };
+        },
+      )
+
+  pub find_allowed : (slots id : ℕ) (w : WriterView) (p : ℕ) → MayStoreWord w p
+      → Allows (Ruled reaches lawful sizes) slots id (Writer w, []) p (λ n. n) (plays_find reaches lawful (step slots p 0 0 none) (Writer w, []))
+  find_allowed slots id w p may t rule homes at small =
+      let k = writing t rule id w at in
+      let n : ℕ = slice_index t.words p in
+      let good = store_word_keeps reaches lawful _ p n k.good may in (
+        Writer (stored w p n),
+        keeps,
+        tt,
+        ruled_by t id w (stored w p n) k _ refl good,
+        record {
+          told = record { is = refl; good = good_view reaches lawful _ good };
+          event = record { before = state_of t w k.readers; after = after_store_word (state_of t w k.readers) p n; good = k.good; happens = (may, refl); same = set_back t.words p; found_is = refl; sees = refl; then_sees = refl };
         },
       )
 
@@ -437,6 +453,11 @@ module _ (reaches : ℕ → Records → ℕ → List ℕ) (lawful : ℕ → Reco
       → Allows (Ruled reaches lawful sizes) slots id me p (λ _. n) (λ _. plays_store reaches lawful (step slots p n 0 none) me n)
   store_owed w p n is may =
       subst (λ (m : Me Slot View). Allows (Ruled reaches lawful sizes) slots id m p (λ _. n) (λ _. plays_store reaches lawful (step slots p n 0 none) m n)) (sym is) (store_allowed reaches lawful sizes slots id w p n may)
+
+  pub find_owed : (w : WriterView) (p : ℕ) → me ≡ (Writer w, []) → MayStoreWord w p
+      → Allows (Ruled reaches lawful sizes) slots id me p (λ n. n) (plays_find reaches lawful (step slots p 0 0 none) me)
+  find_owed w p is may =
+      subst (λ (m : Me Slot View). Allows (Ruled reaches lawful sizes) slots id m p (λ n. n) (plays_find reaches lawful (step slots p 0 0 none) m)) (sym is) (find_allowed reaches lawful sizes slots id w p may)
 
   pub publish_owed : IsLayout reaches lawful → (w : WriterView) (root word : ℕ) → me ≡ (Writer w, []) → word ≡ length w.commits * 2 ^ 32 + root → MayPublish lawful w root
       → Allows (Ruled reaches lawful sizes) slots id me 0 (λ _. word) (λ _. plays_publish reaches lawful (step slots 0 word 0 none) me word)

@@ -6,7 +6,7 @@ use Rattle.gen_core.specs.declared.views.View.{View}
 use Rattle.gen_core.specs.Good.{State, Good}
 use Rattle.gen_core.specs.Steps.{Operation, load, store, add, subtract, exchange, word_of, operation_of, seat_of, view_at}
 use Rattle.gen_core.specs.Events.{Event, store_width, store_word, hand_out, publish, put_on_hold, free_buffer, reopen, store_newest, close, stop_at_oldest, probe, stop_at_newest, morph, load_own, load_newest, raise, bounce, load_root, load_word, release, Happens}
-use Rattle.word_arena.specs.Ruled.{Slot, told_hand_out, told_width, told_store, told_publish, told_load_root, told_load_newest, told_raise, told_bounce, told_release, told_load_word, told_load_own}
+use Rattle.word_arena.specs.Ruled.{Slot, told_hand_out, told_width, told_store, told_find, told_publish, told_load_root, told_load_newest, told_raise, told_bounce, told_release, told_load_word, told_load_own}
 use Rattle.word_arena.specs.WriterHolds.{told_reopen, told_store_newest, told_morph, told_probe, told_close, told_hold, told_free}
 
 -- the operands of a step are those of an operation
@@ -52,6 +52,20 @@ module _ (reaches : ℕ → Records → ℕ → List ℕ) (lawful : ℕ → Reco
 
   abbrev pub plays_store : Step Slot → Me Slot View → ℕ → Me Slot View → Type 0
   plays_store st me found me' = Told (told_store st me found me') (IsEvent reaches lawful (store_word st.word st.first) st me found me')
+
+  -- a load that found what a store would leave is the event of that store, which changes no word then
+  pub record IsStoreOfFound (st : Step Slot) (me : Me Slot View) (found : ℕ) (me' : Me Slot View) : Type 0 where
+    pub before : State
+    pub after : State
+    pub good : Good reaches lawful before
+    pub happens : Happens reaches lawful before (store_word st.word found) after
+    pub same : after.words ≡ before.words
+    pub found_is : found ≡ slice_index before.words st.word
+    pub sees : view_at before (seat_of (store_word st.word found)) ≡ Some me.0
+    pub then_sees : view_at after (seat_of (store_word st.word found)) ≡ Some me'.0
+
+  abbrev pub plays_find : Step Slot → Me Slot View → ℕ → Me Slot View → Type 0
+  plays_find st me found me' = Told (told_find st me found me') (IsStoreOfFound st me found me')
 
   abbrev pub plays_publish : Step Slot → Me Slot View → ℕ → Me Slot View → Type 0
   plays_publish st me found me' = Told (told_publish reaches lawful st me found me') ((root : ℕ) × IsEvent reaches lawful (publish root) st me found me')

@@ -63,6 +63,10 @@ told_width st me found me' =
 abbrev pub told_store : Step Slot → Me Slot View → ℕ → Me Slot View → Type 0
 told_store st me found me' = Becomes me (stored (writer_of me.0) st.word st.first) me'
 
+-- the word that was found counts as stored from then on
+abbrev pub told_find : Step Slot → Me Slot View → ℕ → Me Slot View → Type 0
+told_find st me found me' = Becomes me (stored (writer_of me.0) st.word found) me'
+
 module _ (reaches : ℕ → Records → ℕ → List ℕ) (lawful : ℕ → Records → ℕ → Type 0) where
   abbrev pub told_publish : Step Slot → Me Slot View → ℕ → Me Slot View → Type 0
   told_publish st me found me' =

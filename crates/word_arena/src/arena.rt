@@ -33,11 +33,11 @@ fn opening_words(alloc: Global, sizes: &Sizes) -> Result<Vec<u64>, AllocError>
     ensures { IfOk result (λ v. v.items ≡ opening_words sizes.now) }
 {
     let count = sizes.buffers as usize + sizes.buffers as usize * sizes.words as usize;
-    let closed = vec![in alloc; 1u64; 15]?;
-    let rest = vec![in alloc; 0u64; count]?;
-    let mut words = vec![in alloc; 0u64; 3]?;
-    words.extend_from_slice(closed.as_slice())?;
-    words.extend_from_slice(rest.as_slice())?;
+    let mut words = Vec::new(alloc);
+    words.reserve(18 + count)?;
+    words.resize(3, 0)?;
+    words.resize(18, 1)?;
+    words.resize(18 + count, 0)?;
     Ok(words)
 }
 

@@ -8,10 +8,11 @@ ghost use Rattle.entry_ref.specs.References.{buffer_of};
 ghost use Rattle.arena_api.specs.Calls.{MayStore, InNoCommit, AddsCommit, with_stored, padded, next_image, published};
 ghost use Rattle.arena_api.specs.Works.{is_free, active_width};
 ghost use Rattle.gen_core.specs.Views.{last_tag_in};
+ghost use Rattle.gen_core.specs.Work.{writer_records};
 ghost use Rattle.word_arena.specs.Knows.{view_of, given, buffers_by};
 
 use crate::buffers::{count_free, last_of, lowest_free, width_of};
-use crate::plays::{HandOut, Publish, StoreWidth, StoreWord};
+use crate::plays::{FindWord, HandOut, Publish, StoreWidth, StoreWord};
 use crate::writer::Writer;
 use arena_api::{Advance, Oldest, Work};
 use entry_ref::EntryRef;
@@ -64,6 +65,73 @@ impl<'a, const OFFSET_BITS: u32, L: Layout> Writer<'a, OFFSET_BITS, L> {
             .store::<StoreWidth<L>>(&mut self.place, first as usize, u64::from(width));
         self.buffers[at] = Buffer::Active(u64::from(width), last);
     }
+
+    /// Finds the word of an entry that is there, which counts as stored from then on. Its buffer has this width.
+    fn find_in(&mut self, entry: EntryRef<OFFSET_BITS>, width: u32, i: u32) -> u64
+        requires may { MayStore OFFSET_BITS (view_of self.old.place.table_id (writer_of self.old.place.me.0)) entry i }
+        requires width { active_width ((view_of self.old.place.table_id (writer_of self.old.place.me.0)).buffer (buffer_of OFFSET_BITS entry)) ≡ width }
+        ensures knows { view_of self.new.place.table_id (writer_of self.new.place.me.0)
+            ≡ record (view_of self.old.place.table_id (writer_of self.old.place.me.0)) {
+              stored = with_stored (view_of self.old.place.table_id (writer_of self.old.place.me.0)).stored entry.entry i result;
+            } }
+        ensures others { (q : ℕ) → q ≢ entry.entry
+            → writer_records (writer_of self.new.place.me.0) q ≡ writer_records (writer_of self.old.place.me.0) q }
+        ensures shape { (writer_of self.new.place.me.0).sizes.shape ≡ (writer_of self.old.place.me.0).sizes.shape }
+    {
+        let place = place_of(
+            self.sizes.buffers as u32,
+            self.sizes.words as u32,
+            width,
+            entry,
+            i,
+        );
+        self.arena
+            .table
+            .shared
+            .load::<FindWord<L>>(&mut self.place, place as usize)
+    }
+
+    /// Makes a word of an entry this one, by a store only where another is there: a load costs less. Its buffer has this width.
+    fn put_in(&mut self, entry: EntryRef<OFFSET_BITS>, width: u32, i: u32, word: u64)
+        requires may { MayStore OFFSET_BITS (view_of self.old.place.table_id (writer_of self.old.place.me.0)) entry i }
+        requires width { active_width ((view_of self.old.place.table_id (writer_of self.old.place.me.0)).buffer (buffer_of OFFSET_BITS entry)) ≡ width }
+        ensures knows { view_of self.new.place.table_id (writer_of self.new.place.me.0)
+            ≡ record (view_of self.old.place.table_id (writer_of self.old.place.me.0)) {
+              stored = with_stored (view_of self.old.place.table_id (writer_of self.old.place.me.0)).stored entry.entry i word;
+            } }
+        ensures others { (q : ℕ) → q ≢ entry.entry
+            → writer_records (writer_of self.new.place.me.0) q ≡ writer_records (writer_of self.old.place.me.0) q }
+        ensures shape { (writer_of self.new.place.me.0).sizes.shape ≡ (writer_of self.old.place.me.0).sizes.shape }
+    {
+        if self.find_in(entry, width, i) != word {
+            self.store_in(entry, width, i, word);
+        }
+    }
+
+    /// Stores a word of an entry, whose buffer has this width.
+    fn store_in(&mut self, entry: EntryRef<OFFSET_BITS>, width: u32, i: u32, word: u64)
+        requires may { MayStore OFFSET_BITS (view_of self.old.place.table_id (writer_of self.old.place.me.0)) entry i }
+        requires width { active_width ((view_of self.old.place.table_id (writer_of self.old.place.me.0)).buffer (buffer_of OFFSET_BITS entry)) ≡ width }
+        ensures knows { view_of self.new.place.table_id (writer_of self.new.place.me.0)
+            ≡ record (view_of self.old.place.table_id (writer_of self.old.place.me.0)) {
+              stored = with_stored (view_of self.old.place.table_id (writer_of self.old.place.me.0)).stored entry.entry i word;
+            } }
+        ensures others { (q : ℕ) → q ≢ entry.entry
+            → writer_records (writer_of self.new.place.me.0) q ≡ writer_records (writer_of self.old.place.me.0) q }
+        ensures shape { (writer_of self.new.place.me.0).sizes.shape ≡ (writer_of self.old.place.me.0).sizes.shape }
+    {
+        let place = place_of(
+            self.sizes.buffers as u32,
+            self.sizes.words as u32,
+            width,
+            entry,
+            i,
+        );
+        self.arena
+            .table
+            .shared
+            .store::<StoreWord<L>>(&mut self.place, place as usize, word);
+    }
 }
 
 impl<'a, const OFFSET_BITS: u32, L: Layout> Work<OFFSET_BITS> for Writer<'a, OFFSET_BITS, L> {
@@ -83,17 +151,7 @@ impl<'a, const OFFSET_BITS: u32, L: Layout> Work<OFFSET_BITS> for Writer<'a, OFF
         ensures shape { ⟦<Writer<'a, OFFSET_BITS, L> as Frozen<OFFSET_BITS>>⟧.shape self.new ≡ ⟦<Writer<'a, OFFSET_BITS, L> as Frozen<OFFSET_BITS>>⟧.shape self.old }
     {
         let width = width_of(self.buffers.as_slice(), entry.buffer()) as u32;
-        let place = place_of(
-            self.sizes.buffers as u32,
-            self.sizes.words as u32,
-            width,
-            entry,
-            i,
-        );
-        self.arena
-            .table
-            .shared
-            .store::<StoreWord<L>>(&mut self.place, place as usize, word);
+        self.store_in(entry, width, i, word);
     }
 
     fn put(&mut self, entry: EntryRef<OFFSET_BITS>, width: u32, words: &[u64])
@@ -107,7 +165,7 @@ impl<'a, const OFFSET_BITS: u32, L: Layout> Work<OFFSET_BITS> for Writer<'a, OFF
     {
         for i in 0..width {
             let word = word_or_zero(words, i);
-            self.store(entry, i, word);
+            self.put_in(entry, width, i, word);
         }
     }
 

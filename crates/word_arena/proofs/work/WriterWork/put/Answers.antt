@@ -42,8 +42,8 @@ returns-clause-records g c = λ k q. at q k
       | inr ne ↦ c.loop-i.invariant.others q ne ∙ ap (λ t. cond t ws (writer_records (writer_of c.args.self.now.place.me.0) q)) (sym (ne_eqb q c.args.entry ne))
     ]
 
-pub store-requires : goal.store-requires
-store-requires g c =
+pub put_in-requires : goal.put_in-requires
+put_in-requires g c =
     let B : ℕ = g.row.OFFSET_BITS in
     let old = view_of c.args.self.now.place.table_id (writer_of c.args.self.now.place.me.0) in
     let now = view_of c.loop-i.self.place.table_id (writer_of c.loop-i.self.place.me.0) in
@@ -56,13 +56,15 @@ store-requires g c =
       };
       unkept = c.requires.unkept;
     } in
-    (omega arith, (omega arith, subst (λ v. MayStore B v c.args.entry c.loop-i.i) (sym c.loop-i.invariant.knows) may))
+    let is : active_width (now.buffer (buffer_of B c.args.entry)) ≡ c.args.width =
+    subst (λ v. active_width (v.buffer (buffer_of B c.args.entry)) ≡ c.args.width) (sym c.loop-i.invariant.knows) width in
+    (omega arith, (omega arith, (subst (λ v. MayStore B v c.args.entry c.loop-i.i) (sym c.loop-i.invariant.knows) may, is)))
 
 pub loop-i-preserved : goal.loop-i-preserved
 loop-i-preserved g c =
     let now = view_of c.loop-i.self.place.table_id (writer_of c.loop-i.self.place.me.0) in
     let old = view_of c.args.self.now.place.table_id (writer_of c.args.self.now.place.me.0) in
-    let e = c.store.ensures in
+    let e = c.put_in.ensures in
     let inv = c.loop-i.invariant in
     record {
       knows =

@@ -1,0 +1,35 @@
+use Rattle.std.proofs.Common.{◌≡◌, ℕ, Option, Some, Bool, true, false, cond, refl, sym, subst, arith, ◌∙◌}
+use Rattle.std.specs.Prelude.{nat_eq, ◌&&◌}
+use Rattle.entry_ref.specs.References.{buffer_of}
+use Rattle.arena_api.specs.Works.{active_width}
+use Rattle.arena_api.specs.Calls.{MayStore, with_stored}
+use Rattle.word_arena.specs.Ruled.{writer_of}
+use Rattle.word_arena.specs.Knows.{view_of}
+use Rattle.word_arena.proofs.writer.Writer.put_in.Goals as goal
+
+-- of two choices by one test the first counts
+twice : (b : Bool) (word found : ℕ) (other : Option ℕ) → cond b (Some word) (cond b (Some found) other) ≡ cond b (Some word) other
+twice true word found other = refl
+twice false word found other = refl
+
+pub store_in-requires : goal.store_in-requires
+store_in-requires g c =
+    let B : ℕ = g.row.OFFSET_BITS in
+    let s = c.args.self.now in
+    let old = view_of s.place.table_id (writer_of s.place.me.0) in
+    let knows = c.find_in.ensures.knows in
+    let may : MayStore B (record old { stored = with_stored old.stored c.args.entry c.args.i c.find_in.result }) c.args.entry c.args.i =
+    record { word = record { entry = c.requires.may.word.entry; inside = c.requires.may.word.inside }; unkept = c.requires.may.unkept } in
+    let width : active_width ((view_of c.find_in.new.self.place.table_id (writer_of c.find_in.new.self.place.me.0)).buffer (buffer_of B c.args.entry)) ≡ c.args.width =
+    subst (λ v. active_width (v.buffer (buffer_of B c.args.entry)) ≡ c.args.width) (sym knows) c.requires.width in
+    (omega arith, (omega arith, (subst (λ v. MayStore B v c.args.entry c.args.i) (sym knows) may, width)))
+
+pub returns-then-find_in-word-clause-knows : goal.returns-then-find_in-word-clause-knows
+returns-then-find_in-word-clause-knows g c =
+    let s = c.args.self.now in
+    let old = view_of s.place.table_id (writer_of s.place.me.0) in
+    let r : ℕ = c.args.entry in
+    let i : ℕ = c.args.i in
+    let knows = c.find_in.ensures.knows in
+    c.store_in.ensures.knows ∙ (λ k. record (knows k) { stored = with_stored (knows k).stored r i c.args.word })
+    ∙ (λ k. record old { stored = λ q j. twice (nat_eq q r && nat_eq j i) c.args.word c.find_in.result (old.stored q j) k })
