@@ -9,7 +9,7 @@ use crate::watched::{KeepsRecords, Watched};
 use arena_api::Work;
 use attr_images::{AttrLayout, shape_of};
 use attr_types::Fields;
-use attribute_kinds::Attribute;
+use attribute_kinds::{Attribute, committed_work};
 use entry_store::EntryStore;
 use frozen_api::Frozen;
 use mem_work::MemWork;
@@ -59,14 +59,12 @@ pub fn new_attribute(
 }
 
 /// How many commits were made, and what was seen at them.
-pub fn close<
-    const OFFSET_BITS: u32,
-    W: Work<OFFSET_BITS, Layout = AttrLayout> + KeepsRecords + Drop,
->(
-    attribute: Attribute<OFFSET_BITS, EntryStore<OFFSET_BITS, Watched<OFFSET_BITS, W>>>,
-) -> (u32, Watch) {
-    let (work, published) = attribute.into_work();
+pub fn close(attribute: Kinds, fields: &Fields) -> (u32, Watch)
+    requires same { attribute.fields ≡ fields.now }
+{
+    let (store, published) = attribute.into_store();
     let root = published.root;
-    let watch = work.into_watch(u64::from(root.raw()));
-    (published.commit, watch)
+    let commits = published.commit;
+    let work = committed_work(store, fields, root);
+    (commits, work.into_watch(u64::from(root.raw())))
 }

@@ -178,6 +178,6 @@ pub fn run(alloc: Global, fields: &Fields, load: Load) -> Result<Outcome, AllocE
             &mut ended,
         )?;
     }
-    let (commits, watch) = close(attribute);
+    let (commits, watch) = close(attribute, fields);
     Ok(outcome_of(load, told, commits, &watch, ended.as_slice(), &[]))
 }

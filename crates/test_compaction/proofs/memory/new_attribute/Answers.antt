@@ -1,19 +1,18 @@
-use Rattle.std.proofs.Common.{refl, arith}
+use Rattle.std.proofs.Common.{◌∙◌, sym, subst, arith}
+use Rattle.arena_api.specs.Calls.{IsFresh}
+use Rattle.entry_store.proofs.Fresh.{opened-fresh}
 use Rattle.test_compaction.proofs.memory.new_attribute.Goals as goal
 
-pub create-requires : goal.create-requires
-create-requires c = (
+pub open_watched-requires : goal.open_watched-requires
+open_watched-requires c = (
   omega arith,
   (
-    omega arith,
+    c.requires.some,
     (
-      c.requires.some,
+      c.requires.few,
       (
-        c.requires.few,
-        (
-          c.in_ok-work.ensures.shape,
-          (c.in_ok-work.ensures.fresh, refl),
-        ),
+        c.new.ensures.shape ∙ c.in_ok-work.ensures.shape ∙ c.shape_of.ensures,
+        subst IsFresh (sym (c.new.ensures.knows ∙ c.in_ok-work.ensures.knows)) (opened-fresh _ _ _),
       ),
     ),
   ),

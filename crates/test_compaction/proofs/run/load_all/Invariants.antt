@@ -2,4 +2,4 @@ use Rattle.std.proofs.Common.{◌≡◌}
 use Rattle.test_compaction.proofs.run.load_all.Given as goal
 
 abbrev pub invariant-loop-number : goal.invariant-loop-number
-invariant-loop-number l = record { same : l.attribute.fields ≡ l.fields }
+invariant-loop-number g l = record { same : l.attribute.fields ≡ l.fields }

@@ -2,4 +2,4 @@ use Rattle.std.proofs.Common.{◌≡◌}
 use Rattle.test_compaction.proofs.steps.take_steps.Given as goal
 
 abbrev pub invariant-loop : goal.invariant-loop
-invariant-loop l = record { same : l.attribute.fields ≡ l.fields }
+invariant-loop g l = record { same : l.attribute.fields ≡ l.fields }
