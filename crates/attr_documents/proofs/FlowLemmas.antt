@@ -1,5 +1,5 @@
 -- What was in use when a unit began, through its calls: of what a call makes of parts, that was of these parts.
-use Rattle.std.proofs.Common.{◌≡◌, ◌≢◌, ℕ, zero, suc, ◌<◌, ℤ, List, [], ◌∷◌, ◌++◌, map, None, Some, true, true≢false, inl, inr, ⊎_elim, refl, sym, ap, subst, ◌∙◌, arith}
+use Rattle.std.proofs.Common.{◌≡◌, ◌≢◌, ℕ, ℤ, List, [], ◌∷◌, ◌++◌, map, None, Some, inl, inr, ⊎_elim, refl, ap, subst, ◌∙◌, arith}
 use Rattle.std.proofs.lemmas.Bool.{cases_eq}
 use Rattle.std.proofs.lemmas.Cmp.{nat_cmp_total}
 use Rattle.std.specs.Prelude.{unwrap_or}
@@ -12,11 +12,9 @@ use Rattle.image_base.specs.Records.{Records, Among, SameAt}
 use Rattle.key_order.specs.Pairs.{choose, lookup, put, take_out}
 use Rattle.key_order.proofs.PairLemmas.{lookup-put}
 use Rattle.store_api.specs.Ledgers.{Ledger}
-use Rattle.store_api.specs.Parts.{Part, Turns, count_in, uses}
-use Rattle.store_api.specs.Statuses.{in_use}
+use Rattle.store_api.specs.Parts.{uses}
 use Rattle.store_api.specs.Units.{MayDo}
 use Rattle.store_api.proofs.Times.{among-times, times-among, times-append}
-use Rattle.store_api.proofs.Uses.{back_uses, in-uses, open_unused, uses-few, uses-in}
 use Rattle.tree_images.specs.ProofsForTrees.{SameAt-left, SameAt-right, tree_nodes-same, tree_pairs-same}
 use Rattle.tree_images.specs.Trees.{tree_nodes, tree_pairs}
 use Rattle.doc_vector.proofs.DocumentLemmas.{other_number, same_number}
@@ -28,7 +26,7 @@ use Rattle.attr_documents.specs.Documents.{documents_own, items_own, items_refer
 use Rattle.attr_documents.specs.Flows.{own_at, refer_at, reference_at, FlowsDocuments}
 use Rattle.attr_documents.proofs.RecordLemmas.{weighted-on}
 use Rattle.store_api.specs.Flows.{ComesFrom}
-use Rattle.store_api.proofs.Flows.{began-then, comes-then, flow_made, flow_part, made_fresh}
+use Rattle.store_api.proofs.Flows.{comes-then}
 
 -- documents that nothing was done to, and one change after another
 pub documents_flow_same : {H : Type 0} (kind : Kind) (a : Ledger H) (m : Records) (root : ℕ) → FlowsDocuments kind a m m root [] root

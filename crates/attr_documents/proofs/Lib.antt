@@ -1,5 +1,4 @@
 pub mod FrameLemmas
-pub mod RefusalLemmas
 pub mod PairLemmas
 pub mod RecordLemmas
 pub mod FlowLemmas

@@ -19,6 +19,7 @@ use Rattle.attr_types.specs.declared.kind.ValueType.{ValueType}
 use Rattle.attr_types.specs.declared.value.Value.{Value}
 use Rattle.attr_documents.specs.Documents.{documents_part, documents_refer, items_own, IsDocuments}
 use Rattle.attr_documents.specs.Flows.{own_at, refer_at, FlowsDocuments}
+use Rattle.attr_documents.specs.Items.{IsItemsWidth}
 use Rattle.store_api.specs.Flows.{ComesFrom}
 
 -- these records are in use, and the parts own none of them
@@ -68,3 +69,7 @@ pub record SetsItems {H : Type 0} (kind : Kind) (old : Ledger H) (m n : Records)
   pub refer : refer_at kind n next doc ≡ keys
   pub others : take_out (beside doc) (tree_pairs n next) ≡ take_out (beside doc) (tree_pairs m root)
   pub stay : SameAt (pairs_own kind (take_out (beside doc) (tree_pairs m root))) m n
+
+-- a width for which a change of a document may be refused, by how many items it has then: of nodes, or of the record of its items
+abbrev pub IsDocumentWidth : Kind → ℕ → ℕ → Type 0
+IsDocumentWidth kind count width = (width ≡ NODE_WORDS) ⊎ IsItemsWidth kind count width

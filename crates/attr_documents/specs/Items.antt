@@ -1,11 +1,11 @@
 -- The items of one document: its references of values with weights, as words of a record.
-use Rattle.std.specs.Prelude.{◌≡◌, ℕ, ℤ, pos, Bool, true, false, List, [], ◌∷◌}
+use Rattle.std.specs.Prelude.{◌≡◌, ℕ, ℤ, ◌+◌, ◌<◌, pos, Bool, true, false, List, [], ◌∷◌}
 use Rattle.image_base.specs.Records.{Records}
 use Rattle.store_api.specs.Ledgers.{Ledger}
 use Rattle.store_api.specs.Parts.{Turns, entries}
 use Rattle.attr_images.specs.Documents.{weighted, IsItemsRecord}
 use Rattle.attr_images.specs.Values.{stored_value}
-use Rattle.attr_images.specs.Words.{unpacked}
+use Rattle.attr_images.specs.Words.{class_of, unpacked}
 use Rattle.attr_types.specs.declared.items.Item.{Item}
 use Rattle.attr_types.specs.declared.kind.Kind.{Kind}
 use Rattle.attr_types.specs.declared.kind.Kind.TheVariants.{Single, Array, WeightedSet}
@@ -45,3 +45,9 @@ pub record MakesItems {H : Type 0} (kind : Kind) (old new : Ledger H) (m n : Rec
   pub form : IsItemsRecord kind ref (n ref)
   pub weighted_are : weighted kind ref (n ref) ≡ list
   pub turns : Turns old new m n [] (entries (items_own kind ref) ∷ [])
+
+-- a width is that of the record of a document with so many items: an array or a weighted set that has some
+pub record IsItemsWidth (kind : Kind) (count width : ℕ) : Type 0 where
+  pub list : has_list kind ≡ true
+  pub some : 0 < count
+  pub width_is : width ≡ class_of (1 + count)

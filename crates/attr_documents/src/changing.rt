@@ -3,7 +3,9 @@ ghost use Rattle.std.specs.BTreeMap.{is_at};
 ghost use Rattle.std.specs.Map.{lookup};
 ghost use Rattle.std.specs.Ordering.{nat_cmp};
 ghost use Rattle.tree_images.specs.Trees.{tree_pairs};
+ghost use Rattle.tree_images.specs.declared.TheConstants.{NODE_WORDS};
 ghost use Rattle.key_order.specs.Pairs.{lookup as found, put, take_out};
+ghost use Rattle.store_api.specs.Calls.{Refuses, RefusesOf};
 ghost use Rattle.store_api.specs.Parts.{Owns};
 ghost use Rattle.store_api.specs.Units.{MayDo};
 ghost use Rattle.tree_make.specs.Changes.{levels};
@@ -12,8 +14,9 @@ ghost use Rattle.doc_vector.specs.Documents.{beside, IsDocumentMap};
 ghost use Rattle.attr_images.specs.Documents.{column_at};
 ghost use Rattle.attr_index.specs.Columns.{with_change};
 ghost use Rattle.attr_types.specs.Lawful.{IsLawfulItems};
-ghost use Rattle.posting_store.specs.Changes.{MakesWithin, RefusesSome};
-ghost use Rattle.attr_documents.specs.Changes.{documents_most, AreBeside, AreKeysOf, ChangesPair, MakesDocuments, SetsItems};
+ghost use Rattle.posting_store.specs.Changes.{MakesWithin};
+ghost use Rattle.attr_documents.specs.Changes.{documents_most, AreBeside, AreKeysOf, ChangesPair, IsDocumentWidth, MakesDocuments};
+ghost use Rattle.attr_documents.specs.Changes.{SetsItems};
 ghost use Rattle.attr_documents.specs.Documents.{documents_part, documents_refer, IsDocuments};
 
 use crate::making::{drop_items, make_items};
@@ -55,7 +58,7 @@ fn set_reference<const OFFSET_BITS: u32, S: Store<OFFSET_BITS>>(
         root.entry (take_out (beside doc) (tree_pairs (S.records store.old) root.entry))
         (put (beside doc) (doc, reference.entry) (tree_pairs (S.records store.old) root.entry))) }
     ensures counts { CountsNodes (S.ledger store.old) (S.ledger store.new) (2 * levels (S.records store.old) root.entry + 1) }
-    ensures refuses { IfErr result (RefusesSome (S.ledger store.old) (S.ledger store.new)) }
+    ensures refuses { IfErr result (Refuses (S.ledger store.old) (S.ledger store.new) NODE_WORDS) }
     ensures may { MayDo (S.ledger store.old) (S.ledger store.new) }
 {
     let old = reference_of(store, root, doc);
@@ -90,7 +93,7 @@ pub fn set_document<const OFFSET_BITS: u32, S: Store<OFFSET_BITS>>(
     ensures sets { IfOk result (SetsItems kind (S.ledger store.old) (S.records store.old) (S.records store.new) root.entry doc keys.now) }
     ensures counts { MakesWithin (S.ledger store.old) (S.ledger store.new)
         (documents_most (1 + length items.now) (2 * levels (S.records store.old) root.entry + 1)) }
-    ensures refuses { IfErr result (RefusesSome (S.ledger store.old) (S.ledger store.new)) }
+    ensures refuses { IfErr result (RefusesOf (IsDocumentWidth kind (length items.now)) (S.ledger store.old) (S.ledger store.new)) }
     ensures may { MayDo (S.ledger store.old) (S.ledger store.new) }
 {
     let reference = make_items(alloc, store, kind, keys, items)?;
@@ -114,7 +117,7 @@ pub fn remove_document<const OFFSET_BITS: u32, S: Store<OFFSET_BITS>>(
     ensures makes { IfOk result (MakesDocuments kind value_type (S.ledger store.old) (S.ledger store.new) (S.records store.old)
         (S.records store.new) root.entry [] (with_change (column_at kind value_type (S.records store.old) root.entry) doc None)) }
     ensures counts { CountsNodes (S.ledger store.old) (S.ledger store.new) (levels (S.records store.old) root.entry + 1) }
-    ensures refuses { IfErr result (RefusesSome (S.ledger store.old) (S.ledger store.new)) }
+    ensures refuses { IfErr result (Refuses (S.ledger store.old) (S.ledger store.new) NODE_WORDS) }
     ensures may { MayDo (S.ledger store.old) (S.ledger store.new) }
 {
     let old = reference_of(store, root, doc);

@@ -1,13 +1,13 @@
 ghost use Rattle.std.specs.Prelude.{◌≡◌, ◌+◌, ◌<◌, ◌≤◌, ◌∷◌, [], ℕ, true, length, map, IfOk, IfErr};
 ghost use Rattle.std.specs.List.{AllByRecursion};
+ghost use Rattle.store_api.specs.Calls.{RefusesOf};
 ghost use Rattle.store_api.specs.Parts.{Owns, Turns, entries};
 ghost use Rattle.store_api.specs.Units.{MayDo, MakesAtMost};
 ghost use Rattle.array_store.specs.Adding.{MakesOneOf};
 ghost use Rattle.attr_images.specs.Words.{class_of};
 ghost use Rattle.attr_types.specs.Lawful.{IsLawfulItems};
-ghost use Rattle.posting_store.specs.Changes.{RefusesSome};
 ghost use Rattle.attr_documents.specs.Documents.{items_own};
-ghost use Rattle.attr_documents.specs.Items.{entries_of, has_list, word_entry, IsWeightOf, MakesItems};
+ghost use Rattle.attr_documents.specs.Items.{entries_of, has_list, word_entry, IsItemsWidth, IsWeightOf, MakesItems};
 
 use crate::WEIGHT_BASE;
 use array_store::add;
@@ -64,7 +64,7 @@ fn make_list<const OFFSET_BITS: u32, S: Store<OFFSET_BITS>>(
     ensures makes { IfOk result (MakesItems kind (S.ledger store.old) (S.ledger store.new) (S.records store.old) (S.records store.new)
         (entries_of keys.now items.now)) }
     ensures counts { MakesOneOf (class_of (1 + length items.now)) (S.ledger store.old) (S.ledger store.new) }
-    ensures refuses { IfErr result (RefusesSome (S.ledger store.old) (S.ledger store.new)) }
+    ensures refuses { IfErr result (RefusesOf (IsItemsWidth kind (length items.now)) (S.ledger store.old) (S.ledger store.new)) }
     ensures may { MayDo (S.ledger store.old) (S.ledger store.new) }
 {
     may_do_law::<OFFSET_BITS, S>();
@@ -90,7 +90,7 @@ pub fn make_items<const OFFSET_BITS: u32, S: Store<OFFSET_BITS>>(
     ensures makes { IfOk result (MakesItems kind (S.ledger store.old) (S.ledger store.new) (S.records store.old) (S.records store.new)
         (entries_of keys.now items.now)) }
     ensures counts { MakesOneOf (class_of (1 + length items.now)) (S.ledger store.old) (S.ledger store.new) }
-    ensures refuses { IfErr result (RefusesSome (S.ledger store.old) (S.ledger store.new)) }
+    ensures refuses { IfErr result (RefusesOf (IsItemsWidth kind (length items.now)) (S.ledger store.old) (S.ledger store.new)) }
     ensures may { MayDo (S.ledger store.old) (S.ledger store.new) }
 {
     may_do_law::<OFFSET_BITS, S>();

@@ -9,3 +9,4 @@ pub mod ChangeLemmas
 pub mod CompareLemmas
 pub mod CountLemmas
 pub mod SizeLemmas
+pub mod WidthLemmas

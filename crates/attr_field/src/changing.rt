@@ -2,17 +2,18 @@ ghost use Rattle.std.specs.Prelude.{◌≡◌, ℕ, ◌∷◌, [], true, IsSome,
 ghost use Rattle.std.specs.BTreeMap.{is_at};
 ghost use Rattle.std.specs.Map.{lookup};
 ghost use Rattle.std.specs.Ordering.{nat_cmp};
+ghost use Rattle.store_api.specs.Calls.{RefusesOf};
 ghost use Rattle.store_api.specs.Parts.{Owns};
 ghost use Rattle.store_api.specs.Units.{MayDo};
 ghost use Rattle.attr_field.specs.Changes.{MakesField};
 ghost use Rattle.attr_field.specs.Counts.{field_nodes, field_records, low_nodes, StaysLow};
 ghost use Rattle.attr_field.specs.Fields.{field_part, IsField, RefersBeside};
+ghost use Rattle.attr_field.specs.Widths.{IsFieldWidth};
 ghost use Rattle.attr_images.specs.Documents.{column_at};
 ghost use Rattle.attr_index.specs.Changes.{first_weights};
 ghost use Rattle.attr_index.specs.Columns.{items_of, with_change};
 ghost use Rattle.attr_types.specs.Lawful.{ItemsFit};
 ghost use Rattle.attr_walks.specs.Counts.{MakesFew};
-ghost use Rattle.posting_store.specs.Changes.{RefusesSome};
 
 use crate::comparing::has_already;
 use crate::roots::FieldRoots;
@@ -55,7 +56,10 @@ fn put_weighed<const OFFSET_BITS: u32, S: Store<OFFSET_BITS>>(
     ensures low { (levels : ℕ) → StaysLow levels (column_at kind value_type (S.records store.old) roots.entry.documents) new.now.entries
         → MakesFew (S.ledger store.old) (S.ledger store.new)
         (low_nodes levels old.now.entries new.now.entries) (field_records old.now.entries new.now.entries) }
-    ensures refuses { IfErr result (RefusesSome (S.ledger store.old) (S.ledger store.new)) }
+    ensures refuses { IfErr result (RefusesOf (IsFieldWidth kind
+        (with_change (column_at kind value_type (S.records store.old) roots.entry.documents) doc (Some items.now))
+        (items_of (column_at kind value_type (S.records store.old) roots.entry.documents) doc) items.now)
+        (S.ledger store.old) (S.ledger store.new)) }
     ensures may { MayDo (S.ledger store.old) (S.ledger store.new) }
 {
     documents_law();
@@ -119,7 +123,9 @@ pub fn put<const OFFSET_BITS: u32, S: Store<OFFSET_BITS>>(
         → MakesFew (S.ledger store.old) (S.ledger store.new)
         (low_nodes levels (first_weights [] old.now) (first_weights [] new.now))
         (field_records (first_weights [] old.now) (first_weights [] new.now)) }
-    ensures refuses { IfErr result (RefusesSome (S.ledger store.old) (S.ledger store.new)) }
+    ensures refuses { IfErr result (RefusesOf (IsFieldWidth kind
+        (with_change (column_at kind value_type (S.records store.old) roots.entry.documents) doc (Some new.now)) old.now new.now)
+        (S.ledger store.old) (S.ledger store.new)) }
     ensures may { MayDo (S.ledger store.old) (S.ledger store.new) }
 {
     documents_law();
@@ -184,7 +190,10 @@ fn remove_weighed<const OFFSET_BITS: u32, S: Store<OFFSET_BITS>>(
     ensures low { (levels : ℕ) → StaysLow levels (column_at kind value_type (S.records store.old) roots.entry.documents) []
         → MakesFew (S.ledger store.old) (S.ledger store.new)
         (low_nodes levels old.now.entries []) (field_records old.now.entries []) }
-    ensures refuses { IfErr result (RefusesSome (S.ledger store.old) (S.ledger store.new)) }
+    ensures refuses { IfErr result (RefusesOf (IsFieldWidth kind
+        (with_change (column_at kind value_type (S.records store.old) roots.entry.documents) doc None)
+        (items_of (column_at kind value_type (S.records store.old) roots.entry.documents) doc) [])
+        (S.ledger store.old) (S.ledger store.new)) }
     ensures may { MayDo (S.ledger store.old) (S.ledger store.new) }
 {
     documents_law();
@@ -242,7 +251,9 @@ pub fn remove<const OFFSET_BITS: u32, S: Store<OFFSET_BITS>>(
     ensures low { (levels : ℕ) → StaysLow levels (column_at kind value_type (S.records store.old) roots.entry.documents) []
         → MakesFew (S.ledger store.old) (S.ledger store.new)
         (low_nodes levels (first_weights [] old.now) []) (field_records (first_weights [] old.now) []) }
-    ensures refuses { IfErr result (RefusesSome (S.ledger store.old) (S.ledger store.new)) }
+    ensures refuses { IfErr result (RefusesOf (IsFieldWidth kind
+        (with_change (column_at kind value_type (S.records store.old) roots.entry.documents) doc None) old.now [])
+        (S.ledger store.old) (S.ledger store.new)) }
     ensures may { MayDo (S.ledger store.old) (S.ledger store.new) }
 {
     let _ = documents;

@@ -5,7 +5,10 @@ ghost use Rattle.std.specs.BTreeMap.{get, is_at};
 ghost use Rattle.std.specs.List.{AllByRecursion};
 ghost use Rattle.std.specs.Map.{keys_of as values_in, lookup};
 ghost use Rattle.std.specs.Ordering.{nat_cmp};
+ghost use Rattle.store_api.specs.Calls.{Refuses, RefusesOf};
 ghost use Rattle.store_api.specs.Units.{MayDo};
+ghost use Rattle.tree_images.specs.declared.TheConstants.{NODE_WORDS};
+ghost use Rattle.attr_documents.specs.Changes.{IsDocumentWidth};
 ghost use Rattle.attr_field.specs.Steps.{StandsField, StepsField};
 ghost use Rattle.attr_images.specs.Documents.{column_at};
 ghost use Rattle.attr_images.specs.Postings.{index_of};
@@ -16,7 +19,7 @@ ghost use Rattle.attr_types.specs.Lawful.{ItemsFit};
 ghost use Rattle.attr_types.specs.Value.{value_cmp, AreOfType};
 ghost use Rattle.attr_types.specs.declared.value.Value.{Value as OneValue};
 ghost use Rattle.attr_walks.specs.Counts.{added_count, gone_count, value_nodes, AddsLow, MakesFew, RemovesLow};
-ghost use Rattle.posting_store.specs.Changes.{RefusesSome};
+ghost use Rattle.attr_walks.specs.Widths.{IsWalkWidth};
 
 use crate::keys::keys_of;
 use attr_documents::{documents_law, remove_document, set_document};
@@ -58,7 +61,9 @@ pub fn add_values<const OFFSET_BITS: u32, S: Store<OFFSET_BITS>>(
         → MakesFew (S.ledger store.old) (S.ledger store.new)
         (value_nodes levels * added_count (get value_cmp old.now) new.now.entries)
         (2 * added_count (get value_cmp old.now) new.now.entries) }
-    ensures refuses { IfErr result (RefusesSome (S.ledger store.old) (S.ledger store.new)) }
+    ensures refuses { IfErr result (RefusesOf
+        (IsWalkWidth (index_of value_type (S.records store.old) dictionary.entry) doc (get value_cmp new.now) (λ value. None))
+        (S.ledger store.old) (S.ledger store.new)) }
     ensures may { MayDo (S.ledger store.old) (S.ledger store.new) }
 {
     documents_law();
@@ -94,7 +99,7 @@ pub fn set_items<const OFFSET_BITS: u32, S: Store<OFFSET_BITS>>(
     ensures counts { MakesFew (S.ledger store.old) (S.ledger store.new) 17 1 }
     ensures low { (levels : ℕ) → 0 < levels → length (column_at kind value_type (S.records store.old) documents.entry) < 2 * 8 ^ levels
         → MakesFew (S.ledger store.old) (S.ledger store.new) (2 * levels + 1) 1 }
-    ensures refuses { IfErr result (RefusesSome (S.ledger store.old) (S.ledger store.new)) }
+    ensures refuses { IfErr result (RefusesOf (IsDocumentWidth kind (length items.now)) (S.ledger store.old) (S.ledger store.new)) }
     ensures may { MayDo (S.ledger store.old) (S.ledger store.new) }
 {
     index_law();
@@ -135,7 +140,7 @@ pub fn take_out<const OFFSET_BITS: u32, S: Store<OFFSET_BITS>>(
     ensures counts { MakesFew (S.ledger store.old) (S.ledger store.new) 17 1 }
     ensures low { (levels : ℕ) → 0 < levels → length (column_at kind value_type (S.records store.old) documents.entry) < 2 * 8 ^ levels
         → MakesFew (S.ledger store.old) (S.ledger store.new) (2 * levels + 1) 1 }
-    ensures refuses { IfErr result (RefusesSome (S.ledger store.old) (S.ledger store.new)) }
+    ensures refuses { IfErr result (Refuses (S.ledger store.old) (S.ledger store.new) NODE_WORDS) }
     ensures may { MayDo (S.ledger store.old) (S.ledger store.new) }
 {
     index_law();
@@ -176,7 +181,9 @@ pub fn remove_values<const OFFSET_BITS: u32, S: Store<OFFSET_BITS>>(
         → RemovesLow levels (index_of value_type (S.records store.old) dictionary.entry) doc (get value_cmp new.now) old.now.entries
         → MakesFew (S.ledger store.old) (S.ledger store.new)
         (value_nodes levels * gone_count (get value_cmp new.now) old.now.entries) (gone_count (get value_cmp new.now) old.now.entries) }
-    ensures refuses { IfErr result (RefusesSome (S.ledger store.old) (S.ledger store.new)) }
+    ensures refuses { IfErr result (RefusesOf
+        (IsWalkWidth (index_of value_type (S.records store.old) dictionary.entry) doc (get value_cmp new.now) (get value_cmp old.now))
+        (S.ledger store.old) (S.ledger store.new)) }
     ensures may { MayDo (S.ledger store.old) (S.ledger store.new) }
 {
     documents_law();

@@ -1,8 +1,9 @@
 -- The document after an operation.
-use Rattle.std.proofs.Common.{◌≡◌, ℕ, cond, List, Option, Some, None, sym, ap, subst, ◌∙◌, arith}
+use Rattle.std.proofs.Common.{◌≡◌, ℕ, cond, List, Option, Some, None, sym, ap, subst, ◌∙◌}
 use Rattle.std.proofs.lemmas.Cmp.{nat_cmp_total, tied_itself}
 use Rattle.std.specs.Option.{unwrap_or}
 use Rattle.std.specs.Ordering.{is_eq}
+use Rattle.store_api.specs.declared.store.StoreError.{StoreError}
 use Rattle.attr_types.proofs.EntryLemmas.{lookup-remove}
 use Rattle.attr_types.proofs.TableLemmas.{Sound, put_is_there}
 use Rattle.attr_types.specs.Table.{Table, after_op, document_at, step, with_document, without_document}
@@ -11,6 +12,7 @@ use Rattle.attr_types.specs.declared.field.Field.{Field}
 use Rattle.attr_types.specs.declared.op.Op.{Op}
 use Rattle.attr_types.specs.declared.op.Op.TheVariants.{Put}
 use Rattle.attr_steps.specs.Counts.{document_after, document_before}
+use Rattle.attr_steps.specs.Widths.{IsChangedWidth, IsFullAmong, IsOperationWidth}
 
 -- ---- the document after an operation
 module _ (fields : List Field) (table : Table) where
@@ -31,3 +33,9 @@ module _ (fields : List Field) (table : Table) where
 module _ (fields : List Field) (table : Table) (op : Op) (before after : Option Document) (was : before ≡ document_before table op) (is : after ≡ document_after fields table op) where
   pub of_operation : (P : Option Document → Option Document → Type 0) → P before after → P (document_before table op) (document_after fields table op)
   of_operation P p = subst (λ (d : Option Document). P (document_before table op) d) is (subst (λ (d : Option Document). P d after) was p)
+
+  -- of which width it was refused, by the table after it
+  pub width_after : (next : Table) (e : StoreError) → step fields table op ≡ Some next → IsFullAmong (IsChangedWidth fields next before after) e → IsFullAmong (IsOperationWidth fields table op) e
+  width_after next e made full =
+      subst (λ (t : Table). IsFullAmong (IsChangedWidth fields t (document_before table op) (document_after fields table op)) e) (sym (ap (λ (o : Option Table). unwrap_or o table) made))
+      (of_operation (λ was is. IsFullAmong (IsChangedWidth fields next was is) e) full)

@@ -4,7 +4,7 @@ use Rattle.std.proofs.lemmas.Bool.{eqb-true, true≢false}
 use Rattle.std.specs.List.{AllByRecursion, list_any}
 use Rattle.std.specs.Prelude.{min, unwrap_or, ◌||◌}
 use Rattle.image_base.specs.Records.{Records}
-use Rattle.store_api.specs.Calls.{Undoes, EndsOf}
+use Rattle.store_api.specs.Calls.{Undoes, EndsOf, RefusesOf}
 use Rattle.store_api.specs.Ledgers.{Ledger, OfWidth, IsSettled, capacity, is_width, widths}
 use Rattle.store_api.specs.Units.{MayDo, MakesAtMost}
 use Rattle.store_api.specs.declared.store.StoreError.{StoreError}
@@ -20,6 +20,7 @@ use Rattle.attr_types.specs.declared.value.Value.{Value}
 use Rattle.attr_walks.specs.Counts.{MakesFew}
 use Rattle.attr_walks.proofs.CountLemmas.{few_more, few_none, few_then}
 use Rattle.posting_store.specs.Changes.{MakesWithin, RefusesSome}
+use Rattle.posting_store.proofs.RefusalLemmas.{of_some}
 use Rattle.attr_steps.specs.Counts.{document_nodes, document_records, items_at, low_document, of_width, weights_at, MakesDocument, SparesAtMost}
 
 -- ---- more attributes make no less
@@ -132,16 +133,18 @@ module _ {H : Type 0} (old begun mid new : Ledger H) (nodes records : ℕ) (begi
     records_few = made.records_few;
   }
 
-  pub spares_unit : (m o : Records) (e : StoreError) → IsSettled old m → RefusesSome begun mid e → Undoes mid new o → SparesAtMost new nodes records e
-  spares_unit m o (Full w active held oldest) settled refuses undoes =
-      let is : is_width w ≡ true = subst (λ v. is_width v ≡ true) (sym refuses.refuses.0) refuses.is in
-      let few = few_of_width begun mid nodes records w made is in
+  pub spares_among : (among : ℕ → Type 0) (m o : Records) (e : StoreError) → IsSettled old m → RefusesOf among begun mid e → Undoes mid new o → SparesAtMost new nodes records e
+  spares_among among m o (Full w active held oldest) settled refuses undoes =
+      let few = few_of_width begun mid nodes records w made refuses.is in
       let fresh = (begun_made.each w).fresh in
       let none = settled.fresh w in
-      let spare : (mid.of_width w).spare ≡ 0 = subst (λ v. (mid.of_width v).spare ≡ 0) (sym refuses.refuses.0) refuses.refuses.1.spare in
+      let spare = refuses.full.spare in
       let back = undoes.spare w in
       omega arith
-  spares_unit m o Memory settled refuses undoes = tt
+  spares_among among m o Memory settled refuses undoes = tt
+
+  pub spares_unit : (m o : Records) (e : StoreError) → IsSettled old m → RefusesSome begun mid e → Undoes mid new o → SparesAtMost new nodes records e
+  spares_unit m o e settled refuses undoes = spares_among (λ w. Unit {0}) m o e settled (of_some begun mid e refuses) undoes
 
 pub document_unit : {H : Type 0} (old begun mid new : Ledger H) (table : Table) (before after : Option Document) (count : ℕ) → begun ≡ record old { unit = true }
     → MakesDocument begun mid table before after count → (o : Records) → ((w : ℕ) → EndsOf (mid.of_width w) (new.of_width w)) → IsSettled new o

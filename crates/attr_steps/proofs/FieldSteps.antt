@@ -5,12 +5,9 @@ use Rattle.std.specs.BTreeMap.{is_at}
 use Rattle.std.specs.Map.{lookup}
 use Rattle.std.specs.Option.{IfSome, IfNone}
 use Rattle.image_base.specs.Records.{Records}
-use Rattle.store_api.specs.Calls.{Refuses}
 use Rattle.store_api.specs.Ledgers.{Ledger}
 use Rattle.store_api.specs.Parts.{Owns}
 use Rattle.store_api.specs.Units.{MayDo}
-use Rattle.store_api.specs.declared.store.StoreError.{StoreError}
-use Rattle.store_api.specs.declared.store.StoreError.TheVariants.{Full, Memory}
 use Rattle.store_api.proofs.PartLemmas.{owns-some}
 use Rattle.attr_types.proofs.EntryLemmas.{all-lookup}
 use Rattle.attr_types.proofs.TableLemmas.{Sound}
@@ -20,19 +17,21 @@ use Rattle.attr_types.specs.Table.{Table, document_at}
 use Rattle.attr_types.specs.Value.{Document}
 use Rattle.attr_types.specs.declared.field.Field.{Field}
 use Rattle.attr_types.specs.declared.items.Item.{Item}
-use Rattle.attr_index.specs.Columns.{column_of, items_of as items_had, with_change}
+use Rattle.attr_index.specs.Columns.{Column, column_of, items_of as items_had, with_change}
 use Rattle.attr_images.specs.Documents.{column_at}
 use Rattle.attr_field.specs.Changes.{MakesField}
 use Rattle.attr_field.specs.Fields.{field_part, IsField, RefersBeside}
+use Rattle.attr_field.specs.Widths.{IsFieldWidth}
 use Rattle.attr_field.specs.Laws.{FieldStays, FieldIsLawful, FieldOwnsKeys}
 use Rattle.attr_field.specs.declared.roots.FieldRoots.{FieldRoots}
 use Rattle.attr_field.proofs.CopyLemmas.{refers_some}
-use Rattle.posting_store.specs.Changes.{RefusesSome}
 use Rattle.attr_steps.specs.Fields.{FitsFields, IsFieldAt, column_in, part_of, parts_of, table_with, trees_of, trees_of_field}
+use Rattle.attr_steps.specs.Counts.{items_at}
 use Rattle.attr_steps.specs.Views.{table_at}
+use Rattle.attr_steps.specs.Widths.{IsChangedWidth}
 use Rattle.attr_steps.proofs.TreeLists.{all_at, some_is, tree_get, tree_set}
 use Rattle.attr_steps.proofs.PartLists.{count_at}
-use Rattle.attr_steps.proofs.Columns.{FieldLaws}
+use Rattle.attr_steps.proofs.Columns.{FieldLaws, column_with}
 use Rattle.attr_steps.proofs.Referring.{RefersAt}
 use Rattle.attr_steps.proofs.Walk.{IsPartway, ChangesPart, way_more}
 
@@ -126,6 +125,25 @@ module _ {bits : ℕ} {H : Type 0} (begun now : Ledger H) (k m : Records) (field
       fits = subst (λ a. IfSome a (ItemsFit field.kind field.value)) (sym next) (fits_at fields new i field fits at_field);
     }
 
+  -- of which width its change was refused
+  pub changed_width : Sound fields (table_at k (trees_of fields first)) → (before : List Item) (after : Option (List Item)) → before ≡ items_at old i
+      → after ≡ option_map (λ d. items_in d i) new → (w : ℕ)
+      → IsFieldWidth field.kind (with_change (column_at field.kind field.value m root.documents) doc after) before (unwrap_or after []) w
+      → IsChangedWidth fields (table_with (table_at k (trees_of fields first)) doc new) old new w
+  changed_width sound before after was next w is =
+      let table = table_at k (trees_of fields first) in
+      let column : with_change (column_at field.kind field.value m root.documents) doc after ≡ column_of i (table_with table doc new) =
+      ap (λ a. with_change (column_in m (trees_of_field field root)) doc a) next ∙ ap (λ (c : Column). with_change c doc (option_map (λ d. items_in d i) new)) column_is
+      ∙ sym (column_with fields table doc i new sound.0) in
+      record {
+        number = i;
+        field = field;
+        field_is = at_field;
+        is = subst (λ (c : Column). IsFieldWidth field.kind c (items_at old i) (items_at new i) w) column
+            (subst (λ (items : List Item). IsFieldWidth field.kind (with_change (column_at field.kind field.value m root.documents) doc after) items (items_at new i) w) was
+            (subst (λ (items : List Item). IsFieldWidth field.kind (with_change (column_at field.kind field.value m root.documents) doc after) before items w) (ap (λ (a : Option (List Item)). unwrap_or a []) next) is));
+      }
+
   -- the walk goes on
   module _ (laws : FieldLaws) (sound : Sound fields (table_at k (trees_of fields first))) (after : Option (List Item)) (next : after ≡ option_map (λ d. items_in d i) new)
       (ledger : Ledger H) (n : Records) (changed : FieldRoots bits)
@@ -147,25 +165,3 @@ module _ {bits : ℕ} {H : Type 0} (begun now : Ledger H) (k m : Records) (field
         let place : suc i ≡ i + 1 = omega arith in
         subst (λ ts. IsPartway begun ledger k n fields (trees_of fields first) ts (table_with (table_at k (trees_of fields first)) doc new) (i + 1)) (sym (tree_set fields roots i field changed at_field))
         (subst (λ j. IsPartway begun ledger k n fields (trees_of fields first) (set (trees_of fields roots) i (trees_of_field field changed)) (table_with (table_at k (trees_of fields first)) doc new) j) place more)
-
--- ---- a refusal after calls that may be made in a unit
-refuses_before : {H : Type 0} (a b c : Ledger H) (width : ℕ) (e : StoreError) → MayDo a b → Refuses b c width e → Refuses a c width e
-refuses_before a b c width (Full w active held oldest) may refuses = (
-  refuses.0,
-  record {
-    spare = refuses.1.spare;
-    free = refuses.1.free;
-    active_is = refuses.1.active_is;
-    held_is = refuses.1.held_is;
-    all = refuses.1.all;
-    unread = refuses.1.unread;
-    generation = refuses.1.generation;
-    hold = refuses.1.hold;
-    newest = refuses.1.newest;
-    stopped = λ old. let s = refuses.1.stopped old in let rises = may.stops in (s.0, s.1, omega arith);
-  },
-)
-refuses_before a b c width Memory may refuses = tt
-
-pub refuses_after : {H : Type 0} (a b c : Ledger H) (e : StoreError) → MayDo a b → RefusesSome b c e → RefusesSome a c e
-refuses_after a b c e may refuses = record { width = refuses.width; is = refuses.is; refuses = refuses_before a b c refuses.width e may refuses.refuses }

@@ -4,7 +4,7 @@ use Rattle.std.specs.List.{AllByRecursion, AllZip}
 use Rattle.entry_ref.specs.References.{buffer_of}
 use Rattle.image_base.specs.Records.{Records}
 use Rattle.arena_api.specs.Works.{WorkView}
-use Rattle.store_api.specs.Calls.{Accepts, Undoes, IsFull}
+use Rattle.store_api.specs.Calls.{Accepts, Undoes, IsFull, RefusesOf}
 use Rattle.store_api.specs.Ledgers.{Ledger, IsSettled}
 use Rattle.store_api.specs.Parts.{Part, After, AllStay, count_in, entries, uses}
 use Rattle.store_api.specs.Statuses.{Status, in_use}
@@ -19,9 +19,11 @@ use Rattle.attr_types.specs.Value.{Document}
 use Rattle.attr_types.specs.declared.field.Field.{Field}
 use Rattle.attr_index.specs.Columns.{Column}
 use Rattle.posting_store.specs.Changes.{RefusesSome}
+use Rattle.posting_store.proofs.RefusalLemmas.{of_some}
 use Rattle.attr_steps.specs.Calls.{KeepsStore, LeavesEntries, IsOutOfRoom, RefusesUnit}
 use Rattle.attr_steps.specs.Fields.{AllReferBeside, AreFields, ChangesFields, FlowsTrees, IsFieldAt, OwnsFields, parts_of, table_with}
 use Rattle.attr_steps.specs.Views.{table_at}
+use Rattle.attr_steps.specs.Widths.{IsFullAmong}
 use Rattle.attr_steps.proofs.Columns.{FieldLaws}
 use Rattle.attr_steps.proofs.Flowing.{all_began, all_step, step_stays}
 use Rattle.attr_steps.proofs.Referring.{AreSame, all_moved, all_weaker, each_same}
@@ -97,12 +99,18 @@ of_work old mid new width active held oldest room = record {
   stopped = room.stopped;
 }
 
+pub refused_among : {H : Type 0} (among : ℕ → Type 0) (old mid new : Ledger H) (e : StoreError) → new.work ≡ mid.work → RefusesOf among (record old { unit = true }) mid e → RefusesUnit old new e
+refused_among among old mid new (Full width active held oldest) same refuses =
+    of_work old mid new width active held oldest (out_of_room old mid width active held oldest new.work same refuses.is refuses.full)
+refused_among among old mid new Memory same refuses = tt
+
 pub refused_unit : {H : Type 0} (old mid new : Ledger H) (e : StoreError) → new.work ≡ mid.work → RefusesSome (record old { unit = true }) mid e → RefusesUnit old new e
-refused_unit old mid new (Full width active held oldest) same refuses =
-    of_work old mid new width active held oldest
-    (out_of_room old mid width active held oldest new.work same (subst (λ w. Rattle.store_api.specs.Ledgers.is_width w ≡ true) (sym refuses.refuses.0) refuses.is)
-    (subst (λ w. IsFull (record old { unit = true }) mid w active held oldest) (sym refuses.refuses.0) refuses.refuses.1))
-refused_unit old mid new Memory same refuses = tt
+refused_unit old mid new e same refuses = refused_among (λ w. Unit {0}) old mid new e same (of_some (record old { unit = true }) mid e refuses)
+
+-- for which width
+pub full_among : {H : Type 0} (among : ℕ → Type 0) (begun mid : Ledger H) (e : StoreError) → RefusesOf among begun mid e → IsFullAmong among e
+full_among among begun mid (Full width active held oldest) refuses = refuses.one
+full_among among begun mid Memory refuses = tt
 
 pub left_unit : {H : Type 0} (old mid new : Ledger H) (m o : Records) → IsSettled old m → MayDo (record old { unit = true }) mid → Undoes mid new o → LeavesEntries old new m o
 left_unit old mid new m o settled may undoes = record {

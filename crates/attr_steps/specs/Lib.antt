@@ -1,4 +1,5 @@
 pub mod Counts
+pub mod Widths
 pub mod Views
 pub mod Fields
 pub mod Calls

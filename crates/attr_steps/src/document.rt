@@ -4,10 +4,12 @@ ghost use Rattle.std.specs.Prelude.{IfSome, IfNone, option_copied, option_map, u
 ghost use Rattle.std.specs.BTreeMap.{is_at};
 ghost use Rattle.std.specs.Map.{lookup};
 ghost use Rattle.std.specs.Ordering.{nat_cmp};
+ghost use Rattle.store_api.specs.Calls.{RefusesOf};
 ghost use Rattle.store_api.specs.Parts.{Owns};
 ghost use Rattle.store_api.specs.Units.{MayDo};
 ghost use Rattle.attr_field.specs.Changes.{MakesField};
 ghost use Rattle.attr_field.specs.Fields.{field_part, IsField, RefersBeside};
+ghost use Rattle.attr_field.specs.Widths.{IsFieldWidth};
 ghost use Rattle.attr_images.specs.Documents.{column_at};
 ghost use Rattle.attr_field.specs.Counts.{field_nodes, field_records, low_nodes, StaysLow};
 ghost use Rattle.attr_index.specs.Changes.{first_weights};
@@ -16,10 +18,10 @@ ghost use Rattle.attr_types.specs.Lawful.{IsDocNumber, ItemsFit};
 ghost use Rattle.attr_types.specs.Query.{items_in};
 ghost use Rattle.attr_types.specs.Table.{document_at};
 ghost use Rattle.attr_walks.specs.Counts.{MakesFew};
-ghost use Rattle.posting_store.specs.Changes.{RefusesSome};
 ghost use Rattle.attr_steps.specs.Counts.{MakesDocument};
-ghost use Rattle.attr_steps.specs.Fields.{AreFields, ChangesFields, FitsFields, OwnsFields, trees_of};
+ghost use Rattle.attr_steps.specs.Fields.{AreFields, ChangesFields, FitsFields, OwnsFields, table_with, trees_of};
 ghost use Rattle.attr_steps.specs.Views.{table_at};
+ghost use Rattle.attr_steps.specs.Widths.{IsChangedWidth};
 
 use attr_field::{FieldRoots, field_law, items, put, remove};
 use attr_types::{Doc, Field, FieldItems, Item};
@@ -109,7 +111,9 @@ fn change_field<const OFFSET_BITS: u32, S: Store<OFFSET_BITS>>(
         → MakesFew (S.ledger store.old) (S.ledger store.new)
         (low_nodes levels (first_weights [] old.now) (first_weights [] (unwrap_or (option_copied new.entry) [])))
         (field_records (first_weights [] old.now) (first_weights [] (unwrap_or (option_copied new.entry) []))) }
-    ensures refuses { IfErr result (RefusesSome (S.ledger store.old) (S.ledger store.new)) }
+    ensures refuses { IfErr result (RefusesOf (IsFieldWidth field.now.kind
+        (with_change (column_at field.now.kind field.now.value (S.records store.old) roots.entry.documents) doc (option_copied new.entry))
+        old.now (unwrap_or (option_copied new.entry) [])) (S.ledger store.old) (S.ledger store.new)) }
     ensures may { MayDo (S.ledger store.old) (S.ledger store.new) }
 {
     match new {
@@ -153,7 +157,9 @@ fn change_each<const OFFSET_BITS: u32, S: Store<OFFSET_BITS>>(
         (trees_of fields.now roots.old) doc (option_copied new.entry) (trees_of fields.now roots.new)) }
     ensures counts { MakesDocument (S.ledger store.old) (S.ledger store.new) (table_at (S.records store.old) (trees_of fields.now roots.old))
         (option_copied old.entry) (option_copied new.entry) (length fields.now) }
-    ensures refuses { IfErr result (RefusesSome (S.ledger store.old) (S.ledger store.new)) }
+    ensures refuses { IfErr result (RefusesOf (IsChangedWidth fields.now
+        (table_with (table_at (S.records store.old) (trees_of fields.now roots.old)) doc (option_copied new.entry))
+        (option_copied old.entry) (option_copied new.entry)) (S.ledger store.old) (S.ledger store.new)) }
     ensures may { MayDo (S.ledger store.old) (S.ledger store.new) }
 {
     field_law();
@@ -190,7 +196,9 @@ pub fn change_document<const OFFSET_BITS: u32, S: Store<OFFSET_BITS>>(
         (trees_of fields.now roots.now) doc (option_copied new.entry) (trees_of fields.now next.items)) }
     ensures counts { MakesDocument (S.ledger store.old) (S.ledger store.new) (table_at (S.records store.old) (trees_of fields.now roots.now))
         (option_copied old.entry) (option_copied new.entry) (length fields.now) }
-    ensures refuses { IfErr result (RefusesSome (S.ledger store.old) (S.ledger store.new)) }
+    ensures refuses { IfErr result (RefusesOf (IsChangedWidth fields.now
+        (table_with (table_at (S.records store.old) (trees_of fields.now roots.now)) doc (option_copied new.entry))
+        (option_copied old.entry) (option_copied new.entry)) (S.ledger store.old) (S.ledger store.new)) }
     ensures may { MayDo (S.ledger store.old) (S.ledger store.new) }
 {
     may_do_law::<OFFSET_BITS, S>();

@@ -8,6 +8,7 @@ ghost use Rattle.attr_steps.specs.Counts.{MakesOperation, SparesOperation};
 ghost use Rattle.attr_steps.specs.Fields.{AreFields, OwnsFields, trees_of};
 ghost use Rattle.attr_steps.specs.Steps.{Stepped};
 ghost use Rattle.attr_steps.specs.Views.{table_at};
+ghost use Rattle.attr_steps.specs.Widths.{IsFullAmong, IsOperationWidth};
 
 use crate::document::read_document;
 use crate::unit::change_unit;
@@ -40,6 +41,8 @@ fn put_document<const OFFSET_BITS: u32, S: Store<OFFSET_BITS>>(
         (table_at (S.records store.old) (trees_of fields.now roots.now)) (Put doc items.now) }
     ensures spares { IfErr result (SparesOperation (S.ledger store.new) fields.now
         (table_at (S.records store.old) (trees_of fields.now roots.now)) (Put doc items.now)) }
+    ensures widths { IfErr result (IsFullAmong (IsOperationWidth fields.now
+        (table_at (S.records store.old) (trees_of fields.now roots.now)) (Put doc items.now))) }
     ensures keeps { KeepsStore (S.ledger store.old) (S.ledger store.new) }
 {
     let next = change_unit(alloc, store, fields, roots, doc, old, Some(items))?;
@@ -68,6 +71,8 @@ fn remove_document<const OFFSET_BITS: u32, S: Store<OFFSET_BITS>>(
         (table_at (S.records store.old) (trees_of fields.now roots.now)) (Remove doc) }
     ensures spares { IfErr result (SparesOperation (S.ledger store.new) fields.now
         (table_at (S.records store.old) (trees_of fields.now roots.now)) (Remove doc)) }
+    ensures widths { IfErr result (IsFullAmong (IsOperationWidth fields.now
+        (table_at (S.records store.old) (trees_of fields.now roots.now)) (Remove doc))) }
     ensures keeps { KeepsStore (S.ledger store.old) (S.ledger store.new) }
 {
     field_law();
@@ -102,6 +107,8 @@ fn update_document<const OFFSET_BITS: u32, S: Store<OFFSET_BITS>>(
         (table_at (S.records store.old) (trees_of fields.now roots.now)) (Update doc create changes.now) }
     ensures spares { IfErr result (SparesOperation (S.ledger store.new) fields.now
         (table_at (S.records store.old) (trees_of fields.now roots.now)) (Update doc create changes.now)) }
+    ensures widths { IfErr result (IsFullAmong (IsOperationWidth fields.now
+        (table_at (S.records store.old) (trees_of fields.now roots.now)) (Update doc create changes.now))) }
     ensures keeps { KeepsStore (S.ledger store.old) (S.ledger store.new) }
 {
     field_law();
@@ -135,6 +142,8 @@ pub fn step<const OFFSET_BITS: u32, S: Store<OFFSET_BITS>>(
         (table_at (S.records store.old) (trees_of fields.now roots.now)) op.now }
     ensures spares { IfErr result (SparesOperation (S.ledger store.new) fields.now
         (table_at (S.records store.old) (trees_of fields.now roots.now)) op.now) }
+    ensures widths { IfErr result (IsFullAmong (IsOperationWidth fields.now
+        (table_at (S.records store.old) (trees_of fields.now roots.now)) op.now)) }
     ensures keeps { KeepsStore (S.ledger store.old) (S.ledger store.new) }
 {
     let doc = op.doc();

@@ -4,8 +4,9 @@ ghost use Rattle.attr_types.specs.Lawful.{IsDocNumber};
 ghost use Rattle.attr_types.specs.Table.{document_at};
 ghost use Rattle.attr_steps.specs.Calls.{KeepsStore, LeavesEntries, RefusesUnit};
 ghost use Rattle.attr_steps.specs.Counts.{document_nodes, document_records, MakesDocument, SparesAtMost};
-ghost use Rattle.attr_steps.specs.Fields.{AreFields, ChangesFields, FitsFields, OwnsFields, trees_of};
+ghost use Rattle.attr_steps.specs.Fields.{AreFields, ChangesFields, FitsFields, OwnsFields, table_with, trees_of};
 ghost use Rattle.attr_steps.specs.Views.{table_at};
+ghost use Rattle.attr_steps.specs.Widths.{IsChangedWidth, IsFullAmong};
 
 use crate::document::change_document;
 use attr_field::{FieldRoots, field_law};
@@ -43,6 +44,9 @@ pub fn change_unit<const OFFSET_BITS: u32, S: Store<OFFSET_BITS>>(
     ensures spares { IfErr result (SparesAtMost (S.ledger store.new)
         (document_nodes (option_copied old.entry) (option_copied new.entry) (length fields.now))
         (document_records (option_copied old.entry) (option_copied new.entry) (length fields.now))) }
+    ensures widths { IfErr result (IsFullAmong (IsChangedWidth fields.now
+        (table_with (table_at (S.records store.old) (trees_of fields.now roots.now)) doc (option_copied new.entry))
+        (option_copied old.entry) (option_copied new.entry))) }
     ensures keeps { KeepsStore (S.ledger store.old) (S.ledger store.new) }
 {
     field_law();

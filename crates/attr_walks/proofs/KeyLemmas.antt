@@ -4,11 +4,6 @@ use Rattle.std.specs.BTreeMap.{insert_entry, is_at}
 use Rattle.std.specs.Map.{keys_of, remove_entry}
 use Rattle.std.specs.Ordering.{match_ordering}
 use Rattle.image_base.specs.Records.{Records}
-use Rattle.store_api.specs.Calls.{Refuses}
-use Rattle.store_api.specs.Ledgers.{Ledger}
-use Rattle.store_api.specs.Units.{MayDo}
-use Rattle.store_api.specs.declared.store.StoreError.{StoreError}
-use Rattle.store_api.specs.declared.store.StoreError.TheVariants.{Full, Memory}
 use Rattle.attr_images.specs.Postings.{index_of}
 use Rattle.attr_images.specs.Values.{stored_value, value_of}
 use Rattle.attr_index.proofs.ChangeLemmas.{by_value}
@@ -18,31 +13,8 @@ use Rattle.attr_index.specs.Index.{Index, IsFormed, list_of, without_posting}
 use Rattle.attr_types.specs.Value.{type_of, AreOfType}
 use Rattle.attr_types.specs.declared.kind.ValueType.{ValueType}
 use Rattle.attr_types.specs.declared.value.Value.{Value}
-use Rattle.posting_store.specs.Changes.{RefusesSome}
 use Rattle.value_index.specs.Changes.{KeepsKeys}
 use Rattle.value_index.specs.Indexes.{IsKey}
-
--- a refusal after calls that may be made in a unit
-refuses_before : {H : Type 0} (a b c : Ledger H) (width : ℕ) (e : StoreError) → MayDo a b → Refuses b c width e → Refuses a c width e
-refuses_before a b c width (Full w active held oldest) may refuses = (
-  refuses.0,
-  record {
-    spare = refuses.1.spare;
-    free = refuses.1.free;
-    active_is = refuses.1.active_is;
-    held_is = refuses.1.held_is;
-    all = refuses.1.all;
-    unread = refuses.1.unread;
-    generation = refuses.1.generation;
-    hold = refuses.1.hold;
-    newest = refuses.1.newest;
-    stopped = λ old. let s = refuses.1.stopped old in let rises = may.stops in (s.0, s.1, omega arith);
-  },
-)
-refuses_before a b c width Memory may refuses = tt
-
-pub refuses_after : {H : Type 0} (a b c : Ledger H) (e : StoreError) → MayDo a b → RefusesSome b c e → RefusesSome a c e
-refuses_after a b c e may refuses = record { width = refuses.width; is = refuses.is; refuses = refuses_before a b c refuses.width e may refuses.refuses }
 
 -- the value of an entry is of the type of all
 pub typed_at : (type : ValueType) (done more : List (Value × ℤ)) (value : Value) (weight : ℤ) → AreOfType type (keys_of (done ++ (value, weight) ∷ more))

@@ -3,3 +3,4 @@ pub mod CountLemmas
 pub mod AddLemmas
 pub mod RemoveLemmas
 pub mod LevelLemmas
+pub mod WidthLemmas

@@ -2,6 +2,7 @@ ghost use Rattle.std.specs.Prelude.{◌≡◌, ℕ, ◌*◌, ◌∷◌, [], true
 ghost use Rattle.std.specs.BTreeMap.{get, is_at};
 ghost use Rattle.std.specs.Map.{keys_of, lookup};
 ghost use Rattle.std.specs.Ordering.{nat_cmp};
+ghost use Rattle.store_api.specs.Calls.{RefusesOf};
 ghost use Rattle.store_api.specs.Parts.{Owns};
 ghost use Rattle.store_api.specs.Units.{MayDo};
 ghost use Rattle.attr_images.specs.Postings.{index_of};
@@ -9,10 +10,10 @@ ghost use Rattle.attr_index.specs.Changes.{is_weight};
 ghost use Rattle.attr_index.specs.Index.{list_of};
 ghost use Rattle.attr_types.specs.Value.{value_cmp, AreOfType};
 ghost use Rattle.attr_types.specs.declared.value.Value.{Value as OneValue};
-ghost use Rattle.posting_store.specs.Changes.{RefusesSome};
 ghost use Rattle.value_index.specs.Indexes.{index_part, IsIndex};
 ghost use Rattle.attr_walks.specs.Counts.{added_count, value_nodes, AddsLow, MakesFew};
 ghost use Rattle.attr_walks.specs.Walks.{WalksIndex};
+ghost use Rattle.attr_walks.specs.Widths.{IsWalkWidth};
 
 use attr_types::{Doc, Value, ValueType};
 use entry_ref::EntryRef;
@@ -55,7 +56,9 @@ pub fn add_all<const OFFSET_BITS: u32, S: Store<OFFSET_BITS>>(
         → MakesFew (S.ledger store.old) (S.ledger store.new)
         (value_nodes levels * added_count (get value_cmp old.now) new.now.entries)
         (2 * added_count (get value_cmp old.now) new.now.entries) }
-    ensures refuses { IfErr result (RefusesSome (S.ledger store.old) (S.ledger store.new)) }
+    ensures refuses { IfErr result (RefusesOf
+        (IsWalkWidth (index_of value_type (S.records store.old) root.entry) doc (get value_cmp new.now) (λ value. None))
+        (S.ledger store.old) (S.ledger store.new)) }
     ensures may { MayDo (S.ledger store.old) (S.ledger store.new) }
 {
     index_law();

@@ -2,6 +2,7 @@ ghost use Rattle.std.specs.Prelude.{◌≡◌, ℕ, ◌*◌, ◌∷◌, [], true
 ghost use Rattle.std.specs.BTreeMap.{get, is_at};
 ghost use Rattle.std.specs.Map.{keys_of, lookup};
 ghost use Rattle.std.specs.Ordering.{nat_cmp};
+ghost use Rattle.store_api.specs.Calls.{RefusesOf};
 ghost use Rattle.store_api.specs.Parts.{Owns};
 ghost use Rattle.store_api.specs.Units.{MayDo};
 ghost use Rattle.attr_images.specs.Postings.{index_of};
@@ -9,10 +10,10 @@ ghost use Rattle.attr_index.specs.Changes.{or_else};
 ghost use Rattle.attr_index.specs.Index.{list_of};
 ghost use Rattle.attr_types.specs.Value.{value_cmp, AreOfType};
 ghost use Rattle.attr_types.specs.declared.value.Value.{Value as OneValue};
-ghost use Rattle.posting_store.specs.Changes.{RefusesSome};
 ghost use Rattle.value_index.specs.Indexes.{index_part, IsIndex};
 ghost use Rattle.attr_walks.specs.Counts.{gone_count, value_nodes, MakesFew, RemovesLow};
 ghost use Rattle.attr_walks.specs.Walks.{WalksIndex};
+ghost use Rattle.attr_walks.specs.Widths.{IsWalkWidth};
 
 use attr_types::{Doc, Value, ValueType};
 use entry_ref::EntryRef;
@@ -44,7 +45,9 @@ pub fn remove_all<const OFFSET_BITS: u32, S: Store<OFFSET_BITS>>(
         → RemovesLow levels (index_of value_type (S.records store.old) root.entry) doc (get value_cmp new.now) old.now.entries
         → MakesFew (S.ledger store.old) (S.ledger store.new)
         (value_nodes levels * gone_count (get value_cmp new.now) old.now.entries) (gone_count (get value_cmp new.now) old.now.entries) }
-    ensures refuses { IfErr result (RefusesSome (S.ledger store.old) (S.ledger store.new)) }
+    ensures refuses { IfErr result (RefusesOf
+        (IsWalkWidth (index_of value_type (S.records store.old) root.entry) doc (get value_cmp new.now) (get value_cmp old.now))
+        (S.ledger store.old) (S.ledger store.new)) }
     ensures may { MayDo (S.ledger store.old) (S.ledger store.new) }
 {
     index_law();

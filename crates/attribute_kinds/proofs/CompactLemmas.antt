@@ -1,5 +1,5 @@
 -- What callers see of a step of a compaction.
-use Rattle.std.proofs.Common.{◌≡◌, ℕ, ◌<◌, ◌≤◌, Bool, true, false, List, length, Option, None, Some, Result, Ok, Err, inl, inr, refl, sym, ap, subst, ◌∙◌, true≢false}
+use Rattle.std.proofs.Common.{◌≡◌, ℕ, ◌≤◌, List, length, Option, None, Some, Result, Ok, Err, inl, inr, refl, sym, ap, subst, ◌∙◌, true≢false}
 use Rattle.std.specs.Prelude.{is_some, IfErr, IfOk}
 use Rattle.std.specs.Option.{option_map, IfSome}
 use Rattle.image_base.specs.Images.{words_at}
@@ -19,7 +19,7 @@ use Rattle.attr_steps.proofs.StepLemmas.{keeps_same}
 use Rattle.attr_steps.specs.Fields.{HoldsAttributes, trees_of}
 use Rattle.attr_steps.specs.Views.{table_at}
 use Rattle.compact_steps.specs.Units.{IsUnderWay}
-use Rattle.compact_steps.specs.Compactions.{Begins, Compacts, IsUnder, KeepsStoreBut}
+use Rattle.compact_steps.specs.Compactions.{Compacts, IsUnder, KeepsStoreBut}
 use Rattle.compact_steps.specs.Walks.{HasLastField, RefusesNext}
 use Rattle.compact_steps.specs.Walks as walks
 use Rattle.compact_steps.specs.declared.stepping.Step.{Step}
@@ -28,12 +28,10 @@ use Rattle.attribute_kinds.specs.Compacting.{CompactsTo, IsIdle, RefusesKey, Ref
 use Rattle.attribute_kinds.specs.Refusals.{has_finished, refusal_of, told_of}
 use Rattle.attribute_kinds.specs.Standing.{IsAttribute, IsLast, StandsAttribute}
 use Rattle.attribute_kinds.specs.Views.{AttributeView}
-use Rattle.attribute_kinds.specs.declared.answers.Compacted.{Compacted}
 use Rattle.attribute_kinds.specs.declared.answers.Compacted.TheVariants.{Idle}
-use Rattle.attribute_kinds.specs.declared.answers.AttrError.{AttrError}
 
 refuses_key : {H : Type 0} (old new : Ledger H) (error : StoreError) → RefusesNext old new error → RefusesKey old new (refusal_of error)
-refuses_key old new (errors.Full width active held oldest) refused = (refused.why, refused.spare)
+refuses_key old new (errors.Full width active held oldest) refused = record { room = refused.why; spare = refused.spare; buffer = refused.active }
 refuses_key old new errors.Memory refused = tt
 
 no_victim : {H : Type 0} (bits fields : ℕ) (old new : Ledger H) (before : Option PlanView) (plan : PlanView) → IsIdle bits old before → old.finished ≡ None → IsUnder bits fields old new before plan → ⊥

@@ -26,7 +26,8 @@ use Rattle.attr_steps.specs.Counts.{document_after, document_before, document_no
 use Rattle.attr_steps.specs.Counts.{operation_nodes, operation_records, weights_at}
 use Rattle.attribute_kinds.specs.Counts.{operation_values}
 use Rattle.attr_steps.specs.Counts.{MakesOperation, SparesOperation}
-use Rattle.attribute_kinds.specs.Counts.{IsOneSingle, LacksBuffers, SparesOf}
+use Rattle.attr_steps.specs.Widths.{IsFullAmong, IsOperationWidth}
+use Rattle.attribute_kinds.specs.Counts.{IsOneSingle, LacksBuffers, NamesWidth, SparesOf}
 use Rattle.attribute_kinds.specs.Refusals.{refusal_of}
 use Rattle.attr_steps.proofs.StepLemmas.{found_lawful}
 
@@ -57,6 +58,11 @@ pub spares_operation : {H : Type 0} (now : Ledger H) (fields : List Field) (tabl
 spares_operation now fields table op (Full width active held oldest) few =
     record { few = few; one = λ one. spares_one fields table op ((now.of_width width).spare) width few one }
 spares_operation now fields table op Memory few = tt
+
+-- of which width it was refused
+pub names_width : (fields : List Field) (table : Table) (op : Op) (e : StoreError) → IsFullAmong (IsOperationWidth fields table op) e → NamesWidth fields table op (refusal_of e)
+names_width fields table op (Full width active held oldest) full = full
+names_width fields table op Memory full = tt
 
 -- ---- one attribute of kind single
 single_items : (fields : List Field) (document : Option Document) → IsOneSingle fields → IfSome document (IsLawfulDocument fields) → length (items_at document 0) ≤ 1

@@ -3,6 +3,7 @@ use Rattle.std.specs.Prelude.{◌≡◌, ◌≢◌, ◌⊎◌, ℕ, ◌<◌, ◌
 use Rattle.std.specs.declared.cmp.Ordering.TheVariants.{Greater}
 use Rattle.entry_ref.specs.References.{buffer_of}
 use Rattle.image_base.specs.Records.{Records, Among}
+use Rattle.arena_api.specs.declared.answers.Oldest.{Oldest}
 use Rattle.store_api.specs.Ledgers.{Ledger}
 use Rattle.store_api.specs.Victims.{HasNoVictim}
 use Rattle.attr_compaction.specs.Places.{place_cmp, Place, PlanView}
@@ -10,6 +11,7 @@ use Rattle.attr_compaction.specs.declared.plan.TheConstants.{PHASES}
 use Rattle.attr_images.specs.Tables.{attributes_reach}
 use Rattle.attr_steps.specs.Calls.{IsOutOfRoom, LeavesEntries}
 use Rattle.compact_steps.specs.Compactions.{place_of, IsUnder}
+use Rattle.compact_steps.specs.Units.{IsActiveWidth}
 use Rattle.plan_counts.specs.Counts.{keys_between}
 use Rattle.attribute_kinds.specs.Views.{AttributeView}
 use Rattle.attribute_kinds.specs.declared.answers.AttrError.{AttrError}
@@ -22,9 +24,15 @@ pub record IsIdle {H : Type 0} (bits : ℕ) (ledger : Ledger H) (plan : Option P
   pub none : plan ≡ None
   pub why : IsSome ledger.finished ⊎ HasNoVictim bits ledger
 
--- why a key was refused: the store was full for a width, of which it has fewer entries to spare than a node has words
+-- the store was full for a width: it has an active buffer of it, and fewer entries to spare than a node has words
+pub record IsFullForKey {H : Type 0} (old new : Ledger H) (width active held : ℕ) (oldest : Oldest) : Type 0 where
+  pub room : IsOutOfRoom old new width active held oldest
+  pub spare : (new.of_width width).spare < 34
+  pub buffer : IsActiveWidth new width
+
+-- why a key was refused
 abbrev pub RefusesKey : {H : Type 0} → Ledger H → Ledger H → AttrError → Type 0
-RefusesKey old new (Full width active held oldest) = IsOutOfRoom old new width active held oldest × ((new.of_width width).spare < 34)
+RefusesKey old new (Full width active held oldest) = IsFullForKey old new width active held oldest
 RefusesKey old new (CommitsSpent commit) = ⊥
 RefusesKey old new Memory = Unit {0}
 

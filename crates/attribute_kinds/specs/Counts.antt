@@ -11,6 +11,7 @@ use Rattle.attr_types.specs.declared.value.Value.{Value}
 use Rattle.attribute_kinds.specs.declared.answers.AttrError.{AttrError}
 use Rattle.attribute_kinds.specs.declared.answers.AttrError.TheVariants.{Full, CommitsSpent, Memory}
 use Rattle.attr_steps.specs.Counts.{weights_at, of_width, document_before, document_after, operation_nodes, operation_records}
+use Rattle.attr_steps.specs.Widths.{IsOperationWidth}
 
 -- how many distinct values the document's items have in the first attribute, before and after: those after, and those before that are
 -- no more
@@ -29,6 +30,13 @@ abbrev pub SparesOf : {H : Type 0} → Ledger H → List Field → Table → Op 
 SparesOf new fields table op (Full width active held oldest) = SparesFew new fields table op width
 SparesOf new fields table op (CommitsSpent commit) = Unit {0}
 SparesOf new fields table op Memory = Unit {0}
+
+-- it was full for the width of nodes, or of a record that an image of the table after the operation has for the document, or for a value
+-- that the document had or has
+abbrev pub NamesWidth : List Field → Table → Op → AttrError → Type 0
+NamesWidth fields table op (Full width active held oldest) = IsOperationWidth fields table op width
+NamesWidth fields table op (CommitsSpent commit) = Unit {0}
+NamesWidth fields table op Memory = Unit {0}
 
 -- one attribute, of kind single
 abbrev pub IsOneSingle : List Field → Type 0

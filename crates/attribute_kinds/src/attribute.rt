@@ -13,7 +13,7 @@ ghost use Rattle.attr_steps.specs.Calls.{KeepsStore, LeavesEntries};
 ghost use Rattle.attribute_kinds.specs.Calls.{applied_to, RefusesOperation};
 ghost use Rattle.attribute_kinds.specs.Calls.{RefusesCommit, CommitsImage, HasCommit, IsForRoot};
 ghost use Rattle.attr_steps.specs.Counts.{MakesOperation};
-ghost use Rattle.attribute_kinds.specs.Counts.{LacksBuffers, SparesOf};
+ghost use Rattle.attribute_kinds.specs.Counts.{LacksBuffers, NamesWidth, SparesOf};
 ghost use Rattle.attribute_kinds.specs.Compacting.{CompactsTo, IsIdle, RefusesStep};
 ghost use Rattle.compact_steps.specs.Compactions.{KeepsStoreBut};
 ghost use Rattle.attribute_kinds.specs.declared.answers.Compacted.TheVariants.{Idle};
@@ -177,6 +177,7 @@ impl<const OFFSET_BITS: u32, S: Store<OFFSET_BITS, Layout = AttrLayout>> Attribu
         ensures refused { IfErr result (RefusesOperation (S.ledger self.old.store) (S.ledger self.new.store)) }
         ensures counts { MakesOperation (S.ledger self.old.store) (S.ledger self.new.store) self.old.fields self.old.table op.now }
         ensures spares { IfErr result (SparesOf (S.ledger self.new.store) self.old.fields self.old.table op.now) }
+        ensures widths { IfErr result (NamesWidth self.old.fields self.old.table op.now) }
         ensures room { IfErr result (LacksBuffers (S.ledger self.old.store) self.old.fields) }
         ensures keeps { KeepsStore (S.ledger self.old.store) (S.ledger self.new.store) }
         ensures fields { self.new.fields ≡ self.old.fields }

@@ -95,6 +95,10 @@ spare_of shelf = count_by is_free_state shelf.states + (shelf.room - length shel
 abbrev pub can_make : ShelfView → Bool
 can_make shelf = not shelf.sealed && nat_lt 0 (spare_of shelf)
 
+-- one entry alone may be made
+abbrev pub has_one_spare : ShelfView → Bool
+has_one_spare shelf = not shelf.sealed && nat_eq (spare_of shelf) 1
+
 -- the unit has changed an entry
 abbrev pub has_touched : ShelfView → Bool
 has_touched shelf = nat_lt 0 (count_by is_touched shelf.states)

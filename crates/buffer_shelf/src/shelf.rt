@@ -40,7 +40,7 @@ pub struct Settled {
 
 impl Shelf {
     ghost use Rattle.std.specs.List.{slice_get};
-    ghost use Rattle.buffer_shelf.specs.States.{empty_shelf, state_at, is_used, is_dropped, spare_of, can_make, has_touched, IsOpen, Settles, with_made, with_state_at, dropped};
+    ghost use Rattle.buffer_shelf.specs.States.{empty_shelf, state_at, is_used, is_dropped, spare_of, can_make, has_one_spare, has_touched, IsOpen, Settles, with_made, with_state_at, dropped};
     ghost use Rattle.buffer_shelf.specs.declared.state.State.TheVariants.{Free};
 
     /// No entries, and no room.
@@ -140,6 +140,13 @@ impl Shelf {
         !self.sealed & (self.spare() > 0)
     }
 
+    /// Whether one entry alone may be made.
+    pub fn has_one_spare(&self) -> bool
+        ensures { result ≡ has_one_spare self.now }
+    {
+        !self.sealed & (self.spare() == 1)
+    }
+
     /// How many entries were dropped by units that were accepted, and are not free yet.
     pub fn dropped(&self) -> u32
         ensures value { result ≡ count_by is_dropped self.now.states }
@@ -226,7 +233,7 @@ fn put<T: Drop>(list: &mut Vec<T>, value: T)
     ensures items { list.new.items ≡ list.old.items ++ value ∷ [] }
     ensures capacity { vec_capacity list.old ≤ vec_capacity list.new }
 {
-    let _ = list.push(value);
+    list.push_reserved(value);
 }
 
 /// Puts an entry on a stack, or leaves it as it is.

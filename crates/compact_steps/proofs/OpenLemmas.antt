@@ -172,7 +172,7 @@ module _ {H : Type 0} (bits root : ℕ) (old mid new : Ledger H) (m k n : Record
     goes_to after is = record { plan = plan; plan_is = is; went = went; under_way = visits.under_way; last = visits.last }
 
   pub refused_then : (error : StoreError) → RefusesNext mid new error → RefusesNext old new error
-  refused_then error refused = record { why = refused_since old mid new error opens.keeps.stops refused.why; spare = refused.spare }
+  refused_then error refused = record { why = refused_since old mid new error opens.keeps.stops refused.why; spare = refused.spare; active = refused.active }
 
   pub stops_then : (keys visited : ℕ) (stop : Option StoreError) → Stops mid new keys visited stop → Stops old new keys visited stop
   stops_then keys visited None stops = stops

@@ -1,21 +1,23 @@
 -- A unit of a compaction: what the move of its key asks for, and what all attributes are after it.
-use Rattle.std.proofs.Common.{◌≡◌, ◌≢◌, ℕ, zero, suc, ◌<◌, ◌≤◌, Bool, true, false, cond, nat_eq, List, [], ◌∷◌, set, Some, refl, sym, ap, subst, ◌∙◌, arith, inl, inr}
+use Rattle.std.proofs.Common.{◌≡◌, ◌≢◌, ℕ, zero, suc, ◌<◌, ◌≤◌, Bool, true, false, cond, nat_eq, List, [], ◌∷◌, length, set, Some, refl, sym, ap, subst, ◌∙◌, arith, inl, inr}
 use Rattle.std.proofs.lemmas.Bool.{cases_eq}
-use Rattle.std.specs.Prelude.{slice_get}
+use Rattle.std.specs.Prelude.{◌↔◌, slice_get}
 use Rattle.std.specs.List.{AllByRecursion}
 use Rattle.std.specs.Option.{IfSome}
 use Rattle.entry_ref.specs.References.{buffer_of}
 use Rattle.image_base.specs.Records.{Among, Records, SameAt}
-use Rattle.store_api.specs.Calls.{Accepts, Undoes}
+use Rattle.arena_api.specs.Calls.{FitsEntry}
+use Rattle.arena_api.specs.Works.{active_width}
+use Rattle.store_api.specs.Calls.{Accepts, IsUsedWidth, RefusesOf, Undoes}
 use Rattle.store_api.specs.Ledgers.{Ledger, IsSettled}
 use Rattle.store_api.specs.Parts.{AllStay, Owns, Part, Turns, count_in, entries}
-use Rattle.store_api.specs.Statuses.{Status, in_use}
+use Rattle.store_api.specs.Statuses.{Status, has_record, in_use}
 use Rattle.store_api.specs.declared.store.StoreError.{StoreError}
 use Rattle.store_api.specs.declared.store.StoreError.TheVariants.{Full, Memory}
 use Rattle.store_api.proofs.PartLemmas.{owns-some}
+use Rattle.store_api.proofs.Uses.{used_has}
 use Rattle.tree_images.specs.declared.TheConstants.{NODE_WORDS}
 use Rattle.index_moves.specs.Moves.{IsKeyIn}
-use Rattle.posting_store.specs.Changes.{RefusesSome}
 use Rattle.attr_documents.specs.Documents.{documents_refer}
 use Rattle.attr_images.specs.Documents.{column_at}
 use Rattle.attr_walks.specs.Counts.{MakesFew}
@@ -35,12 +37,12 @@ use Rattle.attr_steps.specs.Calls.{KeepsStore}
 use Rattle.attr_steps.specs.Counts.{SparesAtMost}
 use Rattle.attr_steps.specs.Fields.{AllReferBeside, HoldsAttributes, IsFieldAt, part_of, parts_of, root_entries}
 use Rattle.attr_steps.proofs.Columns.{FieldLaws}
-use Rattle.attr_steps.proofs.CountLemmas.{spares_unit}
+use Rattle.attr_steps.proofs.CountLemmas.{spares_among}
 use Rattle.attr_steps.proofs.PartLists.{count_at}
 use Rattle.attr_steps.proofs.Referring.{RefersAt, all_weaker}
 use Rattle.attr_steps.proofs.TreeLists.{all_at, get_set-same, get_set-other, set_length, some_is}
 use Rattle.field_moves.specs.Moves.{HasBegun, MovesField}
-use Rattle.compact_steps.specs.Units.{keys_at, CompactsTo, IsUnderWay, SparesBelow}
+use Rattle.compact_steps.specs.Units.{keys_at, CompactsTo, HasActive, IsUnderWay, SparesBelow}
 use Rattle.compact_steps.proofs.KeyLemmas.{all_keep, keys_stay, next_fits}
 use Rattle.compact_steps.proofs.Moving.{MovesPart, all_stay, mid_are, new_holds, new_table, other_stays}
 
@@ -187,6 +189,22 @@ part_begun bits victim old begun mid m k n a b kind type begins records moves =
     subst (λ (l : Ledger _). MovesPart bits victim l mid m n a b) begins
     (subst (λ (f : Records). MovesPart bits victim begun mid f n a b) records (part_moved bits victim begun mid k n a b kind type moves))
 
+-- ---- the width of a full store
+-- a record of it was in use as the unit began, and so it is again: it lies in an active buffer
+pub active_begun : {H : Type 0} (bits : ℕ) (old begun mid new : Ledger H) (m k o : Records) (e : StoreError) → begun ≡ record old { unit = true } → k ≡ m
+    → ((r : ℕ) → (has_record (old.status r) ≡ true) ↔ (0 < length (m r))) → o ≡ m
+    → ((r : ℕ) → 0 < length (o r) → FitsEntry bits new.work.sizes (active_width (new.work.buffer (buffer_of bits r))) r (length (o r)))
+    → RefusesOf (IsUsedWidth begun k) begun mid e → HasActive new e
+active_begun bits old begun mid new m k o (Full width active held oldest) begins records recorded left placed refuses =
+    let ref : ℕ = refuses.one.ref in
+    let used : in_use (old.status ref) ≡ true = subst (λ (l : Ledger _). in_use (l.status ref) ≡ true) begins refuses.one.used in
+    let some = (recorded ref).0 (used_has (old.status ref) used) in
+    let same = ap (λ (f : Records). length (f ref)) left in
+    let was = ap (λ (f : Records). length (f ref)) records in
+    let fits = placed ref (omega arith) in
+    record { buffer = buffer_of bits ref; inside = fits.entry.inside; active = sym fits.whole ∙ same ∙ sym was ∙ refuses.one.length_is }
+active_begun bits old begun mid new m k o Memory begins records recorded left placed refuses = tt
+
 -- ---- what a full store has to spare
 few_below : {H : Type 0} (new : Ledger H) (e : StoreError) → SparesAtMost new 25 1 e → SparesBelow new 34 e
 few_below new (Full width active held oldest) spares = told (nat_eq width NODE_WORDS) spares
@@ -196,7 +214,7 @@ few_below new (Full width active held oldest) spares = told (nat_eq width NODE_W
     told false most = omega arith
 few_below new Memory spares = tt
 
-pub spares_begun : {H : Type 0} (old begun mid new : Ledger H) → begun ≡ record old { unit = true } → MakesFew begun mid 25 1 → (m o : Records) (e : StoreError) → IsSettled old m
-    → RefusesSome begun mid e → Undoes mid new o → SparesBelow new 34 e
-spares_begun old begun mid new begins made m o e settled refuses undoes =
-    few_below new e (spares_unit old begun mid new 25 1 begins made m o e settled refuses undoes)
+pub spares_begun : {H : Type 0} (among : ℕ → Type 0) (old begun mid new : Ledger H) → begun ≡ record old { unit = true } → MakesFew begun mid 25 1 → (m o : Records) (e : StoreError) → IsSettled old m
+    → RefusesOf among begun mid e → Undoes mid new o → SparesBelow new 34 e
+spares_begun among old begun mid new begins made m o e settled refuses undoes =
+    few_below new e (spares_among old begun mid new 25 1 begins made among m o e settled refuses undoes)

@@ -4,6 +4,7 @@ use Rattle.std.specs.List.{AllZip}
 use Rattle.std.specs.Option.{IfSome, option_and_then}
 use Rattle.std.specs.declared.cmp.Ordering.TheVariants.{Less}
 use Rattle.image_base.specs.Records.{Records}
+use Rattle.arena_api.specs.Works.{active_width}
 use Rattle.store_api.specs.Ledgers.{Ledger}
 use Rattle.store_api.specs.declared.store.StoreError.{StoreError}
 use Rattle.store_api.specs.declared.store.StoreError.TheVariants as errors
@@ -69,6 +70,17 @@ plan_at plan key = record { victim = plan.victim; fields = plan.fields; place = 
 abbrev pub SparesBelow : {H : Type 0} → Ledger H → ℕ → StoreError → Type 0
 SparesBelow new few (errors.Full width active held oldest) = (new.of_width width).spare < few
 SparesBelow new few errors.Memory = Unit {0}
+
+-- a buffer of entries of this width is active
+pub record IsActiveWidth {H : Type 0} (ledger : Ledger H) (width : ℕ) : Type 0 where
+  pub buffer : ℕ
+  pub inside : buffer < ledger.work.sizes.buffers
+  pub active : active_width (ledger.work.buffer buffer) ≡ width
+
+-- a width for which a store was full has an active buffer
+abbrev pub HasActive : {H : Type 0} → Ledger H → StoreError → Type 0
+HasActive new (errors.Full width active held oldest) = IsActiveWidth new width
+HasActive new errors.Memory = Unit {0}
 
 -- where a phase was over nothing else was changed
 abbrev pub LeavesAtEnd : Type 0 → Type 0 → Turn → Type 0

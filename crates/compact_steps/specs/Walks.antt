@@ -11,7 +11,7 @@ use Rattle.attr_types.specs.declared.field.Field.{Field}
 use Rattle.attr_steps.specs.Calls.{KeepsStore, LeavesEntries, RefusesUnit}
 use Rattle.attr_steps.specs.Fields.{HoldsAttributes}
 use Rattle.attr_steps.specs.Views.{table_at}
-use Rattle.compact_steps.specs.Units.{IsUnderWay, KeepKeys, SparesBelow}
+use Rattle.compact_steps.specs.Units.{HasActive, IsUnderWay, KeepKeys, SparesBelow}
 use Rattle.compact_steps.specs.declared.walk.Walk.{Walk}
 use Rattle.compact_steps.specs.declared.walk.Walk.TheVariants.{Visited, Over}
 use Rattle.plan_counts.specs.Counts.{keys_between}
@@ -24,6 +24,7 @@ pub record HasLastField (plan : PlanView) : Type 0 where
 pub record RefusesNext {H : Type 0} (old new : Ledger H) (error : StoreError) : Type 0 where
   pub why : RefusesUnit old new error
   pub spare : SparesBelow new 34 error
+  pub active : HasActive new error
 
 -- all of them were; or some and not all, since the next one was refused
 pub record StopsAt {H : Type 0} (old new : Ledger H) (keys visited : ℕ) (error : StoreError) : Type 0 where

@@ -3,7 +3,7 @@ ghost use Rattle.attr_compaction.specs.declared.plan.TheConstants.{PHASES};
 ghost use Rattle.attr_steps.specs.Calls.{KeepsStore, LeavesEntries, RefusesUnit};
 ghost use Rattle.attr_steps.specs.Fields.{HoldsAttributes, IsFieldAt, trees_of, trees_of_field};
 ghost use Rattle.plan_keys.specs.PhaseKeys.{key_past, HasType};
-ghost use Rattle.compact_steps.specs.Units.{keys_at, plan_at, CompactsTo, IsUnderWay, SparesBelow};
+ghost use Rattle.compact_steps.specs.Units.{keys_at, plan_at, CompactsTo, HasActive, IsUnderWay, SparesBelow};
 
 use attr_compaction::{Plan, PlanKey};
 use attr_field::{FieldRoots, field_law};
@@ -68,6 +68,7 @@ pub fn move_unit<const OFFSET_BITS: u32, S: Store<OFFSET_BITS>>(
     ensures left { OnErr result (LeavesEntries (S.ledger store.old) (S.ledger store.new) (S.records store.old) (S.records store.new)) }
     ensures refused { IfErr result (RefusesUnit (S.ledger store.old) (S.ledger store.new)) }
     ensures spares { IfErr result (SparesBelow (S.ledger store.new) 34) }
+    ensures active { IfErr result (HasActive (S.ledger store.new)) }
     ensures keeps { KeepsStore (S.ledger store.old) (S.ledger store.new) }
 {
     field_law();

@@ -3,7 +3,7 @@ ghost use Rattle.attr_compaction.specs.declared.plan.TheConstants.{PHASES};
 ghost use Rattle.attr_steps.specs.Calls.{KeepsStore, LeavesEntries, RefusesUnit};
 ghost use Rattle.attr_steps.specs.Fields.{HoldsAttributes, trees_of};
 ghost use Rattle.attr_steps.specs.Views.{table_at};
-ghost use Rattle.compact_steps.specs.Units.{next_at, GoesOn, IsUnderWay, KeepKeys, LeavesAtEnd, SparesBelow};
+ghost use Rattle.compact_steps.specs.Units.{next_at, GoesOn, HasActive, IsUnderWay, KeepKeys, LeavesAtEnd, SparesBelow};
 
 use crate::key::{move_unit, next_of};
 use attr_compaction::{Plan, PlanKey};
@@ -54,6 +54,7 @@ pub fn compact_one<const OFFSET_BITS: u32, S: Store<OFFSET_BITS>>(
     ensures left { OnErr result (LeavesEntries (S.ledger store.old) (S.ledger store.new) (S.records store.old) (S.records store.new)) }
     ensures refused { IfErr result (RefusesUnit (S.ledger store.old) (S.ledger store.new)) }
     ensures spares { IfErr result (SparesBelow (S.ledger store.new) 34) }
+    ensures active { IfErr result (HasActive (S.ledger store.new)) }
     ensures keeps { KeepsStore (S.ledger store.old) (S.ledger store.new) }
 {
     stage_law();

@@ -78,7 +78,7 @@ all_among P [] all r among = absurd among
 all_among P (q ∷ refs) all r (inl e) = subst P (sym e) all.0
 all_among P (q ∷ refs) all r (inr later) = all_among P refs all.1 r later
 
-same_self : (m : Records) (refs : List ℕ) → SameAt refs m m
+pub same_self : (m : Records) (refs : List ℕ) → SameAt refs m m
 same_self m [] = tt
 same_self m (r ∷ refs) = (refl, same_self m refs)
 

@@ -2,11 +2,12 @@ ghost use Rattle.std.specs.Prelude.{◌≡◌, ◌+◌, ◌*◌, true, length, O
 ghost use Rattle.std.specs.BTreeMap.{is_at};
 ghost use Rattle.std.specs.Map.{lookup};
 ghost use Rattle.std.specs.Ordering.{nat_cmp};
+ghost use Rattle.store_api.specs.Calls.{IsUsedWidth, RefusesOf};
 ghost use Rattle.store_api.specs.Units.{MayDo};
 ghost use Rattle.tree_make.specs.Changes.{levels};
 ghost use Rattle.attr_images.specs.Documents.{column_at};
 ghost use Rattle.attr_index.specs.Columns.{items_of};
-ghost use Rattle.posting_store.specs.Changes.{MakesWithin, RefusesSome};
+ghost use Rattle.posting_store.specs.Changes.{MakesWithin};
 ghost use Rattle.attr_documents.specs.Changes.{documents_most};
 ghost use Rattle.attr_documents.specs.Flows.{reference_at};
 ghost use Rattle.document_moves.specs.Moves.{AreItemsApart, CanMoveItems, MovesItems};
@@ -41,7 +42,7 @@ fn set_again<const OFFSET_BITS: u32, S: Store<OFFSET_BITS>>(
         (S.records store.old) (S.records store.new) documents.entry dictionary.entry) }
     ensures counts { MakesWithin (S.ledger store.old) (S.ledger store.new)
         (documents_most (1 + length items.now) (2 * levels (S.records store.old) documents.entry + 1)) }
-    ensures refuses { IfErr result (RefusesSome (S.ledger store.old) (S.ledger store.new)) }
+    ensures refuses { IfErr result (RefusesOf (IsUsedWidth (S.ledger store.old) (S.records store.old)) (S.ledger store.old) (S.ledger store.new)) }
     ensures may { MayDo (S.ledger store.old) (S.ledger store.new) }
 {
     key_law();
@@ -81,7 +82,7 @@ fn read_again<const OFFSET_BITS: u32, S: Store<OFFSET_BITS>>(
     ensures counts { MakesWithin (S.ledger store.old) (S.ledger store.new)
         (documents_most (1 + length (items_of (column_at kind value_type (S.records store.old) documents.entry) doc))
         (2 * levels (S.records store.old) documents.entry + 1)) }
-    ensures refuses { IfErr result (RefusesSome (S.ledger store.old) (S.ledger store.new)) }
+    ensures refuses { IfErr result (RefusesOf (IsUsedWidth (S.ledger store.old) (S.records store.old)) (S.ledger store.old) (S.ledger store.new)) }
     ensures may { MayDo (S.ledger store.old) (S.ledger store.new) }
 {
     let Ok(found) = read_items(alloc, store, kind, value_type, documents, doc) else {
@@ -126,7 +127,7 @@ pub fn move_items<const OFFSET_BITS: u32, S: Store<OFFSET_BITS>>(
     ensures counts { MakesWithin (S.ledger store.old) (S.ledger store.new)
         (documents_most (1 + length (items_of (column_at kind value_type (S.records store.old) documents.entry) doc))
         (2 * levels (S.records store.old) documents.entry + 1)) }
-    ensures refuses { IfErr result (RefusesSome (S.ledger store.old) (S.ledger store.new)) }
+    ensures refuses { IfErr result (RefusesOf (IsUsedWidth (S.ledger store.old) (S.records store.old)) (S.ledger store.old) (S.ledger store.new)) }
     ensures may { MayDo (S.ledger store.old) (S.ledger store.new) }
 {
     if !document_lies(store, kind, value_type, documents, doc, buffer) {

@@ -1,5 +1,5 @@
-ghost use Rattle.std.specs.Prelude.{◌≡◌, ◌∷◌, [], true, IfOk, IfErr};
-ghost use Rattle.store_api.specs.Calls.{Refuses};
+ghost use Rattle.std.specs.Prelude.{◌≡◌, ◌∷◌, [], true, IfOk, IfErr, OnErr};
+ghost use Rattle.store_api.specs.Calls.{IsUsedWidth, Refuses};
 ghost use Rattle.store_api.specs.Parts.{Owns};
 ghost use Rattle.store_api.specs.Units.{MayDo};
 ghost use Rattle.tree_make.specs.Changes.{levels};
@@ -34,9 +34,13 @@ pub fn move_document_nodes<const OFFSET_BITS: u32, S: Store<OFFSET_BITS>>(
         (S.records store.old) (S.records store.new) root.entry) }
     ensures counts { CountsNodes (S.ledger store.old) (S.ledger store.new) (levels (S.records store.old) root.entry) }
     ensures refuses { IfErr result (Refuses (S.ledger store.old) (S.ledger store.new) NODE_WORDS) }
+    ensures used { OnErr result (IsUsedWidth (S.ledger store.old) (S.records store.old) NODE_WORDS) }
     ensures may { MayDo (S.ledger store.old) (S.ledger store.new) }
 {
     let _ = kind;
     let _ = value_type;
+    if !root.valid() {
+        return Ok(root);
+    }
     touch(store, root, &NumberKey(doc.number() as u64), buffer)
 }

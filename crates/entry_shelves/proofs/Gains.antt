@@ -3,7 +3,7 @@ use Rattle.std.proofs.Common.{◌≡◌, ℕ, zero, suc, ◌+◌, ◌-◌, ◌<�
 use Rattle.std.specs.Prelude.{nat_lt}
 use Rattle.std.specs.List.{count_by}
 use Rattle.std.proofs.Math.ListN.{length-set}
-use Rattle.std.proofs.lemmas.List.{take_more}
+use Rattle.std.proofs.lemmas.List.{take_more, set-get_or}
 use Rattle.std.proofs.Math.Seq.{take-length}
 use Rattle.std.proofs.lemmas.Bool.{cases_eq, eq-eqb, ne_eqb, eqb-true, and_parts, true≢false, lt-ltb}
 use Rattle.list_facts.specs.Counting.{one_if}
@@ -112,6 +112,28 @@ module _ (words : ℕ) (shelves : List ShelfView) (made : List ℕ) (filled : Li
       (subst (λ (t : StackView). AreShelves words (set shelves b (with_state_at old x state)) made filled (set stacks (row_of old.width) t) after)
       (sym (entered_is ∙ ap (λ (t : StackView). cond (is && not was) (record t { list = t.list ++ b ∷ [] }) t) stack_is))
       (gain x state below keeps is was is_is was_is after touches room)))
+
+  -- the same, where the stack of the width is looked up only for a shelf that enters it
+  pub gained-row : (x : ℕ) (state : State) → x < length old.states → (is_free_state (state_at old.states x) ≡ true → is_free_state state ≡ true)
+      → (enters : Bool) → enters ≡ (can_make (with_state_at old x state) && not (can_make old))
+      → (after : StackView) → IsStack empty_shelf has_touched (set shelves b (with_state_at old x state)) after.list → length shelves ≤ after.room
+      → (new : ShelfView) (w : ℕ) (later : List StackView) → new ≡ with_state_at old x state → w ≡ old.width
+      → later ≡ cond enters (set stacks (row_of w) (record (stack_at stacks w) { list = (stack_at stacks w).list ++ b ∷ [] })) stacks
+      → AreShelves words (set shelves b new) made filled later after
+  gained-row x state below keeps enters enters_is after touches room new w later new_is wide later_is =
+      subst (λ (n : ShelfView). AreShelves words (set shelves b n) made filled later after) (sym new_is)
+      (subst (λ (l : List StackView). AreShelves words (set shelves b (with_state_at old x state)) made filled l after)
+      (lists (can_make (with_state_at old x state) && not (can_make old)) ∙ ap (λ t. cond t (pushed old.width) stacks) (sym enters_is)
+      ∙ ap (λ v. cond enters (pushed v) stacks) (sym wide) ∙ sym later_is)
+      (gain x state below keeps (can_make (with_state_at old x state)) (can_make old) refl refl after touches room))
+    where
+      pushed : ℕ → List StackView
+      pushed v = set stacks (row_of v) (record (stack_at stacks v) { list = (stack_at stacks v).list ++ b ∷ [] })
+
+      lists : (t : Bool) → set stacks (row_of old.width) (cond t (record (stack_at stacks old.width) { list = (stack_at stacks old.width).list ++ b ∷ [] }) (stack_at stacks old.width))
+          ≡ cond t (pushed old.width) stacks
+      lists true = refl
+      lists false = set-get_or stacks (row_of old.width) (record { list = []; room = 0 })
 
   -- an entry is made, where this shelf was put last on the stack of its width
   takes : (x : ℕ) → can_make old ≡ true → is_width old.width ≡ true → IsOpen old x → (rest : List ℕ) → (stack_at stacks old.width).list ≡ rest ++ b ∷ []

@@ -1,17 +1,17 @@
 -- An entry of a shelf is made, dropped, settled or released: what its counts are then.
-use Rattle.std.proofs.Common.{◌≡◌, ℕ, ◌+◌, ◌<◌, ◌≤◌, Bool, true, false, not, ◌&&◌, cond, [], ◌∷◌, ◌++◌, length, set, refl, sym, ap, ◌∙◌, arith, inl, inr, get_or-set_same}
+use Rattle.std.proofs.Common.{◌≡◌, ℕ, zero, suc, eqb, ◌+◌, ◌<◌, ◌≤◌, Bool, true, false, not, ◌&&◌, cond, [], ◌∷◌, ◌++◌, length, set, refl, sym, ap, ◌∙◌, arith, inl, inr, get_or-set_same}
 use Rattle.std.specs.Prelude.{nat_lt}
 use Rattle.std.specs.List.{count_by}
 use Rattle.std.proofs.Math.ListN.{length-set}
 use Rattle.std.proofs.Math.Seq.{get_or-append_seam}
 use Rattle.std.proofs.lemmas.List.{length_push}
 use Rattle.std.proofs.lemmas.List.Sums.{sum_by_push}
-use Rattle.std.proofs.lemmas.Bool.{cases_eq, eq-eqb, ne_eqb, true≢false, lt-ltb, ltb-true}
+use Rattle.std.proofs.lemmas.Bool.{cases_eq, eq-eqb, ne_eqb, true≢false, lt-ltb, ltb-true, and_right}
 use Rattle.list_facts.specs.Counting.{one_if}
 use Rattle.list_facts.proofs.Counts.{count_by-set}
 use Rattle.buffer_shelf.specs.declared.state.State.{State}
 use Rattle.buffer_shelf.specs.declared.state.State.TheVariants.{Free, Made}
-use Rattle.buffer_shelf.specs.States.{ShelfView, can_make, has_touched, spare_of, is_free_state, is_touched, state_at, IsOpen, with_made, with_state_at}
+use Rattle.buffer_shelf.specs.States.{ShelfView, can_make, has_one_spare, has_touched, spare_of, is_free_state, is_touched, state_at, IsOpen, with_made, with_state_at}
 use Rattle.buffer_shelf.proofs.StackSteps.{count-some}
 
 -- after a take one less is to spare
@@ -79,6 +79,45 @@ state-can s x state below keeps = by_seal s.sealed
     by_seal : (t : Bool) → (not t && nat_lt 0 (spare_of s)) ≡ true → (not t && nat_lt 0 (spare_of (with_state_at s x state))) ≡ true
     by_seal true e = e
     by_seal false e = (let some = ltb-true 0 (spare_of s) e in lt-ltb 0 _ (omega (arith, some, more)))
+
+-- numbers of which one is the other, or one more
+none-gained : (old new : ℕ) → new ≡ old → (nat_lt 0 new && not (nat_lt 0 old)) ≡ false
+none-gained old new e = ap (λ n. nat_lt 0 n && not (nat_lt 0 old)) e ∙ by_test (nat_lt 0 old)
+  where
+    by_test : (t : Bool) → (t && not t) ≡ false
+    by_test true = refl
+    by_test false = refl
+
+one-gained : (old new : ℕ) → new ≡ suc old → eqb new 1 ≡ (nat_lt 0 new && not (nat_lt 0 old))
+one-gained zero new e = ap (λ n. eqb n 1) e ∙ sym (ap (λ n. nat_lt 0 n && not (nat_lt 0 0)) e)
+one-gained (suc n) new e = ne_eqb new 1 (omega (arith, e)) ∙ sym (and_right (nat_lt 0 new) (not (nat_lt 0 (suc n))) (ap not (lt-ltb 0 (suc n) (omega arith))))
+
+-- it can be made in only now where the entry that has another state is free now, was not, and is the only one to spare
+pub state-gains : (s : ShelfView) (x : ℕ) (state : State) → x < length s.states → (is_free_state (state_at s.states x) ≡ true → is_free_state state ≡ true)
+    → ((is_free_state state && not (is_free_state (state_at s.states x))) && has_one_spare (with_state_at s x state))
+    ≡ (can_make (with_state_at s x state) && not (can_make s))
+state-gains s x state below keeps =
+    by_test s.sealed (is_free_state (state_at s.states x)) (is_free_state state) keeps (spare_of s) (spare_of (with_state_at s x state))
+    (omega (arith, count_by-set is_free_state s.states x state Free below, length-set {A = State} s.states x state))
+  where
+    by_test : (sealed was now : Bool) → (was ≡ true → now ≡ true) → (old new : ℕ) → new + one_if was ≡ old + one_if now
+        → ((now && not was) && (not sealed && eqb new 1)) ≡ ((not sealed && nat_lt 0 new) && not (not sealed && nat_lt 0 old))
+    by_test true was now k old new e = and_right (now && not was) false refl
+    by_test false true true k old new e = sym (none-gained old new (omega (arith, e)))
+    by_test false true false k old new e = absurd (true≢false (sym (k refl)))
+    by_test false false true k old new e = one-gained old new (omega (arith, e))
+    by_test false false false k old new e = sym (none-gained old new (omega (arith, e)))
+
+-- the same, where the entry was not free
+pub taken-gains : (s : ShelfView) (x : ℕ) (state : State) → x < length s.states → is_free_state (state_at s.states x) ≡ false
+    → (is_free_state state && has_one_spare (with_state_at s x state)) ≡ (can_make (with_state_at s x state) && not (can_make s))
+taken-gains s x state below was =
+    ap (λ t. t && has_one_spare (with_state_at s x state)) (by_test (is_free_state state) (is_free_state (state_at s.states x)) was)
+    ∙ state-gains s x state below (λ e. absurd (true≢false (sym e ∙ was)))
+  where
+    by_test : (t u : Bool) → u ≡ false → t ≡ (t && not u)
+    by_test true u e = sym (ap not e)
+    by_test false u e = refl
 
 pub made-length : (s : ShelfView) (x : ℕ) → IsOpen s x → length s.states ≤ length (with_made s x).states
 made-length s x can = elim (cases_eq x (length s.states)) [

@@ -1,6 +1,7 @@
-ghost use Rattle.std.specs.Prelude.{◌≡◌, ◌≢◌, ◌↔◌, ◌<◌, ◌≤◌, ◌+◌, ◌-◌, ◌/◌, ◌^◌, ℕ, [], true, false, length, replicate, slice_set, count_by, Some, None, IsNone, IfSome, IfNone, IfOk, OnOk, OnErr};
+ghost use Rattle.std.specs.Prelude.{◌≡◌, ◌≢◌, ◌↔◌, ◌<◌, ◌≤◌, ◌+◌, ◌-◌, ◌/◌, ◌^◌, ◌++◌, ◌∷◌, if◌then◌else◌, ℕ, [], true, false, length, replicate, slice_set, count_by, Some, None, IsNone, IfSome, IfNone, IfOk, OnOk, OnErr};
 ghost use Rattle.store_api.specs.Ledgers.{is_width, capacity};
 ghost use Rattle.buffer_shelf.specs.States.{empty_shelf, is_used, is_dropped, is_touched, state_at, dropped, with_state_at};
+ghost use Rattle.entry_shelves.specs.Kept.{stack_at};
 ghost use Rattle.entry_shelves.specs.Shelves.{shelf_at, made_at, filled_at, row_of, spare_of_width, with_shelf, Takes, SettlesOne};
 
 use crate::stack::Stack;
@@ -159,13 +160,12 @@ impl Shelves {
             (dropped last (state_at (shelf_at self.old.shelves buffer).states place))) }
     {
         let shelf = &mut self.shelves[buffer as usize];
-        let could = shelf.can_make();
         let had_touched = shelf.has_touched();
         let now = shelf.drop_entry(place, last);
-        let enters = shelf.can_make() & !could;
-        let row = place_of(shelf.width());
+        let enters = now.is_free() && shelf.has_one_spare();
+        let width = shelf.width();
         self.touched.enter(buffer, !had_touched);
-        self.open[row].enter(buffer, enters);
+        enter_row(&mut self.open, width, buffer, enters);
         now
     }
 
@@ -192,14 +192,14 @@ impl Shelves {
     {
         let buffer = self.touched.last()?;
         let shelf = &mut self.shelves[buffer as usize];
-        let could = shelf.can_make();
         let Some(step) = shelf.settle(accepts, last, generation) else {
             unreachable!()
         };
-        let enters = shelf.can_make() & !could;
-        let row = place_of(shelf.width());
+        let frees = step.now.is_free() & !step.was.is_free();
+        let enters = frees && shelf.has_one_spare();
+        let width = shelf.width();
         self.touched.leave(!shelf.has_touched());
-        self.open[row].enter(buffer, enters);
+        enter_row(&mut self.open, width, buffer, enters);
         Some(Changed {
             buffer,
             place: step.place,
@@ -250,6 +250,19 @@ impl Shelves {
         ensures { self.new ≡ with_shelf self.old buffer empty_shelf }
     {
         self.shelves[buffer as usize].close();
+    }
+}
+
+/// Puts a buffer on the stack of a width, where that is to be.
+fn enter_row(stacks: &mut Vec<Stack>, width: u32, buffer: u32, enters: bool)
+    requires rows { length stacks.old.items ≡ 11 }
+    requires width { enters ≡ true → is_width width ≡ true }
+    requires room { enters ≡ true → length (stack_at stacks.old.items width).list < (stack_at stacks.old.items width).room }
+    ensures { stacks.new.items ≡ (if enters then slice_set stacks.old.items (row_of width)
+        (record (stack_at stacks.old.items width) { list = (stack_at stacks.old.items width).list ++ buffer ∷ [] }) else stacks.old.items) }
+{
+    if enters {
+        stacks[place_of(width)].enter(buffer, true);
     }
 }
 

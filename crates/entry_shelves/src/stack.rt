@@ -45,7 +45,7 @@ impl Stack {
         ensures { self.new ≡ (if leaves then record self.old { list = take (length self.old.list - 1) self.old.list } else self.old) }
     {
         if leaves {
-            let _ = self.list.pop();
+            let _ = self.list.take_last();
         }
     }
 
@@ -55,7 +55,7 @@ impl Stack {
         ensures { self.new ≡ (if enters then record self.old { list = self.old.list ++ number ∷ [] } else self.old) }
     {
         if enters {
-            let _ = self.list.push(number);
+            self.list.push_reserved(number);
         }
     }
 

@@ -174,6 +174,8 @@ impl<const OFFSET_BITS: u32, W: Work<OFFSET_BITS>> EntryStore<OFFSET_BITS, W> {
     }
 
     /// Makes an entry where the width has none to spare: after a reclaim, else of a new buffer.
+    #[cold]
+    #[inline(never)]
     fn make_again(&mut self, width: u32, words: &[u64]) -> Result<EntryRef<OFFSET_BITS>, StoreError>
         requires unit { self.old.unit ≡ true }
         requires width { is_width width ≡ true }

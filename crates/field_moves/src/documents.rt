@@ -1,12 +1,12 @@
 //! Moves in the documents of an attribute, beside its index.
 ghost use Rattle.std.specs.Prelude.{◌≡◌, IfOk, IfErr};
+ghost use Rattle.store_api.specs.Calls.{IsUsedWidth, RefusesOf};
 ghost use Rattle.store_api.specs.Units.{MayDo};
 ghost use Rattle.attr_compaction.specs.declared.plan.TheConstants.{DOCUMENTS, NODES};
 ghost use Rattle.attr_compaction.specs.declared.plan.PlanKey.TheVariants as keys;
 ghost use Rattle.attr_walks.specs.Counts.{MakesFew};
 ghost use Rattle.field_moves.specs.Moves.{trees_of};
 ghost use Rattle.field_moves.specs.Steps.{CanMove, Moved};
-ghost use Rattle.posting_store.specs.Changes.{RefusesSome};
 
 use attr_cleared::{can_law, items_law, keys_law, leaves_law, map_law};
 use attr_compaction::Plan;
@@ -31,7 +31,7 @@ pub fn move_document_items<const OFFSET_BITS: u32, S: Store<OFFSET_BITS>>(
     ensures moved { IfOk result (λ next. Moved OFFSET_BITS plan.now (keys.Doc doc) (S.ledger store.old) (S.ledger store.new)
         (S.records store.old) (S.records store.new) (trees_of field.now roots.entry) (trees_of field.now next)) }
     ensures counts { MakesFew (S.ledger store.old) (S.ledger store.new) 25 1 }
-    ensures refuses { IfErr result (RefusesSome (S.ledger store.old) (S.ledger store.new)) }
+    ensures refuses { IfErr result (RefusesOf (IsUsedWidth (S.ledger store.old) (S.records store.old)) (S.ledger store.old) (S.ledger store.new)) }
     ensures may { MayDo (S.ledger store.old) (S.ledger store.new) }
 {
     index_law();
@@ -67,7 +67,7 @@ pub fn move_map_nodes<const OFFSET_BITS: u32, S: Store<OFFSET_BITS>>(
     ensures moved { IfOk result (λ next. Moved OFFSET_BITS plan.now (keys.Doc doc) (S.ledger store.old) (S.ledger store.new)
         (S.records store.old) (S.records store.new) (trees_of field.now roots.entry) (trees_of field.now next)) }
     ensures counts { MakesFew (S.ledger store.old) (S.ledger store.new) 25 1 }
-    ensures refuses { IfErr result (RefusesSome (S.ledger store.old) (S.ledger store.new)) }
+    ensures refuses { IfErr result (RefusesOf (IsUsedWidth (S.ledger store.old) (S.records store.old)) (S.ledger store.old) (S.ledger store.new)) }
     ensures may { MayDo (S.ledger store.old) (S.ledger store.new) }
 {
     index_law();

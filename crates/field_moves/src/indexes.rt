@@ -1,12 +1,12 @@
 //! Moves in the index of an attribute, beside its documents.
 ghost use Rattle.std.specs.Prelude.{◌≡◌, IfOk, IfErr};
+ghost use Rattle.store_api.specs.Calls.{IsUsedWidth, RefusesOf};
 ghost use Rattle.store_api.specs.Units.{MayDo};
 ghost use Rattle.attr_compaction.specs.declared.plan.TheConstants.{KEYS, LISTS, NODES};
 ghost use Rattle.attr_compaction.specs.declared.plan.PlanKey.TheVariants as keys;
 ghost use Rattle.attr_walks.specs.Counts.{MakesFew};
 ghost use Rattle.field_moves.specs.Moves.{trees_of};
 ghost use Rattle.field_moves.specs.Steps.{CanMove, Moved};
-ghost use Rattle.posting_store.specs.Changes.{RefusesSome};
 
 use attr_cleared::{keys_law, leaves_law, moved_law};
 use attr_compaction::Plan;
@@ -29,7 +29,7 @@ pub fn move_value_key<const OFFSET_BITS: u32, S: Store<OFFSET_BITS>>(
     ensures moved { IfOk result (λ next. Moved OFFSET_BITS plan.now (keys.Value value.now) (S.ledger store.old) (S.ledger store.new)
         (S.records store.old) (S.records store.new) (trees_of field.now roots.entry) (trees_of field.now next)) }
     ensures counts { MakesFew (S.ledger store.old) (S.ledger store.new) 25 1 }
-    ensures refuses { IfErr result (RefusesSome (S.ledger store.old) (S.ledger store.new)) }
+    ensures refuses { IfErr result (RefusesOf (IsUsedWidth (S.ledger store.old) (S.records store.old)) (S.ledger store.old) (S.ledger store.new)) }
     ensures may { MayDo (S.ledger store.old) (S.ledger store.new) }
 {
     documents_law();
@@ -57,7 +57,7 @@ pub fn move_value_list<const OFFSET_BITS: u32, S: Store<OFFSET_BITS>>(
     ensures moved { IfOk result (λ next. Moved OFFSET_BITS plan.now (keys.Pair value.now doc) (S.ledger store.old) (S.ledger store.new)
         (S.records store.old) (S.records store.new) (trees_of field.now roots.entry) (trees_of field.now next)) }
     ensures counts { MakesFew (S.ledger store.old) (S.ledger store.new) 25 1 }
-    ensures refuses { IfErr result (RefusesSome (S.ledger store.old) (S.ledger store.new)) }
+    ensures refuses { IfErr result (RefusesOf (IsUsedWidth (S.ledger store.old) (S.records store.old)) (S.ledger store.old) (S.ledger store.new)) }
     ensures may { MayDo (S.ledger store.old) (S.ledger store.new) }
 {
     documents_law();
@@ -85,7 +85,7 @@ pub fn move_value_nodes<const OFFSET_BITS: u32, S: Store<OFFSET_BITS>>(
     ensures moved { IfOk result (λ next. Moved OFFSET_BITS plan.now (keys.Value value.now) (S.ledger store.old) (S.ledger store.new)
         (S.records store.old) (S.records store.new) (trees_of field.now roots.entry) (trees_of field.now next)) }
     ensures counts { MakesFew (S.ledger store.old) (S.ledger store.new) 25 1 }
-    ensures refuses { IfErr result (RefusesSome (S.ledger store.old) (S.ledger store.new)) }
+    ensures refuses { IfErr result (RefusesOf (IsUsedWidth (S.ledger store.old) (S.records store.old)) (S.ledger store.old) (S.ledger store.new)) }
     ensures may { MayDo (S.ledger store.old) (S.ledger store.new) }
 {
     documents_law();

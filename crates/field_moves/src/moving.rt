@@ -1,4 +1,5 @@
 ghost use Rattle.std.specs.Prelude.{◌≡◌, ◌<◌, ◌∷◌, [], true, Some, IfOk, IfErr};
+ghost use Rattle.store_api.specs.Calls.{IsUsedWidth, RefusesOf};
 ghost use Rattle.store_api.specs.Parts.{Owns};
 ghost use Rattle.store_api.specs.Units.{MayDo};
 ghost use Rattle.attr_cleared.specs.Cleared.{IsClearedField};
@@ -9,7 +10,6 @@ ghost use Rattle.attr_walks.specs.Counts.{MakesFew};
 ghost use Rattle.field_moves.specs.Moves.{trees_of, HasBegun, MovesField};
 ghost use Rattle.field_moves.specs.Steps.{CanMove, Moved};
 ghost use Rattle.plan_keys.specs.PhaseKeys.{key_past, phase_keys};
-ghost use Rattle.posting_store.specs.Changes.{RefusesSome};
 
 use crate::documents::{move_document_items, move_map_nodes};
 use crate::indexes::{move_value_key, move_value_list, move_value_nodes};
@@ -34,7 +34,7 @@ fn move_by_value<const OFFSET_BITS: u32, S: Store<OFFSET_BITS>>(
     ensures moved { IfOk result (λ next. Moved OFFSET_BITS plan.now (keys.Value value.now) (S.ledger store.old) (S.ledger store.new)
         (S.records store.old) (S.records store.new) (trees_of field.now roots.entry) (trees_of field.now next)) }
     ensures counts { MakesFew (S.ledger store.old) (S.ledger store.new) 25 1 }
-    ensures refuses { IfErr result (RefusesSome (S.ledger store.old) (S.ledger store.new)) }
+    ensures refuses { IfErr result (RefusesOf (IsUsedWidth (S.ledger store.old) (S.records store.old)) (S.ledger store.old) (S.ledger store.new)) }
     ensures may { MayDo (S.ledger store.old) (S.ledger store.new) }
 {
     if plan.phase() == KEYS {
@@ -59,7 +59,7 @@ fn move_by_document<const OFFSET_BITS: u32, S: Store<OFFSET_BITS>>(
     ensures moved { IfOk result (λ next. Moved OFFSET_BITS plan.now (keys.Doc number) (S.ledger store.old) (S.ledger store.new)
         (S.records store.old) (S.records store.new) (trees_of field.now roots.entry) (trees_of field.now next)) }
     ensures counts { MakesFew (S.ledger store.old) (S.ledger store.new) 25 1 }
-    ensures refuses { IfErr result (RefusesSome (S.ledger store.old) (S.ledger store.new)) }
+    ensures refuses { IfErr result (RefusesOf (IsUsedWidth (S.ledger store.old) (S.records store.old)) (S.ledger store.old) (S.ledger store.new)) }
     ensures may { MayDo (S.ledger store.old) (S.ledger store.new) }
 {
     let doc = Doc::new(number);
@@ -98,7 +98,7 @@ pub fn move_one<const OFFSET_BITS: u32, S: Store<OFFSET_BITS>>(
         (record { stage = plan.now.place.stage; key = key.now }) plan.now.place.stage.field (S.records store.new)
         (trees_of field.now next)) }
     ensures counts { MakesFew (S.ledger store.old) (S.ledger store.new) 25 1 }
-    ensures refuses { IfErr result (RefusesSome (S.ledger store.old) (S.ledger store.new)) }
+    ensures refuses { IfErr result (RefusesOf (IsUsedWidth (S.ledger store.old) (S.records store.old)) (S.ledger store.old) (S.ledger store.new)) }
     ensures may { MayDo (S.ledger store.old) (S.ledger store.new) }
 {
     match key {

@@ -4,3 +4,4 @@ pub mod KeyLemmas
 pub mod WordLemmas
 pub mod ListLemmas
 pub mod NodeLemmas
+pub mod UsedLemmas

@@ -1,29 +1,52 @@
 -- The nodes on the way to a value moved.
-use Rattle.std.proofs.Common.{◌≡◌, ℕ, List, [], ◌∷◌, map, Result, Ok, Err, sym, ap, subst, ◌∙◌, arith}
+use Rattle.std.proofs.Common.{◌≡◌, ℕ, List, [], ◌∷◌, map, Result, Ok, Err, refl, sym, ap, subst, ◌∙◌, arith}
 use Rattle.std.specs.Prelude.{IfOk}
 use Rattle.std.specs.declared.cmp.Ordering.{Ordering}
 use Rattle.std.specs.List.{flat_map, AllByRecursion}
 use Rattle.image_base.specs.Records.{Records, SameAt}
-use Rattle.store_api.specs.Ledgers.{Ledger}
+use Rattle.store_api.specs.Ledgers.{Ledger, capacity}
 use Rattle.store_api.specs.Parts.{After, Owns, Turns, times}
 use Rattle.store_api.specs.declared.store.StoreError.{StoreError}
+use Rattle.store_api.proofs.Counts.{at_most-more, at_most-none}
 use Rattle.store_api.proofs.PartLemmas.{after, owns-some}
 use Rattle.tree_images.specs.ProofsForTrees.{all-same}
 use Rattle.tree_images.specs.Trees.{tree_pairs}
 use Rattle.tree_make.specs.Changes.{tree}
+use Rattle.tree_make.specs.Makes.{CountsNodes}
 use Rattle.tree_touch.specs.Paths.{path_nodes, NoneIn}
+use Rattle.tree_touch.proofs.TreeLemmas.{none-apart}
+use Rattle.attr_images.specs.Postings.{dictionary_reach}
 use Rattle.attr_images.specs.Values.{stored_value}
 use Rattle.attr_types.specs.Value.{type_of, value_cmp}
 use Rattle.attr_types.specs.declared.kind.ValueType.{ValueType}
 use Rattle.attr_types.specs.declared.value.Value.{Value}
-use Rattle.enum_dictionary.specs.Dictionaries.{IsDictionary}
+use Rattle.enum_dictionary.specs.Dictionaries.{beside, IsDictionary}
 use Rattle.enum_dictionary.proofs.DictionaryLemmas.{seen_same, IsValueTree}
 use Rattle.value_index.specs.Indexes.{index_part, IsIndex, IsValuePair}
 use Rattle.value_index.proofs.ChangeLemmas.{shown_stay}
 use Rattle.value_index.proofs.IndexLemmas.{docs_at, pair_reach, pair_same}
-use Rattle.value_index.proofs.OpenLemmas.{index_count, pairs_part}
+use Rattle.value_index.proofs.OpenLemmas.{index_count, pairs_part, same_self}
 use Rattle.value_index.proofs.ShownLemmas.{shown, shown_same}
 use Rattle.index_moves.specs.Moves.{MovesNodes}
+
+-- nothing is done in a dictionary without nodes
+pub nodes_unmoved : {H : Type 0} (bits buffer : ℕ) (value : Value) (a : Ledger H) (m : Records) (root : ℕ) → IsIndex (type_of value) m root → Owns a m (index_part root ∷ []) → root ≡ 0
+    → MovesNodes bits buffer value a a m m root root
+nodes_unmoved bits buffer value a m root is owns none = record {
+  index_is = is;
+  reads_as = refl;
+  apart = none-apart bits buffer m (beside value m) root none;
+  pairs = refl;
+  stay = same_self m (dictionary_reach m root);
+  owns = owns;
+  turns = record { kept = λ r h. refl; balance = λ r. refl };
+}
+
+pub counts_nothing : {H : Type 0} (a : Ledger H) (most : ℕ) → CountsNodes a a most
+counts_nothing a most = record {
+  nodes = at_most-more (capacity a.work.sizes.words 34) 0 most (a.of_width 34) (a.of_width 34) (omega arith) (at_most-none (capacity a.work.sizes.words 34) (a.of_width 34));
+  others = λ c w other. at_most-none c (a.of_width w);
+}
 
 module _ {H : Type 0} (bits buffer : ℕ) (type : ValueType) (value key : Value) (is : type_of value ≡ type) (same : key ≡ value) (a b : Ledger H) (m n : Records) (root : ℕ)
     (start : IsIndex (type_of value) m root) (owns : Owns a m (index_part root ∷ [])) where

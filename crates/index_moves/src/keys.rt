@@ -1,11 +1,12 @@
 ghost use Rattle.std.specs.Prelude.{◌≡◌, ◌∷◌, [], true, IfOk, IfErr, Some};
 ghost use Rattle.tree_images.specs.Trees.{tree_pairs};
 ghost use Rattle.key_order.specs.Pairs.{lookup_pair};
+ghost use Rattle.store_api.specs.Calls.{IsUsedWidth, RefusesOf};
 ghost use Rattle.store_api.specs.Parts.{Owns};
 ghost use Rattle.store_api.specs.Units.{MayDo};
 ghost use Rattle.attr_types.specs.Value.{type_of};
 ghost use Rattle.enum_dictionary.specs.Dictionaries.{beside};
-ghost use Rattle.posting_store.specs.Changes.{MakesWithin, RefusesSome};
+ghost use Rattle.posting_store.specs.Changes.{MakesWithin};
 ghost use Rattle.value_index.specs.Indexes.{index_part, IsIndex};
 ghost use Rattle.index_moves.specs.Moves.{key_most, MovesKey};
 
@@ -33,7 +34,7 @@ fn move_found<const OFFSET_BITS: u32, S: Store<OFFSET_BITS>>(
     ensures moves { IfOk result (MovesKey OFFSET_BITS buffer value.now (S.ledger store.old) (S.ledger store.new)
         (S.records store.old) (S.records store.new) root.entry) }
     ensures counts { MakesWithin (S.ledger store.old) (S.ledger store.new) (key_most value.now (S.records store.old) root.entry) }
-    ensures refuses { IfErr result (RefusesSome (S.ledger store.old) (S.ledger store.new)) }
+    ensures refuses { IfErr result (RefusesOf (IsUsedWidth (S.ledger store.old) (S.records store.old)) (S.ledger store.old) (S.ledger store.new)) }
     ensures may { MayDo (S.ledger store.old) (S.ledger store.new) }
 {
     if key.buffer() != buffer {
@@ -60,7 +61,7 @@ pub fn move_key<const OFFSET_BITS: u32, S: Store<OFFSET_BITS>>(
     ensures moves { IfOk result (MovesKey OFFSET_BITS buffer value.now (S.ledger store.old) (S.ledger store.new)
         (S.records store.old) (S.records store.new) root.entry) }
     ensures counts { MakesWithin (S.ledger store.old) (S.ledger store.new) (key_most value.now (S.records store.old) root.entry) }
-    ensures refuses { IfErr result (RefusesSome (S.ledger store.old) (S.ledger store.new)) }
+    ensures refuses { IfErr result (RefusesOf (IsUsedWidth (S.ledger store.old) (S.records store.old)) (S.ledger store.old) (S.ledger store.new)) }
     ensures may { MayDo (S.ledger store.old) (S.ledger store.new) }
 {
     match find(store, root, value) {

@@ -1,13 +1,14 @@
 ghost use Rattle.std.specs.Prelude.{◌≡◌, ◌<◌, ◌%◌, ◌∷◌, [], ℕ, true, length, IfOk, IfErr, Some};
 ghost use Rattle.tree_images.specs.Trees.{tree_pairs};
 ghost use Rattle.key_order.specs.Pairs.{lookup_pair};
+ghost use Rattle.store_api.specs.Calls.{IsUsedWidth, RefusesOf};
 ghost use Rattle.store_api.specs.Parts.{Owns};
 ghost use Rattle.store_api.specs.Units.{MayDo};
 ghost use Rattle.attr_images.specs.Postings.{index_of, list_form};
 ghost use Rattle.attr_index.specs.Index.{list_of};
 ghost use Rattle.attr_types.specs.Value.{type_of};
 ghost use Rattle.enum_dictionary.specs.Dictionaries.{beside};
-ghost use Rattle.posting_store.specs.Changes.{list_part, MakesList, MakesWithin, RefusesSome};
+ghost use Rattle.posting_store.specs.Changes.{list_part, MakesList, MakesWithin};
 ghost use Rattle.posting_store.specs.Lists.{list_at, list_levels, IsList, IsPlain};
 ghost use Rattle.value_index.specs.Indexes.{index_part, IsIndex};
 ghost use Rattle.index_moves.specs.Moves.{move_most, word_most, FormIsApart, MovesList};
@@ -38,7 +39,7 @@ fn move_short<const OFFSET_BITS: u32, S: Store<OFFSET_BITS>>(
     ensures apart { (doc : ℕ) → IfOk result (λ next. FormIsApart OFFSET_BITS buffer doc (S.records store.new) (list_form next)) }
     ensures counts { MakesWithin (S.ledger store.old) (S.ledger store.new) (word_most (list_levels (S.records store.old) list)
         (length (list_at (S.records store.old) list))) }
-    ensures refuses { IfErr result (RefusesSome (S.ledger store.old) (S.ledger store.new)) }
+    ensures refuses { IfErr result (RefusesOf (IsUsedWidth (S.ledger store.old) (S.records store.old)) (S.ledger store.old) (S.ledger store.new)) }
     ensures may { MayDo (S.ledger store.old) (S.ledger store.new) }
 {
     let record = record_of(list);
@@ -69,7 +70,7 @@ fn move_tree<const OFFSET_BITS: u32, S: Store<OFFSET_BITS>>(
     ensures apart { IfOk result (λ next. FormIsApart OFFSET_BITS buffer doc (S.records store.new) (list_form next)) }
     ensures counts { MakesWithin (S.ledger store.old) (S.ledger store.new) (word_most (list_levels (S.records store.old) list)
         (length (list_at (S.records store.old) list))) }
-    ensures refuses { IfErr result (RefusesSome (S.ledger store.old) (S.ledger store.new)) }
+    ensures refuses { IfErr result (RefusesOf (IsUsedWidth (S.ledger store.old) (S.records store.old)) (S.ledger store.old) (S.ledger store.new)) }
     ensures may { MayDo (S.ledger store.old) (S.ledger store.new) }
 {
     let root = touch(store, record_of(list), &NumberKey(doc as u64), buffer)?;
@@ -94,7 +95,7 @@ fn move_word<const OFFSET_BITS: u32, S: Store<OFFSET_BITS>>(
     ensures apart { IfOk result (λ next. FormIsApart OFFSET_BITS buffer doc (S.records store.new) (list_form next)) }
     ensures counts { MakesWithin (S.ledger store.old) (S.ledger store.new) (word_most (list_levels (S.records store.old) list)
         (length (list_at (S.records store.old) list))) }
-    ensures refuses { IfErr result (RefusesSome (S.ledger store.old) (S.ledger store.new)) }
+    ensures refuses { IfErr result (RefusesOf (IsUsedWidth (S.ledger store.old) (S.records store.old)) (S.ledger store.old) (S.ledger store.new)) }
     ensures may { MayDo (S.ledger store.old) (S.ledger store.new) }
 {
     if list % 2 == 1 {
@@ -122,7 +123,7 @@ fn move_found<const OFFSET_BITS: u32, S: Store<OFFSET_BITS>>(
         (S.records store.old) (S.records store.new) root.entry) }
     ensures counts { MakesWithin (S.ledger store.old) (S.ledger store.new) (move_most value.now (S.records store.old) root.entry
         (length (list_of value.now (index_of (type_of value.now) (S.records store.old) root.entry)))) }
-    ensures refuses { IfErr result (RefusesSome (S.ledger store.old) (S.ledger store.new)) }
+    ensures refuses { IfErr result (RefusesOf (IsUsedWidth (S.ledger store.old) (S.records store.old)) (S.ledger store.old) (S.ledger store.new)) }
     ensures may { MayDo (S.ledger store.old) (S.ledger store.new) }
 {
     let next = move_word(store, list, doc, buffer)?;
@@ -149,7 +150,7 @@ pub fn move_list<const OFFSET_BITS: u32, S: Store<OFFSET_BITS>>(
         (S.records store.old) (S.records store.new) root.entry) }
     ensures counts { MakesWithin (S.ledger store.old) (S.ledger store.new) (move_most value.now (S.records store.old) root.entry
         (length (list_of value.now (index_of (type_of value.now) (S.records store.old) root.entry)))) }
-    ensures refuses { IfErr result (RefusesSome (S.ledger store.old) (S.ledger store.new)) }
+    ensures refuses { IfErr result (RefusesOf (IsUsedWidth (S.ledger store.old) (S.records store.old)) (S.ledger store.old) (S.ledger store.new)) }
     ensures may { MayDo (S.ledger store.old) (S.ledger store.new) }
 {
     match find(store, root, value) {

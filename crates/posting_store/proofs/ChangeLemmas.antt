@@ -1,7 +1,6 @@
 -- A list made in place of another.
-use Rattle.std.proofs.Common.{◌≡◌, ◌≢◌, ℕ, ℤ, ◌+◌, ◌*◌, ◌<◌, ◌≤◌, Bool, true, false, cond, nat_eq, nat_le, List, [], ◌∷◌, map, length, refl, sym, ap, subst, ◌∙◌, arith, Result, Ok, Err}
+use Rattle.std.proofs.Common.{◌≡◌, ◌≢◌, ℕ, ℤ, ◌+◌, ◌*◌, ◌<◌, ◌≤◌, Bool, true, false, cond, nat_eq, nat_le, List, [], ◌∷◌, map, length, refl, sym, ap, subst, ◌∙◌, arith}
 use Rattle.std.proofs.lemmas.Bool.{le-leb, eqb-true, eqb-false}
-use Rattle.std.specs.Prelude.{IfErr}
 use Rattle.std.specs.List.{AllByRecursion}
 use Rattle.std.specs.List.Sorted.{IsStrictlySortedBy}
 use Rattle.std.specs.Map.{keys_of}
@@ -12,11 +11,9 @@ use Rattle.attr_images.specs.Postings.{tree, list_form, IsPostingList}
 use Rattle.attr_images.specs.Words.{class_of, filled, stored_items, unpacked, IsStoredList}
 use Rattle.attr_types.specs.Lawful.{IsDocNumber}
 use Rattle.image_base.specs.Records.{Records}
-use Rattle.store_api.specs.Calls.{Refuses}
-use Rattle.store_api.specs.Ledgers.{Ledger, capacity, is_width}
+use Rattle.store_api.specs.Ledgers.{Ledger, capacity}
 use Rattle.store_api.specs.Parts.{Part, count_in, times, entry, Owns, Turns, AllStay}
 use Rattle.store_api.specs.Units.{MakesAtMost}
-use Rattle.store_api.specs.declared.store.StoreError.{StoreError}
 use Rattle.store_api.proofs.Counts.{at_most-none, at_most-then, at_most-more}
 use Rattle.store_api.proofs.PartLemmas.{after, turns-as, turns-then, owns-some}
 use Rattle.tree_images.specs.Trees.{tree_pairs, by_number, IsTree}
@@ -24,7 +21,7 @@ use Rattle.tree_make.specs.Changes.{tree as tree_part}
 use Rattle.tree_make.specs.Makes.{CountsNodes}
 use Rattle.posting_store.specs.Lists.{list_at, IsList, IsPlain, AreDocuments}
 use Rattle.posting_store.specs.ProofsForLists.{IsList-same, list_at-same}
-use Rattle.posting_store.specs.Changes.{list_part, list_most, MakesList, MakesWithin, RefusesSome}
+use Rattle.posting_store.specs.Changes.{list_part, list_most, IsListWidth, MakesList, MakesWithin}
 use Rattle.posting_store.proofs.FormLemmas.{form_short, form_tree, short_at, short_reach, tree_at, tree_reach}
 use Rattle.posting_store.proofs.PairLemmas.{weighed, weighed-length}
 
@@ -181,12 +178,14 @@ module _ {H : Type 0} (old new : Ledger H) where
         (at_most-then (capacity old.work.sizes.words width) (most width) 0 (old.of_width width) (new.of_width width) (end.of_width width) (made.each width) (none (capacity old.work.sizes.words width) width));
   }
 
-  -- a refusal of a width
-  pub refuses_some : {A : Type 0} (width : ℕ) (result : Result A StoreError) → is_width width ≡ true → IfErr result (Refuses old new width) → IfErr result (RefusesSome old new)
-  refuses_some width (Ok x) is refuses = tt
-  refuses_some width (Err e) is refuses = record { width = width; is = is; refuses = refuses }
-
 pub counts_none : {H : Type 0} (ledger : Ledger H) (most : ℕ → ℕ) → MakesWithin ledger ledger most
 counts_none ledger most = record {
   each = λ width. at_most-more (capacity ledger.work.sizes.words width) 0 (most width) (ledger.of_width width) (ledger.of_width width) (omega arith) (at_most-none (capacity ledger.work.sizes.words width) (ledger.of_width width));
 }
+
+-- widths
+pub is_short_width : (count : ℕ) → 0 < count → count ≤ 8 → IsListWidth count (class_of (1 + count))
+is_short_width count some few = record { some = some; width_is = sym (ap (λ b. cond b (class_of (1 + count)) 34) (le-leb count 8 few)) }
+
+pub is_tree_width : (count : ℕ) → 8 < count → IsListWidth count 34
+is_tree_width count many = record { some = omega arith; width_is = sym (ap (λ b. cond b (class_of (1 + count)) 34) (too_many count 8 many)) }

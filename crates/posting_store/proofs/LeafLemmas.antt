@@ -21,8 +21,8 @@ use Rattle.tree_make.specs.Makes.{CountsNodes}
 use Rattle.attr_images.specs.Words.{unpacked, weight_of}
 use Rattle.attr_types.specs.Lawful.{IsDocNumber}
 use Rattle.posting_store.specs.Lists.{list_at, list_levels, IsList, IsPlain, AreDocuments}
-use Rattle.posting_store.specs.Changes.{list_part, list_most, MakesList, MakesWithin}
-use Rattle.posting_store.proofs.ChangeLemmas.{makes_tree, counts_tree}
+use Rattle.posting_store.specs.Changes.{list_part, list_most, IsListWidth, MakesList, MakesWithin}
+use Rattle.posting_store.proofs.ChangeLemmas.{makes_tree, counts_tree, is_tree_width}
 use Rattle.posting_store.proofs.FormLemmas.{tree_at, tree_reach, tree_levels, tree_form}
 use Rattle.posting_store.proofs.PairLemmas.{weighed, weighed-length, against, weighed-put, weighed-take_out, weighed-there, documents_in, documents_out, length_out_some, zipped, zipped_small}
 
@@ -125,6 +125,10 @@ module _ {H : Type 0} (old new : Ledger H) (m n : Records) (word root : ℕ) (li
       (counts_tree old new (levels m root) (length (insert_entry nat_cmp (list_at m word) doc weight)) (2 * levels m root + 1)
       (let least = length_in_least doc weight (list_at m word) in let before = many in omega arith) (omega arith) made)
 
+  pub width_added : (doc : ℕ) (weight : ℤ) → IsListWidth (length (insert_entry nat_cmp (list_at m word) doc weight)) 34
+  width_added doc weight =
+      is_tree_width (length (insert_entry nat_cmp (list_at m word) doc weight)) (let least = length_in_least doc weight (list_at m word) in let before = many in omega arith)
+
   module _ (doc : ℕ) (there : IsSome (lookup_in (is_at (nat_cmp doc)) (list_at m word))) (still : 9 < length (list_at m word)) where
     up : IsStrictlySortedBy nat_cmp (map (λ p. p.0) (tree_pairs m root))
     up = (tree_form m word root plain is list).0.ascends
@@ -148,6 +152,9 @@ module _ {H : Type 0} (old new : Ledger H) (m n : Records) (word root : ℕ) (li
     counts_removed made =
         subst (λ h. MakesWithin old new (list_most h (length (remove_entry (is_at (nat_cmp doc)) (list_at m word))))) (sym (tree_levels m word root plain is))
         (counts_tree old new (levels m root) (length (remove_entry (is_at (nat_cmp doc)) (list_at m word))) (levels m root + 1) left (omega arith) made)
+
+    pub width_removed : IsListWidth (length (remove_entry (is_at (nat_cmp doc)) (list_at m word))) 34
+    width_removed = is_tree_width (length (remove_entry (is_at (nat_cmp doc)) (list_at m word))) left
 
 -- items that read as a changed list
 pub same_size : (items : List ℕ) (docs : List (ℕ × ℤ)) → map unpacked items ≡ docs → length items ≡ length docs

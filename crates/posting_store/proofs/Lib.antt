@@ -5,3 +5,4 @@ pub mod FormLemmas
 pub mod PairLemmas
 pub mod ChangeLemmas
 pub mod LeafLemmas
+pub mod RefusalLemmas

@@ -1,5 +1,5 @@
 -- What a change of a list leaves of a store.
-use Rattle.std.specs.Prelude.{◌≡◌, ℕ, ℤ, ◌+◌, ◌*◌, true, nat_eq, nat_le, if◌then◌else◌, List, [], ◌∷◌}
+use Rattle.std.specs.Prelude.{◌≡◌, ℕ, ℤ, ◌+◌, ◌*◌, ◌<◌, true, nat_eq, nat_le, if◌then◌else◌, List, [], ◌∷◌}
 use Rattle.image_base.specs.Records.{Records}
 use Rattle.store_api.specs.Calls.{Refuses}
 use Rattle.store_api.specs.Ledgers.{Ledger, capacity, is_width}
@@ -33,6 +33,15 @@ abbrev pub list_most : ℕ → ℕ → ℕ → ℕ
 list_most levels count width =
     if nat_le count MOST_SHORT then (if nat_eq width (class_of (1 + count)) then 1 else 0)
     else if nat_eq width NODE_WORDS then 2 * levels + 1 else 0
+
+-- the width of the records of a list of so many documents: of its one record where it is short, else of nodes
+abbrev pub list_width : ℕ → ℕ
+list_width count = if nat_le count MOST_SHORT then class_of (1 + count) else NODE_WORDS
+
+-- a width is that of a list of so many documents, which has some
+pub record IsListWidth (count width : ℕ) : Type 0 where
+  pub some : 0 < count
+  pub width_is : width ≡ list_width count
 
 -- a refusal is one of some width of records
 pub record RefusesSome {H : Type 0} (old new : Ledger H) (error : StoreError) : Type 0 where

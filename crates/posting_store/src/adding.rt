@@ -1,10 +1,11 @@
 ghost use Rattle.std.specs.Prelude.{◌≡◌, ◌%◌, ◌∷◌, [], true, false, length, IfOk, IfErr};
 ghost use Rattle.std.specs.BTreeMap.{insert_entry};
 ghost use Rattle.std.specs.Ordering.{nat_cmp};
+ghost use Rattle.store_api.specs.Calls.{RefusesOf};
 ghost use Rattle.store_api.specs.Parts.{Owns};
 ghost use Rattle.store_api.specs.Units.{MayDo};
 ghost use Rattle.posting_store.specs.Lists.{list_at, list_levels, IsList, IsPlain};
-ghost use Rattle.posting_store.specs.Changes.{list_part, list_most, MakesList, MakesWithin, RefusesSome};
+ghost use Rattle.posting_store.specs.Changes.{list_part, list_most, IsListWidth, MakesList, MakesWithin};
 
 use crate::items::{items_of, number_law, put_item};
 use crate::posting::Posting;
@@ -29,7 +30,9 @@ fn add_to_tree<const OFFSET_BITS: u32, S: Store<OFFSET_BITS>>(
         list (insert_entry nat_cmp (list_at (S.records store.old) list) doc weight)) }
     ensures counts { MakesWithin (S.ledger store.old) (S.ledger store.new) (list_most (list_levels (S.records store.old) list)
         (length (insert_entry nat_cmp (list_at (S.records store.old) list) doc weight))) }
-    ensures refuses { IfErr result (RefusesSome (S.ledger store.old) (S.ledger store.new)) }
+    ensures refuses { IfErr result (RefusesOf
+        (IsListWidth (length (insert_entry nat_cmp (list_at (S.records store.old) list) doc weight)))
+        (S.ledger store.old) (S.ledger store.new)) }
     ensures may { MayDo (S.ledger store.old) (S.ledger store.new) }
 {
     let number = doc.number() as u64;
@@ -54,7 +57,9 @@ fn add_to_short<const OFFSET_BITS: u32, S: Store<OFFSET_BITS>>(
         list (insert_entry nat_cmp (list_at (S.records store.old) list) doc weight)) }
     ensures counts { MakesWithin (S.ledger store.old) (S.ledger store.new) (list_most (list_levels (S.records store.old) list)
         (length (insert_entry nat_cmp (list_at (S.records store.old) list) doc weight))) }
-    ensures refuses { IfErr result (RefusesSome (S.ledger store.old) (S.ledger store.new)) }
+    ensures refuses { IfErr result (RefusesOf
+        (IsListWidth (length (insert_entry nat_cmp (list_at (S.records store.old) list) doc weight)))
+        (S.ledger store.old) (S.ledger store.new)) }
     ensures may { MayDo (S.ledger store.old) (S.ledger store.new) }
 {
     number_law(doc);
@@ -81,7 +86,9 @@ pub fn add<const OFFSET_BITS: u32, S: Store<OFFSET_BITS>>(
         list (insert_entry nat_cmp (list_at (S.records store.old) list) doc weight)) }
     ensures counts { MakesWithin (S.ledger store.old) (S.ledger store.new) (list_most (list_levels (S.records store.old) list)
         (length (insert_entry nat_cmp (list_at (S.records store.old) list) doc weight))) }
-    ensures refuses { IfErr result (RefusesSome (S.ledger store.old) (S.ledger store.new)) }
+    ensures refuses { IfErr result (RefusesOf
+        (IsListWidth (length (insert_entry nat_cmp (list_at (S.records store.old) list) doc weight)))
+        (S.ledger store.old) (S.ledger store.new)) }
     ensures may { MayDo (S.ledger store.old) (S.ledger store.new) }
 {
     if list.is_tree() {

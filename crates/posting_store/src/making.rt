@@ -3,10 +3,11 @@ ghost use Rattle.std.specs.List.{AllByRecursion};
 ghost use Rattle.std.specs.List.Sorted.{IsStrictlySortedBy};
 ghost use Rattle.std.specs.Map.{keys_of};
 ghost use Rattle.std.specs.Ordering.{nat_cmp};
+ghost use Rattle.store_api.specs.Calls.{RefusesOf};
 ghost use Rattle.store_api.specs.Units.{MayDo};
 ghost use Rattle.attr_images.specs.Words.{unpacked};
 ghost use Rattle.attr_types.specs.Lawful.{IsDocNumber};
-ghost use Rattle.posting_store.specs.Changes.{list_most, MakesList, MakesWithin, RefusesSome};
+ghost use Rattle.posting_store.specs.Changes.{list_most, IsListWidth, MakesList, MakesWithin};
 ghost use Rattle.posting_store.specs.Lists.{AreDocuments};
 
 use crate::ITEM_BASE;
@@ -28,7 +29,7 @@ fn make_short<const OFFSET_BITS: u32, S: Store<OFFSET_BITS>>(
     ensures makes { IfOk result (MakesList (S.ledger store.old) (S.ledger store.new) (S.records store.old) (S.records store.new)
         0 (map unpacked items.now)) }
     ensures counts { MakesWithin (S.ledger store.old) (S.ledger store.new) (list_most 0 (length items.now)) }
-    ensures refuses { IfErr result (RefusesSome (S.ledger store.old) (S.ledger store.new)) }
+    ensures refuses { IfErr result (RefusesOf (IsListWidth (length items.now)) (S.ledger store.old) (S.ledger store.new)) }
     ensures may { MayDo (S.ledger store.old) (S.ledger store.new) }
 {
     let record = add_array(store, items)?;
@@ -46,7 +47,7 @@ fn make_leaf<const OFFSET_BITS: u32, S: Store<OFFSET_BITS>>(
     ensures makes { IfOk result (MakesList (S.ledger store.old) (S.ledger store.new) (S.records store.old) (S.records store.new)
         0 (map unpacked items.now)) }
     ensures counts { MakesWithin (S.ledger store.old) (S.ledger store.new) (list_most 0 (length items.now)) }
-    ensures refuses { IfErr result (RefusesSome (S.ledger store.old) (S.ledger store.new)) }
+    ensures refuses { IfErr result (RefusesOf (IsListWidth (length items.now)) (S.ledger store.old) (S.ledger store.new)) }
     ensures may { MayDo (S.ledger store.old) (S.ledger store.new) }
 {
     let mut keys = [0; 9];
@@ -70,7 +71,7 @@ pub fn make_list<const OFFSET_BITS: u32, S: Store<OFFSET_BITS>>(
     ensures makes { IfOk result (MakesList (S.ledger store.old) (S.ledger store.new) (S.records store.old) (S.records store.new)
         0 (map unpacked items.now)) }
     ensures counts { MakesWithin (S.ledger store.old) (S.ledger store.new) (list_most 0 (length items.now)) }
-    ensures refuses { IfErr result (RefusesSome (S.ledger store.old) (S.ledger store.new)) }
+    ensures refuses { IfErr result (RefusesOf (IsListWidth (length items.now)) (S.ledger store.old) (S.ledger store.new)) }
     ensures may { MayDo (S.ledger store.old) (S.ledger store.new) }
 {
     if items.is_empty() {

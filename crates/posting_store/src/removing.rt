@@ -2,10 +2,11 @@ ghost use Rattle.std.specs.Prelude.{◌≡◌, ◌<◌, ◌≤◌, ◌∷◌, []
 ghost use Rattle.std.specs.BTreeMap.{is_at};
 ghost use Rattle.std.specs.Map.{lookup, remove_entry};
 ghost use Rattle.std.specs.Ordering.{nat_cmp};
+ghost use Rattle.store_api.specs.Calls.{RefusesOf};
 ghost use Rattle.store_api.specs.Parts.{Owns};
 ghost use Rattle.store_api.specs.Units.{MayDo};
 ghost use Rattle.posting_store.specs.Lists.{list_at, list_levels, IsList, IsPlain};
-ghost use Rattle.posting_store.specs.Changes.{list_part, list_most, MakesList, MakesWithin, RefusesSome};
+ghost use Rattle.posting_store.specs.Changes.{list_part, list_most, IsListWidth, MakesList, MakesWithin};
 
 use crate::cursor::count;
 use crate::items::{items_of, take_item};
@@ -31,7 +32,9 @@ fn remove_from_tree<const OFFSET_BITS: u32, S: Store<OFFSET_BITS>>(
         list (remove_entry (is_at (nat_cmp doc)) (list_at (S.records store.old) list))) }
     ensures counts { MakesWithin (S.ledger store.old) (S.ledger store.new) (list_most (list_levels (S.records store.old) list)
         (length (remove_entry (is_at (nat_cmp doc)) (list_at (S.records store.old) list)))) }
-    ensures refuses { IfErr result (RefusesSome (S.ledger store.old) (S.ledger store.new)) }
+    ensures refuses { IfErr result (RefusesOf
+        (IsListWidth (length (remove_entry (is_at (nat_cmp doc)) (list_at (S.records store.old) list))))
+        (S.ledger store.old) (S.ledger store.new)) }
     ensures may { MayDo (S.ledger store.old) (S.ledger store.new) }
 {
     let root = remove_pair(store, list.entry(), &NumberKey(doc.number() as u64))?;
@@ -53,7 +56,9 @@ fn remove_from_short<const OFFSET_BITS: u32, S: Store<OFFSET_BITS>>(
         list (remove_entry (is_at (nat_cmp doc)) (list_at (S.records store.old) list))) }
     ensures counts { MakesWithin (S.ledger store.old) (S.ledger store.new) (list_most (list_levels (S.records store.old) list)
         (length (remove_entry (is_at (nat_cmp doc)) (list_at (S.records store.old) list)))) }
-    ensures refuses { IfErr result (RefusesSome (S.ledger store.old) (S.ledger store.new)) }
+    ensures refuses { IfErr result (RefusesOf
+        (IsListWidth (length (remove_entry (is_at (nat_cmp doc)) (list_at (S.records store.old) list))))
+        (S.ledger store.old) (S.ledger store.new)) }
     ensures may { MayDo (S.ledger store.old) (S.ledger store.new) }
 {
     let mut items = items_of(store, list);
@@ -79,7 +84,9 @@ pub fn remove<const OFFSET_BITS: u32, S: Store<OFFSET_BITS>>(
         list (remove_entry (is_at (nat_cmp doc)) (list_at (S.records store.old) list))) }
     ensures counts { MakesWithin (S.ledger store.old) (S.ledger store.new) (list_most (list_levels (S.records store.old) list)
         (length (remove_entry (is_at (nat_cmp doc)) (list_at (S.records store.old) list)))) }
-    ensures refuses { IfErr result (RefusesSome (S.ledger store.old) (S.ledger store.new)) }
+    ensures refuses { IfErr result (RefusesOf
+        (IsListWidth (length (remove_entry (is_at (nat_cmp doc)) (list_at (S.records store.old) list))))
+        (S.ledger store.old) (S.ledger store.new)) }
     ensures may { MayDo (S.ledger store.old) (S.ledger store.new) }
 {
     if count(store, list) > 9 {

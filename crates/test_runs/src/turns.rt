@@ -1,4 +1,4 @@
-//! A run of two readers beside the loading whose order is fixed: its gate holds each thread until the others have come.
+//! Runs of two readers beside the loading whose order is fixed: their gate holds each thread until the others have come.
 //! Readers on the loader's thread, or one after another, don't come; and a round at an older commit tells other lines.
 use crate::run::{line_of, outcome_at, words_in};
 use crate::tally::Tally;
@@ -12,30 +12,39 @@ const TURNS: u64 = 50_000_000;
 
 const WORDS: &str = "--kind single --value long --batch 1 --readers 2 --rounds 2 5";
 
-const FEED: &str =
+const TWO: &str =
     "{\"put\":\"id:n:t::1\",\"fields\":{\"f\":5}}\n{\"put\":\"id:n:t::2\",\"fields\":{\"f\":5}}\n";
 
-const REPORT: &str =
+const AT_ONE_AND_TWO: &str =
     "0 reader 1 round 1 at 1/1: 1/reader 1 round 2 at 2/1: 1 2/reader 2 round 1 at 1/1: 1/reader 2 round 2 at 2/1: 1 2/\
-                      final at 2/1: 1 2/done 2 operations 0 skipped/";
+                              final at 2/1: 1 2/done 2 operations 0 skipped/";
 
-/// How far a run has come, and how often a thread gave up.
+const THREE: &str =
+    "{\"put\":\"id:n:t::1\",\"fields\":{\"f\":5}}\n{\"put\":\"id:n:t::2\",\"fields\":{\"f\":5}}\n\
+                     {\"put\":\"id:n:t::3\",\"fields\":{\"f\":5}}\n";
+
+const AT_TWO_AND_THREE: &str =
+    "0 reader 1 round 1 at 2/1: 1 2/reader 1 round 2 at 3/1: 1 2 3/reader 2 round 1 at 2/1: 1 2/reader 2 round 2 at 3/1: 1 2 3/\
+                                final at 3/1: 1 2 3/done 3 operations 0 skipped/";
+
+/// How far a run came, and how often a thread gave up.
 #[derive(Drop)]
 struct Turns {
+    /// How many commits come before that of the first round.
+    before: u64,
     /// The last commit.
     committed: AtomicU64,
-    /// How many readers have come to their first round, and how many have made it.
-    begun: AtomicU64,
-    made: AtomicU64,
+    /// How many rounds the readers have come to.
+    come: AtomicU64,
     gave_up: AtomicU64,
 }
 
 impl Turns {
-    fn new() -> Turns {
+    fn new(before: u64) -> Turns {
         Turns {
+            before,
             committed: AtomicU64::new(0),
-            begun: AtomicU64::new(0),
-            made: AtomicU64::new(0),
+            come: AtomicU64::new(0),
             gave_up: AtomicU64::new(0),
         }
     }
@@ -51,13 +60,23 @@ impl Turns {
         self.gave_up.fetch_add(1, Ordering::SeqCst);
     }
 
+    /// A round waits for its commit, and the first one for the other reader.
     fn start(&self, round: u32) {
+        self.come.fetch_add(1, Ordering::SeqCst);
         if round == 1 {
-            self.begun.fetch_add(1, Ordering::SeqCst);
-            self.wait(&self.begun, 2);
-            self.wait(&self.committed, 1);
-        } else {
-            self.wait(&self.committed, 2);
+            self.wait(&self.come, 2);
+        }
+        self.wait(&self.committed, self.before.saturating_add(round as u64));
+    }
+
+    /// The loader waits until both readers have come to the round of its next commit: all that they did before was at this one.
+    fn commit(&self, commit: u32) {
+        self.committed.store(commit as u64, Ordering::SeqCst);
+        let rounds = (commit as u64)
+            .saturating_add(1)
+            .saturating_sub(self.before);
+        if rounds <= 2 {
+            self.wait(&self.come, rounds.saturating_mul(2));
         }
     }
 }
@@ -65,34 +84,38 @@ impl Turns {
 impl Gate for Turns {
     fn pass(&self, point: Point) {
         match point {
-            Point::Committed { commit, .. } => {
-                self.committed.store(commit as u64, Ordering::SeqCst);
-                if commit == 1 {
-                    self.wait(&self.made, 2);
-                }
-            }
+            Point::Committed { commit, .. } => self.commit(commit),
             Point::RoundStart { round, .. } => self.start(round),
-            Point::RoundEnd { round, .. } => {
-                if round == 1 {
-                    self.made.fetch_add(1, Ordering::SeqCst);
-                }
-            }
+            Point::RoundEnd { .. } => {}
         }
     }
 }
 
-pub fn compare<R: Threads + Sync>(rt: &HostRuntime, threads: &R) -> io::Result<()> {
+/// A run with so many commits before that of the first round, and what it must write.
+fn compare_turns<R: Threads + Sync>(
+    rt: &HostRuntime,
+    threads: &R,
+    tally: &mut Tally,
+    before: u64,
+    feed: &str,
+    wanted: &str,
+) -> io::Result<()> {
     let alloc = rt.alloc();
     let words = words_in(alloc, WORDS)?;
-    let turns = Turns::new();
-    let mut source = SliceSource::new(FEED.as_bytes());
+    let turns = Turns::new(before);
+    let mut source = SliceSource::new(feed.as_bytes());
     let mut sink = VecSink::create(alloc, 4096)?;
     let outcome = outcome_at(threads, alloc, &words, &mut source, &mut sink, &turns);
-    let mut tally = Tally::new();
     let found = line_of(alloc, outcome.status.exit_code(), sink.taken())?;
-    tally.note(rt, "two readers, held at the gate", &found, REPORT)?;
+    tally.note(rt, "two readers, held at the gate", &found, wanted)?;
     let gave_up = turns.gave_up.load(Ordering::SeqCst);
     let found = format!(in alloc; "{gave_up}")?;
-    tally.note(rt, "threads that waited in vain", &found, "0")?;
+    tally.note(rt, "threads that waited in vain", &found, "0")
+}
+
+pub fn compare<R: Threads + Sync>(rt: &HostRuntime, threads: &R) -> io::Result<()> {
+    let mut tally = Tally::new();
+    compare_turns(rt, threads, &mut tally, 0, TWO, AT_ONE_AND_TWO)?;
+    compare_turns(rt, threads, &mut tally, 1, THREE, AT_TWO_AND_THREE)?;
     tally.print(rt, "rounds held at the gate")
 }

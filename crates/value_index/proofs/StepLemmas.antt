@@ -1,5 +1,5 @@
 -- A call's steps together: why it was refused, and the index that it makes.
-use Rattle.std.proofs.Common.{◌≡◌, ℕ, zero, suc, ℤ, ◌<◌, [], ◌∷◌, length, None, Some, Option, option_map, IsSome, Result, Ok, Err, true, refl, sym, ap, subst, ◌∙◌, arith}
+use Rattle.std.proofs.Common.{◌≡◌, ℕ, zero, suc, ℤ, ◌<◌, [], ◌∷◌, length, None, Some, Option, option_map, IsSome, Result, Ok, Err, true, refl, sym, ap, subst, ◌∙◌, arith, inl, inr}
 use Rattle.std.specs.Prelude.{IfOk, IfErr}
 use Rattle.std.specs.BTreeMap.{insert_entry, is_at}
 use Rattle.std.specs.declared.cmp.Ordering.TheVariants.{Less, Equal, Greater}
@@ -18,16 +18,17 @@ use Rattle.tree_images.specs.Trees.{tree_pairs}
 use Rattle.array_store.specs.Adding.{AddsRecord}
 use Rattle.attr_images.specs.Postings.{index_of}
 use Rattle.attr_images.specs.Values.{stored_value, value_words, IsValueRecord}
+use Rattle.attr_images.specs.Words.{class_of}
 use Rattle.attr_index.specs.Index.{list_of, with_list}
 use Rattle.attr_types.specs.Value.{type_of, value_cmp}
 use Rattle.attr_types.specs.declared.value.Value.{Value}
 use Rattle.enum_dictionary.specs.Dictionaries.{beside, entry_of, MakesDictionary}
 use Rattle.enum_dictionary.specs.declared.finding.DictEntry.{DictEntry}
-use Rattle.posting_store.specs.Changes.{list_part, MakesList, RefusesSome}
+use Rattle.posting_store.specs.Changes.{list_part, IsListWidth, MakesList, RefusesSome}
 use Rattle.posting_store.specs.Lists.{list_at, IsList}
 use Rattle.posting_store.proofs.FormLemmas.{at_form}
 use Rattle.posting_store.proofs.ListLemmas.{list_filled}
-use Rattle.value_index.specs.Changes.{MakesIndex}
+use Rattle.value_index.specs.Changes.{IsChangeWidth, MakesIndex}
 use Rattle.value_index.specs.Indexes.{index_part, IsIndex}
 use Rattle.value_index.proofs.ChangeLemmas.{value_out, value_set}
 use Rattle.value_index.proofs.KeyLemmas.{list_found, list_none, pair_found}
@@ -54,9 +55,6 @@ refuses_before a b c width (Full w active held oldest) may refuses = (
 )
 refuses_before a b c width Memory may refuses = tt
 
-pub refuses_after : {H : Type 0} (a b c : Ledger H) (e : StoreError) → MayDo a b → RefusesSome b c e → RefusesSome a c e
-refuses_after a b c e may refuses = record { width = refuses.width; is = refuses.is; refuses = refuses_before a b c refuses.width e may refuses.refuses }
-
 pub refuses_width : {H : Type 0} (a b c : Ledger H) (width : ℕ) (e : StoreError) → is_width width ≡ true → MayDo a b → Refuses b c width e → RefusesSome a c e
 refuses_width a b c width e is may refuses = record { width = width; is = is; refuses = refuses_before a b c width e may refuses }
 
@@ -64,6 +62,16 @@ pub if_refuses_width : {H : Type 0} (a b c : Ledger H) (width : ℕ) (answer : R
     → IfErr answer (RefusesSome a c)
 if_refuses_width a b c width (Ok next) is may refuses = tt
 if_refuses_width a b c width (Err e) is may refuses = refuses_width a b c width e is may refuses
+
+-- ---- of which width
+pub list_change : (value : Value) (count width : ℕ) → IsListWidth count width → IsChangeWidth value count width
+list_change value count width is = inr (record { some = is.some; one = inr is.width_is })
+
+pub record_change : (value : Value) (count : ℕ) → 0 < count → IsChangeWidth value count (class_of (length (value_words value)))
+record_change value count some = inr (record { some = some; one = inl refl })
+
+pub node_change : (value : Value) (count : ℕ) → IsChangeWidth value count 34
+node_change value count = inl refl
 
 -- ---- what is found
 pub entry_found : (bits : ℕ) (o : Option (ℕ × ℕ)) (entry : DictEntry bits) (word : ℕ) → Some entry ≡ option_map (entry_of bits) o → word ≡ entry.posting

@@ -1,5 +1,5 @@
 -- What a change of an index leaves of a store.
-use Rattle.std.specs.Prelude.{◌≡◌, ℕ, ◌+◌, ◌*◌, ◌<◌, [], ◌∷◌, length, nat_eq, if◌then◌else◌}
+use Rattle.std.specs.Prelude.{◌≡◌, ◌⊎◌, ℕ, ◌+◌, ◌*◌, ◌<◌, [], ◌∷◌, length, nat_eq, if◌then◌else◌}
 use Rattle.std.specs.Option.{is_some, unwrap_or}
 use Rattle.image_base.specs.Records.{Records}
 use Rattle.store_api.specs.Ledgers.{Ledger}
@@ -15,7 +15,7 @@ use Rattle.attr_index.specs.Index.{Index, list_of}
 use Rattle.attr_types.specs.declared.kind.ValueType.{ValueType}
 use Rattle.attr_types.specs.declared.value.Value.{Value}
 use Rattle.enum_dictionary.specs.Dictionaries.{beside}
-use Rattle.posting_store.specs.Changes.{list_most}
+use Rattle.posting_store.specs.Changes.{list_most, list_width}
 use Rattle.posting_store.specs.Lists.{list_levels}
 use Rattle.value_index.specs.Flows.{FlowsIndex}
 use Rattle.value_index.specs.Indexes.{index_part, key_at, IsIndex, IsKey}
@@ -53,3 +53,12 @@ record_most value width = if nat_eq width (class_of (length (value_words value))
 abbrev pub add_most : Value → Records → ℕ → ℕ → ℕ → ℕ
 add_most value m root count width =
     (if is_some (key_at value m root) then 0 else record_most value width) + change_most value m root count width
+
+-- a width is that of a record which an image has for a value with so many documents: of its own, or of its list
+pub record IsValueWidth (value : Value) (count width : ℕ) : Type 0 where
+  pub some : 0 < count
+  pub one : (width ≡ class_of (length (value_words value))) ⊎ (width ≡ list_width count)
+
+-- a width for which a change of a value's list may be refused, by the documents that it has then: of nodes, or of such a record
+abbrev pub IsChangeWidth : Value → ℕ → ℕ → Type 0
+IsChangeWidth value count width = (width ≡ NODE_WORDS) ⊎ IsValueWidth value count width

@@ -3,14 +3,15 @@ ghost use Rattle.std.specs.BTreeMap.{insert_entry};
 ghost use Rattle.std.specs.Ordering.{nat_cmp};
 ghost use Rattle.tree_images.specs.Trees.{tree_pairs};
 ghost use Rattle.key_order.specs.Pairs.{lookup_pair};
+ghost use Rattle.store_api.specs.Calls.{RefusesOf};
 ghost use Rattle.store_api.specs.Parts.{Owns};
 ghost use Rattle.store_api.specs.Units.{MayDo};
 ghost use Rattle.attr_images.specs.Postings.{index_of};
 ghost use Rattle.attr_index.specs.Index.{list_of, with_posting};
 ghost use Rattle.attr_types.specs.Value.{type_of};
 ghost use Rattle.enum_dictionary.specs.Dictionaries.{beside};
-ghost use Rattle.posting_store.specs.Changes.{MakesWithin, RefusesSome};
-ghost use Rattle.value_index.specs.Changes.{add_most, MakesIndex};
+ghost use Rattle.posting_store.specs.Changes.{MakesWithin};
+ghost use Rattle.value_index.specs.Changes.{add_most, IsChangeWidth, MakesIndex};
 ghost use Rattle.value_index.specs.Indexes.{index_part, IsIndex};
 
 use attr_types::{Doc, Value};
@@ -38,7 +39,9 @@ fn add_new<const OFFSET_BITS: u32, S: Store<OFFSET_BITS>>(
         (with_posting value.now doc weight (index_of (type_of value.now) (S.records store.old) root.entry))) }
     ensures counts { MakesWithin (S.ledger store.old) (S.ledger store.new) (add_most value.now (S.records store.old) root.entry
         (length (insert_entry nat_cmp (list_of value.now (index_of (type_of value.now) (S.records store.old) root.entry)) doc weight))) }
-    ensures refuses { IfErr result (RefusesSome (S.ledger store.old) (S.ledger store.new)) }
+    ensures refuses { IfErr result (RefusesOf (IsChangeWidth value.now
+        (length (insert_entry nat_cmp (list_of value.now (index_of (type_of value.now) (S.records store.old) root.entry)) doc weight)))
+        (S.ledger store.old) (S.ledger store.new)) }
     ensures may { MayDo (S.ledger store.old) (S.ledger store.new) }
 {
     let key = add_value(store, value)?;
@@ -67,7 +70,9 @@ fn add_more<const OFFSET_BITS: u32, S: Store<OFFSET_BITS>>(
         (with_posting value.now doc weight (index_of (type_of value.now) (S.records store.old) root.entry))) }
     ensures counts { MakesWithin (S.ledger store.old) (S.ledger store.new) (add_most value.now (S.records store.old) root.entry
         (length (insert_entry nat_cmp (list_of value.now (index_of (type_of value.now) (S.records store.old) root.entry)) doc weight))) }
-    ensures refuses { IfErr result (RefusesSome (S.ledger store.old) (S.ledger store.new)) }
+    ensures refuses { IfErr result (RefusesOf (IsChangeWidth value.now
+        (length (insert_entry nat_cmp (list_of value.now (index_of (type_of value.now) (S.records store.old) root.entry)) doc weight)))
+        (S.ledger store.old) (S.ledger store.new)) }
     ensures may { MayDo (S.ledger store.old) (S.ledger store.new) }
 {
     let next = add_posting(store, list, doc, weight, false, 0)?;
@@ -91,7 +96,9 @@ pub fn add<const OFFSET_BITS: u32, S: Store<OFFSET_BITS>>(
         (with_posting value.now doc weight (index_of (type_of value.now) (S.records store.old) root.entry))) }
     ensures counts { MakesWithin (S.ledger store.old) (S.ledger store.new) (add_most value.now (S.records store.old) root.entry
         (length (insert_entry nat_cmp (list_of value.now (index_of (type_of value.now) (S.records store.old) root.entry)) doc weight))) }
-    ensures refuses { IfErr result (RefusesSome (S.ledger store.old) (S.ledger store.new)) }
+    ensures refuses { IfErr result (RefusesOf (IsChangeWidth value.now
+        (length (insert_entry nat_cmp (list_of value.now (index_of (type_of value.now) (S.records store.old) root.entry)) doc weight)))
+        (S.ledger store.old) (S.ledger store.new)) }
     ensures may { MayDo (S.ledger store.old) (S.ledger store.new) }
 {
     match find(store, root, value) {

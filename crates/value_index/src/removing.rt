@@ -4,14 +4,15 @@ ghost use Rattle.std.specs.Map.{lookup as lookup_in, remove_entry};
 ghost use Rattle.std.specs.Ordering.{nat_cmp};
 ghost use Rattle.tree_images.specs.Trees.{tree_pairs};
 ghost use Rattle.key_order.specs.Pairs.{lookup_pair};
+ghost use Rattle.store_api.specs.Calls.{RefusesOf};
 ghost use Rattle.store_api.specs.Parts.{Owns};
 ghost use Rattle.store_api.specs.Units.{MayDo};
 ghost use Rattle.attr_images.specs.Postings.{index_of};
 ghost use Rattle.attr_index.specs.Index.{list_of, without_posting};
 ghost use Rattle.attr_types.specs.Value.{type_of};
 ghost use Rattle.enum_dictionary.specs.Dictionaries.{beside};
-ghost use Rattle.posting_store.specs.Changes.{MakesWithin, RefusesSome};
-ghost use Rattle.value_index.specs.Changes.{change_most, MakesIndex};
+ghost use Rattle.posting_store.specs.Changes.{MakesWithin};
+ghost use Rattle.value_index.specs.Changes.{change_most, IsChangeWidth, MakesIndex};
 ghost use Rattle.value_index.specs.Indexes.{index_part, IsIndex};
 
 use attr_types::{Doc, Value};
@@ -42,7 +43,9 @@ fn remove_from<const OFFSET_BITS: u32, S: Store<OFFSET_BITS>>(
         (without_posting value.now doc (index_of (type_of value.now) (S.records store.old) root.entry))) }
     ensures counts { MakesWithin (S.ledger store.old) (S.ledger store.new) (change_most value.now (S.records store.old) root.entry
         (length (remove_entry (is_at (nat_cmp doc)) (list_of value.now (index_of (type_of value.now) (S.records store.old) root.entry))))) }
-    ensures refuses { IfErr result (RefusesSome (S.ledger store.old) (S.ledger store.new)) }
+    ensures refuses { IfErr result (RefusesOf (IsChangeWidth value.now
+        (length (remove_entry (is_at (nat_cmp doc)) (list_of value.now (index_of (type_of value.now) (S.records store.old) root.entry)))))
+        (S.ledger store.old) (S.ledger store.new)) }
     ensures may { MayDo (S.ledger store.old) (S.ledger store.new) }
 {
     let next = remove_posting(store, list, doc, false, 0)?;
@@ -72,7 +75,9 @@ pub fn remove<const OFFSET_BITS: u32, S: Store<OFFSET_BITS>>(
         (without_posting value.now doc (index_of (type_of value.now) (S.records store.old) root.entry))) }
     ensures counts { MakesWithin (S.ledger store.old) (S.ledger store.new) (change_most value.now (S.records store.old) root.entry
         (length (remove_entry (is_at (nat_cmp doc)) (list_of value.now (index_of (type_of value.now) (S.records store.old) root.entry))))) }
-    ensures refuses { IfErr result (RefusesSome (S.ledger store.old) (S.ledger store.new)) }
+    ensures refuses { IfErr result (RefusesOf (IsChangeWidth value.now
+        (length (remove_entry (is_at (nat_cmp doc)) (list_of value.now (index_of (type_of value.now) (S.records store.old) root.entry)))))
+        (S.ledger store.old) (S.ledger store.new)) }
     ensures may { MayDo (S.ledger store.old) (S.ledger store.new) }
 {
     match find(store, root, value) {

@@ -1,7 +1,11 @@
-use Rattle.std.proofs.Common.{◌+◌, ◌*◌, subst, ◌<◌, ℕ, length, arith, ◌∙◌}
+use Rattle.std.proofs.Common.{◌+◌, ◌*◌, subst, ◌<◌, ℕ, length, refl, arith, ◌∙◌, inl, inr}
+use Rattle.std.proofs.lemmas.Result.{err_from_is_err_and}
 use Rattle.std.proofs.Math.Nat.{pos_of_div-pos}
 use Rattle.entry_ref.specs.References.{buffer_limit}
-use Rattle.attr_documents.specs.Items.{entries_of}
+use Rattle.store_api.proofs.May.{may_do-same}
+use Rattle.posting_store.proofs.RefusalLemmas.{if_one, of_more}
+use Rattle.attr_documents.specs.Changes.{IsDocumentWidth}
+use Rattle.attr_documents.specs.Items.{entries_of, IsItemsWidth}
 use Rattle.tree_make.specs.Changes.{levels}
 use Rattle.tree_make.specs.Makes.{CountsNodes}
 use Rattle.attr_documents.proofs.CountLemmas.{counts-one, counts-both, levels-same}
@@ -71,3 +75,17 @@ returns-clause-counts g c =
     (entries_of c.args.keys.now c.args.items.now) c.in_ok-reference.ensures.makes in
     counts-both (ledger s) (ledger t) (ledger u) (1 + length c.args.items.now) (2 * levels (records s) c.args.root + 1) c.make_items.ensures.may c.make_items.ensures.counts
     (subst (λ (k : ℕ). CountsNodes (ledger t) (ledger u) (2 * k + 1)) (levels-same (records s) (records t) c.args.root nodes) c.set_reference.ensures.counts)
+
+pub returns-in_err-reference-clause-refuses : goal.returns-in_err-reference-clause-refuses
+returns-in_err-reference-clause-refuses g c =
+    let a = g.S.Store.ledger c.args.store.now in
+    let kind = c.args.kind in
+    let size = length c.args.items.now in
+    let p = err_from_is_err_and c.from_residual.result c.from_residual.ensures.1 in
+    rw (p.1, p.2) (of_more (IsItemsWidth kind size) (IsDocumentWidth kind size) a a (g.S.Store.ledger c.make_items.new.store) _ (may_do-same a) (λ w is. inr is) c.in_err-reference.ensures.refuses)
+
+pub returns-clause-refuses : goal.returns-clause-refuses
+returns-clause-refuses g c =
+    let ledger = g.S.Store.ledger in
+    if_one (IsDocumentWidth c.args.kind (length c.args.items.now)) (ledger c.args.store.now) (ledger c.make_items.new.store) (ledger c.set_reference.new.store) 34 c.set_reference.result
+    c.make_items.ensures.may refl (inl refl) c.set_reference.ensures.refuses

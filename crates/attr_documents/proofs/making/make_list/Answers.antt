@@ -1,14 +1,16 @@
 use Rattle.std.proofs.Common.{ℕ, ◌+◌, subst, length, map, ap, ◌∙◌, arith}
-use Rattle.attr_documents.specs.Items.{entries_of, word_entry}
+use Rattle.attr_documents.specs.Items.{entries_of, word_entry, IsItemsWidth}
 use Rattle.array_store.specs.Adding.{MakesOneOf}
 use Rattle.attr_images.specs.Words.{class_of}
 use Rattle.attr_documents.proofs.CountLemmas.{one-none}
 use Rattle.attr_documents.proofs.KeyLemmas.{words_length, made_list}
-use Rattle.attr_documents.proofs.RefusalLemmas.{refuses_memory}
+use Rattle.posting_store.proofs.RefusalLemmas.{if_one}
+use Rattle.array_store.proofs.ClassLemmas.{class_width}
+use Rattle.store_api.proofs.May.{may_do-same}
 use Rattle.attr_documents.proofs.making.make_list.Goals as goal
 
 pub returns-in_default-clause-refuses : goal.returns-in_default-clause-refuses
-returns-in_default-clause-refuses g c = refuses_memory (g.S.Store.ledger c.args.store.now) (g.S.Store.ledger c.args.store.now)
+returns-in_default-clause-refuses g c = tt
 
 pub add-requires : goal.add-requires
 add-requires g c =
@@ -39,3 +41,13 @@ returns-clause-counts g c =
     let are = ap (map (word_entry c.args.kind)) c.deref.ensures.value ∙ c.in-Ok.ensures in
     subst (λ (k : ℕ). MakesOneOf (class_of (1 + k)) (ledger c.args.store.now) (ledger c.add.new.store))
     (words_length c.args.kind c.deref.result.now c.args.keys.now c.args.items.now are c.requires.sized) c.add.ensures.counts
+
+pub returns-clause-refuses : goal.returns-clause-refuses
+returns-clause-refuses g c =
+    let a = g.S.Store.ledger c.args.store.now in
+    let kind = c.args.kind in
+    let size = length c.args.items.now in
+    let are = ap (map (word_entry kind)) c.deref.ensures.value ∙ c.in-Ok.ensures in
+    let same = words_length kind c.deref.result.now c.args.keys.now c.args.items.now are c.requires.sized in
+    if_one (IsItemsWidth kind size) a a (g.S.Store.ledger c.add.new.store) (class_of (1 + length c.deref.result.now)) c.add.result (may_do-same a) (class_width (1 + length c.deref.result.now))
+    (record { list = c.requires.list; some = c.requires.some; width_is = ap (λ (k : ℕ). class_of (1 + k)) same }) c.add.ensures.refuses

@@ -1,4 +1,4 @@
-use Rattle.std.proofs.Common.{◌≡◌, ℤ, List, [], ◌∷◌, Some, refl, sym, ap, subst, ◌∙◌, arith, true}
+use Rattle.std.proofs.Common.{◌≡◌, ℤ, List, [], ◌∷◌, Some, sym, ap, subst, ◌∙◌, arith, true}
 use Rattle.std.specs.Prelude.{IfOk, IfErr}
 use Rattle.store_api.specs.Parts.{Owns}
 use Rattle.store_api.specs.Units.{MayDo}
@@ -7,7 +7,9 @@ use Rattle.attr_images.specs.Documents.{column_at}
 use Rattle.attr_index.specs.Changes.{first_weights}
 use Rattle.attr_index.specs.Columns.{items_of, with_change}
 use Rattle.attr_types.specs.declared.value.Value.{Value}
-use Rattle.posting_store.specs.Changes.{RefusesSome}
+use Rattle.store_api.specs.Calls.{RefusesOf}
+use Rattle.attr_types.specs.declared.items.Item.{Item}
+use Rattle.attr_field.specs.Widths.{IsFieldWidth}
 use Rattle.attr_walks.specs.Counts.{MakesFew}
 use Rattle.attr_walks.proofs.CountLemmas.{few_none}
 use Rattle.attr_field.specs.Changes.{MakesField}
@@ -21,7 +23,7 @@ pub has_already-requires : goal.has_already-requires
 has_already-requires g c = (omega arith, (c.requires.field.documents_are, c.requires.was))
 
 pub returns-in_default-clause-refuses : goal.returns-in_default-clause-refuses
-returns-in_default-clause-refuses g c = record { width = 2; is = refl; refuses = tt }
+returns-in_default-clause-refuses g c = tt
 
 pub returns-in_default-clause-may : goal.returns-in_default-clause-may
 returns-in_default-clause-may g c =
@@ -48,7 +50,7 @@ returns-then-same-clause-may g c =
     subst (λ s. MayDo (ledger c.args.store.now) (ledger s)) (sym c.has_already.ensures.same) (may_do-same (ledger c.args.store.now))
 
 pub returns-in_default-weights_of-clause-refuses : goal.returns-in_default-weights_of-clause-refuses
-returns-in_default-weights_of-clause-refuses g c = record { width = 2; is = refl; refuses = tt }
+returns-in_default-weights_of-clause-refuses g c = tt
 
 pub returns-in_default-weights_of-clause-may : goal.returns-in_default-weights_of-clause-may
 returns-in_default-weights_of-clause-may g c =
@@ -56,7 +58,7 @@ returns-in_default-weights_of-clause-may g c =
     subst (λ s. MayDo (ledger c.args.store.now) (ledger s)) (sym c.has_already.ensures.same) (may_do-same (ledger c.args.store.now))
 
 pub returns-in_default-weights_of-2-clause-refuses : goal.returns-in_default-weights_of-2-clause-refuses
-returns-in_default-weights_of-2-clause-refuses g c = record { width = 2; is = refl; refuses = tt }
+returns-in_default-weights_of-2-clause-refuses g c = tt
 
 pub returns-in_default-weights_of-2-clause-may : goal.returns-in_default-weights_of-2-clause-may
 returns-in_default-weights_of-2-clause-may g c =
@@ -110,7 +112,17 @@ returns-clause-makes g c =
 pub returns-clause-refuses : goal.returns-clause-refuses
 returns-clause-refuses g c =
     let ledger = g.S.Store.ledger in
-    subst (λ s. IfErr c.put_weighed.result (RefusesSome (ledger s) (ledger c.put_weighed.new.store))) c.has_already.ensures.same c.put_weighed.ensures.refuses
+    let records = g.S.Frozen.records in
+    let kind = c.args.kind in
+    let type = c.args.value_type in
+    let D = c.args.roots.documents in
+    let doc = c.args.doc in
+    let items = c.args.new.now in
+    let new = ledger c.put_weighed.new.store in
+    let column = column_at kind type (records c.args.store.now) D in
+    subst (λ (old : List Item). IfErr c.put_weighed.result (RefusesOf (IsFieldWidth kind (with_change column doc (Some items)) old items) (ledger c.args.store.now) new)) (sym c.requires.was)
+    (subst (λ s. IfErr c.put_weighed.result (RefusesOf (IsFieldWidth kind (with_change (column_at kind type (records s) D) doc (Some items)) (items_of (column_at kind type (records s) D) doc) items)
+    (ledger s) new)) c.has_already.ensures.same c.put_weighed.ensures.refuses)
 
 pub returns-in_default-clause-counts : goal.returns-in_default-clause-counts
 returns-in_default-clause-counts g c =

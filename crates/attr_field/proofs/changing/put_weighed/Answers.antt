@@ -1,12 +1,16 @@
-use Rattle.std.proofs.Common.{◌*◌, ◌^◌, ◌<◌, length, None, Some, sym, subst, ◌∙◌, arith}
+use Rattle.std.proofs.Common.{◌*◌, ◌^◌, ◌<◌, length, None, Some, sym, subst, ◌∙◌, arith, inl}
 use Rattle.std.proofs.lemmas.Result.{err_from_is_err_and}
-use Rattle.store_api.proofs.May.{may_do-then}
+use Rattle.store_api.proofs.May.{may_do-same, may_do-then}
 use Rattle.attr_images.specs.Documents.{column_at}
 use Rattle.attr_images.specs.Postings.{index_of}
 use Rattle.attr_index.specs.Changes.{IsBetween}
 use Rattle.attr_index.specs.Columns.{Column, items_of, with_change}
 use Rattle.attr_index.specs.Index.{Index, IsIndexOf}
-use Rattle.attr_walks.proofs.KeyLemmas.{refuses_after}
+use Rattle.attr_documents.specs.Changes.{IsDocumentWidth}
+use Rattle.attr_walks.specs.Widths.{IsWalkWidth}
+use Rattle.posting_store.proofs.RefusalLemmas.{of_more}
+use Rattle.attr_field.specs.Widths.{IsFieldWidth}
+use Rattle.attr_field.proofs.WidthLemmas.{added_width, removed_width}
 use Rattle.attr_field.proofs.ChangeLemmas.{weights, field_stands, has_before, has_middle, index_ends, step_ends, steps_then}
 use Rattle.attr_field.proofs.CountLemmas.{counts_first, counts_two, counts_three, low_one, low_two, low_three}
 use Rattle.attr_field.proofs.SizeLemmas.{adds_low, removes_low}
@@ -41,7 +45,27 @@ pub returns-in_err-added-clause-makes : goal.returns-in_err-added-clause-makes
 returns-in_err-added-clause-makes g c = let p = err_from_is_err_and c.from_residual.result c.from_residual.ensures.1 in rw p.1 tt
 
 pub returns-in_err-added-clause-refuses : goal.returns-in_err-added-clause-refuses
-returns-in_err-added-clause-refuses g c = let p = err_from_is_err_and c.from_residual.result c.from_residual.ensures.1 in rw (p.1, p.2) c.in_err-added.ensures.refuses
+returns-in_err-added-clause-refuses g c =
+    let ledger = g.S.Store.ledger in
+    let records = g.S.Frozen.records in
+    let a = ledger c.args.store.now in
+    let k = records c.args.store.now in
+    let kind = c.args.kind in
+    let type = c.args.value_type in
+    let D = c.args.roots.documents in
+    let I = c.args.roots.dictionary in
+    let doc = c.args.doc in
+    let column = column_at kind type k D in
+    let start = index_of type k I in
+    let up = (c.documents_law.ensures.lawful kind type k D c.requires.field.documents_are).2.ascends in
+    let of = c.requires.field.index_of_documents in
+    let items = c.args.items.now in
+    let old = c.args.old.now.entries in
+    let new = c.args.new.now.entries in
+    let among = IsFieldWidth kind (with_change column doc (Some items)) (items_of column doc) items in
+    let p = err_from_is_err_and c.from_residual.result c.from_residual.ensures.1 in
+    rw (p.1, p.2) (of_more (IsWalkWidth start doc (weights new) (λ v. None)) among a a (ledger c.add_values.new.store) _ (may_do-same a)
+    (added_width kind column start doc (Some items) up of old new c.requires.before c.requires.after) c.in_err-added.ensures.refuses)
 
 pub returns-in_err-added-clause-may : goal.returns-in_err-added-clause-may
 returns-in_err-added-clause-may g c = c.add_values.ensures.may
@@ -72,8 +96,25 @@ returns-in_err-documents-clause-makes g c =
 pub returns-in_err-documents-clause-refuses : goal.returns-in_err-documents-clause-refuses
 returns-in_err-documents-clause-refuses g c =
     let ledger = g.S.Store.ledger in
+    let records = g.S.Frozen.records in
+    let a = ledger c.args.store.now in
+    let k = records c.args.store.now in
+    let kind = c.args.kind in
+    let type = c.args.value_type in
+    let D = c.args.roots.documents in
+    let I = c.args.roots.dictionary in
+    let doc = c.args.doc in
+    let column = column_at kind type k D in
+    let start = index_of type k I in
+    let up = (c.documents_law.ensures.lawful kind type k D c.requires.field.documents_are).2.ascends in
+    let of = c.requires.field.index_of_documents in
+    let items = c.args.items.now in
+    let old = c.args.old.now.entries in
+    let new = c.args.new.now.entries in
+    let among = IsFieldWidth kind (with_change column doc (Some items)) (items_of column doc) items in
     let p = err_from_is_err_and c.from_residual-in_err-documents.result c.from_residual-in_err-documents.ensures.1 in
-    rw (p.1, p.2) (refuses_after (ledger c.args.store.now) (ledger c.add_values.new.store) (ledger c.set_items.new.store) _ c.add_values.ensures.may c.in_err-documents.ensures.refuses)
+    rw (p.1, p.2) (of_more (IsDocumentWidth kind (length items)) among a (ledger c.add_values.new.store) (ledger c.set_items.new.store) _ c.add_values.ensures.may (λ w is. inl is)
+    c.in_err-documents.ensures.refuses)
 
 pub returns-in_err-documents-clause-may : goal.returns-in_err-documents-clause-may
 returns-in_err-documents-clause-may g c =
@@ -126,9 +167,29 @@ returns-in_err-dictionary-clause-makes g c =
 pub returns-in_err-dictionary-clause-refuses : goal.returns-in_err-dictionary-clause-refuses
 returns-in_err-dictionary-clause-refuses g c =
     let ledger = g.S.Store.ledger in
+    let records = g.S.Frozen.records in
+    let a = ledger c.args.store.now in
+    let k = records c.args.store.now in
+    let kind = c.args.kind in
+    let type = c.args.value_type in
+    let D = c.args.roots.documents in
+    let I = c.args.roots.dictionary in
+    let doc = c.args.doc in
+    let column = column_at kind type k D in
+    let start = index_of type k I in
+    let up = (c.documents_law.ensures.lawful kind type k D c.requires.field.documents_are).2.ascends in
+    let of = c.requires.field.index_of_documents in
+    let items = c.args.items.now in
+    let old = c.args.old.now.entries in
+    let new = c.args.new.now.entries in
+    let among = IsFieldWidth kind (with_change column doc (Some items)) (items_of column doc) items in
+    let n = records c.set_items.new.store in
+    let root = c.in_ok-added.added in
+    let between = subst (λ (i : Index). IsBetween start doc (weights new) (λ v. None) i) (sym c.in_ok-documents.ensures.index) c.in_ok-added.ensures.between in
+    let may = may_do-then a (ledger c.add_values.new.store) (ledger c.set_items.new.store) c.add_values.ensures.may c.set_items.ensures.may in
     let p = err_from_is_err_and c.from_residual-in_err-dictionary.result c.from_residual-in_err-dictionary.ensures.1 in
-    let may = may_do-then (ledger c.args.store.now) (ledger c.add_values.new.store) (ledger c.set_items.new.store) c.add_values.ensures.may c.set_items.ensures.may in
-    rw (p.1, p.2) (refuses_after (ledger c.args.store.now) (ledger c.set_items.new.store) (ledger c.remove_values.new.store) _ may c.in_err-dictionary.ensures.refuses)
+    rw (p.1, p.2) (of_more (IsWalkWidth (index_of type n root) doc (weights new) (weights old)) among a (ledger c.set_items.new.store) (ledger c.remove_values.new.store) _ may
+    (removed_width kind column start doc (Some items) up of old new c.requires.before c.requires.after (index_of type n root) between) c.in_err-dictionary.ensures.refuses)
 
 pub returns-in_err-dictionary-clause-may : goal.returns-in_err-dictionary-clause-may
 returns-in_err-dictionary-clause-may g c =

@@ -1,5 +1,11 @@
-use Rattle.std.proofs.Common.{ℤ, List, [], refl, ap, subst, ◌∙◌, arith}
+use Rattle.std.proofs.Common.{ℤ, List, [], None, sym, ap, subst, ◌∙◌, arith}
+use Rattle.std.specs.Prelude.{IfErr}
+use Rattle.store_api.specs.Calls.{RefusesOf}
 use Rattle.store_api.proofs.May.{may_do-same}
+use Rattle.attr_images.specs.Documents.{column_at}
+use Rattle.attr_index.specs.Columns.{with_change}
+use Rattle.attr_types.specs.declared.items.Item.{Item}
+use Rattle.attr_field.specs.Widths.{IsFieldWidth}
 use Rattle.attr_index.specs.Changes.{first_weights}
 use Rattle.attr_types.specs.declared.value.Value.{Value}
 use Rattle.attr_walks.specs.Counts.{MakesFew}
@@ -8,7 +14,7 @@ use Rattle.attr_field.specs.Counts.{field_nodes, field_records, low_nodes}
 use Rattle.attr_field.proofs.changing.remove.Goals as goal
 
 pub returns-in_default-clause-refuses : goal.returns-in_default-clause-refuses
-returns-in_default-clause-refuses g c = record { width = 2; is = refl; refuses = tt }
+returns-in_default-clause-refuses g c = tt
 
 pub returns-in_default-clause-may : goal.returns-in_default-clause-may
 returns-in_default-clause-may g c = may_do-same (g.S.Store.ledger c.args.store.now)
@@ -38,7 +44,12 @@ pub returns-clause-makes : goal.returns-clause-makes
 returns-clause-makes g c = c.remove_weighed.ensures.makes
 
 pub returns-clause-refuses : goal.returns-clause-refuses
-returns-clause-refuses g c = c.remove_weighed.ensures.refuses
+returns-clause-refuses g c =
+    let ledger = g.S.Store.ledger in
+    let kind = c.args.kind in
+    let column = column_at kind c.args.value_type (g.S.Frozen.records c.args.store.now) c.args.roots.documents in
+    subst (λ (old : List Item). IfErr c.remove_weighed.result (RefusesOf (IsFieldWidth kind (with_change column c.args.doc None) old []) (ledger c.args.store.now) (ledger c.remove_weighed.new.store)))
+    (sym c.requires.was) c.remove_weighed.ensures.refuses
 
 pub returns-in_default-clause-counts : goal.returns-in_default-clause-counts
 returns-in_default-clause-counts g c = few_none (g.S.Store.ledger c.args.store.now) (field_nodes (first_weights [] c.args.old.now) []) (field_records (first_weights [] c.args.old.now) [])

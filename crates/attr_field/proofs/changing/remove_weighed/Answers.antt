@@ -1,13 +1,16 @@
-use Rattle.std.proofs.Common.{◌*◌, ◌^◌, ◌<◌, ℤ, List, length, None, sym, subst, ◌∙◌, arith}
+use Rattle.std.proofs.Common.{◌*◌, ◌^◌, ◌<◌, ℤ, List, [], length, None, refl, sym, subst, ◌∙◌, arith, inl}
 use Rattle.std.proofs.lemmas.Result.{err_from_is_err_and}
-use Rattle.store_api.proofs.May.{may_do-then}
+use Rattle.store_api.proofs.May.{may_do-same, may_do-then}
 use Rattle.attr_images.specs.Documents.{column_at}
 use Rattle.attr_images.specs.Postings.{index_of}
 use Rattle.attr_index.specs.Changes.{IsBetween}
 use Rattle.attr_index.specs.Columns.{Column, items_of, with_change}
 use Rattle.attr_index.specs.Index.{Index, IsIndexOf}
 use Rattle.attr_types.specs.declared.value.Value.{Value}
-use Rattle.attr_walks.proofs.KeyLemmas.{refuses_after}
+use Rattle.attr_walks.specs.Widths.{IsWalkWidth}
+use Rattle.posting_store.proofs.RefusalLemmas.{of_more, of_one}
+use Rattle.attr_field.specs.Widths.{IsFieldWidth}
+use Rattle.attr_field.proofs.WidthLemmas.{removed_width}
 use Rattle.attr_field.proofs.ChangeLemmas.{weights, field_stands, has_middle, index_ends, none_added, step_ends}
 use Rattle.attr_field.proofs.CountLemmas.{counts_entry, counts_taken, low_gone, low_out}
 use Rattle.attr_field.proofs.SizeLemmas.{removes_low}
@@ -31,7 +34,23 @@ returns-in_err-documents-clause-makes g c = let p = err_from_is_err_and c.from_r
 
 pub returns-in_err-documents-clause-refuses : goal.returns-in_err-documents-clause-refuses
 returns-in_err-documents-clause-refuses g c =
-    let p = err_from_is_err_and c.from_residual.result c.from_residual.ensures.1 in rw (p.1, p.2) c.in_err-documents.ensures.refuses
+    let ledger = g.S.Store.ledger in
+    let records = g.S.Frozen.records in
+    let a = ledger c.args.store.now in
+    let k = records c.args.store.now in
+    let kind = c.args.kind in
+    let type = c.args.value_type in
+    let D = c.args.roots.documents in
+    let I = c.args.roots.dictionary in
+    let doc = c.args.doc in
+    let column = column_at kind type k D in
+    let start = index_of type k I in
+    let up = (c.documents_law.ensures.lawful kind type k D c.requires.field.documents_are).2.ascends in
+    let of = c.requires.field.index_of_documents in
+    let old = c.args.old.now.entries in
+    let among = IsFieldWidth kind (with_change column doc None) (items_of column doc) [] in
+    let p = err_from_is_err_and c.from_residual.result c.from_residual.ensures.1 in
+    rw (p.1, p.2) (of_one among a a (ledger c.take_out.new.store) 34 _ (may_do-same a) refl (inl (inl refl)) c.in_err-documents.ensures.refuses)
 
 pub returns-in_err-documents-clause-may : goal.returns-in_err-documents-clause-may
 returns-in_err-documents-clause-may g c = c.take_out.ensures.may
@@ -77,8 +96,27 @@ returns-in_err-dictionary-clause-makes g c =
 pub returns-in_err-dictionary-clause-refuses : goal.returns-in_err-dictionary-clause-refuses
 returns-in_err-dictionary-clause-refuses g c =
     let ledger = g.S.Store.ledger in
+    let records = g.S.Frozen.records in
+    let a = ledger c.args.store.now in
+    let k = records c.args.store.now in
+    let kind = c.args.kind in
+    let type = c.args.value_type in
+    let D = c.args.roots.documents in
+    let I = c.args.roots.dictionary in
+    let doc = c.args.doc in
+    let column = column_at kind type k D in
+    let start = index_of type k I in
+    let up = (c.documents_law.ensures.lawful kind type k D c.requires.field.documents_are).2.ascends in
+    let of = c.requires.field.index_of_documents in
+    let old = c.args.old.now.entries in
+    let among = IsFieldWidth kind (with_change column doc None) (items_of column doc) [] in
+    let m = records c.take_out.new.store in
+    let new = c.no_weights-none.result.entries in
+    let between = subst (λ (i : Index). IsBetween start doc (weights new) (λ v. None) i) (sym c.in_ok-documents.ensures.index)
+    (subst (λ (es : List (Value × ℤ)). IsBetween start doc (weights es) (λ v. None) start) (sym c.no_weights-none.ensures) (none_added kind type a k D I doc c.requires.field)) in
     let p = err_from_is_err_and c.from_residual-in_err-dictionary.result c.from_residual-in_err-dictionary.ensures.1 in
-    rw (p.1, p.2) (refuses_after (ledger c.args.store.now) (ledger c.take_out.new.store) (ledger c.remove_values.new.store) _ c.take_out.ensures.may c.in_err-dictionary.ensures.refuses)
+    rw (p.1, p.2) (of_more (IsWalkWidth (index_of type m I) doc (weights new) (weights old)) among a (ledger c.take_out.new.store) (ledger c.remove_values.new.store) _ c.take_out.ensures.may
+    (removed_width kind column start doc None up of old new c.requires.before c.no_weights-none.ensures (index_of type m I) between) c.in_err-dictionary.ensures.refuses)
 
 pub returns-in_err-dictionary-clause-may : goal.returns-in_err-dictionary-clause-may
 returns-in_err-dictionary-clause-may g c =

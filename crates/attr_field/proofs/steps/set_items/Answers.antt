@@ -3,12 +3,12 @@ use Rattle.std.specs.List.{AllByRecursion}
 use Rattle.store_api.specs.Parts.{Owns}
 use Rattle.store_api.specs.Units.{MayDo}
 use Rattle.store_api.proofs.May.{may_do-same}
-use Rattle.attr_documents.specs.Changes.{AreBeside, AreKeysOf, MakesDocuments}
+use Rattle.attr_documents.specs.Changes.{AreBeside, AreKeysOf, IsDocumentWidth, MakesDocuments}
 use Rattle.attr_documents.specs.Documents.{documents_part, documents_refer, IsDocuments}
 use Rattle.attr_images.specs.Documents.{column_at}
 use Rattle.attr_images.specs.Postings.{index_of}
 use Rattle.attr_index.specs.Columns.{with_change}
-use Rattle.posting_store.specs.Changes.{RefusesSome}
+use Rattle.store_api.specs.Calls.{RefusesOf}
 use Rattle.attr_walks.specs.Counts.{MakesFew}
 use Rattle.tree_make.specs.Changes.{levels as levels_of}
 use Rattle.value_index.specs.Indexes.{IsKey}
@@ -23,7 +23,7 @@ pub keys_of-requires : goal.keys_of-requires
 keys_of-requires g c = (omega arith, (c.requires.stands.index_is, (c.requires.fits.1, c.requires.listed)))
 
 pub returns-in_default-clause-refuses : goal.returns-in_default-clause-refuses
-returns-in_default-clause-refuses g c = record { width = 2; is = refl; refuses = tt }
+returns-in_default-clause-refuses g c = tt
 
 pub returns-in_default-clause-may : goal.returns-in_default-clause-may
 returns-in_default-clause-may g c =
@@ -116,7 +116,7 @@ returns-clause-index g c =
 pub returns-clause-refuses : goal.returns-clause-refuses
 returns-clause-refuses g c =
     let ledger = g.S.Store.ledger in
-    subst (λ s. Rattle.std.specs.Prelude.IfErr c.set_document.result (RefusesSome (ledger s) (ledger c.set_document.new.store))) c.keys_of.ensures.same c.set_document.ensures.refuses
+    subst (λ s. Rattle.std.specs.Prelude.IfErr c.set_document.result (RefusesOf (IsDocumentWidth c.args.kind (length c.args.items.now)) (ledger s) (ledger c.set_document.new.store))) c.keys_of.ensures.same c.set_document.ensures.refuses
 
 pub returns-in_default-clause-counts : goal.returns-in_default-clause-counts
 returns-in_default-clause-counts g c =

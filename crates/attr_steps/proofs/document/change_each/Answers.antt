@@ -4,14 +4,18 @@ use Rattle.std.proofs.lemmas.Result.{err_from_is_err_and}
 use Rattle.std.specs.Option.{option_copied, unwrap_or}
 use Rattle.attr_field.specs.Counts.{StaysLow}
 use Rattle.attr_index.specs.Changes.{first_weights}
-use Rattle.attr_index.specs.Columns.{Column}
+use Rattle.attr_field.specs.Widths.{IsFieldWidth}
+use Rattle.attr_images.specs.Documents.{column_at}
+use Rattle.attr_index.specs.Columns.{Column, with_change}
+use Rattle.posting_store.proofs.RefusalLemmas.{of_more}
 use Rattle.attr_steps.specs.Fields.{table_with, trees_of}
 use Rattle.attr_steps.specs.Views.{table_at}
+use Rattle.attr_steps.specs.Widths.{IsChangedWidth}
 use Rattle.attr_steps.proofs.TreeLists.{set_length}
 use Rattle.attr_steps.proofs.Columns.{trees_sound}
 use Rattle.attr_steps.proofs.Flowing.{words_kept}
 use Rattle.attr_steps.proofs.Walk.{IsPartway, way_begins, way_ends}
-use Rattle.attr_steps.proofs.FieldSteps.{column_is, laws_of, found_size, fit_size, can_change, way_on, refuses_after}
+use Rattle.attr_steps.proofs.FieldSteps.{column_is, laws_of, found_size, fit_size, can_change, changed_width, way_on}
 use Rattle.attr_steps.proofs.CountLemmas.{counts_on, counts_all, makes_none}
 use Rattle.attr_steps.proofs.document.change_each.Goals as goal
 
@@ -89,8 +93,30 @@ returns-in_err-roots-clause-counts g c =
 
 pub returns-in_err-roots-clause-refuses : goal.returns-in_err-roots-clause-refuses
 returns-in_err-roots-clause-refuses g c =
+    let ledger = g.S.Store.ledger in
+    let records = g.S.Frozen.records in
+    let begun = ledger c.args.store.now in
+    let now = ledger c.loop-i.store in
+    let k = records c.args.store.now in
+    let m = records c.loop-i.store in
+    let fields = c.args.fields.now in
+    let doc = c.args.doc in
+    let i = c.loop-i.i in
+    let old = option_copied c.args.old in
+    let new = option_copied c.args.new in
+    let field = c.index-fields-i.result in
+    let root = c.index-roots-i.result in
+    let before = c.items_before-before.result.now in
+    let after = option_copied c.items_after-after.result in
+    let below = c.loop-i-test.true in
+    let same = c.loop-i.invariant.sized in
+    let sound = trees_sound k (laws_of c.field_law.ensures.stays c.field_law.ensures.lawful c.field_law.ensures.keys) fields c.args.roots.now c.requires.sized c.requires.fields in
     let p = err_from_is_err_and c.from_residual.result c.from_residual.ensures.1 in
-    rw (p.1, p.2) (refuses_after (g.S.Store.ledger c.args.store.now) (g.S.Store.ledger c.loop-i.store) (g.S.Store.ledger c.change_field.new.store) _ c.loop-i.invariant.may c.in_err-roots.ensures.refuses)
+    rw (p.1, p.2) (of_more (IsFieldWidth field.kind (with_change (column_at field.kind field.value m root.documents) doc after) before (unwrap_or after []))
+    (IsChangedWidth fields (table_with (table_at k (trees_of fields c.args.roots.now)) doc new) old new) begun now (ledger c.change_field.new.store) _ c.loop-i.invariant.may
+    (changed_width begun now k m fields c.args.roots.now c.loop-i.roots doc i old new field root c.loop-i.invariant.way
+    (slice_get_read fields (length fields) i field refl below c.index-fields-i.is) (slice_get_read c.loop-i.roots (length fields) i root (sym same) below c.index-roots-i.is)
+    sound before after c.items_before-before.ensures c.items_after-after.ensures) c.in_err-roots.ensures.refuses)
 
 pub returns-in_err-roots-clause-may : goal.returns-in_err-roots-clause-may
 returns-in_err-roots-clause-may g c = c.may_do_law.ensures.then c.args.store.now c.loop-i.store c.change_field.new.store c.loop-i.invariant.may c.change_field.ensures.may

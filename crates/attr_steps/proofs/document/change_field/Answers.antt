@@ -11,3 +11,9 @@ returns-in-Some-clause-low g c = rw c.in-Some.is c.put.ensures.low
 
 pub returns-in-None-clause-low : goal.returns-in-None-clause-low
 returns-in-None-clause-low g c = rw c.in-None.is c.remove.ensures.low
+
+pub returns-in-Some-clause-refuses : goal.returns-in-Some-clause-refuses
+returns-in-Some-clause-refuses g c = rw c.in-Some.is c.put.ensures.refuses
+
+pub returns-in-None-clause-refuses : goal.returns-in-None-clause-refuses
+returns-in-None-clause-refuses g c = rw c.in-None.is c.remove.ensures.refuses

@@ -2,10 +2,11 @@ use Rattle.std.proofs.Common.{Some, arith, refl, length}
 use Rattle.std.proofs.lemmas.Result.{err_from_is_err_and}
 use Rattle.std.specs.Option.{option_copied}
 use Rattle.attr_types.specs.declared.op.Op.TheVariants.{Put}
+use Rattle.attr_types.specs.Table.{with_document}
 use Rattle.attr_steps.specs.Counts.{SparesAtMost, document_nodes, document_records, MakesDocument}
 use Rattle.attr_steps.specs.Fields.{trees_of}
 use Rattle.attr_steps.specs.Views.{table_at}
-use Rattle.attr_steps.proofs.AfterLemmas.{of_operation, put_after}
+use Rattle.attr_steps.proofs.AfterLemmas.{of_operation, width_after, put_after}
 use Rattle.attr_steps.proofs.StepLemmas.{document_fits_fields, made_step}
 use Rattle.attr_steps.proofs.operation.put_document.Goals as goal
 
@@ -76,3 +77,10 @@ returns-clause-counts g c =
     let table = table_at (g.S.Frozen.records c.args.store.now) (trees_of fields c.args.roots.now) in
     of_operation fields table (Put c.args.doc c.args.items.now) (option_copied c.args.old) (Some c.args.items.now) c.requires.there (put_after fields table c.args.doc c.args.items.now)
     (λ was is. MakesDocument (g.S.Store.ledger c.args.store.now) (g.S.Store.ledger c.change_unit.new.store) table was is (length fields)) c.change_unit.ensures.counts
+
+pub returns-in_err-next-clause-widths : goal.returns-in_err-next-clause-widths
+returns-in_err-next-clause-widths g c =
+    let fields = c.args.fields.now in
+    let table = table_at (g.S.Frozen.records c.args.store.now) (trees_of fields c.args.roots.now) in
+    let widths = width_after fields table (Put c.args.doc c.args.items.now) (option_copied c.args.old) (Some c.args.items.now) c.requires.there (put_after fields table c.args.doc c.args.items.now) (with_document table c.args.doc c.args.items.now) c.in_err-next.field-0.0 refl c.in_err-next.ensures.widths in
+    let p = err_from_is_err_and c.from_residual.result c.from_residual.ensures.1 in rw (p.1, p.2) widths

@@ -2,13 +2,14 @@ use Rattle.std.proofs.Common.{None, arith, refl, rules, length}
 use Rattle.std.proofs.lemmas.Result.{err_from_is_err_and}
 use Rattle.std.specs.Option.{option_copied}
 use Rattle.attr_types.specs.declared.op.Op.TheVariants.{Remove}
+use Rattle.attr_types.specs.Table.{without_document}
 use Rattle.attr_steps.specs.Counts.{SparesAtMost, document_after, document_before, document_nodes, document_records, MakesDocument}
 use Rattle.attr_steps.specs.Fields.{trees_of}
 use Rattle.attr_steps.specs.Views.{table_at}
 use Rattle.attr_steps.proofs.Columns.{trees_sound}
 use Rattle.attr_steps.proofs.FieldSteps.{laws_of}
 use Rattle.attr_steps.proofs.CountLemmas.{makes_none}
-use Rattle.attr_steps.proofs.AfterLemmas.{of_operation, without_after}
+use Rattle.attr_steps.proofs.AfterLemmas.{of_operation, width_after, without_after}
 use Rattle.attr_steps.proofs.StepLemmas.{remove_made, remove_skipped, made_step, keeps_same}
 use Rattle.attr_steps.proofs.operation.remove_document.Goals as goal
 
@@ -79,3 +80,12 @@ returns-clause-counts g c =
     let after = without_after fields table (Remove c.args.doc) c.args.doc sound (remove_made fields table c.args.doc (option_copied c.args.old) c.requires.there (search rules)) in
     of_operation fields table (Remove c.args.doc) (option_copied c.args.old) None c.requires.there after
     (λ was is. MakesDocument (g.S.Store.ledger c.args.store.now) (g.S.Store.ledger c.change_unit.new.store) table was is (length fields)) c.change_unit.ensures.counts
+
+pub returns-in_err-next-clause-widths : goal.returns-in_err-next-clause-widths
+returns-in_err-next-clause-widths g c =
+    let fields = c.args.fields.now in
+    let table = table_at (g.S.Frozen.records c.args.store.now) (trees_of fields c.args.roots.now) in
+    let sound = trees_sound (g.S.Frozen.records c.args.store.now) (laws_of c.field_law.ensures.stays c.field_law.ensures.lawful c.field_law.ensures.keys) fields c.args.roots.now c.requires.sized c.requires.fields in
+    let after = without_after fields table (Remove c.args.doc) c.args.doc sound (remove_made fields table c.args.doc (option_copied c.args.old) c.requires.there (search rules)) in
+    let widths = width_after fields table (Remove c.args.doc) (option_copied c.args.old) None c.requires.there after (without_document table c.args.doc) c.in_err-next.field-0.0 (remove_made fields table c.args.doc (option_copied c.args.old) c.requires.there (search rules)) c.in_err-next.ensures.widths in
+    let p = err_from_is_err_and c.from_residual.result c.from_residual.ensures.1 in rw (p.1, p.2) widths

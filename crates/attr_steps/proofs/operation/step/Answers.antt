@@ -10,6 +10,7 @@ use Rattle.attr_steps.specs.Counts.{MakesOperation, SparesOperation, document_af
 use Rattle.attr_steps.specs.Fields.{AreFields, OwnsFields, trees_of}
 use Rattle.attr_steps.specs.Steps.{Stepped, RefusedStep}
 use Rattle.attr_steps.specs.Views.{table_at}
+use Rattle.attr_steps.specs.Widths.{IsFullAmong, IsOperationWidth}
 use Rattle.attr_steps.proofs.CountLemmas.{makes_none}
 use Rattle.attr_steps.proofs.StepLemmas.{keeps_same, leaves_same}
 use Rattle.attr_steps.proofs.operation.step.Goals as goal
@@ -220,3 +221,31 @@ returns-clause-spares g c =
     let old = c.args.store.now in
     let here = subst (λ f. IfErr c.remove_document.result (SparesOperation (ledger new) fields (table_at (records f) trees) (Remove c.doc-doc.result))) c.read_document.ensures.same c.remove_document.ensures.spares in
     subst (λ o. IfErr c.remove_document.result (SparesOperation (ledger new) fields (table_at (records old) trees) o)) (ap Remove (c.doc-doc.ensures.doc ∙ ap op_doc c.in-Remove.is) ∙ sym c.in-Remove.is) here
+
+pub returns-in-Put-clause-widths : goal.returns-in-Put-clause-widths
+returns-in-Put-clause-widths g c =
+    let records = g.S.Frozen.records in
+    let fields = c.args.fields.now in
+    let trees = trees_of fields c.args.roots.now in
+    let old = c.args.store.now in
+    let here = subst (λ f. IfErr c.put_document.result (IsFullAmong (IsOperationWidth fields (table_at (records f) trees) (Put c.doc-doc.result c.in-Put.items)))) c.read_document.ensures.same c.put_document.ensures.widths in
+    subst (λ o. IfErr c.put_document.result (IsFullAmong (IsOperationWidth fields (table_at (records old) trees) o))) (ap (λ d. Put d c.in-Put.items) (c.doc-doc.ensures.doc ∙ ap op_doc c.in-Put.is) ∙ sym c.in-Put.is) here
+
+pub returns-in-Update-clause-widths : goal.returns-in-Update-clause-widths
+returns-in-Update-clause-widths g c =
+    let records = g.S.Frozen.records in
+    let fields = c.args.fields.now in
+    let trees = trees_of fields c.args.roots.now in
+    let old = c.args.store.now in
+    let here = subst (λ f. IfErr c.update_document.result (IsFullAmong (IsOperationWidth fields (table_at (records f) trees) (Update c.doc-doc.result c.in-Update.create c.as_slice.result.now)))) c.read_document.ensures.same c.update_document.ensures.widths in
+    subst (λ o. IfErr c.update_document.result (IsFullAmong (IsOperationWidth fields (table_at (records old) trees) o))) (ap (λ changes. Update c.doc-doc.result c.in-Update.create changes) c.as_slice.ensures
+    ∙ ap (λ d. Update d c.in-Update.create c.in-Update.change) (c.doc-doc.ensures.doc ∙ ap op_doc c.in-Update.is) ∙ sym c.in-Update.is) here
+
+pub returns-clause-widths : goal.returns-clause-widths
+returns-clause-widths g c =
+    let records = g.S.Frozen.records in
+    let fields = c.args.fields.now in
+    let trees = trees_of fields c.args.roots.now in
+    let old = c.args.store.now in
+    let here = subst (λ f. IfErr c.remove_document.result (IsFullAmong (IsOperationWidth fields (table_at (records f) trees) (Remove c.doc-doc.result)))) c.read_document.ensures.same c.remove_document.ensures.widths in
+    subst (λ o. IfErr c.remove_document.result (IsFullAmong (IsOperationWidth fields (table_at (records old) trees) o))) (ap Remove (c.doc-doc.ensures.doc ∙ ap op_doc c.in-Remove.is) ∙ sym c.in-Remove.is) here

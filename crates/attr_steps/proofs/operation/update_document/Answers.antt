@@ -2,13 +2,14 @@ use Rattle.std.proofs.Common.{Some, sym, ◌∙◌, arith, refl, length}
 use Rattle.std.proofs.lemmas.Result.{err_from_is_err_and}
 use Rattle.std.specs.Option.{option_copied}
 use Rattle.attr_types.specs.declared.op.Op.TheVariants.{Update}
+use Rattle.attr_types.specs.Table.{with_document}
 use Rattle.attr_steps.specs.Counts.{SparesAtMost, document_after, document_before, document_nodes, document_records, MakesDocument}
 use Rattle.attr_steps.specs.Fields.{trees_of}
 use Rattle.attr_steps.specs.Views.{table_at}
 use Rattle.attr_steps.proofs.Columns.{trees_sound}
 use Rattle.attr_steps.proofs.FieldSteps.{laws_of}
 use Rattle.attr_steps.proofs.CountLemmas.{makes_none}
-use Rattle.attr_steps.proofs.AfterLemmas.{of_operation, with_after}
+use Rattle.attr_steps.proofs.AfterLemmas.{of_operation, width_after, with_after}
 use Rattle.attr_steps.proofs.StepLemmas.{found_lawful, update_made, update_skipped, made_step, keeps_same, leaves_same}
 use Rattle.attr_steps.proofs.operation.update_document.Goals as goal
 
@@ -110,3 +111,13 @@ returns-clause-counts g c =
     let after = with_after fields table (Update c.args.doc c.args.create c.args.changes.now) c.args.doc c.in-Some.document made.1 in
     of_operation fields table (Update c.args.doc c.args.create c.args.changes.now) (option_copied c.args.old) (Some c.in-Some.document) c.requires.there after
     (λ was is. MakesDocument (g.S.Store.ledger c.args.store.now) (g.S.Store.ledger c.change_unit.new.store) table was is (length fields)) c.change_unit.ensures.counts
+
+pub returns-in_err-next-clause-widths : goal.returns-in_err-next-clause-widths
+returns-in_err-next-clause-widths g c =
+    let fields = c.args.fields.now in
+    let table = table_at (g.S.Frozen.records c.args.store.now) (trees_of fields c.args.roots.now) in
+    let sound = trees_sound (g.S.Frozen.records c.args.store.now) (laws_of c.field_law.ensures.stays c.field_law.ensures.lawful c.field_law.ensures.keys) fields c.args.roots.now c.requires.sized c.requires.fields in
+    let made = update_made fields table c.args.doc c.args.create c.args.changes.now (option_copied c.args.old) c.in-Some.document sound c.requires.fits c.requires.there (sym c.in-Some.is ∙ c.in-Ok.ensures) in
+    let after = with_after fields table (Update c.args.doc c.args.create c.args.changes.now) c.args.doc c.in-Some.document made.1 in
+    let widths = width_after fields table (Update c.args.doc c.args.create c.args.changes.now) (option_copied c.args.old) (Some c.in-Some.document) c.requires.there after (with_document table c.args.doc c.in-Some.document) c.in_err-next.field-0.0 made.1 c.in_err-next.ensures.widths in
+    let p = err_from_is_err_and c.from_residual.result c.from_residual.ensures.1 in rw (p.1, p.2) widths

@@ -1,14 +1,16 @@
-use Rattle.std.proofs.Common.{◌≡◌, length, sym, ap, subst, ◌∙◌, arith}
+use Rattle.image_base.specs.Records.{Records}
+use Rattle.std.proofs.Common.{◌≡◌, ℕ, length, sym, ap, subst, ◌∙◌, arith}
 use Rattle.std.specs.Option.{option_copied}
 use Rattle.store_api.specs.Units.{MayDo}
-use Rattle.posting_store.specs.Changes.{RefusesSome}
+use Rattle.store_api.specs.Calls.{RefusesOf}
 use Rattle.attr_types.specs.Table.{document_at}
 use Rattle.attr_steps.specs.Counts.{document_nodes, document_records, MakesDocument}
-use Rattle.attr_steps.specs.Fields.{AreFields, trees_of}
+use Rattle.attr_steps.specs.Fields.{AreFields, table_with, trees_of}
 use Rattle.attr_steps.specs.Views.{table_at}
+use Rattle.attr_steps.specs.Widths.{IsChangedWidth, IsFullAmong}
 use Rattle.attr_steps.proofs.FieldSteps.{laws_of}
-use Rattle.attr_steps.proofs.CountLemmas.{document_unit, spares_unit}
-use Rattle.attr_steps.proofs.Units.{begun_owns, unit_changes, left_unit, refused_unit, keeps_unit}
+use Rattle.attr_steps.proofs.CountLemmas.{document_unit, spares_among}
+use Rattle.attr_steps.proofs.Units.{begun_owns, unit_changes, left_unit, refused_among, full_among, keeps_unit}
 use Rattle.attr_steps.proofs.unit.change_unit.Goals as goal
 
 pub begin-requires : goal.begin-requires
@@ -94,8 +96,9 @@ pub returns-in-Err-clause-refused : goal.returns-in-Err-clause-refused
 returns-in-Err-clause-refused g c =
     let ledger = g.S.Store.ledger in
     let mid = ledger c.change_document.new.store in
-    refused_unit (ledger c.args.store.now) mid (ledger c.undo.new.self) c.in-Err.error c.undo.ensures.work
-    (subst (λ l. RefusesSome l mid c.in-Err.error) c.begin.ensures.ledger c.in-Err.ensures.refuses)
+    let among : Records → ℕ → Type 0 = λ f. IsChangedWidth c.args.fields.now (table_with (table_at f (trees_of c.args.fields.now c.args.roots.now)) c.args.doc (option_copied c.args.new)) (option_copied c.args.old) (option_copied c.args.new) in
+    refused_among (among (g.S.Frozen.records c.begin.new.self)) (ledger c.args.store.now) mid (ledger c.undo.new.self) c.in-Err.error c.undo.ensures.work
+    (subst (λ l. RefusesOf (among (g.S.Frozen.records c.begin.new.self)) l mid c.in-Err.error) c.begin.ensures.ledger c.in-Err.ensures.refuses)
 
 pub returns-in-Err-clause-counts : goal.returns-in-Err-clause-counts
 returns-in-Err-clause-counts g c =
@@ -109,9 +112,10 @@ returns-in-Err-clause-counts g c =
 pub returns-in-Err-clause-spares : goal.returns-in-Err-clause-spares
 returns-in-Err-clause-spares g c =
     let ledger = g.S.Store.ledger in
-    spares_unit (ledger c.args.store.now) (ledger c.begin.new.self) (ledger c.change_document.new.store) (ledger c.undo.new.self)
+    let among : Records → ℕ → Type 0 = λ f. IsChangedWidth c.args.fields.now (table_with (table_at f (trees_of c.args.fields.now c.args.roots.now)) c.args.doc (option_copied c.args.new)) (option_copied c.args.old) (option_copied c.args.new) in
+    spares_among (ledger c.args.store.now) (ledger c.begin.new.self) (ledger c.change_document.new.store) (ledger c.undo.new.self)
     (document_nodes (option_copied c.args.old) (option_copied c.args.new) (length c.args.fields.now)) (document_records (option_copied c.args.old) (option_copied c.args.new) (length c.args.fields.now))
-    c.begin.ensures.ledger c.change_document.ensures.counts.few (g.S.Frozen.records c.args.store.now) (g.S.Frozen.records c.undo.new.self) c.in-Err.error
+    c.begin.ensures.ledger c.change_document.ensures.counts.few (among (g.S.Frozen.records c.begin.new.self)) (g.S.Frozen.records c.args.store.now) (g.S.Frozen.records c.undo.new.self) c.in-Err.error
     (g.met.S.Store.settled c.args.store.now c.requires.unit) c.in-Err.ensures.refuses c.undo.ensures
 
 pub returns-in-Err-clause-keeps : goal.returns-in-Err-clause-keeps
@@ -120,3 +124,11 @@ returns-in-Err-clause-keeps g c =
     let mid = ledger c.change_document.new.store in
     keeps_unit (ledger c.args.store.now) mid (ledger c.undo.new.self) c.requires.unit (subst (λ l. MayDo l mid) c.begin.ensures.ledger c.change_document.ensures.may)
     c.undo.ensures.unit c.undo.ensures.work c.undo.ensures.shape c.undo.ensures.sealed c.undo.ensures.finished
+
+pub returns-in-Err-clause-widths : goal.returns-in-Err-clause-widths
+returns-in-Err-clause-widths g c =
+    let ledger = g.S.Store.ledger in
+    let records = g.S.Frozen.records in
+    let among : Records → ℕ → Type 0 = λ f. IsChangedWidth c.args.fields.now (table_with (table_at f (trees_of c.args.fields.now c.args.roots.now)) c.args.doc (option_copied c.args.new)) (option_copied c.args.old) (option_copied c.args.new) in
+    subst (λ f. IsFullAmong (among f) c.in-Err.error) c.begin.ensures.records
+    (full_among (among (records c.begin.new.self)) (ledger c.begin.new.self) (ledger c.change_document.new.store) c.in-Err.error c.in-Err.ensures.refuses)

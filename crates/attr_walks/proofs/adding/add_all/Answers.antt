@@ -1,21 +1,23 @@
-use Rattle.std.proofs.Common.{ℕ, ℤ, not, sym, ap, subst, ◌∙◌, arith, rules, w32, SFits}
+use Rattle.std.proofs.Common.{ℤ, None, length, not, sym, ap, subst, ◌∙◌, arith, rules, w32, SFits, to_z, of_z, nat_cmp}
 use Rattle.std.proofs.lemmas.Int.{to_z-of_z}
 use Rattle.std.proofs.lemmas.Result.{err_from_is_err_and}
-use Rattle.std.specs.BTreeMap.{get}
+use Rattle.std.specs.BTreeMap.{get, insert_entry}
 use Rattle.store_api.proofs.May.{may_do-then}
 use Rattle.attr_images.specs.Postings.{index_of}
 use Rattle.attr_index.proofs.MapLemmas.{was_weight}
 use Rattle.attr_index.specs.Changes.{is_weight}
-use Rattle.attr_index.specs.Index.{with_posting}
+use Rattle.attr_index.specs.Index.{list_of, with_posting}
 use Rattle.attr_types.specs.Value.{type_of, value_cmp}
 use Rattle.attr_types.specs.declared.kind.ValueType.{ValueType}
-use Rattle.value_index.specs.Changes.{MakesIndex}
+use Rattle.value_index.specs.Changes.{IsChangeWidth, MakesIndex}
 use Rattle.value_index.specs.Indexes.{IsIndex}
 use Rattle.attr_walks.proofs.AddLemmas.{adds_begin, adds_typed, adds_put, adds_same, adds_end}
-use Rattle.attr_walks.specs.Counts.{is_added, value_nodes, AddsLow, IsLow}
+use Rattle.attr_walks.specs.Counts.{is_added, value_nodes, IsLow}
 use Rattle.attr_walks.proofs.CountLemmas.{few_added, low_added, added_grows, added_records, counts_begin, counts_put, counts_pass, counts_end}
 use Rattle.attr_walks.proofs.LevelLemmas.{dictionary_low, list_low}
-use Rattle.attr_walks.proofs.KeyLemmas.{refuses_after}
+use Rattle.attr_walks.proofs.WidthLemmas.{put_width}
+use Rattle.attr_walks.specs.Widths.{IsWalkWidth}
+use Rattle.posting_store.proofs.RefusalLemmas.{of_more}
 use Rattle.attr_walks.proofs.adding.add_all.Goals as goal
 
 pub loop-value-init : goal.loop-value-init
@@ -91,8 +93,28 @@ returns-in_err-next-clause-low g c =
 pub returns-in_err-next-clause-refuses : goal.returns-in_err-next-clause-refuses
 returns-in_err-next-clause-refuses g c =
     let ledger = g.S.Store.ledger in
+    let records = g.S.Frozen.records in
+    let begun = ledger c.args.store.now in
+    let now = ledger c.loop-value.store in
+    let m = records c.loop-value.store in
+    let root = c.loop-value.next in
+    let value = c.in-Some.value.now in
+    let weight = c.in-Some.weight.now in
+    let doc = c.args.doc in
+    let type = c.args.value_type in
+    let entries = c.args.new.now.entries in
+    let fits : SFits w32 weight = search rules in
+    let up = c.iter-value-items.ensures.ordered in
+    let walk = c.loop-value.invariant.adds in
+    let start = index_of type (records c.args.store.now) c.args.root in
+    let typed = adds_typed type begun (records c.args.store.now) c.args.root doc entries now m root c.loop-value.value-iterator c.next.new.self value weight up walk c.in-Some.ensures.steps c.requires.typed in
     let p = err_from_is_err_and c.from_residual.result c.from_residual.ensures.1 in
-    rw (p.1, p.2) (refuses_after (ledger c.args.store.now) (ledger c.loop-value.store) (ledger c.add.new.store) _ c.loop-value.invariant.adds.may c.in_err-next.ensures.refuses)
+    rw (p.1, p.2) (of_more (IsChangeWidth value (length (insert_entry nat_cmp (list_of value (index_of (type_of value) m root)) doc (to_z w32 (of_z w32 weight)))))
+    (IsWalkWidth start doc (get value_cmp c.args.new.now) (λ v. None)) begun now (ledger c.add.new.store) _ walk.may
+    (λ w is. put_width start doc entries c.loop-value.value-iterator c.next.new.self value weight (index_of type m root) up c.in-Some.ensures.steps walk.walk w
+    (subst (λ (t : ValueType). IsChangeWidth value (length (insert_entry nat_cmp (list_of value (index_of t m root)) doc weight)) w) typed
+    (subst (λ (z : ℤ). IsChangeWidth value (length (insert_entry nat_cmp (list_of value (index_of (type_of value) m root)) doc z)) w) (to_z-of_z w32 weight fits) is)))
+    c.in_err-next.ensures.refuses)
 
 pub returns-in_err-next-clause-may : goal.returns-in_err-next-clause-may
 returns-in_err-next-clause-may g c =

@@ -1,19 +1,22 @@
-use Rattle.std.proofs.Common.{ℕ, not, sym, ap, subst, ◌∙◌, arith}
+use Rattle.std.proofs.Common.{length, not, nat_cmp, sym, ap, subst, ◌∙◌, arith}
 use Rattle.std.proofs.lemmas.Result.{err_from_is_err_and}
-use Rattle.std.specs.BTreeMap.{get}
+use Rattle.std.specs.BTreeMap.{get, is_at}
+use Rattle.std.specs.Map.{remove_entry}
 use Rattle.store_api.proofs.May.{may_do-then}
 use Rattle.attr_images.specs.Postings.{index_of}
 use Rattle.attr_index.proofs.MapLemmas.{none_then, some_then}
-use Rattle.attr_index.specs.Index.{without_posting}
-use Rattle.attr_types.specs.Value.{value_cmp}
+use Rattle.attr_index.specs.Index.{list_of, without_posting}
+use Rattle.attr_types.specs.Value.{type_of, value_cmp}
 use Rattle.attr_types.specs.declared.kind.ValueType.{ValueType}
-use Rattle.value_index.specs.Changes.{MakesIndex}
+use Rattle.value_index.specs.Changes.{IsChangeWidth, MakesIndex}
 use Rattle.value_index.specs.Indexes.{IsIndex}
-use Rattle.attr_walks.specs.Counts.{is_gone, value_nodes, IsLow, RemovesLow}
+use Rattle.attr_walks.specs.Counts.{is_gone, value_nodes, IsLow}
 use Rattle.attr_walks.proofs.CountLemmas.{few_gone, low_gone, gone_grows, gone_records, counts_begin, counts_put, counts_pass, counts_end}
 use Rattle.attr_walks.proofs.RemoveLemmas.{removes_begin, removes_typed, removes_there, removes_take, removes_stay, removes_end, IsThere}
 use Rattle.attr_walks.proofs.LevelLemmas.{dictionary_low, list_low}
-use Rattle.attr_walks.proofs.KeyLemmas.{refuses_after}
+use Rattle.attr_walks.proofs.WidthLemmas.{take_width}
+use Rattle.attr_walks.specs.Widths.{IsWalkWidth}
+use Rattle.posting_store.proofs.RefusalLemmas.{of_more}
 use Rattle.attr_walks.proofs.removing.remove_all.Goals as goal
 
 pub loop-value-init : goal.loop-value-init
@@ -103,8 +106,28 @@ returns-in_err-next-clause-low g c =
 pub returns-in_err-next-clause-refuses : goal.returns-in_err-next-clause-refuses
 returns-in_err-next-clause-refuses g c =
     let ledger = g.S.Store.ledger in
+    let records = g.S.Frozen.records in
+    let begun = ledger c.args.store.now in
+    let now = ledger c.loop-value.store in
+    let m = records c.loop-value.store in
+    let root = c.loop-value.next in
+    let value = c.in-Some.value.now in
+    let weight = c.in-Some.field-0-1.now in
+    let doc = c.args.doc in
+    let type = c.args.value_type in
+    let entries = c.args.old.now.entries in
+    let added = get value_cmp c.args.new.now in
+    let up = c.iter-value-items.ensures.ordered in
+    let walk = c.loop-value.invariant.removes in
+    let start = index_of type (records c.args.store.now) c.args.root in
+    let typed = removes_typed type begun (records c.args.store.now) c.args.root doc added entries now m root c.loop-value.value-iterator c.next.new.self value weight up walk c.in-Some.ensures.steps c.requires.typed in
     let p = err_from_is_err_and c.from_residual.result c.from_residual.ensures.1 in
-    rw (p.1, p.2) (refuses_after (ledger c.args.store.now) (ledger c.loop-value.store) (ledger c.remove.new.store) _ c.loop-value.invariant.removes.may c.in_err-next.ensures.refuses)
+    rw (p.1, p.2) (of_more (IsChangeWidth value (length (remove_entry (is_at (nat_cmp doc)) (list_of value (index_of (type_of value) m root)))))
+    (IsWalkWidth start doc added (get value_cmp c.args.old.now)) begun now (ledger c.remove.new.store) _ walk.may
+    (λ w is. take_width start doc entries c.loop-value.value-iterator c.next.new.self value weight (index_of type m root) up c.in-Some.ensures.steps added walk.walk
+    (none_then (added value) (sym c.contains_key.ensures ∙ c.if-not-contains_key.true)) w
+    (subst (λ (t : ValueType). IsChangeWidth value (length (remove_entry (is_at (nat_cmp doc)) (list_of value (index_of t m root)))) w) typed is))
+    c.in_err-next.ensures.refuses)
 
 pub returns-in_err-next-clause-may : goal.returns-in_err-next-clause-may
 returns-in_err-next-clause-may g c =

@@ -1,13 +1,13 @@
 use Rattle.std.proofs.Common.{◌≡◌, refl, Some, sym, ap, subst, ◌∙◌, arith}
 use Rattle.image_base.specs.Records.{Records}
+use Rattle.store_api.specs.Calls.{IsUsedWidth, RefusesOf}
 use Rattle.store_api.specs.Units.{MayDo}
-use Rattle.posting_store.specs.Changes.{RefusesSome}
 use Rattle.plan_keys.specs.PhaseKeys.{key_past}
 use Rattle.attr_steps.specs.Fields.{trees_of, trees_of_field}
 use Rattle.attr_steps.proofs.FieldSteps.{laws_of}
-use Rattle.attr_steps.proofs.Units.{left_unit, refused_unit, keeps_unit}
+use Rattle.attr_steps.proofs.Units.{left_unit, refused_among, keeps_unit}
 use Rattle.compact_steps.specs.Units.{keys_at}
-use Rattle.compact_steps.proofs.UnitSteps.{meets_begun, part_begun, spares_begun, unit_compacts}
+use Rattle.compact_steps.proofs.UnitSteps.{active_begun, meets_begun, part_begun, spares_begun, unit_compacts}
 use Rattle.compact_steps.proofs.key.move_unit.Goals as goal
 
 pub begin-requires : goal.begin-requires
@@ -68,14 +68,28 @@ pub returns-in-Err-clause-refused : goal.returns-in-Err-clause-refused
 returns-in-Err-clause-refused g c =
     let ledger = g.S.Store.ledger in
     let mid = ledger c.move_one.new.store in
-    refused_unit (ledger c.args.store.now) mid (ledger c.undo.new.self) c.in-Err.error c.undo.ensures.work
-    (subst (λ l. RefusesSome l mid c.in-Err.error) c.begin.ensures.ledger c.in-Err.ensures.refuses)
+    let among = IsUsedWidth (ledger c.begin.new.self) (g.S.Frozen.records c.begin.new.self) in
+    refused_among among (ledger c.args.store.now) mid (ledger c.undo.new.self) c.in-Err.error c.undo.ensures.work
+    (subst (λ l. RefusesOf among l mid c.in-Err.error) c.begin.ensures.ledger c.in-Err.ensures.refuses)
 
 pub returns-in-Err-clause-spares : goal.returns-in-Err-clause-spares
 returns-in-Err-clause-spares g c =
     let ledger = g.S.Store.ledger in
-    spares_begun (ledger c.args.store.now) (ledger c.begin.new.self) (ledger c.move_one.new.store) (ledger c.undo.new.self) c.begin.ensures.ledger c.move_one.ensures.counts
-    (g.S.Frozen.records c.args.store.now) (g.S.Frozen.records c.undo.new.self) c.in-Err.error (g.met.S.Store.settled c.args.store.now c.requires.holds.unit) c.in-Err.ensures.refuses c.undo.ensures
+    let among = IsUsedWidth (ledger c.begin.new.self) (g.S.Frozen.records c.begin.new.self) in
+    spares_begun among (ledger c.args.store.now) (ledger c.begin.new.self) (ledger c.move_one.new.store) (ledger c.undo.new.self) c.begin.ensures.ledger c.move_one.ensures.counts
+    (g.S.Frozen.records c.args.store.now) (g.S.Frozen.records c.undo.new.self) c.in-Err.error (g.met.S.Store.settled c.args.store.now c.requires.holds.unit)
+    c.in-Err.ensures.refuses c.undo.ensures
+
+pub returns-in-Err-clause-active : goal.returns-in-Err-clause-active
+returns-in-Err-clause-active g c =
+    let ledger = g.S.Store.ledger in
+    let records = g.S.Frozen.records in
+    let old = ledger c.args.store.now in
+    let mid = ledger c.move_one.new.store in
+    let left = left_unit old mid (ledger c.undo.new.self) (records c.args.store.now) (records c.undo.new.self) (g.met.S.Store.settled c.args.store.now c.requires.holds.unit)
+    (subst (λ l. MayDo l mid) c.begin.ensures.ledger c.move_one.ensures.may) c.undo.ensures in
+    active_begun g.row.OFFSET_BITS old (ledger c.begin.new.self) mid (ledger c.undo.new.self) (records c.args.store.now) (records c.begin.new.self) (records c.undo.new.self) c.in-Err.error
+    c.begin.ensures.ledger c.begin.ensures.records (g.met.S.Store.recorded c.args.store.now) left.records (g.met.S.Store.placed c.undo.new.self) c.in-Err.ensures.refuses
 
 pub returns-in-Err-clause-keeps : goal.returns-in-Err-clause-keeps
 returns-in-Err-clause-keeps g c =

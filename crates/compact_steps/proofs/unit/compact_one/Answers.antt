@@ -288,6 +288,11 @@ returns-in_err-roots-clause-spares g c =
     let p = err_from_is_err_and c.from_residual.result c.from_residual.ensures.1 in
     rw (p.1, p.2) c.in_err-roots.ensures.spares
 
+pub returns-in_err-roots-clause-active : goal.returns-in_err-roots-clause-active
+returns-in_err-roots-clause-active g c =
+    let p = err_from_is_err_and c.from_residual.result c.from_residual.ensures.1 in
+    rw (p.1, p.2) c.in_err-roots.ensures.active
+
 pub returns-in_err-roots-clause-keeps : goal.returns-in_err-roots-clause-keeps
 returns-in_err-roots-clause-keeps g c =
     let ledger = g.S.Store.ledger in

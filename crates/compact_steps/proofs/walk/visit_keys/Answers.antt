@@ -153,7 +153,7 @@ returns-in-Err-clause-walks g c =
     c.loop-done-test.true visits
     (λ none. let is = c.loop-done.invariant.first none in
     (subst (λ s. LeavesEntries (ledger s) (ledger now) (records s) (records now)) is.0 c.in-Err.ensures.left, ap (trees_of fields) (c.in-Err.ensures.roots ∙ is.1)))
-    (record { why = refused_since (ledger start) (ledger was) (ledger now) c.in-Err.error c.loop-done.invariant.visits.keeps.stops c.in-Err.ensures.refused; spare = c.in-Err.ensures.spares }))
+    (record { why = refused_since (ledger start) (ledger was) (ledger now) c.in-Err.error c.loop-done.invariant.visits.keeps.stops c.in-Err.ensures.refused; spare = c.in-Err.ensures.spares; active = c.in-Err.ensures.active }))
 
 pub returns-clause-sized : goal.returns-clause-sized
 returns-clause-sized g c = c.loop-done.invariant.sized

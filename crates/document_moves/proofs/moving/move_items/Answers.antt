@@ -1,11 +1,12 @@
 use Rattle.std.proofs.Common.{◌≡◌, ◌+◌, ◌*◌, true, length, refl, sym, subst, arith}
 use Rattle.std.specs.Prelude.{IfOk, IfErr}
+use Rattle.store_api.specs.Calls.{IsUsedWidth, RefusesOf}
 use Rattle.store_api.specs.Units.{MayDo}
 use Rattle.store_api.proofs.May.{may_do-same}
 use Rattle.tree_make.specs.Changes.{levels}
 use Rattle.attr_images.specs.Documents.{column_at}
 use Rattle.attr_index.specs.Columns.{items_of}
-use Rattle.posting_store.specs.Changes.{MakesWithin, RefusesSome}
+use Rattle.posting_store.specs.Changes.{MakesWithin}
 use Rattle.value_index.proofs.CountLemmas.{within_none}
 use Rattle.attr_documents.specs.Changes.{documents_most}
 use Rattle.document_moves.specs.Moves.{CanMoveItems, MovesItems}
@@ -80,7 +81,7 @@ returns-clause-counts g c =
 pub returns-clause-refuses : goal.returns-clause-refuses
 returns-clause-refuses g c =
     let ledger = g.S.Store.ledger in
-    subst (λ s. IfErr c.read_again.result (RefusesSome (ledger s) (ledger c.read_again.new.store))) c.document_lies.ensures.same c.read_again.ensures.refuses
+    subst (λ s. IfErr c.read_again.result (RefusesOf (IsUsedWidth (ledger s) (g.S.Frozen.records s)) (ledger s) (ledger c.read_again.new.store))) c.document_lies.ensures.same c.read_again.ensures.refuses
 
 pub returns-clause-may : goal.returns-clause-may
 returns-clause-may g c =

@@ -1,14 +1,15 @@
-use Rattle.std.proofs.Common.{◌≡◌, ℕ, ◌+◌, ◌*◌, [], Some, true, length, refl, sym, ap, subst, ◌∙◌, arith}
+use Rattle.std.proofs.Common.{◌≡◌, ℕ, ◌+◌, ◌*◌, [], Some, true, length, sym, ap, subst, ◌∙◌, arith}
 use Rattle.std.specs.Prelude.{IfOk, IfErr, unwrap_or}
 use Rattle.std.specs.BTreeMap.{is_at}
 use Rattle.std.specs.Map.{lookup}
 use Rattle.std.specs.Ordering.{nat_cmp}
+use Rattle.store_api.specs.Calls.{IsUsedWidth, RefusesOf}
 use Rattle.store_api.specs.Units.{MayDo}
 use Rattle.store_api.proofs.May.{may_do-same}
 use Rattle.tree_make.specs.Changes.{levels}
 use Rattle.attr_images.specs.Documents.{column_at}
 use Rattle.attr_index.specs.Columns.{items_of}
-use Rattle.posting_store.specs.Changes.{MakesWithin, RefusesSome}
+use Rattle.posting_store.specs.Changes.{MakesWithin}
 use Rattle.value_index.proofs.CountLemmas.{within_none}
 use Rattle.attr_documents.specs.Changes.{documents_most}
 use Rattle.document_moves.specs.Moves.{CanMoveItems, MovesItems}
@@ -27,7 +28,7 @@ returns-in_default-clause-counts g c =
     subst (λ s. MakesWithin a (ledger s) most) (sym c.items.ensures.same) (within_none a most)
 
 pub returns-in_default-clause-refuses : goal.returns-in_default-clause-refuses
-returns-in_default-clause-refuses g c = record { width = 2; is = refl; refuses = tt }
+returns-in_default-clause-refuses g c = tt
 
 pub returns-in_default-clause-may : goal.returns-in_default-clause-may
 returns-in_default-clause-may g c =
@@ -79,7 +80,7 @@ returns-in-Some-clause-counts g c =
 pub returns-in-Some-clause-refuses : goal.returns-in-Some-clause-refuses
 returns-in-Some-clause-refuses g c =
     let ledger = g.S.Store.ledger in
-    subst (λ s. IfErr c.set_again.result (RefusesSome (ledger s) (ledger c.set_again.new.store))) c.items.ensures.same c.set_again.ensures.refuses
+    subst (λ s. IfErr c.set_again.result (RefusesOf (IsUsedWidth (ledger s) (g.S.Frozen.records s)) (ledger s) (ledger c.set_again.new.store))) c.items.ensures.same c.set_again.ensures.refuses
 
 pub returns-in-Some-clause-may : goal.returns-in-Some-clause-may
 returns-in-Some-clause-may g c =

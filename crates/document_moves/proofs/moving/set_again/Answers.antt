@@ -1,18 +1,21 @@
-use Rattle.std.proofs.Common.{◌≡◌, ◌+◌, ◌*◌, [], ◌∷◌, Some, true, length, refl, sym, subst, arith}
+use Rattle.std.proofs.Common.{◌≡◌, ◌+◌, ◌*◌, [], ◌∷◌, Some, true, length, sym, subst, arith}
 use Rattle.std.specs.Prelude.{IfOk, IfErr}
 use Rattle.std.specs.List.{AllByRecursion}
+use Rattle.store_api.specs.Calls.{IsUsedWidth, RefusesOf}
 use Rattle.store_api.specs.Parts.{Owns}
 use Rattle.store_api.specs.Units.{MayDo}
 use Rattle.store_api.proofs.May.{may_do-same}
 use Rattle.tree_make.specs.Changes.{levels}
 use Rattle.attr_images.specs.Documents.{column_at}
 use Rattle.attr_index.specs.Columns.{with_change}
-use Rattle.posting_store.specs.Changes.{MakesWithin, RefusesSome}
+use Rattle.posting_store.specs.Changes.{MakesWithin}
+use Rattle.posting_store.proofs.RefusalLemmas.{if_more}
 use Rattle.value_index.specs.Indexes.{IsKey}
 use Rattle.value_index.proofs.CountLemmas.{within_none}
-use Rattle.attr_documents.specs.Changes.{documents_most, AreBeside, AreKeysOf, MakesDocuments, SetsItems}
+use Rattle.attr_documents.specs.Changes.{documents_most, AreBeside, AreKeysOf, IsDocumentWidth, MakesDocuments, SetsItems}
 use Rattle.attr_documents.specs.Documents.{documents_part, documents_refer, IsDocuments}
 use Rattle.document_moves.proofs.SetLemmas.{items_lawful, items_listed, items_typed, keys_beside, moved_by, owns_documents}
+use Rattle.document_moves.proofs.UsedLemmas.{document_used}
 use Rattle.document_moves.proofs.moving.set_again.Goals as goal
 
 pub keys_of-requires : goal.keys_of-requires
@@ -39,7 +42,7 @@ returns-in_default-clause-counts g c =
     subst (λ s. MakesWithin a (ledger s) most) (sym c.keys_of.ensures.same) (within_none a most)
 
 pub returns-in_default-clause-refuses : goal.returns-in_default-clause-refuses
-returns-in_default-clause-refuses g c = record { width = 2; is = refl; refuses = tt }
+returns-in_default-clause-refuses g c = tt
 
 pub returns-in_default-clause-may : goal.returns-in_default-clause-may
 returns-in_default-clause-may g c =
@@ -119,7 +122,14 @@ returns-clause-counts g c =
 pub returns-clause-refuses : goal.returns-clause-refuses
 returns-clause-refuses g c =
     let ledger = g.S.Store.ledger in
-    subst (λ s. IfErr c.set_document.result (RefusesSome (ledger s) (ledger c.set_document.new.store))) c.keys_of.ensures.same c.set_document.ensures.refuses
+    let a = ledger c.args.store.now in
+    let m = g.S.Frozen.records c.args.store.now in
+    let d = ledger c.set_document.new.store in
+    let among = IsDocumentWidth c.args.kind (length c.args.items.now) in
+    let owns = owns_documents g.row.OFFSET_BITS c.args.buffer c.args.kind c.args.value_type a m c.args.documents c.args.dictionary c.args.doc c.requires.can in
+    if_more among (IsUsedWidth a m) a a d c.set_document.result (may_do-same a)
+    (document_used c.args.kind c.args.value_type a m c.args.documents c.args.doc c.requires.can.documents_are owns c.args.items.now c.requires.there)
+    (subst (λ s. IfErr c.set_document.result (RefusesOf among (ledger s) d)) c.keys_of.ensures.same c.set_document.ensures.refuses)
 
 pub returns-clause-may : goal.returns-clause-may
 returns-clause-may g c =

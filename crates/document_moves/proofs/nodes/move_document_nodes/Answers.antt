@@ -1,10 +1,28 @@
 use Rattle.std.proofs.Common.{ℕ, subst, arith}
 use Rattle.std.specs.Prelude.{IfOk}
+use Rattle.store_api.proofs.May.{may_do-same}
+use Rattle.tree_make.specs.Changes.{levels}
+use Rattle.tree_make.proofs.Results.{is_valid, not_valid, on_err}
 use Rattle.tree_touch.specs.Paths.{path_nodes, NoneIn}
 use Rattle.doc_vector.specs.Documents.{beside}
 use Rattle.doc_vector.proofs.DocumentLemmas.{number_keyed}
-use Rattle.document_moves.proofs.NodeLemmas.{nodes_moved_by, nodes_owned}
+use Rattle.document_moves.proofs.NodeLemmas.{counts_nothing, nodes_moved_by, nodes_owned, nodes_unmoved}
+use Rattle.document_moves.proofs.UsedLemmas.{node_used}
 use Rattle.document_moves.proofs.nodes.move_document_nodes.Goals as goal
+
+pub returns-then-not-valid-clause-moves : goal.returns-then-not-valid-clause-moves
+returns-then-not-valid-clause-moves g c =
+    let a = g.S.Store.ledger c.args.store.now in
+    let m = g.S.Frozen.records c.args.store.now in
+    let root = c.args.root in
+    nodes_unmoved g.row.OFFSET_BITS c.args.buffer c.args.kind c.args.value_type a m root c.args.doc c.requires.documents c.requires.owns
+    (not_valid c.valid.result root c.valid.ensures.1 c.if-not-valid.true)
+
+pub returns-then-not-valid-clause-counts : goal.returns-then-not-valid-clause-counts
+returns-then-not-valid-clause-counts g c = counts_nothing (g.S.Store.ledger c.args.store.now) (levels (g.S.Frozen.records c.args.store.now) c.args.root)
+
+pub returns-then-not-valid-clause-may : goal.returns-then-not-valid-clause-may
+returns-then-not-valid-clause-may g c = may_do-same (g.S.Store.ledger c.args.store.now)
 
 pub touch-requires : goal.touch-requires
 touch-requires g c =
@@ -33,3 +51,11 @@ returns-clause-refuses g c = c.touch.ensures.refuses
 
 pub returns-clause-may : goal.returns-clause-may
 returns-clause-may g c = c.touch.ensures.may
+
+pub returns-clause-used : goal.returns-clause-used
+returns-clause-used g c =
+    let a = g.S.Store.ledger c.args.store.now in
+    let m = g.S.Frozen.records c.args.store.now in
+    let root = c.args.root in
+    let owned = nodes_owned g.row.OFFSET_BITS c.args.buffer c.args.kind c.args.value_type a a m m root c.args.doc c.requires.documents c.requires.beside c.requires.owns in
+    on_err c.touch.result (node_used a m root c.requires.documents.map_is.tree_is.node (is_valid c.valid.result root c.valid.ensures.0 c.if-not-valid.false) owned)

@@ -1,5 +1,8 @@
 use Rattle.std.proofs.Common.{◌≡◌, true, refl, sym, subst, arith}
 use Rattle.std.proofs.lemmas.Result.{err_from_is_err_and}
+use Rattle.store_api.specs.Calls.{IsUsedWidth}
+use Rattle.store_api.proofs.May.{may_do-same}
+use Rattle.posting_store.proofs.RefusalLemmas.{of_one}
 use Rattle.document_moves.specs.Moves.{MovesDocumentNodes}
 use Rattle.field_moves.proofs.MakeLemmas.{few_nodes}
 use Rattle.field_moves.proofs.MoveLemmas.{map_done, nodes_can}
@@ -33,7 +36,10 @@ returns-in_err-documents-clause-counts g c =
 
 pub returns-in_err-documents-clause-refuses : goal.returns-in_err-documents-clause-refuses
 returns-in_err-documents-clause-refuses g c =
-    let p = err_from_is_err_and c.from_residual.result c.from_residual.ensures.1 in rw (p.1, p.2) (record { width = 34; is = refl; refuses = c.in_err-documents.ensures.refuses })
+    let a = g.S.Store.ledger c.args.store.now in
+    let m = g.S.Frozen.records c.args.store.now in
+    let p = err_from_is_err_and c.from_residual.result c.from_residual.ensures.1 in
+    rw (p.1, p.2) (of_one (IsUsedWidth a m) a a (g.S.Store.ledger c.move_document_nodes.new.store) 34 _ (may_do-same a) refl c.in_err-documents.ensures.used c.in_err-documents.ensures.refuses)
 
 pub returns-in_err-documents-clause-may : goal.returns-in_err-documents-clause-may
 returns-in_err-documents-clause-may g c = c.move_document_nodes.ensures.may

@@ -1,7 +1,10 @@
 use Rattle.std.proofs.Common.{◌≡◌, true, refl, sym, subst, arith}
 use Rattle.std.proofs.lemmas.Result.{err_from_is_err_and}
 use Rattle.attr_compaction.specs.declared.plan.PlanKey.TheVariants.{Value}
+use Rattle.store_api.specs.Calls.{IsUsedWidth}
+use Rattle.store_api.proofs.May.{may_do-same}
 use Rattle.index_moves.specs.Moves.{MovesNodes}
+use Rattle.posting_store.proofs.RefusalLemmas.{of_one}
 use Rattle.field_moves.specs.Moves.{trees_of}
 use Rattle.field_moves.proofs.MakeLemmas.{few_nodes}
 use Rattle.field_moves.proofs.MoveLemmas.{value_nodes_done, owned_index, typed_value, value_index}
@@ -39,7 +42,10 @@ returns-in_err-dictionary-clause-counts g c =
 
 pub returns-in_err-dictionary-clause-refuses : goal.returns-in_err-dictionary-clause-refuses
 returns-in_err-dictionary-clause-refuses g c =
-    let p = err_from_is_err_and c.from_residual.result c.from_residual.ensures.1 in rw (p.1, p.2) (record { width = 34; is = refl; refuses = c.in_err-dictionary.ensures.refuses })
+    let a = g.S.Store.ledger c.args.store.now in
+    let m = g.S.Frozen.records c.args.store.now in
+    let p = err_from_is_err_and c.from_residual.result c.from_residual.ensures.1 in
+    rw (p.1, p.2) (of_one (IsUsedWidth a m) a a (g.S.Store.ledger c.move_nodes.new.store) 34 _ (may_do-same a) refl c.in_err-dictionary.ensures.used c.in_err-dictionary.ensures.refuses)
 
 pub returns-in_err-dictionary-clause-may : goal.returns-in_err-dictionary-clause-may
 returns-in_err-dictionary-clause-may g c = c.move_nodes.ensures.may

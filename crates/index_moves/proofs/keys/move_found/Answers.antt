@@ -5,17 +5,19 @@ use Rattle.array_store.proofs.ClassLemmas.{class_width}
 use Rattle.attr_images.specs.Values.{value_words}
 use Rattle.attr_images.specs.Words.{class_of}
 use Rattle.entry_ref.specs.References.{buffer_of}
+use Rattle.store_api.specs.Calls.{IsUsedWidth}
 use Rattle.store_api.specs.Parts.{entry}
 use Rattle.store_api.proofs.May.{may_do-same, may_do-then}
 use Rattle.tree_make.specs.Changes.{levels}
+use Rattle.posting_store.proofs.RefusalLemmas.{if_one, of_one}
 use Rattle.value_index.specs.Changes.{nodes_most, record_most}
 use Rattle.value_index.proofs.CountLemmas.{within_more, within_none, within_record, within_then, within_tree}
 use Rattle.value_index.proofs.KeyLemmas.{reads_found}
-use Rattle.value_index.proofs.StepLemmas.{if_refuses_width, refuses_width}
 use Rattle.tree_images.specs.Trees.{tree_pairs}
 use Rattle.index_moves.specs.Moves.{key_most}
 use Rattle.index_moves.proofs.KeyLemmas.{found_apart, key_moved, key_ready, key_unmoved}
 use Rattle.index_moves.proofs.SetLemmas.{ready_dictionary, ready_owns}
+use Rattle.index_moves.proofs.UsedLemmas.{dictionary_used, key_used}
 use Rattle.index_moves.proofs.keys.move_found.Goals as goal
 
 pub buffer-requires : goal.buffer-requires
@@ -47,9 +49,11 @@ returns-in_err-copy-clause-moves g c = let p = err_from_is_err_and c.from_residu
 pub returns-in_err-copy-clause-refuses : goal.returns-in_err-copy-clause-refuses
 returns-in_err-copy-clause-refuses g c =
     let ledger = g.S.Store.ledger in
+    let a = ledger c.args.store.now in
+    let m = g.S.Frozen.records c.args.store.now in
+    let used = key_used c.args.value.now a m c.args.root c.args.key c.args.list c.requires.index c.requires.owns c.requires.found in
     let p = err_from_is_err_and c.from_residual.result c.from_residual.ensures.1 in
-    rw (p.1, p.2) (refuses_width (ledger c.args.store.now) (ledger c.args.store.now) (ledger c.add.new.store) _ _
-    (class_width (length (value_words c.args.value.now))) (may_do-same (ledger c.args.store.now)) c.in_err-copy.ensures.refuses)
+    rw (p.1, p.2) (of_one (IsUsedWidth a m) a a (ledger c.add.new.store) _ _ (may_do-same a) (class_width (length (value_words c.args.value.now))) used c.in_err-copy.ensures.refuses)
 
 pub returns-in_err-copy-clause-may : goal.returns-in_err-copy-clause-may
 returns-in_err-copy-clause-may g c = c.add.ensures.may
@@ -111,7 +115,10 @@ returns-clause-moves g c =
 pub returns-clause-refuses : goal.returns-clause-refuses
 returns-clause-refuses g c =
     let ledger = g.S.Store.ledger in
-    if_refuses_width (ledger c.args.store.now) (ledger c.add.new.store) (ledger c.set.new.store) 34 c.set.result refl c.add.ensures.may c.set.ensures.refuses
+    let a = ledger c.args.store.now in
+    let m = g.S.Frozen.records c.args.store.now in
+    let used = dictionary_used c.args.value.now a m c.args.root c.args.key c.args.list c.requires.index c.requires.owns c.requires.found in
+    if_one (IsUsedWidth a m) a (ledger c.add.new.store) (ledger c.set.new.store) 34 c.set.result c.add.ensures.may refl used c.set.ensures.refuses
 
 pub returns-clause-may : goal.returns-clause-may
 returns-clause-may g c =

@@ -1,13 +1,14 @@
 use Rattle.std.proofs.Common.{◌≡◌, ◌∷◌, [], Some, true, refl, sym, subst, ◌∙◌, arith}
 use Rattle.std.specs.Prelude.{IfOk, IfErr}
 use Rattle.key_order.specs.Pairs.{lookup_pair}
+use Rattle.store_api.specs.Calls.{IsUsedWidth, RefusesOf}
 use Rattle.store_api.specs.Parts.{Owns}
 use Rattle.store_api.specs.Units.{MayDo}
 use Rattle.store_api.proofs.May.{may_do-same}
 use Rattle.tree_images.specs.Trees.{tree_pairs}
 use Rattle.attr_types.specs.Value.{type_of}
 use Rattle.enum_dictionary.specs.Dictionaries.{beside}
-use Rattle.posting_store.specs.Changes.{MakesWithin, RefusesSome}
+use Rattle.posting_store.specs.Changes.{MakesWithin}
 use Rattle.value_index.specs.Indexes.{index_part, IsIndex}
 use Rattle.value_index.proofs.CountLemmas.{within_none}
 use Rattle.value_index.proofs.StepLemmas.{entry_found, entry_none}
@@ -59,7 +60,8 @@ returns-in-Some-clause-counts g c =
 
 pub returns-in-Some-clause-refuses : goal.returns-in-Some-clause-refuses
 returns-in-Some-clause-refuses g c =
-    subst (λ s. IfErr c.move_found.result (RefusesSome (g.S.Store.ledger s) (g.S.Store.ledger c.move_found.new.store))) c.find.ensures.same c.move_found.ensures.refuses
+    let ledger = g.S.Store.ledger in
+    subst (λ s. IfErr c.move_found.result (RefusesOf (IsUsedWidth (ledger s) (g.S.Frozen.records s)) (ledger s) (ledger c.move_found.new.store))) c.find.ensures.same c.move_found.ensures.refuses
 
 pub returns-in-Some-clause-may : goal.returns-in-Some-clause-may
 returns-in-Some-clause-may g c = subst (λ s. MayDo (g.S.Store.ledger s) (g.S.Store.ledger c.move_found.new.store)) c.find.ensures.same c.move_found.ensures.may

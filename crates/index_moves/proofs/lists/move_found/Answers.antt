@@ -5,6 +5,8 @@ use Rattle.attr_index.specs.Index.{list_of}
 use Rattle.attr_types.specs.Value.{type_of}
 use Rattle.posting_store.specs.Changes.{MakesWithin}
 use Rattle.posting_store.specs.Lists.{list_levels}
+use Rattle.posting_store.proofs.RefusalLemmas.{if_one}
+use Rattle.store_api.specs.Calls.{IsUsedWidth}
 use Rattle.store_api.proofs.May.{may_do-then}
 use Rattle.tree_images.specs.Trees.{tree_pairs}
 use Rattle.tree_make.specs.Changes.{levels}
@@ -12,10 +14,11 @@ use Rattle.value_index.specs.Changes.{nodes_most}
 use Rattle.value_index.proofs.CountLemmas.{within_more, within_then, within_tree}
 use Rattle.value_index.proofs.KeyLemmas.{pair_found, reads_found}
 use Rattle.value_index.proofs.ShownLemmas.{Docs}
-use Rattle.value_index.proofs.StepLemmas.{if_refuses_width, list_is, list_owned}
+use Rattle.value_index.proofs.StepLemmas.{list_is, list_owned}
 use Rattle.index_moves.specs.Moves.{move_most, word_most}
 use Rattle.index_moves.proofs.ListLemmas.{dictionary_same, list_dictionary, list_ready, list_set, list_set_by, most_found}
 use Rattle.index_moves.proofs.SetLemmas.{ready_owns}
+use Rattle.index_moves.proofs.UsedLemmas.{dictionary_used}
 use Rattle.index_moves.proofs.lists.move_found.Goals as goal
 
 pub move_word-requires-clause-list : goal.move_word-requires-clause-list
@@ -131,7 +134,10 @@ returns-clause-moves g c =
 pub returns-clause-refuses : goal.returns-clause-refuses
 returns-clause-refuses g c =
     let ledger = g.S.Store.ledger in
-    if_refuses_width (ledger c.args.store.now) (ledger c.move_word.new.store) (ledger c.set.new.store) 34 c.set.result refl c.move_word.ensures.may c.set.ensures.refuses
+    let a = ledger c.args.store.now in
+    let m = g.S.Frozen.records c.args.store.now in
+    let used = dictionary_used c.args.value.now a m c.args.root c.args.key c.args.list c.requires.index c.requires.owns c.requires.found in
+    if_one (IsUsedWidth a m) a (ledger c.move_word.new.store) (ledger c.set.new.store) 34 c.set.result c.move_word.ensures.may refl used c.set.ensures.refuses
 
 pub returns-clause-may : goal.returns-clause-may
 returns-clause-may g c =

@@ -4,10 +4,12 @@ use Rattle.entry_ref.specs.References.{buffer_of}
 use Rattle.array_store.proofs.ClassLemmas.{class_width}
 use Rattle.attr_images.specs.Words.{stored_items}
 use Rattle.posting_store.specs.Lists.{list_at, list_levels}
+use Rattle.posting_store.proofs.RefusalLemmas.{of_one}
+use Rattle.store_api.specs.Calls.{IsUsedWidth}
 use Rattle.store_api.proofs.May.{may_do-same, may_do-then}
 use Rattle.value_index.proofs.CountLemmas.{within_dropped, within_none}
-use Rattle.value_index.proofs.StepLemmas.{refuses_width}
 use Rattle.index_moves.specs.Moves.{word_most}
+use Rattle.index_moves.proofs.UsedLemmas.{short_used}
 use Rattle.index_moves.proofs.WordLemmas.{copy_apart, list_kept, old_record, short_apart, short_counts, short_moved, short_stored}
 use Rattle.index_moves.proofs.lists.move_short.Goals as goal
 
@@ -44,9 +46,12 @@ returns-in_err-copy-clause-counts g c =
 pub returns-in_err-copy-clause-refuses : goal.returns-in_err-copy-clause-refuses
 returns-in_err-copy-clause-refuses g c =
     let ledger = g.S.Store.ledger in
+    let a = ledger c.args.store.now in
+    let m = g.S.Frozen.records c.args.store.now in
+    let ref = c.record_of-record.result in
+    let used = short_used a m c.args.list ref c.requires.list c.requires.plain c.requires.some c.requires.short c.record_of-record.ensures c.requires.owns in
     let p = err_from_is_err_and c.from_residual.result c.from_residual.ensures.1 in
-    rw (p.1, p.2) (refuses_width (ledger c.args.store.now) (ledger c.args.store.now) (ledger c.copy_record.new.store) _ _
-    (class_width (1 + length (stored_items (g.S.Frozen.records c.args.store.now c.record_of-record.result)))) (may_do-same (ledger c.args.store.now)) c.in_err-copy.ensures.refuses)
+    rw (p.1, p.2) (of_one (IsUsedWidth a m) a a (ledger c.copy_record.new.store) _ _ (may_do-same a) (class_width (1 + length (stored_items (m ref)))) used c.in_err-copy.ensures.refuses)
 
 pub drop_one-requires : goal.drop_one-requires
 drop_one-requires g c =

@@ -1,8 +1,10 @@
 use Rattle.std.proofs.Common.{◌≡◌, ◌+◌, ◌*◌, refl, arith}
 use Rattle.std.proofs.lemmas.Result.{err_from_is_err_and}
+use Rattle.store_api.specs.Calls.{IsUsedWidth}
 use Rattle.store_api.proofs.May.{may_do-same}
 use Rattle.posting_store.proofs.LeafLemmas.{tree_keyed, tree_owned}
-use Rattle.value_index.proofs.StepLemmas.{refuses_width}
+use Rattle.posting_store.proofs.RefusalLemmas.{of_one}
+use Rattle.index_moves.proofs.UsedLemmas.{tree_used}
 use Rattle.index_moves.proofs.WordLemmas.{tree_apart, tree_counts, tree_moved}
 use Rattle.index_moves.proofs.lists.move_tree.Goals as goal
 
@@ -36,9 +38,12 @@ returns-in_err-root-clause-counts g c =
 pub returns-in_err-root-clause-refuses : goal.returns-in_err-root-clause-refuses
 returns-in_err-root-clause-refuses g c =
     let ledger = g.S.Store.ledger in
+    let a = ledger c.args.store.now in
+    let m = g.S.Frozen.records c.args.store.now in
+    let is : c.args.list ≡ 2 * c.record_of.result + 1 = (let e = c.record_of.ensures in let odd = c.requires.tree in omega arith) in
+    let used = tree_used a m c.args.list c.record_of.result c.requires.list c.requires.plain is c.requires.owns in
     let p = err_from_is_err_and c.from_residual.result c.from_residual.ensures.1 in
-    rw (p.1, p.2) (refuses_width (ledger c.args.store.now) (ledger c.args.store.now) (ledger c.touch.new.store) 34 _
-    refl (may_do-same (ledger c.args.store.now)) c.in_err-root.ensures.refuses)
+    rw (p.1, p.2) (of_one (IsUsedWidth a m) a a (ledger c.touch.new.store) 34 _ (may_do-same a) refl used c.in_err-root.ensures.refuses)
 
 pub returns-clause-makes : goal.returns-clause-makes
 returns-clause-makes g c =

@@ -4,10 +4,11 @@ use Rattle.std.proofs.lemmas.Int.{to_z-of_z}
 use Rattle.std.specs.BTreeMap.{insert_entry}
 use Rattle.std.specs.Ordering.{nat_cmp}
 use Rattle.attr_images.specs.Words.{unpacked}
+use Rattle.store_api.specs.Calls.{RefusesOf}
 use Rattle.store_api.specs.Parts.{Owns}
 use Rattle.store_api.specs.Units.{MayDo}
 use Rattle.posting_store.specs.Lists.{list_at, list_levels, IsList, AreDocuments}
-use Rattle.posting_store.specs.Changes.{list_part, list_most, MakesList, MakesWithin, RefusesSome}
+use Rattle.posting_store.specs.Changes.{list_part, list_most, IsListWidth, MakesList, MakesWithin}
 use Rattle.posting_store.proofs.ChangeLemmas.{counts_more}
 use Rattle.posting_store.proofs.FormLemmas.{short_few}
 use Rattle.posting_store.proofs.LeafLemmas.{same_size}
@@ -81,7 +82,14 @@ returns-clause-counts g c =
 
 pub returns-clause-refuses : goal.returns-clause-refuses
 returns-clause-refuses g c =
-    subst (λ s. IfErr c.replace_list.result (RefusesSome (g.S.Store.ledger s) (g.S.Store.ledger c.replace_list.new.store))) c.items_of-items.ensures.same c.replace_list.ensures.refuses
+    let ledger = g.S.Store.ledger in
+    let m = g.S.Frozen.records c.args.store.now in
+    let t = c.replace_list.new.store in
+    let es = list_at m c.args.list in
+    let docs = (insert_entry nat_cmp es c.args.doc c.args.weight) in
+    let read = (ap (map unpacked) c.as_slice.ensures.value ∙ c.put_item.ensures ∙ ap (λ (w : ℤ). insert_entry nat_cmp (map unpacked c.items_of-items.result.items) c.args.doc w) (to_z-of_z w32 c.args.weight c.ranges.weight) ∙ ap (λ (ds : List (ℕ × ℤ)). insert_entry nat_cmp ds c.args.doc c.args.weight) c.items_of-items.ensures.items) in
+    let refuses = subst (λ s. IfErr c.replace_list.result (RefusesOf (IsListWidth (length c.as_slice.result.now)) (ledger s) (ledger t))) c.items_of-items.ensures.same c.replace_list.ensures.refuses in
+    subst (λ (k : ℕ). IfErr c.replace_list.result (RefusesOf (IsListWidth k) (ledger c.args.store.now) (ledger t))) (same_size c.as_slice.result.now docs read) refuses
 
 pub returns-clause-may : goal.returns-clause-may
 returns-clause-may g c = subst (λ s. MayDo (g.S.Store.ledger s) (g.S.Store.ledger c.replace_list.new.store)) c.items_of-items.ensures.same c.replace_list.ensures.may

@@ -1,13 +1,16 @@
-use Rattle.std.proofs.Common.{◌≡◌, ◌+◌, ◌*◌, ℕ, ℤ, w32, ap, subst, ◌∙◌, refl, arith}
+use Rattle.std.proofs.Common.{◌≡◌, ◌+◌, ◌*◌, ℕ, ℤ, length, w32, ap, subst, ◌∙◌, refl, arith}
 use Rattle.std.proofs.lemmas.Int.{to_z-of_z}
 use Rattle.std.specs.BTreeMap.{insert_entry}
 use Rattle.std.specs.Int.{cast_unsigned}
 use Rattle.std.specs.Ordering.{nat_cmp}
 use Rattle.attr_images.specs.Words.{weight_of}
 use Rattle.posting_store.specs.Lists.{list_at}
-use Rattle.posting_store.specs.Changes.{MakesList}
+use Rattle.posting_store.specs.Changes.{IsListWidth, MakesList}
+use Rattle.std.proofs.lemmas.Result.{err_from_is_err_and}
+use Rattle.store_api.proofs.May.{may_do-same}
+use Rattle.posting_store.proofs.RefusalLemmas.{of_one}
 use Rattle.posting_store.proofs.ItemLemmas.{cmp_same}
-use Rattle.posting_store.proofs.LeafLemmas.{tree_keyed, tree_owned, tree_added, counts_added}
+use Rattle.posting_store.proofs.LeafLemmas.{tree_keyed, tree_owned, tree_added, counts_added, width_added}
 use Rattle.posting_store.proofs.adding.add_to_tree.Goals as goal
 
 pub insert-requires : goal.insert-requires
@@ -62,3 +65,14 @@ returns-clause-counts g c =
     let t = c.insert.new.store in
     let is : c.args.list ≡ 2 * c.entry.result + 1 = let e = c.entry.ensures in let odd = c.requires.tree in omega arith in
     counts_added (ledger s) (ledger t) (records s) (records t) c.args.list c.entry.result c.requires.list c.requires.plain is c.args.doc c.args.weight c.insert.ensures.counts
+
+pub returns-in_err-root-clause-refuses : goal.returns-in_err-root-clause-refuses
+returns-in_err-root-clause-refuses g c =
+    let ledger = g.S.Store.ledger in
+    let records = g.S.Frozen.records in
+    let s = c.args.store.now in
+    let t = c.insert.new.store in
+    let is : c.args.list ≡ 2 * c.entry.result + 1 = let e = c.entry.ensures in let odd = c.requires.tree in omega arith in
+    let p = err_from_is_err_and c.from_residual.result c.from_residual.ensures.1 in
+    rw (p.1, p.2) (of_one (IsListWidth (length (insert_entry nat_cmp (list_at (records s) c.args.list) c.args.doc c.args.weight))) (ledger s) (ledger s) (ledger t) 34 _ (may_do-same (ledger s)) refl
+    (width_added (ledger s) (ledger t) (records s) (records t) c.args.list c.entry.result c.requires.list c.requires.plain is c.args.doc c.args.weight) c.in_err-root.ensures.refuses)

@@ -1,6 +1,10 @@
 use Rattle.std.proofs.Common.{◌/◌, ◌%◌, ◌∙◌, length, get_or, refl, arith, length-set}
 use Rattle.std.specs.List.{zip}
-use Rattle.posting_store.proofs.ChangeLemmas.{counts_tree}
+use Rattle.std.proofs.lemmas.Result.{err_from_is_err_and}
+use Rattle.store_api.proofs.May.{may_do-same}
+use Rattle.posting_store.specs.Changes.{IsListWidth}
+use Rattle.posting_store.proofs.RefusalLemmas.{of_one}
+use Rattle.posting_store.proofs.ChangeLemmas.{counts_tree, is_tree_width}
 use Rattle.posting_store.proofs.LeafLemmas.{doc_word, weight_word, taken_more, taken_all, all_pairs, leaf_even, leaf_fits, leaf_ascends, makes_leaf}
 use Rattle.posting_store.proofs.making.make_leaf.Goals as goal
 
@@ -57,3 +61,11 @@ returns-clause-makes g c =
 pub returns-clause-counts : goal.returns-clause-counts
 returns-clause-counts g c =
     counts_tree (g.S.Store.ledger c.args.store.now) (g.S.Store.ledger c.build_leaf.new.store) 0 (length c.args.items.now) 1 (let nine = c.requires.nine in omega arith) (omega arith) c.build_leaf.ensures.counts
+
+pub returns-in_err-root-clause-refuses : goal.returns-in_err-root-clause-refuses
+returns-in_err-root-clause-refuses g c =
+    let a = g.S.Store.ledger c.args.store.now in
+    let size = length c.args.items.now in
+    let p = err_from_is_err_and c.from_residual.result c.from_residual.ensures.1 in
+    rw (p.1, p.2) (of_one (IsListWidth size) a a (g.S.Store.ledger c.build_leaf.new.store) 34 _ (may_do-same a) refl
+    (is_tree_width size (let nine = c.requires.nine in omega arith)) c.in_err-root.ensures.refuses)

@@ -9,10 +9,11 @@ use Rattle.attr_types.specs.Value.{type_of}
 use Rattle.enum_dictionary.specs.Dictionaries.{beside}
 use Rattle.key_order.specs.Pairs.{lookup_pair}
 use Rattle.tree_images.specs.Trees.{tree_pairs}
-use Rattle.posting_store.specs.Changes.{MakesWithin, RefusesSome}
+use Rattle.posting_store.specs.Changes.{MakesWithin}
+use Rattle.store_api.specs.Calls.{RefusesOf}
 use Rattle.store_api.specs.Parts.{Owns}
 use Rattle.store_api.specs.Units.{MayDo}
-use Rattle.value_index.specs.Changes.{add_most, MakesIndex}
+use Rattle.value_index.specs.Changes.{add_most, IsChangeWidth, MakesIndex}
 use Rattle.value_index.specs.Indexes.{index_part, IsIndex}
 use Rattle.value_index.proofs.StepLemmas.{entry_found, entry_none}
 use Rattle.value_index.proofs.adding.add.Goals as goal
@@ -77,7 +78,15 @@ returns-in-Some-clause-makes g c =
 
 pub returns-in-Some-clause-refuses : goal.returns-in-Some-clause-refuses
 returns-in-Some-clause-refuses g c =
-    subst (λ s. IfErr c.add_more.result (RefusesSome (g.S.Store.ledger s) (g.S.Store.ledger c.add_more.new.store))) c.find.ensures.same c.add_more.ensures.refuses
+    let ledger = g.S.Store.ledger in
+    let records = g.S.Frozen.records in
+    let value = c.args.value.now in
+    let root = c.args.root in
+    let t = c.add_more.new.store in
+    subst (λ (w : ℤ). IfErr c.add_more.result (RefusesOf (IsChangeWidth value
+    (length (insert_entry nat_cmp (list_of value (index_of (type_of value) (records c.args.store.now) root)) c.args.doc w))) (ledger c.args.store.now) (ledger t))) (to_z-of_z w32 c.args.weight c.ranges.weight)
+    (subst (λ s. IfErr c.add_more.result (RefusesOf (IsChangeWidth value
+    (length (insert_entry nat_cmp (list_of value (index_of (type_of value) (records s) root)) c.args.doc (to_z w32 (of_z w32 c.args.weight))))) (ledger s) (ledger t))) c.find.ensures.same c.add_more.ensures.refuses)
 
 pub returns-in-Some-clause-may : goal.returns-in-Some-clause-may
 returns-in-Some-clause-may g c = subst (λ s. MayDo (g.S.Store.ledger s) (g.S.Store.ledger c.add_more.new.store)) c.find.ensures.same c.add_more.ensures.may
@@ -95,7 +104,15 @@ returns-in-None-clause-makes g c =
 
 pub returns-in-None-clause-refuses : goal.returns-in-None-clause-refuses
 returns-in-None-clause-refuses g c =
-    subst (λ s. IfErr c.add_new.result (RefusesSome (g.S.Store.ledger s) (g.S.Store.ledger c.add_new.new.store))) c.find.ensures.same c.add_new.ensures.refuses
+    let ledger = g.S.Store.ledger in
+    let records = g.S.Frozen.records in
+    let value = c.args.value.now in
+    let root = c.args.root in
+    let t = c.add_new.new.store in
+    subst (λ (w : ℤ). IfErr c.add_new.result (RefusesOf (IsChangeWidth value
+    (length (insert_entry nat_cmp (list_of value (index_of (type_of value) (records c.args.store.now) root)) c.args.doc w))) (ledger c.args.store.now) (ledger t))) (to_z-of_z w32 c.args.weight c.ranges.weight)
+    (subst (λ s. IfErr c.add_new.result (RefusesOf (IsChangeWidth value
+    (length (insert_entry nat_cmp (list_of value (index_of (type_of value) (records s) root)) c.args.doc (to_z w32 (of_z w32 c.args.weight))))) (ledger s) (ledger t))) c.find.ensures.same c.add_new.ensures.refuses)
 
 pub returns-in-None-clause-may : goal.returns-in-None-clause-may
 returns-in-None-clause-may g c = subst (λ s. MayDo (g.S.Store.ledger s) (g.S.Store.ledger c.add_new.new.store)) c.find.ensures.same c.add_new.ensures.may

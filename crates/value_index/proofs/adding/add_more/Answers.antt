@@ -7,16 +7,17 @@ use Rattle.attr_images.specs.Postings.{index_of}
 use Rattle.attr_index.specs.Index.{list_of}
 use Rattle.attr_types.specs.Value.{type_of}
 use Rattle.tree_make.specs.Changes.{levels}
-use Rattle.posting_store.specs.Changes.{list_most, MakesList, MakesWithin}
+use Rattle.posting_store.specs.Changes.{list_most, IsListWidth, MakesList, MakesWithin}
 use Rattle.posting_store.specs.Lists.{list_at, list_levels}
-use Rattle.store_api.proofs.May.{may_do-then}
+use Rattle.posting_store.proofs.RefusalLemmas.{if_one, of_more}
+use Rattle.store_api.proofs.May.{may_do-same, may_do-then}
 use Rattle.value_index.proofs.ChangeLemmas.{open_dictionary, open_owns}
-use Rattle.value_index.specs.Changes.{add_most, nodes_most}
+use Rattle.value_index.specs.Changes.{add_most, nodes_most, IsChangeWidth}
 use Rattle.value_index.proofs.CountLemmas.{add_found, within_more, within_then, within_tree}
 use Rattle.value_index.proofs.KeyLemmas.{pair_found}
 use Rattle.value_index.proofs.OpenFlows.{flows_found}
 use Rattle.value_index.proofs.ShownLemmas.{Docs}
-use Rattle.value_index.proofs.StepLemmas.{if_refuses_width, inserted_some, list_is, list_owned, open_next, set_index}
+use Rattle.value_index.proofs.StepLemmas.{inserted_some, list_change, list_is, list_owned, node_change, open_next, set_index}
 use Rattle.value_index.proofs.adding.add_more.Goals as goal
 
 pub add-requires-clause-unit : goal.add-requires-clause-unit
@@ -43,7 +44,20 @@ returns-in_err-next-clause-makes g c = let p = err_from_is_err_and c.from_residu
 
 pub returns-in_err-next-clause-refuses : goal.returns-in_err-next-clause-refuses
 returns-in_err-next-clause-refuses g c =
-    let p = err_from_is_err_and c.from_residual.result c.from_residual.ensures.1 in rw (p.1, p.2) c.in_err-next.ensures.refuses
+    let ledger = g.S.Store.ledger in
+    let value = c.args.value.now in
+    let root = c.args.root in
+    let m = g.S.Frozen.records c.args.store.now in
+    let list = c.args.list in
+    let a = ledger c.args.store.now in
+    let count : ℕ = length (insert_entry nat_cmp (list_of value (index_of (type_of value) m root)) c.args.doc c.args.weight) in
+    let was = list_is value m root c.requires.index c.args.key list c.requires.found in
+    let size : length (insert_entry nat_cmp (list_at m list) c.args.doc (to_z w32 (of_z w32 c.args.weight))) ≡ count =
+    ap (λ (w : ℤ). length (insert_entry nat_cmp (list_at m list) c.args.doc w)) (to_z-of_z w32 c.args.weight c.ranges.weight)
+    ∙ ap (λ (ds : Docs). length (insert_entry nat_cmp ds c.args.doc c.args.weight)) was in
+    let p = err_from_is_err_and c.from_residual.result c.from_residual.ensures.1 in
+    rw (p.1, p.2) (of_more (IsListWidth (length (insert_entry nat_cmp (list_at m list) c.args.doc (to_z w32 (of_z w32 c.args.weight))))) (IsChangeWidth value count) a a (ledger c.add.new.store) _ (may_do-same a)
+    (λ w is. list_change value count w (subst (λ k. IsListWidth k w) size is)) c.in_err-next.ensures.refuses)
 
 pub returns-in_err-next-clause-may : goal.returns-in_err-next-clause-may
 returns-in_err-next-clause-may g c = c.add.ensures.may
@@ -97,7 +111,11 @@ returns-clause-makes g c =
 pub returns-clause-refuses : goal.returns-clause-refuses
 returns-clause-refuses g c =
     let ledger = g.S.Store.ledger in
-    if_refuses_width (ledger c.args.store.now) (ledger c.add.new.store) (ledger c.set.new.store) 34 c.set.result refl c.add.ensures.may c.set.ensures.refuses
+    let value = c.args.value.now in
+    let root = c.args.root in
+    let m = g.S.Frozen.records c.args.store.now in
+    let count : ℕ = length (insert_entry nat_cmp (list_of value (index_of (type_of value) m root)) c.args.doc c.args.weight) in
+    if_one (IsChangeWidth value count) (ledger c.args.store.now) (ledger c.add.new.store) (ledger c.set.new.store) 34 c.set.result c.add.ensures.may refl (node_change value count) c.set.ensures.refuses
 
 pub returns-clause-may : goal.returns-clause-may
 returns-clause-may g c =

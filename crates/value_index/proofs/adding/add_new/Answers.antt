@@ -11,16 +11,17 @@ use Rattle.attr_images.specs.Words.{class_of}
 use Rattle.attr_index.specs.Index.{list_of}
 use Rattle.attr_types.specs.Value.{type_of}
 use Rattle.tree_make.specs.Changes.{levels}
-use Rattle.posting_store.specs.Changes.{list_most, MakesList, MakesWithin}
+use Rattle.posting_store.specs.Changes.{list_most, IsListWidth, MakesList, MakesWithin}
 use Rattle.posting_store.proofs.ListLemmas.{nothing_is}
+use Rattle.posting_store.proofs.RefusalLemmas.{if_one, of_more, of_one}
 use Rattle.store_api.proofs.May.{may_do-same, may_do-then}
 use Rattle.value_index.proofs.ChangeLemmas.{open_dictionary, open_owns}
-use Rattle.value_index.specs.Changes.{add_most, nodes_most, record_most}
+use Rattle.value_index.specs.Changes.{add_most, nodes_most, record_most, IsChangeWidth}
 use Rattle.value_index.proofs.CountLemmas.{add_none, within_more, within_record, within_then, within_tree}
 use Rattle.value_index.proofs.KeyLemmas.{list_none}
 use Rattle.value_index.proofs.OpenFlows.{flows_new}
 use Rattle.value_index.proofs.ShownLemmas.{Docs}
-use Rattle.value_index.proofs.StepLemmas.{if_refuses_width, inserted_some, open_new, refuses_after, refuses_width, set_index}
+use Rattle.value_index.proofs.StepLemmas.{inserted_some, list_change, node_change, open_new, record_change, set_index}
 use Rattle.value_index.proofs.adding.add_new.Goals as goal
 
 pub add-requires : goal.add-requires
@@ -32,9 +33,14 @@ returns-in_err-key-clause-makes g c = let p = err_from_is_err_and c.from_residua
 pub returns-in_err-key-clause-refuses : goal.returns-in_err-key-clause-refuses
 returns-in_err-key-clause-refuses g c =
     let ledger = g.S.Store.ledger in
+    let value = c.args.value.now in
+    let root = c.args.root in
+    let m = g.S.Frozen.records c.args.store.now in
+    let count : ℕ = length (insert_entry nat_cmp (list_of value (index_of (type_of value) m root)) c.args.doc c.args.weight) in
+    let a = ledger c.args.store.now in
     let p = err_from_is_err_and c.from_residual.result c.from_residual.ensures.1 in
-    rw (p.1, p.2) (refuses_width (ledger c.args.store.now) (ledger c.args.store.now) (ledger c.add.new.store) _ _
-    (class_width (length (value_words c.args.value.now))) (may_do-same (ledger c.args.store.now)) c.in_err-key.ensures.refuses)
+    rw (p.1, p.2) (of_one (IsChangeWidth value count) a a (ledger c.add.new.store) (class_of (length (value_words value))) _ (may_do-same a) (class_width (length (value_words value)))
+    (record_change value count (inserted_some (list_of value (index_of (type_of value) m root)) c.args.doc c.args.weight)) c.in_err-key.ensures.refuses)
 
 pub returns-in_err-key-clause-may : goal.returns-in_err-key-clause-may
 returns-in_err-key-clause-may g c = c.add.ensures.may
@@ -60,8 +66,14 @@ returns-in_err-list-clause-makes g c = let p = err_from_is_err_and c.from_residu
 pub returns-in_err-list-clause-refuses : goal.returns-in_err-list-clause-refuses
 returns-in_err-list-clause-refuses g c =
     let ledger = g.S.Store.ledger in
+    let value = c.args.value.now in
+    let root = c.args.root in
+    let m = g.S.Frozen.records c.args.store.now in
+    let count : ℕ = length (insert_entry nat_cmp (list_of value (index_of (type_of value) m root)) c.args.doc c.args.weight) in
+    let size : count ≡ 1 = ap (λ (ds : Docs). length (insert_entry nat_cmp ds c.args.doc c.args.weight)) (list_none value m root c.requires.index c.requires.new) in
     let p = err_from_is_err_and c.from_residual-in_err-list.result c.from_residual-in_err-list.ensures.1 in
-    rw (p.1, p.2) (refuses_after (ledger c.args.store.now) (ledger c.add.new.store) (ledger c.add-2.new.store) _ c.add.ensures.may c.in_err-list.ensures.refuses)
+    rw (p.1, p.2) (of_more (IsListWidth 1) (IsChangeWidth value count) (ledger c.args.store.now) (ledger c.add.new.store) (ledger c.add-2.new.store) _ c.add.ensures.may
+    (λ w is. subst (λ k. IsChangeWidth value k w) (sym size) (list_change value 1 w is)) c.in_err-list.ensures.refuses)
 
 pub returns-in_err-list-clause-may : goal.returns-in_err-list-clause-may
 returns-in_err-list-clause-may g c =
@@ -125,8 +137,12 @@ returns-clause-makes g c =
 pub returns-clause-refuses : goal.returns-clause-refuses
 returns-clause-refuses g c =
     let ledger = g.S.Store.ledger in
-    if_refuses_width (ledger c.args.store.now) (ledger c.add-2.new.store) (ledger c.set.new.store) 34 c.set.result refl
-    (may_do-then (ledger c.args.store.now) (ledger c.add.new.store) (ledger c.add-2.new.store) c.add.ensures.may c.add-2.ensures.may) c.set.ensures.refuses
+    let value = c.args.value.now in
+    let root = c.args.root in
+    let m = g.S.Frozen.records c.args.store.now in
+    let count : ℕ = length (insert_entry nat_cmp (list_of value (index_of (type_of value) m root)) c.args.doc c.args.weight) in
+    if_one (IsChangeWidth value count) (ledger c.args.store.now) (ledger c.add-2.new.store) (ledger c.set.new.store) 34 c.set.result
+    (may_do-then (ledger c.args.store.now) (ledger c.add.new.store) (ledger c.add-2.new.store) c.add.ensures.may c.add-2.ensures.may) refl (node_change value count) c.set.ensures.refuses
 
 pub returns-clause-may : goal.returns-clause-may
 returns-clause-may g c =

@@ -9,10 +9,11 @@ use Rattle.attr_types.specs.Value.{type_of}
 use Rattle.enum_dictionary.specs.Dictionaries.{beside}
 use Rattle.key_order.specs.Pairs.{lookup_pair}
 use Rattle.tree_images.specs.Trees.{tree_pairs}
-use Rattle.posting_store.specs.Changes.{MakesWithin, RefusesSome}
+use Rattle.posting_store.specs.Changes.{MakesWithin}
+use Rattle.store_api.specs.Calls.{RefusesOf}
 use Rattle.store_api.specs.Parts.{Owns}
 use Rattle.store_api.specs.Units.{MayDo}
-use Rattle.value_index.specs.Changes.{change_most, MakesIndex}
+use Rattle.value_index.specs.Changes.{change_most, IsChangeWidth, MakesIndex}
 use Rattle.value_index.specs.Indexes.{index_part, IsIndex}
 use Rattle.value_index.proofs.StepLemmas.{entry_found, entry_none, value_found}
 use Rattle.value_index.proofs.removing.remove.Goals as goal
@@ -63,7 +64,13 @@ returns-clause-makes g c =
 
 pub returns-clause-refuses : goal.returns-clause-refuses
 returns-clause-refuses g c =
-    subst (λ s. IfErr c.remove_from.result (RefusesSome (g.S.Store.ledger s) (g.S.Store.ledger c.remove_from.new.store))) c.find.ensures.same c.remove_from.ensures.refuses
+    let ledger = g.S.Store.ledger in
+    let records = g.S.Frozen.records in
+    let value = c.args.value.now in
+    let root = c.args.root in
+    let t = c.remove_from.new.store in
+    subst (λ s. IfErr c.remove_from.result (RefusesOf (IsChangeWidth value
+    (length (remove_entry (is_at (nat_cmp c.args.doc)) (list_of value (index_of (type_of value) (records s) root))))) (ledger s) (ledger t))) c.find.ensures.same c.remove_from.ensures.refuses
 
 pub returns-clause-may : goal.returns-clause-may
 returns-clause-may g c = subst (λ s. MayDo (g.S.Store.ledger s) (g.S.Store.ledger c.remove_from.new.store)) c.find.ensures.same c.remove_from.ensures.may

@@ -7,16 +7,17 @@ use Rattle.attr_images.specs.Postings.{index_of}
 use Rattle.attr_index.specs.Index.{list_of}
 use Rattle.attr_types.specs.Value.{type_of}
 use Rattle.tree_make.specs.Changes.{levels}
-use Rattle.posting_store.specs.Changes.{list_most, MakesWithin}
+use Rattle.posting_store.specs.Changes.{list_most, IsListWidth, MakesWithin}
 use Rattle.posting_store.specs.Lists.{list_at, list_levels}
-use Rattle.store_api.proofs.May.{may_do-then}
+use Rattle.posting_store.proofs.RefusalLemmas.{if_one, of_more, of_one}
+use Rattle.store_api.proofs.May.{may_do-same, may_do-then}
 use Rattle.value_index.proofs.ChangeLemmas.{drop_owns, open_dictionary, open_owns, open_there}
-use Rattle.value_index.specs.Changes.{change_most, nodes_most}
+use Rattle.value_index.specs.Changes.{change_most, nodes_most, IsChangeWidth}
 use Rattle.value_index.proofs.CountLemmas.{change_found, within_dropped, within_more, within_then, within_tree}
 use Rattle.value_index.proofs.KeyLemmas.{pair_found}
 use Rattle.value_index.proofs.OpenFlows.{flows_found}
 use Rattle.value_index.proofs.ShownLemmas.{Docs}
-use Rattle.value_index.proofs.StepLemmas.{filled_list, if_refuses_width, list_is, list_owned, list_there, open_next, out_index, refuses_width, set_index}
+use Rattle.value_index.proofs.StepLemmas.{filled_list, list_change, list_is, list_owned, list_there, node_change, open_next, out_index, set_index}
 use Rattle.value_index.proofs.removing.remove_from.Goals as goal
 
 pub remove-requires-clause-unit : goal.remove-requires-clause-unit
@@ -48,7 +49,19 @@ returns-in_err-next-clause-makes g c = let p = err_from_is_err_and c.from_residu
 
 pub returns-in_err-next-clause-refuses : goal.returns-in_err-next-clause-refuses
 returns-in_err-next-clause-refuses g c =
-    let p = err_from_is_err_and c.from_residual.result c.from_residual.ensures.1 in rw (p.1, p.2) c.in_err-next.ensures.refuses
+    let ledger = g.S.Store.ledger in
+    let value = c.args.value.now in
+    let root = c.args.root in
+    let m = g.S.Frozen.records c.args.store.now in
+    let list = c.args.list in
+    let a = ledger c.args.store.now in
+    let count : ℕ = length (remove_entry (is_at (nat_cmp c.args.doc)) (list_of value (index_of (type_of value) m root))) in
+    let was = list_is value m root c.requires.index c.args.key list c.requires.found in
+    let size : length (remove_entry (is_at (nat_cmp c.args.doc)) (list_at m list)) ≡ count =
+    ap (λ (ds : Docs). length (remove_entry (is_at (nat_cmp c.args.doc)) ds)) was in
+    let p = err_from_is_err_and c.from_residual.result c.from_residual.ensures.1 in
+    rw (p.1, p.2) (of_more (IsListWidth (length (remove_entry (is_at (nat_cmp c.args.doc)) (list_at m list)))) (IsChangeWidth value count) a a (ledger c.remove.new.store) _ (may_do-same a)
+    (λ w is. list_change value count w (subst (λ k. IsListWidth k w) size is)) c.in_err-next.ensures.refuses)
 
 pub returns-in_err-next-clause-may : goal.returns-in_err-next-clause-may
 returns-in_err-next-clause-may g c = c.remove.ensures.may
@@ -102,7 +115,11 @@ returns-then-word-ne0-clause-makes g c =
 pub returns-then-word-ne0-clause-refuses : goal.returns-then-word-ne0-clause-refuses
 returns-then-word-ne0-clause-refuses g c =
     let ledger = g.S.Store.ledger in
-    if_refuses_width (ledger c.args.store.now) (ledger c.remove.new.store) (ledger c.set.new.store) 34 c.set.result refl c.remove.ensures.may c.set.ensures.refuses
+    let value = c.args.value.now in
+    let root = c.args.root in
+    let m = g.S.Frozen.records c.args.store.now in
+    let count : ℕ = length (remove_entry (is_at (nat_cmp c.args.doc)) (list_of value (index_of (type_of value) m root))) in
+    if_one (IsChangeWidth value count) (ledger c.args.store.now) (ledger c.remove.new.store) (ledger c.set.new.store) 34 c.set.result c.remove.ensures.may refl (node_change value count) c.set.ensures.refuses
 
 pub returns-then-word-ne0-clause-may : goal.returns-then-word-ne0-clause-may
 returns-then-word-ne0-clause-may g c =
@@ -142,8 +159,12 @@ returns-in_err-left-clause-makes g c =
 pub returns-in_err-left-clause-refuses : goal.returns-in_err-left-clause-refuses
 returns-in_err-left-clause-refuses g c =
     let ledger = g.S.Store.ledger in
+    let value = c.args.value.now in
+    let root = c.args.root in
+    let m = g.S.Frozen.records c.args.store.now in
+    let count : ℕ = length (remove_entry (is_at (nat_cmp c.args.doc)) (list_of value (index_of (type_of value) m root))) in
     let p = err_from_is_err_and c.from_residual-in_err-left.result c.from_residual-in_err-left.ensures.1 in
-    rw (p.1, p.2) (refuses_width (ledger c.args.store.now) (ledger c.remove.new.store) (ledger c.remove-2.new.store) 34 _ refl c.remove.ensures.may c.in_err-left.ensures.refuses)
+    rw (p.1, p.2) (of_one (IsChangeWidth value count) (ledger c.args.store.now) (ledger c.remove.new.store) (ledger c.remove-2.new.store) 34 _ c.remove.ensures.may refl (node_change value count) c.in_err-left.ensures.refuses)
 
 pub returns-in_err-left-clause-may : goal.returns-in_err-left-clause-may
 returns-in_err-left-clause-may g c =

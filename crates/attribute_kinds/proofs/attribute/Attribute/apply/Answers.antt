@@ -10,7 +10,8 @@ use Rattle.attr_types.specs.Table.{after_op}
 use Rattle.attr_steps.specs.Calls.{KeepsStore, LeavesEntries}
 use Rattle.attribute_kinds.specs.Calls.{RefusesOperation, applied_to}
 use Rattle.attr_steps.specs.Counts.{MakesOperation, SparesOperation}
-use Rattle.attribute_kinds.specs.Counts.{LacksBuffers, SparesOf}
+use Rattle.attr_steps.specs.Widths.{IsFullAmong, IsOperationWidth}
+use Rattle.attribute_kinds.specs.Counts.{LacksBuffers, NamesWidth, SparesOf}
 use Rattle.attr_steps.specs.Fields.{AreFields, OwnsFields, trees_of}
 use Rattle.attr_steps.specs.Steps.{Stepped}
 use Rattle.attr_steps.specs.Views.{table_at}
@@ -20,7 +21,7 @@ use Rattle.attr_steps.proofs.Holding.{holds_owns}
 use Rattle.attribute_kinds.proofs.StandLemmas.{stands_turned, stands_left}
 use Rattle.attr_steps.proofs.Columns.{trees_sound}
 use Rattle.attr_steps.proofs.FieldSteps.{laws_of}
-use Rattle.attribute_kinds.proofs.RoomLemmas.{lacks_buffers, spares_operation}
+use Rattle.attribute_kinds.proofs.RoomLemmas.{lacks_buffers, names_width, spares_operation}
 use Rattle.attr_steps.proofs.StepLemmas.{leaves_same}
 use Rattle.compact_steps.specs.Units.{IsUnderWay}
 use Rattle.attribute_kinds.proofs.PlanLemmas.{if_some_map, under_same, under_stepped}
@@ -453,6 +454,19 @@ returns-in-Err-clause-spares g c =
     let spares = spares_operation (ledger new) fields (table_at (records old) trees) op c.in-Err.error few in
     subst (λ (v : AttributeView g.row.S.Denot). SparesOf (ledger new) v.fields v.table op c.refusal.result) c.self.view_is
     (subst (λ a. SparesOf (ledger new) fields (table_at (records old) trees) op a) (sym c.refusal.ensures) spares)
+
+pub returns-in-Err-clause-widths : goal.returns-in-Err-clause-widths
+returns-in-Err-clause-widths g c =
+    let records = g.S.Frozen.records in
+    let inside = c.self.inside in
+    let old = inside.store in
+    let fields = inside.fields in
+    let trees = trees_of fields inside.roots.items in
+    let op = c.args.op.now in
+    let full = subst (λ fs. IsFullAmong (IsOperationWidth fs (table_at (records old) (trees_of fs inside.roots.items)) op) c.in-Err.error) c.as_slice.ensures
+    (subst (λ rs. IsFullAmong (IsOperationWidth c.as_slice.result.now (table_at (records old) (trees_of c.as_slice.result.now rs)) op) c.in-Err.error) c.deref.ensures.value c.in-Err.ensures.widths) in
+    subst (λ (v : AttributeView g.row.S.Denot). NamesWidth v.fields v.table op c.refusal.result) c.self.view_is
+    (subst (λ a. NamesWidth fields (table_at (records old) trees) op a) (sym c.refusal.ensures) (names_width fields (table_at (records old) trees) op c.in-Err.error full))
 
 pub returns-in-Err-clause-room : goal.returns-in-Err-clause-room
 returns-in-Err-clause-room g c =

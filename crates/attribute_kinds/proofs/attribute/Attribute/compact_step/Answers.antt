@@ -1,11 +1,10 @@
 use Rattle.std.proofs.Common.{◌≡◌, ◌≤◌, List, Option, length, refl, inl, sym, ap, subst, ◌∙◌, arith}
 use Rattle.std.proofs.lemmas.List.{with_items_is}
-use Rattle.std.specs.Prelude.{is_some, IfErr, IfOk}
+use Rattle.std.specs.Prelude.{IfErr, IfOk}
 use Rattle.std.specs.Option.{IfSome}
 use Rattle.std.specs.Vec.{with_items}
 use Rattle.image_base.specs.Images.{words_at}
 use Rattle.image_base.specs.declared.Image.{Image}
-use Rattle.arena_api.specs.Works.{last_image}
 use Rattle.attr_compaction.specs.Places.{PlanView}
 use Rattle.attr_field.specs.declared.roots.FieldRoots.{FieldRoots}
 use Rattle.attr_images.specs.Images.{table_of}
@@ -18,10 +17,8 @@ use Rattle.compact_steps.specs.Units.{IsUnderWay}
 use Rattle.compact_steps.specs.Compactions.{Compacts, KeepsStoreBut}
 use Rattle.compact_steps.specs.Walks.{HasLastField}
 use Rattle.attribute_kinds.specs.Compacting.{CompactsTo, IsIdle, RefusesStep}
-use Rattle.attribute_kinds.specs.Refusals.{told_of}
 use Rattle.attribute_kinds.specs.Standing.{IsAttribute}
 use Rattle.attribute_kinds.specs.Views.{AttributeView}
-use Rattle.attribute_kinds.specs.declared.answers.Compacted.TheVariants.{Idle}
 use Rattle.attribute_kinds.proofs.CompactLemmas.{attribute_told, idle_told, keeps_told, refuses_told, seen, steps_told, table_told}
 use Rattle.attribute_kinds.proofs.PlanLemmas.{none_finished, none_waits}
 use Rattle.attribute_kinds.proofs.attribute.Attribute.compact_step.Goals as goal

@@ -1,0 +1,28 @@
+-- For which widths an operation may be refused.
+use Rattle.std.specs.Prelude.{◌≡◌, ℕ, List, slice_get, Option, Some}
+use Rattle.store_api.specs.declared.store.StoreError.{StoreError}
+use Rattle.store_api.specs.declared.store.StoreError.TheVariants as errors
+use Rattle.attr_field.specs.Widths.{IsFieldWidth}
+use Rattle.attr_index.specs.Columns.{column_of}
+use Rattle.attr_types.specs.Table.{Table, after_op}
+use Rattle.attr_types.specs.Value.{Document}
+use Rattle.attr_types.specs.declared.field.Field.{Field}
+use Rattle.attr_types.specs.declared.op.Op.{Op}
+use Rattle.attr_steps.specs.Counts.{document_after, document_before, items_at}
+
+-- by the table after a document's change: a width for which its change in one attribute may be refused
+pub record IsChangedWidth (fields : List Field) (table : Table) (before after : Option Document) (width : ℕ) : Type 0 where
+  pub number : ℕ
+  pub field : Field
+  pub field_is : slice_get fields number ≡ Some field
+  pub is : IsFieldWidth field.kind (column_of number table) (items_at before number) (items_at after number) width
+
+-- by the table before an operation
+abbrev pub IsOperationWidth : List Field → Table → Op → ℕ → Type 0
+IsOperationWidth fields table op =
+    IsChangedWidth fields (after_op fields table op) (document_before table op) (document_after fields table op)
+
+-- where a store was full it was so for such a width
+abbrev pub IsFullAmong : (ℕ → Type 0) → StoreError → Type 0
+IsFullAmong among (errors.Full width active held oldest) = among width
+IsFullAmong among errors.Memory = Unit {0}

@@ -1,0 +1,75 @@
+-- Of which width a walk was refused.
+use Rattle.std.proofs.Common.{◌≡◌, ℕ, ℤ, List, [], ◌∷◌, ◌++◌, length, cond, Option, Some, None, is_eq, nat_cmp, Less, refl, sym, ap, subst, ◌∙◌, inl, inr}
+use Rattle.std.specs.BTreeMap.{insert_entry, is_at}
+use Rattle.std.specs.List.{AllByRecursion}
+use Rattle.std.specs.List.Sorted.{IsStrictlySortedBy}
+use Rattle.std.specs.Map.{keys_of, lookup, remove_entry}
+use Rattle.std.specs.Option.{is_some}
+use Rattle.std.specs.Ordering.{ordering_reverse}
+use Rattle.attr_index.proofs.MapLemmas.{IsWalk, IsWalkBack}
+use Rattle.attr_index.proofs.OfLemmas.{all_found}
+use Rattle.attr_index.specs.Changes.{settled}
+use Rattle.attr_index.specs.Index.{Index, list_of}
+use Rattle.attr_types.specs.ProofsForOrder.{value_cmp_total}
+use Rattle.attr_types.specs.Value.{value_cmp}
+use Rattle.attr_types.specs.declared.value.Value.{Value}
+use Rattle.value_index.specs.Changes.{IsChangeWidth, IsValueWidth}
+use Rattle.attr_walks.specs.Widths.{IsWalkWidth}
+
+-- an entry at its place, and none of its value before it
+at_here : (P : Value × ℤ → Type 0) (done more : List (Value × ℤ)) (e : Value × ℤ) → AllByRecursion P (done ++ e ∷ more) → P e
+at_here P [] more e all = all.0
+at_here P (d ∷ done) more e all = at_here P done more e all.1
+
+at_place : (first value : Value) (weight : ℤ) (es more : List (Value × ℤ)) → AllByRecursion (λ y. value_cmp first y ≡ Less) (keys_of (es ++ (value, weight) ∷ more))
+    → value_cmp first value ≡ Less
+at_place first value weight [] more all = all.0
+at_place first value weight (e ∷ es) more all = at_place first value weight es more all.1
+
+none_before : (value : Value) (weight : ℤ) (es more : List (Value × ℤ)) → IsStrictlySortedBy value_cmp (keys_of (es ++ (value, weight) ∷ more))
+    → lookup (is_at (value_cmp value)) es ≡ None
+unfolding IsStrictlySortedBy
+none_before value weight [] more up = refl
+none_before value weight (e ∷ es) more up =
+    ap (λ r. cond (is_eq r) (Some e.1) (lookup (is_at (value_cmp value)) es))
+    (value_cmp_total.antisymm value e.0 ∙ ap ordering_reverse (at_place e.0 value weight es more up.0))
+    ∙ none_before value weight es more up.1
+
+-- the value that is next in a walk: its list is what it was at first, and is changed once
+module _ (start : Index) (doc : ℕ) (entries rest more : List (Value × ℤ)) (value : Value) (weight : ℤ) (now : Index)
+    (up : IsStrictlySortedBy value_cmp (keys_of entries)) (is : rest ≡ (value, weight) ∷ more) where
+  joined : (done : List (Value × ℤ)) → done ++ rest ≡ entries → done ++ (value, weight) ∷ more ≡ entries
+  joined done joins = ap (λ es. done ++ es) (sym is) ∙ joins
+
+  found : (done : List (Value × ℤ)) → done ++ rest ≡ entries → lookup (is_at (value_cmp value)) entries ≡ Some weight
+  found done joins =
+      at_here (λ e. lookup (is_at (value_cmp e.0)) entries ≡ Some e.1) done more (value, weight)
+      (subst (AllByRecursion (λ e. lookup (is_at (value_cmp e.0)) entries ≡ Some e.1)) (sym (joined done joins)) (all_found value_cmp_total entries up))
+
+  lacks : (done : List (Value × ℤ)) → done ++ rest ≡ entries → lookup (is_at (value_cmp value)) done ≡ None
+  lacks done joins = none_before value weight done more (subst (λ (es : List (Value × ℤ)). IsStrictlySortedBy value_cmp (keys_of es)) (sym (joined done joins)) up)
+
+  pub put_width : (p : IsWalk start doc entries rest now) (w : ℕ) → IsChangeWidth value (length (insert_entry nat_cmp (list_of value now) doc weight)) w
+      → IsWalkWidth start doc (λ v. lookup (is_at (value_cmp v)) entries) (λ v. None) w
+  put_width p w (inl node) = inl node
+  put_width p w (inr one) =
+      let there = found p.done p.joins in
+      let was : list_of value now ≡ list_of value start = p.between.lists value ∙ ap (λ (o : Option ℤ). settled o None doc (list_of value start)) (lacks p.done p.joins) in
+      let lists : insert_entry nat_cmp (list_of value now) doc weight ≡ settled (lookup (is_at (value_cmp value)) entries) None doc (list_of value start) =
+      ap (λ (ds : List (ℕ × ℤ)). insert_entry nat_cmp ds doc weight) was ∙ ap (λ (o : Option ℤ). settled o None doc (list_of value start)) (sym there) in
+      inr (record { value = value; walked = inl (ap is_some there); is = subst (λ (ds : List (ℕ × ℤ)). IsValueWidth value (length ds) w) lists one })
+
+  pub take_width : (added : Value → Option ℤ) (p : IsWalkBack start doc added entries rest now) → added value ≡ None → (w : ℕ)
+      → IsChangeWidth value (length (remove_entry (is_at (nat_cmp doc)) (list_of value now))) w
+      → IsWalkWidth start doc added (λ v. lookup (is_at (value_cmp v)) entries) w
+  take_width added p gone w (inl node) = inl node
+  take_width added p gone w (inr one) =
+      let there = found p.done p.joins in
+      let was : list_of value now ≡ list_of value start =
+      p.between.lists value ∙ ap (λ (o : Option ℤ). settled o (lookup (is_at (value_cmp value)) p.done) doc (list_of value start)) gone
+      ∙ ap (λ (o : Option ℤ). settled None o doc (list_of value start)) (lacks p.done p.joins) in
+      let lists : remove_entry (is_at (nat_cmp doc)) (list_of value now) ≡ settled (added value) (lookup (is_at (value_cmp value)) entries) doc (list_of value start) =
+      ap (λ (ds : List (ℕ × ℤ)). remove_entry (is_at (nat_cmp doc)) ds) was
+      ∙ ap (λ (o : Option ℤ). settled None o doc (list_of value start)) (sym there)
+      ∙ ap (λ (o : Option ℤ). settled o (lookup (is_at (value_cmp value)) entries) doc (list_of value start)) (sym gone) in
+      inr (record { value = value; walked = inr (ap is_some there); is = subst (λ (ds : List (ℕ × ℤ)). IsValueWidth value (length ds) w) lists one })

@@ -1,0 +1,17 @@
+-- For which widths a walk may be refused.
+use Rattle.std.specs.Prelude.{◌≡◌, ◌⊎◌, ℕ, ℤ, length, Option, IsSome}
+use Rattle.tree_images.specs.declared.TheConstants.{NODE_WORDS}
+use Rattle.attr_index.specs.Changes.{settled}
+use Rattle.attr_index.specs.Index.{Index, list_of}
+use Rattle.attr_types.specs.declared.value.Value.{Value}
+use Rattle.value_index.specs.Changes.{IsValueWidth}
+
+-- a width is that of a record which an index has after the walks for a value of the weights that are added or removed
+pub record IsWalkedWidth (start : Index) (doc : ℕ) (added removed : Value → Option ℤ) (width : ℕ) : Type 0 where
+  pub value : Value
+  pub walked : IsSome (added value) ⊎ IsSome (removed value)
+  pub is : IsValueWidth value (length (settled (added value) (removed value) doc (list_of value start))) width
+
+-- such a width, or that of nodes
+abbrev pub IsWalkWidth : Index → ℕ → (Value → Option ℤ) → (Value → Option ℤ) → ℕ → Type 0
+IsWalkWidth start doc added removed width = (width ≡ NODE_WORDS) ⊎ IsWalkedWidth start doc added removed width

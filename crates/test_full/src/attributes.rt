@@ -1,0 +1,179 @@
+//! One attribute of longs over a running memory: its operations and commits.
+ghost use Rattle.std.specs.Prelude.{◌≡◌, length, IfOk, OnOk};
+ghost use Rattle.word_arena.specs.Ruled.{writer_of};
+ghost use Rattle.test_full.specs.New.{IsNewWriter};
+
+use arena_api::{Advance, Oldest};
+use attr_images::AttrLayout;
+use attr_types::{
+    Doc, Field, FieldItems, Fields, Item, Items, Kind, Name, Op, Value, ValueType, fits,
+};
+use attribute_kinds::{AttrError, Attribute, CommitInfo};
+use entry_store::EntryStore;
+use std::alloc::{AllocError, Global};
+use word_arena::{Reader, Writer};
+
+/// Attributes over a running memory.
+pub type Kinds<'a> = Attribute<22, EntryStore<22, Writer<'a, 22, AttrLayout>>>;
+
+/// Why nothing more was put: how many buffers were in use and held, and which hold was the oldest.
+#[derive(Clone, Copy, Drop)]
+pub struct NoRoom {
+    pub active: u32,
+    pub held: u32,
+    pub oldest: Oldest,
+}
+
+/// A field of longs.
+pub fn one_field(alloc: Global) -> Result<Fields, AllocError>
+    ensures { IfOk result (λ fields. length fields ≡ 1) }
+{
+    let name = Name::from_str(alloc, "f")?;
+    Fields::of_one(
+        alloc,
+        Field {
+            name,
+            kind: Kind::Single,
+            value: ValueType::Long,
+        },
+    )
+}
+
+/// A reader of a new memory.
+pub fn seat_in<'a>(
+    writer: &mut Writer<'a, 22, AttrLayout>,
+    fields: &Fields,
+) -> Result<Reader<'a, 22, AttrLayout>, AllocError>
+    requires new { IsNewWriter fields.now writer.old.place.table_id (writer_of writer.old.place.me.0) }
+    ensures new { OnOk result (IsNewWriter fields.now writer.new.place.table_id (writer_of writer.new.place.me.0)) }
+{
+    match writer.reader() {
+        Ok(reader) => Ok(reader),
+        Err(_) => Err(AllocError),
+    }
+}
+
+/// Attributes without a document.
+pub fn new_attribute<'a>(
+    alloc: Global,
+    writer: Writer<'a, 22, AttrLayout>,
+    fields: &Fields,
+) -> Result<Kinds<'a>, AllocError>
+    requires new { IsNewWriter fields.now writer.place.table_id (writer_of writer.place.me.0) }
+    ensures fields { IfOk result (λ a. a.fields ≡ fields.now) }
+{
+    match Attribute::create(alloc, writer, fields, false) {
+        Ok(attribute) => Ok(attribute),
+        Err(_) => Err(AllocError),
+    }
+}
+
+/// The put of a number to a document.
+fn put_of(alloc: Global, document: u32, number: u32) -> Result<Op, AllocError> {
+    let value = Value::Long(i64::from(number));
+    let mut items = Items::new(alloc);
+    items.push(Item { value, weight: 1 })?;
+    let items = FieldItems::of_one(alloc, items)?;
+    let doc = Doc::new(document.max(1).min(Doc::LAST));
+    Ok(Op::Put { doc, items })
+}
+
+/// Where there was no room, which one it was; other refusals are an error.
+fn refused(error: AttrError) -> Result<Option<NoRoom>, AllocError> {
+    match error {
+        AttrError::Full {
+            width: _,
+            active,
+            held,
+            oldest,
+        } => Ok(Some(NoRoom {
+            active,
+            held,
+            oldest,
+        })),
+        AttrError::CommitsSpent { .. } => Err(AllocError),
+        AttrError::Memory => Err(AllocError),
+    }
+}
+
+/// Puts a number to a document.
+pub fn put<'a>(
+    alloc: Global,
+    attribute: &mut Kinds<'a>,
+    fields: &Fields,
+    document: u32,
+    number: u32,
+) -> Result<Option<NoRoom>, AllocError>
+    requires same { attribute.old.fields ≡ fields.now }
+    ensures same { attribute.new.fields ≡ fields.now }
+{
+    let op = put_of(alloc, document, number)?;
+    if !fits(fields, &op) {
+        return Err(AllocError);
+    }
+    if attribute.operations() == u32::MAX {
+        return Err(AllocError);
+    }
+    match attribute.apply(alloc, &op) {
+        Ok(_) => Ok(None),
+        Err(error) => refused(error),
+    }
+}
+
+/// Commits what was put.
+pub fn commit<'a>(attribute: &mut Kinds<'a>, fields: &Fields) -> Result<Option<NoRoom>, AllocError>
+    requires same { attribute.old.fields ≡ fields.now }
+    ensures same { attribute.new.fields ≡ fields.now }
+{
+    match attribute.commit() {
+        Ok(_) => Ok(None),
+        Err(error) => refused(error),
+    }
+}
+
+/// A step of a compaction over so many keys. Where it finds no room, it is passed over.
+pub fn compact<'a>(
+    alloc: Global,
+    attribute: &mut Kinds<'a>,
+    fields: &Fields,
+    keys: u32,
+) -> Result<(), AllocError>
+    requires same { attribute.old.fields ≡ fields.now }
+    ensures same { attribute.new.fields ≡ fields.now }
+{
+    match attribute.compact_step(alloc, keys) {
+        Ok(_) => Ok(()),
+        Err(error) => {
+            let _ = refused(error)?;
+            Ok(())
+        }
+    }
+}
+
+fn line_of(alloc: Global, info: CommitInfo) -> Result<String, AllocError> {
+    let commit = info.commit;
+    match info.advance {
+        Advance::To { generation, .. } => format!(in alloc; "{commit} to {generation}"),
+        Advance::NoHold { holds, found } => {
+            format!(in alloc; "{commit} no hold of {holds} found {found}")
+        }
+        Advance::Spent { generation } => format!(in alloc; "{commit} spent at {generation}"),
+    }
+}
+
+/// What a commit comes to, as a line: its number and the generation after it, or the commit after which there is none.
+pub fn commit_line<'a>(
+    alloc: Global,
+    attribute: &mut Kinds<'a>,
+    fields: &Fields,
+) -> Result<String, AllocError>
+    requires same { attribute.old.fields ≡ fields.now }
+    ensures same { attribute.new.fields ≡ fields.now }
+{
+    match attribute.commit() {
+        Ok(info) => line_of(alloc, info),
+        Err(AttrError::CommitsSpent { commit }) => format!(in alloc; "none after {commit}"),
+        Err(AttrError::Full { .. }) => Err(AllocError),
+        Err(AttrError::Memory) => Err(AllocError),
+    }
+}
