@@ -1,5 +1,5 @@
 -- A buffer in which nothing is of the last commit, and nothing was stored since, goes on hold: its words tell nothing any more.
-use Rattle.std.proofs.Common.{◌≡◌, ◌≢◌, ℕ, suc, ◌+◌, ◌-◌, ◌*◌, ◌<◌, ◌≤◌, ◌⊎◌, inl, inr, true, cond, ◌&&◌, eqb, ltb, List, [], length, get_or, set, take, drop, Some, None, sym, ap, subst, ◌∙◌, arith, length-take, length-drop, get_or-set_other, get_or-set_same}
+use Rattle.std.proofs.Common.{◌≡◌, ◌≢◌, ℕ, zero, suc, ◌+◌, ◌-◌, ◌*◌, ◌<◌, ◌≤◌, ◌⊎◌, inl, inr, Bool, true, false, cond, ◌&&◌, eqb, ltb, List, [], ◌∷◌, length, get_or, set, take, drop, Option, Some, None, refl, sym, ap, subst, ◌∙◌, arith, length-take, length-drop, get_or-set_other, get_or-set_same}
 use Rattle.std.specs.List.{list_all}
 use Rattle.std.proofs.Math.ListN.{replicate}
 use Rattle.std.proofs.Math.Nat.{mul-le-mul_right}
@@ -8,19 +8,20 @@ use Rattle.std.proofs.lemmas.Bool.{cases_eq, cases_lt, false_from_ne_true, eq-eq
 use Rattle.std.proofs.lemmas.Grind.{same_number_lists}
 use Rattle.std.proofs.lemmas.Nat.{same_from_place}
 use Rattle.list_facts.proofs.Places.{slice_index-zeros}
-use Rattle.entry_ref.specs.References.{buffer_of}
+use Rattle.entry_ref.specs.References.{buffer_of, offset_of}
 use Rattle.image_base.specs.Images.{words_at}
 use Rattle.image_base.specs.Places.{IsEntry}
 use Rattle.image_base.specs.Records.{Records, SameAt, AllThere}
 use Rattle.image_base.proofs.Apart.{within}
+use Rattle.image_base.proofs.Pairs.{words-found}
 use Rattle.arena_api.proofs.Reached.{lawful-kept, next_image-kept}
 use Rattle.arena_api.specs.Works.{Buffer, active_width}
 use Rattle.arena_api.specs.Generations.{retired}
-use Rattle.mem_work.specs.Cells.{width_in, begin_of, with_range, names_entry, standing, is_whole, stored_in, image_in, records_in, memory_view, buffer_by}
-use Rattle.mem_work.specs.Marks.{tag_of, mark_at, marked, with_marks, IsMark}
+use Rattle.mem_work.specs.Cells.{width_in, begin_of, with_range, names_entry, standing, is_whole, stored_in, image_in, records_in, memory_view, buffer_by, buffers_in}
+use Rattle.mem_work.specs.Marks.{tag_of, mark_at, marked, marked_buffers, with_marks, IsMark}
 use Rattle.mem_work.specs.declared.marks.Mark.{Mark}
-use Rattle.mem_work.specs.declared.marks.Mark.TheVariants.{Fresh, Held}
-use Rattle.mem_work.specs.ProofsForMemory.{names_entry-true, is_stored, stored-whole, active_width-by}
+use Rattle.mem_work.specs.declared.marks.Mark.TheVariants.{Fresh, Past, Held}
+use Rattle.mem_work.specs.ProofsForMemory.{names_entry-true, standing-entry, is_stored, stored-whole, active_width-by}
 use Rattle.mem_work.proofs.Standing.{range-set_other, lacks, not_first, cond-same, cond-and, and-same, whole-first}
 use Rattle.mem_work.proofs.Handed.{none-from}
 use Rattle.mem_work.proofs.Ranges.{range-elsewhere, range-at, length-range}

@@ -1,5 +1,5 @@
 -- What a work in memory knows, and which records it has, after each call.
-use Rattle.std.proofs.Common.{◌≡◌, ◌≢◌, ℕ, suc, ◌+◌, ◌*◌, ◌<◌, ◌≤◌, inl, inr, false, cond, List, [], length, take, drop, length-take, length-drop, get_or, set, Option, Some, None, refl, sym, ap, subst, ◌∙◌, arith, get_or-set_same, get_or-set_other}
+use Rattle.std.proofs.Common.{◌≡◌, ◌≢◌, ℕ, zero, suc, ◌+◌, ◌*◌, ◌<◌, ◌≤◌, inl, inr, true, false, cond, List, [], length, take, drop, length-take, length-drop, get_or, set, Option, Some, None, refl, sym, ap, subst, ◌∙◌, arith, get_or-set_same, get_or-set_other}
 use Rattle.std.specs.Option.{IfSome, IfNone}
 use Rattle.std.proofs.Math.Nat.{mul-le-mul_right}
 use Rattle.std.proofs.Math.ListN.{replicate}
@@ -14,6 +14,7 @@ use Rattle.image_base.specs.Images.{no_image, words_at, image_of}
 use Rattle.image_base.proofs.Apart.{within}
 use Rattle.image_base.specs.Places.{IsEntry}
 use Rattle.image_base.specs.Records.{Records, SameAt, AllThere}
+use Rattle.arena_api.specs.Works.{is_free}
 use Rattle.arena_api.specs.Calls.{next_image, with_stored, handed_out, published, AddsCommit, IsLowestFree, opened}
 use Rattle.mem_work.specs.Cells.{width_in, begin_of, standing, is_whole, stored_in, image_in, records_in, buffer_by, buffers_in, memory_view, sizes_of}
 use Rattle.mem_work.specs.Marks.{mark_at, marked, marked_buffers, with_marks, IsMark}

@@ -65,7 +65,7 @@ buffers_in table words b = buffer_by (width_in table words b)
 
 -- the sizes of a memory, with the highest limits
 abbrev pub sizes_of : ℕ → ℕ → Sizes
-sizes_of buffers words = record { buffers = buffers; words = words; commits = 2 ^ 32 - 2; generations = 2 ^ 48 - 1 }
+sizes_of buffers words = record { buffers = buffers; words = words; commits = 2 ^ 32 - 1; generations = 2 ^ 48 - 1 }
 
 -- what the words of a memory tell: it has no readers and keeps the last commit alone
 abbrev pub memory_view : (ℕ → Records → ℕ → List ℕ) → ℕ → List ℕ → List ℕ → ℕ → ℕ → ℕ → ℕ → ℕ → WorkView (Unit {0})

@@ -179,7 +179,7 @@ module _ (reaches : ℕ → Records → ℕ → List ℕ) (shape : ℕ) (table s
   records-stand r = cond_both (is_whole table stamps bits buffers words (last + 1) r) (standing table bits buffers words r) (words_at (image_in reaches shape table bits buffers words root) r)
       (λ ws. 0 < length ws → standing table bits buffers words r ≡ ws) (λ e h. refl) (λ e h. words-found _ (standing table bits buffers words) root r h)
 
-  pub memory_order : (marks : List Mark) (generation first : ℕ) → first ≤ last → last + 1 < 2 ^ 32
+  pub memory_order : (marks : List Mark) (generation first : ℕ) → first ≤ last → last < 2 ^ 32
       → IsInOrder (with_marks (memory_view reaches shape table stamps bits buffers words last root) marks generation first)
   memory_order marks generation first early small = record { floor = omega arith; limit = omega arith; oldest = early }
 

@@ -17,7 +17,7 @@ pub struct Cells<const OFFSET_BITS: u32> {
     pub buffers: u32,
     pub words: u32,
     pub table: Vec<u64>,
-    pub stamps: Vec<u32>,
+    pub stamps: Vec<u64>,
     pub marks: Vec<Mark>,
     ghost room: { vec_len table ≡ buffers * words },
     ghost stamped: { vec_len stamps ≡ buffers * words },
@@ -91,7 +91,7 @@ impl<const OFFSET_BITS: u32> Cells<OFFSET_BITS> {
     }
 
     /// Stores a word under a number.
-    pub fn store(&mut self, entry: EntryRef<OFFSET_BITS>, i: u32, word: u64, number: u32)
+    pub fn store(&mut self, entry: EntryRef<OFFSET_BITS>, i: u32, word: u64, number: u64)
         requires entry { IsEntry OFFSET_BITS self.old.buffers self.old.words (width_in self.old.table.items self.old.words (buffer_of OFFSET_BITS entry)) entry }
         requires inside { i < width_in self.old.table.items self.old.words (buffer_of OFFSET_BITS entry) }
         ensures table { self.new.table.items ≡ slice_set self.old.table.items
@@ -108,7 +108,7 @@ impl<const OFFSET_BITS: u32> Cells<OFFSET_BITS> {
     }
 
     /// Stores the words of an entry, and zeros after them, under a number.
-    pub fn put(&mut self, entry: EntryRef<OFFSET_BITS>, width: u32, words: &[u64], number: u32)
+    pub fn put(&mut self, entry: EntryRef<OFFSET_BITS>, width: u32, words: &[u64], number: u64)
         requires entry { IsEntry OFFSET_BITS self.old.buffers self.old.words width entry }
         requires fits { length words.now ≤ width }
         ensures table { self.new.table.items ≡ with_range self.old.table.items (begin_of OFFSET_BITS self.old.words width entry.entry) (padded words.now width) }

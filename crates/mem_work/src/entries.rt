@@ -18,7 +18,7 @@ impl<const OFFSET_BITS: u32> Cells<OFFSET_BITS> {
     pub fn entries(
         &self,
         alloc: Global,
-        number: Option<u32>,
+        number: Option<u64>,
     ) -> Result<BTreeMap<u32, Vec<u64>>, AllocError>
         ensures { IfOk result (λ map. (q : ℕ) → seen map q
             ≡ chosen number self.now.table.items self.now.stamps.items OFFSET_BITS self.now.buffers self.now.words q) }
@@ -35,7 +35,7 @@ impl<const OFFSET_BITS: u32> Cells<OFFSET_BITS> {
         &self,
         alloc: Global,
         buffer: u32,
-        number: Option<u32>,
+        number: Option<u64>,
         map: &mut BTreeMap<u32, Vec<u64>>,
     ) -> Result<(), AllocError>
         requires inside { buffer < self.now.buffers }
@@ -60,7 +60,7 @@ impl<const OFFSET_BITS: u32> Cells<OFFSET_BITS> {
         &self,
         alloc: Global,
         entry: EntryRef<OFFSET_BITS>,
-        number: Option<u32>,
+        number: Option<u64>,
         map: &mut BTreeMap<u32, Vec<u64>>,
     ) -> Result<(), AllocError>
         requires entry { IsEntry OFFSET_BITS self.now.buffers self.now.words (width_in self.now.table.items self.now.words (buffer_of OFFSET_BITS entry)) entry }
@@ -84,7 +84,7 @@ impl<const OFFSET_BITS: u32> Cells<OFFSET_BITS> {
     }
 
     /// Whether an entry is one of those asked for.
-    fn is_chosen(&self, entry: EntryRef<OFFSET_BITS>, number: Option<u32>) -> bool
+    fn is_chosen(&self, entry: EntryRef<OFFSET_BITS>, number: Option<u64>) -> bool
         requires { IsEntry OFFSET_BITS self.now.buffers self.now.words (width_in self.now.table.items self.now.words (buffer_of OFFSET_BITS entry)) entry }
         ensures { result ≡ is_chosen number self.now.table.items self.now.stamps.items OFFSET_BITS self.now.buffers self.now.words entry.entry }
     {
@@ -106,7 +106,7 @@ impl<const OFFSET_BITS: u32> Cells<OFFSET_BITS> {
     }
 
     /// The numbers under which the words of an entry were stored.
-    fn stamps_of(&self, entry: EntryRef<OFFSET_BITS>) -> &[u32]
+    fn stamps_of(&self, entry: EntryRef<OFFSET_BITS>) -> &[u64]
         requires { IsEntry OFFSET_BITS self.now.buffers self.now.words (width_in self.now.table.items self.now.words (buffer_of OFFSET_BITS entry)) entry }
         ensures { result.now ≡ take (width_in self.now.table.items self.now.words (buffer_of OFFSET_BITS entry.entry))
             (drop (begin_of OFFSET_BITS self.now.words (width_in self.now.table.items self.now.words (buffer_of OFFSET_BITS entry.entry)) entry.entry) self.now.stamps.items) }
@@ -119,7 +119,7 @@ impl<const OFFSET_BITS: u32> Cells<OFFSET_BITS> {
 }
 
 /// Whether all numbers are this one.
-fn all_are(numbers: &[u32], number: u32) -> bool
+fn all_are(numbers: &[u64], number: u64) -> bool
     ensures { result ≡ list_all (λ k. nat_eq k number) numbers.now }
 {
     numbers.iter().all(|k| *k == number)

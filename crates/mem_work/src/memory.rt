@@ -39,7 +39,7 @@ pub struct MemWork<const OFFSET_BITS: u32, L: Layout> {
     ghost marks: { (b : ℕ) → IsMark generation first last (width_in cells.table.items cells.words b) (mark_at cells.marks.items b) },
     ghost early: { first ≤ last },
     ghost generations: { generation ≤ 2 ^ 48 - 1 },
-    ghost limit: { last + 1 < 2 ^ 32 },
+    ghost limit: { last < 2 ^ 32 },
     ghost lawful: { ∥ L.lawful shape (standing cells.table.items OFFSET_BITS cells.buffers cells.words) root ∥₁ },
 }
 
@@ -76,7 +76,7 @@ impl<const OFFSET_BITS: u32, L: Reach<OFFSET_BITS>> MemWork<OFFSET_BITS, L> {
     {
         let standing = self.cells.entries(alloc, None)?;
         let reached = L::reached(alloc, self.shape, &standing, self.root)?;
-        let mut map = self.cells.entries(alloc, Some(self.last + 1))?;
+        let mut map = self.cells.entries(alloc, Some(u64::from(self.last) + 1))?;
         add_those(alloc, reached, &standing, &mut map)?;
         Ok(map)
     }
@@ -130,7 +130,7 @@ impl<const OFFSET_BITS: u32, L: Layout> Work<OFFSET_BITS> for MemWork<OFFSET_BIT
         ensures others { (q : ℕ) → q ≢ entry.entry → ⟦<MemWork<OFFSET_BITS, L> as Frozen<OFFSET_BITS>>⟧.records self.new q ≡ ⟦<MemWork<OFFSET_BITS, L> as Frozen<OFFSET_BITS>>⟧.records self.old q }
         ensures shape { ⟦<MemWork<OFFSET_BITS, L> as Frozen<OFFSET_BITS>>⟧.shape self.new ≡ ⟦<MemWork<OFFSET_BITS, L> as Frozen<OFFSET_BITS>>⟧.shape self.old }
     {
-        self.cells.store(entry, i, word, self.last + 1);
+        self.cells.store(entry, i, word, u64::from(self.last) + 1);
     }
 
     fn put(&mut self, entry: EntryRef<OFFSET_BITS>, width: u32, words: &[u64])
@@ -142,7 +142,8 @@ impl<const OFFSET_BITS: u32, L: Layout> Work<OFFSET_BITS> for MemWork<OFFSET_BIT
         ensures knows { ⟦<MemWork<OFFSET_BITS, L> as Work<OFFSET_BITS>>⟧.knows self.new ≡ record (⟦<MemWork<OFFSET_BITS, L> as Work<OFFSET_BITS>>⟧.knows self.old) { stored = (⟦<MemWork<OFFSET_BITS, L> as Work<OFFSET_BITS>>⟧.knows self.new).stored } }
         ensures shape { ⟦<MemWork<OFFSET_BITS, L> as Frozen<OFFSET_BITS>>⟧.shape self.new ≡ ⟦<MemWork<OFFSET_BITS, L> as Frozen<OFFSET_BITS>>⟧.shape self.old }
     {
-        self.cells.put(entry, width, words, self.last + 1);
+        self.cells
+            .put(entry, width, words, u64::from(self.last) + 1);
     }
 
     fn hand_out(&mut self, width: u32) -> Option<u32> {
@@ -207,7 +208,7 @@ impl<const OFFSET_BITS: u32, L: Layout> Work<OFFSET_BITS> for MemWork<OFFSET_BIT
     }
 
     fn commits_left(&self) -> u32 {
-        u32::MAX - 1 - self.last
+        u32::MAX - self.last
     }
 
     ghost limits = { λ s. memory_limits OFFSET_BITS s.cells.buffers s.cells.words s.cells.some_buffers s.cells.few_buffers

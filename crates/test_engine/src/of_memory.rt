@@ -31,9 +31,9 @@ fn references_of_19_bits_name_1024_buffers(rt: HostRuntime) -> Result<(), Fail> 
 #[test]
 fn commits_are_counted(rt: HostRuntime) -> Result<(), Fail> {
     let mut work = MemWork::<22, OneRecord>::create(rt.alloc(), 8, 8192, 1)?;
-    assert_eq!(rt; work.commits_left(), 4_294_967_294);
+    assert_eq!(rt; work.commits_left(), u32::MAX);
     assert_eq!(rt; work.publish(EntryRef::from_raw(0)), 1);
-    assert_eq!(rt; work.commits_left(), 4_294_967_293);
+    assert_eq!(rt; work.commits_left(), 4_294_967_294);
     assert!(rt; work.records(rt.alloc())?.is_empty());
     Ok(())
 }

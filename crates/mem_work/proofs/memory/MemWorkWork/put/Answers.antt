@@ -11,14 +11,14 @@ use Rattle.mem_work.proofs.memory.MemWorkWork.put.Goals as goal
 pub invariant_of-self-clause-stamped : goal.invariant_of-self-clause-stamped
 invariant_of-self-clause-stamped g c =
     let s = c.args.self.now in
-    rw c.put.ensures.stamps
+    rw (c.put.ensures.stamps, c.from.ensures)
     (stamps-range s.cells.table.items g.row.OFFSET_BITS s.cells.buffers s.cells.words c.args.entry c.args.width (sym (active_width-by _ _) ∙ c.requires.width) c.requires.entry (padded c.args.words.now c.args.width) (length-padded c.args.words.now c.args.width c.requires.fits) (sym s.cells.table.ok.0 ∙ s.cells.room) s.cells.stamps.items (s.last + 1) (sym s.cells.stamps.ok.0 ∙ s.cells.stamped) s.stamped)
 
 pub invariant_of-self-clause-unused : goal.invariant_of-self-clause-unused
 invariant_of-self-clause-unused g c =
     let s = c.args.self.now in
     let e = c.put.ensures in
-    rw (e.table, e.stamps, e.words)
+    rw (e.table, e.stamps, e.words, c.from.ensures)
     (unused-range s.cells.table.items g.row.OFFSET_BITS s.cells.buffers s.cells.words c.args.entry c.args.width (sym (active_width-by _ _) ∙ c.requires.width) c.requires.entry (padded c.args.words.now c.args.width) (length-padded c.args.words.now c.args.width c.requires.fits) (sym s.cells.table.ok.0 ∙ s.cells.room) s.cells.stamps.items (s.last + 1) (sym s.cells.stamps.ok.0 ∙ s.cells.stamped) s.last s.unused)
 
 pub invariant_of-self-clause-lawful : goal.invariant_of-self-clause-lawful
@@ -33,7 +33,7 @@ pub returns-clause-records : goal.returns-clause-records
 returns-clause-records g c =
     let s = c.args.self.now in
     let e = c.put.ensures in
-    rw (e.table, e.stamps, e.buffers, e.words)
+    rw (e.table, e.stamps, e.buffers, e.words, c.from.ensures)
     (λ k q. records-put g.L.Layout.reaches g.L.Layout.lawful g.L.Layout.present g.L.Layout.stays s.shape s.cells.table.items s.cells.stamps.items g.row.OFFSET_BITS s.cells.buffers s.cells.words s.last s.root s.lawful c.args.entry c.args.width (sym (active_width-by _ _) ∙ c.requires.width) c.requires.entry (padded c.args.words.now c.args.width) (length-padded c.args.words.now c.args.width c.requires.fits) (sym s.cells.table.ok.0 ∙ s.cells.room) (sym s.cells.stamps.ok.0 ∙ s.cells.stamped)
     (c.requires.unkept s.last (record { from = omega arith; to = omega arith })) q k)
 
@@ -41,7 +41,7 @@ pub returns-clause-knows : goal.returns-clause-knows
 returns-clause-knows g c =
     let s = c.args.self.now in
     let e = c.put.ensures in
-    rw (e.table, e.stamps, e.marks, e.buffers, e.words)
+    rw (e.table, e.stamps, e.marks, e.buffers, e.words, c.from.ensures)
     (ap (λ v. with_marks v s.cells.marks.items s.generation s.first) (view-put g.L.Layout.reaches g.L.Layout.lawful g.L.Layout.present g.L.Layout.stays s.shape s.cells.table.items s.cells.stamps.items g.row.OFFSET_BITS s.cells.buffers s.cells.words s.last s.root s.lawful c.args.entry c.args.width (sym (active_width-by _ _) ∙ c.requires.width) c.requires.entry (padded c.args.words.now c.args.width) (length-padded c.args.words.now c.args.width c.requires.fits) (sym s.cells.table.ok.0 ∙ s.cells.room) (sym s.cells.stamps.ok.0 ∙ s.cells.stamped)
     (c.requires.unkept s.last (record { from = omega arith; to = omega arith }))))
 
