@@ -2,91 +2,11 @@
 ghost use Rattle.std.specs.Prelude.{◌≡◌, ◌<◌, ◌≤◌, ◌+◌, ◌^◌, length, take, drop};
 ghost use Rattle.image_base.specs.Records.{HasWord, word_at};
 
+use crate::words::Words;
 use entry_ref::EntryRef;
 use frozen_api::Frozen;
-use image_base::{word_in, words_at};
-use std::alloc::{AllocError, Global};
-use std::collections::BTreeMap;
+use std::alloc::Global;
 use std::marker::Model;
-
-/// Words by their records, 0 where none was read.
-#[derive(Drop)]
-pub struct Words {
-    alloc: Global,
-    records: BTreeMap<u32, Vec<u64>>,
-    /// A word was read as two things.
-    differs: bool,
-    /// A word could not be kept.
-    failed: bool,
-}
-
-/// These words, and zeros after them.
-fn padded(alloc: Global, words: &[u64], width: usize) -> Result<Vec<u64>, AllocError> {
-    let mut record = words.to_vec(alloc)?;
-    for _ in words.len()..width {
-        record.push(0)?;
-    }
-    Ok(record)
-}
-
-impl Words {
-    fn new(alloc: Global) -> Words {
-        Words {
-            alloc,
-            records: BTreeMap::new(alloc),
-            differs: false,
-            failed: false,
-        }
-    }
-
-    fn add(&mut self, reference: u32, place: usize, word: u64) -> Result<(), AllocError> {
-        let words = words_at(&self.records, u64::from(reference));
-        let known = word_in(words, place);
-        if known == word {
-            return Ok(());
-        }
-        let mut record = padded(self.alloc, words, place.saturating_add(1))?;
-        if let Some(one) = record.get_mut(place) {
-            *one = word;
-        }
-        self.records.insert(reference, record)?;
-        if known != 0 {
-            self.differs = true;
-        }
-        Ok(())
-    }
-
-    fn note(&mut self, reference: u32, place: usize, word: u64) {
-        if self.add(reference, place, word).is_err() {
-            self.failed = true;
-        }
-    }
-
-    fn note_all(&mut self, reference: u32, first: u32, words: &[u64]) {
-        let mut place = first as usize;
-        for word in words {
-            self.note(reference, place, *word);
-            place = place.saturating_add(1);
-        }
-    }
-
-    /// How many words of a record are known.
-    fn count(&self, reference: u32) -> u32 {
-        words_at(&self.records, u64::from(reference))
-            .len()
-            .min(1024) as u32
-    }
-
-    /// Whether all were kept, and each was read as one thing only.
-    pub fn are_sure(&self) -> bool {
-        !self.failed && !self.differs
-    }
-
-    /// The words by their records.
-    pub fn records(&self) -> &BTreeMap<u32, Vec<u64>> {
-        &self.records
-    }
-}
 
 /// Reads the words of a record that are not known, up to this one.
 fn read_front<const OFFSET_BITS: u32, F: Frozen<OFFSET_BITS>>(

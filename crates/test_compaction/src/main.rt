@@ -19,6 +19,7 @@ mod turn;
 mod values;
 mod watch;
 mod watched;
+mod words;
 
 use std::io;
 

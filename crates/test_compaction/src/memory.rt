@@ -5,7 +5,7 @@ ghost use Rattle.attr_images.specs.Shapes.{shape_of, types_of};
 ghost use Rattle.attr_types.specs.declared.field.TheConstants.{MOST_FIELDS};
 
 use crate::watch::Watch;
-use crate::watched::{KeepsRecords, Watched};
+use crate::watched::Watched;
 use arena_api::Work;
 use attr_images::{AttrLayout, shape_of};
 use attr_types::Fields;
@@ -13,17 +13,13 @@ use attribute_kinds::{Attribute, committed_work};
 use entry_store::EntryStore;
 use frozen_api::Frozen;
 use mem_work::MemWork;
-use noted_work::NotedWork;
 use std::alloc::{AllocError, Global};
 
 /// Attributes over a memory without readers.
-pub type Kinds = Attribute<22, EntryStore<22, Watched<22, NotedWork<22, MemWork<22, AttrLayout>>>>>;
+pub type Kinds = Attribute<22, EntryStore<22, Watched<22, MemWork<22, AttrLayout>>>>;
 
 /// Attributes without a document over a work whose commits are watched.
-pub fn open_watched<
-    const OFFSET_BITS: u32,
-    W: Work<OFFSET_BITS, Layout = AttrLayout> + KeepsRecords + Drop,
->(
+pub fn open_watched<const OFFSET_BITS: u32, W: Work<OFFSET_BITS, Layout = AttrLayout> + Drop>(
     alloc: Global,
     work: W,
     fields: &Fields,
@@ -35,7 +31,7 @@ pub fn open_watched<
     requires fresh { IsFresh (W.knows work) }
     ensures fields { IfOk result (λ a. a.fields ≡ fields.now) }
 {
-    match Attribute::create(alloc, Watched::new(work, watch), fields, false) {
+    match Attribute::create(alloc, Watched::new(alloc, work, watch), fields, false) {
         Ok(attribute) => Ok(attribute),
         Err(_) => Err(AllocError),
     }
@@ -55,7 +51,7 @@ pub fn new_attribute(
     ensures fields { IfOk result (λ a. a.fields ≡ fields.now) }
 {
     let work = MemWork::<22, AttrLayout>::create(alloc, buffers, 8192, shape_of(fields))?;
-    open_watched(alloc, NotedWork::new(alloc, work, true), fields, watch)
+    open_watched(alloc, work, fields, watch)
 }
 
 /// How many commits were made, and what was seen at them.

@@ -19,16 +19,12 @@ use attr_plain::PlainTable;
 use attr_types::Fields;
 use attribute_kinds::{Attribute, committed_work};
 use entry_store::EntryStore;
-use noted_work::NotedWork;
 use std::alloc::{AllocError, Global};
 use word_arena::{Arena, Config, Limits, Writer};
 
 /// How many commits were made, and what was seen at them.
 fn close<'a>(
-    attribute: Attribute<
-        22,
-        EntryStore<22, Watched<22, NotedWork<22, Writer<'a, 22, AttrLayout>>>>,
-    >,
+    attribute: Attribute<22, EntryStore<22, Watched<22, Writer<'a, 22, AttrLayout>>>>,
     fields: &Fields,
 ) -> (u32, Watch)
     requires same { attribute.fields ≡ fields.now }
@@ -59,8 +55,7 @@ fn run_over<'a>(
     let seats = seats_in(alloc, &mut writer, load.guards, shape_of(fields))?;
     let watch = Watch::new(alloc, fields, load.script, load.checks as usize, true)?;
     let mut plain = PlainTable::new(alloc, fields.clone()?);
-    let work = NotedWork::new(alloc, writer, true);
-    let mut attribute = open_watched(alloc, work, fields, watch)?;
+    let mut attribute = open_watched(alloc, writer, fields, watch)?;
     if load_all(alloc, &mut attribute, &mut plain, fields, load, &mut told)? {
         sights = keep_guards(
             alloc,

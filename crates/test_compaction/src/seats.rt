@@ -9,7 +9,8 @@ ghost use Rattle.word_arena.specs.Knows.{view_of};
 ghost use Rattle.word_arena.specs.Ruled.{image_of, reader_of, writer_of};
 
 use crate::asking::ask_all;
-use crate::heard::{Heard, Words};
+use crate::heard::Heard;
+use crate::words::Words;
 use attr_images::AttrLayout;
 use attr_types::{Field, Fields};
 use std::alloc::{AllocError, Global};

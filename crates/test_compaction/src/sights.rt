@@ -1,6 +1,6 @@
 //! What readers read under guards that they kept over compactions, beside what was stored.
-use crate::heard::Words;
 use crate::watch::{Seen, Watch};
+use crate::words::Words;
 use image_base::{word_in, words_at};
 use std::collections::BTreeMap;
 
@@ -24,8 +24,10 @@ fn is_record(stored: &[u64], read: &[u64]) -> bool {
 
 /// Whether all records of an image, and no others, were read as they were stored.
 fn is_image(stored: &BTreeMap<u32, Vec<u64>>, words: &Words) -> bool {
-    let read = words.records();
-    if !words.are_sure() || read.len() != stored.len() {
+    let Some(read) = words.sure() else {
+        return false;
+    };
+    if read.len() != stored.len() {
         return false;
     }
     for (reference, record) in stored {

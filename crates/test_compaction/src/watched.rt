@@ -8,55 +8,51 @@ ghost use Rattle.arena_api.specs.Works.{active_width};
 ghost use Rattle.arena_api.specs.Calls.{MayStore, InNoCommit, AddsCommit, with_stored, padded, next_image, published};
 
 use crate::watch::Watch;
+use crate::words::Words;
 use arena_api::{Advance, Oldest, Work};
 use entry_ref::EntryRef;
 use frozen_api::Frozen;
-use noted_work::NotedWork;
-use std::collections::BTreeMap;
+use std::alloc::Global;
 
-/// A work that keeps what was stored in it.
-pub trait KeepsRecords {
-    /// The words that were stored last at each reference, where they were kept.
-    fn kept_records(&self) -> Option<&BTreeMap<u32, Vec<u64>>>;
-}
-
-impl<const OFFSET_BITS: u32, W: Work<OFFSET_BITS>> KeepsRecords for NotedWork<OFFSET_BITS, W> {
-    fn kept_records(&self) -> Option<&BTreeMap<u32, Vec<u64>>> {
-        self.records()
-    }
-}
-
-/// A work whose commits are watched.
+/// A work whose commits are watched: what is stored in it is kept beside it.
 #[derive(Drop)]
-pub struct Watched<const OFFSET_BITS: u32, W: Work<OFFSET_BITS> + KeepsRecords> {
+pub struct Watched<const OFFSET_BITS: u32, W: Work<OFFSET_BITS>> {
     work: W,
+    stored: Words,
     watch: Watch,
 }
 
-impl<const OFFSET_BITS: u32, W: Work<OFFSET_BITS> + KeepsRecords> Watched<OFFSET_BITS, W> {
-    /// A work and what watches it.
-    pub fn new(work: W, watch: Watch) -> Self
+impl<const OFFSET_BITS: u32, W: Work<OFFSET_BITS>> Watched<OFFSET_BITS, W> {
+    /// A work in which nothing was stored so far, and what watches it.
+    pub fn new(alloc: Global, work: W, watch: Watch) -> Self
         ensures knows { ⟦<Watched<OFFSET_BITS, W> as Work<OFFSET_BITS>>⟧.knows result ≡ W.knows work }
         ensures records { ⟦<Watched<OFFSET_BITS, W> as Frozen<OFFSET_BITS>>⟧.records result ≡ W.records work }
         ensures shape { ⟦<Watched<OFFSET_BITS, W> as Frozen<OFFSET_BITS>>⟧.shape result ≡ W.shape work }
     {
-        Watched { work, watch }
+        Watched {
+            work,
+            stored: Words::new(alloc),
+            watch,
+        }
     }
 }
 
-impl<const OFFSET_BITS: u32, W: Work<OFFSET_BITS> + KeepsRecords + Drop> Watched<OFFSET_BITS, W> {
+impl<const OFFSET_BITS: u32, W: Work<OFFSET_BITS> + Drop> Watched<OFFSET_BITS, W> {
     /// What was seen, after a last look at the last commit.
     pub fn into_watch(self, root: u64) -> Watch {
-        let Watched { work, mut watch } = self;
-        if let Some(records) = work.kept_records() {
+        let Watched {
+            work: _,
+            stored,
+            mut watch,
+        } = self;
+        if let Some(records) = stored.sure() {
             watch.look_again(records, root);
         }
         watch
     }
 }
 
-impl<const OFFSET_BITS: u32, W: Work<OFFSET_BITS> + KeepsRecords> Frozen<OFFSET_BITS>
-    for Watched<OFFSET_BITS, W> {
+impl<const OFFSET_BITS: u32, W: Work<OFFSET_BITS>> Frozen<OFFSET_BITS> for Watched<OFFSET_BITS, W> {
     ghost shape = { λ s. W.shape s.work };
 
     ghost records = { λ s. W.records s.work };
@@ -82,8 +78,7 @@ impl<const OFFSET_BITS: u32, W: Work<OFFSET_BITS> + KeepsRecords> Frozen<OFFSET_
     ghost references = { λ s. W.references s.work };
 }
 
-impl<const OFFSET_BITS: u32, W: Work<OFFSET_BITS> + KeepsRecords> Work<OFFSET_BITS>
-    for Watched<OFFSET_BITS, W> {
+impl<const OFFSET_BITS: u32, W: Work<OFFSET_BITS>> Work<OFFSET_BITS> for Watched<OFFSET_BITS, W> {
     type Layout = W::Layout;
 
     type Home = W::Home;
@@ -97,6 +92,7 @@ impl<const OFFSET_BITS: u32, W: Work<OFFSET_BITS> + KeepsRecords> Work<OFFSET_BI
         ensures others { (q : ℕ) → q ≢ entry.entry → ⟦<Watched<OFFSET_BITS, W> as Frozen<OFFSET_BITS>>⟧.records self.new q ≡ ⟦<Watched<OFFSET_BITS, W> as Frozen<OFFSET_BITS>>⟧.records self.old q }
         ensures shape { ⟦<Watched<OFFSET_BITS, W> as Frozen<OFFSET_BITS>>⟧.shape self.new ≡ ⟦<Watched<OFFSET_BITS, W> as Frozen<OFFSET_BITS>>⟧.shape self.old }
     {
+        self.stored.store(entry.raw(), i as usize, word);
         self.work.store(entry, i, word);
     }
 
@@ -109,6 +105,7 @@ impl<const OFFSET_BITS: u32, W: Work<OFFSET_BITS> + KeepsRecords> Work<OFFSET_BI
         ensures knows { ⟦<Watched<OFFSET_BITS, W> as Work<OFFSET_BITS>>⟧.knows self.new ≡ record (⟦<Watched<OFFSET_BITS, W> as Work<OFFSET_BITS>>⟧.knows self.old) { stored = (⟦<Watched<OFFSET_BITS, W> as Work<OFFSET_BITS>>⟧.knows self.new).stored } }
         ensures shape { ⟦<Watched<OFFSET_BITS, W> as Frozen<OFFSET_BITS>>⟧.shape self.new ≡ ⟦<Watched<OFFSET_BITS, W> as Frozen<OFFSET_BITS>>⟧.shape self.old }
     {
+        self.stored.put(entry.raw(), words, width);
         self.work.put(entry, width, words);
     }
 
@@ -134,7 +131,7 @@ impl<const OFFSET_BITS: u32, W: Work<OFFSET_BITS> + KeepsRecords> Work<OFFSET_BI
     {
         let free = self.work.free_buffers();
         let number = self.work.publish(root);
-        if let Some(records) = self.work.kept_records() {
+        if let Some(records) = self.stored.sure() {
             self.watch.published(records, u64::from(root.raw()), free);
         }
         number
