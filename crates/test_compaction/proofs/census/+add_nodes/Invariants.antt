@@ -1,4 +1,4 @@
-use Rattle.std.proofs.Common.{ℕ, ◌<◌}
+use Rattle.std.proofs.Common.{◌<◌}
 use Rattle.test_compaction.proofs.census.+add_nodes.Given as goal
 
 -- a level above is one more

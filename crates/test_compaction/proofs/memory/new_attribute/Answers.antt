@@ -9,12 +9,15 @@ open_watched-requires c = (
   (
     omega arith,
     (
-      c.requires.some,
+      omega arith,
       (
-        c.requires.few,
+        c.requires.some,
         (
-          c.in_ok-work.ensures.shape ∙ c.shape_of.ensures,
-          subst IsFresh (sym c.in_ok-work.ensures.knows) (opened-fresh _ _ _),
+          c.requires.few,
+          (
+            c.in_ok-work.ensures.shape ∙ c.shape_of.ensures,
+            subst IsFresh (sym c.in_ok-work.ensures.knows) (opened-fresh _ _ _),
+          ),
         ),
       ),
     ),
