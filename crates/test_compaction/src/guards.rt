@@ -3,7 +3,7 @@ ghost use Rattle.std.specs.Prelude.{◌≡◌, ◌<◌, ◌≤◌, ◌^◌, leng
 ghost use Rattle.attr_types.specs.declared.field.TheConstants.{MOST_FIELDS};
 
 use crate::ended::Ended;
-use crate::run::{Load, Told};
+use crate::run::{Load, Told, load_all};
 use crate::seats::{Seat, hear};
 use crate::sights::Sight;
 use crate::steps::{commit_now, take_steps};
@@ -97,7 +97,7 @@ fn under_guards<'a, const OFFSET_BITS: u32, S: Store<OFFSET_BITS, Layout = AttrL
 }
 
 /// Compactions under guards, then three commits behind the guards, and the compactions that are left.
-pub fn keep_guards<'a, const OFFSET_BITS: u32, S: Store<OFFSET_BITS, Layout = AttrLayout>>(
+fn keep_guards<'a, const OFFSET_BITS: u32, S: Store<OFFSET_BITS, Layout = AttrLayout>>(
     alloc: Global,
     attribute: &mut Attribute<OFFSET_BITS, S>,
     plain: &mut PlainTable,
@@ -137,4 +137,25 @@ pub fn keep_guards<'a, const OFFSET_BITS: u32, S: Store<OFFSET_BITS, Layout = At
     }
     take_steps(alloc, attribute, plain, fields, load, told, ended)?;
     Ok(sights)
+}
+
+/// The operations of a row, and what comes behind them.
+pub fn load_guarded<'a, const OFFSET_BITS: u32, S: Store<OFFSET_BITS, Layout = AttrLayout>>(
+    alloc: Global,
+    attribute: &mut Attribute<OFFSET_BITS, S>,
+    plain: &mut PlainTable,
+    fields: &Fields,
+    load: Load,
+    told: &mut Told,
+    ended: &mut Vec<Ended>,
+    seats: Vec<Seat<'a, OFFSET_BITS>>,
+) -> Result<Vec<Sight>, AllocError>
+    requires few { length fields.now ≤ MOST_FIELDS }
+    requires same { attribute.old.fields ≡ fields.now }
+    ensures same { attribute.new.fields ≡ fields.now }
+{
+    if !load_all(alloc, attribute, plain, fields, load, told)? {
+        return Ok(Vec::new(alloc));
+    }
+    keep_guards(alloc, attribute, plain, fields, load, told, ended, seats)
 }

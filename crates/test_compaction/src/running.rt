@@ -7,11 +7,10 @@ ghost use Rattle.word_arena.specs.Knows.{view_of};
 ghost use Rattle.word_arena.specs.Ruled.{writer_of};
 
 use crate::ended::Ended;
-use crate::guards::keep_guards;
+use crate::guards::load_guarded;
 use crate::memory::open_watched;
-use crate::run::{Load, Outcome, load_all, nothing, outcome_of};
+use crate::run::{Load, Outcome, nothing, outcome_of};
 use crate::seats::seats_in;
-use crate::sights::Sight;
 use crate::watch::Watch;
 use crate::watched::Watched;
 use attr_images::{AttrLayout, shape_of};
@@ -51,23 +50,20 @@ fn run_over<'a>(
     let mut writer = writer;
     let mut told = nothing();
     let mut ended: Vec<Ended> = Vec::new(alloc);
-    let mut sights: Vec<Sight> = Vec::new(alloc);
     let seats = seats_in(alloc, &mut writer, load.guards, shape_of(fields))?;
     let watch = Watch::new(alloc, fields, load.script, load.checks as usize, true)?;
     let mut plain = PlainTable::new(alloc, fields.clone()?);
     let mut attribute = open_watched(alloc, writer, fields, watch)?;
-    if load_all(alloc, &mut attribute, &mut plain, fields, load, &mut told)? {
-        sights = keep_guards(
-            alloc,
-            &mut attribute,
-            &mut plain,
-            fields,
-            load,
-            &mut told,
-            &mut ended,
-            seats,
-        )?;
-    }
+    let sights = load_guarded(
+        alloc,
+        &mut attribute,
+        &mut plain,
+        fields,
+        load,
+        &mut told,
+        &mut ended,
+        seats,
+    )?;
     let (commits, watch) = close(attribute, fields);
     Ok(outcome_of(
         load,
