@@ -1,0 +1,198 @@
+//! Which records attributes reach in which buffer, by what they are.
+use attr_types::{Field, Kind};
+use check_trees::{CheckFault, Keys, check_tree};
+use image_base::{word_in, words_at};
+use std::alloc::{AllocError, Global};
+use std::collections::BTreeMap;
+use tree_images::FIRST_VALUE;
+
+/// How many buffers a reference tells apart.
+const BUFFERS: usize = 1024;
+
+/// What records are, each moved in one phase of a compaction: values that a dictionary has as keys; what documents refer to; lists; nodes
+/// of dictionaries and of trees of documents.
+pub const ROLES: usize = 4;
+
+const KEYS: usize = 0;
+
+const DOCUMENTS: usize = 1;
+
+const LISTS: usize = 2;
+
+const NODES: usize = 3;
+
+/// How many there are of each in each buffer, and which records these are.
+#[derive(Drop)]
+pub struct Census {
+    counts: Vec<u32>,
+    reached: Vec<u64>,
+}
+
+/// Where the count of a role in a buffer stands.
+fn place_of(role: usize, buffer: usize) -> usize {
+    role.saturating_mul(BUFFERS).saturating_add(buffer)
+}
+
+impl Census {
+    fn new(alloc: Global) -> Result<Census, AllocError> {
+        let counts = vec![in alloc; 0u32; ROLES * BUFFERS]?;
+        let reached = Vec::new(alloc);
+        Ok(Census { counts, reached })
+    }
+
+    fn note(&mut self, role: usize, reference: u64) -> Result<(), AllocError> {
+        let buffer = (reference % 1024) as usize;
+        if let Some(count) = self.counts.get_mut(place_of(role, buffer)) {
+            *count = count.saturating_add(1);
+        }
+        self.add(reference)
+    }
+
+    fn add(&mut self, reference: u64) -> Result<(), AllocError> {
+        self.reached.push(reference)?;
+        Ok(())
+    }
+
+    /// How many there are of one in a buffer.
+    pub fn of(&self, role: usize, buffer: u32) -> u32 {
+        match self.counts.get(place_of(role, buffer as usize)) {
+            Some(count) => *count,
+            None => 0,
+        }
+    }
+
+    /// The records of an image, as they stand.
+    pub fn image_in(
+        &self,
+        alloc: Global,
+        records: &BTreeMap<u32, Vec<u64>>,
+    ) -> Result<BTreeMap<u32, Vec<u64>>, AllocError> {
+        let mut image = BTreeMap::new(alloc);
+        for reference in self.reached.as_slice() {
+            if let Ok(number) = u32::try_from(*reference) {
+                let words = words_at(records, *reference).to_vec(alloc)?;
+                image.insert(number, words)?;
+            }
+        }
+        Ok(image)
+    }
+}
+
+/// The nodes from one of this level on.
+fn add_nodes(
+    census: &mut Census,
+    role: usize,
+    records: &BTreeMap<u32, Vec<u64>>,
+    reference: u64,
+    level: u32,
+) -> Result<(), AllocError> {
+    census.note(role, reference)?;
+    if level == 0 {
+        return Ok(());
+    }
+    let words = words_at(records, reference);
+    let used = (word_in(words, 0) % 256) as usize;
+    for i in 0..used {
+        add_nodes(
+            census,
+            role,
+            records,
+            word_in(words, FIRST_VALUE.saturating_add(i)),
+            level - 1,
+        )?;
+    }
+    Ok(())
+}
+
+/// The nodes of a tree.
+fn add_tree(
+    census: &mut Census,
+    role: usize,
+    records: &BTreeMap<u32, Vec<u64>>,
+    root: u64,
+) -> Result<(), AllocError> {
+    if root == 0 {
+        return Ok(());
+    }
+    let level = word_in(words_at(records, root), 0) / 256 % 8;
+    add_nodes(census, role, records, root, level as u32)
+}
+
+/// A document's record, and the values that it refers to.
+fn add_document(
+    census: &mut Census,
+    kind: Kind,
+    records: &BTreeMap<u32, Vec<u64>>,
+    reference: u64,
+) -> Result<(), AllocError> {
+    if reference == 0 {
+        return Ok(());
+    }
+    census.note(DOCUMENTS, reference)?;
+    let words = words_at(records, reference);
+    let count = (word_in(words, 0) % 1024) as usize;
+    let part = match kind {
+        Kind::Single => return Ok(()),
+        Kind::Array => 1,
+        Kind::WeightedSet => 4_294_967_296,
+    };
+    for i in 0..count {
+        census.note(DOCUMENTS, word_in(words, i.saturating_add(1)) / part)?;
+    }
+    Ok(())
+}
+
+/// A value's list.
+fn add_list(
+    census: &mut Census,
+    records: &BTreeMap<u32, Vec<u64>>,
+    word: u64,
+) -> Result<(), AllocError> {
+    if word % 2 == 1 {
+        add_tree(census, LISTS, records, word / 2)
+    } else {
+        census.note(LISTS, word / 2)
+    }
+}
+
+fn add_field(
+    alloc: Global,
+    census: &mut Census,
+    field: &Field,
+    records: &BTreeMap<u32, Vec<u64>>,
+    documents: u64,
+    dictionary: u64,
+) -> Result<(), CheckFault> {
+    let column = check_tree(alloc, Keys::Numbers, records, documents)?;
+    for pair in column.as_slice() {
+        add_document(census, field.kind, records, pair.1)?;
+    }
+    let values = check_tree(alloc, Keys::Values(field.value), records, dictionary)?;
+    for pair in values.as_slice() {
+        census.note(KEYS, pair.0)?;
+        add_list(census, records, pair.1)?;
+    }
+    add_tree(census, NODES, records, documents)?;
+    add_tree(census, NODES, records, dictionary)?;
+    Ok(())
+}
+
+/// All that an image's root record leads to.
+pub fn take(
+    alloc: Global,
+    fields: &[Field],
+    records: &BTreeMap<u32, Vec<u64>>,
+    root: u64,
+) -> Result<Census, CheckFault> {
+    let mut census = Census::new(alloc)?;
+    census.add(root)?;
+    let words = words_at(records, root);
+    let mut place = 1usize;
+    for field in fields {
+        let documents = word_in(words, place);
+        let dictionary = word_in(words, place.saturating_add(1));
+        add_field(alloc, &mut census, field, records, documents, dictionary)?;
+        place = place.saturating_add(2);
+    }
+    Ok(census)
+}

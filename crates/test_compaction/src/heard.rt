@@ -1,0 +1,88 @@
+//! Records as they are read: each word that was read is kept.
+ghost use Rattle.std.specs.Prelude.{◌≡◌, ◌<◌, ◌≤◌, ◌+◌, ◌^◌, length, take, drop};
+ghost use Rattle.image_base.specs.Records.{HasWord, word_at};
+
+use crate::words::Words;
+use entry_ref::EntryRef;
+use frozen_api::Frozen;
+use std::alloc::Global;
+use std::marker::Model;
+
+/// Reads the words of a record that are not known, up to this one.
+fn read_front<const OFFSET_BITS: u32, F: Frozen<OFFSET_BITS>>(
+    frozen: &mut F,
+    words: &mut Words,
+    entry: EntryRef<OFFSET_BITS>,
+    to: u32,
+)
+    requires { to ≤ length (F.records frozen.old entry) }
+    ensures same { frozen.new ≡ frozen.old }
+{
+    for i in words.count(entry.raw())..to {
+        let word = frozen.word(entry, i);
+        words.note(entry.raw(), i as usize, word);
+    }
+}
+
+/// Records, and what was read of them: where a word is asked for, those before it are read too. As records they are what they were.
+#[derive(Drop)]
+pub struct Heard<const OFFSET_BITS: u32, F: Frozen<OFFSET_BITS>> {
+    frozen: F,
+    words: Words,
+}
+
+impl<const OFFSET_BITS: u32, F: Frozen<OFFSET_BITS>> Model for Heard<OFFSET_BITS, F> {
+    ghost Value = { F };
+
+    ghost view = { λ h. h.frozen };
+}
+
+impl<const OFFSET_BITS: u32, F: Frozen<OFFSET_BITS>> Heard<OFFSET_BITS, F> {
+    /// Nothing was read so far.
+    pub fn new(alloc: Global, frozen: F) -> Self
+        ensures { result ≡ frozen }
+    {
+        Heard {
+            frozen,
+            words: Words::new(alloc),
+        }
+    }
+
+    /// The records again, and what was read.
+    pub fn into_parts(self) -> (F, Words)
+        ensures { result.0 ≡ self }
+    {
+        let Heard { frozen, words } = self;
+        (frozen, words)
+    }
+}
+
+impl<const OFFSET_BITS: u32, F: Frozen<OFFSET_BITS>> Frozen<OFFSET_BITS> for Heard<OFFSET_BITS, F> {
+    ghost shape = { λ h. F.shape h };
+
+    ghost records = { λ h. F.records h };
+
+    fn word(&mut self, entry: EntryRef<OFFSET_BITS>, i: u32) -> u64
+        requires { HasWord (F.records self.old) entry i }
+        ensures value { result ≡ word_at (F.records self.old) entry.entry i }
+        ensures same { self.new ≡ self.old }
+    {
+        read_front(&mut self.frozen, &mut self.words, entry, i);
+        let word = self.frozen.word(entry, i);
+        self.words.note(entry.raw(), i as usize, word);
+        word
+    }
+
+    fn read(&mut self, entry: EntryRef<OFFSET_BITS>, first: u32, into: &mut [u64])
+        requires there { first + length into.old ≤ length (F.records self.old entry) }
+        requires few { first + length into.old < 2 ^ 32 }
+        ensures words { into.new ≡ take (length into.old) (drop first (F.records self.old entry.entry)) }
+        ensures same { self.new ≡ self.old }
+    {
+        read_front(&mut self.frozen, &mut self.words, entry, first);
+        self.frozen.read(entry, first, into);
+        self.words.note_all(entry.raw(), first, into);
+    }
+
+    ghost references = { λ h. F.references h };
+}

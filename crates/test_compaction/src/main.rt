@@ -1,0 +1,28 @@
+//! Compactions of attributes in a store beside the plain table, as rows of standard input ask for them. A row that differs prints itself.
+#![tactic(auto)]
+
+mod asking;
+mod census;
+mod ended;
+mod guards;
+mod heard;
+mod memory;
+mod rows;
+mod run;
+mod running;
+mod script;
+mod seats;
+mod sights;
+mod steps;
+mod table;
+mod turn;
+mod values;
+mod watch;
+mod watched;
+mod words;
+
+use std::io;
+
+fn main(rt: HostRuntime) -> io::Result<()> {
+    rows::compare(&rt)
+}

@@ -1,0 +1,210 @@
+//! Rows of standard input: `run FIELDS BUFFERS PUTS VALUES LAST KEEP COMMITS KEYS FINISHES CHECKS EACH REMOVES PARTS WAITS`
+//! with GUARDS behind it where readers are to keep guards, and then `said LINE`, how much it must have done, and `met WORDS`, what it must
+//! have met; `tell` tells all of it. FIELDS are `KIND:TYPE`, with commas between them. Other lines are remarks.
+use crate::run::{Load, Outcome, run};
+use crate::running::run_guarded;
+use crate::script::Script;
+use attr_types::{Field, Fields, Kind, MOST_FIELDS, Name, ValueType};
+use std::alloc::{AllocError, Global};
+use std::io;
+
+fn number_at(row: &str, place: usize) -> u32 {
+    match row.split(' ').skip(place).next() {
+        Some(word) => word.parse::<u32>().unwrap_or(0).min(1_000_000),
+        None => 0,
+    }
+}
+
+fn load_in(row: &str) -> Load {
+    Load {
+        buffers: number_at(row, 1),
+        script: Script {
+            puts: number_at(row, 2),
+            values: number_at(row, 3),
+            last: number_at(row, 4),
+            keep: number_at(row, 5),
+        },
+        commits: number_at(row, 6),
+        keys: number_at(row, 7),
+        finishes: number_at(row, 8),
+        checks: number_at(row, 9),
+        each: number_at(row, 10) != 0,
+        removes: number_at(row, 11) != 0,
+        parts: number_at(row, 12),
+        waits: number_at(row, 13) != 0,
+        guards: number_at(row, 14),
+    }
+}
+
+fn kind_in(word: &str) -> Kind {
+    match word.split(':').next() {
+        Some("array") => Kind::Array,
+        Some("weightedset") => Kind::WeightedSet,
+        _ => Kind::Single,
+    }
+}
+
+fn type_in(word: &str) -> ValueType {
+    match word.split(':').skip(1).next() {
+        Some("string") => ValueType::Text,
+        _ => ValueType::Long,
+    }
+}
+
+fn fields_in(alloc: Global, row: &str) -> Result<Fields, AllocError> {
+    let mut fields = Fields::new(alloc);
+    if let Some(words) = row.split(' ').next() {
+        for word in words.split(',') {
+            fields.push(Field {
+                name: Name::from_str(alloc, word)?,
+                kind: kind_in(word),
+                value: type_in(word),
+            })?;
+        }
+    }
+    Ok(fields)
+}
+
+/// How much was done; only of compactions where a row does not tell how many operations come between steps.
+fn counts_of(alloc: Global, outcome: Outcome) -> Result<String, AllocError> {
+    let told = outcome.told;
+    let finished = told.finished;
+    if outcome.copied.lost {
+        return String::from_str(alloc, "no memory for what was seen");
+    }
+    if told.differs {
+        return format!(in alloc; "differs in compaction {finished}");
+    }
+    if told.full {
+        return String::from_str(alloc, "no room");
+    }
+    let (operations, commits, steps) = (told.operations, told.commits, told.steps);
+    if told.refused > 0 || told.stopped > 0 || outcome.load.removes {
+        return format!(in alloc; "same: {finished} compactions");
+    }
+    format!(in alloc;
+        "same: {operations} operations, {commits} commits, {finished} compactions in {steps} steps"
+    )
+}
+
+/// What a run met.
+fn has_met(outcome: Outcome, word: &str) -> bool {
+    let (told, copied) = (outcome.told, outcome.copied);
+    match word {
+        "keys" => copied.counts[0] > 0,
+        "documents" => copied.counts[1] > 0,
+        "lists" => copied.counts[2] > 0,
+        "nodes" => copied.counts[3] > 0,
+        "width 2" => copied.twos > 0,
+        "width 4" => copied.fours > 0,
+        "width 16" => copied.sixteens > 0,
+        "width 34" => copied.nodes > 0,
+        "refused" => told.refused > 0,
+        "stopped" => told.stopped > 0,
+        "went on" => told.resumed > 0,
+        "idle" => told.idle,
+        "guards" => outcome.kept > 0 && outcome.kept == outcome.load.guards,
+        "came back" => outcome.back > 0 && outcome.back == outcome.load.guards,
+        _ => false,
+    }
+}
+
+fn has_met_all(outcome: Outcome, words: &str) -> bool {
+    for word in words.split(", ") {
+        if !has_met(outcome, word) {
+            return false;
+        }
+    }
+    true
+}
+
+/// Whether a run is as a line wants it, or nothing where the line is a remark.
+fn is_as_wanted(
+    alloc: Global,
+    outcome: Option<Outcome>,
+    line: &str,
+) -> Result<Option<bool>, AllocError> {
+    let Some(outcome) = outcome else {
+        return Ok(None);
+    };
+    if let Some(wanted) = line.strip_prefix("said ") {
+        let counts = counts_of(alloc, outcome)?;
+        return Ok(Some(counts.as_str() == wanted));
+    }
+    match line.strip_prefix("met ") {
+        Some(words) => Ok(Some(has_met_all(outcome, words))),
+        None => Ok(None),
+    }
+}
+
+/// All that a run came to.
+fn described(alloc: Global, outcome: Option<Outcome>) -> Result<String, AllocError> {
+    let Some(outcome) = outcome else {
+        return String::from_str(alloc, "no run");
+    };
+    let counts = counts_of(alloc, outcome)?;
+    let (told, copied) = (outcome.told, outcome.copied);
+    format!(in alloc;
+        "{counts}; operations {} commits {} steps {} refused {} stopped {} short {} cut {} resumed {} idle {} full {}; copied {:?}; widths {} {} {} {}; guards {} back {}",
+        told.operations,
+        told.commits,
+        told.steps,
+        told.refused,
+        told.stopped,
+        told.short,
+        told.cut,
+        told.resumed,
+        told.idle,
+        told.full,
+        copied.counts,
+        copied.twos,
+        copied.fours,
+        copied.sixteens,
+        copied.nodes,
+        outcome.kept,
+        outcome.back
+    )
+}
+
+/// What a row's run comes to, if it names one to eight attributes.
+fn outcome_of(alloc: Global, row: &str) -> Result<Option<Outcome>, AllocError> {
+    let fields = fields_in(alloc, row)?;
+    if fields.is_empty() {
+        return Ok(None);
+    }
+    if fields.len() > MOST_FIELDS {
+        return Ok(None);
+    }
+    let load = load_in(row);
+    if load.guards > 0 {
+        return Ok(Some(run_guarded(alloc, &fields, load)?));
+    }
+    Ok(Some(run(alloc, &fields, load)?))
+}
+
+pub fn compare(rt: &HostRuntime) -> io::Result<()> {
+    let alloc = rt.alloc();
+    let mut case = String::new(alloc);
+    let mut last: Option<Outcome> = None;
+    let mut compared = 0u32;
+    let mut right = 0u32;
+    for line in rt.lines(alloc) {
+        let line = line?;
+        if let Some(row) = line.strip_prefix("run ") {
+            last = outcome_of(alloc, row)?;
+            case = String::from_str(alloc, row)?;
+        } else if line.as_str() == "tell" {
+            let found = described(alloc, last)?;
+            println!(rt; "{case}: {found}")?;
+        } else if let Some(wanted) = is_as_wanted(alloc, last, line.as_str())? {
+            compared = compared.saturating_add(1);
+            if wanted {
+                right = right.saturating_add(1);
+            } else {
+                let found = described(alloc, last)?;
+                println!(rt; "{case}: {found} in place of {line}")?;
+            }
+        }
+    }
+    println!(rt; "rows: {compared} compared, {right} as wanted")
+}

@@ -1,0 +1,77 @@
+//! The operations of a row, by their number.
+use crate::values::document_at;
+use attr_plain::PlainTable;
+use attr_types::{Doc, Field, Op};
+use std::alloc::{AllocError, Global};
+
+/// Puts to the documents 1 to `puts`; removes of those from 1 to `last` that `keep` does not divide, all where it is 0; and then removes of
+/// the lowest document.
+#[derive(Clone, Copy)]
+pub struct Script {
+    pub puts: u32,
+    pub values: u32,
+    pub last: u32,
+    pub keep: u32,
+}
+
+impl Script {
+    /// How many operations come before a compaction.
+    pub fn load(self) -> u32 {
+        self.puts.saturating_add(self.removes())
+    }
+
+    fn removes(self) -> u32 {
+        if self.keep == 0 {
+            return self.last;
+        }
+        self.last.saturating_sub(self.last / self.keep)
+    }
+}
+
+fn doc_of(number: u32) -> Doc {
+    Doc::new(number.max(1).min(Doc::LAST))
+}
+
+/// The number of the document that is removed as one of these, counted from 0.
+fn removed(keep: u32, number: u32) -> u32 {
+    if keep < 2 {
+        return number.saturating_add(1);
+    }
+    let others = keep.saturating_sub(1).max(1);
+    let rounds = (number / others).saturating_mul(keep);
+    rounds.saturating_add(number % others).saturating_add(1)
+}
+
+/// The lowest document that is there.
+pub fn lowest(plain: &PlainTable) -> Option<Doc> {
+    for (doc, _) in plain.documents() {
+        return Some(*doc);
+    }
+    None
+}
+
+/// The operation of this number, counted from 0, on a table that has those before it.
+pub fn op_at(
+    alloc: Global,
+    fields: &[Field],
+    script: Script,
+    number: u32,
+    plain: &PlainTable,
+) -> Result<Op, AllocError> {
+    if number < script.puts {
+        let next = number.saturating_add(1);
+        let items = document_at(alloc, fields, next, script.values)?;
+        return Ok(Op::Put {
+            doc: doc_of(next),
+            items,
+        });
+    }
+    if number < script.load() {
+        let doc = doc_of(removed(script.keep, number.saturating_sub(script.puts)));
+        return Ok(Op::Remove { doc });
+    }
+    match lowest(plain) {
+        Some(doc) => Ok(Op::Remove { doc }),
+        None => Ok(Op::Remove { doc: doc_of(1) }),
+    }
+}

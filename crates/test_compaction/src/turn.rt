@@ -1,0 +1,137 @@
+//! One operation, one commit and one step of a compaction of attributes in a store, and one operation on the plain table.
+ghost use Rattle.std.specs.Prelude.{◌≡◌};
+
+use attr_changes::Applied;
+use attr_images::AttrLayout;
+use attr_plain::PlainTable;
+use attr_types::{Fields, Op, fits};
+use attribute_kinds::{AttrError, Attribute, Compacted};
+use std::alloc::{AllocError, Global};
+use store_api::Store;
+
+/// What a call came to.
+#[derive(Clone, Copy)]
+pub enum Answer {
+    Done,
+    Full,
+    /// It answers what it may not.
+    Odd,
+}
+
+/// What a step of a compaction came to.
+#[derive(Clone, Copy)]
+pub enum Stepped {
+    Idle,
+    /// So many keys were visited.
+    Moved(u32),
+    /// So many were, and then there was no room for one.
+    Stopped(u32),
+    Finished(u32),
+    /// There was no room for the first.
+    Full,
+    /// There was no memory for the first.
+    Short,
+    /// So many were visited, and then there was no memory for one.
+    Cut(u32),
+    /// It answers what it may not.
+    Odd,
+}
+
+fn refusal_of(error: AttrError) -> Result<Answer, AllocError> {
+    match error {
+        AttrError::Full { .. } => Ok(Answer::Full),
+        AttrError::CommitsSpent { .. } => Ok(Answer::Odd),
+        AttrError::Memory => Err(AllocError),
+    }
+}
+
+/// Applies an operation that changes the table.
+fn apply_one<const OFFSET_BITS: u32, S: Store<OFFSET_BITS, Layout = AttrLayout>>(
+    alloc: Global,
+    attribute: &mut Attribute<OFFSET_BITS, S>,
+    fields: &Fields,
+    op: &Op,
+) -> Result<Answer, AllocError>
+    requires same { attribute.old.fields ≡ fields.now }
+    ensures same { attribute.new.fields ≡ fields.now }
+{
+    if !fits(fields, op) {
+        return Ok(Answer::Odd);
+    }
+    if attribute.operations() == u32::MAX {
+        return Ok(Answer::Odd);
+    }
+    match attribute.apply(alloc, op) {
+        Ok(Applied::Changed) => Ok(Answer::Done),
+        Ok(Applied::Skipped) => Ok(Answer::Odd),
+        Err(error) => refusal_of(error),
+    }
+}
+
+/// Applies it to the plain table too, where it was not refused.
+pub fn apply_both<const OFFSET_BITS: u32, S: Store<OFFSET_BITS, Layout = AttrLayout>>(
+    alloc: Global,
+    attribute: &mut Attribute<OFFSET_BITS, S>,
+    plain: &mut PlainTable,
+    fields: &Fields,
+    op: Op,
+) -> Result<Answer, AllocError>
+    requires same { attribute.old.fields ≡ fields.now }
+    ensures same { attribute.new.fields ≡ fields.now }
+{
+    let answer = apply_one(alloc, attribute, fields, &op)?;
+    if let Answer::Done = answer {
+        if fits(plain.fields(), &op) {
+            let _ = plain.apply(alloc, op)?;
+        }
+    }
+    Ok(answer)
+}
+
+/// Commits.
+pub fn commit_one<const OFFSET_BITS: u32, S: Store<OFFSET_BITS, Layout = AttrLayout>>(
+    attribute: &mut Attribute<OFFSET_BITS, S>,
+    fields: &Fields,
+) -> Result<Answer, AllocError>
+    requires same { attribute.old.fields ≡ fields.now }
+    ensures same { attribute.new.fields ≡ fields.now }
+{
+    match attribute.commit() {
+        Ok(_) => Ok(Answer::Done),
+        Err(error) => refusal_of(error),
+    }
+}
+
+fn stop_of(keys: u32, error: AttrError) -> Stepped {
+    match error {
+        AttrError::Full { .. } => Stepped::Stopped(keys),
+        AttrError::CommitsSpent { .. } => Stepped::Odd,
+        AttrError::Memory => Stepped::Cut(keys),
+    }
+}
+
+/// One step of a compaction.
+pub fn step_one<const OFFSET_BITS: u32, S: Store<OFFSET_BITS, Layout = AttrLayout>>(
+    alloc: Global,
+    attribute: &mut Attribute<OFFSET_BITS, S>,
+    fields: &Fields,
+    keys: u32,
+) -> Stepped
+    requires same { attribute.old.fields ≡ fields.now }
+    ensures same { attribute.new.fields ≡ fields.now }
+{
+    if keys == 0 {
+        return Stepped::Odd;
+    }
+    match attribute.compact_step(alloc, keys) {
+        Ok(Compacted::Idle) => Stepped::Idle,
+        Ok(Compacted::Finished(buffer)) => Stepped::Finished(buffer),
+        Ok(Compacted::Moved { keys: done, stop }) => match stop {
+            Some(error) => stop_of(done, error),
+            None => Stepped::Moved(done),
+        },
+        Err(AttrError::Full { .. }) => Stepped::Full,
+        Err(AttrError::CommitsSpent { .. }) => Stepped::Odd,
+        Err(AttrError::Memory) => Stepped::Short,
+    }
+}

@@ -1,0 +1,82 @@
+//! Values and items by the number of a document.
+use attr_types::{Field, FieldItems, Item, Items, Kind, Text, Value, ValueType};
+use std::alloc::{AllocError, Global};
+
+fn text_of(alloc: Global, text: &str) -> Result<Text, AllocError> {
+    if text.len() > Text::MAX_LEN {
+        return Text::from_str(alloc, "");
+    }
+    Text::from_str(alloc, text)
+}
+
+/// What stands before a number, so that four digits follow the letter.
+fn front_of(number: u32) -> &'static str {
+    match number {
+        0..=9 => "v000",
+        10..=99 => "v00",
+        100..=999 => "v0",
+        _ => "v",
+    }
+}
+
+/// The letter v, four digits, and a hundred letters x.
+fn text_at(alloc: Global, number: u32) -> Result<Text, AllocError> {
+    let front = front_of(number);
+    let mut text = format!(in alloc; "{front}{number}")?;
+    for _ in 0..100 {
+        text.push_str("x")?;
+    }
+    text_of(alloc, &text)
+}
+
+/// The value of a number: itself, or a text with it.
+fn value_at(alloc: Global, value_type: ValueType, number: u32) -> Result<Value, AllocError> {
+    match value_type {
+        ValueType::Long => Ok(Value::Long(i64::from(number))),
+        ValueType::Text => Ok(Value::Text(text_at(alloc, number)?)),
+    }
+}
+
+/// These values, each with its weight.
+fn items_of(
+    alloc: Global,
+    value_type: ValueType,
+    rows: &[(u32, i32)],
+) -> Result<Items, AllocError> {
+    let mut items = Items::new(alloc);
+    for (number, weight) in rows {
+        let value = value_at(alloc, value_type, *number)?;
+        let weight = *weight;
+        items.push(Item { value, weight })?;
+    }
+    Ok(items)
+}
+
+/// The items of a document in one attribute: its number modulo `values` (its number, where that is 0); in an array its number and that; in
+/// a weighted set that, and its number and `values` together.
+fn items_at(alloc: Global, field: &Field, number: u32, values: u32) -> Result<Items, AllocError> {
+    let part = if values == 0 { number } else { number % values };
+    match field.kind {
+        Kind::Single => items_of(alloc, field.value, &[(part, 1)]),
+        Kind::Array => items_of(alloc, field.value, &[(number, 1), (part, 1)]),
+        Kind::WeightedSet => items_of(
+            alloc,
+            field.value,
+            &[(part, 7), (number.saturating_add(values), -7)],
+        ),
+    }
+}
+
+/// The items of a document in each attribute.
+pub fn document_at(
+    alloc: Global,
+    fields: &[Field],
+    number: u32,
+    values: u32,
+) -> Result<FieldItems, AllocError> {
+    let mut document = FieldItems::new(alloc);
+    for field in fields {
+        document.push(items_at(alloc, field, number, values)?)?;
+    }
+    Ok(document)
+}

@@ -1,0 +1,219 @@
+//! What is seen of a run at its commits: each image is compared with the plain table after the operations that it counts.
+use crate::census::{Census, take};
+use crate::script::{Script, op_at};
+use crate::table::{is_lawful, reads_as};
+use attr_plain::PlainTable;
+use attr_types::{Fields, fits};
+use check_trees::CheckFault;
+use image_base::{word_in, words_at};
+use std::alloc::{AllocError, Global};
+use std::collections::BTreeMap;
+
+/// A commit.
+#[derive(Drop)]
+pub struct Seen {
+    /// Its image is that of the plain table.
+    pub same: bool,
+    /// What it reaches in each buffer, where that was counted.
+    pub census: Option<Census>,
+    /// The records that it reaches, where they are kept.
+    pub image: Option<BTreeMap<u32, Vec<u64>>>,
+    /// How many buffers were free.
+    pub free: u32,
+}
+
+/// A commit whose image is not that of the plain table, or was only read quickly.
+fn seen_quickly(same: bool) -> Seen {
+    Seen {
+        same,
+        census: None,
+        image: None,
+        free: 0,
+    }
+}
+
+/// A buffer that was handed out behind so many commits.
+#[derive(Clone, Copy)]
+struct Handed {
+    commits: usize,
+    buffer: u32,
+    width: u32,
+}
+
+/// The commits of a run so far, and a plain table that follows them.
+#[derive(Drop)]
+pub struct Watch {
+    alloc: Global,
+    fields: Fields,
+    script: Script,
+    /// One commit in so many is read by the slow checker, and counted.
+    checks: usize,
+    /// The records of such images are kept.
+    keeps: bool,
+    plain: PlainTable,
+    done: u32,
+    seen: Vec<Seen>,
+    handed: Vec<Handed>,
+    /// Something could not be kept.
+    failed: bool,
+}
+
+impl Watch {
+    /// Nothing was seen so far.
+    pub fn new(
+        alloc: Global,
+        fields: &Fields,
+        script: Script,
+        checks: usize,
+        keeps: bool,
+    ) -> Result<Watch, AllocError> {
+        Ok(Watch {
+            alloc,
+            fields: fields.clone()?,
+            script,
+            checks,
+            keeps,
+            plain: PlainTable::new(alloc, fields.clone()?),
+            done: 0,
+            seen: Vec::new(alloc),
+            handed: Vec::new(alloc),
+            failed: false,
+        })
+    }
+
+    /// One operation more on the plain table.
+    fn follow_one(&mut self) -> Result<(), AllocError> {
+        let op = op_at(
+            self.alloc,
+            self.fields.as_slice(),
+            self.script,
+            self.done,
+            &self.plain,
+        )?;
+        self.done = self.done.saturating_add(1);
+        if fits(self.plain.fields(), &op) {
+            let _ = self.plain.apply(self.alloc, op)?;
+        } else {
+            self.failed = true;
+        }
+        Ok(())
+    }
+
+    /// The plain table goes on to so many operations.
+    fn follow(&mut self, operations: u64) -> Result<(), AllocError> {
+        let more = operations
+            .saturating_sub(u64::from(self.done))
+            .min(1_000_000);
+        for _ in 0..more {
+            self.follow_one()?;
+        }
+        Ok(())
+    }
+
+    /// Compares an image with the plain table, wholly or quickly.
+    fn compare(
+        &mut self,
+        records: &BTreeMap<u32, Vec<u64>>,
+        root: u64,
+        whole: bool,
+    ) -> Result<Seen, CheckFault> {
+        let operations = word_in(words_at(records, root), 0);
+        self.follow(operations)?;
+        if operations != u64::from(self.done) {
+            return Ok(seen_quickly(false));
+        }
+        let alloc = self.alloc;
+        if !whole {
+            let same = reads_as(alloc, self.fields.as_slice(), records, root, &self.plain)?;
+            return Ok(seen_quickly(same));
+        }
+        let same = is_lawful(alloc, &self.fields, records, root, &self.plain)?;
+        let census = take(alloc, self.fields.as_slice(), records, root)?;
+        let image = self.image_of(records, &census)?;
+        Ok(Seen {
+            same,
+            census: Some(census),
+            image,
+            free: 0,
+        })
+    }
+
+    fn image_of(
+        &self,
+        records: &BTreeMap<u32, Vec<u64>>,
+        census: &Census,
+    ) -> Result<Option<BTreeMap<u32, Vec<u64>>>, AllocError> {
+        if !self.keeps {
+            return Ok(None);
+        }
+        Ok(Some(census.image_in(self.alloc, records)?))
+    }
+
+    fn add(&mut self, seen: Result<Seen, CheckFault>, free: u32) -> Result<(), AllocError> {
+        let mut one = match seen {
+            Ok(seen) => seen,
+            Err(CheckFault::Broken) => seen_quickly(false),
+            Err(CheckFault::Memory) => return Err(AllocError),
+        };
+        one.free = free;
+        self.seen.push(one)?;
+        Ok(())
+    }
+
+    /// A commit, while so many buffers are free.
+    pub fn published(&mut self, records: &BTreeMap<u32, Vec<u64>>, root: u64, free: u32) {
+        let number = self.seen.len().saturating_add(1);
+        let whole = number % self.checks.max(1) == 0;
+        let seen = self.compare(records, root, whole);
+        if self.add(seen, free).is_err() {
+            self.failed = true;
+        }
+    }
+
+    /// A buffer was handed out.
+    pub fn handed_out(&mut self, buffer: u32, width: u32) {
+        let commits = self.seen.len();
+        if self
+            .handed
+            .push(Handed {
+                commits,
+                buffer,
+                width,
+            })
+            .is_err()
+        {
+            self.failed = true;
+        }
+    }
+
+    /// Reads the last commit once more, wholly.
+    pub fn look_again(&mut self, records: &BTreeMap<u32, Vec<u64>>, root: u64) {
+        let seen = self.compare(records, root, true);
+        let free = match self.seen.pop() {
+            Some(last) => last.free,
+            None => 0,
+        };
+        if self.add(seen, free).is_err() {
+            self.failed = true;
+        }
+    }
+
+    /// The commits, if each of them was kept.
+    pub fn seen(&self) -> Option<&[Seen]> {
+        if self.failed {
+            return None;
+        }
+        Some(self.seen.as_slice())
+    }
+
+    /// The width that a buffer had behind so many commits, 0 where it was not handed out.
+    pub fn width_of(&self, buffer: u32, commits: usize) -> u32 {
+        let mut width = 0u32;
+        for handed in self.handed.as_slice() {
+            if handed.buffer == buffer && handed.commits <= commits {
+                width = handed.width;
+            }
+        }
+        width
+    }
+}
