@@ -1,5 +1,5 @@
 -- Ascending lists of documents as sets.
-use Rattle.std.proofs.Common.{◌≡◌, ◌≢◌, ℕ, ◌+◌, ◌*◌, ◌/◌, ◌<◌, ◌≤◌, Bool, true, false, ◌||◌, ◌&&◌, List, [], ◌∷◌, ◌++◌, length}
+use Rattle.std.proofs.Common.{◌≡◌, ◌≢◌, ℕ, ◌+◌, ◌-◌, ◌<◌, ◌≤◌, Bool, true, false, ◌||◌, ◌&&◌, List, [], ◌∷◌, ◌++◌, length}
 use Rattle.std.proofs.Common.{get_or, arith, refl, sym, ap, ◌∙◌, subst, eq-eqb, nat_eq, nat_lt, ltb-true, ltb-false, lt-ltb, le-ltb}
 use Rattle.std.proofs.lemmas.Bool.{eqb-true, eqb-false, ne_eqb, or_from, or_left, or_right}
 use Rattle.std.proofs.lemmas.List.Folds.{list_any-append}
@@ -10,7 +10,7 @@ use Rattle.std.proofs.lemmas.Cmp.{ranked, nat_eq_equiv}
 use Rattle.std.proofs.lemmas.List.Filters.{dedup_is}
 use Rattle.std.proofs.lemmas.List.Kept.{Contains-dedup_nat, Contains-from_dedup}
 use Rattle.std.proofs.lemmas.List.Sorted.{list_any-IsPermutation}
-use Rattle.std.proofs.Common.{Less, nat_cmp}
+use Rattle.std.proofs.Common.{Ordering, Less, Equal, Greater, nat_cmp, is_lt, is_ge}
 use Rattle.std.specs.List.{AllByRecursion, filter, dedup, Contains}
 use Rattle.std.specs.List.Retain.{IsFiltered, DiffersFromLast}
 use Rattle.std.specs.List.Sorted.{IsStrictlySortedBy, IsSorted, IsPermutation, IsBinarySearchResult}
@@ -18,10 +18,11 @@ use Rattle.std.proofs.Common.{zero, suc, Result, Ok, Err}
 use Rattle.std.specs.Result.{is_ok, MatchResult}
 use Rattle.std.proofs.lemmas.List.Elements.{All-from_get_or}
 use Rattle.std.proofs.lemmas.List.Folds.{list_any_at, list_any_none}
+use Rattle.std.proofs.lemmas.List.{get_or_default}
 use Rattle.std.proofs.lemmas.List.Sorted.{searched}
 use Rattle.attr_types.proofs.EntryLemmas.{all-append}
-use Rattle.doc_set.proofs.BitLemmas.{by_cases, no_bits}
-use Rattle.doc_set.specs.Sets.{has, in_words, Ascends, Holds, HoldsBelow}
+use Rattle.doc_set.proofs.BitLemmas.{by_cases}
+use Rattle.doc_set.specs.Sets.{has, Ascends, AreBelow, IsPlaceOf, Holds, HoldsBelow}
 
 -- what is below all of a list is not in it
 absent : (x : ℕ) (xs : List ℕ) → AllByRecursion (λ y. x < y) xs → has xs x ≡ false
@@ -220,3 +221,59 @@ told xs x (Err i) here =
 pub search_has : (xs : List ℕ) (x : ℕ) (r : Result ℕ ℕ) → Ascends xs → IsBinarySearchResult (λ y. nat_cmp y x) xs r
     → is_ok r ≡ has xs x
 search_has xs x r up found = told xs x r (searched xs x r found (rising xs up))
+
+-- ---- places in ascending documents
+-- all documents but the one at a place are others
+others_apart : (xs : List ℕ) (x i k : ℕ) → Ascends xs → IsPlaceOf xs x i → (i < length xs → get_or xs i 0 ≢ x) → k < length xs
+    → nat_eq x (get_or xs k 0) ≡ false
+others_apart xs x i k up place other lt = by_cases (nat_lt k i)
+    (λ is. let one : get_or xs k 0 < x = place.before.below k (ltb-true k i is) in ne_eqb x (get_or xs k 0) (λ e. omega (arith, e, one)))
+    (λ is.
+    let from : i ≤ k = ltb-false k i is in
+    let ne : get_or xs i 0 ≢ x = other (omega (arith, lt)) in
+    let first : x ≤ get_or xs i 0 = place.after i (omega arith) (omega (arith, lt)) in
+    let next : get_or xs i 0 ≤ get_or xs k 0 = rising xs up i k from lt in
+    ne_eqb x (get_or xs k 0) (λ e. absurd (ne (omega (arith, e, first, next)))))
+
+not_there : (xs : List ℕ) (x i : ℕ) → Ascends xs → IsPlaceOf xs x i → (i < length xs → get_or xs i 0 ≢ x) → has xs x ≡ false
+not_there xs x i up place other =
+    list_any_none (nat_eq x) xs (All-from_get_or (λ y. nat_eq x y ≡ false) xs 0 (λ k lt. others_apart xs x i k up place other lt))
+
+-- a document is in a list where it is at its place
+pub at_place : (xs : List ℕ) (x i : ℕ) → Ascends xs → IsPlaceOf xs x i → i < length xs → nat_eq (get_or xs i 0) x ≡ has xs x
+at_place xs x i up place lt = by_cases (nat_eq (get_or xs i 0) x)
+    (λ is. is ∙ sym (list_any_at (nat_eq x) xs i 0 lt (eq-eqb x (get_or xs i 0) (sym (eqb-true (get_or xs i 0) x is)))))
+    (λ is. is ∙ sym (not_there xs x i up place (λ _. eqb-false (get_or xs i 0) x is)))
+
+pub past_place : (xs : List ℕ) (x i : ℕ) → Ascends xs → IsPlaceOf xs x i → length xs ≤ i → has xs x ≡ false
+past_place xs x i up place le = not_there xs x i up place (λ lt. absurd (omega (arith, lt, le)))
+
+pub read_place : (xs : List ℕ) (i y : ℕ) → i < length xs → y ≡ get_or xs i y → y ≡ get_or xs i 0
+read_place xs i y lt is = is ∙ get_or_default xs i y 0 lt
+
+pub not_less : (a b : ℕ) (o : Ordering) → o ≡ nat_cmp a b → is_lt o ≡ false → b ≤ a
+not_less a b Less is off = cc
+not_less a b Equal is off = let same : a ≡ b = ranked a b Equal is in omega (arith, same)
+not_less a b Greater is off = let gt : b < a = ranked a b Greater is in omega (arith, gt)
+
+pub not_ge : (a b : ℕ) (o : Ordering) → o ≡ nat_cmp a b → is_ge o ≡ false → a < b
+not_ge a b Less is off = ranked a b Less is
+not_ge a b Equal is off = cc
+not_ge a b Greater is off = cc
+
+-- what is up to a document that is below is below
+pub below_place : (xs : List ℕ) (x i : ℕ) → Ascends xs → i ≤ length xs → 0 < i → get_or xs (i - 1) 0 < x → AreBelow xs x i
+below_place xs x i up within some below = record {
+  within = within;
+  below = λ k lt.
+      let next : get_or xs k 0 ≤ get_or xs (i - 1) 0 = rising xs up k (i - 1) (omega (arith, lt)) (omega (arith, some, within)) in
+      omega (arith, next, below);
+}
+
+-- a walk ends at the first that is not below
+pub stop_place : (xs : List ℕ) (x i : ℕ) → Ascends xs → AreBelow xs x i → x ≤ get_or xs i 0 → IsPlaceOf xs x i
+stop_place xs x i up before first = record {
+  before = before;
+  after = λ k from lt.
+      let next : get_or xs i 0 ≤ get_or xs k 0 = rising xs up i k from lt in omega (arith, next, first);
+}

@@ -1,10 +1,10 @@
 //! Documents gathered in any order: few in a list that is sorted at the end, many in a bit vector.
-ghost use Rattle.std.specs.Prelude.{◌≡◌, ◌||◌, ◌&&◌, ◌++◌, ℕ, false, length, filter, IfOk, OnOk};
+ghost use Rattle.std.specs.Prelude.{◌≡◌, ◌≤◌, ◌||◌, ◌&&◌, ◌++◌, ℕ, false, length, filter, IfOk, OnOk};
 ghost use Rattle.std.specs.List.{All};
 ghost use Rattle.std.specs.Map.{keys_of};
 ghost use Rattle.attr_types.specs.Lawful.{IsDocNumber};
 ghost use Rattle.doc_set.specs.Gathers.{is_in};
-ghost use Rattle.doc_set.specs.Sets.{has, in_words, Ascends, Holds};
+ghost use Rattle.doc_set.specs.Sets.{has, in_words, Ascends, AreBelow, IsPlaceOf, Holds};
 
 use crate::bits::DocSet;
 use attr_types::{Doc, DocList};
@@ -12,6 +12,9 @@ use std::alloc::{AllocError, Global};
 
 /// How many documents a list takes before it becomes a bit vector.
 const FEW: usize = 1024;
+
+/// A list that is this many times as long as the documents that are sought in it is searched for each.
+const MUCH_LONGER: usize = 8;
 
 /// Documents in any order.
 #[derive(Drop)]
@@ -63,7 +66,7 @@ fn is_listed(docs: &[Doc], doc: Doc) -> bool
     docs.binary_search(&doc).is_ok()
 }
 
-fn kept_listed(alloc: Global, docs: &DocList, list: &DocList) -> Result<DocList, AllocError>
+fn kept_searched(alloc: Global, docs: &DocList, list: &DocList) -> Result<DocList, AllocError>
     requires { Ascends list.now }
     ensures { IfOk result (λ kept. kept ≡ filter (has list.now) docs.now) }
 {
@@ -74,6 +77,66 @@ fn kept_listed(alloc: Global, docs: &DocList, list: &DocList) -> Result<DocList,
         }
     }
     Ok(kept)
+}
+
+/// Where a walk to a document begins: at a place that all before are below the document, else at the start.
+fn start_near(list: &[Doc], from: usize, doc: Doc) -> usize
+    requires ascends { Ascends list.now }
+    requires within { from ≤ length list.now }
+    ensures { AreBelow list.now doc result }
+{
+    if from > 0 && list[from - 1] >= doc {
+        return 0;
+    }
+    from
+}
+
+/// The place of the first document that is not below a document, sought from a place on.
+fn place_near(list: &[Doc], from: usize, doc: Doc) -> usize
+    requires ascends { Ascends list.now }
+    requires within { from ≤ length list.now }
+    ensures { IsPlaceOf list.now doc result }
+{
+    let mut place = start_near(list, from, doc);
+    while place < list.len() && list[place] < doc {
+        place += 1;
+    }
+    place
+}
+
+fn is_at(list: &[Doc], place: usize, doc: Doc) -> bool
+    requires ascends { Ascends list.now }
+    requires place { IsPlaceOf list.now doc place }
+    ensures { result ≡ has list.now doc }
+{
+    place < list.len() && list[place] == doc
+}
+
+fn kept_walked(alloc: Global, docs: &DocList, list: &DocList) -> Result<DocList, AllocError>
+    requires { Ascends list.now }
+    ensures { IfOk result (λ kept. kept ≡ filter (has list.now) docs.now) }
+{
+    let mut kept = DocList::new(alloc);
+    let mut place = 0;
+    for doc in docs.as_slice() {
+        place = place_near(list.as_slice(), place, *doc);
+        if is_at(list.as_slice(), place, *doc) {
+            kept.push(*doc)?;
+        }
+    }
+    Ok(kept)
+}
+
+/// Those of some documents that are in a list. A list that is much the longer is searched, another is walked along.
+fn kept_listed(alloc: Global, docs: &DocList, list: &DocList) -> Result<DocList, AllocError>
+    requires { Ascends list.now }
+    ensures { IfOk result (λ kept. kept ≡ filter (has list.now) docs.now) }
+{
+    if list.as_slice().len() / MUCH_LONGER > docs.as_slice().len() {
+        kept_searched(alloc, docs, list)
+    } else {
+        kept_walked(alloc, docs, list)
+    }
 }
 
 fn kept_in(alloc: Global, docs: &DocList, set: &DocSet) -> Result<DocList, AllocError>

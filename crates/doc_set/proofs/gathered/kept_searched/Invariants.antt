@@ -1,6 +1,6 @@
 use Rattle.std.proofs.Common.{◌≡◌, take}
 use Rattle.std.specs.List.{filter}
-use Rattle.doc_set.proofs.gathered.kept_listed.Given as goal
+use Rattle.doc_set.proofs.gathered.kept_searched.Given as goal
 use Rattle.doc_set.specs.Sets.{has}
 
 abbrev pub invariant-loop-doc : goal.invariant-loop-doc
