@@ -19,8 +19,7 @@ use Rattle.attr_types.specs.declared.items.Item.{Item}
 use Rattle.attr_types.specs.declared.value.Value.{Value}
 use Rattle.attr_walks.specs.Counts.{MakesFew}
 use Rattle.attr_walks.proofs.CountLemmas.{few_more, few_none, few_then}
-use Rattle.posting_store.specs.Changes.{MakesWithin, RefusesSome}
-use Rattle.posting_store.proofs.RefusalLemmas.{of_some}
+use Rattle.posting_store.specs.Changes.{MakesWithin}
 use Rattle.attr_steps.specs.Counts.{document_nodes, document_records, items_at, low_document, of_width, weights_at, MakesDocument, SparesAtMost}
 
 -- ---- more attributes make no less
@@ -142,9 +141,6 @@ module _ {H : Type 0} (old begun mid new : Ledger H) (nodes records : ℕ) (begi
       let back = undoes.spare w in
       omega arith
   spares_among among m o Memory settled refuses undoes = tt
-
-  pub spares_unit : (m o : Records) (e : StoreError) → IsSettled old m → RefusesSome begun mid e → Undoes mid new o → SparesAtMost new nodes records e
-  spares_unit m o e settled refuses undoes = spares_among (λ w. Unit {0}) m o e settled (of_some begun mid e refuses) undoes
 
 pub document_unit : {H : Type 0} (old begun mid new : Ledger H) (table : Table) (before after : Option Document) (count : ℕ) → begun ≡ record old { unit = true }
     → MakesDocument begun mid table before after count → (o : Records) → ((w : ℕ) → EndsOf (mid.of_width w) (new.of_width w)) → IsSettled new o

@@ -22,7 +22,9 @@ use Rattle.attr_steps.specs.Calls.{RefusesUnit}
 use Rattle.attr_steps.specs.Commits.{IsForWidth, MakesRoot, RefusesRoot, roots_listed}
 use Rattle.attr_steps.specs.Fields.{root_entries, trees_of}
 use Rattle.attr_steps.proofs.TreeLists.{some_is}
-use Rattle.attr_steps.proofs.Units.{refused_unit}
+use Rattle.posting_store.proofs.RefusalLemmas.{of_one}
+use Rattle.store_api.proofs.May.{may_do-same}
+use Rattle.attr_steps.proofs.Units.{refused_among}
 
 -- ---- the words
 module _ {bits : ℕ} where
@@ -141,7 +143,8 @@ pub refuses_root : {H : Type 0} (old mid new : Ledger H) (m o : Records) (width 
     → ((c w : ℕ) → MakesAtMost c 0 (old.of_width w) (mid.of_width w)) → Undoes mid new o → IsCounted old → IsCounted mid → mid.work.sizes ≡ old.work.sizes → RefusesRoot old new e
 refuses_root old mid new m o width (Full w active held oldest) is settled refuses none_made undoes before after sizes =
     let unit : RefusesUnit old new (Full w active held oldest) =
-    refused_unit old mid new (Full w active held oldest) undoes.work (record { width = width; is = is; refuses = refuses }) in
+    refused_among (λ v. Unit {0}) old mid new (Full w active held oldest) undoes.work
+    (of_one (λ v. Unit {0}) (record old { unit = true }) (record old { unit = true }) mid width (Full w active held oldest) (may_do-same (record old { unit = true })) is tt refuses) in
     let fresh = (none_made 0 w).fresh in
     let none = settled.fresh w in
     let spare : (mid.of_width w).spare ≡ 0 = subst (λ v. (mid.of_width v).spare ≡ 0) (sym refuses.0) refuses.1.spare in

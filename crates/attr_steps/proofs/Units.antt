@@ -18,8 +18,6 @@ use Rattle.attr_images.specs.Tables.{AttributeTrees, HaveSameDocuments, columns_
 use Rattle.attr_types.specs.Value.{Document}
 use Rattle.attr_types.specs.declared.field.Field.{Field}
 use Rattle.attr_index.specs.Columns.{Column}
-use Rattle.posting_store.specs.Changes.{RefusesSome}
-use Rattle.posting_store.proofs.RefusalLemmas.{of_some}
 use Rattle.attr_steps.specs.Calls.{KeepsStore, LeavesEntries, IsOutOfRoom, RefusesUnit}
 use Rattle.attr_steps.specs.Fields.{AllReferBeside, AreFields, ChangesFields, FlowsTrees, IsFieldAt, OwnsFields, parts_of, table_with}
 use Rattle.attr_steps.specs.Views.{table_at}
@@ -103,9 +101,6 @@ pub refused_among : {H : Type 0} (among : ℕ → Type 0) (old mid new : Ledger 
 refused_among among old mid new (Full width active held oldest) same refuses =
     of_work old mid new width active held oldest (out_of_room old mid width active held oldest new.work same refuses.is refuses.full)
 refused_among among old mid new Memory same refuses = tt
-
-pub refused_unit : {H : Type 0} (old mid new : Ledger H) (e : StoreError) → new.work ≡ mid.work → RefusesSome (record old { unit = true }) mid e → RefusesUnit old new e
-refused_unit old mid new e same refuses = refused_among (λ w. Unit {0}) old mid new e same (of_some (record old { unit = true }) mid e refuses)
 
 -- for which width
 pub full_among : {H : Type 0} (among : ℕ → Type 0) (begun mid : Ledger H) (e : StoreError) → RefusesOf among begun mid e → IsFullAmong among e

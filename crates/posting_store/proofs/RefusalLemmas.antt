@@ -1,13 +1,11 @@
 -- Refusals of changes that make entries of several widths.
-use Rattle.std.proofs.Common.{◌≡◌, ℕ, true, Result, Ok, Err, refl, sym, subst, arith}
+use Rattle.std.proofs.Common.{◌≡◌, ℕ, true, Result, Ok, Err, sym, subst, arith}
 use Rattle.std.specs.Prelude.{IfErr}
-use Rattle.store_api.proofs.May.{may_do-same}
 use Rattle.store_api.specs.Calls.{Refuses, RefusesOf, IsFull}
 use Rattle.store_api.specs.Ledgers.{Ledger, is_width}
 use Rattle.store_api.specs.Units.{MayDo}
 use Rattle.store_api.specs.declared.store.StoreError.{StoreError}
 use Rattle.store_api.specs.declared.store.StoreError.TheVariants.{Full, Memory}
-use Rattle.posting_store.specs.Changes.{RefusesSome}
 
 -- of other widths, after calls that may be made in a unit
 pub of_more : {H : Type 0} (few more : ℕ → Type 0) (a b c : Ledger H) (e : StoreError) → MayDo a b → ((w : ℕ) → few w → more w) → RefusesOf few b c e → RefusesOf more a c e
@@ -52,11 +50,3 @@ pub if_one : {A H : Type 0} (among : ℕ → Type 0) (a b c : Ledger H) (width :
     → IfErr answer (Refuses b c width) → IfErr answer (RefusesOf among a c)
 if_one among a b c width (Ok x) may is one refuses = tt
 if_one among a b c width (Err e) may is one refuses = of_one among a b c width e may is one refuses
-
--- of some width
-pub some_of : {H : Type 0} (among : ℕ → Type 0) (a b : Ledger H) (e : StoreError) → RefusesOf among a b e → RefusesSome a b e
-some_of among a b (Full w active held oldest) refuses = record { width = w; is = refuses.is; refuses = (refl, refuses.full) }
-some_of among a b Memory refuses = record { width = 2; is = refl; refuses = tt }
-
-pub of_some : {H : Type 0} (a b : Ledger H) (e : StoreError) → RefusesSome a b e → RefusesOf (λ w. Unit {0}) a b e
-of_some a b e refuses = of_one (λ w. Unit {0}) a a b refuses.width e (may_do-same a) refuses.is tt refuses.refuses

@@ -1,11 +1,9 @@
 -- What a change of a list leaves of a store.
-use Rattle.std.specs.Prelude.{◌≡◌, ℕ, ℤ, ◌+◌, ◌*◌, ◌<◌, true, nat_eq, nat_le, if◌then◌else◌, List, [], ◌∷◌}
+use Rattle.std.specs.Prelude.{◌≡◌, ℕ, ℤ, ◌+◌, ◌*◌, ◌<◌, nat_eq, nat_le, if◌then◌else◌, List, [], ◌∷◌}
 use Rattle.image_base.specs.Records.{Records}
-use Rattle.store_api.specs.Calls.{Refuses}
-use Rattle.store_api.specs.Ledgers.{Ledger, capacity, is_width}
+use Rattle.store_api.specs.Ledgers.{Ledger, capacity}
 use Rattle.store_api.specs.Parts.{Part, Owns, Turns}
 use Rattle.store_api.specs.Units.{MakesAtMost}
-use Rattle.store_api.specs.declared.store.StoreError.{StoreError}
 use Rattle.tree_images.specs.declared.TheConstants.{NODE_WORDS}
 use Rattle.attr_images.specs.declared.TheConstants.{MOST_SHORT}
 use Rattle.attr_images.specs.Words.{class_of}
@@ -42,9 +40,3 @@ list_width count = if nat_le count MOST_SHORT then class_of (1 + count) else NOD
 pub record IsListWidth (count width : ℕ) : Type 0 where
   pub some : 0 < count
   pub width_is : width ≡ list_width count
-
--- a refusal is one of some width of records
-pub record RefusesSome {H : Type 0} (old new : Ledger H) (error : StoreError) : Type 0 where
-  pub width : ℕ
-  pub is : is_width width ≡ true
-  pub refuses : Refuses old new width error

@@ -1,19 +1,17 @@
 -- A call's steps together: why it was refused, and the index that it makes.
-use Rattle.std.proofs.Common.{◌≡◌, ℕ, zero, suc, ℤ, ◌<◌, [], ◌∷◌, length, None, Some, Option, option_map, IsSome, Result, Ok, Err, true, refl, sym, ap, subst, ◌∙◌, arith, inl, inr}
-use Rattle.std.specs.Prelude.{IfOk, IfErr}
+use Rattle.std.proofs.Common.{◌≡◌, ℕ, zero, suc, ℤ, ◌<◌, [], ◌∷◌, length, None, Some, Option, option_map, IsSome, Result, Ok, Err, refl, sym, ap, subst, ◌∙◌, arith, inl, inr}
+use Rattle.std.specs.Prelude.{IfOk}
 use Rattle.std.specs.BTreeMap.{insert_entry, is_at}
 use Rattle.std.specs.declared.cmp.Ordering.TheVariants.{Less, Equal, Greater}
 use Rattle.std.specs.Map.{lookup as lookup_in}
 use Rattle.std.specs.Ordering.{nat_cmp, match_ordering}
 use Rattle.image_base.specs.Records.{Records}
 use Rattle.key_order.specs.Pairs.{lookup_pair, put, take_out}
-use Rattle.store_api.specs.Calls.{Refuses}
-use Rattle.store_api.specs.Ledgers.{Ledger, is_width}
+use Rattle.store_api.specs.Ledgers.{Ledger}
 use Rattle.store_api.specs.Parts.{Owns, Turns, entry}
 use Rattle.store_api.proofs.PartLemmas.{owns-some}
 use Rattle.store_api.specs.Units.{MayDo}
 use Rattle.store_api.specs.declared.store.StoreError.{StoreError}
-use Rattle.store_api.specs.declared.store.StoreError.TheVariants.{Full, Memory}
 use Rattle.tree_images.specs.Trees.{tree_pairs}
 use Rattle.array_store.specs.Adding.{AddsRecord}
 use Rattle.attr_images.specs.Postings.{index_of}
@@ -24,7 +22,7 @@ use Rattle.attr_types.specs.Value.{type_of, value_cmp}
 use Rattle.attr_types.specs.declared.value.Value.{Value}
 use Rattle.enum_dictionary.specs.Dictionaries.{beside, entry_of, MakesDictionary}
 use Rattle.enum_dictionary.specs.declared.finding.DictEntry.{DictEntry}
-use Rattle.posting_store.specs.Changes.{list_part, IsListWidth, MakesList, RefusesSome}
+use Rattle.posting_store.specs.Changes.{list_part, IsListWidth, MakesList}
 use Rattle.posting_store.specs.Lists.{list_at, IsList}
 use Rattle.posting_store.proofs.FormLemmas.{at_form}
 use Rattle.posting_store.proofs.ListLemmas.{list_filled}
@@ -35,33 +33,6 @@ use Rattle.value_index.proofs.KeyLemmas.{list_found, list_none, pair_found}
 use Rattle.value_index.proofs.OpenFlows.{FlowsOpen}
 use Rattle.value_index.proofs.OpenLemmas.{IsOpen, open_found, open_list, open_made, others, parts}
 use Rattle.value_index.proofs.ShownLemmas.{Docs, with_some}
-
--- ---- a refusal after calls that may be made in a unit
-refuses_before : {H : Type 0} (a b c : Ledger H) (width : ℕ) (e : StoreError) → MayDo a b → Refuses b c width e → Refuses a c width e
-refuses_before a b c width (Full w active held oldest) may refuses = (
-  refuses.0,
-  record {
-    spare = refuses.1.spare;
-    free = refuses.1.free;
-    active_is = refuses.1.active_is;
-    held_is = refuses.1.held_is;
-    all = refuses.1.all;
-    unread = refuses.1.unread;
-    generation = refuses.1.generation;
-    hold = refuses.1.hold;
-    newest = refuses.1.newest;
-    stopped = λ old. let s = refuses.1.stopped old in let rises = may.stops in (s.0, s.1, omega arith);
-  },
-)
-refuses_before a b c width Memory may refuses = tt
-
-pub refuses_width : {H : Type 0} (a b c : Ledger H) (width : ℕ) (e : StoreError) → is_width width ≡ true → MayDo a b → Refuses b c width e → RefusesSome a c e
-refuses_width a b c width e is may refuses = record { width = width; is = is; refuses = refuses_before a b c width e may refuses }
-
-pub if_refuses_width : {H : Type 0} (a b c : Ledger H) (width : ℕ) (answer : Result ℕ StoreError) → is_width width ≡ true → MayDo a b → IfErr answer (Refuses b c width)
-    → IfErr answer (RefusesSome a c)
-if_refuses_width a b c width (Ok next) is may refuses = tt
-if_refuses_width a b c width (Err e) is may refuses = refuses_width a b c width e is may refuses
 
 -- ---- of which width
 pub list_change : (value : Value) (count width : ℕ) → IsListWidth count width → IsChangeWidth value count width
