@@ -70,17 +70,18 @@ fn seek_slot<const OFFSET_BITS: u32, F: Frozen<OFFSET_BITS>, K: KeyOrder<OFFSET_
     }
 }
 
-/// The pair at a key below a node of this level.
+/// Seeks the pair at a key below a node of this level, from node to node with no answer to hand up.
 fn find_below<const OFFSET_BITS: u32, F: Frozen<OFFSET_BITS>, K: KeyOrder<OFFSET_BITS>>(
     frozen: &mut F,
     node: EntryRef<OFFSET_BITS>,
     level: u64,
     key: &K,
-) -> Option<(u64, u64)>
+    pair: &mut Option<(u64, u64)>,
+)
     requires node { IsNode (F.records frozen.old) 1 level node }
     requires ascends { Ascends K.order K.read (F.records frozen.old) (pairs_below (F.records frozen.old) level node) }
     requires readable { AllReadable K.can_read (F.records frozen.old) (pairs_below (F.records frozen.old) level node) }
-    ensures pair { result ≡ lookup_pair (seen_by K.read K.order (K.sought key.now) (F.records frozen.old))
+    ensures pair { pair.new ≡ lookup_pair (seen_by K.read K.order (K.sought key.now) (F.records frozen.old))
         (pairs_below (F.records frozen.old) level node.entry) }
     ensures same { frozen.new ≡ frozen.old }
 {
@@ -88,17 +89,19 @@ fn find_below<const OFFSET_BITS: u32, F: Frozen<OFFSET_BITS>, K: KeyOrder<OFFSET
     let spot = seek_slot(frozen, node, used, key);
     let slot = spot.slot as u32;
     if slot == used {
-        return None;
+        *pair = None;
+        return;
     }
     let value = frozen.word(node, FIRST_VALUE as u32 + slot);
     if level > 0 {
-        return find_below(frozen, EntryRef::from_raw(value as u32), level - 1, key);
+        find_below(frozen, EntryRef::from_raw(value as u32), level - 1, key, pair);
+        return;
     }
     if spot.found {
-        Some((frozen.word(node, FIRST_KEY as u32 + slot), value))
-    } else {
-        None
+        *pair = Some((frozen.word(node, FIRST_KEY as u32 + slot), value));
+        return;
     }
+    *pair = None;
 }
 
 /// The stored key and the value at a key in the tree of a root.
@@ -119,7 +122,9 @@ pub fn find<const OFFSET_BITS: u32, F: Frozen<OFFSET_BITS>, K: KeyOrder<OFFSET_B
         return None;
     }
     let level = read_head(frozen, root).level;
-    find_below(frozen, root, level, key)
+    let mut pair = None;
+    find_below(frozen, root, level, key, &mut pair);
+    pair
 }
 
 /// How many pairs the tree of a root has.

@@ -360,8 +360,8 @@ returns-then-spot-clause-pair g t c =
     ∙ leaf-found seen m node slot leaf at low found
     ∙ ap (λ l. lookup_pair seen (pairs_below m l node)) (sym flat)
 
-pub returns-else-spot-clause-pair : goal.returns-else-spot-clause-pair
-returns-else-spot-clause-pair g t c =
+pub returns-clause-pair : goal.returns-clause-pair
+returns-clause-pair g t c =
     let records = g.F.Frozen.records in
     let key = g.K.KeyOrder in
     let total = g.met.K.KeyOrder.total in
