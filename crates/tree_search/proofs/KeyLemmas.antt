@@ -1,5 +1,5 @@
 -- All keys of a tree, a leaf's at a time.
-use Rattle.std.proofs.Common.{◌≡◌, ℕ, zero, suc, ◌+◌, ◌%◌, ◌<◌, ◌≤◌, List, [], ◌∷◌, ◌++◌, length, get_or, take, refl, sym, ap, ◌∙◌, arith, append_assoc}
+use Rattle.std.proofs.Common.{subst, ◌≡◌, ℕ, zero, suc, ◌+◌, ◌%◌, ◌<◌, ◌≤◌, List, [], ◌∷◌, ◌++◌, length, get_or, take, refl, sym, ap, ◌∙◌, arith, append_assoc}
 use Rattle.std.proofs.lemmas.List.{append-nil, take-take, take_all}
 use Rattle.std.proofs.lemmas.Map.Made.{keys_of-zip}
 use Rattle.std.specs.List.{flat_map, AllByRecursion}
@@ -64,3 +64,13 @@ module _ (m : Records) (level l ref : ℕ) (above : level ≡ suc l) (node : IsN
   keys-past i high =
       ap (λ (qs : List ℕ). keys_of (flat_map (pairs_below m l) qs)) (take_all i (node_values (m ref)) (let size = values-size m 1 level l ref above node in omega arith))
       ∙ ap (λ (ps : List (ℕ × ℕ)). keys_of ps) (sym (children m 1 level l ref above node))
+
+-- what a child owes, where the records are the same
+pub child-asks : {F : Type 0} (records : F → Records) (m : Records) (now : F) → records now ≡ m → (P : ℕ → Type 0) (l k : ℕ) → l ≡ k
+    → (ref i child : ℕ) → child ≡ word_at m ref (18 + i) → i < used_of (m ref) → IsNode m 1 (suc l) ref → AllByRecursion (λ p. P p.0) (pairs_below m (suc l) ref)
+    → IsNode (records now) 1 k child × AllByRecursion (λ p. P p.0) (pairs_below (records now) k child)
+child-asks records m now same P l k is ref i child at low node all =
+    subst (λ (n : Records). IsNode n 1 k child × AllByRecursion (λ (p : ℕ × ℕ). P p.0) (pairs_below n k child)) (sym same)
+    (subst (λ (j : ℕ). IsNode m 1 j child × AllByRecursion (λ (p : ℕ × ℕ). P p.0) (pairs_below m j child)) is
+    (subst (λ (q : ℕ). IsNode m 1 l q × AllByRecursion (λ (p : ℕ × ℕ). P p.0) (pairs_below m l q)) (sym at)
+    (slot-child m (suc l) l ref refl node i low, slot-all m (suc l) l ref refl node P all i low)))

@@ -1,5 +1,5 @@
 //! All keys of a tree, in order, a leaf's at a time.
-ghost use Rattle.std.specs.Prelude.{◌≡◌, ◌<◌, ◌≤◌, ◌++◌, ℕ, List, [], OnOk};
+ghost use Rattle.std.specs.Prelude.{◌≡◌, ◌<◌, ◌≤◌, ◌++◌, ℕ, suc, List, [], OnOk};
 ghost use Rattle.std.specs.List.{AllByRecursion};
 ghost use Rattle.std.specs.Map.{keys_of};
 ghost use Rattle.tree_images.specs.Nodes.{used_of, node_keys};
@@ -52,26 +52,27 @@ fn take_leaf<const OFFSET_BITS: u32, F: Frozen<OFFSET_BITS>, T: TakesKeys>(
     taker.take(used_keys(&words))
 }
 
-/// The keys below a node of this level.
+/// The keys below a node above the leaves, by its level less one.
 fn take_below<const OFFSET_BITS: u32, F: Frozen<OFFSET_BITS>, T: TakesKeys>(
     frozen: &mut F,
     node: EntryRef<OFFSET_BITS>,
-    level: u64,
+    below: u64,
     taker: &mut T,
 ) -> Result<(), AllocError>
-    requires node { IsNode (F.records frozen.old) 1 level node }
-    requires keys { AllByRecursion (λ p. T.can_take p.0) (pairs_below (F.records frozen.old) level node) }
-    ensures takes { OnOk result (T.takes taker.old (keys_of (pairs_below (F.records frozen.old) level node.entry)) taker.new) }
+    requires node { IsNode (F.records frozen.old) 1 (suc below) node }
+    requires keys { AllByRecursion (λ p. T.can_take p.0) (pairs_below (F.records frozen.old) (suc below) node) }
+    ensures takes { OnOk result (T.takes taker.old (keys_of (pairs_below (F.records frozen.old) (suc below) node.entry)) taker.new) }
     ensures same { frozen.new ≡ frozen.old }
 {
-    if level == 0 {
-        return take_leaf(frozen, node, taker);
-    }
     let mut words = [0; NODE_WORDS];
     read_words(frozen, node, &mut words);
     for slot in 0..used_in(&words) {
         let child = EntryRef::from_raw(words[FIRST_VALUE + slot] as u32);
-        take_below(frozen, child, level - 1, taker)?;
+        if below == 0 {
+            take_leaf(frozen, child, taker)?;
+        } else {
+            take_below(frozen, child, below - 1, taker)?;
+        }
     }
     Ok(())
 }
@@ -91,5 +92,9 @@ pub fn take_keys<const OFFSET_BITS: u32, F: Frozen<OFFSET_BITS>, T: TakesKeys>(
         return Ok(());
     }
     let level = read_head(frozen, root).level;
-    take_below(frozen, root, level, taker)
+    if level == 0 {
+        take_leaf(frozen, root, taker)
+    } else {
+        take_below(frozen, root, level - 1, taker)
+    }
 }

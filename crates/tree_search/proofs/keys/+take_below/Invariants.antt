@@ -1,4 +1,4 @@
-use Rattle.std.proofs.Common.{◌≡◌, ◌-◌, take}
+use Rattle.std.proofs.Common.{◌≡◌, take}
 use Rattle.std.specs.List.{flat_map}
 use Rattle.std.specs.Map.{keys_of}
 use Rattle.tree_images.specs.Nodes.{node_values}
@@ -6,7 +6,7 @@ use Rattle.tree_images.specs.Trees.{pairs_below}
 use Rattle.tree_search.proofs.keys.+take_below.Given as goal
 
 abbrev pub decreases-take_below : goal.decreases-take_below
-decreases-take_below g l = l.level
+decreases-take_below g l = l.below
 
 -- the keys below the children in front of the slot were taken
 abbrev pub invariant-loop-slot : goal.invariant-loop-slot
@@ -15,5 +15,5 @@ invariant-loop-slot g l =
     record {
       same : l.frozen ≡ l.fn.frozen;
       words : l.words ≡ m l.fn.node;
-      takes : g.T.TakesKeys.takes l.fn.taker (keys_of (flat_map (pairs_below m (l.fn.level - 1)) (take l.slot (node_values (m l.fn.node))))) l.taker;
+      takes : g.T.TakesKeys.takes l.fn.taker (keys_of (flat_map (pairs_below m l.fn.below) (take l.slot (node_values (m l.fn.node))))) l.taker;
     }

@@ -1,4 +1,4 @@
-use Rattle.std.proofs.Common.{◌≡◌, ◌<◌, ℕ, List, OnOk, arith, sym, ap, subst, ◌∙◌, []}
+use Rattle.std.proofs.Common.{◌≡◌, ◌<◌, ◌-◌, suc, ℕ, List, OnOk, arith, sym, ap, subst, ◌∙◌, []}
 use Rattle.std.specs.List.{AllByRecursion}
 use Rattle.std.specs.Map.{keys_of}
 use Rattle.tree_images.specs.Nodes.{level_of}
@@ -21,8 +21,8 @@ take_below-requires g c =
     let root = c.args.root in
     let some : 0 < root = omega arith in
     let tree = c.requires.tree some in
-    let level = c.read_head-level.result.level in
-    let is : level ≡ level_of (m root) = c.read_head-level.ensures.level in
+    let level = suc (c.read_head-level.result.level - 1) in
+    let is : level ≡ level_of (m root) = (let above = c.if-level-eq0.false in let read = c.read_head-level.ensures.level in omega arith) in
     let same = c.read_head-level.ensures.same in (
       omega arith,
       (
@@ -33,15 +33,15 @@ take_below-requires g c =
       ),
     )
 
-pub returns-clause-takes : goal.returns-clause-takes
-returns-clause-takes g c =
+pub returns-else-level-eq0-clause-takes : goal.returns-else-level-eq0-clause-takes
+returns-else-level-eq0-clause-takes g c =
     let records = g.F.Frozen.records in
     let m = records c.args.frozen.now in
     let root = c.args.root in
     let some : 0 < root = omega arith in
-    let level = c.read_head-level.result.level in
+    let level = suc (c.read_head-level.result.level - 1) in
+    let is : level ≡ level_of (m root) = (let above = c.if-level-eq0.false in let read = c.read_head-level.ensures.level in omega arith) in
     let keys : keys_of (pairs_below (records c.read_head-level.new.frozen) level root) ≡ keys_of (pairs_below m (level_of (m root)) root) =
-    ap (λ (f : g.row.F.Denot). keys_of (pairs_below (records f) level root)) c.read_head-level.ensures.same
-    ∙ ap (λ (l : ℕ). keys_of (pairs_below m l root)) c.read_head-level.ensures.level in
+    ap (λ (f : g.row.F.Denot). keys_of (pairs_below (records f) level root)) c.read_head-level.ensures.same ∙ ap (λ (l : ℕ). keys_of (pairs_below m l root)) is in
     subst (λ (ks : List ℕ). OnOk c.take_below.result (g.T.TakesKeys.takes c.args.taker.now ks c.take_below.new.taker))
     (keys ∙ ap (λ (ps : List (ℕ × ℕ)). keys_of ps) (sym (root_pairs m root some (c.requires.tree some)))) c.take_below.ensures.takes
