@@ -277,3 +277,12 @@ stop_place xs x i up before first = record {
   after = λ k from lt.
       let next : get_or xs i 0 ≤ get_or xs k 0 = rising xs up i k from lt in omega (arith, next, first);
 }
+
+-- documents of which each is below the next
+pub adjacent : (xs : List ℕ) → ((k : ℕ) → suc k < length xs → get_or xs k 0 < get_or xs (suc k) 0) → Ascends xs
+adjacent [] steps = tt
+adjacent (x ∷ []) steps = (tt, tt)
+adjacent (x ∷ y ∷ ys) steps =
+    let rest : Ascends (y ∷ ys) = adjacent (y ∷ ys) (λ k low. steps (suc k) (omega arith)) in
+    let first : x < y = steps 0 (omega arith) in
+    ((first, above x y ys first rest.0), rest)

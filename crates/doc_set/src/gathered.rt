@@ -1,5 +1,5 @@
 //! Documents gathered in any order: few in a list that is sorted at the end, many in a bit vector.
-ghost use Rattle.std.specs.Prelude.{◌≡◌, ◌≤◌, ◌||◌, ◌&&◌, ◌++◌, ℕ, false, length, filter, IfOk, OnOk};
+ghost use Rattle.std.specs.Prelude.{◌≡◌, ◌≤◌, ◌||◌, ◌&&◌, ◌++◌, ℕ, false, true, length, filter, IfOk, OnOk};
 ghost use Rattle.std.specs.List.{All};
 ghost use Rattle.std.specs.Map.{keys_of};
 ghost use Rattle.attr_types.specs.Lawful.{IsDocNumber};
@@ -23,10 +23,25 @@ pub enum Gathered {
     Many(DocSet),
 }
 
+/// Whether documents ascend already, each once, as those of one list of the index do.
+fn is_sorted(docs: &[Doc]) -> bool
+    ensures { result ≡ true → Ascends docs.now }
+{
+    for place in 1..docs.len() {
+        if docs[place - 1] >= docs[place] {
+            return false;
+        }
+    }
+    true
+}
+
 /// The documents of a list, ascending, each once.
 pub fn sorted_list(mut docs: Vec<Doc>) -> DocList
     ensures { Holds result (has docs.items) }
 {
+    if is_sorted(docs.as_slice()) {
+        return DocList::from_vec(docs);
+    }
     docs.sort_unstable();
     docs.dedup();
     DocList::from_vec(docs)

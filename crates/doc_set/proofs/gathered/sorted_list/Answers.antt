@@ -5,5 +5,5 @@ use Rattle.doc_set.specs.Sets.{has, Holds}
 
 pub returns : goal.returns
 returns c =
-    subst (λ (docs : List ℕ). Holds docs (has c.args.docs.items)) (sym c.from_vec.ensures)
+    subst (λ (docs : List ℕ). Holds docs (has c.args.docs.items)) (sym c.from_vec-2.ensures)
     (sorted_holds _ c.sort_unstable.new.self.items _ c.sort_unstable.ensures.permutation c.sort_unstable.ensures.sorted c.dedup.ensures.filtered)
