@@ -56,7 +56,8 @@ pub record IsLawful (fields : List Field) (ask : AskTree) : Type 0 where
 
 -- where the ask is lawful, each parser that reads such words reads the text as it
 abbrev pub ReadsBackAs : List Field → List ℕ → AskTree → Type 0
-ReadsBackAs fields text ask = (words : Words) → IsAmong words (named_word fields ask) → IsLawful fields ask → read_of words fields text ≡ Ok ask
+ReadsBackAs fields text ask = (words : Words) → IsAmong words (named_word fields ask) → IsLawful fields ask
+    → read_of words fields text ≡ Ok ask
 
 -- what stands before a member of a list, by the number of members before it
 abbrev pub comma_after : ℕ → List ℕ
