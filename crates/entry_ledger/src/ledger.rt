@@ -209,6 +209,7 @@ impl<const OFFSET_BITS: u32> EntryLedger<OFFSET_BITS> {
     }
 
     /// Ends the unit for one entry that it changed. False where there is no more.
+    #[inline(always)]
     #[tactic(none)]
     fn settle(&mut self, accepts: bool) -> bool
         ensures ended { result ≡ false → IsEnded (entries_of OFFSET_BITS self.old) }
