@@ -1,21 +1,8 @@
-use crate::trees::{look, new_tree};
-use arena_api::Oldest;
-use entry_store::EntryStore;
-use mem_work::MemWork;
+//! Many changes of a tree beside a sorted list.
+use crate::trees::{Seen, look, new_tree};
 use number_tree::{NumberTree, TreeLayout};
-use std::alloc::AllocError;
-use std::test::Fail;
-use store_api::StoreError;
-
-type Tree = NumberTree<22, EntryStore<22, MemWork<22, TreeLayout>>>;
-
-/// The oldest open hold of a store without commits: the first, and the newest.
-const FIRST: Oldest = Oldest {
-    generation: 0,
-    hold: 0,
-    found: 0,
-    newest: true,
-};
+use std::alloc::{AllocError, Global};
+use store_api::Store;
 
 /// The next number of a fixed order that looks like none.
 fn scrambled(number: u64) -> u64 {
@@ -57,8 +44,8 @@ fn take(pairs: &mut Vec<(u64, u64)>, key: u64) -> bool {
 
 /// 500 changes of a tree and of sorted pairs, `puts` of eight of them puts; the next number, or none where the
 /// two differed.
-fn change(
-    tree: &mut Tree,
+fn change<const OFFSET_BITS: u32, S: Store<OFFSET_BITS, Layout = TreeLayout>>(
+    tree: &mut NumberTree<OFFSET_BITS, S>,
     pairs: &mut Vec<(u64, u64)>,
     seed: u64,
     puts: u64,
@@ -77,74 +64,55 @@ fn change(
     Ok(Some(number))
 }
 
-#[test]
-fn a_tree_holds_what_a_sorted_list_holds(rt: HostRuntime) -> Result<(), Fail> {
-    let alloc = rt.alloc();
-    let mut tree = new_tree::<22>(alloc, 64)?;
-    let mut pairs = Vec::new(alloc);
-    let mut number = 20261126;
-    for puts in [7, 6, 5, 4, 6, 3, 2, 1, 1, 7, 2, 0, 0, 7, 3] {
-        let next = change(&mut tree, &mut pairs, number, puts)?;
-        assert!(rt; next.is_some());
-        number = next.unwrap_or(1);
-        assert!(rt; tree.commit().is_some());
-        assert_eq!(rt; tree.pairs(alloc)?, pairs);
+/// Whether a tree is committed, and has these pairs.
+fn is_same<const OFFSET_BITS: u32, S: Store<OFFSET_BITS, Layout = TreeLayout>>(
+    alloc: Global,
+    tree: &mut NumberTree<OFFSET_BITS, S>,
+    pairs: &[(u64, u64)],
+) -> Result<bool, AllocError> {
+    if tree.commit().is_none() {
+        return Ok(false);
     }
-    let seen = look(alloc, tree)?;
-    assert_eq!(rt; seen.pairs, pairs);
-    assert!(rt; seen.heads.len() > 2);
-    Ok(())
+    Ok(tree.pairs(alloc)?.as_slice() == pairs)
 }
 
-#[test]
-fn a_full_store_is_told_and_leaves_the_tree_as_it_was(rt: HostRuntime) -> Result<(), Fail> {
-    let alloc = rt.alloc();
-    for buffers in 1..3 {
-        let mut tree = new_tree::<22>(alloc, buffers)?;
-        let mut put = 0;
-        let mut last = Ok(());
-        for key in 0..5000 {
-            last = tree.put(key, key);
-            if last.is_err() {
-                break;
-            }
-            put = key + 1;
+/// Rounds of 500 changes, each with a commit; whether the tree has the pairs of the list after each.
+fn are_same<const OFFSET_BITS: u32, S: Store<OFFSET_BITS, Layout = TreeLayout>>(
+    alloc: Global,
+    tree: &mut NumberTree<OFFSET_BITS, S>,
+    pairs: &mut Vec<(u64, u64)>,
+    seed: u64,
+    rounds: &[u64],
+) -> Result<bool, AllocError> {
+    let mut number = seed;
+    for puts in rounds {
+        match change(tree, pairs, number, *puts)? {
+            Some(next) => number = next,
+            None => return Ok(false),
         }
-        let full = StoreError::Full {
-            width: 34,
-            active: buffers,
-            held: 0,
-            oldest: FIRST,
-        };
-        assert_eq!(rt; last, Err(full));
-        assert_eq!(rt; tree.get(put), None);
-        assert_eq!(rt; u64::from(tree.len()), put);
-        let seen = look(alloc, tree)?;
-        assert_eq!(rt; seen.pairs.len() as u64, put);
+        if !is_same(alloc, tree, pairs)? {
+            return Ok(false);
+        }
     }
-    Ok(())
+    Ok(true)
 }
 
-#[test]
-fn the_readme_example(rt: HostRuntime) -> Result<(), Fail> {
-    let alloc = rt.alloc();
-    let work = MemWork::<22, TreeLayout>::create(alloc, 1, 8192, 1)?;
-    let store = EntryStore::create(alloc, work).map_err(|_| AllocError)?;
-    let mut map = NumberTree::new(store);
-    assert_eq!(rt; map.put(7, 49), Ok(()));
-    assert_eq!(rt; map.get(7), Some(49));
-    assert_eq!(rt; map.at_or_above(3), Some((7, 49)));
-    let mut last = Ok(());
-    for key in 8..5000 {
-        last = map.put(key, key);
+fn are_seen(seen: Option<Seen>, pairs: &[(u64, u64)]) -> bool {
+    match seen {
+        Some(seen) => seen.pairs.as_slice() == pairs && seen.heads.len() > 2,
+        None => false,
     }
-    let full = StoreError::Full {
-        width: 34,
-        active: 1,
-        held: 0,
-        oldest: FIRST,
+}
+
+/// What comes of a row: rounds of 500 changes, each with so many puts among eight.
+pub fn answer(alloc: Global, seed: u64, rounds: &[u64]) -> Result<String, AllocError> {
+    let mut pairs = Vec::new(alloc);
+    let mut tree = new_tree::<22>(alloc, 64)?;
+    let same = are_same(alloc, &mut tree, &mut pairs, seed, rounds)?;
+    let seen = look(alloc, tree)?;
+    let line = match same && are_seen(seen, &pairs) {
+        true => " the same, in more than two nodes",
+        false => " others",
     };
-    assert_eq!(rt; last, Err(full));
-    assert_eq!(rt; map.get(4999), None);
-    Ok(())
+    String::from_str(alloc, line)
 }

@@ -1,9 +1,11 @@
+//! How a stored number compares, and keys that are equal and yet other words.
 ghost use Rattle.std.specs.Prelude.{IfOk};
 ghost use Rattle.store_api.specs.Ledgers.{IsNew};
 ghost use Rattle.test_trees.specs.Tens.{HoldsTens};
 
 use crate::tens::put_word;
-use crate::trees::{new_tree, records_of};
+use crate::texts::push_numbers;
+use crate::trees::records_of;
 use entry_ref::EntryRef;
 use entry_store::EntryStore;
 use frozen_btree::{KeyOrder, NumberKey};
@@ -12,49 +14,18 @@ use mem_work::MemWork;
 use number_tree::TreeLayout;
 use std::alloc::{AllocError, Global};
 use std::cmp::Ordering;
-use std::test::Fail;
+use std::collections::BTreeMap;
 use store_api::{Store, StoreError};
 
-#[test]
-fn a_key_is_sought_among_its_neighbours(rt: HostRuntime) -> Result<(), Fail> {
-    let mut tree = new_tree::<22>(rt.alloc(), 8)?;
-    for i in 1..18u64 {
-        assert_eq!(rt; tree.put(10 * i, i), Ok(()));
-    }
-    // the last key of a leaf gets another value
-    assert_eq!(rt; tree.put(90, 99), Ok(()));
-    assert_eq!(rt; tree.len(), 17);
-    // the key sought, its value, and the first pair from there on
-    let rows = [
-        (0, None, Some((10, 1))),
-        (10, Some(1), Some((10, 1))),
-        (11, None, Some((20, 2))),
-        (19, None, Some((20, 2))),
-        (90, Some(99), Some((90, 99))),
-        (91, None, Some((100, 10))),
-        (170, Some(17), Some((170, 17))),
-        (171, None, None),
-    ];
-    for (key, value, pair) in rows {
-        assert_eq!(rt; tree.get(key), value);
-        assert_eq!(rt; tree.at_or_above(key), pair);
-    }
-    Ok(())
-}
-
-#[test]
-fn a_stored_number_is_beside_the_one_sought(rt: HostRuntime) -> Result<(), Fail> {
-    let mut work = MemWork::<22, TreeLayout>::create(rt.alloc(), 1, 8192, 1)?;
-    let key = NumberKey(1 << 40);
-    let rows = [
-        (17, Ordering::Less),
-        (1 << 40, Ordering::Equal),
-        (u64::MAX, Ordering::Greater),
-    ];
-    for (stored, order) in rows {
-        assert_eq!(rt; key.compare(&mut work, stored), order);
-    }
-    Ok(())
+/// What comes of a row: a stored number beside 2 to the power of 40.
+pub fn beside(alloc: Global, stored: u64) -> Result<String, AllocError> {
+    let mut work = MemWork::<22, TreeLayout>::create(alloc, 1, 8192, 1)?;
+    let order = match NumberKey(1 << 40).compare(&mut work, stored) {
+        Ordering::Less => " below",
+        Ordering::Equal => " equal",
+        Ordering::Greater => " above",
+    };
+    String::from_str(alloc, order)
 }
 
 /// A tree of 10 to 170 by tens, in which the last keys of both leaves have become other words.
@@ -84,19 +55,38 @@ fn new_store(alloc: Global) -> Result<EntryStore<22, MemWork<22, TreeLayout>>, A
     }
 }
 
-#[test]
-fn the_last_key_of_a_subtree_is_replaced_by_another_word(rt: HostRuntime) -> Result<(), Fail> {
-    let alloc = rt.alloc();
+/// Words 0 to 3 of a root, and words 0, 10 and 26 of its first child.
+fn push_words(
+    alloc: Global,
+    line: &mut String,
+    records: &BTreeMap<u32, Vec<u64>>,
+    root: u32,
+) -> Result<(), AllocError> {
+    let top = words_at(records, u64::from(root));
+    push_numbers(
+        alloc,
+        line,
+        &[
+            word_in(top, 0),
+            word_in(top, 1),
+            word_in(top, 2),
+            word_in(top, 3),
+        ],
+    )?;
+    let first = words_at(records, word_in(top, 18));
+    push_numbers(
+        alloc,
+        line,
+        &[word_in(first, 0), word_in(first, 10), word_in(first, 26)],
+    )
+}
+
+/// What comes of a row: the words of the nodes in which the last key of each leaf was replaced.
+pub fn replaced(alloc: Global) -> Result<String, AllocError> {
+    let mut line = String::new(alloc);
     let mut store = new_store(alloc)?;
     let root = two_replaced(&mut store).map_err(|_| AllocError)?;
     let records = records_of(alloc, &mut store, root)?;
-    let top = words_at(&records, u64::from(root.raw()));
-    assert_eq!(rt; (word_in(top, 0), word_in(top, 1)), (258, 17));
-    assert_eq!(rt; (word_in(top, 2), word_in(top, 3)), (95, 179));
-    let first = words_at(&records, word_in(top, 18));
-    assert_eq!(rt;
-        (word_in(first, 0), word_in(first, 10), word_in(first, 26)),
-        (9, 95, 1)
-    );
-    Ok(())
+    push_words(alloc, &mut line, &records, root.raw())?;
+    Ok(line)
 }

@@ -6,12 +6,12 @@ ghost use Rattle.entry_ref.specs.References.{offset_limit, buffer_limit};
 ghost use Rattle.store_api.specs.Ledgers.{Ledger};
 ghost use Rattle.tree_images.specs.Trees.{IsRootNode};
 
-use crate::trees::{heads, new_tree, records_of};
-use check_trees::{Keys, check_tree};
+use crate::steps::push_seen;
+use crate::texts::push_number;
+use crate::trees::{Seen, look_at, new_tree};
 use entry_ref::EntryRef;
 use frozen_btree::{NumberKey, build};
 use std::alloc::{AllocError, Global};
-use std::test::Fail;
 use store_api::{Store, StoreError};
 
 /// The numbers from 0 on.
@@ -39,54 +39,69 @@ fn build_numbers<const OFFSET_BITS: u32, S: Store<OFFSET_BITS>>(
     build::<OFFSET_BITS, S, NumberKey>(alloc, store, numbers, numbers)
 }
 
-/// Whether the tree of the first numbers is one to the slow checker, with these first words of its upper nodes, so
-/// many nodes, and each number as its own value.
-fn is_built<const OFFSET_BITS: u32>(
-    alloc: Global,
-    count: u64,
-    upper: &[u64],
-    nodes: usize,
-) -> Result<bool, AllocError>
-    requires few { 8 < buffer_limit OFFSET_BITS }
-    requires offsets { 8192 ≤ offset_limit OFFSET_BITS }
-{
-    let mut store = new_tree::<OFFSET_BITS>(alloc, 8)?.into_store();
-    let numbers = numbers(alloc, count)?;
-    let root = match build_numbers(alloc, &mut store, &numbers) {
-        Ok(root) => root,
-        Err(_) => return Err(AllocError),
-    };
-    let records = records_of(alloc, &mut store, root)?;
-    let number = u64::from(root.raw());
-    let pairs = match check_tree(alloc, Keys::Numbers, &records, number) {
-        Ok(pairs) => pairs,
-        Err(_) => return Ok(false),
-    };
-    let mut same = pairs.len() == numbers.len() && records.len() == nodes;
-    for (key, value) in pairs {
-        same &= key == value;
+/// Whether each key is its place, and its own value.
+fn are_numbers(pairs: &[(u64, u64)]) -> bool {
+    let mut place: u64 = 0;
+    for pair in pairs {
+        if pair.0 != place || pair.1 != place {
+            return false;
+        }
+        place = place.saturating_add(1);
     }
-    let heads = heads(alloc, &records, number)?;
-    Ok(same && heads.as_slice() == upper)
+    true
 }
 
-#[test]
-fn lists_are_built_as_the_rows_say(rt: HostRuntime) -> Result<(), Fail> {
-    let alloc = rt.alloc();
-    // how many pairs; then the first words of the upper nodes, and how many nodes there are
-    let rows: [(u64, &[u64], usize); 8] = [
-        (0, &[0], 0),
-        (1, &[1], 1),
-        (9, &[9], 1),
-        (16, &[16], 1),
-        (17, &[258, 9, 8], 3),
-        (128, &[264, 16, 16, 16, 16, 16, 16, 16, 16], 9),
-        (129, &[265, 15, 15, 15, 14, 14, 14, 14, 14, 14], 10),
-        (1000, &[516, 272, 272, 272, 271], 68),
-    ];
-    for (count, upper, nodes) in rows {
-        assert!(rt; is_built::<22>(alloc, count, upper, nodes)?);
-        assert!(rt; is_built::<19>(alloc, count, upper, nodes)?);
+/// A tree of numbers is built in a store, and looked at.
+fn built_in<const OFFSET_BITS: u32, S: Store<OFFSET_BITS>>(
+    alloc: Global,
+    store: &mut S,
+    numbers: &[u64],
+) -> Result<Option<Seen>, AllocError>
+    requires unit { (S.ledger store.old).unit ≡ false }
+    requires sorted { IsStrictlySortedBy nat_cmp numbers.now }
+{
+    match build_numbers(alloc, store, numbers) {
+        Ok(root) => look_at(alloc, store, root),
+        Err(_) => Ok(None),
     }
-    Ok(())
+}
+
+fn built<const OFFSET_BITS: u32>(alloc: Global, numbers: &[u64]) -> Result<Option<Seen>, AllocError>
+    requires few { 8 < buffer_limit OFFSET_BITS }
+    requires offsets { 8192 ≤ offset_limit OFFSET_BITS }
+    requires sorted { IsStrictlySortedBy nat_cmp numbers.now }
+{
+    let mut store = new_tree::<OFFSET_BITS>(alloc, 8)?.into_store();
+    built_in(alloc, &mut store, numbers)
+}
+
+/// How many nodes the tree has, the first words of the upper ones, what the root counts and how many pairs there are.
+fn push_built(alloc: Global, line: &mut String, seen: &Seen) -> Result<(), AllocError> {
+    push_number(alloc, line, seen.nodes)?;
+    push_seen(alloc, line, seen)?;
+    line.push_str(if are_numbers(&seen.pairs) {
+        ""
+    } else {
+        " others"
+    })
+}
+
+fn line_of(alloc: Global, seen: Option<Seen>) -> Result<String, AllocError> {
+    let mut line = String::new(alloc);
+    match seen {
+        Some(seen) => push_built(alloc, &mut line, &seen)?,
+        None => line.push_str(" no tree")?,
+    }
+    Ok(line)
+}
+
+/// What comes of a row, the same for both widths.
+pub fn answer(alloc: Global, count: u64) -> Result<String, AllocError> {
+    let numbers = numbers(alloc, count)?;
+    let narrow = line_of(alloc, built::<22>(alloc, &numbers)?)?;
+    let wide = line_of(alloc, built::<19>(alloc, &numbers)?)?;
+    if narrow != wide {
+        return format!(in alloc; "{narrow}, of 19 bits{wide}");
+    }
+    Ok(narrow)
 }

@@ -3,6 +3,7 @@ ghost use Rattle.std.specs.Prelude.{◌<◌, IfOk};
 ghost use Rattle.tree_images.specs.Trees.{IsRootNode};
 ghost use Rattle.number_tree.specs.Maps.{HoldsTree};
 
+use crate::texts::push_marks;
 use crate::trees::{new_tree, records_of};
 use check_trees::{Keys, check_tree};
 use entry_ref::EntryRef;
@@ -11,7 +12,6 @@ use image_base::{word_in, words_at};
 use number_tree::{NumberTree, TreeLayout};
 use std::alloc::{AllocError, Global};
 use std::collections::BTreeMap;
-use std::test::Fail;
 use store_api::{Store, StoreError};
 
 /// The child of a node above the leaves under which a key is sought.
@@ -170,52 +170,14 @@ fn touch_after(alloc: Global, changes: u64, key: u64) -> Result<Touched, AllocEr
     touch_in(alloc, &mut store, root, key)
 }
 
-#[test]
-fn ways_are_made_anew_as_the_rows_say(rt: HostRuntime) -> Result<(), Fail> {
-    let alloc = rt.alloc();
-    // after so many changes, for a key: which nodes of its way lie in the sealed buffer, from the root on; then
-    // which of them are made anew
-    let rows: [(u64, u64, &[bool], &[bool]); 5] = [
-        (
-            1860,
-            0,
-            &[false, false, false, false],
-            &[false, false, false, false],
-        ),
-        // the leaf alone, and the root alone
-        (
-            1860,
-            440,
-            &[false, false, false, true],
-            &[true, true, true, true],
-        ),
-        (
-            2040,
-            0,
-            &[true, false, false, false],
-            &[true, false, false, false],
-        ),
-        // every second one
-        (
-            1860,
-            1456,
-            &[false, true, false, true],
-            &[true, true, true, true],
-        ),
-        (
-            2040,
-            3080,
-            &[true, false, true, false],
-            &[true, true, true, false],
-        ),
-    ];
-    let none = [false; 4];
-    for (changes, key, lay, others) in rows {
-        let touched = touch_after(alloc, changes, key)?;
-        assert_eq!(rt; touched.lay.as_slice(), lay);
-        assert_eq!(rt; touched.others.as_slice(), others);
-        assert_eq!(rt; touched.left.as_slice(), none.as_slice());
-        assert!(rt; touched.same);
-    }
-    Ok(())
+/// What comes of a row: after so many changes, for a key, which nodes of its way lay in the sealed buffer, which were made anew,
+/// which lie there still, and whether the pairs are the same.
+pub fn answer(alloc: Global, changes: u64, key: u64) -> Result<String, AllocError> {
+    let mut line = String::new(alloc);
+    let touched = touch_after(alloc, changes, key)?;
+    push_marks(&mut line, &touched.lay)?;
+    push_marks(&mut line, &touched.others)?;
+    push_marks(&mut line, &touched.left)?;
+    line.push_str(if touched.same { " same" } else { " others" })?;
+    Ok(line)
 }

@@ -1,3 +1,4 @@
+//! Keys that read as their tens.
 ghost use Rattle.std.specs.Prelude.{refl, [], IfOk};
 ghost use Rattle.std.specs.Ordering.{nat_cmp};
 ghost use Rattle.std.specs.Cmp.{nat_cmp_total};
@@ -10,7 +11,7 @@ use std::cmp::Ordering;
 use store_api::{Store, StoreError};
 
 /// A number of tens: a stored word reads as its tens, so equal keys may be other words.
-#[derive(Clone, Copy, Debug)]
+#[derive(Clone, Copy)]
 pub struct TensKey(pub u64);
 
 impl<const OFFSET_BITS: u32> KeyOrder<OFFSET_BITS> for TensKey {

@@ -35,13 +35,14 @@ pub fn new_tree<const OFFSET_BITS: u32>(
     }
 }
 
-/// What the records of a tree say: its root, the first words of its upper nodes, the second word of its root,
-/// and its pairs.
+/// What the records of a tree say: its root, the first words of its upper nodes, the second word of its root, how many
+/// nodes there are, and its pairs.
 #[derive(Drop)]
 pub struct Seen {
     pub root: u32,
     pub heads: Vec<u64>,
     pub count: u64,
+    pub nodes: u64,
     pub pairs: Vec<(u64, u64)>,
 }
 
@@ -105,23 +106,43 @@ pub fn records_of<const OFFSET_BITS: u32, F: Frozen<OFFSET_BITS>>(
     Ok(records)
 }
 
-/// Looks at the records of a tree, which the slow checker finds to be one.
+/// Looks at the records of a tree, where the slow checker finds them to be one.
+pub fn look_at<const OFFSET_BITS: u32, F: Frozen<OFFSET_BITS>>(
+    alloc: Global,
+    frozen: &mut F,
+    root: EntryRef<OFFSET_BITS>,
+) -> Result<Option<Seen>, AllocError>
+    requires { 0 < root → IsRootNode (F.records frozen.old) root }
+{
+    let records = records_of(alloc, frozen, root)?;
+    seen_in(alloc, &records, root.raw())
+}
+
+/// What the records of a tree say, where it is one.
+fn seen_in(
+    alloc: Global,
+    records: &BTreeMap<u32, Vec<u64>>,
+    root: u32,
+) -> Result<Option<Seen>, AllocError> {
+    let number = u64::from(root);
+    match check_tree(alloc, Keys::Numbers, records, number) {
+        Ok(pairs) => Ok(Some(Seen {
+            root,
+            heads: heads(alloc, records, number)?,
+            count: word_in(words_at(records, number), 1),
+            nodes: records.len() as u64,
+            pairs,
+        })),
+        Err(_) => Ok(None),
+    }
+}
+
+/// Looks at the records of a tree in a store of its own.
 pub fn look<const OFFSET_BITS: u32>(
     alloc: Global,
     tree: NumberTree<OFFSET_BITS, EntryStore<OFFSET_BITS, MemWork<OFFSET_BITS, TreeLayout>>>,
-) -> Result<Seen, AllocError> {
+) -> Result<Option<Seen>, AllocError> {
     let top = tree.root();
-    let root = top.raw();
     let mut store = tree.into_store();
-    let records = records_of(alloc, &mut store, top)?;
-    let number = u64::from(root);
-    match check_tree(alloc, Keys::Numbers, &records, number) {
-        Ok(pairs) => Ok(Seen {
-            root,
-            heads: heads(alloc, &records, number)?,
-            count: word_in(words_at(&records, number), 1),
-            pairs,
-        }),
-        Err(_) => Err(AllocError),
-    }
+    look_at(alloc, &mut store, top)
 }

@@ -1,0 +1,42 @@
+//! The example of the repository's README.
+use crate::texts::FIRST;
+use entry_store::EntryStore;
+use mem_work::MemWork;
+use number_tree::{NumberTree, TreeLayout};
+use std::alloc::{AllocError, Global};
+use store_api::{Store, StoreError};
+
+/// Whether each call of the example answers as it has to.
+fn is_right<const OFFSET_BITS: u32, S: Store<OFFSET_BITS, Layout = TreeLayout>>(
+    map: &mut NumberTree<OFFSET_BITS, S>,
+) -> bool {
+    let put = map.put(7, 49) == Ok(());
+    let got = map.get(7) == Some(49);
+    let walked = map.at_or_above(3) == Some((7, 49));
+    let mut last = Ok(());
+    for key in 8..5000 {
+        last = map.put(key, key);
+    }
+    let full = StoreError::Full {
+        width: 34,
+        active: 1,
+        held: 0,
+        oldest: FIRST,
+    };
+    put & got & walked & (last == Err(full)) & map.get(4999).is_none()
+}
+
+/// What comes of the example.
+pub fn answer(alloc: Global) -> Result<String, AllocError> {
+    let work = MemWork::<22, TreeLayout>::create(alloc, 1, 8192, 1)?;
+    let store = EntryStore::create(alloc, work).map_err(|_| AllocError)?;
+    let mut map = NumberTree::new(store);
+    String::from_str(
+        alloc,
+        if is_right(&mut map) {
+            " right"
+        } else {
+            " wrong"
+        },
+    )
+}
