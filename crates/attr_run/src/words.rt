@@ -1,4 +1,6 @@
-ghost use Rattle.std.specs.Prelude.{◌≡◌, [], ◌∷◌, ◌++◌, OnOk, OnErr, map, string_bytes};
+ghost use Rattle.std.specs.Prelude.{◌≡◌, [], ◌∷◌, ◌++◌, OnOk, OnErr, IfOk, map, string_bytes};
+ghost use Rattle.std.specs.List.{AllByRecursion};
+ghost use Rattle.std.specs.Str.{IsUtf8};
 
 use std::alloc::{AllocError, Global};
 use std::io::ErrorKind;
@@ -38,9 +40,11 @@ impl Words {
         Ok(())
     }
 
-    /// The words of the running program, after its name. Where one of them is no UTF-8 the answer is
+    /// The words of the running program, after its name, each of which is UTF-8. Where one of them is not the answer is
     /// the list of no words, which the command refuses.
-    pub fn of_program<R: Env + AllocGlobal>(rt: &R) -> Result<Words, AllocError> {
+    pub fn of_program<R: Env + AllocGlobal>(rt: &R) -> Result<Words, AllocError>
+        ensures utf8 { IfOk result (λ words. AllByRecursion IsUtf8 words) }
+    {
         let mut words = Words::create(rt.alloc());
         match std::env::args(rt) {
             Ok(args) => {
