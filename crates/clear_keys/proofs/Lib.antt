@@ -1,0 +1,4 @@
+pub mod Through
+pub mod Behind
+pub mod Cleared
+pub mod Passing

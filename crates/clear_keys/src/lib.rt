@@ -1,0 +1,8 @@
+//! Keys of a phase that a compaction passes at once, since nothing that stands under them lies in the buffer that it empties.
+#![tactic(auto)]
+
+mod passing;
+mod runs;
+mod sights;
+
+pub use passing::{Passed, pass_clear};
