@@ -1,5 +1,5 @@
 -- What was cleared up to a place is so up to a key past it, where nothing under the keys between lies in the victim.
-use Rattle.std.proofs.Common.{◌≡◌, ◌≢◌, ◌⊎◌, ℕ, zero, suc, List, [], ◌∷◌, map, take, Less, Equal, Greater, is_lt, inl, inr, refl, sym, ap, subst, ◌∙◌, true≢false}
+use Rattle.std.proofs.Common.{◌≡◌, ◌≢◌, ◌⊎◌, ℕ, zero, suc, List, [], ◌∷◌, map, take, Less, Equal, Greater, is_lt, inl, inr, refl, sym, ap, subst, ◌∙◌, true≢false, arith}
 use Rattle.std.proofs.lemmas.Cmp.{tied_itself, nat_cmp_total}
 use Rattle.std.specs.Cmp.{IsTotalOrder}
 use Rattle.std.specs.declared.cmp.Ordering.{Ordering}
@@ -209,11 +209,11 @@ module _ (bits victim : ℕ) (at : Place) (m : Records) (a : AttributeTrees) (to
       by_form : (value : AnyValue) (form : ListForm) → IsPostingList m form
           → ((doc : ℕ) → Among doc (form_docs m form) → IsVisited here field LISTS (plan.Pair value doc) → IsVisited at field LISTS (plan.Pair value doc) ⊎ IsRecordApart bits victim form)
           → ListIsCleared bits victim at field m value form → ListIsCleared bits victim here field m value form
-      by_form value (short ref) is step was visited = elim (step 0 (inl refl) visited) [
+      by_form value (short ref) is step was = λ visited. elim (step 0 (inl refl) visited) [
         | inl before ↦ was before
         | inr away ↦ away
       ]
-      by_form value (tree root) is step was node among lies key below visited = elim (step key (keys_of_tree m root node key is.0.node among below) visited) [
+      by_form value (tree root) is step was = λ node among lies key below visited. elim (step key (keys_of_tree m root node key is.0.node among below) visited) [
         | inl before ↦ was node among lies key below before
         | inr away ↦ away
       ]

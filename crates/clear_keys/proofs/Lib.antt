@@ -1,5 +1,5 @@
 pub mod Through
-pub mod Behind
+pub mod BehindKeys
 pub mod Cleared
-pub mod Passing
+pub mod PassLemmas
 pub mod RunLemmas

@@ -62,11 +62,11 @@ not_past_itself k = ap is_lt (tied_itself key_total k)
 not_past_below : (x k : PlanKey) → key_cmp x k ≡ Less → past k x ≡ false
 not_past_below x k below = ap is_lt (key_total.antisymm k x ∙ ap ordering_reverse below)
 
-head_of : List PlanKey → PlanKey
+abbrev head_of : List PlanKey → PlanKey
 head_of [] = Start
 head_of (k ∷ ks) = k
 
-tail_of : List PlanKey → List PlanKey
+abbrev tail_of : List PlanKey → List PlanKey
 tail_of [] = []
 tail_of (k ∷ ks) = ks
 

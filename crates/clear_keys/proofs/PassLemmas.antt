@@ -20,7 +20,7 @@ use Rattle.plan_keys.specs.PhaseKeys.{document_keys, keys_of_pairs, pair_keys, p
 use Rattle.clear_keys.specs.Passes.{CanPass, GoesThrough, Passes}
 use Rattle.clear_keys.specs.Sights.{IsApart, IsRun}
 use Rattle.clear_keys.specs.declared.sights.Sight.TheVariants as sights
-use Rattle.clear_keys.proofs.Behind.{docs_behind, lists_behind, short_keys, values_behind}
+use Rattle.clear_keys.proofs.BehindKeys.{docs_behind, lists_behind, short_keys, values_behind}
 use Rattle.clear_keys.proofs.Cleared.{behind_in, documents_cleared, lists_cleared, seek_in, take_in, values_cleared}
 use Rattle.clear_keys.proofs.Through.{goes_through, keys_behind, last_from, Up}
 
