@@ -10,7 +10,6 @@ use Rattle.entry_ref.specs.References.{buffer_of}
 use Rattle.image_base.specs.Records.{Among, Records}
 use Rattle.key_order.specs.Pairs.{choose, seek}
 use Rattle.tree_images.specs.Trees.{tree_pairs}
-use Rattle.tree_ways.specs.Ways.{tree_keys}
 use Rattle.attr_cleared.specs.Cleared.{IsClearedField, IsVisited, ListIsCleared, NodesAreCleared}
 use Rattle.attr_cleared.specs.Visits.{place_at_key, IsKeyOf}
 use Rattle.attr_cleared.proofs.BelowLemmas.{keys_of_tree}

@@ -3,3 +3,4 @@ pub mod BehindKeys
 pub mod Cleared
 pub mod PassLemmas
 pub mod RunLemmas
+pub mod PairLemmas

@@ -1,5 +1,5 @@
 //! Pairs one after another under whose keys nothing lies in a buffer.
-ghost use Rattle.std.specs.Prelude.{◌≡◌, ◌≤◌, true};
+ghost use Rattle.std.specs.Prelude.{◌≡◌, ◌≢◌, ◌≤◌, [], true};
 ghost use Rattle.std.specs.List.{AllByRecursion};
 ghost use Rattle.tree_search.specs.Places.{first_key, first_value, pairs_from, HasPair, IsAt};
 ghost use Rattle.clear_keys.specs.Sights.{IsApart, IsPairOf, IsRun};
@@ -28,6 +28,7 @@ fn next_is_apart<const OFFSET_BITS: u32, F: Frozen<OFFSET_BITS>>(
     requires at { IsAt (F.records frozen.old) cursor.now }
     requires pairs { AllByRecursion (IsPairOf kind value_type (F.records frozen.old) sight) (pairs_from (F.records frozen.old) cursor.now) }
     ensures some { result ≡ true → HasPair cursor.now }
+    ensures pairs { result ≡ true → pairs_from (F.records frozen.old) cursor.now ≢ [] }
     ensures apart { result ≡ true → IsApart OFFSET_BITS buffer kind (F.records frozen.old) sight
         (first_key (pairs_from (F.records frozen.old) cursor.now), first_value (pairs_from (F.records frozen.old) cursor.now)) }
     ensures same { frozen.new ≡ frozen.old }

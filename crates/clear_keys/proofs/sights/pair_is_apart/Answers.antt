@@ -1,4 +1,4 @@
-use Rattle.std.proofs.Common.{◌<◌, ◌^◌, refl, sym, subst, arith}
+use Rattle.std.proofs.Common.{refl, sym, subst, arith}
 use Rattle.attr_images.specs.Values.{IsValueRecord}
 use Rattle.posting_store.specs.Lists.{IsPlain}
 use Rattle.unique_store.proofs.RecordLemmas.{value_there}
