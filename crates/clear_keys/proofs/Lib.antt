@@ -4,3 +4,4 @@ pub mod Cleared
 pub mod PassLemmas
 pub mod RunLemmas
 pub mod PairLemmas
+pub mod WayLemmas

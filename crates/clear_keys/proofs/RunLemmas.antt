@@ -5,7 +5,7 @@ use Rattle.tree_images.specs.Trees.{last_key}
 use Rattle.tree_search.specs.Places.{first_key, first_value}
 use Rattle.clear_keys.specs.Sights.{IsRun}
 
-drop_nil : (i : ℕ) → drop {A = ℕ × ℕ} i [] ≡ []
+pub drop_nil : (i : ℕ) → drop {A = ℕ × ℕ} i [] ≡ []
 drop_nil zero = refl
 drop_nil (suc i) = refl
 
@@ -16,7 +16,7 @@ all_taken P zero (p ∷ ps) all some here = (here, tt)
 all_taken P (suc i) [] all some here = absurd (some refl)
 all_taken P (suc i) (p ∷ ps) all some here = (all.0, all_taken P i ps all.1 some here)
 
-last_taken : (i : ℕ) (ps : List (ℕ × ℕ)) → drop i ps ≢ [] → first_key (drop i ps) ≡ last_key (take (suc i) ps)
+pub last_taken : (i : ℕ) (ps : List (ℕ × ℕ)) → drop i ps ≢ [] → first_key (drop i ps) ≡ last_key (take (suc i) ps)
 last_taken zero [] some = absurd (some refl)
 last_taken zero (p ∷ ps) some = refl
 last_taken (suc i) [] some = absurd (some refl)

@@ -4,5 +4,6 @@
 mod passing;
 mod runs;
 mod sights;
+mod ways;
 
 pub use passing::{Passed, pass_clear};
