@@ -93,39 +93,39 @@ module _ {V : Type 0} (order : V → V → Ordering) (total : IsTotalOrder order
 -- ---- one attribute
 module _ (bits victim : ℕ) (at : Place) (m : Records) (a : AttributeTrees) (to : PlanKey) (documents_are : IsDocuments a.kind a.type m a.documents)
     (index_is : IsIndex a.type m a.dictionary) (cleared : IsClearedField bits victim at at.stage.field m a) where
-  abbrev field : ℕ
+  abbrev pub field : ℕ
   field = at.stage.field
 
-  abbrev here : Place
+  abbrev pub here : Place
   here = place_at_key at to
 
-  abbrev values : List (ℕ × ℕ)
+  abbrev pub values : List (ℕ × ℕ)
   values = tree_pairs m a.dictionary
 
-  abbrev docs : List (ℕ × ℕ)
+  abbrev pub docs : List (ℕ × ℕ)
   docs = tree_pairs m a.documents
 
-  ascends : (phase : ℕ) → Up (phase_keys a.type m a.documents a.dictionary phase)
+  pub ascends : (phase : ℕ) → Up (phase_keys a.type m a.documents a.dictionary phase)
   ascends phase = phase_ascends a.type m a.documents a.dictionary phase documents_are.map_is index_is
 
   -- of another phase nothing more was visited
   other : (phase : ℕ) → at.stage.phase ≢ phase → (k : PlanKey) → IsVisited here field phase k → IsVisited at field phase k
   other phase apart k visited = others_visited at to field phase k (inr apart) visited
 
-  abbrev KeyIs : Place → ℕ × ℕ → Type 0
+  abbrev pub KeyIs : Place → ℕ × ℕ → Type 0
   KeyIs place p = IsVisited place field KEYS (plan.Value (stored_value a.type m p.0)) → buffer_of bits p.0 ≢ victim
 
-  abbrev DocumentIs : Place → ℕ × ℕ → Type 0
+  abbrev pub DocumentIs : Place → ℕ × ℕ → Type 0
   DocumentIs place p = IsVisited place field DOCUMENTS (plan.Doc p.0) → AreItemsApart bits victim a.kind m p.1
 
-  abbrev ListIs : Place → ℕ × ℕ → Type 0
+  abbrev pub ListIs : Place → ℕ × ℕ → Type 0
   ListIs place p = ListIsCleared bits victim place field m (stored_value a.type m p.0) (list_form p.1)
 
-  other_keys : at.stage.phase ≢ KEYS → AllByRecursion (KeyIs here) values
+  pub other_keys : at.stage.phase ≢ KEYS → AllByRecursion (KeyIs here) values
   other_keys apart = each_pair (KeyIs here) values (λ q within visited.
       at_pair (KeyIs at) values cleared.keys q within (other KEYS apart (plan.Value (stored_value a.type m q.0)) visited))
 
-  other_documents : at.stage.phase ≢ DOCUMENTS → AllByRecursion (DocumentIs here) docs
+  pub other_documents : at.stage.phase ≢ DOCUMENTS → AllByRecursion (DocumentIs here) docs
   other_documents apart = each_pair (DocumentIs here) docs (λ q within visited. at_pair (DocumentIs at) docs cleared.documents q within (other DOCUMENTS apart (plan.Doc q.0) visited))
 
   one_list : (value : AnyValue) (form : ListForm) → at.stage.phase ≢ LISTS → ListIsCleared bits victim at field m value form → ListIsCleared bits victim here field m value form
@@ -133,7 +133,7 @@ module _ (bits victim : ℕ) (at : Place) (m : Records) (a : AttributeTrees) (to
   one_list value (tree root) apart was = λ node among lies key below visited. was node among lies key below (other LISTS apart (plan.Pair value key) visited)
   one_list value (vector root) apart was = was
 
-  other_lists : at.stage.phase ≢ LISTS → AllByRecursion (ListIs here) values
+  pub other_lists : at.stage.phase ≢ LISTS → AllByRecursion (ListIs here) values
   other_lists apart = each_pair (ListIs here) values (λ q within. one_list (stored_value a.type m q.0) (list_form q.1) apart (at_pair (ListIs at) values cleared.lists q within))
 
   other_values : at.stage.phase ≢ NODES → NodesAreCleared bits victim m (λ r. IsVisited here field NODES (plan.Value (stored_value a.type m r))) a.dictionary

@@ -5,3 +5,4 @@ pub mod PassLemmas
 pub mod RunLemmas
 pub mod PairLemmas
 pub mod WayLemmas
+pub mod NodeKeys

@@ -27,7 +27,7 @@ map_parts f zero ps = refl
 map_parts f (suc n) [] = refl
 map_parts f (suc n) (p ∷ ps) = ap (λ (ks : List PlanKey). f p ∷ ks) (map_parts f n ps)
 
-run_length : (f : ℕ × ℕ → PlanKey) (n : ℕ) (ps : List (ℕ × ℕ)) → n ≤ length ps → length (map f (take n ps)) ≡ n
+pub run_length : (f : ℕ × ℕ → PlanKey) (n : ℕ) (ps : List (ℕ × ℕ)) → n ≤ length ps → length (map f (take n ps)) ≡ n
 run_length f zero ps few = refl
 run_length f (suc n) [] few = absurd (omega arith)
 run_length f (suc n) (p ∷ ps) few = ap suc (run_length f n ps (omega arith))
@@ -47,7 +47,7 @@ module _ (bits victim : ℕ) (at : Place) (m : Records) (a : AttributeTrees) (co
   -- keys of a run, as the phase's
   module _ (h : ℕ → PlanKey) (ps : List (ℕ × ℕ)) (keys : List PlanKey) (few : count ≤ length ps) (last_is : last ≡ last_key (take count ps)) (rest : List PlanKey)
       (up : Up keys) (is : keys_behind at.key keys ≡ map (λ p. h p.0) (take count ps) ++ rest) where
-    run_goes : GoesThrough keys at.key (map (λ p. h p.0) (take count ps)) (h last)
+    pub run_goes : GoesThrough keys at.key (map (λ p. h p.0) (take count ps)) (h last)
     run_goes = subst (GoesThrough keys at.key (map (λ p. h p.0) (take count ps))) (last_mapped h at.key count ps some few ∙ ap h (sym last_is))
         (goes_through keys up (map (λ p. h p.0) (take count ps)) rest at.key is)
 
@@ -109,3 +109,15 @@ module _ (bits victim : ℕ) (at : Place) (m : Records) (a : AttributeTrees) (co
         cleared = lists_cleared bits victim at m a (plan.Pair (stored_value a.type m last) 0) can.documents_are can.index_is can.cleared (take count ps) can.phase_is
             (λ r within. behind_in (beside value m) r (tree_pairs m a.dictionary) (take_in r count ps within)) goes run.all;
       }
+
+-- in the phase that a test finds
+pub at_phase : {bits victim : ℕ} {at : Place} {m : Records} {a : AttributeTrees} {phase : ℕ} {key : PlanKey} → CanPass bits victim at m a at.stage.phase key → at.stage.phase ≡ phase
+    → CanPass bits victim at m a phase key
+at_phase can is = record {
+  phase_is = is;
+  key_is = can.key_is;
+  documents_are = can.documents_are;
+  index_is = can.index_is;
+  typed = can.typed;
+  cleared = can.cleared;
+}

@@ -12,9 +12,10 @@ ghost use Rattle.enum_dictionary.specs.Dictionaries.{beside, IsDictionary};
 ghost use Rattle.plan_keys.specs.PhaseKeys.{HasType};
 ghost use Rattle.clear_keys.specs.Passes.{trees_of, CanPass, Passes};
 
+use crate::nodes::{pass_map_nodes, pass_value_nodes};
 use crate::runs::run_from;
 use crate::sights::Sight;
-use attr_compaction::{DOCUMENTS, KEYS, LISTS, Plan, PlanKey};
+use attr_compaction::{DOCUMENTS, KEYS, LISTS, NODES, Plan, PlanKey};
 use attr_field::FieldRoots;
 use attr_types::{Field, Value, ValueType};
 use entry_ref::EntryRef;
@@ -32,7 +33,7 @@ pub struct Passed {
 }
 
 /// The value whose record is given, where there is memory for it.
-fn value_at<const OFFSET_BITS: u32, F: Frozen<OFFSET_BITS>>(
+pub fn value_at<const OFFSET_BITS: u32, F: Frozen<OFFSET_BITS>>(
     alloc: Global,
     frozen: &mut F,
     value_type: ValueType,
@@ -185,6 +186,59 @@ fn pass_lists<const OFFSET_BITS: u32, F: Frozen<OFFSET_BITS>>(
     }
 }
 
+/// Passes values, by the plan's phase.
+#[tactic(none)]
+fn pass_by_value<const OFFSET_BITS: u32, F: Frozen<OFFSET_BITS>>(
+    alloc: Global,
+    frozen: &mut F,
+    field: &Field,
+    roots: FieldRoots<OFFSET_BITS>,
+    plan: &Plan,
+    value: &Value,
+    most: u32,
+) -> Option<Passed>
+    requires { CanPass OFFSET_BITS plan.now.victim plan.now.place (F.records frozen.old) (trees_of field.now roots) plan.now.place.stage.phase
+        (keys.Value value.now) }
+    ensures passes { IfSome result (λ p. Passes OFFSET_BITS plan.now.victim plan.now.place (F.records frozen.old) (trees_of field.now roots.entry)
+        p.last p.keys) }
+    ensures few { IfSome result (λ p. p.keys ≤ most) }
+    ensures same { frozen.new ≡ frozen.old }
+{
+    if plan.phase() == KEYS {
+        return pass_values(alloc, frozen, field, roots, plan, value, most);
+    }
+    if plan.phase() == NODES {
+        return pass_value_nodes(alloc, frozen, field, roots, plan, value, most);
+    }
+    None
+}
+
+/// Passes documents, by the plan's phase.
+#[tactic(none)]
+fn pass_by_document<const OFFSET_BITS: u32, F: Frozen<OFFSET_BITS>>(
+    frozen: &mut F,
+    field: &Field,
+    roots: FieldRoots<OFFSET_BITS>,
+    plan: &Plan,
+    doc: u32,
+    most: u32,
+) -> Option<Passed>
+    requires { CanPass OFFSET_BITS plan.now.victim plan.now.place (F.records frozen.old) (trees_of field.now roots) plan.now.place.stage.phase
+        (keys.Doc doc) }
+    ensures passes { IfSome result (λ p. Passes OFFSET_BITS plan.now.victim plan.now.place (F.records frozen.old) (trees_of field.now roots.entry)
+        p.last p.keys) }
+    ensures few { IfSome result (λ p. p.keys ≤ most) }
+    ensures same { frozen.new ≡ frozen.old }
+{
+    if plan.phase() == DOCUMENTS {
+        return pass_documents(frozen, field, roots, plan, doc, most);
+    }
+    if plan.phase() == NODES {
+        return pass_map_nodes(frozen, field, roots, plan, doc, most);
+    }
+    None
+}
+
 /// Passes the keys behind a plan's place, at most so many, as long as nothing that stands under them lies in the victim.
 /// None where the next one may have to be moved.
 #[tactic(none)]
@@ -207,18 +261,8 @@ pub fn pass_clear<const OFFSET_BITS: u32, F: Frozen<OFFSET_BITS>>(
 {
     match plan.key() {
         PlanKey::Start => None,
-        PlanKey::Value(value) => {
-            if plan.phase() != KEYS {
-                return None;
-            }
-            pass_values(alloc, frozen, field, roots, plan, value, most)
-        }
-        PlanKey::Doc(doc) => {
-            if plan.phase() != DOCUMENTS {
-                return None;
-            }
-            pass_documents(frozen, field, roots, plan, *doc, most)
-        }
+        PlanKey::Value(value) => pass_by_value(alloc, frozen, field, roots, plan, value, most),
+        PlanKey::Doc(doc) => pass_by_document(frozen, field, roots, plan, *doc, most),
         PlanKey::Pair(value, doc) => {
             if plan.phase() != LISTS {
                 return None;

@@ -90,7 +90,6 @@ fn way_below<const OFFSET_BITS: u32, F: Frozen<OFFSET_BITS>, K: KeyOrder<OFFSET_
 
 /// The pairs of a tree from the first that is not below the key on, as far as its leaf goes, and at most so many; none where
 /// a node on the way to it lies in the buffer.
-#[tactic(none)]
 pub fn way_of<const OFFSET_BITS: u32, F: Frozen<OFFSET_BITS>, K: KeyOrder<OFFSET_BITS>>(
     frozen: &mut F,
     root: EntryRef<OFFSET_BITS>,

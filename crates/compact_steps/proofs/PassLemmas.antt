@@ -97,11 +97,14 @@ not_greater less greater = true≢false (sym (ap is_lt less) ∙ ap is_lt greate
 above : (at : Place) (key : PlanKey) → key_cmp at.key key ≡ Less → place_cmp at (at_key at key) ≡ Less
 above at key less = ap (λ (o : Ordering). ordering_then o (key_cmp at.key key)) (tied_itself stage_total at.stage) ∙ less
 
+none_more : (n : ℕ) → n ≡ 0 + n
+none_more n = omega arith
+
 through_counts : (k : Records) (next : List AttributeTrees) (a : AttributeTrees) (from at : Place) (passed : List PlanKey) (to : PlanKey) → slice_get next at.stage.field ≡ Some a
     → IsStrictlySortedBy key_cmp (keys_at k a at.stage.phase) → at.stage.phase < PHASES → place_cmp from at ≢ Greater → GoesThrough (keys_at k a at.stage.phase) at.key passed to
     → (keys_between from (at_key at to) k next ≡ length passed + keys_between from at k next) × (place_cmp from (at_key at to) ≢ Greater)
 through_counts k next a from at [] to there up few rises through = (
-  ap (λ (y : PlanKey). keys_between from (at_key at y) k next) through,
+  ap (λ (y : PlanKey). keys_between from (at_key at y) k next) through ∙ none_more (keys_between from at k next),
   subst (λ (y : PlanKey). place_cmp from (at_key at y) ≢ Greater) (sym through) rises,
 )
 through_counts k next a from at (key ∷ passed) to there up few rises through =

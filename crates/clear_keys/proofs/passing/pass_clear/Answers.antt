@@ -6,15 +6,12 @@ use Rattle.clear_keys.proofs.passing.pass_clear.Goals as goal
 pub returns-in-Start-clause-same : goal.returns-in-Start-clause-same
 returns-in-Start-clause-same g c = refl
 
-pub returns-then-phase-ne-KEYS-clause-same : goal.returns-then-phase-ne-KEYS-clause-same
-returns-then-phase-ne-KEYS-clause-same g c = refl
-
-pub pass_values-requires : goal.pass_values-requires
-pass_values-requires g c =
+pub pass_by_value-requires : goal.pass_by_value-requires
+pass_by_value-requires g c =
     let key = sym c.key.ensures.key ∙ c.in-Value.is in (
       omega arith,
       record {
-        phase_is = sym c.phase.ensures.phase ∙ c.if-phase-ne-KEYS.false;
+        phase_is = refl;
         key_is = key;
         documents_are = c.requires.field.documents_are;
         index_is = c.requires.field.index_is;
@@ -23,24 +20,21 @@ pass_values-requires g c =
       },
     )
 
-pub returns-else-phase-ne-KEYS-clause-passes : goal.returns-else-phase-ne-KEYS-clause-passes
-returns-else-phase-ne-KEYS-clause-passes g c = c.pass_values.ensures.passes
+pub returns-in-Value-clause-passes : goal.returns-in-Value-clause-passes
+returns-in-Value-clause-passes g c = c.pass_by_value.ensures.passes
 
-pub returns-else-phase-ne-KEYS-clause-few : goal.returns-else-phase-ne-KEYS-clause-few
-returns-else-phase-ne-KEYS-clause-few g c = c.pass_values.ensures.few
+pub returns-in-Value-clause-few : goal.returns-in-Value-clause-few
+returns-in-Value-clause-few g c = c.pass_by_value.ensures.few
 
-pub returns-else-phase-ne-KEYS-clause-same : goal.returns-else-phase-ne-KEYS-clause-same
-returns-else-phase-ne-KEYS-clause-same g c = c.pass_values.ensures.same
+pub returns-in-Value-clause-same : goal.returns-in-Value-clause-same
+returns-in-Value-clause-same g c = c.pass_by_value.ensures.same
 
-pub returns-then-phase-ne-DOCUMENTS-clause-same : goal.returns-then-phase-ne-DOCUMENTS-clause-same
-returns-then-phase-ne-DOCUMENTS-clause-same g c = refl
-
-pub pass_documents-requires : goal.pass_documents-requires
-pass_documents-requires g c =
+pub pass_by_document-requires : goal.pass_by_document-requires
+pass_by_document-requires g c =
     let key = sym c.key.ensures.key ∙ c.in-Doc.is in (
       omega arith,
       record {
-        phase_is = sym c.phase-in-Doc.ensures.phase ∙ c.if-phase-ne-DOCUMENTS.false;
+        phase_is = refl;
         key_is = key;
         documents_are = c.requires.field.documents_are;
         index_is = c.requires.field.index_is;
@@ -49,14 +43,14 @@ pass_documents-requires g c =
       },
     )
 
-pub returns-else-phase-ne-DOCUMENTS-clause-passes : goal.returns-else-phase-ne-DOCUMENTS-clause-passes
-returns-else-phase-ne-DOCUMENTS-clause-passes g c = c.pass_documents.ensures.passes
+pub returns-in-Doc-clause-passes : goal.returns-in-Doc-clause-passes
+returns-in-Doc-clause-passes g c = c.pass_by_document.ensures.passes
 
-pub returns-else-phase-ne-DOCUMENTS-clause-few : goal.returns-else-phase-ne-DOCUMENTS-clause-few
-returns-else-phase-ne-DOCUMENTS-clause-few g c = c.pass_documents.ensures.few
+pub returns-in-Doc-clause-few : goal.returns-in-Doc-clause-few
+returns-in-Doc-clause-few g c = c.pass_by_document.ensures.few
 
-pub returns-else-phase-ne-DOCUMENTS-clause-same : goal.returns-else-phase-ne-DOCUMENTS-clause-same
-returns-else-phase-ne-DOCUMENTS-clause-same g c = c.pass_documents.ensures.same
+pub returns-in-Doc-clause-same : goal.returns-in-Doc-clause-same
+returns-in-Doc-clause-same g c = c.pass_by_document.ensures.same
 
 pub returns-then-phase-ne-LISTS-clause-same : goal.returns-then-phase-ne-LISTS-clause-same
 returns-then-phase-ne-LISTS-clause-same g c = refl
@@ -66,7 +60,7 @@ pass_lists-requires g c =
     let key = sym c.key.ensures.key ∙ c.in-Pair.is in (
       omega arith,
       record {
-        phase_is = sym c.phase-in-Pair.ensures.phase ∙ c.if-phase-ne-LISTS.false;
+        phase_is = sym c.phase.ensures.phase ∙ c.if-phase-ne-LISTS.false;
         key_is = key;
         documents_are = c.requires.field.documents_are;
         index_is = c.requires.field.index_is;
