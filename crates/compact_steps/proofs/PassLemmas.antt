@@ -1,5 +1,5 @@
 -- Keys that are passed: the plan at the last of them, and how many they are.
-use Rattle.std.proofs.Common.{◌≡◌, ◌≢◌, ℕ, suc, ◌+◌, ◌-◌, ◌*◌, ◌<◌, List, [], ◌∷◌, length, Some, Less, Greater, is_lt, true≢false, inl, inr, refl, sym, ap, subst, ◌∙◌, arith}
+use Rattle.std.proofs.Common.{◌≡◌, ◌≢◌, ℕ, ◌+◌, ◌-◌, ◌*◌, ◌<◌, List, [], ◌∷◌, length, Some, Less, Greater, is_lt, true≢false, inl, inr, refl, sym, ap, subst, ◌∙◌, arith}
 use Rattle.std.proofs.lemmas.Bool.{cases_eq}
 use Rattle.std.proofs.lemmas.Cmp.{tied_itself}
 use Rattle.std.specs.Prelude.{slice_get}
@@ -26,7 +26,7 @@ use Rattle.plan_counts.proofs.CountLemmas.{next_more, same_between}
 use Rattle.plan_counts.proofs.StageLemmas.{under}
 use Rattle.plan_counts.specs.Counts.{keys_between}
 use Rattle.plan_keys.proofs.OrderLemmas.{phase_ascends}
-use Rattle.plan_keys.specs.PhaseKeys.{key_past, HasType}
+use Rattle.plan_keys.specs.PhaseKeys.{HasType}
 use Rattle.compact_steps.proofs.KeyLemmas.{next_fits}
 use Rattle.compact_steps.proofs.TurnLemmas.{place_is, plan_is}
 use Rattle.compact_steps.proofs.WalkLemmas.{found_past, stages_left}

@@ -1,4 +1,4 @@
-use Rattle.std.proofs.Common.{refl, inr, arith, rules}
+use Rattle.std.proofs.Common.{inr, arith, rules}
 use Rattle.attr_steps.specs.Fields.{trees_of, trees_of_field}
 use Rattle.compact_steps.proofs.PassLemmas.{passed_way, passes_none, passes_some, through_fits}
 use Rattle.compact_steps.proofs.TurnLemmas.{at_place, below_fields}
