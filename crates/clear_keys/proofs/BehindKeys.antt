@@ -16,7 +16,7 @@ use Rattle.attr_types.specs.declared.value.Value.{Value as AnyValue}
 use Rattle.attr_compaction.specs.Places.{key_cmp}
 use Rattle.attr_compaction.specs.declared.plan.PlanKey.{PlanKey}
 use Rattle.attr_compaction.specs.declared.plan.PlanKey.TheVariants.{Value, Doc, Pair}
-use Rattle.enum_dictionary.specs.Dictionaries.{behind, beside}
+use Rattle.enum_dictionary.specs.Dictionaries.{behind, beside_value}
 use Rattle.plan_keys.proofs.ListLemmas.{beside_pair, short_docs}
 use Rattle.plan_keys.proofs.NextLemmas.{lt_cmp, past_number}
 use Rattle.plan_keys.specs.PhaseKeys.{form_docs, keys_of_pairs, IsListPair}
@@ -61,8 +61,8 @@ module _ (type : ValueType) (m : Records) (value : AnyValue) (typed : type_of va
   abbrev pub as_value : ℕ × ℕ → PlanKey
   as_value p = Value (stored_value type m p.0)
 
-  pub values_behind : (ps : List (ℕ × ℕ)) → keys_behind (Value value) (map as_value ps) ≡ map as_value (behind (beside value m) ps)
-  values_behind ps = map_behind as_value (Value value) (beside value m)
+  pub values_behind : (ps : List (ℕ × ℕ)) → keys_behind (Value value) (map as_value ps) ≡ map as_value (behind (beside_value value m) ps)
+  values_behind ps = map_behind as_value (Value value) (beside_value value m)
       (λ p. past_value value (stored_value type m p.0) ∙ ap (λ (t : ValueType). is_gt (value_cmp (stored_value t m p.0) value)) (sym typed)) ps
 
 pub docs_behind : (doc : ℕ) (ps : List (ℕ × ℕ)) → keys_behind (Doc doc) (map (λ p. Doc p.0) ps) ≡ map (λ p. Doc p.0) (seek (λ key. nat_cmp key (doc + 1)) ps)
@@ -74,7 +74,7 @@ module _ (type : ValueType) (m : Records) (value : AnyValue) (typed : type_of va
   key = Pair value doc
 
   abbrev against : ℕ → Ordering
-  against = beside value m
+  against = beside_value value m
 
   abbrev read : ℕ × ℕ → AnyValue
   read p = stored_value type m p.0

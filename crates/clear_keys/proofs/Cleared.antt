@@ -11,12 +11,12 @@ use Rattle.image_base.specs.Records.{Among, Records}
 use Rattle.key_order.specs.Pairs.{choose, seek}
 use Rattle.tree_images.specs.Trees.{tree_pairs}
 use Rattle.attr_cleared.specs.Cleared.{IsClearedField, IsVisited, ListIsCleared, NodesAreCleared}
-use Rattle.attr_cleared.specs.Visits.{place_at_key, IsKeyOf}
+use Rattle.attr_cleared.specs.Visits.{place_at_key, IsAmongKeys}
 use Rattle.attr_cleared.proofs.BelowLemmas.{keys_of_tree}
 use Rattle.attr_cleared.proofs.IndexClauses.{pair_in}
 use Rattle.attr_cleared.proofs.IndexPairs.{InPairs, at_pair, each_pair}
 use Rattle.attr_cleared.proofs.PlanVisits.{others_visited}
-use Rattle.attr_compaction.specs.Places.{doc_in, value_in, Place}
+use Rattle.attr_compaction.specs.Places.{doc_in, value_in, PlanPlace}
 use Rattle.attr_compaction.specs.declared.plan.PlanKey.{PlanKey}
 use Rattle.attr_compaction.specs.declared.plan.PlanKey.TheVariants as plan
 use Rattle.attr_compaction.specs.declared.plan.TheConstants.{DOCUMENTS, KEYS, LISTS, NODES}
@@ -61,7 +61,7 @@ seek_in c q (p ∷ ps) within =
       | Greater ↦ λ h. h
     ]) within
 
-pub key_in : (f : ℕ × ℕ → PlanKey) (q : ℕ × ℕ) (ps : List (ℕ × ℕ)) → InPairs q ps → IsKeyOf (f q) (map f ps)
+pub key_in : (f : ℕ × ℕ → PlanKey) (q : ℕ × ℕ) (ps : List (ℕ × ℕ)) → InPairs q ps → IsAmongKeys (f q) (map f ps)
 key_in f q [] within = absurd within
 key_in f q (p ∷ ps) (inl e) = inl (ap f e)
 key_in f q (p ∷ ps) (inr later) = inr (key_in f q ps later)
@@ -84,19 +84,19 @@ module _ {V : Type 0} (order : V → V → Ordering) (total : IsTotalOrder order
 
   -- a pair whose key is among those of others is one of these
   pub found_in : (P : ℕ × ℕ → Type 0) (f : ℕ × ℕ → PlanKey) (k : PlanKey) (q : ℕ × ℕ) (ps run : List (ℕ × ℕ)) → IsStrictlySortedBy order (map g ps)
-      → ((r : ℕ × ℕ) → k ≡ f r → g q ≡ g r) → InPairs q ps → ((r : ℕ × ℕ) → InPairs r run → InPairs r ps) → AllByRecursion P run → IsKeyOf k (map f run) → P q
+      → ((r : ℕ × ℕ) → k ≡ f r → g q ≡ g r) → InPairs q ps → ((r : ℕ × ℕ) → InPairs r run → InPairs r ps) → AllByRecursion P run → IsAmongKeys k (map f run) → P q
   found_in P f k q ps [] up back within are all among = absurd among
   found_in P f k q ps (r ∷ run) up back within are all (inl e) =
       subst P (sym (same_pair ps up q r within (are r (inl refl)) (back r e))) all.0
   found_in P f k q ps (r ∷ run) up back within are all (inr later) = found_in P f k q ps run up back within (λ s h. are s (inr h)) all.1 later
 
 -- ---- one attribute
-module _ (bits victim : ℕ) (at : Place) (m : Records) (a : AttributeTrees) (to : PlanKey) (documents_are : IsDocuments a.kind a.type m a.documents)
+module _ (bits victim : ℕ) (at : PlanPlace) (m : Records) (a : AttributeTrees) (to : PlanKey) (documents_are : IsDocuments a.kind a.type m a.documents)
     (index_is : IsIndex a.type m a.dictionary) (cleared : IsClearedField bits victim at at.stage.field m a) where
   abbrev pub field : ℕ
   field = at.stage.field
 
-  abbrev pub here : Place
+  abbrev pub here : PlanPlace
   here = place_at_key at to
 
   abbrev pub values : List (ℕ × ℕ)
@@ -112,13 +112,13 @@ module _ (bits victim : ℕ) (at : Place) (m : Records) (a : AttributeTrees) (to
   other : (phase : ℕ) → at.stage.phase ≢ phase → (k : PlanKey) → IsVisited here field phase k → IsVisited at field phase k
   other phase apart k visited = others_visited at to field phase k (inr apart) visited
 
-  abbrev pub KeyIs : Place → ℕ × ℕ → Type 0
+  abbrev pub KeyIs : PlanPlace → ℕ × ℕ → Type 0
   KeyIs place p = IsVisited place field KEYS (plan.Value (stored_value a.type m p.0)) → buffer_of bits p.0 ≢ victim
 
-  abbrev pub DocumentIs : Place → ℕ × ℕ → Type 0
+  abbrev pub DocumentIs : PlanPlace → ℕ × ℕ → Type 0
   DocumentIs place p = IsVisited place field DOCUMENTS (plan.Doc p.0) → AreItemsApart bits victim a.kind m p.1
 
-  abbrev pub ListIs : Place → ℕ × ℕ → Type 0
+  abbrev pub ListIs : PlanPlace → ℕ × ℕ → Type 0
   ListIs place p = ListIsCleared bits victim place field m (stored_value a.type m p.0) (list_form p.1)
 
   pub other_keys : at.stage.phase ≢ KEYS → AllByRecursion (KeyIs here) values

@@ -15,11 +15,11 @@ use Rattle.tree_touch.specs.Paths.{path_nodes, NoneIn}
 use Rattle.tree_ways.proofs.WayLemmas.{stand_on_ways}
 use Rattle.tree_ways.specs.Ways.{keys_below, tree_keys}
 use Rattle.attr_cleared.specs.Cleared.{IsClearedField, IsVisited}
-use Rattle.attr_cleared.specs.Visits.{place_at_key, IsKeyOf}
+use Rattle.attr_cleared.specs.Visits.{place_at_key, IsAmongKeys}
 use Rattle.attr_cleared.proofs.BelowLemmas.{all_among, keys_of_tree}
 use Rattle.attr_cleared.proofs.IndexClauses.{key_front, key_right, value_in_keys}
 use Rattle.attr_cleared.proofs.IndexPairs.{InPairs}
-use Rattle.attr_compaction.specs.Places.{doc_in, value_in, Place}
+use Rattle.attr_compaction.specs.Places.{doc_in, value_in, PlanPlace}
 use Rattle.attr_compaction.specs.declared.plan.PlanKey.{PlanKey}
 use Rattle.attr_compaction.specs.declared.plan.PlanKey.TheVariants as plan
 use Rattle.attr_compaction.specs.declared.plan.TheConstants.{DOCUMENTS, KEYS, LISTS, NODES}
@@ -31,8 +31,8 @@ use Rattle.attr_types.specs.Value.{type_of, value_cmp}
 use Rattle.attr_types.specs.declared.kind.ValueType.{ValueType}
 use Rattle.attr_types.specs.declared.value.Value.{Value as AnyValue}
 use Rattle.enum_dictionary.proofs.BehindLemmas.{behind_apart, behind_equal}
-use Rattle.enum_dictionary.specs.Dictionaries.{behind, beside}
-use Rattle.plan_keys.specs.PhaseKeys.{document_keys, node_keys, phase_keys, value_keys}
+use Rattle.enum_dictionary.specs.Dictionaries.{behind, beside_value}
+use Rattle.plan_keys.specs.PhaseKeys.{document_keys, node_phase_keys, phase_keys, value_keys}
 use Rattle.value_index.specs.Indexes.{IsIndex}
 use Rattle.clear_keys.specs.Passes.{CanPass, GoesThrough, Passes}
 use Rattle.clear_keys.specs.Sights.{IsRun}
@@ -49,24 +49,24 @@ pair_at k (p ∷ ps) (inl e) = (p, inl refl, sym e)
 pair_at k (p ∷ ps) (inr later) = let found = pair_at k ps later in (found.0, inr found.1, found.2)
 
 -- no value's key is a document's
-no_document : (f : ℕ × ℕ → AnyValue) (doc : ℕ) (run : List (ℕ × ℕ)) → IsKeyOf (plan.Doc doc) (map (λ p. plan.Value (f p)) run) → ⊥
+no_document : (f : ℕ × ℕ → AnyValue) (doc : ℕ) (run : List (ℕ × ℕ)) → IsAmongKeys (plan.Doc doc) (map (λ p. plan.Value (f p)) run) → ⊥
 no_document f doc [] among = among
 no_document f doc (r ∷ run) (inl e) = cc
 no_document f doc (r ∷ run) (inr later) = no_document f doc run later
 
-no_value : (value : AnyValue) (run : List (ℕ × ℕ)) → IsKeyOf (plan.Value value) (map (λ p. plan.Doc p.0) run) → ⊥
+no_value : (value : AnyValue) (run : List (ℕ × ℕ)) → IsAmongKeys (plan.Value value) (map (λ p. plan.Doc p.0) run) → ⊥
 no_value value [] among = among
 no_value value (r ∷ run) (inl e) = cc
 no_value value (r ∷ run) (inr later) = no_value value run later
 
 -- ---- what is cleared
-module _ (bits victim : ℕ) (at : Place) (m : Records) (a : AttributeTrees) (to : PlanKey) (documents_are : IsDocuments a.kind a.type m a.documents)
+module _ (bits victim : ℕ) (at : PlanPlace) (m : Records) (a : AttributeTrees) (to : PlanKey) (documents_are : IsDocuments a.kind a.type m a.documents)
     (index_is : IsIndex a.type m a.dictionary) (cleared : IsClearedField bits victim at at.stage.field m a) (phase : at.stage.phase ≡ NODES) (passed : List PlanKey)
-    (through : GoesThrough (node_keys a.type m a.documents a.dictionary) at.key passed to) where
+    (through : GoesThrough (node_phase_keys a.type m a.documents a.dictionary) at.key passed to) where
   abbrev field : ℕ
   field = at.stage.field
 
-  abbrev here : Place
+  abbrev here : PlanPlace
   here = place_at_key at to
 
   abbrev values : List (ℕ × ℕ)
@@ -80,9 +80,9 @@ module _ (bits victim : ℕ) (at : Place) (m : Records) (a : AttributeTrees) (to
 
   -- no node of the two trees that lies in the victim stands above one of these keys
   pub nodes_cleared : ((node key : ℕ) → Among node (tree_nodes m a.dictionary) → buffer_of bits node ≡ victim → Among key (keys_below m node) → Among key (tree_keys m a.dictionary)
-      → IsKeyOf (plan.Value (stored_value a.type m key)) passed → ⊥)
+      → IsAmongKeys (plan.Value (stored_value a.type m key)) passed → ⊥)
       → ((node key : ℕ) → Among node (tree_nodes m a.documents) → buffer_of bits node ≡ victim → Among key (keys_below m node) → Among key (tree_keys m a.documents)
-      → IsKeyOf (plan.Doc key) passed → ⊥)
+      → IsAmongKeys (plan.Doc key) passed → ⊥)
       → IsClearedField bits victim here field m a
   nodes_cleared no_value_node no_map_node = record {
     keys = other_keys bits victim at m a to documents_are index_is cleared (λ e. let f = sym phase ∙ e in omega arith);
@@ -90,7 +90,7 @@ module _ (bits victim : ℕ) (at : Place) (m : Records) (a : AttributeTrees) (to
     lists = other_lists bits victim at m a to documents_are index_is cleared (λ e. let f = sym phase ∙ e in omega arith);
     values = λ node among lies key below visited.
         let there = keys_of_tree m a.dictionary node key index_is.dictionary_is.tree_is.node among below in
-        elim (visited_through at field NODES (node_keys a.type m a.documents a.dictionary) passed to (plan.Value (stored_value a.type m key)) refl phase
+        elim (visited_through at field NODES (node_phase_keys a.type m a.documents a.dictionary) passed to (plan.Value (stored_value a.type m key)) refl phase
         (ascends bits victim at m a to documents_are index_is cleared NODES) through
         (key_front (plan.Value (stored_value a.type m key)) (value_keys a.type m a.dictionary) (document_keys m a.documents) (value_in_keys a.type m key values there)) visited) [
           | inl was ↦ cleared.values node among lies key below was
@@ -99,9 +99,9 @@ module _ (bits victim : ℕ) (at : Place) (m : Records) (a : AttributeTrees) (to
     map = λ node among lies key below visited.
         let there = keys_of_tree m a.documents node key documents_are.map_is.tree_is.node among below in
         let pair = pair_at key docs there in
-        let is_key : IsKeyOf (plan.Doc key) (document_keys m a.documents) =
-        subst (λ (k : ℕ). IsKeyOf (plan.Doc k) (document_keys m a.documents)) pair.2 (key_in (λ p. plan.Doc p.0) pair.0 docs pair.1) in
-        elim (visited_through at field NODES (node_keys a.type m a.documents a.dictionary) passed to (plan.Doc key) refl phase
+        let is_key : IsAmongKeys (plan.Doc key) (document_keys m a.documents) =
+        subst (λ (k : ℕ). IsAmongKeys (plan.Doc k) (document_keys m a.documents)) pair.2 (key_in (λ p. plan.Doc p.0) pair.0 docs pair.1) in
+        elim (visited_through at field NODES (node_phase_keys a.type m a.documents a.dictionary) passed to (plan.Doc key) refl phase
         (ascends bits victim at m a to documents_are index_is cleared NODES) through
         (key_right (plan.Doc key) (value_keys a.type m a.dictionary) (document_keys m a.documents) is_key) visited) [
           | inl was ↦ cleared.map node among lies key below was
@@ -116,21 +116,21 @@ module _ (bits victim : ℕ) (at : Place) (m : Records) (a : AttributeTrees) (to
       let pair = pair_at key values there in
       let way = found_in value_cmp value_cmp_total read (IsWayApart bits victim value_cmp (stored_value a.type) m a.dictionary) (λ p. plan.Value (stored_value a.type m p.0))
       (plan.Value (stored_value a.type m key)) pair.0 values run index_is.dictionary_is.tree_is.ascends
-      (λ r e. ap (λ (k : ℕ). stored_value a.type m k) pair.2 ∙ ap value_in e) pair.1 are apart (subst (IsKeyOf (plan.Value (stored_value a.type m key))) is one) in
+      (λ r e. ap (λ (k : ℕ). stored_value a.type m k) pair.2 ∙ ap value_in e) pair.1 are apart (subst (IsAmongKeys (plan.Value (stored_value a.type m key))) is one) in
       all_among (λ r. buffer_of bits r ≢ victim) (path_nodes m (seen_by (stored_value a.type) value_cmp (stored_value a.type m key) m) a.dictionary)
       (subst (λ (k : ℕ). NoneIn bits victim (path_nodes m (seen_by (stored_value a.type) value_cmp (stored_value a.type m k) m) a.dictionary)) pair.2 way) node
       (stand_on_ways value_cmp value_cmp_total (stored_value a.type) m a.dictionary node key index_is.dictionary_is.tree_is among below) lies)
-      (λ node key among lies below there one. no_document read key run (subst (IsKeyOf (plan.Doc key)) is one))
+      (λ node key among lies below there one. no_document read key run (subst (IsAmongKeys (plan.Doc key)) is one))
 
   pub map_nodes_cleared : (run : List (ℕ × ℕ)) → passed ≡ map (λ p. plan.Doc p.0) run → ((r : ℕ × ℕ) → InPairs r run → InPairs r docs)
       → AllByRecursion (IsWayApart bits victim nat_cmp by_number m a.documents) run → IsClearedField bits victim here field m a
   map_nodes_cleared run is are apart = nodes_cleared
-      (λ node key among lies below there one. no_value (stored_value a.type m key) run (subst (IsKeyOf (plan.Value (stored_value a.type m key))) is one))
+      (λ node key among lies below there one. no_value (stored_value a.type m key) run (subst (IsAmongKeys (plan.Value (stored_value a.type m key))) is one))
       (λ node key among lies below there one.
       let pair = pair_at key docs there in
       let way = found_in nat_cmp nat_cmp_total (λ (p : ℕ × ℕ). p.0) (IsWayApart bits victim nat_cmp by_number m a.documents) (λ p. plan.Doc p.0)
       (plan.Doc key) pair.0 docs run documents_are.map_is.tree_is.ascends
-      (λ r e. pair.2 ∙ ap doc_in e) pair.1 are apart (subst (IsKeyOf (plan.Doc key)) is one) in
+      (λ r e. pair.2 ∙ ap doc_in e) pair.1 are apart (subst (IsAmongKeys (plan.Doc key)) is one) in
       all_among (λ r. buffer_of bits r ≢ victim) (path_nodes m (seen_by by_number nat_cmp (by_number m key) m) a.documents)
       (subst (λ (k : ℕ). NoneIn bits victim (path_nodes m (seen_by by_number nat_cmp (by_number m k) m) a.documents)) pair.2 way) node
       (stand_on_ways nat_cmp nat_cmp_total by_number m a.documents node key documents_are.map_is.tree_is among below) lies)
@@ -181,15 +181,15 @@ mapped_some : (f : ℕ × ℕ → PlanKey) (n : ℕ) (ps : List (ℕ × ℕ)) �
 mapped_some f n [] some few = absurd (omega arith)
 mapped_some f n (p ∷ ps) some few = omega arith
 
-module _ (bits victim : ℕ) (at : Place) (m : Records) (a : AttributeTrees) (count last : ℕ) (some : 0 < count) where
+module _ (bits victim : ℕ) (at : PlanPlace) (m : Records) (a : AttributeTrees) (count last : ℕ) (some : 0 < count) where
   pub value_nodes_pass : (value : AnyValue) → CanPass bits victim at m a NODES (plan.Value value)
-      → IsRun (IsWayApart bits victim value_cmp (stored_value a.type) m a.dictionary) (behind (beside value m) (tree_pairs m a.dictionary)) count last
+      → IsRun (IsWayApart bits victim value_cmp (stored_value a.type) m a.dictionary) (behind (beside_value value m) (tree_pairs m a.dictionary)) count last
       → Passes bits victim at m a (plan.Value (stored_value a.type m last)) count
   value_nodes_pass value can run =
-      let ps = behind (beside value m) (tree_pairs m a.dictionary) in
+      let ps = behind (beside_value value m) (tree_pairs m a.dictionary) in
       let f : ℕ × ℕ → PlanKey = (λ p. plan.Value (stored_value a.type m p.0)) in
       let docs = document_keys m a.documents in
-      let keys = node_keys a.type m a.documents a.dictionary in
+      let keys = node_phase_keys a.type m a.documents a.dictionary in
       let behind_values = values_behind a.type m value can.typed (tree_pairs m a.dictionary) in
       let filled : 0 < length (keys_behind (plan.Value value) (value_keys a.type m a.dictionary)) =
       subst (λ (ks : List PlanKey). 0 < length ks) (sym behind_values) (mapped_some f count ps some run.few) in
@@ -205,7 +205,7 @@ module _ (bits victim : ℕ) (at : Place) (m : Records) (a : AttributeTrees) (co
         count_is = run_length f count ps run.few;
         through = subst (λ (p : ℕ). GoesThrough (phase_keys a.type m a.documents a.dictionary p) at.key (map f (take count ps)) (plan.Value (stored_value a.type m last))) (sym can.phase_is) goes;
         cleared = value_nodes_cleared bits victim at m a (plan.Value (stored_value a.type m last)) can.documents_are can.index_is can.cleared can.phase_is (map f (take count ps)) goes (take count ps) refl
-            (λ r within. behind_in (beside value m) r (tree_pairs m a.dictionary) (take_in r count ps within)) run.all;
+            (λ r within. behind_in (beside_value value m) r (tree_pairs m a.dictionary) (take_in r count ps within)) run.all;
       }
 
   pub map_nodes_pass : (doc : ℕ) → CanPass bits victim at m a NODES (plan.Doc doc)
@@ -214,7 +214,7 @@ module _ (bits victim : ℕ) (at : Place) (m : Records) (a : AttributeTrees) (co
   map_nodes_pass doc can run =
       let ps = seek (λ key. nat_cmp key (doc + 1)) (tree_pairs m a.documents) in
       let f : ℕ × ℕ → PlanKey = (λ p. plan.Doc p.0) in
-      let keys = node_keys a.type m a.documents a.dictionary in
+      let keys = node_phase_keys a.type m a.documents a.dictionary in
       let goes : GoesThrough keys at.key (map f (take count ps)) (plan.Doc last) =
       run_goes bits victim at m a count last some (λ k. plan.Doc k) ps keys run.few run.last_is (map f (drop count ps) ++ [])
       (ascends bits victim at m a (plan.Doc last) can.documents_are can.index_is can.cleared NODES)
@@ -237,10 +237,10 @@ module _ (bits victim : ℕ) (at : Place) (m : Records) (a : AttributeTrees) (co
 -- what a value's way tells of the pairs behind the value
 pub value_way_behind : (bits buffer : ℕ) (m : Records) (root : ℕ) (type : ValueType) (value : AnyValue) → type_of value ≡ type
     → IsStrictlySortedBy value_cmp (map (λ p. stored_value type m p.0) (tree_pairs m root)) → (pairs last : ℕ) (found : Bool) (count : ℕ)
-    → IsWay (IsWayApart bits buffer value_cmp (stored_value (type_of value)) m root) (beside value m) (tree_pairs m root) pairs last found
+    → IsWay (IsWayApart bits buffer value_cmp (stored_value (type_of value)) m root) (beside_value value m) (tree_pairs m root) pairs last found
     → count ≡ cond found (pairs - 1) pairs → 0 < count
-    → IsRun (IsWayApart bits buffer value_cmp (stored_value type) m root) (behind (beside value m) (tree_pairs m root)) count last
+    → IsRun (IsWayApart bits buffer value_cmp (stored_value type) m root) (behind (beside_value value m) (tree_pairs m root)) count last
 value_way_behind bits buffer m root type value typed up pairs last found count way is some =
-    subst (λ (t : ValueType). IsRun (IsWayApart bits buffer value_cmp (stored_value t) m root) (behind (beside value m) (tree_pairs m root)) count last) typed
+    subst (λ (t : ValueType). IsRun (IsWayApart bits buffer value_cmp (stored_value t) m root) (behind (beside_value value m) (tree_pairs m root)) count last) typed
     (way_behind value_cmp value_cmp_total (stored_value (type_of value) m) value (IsWayApart bits buffer value_cmp (stored_value (type_of value)) m root) (tree_pairs m root) pairs last found count
     (subst (λ (t : ValueType). IsStrictlySortedBy value_cmp (map (λ (p : ℕ × ℕ). stored_value t m p.0) (tree_pairs m root))) (sym typed) up) way is some)

@@ -4,14 +4,14 @@ use Rattle.std.specs.Ordering.{nat_cmp}
 use Rattle.image_base.specs.Records.{Records}
 use Rattle.key_order.specs.Pairs.{lookup_pair, seek}
 use Rattle.tree_images.specs.Trees.{last_key, tree_pairs}
-use Rattle.attr_compaction.specs.Places.{Place}
+use Rattle.attr_compaction.specs.Places.{PlanPlace}
 use Rattle.attr_compaction.specs.declared.plan.PlanKey.{PlanKey}
 use Rattle.attr_compaction.specs.declared.plan.PlanKey.TheVariants as plan
 use Rattle.attr_compaction.specs.declared.plan.TheConstants.{DOCUMENTS, KEYS, LISTS}
 use Rattle.attr_images.specs.Tables.{AttributeTrees}
 use Rattle.attr_images.specs.Values.{stored_value}
 use Rattle.attr_types.specs.declared.value.Value.{Value as AnyValue}
-use Rattle.enum_dictionary.specs.Dictionaries.{behind, beside}
+use Rattle.enum_dictionary.specs.Dictionaries.{behind, beside_value}
 use Rattle.plan_keys.proofs.ListLemmas.{list_pairs}
 use Rattle.plan_keys.proofs.OrderLemmas.{phase_ascends}
 use Rattle.plan_keys.specs.PhaseKeys.{document_keys, keys_of_pairs, pair_keys, phase_keys, value_keys}
@@ -40,7 +40,7 @@ last_mapped h from (suc zero) (p ∷ ps) some few = refl
 last_mapped h from (suc (suc n)) (p ∷ []) some few = absurd (omega arith)
 last_mapped h from (suc (suc n)) (p ∷ q ∷ ps) some few = last_mapped h (h p.0) (suc n) (q ∷ ps) (omega arith) (omega arith)
 
-module _ (bits victim : ℕ) (at : Place) (m : Records) (a : AttributeTrees) (count last : ℕ) (some : 0 < count) where
+module _ (bits victim : ℕ) (at : PlanPlace) (m : Records) (a : AttributeTrees) (count last : ℕ) (some : 0 < count) where
   ascends : {phase : ℕ} {key : PlanKey} → CanPass bits victim at m a phase key → (p : ℕ) → Up (phase_keys a.type m a.documents a.dictionary p)
   ascends can p = phase_ascends a.type m a.documents a.dictionary p can.documents_are.map_is can.index_is
 
@@ -52,10 +52,10 @@ module _ (bits victim : ℕ) (at : Place) (m : Records) (a : AttributeTrees) (co
         (goes_through keys up (map (λ p. h p.0) (take count ps)) rest at.key is)
 
   pub values_pass : (value : AnyValue) → CanPass bits victim at m a KEYS (plan.Value value)
-      → IsRun (IsApart bits victim a.kind m sights.Key) (behind (beside value m) (tree_pairs m a.dictionary)) count last
+      → IsRun (IsApart bits victim a.kind m sights.Key) (behind (beside_value value m) (tree_pairs m a.dictionary)) count last
       → Passes bits victim at m a (plan.Value (stored_value a.type m last)) count
   values_pass value can run =
-      let ps = behind (beside value m) (tree_pairs m a.dictionary) in
+      let ps = behind (beside_value value m) (tree_pairs m a.dictionary) in
       let f : ℕ × ℕ → PlanKey = (λ p. plan.Value (stored_value a.type m p.0)) in
       let goes : GoesThrough (value_keys a.type m a.dictionary) at.key (map f (take count ps)) (plan.Value (stored_value a.type m last)) =
       run_goes (λ k. plan.Value (stored_value a.type m k)) ps (value_keys a.type m a.dictionary) run.few run.last_is (map f (drop count ps)) (ascends can KEYS)
@@ -67,7 +67,7 @@ module _ (bits victim : ℕ) (at : Place) (m : Records) (a : AttributeTrees) (co
         count_is = run_length f count ps run.few;
         through = subst (λ (p : ℕ). GoesThrough (phase_keys a.type m a.documents a.dictionary p) at.key (map f (take count ps)) (plan.Value (stored_value a.type m last))) (sym can.phase_is) goes;
         cleared = values_cleared bits victim at m a (plan.Value (stored_value a.type m last)) can.documents_are can.index_is can.cleared (take count ps) can.phase_is
-            (λ r within. behind_in (beside value m) r (tree_pairs m a.dictionary) (take_in r count ps within)) goes run.all;
+            (λ r within. behind_in (beside_value value m) r (tree_pairs m a.dictionary) (take_in r count ps within)) goes run.all;
       }
 
   pub documents_pass : (doc : ℕ) → CanPass bits victim at m a DOCUMENTS (plan.Doc doc)
@@ -90,11 +90,11 @@ module _ (bits victim : ℕ) (at : Place) (m : Records) (a : AttributeTrees) (co
       }
 
   pub lists_pass : (value : AnyValue) (doc : ℕ) → CanPass bits victim at m a LISTS (plan.Pair value doc)
-      → ((p : ℕ × ℕ) → lookup_pair (beside value m) (tree_pairs m a.dictionary) ≡ Some p → p.1 % 2 ≡ 0)
-      → IsRun (IsApart bits victim a.kind m sights.List) (behind (beside value m) (tree_pairs m a.dictionary)) count last
+      → ((p : ℕ × ℕ) → lookup_pair (beside_value value m) (tree_pairs m a.dictionary) ≡ Some p → p.1 % 2 ≡ 0)
+      → IsRun (IsApart bits victim a.kind m sights.List) (behind (beside_value value m) (tree_pairs m a.dictionary)) count last
       → Passes bits victim at m a (plan.Pair (stored_value a.type m last) 0) count
   lists_pass value doc can even run =
-      let ps = behind (beside value m) (tree_pairs m a.dictionary) in
+      let ps = behind (beside_value value m) (tree_pairs m a.dictionary) in
       let f : ℕ × ℕ → PlanKey = (λ p. plan.Pair (stored_value a.type m p.0) 0) in
       let goes : GoesThrough (pair_keys a.type m a.dictionary) at.key (map f (take count ps)) (plan.Pair (stored_value a.type m last) 0) =
       run_goes (λ k. plan.Pair (stored_value a.type m k) 0) ps (pair_keys a.type m a.dictionary) run.few run.last_is (keys_of_pairs a.type m (drop count ps)) (ascends can LISTS)
@@ -107,11 +107,11 @@ module _ (bits victim : ℕ) (at : Place) (m : Records) (a : AttributeTrees) (co
         count_is = run_length f count ps run.few;
         through = subst (λ (p : ℕ). GoesThrough (phase_keys a.type m a.documents a.dictionary p) at.key (map f (take count ps)) (plan.Pair (stored_value a.type m last) 0)) (sym can.phase_is) goes;
         cleared = lists_cleared bits victim at m a (plan.Pair (stored_value a.type m last) 0) can.documents_are can.index_is can.cleared (take count ps) can.phase_is
-            (λ r within. behind_in (beside value m) r (tree_pairs m a.dictionary) (take_in r count ps within)) goes run.all;
+            (λ r within. behind_in (beside_value value m) r (tree_pairs m a.dictionary) (take_in r count ps within)) goes run.all;
       }
 
 -- in the phase that a test finds
-pub at_phase : {bits victim : ℕ} {at : Place} {m : Records} {a : AttributeTrees} {phase : ℕ} {key : PlanKey} → CanPass bits victim at m a at.stage.phase key → at.stage.phase ≡ phase
+pub at_phase : {bits victim : ℕ} {at : PlanPlace} {m : Records} {a : AttributeTrees} {phase : ℕ} {key : PlanKey} → CanPass bits victim at m a at.stage.phase key → at.stage.phase ≡ phase
     → CanPass bits victim at m a phase key
 at_phase can is = record {
   phase_is = is;

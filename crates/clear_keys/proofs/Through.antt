@@ -6,10 +6,10 @@ use Rattle.std.specs.List.{find, AllByRecursion}
 use Rattle.std.specs.List.Sorted.{IsStrictlySortedBy}
 use Rattle.std.specs.Ordering.{ordering_reverse}
 use Rattle.attr_cleared.specs.Cleared.{IsVisited}
-use Rattle.attr_cleared.specs.Visits.{place_at_key, IsKeyOf}
+use Rattle.attr_cleared.specs.Visits.{place_at_key, IsAmongKeys}
 use Rattle.attr_cleared.proofs.PlanVisits.{next_visited}
 use Rattle.attr_compaction.proofs.PlaceLemmas.{key_total}
-use Rattle.attr_compaction.specs.Places.{key_cmp, Place}
+use Rattle.attr_compaction.specs.Places.{key_cmp, PlanPlace}
 use Rattle.attr_compaction.specs.declared.plan.PlanKey.{PlanKey}
 use Rattle.attr_compaction.specs.declared.plan.PlanKey.TheVariants.{Start}
 use Rattle.plan_keys.specs.PhaseKeys.{first_item, key_past}
@@ -38,16 +38,16 @@ up_parts : (x : PlanKey) (keys : List PlanKey) → Up (x ∷ keys) → AllByRecu
 unfolding IsStrictlySortedBy
 up_parts x keys up = up
 
-all_of : (P : PlanKey → Type 0) (keys : List PlanKey) → AllByRecursion P keys → (k : PlanKey) → IsKeyOf k keys → P k
+all_of : (P : PlanKey → Type 0) (keys : List PlanKey) → AllByRecursion P keys → (k : PlanKey) → IsAmongKeys k keys → P k
 all_of P [] all k among = absurd among
 all_of P (key ∷ keys) all k (inl e) = subst P (sym e) all.0
 all_of P (key ∷ keys) all k (inr later) = all_of P keys all.1 k later
 
-in_behind : (key k : PlanKey) (ks : List PlanKey) → IsKeyOf k (keys_behind key ks) → IsKeyOf k ks
+in_behind : (key k : PlanKey) (ks : List PlanKey) → IsAmongKeys k (keys_behind key ks) → IsAmongKeys k ks
 in_behind key k [] among = among
 in_behind key k (x ∷ ks) among = told (in_behind key k ks) (past key x) among
   where
-    told : (IsKeyOf k (keys_behind key ks) → IsKeyOf k ks) → (t : Bool) → IsKeyOf k (cond t (x ∷ ks) (keys_behind key ks)) → IsKeyOf k (x ∷ ks)
+    told : (IsAmongKeys k (keys_behind key ks) → IsAmongKeys k ks) → (t : Bool) → IsAmongKeys k (cond t (x ∷ ks) (keys_behind key ks)) → IsAmongKeys k (x ∷ ks)
     told more true here = here
     told more false later = inr (more later)
 
@@ -80,7 +80,7 @@ behind_next key k rest (x ∷ ks) up is = told (behind_next key k rest ks (up_pa
         subst (λ (y : PlanKey). keys_behind y (x ∷ ks) ≡ rest) (ap head_of here)
         (ap (λ (t : Bool). cond t (x ∷ ks) (keys_behind x ks)) (not_past_itself x) ∙ whole_behind x ks (up_parts x ks up).0 ∙ ap tail_of here)
     told more false later =
-        let among : IsKeyOf k ks = in_behind key k ks (subst (IsKeyOf k) (sym later) (inl refl)) in
+        let among : IsAmongKeys k ks = in_behind key k ks (subst (IsAmongKeys k) (sym later) (inl refl)) in
         let below = all_of (λ y. key_cmp x y ≡ Less) ks (up_parts x ks up).0 k among in
         ap (λ (t : Bool). cond t (x ∷ ks) (keys_behind k ks)) (not_past_below x k below) ∙ more later
 
@@ -95,8 +95,8 @@ goes_through ks up (k ∷ passed) rest from is =
     (past_first from ks ∙ ap (λ (xs : List PlanKey). first_item xs) is, goes_through ks up passed rest k (behind_next from k (passed ++ rest) ks up is))
 
 -- of the keys of the phase, what was visited at the last of them was visited before, or is one of them
-pub visited_through : (at : Place) (field phase : ℕ) (ks passed : List PlanKey) (to k : PlanKey) → at.stage.field ≡ field → at.stage.phase ≡ phase → Up ks
-    → GoesThrough ks at.key passed to → IsKeyOf k ks → IsVisited (place_at_key at to) field phase k → IsVisited at field phase k ⊎ IsKeyOf k passed
+pub visited_through : (at : PlanPlace) (field phase : ℕ) (ks passed : List PlanKey) (to k : PlanKey) → at.stage.field ≡ field → at.stage.phase ≡ phase → Up ks
+    → GoesThrough ks at.key passed to → IsAmongKeys k ks → IsVisited (place_at_key at to) field phase k → IsVisited at field phase k ⊎ IsAmongKeys k passed
 visited_through at field phase ks [] to k ef ep up through among visited =
     inl (subst (λ (y : PlanKey). IsVisited (place_at_key at y) field phase k) through visited)
 visited_through at field phase ks (key ∷ passed) to k ef ep up through among visited =

@@ -3,7 +3,7 @@ use Rattle.std.specs.Prelude.{◌≡◌, ℕ, ◌<◌, List, [], ◌∷◌, leng
 use Rattle.image_base.specs.Records.{Records}
 use Rattle.attr_cleared.specs.Cleared.{IsClearedField}
 use Rattle.attr_cleared.specs.Visits.{place_at_key}
-use Rattle.attr_compaction.specs.Places.{Place}
+use Rattle.attr_compaction.specs.Places.{PlanPlace}
 use Rattle.attr_compaction.specs.declared.plan.PlanKey.{PlanKey}
 use Rattle.attr_documents.specs.Documents.{IsDocuments}
 use Rattle.attr_field.specs.declared.roots.FieldRoots.{FieldRoots}
@@ -22,7 +22,7 @@ GoesThrough keys from [] to = to ≡ from
 GoesThrough keys from (key ∷ passed) to = (key_past from keys ≡ Some key) × GoesThrough keys key passed to
 
 -- up to this key are so many keys of the place's phase, and all is cleared up to it
-pub record Passes (bits victim : ℕ) (at : Place) (m : Records) (a : AttributeTrees) (key : PlanKey) (count : ℕ) : Type 0 where
+pub record Passes (bits victim : ℕ) (at : PlanPlace) (m : Records) (a : AttributeTrees) (key : PlanKey) (count : ℕ) : Type 0 where
   pub some : 0 < count
   pub passed : List PlanKey
   pub count_is : length passed ≡ count
@@ -30,7 +30,7 @@ pub record Passes (bits victim : ℕ) (at : Place) (m : Records) (a : AttributeT
   pub cleared : IsClearedField bits victim (place_at_key at key) at.stage.field m a
 
 -- an attribute that is cleared up to a place with this key of its phase
-pub record CanPass (bits victim : ℕ) (at : Place) (m : Records) (a : AttributeTrees) (phase : ℕ) (key : PlanKey) : Type 0 where
+pub record CanPass (bits victim : ℕ) (at : PlanPlace) (m : Records) (a : AttributeTrees) (phase : ℕ) (key : PlanKey) : Type 0 where
   pub phase_is : at.stage.phase ≡ phase
   pub key_is : at.key ≡ key
   pub documents_are : IsDocuments a.kind a.type m a.documents

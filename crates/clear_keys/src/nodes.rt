@@ -5,7 +5,7 @@ ghost use Rattle.attr_compaction.specs.declared.plan.TheConstants.{NODES};
 ghost use Rattle.attr_compaction.specs.declared.plan.PlanKey.TheVariants as keys;
 ghost use Rattle.attr_images.specs.Values.{stored_value};
 ghost use Rattle.attr_types.specs.Value.{type_of, value_cmp};
-ghost use Rattle.enum_dictionary.specs.Dictionaries.{beside, IsDictionary};
+ghost use Rattle.enum_dictionary.specs.Dictionaries.{beside_value, IsDictionary};
 ghost use Rattle.clear_keys.specs.Passes.{trees_of, CanPass, Passes};
 ghost use Rattle.clear_keys.specs.Ways.{IsWay, IsWayApart};
 
@@ -31,7 +31,7 @@ fn value_way<const OFFSET_BITS: u32, F: Frozen<OFFSET_BITS>>(
     requires dictionary { IsDictionary (type_of value.now) (F.records frozen.old) root }
     requires some { 0 < most }
     ensures way { IsWay (IsWayApart OFFSET_BITS buffer value_cmp (stored_value (type_of value.now)) (F.records frozen.old) root.entry)
-        (beside value.now (F.records frozen.old)) (tree_pairs (F.records frozen.old) root.entry) result.pairs result.last result.found }
+        (beside_value value.now (F.records frozen.old)) (tree_pairs (F.records frozen.old) root.entry) result.pairs result.last result.found }
     ensures few { result.pairs ≤ most }
     ensures same { frozen.new ≡ frozen.old }
 {

@@ -8,7 +8,7 @@ ghost use Rattle.attr_compaction.specs.declared.plan.PlanKey.TheVariants as keys
 ghost use Rattle.attr_field.specs.Fields.{IsField};
 ghost use Rattle.attr_images.specs.Values.{stored_value, IsValueRecord};
 ghost use Rattle.attr_types.specs.Value.{type_of};
-ghost use Rattle.enum_dictionary.specs.Dictionaries.{beside, IsDictionary};
+ghost use Rattle.enum_dictionary.specs.Dictionaries.{beside_value, IsDictionary};
 ghost use Rattle.plan_keys.specs.PhaseKeys.{HasType};
 ghost use Rattle.clear_keys.specs.Passes.{trees_of, CanPass, Passes};
 
@@ -132,7 +132,7 @@ fn has_tree<const OFFSET_BITS: u32, F: Frozen<OFFSET_BITS>>(
 ) -> bool
     requires { IsDictionary (type_of value.now) (F.records frozen.old) root }
     ensures even { result ≡ false → (p : ℕ × ℕ)
-        → lookup_pair (beside value.now (F.records frozen.old)) (tree_pairs (F.records frozen.old) root.entry) ≡ Some p → p.1 % 2 ≡ 0 }
+        → lookup_pair (beside_value value.now (F.records frozen.old)) (tree_pairs (F.records frozen.old) root.entry) ≡ Some p → p.1 % 2 ≡ 0 }
     ensures same { frozen.new ≡ frozen.old }
 {
     match find(frozen, root, value) {

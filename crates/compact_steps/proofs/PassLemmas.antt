@@ -12,7 +12,7 @@ use Rattle.image_base.specs.Records.{Records}
 use Rattle.store_api.specs.Ledgers.{Ledger}
 use Rattle.attr_cleared.specs.Cleared.{IsCleared, IsClearedField}
 use Rattle.attr_compaction.proofs.PlaceLemmas.{key_total, place_total, stage_total}
-use Rattle.attr_compaction.specs.Places.{key_cmp, place_after, place_cmp, IsPast, Place, PlanView}
+use Rattle.attr_compaction.specs.Places.{key_cmp, place_after, place_cmp, IsPast, PlanPlace, PlanView}
 use Rattle.attr_compaction.specs.declared.plan.PlanKey.{PlanKey}
 use Rattle.attr_compaction.specs.declared.plan.Stage.{Stage}
 use Rattle.attr_compaction.specs.declared.plan.TheConstants.{PHASES}
@@ -33,11 +33,11 @@ use Rattle.compact_steps.proofs.WalkLemmas.{found_past, stages_left}
 use Rattle.compact_steps.specs.Units.{keys_at, IsUnderWay, PassesKeys}
 use Rattle.compact_steps.specs.Walks.{Visits}
 
-abbrev at_key : Place → PlanKey → Place
+abbrev at_key : PlanPlace → PlanKey → PlanPlace
 at_key at key = record { stage = at.stage; key = key }
 
 -- ---- the plan at the last of them
-pub through_fits : (m : Records) (a : AttributeTrees) (at : Place) (passed : List PlanKey) (to : PlanKey) → at.stage.phase < PHASES → 0 < length passed
+pub through_fits : (m : Records) (a : AttributeTrees) (at : PlanPlace) (passed : List PlanKey) (to : PlanKey) → at.stage.phase < PHASES → 0 < length passed
     → GoesThrough (keys_at m a at.stage.phase) at.key passed to → HasType a.type to × IsPast at to
 through_fits m a at [] to few some through = absurd (omega arith)
 through_fits m a at (key ∷ []) to few some through =
@@ -79,12 +79,12 @@ passes_some m trees plan new a key passed count at past size through victim fiel
     record {
       victim = victim;
       fields = fields;
-      stage = ap (λ (p : Place). p.stage) is;
+      stage = ap (λ (p : PlanPlace). p.stage) is;
       tree = a;
       at = at;
       passed = passed;
       count_is = size;
-      through = subst (GoesThrough (keys_at m a plan.place.stage.phase) plan.place.key passed) (sym (ap (λ (p : Place). p.key) is)) through;
+      through = subst (GoesThrough (keys_at m a plan.place.stage.phase) plan.place.key passed) (sym (ap (λ (p : PlanPlace). p.key) is)) through;
     }
 
 pub passes_none : (m : Records) (trees : List AttributeTrees) (plan : PlanView) (a : AttributeTrees) → slice_get trees plan.place.stage.field ≡ Some a → PassesKeys m trees plan plan 0
@@ -94,13 +94,13 @@ passes_none m trees plan a at = record { victim = refl; fields = refl; stage = r
 not_greater : {a : Ordering} → a ≡ Less → a ≢ Greater
 not_greater less greater = true≢false (sym (ap is_lt less) ∙ ap is_lt greater)
 
-above : (at : Place) (key : PlanKey) → key_cmp at.key key ≡ Less → place_cmp at (at_key at key) ≡ Less
+above : (at : PlanPlace) (key : PlanKey) → key_cmp at.key key ≡ Less → place_cmp at (at_key at key) ≡ Less
 above at key less = ap (λ (o : Ordering). ordering_then o (key_cmp at.key key)) (tied_itself stage_total at.stage) ∙ less
 
 none_more : (n : ℕ) → n ≡ 0 + n
 none_more n = omega arith
 
-through_counts : (k : Records) (next : List AttributeTrees) (a : AttributeTrees) (from at : Place) (passed : List PlanKey) (to : PlanKey) → slice_get next at.stage.field ≡ Some a
+through_counts : (k : Records) (next : List AttributeTrees) (a : AttributeTrees) (from at : PlanPlace) (passed : List PlanKey) (to : PlanKey) → slice_get next at.stage.field ≡ Some a
     → IsStrictlySortedBy key_cmp (keys_at k a at.stage.phase) → at.stage.phase < PHASES → place_cmp from at ≢ Greater → GoesThrough (keys_at k a at.stage.phase) at.key passed to
     → (keys_between from (at_key at to) k next ≡ length passed + keys_between from at k next) × (place_cmp from (at_key at to) ≢ Greater)
 through_counts k next a from at [] to there up few rises through = (
@@ -126,7 +126,7 @@ module _ {H : Type 0} (bits root : ℕ) (fields : List Field) (old mid : Ledger 
       let is = all_at (IsFieldAt k) next to.place.stage.field passes.tree visits.holds.are_fields.each passes.at in
       let up = phase_ascends passes.tree.type k passes.tree.documents passes.tree.dictionary to.place.stage.phase is.documents_are.map_is is.index_is in
       let all = through_counts k next passes.tree from.place to.place passes.passed at.place.key passes.at up few visits.rises passes.through in
-      subst (λ (p : Place). (keys_between from.place p k next ≡ count + keys_between from.place to.place k next) × (place_cmp from.place p ≢ Greater)) same_place
+      subst (λ (p : PlanPlace). (keys_between from.place p k next ≡ count + keys_between from.place to.place k next) × (place_cmp from.place p ≢ Greater)) same_place
       (all.0 ∙ ap (λ (c : ℕ). c + keys_between from.place to.place k next) passes.count_is, all.1)
 
   counted : keys_between from.place at.place m trees ≡ visited + count

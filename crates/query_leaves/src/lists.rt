@@ -8,7 +8,7 @@ ghost use Rattle.attr_types.specs.Lawful.{IsDocNumber};
 ghost use Rattle.attr_images.specs.Postings.{list_form, postings_at, short, tree, IsPostingList};
 ghost use Rattle.attr_images.specs.Words.{unpacked};
 ghost use Rattle.doc_set.specs.Gathers.{is_in};
-ghost use Rattle.doc_set.specs.Postings.{AreDocuments};
+ghost use Rattle.doc_set.specs.Postings.{HaveDocNumbers};
 ghost use Rattle.doc_set.specs.Sets.{has, in_words};
 
 use crate::blocks::gather_vector;
@@ -33,7 +33,7 @@ fn doc_of(word: u64) -> Doc
 }
 
 fn push_words(docs: &mut Vec<Doc>, words: &[u64]) -> Result<(), AllocError>
-    requires { AreDocuments (map unpacked words.now) }
+    requires { HaveDocNumbers (map unpacked words.now) }
     ensures { OnOk result (docs.new.items ≡ docs.old.items ++ keys_of (map unpacked words.now)) }
 {
     for word in words {
@@ -43,7 +43,7 @@ fn push_words(docs: &mut Vec<Doc>, words: &[u64]) -> Result<(), AllocError>
 }
 
 fn insert_words(set: &mut DocSet, words: &[u64])
-    requires { AreDocuments (map unpacked words.now) }
+    requires { HaveDocNumbers (map unpacked words.now) }
     ensures { (doc : ℕ) → in_words set.new doc ≡ (in_words set.old doc || has (keys_of (map unpacked words.now)) doc) }
 {
     for word in words {
@@ -53,7 +53,7 @@ fn insert_words(set: &mut DocSet, words: &[u64])
 
 /// The documents with those of the words of a short list.
 fn with_words(alloc: Global, gathered: Gathered, words: &[u64]) -> Result<Gathered, AllocError>
-    requires { AreDocuments (map unpacked words.now) }
+    requires { HaveDocNumbers (map unpacked words.now) }
     ensures { IfOk result (λ all. (doc : ℕ) → is_in all doc
         ≡ (is_in gathered doc || has (keys_of (map unpacked words.now)) doc)) }
 {
@@ -82,7 +82,7 @@ fn gather_short<const OFFSET_BITS: u32, F: Frozen<OFFSET_BITS>>(
     gathered: Gathered,
 ) -> Result<Gathered, AllocError>
     requires form { IsPostingList (F.records frozen.old) (short list) }
-    requires documents { AreDocuments (postings_at (F.records frozen.old) (short list)) }
+    requires documents { HaveDocNumbers (postings_at (F.records frozen.old) (short list)) }
     ensures docs { IfOk result (λ all. (doc : ℕ) → is_in all doc
         ≡ (is_in gathered doc || has (keys_of (postings_at (F.records frozen.old) (short list.entry))) doc)) }
     ensures same { frozen.new ≡ frozen.old }
@@ -162,7 +162,7 @@ fn gather_tree<const OFFSET_BITS: u32, F: Frozen<OFFSET_BITS>>(
     gathered: Gathered,
 ) -> Result<Gathered, AllocError>
     requires form { IsPostingList (F.records frozen.old) (tree root) }
-    requires documents { AreDocuments (postings_at (F.records frozen.old) (tree root)) }
+    requires documents { HaveDocNumbers (postings_at (F.records frozen.old) (tree root)) }
     ensures docs { IfOk result (λ all. (doc : ℕ) → is_in all doc
         ≡ (is_in gathered doc || has (keys_of (postings_at (F.records frozen.old) (tree root.entry))) doc)) }
     ensures same { frozen.new ≡ frozen.old }
@@ -185,7 +185,7 @@ pub fn gather_list<const OFFSET_BITS: u32, F: Frozen<OFFSET_BITS>>(
     gathered: Gathered,
 ) -> Result<Gathered, AllocError>
     requires form { IsPostingList (F.records frozen.old) (list_form list) }
-    requires documents { AreDocuments (postings_at (F.records frozen.old) (list_form list)) }
+    requires documents { HaveDocNumbers (postings_at (F.records frozen.old) (list_form list)) }
     ensures docs { IfOk result (λ all. (doc : ℕ) → is_in all doc
         ≡ (is_in gathered doc || has (keys_of (postings_at (F.records frozen.old) (list_form list))) doc)) }
     ensures same { frozen.new ≡ frozen.old }

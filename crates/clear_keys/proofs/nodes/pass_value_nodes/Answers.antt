@@ -5,7 +5,7 @@ use Rattle.attr_images.specs.Values.{stored_value, IsValueRecord}
 use Rattle.attr_types.specs.ProofsForOrder.{value_cmp_total}
 use Rattle.attr_types.specs.Value.{type_of, value_cmp}
 use Rattle.attr_types.specs.declared.kind.ValueType.{ValueType}
-use Rattle.enum_dictionary.specs.Dictionaries.{behind, beside, IsDictionary}
+use Rattle.enum_dictionary.specs.Dictionaries.{behind, beside_value, IsDictionary}
 use Rattle.plan_keys.proofs.NextLemmas.{all_behind}
 use Rattle.clear_keys.specs.Passes.{trees_of, Passes}
 use Rattle.clear_keys.specs.Sights.{IsRun}
@@ -37,11 +37,11 @@ value_at-requires g c =
     let records = g.F.Frozen.records in
     let type = c.args.field.now.value in
     let m = records c.args.frozen.now in
-    let ps = behind (beside c.args.value.now m) (tree_pairs m c.args.roots.dictionary) in
+    let ps = behind (beside_value c.args.value.now m) (tree_pairs m c.args.roots.dictionary) in
     let run = value_way_behind g.row.OFFSET_BITS c.victim.result m c.args.roots.dictionary type c.args.value.now c.requires.typed c.requires.index_is.dictionary_is.tree_is.ascends
     c.value_way-way.result.pairs c.value_way-way.result.last c.value_way-way.result.found c.past_in-keys.result c.value_way-way.ensures.way c.past_in-keys.ensures (let some = c.if-keys-eq0.false in omega arith) in
     let one = last_has (λ (k : ℕ). IsValueRecord type (m k)) c.past_in-keys.result ps
-    (all_behind (λ p. IsValueRecord type (m p.0)) (beside c.args.value.now m) (tree_pairs m c.args.roots.dictionary) c.requires.index_is.dictionary_is.keys)
+    (all_behind (λ p. IsValueRecord type (m p.0)) (beside_value c.args.value.now m) (tree_pairs m c.args.roots.dictionary) c.requires.index_is.dictionary_is.keys)
     (let some = c.if-keys-eq0.false in omega arith) run.few in
     subst (λ (f : g.row.F.Denot). IsValueRecord type (records f c.value_way-way.result.last)) (sym c.value_way-way.ensures.same)
     (subst (λ (k : ℕ). IsValueRecord type (m k)) (sym run.last_is) one)
@@ -57,7 +57,7 @@ returns-in-Some-clause-passes g c =
     let count = c.past_in-keys.result in
     let last = c.value_way-way.result.last in
     let some : 0 < count = (let test = c.if-keys-eq0.false in omega arith) in
-    let run = subst (λ (v : ℕ). IsRun (IsWayApart bits v value_cmp (stored_value type) m c.args.roots.dictionary) (behind (beside c.args.value.now m) (tree_pairs m c.args.roots.dictionary)) count last) c.victim.ensures
+    let run = subst (λ (v : ℕ). IsRun (IsWayApart bits v value_cmp (stored_value type) m c.args.roots.dictionary) (behind (beside_value c.args.value.now m) (tree_pairs m c.args.roots.dictionary)) count last) c.victim.ensures
     (value_way_behind bits c.victim.result m c.args.roots.dictionary type c.args.value.now c.requires.typed c.requires.index_is.dictionary_is.tree_is.ascends
     c.value_way-way.result.pairs last c.value_way-way.result.found count c.value_way-way.ensures.way c.past_in-keys.ensures some) in
     let read = c.in-Some.ensures.value ∙ ap (λ (f : g.row.F.Denot). stored_value type (records f) last) c.value_way-way.ensures.same in

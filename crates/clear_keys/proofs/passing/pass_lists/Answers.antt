@@ -6,7 +6,7 @@ use Rattle.attr_compaction.specs.declared.plan.PlanKey.TheVariants.{Pair}
 use Rattle.attr_images.specs.Values.{stored_value, IsValueRecord}
 use Rattle.attr_types.specs.Value.{type_of}
 use Rattle.attr_types.specs.declared.kind.ValueType.{ValueType}
-use Rattle.enum_dictionary.specs.Dictionaries.{behind, beside, IsDictionary}
+use Rattle.enum_dictionary.specs.Dictionaries.{behind, beside_value, IsDictionary}
 use Rattle.plan_keys.proofs.NextLemmas.{all_behind}
 use Rattle.posting_store.specs.Lists.{IsPlain}
 use Rattle.clear_keys.specs.Passes.{trees_of, Passes}
@@ -42,13 +42,13 @@ run_from-run-requires g c =
     let cursor = c.upper-cursor.result in
     let same = c.has_tree.ensures.same in
     let back = sym c.upper-cursor.ensures.same in
-    let pairs = subst (λ (f : g.row.F.Denot). pairs_from (records f) cursor ≡ behind (beside c.args.value.now (records f)) (tree_pairs (records f) c.args.roots.dictionary)) same c.upper-cursor.ensures.pairs in (
+    let pairs = subst (λ (f : g.row.F.Denot). pairs_from (records f) cursor ≡ behind (beside_value c.args.value.now (records f)) (tree_pairs (records f) c.args.roots.dictionary)) same c.upper-cursor.ensures.pairs in (
       omega arith,
       (
         subst (λ (f : g.row.F.Denot). IsAt (records f) cursor) back c.upper-cursor.ensures.at,
         subst (λ (f : g.row.F.Denot). AllByRecursion (λ p. IsPlain p.1) (pairs_from (records f) cursor)) (sym (c.upper-cursor.ensures.same ∙ same))
             (subst (AllByRecursion (λ p. IsPlain p.1)) (sym pairs)
-            (all_behind (λ p. IsPlain p.1) (beside c.args.value.now m) (tree_pairs m c.args.roots.dictionary) (all_plain type m c.args.roots.dictionary c.requires.index_is))),
+            (all_behind (λ p. IsPlain p.1) (beside_value c.args.value.now m) (tree_pairs m c.args.roots.dictionary) (all_plain type m c.args.roots.dictionary c.requires.index_is))),
       ),
     )
 
@@ -64,13 +64,13 @@ value_at-requires g c =
     let count = c.run_from-run.result.pairs in
     let last = c.run_from-run.result.last in
     let same = c.upper-cursor.ensures.same ∙ c.has_tree.ensures.same in
-    let pairs = subst (λ (f : g.row.F.Denot). pairs_from (records f) c.upper-cursor.result ≡ behind (beside c.args.value.now (records f)) (tree_pairs (records f) c.args.roots.dictionary))
+    let pairs = subst (λ (f : g.row.F.Denot). pairs_from (records f) c.upper-cursor.result ≡ behind (beside_value c.args.value.now (records f)) (tree_pairs (records f) c.args.roots.dictionary))
     c.has_tree.ensures.same c.upper-cursor.ensures.pairs in
-    let ps = behind (beside c.args.value.now m) (tree_pairs m c.args.roots.dictionary) in
+    let ps = behind (beside_value c.args.value.now m) (tree_pairs m c.args.roots.dictionary) in
     let run = subst (λ qs. IsRun (IsApart g.row.OFFSET_BITS c.victim.result kind m sights.List) qs count last) pairs
     (subst (λ (f : g.row.F.Denot). IsRun (IsApart g.row.OFFSET_BITS c.victim.result kind (records f) sights.List) (pairs_from (records f) c.upper-cursor.result) count last) same c.run_from-run.ensures.run) in
     let one = last_has (λ (k : ℕ). IsValueRecord type (m k)) count ps
-    (all_behind (λ p. IsValueRecord type (m p.0)) (beside c.args.value.now m) (tree_pairs m c.args.roots.dictionary) c.requires.index_is.dictionary_is.keys)
+    (all_behind (λ p. IsValueRecord type (m p.0)) (beside_value c.args.value.now m) (tree_pairs m c.args.roots.dictionary) c.requires.index_is.dictionary_is.keys)
     (let some = c.if-run-eq0.false in omega arith) run.few in
     subst (λ (f : g.row.F.Denot). IsValueRecord type (records f last)) (sym (c.run_from-run.ensures.same ∙ same))
     (subst (λ (k : ℕ). IsValueRecord type (m k)) (sym run.last_is) one)
@@ -87,9 +87,9 @@ returns-in-Some-clause-passes g c =
     let count = c.run_from-run.result.pairs in
     let last = c.run_from-run.result.last in
     let same = c.upper-cursor.ensures.same ∙ c.has_tree.ensures.same in
-    let pairs = subst (λ (f : g.row.F.Denot). pairs_from (records f) c.upper-cursor.result ≡ behind (beside c.args.value.now (records f)) (tree_pairs (records f) c.args.roots.dictionary))
+    let pairs = subst (λ (f : g.row.F.Denot). pairs_from (records f) c.upper-cursor.result ≡ behind (beside_value c.args.value.now (records f)) (tree_pairs (records f) c.args.roots.dictionary))
     c.has_tree.ensures.same c.upper-cursor.ensures.pairs in
-    let run = subst (λ (v : ℕ). IsRun (IsApart bits v kind m sights.List) (behind (beside c.args.value.now m) (tree_pairs m c.args.roots.dictionary)) count last) c.victim.ensures
+    let run = subst (λ (v : ℕ). IsRun (IsApart bits v kind m sights.List) (behind (beside_value c.args.value.now m) (tree_pairs m c.args.roots.dictionary)) count last) c.victim.ensures
     (subst (λ qs. IsRun (IsApart bits c.victim.result kind m sights.List) qs count last) pairs
     (subst (λ (f : g.row.F.Denot). IsRun (IsApart bits c.victim.result kind (records f) sights.List) (pairs_from (records f) c.upper-cursor.result) count last) same c.run_from-run.ensures.run)) in
     let read = c.in-Some.ensures.value ∙ ap (λ (f : g.row.F.Denot). stored_value type (records f) last) (c.run_from-run.ensures.same ∙ same) in

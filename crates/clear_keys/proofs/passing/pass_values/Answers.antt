@@ -5,7 +5,7 @@ use Rattle.tree_search.specs.Places.{pairs_from, IsAt}
 use Rattle.attr_compaction.specs.declared.plan.PlanKey.TheVariants.{Value}
 use Rattle.attr_images.specs.Values.{stored_value, IsValueRecord}
 use Rattle.attr_types.specs.declared.kind.ValueType.{ValueType}
-use Rattle.enum_dictionary.specs.Dictionaries.{behind, beside, IsDictionary}
+use Rattle.enum_dictionary.specs.Dictionaries.{behind, beside_value, IsDictionary}
 use Rattle.plan_keys.proofs.NextLemmas.{all_behind}
 use Rattle.clear_keys.specs.Passes.{trees_of, Passes}
 use Rattle.clear_keys.specs.Sights.{IsApart, IsRun}
@@ -30,7 +30,7 @@ run_from-run-requires g c =
         subst (λ (f : g.row.F.Denot). IsAt (records f) cursor) back c.upper-cursor.ensures.at,
         subst (λ (f : g.row.F.Denot). AllByRecursion (λ p. IsValueRecord type (records f p.0)) (pairs_from (records f) cursor)) back
             (subst (AllByRecursion (λ p. IsValueRecord type (m p.0))) (sym c.upper-cursor.ensures.pairs)
-            (all_behind (λ p. IsValueRecord type (m p.0)) (beside c.args.value.now m) (tree_pairs m c.args.roots.dictionary) c.requires.index_is.dictionary_is.keys)),
+            (all_behind (λ p. IsValueRecord type (m p.0)) (beside_value c.args.value.now m) (tree_pairs m c.args.roots.dictionary) c.requires.index_is.dictionary_is.keys)),
       ),
     )
 
@@ -42,12 +42,12 @@ value_at-requires g c =
     let records = g.F.Frozen.records in
     let type = c.args.field.now.value in
     let m = records c.args.frozen.now in
-    let ps = behind (beside c.args.value.now m) (tree_pairs m c.args.roots.dictionary) in
+    let ps = behind (beside_value c.args.value.now m) (tree_pairs m c.args.roots.dictionary) in
     let run = subst (λ qs. IsRun (IsApart g.row.OFFSET_BITS c.victim.result c.args.field.now.kind m sights.Key) qs c.run_from-run.result.pairs c.run_from-run.result.last) c.upper-cursor.ensures.pairs
     (subst (λ (f : g.row.F.Denot). IsRun (IsApart g.row.OFFSET_BITS c.victim.result c.args.field.now.kind (records f) sights.Key) (pairs_from (records f) c.upper-cursor.result)
     c.run_from-run.result.pairs c.run_from-run.result.last) c.upper-cursor.ensures.same c.run_from-run.ensures.run) in
     let last = last_has (λ (k : ℕ). IsValueRecord type (m k)) c.run_from-run.result.pairs ps
-    (all_behind (λ p. IsValueRecord type (m p.0)) (beside c.args.value.now m) (tree_pairs m c.args.roots.dictionary) c.requires.index_is.dictionary_is.keys)
+    (all_behind (λ p. IsValueRecord type (m p.0)) (beside_value c.args.value.now m) (tree_pairs m c.args.roots.dictionary) c.requires.index_is.dictionary_is.keys)
     (let some = c.if-run-eq0.false in omega arith) run.few in
     subst (λ (f : g.row.F.Denot). IsValueRecord type (records f c.run_from-run.result.last)) (sym (c.run_from-run.ensures.same ∙ c.upper-cursor.ensures.same))
     (subst (λ (k : ℕ). IsValueRecord type (m k)) (sym run.last_is) last)
@@ -63,7 +63,7 @@ returns-in-Some-clause-passes g c =
     let at = c.args.plan.now.place in
     let count = c.run_from-run.result.pairs in
     let last = c.run_from-run.result.last in
-    let run = subst (λ (v : ℕ). IsRun (IsApart bits v kind m sights.Key) (behind (beside c.args.value.now m) (tree_pairs m c.args.roots.dictionary)) count last) c.victim.ensures
+    let run = subst (λ (v : ℕ). IsRun (IsApart bits v kind m sights.Key) (behind (beside_value c.args.value.now m) (tree_pairs m c.args.roots.dictionary)) count last) c.victim.ensures
     (subst (λ qs. IsRun (IsApart bits c.victim.result kind m sights.Key) qs count last) c.upper-cursor.ensures.pairs
     (subst (λ (f : g.row.F.Denot). IsRun (IsApart bits c.victim.result kind (records f) sights.Key) (pairs_from (records f) c.upper-cursor.result) count last) c.upper-cursor.ensures.same c.run_from-run.ensures.run)) in
     let read = c.in-Some.ensures.value ∙ ap (λ (f : g.row.F.Denot). stored_value type (records f) last) (c.run_from-run.ensures.same ∙ c.upper-cursor.ensures.same) in
