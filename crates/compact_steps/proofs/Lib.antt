@@ -4,3 +4,4 @@ pub mod UnitSteps
 pub mod TurnLemmas
 pub mod WalkLemmas
 pub mod OpenLemmas
+pub mod PassLemmas

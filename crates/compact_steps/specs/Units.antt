@@ -15,6 +15,7 @@ use Rattle.attr_compaction.specs.declared.plan.PlanKey.TheVariants.{Start}
 use Rattle.attr_images.specs.Tables.{AttributeTrees}
 use Rattle.attr_types.specs.declared.field.Field.{Field}
 use Rattle.plan_keys.specs.PhaseKeys.{key_past, phase_keys, HasType}
+use Rattle.clear_keys.specs.Passes.{GoesThrough}
 use Rattle.attr_steps.specs.Fields.{HoldsAttributes}
 use Rattle.attr_steps.specs.Views.{table_at}
 use Rattle.compact_steps.specs.declared.unit.Turn.{Turn}
@@ -49,6 +50,17 @@ pub record GoesOn (old new : PlanView) (next : Option PlanKey) (turn : Turn) : T
   pub fields : new.fields ≡ old.fields
   pub place : new.place ≡ place_after old.fields old.place (unwrap_or next Start)
   pub rises : place_cmp old.place new.place ≡ Less
+
+-- the plan went on over so many keys of its attribute's phase, each the next one past the one before it
+pub record PassesKeys (m : Records) (trees : List AttributeTrees) (old new : PlanView) (count : ℕ) : Type 0 where
+  pub victim : new.victim ≡ old.victim
+  pub fields : new.fields ≡ old.fields
+  pub stage : new.place.stage ≡ old.place.stage
+  pub tree : AttributeTrees
+  pub at : slice_get trees old.place.stage.field ≡ Some tree
+  pub passed : List PlanKey
+  pub count_is : length passed ≡ count
+  pub through : GoesThrough (keys_at m tree old.place.stage.phase) old.place.key passed new.place.key
 
 -- each attribute has the keys in each phase that it had
 abbrev pub KeepKeys : Records → Records → List AttributeTrees → List AttributeTrees → Type 0

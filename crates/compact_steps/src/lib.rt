@@ -4,6 +4,7 @@
 mod ending;
 mod key;
 mod opening;
+mod passing;
 mod stepping;
 mod unit;
 mod walk;

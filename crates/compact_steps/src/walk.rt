@@ -5,6 +5,7 @@ ghost use Rattle.compact_steps.specs.Units.{IsUnderWay};
 ghost use Rattle.compact_steps.specs.Walks.{HasLastField, Walks};
 ghost use Rattle.compact_steps.specs.declared.walk.Walk.TheVariants.{Visited};
 
+use crate::passing::pass_keys;
 use crate::unit::{Turn, compact_one};
 use attr_compaction::{PHASES, Plan};
 use attr_field::FieldRoots;
@@ -35,8 +36,8 @@ fn refused(keys: u32, error: StoreError) -> Result<Walk, StoreError>
     })
 }
 
-/// Visits so many keys of a compaction, each in a unit of its own, from the plan's place on. Where the first one is refused
-/// each entry is as it was.
+/// Visits so many keys of a compaction from the plan's place on: those under which something lies in the victim each in a
+/// unit of its own. Where the first one is refused each entry is as it was.
 #[tactic(none)]
 pub fn visit_keys<const OFFSET_BITS: u32, S: Store<OFFSET_BITS>>(
     alloc: Global,
@@ -59,6 +60,11 @@ pub fn visit_keys<const OFFSET_BITS: u32, S: Store<OFFSET_BITS>>(
     while done < keys {
         if plan.phase() == PHASES {
             return Ok(Walk::Over);
+        }
+        let passed = pass_keys(alloc, store, fields, roots, root, plan, keys - done);
+        done += passed;
+        if done == keys {
+            return Ok(Walk::Visited { keys, stop: None });
         }
         let _ = plan.field();
         match compact_one(alloc, store, fields, roots, root, plan) {

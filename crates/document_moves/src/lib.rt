@@ -7,6 +7,7 @@ mod lying;
 mod moving;
 mod nodes;
 
+pub use lying::items_lie;
 pub use moving::move_items;
 pub use nodes::move_document_nodes;
 

@@ -77,7 +77,7 @@ fn list_lies<const OFFSET_BITS: u32, F: Frozen<OFFSET_BITS>>(
 }
 
 /// Whether the record that items have of their own, or one that they refer to, lies in the buffer.
-fn items_lie<const OFFSET_BITS: u32, F: Frozen<OFFSET_BITS>>(
+pub fn items_lie<const OFFSET_BITS: u32, F: Frozen<OFFSET_BITS>>(
     frozen: &mut F,
     kind: Kind,
     value_type: ValueType,

@@ -15,7 +15,7 @@ use Rattle.tree_node.proofs.ChildLemmas.{pairs-some}
 use Rattle.tree_touch.specs.Paths.{child_of, path_below, path_nodes, NoneIn}
 use Rattle.tree_ways.specs.Ways.{keys_below, tree_keys, NodesHaveKeys, NodesStandOnWays, WaysHaveAllNodes}
 
-abbrev keys : List (ℕ × ℕ) → List ℕ
+abbrev pub keys : List (ℕ × ℕ) → List ℕ
 keys ps = map (λ p. p.0) ps
 
 -- ---- what is among keys and among nodes
@@ -75,7 +75,7 @@ pick Greater a v no_less = refl
 
 -- ---- keys that ascend
 module _ {V : Type 0} (order : V → V → Ordering) (total : IsTotalOrder order) (reads : ℕ → V) where
-  abbrev Up : List (ℕ × ℕ) → Type 0
+  abbrev pub Up : List (ℕ × ℕ) → Type 0
   Up ps = IsStrictlySortedBy order (map (λ p. reads p.0) ps)
 
   not_below_itself : (k : ℕ) → order (reads k) (reads k) ≡ Less → ⊥
@@ -90,17 +90,17 @@ module _ {V : Type 0} (order : V → V → Ordering) (total : IsTotalOrder order
   all_left P [] ys all = tt
   all_left P (x ∷ xs) ys all = (all.0, all_left P xs ys all.1)
 
-  up_left : (xs ys : List (ℕ × ℕ)) → Up (xs ++ ys) → Up xs
+  pub up_left : (xs ys : List (ℕ × ℕ)) → Up (xs ++ ys) → Up xs
   unfolding IsStrictlySortedBy
   up_left [] ys up = tt
   up_left (x ∷ xs) ys up = (all_left (λ w. order (reads x.0) w ≡ Less) xs ys up.0, up_left xs ys up.1)
 
-  up_right : (xs ys : List (ℕ × ℕ)) → Up (xs ++ ys) → Up ys
+  pub up_right : (xs ys : List (ℕ × ℕ)) → Up (xs ++ ys) → Up ys
   unfolding IsStrictlySortedBy
   up_right [] ys up = up
   up_right (x ∷ xs) ys up = up_right xs ys up.1
 
-  up_child : (f : ℕ → List (ℕ × ℕ)) (vs : List ℕ) → Up (flat_map f vs) → (v : ℕ) → Among v vs → Up (f v)
+  pub up_child : (f : ℕ → List (ℕ × ℕ)) (vs : List ℕ) → Up (flat_map f vs) → (v : ℕ) → Among v vs → Up (f v)
   up_child f [] up v among = absurd among
   up_child f (w ∷ vs) up v (inl e) = subst (λ x. Up (f x)) (sym e) (up_left (f w) (flat_map f vs) up)
   up_child f (w ∷ vs) up v (inr later) = up_child f vs (up_right (f w) (flat_map f vs) up) v later
@@ -148,7 +148,7 @@ module _ (m : Records) where
   own_keys least level ref r k e node among =
       subst (λ x. Among k (keys (pairs_below m level x))) e (subst (λ l. Among k (keys (pairs_below m l r))) (level_is least level ref r e node) among)
 
-  nodes_of : (least level ref : ℕ) → IsNode m least (suc level) ref → AllByRecursion (IsNode m 8 level) (node_values (m ref))
+  pub nodes_of : (least level ref : ℕ) → IsNode m least (suc level) ref → AllByRecursion (IsNode m 8 level) (node_values (m ref))
   unfolding IsNode
   nodes_of least level ref node = node.3
 
@@ -185,20 +185,20 @@ module _ (m : Records) where
       pairs_of_node 8 level found.0 (omega arith) child r found.2
 
   module _ {V : Type 0} (order : V → V → Ordering) (total : IsTotalOrder order) (reads : ℕ → V) (k : ℕ) where
-    abbrev c : ℕ → Ordering
+    abbrev pub c : ℕ → Ordering
     c x = order (reads x) (reads k)
 
     some_pairs : (level : ℕ) (vs : List ℕ) → AllByRecursion (IsNode m 8 level) vs → AllByRecursion (λ v. 0 < length (pairs_below m level v)) vs
     some_pairs level [] all = tt
     some_pairs level (v ∷ vs) all = (pairs-some m 8 level v (omega arith) all.0, some_pairs level vs all.1)
 
-    way_goes : (least level ref v : ℕ) → IsNode m least (suc level) ref → Up order total reads (flat_map (pairs_below m level) (node_values (m ref))) → Among v (node_values (m ref))
+    pub way_goes : (least level ref v : ℕ) → IsNode m least (suc level) ref → Up order total reads (flat_map (pairs_below m level) (node_values (m ref))) → Among v (node_values (m ref))
         → Among k (keys (pairs_below m level v)) → child_of c (node_keys (m ref)) (node_values (m ref)) ≡ v
     way_goes least level ref v node up there among =
         ap (λ ks. child_of c ks (node_values (m ref))) (last_keys_of least level ref node)
         ∙ child_way order total reads (pairs_below m level) k (node_values (m ref)) up (some_pairs level (node_values (m ref)) (nodes_of least level ref node)) v there among
 
-    flat_up : (l r : ℕ) → Up order total reads (pairs_below m (suc l) r) → Up order total reads (flat_map (pairs_below m l) (node_values (m r)))
+    pub flat_up : (l r : ℕ) → Up order total reads (pairs_below m (suc l) r) → Up order total reads (flat_map (pairs_below m l) (node_values (m r)))
     unfolding pairs_below
     flat_up l r up = up
 

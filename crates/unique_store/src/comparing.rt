@@ -12,6 +12,8 @@ use frozen_api::Frozen;
 use std::cmp::Ordering;
 
 /// Compares a stored text with bytes. Its words are read as far as they are equal, and no further.
+/// Apart, so that a long is compared without the registers that a text wants.
+#[inline(never)]
 fn compare_text<const OFFSET_BITS: u32, F: Frozen<OFFSET_BITS>>(
     frozen: &mut F,
     stored: EntryRef<OFFSET_BITS>,

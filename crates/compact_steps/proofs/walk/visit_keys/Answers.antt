@@ -1,9 +1,11 @@
-use Rattle.std.proofs.Common.{◌≡◌, ◌<◌, refl, sym, ap, subst, ◌∙◌, arith}
+use Rattle.std.proofs.Common.{◌≡◌, ◌+◌, ◌<◌, ℕ, refl, sym, ap, subst, ◌∙◌, arith}
+use Rattle.attr_compaction.specs.declared.plan.Stage.{Stage}
 use Rattle.attr_compaction.specs.declared.plan.TheConstants.{PHASES}
 use Rattle.attr_steps.specs.Calls.{LeavesEntries}
 use Rattle.attr_steps.specs.Fields.{trees_of}
 use Rattle.compact_steps.specs.Units.{next_at, GoesOn, LeavesAtEnd}
-use Rattle.compact_steps.specs.Walks.{Walks}
+use Rattle.compact_steps.specs.Walks.{Visits, Walks}
+use Rattle.compact_steps.proofs.PassLemmas.{left_passed, visits_passed}
 use Rattle.compact_steps.proofs.WalkLemmas.{left_moved, refused_since, refused_walks, stages_left, visits_moved, visits_none, visits_over, visits_still}
 use Rattle.compact_steps.proofs.walk.visit_keys.Goals as goal
 
@@ -31,8 +33,11 @@ returns-then-phase-eq-PHASES-clause-walks g c = record {
   over = sym c.phase.ensures.phase ∙ c.if-phase-eq-PHASES.true;
 }
 
-pub compact_one-requires : goal.compact_one-requires
-compact_one-requires g c = (
+pub overflow_sub-keys : goal.overflow_sub-keys
+overflow_sub-keys g c = let test = c.loop-done-test.true in omega arith
+
+pub pass_keys-passed-requires : goal.pass_keys-passed-requires
+pass_keys-passed-requires g c = (
   omega arith,
   (
     omega arith,
@@ -50,25 +55,81 @@ compact_one-requires g c = (
 )
 
 pub overflow_add-done : goal.overflow_add-done
-overflow_add-done g c = omega (arith, c.loop-done-test.true, c.ranges.keys.fits)
+overflow_add-done g c = let passed = c.pass_keys-passed.ensures.few in let test = c.loop-done-test.true in omega (arith, c.ranges.keys.fits)
+
+pub returns-then-done-keys-clause-sized : goal.returns-then-done-keys-clause-sized
+returns-then-done-keys-clause-sized g c = c.loop-done.invariant.sized
+
+pub returns-then-done-keys-clause-walks : goal.returns-then-done-keys-clause-walks
+returns-then-done-keys-clause-walks g c =
+    let ledger = g.S.Store.ledger in
+    let records = g.S.Frozen.records in
+    let start = c.args.store.now in
+    let was = c.pass_keys-passed.new.store in
+    let fields = c.args.fields.now in
+    let trees = trees_of fields c.args.roots.now in
+    let between = trees_of fields c.loop-done.roots in
+    let to = c.pass_keys-passed.new.plan in
+    let count = c.loop-done.done + c.pass_keys-passed.result in
+    let first_low : c.loop-done.plan.place.stage.phase < PHASES = (let is = c.phase.ensures.phase in let most = c.phase.ensures.most in let not_last = c.if-phase-eq-PHASES.false in omega arith) in
+    let visits : Visits g.row.OFFSET_BITS c.args.root (ledger start) (ledger was) (records start) (records was) fields trees between c.args.plan.now to count =
+    subst (λ s. Visits g.row.OFFSET_BITS c.args.root (ledger start) (ledger s) (records start) (records s) fields trees between c.args.plan.now to count) (sym c.pass_keys-passed.ensures.same)
+    (visits_passed g.row.OFFSET_BITS c.args.root fields (ledger start) (ledger c.loop-done.store) (records start) (records c.loop-done.store) trees between c.args.plan.now c.loop-done.plan to
+    c.loop-done.done c.pass_keys-passed.result c.loop-done.invariant.visits c.pass_keys-passed.ensures.under_way first_low c.pass_keys-passed.ensures.passes) in
+    (subst (λ (n : ℕ). Visits g.row.OFFSET_BITS c.args.root (ledger start) (ledger was) (records start) (records was) fields trees between c.args.plan.now to n) c.if-done-keys.true visits, refl)
+
+pub compact_one-requires : goal.compact_one-requires
+compact_one-requires g c =
+    let ledger = g.S.Store.ledger in
+    let records = g.S.Frozen.records in
+    let start = c.args.store.now in
+    let was = c.pass_keys-passed.new.store in
+    let fields = c.args.fields.now in
+    let trees = trees_of fields c.args.roots.now in
+    let between = trees_of fields c.loop-done.roots in
+    let to = c.pass_keys-passed.new.plan in
+    let count = c.loop-done.done + c.pass_keys-passed.result in
+    let first_low : c.loop-done.plan.place.stage.phase < PHASES = (let is = c.phase.ensures.phase in let most = c.phase.ensures.most in let not_last = c.if-phase-eq-PHASES.false in omega arith) in
+    let visits : Visits g.row.OFFSET_BITS c.args.root (ledger start) (ledger was) (records start) (records was) fields trees between c.args.plan.now to count =
+    subst (λ s. Visits g.row.OFFSET_BITS c.args.root (ledger start) (ledger s) (records start) (records s) fields trees between c.args.plan.now to count) (sym c.pass_keys-passed.ensures.same)
+    (visits_passed g.row.OFFSET_BITS c.args.root fields (ledger start) (ledger c.loop-done.store) (records start) (records c.loop-done.store) trees between c.args.plan.now c.loop-done.plan to
+    c.loop-done.done c.pass_keys-passed.result c.loop-done.invariant.visits c.pass_keys-passed.ensures.under_way first_low c.pass_keys-passed.ensures.passes) in
+    let low : to.place.stage.phase < PHASES = (let same_stage = ap (λ (t : Stage). t.phase) c.pass_keys-passed.ensures.passes.stage in omega arith) in
+    (omega arith, (omega arith, (c.loop-done.invariant.sized, (visits.holds, (visits.under_way, low)))))
+
+pub overflow_add-done-in-Ok-Moved : goal.overflow_add-done-in-Ok-Moved
+overflow_add-done-in-Ok-Moved g c =
+    let passed = c.pass_keys-passed.ensures.few in let test = c.loop-done-test.true in let not_all = c.if-done-keys.false in omega (arith, c.ranges.keys.fits)
 
 pub loop-done-smaller-in-Ok-Moved : goal.loop-done-smaller-in-Ok-Moved
 loop-done-smaller-in-Ok-Moved g c =
     let ledger = g.S.Store.ledger in
     let records = g.S.Frozen.records in
     let start = c.args.store.now in
-    let was = c.loop-done.store in
+    let was = c.pass_keys-passed.new.store in
     let now = c.compact_one.new.store in
     let fields = c.args.fields.now in
     let trees = trees_of fields c.args.roots.now in
     let between = trees_of fields c.loop-done.roots in
     let after = trees_of fields c.compact_one.new.roots in
-    let low : c.loop-done.plan.place.stage.phase < PHASES = (let is = c.phase.ensures.phase in let most = c.phase.ensures.most in let not_last = c.if-phase-eq-PHASES.false in omega arith) in
-    let within : c.loop-done.plan.place.stage.field < c.loop-done.plan.fields = (let is = c.field.ensures.field in let below = c.field.ensures.below in omega arith) in
-    let same : stages_left c.compact_one.new.plan ≡ stages_left c.loop-done.plan =
-    left_moved g.row.OFFSET_BITS c.args.root fields (ledger start) (ledger was) (ledger now) (records start) (records was) (records now) trees between after c.args.plan.now c.loop-done.plan c.compact_one.new.plan
-    c.loop-done.done c.loop-done.invariant.visits c.in-Ok-Moved.ensures.holds c.in-Ok-Moved.ensures.under_way c.in-Ok-Moved.ensures.table c.in-Ok-Moved.ensures.keys c.in-Ok-Moved.ensures.keeps (subst (λ t. GoesOn c.loop-done.plan c.compact_one.new.plan (next_at (records was) between c.loop-done.plan.place) t) c.in-Ok-Moved.field-0-is c.in-Ok-Moved.ensures.goes_on) in
-    let few = c.loop-done-test.true in
+    let to = c.pass_keys-passed.new.plan in
+    let count = c.loop-done.done + c.pass_keys-passed.result in
+    let first_low : c.loop-done.plan.place.stage.phase < PHASES = (let is = c.phase.ensures.phase in let most = c.phase.ensures.most in let not_last = c.if-phase-eq-PHASES.false in omega arith) in
+    let visits : Visits g.row.OFFSET_BITS c.args.root (ledger start) (ledger was) (records start) (records was) fields trees between c.args.plan.now to count =
+    subst (λ s. Visits g.row.OFFSET_BITS c.args.root (ledger start) (ledger s) (records start) (records s) fields trees between c.args.plan.now to count) (sym c.pass_keys-passed.ensures.same)
+    (visits_passed g.row.OFFSET_BITS c.args.root fields (ledger start) (ledger c.loop-done.store) (records start) (records c.loop-done.store) trees between c.args.plan.now c.loop-done.plan to
+    c.loop-done.done c.pass_keys-passed.result c.loop-done.invariant.visits c.pass_keys-passed.ensures.under_way first_low c.pass_keys-passed.ensures.passes) in
+    let low : to.place.stage.phase < PHASES = (let same_stage = ap (λ (t : Stage). t.phase) c.pass_keys-passed.ensures.passes.stage in omega arith) in
+    let within : to.place.stage.field < to.fields = (let is = c.field.ensures.field in let below = c.field.ensures.below in omega arith) in
+    let kept : stages_left to ≡ stages_left c.loop-done.plan =
+    left_passed g.row.OFFSET_BITS c.args.root fields (ledger start) (ledger c.loop-done.store) (records start) (records c.loop-done.store) trees between c.args.plan.now c.loop-done.plan to
+    c.loop-done.done c.pass_keys-passed.result c.loop-done.invariant.visits c.pass_keys-passed.ensures.under_way first_low c.pass_keys-passed.ensures.passes in
+    let passed = c.pass_keys-passed.ensures.few in
+    let test = c.loop-done-test.true in
+    let not_all = c.if-done-keys.false in
+    let same : stages_left c.compact_one.new.plan ≡ stages_left to =
+    left_moved g.row.OFFSET_BITS c.args.root fields (ledger start) (ledger was) (ledger now) (records start) (records was) (records now) trees between after c.args.plan.now to c.compact_one.new.plan
+    count visits c.in-Ok-Moved.ensures.holds c.in-Ok-Moved.ensures.under_way c.in-Ok-Moved.ensures.table c.in-Ok-Moved.ensures.keys c.in-Ok-Moved.ensures.keeps (subst (λ t. GoesOn to c.compact_one.new.plan (next_at (records was) between to.place) t) c.in-Ok-Moved.field-0-is c.in-Ok-Moved.ensures.goes_on) in
     omega arith
 
 pub loop-done-preserved-in-Ok-Moved : goal.loop-done-preserved-in-Ok-Moved
@@ -76,19 +137,29 @@ loop-done-preserved-in-Ok-Moved g c =
     let ledger = g.S.Store.ledger in
     let records = g.S.Frozen.records in
     let start = c.args.store.now in
-    let was = c.loop-done.store in
+    let was = c.pass_keys-passed.new.store in
     let now = c.compact_one.new.store in
     let fields = c.args.fields.now in
     let trees = trees_of fields c.args.roots.now in
     let between = trees_of fields c.loop-done.roots in
     let after = trees_of fields c.compact_one.new.roots in
-    let low : c.loop-done.plan.place.stage.phase < PHASES = (let is = c.phase.ensures.phase in let most = c.phase.ensures.most in let not_last = c.if-phase-eq-PHASES.false in omega arith) in
-    let within : c.loop-done.plan.place.stage.field < c.loop-done.plan.fields = (let is = c.field.ensures.field in let below = c.field.ensures.below in omega arith) in
+    let to = c.pass_keys-passed.new.plan in
+    let count = c.loop-done.done + c.pass_keys-passed.result in
+    let first_low : c.loop-done.plan.place.stage.phase < PHASES = (let is = c.phase.ensures.phase in let most = c.phase.ensures.most in let not_last = c.if-phase-eq-PHASES.false in omega arith) in
+    let visits : Visits g.row.OFFSET_BITS c.args.root (ledger start) (ledger was) (records start) (records was) fields trees between c.args.plan.now to count =
+    subst (λ s. Visits g.row.OFFSET_BITS c.args.root (ledger start) (ledger s) (records start) (records s) fields trees between c.args.plan.now to count) (sym c.pass_keys-passed.ensures.same)
+    (visits_passed g.row.OFFSET_BITS c.args.root fields (ledger start) (ledger c.loop-done.store) (records start) (records c.loop-done.store) trees between c.args.plan.now c.loop-done.plan to
+    c.loop-done.done c.pass_keys-passed.result c.loop-done.invariant.visits c.pass_keys-passed.ensures.under_way first_low c.pass_keys-passed.ensures.passes) in
+    let low : to.place.stage.phase < PHASES = (let same_stage = ap (λ (t : Stage). t.phase) c.pass_keys-passed.ensures.passes.stage in omega arith) in
+    let within : to.place.stage.field < to.fields = (let is = c.field.ensures.field in let below = c.field.ensures.below in omega arith) in
+    let passed = c.pass_keys-passed.ensures.few in
+    let test = c.loop-done-test.true in
+    let not_all = c.if-done-keys.false in
     record {
       sized = c.in-Ok-Moved.ensures.sized;
-      few = (let few = c.loop-done-test.true in omega arith);
-      visits = visits_moved g.row.OFFSET_BITS c.args.root fields (ledger start) (ledger was) (ledger now) (records start) (records was) (records now) trees between after c.args.plan.now c.loop-done.plan c.compact_one.new.plan
-          c.loop-done.done c.loop-done.invariant.visits c.in-Ok-Moved.ensures.holds c.in-Ok-Moved.ensures.under_way c.in-Ok-Moved.ensures.table c.in-Ok-Moved.ensures.keys c.in-Ok-Moved.ensures.keeps low within (subst (λ t. GoesOn c.loop-done.plan c.compact_one.new.plan (next_at (records was) between c.loop-done.plan.place) t) c.in-Ok-Moved.field-0-is c.in-Ok-Moved.ensures.goes_on);
+      few = omega arith;
+      visits = visits_moved g.row.OFFSET_BITS c.args.root fields (ledger start) (ledger was) (ledger now) (records start) (records was) (records now) trees between after c.args.plan.now to c.compact_one.new.plan
+          count visits c.in-Ok-Moved.ensures.holds c.in-Ok-Moved.ensures.under_way c.in-Ok-Moved.ensures.table c.in-Ok-Moved.ensures.keys c.in-Ok-Moved.ensures.keeps low within (subst (λ t. GoesOn to c.compact_one.new.plan (next_at (records was) between to.place) t) c.in-Ok-Moved.field-0-is c.in-Ok-Moved.ensures.goes_on);
       first = λ none. absurd (omega arith);
     }
 
@@ -97,17 +168,30 @@ loop-done-smaller g c =
     let ledger = g.S.Store.ledger in
     let records = g.S.Frozen.records in
     let start = c.args.store.now in
-    let was = c.loop-done.store in
+    let was = c.pass_keys-passed.new.store in
     let now = c.compact_one.new.store in
     let fields = c.args.fields.now in
     let trees = trees_of fields c.args.roots.now in
     let between = trees_of fields c.loop-done.roots in
     let after = trees_of fields c.compact_one.new.roots in
-    let low : c.loop-done.plan.place.stage.phase < PHASES = (let is = c.phase.ensures.phase in let most = c.phase.ensures.most in let not_last = c.if-phase-eq-PHASES.false in omega arith) in
-    let within : c.loop-done.plan.place.stage.field < c.loop-done.plan.fields = (let is = c.field.ensures.field in let below = c.field.ensures.below in omega arith) in
-    let less : stages_left c.compact_one.new.plan < stages_left c.loop-done.plan =
-    (visits_over g.row.OFFSET_BITS c.args.root fields (ledger start) (ledger was) (ledger now) (records start) (records was) (records now) trees between after c.args.plan.now c.loop-done.plan c.compact_one.new.plan
-    c.loop-done.done c.loop-done.invariant.visits c.in-Ok-PhaseOver.ensures.holds c.in-Ok-PhaseOver.ensures.under_way c.in-Ok-PhaseOver.ensures.table c.in-Ok-PhaseOver.ensures.keys c.in-Ok-PhaseOver.ensures.keeps low within (subst (λ t. GoesOn c.loop-done.plan c.compact_one.new.plan (next_at (records was) between c.loop-done.plan.place) t) c.in-Ok-PhaseOver.field-0-is c.in-Ok-PhaseOver.ensures.goes_on)).1 in
+    let to = c.pass_keys-passed.new.plan in
+    let count = c.loop-done.done + c.pass_keys-passed.result in
+    let first_low : c.loop-done.plan.place.stage.phase < PHASES = (let is = c.phase.ensures.phase in let most = c.phase.ensures.most in let not_last = c.if-phase-eq-PHASES.false in omega arith) in
+    let visits : Visits g.row.OFFSET_BITS c.args.root (ledger start) (ledger was) (records start) (records was) fields trees between c.args.plan.now to count =
+    subst (λ s. Visits g.row.OFFSET_BITS c.args.root (ledger start) (ledger s) (records start) (records s) fields trees between c.args.plan.now to count) (sym c.pass_keys-passed.ensures.same)
+    (visits_passed g.row.OFFSET_BITS c.args.root fields (ledger start) (ledger c.loop-done.store) (records start) (records c.loop-done.store) trees between c.args.plan.now c.loop-done.plan to
+    c.loop-done.done c.pass_keys-passed.result c.loop-done.invariant.visits c.pass_keys-passed.ensures.under_way first_low c.pass_keys-passed.ensures.passes) in
+    let low : to.place.stage.phase < PHASES = (let same_stage = ap (λ (t : Stage). t.phase) c.pass_keys-passed.ensures.passes.stage in omega arith) in
+    let within : to.place.stage.field < to.fields = (let is = c.field.ensures.field in let below = c.field.ensures.below in omega arith) in
+    let kept : stages_left to ≡ stages_left c.loop-done.plan =
+    left_passed g.row.OFFSET_BITS c.args.root fields (ledger start) (ledger c.loop-done.store) (records start) (records c.loop-done.store) trees between c.args.plan.now c.loop-done.plan to
+    c.loop-done.done c.pass_keys-passed.result c.loop-done.invariant.visits c.pass_keys-passed.ensures.under_way first_low c.pass_keys-passed.ensures.passes in
+    let passed = c.pass_keys-passed.ensures.few in
+    let test = c.loop-done-test.true in
+    let not_all = c.if-done-keys.false in
+    let less : stages_left c.compact_one.new.plan < stages_left to =
+    (visits_over g.row.OFFSET_BITS c.args.root fields (ledger start) (ledger was) (ledger now) (records start) (records was) (records now) trees between after c.args.plan.now to c.compact_one.new.plan
+    count visits c.in-Ok-PhaseOver.ensures.holds c.in-Ok-PhaseOver.ensures.under_way c.in-Ok-PhaseOver.ensures.table c.in-Ok-PhaseOver.ensures.keys c.in-Ok-PhaseOver.ensures.keeps low within (subst (λ t. GoesOn to c.compact_one.new.plan (next_at (records was) between to.place) t) c.in-Ok-PhaseOver.field-0-is c.in-Ok-PhaseOver.ensures.goes_on)).1 in
     omega arith
 
 pub loop-done-preserved : goal.loop-done-preserved
@@ -115,21 +199,31 @@ loop-done-preserved g c =
     let ledger = g.S.Store.ledger in
     let records = g.S.Frozen.records in
     let start = c.args.store.now in
-    let was = c.loop-done.store in
+    let was = c.pass_keys-passed.new.store in
     let now = c.compact_one.new.store in
     let fields = c.args.fields.now in
     let trees = trees_of fields c.args.roots.now in
     let between = trees_of fields c.loop-done.roots in
     let after = trees_of fields c.compact_one.new.roots in
-    let low : c.loop-done.plan.place.stage.phase < PHASES = (let is = c.phase.ensures.phase in let most = c.phase.ensures.most in let not_last = c.if-phase-eq-PHASES.false in omega arith) in
-    let within : c.loop-done.plan.place.stage.field < c.loop-done.plan.fields = (let is = c.field.ensures.field in let below = c.field.ensures.below in omega arith) in
+    let to = c.pass_keys-passed.new.plan in
+    let count = c.loop-done.done + c.pass_keys-passed.result in
+    let first_low : c.loop-done.plan.place.stage.phase < PHASES = (let is = c.phase.ensures.phase in let most = c.phase.ensures.most in let not_last = c.if-phase-eq-PHASES.false in omega arith) in
+    let visits : Visits g.row.OFFSET_BITS c.args.root (ledger start) (ledger was) (records start) (records was) fields trees between c.args.plan.now to count =
+    subst (λ s. Visits g.row.OFFSET_BITS c.args.root (ledger start) (ledger s) (records start) (records s) fields trees between c.args.plan.now to count) (sym c.pass_keys-passed.ensures.same)
+    (visits_passed g.row.OFFSET_BITS c.args.root fields (ledger start) (ledger c.loop-done.store) (records start) (records c.loop-done.store) trees between c.args.plan.now c.loop-done.plan to
+    c.loop-done.done c.pass_keys-passed.result c.loop-done.invariant.visits c.pass_keys-passed.ensures.under_way first_low c.pass_keys-passed.ensures.passes) in
+    let low : to.place.stage.phase < PHASES = (let same_stage = ap (λ (t : Stage). t.phase) c.pass_keys-passed.ensures.passes.stage in omega arith) in
+    let within : to.place.stage.field < to.fields = (let is = c.field.ensures.field in let below = c.field.ensures.below in omega arith) in
+    let passed = c.pass_keys-passed.ensures.few in
+    let test = c.loop-done-test.true in
+    let not_all = c.if-done-keys.false in
     let over = subst (λ t. LeavesAtEnd (now ≡ was) (c.compact_one.new.roots ≡ c.loop-done.roots) t) c.in-Ok-PhaseOver.field-0-is c.in-Ok-PhaseOver.ensures.over in
     record {
       sized = c.in-Ok-PhaseOver.ensures.sized;
-      few = c.loop-done.invariant.few;
-      visits = (visits_over g.row.OFFSET_BITS c.args.root fields (ledger start) (ledger was) (ledger now) (records start) (records was) (records now) trees between after c.args.plan.now c.loop-done.plan c.compact_one.new.plan
-          c.loop-done.done c.loop-done.invariant.visits c.in-Ok-PhaseOver.ensures.holds c.in-Ok-PhaseOver.ensures.under_way c.in-Ok-PhaseOver.ensures.table c.in-Ok-PhaseOver.ensures.keys c.in-Ok-PhaseOver.ensures.keeps low within (subst (λ t. GoesOn c.loop-done.plan c.compact_one.new.plan (next_at (records was) between c.loop-done.plan.place) t) c.in-Ok-PhaseOver.field-0-is c.in-Ok-PhaseOver.ensures.goes_on)).0;
-      first = λ none. let is = c.loop-done.invariant.first none in (over.0 ∙ is.0, over.1 ∙ is.1);
+      few = omega arith;
+      visits = (visits_over g.row.OFFSET_BITS c.args.root fields (ledger start) (ledger was) (ledger now) (records start) (records was) (records now) trees between after c.args.plan.now to c.compact_one.new.plan
+          count visits c.in-Ok-PhaseOver.ensures.holds c.in-Ok-PhaseOver.ensures.under_way c.in-Ok-PhaseOver.ensures.table c.in-Ok-PhaseOver.ensures.keys c.in-Ok-PhaseOver.ensures.keeps low within (subst (λ t. GoesOn to c.compact_one.new.plan (next_at (records was) between to.place) t) c.in-Ok-PhaseOver.field-0-is c.in-Ok-PhaseOver.ensures.goes_on)).0;
+      first = λ none. let is = c.loop-done.invariant.first (omega arith) in (over.0 ∙ c.pass_keys-passed.ensures.same ∙ is.0, over.1 ∙ is.1);
     }
 
 pub returns-in-Err-clause-sized : goal.returns-in-Err-clause-sized
@@ -140,20 +234,30 @@ returns-in-Err-clause-walks g c =
     let ledger = g.S.Store.ledger in
     let records = g.S.Frozen.records in
     let start = c.args.store.now in
-    let was = c.loop-done.store in
+    let was = c.pass_keys-passed.new.store in
     let now = c.compact_one.new.store in
     let fields = c.args.fields.now in
     let trees = trees_of fields c.args.roots.now in
     let between = trees_of fields c.loop-done.roots in
     let after = trees_of fields c.compact_one.new.roots in
-    let visits = visits_still g.row.OFFSET_BITS c.args.root fields (ledger start) (ledger was) (ledger now) (records start) (records was) (records now) trees between after c.args.plan.now c.loop-done.plan c.compact_one.new.plan
-    c.loop-done.done c.loop-done.invariant.visits c.in-Err.ensures.holds c.in-Err.ensures.under_way c.in-Err.ensures.table c.in-Err.ensures.keys c.in-Err.ensures.keeps c.in-Err.ensures.plan in
+    let to = c.pass_keys-passed.new.plan in
+    let count = c.loop-done.done + c.pass_keys-passed.result in
+    let first_low : c.loop-done.plan.place.stage.phase < PHASES = (let is = c.phase.ensures.phase in let most = c.phase.ensures.most in let not_last = c.if-phase-eq-PHASES.false in omega arith) in
+    let visits : Visits g.row.OFFSET_BITS c.args.root (ledger start) (ledger was) (records start) (records was) fields trees between c.args.plan.now to count =
+    subst (λ s. Visits g.row.OFFSET_BITS c.args.root (ledger start) (ledger s) (records start) (records s) fields trees between c.args.plan.now to count) (sym c.pass_keys-passed.ensures.same)
+    (visits_passed g.row.OFFSET_BITS c.args.root fields (ledger start) (ledger c.loop-done.store) (records start) (records c.loop-done.store) trees between c.args.plan.now c.loop-done.plan to
+    c.loop-done.done c.pass_keys-passed.result c.loop-done.invariant.visits c.pass_keys-passed.ensures.under_way first_low c.pass_keys-passed.ensures.passes) in
+    let passed = c.pass_keys-passed.ensures.few in
+    let test = c.loop-done-test.true in
+    let not_all = c.if-done-keys.false in
+    let still = visits_still g.row.OFFSET_BITS c.args.root fields (ledger start) (ledger was) (ledger now) (records start) (records was) (records now) trees between after c.args.plan.now to c.compact_one.new.plan
+    count visits c.in-Err.ensures.holds c.in-Err.ensures.under_way c.in-Err.ensures.table c.in-Err.ensures.keys c.in-Err.ensures.keeps c.in-Err.ensures.plan in
     subst (λ r. Walks g.row.OFFSET_BITS c.args.root (ledger start) (ledger now) (records start) (records now) fields trees after c.args.plan.now c.compact_one.new.plan c.args.keys r) (sym c.refused.ensures)
-    (refused_walks g.row.OFFSET_BITS c.args.root (ledger start) (ledger now) (records start) (records now) fields trees after c.args.plan.now c.compact_one.new.plan c.args.keys c.loop-done.done c.in-Err.error
-    c.loop-done-test.true visits
-    (λ none. let is = c.loop-done.invariant.first none in
-    (subst (λ s. LeavesEntries (ledger s) (ledger now) (records s) (records now)) is.0 c.in-Err.ensures.left, ap (trees_of fields) (c.in-Err.ensures.roots ∙ is.1)))
-    (record { why = refused_since (ledger start) (ledger was) (ledger now) c.in-Err.error c.loop-done.invariant.visits.keeps.stops c.in-Err.ensures.refused; spare = c.in-Err.ensures.spares; active = c.in-Err.ensures.active }))
+    (refused_walks g.row.OFFSET_BITS c.args.root (ledger start) (ledger now) (records start) (records now) fields trees after c.args.plan.now c.compact_one.new.plan c.args.keys count c.in-Err.error
+    (omega arith) still
+    (λ none. let is = c.loop-done.invariant.first (omega arith) in
+    (subst (λ s. LeavesEntries (ledger s) (ledger now) (records s) (records now)) (c.pass_keys-passed.ensures.same ∙ is.0) c.in-Err.ensures.left, ap (trees_of fields) (c.in-Err.ensures.roots ∙ is.1)))
+    (record { why = refused_since (ledger start) (ledger was) (ledger now) c.in-Err.error visits.keeps.stops c.in-Err.ensures.refused; spare = c.in-Err.ensures.spares; active = c.in-Err.ensures.active }))
 
 pub returns-clause-sized : goal.returns-clause-sized
 returns-clause-sized g c = c.loop-done.invariant.sized

@@ -1,0 +1,39 @@
+-- Keys of a phase that are passed at once.
+use Rattle.std.specs.Prelude.{◌≡◌, ℕ, ◌<◌, List, [], ◌∷◌, length, Some}
+use Rattle.image_base.specs.Records.{Records}
+use Rattle.attr_cleared.specs.Cleared.{IsClearedField}
+use Rattle.attr_cleared.specs.Visits.{place_at_key}
+use Rattle.attr_compaction.specs.Places.{PlanPlace}
+use Rattle.attr_compaction.specs.declared.plan.PlanKey.{PlanKey}
+use Rattle.attr_documents.specs.Documents.{IsDocuments}
+use Rattle.attr_field.specs.declared.roots.FieldRoots.{FieldRoots}
+use Rattle.attr_images.specs.Tables.{AttributeTrees}
+use Rattle.attr_types.specs.declared.field.Field.{Field}
+use Rattle.plan_keys.specs.PhaseKeys.{key_past, phase_keys, HasType}
+use Rattle.value_index.specs.Indexes.{IsIndex}
+
+-- the trees of an attribute, from its field and its roots
+abbrev pub trees_of : {bits : ℕ} → Field → FieldRoots bits → AttributeTrees
+trees_of field roots = record { kind = field.kind; type = field.value; documents = roots.documents; dictionary = roots.dictionary }
+
+-- each of these keys is the next one past the one before it, and the last is this one; where there are none it is the first
+abbrev pub GoesThrough : List PlanKey → PlanKey → List PlanKey → PlanKey → Type 0
+GoesThrough keys from [] to = to ≡ from
+GoesThrough keys from (key ∷ passed) to = (key_past from keys ≡ Some key) × GoesThrough keys key passed to
+
+-- up to this key are so many keys of the place's phase, and all is cleared up to it
+pub record Passes (bits victim : ℕ) (at : PlanPlace) (m : Records) (a : AttributeTrees) (key : PlanKey) (count : ℕ) : Type 0 where
+  pub some : 0 < count
+  pub passed : List PlanKey
+  pub count_is : length passed ≡ count
+  pub through : GoesThrough (phase_keys a.type m a.documents a.dictionary at.stage.phase) at.key passed key
+  pub cleared : IsClearedField bits victim (place_at_key at key) at.stage.field m a
+
+-- an attribute that is cleared up to a place with this key of its phase
+pub record CanPass (bits victim : ℕ) (at : PlanPlace) (m : Records) (a : AttributeTrees) (phase : ℕ) (key : PlanKey) : Type 0 where
+  pub phase_is : at.stage.phase ≡ phase
+  pub key_is : at.key ≡ key
+  pub documents_are : IsDocuments a.kind a.type m a.documents
+  pub index_is : IsIndex a.type m a.dictionary
+  pub typed : HasType a.type key
+  pub cleared : IsClearedField bits victim at at.stage.field m a
