@@ -1,5 +1,5 @@
 -- The rest of a leaf, and the way to it.
-use Rattle.std.proofs.Common.{◌≡◌, ◌≢◌, ℕ, zero, suc, ◌+◌, ◌-◌, ◌<◌, ◌≤◌, Bool, true, false, List, [], ◌∷◌, ◌++◌, map, length, take, drop, get_or, Less, Equal, inl, inr, refl, sym, ap, subst, ◌∙◌, arith, true≢false}
+use Rattle.std.proofs.Common.{◌≡◌, ◌≢◌, ℕ, zero, suc, ◌+◌, ◌<◌, ◌≤◌, Bool, true, false, List, [], ◌∷◌, ◌++◌, length, take, drop, get_or, Equal, inl, inr, refl, sym, ap, subst, ◌∙◌, arith, true≢false}
 use Rattle.std.specs.Cmp.{IsTotalOrder}
 use Rattle.std.specs.declared.cmp.Ordering.{Ordering}
 use Rattle.std.specs.List.{flat_map, AllByRecursion}
@@ -11,11 +11,10 @@ use Rattle.tree_images.specs.Nodes.{used_of, node_keys, node_values}
 use Rattle.tree_images.specs.Trees.{last_key, pairs_below, tree_pairs, IsNode, IsRootNode}
 use Rattle.tree_node.proofs.ChildLemmas.{child-seek, get_or-node_keys, get_or-node_values, leaf-from, leaf-seek, leaf-size, values-size}
 use Rattle.tree_node.specs.Places.{IsSlot}
-use Rattle.tree_search.proofs.PlaceLemmas.{leads-length, leads-node, leads-root, root_pairs}
 use Rattle.tree_search.proofs.SeekLemmas.{first-words, IsFirstSlot}
 use Rattle.tree_search.specs.Places.{first_key}
 use Rattle.tree_touch.proofs.PathLemmas.{path-leaf, path-over, path_nodes-is}
-use Rattle.tree_touch.specs.Paths.{path_below, path_nodes, NoneIn}
+use Rattle.tree_touch.specs.Paths.{path_below, NoneIn}
 use Rattle.tree_ways.proofs.WayLemmas.{flat_up, way_goes}
 use Rattle.attr_cleared.proofs.IndexPairs.{InPairs, at_pair, each_pair, pair_key}
 use Rattle.clear_keys.specs.Sights.{IsRun}

@@ -2,14 +2,13 @@ use Rattle.std.proofs.Common.{◌≡◌, ◌<◌, ◌≤◌, ◌-◌, ℕ, Bool,
 use Rattle.tree_images.specs.Trees.{tree_pairs}
 use Rattle.attr_compaction.specs.declared.plan.PlanKey.TheVariants.{Value}
 use Rattle.attr_images.specs.Values.{stored_value, IsValueRecord}
-use Rattle.attr_types.specs.ProofsForOrder.{value_cmp_total}
-use Rattle.attr_types.specs.Value.{type_of, value_cmp}
+use Rattle.attr_types.specs.Value.{value_cmp}
 use Rattle.attr_types.specs.declared.kind.ValueType.{ValueType}
 use Rattle.enum_dictionary.specs.Dictionaries.{behind, beside_value, IsDictionary}
 use Rattle.plan_keys.proofs.NextLemmas.{all_behind}
 use Rattle.clear_keys.specs.Passes.{trees_of, Passes}
 use Rattle.clear_keys.specs.Sights.{IsRun}
-use Rattle.clear_keys.specs.Ways.{IsWay, IsWayApart}
+use Rattle.clear_keys.specs.Ways.{IsWayApart}
 use Rattle.clear_keys.proofs.NodeKeys.{value_nodes_pass, value_way_behind}
 use Rattle.clear_keys.proofs.RunLemmas.{last_has}
 use Rattle.clear_keys.proofs.nodes.pass_value_nodes.Goals as goal

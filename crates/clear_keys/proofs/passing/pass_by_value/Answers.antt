@@ -1,4 +1,4 @@
-use Rattle.std.proofs.Common.{◌≡◌, refl, sym, ◌∙◌, arith}
+use Rattle.std.proofs.Common.{refl, sym, ◌∙◌, arith}
 use Rattle.clear_keys.proofs.PassLemmas.{at_phase}
 use Rattle.clear_keys.proofs.passing.pass_by_value.Goals as goal
 

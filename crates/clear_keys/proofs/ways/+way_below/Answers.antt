@@ -1,4 +1,4 @@
-use Rattle.std.proofs.Common.{rules, ◌≡◌, ◌≢◌, ℕ, ◌+◌, ◌-◌, ◌<◌, ◌≤◌, ◌^◌, suc, true, false, Bool, List, get_or, min, refl, sym, ap, subst, ◌∙◌, arith}
+use Rattle.std.proofs.Common.{rules, ◌≡◌, ◌≢◌, ℕ, ◌+◌, ◌-◌, ◌<◌, ◌≤◌, ◌^◌, suc, Bool, List, get_or, min, refl, sym, ap, subst, ◌∙◌, arith}
 use Rattle.std.specs.declared.cmp.Ordering.TheVariants.{Equal, Greater}
 use Rattle.std.specs.declared.cmp.Ordering.{Ordering}
 use Rattle.entry_ref.specs.References.{buffer_of}
@@ -6,8 +6,8 @@ use Rattle.image_base.specs.Records.{word_at}
 use Rattle.tree_images.specs.Nodes.{level_of, used_of, node_keys}
 use Rattle.tree_images.specs.Trees.{pairs_below, IsNode}
 use Rattle.key_order.specs.Keys.{Ascends, AllReadable, seen_by}
-use Rattle.tree_node.specs.Places.{IsFound, IsLacking, IsSlot}
-use Rattle.tree_node.proofs.ChildLemmas.{IsNode-lower, child-node, child-all, child-ascends, get_or-node_keys, keys-length}
+use Rattle.tree_node.specs.Places.{IsSlot}
+use Rattle.tree_node.proofs.ChildLemmas.{IsNode-lower, child-node, child-all, child-ascends, keys-length}
 use Rattle.tree_node.proofs.ReadLemmas.{node-level, node-room, node-size}
 use Rattle.clear_keys.specs.Ways.{IsWay, IsWayBelow}
 use Rattle.clear_keys.proofs.WayLemmas.{way_leaf, way_none, way_over}

@@ -1,4 +1,4 @@
-use Rattle.std.proofs.Common.{◌≡◌, ◌<◌, ◌≤◌, ◌+◌, ℕ, Bool, [], length, sym, ap, subst, ◌∙◌, arith}
+use Rattle.std.proofs.Common.{◌≡◌, ◌<◌, ◌≤◌, ℕ, Bool, [], sym, ap, subst, ◌∙◌, arith}
 use Rattle.tree_images.specs.Nodes.{level_of}
 use Rattle.tree_images.specs.Trees.{pairs_below, tree_pairs, IsNode}
 use Rattle.key_order.specs.Keys.{Ascends, AllReadable, seen_by}
