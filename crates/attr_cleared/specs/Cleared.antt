@@ -10,11 +10,17 @@ use Rattle.attr_compaction.specs.Places.{place_cmp, PlanPlace}
 use Rattle.attr_compaction.specs.declared.plan.PlanKey.{PlanKey}
 use Rattle.attr_compaction.specs.declared.plan.PlanKey.TheVariants as plan
 use Rattle.attr_compaction.specs.declared.plan.TheConstants.{DOCUMENTS, KEYS, LISTS, NODES}
+use Rattle.attr_field.specs.declared.roots.FieldRoots.{FieldRoots}
 use Rattle.attr_images.specs.Postings.{ListForm, short, tree, vector, list_form}
 use Rattle.attr_images.specs.Tables.{AttributeTrees}
 use Rattle.attr_images.specs.Values.{stored_value}
+use Rattle.attr_types.specs.declared.field.Field.{Field}
 use Rattle.attr_types.specs.declared.value.Value.{Value}
 use Rattle.document_moves.specs.Moves.{AreItemsApart}
+
+-- the trees of an attribute, from its field and its roots
+abbrev pub trees_of_roots : {bits : ℕ} → Field → FieldRoots bits → AttributeTrees
+trees_of_roots field roots = record { kind = field.kind; type = field.value; documents = roots.documents; dictionary = roots.dictionary }
 
 -- a key of a phase of the attribute of this number was visited: it is not past the place
 abbrev pub IsVisited : PlanPlace → ℕ → ℕ → PlanKey → Type 0

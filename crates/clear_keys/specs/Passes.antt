@@ -6,15 +6,9 @@ use Rattle.attr_cleared.specs.Visits.{place_at_key}
 use Rattle.attr_compaction.specs.Places.{PlanPlace}
 use Rattle.attr_compaction.specs.declared.plan.PlanKey.{PlanKey}
 use Rattle.attr_documents.specs.Documents.{IsDocuments}
-use Rattle.attr_field.specs.declared.roots.FieldRoots.{FieldRoots}
 use Rattle.attr_images.specs.Tables.{AttributeTrees}
-use Rattle.attr_types.specs.declared.field.Field.{Field}
 use Rattle.plan_keys.specs.PhaseKeys.{key_past, phase_keys, HasType}
 use Rattle.value_index.specs.Indexes.{IsIndex}
-
--- the trees of an attribute, from its field and its roots
-abbrev pub trees_of : {bits : ℕ} → Field → FieldRoots bits → AttributeTrees
-trees_of field roots = record { kind = field.kind; type = field.value; documents = roots.documents; dictionary = roots.dictionary }
 
 -- each of these keys is the next one past the one before it, and the last is this one; where there are none it is the first
 abbrev pub GoesThrough : List PlanKey → PlanKey → List PlanKey → PlanKey → Type 0

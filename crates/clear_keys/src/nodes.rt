@@ -1,12 +1,13 @@
 //! Keys of the last phase that are passed: no node on the ways to them lies in the victim.
 ghost use Rattle.std.specs.Prelude.{◌≡◌, ◌<◌, ◌≤◌, ◌-◌, true, IfSome, if◌then◌else◌};
 ghost use Rattle.tree_images.specs.Trees.{tree_pairs};
+ghost use Rattle.attr_cleared.specs.Cleared.{trees_of_roots};
 ghost use Rattle.attr_compaction.specs.declared.plan.TheConstants.{NODES};
 ghost use Rattle.attr_compaction.specs.declared.plan.PlanKey.TheVariants as keys;
 ghost use Rattle.attr_images.specs.Values.{stored_value};
 ghost use Rattle.attr_types.specs.Value.{type_of, value_cmp};
 ghost use Rattle.enum_dictionary.specs.Dictionaries.{beside_value, IsDictionary};
-ghost use Rattle.clear_keys.specs.Passes.{trees_of, CanPass, Passes};
+ghost use Rattle.clear_keys.specs.Passes.{CanPass, Passes};
 ghost use Rattle.clear_keys.specs.Ways.{IsWay, IsWayApart};
 
 use crate::passing::{Passed, value_at};
@@ -60,8 +61,8 @@ pub fn pass_value_nodes<const OFFSET_BITS: u32, F: Frozen<OFFSET_BITS>>(
     value: &Value,
     most: u32,
 ) -> Option<Passed>
-    requires { CanPass OFFSET_BITS plan.now.victim plan.now.place (F.records frozen.old) (trees_of field.now roots) NODES (keys.Value value.now) }
-    ensures passes { IfSome result (λ p. Passes OFFSET_BITS plan.now.victim plan.now.place (F.records frozen.old) (trees_of field.now roots.entry)
+    requires { CanPass OFFSET_BITS plan.now.victim plan.now.place (F.records frozen.old) (trees_of_roots field.now roots) NODES (keys.Value value.now) }
+    ensures passes { IfSome result (λ p. Passes OFFSET_BITS plan.now.victim plan.now.place (F.records frozen.old) (trees_of_roots field.now roots.entry)
         p.last p.keys) }
     ensures few { IfSome result (λ p. p.keys ≤ most) }
     ensures same { frozen.new ≡ frozen.old }
@@ -93,8 +94,8 @@ pub fn pass_map_nodes<const OFFSET_BITS: u32, F: Frozen<OFFSET_BITS>>(
     doc: u32,
     most: u32,
 ) -> Option<Passed>
-    requires { CanPass OFFSET_BITS plan.now.victim plan.now.place (F.records frozen.old) (trees_of field.now roots) NODES (keys.Doc doc) }
-    ensures passes { IfSome result (λ p. Passes OFFSET_BITS plan.now.victim plan.now.place (F.records frozen.old) (trees_of field.now roots.entry)
+    requires { CanPass OFFSET_BITS plan.now.victim plan.now.place (F.records frozen.old) (trees_of_roots field.now roots) NODES (keys.Doc doc) }
+    ensures passes { IfSome result (λ p. Passes OFFSET_BITS plan.now.victim plan.now.place (F.records frozen.old) (trees_of_roots field.now roots.entry)
         p.last p.keys) }
     ensures few { IfSome result (λ p. p.keys ≤ most) }
     ensures same { frozen.new ≡ frozen.old }

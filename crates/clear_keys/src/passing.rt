@@ -2,7 +2,7 @@
 ghost use Rattle.std.specs.Prelude.{◌≡◌, ◌<◌, ◌≤◌, ◌%◌, ℕ, false, Some, IfSome};
 ghost use Rattle.tree_images.specs.Trees.{tree_pairs};
 ghost use Rattle.key_order.specs.Pairs.{lookup_pair};
-ghost use Rattle.attr_cleared.specs.Cleared.{IsClearedField};
+ghost use Rattle.attr_cleared.specs.Cleared.{trees_of_roots, IsClearedField};
 ghost use Rattle.attr_compaction.specs.declared.plan.TheConstants.{DOCUMENTS, KEYS, LISTS};
 ghost use Rattle.attr_compaction.specs.declared.plan.PlanKey.TheVariants as keys;
 ghost use Rattle.attr_field.specs.Fields.{IsField};
@@ -10,7 +10,7 @@ ghost use Rattle.attr_images.specs.Values.{stored_value, IsValueRecord};
 ghost use Rattle.attr_types.specs.Value.{type_of};
 ghost use Rattle.enum_dictionary.specs.Dictionaries.{beside_value, IsDictionary};
 ghost use Rattle.plan_keys.specs.PhaseKeys.{HasType};
-ghost use Rattle.clear_keys.specs.Passes.{trees_of, CanPass, Passes};
+ghost use Rattle.clear_keys.specs.Passes.{CanPass, Passes};
 
 use crate::nodes::{pass_map_nodes, pass_value_nodes};
 use crate::runs::run_from;
@@ -61,8 +61,8 @@ fn pass_values<const OFFSET_BITS: u32, F: Frozen<OFFSET_BITS>>(
     value: &Value,
     most: u32,
 ) -> Option<Passed>
-    requires { CanPass OFFSET_BITS plan.now.victim plan.now.place (F.records frozen.old) (trees_of field.now roots) KEYS (keys.Value value.now) }
-    ensures passes { IfSome result (λ p. Passes OFFSET_BITS plan.now.victim plan.now.place (F.records frozen.old) (trees_of field.now roots.entry)
+    requires { CanPass OFFSET_BITS plan.now.victim plan.now.place (F.records frozen.old) (trees_of_roots field.now roots) KEYS (keys.Value value.now) }
+    ensures passes { IfSome result (λ p. Passes OFFSET_BITS plan.now.victim plan.now.place (F.records frozen.old) (trees_of_roots field.now roots.entry)
         p.last p.keys) }
     ensures few { IfSome result (λ p. p.keys ≤ most) }
     ensures same { frozen.new ≡ frozen.old }
@@ -99,8 +99,8 @@ fn pass_documents<const OFFSET_BITS: u32, F: Frozen<OFFSET_BITS>>(
     doc: u32,
     most: u32,
 ) -> Option<Passed>
-    requires { CanPass OFFSET_BITS plan.now.victim plan.now.place (F.records frozen.old) (trees_of field.now roots) DOCUMENTS (keys.Doc doc) }
-    ensures passes { IfSome result (λ p. Passes OFFSET_BITS plan.now.victim plan.now.place (F.records frozen.old) (trees_of field.now roots.entry)
+    requires { CanPass OFFSET_BITS plan.now.victim plan.now.place (F.records frozen.old) (trees_of_roots field.now roots) DOCUMENTS (keys.Doc doc) }
+    ensures passes { IfSome result (λ p. Passes OFFSET_BITS plan.now.victim plan.now.place (F.records frozen.old) (trees_of_roots field.now roots.entry)
         p.last p.keys) }
     ensures few { IfSome result (λ p. p.keys ≤ most) }
     ensures same { frozen.new ≡ frozen.old }
@@ -153,9 +153,9 @@ fn pass_lists<const OFFSET_BITS: u32, F: Frozen<OFFSET_BITS>>(
     doc: u32,
     most: u32,
 ) -> Option<Passed>
-    requires { CanPass OFFSET_BITS plan.now.victim plan.now.place (F.records frozen.old) (trees_of field.now roots) LISTS
+    requires { CanPass OFFSET_BITS plan.now.victim plan.now.place (F.records frozen.old) (trees_of_roots field.now roots) LISTS
         (keys.Pair value.now doc) }
-    ensures passes { IfSome result (λ p. Passes OFFSET_BITS plan.now.victim plan.now.place (F.records frozen.old) (trees_of field.now roots.entry)
+    ensures passes { IfSome result (λ p. Passes OFFSET_BITS plan.now.victim plan.now.place (F.records frozen.old) (trees_of_roots field.now roots.entry)
         p.last p.keys) }
     ensures few { IfSome result (λ p. p.keys ≤ most) }
     ensures same { frozen.new ≡ frozen.old }
@@ -197,9 +197,9 @@ fn pass_by_value<const OFFSET_BITS: u32, F: Frozen<OFFSET_BITS>>(
     value: &Value,
     most: u32,
 ) -> Option<Passed>
-    requires { CanPass OFFSET_BITS plan.now.victim plan.now.place (F.records frozen.old) (trees_of field.now roots) plan.now.place.stage.phase
+    requires { CanPass OFFSET_BITS plan.now.victim plan.now.place (F.records frozen.old) (trees_of_roots field.now roots) plan.now.place.stage.phase
         (keys.Value value.now) }
-    ensures passes { IfSome result (λ p. Passes OFFSET_BITS plan.now.victim plan.now.place (F.records frozen.old) (trees_of field.now roots.entry)
+    ensures passes { IfSome result (λ p. Passes OFFSET_BITS plan.now.victim plan.now.place (F.records frozen.old) (trees_of_roots field.now roots.entry)
         p.last p.keys) }
     ensures few { IfSome result (λ p. p.keys ≤ most) }
     ensures same { frozen.new ≡ frozen.old }
@@ -223,9 +223,9 @@ fn pass_by_document<const OFFSET_BITS: u32, F: Frozen<OFFSET_BITS>>(
     doc: u32,
     most: u32,
 ) -> Option<Passed>
-    requires { CanPass OFFSET_BITS plan.now.victim plan.now.place (F.records frozen.old) (trees_of field.now roots) plan.now.place.stage.phase
+    requires { CanPass OFFSET_BITS plan.now.victim plan.now.place (F.records frozen.old) (trees_of_roots field.now roots) plan.now.place.stage.phase
         (keys.Doc doc) }
-    ensures passes { IfSome result (λ p. Passes OFFSET_BITS plan.now.victim plan.now.place (F.records frozen.old) (trees_of field.now roots.entry)
+    ensures passes { IfSome result (λ p. Passes OFFSET_BITS plan.now.victim plan.now.place (F.records frozen.old) (trees_of_roots field.now roots.entry)
         p.last p.keys) }
     ensures few { IfSome result (λ p. p.keys ≤ most) }
     ensures same { frozen.new ≡ frozen.old }
@@ -253,8 +253,8 @@ pub fn pass_clear<const OFFSET_BITS: u32, F: Frozen<OFFSET_BITS>>(
     requires field { IsField field.now.kind field.now.value (F.records frozen.old) roots.documents roots.dictionary }
     requires typed { HasType field.now.value plan.now.place.key }
     requires cleared { IsClearedField OFFSET_BITS plan.now.victim plan.now.place plan.now.place.stage.field (F.records frozen.old)
-        (trees_of field.now roots) }
-    ensures passes { IfSome result (λ p. Passes OFFSET_BITS plan.now.victim plan.now.place (F.records frozen.old) (trees_of field.now roots.entry)
+        (trees_of_roots field.now roots) }
+    ensures passes { IfSome result (λ p. Passes OFFSET_BITS plan.now.victim plan.now.place (F.records frozen.old) (trees_of_roots field.now roots.entry)
         p.last p.keys) }
     ensures few { IfSome result (λ p. p.keys ≤ most) }
     ensures same { frozen.new ≡ frozen.old }

@@ -7,19 +7,12 @@ use Rattle.store_api.specs.Parts.{Owns, Turns, count_in, entries, uses}
 use Rattle.store_api.specs.Statuses.{in_use}
 use Rattle.attr_documents.specs.Documents.{documents_refer}
 use Rattle.attr_field.specs.Fields.{field_part, IsField}
-use Rattle.attr_field.specs.declared.roots.FieldRoots.{FieldRoots}
 use Rattle.attr_images.specs.Documents.{column_at}
-use Rattle.attr_images.specs.Tables.{AttributeTrees}
-use Rattle.attr_types.specs.declared.field.Field.{Field}
 use Rattle.attr_types.specs.declared.kind.Kind.{Kind}
 use Rattle.attr_types.specs.declared.kind.ValueType.{ValueType}
 use Rattle.index_moves.specs.Moves.{IsKeyIn}
 use Rattle.plan_keys.specs.PhaseKeys.{phase_keys}
 use Rattle.value_index.specs.Indexes.{IsKey}
-
--- the trees of an attribute, from its field and its roots
-abbrev pub trees_of_roots : {bits : ℕ} → Field → FieldRoots bits → AttributeTrees
-trees_of_roots field roots = record { kind = field.kind; type = field.value; documents = roots.documents; dictionary = roots.dictionary }
 
 -- a unit has just begun: what is in use was so when it began
 pub record HasBegun {H : Type 0} (ledger : Ledger H) : Type 0 where

@@ -1,11 +1,11 @@
 //! Moves in the documents of an attribute, beside its index.
 ghost use Rattle.std.specs.Prelude.{◌≡◌, IfOk, IfErr};
+ghost use Rattle.attr_cleared.specs.Cleared.{trees_of_roots};
 ghost use Rattle.store_api.specs.Calls.{IsUsedWidth, RefusesOf};
 ghost use Rattle.store_api.specs.Units.{MayDo};
 ghost use Rattle.attr_compaction.specs.declared.plan.TheConstants.{DOCUMENTS, NODES};
 ghost use Rattle.attr_compaction.specs.declared.plan.PlanKey.TheVariants as keys;
 ghost use Rattle.attr_walks.specs.Counts.{MakesFew};
-ghost use Rattle.field_moves.specs.Moves.{trees_of_roots};
 ghost use Rattle.field_moves.specs.Steps.{CanMove, Moved};
 
 use attr_cleared::{can_law, items_law, keys_law, leaves_law, map_law};

@@ -2,12 +2,12 @@ ghost use Rattle.std.specs.Prelude.{◌≡◌, ◌<◌, ◌∷◌, [], true, Som
 ghost use Rattle.store_api.specs.Calls.{IsUsedWidth, RefusesOf};
 ghost use Rattle.store_api.specs.Parts.{Owns};
 ghost use Rattle.store_api.specs.Units.{MayDo};
-ghost use Rattle.attr_cleared.specs.Cleared.{IsClearedField};
+ghost use Rattle.attr_cleared.specs.Cleared.{trees_of_roots, IsClearedField};
 ghost use Rattle.attr_compaction.specs.declared.plan.TheConstants.{PHASES};
 ghost use Rattle.attr_compaction.specs.declared.plan.PlanKey.TheVariants as keys;
 ghost use Rattle.attr_field.specs.Fields.{field_part, IsField, RefersBeside};
 ghost use Rattle.attr_walks.specs.Counts.{MakesFew};
-ghost use Rattle.field_moves.specs.Moves.{trees_of_roots, HasBegun, MovesField};
+ghost use Rattle.field_moves.specs.Moves.{HasBegun, MovesField};
 ghost use Rattle.field_moves.specs.Steps.{CanMove, Moved};
 ghost use Rattle.plan_keys.specs.PhaseKeys.{key_past, phase_keys};
 

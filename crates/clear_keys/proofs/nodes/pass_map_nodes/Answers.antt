@@ -1,9 +1,9 @@
 use Rattle.std.proofs.Common.{◌+◌, ◌<◌, ◌^◌, ℕ, nat_cmp, refl, sym, subst, arith}
+use Rattle.attr_cleared.specs.Cleared.{trees_of_roots}
 use Rattle.key_order.specs.Pairs.{seek}
 use Rattle.tree_images.specs.Trees.{by_number, tree_pairs}
 use Rattle.enum_dictionary.proofs.BehindLemmas.{All-seek}
 use Rattle.plan_keys.proofs.NextLemmas.{unit_all}
-use Rattle.clear_keys.specs.Passes.{trees_of}
 use Rattle.clear_keys.specs.Sights.{IsRun}
 use Rattle.clear_keys.specs.Ways.{IsWayApart}
 use Rattle.clear_keys.proofs.NodeKeys.{map_nodes_pass}
@@ -49,7 +49,7 @@ returns-clause-passes g c =
     let last = c.way_of-way.result.last in
     let run = subst (λ (v : ℕ). IsRun (IsWayApart bits v nat_cmp by_number m c.args.roots.documents) (seek (λ key. nat_cmp key (c.args.doc + 1)) (tree_pairs m c.args.roots.documents)) count last) c.victim.ensures
     c.way_of-way.ensures.way.run in
-    map_nodes_pass bits c.args.plan.now.victim c.args.plan.now.place m (trees_of c.args.field.now c.args.roots) count last (let some = c.if-way-eq0.false in omega arith) c.args.doc c.requires run
+    map_nodes_pass bits c.args.plan.now.victim c.args.plan.now.place m (trees_of_roots c.args.field.now c.args.roots) count last (let some = c.if-way-eq0.false in omega arith) c.args.doc c.requires run
 
 pub returns-clause-few : goal.returns-clause-few
 returns-clause-few g c = c.way_of-way.ensures.few

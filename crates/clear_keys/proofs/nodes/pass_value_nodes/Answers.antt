@@ -1,12 +1,13 @@
 use Rattle.std.proofs.Common.{◌≡◌, ◌<◌, ◌≤◌, ◌-◌, ℕ, Bool, true, false, cond, refl, sym, ap, subst, ◌∙◌, arith}
 use Rattle.tree_images.specs.Trees.{tree_pairs}
+use Rattle.attr_cleared.specs.Cleared.{trees_of_roots}
 use Rattle.attr_compaction.specs.declared.plan.PlanKey.TheVariants.{Value}
 use Rattle.attr_images.specs.Values.{stored_value, IsValueRecord}
 use Rattle.attr_types.specs.Value.{value_cmp}
 use Rattle.attr_types.specs.declared.kind.ValueType.{ValueType}
 use Rattle.enum_dictionary.specs.Dictionaries.{behind, beside_value, IsDictionary}
 use Rattle.plan_keys.proofs.NextLemmas.{all_behind}
-use Rattle.clear_keys.specs.Passes.{trees_of, Passes}
+use Rattle.clear_keys.specs.Passes.{Passes}
 use Rattle.clear_keys.specs.Sights.{IsRun}
 use Rattle.clear_keys.specs.Ways.{IsWayApart}
 use Rattle.clear_keys.proofs.NodeKeys.{value_nodes_pass, value_way_behind}
@@ -51,7 +52,7 @@ returns-in-Some-clause-passes g c =
     let bits = g.row.OFFSET_BITS in
     let type = c.args.field.now.value in
     let m = records c.args.frozen.now in
-    let a = trees_of c.args.field.now c.args.roots in
+    let a = trees_of_roots c.args.field.now c.args.roots in
     let at = c.args.plan.now.place in
     let count = c.past_in-keys.result in
     let last = c.value_way-way.result.last in

@@ -1,11 +1,11 @@
 use Rattle.std.proofs.Common.{◌+◌, ◌<◌, ◌^◌, ℕ, nat_cmp, sym, subst, ◌∙◌, arith}
 use Rattle.std.specs.List.{AllByRecursion}
+use Rattle.attr_cleared.specs.Cleared.{trees_of_roots}
 use Rattle.key_order.specs.Pairs.{seek}
 use Rattle.tree_images.specs.Trees.{tree_pairs}
 use Rattle.tree_search.specs.Places.{pairs_from, IsAt}
 use Rattle.enum_dictionary.proofs.BehindLemmas.{All-seek}
 use Rattle.plan_keys.proofs.NextLemmas.{unit_all}
-use Rattle.clear_keys.specs.Passes.{trees_of}
 use Rattle.clear_keys.specs.Sights.{HasItems, IsApart, IsRun}
 use Rattle.clear_keys.specs.declared.sights.Sight.TheVariants as sights
 use Rattle.clear_keys.proofs.PairLemmas.{all_items, all_numbers}
@@ -64,7 +64,7 @@ returns-clause-passes g c =
     let bits = g.row.OFFSET_BITS in
     let kind = c.args.field.now.kind in
     let m = records c.args.frozen.now in
-    let a = trees_of c.args.field.now c.args.roots in
+    let a = trees_of_roots c.args.field.now c.args.roots in
     let at = c.args.plan.now.place in
     let count = c.run_from-run.result.pairs in
     let last = c.run_from-run.result.last in

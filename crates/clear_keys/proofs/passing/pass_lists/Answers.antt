@@ -1,6 +1,7 @@
 use Rattle.std.proofs.Common.{◌≡◌, ℕ, sym, ap, subst, ◌∙◌, arith}
 use Rattle.std.specs.List.{AllByRecursion}
 use Rattle.tree_images.specs.Trees.{tree_pairs}
+use Rattle.attr_cleared.specs.Cleared.{trees_of_roots}
 use Rattle.tree_search.specs.Places.{pairs_from, IsAt}
 use Rattle.attr_compaction.specs.declared.plan.PlanKey.TheVariants.{Pair}
 use Rattle.attr_images.specs.Values.{stored_value, IsValueRecord}
@@ -9,7 +10,7 @@ use Rattle.attr_types.specs.declared.kind.ValueType.{ValueType}
 use Rattle.enum_dictionary.specs.Dictionaries.{behind, beside_value, IsDictionary}
 use Rattle.plan_keys.proofs.NextLemmas.{all_behind}
 use Rattle.posting_store.specs.Lists.{IsPlain}
-use Rattle.clear_keys.specs.Passes.{trees_of, Passes}
+use Rattle.clear_keys.specs.Passes.{Passes}
 use Rattle.clear_keys.specs.Sights.{IsApart, IsRun}
 use Rattle.clear_keys.specs.declared.sights.Sight.TheVariants as sights
 use Rattle.clear_keys.proofs.PairLemmas.{all_plain}
@@ -82,7 +83,7 @@ returns-in-Some-clause-passes g c =
     let type = c.args.field.now.value in
     let kind = c.args.field.now.kind in
     let m = records c.args.frozen.now in
-    let a = trees_of c.args.field.now c.args.roots in
+    let a = trees_of_roots c.args.field.now c.args.roots in
     let at = c.args.plan.now.place in
     let count = c.run_from-run.result.pairs in
     let last = c.run_from-run.result.last in

@@ -1,12 +1,12 @@
 use Rattle.std.proofs.Common.{◌≡◌, true, refl, sym, subst, arith}
 use Rattle.std.proofs.lemmas.Result.{err_from_is_err_and}
+use Rattle.attr_cleared.specs.Cleared.{trees_of_roots}
 use Rattle.store_api.specs.Calls.{IsUsedWidth}
 use Rattle.store_api.proofs.May.{may_do-same}
 use Rattle.posting_store.proofs.RefusalLemmas.{of_one}
 use Rattle.document_moves.specs.Moves.{MovesDocumentNodes}
 use Rattle.field_moves.proofs.MakeLemmas.{few_nodes}
 use Rattle.field_moves.proofs.MoveLemmas.{map_done, nodes_can}
-use Rattle.field_moves.specs.Moves.{trees_of_roots}
 use Rattle.field_moves.proofs.documents.move_map_nodes.Goals as goal
 
 pub move_document_nodes-requires : goal.move_document_nodes-requires

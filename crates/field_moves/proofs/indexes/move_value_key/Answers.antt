@@ -1,8 +1,8 @@
 use Rattle.std.proofs.Common.{◌≡◌, true, sym, subst, arith}
 use Rattle.std.proofs.lemmas.Result.{err_from_is_err_and}
+use Rattle.attr_cleared.specs.Cleared.{trees_of_roots}
 use Rattle.attr_compaction.specs.declared.plan.PlanKey.TheVariants.{Value}
 use Rattle.index_moves.specs.Moves.{MovesKey}
-use Rattle.field_moves.specs.Moves.{trees_of_roots}
 use Rattle.field_moves.proofs.MakeLemmas.{few_key}
 use Rattle.field_moves.proofs.MoveLemmas.{key_done, owned_index, typed_value, value_index}
 use Rattle.field_moves.proofs.indexes.move_value_key.Goals as goal

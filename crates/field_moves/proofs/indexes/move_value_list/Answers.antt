@@ -1,11 +1,11 @@
 use Rattle.std.proofs.Common.{◌≡◌, length, true, sym, subst, arith}
 use Rattle.std.proofs.lemmas.Result.{err_from_is_err_and}
+use Rattle.attr_cleared.specs.Cleared.{trees_of_roots}
 use Rattle.attr_compaction.specs.declared.plan.PlanKey.TheVariants.{Pair}
 use Rattle.index_moves.specs.Moves.{MovesList}
 use Rattle.attr_images.specs.Postings.{index_of}
 use Rattle.attr_index.specs.Index.{list_of}
 use Rattle.attr_types.specs.Value.{type_of}
-use Rattle.field_moves.specs.Moves.{trees_of_roots}
 use Rattle.field_moves.proofs.MakeLemmas.{few_list}
 use Rattle.field_moves.proofs.MoveLemmas.{list_done, owned_index, typed_pair, value_index}
 use Rattle.field_moves.proofs.indexes.move_value_list.Goals as goal

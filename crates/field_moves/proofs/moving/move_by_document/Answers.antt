@@ -1,7 +1,7 @@
 use Rattle.std.proofs.Common.{◌≡◌, sym, subst, ◌∙◌, arith}
 use Rattle.std.specs.Prelude.{IfOk}
+use Rattle.attr_cleared.specs.Cleared.{trees_of_roots}
 use Rattle.attr_compaction.specs.declared.plan.PlanKey.TheVariants.{Doc}
-use Rattle.field_moves.specs.Moves.{trees_of_roots}
 use Rattle.field_moves.specs.Steps.{CanMove, Moved}
 use Rattle.field_moves.proofs.MoveLemmas.{at_phase, document_last, numbered}
 use Rattle.field_moves.proofs.moving.move_by_document.Goals as goal

@@ -1,6 +1,6 @@
 use Rattle.std.proofs.Common.{◌≡◌, sym, ◌∙◌, arith}
+use Rattle.attr_cleared.specs.Cleared.{trees_of_roots}
 use Rattle.attr_compaction.specs.declared.plan.PlanKey.TheVariants.{Value}
-use Rattle.field_moves.specs.Moves.{trees_of_roots}
 use Rattle.field_moves.proofs.MoveLemmas.{at_phase, value_last}
 use Rattle.field_moves.proofs.moving.move_by_value.Goals as goal
 

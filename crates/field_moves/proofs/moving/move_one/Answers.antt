@@ -1,10 +1,10 @@
 use Rattle.std.proofs.Common.{sym, subst, arith}
 use Rattle.std.specs.Prelude.{IfOk}
-use Rattle.attr_cleared.specs.Cleared.{IsClearedField}
+use Rattle.attr_cleared.specs.Cleared.{trees_of_roots, IsClearedField}
 use Rattle.attr_compaction.specs.declared.plan.PlanKey.{PlanKey}
 use Rattle.attr_compaction.specs.declared.plan.PlanKey.TheVariants.{Start, Value, Doc, Pair}
 use Rattle.attr_field.proofs.RefLemmas.{if_ok}
-use Rattle.field_moves.specs.Moves.{trees_of_roots, MovesField}
+use Rattle.field_moves.specs.Moves.{MovesField}
 use Rattle.field_moves.specs.Steps.{Moved}
 use Rattle.field_moves.proofs.MoveLemmas.{as_given, not_start, pair_lists}
 use Rattle.field_moves.proofs.moving.move_one.Goals as goal
