@@ -11,7 +11,7 @@ use Rattle.attr_documents.specs.Laws.{DocumentsHaveValues}
 use Rattle.attr_images.specs.Postings.{index_of}
 use Rattle.attr_images.specs.Tables.{AttributeTrees}
 use Rattle.attr_images.specs.Values.{stored_value}
-use Rattle.attr_compaction.specs.Places.{Place}
+use Rattle.attr_compaction.specs.Places.{PlanPlace}
 use Rattle.attr_compaction.specs.declared.plan.PlanKey.TheVariants.{Value}
 use Rattle.attr_compaction.specs.declared.plan.TheConstants.{DOCUMENTS, KEYS}
 use Rattle.attr_cleared.specs.Cleared.{IsVisited}
@@ -48,7 +48,7 @@ nodes_can key_read H a ledger m is owns refers = (
 )
 
 -- the keys of the phase before lie elsewhere
-module _ (bits victim field : ℕ) (at : Place) (a : AttributeTrees) (m : Records) (ef : at.stage.field ≡ field) (ep : at.stage.phase ≡ DOCUMENTS) where
+module _ (bits victim field : ℕ) (at : PlanPlace) (a : AttributeTrees) (m : Records) (ef : at.stage.field ≡ field) (ep : at.stage.phase ≡ DOCUMENTS) where
   all_apart : (ps : List (ℕ × ℕ)) → AllByRecursion (λ p. IsVisited at field KEYS (Value (stored_value a.type m p.0)) → buffer_of bits p.0 ≢ victim) ps
       → AllByRecursion (λ p. buffer_of bits p.0 ≢ victim) ps
   all_apart [] all = tt

@@ -12,7 +12,7 @@ use Rattle.attr_types.specs.declared.kind.ValueType.{ValueType}
 use Rattle.attr_types.specs.declared.value.Value.{Value as AnyValue}
 use Rattle.value_index.specs.Indexes.{index_reach, IsIndex}
 use Rattle.value_index.proofs.IndexLemmas.{index_lawful, keys_same, pair_reach}
-use Rattle.attr_compaction.specs.Places.{Place}
+use Rattle.attr_compaction.specs.Places.{PlanPlace}
 use Rattle.attr_compaction.specs.declared.plan.PlanKey.{PlanKey}
 use Rattle.attr_compaction.specs.declared.plan.PlanKey.TheVariants as plan
 use Rattle.attr_compaction.specs.declared.plan.TheConstants.{KEYS, LISTS, NODES}
@@ -24,10 +24,10 @@ all_and P Q [] p q = tt
 all_and P Q (x ∷ xs) p q = ((p.0, q.0), all_and P Q xs p.1 q.1)
 
 -- of a phase nothing more was visited at the next place
-abbrev pub NoMore : Place → Place → ℕ → ℕ → Type 0
+abbrev pub NoMore : PlanPlace → PlanPlace → ℕ → ℕ → Type 0
 NoMore at next field phase = (k : PlanKey) → IsVisited next field phase k → IsVisited at field phase k
 
-module _ (bits victim field : ℕ) (at next : Place) (m n : Records) (type : ValueType) (root : ℕ) (is : IsIndex type m root) (same : SameAt (index_reach m root) m n) where
+module _ (bits victim field : ℕ) (at next : PlanPlace) (m n : Records) (type : ValueType) (root : ℕ) (is : IsIndex type m root) (same : SameAt (index_reach m root) m n) where
   nodes : SameAt (tree_nodes m root) m n
   nodes = SameAt-left m n (tree_nodes m root) (dictionary_reach m root) same
 

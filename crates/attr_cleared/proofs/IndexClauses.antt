@@ -12,7 +12,7 @@ use Rattle.tree_images.specs.ProofsForTrees.{SameAt-left, SameAt-right, all-same
 use Rattle.tree_images.specs.Trees.{tree_nodes, tree_pairs}
 use Rattle.tree_touch.specs.Paths.{NoneIn}
 use Rattle.attr_cleared.specs.Cleared.{IsVisited, ListIsCleared, NodesAreCleared}
-use Rattle.attr_compaction.specs.Places.{Place}
+use Rattle.attr_compaction.specs.Places.{PlanPlace}
 use Rattle.attr_compaction.specs.declared.plan.PlanKey.{PlanKey}
 use Rattle.attr_compaction.specs.declared.plan.PlanKey.TheVariants as plan
 use Rattle.attr_compaction.specs.declared.plan.TheConstants.{DOCUMENTS, LISTS}
@@ -24,13 +24,13 @@ use Rattle.attr_types.specs.declared.kind.Kind.TheVariants.{Single, Array, Weigh
 use Rattle.attr_types.specs.declared.kind.ValueType.{ValueType}
 use Rattle.attr_types.specs.declared.value.Value.{Value}
 use Rattle.document_moves.specs.Moves.{AreItemsApart}
-use Rattle.enum_dictionary.specs.Dictionaries.{beside}
+use Rattle.enum_dictionary.specs.Dictionaries.{beside_value}
 use Rattle.posting_store.specs.Lists.{IsPlain}
 use Rattle.posting_store.proofs.FormLemmas.{form_even, form_odd}
 use Rattle.value_index.specs.Indexes.{index_part, index_reach, key_at}
 use Rattle.value_index.proofs.IndexLemmas.{pair_reach}
 use Rattle.plan_keys.specs.PhaseKeys.{form_docs, keys_of_pairs}
-use Rattle.attr_cleared.specs.Visits.{IsKeyOf}
+use Rattle.attr_cleared.specs.Visits.{IsAmongKeys}
 use Rattle.attr_cleared.proofs.PlanVisits.{none_behind}
 use Rattle.attr_cleared.proofs.BelowLemmas.{among_left, among_right, nodes_stay}
 use Rattle.attr_cleared.proofs.IndexPairs.{InPairs}
@@ -50,7 +50,7 @@ no_vector word plain = told (word % 2) refl
     told (suc (suc bit)) is = absurd (omega (arith, is))
 
 -- ---- phases to come
-module _ (bits victim field : ℕ) (at : Place) (m : Records) (same : at.stage.field ≡ field) where
+module _ (bits victim field : ℕ) (at : PlanPlace) (m : Records) (same : at.stage.field ≡ field) where
   pub nodes_later : (phase : ℕ) (key : ℕ → PlanKey) (root : ℕ) → at.stage.phase < phase → NodesAreCleared bits victim m (λ k. IsVisited at field phase (key k)) root
   nodes_later phase key root less node among lies k below visited = none_behind at field phase (key k) (inr (same, less)) visited
 
@@ -60,7 +60,7 @@ module _ (bits victim field : ℕ) (at : Place) (m : Records) (same : at.stage.f
   list_later value (vector root) less plain = absurd plain
 
 -- ---- what stays
-pub list_stays : (bits victim field : ℕ) (at next : Place) (m n : Records) (value : Value) (form : ListForm) → SameAt (postings_reach m form) m n → IsPostingList m form
+pub list_stays : (bits victim field : ℕ) (at next : PlanPlace) (m n : Records) (value : Value) (form : ListForm) → SameAt (postings_reach m form) m n → IsPostingList m form
     → ((doc : ℕ) → Among doc (form_docs m form) → IsVisited next field LISTS (plan.Pair value doc) → IsVisited at field LISTS (plan.Pair value doc))
     → ListIsCleared bits victim at field m value form → ListIsCleared bits victim next field n value form
 list_stays bits victim field at next m n value (short ref) same is still cleared = λ visited. cleared (still 0 (inl refl) visited)
@@ -76,8 +76,8 @@ items_stay bits victim Array m n (suc ref) same apart =
 items_stay bits victim WeightedSet m n (suc ref) same apart =
     record { own = apart.own; refer = subst (λ ws. NoneIn bits victim (items_refer WeightedSet (suc ref) ws)) (sym same.0) apart.refer }
 
-module _ (bits victim field : ℕ) (at next : Place) (kind : Kind) (m n : Records) (documents : ℕ) where
-  abbrev pub DocumentIsCleared : Place → Records → ℕ × ℕ → Type 0
+module _ (bits victim field : ℕ) (at next : PlanPlace) (kind : Kind) (m n : Records) (documents : ℕ) where
+  abbrev pub DocumentIsCleared : PlanPlace → Records → ℕ × ℕ → Type 0
   DocumentIsCleared place o p = IsVisited place field DOCUMENTS (plan.Doc p.0) → AreItemsApart bits victim kind o p.1
 
   pub documents_stay : SameAt (documents_own kind m documents) m n → ((doc : ℕ) → IsVisited at field DOCUMENTS (plan.Doc doc))
@@ -112,44 +112,44 @@ module _ {H : Type 0} (ledger : Ledger H) (m : Records) (root : ℕ) (owns : Own
 same_some : (a b : ℕ) → Some a ≡ Some b → a ≡ b
 same_some a b e = cc
 
-pub pair_of_key : (value : Value) (m : Records) (root k : ℕ) → key_at value m root ≡ Some k → (p : ℕ × ℕ) × (lookup_pair (beside value m) (tree_pairs m root) ≡ Some p) × (p.0 ≡ k)
-pair_of_key value m root k is = told (lookup_pair (beside value m) (tree_pairs m root)) refl is
+pub pair_of_key : (value : Value) (m : Records) (root k : ℕ) → key_at value m root ≡ Some k → (p : ℕ × ℕ) × (lookup_pair (beside_value value m) (tree_pairs m root) ≡ Some p) × (p.0 ≡ k)
+pair_of_key value m root k is = told (lookup_pair (beside_value value m) (tree_pairs m root)) refl is
   where
-    told : (found : Option (ℕ × ℕ)) → lookup_pair (beside value m) (tree_pairs m root) ≡ found → option_map (λ (p : ℕ × ℕ). p.0) found ≡ Some k
-        → (p : ℕ × ℕ) × (lookup_pair (beside value m) (tree_pairs m root) ≡ Some p) × (p.0 ≡ k)
+    told : (found : Option (ℕ × ℕ)) → lookup_pair (beside_value value m) (tree_pairs m root) ≡ found → option_map (λ (p : ℕ × ℕ). p.0) found ≡ Some k
+        → (p : ℕ × ℕ) × (lookup_pair (beside_value value m) (tree_pairs m root) ≡ Some p) × (p.0 ≡ k)
     told None e none = absurd (grind (arith, none))
     told (Some p) e some = (p, e, same_some p.0 k some)
 
 -- ---- keys of pairs
-key_left : (k : PlanKey) (xs ys : List PlanKey) → IsKeyOf k xs → IsKeyOf k (xs ++ ys)
+key_left : (k : PlanKey) (xs ys : List PlanKey) → IsAmongKeys k xs → IsAmongKeys k (xs ++ ys)
 key_left k [] ys among = absurd among
 key_left k (x ∷ xs) ys (inl e) = inl e
 key_left k (x ∷ xs) ys (inr later) = inr (key_left k xs ys later)
 
-pub key_right : (k : PlanKey) (xs ys : List PlanKey) → IsKeyOf k ys → IsKeyOf k (xs ++ ys)
+pub key_right : (k : PlanKey) (xs ys : List PlanKey) → IsAmongKeys k ys → IsAmongKeys k (xs ++ ys)
 key_right k [] ys among = among
 key_right k (x ∷ xs) ys among = inr (key_right k xs ys among)
 
-pub key_front : (k : PlanKey) (xs ys : List PlanKey) → IsKeyOf k xs → IsKeyOf k (xs ++ ys)
+pub key_front : (k : PlanKey) (xs ys : List PlanKey) → IsAmongKeys k xs → IsAmongKeys k (xs ++ ys)
 key_front k xs ys among = key_left k xs ys among
 
-doc_key : (value : Value) (d : ℕ) (docs : List ℕ) → Among d docs → IsKeyOf (plan.Pair value d) (map (λ doc. plan.Pair value doc) docs)
+doc_key : (value : Value) (d : ℕ) (docs : List ℕ) → Among d docs → IsAmongKeys (plan.Pair value d) (map (λ doc. plan.Pair value doc) docs)
 doc_key value d [] among = absurd among
 doc_key value d (x ∷ docs) (inl e) = inl (ap (λ (y : ℕ). plan.Pair value y) e)
 doc_key value d (x ∷ docs) (inr later) = inr (doc_key value d docs later)
 
 pub pair_in : (type : ValueType) (m : Records) (q : ℕ × ℕ) (d : ℕ) (ps : List (ℕ × ℕ)) → InPairs q ps → Among d (form_docs m (list_form q.1))
-    → IsKeyOf (plan.Pair (stored_value type m q.0) d) (keys_of_pairs type m ps)
+    → IsAmongKeys (plan.Pair (stored_value type m q.0) d) (keys_of_pairs type m ps)
 pair_in type m q d [] within among = absurd within
 pair_in type m q d (p ∷ ps) (inl e) among =
-    subst (λ (x : ℕ × ℕ). IsKeyOf (plan.Pair (stored_value type m x.0) d) (keys_of_pairs type m (p ∷ ps))) (sym e)
+    subst (λ (x : ℕ × ℕ). IsAmongKeys (plan.Pair (stored_value type m x.0) d) (keys_of_pairs type m (p ∷ ps))) (sym e)
     (key_left (plan.Pair (stored_value type m p.0) d) (map (λ doc. plan.Pair (stored_value type m p.0) doc) (form_docs m (list_form p.1))) (keys_of_pairs type m ps)
     (doc_key (stored_value type m p.0) d (form_docs m (list_form p.1)) (subst (λ (x : ℕ × ℕ). Among d (form_docs m (list_form x.1))) e among)))
 pair_in type m q d (p ∷ ps) (inr later) among =
     key_right (plan.Pair (stored_value type m q.0) d) (map (λ doc. plan.Pair (stored_value type m p.0) doc) (form_docs m (list_form p.1))) (keys_of_pairs type m ps)
     (pair_in type m q d ps later among)
 
-pub value_in_keys : (type : ValueType) (m : Records) (k : ℕ) (ps : List (ℕ × ℕ)) → Among k (map (λ p. p.0) ps) → IsKeyOf (plan.Value (stored_value type m k)) (map (λ p. plan.Value (stored_value type m p.0)) ps)
+pub value_in_keys : (type : ValueType) (m : Records) (k : ℕ) (ps : List (ℕ × ℕ)) → Among k (map (λ p. p.0) ps) → IsAmongKeys (plan.Value (stored_value type m k)) (map (λ p. plan.Value (stored_value type m p.0)) ps)
 value_in_keys type m k [] among = absurd among
 value_in_keys type m k (p ∷ ps) (inl e) = inl (ap (λ (y : ℕ). plan.Value (stored_value type m y)) e)
 value_in_keys type m k (p ∷ ps) (inr later) = inr (value_in_keys type m k ps later)

@@ -12,14 +12,14 @@ use Rattle.store_api.specs.Ledgers.{Ledger}
 use Rattle.tree_images.specs.ProofsForTrees.{all-same}
 use Rattle.tree_images.specs.Trees.{tree_pairs}
 use Rattle.tree_touch.specs.Paths.{NoneIn}
-use Rattle.doc_vector.specs.Documents.{beside}
+use Rattle.doc_vector.specs.Documents.{beside_document}
 use Rattle.attr_images.specs.Tables.{AttributeTrees}
 use Rattle.attr_images.specs.Values.{stored_value}
 use Rattle.attr_types.specs.declared.kind.Kind.{Kind}
 use Rattle.attr_documents.specs.Documents.{items_own}
 use Rattle.attr_documents.proofs.FlowLemmas.{refer_same}
 use Rattle.value_index.specs.Indexes.{index_reach}
-use Rattle.attr_compaction.specs.Places.{doc_in, key_cmp, Place}
+use Rattle.attr_compaction.specs.Places.{doc_in, key_cmp, PlanPlace}
 use Rattle.attr_compaction.specs.declared.plan.PlanKey.{PlanKey}
 use Rattle.attr_compaction.specs.declared.plan.PlanKey.TheVariants.{Value, Doc}
 use Rattle.attr_compaction.specs.declared.plan.TheConstants.{DOCUMENTS, KEYS, LISTS, NODES}
@@ -28,7 +28,7 @@ use Rattle.plan_keys.specs.PhaseKeys.{document_keys, key_past, phase_keys}
 use Rattle.document_moves.specs.Moves.{AreItemsApart, MovesItems}
 use Rattle.attr_cleared.specs.Cleared.{IsClearedField, IsVisited}
 use Rattle.attr_cleared.proofs.PlanVisits.{all_keys_of, next_visited, none_behind, others_visited}
-use Rattle.attr_cleared.specs.Visits.{place_at_key, IsKeyOf}
+use Rattle.attr_cleared.specs.Visits.{place_at_key, IsAmongKeys}
 use Rattle.attr_cleared.specs.DocumentsCleared.{with_documents, AreTrees, IsNext, ItemsAreCleared}
 use Rattle.attr_cleared.proofs.DocumentsIndex.{keys_stay, lists_stay, values_stay}
 
@@ -49,40 +49,40 @@ module _ (P : ℕ × ℕ → Type 0) (doc : ℕ) where
       told Greater e rank same = grind (arith, e)
 
   -- what holds of the pairs of all other documents holds of those that are left
-  pub all_but : (ps : List (ℕ × ℕ)) → IsStrictlySortedBy nat_cmp (map (λ p. p.0) ps) → AllByRecursion (λ p. p.0 ≢ doc → P p) ps → AllByRecursion P (take_out (beside doc) ps)
+  pub all_but : (ps : List (ℕ × ℕ)) → IsStrictlySortedBy nat_cmp (map (λ p. p.0) ps) → AllByRecursion (λ p. p.0 ≢ doc → P p) ps → AllByRecursion P (take_out (beside_document doc) ps)
   unfolding IsStrictlySortedBy
   all_but [] up all = tt
   all_but (p ∷ ps) up all = told (all_but ps up.1 all.1) (nat_cmp p.0 doc) (ranks p.0 doc)
     where
-      told : AllByRecursion P (take_out (beside doc) ps) → (o : Ordering) → MatchOrdering o (p.0 < doc) (p.0 ≡ doc) (doc < p.0)
-          → AllByRecursion P (choose o (p ∷ take_out (beside doc) ps) ps (p ∷ ps))
+      told : AllByRecursion P (take_out (beside_document doc) ps) → (o : Ordering) → MatchOrdering o (p.0 < doc) (p.0 ≡ doc) (doc < p.0)
+          → AllByRecursion P (choose o (p ∷ take_out (beside_document doc) ps) ps (p ∷ ps))
       told later Less rank = (all.0 (λ same. omega arith), later)
       told later Equal rank = above_apart p.0 ps (omega arith) up.0 all.1
       told later Greater rank = (all.0 (λ same. omega arith), above_apart p.0 ps (omega arith) up.0 all.1)
 
   -- and with the pair of the document itself it holds of all
-  pub all_with : (ps : List (ℕ × ℕ)) → ((ref : ℕ) → lookup (beside doc) ps ≡ Some ref → P (doc, ref)) → AllByRecursion P (take_out (beside doc) ps) → AllByRecursion P ps
+  pub all_with : (ps : List (ℕ × ℕ)) → ((ref : ℕ) → lookup (beside_document doc) ps ≡ Some ref → P (doc, ref)) → AllByRecursion P (take_out (beside_document doc) ps) → AllByRecursion P ps
   all_with [] here all = tt
   all_with (p ∷ ps) here all = told (λ h rest. all_with ps h rest) (nat_cmp p.0 doc) refl (ranks p.0 doc) here all
     where
-      told : (((ref : ℕ) → lookup (beside doc) ps ≡ Some ref → P (doc, ref)) → AllByRecursion P (take_out (beside doc) ps) → AllByRecursion P ps)
+      told : (((ref : ℕ) → lookup (beside_document doc) ps ≡ Some ref → P (doc, ref)) → AllByRecursion P (take_out (beside_document doc) ps) → AllByRecursion P ps)
           → (o : Ordering) → nat_cmp p.0 doc ≡ o → MatchOrdering o (p.0 < doc) (p.0 ≡ doc) (doc < p.0)
-          → ((ref : ℕ) → choose o (lookup (beside doc) ps) (Some p.1) None ≡ Some ref → P (doc, ref))
-          → AllByRecursion P (choose o (p ∷ take_out (beside doc) ps) ps (p ∷ ps)) → AllByRecursion P (p ∷ ps)
+          → ((ref : ℕ) → choose o (lookup (beside_document doc) ps) (Some p.1) None ≡ Some ref → P (doc, ref))
+          → AllByRecursion P (choose o (p ∷ take_out (beside_document doc) ps) ps (p ∷ ps)) → AllByRecursion P (p ∷ ps)
       told rest Less e rank h all = (all.0, rest h all.1)
       told rest Equal e rank h all = (subst (λ (d : ℕ). P (d, p.1)) (sym rank) (h p.1 refl), all)
       told rest Greater e rank h all = all
 
 -- what is told of each pair with its key among the keys
-all_keyed : (P Q : ℕ × ℕ → Type 0) (keys : List PlanKey) → ((p : ℕ × ℕ) → IsKeyOf (Doc p.0) keys → P p → Q p) → (ps : List (ℕ × ℕ))
-    → AllByRecursion (λ p. IsKeyOf (Doc p.0) keys) ps → AllByRecursion P ps → AllByRecursion Q ps
+all_keyed : (P Q : ℕ × ℕ → Type 0) (keys : List PlanKey) → ((p : ℕ × ℕ) → IsAmongKeys (Doc p.0) keys → P p → Q p) → (ps : List (ℕ × ℕ))
+    → AllByRecursion (λ p. IsAmongKeys (Doc p.0) keys) ps → AllByRecursion P ps → AllByRecursion Q ps
 all_keyed P Q keys each [] among all = tt
 all_keyed P Q keys each (p ∷ ps) among all = (each p among.0 all.0, all_keyed P Q keys each ps among.1 all.1)
 
-module _ {H : Type 0} (bits victim field doc next : ℕ) (at : Place) (a : AttributeTrees) (old new : Ledger H) (m n : Records) (ef : at.stage.field ≡ field)
+module _ {H : Type 0} (bits victim field doc next : ℕ) (at : PlanPlace) (a : AttributeTrees) (old new : Ledger H) (m n : Records) (ef : at.stage.field ≡ field)
     (ep : at.stage.phase ≡ DOCUMENTS) (is_next : IsNext at m a (Doc doc)) (are : AreTrees m a) (same : SameAt (index_reach m a.dictionary) m n)
     (moves : MovesItems bits victim doc a.kind a.type old new m n a.documents a.dictionary next) (cleared : IsClearedField bits victim at field m a) where
-  abbrev to : Place
+  abbrev to : PlanPlace
   to = place_at_key at (Doc doc)
 
   abbrev ps : List (ℕ × ℕ)
@@ -110,18 +110,18 @@ module _ {H : Type 0} (bits victim field doc next : ℕ) (at : Place) (a : Attri
   abbrev Now : ℕ × ℕ → Type 0
   Now p = IsVisited to field DOCUMENTS (Doc p.0) → AreItemsApart bits victim a.kind n p.1
 
-  still : (p : ℕ × ℕ) → IsKeyOf (Doc p.0) docs → Was p → p.0 ≢ doc → Still p
+  still : (p : ℕ × ℕ) → IsAmongKeys (Doc p.0) docs → Was p → p.0 ≢ doc → Still p
   still p among was apart visited = elim (next_visited at field DOCUMENTS docs (Doc doc) (Doc p.0) ef ep found up among visited) [
     | inl before ↦ was before
     | inr e ↦ absurd (apart (ap doc_in e))
   ]
 
-  others : AllByRecursion Now (take_out (beside doc) ps)
-  others = all-same m n (λ (p : ℕ × ℕ). items_own a.kind p.1) Still Now (λ p words h visited. apart_on bits victim a.kind m n p.1 words (h visited)) (take_out (beside doc) ps) moves.stay
+  others : AllByRecursion Now (take_out (beside_document doc) ps)
+  others = all-same m n (λ (p : ℕ × ℕ). items_own a.kind p.1) Still Now (λ p words h visited. apart_on bits victim a.kind m n p.1 words (h visited)) (take_out (beside_document doc) ps) moves.stay
       (all_but Still doc ps are.documents_are.map_is.tree_is.ascends
       (all_keyed Was (λ p. p.0 ≢ doc → Still p) docs still ps (all_keys_of (λ (p : ℕ × ℕ). Doc p.0) ps) cleared.documents))
 
-  moved : (ref : ℕ) → lookup (beside doc) (tree_pairs n next) ≡ Some ref → Now (doc, ref)
+  moved : (ref : ℕ) → lookup (beside_document doc) (tree_pairs n next) ≡ Some ref → Now (doc, ref)
   moved ref e visited = subst (λ (o : Option ℕ). AreItemsApart bits victim a.kind n (unwrap_or o 0)) e moves.apart
 
   documents : AllByRecursion Now (tree_pairs n next)

@@ -7,7 +7,7 @@ use Rattle.key_order.specs.Pairs.{take_out}
 use Rattle.store_api.specs.Ledgers.{Ledger}
 use Rattle.tree_images.specs.Trees.{tree_pairs}
 use Rattle.attr_cleared.specs.Cleared.{IsClearedField, IsVisited, ListIsCleared}
-use Rattle.attr_compaction.specs.Places.{key_cmp, value_in, Place}
+use Rattle.attr_compaction.specs.Places.{key_cmp, value_in, PlanPlace}
 use Rattle.attr_compaction.specs.declared.plan.PlanKey.TheVariants as plan
 use Rattle.attr_compaction.specs.declared.plan.TheConstants.{DOCUMENTS, KEYS, LISTS, NODES}
 use Rattle.attr_images.specs.Postings.{list_form}
@@ -17,7 +17,7 @@ use Rattle.attr_types.specs.Value.{type_of}
 use Rattle.attr_types.specs.declared.kind.ValueType.{ValueType}
 use Rattle.attr_types.specs.declared.value.Value.{Value}
 use Rattle.document_moves.specs.Moves.{AreItemsApart}
-use Rattle.enum_dictionary.specs.Dictionaries.{beside}
+use Rattle.enum_dictionary.specs.Dictionaries.{beside_value}
 use Rattle.index_moves.specs.Moves.{MovesKey}
 use Rattle.index_moves.proofs.KeyLemmas.{key_of}
 use Rattle.plan_keys.proofs.OrderLemmas.{phase_ascends}
@@ -34,7 +34,7 @@ use Rattle.attr_cleared.proofs.IndexClauses.{list_later, no_vector, nodes_later,
 abbrev pub of_type : AttributeTrees → ValueType → AttributeTrees
 of_type a type = record { kind = a.kind; type = type; documents = a.documents; dictionary = a.dictionary }
 
-module _ {H : Type 0} (bits victim field next : ℕ) (at : Place) (value : Value) (old new : Ledger H) (m n : Records) (a : AttributeTrees)
+module _ {H : Type 0} (bits victim field next : ℕ) (at : PlanPlace) (value : Value) (old new : Ledger H) (m n : Records) (a : AttributeTrees)
     (turn : IsTurn at field KEYS m (of_type a (type_of value)) (plan.Value value)) (moves : MovesKey bits victim value old new m n a.dictionary next)
     (cleared : IsClearedField bits victim at field m (of_type a (type_of value))) where
   abbrev type : ValueType
@@ -43,18 +43,18 @@ module _ {H : Type 0} (bits victim field next : ℕ) (at : Place) (value : Value
   abbrev root : ℕ
   root = a.dictionary
 
-  abbrev here : Place
+  abbrev here : PlanPlace
   here = place_at at (plan.Value value)
 
-  abbrev KeyCleared : Place → Records → ℕ × ℕ → Type 0
+  abbrev KeyCleared : PlanPlace → Records → ℕ × ℕ → Type 0
   KeyCleared place o p = IsVisited place field KEYS (plan.Value (stored_value type o p.0)) → buffer_of bits p.0 ≢ victim
 
   ascends : IsStrictlySortedBy key_cmp (value_keys type m root)
   ascends = phase_ascends type m a.documents root KEYS turn.map_is turn.index_is
 
-  other_key : (q : ℕ × ℕ) → InPairs q (take_out (beside value m) (tree_pairs m root)) → KeyCleared here n q
+  other_key : (q : ℕ × ℕ) → InPairs q (take_out (beside_value value m) (tree_pairs m root)) → KeyCleared here n q
   other_key q within visited lies =
-      let there : InPairs q (tree_pairs m root) = taken_pair (beside value m) q (tree_pairs m root) within in
+      let there : InPairs q (tree_pairs m root) = taken_pair (beside_value value m) q (tree_pairs m root) within in
       let same : SameAt (pair_reach m q) m n = pair_stays m n (pair_reach m) q (tree_pairs m root) there moves.stay in
       let reads : stored_value type n q.0 ≡ stored_value type m q.0 = ap (value_of type) same.0 in
       elim (next_visited at field KEYS (value_keys type m root) (plan.Value value) (plan.Value (stored_value type m q.0)) turn.field_is turn.phase_is turn.next ascends
@@ -64,7 +64,7 @@ module _ {H : Type 0} (bits victim field next : ℕ) (at : Place) (value : Value
       ]
 
   each_key : (q : ℕ × ℕ) → InPairs q (tree_pairs n next) → KeyCleared here n q
-  each_key q within visited lies = elim (split_pair (beside value n) q (tree_pairs n next) within) [
+  each_key q within visited lies = elim (split_pair (beside_value value n) q (tree_pairs n next) within) [
     | inl found ↦ moves.apart q.0 (key_of value n next (Some q) found) lies
     | inr rest ↦ other_key q (subst (InPairs q) moves.others rest) visited lies
   ]

@@ -17,7 +17,7 @@ use Rattle.attr_types.specs.declared.kind.Kind.{Kind}
 use Rattle.attr_types.specs.declared.kind.Kind.TheVariants.{Single, Array, WeightedSet}
 use Rattle.attr_types.specs.declared.kind.ValueType.{ValueType}
 use Rattle.attr_types.specs.declared.value.Value.{Value}
-use Rattle.attr_compaction.specs.Places.{Place}
+use Rattle.attr_compaction.specs.Places.{PlanPlace}
 use Rattle.attr_compaction.specs.declared.plan.PlanKey.TheVariants as plan
 use Rattle.attr_compaction.specs.declared.plan.TheConstants.{DOCUMENTS, KEYS, LISTS, NODES, PHASES}
 use Rattle.document_moves.specs.Moves.{AreItemsApart}
@@ -68,7 +68,7 @@ items_apart bits victim Array m (suc ref) r apart (inr later) = all_among (λ q.
 items_apart bits victim WeightedSet m (suc ref) r apart (inl e) = subst (λ q. buffer_of bits q ≢ victim) (sym e) apart.own.0
 items_apart bits victim WeightedSet m (suc ref) r apart (inr later) = all_among (λ q. buffer_of bits q ≢ victim) _ apart.refer r later
 
-module _ (bits victim field : ℕ) (at : Place) (m : Records) (over : at.stage.phase ≡ PHASES) (few : field ≤ at.stage.field) where
+module _ (bits victim field : ℕ) (at : PlanPlace) (m : Records) (over : at.stage.phase ≡ PHASES) (few : field ≤ at.stage.field) where
   -- ---- lists
   list_apart : (value : Value) (form : ListForm) → ListIsCleared bits victim at field m value form → IsPostingList m form → (r : ℕ) → Among r (postings_reach m form)
       → buffer_of bits r ≢ victim

@@ -17,7 +17,7 @@ use Rattle.tree_touch.specs.Paths.{path_nodes, NoneIn}
 use Rattle.tree_ways.proofs.WayLemmas.{stand_on_ways}
 use Rattle.tree_ways.specs.Ways.{keys_below, tree_keys}
 use Rattle.attr_cleared.specs.Cleared.{IsClearedField, IsVisited, ListIsCleared, NodesAreCleared}
-use Rattle.attr_compaction.specs.Places.{doc_in, key_cmp, value_in, Place}
+use Rattle.attr_compaction.specs.Places.{doc_in, key_cmp, value_in, PlanPlace}
 use Rattle.attr_compaction.specs.declared.plan.PlanKey.{PlanKey}
 use Rattle.attr_compaction.specs.declared.plan.PlanKey.TheVariants as plan
 use Rattle.attr_compaction.specs.declared.plan.TheConstants.{DOCUMENTS, KEYS, LISTS, NODES}
@@ -30,16 +30,16 @@ use Rattle.attr_index.specs.Index.{list_of, Index}
 use Rattle.attr_types.specs.Value.{type_of}
 use Rattle.attr_types.specs.declared.kind.ValueType.{ValueType}
 use Rattle.attr_types.specs.declared.value.Value.{Value}
-use Rattle.enum_dictionary.specs.Dictionaries.{beside}
+use Rattle.enum_dictionary.specs.Dictionaries.{beside_value}
 use Rattle.index_moves.specs.Moves.{FormIsApart, MovesList}
 use Rattle.index_moves.proofs.KeyLemmas.{key_of}
 use Rattle.plan_keys.proofs.OrderLemmas.{phase_ascends}
 use Rattle.plan_keys.specs.PhaseKeys.{form_docs, pair_keys}
-use Rattle.attr_cleared.specs.Visits.{IsKeyOf}
+use Rattle.attr_cleared.specs.Visits.{IsAmongKeys}
 use Rattle.attr_cleared.proofs.PlanVisits.{all_before, next_visited}
 use Rattle.posting_store.specs.Lists.{list_at, list_reach}
 use Rattle.posting_store.proofs.FormLemmas.{at_form, form_even, form_tree, many_odd, tree_at, tree_form, tree_reach}
-use Rattle.value_index.specs.Flows.{word_at}
+use Rattle.value_index.specs.Flows.{list_word}
 use Rattle.value_index.specs.Indexes.{index_part, IsValuePair}
 use Rattle.value_index.proofs.IndexLemmas.{pair_reach}
 use Rattle.value_index.proofs.KeyLemmas.{at_key, list_found, reads_found}
@@ -51,11 +51,11 @@ use Rattle.attr_cleared.proofs.IndexPairs.{InPairs, at_pair, each_pair, found_pa
 use Rattle.attr_cleared.proofs.IndexClauses.{documents_stay, list_stays, list_used, nodes_later, pair_in, pair_of_key}
 
 -- the word of a value's list
-word_is : (value : Value) (m : Records) (root : ℕ) (q : ℕ × ℕ) → lookup_pair (beside value m) (tree_pairs m root) ≡ Some q → word_at value m root ≡ q.1
+word_is : (value : Value) (m : Records) (root : ℕ) (q : ℕ × ℕ) → lookup_pair (beside_value value m) (tree_pairs m root) ≡ Some q → list_word value m root ≡ q.1
 word_is value m root q found =
-    ap (λ (o : Option ℕ). unwrap_or o 0) (lookup-of_pair (beside value m) (tree_pairs m root) ∙ ap (λ (f : Option (ℕ × ℕ)). option_map (λ (p : ℕ × ℕ). p.1) f) found)
+    ap (λ (o : Option ℕ). unwrap_or o 0) (lookup-of_pair (beside_value value m) (tree_pairs m root) ∙ ap (λ (f : Option (ℕ × ℕ)). option_map (λ (p : ℕ × ℕ). p.1) f) found)
 
-module _ {H : Type 0} (bits victim field doc next : ℕ) (at : Place) (value : Value) (old new : Ledger H) (m n : Records) (a : AttributeTrees)
+module _ {H : Type 0} (bits victim field doc next : ℕ) (at : PlanPlace) (value : Value) (old new : Ledger H) (m n : Records) (a : AttributeTrees)
     (turn : IsTurn at field LISTS m (of_type a (type_of value)) (plan.Pair value doc)) (moves : MovesList bits victim doc value old new m n a.dictionary next)
     (leaves : LeavesBuffer bits victim old new m n) (owns : Owns old m (index_part a.dictionary ∷ []))
     (cleared : IsClearedField bits victim at field m (of_type a (type_of value))) where
@@ -65,32 +65,32 @@ module _ {H : Type 0} (bits victim field doc next : ℕ) (at : Place) (value : V
   abbrev root : ℕ
   root = a.dictionary
 
-  abbrev here : Place
+  abbrev here : PlanPlace
   here = place_at at (plan.Pair value doc)
 
-  abbrev ListCleared : Place → Records → ℕ × ℕ → Type 0
+  abbrev ListCleared : PlanPlace → Records → ℕ × ℕ → Type 0
   ListCleared place o p = ListIsCleared bits victim place field o (stored_value type o p.0) (list_form p.1)
 
   ascends : IsStrictlySortedBy key_cmp (pair_keys type m root)
   ascends = phase_ascends type m a.documents root LISTS turn.map_is turn.index_is
 
-  before : (phase : ℕ) (key : PlanKey) (place : Place) → place.stage.field ≡ field → place.stage.phase ≡ LISTS → phase < 2 → IsVisited place field phase key
+  before : (phase : ℕ) (key : PlanKey) (place : PlanPlace) → place.stage.field ≡ field → place.stage.phase ≡ LISTS → phase < 2 → IsVisited place field phase key
   before phase key place same is less = all_before place field phase key (inr (same, omega arith))
 
   -- of the keys of lists, those visited now were visited before, or it is this one
-  step : (w : Value) (d : ℕ) → IsKeyOf (plan.Pair w d) (pair_keys type m root) → IsVisited here field LISTS (plan.Pair w d)
+  step : (w : Value) (d : ℕ) → IsAmongKeys (plan.Pair w d) (pair_keys type m root) → IsVisited here field LISTS (plan.Pair w d)
       → (IsVisited at field LISTS (plan.Pair w d)) ⊎ (plan.Pair w d ≡ plan.Pair value doc)
   step w d among visited =
       next_visited at field LISTS (pair_keys type m root) (plan.Pair value doc) (plan.Pair w d) turn.field_is turn.phase_is turn.next ascends among visited
 
   -- ---- keys
   was_key : (q : ℕ × ℕ) → InPairs q (tree_pairs n next) → Among q.0 (map (λ p. p.0) (tree_pairs m root))
-  was_key q within = elim (split_pair (beside value n) q (tree_pairs n next) within) [
+  was_key q within = elim (split_pair (beside_value value n) q (tree_pairs n next) within) [
     | inl found ↦ (
         let pair = pair_of_key value m root q.0 (sym moves.key ∙ key_of value n next (Some q) found) in
-        subst (λ k. Among k (map (λ p. p.0) (tree_pairs m root))) pair.2 (pair_key pair.0 (tree_pairs m root) (found_pair (beside value m) pair.0 (tree_pairs m root) pair.1))
+        subst (λ k. Among k (map (λ p. p.0) (tree_pairs m root))) pair.2 (pair_key pair.0 (tree_pairs m root) (found_pair (beside_value value m) pair.0 (tree_pairs m root) pair.1))
         )
-    | inr rest ↦ pair_key q (tree_pairs m root) (taken_pair (beside value m) q (tree_pairs m root) (subst (InPairs q) moves.others rest))
+    | inr rest ↦ pair_key q (tree_pairs m root) (taken_pair (beside_value value m) q (tree_pairs m root) (subst (InPairs q) moves.others rest))
   ]
 
   key_apart : (k : ℕ) → Among k (map (λ p. p.0) (tree_pairs m root)) → buffer_of bits k ≢ victim
@@ -99,10 +99,10 @@ module _ {H : Type 0} (bits victim field doc next : ℕ) (at : Place) (value : V
       (before KEYS (plan.Value (stored_value type m k)) at turn.field_is turn.phase_is (omega arith))
 
   -- ---- lists of other values
-  other_list : (q : ℕ × ℕ) → InPairs q (take_out (beside value m) (tree_pairs m root)) → ListCleared here n q
+  other_list : (q : ℕ × ℕ) → InPairs q (take_out (beside_value value m) (tree_pairs m root)) → ListCleared here n q
   other_list q within =
-      let there : InPairs q (tree_pairs m root) = taken_pair (beside value m) q (tree_pairs m root) within in
-      let same : SameAt (pair_reach m q) m n = pair_stays m n (pair_reach m) q (take_out (beside value m) (tree_pairs m root)) within moves.rest in
+      let there : InPairs q (tree_pairs m root) = taken_pair (beside_value value m) q (tree_pairs m root) within in
+      let same : SameAt (pair_reach m q) m n = pair_stays m n (pair_reach m) q (take_out (beside_value value m) (tree_pairs m root)) within moves.rest in
       let pair : IsValuePair m q = at_pair (IsValuePair m) (tree_pairs m root) turn.index_is.pairs q there in
       let reads : stored_value type n q.0 ≡ stored_value type m q.0 = ap (value_of type) same.0 in
       subst (λ v. ListIsCleared bits victim here field n v (list_form q.1)) (sym reads)
@@ -117,10 +117,10 @@ module _ {H : Type 0} (bits victim field doc next : ℕ) (at : Place) (value : V
       still d there (inr e) = absurd (other_pair (stored_value type m) value (tree_pairs m root) turn.index_is.dictionary_is.tree_is.ascends q within (ap value_in e))
 
   -- ---- the list that was moved
-  module _ (q p : ℕ × ℕ) (within : InPairs q (tree_pairs n next)) (found : lookup_pair (beside value n) (tree_pairs n next) ≡ Some q)
-      (was : lookup_pair (beside value m) (tree_pairs m root) ≡ Some p) where
+  module _ (q p : ℕ × ℕ) (within : InPairs q (tree_pairs n next)) (found : lookup_pair (beside_value value n) (tree_pairs n next) ≡ Some q)
+      (was : lookup_pair (beside_value value m) (tree_pairs m root) ≡ Some p) where
     there : InPairs p (tree_pairs m root)
-    there = found_pair (beside value m) p (tree_pairs m root) was
+    there = found_pair (beside_value value m) p (tree_pairs m root) was
 
     pair_now : IsValuePair n q
     pair_now = at_pair (IsValuePair n) (tree_pairs n next) moves.index_is.pairs q within
@@ -140,7 +140,7 @@ module _ {H : Type 0} (bits victim field doc next : ℕ) (at : Place) (value : V
         ∙ sym (at_form m p.1 pair_was.some)
 
     apart : FormIsApart bits victim doc n (list_form q.1)
-    apart = moves.apart q.1 (lookup-of_pair (beside value n) (tree_pairs n next) ∙ ap (λ (f : Option (ℕ × ℕ)). option_map (λ (x : ℕ × ℕ). x.1) f) found)
+    apart = moves.apart q.1 (lookup-of_pair (beside_value value n) (tree_pairs n next) ∙ ap (λ (f : Option (ℕ × ℕ)). option_map (λ (x : ℕ × ℕ). x.1) f) found)
 
     -- both are trees
     module _ (top base : ℕ) (now_is : q.1 ≡ 2 * top + 1) (was_is : p.1 ≡ 2 * base + 1) where
@@ -164,7 +164,7 @@ module _ {H : Type 0} (bits victim field doc next : ℕ) (at : Place) (value : V
 
       came : (node : ℕ) → Among node (tree_nodes n top) → buffer_of bits node ≡ victim → Among node (tree_nodes m base)
       came node among lies =
-          let reached : Among node (list_reach n (word_at value n next)) =
+          let reached : Among node (list_reach n (list_word value n next)) =
           subst (λ w. Among node (list_reach n w)) (sym (word_is value n next q found)) (subst (Among node) (sym (tree_reach n q.1 top pair_now.plain now_is)) among) in
           subst (Among node) (tree_reach m p.1 base pair_was.plain was_is)
           (subst (λ w. Among node (list_reach m w)) (word_is value m root p was) (moves.came node (leaves.unmade node lies (used_now node among)) reached))
@@ -180,7 +180,7 @@ module _ {H : Type 0} (bits victim field doc next : ℕ) (at : Place) (value : V
       still_tree : (node key : ℕ) → Among node (tree_nodes n top) → buffer_of bits node ≡ victim → Among key (keys_below n node) → Among key (tree_keys m base)
           → IsVisited here field LISTS (plan.Pair value key) → IsVisited at field LISTS (plan.Pair value key)
       still_tree node key among lies below key_was visited = told
-          (step value key (subst (λ v. IsKeyOf (plan.Pair v key) (pair_keys type m root)) reads_was
+          (step value key (subst (λ v. IsAmongKeys (plan.Pair v key) (pair_keys type m root)) reads_was
           (pair_in type m p key (tree_pairs m root) there (subst (λ f. Among key (form_docs m f)) (sym form_was) key_was))) visited)
         where
           told : (IsVisited at field LISTS (plan.Pair value key)) ⊎ (plan.Pair value key ≡ plan.Pair value doc) → IsVisited at field LISTS (plan.Pair value key)
@@ -220,7 +220,7 @@ module _ {H : Type 0} (bits victim field doc next : ℕ) (at : Place) (value : V
         told (suc (suc bit)) is = absurd (omega (arith, is))
 
   each_list : (q : ℕ × ℕ) → InPairs q (tree_pairs n next) → ListCleared here n q
-  each_list q within = elim (split_pair (beside value n) q (tree_pairs n next) within) [
+  each_list q within = elim (split_pair (beside_value value n) q (tree_pairs n next) within) [
     | inl found ↦ (
         let pair = pair_of_key value m root q.0 (sym moves.key ∙ key_of value n next (Some q) found) in
         subst (λ v. ListIsCleared bits victim here field n v (list_form q.1)) (sym (reads_found value n q (tree_pairs n next) found)) (moved_list q pair.0 within found pair.1)

@@ -16,39 +16,39 @@ use Rattle.tree_images.specs.Trees.{by_number, tree_nodes, tree_pairs}
 use Rattle.tree_touch.specs.Paths.{path_nodes}
 use Rattle.tree_ways.proofs.WayLemmas.{stand_on_ways}
 use Rattle.tree_ways.specs.Ways.{keys_below, tree_keys}
-use Rattle.doc_vector.specs.Documents.{beside}
+use Rattle.doc_vector.specs.Documents.{beside_document}
 use Rattle.attr_images.specs.Tables.{AttributeTrees}
 use Rattle.attr_images.specs.Values.{stored_value}
 use Rattle.attr_types.specs.declared.value.Value.{Value as AnyValue}
 use Rattle.attr_documents.specs.Changes.{pairs_own}
 use Rattle.attr_documents.specs.Documents.{documents_part, items_own}
 use Rattle.value_index.specs.Indexes.{index_reach}
-use Rattle.attr_compaction.specs.Places.{doc_in, key_cmp, rank_of, Place}
+use Rattle.attr_compaction.specs.Places.{doc_in, key_cmp, rank_of, PlanPlace}
 use Rattle.attr_compaction.specs.declared.plan.PlanKey.{PlanKey}
 use Rattle.attr_compaction.specs.declared.plan.PlanKey.TheVariants.{Value, Doc}
 use Rattle.attr_compaction.specs.declared.plan.TheConstants.{DOCUMENTS, KEYS, LISTS, NODES}
 use Rattle.plan_keys.proofs.OrderLemmas.{phase_ascends}
-use Rattle.plan_keys.specs.PhaseKeys.{document_keys, key_past, node_keys, phase_keys, value_keys}
+use Rattle.plan_keys.specs.PhaseKeys.{document_keys, key_past, node_phase_keys, phase_keys, value_keys}
 use Rattle.document_moves.specs.Moves.{AreItemsApart, MovesDocumentNodes}
 use Rattle.attr_cleared.specs.Cleared.{IsClearedField, IsVisited}
 use Rattle.attr_cleared.proofs.PlanVisits.{next_visited, others_visited}
-use Rattle.attr_cleared.specs.Visits.{place_at_key, IsKeyOf}
+use Rattle.attr_cleared.specs.Visits.{place_at_key, IsAmongKeys}
 use Rattle.attr_cleared.specs.DocumentsCleared.{with_documents, AreTrees, IsNext, KeepsRecords, MakesNoneIn, MapIsCleared}
 use Rattle.attr_cleared.proofs.BelowLemmas.{all_among, nodes_moved}
 use Rattle.attr_cleared.proofs.DocumentsIndex.{keys_stay, lists_stay, values_stay}
 use Rattle.attr_cleared.proofs.ItemsMoved.{apart_on}
 
 -- ---- the keys of the phase
-key_left : (k : PlanKey) (xs ys : List PlanKey) → IsKeyOf k xs → IsKeyOf k (xs ++ ys)
+key_left : (k : PlanKey) (xs ys : List PlanKey) → IsAmongKeys k xs → IsAmongKeys k (xs ++ ys)
 key_left k [] ys among = absurd among
 key_left k (x ∷ xs) ys (inl e) = inl e
 key_left k (x ∷ xs) ys (inr later) = inr (key_left k xs ys later)
 
-key_right : (k : PlanKey) (xs ys : List PlanKey) → IsKeyOf k ys → IsKeyOf k (xs ++ ys)
+key_right : (k : PlanKey) (xs ys : List PlanKey) → IsAmongKeys k ys → IsAmongKeys k (xs ++ ys)
 key_right k [] ys among = among
 key_right k (x ∷ xs) ys among = inr (key_right k xs ys among)
 
-key_mapped : (f : ℕ → PlanKey) (k : ℕ) (ps : List (ℕ × ℕ)) → Among k (map (λ p. p.0) ps) → IsKeyOf (f k) (map (λ p. f p.0) ps)
+key_mapped : (f : ℕ → PlanKey) (k : ℕ) (ps : List (ℕ × ℕ)) → Among k (map (λ p. p.0) ps) → IsAmongKeys (f k) (map (λ p. f p.0) ps)
 key_mapped f k [] among = absurd among
 key_mapped f k (p ∷ ps) (inl e) = inl (ap f e)
 key_mapped f k (p ∷ ps) (inr later) = inr (key_mapped f k ps later)
@@ -56,18 +56,18 @@ key_mapped f k (p ∷ ps) (inr later) = inr (key_mapped f k ps later)
 value_no_doc : (value : AnyValue) (doc : ℕ) → Value value ≡ Doc doc → ⊥
 value_no_doc value doc e = true≢false (ap (λ (k : PlanKey). nat_eq (rank_of k) 1) e)
 
-module _ {H : Type 0} (bits victim field doc next : ℕ) (at : Place) (a : AttributeTrees) (old new : Ledger H) (m n : Records) (ef : at.stage.field ≡ field)
+module _ {H : Type 0} (bits victim field doc next : ℕ) (at : PlanPlace) (a : AttributeTrees) (old new : Ledger H) (m n : Records) (ef : at.stage.field ≡ field)
     (ep : at.stage.phase ≡ NODES) (is_next : IsNext at m a (Doc doc)) (are : AreTrees m a) (same : SameAt (index_reach m a.dictionary) m n)
     (owns : Owns old m (documents_part a.kind a.documents ∷ [])) (makes_none : MakesNoneIn bits victim old new) (keeps : KeepsRecords old new m n)
     (moves : MovesDocumentNodes bits victim doc a.kind a.type old new m n a.documents next) (cleared : IsClearedField bits victim at field m a) where
-  abbrev to : Place
+  abbrev to : PlanPlace
   to = place_at_key at (Doc doc)
 
   abbrev ps : List (ℕ × ℕ)
   ps = tree_pairs m a.documents
 
   abbrev keys : List PlanKey
-  keys = node_keys a.type m a.documents a.dictionary
+  keys = node_phase_keys a.type m a.documents a.dictionary
 
   found : key_past at.key keys ≡ Some (Doc doc)
   found = subst (λ (phase : ℕ). key_past at.key (phase_keys a.type m a.documents a.dictionary phase) ≡ Some (Doc doc)) ep is_next
@@ -94,7 +94,7 @@ module _ {H : Type 0} (bits victim field doc next : ℕ) (at : Place) (a : Attri
   -- ---- the values of the dictionary
   value_still : (r : ℕ) → Among r (tree_keys m a.dictionary) → IsVisited to field NODES (Value (stored_value a.type m r)) → IsVisited at field NODES (Value (stored_value a.type m r))
   value_still r among visited =
-      let there : IsKeyOf (Value (stored_value a.type m r)) keys =
+      let there : IsAmongKeys (Value (stored_value a.type m r)) keys =
       key_left (Value (stored_value a.type m r)) (value_keys a.type m a.dictionary) (document_keys m a.documents) (key_mapped (λ q. Value (stored_value a.type m q)) r (tree_pairs m a.dictionary) among) in
       elim (next_visited at field NODES keys (Doc doc) (Value (stored_value a.type m r)) ef ep found up there visited) [
         | inl before ↦ before
@@ -128,13 +128,13 @@ module _ {H : Type 0} (bits victim field doc next : ℕ) (at : Place) (a : Attri
   -- no node above the document itself lies there
   not_above : (node key : ℕ) → Among node (tree_nodes n next) → buffer_of bits node ≡ victim → Among key (keys_below n node) → key ≡ doc → ⊥
   not_above node key among lies below e =
-      let on_way : Among node (path_nodes n (beside key) next) = stand_on_ways nat_cmp nat_cmp_total by_number n next node key moves.documents_are.map_is.tree_is among below in
-      all_among (λ r. buffer_of bits r ≢ victim) (path_nodes n (beside doc) next) moves.apart node (subst (λ (d : ℕ). Among node (path_nodes n (beside d) next)) e on_way) lies
+      let on_way : Among node (path_nodes n (beside_document key) next) = stand_on_ways nat_cmp nat_cmp_total by_number n next node key moves.documents_are.map_is.tree_is among below in
+      all_among (λ r. buffer_of bits r ≢ victim) (path_nodes n (beside_document doc) next) moves.apart node (subst (λ (d : ℕ). Among node (path_nodes n (beside_document d) next)) e on_way) lies
 
   doc_still : (node key : ℕ) → Among node (tree_nodes n next) → buffer_of bits node ≡ victim → Among key (keys_below n node) → Among key (tree_keys m a.documents)
       → IsVisited to field NODES (Doc key) → IsVisited at field NODES (Doc key)
   doc_still node key among lies below there visited =
-      let key_there : IsKeyOf (Doc key) keys = key_right (Doc key) (value_keys a.type m a.dictionary) (document_keys m a.documents) (key_mapped (λ d. Doc d) key ps there) in
+      let key_there : IsAmongKeys (Doc key) keys = key_right (Doc key) (value_keys a.type m a.dictionary) (document_keys m a.documents) (key_mapped (λ d. Doc d) key ps there) in
       elim (next_visited at field NODES keys (Doc doc) (Doc key) ef ep found up key_there visited) [
         | inl before ↦ before
         | inr e ↦ absurd (not_above node key among lies below (ap doc_in e))

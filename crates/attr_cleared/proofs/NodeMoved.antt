@@ -16,7 +16,7 @@ use Rattle.tree_touch.specs.Paths.{path_nodes}
 use Rattle.tree_ways.proofs.WayLemmas.{stand_on_ways}
 use Rattle.tree_ways.specs.Ways.{keys_below, tree_keys}
 use Rattle.attr_cleared.specs.Cleared.{IsClearedField, IsVisited, ListIsCleared, NodesAreCleared}
-use Rattle.attr_compaction.specs.Places.{key_cmp, value_in, Place}
+use Rattle.attr_compaction.specs.Places.{key_cmp, value_in, PlanPlace}
 use Rattle.attr_compaction.specs.declared.plan.PlanKey.{PlanKey}
 use Rattle.attr_compaction.specs.declared.plan.PlanKey.TheVariants as plan
 use Rattle.attr_compaction.specs.declared.plan.TheConstants.{DOCUMENTS, KEYS, LISTS, NODES}
@@ -28,10 +28,10 @@ use Rattle.attr_types.specs.ProofsForOrder.{value_cmp_total}
 use Rattle.attr_types.specs.Value.{type_of, value_cmp}
 use Rattle.attr_types.specs.declared.kind.ValueType.{ValueType}
 use Rattle.attr_types.specs.declared.value.Value.{Value}
-use Rattle.enum_dictionary.specs.Dictionaries.{beside}
+use Rattle.enum_dictionary.specs.Dictionaries.{beside_value}
 use Rattle.index_moves.specs.Moves.{MovesNodes}
 use Rattle.plan_keys.proofs.OrderLemmas.{phase_ascends}
-use Rattle.plan_keys.specs.PhaseKeys.{document_keys, node_keys, value_keys}
+use Rattle.plan_keys.specs.PhaseKeys.{document_keys, node_phase_keys, value_keys}
 use Rattle.attr_cleared.proofs.PlanVisits.{all_before, next_visited}
 use Rattle.value_index.specs.Indexes.{index_part, IsValuePair}
 use Rattle.value_index.proofs.IndexLemmas.{keys_same, pair_reach}
@@ -43,13 +43,13 @@ use Rattle.attr_cleared.proofs.IndexPairs.{InPairs, at_pair, each_pair, pair_sta
 use Rattle.attr_cleared.proofs.IndexClauses.{documents_stay, key_front, list_stays, node_used, value_in_keys}
 
 -- at a value of the last phase no document of it was visited
-no_document : (at : Place) (field d : ℕ) (value : Value) → at.stage.field ≡ field → at.stage.phase ≡ NODES → IsVisited (place_at at (plan.Value value)) field NODES (plan.Doc d) → ⊥
+no_document : (at : PlanPlace) (field d : ℕ) (value : Value) → at.stage.field ≡ field → at.stage.phase ≡ NODES → IsVisited (place_at at (plan.Value value)) field NODES (plan.Doc d) → ⊥
 no_document at field d value same phase visited = visited
     (ap (λ (f : ℕ). ordering_then (ordering_then (nat_cmp field f) (nat_cmp NODES at.stage.phase)) (key_cmp (plan.Doc d) (plan.Value value))) same
     ∙ ap (λ (p : ℕ). ordering_then (ordering_then (nat_cmp field field) (nat_cmp NODES p)) (key_cmp (plan.Doc d) (plan.Value value))) phase
     ∙ ap (λ (o : Ordering). ordering_then (ordering_then o (nat_cmp NODES NODES)) (key_cmp (plan.Doc d) (plan.Value value))) (tied_itself nat_cmp_total field))
 
-module _ {H : Type 0} (bits victim field next : ℕ) (at : Place) (value : Value) (old new : Ledger H) (m n : Records) (a : AttributeTrees)
+module _ {H : Type 0} (bits victim field next : ℕ) (at : PlanPlace) (value : Value) (old new : Ledger H) (m n : Records) (a : AttributeTrees)
     (turn : IsTurn at field NODES m (of_type a (type_of value)) (plan.Value value)) (moves : MovesNodes bits victim value old new m n a.dictionary next)
     (leaves : LeavesBuffer bits victim old new m n) (owns : Owns old m (index_part a.dictionary ∷ []))
     (cleared : IsClearedField bits victim at field m (of_type a (type_of value))) where
@@ -59,11 +59,11 @@ module _ {H : Type 0} (bits victim field next : ℕ) (at : Place) (value : Value
   abbrev root : ℕ
   root = a.dictionary
 
-  abbrev here : Place
+  abbrev here : PlanPlace
   here = place_at at (plan.Value value)
 
   abbrev keys : List PlanKey
-  keys = node_keys type m a.documents root
+  keys = node_phase_keys type m a.documents root
 
   ascends : IsStrictlySortedBy key_cmp keys
   ascends = phase_ascends type m a.documents root NODES turn.map_is turn.index_is
@@ -81,10 +81,10 @@ module _ {H : Type 0} (bits victim field next : ℕ) (at : Place) (value : Value
   key_stays k among = same_among m n (tree_keys m root) (keys_same m n (tree_pairs m root) moves.stay) k among
 
   -- ---- keys and lists
-  abbrev KeyCleared : Place → Records → ℕ × ℕ → Type 0
+  abbrev KeyCleared : PlanPlace → Records → ℕ × ℕ → Type 0
   KeyCleared place o p = IsVisited place field KEYS (plan.Value (stored_value type o p.0)) → buffer_of bits p.0 ≢ victim
 
-  abbrev ListCleared : Place → Records → ℕ × ℕ → Type 0
+  abbrev ListCleared : PlanPlace → Records → ℕ × ℕ → Type 0
   ListCleared place o p = ListIsCleared bits victim place field o (stored_value type o p.0) (list_form p.1)
 
   each_key : (q : ℕ × ℕ) → InPairs q (tree_pairs n next) → KeyCleared here n q
@@ -126,7 +126,7 @@ module _ {H : Type 0} (bits victim field next : ℕ) (at : Place) (value : Value
 
   on_way : (node : ℕ) → Among node (tree_nodes n next) → buffer_of bits node ≡ victim → (key : ℕ) → Among key (keys_below n node) → stored_value type m key ≡ value → ⊥
   on_way node among lies key below e =
-      all_among (λ r. buffer_of bits r ≢ victim) (path_nodes n (beside value m) next) moves.apart node
+      all_among (λ r. buffer_of bits r ≢ victim) (path_nodes n (beside_value value m) next) moves.apart node
       (subst (λ v. Among node (path_nodes n (λ k. value_cmp (stored_value type m k) v) next)) e (stand_on_ways value_cmp value_cmp_total read_was n next node key tree_now among below)) lies
 
   still : (node key : ℕ) → Among node (tree_nodes n next) → buffer_of bits node ≡ victim → Among key (keys_below n node) → Among key (tree_keys m root)

@@ -9,17 +9,17 @@ use Rattle.std.specs.declared.cmp.Ordering.{Ordering}
 use Rattle.std.specs.Ordering.{nat_cmp, ordering_reverse, ordering_then}
 use Rattle.attr_cleared.specs.Cleared.{IsVisited}
 use Rattle.attr_compaction.proofs.PlaceLemmas.{key_total, place_total}
-use Rattle.attr_compaction.specs.Places.{is_start, key_cmp, place_cmp, stage_cmp, Place}
+use Rattle.attr_compaction.specs.Places.{is_start, key_cmp, place_cmp, stage_cmp, PlanPlace}
 use Rattle.attr_compaction.specs.declared.plan.PlanKey.{PlanKey}
 use Rattle.attr_compaction.specs.declared.plan.PlanKey.TheVariants.{Start, Value, Doc, Pair}
 use Rattle.attr_compaction.specs.declared.plan.Stage.{Stage}
 use Rattle.attr_compaction.specs.declared.plan.TheConstants.{KEYS, NODES, PHASES}
-use Rattle.attr_cleared.specs.Visits.{place_at_key, AreAllBefore, EarlierIsVisited, EndIsVisited, IsKeyOf, IsNoneBehind, NextIsVisited, NextStageIsVisited, OthersAreVisited}
+use Rattle.attr_cleared.specs.Visits.{place_at_key, AreAllBefore, EarlierIsVisited, EndIsVisited, IsAmongKeys, IsNoneBehind, NextIsVisited, NextStageIsVisited, OthersAreVisited}
 
 abbrev stage_of : ℕ → ℕ → Stage
 stage_of field phase = record { field = field; phase = phase }
 
-abbrev place_of : ℕ → ℕ → PlanKey → Place
+abbrev place_of : ℕ → ℕ → PlanKey → PlanPlace
 place_of field phase key = record { stage = stage_of field phase; key = key }
 
 above : (a b : ℕ) → b < a → nat_cmp a b ≡ Greater
@@ -89,7 +89,7 @@ earlier_visited at field phase later k key h visited past =
     visited (place_total.antisymm there at ∙ ap ordering_reverse (place_total.trans at here there back up))
 
 -- a key of a stage, by the key of the place
-at_stage : (at : Place) (field phase : ℕ) (k : PlanKey) → at.stage.field ≡ field → at.stage.phase ≡ phase → place_cmp (place_of field phase k) at ≡ key_cmp k at.key
+at_stage : (at : PlanPlace) (field phase : ℕ) (k : PlanKey) → at.stage.field ≡ field → at.stage.phase ≡ phase → place_cmp (place_of field phase k) at ≡ key_cmp k at.key
 at_stage at field phase k ef ep = ap (λ (o : Ordering). ordering_then o (key_cmp k at.key)) (stage_equal field phase at.stage ef ep)
 
 -- ---- one key further
@@ -111,31 +111,31 @@ up_parts : (x : PlanKey) (keys : List PlanKey) → IsStrictlySortedBy key_cmp (x
 unfolding IsStrictlySortedBy
 up_parts x keys up = up
 
-all_of : (P : PlanKey → Type 0) (keys : List PlanKey) → AllByRecursion P keys → (k : PlanKey) → IsKeyOf k keys → P k
+all_of : (P : PlanKey → Type 0) (keys : List PlanKey) → AllByRecursion P keys → (k : PlanKey) → IsAmongKeys k keys → P k
 all_of P [] all k among = absurd among
 all_of P (key ∷ keys) all k (inl e) = subst P (sym e) all.0
 all_of P (key ∷ keys) all k (inr later) = all_of P keys all.1 k later
 
 -- the first key past another is below all that are past it
-first_least : (at key k : PlanKey) (keys : List PlanKey) → find (past at) keys ≡ Some key → IsStrictlySortedBy key_cmp keys → IsKeyOf k keys → past at k ≡ true
+first_least : (at key k : PlanKey) (keys : List PlanKey) → find (past at) keys ≡ Some key → IsStrictlySortedBy key_cmp keys → IsAmongKeys k keys → past at k ≡ true
     → (k ≡ key) ⊎ (key_cmp key k ≡ Less)
 first_least at key k [] found up among is = absurd among
 first_least at key k (x ∷ keys) found up among is = told (λ f later. first_least at key k keys f (up_parts x keys up).1 later is) (past at x) refl found among
   where
-    told : (find (past at) keys ≡ Some key → IsKeyOf k keys → (k ≡ key) ⊎ (key_cmp key k ≡ Less))
-        → (t : Bool) → past at x ≡ t → cond t (Some x) (find (past at) keys) ≡ Some key → IsKeyOf k (x ∷ keys) → (k ≡ key) ⊎ (key_cmp key k ≡ Less)
+    told : (find (past at) keys ≡ Some key → IsAmongKeys k keys → (k ≡ key) ⊎ (key_cmp key k ≡ Less))
+        → (t : Bool) → past at x ≡ t → cond t (Some x) (find (past at) keys) ≡ Some key → IsAmongKeys k (x ∷ keys) → (k ≡ key) ⊎ (key_cmp key k ≡ Less)
     told rest true e found (inl same) = inl (same ∙ ap (key_in key) found)
     told rest true e found (inr later) =
         inr (subst (λ z. key_cmp z k ≡ Less) (ap (key_in key) found) (all_of (λ z. key_cmp x z ≡ Less) keys (up_parts x keys up).0 k later))
     told rest false e found (inl same) = absurd (true≢false (sym is ∙ ap (past at) same ∙ e))
     told rest false e found (inr later) = rest found later
 
-none_past : (at k : PlanKey) (keys : List PlanKey) → find (past at) keys ≡ None → IsKeyOf k keys → past at k ≡ false
+none_past : (at k : PlanKey) (keys : List PlanKey) → find (past at) keys ≡ None → IsAmongKeys k keys → past at k ≡ false
 none_past at k [] found among = absurd among
 none_past at k (x ∷ keys) found among = told (λ f later. none_past at k keys f later) (past at x) refl found among
   where
-    told : (find (past at) keys ≡ None → IsKeyOf k keys → past at k ≡ false)
-        → (t : Bool) → past at x ≡ t → cond t (Some x) (find (past at) keys) ≡ None → IsKeyOf k (x ∷ keys) → past at k ≡ false
+    told : (find (past at) keys ≡ None → IsAmongKeys k keys → past at k ≡ false)
+        → (t : Bool) → past at x ≡ t → cond t (Some x) (find (past at) keys) ≡ None → IsAmongKeys k (x ∷ keys) → past at k ≡ false
     told rest true e found among = absurd (no_key x found)
     told rest false e found (inl same) = ap (past at) same ∙ e
     told rest false e found (inr later) = rest found later
@@ -143,7 +143,7 @@ none_past at k (x ∷ keys) found among = told (λ f later. none_past at k keys 
 not_past : (at k : PlanKey) → past at k ≡ false → key_cmp k at ≢ Greater
 not_past at k none greater = true≢false (sym (ap is_lt (key_total.antisymm at k ∙ ap ordering_reverse greater)) ∙ none)
 
-visited_within : (at : Place) (field phase : ℕ) (k : PlanKey) → at.stage.field ≡ field → at.stage.phase ≡ phase → past at.key k ≡ false → IsVisited at field phase k
+visited_within : (at : PlanPlace) (field phase : ℕ) (k : PlanKey) → at.stage.field ≡ field → at.stage.phase ≡ phase → past at.key k ≡ false → IsVisited at field phase k
 visited_within at field phase k ef ep none greater = not_past at.key k none (sym (at_stage at field phase k ef ep) ∙ greater)
 
 pub next_visited : NextIsVisited
@@ -221,10 +221,10 @@ stage_visited fields at field phase k few within last some visited = elim (besid
 
 -- ---- keys made of a list are keys of it
 module _ {A : Type 0} (f : A → PlanKey) where
-  more_of : (key : PlanKey) (keys : List PlanKey) (xs : List A) → AllByRecursion (λ x. IsKeyOf (f x) keys) xs → AllByRecursion (λ x. IsKeyOf (f x) (key ∷ keys)) xs
+  more_of : (key : PlanKey) (keys : List PlanKey) (xs : List A) → AllByRecursion (λ x. IsAmongKeys (f x) keys) xs → AllByRecursion (λ x. IsAmongKeys (f x) (key ∷ keys)) xs
   more_of key keys [] all = tt
   more_of key keys (x ∷ xs) all = (inr all.0, more_of key keys xs all.1)
 
-  pub all_keys_of : (xs : List A) → AllByRecursion (λ x. IsKeyOf (f x) (Rattle.std.specs.Prelude.map f xs)) xs
+  pub all_keys_of : (xs : List A) → AllByRecursion (λ x. IsAmongKeys (f x) (Rattle.std.specs.Prelude.map f xs)) xs
   all_keys_of [] = tt
   all_keys_of (x ∷ xs) = (inl refl, more_of (f x) (Rattle.std.specs.Prelude.map f xs) xs (all_keys_of xs))

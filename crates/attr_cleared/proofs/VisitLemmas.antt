@@ -6,13 +6,13 @@ use Rattle.std.specs.Cmp.{nat_cmp_is}
 use Rattle.std.specs.declared.cmp.Ordering.{Ordering}
 use Rattle.std.specs.Ordering.{nat_cmp, ordering_reverse, ordering_then}
 use Rattle.attr_compaction.proofs.PlaceLemmas.{place_total}
-use Rattle.attr_compaction.specs.Places.{is_start, key_cmp, place_cmp, stage_cmp, first_place, Place}
+use Rattle.attr_compaction.specs.Places.{is_start, key_cmp, place_cmp, stage_cmp, first_place, PlanPlace}
 use Rattle.attr_compaction.specs.declared.plan.PlanKey.{PlanKey}
 use Rattle.attr_compaction.specs.declared.plan.PlanKey.TheVariants.{Start, Value, Doc, Pair}
 use Rattle.attr_compaction.specs.declared.plan.TheConstants.{PHASES}
 use Rattle.attr_cleared.specs.Laws.{AllIsVisited, NothingIsVisited, VisitedStays}
 
-abbrev place_at : ℕ → ℕ → PlanKey → Place
+abbrev place_at : ℕ → ℕ → PlanKey → PlanPlace
 place_at field phase key = record { stage = record { field = field; phase = phase }; key = key }
 
 above : (a b : ℕ) → b < a → nat_cmp a b ≡ Greater
@@ -48,7 +48,7 @@ visited_stays at next field phase key rises visited past =
 not_greater : Less ≡ Greater → ⊥
 not_greater e = true≢false (ap is_lt e)
 
-stage_below : (at : Place) (field phase : ℕ) → at.stage.phase ≡ PHASES → field ≤ at.stage.field → phase < PHASES
+stage_below : (at : PlanPlace) (field phase : ℕ) → at.stage.phase ≡ PHASES → field ≤ at.stage.field → phase < PHASES
     → stage_cmp (record { field = field; phase = phase }) at.stage ≡ Less
 stage_below at field phase over few within = elim (cases_eq field at.stage.field) [
   | inl e ↦ ap (λ (o : Ordering). ordering_then o (nat_cmp phase at.stage.phase)) (ap (λ f. nat_cmp f at.stage.field) e ∙ tied_itself nat_cmp_total at.stage.field)

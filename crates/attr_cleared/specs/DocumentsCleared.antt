@@ -9,7 +9,7 @@ use Rattle.attr_images.specs.Tables.{AttributeTrees}
 use Rattle.attr_documents.specs.Changes.{AreBeside}
 use Rattle.attr_documents.specs.Documents.{documents_part, documents_refer, IsDocuments}
 use Rattle.value_index.specs.Indexes.{index_reach, IsIndex}
-use Rattle.attr_compaction.specs.Places.{Place}
+use Rattle.attr_compaction.specs.Places.{PlanPlace}
 use Rattle.attr_compaction.specs.declared.plan.PlanKey.{PlanKey}
 use Rattle.attr_compaction.specs.declared.plan.PlanKey.TheVariants.{Doc}
 use Rattle.attr_compaction.specs.declared.plan.TheConstants.{DOCUMENTS, NODES}
@@ -24,7 +24,7 @@ abbrev pub with_documents : AttributeTrees → ℕ → AttributeTrees
 with_documents a next = record { kind = a.kind; type = a.type; documents = next; dictionary = a.dictionary }
 
 -- the key is the next one of the attribute's phase
-abbrev pub IsNext : Place → Records → AttributeTrees → PlanKey → Type 0
+abbrev pub IsNext : PlanPlace → Records → AttributeTrees → PlanKey → Type 0
 IsNext at m a key = key_past at.key (phase_keys a.type m a.documents a.dictionary at.stage.phase) ≡ Some key
 
 -- documents and an index, whether or not they are one another's
@@ -42,14 +42,14 @@ KeepsRecords old new m n = (r : ℕ) → in_use (old.status r) ≡ true → in_u
 
 -- a document's items were moved: all is cleared up to that document
 abbrev pub ItemsAreCleared : Type 0 → Type 0
-ItemsAreCleared H = (bits victim field doc next : ℕ) (at : Place) (a : AttributeTrees) (old new : Ledger H) (m n : Records)
+ItemsAreCleared H = (bits victim field doc next : ℕ) (at : PlanPlace) (a : AttributeTrees) (old new : Ledger H) (m n : Records)
     → at.stage.field ≡ field → at.stage.phase ≡ DOCUMENTS → IsNext at m a (Doc doc) → AreTrees m a → SameAt (index_reach m a.dictionary) m n
     → MovesItems bits victim doc a.kind a.type old new m n a.documents a.dictionary next
     → IsClearedField bits victim at field m a → IsClearedField bits victim (place_at_key at (Doc doc)) field n (with_documents a next)
 
 -- the nodes on the way to a document were moved: all is cleared up to that document
 abbrev pub MapIsCleared : Type 0 → Type 0
-MapIsCleared H = (bits victim field doc next : ℕ) (at : Place) (a : AttributeTrees) (old new : Ledger H) (m n : Records)
+MapIsCleared H = (bits victim field doc next : ℕ) (at : PlanPlace) (a : AttributeTrees) (old new : Ledger H) (m n : Records)
     → at.stage.field ≡ field → at.stage.phase ≡ NODES → IsNext at m a (Doc doc) → AreTrees m a → SameAt (index_reach m a.dictionary) m n
     → Owns old m (documents_part a.kind a.documents ∷ []) → MakesNoneIn bits victim old new → KeepsRecords old new m n
     → MovesDocumentNodes bits victim doc a.kind a.type old new m n a.documents next
@@ -57,7 +57,7 @@ MapIsCleared H = (bits victim field doc next : ℕ) (at : Place) (a : AttributeT
 
 -- what a plan knows in the phase of documents is all that a move of items asks for
 abbrev pub ItemsCanMove : Type 0 → Type 0
-ItemsCanMove H = (bits victim field : ℕ) (at : Place) (a : AttributeTrees) (ledger : Ledger H) (m : Records)
+ItemsCanMove H = (bits victim field : ℕ) (at : PlanPlace) (a : AttributeTrees) (ledger : Ledger H) (m : Records)
     → at.stage.field ≡ field → at.stage.phase ≡ DOCUMENTS → IsField a.kind a.type m a.documents a.dictionary
     → Owns ledger m (field_part a.kind a.documents a.dictionary ∷ [])
     → RefersBeside ledger a.kind m a.documents a.dictionary (field_part a.kind a.documents a.dictionary ∷ [])

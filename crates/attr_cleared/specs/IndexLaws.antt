@@ -4,7 +4,7 @@ use Rattle.image_base.specs.Records.{Records, SameAt}
 use Rattle.store_api.specs.Ledgers.{Ledger}
 use Rattle.store_api.specs.Parts.{Owns}
 use Rattle.attr_cleared.specs.Cleared.{IsClearedField}
-use Rattle.attr_compaction.specs.Places.{Place}
+use Rattle.attr_compaction.specs.Places.{PlanPlace}
 use Rattle.attr_compaction.specs.declared.plan.PlanKey.TheVariants as plan
 use Rattle.attr_compaction.specs.declared.plan.TheConstants.{KEYS, LISTS, NODES}
 use Rattle.attr_documents.specs.Documents.{documents_own}
@@ -22,14 +22,14 @@ use Rattle.attr_cleared.specs.IndexTurns.{place_at, IsTurn, LeavesBuffer}
 
 -- a value's key was moved: what was cleared is so still, and the key too
 abbrev pub KeyMoveClears : Type 0 → Type 0
-KeyMoveClears H = (bits victim field next : ℕ) (at : Place) (value : Value) (old new : Ledger H) (m n : Records) (a : AttributeTrees)
+KeyMoveClears H = (bits victim field next : ℕ) (at : PlanPlace) (value : Value) (old new : Ledger H) (m n : Records) (a : AttributeTrees)
     → type_of value ≡ a.type → IsTurn at field KEYS m a (plan.Value value) → MovesKey bits victim value old new m n a.dictionary next
     → IsClearedField bits victim at field m a
     → IsClearedField bits victim (place_at at (plan.Value value)) field n (record a { dictionary = next })
 
 -- a value's list was moved as far as a document leads: what was cleared is so still, and the list that far
 abbrev pub ListMoveClears : Type 0 → Type 0
-ListMoveClears H = (bits victim field doc next : ℕ) (at : Place) (value : Value) (old new : Ledger H) (m n : Records) (a : AttributeTrees)
+ListMoveClears H = (bits victim field doc next : ℕ) (at : PlanPlace) (value : Value) (old new : Ledger H) (m n : Records) (a : AttributeTrees)
     → type_of value ≡ a.type → IsTurn at field LISTS m a (plan.Pair value doc)
     → MovesList bits victim doc value old new m n a.dictionary next
     → LeavesBuffer bits victim old new m n → Owns old m (index_part a.dictionary ∷ []) → SameAt (documents_own a.kind m a.documents) m n
@@ -38,7 +38,7 @@ ListMoveClears H = (bits victim field doc next : ℕ) (at : Place) (value : Valu
 
 -- the nodes on the way to a value were moved: what was cleared is so still, and these nodes too
 abbrev pub NodeMoveClears : Type 0 → Type 0
-NodeMoveClears H = (bits victim field next : ℕ) (at : Place) (value : Value) (old new : Ledger H) (m n : Records) (a : AttributeTrees)
+NodeMoveClears H = (bits victim field next : ℕ) (at : PlanPlace) (value : Value) (old new : Ledger H) (m n : Records) (a : AttributeTrees)
     → type_of value ≡ a.type → IsTurn at field NODES m a (plan.Value value) → MovesNodes bits victim value old new m n a.dictionary next
     → LeavesBuffer bits victim old new m n → Owns old m (index_part a.dictionary ∷ []) → SameAt (documents_own a.kind m a.documents) m n
     → IsClearedField bits victim at field m a

@@ -4,7 +4,7 @@ use Rattle.entry_ref.specs.References.{buffer_of}
 use Rattle.image_base.specs.Records.{Records}
 use Rattle.store_api.specs.Ledgers.{Ledger}
 use Rattle.store_api.specs.Statuses.{in_use}
-use Rattle.attr_compaction.specs.Places.{Place}
+use Rattle.attr_compaction.specs.Places.{PlanPlace}
 use Rattle.attr_compaction.specs.declared.plan.PlanKey.{PlanKey}
 use Rattle.attr_images.specs.Tables.{AttributeTrees}
 use Rattle.doc_vector.specs.Documents.{IsDocumentMap}
@@ -12,7 +12,7 @@ use Rattle.plan_keys.specs.PhaseKeys.{key_past, phase_keys}
 use Rattle.value_index.specs.Indexes.{IsIndex}
 
 -- the place stands in this phase of the attribute of this number, and this key is the next
-pub record IsTurn (at : Place) (field phase : ℕ) (m : Records) (a : AttributeTrees) (key : PlanKey) : Type 0 where
+pub record IsTurn (at : PlanPlace) (field phase : ℕ) (m : Records) (a : AttributeTrees) (key : PlanKey) : Type 0 where
   pub field_is : at.stage.field ≡ field
   pub phase_is : at.stage.phase ≡ phase
   pub index_is : IsIndex a.type m a.dictionary
@@ -20,7 +20,7 @@ pub record IsTurn (at : Place) (field phase : ℕ) (m : Records) (a : AttributeT
   pub next : key_past at.key (phase_keys a.type m a.documents a.dictionary phase) ≡ Some key
 
 -- the place at a key of its phase
-abbrev pub place_at : Place → PlanKey → Place
+abbrev pub place_at : PlanPlace → PlanKey → PlanPlace
 place_at at key = record { stage = at.stage; key = key }
 
 -- nothing was made in the buffer, and what was in use and is so still has its words

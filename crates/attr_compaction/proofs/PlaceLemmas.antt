@@ -9,7 +9,7 @@ use Rattle.std.specs.Ordering.{nat_cmp, ordering_then}
 use Rattle.attr_types.specs.ProofsForOrder.{value_cmp_exact, value_cmp_total}
 use Rattle.attr_types.specs.Value.{value_cmp}
 use Rattle.attr_compaction.specs.Laws.{KeysAreExact, NextIsAbove, PlacesAreOrdered}
-use Rattle.attr_compaction.specs.Places.{doc_in, has_key, is_start, key_cmp, next_stage, place_after, place_cmp, rank_of, stage_cmp, value_in, HasKey, IsPast, IsPlace, Place}
+use Rattle.attr_compaction.specs.Places.{doc_in, has_key, is_start, key_cmp, next_stage, place_after, place_cmp, rank_of, stage_cmp, value_in, HasKey, IsPast, IsPlanPlace, PlanPlace}
 use Rattle.attr_compaction.specs.declared.plan.TheConstants.{KEYS, NODES, PHASES}
 use Rattle.attr_compaction.specs.declared.plan.PlanKey.{PlanKey}
 use Rattle.attr_compaction.specs.declared.plan.PlanKey.TheVariants.{Start, Value, Doc, Pair}
@@ -23,7 +23,7 @@ pub stage_total : IsTotalOrder stage_cmp
 stage_total = then_total (on_total (λ (s : Stage). s.field) nat_cmp_total) (on_total (λ (s : Stage). s.phase) nat_cmp_total)
 
 pub place_total : IsTotalOrder place_cmp
-place_total = then_total (on_total (λ (a : Place). a.stage) stage_total) (on_total (λ (a : Place). a.key) key_total)
+place_total = then_total (on_total (λ (a : PlanPlace). a.stage) stage_total) (on_total (λ (a : PlanPlace). a.key) key_total)
 
 pub places_ordered : PlacesAreOrdered
 places_ordered = (key_total, place_total)
@@ -94,14 +94,14 @@ not_start phase (Doc d) h = refl
 not_start phase (Pair v d) h = refl
 
 -- the place by the test of the key
-abbrev after_by : ℕ → Place → PlanKey → Bool → Place
+abbrev after_by : ℕ → PlanPlace → PlanKey → Bool → PlanPlace
 after_by fields at done over = record { stage = cond over (next_stage fields at.stage) at.stage; key = done }
 
-above_over : (fields : ℕ) (at : Place) (done : PlanKey) → at.stage.phase < PHASES → place_cmp at (after_by fields at done true) ≡ Less
+above_over : (fields : ℕ) (at : PlanPlace) (done : PlanKey) → at.stage.phase < PHASES → place_cmp at (after_by fields at done true) ≡ Less
 above_over fields at done few =
     then_less (stage_cmp at.stage (next_stage fields at.stage)) (key_cmp at.key done) (stage_above fields at.stage few)
 
-above_key : (fields : ℕ) (at : Place) (done : PlanKey) → key_cmp at.key done ≡ Less → place_cmp at (after_by fields at done false) ≡ Less
+above_key : (fields : ℕ) (at : PlanPlace) (done : PlanKey) → key_cmp at.key done ≡ Less → place_cmp at (after_by fields at done false) ≡ Less
 above_key fields at done above =
     then_equal (stage_cmp at.stage at.stage) (key_cmp at.key done) (tied_itself stage_total at.stage) above
 
@@ -121,12 +121,12 @@ stage_within_by fields s false false et eu field few = (field, omega arith)
 no_key : (phase : ℕ) (key : PlanKey) → is_start key ≡ true → HasKey phase key
 no_key phase key is = record { of_phase = λ no_start. absurd (true≢false (sym is ∙ no_start)) }
 
-pub next_is_place : (fields : ℕ) (at : Place) (done : PlanKey) → IsPlace fields at → at.stage.phase < PHASES → (done ≡ Start) ⊎ IsPast at done
-    → IsPlace fields (place_after fields at done)
+pub next_is_place : (fields : ℕ) (at : PlanPlace) (done : PlanKey) → IsPlanPlace fields at → at.stage.phase < PHASES → (done ≡ Start) ⊎ IsPast at done
+    → IsPlanPlace fields (place_after fields at done)
 next_is_place fields at done is few (inl e) =
-    subst (λ (over : Bool). IsPlace fields (after_by fields at done over)) (sym (ap is_start e)) (
+    subst (λ (over : Bool). IsPlanPlace fields (after_by fields at done over)) (sym (ap is_start e)) (
     let w = stage_within_by fields at.stage (nat_lt at.stage.phase NODES) (nat_lt (at.stage.field + 1) fields) refl refl is.field few in
     record { field = w.0; phase = w.1; key = no_key (next_stage fields at.stage).phase done (ap is_start e) })
 next_is_place fields at done is few (inr past) =
-    subst (λ (over : Bool). IsPlace fields (after_by fields at done over)) (sym (not_start at.stage.phase done past.of_phase))
+    subst (λ (over : Bool). IsPlanPlace fields (after_by fields at done over)) (sym (not_start at.stage.phase done past.of_phase))
     (record { field = is.field; phase = is.phase; key = record { of_phase = λ h. past.of_phase } })

@@ -48,7 +48,7 @@ has_key phase (Doc doc) = nat_eq phase DOCUMENTS || nat_eq phase NODES
 has_key phase (Pair value doc) = nat_eq phase LISTS
 
 -- ---- places in order
-pub record Place : Type 0 where
+pub record PlanPlace : Type 0 where
   pub stage : Stage
   pub key : PlanKey
 
@@ -56,28 +56,28 @@ pub record Place : Type 0 where
 pub record PlanView : Type 0 where
   pub victim : ℕ
   pub fields : ℕ
-  pub place : Place
+  pub place : PlanPlace
 
 abbrev pub stage_cmp : Stage → Stage → Ordering
 stage_cmp = then_cmp (on (λ (s : Stage). s.field) nat_cmp) (on (λ (s : Stage). s.phase) nat_cmp)
 
-abbrev pub place_cmp : Place → Place → Ordering
-place_cmp = then_cmp (on (λ (a : Place). a.stage) stage_cmp) (on (λ (a : Place). a.key) key_cmp)
+abbrev pub place_cmp : PlanPlace → PlanPlace → Ordering
+place_cmp = then_cmp (on (λ (a : PlanPlace). a.stage) stage_cmp) (on (λ (a : PlanPlace). a.key) key_cmp)
 
-abbrev pub first_place : Place
+abbrev pub first_place : PlanPlace
 first_place = record { stage = record { field = 0; phase = KEYS }; key = Start }
 
 -- no key yet, or one of the phase
 pub record HasKey (phase : ℕ) (key : PlanKey) : Type 0 where
   pub of_phase : is_start key ≡ false → has_key phase key ≡ true
 
-pub record IsPlace (fields : ℕ) (at : Place) : Type 0 where
+pub record IsPlanPlace (fields : ℕ) (at : PlanPlace) : Type 0 where
   pub field : at.stage.field < fields
   pub phase : at.stage.phase ≤ PHASES
   pub key : HasKey at.stage.phase at.key
 
 -- a key of the place's phase that is past the place
-pub record IsPast (at : Place) (key : PlanKey) : Type 0 where
+pub record IsPast (at : PlanPlace) (key : PlanKey) : Type 0 where
   pub of_phase : has_key at.stage.phase key ≡ true
   pub above : key_cmp at.key key ≡ Less
 
@@ -89,6 +89,6 @@ next_stage fields stage =
     else record { field = stage.field; phase = PHASES }
 
 -- the place after a key was visited; Start stands for the end of the phase
-abbrev pub place_after : ℕ → Place → PlanKey → Place
+abbrev pub place_after : ℕ → PlanPlace → PlanKey → PlanPlace
 place_after fields at done =
     record { stage = (if is_start done then next_stage fields at.stage else at.stage); key = done }

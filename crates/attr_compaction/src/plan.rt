@@ -49,13 +49,13 @@ pub struct Plan {
 }
 
 impl Model for Plan {
-    ghost use Rattle.attr_compaction.specs.Places.{IsPlace, PlanView};
+    ghost use Rattle.attr_compaction.specs.Places.{IsPlanPlace, PlanView};
 
     ghost Value = { PlanView };
 
     ghost view = { λ p. record { victim = p.victim; fields = p.fields; place = record { stage = p.stage; key = p.next_key } } };
 
-    ghost invariant = { λ p. IsPlace p.fields (record { stage = p.stage; key = p.next_key }) };
+    ghost invariant = { λ p. IsPlanPlace p.fields (record { stage = p.stage; key = p.next_key }) };
 }
 
 impl Plan {

@@ -18,7 +18,7 @@ use Rattle.store_api.proofs.PartLemmas.{after, owns-some, owns-then, turns-as, t
 use Rattle.store_api.proofs.Times.{times-append, among-times, times-among}
 use Rattle.tree_make.specs.Changes.{tree}
 use Rattle.doc_vector.proofs.DocumentLemmas.{map_stays}
-use Rattle.doc_vector.specs.Documents.{beside, IsDocumentMap, MakesMap}
+use Rattle.doc_vector.specs.Documents.{beside_document, IsDocumentMap, MakesMap}
 use Rattle.attr_images.specs.Documents.{weighted, items_at, column_at, IsItemsRecord}
 use Rattle.attr_images.specs.Values.{IsValueRecord}
 use Rattle.attr_index.specs.Columns.{with_change}
@@ -39,9 +39,9 @@ use Rattle.attr_documents.proofs.RecordLemmas.{form-on, weighted-on, values-on, 
 
 -- the reference of one document, in the map and with the old one's own record dropped
 module _ {H : Type 0} (kind : Kind) (a b c : Ledger H) (m n o : Records) (root doc old next : ℕ) (owns : Owns a m (documents_part kind root ∷ []))
-    (was : old ≡ unwrap_or (lookup (beside doc) (tree_pairs m root)) 0) where
+    (was : old ≡ unwrap_or (lookup (beside_document doc) (tree_pairs m root)) 0) where
   abbrev others : List (ℕ × ℕ)
-  others = take_out (beside doc) (tree_pairs m root)
+  others = take_out (beside_document doc) (tree_pairs m root)
 
   abbrev split : List Part
   split = tree root ∷ entries (items_own kind old) ∷ entries (pairs_own kind others) ∷ []
@@ -49,9 +49,9 @@ module _ {H : Type 0} (kind : Kind) (a b c : Ledger H) (m n o : Records) (root d
   counts_split : (r : ℕ) → count_in r m split ≡ count_in r m (documents_part kind root ∷ [])
   counts_split r =
       let whole = times-append r (tree_nodes m root) (pairs_own kind (tree_pairs m root)) in
-      let parts = times-out r (items_own kind) (beside doc) (tree_pairs m root) in
-      let here : times r (found (items_own kind) (lookup (beside doc) (tree_pairs m root))) ≡ times r (items_own kind old) =
-      ap (times r) (found-or (items_own kind) (lookup (beside doc) (tree_pairs m root)) refl ∙ ap (items_own kind) (sym was)) in
+      let parts = times-out r (items_own kind) (beside_document doc) (tree_pairs m root) in
+      let here : times r (found (items_own kind) (lookup (beside_document doc) (tree_pairs m root))) ≡ times r (items_own kind old) =
+      ap (times r) (found-or (items_own kind) (lookup (beside_document doc) (tree_pairs m root)) refl ∙ ap (items_own kind) (sym was)) in
       omega arith
 
   owns_split : Owns a m split
@@ -100,13 +100,13 @@ module _ {H : Type 0} (kind : Kind) (type : ValueType) (a d : Ledger H) (m o : R
   ps = tree_pairs m root
 
   abbrev rest : List (ℕ × ℕ)
-  rest = take_out (beside doc) ps
+  rest = take_out (beside_document doc) ps
 
   abbrev refers_at : Records → List (ℕ × ℕ) → List ℕ
   refers_at k xs = flat_map (λ p. items_refer kind p.1 (k p.1)) xs
 
-  fewer : (r : ℕ) → times r (refers_at m ps) ≡ times r (found (λ ref. items_refer kind ref (m ref)) (lookup (beside doc) ps)) + times r (refers_at m rest)
-  fewer r = times-out r (λ ref. items_refer kind ref (m ref)) (beside doc) ps
+  fewer : (r : ℕ) → times r (refers_at m ps) ≡ times r (found (λ ref. items_refer kind ref (m ref)) (lookup (beside_document doc) ps)) + times r (refers_at m rest)
+  fewer r = times-out r (λ ref. items_refer kind ref (m ref)) (beside_document doc) ps
 
   module _ (next : ℕ) (q : List Part) (turns : Turns a d m o (documents_part kind root ∷ []) q) (stay : SameAt (pairs_own kind rest) m o) where
     stays : AllByRecursion (λ p. SameAt (items_own kind p.1) m o × SameAt (items_refer kind p.1 (m p.1)) m o) rest
@@ -115,10 +115,10 @@ module _ {H : Type 0} (kind : Kind) (type : ValueType) (a d : Ledger H) (m o : R
         (λ r some. let e = fewer r in omega arith))
 
     rest_are : AllByRecursion (λ p. AreItemsAt kind type o p.1) rest
-    rest_are = all-on kind type m o rest stays (All-take_out (λ p. AreItemsAt kind type m p.1) (beside doc) ps is.items)
+    rest_are = all-on kind type m o rest stays (All-take_out (λ p. AreItemsAt kind type m p.1) (beside_document doc) ps is.items)
 
   module _ (ref next : ℕ) (keys : List ℕ) (items : List Item) (are : AreKeysOf type m keys items) (there : AreBeside a m (documents_part kind root ∷ []) keys) (lawful : IsLawfulItems kind items)
-      (map_is : IsDocumentMap o next) (pairs_are : tree_pairs o next ≡ put (beside doc) (doc, ref) ps) (stay : SameAt (pairs_own kind rest) m o)
+      (map_is : IsDocumentMap o next) (pairs_are : tree_pairs o next ≡ put (beside_document doc) (doc, ref) ps) (stay : SameAt (pairs_own kind rest) m o)
       (turns : Turns a d m o (documents_part kind root ∷ []) (tree next ∷ entries (pairs_own kind rest) ∷ entries (items_own kind ref) ∷ []))
       (form : IsItemsRecord kind ref (o ref)) (weighted_are : weighted kind ref (o ref) ≡ entries_of keys items)
       (nodes : ComesFrom a (tree_nodes o next) (tree_nodes m root)) (made : ComesFrom a (items_own kind ref) []) where
@@ -129,7 +129,7 @@ module _ {H : Type 0} (kind : Kind) (type : ValueType) (a d : Ledger H) (m o : R
     counts_next r =
         let whole = times-append r (tree_nodes o next) (pairs_own kind (tree_pairs o next)) in
         let here = ap (λ xs. times r (pairs_own kind xs)) pairs_are in
-        let put_in = times-put r (items_own kind) (beside doc) (doc, ref) ps in
+        let put_in = times-put r (items_own kind) (beside_document doc) (doc, ref) ps in
         omega arith
 
     turns_set : Turns a d m o (documents_part kind root ∷ []) (documents_part kind next ∷ [])
@@ -154,7 +154,7 @@ module _ {H : Type 0} (kind : Kind) (type : ValueType) (a d : Ledger H) (m o : R
     refers_set r among =
         let some = among-times r (documents_refer kind o next) among in
         let here = ap (λ xs. times r (refers_at o xs)) pairs_are in
-        let put_in = times-put r (λ q. items_refer kind q (o q)) (beside doc) (doc, ref) ps in
+        let put_in = times-put r (λ q. items_refer kind q (o q)) (beside_document doc) (doc, ref) ps in
         let same = ap (times r) (refer-on kind type m o rest (stays next parts turns stay)) in
         let new = ap (times r) refers_new in
         let e = fewer r in
@@ -168,7 +168,7 @@ module _ {H : Type 0} (kind : Kind) (type : ValueType) (a d : Ledger H) (m o : R
       documents_are = record {
         map_is = map_is;
         items = subst (AllByRecursion (λ (p : ℕ × ℕ). AreItemsAt kind type o p.1)) (sym pairs_are)
-            (all-put (λ p. AreItemsAt kind type o p.1) (beside doc) (doc, ref) new_are ps (rest_are next parts turns stay));
+            (all-put (λ p. AreItemsAt kind type o p.1) (beside_document doc) (doc, ref) new_are ps (rest_are next parts turns stay));
       };
       column_is = ap (columned (items_at kind type o)) pairs_are
           ∙ columned-put (items_at kind type m) (items_at kind type o) doc ref items items_read ps (same-on kind type m o rest (stays next parts turns stay));
@@ -219,8 +219,8 @@ module _ {H : Type 0} (kind : Kind) (type : ValueType) (a d : Ledger H) (m o : R
     }
 
   -- a document of the column is one of the map
-  pub there_in_map : IsSome (lookup_in (is_at (nat_cmp doc)) (column_at kind type m root)) → IsSome (lookup (beside doc) ps)
-  there_in_map there = there-mapped (items_at kind type m) (lookup (beside doc) ps) (subst (λ o. IsSome o) (sym (columned-found (items_at kind type m) doc ps is.map_is.tree_is.ascends)) there)
+  pub there_in_map : IsSome (lookup_in (is_at (nat_cmp doc)) (column_at kind type m root)) → IsSome (lookup (beside_document doc) ps)
+  there_in_map there = there-mapped (items_at kind type m) (lookup (beside_document doc) ps) (subst (λ o. IsSome o) (sym (columned-found (items_at kind type m) doc ps is.map_is.tree_is.ascends)) there)
 
 -- what is made first, then set
 module _ {H : Type 0} (kind : Kind) (type : ValueType) (a b c : Ledger H) (m n o : Records) (root doc ref : ℕ) (is : IsDocuments kind type m root) (owns : Owns a m (documents_part kind root ∷ []))
@@ -243,14 +243,14 @@ module _ {H : Type 0} (kind : Kind) (type : ValueType) (a b c : Ledger H) (m n o
   pub still_owned : Owns b n own
   still_owned = owns-some b n (entries (items_own kind ref) ∷ documents_part kind root ∷ []) own begun.owns (λ r. omega arith)
 
-  module _ (next : ℕ) (changed : ChangesPair kind b c n o root (take_out (beside doc) (tree_pairs n root)) (put (beside doc) (doc, ref) (tree_pairs n root)) next)
+  module _ (next : ℕ) (changed : ChangesPair kind b c n o root (take_out (beside_document doc) (tree_pairs n root)) (put (beside_document doc) (doc, ref) (tree_pairs n root)) next)
       (values : AreBeside a m (documents_part kind root ∷ []) (documents_refer kind m root)) (keys : List ℕ) (items : List Item) (is_list : list ≡ entries_of keys items)
       (are : AreKeysOf type m keys items) (there : AreBeside a m (documents_part kind root ∷ []) keys) (lawful : IsLawfulItems kind items) (may : MayDo a b) where
     abbrev others_m : List (ℕ × ℕ)
-    others_m = take_out (beside doc) (tree_pairs m root)
+    others_m = take_out (beside_document doc) (tree_pairs m root)
 
-    changes : ChangesPair kind b c n o root others_m (put (beside doc) (doc, ref) (tree_pairs m root)) next
-    changes = subst (λ ps. ChangesPair kind b c n o root (take_out (beside doc) ps) (put (beside doc) (doc, ref) ps) next) same_pairs changed
+    changes : ChangesPair kind b c n o root others_m (put (beside_document doc) (doc, ref) (tree_pairs m root)) next
+    changes = subst (λ ps. ChangesPair kind b c n o root (take_out (beside_document doc) ps) (put (beside_document doc) (doc, ref) ps) next) same_pairs changed
 
     abbrev end : List Part
     end = tree next ∷ entries (pairs_own kind others_m) ∷ entries (items_own kind ref) ∷ []
@@ -262,7 +262,7 @@ module _ {H : Type 0} (kind : Kind) (type : ValueType) (a b c : Ledger H) (m n o
     others_stay : SameAt (pairs_own kind others_m) m o
     others_stay = same-then m n o (pairs_own kind others_m)
         (same-some m n (pairs_own kind (tree_pairs m root)) (pairs_own kind others_m) (SameAt-right m n (tree_nodes m root) (pairs_own kind (tree_pairs m root)) begun.stay.0)
-        (λ r some. let e = times-out r (items_own kind) (beside doc) (tree_pairs m root) in omega arith))
+        (λ r some. let e = times-out r (items_own kind) (beside_document doc) (tree_pairs m root) in omega arith))
         changes.stay
 
     all_turns : Turns a c m o own end
@@ -293,13 +293,13 @@ module _ {H : Type 0} (kind : Kind) (type : ValueType) (a b c : Ledger H) (m n o
     (there : AreBeside a m (documents_part kind root ∷ []) keys) (lawful : IsLawfulItems kind items) (makes : MakesItems kind a b m n (entries_of keys items) ref)
     (may : MayDo a b) where
   pub made_documents : (result : Result ℕ StoreError)
-      → IfOk result (ChangesPair kind b c n o root (take_out (beside doc) (tree_pairs n root)) (put (beside doc) (doc, ref) (tree_pairs n root)))
+      → IfOk result (ChangesPair kind b c n o root (take_out (beside_document doc) (tree_pairs n root)) (put (beside_document doc) (doc, ref) (tree_pairs n root)))
       → IfOk result (MakesDocuments kind type a c m o root keys (with_change (column_at kind type m root) doc (Some items)))
   made_documents (Ok next) changed = makes_documents kind type a b c m n o root doc ref is owns (entries_of keys items) makes next changed values keys items refl are there lawful may
   made_documents (Err e) changed = tt
 
   pub set_documents : (result : Result ℕ StoreError)
-      → IfOk result (ChangesPair kind b c n o root (take_out (beside doc) (tree_pairs n root)) (put (beside doc) (doc, ref) (tree_pairs n root)))
+      → IfOk result (ChangesPair kind b c n o root (take_out (beside_document doc) (tree_pairs n root)) (put (beside_document doc) (doc, ref) (tree_pairs n root)))
       → IfOk result (SetsItems kind a m o root doc keys)
   set_documents (Ok next) changed = sets_document kind type a b c m n o root doc ref is owns (entries_of keys items) makes next changed values keys items refl are there lawful may
   set_documents (Err e) changed = tt

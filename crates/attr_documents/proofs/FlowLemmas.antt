@@ -19,7 +19,7 @@ use Rattle.tree_images.specs.ProofsForTrees.{SameAt-left, SameAt-right, tree_nod
 use Rattle.tree_images.specs.Trees.{tree_nodes, tree_pairs}
 use Rattle.doc_vector.proofs.DocumentLemmas.{other_number, same_number}
 use Rattle.doc_vector.proofs.MapLemmas.{put_others, take_out_gone, take_out_others}
-use Rattle.doc_vector.specs.Documents.{beside}
+use Rattle.doc_vector.specs.Documents.{beside_document}
 use Rattle.attr_types.specs.declared.kind.Kind.{Kind}
 use Rattle.attr_documents.specs.Changes.{pairs_own, SetsItems}
 use Rattle.attr_documents.specs.Documents.{documents_own, items_own, items_refer}
@@ -79,12 +79,12 @@ module _ {H : Type 0} (kind : Kind) (a : Ledger H) (m n : Records) (root : ℕ) 
   pairs_same = tree_pairs-same m n root nodes_stay
 
   reference_same : (doc : ℕ) → reference_at n root doc ≡ reference_at m root doc
-  reference_same doc = ap (λ ps. unwrap_or (lookup (beside doc) ps) 0) pairs_same
+  reference_same doc = ap (λ ps. unwrap_or (lookup (beside_document doc) ps) 0) pairs_same
 
   refers_same : (doc : ℕ) → refer_at kind n root doc ≡ refer_at kind m root doc
   refers_same doc =
       ap (λ ref. items_refer kind ref (n ref)) (reference_same doc)
-      ∙ refer_same kind m n (reference_at m root doc) (own_stay_at kind m n (beside doc) (tree_pairs m root)
+      ∙ refer_same kind m n (reference_at m root doc) (own_stay_at kind m n (beside_document doc) (tree_pairs m root)
       (SameAt-right m n (tree_nodes m root) (pairs_own kind (tree_pairs m root)) same))
 
   pub documents_flow_stay : FlowsDocuments kind a m n root [] root
@@ -105,27 +105,27 @@ out_put c pair equal (p ∷ ps) =
 
 -- one document changed
 module _ {H : Type 0} (kind : Kind) (a : Ledger H) (m o : Records) (root doc next : ℕ) (up : IsStrictlySortedBy nat_cmp (map (λ p. p.0) (tree_pairs m root)))
-    (stay : SameAt (pairs_own kind (take_out (beside doc) (tree_pairs m root))) m o) (nodes : ComesFrom a (tree_nodes o next) (tree_nodes m root)) where
+    (stay : SameAt (pairs_own kind (take_out (beside_document doc) (tree_pairs m root))) m o) (nodes : ComesFrom a (tree_nodes o next) (tree_nodes m root)) where
   abbrev pairs_then : List (ℕ × ℕ)
   pairs_then = tree_pairs o next
 
-  others_same : (d : ℕ) → d ≢ doc → lookup (beside d) (take_out (beside doc) (tree_pairs m root)) ≡ lookup (beside d) (tree_pairs m root)
+  others_same : (d : ℕ) → d ≢ doc → lookup (beside_document d) (take_out (beside_document doc) (tree_pairs m root)) ≡ lookup (beside_document d) (tree_pairs m root)
   others_same d ne = take_out_others nat_cmp nat_cmp_total (λ k. k) doc d (other_number doc d ne) (tree_pairs m root) up
 
   stay_at : (d : ℕ) → d ≢ doc → SameAt (items_own kind (reference_at m root d)) m o
   stay_at d ne = subst (λ f. SameAt (items_own kind (unwrap_or f 0)) m o) (others_same d ne)
-      (own_stay_at kind m o (beside d) (take_out (beside doc) (tree_pairs m root)) stay)
+      (own_stay_at kind m o (beside_document d) (take_out (beside_document doc) (tree_pairs m root)) stay)
 
-  other_own : (d : ℕ) → lookup (beside d) pairs_then ≡ lookup (beside d) (tree_pairs m root) → own_at kind o next d ≡ own_at kind m root d
+  other_own : (d : ℕ) → lookup (beside_document d) pairs_then ≡ lookup (beside_document d) (tree_pairs m root) → own_at kind o next d ≡ own_at kind m root d
   other_own d is = ap (λ f. items_own kind (unwrap_or f 0)) is
 
-  other_refer : (d : ℕ) → d ≢ doc → lookup (beside d) pairs_then ≡ lookup (beside d) (tree_pairs m root) → refer_at kind o next d ≡ refer_at kind m root d
+  other_refer : (d : ℕ) → d ≢ doc → lookup (beside_document d) pairs_then ≡ lookup (beside_document d) (tree_pairs m root) → refer_at kind o next d ≡ refer_at kind m root d
   other_refer d ne is =
       ap (λ f. items_refer kind (unwrap_or f 0) (o (unwrap_or f 0))) is ∙ refer_same kind m o (reference_at m root d) (stay_at d ne)
 
-  module _ (ref : ℕ) (keys : List ℕ) (pairs_are : tree_pairs o next ≡ put (beside doc) (doc, ref) (tree_pairs m root)) (refers : items_refer kind ref (o ref) ≡ keys) where
+  module _ (ref : ℕ) (keys : List ℕ) (pairs_are : tree_pairs o next ≡ put (beside_document doc) (doc, ref) (tree_pairs m root)) (refers : items_refer kind ref (o ref) ≡ keys) where
     set_ref : reference_at o next doc ≡ ref
-    set_ref = ap (λ ps. unwrap_or (lookup (beside doc) ps) 0) pairs_are ∙ ap (λ f. unwrap_or f 0) (lookup-put (beside doc) (doc, ref) (tree_pairs m root) (same_number doc))
+    set_ref = ap (λ ps. unwrap_or (lookup (beside_document doc) ps) 0) pairs_are ∙ ap (λ f. unwrap_or f 0) (lookup-put (beside_document doc) (doc, ref) (tree_pairs m root) (same_number doc))
 
     set_own : own_at kind o next doc ≡ items_own kind ref
     set_own = ap (items_own kind) set_ref
@@ -133,8 +133,8 @@ module _ {H : Type 0} (kind : Kind) (a : Ledger H) (m o : Records) (root doc nex
     set_refer : refer_at kind o next doc ≡ keys
     set_refer = ap (λ x. items_refer kind x (o x)) set_ref ∙ refers
 
-    set_other : (d : ℕ) → d ≢ doc → lookup (beside d) pairs_then ≡ lookup (beside d) (tree_pairs m root)
-    set_other d ne = ap (lookup (beside d)) pairs_are
+    set_other : (d : ℕ) → d ≢ doc → lookup (beside_document d) pairs_then ≡ lookup (beside_document d) (tree_pairs m root)
+    set_other d ne = ap (lookup (beside_document d)) pairs_are
         ∙ put_others nat_cmp nat_cmp_total (λ k. k) doc d (other_number doc d ne) (doc, ref) (tree_pairs m root) (same_number doc)
 
     pub set_flows : ComesFrom a (items_own kind ref) [] → FlowsDocuments kind a m o root keys next
@@ -154,16 +154,16 @@ module _ {H : Type 0} (kind : Kind) (a : Ledger H) (m o : Records) (root doc nex
     sets_items fresh = record {
       fresh = λ r among. fresh r (subst (Among r) set_own among);
       refer = set_refer;
-      others = ap (take_out (beside doc)) pairs_are ∙ out_put (beside doc) (doc, ref) (same_number doc) (tree_pairs m root);
+      others = ap (take_out (beside_document doc)) pairs_are ∙ out_put (beside_document doc) (doc, ref) (same_number doc) (tree_pairs m root);
       stay = stay;
     }
 
-  module _ (pairs_are : tree_pairs o next ≡ take_out (beside doc) (tree_pairs m root)) where
+  module _ (pairs_are : tree_pairs o next ≡ take_out (beside_document doc) (tree_pairs m root)) where
     out_ref : reference_at o next doc ≡ 0
-    out_ref = ap (λ ps. unwrap_or (lookup (beside doc) ps) 0) pairs_are ∙ ap (λ f. unwrap_or f 0) (take_out_gone nat_cmp nat_cmp_total (λ k. k) doc (tree_pairs m root) up)
+    out_ref = ap (λ ps. unwrap_or (lookup (beside_document doc) ps) 0) pairs_are ∙ ap (λ f. unwrap_or f 0) (take_out_gone nat_cmp nat_cmp_total (λ k. k) doc (tree_pairs m root) up)
 
-    out_other : (d : ℕ) → d ≢ doc → lookup (beside d) pairs_then ≡ lookup (beside d) (tree_pairs m root)
-    out_other d ne = ap (lookup (beside d)) pairs_are ∙ others_same d ne
+    out_other : (d : ℕ) → d ≢ doc → lookup (beside_document d) pairs_then ≡ lookup (beside_document d) (tree_pairs m root)
+    out_other d ne = ap (lookup (beside_document d)) pairs_are ∙ others_same d ne
 
     pub out_flows : FlowsDocuments kind a m o root [] next
     out_flows = record {

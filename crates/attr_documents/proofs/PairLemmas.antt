@@ -13,7 +13,7 @@ use Rattle.std.specs.Ordering.{nat_cmp, match_ordering, is_eq, MatchOrdering}
 use Rattle.store_api.specs.Parts.{times}
 use Rattle.store_api.proofs.Times.{times-append}
 use Rattle.key_order.specs.Pairs.{choose, lookup, put, take_out}
-use Rattle.doc_vector.specs.Documents.{beside}
+use Rattle.doc_vector.specs.Documents.{beside_document}
 use Rattle.posting_store.proofs.ItemLemmas.{cmp_below, cmp_above, cmp_same, cmp_apart}
 
 -- what is gathered of the reference found
@@ -74,28 +74,28 @@ module _ {B : Type 0} (h k : ℕ → B) (doc ref : ℕ) (x : B) (is : k ref ≡ 
   abbrev Same : ℕ × ℕ → Type 0
   Same p = k p.1 ≡ h p.1
 
-  pub columned-put : (ps : List (ℕ × ℕ)) → AllByRecursion Same (take_out (beside doc) ps) → columned k (put (beside doc) (doc, ref) ps) ≡ insert_entry nat_cmp (columned h ps) doc x
+  pub columned-put : (ps : List (ℕ × ℕ)) → AllByRecursion Same (take_out (beside_document doc) ps) → columned k (put (beside_document doc) (doc, ref) ps) ≡ insert_entry nat_cmp (columned h ps) doc x
   columned-put [] all = ap (λ b. (doc, b) ∷ []) is
   columned-put (p ∷ ps) all = told (columned-put ps) (nat_cmp p.0 doc) refl (ranks p.0 doc)
     where
-      told : (AllByRecursion Same (take_out (beside doc) ps) → columned k (put (beside doc) (doc, ref) ps) ≡ insert_entry nat_cmp (columned h ps) doc x) → (o : Ordering) → nat_cmp p.0 doc ≡ o
-          → MatchOrdering o (p.0 < doc) (p.0 ≡ doc) (doc < p.0) → columned k (put (beside doc) (doc, ref) (p ∷ ps)) ≡ insert_entry nat_cmp (columned h (p ∷ ps)) doc x
+      told : (AllByRecursion Same (take_out (beside_document doc) ps) → columned k (put (beside_document doc) (doc, ref) ps) ≡ insert_entry nat_cmp (columned h ps) doc x) → (o : Ordering) → nat_cmp p.0 doc ≡ o
+          → MatchOrdering o (p.0 < doc) (p.0 ≡ doc) (doc < p.0) → columned k (put (beside_document doc) (doc, ref) (p ∷ ps)) ≡ insert_entry nat_cmp (columned h (p ∷ ps)) doc x
       told rest Less e rank =
-          let split : AllByRecursion Same (p ∷ take_out (beside doc) ps) = subst (λ o. AllByRecursion Same (choose o (p ∷ take_out (beside doc) ps) ps (p ∷ ps))) e all in
-          ap (λ o. columned k (choose o (p ∷ put (beside doc) (doc, ref) ps) ((doc, ref) ∷ ps) ((doc, ref) ∷ p ∷ ps))) e
-          ∙ ap (λ b. (p.0, b) ∷ columned k (put (beside doc) (doc, ref) ps)) split.0
+          let split : AllByRecursion Same (p ∷ take_out (beside_document doc) ps) = subst (λ o. AllByRecursion Same (choose o (p ∷ take_out (beside_document doc) ps) ps (p ∷ ps))) e all in
+          ap (λ o. columned k (choose o (p ∷ put (beside_document doc) (doc, ref) ps) ((doc, ref) ∷ ps) ((doc, ref) ∷ p ∷ ps))) e
+          ∙ ap (λ b. (p.0, b) ∷ columned k (put (beside_document doc) (doc, ref) ps)) split.0
           ∙ ap (λ es. (p.0, h p.1) ∷ es) (rest split.1)
           ∙ ap (λ o. match_ordering o ((doc, x) ∷ columned h (p ∷ ps)) ((p.0, x) ∷ columned h ps) ((p.0, h p.1) ∷ insert_entry nat_cmp (columned h ps) doc x)) (sym (cmp_above doc p.0 rank))
       told rest Equal e rank =
-          let split : AllByRecursion Same ps = subst (λ o. AllByRecursion Same (choose o (p ∷ take_out (beside doc) ps) ps (p ∷ ps))) e all in
-          ap (λ o. columned k (choose o (p ∷ put (beside doc) (doc, ref) ps) ((doc, ref) ∷ ps) ((doc, ref) ∷ p ∷ ps))) e
+          let split : AllByRecursion Same ps = subst (λ o. AllByRecursion Same (choose o (p ∷ take_out (beside_document doc) ps) ps (p ∷ ps))) e all in
+          ap (λ o. columned k (choose o (p ∷ put (beside_document doc) (doc, ref) ps) ((doc, ref) ∷ ps) ((doc, ref) ∷ p ∷ ps))) e
           ∙ ap (λ b. (doc, b) ∷ columned k ps) is
           ∙ ap (λ es. (doc, x) ∷ es) (columned-same h k ps split)
           ∙ ap (λ (d : ℕ). (d, x) ∷ columned h ps) (sym rank)
           ∙ ap (λ o. match_ordering o ((doc, x) ∷ columned h (p ∷ ps)) ((p.0, x) ∷ columned h ps) ((p.0, h p.1) ∷ insert_entry nat_cmp (columned h ps) doc x)) (sym (cmp_same doc p.0 rank))
       told rest Greater e rank =
-          let split : AllByRecursion Same (p ∷ ps) = subst (λ o. AllByRecursion Same (choose o (p ∷ take_out (beside doc) ps) ps (p ∷ ps))) e all in
-          ap (λ o. columned k (choose o (p ∷ put (beside doc) (doc, ref) ps) ((doc, ref) ∷ ps) ((doc, ref) ∷ p ∷ ps))) e
+          let split : AllByRecursion Same (p ∷ ps) = subst (λ o. AllByRecursion Same (choose o (p ∷ take_out (beside_document doc) ps) ps (p ∷ ps))) e all in
+          ap (λ o. columned k (choose o (p ∷ put (beside_document doc) (doc, ref) ps) ((doc, ref) ∷ ps) ((doc, ref) ∷ p ∷ ps))) e
           ∙ ap (λ b. (doc, b) ∷ columned k (p ∷ ps)) is
           ∙ ap (λ es. (doc, x) ∷ es) (columned-same h k (p ∷ ps) split)
           ∙ ap (λ o. match_ordering o ((doc, x) ∷ columned h (p ∷ ps)) ((p.0, x) ∷ columned h ps) ((p.0, h p.1) ∷ insert_entry nat_cmp (columned h ps) doc x)) (sym (cmp_below doc p.0 rank))
@@ -126,43 +126,43 @@ module _ {B : Type 0} (h : ℕ → B) (doc : ℕ) where
 
   -- a document taken out
   pub columned-out : (ps : List (ℕ × ℕ)) → IsStrictlySortedBy nat_cmp (map (λ p. p.0) ps)
-      → columned h (take_out (beside doc) ps) ≡ remove_entry (is_at (nat_cmp doc)) (columned h ps)
+      → columned h (take_out (beside_document doc) ps) ≡ remove_entry (is_at (nat_cmp doc)) (columned h ps)
   unfolding IsStrictlySortedBy
   columned-out [] up = refl
   columned-out (p ∷ ps) up = told (columned-out ps up.1) (nat_cmp p.0 doc) refl (ranks p.0 doc)
     where
-      told : columned h (take_out (beside doc) ps) ≡ remove_entry (is_at (nat_cmp doc)) (columned h ps) → (o : Ordering) → nat_cmp p.0 doc ≡ o
-          → MatchOrdering o (p.0 < doc) (p.0 ≡ doc) (doc < p.0) → columned h (take_out (beside doc) (p ∷ ps)) ≡ remove_entry (is_at (nat_cmp doc)) (columned h (p ∷ ps))
+      told : columned h (take_out (beside_document doc) ps) ≡ remove_entry (is_at (nat_cmp doc)) (columned h ps) → (o : Ordering) → nat_cmp p.0 doc ≡ o
+          → MatchOrdering o (p.0 < doc) (p.0 ≡ doc) (doc < p.0) → columned h (take_out (beside_document doc) (p ∷ ps)) ≡ remove_entry (is_at (nat_cmp doc)) (columned h (p ∷ ps))
       told rest Less e rank =
-          ap (λ o. columned h (choose o (p ∷ take_out (beside doc) ps) ps (p ∷ ps))) e
+          ap (λ o. columned h (choose o (p ∷ take_out (beside_document doc) ps) ps (p ∷ ps))) e
           ∙ ap (λ es. (p.0, h p.1) ∷ es) rest
           ∙ ap (λ b. cond b (columned h ps) ((p.0, h p.1) ∷ remove_entry (is_at (nat_cmp doc)) (columned h ps))) (sym (cmp_apart doc p.0 (λ same. absurd (omega arith))))
       told rest Equal e rank =
-          ap (λ o. columned h (choose o (p ∷ take_out (beside doc) ps) ps (p ∷ ps))) e
+          ap (λ o. columned h (choose o (p ∷ take_out (beside_document doc) ps) ps (p ∷ ps))) e
           ∙ ap (λ o. cond (is_eq o) (columned h ps) ((p.0, h p.1) ∷ remove_entry (is_at (nat_cmp doc)) (columned h ps))) (sym (cmp_same doc p.0 rank))
       told rest Greater e rank =
-          ap (λ o. columned h (choose o (p ∷ take_out (beside doc) ps) ps (p ∷ ps))) e
+          ap (λ o. columned h (choose o (p ∷ take_out (beside_document doc) ps) ps (p ∷ ps))) e
           ∙ ap (λ es. (p.0, h p.1) ∷ es) (none_out p.0 ps rank up.0)
           ∙ ap (λ b. cond b (columned h ps) ((p.0, h p.1) ∷ remove_entry (is_at (nat_cmp doc)) (columned h ps))) (sym (cmp_apart doc p.0 (λ same. absurd (omega arith))))
 
   -- a document found
   pub columned-found : (ps : List (ℕ × ℕ)) → IsStrictlySortedBy nat_cmp (map (λ p. p.0) ps)
-      → option_map h (lookup (beside doc) ps) ≡ lookup_in (is_at (nat_cmp doc)) (columned h ps)
+      → option_map h (lookup (beside_document doc) ps) ≡ lookup_in (is_at (nat_cmp doc)) (columned h ps)
   unfolding IsStrictlySortedBy
   columned-found [] up = refl
   columned-found (p ∷ ps) up = told (columned-found ps up.1) (nat_cmp p.0 doc) refl (ranks p.0 doc)
     where
-      told : option_map h (lookup (beside doc) ps) ≡ lookup_in (is_at (nat_cmp doc)) (columned h ps) → (o : Ordering) → nat_cmp p.0 doc ≡ o
-          → MatchOrdering o (p.0 < doc) (p.0 ≡ doc) (doc < p.0) → option_map h (lookup (beside doc) (p ∷ ps)) ≡ lookup_in (is_at (nat_cmp doc)) (columned h (p ∷ ps))
+      told : option_map h (lookup (beside_document doc) ps) ≡ lookup_in (is_at (nat_cmp doc)) (columned h ps) → (o : Ordering) → nat_cmp p.0 doc ≡ o
+          → MatchOrdering o (p.0 < doc) (p.0 ≡ doc) (doc < p.0) → option_map h (lookup (beside_document doc) (p ∷ ps)) ≡ lookup_in (is_at (nat_cmp doc)) (columned h (p ∷ ps))
       told rest Less e rank =
-          ap (λ o. option_map h (choose o (lookup (beside doc) ps) (Some p.1) None)) e
+          ap (λ o. option_map h (choose o (lookup (beside_document doc) ps) (Some p.1) None)) e
           ∙ rest
           ∙ ap (λ b. cond b (Some (h p.1)) (lookup_in (is_at (nat_cmp doc)) (columned h ps))) (sym (cmp_apart doc p.0 (λ same. absurd (omega arith))))
       told rest Equal e rank =
-          ap (λ o. option_map h (choose o (lookup (beside doc) ps) (Some p.1) None)) e
+          ap (λ o. option_map h (choose o (lookup (beside_document doc) ps) (Some p.1) None)) e
           ∙ ap (λ o. cond (is_eq o) (Some (h p.1)) (lookup_in (is_at (nat_cmp doc)) (columned h ps))) (sym (cmp_same doc p.0 rank))
       told rest Greater e rank =
-          ap (λ o. option_map h (choose o (lookup (beside doc) ps) (Some p.1) None)) e
+          ap (λ o. option_map h (choose o (lookup (beside_document doc) ps) (Some p.1) None)) e
           ∙ sym (none_found p.0 ps rank up.0)
           ∙ ap (λ b. cond b (Some (h p.1)) (lookup_in (is_at (nat_cmp doc)) (columned h ps))) (sym (cmp_apart doc p.0 (λ same. absurd (omega arith))))
 

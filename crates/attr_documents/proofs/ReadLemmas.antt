@@ -7,7 +7,7 @@ use Rattle.std.specs.Map.{lookup as lookup_in}
 use Rattle.std.specs.Ordering.{nat_cmp}
 use Rattle.tree_images.specs.Trees.{tree_pairs}
 use Rattle.key_order.specs.Pairs.{choose, lookup}
-use Rattle.doc_vector.specs.Documents.{beside}
+use Rattle.doc_vector.specs.Documents.{beside_document}
 use Rattle.std.specs.List.{AllByRecursion}
 use Rattle.image_base.specs.Records.{Records}
 use Rattle.array_store.proofs.ArrayLemmas.{list_array}
@@ -79,8 +79,8 @@ all_found P c (p ∷ ps) all ref is =
     same a b h = cc
 
 module _ (kind : Kind) (type : ValueType) (m : Records) (root doc : ℕ) (is : IsDocuments kind type m root) where
-  pub found_records : (ref : ℕ) → lookup (beside doc) (tree_pairs m root) ≡ Some ref → AreItemRecords kind type m ref
-  found_records ref found = (all_found (AreItemsAt kind type m) (beside doc) (tree_pairs m root) is.items ref found).records
+  pub found_records : (ref : ℕ) → lookup (beside_document doc) (tree_pairs m root) ≡ Some ref → AreItemRecords kind type m ref
+  found_records ref found = (all_found (AreItemsAt kind type m) (beside_document doc) (tree_pairs m root) is.items ref found).records
 
-  pub found_items : (o : Option ℕ) → lookup (beside doc) (tree_pairs m root) ≡ o → option_map (items_at kind type m) o ≡ lookup_in (is_at (nat_cmp doc)) (column_at kind type m root)
+  pub found_items : (o : Option ℕ) → lookup (beside_document doc) (tree_pairs m root) ≡ o → option_map (items_at kind type m) o ≡ lookup_in (is_at (nat_cmp doc)) (column_at kind type m root)
   found_items o found = ap (option_map (items_at kind type m)) (sym found) ∙ columned-found (items_at kind type m) doc (tree_pairs m root) is.map_is.tree_is.ascends

@@ -8,7 +8,7 @@ use Rattle.tree_images.specs.declared.TheConstants.{NODE_WORDS}
 use Rattle.store_api.specs.Ledgers.{Ledger}
 use Rattle.store_api.specs.Parts.{Part, Owns, Turns, count_in, entries, uses}
 use Rattle.tree_make.specs.Changes.{tree}
-use Rattle.doc_vector.specs.Documents.{beside, IsDocumentMap}
+use Rattle.doc_vector.specs.Documents.{beside_document, IsDocumentMap}
 use Rattle.attr_images.specs.Documents.{column_at}
 use Rattle.attr_images.specs.Values.{stored_value, IsValueRecord}
 use Rattle.attr_images.specs.Words.{class_of}
@@ -67,8 +67,8 @@ pub record ChangesPair {H : Type 0} (kind : Kind) (old new : Ledger H) (m n : Re
 pub record SetsItems {H : Type 0} (kind : Kind) (old : Ledger H) (m n : Records) (root doc : ℕ) (keys : List ℕ) (next : ℕ) : Type 0 where
   pub fresh : (r : ℕ) → Among r (own_at kind n next doc) → uses old r ≡ 0
   pub refer : refer_at kind n next doc ≡ keys
-  pub others : take_out (beside doc) (tree_pairs n next) ≡ take_out (beside doc) (tree_pairs m root)
-  pub stay : SameAt (pairs_own kind (take_out (beside doc) (tree_pairs m root))) m n
+  pub others : take_out (beside_document doc) (tree_pairs n next) ≡ take_out (beside_document doc) (tree_pairs m root)
+  pub stay : SameAt (pairs_own kind (take_out (beside_document doc) (tree_pairs m root))) m n
 
 -- a width for which a change of a document may be refused, by how many items it has then: of nodes, or of the record of its items
 abbrev pub IsDocumentWidth : Kind → ℕ → ℕ → Type 0

@@ -6,13 +6,13 @@ use Rattle.store_api.specs.Ledgers.{Ledger}
 use Rattle.store_api.specs.Flows.{ComesFrom}
 use Rattle.key_order.specs.Pairs.{lookup}
 use Rattle.tree_images.specs.Trees.{tree_nodes, tree_pairs}
-use Rattle.doc_vector.specs.Documents.{beside}
+use Rattle.doc_vector.specs.Documents.{beside_document}
 use Rattle.attr_types.specs.declared.kind.Kind.{Kind}
 use Rattle.attr_documents.specs.Documents.{items_own, items_refer}
 
 -- the reference of a document's items, 0 where it has none
 abbrev pub reference_at : Records → ℕ → ℕ → ℕ
-reference_at m root doc = unwrap_or (lookup (beside doc) (tree_pairs m root)) 0
+reference_at m root doc = unwrap_or (lookup (beside_document doc) (tree_pairs m root)) 0
 
 -- the record that a document has of its own, and those of its values
 abbrev pub own_at : Kind → Records → ℕ → ℕ → List ℕ

@@ -10,7 +10,7 @@ ghost use Rattle.store_api.specs.Parts.{Owns};
 ghost use Rattle.store_api.specs.Units.{MayDo};
 ghost use Rattle.tree_make.specs.Changes.{levels};
 ghost use Rattle.tree_make.specs.Makes.{CountsNodes};
-ghost use Rattle.doc_vector.specs.Documents.{beside, IsDocumentMap};
+ghost use Rattle.doc_vector.specs.Documents.{beside_document, IsDocumentMap};
 ghost use Rattle.attr_images.specs.Documents.{column_at};
 ghost use Rattle.attr_index.specs.Columns.{with_change};
 ghost use Rattle.attr_types.specs.Lawful.{IsLawfulItems};
@@ -34,7 +34,7 @@ fn reference_of<const OFFSET_BITS: u32, F: Frozen<OFFSET_BITS>>(
     doc: Doc,
 ) -> EntryRef<OFFSET_BITS>
     requires { IsDocumentMap (F.records frozen.old) root }
-    ensures reference { result ≡ unwrap_or (found (beside doc) (tree_pairs (F.records frozen.old) root.entry)) 0 }
+    ensures reference { result ≡ unwrap_or (found (beside_document doc) (tree_pairs (F.records frozen.old) root.entry)) 0 }
     ensures same { frozen.new ≡ frozen.old }
 {
     match get(frozen, root, doc) {
@@ -55,8 +55,8 @@ fn set_reference<const OFFSET_BITS: u32, S: Store<OFFSET_BITS>>(
     requires map { IsDocumentMap (S.records store.old) root }
     requires owns { Owns (S.ledger store.old) (S.records store.old) (documents_part kind root ∷ []) }
     ensures changes { IfOk result (ChangesPair kind (S.ledger store.old) (S.ledger store.new) (S.records store.old) (S.records store.new)
-        root.entry (take_out (beside doc) (tree_pairs (S.records store.old) root.entry))
-        (put (beside doc) (doc, reference.entry) (tree_pairs (S.records store.old) root.entry))) }
+        root.entry (take_out (beside_document doc) (tree_pairs (S.records store.old) root.entry))
+        (put (beside_document doc) (doc, reference.entry) (tree_pairs (S.records store.old) root.entry))) }
     ensures counts { CountsNodes (S.ledger store.old) (S.ledger store.new) (2 * levels (S.records store.old) root.entry + 1) }
     ensures refuses { IfErr result (Refuses (S.ledger store.old) (S.ledger store.new) NODE_WORDS) }
     ensures may { MayDo (S.ledger store.old) (S.ledger store.new) }

@@ -19,7 +19,7 @@ use Rattle.attr_rounds.specs.declared.rounds.Round.{Round}
 use Rattle.attr_answers.specs.Lines.{CanAsk}
 use Rattle.attr_answers.specs.declared.asked.Asked.{Asked}
 use Rattle.attr_answers.specs.declared.asked.Told.{Told}
-use Rattle.attr_engine.specs.Steps.{operations_of, tells_of, KeepsWriter, IsReader, HasRead, IsReading, IsTakenFrom, AreTaken}
+use Rattle.attr_engine.specs.Steps.{operations_of, tells_of, KeepsWriter, IsReader, HasRead, IsReading, IsTakenFrom, AreRoundsOf}
 use Rattle.attr_engine.proofs.ReaderLemmas.{AllOf, zip_all, zip_length, zip_each, each_weaker, reading_of, taken_of}
 
 module _ (bits : ℕ) (G : Type 0) (w : WriterView) (home : TableId) (count : ℕ) (asked : Asked) where
@@ -74,7 +74,7 @@ module _ (bits : ℕ) (G : Type 0) (w : WriterView) (home : TableId) (count : �
     TakenBy made rounds = IsOkAnd made (λ r. IsTakenFrom asked.counted (map ask_tree asked.asks.now) v.sizes.shape v.commits r.rounds.items rounds.items)
 
     abbrev pub Taken : Vec (Round Told) Global → Type 0
-    Taken rounds = AreTaken asked.counted (map ask_tree asked.asks.now) v.sizes.shape (last_number w.commits) count v.commits rounds.items
+    Taken rounds = AreRoundsOf asked.counted (map ask_tree asked.asks.now) v.sizes.shape (last_number w.commits) count v.commits rounds.items
 
     taken : (made : Made) (rounds : Vec (Round Told) Global) → Has made → TakenBy made rounds → Taken rounds
     taken (Err e) rounds has by = absurd by
@@ -87,11 +87,11 @@ module _ (bits : ℕ) (G : Type 0) (w : WriterView) (home : TableId) (count : �
 
     -- the same of the writer that the readers were made of, which has the same commits
     home_again : KeepsWriter w v → (rounds : Vec (Round Told) Global) → Taken rounds
-        → AreTaken asked.counted (map ask_tree asked.asks.now) w.sizes.shape (last_number w.commits) count w.commits rounds.items
+        → AreRoundsOf asked.counted (map ask_tree asked.asks.now) w.sizes.shape (last_number w.commits) count w.commits rounds.items
     home_again keeps rounds is =
-        subst (λ (x : WriterView). AreTaken asked.counted (map ask_tree asked.asks.now) x.sizes.shape (last_number w.commits) count x.commits rounds.items) keeps is
+        subst (λ (x : WriterView). AreRoundsOf asked.counted (map ask_tree asked.asks.now) x.sizes.shape (last_number w.commits) count x.commits rounds.items) keeps is
 
     pub all_home : KeepsWriter w v → (rounds : List (Vec (Round Told) Global)) → AllByRecursion Taken rounds
-        → AllByRecursion (λ r. AreTaken asked.counted (map ask_tree asked.asks.now) w.sizes.shape (last_number w.commits) count w.commits r.items) rounds
+        → AllByRecursion (λ r. AreRoundsOf asked.counted (map ask_tree asked.asks.now) w.sizes.shape (last_number w.commits) count w.commits r.items) rounds
     all_home keeps rounds all =
-        each_weaker Taken (λ r. AreTaken asked.counted (map ask_tree asked.asks.now) w.sizes.shape (last_number w.commits) count w.commits r.items) (home_again keeps) rounds all
+        each_weaker Taken (λ r. AreRoundsOf asked.counted (map ask_tree asked.asks.now) w.sizes.shape (last_number w.commits) count w.commits r.items) (home_again keeps) rounds all

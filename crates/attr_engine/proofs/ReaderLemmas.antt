@@ -17,7 +17,7 @@ use Rattle.attr_rounds.specs.Rounds.{IsOfCommit, MakesRounds}
 use Rattle.attr_rounds.specs.declared.rounds.Round.{Round}
 use Rattle.attr_answers.specs.declared.asked.Told.{Told}
 use Rattle.attr_engine.specs.Rounds.{commits_of}
-use Rattle.attr_engine.specs.Steps.{operations_of, tells_of, KeepsWriter, IsReader, HasRead, IsReading, IsTakenFrom, AreTaken, IsLast}
+use Rattle.attr_engine.specs.Steps.{operations_of, tells_of, KeepsWriter, IsReader, HasRead, IsReading, IsTakenFrom, AreRoundsOf, IsLastAnswer}
 
 pub all_first : {X : Type 0} (P : X → Type 0) (x : X) (xs : List X) → All P (x ∷ xs) → P x
 all_first P x xs all = all 0 x (omega arith)
@@ -81,7 +81,7 @@ module _ (counted : Bool) (asks : List AskTree) (w : WriterView) (home : TableId
   }
 
   pub taken_of : (shape : ℕ) (commits : List Image) (taken : List (Round Told)) → IsTakenFrom counted asks shape commits rounds taken
-      → AreTaken counted asks shape (last_number w.commits) count commits taken
+      → AreRoundsOf counted asks shape (last_number w.commits) count commits taken
   taken_of shape commits taken from = record {
     made = ap length from.same ∙ has.made;
     each = from.each;
@@ -109,7 +109,7 @@ keeps_joined w v r is = subst (KeepsWriter w) (sym is) refl
 pub last_of : {A : Type 0} (operations : ℕ → Records → ℕ → ℕ) (answers : ℕ → Records → ℕ → A → Type 0) (lawful : ℕ → Records → ℕ → Type 0) (w v v' : WriterView) (home table : TableId)
     (start r : ReaderView) (rounds taken : List (Round A)) (round : Round A) → IsReader w home start table → MakesRounds operations answers lawful start r rounds
     → KeepsWriter w v → v' ≡ joined v r → taken ≡ rounds → All (IsOfCommit operations answers r.sizes.shape v'.commits) taken → taken ≡ round ∷ []
-    → IsLast operations answers w round.answer
+    → IsLastAnswer operations answers w round.answer
 last_of {A = A} operations answers lawful w v v' home table start r rounds taken round is makes keeps joins same all one =
     let stay : v'.commits ≡ w.commits = ap (λ (x : WriterView). x.commits) joins ∙ ap (λ (x : WriterView). x.commits) keeps in
     let shape : r.sizes.shape ≡ w.sizes.shape = ap (λ (x : Sizes). x.shape) (makes.same_sizes ∙ is.same_sizes) in

@@ -24,11 +24,11 @@ use Rattle.attr_rounds.specs.Rounds.{IsOfCommit}
 use Rattle.attr_rounds.specs.declared.rounds.Round.{Round}
 use Rattle.attr_answers.specs.declared.asked.Told.{Told}
 use Rattle.attr_answers.specs.Lines.{TellsTable}
-use Rattle.attr_report.specs.Run.{Run, table_at}
+use Rattle.attr_report.specs.Run.{Run, table_after}
 use Rattle.attr_report.specs.History.{IsLoaded}
 use Rattle.attr_engine.specs.Run.{full_of}
 use Rattle.attr_engine.specs.Rounds.{IsRoundAt, AreRoundsAt, IsCame, seen_before}
-use Rattle.attr_engine.specs.Steps.{KeepsWriter, operations_of, tells_of, saves_of, parts, AreTaken, IsLast, LoadsInto}
+use Rattle.attr_engine.specs.Steps.{KeepsWriter, operations_of, tells_of, saves_of, parts, AreRoundsOf, IsLastAnswer, LoadsInto}
 use Rattle.attr_engine.proofs.ReaderLemmas.{AllOf, each_weaker}
 
 -- what is answered at an image, by its table
@@ -41,7 +41,7 @@ module _ (run : Run) (ops : List Op) (last : ℕ) (commits : List Image) (are : 
   round_at round of =
       let at = are.each round.commit of.image of.there in
       let n : round.operations ≡ commit_point run.batch (length ops) round.commit = of.is.count ∙ at.operations in
-      let table_is : table_of shape (words_at of.image) of.image.root ≡ table_at run ops round.operations =
+      let table_is : table_of shape (words_at of.image) of.image.root ≡ table_after run ops round.operations =
       ap (λ s. table_of s (words_at of.image) of.image.root) shape_is ∙ at.table ∙ ap (λ k. after run.fields ops k) (sym n) in
       record {
         commit = (let within = slice_get_within commits round.commit of.image of.there in omega (arith, within, count));
@@ -49,7 +49,7 @@ module _ (run : Run) (ops : List Op) (last : ℕ) (commits : List Image) (are : 
         tells = subst (λ table. TellsTable (is_some run.make) run.asks table round.answer) table_is of.is.answer;
       }
 
-  pub rounds_at : (seen : ℕ) (rounds : List (Round Told)) → AreTaken (is_some run.make) run.asks shape seen run.rounds commits rounds → AreRoundsAt run ops seen last rounds
+  pub rounds_at : (seen : ℕ) (rounds : List (Round Told)) → AreRoundsOf (is_some run.make) run.asks shape seen run.rounds commits rounds → AreRoundsAt run ops seen last rounds
   rounds_at seen rounds taken = record {
     made = taken.made;
     each = λ k d below. round_at _ (taken.each k d below);
@@ -58,12 +58,12 @@ module _ (run : Run) (ops : List Op) (last : ℕ) (commits : List Image) (are : 
 
   -- a round of the last commit answers from the table of all that was loaded
   pub last_at : {A : Type 0} (Answers : Table → A → Type 0) (loaded : ℕ) → loaded ≡ commit_point run.batch (length ops) last → (round : Round A)
-      → IsOfCommit operations_of (over_table Answers) shape commits round → last ≤ round.commit → Answers (table_at run ops loaded) round.answer
+      → IsOfCommit operations_of (over_table Answers) shape commits round → last ≤ round.commit → Answers (table_after run ops loaded) round.answer
   last_at Answers loaded point round of later =
       let within = slice_get_within commits round.commit of.image of.there in
       let same : round.commit ≡ last = omega (arith, within, count, later) in
       let here : commit_point run.batch (length ops) round.commit ≡ loaded = ap (commit_point run.batch (length ops)) same ∙ sym point in
-      let table_is : table_of shape (words_at of.image) of.image.root ≡ table_at run ops loaded =
+      let table_is : table_of shape (words_at of.image) of.image.root ≡ table_after run ops loaded =
       ap (λ s. table_of s (words_at of.image) of.image.root) shape_is ∙ (are.each round.commit of.image of.there).table ∙ ap (λ k. after run.fields ops k) here in
       subst (λ (table : Table). Answers table round.answer) table_is of.is.answer
 
@@ -93,7 +93,7 @@ module _ (run : Run) (ops : List Op) (w v : WriterView) (loaded : Loaded) (loads
   counted = is_some run.make
 
   abbrev pub TakenAt : ℕ → Vec (Round Told) Global → Type 0
-  TakenAt seen rounds = AreTaken counted run.asks v.sizes.shape seen run.rounds v.commits rounds.items
+  TakenAt seen rounds = AreRoundsOf counted run.asks v.sizes.shape seen run.rounds v.commits rounds.items
 
   abbrev At : ℕ → Vec (Round Told) Global → Type 0
   At seen rounds = AreRoundsAt run ops seen loads.last rounds.items
@@ -102,18 +102,18 @@ module _ (run : Run) (ops : List Op) (w v : WriterView) (loaded : Loaded) (loads
   at seen rounds taken = rounds_at run ops loads.last v.commits loads.commits loads.count v.sizes.shape (loads.shape_is ∙ shape) seen rounds.items taken
 
   -- what is answered last is of the table of all that was loaded
-  answers_last : {A : Type 0} (Answers : Table → A → Type 0) (answer : A) → IsLast operations_of (over_table Answers) v answer → Answers (table_at run ops loaded.operations) answer
+  answers_last : {A : Type 0} (Answers : Table → A → Type 0) (answer : A) → IsLastAnswer operations_of (over_table Answers) v answer → Answers (table_after run ops loaded.operations) answer
   answers_last Answers answer is =
       let count = loads.count in
       let later = is.later in
       let final : loads.last ≤ is.round.commit = omega (arith, count, later) in
-      subst (Answers (table_at run ops loaded.operations)) (sym is.is)
+      subst (Answers (table_after run ops loaded.operations)) (sym is.is)
       (last_at run ops loads.last v.commits loads.commits loads.count v.sizes.shape (loads.shape_is ∙ shape) Answers loaded.operations loads.point is.round is.of_commit final)
 
   pub came_of : (first later : List (Vec (Round Told) Global)) (rounds : Vec (Vec (Round Told) Global) Global) (last : Told) (documents : Option Documents)
       → rounds.items ≡ (if run.after then later else first)
       → AllOf (TakenAt (last_number w.commits)) (parts run.after run.readers).0 first → AllOf (TakenAt (last_number v.commits)) (parts run.after run.readers).1 later
-      → IsLast operations_of (tells_of counted run.asks) v last → is_some documents ≡ run.save → IfSome documents (IsLast operations_of saves_of v)
+      → IsLastAnswer operations_of (tells_of counted run.asks) v last → is_some documents ≡ run.save → IfSome documents (IsLastAnswer operations_of saves_of v)
       → IsCame run ops (record { loaded = loaded; rounds = rounds; last = last; documents = documents })
   came_of first later rounds last documents is one two told asked saved =
       let count = loads.count in
@@ -138,19 +138,19 @@ module _ (run : Run) (ops : List Op) (w v : WriterView) (loaded : Loaded) (loads
 
 -- what is asked, under its other names
 module _ (counted counted' : Bool) (asks asks' : List AskTree) (flag : counted ≡ counted') (trees : asks ≡ asks') where
-  pub asked_as : (shape seen count : ℕ) (commits : List Image) (rounds : List (Vec (Round Told) Global)) → AllByRecursion (λ r. AreTaken counted asks shape seen count commits r.items) rounds
-      → AllByRecursion (λ r. AreTaken counted' asks' shape seen count commits r.items) rounds
+  pub asked_as : (shape seen count : ℕ) (commits : List Image) (rounds : List (Vec (Round Told) Global)) → AllByRecursion (λ r. AreRoundsOf counted asks shape seen count commits r.items) rounds
+      → AllByRecursion (λ r. AreRoundsOf counted' asks' shape seen count commits r.items) rounds
   asked_as shape seen count commits rounds all =
-      subst (λ b. AllByRecursion (λ r. AreTaken b asks' shape seen count commits r.items) rounds) flag
-      (subst (λ (ts : List AskTree). AllByRecursion (λ r. AreTaken counted ts shape seen count commits r.items) rounds) trees all)
+      subst (λ b. AllByRecursion (λ r. AreRoundsOf b asks' shape seen count commits r.items) rounds) flag
+      (subst (λ (ts : List AskTree). AllByRecursion (λ r. AreRoundsOf counted ts shape seen count commits r.items) rounds) trees all)
 
-  pub last_as : (w : WriterView) (told : Told) → IsLast operations_of (tells_of counted asks) w told → IsLast operations_of (tells_of counted' asks') w told
+  pub last_as : (w : WriterView) (told : Told) → IsLastAnswer operations_of (tells_of counted asks) w told → IsLastAnswer operations_of (tells_of counted' asks') w told
   last_as w told is =
-      subst (λ b. IsLast operations_of (tells_of b asks') w told) flag (subst (λ (ts : List AskTree). IsLast operations_of (tells_of counted ts) w told) trees is)
+      subst (λ b. IsLastAnswer operations_of (tells_of b asks') w told) flag (subst (λ (ts : List AskTree). IsLastAnswer operations_of (tells_of counted ts) w told) trees is)
 
 -- what the last commit answers, of a writer with the same commits
 pub last_on : {A : Type 0} (operations : ℕ → Records → ℕ → ℕ) (answers : ℕ → Records → ℕ → A → Type 0) (v x : WriterView) (answer : A) → KeepsWriter v x
-    → IsLast operations answers x answer → IsLast operations answers v answer
+    → IsLastAnswer operations answers x answer → IsLastAnswer operations answers v answer
 last_on operations answers v x answer keeps is =
-    let moved = subst (λ (y : WriterView). IsLast operations answers y answer) keeps is in
+    let moved = subst (λ (y : WriterView). IsLastAnswer operations answers y answer) keeps is in
     record { round = moved.round; is = moved.is; of_commit = moved.of_commit; later = moved.later }

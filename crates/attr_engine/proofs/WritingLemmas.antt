@@ -9,12 +9,12 @@ use Rattle.attr_types.specs.declared.op.Op.{Op}
 use Rattle.attr_rounds.specs.declared.rounds.Round.{Round}
 use Rattle.attr_answers.specs.declared.asked.Told.{Told}
 use Rattle.attr_answers.specs.Lines.{TellsTable, lines_from}
-use Rattle.attr_report.specs.Run.{Run, Progress, table_at}
+use Rattle.attr_report.specs.Run.{Run, Progress, table_after}
 use Rattle.attr_report.specs.Report.{answer_line, answers_from, answers_at, count_line, counts_from, reader_line, rounds_from, readers_from, final_line, full_line}
 use Rattle.attr_report.specs.Report.{done_line, report, made_line, documents_line, summary, told_by, written, saved_text}
 use Rattle.attr_report.specs.declared.request.Make.{Make}
 use Rattle.attr_index.specs.Columns.{Column, column_of as column_in}
-use Rattle.attr_saver.specs.Lawful.{column_of}
+use Rattle.attr_saver.specs.Lawful.{first_column}
 use Rattle.attr_saver.specs.declared.saved.SavedDocument.{SavedDocument}
 use Rattle.attr_types.specs.Query.{items_in}
 use Rattle.attr_types.specs.declared.items.Item.{Item}
@@ -52,11 +52,11 @@ unfolding counts_from
 lines-counts number [] table = refl
 lines-counts number (ask ∷ asks) table = ap (λ t. count_line number (count_of (answer_to ask table)) ++ t) (lines-counts (number + 1) asks table)
 
-told_lines : (run : Run) (ops : List Op) (n : ℕ) (told : Told) → run.make ≡ None → TellsTable (is_some run.make) run.asks (table_at run ops n) told
+told_lines : (run : Run) (ops : List Op) (n : ℕ) (told : Told) → run.make ≡ None → TellsTable (is_some run.make) run.asks (table_after run ops n) told
     → string_bytes told.lines ≡ answers_at run ops n
 unfolding answers_at
 told_lines run ops n told none tells =
-    tells.lines ∙ ap (λ (m : Option Make). lines_from (is_some m) 1 run.asks (table_at run ops n)) none ∙ lines-answers 1 run.asks (table_at run ops n)
+    tells.lines ∙ ap (λ (m : Option Make). lines_from (is_some m) 1 run.asks (table_after run ops n)) none ∙ lines-answers 1 run.asks (table_after run ops n)
 
 told_counts : (run : Run) (table : Table) (make : Make) (told : Told) → run.make ≡ Some make → TellsTable (is_some run.make) run.asks table told
     → string_bytes told.lines ≡ counts_from 1 run.asks table
@@ -106,7 +106,7 @@ unfolding summary
 summary-told run ops came make is some =
     let loaded = came.loaded.operations in
     let full = full_line (full_of came.loaded.full) in
-    let table = table_at run ops loaded in
+    let table = table_after run ops loaded in
     ends (made_line make ++ documents_line loaded came.last.documents ++ string_bytes came.last.lines) full (done_line loaded came.loaded.skipped)
     ∙ ap₂ (λ (n : ℕ) (b : List ℕ). made_line make ++ documents_line loaded n ++ b ++ full ++ done_line loaded came.loaded.skipped)
     is.tells.documents (told_counts run table make came.last some is.tells)
@@ -137,7 +137,7 @@ run_of run ops came w is unsaved wrote =
     }
 
 saved-written : (run : Run) (ops : List Op) (came : Came) (n : ℕ) (full : Option ℕ)
-    → saved_text run.fields (table_at run ops n) n ≡ written run ops (progress_at came (Some n)) full
+    → saved_text run.fields (table_after run ops n) n ≡ written run ops (progress_at came (Some n)) full
 unfolding written
 saved-written run ops came n full = refl
 
@@ -168,10 +168,10 @@ column_at_first table = column_in 0 table
 abbrev as_saved : ℕ × List Item → SavedDocument
 as_saved e = record { doc = e.0; items = e.1 }
 
-saved_column : (table : Table) → column_of table ≡ map as_saved (column_at_first table)
+saved_column : (table : Table) → first_column table ≡ map as_saved (column_at_first table)
 saved_column [] = refl
 saved_column (e ∷ table) = ap (λ (c : List SavedDocument). as_saved (e.0, items_in e.1 0) ∷ c) (saved_column table)
 
 -- documents with the items of a table's first attribute are saved as that table is
-pub saved_alike : (documents table : Table) → column_at_first documents ≡ column_at_first table → column_of documents ≡ column_of table
+pub saved_alike : (documents table : Table) → column_at_first documents ≡ column_at_first table → first_column documents ≡ first_column table
 saved_alike documents table same = saved_column documents ∙ ap (λ (c : Column). map as_saved c) same ∙ sym (saved_column table)

@@ -8,7 +8,7 @@ use Rattle.attr_rounds.specs.declared.rounds.Round.{Round}
 use Rattle.attr_answers.specs.declared.asked.Told.{Told}
 use Rattle.attr_answers.specs.Lines.{TellsTable}
 use Rattle.attr_column.specs.Columns.{TellsColumn}
-use Rattle.attr_report.specs.Run.{Run, Progress, table_at, skipped_at}
+use Rattle.attr_report.specs.Run.{Run, Progress, table_after, skipped_at}
 use Rattle.attr_report.specs.History.{IsLoaded}
 use Rattle.attr_engine.specs.declared.came.Came.{Came}
 use Rattle.attr_engine.specs.Run.{full_of}
@@ -17,7 +17,7 @@ use Rattle.attr_engine.specs.Run.{full_of}
 pub record IsRoundAt (run : Run) (ops : List Op) (last : ℕ) (round : Round Told) : Type 0 where
   pub commit : round.commit ≤ last
   pub point : round.operations ≡ commit_point run.batch (length ops) round.commit
-  pub tells : TellsTable (is_some run.make) run.asks (table_at run ops round.operations) round.answer
+  pub tells : TellsTable (is_some run.make) run.asks (table_after run ops round.operations) round.answer
 
 abbrev pub commits_of : List (Round Told) → List ℕ
 commits_of rounds = map (λ round. round.commit) rounds
@@ -42,9 +42,9 @@ pub record IsCame (run : Run) (ops : List Op) (came : Came) : Type 0 where
   pub room : IfSome came.loaded.full (λ r. r.active + r.held ≡ run.buffers)
   pub readers : length came.rounds.items ≡ run.readers
   pub rounds : AllByRecursion (λ rounds. AreRoundsAt run ops (seen_before run.after last) last rounds.items) came.rounds.items
-  pub tells : TellsTable (is_some run.make) run.asks (table_at run ops came.loaded.operations) came.last
+  pub tells : TellsTable (is_some run.make) run.asks (table_after run ops came.loaded.operations) came.last
   pub asked : is_some came.documents ≡ run.save
-  pub column : IfSome came.documents (λ documents. TellsColumn (table_at run ops came.loaded.operations) documents.entries)
+  pub column : IfSome came.documents (λ documents. TellsColumn (table_after run ops came.loaded.operations) documents.entries)
 
 -- the counts of operations that the rounds saw, as the report's statement has them
 abbrev pub progress_at : Came → Option ℕ → Progress

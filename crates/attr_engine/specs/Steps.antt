@@ -94,13 +94,13 @@ pub record IsTakenFrom (counted : Bool) (asks : List AskTree) (shape : ℕ) (com
   pub each : All (IsOfCommit operations_of (tells_of counted asks) shape commits) after
 
 -- the rounds of a reader: so many, each of a commit, the commits never falling, and none below what it had seen
-pub record AreTaken (counted : Bool) (asks : List AskTree) (shape seen count : ℕ) (commits : List Image) (rounds : List (Round Told)) : Type 0 where
+pub record AreRoundsOf (counted : Bool) (asks : List AskTree) (shape seen count : ℕ) (commits : List Image) (rounds : List (Round Told)) : Type 0 where
   pub made : length rounds ≡ count
   pub each : All (IsOfCommit operations_of (tells_of counted asks) shape commits) rounds
   pub forward : IsNonDecreasing (seen ∷ commits_of rounds)
 
 -- what is answered in one more round, of a reader that had seen the last commit
-pub record IsLast {A : Type 0} (operations : ℕ → Records → ℕ → ℕ) (answers : ℕ → Records → ℕ → A → Type 0) (w : WriterView) (answer : A) : Type 0 where
+pub record IsLastAnswer {A : Type 0} (operations : ℕ → Records → ℕ → ℕ) (answers : ℕ → Records → ℕ → A → Type 0) (w : WriterView) (answer : A) : Type 0 where
   pub round : Round A
   pub is : answer ≡ round.answer
   pub of_commit : IsOfCommit operations answers w.sizes.shape w.commits round

@@ -5,7 +5,7 @@ use Rattle.attr_rounds.specs.declared.rounds.Round.{Round}
 use Rattle.attr_answers.specs.declared.asked.Told.{Told}
 use Rattle.attr_loader.specs.declared.loaded.Loaded.{Loaded}
 use Rattle.attr_report.specs.Report.{reader_line, final_line, full_line, done_line, made_line, documents_line, saved_text}
-use Rattle.attr_report.specs.Run.{Run, table_at}
+use Rattle.attr_report.specs.Run.{Run, table_after}
 use Rattle.attr_report.specs.declared.request.Make.{Make}
 use Rattle.attr_types.specs.declared.op.Op.{Op}
 use Rattle.attr_engine.specs.declared.came.Came.{Came}
@@ -59,4 +59,4 @@ pub record IsSavedOf (run : Run) (ops : List Op) (came : Came) (w : Written) : T
   pub full : w.full ≡ came.loaded.full
   pub rounds : w.rounds ≡ map (λ r. counts_of r.items) came.rounds.items
   pub saved : w.saved ≡ Some came.loaded.operations
-  pub text : w.text.items ≡ saved_text run.fields (table_at run ops came.loaded.operations) came.loaded.operations
+  pub text : w.text.items ≡ saved_text run.fields (table_after run ops came.loaded.operations) came.loaded.operations

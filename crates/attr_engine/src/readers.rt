@@ -7,7 +7,7 @@ ghost use Rattle.attr_answers.specs.Lines.{CanAsk};
 ghost use Rattle.attr_images.specs.Shapes.{shape_of, types_of};
 ghost use Rattle.attr_scores.specs.Scores.{ask_tree};
 ghost use Rattle.attr_types.specs.declared.field.TheConstants.{MOST_FIELDS};
-ghost use Rattle.attr_engine.specs.Steps.{operations_of, saves_of, KeepsWriter, IsReader, IsReading, IsTakenFrom, AreTaken, IsLast};
+ghost use Rattle.attr_engine.specs.Steps.{operations_of, saves_of, KeepsWriter, IsReader, IsReading, IsTakenFrom, AreRoundsOf, IsLastAnswer};
 
 use attr_answers::{Asked, Told};
 use attr_column::Saving;
@@ -104,7 +104,7 @@ pub fn read_after<'a, const OFFSET_BITS: u32, R: Threads + Sync, G: Gate + Sync 
     requires { CanAsk question.now.fields.now (length question.now.asks.now) (writer_of writer.old.place.me.0).sizes.shape }
     ensures count { IfOk result (λ rounds. length rounds.items ≡ readers) }
     ensures rounds { IfOk result (λ rounds. AllByRecursion (λ r.
-        AreTaken question.now.counted (map ask_tree question.now.asks.now) (writer_of writer.old.place.me.0).sizes.shape (last_number (writer_of writer.old.place.me.0).commits) count
+        AreRoundsOf question.now.counted (map ask_tree question.now.asks.now) (writer_of writer.old.place.me.0).sizes.shape (last_number (writer_of writer.old.place.me.0).commits) count
         (writer_of writer.old.place.me.0).commits r.items) rounds.items) }
     ensures keeps { KeepsWriter (writer_of writer.old.place.me.0) (writer_of writer.new.place.me.0) }
     ensures table { writer.new.place.table_id ≡ writer.old.place.table_id }
@@ -121,7 +121,7 @@ pub fn last_answer<'a, const OFFSET_BITS: u32, Q: Question<OFFSET_BITS, AttrLayo
     question: &Q,
 ) -> Result<Q::Answer, AllocError>
     requires { Q.fits question.now (writer_of writer.old.place.me.0).sizes.shape }
-    ensures last { IfOk result (IsLast Q.operations (Q.answers question.now) (writer_of writer.old.place.me.0)) }
+    ensures last { IfOk result (IsLastAnswer Q.operations (Q.answers question.now) (writer_of writer.old.place.me.0)) }
     ensures keeps { KeepsWriter (writer_of writer.old.place.me.0) (writer_of writer.new.place.me.0) }
 {
     let reader = reader_in(writer)?;
@@ -144,7 +144,7 @@ pub fn last_documents<'a, const OFFSET_BITS: u32>(
     requires few { length fields.now ≤ MOST_FIELDS }
     requires shape { (writer_of writer.old.place.me.0).sizes.shape ≡ shape_of (types_of fields.now) }
     ensures asked { IfOk result (λ documents. is_some documents ≡ save) }
-    ensures last { IfOk result (λ documents. IfSome documents (IsLast operations_of saves_of (writer_of writer.old.place.me.0))) }
+    ensures last { IfOk result (λ documents. IfSome documents (IsLastAnswer operations_of saves_of (writer_of writer.old.place.me.0))) }
 {
     if !save {
         return Ok(None);

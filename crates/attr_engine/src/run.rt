@@ -8,7 +8,7 @@ ghost use Rattle.attr_types.specs.Lawful.{OpFits};
 ghost use Rattle.attr_types.specs.declared.field.TheConstants.{MOST_FIELDS};
 ghost use Rattle.attr_report.specs.Run.{run_in};
 ghost use Rattle.attr_engine.specs.Rounds.{IsCame};
-ghost use Rattle.attr_engine.specs.Steps.{parts, IsNewWriter, IsQuestionOf, LoadsInto, AreTaken};
+ghost use Rattle.attr_engine.specs.Steps.{parts, IsNewWriter, IsQuestionOf, LoadsInto, AreRoundsOf};
 ghost use Rattle.attr_answers.specs.Lines.{CanAsk};
 ghost use Rattle.gen_core.specs.Views.{last_number};
 
@@ -70,7 +70,7 @@ fn load_first<'a, const OFFSET_BITS: u32, R: Threads + Sync, G: Gate + Sync + 's
     requires fit { AllByRecursion (OpFits question.now.fields.now) ops.now }
     ensures loads { IfOk result (λ r. LoadsInto question.now.fields.now batch ops.now (writer_of writer.entry.place.me.0) (writer_of r.writer.place.me.0) r.loaded) }
     ensures count { IfOk result (λ r. length r.first.items ≡ readers) }
-    ensures rounds { IfOk result (λ r. AllByRecursion (λ x. AreTaken question.now.counted (map ask_tree question.now.asks.now) (writer_of r.writer.place.me.0).sizes.shape
+    ensures rounds { IfOk result (λ r. AllByRecursion (λ x. AreRoundsOf question.now.counted (map ask_tree question.now.asks.now) (writer_of r.writer.place.me.0).sizes.shape
         (last_number (writer_of writer.entry.place.me.0).commits) rounds (writer_of r.writer.place.me.0).commits x.items) r.first.items) }
 {
     let beside = load_beside(

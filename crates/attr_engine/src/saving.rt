@@ -1,9 +1,9 @@
 //! What a run writes that saves its table, from the documents of the first attribute.
 ghost use Rattle.std.specs.Prelude.{◌≡◌, true, map, Some, IfOk};
 ghost use Rattle.std.specs.List.{AllByRecursion};
-ghost use Rattle.attr_saver.specs.Lawful.{column_of};
+ghost use Rattle.attr_saver.specs.Lawful.{first_column};
 ghost use Rattle.attr_types.specs.Lawful.{OpFits};
-ghost use Rattle.attr_report.specs.Run.{run_in, table_at};
+ghost use Rattle.attr_report.specs.Run.{run_in, table_after};
 ghost use Rattle.attr_report.specs.Report.{saved_text};
 ghost use Rattle.attr_engine.specs.Rounds.{IsCame};
 ghost use Rattle.attr_engine.specs.Run.{IsRunOf};
@@ -26,8 +26,8 @@ fn saved_bytes(
     documents: &BTreeMap<Doc, FieldItems>,
 ) -> Result<Vec<u8>, AllocError>
     requires fit { AllByRecursion (OpFits request.now.fields) _ops.now }
-    requires column { column_of documents.now.entries ≡ column_of (table_at (run_in request.now) _ops.now loaded) }
-    ensures { IfOk result (λ bytes. bytes.items ≡ saved_text request.now.fields (table_at (run_in request.now) _ops.now loaded) loaded) }
+    requires column { first_column documents.now.entries ≡ first_column (table_after (run_in request.now) _ops.now loaded) }
+    ensures { IfOk result (λ bytes. bytes.items ≡ saved_text request.now.fields (table_after (run_in request.now) _ops.now loaded) loaded) }
 {
     column_law();
     step_law();
@@ -48,7 +48,7 @@ pub fn saved_run(
     requires fit { AllByRecursion (OpFits request.now.fields) ops.now }
     requires saves { request.now.save ≡ true }
     requires came { IsCame (run_in request.now) ops.now came.now }
-    requires column { column_of documents.now.entries ≡ column_of (table_at (run_in request.now) ops.now came.now.loaded.operations) }
+    requires column { first_column documents.now.entries ≡ first_column (table_after (run_in request.now) ops.now came.now.loaded.operations) }
     ensures { IfOk result (IsRunOf (run_in request.now) ops.now) }
 {
     let loaded = came.loaded.operations;

@@ -22,7 +22,7 @@ use Rattle.value_index.specs.Changes.{nodes_most}
 use Rattle.attr_walks.specs.Counts.{value_nodes, MakesFew, record_sum, gone_count}
 use Rattle.attr_walks.proofs.CountLemmas.{few_more, few_then, levels_few, no_node, one_of}
 use Rattle.attr_walks.proofs.LevelLemmas.{levels_low}
-use Rattle.attr_field.specs.Counts.{field_nodes, field_records, lost_values, low_nodes, new_values, weight_at}
+use Rattle.attr_field.specs.Counts.{field_nodes, field_records, lost_values, low_nodes, new_values, entry_weight}
 
 abbrev one_if : Bool → ℕ
 one_if t = cond t 1 0
@@ -74,12 +74,12 @@ module _ {H : Type 0} (old : List (Value × ℤ)) (a b c : Ledger H) where
   pub counts_entry : MakesFew a b 17 1 → MakesFew a b (field_nodes old []) (field_records old [])
   counts_entry made = few_more a b 17 1 (field_nodes old []) (field_records old []) (omega arith) (omega arith) made
 
-  pub counts_taken : MayDo a b → MakesFew a b 17 1 → (none : List (Value × ℤ)) → none ≡ [] → MakesFew b c (34 * gone_count (weight_at none) old) (gone_count (weight_at none) old)
+  pub counts_taken : MayDo a b → MakesFew a b 17 1 → (none : List (Value × ℤ)) → none ≡ [] → MakesFew b c (34 * gone_count (entry_weight none) old) (gone_count (entry_weight none) old)
       → MakesFew a c (field_nodes old []) (field_records old [])
   counts_taken may entry none is gone =
       few_more a c (17 + 34 * lost_values old []) (1 + lost_values old []) (field_nodes old []) (field_records old []) (omega arith) (omega arith)
       (few_then a b c 17 1 (34 * lost_values old []) (lost_values old []) may entry
-      (subst (λ (es : List (Value × ℤ)). MakesFew b c (34 * gone_count (weight_at es) old) (gone_count (weight_at es) old)) is gone))
+      (subst (λ (es : List (Value × ℤ)). MakesFew b c (34 * gone_count (entry_weight es) old) (gone_count (entry_weight es) old)) is gone))
 
 -- ---- the same where no tree has more levels
 pub documents_low : (kind : Kind) (type : ValueType) (m : Records) (root most : ℕ) → IsDocuments kind type m root → 0 < most → length (column_at kind type m root) < 2 * 8 ^ most
@@ -146,9 +146,9 @@ module _ {H : Type 0} (most : ℕ) (old : List (Value × ℤ)) (a b c : Ledger H
       (mid_of_three (value_nodes most * new_values old []) (2 * most + 1) (value_nodes most * lost_values old [])) (omega arith) made
 
   pub low_gone : MayDo a b → MakesFew a b (2 * most + 1) 1 → (none : List (Value × ℤ)) → none ≡ []
-      → MakesFew b c (value_nodes most * gone_count (weight_at none) old) (gone_count (weight_at none) old) → MakesFew a c (low_nodes most old []) (field_records old [])
+      → MakesFew b c (value_nodes most * gone_count (entry_weight none) old) (gone_count (entry_weight none) old) → MakesFew a c (low_nodes most old []) (field_records old [])
   low_gone may entry none is gone =
       few_more a c (2 * most + 1 + value_nodes most * lost_values old []) (1 + lost_values old []) (low_nodes most old []) (field_records old [])
       (last_of_three (value_nodes most * new_values old []) (2 * most + 1) (value_nodes most * lost_values old [])) (omega arith)
       (few_then a b c (2 * most + 1) 1 (value_nodes most * lost_values old []) (lost_values old []) may entry
-      (subst (λ (es : List (Value × ℤ)). MakesFew b c (value_nodes most * gone_count (weight_at es) old) (gone_count (weight_at es) old)) is gone))
+      (subst (λ (es : List (Value × ℤ)). MakesFew b c (value_nodes most * gone_count (entry_weight es) old) (gone_count (entry_weight es) old)) is gone))

@@ -9,15 +9,15 @@ use Rattle.attr_types.specs.declared.value.Value.{Value}
 use Rattle.attr_walks.specs.Counts.{added_count, gone_count, value_nodes}
 
 -- the weight of a value among entries
-abbrev pub weight_at : List (Value × ℤ) → Value → Option ℤ
-weight_at entries value = lookup (is_at (value_cmp value)) entries
+abbrev pub entry_weight : List (Value × ℤ) → Value → Option ℤ
+entry_weight entries value = lookup (is_at (value_cmp value)) entries
 
 -- the values of a document that are new or get another weight, and those that are no more
 abbrev pub new_values : List (Value × ℤ) → List (Value × ℤ) → ℕ
-new_values old new = added_count (weight_at old) new
+new_values old new = added_count (entry_weight old) new
 
 abbrev pub lost_values : List (Value × ℤ) → List (Value × ℤ) → ℕ
-lost_values old new = gone_count (weight_at new) old
+lost_values old new = gone_count (entry_weight new) old
 
 -- the nodes that a document's change makes at most: in two trees for each such value, and in the tree of documents
 abbrev pub field_nodes : List (Value × ℤ) → List (Value × ℤ) → ℕ

@@ -6,7 +6,7 @@ use Rattle.std.specs.List.{range_with_len, AllByRecursion}
 use Rattle.attr_images.specs.Postings.{block_documents}
 use Rattle.attr_images.specs.declared.TheConstants.{BLOCK_DOCUMENTS}
 use Rattle.doc_set.proofs.BitLemmas.{by_cases}
-use Rattle.doc_set.specs.Sets.{has, in_words, Ascends}
+use Rattle.doc_set.specs.Sets.{has, in_words, IsAscending}
 
 -- those of `n` numbers from `s` on that pass, each as one from `a` on
 module _ (t : ℕ → Bool) (a : ℕ) where
@@ -17,11 +17,11 @@ module _ (t : ℕ → Bool) (a : ℕ) where
       elim (t s) as (λ pass. AllByRecursion (λ y. b < y) (map (λ i. a + i) (cond pass (s ∷ filter t (range_with_len (s + 1) n)) (filter t (range_with_len (s + 1) n)))))
       [ true ↦ (below, rest) | false ↦ rest ]
 
-  pub passing_ascend : (s n : ℕ) → Ascends (map (λ i. a + i) (filter t (range_with_len s n)))
+  pub passing_ascend : (s n : ℕ) → IsAscending (map (λ i. a + i) (filter t (range_with_len s n)))
   passing_ascend s zero = tt
   passing_ascend s (suc n) =
       let rest = passing_ascend (s + 1) n in
-      elim (t s) as (λ pass. Ascends (map (λ i. a + i) (cond pass (s ∷ filter t (range_with_len (s + 1) n)) (filter t (range_with_len (s + 1) n)))))
+      elim (t s) as (λ pass. IsAscending (map (λ i. a + i) (cond pass (s ∷ filter t (range_with_len (s + 1) n)) (filter t (range_with_len (s + 1) n)))))
       [ true ↦ (all_above (s + 1) n (a + s) (omega arith), rest) | false ↦ rest ]
 
   pub outside : (s n doc : ℕ) → ((i : ℕ) → s ≤ i → i < s + n → doc ≡ a + i → ⊥) → has (map (λ i. a + i) (filter t (range_with_len s n))) doc ≡ false
@@ -68,6 +68,6 @@ pub block_has_bits : (k doc : ℕ) (ws : List ℕ) → has (block_documents k ws
 unfolding block_documents
 block_has_bits k doc ws = has_bits BLOCK_DOCUMENTS k doc ws refl
 
-pub block_ascends : (k : ℕ) (ws : List ℕ) → Ascends (block_documents k ws)
+pub block_ascends : (k : ℕ) (ws : List ℕ) → IsAscending (block_documents k ws)
 unfolding block_documents
 block_ascends k ws = passing_ascend (in_words ws) (BLOCK_DOCUMENTS * k) 0 BLOCK_DOCUMENTS

@@ -20,7 +20,7 @@ use Rattle.attr_images.specs.Tables.{AttributeTrees, table_of_columns, HaveSameD
 use Rattle.attr_images.specs.Values.{value_of, stored_value}
 use Rattle.attr_images.proofs.ShapeLemmas.{shape_tells}
 use Rattle.attr_images.proofs.TableLemmas.{IsTyped, table_has_columns, columns_make_lawful, columns_make_typed}
-use Rattle.attr_types.specs.Lawful.{IsLawfulTable, HasType}
+use Rattle.attr_types.specs.Lawful.{IsLawfulTable, DocumentsHaveType}
 use Rattle.attr_types.specs.Value.{value_cmp, type_of}
 use Rattle.attr_types.specs.declared.field.TheConstants.{MOST_FIELDS}
 use Rattle.attr_types.specs.declared.field.Field.{Field}
@@ -166,9 +166,9 @@ columns_typed : (m : Records) (i : ℕ) (fields : List Field) (ws : List ℕ) �
 columns_typed m i [] ws = tt
 columns_typed m i (field ∷ fields) ws = (pairs_typed field m (tree_pairs m (slice_index ws (1 + 2 * i))), columns_typed m (suc i) fields ws)
 
-pub table_has_type : (fields : List Field) (m : Records) (root : ℕ) → length fields ≤ MOST_FIELDS → HasType fields (table_of (shape_of (types_of fields)) m root)
+pub table_has_type : (fields : List Field) (m : Records) (root : ℕ) → length fields ≤ MOST_FIELDS → DocumentsHaveType fields (table_of (shape_of (types_of fields)) m root)
 table_has_type fields m root few =
-    subst (λ attributes. HasType fields (table_of_columns (columns_at m attributes))) (sym (attributes_are fields m root few))
+    subst (λ attributes. DocumentsHaveType fields (table_of_columns (columns_at m attributes))) (sym (attributes_are fields m root few))
     (columns_make_typed fields (columns_at m (attributes_from 0 (types_of fields) (root_words m root))) (columns_typed m 0 fields (root_words m root)))
 
 -- ---- each of its fields

@@ -7,7 +7,7 @@ use Rattle.std.specs.Map.{keys_of}
 use Rattle.std.specs.Ordering.{nat_cmp}
 use Rattle.attr_images.specs.Tables.{table_of_columns, HaveSameDocuments}
 use Rattle.attr_index.specs.Columns.{Column, IsLawfulColumn, table_of_column, column_of}
-use Rattle.attr_types.specs.Lawful.{IsLawfulTable, IsDocNumber, IsLawfulDocument, IsLawfulItems, HasType}
+use Rattle.attr_types.specs.Lawful.{IsLawfulTable, IsDocNumber, IsLawfulDocument, IsLawfulItems, DocumentsHaveType}
 use Rattle.attr_types.specs.Query.{items_in}
 use Rattle.attr_types.specs.Table.{Table}
 use Rattle.attr_types.specs.Value.{Document, AreOfType, values_of}
@@ -120,17 +120,17 @@ columns_make_lawful (field ∷ other ∷ fields) (column ∷ next ∷ rest) lawf
 abbrev pub IsTyped : Field → Column → Type 0
 IsTyped field column = AllByRecursion (λ (e : ℕ × List Item). AreOfType field.value (values_of e.1)) column
 
-column_typed : (field : Field) (column : Column) → IsTyped field column → HasType (field ∷ []) (table_of_column column)
+column_typed : (field : Field) (column : Column) → IsTyped field column → DocumentsHaveType (field ∷ []) (table_of_column column)
 column_typed field [] all = tt
 column_typed field (e ∷ column) all = ((all.0, tt), column_typed field column all.1)
 
-beside_typed : (field : Field) (fields : List Field) (column : Column) (table : Table) → IsTyped field column → HasType fields table
-    → HasType (field ∷ fields) (beside column table)
+beside_typed : (field : Field) (fields : List Field) (column : Column) (table : Table) → IsTyped field column → DocumentsHaveType fields table
+    → DocumentsHaveType (field ∷ fields) (beside column table)
 beside_typed field fields [] table items documents = tt
 beside_typed field fields (e ∷ column) [] items documents = tt
 beside_typed field fields (e ∷ column) (row ∷ table) items documents = ((items.0, documents.0), beside_typed field fields column table items.1 documents.1)
 
-pub columns_make_typed : (fields : List Field) (columns : List Column) → AllZip IsTyped fields columns → HasType fields (table_of_columns columns)
+pub columns_make_typed : (fields : List Field) (columns : List Column) → AllZip IsTyped fields columns → DocumentsHaveType fields (table_of_columns columns)
 columns_make_typed [] [] typed = tt
 columns_make_typed [] (column ∷ columns) typed = absurd typed
 columns_make_typed (field ∷ fields) [] typed = absurd typed

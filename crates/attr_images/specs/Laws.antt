@@ -19,7 +19,7 @@ use Rattle.attr_images.specs.Words.{filled}
 use Rattle.attr_images.specs.declared.TheConstants.{FIRST_VECTOR, BLOCK_DOCUMENTS}
 use Rattle.attr_index.specs.Columns.{Column, IsLawfulColumn, column_of}
 use Rattle.attr_index.specs.Index.{IsIndexOf}
-use Rattle.attr_types.specs.Lawful.{IsLawfulTable, HasType}
+use Rattle.attr_types.specs.Lawful.{IsLawfulTable, DocumentsHaveType}
 use Rattle.attr_types.specs.Table.{Table}
 use Rattle.attr_types.specs.Value.{value_cmp}
 use Rattle.attr_types.specs.declared.field.TheConstants.{MOST_FIELDS}
@@ -28,7 +28,7 @@ use Rattle.attr_types.specs.declared.kind.Kind.{Kind}
 use Rattle.attr_types.specs.declared.kind.ValueType.{ValueType}
 use Rattle.attr_types.specs.declared.kind.ValueType.TheVariants as types
 use Rattle.attr_types.specs.declared.value.Value.TheVariants as values
-use Rattle.doc_set.specs.Sets.{has, in_words, Ascends}
+use Rattle.doc_set.specs.Sets.{has, in_words, IsAscending}
 
 -- ---- shapes
 -- a shape tells the kinds and value types that it was made of
@@ -51,7 +51,7 @@ BlockHasBits = (k doc : ℕ) (ws : List ℕ)
     → has (block_documents k ws) doc ≡ (nat_eq (doc / BLOCK_DOCUMENTS) k && in_words ws (doc % BLOCK_DOCUMENTS))
 
 abbrev pub BlockAscends : Type 0
-BlockAscends = (k : ℕ) (ws : List ℕ) → Ascends (block_documents k ws)
+BlockAscends = (k : ℕ) (ws : List ℕ) → IsAscending (block_documents k ws)
 
 -- no node of a dictionary is there twice
 abbrev pub DictionaryNodesAreDistinct : Type 0
@@ -157,7 +157,7 @@ TableIsLawful = (fields : List Field) (m : Records) (root : ℕ) → length fiel
 
 abbrev pub TableHasType : Type 0
 TableHasType = (fields : List Field) (m : Records) (root : ℕ) → length fields ≤ MOST_FIELDS
-    → HasType fields (table_of (shape_of (types_of fields)) m root)
+    → DocumentsHaveType fields (table_of (shape_of (types_of fields)) m root)
 
 abbrev pub OperationsFit : Type 0
 OperationsFit = (shape : ℕ) (m : Records) (root : ℕ) → IsLawfulImage shape m root → operations_at m root < 2 ^ 32

@@ -9,8 +9,8 @@ pub record VecSinkState : Type 0 where
   pub faults : ℕ
 
 -- no room is left
-abbrev pub IsFull : VecSinkState → Type 0
-IsFull s = s.room ≤ length s.taken
+abbrev pub IsSinkFull : VecSinkState → Type 0
+IsSinkFull s = s.room ≤ length s.taken
 
 -- how many bytes of a piece fit
 abbrev pub fitting_count : VecSinkState → List ℕ → ℕ

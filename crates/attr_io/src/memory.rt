@@ -111,7 +111,7 @@ impl VecSink {
 
 impl Sink for VecSink {
     ghost use Rattle.std.specs.Prelude.{Some};
-    ghost use Rattle.attr_io.specs.VecSink.{IsFull, after_fault, after_write, fitting_count};
+    ghost use Rattle.attr_io.specs.VecSink.{IsSinkFull, after_fault, after_write, fitting_count};
 
     ghost taken = { λ s. Some s.taken };
 
@@ -124,7 +124,7 @@ impl Sink for VecSink {
         ensures bytes { WriteAppends (Some self.old.taken) (Some self.new.taken) result piece.now }
         ensures cause { CountsFaults self.old.faults self.new.faults result }
 
-        ensures full { IsErr result ↔ IsFull self.old }
+        ensures full { IsErr result ↔ IsSinkFull self.old }
         ensures fits { IfOk result (λ n. n ≡ fitting_count self.old piece.now) }
         ensures ok { IfOk result (λ n. self.new ≡ after_write self.old piece.now n) }
         ensures err { OnErr result (self.new ≡ after_fault self.old) }

@@ -6,7 +6,7 @@ use Rattle.std.specs.Option.{IfSome}
 use Rattle.attr_types.proofs.EntryLemmas.{all-lookup}
 use Rattle.std.specs.Option.{option_and_then, unwrap_or}
 use Rattle.attr_types.proofs.TableLemmas.{step_keeps}
-use Rattle.attr_types.specs.Lawful.{IsLawfulDocument, IsLawfulTable, HasType, OpFits}
+use Rattle.attr_types.specs.Lawful.{IsLawfulDocument, IsLawfulTable, DocumentsHaveType, OpFits}
 use Rattle.attr_types.specs.Table.{Table, document_at, with_document, to_update, updated, after_op}
 use Rattle.attr_types.specs.Value.{Document}
 use Rattle.attr_types.specs.declared.change.Change.{Change}
@@ -28,10 +28,10 @@ fits_within whole inside op is fits = subst (λ (p : Plain). OpFits p.fields op)
 
 -- what an operation makes of a lawful table is lawful
 pub after_keeps : (fields : List Field) (table new : Table) (op : Op) → OpFits fields op
-    → IsLawfulTable fields table × HasType fields table
-    → new ≡ after_op fields table op → IsLawfulTable fields new × HasType fields new
+    → IsLawfulTable fields table × DocumentsHaveType fields table
+    → new ≡ after_op fields table op → IsLawfulTable fields new × DocumentsHaveType fields new
 after_keeps fields table new op fits sound is =
-    subst (λ t. IsLawfulTable fields t × HasType fields t) (sym is) (step_keeps fields table op fits sound)
+    subst (λ t. IsLawfulTable fields t × DocumentsHaveType fields t) (sym is) (step_keeps fields table op fits sound)
 
 -- a document of a lawful table is lawful
 pub found_lawful : (fields : List Field) (table : Table) (doc : ℕ) (document : Option Document) → IsLawfulTable fields table

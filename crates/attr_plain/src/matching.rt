@@ -1,7 +1,7 @@
 ghost use Rattle.std.specs.Prelude.{◌≡◌};
 ghost use Rattle.std.specs.List.{list_any};
 ghost use Rattle.attr_types.specs.Query.{begins_with, is_from, is_up_to, meets, meets_some, items_in, matches};
-ghost use Rattle.attr_types.specs.Query.{all_match, some_match, tree_of, trees_of, has_items};
+ghost use Rattle.attr_types.specs.Query.{all_match, some_match, tree_of, query_trees, has_items};
 
 use attr_types::{FieldItems, Item, Items, Leaf, Query, Text, Value, compare};
 
@@ -88,7 +88,7 @@ fn does_match(query: &Query, document: &[Items]) -> bool
 
 #[cycle(matching)]
 fn do_all_match(queries: &Vec<Query>, document: &[Items]) -> bool
-    ensures { result ≡ all_match (trees_of queries.now.items) document.now }
+    ensures { result ≡ all_match (query_trees queries.now.items) document.now }
 {
     for query in queries {
         if !does_match(query, document) {
@@ -100,7 +100,7 @@ fn do_all_match(queries: &Vec<Query>, document: &[Items]) -> bool
 
 #[cycle(matching)]
 fn does_some_match(queries: &Vec<Query>, document: &[Items]) -> bool
-    ensures { result ≡ some_match (trees_of queries.now.items) document.now }
+    ensures { result ≡ some_match (query_trees queries.now.items) document.now }
 {
     for query in queries {
         if does_match(query, document) {

@@ -1,6 +1,6 @@
 ghost use Rattle.std.specs.Prelude.{◌≡◌, IfOk, OnOk, OnErr, [], option_and_then, option_copied};
 ghost use Rattle.std.specs.List.Sorted.{IsStrictlyIncreasing};
-ghost use Rattle.attr_types.specs.Lawful.{HasType, IsLawfulTable, OpFits};
+ghost use Rattle.attr_types.specs.Lawful.{DocumentsHaveType, IsLawfulTable, OpFits};
 ghost use Rattle.attr_types.specs.Query.{tree_of};
 ghost use Rattle.attr_types.specs.Table.{hits as hits_of, updated, to_update, document_at};
 ghost use Rattle.attr_plain.specs.Answers.{plain_after, answer_to};
@@ -20,14 +20,14 @@ pub struct PlainTable {
 }
 
 impl Model for PlainTable {
-    ghost use Rattle.attr_types.specs.Lawful.{IsLawfulTable, HasType};
+    ghost use Rattle.attr_types.specs.Lawful.{IsLawfulTable, DocumentsHaveType};
     ghost use Rattle.attr_plain.specs.Plain.{Plain};
 
     ghost Value = { Plain };
 
     ghost view = { λ p. record { fields = p.fields; table = p.documents.entries } };
 
-    ghost invariant = { λ p. IsLawfulTable p.fields p.documents.entries × HasType p.fields p.documents.entries };
+    ghost invariant = { λ p. IsLawfulTable p.fields p.documents.entries × DocumentsHaveType p.fields p.documents.entries };
 }
 
 impl PlainTable {
@@ -52,7 +52,7 @@ impl PlainTable {
     pub fn documents(&self) -> &BTreeMap<Doc, FieldItems>
         ensures entries { result.now.entries ≡ self.now.table }
         ensures lawful { IsLawfulTable self.now.fields self.now.table }
-        ensures typed { HasType self.now.fields self.now.table }
+        ensures typed { DocumentsHaveType self.now.fields self.now.table }
     {
         &self.documents
     }

@@ -14,7 +14,7 @@ use Rattle.std.specs.List.Sorted.{IsNonDecreasing}
 use Rattle.attr_types.specs.declared.op.Op.{Op}
 use Rattle.attr_types.specs.Table.{IsCommitPoint}
 use Rattle.attr_report.specs.Run.{Run, answers_of}
-use Rattle.attr_report.specs.History.{RunEvent, Commit, Round, AreInOrder}
+use Rattle.attr_report.specs.History.{RunEvent, Commit, Round, AreRoundsInOrder}
 use Rattle.attr_report.specs.History.{AreInPlace, numbers_to, is_commit_point, commit_points}
 use Rattle.attr_report.specs.History.{rounds_of_reader, rounds_at, history, commit_in, round_in}
 use Rattle.attr_report.specs.History.{numbered_from}
@@ -326,13 +326,13 @@ IsCommitted batch total loaded counts = All (λ n. IsCommitPoint batch total n �
 orders_are : (run : Run) (ops : List Op) (loaded : ℕ) (reader : ℕ) (front rounds : List (List ℕ))
     → 1 + length front ≡ reader
     → AllByRecursion (IsCommitted run.batch (length ops) loaded) rounds → AllByRecursion IsNonDecreasing rounds
-    → AreInOrder (events run ops (front ++ rounds) (commit_points run (length ops) loaded)) reader rounds
+    → AreRoundsInOrder (events run ops (front ++ rounds) (commit_points run (length ops) loaded)) reader rounds
 unfolding commit_points
 orders_are run ops loaded reader front [] is committed rises = tt
 orders_are run ops loaded reader front (counts ∷ rounds) is committed rises = (
   reader_is run ops reader front counts rounds is (commit_points run (length ops) loaded)
       ∙ counts_gathered run.batch (length ops) loaded counts committed.0 rises.0,
-  subst (λ (all : List (List ℕ)). AreInOrder (events run ops all (commit_points run (length ops) loaded)) (reader + 1) rounds)
+  subst (λ (all : List (List ℕ)). AreRoundsInOrder (events run ops all (commit_points run (length ops) loaded)) (reader + 1) rounds)
       (append_assoc front (counts ∷ []) rounds)
       (orders_are run ops loaded (reader + 1) (front ++ counts ∷ []) rounds
       (omega (arith, is, length-append front (counts ∷ []))) committed.1 rises.1),

@@ -103,11 +103,11 @@ numbered_from round [] = []
 numbered_from round (n ∷ counts) = (round, n) ∷ numbered_from (round + 1) counts
 
 -- the rounds of each reader, from number `reader` on, are among the events once each and in order
-abbrev pub AreInOrder : List RunEvent → ℕ → List (List ℕ) → Type 0
-AreInOrder events reader [] = Unit {0}
-AreInOrder events reader (counts ∷ rounds) =
+abbrev pub AreRoundsInOrder : List RunEvent → ℕ → List (List ℕ) → Type 0
+AreRoundsInOrder events reader [] = Unit {0}
+AreRoundsInOrder events reader (counts ∷ rounds) =
     (filter_map (round_in reader) events ≡ numbered_from 1 counts)
-    × AreInOrder events (reader + 1) rounds
+    × AreRoundsInOrder events (reader + 1) rounds
 
 -- each round is of one of so many readers, stands at the last commit before it, if there is one,
 -- and answers by the table of that commit
@@ -123,5 +123,5 @@ AreInPlace run ops readers last (Round reader round n answers ∷ events) =
 pub record IsLegalHistory (run : Run) (ops : List Op) (progress : Progress) (events : List RunEvent)
     : Type 0 where
   pub commits : filter_map commit_in events ≡ commit_points run (length ops) progress.loaded
-  pub in_order : AreInOrder events 1 progress.rounds
+  pub in_order : AreRoundsInOrder events 1 progress.rounds
   pub in_place : AreInPlace run ops (length progress.rounds) None events

@@ -9,7 +9,7 @@ use Rattle.attr_scores.specs.declared.score.Score.{Score}
 use Rattle.attr_types.specs.Table.{Table}
 use Rattle.attr_types.specs.declared.field.Field.{Field}
 use Rattle.attr_types.specs.declared.op.Op.{Op}
-use Rattle.attr_report.specs.Run.{Run, Progress, table_at, skipped_at}
+use Rattle.attr_report.specs.Run.{Run, Progress, table_after, skipped_at}
 use Rattle.attr_report.specs.declared.request.Make.{Make}
 
 -- ---- the report
@@ -32,7 +32,7 @@ answers_from number (ask ∷ asks) table =
 
 -- the answers of a run at its first n operations
 unfoldable pub answers_at : Run → List Op → ℕ → List ℕ
-answers_at run ops n = answers_from 1 run.asks (table_at run ops n)
+answers_at run ops n = answers_from 1 run.asks (table_after run ops n)
 
 unfoldable pub reader_line : ℕ → ℕ → ℕ → List ℕ
 reader_line reader round n =
@@ -94,8 +94,8 @@ counts_from number (ask ∷ asks) table =
 unfoldable pub summary : Make → Run → List Op → Progress → Option ℕ → List ℕ
 summary make run ops progress full =
     made_line make
-    ++ documents_line progress.loaded (length (table_at run ops progress.loaded))
-    ++ counts_from 1 run.asks (table_at run ops progress.loaded)
+    ++ documents_line progress.loaded (length (table_after run ops progress.loaded))
+    ++ counts_from 1 run.asks (table_after run ops progress.loaded)
     ++ full_line full
     ++ done_line progress.loaded (skipped_at run ops progress.loaded)
 
@@ -114,7 +114,7 @@ told_by (Some make) run ops progress full = summary make run ops progress full
 -- the same, or the table after so many operations in its place
 abbrev pub saved_or_told : Option ℕ → Run → List Op → Progress → Option ℕ → List ℕ
 saved_or_told None run ops progress full = told_by run.make run ops progress full
-saved_or_told (Some n) run ops progress full = saved_text run.fields (table_at run ops n) n
+saved_or_told (Some n) run ops progress full = saved_text run.fields (table_after run ops n) n
 
 -- what a run writes that came so far
 unfoldable pub written : Run → List Op → Progress → Option ℕ → List ℕ

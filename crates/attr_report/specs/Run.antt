@@ -40,8 +40,8 @@ run_in request = record {
 }
 
 -- the table of a run after its first n operations
-abbrev pub table_at : Run → List Op → ℕ → Table
-table_at run ops n = after run.fields ops n
+abbrev pub table_after : Run → List Op → ℕ → Table
+table_after run ops n = after run.fields ops n
 
 -- how many of its first n operations are skipped
 abbrev pub skipped_at : Run → List Op → ℕ → ℕ
@@ -49,7 +49,7 @@ skipped_at run ops n = skipped run.fields ops n
 
 -- what the table after the first n operations answers
 abbrev pub answers_of : Run → List Op → ℕ → List Answer
-answers_of run ops n = map (λ ask. answer_to ask (table_at run ops n)) run.asks
+answers_of run ops n = map (λ ask. answer_to ask (table_after run ops n)) run.asks
 
 -- how far a run came: how many operations it loaded, for each reader the counts of operations that its rounds
 -- saw, and at how many operations the table was saved, if it was

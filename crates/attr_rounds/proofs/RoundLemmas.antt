@@ -12,7 +12,7 @@ use Rattle.gen_core.specs.declared.views.ReaderView.{ReaderView}
 use Rattle.gen_core.specs.declared.views.ReaderState.TheVariants.{Idle}
 use Rattle.gen_core.specs.Events.{with_state}
 use Rattle.image_base.specs.Images.{words_at}
-use Rattle.word_arena.specs.Ruled.{image_of, number_of, IsLater}
+use Rattle.word_arena.specs.Ruled.{seen_image, seen_number, IsLater}
 use Rattle.attr_rounds.specs.declared.rounds.Round.{Round}
 use Rattle.attr_rounds.specs.Rounds.{seen_last, IsOfSeen, MakesRounds, MakesRound}
 
@@ -57,34 +57,34 @@ module _ {A : Type 0} (operations : ℕ → Records → ℕ → ℕ) (answers : 
   commit_of round = round.commit
 
   -- the round of a guard that was given back
-  pub of_guard : (reaches : ℕ → Records → ℕ → List ℕ) (r g t : ReaderView) (round : Round A) → IsLater reaches lawful r g → t ≡ with_state g Idle → round.commit ≡ number_of g
-      → round.operations ≡ operations g.sizes.shape (words_at (image_of g)) (image_of g).root → answers g.sizes.shape (words_at (image_of g)) (image_of g).root round.answer
+  pub of_guard : (reaches : ℕ → Records → ℕ → List ℕ) (r g t : ReaderView) (round : Round A) → IsLater reaches lawful r g → t ≡ with_state g Idle → round.commit ≡ seen_number g
+      → round.operations ≡ operations g.sizes.shape (words_at (seen_image g)) (seen_image g).root → answers g.sizes.shape (words_at (seen_image g)) (seen_image g).root round.answer
       → MakesRound operations answers lawful r t round
   of_guard reaches r g t round later is commit count answer =
       subst (λ (v : ReaderView). MakesRound operations answers lawful r v round) (sym is) (record {
         same_sizes = later.same_sizes;
-        image = image_of g;
-        saw = later.saw ∙ ap (λ n. (n, image_of g) ∷ r.saw) (sym commit);
+        image = seen_image g;
+        saw = later.saw ∙ ap (λ n. (n, seen_image g) ∷ r.saw) (sym commit);
         later = subst (λ n. r.seen ≤ n) (sym commit) later.later;
         seen = later.seen ∙ sym commit;
-        is = subst (λ (z : Sizes). IsOfSeen operations answers lawful z.shape round (round.commit, image_of g)) later.same_sizes
+        is = subst (λ (z : Sizes). IsOfSeen operations answers lawful z.shape round (round.commit, seen_image g)) later.same_sizes
             (record { commit = refl; lawful_image = later.commit.lawful_image; is = record { count = count; answer = answer } });
       })
 
   -- the same, by what was asked of the guard under its own sizes and root
-  pub of_question : (reaches : ℕ → Records → ℕ → List ℕ) (z : Sizes) (r g t : ReaderView) (root : ℕ) (round : Round A) → g.sizes ≡ z → root ≡ (image_of g).root → IsLater reaches lawful r g → t ≡ with_state g Idle
-      → round.commit ≡ number_of g → round.operations ≡ operations z.shape (words_at (image_of g)) root → answers z.shape (words_at (image_of g)) root round.answer
+  pub of_question : (reaches : ℕ → Records → ℕ → List ℕ) (z : Sizes) (r g t : ReaderView) (root : ℕ) (round : Round A) → g.sizes ≡ z → root ≡ (seen_image g).root → IsLater reaches lawful r g → t ≡ with_state g Idle
+      → round.commit ≡ seen_number g → round.operations ≡ operations z.shape (words_at (seen_image g)) root → answers z.shape (words_at (seen_image g)) root round.answer
       → MakesRound operations answers lawful r t round
   of_question reaches z r g t root round same named later is commit count answer =
       of_guard reaches r g t round later is commit
-      (count ∙ ap (λ (s : Sizes). operations s.shape (words_at (image_of g)) root) (sym same) ∙ ap (λ n. operations g.sizes.shape (words_at (image_of g)) n) named)
-      (subst (λ n. answers g.sizes.shape (words_at (image_of g)) n round.answer) named
-      (subst (λ (s : Sizes). answers s.shape (words_at (image_of g)) root round.answer) (sym same) answer))
+      (count ∙ ap (λ (s : Sizes). operations s.shape (words_at (seen_image g)) root) (sym same) ∙ ap (λ n. operations g.sizes.shape (words_at (seen_image g)) n) named)
+      (subst (λ n. answers g.sizes.shape (words_at (seen_image g)) n round.answer) named
+      (subst (λ (s : Sizes). answers s.shape (words_at (seen_image g)) root round.answer) (sym same) answer))
 
-  pub lawful_at : (z : Sizes) (g : ReaderView) (root : ℕ) → g.sizes ≡ z → root ≡ (image_of g).root → lawful g.sizes.shape (words_at (image_of g)) (image_of g).root
-      → lawful z.shape (words_at (image_of g)) root
+  pub lawful_at : (z : Sizes) (g : ReaderView) (root : ℕ) → g.sizes ≡ z → root ≡ (seen_image g).root → lawful g.sizes.shape (words_at (seen_image g)) (seen_image g).root
+      → lawful z.shape (words_at (seen_image g)) root
   lawful_at z g root same named is =
-      subst (λ n. lawful z.shape (words_at (image_of g)) n) (sym named) (subst (λ (s : Sizes). lawful s.shape (words_at (image_of g)) (image_of g).root) same is)
+      subst (λ n. lawful z.shape (words_at (seen_image g)) n) (sym named) (subst (λ (s : Sizes). lawful s.shape (words_at (seen_image g)) (seen_image g).root) same is)
 
   pub no_rounds : (r : ReaderView) → Makes r r []
   no_rounds r = record {

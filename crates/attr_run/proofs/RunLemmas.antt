@@ -14,7 +14,7 @@ use Rattle.attr_engine.specs.Run.{IsRunOf, full_of, progress_of}
 use Rattle.attr_engine.specs.declared.written.Written.{Written}
 use Rattle.attr_run.specs.Answers.{IsRunUntil, IsFullRun, IsDue, IsProper}
 use Rattle.attr_run.specs.Run.{asked, fed}
-use Rattle.attr_run.specs.Steps.{status_of}
+use Rattle.attr_run.specs.Steps.{ended_status}
 use Rattle.attr_run.specs.declared.outcome.Status.{Status}
 use Rattle.attr_run.proofs.TaskLemmas.{of-run}
 
@@ -37,7 +37,7 @@ until run ops w full is at = record {
 -- its text is due at its answer
 due-by : (words : List Text) (left : Option (List ℕ)) (before now : ℕ) (run : Run) (ops : List Op) (w : Written) (full : Option NoRoom)
     → asked words ≡ Ok run → IfSome (fed run left) (λ said. said ≡ Ok ops) → IsRunOf run ops w → w.full ≡ full
-    → IsDue words left before now (status_of full) (progress_of w) w.text.items
+    → IsDue words left before now (ended_status full) (progress_of w) w.text.items
 due-by words left before now run ops w None asks feeds is at =
     of-run words left run ops (IsRunUntil (progress_of w) None w.text.items) asks feeds (until run ops w None is at)
 due-by words left before now run ops w (Some room) asks feeds is at =
@@ -48,26 +48,26 @@ due-by words left before now run ops w (Some room) asks feeds is at =
 
 pub due-of : (words : List Text) (left : Option (List ℕ)) (before now : ℕ) (run : Run) (ops : List Op) (w : Written)
     → asked words ≡ Ok run → IfSome (fed run left) (λ said. said ≡ Ok ops) → IsRunOf run ops w
-    → IsDue words left before now (status_of w.full) (progress_of w) w.text.items
+    → IsDue words left before now (ended_status w.full) (progress_of w) w.text.items
 due-of words left before now run ops w asks feeds is = due-by words left before now run ops w w.full asks feeds is refl
 
 -- the same of an answer with these parts
 pub answered : (words : List Text) (left : Option (List ℕ)) (before now : ℕ) (run : Run) (ops : List Op) (w : Written)
     (status : Status) (loaded : ℕ) (rounds : List (List ℕ)) (saved : Option ℕ) (text : List ℕ)
-    → status ≡ status_of w.full → loaded ≡ w.loaded → rounds ≡ w.rounds → saved ≡ w.saved → text ≡ w.text.items
+    → status ≡ ended_status w.full → loaded ≡ w.loaded → rounds ≡ w.rounds → saved ≡ w.saved → text ≡ w.text.items
     → asked words ≡ Ok run → IfSome (fed run left) (λ said. said ≡ Ok ops) → IsRunOf run ops w
     → IsDue words left before now status (record { loaded = loaded; rounds = rounds; saved = saved }) text
 answered words left before now run ops w status loaded rounds saved text st l r s t asks feeds is =
     let same : progress_of w ≡ so_far loaded rounds saved = λ i. record { loaded = sym l i; rounds = sym r i; saved = sym s i } in
     subst (λ (x : Status). IsDue words left before now x (so_far loaded rounds saved) text) (sym st)
-    (subst (λ (p : Progress). IsDue words left before now (status_of w.full) p text) same
-    (subst (λ (x : List ℕ). IsDue words left before now (status_of w.full) (progress_of w) x) (sym t) (due-of words left before now run ops w asks feeds is)))
+    (subst (λ (p : Progress). IsDue words left before now (ended_status w.full) p text) same
+    (subst (λ (x : List ℕ). IsDue words left before now (ended_status w.full) (progress_of w) x) (sym t) (due-of words left before now run ops w asks feeds is)))
 
-proper-by : (full : Option NoRoom) → IsProper (status_of full)
+proper-by : (full : Option NoRoom) → IsProper (ended_status full)
 proper-by None = tt
 proper-by (Some room) = tt
 
-pub proper-of : (status : Status) (full : Option NoRoom) → status ≡ status_of full → IsProper status
+pub proper-of : (status : Status) (full : Option NoRoom) → status ≡ ended_status full → IsProper status
 proper-of status full is = subst IsProper (sym is) (proper-by full)
 
 -- ---- the size of its store

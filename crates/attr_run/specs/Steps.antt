@@ -109,6 +109,6 @@ IsAnswer words left before now old new sink_before sink_now status progress =
     (text : List ℕ) × IsDue words left before now status progress text × Appends old new text
 
 -- the answer to a run that ended, by the operation that found no room, if one did
-abbrev pub status_of : Option NoRoom → Status
-status_of None = Done
-status_of (Some room) = Full room.operation room.active room.held
+abbrev pub ended_status : Option NoRoom → Status
+ended_status None = Done
+ended_status (Some room) = Full room.operation room.active room.held

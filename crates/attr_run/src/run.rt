@@ -17,7 +17,7 @@ ghost use Rattle.attr_run.specs.Texts.{answer_text};
 ghost use Rattle.attr_run.specs.Answers.{progress_of, EndsRun, IsEnd, OfRun, ComesExactly};
 ghost use Rattle.attr_run.specs.Answers.{ComesExactlyOfFeed, IsBeforeRun, IsProper, HasNoRun};
 ghost use Rattle.attr_run.specs.Answers.{ReadsAsAsked, IsDue, WritesFront};
-ghost use Rattle.attr_run.specs.Steps.{IsStopped, IsProperStop, IsEarly, IsAnswer, HasEnded, status_of};
+ghost use Rattle.attr_run.specs.Steps.{IsStopped, IsProperStop, IsEarly, IsAnswer, HasEnded, ended_status};
 ghost use Rattle.std.specs.Prelude.{◌+◌, false};
 ghost use Rattle.std.specs.List.{AllByRecursion};
 ghost use Rattle.attr_words.specs.Settings.{are_too_many};
@@ -47,7 +47,7 @@ struct Answer {
 
 /// The answer to a run that ended.
 fn status_of(full: Option<NoRoom>) -> Status
-    ensures { result ≡ status_of full }
+    ensures { result ≡ ended_status full }
 {
     match full {
         Some(room) => Status::Full {
@@ -88,7 +88,7 @@ fn run_by<R: Threads + Sync, G: Gate + Sync + 'static>(
 
 /// What is answered where a run ended.
 fn answer_of(written: Written) -> Answer
-    ensures status { result.outcome.status ≡ status_of written.full }
+    ensures status { result.outcome.status ≡ ended_status written.full }
     ensures loaded { result.outcome.loaded ≡ written.loaded }
     ensures rounds { result.outcome.rounds ≡ written.rounds }
     ensures saved { result.outcome.saved ≡ written.saved }

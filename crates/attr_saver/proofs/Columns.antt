@@ -5,7 +5,7 @@ use Rattle.std.specs.List.{AllByRecursion, AllZip}
 use Rattle.std.specs.List.Sorted.{IsStrictlySortedBy}
 use Rattle.std.proofs.lemmas.List.{length-map}
 use Rattle.std.proofs.lemmas.Cmp.{ranked, nat_cmp_total}
-use Rattle.attr_types.specs.Lawful.{last_doc, IsDocNumber, HaveWeightOne, AscendByValue, IsLawfulItems, ItemsFit, IsLawfulDocument, IsLawfulTable, DocumentHasType, HasType}
+use Rattle.attr_types.specs.Lawful.{last_doc, IsDocNumber, HaveWeightOne, AscendByValue, IsLawfulItems, ItemsFit, IsLawfulDocument, IsLawfulTable, DocumentHasType, DocumentsHaveType}
 use Rattle.attr_types.specs.ProofsForOrder.{value_cmp_total}
 use Rattle.attr_types.specs.Query.{items_in}
 use Rattle.attr_types.specs.Table.{Table}
@@ -16,8 +16,8 @@ use Rattle.attr_types.specs.declared.kind.Kind.{Kind}
 use Rattle.attr_types.specs.declared.kind.Kind.TheVariants.{Single, Array, WeightedSet}
 use Rattle.attr_types.specs.declared.kind.ValueType.{ValueType}
 use Rattle.attr_types.specs.declared.value.Value.{Value}
-use Rattle.attr_saver.specs.Fields.{may_follow, most_items}
-use Rattle.attr_saver.specs.Lawful.{column_of, docs_of, IsLawfulColumn, IsStorable}
+use Rattle.attr_saver.specs.Fields.{may_follow, most_by_kind}
+use Rattle.attr_saver.specs.Lawful.{first_column, docs_of, AreLawfulDocuments, IsStorable}
 use Rattle.attr_saver.specs.declared.saved.SavedDocument.{SavedDocument}
 use Rattle.attr_saver.proofs.Rows.{Chain, chain_all}
 use Rattle.attr_saver.proofs.SaveLemmas.{ValueFits, WeightFits, ItemFits}
@@ -93,7 +93,7 @@ follows_chain kind type before [] chain = tt
 follows_chain kind type before (item ∷ items) chain = (chain.0.value.follows, follows_chain kind type (Some item.value) items chain.1)
 
 -- items that were read are what their kind and value type allow
-pub items_fit : (kind : Kind) (type : ValueType) (items : List Item) → length items ≤ most_items kind → ItemChain kind type None items
+pub items_fit : (kind : Kind) (type : ValueType) (items : List Item) → length items ≤ most_by_kind kind → ItemChain kind type None items
     → ItemsFit kind type items × AllByRecursion IsStorable items
 items_fit kind type items few chain = ((lawful kind few chain, typed), stored)
   where
@@ -104,7 +104,7 @@ items_fit kind type items few chain = ((lawful kind few chain, typed), stored)
     stored : AllByRecursion IsStorable items
     stored = chain_all (λ item. Some item.value) (ItemFits kind type) IsStorable (λ before item fits. record { value = fits.value.stored; weight = fits.signed }) None items chain
 
-    lawful : (kind : Kind) → length items ≤ most_items kind → ItemChain kind type None items → IsLawfulItems kind items
+    lawful : (kind : Kind) → length items ≤ most_by_kind kind → ItemChain kind type None items → IsLawfulItems kind items
     lawful Single few chain = (few, chain_all (λ item. Some item.value) (ItemFits Single type) (λ item. item.weight ≡ pos 1) (λ before item fits. fits.weight) None items chain)
     lawful Array few chain = (few, chain_all (λ item. Some item.value) (ItemFits Array type) (λ item. item.weight ≡ pos 1) (λ before item fits. fits.weight) None items chain)
     lawful WeightedSet few chain = (few, (sorted_from_follows None (values_of items) (follows_chain WeightedSet type None items chain)).1)
@@ -121,7 +121,7 @@ items_chain kind type items fit stored = made None items (follows_lawful kind it
       made (Some item.value) items follows.1 weights.1 typed.1 stored.1,
     )
 
-pub few_lawful : (kind : Kind) (items : List Item) → IsLawfulItems kind items → length items ≤ most_items kind
+pub few_lawful : (kind : Kind) (items : List Item) → IsLawfulItems kind items → length items ≤ most_by_kind kind
 few_lawful Single items lawful = lawful.0
 few_lawful Array items lawful = lawful.0
 few_lawful WeightedSet items lawful = lawful.0
@@ -131,7 +131,7 @@ few_lawful WeightedSet items lawful = lawful.0
 pub record DocumentFits (kind : Kind) (type : ValueType) (before : ℕ) (document : SavedDocument) : Type 0 where
   pub above : before < document.doc
   pub within : document.doc ≤ last_doc
-  pub few : length document.items ≤ most_items kind
+  pub few : length document.items ≤ most_by_kind kind
   pub items : ItemChain kind type None document.items
 
 abbrev pub DocumentChain : Kind → ValueType → ℕ → List SavedDocument → Type 0
@@ -154,7 +154,7 @@ StoresItems document = AllByRecursion IsStorable document.items
 
 -- documents that were read may be saved
 pub column_lawful : (kind : Kind) (type : ValueType) (documents : List SavedDocument) → DocumentChain kind type 0 documents
-    → IsLawfulColumn kind type documents × AllByRecursion StoresItems documents
+    → AreLawfulDocuments kind type documents × AllByRecursion StoresItems documents
 column_lawful kind type documents chain = (
   record {
     ascends = (docs_ascend kind type 0 documents chain).1;
@@ -189,7 +189,7 @@ above_none : (docs : List ℕ) → AllByRecursion IsDocNumber docs → AllByRecu
 above_none [] numbers = tt
 above_none (doc ∷ docs) numbers = let some : 0 < doc = omega (arith, numbers.0.0) in (sym (nat_cmp_is 0 doc Less some), above_none docs numbers.1)
 
-pub column_chain : (kind : Kind) (type : ValueType) (documents : List SavedDocument) → IsLawfulColumn kind type documents
+pub column_chain : (kind : Kind) (type : ValueType) (documents : List SavedDocument) → AreLawfulDocuments kind type documents
     → AllByRecursion StoresItems documents → DocumentChain kind type 0 documents
 column_chain kind type documents lawful stored =
     documents_chain kind type 0 documents (above_none (docs_of documents) lawful.numbers) lawful.ascends lawful.numbers lawful.items stored
@@ -203,7 +203,7 @@ docs_few before (doc ∷ docs) le above ascends numbers =
     let less : before < doc = ranked before doc Less (sym above.0) in
     omega (arith, docs_few doc docs numbers.0.1 ascends.0 ascends.1 numbers.1, less)
 
-pub column_few : (kind : Kind) (type : ValueType) (documents : List SavedDocument) → IsLawfulColumn kind type documents → length documents ≤ last_doc
+pub column_few : (kind : Kind) (type : ValueType) (documents : List SavedDocument) → AreLawfulDocuments kind type documents → length documents ≤ last_doc
 column_few kind type documents lawful =
     omega (arith, docs_few 0 (docs_of documents) (omega arith) (above_none (docs_of documents) lawful.numbers) lawful.ascends lawful.numbers, length-map documents (λ (d : SavedDocument). d.doc))
 
@@ -214,7 +214,7 @@ items_few kind type [] fit = tt
 items_few kind type (document ∷ documents) fit =
     (small kind (few_lawful kind document.items fit.0.0), items_few kind type documents fit.1)
   where
-    small : (kind : Kind) → length document.items ≤ most_items kind → length document.items ≤ 1023
+    small : (kind : Kind) → length document.items ≤ most_by_kind kind → length document.items ≤ 1023
     small Single le = omega (arith, le)
     small Array le = le
     small WeightedSet le = le

@@ -6,7 +6,7 @@ use Rattle.std.proofs.lemmas.List.{append-nil}
 use Rattle.std.proofs.lemmas.Option.{slice_get-get_or}
 use Rattle.attr_types.specs.declared.items.Item.{Item}
 use Rattle.attr_saver.specs.Answers.{Fails}
-use Rattle.attr_saver.specs.Fields.{◌>>=◌, Read, row_of, last_value}
+use Rattle.attr_saver.specs.Fields.{◌>>=◌, Read, read_row, last_value}
 use Rattle.attr_saver.specs.declared.error.Broken.{Broken}
 use Rattle.attr_saver.specs.declared.error.Broken.TheVariants as broken
 
@@ -20,28 +20,28 @@ regroup front one (Err left) = refl
 
 module _ {A S : Type 0} (read : S → List ℕ → Read A) (next : A → S) (count i : ℕ) (front : List A) (before : S) (bytes : List ℕ) (total : Read (List A)) where
   pub goes_on : (one : A) (then_before : S) (after : List ℕ) → i < count → read before bytes ≡ Ok (one, after) → next one ≡ then_before
-      → with_front front (row_of read next (count - i) before bytes) ≡ total → with_front (front ++ one ∷ []) (row_of read next (count - (i + 1)) then_before after) ≡ total
-  unfolding row_of
+      → with_front front (read_row read next (count - i) before bytes) ≡ total → with_front (front ++ one ∷ []) (read_row read next (count - (i + 1)) then_before after) ≡ total
+  unfolding read_row
   goes_on one then_before after lt one_is next_is so_far =
       let k : count - i ≡ suc (count - (i + 1)) = omega arith in
-      let step : with_front front (row_of read next (count - i) before bytes) ≡ with_front (front ++ one ∷ []) (row_of read next (count - (i + 1)) (next one) after) =
-      rw (k, one_is) (regroup front one (row_of read next (count - (i + 1)) (next one) after)) in
-      ap (λ (s : S). with_front (front ++ one ∷ []) (row_of read next (count - (i + 1)) s after)) (sym next_is) ∙ (sym step ∙ so_far)
+      let step : with_front front (read_row read next (count - i) before bytes) ≡ with_front (front ++ one ∷ []) (read_row read next (count - (i + 1)) (next one) after) =
+      rw (k, one_is) (regroup front one (read_row read next (count - (i + 1)) (next one) after)) in
+      ap (λ (s : S). with_front (front ++ one ∷ []) (read_row read next (count - (i + 1)) s after)) (sym next_is) ∙ (sym step ∙ so_far)
 
   pub ends : (e : Broken) → i < count → Fails e (read before bytes)
-      → with_front front (row_of read next (count - i) before bytes) ≡ total → Fails e total
-  unfolding row_of
+      → with_front front (read_row read next (count - i) before bytes) ≡ total → Fails e total
+  unfolding read_row
   ends broken.Memory lt fails so_far = tt
   ends (broken.Field left) lt fails so_far =
       let k : count - i ≡ suc (count - (i + 1)) = omega arith in
-      let step : with_front front (row_of read next (count - i) before bytes) ≡ Err left = rw (k, fails) refl in
+      let step : with_front front (read_row read next (count - i) before bytes) ≡ Err left = rw (k, fails) refl in
       sym so_far ∙ step
 
-  pub is_done : count ≤ i → with_front front (row_of read next (count - i) before bytes) ≡ total → total ≡ Ok (front, bytes)
-  unfolding row_of
+  pub is_done : count ≤ i → with_front front (read_row read next (count - i) before bytes) ≡ total → total ≡ Ok (front, bytes)
+  unfolding read_row
   is_done le so_far =
       let k : count - i ≡ 0 = omega arith in
-      let step : with_front front (row_of read next (count - i) before bytes) ≡ Ok (front, bytes) = rw k (ap (λ (all : List A). Ok (all, bytes)) (append-nil front)) in
+      let step : with_front front (read_row read next (count - i) before bytes) ≡ Ok (front, bytes) = rw k (ap (λ (all : List A). Ok (all, bytes)) (append-nil front)) in
       sym so_far ∙ step
 
 pub last_value-push : (front : List Item) (item : Item) → Some item.value ≡ last_value (front ++ item ∷ [])

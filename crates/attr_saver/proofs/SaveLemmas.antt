@@ -16,7 +16,7 @@ use Rattle.attr_types.specs.declared.kind.ValueType.TheVariants as types
 use Rattle.attr_types.specs.declared.value.Value.{Value}
 use Rattle.attr_types.specs.declared.value.Value.TheVariants as values
 use Rattle.attr_saver.specs.Bytes.{text_bytes, value_bytes, weight_bytes, item_bytes, document_bytes, saved_bytes, form_bytes, head_bytes, magic, kind_byte, type_byte}
-use Rattle.attr_saver.specs.Fields.{◌>>=◌, Read, bad, number_at, may_follow, following, long_at, text_len_at, text_at, value_at, weight_at, item_at, row_of, items_at}
+use Rattle.attr_saver.specs.Fields.{◌>>=◌, Read, bad, read_number, may_follow, following, read_long, read_text_len, read_text, read_value, read_weight, read_item, read_row, read_items}
 use Rattle.attr_saver.specs.Laws.{AreBytes}
 use Rattle.attr_saver.specs.Lawful.{IsStorableValue, IsStorableText, IsStorable}
 use Rattle.attr_saver.proofs.FieldLemmas.{bind_ok, ok_is, unless_ok, where_ok, Takes, Takes-then, Takes-nothing, wide16, wide32, number_takes, number_again}
@@ -44,15 +44,15 @@ value_followed kind type before left bytes read x e takes stored typed =
     subst (TakesValue kind type before bytes) is (takes, record { stored = stored; typed = typed; follows = g.0 })
 
 pub value_takes : (kind : Kind) (type : ValueType) (before : Option Value) (bytes : List ℕ) (x : Value × List ℕ) → AreBytes bytes
-    → value_at kind type before bytes ≡ Ok x → TakesValue kind type before bytes x
-unfolding value_at
+    → read_value kind type before bytes ≡ Ok x → TakesValue kind type before bytes x
+unfolding read_value
 value_takes kind types.Long before bytes x fits e =
-    let a = bind_ok (long_at bytes) (λ read. following kind before (length bytes) read.0 >>= λ value. Ok (value, read.1)) x e in
+    let a = bind_ok (read_long bytes) (λ read. following kind before (length bytes) read.0 >>= λ value. Ok (value, read.1)) x e in
     let t = long_takes bytes a.0 fits a.1 in
     value_followed kind types.Long before (length bytes) bytes a.0 x a.2 t.0 t.1 t.2
 value_takes kind types.Text before bytes x fits e =
-    let l = bind_ok (text_len_at bytes) (λ len. text_at len.0 len.1 >>= λ read. following kind before (length len.1) read.0 >>= λ value. Ok (value, read.1)) x e in
-    let a = bind_ok (text_at l.0.0 l.0.1) (λ read. following kind before (length l.0.1) read.0 >>= λ value. Ok (value, read.1)) x l.2 in
+    let l = bind_ok (read_text_len bytes) (λ len. read_text len.0 len.1 >>= λ read. following kind before (length len.1) read.0 >>= λ value. Ok (value, read.1)) x e in
+    let a = bind_ok (read_text l.0.0 l.0.1) (λ read. following kind before (length l.0.1) read.0 >>= λ value. Ok (value, read.1)) x l.2 in
     let len = text_len_takes bytes l.0 fits l.1 in
     let text = text_takes l.0.0 l.0.1 a.0 len.0.rest_fits a.1 in
     let both = Takes-then bytes (to_be_bytes w16 l.0.0) l.0.1 text.text a.0.1 len.0 text.takes in
@@ -65,12 +65,12 @@ value_takes kind types.Text before bytes x fits e =
     (ap type_of (sym text.is))
 
 pub value_again : (kind : Kind) (type : ValueType) (before : Option Value) (value : Value) (rest : List ℕ) → ValueFits kind type before value
-    → value_at kind type before (value_bytes value ++ rest) ≡ Ok (value, rest)
-unfolding value_at
+    → read_value kind type before (value_bytes value ++ rest) ≡ Ok (value, rest)
+unfolding read_value
 value_again kind types.Long before (values.Long number) rest fits = rw (long_again number rest fits.stored, fits.follows) refl
 value_again kind types.Text before (values.Text text) rest fits =
     let regrouped : text_bytes text ++ rest ≡ to_be_bytes w16 (length text) ++ (text ++ rest) = append_assoc (to_be_bytes w16 (length text)) text rest in
-    ap (value_at kind types.Text before) regrouped
+    ap (read_value kind types.Text before) regrouped
     ∙ rw (text_len_again (length text) (text ++ rest) fits.stored.short, text_again text rest fits.stored.utf8, fits.follows) refl
 value_again kind types.Long before (values.Text text) rest fits = absurd cc
 value_again kind types.Text before (values.Long number) rest fits = absurd cc
@@ -88,12 +88,12 @@ one_fits = sfits_to_z {w = w32} {n = 1} (Fits-of_lt {w = w32} {n = 1} (omega ari
 abbrev TakesWeight : Kind → List ℕ → (ℤ × List ℕ) → Type 0
 TakesWeight kind bytes x = Takes bytes (weight_bytes kind x.0) x.1 × FitsSigned w32 x.0 × WeightFits kind x.0
 
-pub weight_takes : (kind : Kind) (bytes : List ℕ) (x : ℤ × List ℕ) → AreBytes bytes → weight_at kind bytes ≡ Ok x → TakesWeight kind bytes x
-unfolding weight_at
+pub weight_takes : (kind : Kind) (bytes : List ℕ) (x : ℤ × List ℕ) → AreBytes bytes → read_weight kind bytes ≡ Ok x → TakesWeight kind bytes x
+unfolding read_weight
 weight_takes Single bytes x fits e = subst (TakesWeight Single bytes) (ok_is (pos 1, bytes) x e) (Takes-nothing bytes fits, one_fits, refl)
 weight_takes Array bytes x fits e = subst (TakesWeight Array bytes) (ok_is (pos 1, bytes) x e) (Takes-nothing bytes fits, one_fits, refl)
 weight_takes WeightedSet bytes x fits e =
-    let a = bind_ok (number_at w32 bytes) (λ weight. Ok (cast_signed w32 weight.0, weight.1)) x e in
+    let a = bind_ok (read_number w32 bytes) (λ weight. Ok (cast_signed w32 weight.0, weight.1)) x e in
     let t = number_takes w32 (2 ^ 32) wide32 bytes a.0 fits a.1 in
     let made : ℤ × List ℕ = (cast_signed w32 a.0.0, a.0.1) in
     let whole : Takes bytes (to_be_bytes w32 (cast_unsigned w32 (cast_signed w32 a.0.0))) a.0.1 =
@@ -101,8 +101,8 @@ weight_takes WeightedSet bytes x fits e =
     subst (TakesWeight WeightedSet bytes) (ok_is made x a.2) (whole, sfits_to_z {w = w32} {n = a.0.0} (Fits-of_lt {w = w32} {n = a.0.0} t.1), tt)
 
 pub weight_again : (kind : Kind) (weight : ℤ) (rest : List ℕ) → FitsSigned w32 weight → WeightFits kind weight
-    → weight_at kind (weight_bytes kind weight ++ rest) ≡ Ok (weight, rest)
-unfolding weight_at
+    → read_weight kind (weight_bytes kind weight ++ rest) ≡ Ok (weight, rest)
+unfolding read_weight
 weight_again Single weight rest fits one = ap (λ (w : ℤ). Ok (w, rest)) (sym one)
 weight_again Array weight rest fits one = ap (λ (w : ℤ). Ok (w, rest)) (sym one)
 weight_again WeightedSet weight rest fits one =
@@ -114,11 +114,11 @@ pub record ItemFits (kind : Kind) (type : ValueType) (before : Option Value) (it
   pub weight : WeightFits kind item.weight
 
 pub item_takes : (kind : Kind) (type : ValueType) (before : Option Value) (bytes : List ℕ) (x : Item × List ℕ) → AreBytes bytes
-    → item_at kind type before bytes ≡ Ok x → Takes bytes (item_bytes kind x.0) x.1 × ItemFits kind type before x.0
-unfolding item_at
+    → read_item kind type before bytes ≡ Ok x → Takes bytes (item_bytes kind x.0) x.1 × ItemFits kind type before x.0
+unfolding read_item
 item_takes kind type before bytes x fits e =
-    let a = bind_ok (value_at kind type before bytes) (λ value. weight_at kind value.1 >>= λ weight. Ok (record { value = value.0; weight = weight.0 }, weight.1)) x e in
-    let b = bind_ok (weight_at kind a.0.1) (λ weight. Ok (record { value = a.0.0; weight = weight.0 }, weight.1)) x a.2 in
+    let a = bind_ok (read_value kind type before bytes) (λ value. read_weight kind value.1 >>= λ weight. Ok (record { value = value.0; weight = weight.0 }, weight.1)) x e in
+    let b = bind_ok (read_weight kind a.0.1) (λ weight. Ok (record { value = a.0.0; weight = weight.0 }, weight.1)) x a.2 in
     let value = value_takes kind type before bytes a.0 fits a.1 in
     let weight = weight_takes kind a.0.1 b.0 value.0.rest_fits b.1 in
     let both = Takes-then bytes (value_bytes a.0.0) a.0.1 (weight_bytes kind b.0.0) b.0.1 value.0 weight.0 in
@@ -127,10 +127,10 @@ item_takes kind type before bytes x fits e =
     (both, record { value = value.1; signed = weight.1; weight = weight.2 })
 
 pub item_again : (kind : Kind) (type : ValueType) (before : Option Value) (item : Item) (rest : List ℕ) → ItemFits kind type before item
-    → item_at kind type before (item_bytes kind item ++ rest) ≡ Ok (item, rest)
-unfolding item_at
+    → read_item kind type before (item_bytes kind item ++ rest) ≡ Ok (item, rest)
+unfolding read_item
 item_again kind type before item rest fits =
     let regrouped : item_bytes kind item ++ rest ≡ value_bytes item.value ++ (weight_bytes kind item.weight ++ rest) =
     append_assoc (value_bytes item.value) (weight_bytes kind item.weight) rest in
-    ap (item_at kind type before) regrouped
+    ap (read_item kind type before) regrouped
     ∙ rw (value_again kind type before item.value (weight_bytes kind item.weight ++ rest) fits.value, weight_again kind item.weight rest fits.signed fits.weight) refl

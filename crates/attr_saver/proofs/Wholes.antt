@@ -11,9 +11,9 @@ use Rattle.attr_types.specs.declared.kind.Kind.TheVariants.{Single, Array, Weigh
 use Rattle.attr_types.specs.declared.kind.ValueType.{ValueType}
 use Rattle.attr_types.specs.declared.value.Value.{Value}
 use Rattle.attr_saver.specs.Bytes.{item_bytes, document_bytes, saved_bytes, form_bytes, head_bytes, magic, kind_byte, type_byte}
-use Rattle.attr_saver.specs.Fields.{◌>>=◌, Read, bad, number_at, magic_at, kind_at, type_at, count_at, item_at, items_at, doc_at, most_items, item_count_at, document_at, documents_at, saved_at, placed, read_of}
+use Rattle.attr_saver.specs.Fields.{◌>>=◌, Read, bad, read_number, read_magic, read_kind, read_type, read_count, read_item, read_items, read_doc, most_by_kind, read_item_count, read_document, read_documents, read_fields, with_offset, read_of}
 use Rattle.attr_saver.specs.Laws.{AreBytes}
-use Rattle.attr_saver.specs.Lawful.{IsLawfulColumn, IsLawfulSaved}
+use Rattle.attr_saver.specs.Lawful.{AreLawfulDocuments, IsLawfulSaved}
 use Rattle.attr_saver.specs.declared.saved.Saved.{Saved}
 use Rattle.attr_saver.specs.declared.saved.SavedDocument.{SavedDocument}
 use Rattle.attr_saver.proofs.Columns.{DocumentFits, DocumentChain, StoresItems, column_lawful, column_chain, column_few}
@@ -28,73 +28,73 @@ and_true : (a b : Bool) → (a && b) ≡ true → (a ≡ true) × (b ≡ true)
 and_true true b e = (refl, e)
 and_true false b e = absurd cc
 
-doc_takes : (before : ℕ) (bytes : List ℕ) (x : ℕ × List ℕ) → AreBytes bytes → doc_at before bytes ≡ Ok x
+doc_takes : (before : ℕ) (bytes : List ℕ) (x : ℕ × List ℕ) → AreBytes bytes → read_doc before bytes ≡ Ok x
     → Takes bytes (to_be_bytes w32 x.0) x.1 × (before < x.0) × (x.0 ≤ last_doc)
-unfolding doc_at
+unfolding read_doc
 doc_takes before bytes x fits e =
-    let a = bind_ok (number_at w32 bytes) (λ doc. cond (ltb before doc.0 && leb doc.0 last_doc) (Ok doc) (bad bytes)) x e in
+    let a = bind_ok (read_number w32 bytes) (λ doc. cond (ltb before doc.0 && leb doc.0 last_doc) (Ok doc) (bad bytes)) x e in
     let g = where_ok (ltb before a.0.0 && leb a.0.0 last_doc) (length bytes) a.0 x a.2 in
     let both = and_true (ltb before a.0.0) (leb a.0.0 last_doc) g.0 in
     let t = number_takes w32 (2 ^ 32) wide32 bytes a.0 fits a.1 in
     subst (λ (y : ℕ × List ℕ). Takes bytes (to_be_bytes w32 y.0) y.1 × (before < y.0) × (y.0 ≤ last_doc)) g.1 (t.0, ltb-true _ _ both.0, leb-true _ _ both.1)
 
-doc_again : (before doc : ℕ) (rest : List ℕ) → before < doc → doc ≤ last_doc → doc_at before (to_be_bytes w32 doc ++ rest) ≡ Ok (doc, rest)
-unfolding doc_at
+doc_again : (before doc : ℕ) (rest : List ℕ) → before < doc → doc ≤ last_doc → read_doc before (to_be_bytes w32 doc ++ rest) ≡ Ok (doc, rest)
+unfolding read_doc
 doc_again before doc rest above within =
     rw (number_again w32 (2 ^ 32) wide32 doc rest (omega (arith, within)), lt-ltb before doc above, le-leb doc last_doc within) refl
 
-item_count_takes : (kind : Kind) (bytes : List ℕ) (x : ℕ × List ℕ) → AreBytes bytes → item_count_at kind bytes ≡ Ok x
-    → Takes bytes (to_be_bytes w16 x.0) x.1 × (x.0 ≤ most_items kind)
-unfolding item_count_at
+item_count_takes : (kind : Kind) (bytes : List ℕ) (x : ℕ × List ℕ) → AreBytes bytes → read_item_count kind bytes ≡ Ok x
+    → Takes bytes (to_be_bytes w16 x.0) x.1 × (x.0 ≤ most_by_kind kind)
+unfolding read_item_count
 item_count_takes kind bytes x fits e =
-    let a = bind_ok (number_at w16 bytes) (λ count. cond (ltb (most_items kind) count.0) (bad bytes) (Ok count)) x e in
-    let g = unless_ok (ltb (most_items kind) a.0.0) (length bytes) a.0 x a.2 in
+    let a = bind_ok (read_number w16 bytes) (λ count. cond (ltb (most_by_kind kind) count.0) (bad bytes) (Ok count)) x e in
+    let g = unless_ok (ltb (most_by_kind kind) a.0.0) (length bytes) a.0 x a.2 in
     let t = number_takes w16 (2 ^ 16) wide16 bytes a.0 fits a.1 in
-    subst (λ (y : ℕ × List ℕ). Takes bytes (to_be_bytes w16 y.0) y.1 × (y.0 ≤ most_items kind)) g.1 (t.0, ltb-false _ _ g.0)
+    subst (λ (y : ℕ × List ℕ). Takes bytes (to_be_bytes w16 y.0) y.1 × (y.0 ≤ most_by_kind kind)) g.1 (t.0, ltb-false _ _ g.0)
 
-small_count : (kind : Kind) (n : ℕ) → n ≤ most_items kind → n < 2 ^ 16
+small_count : (kind : Kind) (n : ℕ) → n ≤ most_by_kind kind → n < 2 ^ 16
 small_count Single n le = omega (arith, le)
 small_count Array n le = omega (arith, le)
 small_count WeightedSet n le = omega (arith, le)
 
-item_count_again : (kind : Kind) (n : ℕ) (rest : List ℕ) → n ≤ most_items kind → item_count_at kind (to_be_bytes w16 n ++ rest) ≡ Ok (n, rest)
-unfolding item_count_at
-item_count_again kind n rest le = rw (number_again w16 (2 ^ 16) wide16 n rest (small_count kind n le), le-ltb (most_items kind) n le) refl
+item_count_again : (kind : Kind) (n : ℕ) (rest : List ℕ) → n ≤ most_by_kind kind → read_item_count kind (to_be_bytes w16 n ++ rest) ≡ Ok (n, rest)
+unfolding read_item_count
+item_count_again kind n rest le = rw (number_again w16 (2 ^ 16) wide16 n rest (small_count kind n le), le-ltb (most_by_kind kind) n le) refl
 
 abbrev TakesDocument : Kind → ValueType → ℕ → List ℕ → (SavedDocument × List ℕ) → Type 0
 TakesDocument kind type before bytes x = Takes bytes (document_bytes kind x.0) x.1 × DocumentFits kind type before x.0
 
 document_takes : (kind : Kind) (type : ValueType) (before : ℕ) (bytes : List ℕ) (x : SavedDocument × List ℕ) → AreBytes bytes
-    → document_at kind type before bytes ≡ Ok x → TakesDocument kind type before bytes x
-unfolding document_at
+    → read_document kind type before bytes ≡ Ok x → TakesDocument kind type before bytes x
+unfolding read_document
 document_takes kind type before bytes x fits e =
-    let d = bind_ok (doc_at before bytes) (λ doc. item_count_at kind doc.1 >>= λ count. items_at kind type count.0 None count.1 >>= λ items. Ok (record { doc = doc.0; items = items.0 }, items.1)) x e in
-    let n = bind_ok (item_count_at kind d.0.1) (λ count. items_at kind type count.0 None count.1 >>= λ items. Ok (record { doc = d.0.0; items = items.0 }, items.1)) x d.2 in
-    let i = bind_ok (items_at kind type n.0.0 None n.0.1) (λ items. Ok (record { doc = d.0.0; items = items.0 }, items.1)) x n.2 in
+    let d = bind_ok (read_doc before bytes) (λ doc. read_item_count kind doc.1 >>= λ count. read_items kind type count.0 None count.1 >>= λ items. Ok (record { doc = doc.0; items = items.0 }, items.1)) x e in
+    let n = bind_ok (read_item_count kind d.0.1) (λ count. read_items kind type count.0 None count.1 >>= λ items. Ok (record { doc = d.0.0; items = items.0 }, items.1)) x d.2 in
+    let i = bind_ok (read_items kind type n.0.0 None n.0.1) (λ items. Ok (record { doc = d.0.0; items = items.0 }, items.1)) x n.2 in
     let doc = doc_takes before bytes d.0 fits d.1 in
     let count = item_count_takes kind d.0.1 n.0 doc.0.rest_fits n.1 in
-    let items = row_takes (item_at kind type) (λ (item : Item). Some item.value) (ItemFits kind type) (item_bytes kind) (item_takes kind type) n.0.0 None n.0.1 i.0 count.0.rest_fits i.1 in
+    let items = row_takes (read_item kind type) (λ (item : Item). Some item.value) (ItemFits kind type) (item_bytes kind) (item_takes kind type) n.0.0 None n.0.1 i.0 count.0.rest_fits i.1 in
     let counted : Takes d.0.1 (to_be_bytes w16 (length i.0.0)) n.0.1 = subst (λ (len : ℕ). Takes d.0.1 (to_be_bytes w16 len) n.0.1) (sym items.1) count.0 in
     let end = Takes-then d.0.1 (to_be_bytes w16 (length i.0.0)) n.0.1 (flat_map (item_bytes kind) i.0.0) i.0.1 counted items.0 in
     let both = Takes-then bytes (to_be_bytes w32 d.0.0) d.0.1 (to_be_bytes w16 (length i.0.0) ++ flat_map (item_bytes kind) i.0.0) i.0.1 doc.0 end in
     let made : SavedDocument × List ℕ = (record { doc = d.0.0; items = i.0.0 }, i.0.1) in
-    let few : length i.0.0 ≤ most_items kind = omega (arith, items.1, count.1) in
+    let few : length i.0.0 ≤ most_by_kind kind = omega (arith, items.1, count.1) in
     subst (TakesDocument kind type before bytes) (ok_is made x i.2) (both, record { above = doc.1; within = doc.2; few = few; items = items.2 })
 
 document_again : (kind : Kind) (type : ValueType) (before : ℕ) (document : SavedDocument) (rest : List ℕ) → DocumentFits kind type before document
-    → document_at kind type before (document_bytes kind document ++ rest) ≡ Ok (document, rest)
-unfolding document_at
+    → read_document kind type before (document_bytes kind document ++ rest) ≡ Ok (document, rest)
+unfolding read_document
 document_again kind type before document rest fits =
     let doc = to_be_bytes w32 document.doc in
     let count = to_be_bytes w16 (length document.items) in
     let items = flat_map (item_bytes kind) document.items in
     let regrouped : document_bytes kind document ++ rest ≡ to_be_bytes w32 document.doc ++ (to_be_bytes w16 (length document.items) ++ (flat_map (item_bytes kind) document.items ++ rest)) =
     append_assoc doc (count ++ items) rest ∙ ap (λ (bytes : List ℕ). doc ++ bytes) (append_assoc count items rest) in
-    ap (document_at kind type before) regrouped
+    ap (read_document kind type before) regrouped
     ∙ rw (
       doc_again before document.doc (count ++ (items ++ rest)) fits.above fits.within,
       item_count_again kind (length document.items) (items ++ rest) fits.few,
-      row_again (item_at kind type) (λ (item : Item). Some item.value) (ItemFits kind type) (item_bytes kind) (item_again kind type) document.items None rest fits.items,
+      row_again (read_item kind type) (λ (item : Item). Some item.value) (ItemFits kind type) (item_bytes kind) (item_again kind type) document.items None rest fits.items,
     ) refl
 
 -- ---- a whole save
@@ -116,25 +116,25 @@ head_parts kind type operations documents rest =
     append_assoc (magic ++ kind_byte kind ∷ type_byte type ∷ []) (to_be_bytes w32 operations ++ to_be_bytes w32 documents) rest
     ∙ ap (λ (bytes : List ℕ). (magic ++ kind_byte kind ∷ type_byte type ∷ []) ++ bytes) (append_assoc (to_be_bytes w32 operations) (to_be_bytes w32 documents) rest)
 
-saved_takes : (bytes : List ℕ) (saved : Saved) → AreBytes bytes → saved_at bytes ≡ Ok saved → IsSave bytes saved
-unfolding saved_at
+saved_takes : (bytes : List ℕ) (saved : Saved) → AreBytes bytes → read_fields bytes ≡ Ok saved → IsSave bytes saved
+unfolding read_fields
 saved_takes bytes saved fits e =
-    let m = bind_ok (magic_at bytes) (λ start. kind_at start >>= λ kind. type_at kind.1 >>= λ type. number_at w32 type.1 >>= λ operations. count_at operations.1 >>= λ count.
-    documents_at kind.0 type.0 count.0 0 count.1 >>= λ documents. cond (eqb (length documents.1) 0)
+    let m = bind_ok (read_magic bytes) (λ start. read_kind start >>= λ kind. read_type kind.1 >>= λ type. read_number w32 type.1 >>= λ operations. read_count operations.1 >>= λ count.
+    read_documents kind.0 type.0 count.0 0 count.1 >>= λ documents. cond (eqb (length documents.1) 0)
     (Ok (record { kind = kind.0; value = type.0; operations = operations.0; table = documents.0 })) (bad documents.1)) saved e in
-    let k = bind_ok (kind_at m.0) (λ kind. type_at kind.1 >>= λ type. number_at w32 type.1 >>= λ operations. count_at operations.1 >>= λ count.
-    documents_at kind.0 type.0 count.0 0 count.1 >>= λ documents. cond (eqb (length documents.1) 0)
+    let k = bind_ok (read_kind m.0) (λ kind. read_type kind.1 >>= λ type. read_number w32 type.1 >>= λ operations. read_count operations.1 >>= λ count.
+    read_documents kind.0 type.0 count.0 0 count.1 >>= λ documents. cond (eqb (length documents.1) 0)
     (Ok (record { kind = kind.0; value = type.0; operations = operations.0; table = documents.0 })) (bad documents.1)) saved m.2 in
-    let t = bind_ok (type_at k.0.1) (λ type. number_at w32 type.1 >>= λ operations. count_at operations.1 >>= λ count.
-    documents_at k.0.0 type.0 count.0 0 count.1 >>= λ documents. cond (eqb (length documents.1) 0)
+    let t = bind_ok (read_type k.0.1) (λ type. read_number w32 type.1 >>= λ operations. read_count operations.1 >>= λ count.
+    read_documents k.0.0 type.0 count.0 0 count.1 >>= λ documents. cond (eqb (length documents.1) 0)
     (Ok (record { kind = k.0.0; value = type.0; operations = operations.0; table = documents.0 })) (bad documents.1)) saved k.2 in
-    let o = bind_ok (number_at w32 t.0.1) (λ operations. count_at operations.1 >>= λ count.
-    documents_at k.0.0 t.0.0 count.0 0 count.1 >>= λ documents. cond (eqb (length documents.1) 0)
+    let o = bind_ok (read_number w32 t.0.1) (λ operations. read_count operations.1 >>= λ count.
+    read_documents k.0.0 t.0.0 count.0 0 count.1 >>= λ documents. cond (eqb (length documents.1) 0)
     (Ok (record { kind = k.0.0; value = t.0.0; operations = operations.0; table = documents.0 })) (bad documents.1)) saved t.2 in
-    let c = bind_ok (count_at o.0.1) (λ count.
-    documents_at k.0.0 t.0.0 count.0 0 count.1 >>= λ documents. cond (eqb (length documents.1) 0)
+    let c = bind_ok (read_count o.0.1) (λ count.
+    read_documents k.0.0 t.0.0 count.0 0 count.1 >>= λ documents. cond (eqb (length documents.1) 0)
     (Ok (record { kind = k.0.0; value = t.0.0; operations = o.0.0; table = documents.0 })) (bad documents.1)) saved o.2 in
-    let d = bind_ok (documents_at k.0.0 t.0.0 c.0.0 0 c.0.1) (λ documents. cond (eqb (length documents.1) 0)
+    let d = bind_ok (read_documents k.0.0 t.0.0 c.0.0 0 c.0.1) (λ documents. cond (eqb (length documents.1) 0)
     (Ok (record { kind = k.0.0; value = t.0.0; operations = o.0.0; table = documents.0 })) (bad documents.1)) saved c.2 in
     let kind = k.0.0 in
     let type = t.0.0 in
@@ -146,7 +146,7 @@ saved_takes bytes saved fits e =
     let t2 = type_takes k.0.1 t.0 t1.rest_fits t.1 in
     let t3 = number_takes w32 (2 ^ 32) wide32 t.0.1 o.0 t2.rest_fits o.1 in
     let t4 = count_takes o.0.1 c.0 t3.0.rest_fits c.1 in
-    let t5 = row_takes (document_at k.0.0 t.0.0) (λ (document : SavedDocument). document.doc) (DocumentFits k.0.0 t.0.0) (document_bytes k.0.0)
+    let t5 = row_takes (read_document k.0.0 t.0.0) (λ (document : SavedDocument). document.doc) (DocumentFits k.0.0 t.0.0) (document_bytes k.0.0)
     (document_takes k.0.0 t.0.0) c.0.0 0 c.0.1 d.0 t4.0.rest_fits d.1 in
     let column = column_lawful k.0.0 t.0.0 d.0.0 t5.2 in
     let rows = flat_map (document_bytes k.0.0) d.0.0 in
@@ -161,19 +161,19 @@ saved_takes bytes saved fits e =
       whole ∙ sym (head_parts k.0.0 t.0.0 o.0.0 (length d.0.0) rows),
     )
 
-saved_again : (saved : Saved) → IsLawfulSaved saved → saved_at (saved_bytes saved) ≡ Ok saved
-unfolding saved_at
+saved_again : (saved : Saved) → IsLawfulSaved saved → read_fields (saved_bytes saved) ≡ Ok saved
+unfolding read_fields
 saved_again saved lawful =
     let rows = flat_map (document_bytes saved.kind) saved.table in
     let chain = column_chain saved.kind saved.value saved.table lawful.column lawful.storable in
     let few : length saved.table ≤ last_doc = column_few saved.kind saved.value saved.table lawful.column in
     let count = to_be_bytes w32 (length saved.table) in
     let operations = to_be_bytes w32 saved.operations in
-    let read : documents_at saved.kind saved.value (length saved.table) 0 rows ≡ Ok (saved.table, []) =
-    ap (documents_at saved.kind saved.value (length saved.table) 0) (sym (append-nil rows))
-    ∙ row_again (document_at saved.kind saved.value) (λ (document : SavedDocument). document.doc) (DocumentFits saved.kind saved.value) (document_bytes saved.kind)
+    let read : read_documents saved.kind saved.value (length saved.table) 0 rows ≡ Ok (saved.table, []) =
+    ap (read_documents saved.kind saved.value (length saved.table) 0) (sym (append-nil rows))
+    ∙ row_again (read_document saved.kind saved.value) (λ (document : SavedDocument). document.doc) (DocumentFits saved.kind saved.value) (document_bytes saved.kind)
     (document_again saved.kind saved.value) saved.table 0 [] chain in
-    ap saved_at (head_parts saved.kind saved.value saved.operations (length saved.table) rows)
+    ap read_fields (head_parts saved.kind saved.value saved.operations (length saved.table) rows)
     ∙ rw (
       kind_again saved.kind ((type_byte saved.value ∷ []) ++ (operations ++ (count ++ rows))),
       type_again saved.value (operations ++ (count ++ rows)),
@@ -182,25 +182,25 @@ saved_again saved lawful =
       read,
     ) refl
 
-placed_ok : {A : Type 0} (len : ℕ) (r : Result A ℕ) (a : A) → placed len r ≡ Ok a → r ≡ Ok a
+placed_ok : {A : Type 0} (len : ℕ) (r : Result A ℕ) (a : A) → with_offset len r ≡ Ok a → r ≡ Ok a
 placed_ok len (Ok x) a e = e
 placed_ok len (Err left) a e = absurd cc
 
-pub read_ok : (bytes : List ℕ) (saved : Saved) → saved_at bytes ≡ Ok saved → read_of bytes ≡ Ok saved
+pub read_ok : (bytes : List ℕ) (saved : Saved) → read_fields bytes ≡ Ok saved → read_of bytes ≡ Ok saved
 unfolding read_of
-read_ok bytes saved e = ap (placed (length bytes)) e
+read_ok bytes saved e = ap (with_offset (length bytes)) e
 
-pub read_bad : (bytes : List ℕ) (left : ℕ) → saved_at bytes ≡ Err left → read_of bytes ≡ Err (length bytes - left)
+pub read_bad : (bytes : List ℕ) (left : ℕ) → read_fields bytes ≡ Err left → read_of bytes ≡ Err (length bytes - left)
 unfolding read_of
-read_bad bytes left e = ap (placed (length bytes)) e
+read_bad bytes left e = ap (with_offset (length bytes)) e
 
 pub reads_saves : (bytes : List ℕ) (saved : Saved) → AreBytes bytes → read_of bytes ≡ Ok saved → IsLawfulSaved saved × (bytes ≡ saved_bytes saved)
 unfolding read_of
-reads_saves bytes saved fits e = saved_takes bytes saved fits (placed_ok (length bytes) (saved_at bytes) saved e)
+reads_saves bytes saved fits e = saved_takes bytes saved fits (placed_ok (length bytes) (read_fields bytes) saved e)
 
 pub read_again : (saved : Saved) → IsLawfulSaved saved → read_of (saved_bytes saved) ≡ Ok saved
 unfolding read_of
-read_again saved lawful = ap (placed (length (saved_bytes saved))) (saved_again saved lawful)
+read_again saved lawful = ap (with_offset (length (saved_bytes saved))) (saved_again saved lawful)
 
 pub saves_differ : (one other : Saved) → IsLawfulSaved one → IsLawfulSaved other → saved_bytes one ≡ saved_bytes other → one ≡ other
 saves_differ one other lawful_one lawful_other same =

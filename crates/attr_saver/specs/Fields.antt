@@ -34,26 +34,26 @@ abbrev pub ◌>>=◌ : {A B : Type 0} → Result A ℕ → (A → Result B ℕ) 
 abbrev pub bad : {A : Type 0} → List ℕ → Result A ℕ
 bad bytes = Err (length bytes)
 
-abbrev pub bytes_at : ℕ → List ℕ → Read (List ℕ)
-bytes_at len bytes = if nat_lt (length bytes) len then bad bytes else Ok (take len bytes, drop len bytes)
+abbrev pub read_bytes : ℕ → List ℕ → Read (List ℕ)
+read_bytes len bytes = if nat_lt (length bytes) len then bad bytes else Ok (take len bytes, drop len bytes)
 
-abbrev pub number_at : Width → List ℕ → Read ℕ
-number_at w bytes =
+abbrev pub read_number : Width → List ℕ → Read ℕ
+read_number w bytes =
     if nat_lt (length bytes) (byte_len w) then bad bytes
     else Ok (from_be_bytes w (take (byte_len w) bytes), drop (byte_len w) bytes)
 
 -- so many things in a row, each read with what the one before it leaves
-unfoldable pub row_of : {A S : Type 0} → (S → List ℕ → Read A) → (A → S) → ℕ → S → List ℕ → Read (List A)
-row_of read left zero before bytes = Ok ([], bytes)
-row_of read left (suc count) before bytes = do
+unfoldable pub read_row : {A S : Type 0} → (S → List ℕ → Read A) → (A → S) → ℕ → S → List ℕ → Read (List A)
+read_row read left zero before bytes = Ok ([], bytes)
+read_row read left (suc count) before bytes = do
   first ← read before bytes
-  others ← row_of read left count (left first.0) first.1
+  others ← read_row read left count (left first.0) first.1
   Ok (first.0 ∷ others.0, others.1)
 
 -- ---- the fields in front of the documents
 
-abbrev pub magic_at : List ℕ → Result (List ℕ) ℕ
-magic_at bytes = if starts_with nat_eq bytes magic then Ok (drop 4 bytes) else bad bytes
+abbrev pub read_magic : List ℕ → Result (List ℕ) ℕ
+read_magic bytes = if starts_with nat_eq bytes magic then Ok (drop 4 bytes) else bad bytes
 
 -- a value that a byte stands for, and the bytes after it
 abbrev pub or_bad : {A : Type 0} → List ℕ → Option A → List ℕ → Read A
@@ -66,25 +66,25 @@ kind_of (suc zero) = Some Array
 kind_of (suc (suc zero)) = Some WeightedSet
 kind_of (suc (suc (suc byte))) = None
 
-unfoldable pub kind_at : List ℕ → Read Kind
-kind_at bytes = do
-  byte ← number_at w8 bytes
+unfoldable pub read_kind : List ℕ → Read Kind
+read_kind bytes = do
+  byte ← read_number w8 bytes
   or_bad bytes (kind_of byte.0) byte.1
 
-abbrev pub type_of : ℕ → Option ValueType
-type_of zero = Some types.Long
-type_of (suc zero) = Some types.Text
-type_of (suc (suc byte)) = None
+abbrev pub type_by_byte : ℕ → Option ValueType
+type_by_byte zero = Some types.Long
+type_by_byte (suc zero) = Some types.Text
+type_by_byte (suc (suc byte)) = None
 
-unfoldable pub type_at : List ℕ → Read ValueType
-type_at bytes = do
-  byte ← number_at w8 bytes
-  or_bad bytes (type_of byte.0) byte.1
+unfoldable pub read_type : List ℕ → Read ValueType
+read_type bytes = do
+  byte ← read_number w8 bytes
+  or_bad bytes (type_by_byte byte.0) byte.1
 
 -- how many documents: no more than there are numbers
-unfoldable pub count_at : List ℕ → Read ℕ
-count_at bytes = do
-  count ← number_at w32 bytes
+unfoldable pub read_count : List ℕ → Read ℕ
+read_count bytes = do
+  count ← read_number w32 bytes
   if nat_lt last_doc count.0 then bad bytes else Ok count
 
 -- ---- the fields of an item
@@ -101,49 +101,49 @@ abbrev pub following : Kind → Option Value → ℕ → Value → Result Value 
 following kind before left value = if may_follow kind before value then Ok value else Err left
 
 -- a whole number in two's complement
-unfoldable pub long_at : List ℕ → Read Value
-long_at bytes = do
-  number ← number_at w64 bytes
+unfoldable pub read_long : List ℕ → Read Value
+read_long bytes = do
+  number ← read_number w64 bytes
   Ok (values.Long (cast_signed w64 number.0), number.1)
 
-unfoldable pub text_len_at : List ℕ → Read ℕ
-text_len_at bytes = do
-  len ← number_at w16 bytes
+unfoldable pub read_text_len : List ℕ → Read ℕ
+read_text_len bytes = do
+  len ← read_number w16 bytes
   if nat_lt 1024 len.0 then bad bytes else Ok len
 
-unfoldable pub text_at : ℕ → List ℕ → Read Value
-text_at len bytes = do
-  text ← bytes_at len bytes
+unfoldable pub read_text : ℕ → List ℕ → Read Value
+read_text len bytes = do
+  text ← read_bytes len bytes
   if is_utf8 text.0 then Ok (values.Text text.0, text.1) else bad bytes
 
 -- a whole number is one field; a text is two, its length and its bytes
-unfoldable pub value_at : Kind → ValueType → Option Value → List ℕ → Read Value
-value_at kind types.Long before bytes = do
-  read ← long_at bytes
+unfoldable pub read_value : Kind → ValueType → Option Value → List ℕ → Read Value
+read_value kind types.Long before bytes = do
+  read ← read_long bytes
   value ← following kind before (length bytes) read.0
   Ok (value, read.1)
-value_at kind types.Text before bytes = do
-  len ← text_len_at bytes
-  read ← text_at len.0 len.1
+read_value kind types.Text before bytes = do
+  len ← read_text_len bytes
+  read ← read_text len.0 len.1
   value ← following kind before (length len.1) read.0
   Ok (value, read.1)
 
 -- only a weighted set has a field of the weight, in two's complement
-unfoldable pub weight_at : Kind → List ℕ → Read ℤ
-weight_at Single bytes = Ok (pos 1, bytes)
-weight_at Array bytes = Ok (pos 1, bytes)
-weight_at WeightedSet bytes = do
-  weight ← number_at w32 bytes
+unfoldable pub read_weight : Kind → List ℕ → Read ℤ
+read_weight Single bytes = Ok (pos 1, bytes)
+read_weight Array bytes = Ok (pos 1, bytes)
+read_weight WeightedSet bytes = do
+  weight ← read_number w32 bytes
   Ok (cast_signed w32 weight.0, weight.1)
 
-unfoldable pub item_at : Kind → ValueType → Option Value → List ℕ → Read Item
-item_at kind type before bytes = do
-  value ← value_at kind type before bytes
-  weight ← weight_at kind value.1
+unfoldable pub read_item : Kind → ValueType → Option Value → List ℕ → Read Item
+read_item kind type before bytes = do
+  value ← read_value kind type before bytes
+  weight ← read_weight kind value.1
   Ok (record { value = value.0; weight = weight.0 }, weight.1)
 
-abbrev pub items_at : Kind → ValueType → ℕ → Option Value → List ℕ → Read (List Item)
-items_at kind type count before = row_of (item_at kind type) (λ item. Some item.value) count before
+abbrev pub read_items : Kind → ValueType → ℕ → Option Value → List ℕ → Read (List Item)
+read_items kind type count before = read_row (read_item kind type) (λ item. Some item.value) count before
 
 -- the value of the last item
 abbrev pub last_value : List Item → Option Value
@@ -152,52 +152,52 @@ last_value items = option_map (λ item. item.value) (slice_get items (length ite
 -- ---- the fields of a document
 
 -- its number: above the one before
-unfoldable pub doc_at : ℕ → List ℕ → Read ℕ
-doc_at before bytes = do
-  doc ← number_at w32 bytes
+unfoldable pub read_doc : ℕ → List ℕ → Read ℕ
+read_doc before bytes = do
+  doc ← read_number w32 bytes
   if nat_lt before doc.0 && nat_le doc.0 last_doc then Ok doc else bad bytes
 
-abbrev pub most_items : Kind → ℕ
-most_items Single = 1
-most_items Array = most_in_a_list
-most_items WeightedSet = most_in_a_list
+abbrev pub most_by_kind : Kind → ℕ
+most_by_kind Single = 1
+most_by_kind Array = most_in_a_list
+most_by_kind WeightedSet = most_in_a_list
 
 -- how many items it has
-unfoldable pub item_count_at : Kind → List ℕ → Read ℕ
-item_count_at kind bytes = do
-  count ← number_at w16 bytes
-  if nat_lt (most_items kind) count.0 then bad bytes else Ok count
+unfoldable pub read_item_count : Kind → List ℕ → Read ℕ
+read_item_count kind bytes = do
+  count ← read_number w16 bytes
+  if nat_lt (most_by_kind kind) count.0 then bad bytes else Ok count
 
-unfoldable pub document_at : Kind → ValueType → ℕ → List ℕ → Read SavedDocument
-document_at kind type before bytes = do
-  doc ← doc_at before bytes
-  count ← item_count_at kind doc.1
-  items ← items_at kind type count.0 None count.1
+unfoldable pub read_document : Kind → ValueType → ℕ → List ℕ → Read SavedDocument
+read_document kind type before bytes = do
+  doc ← read_doc before bytes
+  count ← read_item_count kind doc.1
+  items ← read_items kind type count.0 None count.1
   Ok (record { doc = doc.0; items = items.0 }, items.1)
 
-abbrev pub documents_at : Kind → ValueType → ℕ → ℕ → List ℕ → Read (List SavedDocument)
-documents_at kind type count before = row_of (document_at kind type) (λ document. document.doc) count before
+abbrev pub read_documents : Kind → ValueType → ℕ → ℕ → List ℕ → Read (List SavedDocument)
+read_documents kind type count before = read_row (read_document kind type) (λ document. document.doc) count before
 
 -- ---- all fields
 
 -- behind them nothing follows
-unfoldable pub saved_at : List ℕ → Result Saved ℕ
-saved_at bytes = do
-  start ← magic_at bytes
-  kind ← kind_at start
-  type ← type_at kind.1
-  operations ← number_at w32 type.1
-  count ← count_at operations.1
-  documents ← documents_at kind.0 type.0 count.0 0 count.1
+unfoldable pub read_fields : List ℕ → Result Saved ℕ
+read_fields bytes = do
+  start ← read_magic bytes
+  kind ← read_kind start
+  type ← read_type kind.1
+  operations ← read_number w32 type.1
+  count ← read_count operations.1
+  documents ← read_documents kind.0 type.0 count.0 0 count.1
   if nat_eq (length documents.1) 0
       then Ok (record { kind = kind.0; value = type.0; operations = operations.0; table = documents.0 })
       else bad documents.1
 
 -- how many bytes come before the last so many, of bytes of this number
-abbrev pub placed : {A : Type 0} → ℕ → Result A ℕ → Result A ℕ
-placed len (Ok a) = Ok a
-placed len (Err left) = Err (len - left)
+abbrev pub with_offset : {A : Type 0} → ℕ → Result A ℕ → Result A ℕ
+with_offset len (Ok a) = Ok a
+with_offset len (Err left) = Err (len - left)
 
 -- what bytes tell, or the offset of the first bad field
 unfoldable pub read_of : List ℕ → Result Saved ℕ
-read_of bytes = placed (length bytes) (saved_at bytes)
+read_of bytes = with_offset (length bytes) (read_fields bytes)

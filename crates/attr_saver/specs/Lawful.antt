@@ -17,19 +17,19 @@ use Rattle.attr_saver.specs.declared.saved.Saved.{Saved}
 use Rattle.attr_saver.specs.declared.saved.SavedDocument.{SavedDocument}
 
 -- the documents of a table, each with its items in the first attribute
-abbrev pub column_of : Table → List SavedDocument
-column_of table = map (λ e. record { doc = e.0; items = items_in e.1 0 }) table
+abbrev pub first_column : Table → List SavedDocument
+first_column table = map (λ e. record { doc = e.0; items = items_in e.1 0 }) table
 
 -- the save of a table's first attribute
 abbrev pub save_of : Kind → ValueType → ℕ → Table → Saved
 save_of kind type operations table =
-    record { kind = kind; value = type; operations = operations; table = column_of table }
+    record { kind = kind; value = type; operations = operations; table = first_column table }
 
 abbrev pub docs_of : List SavedDocument → List ℕ
 docs_of column = map (λ d. d.doc) column
 
 -- documents ascend, each with items that its kind and value type allow
-pub record IsLawfulColumn (kind : Kind) (type : ValueType) (column : List SavedDocument) : Type 0 where
+pub record AreLawfulDocuments (kind : Kind) (type : ValueType) (column : List SavedDocument) : Type 0 where
   pub ascends : IsStrictlySortedBy nat_cmp (docs_of column)
   pub numbers : AllByRecursion IsDocNumber (docs_of column)
   pub items : AllByRecursion (λ d. ItemsFit kind type d.items) column
@@ -50,5 +50,5 @@ pub record IsStorable (item : Item) : Type 0 where
 -- what a save may tell
 pub record IsLawfulSaved (saved : Saved) : Type 0 where
   pub operations : saved.operations < 2 ^ 32
-  pub column : IsLawfulColumn saved.kind saved.value saved.table
+  pub column : AreLawfulDocuments saved.kind saved.value saved.table
   pub storable : AllByRecursion (λ d. AllByRecursion IsStorable d.items) saved.table

@@ -1,11 +1,11 @@
 -- What the bytes of a save and their grammar have to do with each other.
 use Rattle.std.specs.Prelude.{ℕ, ◌≡◌, ◌<◌, List, ◌∷◌, Ok, slice_index}
-use Rattle.attr_types.specs.Lawful.{IsLawfulTable, HasType}
+use Rattle.attr_types.specs.Lawful.{IsLawfulTable, DocumentsHaveType}
 use Rattle.attr_types.specs.Table.{Table}
 use Rattle.attr_types.specs.declared.field.Field.{Field}
 use Rattle.attr_saver.specs.Bytes.{saved_bytes}
 use Rattle.attr_saver.specs.Fields.{read_of}
-use Rattle.attr_saver.specs.Lawful.{IsLawfulColumn, IsLawfulSaved, column_of}
+use Rattle.attr_saver.specs.Lawful.{AreLawfulDocuments, IsLawfulSaved, first_column}
 use Rattle.attr_saver.specs.declared.saved.Saved.{Saved}
 
 -- what was saved is read again
@@ -28,5 +28,5 @@ SavesDiffer = (one other : Saved) → IsLawfulSaved one → IsLawfulSaved other
 -- the first attribute of a lawful table with values of its attributes' types may be saved
 abbrev pub FirstColumnIsLawful : Type 0
 FirstColumnIsLawful = (field : Field) (fields : List Field) (table : Table)
-    → IsLawfulTable (field ∷ fields) table → HasType (field ∷ fields) table
-    → IsLawfulColumn field.kind field.value (column_of table)
+    → IsLawfulTable (field ∷ fields) table → DocumentsHaveType (field ∷ fields) table
+    → AreLawfulDocuments field.kind field.value (first_column table)

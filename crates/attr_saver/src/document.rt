@@ -1,8 +1,8 @@
 //! The fields of documents, and all fields.
 ghost use Rattle.std.specs.Prelude.{◌≡◌, ◌≤◌, IfOk};
 ghost use Rattle.attr_saver.specs.Answers.{Gives};
-ghost use Rattle.attr_saver.specs.Fields.{kind_of, kind_at, type_of, type_at, count_at};
-ghost use Rattle.attr_saver.specs.Fields.{doc_at, most_items, item_count_at, document_at, documents_at, saved_at};
+ghost use Rattle.attr_saver.specs.Fields.{kind_of, read_kind, type_by_byte, read_type, read_count};
+ghost use Rattle.attr_saver.specs.Fields.{read_doc, most_by_kind, read_item_count, read_document, read_documents, read_fields};
 
 use crate::error::Broken;
 use crate::reader::Reader;
@@ -22,9 +22,9 @@ fn kind_of(byte: u8) -> Option<Kind>
     }
 }
 
-#[tactic(auto, unfolding(crate::specs::Fields::kind_at))]
+#[tactic(auto, unfolding(crate::specs::Fields::read_kind))]
 fn read_kind(reader: &mut Reader) -> Result<Kind, Broken>
-    ensures { Gives (λ x. (x, reader.new)) result (kind_at reader.old) }
+    ensures { Gives (λ x. (x, reader.new)) result (read_kind reader.old) }
 {
     let left = reader.left();
     let byte = reader.u8()?;
@@ -35,7 +35,7 @@ fn read_kind(reader: &mut Reader) -> Result<Kind, Broken>
 }
 
 fn type_of(byte: u8) -> Option<ValueType>
-    ensures { result ≡ type_of byte }
+    ensures { result ≡ type_by_byte byte }
 {
     match byte {
         0 => Some(ValueType::Long),
@@ -44,9 +44,9 @@ fn type_of(byte: u8) -> Option<ValueType>
     }
 }
 
-#[tactic(auto, unfolding(crate::specs::Fields::type_at))]
+#[tactic(auto, unfolding(crate::specs::Fields::read_type))]
 fn read_type(reader: &mut Reader) -> Result<ValueType, Broken>
-    ensures { Gives (λ x. (x, reader.new)) result (type_at reader.old) }
+    ensures { Gives (λ x. (x, reader.new)) result (read_type reader.old) }
 {
     let left = reader.left();
     let byte = reader.u8()?;
@@ -57,9 +57,9 @@ fn read_type(reader: &mut Reader) -> Result<ValueType, Broken>
 }
 
 /// How many documents follow.
-#[tactic(auto, unfolding(crate::specs::Fields::count_at))]
+#[tactic(auto, unfolding(crate::specs::Fields::read_count))]
 fn read_count(reader: &mut Reader) -> Result<u32, Broken>
-    ensures { Gives (λ x. (x, reader.new)) result (count_at reader.old) }
+    ensures { Gives (λ x. (x, reader.new)) result (read_count reader.old) }
 {
     let left = reader.left();
     let count = reader.u32()?;
@@ -70,9 +70,9 @@ fn read_count(reader: &mut Reader) -> Result<u32, Broken>
 }
 
 /// The number of a document that comes after the one with number `before`.
-#[tactic(auto, unfolding(crate::specs::Fields::doc_at))]
+#[tactic(auto, unfolding(crate::specs::Fields::read_doc))]
 fn read_doc(reader: &mut Reader, before: u32) -> Result<Doc, Broken>
-    ensures { Gives (λ x. (x, reader.new)) result (doc_at before reader.old) }
+    ensures { Gives (λ x. (x, reader.new)) result (read_doc before reader.old) }
 {
     let left = reader.left();
     let number = reader.u32()?;
@@ -83,7 +83,7 @@ fn read_doc(reader: &mut Reader, before: u32) -> Result<Doc, Broken>
 }
 
 fn most_items(kind: Kind) -> u16
-    ensures { result ≡ most_items kind }
+    ensures { result ≡ most_by_kind kind }
 {
     match kind {
         Kind::Single => 1,
@@ -92,9 +92,9 @@ fn most_items(kind: Kind) -> u16
 }
 
 /// How many items of a document follow.
-#[tactic(auto, unfolding(crate::specs::Fields::item_count_at))]
+#[tactic(auto, unfolding(crate::specs::Fields::read_item_count))]
 fn read_item_count(reader: &mut Reader, kind: Kind) -> Result<u16, Broken>
-    ensures { Gives (λ x. (x, reader.new)) result (item_count_at kind reader.old) }
+    ensures { Gives (λ x. (x, reader.new)) result (read_item_count kind reader.old) }
 {
     let left = reader.left();
     let count = reader.u16()?;
@@ -105,7 +105,7 @@ fn read_item_count(reader: &mut Reader, kind: Kind) -> Result<u16, Broken>
 }
 
 /// A document that comes after the one with number `before`.
-#[tactic(auto, unfolding(crate::specs::Fields::document_at))]
+#[tactic(auto, unfolding(crate::specs::Fields::read_document))]
 fn read_document(
     alloc: Global,
     reader: &mut Reader,
@@ -113,7 +113,7 @@ fn read_document(
     value_type: ValueType,
     before: u32,
 ) -> Result<SavedDocument, Broken>
-    ensures { Gives (λ x. (x, reader.new)) result (document_at kind value_type before reader.old) }
+    ensures { Gives (λ x. (x, reader.new)) result (read_document kind value_type before reader.old) }
 {
     let doc = read_doc(reader, before)?;
     let count = read_item_count(reader, kind)?;
@@ -128,7 +128,7 @@ fn read_documents(
     value_type: ValueType,
     count: u32,
 ) -> Result<SavedTable, Broken>
-    ensures { Gives (λ x. (x, reader.new)) result (documents_at kind value_type count 0 reader.old) }
+    ensures { Gives (λ x. (x, reader.new)) result (read_documents kind value_type count 0 reader.old) }
 {
     let mut documents = Vec::new(alloc);
     let mut before = 0;
@@ -141,9 +141,9 @@ fn read_documents(
 }
 
 /// What bytes tell, all of the bytes.
-#[tactic(auto, unfolding(crate::specs::Fields::saved_at))]
+#[tactic(auto, unfolding(crate::specs::Fields::read_fields))]
 pub(crate) fn saved_in_bytes(alloc: Global, bytes: &[u8]) -> Result<Saved, Broken>
-    ensures { Gives (λ x. x) result (saved_at bytes.now) }
+    ensures { Gives (λ x. x) result (read_fields bytes.now) }
 {
     let mut reader = Reader::new(bytes);
     reader.magic()?;

@@ -1,7 +1,7 @@
 ghost use Rattle.std.specs.Prelude.{◌≡◌, length};
 ghost use Rattle.std.specs.Int.{w8, w16, w32, w64};
 ghost use Rattle.attr_saver.specs.Answers.{Gives};
-ghost use Rattle.attr_saver.specs.Fields.{number_at, bytes_at, magic_at};
+ghost use Rattle.attr_saver.specs.Fields.{read_number, read_bytes, read_magic};
 
 use crate::error::Broken;
 use std::marker::Model;
@@ -38,7 +38,7 @@ impl<'a> Reader<'a> {
     }
 
     pub(crate) fn bytes(&mut self, len: usize) -> Result<&'a [u8], Broken>
-        ensures { Gives (λ x. (x.now, self.new)) result (bytes_at len self.old) }
+        ensures { Gives (λ x. (x.now, self.new)) result (read_bytes len self.old) }
     {
         if self.rest.len() < len {
             return Err(Broken::Field {
@@ -51,28 +51,28 @@ impl<'a> Reader<'a> {
     }
 
     pub(crate) fn u8(&mut self) -> Result<u8, Broken>
-        ensures { Gives (λ x. (x, self.new)) result (number_at w8 self.old) }
+        ensures { Gives (λ x. (x, self.new)) result (read_number w8 self.old) }
     {
         let front = self.bytes(1)?;
         Ok(front[0])
     }
 
     pub(crate) fn u16(&mut self) -> Result<u16, Broken>
-        ensures { Gives (λ x. (x, self.new)) result (number_at w16 self.old) }
+        ensures { Gives (λ x. (x, self.new)) result (read_number w16 self.old) }
     {
         let front = self.bytes(2)?;
         Ok(u16::from_be_bytes([front[0], front[1]]))
     }
 
     pub(crate) fn u32(&mut self) -> Result<u32, Broken>
-        ensures { Gives (λ x. (x, self.new)) result (number_at w32 self.old) }
+        ensures { Gives (λ x. (x, self.new)) result (read_number w32 self.old) }
     {
         let front = self.bytes(4)?;
         Ok(u32::from_be_bytes([front[0], front[1], front[2], front[3]]))
     }
 
     pub(crate) fn u64(&mut self) -> Result<u64, Broken>
-        ensures { Gives (λ x. (x, self.new)) result (number_at w64 self.old) }
+        ensures { Gives (λ x. (x, self.new)) result (read_number w64 self.old) }
     {
         let front = self.bytes(8)?;
         Ok(u64::from_be_bytes([
@@ -82,7 +82,7 @@ impl<'a> Reader<'a> {
 
     /// Goes over what a save begins with.
     pub(crate) fn magic(&mut self) -> Result<(), Broken>
-        ensures { Gives (λ _. self.new) result (magic_at self.old) }
+        ensures { Gives (λ _. self.new) result (read_magic self.old) }
     {
         if !self.rest.starts_with(MAGIC) {
             return Err(Broken::Field {

@@ -4,7 +4,7 @@ ghost use Rattle.attr_io.specs.Bytes.{AppendsFront};
 ghost use Rattle.attr_io.specs.Faults.{Rose};
 ghost use Rattle.attr_saver.specs.Bytes.{saved_bytes};
 ghost use Rattle.attr_saver.specs.Fields.{read_of};
-ghost use Rattle.attr_saver.specs.Lawful.{IsLawfulColumn, column_of, save_of};
+ghost use Rattle.attr_saver.specs.Lawful.{AreLawfulDocuments, first_column, save_of};
 
 use crate::error::SaveError;
 use crate::sizing::saved_size;
@@ -22,7 +22,7 @@ pub fn saved_in(
     operations: u32,
     documents: &BTreeMap<Doc, FieldItems>,
 ) -> Result<Vec<u8>, AllocError>
-    requires { IsLawfulColumn kind value (column_of documents.now.entries) }
+    requires { AreLawfulDocuments kind value (first_column documents.now.entries) }
     ensures bytes { IfOk result (λ bytes. bytes.items
         ≡ saved_bytes (save_of kind value operations documents.now.entries)) }
     // What was saved is read again.
@@ -45,7 +45,7 @@ pub fn save<K: Sink>(
     documents: &BTreeMap<Doc, FieldItems>,
     sink: &mut K,
 ) -> Result<(), SaveError>
-    requires { IsLawfulColumn kind value (column_of documents.now.entries) }
+    requires { AreLawfulDocuments kind value (first_column documents.now.entries) }
     ensures whole { OnOk result (Appends (K.taken sink.old) (K.taken sink.new)
         (saved_bytes (save_of kind value operations documents.now.entries))) }
     ensures front { IsErrOf result SaveError.WriteFault → AppendsFront (K.taken sink.old) (K.taken sink.new)

@@ -2,7 +2,7 @@
 ghost use Rattle.std.specs.Prelude.{◌≡◌, ◌<◌, ◌≤◌, ◌^◌, ℕ, ℤ, length};
 ghost use Rattle.std.specs.List.{flat_map, AllByRecursion};
 ghost use Rattle.attr_saver.specs.Bytes.{value_bytes, weight_bytes, item_bytes, document_bytes, saved_bytes};
-ghost use Rattle.attr_saver.specs.Lawful.{IsLawfulColumn, column_of, save_of};
+ghost use Rattle.attr_saver.specs.Lawful.{AreLawfulDocuments, first_column, save_of};
 
 use crate::writing::first_items;
 use attr_types::{Doc, FieldItems, Item, Kind, Value, ValueType};
@@ -54,9 +54,9 @@ fn items_size(kind: Kind, items: &[Item]) -> usize
 }
 
 fn documents_size(kind: Kind, documents: &BTreeMap<Doc, FieldItems>) -> usize
-    requires few { length (column_of documents.now.entries) ≤ 1048575 }
-    requires short { AllByRecursion (λ d. length d.items ≤ 1023) (column_of documents.now.entries) }
-    ensures size { result ≡ length (flat_map (document_bytes kind) (column_of documents.now.entries)) }
+    requires few { length (first_column documents.now.entries) ≤ 1048575 }
+    requires short { AllByRecursion (λ d. length d.items ≤ 1023) (first_column documents.now.entries) }
+    ensures size { result ≡ length (flat_map (document_bytes kind) (first_column documents.now.entries)) }
     ensures small { result < 2 ^ 62 }
 {
     let mut size = 0;
@@ -69,7 +69,7 @@ fn documents_size(kind: Kind, documents: &BTreeMap<Doc, FieldItems>) -> usize
 
 /// How many bytes a save of the first attribute, of this kind and value type, has.
 pub fn saved_size(kind: Kind, value: ValueType, documents: &BTreeMap<Doc, FieldItems>) -> usize
-    requires { IsLawfulColumn kind value (column_of documents.now.entries) }
+    requires { AreLawfulDocuments kind value (first_column documents.now.entries) }
     ensures { (operations : ℕ) → result
         ≡ length (saved_bytes (save_of kind value operations documents.now.entries)) }
 {

@@ -1,8 +1,8 @@
 //! The fields of an item.
 ghost use Rattle.std.specs.Prelude.{◌≡◌, ◌≤◌, IfOk, None};
 ghost use Rattle.attr_saver.specs.Answers.{Gives};
-ghost use Rattle.attr_saver.specs.Fields.{long_at, text_len_at, text_at, last_value, may_follow};
-ghost use Rattle.attr_saver.specs.Fields.{following, value_at, weight_at, item_at, items_at};
+ghost use Rattle.attr_saver.specs.Fields.{read_long, read_text_len, read_text, last_value, may_follow};
+ghost use Rattle.attr_saver.specs.Fields.{following, read_value, read_weight, read_item, read_items};
 
 use crate::error::Broken;
 use crate::reader::Reader;
@@ -10,17 +10,17 @@ use attr_types::{Item, Items, Kind, Text, Value, ValueType, compare};
 use std::alloc::Global;
 use std::str;
 
-#[tactic(auto, unfolding(crate::specs::Fields::long_at))]
+#[tactic(auto, unfolding(crate::specs::Fields::read_long))]
 fn read_long(reader: &mut Reader) -> Result<Value, Broken>
-    ensures { Gives (λ x. (x, reader.new)) result (long_at reader.old) }
+    ensures { Gives (λ x. (x, reader.new)) result (read_long reader.old) }
 {
     let number = reader.u64()?;
     Ok(Value::Long(number.cast_signed()))
 }
 
-#[tactic(auto, unfolding(crate::specs::Fields::text_len_at))]
+#[tactic(auto, unfolding(crate::specs::Fields::read_text_len))]
 fn read_text_len(reader: &mut Reader) -> Result<usize, Broken>
-    ensures form { Gives (λ x. (x, reader.new)) result (text_len_at reader.old) }
+    ensures form { Gives (λ x. (x, reader.new)) result (read_text_len reader.old) }
     ensures short { IfOk result (λ x. x ≤ 1024) }
 {
     let left = reader.left();
@@ -31,10 +31,10 @@ fn read_text_len(reader: &mut Reader) -> Result<usize, Broken>
     Ok(len)
 }
 
-#[tactic(auto, unfolding(crate::specs::Fields::text_at))]
+#[tactic(auto, unfolding(crate::specs::Fields::read_text))]
 fn read_text(alloc: Global, reader: &mut Reader, len: usize) -> Result<Value, Broken>
     requires { len ≤ 1024 }
-    ensures { Gives (λ x. (x, reader.new)) result (text_at len reader.old) }
+    ensures { Gives (λ x. (x, reader.new)) result (read_text len reader.old) }
 {
     let left = reader.left();
     let bytes = reader.bytes(len)?;
@@ -58,7 +58,7 @@ fn may_follow(kind: Kind, items: &[Item], value: &Value) -> bool
 }
 
 /// The value of an item that stands behind others.
-#[tactic(auto, unfolding(crate::specs::Fields::value_at))]
+#[tactic(auto, unfolding(crate::specs::Fields::read_value))]
 fn read_value(
     alloc: Global,
     reader: &mut Reader,
@@ -67,7 +67,7 @@ fn read_value(
     items: &[Item],
 ) -> Result<Value, Broken>
     ensures { Gives (λ x. (x, reader.new)) result
-        (value_at kind value_type (last_value items.now) reader.old) }
+        (read_value kind value_type (last_value items.now) reader.old) }
 {
     match value_type {
         ValueType::Long => {
@@ -94,9 +94,9 @@ fn following(kind: Kind, items: &[Item], value: Value, left: usize) -> Result<Va
     Ok(value)
 }
 
-#[tactic(auto, unfolding(crate::specs::Fields::weight_at))]
+#[tactic(auto, unfolding(crate::specs::Fields::read_weight))]
 fn read_weight(reader: &mut Reader, kind: Kind) -> Result<i32, Broken>
-    ensures { Gives (λ x. (x, reader.new)) result (weight_at kind reader.old) }
+    ensures { Gives (λ x. (x, reader.new)) result (read_weight kind reader.old) }
 {
     match kind {
         Kind::Single | Kind::Array => Ok(1),
@@ -108,7 +108,7 @@ fn read_weight(reader: &mut Reader, kind: Kind) -> Result<i32, Broken>
 }
 
 /// An item that stands behind others.
-#[tactic(auto, unfolding(crate::specs::Fields::item_at))]
+#[tactic(auto, unfolding(crate::specs::Fields::read_item))]
 fn read_item(
     alloc: Global,
     reader: &mut Reader,
@@ -117,7 +117,7 @@ fn read_item(
     items: &[Item],
 ) -> Result<Item, Broken>
     ensures { Gives (λ x. (x, reader.new)) result
-        (item_at kind value_type (last_value items.now) reader.old) }
+        (read_item kind value_type (last_value items.now) reader.old) }
 {
     let value = read_value(alloc, reader, kind, value_type, items)?;
     let weight = read_weight(reader, kind)?;
@@ -132,7 +132,7 @@ pub(crate) fn read_items(
     value_type: ValueType,
     count: u16,
 ) -> Result<Items, Broken>
-    ensures { Gives (λ x. (x, reader.new)) result (items_at kind value_type count None reader.old) }
+    ensures { Gives (λ x. (x, reader.new)) result (read_items kind value_type count None reader.old) }
 {
     let mut items = Vec::new(alloc);
     for _ in 0..count {

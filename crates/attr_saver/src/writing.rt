@@ -4,7 +4,7 @@ ghost use Rattle.std.specs.Int.{w32, to_be_bytes};
 ghost use Rattle.std.specs.List.{flat_map, AllByRecursion};
 ghost use Rattle.attr_types.specs.Query.{items_in};
 ghost use Rattle.attr_saver.specs.Bytes.{kind_byte, type_byte, form_bytes, head_bytes, text_bytes, value_bytes, weight_bytes, item_bytes, document_bytes};
-ghost use Rattle.attr_saver.specs.Lawful.{IsStorable, IsStorableValue, IsStorableText, column_of};
+ghost use Rattle.attr_saver.specs.Lawful.{IsStorable, IsStorableValue, IsStorableText, first_column};
 
 use crate::reader::MAGIC;
 use attr_types::{Doc, FieldItems, Item, Kind, Text, Value, ValueType};
@@ -144,11 +144,11 @@ pub(crate) fn push_documents(
     kind: Kind,
     documents: &BTreeMap<Doc, FieldItems>,
 ) -> Result<(), AllocError>
-    requires { AllByRecursion (λ d. length d.items ≤ 1023) (column_of documents.now.entries) }
+    requires { AllByRecursion (λ d. length d.items ≤ 1023) (first_column documents.now.entries) }
     ensures bytes { OnOk result (out.new.items
-        ≡ out.old.items ++ flat_map (document_bytes kind) (column_of documents.now.entries)) }
+        ≡ out.old.items ++ flat_map (document_bytes kind) (first_column documents.now.entries)) }
     ensures fits { OnOk result (AllByRecursion (λ d. AllByRecursion IsStorable d.items)
-        (column_of documents.now.entries)) }
+        (first_column documents.now.entries)) }
 {
     for (doc, document) in documents {
         push_document(out, kind, *doc, first_items(document))?;

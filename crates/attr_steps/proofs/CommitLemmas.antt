@@ -26,7 +26,7 @@ use Rattle.attr_images.specs.Words.{filled}
 use Rattle.attr_types.specs.declared.field.Field.{Field}
 use Rattle.attr_types.specs.declared.field.TheConstants.{MOST_FIELDS}
 use Rattle.attr_steps.specs.Calls.{KeepsStore}
-use Rattle.attr_steps.specs.Commits.{CommitsAttributes, MakesRoot, roots_listed}
+use Rattle.attr_steps.specs.Commits.{CommitsAttributes, MakesRootRecord, roots_listed}
 use Rattle.attr_steps.specs.Fields.{AllReferBeside, AreFields, HoldsAttributes, IsFieldAt, OwnsOutside, parts_of, root_entries, trees_of}
 use Rattle.attr_steps.specs.Views.{table_at}
 use Rattle.attr_steps.proofs.Columns.{FieldLaws}
@@ -80,7 +80,7 @@ before_owns bits ledger m fields trees root holds = record { each = λ r. let al
 module _ (laws : FieldLaws) (reaches : FieldReaches) (images : RootMakesImage) {H : Type 0} {bits : ℕ} (old mid : Ledger H) (m k : Records)
     (fields : List Field) (roots : List (FieldRoots bits)) (operations before root : ℕ)
     (sized : length roots ≡ length fields) (few : length fields ≤ MOST_FIELDS) (below : operations < 2 ^ 32) (holds : HoldsAttributes bits old m fields (trees_of fields roots) before)
-    (keeps : KeepsStore old mid) (makes : MakesRoot bits old mid m k (operations ∷ roots_listed roots) before root)
+    (keeps : KeepsStore old mid) (makes : MakesRootRecord bits old mid m k (operations ∷ roots_listed roots) before root)
     (finished : (b : ℕ) → mid.finished ≡ Some b → mid.sealed b ≡ true) where
   abbrev trees : List AttributeTrees
   trees = trees_of fields roots

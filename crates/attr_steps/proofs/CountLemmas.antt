@@ -20,7 +20,7 @@ use Rattle.attr_types.specs.declared.value.Value.{Value}
 use Rattle.attr_walks.specs.Counts.{MakesFew}
 use Rattle.attr_walks.proofs.CountLemmas.{few_more, few_none, few_then}
 use Rattle.posting_store.specs.Changes.{MakesWithin}
-use Rattle.attr_steps.specs.Counts.{document_nodes, document_records, items_at, low_document, of_width, weights_at, MakesDocument, SparesAtMost}
+use Rattle.attr_steps.specs.Counts.{document_nodes, document_records, items_if_there, low_document, of_width, weights_at, MakesDocument, SparesAtMost}
 
 -- ---- more attributes make no less
 on_by : ℕ → ℕ → ℕ
@@ -65,13 +65,13 @@ module _ {H : Type 0} (table : Table) (old new : Option Document) (begun now : L
       }
 
   -- one attribute more
-  module _ (later : Ledger H) (before : List Item) (after : Option (List Item)) (was : before ≡ items_at old i) (is : after ≡ option_map (λ d. items_in d i) new) where
+  module _ (later : Ledger H) (before : List Item) (after : Option (List Item)) (was : before ≡ items_if_there old i) (is : after ≡ option_map (λ d. items_in d i) new) where
     at_items : (nodes : List (Value × ℤ) → List (Value × ℤ) → ℕ)
         → MakesFew now later (nodes (first_weights [] before) (first_weights [] (unwrap_or after []))) (field_records (first_weights [] before) (first_weights [] (unwrap_or after [])))
         → MakesFew now later (nodes (weights_at old i) (weights_at new i)) (field_records (weights_at old i) (weights_at new i))
     at_items nodes more =
         let few : List Item → List Item → Type 0 = λ was is. MakesFew now later (nodes (first_weights [] was) (first_weights [] is)) (field_records (first_weights [] was) (first_weights [] is)) in
-        subst (λ (items : List Item). few items (items_at new i)) was (subst (λ (o : Option (List Item)). few before (unwrap_or o [])) is more)
+        subst (λ (items : List Item). few items (items_if_there new i)) was (subst (λ (o : Option (List Item)). few before (unwrap_or o [])) is more)
 
     pub counts_on : MayDo begun now → MakesDocument begun now table old new i
         → MakesFew now later (field_nodes (first_weights [] before) (first_weights [] (unwrap_or after []))) (field_records (first_weights [] before) (first_weights [] (unwrap_or after [])))

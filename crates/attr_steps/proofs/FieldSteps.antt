@@ -26,7 +26,7 @@ use Rattle.attr_field.specs.Laws.{FieldStays, FieldIsLawful, FieldOwnsKeys}
 use Rattle.attr_field.specs.declared.roots.FieldRoots.{FieldRoots}
 use Rattle.attr_field.proofs.CopyLemmas.{refers_some}
 use Rattle.attr_steps.specs.Fields.{FitsFields, IsFieldAt, column_in, part_of, parts_of, table_with, trees_of, trees_of_field}
-use Rattle.attr_steps.specs.Counts.{items_at}
+use Rattle.attr_steps.specs.Counts.{items_if_there}
 use Rattle.attr_steps.specs.Views.{table_at}
 use Rattle.attr_steps.specs.Widths.{IsChangedWidth}
 use Rattle.attr_steps.proofs.TreeLists.{all_at, some_is, tree_get, tree_set}
@@ -126,7 +126,7 @@ module _ {bits : ℕ} {H : Type 0} (begun now : Ledger H) (k m : Records) (field
     }
 
   -- of which width its change was refused
-  pub changed_width : Sound fields (table_at k (trees_of fields first)) → (before : List Item) (after : Option (List Item)) → before ≡ items_at old i
+  pub changed_width : Sound fields (table_at k (trees_of fields first)) → (before : List Item) (after : Option (List Item)) → before ≡ items_if_there old i
       → after ≡ option_map (λ d. items_in d i) new → (w : ℕ)
       → IsFieldWidth field.kind (with_change (column_at field.kind field.value m root.documents) doc after) before (unwrap_or after []) w
       → IsChangedWidth fields (table_with (table_at k (trees_of fields first)) doc new) old new w
@@ -139,8 +139,8 @@ module _ {bits : ℕ} {H : Type 0} (begun now : Ledger H) (k m : Records) (field
         number = i;
         field = field;
         field_is = at_field;
-        is = subst (λ (c : Column). IsFieldWidth field.kind c (items_at old i) (items_at new i) w) column
-            (subst (λ (items : List Item). IsFieldWidth field.kind (with_change (column_at field.kind field.value m root.documents) doc after) items (items_at new i) w) was
+        is = subst (λ (c : Column). IsFieldWidth field.kind c (items_if_there old i) (items_if_there new i) w) column
+            (subst (λ (items : List Item). IsFieldWidth field.kind (with_change (column_at field.kind field.value m root.documents) doc after) items (items_if_there new i) w) was
             (subst (λ (items : List Item). IsFieldWidth field.kind (with_change (column_at field.kind field.value m root.documents) doc after) before items w) (ap (λ (a : Option (List Item)). unwrap_or a []) next) is));
       }
 

@@ -19,7 +19,7 @@ use Rattle.store_api.specs.declared.store.StoreError.TheVariants.{Full, Memory}
 use Rattle.store_api.proofs.PartLemmas.{after, owns-some, turns-then}
 use Rattle.store_api.proofs.UnitLemmas.{unit-accepts, accept-stays}
 use Rattle.attr_steps.specs.Calls.{RefusesUnit}
-use Rattle.attr_steps.specs.Commits.{IsForWidth, MakesRoot, RefusesRoot, roots_listed}
+use Rattle.attr_steps.specs.Commits.{IsForWidth, MakesRootRecord, RefusesRoot, roots_listed}
 use Rattle.attr_steps.specs.Fields.{root_entries, trees_of}
 use Rattle.attr_steps.proofs.TreeLists.{some_is}
 use Rattle.posting_store.proofs.RefusalLemmas.{of_one}
@@ -89,7 +89,7 @@ module _ {H : Type 0} (bits : ℕ) (old mid new : Ledger H) (m k n : Records) (w
     alone : After mid new k n (entry root ∷ entries (root_entries before) ∷ []) (entry root ∷ []) (entry root ∷ [])
     alone = after mid new k n (roots_part before) [] (entry root ∷ []) (entry root ∷ entries (root_entries before) ∷ []) (entry root ∷ []) both.owns drops (λ k r. omega arith) (λ k r. omega arith)
 
-    pub makes_root : MakesRoot bits old new m n words before root
+    pub makes_root : MakesRootRecord bits old new m n words before root
     makes_root = record {
       some = adds.some;
       words_are = alone.stay.0.0 ∙ adds.words_are;
@@ -106,14 +106,14 @@ module _ {H : Type 0} (old begun mid new : Ledger H) (m k n o : Records) (words 
     each = λ r. let each = owns.each r in let same : uses begun r ≡ uses old r = ap (λ (l : Ledger H). uses l r) begins in omega arith;
   }
 
-  module _ (bits : ℕ) (makes : MakesRoot bits begun mid k n words before root) (accepts : Accepts mid new n o) where
+  module _ (bits : ℕ) (makes : MakesRootRecord bits begun mid k n words before root) (accepts : Accepts mid new n o) where
     whole : After old new m o (entries (root_entries before) ∷ []) (entries (root_entries root) ∷ []) []
     whole = unit-accepts old begun mid new m k n o (roots_part before) (roots_part root) owns begins records makes.turns accepts
 
     stays : AllStay (entries (root_entries root) ∷ []) n o
     stays = accept-stays old begun mid new m k n o (roots_part before) (roots_part root) owns begins records makes.turns accepts
 
-    pub accepts_root : MakesRoot bits old new m o words before root
+    pub accepts_root : MakesRootRecord bits old new m o words before root
     accepts_root =
         let there : SameAt (root ∷ []) n o = subst (λ refs. SameAt refs n o) (entries_some root makes.some) stays.0 in
         record {

@@ -27,7 +27,7 @@ abbrev pub roots_listed : {bits : ℕ} → List (FieldRoots bits) → List ℕ
 roots_listed roots = flat_map (λ root. root.documents ∷ root.dictionary ∷ []) roots
 
 -- a root record of these words was made in place of another, which is 0 where there was none; it lies in no sealed buffer
-pub record MakesRoot {H : Type 0} (bits : ℕ) (old new : Ledger H) (m n : Records) (words : List ℕ) (before root : ℕ) : Type 0 where
+pub record MakesRootRecord {H : Type 0} (bits : ℕ) (old new : Ledger H) (m n : Records) (words : List ℕ) (before root : ℕ) : Type 0 where
   pub some : 0 < root
   pub words_are : n root ≡ filled words
   pub unsealed : new.sealed (buffer_of bits root) ≡ false

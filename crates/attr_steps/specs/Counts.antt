@@ -17,11 +17,11 @@ use Rattle.attr_types.specs.declared.value.Value.{Value}
 use Rattle.attr_walks.specs.Counts.{MakesFew}
 
 -- the items that a document has in the attribute of this number, none where it is not there; and their values, with first weights
-abbrev pub items_at : Option Document → ℕ → List Item
-items_at document field = unwrap_or (option_map (λ d. items_in d field) document) []
+abbrev pub items_if_there : Option Document → ℕ → List Item
+items_if_there document field = unwrap_or (option_map (λ d. items_in d field) document) []
 
 abbrev pub weights_at : Option Document → ℕ → List (Value × ℤ)
-weights_at document field = first_weights [] (items_at document field)
+weights_at document field = first_weights [] (items_if_there document field)
 
 -- what a document's change from one to another makes at most, nodes and other records: the sum over the first so many attributes
 abbrev pub document_nodes : Option Document → Option Document → ℕ → ℕ

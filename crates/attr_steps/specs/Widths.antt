@@ -8,14 +8,14 @@ use Rattle.attr_types.specs.Table.{Table, after_op}
 use Rattle.attr_types.specs.Value.{Document}
 use Rattle.attr_types.specs.declared.field.Field.{Field}
 use Rattle.attr_types.specs.declared.op.Op.{Op}
-use Rattle.attr_steps.specs.Counts.{document_after, document_before, items_at}
+use Rattle.attr_steps.specs.Counts.{document_after, document_before, items_if_there}
 
 -- by the table after a document's change: a width for which its change in one attribute may be refused
 pub record IsChangedWidth (fields : List Field) (table : Table) (before after : Option Document) (width : ℕ) : Type 0 where
   pub number : ℕ
   pub field : Field
   pub field_is : slice_get fields number ≡ Some field
-  pub is : IsFieldWidth field.kind (column_of number table) (items_at before number) (items_at after number) width
+  pub is : IsFieldWidth field.kind (column_of number table) (items_if_there before number) (items_if_there after number) width
 
 -- by the table before an operation
 abbrev pub IsOperationWidth : List Field → Table → Op → ℕ → Type 0

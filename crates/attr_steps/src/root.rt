@@ -7,7 +7,7 @@ ghost use Rattle.store_api.specs.Parts.{Owns, Turns, entries};
 ghost use Rattle.store_api.specs.Units.{MayDo, MakesAtMost};
 ghost use Rattle.array_store.specs.Adding.{AddsRecord, AddsNothing};
 ghost use Rattle.attr_steps.specs.Calls.{KeepsStore, LeavesEntries};
-ghost use Rattle.attr_steps.specs.Commits.{IsForWidth, MakesRoot, RefusesRoot, roots_listed};
+ghost use Rattle.attr_steps.specs.Commits.{IsForWidth, MakesRootRecord, RefusesRoot, roots_listed};
 ghost use Rattle.attr_steps.specs.Fields.{root_entries};
 
 use array_store::{class_law, make_record};
@@ -85,7 +85,7 @@ fn turn_root<const OFFSET_BITS: u32, S: Store<OFFSET_BITS>>(
     requires unit { (S.ledger store.old).unit ≡ true }
     requires few { length roots.now ≤ MOST_FIELDS }
     requires owns { Owns (S.ledger store.old) (S.records store.old) (entries (root_entries before) ∷ []) }
-    ensures makes { IfOk result (MakesRoot OFFSET_BITS (S.ledger store.old) (S.ledger store.new) (S.records store.old) (S.records store.new)
+    ensures makes { IfOk result (MakesRootRecord OFFSET_BITS (S.ledger store.old) (S.ledger store.new) (S.records store.old) (S.records store.new)
         (operations ∷ roots_listed roots.now) before.entry) }
     ensures refuses { IfErr result (Refuses (S.ledger store.old) (S.ledger store.new)
         (class_of (length (operations ∷ roots_listed roots.now)))) }
@@ -109,7 +109,7 @@ pub fn root_unit<const OFFSET_BITS: u32, S: Store<OFFSET_BITS>>(
     requires unit { (S.ledger store.old).unit ≡ false }
     requires few { length roots.now ≤ MOST_FIELDS }
     requires owns { Owns (S.ledger store.old) (S.records store.old) (entries (root_entries before) ∷ []) }
-    ensures makes { IfOk result (MakesRoot OFFSET_BITS (S.ledger store.old) (S.ledger store.new) (S.records store.old) (S.records store.new)
+    ensures makes { IfOk result (MakesRootRecord OFFSET_BITS (S.ledger store.old) (S.ledger store.new) (S.records store.old) (S.records store.new)
         (operations ∷ roots_listed roots.now) before.entry) }
     ensures left { OnErr result (LeavesEntries (S.ledger store.old) (S.ledger store.new) (S.records store.old) (S.records store.new)) }
     ensures refused { IfErr result (RefusesRoot (S.ledger store.old) (S.ledger store.new)) }

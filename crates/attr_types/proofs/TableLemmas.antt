@@ -12,7 +12,7 @@ use Rattle.attr_types.proofs.DocumentLemmas.{document_has_type, without_items_fi
 use Rattle.attr_types.proofs.EntryLemmas.{all-lookup, all_keys-insert, all_values-insert, sorted-insert}
 use Rattle.attr_types.proofs.EntryLemmas.{all_keys-remove, all-remove, sorted-remove, lookup-insert_here}
 use Rattle.attr_types.proofs.EntryLemmas.{lookup-insert_other, lookup-remove, nat_cmp_apart}
-use Rattle.attr_types.specs.Lawful.{IsDocNumber, IsLawfulDocument, IsLawfulTable, DocumentHasType, HasType, OpFits}
+use Rattle.attr_types.specs.Lawful.{IsDocNumber, IsLawfulDocument, IsLawfulTable, DocumentHasType, DocumentsHaveType, OpFits}
 use Rattle.attr_types.specs.Table.{Table, op_doc, document_at, with_document, without_document, without_items}
 use Rattle.attr_types.specs.Table.{to_update, updated, step, is_skipped, after_op, after_ops, after}
 use Rattle.attr_types.specs.Value.{Document}
@@ -23,7 +23,7 @@ use Rattle.attr_types.specs.declared.op.Op.TheVariants.{Put, Update, Remove}
 
 -- a lawful table with values of the attributes' types
 abbrev pub Sound : List Field → Table → Type 0
-Sound fields table = IsLawfulTable fields table × HasType fields table
+Sound fields table = IsLawfulTable fields table × DocumentsHaveType fields table
 
 pub sound-with : (fields : List Field) (table : Table) (doc : ℕ) (document : Document) → Sound fields table
     → IsDocNumber doc → DocumentFits fields document → Sound fields (with_document table doc document)

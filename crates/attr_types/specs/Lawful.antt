@@ -54,8 +54,8 @@ pub record IsLawfulTable (fields : List Field) (table : Table) : Type 0 where
 abbrev pub DocumentHasType : List Field → Document → Type 0
 DocumentHasType fields document = AllZip (λ field items. AreOfType field.value (values_of items)) fields document
 
-abbrev pub HasType : List Field → Table → Type 0
-HasType fields table = AllByRecursion (λ e. DocumentHasType fields e.1) table
+abbrev pub DocumentsHaveType : List Field → Table → Type 0
+DocumentsHaveType fields table = AllByRecursion (λ e. DocumentHasType fields e.1) table
 
 -- items that may stand in an operation
 abbrev pub ItemsFit : Kind → ValueType → List Item → Type 0

@@ -2,7 +2,7 @@
 use Rattle.std.specs.Prelude.{ℕ, ◌≡◌, ◌≢◌, ◌↔◌, IsTrue, IsSomeAnd, Contains, List, [], ◌∷◌, Some, None}
 use Rattle.std.specs.List.{AllByRecursion}
 use Rattle.std.specs.List.Sorted.{IsStrictlyIncreasing}
-use Rattle.attr_types.specs.Lawful.{IsLawfulTable, HasType, OpFits}
+use Rattle.attr_types.specs.Lawful.{IsLawfulTable, DocumentsHaveType, OpFits}
 use Rattle.attr_types.specs.Query.{QueryTree, Matches}
 use Rattle.attr_types.specs.Table.{Table, op_doc, document_at, is_skipped, after_op, after_ops, after, hits}
 use Rattle.attr_types.specs.Value.{Document}
@@ -28,13 +28,13 @@ SkippedLeaves = (fields : List Field) (table : Table) (op : Op) → IsTrue (is_s
 -- an operation that fits keeps a table lawful, with values of the attributes' types
 abbrev pub StepKeeps : Type 0
 StepKeeps = (fields : List Field) (table : Table) (op : Op) → OpFits fields op
-    → IsLawfulTable fields table × HasType fields table
-    → IsLawfulTable fields (after_op fields table op) × HasType fields (after_op fields table op)
+    → IsLawfulTable fields table × DocumentsHaveType fields table
+    → IsLawfulTable fields (after_op fields table op) × DocumentsHaveType fields (after_op fields table op)
 
 -- so the table after the first n operations of a feed is lawful
 abbrev pub RunKeeps : Type 0
 RunKeeps = (fields : List Field) (ops : List Op) (n : ℕ) → AllByRecursion (OpFits fields) ops
-    → IsLawfulTable fields (after fields ops n) × HasType fields (after fields ops n)
+    → IsLawfulTable fields (after fields ops n) × DocumentsHaveType fields (after fields ops n)
 
 -- an operation changes no document but its own
 abbrev pub OthersStay : Type 0

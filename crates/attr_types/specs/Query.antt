@@ -36,8 +36,8 @@ tree_step (Query-F.Or queries) = or (trees queries.items)
 abbrev pub tree_of : Query → QueryTree
 tree_of = fold-Query QueryTree tree_step
 
-abbrev pub trees_of : List Query → QueryTrees
-trees_of queries = trees (map tree_of queries)
+abbrev pub query_trees : List Query → QueryTrees
+query_trees queries = trees (map tree_of queries)
 
 -- a text begins with these bytes
 abbrev pub begins_with : Value → List ℕ → Bool

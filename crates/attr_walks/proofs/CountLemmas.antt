@@ -17,7 +17,7 @@ use Rattle.attr_images.specs.Postings.{ListForm, short, tree, vector, list_form}
 use Rattle.attr_images.specs.Values.{value_words}
 use Rattle.attr_images.specs.Words.{class_of}
 use Rattle.attr_types.specs.declared.value.Value.{Value}
-use Rattle.enum_dictionary.specs.Dictionaries.{beside}
+use Rattle.enum_dictionary.specs.Dictionaries.{beside_value}
 use Rattle.posting_store.specs.Changes.{MakesWithin}
 use Rattle.posting_store.specs.Lists.{form_levels}
 use Rattle.value_index.specs.Changes.{add_most, change_most, value_levels}
@@ -159,7 +159,7 @@ module _ (value : Value) (m : Records) (root count most : ℕ) (dictionary : lev
 
 module _ (value : Value) (m : Records) (root count : ℕ) where
   few_levels : value_levels value m root ≤ 8
-  few_levels = form_few m (list_form (unwrap_or (lookup (beside value m) (tree_pairs m root)) 0))
+  few_levels = form_few m (list_form (unwrap_or (lookup (beside_value value m) (tree_pairs m root)) 0))
 
   change_nodes : change_most value m root count 34 ≤ 34
   change_nodes = both_nodes (nat_le count 8) (nat_eq 34 (class_of (1 + count))) (value_levels value m root) (levels m root) few_levels (levels_few m root)

@@ -17,7 +17,7 @@ use Rattle.attr_images.specs.Words.{weight_of}
 use Rattle.attr_types.specs.Value.{type_of}
 use Rattle.attr_types.specs.declared.kind.ValueType.{ValueType}
 use Rattle.attr_types.specs.declared.value.Value.{Value}
-use Rattle.enum_dictionary.specs.Dictionaries.{beside}
+use Rattle.enum_dictionary.specs.Dictionaries.{beside_value}
 use Rattle.posting_store.specs.Lists.{form_levels, list_levels, IsPlain}
 use Rattle.posting_store.proofs.FormLemmas.{form_even, form_odd}
 use Rattle.value_index.specs.Changes.{value_levels}
@@ -63,7 +63,7 @@ dictionary_low type m root most is low =
     (subst (λ n. n < 2 * 8 ^ most) (length-map (tree_pairs m root) (λ (p : ℕ × ℕ). (stored_value type m p.0, postings_at m (list_form p.1)))) low.values)
 
 module _ (value : Value) (m : Records) (root most : ℕ) (is : IsIndex (type_of value) m root) (low : IsLow most (index_of (type_of value) m root)) where
-  of_pair : (o : Option (ℕ × ℕ)) → lookup_pair (beside value m) (tree_pairs m root) ≡ o → list_levels m (unwrap_or (option_map (λ (p : ℕ × ℕ). p.1) o) 0) ≤ most
+  of_pair : (o : Option (ℕ × ℕ)) → lookup_pair (beside_value value m) (tree_pairs m root) ≡ o → list_levels m (unwrap_or (option_map (λ (p : ℕ × ℕ). p.1) o) 0) ≤ most
   of_pair None none = omega arith
   of_pair (Some p) found =
       let pair = pair_found value m root is p found in
@@ -71,4 +71,4 @@ module _ (value : Value) (m : Records) (root most : ℕ) (is : IsIndex (type_of 
       (subst (λ (docs : List (ℕ × ℤ)). length docs < 2 * 8 ^ most) (list_found value m root is p found) (low.lists value))
 
   pub list_low : value_levels value m root ≤ most
-  list_low = subst (λ (o : Option ℕ). list_levels m (unwrap_or o 0) ≤ most) (sym (lookup-of_pair (beside value m) (tree_pairs m root))) (of_pair (lookup_pair (beside value m) (tree_pairs m root)) refl)
+  list_low = subst (λ (o : Option ℕ). list_levels m (unwrap_or o 0) ≤ most) (sym (lookup-of_pair (beside_value value m) (tree_pairs m root))) (of_pair (lookup_pair (beside_value value m) (tree_pairs m root)) refl)

@@ -19,7 +19,7 @@ use Rattle.attr_steps.proofs.StepLemmas.{keeps_same}
 use Rattle.attr_steps.specs.Fields.{HoldsAttributes, trees_of}
 use Rattle.attr_steps.specs.Views.{table_at}
 use Rattle.compact_steps.specs.Units.{IsUnderWay}
-use Rattle.compact_steps.specs.Compactions.{Compacts, IsUnder, KeepsStoreBut}
+use Rattle.compact_steps.specs.Compactions.{Compacts, IsUnderPlan, KeepsStoreBut}
 use Rattle.compact_steps.specs.Walks.{HasLastField, RefusesNext}
 use Rattle.compact_steps.specs.Walks as walks
 use Rattle.compact_steps.specs.declared.stepping.Step.{Step}
@@ -34,10 +34,10 @@ refuses_key : {H : Type 0} (old new : Ledger H) (error : StoreError) → Refuses
 refuses_key old new (errors.Full width active held oldest) refused = record { room = refused.why; spare = refused.spare; buffer = refused.active }
 refuses_key old new errors.Memory refused = tt
 
-no_victim : {H : Type 0} (bits fields : ℕ) (old new : Ledger H) (before : Option PlanView) (plan : PlanView) → IsIdle bits old before → old.finished ≡ None → IsUnder bits fields old new before plan → ⊥
+no_victim : {H : Type 0} (bits fields : ℕ) (old new : Ledger H) (before : Option PlanView) (plan : PlanView) → IsIdle bits old before → old.finished ≡ None → IsUnderPlan bits fields old new before plan → ⊥
 no_victim bits fields old new before plan idle unfinished under = elim idle.why [
   | inl some ↦ true≢false (sym some ∙ ap is_some unfinished)
-  | inr none ↦ none.none plan.victim (subst (λ (o : Option PlanView). IsUnder bits fields old new o plan) idle.none under).victim.candidate
+  | inr none ↦ none.none plan.victim (subst (λ (o : Option PlanView). IsUnderPlan bits fields old new o plan) idle.none under).victim.candidate
 ]
 
 module _ {S H : Type 0} (bits : ℕ) (ledger : S → Ledger H) (records : S → Records) (fields : List Field) (operations root published : ℕ) where

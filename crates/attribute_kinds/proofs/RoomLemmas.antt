@@ -10,7 +10,7 @@ use Rattle.store_api.specs.Ledgers.{Ledger, OfWidth, buffers_in, capacity, width
 use Rattle.store_api.specs.Units.{MakesAtMost}
 use Rattle.store_api.specs.declared.store.StoreError.{StoreError}
 use Rattle.store_api.specs.declared.store.StoreError.TheVariants.{Full, Memory}
-use Rattle.attr_field.specs.Counts.{lost_values, new_values, weight_at}
+use Rattle.attr_field.specs.Counts.{lost_values, new_values, entry_weight}
 use Rattle.attr_index.specs.Changes.{first_weights}
 use Rattle.attr_types.proofs.TableLemmas.{Sound, step_keeps}
 use Rattle.attr_types.specs.Lawful.{IsLawfulDocument, IsLawfulItems, OpFits}
@@ -22,7 +22,7 @@ use Rattle.attr_types.specs.declared.op.Op.{Op}
 use Rattle.attr_types.specs.declared.value.Value.{Value}
 use Rattle.attr_walks.specs.Counts.{MakesFew, is_added, is_gone}
 use Rattle.attr_steps.specs.Calls.{KeepsStore, RefusesUnit}
-use Rattle.attr_steps.specs.Counts.{document_after, document_before, document_nodes, document_records, items_at, of_width}
+use Rattle.attr_steps.specs.Counts.{document_after, document_before, document_nodes, document_records, items_if_there, of_width}
 use Rattle.attr_steps.specs.Counts.{operation_nodes, operation_records, weights_at}
 use Rattle.attribute_kinds.specs.Counts.{operation_values}
 use Rattle.attr_steps.specs.Counts.{MakesOperation, SparesOperation}
@@ -33,10 +33,10 @@ use Rattle.attr_steps.proofs.StepLemmas.{found_lawful}
 
 -- ---- what is to spare
 values_few : (old new : List (Value × ℤ)) → new_values old new ≤ length new
-values_few old new = count_by-le-length (is_added (weight_at old)) new
+values_few old new = count_by-le-length (is_added (entry_weight old)) new
 
 lost_few : (old new : List (Value × ℤ)) → lost_values old new ≤ length old
-lost_few old new = count_by-le-length (is_gone (weight_at new)) old
+lost_few old new = count_by-le-length (is_gone (entry_weight new)) old
 
 width_few : (t : Bool) (spare new kept gone : ℕ) → spare ≤ cond t (0 + (34 * new + 17 + 34 * gone)) (0 + (2 * new + 1 + gone)) → new ≤ kept
     → spare < 34 * (kept + gone + 1)
@@ -65,7 +65,7 @@ names_width fields table op (Full width active held oldest) full = full
 names_width fields table op Memory full = tt
 
 -- ---- one attribute of kind single
-single_items : (fields : List Field) (document : Option Document) → IsOneSingle fields → IfSome document (IsLawfulDocument fields) → length (items_at document 0) ≤ 1
+single_items : (fields : List Field) (document : Option Document) → IsOneSingle fields → IfSome document (IsLawfulDocument fields) → length (items_if_there document 0) ≤ 1
 single_items [] None single lawful = absurd single
 single_items [] (Some d) single lawful = absurd single
 single_items (field ∷ []) None single lawful = omega arith
@@ -86,7 +86,7 @@ single_weights (item ∷ next ∷ items) few = absurd (omega arith)
 
 module _ (fields : List Field) (table : Table) (op : Op) (sound : Sound fields table) (fits : OpFits fields op) (single : IsOneSingle fields) where
   weights_few : (document : Option Document) → IfSome document (IsLawfulDocument fields) → length (weights_at document 0) ≤ 1
-  weights_few document lawful = single_weights (items_at document 0) (single_items fields document single lawful)
+  weights_few document lawful = single_weights (items_if_there document 0) (single_items fields document single lawful)
 
   before_few : length (weights_at (document_before table op) 0) ≤ 1
   before_few = weights_few (document_before table op) (found_lawful fields table (op_doc op) (document_before table op) sound refl)

@@ -9,7 +9,7 @@ use Rattle.store_api.proofs.May.{may_do-same, may_do-then}
 use Rattle.store_api.proofs.PartLemmas.{turns-same, turns-then}
 use Rattle.store_api.proofs.Times.{times-append}
 use Rattle.store_api.proofs.UnitLemmas.{turns-accept}
-use Rattle.tree_make.specs.Changes.{Drops}
+use Rattle.tree_make.specs.Changes.{DropsEntries}
 use Rattle.bench_work.specs.Units.{HoldsRoot, Made}
 use Rattle.bench_work.proofs.RootLemmas.{holds-after}
 
@@ -32,7 +32,7 @@ made-owns old new m n refs made = record { each = λ r. let x = made.turns.balan
 
 -- a unit that drops all that it made
 module _ {H : Type 0} (old begun made dropped new : Ledger H) (m k n o p : Records) (refs : List ℕ)
-    (begins : begun ≡ record old { unit = true }) (makes : Made begun made k n refs) (drops : Drops made dropped n o refs) (accepts : Accepts dropped new o p) where
+    (begins : begun ≡ record old { unit = true }) (makes : Made begun made k n refs) (drops : DropsEntries made dropped n o refs) (accepts : Accepts dropped new o p) where
   turns : Turns begun new k p [] []
   turns =
       turns-then begun dropped new k o p [] [] []

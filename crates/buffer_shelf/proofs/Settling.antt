@@ -4,7 +4,7 @@ use Rattle.std.specs.List.{count_by}
 use Rattle.std.proofs.lemmas.List.Sums.{sum_by-cons}
 use Rattle.buffer_shelf.specs.declared.state.State.{State}
 use Rattle.buffer_shelf.specs.declared.state.State.TheVariants.{Free, Returned, Made, InUse, LetGo, DroppedNow, Dropped}
-use Rattle.buffer_shelf.specs.States.{is_free_state, is_touched, is_used, is_dropped, dropped, settled, state_at}
+use Rattle.buffer_shelf.specs.States.{is_free_state, is_touched, is_used, is_dropped, dropped, settled_state, state_at}
 
 pub used-free : (s : State) → is_used s ≡ true → is_free_state s ≡ false
 used-free Free used = absurd (cc)
@@ -28,7 +28,7 @@ dropped-touched last LetGo used = absurd (cc)
 dropped-touched last (DroppedNow after) used = absurd (cc)
 dropped-touched last (Dropped after g) used = absurd (cc)
 
-pub settled-touched : (accepts : Bool) (last generation : ℕ) (s : State) → is_touched (settled accepts last generation s) ≡ false
+pub settled-touched : (accepts : Bool) (last generation : ℕ) (s : State) → is_touched (settled_state accepts last generation s) ≡ false
 settled-touched true last generation Free = refl
 settled-touched true last generation Returned = refl
 settled-touched true last generation Made = refl
@@ -45,7 +45,7 @@ settled-touched false last generation (DroppedNow after) = refl
 settled-touched false last generation (Dropped after g) = refl
 
 -- what is not touched stays
-pub settled-same : (accepts : Bool) (last generation : ℕ) (s : State) → is_touched s ≡ false → settled accepts last generation s ≡ s
+pub settled-same : (accepts : Bool) (last generation : ℕ) (s : State) → is_touched s ≡ false → settled_state accepts last generation s ≡ s
 settled-same true last generation Free e = refl
 settled-same true last generation Returned e = absurd (cc)
 settled-same true last generation Made e = absurd (cc)
@@ -61,7 +61,7 @@ settled-same false last generation LetGo e = absurd (cc)
 settled-same false last generation (DroppedNow after) e = absurd (cc)
 settled-same false last generation (Dropped after g) e = refl
 
-pub settled-free : (accepts : Bool) (last generation : ℕ) (s : State) → is_free_state s ≡ true → is_free_state (settled accepts last generation s) ≡ true
+pub settled-free : (accepts : Bool) (last generation : ℕ) (s : State) → is_free_state s ≡ true → is_free_state (settled_state accepts last generation s) ≡ true
 settled-free true last generation Free e = refl
 settled-free true last generation Returned e = refl
 settled-free true last generation Made e = absurd (cc)
@@ -77,24 +77,24 @@ settled-free false last generation LetGo e = absurd (cc)
 settled-free false last generation (DroppedNow after) e = absurd (cc)
 settled-free false last generation (Dropped after g) e = absurd (cc)
 
-pub settled-again : (accepts : Bool) (last generation : ℕ) (s : State) → settled accepts last generation (settled accepts last generation s) ≡ settled accepts last generation s
-settled-again accepts last generation s = settled-same accepts last generation (settled accepts last generation s) (settled-touched accepts last generation s)
+pub settled-again : (accepts : Bool) (last generation : ℕ) (s : State) → settled_state accepts last generation (settled_state accepts last generation s) ≡ settled_state accepts last generation s
+settled-again accepts last generation s = settled-same accepts last generation (settled_state accepts last generation s) (settled-touched accepts last generation s)
 
 -- where one state is settled, the states settled are the same
-pub map-settled : (accepts : Bool) (last generation : ℕ) (states : List State) (x : ℕ) → map (settled accepts last generation) (set states x (settled accepts last generation (state_at states x))) ≡ map (settled accepts last generation) states
+pub map-settled : (accepts : Bool) (last generation : ℕ) (states : List State) (x : ℕ) → map (settled_state accepts last generation) (set states x (settled_state accepts last generation (state_at states x))) ≡ map (settled_state accepts last generation) states
 map-settled accepts last generation [] x = refl
-map-settled accepts last generation (s ∷ states) zero = ap (λ t. t ∷ map (settled accepts last generation) states) (settled-again accepts last generation s)
-map-settled accepts last generation (s ∷ states) (suc x) = ap (λ l. settled accepts last generation s ∷ l) (map-settled accepts last generation states x)
+map-settled accepts last generation (s ∷ states) zero = ap (λ t. t ∷ map (settled_state accepts last generation) states) (settled-again accepts last generation s)
+map-settled accepts last generation (s ∷ states) (suc x) = ap (λ l. settled_state accepts last generation s ∷ l) (map-settled accepts last generation states x)
 
 -- where none is touched, settling changes nothing
-pub settled-all : (accepts : Bool) (last generation : ℕ) (states : List State) → count_by is_touched states ≡ 0 → map (settled accepts last generation) states ≡ states
+pub settled-all : (accepts : Bool) (last generation : ℕ) (states : List State) → count_by is_touched states ≡ 0 → map (settled_state accepts last generation) states ≡ states
 settled-all accepts last generation [] none = refl
 settled-all accepts last generation (s ∷ states) none = by_test (is_touched s) refl (sym (sum_by-cons (λ t. cond (is_touched t) 1 0) s states) ∙ none) (settled-all accepts last generation states)
   where
-    by_test : (t : Bool) → is_touched s ≡ t → cond t 1 0 + count_by is_touched states ≡ 0 → (count_by is_touched states ≡ 0 → map (settled accepts last generation) states ≡ states)
-        → settled accepts last generation s ∷ map (settled accepts last generation) states ≡ s ∷ states
+    by_test : (t : Bool) → is_touched s ≡ t → cond t 1 0 + count_by is_touched states ≡ 0 → (count_by is_touched states ≡ 0 → map (settled_state accepts last generation) states ≡ states)
+        → settled_state accepts last generation s ∷ map (settled_state accepts last generation) states ≡ s ∷ states
     by_test true e zero_is later = absurd (omega (arith, zero_is))
-    by_test false e zero_is later = ap (λ t. t ∷ map (settled accepts last generation) states) (settled-same accepts last generation s e) ∙ ap (λ l. s ∷ l) (later (omega (arith, zero_is)))
+    by_test false e zero_is later = ap (λ t. t ∷ map (settled_state accepts last generation) states) (settled-same accepts last generation s e) ∙ ap (λ l. s ∷ l) (later (omega (arith, zero_is)))
 
 pub dropped-kept : (s : State) → is_dropped s ≡ true → (is_free_state s ≡ false) × (is_touched s ≡ false)
 dropped-kept Free is = absurd (cc)

@@ -69,9 +69,9 @@ undone last LetGo = InUse last
 undone last (DroppedNow after) = InUse after
 undone last state = state
 
-abbrev pub settled : Bool → ℕ → ℕ → State → State
-settled true last generation state = accepted last generation state
-settled false last generation state = undone last state
+abbrev pub settled_state : Bool → ℕ → ℕ → State → State
+settled_state true last generation state = accepted last generation state
+settled_state false last generation state = undone last state
 
 -- the state of an entry by its place
 abbrev pub state_at : List State → ℕ → State
@@ -124,5 +124,5 @@ pub record Settles (accepts : Bool) (last generation : ℕ) (old new : ShelfView
   pub below : step.place < length old.states
   pub was : step.was ≡ state_at old.states step.place
   pub touched : is_touched step.was ≡ true
-  pub now : step.now ≡ settled accepts last generation step.was
+  pub now : step.now ≡ settled_state accepts last generation step.was
   pub same : new ≡ with_state_at old step.place step.now

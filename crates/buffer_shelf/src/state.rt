@@ -19,7 +19,7 @@ pub enum State {
 }
 
 impl State {
-    ghost use Rattle.buffer_shelf.specs.States.{is_free_state, is_touched, is_dropped, dropped, accepted, undone, settled};
+    ghost use Rattle.buffer_shelf.specs.States.{is_free_state, is_touched, is_dropped, dropped, accepted, undone, settled_state};
 
     pub fn is_free(self) -> bool
         ensures { result ≡ is_free_state self }
@@ -83,7 +83,7 @@ impl State {
     }
 
     pub fn settled(self, accepts: bool, last: u32, generation: u64) -> State
-        ensures { result ≡ settled accepts last generation self }
+        ensures { result ≡ settled_state accepts last generation self }
     {
         if accepts {
             self.accepted(last, generation)

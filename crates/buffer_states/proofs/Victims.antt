@@ -3,7 +3,7 @@ use Rattle.std.proofs.Common.{◌≡◌, ℕ, ◌+◌, ◌*◌, ◌<◌, ◌≤�
 use Rattle.std.specs.Prelude.{nat_lt}
 use Rattle.std.proofs.lemmas.Bool.{cases_lt, ltb-true}
 use Rattle.buffer_states.specs.declared.Buffer.{Buffer}
-use Rattle.buffer_states.specs.Buffers.{buffer_at, is_active, is_candidate, gain_of, IsVictim}
+use Rattle.buffer_states.specs.Buffers.{buffer_at, is_state_active, is_candidate, gain_of, IsVictim}
 
 pub record IsBest (buffers : List Buffer) (i : ℕ) (victim : Option ℕ) (most : ℕ) : Type 0 where
   pub each : (a : ℕ) → a < i → gain_of (buffer_at buffers a) ≤ most
@@ -73,7 +73,7 @@ last_part false false true false e = e
 last_part false false false false e = e
 
 candidate-dead : (b : Buffer) → is_candidate b ≡ true → 0 < b.dead
-candidate-dead b is = omega (arith, ltb-true b.used (b.dead * 20) (last_part (is_active b.state) (not b.filled) (not b.sealed) (nat_lt b.used (b.dead * 20)) is))
+candidate-dead b is = omega (arith, ltb-true b.used (b.dead * 20) (last_part (is_state_active b.state) (not b.filled) (not b.sealed) (nat_lt b.used (b.dead * 20)) is))
 
 pub best-victim : (buffers : List Buffer) (v most : ℕ) → IsBest buffers (length buffers) (Some v) most → IsVictim buffers v
 best-victim buffers v most best =

@@ -22,15 +22,15 @@ new_buffer = record {
 abbrev pub buffer_at : List Buffer → ℕ → Buffer
 buffer_at buffers b = slice_index_or buffers b new_buffer
 
-abbrev pub is_free : BufferState → Bool
-is_free Free = true
-is_free Active = false
-is_free OnHold = false
+abbrev pub is_state_free : BufferState → Bool
+is_state_free Free = true
+is_state_free Active = false
+is_state_free OnHold = false
 
-abbrev pub is_active : BufferState → Bool
-is_active Free = false
-is_active Active = true
-is_active OnHold = false
+abbrev pub is_state_active : BufferState → Bool
+is_state_active Free = false
+is_state_active Active = true
+is_state_active OnHold = false
 
 abbrev pub is_on_hold : BufferState → Bool
 is_on_hold Free = false
@@ -105,7 +105,7 @@ freed_below oldest buffer = if is_on_hold buffer.state && nat_lt buffer.generati
 
 -- an active buffer that is neither filled nor sealed, and of whose words more than one in twenty is dead
 abbrev pub is_candidate : Buffer → Bool
-is_candidate buffer = is_active buffer.state && not buffer.filled && not buffer.sealed && nat_lt buffer.used (buffer.dead * 20)
+is_candidate buffer = is_state_active buffer.state && not buffer.filled && not buffer.sealed && nat_lt buffer.used (buffer.dead * 20)
 
 -- the dead words of a candidate
 abbrev pub gain_of : Buffer → ℕ
@@ -121,5 +121,5 @@ pub record IsVictim (buffers : List Buffer) (b : ℕ) : Type 0 where
 -- the free buffer of lowest number
 pub record IsLowestFree (buffers : List Buffer) (b : ℕ) : Type 0 where
   pub below : b < length buffers
-  pub free : is_free (buffer_at buffers b).state ≡ true
-  pub lowest : (a : ℕ) → a < b → is_free (buffer_at buffers a).state ≡ false
+  pub free : is_state_free (buffer_at buffers b).state ≡ true
+  pub lowest : (a : ℕ) → a < b → is_state_free (buffer_at buffers a).state ≡ false

@@ -14,16 +14,16 @@ pub enum BufferState {
 }
 
 impl BufferState {
-    ghost use Rattle.buffer_states.specs.Buffers.{is_free, is_active, is_on_hold};
+    ghost use Rattle.buffer_states.specs.Buffers.{is_state_free, is_state_active, is_on_hold};
 
     pub fn is_free(self) -> bool
-        ensures { result ≡ is_free self }
+        ensures { result ≡ is_state_free self }
     {
         matches!(self, BufferState::Free)
     }
 
     pub fn is_active(self) -> bool
-        ensures { result ≡ is_active self }
+        ensures { result ≡ is_state_active self }
     {
         matches!(self, BufferState::Active)
     }
@@ -82,7 +82,7 @@ impl Model for Buffers {
 impl Buffers {
     ghost use Rattle.buffer_states.specs.Buffers.{new_buffer, buffer_at, activated, with_counts, with_next, with_taken, with_given};
     ghost use Rattle.buffer_states.specs.Buffers.{with_dropped, with_kept, with_dropped_held, with_released, sealed_at};
-    ghost use Rattle.buffer_states.specs.Buffers.{on_hold_at, freed_at, freed_below, is_free, is_active, is_on_hold};
+    ghost use Rattle.buffer_states.specs.Buffers.{on_hold_at, freed_at, freed_below, is_state_free, is_state_active, is_on_hold};
     ghost use Rattle.buffer_states.specs.Buffers.{is_candidate, IsVictim, IsLowestFree};
     ghost use Rattle.std.specs.Prelude.{All};
     ghost use Rattle.buffer_states.specs.declared.BufferState.TheVariants.{Free, Active, OnHold};
@@ -296,7 +296,7 @@ impl Buffers {
     /// The free buffer of lowest number.
     pub fn lowest_free(&self) -> Option<u32>
         requires { length self.now < 2 ^ 32 }
-        ensures none { IfNone result ((b : ℕ) → b < length self.now → is_free (buffer_at self.now b).state ≡ false) }
+        ensures none { IfNone result ((b : ℕ) → b < length self.now → is_state_free (buffer_at self.now b).state ≡ false) }
         ensures lowest { IfSome result (IsLowestFree self.now) }
     {
         for buffer in 0..self.buffers.len() {
@@ -310,7 +310,7 @@ impl Buffers {
     /// How many buffers are active.
     pub fn active(&self) -> u32
         requires { length self.now < 2 ^ 32 }
-        ensures { result ≡ count_by (λ b. is_active b.state) self.now }
+        ensures { result ≡ count_by (λ b. is_state_active b.state) self.now }
     {
         self.buffers
             .iter()

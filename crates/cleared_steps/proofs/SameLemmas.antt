@@ -9,7 +9,7 @@ use Rattle.tree_images.specs.ProofsForTrees.{tree_nodes-same, tree_pairs-same}
 use Rattle.tree_images.specs.Trees.{by_number, tree_nodes, tree_pairs, IsTree}
 use Rattle.tree_ways.specs.Ways.{tree_keys}
 use Rattle.store_api.specs.Parts.{AllStay}
-use Rattle.attr_compaction.specs.Places.{Place}
+use Rattle.attr_compaction.specs.Places.{PlanPlace}
 use Rattle.attr_compaction.specs.declared.plan.PlanKey.TheVariants as plan
 use Rattle.attr_compaction.specs.declared.plan.TheConstants.{DOCUMENTS, KEYS, LISTS, NODES}
 use Rattle.attr_documents.proofs.FlowLemmas.{refer_same}
@@ -39,7 +39,7 @@ module _ (bits victim : ℕ) (m n : Records) where
       let here = subst (Among key) (keys_stay order read m n root is same node there) below in
       cleared node there lies key here (more key (keys_in_tree m order read root is node key there here) visited)
 
-  list_clear : (at : Place) (field : ℕ) (value : Value) (form : ListForm) → IsPostingList m form → SameAt (postings_reach m form) m n
+  list_clear : (at : PlanPlace) (field : ℕ) (value : Value) (form : ListForm) → IsPostingList m form → SameAt (postings_reach m form) m n
       → ListIsCleared bits victim at field m value form → ListIsCleared bits victim at field n value form
   list_clear at field value (short ref) is same cleared = cleared
   list_clear at field value (tree root) is same cleared =
@@ -47,7 +47,7 @@ module _ (bits victim : ℕ) (m n : Records) where
       (λ doc there visited. visited) cleared
   list_clear at field value (vector root) is same cleared = absurd cleared
 
-module _ (bits victim field : ℕ) (at : Place) (m n : Records) (kind : Kind) (type : ValueType) (documents dictionary : ℕ) (is : IsField kind type m documents dictionary)
+module _ (bits victim field : ℕ) (at : PlanPlace) (m n : Records) (kind : Kind) (type : ValueType) (documents dictionary : ℕ) (is : IsField kind type m documents dictionary)
     (same : SameAt ((field_part kind documents dictionary).reach m) m n) where
   abbrev trees : AttributeTrees
   trees = record { kind = kind; type = type; documents = documents; dictionary = dictionary }
@@ -117,7 +117,7 @@ none_some a e = true≢false (sym (ap is_some e))
     is_some None = false
     is_some (Some b) = true
 
-module _ (bits victim : ℕ) (at : Place) (m n : Records) where
+module _ (bits victim : ℕ) (at : PlanPlace) (m n : Records) where
   pub from_stay : (number : ℕ → ℕ) (trees : List AttributeTrees) → AllByRecursion (IsFieldAt m) trees → AllStay (parts_of trees) m n
       → ((i : ℕ) (a : AttributeTrees) → slice_get trees i ≡ Some a → IsClearedField bits victim at (number i) m a)
       → (i : ℕ) (a : AttributeTrees) → slice_get trees i ≡ Some a → IsClearedField bits victim at (number i) n a

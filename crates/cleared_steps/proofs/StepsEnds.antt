@@ -5,7 +5,7 @@ use Rattle.std.specs.List.{AllByRecursion}
 use Rattle.entry_ref.specs.References.{buffer_of}
 use Rattle.image_base.specs.Records.{Records, Among}
 use Rattle.tree_images.specs.Trees.{tree_pairs}
-use Rattle.attr_compaction.specs.Places.{first_place, Place}
+use Rattle.attr_compaction.specs.Places.{first_place, PlanPlace}
 use Rattle.attr_compaction.specs.declared.plan.PlanKey.TheVariants as plan
 use Rattle.attr_compaction.specs.declared.plan.TheConstants.{DOCUMENTS, KEYS, LISTS, NODES, PHASES}
 use Rattle.attr_field.specs.Fields.{IsField}
@@ -58,7 +58,7 @@ either_part r (x ∷ xs) ys (inr later) = elim (either_part r xs ys later) [
   | inr behind ↦ inr behind
 ]
 
-module _ (lawful : FieldIsLawful) (bits victim : ℕ) (at : Place) (m : Records) (over : at.stage.phase ≡ PHASES) where
+module _ (lawful : FieldIsLawful) (bits victim : ℕ) (at : PlanPlace) (m : Records) (over : at.stage.phase ≡ PHASES) where
   from_last : (number : ℕ → ℕ) (trees : List AttributeTrees) → AllByRecursion (IsFieldAt m) trees → ((i : ℕ) → i < length trees → number i ≤ at.stage.field)
       → ((i : ℕ) (a : AttributeTrees) → slice_get trees i ≡ Some a → IsClearedField bits victim at (number i) m a)
       → (r : ℕ) → Among r (attributes_reach m trees) → buffer_of bits r ≢ victim

@@ -7,7 +7,7 @@ use Rattle.image_base.specs.Records.{Records, Among}
 use Rattle.store_api.specs.Ledgers.{Ledger}
 use Rattle.store_api.specs.Statuses.{in_use}
 use Rattle.tree_images.specs.Trees.{by_number, tree_nodes, tree_pairs, IsTree}
-use Rattle.attr_compaction.specs.Places.{Place}
+use Rattle.attr_compaction.specs.Places.{PlanPlace}
 use Rattle.attr_compaction.specs.declared.plan.PlanKey.TheVariants as plan
 use Rattle.attr_compaction.specs.declared.plan.TheConstants.{DOCUMENTS, KEYS, LISTS, NODES}
 use Rattle.attr_documents.specs.Documents.{documents_refer, items_own, items_refer}
@@ -26,11 +26,11 @@ use Rattle.attr_types.specs.declared.kind.ValueType.TheVariants as types
 use Rattle.attr_types.specs.declared.value.Value.{Value}
 use Rattle.doc_vector.specs.Documents as docs
 use Rattle.document_moves.specs.Moves.{AreItemsApart}
-use Rattle.enum_dictionary.specs.Dictionaries.{beside}
+use Rattle.enum_dictionary.specs.Dictionaries.{beside_value}
 use Rattle.attr_cleared.proofs.PlanVisits.{earlier_visited}
 use Rattle.posting_store.proofs.FormLemmas.{reach_form}
 use Rattle.posting_store.specs.Lists.{list_reach}
-use Rattle.value_index.specs.Flows.{word_at}
+use Rattle.value_index.specs.Flows.{list_word}
 use Rattle.value_index.specs.Indexes.{IsValuePair}
 use Rattle.attr_cleared.specs.Cleared.{IsClearedField, IsVisited, ListIsCleared, NodesAreCleared}
 use Rattle.cleared_steps.proofs.StepsBelow.{keys_both, keys_in_tree, node_size}
@@ -41,7 +41,7 @@ value_typed : (type : ValueType) (ws : List ℕ) → type_of (value_of type ws) 
 value_typed types.Long ws = refl
 value_typed types.Text ws = refl
 
-module _ {H : Type 0} (bits victim field : ℕ) (at : Place) (old new : Ledger H) (m n : Records) (kind : Kind) (type : ValueType)
+module _ {H : Type 0} (bits victim field : ℕ) (at : PlanPlace) (old new : Ledger H) (m n : Records) (kind : Kind) (type : ValueType)
     (documents dictionary next_documents next_dictionary : ℕ)
     (is : IsField kind type m documents dictionary) (next_is : IsField kind type n next_documents next_dictionary)
     (was : (r : ℕ) → Among r ((field_part kind documents dictionary).reach m) → in_use (old.back r) ≡ true)
@@ -75,7 +75,7 @@ module _ {H : Type 0} (bits victim field : ℕ) (at : Place) (old new : Ledger H
 
   -- ---- documents
   reference_is : (p : ℕ × ℕ) → IsIn p documents_then → reference_at n next_documents p.0 ≡ p.1
-  reference_is p there = pair_found nat_cmp nat_cmp_total (λ k. k) (docs.beside p.0) p (λ k. refl) documents_then next_is.documents_are.map_is.tree_is.ascends there
+  reference_is p there = pair_found nat_cmp nat_cmp_total (λ k. k) (docs.beside_document p.0) p (λ k. refl) documents_then next_is.documents_are.map_is.tree_is.ascends there
 
   old_items : (doc : ℕ) (q : ℕ × ℕ) → IsIn q (tree_pairs m documents) → nat_cmp q.0 doc ≡ Equal → IsVisited at field DOCUMENTS (plan.Doc doc) → AreItemsApart bits victim kind m q.1
   old_items doc q there equal visited =
@@ -87,7 +87,7 @@ module _ {H : Type 0} (bits victim field : ℕ) (at : Place) (old new : Ledger H
       let now_used = used r (item_owned kind n next_documents next_dictionary p r there among) in
       let began = lies r now_used in_victim in
       let before = flows.own p.0 r began (subst (λ ref. Among r (items_own kind ref)) (sym (reference_is p there)) among) in
-      let found = lookup_in (docs.beside p.0) (items_own kind) r (tree_pairs m documents) (λ none. none) before in
+      let found = lookup_in (docs.beside_document p.0) (items_own kind) r (tree_pairs m documents) (λ none. none) before in
       all_among (λ x. buffer_of bits x ≢ victim) (items_own kind found.pair.1) (old_items p.0 found.pair found.there found.equal visited).own r found.among in_victim
 
   refer_next : (p : ℕ × ℕ) → IsIn p documents_then → IsVisited at field DOCUMENTS (plan.Doc p.0) → (r : ℕ) → Among r (items_refer kind p.1 (n p.1)) → buffer_of bits r ≢ victim
@@ -95,7 +95,7 @@ module _ {H : Type 0} (bits victim field : ℕ) (at : Place) (old new : Ledger H
       let now_used = referred r (flat_in (λ (q : ℕ × ℕ). items_refer kind q.1 (n q.1)) documents_then p r there among) in
       let began = lies r now_used in_victim in
       elim (flows.refer p.0 r began (subst (λ ref. Among r (items_refer kind ref (n ref))) (sym (reference_is p there)) among)) [
-        | inl before ↦ (let found = lookup_in (docs.beside p.0) (λ ref. items_refer kind ref (m ref)) r (tree_pairs m documents) (λ none. none) before in
+        | inl before ↦ (let found = lookup_in (docs.beside_document p.0) (λ ref. items_refer kind ref (m ref)) r (tree_pairs m documents) (λ none. none) before in
             all_among (λ x. buffer_of bits x ≢ victim) (items_refer kind found.pair.1 (m found.pair.1)) (old_items p.0 found.pair found.there found.equal visited).refer r found.among in_victim)
         | inr key ↦ old_key r key (earlier_visited at field KEYS DOCUMENTS (plan.Doc p.0) (plan.Value (stored_value type m r)) (omega arith) visited) in_victim
       ]
@@ -110,8 +110,8 @@ module _ {H : Type 0} (bits victim field : ℕ) (at : Place) (old new : Ledger H
   abbrev value_then : ℕ × ℕ → Value
   value_then p = stored_value type n p.0
 
-  word_is : (p : ℕ × ℕ) → IsIn p values_then → word_at (value_then p) n next_dictionary ≡ p.1
-  word_is p there = pair_found value_cmp value_cmp_total (stored_value type n) (beside (value_then p) n) p
+  word_is : (p : ℕ × ℕ) → IsIn p values_then → list_word (value_then p) n next_dictionary ≡ p.1
+  word_is p there = pair_found value_cmp value_cmp_total (stored_value type n) (beside_value (value_then p) n) p
       (λ k. ap (λ (t : ValueType). value_cmp (stored_value t n k) (value_then p)) (value_typed type (n p.0))) values_then next_is.index_is.dictionary_is.tree_is.ascends there
 
   -- the list of a value before, which had a reference
@@ -122,7 +122,7 @@ module _ {H : Type 0} (bits victim field : ℕ) (at : Place) (old new : Ledger H
     clear : ListIsCleared bits victim at field m v (list_form pair.1)
     among : Among r (postings_reach m (list_form pair.1))
 
-  old_list : (v : Value) (r : ℕ) → type_of v ≡ type → Found (beside v m) (list_reach m) r (tree_pairs m dictionary) → OldList v r
+  old_list : (v : Value) (r : ℕ) → type_of v ≡ type → Found (beside_value v m) (list_reach m) r (tree_pairs m dictionary) → OldList v r
   old_list v r typed found =
       let q = found.pair in
       let pair_is = all_in (IsValuePair m) (tree_pairs m dictionary) is.index_is.pairs q found.there in
@@ -142,7 +142,7 @@ module _ {H : Type 0} (bits victim field : ℕ) (at : Place) (old new : Ledger H
       let began = lies r (used r (list_owned kind n next_documents next_dictionary p r there among)) in_victim in
       let here : Among r (list_reach n p.1) = subst (Among r) (sym (reach_form n p.1 pair_is.some)) among in
       let before = flows.index.lists (value_then p) (value_typed type (n p.0)) r began (subst (λ w. Among r (list_reach n w)) (sym (word_is p there)) here) in
-      old_list (value_then p) r (value_typed type (n p.0)) (lookup_in (beside (value_then p) m) (list_reach m) r (tree_pairs m dictionary) (λ none. none) before)
+      old_list (value_then p) r (value_typed type (n p.0)) (lookup_in (beside_value (value_then p) m) (list_reach m) r (tree_pairs m dictionary) (λ none. none) before)
 
   module _ (v : Value) (r : ℕ) (now_used : Used r) (in_victim : buffer_of bits r ≡ victim) (o : OldList v r) where
     same_words : n r ≡ m r

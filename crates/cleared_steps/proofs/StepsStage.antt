@@ -6,7 +6,7 @@ use Rattle.entry_ref.specs.References.{buffer_of}
 use Rattle.image_base.specs.Records.{Records, Among}
 use Rattle.tree_images.specs.Trees.{by_number, tree_pairs}
 use Rattle.tree_ways.specs.Ways.{tree_keys}
-use Rattle.attr_compaction.specs.Places.{is_start, place_after, Place}
+use Rattle.attr_compaction.specs.Places.{is_start, place_after, PlanPlace}
 use Rattle.attr_compaction.specs.declared.plan.PlanKey.{PlanKey}
 use Rattle.attr_compaction.specs.declared.plan.PlanKey.TheVariants as plan
 use Rattle.attr_compaction.specs.declared.plan.TheConstants.{DOCUMENTS, KEYS, LISTS, NODES, PHASES}
@@ -22,7 +22,7 @@ use Rattle.attr_types.specs.declared.value.Value.{Value}
 use Rattle.document_moves.specs.Moves.{AreItemsApart}
 use Rattle.plan_keys.specs.PhaseKeys.{document_keys, form_docs, key_past, keys_of_pairs, phase_keys, value_keys}
 use Rattle.attr_cleared.proofs.PlanVisits.{end_visited, others_visited, stage_visited}
-use Rattle.attr_cleared.specs.Visits.{place_at_key, IsKeyOf}
+use Rattle.attr_cleared.specs.Visits.{place_at_key, IsAmongKeys}
 use Rattle.value_index.specs.Indexes.{IsValuePair}
 use Rattle.attr_cleared.specs.Cleared.{IsClearedField, IsVisited, ListIsCleared}
 use Rattle.cleared_steps.specs.StepsLaws.{OthersStayCleared, PhaseEndLeavesCleared}
@@ -33,57 +33,57 @@ use Rattle.cleared_steps.proofs.SameLemmas.{none_some, some_or}
 use Rattle.cleared_steps.proofs.StepsMade.{all_at}
 
 -- ---- keys in lists of keys
-key_left : (k : PlanKey) (xs ys : List PlanKey) → IsKeyOf k xs → IsKeyOf k (xs ++ ys)
+key_left : (k : PlanKey) (xs ys : List PlanKey) → IsAmongKeys k xs → IsAmongKeys k (xs ++ ys)
 key_left k [] ys member = absurd member
 key_left k (x ∷ xs) ys (inl e) = inl e
 key_left k (x ∷ xs) ys (inr later) = inr (key_left k xs ys later)
 
-key_right : (k : PlanKey) (xs ys : List PlanKey) → IsKeyOf k ys → IsKeyOf k (xs ++ ys)
+key_right : (k : PlanKey) (xs ys : List PlanKey) → IsAmongKeys k ys → IsAmongKeys k (xs ++ ys)
 key_right k [] ys member = member
 key_right k (x ∷ xs) ys member = inr (key_right k xs ys member)
 
-key_of_pair : (f : ℕ × ℕ → PlanKey) (ps : List (ℕ × ℕ)) (p : ℕ × ℕ) → IsIn p ps → IsKeyOf (f p) (map f ps)
+key_of_pair : (f : ℕ × ℕ → PlanKey) (ps : List (ℕ × ℕ)) (p : ℕ × ℕ) → IsIn p ps → IsAmongKeys (f p) (map f ps)
 key_of_pair f [] p there = absurd there
 key_of_pair f (q ∷ ps) p (inl e) = inl (ap f e)
 key_of_pair f (q ∷ ps) p (inr later) = inr (key_of_pair f ps p later)
 
-key_of_doc : (value : Value) (docs : List ℕ) (doc : ℕ) → Among doc docs → IsKeyOf (plan.Pair value doc) (map (λ d. plan.Pair value d) docs)
+key_of_doc : (value : Value) (docs : List ℕ) (doc : ℕ) → Among doc docs → IsAmongKeys (plan.Pair value doc) (map (λ d. plan.Pair value d) docs)
 key_of_doc value [] doc among = absurd among
 key_of_doc value (d ∷ docs) doc (inl e) = inl (ap (λ (x : ℕ). plan.Pair value x) e)
 key_of_doc value (d ∷ docs) doc (inr later) = inr (key_of_doc value docs doc later)
 
-key_flat : (f : ℕ × ℕ → List PlanKey) (ps : List (ℕ × ℕ)) (p : ℕ × ℕ) (k : PlanKey) → IsIn p ps → IsKeyOf k (f p) → IsKeyOf k (flat_map f ps)
+key_flat : (f : ℕ × ℕ → List PlanKey) (ps : List (ℕ × ℕ)) (p : ℕ × ℕ) (k : PlanKey) → IsIn p ps → IsAmongKeys k (f p) → IsAmongKeys k (flat_map f ps)
 key_flat f [] p k there member = absurd there
-key_flat f (q ∷ ps) p k (inl e) member = key_left k (f q) (flat_map f ps) (subst (λ x. IsKeyOf k (f x)) e member)
+key_flat f (q ∷ ps) p k (inl e) member = key_left k (f q) (flat_map f ps) (subst (λ x. IsAmongKeys k (f x)) e member)
 key_flat f (q ∷ ps) p k (inr later) member = key_right k (f q) (flat_map f ps) (key_flat f ps p k later member)
 
 module _ (type : ValueType) (m : Records) (documents dictionary : ℕ) where
-  value_member : (p : ℕ × ℕ) → IsIn p (tree_pairs m dictionary) → IsKeyOf (plan.Value (stored_value type m p.0)) (value_keys type m dictionary)
+  value_member : (p : ℕ × ℕ) → IsIn p (tree_pairs m dictionary) → IsAmongKeys (plan.Value (stored_value type m p.0)) (value_keys type m dictionary)
   value_member p there = key_of_pair (λ (q : ℕ × ℕ). plan.Value (stored_value type m q.0)) (tree_pairs m dictionary) p there
 
-  document_member : (p : ℕ × ℕ) → IsIn p (tree_pairs m documents) → IsKeyOf (plan.Doc p.0) (document_keys m documents)
+  document_member : (p : ℕ × ℕ) → IsIn p (tree_pairs m documents) → IsAmongKeys (plan.Doc p.0) (document_keys m documents)
   document_member p there = key_of_pair (λ (q : ℕ × ℕ). plan.Doc q.0) (tree_pairs m documents) p there
 
   list_member : (p : ℕ × ℕ) (doc : ℕ) → IsIn p (tree_pairs m dictionary) → Among doc (form_docs m (list_form p.1))
-      → IsKeyOf (plan.Pair (stored_value type m p.0) doc) (keys_of_pairs type m (tree_pairs m dictionary))
+      → IsAmongKeys (plan.Pair (stored_value type m p.0) doc) (keys_of_pairs type m (tree_pairs m dictionary))
   list_member p doc there among =
       key_flat (λ (q : ℕ × ℕ). map (λ d. plan.Pair (stored_value type m q.0) d) (form_docs m (list_form q.1))) (tree_pairs m dictionary) p (plan.Pair (stored_value type m p.0) doc) there
       (key_of_doc (stored_value type m p.0) (form_docs m (list_form p.1)) doc among)
 
-  value_node_member : (key : ℕ) → Among key (tree_keys m dictionary) → IsKeyOf (plan.Value (stored_value type m key)) (value_keys type m dictionary ++ document_keys m documents)
+  value_node_member : (key : ℕ) → Among key (tree_keys m dictionary) → IsAmongKeys (plan.Value (stored_value type m key)) (value_keys type m dictionary ++ document_keys m documents)
   value_node_member key among =
       let found = of_key key (tree_pairs m dictionary) among in
       key_left (plan.Value (stored_value type m key)) (value_keys type m dictionary) (document_keys m documents)
-      (subst (λ k. IsKeyOf (plan.Value (stored_value type m k)) (value_keys type m dictionary)) (sym found.is) (value_member found.pair found.there))
+      (subst (λ k. IsAmongKeys (plan.Value (stored_value type m k)) (value_keys type m dictionary)) (sym found.is) (value_member found.pair found.there))
 
-  document_node_member : (doc : ℕ) → Among doc (tree_keys m documents) → IsKeyOf (plan.Doc doc) (value_keys type m dictionary ++ document_keys m documents)
+  document_node_member : (doc : ℕ) → Among doc (tree_keys m documents) → IsAmongKeys (plan.Doc doc) (value_keys type m dictionary ++ document_keys m documents)
   document_node_member doc among =
       let found = of_key doc (tree_pairs m documents) among in
       key_right (plan.Doc doc) (value_keys type m dictionary) (document_keys m documents)
-      (subst (λ d. IsKeyOf (plan.Doc d) (document_keys m documents)) (sym found.is) (document_member found.pair found.there))
+      (subst (λ d. IsAmongKeys (plan.Doc d) (document_keys m documents)) (sym found.is) (document_member found.pair found.there))
 
 -- ---- a place that visits no more keys of an attribute
-module _ (bits victim field : ℕ) (at next : Place) (m : Records) where
+module _ (bits victim field : ℕ) (at next : PlanPlace) (m : Records) where
   list_fewer : (value : Value) (form : ListForm) → IsPostingList m form
       → ((doc : ℕ) → Among doc (form_docs m form) → IsVisited next field LISTS (plan.Pair value doc) → IsVisited at field LISTS (plan.Pair value doc))
       → ListIsCleared bits victim at field m value form → ListIsCleared bits victim next field m value form
@@ -93,7 +93,7 @@ module _ (bits victim field : ℕ) (at next : Place) (m : Records) where
   list_fewer value (vector root) is fewer cleared = absurd cleared
 
   module _ (kind : Kind) (type : ValueType) (documents dictionary : ℕ) (is : IsField kind type m documents dictionary)
-      (fewer : (phase : ℕ) (k : PlanKey) → phase < PHASES → is_start k ≡ false → IsKeyOf k (phase_keys type m documents dictionary phase)
+      (fewer : (phase : ℕ) (k : PlanKey) → phase < PHASES → is_start k ≡ false → IsAmongKeys k (phase_keys type m documents dictionary phase)
       → IsVisited next field phase k → IsVisited at field phase k)
       (cleared : IsClearedField bits victim at field m (record { kind = kind; type = type; documents = documents; dictionary = dictionary })) where
     key_fewer : (p : ℕ × ℕ) → IsIn p (tree_pairs m dictionary) → IsVisited next field KEYS (plan.Value (stored_value type m p.0)) → buffer_of bits p.0 ≢ victim

@@ -10,7 +10,7 @@ use Rattle.attr_types.specs.declared.field.Field.{Field}
 use Rattle.attr_types.specs.declared.op.Op.{Op}
 use Rattle.attr_steps.specs.Fields.{part_of, parts_of, HoldsAttributes, IsFieldAt}
 use Rattle.attr_steps.specs.Steps.{StepsTo}
-use Rattle.attr_compaction.specs.Places.{first_place, place_after, Place}
+use Rattle.attr_compaction.specs.Places.{first_place, place_after, PlanPlace}
 use Rattle.attr_compaction.specs.declared.plan.PlanKey.{PlanKey}
 use Rattle.attr_compaction.specs.declared.plan.PlanKey.TheVariants.{Start}
 use Rattle.attr_compaction.specs.declared.plan.TheConstants.{PHASES}
@@ -20,12 +20,12 @@ use Rattle.attr_cleared.specs.Cleared.{IsCleared, IsClearedField}
 
 -- where the records that an attribute owns stay, what was cleared of it is so still
 abbrev pub StayLeavesCleared : Type 0
-StayLeavesCleared = (bits victim field : ℕ) (at : Place) (m n : Records) (a : AttributeTrees) → IsFieldAt m a
+StayLeavesCleared = (bits victim field : ℕ) (at : PlanPlace) (m n : Records) (a : AttributeTrees) → IsFieldAt m a
     → SameAt ((part_of a).reach m) m n → IsClearedField bits victim at field m a → IsClearedField bits victim at field n a
 
 -- and so of all attributes
 abbrev pub AllStayLeavesCleared : Type 0
-AllStayLeavesCleared = (bits victim : ℕ) (at : Place) (m n : Records) (trees : List AttributeTrees) → AllByRecursion (IsFieldAt m) trees
+AllStayLeavesCleared = (bits victim : ℕ) (at : PlanPlace) (m n : Records) (trees : List AttributeTrees) → AllByRecursion (IsFieldAt m) trees
     → AllStay (parts_of trees) m n → IsCleared bits victim at m trees → IsCleared bits victim at n trees
 
 -- before the first key everything is
@@ -35,25 +35,25 @@ FirstIsCleared = (bits victim : ℕ) (m : Records) (trees : List AttributeTrees)
 
 -- where a phase has no further key, what was cleared is all that the next phase's place asks for
 abbrev pub PhaseEndLeavesCleared : Type 0
-PhaseEndLeavesCleared = (bits victim : ℕ) (at : Place) (m : Records) (trees : List AttributeTrees) (a : AttributeTrees)
+PhaseEndLeavesCleared = (bits victim : ℕ) (at : PlanPlace) (m : Records) (trees : List AttributeTrees) (a : AttributeTrees)
     → AllByRecursion (IsFieldAt m) trees → at.stage.phase < PHASES → slice_get trees at.stage.field ≡ Some a
     → key_past at.key (phase_keys a.type m a.documents a.dictionary at.stage.phase) ≡ None
     → IsCleared bits victim at m trees → IsCleared bits victim (place_after (length trees) at Start) m trees
 
 -- one key further in one attribute, the others are cleared if they were
 abbrev pub OthersStayCleared : Type 0
-OthersStayCleared = (bits victim field : ℕ) (at : Place) (key : PlanKey) (m : Records) (a : AttributeTrees) → IsFieldAt m a
+OthersStayCleared = (bits victim field : ℕ) (at : PlanPlace) (key : PlanKey) (m : Records) (a : AttributeTrees) → IsFieldAt m a
     → at.stage.field ≢ field → IsClearedField bits victim at field m a → IsClearedField bits victim (place_at_key at key) field m a
 
 -- past the last phase of the last attribute, nothing that attributes reach lies in the victim
 abbrev pub NothingIsReached : Type 0
-NothingIsReached = (bits victim : ℕ) (at : Place) (m : Records) (trees : List AttributeTrees) → AllByRecursion (IsFieldAt m) trees
+NothingIsReached = (bits victim : ℕ) (at : PlanPlace) (m : Records) (trees : List AttributeTrees) → AllByRecursion (IsFieldAt m) trees
     → at.stage.phase ≡ PHASES → length trees ≤ at.stage.field + 1 → IsCleared bits victim at m trees
     → (r : ℕ) → Among r (attributes_reach m trees) → buffer_of bits r ≢ victim
 
 -- an operation in a store whose victim is sealed: what is in the victim then was there, in the same role
 abbrev pub OperationLeavesCleared : ℕ → Type 0 → Type 0
-OperationLeavesCleared bits H = (victim : ℕ) (at : Place) (old new : Ledger H) (m n : Records) (fields : List Field)
+OperationLeavesCleared bits H = (victim : ℕ) (at : PlanPlace) (old new : Ledger H) (m n : Records) (fields : List Field)
     (trees next : List AttributeTrees) (op : Op) (before root : ℕ) → old.back ≡ old.status → old.bits ≡ bits → old.sealed victim ≡ true
     → HoldsAttributes bits old m fields trees before → HoldsAttributes bits new n fields next root
     → StepsTo fields old new m n trees op next → IsCleared bits victim at m trees → IsCleared bits victim at n next

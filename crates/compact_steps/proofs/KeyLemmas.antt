@@ -14,7 +14,7 @@ use Rattle.attr_types.specs.Value.{type_of}
 use Rattle.attr_types.specs.declared.kind.ValueType.{ValueType}
 use Rattle.attr_types.specs.declared.kind.ValueType.TheVariants as types
 use Rattle.attr_types.specs.declared.value.Value.{Value as AnyValue}
-use Rattle.attr_compaction.specs.Places.{has_key, key_cmp, IsPast, Place}
+use Rattle.attr_compaction.specs.Places.{has_key, key_cmp, IsPast, PlanPlace}
 use Rattle.attr_compaction.specs.declared.plan.PlanKey.{PlanKey}
 use Rattle.attr_compaction.specs.declared.plan.PlanKey.TheVariants.{Value, Doc, Pair}
 use Rattle.attr_compaction.specs.declared.plan.TheConstants.{DOCUMENTS, KEYS, LISTS, PHASES}
@@ -134,7 +134,7 @@ less_is Less is = refl
 less_is Equal is = absurd (true≢false (sym is))
 less_is Greater is = absurd (true≢false (sym is))
 
-pub next_fits : (m : Records) (a : AttributeTrees) (at : Place) (key : PlanKey) → at.stage.phase < PHASES → key_past at.key (keys_at m a at.stage.phase) ≡ Some key
+pub next_fits : (m : Records) (a : AttributeTrees) (at : PlanPlace) (key : PlanKey) → at.stage.phase < PHASES → key_past at.key (keys_at m a at.stage.phase) ≡ Some key
     → HasType a.type key × IsPast at key
 next_fits m a at key few next =
     let found = found_is (FitsPhase a.type at.stage.phase) (λ k. is_lt (key_cmp at.key k)) (keys_at m a at.stage.phase) key (keys_fit m a at.stage.phase few) next in

@@ -11,7 +11,7 @@ use Rattle.store_api.specs.Statuses.{Status}
 use Rattle.store_api.specs.Units.{IsSameBack}
 use Rattle.store_api.specs.Victims.{IsVictim}
 use Rattle.store_api.specs.declared.store.StoreError.{StoreError}
-use Rattle.attr_compaction.specs.Places.{first_place, place_cmp, Place, PlanView}
+use Rattle.attr_compaction.specs.Places.{first_place, place_cmp, PlanPlace, PlanView}
 use Rattle.attr_compaction.specs.declared.plan.PlanKey.TheVariants.{Start}
 use Rattle.attr_images.specs.Tables.{AttributeTrees, attributes_reach}
 use Rattle.attr_types.specs.declared.field.Field.{Field}
@@ -26,7 +26,7 @@ use Rattle.plan_keys.specs.PhaseKeys.{HasType}
 use Rattle.plan_counts.specs.Counts.{keys_between}
 use Rattle.cleared_steps.specs.StepsLaws.{FirstIsCleared}
 use Rattle.compact_steps.proofs.WalkLemmas.{keeps_then, refused_since}
-use Rattle.compact_steps.specs.Compactions.{Empties, GoesTo, IsUnder, KeepsStoreBut, Opens, RefusesStep, Went}
+use Rattle.compact_steps.specs.Compactions.{Empties, GoesTo, IsUnderPlan, KeepsStoreBut, OpensPlan, RefusesStep, Went}
 use Rattle.compact_steps.specs.Walks.{HasLastField, IsOver, RefusesFirst, RefusesNext, Stops, Visits}
 
 -- ---- a ledger with other buffers sealed or finished
@@ -96,7 +96,7 @@ typed_first None = tt
 typed_first (Some a) = tt
 
 module _ {H : Type 0} (bits root : ℕ) (old : Ledger H) (m : Records) (fields : List Field) (trees : List AttributeTrees) (holds : HoldsAttributes bits old m fields trees root) where
-  pub opens_going : (plan : PlanView) → IsUnderWay bits old m trees plan → HasLastField plan → Opens bits root old old m m fields trees (Some plan) plan
+  pub opens_going : (plan : PlanView) → IsUnderWay bits old m trees plan → HasLastField plan → OpensPlan bits root old old m m fields trees (Some plan) plan
   opens_going plan under_way last = record {
     under = record { victim = refl; all = refl; sealed = refl };
     place = refl;
@@ -122,7 +122,7 @@ module _ {H : Type 0} (bits root : ℕ) (old : Ledger H) (m : Records) (fields :
     fewer_by true u e = absurd (true≢false e)
     fewer_by false u e = e
 
-    opens_here : Opens bits root old (record old { sealed = mid.sealed; of_width = mid.of_width }) m m fields trees None begun
+    opens_here : OpensPlan bits root old (record old { sealed = mid.sealed; of_width = mid.of_width }) m m fields trees None begun
     opens_here = record {
       under = record { unfinished = unfinished; victim = is; all = count_is; sealed = seals.sealed };
       place = refl;
@@ -139,16 +139,16 @@ module _ {H : Type 0} (bits root : ℕ) (old : Ledger H) (m : Records) (fields :
       last = record { last = λ over. absurd (omega arith) };
     }
 
-    pub opens_begun : (n : Records) (plan : PlanView) → n ≡ m → plan.victim ≡ victim → plan.fields ≡ count → plan.place ≡ first_place → Opens bits root old mid m n fields trees None plan
+    pub opens_begun : (n : Records) (plan : PlanView) → n ≡ m → plan.victim ≡ victim → plan.fields ≡ count → plan.place ≡ first_place → OpensPlan bits root old mid m n fields trees None plan
     opens_begun n plan same v f p =
-        subst (λ (x : PlanView). Opens bits root old mid m n fields trees None x) (λ i. record { victim = sym v i; fields = sym f i; place = sym p i })
-        (subst (λ (k : Records). Opens bits root old mid m k fields trees None begun) (sym same)
-        (subst (λ (l : Ledger H). Opens bits root old l m m fields trees None begun) (sym seals.same) opens_here))
+        subst (λ (x : PlanView). OpensPlan bits root old mid m n fields trees None x) (λ i. record { victim = sym v i; fields = sym f i; place = sym p i })
+        (subst (λ (k : Records). OpensPlan bits root old mid m k fields trees None begun) (sym same)
+        (subst (λ (l : Ledger H). OpensPlan bits root old l m m fields trees None begun) (sym seals.same) opens_here))
 
 -- ---- after a walk
 module _ {H : Type 0} (bits root : ℕ) (old mid new : Ledger H) (m k n : Records) (fields : List Field) (trees next : List AttributeTrees) (before : Option PlanView) (start plan : PlanView)
-    (opens : Opens bits root old mid m k fields trees before start) where
-  under_by : (o : Option PlanView) → IsUnder bits (length fields) old mid o start → plan.victim ≡ start.victim → plan.fields ≡ start.fields → new.sealed ≡ mid.sealed → IsUnder bits (length fields) old new o plan
+    (opens : OpensPlan bits root old mid m k fields trees before start) where
+  under_by : (o : Option PlanView) → IsUnderPlan bits (length fields) old mid o start → plan.victim ≡ start.victim → plan.fields ≡ start.fields → new.sealed ≡ mid.sealed → IsUnderPlan bits (length fields) old new o plan
   under_by None under victim all sealed = record {
     unfinished = under.unfinished;
     victim = subst (IsVictim bits old) (sym victim) under.victim;
@@ -161,8 +161,8 @@ module _ {H : Type 0} (bits root : ℕ) (old mid new : Ledger H) (m k n : Record
     pub went : Went bits root old new m n fields trees next before plan visited
     went = record {
       under = under_by before opens.under visits.victim visits.all visits.keeps.sealed;
-      rises = subst (λ (p : Place). place_cmp p plan.place ≢ Greater) opens.place visits.rises;
-      count = ap₂ (λ (f : Records) (p : Place). keys_between p plan.place f trees) (sym opens.left.records) (sym opens.place) ∙ visits.count;
+      rises = subst (λ (p : PlanPlace). place_cmp p plan.place ≢ Greater) opens.place visits.rises;
+      count = ap₂ (λ (f : Records) (p : PlanPlace). keys_between p plan.place f trees) (sym opens.left.records) (sym opens.place) ∙ visits.count;
       holds = visits.holds;
       table = visits.table ∙ ap (λ (f : Records). table_at f trees) opens.left.records;
       keeps = but_then old mid new opens.keeps (but_kept old mid new visits.keeps);
@@ -212,7 +212,7 @@ module _ {H : Type 0} (bits root : ℕ) (old mid new : Ledger H) (m k n : Record
         apart = λ r among. subst (λ (b : ℕ). buffer_of bits r ≢ b) (sym is) (apart r among);
       }
     where
-      under_end : (o : Option PlanView) → IsUnder bits (length fields) old new o plan → end.sealed ≡ new.sealed → IsUnder bits (length fields) old end o plan
+      under_end : (o : Option PlanView) → IsUnderPlan bits (length fields) old new o plan → end.sealed ≡ new.sealed → IsUnderPlan bits (length fields) old end o plan
       under_end None under sealed = record { unfinished = under.unfinished; victim = under.victim; all = under.all; sealed = λ b. ap (λ (s : ℕ → Bool). s b) sealed ∙ under.sealed b }
       under_end (Some was) under sealed = record { victim = under.victim; all = under.all; sealed = sealed ∙ under.sealed }
 

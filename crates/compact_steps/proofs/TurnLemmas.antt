@@ -8,7 +8,7 @@ use Rattle.image_base.specs.Records.{Records}
 use Rattle.store_api.specs.Ledgers.{Ledger}
 use Rattle.attr_cleared.specs.Cleared.{IsCleared}
 use Rattle.cleared_steps.specs.StepsLaws.{PhaseEndLeavesCleared}
-use Rattle.attr_compaction.specs.Places.{has_key, is_start, next_stage, place_after, place_cmp, IsPast, Place, PlanView}
+use Rattle.attr_compaction.specs.Places.{has_key, is_start, next_stage, place_after, place_cmp, IsPast, PlanPlace, PlanView}
 use Rattle.attr_compaction.specs.declared.plan.PlanKey.{PlanKey}
 use Rattle.attr_compaction.specs.declared.plan.PlanKey.TheVariants.{Start, Value, Doc, Pair}
 use Rattle.attr_compaction.specs.declared.plan.TheConstants.{PHASES}
@@ -25,7 +25,7 @@ use Rattle.compact_steps.specs.Units.{keys_at, next_at, plan_at, turn_of, Compac
 use Rattle.compact_steps.proofs.KeyLemmas.{next_fits, same_keys}
 
 -- ---- the plan
-pub next_is : (m : Records) (trees : List AttributeTrees) (at : Place) (a : AttributeTrees) (next : Option PlanKey) → slice_get trees at.stage.field ≡ Some a
+pub next_is : (m : Records) (trees : List AttributeTrees) (at : PlanPlace) (a : AttributeTrees) (next : Option PlanKey) → slice_get trees at.stage.field ≡ Some a
     → next ≡ key_past at.key (keys_at m a at.stage.phase) → next_at m trees at ≡ next
 next_is m trees at a next here is = ap (λ (o : Option AttributeTrees). option_and_then (λ (b : AttributeTrees). key_past at.key (keys_at m b at.stage.phase)) o) here ∙ sym is
 
@@ -39,12 +39,12 @@ goes_on m trees old new next is victim fields place rises = record {
   rises = rises;
 }
 
-pub plan_is : (new : PlanView) (victim fields : ℕ) (place : Place) → new.victim ≡ victim → new.fields ≡ fields → new.place ≡ place
+pub plan_is : (new : PlanView) (victim fields : ℕ) (place : PlanPlace) → new.victim ≡ victim → new.fields ≡ fields → new.place ≡ place
     → record { victim = victim; fields = fields; place = place } ≡ new
 plan_is new victim fields place v f p =
     ap (λ (x : ℕ). record { victim = x; fields = fields; place = place }) (sym v)
     ∙ ap (λ (x : ℕ). record { victim = new.victim; fields = x; place = place }) (sym f)
-    ∙ ap (λ (x : Place). record { victim = new.victim; fields = new.fields; place = x }) (sym p)
+    ∙ ap (λ (x : PlanPlace). record { victim = new.victim; fields = new.fields; place = x }) (sym p)
 
 not_start : (phase : ℕ) (key : PlanKey) → has_key phase key ≡ true → is_start key ≡ false
 not_start phase Start h = absurd (true≢false (sym h))
@@ -52,7 +52,7 @@ not_start phase (Value v) h = refl
 not_start phase (Doc d) h = refl
 not_start phase (Pair v d) h = refl
 
-pub place_is : (fields : ℕ) (at : Place) (key : PlanKey) → IsPast at key → place_after fields at key ≡ record { stage = at.stage; key = key }
+pub place_is : (fields : ℕ) (at : PlanPlace) (key : PlanKey) → IsPast at key → place_after fields at key ≡ record { stage = at.stage; key = key }
 place_is fields at key past =
     ap (λ (over : Bool). record { stage = cond over (next_stage fields at.stage) at.stage; key = key }) (not_start at.stage.phase key past.of_phase)
 
@@ -103,7 +103,7 @@ moved_way bits ledger m o fields trees next root plan new key all past victim fi
     subst (λ (p : PlanView). CompactsTo bits ledger m o fields trees next root p)
     (plan_is new plan.victim plan.fields (record { stage = plan.place.stage; key = key }) victim fields_are (place ∙ place_is plan.fields plan.place key past)) all
 
-pub past_next : (m : Records) (a : AttributeTrees) (at : Place) (key : PlanKey) → at.stage.phase < PHASES → Some key ≡ key_past at.key (keys_at m a at.stage.phase) → (key ≡ Start) ⊎ IsPast at key
+pub past_next : (m : Records) (a : AttributeTrees) (at : PlanPlace) (key : PlanKey) → at.stage.phase < PHASES → Some key ≡ key_past at.key (keys_at m a at.stage.phase) → (key ≡ Start) ⊎ IsPast at key
 past_next m a at key few next = inr (next_fits m a at key few (sym next)).1
 
 -- ---- the attribute of the plan's place

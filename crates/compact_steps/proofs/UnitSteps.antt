@@ -24,7 +24,7 @@ use Rattle.attr_walks.specs.Counts.{MakesFew}
 use Rattle.attr_field.specs.Fields.{field_part, IsField}
 use Rattle.attr_cleared.specs.Cleared.{IsCleared, IsClearedField}
 use Rattle.cleared_steps.specs.StepsLaws.{OthersStayCleared, StayLeavesCleared}
-use Rattle.attr_compaction.specs.Places.{Place, PlanView}
+use Rattle.attr_compaction.specs.Places.{PlanPlace, PlanView}
 use Rattle.attr_compaction.specs.declared.plan.PlanKey.{PlanKey}
 use Rattle.attr_compaction.specs.declared.plan.TheConstants.{PHASES}
 use Rattle.attr_images.specs.Tables.{AttributeTrees}
@@ -99,7 +99,7 @@ module _ {H : Type 0} (bits : ℕ) (old : Ledger H) (m : Records) (fields : List
     abbrev after : List AttributeTrees
     after = set trees i b
 
-    abbrev place : Place
+    abbrev place : PlanPlace
     place = record { stage = plan.place.stage; key = key }
 
     apart_stays : (j : ℕ) (c : AttributeTrees) → j ≢ i → slice_get trees j ≡ Some c → SameAt ((part_of c).reach m) m n

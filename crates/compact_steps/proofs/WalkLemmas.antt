@@ -12,7 +12,7 @@ use Rattle.store_api.specs.Ledgers.{Ledger}
 use Rattle.store_api.specs.declared.store.StoreError.{StoreError}
 use Rattle.store_api.specs.declared.store.StoreError.TheVariants.{Full, Memory}
 use Rattle.attr_compaction.proofs.PlaceLemmas.{place_total}
-use Rattle.attr_compaction.specs.Places.{is_start, key_cmp, next_stage, place_after, place_cmp, Place, PlanView}
+use Rattle.attr_compaction.specs.Places.{is_start, key_cmp, next_stage, place_after, place_cmp, PlanPlace, PlanView}
 use Rattle.attr_compaction.specs.declared.plan.PlanKey.{PlanKey}
 use Rattle.attr_compaction.specs.declared.plan.PlanKey.TheVariants.{Start, Value, Doc, Pair}
 use Rattle.attr_compaction.specs.declared.plan.Stage.{Stage}
@@ -92,7 +92,7 @@ last_by : (fields : ℕ) (s : Stage) (t : Bool) → s.phase < PHASES → (stage_
 last_by fields s true few over = last_stage fields s (nat_lt s.phase NODES) (nat_lt (s.field + 1) fields) refl refl over
 last_by fields s false few over = absurd (omega arith)
 
-last_after : (fields : ℕ) (at : Place) (done : PlanKey) → at.stage.phase < PHASES → (place_after fields at done).stage.phase ≡ PHASES
+last_after : (fields : ℕ) (at : PlanPlace) (done : PlanKey) → at.stage.phase < PHASES → (place_after fields at done).stage.phase ≡ PHASES
     → fields ≤ (place_after fields at done).stage.field + 1
 last_after fields at done few = last_by fields at.stage (is_start done) few
 
@@ -148,7 +148,7 @@ all_get P [] i a all there = cc
 all_get P (x ∷ trees) zero a all there = subst P (same_some x a there) all.0
 all_get P (x ∷ trees) (suc i) a all there = all_get P trees i a all.1 there
 
-module _ (k : Records) (next : List AttributeTrees) (from at : Place) (each : AllByRecursion (IsFieldAt k) next) (within : at.stage.field < length next) (few : at.stage.phase < PHASES)
+module _ (k : Records) (next : List AttributeTrees) (from at : PlanPlace) (each : AllByRecursion (IsFieldAt k) next) (within : at.stage.field < length next) (few : at.stage.phase < PHASES)
     (rises : place_cmp from at ≢ Greater) where
   abbrev Counts : Option PlanKey → Type 0
   Counts o = keys_between from (place_after (length next) at (unwrap_or o Start)) k next ≡ one_of o + keys_between from at k next
@@ -176,7 +176,7 @@ module _ (k : Records) (next : List AttributeTrees) (from at : Place) (each : Al
   turn_counts : (o : Option PlanKey) → next_at k next at ≡ o → Counts o
   turn_counts o is = by_get (slice_get next at.stage.field) o refl is
 
-next_not_start : (k : Records) (next : List AttributeTrees) (at : Place) (key : PlanKey) → next_at k next at ≡ Some key → is_start key ≡ false
+next_not_start : (k : Records) (next : List AttributeTrees) (at : PlanPlace) (key : PlanKey) → next_at k next at ≡ Some key → is_start key ≡ false
 next_not_start k next at key is = by (slice_get next at.stage.field) is
   where
     by : (s : Option AttributeTrees) → option_and_then (λ a. key_past at.key (keys_at k a at.stage.phase)) s ≡ Some key → is_start key ≡ false
@@ -224,7 +224,7 @@ module _ {H : Type 0} (bits root : ℕ) (fields : List Field) where
       counted =
           let there = subst (λ (f : ℕ). to.place.stage.field < f) visits.under_way.all within in
           let more = turn_counts k next from.place to.place visits.holds.are_fields.each there few visits.rises o is in
-          ap (λ (p : Place). keys_between from.place p m trees) (goes.place ∙ ap (λ (f : ℕ). place_after f to.place (unwrap_or o Start)) visits.under_way.all)
+          ap (λ (p : PlanPlace). keys_between from.place p m trees) (goes.place ∙ ap (λ (f : ℕ). place_after f to.place (unwrap_or o Start)) visits.under_way.all)
           ∙ sym (same_between m k trees next from.place (place_after (length next) to.place (unwrap_or o Start)) visits.keep)
           ∙ more
           ∙ ap (λ (c : ℕ). one_of o + c) (same_between m k trees next from.place to.place visits.keep ∙ visits.count)
@@ -235,7 +235,7 @@ module _ {H : Type 0} (bits root : ℕ) (fields : List Field) where
         under_way = under_way;
         last = record {
           last = λ over. subst (λ (f : ℕ). f ≤ at.place.stage.field + 1) (sym goes.fields)
-              (subst (λ (p : Place). to.fields ≤ p.stage.field + 1) (sym goes.place) (last_after to.fields to.place (unwrap_or o Start) few (sym (ap (λ (p : Place). p.stage.phase) goes.place) ∙ over)));
+              (subst (λ (p : PlanPlace). to.fields ≤ p.stage.field + 1) (sym goes.place) (last_after to.fields to.place (unwrap_or o Start) few (sym (ap (λ (p : PlanPlace). p.stage.phase) goes.place) ∙ over)));
         };
         table = table ∙ visits.table;
         keep = keys_then m k n trees next after visits.keep keys;
@@ -265,7 +265,7 @@ module _ {H : Type 0} (bits root : ℕ) (fields : List Field) where
         by None is on = (
           subst (λ (c : ℕ). Visits bits root old new m n fields trees after from at c) (let e : 0 + visited ≡ visited = omega arith in e) (visits_more None PhaseOver few within is on),
           subst (λ (f : ℕ). 4 * (f - at.place.stage.field) + (4 - at.place.stage.phase) < stages_left to) (sym on.fields)
-              (subst (λ (p : Place). 4 * (to.fields - p.stage.field) + (4 - p.stage.phase) < stages_left to) (sym on.place) (left_over to.fields to.place.stage few within)),
+              (subst (λ (p : PlanPlace). 4 * (to.fields - p.stage.field) + (4 - p.stage.phase) < stages_left to) (sym on.place) (left_over to.fields to.place.stage few within)),
         )
 
     -- within a phase as many are left
@@ -277,7 +277,7 @@ module _ {H : Type 0} (bits root : ℕ) (fields : List Field) where
         by (Some key) is on =
             let same : at.place ≡ record { stage = to.place.stage; key = key } = on.place
             ∙ ap (λ (t : Bool). record { stage = stage_to to.fields to.place.stage t; key = key }) (next_not_start k next to.place key is) in
-            ap₂ (λ (f : ℕ) (p : Place). 4 * (f - p.stage.field) + (4 - p.stage.phase)) on.fields same
+            ap₂ (λ (f : ℕ) (p : PlanPlace). 4 * (f - p.stage.field) + (4 - p.stage.phase)) on.fields same
 
 -- ---- what a refusal is told as
 module _ {H : Type 0} (bits root : ℕ) (old new : Ledger H) (m n : Records) (fields : List Field) (trees next : List AttributeTrees) (from to : PlanView) where

@@ -6,7 +6,7 @@ use Rattle.image_base.specs.Records.{Records, Among}
 use Rattle.store_api.specs.Ledgers.{Ledger}
 use Rattle.store_api.specs.Victims.{HasNoVictim, IsVictim}
 use Rattle.store_api.specs.declared.store.StoreError.{StoreError}
-use Rattle.attr_compaction.specs.Places.{first_place, place_cmp, Place, PlanView}
+use Rattle.attr_compaction.specs.Places.{first_place, place_cmp, PlanPlace, PlanView}
 use Rattle.attr_compaction.specs.declared.plan.TheConstants.{PHASES}
 use Rattle.attr_images.specs.Tables.{AttributeTrees, attributes_reach}
 use Rattle.attr_types.specs.declared.field.Field.{Field}
@@ -20,7 +20,7 @@ use Rattle.compact_steps.specs.declared.stepping.Step.TheVariants.{Idle, Moved, 
 use Rattle.plan_counts.specs.Counts.{keys_between}
 
 -- where a compaction stands; one that is not begun yet stands before the first key
-abbrev pub place_of : Option PlanView → Place
+abbrev pub place_of : Option PlanView → PlanPlace
 place_of None = first_place
 place_of (Some plan) = plan.place
 
@@ -37,14 +37,14 @@ pub record Begins {H : Type 0} (bits fields : ℕ) (old new : Ledger H) (plan : 
   pub sealed : (b : ℕ) → new.sealed b ≡ (if nat_eq b plan.victim then true else old.sealed b)
 
 -- it was under way before
-pub record GoesOn {H : Type 0} (old new : Ledger H) (before plan : PlanView) : Type 0 where
+pub record WasUnderWay {H : Type 0} (old new : Ledger H) (before plan : PlanView) : Type 0 where
   pub victim : plan.victim ≡ before.victim
   pub all : plan.fields ≡ before.fields
   pub sealed : new.sealed ≡ old.sealed
 
-abbrev pub IsUnder : {H : Type 0} → ℕ → ℕ → Ledger H → Ledger H → Option PlanView → PlanView → Type 0
-IsUnder bits fields old new None plan = Begins bits fields old new plan
-IsUnder bits fields old new (Some before) plan = GoesOn old new before plan
+abbrev pub IsUnderPlan : {H : Type 0} → ℕ → ℕ → Ledger H → Ledger H → Option PlanView → PlanView → Type 0
+IsUnderPlan bits fields old new None plan = Begins bits fields old new plan
+IsUnderPlan bits fields old new (Some before) plan = WasUnderWay old new before plan
 
 -- none is under way, and none is worth it
 pub record BeginsNone {H : Type 0} (bits : ℕ) (old : Ledger H) (before : Option PlanView) (same : Type 0) : Type 0 where
@@ -53,9 +53,9 @@ pub record BeginsNone {H : Type 0} (bits : ℕ) (old : Ledger H) (before : Optio
   pub store_is : same
 
 -- one is under way, and no key was visited since
-pub record Opens {H : Type 0} (bits root : ℕ) (old new : Ledger H) (m n : Records) (fields : List Field) (trees : List AttributeTrees)
+pub record OpensPlan {H : Type 0} (bits root : ℕ) (old new : Ledger H) (m n : Records) (fields : List Field) (trees : List AttributeTrees)
     (before : Option PlanView) (plan : PlanView) : Type 0 where
-  pub under : IsUnder bits (length fields) old new before plan
+  pub under : IsUnderPlan bits (length fields) old new before plan
   pub place : plan.place ≡ place_of before
   pub keeps : KeepsStoreBut old new
   pub left : LeavesEntries old new m n
@@ -67,7 +67,7 @@ module _ {H : Type 0} (bits root : ℕ) (old new : Ledger H) (m n : Records) (fi
     (before : Option PlanView) where
   -- so many keys were visited
   pub record Went (plan : PlanView) (visited : ℕ) : Type 0 where
-    pub under : IsUnder bits (length fields) old new before plan
+    pub under : IsUnderPlan bits (length fields) old new before plan
     pub rises : place_cmp (place_of before) plan.place ≢ Greater
     pub count : keys_between (place_of before) plan.place m trees ≡ visited
     pub holds : HoldsAttributes bits new n fields next root

@@ -9,7 +9,7 @@ use Rattle.store_api.specs.Ledgers.{Ledger}
 use Rattle.store_api.specs.declared.store.StoreError.{StoreError}
 use Rattle.store_api.specs.declared.store.StoreError.TheVariants as errors
 use Rattle.attr_cleared.specs.Cleared.{IsCleared}
-use Rattle.attr_compaction.specs.Places.{place_after, place_cmp, Place, PlanView}
+use Rattle.attr_compaction.specs.Places.{place_after, place_cmp, PlanPlace, PlanView}
 use Rattle.attr_compaction.specs.declared.plan.PlanKey.{PlanKey}
 use Rattle.attr_compaction.specs.declared.plan.PlanKey.TheVariants.{Start}
 use Rattle.attr_images.specs.Tables.{AttributeTrees}
@@ -25,7 +25,7 @@ abbrev pub keys_at : Records → AttributeTrees → ℕ → List PlanKey
 keys_at m a phase = phase_keys a.type m a.documents a.dictionary phase
 
 -- the key that a place goes on to: the first of its phase that is past it, none where the phase is over
-abbrev pub next_at : Records → List AttributeTrees → Place → Option PlanKey
+abbrev pub next_at : Records → List AttributeTrees → PlanPlace → Option PlanKey
 next_at m trees at = option_and_then (λ a. key_past at.key (keys_at m a at.stage.phase)) (slice_get trees at.stage.field)
 
 -- attributes are emptied out of a sealed buffer: what they reach of it is past the plan's place, whose key is of its attribute's type

@@ -27,14 +27,14 @@ pub record RefusesNext {H : Type 0} (old new : Ledger H) (error : StoreError) : 
   pub active : HasActive new error
 
 -- all of them were; or some and not all, since the next one was refused
-pub record StopsAt {H : Type 0} (old new : Ledger H) (keys visited : ℕ) (error : StoreError) : Type 0 where
+pub record StopsRefused {H : Type 0} (old new : Ledger H) (keys visited : ℕ) (error : StoreError) : Type 0 where
   pub some : 0 < visited
   pub few : visited < keys
   pub refused : RefusesNext old new error
 
 abbrev pub Stops : {H : Type 0} → Ledger H → Ledger H → ℕ → ℕ → Option StoreError → Type 0
 Stops old new keys visited None = visited ≡ keys
-Stops old new keys visited (Some error) = StopsAt old new keys visited error
+Stops old new keys visited (Some error) = StopsRefused old new keys visited error
 
 module _ {H : Type 0} (bits root : ℕ) (old new : Ledger H) (m n : Records) (fields : List Field) (trees next : List AttributeTrees) (from to : PlanView) where
   -- so many keys were visited: the attributes read as they did, and all up to the plan's place lies elsewhere

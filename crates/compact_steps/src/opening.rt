@@ -4,7 +4,7 @@ ghost use Rattle.attr_steps.specs.Fields.{HoldsAttributes, trees_of};
 ghost use Rattle.attr_types.specs.declared.field.TheConstants.{MOST_FIELDS};
 ghost use Rattle.compact_steps.specs.Units.{IsUnderWay};
 ghost use Rattle.compact_steps.specs.Walks.{HasLastField};
-ghost use Rattle.compact_steps.specs.Compactions.{BeginsNone, Opens};
+ghost use Rattle.compact_steps.specs.Compactions.{BeginsNone, OpensPlan};
 
 use attr_compaction::Plan;
 use attr_field::FieldRoots;
@@ -24,7 +24,7 @@ fn begin_plan<const OFFSET_BITS: u32, S: Store<OFFSET_BITS>>(
     requires few { length fields.now ≤ MOST_FIELDS }
     requires holds { HoldsAttributes OFFSET_BITS (S.ledger store.old) (S.records store.old) fields.now (trees_of fields.now roots.now) root }
     requires unfinished { (S.ledger store.old).finished ≡ None }
-    ensures opens { IfSome result (Opens OFFSET_BITS root.entry (S.ledger store.old) (S.ledger store.new) (S.records store.old)
+    ensures opens { IfSome result (OpensPlan OFFSET_BITS root.entry (S.ledger store.old) (S.ledger store.new) (S.records store.old)
         (S.records store.new) fields.now (trees_of fields.now roots.now) None) }
     ensures none { IfNone result (BeginsNone OFFSET_BITS (S.ledger store.old) None (store.new ≡ store.old)) }
 {
@@ -50,7 +50,7 @@ pub fn open_plan<const OFFSET_BITS: u32, S: Store<OFFSET_BITS>>(
     requires under_way { IfSome before (IsUnderWay OFFSET_BITS (S.ledger store.old) (S.records store.old) (trees_of fields.now roots.now)) }
     requires last { IfSome before HasLastField }
     requires unfinished { (S.ledger store.old).finished ≡ None }
-    ensures opens { IfSome result (Opens OFFSET_BITS root.entry (S.ledger store.old) (S.ledger store.new) (S.records store.old)
+    ensures opens { IfSome result (OpensPlan OFFSET_BITS root.entry (S.ledger store.old) (S.ledger store.new) (S.records store.old)
         (S.records store.new) fields.now (trees_of fields.now roots.now) before) }
     ensures none { IfNone result (BeginsNone OFFSET_BITS (S.ledger store.old) before (store.new ≡ store.old)) }
 {

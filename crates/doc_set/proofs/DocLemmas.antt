@@ -22,7 +22,7 @@ use Rattle.std.proofs.lemmas.List.{get_or_default}
 use Rattle.std.proofs.lemmas.List.Sorted.{searched}
 use Rattle.attr_types.proofs.EntryLemmas.{all-append}
 use Rattle.doc_set.proofs.BitLemmas.{by_cases}
-use Rattle.doc_set.specs.Sets.{has, Ascends, AreBelow, IsPlaceOf, Holds, HoldsBelow}
+use Rattle.doc_set.specs.Sets.{has, IsAscending, AreBelow, IsPlaceOf, Holds, HoldsBelow}
 
 -- what is below all of a list is not in it
 absent : (x : ℕ) (xs : List ℕ) → AllByRecursion (λ y. x < y) xs → has xs x ≡ false
@@ -62,7 +62,7 @@ same_lists : (x y : ℕ) (xs ys : List ℕ) → x ≡ y → xs ≡ ys → (x ∷
 same_lists x y xs ys first rest = cc
 
 -- ascending lists with the same members are one list
-pub same_ascending : (xs ys : List ℕ) → Ascends xs → Ascends ys → ((doc : ℕ) → has xs doc ≡ has ys doc) → xs ≡ ys
+pub same_ascending : (xs ys : List ℕ) → IsAscending xs → IsAscending ys → ((doc : ℕ) → has xs doc ≡ has ys doc) → xs ≡ ys
 same_ascending [] [] up_x up_y same = refl
 same_ascending [] (y ∷ ys) up_x up_y same = let lost : false ≡ true = same y ∙ own y ys in cc
 same_ascending (x ∷ xs) [] up_x up_y same = let lost : true ≡ false = sym (own x xs) ∙ same x in cc
@@ -73,7 +73,7 @@ same_ascending (x ∷ xs) (y ∷ ys) up_x up_y same =
     subst (λ v. (doc : ℕ) → has (x ∷ xs) doc ≡ has (v ∷ ys) doc) (sym is) same in
     same_lists x y xs ys is (same_ascending xs ys up_x.1 up_y.1 (tail_same x xs ys up_x.0 up_z alike))
 
-ascends_push : (xs : List ℕ) (n : ℕ) → Ascends xs → AllByRecursion (λ y. y < n) xs → Ascends (xs ++ n ∷ [])
+ascends_push : (xs : List ℕ) (n : ℕ) → IsAscending xs → AllByRecursion (λ y. y < n) xs → IsAscending (xs ++ n ∷ [])
 ascends_push [] n up below = (tt, tt)
 ascends_push (x ∷ xs) n up below =
     (all-append (λ y. x < y) xs (n ∷ []) up.0 (below.0, tt), ascends_push xs n up.1 below.1)
@@ -161,7 +161,7 @@ below_all : (x : ℕ) (xs : List ℕ) → AllByRecursion (λ y. nat_cmp x y ≡ 
 below_all x [] all = tt
 below_all x (y ∷ xs) all = (ranked x y Less (sym all.0), below_all x xs all.1)
 
-pub ascends_from_sorted : (xs : List ℕ) → IsStrictlySortedBy nat_cmp xs → Ascends xs
+pub ascends_from_sorted : (xs : List ℕ) → IsStrictlySortedBy nat_cmp xs → IsAscending xs
 unfolding IsStrictlySortedBy
 ascends_from_sorted [] up = tt
 ascends_from_sorted (x ∷ xs) up = (below_all x xs up.0, ascends_from_sorted xs up.1)
@@ -195,7 +195,7 @@ at_each P [] k all lt = absurd (omega (arith, lt))
 at_each P (x ∷ xs) zero all lt = all.0
 at_each P (x ∷ xs) (suc k) all lt = at_each P xs k all.1 (omega (arith, lt))
 
-rising : (xs : List ℕ) → Ascends xs → (i j : ℕ) → i ≤ j → j < length xs → get_or xs i 0 ≤ get_or xs j 0
+rising : (xs : List ℕ) → IsAscending xs → (i j : ℕ) → i ≤ j → j < length xs → get_or xs i 0 ≤ get_or xs j 0
 rising [] up i j le lt = absurd (omega (arith, lt))
 rising (x ∷ xs) up zero zero le lt = omega arith
 rising (x ∷ xs) up zero (suc j) le lt =
@@ -218,13 +218,13 @@ told xs x (Ok i) here = sym (list_any_at (nat_eq x) xs i 0 here.0 (eq-eqb x (get
 told xs x (Err i) here =
     sym (list_any_none (nat_eq x) xs (All-from_get_or (λ y. nat_eq x y ≡ false) xs 0 (λ k lt. apart xs x i k here.1 here.2 lt)))
 
-pub search_has : (xs : List ℕ) (x : ℕ) (r : Result ℕ ℕ) → Ascends xs → IsBinarySearchResult (λ y. nat_cmp y x) xs r
+pub search_has : (xs : List ℕ) (x : ℕ) (r : Result ℕ ℕ) → IsAscending xs → IsBinarySearchResult (λ y. nat_cmp y x) xs r
     → is_ok r ≡ has xs x
 search_has xs x r up found = told xs x r (searched xs x r found (rising xs up))
 
 -- ---- places in ascending documents
 -- all documents but the one at a place are others
-others_apart : (xs : List ℕ) (x i k : ℕ) → Ascends xs → IsPlaceOf xs x i → (i < length xs → get_or xs i 0 ≢ x) → k < length xs
+others_apart : (xs : List ℕ) (x i k : ℕ) → IsAscending xs → IsPlaceOf xs x i → (i < length xs → get_or xs i 0 ≢ x) → k < length xs
     → nat_eq x (get_or xs k 0) ≡ false
 others_apart xs x i k up place other lt = by_cases (nat_lt k i)
     (λ is. let one : get_or xs k 0 < x = place.before.below k (ltb-true k i is) in ne_eqb x (get_or xs k 0) (λ e. omega (arith, e, one)))
@@ -235,17 +235,17 @@ others_apart xs x i k up place other lt = by_cases (nat_lt k i)
     let next : get_or xs i 0 ≤ get_or xs k 0 = rising xs up i k from lt in
     ne_eqb x (get_or xs k 0) (λ e. absurd (ne (omega (arith, e, first, next)))))
 
-not_there : (xs : List ℕ) (x i : ℕ) → Ascends xs → IsPlaceOf xs x i → (i < length xs → get_or xs i 0 ≢ x) → has xs x ≡ false
+not_there : (xs : List ℕ) (x i : ℕ) → IsAscending xs → IsPlaceOf xs x i → (i < length xs → get_or xs i 0 ≢ x) → has xs x ≡ false
 not_there xs x i up place other =
     list_any_none (nat_eq x) xs (All-from_get_or (λ y. nat_eq x y ≡ false) xs 0 (λ k lt. others_apart xs x i k up place other lt))
 
 -- a document is in a list where it is at its place
-pub at_place : (xs : List ℕ) (x i : ℕ) → Ascends xs → IsPlaceOf xs x i → i < length xs → nat_eq (get_or xs i 0) x ≡ has xs x
+pub at_place : (xs : List ℕ) (x i : ℕ) → IsAscending xs → IsPlaceOf xs x i → i < length xs → nat_eq (get_or xs i 0) x ≡ has xs x
 at_place xs x i up place lt = by_cases (nat_eq (get_or xs i 0) x)
     (λ is. is ∙ sym (list_any_at (nat_eq x) xs i 0 lt (eq-eqb x (get_or xs i 0) (sym (eqb-true (get_or xs i 0) x is)))))
     (λ is. is ∙ sym (not_there xs x i up place (λ _. eqb-false (get_or xs i 0) x is)))
 
-pub past_place : (xs : List ℕ) (x i : ℕ) → Ascends xs → IsPlaceOf xs x i → length xs ≤ i → has xs x ≡ false
+pub past_place : (xs : List ℕ) (x i : ℕ) → IsAscending xs → IsPlaceOf xs x i → length xs ≤ i → has xs x ≡ false
 past_place xs x i up place le = not_there xs x i up place (λ lt. absurd (omega (arith, lt, le)))
 
 pub read_place : (xs : List ℕ) (i y : ℕ) → i < length xs → y ≡ get_or xs i y → y ≡ get_or xs i 0
@@ -262,7 +262,7 @@ not_ge a b Equal is off = cc
 not_ge a b Greater is off = cc
 
 -- what is up to a document that is below is below
-pub below_place : (xs : List ℕ) (x i : ℕ) → Ascends xs → i ≤ length xs → 0 < i → get_or xs (i - 1) 0 < x → AreBelow xs x i
+pub below_place : (xs : List ℕ) (x i : ℕ) → IsAscending xs → i ≤ length xs → 0 < i → get_or xs (i - 1) 0 < x → AreBelow xs x i
 below_place xs x i up within some below = record {
   within = within;
   below = λ k lt.
@@ -271,7 +271,7 @@ below_place xs x i up within some below = record {
 }
 
 -- a walk ends at the first that is not below
-pub stop_place : (xs : List ℕ) (x i : ℕ) → Ascends xs → AreBelow xs x i → x ≤ get_or xs i 0 → IsPlaceOf xs x i
+pub stop_place : (xs : List ℕ) (x i : ℕ) → IsAscending xs → AreBelow xs x i → x ≤ get_or xs i 0 → IsPlaceOf xs x i
 stop_place xs x i up before first = record {
   before = before;
   after = λ k from lt.
@@ -279,10 +279,10 @@ stop_place xs x i up before first = record {
 }
 
 -- documents of which each is below the next
-pub adjacent : (xs : List ℕ) → ((k : ℕ) → suc k < length xs → get_or xs k 0 < get_or xs (suc k) 0) → Ascends xs
+pub adjacent : (xs : List ℕ) → ((k : ℕ) → suc k < length xs → get_or xs k 0 < get_or xs (suc k) 0) → IsAscending xs
 adjacent [] steps = tt
 adjacent (x ∷ []) steps = (tt, tt)
 adjacent (x ∷ y ∷ ys) steps =
-    let rest : Ascends (y ∷ ys) = adjacent (y ∷ ys) (λ k low. steps (suc k) (omega arith)) in
+    let rest : IsAscending (y ∷ ys) = adjacent (y ∷ ys) (λ k low. steps (suc k) (omega arith)) in
     let first : x < y = steps 0 (omega arith) in
     ((first, above x y ys first rest.0), rest)

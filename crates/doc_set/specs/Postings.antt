@@ -8,5 +8,5 @@ abbrev pub first_doc : List (ℕ × ℤ) → ℕ
 first_doc [] = 0
 first_doc (p ∷ ps) = p.0
 
-abbrev pub AreDocuments : List (ℕ × ℤ) → Type 0
-AreDocuments list = AllByRecursion (λ p. IsDocNumber p.0) list
+abbrev pub HaveDocNumbers : List (ℕ × ℤ) → Type 0
+HaveDocNumbers list = AllByRecursion (λ p. IsDocNumber p.0) list

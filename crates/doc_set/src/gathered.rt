@@ -4,7 +4,7 @@ ghost use Rattle.std.specs.List.{All};
 ghost use Rattle.std.specs.Map.{keys_of};
 ghost use Rattle.attr_types.specs.Lawful.{IsDocNumber};
 ghost use Rattle.doc_set.specs.Gathers.{is_in};
-ghost use Rattle.doc_set.specs.Sets.{has, in_words, Ascends, AreBelow, IsPlaceOf, Holds};
+ghost use Rattle.doc_set.specs.Sets.{has, in_words, IsAscending, AreBelow, IsPlaceOf, Holds};
 
 use crate::bits::DocSet;
 use attr_types::{Doc, DocList};
@@ -25,7 +25,7 @@ pub enum Gathered {
 
 /// Whether documents ascend already, each once, as those of one list of the index do.
 fn is_sorted(docs: &[Doc]) -> bool
-    ensures { result ≡ true → Ascends docs.now }
+    ensures { result ≡ true → IsAscending docs.now }
 {
     for place in 1..docs.len() {
         if docs[place - 1] >= docs[place] {
@@ -75,14 +75,14 @@ fn insert_each(set: &mut DocSet, docs: &[Doc])
 }
 
 fn is_listed(docs: &[Doc], doc: Doc) -> bool
-    requires { Ascends docs.now }
+    requires { IsAscending docs.now }
     ensures { result ≡ has docs.now doc }
 {
     docs.binary_search(&doc).is_ok()
 }
 
 fn kept_searched(alloc: Global, docs: &DocList, list: &DocList) -> Result<DocList, AllocError>
-    requires { Ascends list.now }
+    requires { IsAscending list.now }
     ensures { IfOk result (λ kept. kept ≡ filter (has list.now) docs.now) }
 {
     let mut kept = DocList::new(alloc);
@@ -96,7 +96,7 @@ fn kept_searched(alloc: Global, docs: &DocList, list: &DocList) -> Result<DocLis
 
 /// Where a walk to a document begins: at a place that all before are below the document, else at the start.
 fn start_near(list: &[Doc], from: usize, doc: Doc) -> usize
-    requires ascends { Ascends list.now }
+    requires ascends { IsAscending list.now }
     requires within { from ≤ length list.now }
     ensures { AreBelow list.now doc result }
 {
@@ -108,7 +108,7 @@ fn start_near(list: &[Doc], from: usize, doc: Doc) -> usize
 
 /// The place of the first document that is not below a document, sought from a place on.
 fn place_near(list: &[Doc], from: usize, doc: Doc) -> usize
-    requires ascends { Ascends list.now }
+    requires ascends { IsAscending list.now }
     requires within { from ≤ length list.now }
     ensures { IsPlaceOf list.now doc result }
 {
@@ -120,7 +120,7 @@ fn place_near(list: &[Doc], from: usize, doc: Doc) -> usize
 }
 
 fn is_at(list: &[Doc], place: usize, doc: Doc) -> bool
-    requires ascends { Ascends list.now }
+    requires ascends { IsAscending list.now }
     requires place { IsPlaceOf list.now doc place }
     ensures { result ≡ has list.now doc }
 {
@@ -128,7 +128,7 @@ fn is_at(list: &[Doc], place: usize, doc: Doc) -> bool
 }
 
 fn kept_walked(alloc: Global, docs: &DocList, list: &DocList) -> Result<DocList, AllocError>
-    requires { Ascends list.now }
+    requires { IsAscending list.now }
     ensures { IfOk result (λ kept. kept ≡ filter (has list.now) docs.now) }
 {
     let mut kept = DocList::new(alloc);
@@ -144,7 +144,7 @@ fn kept_walked(alloc: Global, docs: &DocList, list: &DocList) -> Result<DocList,
 
 /// Those of some documents that are in a list. A list that is much the longer is searched, another is walked along.
 fn kept_listed(alloc: Global, docs: &DocList, list: &DocList) -> Result<DocList, AllocError>
-    requires { Ascends list.now }
+    requires { IsAscending list.now }
     ensures { IfOk result (λ kept. kept ≡ filter (has list.now) docs.now) }
 {
     if list.as_slice().len() / MUCH_LONGER > docs.as_slice().len() {

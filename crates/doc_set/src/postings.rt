@@ -2,7 +2,7 @@
 ghost use Rattle.std.specs.Prelude.{◌≡◌, ◌≢◌, ◌↔◌, ◌||◌, ℕ, ℤ, List, [], drop, IfOk, IsTrue};
 ghost use Rattle.std.specs.Map.{keys_of};
 ghost use Rattle.doc_set.specs.Gathers.{is_in};
-ghost use Rattle.doc_set.specs.Postings.{first_doc, AreDocuments};
+ghost use Rattle.doc_set.specs.Postings.{first_doc, HaveDocNumbers};
 ghost use Rattle.doc_set.specs.Sets.{has, in_words};
 
 use crate::bits::DocSet;
@@ -27,7 +27,7 @@ pub trait Postings {
 }
 
 fn insert_from<P: Postings>(set: &mut DocSet, list: &mut P)
-    requires { AreDocuments (P.rest list.old) }
+    requires { HaveDocNumbers (P.rest list.old) }
     ensures { (doc : ℕ) → in_words set.new doc ≡ (in_words set.old doc || has (keys_of (P.rest list.old)) doc) }
 {
     while !list.at_end() {
@@ -42,7 +42,7 @@ pub fn with_postings<P: Postings>(
     gathered: Gathered,
     list: &mut P,
 ) -> Result<Gathered, AllocError>
-    requires { AreDocuments (P.rest list.old) }
+    requires { HaveDocNumbers (P.rest list.old) }
     ensures { IfOk result (λ all. (doc : ℕ) → is_in all doc
         ≡ (is_in gathered doc || has (keys_of (P.rest list.old)) doc)) }
 {

@@ -11,8 +11,8 @@ use Rattle.tree_make.specs.Changes.{tree}
 use Rattle.attr_types.specs.Lawful.{IsDocNumber}
 
 -- a stored document beside the one sought
-abbrev pub beside : ℕ → ℕ → Ordering
-beside doc stored = nat_cmp stored doc
+abbrev pub beside_document : ℕ → ℕ → Ordering
+beside_document doc stored = nat_cmp stored doc
 
 -- a document with a reference
 pub record IsDocumentPair (p : ℕ × ℕ) : Type 0 where

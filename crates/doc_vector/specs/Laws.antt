@@ -5,7 +5,7 @@ use Rattle.image_base.specs.Records.{Records, SameAt}
 use Rattle.tree_images.specs.Trees.{tree_nodes, tree_pairs, by_number}
 use Rattle.key_order.specs.Keys.{Ascends}
 use Rattle.key_order.specs.Pairs.{lookup, put, take_out}
-use Rattle.doc_vector.specs.Documents.{beside, IsDocumentMap}
+use Rattle.doc_vector.specs.Documents.{beside_document, IsDocumentMap}
 
 -- the empty map
 abbrev pub NothingIsMap : Type 0
@@ -18,17 +18,17 @@ MapStays = (m n : Records) (root : ℕ) → SameAt (tree_nodes m root) m n → I
 
 -- the document that was set has its items, and every other one what it had
 abbrev pub SetIsFound : Type 0
-SetIsFound = (doc items : ℕ) (ps : List (ℕ × ℕ)) → lookup (beside doc) (put (beside doc) (doc, items) ps) ≡ Some items
+SetIsFound = (doc items : ℕ) (ps : List (ℕ × ℕ)) → lookup (beside_document doc) (put (beside_document doc) (doc, items) ps) ≡ Some items
 
 abbrev pub SetKeepsOthers : Type 0
 SetKeepsOthers = (doc items other : ℕ) (ps : List (ℕ × ℕ)) → other ≢ doc
-    → lookup (beside other) (put (beside doc) (doc, items) ps) ≡ lookup (beside other) ps
+    → lookup (beside_document other) (put (beside_document doc) (doc, items) ps) ≡ lookup (beside_document other) ps
 
 -- the document that was removed is not there, and every other one has what it had
 abbrev pub RemovedIsGone : Type 0
 RemovedIsGone = (m : Records) (doc : ℕ) (ps : List (ℕ × ℕ)) → Ascends nat_cmp by_number m ps
-    → lookup (beside doc) (take_out (beside doc) ps) ≡ None
+    → lookup (beside_document doc) (take_out (beside_document doc) ps) ≡ None
 
 abbrev pub RemoveKeepsOthers : Type 0
 RemoveKeepsOthers = (m : Records) (doc other : ℕ) (ps : List (ℕ × ℕ)) → Ascends nat_cmp by_number m ps → other ≢ doc
-    → lookup (beside other) (take_out (beside doc) ps) ≡ lookup (beside other) ps
+    → lookup (beside_document other) (take_out (beside_document doc) ps) ≡ lookup (beside_document other) ps

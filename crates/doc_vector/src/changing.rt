@@ -6,7 +6,7 @@ ghost use Rattle.store_api.specs.Parts.{Owns};
 ghost use Rattle.store_api.specs.Units.{MayDo};
 ghost use Rattle.tree_make.specs.Changes.{levels, tree};
 ghost use Rattle.tree_make.specs.Makes.{CountsNodes};
-ghost use Rattle.doc_vector.specs.Documents.{beside, IsDocumentMap, MakesMap};
+ghost use Rattle.doc_vector.specs.Documents.{beside_document, IsDocumentMap, MakesMap};
 
 use attr_types::Doc;
 use entry_ref::EntryRef;
@@ -25,7 +25,7 @@ pub fn set<const OFFSET_BITS: u32, S: Store<OFFSET_BITS>>(
     requires map { IsDocumentMap (S.records store.old) root }
     requires owns { Owns (S.ledger store.old) (S.records store.old) (tree root ∷ []) }
     ensures makes { IfOk result (MakesMap (S.ledger store.old) (S.ledger store.new) (S.records store.old) (S.records store.new) root.entry
-        (put (beside doc) (doc, items.entry) (tree_pairs (S.records store.old) root.entry))) }
+        (put (beside_document doc) (doc, items.entry) (tree_pairs (S.records store.old) root.entry))) }
     ensures counts { CountsNodes (S.ledger store.old) (S.ledger store.new) (2 * levels (S.records store.old) root.entry + 1) }
     ensures refuses { IfErr result (Refuses (S.ledger store.old) (S.ledger store.new) NODE_WORDS) }
     ensures may { MayDo (S.ledger store.old) (S.ledger store.new) }
@@ -42,10 +42,10 @@ pub fn remove<const OFFSET_BITS: u32, S: Store<OFFSET_BITS>>(
 ) -> Result<EntryRef<OFFSET_BITS>, StoreError>
     requires unit { (S.ledger store.old).unit ≡ true }
     requires map { IsDocumentMap (S.records store.old) root }
-    requires there { IsSome (lookup (beside doc) (tree_pairs (S.records store.old) root)) }
+    requires there { IsSome (lookup (beside_document doc) (tree_pairs (S.records store.old) root)) }
     requires owns { Owns (S.ledger store.old) (S.records store.old) (tree root ∷ []) }
     ensures makes { IfOk result (MakesMap (S.ledger store.old) (S.ledger store.new) (S.records store.old) (S.records store.new) root.entry
-        (take_out (beside doc) (tree_pairs (S.records store.old) root.entry))) }
+        (take_out (beside_document doc) (tree_pairs (S.records store.old) root.entry))) }
     ensures counts { CountsNodes (S.ledger store.old) (S.ledger store.new) (levels (S.records store.old) root.entry + 1) }
     ensures refuses { IfErr result (Refuses (S.ledger store.old) (S.ledger store.new) NODE_WORDS) }
     ensures may { MayDo (S.ledger store.old) (S.ledger store.new) }

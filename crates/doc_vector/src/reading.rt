@@ -2,7 +2,7 @@ ghost use Rattle.std.specs.Prelude.{◌≡◌};
 ghost use Rattle.tree_images.specs.Trees.{tree_pairs};
 ghost use Rattle.key_order.specs.Pairs.{lookup, seek};
 ghost use Rattle.tree_search.specs.Places.{IsAt, pairs_from};
-ghost use Rattle.doc_vector.specs.Documents.{beside, IsDocumentMap};
+ghost use Rattle.doc_vector.specs.Documents.{beside_document, IsDocumentMap};
 
 use attr_types::Doc;
 use entry_ref::EntryRef;
@@ -16,7 +16,7 @@ pub fn get<const OFFSET_BITS: u32, F: Frozen<OFFSET_BITS>>(
     doc: Doc,
 ) -> Option<EntryRef<OFFSET_BITS>>
     requires { IsDocumentMap (F.records frozen.old) root }
-    ensures items { result ≡ lookup (beside doc) (tree_pairs (F.records frozen.old) root.entry) }
+    ensures items { result ≡ lookup (beside_document doc) (tree_pairs (F.records frozen.old) root.entry) }
     ensures same { frozen.new ≡ frozen.old }
 {
     match find(frozen, root, &NumberKey(doc.number() as u64)) {
@@ -34,7 +34,7 @@ pub fn walk_from<const OFFSET_BITS: u32, F: Frozen<OFFSET_BITS>>(
 ) -> Cursor<OFFSET_BITS>
     requires { IsDocumentMap (F.records frozen.old) root }
     ensures at { IsAt (F.records frozen.old) result }
-    ensures pairs { pairs_from (F.records frozen.old) result ≡ seek (beside doc) (tree_pairs (F.records frozen.old) root.entry) }
+    ensures pairs { pairs_from (F.records frozen.old) result ≡ seek (beside_document doc) (tree_pairs (F.records frozen.old) root.entry) }
     ensures root { result.root ≡ root.entry }
     ensures same { frozen.new ≡ frozen.old }
 {

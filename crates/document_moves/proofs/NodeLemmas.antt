@@ -15,7 +15,7 @@ use Rattle.tree_make.specs.Makes.{CountsNodes}
 use Rattle.tree_touch.specs.Paths.{path_nodes, NoneIn}
 use Rattle.tree_touch.proofs.TreeLemmas.{none-apart}
 use Rattle.doc_vector.proofs.DocumentLemmas.{IsNumberTree}
-use Rattle.doc_vector.specs.Documents.{beside, IsDocumentPair}
+use Rattle.doc_vector.specs.Documents.{beside_document, IsDocumentPair}
 use Rattle.attr_images.specs.Documents.{items_at}
 use Rattle.attr_types.specs.declared.kind.Kind.{Kind}
 use Rattle.attr_types.specs.declared.kind.ValueType.{ValueType}
@@ -33,7 +33,7 @@ pub nodes_unmoved : {H : Type 0} (bits buffer : ℕ) (kind : Kind) (type : Value
 nodes_unmoved bits buffer kind type a m root doc is owns none = record {
   documents_are = is;
   column_is = refl;
-  apart = none-apart bits buffer m (beside doc) root none;
+  apart = none-apart bits buffer m (beside_document doc) root none;
   pairs = refl;
   stay = same_self m (pairs_own kind (tree_pairs m root));
   owns = owns;
@@ -63,7 +63,7 @@ module _ {H : Type 0} (bits buffer : ℕ) (kind : Kind) (type : ValueType) (a b 
   values_beside : AreBeside a m (tree root ∷ []) (documents_refer kind m root)
   values_beside = record { each = λ r among. let few = values.each r among in let whole = times-append r (tree_nodes m root) own in omega arith }
 
-  nodes_moved : (next : ℕ) → IsNumberTree n next → tree_pairs n next ≡ ps → NoneIn bits buffer (path_nodes n (beside doc) next)
+  nodes_moved : (next : ℕ) → IsNumberTree n next → tree_pairs n next ≡ ps → NoneIn bits buffer (path_nodes n (beside_document doc) next)
       → Turns a b m n (tree root ∷ []) (tree next ∷ []) → MovesDocumentNodes bits buffer doc kind type a b m n root next
   nodes_moved next keyed pairs apart turns =
       let step : After a b m n (tree root ∷ entries own ∷ []) (tree next ∷ entries own ∷ []) (entries own ∷ []) =
@@ -87,7 +87,7 @@ module _ {H : Type 0} (bits buffer : ℕ) (kind : Kind) (type : ValueType) (a b 
       }
 
   pub nodes_moved_by : (answer : Result ℕ StoreError) → IfOk answer (IsNumberTree n) → IfOk answer (λ r. tree_pairs n r ≡ ps)
-      → IfOk answer (λ r. NoneIn bits buffer (path_nodes n (beside doc) r))
+      → IfOk answer (λ r. NoneIn bits buffer (path_nodes n (beside_document doc) r))
       → IfOk answer (λ r. Turns a b m n (tree root ∷ []) (tree r ∷ [])) → IfOk answer (MovesDocumentNodes bits buffer doc kind type a b m n root)
   nodes_moved_by (Err e) keyed pairs apart turns = tt
   nodes_moved_by (Ok next) keyed pairs apart turns = nodes_moved next keyed pairs apart turns

@@ -17,7 +17,7 @@ use Rattle.store_api.proofs.Times.{all_from_times, among-times, times-among, tim
 use Rattle.store_api.proofs.Uses.{in-uses, uses-in}
 use Rattle.tree_images.specs.Trees.{tree_nodes, tree_pairs}
 use Rattle.tree_touch.specs.Paths.{NoneIn}
-use Rattle.doc_vector.specs.Documents.{beside}
+use Rattle.doc_vector.specs.Documents.{beside_document}
 use Rattle.attr_images.specs.Documents.{weighted, column_at, items_at}
 use Rattle.attr_images.specs.Postings.{index_of}
 use Rattle.attr_images.specs.Values.{stored_value, value_of}
@@ -106,7 +106,7 @@ module _ {H : Type 0} (bits buffer : ℕ) (kind : Kind) (type : ValueType) (a : 
     column_is = refl;
     apart = apart;
     others = refl;
-    stay = same_self m (pairs_own kind (Rattle.key_order.specs.Pairs.take_out (beside doc) (tree_pairs m root)));
+    stay = same_self m (pairs_own kind (Rattle.key_order.specs.Pairs.take_out (beside_document doc) (tree_pairs m root)));
     refers = λ r among. inl among;
     owns = owns_documents;
     turns = turns-same a m (documents_part kind root ∷ []);
@@ -119,7 +119,7 @@ module _ {H : Type 0} (bits buffer : ℕ) (kind : Kind) (type : ValueType) (a : 
   -- a document that is not there
   pub none_unmoved : lookup_in (is_at (nat_cmp doc)) column ≡ None → MovesItems bits buffer doc kind type a a m m root dictionary root
   none_unmoved none =
-      let gone : lookup (beside doc) (tree_pairs m root) ≡ None = none_mapped (items_at kind type m) (lookup (beside doc) (tree_pairs m root))
+      let gone : lookup (beside_document doc) (tree_pairs m root) ≡ None = none_mapped (items_at kind type m) (lookup (beside_document doc) (tree_pairs m root))
       (columned-found (items_at kind type m) doc (tree_pairs m root) can.documents_are.map_is.tree_is.ascends ∙ none) in
       items_unmoved (subst (λ (f : Option ℕ). AreItemsApart bits buffer kind m (unwrap_or f 0)) (sym gone) (record { own = tt; refer = tt }))
 
@@ -144,9 +144,9 @@ module _ {H : Type 0} (bits buffer : ℕ) (kind : Kind) (type : ValueType) (a : 
       own_owned : (r : ℕ) → Among r (own_at kind o next doc) → 0 < times r (documents_own kind o next)
       own_owned r among =
           let some = among-times r (own_at kind o next doc) among in
-          let part = times-out r (items_own kind) (beside doc) (tree_pairs o next) in
-          let here : times r (found (items_own kind) (lookup (beside doc) (tree_pairs o next))) ≡ times r (own_at kind o next doc) =
-          ap (times r) (found-or (items_own kind) (lookup (beside doc) (tree_pairs o next)) refl) in
+          let part = times-out r (items_own kind) (beside_document doc) (tree_pairs o next) in
+          let here : times r (found (items_own kind) (lookup (beside_document doc) (tree_pairs o next))) ≡ times r (own_at kind o next doc) =
+          ap (times r) (found-or (items_own kind) (lookup (beside_document doc) (tree_pairs o next)) refl) in
           let whole = times-append r (tree_nodes o next) (pairs_own kind (tree_pairs o next)) in
           omega arith
 

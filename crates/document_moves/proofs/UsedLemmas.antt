@@ -16,7 +16,7 @@ use Rattle.tree_images.specs.Trees.{nodes_below, root_level, tree_nodes, tree_pa
 use Rattle.tree_make.specs.Changes.{tree}
 use Rattle.tree_make.proofs.ChangeLemmas.{tree-wide}
 use Rattle.array_store.proofs.ClassLemmas.{filled_size}
-use Rattle.doc_vector.specs.Documents.{beside}
+use Rattle.doc_vector.specs.Documents.{beside_document}
 use Rattle.attr_images.specs.Documents.{column_at, items_at, IsItemsRecord}
 use Rattle.attr_images.specs.Words.{class_of, stored_items, unpacked, IsStoredList}
 use Rattle.attr_types.specs.Change.{most_items}
@@ -82,10 +82,10 @@ module _ {H : Type 0} (kind : Kind) (type : ValueType) (a : Ledger H) (m : Recor
       same : (x y : List Item) → Some x ≡ Some y → x ≡ y
       same x y e = cc
 
-  at : (ref : ℕ) × (lookup (beside doc) (tree_pairs m root) ≡ Some ref) × (items_at kind type m ref ≡ items)
-  at = mapped (lookup (beside doc) (tree_pairs m root)) (found_items kind type m root doc documents (lookup (beside doc) (tree_pairs m root)) refl ∙ there)
+  at : (ref : ℕ) × (lookup (beside_document doc) (tree_pairs m root) ≡ Some ref) × (items_at kind type m ref ≡ items)
+  at = mapped (lookup (beside_document doc) (tree_pairs m root)) (found_items kind type m root doc documents (lookup (beside_document doc) (tree_pairs m root)) refl ∙ there)
 
-  root_some : (top : ℕ) → lookup (beside doc) (tree_pairs m top) ≡ Some at.0 → 0 < top
+  root_some : (top : ℕ) → lookup (beside_document doc) (tree_pairs m top) ≡ Some at.0 → 0 < top
   root_some zero here = absurd (grind (arith, here))
   root_some (suc ref) here = omega arith
 
@@ -95,8 +95,8 @@ module _ {H : Type 0} (kind : Kind) (type : ValueType) (a : Ledger H) (m : Recor
   own_owned : (r : ℕ) → Among r (items_own kind at.0) → 0 < times r (documents_own kind m root)
   own_owned r among =
       let some = among-times r (items_own kind at.0) among in
-      let part = times-out r (items_own kind) (beside doc) (tree_pairs m root) in
-      let here : times r (found (items_own kind) (lookup (beside doc) (tree_pairs m root))) ≡ times r (items_own kind at.0) = ap (λ (o : Option ℕ). times r (found (items_own kind) o)) at.1 in
+      let part = times-out r (items_own kind) (beside_document doc) (tree_pairs m root) in
+      let here : times r (found (items_own kind) (lookup (beside_document doc) (tree_pairs m root))) ≡ times r (items_own kind at.0) = ap (λ (o : Option ℕ). times r (found (items_own kind) o)) at.1 in
       let whole = times-append r (tree_nodes m root) (pairs_own kind (tree_pairs m root)) in
       omega arith
 

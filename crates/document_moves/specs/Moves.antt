@@ -8,7 +8,7 @@ use Rattle.store_api.specs.Parts.{Owns, Turns}
 use Rattle.tree_images.specs.Trees.{tree_pairs}
 use Rattle.tree_make.specs.Changes.{tree}
 use Rattle.tree_touch.specs.Paths.{path_nodes, NoneIn}
-use Rattle.doc_vector.specs.Documents.{beside}
+use Rattle.doc_vector.specs.Documents.{beside_document}
 use Rattle.attr_images.specs.Documents.{column_at}
 use Rattle.attr_images.specs.Postings.{index_of}
 use Rattle.attr_images.specs.Values.{stored_value}
@@ -43,8 +43,8 @@ pub record MovesItems {H : Type 0} (bits buffer doc : ℕ) (kind : Kind) (type :
   pub documents_are : IsDocuments kind type n next
   pub column_is : column_at kind type n next ≡ column_at kind type m root
   pub apart : AreItemsApart bits buffer kind n (reference_at n next doc)
-  pub others : take_out (beside doc) (tree_pairs n next) ≡ take_out (beside doc) (tree_pairs m root)
-  pub stay : SameAt (pairs_own kind (take_out (beside doc) (tree_pairs m root))) m n
+  pub others : take_out (beside_document doc) (tree_pairs n next) ≡ take_out (beside_document doc) (tree_pairs m root)
+  pub stay : SameAt (pairs_own kind (take_out (beside_document doc) (tree_pairs m root))) m n
   pub refers : (r : ℕ) → Among r (documents_refer kind n next) → Among r (documents_refer kind m root) ⊎ IsKey m dictionary r
   pub owns : Owns new n (documents_part kind next ∷ [])
   pub turns : Turns old new m n (documents_part kind root ∷ []) (documents_part kind next ∷ [])
@@ -54,7 +54,7 @@ pub record MovesDocumentNodes {H : Type 0} (bits buffer doc : ℕ) (kind : Kind)
     (root next : ℕ) : Type 0 where
   pub documents_are : IsDocuments kind type n next
   pub column_is : column_at kind type n next ≡ column_at kind type m root
-  pub apart : NoneIn bits buffer (path_nodes n (beside doc) next)
+  pub apart : NoneIn bits buffer (path_nodes n (beside_document doc) next)
   pub pairs : tree_pairs n next ≡ tree_pairs m root
   pub stay : SameAt (pairs_own kind (tree_pairs m root)) m n
   pub owns : Owns new n (documents_part kind next ∷ [])

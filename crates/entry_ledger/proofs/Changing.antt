@@ -9,15 +9,15 @@ use Rattle.list_facts.proofs.Counts.{count_by-set}
 use Rattle.entry_ref.specs.References.{packed}
 use Rattle.store_api.specs.Ledgers.{is_width, widths, capacity, buffers_in}
 use Rattle.buffer_states.specs.declared.Buffer.{Buffer}
-use Rattle.buffer_states.specs.Buffers.{new_buffer, buffer_at, is_free, is_active, is_on_hold}
+use Rattle.buffer_states.specs.Buffers.{new_buffer, buffer_at, is_state_free, is_state_active, is_on_hold}
 use Rattle.buffer_shelf.specs.declared.state.State.{State}
 use Rattle.buffer_shelf.specs.declared.state.State.TheVariants.{Free, Returned, Made, InUse, LetGo, DroppedNow, Dropped}
 use Rattle.buffer_shelf.specs.States.{ShelfView, empty_shelf, spare_of, is_free_state, is_made, state_at, with_state_at}
 use Rattle.entry_shelves.specs.Shelves.{shelf_at, made_at, filled_at, spare_of_width, with_shelf}
 use Rattle.hold_lists.specs.Held.{HeldEntry}
-use Rattle.entry_ledger.specs.Entries.{EntriesView, Mark, is_up_to, count_marks}
+use Rattle.entry_ledger.specs.Entries.{EntriesView, Mark, is_timely, count_marks}
 use Rattle.entry_ledger.specs.Calls.{with_state}
-use Rattle.entry_ledger.specs.Ledgers.{LedgerView, entries_of, mark_of, unheld_in, unmade_of_width, is_buffer_of, IsCounted, IsList, IsSound, AreEntries}
+use Rattle.entry_ledger.specs.Ledgers.{LedgerView, entries_of, mark_of, unheld_in, unmade_of_width, is_buffer_of, IsCounted, IsHeldList, IsSound, AreEntries}
 use Rattle.entry_ledger.proofs.States.{state-set, changes-set, mark-same}
 use Rattle.entry_ledger.proofs.Flags.{flag-same, flags-set}
 use Rattle.entry_ledger.proofs.Counts.{fresh_of_width, spare-here, spare-other, spare-sealed, fresh-here, fresh-other, fresh-sealed}
@@ -25,7 +25,7 @@ use Rattle.entry_ledger.proofs.Unmade.{unmade-same}
 use Rattle.entry_ledger.proofs.Takes.{entries_in, buffers-same}
 use Rattle.entry_ledger.proofs.Sound.{buffers-in-same, state-cases}
 
-up-to-same : (e new : EntriesView) → new.last ≡ e.last → new.oldest ≡ e.oldest → new.generation ≡ e.generation → (s : State) → is_up_to new s ≡ is_up_to e s
+up-to-same : (e new : EntriesView) → new.last ≡ e.last → new.oldest ≡ e.oldest → new.generation ≡ e.generation → (s : State) → is_timely new s ≡ is_timely e s
 up-to-same e new last oldest generation Free = refl
 up-to-same e new last oldest generation Returned = refl
 up-to-same e new last oldest generation Made = refl
@@ -40,28 +40,28 @@ up-to-same e new last oldest generation (Dropped after g) =
 pub sound-state : (e new : EntriesView) (r : ℕ) (state : State) → IsSound e → new.words ≡ e.words → new.count ≡ e.count → new.last ≡ e.last → new.generation ≡ e.generation → new.oldest ≡ e.oldest
     → new.finished ≡ e.finished → new.mark ≡ e.mark → ((q : ℕ) → new.state q ≡ with_state e.state r state q)
     → ((w : ℕ) → (new.of_width w).made ≡ (e.of_width w).made) → ((w : ℕ) → (new.of_width w).buffers ≡ (e.of_width w).buffers) → ((w : ℕ) → (new.of_width w).filled ≡ (e.of_width w).filled)
-    → is_up_to e state ≡ true → IsSound new
+    → is_timely e state ≡ true → IsSound new
 sound-state e new r state k words count last generation oldest finished mark states made buffers filled up_to = record {
   order = omega (arith, k.order, oldest, generation);
-  up_to = λ q s is. moved s (state-cases e.state r state q s (sym (states q) ∙ is) (λ same new_is. ap (is_up_to e) (sym new_is) ∙ up_to) (λ was. k.up_to q s was));
+  up_to = λ q s is. moved s (state-cases e.state r state q s (sym (states q) ∙ is) (λ same new_is. ap (is_timely e) (sym new_is) ∙ up_to) (λ was. k.up_to q s was));
   marks = λ b. (let m = ap (λ f. f b) mark in record {
-    width = λ f. ap (λ (t : Mark). is_width t.width) m ∙ (k.marks b).width (ap (λ (t : Mark). is_free t.state) (sym m) ∙ f);
+    width = λ f. ap (λ (t : Mark). is_width t.width) m ∙ (k.marks b).width (ap (λ (t : Mark). is_state_free t.state) (sym m) ∙ f);
     from = λ h. subst (λ n. n ≤ (new.mark b).generation) (sym oldest) (subst (λ (t : Mark). e.oldest ≤ t.generation) (sym m) ((k.marks b).from (ap (λ (t : Mark). is_on_hold t.state) (sym m) ∙ h)));
     to = λ h. subst (λ n. (new.mark b).generation ≤ n) (sym generation) (subst (λ (t : Mark). t.generation ≤ e.generation) (sym m) ((k.marks b).to (ap (λ (t : Mark). is_on_hold t.state) (sym m) ∙ h)));
   });
   sealed = λ b is. (let m = ap (λ f. f b) mark in let old = k.sealed b (ap (λ (t : Mark). t.sealed) (sym m) ∙ is) in record {
     below = omega (arith, old.below, count);
-    active = ap (λ (t : Mark). is_active t.state) m ∙ old.active;
+    active = ap (λ (t : Mark). is_state_active t.state) m ∙ old.active;
     unfilled = λ f. old.unfilled (ap (λ (t : Mark). (e.of_width t.width).filled) (sym m) ∙ sym (filled (new.mark b).width) ∙ f);
   });
   finished = λ b is. ap (λ f. (f b).sealed) mark ∙ k.finished b (sym finished ∙ is);
   few_made = λ w. omega (arith, made w, k.few_made w);
   whole =
-      ap (λ f. count_marks is_free f new.count + buffers_in new.of_width widths) mark ∙ ap (λ n. count_marks is_free e.mark n + buffers_in new.of_width widths) count
-      ∙ ap (λ n. count_marks is_free e.mark e.count + n) (buffers-in-same new.of_width e.of_width buffers widths) ∙ k.whole ∙ sym count;
+      ap (λ f. count_marks is_state_free f new.count + buffers_in new.of_width widths) mark ∙ ap (λ n. count_marks is_state_free e.mark n + buffers_in new.of_width widths) count
+      ∙ ap (λ n. count_marks is_state_free e.mark e.count + n) (buffers-in-same new.of_width e.of_width buffers widths) ∙ k.whole ∙ sym count;
 }
   where
-    moved : (s : State) → is_up_to e s ≡ true → is_up_to new s ≡ true
+    moved : (s : State) → is_timely e s ≡ true → is_timely new s ≡ true
     moved s is = up-to-same e new last oldest generation s ∙ is
 
 module _ (s : ShelfView) (x : ℕ) (state : State) (there : x < length s.states) where
@@ -146,14 +146,14 @@ module _ (bits : ℕ) (v : LedgerView) (held : List HeldEntry) (room unheld : �
   pub change-count : (entries_in bits changed_view).count ≡ (entries_in bits v).count
   change-count = length-set {A = ShelfView} v.shelves.shelves b new_shelf
 
-  pub change-sound : is_up_to (entries_in bits v) state ≡ true → IsSound (entries_in bits changed_view)
+  pub change-sound : is_timely (entries_in bits v) state ≡ true → IsSound (entries_in bits changed_view)
   unfolding entries_of
   change-sound up_to = sound-state (entries_in bits v) (entries_in bits changed_view) (packed bits (x + 1) b) state k.sound refl change-count refl refl refl refl change-mark change-state
       (λ w. refl) (λ w. buffers-same v.buffers b buffer within marked w) (λ w. refl) up_to
 
   -- all but the list
-  pub change-kept : buffer.filled ≡ (buffer_at v.buffers b).filled → (later : List HeldEntry) (space left : ℕ) → IsCounted v.shelves.words v.last buffer new_shelf → is_up_to (entries_in bits v) state ≡ true
-      → IsList bits (entries_in bits changed_view) later → left ≡ sum_by unheld_in (set v.shelves.shelves b new_shelf) → left ≤ space → AreEntries bits changed_view later space left
+  pub change-kept : buffer.filled ≡ (buffer_at v.buffers b).filled → (later : List HeldEntry) (space left : ℕ) → IsCounted v.shelves.words v.last buffer new_shelf → is_timely (entries_in bits v) state ≡ true
+      → IsHeldList bits (entries_in bits changed_view) later → left ≡ sum_by unheld_in (set v.shelves.shelves b new_shelf) → left ≤ space → AreEntries bits changed_view later space left
   unfolding entries_of
   change-kept flag later space left counted up_to list sum fits = record {
     count = length-set {A = Buffer} v.buffers b buffer ∙ k.count ∙ sym change-count;

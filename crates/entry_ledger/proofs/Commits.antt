@@ -12,14 +12,14 @@ use Rattle.list_facts.specs.Counting.{one_if}
 use Rattle.entry_ref.specs.References.{buffer_of, packed, buffer_limit}
 use Rattle.store_api.specs.Ledgers.{capacity}
 use Rattle.buffer_states.specs.declared.Buffer.{Buffer}
-use Rattle.buffer_states.specs.Buffers.{new_buffer, buffer_at, with_dropped_held, is_active, is_on_hold}
+use Rattle.buffer_states.specs.Buffers.{new_buffer, buffer_at, with_dropped_held, is_state_active, is_on_hold}
 use Rattle.buffer_shelf.specs.declared.state.State.{State}
 use Rattle.buffer_shelf.specs.declared.state.State.TheVariants.{Free, Returned, Made, InUse, LetGo, DroppedNow, Dropped}
 use Rattle.buffer_shelf.specs.States.{ShelfView, is_touched, is_held, state_at}
 use Rattle.entry_shelves.specs.Shelves.{shelf_at, made_at}
 use Rattle.hold_lists.specs.Held.{HeldEntry, HoldTag, tagged_by, tag_or}
-use Rattle.entry_ledger.specs.Entries.{EntriesView, is_up_to, is_settled_entry}
-use Rattle.entry_ledger.specs.Ledgers.{LedgerView, entries_of, mark_of, is_since, is_buffer_of, tag_fits, tag_below, is_in_list, IsCounted, IsFlagged, IsList, IsSound, AreEntries, unmade_of_width}
+use Rattle.entry_ledger.specs.Entries.{EntriesView, is_timely, is_settled_entry}
+use Rattle.entry_ledger.specs.Ledgers.{LedgerView, entries_of, mark_of, is_since, is_buffer_of, tag_fits, tag_below, is_in_list, IsCounted, IsFlagged, IsHeldList, IsSound, AreEntries, unmade_of_width}
 use Rattle.entry_ledger.proofs.States.{buffer-map}
 use Rattle.entry_ledger.proofs.Takes.{entries_in}
 use Rattle.entry_ledger.proofs.Good.{within-shelf, room-of}
@@ -54,7 +54,7 @@ count-no test (x ∷ xs) each =
 
 -- a settled state that names no commit after the last: held from the next commit on if it was dropped
 module _ (e : EntriesView) (number : ℕ) (next : e.last + 1 ≡ number) where
-  pub holds : (s : State) → is_touched s ≡ false → is_up_to e s ≡ true → one_if (is_held number s) ≡ one_if (is_held e.last s) + one_if (is_since e.last s)
+  pub holds : (s : State) → is_touched s ≡ false → is_timely e s ≡ true → one_if (is_held number s) ≡ one_if (is_held e.last s) + one_if (is_since e.last s)
   holds Free t is = refl
   holds Returned t is = absurd (true≢false t)
   holds Made t is = absurd (true≢false t)
@@ -70,7 +70,7 @@ module _ (e : EntriesView) (number : ℕ) (next : e.last + 1 ≡ number) where
       by_test true = refl
       by_test false = refl
 
-  pub none-since : (s : State) → is_touched s ≡ false → is_up_to e s ≡ true → is_since number s ≡ false
+  pub none-since : (s : State) → is_touched s ≡ false → is_timely e s ≡ true → is_since number s ≡ false
   none-since Free t is = refl
   none-since Returned t is = refl
   none-since Made t is = refl
@@ -81,7 +81,7 @@ module _ (e : EntriesView) (number : ℕ) (next : e.last + 1 ≡ number) where
       let low : after ≤ e.last = leb-true after e.last (and_parts (leb after e.last) (leb e.oldest g) (and_parts (leb after e.last && leb e.oldest g) (leb g e.generation) is).0).0 in
       ne_eqb after number (λ same. omega (arith, same, low, next))
 
-  pub up-to-next : (s : State) → is_up_to e s ≡ true → is_up_to (record e { last = number }) s ≡ true
+  pub up-to-next : (s : State) → is_timely e s ≡ true → is_timely (record e { last = number }) s ≡ true
   up-to-next Free is = refl
   up-to-next Returned is = refl
   up-to-next Made is = refl
@@ -125,7 +125,7 @@ module _ (e : EntriesView) (number : ℕ) (next : e.last + 1 ≡ number) where
   tag-below-next g None is = absurd (true≢false (sym is))
   tag-below-next g (Some tag) is = is
 
-  pub list-tagged : (bits : ℕ) (held : List HeldEntry) → IsList bits e held → IsList bits (record e { last = number }) (map (tagged_by e.generation number) held)
+  pub list-tagged : (bits : ℕ) (held : List HeldEntry) → IsHeldList bits e held → IsHeldList bits (record e { last = number }) (map (tagged_by e.generation number) held)
   list-tagged bits held k = record {
     each = All-map (λ h. is_in_list bits (record e { last = number }) h ≡ true) (tagged_by e.generation number) held
         (All-weaker (λ h. is_in_list bits e h ≡ true) (λ h. is_in_list bits (record e { last = number }) (tagged_by e.generation number h) ≡ true) each held k.each);
@@ -138,7 +138,7 @@ module _ (e : EntriesView) (number : ℕ) (next : e.last + 1 ≡ number) where
   }
     where
       each : (h : HeldEntry) → is_in_list bits e h ≡ true → is_in_list bits (record e { last = number }) (tagged_by e.generation number h) ≡ true
-      each h = by_state (is_active (e.mark (buffer_of bits h.entry)).state) (is_on_hold (e.mark (buffer_of bits h.entry)).state)
+      each h = by_state (is_state_active (e.mark (buffer_of bits h.entry)).state) (is_on_hold (e.mark (buffer_of bits h.entry)).state)
         where
           by_state : (a o : Bool) → cond a (tag_fits e.last e.generation h.tag (e.state h.entry)) (cond o (tag_below (e.mark (buffer_of bits h.entry)).generation h.tag) false) ≡ true
               → cond a (tag_fits number e.generation (tag_or (record { generation = e.generation; commit = number }) h.tag) (e.state h.entry))
@@ -162,7 +162,7 @@ module _ (bits : ℕ) (v : LedgerView) (held : List HeldEntry) (room unheld : �
   shelf b = shelf_at v.shelves.shelves b
 
   -- each state of a shelf is settled and up to the last commit
-  plain : (b i : ℕ) → i < length (shelf b).states → (is_touched (state_at (shelf b).states i) ≡ false) × (is_up_to (entries_in bits v) (state_at (shelf b).states i) ≡ true)
+  plain : (b i : ℕ) → i < length (shelf b).states → (is_touched (state_at (shelf b).states i) ≡ false) × (is_timely (entries_in bits v) (state_at (shelf b).states i) ≡ true)
   plain b i below =
       let some : 0 < (shelf b).room = omega (arith, below, (k.counted b).of.taken) in
       let low : b < buffer_limit bits = omega (arith, within-shelf v.shelves.shelves b some, k.count, k.few_buffers) in
@@ -228,7 +228,7 @@ module _ (bits : ℕ) (v : LedgerView) (held : List HeldEntry) (room unheld : �
       few_made = k.sound.few_made;
       whole = k.sound.whole;
     });
-    list = subst (λ e. IsList bits e (map (tagged_by v.generation number) held)) (sym commit-entries) (list-tagged (entries_in bits v) number next bits held k.list);
+    list = subst (λ e. IsHeldList bits e (map (tagged_by v.generation number) held)) (sym commit-entries) (list-tagged (entries_in bits v) number next bits held k.list);
     unheld_is = k.unheld_is;
     fits = k.fits;
   }

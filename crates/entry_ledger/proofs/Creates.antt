@@ -7,13 +7,13 @@ use Rattle.std.proofs.lemmas.Bool.{true≢false}
 use Rattle.entry_ref.specs.References.{buffer_of, offset_of, buffer_limit, offset_limit}
 use Rattle.store_api.specs.Ledgers.{is_width, is_this, widths, capacity, buffers_in, no_counts}
 use Rattle.buffer_states.specs.declared.Buffer.{Buffer}
-use Rattle.buffer_states.specs.Buffers.{new_buffer, buffer_at, is_free}
+use Rattle.buffer_states.specs.Buffers.{new_buffer, buffer_at, is_state_free}
 use Rattle.buffer_shelf.specs.declared.state.State.{State}
 use Rattle.buffer_shelf.specs.States.{ShelfView, empty_shelf}
 use Rattle.entry_shelves.specs.Shelves.{shelf_at, row_of, made_at, filled_at, spare_in, spare_of_width}
 use Rattle.entry_ledger.specs.Entries.{EntriesView, count_marks}
 use Rattle.entry_ledger.specs.Calls.{new_entries, free_mark}
-use Rattle.entry_ledger.specs.Ledgers.{LedgerView, entries_of, state_in, mark_of, counts_of, fresh_in, unheld_in, unmade_of_width, is_buffer_of, IsCounted, IsFlagged, IsList, IsSound, AreEntries}
+use Rattle.entry_ledger.specs.Ledgers.{LedgerView, entries_of, state_in, mark_of, counts_of, fresh_in, unheld_in, unmade_of_width, is_buffer_of, IsCounted, IsFlagged, IsHeldList, IsSound, AreEntries}
 use Rattle.entry_ledger.proofs.Takes.{entries_in}
 use Rattle.entry_ledger.proofs.Opens.{none-either}
 
@@ -81,7 +81,7 @@ module _ (bits buffers words : ℕ) where
     finished = None;
   }
 
-  all-free : (n : ℕ) → count_marks is_free (λ b. free_mark) n ≡ n
+  all-free : (n : ℕ) → count_marks is_state_free (λ b. free_mark) n ≡ n
   all-free zero = refl
   all-free (suc n) = omega (arith, all-free n)
 
@@ -103,7 +103,7 @@ module _ (bits buffers words : ℕ) where
       none-number : (b : ℕ) → None ≡ Some b → ⊥
       none-number b is = absurd (cc)
 
-  list-new : IsList bits (new_entries buffers words) []
+  list-new : IsHeldList bits (new_entries buffers words) []
   list-new = record {
     each = λ i d below. absurd (omega (arith, below));
     apart = λ i j d before below. absurd (omega (arith, below));
@@ -155,7 +155,7 @@ module _ (bits buffers words : ℕ) where
       flagged = flagged-new;
       enough = enough-new;
       sound = subst IsSound (sym created-entries) sound-new;
-      list = subst (λ u. IsList bits u []) (sym created-entries) list-new;
+      list = subst (λ u. IsHeldList bits u []) (sym created-entries) list-new;
       unheld_is = sym (sum-none unheld_in empty_shelf refl buffers);
       fits = omega arith;
     }

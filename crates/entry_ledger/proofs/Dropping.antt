@@ -8,7 +8,7 @@ use Rattle.buffer_states.specs.declared.Buffer.{Buffer}
 use Rattle.buffer_shelf.specs.declared.state.State.{State}
 use Rattle.buffer_shelf.specs.declared.state.State.TheVariants.{Free, Returned, Made, InUse, LetGo, DroppedNow, Dropped}
 use Rattle.buffer_shelf.specs.States.{ShelfView, is_free_state, is_made, is_used, is_dead, is_held, is_dropped, state_at, dropped, with_state_at}
-use Rattle.entry_ledger.specs.Entries.{EntriesView, is_up_to}
+use Rattle.entry_ledger.specs.Entries.{EntriesView, is_timely}
 use Rattle.entry_ledger.specs.Ledgers.{is_since, dropped_buffer, IsCounted}
 use Rattle.entry_ledger.proofs.Counted.{count-keep, count-more, words-more}
 
@@ -34,13 +34,13 @@ is-drop last LetGo used = absurd (cc)
 is-drop last (DroppedNow since) used = absurd (cc)
 is-drop last (Dropped since g) used = absurd (cc)
 
-pub drop-up-to : (e : EntriesView) (was : State) → is_used was ≡ true → is_up_to e was ≡ true → is_up_to e (dropped e.last was) ≡ true
+pub drop-up-to : (e : EntriesView) (was : State) → is_used was ≡ true → is_timely e was ≡ true → is_timely e (dropped e.last was) ≡ true
 drop-up-to e Free used up_to = absurd (cc)
 drop-up-to e Returned used up_to = absurd (cc)
 drop-up-to e Made used up_to = refl
 drop-up-to e (InUse since) used up_to = elim (cases_eq since e.last) [
-  | inl same ↦ ap (λ t. is_up_to e (cond t LetGo (DroppedNow since))) (eq-eqb since e.last same)
-  | inr ne ↦ ap (λ t. is_up_to e (cond t LetGo (DroppedNow since))) (ne_eqb since e.last ne) ∙ lt-ltb since e.last (let low = leb-true since e.last up_to in omega (arith, low, ne))
+  | inl same ↦ ap (λ t. is_timely e (cond t LetGo (DroppedNow since))) (eq-eqb since e.last same)
+  | inr ne ↦ ap (λ t. is_timely e (cond t LetGo (DroppedNow since))) (ne_eqb since e.last ne) ∙ lt-ltb since e.last (let low = leb-true since e.last up_to in omega (arith, low, ne))
 ]
 drop-up-to e LetGo used up_to = absurd (cc)
 drop-up-to e (DroppedNow since) used up_to = absurd (cc)

@@ -7,7 +7,7 @@ use Rattle.std.proofs.lemmas.Bool.{cases_eq, eq-eqb, ne_eqb, true≢false}
 use Rattle.entry_ref.specs.References.{offset_of, packed, buffer_limit}
 use Rattle.entry_ref.proofs.Bits.{packed-buffer, packed-offset}
 use Rattle.buffer_states.specs.declared.Buffer.{Buffer}
-use Rattle.buffer_states.specs.Buffers.{buffer_at, is_active}
+use Rattle.buffer_states.specs.Buffers.{buffer_at, is_state_active}
 use Rattle.buffer_shelf.specs.declared.state.State.{State}
 use Rattle.buffer_shelf.specs.declared.state.State.TheVariants.{Free, Returned, Made, InUse, LetGo, DroppedNow, Dropped}
 use Rattle.buffer_shelf.specs.States.{ShelfView, empty_shelf, is_used, is_dead, is_dropped, state_at, dropped, with_state_at}
@@ -122,7 +122,7 @@ module _ (bits : ℕ) (v : LedgerView) (held : List HeldEntry) (room unheld : �
       (drop-up-to (entries_in bits v) was place.used (k.sound.up_to (packed bits (x + 1) b) was (place-state)))
       (list-keep bits (entries_in bits v) (entries_in bits after) held (packed bits (x + 1) b) now k.list refl refl
       (λ a. ap (λ f. f a) (change-mark bits v held room unheld k b x now h place.there buffer marked)) (change-state bits v held room unheld k b x now h place.there buffer marked)
-      (ap (λ n. is_active ((entries_in bits v).mark n).state) (packed-buffer bits (x + 1) b low) ∙ place-active bits v held room unheld k b x place.there) was-kept drop_is.after)
+      (ap (λ n. is_state_active ((entries_in bits v).mark n).state) (packed-buffer bits (x + 1) b low) ∙ place-active bits v held room unheld k b x place.there) was-kept drop_is.after)
       (let count = sum_by-set unheld_in v.shelves.shelves b (with_state_at shelf x now) empty_shelf h in
       let same : unheld_in (with_state_at shelf x now) ≡ unheld_in shelf = ap (λ n. shelf.room - n) (count-keep is_dropped shelf.states x now place.there drop_is.dropped_is) in
       omega (arith, count, same, k.unheld_is))

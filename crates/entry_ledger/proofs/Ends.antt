@@ -4,14 +4,14 @@ use Rattle.std.specs.Option.{option_map}
 use Rattle.std.proofs.lemmas.Bool.{cases_eq, eq-eqb, ne_eqb, not-true}
 use Rattle.store_api.specs.Calls.{EndsOf}
 use Rattle.buffer_shelf.specs.declared.state.State.{State}
-use Rattle.buffer_shelf.specs.States.{is_touched, settled}
+use Rattle.buffer_shelf.specs.States.{is_touched, settled_state}
 use Rattle.buffer_shelf.proofs.Settling.{settled-same, settled-again}
 use Rattle.entry_ledger.specs.Entries.{EntriesView, is_settled_entry}
 use Rattle.entry_ledger.specs.Calls.{StepsEnd, IsEnded, Accepts, Undoes, with_state}
 
 -- what a unit's end has made of the entries so far
 pub record Ending (accepts : Bool) (first e : EntriesView) : Type 0 where
-  pub states : (q : ℕ) → option_map (settled accepts first.last first.generation) (e.state q) ≡ option_map (settled accepts first.last first.generation) (first.state q)
+  pub states : (q : ℕ) → option_map (settled_state accepts first.last first.generation) (e.state q) ≡ option_map (settled_state accepts first.last first.generation) (first.state q)
   pub counts : (w : ℕ) → EndsOf (first.of_width w) (e.of_width w)
   pub even : accepts ≡ false → (w : ℕ) → (e.of_width w).spare + (e.of_width w).fresh ≡ (first.of_width w).spare + (first.of_width w).fresh
   pub same : e ≡ record first { state = e.state; of_width = e.of_width }
@@ -26,7 +26,7 @@ ending-start accepts e = record {
 
 pub ending-step : (accepts : Bool) (first e new : EntriesView) → Ending accepts first e → StepsEnd accepts e new → Ending accepts first new
 ending-step accepts first e new k step = record {
-  states = λ q. ap (option_map (settled accepts first.last first.generation)) (step.state q) ∙ moved q ∙ k.states q;
+  states = λ q. ap (option_map (settled_state accepts first.last first.generation)) (step.state q) ∙ moved q ∙ k.states q;
   counts = λ w. (let a = k.counts w in let b = step.counts w in record {
     made = b.made ∙ a.made;
     buffers = b.buffers ∙ a.buffers;
@@ -44,19 +44,19 @@ ending-step accepts first e new k step = record {
     generation = ap (λ (t : EntriesView). t.generation) k.same
 
     -- settled twice is settled once
-    moved : (q : ℕ) → option_map (settled accepts first.last first.generation) (with_state e.state step.entry (settled accepts e.last e.generation step.was) q)
-        ≡ option_map (settled accepts first.last first.generation) (e.state q)
+    moved : (q : ℕ) → option_map (settled_state accepts first.last first.generation) (with_state e.state step.entry (settled_state accepts e.last e.generation step.was) q)
+        ≡ option_map (settled_state accepts first.last first.generation) (e.state q)
     moved q = elim (cases_eq q step.entry) [
       | inl same ↦
-          ap (λ t. option_map (settled accepts first.last first.generation) (cond t (Some (settled accepts e.last e.generation step.was)) (e.state q))) (eq-eqb q step.entry same)
-          ∙ ap (λ l. Some (settled accepts first.last first.generation (settled accepts l e.generation step.was))) last
-          ∙ ap (λ g. Some (settled accepts first.last first.generation (settled accepts first.last g step.was))) generation
+          ap (λ t. option_map (settled_state accepts first.last first.generation) (cond t (Some (settled_state accepts e.last e.generation step.was)) (e.state q))) (eq-eqb q step.entry same)
+          ∙ ap (λ l. Some (settled_state accepts first.last first.generation (settled_state accepts l e.generation step.was))) last
+          ∙ ap (λ g. Some (settled_state accepts first.last first.generation (settled_state accepts first.last g step.was))) generation
           ∙ ap Some (settled-again accepts first.last first.generation step.was)
-          ∙ ap (option_map (settled accepts first.last first.generation)) (sym step.is ∙ ap e.state (sym same))
-      | inr ne ↦ ap (λ t. option_map (settled accepts first.last first.generation) (cond t (Some (settled accepts e.last e.generation step.was)) (e.state q))) (ne_eqb q step.entry ne)
+          ∙ ap (option_map (settled_state accepts first.last first.generation)) (sym step.is ∙ ap e.state (sym same))
+      | inr ne ↦ ap (λ t. option_map (settled_state accepts first.last first.generation) (cond t (Some (settled_state accepts e.last e.generation step.was)) (e.state q))) (ne_eqb q step.entry ne)
     ]
 
-kept : (accepts : Bool) (last generation : ℕ) (o : Option State) → is_settled_entry o ≡ true → option_map (settled accepts last generation) o ≡ o
+kept : (accepts : Bool) (last generation : ℕ) (o : Option State) → is_settled_entry o ≡ true → option_map (settled_state accepts last generation) o ≡ o
 kept accepts last generation None is = refl
 kept accepts last generation (Some s) is = ap Some (settled-same accepts last generation s (not-true (is_touched s) is))
 

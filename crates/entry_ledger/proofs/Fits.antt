@@ -6,7 +6,7 @@ use Rattle.std.proofs.Math.Nat.{mul_comm, mul-le-mul_right, div-mul-le_self, div
 use Rattle.std.proofs.lemmas.List.Sums.{sum_by-set, count_by-le-length}
 use Rattle.entry_ref.specs.References.{offset_limit}
 use Rattle.store_api.specs.Ledgers.{capacity}
-use Rattle.buffer_states.specs.Buffers.{buffer_at, is_active}
+use Rattle.buffer_states.specs.Buffers.{buffer_at, is_state_active}
 use Rattle.buffer_shelf.specs.declared.state.State.{State}
 use Rattle.buffer_shelf.specs.declared.state.State.TheVariants.{Dropped}
 use Rattle.buffer_shelf.specs.States.{ShelfView, empty_shelf, is_dropped, state_at}
@@ -24,10 +24,10 @@ module _ (bits : ℕ) (v : LedgerView) (held : List HeldEntry) (room unheld : �
   pub place-room : (0 < shelf.width) × (shelf.room ≡ capacity v.shelves.words shelf.width)
   place-room = (let of = (k.counted b).of in room-of v.shelves.words shelf of (omega (arith, there, of.taken)))
 
-  pub place-active : is_active (buffer_at v.buffers b).state ≡ true
-  place-active = by_test (is_active (buffer_at v.buffers b).state) refl
+  pub place-active : is_state_active (buffer_at v.buffers b).state ≡ true
+  place-active = by_test (is_state_active (buffer_at v.buffers b).state) refl
     where
-      by_test : (a : Bool) → is_active (buffer_at v.buffers b).state ≡ a → a ≡ true
+      by_test : (a : Bool) → is_state_active (buffer_at v.buffers b).state ≡ a → a ≡ true
       by_test true is = refl
       by_test false is =
           let none : shelf.width ≡ 0 = (k.counted b).width ∙ ap (λ a. cond a (buffer_at v.buffers b).width 0) is in

@@ -14,15 +14,15 @@ use Rattle.store_api.specs.Ledgers.{is_this, capacity}
 use Rattle.buffer_states.specs.declared.Buffer.{Buffer}
 use Rattle.buffer_states.specs.declared.BufferState.{BufferState}
 use Rattle.buffer_states.specs.declared.BufferState.TheVariants.{Free, Active, OnHold}
-use Rattle.buffer_states.specs.Buffers.{new_buffer, buffer_at, freed_below, is_active, is_on_hold}
+use Rattle.buffer_states.specs.Buffers.{new_buffer, buffer_at, freed_below, is_state_active, is_on_hold}
 use Rattle.buffer_shelf.specs.declared.state.State.{State}
 use Rattle.buffer_shelf.specs.declared.state.State.TheVariants.{Free as FreeState, Returned, Made, InUse, LetGo, DroppedNow, Dropped}
 use Rattle.buffer_shelf.specs.States.{is_dead, is_held}
 use Rattle.entry_shelves.specs.Shelves.{shelf_at, row_of, filled_at}
 use Rattle.hold_lists.specs.Held.{HeldEntry, HoldTag, untagged, is_below, is_tag_below}
-use Rattle.entry_ledger.specs.Entries.{EntriesView, Mark, IsMark, IsSealed, width_of, is_up_to}
+use Rattle.entry_ledger.specs.Entries.{EntriesView, Mark, IsMark, IsSealed, width_of, is_timely}
 use Rattle.entry_ledger.specs.Calls.{freed, freed_mark, free_mark, Frees}
-use Rattle.entry_ledger.specs.Ledgers.{LedgerView, entries_of, mark_of, is_since, is_buffer_of, tag_fits, tag_below, held_fits, is_in_list, IsCounted, IsFlagged, IsList, IsSound, AreEntries}
+use Rattle.entry_ledger.specs.Ledgers.{LedgerView, entries_of, mark_of, is_since, is_buffer_of, tag_fits, tag_below, held_fits, is_in_list, IsCounted, IsFlagged, IsHeldList, IsSound, AreEntries}
 use Rattle.entry_ledger.proofs.States.{buffer-map}
 use Rattle.entry_ledger.proofs.Good.{entries-are}
 use Rattle.entry_ledger.proofs.Takes.{entries_in}
@@ -76,7 +76,7 @@ none-filled : (fs : List (Option ℕ)) → length fs ≡ 11 → filled_at fs 0 �
 unfolding row_of
 none-filled fs eleven = past-rows fs 11 (omega (arith, eleven))
 
-hold-inactive : (s : BufferState) → is_on_hold s ≡ true → is_active s ≡ false
+hold-inactive : (s : BufferState) → is_on_hold s ≡ true → is_state_active s ≡ false
 hold-inactive Free is = refl
 hold-inactive Active is = absurd (true≢false (sym is))
 hold-inactive OnHold is = refl
@@ -100,7 +100,7 @@ module _ (bits : ℕ) (v : LedgerView) (held : List HeldEntry) (room unheld : �
   sound : IsSound (entries_in bits v)
   sound = sound-in bits v k.sound
 
-  list_in : IsList bits (entries_in bits v) held
+  list_in : IsHeldList bits (entries_in bits v) held
   unfolding entries_of
   list_in = k.list
 
@@ -115,16 +115,16 @@ module _ (bits : ℕ) (v : LedgerView) (held : List HeldEntry) (room unheld : �
   dropped-since r after g is = any-at (λ (h : HeldEntry). eqb h.entry r) held (list_in.all r after g is) (λ i below same.
       (let h = get_or held i (untagged 0) in
       let entry : h.entry ≡ r = eqb-true h.entry r same in
-      let active : is_active (buffer_at v.buffers (buffer_of bits h.entry)).state ≡ true = ap (λ n. is_active (buffer_at v.buffers (buffer_of bits n)).state) entry ∙ active_of in
+      let active : is_state_active (buffer_at v.buffers (buffer_of bits h.entry)).state ≡ true = ap (λ n. is_state_active (buffer_at v.buffers (buffer_of bits n)).state) entry ∙ active_of in
       let fits : tag_fits v.last v.generation h.tag ((entries_in bits v).state h.entry) ≡ true =
       sym (ap (λ t. cond t (tag_fits v.last v.generation h.tag ((entries_in bits v).state h.entry))
       (cond (is_on_hold (buffer_at v.buffers (buffer_of bits h.entry)).state) (tag_below (buffer_at v.buffers (buffer_of bits h.entry)).generation h.tag) false)) active) ∙ listed i below in
       kept-tag v.last v.generation oldest h.tag after g current (subst (λ s. tag_fits v.last v.generation h.tag s ≡ true) (ap (entries_in bits v).state entry ∙ is) fits) (high i below)))
     where
-      active_of : is_active (buffer_at v.buffers (buffer_of bits r)).state ≡ true
-      active_of = by_test (is_active (buffer_at v.buffers (buffer_of bits r)).state) refl
+      active_of : is_state_active (buffer_at v.buffers (buffer_of bits r)).state ≡ true
+      active_of = by_test (is_state_active (buffer_at v.buffers (buffer_of bits r)).state) refl
         where
-          by_test : (t : Bool) → is_active (buffer_at v.buffers (buffer_of bits r)).state ≡ t → t ≡ true
+          by_test : (t : Bool) → is_state_active (buffer_at v.buffers (buffer_of bits r)).state ≡ t → t ≡ true
           by_test true e = refl
           by_test false e =
               let zero_is : width_of (entries_in bits v) (buffer_of bits r) ≡ 0 = ap (λ t. cond t (buffer_at v.buffers (buffer_of bits r)).width 0) e in
@@ -184,14 +184,14 @@ module _ (bits : ℕ) (v : LedgerView) (held : List HeldEntry) (room unheld : �
 
   sealed-freed : (b : ℕ) → (at b).sealed ≡ true → IsSealed (entries_in bits freed_view) b
   sealed-freed b is =
-      let all = each-at (λ x. x.sealed ≡ true → (b < length v.shelves.shelves) × (is_active x.state ≡ true) × (filled_at v.shelves.filled x.width ≡ Some b → ⊥)) b
+      let all = each-at (λ x. x.sealed ≡ true → (b < length v.shelves.shelves) × (is_state_active x.state ≡ true) × (filled_at v.shelves.filled x.width ≡ Some b → ⊥)) b
       (λ from s. ((sound.sealed b s).below, (sound.sealed b s).active, (sound.sealed b s).unfilled)) (λ held low s. absurd (true≢false (sym s))) is in
       record { below = all.0; active = all.1; unfilled = all.2 }
 
   finished-freed : (b : ℕ) → v.finished ≡ Some b → (at b).sealed ≡ true
   finished-freed b is = each-at (λ x. x.sealed ≡ true) b (λ from. sound.finished b is) (λ held low. absurd (true≢false (sym (sound.finished b is) ∙ hold-sealed b held)))
 
-  up-freed : (r : ℕ) (s : State) → (entries_in bits v).state r ≡ Some s → is_up_to (entries_in bits freed_view) s ≡ true
+  up-freed : (r : ℕ) (s : State) → (entries_in bits v).state r ≡ Some s → is_timely (entries_in bits freed_view) s ≡ true
   up-freed r FreeState is = refl
   up-freed r Returned is = refl
   up-freed r Made is = refl
@@ -206,7 +206,7 @@ module _ (bits : ℕ) (v : LedgerView) (held : List HeldEntry) (room unheld : �
       middle true false c d high is = absurd (true≢false (sym is))
       middle false b c d high is = absurd (true≢false (sym is))
 
-  list-freed : IsList bits (entries_in bits freed_view) held
+  list-freed : IsHeldList bits (entries_in bits freed_view) held
   list-freed = record {
     each = All-from_get_or (λ h. is_in_list bits (entries_in bits freed_view) h ≡ true) held (untagged 0) (λ i below.
         (let h = get_or held i (untagged 0) in

@@ -10,7 +10,7 @@ use Rattle.store_api.specs.Ledgers.{is_width, is_this}
 use Rattle.buffer_states.specs.declared.Buffer.{Buffer}
 use Rattle.buffer_states.specs.declared.BufferState.{BufferState}
 use Rattle.buffer_states.specs.declared.BufferState.TheVariants.{Free, Active, OnHold}
-use Rattle.buffer_states.specs.Buffers.{buffer_at, new_buffer, is_free, is_active}
+use Rattle.buffer_states.specs.Buffers.{buffer_at, new_buffer, is_state_free, is_state_active}
 use Rattle.buffer_states.specs.Buffers.{IsLowestFree as IsLowestFreeBuffer}
 use Rattle.entry_shelves.specs.Shelves.{shelf_at, filled_at}
 use Rattle.entry_shelves.proofs.Rows.{width-bounds}
@@ -48,18 +48,18 @@ past-last [] b past = refl
 past-last (x ∷ xs) zero past = absurd (omega (arith, past))
 past-last (x ∷ xs) (suc b) past = past-last xs b (omega (arith, past))
 
-pub active-inside : (buffers : List Buffer) (b : ℕ) → is_active (buffer_at buffers b).state ≡ true → b < length buffers
+pub active-inside : (buffers : List Buffer) (b : ℕ) → is_state_active (buffer_at buffers b).state ≡ true → b < length buffers
 active-inside buffers b active = elim (cases_lt b (length buffers)) [
   | inl k ↦ k
-  | inr k ↦ absurd (true≢false (sym active ∙ ap (λ (t : Buffer). is_active t.state) (past-last buffers b k)))
+  | inr k ↦ absurd (true≢false (sym active ∙ ap (λ (t : Buffer). is_state_active t.state) (past-last buffers b k)))
 ]
 
-pub active-is : (s : BufferState) → is_active s ≡ true → s ≡ Active
+pub active-is : (s : BufferState) → is_state_active s ≡ true → s ≡ Active
 active-is Free is = absurd (true≢false (sym is))
 active-is Active is = refl
 active-is OnHold is = absurd (true≢false (sym is))
 
-pub active-used : (s : BufferState) → is_active s ≡ true → is_free s ≡ false
+pub active-used : (s : BufferState) → is_state_active s ≡ true → is_state_free s ≡ false
 active-used Free is = absurd (true≢false (sym is))
 active-used Active is = refl
 active-used OnHold is = absurd (true≢false (sym is))
@@ -85,7 +85,7 @@ module _ (bits : ℕ) (v : LedgerView) (held : List HeldEntry) (room unheld : �
   unfolding entries_of
   count-states test = marks-counted test v.buffers ∙ ap (count_marks test (λ b. mark_of (buffer_at v.buffers b))) k.count
 
-  pub lowest-none : ((b : ℕ) → b < length v.buffers → is_free (buffer_at v.buffers b).state ≡ false) → (b : ℕ) → b < (entries_of bits v).count → is_free ((entries_of bits v).mark b).state ≡ false
+  pub lowest-none : ((b : ℕ) → b < length v.buffers → is_state_free (buffer_at v.buffers b).state ≡ false) → (b : ℕ) → b < (entries_of bits v).count → is_state_free ((entries_of bits v).mark b).state ≡ false
   unfolding entries_of
   lowest-none none b below = none b (omega (arith, below, k.count))
 
@@ -94,7 +94,7 @@ module _ (bits : ℕ) (v : LedgerView) (held : List HeldEntry) (room unheld : �
   lowest-is b low = record { below = omega (arith, low.below, k.count); free = low.free; lowest = low.lowest }
 
   -- an active buffer: its number, and the words of its entries
-  pub active-shelf : (b : ℕ) → is_active (buffer_at v.buffers b).state ≡ true
+  pub active-shelf : (b : ℕ) → is_state_active (buffer_at v.buffers b).state ≡ true
       → (b < length v.shelves.shelves) × ((shelf_at v.shelves.shelves b).width ≡ (buffer_at v.buffers b).width) × (is_width (buffer_at v.buffers b).width ≡ true) × (0 < (shelf_at v.shelves.shelves b).width)
   unfolding entries_of
   active-shelf b active =

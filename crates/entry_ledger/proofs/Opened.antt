@@ -9,18 +9,18 @@ use Rattle.entry_ref.specs.References.{buffer_of}
 use Rattle.store_api.specs.Ledgers.{OfWidth, is_width, widths, capacity, buffers_in, with_counts}
 use Rattle.buffer_states.specs.declared.BufferState.{BufferState}
 use Rattle.buffer_states.specs.declared.BufferState.TheVariants.{Free, Active, OnHold}
-use Rattle.buffer_states.specs.Buffers.{is_free, is_active, is_on_hold}
+use Rattle.buffer_states.specs.Buffers.{is_state_free, is_state_active, is_on_hold}
 use Rattle.buffer_shelf.specs.declared.state.State.{State}
 use Rattle.hold_lists.specs.Held.{HeldEntry, HoldTag}
 use Rattle.entry_ledger.specs.Entries.{EntriesView, Mark, IsMark, IsSealed, count_marks}
 use Rattle.entry_ledger.specs.Calls.{with_mark, opened_at}
-use Rattle.entry_ledger.specs.Ledgers.{tag_fits, tag_below, held_fits, is_in_list, IsList, IsSound}
+use Rattle.entry_ledger.specs.Ledgers.{tag_fits, tag_below, held_fits, is_in_list, IsHeldList, IsSound}
 use Rattle.entry_ledger.proofs.Sound.{counts-keep}
 
 some_inside : (a b : ℕ) → Some a ≡ Some b → a ≡ b
 some_inside a b e = cc
 
-pub free-inactive : (s : BufferState) → is_free s ≡ true → is_active s ≡ false
+pub free-inactive : (s : BufferState) → is_state_free s ≡ true → is_state_active s ≡ false
 free-inactive Free is = refl
 free-inactive Active is = absurd (true≢false (sym is))
 free-inactive OnHold is = refl
@@ -65,26 +65,26 @@ pub mark-here : (mark : ℕ → Mark) (b : ℕ) (new : Mark) (a : ℕ) → a ≡
 mark-here mark b new a e = ap (λ t. cond t new (mark a)) (eq-eqb a b e)
 
 -- one buffer is free no longer
-free-less : (mark : ℕ → Mark) (b : ℕ) (new : Mark) → is_free (mark b).state ≡ true → is_free new.state ≡ false → (n : ℕ) → b < n
-    → count_marks is_free (with_mark mark b new) n + 1 ≡ count_marks is_free mark n
+free-less : (mark : ℕ → Mark) (b : ℕ) (new : Mark) → is_state_free (mark b).state ≡ true → is_state_free new.state ≡ false → (n : ℕ) → b < n
+    → count_marks is_state_free (with_mark mark b new) n + 1 ≡ count_marks is_state_free mark n
 free-less mark b new was now zero below = absurd (omega (arith, below))
 free-less mark b new was now (suc n) below = elim (cases_lt b n) [
   | inl k ↦
-      (let here : one_if (is_free (with_mark mark b new n).state) ≡ one_if (is_free (mark n).state) =
-      ap (λ (m : Mark). one_if (is_free m.state)) (mark-other mark b new n (λ e. omega (arith, e, k))) in
+      (let here : one_if (is_state_free (with_mark mark b new n).state) ≡ one_if (is_state_free (mark n).state) =
+      ap (λ (m : Mark). one_if (is_state_free m.state)) (mark-other mark b new n (λ e. omega (arith, e, k))) in
       omega (arith, here, free-less mark b new was now n k))
   | inr k ↦
       (let last : n ≡ b = omega (arith, below, k) in
-      let here : one_if (is_free (with_mark mark b new n).state) ≡ 0 = ap (λ (m : Mark). one_if (is_free m.state)) (mark-here mark b new n last) ∙ ap one_if now in
-      let before : one_if (is_free (mark n).state) ≡ 1 = ap (λ a. one_if (is_free (mark a).state)) last ∙ ap one_if was in
-      omega (arith, here, before, count-same is_free (with_mark mark b new) mark n (λ a low. mark-other mark b new a (λ e. omega (arith, e, low, last)))))
+      let here : one_if (is_state_free (with_mark mark b new n).state) ≡ 0 = ap (λ (m : Mark). one_if (is_state_free m.state)) (mark-here mark b new n last) ∙ ap one_if now in
+      let before : one_if (is_state_free (mark n).state) ≡ 1 = ap (λ a. one_if (is_state_free (mark a).state)) last ∙ ap one_if was in
+      omega (arith, here, before, count-same is_state_free (with_mark mark b new) mark n (λ a low. mark-other mark b new a (λ e. omega (arith, e, low, last)))))
 ]
 
 -- a free buffer has no entry in the list
-free-none : (last generation : ℕ) (mark : Mark) (tag : Option HoldTag) (state : Option State) → is_free mark.state ≡ true → held_fits last generation mark tag state ≡ false
+free-none : (last generation : ℕ) (mark : Mark) (tag : Option HoldTag) (state : Option State) → is_state_free mark.state ≡ true → held_fits last generation mark tag state ≡ false
 free-none last generation mark tag state free = by_state mark.state free
   where
-    by_state : (s : BufferState) → is_free s ≡ true → cond (is_active s) (tag_fits last generation tag state) (cond (is_on_hold s) (tag_below mark.generation tag) false) ≡ false
+    by_state : (s : BufferState) → is_state_free s ≡ true → cond (is_state_active s) (tag_fits last generation tag state) (cond (is_on_hold s) (tag_below mark.generation tag) false) ≡ false
     by_state Free is = refl
     by_state Active is = absurd (true≢false (sym is))
     by_state OnHold is = absurd (true≢false (sym is))
@@ -92,7 +92,7 @@ free-none last generation mark tag state free = by_state mark.state free
 abbrev opened_mark : ℕ → Mark
 opened_mark w = record { state = Active; width = w; generation = 0; sealed = false }
 
-module _ (e : EntriesView) (b w : ℕ) (below : b < e.count) (free : is_free (e.mark b).state ≡ true) (valid : is_width w ≡ true) where
+module _ (e : EntriesView) (b w : ℕ) (below : b < e.count) (free : is_state_free (e.mark b).state ≡ true) (valid : is_width w ≡ true) where
   abbrev counts : OfWidth
   counts = record (e.of_width w) { spare = capacity e.words w; buffers = (e.of_width w).buffers + 1; filled = Some b }
 
@@ -118,7 +118,7 @@ module _ (e : EntriesView) (b w : ℕ) (below : b < e.count) (free : is_free (e.
         let s : IsSealed e a = was (sym (ap (λ (m : Mark). m.sealed) there) ∙ is) in
         record {
           below = s.below;
-          active = ap (λ (m : Mark). is_active m.state) there ∙ s.active;
+          active = ap (λ (m : Mark). is_state_active m.state) there ∙ s.active;
           unfilled = λ f. filled-opened a (e.mark a).width ne s.unfilled (sym (ap (λ (m : Mark). (with_counts e.of_width w counts m.width).filled) there) ∙ f);
         })
   ]
@@ -130,13 +130,13 @@ module _ (e : EntriesView) (b w : ℕ) (below : b < e.count) (free : is_free (e.
     marks = λ a. mark-opened a (k.marks a);
     sealed = λ a is. sealed-opened a (k.sealed a) is;
     finished = λ a is. (let sealed = k.finished a is in
-        let apart : a ≢ b = λ same. true≢false (sym (k.sealed a sealed).active ∙ ap (λ n. is_active (e.mark n).state) same ∙ free-inactive (e.mark b).state free) in
+        let apart : a ≢ b = λ same. true≢false (sym (k.sealed a sealed).active ∙ ap (λ n. is_state_active (e.mark n).state) same ∙ free-inactive (e.mark b).state free) in
         ap (λ (m : Mark). m.sealed) (mark-other e.mark b (opened_mark w) a apart) ∙ sealed);
     few_made = λ u. (let same = counts-keep (λ c. c.made) e.of_width w counts refl u in omega (arith, same, k.few_made u));
     whole = omega (arith, k.whole, free-less e.mark b (opened_mark w) free refl e.count below, buffers-more e.of_width w counts refl widths, once w valid);
   }
 
-  pub list-opened : (bits : ℕ) (held : List HeldEntry) → IsList bits e held → IsList bits (opened_at e b w) held
+  pub list-opened : (bits : ℕ) (held : List HeldEntry) → IsHeldList bits e held → IsHeldList bits (opened_at e b w) held
   list-opened bits held k = record {
     each = All-weaker (λ h. is_in_list bits e h ≡ true) (λ h. is_in_list bits (opened_at e b w) h ≡ true) each held k.each;
     apart = k.apart;
@@ -146,6 +146,6 @@ module _ (e : EntriesView) (b w : ℕ) (below : b < e.count) (free : is_free (e.
       each : (h : HeldEntry) → is_in_list bits e h ≡ true → is_in_list bits (opened_at e b w) h ≡ true
       each h is = elim (cases_eq (buffer_of bits h.entry) b) [
         | inl same ↦
-            absurd (true≢false (sym is ∙ free-none e.last e.generation (e.mark (buffer_of bits h.entry)) h.tag (e.state h.entry) (ap (λ n. is_free (e.mark n).state) same ∙ free)))
+            absurd (true≢false (sym is ∙ free-none e.last e.generation (e.mark (buffer_of bits h.entry)) h.tag (e.state h.entry) (ap (λ n. is_state_free (e.mark n).state) same ∙ free)))
         | inr ne ↦ ap (λ m. held_fits e.last e.generation m h.tag (e.state h.entry)) (mark-other e.mark b (opened_mark w) (buffer_of bits h.entry) ne) ∙ is
       ]

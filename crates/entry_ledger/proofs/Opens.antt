@@ -13,7 +13,7 @@ use Rattle.store_api.specs.Ledgers.{OfWidth, is_width, is_this, capacity, with_c
 use Rattle.buffer_states.specs.declared.Buffer.{Buffer}
 use Rattle.buffer_states.specs.declared.BufferState.{BufferState}
 use Rattle.buffer_states.specs.declared.BufferState.TheVariants.{Free, Active, OnHold}
-use Rattle.buffer_states.specs.Buffers.{new_buffer, buffer_at, end_filling, filled_buffer, activated, is_free}
+use Rattle.buffer_states.specs.Buffers.{new_buffer, buffer_at, end_filling, filled_buffer, activated, is_state_free}
 use Rattle.buffer_shelf.specs.declared.state.State.{State}
 use Rattle.buffer_shelf.specs.States.{ShelfView, empty_shelf, spare_of, is_free_state}
 use Rattle.entry_shelves.specs.Shelves.{shelf_at, row_of, made_at, filled_at, spare_in, spare_of_width}
@@ -22,7 +22,7 @@ use Rattle.entry_shelves.proofs.Rows.{width-bounds, row_of-below, row_of-apart}
 use Rattle.hold_lists.specs.Held.{HeldEntry}
 use Rattle.entry_ledger.specs.Entries.{EntriesView, Mark}
 use Rattle.entry_ledger.specs.Calls.{with_mark, opened_at}
-use Rattle.entry_ledger.specs.Ledgers.{LedgerView, entries_of, mark_of, counts_of, fresh_in, unheld_in, unmade_in, unmade_of_width, is_buffer_of, IsCounted, IsFlagged, IsList, IsSound, AreEntries}
+use Rattle.entry_ledger.specs.Ledgers.{LedgerView, entries_of, mark_of, counts_of, fresh_in, unheld_in, unmade_in, unmade_of_width, is_buffer_of, IsCounted, IsFlagged, IsHeldList, IsSound, AreEntries}
 use Rattle.entry_ledger.proofs.States.{buffer-map, state-same}
 use Rattle.entry_ledger.proofs.Takes.{entries_in}
 use Rattle.entry_ledger.proofs.Good.{within-shelf}
@@ -65,7 +65,7 @@ opened v b w = record v {
   buffers = activated v.buffers b w;
 }
 
-module _ (bits : ℕ) (v : LedgerView) (held : List HeldEntry) (room unheld : ℕ) (k : AreEntries bits v held room unheld) (b : ℕ) (free : is_free (buffer_at v.buffers b).state ≡ true) where
+module _ (bits : ℕ) (v : LedgerView) (held : List HeldEntry) (room unheld : ℕ) (k : AreEntries bits v held room unheld) (b : ℕ) (free : is_state_free (buffer_at v.buffers b).state ≡ true) where
   abbrev shelf : ShelfView
   shelf = shelf_at v.shelves.shelves b
 
@@ -109,16 +109,16 @@ room-kept bits v held room unheld k more rises = list-kept bits v held room unhe
 -- a free buffer may be opened for entries of a width that has none to spare
 pub record CanOpen (v : LedgerView) (b w : ℕ) : Type 0 where
   pub inside : b < length v.shelves.shelves
-  pub free : is_free (buffer_at v.buffers b).state ≡ true
+  pub free : is_state_free (buffer_at v.buffers b).state ≡ true
   pub valid : is_width w ≡ true
   pub spare : spare_of_width v.shelves.shelves w ≡ 0
 
-pub can-open : (bits : ℕ) (v now : LedgerView) (b w : ℕ) → v ≡ now → b < (entries_of bits now).count → is_free ((entries_of bits now).mark b).state ≡ true → is_width w ≡ true
+pub can-open : (bits : ℕ) (v now : LedgerView) (b w : ℕ) → v ≡ now → b < (entries_of bits now).count → is_state_free ((entries_of bits now).mark b).state ≡ true → is_width w ≡ true
     → ((entries_of bits now).of_width w).spare ≡ 0 → CanOpen v b w
 unfolding entries_of
 can-open bits v now b w is inside free valid spare = subst (λ (u : LedgerView). CanOpen u b w) (sym is) (record { inside = inside; free = free; valid = valid; spare = spare })
 
-pub free-is : (s : BufferState) → is_free s ≡ true → s ≡ Free
+pub free-is : (s : BufferState) → is_state_free s ≡ true → s ≡ Free
 free-is Free is = refl
 free-is Active is = absurd (true≢false (sym is))
 free-is OnHold is = absurd (true≢false (sym is))
@@ -375,7 +375,7 @@ module _ (bits : ℕ) (v : LedgerView) (held : List HeldEntry) (room unheld : �
     flagged = flagged-opened;
     enough = enough-opened;
     sound = subst IsSound (sym opened-entries) (sound-opened e b w can.inside can.free can.valid k.sound);
-    list = subst (λ u. IsList bits u held) (sym opened-entries) (list-opened e b w can.inside can.free can.valid bits held k.list);
+    list = subst (λ u. IsHeldList bits u held) (sym opened-entries) (list-opened e b w can.inside can.free can.valid bits held k.list);
     unheld_is = sym unheld-opened;
     fits = fits;
   }

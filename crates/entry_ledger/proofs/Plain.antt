@@ -3,12 +3,12 @@ use Rattle.std.proofs.Common.{◌≡◌, ℕ, ◌≤◌, Bool, true, false, ◌&
 use Rattle.std.proofs.lemmas.List.Elements.{All-weaker}
 use Rattle.std.proofs.lemmas.Bool.{and_parts, leb-true, le-leb, true≢false}
 use Rattle.entry_ref.specs.References.{buffer_of}
-use Rattle.buffer_states.specs.Buffers.{is_active, is_on_hold}
+use Rattle.buffer_states.specs.Buffers.{is_state_active, is_on_hold}
 use Rattle.buffer_shelf.specs.declared.state.State.{State}
 use Rattle.buffer_shelf.specs.declared.state.State.TheVariants.{Free, Returned, Made, InUse, LetGo, DroppedNow, Dropped}
 use Rattle.hold_lists.specs.Held.{HeldEntry, HoldTag}
-use Rattle.entry_ledger.specs.Entries.{is_up_to, is_dropped_since}
-use Rattle.entry_ledger.specs.Ledgers.{LedgerView, entries_of, IsList, tag_fits, tag_below, is_in_list, AreEntries}
+use Rattle.entry_ledger.specs.Entries.{is_timely, is_dropped_since}
+use Rattle.entry_ledger.specs.Ledgers.{LedgerView, entries_of, IsHeldList, tag_fits, tag_below, is_in_list, AreEntries}
 use Rattle.entry_ledger.proofs.Takes.{entries_in}
 
 some_inside : (a b : ℕ) → Some a ≡ Some b → a ≡ b
@@ -16,7 +16,7 @@ some_inside a b e = cc
 
 -- another list over the same shelves
 pub list-kept : (bits : ℕ) (v : LedgerView) (held : List HeldEntry) (room unheld : ℕ) → AreEntries bits v held room unheld → (later : List HeldEntry) (space : ℕ)
-    → IsList bits (entries_of bits v) later → unheld ≤ space → AreEntries bits v later space unheld
+    → IsHeldList bits (entries_of bits v) later → unheld ≤ space → AreEntries bits v later space unheld
 list-kept bits v held room unheld k later space list fits = record {
   count = k.count;
   few_buffers = k.few_buffers;
@@ -66,7 +66,7 @@ module _ (bits : ℕ) (v : LedgerView) (held : List HeldEntry) (room unheld : �
     fits = k.fits;
   }
 
-  later : (generation : ℕ) → v.generation ≤ generation → (s : State) → is_up_to (entries_in bits v) s ≡ true → is_up_to (entries_in bits (record v { generation = generation })) s ≡ true
+  later : (generation : ℕ) → v.generation ≤ generation → (s : State) → is_timely (entries_in bits v) s ≡ true → is_timely (entries_in bits (record v { generation = generation })) s ≡ true
   later generation rises Free is = refl
   later generation rises Returned is = refl
   later generation rises Made is = refl
@@ -131,7 +131,7 @@ module _ (bits : ℕ) (v : LedgerView) (held : List HeldEntry) (room unheld : �
   }
     where
       each : (h : HeldEntry) → is_in_list bits (entries_in bits v) h ≡ true → is_in_list bits (entries_in bits (record v { generation = generation })) h ≡ true
-      each h = by_state (is_active ((entries_in bits v).mark (buffer_of bits h.entry)).state)
+      each h = by_state (is_state_active ((entries_in bits v).mark (buffer_of bits h.entry)).state)
         where
           by_state : (a : Bool) → cond a (tag_fits v.last v.generation h.tag ((entries_in bits v).state h.entry)) (cond (is_on_hold ((entries_in bits v).mark (buffer_of bits h.entry)).state) (tag_below ((entries_in bits v).mark (buffer_of bits h.entry)).generation h.tag) false) ≡ true
               → cond a (tag_fits v.last generation h.tag ((entries_in bits v).state h.entry)) (cond (is_on_hold ((entries_in bits v).mark (buffer_of bits h.entry)).state) (tag_below ((entries_in bits v).mark (buffer_of bits h.entry)).generation h.tag) false) ≡ true

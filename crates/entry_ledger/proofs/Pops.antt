@@ -12,7 +12,7 @@ use Rattle.buffer_shelf.specs.declared.state.State.{State}
 use Rattle.buffer_shelf.specs.declared.state.State.TheVariants.{Free, Returned, Made, InUse, LetGo, DroppedNow, Dropped}
 use Rattle.hold_lists.specs.Held.{HeldEntry, HoldTag, untagged, is_tag_below, without_first}
 use Rattle.entry_ledger.specs.Entries.{EntriesView}
-use Rattle.entry_ledger.specs.Ledgers.{tag_fits, held_fits, is_in_list, IsList}
+use Rattle.entry_ledger.specs.Ledgers.{tag_fits, held_fits, is_in_list, IsHeldList}
 
 -- where an element is that a search found
 pub record IsAt (test : HeldEntry → Bool) (held : List HeldEntry) (h : HeldEntry) : Type 0 where
@@ -108,10 +108,10 @@ any-at {P} test (x ∷ xs) is at = by_test (test x) refl is (λ rest next. any-a
     by_test false e is later = later is (λ i below passes. at (suc i) (omega (arith, below)) passes)
 
 -- the list without an entry that is dropped no longer, where all others are as before
-pub list-without : (bits : ℕ) (e new : EntriesView) (held : List HeldEntry) (h : HeldEntry) (test : HeldEntry → Bool) → IsList bits e held → find test held ≡ Some h
+pub list-without : (bits : ℕ) (e new : EntriesView) (held : List HeldEntry) (h : HeldEntry) (test : HeldEntry → Bool) → IsHeldList bits e held → find test held ≡ Some h
     → new.last ≡ e.last → new.generation ≡ e.generation → ((b : ℕ) → new.mark b ≡ e.mark b) → ((q : ℕ) → q ≢ h.entry → new.state q ≡ e.state q)
-    → ((after g : ℕ) → new.state h.entry ≡ Some (Dropped after g) → ⊥) → IsList bits new (without_first test held)
-list-without bits e new held h test k found last generation marks states never = subst (IsList bits new) (sym at.rest) (record {
+    → ((after g : ℕ) → new.state h.entry ≡ Some (Dropped after g) → ⊥) → IsHeldList bits new (without_first test held)
+list-without bits e new held h test k found last generation marks states never = subst (IsHeldList bits new) (sym at.rest) (record {
   each = rest-all (λ x. is_in_list bits new x ≡ true) held at.place at.inside (λ i d below ne.
       moved (get_or held i d) (states (get_or held i d).entry (apart i d below ne)) ∙ All-get_or (λ x. is_in_list bits e x ≡ true) held i d below k.each);
   apart = all_pairs_remove (λ a b. a.entry ≢ b.entry) held at.place at.inside k.apart;

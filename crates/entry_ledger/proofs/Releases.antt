@@ -12,7 +12,7 @@ use Rattle.entry_ref.specs.References.{buffer_of, offset_of, packed}
 use Rattle.entry_ref.proofs.Bits.{packed-same}
 use Rattle.store_api.specs.Calls.{GivesBackOf}
 use Rattle.buffer_states.specs.declared.Buffer.{Buffer}
-use Rattle.buffer_states.specs.Buffers.{buffer_at, is_active, is_on_hold}
+use Rattle.buffer_states.specs.Buffers.{buffer_at, is_state_active, is_on_hold}
 use Rattle.buffer_shelf.specs.declared.state.State.{State}
 use Rattle.buffer_shelf.specs.declared.state.State.TheVariants.{Free, Dropped}
 use Rattle.buffer_shelf.specs.States.{ShelfView, empty_shelf, is_dead, is_held, is_dropped, is_made, is_free_state, state_at, with_state_at}
@@ -20,7 +20,7 @@ use Rattle.entry_shelves.specs.Shelves.{ShelvesView, shelf_at}
 use Rattle.hold_lists.specs.Held.{HeldEntry, untagged, is_below, without_first}
 use Rattle.entry_ledger.specs.Entries.{EntriesView}
 use Rattle.entry_ledger.specs.Calls.{with_state, freed}
-use Rattle.entry_ledger.specs.Ledgers.{LedgerView, entries_of, state_in, unheld_in, is_since, tag_fits, tag_below, is_in_list, CanRelease, Releases, IsCounted, IsList, AreEntries}
+use Rattle.entry_ledger.specs.Ledgers.{LedgerView, entries_of, state_in, unheld_in, is_since, tag_fits, tag_below, is_in_list, CanRelease, Releases, IsCounted, IsHeldList, AreEntries}
 use Rattle.entry_ledger.proofs.Good.{at-offset, room-of, used-inside}
 use Rattle.entry_ledger.proofs.Takes.{entries_in, buffers-same}
 use Rattle.entry_ledger.proofs.Counted.{count-keep, count-less, words-more}
@@ -82,7 +82,7 @@ module _ (bits : ℕ) (v : LedgerView) (held : List HeldEntry) (room unheld : �
   at : IsAt (is_below oldest) held h
   at = found-at (is_below oldest) held h found
 
-  list_in : IsList bits (entries_in bits v) held
+  list_in : IsHeldList bits (entries_in bits v) held
   unfolding entries_of
   list_in = k.list
 
@@ -106,10 +106,10 @@ module _ (bits : ℕ) (v : LedgerView) (held : List HeldEntry) (room unheld : �
 
   -- it has entries
   module _ (wide : 0 < shelf.width) where
-    active : is_active (buffer_at v.buffers b).state ≡ true
-    active = by_test (is_active (buffer_at v.buffers b).state) refl
+    active : is_state_active (buffer_at v.buffers b).state ≡ true
+    active = by_test (is_state_active (buffer_at v.buffers b).state) refl
       where
-        by_test : (a : Bool) → is_active (buffer_at v.buffers b).state ≡ a → a ≡ true
+        by_test : (a : Bool) → is_state_active (buffer_at v.buffers b).state ≡ a → a ≡ true
         by_test true is = refl
         by_test false is =
             let none : shelf.width ≡ 0 = (k.counted b).width ∙ ap (λ a. cond a (buffer_at v.buffers b).width 0) is in

@@ -8,14 +8,14 @@ use Rattle.list_facts.specs.Counting.{one_if}
 use Rattle.list_facts.proofs.Counts.{count_by-set}
 use Rattle.store_api.specs.Ledgers.{is_width, widths, capacity, buffers_in}
 use Rattle.buffer_states.specs.declared.Buffer.{Buffer}
-use Rattle.buffer_states.specs.Buffers.{new_buffer, buffer_at, is_free, is_active, is_on_hold}
+use Rattle.buffer_states.specs.Buffers.{new_buffer, buffer_at, is_state_free, is_state_active, is_on_hold}
 use Rattle.buffer_shelf.specs.declared.state.State.{State}
 use Rattle.buffer_shelf.specs.States.{ShelfView, empty_shelf}
 use Rattle.entry_shelves.specs.Shelves.{shelf_at, made_at, filled_at, with_shelf}
 use Rattle.hold_lists.specs.Held.{HeldEntry}
 use Rattle.entry_ledger.specs.Entries.{count_marks}
 use Rattle.entry_ledger.specs.Calls.{with_mark}
-use Rattle.entry_ledger.specs.Ledgers.{LedgerView, entries_of, mark_of, unheld_in, unmade_in, unmade_of_width, is_buffer_of, IsCounted, IsFlagged, IsList, IsSound, AreEntries}
+use Rattle.entry_ledger.specs.Ledgers.{LedgerView, entries_of, mark_of, unheld_in, unmade_in, unmade_of_width, is_buffer_of, IsCounted, IsFlagged, IsHeldList, IsSound, AreEntries}
 use Rattle.entry_ledger.proofs.Flags.{flags-set}
 use Rattle.entry_ledger.proofs.Takes.{entries_in}
 use Rattle.entry_ledger.proofs.Sound.{buffers-in-same}
@@ -58,12 +58,12 @@ pub record IsReplaced (v : LedgerView) (b : ℕ) (buffer : Buffer) (shelf : Shel
   pub taken : length shelf.states < shelf.room → filled_at v.shelves.filled shelf.width ≡ Some b
   pub flagged : IsFlagged v.shelves.filled b buffer
   pub of_width : (w : ℕ) → is_buffer_of w buffer ≡ is_buffer_of w (buffer_at v.buffers b)
-  pub free : is_free buffer.state ≡ is_free (buffer_at v.buffers b).state
+  pub free : is_state_free buffer.state ≡ is_state_free (buffer_at v.buffers b).state
   pub unmade : (w : ℕ) → unmade_in w shelf ≡ unmade_in w (shelf_at v.shelves.shelves b)
-  pub width : is_free buffer.state ≡ false → is_width buffer.width ≡ true
+  pub width : is_state_free buffer.state ≡ false → is_width buffer.width ≡ true
   pub from : is_on_hold buffer.state ≡ true → v.oldest ≤ buffer.generation
   pub to : is_on_hold buffer.state ≡ true → buffer.generation ≤ v.generation
-  pub sealed : buffer.sealed ≡ true → (is_active buffer.state ≡ true) × (filled_at v.shelves.filled buffer.width ≡ Some b → ⊥)
+  pub sealed : buffer.sealed ≡ true → (is_state_active buffer.state ≡ true) × (filled_at v.shelves.filled buffer.width ≡ Some b → ⊥)
   pub here : finished ≡ Some b → buffer.sealed ≡ true
   pub others : (a : ℕ) → finished ≡ Some a → v.finished ≡ Some a
 
@@ -91,30 +91,30 @@ module _ (bits : ℕ) (v : LedgerView) (held : List HeldEntry) (room unheld : �
     finished = ends;
     few_made = k.sound.few_made;
     whole =
-        ap (λ n. n + buffers_in (entries_in bits replaced).of_width widths) (marks-same is_free (entries_in bits replaced).mark (entries_in bits v).mark frees (entries_in bits replaced).count)
-        ∙ ap (λ n. count_marks is_free (entries_in bits v).mark n + buffers_in (entries_in bits replaced).of_width widths) replace-count
-        ∙ ap (λ n. count_marks is_free (entries_in bits v).mark (entries_in bits v).count + n)
+        ap (λ n. n + buffers_in (entries_in bits replaced).of_width widths) (marks-same is_state_free (entries_in bits replaced).mark (entries_in bits v).mark frees (entries_in bits replaced).count)
+        ∙ ap (λ n. count_marks is_state_free (entries_in bits v).mark n + buffers_in (entries_in bits replaced).of_width widths) replace-count
+        ∙ ap (λ n. count_marks is_state_free (entries_in bits v).mark (entries_in bits v).count + n)
         (buffers-in-same (entries_in bits replaced).of_width (entries_in bits v).of_width replace-buffers widths) ∙ k.sound.whole ∙ sym replace-count;
   }
     where
-      kinds : (a : ℕ) → (is_free (buffer_at (set v.buffers b buffer) a).state ≡ false → is_width (buffer_at (set v.buffers b buffer) a).width ≡ true)
+      kinds : (a : ℕ) → (is_state_free (buffer_at (set v.buffers b buffer) a).state ≡ false → is_width (buffer_at (set v.buffers b buffer) a).width ≡ true)
           × (is_on_hold (buffer_at (set v.buffers b buffer) a).state ≡ true → v.oldest ≤ (buffer_at (set v.buffers b buffer) a).generation)
           × (is_on_hold (buffer_at (set v.buffers b buffer) a).state ≡ true → (buffer_at (set v.buffers b buffer) a).generation ≤ v.generation)
-      kinds = each-buffer (λ a t. (is_free t.state ≡ false → is_width t.width ≡ true) × (is_on_hold t.state ≡ true → v.oldest ≤ t.generation) × (is_on_hold t.state ≡ true → t.generation ≤ v.generation))
+      kinds = each-buffer (λ a t. (is_state_free t.state ≡ false → is_width t.width ≡ true) × (is_on_hold t.state ≡ true → v.oldest ≤ t.generation) × (is_on_hold t.state ≡ true → t.generation ≤ v.generation))
           v.buffers b buffer within (λ a ne. ((k.sound.marks a).width, (k.sound.marks a).from, (k.sound.marks a).to)) (new.width, new.from, new.to)
 
       seals : (a : ℕ) → (buffer_at (set v.buffers b buffer) a).sealed ≡ true
-          → (a < length v.shelves.shelves) × (is_active (buffer_at (set v.buffers b buffer) a).state ≡ true) × (filled_at v.shelves.filled (buffer_at (set v.buffers b buffer) a).width ≡ Some a → ⊥)
-      seals = each-buffer (λ a t. t.sealed ≡ true → (a < length v.shelves.shelves) × (is_active t.state ≡ true) × (filled_at v.shelves.filled t.width ≡ Some a → ⊥))
+          → (a < length v.shelves.shelves) × (is_state_active (buffer_at (set v.buffers b buffer) a).state ≡ true) × (filled_at v.shelves.filled (buffer_at (set v.buffers b buffer) a).width ≡ Some a → ⊥)
+      seals = each-buffer (λ a t. t.sealed ≡ true → (a < length v.shelves.shelves) × (is_state_active t.state ≡ true) × (filled_at v.shelves.filled t.width ≡ Some a → ⊥))
           v.buffers b buffer within (λ a ne is. ((k.sound.sealed a is).below, (k.sound.sealed a is).active, (k.sound.sealed a is).unfilled)) (λ is. (h, (new.sealed is).0, (new.sealed is).1))
 
       ends : (a : ℕ) → finished ≡ Some a → (buffer_at (set v.buffers b buffer) a).sealed ≡ true
       ends = each-buffer (λ a t. finished ≡ Some a → t.sealed ≡ true) v.buffers b buffer within (λ a ne is. k.sound.finished a (new.others a is)) new.here
 
-      frees : (a : ℕ) → is_free (buffer_at (set v.buffers b buffer) a).state ≡ is_free (buffer_at v.buffers a).state
-      frees = each-buffer (λ a t. is_free t.state ≡ is_free (buffer_at v.buffers a).state) v.buffers b buffer within (λ a ne. refl) new.free
+      frees : (a : ℕ) → is_state_free (buffer_at (set v.buffers b buffer) a).state ≡ is_state_free (buffer_at v.buffers a).state
+      frees = each-buffer (λ a t. is_state_free t.state ≡ is_state_free (buffer_at v.buffers a).state) v.buffers b buffer within (λ a ne. refl) new.free
 
-  pub replace-kept : ((r : ℕ) (s : State) → (entries_in bits replaced).state r ≡ Some s → (entries_in bits v).state r ≡ Some s) → IsList bits (entries_in bits replaced) held
+  pub replace-kept : ((r : ℕ) (s : State) → (entries_in bits replaced).state r ≡ Some s → (entries_in bits v).state r ≡ Some s) → IsHeldList bits (entries_in bits replaced) held
       → (left : ℕ) → left ≡ sum_by unheld_in (set v.shelves.shelves b shelf) → left ≤ room → AreEntries bits replaced held room left
   unfolding entries_of
   replace-kept states list left sum fits = record {

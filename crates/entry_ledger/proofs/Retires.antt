@@ -8,15 +8,15 @@ use Rattle.std.proofs.lemmas.Bool.{cases_lt, cases_eq, eq-eqb, ne_eqb, eqb-true,
 use Rattle.entry_ref.specs.References.{buffer_of, offset_of, packed}
 use Rattle.buffer_states.specs.declared.Buffer.{Buffer}
 use Rattle.buffer_states.specs.declared.BufferState.TheVariants.{OnHold}
-use Rattle.buffer_states.specs.Buffers.{new_buffer, buffer_at, is_active, is_on_hold}
+use Rattle.buffer_states.specs.Buffers.{new_buffer, buffer_at, is_state_active, is_on_hold}
 use Rattle.buffer_shelf.specs.declared.state.State.{State}
 use Rattle.buffer_shelf.specs.declared.state.State.TheVariants.{Free, Returned, Made, InUse, LetGo, DroppedNow, Dropped}
 use Rattle.buffer_shelf.specs.States.{ShelfView, empty_shelf, is_made, is_touched, spare_of, state_at}
 use Rattle.entry_shelves.specs.Shelves.{shelf_at, filled_at, spare_in, spare_of_width}
 use Rattle.hold_lists.specs.Held.{HeldEntry, HoldTag}
-use Rattle.entry_ledger.specs.Entries.{EntriesView, is_up_to, is_settled_entry, is_dropped_since}
+use Rattle.entry_ledger.specs.Entries.{EntriesView, is_timely, is_settled_entry, is_dropped_since}
 use Rattle.entry_ledger.specs.Calls.{retired_at}
-use Rattle.entry_ledger.specs.Ledgers.{LedgerView, entries_of, state_in, mark_of, fresh_in, unheld_in, unmade_in, tag_fits, tag_below, held_fits, is_in_list, IsList, AreEntries}
+use Rattle.entry_ledger.specs.Ledgers.{LedgerView, entries_of, state_in, mark_of, fresh_in, unheld_in, unmade_in, tag_fits, tag_below, held_fits, is_in_list, IsHeldList, AreEntries}
 use Rattle.entry_ledger.proofs.States.{state_by, at-suc}
 use Rattle.entry_ledger.proofs.Counts.{fresh_of_width}
 use Rattle.entry_ledger.proofs.Takes.{entries_in}
@@ -28,7 +28,7 @@ use Rattle.entry_ledger.proofs.Replaced.{mark-set, IsReplaced, replace-count, re
 
 -- an entry of the list that was dropped before the last commit has a tag up to the current generation
 tag-low : (e : EntriesView) (tag : Option HoldTag) (state : Option State) → tag_fits e.last e.generation tag state ≡ true → is_dropped_since e.last state ≡ false
-    → ((s : State) → state ≡ Some s → is_up_to e s ≡ true) → tag_below e.generation tag ≡ true
+    → ((s : State) → state ≡ Some s → is_timely e s ≡ true) → tag_below e.generation tag ≡ true
 tag-low e None (Some (Dropped after g)) fits since low = absurd (true≢false (sym (and_parts (eqb after e.last) (eqb g e.generation) fits).0 ∙ since))
 tag-low e (Some tag) (Some (Dropped after g)) fits since low =
     let first = and_parts (nat_lt after e.last && eqb tag.generation g) (eqb tag.commit (suc after)) fits in
@@ -76,7 +76,7 @@ module _ (bits : ℕ) (v : LedgerView) (held : List HeldEntry) (room unheld : �
   shelf = shelf_at v.shelves.shelves b
 
   -- the finished buffer is sealed, active and not filled
-  pub retire-is : ((buffer_at v.buffers b).sealed ≡ true) × (is_active (buffer_at v.buffers b).state ≡ true) × (filled_at v.shelves.filled (buffer_at v.buffers b).width ≡ Some b → ⊥)
+  pub retire-is : ((buffer_at v.buffers b).sealed ≡ true) × (is_state_active (buffer_at v.buffers b).state ≡ true) × (filled_at v.shelves.filled (buffer_at v.buffers b).width ≡ Some b → ⊥)
   unfolding entries_of
   retire-is = (let sealed = k.sound.finished b finished in let is = k.sound.sealed b sealed in (sealed, is.active, is.unfilled))
 
@@ -159,7 +159,7 @@ module _ (bits : ℕ) (v : LedgerView) (held : List HeldEntry) (room unheld : �
       by_test true e = absurd (none_some s e)
       by_test false e = e
 
-  retire-list : ((r : ℕ) → is_dropped_since v.last ((entries_in bits v).state r) ≡ false) → IsList bits (entries_in bits retired_view) held
+  retire-list : ((r : ℕ) → is_dropped_since v.last ((entries_in bits v).state r) ≡ false) → IsHeldList bits (entries_in bits retired_view) held
   unfolding entries_of
   retire-list tagged = record {
     each = All-weaker (λ t. is_in_list bits (entries_in bits v) t ≡ true) (λ t. is_in_list bits (entries_in bits retired_view) t ≡ true) each held k.list.each;
@@ -173,7 +173,7 @@ module _ (bits : ℕ) (v : LedgerView) (held : List HeldEntry) (room unheld : �
       each : (t : HeldEntry) → is_in_list bits (entries_in bits v) t ≡ true → is_in_list bits (entries_in bits retired_view) t ≡ true
       each t is = elim (cases_eq (buffer_of bits t.entry) b) [
         | inl e ↦
-            (let active : is_active (buffer_at v.buffers (buffer_of bits t.entry)).state ≡ true = ap (λ n. is_active (buffer_at v.buffers n).state) e ∙ retire-is.1 in
+            (let active : is_state_active (buffer_at v.buffers (buffer_of bits t.entry)).state ≡ true = ap (λ n. is_state_active (buffer_at v.buffers n).state) e ∙ retire-is.1 in
             let was : tag_fits v.last v.generation t.tag ((entries_in bits v).state t.entry) ≡ true =
             sym (ap (λ u. cond u (tag_fits v.last v.generation t.tag ((entries_in bits v).state t.entry))
             (cond (is_on_hold (buffer_at v.buffers (buffer_of bits t.entry)).state) (tag_below (buffer_at v.buffers (buffer_of bits t.entry)).generation t.tag) false)) active) ∙ is in

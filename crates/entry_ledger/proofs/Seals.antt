@@ -5,13 +5,13 @@ use Rattle.std.proofs.lemmas.List.Elements.{All-weaker}
 use Rattle.std.proofs.lemmas.List.Sums.{sum_by-set}
 use Rattle.entry_ref.specs.References.{buffer_of}
 use Rattle.buffer_states.specs.declared.Buffer.{Buffer}
-use Rattle.buffer_states.specs.Buffers.{buffer_at, is_active}
+use Rattle.buffer_states.specs.Buffers.{buffer_at, is_state_active}
 use Rattle.buffer_shelf.specs.declared.state.State.{State}
 use Rattle.buffer_shelf.specs.States.{ShelfView, empty_shelf, spare_of, is_made}
 use Rattle.entry_shelves.specs.Shelves.{shelf_at, filled_at, spare_in}
 use Rattle.hold_lists.specs.Held.{HeldEntry, HoldTag}
 use Rattle.entry_ledger.specs.Calls.{Seals}
-use Rattle.entry_ledger.specs.Ledgers.{LedgerView, entries_of, mark_of, fresh_in, unheld_in, held_fits, is_in_list, IsList, AreEntries}
+use Rattle.entry_ledger.specs.Ledgers.{LedgerView, entries_of, mark_of, fresh_in, unheld_in, held_fits, is_in_list, IsHeldList, AreEntries}
 use Rattle.entry_ledger.proofs.States.{state_by, state-same}
 use Rattle.entry_ledger.proofs.Takes.{entries_in}
 use Rattle.entry_ledger.proofs.Marks.{active-shelf}
@@ -23,7 +23,7 @@ sealed-none true n = refl
 sealed-none false n = refl
 
 module _ (bits : ℕ) (v : LedgerView) (held : List HeldEntry) (room unheld : ℕ) (k : AreEntries bits v held room unheld)
-    (b : ℕ) (active : is_active (buffer_at v.buffers b).state ≡ true) (out : filled_at v.shelves.filled (buffer_at v.buffers b).width ≡ Some b → ⊥) where
+    (b : ℕ) (active : is_state_active (buffer_at v.buffers b).state ≡ true) (out : filled_at v.shelves.filled (buffer_at v.buffers b).width ≡ Some b → ⊥) where
   abbrev buffer : Buffer
   buffer = record (buffer_at v.buffers b) { sealed = true }
 
@@ -65,7 +65,7 @@ module _ (bits : ℕ) (v : LedgerView) (held : List HeldEntry) (room unheld : �
   seal-state r = state-same bits v.shelves.shelves b shelf h refl r
 
   -- the list does not ask whether a buffer is sealed
-  seal-list : IsList bits (entries_in bits sealed_view) held
+  seal-list : IsHeldList bits (entries_in bits sealed_view) held
   unfolding entries_of
   seal-list = record {
     each = All-weaker (λ t. is_in_list bits (entries_in bits v) t ≡ true) (λ t. is_in_list bits (entries_in bits sealed_view) t ≡ true) each held k.list.each;

@@ -7,14 +7,14 @@ use Rattle.std.proofs.lemmas.List.Folds.{list_any-append}
 use Rattle.std.proofs.lemmas.Bool.{eq-eqb, ne_eqb, le-leb, ltb-true, true≢false}
 use Rattle.entry_ref.specs.References.{buffer_of}
 use Rattle.buffer_states.specs.declared.Buffer.{Buffer}
-use Rattle.buffer_states.specs.Buffers.{is_active, is_on_hold}
+use Rattle.buffer_states.specs.Buffers.{is_state_active, is_on_hold}
 use Rattle.buffer_shelf.specs.declared.state.State.{State}
 use Rattle.buffer_shelf.specs.declared.state.State.TheVariants.{Free, Returned, Made, InUse, LetGo, DroppedNow, Dropped}
-use Rattle.buffer_shelf.specs.States.{ShelfView, is_free_state, is_made, is_touched, is_dead, is_held, is_dropped, state_at, settled, with_state_at}
+use Rattle.buffer_shelf.specs.States.{ShelfView, is_free_state, is_made, is_touched, is_dead, is_held, is_dropped, state_at, settled_state, with_state_at}
 use Rattle.hold_lists.specs.Held.{HeldEntry, untagged}
-use Rattle.entry_ledger.specs.Entries.{EntriesView, is_up_to}
+use Rattle.entry_ledger.specs.Entries.{EntriesView, is_timely}
 use Rattle.entry_ledger.specs.Calls.{with_state}
-use Rattle.entry_ledger.specs.Ledgers.{is_since, is_dropped_now, settled_buffer, mark_of, tag_fits, tag_below, held_fits, is_in_list, IsCounted, IsList}
+use Rattle.entry_ledger.specs.Ledgers.{is_since, is_dropped_now, settled_buffer, mark_of, tag_fits, tag_below, held_fits, is_in_list, IsCounted, IsHeldList}
 use Rattle.entry_ledger.proofs.Counted.{count-keep, count-more, count-less, words-more}
 use Rattle.entry_ledger.proofs.Dropping.{with-counts}
 use Rattle.entry_ledger.proofs.Sound.{not-tagged, state-cases}
@@ -64,7 +64,7 @@ pub record IsSettling (accepts : Bool) (last generation : ℕ) (was now : State)
   pub before : (after g : ℕ) → was ≡ Dropped after g → ⊥
   pub held : is_held last now ≡ is_held last was
 
-pub settling : (accepts : Bool) (last generation : ℕ) (was : State) → is_touched was ≡ true → IsSettling accepts last generation was (settled accepts last generation was)
+pub settling : (accepts : Bool) (last generation : ℕ) (was : State) → is_touched was ≡ true → IsSettling accepts last generation was (settled_state accepts last generation was)
 settling true last generation Free t = absurd (cc)
 settling true last generation Returned t = record { free = omega arith; back = λ e. absurd (cc); made = refl; before = λ a g e. absurd (cc); held = refl }
 settling true last generation Made t = record { free = omega arith; back = λ e. absurd (cc); made = refl; before = λ a g e. absurd (cc); held = refl }
@@ -87,8 +87,8 @@ settling false last generation (DroppedNow after) t = record { free = omega arit
 settling false last generation (Dropped after g) t = absurd (cc)
 
 -- a settled state names no commit after the last
-pub settle-up-to : (accepts : Bool) (e : EntriesView) (was : State) → e.oldest ≤ e.generation → is_touched was ≡ true → is_up_to e was ≡ true
-    → is_up_to e (settled accepts e.last e.generation was) ≡ true
+pub settle-up-to : (accepts : Bool) (e : EntriesView) (was : State) → e.oldest ≤ e.generation → is_touched was ≡ true → is_timely e was ≡ true
+    → is_timely e (settled_state accepts e.last e.generation was) ≡ true
 settle-up-to true e Free order t is = absurd (cc)
 settle-up-to true e Returned order t is = refl
 settle-up-to true e Made order t is = le-leb e.last e.last (omega arith)
@@ -108,7 +108,7 @@ settle-up-to false e (Dropped after g) order t is = absurd (cc)
 
 -- only what was dropped now is on the list then
 pub settle-enters : (accepts : Bool) (last generation : ℕ) (was : State) → is_touched was ≡ true → (accepts && is_dropped_now was) ≡ false
-    → (after g : ℕ) → settled accepts last generation was ≡ Dropped after g → ⊥
+    → (after g : ℕ) → settled_state accepts last generation was ≡ Dropped after g → ⊥
 settle-enters true last generation Free t out a g e = absurd (cc)
 settle-enters true last generation Returned t out a g e = absurd (cc)
 settle-enters true last generation Made t out a g e = absurd (cc)
@@ -124,7 +124,7 @@ settle-enters false last generation LetGo t out a g e = absurd (cc)
 settle-enters false last generation (DroppedNow after) t out a g e = absurd (cc)
 settle-enters false last generation (Dropped after h) t out a g e = absurd (cc)
 
-pub enters-is : (accepts : Bool) (last generation : ℕ) (was : State) → (accepts && is_dropped_now was) ≡ true → settled accepts last generation was ≡ Dropped last generation
+pub enters-is : (accepts : Bool) (last generation : ℕ) (was : State) → (accepts && is_dropped_now was) ≡ true → settled_state accepts last generation was ≡ Dropped last generation
 enters-is true last generation Free in_is = absurd (cc)
 enters-is true last generation Returned in_is = absurd (cc)
 enters-is true last generation Made in_is = absurd (cc)
@@ -135,7 +135,7 @@ enters-is true last generation (Dropped after g) in_is = absurd (cc)
 enters-is false last generation was in_is = absurd (true≢false (sym in_is))
 
 -- whether it is dropped changes only where it enters the list
-pub settle-dropped : (accepts : Bool) (last generation : ℕ) (was : State) → is_touched was ≡ true → is_dropped (settled accepts last generation was) ≡ (accepts && is_dropped_now was)
+pub settle-dropped : (accepts : Bool) (last generation : ℕ) (was : State) → is_touched was ≡ true → is_dropped (settled_state accepts last generation was) ≡ (accepts && is_dropped_now was)
 settle-dropped true last generation Free t = absurd (cc)
 settle-dropped true last generation Returned t = refl
 settle-dropped true last generation Made t = refl
@@ -189,10 +189,10 @@ module _ (words last : ℕ) (buffer : Buffer) (s : ShelfView) (k : IsCounted wor
       by_state (Dropped after g) e t = absurd (cc)
 
   pub counted-settle : (accepts : Bool) (generation : ℕ) → is_touched (state_at s.states x) ≡ true
-      → IsCounted words last (settled_buffer accepts (state_at s.states x) buffer) (with_state_at s x (settled accepts last generation (state_at s.states x)))
+      → IsCounted words last (settled_buffer accepts (state_at s.states x) buffer) (with_state_at s x (settled_state accepts last generation (state_at s.states x)))
   counted-settle accepts generation touched = by_state accepts (state_at s.states x) refl touched
     where
-      by_state : (a : Bool) (was : State) → state_at s.states x ≡ was → is_touched was ≡ true → IsCounted words last (settled_buffer a was buffer) (with_state_at s x (settled a last generation was))
+      by_state : (a : Bool) (was : State) → state_at s.states x ≡ was → is_touched was ≡ true → IsCounted words last (settled_buffer a was buffer) (with_state_at s x (settled_state a last generation was))
       by_state true Free e t = absurd (cc)
       by_state true Returned e t = with-counts words last buffer s k x there wide Free buffer.dead buffer.dropped (sym (ap (is_held last) e)) (stays is_dead Free buffer.dead k.dead (sym (ap is_dead e))) (stays (is_since last) Free buffer.dropped k.dropped (sym (ap (is_since last) e)))
       by_state true Made e t = with-counts words last buffer s k x there wide (InUse last) buffer.dead buffer.dropped (sym (ap (is_held last) e)) (stays is_dead (InUse last) buffer.dead k.dead (sym (ap is_dead e))) (stays (is_since last) (InUse last) buffer.dropped k.dropped (sym (ap (is_since last) e)))
@@ -211,9 +211,9 @@ module _ (words last : ℕ) (buffer : Buffer) (s : ShelfView) (k : IsCounted wor
       by_state false (Dropped after g) e t = absurd (cc)
 
 -- the list with an entry more, which was dropped now
-pub list-more : (bits : ℕ) (e new : EntriesView) (held : List HeldEntry) (r : ℕ) → IsList bits e held
+pub list-more : (bits : ℕ) (e new : EntriesView) (held : List HeldEntry) (r : ℕ) → IsHeldList bits e held
     → new.last ≡ e.last → new.generation ≡ e.generation → ((b : ℕ) → new.mark b ≡ e.mark b) → ((q : ℕ) → new.state q ≡ with_state e.state r (Dropped e.last e.generation) q)
-    → is_active (e.mark (buffer_of bits r)).state ≡ true → ((after g : ℕ) → e.state r ≡ Some (Dropped after g) → ⊥) → IsList bits new (held ++ untagged r ∷ [])
+    → is_state_active (e.mark (buffer_of bits r)).state ≡ true → ((after g : ℕ) → e.state r ≡ Some (Dropped after g) → ⊥) → IsHeldList bits new (held ++ untagged r ∷ [])
 list-more bits e new held r k last generation marks states active was = record {
   each = All-push (λ h. is_in_list bits new h ≡ true) held (untagged r) (All-weaker (λ h. is_in_list bits e h ≡ true) (λ h. is_in_list bits new h ≡ true) each held k.each) here;
   apart = all_pairs_push (λ a b. a.entry ≢ b.entry) held (untagged r) k.apart (λ i d below same.
@@ -230,7 +230,7 @@ list-more bits e new held r k last generation marks states active was = record {
     -- no entry of the list is this one
     absent : (h : HeldEntry) → is_in_list bits e h ≡ true → h.entry ≢ r
     absent h is same =
-        let here : is_active (e.mark (buffer_of bits h.entry)).state ≡ true = ap (λ q. is_active (e.mark (buffer_of bits q)).state) same ∙ active in
+        let here : is_state_active (e.mark (buffer_of bits h.entry)).state ≡ true = ap (λ q. is_state_active (e.mark (buffer_of bits q)).state) same ∙ active in
         let fits : tag_fits e.last e.generation h.tag (e.state h.entry) ≡ true =
         sym (ap (λ t. cond t (tag_fits e.last e.generation h.tag (e.state h.entry)) (cond (is_on_hold (e.mark (buffer_of bits h.entry)).state) (tag_below (e.mark (buffer_of bits h.entry)).generation h.tag) false)) here) ∙ is in
         true≢false (sym fits ∙ not-tagged e.last e.generation h.tag (e.state h.entry) (λ after g d. was after g (ap e.state (sym same) ∙ d)))

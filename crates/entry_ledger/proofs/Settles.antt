@@ -6,10 +6,10 @@ use Rattle.std.proofs.lemmas.Option.{get_or_from_slice_get, slice_get-get_or}
 use Rattle.entry_ref.specs.References.{buffer_of, packed, buffer_limit}
 use Rattle.entry_ref.proofs.Bits.{packed-buffer}
 use Rattle.buffer_states.specs.declared.Buffer.{Buffer}
-use Rattle.buffer_states.specs.Buffers.{buffer_at, is_active}
+use Rattle.buffer_states.specs.Buffers.{buffer_at, is_state_active}
 use Rattle.buffer_shelf.specs.declared.state.State.{State}
 use Rattle.buffer_shelf.specs.declared.state.State.TheVariants.{Free, Returned, Made, InUse, LetGo, DroppedNow, Dropped}
-use Rattle.buffer_shelf.specs.States.{ShelfView, empty_shelf, is_touched, is_dead, is_dropped, state_at, settled, with_state_at}
+use Rattle.buffer_shelf.specs.States.{ShelfView, empty_shelf, is_touched, is_dead, is_dropped, state_at, settled_state, with_state_at}
 use Rattle.buffer_shelf.proofs.Settling.{settled-touched}
 use Rattle.entry_shelves.specs.Shelves.{shelf_at}
 use Rattle.hold_lists.specs.Held.{HeldEntry, untagged}
@@ -50,7 +50,7 @@ module _ (bits : ℕ) (v : LedgerView) (held : List HeldEntry) (room unheld : �
   was = state_at shelf.states x
 
   abbrev pub now : State
-  now = settled accepts v.last v.generation was
+  now = settled_state accepts v.last v.generation was
 
   abbrev pub buffer : Buffer
   buffer = settled_buffer accepts was (buffer_at v.buffers b)
@@ -82,8 +82,8 @@ module _ (bits : ℕ) (v : LedgerView) (held : List HeldEntry) (room unheld : �
   pub settle-state : (entries_in bits v).state entry ≡ Some was
   settle-state = state-at bits v.shelves.shelves b x low ∙ slice_get-get_or shelf.states x Free there
 
-  active : is_active ((entries_in bits v).mark (buffer_of bits entry)).state ≡ true
-  active = ap (λ n. is_active ((entries_in bits v).mark n).state) (packed-buffer bits (x + 1) b low) ∙ place-active bits v held room unheld k b x there
+  active : is_state_active ((entries_in bits v).mark (buffer_of bits entry)).state ≡ true
+  active = ap (λ n. is_state_active ((entries_in bits v).mark n).state) (packed-buffer bits (x + 1) b low) ∙ place-active bits v held room unheld k b x there
 
   pub settle-kept : (enters : Bool) → enters ≡ (accepts && is_dropped_now was)
       → AreEntries bits after (held_after enters entry (record { held = held; room = room })).held (held_after enters entry (record { held = held; room = room })).room (cond enters (unheld - 1) unheld)

@@ -5,13 +5,13 @@ use Rattle.std.proofs.lemmas.Bool.{cases_eq, eq-eqb, ne_eqb, true≢false}
 use Rattle.entry_ref.specs.References.{buffer_of}
 use Rattle.store_api.specs.Ledgers.{OfWidth, widths, buffers_in, one_more, with_counts}
 use Rattle.store_api.specs.Calls.{took_spare}
-use Rattle.buffer_states.specs.Buffers.{is_free, is_active, is_on_hold}
+use Rattle.buffer_states.specs.Buffers.{is_state_free, is_state_active, is_on_hold}
 use Rattle.buffer_shelf.specs.declared.state.State.{State}
 use Rattle.buffer_shelf.specs.declared.state.State.TheVariants.{Free, Returned, Made, InUse, LetGo, DroppedNow, Dropped}
 use Rattle.hold_lists.specs.Held.{HeldEntry, HoldTag}
-use Rattle.entry_ledger.specs.Entries.{EntriesView, is_up_to, count_marks}
+use Rattle.entry_ledger.specs.Entries.{EntriesView, is_timely, count_marks}
 use Rattle.entry_ledger.specs.Calls.{with_state, made_at}
-use Rattle.entry_ledger.specs.Ledgers.{tag_fits, tag_below, held_fits, is_in_list, IsList, IsSound}
+use Rattle.entry_ledger.specs.Ledgers.{tag_fits, tag_below, held_fits, is_in_list, IsHeldList, IsSound}
 
 some_inside : (a b : State) → Some a ≡ Some b → a ≡ b
 some_inside a b e = cc
@@ -43,7 +43,7 @@ state-cases states r new q s is here other = elim (cases_eq q r) [
 pub sound-made : (e : EntriesView) (width r : ℕ) → IsSound e → IsSound (made_at e width r)
 sound-made e width r k = record {
   order = k.order;
-  up_to = λ q s is. state-cases e.state r Made q s is (λ same new. ap (is_up_to e) (sym new)) (λ was. k.up_to q s was);
+  up_to = λ q s is. state-cases e.state r Made q s is (λ same new. ap (is_timely e) (sym new)) (λ was. k.up_to q s was);
   marks = λ b. record { width = (k.marks b).width; from = (k.marks b).from; to = (k.marks b).to };
   sealed = λ b is. record {
     below = (k.sealed b is).below;
@@ -52,7 +52,7 @@ sound-made e width r k = record {
   };
   finished = k.finished;
   few_made = made-few;
-  whole = ap (λ n. count_marks is_free e.mark e.count + n)
+  whole = ap (λ n. count_marks is_state_free e.mark e.count + n)
       (buffers-in-same (with_counts e.of_width width (took_spare (e.of_width width))) e.of_width (counts-keep (λ c. c.buffers) e.of_width width (took_spare (e.of_width width)) refl) widths)
       ∙ k.whole;
 }
@@ -86,10 +86,10 @@ not-tagged last generation (Some tag) (Some (DroppedNow after)) never = refl
 not-tagged last generation (Some tag) (Some (Dropped after g)) never = absurd (never after g refl)
 
 -- the list stays where an entry of an active buffer that is not dropped gets a state that is not either
-pub list-keep : (bits : ℕ) (e new : EntriesView) (held : List HeldEntry) (r : ℕ) (state : State) → IsList bits e held
+pub list-keep : (bits : ℕ) (e new : EntriesView) (held : List HeldEntry) (r : ℕ) (state : State) → IsHeldList bits e held
     → new.last ≡ e.last → new.generation ≡ e.generation → ((b : ℕ) → new.mark b ≡ e.mark b) → ((q : ℕ) → new.state q ≡ with_state e.state r state q)
-    → is_active (e.mark (buffer_of bits r)).state ≡ true → ((after g : ℕ) → e.state r ≡ Some (Dropped after g) → ⊥) → ((after g : ℕ) → state ≡ Dropped after g → ⊥)
-    → IsList bits new held
+    → is_state_active (e.mark (buffer_of bits r)).state ≡ true → ((after g : ℕ) → e.state r ≡ Some (Dropped after g) → ⊥) → ((after g : ℕ) → state ≡ Dropped after g → ⊥)
+    → IsHeldList bits new held
 list-keep bits e new held r state k last generation marks states active was now = record {
   each = All-weaker (λ h. is_in_list bits e h ≡ true) (λ h. is_in_list bits new h ≡ true) each held k.each;
   apart = k.apart;
@@ -106,7 +106,7 @@ list-keep bits e new held r state k last generation marks states active was now 
     each : (h : HeldEntry) → is_in_list bits e h ≡ true → is_in_list bits new h ≡ true
     each h is = elim (cases_eq h.entry r) [
       | inl same ↦
-          (let here : is_active (e.mark (buffer_of bits h.entry)).state ≡ true = ap (λ q. is_active (e.mark (buffer_of bits q)).state) same ∙ active in
+          (let here : is_state_active (e.mark (buffer_of bits h.entry)).state ≡ true = ap (λ q. is_state_active (e.mark (buffer_of bits q)).state) same ∙ active in
           let fits : tag_fits e.last e.generation h.tag (e.state h.entry) ≡ true =
           sym (ap (λ t. cond t (tag_fits e.last e.generation h.tag (e.state h.entry)) (cond (is_on_hold (e.mark (buffer_of bits h.entry)).state) (tag_below (e.mark (buffer_of bits h.entry)).generation h.tag) false)) here) ∙ is in
           absurd (true≢false (sym fits ∙ not-tagged e.last e.generation h.tag (e.state h.entry) (λ after g d. was after g (ap e.state (sym same) ∙ d)))))

@@ -8,7 +8,7 @@ use Rattle.buffer_states.specs.declared.Buffer.{Buffer}
 use Rattle.buffer_states.specs.Buffers.{buffer_at}
 use Rattle.buffer_shelf.specs.declared.state.State.{State}
 use Rattle.buffer_shelf.specs.declared.state.State.TheVariants.{Free, Returned, Made, InUse, LetGo, DroppedNow, Dropped}
-use Rattle.buffer_shelf.specs.States.{ShelfView, empty_shelf, is_touched, is_made, state_at, settled, with_state_at}
+use Rattle.buffer_shelf.specs.States.{ShelfView, empty_shelf, is_touched, is_made, state_at, settled_state, with_state_at}
 use Rattle.buffer_shelf.proofs.StackSteps.{count-none}
 use Rattle.entry_shelves.specs.declared.shelves.Changed.{Changed}
 use Rattle.entry_shelves.specs.Shelves.{ShelvesView, shelf_at, with_shelf, SettlesOne}
@@ -97,8 +97,8 @@ module _ (bits : ℕ) (v : LedgerView) (held : List HeldEntry) (room unheld : �
 
     stepped_is : stepped ≡ after bits v held room unheld k accepts step.buffer step.place settles.buffer settles.below touched
     stepped_is =
-        let shelves : new ≡ with_shelf v.shelves step.buffer (with_state_at shelf step.place (settled accepts v.last v.generation was)) =
-        settles.same ∙ ap (λ s. with_shelf v.shelves step.buffer (with_state_at shelf step.place s)) (settles.now ∙ ap (settled accepts v.last v.generation) settles.was) in
+        let shelves : new ≡ with_shelf v.shelves step.buffer (with_state_at shelf step.place (settled_state accepts v.last v.generation was)) =
+        settles.same ∙ ap (λ s. with_shelf v.shelves step.buffer (with_state_at shelf step.place s)) (settles.now ∙ ap (settled_state accepts v.last v.generation) settles.was) in
         let counts : buffers ≡ set v.buffers step.buffer (settled_buffer accepts was (buffer_at v.buffers step.buffer)) =
         buffers_is ∙ ap (λ s. set v.buffers step.buffer (settled_buffer accepts s (buffer_at v.buffers step.buffer))) settles.was in
         λ i. record v { shelves = shelves i; buffers = counts i }

@@ -9,7 +9,7 @@ use Rattle.entry_ref.specs.References.{packed, buffer_limit}
 use Rattle.store_api.specs.Ledgers.{is_width, one_more, with_counts}
 use Rattle.store_api.specs.Calls.{took_spare}
 use Rattle.buffer_states.specs.declared.Buffer.{Buffer}
-use Rattle.buffer_states.specs.Buffers.{new_buffer, buffer_at, is_free}
+use Rattle.buffer_states.specs.Buffers.{new_buffer, buffer_at, is_state_free}
 use Rattle.buffer_shelf.specs.declared.state.State.{State}
 use Rattle.buffer_shelf.specs.declared.state.State.TheVariants.{Free, Returned, Made, InUse, LetGo, DroppedNow, Dropped}
 use Rattle.buffer_shelf.specs.States.{ShelfView, is_free_state, is_made, state_at, IsOpen, with_made}
@@ -72,7 +72,7 @@ row-made made width w n eleven valid = elim (cases_eq w width) [
 pub buffers-same : (buffers : List Buffer) (b : ℕ) (new : Buffer) → b < length buffers → mark_of new ≡ mark_of (buffer_at buffers b)
     → (w : ℕ) → count_by (is_buffer_of w) (set buffers b new) ≡ count_by (is_buffer_of w) buffers
 buffers-same buffers b new h same w =
-    let test : is_buffer_of w new ≡ is_buffer_of w (buffer_at buffers b) = ap (λ (m : Mark). not (is_free m.state) && eqb m.width w) same in
+    let test : is_buffer_of w new ≡ is_buffer_of w (buffer_at buffers b) = ap (λ (m : Mark). not (is_state_free m.state) && eqb m.width w) same in
     let equal : one_if (is_buffer_of w new) ≡ one_if (is_buffer_of w (buffer_at buffers b)) = ap one_if test in
     omega (arith, count_by-set (is_buffer_of w) buffers b new new_buffer h, equal)
 

@@ -11,7 +11,7 @@ use Rattle.entry_ref.proofs.Bits.{packed-buffer, packed-offset}
 use Rattle.store_api.specs.Ledgers.{is_width, capacity, one_more}
 use Rattle.store_api.specs.Calls.{took_spare}
 use Rattle.buffer_states.specs.declared.Buffer.{Buffer}
-use Rattle.buffer_states.specs.Buffers.{new_buffer, buffer_at, is_active}
+use Rattle.buffer_states.specs.Buffers.{new_buffer, buffer_at, is_state_active}
 use Rattle.buffer_shelf.specs.declared.state.State.{State}
 use Rattle.buffer_shelf.specs.declared.state.State.TheVariants.{Free, Made, Dropped}
 use Rattle.buffer_shelf.specs.States.{ShelfView, empty_shelf, is_free_state, IsOpen, with_made}
@@ -90,10 +90,10 @@ module _ (bits : ℕ) (v : LedgerView) (held : List HeldEntry) (room unheld : �
   take-room : (0 < shelf.width) × (shelf.room ≡ capacity v.shelves.words shelf.width)
   take-room = (let low = open-low shelf t.place (k.counted t.buffer).of.taken takes.is_open in room-of v.shelves.words shelf (k.counted t.buffer).of (omega (arith, low)))
 
-  pub take-active : is_active (buffer_at v.buffers t.buffer).state ≡ true
-  take-active = by_test (is_active (buffer_at v.buffers t.buffer).state) refl
+  pub take-active : is_state_active (buffer_at v.buffers t.buffer).state ≡ true
+  take-active = by_test (is_state_active (buffer_at v.buffers t.buffer).state) refl
     where
-      by_test : (a : Bool) → is_active (buffer_at v.buffers t.buffer).state ≡ a → a ≡ true
+      by_test : (a : Bool) → is_state_active (buffer_at v.buffers t.buffer).state ≡ a → a ≡ true
       by_test true is = refl
       by_test false is =
           let none : shelf.width ≡ 0 = (k.counted t.buffer).width ∙ ap (λ a. cond a (buffer_at v.buffers t.buffer).width 0) is in
@@ -211,7 +211,7 @@ module _ (bits : ℕ) (v : LedgerView) (held : List HeldEntry) (room unheld : �
           (subst (λ xs. count_by (is_buffer_of w) v.buffers * capacity v.shelves.words w ≤ made_at new.made w + unmade_of_width xs w) (sym shelves_is) (enough w is (cases_eq w width))));
       sound = subst IsSound (sym take-entries) (sound-made e width entry k.sound);
       list = list-keep bits e (entries_in bits after) held entry Made k.list refl refl (λ b. ap (λ (u : EntriesView). u.mark b) take-entries) (λ q. ap (λ (u : EntriesView). u.state q) take-entries)
-          (ap (λ n. is_active (e.mark n).state) (packed-buffer bits (t.place + 1) t.buffer take-low) ∙ take-active)
+          (ap (λ n. is_state_active (e.mark n).state) (packed-buffer bits (t.place + 1) t.buffer take-low) ∙ take-active)
           (λ past g is. open-undropped shelf t.place takes.is_open past g (sym (state-at bits v.shelves.shelves t.buffer t.place take-low) ∙ is))
           (λ past g is. absurd (cc));
       unheld_is =

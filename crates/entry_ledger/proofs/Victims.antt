@@ -7,7 +7,7 @@ use Rattle.std.proofs.lemmas.Bool.{cases_lt, cases_eq, and_parts, lt-ltb, ltb-tr
 use Rattle.list_facts.specs.Counting.{one_if}
 use Rattle.entry_ref.specs.References.{packed}
 use Rattle.store_api.specs.Ledgers.{capacity}
-use Rattle.buffer_states.specs.Buffers.{buffer_at, is_active, is_candidate}
+use Rattle.buffer_states.specs.Buffers.{buffer_at, is_state_active, is_candidate}
 use Rattle.buffer_states.specs.Buffers.{IsVictim as IsVictimBuffer}
 use Rattle.buffer_shelf.specs.declared.state.State.{State}
 use Rattle.buffer_shelf.specs.States.{ShelfView, is_dead}
@@ -100,9 +100,9 @@ module _ (bits : ℕ) (v : LedgerView) (held : List HeldEntry) (room unheld : �
   candidate-is : (b : ℕ) → b < length v.buffers → is_candidate (buffer_at v.buffers b) ≡ true → IsCandidate bits e b
   candidate-is b below is =
       let buffer = buffer_at v.buffers b in
-      let last = and_parts (is_active buffer.state && not buffer.filled && not buffer.sealed) (nat_lt buffer.used (buffer.dead * 20)) is in
-      let seal = and_parts (is_active buffer.state && not buffer.filled) (not buffer.sealed) last.0 in
-      let flag = and_parts (is_active buffer.state) (not buffer.filled) seal.0 in
+      let last = and_parts (is_state_active buffer.state && not buffer.filled && not buffer.sealed) (nat_lt buffer.used (buffer.dead * 20)) is in
+      let seal = and_parts (is_state_active buffer.state && not buffer.filled) (not buffer.sealed) last.0 in
+      let flag = and_parts (is_state_active buffer.state) (not buffer.filled) seal.0 in
       let dead : buffer.used < buffer.dead * 20 = ltb-true buffer.used (buffer.dead * 20) last.1 in
       record {
         below = omega (arith, below, k.count);

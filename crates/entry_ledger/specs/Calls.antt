@@ -6,10 +6,10 @@ use Rattle.image_base.specs.Places.{IsEntry}
 use Rattle.store_api.specs.Ledgers.{capacity, no_counts, with_counts}
 use Rattle.store_api.specs.Calls.{GivesBackOf, DropsOf, EndsOf, SealsOf, took_spare}
 use Rattle.buffer_states.specs.declared.BufferState.TheVariants.{Free, Active, OnHold}
-use Rattle.buffer_states.specs.Buffers.{is_free, is_active, is_on_hold}
+use Rattle.buffer_states.specs.Buffers.{is_state_free, is_state_active, is_on_hold}
 use Rattle.buffer_shelf.specs.declared.state.State.{State}
 use Rattle.buffer_shelf.specs.declared.state.State.TheVariants.{Free as FreeState, Made, Dropped}
-use Rattle.buffer_shelf.specs.States.{dropped, accepted, undone, settled, is_touched}
+use Rattle.buffer_shelf.specs.States.{dropped, accepted, undone, settled_state, is_touched}
 use Rattle.entry_ledger.specs.Entries.{EntriesView, Mark, width_of, is_open_entry, is_free_entry, is_settled_entry, used_words, dead_words}
 
 -- one entry has another state
@@ -76,7 +76,7 @@ pub record StepsEnd (accepts : Bool) (old new : EntriesView) : Type 0 where
   pub was : State
   pub is : old.state entry ≡ Some was
   pub touched : is_touched was ≡ true
-  pub state : (q : ℕ) → new.state q ≡ with_state old.state entry (settled accepts old.last old.generation was) q
+  pub state : (q : ℕ) → new.state q ≡ with_state old.state entry (settled_state accepts old.last old.generation was) q
   pub counts : (w : ℕ) → EndsOf (old.of_width w) (new.of_width w)
   pub even : accepts ≡ false → (w : ℕ) → (new.of_width w).spare + (new.of_width w).fresh ≡ (old.of_width w).spare + (old.of_width w).fresh
   pub same : new ≡ record old { state = new.state; of_width = new.of_width }
@@ -133,7 +133,7 @@ retired_at bits e b = record e {
 -- an active buffer that is not filled and not sealed, and of which more than a twentieth is dead
 pub record IsCandidate (bits : ℕ) (e : EntriesView) (b : ℕ) : Type 0 where
   pub below : b < e.count
-  pub active : is_active (e.mark b).state ≡ true
+  pub active : is_state_active (e.mark b).state ≡ true
   pub unfilled : (e.of_width (e.mark b).width).filled ≡ Some b → ⊥
   pub unsealed : (e.mark b).sealed ≡ false
   pub dead : used_words bits e b < dead_words bits e b * 20
@@ -147,5 +147,5 @@ pub record IsVictim (bits : ℕ) (e : EntriesView) (b : ℕ) : Type 0 where
 -- the free buffer of lowest number
 pub record IsLowestFree (e : EntriesView) (b : ℕ) : Type 0 where
   pub below : b < e.count
-  pub free : is_free (e.mark b).state ≡ true
-  pub lowest : (a : ℕ) → a < b → is_free (e.mark a).state ≡ false
+  pub free : is_state_free (e.mark b).state ≡ true
+  pub lowest : (a : ℕ) → a < b → is_state_free (e.mark a).state ≡ false

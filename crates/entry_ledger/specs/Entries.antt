@@ -5,7 +5,7 @@ use Rattle.entry_ref.specs.References.{buffer_of, packed}
 use Rattle.image_base.specs.Places.{IsEntry}
 use Rattle.store_api.specs.Ledgers.{OfWidth, is_width, widths, capacity, buffers_in}
 use Rattle.buffer_states.specs.declared.BufferState.{BufferState}
-use Rattle.buffer_states.specs.Buffers.{is_free, is_active, is_on_hold}
+use Rattle.buffer_states.specs.Buffers.{is_state_free, is_state_active, is_on_hold}
 use Rattle.buffer_shelf.specs.declared.state.State.{State}
 use Rattle.buffer_shelf.specs.declared.state.State.TheVariants.{InUse, DroppedNow, Dropped}
 use Rattle.buffer_shelf.specs.States.{is_free_state, is_touched, is_used, is_dead}
@@ -34,7 +34,7 @@ pub record EntriesView : Type 0 where
 
 -- the words of an active buffer's entries, 0 for the others
 abbrev pub width_of : EntriesView → ℕ → ℕ
-width_of e b = if is_active (e.mark b).state then (e.mark b).width else 0
+width_of e b = if is_state_active (e.mark b).state then (e.mark b).width else 0
 
 -- a reference names an entry of an active buffer
 abbrev pub IsEntryOf : ℕ → EntriesView → ℕ → Type 0
@@ -73,11 +73,11 @@ is_dropped_since last (Some (Dropped after generation)) = nat_eq after last
 is_dropped_since last state = false
 
 -- a state names no commit after the last; nothing is held under a generation below the oldest or after the current one
-abbrev pub is_up_to : EntriesView → State → Bool
-is_up_to e (InUse after) = nat_le after e.last
-is_up_to e (DroppedNow after) = nat_lt after e.last
-is_up_to e (Dropped after generation) = nat_le after e.last && nat_le e.oldest generation && nat_le generation e.generation
-is_up_to e state = true
+abbrev pub is_timely : EntriesView → State → Bool
+is_timely e (InUse after) = nat_le after e.last
+is_timely e (DroppedNow after) = nat_lt after e.last
+is_timely e (Dropped after generation) = nat_le after e.last && nat_le e.oldest generation && nat_le generation e.generation
+is_timely e state = true
 
 -- how many of the first n entries of a buffer have a state that passes
 abbrev pub count_entries : {A : Type 0} → ℕ → (A → Bool) → (ℕ → A) → ℕ → ℕ → ℕ
@@ -108,20 +108,20 @@ pub record IsSpare (bits : ℕ) (e : EntriesView) (width r : ℕ) : Type 0 where
 
 -- a buffer on hold has a generation from the oldest to the current one
 pub record IsMark (e : EntriesView) (mark : Mark) : Type 0 where
-  pub width : is_free mark.state ≡ false → is_width mark.width ≡ true
+  pub width : is_state_free mark.state ≡ false → is_width mark.width ≡ true
   pub from : is_on_hold mark.state ≡ true → e.oldest ≤ mark.generation
   pub to : is_on_hold mark.state ≡ true → mark.generation ≤ e.generation
 
 -- a sealed buffer is active, and not the one of its width that is filled
 pub record IsSealed (e : EntriesView) (b : ℕ) : Type 0 where
   pub below : b < e.count
-  pub active : is_active (e.mark b).state ≡ true
+  pub active : is_state_active (e.mark b).state ≡ true
   pub unfilled : (e.of_width (e.mark b).width).filled ≡ Some b → ⊥
 
 -- what is always so
 pub record IsGood (bits : ℕ) (e : EntriesView) : Type 0 where
   pub entries : (r : ℕ) (s : State) → e.state r ≡ Some s → IsEntryOf bits e r
-  pub up_to : (r : ℕ) (s : State) → e.state r ≡ Some s → is_up_to e s ≡ true
+  pub up_to : (r : ℕ) (s : State) → e.state r ≡ Some s → is_timely e s ≡ true
   pub marks : (b : ℕ) → IsMark e (e.mark b)
   pub sealed : (b : ℕ) → (e.mark b).sealed ≡ true → IsSealed e b
   pub finished : (b : ℕ) → e.finished ≡ Some b → (e.mark b).sealed ≡ true
@@ -133,4 +133,4 @@ pub record IsGood (bits : ℕ) (e : EntriesView) : Type 0 where
   pub few : (w : ℕ) → is_width w ≡ true → (e.of_width w).buffers ≤ 1 + (e.of_width w).made / capacity e.words w
   pub few_made : (w : ℕ) → (e.of_width w).made ≤ 18446744073709551615
   -- each buffer is free or one of a width
-  pub whole : count_marks is_free e.mark e.count + buffers_in e.of_width widths ≡ e.count
+  pub whole : count_marks is_state_free e.mark e.count + buffers_in e.of_width widths ≡ e.count

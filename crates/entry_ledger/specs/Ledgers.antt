@@ -4,14 +4,14 @@ use Rattle.std.specs.List.{slice_get, list_any}
 use Rattle.entry_ref.specs.References.{buffer_of, offset_of, buffer_limit, offset_limit}
 use Rattle.store_api.specs.Ledgers.{OfWidth, is_width, is_this, widths, capacity, buffers_in}
 use Rattle.buffer_states.specs.declared.Buffer.{Buffer}
-use Rattle.buffer_states.specs.Buffers.{buffer_at, with_released, is_free, is_active, is_on_hold}
+use Rattle.buffer_states.specs.Buffers.{buffer_at, with_released, is_state_free, is_state_active, is_on_hold}
 use Rattle.buffer_shelf.specs.declared.state.State.{State}
 use Rattle.buffer_shelf.specs.declared.state.State.TheVariants.{Free as FreeState, Made, Returned, LetGo, DroppedNow, Dropped}
 use Rattle.buffer_shelf.specs.States.{ShelfView, state_at, with_state_at, is_made, is_dead, is_dropped, is_held, is_touched}
 use Rattle.entry_shelves.specs.Shelves.{ShelvesView, shelf_at, with_shelf, made_at, filled_at, spare_of_width}
 use Rattle.entry_shelves.specs.Kept.{IsOfWidth}
 use Rattle.hold_lists.specs.Held.{HeldEntry, HeldList, HoldTag, untagged}
-use Rattle.entry_ledger.specs.Entries.{EntriesView, Mark, is_up_to, IsMark, IsSealed, count_marks}
+use Rattle.entry_ledger.specs.Entries.{EntriesView, Mark, is_timely, IsMark, IsSealed, count_marks}
 
 pub record LedgerView : Type 0 where
   pub shelves : ShelvesView
@@ -34,7 +34,7 @@ fresh_in w shelf = if nat_eq shelf.width w && not shelf.sealed then count_by is_
 
 -- an active buffer of this width, or one on hold
 abbrev pub is_buffer_of : ℕ → Buffer → Bool
-is_buffer_of w buffer = not (is_free buffer.state) && nat_eq buffer.width w
+is_buffer_of w buffer = not (is_state_free buffer.state) && nat_eq buffer.width w
 
 abbrev pub counts_of : LedgerView → ℕ → OfWidth
 counts_of v w = record {
@@ -143,7 +143,7 @@ tag_below generation (Some tag) = nat_le tag.generation generation
 
 abbrev pub held_fits : ℕ → ℕ → Mark → Option HoldTag → Option State → Bool
 held_fits last generation mark tag state =
-    if is_active mark.state then tag_fits last generation tag state else
+    if is_state_active mark.state then tag_fits last generation tag state else
     (if is_on_hold mark.state then tag_below mark.generation tag else false)
 
 -- an entry in the list is dropped, or lay in a buffer that is on hold
@@ -153,7 +153,7 @@ is_in_list bits e h = held_fits e.last e.generation (e.mark (buffer_of bits h.en
 -- the counts of a buffer are those of its shelf
 pub record IsCounted (words last : ℕ) (buffer : Buffer) (shelf : ShelfView) : Type 0 where
   pub of : IsOfWidth words shelf
-  pub width : shelf.width ≡ (if is_active buffer.state then buffer.width else 0)
+  pub width : shelf.width ≡ (if is_state_active buffer.state then buffer.width else 0)
   pub sealed : buffer.sealed ≡ shelf.sealed
   pub used : buffer.used ≡ shelf.width * (1 + length shelf.states)
   pub dead : buffer.dead ≡ shelf.width * count_by is_dead shelf.states
@@ -165,7 +165,7 @@ abbrev pub IsFlagged : List (Option ℕ) → ℕ → Buffer → Type 0
 IsFlagged filled b buffer = buffer.filled ≡ is_this (filled_at filled buffer.width) b
 
 -- what the list has: each dropped entry once
-pub record IsList (bits : ℕ) (e : EntriesView) (held : List HeldEntry) : Type 0 where
+pub record IsHeldList (bits : ℕ) (e : EntriesView) (held : List HeldEntry) : Type 0 where
   pub each : All (λ h. is_in_list bits e h ≡ true) held
   pub apart : AllPairs (λ a b. a.entry ≢ b.entry) held
   pub all : (r after g : ℕ) → e.state r ≡ Some (Dropped after g) → list_any (λ (h : HeldEntry). nat_eq h.entry r) held ≡ true
@@ -173,12 +173,12 @@ pub record IsList (bits : ℕ) (e : EntriesView) (held : List HeldEntry) : Type 
 -- what holds of states, buffers and counts, whatever the shelves
 pub record IsSound (e : EntriesView) : Type 0 where
   pub order : e.oldest ≤ e.generation
-  pub up_to : (r : ℕ) (s : State) → e.state r ≡ Some s → is_up_to e s ≡ true
+  pub up_to : (r : ℕ) (s : State) → e.state r ≡ Some s → is_timely e s ≡ true
   pub marks : (b : ℕ) → IsMark e (e.mark b)
   pub sealed : (b : ℕ) → (e.mark b).sealed ≡ true → IsSealed e b
   pub finished : (b : ℕ) → e.finished ≡ Some b → (e.mark b).sealed ≡ true
   pub few_made : (w : ℕ) → (e.of_width w).made ≤ 18446744073709551615
-  pub whole : count_marks is_free e.mark e.count + buffers_in e.of_width widths ≡ e.count
+  pub whole : count_marks is_state_free e.mark e.count + buffers_in e.of_width widths ≡ e.count
 
 pub record AreEntries (bits : ℕ) (v : LedgerView) (held : List HeldEntry) (room unheld : ℕ) : Type 0 where
   pub count : length v.buffers ≡ length v.shelves.shelves
@@ -198,6 +198,6 @@ pub record AreEntries (bits : ℕ) (v : LedgerView) (held : List HeldEntry) (roo
   pub enough : (w : ℕ) → is_width w ≡ true
       → count_by (is_buffer_of w) v.buffers * capacity v.shelves.words w ≤ made_at v.shelves.made w + unmade_of_width v.shelves.shelves w
   pub sound : IsSound (entries_of bits v)
-  pub list : IsList bits (entries_of bits v) held
+  pub list : IsHeldList bits (entries_of bits v) held
   pub unheld_is : unheld ≡ sum_by unheld_in v.shelves.shelves
   pub fits : unheld ≤ room

@@ -2,7 +2,7 @@ ghost use Rattle.std.specs.Prelude.{◌≡◌, ◌≢◌, ◌↔◌, ◌<◌, �
 ghost use Rattle.std.specs.Prelude.{length, slice_set, Some, None, IsNone, IfSome, IfNone, IfOk, OnOk, OnErr};
 ghost use Rattle.entry_ref.specs.References.{buffer_limit, offset_limit, buffer_of};
 ghost use Rattle.store_api.specs.Ledgers.{is_width};
-ghost use Rattle.buffer_states.specs.Buffers.{buffer_at, is_free, is_active, is_on_hold};
+ghost use Rattle.buffer_states.specs.Buffers.{buffer_at, is_state_free, is_state_active, is_on_hold};
 ghost use Rattle.buffer_shelf.specs.declared.state.State.{State};
 ghost use Rattle.entry_shelves.specs.Shelves.{shelf_at};
 ghost use Rattle.entry_ledger.specs.Ledgers.{entries_of, taken_buffer, dropped_buffer, settled_buffer};
@@ -128,7 +128,7 @@ impl<const OFFSET_BITS: u32> EntryLedger<OFFSET_BITS> {
     #[tactic(none)]
     pub fn lowest_free(&self) -> Option<u32>
         ensures none { IfNone result ((b : ℕ) → b < (entries_of OFFSET_BITS self.now).count
-            → is_free ((entries_of OFFSET_BITS self.now).mark b).state ≡ false) }
+            → is_state_free ((entries_of OFFSET_BITS self.now).mark b).state ≡ false) }
         ensures lowest { IfSome result (IsLowestFree (entries_of OFFSET_BITS self.now)) }
     {
         self.buffers.lowest_free()
@@ -137,7 +137,7 @@ impl<const OFFSET_BITS: u32> EntryLedger<OFFSET_BITS> {
     /// How many buffers are active.
     #[tactic(none)]
     pub fn active(&self) -> u32
-        ensures { result ≡ count_marks is_active (entries_of OFFSET_BITS self.now).mark (entries_of OFFSET_BITS self.now).count }
+        ensures { result ≡ count_marks is_state_active (entries_of OFFSET_BITS self.now).mark (entries_of OFFSET_BITS self.now).count }
     {
         self.buffers.active()
     }
@@ -271,7 +271,7 @@ impl<const OFFSET_BITS: u32> EntryLedger<OFFSET_BITS> {
     #[tactic(none)]
     pub fn open_buffer(&mut self, buffer: u32, width: u32) -> Result<(), AllocError>
         requires inside { buffer < (entries_of OFFSET_BITS self.old).count }
-        requires free { is_free ((entries_of OFFSET_BITS self.old).mark buffer).state ≡ true }
+        requires free { is_state_free ((entries_of OFFSET_BITS self.old).mark buffer).state ≡ true }
         requires width { is_width width ≡ true }
         requires spare { ((entries_of OFFSET_BITS self.old).of_width width).spare ≡ 0 }
         ensures ok { OnOk result (entries_of OFFSET_BITS self.new ≡ opened_at (entries_of OFFSET_BITS self.old) buffer width) }
@@ -289,7 +289,7 @@ impl<const OFFSET_BITS: u32> EntryLedger<OFFSET_BITS> {
     /// Marks an active buffer, which is not the filled one of its width: nothing of it is made any more.
     #[tactic(none)]
     pub fn seal(&mut self, buffer: u32)
-        requires active { is_active ((entries_of OFFSET_BITS self.old).mark buffer).state ≡ true }
+        requires active { is_state_active ((entries_of OFFSET_BITS self.old).mark buffer).state ≡ true }
         requires unfilled { ((entries_of OFFSET_BITS self.old).of_width ((entries_of OFFSET_BITS self.old).mark buffer).width).filled
             ≢ Some buffer }
         ensures seals { Seals (entries_of OFFSET_BITS self.old) (entries_of OFFSET_BITS self.new) buffer }

@@ -3,26 +3,26 @@ use Rattle.std.proofs.Common.{◌≡◌, ◌≢◌, ℕ, suc, ◌<◌, ◌≤◌
 use Rattle.std.specs.List.{list_any, list_all}
 use Rattle.std.proofs.lemmas.Bool.{cases_eq, or_cases, and_parts, eqb-true, eq-eqb, ne_eqb, leb-true, true≢false}
 use Rattle.store_api.specs.Ledgers.{widths, is_width}
-use Rattle.entry_shelves.specs.Shelves.{place_in, row_of}
+use Rattle.entry_shelves.specs.Shelves.{place_among, row_of}
 
 -- a number that is in the list stands at its place
-place_in-is : (w : ℕ) (vs : List ℕ) → list_any (eqb w) vs ≡ true → (place_in w vs < length vs) × (get_or vs (place_in w vs) 0 ≡ w)
+place_in-is : (w : ℕ) (vs : List ℕ) → list_any (eqb w) vs ≡ true → (place_among w vs < length vs) × (get_or vs (place_among w vs) 0 ≡ w)
 place_in-is w [] is = absurd (cc)
 place_in-is w (v ∷ vs) is = by_test (eqb w v) refl (place_in-is w vs)
   where
-    by_test : (t : Bool) → eqb w v ≡ t → (list_any (eqb w) vs ≡ true → (place_in w vs < length vs) × (get_or vs (place_in w vs) 0 ≡ w))
-        → (cond t 0 (suc (place_in w vs)) < suc (length vs)) × (get_or (v ∷ vs) (cond t 0 (suc (place_in w vs))) 0 ≡ w)
+    by_test : (t : Bool) → eqb w v ≡ t → (list_any (eqb w) vs ≡ true → (place_among w vs < length vs) × (get_or vs (place_among w vs) 0 ≡ w))
+        → (cond t 0 (suc (place_among w vs)) < suc (length vs)) × (get_or (v ∷ vs) (cond t 0 (suc (place_among w vs))) 0 ≡ w)
     by_test true e later = (omega arith, sym (eqb-true w v e))
     by_test false e later =
         let rest : list_any (eqb w) vs ≡ true = ⊎_elim (λ (t : eqb w v ≡ true). absurd (true≢false (sym t ∙ e))) (λ t. t) (or_cases _ _ is) in
         (omega (arith, (later rest).0), (later rest).1)
 
-place_in-out : (w : ℕ) (vs : List ℕ) → list_any (eqb w) vs ≡ false → place_in w vs ≡ length vs
+place_in-out : (w : ℕ) (vs : List ℕ) → list_any (eqb w) vs ≡ false → place_among w vs ≡ length vs
 place_in-out w [] out = refl
 place_in-out w (v ∷ vs) out = by_test (eqb w v) refl out (place_in-out w vs)
   where
-    by_test : (t : Bool) → eqb w v ≡ t → list_any (eqb w) (v ∷ vs) ≡ false → (list_any (eqb w) vs ≡ false → place_in w vs ≡ length vs)
-        → cond t 0 (suc (place_in w vs)) ≡ suc (length vs)
+    by_test : (t : Bool) → eqb w v ≡ t → list_any (eqb w) (v ∷ vs) ≡ false → (list_any (eqb w) vs ≡ false → place_among w vs ≡ length vs)
+        → cond t 0 (suc (place_among w vs)) ≡ suc (length vs)
     by_test true e out later = absurd (cc)
     by_test false e out later = ap suc (later (cc))
 

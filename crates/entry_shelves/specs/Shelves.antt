@@ -1,7 +1,7 @@
 -- The shelves of all buffers, and by width how often an entry was made and which buffer is filled.
 use Rattle.std.specs.Prelude.{◌≡◌, ℕ, suc, ◌<◌, ◌&&◌, Bool, true, false, not, nat_eq, if◌then◌else◌, List, [], ◌∷◌, length, slice_set, slice_index_or, sum_by, count_by, Option, None}
 use Rattle.store_api.specs.Ledgers.{widths, one_more}
-use Rattle.buffer_shelf.specs.States.{ShelfView, empty_shelf, spare_of, is_free_state, is_touched, state_at, settled, IsOpen, with_made, with_state_at}
+use Rattle.buffer_shelf.specs.States.{ShelfView, empty_shelf, spare_of, is_free_state, is_touched, state_at, settled_state, IsOpen, with_made, with_state_at}
 use Rattle.entry_shelves.specs.declared.shelves.Taken.{Taken}
 use Rattle.entry_shelves.specs.declared.shelves.Changed.{Changed}
 
@@ -16,13 +16,13 @@ abbrev pub shelf_at : List ShelfView → ℕ → ShelfView
 shelf_at shelves b = slice_index_or shelves b empty_shelf
 
 -- the first place of a number in a list, or its length where it is not there
-abbrev pub place_in : ℕ → List ℕ → ℕ
-place_in w [] = 0
-place_in w (v ∷ vs) = if nat_eq w v then 0 else suc (place_in w vs)
+abbrev pub place_among : ℕ → List ℕ → ℕ
+place_among w [] = 0
+place_among w (v ∷ vs) = if nat_eq w v then 0 else suc (place_among w vs)
 
 -- the place of a width among the widths
 unfoldable pub row_of : ℕ → ℕ
-row_of w = place_in w widths
+row_of w = place_among w widths
 
 abbrev pub made_at : List ℕ → ℕ → ℕ
 made_at made w = slice_index_or made (row_of w) 0
@@ -58,5 +58,5 @@ pub record SettlesOne (accepts : Bool) (last generation : ℕ) (old new : Shelve
   pub below : step.place < length (shelf_at old.shelves step.buffer).states
   pub was : step.was ≡ state_at (shelf_at old.shelves step.buffer).states step.place
   pub touched : is_touched step.was ≡ true
-  pub now : step.now ≡ settled accepts last generation step.was
+  pub now : step.now ≡ settled_state accepts last generation step.was
   pub same : new ≡ with_shelf old step.buffer (with_state_at (shelf_at old.shelves step.buffer) step.place step.now)

@@ -11,10 +11,10 @@ use Rattle.arena_api.specs.Calls.{IsKept, InNoCommit, FitsEntry, padded}
 use Rattle.arena_api.proofs.Padded.{length-padded}
 use Rattle.store_api.specs.Ledgers.{capacity}
 use Rattle.buffer_states.specs.declared.BufferState.{BufferState}
-use Rattle.buffer_states.specs.Buffers.{is_active}
+use Rattle.buffer_states.specs.Buffers.{is_state_active}
 use Rattle.entry_ledger.specs.Entries.{IsGood}
 use Rattle.entry_ledger.specs.Calls.{CanTake, made_at, opened_at}
-use Rattle.entry_store.specs.Standing.{statuses, records_of, ledger_of}
+use Rattle.entry_store.specs.Standing.{statuses, records_by_status, ledger_of}
 use Rattle.entry_store.specs.Steps.{TakesOne, OpensBuffer}
 use Rattle.entry_store.proofs.Stands.{stands-made, stands-opened}
 use Rattle.entry_store.proofs.LedgerSteps.{takes-one, opens-buffer}
@@ -26,7 +26,7 @@ use Rattle.arena_api.specs.Generations.{IsQueue, Reclaims, current}
 use Rattle.arena_api.specs.declared.answers.Oldest.{Oldest}
 use Rattle.arena_api.proofs.Free.{free_count-some}
 use Rattle.entry_ledger.specs.Entries.{EntriesView}
-use Rattle.buffer_states.specs.Buffers.{is_free}
+use Rattle.buffer_states.specs.Buffers.{is_state_free}
 use Rattle.entry_ledger.specs.Calls.{IsLowestFree as IsLowestMark}
 use Rattle.entry_store.specs.Standing.{Stands, IsOver}
 use Rattle.entry_store.specs.ProofsForMarks.{mark-free, mark-width}
@@ -64,7 +64,7 @@ reclaimed-low bits work m e unit st next answer queue reclaims = let low = recla
 
 -- the lowest free buffer of the entries is that of the work
 module _ {H : Type 0} (bits : ℕ) (work : WorkView H) (m : Records) (e : EntriesView) (unit : Bool) (st : Stands bits work m e unit) where
-  free-same : (b : ℕ) → b < work.sizes.buffers → is_free (e.mark b).state ≡ is_free_buffer (work.buffer b)
+  free-same : (b : ℕ) → b < work.sizes.buffers → is_state_free (e.mark b).state ≡ is_free_buffer (work.buffer b)
   free-same b below = mark-free (e.mark b) (work.buffer b) (st.marks b below)
 
   pub lowest-is : (b : ℕ) → IsLowestMark e b → IsLowestFree work.buffer work.sizes.buffers b
@@ -90,7 +90,7 @@ module _ {H : Type 0} (bits : ℕ) (work : WorkView H) (m : Records) (e : Entrie
         ]
       ]
 
-  pub none-free : ((b : ℕ) → b < e.count → is_free (e.mark b).state ≡ false) → free_count work.buffer work.sizes.buffers ≡ 0
+  pub none-free : ((b : ℕ) → b < e.count → is_state_free (e.mark b).state ≡ false) → free_count work.buffer work.sizes.buffers ≡ 0
   none-free none = count-none work.buffer work.sizes.buffers (λ b below. sym (free-same b below) ∙ none b (subst (λ n. b < n) (sym st.count) below))
     where
       count-none : (buffer : ℕ → Buffer) (n : ℕ) → ((b : ℕ) → b < n → is_free_buffer (buffer b) ≡ false) → free_count buffer n ≡ 0
@@ -112,13 +112,13 @@ put-may bits work m e unit st width r can =
 module _ {H : Type 0} (bits : ℕ) (work : WorkView H) (shape : ℕ) (m : Records) (e : EntriesView) (unit : Bool) (st : Stands bits work m e unit) (width r : ℕ) (words : List ℕ) (can : CanTake bits e width r)
     (v : WorkView H) (i : ℕ) (n : Records) (f : EntriesView) (knows : v ≡ record work { stored = v.stored }) (shaped : i ≡ shape) (written : n ≡ with_words m r (padded words width)) (made : f ≡ made_at e width r) where
   pub takes-put : 0 < (e.of_width width).spare
-      → TakesOne bits (ledger_of bits work shape m e unit) (ledger_of bits v i n f unit) (records_of (statuses work.commits e) m) (records_of (statuses v.commits f) n) width words r
+      → TakesOne bits (ledger_of bits work shape m e unit) (ledger_of bits v i n f unit) (records_by_status (statuses work.commits e) m) (records_by_status (statuses v.commits f) n) width words r
   takes-put some =
-      subst (λ w. TakesOne bits (ledger_of bits work shape m e unit) (ledger_of bits w i n f unit) (records_of (statuses work.commits e) m) (records_of (statuses w.commits f) n) width words r) (sym knows)
-      (subst (λ k. TakesOne bits (ledger_of bits work shape m e unit) (ledger_of bits (record work { stored = v.stored }) k n f unit) (records_of (statuses work.commits e) m) (records_of (statuses work.commits f) n) width words r) (sym shaped)
-      (subst (λ (x : Records). TakesOne bits (ledger_of bits work shape m e unit) (ledger_of bits (record work { stored = v.stored }) shape x f unit) (records_of (statuses work.commits e) m) (records_of (statuses work.commits f) x) width words r) (sym written)
-      (subst (λ g. TakesOne bits (ledger_of bits work shape m e unit) (ledger_of bits (record work { stored = v.stored }) shape (with_words m r (padded words width)) g unit) (records_of (statuses work.commits e) m)
-      (records_of (statuses work.commits g) (with_words m r (padded words width))) width words r) (sym made)
+      subst (λ w. TakesOne bits (ledger_of bits work shape m e unit) (ledger_of bits w i n f unit) (records_by_status (statuses work.commits e) m) (records_by_status (statuses w.commits f) n) width words r) (sym knows)
+      (subst (λ k. TakesOne bits (ledger_of bits work shape m e unit) (ledger_of bits (record work { stored = v.stored }) k n f unit) (records_by_status (statuses work.commits e) m) (records_by_status (statuses work.commits f) n) width words r) (sym shaped)
+      (subst (λ (x : Records). TakesOne bits (ledger_of bits work shape m e unit) (ledger_of bits (record work { stored = v.stored }) shape x f unit) (records_by_status (statuses work.commits e) m) (records_by_status (statuses work.commits f) x) width words r) (sym written)
+      (subst (λ g. TakesOne bits (ledger_of bits work shape m e unit) (ledger_of bits (record work { stored = v.stored }) shape (with_words m r (padded words width)) g unit) (records_by_status (statuses work.commits e) m)
+      (records_by_status (statuses work.commits g) (with_words m r (padded words width))) width words r) (sym made)
       (takes-one bits work shape m e unit st width r words can v.stored some))))
 
   pub stands-put : length words ≤ width → unit ≡ true → IsGood bits f → Stands bits v n f unit
@@ -131,10 +131,10 @@ module _ {H : Type 0} (bits : ℕ) (work : WorkView H) (shape : ℕ) (m : Record
 -- a buffer is opened and handed out
 module _ {H : Type 0} (bits : ℕ) (work : WorkView H) (shape : ℕ) (m : Records) (e : EntriesView) (unit : Bool) (st : Stands bits work m e unit) (b width : ℕ) (low : IsLowestMark e b)
     (v : WorkView H) (i : ℕ) (n : Records) (f : EntriesView) (knows : v ≡ handed_out work b width) (shaped : i ≡ shape) (written : n ≡ m) (opened : f ≡ opened_at e b width) where
-  not-active : is_active (e.mark b).state ≡ false
+  not-active : is_state_active (e.mark b).state ≡ false
   not-active = by_state (e.mark b).state low.free
     where
-      by_state : (s : BufferState) → is_free s ≡ true → is_active s ≡ false
+      by_state : (s : BufferState) → is_state_free s ≡ true → is_state_active s ≡ false
       by_state BufferState.Free h = refl
       by_state BufferState.Active h = absurd (true≢false (sym h))
       by_state BufferState.OnHold h = refl
@@ -147,11 +147,11 @@ module _ {H : Type 0} (bits : ℕ) (work : WorkView H) (shape : ℕ) (m : Record
       (subst (λ g. OpensBuffer (ledger_of bits work shape m e unit) (ledger_of bits (handed_out work b width) shape m g unit) width) (sym opened)
       (opens-buffer bits work shape m e unit st b width (lowest-is bits work m e unit st b low) not-active))))
 
-  pub records-handed : records_of (statuses v.commits f) n ≡ records_of (statuses work.commits e) m
+  pub records-handed : records_by_status (statuses v.commits f) n ≡ records_by_status (statuses work.commits e) m
   records-handed =
-      ap (λ (w : WorkView H). records_of (statuses w.commits f) n) knows
-      ∙ ap (λ (x : Records). records_of (statuses work.commits f) x) written
-      ∙ ap (λ g. records_of (statuses work.commits g) m) opened
+      ap (λ (w : WorkView H). records_by_status (statuses w.commits f) n) knows
+      ∙ ap (λ (x : Records). records_by_status (statuses work.commits f) x) written
+      ∙ ap (λ g. records_by_status (statuses work.commits g) m) opened
 
   fresh-opened : (w : ℕ) → ((opened_at e b width).of_width w).fresh ≡ (e.of_width w).fresh
   fresh-opened w = elim (cases_eq w width) [

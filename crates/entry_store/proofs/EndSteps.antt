@@ -9,13 +9,13 @@ use Rattle.arena_api.specs.Generations.{IsQueue, LetsGo, Advances, Renews, Opens
 use Rattle.arena_api.specs.declared.answers.Advance.{Advance}
 use Rattle.arena_api.specs.declared.answers.Advance.TheVariants.{To, NoHold, Spent}
 use Rattle.buffer_states.specs.declared.BufferState.TheVariants.{OnHold}
-use Rattle.buffer_states.specs.Buffers.{is_active}
+use Rattle.buffer_states.specs.Buffers.{is_state_active}
 use Rattle.store_api.specs.Statuses.{Status}
 use Rattle.store_api.specs.Ledgers.{is_in, is_this}
 use Rattle.store_api.specs.Calls.{with_hold}
 use Rattle.entry_ledger.specs.Entries.{EntriesView, IsGood, is_settled_entry}
 use Rattle.entry_ledger.specs.Calls.{retired_at, with_mark}
-use Rattle.entry_store.specs.Standing.{IsOver, statuses, status_of, is_since, is_mark_of, all_later}
+use Rattle.entry_store.specs.Standing.{IsOver, statuses, status_of, is_in_generation, is_mark_of, all_later}
 use Rattle.entry_store.specs.Steps.{retired_by, generation_by}
 use Rattle.entry_store.specs.ProofsForMarks.{marks-retired}
 use Rattle.entry_store.proofs.Queues.{newest-with, newest-append, oldest-append, later-append, later-with, later-from}
@@ -31,7 +31,7 @@ module _ {H : Type 0} (bits : ℕ) (work : WorkView H) (m : Records) (e : Entrie
         ∙ sym (ap (λ u. cond u Status.unmade (statuses work.commits e r)) (ne_eqb b (buffer_of bits r) (λ same. true≢false (sym (eq-eqb (buffer_of bits r) b (sym same)) ∙ t))))
   ]
 
-  over-held : (b : ℕ) → b < work.sizes.buffers → is_active (e.mark b).state ≡ true → IsGood bits (retired_at bits e b) → IsOver bits (retired work b) m (retired_at bits e b) false
+  over-held : (b : ℕ) → b < work.sizes.buffers → is_state_active (e.mark b).state ≡ true → IsGood bits (retired_at bits e b) → IsOver bits (retired work b) m (retired_at bits e b) false
   over-held b below active good = record {
     good = good;
     count = st.count;
@@ -51,7 +51,7 @@ module _ {H : Type 0} (bits : ℕ) (work : WorkView H) (m : Records) (e : Entrie
       by_test true r = refl
       by_test false r = refl
 
-      gone-since : (t : Bool) (r : ℕ) → is_since e.last e.generation (cond t None (e.state r)) ≡ true
+      gone-since : (t : Bool) (r : ℕ) → is_in_generation e.last e.generation (cond t None (e.state r)) ≡ true
       gone-since true r = refl
       gone-since false r = st.since r
 
@@ -149,7 +149,7 @@ alone-advanced (Spent g) work next is still low = let limit = is.limit in let sa
 
 module _ {H : Type 0} (bits : ℕ) (work next : WorkView H) (m : Records) (e new : EntriesView) (st : IsOver bits work m e false) (answer : Advance) (is : Advances answer work next) (goes : LetsGo work.commits next.commits)
     (knows : next ≡ advanced work next) (follows : new ≡ record e { generation = generation_by answer e.generation }) (good : IsGood bits new)
-    (old : (r : ℕ) → is_since e.last (generation_by answer e.generation) (e.state r) ≡ true) where
+    (old : (r : ℕ) → is_in_generation e.last (generation_by answer e.generation) (e.state r) ≡ true) where
   pub status-advanced : (r : ℕ) → statuses next.commits new r ≡ statuses work.commits e r
   status-advanced r =
       ap (λ x. statuses next.commits x r) follows
@@ -167,7 +167,7 @@ module _ {H : Type 0} (bits : ℕ) (work next : WorkView H) (m : Records) (e new
         (subst (λ w. is_mark_of (e.mark b) (w.buffer b) ≡ true) (sym knows) (st.marks b (subst (λ n. b < n) (ap (λ w. w.sizes.buffers) knows) inside)));
     sound = sound-same bits next m (statuses work.commits e) (statuses next.commits new)
         (sound-advanced bits work next m (statuses work.commits e) st.sound goes (ap (λ w. w.buffer) knows) (ap (λ w. w.sizes) knows) (later-advanced answer work next is)) status-advanced;
-    since = λ r. subst (λ x. is_since x.last x.generation (x.state r) ≡ true) (sym follows) (old r);
+    since = λ r. subst (λ x. is_in_generation x.last x.generation (x.state r) ≡ true) (sym follows) (old r);
     settled = λ ended r. subst (λ x. is_settled_entry (x.state r) ≡ true) (sym follows) (st.settled refl r);
     no_fresh = λ ended w. ap (λ x. (x.of_width w).fresh) follows ∙ st.no_fresh refl w;
   }

@@ -16,7 +16,7 @@ use Rattle.store_api.specs.Ledgers.{is_this, is_held}
 use Rattle.store_api.specs.Calls.{GivesBackOf, with_hold}
 use Rattle.entry_ledger.specs.Entries.{EntriesView, Mark, IsGood, is_dropped_since}
 use Rattle.entry_ledger.specs.Calls.{Frees}
-use Rattle.entry_store.specs.Standing.{Stands, IsOver, statuses, records_of, ledger_of, is_mark_of}
+use Rattle.entry_store.specs.Standing.{Stands, IsOver, statuses, records_by_status, ledger_of, is_mark_of}
 use Rattle.entry_store.specs.Steps.{EndsCommit, retired_by, generation_by}
 use Rattle.entry_store.proofs.Queues.{newest-drop, only-newest}
 use Rattle.entry_store.proofs.Stands.{stands-reclaimed, over-from, status-freed}
@@ -195,9 +195,9 @@ module _ {H : Type 0} (bits : ℕ) (work : WorkView H) (m : Records) (e : Entrie
         }
 
         -- the records: those of the last commit, which has nothing in the buffer that went on hold
-        pub records-3 : (n : Records) → n ≡ m → records_of (statuses work.commits e) m ≡ words_at (last_image work.commits)
-            → ((r : ℕ) → is_this e.finished (buffer_of bits r) ≡ true → words_at (last_image work.commits) r ≡ []) → records_of (statuses v.commits e3) n ≡ records_of (statuses work.commits e) m
-        records-3 n written same apart = ap (λ (x : Records). records_of (statuses v.commits e3) x) written ∙ (λ k r. at r k)
+        pub records-3 : (n : Records) → n ≡ m → records_by_status (statuses work.commits e) m ≡ words_at (last_image work.commits)
+            → ((r : ℕ) → is_this e.finished (buffer_of bits r) ≡ true → words_at (last_image work.commits) r ≡ []) → records_by_status (statuses v.commits e3) n ≡ records_by_status (statuses work.commits e) m
+        records-3 n written same apart = ap (λ (x : Records). records_by_status (statuses v.commits e3) x) written ∙ (λ k r. at r k)
           where
             below-has : (g : ℕ) (c : Status) → has_record (free_below g c) ≡ has_record c
             below-has g Status.unmade = refl

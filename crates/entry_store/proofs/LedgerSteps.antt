@@ -6,7 +6,7 @@ use Rattle.buffer_shelf.specs.declared.state.State.TheVariants.{Free, Returned, 
 use Rattle.buffer_shelf.specs.States.{is_free_state, dropped}
 use Rattle.buffer_states.specs.declared.BufferState.{BufferState}
 use Rattle.buffer_states.specs.declared.BufferState.TheVariants.{Free as FreeBuffer, Active, OnHold}
-use Rattle.buffer_states.specs.Buffers.{is_on_hold, is_active}
+use Rattle.buffer_states.specs.Buffers.{is_on_hold, is_state_active}
 use Rattle.entry_ref.specs.References.{buffer_of}
 use Rattle.image_base.specs.Places.{IsEntry}
 use Rattle.image_base.specs.Records.{Records, with_words}
@@ -22,7 +22,7 @@ use Rattle.store_api.specs.Calls.{Accepts as AcceptsUnit, Undoes as UndoesUnit, 
 use Rattle.store_api.proofs.Uses.{open_no_record}
 use Rattle.entry_ledger.specs.Entries.{EntriesView, is_free_entry, is_open_entry}
 use Rattle.entry_ledger.specs.Calls.{CanTake, Drops, Accepts, Undoes, Frees, Seals, made_at, opened_at, free_mark, with_mark}
-use Rattle.entry_store.specs.Standing.{Stands, IsOver, status_by, status_of, statuses, backs, back_of, records_of, ledger_of}
+use Rattle.entry_store.specs.Standing.{Stands, IsOver, status_by, status_of, statuses, backs, back_of, records_by_status, ledger_of}
 use Rattle.entry_store.specs.Steps.{TakesOne, OpensBuffer, TellsOldest}
 use Rattle.entry_store.specs.ProofsForMarks.{mark-width}
 use Rattle.entry_store.proofs.Soundness.{lets-last}
@@ -115,7 +115,7 @@ module _ {H : Type 0} (bits : ℕ) (work : WorkView H) (shape : ℕ) (m : Record
   has q = is_in (last_image work.commits) q
 
   abbrev records : Records
-  records = records_of (statuses work.commits e) m
+  records = records_by_status (statuses work.commits e) m
 
   -- a make of what is to spare
   module _ (width r : ℕ) (words : List ℕ) (can : CanTake bits e width r) (stored : Stored) (some : 0 < (e.of_width width).spare) where
@@ -132,7 +132,7 @@ module _ {H : Type 0} (bits : ℕ) (work : WorkView H) (shape : ℕ) (m : Record
     width-in : active_width (work.buffer (buffer_of bits r)) ≡ width
     width-in = sym (mark-width (e.mark (buffer_of bits r)) (work.buffer (buffer_of bits r)) (st.marks (buffer_of bits r) place-in.inside)) ∙ can.of_width
 
-    records-made : records_of (statuses work.commits (made_at e width r)) (with_words m r ws) ≡ with_words records r ws
+    records-made : records_by_status (statuses work.commits (made_at e width r)) (with_words m r ws) ≡ with_words records r ws
     records-made = λ k q. at q k
       where
         at : (q : ℕ) → cond (has_record (statuses work.commits (made_at e width r) q)) (cond (eqb q r) ws (m q)) [] ≡ cond (eqb q r) ws (cond (has_record (statuses work.commits e q)) (m q) [])
@@ -145,7 +145,7 @@ module _ {H : Type 0} (bits : ℕ) (work : WorkView H) (shape : ℕ) (m : Record
     back-made q = with_state-at (λ o. IsSameBack (backs work.commits e q) (back_of (has q) e.last o)) e.state r Made q
         (λ same. subst (λ x. IsSameBack (back_of (has x) e.last (e.state x)) Status.free) (sym same) (back-open (has r) e.last (e.state r) can.is_open)) (λ ne. inl refl)
 
-    back-records-made : records_of (backs work.commits (made_at e width r)) (with_words m r ws) ≡ records_of (backs work.commits e) m
+    back-records-made : records_by_status (backs work.commits (made_at e width r)) (with_words m r ws) ≡ records_by_status (backs work.commits e) m
     back-records-made = λ k q. at q k
       where
         at : (q : ℕ) → cond (has_record (backs work.commits (made_at e width r) q)) (cond (eqb q r) ws (m q)) [] ≡ cond (has_record (backs work.commits e q)) (m q) []
@@ -189,7 +189,7 @@ module _ {H : Type 0} (bits : ℕ) (work : WorkView H) (shape : ℕ) (m : Record
             unmade-made (DroppedNow after) f = (cc)
             unmade-made (Dropped after g) f = held-made (eqb after e.last) _ f
 
-    pub takes-one : TakesOne bits before after records (records_of (statuses work.commits (made_at e width r)) (with_words m r ws)) width words r
+    pub takes-one : TakesOne bits before after records (records_by_status (statuses work.commits (made_at e width r)) (with_words m r ws)) width words r
     takes-one = record {
       was = open-status (has r) e.last (e.state r) can.is_open;
       free_first = λ is q wide open_still. none-free (unmade-entry is) q wide open_still;
@@ -206,14 +206,14 @@ module _ {H : Type 0} (bits : ℕ) (work : WorkView H) (shape : ℕ) (m : Record
     }
 
   -- a free buffer is not sealed, nor is one on hold
-  unsealed-from : (b : ℕ) → is_active (e.mark b).state ≡ false → (e.mark b).sealed ≡ false
+  unsealed-from : (b : ℕ) → is_state_active (e.mark b).state ≡ false → (e.mark b).sealed ≡ false
   unsealed-from b out = elim (cases_Bool (e.mark b).sealed) [
     | inl t ↦ absurd (true≢false (sym (st.good.sealed b t).active ∙ out))
     | inr t ↦ t
   ]
 
   -- a buffer is handed out
-  module _ (b width : ℕ) (low : IsLowestFree work.buffer work.sizes.buffers b) (out : is_active (e.mark b).state ≡ false) where
+  module _ (b width : ℕ) (low : IsLowestFree work.buffer work.sizes.buffers b) (out : is_state_active (e.mark b).state ≡ false) where
     sealed-opened : (a : ℕ) → (with_mark e.mark b (record { state = Active; width = width; generation = 0; sealed = false }) a).sealed ≡ (e.mark a).sealed
     sealed-opened a = elim (cases_eq a b) [
       | inl t ↦ ap (λ u. (cond u (record { state = Active; width = width; generation = 0; sealed = false }) (e.mark a)).sealed) (eq-eqb a b t) ∙ sym (ap (λ x. (e.mark x).sealed) t ∙ unsealed-from b out)
@@ -262,7 +262,7 @@ module _ {H : Type 0} (bits : ℕ) (work : WorkView H) (shape : ℕ) (m : Record
         (dropped-records (has r) e.last s (m r) used)))
         (λ t. free-none (statuses work.commits e q) (m q)))
 
-    pub drops-entry : DropsEntry before (ledger_of bits work shape m new unit) records (records_of (statuses work.commits new) m) r
+    pub drops-entry : DropsEntry before (ledger_of bits work shape m new unit) records (records_by_status (statuses work.commits new) m) r
     drops-entry = record {
       status = λ k q. status-now q k;
       records = λ k q. record-now q k;
@@ -276,7 +276,7 @@ module _ {H : Type 0} (bits : ℕ) (work : WorkView H) (shape : ℕ) (m : Record
     }
 
   -- the ends of a unit
-  pub accepts-unit : (new : EntriesView) → Accepts e new → AcceptsUnit before (ledger_of bits work shape m new false) records (records_of (statuses work.commits new) m)
+  pub accepts-unit : (new : EntriesView) → Accepts e new → AcceptsUnit before (ledger_of bits work shape m new false) records (records_by_status (statuses work.commits new) m)
   accepts-unit new accepts = record {
     unit = refl;
     status = status-now;
@@ -293,7 +293,7 @@ module _ {H : Type 0} (bits : ℕ) (work : WorkView H) (shape : ℕ) (m : Record
           ap (λ l. status_of (has q) l (new.state q)) (ap (λ x. x.last) accepts.same)
           ∙ ap (status_of (has q) e.last) (accepts.state q) ∙ accepted-status (has q) e.last e.generation (e.state q)
 
-  pub undoes-unit : (new : EntriesView) → Undoes e new → UndoesUnit before (ledger_of bits work shape m new false) (records_of (statuses work.commits new) m)
+  pub undoes-unit : (new : EntriesView) → Undoes e new → UndoesUnit before (ledger_of bits work shape m new false) (records_by_status (statuses work.commits new) m)
   undoes-unit new undoes = record {
     unit = refl;
     status = λ k q. status-now q k;
@@ -332,8 +332,8 @@ module _ {H : Type 0} (bits : ℕ) (work : WorkView H) (shape : ℕ) (m : Record
       back-now : (q : ℕ) → backs work.commits new q ≡ backs work.commits e q
       back-now q = ap (λ x. backs work.commits x q) seals.same
 
-  pub seals-records : (new : EntriesView) (b : ℕ) → Seals e new b → records_of (statuses work.commits new) m ≡ records
-  seals-records new b seals = ap (λ x. records_of (statuses work.commits x) m) seals.same
+  pub seals-records : (new : EntriesView) (b : ℕ) → Seals e new b → records_by_status (statuses work.commits new) m ≡ records
+  seals-records new b seals = ap (λ x. records_by_status (statuses work.commits x) m) seals.same
 
 -- a reclaim
 module _ {H : Type 0} (bits : ℕ) (work : WorkView H) (shape : ℕ) (m : Records) (e : EntriesView) (unit : Bool) (st : IsOver bits work m e unit) (next : WorkView H) (new : EntriesView) (answer : Oldest) (reclaims : Reclaims answer work next) (goes : LetsGo work.commits next.commits)
@@ -348,7 +348,7 @@ module _ {H : Type 0} (bits : ℕ) (work : WorkView H) (shape : ℕ) (m : Record
   stops-rise true is = let same = (reclaims.newest is).2 in omega arith
   stops-rise false is = let more = (reclaims.stopped is).2 in omega arith
 
-  still-unsealed : (b : ℕ) → is_active (e.mark b).state ≡ false → (e.mark b).sealed ≡ false
+  still-unsealed : (b : ℕ) → is_state_active (e.mark b).state ≡ false → (e.mark b).sealed ≡ false
   still-unsealed b out = elim (cases_Bool (e.mark b).sealed) [
     | inl t ↦ absurd (true≢false (sym (st.good.sealed b t).active ∙ out))
     | inr t ↦ t
@@ -357,7 +357,7 @@ module _ {H : Type 0} (bits : ℕ) (work : WorkView H) (shape : ℕ) (m : Record
   pub sealed-freed : (b : ℕ) → (new.mark b).sealed ≡ (e.mark b).sealed
   sealed-freed b = ap (λ k. k.sealed) (frees.mark b) ∙ by_hold (is_on_hold (e.mark b).state) refl
     where
-      hold-active : (s : BufferState) → is_on_hold s ≡ true → is_active s ≡ false
+      hold-active : (s : BufferState) → is_on_hold s ≡ true → is_state_active s ≡ false
       hold-active FreeBuffer h = refl
       hold-active Active h = absurd (false≢true h)
       hold-active OnHold h = refl
@@ -382,7 +382,7 @@ module _ {H : Type 0} (bits : ℕ) (work : WorkView H) (shape : ℕ) (m : Record
   back-record-at : (q : ℕ) → cond (has_record (backs next.commits new q)) (m q) [] ≡ cond (has_record (backs work.commits e q)) (m q) []
   back-record-at q = ap (λ b. cond b (m q) []) (ap has_record (back-at q) ∙ below-has _ (backs work.commits e q))
 
-  pub records-freed : records_of (statuses next.commits new) m ≡ records_of (statuses work.commits e) m
+  pub records-freed : records_by_status (statuses next.commits new) m ≡ records_by_status (statuses work.commits e) m
   records-freed = λ k q. record-at q k
 
   pub gives-back : GivesBack earlier freed-ledger

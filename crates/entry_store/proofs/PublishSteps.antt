@@ -17,8 +17,8 @@ use Rattle.store_api.specs.Statuses.{Status, in_use, has_record, is_let_go, afte
 use Rattle.store_api.specs.Ledgers.{is_in, is_this, is_held}
 use Rattle.store_api.specs.Calls.{IsWhole}
 use Rattle.store_api.proofs.CommitLemmas.{in-among}
-use Rattle.entry_ledger.specs.Entries.{EntriesView, IsGood, is_up_to, is_settled_entry, is_dropped_since}
-use Rattle.entry_store.specs.Standing.{Stands, status_by, status_of, statuses, records_of, ledger_of, is_since, is_mark_of, IsSound, tag_at}
+use Rattle.entry_ledger.specs.Entries.{EntriesView, IsGood, is_timely, is_settled_entry, is_dropped_since}
+use Rattle.entry_store.specs.Standing.{Stands, status_by, status_of, statuses, records_by_status, ledger_of, is_in_generation, is_mark_of, AreSoundStatuses, tag_at}
 use Rattle.entry_store.specs.Steps.{Publishes}
 use Rattle.entry_store.specs.ProofsForStore.{some_filtered}
 use Rattle.entry_store.proofs.Soundness.{sound-published}
@@ -43,13 +43,13 @@ since-holds false b h e = absurd (false≢true e)
 later-eqb : (after last : ℕ) → after ≤ last → eqb after (last + 1) ≡ false
 later-eqb after last low = ne_eqb after (last + 1) (λ e. omega arith)
 
-up-use : (e : EntriesView) (after : ℕ) → is_up_to e (InUse after) ≡ true → after ≤ e.last
+up-use : (e : EntriesView) (after : ℕ) → is_timely e (InUse after) ≡ true → after ≤ e.last
 up-use e after up = leb-true after e.last up
 
-up-dropped : (e : EntriesView) (after g : ℕ) → is_up_to e (Dropped after g) ≡ true → after ≤ e.last
+up-dropped : (e : EntriesView) (after g : ℕ) → is_timely e (Dropped after g) ≡ true → after ≤ e.last
 up-dropped e after g up = leb-true after e.last (and_parts (leb after e.last) (leb e.oldest g) (and_parts (leb after e.last && leb e.oldest g) (leb g e.generation) up).0).0
 
-committed-state : (has now : Bool) (e : EntriesView) (s : State) → is_up_to e s ≡ true → is_settled_entry (Some s) ≡ true → is_since e.last e.generation (Some s) ≡ true
+committed-state : (has now : Bool) (e : EntriesView) (s : State) → is_timely e s ≡ true → is_settled_entry (Some s) ≡ true → is_in_generation e.last e.generation (Some s) ≡ true
     → (now ≡ true → in_use (status_by has e.last s) ≡ true) → status_by now (e.last + 1) s ≡ after_commit (tag_at e.generation e.last) now (status_by has e.last s)
 committed-state has now e Free up still since used = refl
 committed-state has now e Returned up still since used = absurd (false≢true still)
@@ -82,7 +82,7 @@ still-kept has last (Some (DroppedNow after)) still = absurd (false≢true still
 still-kept has last (Some (Dropped after g)) still = kept-dropped (eqb after last) (tag_at g after)
 
 -- a state that the commit leaves was not dropped since it
-dropped-before : (e : EntriesView) (o : Option State) → ((s : State) → o ≡ Some s → is_up_to e s ≡ true) → is_dropped_since (e.last + 1) o ≡ false
+dropped-before : (e : EntriesView) (o : Option State) → ((s : State) → o ≡ Some s → is_timely e s ≡ true) → is_dropped_since (e.last + 1) o ≡ false
 dropped-before e None up = refl
 dropped-before e (Some Free) up = refl
 dropped-before e (Some Returned) up = refl
@@ -96,7 +96,7 @@ or-false : (a b : Bool) → a ≡ false → (not a || b) ≡ true
 or-false true b h = absurd (true≢false h)
 or-false false b h = refl
 
-pub since-before : (last generation : ℕ) (o : Option State) → is_dropped_since last o ≡ false → is_since last generation o ≡ true
+pub since-before : (last generation : ℕ) (o : Option State) → is_dropped_since last o ≡ false → is_in_generation last generation o ≡ true
 since-before last generation None h = refl
 since-before last generation (Some Free) h = refl
 since-before last generation (Some Returned) h = refl
@@ -111,9 +111,9 @@ module _ (bits : ℕ) (reaches : ℕ → Records → ℕ → List ℕ) (lawful :
     (present : (shape : ℕ) (m : Records) (root : ℕ) → lawful shape m root → AllThere (reaches shape m root) m)
     (stays : (shape : ℕ) (m n : Records) (root : ℕ) → SameAt (reaches shape m root) m n → lawful shape m root → lawful shape n root × (reaches shape n root ≡ reaches shape m root))
     {H : Type 0} (work : WorkView H) (m : Records) (e : EntriesView) (unit : Bool) (st : Stands bits work m e unit) (ended : unit ≡ false) (shape root : ℕ)
-    (law : lawful shape (records_of (statuses work.commits e) m) root) where
+    (law : lawful shape (records_by_status (statuses work.commits e) m) root) where
   abbrev records : Records
-  records = records_of (statuses work.commits e) m
+  records = records_by_status (statuses work.commits e) m
 
   abbrev image : Image
   image = next_image reaches shape records root
@@ -172,7 +172,7 @@ module _ (bits : ℕ) (reaches : ℕ → Records → ℕ → List ℕ) (lawful :
           by_state None is = ap (status_of (is_in image r) (e.last + 1)) is ∙ sym (ap (λ o. after_commit (tag_at e.generation e.last) (is_in image r) (status_of (is_in (last_image work.commits) r) e.last o)) is)
           by_state (Some s) is =
               ap (status_of (is_in image r) (e.last + 1)) is
-              ∙ committed-state (is_in (last_image work.commits) r) (is_in image r) e s (st.good.up_to r s is) (subst (λ o. is_settled_entry o ≡ true) is (st.settled ended r)) (subst (λ o. is_since e.last e.generation o ≡ true) is (st.since r))
+              ∙ committed-state (is_in (last_image work.commits) r) (is_in image r) e s (st.good.up_to r s is) (subst (λ o. is_settled_entry o ≡ true) is (st.settled ended r)) (subst (λ o. is_in_generation e.last e.generation o ≡ true) is (st.since r))
               (λ h. subst (λ o. in_use (status_of (is_in (last_image work.commits) r) e.last o) ≡ true) is (used-in r h))
               ∙ sym (ap (λ o. after_commit (tag_at e.generation e.last) (is_in image r) (status_of (is_in (last_image work.commits) r) e.last o)) is)
 
@@ -200,7 +200,7 @@ module _ (bits : ℕ) (reaches : ℕ → Records → ℕ → List ℕ) (lawful :
       pub apart : (r : ℕ) → is_this after.finished (buffer_of bits r) ≡ true → words_at (last_image new.commits) r ≡ []
       apart r is = ap (λ i. words_at i r) adds.image_is ∙ words-apart r (subst (λ x. is_this x.finished (buffer_of bits r) ≡ true) counts is)
 
-      pub records-now : records_of (statuses new.commits after) n ≡ words_at (last_image new.commits)
+      pub records-now : records_by_status (statuses new.commits after) n ≡ words_at (last_image new.commits)
       records-now = λ k r. at r k
         where
           by_has : (t : Bool) (ws : List ℕ) → (0 < length ws → t ≡ true) → cond t ws [] ≡ ws
@@ -239,8 +239,8 @@ module _ (bits : ℕ) (reaches : ℕ → Records → ℕ → List ℕ) (lawful :
             marks = λ b inside.
                 subst (λ x. is_mark_of (x.mark b) (new.buffer b) ≡ true) (sym counts)
                 (subst (λ w. is_mark_of (e.mark b) (w.buffer b) ≡ true) (sym knows) (st.marks b (subst (λ k. b < k) (ap (λ w. w.sizes.buffers) knows) inside)));
-            sound = subst (λ w. IsSound bits w n (statuses new.commits after)) (sym knows)
-                (subst (λ (x : Records). IsSound bits (published work new.commits image) x (statuses new.commits after)) (sym (written_read ∙ ap words_at read-work.1)) here);
+            sound = subst (λ w. AreSoundStatuses bits w n (statuses new.commits after)) (sym knows)
+                (subst (λ (x : Records). AreSoundStatuses bits (published work new.commits image) x (statuses new.commits after)) (sym (written_read ∙ ap words_at read-work.1)) here);
             since = λ r. since-before after.last after.generation (after.state r) (tagged r);
             settled = λ ended r. subst (λ x. is_settled_entry (x.state r) ≡ true) (sym counts) (st.settled ended r);
             no_fresh = λ ended w. ap (λ x. (x.of_width w).fresh) counts ∙ st.no_fresh ended w;

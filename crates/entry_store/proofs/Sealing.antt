@@ -5,7 +5,7 @@ use Rattle.std.proofs.lemmas.Bool.{true≢false, eq-eqb, ne_eqb, eqb-true}
 use Rattle.list_facts.specs.Counting.{one_if}
 use Rattle.buffer_shelf.specs.declared.state.State.{State}
 use Rattle.buffer_shelf.specs.declared.state.State.TheVariants.{Free, Returned, Made, InUse, LetGo, DroppedNow, Dropped}
-use Rattle.buffer_states.specs.Buffers.{is_active}
+use Rattle.buffer_states.specs.Buffers.{is_state_active}
 use Rattle.entry_ref.specs.References.{packed}
 use Rattle.image_base.specs.Records.{Records}
 use Rattle.arena_api.specs.Works.{WorkView, Buffer, Tag, active_width, last_image}
@@ -17,7 +17,7 @@ use Rattle.entry_ledger.specs.Entries.{EntriesView, IsGood, width_of, is_settled
 use Rattle.entry_ledger.specs.Entries.{count_entries as count_states, used_words as used_states, dead_words as dead_states}
 use Rattle.entry_ledger.specs.Calls.{Seals}
 use Rattle.entry_ledger.specs.Calls.{IsCandidate as IsCandidateEntry, IsVictim as IsVictimEntry}
-use Rattle.entry_store.specs.Standing.{Stands, statuses, status_of, ledger_of, is_mark_of, is_since, tag_at}
+use Rattle.entry_store.specs.Standing.{Stands, statuses, status_of, ledger_of, is_mark_of, is_in_generation, tag_at}
 use Rattle.entry_store.specs.ProofsForMarks.{mark-width, mark-active}
 use Rattle.entry_store.proofs.Soundness.{sound-same}
 
@@ -87,16 +87,16 @@ module _ {H : Type 0} (bits : ℕ) (work : WorkView H) (shape : ℕ) (m : Record
   width-is : (b : ℕ) → b < work.sizes.buffers → width_of e b ≡ active_width (work.buffer b)
   width-is b below = mark-width (e.mark b) (work.buffer b) (st.marks b below)
 
-  active-is : (b : ℕ) → b < work.sizes.buffers → is_active (e.mark b).state ≡ is_active_buffer (work.buffer b)
+  active-is : (b : ℕ) → b < work.sizes.buffers → is_state_active (e.mark b).state ≡ is_active_buffer (work.buffer b)
   active-is b below = mark-active (e.mark b) (work.buffer b) (st.marks b below)
 
-  mark-wide : (b : ℕ) → b < work.sizes.buffers → is_active (e.mark b).state ≡ true → (e.mark b).width ≡ active_width (work.buffer b)
+  mark-wide : (b : ℕ) → b < work.sizes.buffers → is_state_active (e.mark b).state ≡ true → (e.mark b).width ≡ active_width (work.buffer b)
   mark-wide b below active = sym (ap (λ u. cond u (e.mark b).width 0) active) ∙ width-is b below
 
   -- what the entries ask of a seal
-  pub seal-may : (b : ℕ) → IsUnfilled ledger b → (is_active (e.mark b).state ≡ true) × ((e.of_width (e.mark b).width).filled ≢ Some b)
+  pub seal-may : (b : ℕ) → IsUnfilled ledger b → (is_state_active (e.mark b).state ≡ true) × ((e.of_width (e.mark b).width).filled ≢ Some b)
   seal-may b open_still =
-      let active : is_active (e.mark b).state ≡ true = active-is b open_still.below ∙ active-from (work.buffer b) open_still.active in
+      let active : is_state_active (e.mark b).state ≡ true = active-is b open_still.below ∙ active-from (work.buffer b) open_still.active in
       (active, λ h. this-not (e.of_width (active_width (work.buffer b))).filled b open_still.unfilled (sym (ap (λ n. (e.of_width n).filled) (mark-wide b open_still.below active)) ∙ h))
 
   pub stands-sealed : (new : EntriesView) (b : ℕ) → Seals e new b → IsGood bits new → Stands bits work m new unit
@@ -109,7 +109,7 @@ module _ {H : Type 0} (bits : ℕ) (work : WorkView H) (shape : ℕ) (m : Record
     oldest = ap (λ x. x.oldest) seals.same ∙ st.oldest;
     marks = λ a inside. subst (λ f. is_mark_of (f a) (work.buffer a) ≡ true) (sym seals.mark) (marked (eqb a b) a (λ t. eqb-true a b t) (st.marks a inside));
     sound = sound-same bits work m (statuses work.commits e) (statuses work.commits new) st.sound (λ r. ap (λ x. statuses work.commits x r) seals.same);
-    since = λ r. subst (λ x. is_since x.last x.generation (x.state r) ≡ true) (sym seals.same) (st.since r);
+    since = λ r. subst (λ x. is_in_generation x.last x.generation (x.state r) ≡ true) (sym seals.same) (st.since r);
     settled = λ ended r. ap (λ x. is_settled_entry (x.state r)) seals.same ∙ st.settled ended r;
     no_fresh = λ ended w. let few = (seals.counts w).fresh in let none = st.no_fresh ended w in omega arith;
     unread = st.unread;
@@ -134,7 +134,7 @@ module _ {H : Type 0} (bits : ℕ) (work : WorkView H) (shape : ℕ) (m : Record
     oldest = ap (λ x. x.oldest) is ∙ st.oldest;
     marks = λ a inside. ap (λ x. is_mark_of (x.mark a) (work.buffer a)) is ∙ st.marks a inside;
     sound = sound-same bits work m (statuses work.commits e) (statuses work.commits new) st.sound (λ r. ap (λ x. statuses work.commits x r) is);
-    since = λ r. ap (λ x. is_since x.last x.generation (x.state r)) is ∙ st.since r;
+    since = λ r. ap (λ x. is_in_generation x.last x.generation (x.state r)) is ∙ st.since r;
     settled = λ ended r. ap (λ x. is_settled_entry (x.state r)) is ∙ st.settled ended r;
     no_fresh = λ ended w. ap (λ x. (x.of_width w).fresh) is ∙ st.no_fresh ended w;
     unread = st.unread;

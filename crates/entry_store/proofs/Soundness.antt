@@ -11,11 +11,11 @@ use Rattle.arena_api.specs.Calls.{IsKept, InNoCommit, IsInOrder, AddsCommit, Fit
 use Rattle.arena_api.specs.Generations.{AreInOrder, LetsGo, retired, tag_now}
 use Rattle.store_api.specs.Statuses.{Status, in_use, has_record, is_committed, is_uncommitted, is_open, is_let_go, after_commit, free_below, with_status}
 use Rattle.store_api.specs.Ledgers.{is_in}
-use Rattle.entry_store.specs.Standing.{IsSound, IsOut, all_later}
+use Rattle.entry_store.specs.Standing.{AreSoundStatuses, IsOut, all_later}
 use Rattle.entry_store.proofs.Queues.{later-drop, later-now, later-oldest}
 
 -- statuses that are the same everywhere
-pub sound-same : {H : Type 0} (bits : ℕ) (work : WorkView H) (m : Records) (s t : ℕ → Status) → IsSound bits work m s → ((q : ℕ) → t q ≡ s q) → IsSound bits work m t
+pub sound-same : {H : Type 0} (bits : ℕ) (work : WorkView H) (m : Records) (s t : ℕ → Status) → AreSoundStatuses bits work m s → ((q : ℕ) → t q ≡ s q) → AreSoundStatuses bits work m t
 sound-same bits work m s t sound same = record {
   there = λ r h. sound.there r (sym (ap has_record (same r)) ∙ h);
   committed = λ r h. sound.committed r (sym (ap is_committed (same r)) ∙ h);
@@ -34,7 +34,7 @@ open-uncommitted (Status.held tag) h = absurd (false≢true h)
 open-uncommitted Status.left h = absurd (false≢true h)
 
 -- an open entry is pending, with a record
-module _ {H : Type 0} (bits : ℕ) (work : WorkView H) (m : Records) (s : ℕ → Status) (sound : IsSound bits work m s) (r : ℕ) (ws : List ℕ)
+module _ {H : Type 0} (bits : ℕ) (work : WorkView H) (m : Records) (s : ℕ → Status) (sound : AreSoundStatuses bits work m s) (r : ℕ) (ws : List ℕ)
     (opened : is_open (s r) ≡ true) (some : 0 < length ws) where
   here-or : (P : ℕ → Status → List ℕ → Type 0) (q : ℕ) → (q ≡ r → P q Status.pending ws) → ((q ≡ r → ⊥) → P q (s q) (m q)) → P q (with_status s r Status.pending q) (with_words m r ws q)
   here-or P q here other = elim (cases_eq q r) [
@@ -42,7 +42,7 @@ module _ {H : Type 0} (bits : ℕ) (work : WorkView H) (m : Records) (s : ℕ �
     | inr ne ↦ subst (λ t. P q (cond t Status.pending (s q)) (cond t ws (m q))) (sym (ne_eqb q r ne)) (other ne)
   ]
 
-  pub sound-made : IsSound bits work (with_words m r ws) (with_status s r Status.pending)
+  pub sound-made : AreSoundStatuses bits work (with_words m r ws) (with_status s r Status.pending)
   sound-made = record {
     there = λ q. here-or (λ q c xs. has_record c ≡ true → 0 < length xs) q (λ e h. some) (λ ne h. sound.there q h);
     committed = λ q. here-or (λ q c xs. is_committed c ≡ true → xs ≡ words_at (last_image work.commits) q) q (λ e h. absurd (false≢true h)) (λ ne h. sound.committed q h);
@@ -52,7 +52,7 @@ module _ {H : Type 0} (bits : ℕ) (work : WorkView H) (m : Records) (s : ℕ �
   }
 
 -- a free buffer is handed out
-module _ {H : Type 0} (bits : ℕ) (work : WorkView H) (m : Records) (s : ℕ → Status) (sound : IsSound bits work m s) (b width : ℕ)
+module _ {H : Type 0} (bits : ℕ) (work : WorkView H) (m : Records) (s : ℕ → Status) (sound : AreSoundStatuses bits work m s) (b width : ℕ)
     (free : is_free_buffer (work.buffer b) ≡ true)
     (kept : (n r : ℕ) → IsKept work.commits n → 0 < length (words_at (work.commits.image n) r)
     → FitsEntry bits work.sizes (width_of (work.buffer (buffer_of bits r))) r (length (words_at (work.commits.image n) r))) where
@@ -72,7 +72,7 @@ module _ {H : Type 0} (bits : ℕ) (work : WorkView H) (m : Records) (s : ℕ �
       let none : width_of (work.buffer (buffer_of bits r)) ≡ 0 = free-width (work.buffer (buffer_of bits r)) (ap (λ a. is_free_buffer (work.buffer a)) e ∙ free) in
       omega arith)
 
-  pub sound-opened : IsSound bits (handed_out work b width) m s
+  pub sound-opened : AreSoundStatuses bits (handed_out work b width) m s
   sound-opened = record {
     there = sound.there;
     committed = sound.committed;
@@ -97,7 +97,7 @@ abbrev tag-in : Tag → Status → Tag
 tag-in other (Status.held x) = x
 tag-in other c = other
 
-module _ {H : Type 0} (bits : ℕ) (work new : WorkView H) (m : Records) (s : ℕ → Status) (sound : IsSound bits work m s) (closed : ℕ)
+module _ {H : Type 0} (bits : ℕ) (work new : WorkView H) (m : Records) (s : ℕ → Status) (sound : AreSoundStatuses bits work m s) (closed : ℕ)
     (left : closed < length work.queue) (queue : new.queue ≡ drop closed work.queue) (goes : LetsGo work.commits new.commits)
     (order : IsInOrder new) (widths : (b : ℕ) → active_width (new.buffer b) ≡ active_width (work.buffer b)) (sizes : new.sizes ≡ work.sizes) where
   out-still : (r : ℕ) (tag : Tag) → IsOut work.commits work.queue tag r → IsOut new.commits new.queue tag r
@@ -180,7 +180,7 @@ module _ {H : Type 0} (bits : ℕ) (work new : WorkView H) (m : Records) (s : �
       by_test true f = absurd (cc)
       by_test false f = f
 
-  pub sound-reclaimed : (t : ℕ → Status) → ((r : ℕ) → t r ≡ free_below (oldest_of new.queue).generation (s r)) → IsSound bits new m t
+  pub sound-reclaimed : (t : ℕ → Status) → ((r : ℕ) → t r ≡ free_below (oldest_of new.queue).generation (s r)) → AreSoundStatuses bits new m t
   sound-reclaimed t is = record {
     there = λ r h. sound.there r (has-below _ (s r) (sym (ap has_record (is r)) ∙ h));
     committed = λ r h. sound.committed r (committed-below _ (s r) (sym (ap is_committed (is r)) ∙ h)) ∙ ap (λ i. words_at i r) (sym (lets-last work.commits new.commits goes));
@@ -190,10 +190,10 @@ module _ {H : Type 0} (bits : ℕ) (work new : WorkView H) (m : Records) (s : �
   }
 
 -- an advance
-module _ {H : Type 0} (bits : ℕ) (work new : WorkView H) (m : Records) (s : ℕ → Status) (sound : IsSound bits work m s)
+module _ {H : Type 0} (bits : ℕ) (work new : WorkView H) (m : Records) (s : ℕ → Status) (sound : AreSoundStatuses bits work m s)
     (goes : LetsGo work.commits new.commits) (buffer : new.buffer ≡ work.buffer) (sizes : new.sizes ≡ work.sizes)
     (later : (tag : Tag) → all_later tag work.queue ≡ true → tag.commit ≤ work.commits.last → all_later tag new.queue ≡ true) where
-  pub sound-advanced : IsSound bits new m s
+  pub sound-advanced : AreSoundStatuses bits new m s
   sound-advanced = record {
     there = sound.there;
     committed = λ r h. sound.committed r h ∙ ap (λ i. words_at i r) (sym (lets-last work.commits new.commits goes));
@@ -210,8 +210,8 @@ module _ {H : Type 0} (bits : ℕ) (work new : WorkView H) (m : Records) (s : �
   }
 
 -- a buffer goes on hold, and its entries are none any more
-module _ {H : Type 0} (bits : ℕ) (work : WorkView H) (m : Records) (s : ℕ → Status) (sound : IsSound bits work m s) (b : ℕ) where
-  pub sound-retired : (t : ℕ → Status) → ((r : ℕ) → t r ≡ cond (eqb (buffer_of bits r) b) Status.unmade (s r)) → IsSound bits (retired work b) m t
+module _ {H : Type 0} (bits : ℕ) (work : WorkView H) (m : Records) (s : ℕ → Status) (sound : AreSoundStatuses bits work m s) (b : ℕ) where
+  pub sound-retired : (t : ℕ → Status) → ((r : ℕ) → t r ≡ cond (eqb (buffer_of bits r) b) Status.unmade (s r)) → AreSoundStatuses bits (retired work b) m t
   sound-retired t is = record {
     there = λ r h. elim (cases_Bool (eqb (buffer_of bits r) b)) [
       | inl e ↦ absurd (false≢true (sym (ap has_record (is r ∙ ap (λ u. cond u Status.unmade (s r)) e)) ∙ h))
@@ -233,7 +233,7 @@ module _ {H : Type 0} (bits : ℕ) (work : WorkView H) (m : Records) (s : ℕ �
   }
 
 -- a commit is published
-module _ {H : Type 0} (bits : ℕ) (work : WorkView H) (m : Records) (s : ℕ → Status) (sound : IsSound bits work m s) (commits : Commits) (image : Image)
+module _ {H : Type 0} (bits : ℕ) (work : WorkView H) (m : Records) (s : ℕ → Status) (sound : AreSoundStatuses bits work m s) (commits : Commits) (image : Image)
     (adds : AddsCommit work.commits commits image) (order : AreInOrder work.queue)
     (used : (r : ℕ) → is_in image r ≡ true → in_use (s r) ≡ true) (ended : (r : ℕ) → is_let_go (s r) ≡ false) where
   abbrev tag : Tag
@@ -313,7 +313,7 @@ module _ {H : Type 0} (bits : ℕ) (work : WorkView H) (m : Records) (s : ℕ �
     commit = let last = adds.last in omega arith;
   })
 
-  pub sound-published : (t : ℕ → Status) → ((r : ℕ) → t r ≡ after_commit tag (is_in image r) (s r)) → IsSound bits (published work commits image) (words_at image) t
+  pub sound-published : (t : ℕ → Status) → ((r : ℕ) → t r ≡ after_commit tag (is_in image r) (s r)) → AreSoundStatuses bits (published work commits image) (words_at image) t
   sound-published t is = record {
     there = λ r h. ltb-true 0 _ (has-committed (is_in image r) (s r) (ended r) (sym (ap has_record (is r)) ∙ h));
     committed = λ r h. ap (λ i. words_at i r) (sym adds.image_is);

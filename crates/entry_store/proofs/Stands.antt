@@ -16,7 +16,7 @@ use Rattle.store_api.specs.Statuses.{Status, in_use, free_below, with_status}
 use Rattle.store_api.specs.Ledgers.{is_in, is_held}
 use Rattle.entry_ledger.specs.Entries.{EntriesView, IsGood, is_settled_entry}
 use Rattle.entry_ledger.specs.Calls.{CanTake, free_mark, Drops, Accepts, Undoes, Frees, made_at, opened_at, new_entries, with_state, freed}
-use Rattle.entry_store.specs.Standing.{Stands, IsOver, status_by, status_of, statuses, backs, back_of, is_since, is_mark_of}
+use Rattle.entry_store.specs.Standing.{Stands, IsOver, status_by, status_of, statuses, backs, back_of, is_in_generation, is_mark_of}
 use Rattle.entry_store.specs.ProofsForMarks.{marks-opened, marks-freed, held-freed, width-freed}
 use Rattle.entry_store.proofs.Queues.{newest-drop}
 use Rattle.entry_store.proofs.Soundness.{sound-made, sound-opened, sound-reclaimed, sound-same, lets-last}
@@ -35,7 +35,7 @@ module _ {H : Type 0} (bits : ℕ) (work : WorkView H) (m : Records) (e : Entrie
   -- the states and the counts change
   pub stands-changed : (new : EntriesView) (now : Bool) → new ≡ record e { state = new.state; of_width = new.of_width } → IsGood bits new
       → ((q : ℕ) → IsWeaker (status_of (has q) e.last (new.state q)) (statuses work.commits e q))
-      → ((q : ℕ) → is_since e.last e.generation (new.state q) ≡ true)
+      → ((q : ℕ) → is_in_generation e.last e.generation (new.state q) ≡ true)
       → (now ≡ false → (q : ℕ) → is_settled_entry (new.state q) ≡ true) → (now ≡ false → (w : ℕ) → (new.of_width w).fresh ≡ 0)
       → Stands bits work m new now
   stands-changed new now same good weaker since settled fresh = record {
@@ -48,7 +48,7 @@ module _ {H : Type 0} (bits : ℕ) (work : WorkView H) (m : Records) (e : Entrie
     marks = λ b below. subst (λ x. is_mark_of (x.mark b) (work.buffer b) ≡ true) (sym same) (st.marks b below);
     sound = sound-weaker bits work m (statuses work.commits e) (statuses work.commits new) st.sound
         (λ q. subst (λ l. IsWeaker (status_of (has q) l (new.state q)) (statuses work.commits e q)) (sym (ap (λ x. x.last) same)) (weaker q));
-    since = λ q. subst (λ l. is_since l new.generation (new.state q) ≡ true) (sym (ap (λ x. x.last) same)) (subst (λ g. is_since e.last g (new.state q) ≡ true) (sym (ap (λ x. x.generation) same)) (since q));
+    since = λ q. subst (λ l. is_in_generation l new.generation (new.state q) ≡ true) (sym (ap (λ x. x.last) same)) (subst (λ g. is_in_generation e.last g (new.state q) ≡ true) (sym (ap (λ x. x.generation) same)) (since q));
     settled = settled;
     no_fresh = fresh;
     unread = st.unread;
@@ -68,7 +68,7 @@ module _ {H : Type 0} (bits : ℕ) (work : WorkView H) (m : Records) (e : Entrie
     pub stands-dropped : IsGood bits new → Stands bits work m new unit
     stands-dropped good =
         stands-changed new unit drops.same good dropped-at
-        (λ q. state-dropped (λ q o. is_since e.last e.generation o ≡ true) q (λ same. dropped-since e.last e.generation s (in_use-used (has r) e.last s used)) (λ ne. st.since q))
+        (λ q. state-dropped (λ q o. is_in_generation e.last e.generation o ≡ true) q (λ same. dropped-since e.last e.generation s (in_use-used (has r) e.last s used)) (λ ne. st.since q))
         (λ ended q. absurd (true≢false (sym begun ∙ ended))) (λ ended w. absurd (true≢false (sym begun ∙ ended)))
 
   -- a unit ends
@@ -77,7 +77,7 @@ module _ {H : Type 0} (bits : ℕ) (work : WorkView H) (m : Records) (e : Entrie
       stands-changed new false accepts.same good
       (λ q. subst (λ o. IsWeaker (status_of (has q) e.last o) (statuses work.commits e q)) (sym (accepts.state q))
       (subst (λ c. IsWeaker c (statuses work.commits e q)) (sym (accepted-status (has q) e.last e.generation (e.state q))) (weaker-accept (statuses work.commits e q))))
-      (λ q. subst (λ o. is_since e.last e.generation o ≡ true) (sym (accepts.state q)) (accepted-since e.last e.generation (e.state q) (st.since q)))
+      (λ q. subst (λ o. is_in_generation e.last e.generation o ≡ true) (sym (accepts.state q)) (accepted-since e.last e.generation (e.state q) (st.since q)))
       (λ ended q. subst (λ o. is_settled_entry o ≡ true) (sym (accepts.state q)) (accepted-settled e.last e.generation (e.state q)))
       (λ ended. accepts.fresh)
 
@@ -89,7 +89,7 @@ module _ {H : Type 0} (bits : ℕ) (work : WorkView H) (m : Records) (e : Entrie
   stands-undone new undoes good =
       stands-changed new false undoes.same good
       (λ q. subst (λ o. IsWeaker (status_of (has q) e.last o) (statuses work.commits e q)) (sym (undoes.state q)) (undone-at q (e.state q) refl))
-      (λ q. subst (λ o. is_since e.last e.generation o ≡ true) (sym (undoes.state q)) (undone-since e.last e.generation (e.state q) (st.since q)))
+      (λ q. subst (λ o. is_in_generation e.last e.generation o ≡ true) (sym (undoes.state q)) (undone-since e.last e.generation (e.state q) (st.since q)))
       (λ ended q. subst (λ o. is_settled_entry o ≡ true) (sym (undoes.state q)) (undone-settled e.last (e.state q)))
       (λ ended. undoes.fresh)
 
@@ -111,7 +111,7 @@ module _ {H : Type 0} (bits : ℕ) (work : WorkView H) (m : Records) (e : Entrie
           let here = sound-made bits work m (statuses work.commits e) st.sound r ws (open-status (has r) e.last (e.state r) can.is_open) some in
           sound-same bits (record work { stored = stored }) (with_words m r ws) (with_status (statuses work.commits e) r Status.pending) (statuses work.commits (made_at e width r))
           (record { there = here.there; committed = here.committed; unkept = here.unkept; out = here.out }) status-made;
-      since = λ q. with_state-at (λ o. is_since e.last e.generation o ≡ true) e.state r Made q (λ same. refl) (λ ne. st.since q);
+      since = λ q. with_state-at (λ o. is_in_generation e.last e.generation o ≡ true) e.state r Made q (λ same. refl) (λ ne. st.since q);
       settled = λ ended q. absurd (true≢false (sym begun ∙ ended));
       no_fresh = λ ended w. absurd (true≢false (sym begun ∙ ended));
       unread = st.unread;
@@ -193,9 +193,9 @@ module _ {H : Type 0} (bits : ℕ) (work : WorkView H) (m : Records) (e : Entrie
         (λ b. ap (λ f. active_width (f b)) reclaims.buffer ∙ width-freed (oldest_of next.queue).generation (work.buffer b)) (ap (λ w. w.sizes) knows)
         (statuses next.commits new) (λ q. status-freed below q ∙ ap (λ g. free_below g (statuses work.commits e q)) reclaims.generation);
     since = λ q.
-        subst (λ o. is_since new.last new.generation o ≡ true) (sym (frees.state q))
-        (subst (λ l. is_since l new.generation (option_map (freed answer.generation) (e.state q)) ≡ true) (sym (ap (λ x. x.last) frees.same))
-        (subst (λ g. is_since e.last g (option_map (freed answer.generation) (e.state q)) ≡ true) (sym (ap (λ x. x.generation) frees.same)) (freed-since e.last e.generation answer.generation (e.state q) (st.since q))));
+        subst (λ o. is_in_generation new.last new.generation o ≡ true) (sym (frees.state q))
+        (subst (λ l. is_in_generation l new.generation (option_map (freed answer.generation) (e.state q)) ≡ true) (sym (ap (λ x. x.last) frees.same))
+        (subst (λ g. is_in_generation e.last g (option_map (freed answer.generation) (e.state q)) ≡ true) (sym (ap (λ x. x.generation) frees.same)) (freed-since e.last e.generation answer.generation (e.state q) (st.since q))));
     settled = λ ended q. subst (λ o. is_settled_entry o ≡ true) (sym (frees.state q)) (freed-settled answer.generation (e.state q) (st.settled ended q));
     no_fresh = λ ended w. (frees.counts w).fresh ∙ st.no_fresh ended w;
     unread = unread;

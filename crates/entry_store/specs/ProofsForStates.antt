@@ -9,9 +9,9 @@ use Rattle.buffer_shelf.specs.States.{is_used, dropped, accepted, undone}
 use Rattle.image_base.specs.Records.{Records}
 use Rattle.arena_api.specs.Works.{WorkView, Tag}
 use Rattle.store_api.specs.Statuses.{Status, in_use, has_record, is_committed, is_uncommitted, is_open, is_let_go, after_drop, after_accept, free_below}
-use Rattle.entry_ledger.specs.Entries.{EntriesView, is_up_to, is_open_entry, is_settled_entry}
+use Rattle.entry_ledger.specs.Entries.{EntriesView, is_timely, is_open_entry, is_settled_entry}
 use Rattle.entry_ledger.specs.Calls.{with_state, freed}
-use Rattle.entry_store.specs.Standing.{status_by, status_of, back_of, is_since, IsSound}
+use Rattle.entry_store.specs.Standing.{status_by, status_of, back_of, is_in_generation, AreSoundStatuses}
 
 -- of a new status and an old one: whether all that is asked of the new one's records was asked of the old one's
 abbrev pub implies : Bool → Bool → Bool
@@ -40,7 +40,7 @@ less : {new old : Status} → implies (has_record new) (has_record old) ≡ true
 less a b c d = inr (record { has = a; uncommitted = b; committed = c; unheld = d })
 
 -- what is so of weaker statuses
-pub sound-weaker : {H : Type 0} (bits : ℕ) (work : WorkView H) (m : Records) (s t : ℕ → Status) → IsSound bits work m s → ((q : ℕ) → IsWeaker (t q) (s q)) → IsSound bits work m t
+pub sound-weaker : {H : Type 0} (bits : ℕ) (work : WorkView H) (m : Records) (s t : ℕ → Status) → AreSoundStatuses bits work m s → ((q : ℕ) → IsWeaker (t q) (s q)) → AreSoundStatuses bits work m t
 sound-weaker bits work m s t sound weaker = record {
   there = λ r h. sound.there r (elim (weaker r) [
     | inl e ↦ sym (ap has_record e) ∙ h
@@ -130,11 +130,11 @@ dropped-back last LetGo used = absurd (false≢true used)
 dropped-back last (DroppedNow after) used = absurd (false≢true used)
 dropped-back last (Dropped after g) used = absurd (false≢true used)
 
-dropped-use-since : (t : Bool) (last generation after : ℕ) → is_since last generation (Some (cond t LetGo (DroppedNow after))) ≡ true
+dropped-use-since : (t : Bool) (last generation after : ℕ) → is_in_generation last generation (Some (cond t LetGo (DroppedNow after))) ≡ true
 dropped-use-since true last generation after = refl
 dropped-use-since false last generation after = refl
 
-pub dropped-since : (last generation : ℕ) (s : State) → is_used s ≡ true → is_since last generation (Some (dropped last s)) ≡ true
+pub dropped-since : (last generation : ℕ) (s : State) → is_used s ≡ true → is_in_generation last generation (Some (dropped last s)) ≡ true
 dropped-since last generation Free used = refl
 dropped-since last generation Returned used = refl
 dropped-since last generation Made used = refl
@@ -151,7 +151,7 @@ less-than-dropped : (has : Bool) → IsWeaker (cond has Status.live Status.left)
 less-than-dropped true = less refl refl refl refl
 less-than-dropped false = less refl refl refl refl
 
-pub undone-weaker : (has : Bool) (e : EntriesView) (s : State) → is_up_to e s ≡ true → IsWeaker (status_by has e.last (undone e.last s)) (status_by has e.last s)
+pub undone-weaker : (has : Bool) (e : EntriesView) (s : State) → is_timely e s ≡ true → IsWeaker (status_by has e.last (undone e.last s)) (status_by has e.last s)
 undone-weaker has e Free up = inl refl
 undone-weaker has e Returned up = inl refl
 undone-weaker has e Made up = less refl refl refl refl
@@ -172,7 +172,7 @@ undone-settled last (Some LetGo) = refl
 undone-settled last (Some (DroppedNow after)) = refl
 undone-settled last (Some (Dropped after g)) = refl
 
-pub undone-since : (last generation : ℕ) (o : Option State) → is_since last generation o ≡ true → is_since last generation (option_map (undone last) o) ≡ true
+pub undone-since : (last generation : ℕ) (o : Option State) → is_in_generation last generation o ≡ true → is_in_generation last generation (option_map (undone last) o) ≡ true
 undone-since last generation None h = refl
 undone-since last generation (Some Free) h = refl
 undone-since last generation (Some Returned) h = refl
@@ -227,7 +227,7 @@ or-right : (a b : Bool) → b ≡ true → (a || b) ≡ true
 or-right true b h = refl
 or-right false b h = h
 
-pub accepted-since : (last generation : ℕ) (o : Option State) → is_since last generation o ≡ true → is_since last generation (option_map (accepted last generation) o) ≡ true
+pub accepted-since : (last generation : ℕ) (o : Option State) → is_in_generation last generation o ≡ true → is_in_generation last generation (option_map (accepted last generation) o) ≡ true
 accepted-since last generation None h = refl
 accepted-since last generation (Some Free) h = refl
 accepted-since last generation (Some Returned) h = refl
@@ -339,7 +339,7 @@ free-use false true generation = refl
 free-use false false generation = refl
 
 -- what was dropped since the last commit is tagged at the current generation, and so is not freed
-since-above : (last current after g generation : ℕ) → is_since last current (Some (Dropped after g)) ≡ true → generation ≤ current → eqb after last ≡ true → ltb g generation ≡ false
+since-above : (last current after g generation : ℕ) → is_in_generation last current (Some (Dropped after g)) ≡ true → generation ≤ current → eqb after last ≡ true → ltb g generation ≡ false
 since-above last current after g generation h low e = elim (cases_Bool (ltb g generation)) [
   | inl b ↦ absurd (omega (arith, low, ltb-true g generation b, eqb-true g current (or-left (eqb after last) (eqb g current) e h)))
   | inr b ↦ b
@@ -349,7 +349,7 @@ since-above last current after g generation h low e = elim (cases_Bool (ltb g ge
     or-left true b e f = f
     or-left false b e f = absurd (false≢true e)
 
-pub freed-status : (has : Bool) (last current generation : ℕ) (o : Option State) → is_since last current o ≡ true → generation ≤ current
+pub freed-status : (has : Bool) (last current generation : ℕ) (o : Option State) → is_in_generation last current o ≡ true → generation ≤ current
     → status_of has last (option_map (freed generation) o) ≡ free_below generation (status_of has last o)
 freed-status has last current generation None since low = refl
 freed-status has last current generation (Some Free) since low = refl
@@ -391,11 +391,11 @@ freed-settled generation (Some LetGo) h = h
 freed-settled generation (Some (DroppedNow after)) h = h
 freed-settled generation (Some (Dropped after g)) h = settled-dropped (ltb g generation) after g
 
-since-dropped : (below : Bool) (last current after g : ℕ) → is_since last current (Some (Dropped after g)) ≡ true → is_since last current (Some (cond below Free (Dropped after g))) ≡ true
+since-dropped : (below : Bool) (last current after g : ℕ) → is_in_generation last current (Some (Dropped after g)) ≡ true → is_in_generation last current (Some (cond below Free (Dropped after g))) ≡ true
 since-dropped true last current after g h = refl
 since-dropped false last current after g h = h
 
-pub freed-since : (last current generation : ℕ) (o : Option State) → is_since last current o ≡ true → is_since last current (option_map (freed generation) o) ≡ true
+pub freed-since : (last current generation : ℕ) (o : Option State) → is_in_generation last current o ≡ true → is_in_generation last current (option_map (freed generation) o) ≡ true
 freed-since last current generation None h = refl
 freed-since last current generation (Some Free) h = refl
 freed-since last current generation (Some Returned) h = refl

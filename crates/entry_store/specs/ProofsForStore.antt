@@ -17,8 +17,8 @@ use Rattle.store_api.specs.Statuses.{Status, in_use, has_record, is_taken, is_co
 use Rattle.store_api.specs.Ledgers.{IsSettled, IsEntryOf, IsSpare, IsHeldEntry, IsUnfilled, is_this, is_in, is_width, buffers_in, widths, capacity}
 use Rattle.store_api.proofs.Counting.{few_entries, few_nodes}
 use Rattle.buffer_states.specs.declared.BufferState.{BufferState}
-use Rattle.buffer_states.specs.Buffers.{is_free, is_active}
-use Rattle.entry_ledger.specs.Entries.{EntriesView, is_up_to, width_of, count_marks}
+use Rattle.buffer_states.specs.Buffers.{is_state_free, is_state_active}
+use Rattle.entry_ledger.specs.Entries.{EntriesView, is_timely, width_of, count_marks}
 use Rattle.entry_ledger.specs.Entries.{IsSpare as IsSpareEntry}
 use Rattle.entry_store.specs.Standing.{Stands, status_of, back_of, statuses, backs, ledger_of, tag_at}
 use Rattle.entry_store.specs.ProofsForMarks.{mark-width, count-free}
@@ -86,7 +86,7 @@ held-state has last (Some (State.DroppedNow after)) tag e = absurd (cc)
 held-state has last (Some (State.Dropped after g)) tag e =
     let both = held-dropped (eqb after last) after last g tag refl e in (after, g, refl, both.0, both.1)
 
-up-parts : (e : EntriesView) (after g : ℕ) → is_up_to e (Dropped after g) ≡ true → (e.oldest ≤ g) × (g ≤ e.generation)
+up-parts : (e : EntriesView) (after g : ℕ) → is_timely e (Dropped after g) ≡ true → (e.oldest ≤ g) × (g ≤ e.generation)
 up-parts e after g up =
     let parts = and_parts (leb after e.last && leb e.oldest g) (leb g e.generation) up in
     let more = and_parts (leb after e.last) (leb e.oldest g) parts.0 in
@@ -161,14 +161,14 @@ module _ {H : Type 0} (bits : ℕ) (work : WorkView H) (m : Records) (e : Entrie
 
   -- an active buffer has one of the widths
   width-is : (r : ℕ) (width : ℕ) → IsSpareEntry bits e width r → is_width width ≡ true
-  width-is r width spare = elim (cases_Bool (is_active (e.mark (buffer_of bits r)).state)) [
+  width-is r width spare = elim (cases_Bool (is_state_active (e.mark (buffer_of bits r)).state)) [
     | inl t ↦ (let same : (e.mark (buffer_of bits r)).width ≡ width = sym (ap (λ u. cond u (e.mark (buffer_of bits r)).width 0) t) ∙ spare.of_width in
         ap is_width (sym same) ∙ (st.good.marks (buffer_of bits r)).width (active-busy _ t))
     | inr t ↦ (let wide = spare.entry.wide in
         let none : 0 ≡ width = sym (ap (λ u. cond u (e.mark (buffer_of bits r)).width 0) t) ∙ spare.of_width in absurd (omega arith))
   ]
     where
-      active-busy : (s : BufferState) → is_active s ≡ true → is_free s ≡ false
+      active-busy : (s : BufferState) → is_state_active s ≡ true → is_state_free s ≡ false
       active-busy BufferState.Free h = absurd (false≢true h)
       active-busy BufferState.Active h = refl
       active-busy BufferState.OnHold h = absurd (false≢true h)
@@ -227,7 +227,7 @@ module _ {H : Type 0} (bits : ℕ) (work : WorkView H) (m : Records) (e : Entrie
         unfilled = unfilled-from (e.of_width (active_width (work.buffer b))).filled (λ h. sealed.unfilled (ap (λ n. (e.of_width n).filled) wide ∙ h));
       }
     where
-      active-busy : (s : BufferState) → is_active s ≡ true → is_free s ≡ false
+      active-busy : (s : BufferState) → is_state_active s ≡ true → is_state_free s ≡ false
       active-busy BufferState.Free h = absurd (false≢true h)
       active-busy BufferState.Active h = refl
       active-busy BufferState.OnHold h = absurd (false≢true h)
@@ -245,9 +245,9 @@ module _ {H : Type 0} (bits : ℕ) (work : WorkView H) (m : Records) (e : Entrie
 
   pub store_counted : free_count work.buffer work.sizes.buffers + buffers_in e.of_width widths ≡ work.sizes.buffers
   store_counted =
-      let free : count_marks is_free e.mark work.sizes.buffers ≡ free_count work.buffer work.sizes.buffers = count-free e.mark work.buffer work.sizes.buffers st.marks in
-      let whole : count_marks is_free e.mark work.sizes.buffers + buffers_in e.of_width widths ≡ work.sizes.buffers =
-      subst (λ n. count_marks is_free e.mark n + buffers_in e.of_width widths ≡ n) st.count st.good.whole in
+      let free : count_marks is_state_free e.mark work.sizes.buffers ≡ free_count work.buffer work.sizes.buffers = count-free e.mark work.buffer work.sizes.buffers st.marks in
+      let whole : count_marks is_state_free e.mark work.sizes.buffers + buffers_in e.of_width widths ≡ work.sizes.buffers =
+      subst (λ n. count_marks is_state_free e.mark n + buffers_in e.of_width widths ≡ n) st.count st.good.whole in
       omega arith
 
   pub store_few_buffers : (w : ℕ) → is_width w ≡ true → (e.of_width w).buffers ≤ 1 + (e.of_width w).made / capacity work.sizes.words w

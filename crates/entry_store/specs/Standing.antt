@@ -8,7 +8,7 @@ use Rattle.arena_api.specs.Calls.{IsKept, InNoCommit, padded}
 use Rattle.arena_api.specs.Generations.{current}
 use Rattle.store_api.specs.Statuses.{Status, has_record, is_committed, is_uncommitted}
 use Rattle.store_api.specs.Ledgers.{Ledger, is_in, is_held}
-use Rattle.buffer_states.specs.Buffers.{is_free, is_active, is_on_hold}
+use Rattle.buffer_states.specs.Buffers.{is_state_free, is_state_active, is_on_hold}
 use Rattle.buffer_shelf.specs.declared.state.State.{State}
 use Rattle.buffer_shelf.specs.declared.state.State.TheVariants.{Free, Returned, Made, InUse, LetGo, DroppedNow, Dropped}
 use Rattle.buffer_shelf.specs.States.{undone}
@@ -45,8 +45,8 @@ abbrev pub backs : Commits → EntriesView → ℕ → Status
 backs commits e r = back_of (is_in (last_image commits) r) e.last (e.state r)
 
 -- the records of these statuses
-abbrev pub records_of : (ℕ → Status) → Records → Records
-records_of status m r = if has_record (status r) then m r else []
+abbrev pub records_by_status : (ℕ → Status) → Records → Records
+records_by_status status m r = if has_record (status r) then m r else []
 
 -- the ledger of a store over a work with these records
 abbrev pub ledger_of : {H : Type 0} → ℕ → WorkView H → ℕ → Records → EntriesView → Bool → Ledger H
@@ -57,7 +57,7 @@ ledger_of bits work shape m e unit = record {
   unit = unit;
   status = statuses work.commits e;
   back = backs work.commits e;
-  back_records = records_of (backs work.commits e) m;
+  back_records = records_by_status (backs work.commits e) m;
   of_width = e.of_width;
   sealed = λ b. (e.mark b).sealed;
   finished = e.finished;
@@ -65,8 +65,8 @@ ledger_of bits work shape m e unit = record {
 
 -- a buffer of the entries is that of the work
 abbrev pub is_mark_of : Mark → Buffer → Bool
-is_mark_of mark (Buffer.free tag) = is_free mark.state
-is_mark_of mark (Buffer.active width tag) = is_active mark.state && nat_eq mark.width width
+is_mark_of mark (Buffer.free tag) = is_state_free mark.state
+is_mark_of mark (Buffer.active width tag) = is_state_active mark.state && nat_eq mark.width width
 is_mark_of mark (Buffer.held width tag) = is_on_hold mark.state && (nat_eq mark.width width && nat_eq mark.generation tag.generation)
 
 -- readers on holds of later generations have the tag's commit or later ones
@@ -84,13 +84,13 @@ pub record IsOut (commits : Commits) (queue : List Hold) (tag : Tag) (r : ℕ) :
   pub commit : tag.commit ≤ commits.last
 
 -- what was dropped after the last commit was dropped in the current generation
-abbrev pub is_since : ℕ → ℕ → Option State → Bool
-is_since last generation None = true
-is_since last generation (Some (Dropped after g)) = not (nat_eq after last) || nat_eq g generation
-is_since last generation (Some state) = true
+abbrev pub is_in_generation : ℕ → ℕ → Option State → Bool
+is_in_generation last generation None = true
+is_in_generation last generation (Some (Dropped after g)) = not (nat_eq after last) || nat_eq g generation
+is_in_generation last generation (Some state) = true
 
 -- what the statuses of entries say of the records and of the commits
-pub record IsSound {H : Type 0} (bits : ℕ) (work : WorkView H) (m : Records) (status : ℕ → Status) : Type 0 where
+pub record AreSoundStatuses {H : Type 0} (bits : ℕ) (work : WorkView H) (m : Records) (status : ℕ → Status) : Type 0 where
   pub there : (r : ℕ) → has_record (status r) ≡ true → 0 < length (m r)
   pub committed : (r : ℕ) → is_committed (status r) ≡ true → m r ≡ words_at (last_image work.commits) r
   pub unkept : (r : ℕ) → 0 < active_width (work.buffer (buffer_of bits r)) → buffer_of bits r < work.sizes.buffers
@@ -105,8 +105,8 @@ pub record IsOver {H : Type 0} (bits : ℕ) (work : WorkView H) (m : Records) (e
   pub last : e.last ≡ work.commits.last
   pub generation : e.generation ≡ current work
   pub marks : (b : ℕ) → b < work.sizes.buffers → is_mark_of (e.mark b) (work.buffer b) ≡ true
-  pub sound : IsSound bits work m (statuses work.commits e)
-  pub since : (r : ℕ) → is_since e.last e.generation (e.state r) ≡ true
+  pub sound : AreSoundStatuses bits work m (statuses work.commits e)
+  pub since : (r : ℕ) → is_in_generation e.last e.generation (e.state r) ≡ true
   pub settled : unit ≡ false → (r : ℕ) → is_settled_entry (e.state r) ≡ true
   pub no_fresh : unit ≡ false → (w : ℕ) → (e.of_width w).fresh ≡ 0
 
@@ -119,8 +119,8 @@ pub record Stands {H : Type 0} (bits : ℕ) (work : WorkView H) (m : Records) (e
   pub generation : e.generation ≡ current work
   pub oldest : e.oldest ≡ (oldest_of work.queue).generation
   pub marks : (b : ℕ) → b < work.sizes.buffers → is_mark_of (e.mark b) (work.buffer b) ≡ true
-  pub sound : IsSound bits work m (statuses work.commits e)
-  pub since : (r : ℕ) → is_since e.last e.generation (e.state r) ≡ true
+  pub sound : AreSoundStatuses bits work m (statuses work.commits e)
+  pub since : (r : ℕ) → is_in_generation e.last e.generation (e.state r) ≡ true
   -- where no unit is under way, none has changed an entry
   pub settled : unit ≡ false → (r : ℕ) → is_settled_entry (e.state r) ≡ true
   pub no_fresh : unit ≡ false → (w : ℕ) → (e.of_width w).fresh ≡ 0

@@ -12,7 +12,7 @@ ghost use Rattle.image_base.specs.Records.{HasWord, word_at};
 ghost use Rattle.entry_ref.specs.References.{buffer_of};
 ghost use Rattle.entry_ledger.specs.Ledgers.{entries_of};
 ghost use Rattle.entry_ledger.specs.Entries.{IsGood, is_settled_entry, is_dropped_since};
-ghost use Rattle.entry_store.specs.Standing.{Stands, statuses, records_of, ledger_of};
+ghost use Rattle.entry_store.specs.Standing.{Stands, statuses, records_by_status, ledger_of};
 ghost use Rattle.entry_store.specs.Steps.{TakesOne, OpensBuffer, MakesOpened, TellsOldest, FullAs, Publishes, EndsCommit, retired_by, generation_by};
 
 use arena_api::{Advance, Oldest, Work};
@@ -303,7 +303,7 @@ impl<const OFFSET_BITS: u32, W: Work<OFFSET_BITS>> Frozen<OFFSET_BITS>
 
     ghost shape = { λ s. W.shape s.work };
 
-    ghost records = { λ s. records_of (statuses (W.knows s.work).commits (entries_of OFFSET_BITS s.entries)) (W.records s.work) };
+    ghost records = { λ s. records_by_status (statuses (W.knows s.work).commits (entries_of OFFSET_BITS s.entries)) (W.records s.work) };
 
     fn word(&mut self, entry: EntryRef<OFFSET_BITS>, i: u32) -> u64
         requires { HasWord (⟦<EntryStore<OFFSET_BITS, W> as Frozen<OFFSET_BITS>>⟧.records self.old) entry i }

@@ -22,7 +22,7 @@ use Rattle.attr_types.specs.Value.{type_of, value_cmp}
 use Rattle.attr_types.specs.declared.kind.ValueType.{ValueType}
 use Rattle.attr_types.specs.declared.value.Value.{Value}
 use Rattle.unique_store.proofs.RecordLemmas.{value_there, value_no_node}
-use Rattle.enum_dictionary.specs.Dictionaries.{beside, IsDictionary, MakesDictionary}
+use Rattle.enum_dictionary.specs.Dictionaries.{beside_value, IsDictionary, MakesDictionary}
 use Rattle.enum_dictionary.specs.ProofsForKeys.{value_stays, value_steady}
 
 -- a tree by value, as the calls of trees ask for it
@@ -64,14 +64,14 @@ value_word type m value key ref word is same at record_is reads =
 
 -- the type of the value sought, and the key object's value
 pub seen_same : (type : ValueType) (m : Records) (value key : Value) → type_of value ≡ type → key ≡ value
-    → (λ (k : ℕ). value_cmp (stored_value type m k) key) ≡ beside value m
+    → (λ (k : ℕ). value_cmp (stored_value type m k) key) ≡ beside_value value m
 seen_same type m value key is same =
     ap {B = ℕ → Ordering} (λ (v : Value) (k : ℕ). value_cmp (stored_value type m k) v) same
     ∙ ap {B = ℕ → Ordering} (λ (t : ValueType) (k : ℕ). value_cmp (stored_value t m k) value) (sym is)
 
 -- a value that is there
 pub value_there_by : (type : ValueType) (m : Records) (value key : Value) (ps : List (ℕ × ℕ)) → type_of value ≡ type → key ≡ value
-    → IsSome (lookup (beside value m) ps) → IsSome (lookup (λ k. value_cmp (stored_value type m k) key) ps)
+    → IsSome (lookup (beside_value value m) ps) → IsSome (lookup (λ k. value_cmp (stored_value type m k) key) ps)
 value_there_by type m value key ps is same there =
     subst (λ (c : ℕ → Ordering). IsSome (lookup c ps)) (sym (seen_same type m value key is same)) there
 
@@ -96,21 +96,21 @@ module _ {H : Type 0} (type : ValueType) (value key : Value) (is : type_of value
     (keyed : IfOk answer (IsValueTree type n)) (owns : IfOk answer (λ r. Owns new n (tree r ∷ [])))
     (turns : IfOk answer (λ r. Turns old new m n (tree root ∷ []) (tree r ∷ []))) where
   made : (change : (ℕ → Ordering) → List (ℕ × ℕ)) → IfOk answer (λ r. tree_pairs n r ≡ change (λ k. value_cmp (stored_value type m k) key))
-      → IfOk answer (MakesDictionary (type_of value) old new m n root (change (beside value m)))
+      → IfOk answer (MakesDictionary (type_of value) old new m n root (change (beside_value value m)))
   made change are =
-      subst (λ (t : ValueType). IfOk answer (MakesDictionary t old new m n root (change (beside value m)))) (sym is)
+      subst (λ (t : ValueType). IfOk answer (MakesDictionary t old new m n root (change (beside_value value m)))) (sym is)
       (subst (λ (c : ℕ → Ordering). IfOk answer (MakesDictionary type old new m n root (change c))) (seen_same type m value key is same)
       (makes_from type old new m n root (change (λ k. value_cmp (stored_value type m k) key)) answer keyed owns are turns))
 
   pub made_put : (word ref posting : ℕ) → word ≡ ref
       → IfOk answer (λ r. tree_pairs n r ≡ put (λ k. value_cmp (stored_value type m k) key) (word, posting) (tree_pairs m root))
-      → IfOk answer (MakesDictionary (type_of value) old new m n root (put (beside value m) (ref, posting) (tree_pairs m root)))
+      → IfOk answer (MakesDictionary (type_of value) old new m n root (put (beside_value value m) (ref, posting) (tree_pairs m root)))
   made_put word ref posting at are =
-      subst (λ (k : ℕ). IfOk answer (MakesDictionary (type_of value) old new m n root (put (beside value m) (k, posting) (tree_pairs m root)))) at
+      subst (λ (k : ℕ). IfOk answer (MakesDictionary (type_of value) old new m n root (put (beside_value value m) (k, posting) (tree_pairs m root)))) at
       (made (λ c. put c (word, posting) (tree_pairs m root)) are)
 
   pub made_out : IfOk answer (λ r. tree_pairs n r ≡ take_out (λ k. value_cmp (stored_value type m k) key) (tree_pairs m root))
-      → IfOk answer (MakesDictionary (type_of value) old new m n root (take_out (beside value m) (tree_pairs m root)))
+      → IfOk answer (MakesDictionary (type_of value) old new m n root (take_out (beside_value value m) (tree_pairs m root)))
   made_out are = made (λ c. take_out c (tree_pairs m root)) are
 
 -- the empty dictionary

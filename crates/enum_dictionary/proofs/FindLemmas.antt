@@ -13,7 +13,7 @@ use Rattle.attr_types.specs.ProofsForOrder.{value_cmp_total, value_cmp_exact}
 use Rattle.attr_types.specs.Value.{type_of, value_cmp}
 use Rattle.attr_types.specs.declared.kind.ValueType.{ValueType}
 use Rattle.attr_types.specs.declared.value.Value.{Value}
-use Rattle.enum_dictionary.specs.Dictionaries.{beside, IsDictionary}
+use Rattle.enum_dictionary.specs.Dictionaries.{beside_value, IsDictionary}
 use Rattle.enum_dictionary.specs.Laws.{FindsSet, FindsRest}
 use Rattle.enum_dictionary.proofs.DictionaryLemmas.{no_node, value_same}
 use Rattle.enum_dictionary.proofs.MapLemmas.{put_found, put_others, take_out_gone, take_out_others}
@@ -82,18 +82,18 @@ module _ (m n : Records) (root next : ℕ) (value : Value) (is : IsDictionary (t
   -- another value of the type is sought by its own
   of_other : (other : Value) → type_of other ≡ type_of value
       → lookup_pair (by (type_of value) other n) (tree_pairs n next) ≡ lookup_pair (by (type_of value) other m) (tree_pairs m root)
-      → lookup_pair (beside other n) (tree_pairs n next) ≡ lookup_pair (beside other m) (tree_pairs m root)
+      → lookup_pair (beside_value other n) (tree_pairs n next) ≡ lookup_pair (beside_value other m) (tree_pairs m root)
   of_other other typed same =
       subst (λ (t : ValueType). lookup_pair (by t other n) (tree_pairs n next) ≡ lookup_pair (by t other m) (tree_pairs m root)) (sym typed) same
 
   pub finds_set : (pair : ℕ × ℕ) → IsValueRecord (type_of value) (m pair.0) → stored_value (type_of value) m pair.0 ≡ value
-      → tree_pairs n next ≡ put (beside value m) pair (tree_pairs m root) → FindsSet m n root next value pair
+      → tree_pairs n next ≡ put (beside_value value m) pair (tree_pairs m root) → FindsSet m n root next value pair
   finds_set pair record_is reads are = record {
     found = set_found (type_of value) m n keeps root next is value pair record_is reads are;
     others = λ other typed ne. of_other other typed (set_others (type_of value) m n keeps root next is value pair record_is reads are other ne);
   }
 
-  pub finds_rest : tree_pairs n next ≡ take_out (beside value m) (tree_pairs m root) → FindsRest m n root next value
+  pub finds_rest : tree_pairs n next ≡ take_out (beside_value value m) (tree_pairs m root) → FindsRest m n root next value
   finds_rest are = record {
     gone = removed_gone (type_of value) m n keeps root next is value are;
     others = λ other typed ne. of_other other typed (removed_others (type_of value) m n keeps root next is value are other ne);

@@ -15,8 +15,8 @@ use Rattle.attr_types.specs.declared.value.Value.{Value}
 use Rattle.enum_dictionary.specs.declared.finding.DictEntry.{DictEntry}
 
 -- a stored key beside the value sought
-abbrev pub beside : Value → Records → ℕ → Ordering
-beside value m key = value_cmp (stored_value (type_of value) m key) value
+abbrev pub beside_value : Value → Records → ℕ → Ordering
+beside_value value m key = value_cmp (stored_value (type_of value) m key) value
 
 -- the root of a dictionary of values of a type
 pub record IsDictionary (type : ValueType) (m : Records) (root : ℕ) : Type 0 where

@@ -8,7 +8,7 @@ use Rattle.attr_images.specs.Values.{stored_value, IsValueRecord}
 use Rattle.attr_types.specs.Value.{type_of}
 use Rattle.attr_types.specs.declared.kind.ValueType.{ValueType}
 use Rattle.attr_types.specs.declared.value.Value.{Value}
-use Rattle.enum_dictionary.specs.Dictionaries.{beside, IsDictionary}
+use Rattle.enum_dictionary.specs.Dictionaries.{beside_value, IsDictionary}
 
 -- the empty dictionary
 abbrev pub NothingIsDictionary : Type 0
@@ -22,23 +22,23 @@ DictionaryStays = (type : ValueType) (m n : Records) (root : ℕ) → SameAt (tr
 
 -- what is found at each value of the type after a change: the pair that was set, and at every other value what was there
 pub record FindsSet (m n : Records) (root next : ℕ) (value : Value) (pair : ℕ × ℕ) : Type 0 where
-  pub found : lookup_pair (beside value n) (tree_pairs n next) ≡ Some pair
+  pub found : lookup_pair (beside_value value n) (tree_pairs n next) ≡ Some pair
   pub others : (other : Value) → type_of other ≡ type_of value → other ≢ value
-      → lookup_pair (beside other n) (tree_pairs n next) ≡ lookup_pair (beside other m) (tree_pairs m root)
+      → lookup_pair (beside_value other n) (tree_pairs n next) ≡ lookup_pair (beside_value other m) (tree_pairs m root)
 
 -- nothing at the value that was removed, and at every other one what was there
 pub record FindsRest (m n : Records) (root next : ℕ) (value : Value) : Type 0 where
-  pub gone : lookup_pair (beside value n) (tree_pairs n next) ≡ None
+  pub gone : lookup_pair (beside_value value n) (tree_pairs n next) ≡ None
   pub others : (other : Value) → type_of other ≡ type_of value → other ≢ value
-      → lookup_pair (beside other n) (tree_pairs n next) ≡ lookup_pair (beside other m) (tree_pairs m root)
+      → lookup_pair (beside_value other n) (tree_pairs n next) ≡ lookup_pair (beside_value other m) (tree_pairs m root)
 
 -- it is so after `set`, by what its clauses `makes` and `others` say
 abbrev pub SetIsFound : Type 0
 SetIsFound = (m n : Records) (root next : ℕ) (value : Value) (pair : ℕ × ℕ) → IsDictionary (type_of value) m root
     → IsValueRecord (type_of value) (m pair.0) → stored_value (type_of value) m pair.0 ≡ value → KeepsOthers m n
-    → tree_pairs n next ≡ put (beside value m) pair (tree_pairs m root) → FindsSet m n root next value pair
+    → tree_pairs n next ≡ put (beside_value value m) pair (tree_pairs m root) → FindsSet m n root next value pair
 
 -- and after `remove`
 abbrev pub RemovedIsGone : Type 0
 RemovedIsGone = (m n : Records) (root next : ℕ) (value : Value) → IsDictionary (type_of value) m root → KeepsOthers m n
-    → tree_pairs n next ≡ take_out (beside value m) (tree_pairs m root) → FindsRest m n root next value
+    → tree_pairs n next ≡ take_out (beside_value value m) (tree_pairs m root) → FindsRest m n root next value

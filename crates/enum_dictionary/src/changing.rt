@@ -9,7 +9,7 @@ ghost use Rattle.tree_make.specs.Changes.{levels, tree};
 ghost use Rattle.tree_make.specs.Makes.{CountsNodes};
 ghost use Rattle.attr_images.specs.Values.{stored_value, IsValueRecord};
 ghost use Rattle.attr_types.specs.Value.{type_of};
-ghost use Rattle.enum_dictionary.specs.Dictionaries.{IsDictionary, MakesDictionary, beside};
+ghost use Rattle.enum_dictionary.specs.Dictionaries.{IsDictionary, MakesDictionary, beside_value};
 
 use crate::keys::{LongKey, TextKey};
 use attr_types::Value;
@@ -33,7 +33,7 @@ pub fn set<const OFFSET_BITS: u32, S: Store<OFFSET_BITS>>(
     requires reads { stored_value (type_of value.now) (S.records store.old) value_ref ≡ value.now }
     requires owns { Owns (S.ledger store.old) (S.records store.old) (tree root ∷ []) }
     ensures makes { IfOk result (MakesDictionary (type_of value.now) (S.ledger store.old) (S.ledger store.new)
-        (S.records store.old) (S.records store.new) root.entry (put (beside value.now (S.records store.old)) (value_ref.entry, posting)
+        (S.records store.old) (S.records store.new) root.entry (put (beside_value value.now (S.records store.old)) (value_ref.entry, posting)
         (tree_pairs (S.records store.old) root.entry))) }
     ensures others { KeepsOthers (S.records store.old) (S.records store.new) }
     ensures counts { CountsNodes (S.ledger store.old) (S.ledger store.new) (2 * levels (S.records store.old) root.entry + 1) }
@@ -56,10 +56,10 @@ pub fn remove<const OFFSET_BITS: u32, S: Store<OFFSET_BITS>>(
 ) -> Result<EntryRef<OFFSET_BITS>, StoreError>
     requires unit { (S.ledger store.old).unit ≡ true }
     requires dictionary { IsDictionary (type_of value.now) (S.records store.old) root }
-    requires there { IsSome (lookup (beside value.now (S.records store.old)) (tree_pairs (S.records store.old) root)) }
+    requires there { IsSome (lookup (beside_value value.now (S.records store.old)) (tree_pairs (S.records store.old) root)) }
     requires owns { Owns (S.ledger store.old) (S.records store.old) (tree root ∷ []) }
     ensures makes { IfOk result (MakesDictionary (type_of value.now) (S.ledger store.old) (S.ledger store.new)
-        (S.records store.old) (S.records store.new) root.entry (take_out (beside value.now (S.records store.old))
+        (S.records store.old) (S.records store.new) root.entry (take_out (beside_value value.now (S.records store.old))
         (tree_pairs (S.records store.old) root.entry))) }
     ensures others { KeepsOthers (S.records store.old) (S.records store.new) }
     ensures counts { CountsNodes (S.ledger store.old) (S.ledger store.new) (levels (S.records store.old) root.entry + 1) }

@@ -3,7 +3,7 @@ ghost use Rattle.tree_images.specs.Trees.{tree_pairs};
 ghost use Rattle.key_order.specs.Pairs.{seek};
 ghost use Rattle.tree_search.specs.Places.{IsAt, pairs_from};
 ghost use Rattle.attr_types.specs.Value.{type_of};
-ghost use Rattle.enum_dictionary.specs.Dictionaries.{IsDictionary, behind, beside};
+ghost use Rattle.enum_dictionary.specs.Dictionaries.{IsDictionary, behind, beside_value};
 
 use crate::keys::{LongKey, TextKey};
 use attr_types::Value;
@@ -21,7 +21,7 @@ pub fn lower<const OFFSET_BITS: u32, F: Frozen<OFFSET_BITS>>(
     requires { IsDictionary (type_of value.now) (F.records frozen.old) root }
     ensures at { IsAt (F.records frozen.old) result }
     ensures pairs { pairs_from (F.records frozen.old) result
-        ≡ seek (beside value.now (F.records frozen.old)) (tree_pairs (F.records frozen.old) root.entry) }
+        ≡ seek (beside_value value.now (F.records frozen.old)) (tree_pairs (F.records frozen.old) root.entry) }
     ensures root { result.root ≡ root.entry }
     ensures same { frozen.new ≡ frozen.old }
 {
@@ -40,7 +40,7 @@ pub fn upper<const OFFSET_BITS: u32, F: Frozen<OFFSET_BITS>>(
     requires { IsDictionary (type_of value.now) (F.records frozen.old) root }
     ensures at { IsAt (F.records frozen.old) result }
     ensures pairs { pairs_from (F.records frozen.old) result
-        ≡ behind (beside value.now (F.records frozen.old)) (tree_pairs (F.records frozen.old) root.entry) }
+        ≡ behind (beside_value value.now (F.records frozen.old)) (tree_pairs (F.records frozen.old) root.entry) }
     ensures root { result.root ≡ root.entry }
     ensures same { frozen.new ≡ frozen.old }
 {

@@ -3,7 +3,7 @@ ghost use Rattle.std.specs.Option.{option_map};
 ghost use Rattle.tree_images.specs.Trees.{tree_pairs};
 ghost use Rattle.key_order.specs.Pairs.{lookup_pair};
 ghost use Rattle.attr_types.specs.Value.{type_of};
-ghost use Rattle.enum_dictionary.specs.Dictionaries.{IsDictionary, beside, entry_of};
+ghost use Rattle.enum_dictionary.specs.Dictionaries.{IsDictionary, beside_value, entry_of};
 
 use crate::keys::{LongKey, TextKey};
 use attr_types::Value;
@@ -25,7 +25,7 @@ fn pair_of<const OFFSET_BITS: u32, F: Frozen<OFFSET_BITS>>(
     value: &Value,
 ) -> Option<(u64, u64)>
     requires { IsDictionary (type_of value.now) (F.records frozen.old) root }
-    ensures pair { result ≡ lookup_pair (beside value.now (F.records frozen.old)) (tree_pairs (F.records frozen.old) root.entry) }
+    ensures pair { result ≡ lookup_pair (beside_value value.now (F.records frozen.old)) (tree_pairs (F.records frozen.old) root.entry) }
     ensures same { frozen.new ≡ frozen.old }
 {
     match value {
@@ -42,7 +42,7 @@ pub fn find<const OFFSET_BITS: u32, F: Frozen<OFFSET_BITS>>(
 ) -> Option<DictEntry<OFFSET_BITS>>
     requires { IsDictionary (type_of value.now) (F.records frozen.old) root }
     ensures entry { result ≡ option_map (entry_of OFFSET_BITS)
-        (lookup_pair (beside value.now (F.records frozen.old)) (tree_pairs (F.records frozen.old) root.entry)) }
+        (lookup_pair (beside_value value.now (F.records frozen.old)) (tree_pairs (F.records frozen.old) root.entry)) }
     ensures same { frozen.new ≡ frozen.old }
 {
     match pair_of(frozen, root, value) {

@@ -8,7 +8,7 @@ use Rattle.feed_reader.specs.declared.refusal.Refusal.{Refusal}
 use Rattle.feed_reader.specs.Lines.{lines_of, is_blank}
 use Rattle.feed_reader.specs.Grammar.{op_of_line}
 use Rattle.feed_reader.specs.Feed.{Fault, with_op, ops_of_lines, feed_of}
-use Rattle.feed_reader.specs.Rows.{IsSound, IsFirstFault, RefusedByFirstFault, GivesEachOp}
+use Rattle.feed_reader.specs.Rows.{IsSoundLine, IsFirstFault, RefusedByFirstFault, GivesEachOp}
 
 -- the fault of lines that are numbered from n
 record FaultFrom (fields : List Field) (n : ℕ) (lines : List (List ℕ)) (line : ℕ) (refusal : Refusal) : Type 0 where
@@ -17,10 +17,10 @@ record FaultFrom (fields : List Field) (n : ℕ) (lines : List (List ℕ)) (line
   after : List (List ℕ)
   cut : lines ≡ before ++ (text ∷ after)
   place : line ≡ n + length before
-  sound : AllByRecursion (IsSound fields) before
+  sound : AllByRecursion (IsSoundLine fields) before
   faulty : (is_blank text ≡ false) × (op_of_line fields text ≡ Err refusal)
 
-past : (fields : List Field) (n : ℕ) (text : List ℕ) (lines : List (List ℕ)) (line : ℕ) (refusal : Refusal) → IsSound fields text → FaultFrom fields (n + 1) lines line refusal → FaultFrom fields n (text ∷ lines) line refusal
+past : (fields : List Field) (n : ℕ) (text : List ℕ) (lines : List (List ℕ)) (line : ℕ) (refusal : Refusal) → IsSoundLine fields text → FaultFrom fields (n + 1) lines line refusal → FaultFrom fields n (text ∷ lines) line refusal
 past fields n text lines line refusal sound fault = record {
   before = text ∷ fault.before;
   text = fault.text;
@@ -60,7 +60,7 @@ over_sound n false (Ok op) fault sound = refl
 over_sound n false (Err refusal) fault (inl e) = cc
 over_sound n false (Err refusal) fault (inr e) = cc
 
-to_fault : (fields : List Field) (before : List (List ℕ)) (text : List ℕ) (after : List (List ℕ)) (n : ℕ) (refusal : Refusal) → AllByRecursion (IsSound fields) before → is_blank text ≡ false → op_of_line fields text ≡ Err refusal
+to_fault : (fields : List Field) (before : List (List ℕ)) (text : List ℕ) (after : List (List ℕ)) (n : ℕ) (refusal : Refusal) → AllByRecursion (IsSoundLine fields) before → is_blank text ≡ false → op_of_line fields text ≡ Err refusal
     → ops_of_lines fields n (before ++ (text ∷ after)) ≡ Err (n + length before, refusal)
 unfolding ops_of_lines
 to_fault fields [] text after n refusal sound blank says =

@@ -33,7 +33,7 @@ use Rattle.feed_reader.specs.Items.{values_read, names_read, weighted_after, set
 use Rattle.feed_reader.specs.Operators.{operator_named, operator_form, value_form, weight_form}
 use Rattle.feed_reader.specs.Elements.{by_way, amount_read, place_of_number, place_read, element_read, match_parts, act_read, weight_act_read, at_read, of_read}
 use Rattle.feed_reader.specs.Grammar.{each_field, put_read, change_read, operator_read, update_read}
-use Rattle.feed_reader.specs.Forms.{IsLong, IsValue, IsName, IsWeight, AreValues, AreWeights, AreNames, HasListForm, HasWeightsForm, HasNamesForm, HasKindForm, HasItemsForm, IsPlace, IsElement, HasValueForm, IsMatch, IsChangeAt, IsChangeOf, HasForm, IsUpdate}
+use Rattle.feed_reader.specs.Forms.{IsLong, IsValue, IsName, IsWeight, AreValues, AreWeights, AreNames, HasListForm, HasWeightsForm, HasNamesForm, HasKindForm, HasItemsForm, IsArrayPlace, IsElement, HasValueForm, IsMatch, IsChangeAt, IsChangeOf, HasForm, IsUpdate}
 
 -- ---- what an answer tells
 
@@ -228,7 +228,7 @@ put_tells field (Some d) = items_tell field.kind field.value d
 amount_tells : (way : Way) (d : Data) → Tells (IsWeight d) (amount_read way d)
 amount_tells way d = tells_then (IsWeight d) (weight_read d) (by_way way) (weight_tells d)
 
-place_tells : (d : Data) → Tells (IsPlace d) (place_read d)
+place_tells : (d : Data) → Tells (IsArrayPlace d) (place_read d)
 place_tells (number (unsigned n)) =
     tells_option (n ≤ 4294967295) (place_of_number n) (tells_if (n ≤ 4294967295) (nat_le n 4294967295) n (tells_le n 4294967295))
 place_tells (number (negative z)) = (refl, never)
@@ -268,7 +268,7 @@ parts_tell {A} {B} P Q first second make one two (Some (element, name, d)) =
 
 at_tells : (t : ValueType) (d : Data) → Tells (IsMatch (IsChangeAt t) d) (at_read t d)
 at_tells t (object ms) =
-    parts_tell IsPlace (λ (name : List ℕ) (d : Data). IfSome (value_form (operator_named name) t) (λ (form : ItemForm). HasValueForm t form d)) place_read
+    parts_tell IsArrayPlace (λ (name : List ℕ) (d : Data). IfSome (value_form (operator_named name) t) (λ (form : ItemForm). HasValueForm t form d)) place_read
     (λ (name : List ℕ). act_read t (value_form (operator_named name) t)) changes.At place_tells (λ name. act_tells t (value_form (operator_named name) t)) (match_parts ms)
 at_tells t null = (refl, never)
 at_tells t (boolean b) = (refl, never)

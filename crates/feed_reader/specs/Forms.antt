@@ -113,9 +113,9 @@ HasItemsForm kind type d = HasKindForm kind type d
 -- ---- updates
 
 -- a place of an array, counted from 0
-abbrev pub IsPlace : Data → Type 0
-IsPlace (number (unsigned n)) = n ≤ 4294967295
-IsPlace d = ⊥
+abbrev pub IsArrayPlace : Data → Type 0
+IsArrayPlace (number (unsigned n)) = n ≤ 4294967295
+IsArrayPlace d = ⊥
 
 -- a value of a weighted set: a text names it, and a whole number stands for itself
 abbrev pub IsElement : ValueType → Data → Type 0
@@ -134,7 +134,7 @@ IsMatch P d = ⊥
 
 -- where `match` has the operator, its value has the operator's form
 abbrev pub IsChangeAt : ValueType → Data → List ℕ → Data → Type 0
-IsChangeAt type element name d = IsPlace element × IfSome (value_form (operator_named name) type) (λ form. HasValueForm type form d)
+IsChangeAt type element name d = IsArrayPlace element × IfSome (value_form (operator_named name) type) (λ form. HasValueForm type form d)
 
 abbrev pub IsChangeOf : ValueType → Data → List ℕ → Data → Type 0
 IsChangeOf type element name d = IsElement type element × IfSome (weight_form (operator_named name)) (λ form. IsWeight d)

@@ -165,8 +165,8 @@ TakenWithoutRow = (fields : List Field) (line : List ℕ)
 -- ---- the feed
 
 -- the line is blank, or gives an operation
-abbrev pub IsSound : List Field → List ℕ → Type 0
-IsSound fields line = IsTrue (is_blank line) ⊎ IsOk (op_of_line fields line)
+abbrev pub IsSoundLine : List Field → List ℕ → Type 0
+IsSoundLine fields line = IsTrue (is_blank line) ⊎ IsOk (op_of_line fields line)
 
 -- the line of this number is refused so, and each line before it is sound
 pub record IsFirstFault (fields : List Field) (lines : List (List ℕ)) (line : ℕ) (refusal : Refusal) : Type 0 where
@@ -175,7 +175,7 @@ pub record IsFirstFault (fields : List Field) (lines : List (List ℕ)) (line : 
   pub after : List (List ℕ)
   pub cut : lines ≡ before ++ (text ∷ after)
   pub place : line ≡ length before + 1
-  pub sound : AllByRecursion (IsSound fields) before
+  pub sound : AllByRecursion (IsSoundLine fields) before
   pub faulty : (is_blank text ≡ false) × (op_of_line fields text ≡ Err refusal)
 
 -- a feed is refused by its first faulty line

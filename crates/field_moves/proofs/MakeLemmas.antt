@@ -13,7 +13,7 @@ use Rattle.attr_images.specs.Postings.{ListForm, short, tree, vector, list_form}
 use Rattle.attr_images.specs.Values.{value_words}
 use Rattle.attr_images.specs.Words.{class_of}
 use Rattle.attr_types.specs.declared.value.Value.{Value}
-use Rattle.enum_dictionary.specs.Dictionaries.{beside}
+use Rattle.enum_dictionary.specs.Dictionaries.{beside_value}
 use Rattle.attr_walks.specs.Counts.{MakesFew, record_sum}
 use Rattle.attr_walks.proofs.CountLemmas.{levels_few, no_node, one_of}
 use Rattle.index_moves.specs.Moves.{key_most, move_most}
@@ -61,7 +61,7 @@ module _ {H : Type 0} (a b : Ledger H) (m : Records) where
   }
 
   list_few : (value : Value) (root : ℕ) → value_levels value m root ≤ 8
-  list_few value root = form_few m (list_form (unwrap_or (lookup (beside value m) (tree_pairs m root)) 0))
+  list_few value root = form_few m (list_form (unwrap_or (lookup (beside_value value m) (tree_pairs m root)) 0))
 
   pub few_list : (value : Value) (root count : ℕ) → MakesWithin a b (move_most value m root count) → MakesFew a b 25 1
   few_list value root count made = record {

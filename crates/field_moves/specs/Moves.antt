@@ -18,8 +18,8 @@ use Rattle.plan_keys.specs.PhaseKeys.{phase_keys}
 use Rattle.value_index.specs.Indexes.{IsKey}
 
 -- the trees of an attribute, from its field and its roots
-abbrev pub trees_of : {bits : ℕ} → Field → FieldRoots bits → AttributeTrees
-trees_of field roots = record { kind = field.kind; type = field.value; documents = roots.documents; dictionary = roots.dictionary }
+abbrev pub trees_of_roots : {bits : ℕ} → Field → FieldRoots bits → AttributeTrees
+trees_of_roots field roots = record { kind = field.kind; type = field.value; documents = roots.documents; dictionary = roots.dictionary }
 
 -- a unit has just begun: what is in use was so when it began
 pub record HasBegun {H : Type 0} (ledger : Ledger H) : Type 0 where

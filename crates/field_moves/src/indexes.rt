@@ -5,7 +5,7 @@ ghost use Rattle.store_api.specs.Units.{MayDo};
 ghost use Rattle.attr_compaction.specs.declared.plan.TheConstants.{KEYS, LISTS, NODES};
 ghost use Rattle.attr_compaction.specs.declared.plan.PlanKey.TheVariants as keys;
 ghost use Rattle.attr_walks.specs.Counts.{MakesFew};
-ghost use Rattle.field_moves.specs.Moves.{trees_of};
+ghost use Rattle.field_moves.specs.Moves.{trees_of_roots};
 ghost use Rattle.field_moves.specs.Steps.{CanMove, Moved};
 
 use attr_cleared::{keys_law, leaves_law, moved_law};
@@ -25,9 +25,9 @@ pub fn move_value_key<const OFFSET_BITS: u32, S: Store<OFFSET_BITS>>(
     plan: &Plan,
     value: &Value,
 ) -> Result<FieldRoots<OFFSET_BITS>, StoreError>
-    requires can { CanMove OFFSET_BITS (S.ledger store.old) (S.records store.old) (trees_of field.now roots) plan.now KEYS (keys.Value value.now) }
+    requires can { CanMove OFFSET_BITS (S.ledger store.old) (S.records store.old) (trees_of_roots field.now roots) plan.now KEYS (keys.Value value.now) }
     ensures moved { IfOk result (λ next. Moved OFFSET_BITS plan.now (keys.Value value.now) (S.ledger store.old) (S.ledger store.new)
-        (S.records store.old) (S.records store.new) (trees_of field.now roots.entry) (trees_of field.now next)) }
+        (S.records store.old) (S.records store.new) (trees_of_roots field.now roots.entry) (trees_of_roots field.now next)) }
     ensures counts { MakesFew (S.ledger store.old) (S.ledger store.new) 25 1 }
     ensures refuses { IfErr result (RefusesOf (IsUsedWidth (S.ledger store.old) (S.records store.old)) (S.ledger store.old) (S.ledger store.new)) }
     ensures may { MayDo (S.ledger store.old) (S.ledger store.new) }
@@ -53,9 +53,9 @@ pub fn move_value_list<const OFFSET_BITS: u32, S: Store<OFFSET_BITS>>(
     value: &Value,
     doc: u32,
 ) -> Result<FieldRoots<OFFSET_BITS>, StoreError>
-    requires can { CanMove OFFSET_BITS (S.ledger store.old) (S.records store.old) (trees_of field.now roots) plan.now LISTS (keys.Pair value.now doc) }
+    requires can { CanMove OFFSET_BITS (S.ledger store.old) (S.records store.old) (trees_of_roots field.now roots) plan.now LISTS (keys.Pair value.now doc) }
     ensures moved { IfOk result (λ next. Moved OFFSET_BITS plan.now (keys.Pair value.now doc) (S.ledger store.old) (S.ledger store.new)
-        (S.records store.old) (S.records store.new) (trees_of field.now roots.entry) (trees_of field.now next)) }
+        (S.records store.old) (S.records store.new) (trees_of_roots field.now roots.entry) (trees_of_roots field.now next)) }
     ensures counts { MakesFew (S.ledger store.old) (S.ledger store.new) 25 1 }
     ensures refuses { IfErr result (RefusesOf (IsUsedWidth (S.ledger store.old) (S.records store.old)) (S.ledger store.old) (S.ledger store.new)) }
     ensures may { MayDo (S.ledger store.old) (S.ledger store.new) }
@@ -81,9 +81,9 @@ pub fn move_value_nodes<const OFFSET_BITS: u32, S: Store<OFFSET_BITS>>(
     plan: &Plan,
     value: &Value,
 ) -> Result<FieldRoots<OFFSET_BITS>, StoreError>
-    requires can { CanMove OFFSET_BITS (S.ledger store.old) (S.records store.old) (trees_of field.now roots) plan.now NODES (keys.Value value.now) }
+    requires can { CanMove OFFSET_BITS (S.ledger store.old) (S.records store.old) (trees_of_roots field.now roots) plan.now NODES (keys.Value value.now) }
     ensures moved { IfOk result (λ next. Moved OFFSET_BITS plan.now (keys.Value value.now) (S.ledger store.old) (S.ledger store.new)
-        (S.records store.old) (S.records store.new) (trees_of field.now roots.entry) (trees_of field.now next)) }
+        (S.records store.old) (S.records store.new) (trees_of_roots field.now roots.entry) (trees_of_roots field.now next)) }
     ensures counts { MakesFew (S.ledger store.old) (S.ledger store.new) 25 1 }
     ensures refuses { IfErr result (RefusesOf (IsUsedWidth (S.ledger store.old) (S.records store.old)) (S.ledger store.old) (S.ledger store.new)) }
     ensures may { MayDo (S.ledger store.old) (S.ledger store.new) }

@@ -7,7 +7,7 @@ ghost use Rattle.attr_compaction.specs.declared.plan.TheConstants.{PHASES};
 ghost use Rattle.attr_compaction.specs.declared.plan.PlanKey.TheVariants as keys;
 ghost use Rattle.attr_field.specs.Fields.{field_part, IsField, RefersBeside};
 ghost use Rattle.attr_walks.specs.Counts.{MakesFew};
-ghost use Rattle.field_moves.specs.Moves.{trees_of, HasBegun, MovesField};
+ghost use Rattle.field_moves.specs.Moves.{trees_of_roots, HasBegun, MovesField};
 ghost use Rattle.field_moves.specs.Steps.{CanMove, Moved};
 ghost use Rattle.plan_keys.specs.PhaseKeys.{key_past, phase_keys};
 
@@ -29,10 +29,10 @@ fn move_by_value<const OFFSET_BITS: u32, S: Store<OFFSET_BITS>>(
     value: &Value,
 ) -> Result<FieldRoots<OFFSET_BITS>, StoreError>
     requires below { plan.now.place.stage.phase < PHASES }
-    requires can { CanMove OFFSET_BITS (S.ledger store.old) (S.records store.old) (trees_of field.now roots) plan.now
+    requires can { CanMove OFFSET_BITS (S.ledger store.old) (S.records store.old) (trees_of_roots field.now roots) plan.now
         plan.now.place.stage.phase (keys.Value value.now) }
     ensures moved { IfOk result (λ next. Moved OFFSET_BITS plan.now (keys.Value value.now) (S.ledger store.old) (S.ledger store.new)
-        (S.records store.old) (S.records store.new) (trees_of field.now roots.entry) (trees_of field.now next)) }
+        (S.records store.old) (S.records store.new) (trees_of_roots field.now roots.entry) (trees_of_roots field.now next)) }
     ensures counts { MakesFew (S.ledger store.old) (S.ledger store.new) 25 1 }
     ensures refuses { IfErr result (RefusesOf (IsUsedWidth (S.ledger store.old) (S.records store.old)) (S.ledger store.old) (S.ledger store.new)) }
     ensures may { MayDo (S.ledger store.old) (S.ledger store.new) }
@@ -54,10 +54,10 @@ fn move_by_document<const OFFSET_BITS: u32, S: Store<OFFSET_BITS>>(
     number: u32,
 ) -> Result<FieldRoots<OFFSET_BITS>, StoreError>
     requires below { plan.now.place.stage.phase < PHASES }
-    requires can { CanMove OFFSET_BITS (S.ledger store.old) (S.records store.old) (trees_of field.now roots) plan.now
+    requires can { CanMove OFFSET_BITS (S.ledger store.old) (S.records store.old) (trees_of_roots field.now roots) plan.now
         plan.now.place.stage.phase (keys.Doc number) }
     ensures moved { IfOk result (λ next. Moved OFFSET_BITS plan.now (keys.Doc number) (S.ledger store.old) (S.ledger store.new)
-        (S.records store.old) (S.records store.new) (trees_of field.now roots.entry) (trees_of field.now next)) }
+        (S.records store.old) (S.records store.new) (trees_of_roots field.now roots.entry) (trees_of_roots field.now next)) }
     ensures counts { MakesFew (S.ledger store.old) (S.ledger store.new) 25 1 }
     ensures refuses { IfErr result (RefusesOf (IsUsedWidth (S.ledger store.old) (S.records store.old)) (S.ledger store.old) (S.ledger store.new)) }
     ensures may { MayDo (S.ledger store.old) (S.ledger store.new) }
@@ -89,14 +89,14 @@ pub fn move_one<const OFFSET_BITS: u32, S: Store<OFFSET_BITS>>(
     requires next { key_past plan.now.place.key (phase_keys field.now.value (S.records store.old) roots.documents roots.dictionary
         plan.now.place.stage.phase) ≡ Some key.now }
     requires cleared { IsClearedField OFFSET_BITS plan.now.victim plan.now.place plan.now.place.stage.field (S.records store.old)
-        (trees_of field.now roots) }
+        (trees_of_roots field.now roots) }
     ensures moves { IfOk result (λ next. MovesField OFFSET_BITS plan.now.victim field.now.kind field.now.value
         (S.ledger store.old) (S.ledger store.new) (S.records store.old) (S.records store.new)
         roots.entry.documents roots.entry.dictionary next.documents next.dictionary) }
     // The key was visited, and all that was visited before is apart still.
     ensures cleared { IfOk result (λ next. IsClearedField OFFSET_BITS plan.now.victim
         (record { stage = plan.now.place.stage; key = key.now }) plan.now.place.stage.field (S.records store.new)
-        (trees_of field.now next)) }
+        (trees_of_roots field.now next)) }
     ensures counts { MakesFew (S.ledger store.old) (S.ledger store.new) 25 1 }
     ensures refuses { IfErr result (RefusesOf (IsUsedWidth (S.ledger store.old) (S.records store.old)) (S.ledger store.old) (S.ledger store.new)) }
     ensures may { MayDo (S.ledger store.old) (S.ledger store.new) }

@@ -17,7 +17,7 @@ use Rattle.gen_core.specs.declared.views.Buffer.{Buffer}
 use Rattle.gen_core.specs.declared.views.ReaderState.{ReaderState}
 use Rattle.gen_core.specs.declared.views.ReaderState.TheVariants.{Idle, Aimed, Raised, Bounced, Guarded, Spent}
 use Rattle.gen_core.specs.declared.views.ReaderView.{ReaderView}
-use Rattle.gen_core.specs.Views.{open_holds, oldest_of, newest_word, hold_place, is_open, coming, is_counted_on, queue_of, oldest_in}
+use Rattle.gen_core.specs.Views.{open_holds, oldest_of, newest_word, hold_place, is_open_hold, coming, is_counted_on, queue_of, oldest_in}
 use Rattle.gen_core.specs.Good.{State, IsBefore, HoldFits, NextFits, GoodTags, GoodMemory, GoodPlaces, hold_word, RaiseFits, GoodReaderState, GoodReader, Good}
 use Rattle.gen_core.specs.Conditions.{MayReopen, MayProbe}
 use Rattle.gen_core.specs.Events.{after_reopen, coming_hold, after_store_newest, after_probe, count_at, after_stop}
@@ -40,7 +40,7 @@ module _ (reaches : ℕ → Records → ℕ → List ℕ) (lawful : ℕ → Reco
   -- the count of a hold that is not in the queue is odd
   pub closed-word : (s : State) (h : ℕ) → Good reaches lawful s → MayReopen s.writer h → slice_index s.words (hold_place h) ≡ 2 * count_by (λ q. is_counted_on h q.state) s.readers + 1
   closed-word s h g may = g.counts.counts h may.hold
-      ∙ ap (hold_word _) (ap (λ p. is_open (queue_of s.writer.queue.older s.writer.queue.newest p) h) may.calm ∙ or-false _ ∙ any-none (open_holds s.writer.queue) h may.others)
+      ∙ ap (hold_word _) (ap (λ p. is_open_hold (queue_of s.writer.queue.older s.writer.queue.newest p) h) may.calm ∙ or-false _ ∙ any-none (open_holds s.writer.queue) h may.others)
 
   pub reopen_keeps : (s : State) (h : ℕ) → Good reaches lawful s → MayReopen s.writer h → Good reaches lawful (after_reopen s h)
   reopen_keeps s h g may = record {
@@ -62,14 +62,14 @@ module _ (reaches : ℕ → Records → ℕ → List ℕ) (lawful : ℕ → Reco
     readers = All-weaker (GoodReader s.writer.sizes s.writer.queue s.writer.commits) (GoodReader s.writer.sizes (queue_of s.writer.queue.older s.writer.queue.newest (Next h)) s.writer.commits) reader s.readers g.readers;
   }
     where
-      was : (k : ℕ) → is_open s.writer.queue k ≡ list_any (λ e. nat_eq e.hold k) (open_holds s.writer.queue)
-      was k = ap (λ p. is_open (queue_of s.writer.queue.older s.writer.queue.newest p) k) may.calm ∙ or-false _
+      was : (k : ℕ) → is_open_hold s.writer.queue k ≡ list_any (λ e. nat_eq e.hold k) (open_holds s.writer.queue)
+      was k = ap (λ p. is_open_hold (queue_of s.writer.queue.older s.writer.queue.newest p) k) may.calm ∙ or-false _
 
       closed : list_any (λ e. nat_eq e.hold h) (open_holds s.writer.queue) ≡ false
       closed = any-none (open_holds s.writer.queue) h may.others
 
       counts : (k : ℕ) → k < 16 → slice_index (set s.words (hold_place h) (slice_index s.words (hold_place h) - 1)) (hold_place k)
-          ≡ hold_word (count_by (λ q. is_counted_on k q.state) s.readers) (is_open (queue_of s.writer.queue.older s.writer.queue.newest (Next h)) k)
+          ≡ hold_word (count_by (λ q. is_counted_on k q.state) s.readers) (is_open_hold (queue_of s.writer.queue.older s.writer.queue.newest (Next h)) k)
       counts k lt = dite (ℕ_discrete k h)
           (λ same.
           let old : slice_index s.words (hold_place k) ≡ 2 * count_by (λ q. is_counted_on k q.state) s.readers + 1 =
@@ -77,12 +77,12 @@ module _ (reaches : ℕ → Records → ℕ → List ℕ) (lawful : ℕ → Reco
           let here : slice_index (set s.words (hold_place h) (slice_index s.words (hold_place h) - 1)) (hold_place k) ≡ slice_index s.words (hold_place k) - 1 =
           ap (λ i. slice_index (set s.words (hold_place h) (slice_index s.words (hold_place h) - 1)) (hold_place i)) same
           ∙ get_or-set_same s.words (hold_place h) _ 0 (let l = may.hold in omega (arith, l, g.sizes.table)) ∙ ap (λ i. slice_index s.words (hold_place i) - 1) (sym same) in
-          let new : is_open (queue_of s.writer.queue.older s.writer.queue.newest (Next h)) k ≡ true =
+          let new : is_open_hold (queue_of s.writer.queue.older s.writer.queue.newest (Next h)) k ≡ true =
           ap (λ i. list_any (λ e. nat_eq e.hold i) (open_holds s.writer.queue) || nat_eq h i) same ∙ ap (λ t. t || nat_eq h h) closed ∙ eq-eqb h h refl in
           let word : slice_index (set s.words (hold_place h) (slice_index s.words (hold_place h) - 1)) (hold_place k) ≡ 2 * count_by (λ q. is_counted_on k q.state) s.readers + 0 = omega (arith, old, here) in
           word ∙ sym (ap (hold_word _) new))
           (λ other.
-          let new : is_open s.writer.queue k ≡ is_open (queue_of s.writer.queue.older s.writer.queue.newest (Next h)) k =
+          let new : is_open_hold s.writer.queue k ≡ is_open_hold (queue_of s.writer.queue.older s.writer.queue.newest (Next h)) k =
           was k ∙ sym (ap (λ t. list_any (λ e. nat_eq e.hold k) (open_holds s.writer.queue) || t) (ne_eqb h k (λ e. other (sym e))) ∙ or-false _) in
           get_or-set_other s.words (hold_place h) (hold_place k) _ 0 (λ e. other (omega arith)) ∙ g.counts.counts k lt ∙ ap (hold_word _) new)
 
@@ -156,8 +156,8 @@ module _ (reaches : ℕ → Records → ℕ → List ℕ) (lawful : ℕ → Reco
       oldest : oldest_in (s.writer.queue.older ++ s.writer.queue.newest ∷ []) (coming_hold s.writer h) ≡ oldest_of s.writer.queue
       oldest = oldest-push s.writer.queue.older s.writer.queue.newest (coming_hold s.writer h)
 
-      opened : (k : ℕ) → is_open s.writer.queue k ≡ is_open (queue_of (s.writer.queue.older ++ s.writer.queue.newest ∷ []) (coming_hold s.writer h) Nothing) k
-      opened k = ap (λ p. is_open (queue_of s.writer.queue.older s.writer.queue.newest p) k) next ∙ sym (or-false _ ∙ any-push (open_holds s.writer.queue) (coming_hold s.writer h) k)
+      opened : (k : ℕ) → is_open_hold s.writer.queue k ≡ is_open_hold (queue_of (s.writer.queue.older ++ s.writer.queue.newest ∷ []) (coming_hold s.writer h) Nothing) k
+      opened k = ap (λ p. is_open_hold (queue_of s.writer.queue.older s.writer.queue.newest p) k) next ∙ sym (or-false _ ∙ any-push (open_holds s.writer.queue) (coming_hold s.writer h) k)
 
       raised : (k : ℕ) → RaiseFits s.writer.queue k → RaiseFits (queue_of (s.writer.queue.older ++ s.writer.queue.newest ∷ []) (coming_hold s.writer h) Nothing) k
       raised k x = record { hold = x.hold; opened = sym (opened k) ∙ x.opened }
@@ -197,8 +197,8 @@ module _ (reaches : ℕ → Records → ℕ → List ℕ) (lawful : ℕ → Reco
         (λ j r at. reader j r at (all_at (GoodReader s.writer.sizes s.writer.queue s.writer.commits) s.readers j r g.readers at));
   }
     where
-      opened : (k : ℕ) → is_open s.writer.queue k ≡ is_open (queue_of s.writer.queue.older s.writer.queue.newest Probed) k
-      opened k = ap (λ p. is_open (queue_of s.writer.queue.older s.writer.queue.newest p) k) may.calm
+      opened : (k : ℕ) → is_open_hold s.writer.queue k ≡ is_open_hold (queue_of s.writer.queue.older s.writer.queue.newest Probed) k
+      opened k = ap (λ p. is_open_hold (queue_of s.writer.queue.older s.writer.queue.newest p) k) may.calm
 
       -- no view is raised on the newest hold
       none : (j : ℕ) (r : ReaderView) → slice_get s.readers j ≡ Some r → is_counted_on s.writer.queue.newest.hold r.state ≡ false

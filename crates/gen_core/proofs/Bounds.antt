@@ -3,7 +3,7 @@ use Rattle.std.proofs.Common.{◌++◌, AllPairs, unwrap_or, eq-eqb, ◌≡◌, 
 use Rattle.std.specs.Prelude.{slice_get, count_by}
 use Rattle.std.proofs.lemmas.List.Sums.{count_by-le-length}
 use Rattle.gen_core.specs.Good.{hold_word, State, IsBefore, HoldFits, AimFits, BounceFits, GuardFits, GoodReaderState, GoodReader, Good}
-use Rattle.gen_core.specs.Views.{queue_of, oldest_in, oldest_of, floor_of, hold_place, is_open, is_counted_on, spent}
+use Rattle.gen_core.specs.Views.{queue_of, oldest_in, oldest_of, floor_of, hold_place, is_open_hold, is_counted_on, spent}
 use Rattle.gen_core.specs.Conditions.{MayClose, MayProbe}
 use Rattle.gen_core.specs.Laws.{IsInUse, IsPassed}
 use Rattle.gen_core.specs.Steps.{hold_of, hold_in, word_of, operation_of, subtract}
@@ -28,7 +28,7 @@ module _ (reaches : ℕ → Records → ℕ → List ℕ) (lawful : ℕ → Reco
       let most = count_by-le-length (λ (q : ReaderView). is_counted_on h q.state) s.readers in
       let few = g.counts.few in
       let views = g.counts.views in
-      by_open (is_open s.writer.queue h) word most few views
+      by_open (is_open_hold s.writer.queue h) word most few views
     where
       by_open : (o : Bool) → slice_index s.words (hold_place h) ≡ hold_word (count_by (λ (q : ReaderView). is_counted_on h q.state) s.readers) o
           → count_by (λ (q : ReaderView). is_counted_on h q.state) s.readers ≤ length s.readers → s.writer.made ≤ 64 → length s.readers ≡ s.writer.made → count_at s h ≤ 129
@@ -36,7 +36,7 @@ module _ (reaches : ℕ → Records → ℕ → List ℕ) (lawful : ℕ → Reco
       by_open false word most few views = omega arith
 
   -- the count of an open hold is even
-  open-even : (s : State) (h : ℕ) → Good reaches lawful s → h < 16 → is_open s.writer.queue h ≡ true → count_at s h ≢ 0 → IsInUse (count_at s h)
+  open-even : (s : State) (h : ℕ) → Good reaches lawful s → h < 16 → is_open_hold s.writer.queue h ≡ true → count_at s h ≢ 0 → IsInUse (count_at s h)
   open-even s h g low opened some =
       let n : ℕ = count_by (λ (q : ReaderView). is_counted_on h q.state) s.readers in
       let word : count_at s h ≡ 2 * n = g.counts.counts h low ∙ even-word n _ opened in
@@ -51,8 +51,8 @@ module _ (reaches : ℕ → Records → ℕ → List ℕ) (lawful : ℕ → Reco
       low : e.hold < 16
       low = subst (λ (x : OpenHold). x.hold < 16) oldest (at_oldest (HoldFits s.writer.commits) s.writer.queue.older s.writer.queue.newest g.queue.each).hold
 
-      opened : is_open s.writer.queue e.hold ≡ true
-      opened = ap (λ l. is_open (queue_of l s.writer.queue.newest s.writer.queue.pending) e.hold) may.is ∙ first-open e es s.writer.queue.newest s.writer.queue.pending
+      opened : is_open_hold s.writer.queue e.hold ≡ true
+      opened = ap (λ l. is_open_hold (queue_of l s.writer.queue.newest s.writer.queue.pending) e.hold) may.is ∙ first-open e es s.writer.queue.newest s.writer.queue.pending
 
   pub probe-finds : (s : State) → Good reaches lawful s → MayProbe s.writer → count_at s s.writer.queue.newest.hold ≢ 0 → IsInUse (count_at s s.writer.queue.newest.hold)
   probe-finds s g may some =

@@ -18,7 +18,7 @@ use Rattle.gen_core.specs.declared.views.Buffer.{Buffer}
 use Rattle.gen_core.specs.declared.views.ReaderState.{ReaderState}
 use Rattle.gen_core.specs.declared.views.ReaderState.TheVariants.{Idle, Aimed, Raised, Bounced, Guarded, Spent}
 use Rattle.gen_core.specs.declared.views.ReaderView.{ReaderView}
-use Rattle.gen_core.specs.Views.{open_holds, oldest_of, newest_word, hold_place, is_open, is_next, coming, is_counted_on, queue_of, oldest_in}
+use Rattle.gen_core.specs.Views.{open_holds, oldest_of, newest_word, hold_place, is_open_hold, is_next, coming, is_counted_on, queue_of, oldest_in}
 use Rattle.gen_core.specs.Good.{State, IsBefore, HoldFits, GoodPlaces, GoodMemory, IsPlaced, WordsStand, Avoids, hold_word, RaiseFits, GoodReaderState, GoodReader, Good}
 use Rattle.gen_core.specs.Conditions.{MayClose}
 use Rattle.gen_core.specs.Events.{coming_hold, after_close, after_morph, count_at}
@@ -72,22 +72,22 @@ module _ (reaches : ℕ → Records → ℕ → List ℕ) (lawful : ℕ → Reco
       rises : e.first_commit ≤ (oldest_in es s.writer.queue.newest).first_commit
       rises = (at_oldest (λ x. IsBefore e x) es s.writer.queue.newest before).first_commit
 
-      closed : is_open (queue_of es s.writer.queue.newest s.writer.queue.pending) e.hold ≡ false
-      closed = ap (λ p. is_open (queue_of es s.writer.queue.newest p) e.hold) calm ∙ or-false _ ∙ any-none (es ++ s.writer.queue.newest ∷ []) e.hold (λ k d lt same. let ne = (before k d lt).hold in ne (sym same))
+      closed : is_open_hold (queue_of es s.writer.queue.newest s.writer.queue.pending) e.hold ≡ false
+      closed = ap (λ p. is_open_hold (queue_of es s.writer.queue.newest p) e.hold) calm ∙ or-false _ ∙ any-none (es ++ s.writer.queue.newest ∷ []) e.hold (λ k d lt same. let ne = (before k d lt).hold in ne (sym same))
 
-      opened : (k : ℕ) → k ≢ e.hold → is_open (queue_of (e ∷ es) s.writer.queue.newest s.writer.queue.pending) k ≡ is_open (queue_of es s.writer.queue.newest s.writer.queue.pending) k
+      opened : (k : ℕ) → k ≢ e.hold → is_open_hold (queue_of (e ∷ es) s.writer.queue.newest s.writer.queue.pending) k ≡ is_open_hold (queue_of es s.writer.queue.newest s.writer.queue.pending) k
       opened k other = ap (λ t. (t || list_any (λ x. nat_eq x.hold k) (es ++ s.writer.queue.newest ∷ [])) || is_next s.writer.queue.pending k) (ne_eqb e.hold k (λ same. other (sym same)))
 
       none : count_by (λ (q : ReaderView). is_counted_on e.hold q.state) s.readers ≡ 0
       none = let word = g.counts.counts e.hold low in omega (arith, word, unused)
 
-      counts : (k : ℕ) → k < 16 → slice_index (set s.words (hold_place e.hold) 1) (hold_place k) ≡ hold_word (count_by (λ q. is_counted_on k q.state) s.readers) (is_open (queue_of es s.writer.queue.newest s.writer.queue.pending) k)
+      counts : (k : ℕ) → k < 16 → slice_index (set s.words (hold_place e.hold) 1) (hold_place k) ≡ hold_word (count_by (λ q. is_counted_on k q.state) s.readers) (is_open_hold (queue_of es s.writer.queue.newest s.writer.queue.pending) k)
       counts k lt = dite (ℕ_discrete k e.hold)
           (λ same.
           let here : slice_index (set s.words (hold_place e.hold) 1) (hold_place k) ≡ 1 =
           ap (λ i. slice_index (set s.words (hold_place e.hold) 1) (hold_place i)) same ∙ get_or-set_same s.words (hold_place e.hold) 1 0 (omega (arith, low, g.sizes.table)) in
           let zero : count_by (λ (q : ReaderView). is_counted_on k q.state) s.readers ≡ 0 = ap (λ i. count_by (λ (q : ReaderView). is_counted_on i q.state) s.readers) same ∙ none in
-          here ∙ (λ i. hold_word (sym zero i) ((sym (ap (is_open (queue_of es s.writer.queue.newest s.writer.queue.pending)) same ∙ closed)) i)))
+          here ∙ (λ i. hold_word (sym zero i) ((sym (ap (is_open_hold (queue_of es s.writer.queue.newest s.writer.queue.pending)) same ∙ closed)) i)))
           (λ other. get_or-set_other s.words (hold_place e.hold) (hold_place k) 1 0 (λ x. other (omega arith)) ∙ g.counts.counts k lt ∙ ap (hold_word _) (opened k other))
 
       raised : (k : ℕ) → nat_eq k e.hold ≡ false → RaiseFits (queue_of (e ∷ es) s.writer.queue.newest s.writer.queue.pending) k → RaiseFits (queue_of es s.writer.queue.newest s.writer.queue.pending) k
@@ -198,8 +198,8 @@ module _ (reaches : ℕ → Records → ℕ → List ℕ) (lawful : ℕ → Reco
           (subst (λ x. IsBefore (get_or (open_holds s.writer.queue) k d) x) last (g.queue.rising k (length s.writer.queue.older) d lt (omega (arith, long)))) in
           record { generation = (let h = old.generation in omega arith); hold = old.hold; first_commit = (all-prefix (HoldFits s.writer.commits) s.writer.queue.older (s.writer.queue.newest ∷ []) g.queue.each k d lt).first_commit }
 
-      opened : (k : ℕ) → is_open s.writer.queue k ≡ is_open (queue_of s.writer.queue.older (coming_hold s.writer s.writer.queue.newest.hold) Nothing) k
-      opened k = ap (λ p. is_open (queue_of s.writer.queue.older s.writer.queue.newest p) k) probed
+      opened : (k : ℕ) → is_open_hold s.writer.queue k ≡ is_open_hold (queue_of s.writer.queue.older (coming_hold s.writer s.writer.queue.newest.hold) Nothing) k
+      opened k = ap (λ p. is_open_hold (queue_of s.writer.queue.older s.writer.queue.newest p) k) probed
           ∙ ap (λ t. t || false) (any-push s.writer.queue.older s.writer.queue.newest k ∙ sym (any-push s.writer.queue.older (coming_hold s.writer s.writer.queue.newest.hold) k))
 
       raised : (k : ℕ) → RaiseFits s.writer.queue k → RaiseFits (queue_of s.writer.queue.older (coming_hold s.writer s.writer.queue.newest.hold) Nothing) k

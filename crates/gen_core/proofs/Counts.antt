@@ -11,7 +11,7 @@ use Rattle.gen_core.specs.declared.views.ReaderState.{ReaderState}
 use Rattle.gen_core.specs.declared.views.ReaderState.TheVariants.{Idle, Aimed, Raised, Bounced, Guarded, Spent}
 use Rattle.gen_core.specs.declared.views.ReaderView.{ReaderView}
 use Rattle.gen_core.specs.declared.views.WriterView.{WriterView}
-use Rattle.gen_core.specs.Views.{hold_place, is_open, is_counted_on}
+use Rattle.gen_core.specs.Views.{hold_place, is_open_hold, is_counted_on}
 use Rattle.gen_core.specs.Good.{State, hold_word, AimFits, BounceFits, GuardFits, GoodReaderState, GoodReader, Good, HoldFits}
 use Rattle.gen_core.specs.Events.{aims, after_load_newest, found_state, with_state, after_count, after_raise, bounced, after_bounce, after_release}
 use Rattle.gen_core.proofs.Lists.{all_at, count_moved, count_some}
@@ -38,7 +38,7 @@ module _ (reaches : ℕ → Records → ℕ → List ℕ) (lawful : ℕ → Reco
   }
     where
       counts : (k : ℕ) → k < 16 → slice_index (set s.words (hold_place h) n) (hold_place k)
-          ≡ hold_word (count_by (λ q. is_counted_on k q.state) (set s.readers j v)) (is_open s.writer.queue k)
+          ≡ hold_word (count_by (λ q. is_counted_on k q.state) (set s.readers j v)) (is_open_hold s.writer.queue k)
       counts k lt =
           let c = count_moved (λ (q : ReaderView). is_counted_on k q.state) s.readers j r v at in
           let old = g.counts.counts k lt in
@@ -95,7 +95,7 @@ module _ (reaches : ℕ → Records → ℕ → List ℕ) (lawful : ℕ → Reco
       let old = all_at (GoodReader w.sizes w.queue w.commits) s.readers j r g.readers at in
       let aim : AimFits w.queue.newest r.least generation h = subst (GoodReaderState w.queue w.commits r) aimed old.state in
       let found : ℕ = slice_index s.words (hold_place h) in
-      by_open old aim (is_open w.queue h) refl
+      by_open old aim (is_open_hold w.queue h) refl
     where
       found : ℕ
       found = slice_index s.words (hold_place h)
@@ -116,7 +116,7 @@ module _ (reaches : ℕ → Records → ℕ → List ℕ) (lawful : ℕ → Reco
           (λ k other. ap (is_counted_on k) aimed ∙ sym (on k ∙ ne_eqb h k (λ e. other (sym e)))) new)
 
       by_open : GoodReader s.writer.sizes s.writer.queue s.writer.commits r → AimFits s.writer.queue.newest r.least generation h
-          → (t : Bool) → is_open s.writer.queue h ≡ t → Good reaches lawful (after_raise s j r h)
+          → (t : Bool) → is_open_hold s.writer.queue h ≡ t → Good reaches lawful (after_raise s j r h)
       by_open old aim true open_here =
           let low = aim.hold in
           let word : slice_index s.words (hold_place h) ≡ 2 * count_by (λ q. is_counted_on h q.state) s.readers = g.counts.counts h low ∙ ap (hold_word _) open_here ∙ (omega arith) in
@@ -129,7 +129,7 @@ module _ (reaches : ℕ → Records → ℕ → List ℕ) (lawful : ℕ → Reco
           let odd : slice_index s.words (hold_place h) % 2 ≢ 0 = λ e. omega (arith, word, e) in
           let is : found_state (slice_index s.words (hold_place h)) h ≡ Bounced h = ap (λ t. cond t (Raised h) (Bounced h)) (ne_eqb _ 0 odd) in
           let missed : r.least < s.writer.queue.newest.generation = dite (ℕ_discrete generation s.writer.queue.newest.generation)
-          (λ same. absurd (true≢false (sym (newest-open s.writer.queue) ∙ ap (is_open s.writer.queue) (sym (aim.current same)) ∙ open_here)))
+          (λ same. absurd (true≢false (sym (newest-open s.writer.queue) ∙ ap (is_open_hold s.writer.queue) (sym (aim.current same)) ∙ open_here)))
           (λ other. let a = aim.aim in let le = old.least in omega (arith, le, a, other)) in
           step (Bounced h) is (λ k. refl) low (record { same_sizes = λ e. old.same_sizes (λ x. off (sym aimed ∙ x)); seen = old.seen; saw = old.saw; least = old.least; state = record { hold = low; missed = missed } })
 

@@ -8,7 +8,7 @@ use Rattle.image_base.specs.Places.{IsEntry, base}
 use Rattle.image_base.proofs.Apart.{one_place}
 use Rattle.gen_core.specs.Views.{active_in, floor_of, kept_of, last_number, last_image, record_width, width_in, active_width}
 use Rattle.gen_core.specs.Good.{State, GoodView, Good, HoldFits, HasNothingIn, IsPlaced, IsApart, Avoids}
-use Rattle.gen_core.specs.Work.{work_at, place_in, IsWhole, whole_at, writer_records}
+use Rattle.gen_core.specs.Work.{work_at, place_in, IsRecordStored, whole_at, writer_records}
 use Rattle.image_base.specs.Records.{records_of, Records}
 use Rattle.gen_core.proofs.Holds.{at_oldest}
 use Rattle.gen_core.proofs.Lists.{all_drop-at, all_found, some-same}
@@ -114,14 +114,14 @@ module _ (w : WriterView) (g : GoodView w) where
   pub records-placed : (ref : ℕ) → 0 < length (writer_records w ref) → IsPlaced w.sizes w.buffers (ref, writer_records w ref)
   records-placed ref some = ⊎_elim
       (λ (old : record_at (last_image w.commits) ref ≡ Some (writer_records w ref)). last-placed ref _ old)
-      (λ (whole : IsWhole w ref (writer_records w ref)). record { inside = whole.entry; width = active-width w.buffers _ _ whole.active })
+      (λ (whole : IsRecordStored w ref (writer_records w ref)). record { inside = whole.entry; width = active-width w.buffers _ _ whole.active })
       (records-found w ref some)
 
   pub records-active : (ref : ℕ) → 0 < length (writer_records w ref) → active_in w.buffers (buffer_of w.sizes.offset_bits ref) ≡ Some (length (writer_records w ref))
   records-active ref some = ⊎_elim
       (λ (old : record_at (last_image w.commits) ref ≡ Some (writer_records w ref)).
       not-held-active (slice_get w.buffers (buffer_of w.sizes.offset_bits ref)) _ (last-placed ref _ old).width (not-held ref _ old))
-      (λ (whole : IsWhole w ref (writer_records w ref)). whole.active)
+      (λ (whole : IsRecordStored w ref (writer_records w ref)). whole.active)
       (records-found w ref some)
 
   -- a place of an entry that no kept commit has as a record is apart from each of them

@@ -4,7 +4,7 @@ use Rattle.std.specs.Prelude.{All, AllPairs, nat_eq, IsTrue, ◌||◌}
 use Rattle.std.specs.List.{list_any}
 use Rattle.gen_core.specs.declared.views.OpenHold.{OpenHold}
 use Rattle.gen_core.specs.declared.views.Queue.{Queue}
-use Rattle.gen_core.specs.Views.{oldest_in, is_open, is_next, queue_of}
+use Rattle.gen_core.specs.Views.{oldest_in, is_open_hold, is_next, queue_of}
 use Rattle.gen_core.specs.Good.{IsBefore}
 use Rattle.gen_core.specs.declared.views.Pending.{Pending}
 
@@ -69,7 +69,7 @@ any-push [] x h = or-false (nat_eq x.hold h)
 any-push (e ∷ es) x h = ap (λ t. nat_eq e.hold h || t) (any-push es x h) ∙ or-assoc (nat_eq e.hold h) _ _
 
 -- the newest hold is open
-pub newest-open : (queue : Queue) → is_open queue queue.newest.hold ≡ true
+pub newest-open : (queue : Queue) → is_open_hold queue queue.newest.hold ≡ true
 newest-open queue = ap (λ t. t || is_next queue.pending queue.newest.hold)
     (any-push queue.older queue.newest queue.newest.hold ∙ or-right _ _ (eq-eqb queue.newest.hold queue.newest.hold refl))
 
@@ -91,9 +91,9 @@ oldest-replaced [] newest e up = up
 oldest-replaced (x ∷ xs) newest e up = omega arith
 
 -- the oldest of several is open
-pub first-open : (e : OpenHold) (es : List OpenHold) (newest : OpenHold) (pending : Pending) → is_open (queue_of (e ∷ es) newest pending) e.hold ≡ true
+pub first-open : (e : OpenHold) (es : List OpenHold) (newest : OpenHold) (pending : Pending) → is_open_hold (queue_of (e ∷ es) newest pending) e.hold ≡ true
 first-open e es newest pending = ap (λ t. (t || list_any (λ x. nat_eq x.hold e.hold) (es ++ newest ∷ [])) || is_next pending e.hold) (eq-eqb e.hold e.hold refl)
 
-pub oldest-open : (older : List OpenHold) (newest : OpenHold) (pending : Pending) → is_open (queue_of older newest pending) (oldest_in older newest).hold ≡ true
+pub oldest-open : (older : List OpenHold) (newest : OpenHold) (pending : Pending) → is_open_hold (queue_of older newest pending) (oldest_in older newest).hold ≡ true
 oldest-open [] newest pending = newest-open (queue_of [] newest pending)
 oldest-open (e ∷ es) newest pending = first-open e es newest pending

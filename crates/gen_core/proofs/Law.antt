@@ -16,7 +16,7 @@ use Rattle.gen_core.specs.declared.views.ReaderState.{ReaderState}
 use Rattle.gen_core.specs.declared.views.ReaderState.TheVariants.{Idle, Aimed, Raised, Bounced, Guarded, Spent}
 use Rattle.gen_core.specs.declared.views.ReaderView.{ReaderView}
 use Rattle.gen_core.specs.declared.views.WriterView.{WriterView}
-use Rattle.gen_core.specs.Views.{open_holds, oldest_of, floor_of, kept_of, last_number, last_image, is_open, last_tag, stands_on, spent, queue_of}
+use Rattle.gen_core.specs.Views.{open_holds, oldest_of, floor_of, kept_of, last_number, last_image, is_open_hold, last_tag, stands_on, spent, queue_of}
 use Rattle.gen_core.specs.Work.{next_image}
 use Rattle.gen_core.specs.Good.{State, IsPlaced, WordsStand, RaiseFits, GuardFits, GoodReaderState, GoodReader, IsLawfulCommit, Good}
 use Rattle.gen_core.specs.Conditions.{MayHandOut, MayPublish, IsUnder}
@@ -89,7 +89,7 @@ module _ (reaches : ℕ → Records → ℕ → List ℕ) (lawful : ℕ → Reco
       by_test true k = k
       by_test false k = k
 
-      in_queue : (pending : Pending) → pending ≡ Nothing → IsTrue (is_open (queue_of s.writer.queue.older s.writer.queue.newest pending) h) → IsTrue (list_any (λ e. nat_eq e.hold h) (open_holds s.writer.queue))
+      in_queue : (pending : Pending) → pending ≡ Nothing → IsTrue (is_open_hold (queue_of s.writer.queue.older s.writer.queue.newest pending) h) → IsTrue (list_any (λ e. nat_eq e.hold h) (open_holds s.writer.queue))
       in_queue Nothing e k = by_test (list_any (λ e. nat_eq e.hold h) (open_holds s.writer.queue)) k
       in_queue (Next n) e k = absurd (cc)
       in_queue Probed e k = absurd (cc)
@@ -142,7 +142,7 @@ module _ (reaches : ℕ → Records → ℕ → List ℕ) (lawful : ℕ → Reco
       by_next n true e p o = let same : n ≡ h = eqb-true n h e in last (k.next (p ∙ ap Next same))
       by_next n false e p o = absurd (true≢false (sym o))
 
-      by_pending : (p : Pending) → s.writer.queue.pending ≡ p → IsTrue (is_open (queue_of s.writer.queue.older s.writer.queue.newest p) h) → floor_of s.writer ≤ c
+      by_pending : (p : Pending) → s.writer.queue.pending ≡ p → IsTrue (is_open_hold (queue_of s.writer.queue.older s.writer.queue.newest p) h) → floor_of s.writer ≤ c
       by_pending Nothing e o = by_queue (list_any (λ x. nat_eq x.hold h) (open_holds s.writer.queue)) false o in_queue (λ u. absurd (true≢false (sym u)))
       by_pending (Next n) e o = by_queue (list_any (λ x. nat_eq x.hold h) (open_holds s.writer.queue)) (nat_eq n h) o in_queue (by_next n (nat_eq n h) refl e)
       by_pending Probed e o = by_queue (list_any (λ x. nat_eq x.hold h) (open_holds s.writer.queue)) false o in_queue (λ u. absurd (true≢false (sym u)))

@@ -14,7 +14,7 @@ use Rattle.gen_core.specs.declared.views.Buffer.{Buffer}
 use Rattle.gen_core.specs.declared.views.Buffer.TheVariants.{Free, Active, Held}
 use Rattle.gen_core.specs.declared.views.ReaderState.TheVariants.{Raised}
 use Rattle.gen_core.specs.declared.views.ReaderView.{ReaderView}
-use Rattle.gen_core.specs.Views.{floor_of, kept_of, last_number, last_image, state_word, record_width, width_in, active_width, active_in, last_tag_in, queue_of, open_holds, oldest_of, newest_word, hold_place, is_open, is_counted_on}
+use Rattle.gen_core.specs.Views.{floor_of, kept_of, last_number, last_image, state_word, record_width, width_in, active_width, active_in, last_tag_in, queue_of, open_holds, oldest_of, newest_word, hold_place, is_open_hold, is_counted_on}
 use Rattle.gen_core.specs.Work.{work_at}
 use Rattle.gen_core.specs.Good.{State, InActive, Avoids, IsPlaced, WordsStand, GoodReader, IsLawfulCommit, Good, HoldFits, hold_word}
 use Rattle.gen_core.specs.Events.{after_store_word, after_store_width, after_hand_out, after_publish, after_split, after_load_root, with_buffer, reopened, coming_hold, with_state, sees, after_free, count_at, after_store_newest, after_morph, after_count}
@@ -129,10 +129,10 @@ module _ (reaches : ℕ → Records → ℕ → List ℕ) (lawful : ℕ → Reco
   needs_seat s full t = let few = t.counts.few in omega (arith, few, full)
 
   -- a hold that is open has an even count, and one that is closed an odd one
-  even-where-open : (s : State) (h : ℕ) → Good reaches lawful s → h < 16 → is_open s.writer.queue h ≡ true → count_at s h % 2 ≡ 0
+  even-where-open : (s : State) (h : ℕ) → Good reaches lawful s → h < 16 → is_open_hold s.writer.queue h ≡ true → count_at s h % 2 ≡ 0
   even-where-open s h g low is = let word : count_at s h ≡ 2 * count_by (λ (q : ReaderView). is_counted_on h q.state) s.readers + 0 = g.counts.counts h low ∙ ap (hold_word _) is in omega (arith, word)
 
-  odd-where-closed : (s : State) (h : ℕ) → Good reaches lawful s → h < 16 → is_open s.writer.queue h ≡ false → count_at s h % 2 ≡ 1
+  odd-where-closed : (s : State) (h : ℕ) → Good reaches lawful s → h < 16 → is_open_hold s.writer.queue h ≡ false → count_at s h % 2 ≡ 1
   odd-where-closed s h g low is = let word : count_at s h ≡ 2 * count_by (λ (q : ReaderView). is_counted_on h q.state) s.readers + 1 = g.counts.counts h low ∙ ap (hold_word _) is in omega (arith, word)
 
   pub root_before_raise : (s : State) (j h : ℕ) (r : ReaderView) → Good reaches lawful s → slice_get s.readers j ≡ Some r → h < 16 → is_counted_on h r.state ≡ false
@@ -154,14 +154,14 @@ module _ (reaches : ℕ → Records → ℕ → List ℕ) (lawful : ℕ → Reco
       let word = t.counts.counts h low in
       omega (arith, some, here, word)
 
-  pub last_before_open : (s : State) (h : ℕ) → Good reaches lawful s → h < 16 → is_open s.writer.queue h ≡ false → Good reaches lawful (after_store_newest s h) → ⊥
+  pub last_before_open : (s : State) (h : ℕ) → Good reaches lawful s → h < 16 → is_open_hold s.writer.queue h ≡ false → Good reaches lawful (after_store_newest s h) → ⊥
   last_before_open s h g low is t =
       let odd = odd-where-closed s h g low is in
       let even = even-where-open (after_store_newest s h) h t low (newest-open (after_store_newest s h).writer.queue) in
       let same : slice_index (set s.words 1 (newest_word (coming_hold s.writer h))) (hold_place h) ≡ count_at s h = get_or-set_other s.words 1 (hold_place h) _ 0 (λ e. omega arith) in
       omega (arith, odd, even, same)
 
-  pub forgets_the_bounce : (s : State) (j h : ℕ) (r : ReaderView) → Good reaches lawful s → slice_get s.readers j ≡ Some r → is_open s.writer.queue h ≡ false
+  pub forgets_the_bounce : (s : State) (j h : ℕ) (r : ReaderView) → Good reaches lawful s → slice_get s.readers j ≡ Some r → is_open_hold s.writer.queue h ≡ false
       → Good reaches lawful (after_count s h (count_at s h + 2) j (with_state r (Raised h))) → ⊥
   forgets_the_bounce s j h r g at is t =
       let v : ReaderView = with_state r (Raised h) in
@@ -172,8 +172,8 @@ module _ (reaches : ℕ → Records → ℕ → List ℕ) (lawful : ℕ → Reco
   morph_beside_next s h g next t =
       let come = g.queue.next h next in
       let low = come.hold in
-      let opened : is_open s.writer.queue h ≡ true = ap (λ p. is_open (queue_of s.writer.queue.older s.writer.queue.newest p) h) next ∙ or-right _ _ (eq-eqb h h refl) in
-      let closed : is_open (after_morph s).writer.queue h ≡ false =
+      let opened : is_open_hold s.writer.queue h ≡ true = ap (λ p. is_open_hold (queue_of s.writer.queue.older s.writer.queue.newest p) h) next ∙ or-right _ _ (eq-eqb h h refl) in
+      let closed : is_open_hold (after_morph s).writer.queue h ≡ false =
       or-false _ ∙ any-push s.writer.queue.older (coming_hold s.writer s.writer.queue.newest.hold) h ∙ sym (any-push s.writer.queue.older s.writer.queue.newest h)
       ∙ any-none (open_holds s.writer.queue) h come.others in
       let even = even-where-open s h g low opened in

@@ -12,7 +12,7 @@ use Rattle.gen_core.specs.declared.views.Sizes.{Sizes}
 use Rattle.gen_core.specs.declared.views.Pending.TheVariants.{Nothing}
 use Rattle.gen_core.specs.declared.views.Buffer.{Buffer}
 use Rattle.gen_core.specs.declared.views.Buffer.TheVariants.{Free, Held}
-use Rattle.gen_core.specs.Views.{IsCommit, hold_place, is_open, state_word, record_width, width_in, queue_of}
+use Rattle.gen_core.specs.Views.{IsCommit, hold_place, is_open_hold, state_word, record_width, width_in, queue_of}
 use Rattle.gen_core.specs.Good.{HoldFits, hold_word, IsLawfulCommit, Good}
 use Rattle.gen_core.specs.Events.{opening_words, opening, MayOpen, opening_hold}
 use Rattle.gen_core.proofs.Layouts.{IsLayout}
@@ -29,10 +29,10 @@ word-zero sizes i = get_or-append-add (0 ∷ 0 ∷ 0 ∷ replicate 15 1) (replic
 count-one : (h : ℕ) (ys : List ℕ) → h < 15 → slice_index (replicate 15 1 ++ ys) h ≡ 1
 count-one h ys lt = get_or_append_left (replicate 15 1) ys 0 h lt ∙ get_or-replicate 15 h 1 0 lt
 
-closed : (h : ℕ) → is_open (queue_of [] opening_hold Nothing) (suc h) ≡ false
+closed : (h : ℕ) → is_open_hold (queue_of [] opening_hold Nothing) (suc h) ≡ false
 closed h = ap (λ t. (t || false) || false) (ne_eqb 0 (suc h) (λ e. omega arith))
 
-counts-first : (sizes : Sizes) (h : ℕ) → h < 16 → slice_index (opening_words sizes) (hold_place h) ≡ hold_word 0 (is_open (queue_of [] opening_hold Nothing) h)
+counts-first : (sizes : Sizes) (h : ℕ) → h < 16 → slice_index (opening_words sizes) (hold_place h) ≡ hold_word 0 (is_open_hold (queue_of [] opening_hold Nothing) h)
 counts-first sizes zero lt = refl
 counts-first sizes (suc h) lt = let at : hold_place (suc h) ≡ 3 + h = omega arith in ap (slice_index (opening_words sizes)) at ∙ get_or-append-add (0 ∷ 0 ∷ 0 ∷ []) (replicate 15 1 ++ replicate (sizes.buffers + sizes.buffers * sizes.words) 0) h 0
     ∙ count-one h (replicate (sizes.buffers + sizes.buffers * sizes.words) 0) (omega arith) ∙ sym (ap (hold_word 0) (closed h))

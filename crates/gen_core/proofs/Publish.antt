@@ -18,7 +18,7 @@ use Rattle.gen_core.specs.declared.views.ReaderState.TheVariants.{Idle, Aimed, R
 use Rattle.gen_core.specs.declared.views.ReaderView.{ReaderView}
 use Rattle.gen_core.specs.declared.views.WriterView.{WriterView}
 use Rattle.gen_core.specs.Views.{floor_of, last_number, last_image, root_word, active_in, active_width}
-use Rattle.gen_core.specs.Work.{IsWhole, writer_records, next_image}
+use Rattle.gen_core.specs.Work.{IsRecordStored, writer_records, next_image}
 use Rattle.gen_core.specs.Good.{State, IsPlaced, WordsStand, GoodReaderState, GoodReader, HasNothingIn, GoodTag, IsLawfulCommit, Good}
 use Rattle.gen_core.specs.Conditions.{MayPublish}
 use Rattle.gen_core.specs.Events.{after_publish}
@@ -75,7 +75,7 @@ module _ (reaches : ℕ → Records → ℕ → List ℕ) (lawful : ℕ → Reco
       ⊎_elim
       (λ (old : record_at (last_image s.writer.commits) ref ≡ Some (writer_records s.writer ref)).
       all_found stand (last_image s.writer.commits).records ref (writer_records s.writer ref) (last-kept s.writer (good_view reaches lawful s g) (λ image. All stand image.records) g.memory.records) old)
-      (λ (whole : IsWhole s.writer ref (writer_records s.writer ref)). λ i lt. g.memory.stored _ _ (whole.words i lt))
+      (λ (whole : IsRecordStored s.writer ref (writer_records s.writer ref)). λ i lt. g.memory.stored _ _ (whole.words i lt))
       (records-found s.writer ref some)
 
   pub publish_keeps : IsLayout reaches lawful → (s : State) (root : ℕ) → Good reaches lawful s → MayPublish lawful s.writer root
@@ -136,7 +136,7 @@ module _ (reaches : ℕ → Records → ℕ → List ℕ) (lawful : ℕ → Reco
           all_pairs (λ pair. buffer_of s.writer.sizes.offset_bits pair.0 ≢ b) (reaches s.writer.sizes.shape (writer_records s.writer) root) (writer_records s.writer) there
           (λ r some. ⊎_elim
           (λ (h : record_at (last_image s.writer.commits) r ≡ Some (writer_records s.writer r)). all_found (λ pair. buffer_of s.writer.sizes.offset_bits pair.0 ≢ b) (last_image s.writer.commits).records r _ old h)
-          (λ (h : IsWhole s.writer r (writer_records s.writer r)). λ same.
+          (λ (h : IsRecordStored s.writer r (writer_records s.writer r)). λ same.
           let none : active_in s.writer.buffers (buffer_of s.writer.sizes.offset_bits r) ≡ None = ap (active_in s.writer.buffers) same ∙ ap (option_and_then active_width) at in
           let is = h.active in absurd (cc))
           (records-found s.writer r some))

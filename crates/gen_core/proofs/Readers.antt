@@ -6,7 +6,7 @@ use Rattle.image_base.specs.Records.{Records}
 use Rattle.gen_core.specs.declared.views.ReaderState.TheVariants.{Raised, Spent}
 use Rattle.gen_core.specs.declared.views.ReaderView.{ReaderView}
 use Rattle.gen_core.specs.declared.views.WriterView.{WriterView}
-use Rattle.gen_core.specs.Views.{last_number, last_image, IsCommit, is_open, is_counted_on, spent}
+use Rattle.gen_core.specs.Views.{last_number, last_image, IsCommit, is_open_hold, is_counted_on, spent}
 use Rattle.gen_core.specs.Good.{State, hold_word, GoodCounts, GoodReaderState, GoodReader, RaiseFits, Good}
 use Rattle.gen_core.specs.Conditions.{MaySplit, MayJoin}
 use Rattle.gen_core.specs.Events.{newcomer, sees, after_load_root, after_split, after_join}
@@ -22,7 +22,7 @@ module _ (reaches : ℕ → Records → ℕ → List ℕ) (lawful : ℕ → Reco
   counts_view : (s : State) (j : ℕ) (r v : ReaderView) → Good reaches lawful s → slice_get s.readers j ≡ Some r → ((h : ℕ) → is_counted_on h r.state ≡ is_counted_on h v.state)
       → GoodCounts s.words s.writer.queue s.writer.made (set s.readers j v)
   counts_view s j r v g at same = record {
-    counts = λ h lt. g.counts.counts h lt ∙ ap (λ n. hold_word n (is_open s.writer.queue h)) (sym (count_kept (λ q. is_counted_on h q.state) s.readers j r v at (same h)));
+    counts = λ h lt. g.counts.counts h lt ∙ ap (λ n. hold_word n (is_open_hold s.writer.queue h)) (sym (count_kept (λ q. is_counted_on h q.state) s.readers j r v at (same h)));
     views = length-set s.readers j v ∙ g.counts.views;
     few = g.counts.few;
   }
@@ -83,7 +83,7 @@ module _ (reaches : ℕ → Records → ℕ → List ℕ) (lawful : ℕ → Reco
         names = g.names;
         memory = g.memory;
         counts = record {
-          counts = λ h lt. g.counts.counts h lt ∙ ap (λ n. hold_word n (is_open w.queue h)) (sym (count_by-push (λ q. is_counted_on h q.state) s.readers v refl));
+          counts = λ h lt. g.counts.counts h lt ∙ ap (λ n. hold_word n (is_open_hold w.queue h)) (sym (count_by-push (λ q. is_counted_on h q.state) s.readers v refl));
           views = length-append s.readers (v ∷ []) ∙ ap (λ n. n + 1) g.counts.views;
           few = let lt = may.few in omega arith;
         };

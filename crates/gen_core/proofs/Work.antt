@@ -8,7 +8,7 @@ use Rattle.image_base.specs.Places.{IsEntry}
 use Rattle.gen_core.specs.declared.views.Sizes.{Sizes}
 use Rattle.gen_core.specs.declared.views.WriterView.{WriterView}
 use Rattle.gen_core.specs.Views.{active_in, last_image}
-use Rattle.gen_core.specs.Work.{work_at, place_in, IsWhole, prepend, run_at, is_entry, only_if, whole_by, whole_at, writer_records}
+use Rattle.gen_core.specs.Work.{work_at, place_in, IsRecordStored, prepend, run_at, is_entry, only_if, whole_by, whole_at, writer_records}
 
 -- a run's words
 pub run-words : (work : List (ℕ × ℕ)) (p n : ℕ) (ws : List ℕ) → run_at work p n ≡ Some ws → (length ws ≡ n) × ((i : ℕ) → i < length ws → work_at work (p + i) ≡ Some (slice_index ws i))
@@ -43,11 +43,11 @@ is_entry-true sizes width ref test = record {
 }
 
 -- what was stored whole
-pub whole-found : (w : WriterView) (ref : ℕ) (ws : List ℕ) → whole_at w ref ≡ Some ws → IsWhole w ref ws
+pub whole-found : (w : WriterView) (ref : ℕ) (ws : List ℕ) → whole_at w ref ≡ Some ws → IsRecordStored w ref ws
 whole-found w ref ws e = by_width (active_in w.buffers (buffer_of w.sizes.offset_bits ref)) refl e
   where
     by_entry : (width : ℕ) → active_in w.buffers (buffer_of w.sizes.offset_bits ref) ≡ Some width → (t : Bool) → is_entry w.sizes width ref ≡ t
-        → only_if t (run_at w.work (place_in w.sizes width ref 0) width) ≡ Some ws → IsWhole w ref ws
+        → only_if t (run_at w.work (place_in w.sizes width ref 0) width) ≡ Some ws → IsRecordStored w ref ws
     by_entry width at false test is = absurd (cc)
     by_entry width at true test is =
         let run = run-words w.work (place_in w.sizes width ref 0) width ws is in
@@ -60,12 +60,12 @@ whole-found w ref ws e = by_width (active_in w.buffers (buffer_of w.sizes.offset
               ap (work_at w.work) (sym there) ∙ run.1 i lt;
         }
 
-    by_width : (o : Option ℕ) → active_in w.buffers (buffer_of w.sizes.offset_bits ref) ≡ o → whole_by w ref o ≡ Some ws → IsWhole w ref ws
+    by_width : (o : Option ℕ) → active_in w.buffers (buffer_of w.sizes.offset_bits ref) ≡ o → whole_by w ref o ≡ Some ws → IsRecordStored w ref ws
     by_width None at is = absurd (cc)
     by_width (Some width) at is = by_entry width at (is_entry w.sizes width ref) refl is
 
 -- a record of the writer is whole in the work, or of the last commit
-pub records-found : (w : WriterView) (ref : ℕ) → 0 < length (writer_records w ref) → (record_at (last_image w.commits) ref ≡ Some (writer_records w ref)) ⊎ IsWhole w ref (writer_records w ref)
+pub records-found : (w : WriterView) (ref : ℕ) → 0 < length (writer_records w ref) → (record_at (last_image w.commits) ref ≡ Some (writer_records w ref)) ⊎ IsRecordStored w ref (writer_records w ref)
 records-found w ref some = by_whole (whole_at w ref) refl some
   where
     by_last : (o : Option (List ℕ)) → 0 < length (unwrap_or o []) → o ≡ Some (unwrap_or o [])
@@ -73,6 +73,6 @@ records-found w ref some = by_whole (whole_at w ref) refl some
     by_last (Some ws) h = refl
 
     by_whole : (o : Option (List ℕ)) → whole_at w ref ≡ o → 0 < length (unwrap_or o (words_at (last_image w.commits) ref))
-        → (record_at (last_image w.commits) ref ≡ Some (unwrap_or o (words_at (last_image w.commits) ref))) ⊎ IsWhole w ref (unwrap_or o (words_at (last_image w.commits) ref))
+        → (record_at (last_image w.commits) ref ≡ Some (unwrap_or o (words_at (last_image w.commits) ref))) ⊎ IsRecordStored w ref (unwrap_or o (words_at (last_image w.commits) ref))
     by_whole None e h = inl (by_last (record_at (last_image w.commits) ref) h)
     by_whole (Some ws) e h = inr (whole-found w ref ws e)

@@ -13,7 +13,7 @@ use Rattle.image_base.proofs.Pairs.{pairs-same}
 use Rattle.gen_core.specs.declared.views.Sizes.{Sizes}
 use Rattle.gen_core.specs.declared.views.WriterView.{WriterView}
 use Rattle.gen_core.specs.Views.{active_in, last_image}
-use Rattle.gen_core.specs.Work.{work_at, place_in, IsWhole, prepend, run_at, is_entry, only_if, whole_by, whole_at, writer_records, next_image}
+use Rattle.gen_core.specs.Work.{work_at, place_in, IsRecordStored, prepend, run_at, is_entry, only_if, whole_by, whole_at, writer_records, next_image}
 use Rattle.gen_core.specs.Good.{IsPlaced}
 use Rattle.gen_core.specs.Events.{stored, published}
 use Rattle.gen_core.proofs.Lists.{all_found, some-same}
@@ -40,14 +40,14 @@ entry-true sizes width ref e =
     grind (arith, nat_tests, inside, wide, first, last)
 
 -- what was stored whole is the writer's record
-pub whole-made : (w : WriterView) (ref : ℕ) (ws : List ℕ) → IsWhole w ref ws → whole_at w ref ≡ Some ws
+pub whole-made : (w : WriterView) (ref : ℕ) (ws : List ℕ) → IsRecordStored w ref ws → whole_at w ref ≡ Some ws
 whole-made w ref ws h =
     let start : ℕ = place_in w.sizes (length ws) ref 0 in
     ap (whole_by w ref) h.active
     ∙ ap (λ t. only_if t (run_at w.work start (length ws))) (entry-true w.sizes (length ws) ref h.entry)
     ∙ run-made w.work ws start (λ i lt. let at : start + i ≡ place_in w.sizes (length ws) ref i = omega arith in ap (work_at w.work) at ∙ h.words i lt)
 
-pub records-whole : (w : WriterView) (ref : ℕ) (ws : List ℕ) → IsWhole w ref ws → writer_records w ref ≡ ws
+pub records-whole : (w : WriterView) (ref : ℕ) (ws : List ℕ) → IsRecordStored w ref ws → writer_records w ref ≡ ws
 records-whole w ref ws h = ap (λ o. unwrap_or o (words_at (last_image w.commits) ref)) (whole-made w ref ws h)
 
 -- after a publish the records are the image's
@@ -103,5 +103,5 @@ pub records-small : (w : WriterView) → w.sizes.words ≤ 65536 → w.sizes.wor
     → (ref : ℕ) → 0 < length (writer_records w ref) → ref < 2 ^ 32
 records-small w few limit placed ref there = ⊎_elim
     (λ (old : record_at (last_image w.commits) ref ≡ Some (writer_records w ref)). entry-small (all_found (IsPlaced w.sizes w.buffers) (last_image w.commits).records ref _ placed old).inside few limit)
-    (λ (whole : IsWhole w ref (writer_records w ref)). entry-small whole.entry few limit)
+    (λ (whole : IsRecordStored w ref (writer_records w ref)). entry-small whole.entry few limit)
     (records-found w ref there)

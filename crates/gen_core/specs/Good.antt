@@ -16,7 +16,7 @@ use Rattle.gen_core.specs.declared.views.ReaderState.{ReaderState}
 use Rattle.gen_core.specs.declared.views.ReaderState.TheVariants.{Idle, Aimed, Raised, Bounced, Guarded, Spent}
 use Rattle.gen_core.specs.declared.views.ReaderView.{ReaderView}
 use Rattle.gen_core.specs.declared.views.WriterView.{WriterView}
-use Rattle.gen_core.specs.Views.{open_holds, oldest_of, kept_of, last_number, last_image, IsCommit, root_word, newest_word, hold_place, is_open, coming, state_word, width_in, active_in, is_counted_on, spent}
+use Rattle.gen_core.specs.Views.{open_holds, oldest_of, kept_of, last_number, last_image, IsCommit, root_word, newest_word, hold_place, is_open_hold, coming, state_word, width_in, active_in, is_counted_on, spent}
 use Rattle.gen_core.specs.Work.{work_at, place_in}
 
 -- the words of the table, the writer's view, and a view for each reader that was made
@@ -131,7 +131,7 @@ hold_word counted opened = 2 * counted + (if opened then 0 else 1)
 pub record GoodCounts (words : List ℕ) (queue : Queue) (made : ℕ) (readers : List ReaderView) : Type 0 where
   pub counts :
       (h : ℕ) → h < 16
-      → slice_index words (hold_place h) ≡ hold_word (count_by (λ r. is_counted_on h r.state) readers) (is_open queue h)
+      → slice_index words (hold_place h) ≡ hold_word (count_by (λ r. is_counted_on h r.state) readers) (is_open_hold queue h)
   pub views : length readers ≡ made
   pub few : made ≤ 64
 
@@ -144,7 +144,7 @@ pub record AimFits (newest : OpenHold) (least generation h : ℕ) : Type 0 where
 -- of one that keeps a hold open: the hold is open
 pub record RaiseFits (queue : Queue) (h : ℕ) : Type 0 where
   pub hold : h < 16
-  pub opened : IsTrue (is_open queue h)
+  pub opened : IsTrue (is_open_hold queue h)
 
 -- of one that missed a hold: there is a later generation
 pub record BounceFits (newest : OpenHold) (least h : ℕ) : Type 0 where

@@ -10,7 +10,7 @@ use Rattle.gen_core.specs.declared.views.OpenHold.{OpenHold}
 use Rattle.gen_core.specs.declared.views.ReaderState.TheVariants.{Aimed}
 use Rattle.gen_core.specs.declared.views.ReaderView.{ReaderView}
 use Rattle.gen_core.specs.Views.{floor_of, kept_of, last_number, last_image, IsCommit}
-use Rattle.gen_core.specs.Work.{place_in, IsWhole, writer_records, next_image}
+use Rattle.gen_core.specs.Work.{place_in, IsRecordStored, writer_records, next_image}
 use Rattle.gen_core.specs.Good.{State, IsLawfulCommit, GoodView, Good}
 use Rattle.gen_core.specs.Conditions.{MayStoreWord, MayStoreWidth, MayPublish, MayClose, MayProbe, IsUnder}
 use Rattle.gen_core.specs.Events.{Event, Happens, Happen, MayOpen, opening, hand_out, NoneFromBefore, count_at, after_store_word, after_store_width, after_publish}
@@ -107,7 +107,7 @@ module _ (reaches : ℕ → Records → ℕ → List ℕ) (lawful : ℕ → Reco
 
   -- a record of the writer is of the last commit, or every word of it was stored since
   abbrev pub IsLastOrWhole : State → ℕ → List ℕ → Type 0
-  IsLastOrWhole s ref ws = (record_at (last_image s.writer.commits) ref ≡ Some ws) ⊎ IsWhole s.writer ref ws
+  IsLastOrWhole s ref ws = (record_at (last_image s.writer.commits) ref ≡ Some ws) ⊎ IsRecordStored s.writer ref ws
 
   abbrev pub RecordsAreFound : Type 0
   RecordsAreFound = (s : State) (ref : ℕ) → 0 < length (writer_records s.writer ref) → IsLastOrWhole s ref (writer_records s.writer ref)

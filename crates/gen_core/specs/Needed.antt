@@ -9,7 +9,7 @@ use Rattle.gen_core.specs.declared.views.Buffer.TheVariants.{Held}
 use Rattle.gen_core.specs.declared.views.Tag.{Tag}
 use Rattle.gen_core.specs.declared.views.ReaderState.TheVariants.{Raised}
 use Rattle.gen_core.specs.declared.views.ReaderView.{ReaderView}
-use Rattle.gen_core.specs.Views.{oldest_of, kept_of, last_number, hold_place, is_open, active_in, is_counted_on}
+use Rattle.gen_core.specs.Views.{oldest_of, kept_of, last_number, hold_place, is_open_hold, active_in, is_counted_on}
 use Rattle.gen_core.specs.Good.{State, InActive, Avoids, IsPlaced, WordsStand, IsLawfulCommit, Good}
 use Rattle.gen_core.specs.Events.{after_store_word, after_store_width, after_hand_out, after_publish, after_free, after_store_newest, after_morph, after_split, after_count, after_load_root, count_at, with_buffer, with_state, reopened}
 
@@ -81,12 +81,12 @@ module _ (reaches : ℕ → Records → ℕ → List ℕ) (lawful : ℕ → Reco
 
   -- the newest word stored while its hold is closed
   abbrev pub LastBeforeOpen : Type 0
-  LastBeforeOpen = (s : State) (h : ℕ) → Good reaches lawful s → h < 16 → is_open s.writer.queue h ≡ false → Good reaches lawful (after_store_newest s h) → ⊥
+  LastBeforeOpen = (s : State) (h : ℕ) → Good reaches lawful s → h < 16 → is_open_hold s.writer.queue h ≡ false → Good reaches lawful (after_store_newest s h) → ⊥
 
   -- a hold that was found closed, taken as raised
   abbrev pub ForgetsTheBounce : Type 0
   ForgetsTheBounce =
-      (s : State) (j h : ℕ) (r : ReaderView) → Good reaches lawful s → slice_get s.readers j ≡ Some r → is_open s.writer.queue h ≡ false
+      (s : State) (j h : ℕ) (r : ReaderView) → Good reaches lawful s → slice_get s.readers j ≡ Some r → is_open_hold s.writer.queue h ≡ false
       → Good reaches lawful (after_count s h (count_at s h + 2) j (with_state r (Raised h))) → ⊥
 
   -- the newest hold renewed beside one that was reopened

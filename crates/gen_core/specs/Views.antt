@@ -68,8 +68,8 @@ is_next (Next h) hold = nat_eq h hold
 is_next Probed hold = false
 
 -- a hold is open: in the queue, or next
-abbrev pub is_open : Queue → ℕ → Bool
-is_open queue hold = list_any (λ e. nat_eq e.hold hold) (open_holds queue) || is_next queue.pending hold
+abbrev pub is_open_hold : Queue → ℕ → Bool
+is_open_hold queue hold = list_any (λ e. nat_eq e.hold hold) (open_holds queue) || is_next queue.pending hold
 
 abbrev pub coming_after : OpenHold → Pending → ℕ
 coming_after newest Nothing = newest.generation

@@ -20,7 +20,7 @@ abbrev pub place_in : Sizes → ℕ → ℕ → ℕ → ℕ
 place_in sizes width ref i = place sizes.offset_bits sizes.buffers sizes.words width ref i
 
 -- every word of a record was stored since the last commit, in an active buffer of its width
-pub record IsWhole (w : WriterView) (ref : ℕ) (ws : List ℕ) : Type 0 where
+pub record IsRecordStored (w : WriterView) (ref : ℕ) (ws : List ℕ) : Type 0 where
   pub entry : IsEntry w.sizes.offset_bits w.sizes.buffers w.sizes.words (length ws) ref
   pub active : active_in w.buffers (buffer_of w.sizes.offset_bits ref) ≡ Some (length ws)
   pub words : (i : ℕ) → i < length ws → work_at w.work (place_in w.sizes (length ws) ref i) ≡ Some (slice_index ws i)

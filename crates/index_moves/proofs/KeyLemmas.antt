@@ -16,7 +16,7 @@ use Rattle.attr_images.specs.Postings.{dictionary_reach, list_form, postings_rea
 use Rattle.attr_images.specs.Values.{stored_value, value_words, IsValueRecord}
 use Rattle.attr_types.specs.Value.{type_of}
 use Rattle.attr_types.specs.declared.value.Value.{Value}
-use Rattle.enum_dictionary.specs.Dictionaries.{beside, MakesDictionary}
+use Rattle.enum_dictionary.specs.Dictionaries.{beside_value, MakesDictionary}
 use Rattle.posting_store.specs.Lists.{list_reach}
 use Rattle.posting_store.specs.ProofsForLists.{list_at-same, list_reach-same, IsList-same}
 use Rattle.posting_store.proofs.FormLemmas.{at_form, reach_form}
@@ -50,17 +50,17 @@ key_unmoved bits buffer value a m root is owns apart = record {
   turns = record { kept = λ r h. refl; balance = λ r. refl };
 }
 
-pub key_of : (value : Value) (m : Records) (root : ℕ) (found : Option (ℕ × ℕ)) → lookup_pair (beside value m) (tree_pairs m root) ≡ found
+pub key_of : (value : Value) (m : Records) (root : ℕ) (found : Option (ℕ × ℕ)) → lookup_pair (beside_value value m) (tree_pairs m root) ≡ found
     → key_at value m root ≡ option_map (λ (p : ℕ × ℕ). p.0) found
 key_of value m root found is = ap (λ (f : Option (ℕ × ℕ)). option_map (λ (p : ℕ × ℕ). p.0) f) is
 
 -- the key that is found lies elsewhere
-pub found_apart : (bits buffer : ℕ) (value : Value) (m : Records) (root key word : ℕ) → lookup_pair (beside value m) (tree_pairs m root) ≡ Some (key, word)
+pub found_apart : (bits buffer : ℕ) (value : Value) (m : Records) (root key word : ℕ) → lookup_pair (beside_value value m) (tree_pairs m root) ≡ Some (key, word)
     → (buffer_of bits key ≡ buffer → ⊥) → (k : ℕ) → key_at value m root ≡ Some k → buffer_of bits k ≡ buffer → ⊥
 found_apart bits buffer value m root key word found apart k is lies =
     apart (ap (buffer_of bits) (same_option key k (sym (key_of value m root (Some (key, word)) found) ∙ is)) ∙ lies)
 
-pub none_apart : (bits buffer : ℕ) (value : Value) (m : Records) (root : ℕ) → lookup_pair (beside value m) (tree_pairs m root) ≡ None
+pub none_apart : (bits buffer : ℕ) (value : Value) (m : Records) (root : ℕ) → lookup_pair (beside_value value m) (tree_pairs m root) ≡ None
     → (k : ℕ) → key_at value m root ≡ Some k → buffer_of bits k ≡ buffer → ⊥
 none_apart bits buffer value m root none k is lies = no_some k (sym (key_of value m root None none) ∙ is)
   where
@@ -69,7 +69,7 @@ none_apart bits buffer value m root none k is lies = no_some k (sym (key_of valu
 
 -- the record was made anew
 module _ {H : Type 0} (bits buffer : ℕ) (value : Value) (a b : Ledger H) (m n : Records) (root key word copy : ℕ) (start : IsIndex (type_of value) m root)
-    (owns : Owns a m (index_part root ∷ [])) (found : lookup_pair (beside value m) (tree_pairs m root) ≡ Some (key, word))
+    (owns : Owns a m (index_part root ∷ [])) (found : lookup_pair (beside_value value m) (tree_pairs m root) ≡ Some (key, word))
     (adds : AddsRecord bits a b m n (value_words value) copy) (record_is : IsValueRecord (type_of value) (n copy))
     (reads : stored_value (type_of value) n copy ≡ value) where
   abbrev rest : List (ℕ × ℕ)
@@ -109,7 +109,7 @@ module _ {H : Type 0} (bits buffer : ℕ) (value : Value) (a b : Ledger H) (m n 
 
   -- and set
   module _ (may : MayDo a b) (sealed : a.sealed buffer ≡ true) (lies : buffer_of bits key ≡ buffer) (c : Ledger H) (o : Records) where
-    moved : (next : ℕ) → MakesDictionary (type_of value) b c n o root (put (beside value n) (copy, word) (tree_pairs n root)) next
+    moved : (next : ℕ) → MakesDictionary (type_of value) b c n o root (put (beside_value value n) (copy, word) (tree_pairs n root)) next
         → MovesKey bits buffer value a c m o root next
     moved next makes =
         let old_list : SameAt (list_reach m word) m o = same_then m n o (list_reach m word) made.stay.1.1.0
@@ -118,15 +118,15 @@ module _ {H : Type 0} (bits buffer : ℕ) (value : Value) (a b : Ledger H) (m n 
         let here : SameAt (postings_reach m (list_form word)) m o = subst (λ rs. SameAt rs m o) (reach_form m word pair.some) old_list in
         record {
           left = key ∷ [];
-          left_in = (record { is_key = found_among (beside value m) (key, word) (tree_pairs m root) found; lies = lies }, tt);
+          left_in = (record { is_key = found_among (beside_value value m) (key, word) (tree_pairs m root) found; lies = lies }, tt);
           keys = λ ref among. kept ref (opened.was ref among);
           index_is = set_is value b m n root key word copy word (entry key ∷ []) start found opened.reads key_ready c o next makes;
           reads_as = set_index value b m n root key word copy word (entry key ∷ []) start found opened.reads key_ready c o next makes;
           apart = λ k is there. elsewhere k (same_option copy k (sym (set_key value b m n root key word copy word (entry key ∷ []) start found opened.reads key_ready c o next makes) ∙ is)) there;
           others = set_rest value b m n root key word copy word (entry key ∷ []) start found opened.reads key_ready c o next makes;
           list = set_list value b m n root key word copy word (entry key ∷ []) start found opened.reads key_ready c o next makes
-              ∙ sym (lookup-of_pair (beside value m) (tree_pairs m root) ∙ ap (λ (f : Option (ℕ × ℕ)). option_map (λ (p : ℕ × ℕ). p.1) f) found);
-          stay = same_found m o (beside value m) (pair_reach m) (key, word) (tree_pairs m root) found (old_key, here)
+              ∙ sym (lookup-of_pair (beside_value value m) (tree_pairs m root) ∙ ap (λ (f : Option (ℕ × ℕ)). option_map (λ (p : ℕ × ℕ). p.1) f) found);
+          stay = same_found m o (beside_value value m) (pair_reach m) (key, word) (tree_pairs m root) found (old_key, here)
               (rest_stays value b m n root key word copy word (entry key ∷ []) start found opened.reads key_ready c o next makes);
           owns = set_owns value b m n root key word copy word (entry key ∷ []) start found opened.reads key_ready c o next makes;
           turns = turns-then a b c m n o (index_part root ∷ []) (parts_with root copy word rest (entry key ∷ [])) (index_part next ∷ entry key ∷ [])
@@ -138,14 +138,14 @@ module _ {H : Type 0} (bits buffer : ℕ) (value : Value) (a b : Ledger H) (m n 
         kept ref (inl is) = inr (inl is)
         kept ref (inr later) = inl (subst (λ ps. Among ref (keys ps))
             (sym (set_pairs value b m n root key word copy word (entry key ∷ []) start found opened.reads key_ready c o next makes))
-            (among_put (beside value m) (copy, word) ref (tree_pairs m root) later))
+            (among_put (beside_value value m) (copy, word) ref (tree_pairs m root) later))
 
         elsewhere : (k : ℕ) → copy ≡ k → buffer_of bits k ≡ buffer → ⊥
         elsewhere k same there =
             let here : buffer_of bits copy ≡ buffer = ap (buffer_of bits) same ∙ there in
             true≢false (sym (ap (λ (s : ℕ → _). s buffer) may.sealed ∙ sealed) ∙ sym (ap b.sealed here) ∙ adds.unsealed)
 
-    pub key_moved : (answer : Result ℕ StoreError) → IfOk answer (MakesDictionary (type_of value) b c n o root (put (beside value n) (copy, word) (tree_pairs n root)))
+    pub key_moved : (answer : Result ℕ StoreError) → IfOk answer (MakesDictionary (type_of value) b c n o root (put (beside_value value n) (copy, word) (tree_pairs n root)))
         → IfOk answer (MovesKey bits buffer value a c m o root)
     key_moved (Err e) makes = tt
     key_moved (Ok next) makes = moved next makes

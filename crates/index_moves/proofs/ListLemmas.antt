@@ -22,14 +22,14 @@ use Rattle.attr_images.specs.Postings.{list_form, postings_reach, IsPostingList}
 use Rattle.attr_images.specs.Values.{stored_value, value_of}
 use Rattle.attr_types.specs.Value.{type_of, value_cmp}
 use Rattle.attr_types.specs.declared.value.Value.{Value}
-use Rattle.enum_dictionary.specs.Dictionaries.{beside, IsDictionary, MakesDictionary}
+use Rattle.enum_dictionary.specs.Dictionaries.{beside_value, IsDictionary, MakesDictionary}
 use Rattle.enum_dictionary.proofs.DictionaryLemmas.{dictionary_stays}
 use Rattle.posting_store.specs.Changes.{MakesList}
 use Rattle.posting_store.specs.Lists.{list_at, list_levels, list_reach}
 use Rattle.posting_store.specs.ProofsForLists.{list_reach-same}
 use Rattle.posting_store.proofs.FormLemmas.{at_form, reach_form}
 use Rattle.posting_store.proofs.ListLemmas.{list_filled}
-use Rattle.value_index.specs.Flows.{word_at}
+use Rattle.value_index.specs.Flows.{list_word}
 use Rattle.value_index.specs.Indexes.{index_part, IsIndex, IsKey, IsValuePair}
 use Rattle.value_index.proofs.IndexLemmas.{docs_at, keys_same, pair_reach}
 use Rattle.value_index.proofs.KeyLemmas.{pair_found, reads_found}
@@ -58,24 +58,24 @@ put_found c p (q ∷ ps) is =
     ]) is
 
 -- what a move makes, by what is found
-pub most_found : (value : Value) (m : Records) (root key word count w : ℕ) → lookup_pair (beside value m) (tree_pairs m root) ≡ Some (key, word)
+pub most_found : (value : Value) (m : Records) (root key word count w : ℕ) → lookup_pair (beside_value value m) (tree_pairs m root) ≡ Some (key, word)
     → word_most (list_levels m word) count w + nodes_most (levels m root) w ≤ move_most value m root count w
 most_found value m root key word count w found =
-    let word_is : unwrap_or (lookup (beside value m) (tree_pairs m root)) 0 ≡ word =
-    ap (λ (o : Option ℕ). unwrap_or o 0) (lookup-of_pair (beside value m) (tree_pairs m root) ∙ ap (λ (o : Option (ℕ × ℕ)). option_map (λ (p : ℕ × ℕ). p.1) o) found) in
+    let word_is : unwrap_or (lookup (beside_value value m) (tree_pairs m root)) 0 ≡ word =
+    ap (λ (o : Option ℕ). unwrap_or o 0) (lookup-of_pair (beside_value value m) (tree_pairs m root) ∙ ap (λ (o : Option (ℕ × ℕ)). option_map (λ (p : ℕ × ℕ). p.1) o) found) in
     let same = by word_is in
     omega arith
   where
-    by : unwrap_or (lookup (beside value m) (tree_pairs m root)) 0 ≡ word → move_most value m root count w ≡ word_most (list_levels m word) count w + nodes_most (levels m root) w
+    by : unwrap_or (lookup (beside_value value m) (tree_pairs m root)) 0 ≡ word → move_most value m root count w ≡ word_most (list_levels m word) count w + nodes_most (levels m root) w
     by is = ap (λ x. word_most (list_levels m x) count w + nodes_most (levels m root) w) is
 
 -- nothing is done where the value is not there
 pub list_unmoved : {H : Type 0} (bits buffer doc : ℕ) (value : Value) (a : Ledger H) (m : Records) (root : ℕ) → IsIndex (type_of value) m root
-    → Owns a m (index_part root ∷ []) → lookup_pair (beside value m) (tree_pairs m root) ≡ None → MovesList bits buffer doc value a a m m root root
+    → Owns a m (index_part root ∷ []) → lookup_pair (beside_value value m) (tree_pairs m root) ≡ None → MovesList bits buffer doc value a a m m root root
 list_unmoved bits buffer doc value a m root is owns none = record {
   index_is = is;
   reads_as = refl;
-  apart = λ word there. absurd (no_some word (sym (lookup-of_pair (beside value m) (tree_pairs m root)
+  apart = λ word there. absurd (no_some word (sym (lookup-of_pair (beside_value value m) (tree_pairs m root)
       ∙ ap (λ (f : Option (ℕ × ℕ)). option_map (λ (p : ℕ × ℕ). p.1) f) none) ∙ there));
   key = refl;
   others = refl;
@@ -90,7 +90,7 @@ list_unmoved bits buffer doc value a m root is owns none = record {
     no_some word e = grind (arith, e)
 
 module _ {H : Type 0} (bits buffer doc : ℕ) (value : Value) (a b : Ledger H) (m n : Records) (root key word next : ℕ) (start : IsIndex (type_of value) m root)
-    (owns : Owns a m (index_part root ∷ [])) (found : lookup_pair (beside value m) (tree_pairs m root) ≡ Some (key, word))
+    (owns : Owns a m (index_part root ∷ [])) (found : lookup_pair (beside_value value m) (tree_pairs m root) ≡ Some (key, word))
     (makes : MakesList a b m n word (list_at m word) next) where
   abbrev rest : List (ℕ × ℕ)
   rest = others value m root
@@ -126,21 +126,21 @@ module _ {H : Type 0} (bits buffer doc : ℕ) (value : Value) (a b : Ledger H) (
   list_dictionary = ready_dictionary value b m n root key word key next [] start found was_reads list_ready
 
   -- the same word: the dictionary is as it was
-  pub dictionary_same : next ≡ word → MakesDictionary (type_of value) b b n n root (put (beside value n) (key, next) (tree_pairs n root)) root
+  pub dictionary_same : next ≡ word → MakesDictionary (type_of value) b b n n root (put (beside_value value n) (key, next) (tree_pairs n root)) root
   dictionary_same same =
       let stays = dictionary_stays (type_of value) m n root opened.nodes (same_by m n (keys (tree_pairs m root)) opened.keys_stay) start.dictionary_is in
-      let agree = all_by_keys (λ k. beside value n k ≡ beside value m k) (tree_pairs m root) (λ k among. ap (λ ws. value_cmp (value_of (type_of value) ws) value) (opened.keys_stay k among)) in
-      let there : lookup_pair (beside value n) (tree_pairs n root) ≡ Some (key, next) =
-      ap (lookup_pair (beside value n)) stays.1 ∙ lookup_pair_as (beside value m) (beside value n) (tree_pairs m root) agree ∙ found ∙ ap (λ (w : ℕ). Some (key, w)) (sym same) in
+      let agree = all_by_keys (λ k. beside_value value n k ≡ beside_value value m k) (tree_pairs m root) (λ k among. ap (λ ws. value_cmp (value_of (type_of value) ws) value) (opened.keys_stay k among)) in
+      let there : lookup_pair (beside_value value n) (tree_pairs n root) ≡ Some (key, next) =
+      ap (lookup_pair (beside_value value n)) stays.1 ∙ lookup_pair_as (beside_value value m) (beside_value value n) (tree_pairs m root) agree ∙ found ∙ ap (λ (w : ℕ). Some (key, w)) (sym same) in
       record {
         dictionary_is = stays.0;
-        pairs_are = sym (put_found (beside value n) (key, next) (tree_pairs n root) there);
+        pairs_are = sym (put_found (beside_value value n) (key, next) (tree_pairs n root) there);
         owns = ready_owns value b m n root key word key next [] start found was_reads list_ready;
         turns = record { kept = λ r h. refl; balance = λ r. refl };
       }
 
   module _ (c : Ledger H) (o : Records) (apart : FormIsApart bits buffer doc n (list_form next)) where
-    pub list_set : (top : ℕ) → MakesDictionary (type_of value) b c n o root (put (beside value n) (key, next) (tree_pairs n root)) top
+    pub list_set : (top : ℕ) → MakesDictionary (type_of value) b c n o root (put (beside_value value n) (key, next) (tree_pairs n root)) top
         → MovesList bits buffer doc value a c m o root top
     list_set top set =
         let here : SameAt (postings_reach n (list_form next)) n o =
@@ -163,16 +163,16 @@ module _ {H : Type 0} (bits buffer doc : ℕ) (value : Value) (a b : Ledger H) (
               (set_turns value b m n root key word key next [] start found was_reads list_ready c o top set);
         }
       where
-        top_word : word_at value o top ≡ next
+        top_word : list_word value o top ≡ next
         top_word = ap (λ (f : Option ℕ). unwrap_or f 0) (set_list value b m n root key word key next [] start found was_reads list_ready c o top set)
 
-        root_word : word_at value m root ≡ word
-        root_word = ap (λ (f : Option ℕ). unwrap_or f 0) (lookup-of_pair (beside value m) (tree_pairs m root) ∙ ap (λ (f : Option (ℕ × ℕ)). option_map (λ (p : ℕ × ℕ). p.1) f) found)
+        root_word : list_word value m root ≡ word
+        root_word = ap (λ (f : Option ℕ). unwrap_or f 0) (lookup-of_pair (beside_value value m) (tree_pairs m root) ∙ ap (λ (f : Option (ℕ × ℕ)). option_map (λ (p : ℕ × ℕ). p.1) f) found)
 
-        top_reach : list_reach o (word_at value o top) ≡ list_reach n next
+        top_reach : list_reach o (list_word value o top) ≡ list_reach n next
         top_reach = ap (list_reach o) top_word ∙ list_reach-same n o next (list_stays value b m n root key word key next [] start found was_reads list_ready c o top set)
 
-        came_from : (r : ℕ) → in_use (a.status r) ≡ true → Among r (list_reach o (word_at value o top)) → Among r (list_reach m (word_at value m root))
+        came_from : (r : ℕ) → in_use (a.status r) ≡ true → Among r (list_reach o (list_word value o top)) → Among r (list_reach m (list_word value m root))
         came_from r used among =
             let some = among-times r (list_reach n next) (subst (Among r) top_reach among) in
             let t = makes.turns.balance r in
@@ -183,20 +183,20 @@ module _ {H : Type 0} (bits buffer doc : ℕ) (value : Value) (a b : Ledger H) (
         key_same : o key ≡ n key
         key_same = key_stays value b m n root key word key next [] start found was_reads list_ready c o top set
 
-        pairs_are : tree_pairs o top ≡ put (beside value m) (key, next) (tree_pairs m root)
+        pairs_are : tree_pairs o top ≡ put (beside_value value m) (key, next) (tree_pairs m root)
         pairs_are = set_pairs value b m n root key word key next [] start found was_reads list_ready c o top set
 
         kept : (ref : ℕ) → IsKey m root ref → SameAt (flat_map (pair_reach m) rest) m o → (ref ≡ key) ⊎ Among ref (keys rest) → IsKey o top ref × (o ref ≡ m ref)
         kept ref among same (inl is) = (
-          subst (λ ps. Among ref (keys ps)) (sym pairs_are) (subst (λ k. Among k (keys (put (beside value m) (key, next) (tree_pairs m root)))) (sym is) (key_put (beside value m) (key, next) (tree_pairs m root))),
+          subst (λ ps. Among ref (keys ps)) (sym pairs_are) (subst (λ k. Among k (keys (put (beside_value value m) (key, next) (tree_pairs m root)))) (sym is) (key_put (beside_value value m) (key, next) (tree_pairs m root))),
           subst (λ k. o k ≡ n k) (sym is) key_same ∙ opened.keys_stay ref among,
         )
         kept ref among same (inr later) = (
-          subst (λ ps. Among ref (keys ps)) (sym pairs_are) (among_put (beside value m) (key, next) ref (tree_pairs m root) later),
+          subst (λ ps. Among ref (keys ps)) (sym pairs_are) (among_put (beside_value value m) (key, next) ref (tree_pairs m root) later),
           same_among m o (keys rest) ref (keys_same m o rest same) later,
         )
 
-    pub list_set_by : (answer : Result ℕ StoreError) → IfOk answer (MakesDictionary (type_of value) b c n o root (put (beside value n) (key, next) (tree_pairs n root)))
+    pub list_set_by : (answer : Result ℕ StoreError) → IfOk answer (MakesDictionary (type_of value) b c n o root (put (beside_value value n) (key, next) (tree_pairs n root)))
         → IfOk answer (MovesList bits buffer doc value a c m o root)
     list_set_by (Err e) set = tt
     list_set_by (Ok top) set = list_set top set

@@ -20,7 +20,7 @@ use Rattle.attr_images.specs.Values.{stored_value}
 use Rattle.attr_types.specs.Value.{type_of, value_cmp}
 use Rattle.attr_types.specs.declared.kind.ValueType.{ValueType}
 use Rattle.attr_types.specs.declared.value.Value.{Value}
-use Rattle.enum_dictionary.specs.Dictionaries.{beside, IsDictionary}
+use Rattle.enum_dictionary.specs.Dictionaries.{beside_value, IsDictionary}
 use Rattle.enum_dictionary.proofs.DictionaryLemmas.{seen_same, IsValueTree}
 use Rattle.value_index.specs.Indexes.{index_part, IsIndex, IsValuePair}
 use Rattle.value_index.proofs.ChangeLemmas.{shown_stay}
@@ -35,7 +35,7 @@ pub nodes_unmoved : {H : Type 0} (bits buffer : ℕ) (value : Value) (a : Ledger
 nodes_unmoved bits buffer value a m root is owns none = record {
   index_is = is;
   reads_as = refl;
-  apart = none-apart bits buffer m (beside value m) root none;
+  apart = none-apart bits buffer m (beside_value value m) root none;
   pairs = refl;
   stay = same_self m (dictionary_reach m root);
   owns = owns;

@@ -15,7 +15,7 @@ use Rattle.attr_images.specs.Values.{stored_value, value_of, IsValueRecord}
 use Rattle.attr_types.specs.Value.{type_of, value_cmp}
 use Rattle.attr_types.specs.declared.kind.ValueType.{ValueType}
 use Rattle.attr_types.specs.declared.value.Value.{Value}
-use Rattle.enum_dictionary.specs.Dictionaries.{beside, IsDictionary, MakesDictionary}
+use Rattle.enum_dictionary.specs.Dictionaries.{beside_value, IsDictionary, MakesDictionary}
 use Rattle.enum_dictionary.proofs.DictionaryLemmas.{dictionary_stays, value_same}
 use Rattle.posting_store.specs.Changes.{list_part}
 use Rattle.posting_store.specs.Lists.{list_at, list_reach, IsList, IsPlain}
@@ -48,7 +48,7 @@ pub record IsReady {H : Type 0} (value : Value) (now : Ledger H) (m n : Records)
   pub docs_are : list_at n word ≡ docs
 
 module _ {H : Type 0} (value : Value) (b : Ledger H) (m n : Records) (root was_key was key word : ℕ) (extra : List Part) (start : IsIndex (type_of value) m root)
-    (found : lookup_pair (beside value m) (tree_pairs m root) ≡ Some (was_key, was)) (was_reads : stored_value (type_of value) m was_key ≡ value)
+    (found : lookup_pair (beside_value value m) (tree_pairs m root) ≡ Some (was_key, was)) (was_reads : stored_value (type_of value) m was_key ≡ value)
     (is : IsReady value b m n root key word (docs_at m was) extra) where
   abbrev type : ValueType
   type = type_of value
@@ -65,10 +65,10 @@ module _ {H : Type 0} (value : Value) (b : Ledger H) (m n : Records) (root was_k
   pub ready_owns : Owns b n (tree root ∷ [])
   ready_owns = owns-some b n (parts_with root key word rest extra) (tree root ∷ []) is.owns (λ r. omega arith)
 
-  agree : AllByRecursion (λ q. beside value n q.0 ≡ beside value m q.0) (tree_pairs m root)
-  agree = all_by_keys (λ k. beside value n k ≡ beside value m k) (tree_pairs m root) (λ k among. ap (λ ws. value_cmp (value_of type ws) value) (is.keys_stay k among))
+  agree : AllByRecursion (λ q. beside_value value n q.0 ≡ beside_value value m q.0) (tree_pairs m root)
+  agree = all_by_keys (λ k. beside_value value n k ≡ beside_value value m k) (tree_pairs m root) (λ k among. ap (λ ws. value_cmp (value_of type ws) value) (is.keys_stay k among))
 
-  module _ (c : Ledger H) (o : Records) (next : ℕ) (makes : MakesDictionary type b c n o root (put (beside value n) (key, word) (tree_pairs n root)) next) where
+  module _ (c : Ledger H) (o : Records) (next : ℕ) (makes : MakesDictionary type b c n o root (put (beside_value value n) (key, word) (tree_pairs n root)) next) where
     beside_tree : List Part
     beside_tree = entry key ∷ list_part word ∷ pairs_part rest ∷ extra
 
@@ -88,9 +88,9 @@ module _ {H : Type 0} (value : Value) (b : Ledger H) (m n : Records) (root was_k
     pub extra_stays : AllStay extra n o
     extra_stays = tree_step.stay.1.1.1
 
-    pub set_pairs : tree_pairs o next ≡ put (beside value m) (key, word) (tree_pairs m root)
+    pub set_pairs : tree_pairs o next ≡ put (beside_value value m) (key, word) (tree_pairs m root)
     set_pairs =
-        makes.pairs_are ∙ ap (put (beside value n) (key, word)) stays.1 ∙ put_as (beside value m) (beside value n) (key, word) (tree_pairs m root) agree
+        makes.pairs_are ∙ ap (put (beside_value value n) (key, word)) stays.1 ∙ put_as (beside_value value m) (beside_value value n) (key, word) (tree_pairs m root) agree
 
     new_pair : IsValuePair o (key, word)
     new_pair = record { key = is.key_some; some = is.filled; list_is = IsList-same n o word list_stays is.list_is; plain = is.plain }
@@ -99,8 +99,8 @@ module _ {H : Type 0} (value : Value) (b : Ledger H) (m n : Records) (root was_k
     set_is = record {
       dictionary_is = makes.dictionary_is;
       pairs = subst (AllByRecursion (IsValuePair o)) (sym set_pairs)
-          (all_put (beside value m) (IsValuePair o) (key, word) (tree_pairs m root) new_pair
-          (all-same m o (pair_reach m) (IsValuePair m) (IsValuePair o) (pair_same m o) rest rest_stays (all_taken (beside value m) (IsValuePair m) (tree_pairs m root) start.pairs)));
+          (all_put (beside_value value m) (IsValuePair o) (key, word) (tree_pairs m root) new_pair
+          (all-same m o (pair_reach m) (IsValuePair m) (IsValuePair o) (pair_same m o) rest rest_stays (all_taken (beside_value value m) (IsValuePair m) (tree_pairs m root) start.pairs)));
     }
 
     new_reads : stored_value type o key ≡ value
@@ -114,33 +114,33 @@ module _ {H : Type 0} (value : Value) (b : Ledger H) (m n : Records) (root was_k
     pub set_index : index_of type o next ≡ index_of type m root
     set_index =
         ap (map (shown (stored_value type o) (docs_at o))) set_pairs
-        ∙ set_reads (shown (stored_value type o) (docs_at o)) (shown (stored_value type m) (docs_at m)) (beside value m) (key, word) (was_key, was) new_shown (tree_pairs m root) found
+        ∙ set_reads (shown (stored_value type o) (docs_at o)) (shown (stored_value type m) (docs_at m)) (beside_value value m) (key, word) (was_key, was) new_shown (tree_pairs m root) found
         (shown_stay type m o rest rest_stays)
 
-    equal : beside value o key ≡ Equal
+    equal : beside_value value o key ≡ Equal
     equal = ap (λ (v : Value). value_cmp v value) new_reads ∙ value_same value
 
-    others_agree : AllByRecursion (λ q. beside value o q.0 ≡ beside value m q.0) rest
-    others_agree = all_by_keys (λ k. beside value o k ≡ beside value m k) rest
+    others_agree : AllByRecursion (λ q. beside_value value o q.0 ≡ beside_value value m q.0) rest
+    others_agree = all_by_keys (λ k. beside_value value o k ≡ beside_value value m k) rest
         (λ k among. ap (λ ws. value_cmp (value_of type ws) value) (same_among m o (keys rest) k (keys_same m o rest rest_stays) among))
 
-    pub set_rest : take_out (beside value o) (tree_pairs o next) ≡ take_out (beside value m) (tree_pairs m root)
-    set_rest = ap (take_out (beside value o)) set_pairs ∙ set_others (beside value m) (beside value o) (key, word) equal (tree_pairs m root) others_agree
+    pub set_rest : take_out (beside_value value o) (tree_pairs o next) ≡ take_out (beside_value value m) (tree_pairs m root)
+    set_rest = ap (take_out (beside_value value o)) set_pairs ∙ set_others (beside_value value m) (beside_value value o) (key, word) equal (tree_pairs m root) others_agree
 
-    pub set_list : lookup (beside value o) (tree_pairs o next) ≡ Some word
-    set_list = ap (lookup (beside value o)) set_pairs ∙ set_value (beside value m) (beside value o) (key, word) equal (tree_pairs m root) others_agree
+    pub set_list : lookup (beside_value value o) (tree_pairs o next) ≡ Some word
+    set_list = ap (lookup (beside_value value o)) set_pairs ∙ set_value (beside_value value m) (beside_value value o) (key, word) equal (tree_pairs m root) others_agree
 
     pub set_key : key_at value o next ≡ Some key
     set_key =
-        ap (λ (ps : List (ℕ × ℕ)). option_map (λ (p : ℕ × ℕ). p.0) (lookup_pair (beside value o) ps)) set_pairs
-        ∙ ap (λ (f : Option (ℕ × ℕ)). option_map (λ (p : ℕ × ℕ). p.0) f) (set_found (beside value m) (beside value o) (key, word) equal (tree_pairs m root) others_agree)
+        ap (λ (ps : List (ℕ × ℕ)). option_map (λ (p : ℕ × ℕ). p.0) (lookup_pair (beside_value value o) ps)) set_pairs
+        ∙ ap (λ (f : Option (ℕ × ℕ)). option_map (λ (p : ℕ × ℕ). p.0) f) (set_found (beside_value value m) (beside_value value o) (key, word) equal (tree_pairs m root) others_agree)
 
     set_count : (r : ℕ) → count_in r o (index_part next ∷ extra) ≡ count_in r o (parts_with next key word rest extra)
     set_count r =
         let whole = index_count o next r in
-        let same : times r (flat_map (pair_reach o) (tree_pairs o next)) ≡ times r (flat_map (pair_reach o) (put (beside value m) (key, word) (tree_pairs m root))) =
+        let same : times r (flat_map (pair_reach o) (tree_pairs o next)) ≡ times r (flat_map (pair_reach o) (put (beside_value value m) (key, word) (tree_pairs m root))) =
         ap (λ ps. times r (flat_map (pair_reach o) ps)) set_pairs in
-        let split = put_times (beside value m) (pair_reach o) r (key, word) (tree_pairs m root) in
+        let split = put_times (beside_value value m) (pair_reach o) r (key, word) (tree_pairs m root) in
         let one = pair_count o key word r is.filled in
         omega arith
 

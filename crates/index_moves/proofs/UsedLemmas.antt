@@ -17,7 +17,7 @@ use Rattle.attr_images.specs.Words.{class_of, stored_items}
 use Rattle.attr_types.specs.Value.{type_of}
 use Rattle.attr_types.specs.declared.value.Value.{Value}
 use Rattle.unique_store.proofs.RecordLemmas.{words_few}
-use Rattle.enum_dictionary.specs.Dictionaries.{beside}
+use Rattle.enum_dictionary.specs.Dictionaries.{beside_value}
 use Rattle.posting_store.specs.Changes.{list_part}
 use Rattle.posting_store.specs.Lists.{IsList, IsPlain}
 use Rattle.posting_store.proofs.FormLemmas.{tree_form}
@@ -52,11 +52,11 @@ node_used a m root node some owns =
 
 -- ---- a value that is found
 module _ {H : Type 0} (value : Value) (a : Ledger H) (m : Records) (root key word : ℕ) (is : IsIndex (type_of value) m root) (owns : Owns a m (index_part root ∷ []))
-    (found : lookup_pair (beside value m) (tree_pairs m root) ≡ Some (key, word)) where
+    (found : lookup_pair (beside_value value m) (tree_pairs m root) ≡ Some (key, word)) where
   opened : Owns a m (parts root key word (others value m root))
   opened = (open_found value a m root is owns key word found).owns
 
-  found_some : (top : ℕ) → lookup_pair (beside value m) (tree_pairs m top) ≡ Some (key, word) → 0 < top
+  found_some : (top : ℕ) → lookup_pair (beside_value value m) (tree_pairs m top) ≡ Some (key, word) → 0 < top
   found_some zero here = absurd (grind (arith, here))
   found_some (suc ref) here = omega arith
 

@@ -17,10 +17,10 @@ use Rattle.attr_images.specs.Words.{class_of}
 use Rattle.attr_images.specs.declared.TheConstants.{MOST_SHORT}
 use Rattle.attr_types.specs.Value.{type_of}
 use Rattle.attr_types.specs.declared.value.Value.{Value}
-use Rattle.enum_dictionary.specs.Dictionaries.{beside}
+use Rattle.enum_dictionary.specs.Dictionaries.{beside_value}
 use Rattle.posting_store.specs.Lists.{list_reach}
 use Rattle.value_index.specs.Changes.{nodes_most, record_most, value_levels}
-use Rattle.value_index.specs.Flows.{word_at}
+use Rattle.value_index.specs.Flows.{list_word}
 use Rattle.value_index.specs.Indexes.{index_part, key_at, IsIndex, IsKey}
 
 -- a key of the index that lies in the buffer
@@ -38,8 +38,8 @@ pub record MovesKey {H : Type 0} (bits buffer : ℕ) (value : Value) (old new : 
   pub index_is : IsIndex (type_of value) n next
   pub reads_as : index_of (type_of value) n next ≡ index_of (type_of value) m root
   pub apart : (key : ℕ) → key_at value n next ≡ Some key → buffer_of bits key ≢ buffer
-  pub others : take_out (beside value n) (tree_pairs n next) ≡ take_out (beside value m) (tree_pairs m root)
-  pub list : lookup (beside value n) (tree_pairs n next) ≡ lookup (beside value m) (tree_pairs m root)
+  pub others : take_out (beside_value value n) (tree_pairs n next) ≡ take_out (beside_value value m) (tree_pairs m root)
+  pub list : lookup (beside_value value n) (tree_pairs n next) ≡ lookup (beside_value value m) (tree_pairs m root)
   pub stay : SameAt (dictionary_reach m root) m n
   pub owns : Owns new n (index_part next ∷ entries left ∷ [])
   pub turns : Turns old new m n (index_part root ∷ []) (index_part next ∷ entries left ∷ [])
@@ -55,13 +55,13 @@ FormIsApart bits buffer doc m (vector root) = ⊥
 pub record MovesList {H : Type 0} (bits buffer doc : ℕ) (value : Value) (old new : Ledger H) (m n : Records) (root next : ℕ) : Type 0 where
   pub index_is : IsIndex (type_of value) n next
   pub reads_as : index_of (type_of value) n next ≡ index_of (type_of value) m root
-  pub apart : (list : ℕ) → lookup (beside value n) (tree_pairs n next) ≡ Some list → FormIsApart bits buffer doc n (list_form list)
+  pub apart : (list : ℕ) → lookup (beside_value value n) (tree_pairs n next) ≡ Some list → FormIsApart bits buffer doc n (list_form list)
   pub key : key_at value n next ≡ key_at value m root
-  pub others : take_out (beside value n) (tree_pairs n next) ≡ take_out (beside value m) (tree_pairs m root)
-  pub rest : SameAt (flat_map (λ p. p.0 ∷ postings_reach m (list_form p.1)) (take_out (beside value m) (tree_pairs m root))) m n
+  pub others : take_out (beside_value value n) (tree_pairs n next) ≡ take_out (beside_value value m) (tree_pairs m root)
+  pub rest : SameAt (flat_map (λ p. p.0 ∷ postings_reach m (list_form p.1)) (take_out (beside_value value m) (tree_pairs m root))) m n
   pub keys : (ref : ℕ) → IsKey m root ref → IsKey n next ref × (n ref ≡ m ref)
-  pub came : (r : ℕ) → in_use (old.status r) ≡ true → Among r (list_reach n (word_at value n next))
-      → Among r (list_reach m (word_at value m root))
+  pub came : (r : ℕ) → in_use (old.status r) ≡ true → Among r (list_reach n (list_word value n next))
+      → Among r (list_reach m (list_word value m root))
   pub owns : Owns new n (index_part next ∷ [])
   pub turns : Turns old new m n (index_part root ∷ []) (index_part next ∷ [])
 
@@ -69,7 +69,7 @@ pub record MovesList {H : Type 0} (bits buffer doc : ℕ) (value : Value) (old n
 pub record MovesNodes {H : Type 0} (bits buffer : ℕ) (value : Value) (old new : Ledger H) (m n : Records) (root next : ℕ) : Type 0 where
   pub index_is : IsIndex (type_of value) n next
   pub reads_as : index_of (type_of value) n next ≡ index_of (type_of value) m root
-  pub apart : NoneIn bits buffer (path_nodes n (beside value m) next)
+  pub apart : NoneIn bits buffer (path_nodes n (beside_value value m) next)
   pub pairs : tree_pairs n next ≡ tree_pairs m root
   pub stay : SameAt (dictionary_reach m root) m n
   pub owns : Owns new n (index_part next ∷ [])

@@ -7,7 +7,7 @@ ghost use Rattle.store_api.specs.Units.{MayDo};
 ghost use Rattle.attr_images.specs.Postings.{index_of, list_form};
 ghost use Rattle.attr_index.specs.Index.{list_of};
 ghost use Rattle.attr_types.specs.Value.{type_of};
-ghost use Rattle.enum_dictionary.specs.Dictionaries.{beside};
+ghost use Rattle.enum_dictionary.specs.Dictionaries.{beside_value};
 ghost use Rattle.posting_store.specs.Changes.{list_part, MakesList, MakesWithin};
 ghost use Rattle.posting_store.specs.Lists.{list_at, list_levels, IsList, IsPlain};
 ghost use Rattle.value_index.specs.Indexes.{index_part, IsIndex};
@@ -118,7 +118,7 @@ fn move_found<const OFFSET_BITS: u32, S: Store<OFFSET_BITS>>(
     requires sealed { (S.ledger store.old).sealed buffer ≡ true }
     requires index { IsIndex (type_of value.now) (S.records store.old) root }
     requires owns { Owns (S.ledger store.old) (S.records store.old) (index_part root ∷ []) }
-    requires found { lookup_pair (beside value.now (S.records store.old)) (tree_pairs (S.records store.old) root) ≡ Some (key, list) }
+    requires found { lookup_pair (beside_value value.now (S.records store.old)) (tree_pairs (S.records store.old) root) ≡ Some (key, list) }
     ensures moves { IfOk result (MovesList OFFSET_BITS buffer doc value.now (S.ledger store.old) (S.ledger store.new)
         (S.records store.old) (S.records store.new) root.entry) }
     ensures counts { MakesWithin (S.ledger store.old) (S.ledger store.new) (move_most value.now (S.records store.old) root.entry

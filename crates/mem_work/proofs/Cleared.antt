@@ -17,7 +17,7 @@ use Rattle.image_base.proofs.Pairs.{words-found}
 use Rattle.arena_api.proofs.Reached.{lawful-kept, next_image-kept}
 use Rattle.arena_api.specs.Works.{Buffer, active_width}
 use Rattle.arena_api.specs.Generations.{retired}
-use Rattle.mem_work.specs.Cells.{width_in, begin_of, with_range, names_entry, standing, is_whole, stored_in, image_in, records_in, memory_view, buffer_by, buffers_in}
+use Rattle.mem_work.specs.Cells.{width_in, begin_of, with_range, names_entry, standing, is_whole, stored_in, image_in, records_in, memory_view, buffer_by, buffer_in}
 use Rattle.mem_work.specs.Marks.{tag_of, mark_at, marked, marked_buffers, with_marks, IsMark}
 use Rattle.mem_work.specs.declared.marks.Mark.{Mark}
 use Rattle.mem_work.specs.declared.marks.Mark.TheVariants.{Fresh, Past, Held}

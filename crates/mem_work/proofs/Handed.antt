@@ -8,7 +8,7 @@ use Rattle.image_base.specs.Places.{IsEntry}
 use Rattle.image_base.proofs.Apart.{within}
 use Rattle.arena_api.specs.Works.{Buffer, last_tag}
 use Rattle.arena_api.specs.Calls.{with_buffer}
-use Rattle.mem_work.specs.Cells.{width_in, begin_of, names_entry, standing, is_whole, stored_in, buffer_by, buffers_in}
+use Rattle.mem_work.specs.Cells.{width_in, begin_of, names_entry, standing, is_whole, stored_in, buffer_by, buffer_in}
 use Rattle.mem_work.proofs.Standing.{range-set_other, lacks, not_first, cond-same, cond-and}
 use Rattle.mem_work.specs.ProofsForMemory.{names_entry-true}
 use Rattle.mem_work.proofs.Standing.{whole-first}
@@ -25,16 +25,16 @@ module _ (table : List ℕ) (bits buffers words b width : ℕ) (free : width_in 
   pub width-new : width_in (set table (b * words) width) words b ≡ width
   width-new = get_or-set_same table (b * words) width 0 inside
 
-  pub buffers-handed : (a : ℕ) → buffers_in (set table (b * words) width) words a ≡ with_buffer (buffers_in table words) b (Buffer.active width (last_tag (buffers_in table words b))) a
+  pub buffers-handed : (a : ℕ) → buffer_in (set table (b * words) width) words a ≡ with_buffer (buffer_in table words) b (Buffer.active width (last_tag (buffer_in table words b))) a
   buffers-handed a = elim (cases_eq a b) [
     | inl e ↦
-        ap (λ c. buffers_in (set table (b * words) width) words c) e
+        ap (λ c. buffer_in (set table (b * words) width) words c) e
         ∙ ap buffer_by width-new ∙ made width wide
         ∙ ap (λ n. Buffer.active width (last_tag (buffer_by n))) (sym free)
-        ∙ ap (λ t. cond t (Buffer.active width (last_tag (buffers_in table words b))) (buffers_in table words a)) (sym (eq-eqb a b e))
+        ∙ ap (λ t. cond t (Buffer.active width (last_tag (buffer_in table words b))) (buffer_in table words a)) (sym (eq-eqb a b e))
     | inr ne ↦
         ap buffer_by (width-other a ne)
-        ∙ ap (λ t. cond t (Buffer.active width (last_tag (buffers_in table words b))) (buffers_in table words a)) (sym (ne_eqb a b ne))
+        ∙ ap (λ t. cond t (Buffer.active width (last_tag (buffer_in table words b))) (buffer_in table words a)) (sym (ne_eqb a b ne))
   ]
     where
       made : (w : ℕ) → 0 < w → buffer_by w ≡ Buffer.active w None

@@ -6,7 +6,7 @@ use Rattle.std.proofs.lemmas.Bool.{cases_eq, cases_Bool, eq-eqb, ne_eqb, ltb-tru
 use Rattle.arena_api.specs.Works.{WorkView, Buffer, is_free, active_width, last_tag}
 use Rattle.arena_api.specs.Calls.{IsLowestFree, handed_out, with_buffer}
 use Rattle.arena_api.specs.Generations.{freed_below}
-use Rattle.mem_work.specs.Cells.{width_in, buffer_by, buffers_in}
+use Rattle.mem_work.specs.Cells.{width_in, buffer_by, buffer_in}
 use Rattle.mem_work.specs.Marks.{tag_of, freed, mark_at, marked, marked_buffers, with_marks, IsHeldMark, IsMark}
 use Rattle.mem_work.specs.declared.marks.Mark.{Mark}
 use Rattle.mem_work.specs.declared.marks.Mark.TheVariants.{Fresh, Past, Held}

@@ -16,7 +16,7 @@ use Rattle.image_base.specs.Places.{IsEntry}
 use Rattle.image_base.specs.Records.{Records, SameAt, AllThere}
 use Rattle.arena_api.specs.Works.{is_free}
 use Rattle.arena_api.specs.Calls.{next_image, with_stored, handed_out, published, AddsCommit, IsLowestFree, opened}
-use Rattle.mem_work.specs.Cells.{width_in, begin_of, standing, is_whole, stored_in, image_in, records_in, buffer_by, buffers_in, memory_view, sizes_of}
+use Rattle.mem_work.specs.Cells.{width_in, begin_of, standing, is_whole, stored_in, image_in, records_in, buffer_by, buffer_in, memory_view, sizes_of}
 use Rattle.mem_work.specs.Marks.{mark_at, marked, marked_buffers, with_marks, IsMark}
 use Rattle.mem_work.specs.declared.marks.Mark.{Mark}
 use Rattle.mem_work.specs.declared.marks.Mark.TheVariants.{Fresh}
@@ -206,7 +206,7 @@ module _ (reaches : ℕ → Records → ℕ → List ℕ) (lawful : ℕ → Reco
         let more : suc b * words ≤ buffers * words = mul-le-mul_right words below in
         omega arith
 
-    pub hand_out-view : (generation first : ℕ) (o : Option ℕ) (t : List ℕ) → IfSome o (IsLowestFree (marked_buffers marks (buffers_in table words)) buffers) → IfSome o (λ b. t ≡ set table (b * words) width)
+    pub hand_out-view : (generation first : ℕ) (o : Option ℕ) (t : List ℕ) → IfSome o (IsLowestFree (marked_buffers marks (buffer_in table words)) buffers) → IfSome o (λ b. t ≡ set table (b * words) width)
         → IfSome o (λ b. with_marks (memory_view reaches shape t stamps bits buffers words last root) marks generation first
         ≡ handed_out (with_marks (memory_view reaches shape table stamps bits buffers words last root) marks generation first) b width)
     hand_out-view generation first None t low at = tt
@@ -216,7 +216,7 @@ module _ (reaches : ℕ → Records → ℕ → List ℕ) (lawful : ℕ → Reco
         ∙ ap (λ v. with_marks v marks generation first) (view-handed b width free some (first-inside b low.below) wide also (λ x h. unused b x h free))
         ∙ with_marks-handed (memory_view reaches shape table stamps bits buffers words last root) marks generation first b width (width_in table words b) wide refl low.free
 
-    pub hand_out-marks : (generation first : ℕ) (o : Option ℕ) (t : List ℕ) → IfSome o (IsLowestFree (marked_buffers marks (buffers_in table words)) buffers)
+    pub hand_out-marks : (generation first : ℕ) (o : Option ℕ) (t : List ℕ) → IfSome o (IsLowestFree (marked_buffers marks (buffer_in table words)) buffers)
         → IfSome o (λ b. t ≡ set table (b * words) width) → IfNone o (t ≡ table)
         → ((b : ℕ) → IsMark generation first last (width_in table words b) (mark_at marks b))
         → (b : ℕ) → IsMark generation first last (width_in t words b) (mark_at marks b)
@@ -228,7 +228,7 @@ module _ (reaches : ℕ → Records → ℕ → List ℕ) (lawful : ℕ → Reco
           | inr ne ↦ subst (λ w. IsMark generation first last w (mark_at marks b)) (sym (width-other table bits buffers words a width free some (first-inside a low.below) wide b ne)) (old b)
         ])
 
-    pub hand_out-records : (o : Option ℕ) (t : List ℕ) → IfSome o (IsLowestFree (marked_buffers marks (buffers_in table words)) buffers) → IfSome o (λ b. t ≡ set table (b * words) width) → IfNone o (t ≡ table)
+    pub hand_out-records : (o : Option ℕ) (t : List ℕ) → IfSome o (IsLowestFree (marked_buffers marks (buffer_in table words)) buffers) → IfSome o (λ b. t ≡ set table (b * words) width) → IfNone o (t ≡ table)
         → records_in reaches shape t stamps bits buffers words last root ≡ records_in reaches shape table stamps bits buffers words last root
     hand_out-records None t low at same = ap (λ (ws : List ℕ). records_in reaches shape ws stamps bits buffers words last root) same
     hand_out-records (Some b) t low at same =
@@ -236,7 +236,7 @@ module _ (reaches : ℕ → Records → ℕ → List ℕ) (lawful : ℕ → Reco
         ap (λ (ws : List ℕ). records_in reaches shape ws stamps bits buffers words last root) at
         ∙ (λ k q. records-handed b width free some (first-inside b low.below) wide also (λ x h. unused b x h free) q k)
 
-    pub hand_out-lawful : (o : Option ℕ) (t : List ℕ) → IfSome o (IsLowestFree (marked_buffers marks (buffers_in table words)) buffers) → IfSome o (λ b. t ≡ set table (b * words) width) → IfNone o (t ≡ table)
+    pub hand_out-lawful : (o : Option ℕ) (t : List ℕ) → IfSome o (IsLowestFree (marked_buffers marks (buffer_in table words)) buffers) → IfSome o (λ b. t ≡ set table (b * words) width) → IfNone o (t ≡ table)
         → ∥ lawful shape (standing t bits buffers words) root ∥₁
     hand_out-lawful None t low at same = subst (λ (ws : List ℕ). ∥ lawful shape (standing ws bits buffers words) root ∥₁) (sym same) law
     hand_out-lawful (Some b) t low at same =
@@ -244,7 +244,7 @@ module _ (reaches : ℕ → Records → ℕ → List ℕ) (lawful : ℕ → Reco
         subst (λ (ws : List ℕ). ∥ lawful shape (standing ws bits buffers words) root ∥₁) (sym at)
         (lawful-handed b width free some (first-inside b low.below) wide also (λ x h. unused b x h free))
 
-    pub hand_out-unused : (o : Option ℕ) (t : List ℕ) → IfSome o (IsLowestFree (marked_buffers marks (buffers_in table words)) buffers) → IfSome o (λ b. t ≡ set table (b * words) width) → IfNone o (t ≡ table)
+    pub hand_out-unused : (o : Option ℕ) (t : List ℕ) → IfSome o (IsLowestFree (marked_buffers marks (buffer_in table words)) buffers) → IfSome o (λ b. t ≡ set table (b * words) width) → IfNone o (t ≡ table)
         → (b x : ℕ) → x < words → width_in t words b ≡ 0 → get_or stamps (b * words + x) 0 ≤ last
     hand_out-unused None t low at same b x h free = unused b x h (subst (λ (ws : List ℕ). width_in ws words b ≡ 0) same free)
     hand_out-unused (Some a) t low at same b x h free =

@@ -60,8 +60,8 @@ buffer_by zero = Buffer.free None
 buffer_by (suc width) = Buffer.active (suc width) None
 
 -- the buffers of a memory
-abbrev pub buffers_in : List ℕ → ℕ → ℕ → Buffer
-buffers_in table words b = buffer_by (width_in table words b)
+abbrev pub buffer_in : List ℕ → ℕ → ℕ → Buffer
+buffer_in table words b = buffer_by (width_in table words b)
 
 -- the sizes of a memory, with the highest limits
 abbrev pub sizes_of : ℕ → ℕ → Sizes
@@ -72,7 +72,7 @@ abbrev pub memory_view : (ℕ → Records → ℕ → List ℕ) → ℕ → List
 memory_view reaches shape table stamps bits buffers words last root = record {
   home = tt;
   sizes = sizes_of buffers words;
-  buffer = buffers_in table words;
+  buffer = buffer_in table words;
   queue = first_hold ∷ [];
   commits = record { floor = last; last = last; image = λ n. image_in reaches shape table bits buffers words root };
   stored = stored_in table stamps bits buffers words (last + 1);

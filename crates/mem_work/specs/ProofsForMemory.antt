@@ -8,7 +8,7 @@ use Rattle.std.proofs.lemmas.Bool.Decides.{nat_tests}
 use Rattle.entry_ref.specs.References.{buffer_of, buffer_limit, offset_limit}
 use Rattle.image_base.specs.Places.{IsEntry}
 use Rattle.image_base.proofs.Apart.{entry-small}
-use Rattle.mem_work.specs.Cells.{width_in, begin_of, names_entry, standing, is_whole, stored_in, buffer_by, image_in, records_in, buffers_in, sizes_of, memory_view}
+use Rattle.mem_work.specs.Cells.{width_in, begin_of, names_entry, standing, is_whole, stored_in, buffer_by, image_in, records_in, buffer_in, sizes_of, memory_view}
 use Rattle.mem_work.specs.Marks.{tag_of, mark_at, marked, marked_buffers, only_hold, with_marks, IsHeldMark, IsMark}
 use Rattle.mem_work.specs.declared.marks.Mark.{Mark}
 use Rattle.mem_work.specs.declared.marks.Mark.TheVariants.{Fresh, Past, Held}
@@ -197,11 +197,11 @@ module _ (reaches : ℕ → Records → ℕ → List ℕ) (shape : ℕ) (table s
       }
 
   pub memory_entries : length table ≡ buffers * words → (marks : List Mark) (r : ℕ) → 0 < length (records_in reaches shape table stamps bits buffers words last root r)
-      → FitsEntry bits (sizes_of buffers words) (active_width (marked_buffers marks (buffers_in table words) (buffer_of bits r))) r (length (records_in reaches shape table stamps bits buffers words last root r))
+      → FitsEntry bits (sizes_of buffers words) (active_width (marked_buffers marks (buffer_in table words) (buffer_of bits r))) r (length (records_in reaches shape table stamps bits buffers words last root r))
   memory_entries room marks r some = fits _ r _ room (active_width-by (mark_at marks (buffer_of bits r)) (width_in table words (buffer_of bits r))) (records-stand r some) some
 
   pub memory_kept : length table ≡ buffers * words → (marks : List Mark) (r : ℕ) → 0 < length (words_at (image_in reaches shape table bits buffers words root) r)
-      → FitsEntry bits (sizes_of buffers words) (width_of (marked_buffers marks (buffers_in table words) (buffer_of bits r))) r (length (words_at (image_in reaches shape table bits buffers words root) r))
+      → FitsEntry bits (sizes_of buffers words) (width_of (marked_buffers marks (buffer_in table words) (buffer_of bits r))) r (length (words_at (image_in reaches shape table bits buffers words root) r))
   memory_kept room marks r some =
       let stands = words-found _ (standing table bits buffers words) root r some in
       let wide = (standing-entry table bits buffers words r 0 (subst (λ x. 0 < length x) (sym stands) some)).0.wide in
@@ -220,7 +220,7 @@ module _ (reaches : ℕ → Records → ℕ → List ℕ) (shape : ℕ) (table s
       record { entry = subst (λ x. IsEntry bits buffers words x r) (sym at) s.entry; inside = subst (λ x. i < x) (sym at) s.inside }
 
   pub memory_whole : length table ≡ buffers * words → (marks : List Mark) (r : ℕ) (ws : List ℕ) → 0 < length ws
-      → length ws ≡ active_width (marked_buffers marks (buffers_in table words) (buffer_of bits r))
+      → length ws ≡ active_width (marked_buffers marks (buffer_in table words) (buffer_of bits r))
       → ((i : ℕ) → i < length ws → stored_in table stamps bits buffers words (last + 1) r i ≡ Some (get_or ws i 0)) → records_in reaches shape table stamps bits buffers words last root r ≡ ws
   memory_whole room marks r ws some long each =
       let width = width_in table words (buffer_of bits r) in
@@ -237,7 +237,7 @@ module _ (reaches : ℕ → Records → ℕ → List ℕ) (shape : ℕ) (table s
       let wide = (standing-entry table bits buffers words r 0 some).0.wide in omega arith)
 
   pub memory_held : (marks : List Mark) (generation first : ℕ) → ((b : ℕ) → IsMark generation first last (width_in table words b) (mark_at marks b))
-      → (b w : ℕ) (t : Tag) → marked_buffers marks (buffers_in table words) b ≡ Buffer.held w t
+      → (b w : ℕ) (t : Tag) → marked_buffers marks (buffer_in table words) b ≡ Buffer.held w t
       → IsHeldUnder bits (with_marks (memory_view reaches shape table stamps bits buffers words last root) marks generation first) b t
   memory_held marks generation first good b w t held =
       let m = held-mark generation first last (width_in table words b) (mark_at marks b) (good b) w t held in

@@ -3,7 +3,7 @@ ghost use Rattle.entry_ref.specs.References.{buffer_of, buffer_limit, offset_lim
 ghost use Rattle.image_base.specs.Places.{IsEntry};
 ghost use Rattle.arena_api.specs.Works.{is_free, free_count};
 ghost use Rattle.arena_api.specs.Calls.{IsLowestFree, padded};
-ghost use Rattle.mem_work.specs.Cells.{width_in, begin_of, with_range, buffers_in};
+ghost use Rattle.mem_work.specs.Cells.{width_in, begin_of, with_range, buffer_in};
 ghost use Rattle.mem_work.specs.Marks.{freed, marked_buffers};
 ghost use Rattle.mem_work.specs.declared.marks.Mark.TheVariants.{Fresh, Held};
 
@@ -127,8 +127,8 @@ impl<const OFFSET_BITS: u32> Cells<OFFSET_BITS> {
     /// Takes the free buffer of lowest number, by giving it a width.
     pub fn hand_out(&mut self, width: u32) -> Option<u32>
         requires { 0 < width }
-        ensures none { IsNone result ↔ (free_count (marked_buffers self.old.marks.items (buffers_in self.old.table.items self.old.words)) self.old.buffers ≡ 0) }
-        ensures lowest { IfSome result (IsLowestFree (marked_buffers self.old.marks.items (buffers_in self.old.table.items self.old.words)) self.old.buffers) }
+        ensures none { IsNone result ↔ (free_count (marked_buffers self.old.marks.items (buffer_in self.old.table.items self.old.words)) self.old.buffers ≡ 0) }
+        ensures lowest { IfSome result (IsLowestFree (marked_buffers self.old.marks.items (buffer_in self.old.table.items self.old.words)) self.old.buffers) }
         ensures handed { IfSome result (λ b. self.new.table.items ≡ slice_set self.old.table.items (b * self.old.words) width) }
         ensures refused { IfNone result (self.new.table.items ≡ self.old.table.items) }
         ensures stamps { self.new.stamps.items ≡ self.old.stamps.items }
@@ -147,14 +147,14 @@ impl<const OFFSET_BITS: u32> Cells<OFFSET_BITS> {
 
     fn is_free(&self, buffer: u32) -> bool
         requires { buffer < self.now.buffers }
-        ensures { result ≡ is_free (marked_buffers self.now.marks.items (buffers_in self.now.table.items self.now.words) buffer) }
+        ensures { result ≡ is_free (marked_buffers self.now.marks.items (buffer_in self.now.table.items self.now.words) buffer) }
     {
         let first = buffer as usize * self.words as usize;
         self.table[first] == 0 && !self.marks[buffer as usize].is_held()
     }
 
     pub fn free_buffers(&self) -> u32
-        ensures { result ≡ free_count (marked_buffers self.now.marks.items (buffers_in self.now.table.items self.now.words)) self.now.buffers }
+        ensures { result ≡ free_count (marked_buffers self.now.marks.items (buffer_in self.now.table.items self.now.words)) self.now.buffers }
     {
         let mut count = 0;
         for buffer in 0..self.buffers {

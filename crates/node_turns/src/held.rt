@@ -1,7 +1,7 @@
 //! A guard of a commit that is empty or one node.
 ghost use Rattle.std.specs.Prelude.{◌≡◌};
 ghost use Rattle.image_base.specs.Images.{words_at};
-ghost use Rattle.word_arena.specs.Ruled.{reader_of, image_of};
+ghost use Rattle.word_arena.specs.Ruled.{reader_of, seen_image};
 ghost use Rattle.node_turns.specs.OneNode.{IsNode};
 
 use crate::node::{OneNode, are_of};
@@ -12,8 +12,8 @@ use word_arena::{Again, Aimed, Guarded, Reader, Steps};
 #[derive(Drop)]
 pub struct Held<'a> {
     guard: Guarded<'a, 22, OneNode>,
-    ghost node: { IsNode (reader_of guard.place.me.0).sizes.shape (words_at (image_of (reader_of guard.place.me.0)))
-        (image_of (reader_of guard.place.me.0)).root },
+    ghost node: { IsNode (reader_of guard.place.me.0).sizes.shape (words_at (seen_image (reader_of guard.place.me.0)))
+        (seen_image (reader_of guard.place.me.0)).root },
 }
 
 /// A commit as its reader has it, and whether every word of its node is as the commit stored it, if it has a node.

@@ -20,8 +20,8 @@ pub record MapView : Type 0 where
   pub buffers : ℕ
 
 -- a stored key beside a number
-abbrev pub beside : ℕ → ℕ → Ordering
-beside key stored = nat_cmp stored key
+abbrev pub beside_number : ℕ → ℕ → Ordering
+beside_number key stored = nat_cmp stored key
 
 -- the first pair, where there is one
 abbrev pub first_of : List (ℕ × ℕ) → Option (ℕ × ℕ)

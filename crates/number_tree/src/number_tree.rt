@@ -2,7 +2,7 @@ ghost use Rattle.std.specs.Prelude.{◌≡◌, ◌↔◌, ◌-◌, ◌+◌, [], 
 ghost use Rattle.tree_images.specs.Trees.{tree_pairs};
 ghost use Rattle.key_order.specs.Pairs.{lookup, put, take_out, seek};
 ghost use Rattle.store_api.specs.Ledgers.{IsNew};
-ghost use Rattle.number_tree.specs.Maps.{HoldsTree, IsRefusal, beside, first_of};
+ghost use Rattle.number_tree.specs.Maps.{HoldsTree, IsRefusal, beside_number, first_of};
 
 use crate::layout::TreeLayout;
 use crate::unit::{commit_tree, insert_unit, remove_unit};
@@ -98,7 +98,7 @@ impl<const OFFSET_BITS: u32, S: Store<OFFSET_BITS, Layout = TreeLayout>> NumberT
     /// Puts a value at a key, in place of the one there. On an error all is as before. The store is
     /// `Full` where no buffer has room for a node of 34 words.
     pub fn put(&mut self, key: u64, value: u64) -> Result<(), StoreError>
-        ensures pairs { OnOk result (self.new.pairs ≡ put (beside key) (key, value) self.old.pairs) }
+        ensures pairs { OnOk result (self.new.pairs ≡ put (beside_number key) (key, value) self.old.pairs) }
         ensures commits { self.new.commits ≡ self.old.commits }
         ensures most { self.new.most ≡ self.old.most }
         ensures buffers { self.new.buffers ≡ self.old.buffers }
@@ -111,8 +111,8 @@ impl<const OFFSET_BITS: u32, S: Store<OFFSET_BITS, Layout = TreeLayout>> NumberT
 
     /// Takes out a key. The answer is whether it was there. On an error all is as before.
     pub fn remove(&mut self, key: u64) -> Result<bool, StoreError>
-        ensures taken { IfOk result (λ taken. taken ≡ is_some (lookup (beside key) self.old.pairs)) }
-        ensures pairs { OnOk result (self.new.pairs ≡ take_out (beside key) self.old.pairs) }
+        ensures taken { IfOk result (λ taken. taken ≡ is_some (lookup (beside_number key) self.old.pairs)) }
+        ensures pairs { OnOk result (self.new.pairs ≡ take_out (beside_number key) self.old.pairs) }
         ensures commits { self.new.commits ≡ self.old.commits }
         ensures most { self.new.most ≡ self.old.most }
         ensures buffers { self.new.buffers ≡ self.old.buffers }
@@ -128,7 +128,7 @@ impl<const OFFSET_BITS: u32, S: Store<OFFSET_BITS, Layout = TreeLayout>> NumberT
 
     /// The value at a key.
     pub fn get(&mut self, key: u64) -> Option<u64>
-        ensures value { result ≡ lookup (beside key) self.old.pairs }
+        ensures value { result ≡ lookup (beside_number key) self.old.pairs }
         ensures same { self.new ≡ self.old }
     {
         match find(&mut self.store, self.root, &NumberKey(key)) {
@@ -147,7 +147,7 @@ impl<const OFFSET_BITS: u32, S: Store<OFFSET_BITS, Layout = TreeLayout>> NumberT
 
     /// The first pair whose key is this one or above it.
     pub fn at_or_above(&mut self, key: u64) -> Option<(u64, u64)>
-        ensures pair { result ≡ first_of (seek (beside key) self.old.pairs) }
+        ensures pair { result ≡ first_of (seek (beside_number key) self.old.pairs) }
         ensures same { self.new ≡ self.old }
     {
         first_from(&mut self.store, self.root, key)

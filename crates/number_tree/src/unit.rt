@@ -1,7 +1,7 @@
 ghost use Rattle.std.specs.Prelude.{◌≡◌, ◌<◌, ◌+◌, IfOk, IfErr, OnErr, IsSome};
 ghost use Rattle.tree_images.specs.Trees.{tree_pairs};
 ghost use Rattle.key_order.specs.Pairs.{lookup, put, take_out};
-ghost use Rattle.number_tree.specs.Maps.{HoldsTree, IsRefusal, beside};
+ghost use Rattle.number_tree.specs.Maps.{HoldsTree, IsRefusal, beside_number};
 
 use crate::layout::TreeLayout;
 use entry_ref::EntryRef;
@@ -18,7 +18,7 @@ pub fn insert_unit<const OFFSET_BITS: u32, S: Store<OFFSET_BITS>>(
     requires { HoldsTree (S.ledger store.old) (S.records store.old) root }
     ensures holds { IfOk result (HoldsTree (S.ledger store.new) (S.records store.new)) }
     ensures pairs { IfOk result (λ r. tree_pairs (S.records store.new) r
-        ≡ put (beside key) (key, value) (tree_pairs (S.records store.old) root.entry)) }
+        ≡ put (beside_number key) (key, value) (tree_pairs (S.records store.old) root.entry)) }
     ensures still { OnErr result (HoldsTree (S.ledger store.new) (S.records store.new) root.entry) }
     ensures left { OnErr result (S.records store.new ≡ S.records store.old) }
     ensures refused { IfErr result (IsRefusal (S.ledger store.old).work.sizes.buffers) }
@@ -45,10 +45,10 @@ pub fn remove_unit<const OFFSET_BITS: u32, S: Store<OFFSET_BITS>>(
     key: u64,
 ) -> Result<EntryRef<OFFSET_BITS>, StoreError>
     requires holds { HoldsTree (S.ledger store.old) (S.records store.old) root }
-    requires there { IsSome (lookup (beside key) (tree_pairs (S.records store.old) root)) }
+    requires there { IsSome (lookup (beside_number key) (tree_pairs (S.records store.old) root)) }
     ensures holds { IfOk result (HoldsTree (S.ledger store.new) (S.records store.new)) }
     ensures pairs { IfOk result (λ r. tree_pairs (S.records store.new) r
-        ≡ take_out (beside key) (tree_pairs (S.records store.old) root.entry)) }
+        ≡ take_out (beside_number key) (tree_pairs (S.records store.old) root.entry)) }
     ensures still { OnErr result (HoldsTree (S.ledger store.new) (S.records store.new) root.entry) }
     ensures left { OnErr result (S.records store.new ≡ S.records store.old) }
     ensures refused { IfErr result (IsRefusal (S.ledger store.old).work.sizes.buffers) }

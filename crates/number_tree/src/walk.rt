@@ -2,7 +2,7 @@ ghost use Rattle.std.specs.Prelude.{◌≡◌, ◌<◌, IfOk};
 ghost use Rattle.std.specs.Ordering.{nat_cmp};
 ghost use Rattle.tree_images.specs.Trees.{tree_pairs, by_number, IsRootNode, IsTree};
 ghost use Rattle.key_order.specs.Pairs.{seek};
-ghost use Rattle.number_tree.specs.Maps.{beside, first_of};
+ghost use Rattle.number_tree.specs.Maps.{beside_number, first_of};
 
 use entry_ref::EntryRef;
 use frozen_api::Frozen;
@@ -16,7 +16,7 @@ pub fn first_from<const OFFSET_BITS: u32, F: Frozen<OFFSET_BITS>>(
     key: u64,
 ) -> Option<(u64, u64)>
     requires tree { IsTree nat_cmp by_number (F.records frozen.old) root }
-    ensures pair { result ≡ first_of (seek (beside key) (tree_pairs (F.records frozen.old) root.entry)) }
+    ensures pair { result ≡ first_of (seek (beside_number key) (tree_pairs (F.records frozen.old) root.entry)) }
     ensures same { frozen.new ≡ frozen.old }
 {
     let cursor = Cursor::seek(frozen, root, &NumberKey(key));

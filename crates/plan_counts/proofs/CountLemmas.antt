@@ -8,7 +8,7 @@ use Rattle.std.specs.List.Sorted.{IsStrictlySortedBy}
 use Rattle.std.specs.Ordering.{is_gt}
 use Rattle.image_base.specs.Records.{Records}
 use Rattle.attr_compaction.proofs.PlaceLemmas.{key_total, place_total}
-use Rattle.attr_compaction.specs.Places.{key_cmp, place_after, place_cmp, Place}
+use Rattle.attr_compaction.specs.Places.{key_cmp, place_after, place_cmp, PlanPlace}
 use Rattle.attr_compaction.specs.declared.plan.PlanKey.{PlanKey}
 use Rattle.attr_compaction.specs.declared.plan.PlanKey.TheVariants.{Start}
 use Rattle.attr_compaction.specs.declared.plan.Stage.{Stage}
@@ -23,22 +23,22 @@ use Rattle.plan_counts.proofs.StageLemmas.{all_over, gt_back, keys_are, less_is,
 abbrev one_of : Bool → ℕ
 one_of t = cond t 1 0
 
-cons_count : (b : Place → Bool) (x : Place) (xs : List Place) → count_by b (x ∷ xs) ≡ cond (b x) 1 0 + count_by b xs
+cons_count : (b : PlanPlace → Bool) (x : PlanPlace) (xs : List PlanPlace) → count_by b (x ∷ xs) ≡ cond (b x) 1 0 + count_by b xs
 cons_count b x xs = sum_by-cons (λ y. cond (b y) 1 0) x xs
 
-both_count : (b : Place → Bool) (xs ys : List Place) → count_by b (xs ++ ys) ≡ count_by b xs + count_by b ys
+both_count : (b : PlanPlace → Bool) (xs ys : List PlanPlace) → count_by b (xs ++ ys) ≡ count_by b xs + count_by b ys
 both_count b xs ys = sum_by-append (λ y. cond (b y) 1 0) xs ys
 
-none_count : (b : Place → Bool) (f : PlanKey → Place) (keys : List PlanKey) → AllByRecursion (λ k. b (f k) ≡ false) keys → count_by b (map f keys) ≡ 0
+none_count : (b : PlanPlace → Bool) (f : PlanKey → PlanPlace) (keys : List PlanKey) → AllByRecursion (λ k. b (f k) ≡ false) keys → count_by b (map f keys) ≡ 0
 none_count b f [] all = refl
 none_count b f (k ∷ keys) all =
     cons_count b (f k) (map f keys) ∙ ap₂ (λ (t : Bool) (n : ℕ). one_of t + n) all.0 (none_count b f keys all.1)
 
-none_of : (b : Place → Bool) (xs : List Place) → ((x : Place) → b x ≡ false) → count_by b xs ≡ 0
+none_of : (b : PlanPlace → Bool) (xs : List PlanPlace) → ((x : PlanPlace) → b x ≡ false) → count_by b xs ≡ 0
 none_of b [] out = refl
 none_of b (x ∷ xs) out = cons_count b x xs ∙ ap₂ (λ (t : Bool) (n : ℕ). one_of t + n) (out x) (none_of b xs out)
 
-four : (b : Place → Bool) (m : Records) (field : ℕ) (a : AttributeTrees) (trees : List AttributeTrees) → count_by b (places_from m field (a ∷ trees))
+four : (b : PlanPlace → Bool) (m : Records) (field : ℕ) (a : AttributeTrees) (trees : List AttributeTrees) → count_by b (places_from m field (a ∷ trees))
     ≡ count_by b (places_in m field a KEYS) + (count_by b (places_in m field a DOCUMENTS) + (count_by b (places_in m field a LISTS)
     + (count_by b (places_in m field a NODES) + count_by b (places_from m (suc field) trees))))
 four b m field a trees =
@@ -51,8 +51,8 @@ four b m field a trees =
     ∙ ap (λ (n : ℕ). count_by b l0 + n) (both_count b l1 (l2 ++ (l3 ++ rest))
     ∙ ap (λ (n : ℕ). count_by b l1 + n) (both_count b l2 (l3 ++ rest) ∙ ap (λ (n : ℕ). count_by b l2 + n) (both_count b l3 rest)))
 
-module _ (b c : Place → Bool) where
-  same_count : (f : PlanKey → Place) (keys : List PlanKey) → AllByRecursion (λ k. c (f k) ≡ b (f k)) keys → count_by c (map f keys) ≡ count_by b (map f keys)
+module _ (b c : PlanPlace → Bool) where
+  same_count : (f : PlanKey → PlanPlace) (keys : List PlanKey) → AllByRecursion (λ k. c (f k) ≡ b (f k)) keys → count_by c (map f keys) ≡ count_by b (map f keys)
   same_count f [] all = refl
   same_count f (k ∷ keys) all =
       cons_count c (f k) (map f keys) ∙ ap₂ (λ (t : Bool) (n : ℕ). one_of t + n) all.0 (same_count f keys all.1) ∙ sym (cons_count b (f k) (map f keys))
@@ -137,21 +137,21 @@ module _ (b c : Place → Bool) where
         omega arith
 
 -- ---- the next key
-module _ (from at : Place) (key : PlanKey) (few : place_cmp from at ≢ Greater) where
-  abbrev next : Place
+module _ (from at : PlanPlace) (key : PlanKey) (few : place_cmp from at ≢ Greater) where
+  abbrev next : PlanPlace
   next = record { stage = at.stage; key = key }
 
-  abbrev own : PlanKey → Place
+  abbrev own : PlanKey → PlanPlace
   own k = record { stage = at.stage; key = k }
 
-  outside : (q : Place) → is_gt (place_cmp q at) ≡ true → is_between from at q ≡ false
+  outside : (q : PlanPlace) → is_gt (place_cmp q at) ≡ true → is_between from at q ≡ false
   outside q e = ap (λ (t : Bool). is_gt (place_cmp q from) && not t) e ∙ and_false (is_gt (place_cmp q from))
     where
       and_false : (t : Bool) → (t && false) ≡ false
       and_false true = refl
       and_false false = refl
 
-  beyond : (q : Place) → is_gt (place_cmp q next) ≡ true → is_between from next q ≡ false
+  beyond : (q : PlanPlace) → is_gt (place_cmp q next) ≡ true → is_between from next q ≡ false
   beyond q e = ap (λ (t : Bool). is_gt (place_cmp q from) && not t) e ∙ and_false (is_gt (place_cmp q from))
     where
       and_false : (t : Bool) → (t && false) ≡ false
@@ -254,7 +254,7 @@ same_item trees i j a b there here e =
     let same : (x y : AttributeTrees) → Some x ≡ Some y → x ≡ y = λ x y w. cc in
     same a b (sym there ∙ ap (slice_get trees) e ∙ here)
 
-module _ (from at next : Place) (field phase : ℕ) where
+module _ (from at next : PlanPlace) (field phase : ℕ) where
   between_same : (keys : List PlanKey) → AllByRecursion (λ key. is_gt (place_cmp (place_at field phase key) next) ≡ is_gt (place_cmp (place_at field phase key) at)) keys
       → AllByRecursion (λ key. is_between from next (place_at field phase key) ≡ is_between from at (place_at field phase key)) keys
   between_same [] all = tt
@@ -284,8 +284,8 @@ places_same : (m n : Records) (field : ℕ) (trees others : List AttributeTrees)
 places_same m n field [] [] same = refl
 places_same m n field (a ∷ trees) (b ∷ others) same =
     let at : (phase : ℕ) → places_in n field b phase ≡ places_in m field a phase = λ phase. ap (map (place_at field phase)) (same.0 phase) in
-    ap₂ (λ (x y : List Place). x ++ y) (at KEYS) (ap₂ (λ (x y : List Place). x ++ y) (at DOCUMENTS) (ap₂ (λ (x y : List Place). x ++ y) (at LISTS)
-    (ap₂ (λ (x y : List Place). x ++ y) (at NODES) (places_same m n (suc field) trees others same.1))))
+    ap₂ (λ (x y : List PlanPlace). x ++ y) (at KEYS) (ap₂ (λ (x y : List PlanPlace). x ++ y) (at DOCUMENTS) (ap₂ (λ (x y : List PlanPlace). x ++ y) (at LISTS)
+    (ap₂ (λ (x y : List PlanPlace). x ++ y) (at NODES) (places_same m n (suc field) trees others same.1))))
 places_same m n field [] (b ∷ others) same = absurd same
 places_same m n field (a ∷ trees) [] same = absurd same
 

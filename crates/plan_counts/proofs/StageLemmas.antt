@@ -8,7 +8,7 @@ use Rattle.std.specs.declared.cmp.Ordering.{Ordering}
 use Rattle.std.specs.Ordering.{is_gt, ordering_reverse, ordering_then, MatchOrdering}
 use Rattle.image_base.specs.Records.{Records}
 use Rattle.attr_compaction.proofs.PlaceLemmas.{key_total, next_above, place_total, stage_total}
-use Rattle.attr_compaction.specs.Places.{key_cmp, next_stage, place_after, place_cmp, stage_cmp, Place}
+use Rattle.attr_compaction.specs.Places.{key_cmp, next_stage, place_after, place_cmp, stage_cmp, PlanPlace}
 use Rattle.attr_compaction.specs.declared.plan.PlanKey.{PlanKey}
 use Rattle.attr_compaction.specs.declared.plan.PlanKey.TheVariants.{Start, Value, Doc, Pair}
 use Rattle.attr_compaction.specs.declared.plan.Stage.{Stage}
@@ -109,7 +109,7 @@ other_by Equal x y ne = absurd (ne refl)
 other_by Greater x y ne = refl
 
 -- what lies in another stage is past each key of a stage or past none
-pub other_past : (at : Place) (done : PlanKey) (field phase : ℕ) (key : PlanKey) → ((field ≡ at.stage.field) × (phase ≡ at.stage.phase) → ⊥)
+pub other_past : (at : PlanPlace) (done : PlanKey) (field phase : ℕ) (key : PlanKey) → ((field ≡ at.stage.field) × (phase ≡ at.stage.phase) → ⊥)
     → is_gt (place_cmp (place_at field phase key) (record { stage = at.stage; key = done })) ≡ is_gt (place_cmp (place_at field phase key) at)
 other_past at done field phase key apart =
     ap is_gt (other_by (stage_cmp (record { field = field; phase = phase }) at.stage) (key_cmp key done) (key_cmp key at.key)
@@ -179,11 +179,11 @@ none_between fields stage field phase few low within past under =
         ]
 
 -- ---- a phase is over
-module _ (fields : ℕ) (at : Place) (few : at.stage.phase < PHASES) (field phase : ℕ) (within : field < fields) (low : phase < PHASES) where
+module _ (fields : ℕ) (at : PlanPlace) (few : at.stage.phase < PHASES) (field phase : ℕ) (within : field < fields) (low : phase < PHASES) where
   abbrev here : Stage
   here = record { field = field; phase = phase }
 
-  abbrev next : Place
+  abbrev next : PlanPlace
   next = place_after fields at Start
 
   -- what is past the place, and no key of the phase that is over, is past the next place

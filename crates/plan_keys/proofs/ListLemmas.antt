@@ -22,7 +22,7 @@ use Rattle.attr_types.specs.declared.value.Value.{Value as AnyValue}
 use Rattle.attr_compaction.specs.Places.{key_cmp}
 use Rattle.attr_compaction.specs.declared.plan.PlanKey.{PlanKey}
 use Rattle.attr_compaction.specs.declared.plan.PlanKey.TheVariants.{Start, Value, Doc, Pair}
-use Rattle.enum_dictionary.specs.Dictionaries.{behind, beside}
+use Rattle.enum_dictionary.specs.Dictionaries.{behind, beside_value}
 use Rattle.posting_store.specs.Lists.{list_at, IsList, IsPlain}
 use Rattle.posting_store.proofs.FormLemmas.{form_even, form_odd, tree_at, tree_form}
 use Rattle.value_index.specs.Indexes.{IsIndex, IsValuePair}
@@ -172,7 +172,7 @@ beside_pair v w d e o is = ap (λ (x : Ordering). ordering_then x (nat_cmp d e))
 
 module _ (type : ValueType) (m : Records) (value : AnyValue) (typed : type_of value ≡ type) (doc : ℕ) where
   abbrev pub against : ℕ → Ordering
-  against = beside value m
+  against = beside_value value m
 
   abbrev pub tested : PlanKey → Bool
   tested next = is_lt (key_cmp (Pair value doc) next)

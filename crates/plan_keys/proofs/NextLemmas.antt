@@ -19,7 +19,7 @@ use Rattle.attr_types.specs.declared.value.Value.{Value as AnyValue}
 use Rattle.attr_compaction.specs.Places.{key_cmp}
 use Rattle.attr_compaction.specs.declared.plan.PlanKey.{PlanKey}
 use Rattle.attr_compaction.specs.declared.plan.PlanKey.TheVariants.{Start, Value, Doc, Pair}
-use Rattle.enum_dictionary.specs.Dictionaries.{behind, beside}
+use Rattle.enum_dictionary.specs.Dictionaries.{behind, beside_value}
 use Rattle.plan_keys.specs.PhaseKeys.{document_keys, first_item, key_past, value_keys}
 
 -- ---- the pair that follows
@@ -97,8 +97,8 @@ module _ (type : ValueType) (m : Records) (root : ℕ) where
   first_value_is = find_first as_value (λ next. is_lt (key_cmp Start next)) (λ p. refl) (tree_pairs m root)
 
   pub value_past_is : (value : AnyValue) → type_of value ≡ type
-      → option_map as_value (first_item (behind (beside value m) (tree_pairs m root))) ≡ key_past (Value value) (value_keys type m root)
-  value_past_is value is = find_behind as_value (λ next. is_lt (key_cmp (Value value) next)) (beside value m)
+      → option_map as_value (first_item (behind (beside_value value m) (tree_pairs m root))) ≡ key_past (Value value) (value_keys type m root)
+  value_past_is value is = find_behind as_value (λ next. is_lt (key_cmp (Value value) next)) (beside_value value m)
       (λ p. past_value value (stored_value type m p.0) ∙ ap (λ (t : ValueType). is_gt (value_cmp (stored_value t m p.0) value)) (sym is)) (tree_pairs m root)
 
   pub no_value_past_doc : (doc : ℕ) → None ≡ key_past (Doc doc) (value_keys type m root)

@@ -23,7 +23,7 @@ use Rattle.posting_store.specs.Lists.{list_at, IsList, IsPlain}
 use Rattle.posting_store.proofs.FormLemmas.{tree_at}
 use Rattle.value_index.specs.Indexes.{IsIndex, IsValuePair}
 use Rattle.plan_keys.specs.Laws.{PhaseKeysAscend}
-use Rattle.plan_keys.specs.PhaseKeys.{document_keys, form_docs, keys_of_pairs, node_keys, pair_keys, phase_keys, value_keys}
+use Rattle.plan_keys.specs.PhaseKeys.{document_keys, form_docs, keys_of_pairs, node_phase_keys, pair_keys, phase_keys, value_keys}
 use Rattle.plan_keys.proofs.ListLemmas.{short_docs, tree_docs}
 
 abbrev Up : List PlanKey → Type 0
@@ -132,7 +132,7 @@ module _ (type : ValueType) (m : Records) where
 pub phase_ascends : PhaseKeysAscend
 phase_ascends type m documents dictionary phase map_is is = told (nat_eq phase 0) (nat_eq phase 1) (nat_eq phase 2)
   where
-    told : (a b c : Bool) → Up (cond a (value_keys type m dictionary) (cond b (document_keys m documents) (cond c (pair_keys type m dictionary) (node_keys type m documents dictionary))))
+    told : (a b c : Bool) → Up (cond a (value_keys type m dictionary) (cond b (document_keys m documents) (cond c (pair_keys type m dictionary) (node_phase_keys type m documents dictionary))))
     told true b c = values_ascend type m (tree_pairs m dictionary) is.dictionary_is.tree_is.ascends
     told false true c = documents_ascend type m (tree_pairs m documents) map_is.tree_is.ascends
     told false false true = lists_ascend type m (tree_pairs m dictionary) is.dictionary_is.tree_is.ascends is.pairs

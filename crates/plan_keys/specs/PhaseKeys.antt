@@ -37,8 +37,8 @@ abbrev pub pair_keys : ValueType → Records → ℕ → List PlanKey
 pair_keys type m root = keys_of_pairs type m (tree_pairs m root)
 
 -- the values, and then the documents
-abbrev pub node_keys : ValueType → Records → ℕ → ℕ → List PlanKey
-node_keys type m documents dictionary = value_keys type m dictionary ++ document_keys m documents
+abbrev pub node_phase_keys : ValueType → Records → ℕ → ℕ → List PlanKey
+node_phase_keys type m documents dictionary = value_keys type m dictionary ++ document_keys m documents
 
 -- the keys of a phase, of an attribute with these trees
 abbrev pub phase_keys : ValueType → Records → ℕ → ℕ → ℕ → List PlanKey
@@ -46,7 +46,7 @@ phase_keys type m documents dictionary phase =
     if nat_eq phase KEYS then value_keys type m dictionary
     else if nat_eq phase DOCUMENTS then document_keys m documents
     else if nat_eq phase LISTS then pair_keys type m dictionary
-    else node_keys type m documents dictionary
+    else node_phase_keys type m documents dictionary
 
 -- a value's record, and its list
 pub record IsListPair (type : ValueType) (m : Records) (p : ℕ × ℕ) : Type 0 where

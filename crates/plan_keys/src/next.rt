@@ -2,7 +2,7 @@ ghost use Rattle.std.specs.Prelude.{◌≡◌, ◌<◌, IfOk};
 ghost use Rattle.attr_compaction.specs.declared.plan.TheConstants.{PHASES};
 ghost use Rattle.doc_vector.specs.Documents.{IsDocumentMap};
 ghost use Rattle.value_index.specs.Indexes.{IsIndex};
-ghost use Rattle.plan_keys.specs.PhaseKeys.{key_past, node_keys, phase_keys, HasType};
+ghost use Rattle.plan_keys.specs.PhaseKeys.{key_past, node_phase_keys, phase_keys, HasType};
 
 use crate::documents::document_after;
 use crate::pairs::pair_after;
@@ -26,7 +26,7 @@ fn node_after<const OFFSET_BITS: u32, F: Frozen<OFFSET_BITS>>(
     requires documents { IsDocumentMap (F.records frozen.old) documents }
     requires index { IsIndex value_type (F.records frozen.old) dictionary }
     requires typed { HasType value_type key.now }
-    ensures next { IfOk result (λ found. found ≡ key_past key.now (node_keys value_type (F.records frozen.old) documents.entry dictionary.entry)) }
+    ensures next { IfOk result (λ found. found ≡ key_past key.now (node_phase_keys value_type (F.records frozen.old) documents.entry dictionary.entry)) }
     ensures same { frozen.new ≡ frozen.old }
 {
     let next = value_after(alloc, frozen, value_type, dictionary, key)?;

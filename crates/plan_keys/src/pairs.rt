@@ -6,7 +6,7 @@ ghost use Rattle.key_order.specs.Pairs.{lookup_pair};
 ghost use Rattle.attr_images.specs.Values.{stored_value, IsValueRecord};
 ghost use Rattle.attr_types.specs.Value.{type_of};
 ghost use Rattle.attr_compaction.specs.declared.plan.PlanKey.TheVariants as keys;
-ghost use Rattle.enum_dictionary.specs.Dictionaries.{behind, beside};
+ghost use Rattle.enum_dictionary.specs.Dictionaries.{behind, beside_value};
 ghost use Rattle.value_index.specs.Indexes.{IsIndex};
 ghost use Rattle.plan_keys.specs.PhaseKeys.{first_item, key_past, keys_of_pairs, next_in_list, pair_keys, HasType, IsListPair};
 
@@ -106,7 +106,7 @@ fn next_of_value<const OFFSET_BITS: u32, F: Frozen<OFFSET_BITS>>(
     requires index { IsIndex value_type (F.records frozen.old) root }
     requires typed { type_of value.now ≡ value_type }
     ensures next { IfOk result (λ found. found ≡ next_in_list value_type (F.records frozen.old) doc
-        (lookup_pair (beside value.now (F.records frozen.old)) (tree_pairs (F.records frozen.old) root.entry))) }
+        (lookup_pair (beside_value value.now (F.records frozen.old)) (tree_pairs (F.records frozen.old) root.entry))) }
     ensures same { frozen.new ≡ frozen.old }
 {
     match find(frozen, root, value) {
@@ -126,7 +126,7 @@ fn first_behind<const OFFSET_BITS: u32, F: Frozen<OFFSET_BITS>>(
     requires index { IsIndex value_type (F.records frozen.old) root }
     requires typed { type_of value.now ≡ value_type }
     ensures first { IfOk result (λ found. found ≡ first_item (keys_of_pairs value_type (F.records frozen.old)
-        (behind (beside value.now (F.records frozen.old)) (tree_pairs (F.records frozen.old) root.entry)))) }
+        (behind (beside_value value.now (F.records frozen.old)) (tree_pairs (F.records frozen.old) root.entry)))) }
     ensures same { frozen.new ≡ frozen.old }
 {
     let cursor = upper(frozen, root, value);

@@ -16,7 +16,7 @@ use Rattle.attr_types.specs.Lawful.{IsDocNumber}
 use Rattle.attr_images.specs.Words.{unpacked, weight_of, stored_items}
 use Rattle.posting_store.specs.declared.cursor.PostingCursor.{PostingCursor}
 use Rattle.posting_store.specs.declared.cursor.PostingCursor.TheVariants.{Short, Tree}
-use Rattle.posting_store.specs.Walks.{postings_from, first_doc, first_weight, HasPosting, StandsIn, IsPlace}
+use Rattle.posting_store.specs.Walks.{postings_from, first_doc, first_weight, HasPosting, StandsInList, IsListPlace}
 
 -- the first document of some is one
 pub first_is_doc : (es rest : List (ℕ × ℤ)) (e : ℕ × ℤ) → es ≡ e ∷ rest → AllByRecursion IsDocNumber (keys_of es) → IsDocNumber (first_doc es)
@@ -57,11 +57,11 @@ numbers_next es next is all = subst (λ (es : List (ℕ × ℤ)). AllByRecursion
     behind (e ∷ es) all = all.1
 
 -- a place in a record that is seen as one of a list
-module _ {bits : ℕ} (m : Records) (self : PostingCursor bits) (list count at : ℕ) (is : self ≡ Short list count at) (place : IsPlace m self) where
-  pub next_place : (next : PostingCursor bits) → next ≡ Short list count (at + 1) → HasPosting self → IsPlace m next
-  next_place next step some = subst (IsPlace m) (sym step) (
+module _ {bits : ℕ} (m : Records) (self : PostingCursor bits) (list count at : ℕ) (is : self ≡ Short list count at) (place : IsListPlace m self) where
+  pub next_place : (next : PostingCursor bits) → next ≡ Short list count (at + 1) → HasPosting self → IsListPlace m next
+  next_place next step some = subst (IsListPlace m) (sym step) (
       record {
-        stands = λ low. subst (StandsIn m) is place.stands (omega arith);
+        stands = λ low. subst (StandsInList m) is place.stands (omega arith);
         numbers = numbers_next (map unpacked (drop at (take count (drop 1 (m list))))) (map unpacked (drop (at + 1) (take count (drop 1 (m list)))))
             (short_next at (take count (drop 1 (m list))))
             (subst (λ (s : PostingCursor bits). AllByRecursion IsDocNumber (keys_of (postings_from m s))) is place.numbers);
@@ -76,7 +76,7 @@ module _ {bits : ℕ} (m : Records) (self : PostingCursor bits) (list count at :
     low = subst HasPosting is some
 
     stands : IsArray (m list) × (count ≡ slice_index (m list) 0)
-    stands = subst (StandsIn m) is place.stands low
+    stands = subst (StandsInList m) is place.stands low
 
     pub this_doc : slice_index (m list) (1 + at) / 4294967296 ≡ first_doc (postings_from m self)
     this_doc = short_doc (m list) count at low stands.0 stands.1 ∙ ap (λ (s : PostingCursor bits). first_doc (postings_from m s)) (sym is)
@@ -85,11 +85,11 @@ module _ {bits : ℕ} (m : Records) (self : PostingCursor bits) (list count at :
     this_weight = short_weight (m list) count at low stands.0 stands.1 ∙ ap (λ (s : PostingCursor bits). first_weight (postings_from m s)) (sym is)
 
 -- a place in a tree
-pub tree_doc : {bits : ℕ} (m : Records) (self : PostingCursor bits) (at : Place) (key : ℕ) → self ≡ Tree at → IsPlace m self → HasPosting self
+pub tree_doc : {bits : ℕ} (m : Records) (self : PostingCursor bits) (at : Place) (key : ℕ) → self ≡ Tree at → IsListPlace m self → HasPosting self
     → ((m : Records) → IsAt m at → key ≡ first_key (pairs_from m at)) → 1 ≤ key
 tree_doc {bits} m self at key is place some reads =
     let place_is : PostingCursor bits = Tree at in
-    let stands : StandsIn m place_is = subst (StandsIn m) is place.stands in
+    let stands : StandsInList m place_is = subst (StandsInList m) is place.stands in
     let numbers : AllByRecursion IsDocNumber (keys_of (postings_from m place_is)) = subst (λ (s : PostingCursor bits). AllByRecursion IsDocNumber (keys_of (postings_from m s))) is place.numbers in
     let first = pair-first m at stands.0 (subst HasPosting is some) in
     let e : key ≡ first_key (pairs_from m at) = reads m stands.0 in

@@ -21,13 +21,13 @@ HasPosting (Short list count at) = at < count
 HasPosting (Tree at) = HasPair at
 
 -- the place is one of a record or of a tree
-abbrev pub StandsIn : {bits : ℕ} → Records → PostingCursor bits → Type 0
-StandsIn m (Short list count at) = at < count → IsArray (m list) × (count ≡ slice_index (m list) 0)
-StandsIn m (Tree at) = IsAt m at × AllByRecursion (λ p. p.1 < 2 ^ 32) (pairs_from m at)
+abbrev pub StandsInList : {bits : ℕ} → Records → PostingCursor bits → Type 0
+StandsInList m (Short list count at) = at < count → IsArray (m list) × (count ≡ slice_index (m list) 0)
+StandsInList m (Tree at) = IsAt m at × AllByRecursion (λ p. p.1 < 2 ^ 32) (pairs_from m at)
 
 -- the place is one of a list
-pub record IsPlace {bits : ℕ} (m : Records) (at : PostingCursor bits) : Type 0 where
-  pub stands : StandsIn m at
+pub record IsListPlace {bits : ℕ} (m : Records) (at : PostingCursor bits) : Type 0 where
+  pub stands : StandsInList m at
   pub numbers : AllByRecursion IsDocNumber (keys_of (postings_from m at))
 
 abbrev pub first_doc : List (ℕ × ℤ) → ℕ

@@ -1,7 +1,7 @@
 ghost use Rattle.std.specs.Prelude.{◌≡◌, ◌↔◌, drop, length, [], false, IsTrue};
 ghost use Rattle.image_base.specs.Records.{Records};
 ghost use Rattle.posting_store.specs.Lists.{list_at, IsList, IsPlain};
-ghost use Rattle.posting_store.specs.Walks.{postings_from, first_doc, first_weight, HasPosting, IsPlace};
+ghost use Rattle.posting_store.specs.Walks.{postings_from, first_doc, first_weight, HasPosting, IsListPlace};
 
 use crate::posting::Posting;
 use attr_types::Doc;
@@ -28,7 +28,7 @@ pub fn walk<const OFFSET_BITS: u32, F: Frozen<OFFSET_BITS>>(
 ) -> PostingCursor<OFFSET_BITS>
     requires list { IsList (F.records frozen.old) list }
     requires plain { IsPlain list }
-    ensures place { IsPlace (F.records frozen.old) result }
+    ensures place { IsListPlace (F.records frozen.old) result }
     ensures postings { postings_from (F.records frozen.old) result ≡ list_at (F.records frozen.old) list }
     ensures same { frozen.new ≡ frozen.old }
 {
@@ -71,7 +71,7 @@ impl<const OFFSET_BITS: u32> PostingCursor<OFFSET_BITS> {
     pub fn at_end(&self) -> bool
         ensures posting { IsTrue result ↔ ¬ HasPosting self.now }
         ensures follows { result ≡ false → HasPosting self.now }
-        ensures postings { (m : Records) → IsPlace m self.now → IsTrue result ↔ (postings_from m self.now ≡ []) }
+        ensures postings { (m : Records) → IsListPlace m self.now → IsTrue result ↔ (postings_from m self.now ≡ []) }
     {
         match self {
             PostingCursor::Short { count, at, .. } => *at >= *count,
@@ -81,7 +81,7 @@ impl<const OFFSET_BITS: u32> PostingCursor<OFFSET_BITS> {
 
     /// The document that follows.
     pub fn doc<F: Frozen<OFFSET_BITS>>(&self, frozen: &mut F) -> Doc
-        requires place { IsPlace (F.records frozen.old) self.now }
+        requires place { IsListPlace (F.records frozen.old) self.now }
         requires posting { HasPosting self.now }
         ensures doc { result ≡ first_doc (postings_from (F.records frozen.old) self.now) }
         ensures same { frozen.new ≡ frozen.old }
@@ -96,7 +96,7 @@ impl<const OFFSET_BITS: u32> PostingCursor<OFFSET_BITS> {
 
     /// Its weight.
     pub fn weight<F: Frozen<OFFSET_BITS>>(&self, frozen: &mut F) -> i32
-        requires place { IsPlace (F.records frozen.old) self.now }
+        requires place { IsListPlace (F.records frozen.old) self.now }
         requires posting { HasPosting self.now }
         ensures weight { result ≡ first_weight (postings_from (F.records frozen.old) self.now) }
         ensures same { frozen.new ≡ frozen.old }
@@ -111,9 +111,9 @@ impl<const OFFSET_BITS: u32> PostingCursor<OFFSET_BITS> {
 
     /// Goes on behind one document.
     pub fn next<F: Frozen<OFFSET_BITS>>(&mut self, frozen: &mut F)
-        requires place { IsPlace (F.records frozen.old) self.old }
+        requires place { IsListPlace (F.records frozen.old) self.old }
         requires posting { HasPosting self.old }
-        ensures place { IsPlace (F.records frozen.old) self.new }
+        ensures place { IsListPlace (F.records frozen.old) self.new }
         ensures postings { postings_from (F.records frozen.old) self.new ≡ drop 1 (postings_from (F.records frozen.old) self.old) }
         ensures same { frozen.new ≡ frozen.old }
     {

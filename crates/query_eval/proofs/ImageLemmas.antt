@@ -18,7 +18,7 @@ use Rattle.attr_images.specs.Shapes.{shape_of, types_of}
 use Rattle.attr_images.specs.Values.{stored_value}
 use Rattle.attr_images.proofs.ImageLemmas.{table_lawful, field_is_there, roots_there}
 use Rattle.attr_images.proofs.RootLemmas.{root_has_words}
-use Rattle.doc_set.specs.Postings.{AreDocuments}
+use Rattle.doc_set.specs.Postings.{HaveDocNumbers}
 use Rattle.doc_set.specs.Sets.{Holds}
 use Rattle.query_index.proofs.FoundLemmas.{found_are_hits, index_lists_documents}
 use Rattle.query_index.specs.Found.{found, AreIndexesFrom}
@@ -26,7 +26,7 @@ use Rattle.query_leaves.specs.Parts.{AreIndexPairs, IsIndexed}
 use Rattle.query_eval.specs.Indexes.{AreIndexed, HasDictionaries, dictionaries_at, indexes_in}
 
 are_pairs : (type : ValueType) (m : Records) (ps : List (ℕ × ℕ)) → AllByRecursion (IsDictionaryEntry type m) ps
-    → AllByRecursion {X = Value × List (ℕ × ℤ)} (λ e. AreDocuments e.1) (map (λ p. (stored_value type m p.0, postings_at m (list_form p.1))) ps) → AreIndexPairs type m ps
+    → AllByRecursion {X = Value × List (ℕ × ℤ)} (λ e. HaveDocNumbers e.1) (map (λ p. (stored_value type m p.0, postings_at m (list_form p.1))) ps) → AreIndexPairs type m ps
 are_pairs type m [] entries documents = tt
 are_pairs type m (p ∷ ps) entries documents = (record { entry = entries.0; documents = documents.0 }, are_pairs type m ps entries.1 documents.1)
 

@@ -4,7 +4,7 @@ use Rattle.std.specs.Prelude.{slice_get}
 use Rattle.std.proofs.lemmas.List.{drop_all, at_drop_more}
 use Rattle.std.proofs.lemmas.Option.{slice_get_read}
 use Rattle.attr_index.specs.Index.{Index}
-use Rattle.attr_types.specs.Query.{and, tree_of, trees_of}
+use Rattle.attr_types.specs.Query.{and, tree_of, query_trees}
 use Rattle.attr_types.specs.declared.query.Query.{Query}
 use Rattle.doc_set.specs.Sets.{has, Holds}
 use Rattle.query_index.specs.Found.{found, found_all, is_listed}
@@ -13,11 +13,11 @@ use Rattle.query_eval.specs.Indexes.{AreMatched, IsMatched}
 module _ (indexes : List Index) (doc : ℕ) where
   -- what all members match a member does
   member_found : (queries : List Query) (n : ℕ) (query : Query) → slice_get queries n ≡ Some query
-      → (found (tree_of query) indexes doc && found_all (trees_of queries) indexes doc) ≡ found_all (trees_of queries) indexes doc
+      → (found (tree_of query) indexes doc && found_all (query_trees queries) indexes doc) ≡ found_all (query_trees queries) indexes doc
   member_found [] n query at = absurd (grind (arith, at))
   member_found (q ∷ queries) zero query at =
-      ap (λ (r : Query). found (tree_of r) indexes doc && found_all (trees_of (q ∷ queries)) indexes doc) (some_same query q (sym at))
-      ∙ twice (found (tree_of q) indexes doc) (found_all (trees_of queries) indexes doc)
+      ap (λ (r : Query). found (tree_of r) indexes doc && found_all (query_trees (q ∷ queries)) indexes doc) (some_same query q (sym at))
+      ∙ twice (found (tree_of q) indexes doc) (found_all (query_trees queries) indexes doc)
     where
       some_same : (a b : Query) → Some a ≡ Some b → a ≡ b
       some_same a b e = cc
@@ -26,7 +26,7 @@ module _ (indexes : List Index) (doc : ℕ) where
       twice true b = refl
       twice false b = refl
   member_found (q ∷ queries) (suc n) query at =
-      inside (found (tree_of query) indexes doc) (found (tree_of q) indexes doc) (found_all (trees_of queries) indexes doc)
+      inside (found (tree_of query) indexes doc) (found (tree_of q) indexes doc) (found_all (query_trees queries) indexes doc)
       (member_found queries n query at)
     where
       inside : (a b c : Bool) → (a && c) ≡ c → (a && (b && c)) ≡ (b && c)
@@ -35,34 +35,34 @@ module _ (indexes : List Index) (doc : ℕ) where
       inside false false c h = refl
 
   and_found : (queries : List Query) (n : ℕ) (query : Query) → slice_get queries n ≡ Some query
-      → found_all (trees_of queries) indexes doc ≡ found (and (trees_of queries)) indexes doc
+      → found_all (query_trees queries) indexes doc ≡ found (and (query_trees queries)) indexes doc
   and_found [] n query at = absurd (grind (arith, at))
   and_found (q ∷ queries) n query at = refl
 
   -- the documents of one member that all match
   common_found : (queries : List Query) (n : ℕ) (query : Query) (common docs : List ℕ) → slice_get queries n ≡ Some query
-      → has docs doc ≡ found (tree_of query) indexes doc → has common doc ≡ (has docs doc && found_all (trees_of queries) indexes doc)
-      → has common doc ≡ found (and (trees_of queries)) indexes doc
+      → has docs doc ≡ found (tree_of query) indexes doc → has common doc ≡ (has docs doc && found_all (query_trees queries) indexes doc)
+      → has common doc ≡ found (and (query_trees queries)) indexes doc
   common_found queries n query common docs at own is =
-      is ∙ ap (λ b. b && found_all (trees_of queries) indexes doc) own
+      is ∙ ap (λ b. b && found_all (query_trees queries) indexes doc) own
       ∙ member_found queries n query at ∙ and_found queries n query at
 
   -- without members
   pub none_found : (queries : List Query) (n : ℕ) → (0 < length queries → n < length queries) → length queries ≤ n
-      → is_listed indexes doc ≡ found (and (trees_of queries)) indexes doc
+      → is_listed indexes doc ≡ found (and (query_trees queries)) indexes doc
   none_found [] n within past = refl
   none_found (q ∷ queries) n within past = let below = within (omega arith) in absurd (omega (arith, below, past))
 
   -- one member more
   member_more : (queries : List Query) (n : ℕ) (query : Query) (common next all : Bool) → n < length queries → query ≡ get_or queries n query
       → next ≡ (common && found (tree_of query) indexes doc)
-      → (common && found_all (trees_of (drop n queries)) indexes doc) ≡ all
-      → (next && found_all (trees_of (drop (n + 1) queries)) indexes doc) ≡ all
+      → (common && found_all (query_trees (drop n queries)) indexes doc) ≡ all
+      → (next && found_all (query_trees (drop (n + 1) queries)) indexes doc) ≡ all
   member_more queries n query common next all within item narrows whole =
-      ap (λ b. b && found_all (trees_of (drop (n + 1) queries)) indexes doc) narrows
-      ∙ apart common (found (tree_of query) indexes doc) (found_all (trees_of (drop (n + 1) queries)) indexes doc)
-      ∙ ap (λ q. common && (found (tree_of q) indexes doc && found_all (trees_of (drop (n + 1) queries)) indexes doc)) item
-      ∙ sym (at_drop_more (λ qs. common && found_all (trees_of qs) indexes doc) queries n query within)
+      ap (λ b. b && found_all (query_trees (drop (n + 1) queries)) indexes doc) narrows
+      ∙ apart common (found (tree_of query) indexes doc) (found_all (query_trees (drop (n + 1) queries)) indexes doc)
+      ∙ ap (λ q. common && (found (tree_of q) indexes doc && found_all (query_trees (drop (n + 1) queries)) indexes doc)) item
+      ∙ sym (at_drop_more (λ qs. common && found_all (query_trees qs) indexes doc) queries n query within)
       ∙ whole
     where
       apart : (a b c : Bool) → ((a && b) && c) ≡ (a && (b && c))
@@ -71,9 +71,9 @@ module _ (indexes : List Index) (doc : ℕ) where
 
   -- at the end, and where none is left
   pub all_members : (queries : List Query) (n : ℕ) (common all : Bool) → length queries ≤ n
-      → (common && found_all (trees_of (drop n queries)) indexes doc) ≡ all → common ≡ all
+      → (common && found_all (query_trees (drop n queries)) indexes doc) ≡ all → common ≡ all
   all_members queries n common all past whole =
-      and_true common ∙ ap (λ rest. common && found_all (trees_of rest) indexes doc) (sym (drop_all n queries past)) ∙ whole
+      and_true common ∙ ap (λ rest. common && found_all (query_trees rest) indexes doc) (sym (drop_all n queries past)) ∙ whole
     where
       and_true : (b : Bool) → b ≡ (b && true)
       and_true true = refl
@@ -94,8 +94,8 @@ module _ (indexes : List Index) where
   -- the documents of one member, and those of them that all match
   pub common_of : (queries : List Query) (n : ℕ) (query : Query) (common docs : List ℕ) → slice_get queries n ≡ Some query
       → Holds docs (found (tree_of query) indexes)
-      → (AreMatched docs (slice_get queries n) indexes → (doc : ℕ) → has common doc ≡ (has docs doc && found_all (trees_of queries) indexes doc))
-      → (doc : ℕ) → has common doc ≡ found (and (trees_of queries)) indexes doc
+      → (AreMatched docs (slice_get queries n) indexes → (doc : ℕ) → has common doc ≡ (has docs doc && found_all (query_trees queries) indexes doc))
+      → (doc : ℕ) → has common doc ≡ found (and (query_trees queries)) indexes doc
   common_of queries n query common docs at holds are doc =
       common_found indexes doc queries n query common docs at (holds.exact doc)
       (are (subst (λ o. AreMatched docs o indexes) (sym at) (λ other there. sym (holds.exact other) ∙ there)) doc)
@@ -104,7 +104,7 @@ module _ (indexes : List Index) where
   abbrev pub IsCommon : List Query → ℕ → List ℕ → List ℕ → ℕ → Type 0
   IsCommon queries n docs common doc =
       (has common doc ≡ true → has docs doc ≡ true)
-      × ((has common doc && found_all (trees_of (drop n queries)) indexes doc) ≡ (has docs doc && found_all (trees_of queries) indexes doc))
+      × ((has common doc && found_all (query_trees (drop n queries)) indexes doc) ≡ (has docs doc && found_all (query_trees queries) indexes doc))
 
   pub one_more : (queries : List Query) (n known : ℕ) (query : Query) (docs common next : List ℕ) → slice_get queries n ≡ Some query
       → n < length queries → query ≡ get_or queries n query → AreMatched docs (slice_get queries known) indexes
@@ -113,7 +113,7 @@ module _ (indexes : List Index) where
       → (doc : ℕ) → IsCommon queries (n + 1) docs next doc
   one_more queries n known query docs common next at within item matched before narrows doc = (
     λ there. (before doc).0 (left (has common doc) (found (tree_of query) indexes doc) (sym is ∙ there)),
-    member_more indexes doc queries n query (has common doc) (has next doc) (has docs doc && found_all (trees_of queries) indexes doc) within item is (before doc).1,
+    member_more indexes doc queries n query (has common doc) (has next doc) (has docs doc && found_all (query_trees queries) indexes doc) within item is (before doc).1,
   )
     where
       left : (a b : Bool) → (a && b) ≡ true → a ≡ true

@@ -1,6 +1,6 @@
 //! A query, by the dictionaries of the attributes.
 ghost use Rattle.std.specs.Prelude.{◌≡◌, ◌||◌, ◌&&◌, ℕ, IfOk, slice_get};
-ghost use Rattle.attr_types.specs.Query.{tree_of, trees_of, and, or, one};
+ghost use Rattle.attr_types.specs.Query.{tree_of, query_trees, and, or, one};
 ghost use Rattle.doc_set.specs.Gathers.{is_in};
 ghost use Rattle.doc_set.specs.Sets.{has, Holds};
 ghost use Rattle.query_index.specs.Found.{found, found_all, is_listed};
@@ -159,7 +159,7 @@ fn gather_some<const OFFSET_BITS: u32, F: Frozen<OFFSET_BITS>>(
 ) -> Result<Gathered, AllocError>
     requires { AreIndexed OFFSET_BITS (F.records frozen.old) dictionaries.now }
     ensures docs { IfOk result (λ all. (doc : ℕ) → is_in all doc
-        ≡ (is_in gathered doc || found (or (trees_of queries.now.items)) (indexes_in OFFSET_BITS (F.records frozen.old) dictionaries.now) doc)) }
+        ≡ (is_in gathered doc || found (or (query_trees queries.now.items)) (indexes_in OFFSET_BITS (F.records frozen.old) dictionaries.now) doc)) }
     ensures same { frozen.new ≡ frozen.old }
 {
     let mut all = gathered;
@@ -225,7 +225,7 @@ fn gather_common<const OFFSET_BITS: u32, F: Frozen<OFFSET_BITS>>(
 ) -> Result<Gathered, AllocError>
     requires { AreIndexed OFFSET_BITS (F.records frozen.old) dictionaries.now }
     ensures docs { IfOk result (λ all. (doc : ℕ) → is_in all doc
-        ≡ (is_in gathered doc || found (and (trees_of queries.now.items)) (indexes_in OFFSET_BITS (F.records frozen.old) dictionaries.now) doc)) }
+        ≡ (is_in gathered doc || found (and (query_trees queries.now.items)) (indexes_in OFFSET_BITS (F.records frozen.old) dictionaries.now) doc)) }
     ensures same { frozen.new ≡ frozen.old }
 {
     let first = shortest_of(frozen, dictionaries, queries.as_slice());
@@ -253,7 +253,7 @@ fn keep_common<const OFFSET_BITS: u32, F: Frozen<OFFSET_BITS>>(
     ensures docs { IfOk result (λ common.
         AreMatched docs (slice_get queries.now.items known) (indexes_in OFFSET_BITS (F.records frozen.old) dictionaries.now)
         → (doc : ℕ) → has common doc
-        ≡ (has docs doc && found_all (trees_of queries.now.items) (indexes_in OFFSET_BITS (F.records frozen.old) dictionaries.now) doc)) }
+        ≡ (has docs doc && found_all (query_trees queries.now.items) (indexes_in OFFSET_BITS (F.records frozen.old) dictionaries.now) doc)) }
     ensures same { frozen.new ≡ frozen.old }
 {
     let mut common = docs;

@@ -28,8 +28,8 @@ use Rattle.attr_types.specs.declared.query.Leaf.{Leaf}
 use Rattle.attr_types.specs.declared.query.Leaf.TheVariants.{Range}
 use Rattle.attr_types.specs.declared.value.Value.{Value}
 use Rattle.doc_set.proofs.DocLemmas.{same_ascending, same_bool, ascends_from_sorted}
-use Rattle.doc_set.specs.Postings.{AreDocuments}
-use Rattle.doc_set.specs.Sets.{has, Ascends, Holds}
+use Rattle.doc_set.specs.Postings.{HaveDocNumbers}
+use Rattle.doc_set.specs.Sets.{has, IsAscending, Holds}
 use Rattle.query_index.specs.Found.{AreIndexesFrom, index_at, is_listed, found, found_all, found_some}
 use Rattle.query_index.specs.Leaves.{listed, meeting}
 
@@ -161,7 +161,7 @@ meet_at p q true a b c none is =
     ∙ ands _ _ _ _ (ap (λ x. (p && true) || x) (sym off.0)) (ap (λ x. (q && true) || x) (sym off.1))
 meet_at p q false a b c none is = ap (λ x. ((p && q) && false) || x) is ∙ met_later p q a b
 
-at_and : {A : Type 0} (p q : A → Bool) (table : List (ℕ × A)) (doc : ℕ) → Ascends (keys_of table)
+at_and : {A : Type 0} (p q : A → Bool) (table : List (ℕ × A)) (doc : ℕ) → IsAscending (keys_of table)
     → at (λ items. p items && q items) table doc ≡ (at p table doc && at q table doc)
 at_and p q [] doc up = refl
 at_and p q (r ∷ table) doc up =
@@ -432,7 +432,7 @@ with_items t ts d = told (list_any has_items d) refl
 
 module _ (fields : List Field) (table : Table) (lawful : AllByRecursion (λ e. IsLawfulDocument fields e.1) table)
     (indexes : List Index) (doc : ℕ) (are : AreIndexesFrom 0 table indexes) (all : length indexes ≡ length fields)
-    (up : Ascends (keys_of table)) where
+    (up : IsAscending (keys_of table)) where
   mutual
     pub found_at : (t : QueryTree) → found t indexes doc ≡ at (matches t) table doc
     found_at (one field leaf) = leaf_in fields table lawful indexes field leaf doc are all
@@ -484,13 +484,13 @@ with_documents value (r ∷ table) all =
     cond_documents (find (λ item. is_eq (value_cmp value item.value)) r.1) r.0 (documents_with value table) all.0 (with_documents value table all.1)
 
 lists_documents : (index : Index) (column : Column) → AllByRecursion IsDocNumber (keys_of column)
-    → AllByRecursion (λ e. e.1 ≡ documents_with e.0 column) index → AllByRecursion (λ e. AreDocuments e.1) index
+    → AllByRecursion (λ e. e.1 ≡ documents_with e.0 column) index → AllByRecursion (λ e. HaveDocNumbers e.1) index
 lists_documents [] column all lists = tt
 lists_documents (e ∷ index) column all lists = (
-  subst AreDocuments (sym lists.0) (with_documents e.0 column all),
+  subst HaveDocNumbers (sym lists.0) (with_documents e.0 column all),
   lists_documents index column all lists.1,
 )
 
 pub index_lists_documents : (kind : Kind) (column : Column) (index : Index) → IsLawfulColumn kind column → IsIndexOf column index
-    → AllByRecursion (λ e. AreDocuments e.1) index
+    → AllByRecursion (λ e. HaveDocNumbers e.1) index
 index_lists_documents kind column index lawful is = lists_documents index column lawful.numbers (has_lists column index is)

@@ -19,7 +19,7 @@ use Rattle.attr_types.specs.declared.value.Value.{Value}
 use Rattle.attr_types.specs.declared.value.Value.TheVariants as values
 use Rattle.doc_set.proofs.BitLemmas.{by_cases}
 use Rattle.attr_index.specs.Index.{Index}
-use Rattle.query_index.specs.Leaves.{is_before, is_beyond, meeting, from, run, sought, seek, from_sought}
+use Rattle.query_index.specs.Leaves.{stands_before, stands_beyond, meeting, from, run, sought, from_value, from_sought}
 
 -- ---- the order
 lt_up : (a b w : Value) → is_lt (value_cmp a w) ≡ false → value_cmp a b ≡ Less → is_lt (value_cmp b w) ≡ false
@@ -124,7 +124,7 @@ and_same false false apart = refl
 both_ap : (a b c d : Bool) → a ≡ b → c ≡ d → (a && c) ≡ (b && d)
 both_ap a b c d first second = cc
 
-meets_is : (leaf : Leaf) (v : Value) → meets leaf v ≡ (not (is_before leaf v) && not (is_beyond leaf v))
+meets_is : (leaf : Leaf) (v : Value) → meets leaf v ≡ (not (stands_before leaf v) && not (stands_beyond leaf v))
 meets_is (Is w) v = opposite w v is_eq (λ r. not (is_lt r) && not (is_lt (ordering_reverse r))) only_back
     ∙ ap (λ r. not (is_lt (value_cmp v w)) && not (is_lt r)) (sym (value_cmp_total.antisymm w v))
   where
@@ -145,7 +145,7 @@ meets_is (Below high) v = opposite v high is_lt (λ r. not (is_le r)) not_upto
 meets_is (Above low) v = opposite low v is_lt (λ r. not (is_le r)) not_upto ∙ and_true (not (is_le (value_cmp v low)))
 
 -- what is above a value that is not before is not before
-before_up : (leaf : Leaf) (a b : Value) → is_before leaf a ≡ false → value_cmp a b ≡ Less → is_before leaf b ≡ false
+before_up : (leaf : Leaf) (a b : Value) → stands_before leaf a ≡ false → value_cmp a b ≡ Less → stands_before leaf b ≡ false
 before_up (Is w) a b off below = lt_up a b w off below
 before_up (Prefix bytes) a b off below = lt_up a b (values.Text bytes) off below
 before_up (Range None high) a b off below = refl
@@ -154,8 +154,8 @@ before_up (Below high) a b off below = refl
 before_up (Above low) a b off below = le_up a b low off below
 
 -- what is above a value that is beyond is beyond
-beyond_up : (leaf : Leaf) (a b : Value) → is_before leaf a ≡ false → is_beyond leaf a ≡ true → value_cmp a b ≡ Less
-    → is_beyond leaf b ≡ true
+beyond_up : (leaf : Leaf) (a b : Value) → stands_before leaf a ≡ false → stands_beyond leaf a ≡ true → value_cmp a b ≡ Less
+    → stands_beyond leaf b ≡ true
 beyond_up (Is w) a b off on below = lt_on w a b on below
 beyond_up (Prefix bytes) (values.Text a) (values.Text b) off on below =
     by_cases (starts_with nat_eq b bytes)
@@ -179,30 +179,30 @@ and_off : (b : Bool) → (b && false) ≡ false
 and_off true = refl
 and_off false = refl
 
-off_beyond : (leaf : Leaf) (v : Value) → is_beyond leaf v ≡ true → meets leaf v ≡ false
+off_beyond : (leaf : Leaf) (v : Value) → stands_beyond leaf v ≡ true → meets leaf v ≡ false
 off_beyond leaf v on =
-    meets_is leaf v ∙ ap (λ b. not (is_before leaf v) && not b) on ∙ and_off (not (is_before leaf v))
+    meets_is leaf v ∙ ap (λ b. not (stands_before leaf v) && not b) on ∙ and_off (not (stands_before leaf v))
 
-off_before : (leaf : Leaf) (v : Value) → is_before leaf v ≡ true → meets leaf v ≡ false
-off_before leaf v on = meets_is leaf v ∙ ap (λ b. not b && not (is_beyond leaf v)) on
+off_before : (leaf : Leaf) (v : Value) → stands_before leaf v ≡ true → meets leaf v ≡ false
+off_before leaf v on = meets_is leaf v ∙ ap (λ b. not b && not (stands_beyond leaf v)) on
 
-on_between : (leaf : Leaf) (v : Value) → is_before leaf v ≡ false → is_beyond leaf v ≡ false → meets leaf v ≡ true
+on_between : (leaf : Leaf) (v : Value) → stands_before leaf v ≡ false → stands_beyond leaf v ≡ false → meets leaf v ≡ true
 on_between leaf v first last =
-    meets_is leaf v ∙ ap (λ b. not b && not (is_beyond leaf v)) first ∙ ap not last
+    meets_is leaf v ∙ ap (λ b. not b && not (stands_beyond leaf v)) first ∙ ap not last
 
-none_meet : (leaf : Leaf) (es : Index) → AllByRecursion (λ e. is_beyond leaf e.0 ≡ true) es → [] ≡ meeting leaf es
+none_meet : (leaf : Leaf) (es : Index) → AllByRecursion (λ e. stands_beyond leaf e.0 ≡ true) es → [] ≡ meeting leaf es
 none_meet leaf [] all = refl
 none_meet leaf (e ∷ es) all =
     none_meet leaf es all.1 ∙ sym (ap (λ b. cond b (e ∷ meeting leaf es) (meeting leaf es)) (off_beyond leaf e.0 all.0))
 
-run_all : (leaf : Leaf) (es : Index) → AllByRecursion (λ e. is_before leaf e.0 ≡ false) es
+run_all : (leaf : Leaf) (es : Index) → AllByRecursion (λ e. stands_before leaf e.0 ≡ false) es
     → IsStrictlySortedBy value_cmp (keys_of es) → run leaf es ≡ meeting leaf es
 unfolding IsStrictlySortedBy
 run_all leaf [] all up = refl
-run_all leaf (e ∷ es) all up = by_cases (is_beyond leaf e.0)
+run_all leaf (e ∷ es) all up = by_cases (stands_beyond leaf e.0)
     (λ on. ap (λ b. if b then [] else (e ∷ run leaf es)) on
     ∙ none_meet leaf (e ∷ es)
-    (on, all_up (λ v. is_beyond leaf v ≡ true) e.0 (λ b below. beyond_up leaf e.0 b all.0 on below) es up.0))
+    (on, all_up (λ v. stands_beyond leaf v ≡ true) e.0 (λ b below. beyond_up leaf e.0 b all.0 on below) es up.0))
     (λ off. ap (λ b. if b then [] else (e ∷ run leaf es)) off
     ∙ ap (λ xs. e ∷ xs) (run_all leaf es all.1 up.1)
     ∙ sym (ap (λ b. cond b (e ∷ meeting leaf es) (meeting leaf es)) (on_between leaf e.0 all.0 off)))
@@ -211,13 +211,13 @@ pub run_is_filter : (es : Index) (leaf : Leaf) → IsStrictlySortedBy value_cmp 
     → run leaf (from leaf es) ≡ meeting leaf es
 unfolding IsStrictlySortedBy
 run_is_filter [] leaf up = refl
-run_is_filter (e ∷ es) leaf up = by_cases (is_before leaf e.0)
+run_is_filter (e ∷ es) leaf up = by_cases (stands_before leaf e.0)
     (λ on. ap (λ b. run leaf (if b then from leaf es else (e ∷ es))) on
     ∙ run_is_filter es leaf up.1
     ∙ sym (ap (λ b. cond b (e ∷ meeting leaf es) (meeting leaf es)) (off_before leaf e.0 on)))
     (λ off. ap (λ b. run leaf (if b then from leaf es else (e ∷ es))) off
     ∙ run_all leaf (e ∷ es)
-    (off, all_up (λ v. is_before leaf v ≡ false) e.0 (λ b below. before_up leaf e.0 b off below) es up.0) up)
+    (off, all_up (λ v. stands_before leaf v ≡ false) e.0 (λ b below. before_up leaf e.0 b off below) es up.0) up)
 
 -- ---- a walk that begins at the value sought
 lt_le : (r : Ordering) → is_lt r ≡ true → is_le r ≡ true
@@ -225,7 +225,7 @@ lt_le Less is = refl
 lt_le Equal is = cc
 lt_le Greater is = cc
 
-sought_before : (leaf : Leaf) (low v : Value) → sought leaf ≡ Some low → is_lt (value_cmp v low) ≡ true → is_before leaf v ≡ true
+sought_before : (leaf : Leaf) (low v : Value) → sought leaf ≡ Some low → is_lt (value_cmp v low) ≡ true → stands_before leaf v ≡ true
 sought_before (Is w) low v is below = let same : w ≡ low = cc in subst (λ x. is_lt (value_cmp v x) ≡ true) (sym same) below
 sought_before (Prefix bytes) low v is below =
     let same : values.Text bytes ≡ low = cc in subst (λ x. is_lt (value_cmp v x) ≡ true) (sym same) below
@@ -237,12 +237,12 @@ sought_before (Above w) low v is below =
     let same : w ≡ low = cc in
     subst (λ x. is_le (value_cmp v x) ≡ true) (sym same) (lt_le (value_cmp v low) below)
 
-from_seek : (leaf : Leaf) (low : Value) → sought leaf ≡ Some low → (es : Index) → from leaf (seek low es) ≡ from leaf es
+from_seek : (leaf : Leaf) (low : Value) → sought leaf ≡ Some low → (es : Index) → from leaf (from_value low es) ≡ from leaf es
 from_seek leaf low is [] = refl
 from_seek leaf low is (e ∷ es) = by_cases (is_lt (value_cmp e.0 low))
-    (λ on. ap (λ b. from leaf (if b then seek low es else (e ∷ es))) on ∙ from_seek leaf low is es
+    (λ on. ap (λ b. from leaf (if b then from_value low es else (e ∷ es))) on ∙ from_seek leaf low is es
     ∙ sym (ap (λ b. if b then from leaf es else (e ∷ es)) (sought_before leaf low e.0 is on)))
-    (λ off. ap (λ b. from leaf (if b then seek low es else (e ∷ es))) off)
+    (λ off. ap (λ b. from leaf (if b then from_value low es else (e ∷ es))) off)
 
 from_option : (leaf : Leaf) (o : Option Value) → sought leaf ≡ o → (es : Index) → from leaf (from_sought o es) ≡ from leaf es
 from_option leaf None is es = refl

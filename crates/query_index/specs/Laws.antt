@@ -12,7 +12,7 @@ use Rattle.attr_types.specs.Value.{value_cmp}
 use Rattle.attr_types.specs.declared.field.Field.{Field}
 use Rattle.attr_types.specs.declared.kind.Kind.{Kind}
 use Rattle.attr_types.specs.declared.query.Leaf.{Leaf}
-use Rattle.doc_set.specs.Postings.{AreDocuments}
+use Rattle.doc_set.specs.Postings.{HaveDocNumbers}
 use Rattle.doc_set.specs.Sets.{Holds}
 use Rattle.query_index.specs.Found.{AreIndexesFrom, found}
 use Rattle.query_index.specs.Leaves.{meeting, from, run, sought, from_sought}
@@ -35,4 +35,4 @@ SoughtIsFilter = (index : Index) (leaf : Leaf) → IsStrictlySortedBy value_cmp 
 
 abbrev pub IndexListsDocuments : Type 0
 IndexListsDocuments = (kind : Kind) (column : Column) (index : Index) → IsLawfulColumn kind column → IsIndexOf column index
-    → AllByRecursion (λ e. AreDocuments e.1) index
+    → AllByRecursion (λ e. HaveDocNumbers e.1) index

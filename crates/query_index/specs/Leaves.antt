@@ -20,31 +20,31 @@ abbrev pub meeting : Leaf → Index → Index
 meeting leaf index = filter (λ e. meets leaf e.0) index
 
 -- a value stands before those that meet a leaf, or behind them
-abbrev pub is_before : Leaf → Value → Bool
-is_before (Is wanted) value = is_lt (value_cmp value wanted)
-is_before (Prefix bytes) value = is_lt (value_cmp value (values.Text bytes))
-is_before (Range None high) value = false
-is_before (Range (Some low) high) value = is_lt (value_cmp value low)
-is_before (Below high) value = false
-is_before (Above low) value = is_le (value_cmp value low)
+abbrev pub stands_before : Leaf → Value → Bool
+stands_before (Is wanted) value = is_lt (value_cmp value wanted)
+stands_before (Prefix bytes) value = is_lt (value_cmp value (values.Text bytes))
+stands_before (Range None high) value = false
+stands_before (Range (Some low) high) value = is_lt (value_cmp value low)
+stands_before (Below high) value = false
+stands_before (Above low) value = is_le (value_cmp value low)
 
-abbrev pub is_beyond : Leaf → Value → Bool
-is_beyond (Is wanted) value = is_lt (value_cmp wanted value)
-is_beyond (Prefix bytes) value = not (begins_with value bytes)
-is_beyond (Range low None) value = false
-is_beyond (Range low (Some high)) value = is_lt (value_cmp high value)
-is_beyond (Below high) value = is_le (value_cmp high value)
-is_beyond (Above low) value = false
+abbrev pub stands_beyond : Leaf → Value → Bool
+stands_beyond (Is wanted) value = is_lt (value_cmp wanted value)
+stands_beyond (Prefix bytes) value = not (begins_with value bytes)
+stands_beyond (Range low None) value = false
+stands_beyond (Range low (Some high)) value = is_lt (value_cmp high value)
+stands_beyond (Below high) value = is_le (value_cmp high value)
+stands_beyond (Above low) value = false
 
 -- from the first value that is not before
 abbrev pub from : Leaf → Index → Index
 from leaf [] = []
-from leaf (e ∷ es) = if is_before leaf e.0 then from leaf es else (e ∷ es)
+from leaf (e ∷ es) = if stands_before leaf e.0 then from leaf es else (e ∷ es)
 
 -- up to the first value that is beyond
 abbrev pub run : Leaf → Index → Index
 run leaf [] = []
-run leaf (e ∷ es) = if is_beyond leaf e.0 then [] else (e ∷ run leaf es)
+run leaf (e ∷ es) = if stands_beyond leaf e.0 then [] else (e ∷ run leaf es)
 
 -- the value that a leaf's walk seeks first: none begins at the first value
 abbrev pub sought : Leaf → Option Value
@@ -55,10 +55,10 @@ sought (Below high) = None
 sought (Above low) = Some low
 
 -- from the first value that is not below one sought
-abbrev pub seek : Value → Index → Index
-seek low [] = []
-seek low (e ∷ es) = if is_lt (value_cmp e.0 low) then seek low es else (e ∷ es)
+abbrev pub from_value : Value → Index → Index
+from_value low [] = []
+from_value low (e ∷ es) = if is_lt (value_cmp e.0 low) then from_value low es else (e ∷ es)
 
 abbrev pub from_sought : Option Value → Index → Index
 from_sought None index = index
-from_sought (Some low) index = seek low index
+from_sought (Some low) index = from_value low index

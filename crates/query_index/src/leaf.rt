@@ -2,7 +2,7 @@
 ghost use Rattle.std.specs.Prelude.{◌≡◌};
 ghost use Rattle.attr_types.specs.Query.{begins_with};
 ghost use Rattle.attr_types.specs.declared.query.Leaf.TheVariants.{Prefix};
-ghost use Rattle.query_index.specs.Leaves.{is_before as stands_before, is_beyond as stands_beyond};
+ghost use Rattle.query_index.specs.Leaves.{stands_before, stands_beyond};
 
 use attr_types::{Leaf, Text, Value, compare};
 

@@ -9,11 +9,11 @@ use Rattle.attr_images.specs.Postings.{vector, list_form, block_documents, IsBlo
 use Rattle.attr_images.specs.Words.{weight_of}
 use Rattle.attr_images.specs.declared.TheConstants.{FIRST_VECTOR}
 use Rattle.attr_types.specs.Lawful.{IsDocNumber}
-use Rattle.doc_set.specs.Postings.{AreDocuments}
+use Rattle.doc_set.specs.Postings.{HaveDocNumbers}
 use Rattle.query_leaves.specs.Blocks.{IsDocumentBlock, documents_of}
 use Rattle.query_leaves.proofs.BlockLemmas.{block_small, all_has}
 
-pub tree_documents : (ps : List (ℕ × ℕ)) → AreDocuments (map (λ p. (p.0, weight_of p.1)) ps) → AllByRecursion (λ p. IsDocNumber p.0) ps
+pub tree_documents : (ps : List (ℕ × ℕ)) → HaveDocNumbers (map (λ p. (p.0, weight_of p.1)) ps) → AllByRecursion (λ p. IsDocNumber p.0) ps
 tree_documents [] all = tt
 tree_documents (p ∷ ps) all = (all.0, tree_documents ps all.1)
 
@@ -21,7 +21,7 @@ pub tree_keys : (ps : List (ℕ × ℕ)) → keys_of ps ≡ keys_of (map (λ p. 
 tree_keys [] = refl
 tree_keys (p ∷ ps) = ap (λ ks. p.0 ∷ ks) (tree_keys ps)
 
-pub vector_numbers : (docs : List ℕ) → AreDocuments (map (λ doc. (doc, pos 1)) docs) → AllByRecursion IsDocNumber docs
+pub vector_numbers : (docs : List ℕ) → HaveDocNumbers (map (λ doc. (doc, pos 1)) docs) → AllByRecursion IsDocNumber docs
 vector_numbers [] all = tt
 vector_numbers (doc ∷ docs) all = (all.0, vector_numbers docs all.1)
 

@@ -20,10 +20,10 @@ use Rattle.attr_types.specs.declared.kind.ValueType.TheVariants as types
 use Rattle.attr_types.specs.declared.query.Leaf.{Leaf}
 use Rattle.attr_types.specs.declared.value.Value.{Value}
 use Rattle.attr_types.specs.declared.value.Value.TheVariants as values
-use Rattle.enum_dictionary.specs.Dictionaries.{IsDictionary, beside}
+use Rattle.enum_dictionary.specs.Dictionaries.{IsDictionary, beside_value}
 use Rattle.enum_dictionary.proofs.BehindLemmas.{All-seek}
 use Rattle.query_index.proofs.RunLemmas.{run_is_filter, sought_is_filter}
-use Rattle.query_index.specs.Leaves.{from, is_beyond, listed, meeting, run, seek, sought, from_sought}
+use Rattle.query_index.specs.Leaves.{from, stands_beyond, listed, meeting, run, from_value, sought, from_sought}
 use Rattle.doc_set.specs.Sets.{has}
 use Rattle.query_leaves.specs.Parts.{IsIndexPair, AreIndexPairs, IsIndexed, part_of}
 
@@ -64,7 +64,7 @@ module _ (type : ValueType) (m : Records) where
   one_step Greater p ps found rest is = refl
 
   part_seek : (low : Value) (ps : List (ℕ × ℕ))
-      → part_of type m (tree_seek (λ k. value_cmp (stored_value type m k) low) ps) ≡ seek low (part_of type m ps)
+      → part_of type m (tree_seek (λ k. value_cmp (stored_value type m k) low) ps) ≡ from_value low (part_of type m ps)
   part_seek low [] = refl
   part_seek low (p ∷ ps) = one_step (value_cmp (stored_value type m p.0) low) p ps _ _ (part_seek low ps)
 
@@ -88,19 +88,19 @@ module _ (type : ValueType) (m : Records) where
           all_keys [] all = tt
           all_keys (p ∷ ps) all = (all.0.entry.0, all_keys ps all.1)
 
-      sought_pairs : tree_seek (beside low m) (tree_pairs m root) ≡ tree_seek (λ k. value_cmp (stored_value type m k) low) (tree_pairs m root)
+      sought_pairs : tree_seek (beside_value low m) (tree_pairs m root) ≡ tree_seek (λ k. value_cmp (stored_value type m k) low) (tree_pairs m root)
       sought_pairs = ap (λ t. tree_seek (λ k. value_cmp (stored_value t m k) low) (tree_pairs m root)) typed
 
       -- a walk from a value on that is sought
-      pub sought_run : (leaf : Leaf) (ps : List (ℕ × ℕ)) → ps ≡ tree_seek (beside low m) (tree_pairs m root) → sought leaf ≡ Some low
+      pub sought_run : (leaf : Leaf) (ps : List (ℕ × ℕ)) → ps ≡ tree_seek (beside_value low m) (tree_pairs m root) → sought leaf ≡ Some low
           → run leaf (from leaf (part_of type m ps)) ≡ meeting leaf (index_of type m root)
       sought_run leaf ps found seeks =
           ap (λ (part : Index). run leaf (from leaf part))
           (ap (part_of type m) (found ∙ sought_pairs) ∙ part_seek low (tree_pairs m root) ∙ ap (λ o. from_sought o (index_of type m root)) (sym seeks))
           ∙ sought_is_filter (index_of type m root) leaf ascends
 
-      pub sought_all : (ps : List (ℕ × ℕ)) → ps ≡ tree_seek (beside low m) (tree_pairs m root) → AreIndexPairs type m ps
-      sought_all ps found = subst (AreIndexPairs type m) (sym found) (All-seek (IsIndexPair type m) (beside low m) (tree_pairs m root) is.pairs)
+      pub sought_all : (ps : List (ℕ × ℕ)) → ps ≡ tree_seek (beside_value low m) (tree_pairs m root) → AreIndexPairs type m ps
+      sought_all ps found = subst (AreIndexPairs type m) (sym found) (All-seek (IsIndexPair type m) (beside_value low m) (tree_pairs m root) is.pairs)
 
   -- one list more
   joined : (a b c d more whole : Bool) → more ≡ (a || b) → c ≡ (b || d) → (a || c) ≡ whole → (more || d) ≡ whole
@@ -113,12 +113,12 @@ module _ (type : ValueType) (m : Records) where
 
   module _ (ps : List (ℕ × ℕ)) (some : ps ≢ []) (word : ℕ) (second : word ≡ first_value ps) (all more whole : ℕ → Bool)
       (gathers : (doc : ℕ) → more doc ≡ (all doc || has (keys_of (postings_at m (list_form word))) doc)) where
-    pub run_goes : (leaf : Leaf) → is_beyond leaf (stored_value type m (first_key ps)) ≡ false
+    pub run_goes : (leaf : Leaf) → stands_beyond leaf (stored_value type m (first_key ps)) ≡ false
         → ((doc : ℕ) → (all doc || has (listed (run leaf (part_of type m ps))) doc) ≡ whole doc)
         → (doc : ℕ) → (more doc || has (listed (run leaf (part_of type m (drop 1 ps)))) doc) ≡ whole doc
     run_goes leaf off before doc = told ps some second off (before doc)
       where
-        told : (ps : List (ℕ × ℕ)) → ps ≢ [] → word ≡ first_value ps → is_beyond leaf (stored_value type m (first_key ps)) ≡ false
+        told : (ps : List (ℕ × ℕ)) → ps ≢ [] → word ≡ first_value ps → stands_beyond leaf (stored_value type m (first_key ps)) ≡ false
             → (all doc || has (listed (run leaf (part_of type m ps))) doc) ≡ whole doc
             → (more doc || has (listed (run leaf (part_of type m (drop 1 ps)))) doc) ≡ whole doc
         told [] some second off before = absurd (some refl)

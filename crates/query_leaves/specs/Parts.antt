@@ -8,7 +8,7 @@ use Rattle.attr_images.specs.Values.{stored_value}
 use Rattle.attr_index.specs.Index.{Index}
 use Rattle.attr_types.specs.Value.{value_cmp}
 use Rattle.attr_types.specs.declared.kind.ValueType.{ValueType}
-use Rattle.doc_set.specs.Postings.{AreDocuments}
+use Rattle.doc_set.specs.Postings.{HaveDocNumbers}
 
 -- the values of some pairs of a dictionary, each with its list
 abbrev pub part_of : ValueType → Records → List (ℕ × ℕ) → Index
@@ -17,7 +17,7 @@ part_of type m pairs = map (λ p. (stored_value type m p.0, postings_at m (list_
 -- the records behind a pair have their form, and its list has numbers of documents
 pub record IsIndexPair (type : ValueType) (m : Records) (p : ℕ × ℕ) : Type 0 where
   pub entry : IsDictionaryEntry type m p
-  pub documents : AreDocuments (postings_at m (list_form p.1))
+  pub documents : HaveDocNumbers (postings_at m (list_form p.1))
 
 abbrev pub AreIndexPairs : ValueType → Records → List (ℕ × ℕ) → Type 0
 AreIndexPairs type m pairs = AllByRecursion (IsIndexPair type m) pairs

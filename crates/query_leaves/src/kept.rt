@@ -4,7 +4,7 @@ ghost use Rattle.std.specs.List.{AllByRecursion};
 ghost use Rattle.std.specs.Map.{keys_of};
 ghost use Rattle.attr_types.specs.Lawful.{IsDocNumber};
 ghost use Rattle.attr_images.specs.Postings.{postings_at, tree, IsPostingList};
-ghost use Rattle.doc_set.specs.Postings.{AreDocuments};
+ghost use Rattle.doc_set.specs.Postings.{HaveDocNumbers};
 ghost use Rattle.doc_set.specs.Sets.{has, in_words};
 ghost use Rattle.query_leaves.specs.Takers.{Keeps};
 
@@ -127,7 +127,7 @@ pub fn keep_marked<const OFFSET_BITS: u32, F: Frozen<OFFSET_BITS>>(
     marks: Vec<u64>,
 ) -> Result<DocList, AllocError>
     requires form { IsPostingList (F.records frozen.old) (tree root) }
-    requires documents { AreDocuments (postings_at (F.records frozen.old) (tree root)) }
+    requires documents { HaveDocNumbers (postings_at (F.records frozen.old) (tree root)) }
     ensures kept { IfOk result (λ kept. (doc : ℕ) → has kept doc
         ≡ (in_words marks.items doc && has (keys_of (postings_at (F.records frozen.old) (tree root.entry))) doc)) }
     ensures same { frozen.new ≡ frozen.old }

@@ -5,7 +5,7 @@ ghost use Rattle.attr_types.specs.Lawful.{IsDocNumber};
 ghost use Rattle.attr_images.specs.Postings.{list_form, postings_at, short, tree, IsPostingList};
 ghost use Rattle.attr_images.specs.Words.{unpacked};
 ghost use Rattle.doc_set.specs.Gathers.{is_in};
-ghost use Rattle.doc_set.specs.Postings.{AreDocuments};
+ghost use Rattle.doc_set.specs.Postings.{HaveDocNumbers};
 ghost use Rattle.doc_set.specs.Sets.{has, in_words};
 
 use crate::blocks::gather_vector;
@@ -33,7 +33,7 @@ fn doc_of(word: u64) -> Doc
 }
 
 fn push_words(docs: &mut Vec<Doc>, words: &[u64]) -> Result<(), AllocError>
-    requires { AreDocuments (map unpacked words.now) }
+    requires { HaveDocNumbers (map unpacked words.now) }
     ensures { OnOk result (docs.new.items ≡ docs.old.items ++ keys_of (map unpacked words.now)) }
 {
     for word in words {
@@ -43,7 +43,7 @@ fn push_words(docs: &mut Vec<Doc>, words: &[u64]) -> Result<(), AllocError>
 }
 
 fn insert_words(set: &mut DocSet, words: &[u64])
-    requires { AreDocuments (map unpacked words.now) }
+    requires { HaveDocNumbers (map unpacked words.now) }
     ensures { (doc : ℕ) → in_words set.new doc ≡ (in_words set.old doc || has (keys_of (map unpacked words.now)) doc) }
 {
     for word in words {
@@ -53,7 +53,7 @@ fn insert_words(set: &mut DocSet, words: &[u64])
 
 /// The documents with those of the words of a short list.
 fn with_words(alloc: Global, gathered: Gathered, words: &[u64]) -> Result<Gathered, AllocError>
-    requires { AreDocuments (map unpacked words.now) }
+    requires { HaveDocNumbers (map unpacked words.now) }
     ensures { IfOk result (λ all. (doc : ℕ) → is_in all doc
         ≡ (is_in gathered doc || has (keys_of (map unpacked words.now)) doc)) }
 {
@@ -82,7 +82,7 @@ fn gather_short<const OFFSET_BITS: u32, F: Frozen<OFFSET_BITS>>(
     gathered: Gathered,
 ) -> Result<Gathered, AllocError>
     requires form { IsPostingList (F.records frozen.old) (short list) }
-    requires documents { AreDocuments (postings_at (F.records frozen.old) (short list)) }
+    requires documents { HaveDocNumbers (postings_at (F.records frozen.old) (short list)) }
     ensures docs { IfOk result (λ all. (doc : ℕ) → is_in all doc
         ≡ (is_in gathered doc || has (keys_of (postings_at (F.records frozen.old) (short list.entry))) doc)) }
     ensures same { frozen.new ≡ frozen.old }
@@ -100,7 +100,7 @@ fn push_tree<const OFFSET_BITS: u32, F: Frozen<OFFSET_BITS>>(
     docs: Vec<Doc>,
 ) -> Result<Gathered, AllocError>
     requires form { IsPostingList (F.records frozen.old) (tree root) }
-    requires documents { AreDocuments (postings_at (F.records frozen.old) (tree root)) }
+    requires documents { HaveDocNumbers (postings_at (F.records frozen.old) (tree root)) }
     ensures docs { IfOk result (λ all. (doc : ℕ) → is_in all doc
         ≡ (has docs.items doc || has (keys_of (postings_at (F.records frozen.old) (tree root.entry))) doc)) }
     ensures same { frozen.new ≡ frozen.old }
@@ -117,7 +117,7 @@ fn insert_tree<const OFFSET_BITS: u32, F: Frozen<OFFSET_BITS>>(
     set: DocSet,
 ) -> Result<Gathered, AllocError>
     requires form { IsPostingList (F.records frozen.old) (tree root) }
-    requires documents { AreDocuments (postings_at (F.records frozen.old) (tree root)) }
+    requires documents { HaveDocNumbers (postings_at (F.records frozen.old) (tree root)) }
     ensures docs { IfOk result (λ all. (doc : ℕ) → is_in all doc
         ≡ (in_words set doc || has (keys_of (postings_at (F.records frozen.old) (tree root.entry))) doc)) }
     ensures same { frozen.new ≡ frozen.old }
@@ -135,7 +135,7 @@ fn with_tree<const OFFSET_BITS: u32, F: Frozen<OFFSET_BITS>>(
     docs: Vec<Doc>,
 ) -> Result<Gathered, AllocError>
     requires form { IsPostingList (F.records frozen.old) (tree root) }
-    requires documents { AreDocuments (postings_at (F.records frozen.old) (tree root)) }
+    requires documents { HaveDocNumbers (postings_at (F.records frozen.old) (tree root)) }
     ensures docs { IfOk result (λ all. (doc : ℕ) → is_in all doc
         ≡ (has docs.items doc || has (keys_of (postings_at (F.records frozen.old) (tree root.entry))) doc)) }
     ensures same { frozen.new ≡ frozen.old }
@@ -156,7 +156,7 @@ fn gather_tree<const OFFSET_BITS: u32, F: Frozen<OFFSET_BITS>>(
     gathered: Gathered,
 ) -> Result<Gathered, AllocError>
     requires form { IsPostingList (F.records frozen.old) (tree root) }
-    requires documents { AreDocuments (postings_at (F.records frozen.old) (tree root)) }
+    requires documents { HaveDocNumbers (postings_at (F.records frozen.old) (tree root)) }
     ensures docs { IfOk result (λ all. (doc : ℕ) → is_in all doc
         ≡ (is_in gathered doc || has (keys_of (postings_at (F.records frozen.old) (tree root.entry))) doc)) }
     ensures same { frozen.new ≡ frozen.old }
@@ -175,7 +175,7 @@ pub fn gather_list<const OFFSET_BITS: u32, F: Frozen<OFFSET_BITS>>(
     gathered: Gathered,
 ) -> Result<Gathered, AllocError>
     requires form { IsPostingList (F.records frozen.old) (list_form list) }
-    requires documents { AreDocuments (postings_at (F.records frozen.old) (list_form list)) }
+    requires documents { HaveDocNumbers (postings_at (F.records frozen.old) (list_form list)) }
     ensures docs { IfOk result (λ all. (doc : ℕ) → is_in all doc
         ≡ (is_in gathered doc || has (keys_of (postings_at (F.records frozen.old) (list_form list))) doc)) }
     ensures same { frozen.new ≡ frozen.old }
@@ -204,7 +204,7 @@ fn keep_tree<const OFFSET_BITS: u32, F: Frozen<OFFSET_BITS>>(
     docs: &DocList,
 ) -> Result<DocList, AllocError>
     requires form { IsPostingList (F.records frozen.old) (tree root) }
-    requires documents { AreDocuments (postings_at (F.records frozen.old) (tree root)) }
+    requires documents { HaveDocNumbers (postings_at (F.records frozen.old) (tree root)) }
     ensures kept { IfOk result (λ kept. (doc : ℕ) → has kept doc
         ≡ (has docs.now doc && has (keys_of (postings_at (F.records frozen.old) (tree root.entry))) doc)) }
     ensures same { frozen.new ≡ frozen.old }
@@ -226,7 +226,7 @@ pub fn keep_list<const OFFSET_BITS: u32, F: Frozen<OFFSET_BITS>>(
     docs: &DocList,
 ) -> Result<DocList, AllocError>
     requires form { IsPostingList (F.records frozen.old) (list_form list) }
-    requires documents { AreDocuments (postings_at (F.records frozen.old) (list_form list)) }
+    requires documents { HaveDocNumbers (postings_at (F.records frozen.old) (list_form list)) }
     ensures kept { IfOk result (λ kept. (doc : ℕ) → has kept doc
         ≡ (has docs.now doc && has (keys_of (postings_at (F.records frozen.old) (list_form list))) doc)) }
     ensures same { frozen.new ≡ frozen.old }

@@ -2,7 +2,7 @@
 ghost use Rattle.std.specs.Prelude.{◌≡◌, IfOk};
 ghost use Rattle.attr_images.specs.Values.{stored_value, IsValueRecord};
 ghost use Rattle.attr_types.specs.Fitting.{is_of_type as fits_type};
-ghost use Rattle.query_index.specs.Leaves.{is_before as stands_before, is_beyond as stands_beyond};
+ghost use Rattle.query_index.specs.Leaves.{stands_before, stands_beyond};
 
 use attr_types::{Leaf, Value, ValueType};
 use entry_ref::EntryRef;

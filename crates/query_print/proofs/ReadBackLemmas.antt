@@ -6,8 +6,8 @@ use Rattle.std.proofs.lemmas.Bool.Decides.{nat_tests}
 use Rattle.attr_types.specs.declared.field.Field.{Field}
 use Rattle.attr_types.specs.Query.{QueryTree, QueryTrees, one, and, or, no_trees, tree}
 use Rattle.attr_scores.specs.Scores.{AskTree, hits_of, dot_of}
-use Rattle.query_text.specs.Grammar.{Words, Word, word_text, tree_text, IsAmong, first_of, unknown_if, unknown_in, unknown_list, unknown_others, unknown_at, resolved, resolved_list, asked_by, has_types, has_range, word_levels, unless_unknown, checked_by, judged}
-use Rattle.query_text.specs.Laws.{read_of, ReadsBack}
+use Rattle.query_text.specs.Grammar.{Words, Word, word_text, tree_text, IsAmong, first_found, unknown_if, unknown_in, unknown_list, unknown_others, unknown_at, resolved, resolved_list, asked_by, has_types, has_range, word_levels, unless_unknown, checked_by, judged}
+use Rattle.query_text.specs.Laws.{ask_by, ReadsBack}
 use Rattle.query_print.specs.Printing.{name_at, named, named_list, named_word, AllFound, ListFound, AskFound, IsLawful, ReadsBackAs}
 
 -- each name is one of the attributes
@@ -20,12 +20,12 @@ mutual
   list_known : (fields : List Field) (place : ℕ) (list : QueryTrees) → ListFound fields list → unknown_list fields place (named_list fields list) ≡ None
   list_known fields place no_trees found = refl
   list_known fields place (tree first others) found =
-      ap₂ first_of (known fields place first found.0) (others_known fields _ others found.1)
+      ap₂ first_found (known fields place first found.0) (others_known fields _ others found.1)
 
   others_known : (fields : List Field) (place : ℕ) (list : QueryTrees) → ListFound fields list → unknown_others fields place (named_list fields list) ≡ None
   others_known fields place no_trees found = refl
   others_known fields place (tree first others) found =
-      ap₂ first_of (known fields _ first found.0) (others_known fields _ others found.1)
+      ap₂ first_found (known fields _ first found.0) (others_known fields _ others found.1)
 
 -- and is found as the attribute that it was
 mutual
@@ -57,6 +57,6 @@ lawful_judged fields ask lawful =
 pub reads_back_as : ReadsBack → (fields : List Field) (text : List ℕ) (ask : AskTree) → IsUtf8 text → text ≡ word_text (named_word fields ask)
     → ReadsBackAs fields text ask
 reads_back_as back fields text ask u is words among lawful =
-    ap (read_of words fields) is
+    ap (ask_by words fields) is
     ∙ back words fields (named_word fields ask) (subst IsUtf8 is u) among lawful.formed
     ∙ lawful_judged fields ask lawful

@@ -7,7 +7,7 @@ use Rattle.attr_types.specs.Query as trees
 use Rattle.attr_scores.specs.Scores.{AskTree, hits_of, dot_of}
 use Rattle.query_text.specs.Grammar.{NamedTree, NamedTrees, one, and, or, no_trees, tree, Words, Word, whole_query, dot_product}
 use Rattle.query_text.specs.Grammar.{IsAmong, IsFormedWord, field_of, has_types, has_range, word_levels}
-use Rattle.query_text.specs.Laws.{read_of}
+use Rattle.query_text.specs.Laws.{ask_by}
 
 -- the name that stands before what speaks of the attribute with a number: of attribute 0 there is none
 abbrev pub name_at : List Field → ℕ → Option (List ℕ)
@@ -56,7 +56,7 @@ pub record IsLawful (fields : List Field) (ask : AskTree) : Type 0 where
 
 -- where the ask is lawful, each parser that reads such words reads the text as it
 abbrev pub ReadsBackAs : List Field → List ℕ → AskTree → Type 0
-ReadsBackAs fields text ask = (words : Words) → IsAmong words (named_word fields ask) → IsLawful fields ask → read_of words fields text ≡ Ok ask
+ReadsBackAs fields text ask = (words : Words) → IsAmong words (named_word fields ask) → IsLawful fields ask → ask_by words fields text ≡ Ok ask
 
 -- what stands before a member of a list, by the number of members before it
 abbrev pub comma_after : ℕ → List ℕ

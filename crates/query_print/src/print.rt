@@ -1,6 +1,6 @@
 ghost use Rattle.std.specs.Prelude.{◌≡◌, ◌++◌, IfOk, OnOk, string_bytes};
 ghost use Rattle.attr_scores.specs.Scores.{hits_of, dot_of, ask_tree};
-ghost use Rattle.attr_types.specs.Query.{tree_of, trees_of};
+ghost use Rattle.attr_types.specs.Query.{tree_of, query_trees};
 ghost use Rattle.query_text.specs.Grammar.{name_text, tree_text, list_text, part_text, parts_text, word_text};
 ghost use Rattle.query_print.specs.Printing.{name_at, named, named_list, named_word, ReadsBackAs, comma_after};
 
@@ -100,7 +100,7 @@ fn push_list(
     list: &[Query],
     fields: &[Field],
 ) -> Result<(), AllocError>
-    ensures { OnOk result (string_bytes text.new ≡ string_bytes text.old ++ list_text (named_list fields.now (trees_of list.now))) }
+    ensures { OnOk result (string_bytes text.new ≡ string_bytes text.old ++ list_text (named_list fields.now (query_trees list.now))) }
 {
     for (i, member) in list.iter().enumerate() {
         push_comma(text, i)?;

@@ -15,7 +15,7 @@ use Rattle.key_order.specs.Pairs.{choose, lookup_pair}
 use Rattle.attr_types.proofs.EntryLemmas.{nat_cmp_apart}
 use Rattle.doc_set.proofs.BitLemmas.{by_cases}
 use Rattle.doc_set.specs.Sets.{has}
-use Rattle.query_scores.specs.Weights.{weight_at}
+use Rattle.query_scores.specs.Weights.{weight_in_list}
 
 module _ {V X : Type 0} (order : V → V → Ordering) (total : IsTotalOrder order) (reads : ℕ → V) (g : ℕ → X) (s : V) where
   abbrev shown : List (ℕ × ℕ) → List (V × X)
@@ -60,7 +60,7 @@ pair_among P c (q ∷ ps) p all is =
     some_same a b e = cc
 
 -- in a list of documents of weight 1 the weight is 1 where the document is there
-pub ones : (doc : ℕ) (docs : List ℕ) → weight_at doc (map (λ d. (d, pos 1)) docs) ≡ cond (has docs doc) (pos 1) (pos 0)
+pub ones : (doc : ℕ) (docs : List ℕ) → weight_in_list doc (map (λ d. (d, pos 1)) docs) ≡ cond (has docs doc) (pos 1) (pos 0)
 ones doc [] = refl
 ones doc (d ∷ docs) = by_cases (nat_eq doc d)
     (λ yes.

@@ -21,10 +21,10 @@ use Rattle.attr_types.specs.declared.kind.ValueType.{ValueType}
 use Rattle.attr_types.specs.declared.kind.ValueType.TheVariants as types
 use Rattle.attr_types.specs.declared.value.Value.{Value}
 use Rattle.attr_types.specs.declared.value.Value.TheVariants as values
-use Rattle.enum_dictionary.specs.Dictionaries.{beside, entry_of}
+use Rattle.enum_dictionary.specs.Dictionaries.{beside_value, entry_of}
 use Rattle.enum_dictionary.specs.declared.finding.DictEntry.{DictEntry}
 use Rattle.query_leaves.specs.Parts.{IsIndexPair, IsIndexed}
-use Rattle.query_scores.specs.Weights.{weight_at, IsWord}
+use Rattle.query_scores.specs.Weights.{weight_in_list, IsWord}
 use Rattle.query_scores.proofs.LookupLemmas.{pair_lookup, pair_among}
 
 -- a value of another type is not there
@@ -41,25 +41,25 @@ not_there type m root value off = ap (λ o. unwrap_or o []) (sym (other_type typ
 
 module _ (type : ValueType) (m : Records) (root : ℕ) (is : IsIndexed type m root) (value : Value) (typed : type_of value ≡ type) where
   found : lookup (is_at (value_cmp value)) (index_of type m root)
-      ≡ option_map (λ (p : ℕ × ℕ). postings_at m (list_form p.1)) (lookup_pair (beside value m) (tree_pairs m root))
+      ≡ option_map (λ (p : ℕ × ℕ). postings_at m (list_form p.1)) (lookup_pair (beside_value value m) (tree_pairs m root))
   found =
       pair_lookup value_cmp value_cmp_total (stored_value type m) (λ w. postings_at m (list_form w)) value (tree_pairs m root) is.tree_is.ascends
       ∙ ap (λ (t : ValueType). option_map (λ (p : ℕ × ℕ). postings_at m (list_form p.1)) (lookup_pair (λ k. value_cmp (stored_value t m k) value) (tree_pairs m root))) (sym typed)
 
-  pub none_there : None ≡ lookup_pair (beside value m) (tree_pairs m root) → [] ≡ list_of value (index_of type m root)
+  pub none_there : None ≡ lookup_pair (beside_value value m) (tree_pairs m root) → [] ≡ list_of value (index_of type m root)
   none_there none =
       ap (λ (o : Option (ℕ × ℕ)). unwrap_or (option_map (λ (p : ℕ × ℕ). postings_at m (list_form p.1)) o) []) none
       ∙ ap (λ o. unwrap_or o []) (sym found)
 
-  pub is_there : (p : ℕ × ℕ) → Some p ≡ lookup_pair (beside value m) (tree_pairs m root)
+  pub is_there : (p : ℕ × ℕ) → Some p ≡ lookup_pair (beside_value value m) (tree_pairs m root)
       → postings_at m (list_form p.1) ≡ list_of value (index_of type m root)
   is_there p some =
       ap (λ (o : Option (ℕ × ℕ)). unwrap_or (option_map (λ (q : ℕ × ℕ). postings_at m (list_form q.1)) o) []) some
       ∙ ap (λ o. unwrap_or o []) (sym found)
 
-  pub is_word : (p : ℕ × ℕ) → Some p ≡ lookup_pair (beside value m) (tree_pairs m root) → IsWord m (Some p.1)
+  pub is_word : (p : ℕ × ℕ) → Some p ≡ lookup_pair (beside_value value m) (tree_pairs m root) → IsWord m (Some p.1)
   is_word p some =
-      let pair = pair_among (IsIndexPair type m) (beside value m) (tree_pairs m root) p is.pairs (sym some) in
+      let pair = pair_among (IsIndexPair type m) (beside_value value m) (tree_pairs m root) p is.pairs (sym some) in
       (pair.entry.1, pair.documents)
 
 -- the pair of an entry
@@ -83,5 +83,5 @@ weight_is value (item ∷ items) =
     [ true ↦ refl | false ↦ weight_is value items ]
 
 pub weight_by_list : (index : Index) (doc : ℕ) (value : Value) (items : List Item) → HasItems index doc items
-    → weight_at doc (list_of value index) ≡ weight_of value items
+    → weight_in_list doc (list_of value index) ≡ weight_of value items
 weight_by_list index doc value items has = ap (λ o. unwrap_or o (pos 0)) (has value) ∙ sym (weight_is value items)

@@ -8,12 +8,12 @@ use Rattle.image_base.specs.Records.{Records}
 use Rattle.attr_images.specs.Postings.{list_form, postings_at, IsPostingList}
 use Rattle.attr_index.specs.Index.{Index, list_of}
 use Rattle.attr_scores.specs.declared.part.Part.{Part}
-use Rattle.doc_set.specs.Postings.{AreDocuments}
+use Rattle.doc_set.specs.Postings.{HaveDocNumbers}
 use Rattle.doc_set.specs.Sets.{has}
 
 -- the weight of a document in a list, 0 where it is not there
-abbrev pub weight_at : ℕ → List (ℕ × ℤ) → ℤ
-weight_at doc list = unwrap_or (lookup (is_at (nat_cmp doc)) list) (pos 0)
+abbrev pub weight_in_list : ℕ → List (ℕ × ℤ) → ℤ
+weight_in_list doc list = unwrap_or (lookup (is_at (nat_cmp doc)) list) (pos 0)
 
 -- the list of a dictionary's word, none where there is no word
 abbrev pub word_list : Records → Option ℕ → List (ℕ × ℤ)
@@ -22,7 +22,7 @@ word_list m (Some word) = postings_at m (list_form word)
 
 abbrev pub IsWord : Records → Option ℕ → Type 0
 IsWord m None = Unit {0}
-IsWord m (Some word) = IsPostingList m (list_form word) × AreDocuments (postings_at m (list_form word))
+IsWord m (Some word) = IsPostingList m (list_form word) × HaveDocNumbers (postings_at m (list_form word))
 
 -- some part's value has the document in its list
 abbrev pub is_found : List Part → Index → ℕ → Bool

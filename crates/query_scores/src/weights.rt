@@ -3,7 +3,7 @@ ghost use Rattle.std.specs.Int.{bit_at};
 ghost use Rattle.std.specs.Prelude.{◌≡◌, ◌<◌, map, nat_eq, pos, if◌then◌else◌};
 ghost use Rattle.attr_images.specs.Postings.{list_form, postings_at, short, tree, vector, IsPostingList};
 ghost use Rattle.attr_images.specs.Words.{unpacked};
-ghost use Rattle.query_scores.specs.Weights.{weight_at as weight_in_list};
+ghost use Rattle.query_scores.specs.Weights.{weight_in_list};
 
 use array_store::count;
 use attr_images::{FIRST_VECTOR, MOST_SHORT};

@@ -7,18 +7,18 @@ use Rattle.std.proofs.lemmas.Bool.Decides.{nat_tests}
 use Rattle.std.proofs.lemmas.List.{length-append}
 use Rattle.attr_types.specs.declared.value.Value.TheVariants as values
 use Rattle.attr_scores.specs.declared.part.Part.{Part}
-use Rattle.query_text.specs.Grammar.{dot_product, number_text, value_text, part_text, parts_text, word_text, IsFormedName, is_in_range, is_weight, parts_in_range}
+use Rattle.query_text.specs.Grammar.{dot_product, number_text, value_text, part_text, parts_text, word_text, IsFormedName, is_in_range, fits_weight, parts_in_range}
 use Rattle.query_text.specs.Reading.{◌>>=◌, after_byte, after_name, mark_front}
 use Rattle.query_text.specs.Dot.{if_weight, part_front, with_part, part_listed, parts_front}
 use Rattle.query_text.specs.Asks.{dot_front, parts_behind, parts_in}
 use Rattle.query_text.proofs.ReadBack.{EndsValue, IsReadable, value_read, number_read, name_read, name_ends}
 use Rattle.query_text.proofs.Utf8Lemmas.{cut, utf8_tail, value_readable}
 
-weight_small : (z : ℤ) → is_weight z ≡ true → is_in_range (values.Long z) ≡ true
+weight_small : (z : ℤ) → fits_weight z ≡ true → is_in_range (values.Long z) ≡ true
 weight_small (pos n) h = grind (arith, nat_tests)
 weight_small (negsuc n) h = grind (arith, nat_tests)
 
-weight_read : (z : ℤ) → is_weight z ≡ true → if_weight z ≡ Some z
+weight_read : (z : ℤ) → fits_weight z ≡ true → if_weight z ≡ Some z
 weight_read (pos n) h = ap (λ b. cond b (Some (pos n)) None) h
 weight_read (negsuc n) h =
     let test : nat_le n 2147483647 ≡ true = grind (arith, nat_tests) in
@@ -26,7 +26,7 @@ weight_read (negsuc n) h =
 
 -- a part that can be read
 abbrev IsReadablePart : Part → Type 0
-IsReadablePart part = IsReadable part.value × (is_weight part.weight ≡ true)
+IsReadablePart part = IsReadable part.value × (fits_weight part.weight ≡ true)
 
 part_read : (part : Part) (rest : List ℕ) → IsReadablePart part → EndsValue rest → part_front (part_text part ++ rest) ≡ Some (part, rest)
 unfolding part_front
@@ -82,21 +82,21 @@ enough_bytes (part ∷ second ∷ parts) =
     )
 
 -- the texts in it are UTF-8 where the whole is
-part_readable : (part : Part) (rest : List ℕ) → IsUtf8 (part_text part ++ rest) → (is_in_range part.value && is_weight part.weight) ≡ true → IsReadablePart part
+part_readable : (part : Part) (rest : List ℕ) → IsUtf8 (part_text part ++ rest) → (is_in_range part.value && fits_weight part.weight) ≡ true → IsReadablePart part
 part_readable part rest u h =
-    let ranges = and_parts (is_in_range part.value) (is_weight part.weight) h in
+    let ranges = and_parts (is_in_range part.value) (fits_weight part.weight) h in
     let text : part_text part ++ rest ≡ value_text part.value ++ (58 ∷ (number_text part.weight ++ rest)) = simp append_assoc in
     (value_readable part.value (58 ∷ (number_text part.weight ++ rest)) (subst IsUtf8 text u) ranges.0, ranges.1)
 
 are_readable : (parts : List Part) → IsUtf8 (parts_text parts ++ codes ")") → parts_in_range parts ≡ true → AreReadable parts
 are_readable [] u h = tt
-are_readable (part ∷ []) u h = (part_readable part (codes ")") u (and_parts (is_in_range part.value && is_weight part.weight) true h).0, tt)
+are_readable (part ∷ []) u h = (part_readable part (codes ")") u (and_parts (is_in_range part.value && fits_weight part.weight) true h).0, tt)
 are_readable (part ∷ second ∷ parts) u h =
     let behind = parts_text (second ∷ parts) ++ codes ")" in
     let text : parts_text (part ∷ second ∷ parts) ++ codes ")" ≡ part_text part ++ (44 ∷ behind) =
     append_assoc (part_text part ++ codes ",") (parts_text (second ∷ parts)) (codes ")") ∙ append_assoc (part_text part) (codes ",") behind in
     let whole = subst IsUtf8 text u in
-    let ranges = and_parts (is_in_range part.value && is_weight part.weight) (parts_in_range (second ∷ parts)) h in
+    let ranges = and_parts (is_in_range part.value && fits_weight part.weight) (parts_in_range (second ∷ parts)) h in
     (part_readable part (44 ∷ behind) whole ranges.0, are_readable (second ∷ parts) (cut (part_text part) behind 44 (omega arith) whole).1 ranges.1)
 
 -- behind the name and `dot(`

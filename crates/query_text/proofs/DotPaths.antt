@@ -22,7 +22,7 @@ use Rattle.query_text.specs.declared.mode.Mode.TheVariants as modes
 use Rattle.query_text.specs.declared.dot.survey.DotMode.{DotMode}
 use Rattle.query_text.specs.declared.dot.survey.DotMode.TheVariants as dots
 use Rattle.query_text.specs.declared.dot.survey.DotSurvey.{DotSurvey}
-use Rattle.query_text.specs.Grammar.{dot_product, number_text, value_text, name_text, part_text, parts_text, word_text, IsFormedName, field_of, is_in_range, is_weight, parts_have_type, parts_in_range}
+use Rattle.query_text.specs.Grammar.{dot_product, number_text, value_text, name_text, part_text, parts_text, word_text, IsFormedName, field_of, is_in_range, fits_weight, parts_have_type, parts_in_range}
 use Rattle.query_text.specs.Modes.{next_mode, is_digit, capped, leaf_begun, number_begun, value_begun, number_ended, quoted_next, spell_begun, spell_next}
 use Rattle.query_text.specs.Survey.{is_right, is_in_size, ends_value}
 use Rattle.query_text.specs.Dot.{dot_next, is_weight_size, dot_start, wanted_by, dot_entered, dot_after}
@@ -492,7 +492,7 @@ unfolding dot_next
 weight_bracket (pos n) = refl
 weight_bracket (negsuc n) = refl
 
-weight_size : (z : ℤ) → is_weight_size (number_mode roles.Alone z) ≡ is_weight z
+weight_size : (z : ℤ) → is_weight_size (number_mode roles.Alone z) ≡ fits_weight z
 weight_size (pos n) = grind (arith, nat_tests)
 weight_size (negsuc n) = grind (arith, nat_tests)
 
@@ -513,7 +513,7 @@ abbrev part_right : ValueType → Part → Bool
 part_right wanted part = is_of_type wanted part.value
 
 abbrev part_small : Part → Bool
-part_small part = is_in_range part.value && is_weight part.weight
+part_small part = is_in_range part.value && fits_weight part.weight
 
 comma_through : (fields : List Field) (text : List ℕ) (found : Option ℕ) (r s : Bool) (place : ℕ) (part : Part)
     → run fields text (at dots.Part found r s) place (part_text part ++ codes ",")
@@ -525,7 +525,7 @@ comma_through fields text found r s place part =
     (part_through fields text found r s place part)
     (byte_through fields text (at (dots.Weight (number_mode roles.Alone part.weight)) found right small) (place + length (part_text part)) 44 dots.Part (weight_comma part.weight)
     ∙ (λ i. Some (at dots.Part found (and_one right i) (small && weight_size part.weight i)))
-    ∙ (λ i. Some (at dots.Part found right (and_assoc s (is_in_range part.value) (is_weight part.weight) i))))
+    ∙ (λ i. Some (at dots.Part found right (and_assoc s (is_in_range part.value) (fits_weight part.weight) i))))
 
 bracket_through : (fields : List Field) (text : List ℕ) (found : Option ℕ) (r s : Bool) (place : ℕ) (part : Part)
     → run fields text (at dots.Part found r s) place (part_text part ++ codes ")")
@@ -537,7 +537,7 @@ bracket_through fields text found r s place part =
     (part_through fields text found r s place part)
     (byte_through fields text (at (dots.Weight (number_mode roles.Alone part.weight)) found right small) (place + length (part_text part)) 41 dots.Ended (weight_bracket part.weight)
     ∙ (λ i. Some (at dots.Ended found (and_one right i) (small && weight_size part.weight i)))
-    ∙ (λ i. Some (at dots.Ended found right (and_assoc s (is_in_range part.value) (is_weight part.weight) i))))
+    ∙ (λ i. Some (at dots.Ended found right (and_assoc s (is_in_range part.value) (fits_weight part.weight) i))))
 
 parts_through : (fields : List Field) (text : List ℕ) (found : Option ℕ) (parts : List Part) (r s : Bool) (place : ℕ) → 0 < length parts
     → run fields text (at dots.Part found r s) place (parts_text parts ++ codes ")")

@@ -9,12 +9,12 @@ use Rattle.attr_types.specs.declared.error.QueryError.{QueryError}
 use Rattle.attr_types.specs.declared.error.QueryError.TheVariants.{Syntax, NoField, WrongType, OutOfRange, TooDeep, Memory}
 use Rattle.attr_scores.specs.Scores.{AskTree}
 use Rattle.attr_scores.specs.declared.ask.Ask.{Ask}
-use Rattle.query_text.specs.Grammar.{Words, any_word, queries, Word, whole_query, dot_product, tree_text, word_text, IsAmong, IsFormedWord, IsWordText, judged, Continues, StopsAt, Answers, AnswersAs, AnswersQuery}
+use Rattle.query_text.specs.Grammar.{Words, any_word, queries, Word, whole_query, dot_product, tree_text, word_text, IsAmong, IsFormedWord, IsWordText, judged, Continues, BreaksAt, Answers, AnswersAs, AnswersQuery}
 use Rattle.query_text.specs.Survey.{surveyed}
 use Rattle.query_text.specs.declared.dot.survey.DotSurvey.{DotSurvey}
 use Rattle.query_text.specs.Dot.{dot_surveyed}
 use Rattle.query_text.specs.Asks.{query_if, query_of, dot_if, ask_if, ask_of, ParsesAs, AsksAs}
-use Rattle.query_text.specs.Laws.{read_of}
+use Rattle.query_text.specs.Laws.{ask_by}
 use Rattle.query_text.proofs.Completions.{IsQuery}
 use Rattle.query_text.proofs.DotFronts.{IsDot}
 use Rattle.query_text.proofs.DotLemmas.{dot_is_judged, dot_stops, dot_is_whole}
@@ -25,8 +25,8 @@ use Rattle.query_text.proofs.Walks.{StopsIn, shorter, none_past, none_whole}
 
 -- a word's text is read as the checks say, and each text has an answer
 pub record IsRead (words : Words) : Type 0 where
-  pub word : (fields : List Field) (text : List ℕ) (word : Word) → IsUtf8 text → IsWordText words text word → read_of words fields text ≡ judged fields word
-  pub total : (fields : List Field) (text : List ℕ) → IsUtf8 text → Answers words fields text (read_of words fields text)
+  pub word : (fields : List Field) (text : List ℕ) (word : Word) → IsUtf8 text → IsWordText words text word → ask_by words fields text ≡ judged fields word
+  pub total : (fields : List Field) (text : List ℕ) → IsUtf8 text → Answers words fields text (ask_by words fields text)
 
 -- a shorter front of a text goes on to the same word
 continues_shorter : (words : Words) (text : List ℕ) (m n : ℕ) → m ≤ n → Continues words (take n text) → Continues words (take m text)
@@ -36,7 +36,7 @@ continues_shorter words text m n short (word, rest, is) = (
   record { among = is.among; formed = is.formed; written = shorter text m n rest short ∙ is.written },
 )
 
-no_word : (words : Words) (text : List ℕ) (place : ℕ) (word : Word) → StopsAt words text place → IsWordText words text word → ⊥
+no_word : (words : Words) (text : List ℕ) (place : ℕ) (word : Word) → BreaksAt words text place → IsWordText words text word → ⊥
 no_word words text place word stop is =
     elim (cases_lt place (length text)) [
       | inl inside ↦ stop.stops inside (
@@ -47,11 +47,11 @@ no_word words text place word stop is =
       | inr past ↦ stop.unfinished (omega (arith, stop.within)) word is
     ]
 
-one_place : (words : Words) (text : List ℕ) (m n : ℕ) → StopsAt words text m → StopsAt words text n → m < n → ⊥
+one_place : (words : Words) (text : List ℕ) (m n : ℕ) → BreaksAt words text m → BreaksAt words text n → m < n → ⊥
 one_place words text m n stop stop' before =
     stop.stops (omega (arith, stop'.within)) (continues_shorter words text (m + 1) n (omega arith) stop'.continues)
 
-same_place : (words : Words) (text : List ℕ) (m n : ℕ) → StopsAt words text m → StopsAt words text n → m ≡ n
+same_place : (words : Words) (text : List ℕ) (m n : ℕ) → BreaksAt words text m → BreaksAt words text n → m ≡ n
 same_place words text m n stop stop' = elim (cases_lt m n) [
   | inl before ↦ absurd (one_place words text m n stop stop' before)
   | inr past ↦ elim (cases_lt n m) [
@@ -61,11 +61,11 @@ same_place words text m n stop stop' = elim (cases_lt m n) [
 ]
 
 module _ (words : Words) (read : IsRead words) (fields : List Field) where
-  pub read_once : (text : List ℕ) (answer : Result AskTree QueryError) → IsUtf8 text → Answers words fields text answer → read_of words fields text ≡ answer
+  pub read_once : (text : List ℕ) (answer : Result AskTree QueryError) → IsUtf8 text → Answers words fields text answer → ask_by words fields text ≡ answer
   read_once text answer utf8 (Answers.by_word word is e) = read.word fields text word utf8 is ∙ e
   read_once text answer utf8 (Answers.by_place place stop e) = stopped (read.total fields text utf8)
     where
-      stopped : Answers words fields text (read_of words fields text) → read_of words fields text ≡ answer
+      stopped : Answers words fields text (ask_by words fields text) → ask_by words fields text ≡ answer
       stopped (Answers.by_word word is e') = absurd (no_word words text place word stop is)
       stopped (Answers.by_place place' stop' e') =
           sym e' ∙ ap (λ p. Err (Syntax p)) (same_place words text place' place stop' stop) ∙ e
@@ -75,7 +75,7 @@ module _ (words : Words) (read : IsRead words) (fields : List Field) where
       let same : ◌≡◌ {A = Result AskTree QueryError} (Ok a) (Ok b) = sym (read_once text (Ok a) utf8 is) ∙ read_once text (Ok b) utf8 is' in
       cc
 
-  pub read_back : (word : Word) → IsUtf8 (word_text word) → IsAmong words word → IsFormedWord word → read_of words fields (word_text word) ≡ judged fields word
+  pub read_back : (word : Word) → IsUtf8 (word_text word) → IsAmong words word → IsFormedWord word → ask_by words fields (word_text word) ≡ judged fields word
   read_back word utf8 among formed = read.word fields (word_text word) word utf8 (record { among = among; formed = formed; written = refl })
 
 -- ---- queries alone
@@ -87,7 +87,7 @@ pub word_query : (text : List ℕ) (word : Word) → IsWordText queries text wor
 word_query text (whole_query query) is = (query, is.formed, is.written)
 word_query text (dot_product name parts) is = absurd is.among
 
-query_place : (text : List ℕ) (place : ℕ) → StopsIn IsQuery text place → StopsAt queries text place
+query_place : (text : List ℕ) (place : ℕ) → StopsIn IsQuery text place → BreaksAt queries text place
 query_place text place stop =
     let goes = query_word (take place text ++ stop.rest) stop.continues in
     record {
@@ -164,7 +164,7 @@ module _ (text : List ℕ) (place other : ℕ) (query_stop : StopsIn IsQuery tex
     | inr past ↦ dot_stop.unfinished (omega (arith, dot_stop.within)) (name, parts, is.formed.0, is.formed.1, is.written)
   ]
 
-  later_place : StopsAt any_word text (max place other)
+  later_place : BreaksAt any_word text (max place other)
   later_place = record {
     within = omega (arith, query_stop.within, dot_stop.within);
     continues = later_goes;

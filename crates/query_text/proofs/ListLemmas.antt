@@ -4,7 +4,7 @@ use Rattle.attr_types.specs.declared.field.Field.{Field}
 use Rattle.attr_types.specs.Query.{QueryTree}
 use Rattle.query_text.specs.declared.read.ReadError.{ReadError}
 use Rattle.query_text.specs.declared.read.ReadError.TheVariants as errors
-use Rattle.query_text.specs.Reading.{FindsNone, with_tree, marked, mark_front, listed, list_front, query_with, query_front}
+use Rattle.query_text.specs.Reading.{FindsNone, with_tree, after_mark, mark_front, after_list, list_front, query_with, query_front}
 
 -- members that were read before
 abbrev pub after_trees : List QueryTree → Option (List QueryTree × List ℕ) → Option (List QueryTree × List ℕ)
@@ -23,7 +23,7 @@ FindsNone-along errors.NotRead part whole along h = along h
 
 -- one member more
 pub list_front-member : (member : List ℕ → Option (QueryTree × List ℕ)) (n i : ℕ) (bytes : List ℕ) → i < n
-    → list_front member (n - i) bytes ≡ listed (member bytes) (list_front member (n - (i + 1)))
+    → list_front member (n - i) bytes ≡ after_list (member bytes) (list_front member (n - (i + 1)))
 unfolding list_front
 list_front-member member n i bytes h =
     let counted : n - i ≡ suc (n - (i + 1)) = omega arith in
@@ -49,24 +49,24 @@ query_front-suc fields levels bytes h =
 -- the list with the members read before, where the next member is read or not
 module _ (member : List ℕ → Option (QueryTree × List ℕ)) (front : List QueryTree) (n i : ℕ) (rest : List ℕ)
     (whole : Option (List QueryTree × List ℕ)) (so_far : after_trees front (list_front member (n - i) rest) ≡ whole) (inside : i < n) where
-  step : (read : Option (QueryTree × List ℕ)) → member rest ≡ read → after_trees front (listed read (list_front member (n - (i + 1)))) ≡ whole
-  step read e = sym (ap (after_trees front) (list_front-member member n i rest inside ∙ ap (λ o. listed o (list_front member (n - (i + 1)))) e)) ∙ so_far
+  step : (read : Option (QueryTree × List ℕ)) → member rest ≡ read → after_trees front (after_list read (list_front member (n - (i + 1)))) ≡ whole
+  step read e = sym (ap (after_trees front) (list_front-member member n i rest inside ∙ ap (λ o. after_list o (list_front member (n - (i + 1)))) e)) ∙ so_far
 
   pub no_member : member rest ≡ None → whole ≡ None
   no_member e = sym (step None e)
 
   pub no_mark : (first : QueryTree) (next : List ℕ) → member rest ≡ Some (first, next) → mark_front next ≡ None → whole ≡ None
   no_mark first next e none =
-      sym (step (Some (first, next)) e) ∙ ap (λ o. after_trees front (marked first o (list_front member (n - (i + 1))))) none
+      sym (step (Some (first, next)) e) ∙ ap (λ o. after_trees front (after_mark first o (list_front member (n - (i + 1))))) none
 
   pub last_member : (first : QueryTree) (next end : List ℕ) → member rest ≡ Some (first, next) → mark_front next ≡ Some (false, end)
       → whole ≡ Some (front ++ first ∷ [], end)
   last_member first next end e last =
-      sym (step (Some (first, next)) e) ∙ ap (λ o. after_trees front (marked first o (list_front member (n - (i + 1))))) last
+      sym (step (Some (first, next)) e) ∙ ap (λ o. after_trees front (after_mark first o (list_front member (n - (i + 1))))) last
 
   pub one_member : (first : QueryTree) (next others : List ℕ) → member rest ≡ Some (first, next) → mark_front next ≡ Some (true, others)
       → after_trees (front ++ first ∷ []) (list_front member (n - (i + 1)) others) ≡ whole
   one_member first next others e more =
       sym (after_trees-member front first (list_front member (n - (i + 1)) others))
-      ∙ sym (ap (λ o. after_trees front (marked first o (list_front member (n - (i + 1))))) more)
+      ∙ sym (ap (λ o. after_trees front (after_mark first o (list_front member (n - (i + 1))))) more)
       ∙ step (Some (first, next)) e

@@ -17,10 +17,10 @@ use Rattle.attr_types.specs.Query.{QueryTree}
 use Rattle.attr_types.specs.Query as query
 use Rattle.attr_names.specs.Names.{begins_name, continues_name, is_name}
 use Rattle.query_text.specs.Grammar.{NamedTree, NamedTrees, one, and, or, no_trees, tree, numeral, number_text, escaped, quoted, value_text, option_text, leaf_text, tree_text, list_text, others_text}
-use Rattle.query_text.specs.Grammar.{IsFormedName, IsFormed, IsFormedList, number_of, resolved, resolved_list, is_in_range, levels_of, list_levels}
+use Rattle.query_text.specs.Grammar.{IsFormedName, IsFormed, IsFormedList, field_number, resolved, resolved_list, is_in_range, levels_of, list_levels}
 use Rattle.query_text.specs.Modes.{is_digit, capped}
 use Rattle.query_text.specs.Reading.{◌>>=◌, after_byte, digits_front, sized_number, signed_front, number_front, with_byte, bytes_front, is_short_text, text_front, value_behind, value_front}
-use Rattle.query_text.specs.Reading.{end_of, end_front, range_front, starred, whole_of, whole_front, leaf_of, leaf_front, and_front, or_front, mark_front, with_tree, listed, list_front}
+use Rattle.query_text.specs.Reading.{end_of, end_front, range_front, starred, whole_of, whole_front, leaf_of, leaf_front, and_front, or_front, mark_front, with_tree, after_list, list_front}
 use Rattle.query_text.specs.Reading.{ends_name, name_end, name_at_front, begins_so, after_name, leaf_of_field, query_by, query_with, query_front}
 use Rattle.query_text.proofs.Paths.{digits_by_steps, capped_digit, size_of_negative, name_parts}
 
@@ -356,8 +356,8 @@ one_read fields member (Some name) leaf rest named readable ends =
     let read = name_read name (leaf_text leaf ++ rest) named in
     ap (λ t. query_by fields (after_name t) (and_front t) (or_front t) member t) (named_text name (leaf_text leaf) rest)
     ∙ ap (λ o. query_by fields o (and_front bytes) (or_front bytes) member bytes) read.0
-    ∙ ap (λ n. leaf_of_field (number_of fields (Some n)) (leaf_text leaf ++ rest)) read.1
-    ∙ ap (option_map (λ found. (query.one (number_of fields (Some name)) found.0, found.1))) (leaf_read leaf rest readable ends)
+    ∙ ap (λ n. leaf_of_field (field_number fields (Some n)) (leaf_text leaf ++ rest)) read.1
+    ∙ ap (option_map (λ found. (query.one (field_number fields (Some name)) found.0, found.1))) (leaf_read leaf rest readable ends)
   where
     named_text : (name leaf rest : List ℕ) → ((name ++ codes ":") ++ leaf) ++ rest ≡ name ++ (58 ∷ (leaf ++ rest))
     named_text name leaf rest = simp append_assoc
@@ -389,8 +389,8 @@ last_read : (fields : List Field) (member : List ℕ → Option (QueryTree × Li
     → list_front member (suc k) (list_text (tree first no_trees) ++ (41 ∷ rest)) ≡ Some (resolved fields first ∷ [], rest)
 unfolding list_front mark_front
 last_read fields member k first rest read =
-    ap (λ t. listed (member (t ++ (41 ∷ rest))) (list_front member k)) (append-nil (tree_text first))
-    ∙ ap (λ o. listed o (list_front member k)) read
+    ap (λ t. after_list (member (t ++ (41 ∷ rest))) (list_front member k)) (append-nil (tree_text first))
+    ∙ ap (λ o. after_list o (list_front member k)) read
 
 more_read : (fields : List Field) (member : List ℕ → Option (QueryTree × List ℕ)) (k : ℕ) (first second : NamedTree) (others : NamedTrees) (rest : List ℕ)
     → member (tree_text first ++ (44 ∷ (list_text (tree second others) ++ (41 ∷ rest))))
@@ -400,8 +400,8 @@ more_read : (fields : List Field) (member : List ℕ → Option (QueryTree × Li
     ≡ Some (resolved fields first ∷ list_of fields (tree second others), rest)
 unfolding list_front mark_front
 more_read fields member k first second others rest read more =
-    ap (λ t. listed (member t) (list_front member k)) (append_assoc (tree_text first) (others_text (tree second others)) (41 ∷ rest))
-    ∙ ap (λ o. listed o (list_front member k)) read
+    ap (λ t. after_list (member t) (list_front member k)) (append_assoc (tree_text first) (others_text (tree second others)) (41 ∷ rest))
+    ∙ ap (λ o. after_list o (list_front member k)) read
     ∙ ap (with_tree (resolved fields first)) more
 
 at_suc : (fields : List Field) (n : ℕ) (bytes : List ℕ) → query_front fields (suc n) bytes ≡ query_with fields (query_front fields n) bytes

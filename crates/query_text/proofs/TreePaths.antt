@@ -20,7 +20,7 @@ use Rattle.query_text.specs.declared.mode.Spell.{Spell}
 use Rattle.query_text.specs.declared.mode.Spell.TheVariants as spells
 use Rattle.query_text.specs.declared.survey.Survey.{Survey}
 use Rattle.query_text.specs.Grammar.{NamedTree, NamedTrees, one, and, or, no_trees, tree, leaf_text, tree_text, list_text, others_text, leaf_values}
-use Rattle.query_text.specs.Grammar.{IsFormed, IsFormedLeaf, IsFormedList, AreFormed, number_of, type_at, first_of, unknown_if, unknown_in, unknown_list, unknown_others}
+use Rattle.query_text.specs.Grammar.{IsFormed, IsFormedLeaf, IsFormedList, AreFormed, field_number, type_at, first_found, unknown_if, unknown_in, unknown_list, unknown_others}
 use Rattle.query_text.specs.Grammar.{tree_has_types, list_has_types, is_in_range, tree_in_range, list_in_range, levels_of, list_levels}
 use Rattle.query_text.specs.Modes.{next_mode}
 use Rattle.query_text.specs.Survey.{is_right, is_in_size, entered, surveyed_after, ends_query, name_before}
@@ -107,7 +107,7 @@ survey_with survey pace = record {
   small = pace.small;
 }
 
-unknown_kept : (unknown : Option ℕ) → first_of unknown None ≡ unknown
+unknown_kept : (unknown : Option ℕ) → first_found unknown None ≡ unknown
 unknown_kept None = refl
 unknown_kept (Some place) = refl
 
@@ -118,7 +118,7 @@ kept : (survey : Survey) (mode : Mode) → survey.depth < survey.levels
       levels = max survey.levels (survey.depth + 1);
       begins = survey.begins;
       wanted = survey.wanted;
-      unknown = first_of survey.unknown None;
+      unknown = first_found survey.unknown None;
       right = survey.right && is_right survey.wanted mode;
       small = survey.small && is_in_size mode;
     }) (survey_with survey (pace_at mode (survey.right && is_right survey.wanted mode) (survey.small && is_in_size mode))))
@@ -238,7 +238,7 @@ pub record Reaches (fields : List Field) (text : List ℕ) (survey : Survey) (pl
   pub mode_is : next.mode ≡ mode
   pub depth_is : next.depth ≡ survey.depth
   pub levels_is : next.levels ≡ max survey.levels (survey.depth + levels)
-  pub unknown_is : next.unknown ≡ first_of survey.unknown unknown
+  pub unknown_is : next.unknown ≡ first_found survey.unknown unknown
   pub right_is : next.right ≡ (survey.right && right)
   pub small_is : next.small ≡ (survey.small && small)
 
@@ -279,7 +279,7 @@ and_past : (b c : Bool) → (((b && true) && true) && c) ≡ (b && c)
 and_past true c = refl
 and_past false c = refl
 
-first_past : (a b : Option ℕ) → first_of (first_of a b) None ≡ first_of a b
+first_past : (a b : Option ℕ) → first_found (first_found a b) None ≡ first_found a b
 first_past None None = refl
 first_past None (Some b) = refl
 first_past (Some a) b = refl
@@ -299,8 +299,8 @@ pub name_through : (fields : List Field) (text : List ℕ) (survey : Survey) (pl
       depth = survey.depth;
       levels = max survey.levels (survey.depth + 1);
       begins = survey.begins;
-      wanted = type_at fields (number_of fields (Some name));
-      unknown = first_of survey.unknown (unknown_if place (field_named fields name));
+      wanted = type_at fields (field_number fields (Some name));
+      unknown = first_found survey.unknown (unknown_if place (field_named fields name));
       right = (survey.right && true) && true;
       small = (survey.small && true) && true;
     })
@@ -318,8 +318,8 @@ name_through fields text survey place name rest ready is stands =
       depth = survey.depth;
       levels = max survey.levels (survey.depth + 1);
       begins = survey.begins;
-      wanted = type_at fields (number_of fields (Some (found i)));
-      unknown = first_of survey.unknown (unknown_if (ready.begun i) (field_named fields (found i)));
+      wanted = type_at fields (field_number fields (Some (found i)));
+      unknown = first_found survey.unknown (unknown_if (ready.begun i) (field_named fields (found i)));
       right = (survey.right && true) && true;
       small = (survey.small && true) && true;
     })))
@@ -337,11 +337,11 @@ one_through fields text survey place (Some name) leaf ready formed stands =
       depth = survey.depth;
       levels = max survey.levels (survey.depth + 1);
       begins = survey.begins;
-      wanted = type_at fields (number_of fields (Some name));
-      unknown = first_of survey.unknown (unknown_if place (field_named fields name));
+      wanted = type_at fields (field_number fields (Some name));
+      unknown = first_found survey.unknown (unknown_if place (field_named fields name));
       right = (survey.right && true) && true;
       small = (survey.small && true) && true;
-    }) (place + length (name ++ codes ":")) (number_of fields (Some name)) leaf refl (omega (arith, ready.below)) named_taken formed.1 in
+    }) (place + length (name ++ codes ":")) (field_number fields (Some name)) leaf refl (omega (arith, ready.below)) named_taken formed.1 in
     record {
       next = then.next;
       is = on fields text survey _ place (name ++ codes ":") (leaf_text leaf) _ named then.is;
@@ -363,7 +363,7 @@ opened fields survey place = record {
   levels = max survey.levels ((survey.depth + 1) + 1);
   begins = place;
   wanted = type_at fields 0;
-  unknown = first_of survey.unknown None;
+  unknown = first_found survey.unknown None;
   right = (survey.right && true) && true;
   small = (survey.small && true) && true;
 }
@@ -389,7 +389,7 @@ and_end a true c e = (λ i. (e i && c) && true) ∙ sym_and c
     sym_and false = refl
 and_end a false c e = λ i. (e i && c) && true
 
-first_same : (a b : Option ℕ) → first_of (first_of (first_of a None) b) None ≡ first_of a b
+first_same : (a b : Option ℕ) → first_found (first_found (first_found a None) b) None ≡ first_found a b
 first_same None None = refl
 first_same None (Some b) = refl
 first_same (Some a) b = refl
@@ -417,12 +417,12 @@ closed fields text survey place at front list formed begun inside =
       mode_is = refl;
       depth_is = omega (arith, inside.depth_is);
       levels_is = omega (arith, inside.levels_is, inside.depth_is);
-      unknown_is = ap (λ u. first_of u None) inside.unknown_is ∙ first_same survey.unknown (unknown_list fields at list);
+      unknown_is = ap (λ u. first_found u None) inside.unknown_is ∙ first_same survey.unknown (unknown_list fields at list);
       right_is = ap (λ r. r && true) inside.right_is ∙ and_end _ survey.right _ refl;
       small_is = ap (λ r. r && true) inside.small_is ∙ and_end _ survey.small _ refl;
     }
 
-first_assoc : (a b c : Option ℕ) → first_of (first_of a b) c ≡ first_of a (first_of b c)
+first_assoc : (a b c : Option ℕ) → first_found (first_found a b) c ≡ first_found a (first_found b c)
 first_assoc None b c = refl
 first_assoc (Some a) b c = refl
 
@@ -449,14 +449,14 @@ both : (fields : List Field) (text : List ℕ) (survey : Survey) (place : ℕ) (
     (unknown unknown' : Option ℕ) (right right' small small' : Bool)
     → (first : Reaches fields text survey place xs mode levels unknown right small)
     → Reaches fields text first.next (place + length xs) ys mode' levels' unknown' right' small'
-    → Reaches fields text survey place (xs ++ ys) mode' (max levels levels') (first_of unknown unknown') (right && right') (small && small')
+    → Reaches fields text survey place (xs ++ ys) mode' (max levels levels') (first_found unknown unknown') (right && right') (small && small')
 both fields text survey place xs ys mode mode' levels levels' unknown unknown' right right' small small' first second = record {
   next = second.next;
   is = on fields text survey first.next place xs ys _ first.is second.is;
   mode_is = second.mode_is;
   depth_is = second.depth_is ∙ first.depth_is;
   levels_is = omega (arith, second.levels_is, first.levels_is, first.depth_is);
-  unknown_is = second.unknown_is ∙ ap (λ u. first_of u unknown') first.unknown_is ∙ first_assoc survey.unknown unknown unknown';
+  unknown_is = second.unknown_is ∙ ap (λ u. first_found u unknown') first.unknown_is ∙ first_assoc survey.unknown unknown unknown';
   right_is = second.right_is ∙ ap (λ b. b && right') first.right_is ∙ and_assoc survey.right right right';
   small_is = second.small_is ∙ ap (λ b. b && small') first.small_is ∙ and_assoc survey.small small small';
 }
@@ -469,7 +469,7 @@ comma_after fields survey place = record {
   levels = max survey.levels (survey.depth + 1);
   begins = place + 1;
   wanted = type_at fields 0;
-  unknown = first_of survey.unknown None;
+  unknown = first_found survey.unknown None;
   right = survey.right && true;
   small = survey.small && true;
 }
@@ -508,7 +508,7 @@ reaches_so fields text survey place bytes mode levels levels' unknown unknown' r
   mode_is = reaches.mode_is;
   depth_is = reaches.depth_is;
   levels_is = reaches.levels_is ∙ ap (λ k. max survey.levels (survey.depth + k)) l;
-  unknown_is = reaches.unknown_is ∙ ap (first_of survey.unknown) u;
+  unknown_is = reaches.unknown_is ∙ ap (first_found survey.unknown) u;
   right_is = reaches.right_is ∙ ap (λ b. survey.right && b) r;
   small_is = reaches.small_is ∙ ap (λ b. survey.small && b) s;
 }
@@ -569,7 +569,7 @@ mutual
       let past : place + length (codes "," ++ tree_text first) ≡ (place + 1) + length (tree_text first) = omega (arith, length-append (codes ",") (tree_text first)) in
       let deep : max (max 0 (levels_of first)) (list_levels others) ≡ max (levels_of first) (list_levels others) = omega arith in
       reaches_so fields text survey place (others_text (tree first others)) _ _ _ _ _ _ _ _ _ deep
-      (ap (λ p. first_of (unknown_in fields (place + 1) first) (unknown_others fields p others)) past) refl refl
+      (ap (λ p. first_found (unknown_in fields (place + 1) first) (unknown_others fields p others)) past) refl refl
       (both fields text survey place (codes "," ++ tree_text first) (others_text others) _ _ _ _ _ _ _ _ _ _ member
       (others_through fields text others member.next (tree_mode first) (place + length (codes "," ++ tree_text first)) formed.1 member.mode_is (ends_tree first)
       (omega (arith, member.depth_is)) (omega (arith, member.depth_is, member.levels_is))

@@ -170,8 +170,8 @@ abbrev pub field_of : List Field → Option (List ℕ) → Option ℕ
 field_of fields None = Some 0
 field_of fields (Some name) = field_named fields name
 
-abbrev pub number_of : List Field → Option (List ℕ) → ℕ
-number_of fields name = unwrap_or (field_of fields name) 0
+abbrev pub field_number : List Field → Option (List ℕ) → ℕ
+field_number fields name = unwrap_or (field_of fields name) 0
 
 -- the type of an attribute; there is none without one
 abbrev pub type_of_field : Option Field → ValueType
@@ -194,7 +194,7 @@ is_weighted None = false
 -- the query over the attributes' numbers
 abbrev mutual
   pub resolved : List Field → NamedTree → trees.QueryTree
-  resolved fields (one name leaf) = trees.one (number_of fields name) leaf
+  resolved fields (one name leaf) = trees.one (field_number fields name) leaf
   resolved fields (and list) = trees.and (resolved_list fields list)
   resolved fields (or list) = trees.or (resolved_list fields list)
 
@@ -204,14 +204,14 @@ abbrev mutual
 
 abbrev pub asked_by : List Field → Word → AskTree
 asked_by fields (whole_query query) = hits_of (resolved fields query)
-asked_by fields (dot_product name parts) = dot_of (number_of fields name) parts
+asked_by fields (dot_product name parts) = dot_of (field_number fields name) parts
 
 -- ---- the checks
 
 -- the place of the first of two, if there is one
-abbrev pub first_of : Option ℕ → Option ℕ → Option ℕ
-first_of (Some first) second = Some first
-first_of None second = second
+abbrev pub first_found : Option ℕ → Option ℕ → Option ℕ
+first_found (Some first) second = Some first
+first_found None second = second
 
 -- the place where a name begins, if it is none of the attributes
 abbrev pub unknown_if : ℕ → Option ℕ → Option ℕ
@@ -231,12 +231,12 @@ abbrev mutual
   pub unknown_list : List Field → ℕ → NamedTrees → Option ℕ
   unknown_list fields place no_trees = None
   unknown_list fields place (tree first others) =
-      first_of (unknown_in fields place first) (unknown_others fields (place + length (tree_text first)) others)
+      first_found (unknown_in fields place first) (unknown_others fields (place + length (tree_text first)) others)
 
   pub unknown_others : List Field → ℕ → NamedTrees → Option ℕ
   unknown_others fields place no_trees = None
   unknown_others fields place (tree first others) =
-      first_of (unknown_in fields (place + 1) first) (unknown_others fields ((place + 1) + length (tree_text first)) others)
+      first_found (unknown_in fields (place + 1) first) (unknown_others fields ((place + 1) + length (tree_text first)) others)
 
 abbrev pub unknown_at : List Field → Word → Option ℕ
 unknown_at fields (whole_query query) = unknown_in fields 0 query
@@ -253,7 +253,7 @@ leaf_values (Above value) = value ∷ []
 -- the values are of the types of their attributes
 abbrev mutual
   pub tree_has_types : List Field → NamedTree → Bool
-  tree_has_types fields (one name leaf) = list_all (is_of_type (type_at fields (number_of fields name))) (leaf_values leaf)
+  tree_has_types fields (one name leaf) = list_all (is_of_type (type_at fields (field_number fields name))) (leaf_values leaf)
   tree_has_types fields (and list) = list_has_types fields list
   tree_has_types fields (or list) = list_has_types fields list
 
@@ -268,7 +268,7 @@ parts_have_type wanted parts = list_all (λ part. is_of_type wanted part.value) 
 abbrev pub has_types : List Field → Word → Bool
 has_types fields (whole_query query) = tree_has_types fields query
 has_types fields (dot_product name parts) =
-    is_weighted (slice_get fields (number_of fields name)) && parts_have_type (type_at fields (number_of fields name)) parts
+    is_weighted (slice_get fields (field_number fields name)) && parts_have_type (type_at fields (field_number fields name)) parts
 
 -- a number of 64 signed bits, or a text of at most 1,024 bytes
 abbrev pub is_in_range : Value → Bool
@@ -277,9 +277,9 @@ is_in_range (Long (negsuc n)) = nat_lt n (2 ^ 63)
 is_in_range (Text bytes) = nat_le (length bytes) 1024
 
 -- a number of 32 signed bits
-abbrev pub is_weight : ℤ → Bool
-is_weight (pos n) = nat_lt n (2 ^ 31)
-is_weight (negsuc n) = nat_lt n (2 ^ 31)
+abbrev pub fits_weight : ℤ → Bool
+fits_weight (pos n) = nat_lt n (2 ^ 31)
+fits_weight (negsuc n) = nat_lt n (2 ^ 31)
 
 abbrev mutual
   pub tree_in_range : NamedTree → Bool
@@ -292,7 +292,7 @@ abbrev mutual
   list_in_range (tree first others) = tree_in_range first && list_in_range others
 
 abbrev pub parts_in_range : List Part → Bool
-parts_in_range parts = list_all (λ part. is_in_range part.value && is_weight part.weight) parts
+parts_in_range parts = list_all (λ part. is_in_range part.value && fits_weight part.weight) parts
 
 abbrev pub has_range : Word → Bool
 has_range (whole_query query) = tree_in_range query
@@ -335,7 +335,7 @@ abbrev pub Continues : Words → List ℕ → Type 0
 Continues words front = (word : Word) × (rest : List ℕ) × IsWordText words (front ++ rest) word
 
 -- the text is no word, and this is the first byte with which none goes on, or the text's length
-pub record StopsAt (words : Words) (text : List ℕ) (place : ℕ) : Type 0 where
+pub record BreaksAt (words : Words) (text : List ℕ) (place : ℕ) : Type 0 where
   pub within : place ≤ length text
   pub continues : Continues words (take place text)
   pub stops : place < length text → ¬ (Continues words (take (place + 1) text))
@@ -344,7 +344,7 @@ pub record StopsAt (words : Words) (text : List ℕ) (place : ℕ) : Type 0 wher
 -- the answer to a text: that of the word which it is, or the place where it stops being one
 pub data Answers (words : Words) (fields : List Field) (text : List ℕ) (answer : Result AskTree QueryError) : Type 0 where
   by_word : (word : Word) → IsWordText words text word → judged fields word ≡ answer → Answers words fields text answer
-  by_place : (place : ℕ) → StopsAt words text place → Err (Syntax place) ≡ answer → Answers words fields text answer
+  by_place : (place : ℕ) → BreaksAt words text place → Err (Syntax place) ≡ answer → Answers words fields text answer
 
 -- a parser's refusal is the grammar's, unless memory ran out
 abbrev pub RefusesAs : Words → List Field → List ℕ → QueryError → Type 0

@@ -8,19 +8,19 @@ use Rattle.query_text.specs.Grammar.{Words, any_word, queries, Word, word_text, 
 use Rattle.query_text.specs.Asks.{ask_of, query_of}
 
 -- what is read of a text, where these words are read
-abbrev pub read_of : Words → List Field → List ℕ → Result AskTree QueryError
-read_of any_word fields text = ask_of fields text
-read_of queries fields text = query_of fields text
+abbrev pub ask_by : Words → List Field → List ℕ → Result AskTree QueryError
+ask_by any_word fields text = ask_of fields text
+ask_by queries fields text = query_of fields text
 
 -- what is read of a text is what the grammar answers
 abbrev pub ReadsByGrammar : Type 0
 ReadsByGrammar = (words : Words) (fields : List Field) (text : List ℕ) → IsUtf8 text
-    → Answers words fields text (read_of words fields text)
+    → Answers words fields text (ask_by words fields text)
 
 -- the grammar answers nothing else
 abbrev pub AnswersOnce : Type 0
 AnswersOnce = (words : Words) (fields : List Field) (text : List ℕ) (answer : Result AskTree QueryError) → IsUtf8 text
-    → Answers words fields text answer → read_of words fields text ≡ answer
+    → Answers words fields text answer → ask_by words fields text ≡ answer
 
 -- no text asks two things
 abbrev pub AsksOneThing : Type 0
@@ -30,4 +30,4 @@ AsksOneThing = (words : Words) (fields : List Field) (text : List ℕ) (a b : As
 -- each word that has a text is read as what it asks, or as the first of its refusals
 abbrev pub ReadsBack : Type 0
 ReadsBack = (words : Words) (fields : List Field) (word : Word) → IsUtf8 (word_text word) → IsAmong words word → IsFormedWord word
-    → read_of words fields (word_text word) ≡ judged fields word
+    → ask_by words fields (word_text word) ≡ judged fields word

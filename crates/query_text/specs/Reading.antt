@@ -13,7 +13,7 @@ use Rattle.attr_types.specs.Query.{QueryTree, one, and, or, trees}
 use Rattle.attr_names.specs.Names.{begins_name, continues_name}
 use Rattle.query_text.specs.declared.read.ReadError.{ReadError}
 use Rattle.query_text.specs.declared.read.ReadError.TheVariants as errors
-use Rattle.query_text.specs.Grammar.{number_of}
+use Rattle.query_text.specs.Grammar.{field_number}
 use Rattle.query_text.specs.Modes.{is_digit, capped}
 use Rattle.query_text.specs.Survey.{is_long_size}
 
@@ -138,26 +138,26 @@ with_tree first None = None
 with_tree first (Some found) = Some (first ∷ found.0, found.1)
 
 -- the mark after a member: whether it is a comma, or else the closing bracket
-abbrev pub mark_of : Option (List ℕ) → Option (List ℕ) → Option (Bool × List ℕ)
-mark_of (Some rest) bracket = Some (true, rest)
-mark_of None (Some rest) = Some (false, rest)
-mark_of None None = None
+abbrev pub mark_after : Option (List ℕ) → Option (List ℕ) → Option (Bool × List ℕ)
+mark_after (Some rest) bracket = Some (true, rest)
+mark_after None (Some rest) = Some (false, rest)
+mark_after None None = None
 
 unfoldable pub mark_front : List ℕ → Option (Bool × List ℕ)
-mark_front bytes = mark_of (after_byte 44 bytes) (after_byte 41 bytes)
+mark_front bytes = mark_after (after_byte 44 bytes) (after_byte 41 bytes)
 
-abbrev pub marked : QueryTree → Option (Bool × List ℕ) → (List ℕ → Option (List QueryTree × List ℕ)) → Option (List QueryTree × List ℕ)
-marked member None others = None
-marked member (Some mark) others = if mark.0 then with_tree member (others mark.1) else Some (member ∷ [], mark.1)
+abbrev pub after_mark : QueryTree → Option (Bool × List ℕ) → (List ℕ → Option (List QueryTree × List ℕ)) → Option (List QueryTree × List ℕ)
+after_mark member None others = None
+after_mark member (Some mark) others = if mark.0 then with_tree member (others mark.1) else Some (member ∷ [], mark.1)
 
-abbrev pub listed : Option (QueryTree × List ℕ) → (List ℕ → Option (List QueryTree × List ℕ)) → Option (List QueryTree × List ℕ)
-listed None others = None
-listed (Some found) others = marked found.0 (mark_front found.1) others
+abbrev pub after_list : Option (QueryTree × List ℕ) → (List ℕ → Option (List QueryTree × List ℕ)) → Option (List QueryTree × List ℕ)
+after_list None others = None
+after_list (Some found) others = after_mark found.0 (mark_front found.1) others
 
 -- a list of so many members at most, up to its closing bracket
 unfoldable pub list_front : (List ℕ → Option (QueryTree × List ℕ)) → ℕ → List ℕ → Option (List QueryTree × List ℕ)
 list_front member zero bytes = None
-list_front member (suc n) bytes = listed (member bytes) (list_front member n)
+list_front member (suc n) bytes = after_list (member bytes) (list_front member n)
 
 abbrev pub ends_name : ℕ → Bool
 ends_name byte = not (continues_name byte)
@@ -183,7 +183,7 @@ leaf_of_field field bytes = option_map (λ found. (one field found.0, found.1)) 
 
 abbrev pub query_by : List Field → Option (List ℕ) → Option (List ℕ) → Option (List ℕ) → (List ℕ → Option (QueryTree × List ℕ)) → List ℕ
     → Option (QueryTree × List ℕ)
-query_by fields (Some rest) conjunction disjunction member bytes = leaf_of_field (number_of fields (Some (name_at_front bytes))) rest
+query_by fields (Some rest) conjunction disjunction member bytes = leaf_of_field (field_number fields (Some (name_at_front bytes))) rest
 query_by fields None (Some rest) disjunction member bytes = option_map (λ found. (and (trees found.0), found.1)) (list_front member (length rest) rest)
 query_by fields None None (Some rest) member bytes = option_map (λ found. (or (trees found.0), found.1)) (list_front member (length rest) rest)
 query_by fields None None None member bytes = leaf_of_field 0 bytes

@@ -10,7 +10,7 @@ use Rattle.query_text.specs.declared.mode.Role.TheVariants as roles
 use Rattle.query_text.specs.declared.mode.Mode.{Mode}
 use Rattle.query_text.specs.declared.mode.Mode.TheVariants as modes
 use Rattle.query_text.specs.declared.survey.Survey.{Survey}
-use Rattle.query_text.specs.Grammar.{type_at, first_of, unknown_if}
+use Rattle.query_text.specs.Grammar.{type_at, first_found, unknown_if}
 use Rattle.query_text.specs.Machine.{run_from}
 use Rattle.query_text.specs.Modes.{next_mode}
 
@@ -86,7 +86,7 @@ entered_by fields survey place mode found = record {
   levels = max survey.levels (depth_after survey.depth mode + 1);
   begins = begins_after survey.begins place mode;
   wanted = wanted_after fields survey.wanted mode found;
-  unknown = first_of survey.unknown (unknown_if survey.begins found);
+  unknown = first_found survey.unknown (unknown_if survey.begins found);
   right = survey.right && is_right survey.wanted mode;
   small = survey.small && is_in_size mode;
 }

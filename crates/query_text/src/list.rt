@@ -1,6 +1,6 @@
 ghost use Rattle.std.specs.Prelude.{◌≡◌, ◌≤◌, ◌<◌, ◌^◌, length, map, option_map, Some};
 ghost use Rattle.attr_types.specs.Query.{tree_of};
-ghost use Rattle.query_text.specs.Grammar.{number_of};
+ghost use Rattle.query_text.specs.Grammar.{field_number};
 ghost use Rattle.query_text.specs.Reading.{Finds, and_front, or_front, mark_front, list_front, name_at_front, leaf_of_field};
 ghost use Rattle.query_text.specs.Reading.{query_with, query_front};
 
@@ -44,7 +44,7 @@ pub fn mark_in(bytes: &[u8]) -> Option<(bool, &[u8])>
 
 /// The number of the attribute that is named at the front.
 fn named_at_front(fields: &[Field], bytes: &[u8]) -> usize
-    ensures value { result ≡ number_of fields.now (Some (name_at_front bytes.now)) }
+    ensures value { result ≡ field_number fields.now (Some (name_at_front bytes.now)) }
     ensures inside { result ≤ length fields.now }
 {
     field_named(fields, name_at_front(bytes)).unwrap_or(0)

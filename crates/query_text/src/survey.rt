@@ -1,5 +1,5 @@
 ghost use Rattle.std.specs.Prelude.{◌≡◌, ◌<◌, ◌≤◌, ◌^◌, ◌+◌, IfSome, length};
-ghost use Rattle.query_text.specs.Grammar.{type_at, first_of, unknown_if};
+ghost use Rattle.query_text.specs.Grammar.{type_at, first_found, unknown_if};
 ghost use Rattle.query_text.specs.Survey.{is_right, is_in_size, ends_value, ends_query, is_complete, depth_after, begins_after, found_at};
 ghost use Rattle.query_text.specs.Survey.{wanted_after, start, name_before, entered_by, entered, surveyed_after, surveyed};
 
@@ -72,7 +72,7 @@ fn begins_after(begins: usize, place: usize, mode: Mode) -> usize
 }
 
 fn unknown_after(unknown: Option<usize>, begins: usize, found: Option<usize>) -> Option<usize>
-    ensures { result ≡ first_of unknown (unknown_if begins found) }
+    ensures { result ≡ first_found unknown (unknown_if begins found) }
 {
     match (unknown, found) {
         (Some(first), _) => Some(first),

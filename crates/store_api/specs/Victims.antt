@@ -11,16 +11,16 @@ count_entries bits passes status b zero = 0
 count_entries bits passes status b (suc n) =
     count_entries bits passes status b n + (if passes (status (packed bits (suc n) b)) then 1 else 0)
 
-abbrev pub entries_of : {H : Type 0} → ℕ → Ledger H → ℕ → (Status → Bool) → ℕ
-entries_of bits ledger b passes =
+abbrev pub entries_with : {H : Type 0} → ℕ → Ledger H → ℕ → (Status → Bool) → ℕ
+entries_with bits ledger b passes =
     count_entries bits passes ledger.status b (capacity ledger.work.sizes.words (active_width (ledger.work.buffer b)))
 
 -- the words of all offsets taken so far, offset 0 included, and those of the entries that are free, dropped or held
 abbrev pub used_words : {H : Type 0} → ℕ → Ledger H → ℕ → ℕ
-used_words bits ledger b = active_width (ledger.work.buffer b) * (1 + entries_of bits ledger b is_taken)
+used_words bits ledger b = active_width (ledger.work.buffer b) * (1 + entries_with bits ledger b is_taken)
 
 abbrev pub dead_words : {H : Type 0} → ℕ → Ledger H → ℕ → ℕ
-dead_words bits ledger b = active_width (ledger.work.buffer b) * entries_of bits ledger b is_dead
+dead_words bits ledger b = active_width (ledger.work.buffer b) * entries_with bits ledger b is_dead
 
 -- an active buffer that is not filled and not sealed, and of which more than a twentieth is dead
 pub record IsCandidate {H : Type 0} (bits : ℕ) (ledger : Ledger H) (b : ℕ) : Type 0 where

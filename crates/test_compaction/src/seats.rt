@@ -6,7 +6,7 @@ ghost use Rattle.attr_images.specs.Shapes.{shape_of, types_of};
 ghost use Rattle.attr_types.specs.declared.field.TheConstants.{MOST_FIELDS};
 ghost use Rattle.image_base.specs.Images.{words_at};
 ghost use Rattle.word_arena.specs.Knows.{view_of};
-ghost use Rattle.word_arena.specs.Ruled.{image_of, reader_of, writer_of};
+ghost use Rattle.word_arena.specs.Ruled.{seen_image, reader_of, writer_of};
 
 use crate::asking::ask_all;
 use crate::heard::Heard;
@@ -69,8 +69,8 @@ pub fn hear<'a, const OFFSET_BITS: u32>(
     requires few { length fields.now ≤ MOST_FIELDS }
     requires first { slice_get fields.now 0 ≡ Some field.now }
     requires shape { (reader_of guard.place.me.0).sizes.shape ≡ shape_of (types_of fields.now) }
-    requires image { IsLawfulImage (reader_of guard.place.me.0).sizes.shape (words_at (image_of (reader_of guard.place.me.0)))
-        (image_of (reader_of guard.place.me.0)).root }
+    requires image { IsLawfulImage (reader_of guard.place.me.0).sizes.shape (words_at (seen_image (reader_of guard.place.me.0)))
+        (seen_image (reader_of guard.place.me.0)).root }
     ensures same { IfOk result (λ r. r.0 ≡ guard.entry) }
 {
     let root = guard.root();

@@ -23,10 +23,10 @@ use Rattle.tree_node.proofs.ChildLemmas.{IsNode-lower}
 use Rattle.tree_node.proofs.ReadLemmas.{hand-read, inner-nodes}
 use Rattle.tree_node.proofs.SlotLemmas.{child_nodes, nodes-slots, slot_nodes-leaf}
 use Rattle.tree_images.specs.Nodes.{node_keys}
-use Rattle.tree_make.specs.Changes.{Drops, tree}
+use Rattle.tree_make.specs.Changes.{DropsEntries, tree}
 use Rattle.tree_make.proofs.ChangeLemmas.{tree-wide}
 
-drops-append : {H : Type 0} (a b c : Ledger H) (m n o : Records) (xs ys : List ℕ) → Drops a b m n xs → Drops b c n o ys → Drops a c m o (xs ++ ys)
+drops-append : {H : Type 0} (a b c : Ledger H) (m n o : Records) (xs ys : List ℕ) → DropsEntries a b m n xs → DropsEntries b c n o ys → DropsEntries a c m o (xs ++ ys)
 drops-append a b c m n o xs ys first second = record {
   turns = record {
     kept = λ r h. let both = times-append r xs ys in let even = first.turns.balance r in second.turns.kept r (omega arith) ∙ first.turns.kept r (omega arith);
@@ -37,7 +37,7 @@ drops-append a b c m n o xs ys first second = record {
   may = may_do-then a b c first.may second.may;
 }
 
-drops-as : {H : Type 0} (a b : Ledger H) (m n : Records) (xs ys : List ℕ) → Drops a b m n xs → ((r : ℕ) → times r ys ≡ times r xs) → Drops a b m n ys
+drops-as : {H : Type 0} (a b : Ledger H) (m n : Records) (xs ys : List ℕ) → DropsEntries a b m n xs → ((r : ℕ) → times r ys ≡ times r xs) → DropsEntries a b m n ys
 drops-as a b m n xs ys it same = record {
   turns = turns-as a b m n (entries xs ∷ []) [] (entries ys ∷ []) [] it.turns (λ r. let e = same r in omega arith) (λ r. refl);
   records = λ r none. let e = same r in it.records r (omega arith);
@@ -57,7 +57,7 @@ module _ {H : Type 0} (old : Ledger H) (m : Records) (l node : ℕ) (is : IsNode
   all-times r = ap (times r) (inner-nodes m l node) ∙ times-append r (node ∷ []) (flat_map (nodes_below m l) (node_values (m node)))
 
   module _ (ledger : Ledger H) (n : Records) (i : ℕ) (low : i < length (node_values (m node)))
-      (before : Drops old ledger m n (flat_map (nodes_below m l) (take i (node_values (m node))))) where
+      (before : DropsEntries old ledger m n (flat_map (nodes_below m l) (take i (node_values (m node))))) where
     cut-times : (r : ℕ) → times r (flat_map (nodes_below m l) (node_values (m node)))
         ≡ times r (flat_map (nodes_below m l) (take i (node_values (m node)))) + (times r (nodes_below m l (get_or (node_values (m node)) i 0)) + times r (flat_map (nodes_below m l) (drop (suc i) (node_values (m node)))))
     cut-times r =
@@ -91,35 +91,35 @@ module _ {H : Type 0} (old : Ledger H) (m : Records) (l node : ℕ) (is : IsNode
           omega arith;
     }
 
-    pub child-dropped : (new : Ledger H) (o : Records) → Drops ledger new n o (nodes_below n l (get_or (node_values (m node)) i 0))
-        → Drops old new m o (flat_map (nodes_below m l) (take (i + 1) (node_values (m node))))
+    pub child-dropped : (new : Ledger H) (o : Records) → DropsEntries ledger new n o (nodes_below n l (get_or (node_values (m node)) i 0))
+        → DropsEntries old new m o (flat_map (nodes_below m l) (take (i + 1) (node_values (m node))))
     child-dropped new o drops =
         let vs = node_values (m node) in
         let g : ℕ → List ℕ = nodes_below m l in
-        let both = drops-append old ledger new m n o (flat_map g (take i vs)) (g (get_or vs i 0)) before (subst (Drops ledger new n o) child-nodes drops) in
-        subst (Drops old new m o)
+        let both = drops-append old ledger new m n o (flat_map g (take i vs)) (g (get_or vs i 0)) before (subst (DropsEntries ledger new n o) child-nodes drops) in
+        subst (DropsEntries old new m o)
         (ap (λ qs. flat_map g (take i vs) ++ qs) (sym (append-nil (g (get_or vs i 0))))
         ∙ sym (flat_map-append g (take i vs) (get_or vs i 0 ∷ [])) ∙ ap (flat_map g) (sym (take_more vs i 0 low))) both
 
   -- the node itself, behind all children
   module _ (ledger : Ledger H) (n : Records) (i : ℕ) (past : length (node_values (m node)) ≤ i)
-      (before : Drops old ledger m n (flat_map (nodes_below m l) (take i (node_values (m node))))) where
-    children-gone : Drops old ledger m n (flat_map (nodes_below m l) (node_values (m node)))
-    children-gone = subst (λ vs. Drops old ledger m n (flat_map (nodes_below m l) vs)) (take_all i (node_values (m node)) past) before
+      (before : DropsEntries old ledger m n (flat_map (nodes_below m l) (take i (node_values (m node))))) where
+    children-gone : DropsEntries old ledger m n (flat_map (nodes_below m l) (node_values (m node)))
+    children-gone = subst (λ vs. DropsEntries old ledger m n (flat_map (nodes_below m l) vs)) (take_all i (node_values (m node)) past) before
 
     pub node-used : in_use (ledger.status node) ≡ true
     node-used =
         in-uses ledger node
         (let own = owns.each node in let all = all-times node in let one = times-same node node [] refl in let even = children-gone.turns.balance node in omega arith)
 
-    pub node-dropped : (new : Ledger H) (o : Records) → Drops ledger new n o (node ∷ []) → Drops old new m o (nodes_below m (suc l) node)
+    pub node-dropped : (new : Ledger H) (o : Records) → DropsEntries ledger new n o (node ∷ []) → DropsEntries old new m o (nodes_below m (suc l) node)
     node-dropped new o drops =
         let kids = flat_map (nodes_below m l) (node_values (m node)) in
         drops-as old new m o (kids ++ node ∷ []) (nodes_below m (suc l) node) (drops-append old ledger new m n o kids (node ∷ []) children-gone drops)
         (λ r. let all = all-times r in let both = times-append r kids (node ∷ []) in omega arith)
 
 -- what is no node stays
-pub drop-others : {H : Type 0} (old new : Ledger H) (m n : Records) (root : ℕ) → (0 < root → IsRootNode m root) → Drops old new m n (tree_nodes m root) → KeepsOthers m n
+pub drop-others : {H : Type 0} (old new : Ledger H) (m n : Records) (root : ℕ) → (0 < root → IsRootNode m root) → DropsEntries old new m n (tree_nodes m root) → KeepsOthers m n
 drop-others old new m n root tree drops r other =
     drops.records r (none (times r (tree_nodes m root)) (λ some. other.width (all_at_times (λ q. length (m q) ≡ 34) (tree_nodes m root) (tree-wide m root tree) r some)))
   where

@@ -3,7 +3,7 @@ ghost use Rattle.tree_images.specs.Trees.{nodes_below, IsNode, IsRootNode};
 ghost use Rattle.key_order.specs.Keys.{KeepsOthers};
 ghost use Rattle.store_api.specs.Parts.{Owns, Turns, entries};
 ghost use Rattle.store_api.specs.Units.{MayDo, MakesAtMost};
-ghost use Rattle.tree_make.specs.Changes.{Drops, tree};
+ghost use Rattle.tree_make.specs.Changes.{DropsEntries, tree};
 
 use entry_ref::EntryRef;
 use store_api::Store;
@@ -18,7 +18,7 @@ fn drop_below<const OFFSET_BITS: u32, S: Store<OFFSET_BITS>>(
     requires unit { (S.ledger store.old).unit ≡ true }
     requires node { IsNode (S.records store.old) 1 level node }
     requires owns { Owns (S.ledger store.old) (S.records store.old) (entries (nodes_below (S.records store.old) level node) ∷ []) }
-    ensures { Drops (S.ledger store.old) (S.ledger store.new) (S.records store.old) (S.records store.new)
+    ensures { DropsEntries (S.ledger store.old) (S.ledger store.new) (S.records store.old) (S.records store.new)
         (nodes_below (S.records store.old) level node.entry) }
 {
     if level == 0 {

@@ -16,7 +16,7 @@ use Rattle.store_api.proofs.Uses.{in-uses, used_has}
 use Rattle.tree_images.specs.ProofsForTrees.{tree_pairs-same, IsRootNode-same}
 use Rattle.tree_images.specs.Trees.{root_level, root_least, tree_pairs, tree_nodes, IsRootNode}
 use Rattle.tree_node.proofs.Bounds.{nodes_wide}
-use Rattle.tree_make.specs.Changes.{Drops, Rebuilds, tree}
+use Rattle.tree_make.specs.Changes.{DropsEntries, Rebuilds, tree}
 use Rattle.tree_make.specs.Makes.{CountsNodes, MakesNodes}
 use Rattle.tree_make.proofs.MakesLemmas.{counts-then}
 
@@ -41,7 +41,7 @@ module _ {H : Type 0} (old mid : Ledger H) (m n : Records) (most root next : ℕ
   pub gone-owned : Owns mid n (entries gone ∷ [])
   gone-owned = owns-some mid n (entries gone ∷ tree next ∷ []) (entries gone ∷ []) both-owned (λ r. omega arith)
 
-  module _ (new : Ledger H) (o : Records) (drops : Drops mid new n o gone) (tree_is : 0 < root → IsRootNode m root) where
+  module _ (new : Ledger H) (o : Records) (drops : DropsEntries mid new n o gone) (tree_is : 0 < root → IsRootNode m root) where
     left : After mid new n o (entries gone ∷ tree next ∷ []) (tree next ∷ []) (tree next ∷ [])
     left = after mid new n o (entries gone ∷ []) [] (tree next ∷ []) (entries gone ∷ tree next ∷ []) (tree next ∷ []) both-owned drops.turns (λ k r. omega arith) (λ k r. omega arith)
 

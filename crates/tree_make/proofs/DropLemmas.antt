@@ -11,7 +11,7 @@ use Rattle.store_api.proofs.May.{may_do-same, may_do-then}
 use Rattle.store_api.proofs.Times.{times-same, times-append, times-take, times-take-le}
 use Rattle.store_api.proofs.UnitLemmas.{drops-turns, drops-counts}
 use Rattle.store_api.proofs.Uses.{in-uses, with_status-other}
-use Rattle.tree_make.specs.Changes.{Drops}
+use Rattle.tree_make.specs.Changes.{DropsEntries}
 
 -- a free entry has no record anyway
 without-same : (status : Status) (ws : List ℕ) → (0 < length ws → has_record status ≡ true) → cond (is_free_status status) [] ws ≡ ws
@@ -25,7 +25,7 @@ without-same Status.let_go ws some = refl
 without-same (Status.held tag) ws some = refl
 without-same Status.left ws some = refl
 
-pub drops-none : {H : Type 0} (ledger : Ledger H) (m : Records) → Drops ledger ledger m m []
+pub drops-none : {H : Type 0} (ledger : Ledger H) (m : Records) → DropsEntries ledger ledger m m []
 drops-none ledger m = record {
   turns = record { kept = λ r h. refl; balance = λ r. refl };
   records = λ r none. refl;
@@ -35,7 +35,7 @@ drops-none ledger m = record {
 
 -- one more
 module _ {H : Type 0} (old ledger new : Ledger H) (m n o : Records) (refs : List ℕ) (q : ℕ)
-    (before : Drops old ledger m n refs) (used : in_use (ledger.status q) ≡ true)
+    (before : DropsEntries old ledger m n refs) (used : in_use (ledger.status q) ≡ true)
     (recorded : (r : ℕ) → 0 < length (n r) → has_record (ledger.status r) ≡ true)
     (drops : DropsEntry ledger new n o q) (may : MayDo ledger new) where
   record_other : (r : ℕ) → r ≢ q → o r ≡ n r
@@ -46,7 +46,7 @@ module _ {H : Type 0} (old ledger new : Ledger H) (m n o : Records) (refs : List
   apart_from : (r : ℕ) → times r (refs ++ q ∷ []) ≡ 0 → r ≢ q
   apart_from r none e = let both = times-append r refs (q ∷ []) in let here = times-same r q [] e in absurd (omega arith)
 
-  pub drops-more : Drops old new m o (refs ++ q ∷ [])
+  pub drops-more : DropsEntries old new m o (refs ++ q ∷ [])
   drops-more =
       let last = drops-turns ledger new n o q used drops in
       record {
@@ -61,7 +61,7 @@ module _ {H : Type 0} (old ledger new : Ledger H) (m n o : Records) (refs : List
 
 -- the next of a list that is owned is in use still
 pub next_used : {H : Type 0} (old ledger : Ledger H) (m n : Records) (refs : List ℕ) (i q : ℕ) → Owns old m (entries refs ∷ [])
-    → i < length refs → q ≡ get_or refs i 0 → Drops old ledger m n (take i refs) → in_use (ledger.status q) ≡ true
+    → i < length refs → q ≡ get_or refs i 0 → DropsEntries old ledger m n (take i refs) → in_use (ledger.status q) ≡ true
 next_used old ledger m n refs i q owns below at before =
     in-uses ledger q
     (let more = times-take q refs i below in

@@ -17,7 +17,7 @@ levels m zero = 0
 levels m (suc ref) = suc (root_level m (suc ref))
 
 -- the entries of a list are dropped, and nothing else is changed
-pub record Drops {H : Type 0} (old new : Ledger H) (m n : Records) (refs : List ℕ) : Type 0 where
+pub record DropsEntries {H : Type 0} (old new : Ledger H) (m n : Records) (refs : List ℕ) : Type 0 where
   pub turns : Turns old new m n (entries refs ∷ []) []
   pub records : (r : ℕ) → times r refs ≡ 0 → n r ≡ m r
   pub none_made : (c width : ℕ) → MakesAtMost c 0 (old.of_width width) (new.of_width width)

@@ -12,7 +12,7 @@ use Rattle.tree_node.proofs.SlotLemmas.{slot_pairs-append, slot_nodes-append, sl
 use Rattle.tree_make.specs.Makes.{MakesNodes}
 use Rattle.tree_node.specs.Slots.{slot_pairs, slot_nodes, IsInHand}
 use Rattle.tree_remove.specs.Removes.{PutsBack, spliced}
-use Rattle.tree_remove.specs.Settles.{Settles}
+use Rattle.tree_remove.specs.Settles.{SettlesSlots}
 
 -- the lists of the children before a place and behind it
 front_more : {X : Type 0} (f : ℕ → List X) (vs : List ℕ) (i : ℕ) → i < length vs → flat_map f (take (suc i) vs) ≡ flat_map f (take i vs) ++ f (get_or vs i 0)
@@ -30,7 +30,7 @@ back_more f vs i low =
 
 module _ {H : Type 0} (old new : Ledger H) (m n : Records) (level : ℕ) (pairs : List (ℕ × ℕ)) (nodes : List ℕ) (first width : ℕ)
     (keys values keys_after values_after : List ℕ) (hand : IsInHand m (suc level) keys values)
-    (settles : Settles old new m n level pairs nodes first width keys values keys_after values_after) where
+    (settles : SettlesSlots old new m n level pairs nodes first width keys values keys_after values_after) where
   front : IsInHand m (suc level) (take first keys) (take first values)
   front = hand-take m (suc level) keys values hand first
 
@@ -150,7 +150,7 @@ module _ (m : Records) (level : ℕ) (keys values child_keys child_values : List
 module _ {H : Type 0} (old new : Ledger H) (m n : Records) (level : ℕ) (keys values child_keys child_values before after keys_after values_after : List ℕ)
     (hand : IsInHand m (suc level) keys values) (child : IsInHand m level child_keys child_values) where
   pub puts-alone : (place : ℕ) → place < length keys → after ≡ before
-      → Settles old new m n level (slot_pairs m level child_keys child_values) (slot_nodes m level child_values) place 1 keys values keys_after values_after
+      → SettlesSlots old new m n level (slot_pairs m level child_keys child_values) (slot_nodes m level child_values) place 1 keys values keys_after values_after
       → PutsBack old new m n level place keys values child_keys child_values before after keys_after values_after
   puts-alone place low same settles =
       let up : place + 1 ≡ suc place = omega arith in
@@ -184,7 +184,7 @@ module _ {H : Type 0} (old new : Ledger H) (m n : Records) (level : ℕ) (keys v
       → sibling ≡ get_or values first 0 → IsInHand m level sibling_keys sibling_values
       → pairs_below m level sibling ≡ slot_pairs m level sibling_keys sibling_values → nodes_below m level sibling ≡ sibling ∷ slot_nodes m level sibling_values
       → after ≡ before ++ (sibling ∷ [])
-      → Settles old new m n level (slot_pairs m level (sibling_keys ++ child_keys) (sibling_values ++ child_values)) (slot_nodes m level (sibling_values ++ child_values)) first 2 keys values keys_after values_after
+      → SettlesSlots old new m n level (slot_pairs m level (sibling_keys ++ child_keys) (sibling_values ++ child_values)) (slot_nodes m level (sibling_values ++ child_values)) first 2 keys values keys_after values_after
       → PutsBack old new m n level place keys values child_keys child_values before after keys_after values_after
   puts-left place first sibling sibling_keys sibling_values next low short at sibling_hand pairs_are nodes_are added settles =
       let two : first + 2 ≡ suc place = omega arith in
@@ -247,7 +247,7 @@ module _ {H : Type 0} (old new : Ledger H) (m n : Records) (level : ℕ) (keys v
       → sibling ≡ get_or values 1 0 → IsInHand m level sibling_keys sibling_values
       → pairs_below m level sibling ≡ slot_pairs m level sibling_keys sibling_values → nodes_below m level sibling ≡ sibling ∷ slot_nodes m level sibling_values
       → after ≡ before ++ (sibling ∷ [])
-      → Settles old new m n level (slot_pairs m level (child_keys ++ sibling_keys) (child_values ++ sibling_values)) (slot_nodes m level (child_values ++ sibling_values)) 0 2 keys values keys_after values_after
+      → SettlesSlots old new m n level (slot_pairs m level (child_keys ++ sibling_keys) (child_values ++ sibling_values)) (slot_nodes m level (child_values ++ sibling_values)) 0 2 keys values keys_after values_after
       → PutsBack old new m n level 0 keys values child_keys child_values before after keys_after values_after
   puts-right sibling sibling_keys sibling_values low short at sibling_hand pairs_are nodes_are added settles =
       let below : 1 < length values = (let even = hand.even in omega arith) in

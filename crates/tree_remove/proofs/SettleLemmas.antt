@@ -11,7 +11,7 @@ use Rattle.tree_make.specs.Makes.{MakesNode, MakesPart}
 use Rattle.tree_node.specs.Slots.{slot_pairs, slot_nodes, IsInHand}
 use Rattle.tree_make.specs.declared.make.Part.{Part}
 use Rattle.tree_remove.proofs.StandLemmas.{stands-one, stands-two}
-use Rattle.tree_remove.specs.Settles.{MakesSlots, Settles}
+use Rattle.tree_remove.specs.Settles.{MakesSlots, SettlesSlots}
 
 edit_one : (i a : ℕ) (xs : List ℕ) → suc i < length xs → set (remove xs (suc i)) i a ≡ take i xs ++ (a ∷ drop (suc (suc i)) xs)
 edit_one i a [] low = absurd (omega arith)
@@ -47,7 +47,7 @@ module _ {H : Type 0} (old new : Ledger H) (m n : Records) (level : ℕ) (keys v
     (first : ℕ) (parent_keys parent_values keys_after values_after : List ℕ) (even : length parent_keys ≡ length parent_values) where
   pub settles-merged : suc first < length parent_keys
       → keys_after ≡ set (remove parent_keys (first + 1)) first key → values_after ≡ set (remove parent_values (first + 1)) first ref
-      → Settles old new m n level (slot_pairs m level keys values) (slot_nodes m level values) first 2 parent_keys parent_values keys_after values_after
+      → SettlesSlots old new m n level (slot_pairs m level keys values) (slot_nodes m level values) first 2 parent_keys parent_values keys_after values_after
   settles-merged low keys_are values_are = record {
     made_keys = key ∷ [];
     made_values = ref ∷ [];
@@ -59,7 +59,7 @@ module _ {H : Type 0} (old new : Ledger H) (m n : Records) (level : ℕ) (keys v
   }
 
   pub settles-alone : first < length parent_keys → keys_after ≡ set parent_keys first key → values_after ≡ set parent_values first ref
-      → Settles old new m n level (slot_pairs m level keys values) (slot_nodes m level values) first 1 parent_keys parent_values keys_after values_after
+      → SettlesSlots old new m n level (slot_pairs m level keys values) (slot_nodes m level values) first 1 parent_keys parent_values keys_after values_after
   settles-alone low keys_are values_are = record {
     made_keys = key ∷ [];
     made_values = ref ∷ [];
@@ -98,10 +98,10 @@ module _ {H : Type 0} (a b d : Ledger H) (m n o : Records) (level : ℕ) (k1 v1 
   pub settles-shared : (keys values : List ℕ) → k1 ++ k2 ≡ keys → v1 ++ v2 ≡ values
       → (first : ℕ) (parent_keys parent_values keys_after values_after : List ℕ) → length parent_keys ≡ length parent_values → suc first < length parent_keys
       → keys_after ≡ set (set parent_keys first key1) (first + 1) key2 → values_after ≡ set (set parent_values first ref1) (first + 1) ref2
-      → Settles a d m o level (slot_pairs m level keys values) (slot_nodes m level values) first 2 parent_keys parent_values keys_after values_after
+      → SettlesSlots a d m o level (slot_pairs m level keys values) (slot_nodes m level values) first 2 parent_keys parent_values keys_after values_after
   settles-shared keys values same_keys same_values first parent_keys parent_values keys_after values_after same low keys_are values_are =
-      subst (λ ks. Settles a d m o level (slot_pairs m level ks values) (slot_nodes m level values) first 2 parent_keys parent_values keys_after values_after) same_keys
-      (subst (λ vs. Settles a d m o level (slot_pairs m level (k1 ++ k2) vs) (slot_nodes m level vs) first 2 parent_keys parent_values keys_after values_after) same_values
+      subst (λ ks. SettlesSlots a d m o level (slot_pairs m level ks values) (slot_nodes m level values) first 2 parent_keys parent_values keys_after values_after) same_keys
+      (subst (λ vs. SettlesSlots a d m o level (slot_pairs m level (k1 ++ k2) vs) (slot_nodes m level vs) first 2 parent_keys parent_values keys_after values_after) same_values
       (record {
         made_keys = (key1 ∷ []) ++ (key2 ∷ []);
         made_values = (ref1 ∷ []) ++ (ref2 ∷ []);

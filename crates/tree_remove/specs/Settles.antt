@@ -14,7 +14,7 @@ pub record MakesSlots {H : Type 0} (old new : Ledger H) (m n : Records) (level :
   pub makes : MakesNodes old new m n (length values)
 
 -- the same, and their slots stand in a parent's in place of so many from a first on
-pub record Settles {H : Type 0} (old new : Ledger H) (m n : Records) (level : ℕ) (pairs : List (ℕ × ℕ)) (nodes : List ℕ)
+pub record SettlesSlots {H : Type 0} (old new : Ledger H) (m n : Records) (level : ℕ) (pairs : List (ℕ × ℕ)) (nodes : List ℕ)
     (first width : ℕ) (keys values keys_after values_after : List ℕ) : Type 0 where
   pub made_keys : List ℕ
   pub made_values : List ℕ

@@ -2,7 +2,7 @@ ghost use Rattle.std.specs.Prelude.{◌≡◌, ◌^◌, ◌≤◌, ◌<◌, ◌+
 ghost use Rattle.store_api.specs.Calls.{Refuses};
 ghost use Rattle.tree_make.specs.Makes.{MakesNodes};
 ghost use Rattle.tree_node.specs.Slots.{slot_pairs, slot_nodes, IsInHand};
-ghost use Rattle.tree_remove.specs.Settles.{Settles};
+ghost use Rattle.tree_remove.specs.Settles.{SettlesSlots};
 
 use store_api::{Store, StoreError};
 use tree_images::{LEAST_SLOTS, MOST_SLOTS, NODE_WORDS};
@@ -80,7 +80,7 @@ fn merge<const OFFSET_BITS: u32, S: Store<OFFSET_BITS>>(
     requires parent { length slots.old.keys.items ≡ length slots.old.values.items }
     requires room_parent { length slots.old.keys.items ≤ MOST_SLOTS }
     requires first { suc first < length slots.old.keys.items }
-    ensures settles { OnOk result (Settles (S.ledger store.old) (S.ledger store.new) (S.records store.old) (S.records store.new) left.old.level
+    ensures settles { OnOk result (SettlesSlots (S.ledger store.old) (S.ledger store.new) (S.records store.old) (S.records store.new) left.old.level
         (slot_pairs (S.records store.old) left.old.level
         (left.old.keys.items ++ right.now.keys.items) (left.old.values.items ++ right.now.values.items))
         (slot_nodes (S.records store.old) left.old.level (left.old.values.items ++ right.now.values.items))
@@ -124,7 +124,7 @@ fn share<const OFFSET_BITS: u32, S: Store<OFFSET_BITS>>(
     requires parent { length slots.old.keys.items ≡ length slots.old.values.items }
     requires room_parent { length slots.old.keys.items ≤ MOST_SLOTS }
     requires first { suc first < length slots.old.keys.items }
-    ensures settles { OnOk result (Settles (S.ledger store.old) (S.ledger store.new) (S.records store.old) (S.records store.new) left.old.level
+    ensures settles { OnOk result (SettlesSlots (S.ledger store.old) (S.ledger store.new) (S.records store.old) (S.records store.new) left.old.level
         (slot_pairs (S.records store.old) left.old.level
         (left.old.keys.items ++ right.old.keys.items) (left.old.values.items ++ right.old.values.items))
         (slot_nodes (S.records store.old) left.old.level (left.old.values.items ++ right.old.values.items))
@@ -167,7 +167,7 @@ pub fn make_neighbours<const OFFSET_BITS: u32, S: Store<OFFSET_BITS>>(
     requires parent { length slots.old.keys.items ≡ length slots.old.values.items }
     requires room_parent { length slots.old.keys.items ≤ MOST_SLOTS }
     requires first { suc first < length slots.old.keys.items }
-    ensures settles { OnOk result (Settles (S.ledger store.old) (S.ledger store.new) (S.records store.old) (S.records store.new) left.old.level
+    ensures settles { OnOk result (SettlesSlots (S.ledger store.old) (S.ledger store.new) (S.records store.old) (S.records store.new) left.old.level
         (slot_pairs (S.records store.old) left.old.level
         (left.old.keys.items ++ right.old.keys.items) (left.old.values.items ++ right.old.values.items))
         (slot_nodes (S.records store.old) left.old.level (left.old.values.items ++ right.old.values.items))

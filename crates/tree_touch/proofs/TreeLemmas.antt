@@ -11,7 +11,7 @@ use Rattle.tree_images.specs.Nodes.{used_of}
 use Rattle.tree_images.specs.Trees.{root_level, root_least, tree_pairs, tree_nodes, IsRootNode, IsTree}
 use Rattle.tree_images.specs.ProofsForTrees.{node-same}
 use Rattle.tree_node.proofs.RootLemmas.{root_least-some, tree_pairs-is, tree_nodes-is, root_node-is}
-use Rattle.tree_make.specs.Changes.{Drops, Rebuilds, tree}
+use Rattle.tree_make.specs.Changes.{DropsEntries, Rebuilds, tree}
 use Rattle.tree_make.proofs.TopLemmas.{root-pairs, root-nodes, root-used}
 use Rattle.tree_touch.specs.Paths.{NoneIn, path_nodes, path_below}
 use Rattle.tree_touch.specs.Touches.{Touches}
@@ -64,7 +64,7 @@ path_nodes-same m n c (suc ref) same node =
 
 -- what is dropped is no node of the new tree
 pub nodes-left : {H : Type 0} (old mid new : Ledger H) (m n o : Records) (root next : ℕ) (gone : List ℕ) (pairs : List (ℕ × ℕ)) → Owns old m (tree root ∷ [])
-    → Rebuilds old mid m n root next gone pairs → Drops mid new n o gone → SameAt (tree_nodes n next) n o
+    → Rebuilds old mid m n root next gone pairs → DropsEntries mid new n o gone → SameAt (tree_nodes n next) n o
 nodes-left old mid new m n o root next gone pairs owns it drops =
     same_at n o (tree_nodes n next) (all_from_times (λ r. o r ≡ n r) (tree_nodes n next) (λ r there.
     drops.records r (let even = it.balance r in let few = uses-few mid r in let own = owns.each r in omega arith)))

@@ -21,14 +21,14 @@ use Rattle.attr_index.proofs.ListLemmas.{list_of-with_list_here}
 use Rattle.attr_types.specs.Value.{type_of, value_cmp}
 use Rattle.attr_types.specs.declared.kind.ValueType.{ValueType}
 use Rattle.attr_types.specs.declared.value.Value.{Value}
-use Rattle.enum_dictionary.specs.Dictionaries.{beside, IsDictionary, MakesDictionary}
+use Rattle.enum_dictionary.specs.Dictionaries.{beside_value, IsDictionary, MakesDictionary}
 use Rattle.enum_dictionary.proofs.DictionaryLemmas.{dictionary_stays}
 use Rattle.posting_store.specs.Changes.{list_part}
 use Rattle.posting_store.specs.Lists.{list_at, list_reach}
 use Rattle.posting_store.specs.ProofsForLists.{IsList-same, list_at-same, list_reach-same}
 use Rattle.posting_store.proofs.FormLemmas.{at_form}
 use Rattle.value_index.specs.Changes.{KeepsKeys, MakesIndex}
-use Rattle.value_index.specs.Flows.{word_at}
+use Rattle.value_index.specs.Flows.{list_word}
 use Rattle.value_index.specs.Indexes.{index_part, IsIndex, IsKey, IsValuePair}
 use Rattle.store_api.specs.Flows.{ComesFrom}
 use Rattle.store_api.proofs.Flows.{began-then, flow_part}
@@ -70,21 +70,21 @@ module _ {H : Type 0} (value : Value) (a b : Ledger H) (m n : Records) (root key
   pub open_owns : Owns b n (tree root ∷ [])
   open_owns = owns-some b n (parts root key word rest) (tree root ∷ []) is.owns (λ r. omega arith)
 
-  agree : AllByRecursion (λ q. beside value n q.0 ≡ beside value m q.0) (tree_pairs m root)
-  agree = all_by_keys (λ k. beside value n k ≡ beside value m k) (tree_pairs m root) (λ k among. ap (λ ws. value_cmp (value_of type ws) value) (is.keys_stay k among))
+  agree : AllByRecursion (λ q. beside_value value n q.0 ≡ beside_value value m q.0) (tree_pairs m root)
+  agree = all_by_keys (λ k. beside_value value n k ≡ beside_value value m k) (tree_pairs m root) (λ k among. ap (λ ws. value_cmp (value_of type ws) value) (is.keys_stay k among))
 
-  open_put : put (beside value n) (key, word) (tree_pairs n root) ≡ put (beside value m) (key, word) (tree_pairs m root)
-  open_put = ap (put (beside value n) (key, word)) stays.1 ∙ put_as (beside value m) (beside value n) (key, word) (tree_pairs m root) agree
+  open_put : put (beside_value value n) (key, word) (tree_pairs n root) ≡ put (beside_value value m) (key, word) (tree_pairs m root)
+  open_put = ap (put (beside_value value n) (key, word)) stays.1 ∙ put_as (beside_value value m) (beside_value value n) (key, word) (tree_pairs m root) agree
 
-  open_out : take_out (beside value n) (tree_pairs n root) ≡ rest
-  open_out = ap (take_out (beside value n)) stays.1 ∙ take_out_as (beside value m) (beside value n) (tree_pairs m root) agree
+  open_out : take_out (beside_value value n) (tree_pairs n root) ≡ rest
+  open_out = ap (take_out (beside_value value n)) stays.1 ∙ take_out_as (beside_value value m) (beside_value value n) (tree_pairs m root) agree
 
   -- a value that was there is there
-  pub open_there : (was : ℕ) → lookup_pair (beside value m) (tree_pairs m root) ≡ Some (key, was) → IsSome (lookup (beside value n) (tree_pairs n root))
+  pub open_there : (was : ℕ) → lookup_pair (beside_value value m) (tree_pairs m root) ≡ Some (key, was) → IsSome (lookup (beside_value value n) (tree_pairs n root))
   open_there was found =
-      subst {A = Option ℕ} IsSome (sym (lookup-of_pair (beside value n) (tree_pairs n root)
+      subst {A = Option ℕ} IsSome (sym (lookup-of_pair (beside_value value n) (tree_pairs n root)
       ∙ ap (λ (o : Option (ℕ × ℕ)). option_map (λ (p : ℕ × ℕ). p.1) o)
-      (ap (lookup_pair (beside value n)) stays.1 ∙ lookup_pair_as (beside value m) (beside value n) (tree_pairs m root) agree ∙ found))) refl
+      (ap (lookup_pair (beside_value value n)) stays.1 ∙ lookup_pair_as (beside_value value m) (beside_value value n) (tree_pairs m root) agree ∙ found))) refl
 
   -- ---- after a change of the dictionary
   module _ (c : Ledger H) (o : Records) (next : ℕ) (pairs : List (ℕ × ℕ)) (makes : MakesDictionary type b c n o root pairs next) where
@@ -111,8 +111,8 @@ module _ {H : Type 0} (value : Value) (a b : Ledger H) (m n : Records) (root key
         (flow_part b c n o (tree root) (tree next) then makes.turns r (began-then a b first r began) among)
 
     -- the value was set
-    module _ (some : 0 < word) (are : pairs ≡ put (beside value n) (key, word) (tree_pairs n root)) where
-      pairs_are : tree_pairs o next ≡ put (beside value m) (key, word) (tree_pairs m root)
+    module _ (some : 0 < word) (are : pairs ≡ put (beside_value value n) (key, word) (tree_pairs n root)) where
+      pairs_are : tree_pairs o next ≡ put (beside_value value m) (key, word) (tree_pairs m root)
       pairs_are = makes.pairs_are ∙ are ∙ open_put
 
       new_pair : IsValuePair o (key, word)
@@ -122,8 +122,8 @@ module _ {H : Type 0} (value : Value) (a b : Ledger H) (m n : Records) (root key
       index_set = record {
         dictionary_is = makes.dictionary_is;
         pairs = subst (AllByRecursion (IsValuePair o)) (sym pairs_are)
-            (all_put (beside value m) (IsValuePair o) (key, word) (tree_pairs m root) new_pair
-            (all-same m o (pair_reach m) (IsValuePair m) (IsValuePair o) (pair_same m o) rest rest_stays (all_taken (beside value m) (IsValuePair m) (tree_pairs m root) start.pairs)));
+            (all_put (beside_value value m) (IsValuePair o) (key, word) (tree_pairs m root) new_pair
+            (all-same m o (pair_reach m) (IsValuePair m) (IsValuePair o) (pair_same m o) rest rest_stays (all_taken (beside_value value m) (IsValuePair m) (tree_pairs m root) start.pairs)));
       }
 
       new_shown : shown (stored_value type o) (docs_at o) (key, word) ≡ (value, list_at n word)
@@ -142,25 +142,25 @@ module _ {H : Type 0} (value : Value) (a b : Ledger H) (m n : Records) (root key
         where
           kept : (ref : ℕ) → IsKey m root ref → (ref ≡ key) ⊎ Among ref (keys rest) → IsKey o next ref × (o ref ≡ m ref)
           kept ref among (inl here) = (
-            subst (λ ps. Among ref (keys ps)) (sym pairs_are) (subst (λ k. Among k (keys (put (beside value m) (key, word) (tree_pairs m root)))) (sym here) (key_put (beside value m) (key, word) (tree_pairs m root))),
+            subst (λ ps. Among ref (keys ps)) (sym pairs_are) (subst (λ k. Among k (keys (put (beside_value value m) (key, word) (tree_pairs m root)))) (sym here) (key_put (beside_value value m) (key, word) (tree_pairs m root))),
             subst (λ k. o k ≡ n k) (sym here) key_stays ∙ is.keys_stay ref among,
           )
           kept ref among (inr later) = (
-            subst (λ ps. Among ref (keys ps)) (sym pairs_are) (among_put (beside value m) (key, word) ref (tree_pairs m root) later),
+            subst (λ ps. Among ref (keys ps)) (sym pairs_are) (among_put (beside_value value m) (key, word) ref (tree_pairs m root) later),
             same_among m o (keys rest) ref (keys_same m o rest rest_stays) later,
           )
 
       set_count : (r : ℕ) → count_in r o (index_part next ∷ []) ≡ count_in r o (parts next key word rest)
       set_count r =
           let whole = index_count o next r in
-          let same : times r (flat_map (pair_reach o) (tree_pairs o next)) ≡ times r (flat_map (pair_reach o) (put (beside value m) (key, word) (tree_pairs m root))) =
+          let same : times r (flat_map (pair_reach o) (tree_pairs o next)) ≡ times r (flat_map (pair_reach o) (put (beside_value value m) (key, word) (tree_pairs m root))) =
           ap (λ ps. times r (flat_map (pair_reach o) ps)) pairs_are in
-          let split = put_times (beside value m) (pair_reach o) r (key, word) (tree_pairs m root) in
+          let split = put_times (beside_value value m) (pair_reach o) r (key, word) (tree_pairs m root) in
           let one = pair_count o key word r some in
           omega arith
 
       -- the list is as it was before the dictionary changed
-      list_from : FlowsOpen value a b m n root key word → ComesFrom a (list_reach o word) (list_reach m (word_at value m root))
+      list_from : FlowsOpen value a b m n root key word → ComesFrom a (list_reach o word) (list_reach m (list_word value m root))
       list_from taken r began among = taken.from_list r began (subst (λ rs. Among r rs) (list_reach-same n o word tree_step.stay.1.0) among)
 
       pub value_set : FlowsOpen value a b m n root key word → MayDo b c
@@ -175,7 +175,7 @@ module _ {H : Type 0} (value : Value) (a b : Ledger H) (m n : Records) (root key
       }
 
     -- the value was taken out, and its key dropped
-    module _ (empty : word ≡ 0) (are : pairs ≡ take_out (beside value n) (tree_pairs n root)) where
+    module _ (empty : word ≡ 0) (are : pairs ≡ take_out (beside_value value n) (tree_pairs n root)) where
       left_are : tree_pairs o next ≡ rest
       left_are = makes.pairs_are ∙ are ∙ open_out
 
@@ -205,7 +205,7 @@ module _ {H : Type 0} (value : Value) (a b : Ledger H) (m n : Records) (root key
         index_left = record {
           dictionary_is = left.0;
           pairs = subst (AllByRecursion (IsValuePair p)) (sym pairs_left)
-              (all-same m p (pair_reach m) (IsValuePair m) (IsValuePair p) (pair_same m p) rest rest_left (all_taken (beside value m) (IsValuePair m) (tree_pairs m root) start.pairs));
+              (all-same m p (pair_reach m) (IsValuePair m) (IsValuePair p) (pair_same m p) rest rest_left (all_taken (beside_value value m) (IsValuePair m) (tree_pairs m root) start.pairs));
         }
 
         reads_left : index_of type p next ≡ remove_entry (is_at (value_cmp value)) (index_of type m root)

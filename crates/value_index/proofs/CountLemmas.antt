@@ -16,7 +16,7 @@ use Rattle.tree_make.specs.Changes.{levels}
 use Rattle.tree_make.specs.Makes.{CountsNodes}
 use Rattle.array_store.specs.Adding.{MakesOneOf}
 use Rattle.attr_types.specs.declared.value.Value.{Value}
-use Rattle.enum_dictionary.specs.Dictionaries.{beside}
+use Rattle.enum_dictionary.specs.Dictionaries.{beside_value}
 use Rattle.posting_store.specs.Changes.{list_most, MakesWithin}
 use Rattle.posting_store.specs.Lists.{list_levels}
 use Rattle.value_index.specs.Changes.{add_most, change_most, nodes_most, record_most}
@@ -70,31 +70,31 @@ within_tree a b m n root most same few counts =
 
 -- ---- what a change makes, by what is found
 module _ (value : Value) (m : Records) (root : ℕ) where
-  pair_word : lookup (beside value m) (tree_pairs m root) ≡ option_map (λ p. p.1) (lookup_pair (beside value m) (tree_pairs m root))
-  pair_word = lookup-of_pair (beside value m) (tree_pairs m root)
+  pair_word : lookup (beside_value value m) (tree_pairs m root) ≡ option_map (λ p. p.1) (lookup_pair (beside_value value m) (tree_pairs m root))
+  pair_word = lookup-of_pair (beside_value value m) (tree_pairs m root)
 
-  change_by : (word count w : ℕ) → unwrap_or (lookup (beside value m) (tree_pairs m root)) 0 ≡ word
+  change_by : (word count w : ℕ) → unwrap_or (lookup (beside_value value m) (tree_pairs m root)) 0 ≡ word
       → change_most value m root count w ≡ list_most (list_levels m word) count w + nodes_most (levels m root) w
   change_by word count w is = ap (λ x. list_most (list_levels m x) count w + nodes_most (levels m root) w) is
 
-  pub change_found : (key word count w : ℕ) → lookup_pair (beside value m) (tree_pairs m root) ≡ Some (key, word)
+  pub change_found : (key word count w : ℕ) → lookup_pair (beside_value value m) (tree_pairs m root) ≡ Some (key, word)
       → list_most (list_levels m word) count w + nodes_most (levels m root) w ≤ change_most value m root count w
   change_found key word count w found =
-      let word_is : unwrap_or (lookup (beside value m) (tree_pairs m root)) 0 ≡ word =
+      let word_is : unwrap_or (lookup (beside_value value m) (tree_pairs m root)) 0 ≡ word =
       ap (λ (o : Option ℕ). unwrap_or o 0) (pair_word ∙ ap (λ (o : Option (ℕ × ℕ)). option_map (λ (p : ℕ × ℕ). p.1) o) found) in
       let same = change_by word count w word_is in
       omega arith
 
-  pub add_found : (key word count w : ℕ) → lookup_pair (beside value m) (tree_pairs m root) ≡ Some (key, word)
+  pub add_found : (key word count w : ℕ) → lookup_pair (beside_value value m) (tree_pairs m root) ≡ Some (key, word)
       → list_most (list_levels m word) count w + nodes_most (levels m root) w ≤ add_most value m root count w
   add_found key word count w found = let few = change_found key word count w found in omega arith
 
-  pub add_none : (count w : ℕ) → lookup_pair (beside value m) (tree_pairs m root) ≡ None
+  pub add_none : (count w : ℕ) → lookup_pair (beside_value value m) (tree_pairs m root) ≡ None
       → record_most value w + (list_most 0 count w + nodes_most (levels m root) w) ≤ add_most value m root count w
   add_none count w none =
-      let word_is : unwrap_or (lookup (beside value m) (tree_pairs m root)) 0 ≡ 0 =
+      let word_is : unwrap_or (lookup (beside_value value m) (tree_pairs m root)) 0 ≡ 0 =
       ap (λ (o : Option ℕ). unwrap_or o 0) (pair_word ∙ ap (λ (o : Option (ℕ × ℕ)). option_map (λ (p : ℕ × ℕ). p.1) o) none) in
       let same = change_by 0 count w word_is in
-      let fresh : cond (is_some (option_map (λ (p : ℕ × ℕ). p.0) (lookup_pair (beside value m) (tree_pairs m root)))) 0 (record_most value w) ≡ record_most value w =
+      let fresh : cond (is_some (option_map (λ (p : ℕ × ℕ). p.0) (lookup_pair (beside_value value m) (tree_pairs m root)))) 0 (record_most value w) ≡ record_most value w =
       ap (λ (o : Option (ℕ × ℕ)). cond (is_some (option_map (λ (p : ℕ × ℕ). p.0) o)) 0 (record_most value w)) none in
       omega arith

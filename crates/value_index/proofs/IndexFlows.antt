@@ -18,10 +18,10 @@ use Rattle.attr_types.specs.ProofsForOrder.{value_cmp_exact}
 use Rattle.attr_types.specs.Value.{type_of, value_cmp}
 use Rattle.attr_types.specs.declared.kind.ValueType.{ValueType}
 use Rattle.attr_types.specs.declared.value.Value.{Value}
-use Rattle.enum_dictionary.specs.Dictionaries.{beside}
+use Rattle.enum_dictionary.specs.Dictionaries.{beside_value}
 use Rattle.enum_dictionary.proofs.DictionaryLemmas.{value_same}
 use Rattle.posting_store.specs.Lists.{list_reach}
-use Rattle.value_index.specs.Flows.{word_at, FlowsIndex}
+use Rattle.value_index.specs.Flows.{list_word, FlowsIndex}
 use Rattle.value_index.specs.Indexes.{index_reach}
 use Rattle.store_api.specs.Flows.{ComesFrom}
 use Rattle.store_api.proofs.Flows.{comes-then}
@@ -65,10 +65,10 @@ module _ {H : Type 0} (type : ValueType) (a : Ledger H) (m n : Records) (root : 
   pairs : tree_pairs n root ≡ tree_pairs m root
   pairs = tree_pairs-same m n root nodes
 
-  lists : (value : Value) → list_reach n (word_at value n root) ≡ list_reach m (word_at value m root)
+  lists : (value : Value) → list_reach n (list_word value n root) ≡ list_reach m (list_word value m root)
   lists value =
-      ap (λ ps. list_reach n (found_word (beside value n) ps)) pairs
-      ∙ words_as (list_reach m) (list_reach n) refl (beside value m) (beside value n) (tree_pairs m root)
+      ap (λ ps. list_reach n (found_word (beside_value value n) ps)) pairs
+      ∙ words_as (list_reach m) (list_reach n) refl (beside_value value m) (beside_value value n) (tree_pairs m root)
       (words_stay (type_of value) value m n (tree_pairs m root) (SameAt-right m n (tree_nodes m root) (dictionary_reach m root) same))
 
   pub flows_stay : FlowsIndex type a m n root root
@@ -87,7 +87,7 @@ pub flows_then : {H : Type 0} (type : ValueType) (a b : Ledger H) (k m n : Recor
 flows_then type a b k m n first root next may one two = record {
   keys = comes-then a b (keys (tree_pairs k first)) (keys (tree_pairs m root)) (keys (tree_pairs n next)) may one.keys two.keys;
   nodes = comes-then a b (tree_nodes k first) (tree_nodes m root) (tree_nodes n next) may one.nodes two.nodes;
-  lists = λ value typed. comes-then a b (list_reach k (word_at value k first)) (list_reach m (word_at value m root)) (list_reach n (word_at value n next)) may
+  lists = λ value typed. comes-then a b (list_reach k (list_word value k first)) (list_reach m (list_word value m root)) (list_reach n (list_word value n next)) may
       (one.lists value typed) (two.lists value typed);
 }
 
@@ -110,7 +110,7 @@ module _ {H : Type 0} (value : Value) (a : Ledger H) (m o : Records) (root next 
   lists_by : TakesList value
       → ((other : Value) → (value_cmp value other ≡ Equal → ⊥)
       → list_reach o (found_word (against type other o) (tree_pairs o next)) ≡ list_reach m (found_word (against type other m) (tree_pairs m root)))
-      → (other : Value) → type_of other ≡ type → ComesFrom a (list_reach o (word_at other o next)) (list_reach m (word_at other m root))
+      → (other : Value) → type_of other ≡ type → ComesFrom a (list_reach o (list_word other o next)) (list_reach m (list_word other m root))
   lists_by own same other typed =
       subst (λ (t : ValueType). ComesFrom a (list_reach o (found_word (against t other o) (tree_pairs o next))) (list_reach m (found_word (against t other m) (tree_pairs m root))))
       (sym typed) (by (value_cmp value other) refl)
@@ -121,8 +121,8 @@ module _ {H : Type 0} (value : Value) (a : Ledger H) (m o : Records) (root next 
       by Equal is = subst TakesList (value_cmp_exact value other is) own
 
   -- set
-  module _ (key word : ℕ) (pairs_are : tree_pairs o next ≡ put (beside value m) (key, word) (tree_pairs m root)) (reads : stored_value type o key ≡ value)
-      (from_key : ComesFrom a (key ∷ []) (keys (tree_pairs m root))) (from_list : ComesFrom a (list_reach o word) (list_reach m (word_at value m root))) where
+  module _ (key word : ℕ) (pairs_are : tree_pairs o next ≡ put (beside_value value m) (key, word) (tree_pairs m root)) (reads : stored_value type o key ≡ value)
+      (from_key : ComesFrom a (key ∷ []) (keys (tree_pairs m root))) (from_list : ComesFrom a (list_reach o word) (list_reach m (list_word value m root))) where
     set_own : found_word (against type value o) (tree_pairs o next) ≡ word
     set_own =
         ap (λ (x : Option ℕ). unwrap_or x 0)
@@ -139,7 +139,7 @@ module _ {H : Type 0} (value : Value) (a : Ledger H) (m o : Records) (root next 
 
     pub flows_set : FlowsIndex type a m o root next
     flows_set = record {
-      keys = λ r began among. was r (from_key r began) (put_among (beside value m) r (key, word) (tree_pairs m root) (subst (λ ps. Among r (keys ps)) pairs_are among));
+      keys = λ r began among. was r (from_key r began) (put_among (beside_value value m) r (key, word) (tree_pairs m root) (subst (λ ps. Among r (keys ps)) pairs_are among));
       nodes = nodes;
       lists = lists_by (λ r began among. from_list r began (subst (λ (w : ℕ). Among r (list_reach o w)) set_own among)) set_other;
     }
@@ -164,7 +164,7 @@ module _ {H : Type 0} (value : Value) (a : Ledger H) (m o : Records) (root next 
 
     pub flows_out : FlowsIndex type a m o root next
     flows_out = record {
-      keys = λ r began among. taken_among (beside value m) r (tree_pairs m root) (subst (λ ps. Among r (keys ps)) pairs_are among);
+      keys = λ r began among. taken_among (beside_value value m) r (tree_pairs m root) (subst (λ ps. Among r (keys ps)) pairs_are among);
       nodes = nodes;
       lists = lists_by (λ r began among. absurd (subst (λ (w : ℕ). Among r (list_reach o w)) out_own among)) out_same;
     }

@@ -18,7 +18,7 @@ use Rattle.attr_types.specs.Value.{type_of, value_cmp}
 use Rattle.attr_types.specs.declared.kind.ValueType.{ValueType}
 use Rattle.attr_types.specs.declared.kind.ValueType.TheVariants as types
 use Rattle.attr_types.specs.declared.value.Value.{Value}
-use Rattle.enum_dictionary.specs.Dictionaries.{beside}
+use Rattle.enum_dictionary.specs.Dictionaries.{beside_value}
 use Rattle.enum_dictionary.proofs.DictionaryLemmas.{value_same}
 use Rattle.value_index.specs.Indexes.{key_at, IsIndex, IsKey, IsValuePair}
 use Rattle.value_index.specs.Laws.{IsKeyRecord}
@@ -33,24 +33,24 @@ type_read types.Text ws = refl
 -- the list of a value by the pair that is found for it
 module _ (value : Value) (m : Records) (root : ℕ) (is : IsIndex (type_of value) m root) where
   by_pair : lookup (is_at (value_cmp value)) (index_of (type_of value) m root)
-      ≡ option_map (λ (p : ℕ × ℕ). docs_at m p.1) (lookup_pair (beside value m) (tree_pairs m root))
+      ≡ option_map (λ (p : ℕ × ℕ). docs_at m p.1) (lookup_pair (beside_value value m) (tree_pairs m root))
   by_pair = shown_found value (stored_value (type_of value) m) (docs_at m) (tree_pairs m root) is.dictionary_is.tree_is.ascends
 
-  pub list_found : (p : ℕ × ℕ) → lookup_pair (beside value m) (tree_pairs m root) ≡ Some p → list_of value (index_of (type_of value) m root) ≡ docs_at m p.1
+  pub list_found : (p : ℕ × ℕ) → lookup_pair (beside_value value m) (tree_pairs m root) ≡ Some p → list_of value (index_of (type_of value) m root) ≡ docs_at m p.1
   list_found p found =
       ap (λ (o : Option Docs). unwrap_or o []) by_pair
       ∙ ap (λ (o : Option (ℕ × ℕ)). unwrap_or (option_map (λ (q : ℕ × ℕ). docs_at m q.1) o) []) found
 
-  pub list_none : lookup_pair (beside value m) (tree_pairs m root) ≡ None → list_of value (index_of (type_of value) m root) ≡ []
+  pub list_none : lookup_pair (beside_value value m) (tree_pairs m root) ≡ None → list_of value (index_of (type_of value) m root) ≡ []
   list_none none =
       ap (λ (o : Option Docs). unwrap_or o []) by_pair
       ∙ ap (λ (o : Option (ℕ × ℕ)). unwrap_or (option_map (λ (q : ℕ × ℕ). docs_at m q.1) o) []) none
 
-  pub pair_found : (p : ℕ × ℕ) → lookup_pair (beside value m) (tree_pairs m root) ≡ Some p → IsValuePair m p
-  pair_found p found = all_found (beside value m) (IsValuePair m) p (tree_pairs m root) is.pairs found
+  pub pair_found : (p : ℕ × ℕ) → lookup_pair (beside_value value m) (tree_pairs m root) ≡ Some p → IsValuePair m p
+  pair_found p found = all_found (beside_value value m) (IsValuePair m) p (tree_pairs m root) is.pairs found
 
-  pub record_found : (p : ℕ × ℕ) → lookup_pair (beside value m) (tree_pairs m root) ≡ Some p → IsValueRecord (type_of value) (m p.0)
-  record_found p found = all_found (beside value m) (λ q. IsValueRecord (type_of value) (m q.0)) p (tree_pairs m root) is.dictionary_is.keys found
+  pub record_found : (p : ℕ × ℕ) → lookup_pair (beside_value value m) (tree_pairs m root) ≡ Some p → IsValueRecord (type_of value) (m p.0)
+  record_found p found = all_found (beside_value value m) (λ q. IsValueRecord (type_of value) (m q.0)) p (tree_pairs m root) is.dictionary_is.keys found
 
 -- the key that is found reads as the value
 found_equal : (c : ℕ → Ordering) (p : ℕ × ℕ) (ps : List (ℕ × ℕ)) → lookup_pair c ps ≡ Some p → c p.0 ≡ Equal
@@ -65,8 +65,8 @@ found_equal c p (q ∷ ps) is =
     same_some : (a b : ℕ × ℕ) → Some a ≡ Some b → a ≡ b
     same_some a b e = cc
 
-pub reads_found : (value : Value) (m : Records) (p : ℕ × ℕ) (ps : List (ℕ × ℕ)) → lookup_pair (beside value m) ps ≡ Some p → stored_value (type_of value) m p.0 ≡ value
-reads_found value m p ps found = value_cmp_exact (stored_value (type_of value) m p.0) value (found_equal (beside value m) p ps found)
+pub reads_found : (value : Value) (m : Records) (p : ℕ × ℕ) (ps : List (ℕ × ℕ)) → lookup_pair (beside_value value m) ps ≡ Some p → stored_value (type_of value) m p.0 ≡ value
+reads_found value m p ps found = value_cmp_exact (stored_value (type_of value) m p.0) value (found_equal (beside_value value m) p ps found)
 
 -- the pair of a key is found by what it reads as
 pub by_value : (v : ℕ → Value) (ref : ℕ) (ps : List (ℕ × ℕ)) → IsStrictlySortedBy value_cmp (map (λ p. v p.0) ps) → Among ref (keys ps)
@@ -116,7 +116,7 @@ key_is_read type m root ref is key =
     let value = stored_value type m ref in
     let typed : type_of value ≡ type = type_read type (m ref) in
     let at = by_value (stored_value type m) ref (tree_pairs m root) is.dictionary_is.tree_is.ascends key in
-    let found : lookup_pair (beside value m) (tree_pairs m root) ≡ Some (ref, at.0) =
+    let found : lookup_pair (beside_value value m) (tree_pairs m root) ≡ Some (ref, at.0) =
     subst (λ (t : ValueType). lookup_pair (λ k. value_cmp (stored_value t m k) value) (tree_pairs m root) ≡ Some (ref, at.0)) (sym typed) at.1 in
     let as_index : IsIndex (type_of value) m root = subst (λ (t : ValueType). IsIndex t m root) (sym typed) is in
     record {
@@ -139,8 +139,8 @@ pair_of_key ref (Some p) is = (p, refl, same p.0 ref is)
 
 found_key_at : (value : Value) (m : Records) (root ref : ℕ) → key_at value m root ≡ Some ref → IsKey m root ref × (stored_value (type_of value) m ref ≡ value)
 found_key_at value m root ref at =
-    let pair = pair_of_key ref (lookup_pair (beside value m) (tree_pairs m root)) at in (
-      subst (λ (k : ℕ). Among k (keys (tree_pairs m root))) pair.2 (found_among (beside value m) pair.0 (tree_pairs m root) pair.1),
+    let pair = pair_of_key ref (lookup_pair (beside_value value m) (tree_pairs m root)) at in (
+      subst (λ (k : ℕ). Among k (keys (tree_pairs m root))) pair.2 (found_among (beside_value value m) pair.0 (tree_pairs m root) pair.1),
       subst (λ (k : ℕ). stored_value (type_of value) m k ≡ value) pair.2 (reads_found value m pair.0 (tree_pairs m root) pair.1),
     )
 
@@ -149,7 +149,7 @@ pub found_is_key : (type : ValueType) (m : Records) (root ref : ℕ) (value : Va
 found_is_key type m root ref value is typed at =
     subst (λ (t : ValueType). IsKey m root ref × (stored_value t m ref ≡ value)) typed (found_key_at value m root ref at)
 
-has_key : (value : Value) (m : Records) (root : ℕ) → IsIndex (type_of value) m root → (o : Option (ℕ × ℕ)) → lookup_pair (beside value m) (tree_pairs m root) ≡ o
+has_key : (value : Value) (m : Records) (root : ℕ) → IsIndex (type_of value) m root → (o : Option (ℕ × ℕ)) → lookup_pair (beside_value value m) (tree_pairs m root) ≡ o
     → 0 < length (list_of value (index_of (type_of value) m root)) → (ref : ℕ) × (key_at value m root ≡ Some ref)
 has_key value m root is None none some =
     absurd (let empty : length (list_of value (index_of (type_of value) m root)) ≡ 0 = ap (λ (docs : Docs). length docs) (list_none value m root is none) in omega arith)
@@ -158,5 +158,5 @@ has_key value m root is (Some p) found some = (p.0, ap (option_map (λ (q : ℕ 
 pub value_has_key : (type : ValueType) (m : Records) (root : ℕ) (value : Value) → IsIndex type m root → type_of value ≡ type
     → 0 < length (list_of value (index_of type m root)) → (ref : ℕ) × (key_at value m root ≡ Some ref)
 value_has_key type m root value is typed some =
-    has_key value m root (subst (λ (t : ValueType). IsIndex t m root) (sym typed) is) (lookup_pair (beside value m) (tree_pairs m root)) refl
+    has_key value m root (subst (λ (t : ValueType). IsIndex t m root) (sym typed) is) (lookup_pair (beside_value value m) (tree_pairs m root)) refl
     (subst (λ (t : ValueType). 0 < length (list_of value (index_of t m root))) (sym typed) some)

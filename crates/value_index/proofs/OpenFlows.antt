@@ -11,10 +11,10 @@ use Rattle.store_api.proofs.May.{may_do-then}
 use Rattle.tree_images.specs.Trees.{tree_pairs}
 use Rattle.array_store.specs.Adding.{AddsRecord}
 use Rattle.attr_types.specs.declared.value.Value.{Value}
-use Rattle.enum_dictionary.specs.Dictionaries.{beside}
+use Rattle.enum_dictionary.specs.Dictionaries.{beside_value}
 use Rattle.posting_store.specs.Changes.{list_part, MakesList}
 use Rattle.posting_store.specs.Lists.{list_reach}
-use Rattle.value_index.specs.Flows.{word_at}
+use Rattle.value_index.specs.Flows.{list_word}
 use Rattle.store_api.specs.Flows.{ComesFrom}
 use Rattle.store_api.proofs.Flows.{began-then, flow_made, flow_part}
 use Rattle.value_index.proofs.PairLemmas.{keys, found_among}
@@ -22,18 +22,18 @@ use Rattle.value_index.proofs.PairLemmas.{keys, found_among}
 pub record FlowsOpen {H : Type 0} (value : Value) (a b : Ledger H) (m n : Records) (root key word : ℕ) : Type 0 where
   pub may : MayDo a b
   pub from_key : ComesFrom a (key ∷ []) (keys (tree_pairs m root))
-  pub from_list : ComesFrom a (list_reach n word) (list_reach m (word_at value m root))
+  pub from_list : ComesFrom a (list_reach n word) (list_reach m (list_word value m root))
 
 -- the list of a value that is there was changed
 module _ {H : Type 0} (value : Value) (a b : Ledger H) (m n : Records) (root key was next : ℕ) (docs : List (ℕ × ℤ))
-    (found : lookup_pair (beside value m) (tree_pairs m root) ≡ Some (key, was)) (may : MayDo a b) (makes : MakesList a b m n was docs next) where
-  word_is : word_at value m root ≡ was
+    (found : lookup_pair (beside_value value m) (tree_pairs m root) ≡ Some (key, was)) (may : MayDo a b) (makes : MakesList a b m n was docs next) where
+  word_is : list_word value m root ≡ was
   word_is =
       ap (λ (x : Option ℕ). unwrap_or x 0)
-      (lookup-of_pair (beside value m) (tree_pairs m root) ∙ ap (λ (f : Option (ℕ × ℕ)). option_map (λ (p : ℕ × ℕ). p.1) f) found)
+      (lookup-of_pair (beside_value value m) (tree_pairs m root) ∙ ap (λ (f : Option (ℕ × ℕ)). option_map (λ (p : ℕ × ℕ). p.1) f) found)
 
   key_there : (r : ℕ) → Among r (key ∷ []) → Among r (keys (tree_pairs m root))
-  key_there r (inl here) = subst (λ k. Among k (keys (tree_pairs m root))) (sym here) (found_among (beside value m) (key, was) (tree_pairs m root) found)
+  key_there r (inl here) = subst (λ k. Among k (keys (tree_pairs m root))) (sym here) (found_among (beside_value value m) (key, was) (tree_pairs m root) found)
   key_there r (inr none) = absurd none
 
   pub flows_found : FlowsOpen value a b m n root key next

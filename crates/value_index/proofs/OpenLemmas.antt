@@ -16,7 +16,7 @@ use Rattle.attr_images.specs.ProofsForImages.{postings_reach-same}
 use Rattle.attr_images.specs.Values.{stored_value, value_of, IsValueRecord}
 use Rattle.attr_types.specs.Value.{type_of}
 use Rattle.attr_types.specs.declared.value.Value.{Value}
-use Rattle.enum_dictionary.specs.Dictionaries.{beside}
+use Rattle.enum_dictionary.specs.Dictionaries.{beside_value}
 use Rattle.posting_store.specs.Changes.{list_part, MakesList}
 use Rattle.posting_store.specs.Lists.{list_reach, IsList, IsPlain}
 use Rattle.posting_store.proofs.FormLemmas.{reach_form}
@@ -54,7 +54,7 @@ pairs_part ps = record { reach = λ m. flat_map (pair_reach m) ps; stays = λ m 
 
 -- the pairs of all other values
 abbrev pub others : Value → Records → ℕ → List (ℕ × ℕ)
-others value m root = take_out (beside value m) (tree_pairs m root)
+others value m root = take_out (beside_value value m) (tree_pairs m root)
 
 -- an index taken apart at one value
 abbrev pub parts : ℕ → ℕ → ℕ → List (ℕ × ℕ) → List Part
@@ -86,12 +86,12 @@ pub record IsOpen {H : Type 0} (value : Value) (old now : Ledger H) (m n : Recor
 
 module _ {H : Type 0} (value : Value) (a : Ledger H) (m : Records) (root : ℕ) (is : IsIndex (type_of value) m root) (owns : Owns a m (index_part root ∷ [])) where
   -- a value that is there
-  pub open_found : (key word : ℕ) → lookup_pair (beside value m) (tree_pairs m root) ≡ Some (key, word) → IsOpen value a a m m root key word
+  pub open_found : (key word : ℕ) → lookup_pair (beside_value value m) (tree_pairs m root) ≡ Some (key, word) → IsOpen value a a m m root key word
   open_found key word found =
       let pair = pair_found value m root is (key, word) found in
       let counted : (r : ℕ) → count_in r m (index_part root ∷ []) ≡ count_in r m (parts root key word (others value m root)) = λ r.
       let whole = index_count m root r in
-      let split = found_times (beside value m) (pair_reach m) r (key, word) (tree_pairs m root) found in
+      let split = found_times (beside_value value m) (pair_reach m) r (key, word) (tree_pairs m root) found in
       let one = pair_count m key word r pair.some in
       omega arith in
       record {
@@ -101,7 +101,7 @@ module _ {H : Type 0} (value : Value) (a : Ledger H) (m : Records) (root : ℕ) 
         nodes = same_self m (tree_nodes m root);
         rest = same_self m (flat_map (pair_reach m) (others value m root));
         keys_stay = λ ref among. refl;
-        was = λ ref among. among_found (beside value m) (key, word) ref (tree_pairs m root) found among;
+        was = λ ref among. among_found (beside_value value m) (key, word) ref (tree_pairs m root) found among;
         key_some = pair.key;
         record_is = record_found value m root is (key, word) found;
         reads = reads_found value m (key, word) (tree_pairs m root) found;
@@ -110,13 +110,13 @@ module _ {H : Type 0} (value : Value) (a : Ledger H) (m : Records) (root : ℕ) 
       }
 
   -- a value that is new, its record made
-  module _ (bits : ℕ) (b : Ledger H) (n : Records) (words : List ℕ) (key : ℕ) (none : lookup_pair (beside value m) (tree_pairs m root) ≡ None)
+  module _ (bits : ℕ) (b : Ledger H) (n : Records) (words : List ℕ) (key : ℕ) (none : lookup_pair (beside_value value m) (tree_pairs m root) ≡ None)
       (adds : AddsRecord bits a b m n words key) (record_is : IsValueRecord (type_of value) (n key)) (reads : stored_value (type_of value) n key ≡ value) where
     made : Turns a b m n [] (entry key ∷ [])
     made = adds.turns
 
     all_pairs : others value m root ≡ tree_pairs m root
-    all_pairs = none_out (beside value m) (tree_pairs m root) none
+    all_pairs = none_out (beside_value value m) (tree_pairs m root) none
 
     step : After a b m n (index_part root ∷ []) (entry key ∷ index_part root ∷ []) (index_part root ∷ [])
     step = after a b m n [] (entry key ∷ []) (index_part root ∷ []) (index_part root ∷ []) (entry key ∷ index_part root ∷ []) owns made (λ k r. omega arith) (λ k r. omega arith)

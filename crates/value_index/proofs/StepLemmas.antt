@@ -20,7 +20,7 @@ use Rattle.attr_images.specs.Words.{class_of}
 use Rattle.attr_index.specs.Index.{list_of, with_list}
 use Rattle.attr_types.specs.Value.{type_of, value_cmp}
 use Rattle.attr_types.specs.declared.value.Value.{Value}
-use Rattle.enum_dictionary.specs.Dictionaries.{beside, entry_of, MakesDictionary}
+use Rattle.enum_dictionary.specs.Dictionaries.{beside_value, entry_of, MakesDictionary}
 use Rattle.enum_dictionary.specs.declared.finding.DictEntry.{DictEntry}
 use Rattle.posting_store.specs.Changes.{list_part, IsListWidth, MakesList}
 use Rattle.posting_store.specs.Lists.{list_at, IsList}
@@ -61,7 +61,7 @@ entry_none bits (Some p) is = absurd (grind (arith, is))
 
 -- a value of which a list has a document is found
 pub value_found : (value : Value) (m : Records) (root doc : ℕ) → IsIndex (type_of value) m root
-    → IsSome (lookup_in (is_at (nat_cmp doc)) (list_of value (index_of (type_of value) m root))) → lookup_pair (beside value m) (tree_pairs m root) ≡ None → ⊥
+    → IsSome (lookup_in (is_at (nat_cmp doc)) (list_of value (index_of (type_of value) m root))) → lookup_pair (beside_value value m) (tree_pairs m root) ≡ None → ⊥
 value_found value m root doc is there none =
     no_doc (subst {A = Docs} (λ docs. IsSome (lookup_in (is_at (nat_cmp doc)) docs)) (list_none value m root is none) there)
   where
@@ -87,7 +87,7 @@ word_some m (suc word) some = omega arith
 
 -- the list of a value that is there
 module _ (value : Value) (m : Records) (root : ℕ) (is : IsIndex (type_of value) m root) (key word : ℕ)
-    (found : lookup_pair (beside value m) (tree_pairs m root) ≡ Some (key, word)) where
+    (found : lookup_pair (beside_value value m) (tree_pairs m root) ≡ Some (key, word)) where
   pub list_is : list_at m word ≡ list_of value (index_of (type_of value) m root)
   list_is = at_form m word (pair_found value m root is (key, word) found).some ∙ sym (list_found value m root is (key, word) found)
 
@@ -106,7 +106,7 @@ module _ (value : Value) (m : Records) (root : ℕ) (is : IsIndex (type_of value
 
 -- a new value's record and list were made
 pub open_new : {H : Type 0} (value : Value) (bits : ℕ) (a b c : Ledger H) (m n o : Records) (root key next : ℕ) (docs : Docs) → IsIndex (type_of value) m root
-    → Owns a m (index_part root ∷ []) → lookup_pair (beside value m) (tree_pairs m root) ≡ None → AddsRecord bits a b m n (value_words value) key
+    → Owns a m (index_part root ∷ []) → lookup_pair (beside_value value m) (tree_pairs m root) ≡ None → AddsRecord bits a b m n (value_words value) key
     → IsValueRecord (type_of value) (n key) → stored_value (type_of value) n key ≡ value → MakesList b c n o 0 docs next → IsOpen value a c m o root key next
 open_new value bits a b c m n o root key next docs is owns none adds record_is reads makes =
     open_list value a b c m n o root key 0 next docs (open_made value a m root is owns bits b n (value_words value) key none adds record_is reads) makes
@@ -115,20 +115,20 @@ open_new value bits a b c m n o root key next docs is owns none adds record_is r
 module _ {H : Type 0} (value : Value) (a b c : Ledger H) (m n o : Records) (root key word : ℕ) (start : IsIndex (type_of value) m root)
     (is : IsOpen value a b m n root key word) (taken : FlowsOpen value a b m n root key word) (may : MayDo b c) (docs : Docs) (reads : list_at n word ≡ docs) where
   pub set_index : (answer : Result ℕ StoreError) (posting : ℕ) → posting ≡ word → 0 < length docs
-      → IfOk answer (MakesDictionary (type_of value) b c n o root (put (beside value n) (key, posting) (tree_pairs n root)))
+      → IfOk answer (MakesDictionary (type_of value) b c n o root (put (beside_value value n) (key, posting) (tree_pairs n root)))
       → IfOk answer (MakesIndex (type_of value) a c m o root (with_list value docs (index_of (type_of value) m root)))
   set_index (Err e) posting same some makes = tt
   set_index (Ok next) posting same some makes =
       let filled : 0 < word = word_some n word (subst {A = Docs} (λ ds. 0 < length ds) (sym reads) some) in
-      let set = value_set value a b m n root key word start is c o next (put (beside value n) (key, posting) (tree_pairs n root)) makes filled
-      (ap (λ (w : ℕ). put (beside value n) (key, w) (tree_pairs n root)) same) taken may in
+      let set = value_set value a b m n root key word start is c o next (put (beside_value value n) (key, posting) (tree_pairs n root)) makes filled
+      (ap (λ (w : ℕ). put (beside_value value n) (key, w) (tree_pairs n root)) same) taken may in
       subst (λ index. MakesIndex (type_of value) a c m o root index next)
       (ap (λ (ds : Docs). insert_entry value_cmp (index_of (type_of value) m root) value ds) reads ∙ sym (with_some value docs (index_of (type_of value) m root) some)) set
 
   pub out_index : (next : ℕ) (d : Ledger H) (p : Records) → word ≡ 0
-      → MakesDictionary (type_of value) b c n o root (take_out (beside value n) (tree_pairs n root)) next → Turns c d o p (entry key ∷ []) []
+      → MakesDictionary (type_of value) b c n o root (take_out (beside_value value n) (tree_pairs n root)) next → Turns c d o p (entry key ∷ []) []
       → MakesIndex (type_of value) a d m p root (with_list value docs (index_of (type_of value) m root)) next
   out_index next d p empty makes dropped =
-      let out = value_out value a b m n root key word start is c o next (take_out (beside value n) (tree_pairs n root)) makes empty refl d p dropped taken.may may in
+      let out = value_out value a b m n root key word start is c o next (take_out (beside_value value n) (tree_pairs n root)) makes empty refl d p dropped taken.may may in
       let none : docs ≡ [] = sym reads ∙ ap (list_at n) empty in
       subst (λ (ds : Docs). MakesIndex (type_of value) a d m p root (with_list value ds (index_of (type_of value) m root)) next) (sym none) out

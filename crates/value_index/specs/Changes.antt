@@ -14,7 +14,7 @@ use Rattle.attr_images.specs.Words.{class_of}
 use Rattle.attr_index.specs.Index.{Index, list_of}
 use Rattle.attr_types.specs.declared.kind.ValueType.{ValueType}
 use Rattle.attr_types.specs.declared.value.Value.{Value}
-use Rattle.enum_dictionary.specs.Dictionaries.{beside}
+use Rattle.enum_dictionary.specs.Dictionaries.{beside_value}
 use Rattle.posting_store.specs.Changes.{list_most, list_width}
 use Rattle.posting_store.specs.Lists.{list_levels}
 use Rattle.value_index.specs.Flows.{FlowsIndex}
@@ -40,7 +40,7 @@ abbrev pub nodes_most : ℕ → ℕ → ℕ
 nodes_most levels width = if nat_eq width NODE_WORDS then 2 * levels + 1 else 0
 
 abbrev pub value_levels : Value → Records → ℕ → ℕ
-value_levels value m root = list_levels m (unwrap_or (lookup (beside value m) (tree_pairs m root)) 0)
+value_levels value m root = list_levels m (unwrap_or (lookup (beside_value value m) (tree_pairs m root)) 0)
 
 -- of a value's list that has so many documents then, and of its pair in the dictionary
 abbrev pub change_most : Value → Records → ℕ → ℕ → ℕ → ℕ

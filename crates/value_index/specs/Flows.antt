@@ -10,16 +10,16 @@ use Rattle.tree_images.specs.Trees.{tree_nodes, tree_pairs}
 use Rattle.attr_types.specs.Value.{type_of}
 use Rattle.attr_types.specs.declared.kind.ValueType.{ValueType}
 use Rattle.attr_types.specs.declared.value.Value.{Value}
-use Rattle.enum_dictionary.specs.Dictionaries.{beside}
+use Rattle.enum_dictionary.specs.Dictionaries.{beside_value}
 use Rattle.posting_store.specs.Lists.{list_reach}
 
 -- the word of a value's list, 0 where no document has it
-abbrev pub word_at : Value → Records → ℕ → ℕ
-word_at value m root = unwrap_or (lookup (beside value m) (tree_pairs m root)) 0
+abbrev pub list_word : Value → Records → ℕ → ℕ
+list_word value m root = unwrap_or (lookup (beside_value value m) (tree_pairs m root)) 0
 
 -- keys come from keys, nodes from nodes, and the records of a value's list from those of its list
 pub record FlowsIndex {H : Type 0} (type : ValueType) (old : Ledger H) (m n : Records) (root next : ℕ) : Type 0 where
   pub keys : ComesFrom old (map (λ p. p.0) (tree_pairs n next)) (map (λ p. p.0) (tree_pairs m root))
   pub nodes : ComesFrom old (tree_nodes n next) (tree_nodes m root)
   pub lists : (value : Value) → type_of value ≡ type
-      → ComesFrom old (list_reach n (word_at value n next)) (list_reach m (word_at value m root))
+      → ComesFrom old (list_reach n (list_word value n next)) (list_reach m (list_word value m root))

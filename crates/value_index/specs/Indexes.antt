@@ -9,7 +9,7 @@ use Rattle.key_order.specs.Pairs.{lookup_pair}
 use Rattle.attr_images.specs.Postings.{dictionary_reach}
 use Rattle.attr_types.specs.declared.kind.ValueType.{ValueType}
 use Rattle.attr_types.specs.declared.value.Value.{Value}
-use Rattle.enum_dictionary.specs.Dictionaries.{IsDictionary, beside}
+use Rattle.enum_dictionary.specs.Dictionaries.{IsDictionary, beside_value}
 use Rattle.posting_store.specs.Lists.{IsList, IsPlain}
 use Rattle.value_index.specs.ProofsForIndexes.{index_reach-same}
 
@@ -34,7 +34,7 @@ index_part root = record { reach = λ m. index_reach m root; stays = λ m n same
 
 -- the key of a value
 abbrev pub key_at : Value → Records → ℕ → Option ℕ
-key_at value m root = option_map (λ p. p.0) (lookup_pair (beside value m) (tree_pairs m root))
+key_at value m root = option_map (λ p. p.0) (lookup_pair (beside_value value m) (tree_pairs m root))
 
 -- a reference is that of a key
 abbrev pub IsKey : Records → ℕ → ℕ → Type 0

@@ -9,7 +9,7 @@ ghost use Rattle.store_api.specs.Units.{MayDo};
 ghost use Rattle.attr_images.specs.Postings.{index_of};
 ghost use Rattle.attr_index.specs.Index.{list_of, with_posting};
 ghost use Rattle.attr_types.specs.Value.{type_of};
-ghost use Rattle.enum_dictionary.specs.Dictionaries.{beside};
+ghost use Rattle.enum_dictionary.specs.Dictionaries.{beside_value};
 ghost use Rattle.posting_store.specs.Changes.{MakesWithin};
 ghost use Rattle.value_index.specs.Changes.{add_most, IsChangeWidth, MakesIndex};
 ghost use Rattle.value_index.specs.Indexes.{index_part, IsIndex};
@@ -33,7 +33,7 @@ fn add_new<const OFFSET_BITS: u32, S: Store<OFFSET_BITS>>(
     requires unit { (S.ledger store.old).unit ≡ true }
     requires index { IsIndex (type_of value.now) (S.records store.old) root }
     requires owns { Owns (S.ledger store.old) (S.records store.old) (index_part root ∷ []) }
-    requires new { lookup_pair (beside value.now (S.records store.old)) (tree_pairs (S.records store.old) root) ≡ None }
+    requires new { lookup_pair (beside_value value.now (S.records store.old)) (tree_pairs (S.records store.old) root) ≡ None }
     ensures makes { IfOk result (MakesIndex (type_of value.now) (S.ledger store.old) (S.ledger store.new)
         (S.records store.old) (S.records store.new) root.entry
         (with_posting value.now doc weight (index_of (type_of value.now) (S.records store.old) root.entry))) }
@@ -63,7 +63,7 @@ fn add_more<const OFFSET_BITS: u32, S: Store<OFFSET_BITS>>(
     requires unit { (S.ledger store.old).unit ≡ true }
     requires index { IsIndex (type_of value.now) (S.records store.old) root }
     requires owns { Owns (S.ledger store.old) (S.records store.old) (index_part root ∷ []) }
-    requires found { lookup_pair (beside value.now (S.records store.old)) (tree_pairs (S.records store.old) root)
+    requires found { lookup_pair (beside_value value.now (S.records store.old)) (tree_pairs (S.records store.old) root)
         ≡ Some (key, list) }
     ensures makes { IfOk result (MakesIndex (type_of value.now) (S.ledger store.old) (S.ledger store.new)
         (S.records store.old) (S.records store.new) root.entry

@@ -10,7 +10,7 @@ ghost use Rattle.store_api.specs.Units.{MayDo};
 ghost use Rattle.attr_images.specs.Postings.{index_of};
 ghost use Rattle.attr_index.specs.Index.{list_of, without_posting};
 ghost use Rattle.attr_types.specs.Value.{type_of};
-ghost use Rattle.enum_dictionary.specs.Dictionaries.{beside};
+ghost use Rattle.enum_dictionary.specs.Dictionaries.{beside_value};
 ghost use Rattle.posting_store.specs.Changes.{MakesWithin};
 ghost use Rattle.value_index.specs.Changes.{change_most, IsChangeWidth, MakesIndex};
 ghost use Rattle.value_index.specs.Indexes.{index_part, IsIndex};
@@ -34,7 +34,7 @@ fn remove_from<const OFFSET_BITS: u32, S: Store<OFFSET_BITS>>(
     requires unit { (S.ledger store.old).unit ≡ true }
     requires index { IsIndex (type_of value.now) (S.records store.old) root }
     requires owns { Owns (S.ledger store.old) (S.records store.old) (index_part root ∷ []) }
-    requires found { lookup_pair (beside value.now (S.records store.old)) (tree_pairs (S.records store.old) root)
+    requires found { lookup_pair (beside_value value.now (S.records store.old)) (tree_pairs (S.records store.old) root)
         ≡ Some (key, list) }
     requires there { IsSome (lookup_in (is_at (nat_cmp doc))
         (list_of value.now (index_of (type_of value.now) (S.records store.old) root))) }

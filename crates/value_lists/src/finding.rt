@@ -6,7 +6,7 @@ ghost use Rattle.attr_images.specs.Postings.{index_of};
 ghost use Rattle.attr_index.specs.Index.{list_of};
 ghost use Rattle.attr_types.specs.Value.{type_of};
 ghost use Rattle.posting_store.specs.Lists.{list_at, IsList, IsPlain};
-ghost use Rattle.posting_store.specs.Walks.{postings_from, first_doc, HasPosting, IsPlace};
+ghost use Rattle.posting_store.specs.Walks.{postings_from, first_doc, HasPosting, IsListPlace};
 ghost use Rattle.value_index.specs.Indexes.{IsIndex};
 
 use attr_types::{Doc, Value};
@@ -22,7 +22,7 @@ fn is_doc<const OFFSET_BITS: u32, F: Frozen<OFFSET_BITS>>(
     frozen: &mut F,
     doc: Doc,
 ) -> bool
-    requires place { IsPlace (F.records frozen.old) cursor.now }
+    requires place { IsListPlace (F.records frozen.old) cursor.now }
     requires posting { HasPosting cursor.now }
     ensures is { IsTrue result → first_doc (postings_from (F.records frozen.old) cursor.now) ≡ doc }
     ensures same { frozen.new ≡ frozen.old }

@@ -18,7 +18,7 @@ use Rattle.gen_core.specs.declared.views.View.{View}
 use Rattle.gen_core.specs.declared.views.View.TheVariants.{Writer}
 use Rattle.gen_core.specs.declared.views.WriterView.{WriterView}
 use Rattle.gen_core.specs.declared.views.ReaderView.{ReaderView}
-use Rattle.gen_core.specs.Views.{hold_place, newest_word, active_in, is_open, is_counted_on, oldest_in, queue_of}
+use Rattle.gen_core.specs.Views.{hold_place, newest_word, active_in, is_open_hold, is_counted_on, oldest_in, queue_of}
 use Rattle.gen_core.specs.Good.{State as CoreState, HoldFits, Good, hold_word}
 use Rattle.gen_core.proofs.Holds.{at_newest, at_oldest, newest-open, first-open}
 use Rattle.gen_core.specs.declared.views.Pending.{Pending}
@@ -35,7 +35,7 @@ use Rattle.gen_core.proofs.GoodViews.{good_view}
 use Rattle.gen_core.proofs.OneStep.{set_back}
 
 -- where no reader was made, an open hold is unused
-alone-unused : (reaches : ℕ → Records → ℕ → List ℕ) (lawful : ℕ → Records → ℕ → Type 0) (s : CoreState) → Good reaches lawful s → (h : ℕ) → h < 16 → is_open s.writer.queue h ≡ true
+alone-unused : (reaches : ℕ → Records → ℕ → List ℕ) (lawful : ℕ → Records → ℕ → Type 0) (s : CoreState) → Good reaches lawful s → (h : ℕ) → h < 16 → is_open_hold s.writer.queue h ≡ true
     → s.writer.made ≡ 0 → slice_index s.words (hold_place h) ≡ 0
 alone-unused reaches lawful s g h low opened made =
     g.counts.counts h low ∙ (λ k. hold_word (count_by (λ r. is_counted_on h r.state) (no-readers s.readers (g.counts.views ∙ made) k)) (opened k))
@@ -191,8 +191,8 @@ module _ (reaches : ℕ → Records → ℕ → List ℕ) (lawful : ℕ → Reco
             alone = λ made.
                 let low : e.hold < 16 = subst (λ (x : OpenHold). x.hold < 16) (ap (λ (o : List OpenHold). oldest_in o w.queue.newest) older)
                 (at_oldest (HoldFits w.commits) w.queue.older w.queue.newest k.good.queue.each).hold in
-                let opened : is_open w.queue e.hold ≡ true =
-                ap (λ (o : List OpenHold). is_open (queue_of o w.queue.newest w.queue.pending) e.hold) older ∙ first-open e es w.queue.newest w.queue.pending in
+                let opened : is_open_hold w.queue e.hold ≡ true =
+                ap (λ (o : List OpenHold). is_open_hold (queue_of o w.queue.newest w.queue.pending) e.hold) older ∙ first-open e es w.queue.newest w.queue.pending in
                 alone-unused reaches lawful _ k.good e.hold low opened made;
           };
           event = record {

@@ -23,7 +23,7 @@ use Rattle.gen_core.specs.Good.{IsLawfulCommit}
 use Rattle.gen_core.specs.Conditions.{IsUnder, MayLoadWord}
 use Rattle.gen_core.specs.Events.{aims, with_state, sees, found_state}
 use Rattle.word_arena.specs.ProofsForGuards.{in_image, image-entry}
-use Rattle.word_arena.specs.Ruled.{IsAim, IsAimOf, Slot, reader_of, ToldLoadRoot, ToldLoadNewest, told_raise, ToldLoadWord, first_of, image_of, number_of, IsPost, IsWatch, IsGuard, IsLater}
+use Rattle.word_arena.specs.Ruled.{IsAim, IsAimOf, Slot, reader_of, ToldLoadRoot, ToldLoadNewest, told_raise, ToldLoadWord, first_seen, seen_image, seen_number, IsPost, IsWatch, IsGuard, IsLater}
 
 -- a seat after a step to the view v
 pub post_after : {bits : ℕ} {arena : TableId} {sizes : Sizes} {z z' : TableId} {me me' : Me Slot View} → IsPost bits arena sizes z me → z' ≡ z → (v : ReaderView) → me' ≡ (Reader v, me.1) → v.sizes ≡ (reader_of me.0).sizes
@@ -62,22 +62,22 @@ guards {reaches} {lawful} {bits} {arena} {sizes} {z} {z'} {me} {me'} {found} h i
       record {
         post = p.0;
         low = low;
-        guarded = subst (λ (x : ReaderView). x.state ≡ Guarded h (number_of x)) (sym p.1) (ap (λ n. Guarded n s.number) hold);
+        guarded = subst (λ (x : ReaderView). x.state ≡ Guarded h (seen_number x)) (sym p.1) (ap (λ n. Guarded n s.number) hold);
         some = subst (λ (x : ReaderView). 0 < length x.saw) (sym p.1) some;
-        root = subst (λ (x : ReaderView). found ≡ number_of x * 2 ^ 32 + (image_of x).root) (sym p.1) s.found_root;
-        small = subst (λ (x : ReaderView). (image_of x).root < 2 ^ 32) (sym p.1) s.commit.small;
-        small_number = subst (λ (x : ReaderView). number_of x < 2 ^ 32) (sym p.1) s.small_number;
-        entries = subst (λ (x : ReaderView). All (λ pair. IsEntry bits sizes.buffers sizes.words (length pair.1) pair.0) (image_of x).records) (sym p.1)
+        root = subst (λ (x : ReaderView). found ≡ seen_number x * 2 ^ 32 + (seen_image x).root) (sym p.1) s.found_root;
+        small = subst (λ (x : ReaderView). (seen_image x).root < 2 ^ 32) (sym p.1) s.commit.small;
+        small_number = subst (λ (x : ReaderView). seen_number x < 2 ^ 32) (sym p.1) s.small_number;
+        entries = subst (λ (x : ReaderView). All (λ pair. IsEntry bits sizes.buffers sizes.words (length pair.1) pair.0) (seen_image x).records) (sym p.1)
             (subst (λ b. All (λ pair. IsEntry b sizes.buffers sizes.words (length pair.1) pair.0) s.image.records) i.same_bits
             (subst (λ (y : Sizes). All (λ pair. IsEntry y.offset_bits y.buffers y.words (length pair.1) pair.0) s.image.records) i.same_sizes s.entries));
       },
       record {
         same_sizes = ap (λ (x : ReaderView). x.sizes) p.1;
-        later = subst (λ (x : ReaderView). r.seen ≤ number_of x) (sym p.1) s.later;
-        seen = subst (λ (x : ReaderView). x.seen ≡ number_of x) (sym p.1) refl;
-        saw = subst (λ (x : ReaderView). x.saw ≡ (number_of x, image_of x) ∷ r.saw) (sym p.1) refl;
+        later = subst (λ (x : ReaderView). r.seen ≤ seen_number x) (sym p.1) s.later;
+        seen = subst (λ (x : ReaderView). x.seen ≡ seen_number x) (sym p.1) refl;
+        saw = subst (λ (x : ReaderView). x.saw ≡ (seen_number x, seen_image x) ∷ r.saw) (sym p.1) refl;
         least = subst (λ (x : ReaderView). r.least ≤ x.least) (sym p.1) (omega arith);
-        commit = subst (λ (x : ReaderView). IsLawfulCommit reaches lawful x.sizes.shape (image_of x)) (sym p.1) s.commit;
+        commit = subst (λ (x : ReaderView). IsLawfulCommit reaches lawful x.sizes.shape (seen_image x)) (sym p.1) s.commit;
       },
     )
   where
@@ -125,17 +125,17 @@ module _ {bits : ℕ} {arena : TableId} {sizes : Sizes} {hold word : ℕ} {z : T
   r = reader_of me.0
 
   abbrev pub m : Records
-  m = words_at (image_of r)
+  m = words_at (seen_image r)
 
   -- the width of references
   view-bits : (reader_of me.0).sizes.offset_bits ≡ bits
   view-bits = ap (λ (x : Sizes). x.offset_bits) g.post.same_sizes ∙ g.post.same_bits
 
   -- the reader is under the guard's commit
-  under : IsUnder r (number_of r) (image_of r)
+  under : IsUnder r (seen_number r) (seen_image r)
   under = record { hold = hold; guarded = g.guarded; seen = by_saw r.saw g.some }
     where
-      by_saw : (l : List (ℕ × Image)) → 0 < length l → slice_get l 0 ≡ Some ((first_of l).0, (first_of l).1)
+      by_saw : (l : List (ℕ × Image)) → 0 < length l → slice_get l 0 ≡ Some ((first_seen l).0, (first_seen l).1)
       by_saw [] h = absurd (omega arith)
       by_saw (x ∷ xs) h = refl
 
@@ -147,7 +147,7 @@ module _ {bits : ℕ} {arena : TableId} {sizes : Sizes} {hold word : ℕ} {z : T
     some = omega (arith, inside)
 
     pub the_entry : IsEntry bits sizes.buffers sizes.words (length (m ref)) ref
-    the_entry = image-entry bits sizes (image_of r) g.entries ref some
+    the_entry = image-entry bits sizes (seen_image r) g.entries ref some
 
     arena-words : arena.words ≡ size_of sizes.buffers sizes.words
     arena-words = ap (λ (x : TableId). x.words) (sym g.post.own) ∙ g.post.words
@@ -161,31 +161,31 @@ module _ {bits : ℕ} {arena : TableId} {sizes : Sizes} {hold word : ℕ} {z : T
     -- it may load the width, and the word
     pub may_load_width : (p : ℕ) → p ≡ base sizes.buffers sizes.words (buffer_of bits ref) → MayLoadWord r p
     may_load_width p is = record {
-      number = number_of r;
-      image = image_of r;
+      number = seen_number r;
+      image = seen_image r;
       under = under;
-      word = (ref, m ref, in_image (image_of r) ref some, inr (is ∙ (λ k. base (sym g.post.same_sizes k).buffers (sym g.post.same_sizes k).words (buffer_of (sym view-bits k) ref))));
+      word = (ref, m ref, in_image (seen_image r) ref some, inr (is ∙ (λ k. base (sym g.post.same_sizes k).buffers (sym g.post.same_sizes k).words (buffer_of (sym view-bits k) ref))));
     }
 
     pub may_load_word : (p : ℕ) → p ≡ place bits sizes.buffers sizes.words (length (m ref)) ref i → MayLoadWord r p
     may_load_word p is = record {
-      number = number_of r;
-      image = image_of r;
+      number = seen_number r;
+      image = seen_image r;
       under = under;
-      word = (ref, m ref, in_image (image_of r) ref some, inl (i, inside, is ∙ (λ k. place (sym view-bits k) (sym g.post.same_sizes k).buffers (sym g.post.same_sizes k).words (length (m ref)) ref i)));
+      word = (ref, m ref, in_image (seen_image r) ref some, inl (i, inside, is ∙ (λ k. place (sym view-bits k) (sym g.post.same_sizes k).buffers (sym g.post.same_sizes k).words (length (m ref)) ref i)));
     }
 
     -- the width that was found
     pub width_found : {slots p found : ℕ} {me' : Me Slot View} → p ≡ base sizes.buffers sizes.words (buffer_of bits ref) → ToldLoadWord (step slots p 0 0 none) me found me' → found ≡ length (m ref)
     width_found {slots} {p} {found} {me'} is told =
-        (told.word (number_of r) (image_of r) under).width ref (m ref) (in_image (image_of r) ref some) (is ∙ (λ k. base (sym g.post.same_sizes k).buffers (sym g.post.same_sizes k).words (buffer_of (sym view-bits k) ref)))
+        (told.word (seen_number r) (seen_image r) under).width ref (m ref) (in_image (seen_image r) ref some) (is ∙ (λ k. base (sym g.post.same_sizes k).buffers (sym g.post.same_sizes k).words (buffer_of (sym view-bits k) ref)))
 
     -- and the word
     pub word_found : {slots p found : ℕ} {me1 me' : Me Slot View} → me1 ≡ me → p ≡ place bits sizes.buffers sizes.words (length (m ref)) ref i
         → ToldLoadWord (step slots p 0 0 none) me1 found me' → found ≡ slice_index (m ref) i
     word_found {slots} {p} {found} {me1} {me'} same is told =
         let here : ToldLoadWord (step slots p 0 0 none) me found me' = subst (λ (x : Me Slot View). ToldLoadWord (step slots p 0 0 none) x found me') same told in
-        (here.word (number_of r) (image_of r) under).word ref (m ref) i (in_image (image_of r) ref some) inside
+        (here.word (seen_number r) (seen_image r) under).word ref (m ref) i (in_image (seen_image r) ref some) inside
         (is ∙ (λ k. place (sym view-bits k) (sym g.post.same_sizes k).buffers (sym g.post.same_sizes k).words (length (m ref)) ref i))
 
 -- a reader that aims

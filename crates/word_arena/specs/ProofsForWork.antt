@@ -19,7 +19,7 @@ use Rattle.gen_core.specs.declared.views.Buffer.{Buffer}
 use Rattle.gen_core.specs.declared.views.Buffer.TheVariants.{Free, Active, Held}
 use Rattle.gen_core.specs.declared.views.WriterView.{WriterView}
 use Rattle.gen_core.specs.Views.{open_holds, oldest_in, coming_after, floor_of, last_number, last_image, record_width, active_width, active_in}
-use Rattle.gen_core.specs.Work.{writer_records, stored_by, IsWhole}
+use Rattle.gen_core.specs.Work.{writer_records, stored_by, IsRecordStored}
 use Rattle.gen_core.proofs.Work.{records-found}
 use Rattle.std.proofs.lemmas.List.{length-map, length_push}
 use Rattle.gen_core.specs.Good.{GoodView, IsBefore, HasNothingIn}
@@ -157,7 +157,7 @@ module _ (w : WriterView) (g : GoodView w) (bits : ℕ) (same : w.sizes.offset_b
       → (writer_records w r ≡ words_at (image_at w.commits (last_number w.commits)) r) ⊎ ((i : ℕ) → i < length (writer_records w r) → stored_by w r i ≡ Some (slice_index (writer_records w r) i))
   work_only r some = ⊎_elim
       (λ (old : record_at (last_image w.commits) r ≡ Some (writer_records w r)). inl (sym (ap (λ image. words_at image r) last-image ∙ ap (λ o. unwrap_or o []) old)))
-      (λ (whole : IsWhole w r (writer_records w r)). inr (λ i lt. stored-there w r i (length (writer_records w r)) whole.active whole.entry lt ∙ whole.words i lt))
+      (λ (whole : IsRecordStored w r (writer_records w r)). inr (λ i lt. stored-there w r i (length (writer_records w r)) whole.active whole.entry lt ∙ whole.words i lt))
       (records-found w r some)
 
   pub work_held : {H : Type 0} (home : H) (b width : ℕ) (t : ApiTag) → api_buffer (slice_get w.buffers b) ≡ ApiBuffer.held width t → IsHeldUnder bits (view_of home w) b t

@@ -95,13 +95,13 @@ module _ (reaches : ℕ → Records → ℕ → List ℕ) (lawful : ℕ → Reco
   told_load_root st me found me' = ToldLoadRoot me found me'
 
 -- the word found is the image's, or a width of it
-pub record IsFound (z : Sizes) (image : Image) (p found : ℕ) : Type 0 where
+pub record IsFoundWord (z : Sizes) (image : Image) (p found : ℕ) : Type 0 where
   pub word : (ref : ℕ) (ws : List ℕ) (i : ℕ) → record_at image ref ≡ Some ws → i < length ws → p ≡ place_in z (length ws) ref i → found ≡ slice_index ws i
   pub width : (ref : ℕ) (ws : List ℕ) → record_at image ref ≡ Some ws → p ≡ base z.buffers z.words (buffer_of z.offset_bits ref) → found ≡ length ws
 
 pub record ToldLoadWord (st : Step Slot) (me : Me Slot View) (found : ℕ) (me' : Me Slot View) : Type 0 where
   pub same : me' ≡ me
-  pub word : (c : ℕ) (image : Image) → IsUnder (reader_of me.0) c image → IsFound (reader_of me.0).sizes image st.word found
+  pub word : (c : ℕ) (image : Image) → IsUnder (reader_of me.0) c image → IsFoundWord (reader_of me.0).sizes image st.word found
 
 abbrev pub told_load_word : Step Slot → Me Slot View → ℕ → Me Slot View → Type 0
 told_load_word st me found me' = ToldLoadWord st me found me'
@@ -153,16 +153,16 @@ cut_right v = Reader (newcomer (writer_of v))
 abbrev pub glued : View → View → View
 glued v u = Writer (joined (writer_of v) (reader_of u))
 
-abbrev pub first_of : List (ℕ × Image) → ℕ × Image
-first_of [] = (0, no_image)
-first_of (x ∷ xs) = x
+abbrev pub first_seen : List (ℕ × Image) → ℕ × Image
+first_seen [] = (0, no_image)
+first_seen (x ∷ xs) = x
 
 -- the commit that was seen last
-abbrev pub number_of : ReaderView → ℕ
-number_of r = (first_of r.saw).0
+abbrev pub seen_number : ReaderView → ℕ
+seen_number r = (first_seen r.saw).0
 
-abbrev pub image_of : ReaderView → Image
-image_of r = (first_of r.saw).1
+abbrev pub seen_image : ReaderView → Image
+seen_image r = (first_seen r.saw).1
 
 -- what a reader's seat has, whatever its state
 pub record IsPost (bits : ℕ) (arena : TableId) (sizes : Sizes) (z : TableId) (me : Me Slot View) : Type 0 where
@@ -188,22 +188,22 @@ pub record IsAim (bits : ℕ) (arena : TableId) (sizes : Sizes) (hold : ℕ) (z 
 pub record IsGuard (bits : ℕ) (arena : TableId) (sizes : Sizes) (hold word : ℕ) (z : TableId) (me : Me Slot View) : Type 0 where
   pub post : IsPost bits arena sizes z me
   pub low : hold < 16
-  pub guarded : (reader_of me.0).state ≡ Guarded hold (number_of (reader_of me.0))
+  pub guarded : (reader_of me.0).state ≡ Guarded hold (seen_number (reader_of me.0))
   pub some : 0 < length (reader_of me.0).saw
-  pub root : word ≡ root_word (number_of (reader_of me.0)) (image_of (reader_of me.0))
-  pub small : (image_of (reader_of me.0)).root < 2 ^ 32
-  pub small_number : number_of (reader_of me.0) < 2 ^ 32
-  pub entries : All (λ pair. IsEntry bits sizes.buffers sizes.words (length pair.1) pair.0) (image_of (reader_of me.0)).records
+  pub root : word ≡ root_word (seen_number (reader_of me.0)) (seen_image (reader_of me.0))
+  pub small : (seen_image (reader_of me.0)).root < 2 ^ 32
+  pub small_number : seen_number (reader_of me.0) < 2 ^ 32
+  pub entries : All (λ pair. IsEntry bits sizes.buffers sizes.words (length pair.1) pair.0) (seen_image (reader_of me.0)).records
 
 -- the guard's commit is lawful, not below what the reader had seen, and all that was seen since; nor is the least
 -- generation below the one asked for
 pub record IsLater (reaches : ℕ → Records → ℕ → List ℕ) (lawful : ℕ → Records → ℕ → Type 0) (r : ReaderView) (r' : ReaderView) : Type 0 where
   pub same_sizes : r'.sizes ≡ r.sizes
-  pub later : r.seen ≤ number_of r'
-  pub seen : r'.seen ≡ number_of r'
-  pub saw : r'.saw ≡ (number_of r', image_of r') ∷ r.saw
+  pub later : r.seen ≤ seen_number r'
+  pub seen : r'.seen ≡ seen_number r'
+  pub saw : r'.saw ≡ (seen_number r', seen_image r') ∷ r.saw
   pub least : r.least ≤ r'.least
-  pub commit : IsLawfulCommit reaches lawful r'.sizes.shape (image_of r')
+  pub commit : IsLawfulCommit reaches lawful r'.sizes.shape (seen_image r')
 
 -- after a miss the reader aims higher, and not above the limit; nothing else was seen
 pub record IsHigher (r : ReaderView) (r' : ReaderView) : Type 0 where

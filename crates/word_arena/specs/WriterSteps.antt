@@ -32,7 +32,7 @@ pub record OpensAnother (w v : WriterView) (hold : ℕ) : Type 0 where
   pub closed : IsLeastClosed (map own_hold (open_holds w.queue)) hold
   pub is : v ≡ advanced (stopped w found) hold
 
-pub record GoesOn (w v : WriterView) (generation hold : ℕ) : Type 0 where
+pub record EntersGeneration (w v : WriterView) (generation hold : ℕ) : Type 0 where
   pub below : w.queue.newest.generation < w.sizes.generation_limit
   pub next : generation ≡ w.queue.newest.generation + 1
   pub ways : RenewsNewest w v hold ⊎ OpensAnother w v hold
@@ -52,7 +52,7 @@ pub record IsAtLimit (w v : WriterView) (generation : ℕ) : Type 0 where
   pub is : v ≡ w
 
 abbrev pub AdvancesView : Advance → WriterView → WriterView → Type 0
-AdvancesView (To generation hold) w v = GoesOn w v generation hold
+AdvancesView (To generation hold) w v = EntersGeneration w v generation hold
 AdvancesView (NoHold holds found) w v = OpensNone w v holds found
 AdvancesView (Spent generation) w v = IsAtLimit w v generation
 

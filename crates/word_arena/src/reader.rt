@@ -4,7 +4,7 @@ ghost use Rattle.image_base.specs.Images.{words_at};
 ghost use Rattle.image_base.specs.Places.{place};
 ghost use Rattle.gen_core.specs.Events.{with_state};
 ghost use Rattle.gen_core.specs.declared.views.ReaderState.TheVariants.{Idle};
-ghost use Rattle.word_arena.specs.Ruled.{reader_of, image_of, number_of, IsAimOf, IsLater, IsHigher, IsWatch, IsAim, IsGuard};
+ghost use Rattle.word_arena.specs.Ruled.{reader_of, seen_image, seen_number, IsAimOf, IsLater, IsHigher, IsWatch, IsAim, IsGuard};
 ghost use Rattle.word_arena.specs.PlayEvents.{LoadsNewest, RaiseFinds, TryFinds};
 ghost use Rattle.image_base.specs.Records.{HasWord, word_at};
 
@@ -163,13 +163,13 @@ impl<'a, const OFFSET_BITS: u32, L: Layout> Aimed<'a, OFFSET_BITS, L> {
 
 impl<'a, const OFFSET_BITS: u32, L: Layout> Guarded<'a, OFFSET_BITS, L> {
     pub fn commit(&self) -> u32
-        ensures { result ≡ number_of (reader_of self.now.place.me.0) }
+        ensures { result ≡ seen_number (reader_of self.now.place.me.0) }
     {
         (self.found / 4294967296) as u32
     }
 
     pub fn root(&self) -> EntryRef<OFFSET_BITS>
-        ensures { result ≡ (image_of (reader_of self.now.place.me.0)).root }
+        ensures { result ≡ (seen_image (reader_of self.now.place.me.0)).root }
     {
         EntryRef::from_raw((self.found % 4294967296) as u32)
     }
@@ -198,8 +198,8 @@ impl<'a, const OFFSET_BITS: u32, L: Layout> Guarded<'a, OFFSET_BITS, L> {
 
     // Where a word of a record stands, by the width that its buffer tells.
     fn place_of_word(&mut self, entry: EntryRef<OFFSET_BITS>, i: u32) -> u64
-        requires { HasWord (words_at (image_of (reader_of self.old.place.me.0))) entry i }
-        ensures place { result ≡ place OFFSET_BITS self.old.sizes.buffers self.old.sizes.words (length (words_at (image_of (reader_of self.old.place.me.0)) entry.entry)) entry.entry i }
+        requires { HasWord (words_at (seen_image (reader_of self.old.place.me.0))) entry i }
+        ensures place { result ≡ place OFFSET_BITS self.old.sizes.buffers self.old.sizes.words (length (words_at (seen_image (reader_of self.old.place.me.0)) entry.entry)) entry.entry i }
         ensures same { self.new ≡ self.old }
     {
         let first = 18 + self.sizes.buffers + u64::from(entry.buffer()) * self.sizes.words;
@@ -223,7 +223,7 @@ impl<'a, const OFFSET_BITS: u32, L: Layout> Frozen<OFFSET_BITS> for Guarded<'a, 
 
     ghost shape = { λ g. g.sizes.shape };
 
-    ghost records = { λ g. words_at (image_of (reader_of g.place.me.0)) };
+    ghost records = { λ g. words_at (seen_image (reader_of g.place.me.0)) };
 
     fn word(&mut self, entry: EntryRef<OFFSET_BITS>, i: u32) -> u64
         requires { HasWord (⟦<Guarded<'a, OFFSET_BITS, L> as Frozen<OFFSET_BITS>>⟧.records self.old) entry i }

@@ -4,7 +4,7 @@ use Rattle.tree_images.specs.Trees.{tree_pairs}
 use Rattle.key_order.specs.Pairs.{lookup as found}
 use Rattle.key_order.specs.Pairs.{put, take_out}
 use Rattle.store_api.specs.Parts.{Owns}
-use Rattle.doc_vector.specs.Documents.{beside, IsDocumentMap}
+use Rattle.doc_vector.specs.Documents.{beside_document, IsDocumentMap}
 use Rattle.attr_documents.specs.Changes.{ChangesPair}
 use Rattle.attr_documents.specs.Documents.{documents_part}
 use Rattle.tree_make.specs.Changes.{levels}
@@ -20,7 +20,7 @@ set-requires g c =
     let same = sym c.reference_of-old.ensures.same in
     let t = c.reference_of-old.new.frozen in
     let owns = subst (λ f. Owns (ledger f) (records f) (documents_part c.args.kind c.args.root ∷ [])) same c.requires.owns in
-    let was = c.reference_of-old.ensures.reference ∙ ap (λ (f : g.row.S.Denot). unwrap_or (found (beside c.args.doc) (tree_pairs (records f) c.args.root)) 0) same in (
+    let was = c.reference_of-old.ensures.reference ∙ ap (λ (f : g.row.S.Denot). unwrap_or (found (beside_document c.args.doc) (tree_pairs (records f) c.args.root)) 0) same in (
       omega arith,
       (
         subst (λ f. (ledger f).unit ≡ true) same c.requires.unit,
@@ -39,12 +39,12 @@ drop_items-requires g c =
     let s = c.reference_of-old.new.frozen in
     let t = c.set.new.store in
     let owns = subst (λ f. Owns (ledger f) (records f) (documents_part c.args.kind c.args.root ∷ [])) same c.requires.owns in
-    let was = c.reference_of-old.ensures.reference ∙ ap (λ (f : g.row.S.Denot). unwrap_or (found (beside c.args.doc) (tree_pairs (records f) c.args.root)) 0) same in (
+    let was = c.reference_of-old.ensures.reference ∙ ap (λ (f : g.row.S.Denot). unwrap_or (found (beside_document c.args.doc) (tree_pairs (records f) c.args.root)) 0) same in (
       omega arith,
       (
         search rules,
         owns_old c.args.kind (ledger s) (ledger t) (ledger t) (records s) (records t) (records t) c.args.root c.args.doc c.reference_of-old.result c.in_ok-next.next owns was
-            (put (beside c.args.doc) (c.args.doc, c.args.reference) (tree_pairs (records s) c.args.root)) c.in_ok-next.ensures.makes,
+            (put (beside_document c.args.doc) (c.args.doc, c.args.reference) (tree_pairs (records s) c.args.root)) c.in_ok-next.ensures.makes,
       ),
     )
 
@@ -57,11 +57,11 @@ returns-clause-changes g c =
     let t = c.set.new.store in
     let u = c.drop_items.new.store in
     let owns = subst (λ f. Owns (ledger f) (records f) (documents_part c.args.kind c.args.root ∷ [])) same c.requires.owns in
-    let was = c.reference_of-old.ensures.reference ∙ ap (λ (f : g.row.S.Denot). unwrap_or (found (beside c.args.doc) (tree_pairs (records f) c.args.root)) 0) same in
-    subst (λ (f : g.row.S.Denot). ChangesPair c.args.kind (ledger f) (ledger u) (records f) (records u) c.args.root (take_out (beside c.args.doc) (tree_pairs (records f) c.args.root))
-    (put (beside c.args.doc) (c.args.doc, c.args.reference) (tree_pairs (records f) c.args.root)) c.in_ok-next.next) c.reference_of-old.ensures.same
+    let was = c.reference_of-old.ensures.reference ∙ ap (λ (f : g.row.S.Denot). unwrap_or (found (beside_document c.args.doc) (tree_pairs (records f) c.args.root)) 0) same in
+    subst (λ (f : g.row.S.Denot). ChangesPair c.args.kind (ledger f) (ledger u) (records f) (records u) c.args.root (take_out (beside_document c.args.doc) (tree_pairs (records f) c.args.root))
+    (put (beside_document c.args.doc) (c.args.doc, c.args.reference) (tree_pairs (records f) c.args.root)) c.in_ok-next.next) c.reference_of-old.ensures.same
     (changes_pair c.args.kind (ledger s) (ledger t) (ledger u) (records s) (records t) (records u) c.args.root c.args.doc c.reference_of-old.result c.in_ok-next.next owns was
-    (put (beside c.args.doc) (c.args.doc, c.args.reference) (tree_pairs (records s) c.args.root)) c.in_ok-next.ensures.makes c.set.ensures.may c.drop_items.ensures.turns)
+    (put (beside_document c.args.doc) (c.args.doc, c.args.reference) (tree_pairs (records s) c.args.root)) c.in_ok-next.ensures.makes c.set.ensures.may c.drop_items.ensures.turns)
 
 pub returns-in_err-next-clause-counts : goal.returns-in_err-next-clause-counts
 returns-in_err-next-clause-counts g c =

@@ -2,7 +2,7 @@ use Rattle.std.proofs.Common.{◌∙◌, sym, ap, subst}
 use Rattle.std.specs.Prelude.{Option, is_some, IfSome}
 use Rattle.std.proofs.lemmas.Result.{IfOk-weaker}
 use Rattle.attr_column.specs.Columns.{TellsColumn}
-use Rattle.attr_report.specs.Run.{run_in, table_at}
+use Rattle.attr_report.specs.Run.{run_in, table_after}
 use Rattle.attr_engine.proofs.RunLemmas.{Documents}
 use Rattle.attr_engine.proofs.WritingLemmas.{run_of, saved_alike}
 use Rattle.attr_engine.proofs.engine.engine_run.Goals as goal
@@ -12,7 +12,7 @@ saved_run-requires-clause-saves g c = sym c.in_ok-came.ensures.asked ∙ ap is_s
 
 pub saved_run-requires-clause-column : goal.saved_run-requires-clause-column
 saved_run-requires-clause-column g c =
-    let table = table_at (run_in c.args.request.now) c.args.ops.now c.in_ok-came.came.loaded.operations in
+    let table = table_after (run_in c.args.request.now) c.args.ops.now c.in_ok-came.came.loaded.operations in
     saved_alike _ table (subst (λ (o : Option Documents). IfSome o (λ documents. TellsColumn table documents.entries)) c.in-Some.is c.in_ok-came.ensures.column)
 
 pub returns : goal.returns

@@ -3,7 +3,7 @@ use Rattle.gen_core.specs.declared.views.Sizes.{Sizes}
 use Rattle.gen_core.specs.declared.views.ReaderState.TheVariants.{Idle}
 use Rattle.gen_core.specs.Events.{with_state}
 use Rattle.image_base.specs.Images.{words_at}
-use Rattle.word_arena.specs.Ruled.{reader_of, image_of}
+use Rattle.word_arena.specs.Ruled.{reader_of, seen_image}
 use Rattle.word_arena.specs.declared.reader.Guarded.{Guarded}
 use Rattle.attr_rounds.specs.declared.rounds.Round.{Round}
 use Rattle.attr_rounds.specs.Rounds.{MakesRounds}
@@ -29,7 +29,7 @@ answer-answer-requires g c =
     let fit = subst (λ (z : Sizes). fits z.shape) guard.stands.post.same_sizes (subst (λ (z : Sizes). fits z.shape) (sym later.same_sizes) c.requires.fits) in (
       omega arith,
       subst (λ (x : Guarded g.row.OFFSET_BITS g.row.L.Denot).
-          fits x.sizes.shape × g.L.Layout.lawful x.sizes.shape (words_at (image_of (reader_of x.place.me.0))) c.root-root.result)
+          fits x.sizes.shape × g.L.Layout.lawful x.sizes.shape (words_at (seen_image (reader_of x.place.me.0))) c.root-root.result)
           (sym c.operations-operations.ensures.same) (fit, lawful),
     )
 
@@ -44,7 +44,7 @@ returns-clause-rounds g c = λ start before.
     let round : Round g.row.Q-Answer.Denot = record { commit = c.commit-commit.result; operations = c.operations-operations.result; answer = c.in_ok-answer.answer } in
     let counted = c.operations-operations.ensures.same in
     let view = c.release-reader.ensures.view ∙ ap (λ (x : Guarded g.row.OFFSET_BITS g.row.L.Denot). with_state (reader_of x.place.me.0) Idle) (c.in_ok-answer.ensures.same ∙ counted) in
-    let answer = subst (λ (x : Guarded g.row.OFFSET_BITS g.row.L.Denot). answers x.sizes.shape (words_at (image_of (reader_of x.place.me.0))) root c.in_ok-answer.answer)
+    let answer = subst (λ (x : Guarded g.row.OFFSET_BITS g.row.L.Denot). answers x.sizes.shape (words_at (seen_image (reader_of x.place.me.0))) root c.in_ok-answer.answer)
     counted c.in_ok-answer.ensures.answer in
     let next = of_question g.Q.Question.operations answers g.L.Layout.lawful g.L.Layout.reaches guard.sizes r v t root round
     guard.stands.post.same_sizes c.root-root.ensures c.guarded-guard.ensures.later view c.commit-commit.ensures c.operations-operations.ensures.count answer in

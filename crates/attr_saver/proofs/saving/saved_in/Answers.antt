@@ -2,7 +2,7 @@ use Rattle.std.proofs.Common.{◌≡◌, ◌≤◌, ◌<◌, ◌++◌, ℕ, Ok, 
 use Rattle.std.proofs.lemmas.List.{length-map}
 use Rattle.attr_saver.specs.Bytes.{saved_bytes}
 use Rattle.attr_saver.specs.Fields.{read_of}
-use Rattle.attr_saver.specs.Lawful.{column_of, save_of}
+use Rattle.attr_saver.specs.Lawful.{first_column, save_of}
 use Rattle.attr_saver.proofs.Columns.{items_few}
 use Rattle.attr_saver.proofs.SavingLemmas.{saved_is, counted_fits}
 use Rattle.attr_saver.proofs.Wholes.{read_again}
@@ -12,7 +12,7 @@ pub overflow_cast-len : goal.overflow_cast-len
 overflow_cast-len c = counted_fits c.args.kind c.args.value c.args.documents.now.entries c.len.result c.requires c.len.ensures.len
 
 pub push_documents-requires : goal.push_documents-requires
-push_documents-requires c = items_few c.args.kind c.args.value (column_of c.args.documents.now.entries) c.requires.items
+push_documents-requires c = items_few c.args.kind c.args.value (first_column c.args.documents.now.entries) c.requires.items
 
 pub returns-clause-again : goal.returns-clause-again
 returns-clause-again c =

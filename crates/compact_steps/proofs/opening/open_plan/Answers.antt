@@ -3,7 +3,7 @@ use Rattle.std.specs.Option.{IfNone, IfSome}
 use Rattle.attr_compaction.specs.Places.{PlanView}
 use Rattle.attr_steps.specs.Fields.{trees_of}
 use Rattle.compact_steps.specs.Units.{IsUnderWay}
-use Rattle.compact_steps.specs.Compactions.{BeginsNone, Opens}
+use Rattle.compact_steps.specs.Compactions.{BeginsNone, OpensPlan}
 use Rattle.compact_steps.specs.Walks.{HasLastField}
 use Rattle.compact_steps.proofs.OpenLemmas.{opens_going}
 use Rattle.compact_steps.proofs.opening.open_plan.Goals as goal
@@ -18,7 +18,7 @@ returns-in-Some-clause-opens g c =
     let old = c.args.store.now in
     let fields = c.args.fields.now in
     let trees = trees_of fields c.args.roots.now in
-    subst (λ (o : Option PlanView). Opens g.row.OFFSET_BITS c.args.root (ledger old) (ledger old) (records old) (records old) fields trees o c.in-Some.plan) (sym c.in-Some.is)
+    subst (λ (o : Option PlanView). OpensPlan g.row.OFFSET_BITS c.args.root (ledger old) (ledger old) (records old) (records old) fields trees o c.in-Some.plan) (sym c.in-Some.is)
     (opens_going g.row.OFFSET_BITS c.args.root (ledger old) (records old) fields trees c.requires.holds c.in-Some.plan
     (subst (λ (o : Option PlanView). IfSome o (IsUnderWay g.row.OFFSET_BITS (ledger old) (records old) trees)) c.in-Some.is c.requires.under_way)
     (subst (λ (o : Option PlanView). IfSome o HasLastField) c.in-Some.is c.requires.last))
@@ -31,7 +31,7 @@ returns-in-None-clause-opens g c =
     let new = c.begin_plan.new.store in
     let fields = c.args.fields.now in
     let trees = trees_of fields c.args.roots.now in
-    subst (λ (o : Option PlanView). IfSome c.begin_plan.result (Opens g.row.OFFSET_BITS c.args.root (ledger old) (ledger new) (records old) (records new) fields trees o)) (sym c.in-None.is)
+    subst (λ (o : Option PlanView). IfSome c.begin_plan.result (OpensPlan g.row.OFFSET_BITS c.args.root (ledger old) (ledger new) (records old) (records new) fields trees o)) (sym c.in-None.is)
     c.begin_plan.ensures.opens
 
 pub returns-in-None-clause-none : goal.returns-in-None-clause-none

@@ -3,7 +3,7 @@ use Rattle.std.specs.Option.{IfNone, IfSome}
 use Rattle.store_api.specs.declared.store.StoreError.{StoreError}
 use Rattle.attr_compaction.specs.Places.{PlanView}
 use Rattle.attr_steps.specs.Fields.{trees_of}
-use Rattle.compact_steps.specs.Compactions.{BeginsNone, Opens}
+use Rattle.compact_steps.specs.Compactions.{BeginsNone, OpensPlan}
 use Rattle.compact_steps.specs.Walks.{Walks}
 use Rattle.compact_steps.specs.declared.walk.Walk.{Walk}
 use Rattle.compact_steps.specs.declared.walk.Walk.TheVariants.{Over, Visited}
@@ -31,7 +31,7 @@ visit_keys-requires g c =
     let mid = c.open_plan.new.store in
     let fields = c.args.fields.now in
     let trees = trees_of fields c.args.roots.now in
-    let opens = subst (λ (o : Option PlanView). IfSome o (Opens g.row.OFFSET_BITS c.args.root (ledger old) (ledger mid) (records old) (records mid) fields trees c.args.before)) c.in-Some.is c.open_plan.ensures.opens in
+    let opens = subst (λ (o : Option PlanView). IfSome o (OpensPlan g.row.OFFSET_BITS c.args.root (ledger old) (ledger mid) (records old) (records mid) fields trees c.args.before)) c.in-Some.is c.open_plan.ensures.opens in
     (omega arith, (omega arith, (c.requires.sized, (opens.holds, (opens.under_way, opens.last)))))
 
 pub end_plan-buffer-requires : goal.end_plan-buffer-requires
@@ -44,7 +44,7 @@ end_plan-buffer-requires g c =
     let fields = c.args.fields.now in
     let trees = trees_of fields c.args.roots.now in
     let next = trees_of fields c.visit_keys.new.roots in
-    let opens = subst (λ (o : Option PlanView). IfSome o (Opens g.row.OFFSET_BITS c.args.root (ledger old) (ledger mid) (records old) (records mid) fields trees c.args.before)) c.in-Some.is c.open_plan.ensures.opens in
+    let opens = subst (λ (o : Option PlanView). IfSome o (OpensPlan g.row.OFFSET_BITS c.args.root (ledger old) (ledger mid) (records old) (records mid) fields trees c.args.before)) c.in-Some.is c.open_plan.ensures.opens in
     let walks : (r : _) → c.visit_keys.result ≡ r → Walks g.row.OFFSET_BITS c.args.root (ledger mid) (ledger new) (records mid) (records new) fields trees next c.in-Some.plan c.visit_keys.new.plan c.args.keys r =
     λ r e. subst (λ (x : Result Walk StoreError). Walks g.row.OFFSET_BITS c.args.root (ledger mid) (ledger new) (records mid) (records new) fields trees next c.in-Some.plan c.visit_keys.new.plan c.args.keys x) e
     c.visit_keys.ensures.walks in
@@ -64,7 +64,7 @@ returns-in-Ok-Visited-clause-compacts g c =
     let fields = c.args.fields.now in
     let trees = trees_of fields c.args.roots.now in
     let next = trees_of fields c.visit_keys.new.roots in
-    let opens = subst (λ (o : Option PlanView). IfSome o (Opens g.row.OFFSET_BITS c.args.root (ledger old) (ledger mid) (records old) (records mid) fields trees c.args.before)) c.in-Some.is c.open_plan.ensures.opens in
+    let opens = subst (λ (o : Option PlanView). IfSome o (OpensPlan g.row.OFFSET_BITS c.args.root (ledger old) (ledger mid) (records old) (records mid) fields trees c.args.before)) c.in-Some.is c.open_plan.ensures.opens in
     let walks : (r : _) → c.visit_keys.result ≡ r → Walks g.row.OFFSET_BITS c.args.root (ledger mid) (ledger new) (records mid) (records new) fields trees next c.in-Some.plan c.visit_keys.new.plan c.args.keys r =
     λ r e. subst (λ (x : Result Walk StoreError). Walks g.row.OFFSET_BITS c.args.root (ledger mid) (ledger new) (records mid) (records new) fields trees next c.in-Some.plan c.visit_keys.new.plan c.args.keys x) e
     c.visit_keys.ensures.walks in
@@ -86,7 +86,7 @@ returns-in-Ok-Over-clause-compacts g c =
     let fields = c.args.fields.now in
     let trees = trees_of fields c.args.roots.now in
     let next = trees_of fields c.visit_keys.new.roots in
-    let opens = subst (λ (o : Option PlanView). IfSome o (Opens g.row.OFFSET_BITS c.args.root (ledger old) (ledger mid) (records old) (records mid) fields trees c.args.before)) c.in-Some.is c.open_plan.ensures.opens in
+    let opens = subst (λ (o : Option PlanView). IfSome o (OpensPlan g.row.OFFSET_BITS c.args.root (ledger old) (ledger mid) (records old) (records mid) fields trees c.args.before)) c.in-Some.is c.open_plan.ensures.opens in
     let walks : (r : _) → c.visit_keys.result ≡ r → Walks g.row.OFFSET_BITS c.args.root (ledger mid) (ledger new) (records mid) (records new) fields trees next c.in-Some.plan c.visit_keys.new.plan c.args.keys r =
     λ r e. subst (λ (x : Result Walk StoreError). Walks g.row.OFFSET_BITS c.args.root (ledger mid) (ledger new) (records mid) (records new) fields trees next c.in-Some.plan c.visit_keys.new.plan c.args.keys x) e
     c.visit_keys.ensures.walks in
@@ -108,7 +108,7 @@ returns-in-Err-clause-compacts g c =
     let fields = c.args.fields.now in
     let trees = trees_of fields c.args.roots.now in
     let next = trees_of fields c.visit_keys.new.roots in
-    let opens = subst (λ (o : Option PlanView). IfSome o (Opens g.row.OFFSET_BITS c.args.root (ledger old) (ledger mid) (records old) (records mid) fields trees c.args.before)) c.in-Some.is c.open_plan.ensures.opens in
+    let opens = subst (λ (o : Option PlanView). IfSome o (OpensPlan g.row.OFFSET_BITS c.args.root (ledger old) (ledger mid) (records old) (records mid) fields trees c.args.before)) c.in-Some.is c.open_plan.ensures.opens in
     let walks : (r : _) → c.visit_keys.result ≡ r → Walks g.row.OFFSET_BITS c.args.root (ledger mid) (ledger new) (records mid) (records new) fields trees next c.in-Some.plan c.visit_keys.new.plan c.args.keys r =
     λ r e. subst (λ (x : Result Walk StoreError). Walks g.row.OFFSET_BITS c.args.root (ledger mid) (ledger new) (records mid) (records new) fields trees next c.in-Some.plan c.visit_keys.new.plan c.args.keys x) e
     c.visit_keys.ensures.walks in

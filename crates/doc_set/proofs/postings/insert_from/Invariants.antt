@@ -1,13 +1,13 @@
 use Rattle.std.proofs.Common.{◌≡◌, ◌||◌, ℕ, length}
 use Rattle.std.specs.Map.{keys_of}
 use Rattle.doc_set.proofs.postings.insert_from.Given as goal
-use Rattle.doc_set.specs.Postings.{AreDocuments}
+use Rattle.doc_set.specs.Postings.{HaveDocNumbers}
 use Rattle.doc_set.specs.Sets.{has, in_words}
 
 -- what is there, and what is still to come
 abbrev pub invariant-loop-set : goal.invariant-loop-set
 invariant-loop-set g l = record {
-  documents : AreDocuments (g.P.Postings.rest l.list);
+  documents : HaveDocNumbers (g.P.Postings.rest l.list);
   whole : (doc : ℕ) → (in_words l.set doc || has (keys_of (g.P.Postings.rest l.list)) doc)
       ≡ (in_words l.fn.set doc || has (keys_of (g.P.Postings.rest l.fn.list)) doc);
 }

@@ -1,13 +1,13 @@
 use Rattle.std.proofs.lemmas.Cmp.{nat_cmp_total}
 use Rattle.std.specs.Ordering.{nat_cmp}
 use Rattle.key_order.proofs.PairLemmas.{lookup-put}
-use Rattle.doc_vector.specs.Documents.{beside}
+use Rattle.doc_vector.specs.Documents.{beside_document}
 use Rattle.doc_vector.proofs.DocumentLemmas.{same_number, other_number}
 use Rattle.doc_vector.proofs.MapLemmas.{put_others, take_out_others, take_out_gone}
 use Rattle.doc_vector.proofs.laws.map_law.Goals as goal
 
 pub returns-clause-found : goal.returns-clause-found
-returns-clause-found c doc items ps = lookup-put (beside doc) (doc, items) ps (same_number doc)
+returns-clause-found c doc items ps = lookup-put (beside_document doc) (doc, items) ps (same_number doc)
 
 pub returns-clause-others : goal.returns-clause-others
 returns-clause-others c doc items other ps apart =

@@ -4,7 +4,7 @@ use Rattle.store_api.proofs.May.{may_do-same}
 use Rattle.tree_make.specs.Changes.{levels}
 use Rattle.tree_make.proofs.Results.{is_valid, not_valid, on_err}
 use Rattle.tree_touch.specs.Paths.{path_nodes, NoneIn}
-use Rattle.doc_vector.specs.Documents.{beside}
+use Rattle.doc_vector.specs.Documents.{beside_document}
 use Rattle.doc_vector.proofs.DocumentLemmas.{number_keyed}
 use Rattle.document_moves.proofs.NodeLemmas.{counts_nothing, nodes_moved_by, nodes_owned, nodes_unmoved}
 use Rattle.document_moves.proofs.UsedLemmas.{node_used}
@@ -39,7 +39,7 @@ returns-clause-moves g c =
     let t = c.touch.new.store in
     let bits = g.row.OFFSET_BITS in
     let it = c.touch.ensures in
-    let apart = subst (λ (doc : ℕ). IfOk c.touch.result (λ r. NoneIn bits c.args.buffer (path_nodes (records t) (beside doc) r))) c.number.ensures.number it.apart in
+    let apart = subst (λ (doc : ℕ). IfOk c.touch.result (λ r. NoneIn bits c.args.buffer (path_nodes (records t) (beside_document doc) r))) c.number.ensures.number it.apart in
     nodes_moved_by bits c.args.buffer c.args.kind c.args.value_type (ledger s) (ledger t) (records s) (records t) c.args.root c.args.doc
     c.requires.documents c.requires.beside c.requires.owns c.touch.result it.keyed it.pairs apart it.turns
 

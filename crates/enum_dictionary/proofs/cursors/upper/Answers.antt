@@ -5,7 +5,7 @@ use Rattle.tree_search.specs.Places.{pairs_from}
 use Rattle.attr_images.specs.Values.{stored_value, IsValueRecord}
 use Rattle.attr_types.specs.Value.{type_of, value_cmp}
 use Rattle.unique_store.proofs.RecordLemmas.{value_there}
-use Rattle.enum_dictionary.specs.Dictionaries.{beside}
+use Rattle.enum_dictionary.specs.Dictionaries.{beside_value}
 use Rattle.enum_dictionary.proofs.BehindLemmas.{behind_none, equal_from, apart_from, stands_at_value, goes_on, stays_there}
 use Rattle.enum_dictionary.proofs.cursors.upper.Goals as goal
 
@@ -13,7 +13,7 @@ pub returns-then-at_end-clause-pairs : goal.returns-then-at_end-clause-pairs
 returns-then-at_end-clause-pairs g c =
     let m = g.F.Frozen.records c.args.frozen.now in
     let none : pairs_from m c.lower-cursor.result ≡ [] = (c.at_end.ensures.pairs m c.lower-cursor.ensures.at).0 c.if-at_end.true in
-    none ∙ sym (behind_none (beside c.args.value.now m) (tree_pairs m c.args.root) (sym c.lower-cursor.ensures.pairs ∙ none))
+    none ∙ sym (behind_none (beside_value c.args.value.now m) (tree_pairs m c.args.root) (sym c.lower-cursor.ensures.pairs ∙ none))
 
 pub overflow_cast-key : goal.overflow_cast-key
 overflow_cast-key g c =

@@ -6,14 +6,14 @@ use Rattle.attr_index.specs.Columns.{items_of}
 use Rattle.attr_walks.proofs.CountLemmas.{few_more}
 use Rattle.document_moves.specs.Moves.{CanMoveItems, MovesItems}
 use Rattle.field_moves.proofs.MoveLemmas.{items_can, items_done}
-use Rattle.field_moves.specs.Moves.{trees_of}
+use Rattle.field_moves.specs.Moves.{trees_of_roots}
 use Rattle.field_moves.proofs.documents.move_document_items.Goals as goal
 
 pub move_items-requires : goal.move_items-requires
 move_items-requires g c =
     let bits = g.row.OFFSET_BITS in
     let plan = c.args.plan.now in
-    let a = trees_of c.args.field.now c.args.roots in
+    let a = trees_of_roots c.args.field.now c.args.roots in
     let doc = c.args.doc in
     let old = g.S.Store.ledger c.args.store.now in
     let m = g.S.Frozen.records c.args.store.now in
@@ -36,7 +36,7 @@ returns-in_err-documents-clause-counts g c =
     let old = g.S.Store.ledger c.args.store.now in
     let new = g.S.Store.ledger c.move_items.new.store in
     let m = g.S.Frozen.records c.args.store.now in
-    let a = trees_of c.args.field.now c.args.roots in
+    let a = trees_of_roots c.args.field.now c.args.roots in
     few_more old new 17 1 25 1 (omega arith) (omega arith)
     (few_entry old new m a.documents (1 + length (items_of (column_at a.kind a.type m a.documents) c.args.doc)) c.move_items.ensures.counts)
 
@@ -51,7 +51,7 @@ pub returns-clause-moved : goal.returns-clause-moved
 returns-clause-moved g c =
     let bits = g.row.OFFSET_BITS in
     let plan = c.args.plan.now in
-    let a = trees_of c.args.field.now c.args.roots in
+    let a = trees_of_roots c.args.field.now c.args.roots in
     let doc = c.args.doc in
     let old = g.S.Store.ledger c.args.store.now in
     let m = g.S.Frozen.records c.args.store.now in
@@ -67,7 +67,7 @@ returns-clause-counts g c =
     let old = g.S.Store.ledger c.args.store.now in
     let new = g.S.Store.ledger c.move_items.new.store in
     let m = g.S.Frozen.records c.args.store.now in
-    let a = trees_of c.args.field.now c.args.roots in
+    let a = trees_of_roots c.args.field.now c.args.roots in
     few_more old new 17 1 25 1 (omega arith) (omega arith)
     (few_entry old new m a.documents (1 + length (items_of (column_at a.kind a.type m a.documents) c.args.doc)) c.move_items.ensures.counts)
 

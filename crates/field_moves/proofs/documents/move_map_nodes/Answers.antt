@@ -6,14 +6,14 @@ use Rattle.posting_store.proofs.RefusalLemmas.{of_one}
 use Rattle.document_moves.specs.Moves.{MovesDocumentNodes}
 use Rattle.field_moves.proofs.MakeLemmas.{few_nodes}
 use Rattle.field_moves.proofs.MoveLemmas.{map_done, nodes_can}
-use Rattle.field_moves.specs.Moves.{trees_of}
+use Rattle.field_moves.specs.Moves.{trees_of_roots}
 use Rattle.field_moves.proofs.documents.move_map_nodes.Goals as goal
 
 pub move_document_nodes-requires : goal.move_document_nodes-requires
 move_document_nodes-requires g c =
     let bits = g.row.OFFSET_BITS in
     let plan = c.args.plan.now in
-    let a = trees_of c.args.field.now c.args.roots in
+    let a = trees_of_roots c.args.field.now c.args.roots in
     let doc = c.args.doc in
     let old = g.S.Store.ledger c.args.store.now in
     let m = g.S.Frozen.records c.args.store.now in
@@ -48,7 +48,7 @@ pub returns-clause-moved : goal.returns-clause-moved
 returns-clause-moved g c =
     let bits = g.row.OFFSET_BITS in
     let plan = c.args.plan.now in
-    let a = trees_of c.args.field.now c.args.roots in
+    let a = trees_of_roots c.args.field.now c.args.roots in
     let doc = c.args.doc in
     let old = g.S.Store.ledger c.args.store.now in
     let m = g.S.Frozen.records c.args.store.now in

@@ -2,7 +2,7 @@ use Rattle.std.proofs.Common.{◌≡◌, true, sym, subst, arith}
 use Rattle.std.proofs.lemmas.Result.{err_from_is_err_and}
 use Rattle.attr_compaction.specs.declared.plan.PlanKey.TheVariants.{Value}
 use Rattle.index_moves.specs.Moves.{MovesKey}
-use Rattle.field_moves.specs.Moves.{trees_of}
+use Rattle.field_moves.specs.Moves.{trees_of_roots}
 use Rattle.field_moves.proofs.MakeLemmas.{few_key}
 use Rattle.field_moves.proofs.MoveLemmas.{key_done, owned_index, typed_value, value_index}
 use Rattle.field_moves.proofs.indexes.move_value_key.Goals as goal
@@ -11,7 +11,7 @@ pub move_key-requires : goal.move_key-requires
 move_key-requires g c =
     let bits = g.row.OFFSET_BITS in
     let plan = c.args.plan.now in
-    let a = trees_of c.args.field.now c.args.roots in
+    let a = trees_of_roots c.args.field.now c.args.roots in
     let value = c.args.value.now in
     let old = g.S.Store.ledger c.args.store.now in
     let m = g.S.Frozen.records c.args.store.now in
@@ -45,7 +45,7 @@ pub returns-clause-moved : goal.returns-clause-moved
 returns-clause-moved g c =
     let bits = g.row.OFFSET_BITS in
     let plan = c.args.plan.now in
-    let a = trees_of c.args.field.now c.args.roots in
+    let a = trees_of_roots c.args.field.now c.args.roots in
     let value = c.args.value.now in
     let old = g.S.Store.ledger c.args.store.now in
     let new = g.S.Store.ledger c.move_key.new.store in

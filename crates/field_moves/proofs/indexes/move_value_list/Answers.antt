@@ -5,7 +5,7 @@ use Rattle.index_moves.specs.Moves.{MovesList}
 use Rattle.attr_images.specs.Postings.{index_of}
 use Rattle.attr_index.specs.Index.{list_of}
 use Rattle.attr_types.specs.Value.{type_of}
-use Rattle.field_moves.specs.Moves.{trees_of}
+use Rattle.field_moves.specs.Moves.{trees_of_roots}
 use Rattle.field_moves.proofs.MakeLemmas.{few_list}
 use Rattle.field_moves.proofs.MoveLemmas.{list_done, owned_index, typed_pair, value_index}
 use Rattle.field_moves.proofs.indexes.move_value_list.Goals as goal
@@ -14,7 +14,7 @@ pub move_list-requires : goal.move_list-requires
 move_list-requires g c =
     let bits = g.row.OFFSET_BITS in
     let plan = c.args.plan.now in
-    let a = trees_of c.args.field.now c.args.roots in
+    let a = trees_of_roots c.args.field.now c.args.roots in
     let value = c.args.value.now in
     let old = g.S.Store.ledger c.args.store.now in
     let m = g.S.Frozen.records c.args.store.now in
@@ -52,7 +52,7 @@ pub returns-clause-moved : goal.returns-clause-moved
 returns-clause-moved g c =
     let bits = g.row.OFFSET_BITS in
     let plan = c.args.plan.now in
-    let a = trees_of c.args.field.now c.args.roots in
+    let a = trees_of_roots c.args.field.now c.args.roots in
     let value = c.args.value.now in
     let old = g.S.Store.ledger c.args.store.now in
     let m = g.S.Frozen.records c.args.store.now in

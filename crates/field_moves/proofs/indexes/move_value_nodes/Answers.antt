@@ -5,7 +5,7 @@ use Rattle.store_api.specs.Calls.{IsUsedWidth}
 use Rattle.store_api.proofs.May.{may_do-same}
 use Rattle.index_moves.specs.Moves.{MovesNodes}
 use Rattle.posting_store.proofs.RefusalLemmas.{of_one}
-use Rattle.field_moves.specs.Moves.{trees_of}
+use Rattle.field_moves.specs.Moves.{trees_of_roots}
 use Rattle.field_moves.proofs.MakeLemmas.{few_nodes}
 use Rattle.field_moves.proofs.MoveLemmas.{value_nodes_done, owned_index, typed_value, value_index}
 use Rattle.field_moves.proofs.indexes.move_value_nodes.Goals as goal
@@ -14,7 +14,7 @@ pub move_nodes-requires : goal.move_nodes-requires
 move_nodes-requires g c =
     let bits = g.row.OFFSET_BITS in
     let plan = c.args.plan.now in
-    let a = trees_of c.args.field.now c.args.roots in
+    let a = trees_of_roots c.args.field.now c.args.roots in
     let value = c.args.value.now in
     let old = g.S.Store.ledger c.args.store.now in
     let m = g.S.Frozen.records c.args.store.now in
@@ -54,7 +54,7 @@ pub returns-clause-moved : goal.returns-clause-moved
 returns-clause-moved g c =
     let bits = g.row.OFFSET_BITS in
     let plan = c.args.plan.now in
-    let a = trees_of c.args.field.now c.args.roots in
+    let a = trees_of_roots c.args.field.now c.args.roots in
     let value = c.args.value.now in
     let old = g.S.Store.ledger c.args.store.now in
     let m = g.S.Frozen.records c.args.store.now in

@@ -1,7 +1,7 @@
 use Rattle.std.proofs.Common.{◌≡◌, sym, subst, ◌∙◌, arith}
 use Rattle.std.specs.Prelude.{IfOk}
 use Rattle.attr_compaction.specs.declared.plan.PlanKey.TheVariants.{Doc}
-use Rattle.field_moves.specs.Moves.{trees_of}
+use Rattle.field_moves.specs.Moves.{trees_of_roots}
 use Rattle.field_moves.specs.Steps.{CanMove, Moved}
 use Rattle.field_moves.proofs.MoveLemmas.{at_phase, document_last, numbered}
 use Rattle.field_moves.proofs.moving.move_by_document.Goals as goal
@@ -10,7 +10,7 @@ pub new-doc-requires-clause-first : goal.new-doc-requires-clause-first
 new-doc-requires-clause-first g c =
     let bits = g.row.OFFSET_BITS in
     let plan = c.args.plan.now in
-    let a = trees_of c.args.field.now c.args.roots in
+    let a = trees_of_roots c.args.field.now c.args.roots in
     let old = g.S.Store.ledger c.args.store.now in
     let m = g.S.Frozen.records c.args.store.now in
     (numbered bits plan a old m plan.place.stage.phase c.args.number c.requires.below c.requires.can).0
@@ -19,7 +19,7 @@ pub new-doc-requires-clause-last : goal.new-doc-requires-clause-last
 new-doc-requires-clause-last g c =
     let bits = g.row.OFFSET_BITS in
     let plan = c.args.plan.now in
-    let a = trees_of c.args.field.now c.args.roots in
+    let a = trees_of_roots c.args.field.now c.args.roots in
     let old = g.S.Store.ledger c.args.store.now in
     let m = g.S.Frozen.records c.args.store.now in
     (numbered bits plan a old m plan.place.stage.phase c.args.number c.requires.below c.requires.can).1
@@ -28,7 +28,7 @@ pub move_document_items-requires : goal.move_document_items-requires
 move_document_items-requires g c =
     let bits = g.row.OFFSET_BITS in
     let plan = c.args.plan.now in
-    let a = trees_of c.args.field.now c.args.roots in
+    let a = trees_of_roots c.args.field.now c.args.roots in
     let old = g.S.Store.ledger c.args.store.now in
     let m = g.S.Frozen.records c.args.store.now in
     let phase = plan.place.stage.phase in (
@@ -41,7 +41,7 @@ pub move_map_nodes-requires : goal.move_map_nodes-requires
 move_map_nodes-requires g c =
     let bits = g.row.OFFSET_BITS in
     let plan = c.args.plan.now in
-    let a = trees_of c.args.field.now c.args.roots in
+    let a = trees_of_roots c.args.field.now c.args.roots in
     let old = g.S.Store.ledger c.args.store.now in
     let m = g.S.Frozen.records c.args.store.now in
     let phase = plan.place.stage.phase in
@@ -52,23 +52,23 @@ pub returns-then-phase-eq-DOCUMENTS-clause-moved : goal.returns-then-phase-eq-DO
 returns-then-phase-eq-DOCUMENTS-clause-moved g c =
     let bits = g.row.OFFSET_BITS in
     let plan = c.args.plan.now in
-    let a = trees_of c.args.field.now c.args.roots in
+    let a = trees_of_roots c.args.field.now c.args.roots in
     let old = g.S.Store.ledger c.args.store.now in
     let m = g.S.Frozen.records c.args.store.now in
     let new = g.S.Store.ledger c.move_document_items.new.store in
     let n = g.S.Frozen.records c.move_document_items.new.store in
-    subst (λ d. IfOk c.move_document_items.result (λ next. Moved bits plan (Doc d) old new m n a (trees_of c.args.field.now next))) c.new-doc.ensures c.move_document_items.ensures.moved
+    subst (λ d. IfOk c.move_document_items.result (λ next. Moved bits plan (Doc d) old new m n a (trees_of_roots c.args.field.now next))) c.new-doc.ensures c.move_document_items.ensures.moved
 
 pub returns-clause-moved : goal.returns-clause-moved
 returns-clause-moved g c =
     let bits = g.row.OFFSET_BITS in
     let plan = c.args.plan.now in
-    let a = trees_of c.args.field.now c.args.roots in
+    let a = trees_of_roots c.args.field.now c.args.roots in
     let old = g.S.Store.ledger c.args.store.now in
     let m = g.S.Frozen.records c.args.store.now in
     let new = g.S.Store.ledger c.move_map_nodes.new.store in
     let n = g.S.Frozen.records c.move_map_nodes.new.store in
-    subst (λ d. IfOk c.move_map_nodes.result (λ next. Moved bits plan (Doc d) old new m n a (trees_of c.args.field.now next))) c.new-doc.ensures c.move_map_nodes.ensures.moved
+    subst (λ d. IfOk c.move_map_nodes.result (λ next. Moved bits plan (Doc d) old new m n a (trees_of_roots c.args.field.now next))) c.new-doc.ensures c.move_map_nodes.ensures.moved
 
 pub returns-then-phase-eq-DOCUMENTS-clause-counts : goal.returns-then-phase-eq-DOCUMENTS-clause-counts
 returns-then-phase-eq-DOCUMENTS-clause-counts g c = c.move_document_items.ensures.counts

@@ -1,6 +1,6 @@
 use Rattle.std.proofs.Common.{◌≡◌, sym, ◌∙◌, arith}
 use Rattle.attr_compaction.specs.declared.plan.PlanKey.TheVariants.{Value}
-use Rattle.field_moves.specs.Moves.{trees_of}
+use Rattle.field_moves.specs.Moves.{trees_of_roots}
 use Rattle.field_moves.proofs.MoveLemmas.{at_phase, value_last}
 use Rattle.field_moves.proofs.moving.move_by_value.Goals as goal
 
@@ -8,7 +8,7 @@ pub move_value_key-requires : goal.move_value_key-requires
 move_value_key-requires g c =
     let bits = g.row.OFFSET_BITS in
     let plan = c.args.plan.now in
-    let a = trees_of c.args.field.now c.args.roots in
+    let a = trees_of_roots c.args.field.now c.args.roots in
     let old = g.S.Store.ledger c.args.store.now in
     let m = g.S.Frozen.records c.args.store.now in
     let phase = plan.place.stage.phase in
@@ -18,7 +18,7 @@ pub move_value_nodes-requires : goal.move_value_nodes-requires
 move_value_nodes-requires g c =
     let bits = g.row.OFFSET_BITS in
     let plan = c.args.plan.now in
-    let a = trees_of c.args.field.now c.args.roots in
+    let a = trees_of_roots c.args.field.now c.args.roots in
     let old = g.S.Store.ledger c.args.store.now in
     let m = g.S.Frozen.records c.args.store.now in
     let phase = plan.place.stage.phase in

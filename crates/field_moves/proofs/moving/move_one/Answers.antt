@@ -4,7 +4,7 @@ use Rattle.attr_cleared.specs.Cleared.{IsClearedField}
 use Rattle.attr_compaction.specs.declared.plan.PlanKey.{PlanKey}
 use Rattle.attr_compaction.specs.declared.plan.PlanKey.TheVariants.{Start, Value, Doc, Pair}
 use Rattle.attr_field.proofs.RefLemmas.{if_ok}
-use Rattle.field_moves.specs.Moves.{trees_of, MovesField}
+use Rattle.field_moves.specs.Moves.{trees_of_roots, MovesField}
 use Rattle.field_moves.specs.Steps.{Moved}
 use Rattle.field_moves.proofs.MoveLemmas.{as_given, not_start, pair_lists}
 use Rattle.field_moves.proofs.moving.move_one.Goals as goal
@@ -13,7 +13,7 @@ pub unreachable-requires : goal.unreachable-requires
 unreachable-requires g c =
     let bits = g.row.OFFSET_BITS in
     let plan = c.args.plan.now in
-    let a = trees_of c.args.field.now c.args.roots in
+    let a = trees_of_roots c.args.field.now c.args.roots in
     let old = g.S.Store.ledger c.args.store.now in
     let m = g.S.Frozen.records c.args.store.now in
     let phase = plan.place.stage.phase in
@@ -25,7 +25,7 @@ pub move_by_value-requires : goal.move_by_value-requires
 move_by_value-requires g c =
     let bits = g.row.OFFSET_BITS in
     let plan = c.args.plan.now in
-    let a = trees_of c.args.field.now c.args.roots in
+    let a = trees_of_roots c.args.field.now c.args.roots in
     let old = g.S.Store.ledger c.args.store.now in
     let m = g.S.Frozen.records c.args.store.now in
     let phase = plan.place.stage.phase in
@@ -37,7 +37,7 @@ pub move_by_document-requires : goal.move_by_document-requires
 move_by_document-requires g c =
     let bits = g.row.OFFSET_BITS in
     let plan = c.args.plan.now in
-    let a = trees_of c.args.field.now c.args.roots in
+    let a = trees_of_roots c.args.field.now c.args.roots in
     let old = g.S.Store.ledger c.args.store.now in
     let m = g.S.Frozen.records c.args.store.now in
     let phase = plan.place.stage.phase in
@@ -49,7 +49,7 @@ pub move_value_list-requires : goal.move_value_list-requires
 move_value_list-requires g c =
     let bits = g.row.OFFSET_BITS in
     let plan = c.args.plan.now in
-    let a = trees_of c.args.field.now c.args.roots in
+    let a = trees_of_roots c.args.field.now c.args.roots in
     let old = g.S.Store.ledger c.args.store.now in
     let m = g.S.Frozen.records c.args.store.now in
     let phase = plan.place.stage.phase in
@@ -61,12 +61,12 @@ pub returns-in-Value-clause-moves : goal.returns-in-Value-clause-moves
 returns-in-Value-clause-moves g c =
     let bits = g.row.OFFSET_BITS in
     let plan = c.args.plan.now in
-    let a = trees_of c.args.field.now c.args.roots in
+    let a = trees_of_roots c.args.field.now c.args.roots in
     let old = g.S.Store.ledger c.args.store.now in
     let new = g.S.Store.ledger c.move_by_value.new.store in
     let m = g.S.Frozen.records c.args.store.now in
     let n = g.S.Frozen.records c.move_by_value.new.store in
-    if_ok (λ next. Moved bits plan (Value c.in-Value.value) old new m n a (trees_of c.args.field.now next))
+    if_ok (λ next. Moved bits plan (Value c.in-Value.value) old new m n a (trees_of_roots c.args.field.now next))
     (λ next. MovesField bits plan.victim a.kind a.type old new m n a.documents a.dictionary next.documents next.dictionary) c.move_by_value.result c.move_by_value.ensures.moved
     (λ next moved. moved.moves)
 
@@ -74,15 +74,15 @@ pub returns-in-Value-clause-cleared : goal.returns-in-Value-clause-cleared
 returns-in-Value-clause-cleared g c =
     let bits = g.row.OFFSET_BITS in
     let plan = c.args.plan.now in
-    let a = trees_of c.args.field.now c.args.roots in
+    let a = trees_of_roots c.args.field.now c.args.roots in
     let old = g.S.Store.ledger c.args.store.now in
     let new = g.S.Store.ledger c.move_by_value.new.store in
     let m = g.S.Frozen.records c.args.store.now in
     let n = g.S.Frozen.records c.move_by_value.new.store in
     subst (λ (key : PlanKey). IfOk c.move_by_value.result (λ next. IsClearedField bits plan.victim (record { stage = plan.place.stage; key = key }) plan.place.stage.field n
-    (trees_of c.args.field.now next))) (sym c.in-Value.is)
-    (if_ok (λ next. Moved bits plan (Value c.in-Value.value) old new m n a (trees_of c.args.field.now next))
-    (λ next. IsClearedField bits plan.victim (record { stage = plan.place.stage; key = (Value c.in-Value.value) }) plan.place.stage.field n (trees_of c.args.field.now next)) c.move_by_value.result
+    (trees_of_roots c.args.field.now next))) (sym c.in-Value.is)
+    (if_ok (λ next. Moved bits plan (Value c.in-Value.value) old new m n a (trees_of_roots c.args.field.now next))
+    (λ next. IsClearedField bits plan.victim (record { stage = plan.place.stage; key = (Value c.in-Value.value) }) plan.place.stage.field n (trees_of_roots c.args.field.now next)) c.move_by_value.result
     c.move_by_value.ensures.moved (λ next moved. moved.cleared))
 
 pub returns-in-Value-clause-counts : goal.returns-in-Value-clause-counts
@@ -98,12 +98,12 @@ pub returns-in-Doc-clause-moves : goal.returns-in-Doc-clause-moves
 returns-in-Doc-clause-moves g c =
     let bits = g.row.OFFSET_BITS in
     let plan = c.args.plan.now in
-    let a = trees_of c.args.field.now c.args.roots in
+    let a = trees_of_roots c.args.field.now c.args.roots in
     let old = g.S.Store.ledger c.args.store.now in
     let new = g.S.Store.ledger c.move_by_document.new.store in
     let m = g.S.Frozen.records c.args.store.now in
     let n = g.S.Frozen.records c.move_by_document.new.store in
-    if_ok (λ next. Moved bits plan (Doc c.in-Doc.number) old new m n a (trees_of c.args.field.now next))
+    if_ok (λ next. Moved bits plan (Doc c.in-Doc.number) old new m n a (trees_of_roots c.args.field.now next))
     (λ next. MovesField bits plan.victim a.kind a.type old new m n a.documents a.dictionary next.documents next.dictionary) c.move_by_document.result c.move_by_document.ensures.moved
     (λ next moved. moved.moves)
 
@@ -111,15 +111,15 @@ pub returns-in-Doc-clause-cleared : goal.returns-in-Doc-clause-cleared
 returns-in-Doc-clause-cleared g c =
     let bits = g.row.OFFSET_BITS in
     let plan = c.args.plan.now in
-    let a = trees_of c.args.field.now c.args.roots in
+    let a = trees_of_roots c.args.field.now c.args.roots in
     let old = g.S.Store.ledger c.args.store.now in
     let new = g.S.Store.ledger c.move_by_document.new.store in
     let m = g.S.Frozen.records c.args.store.now in
     let n = g.S.Frozen.records c.move_by_document.new.store in
     subst (λ (key : PlanKey). IfOk c.move_by_document.result (λ next. IsClearedField bits plan.victim (record { stage = plan.place.stage; key = key }) plan.place.stage.field n
-    (trees_of c.args.field.now next))) (sym c.in-Doc.is)
-    (if_ok (λ next. Moved bits plan (Doc c.in-Doc.number) old new m n a (trees_of c.args.field.now next))
-    (λ next. IsClearedField bits plan.victim (record { stage = plan.place.stage; key = (Doc c.in-Doc.number) }) plan.place.stage.field n (trees_of c.args.field.now next)) c.move_by_document.result
+    (trees_of_roots c.args.field.now next))) (sym c.in-Doc.is)
+    (if_ok (λ next. Moved bits plan (Doc c.in-Doc.number) old new m n a (trees_of_roots c.args.field.now next))
+    (λ next. IsClearedField bits plan.victim (record { stage = plan.place.stage; key = (Doc c.in-Doc.number) }) plan.place.stage.field n (trees_of_roots c.args.field.now next)) c.move_by_document.result
     c.move_by_document.ensures.moved (λ next moved. moved.cleared))
 
 pub returns-in-Doc-clause-counts : goal.returns-in-Doc-clause-counts
@@ -135,12 +135,12 @@ pub returns-in-Pair-clause-moves : goal.returns-in-Pair-clause-moves
 returns-in-Pair-clause-moves g c =
     let bits = g.row.OFFSET_BITS in
     let plan = c.args.plan.now in
-    let a = trees_of c.args.field.now c.args.roots in
+    let a = trees_of_roots c.args.field.now c.args.roots in
     let old = g.S.Store.ledger c.args.store.now in
     let new = g.S.Store.ledger c.move_value_list.new.store in
     let m = g.S.Frozen.records c.args.store.now in
     let n = g.S.Frozen.records c.move_value_list.new.store in
-    if_ok (λ next. Moved bits plan (Pair c.in-Pair.value c.in-Pair.doc) old new m n a (trees_of c.args.field.now next))
+    if_ok (λ next. Moved bits plan (Pair c.in-Pair.value c.in-Pair.doc) old new m n a (trees_of_roots c.args.field.now next))
     (λ next. MovesField bits plan.victim a.kind a.type old new m n a.documents a.dictionary next.documents next.dictionary) c.move_value_list.result c.move_value_list.ensures.moved
     (λ next moved. moved.moves)
 
@@ -148,15 +148,15 @@ pub returns-in-Pair-clause-cleared : goal.returns-in-Pair-clause-cleared
 returns-in-Pair-clause-cleared g c =
     let bits = g.row.OFFSET_BITS in
     let plan = c.args.plan.now in
-    let a = trees_of c.args.field.now c.args.roots in
+    let a = trees_of_roots c.args.field.now c.args.roots in
     let old = g.S.Store.ledger c.args.store.now in
     let new = g.S.Store.ledger c.move_value_list.new.store in
     let m = g.S.Frozen.records c.args.store.now in
     let n = g.S.Frozen.records c.move_value_list.new.store in
     subst (λ (key : PlanKey). IfOk c.move_value_list.result (λ next. IsClearedField bits plan.victim (record { stage = plan.place.stage; key = key }) plan.place.stage.field n
-    (trees_of c.args.field.now next))) (sym c.in-Pair.is)
-    (if_ok (λ next. Moved bits plan (Pair c.in-Pair.value c.in-Pair.doc) old new m n a (trees_of c.args.field.now next))
-    (λ next. IsClearedField bits plan.victim (record { stage = plan.place.stage; key = (Pair c.in-Pair.value c.in-Pair.doc) }) plan.place.stage.field n (trees_of c.args.field.now next)) c.move_value_list.result
+    (trees_of_roots c.args.field.now next))) (sym c.in-Pair.is)
+    (if_ok (λ next. Moved bits plan (Pair c.in-Pair.value c.in-Pair.doc) old new m n a (trees_of_roots c.args.field.now next))
+    (λ next. IsClearedField bits plan.victim (record { stage = plan.place.stage; key = (Pair c.in-Pair.value c.in-Pair.doc) }) plan.place.stage.field n (trees_of_roots c.args.field.now next)) c.move_value_list.result
     c.move_value_list.ensures.moved (λ next moved. moved.cleared))
 
 pub returns-in-Pair-clause-counts : goal.returns-in-Pair-clause-counts

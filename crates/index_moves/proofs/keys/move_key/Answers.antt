@@ -7,7 +7,7 @@ use Rattle.store_api.specs.Units.{MayDo}
 use Rattle.store_api.proofs.May.{may_do-same}
 use Rattle.tree_images.specs.Trees.{tree_pairs}
 use Rattle.attr_types.specs.Value.{type_of}
-use Rattle.enum_dictionary.specs.Dictionaries.{beside}
+use Rattle.enum_dictionary.specs.Dictionaries.{beside_value}
 use Rattle.posting_store.specs.Changes.{MakesWithin}
 use Rattle.value_index.specs.Indexes.{index_part, IsIndex}
 use Rattle.value_index.proofs.CountLemmas.{within_none}
@@ -25,7 +25,7 @@ move_found-requires g c =
     let records = g.S.Frozen.records in
     let value = c.args.value.now in
     let root = c.args.root in
-    let found = entry_found g.row.OFFSET_BITS (lookup_pair (beside value (records c.args.store.now)) (tree_pairs (records c.args.store.now) root)) c.in-Some.entry c.in-Some.entry.posting
+    let found = entry_found g.row.OFFSET_BITS (lookup_pair (beside_value value (records c.args.store.now)) (tree_pairs (records c.args.store.now) root)) c.in-Some.entry c.in-Some.entry.posting
     (sym c.in-Some.is ∙ c.find.ensures.entry) refl in
     let back = sym c.find.ensures.same in (
       omega arith,
@@ -37,7 +37,7 @@ move_found-requires g c =
             subst (λ s. IsIndex (type_of value) (records s) root) back c.requires.index,
             (
               subst (λ s. Owns (ledger s) (records s) (index_part root ∷ [])) back c.requires.owns,
-              subst (λ s. lookup_pair (beside value (records s)) (tree_pairs (records s) root) ≡ Some (c.in-Some.entry.key, c.in-Some.entry.posting)) back found,
+              subst (λ s. lookup_pair (beside_value value (records s)) (tree_pairs (records s) root) ≡ Some (c.in-Some.entry.key, c.in-Some.entry.posting)) back found,
             ),
           ),
         ),
@@ -74,7 +74,7 @@ returns-in-None-clause-moves g c =
     let root = c.args.root in
     let bits = g.row.OFFSET_BITS in
     let m = records c.args.store.now in
-    let none = entry_none bits (lookup_pair (beside value m) (tree_pairs m root)) (sym c.in-None.is ∙ c.find.ensures.entry) in
+    let none = entry_none bits (lookup_pair (beside_value value m) (tree_pairs m root)) (sym c.in-None.is ∙ c.find.ensures.entry) in
     subst (λ s. MovesKey bits c.args.buffer value (ledger c.args.store.now) (ledger s) m (records s) root root) (sym c.find.ensures.same)
     (key_unmoved bits c.args.buffer value (ledger c.args.store.now) m root c.requires.index c.requires.owns (none_apart bits c.args.buffer value m root none))
 

@@ -1,7 +1,7 @@
 use Rattle.std.proofs.Common.{rules, ℕ, arith, ap, ◌∙◌}
 use Rattle.tree_images.specs.Trees.{tree_pairs}
 use Rattle.key_order.specs.Pairs.{put}
-use Rattle.number_tree.specs.Maps.{beside}
+use Rattle.number_tree.specs.Maps.{beside_number}
 use Rattle.number_tree.proofs.HoldLemmas.{number_keyed, begun_owns, begun_tree, ends_last, ends_sizes, is_refusal, holds_next, pairs_next, left_same, holds_still}
 use Rattle.number_tree.proofs.unit.insert_unit.Goals as goal
 
@@ -34,7 +34,7 @@ returns-in-Ok-clause-pairs g c =
     let t = c.insert.new.store in
     let u = c.accept.new.self in
     pairs_next (ledger s) (ledger b) (ledger t) (ledger u) (records s) (records b) (records u) c.args.root c.requires c.begin.ensures.ledger c.begin.ensures.records c.insert.ensures.may (records t) c.in-Ok.next c.in-Ok.ensures.turns c.accept.ensures
-    ∙ c.in-Ok.ensures.pairs ∙ ap (λ m. put (beside c.args.key) (c.args.key, c.args.value) (tree_pairs m c.args.root)) c.begin.ensures.records
+    ∙ c.in-Ok.ensures.pairs ∙ ap (λ m. put (beside_number c.args.key) (c.args.key, c.args.value) (tree_pairs m c.args.root)) c.begin.ensures.records
 
 pub returns-in-Ok-clause-commits : goal.returns-in-Ok-clause-commits
 returns-in-Ok-clause-commits g c =

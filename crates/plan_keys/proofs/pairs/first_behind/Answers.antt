@@ -5,7 +5,7 @@ use Rattle.tree_images.specs.Trees.{tree_pairs}
 use Rattle.tree_search.specs.Places.{pairs_from, IsAt}
 use Rattle.attr_types.specs.declared.kind.ValueType.{ValueType}
 use Rattle.attr_compaction.specs.declared.plan.PlanKey.{PlanKey}
-use Rattle.enum_dictionary.specs.Dictionaries.{beside, IsDictionary}
+use Rattle.enum_dictionary.specs.Dictionaries.{beside_value, IsDictionary}
 use Rattle.plan_keys.specs.PhaseKeys.{first_item, keys_of_pairs, IsListPair}
 use Rattle.plan_keys.proofs.ListLemmas.{list_pairs}
 use Rattle.plan_keys.proofs.NextLemmas.{all_behind}
@@ -27,7 +27,7 @@ pair_at-requires g c =
         subst (λ f. IsAt (records f) cursor) back c.upper-cursor.ensures.at,
         subst (λ f. AllByRecursion (IsListPair type (records f)) (pairs_from (records f) cursor)) back
             (subst (AllByRecursion (IsListPair type m)) (sym c.upper-cursor.ensures.pairs)
-            (all_behind (IsListPair type m) (beside c.args.value.now m) (tree_pairs m c.args.root) (list_pairs type m c.args.root c.requires.index))),
+            (all_behind (IsListPair type m) (beside_value c.args.value.now m) (tree_pairs m c.args.root) (list_pairs type m c.args.root c.requires.index))),
       ),
     )
 

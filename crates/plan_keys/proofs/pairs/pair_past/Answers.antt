@@ -4,7 +4,7 @@ use Rattle.std.specs.Prelude.{IfOk}
 use Rattle.tree_images.specs.Trees.{tree_pairs}
 use Rattle.attr_types.specs.Value.{type_of}
 use Rattle.attr_compaction.specs.declared.plan.PlanKey.{PlanKey}
-use Rattle.enum_dictionary.specs.Dictionaries.{behind, beside}
+use Rattle.enum_dictionary.specs.Dictionaries.{behind, beside_value}
 use Rattle.value_index.specs.Indexes.{IsIndex}
 use Rattle.plan_keys.specs.PhaseKeys.{first_item, keys_of_pairs}
 use Rattle.plan_keys.proofs.ListLemmas.{found_later, found_now, list_pairs}
@@ -39,7 +39,7 @@ returns-in-None-clause-next g c =
     let m = records c.args.frozen.now in
     let type = c.args.value_type in
     let value = c.args.value.now in
-    let told = subst (λ f. IfOk c.first_behind.result (λ found. found ≡ first_item (keys_of_pairs type (records f) (behind (beside value (records f)) (tree_pairs (records f) c.args.root)))))
+    let told = subst (λ f. IfOk c.first_behind.result (λ found. found ≡ first_item (keys_of_pairs type (records f) (behind (beside_value value (records f)) (tree_pairs (records f) c.args.root)))))
     c.next_of_value.ensures.same c.first_behind.ensures.first in
     subst {A = Option PlanKey} (λ o. IfOk c.first_behind.result (λ found. found ≡ o))
     (found_later type m value c.requires.typed c.args.doc (tree_pairs m c.args.root) c.requires.index.dictionary_is.tree_is.ascends

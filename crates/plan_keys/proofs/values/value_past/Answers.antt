@@ -7,7 +7,7 @@ use Rattle.attr_types.specs.declared.kind.ValueType.{ValueType}
 use Rattle.std.specs.Option.{option_map}
 use Rattle.attr_compaction.specs.declared.plan.PlanKey.{PlanKey}
 use Rattle.attr_compaction.specs.declared.plan.PlanKey.TheVariants.{Value}
-use Rattle.enum_dictionary.specs.Dictionaries.{beside, IsDictionary}
+use Rattle.enum_dictionary.specs.Dictionaries.{beside_value, IsDictionary}
 use Rattle.tree_images.specs.Trees.{tree_pairs}
 use Rattle.plan_keys.specs.PhaseKeys.{first_item}
 use Rattle.plan_keys.proofs.NextLemmas.{all_behind, value_past_is}
@@ -29,7 +29,7 @@ value_at-requires g c =
         subst (λ f. IsAt (records f) cursor) back c.upper-cursor.ensures.at,
         subst (λ f. AllByRecursion (λ p. IsValueRecord type (records f p.0)) (pairs_from (records f) cursor)) back
             (subst (AllByRecursion (λ p. IsValueRecord type (m p.0))) (sym c.upper-cursor.ensures.pairs)
-            (all_behind (λ p. IsValueRecord type (m p.0)) (beside c.args.value.now m) (tree_pairs m c.args.root) c.requires.dictionary.keys)),
+            (all_behind (λ p. IsValueRecord type (m p.0)) (beside_value c.args.value.now m) (tree_pairs m c.args.root) c.requires.dictionary.keys)),
       ),
     )
 

@@ -1,26 +1,26 @@
 use Rattle.std.proofs.Common.{◌≡◌, ℕ, ℤ, drop, sym, ap, subst, ◌∙◌, arith, w32}
 use Rattle.std.proofs.lemmas.Int.{to_z-of_z}
 use Rattle.posting_store.specs.Lists.{list_at}
-use Rattle.posting_store.specs.Walks.{postings_from, first_doc, first_weight, IsPlace}
+use Rattle.posting_store.specs.Walks.{postings_from, first_doc, first_weight, IsListPlace}
 use Rattle.posting_store.proofs.ItemLemmas.{first_of, fewer, walked_more}
 use Rattle.posting_store.proofs.items.items_of.Goals as goal
 
 pub doc-doc-requires : goal.doc-doc-requires
 doc-doc-requires g c =
     let records = g.F.Frozen.records in
-    (omega arith, (subst (λ f. IsPlace (records f) c.loop-cursor.cursor) (sym c.loop-cursor.invariant.same) c.loop-cursor.invariant.place, c.at_end.ensures.follows c.loop-cursor-test.true))
+    (omega arith, (subst (λ f. IsListPlace (records f) c.loop-cursor.cursor) (sym c.loop-cursor.invariant.same) c.loop-cursor.invariant.place, c.at_end.ensures.follows c.loop-cursor-test.true))
 
 pub weight-weight-requires : goal.weight-weight-requires
 weight-weight-requires g c =
     let records = g.F.Frozen.records in
     let same = c.doc-doc.ensures.same ∙ c.loop-cursor.invariant.same in
-    (omega arith, (subst (λ f. IsPlace (records f) c.loop-cursor.cursor) (sym same) c.loop-cursor.invariant.place, c.at_end.ensures.follows c.loop-cursor-test.true))
+    (omega arith, (subst (λ f. IsListPlace (records f) c.loop-cursor.cursor) (sym same) c.loop-cursor.invariant.place, c.at_end.ensures.follows c.loop-cursor-test.true))
 
 pub next-requires : goal.next-requires
 next-requires g c =
     let records = g.F.Frozen.records in
     let same = c.weight-weight.ensures.same ∙ c.doc-doc.ensures.same ∙ c.loop-cursor.invariant.same in
-    (omega arith, (subst (λ f. IsPlace (records f) c.loop-cursor.cursor) (sym same) c.loop-cursor.invariant.place, c.at_end.ensures.follows c.loop-cursor-test.true))
+    (omega arith, (subst (λ f. IsListPlace (records f) c.loop-cursor.cursor) (sym same) c.loop-cursor.invariant.place, c.at_end.ensures.follows c.loop-cursor-test.true))
 
 pub loop-cursor-preserved : goal.loop-cursor-preserved
 loop-cursor-preserved g c =
@@ -40,7 +40,7 @@ loop-cursor-preserved g c =
     let item_is = c.item_of.ensures ∙ ap (λ (w : ℤ). (c.doc-doc.result, w)) (again ∙ weight_is) ∙ ap (λ (d : ℕ). (d, first_weight rest)) doc_is in
     record {
       same = c.next.ensures.same ∙ then_next;
-      place = subst (λ f. IsPlace (records f) next) then_next c.next.ensures.place;
+      place = subst (λ f. IsListPlace (records f) next) then_next c.next.ensures.place;
       done = walked_more c.loop-cursor.items.items c.push.new.self.items c.item_of.result rest (postings_from m next) (list_at m c.args.list) c.push.ensures.items behind (first_doc rest, first_weight rest) item_is first c.loop-cursor.invariant.done;
       few = fewer c.loop-cursor.items.items c.push.new.self.items c.item_of.result rest (postings_from m next) (first_doc rest, first_weight rest) c.push.ensures.items behind first c.loop-cursor.invariant.few;
     }

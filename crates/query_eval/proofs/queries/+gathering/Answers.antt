@@ -1,7 +1,7 @@
 use Rattle.std.proofs.Common.{◌≡◌, ◌<◌, ◌||◌, ◌&&◌, ℕ, Bool, List, length, drop, get_or, arith, ap, ◌∙◌, subst}
 use Rattle.std.proofs.lemmas.Result.{IfOk-weaker}
 use Rattle.std.specs.Prelude.{slice_get}
-use Rattle.attr_types.specs.Query.{tree_of, trees_of}
+use Rattle.attr_types.specs.Query.{tree_of, query_trees}
 use Rattle.attr_types.specs.declared.query.Query.{Query}
 use Rattle.doc_set.specs.Gathers.{is_in}
 use Rattle.doc_set.specs.Sets.{has, Holds}
@@ -36,7 +36,7 @@ gather_common-returns-in_ok-common-in-Some-clause-docs g t c =
     let holds = subst (λ (f : g.row.F.Denot). Holds docs (found (tree_of query) (indexes_in bits (g.F.Frozen.records f) ds))) c.shortest_of-first.ensures.same c.in_ok-docs-in-Some.ensures.docs in
     let are = subst (λ (f : g.row.F.Denot).
     AreMatched docs (slice_get queries first) (indexes_in bits (g.F.Frozen.records f) ds) → (doc : ℕ)
-    → has common doc ≡ (has docs doc && found_all (trees_of queries) (indexes_in bits (g.F.Frozen.records f) ds) doc))
+    → has common doc ≡ (has docs doc && found_all (query_trees queries) (indexes_in bits (g.F.Frozen.records f) ds) doc))
     (c.matching.ensures.same ∙ c.shortest_of-first.ensures.same) c.in_ok-common-in-Some.ensures.docs in
     IfOk-weaker c.with_docs.result _ _
     (λ all is. λ doc. is doc
@@ -67,7 +67,7 @@ keep_common-returns-then-is_empty-clause-docs g t c =
     let queries = c.args.queries.now.items in
     let loop = c.loop-i in
     λ known doc.
-    none_left indexes doc (found_all (trees_of (drop loop.i queries)) indexes doc) loop.common (has c.args.docs doc && found_all (trees_of queries) indexes doc)
+    none_left indexes doc (found_all (query_trees (drop loop.i queries)) indexes doc) loop.common (has c.args.docs doc && found_all (query_trees queries) indexes doc)
     (c.is_empty.ensures.0 c.if-is_empty.true) (loop.invariant.matched known doc).1
 
 pub keep_common-returns-clause-docs : goal.keep_common-returns-clause-docs
@@ -77,7 +77,7 @@ keep_common-returns-clause-docs g t c =
     let loop = c.loop-i in
     let same = ap length c.deref-query-items.ensures.value in
     λ known doc.
-    all_members indexes doc queries loop.i (has loop.common doc) (has c.args.docs doc && found_all (trees_of queries) indexes doc)
+    all_members indexes doc queries loop.i (has loop.common doc) (has c.args.docs doc && found_all (query_trees queries) indexes doc)
     (omega (arith, same, c.loop-i-test.false)) (loop.invariant.matched known doc).1
 
 pub keep_common-loop-i-preserved : goal.keep_common-loop-i-preserved

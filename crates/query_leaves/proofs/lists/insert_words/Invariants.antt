@@ -1,13 +1,13 @@
 use Rattle.std.proofs.Common.{◌≡◌, ◌||◌, ℕ, map, drop}
 use Rattle.std.specs.Map.{keys_of}
 use Rattle.attr_images.specs.Words.{unpacked}
-use Rattle.doc_set.specs.Postings.{AreDocuments}
+use Rattle.doc_set.specs.Postings.{HaveDocNumbers}
 use Rattle.doc_set.specs.Sets.{has, in_words}
 use Rattle.query_leaves.proofs.lists.insert_words.Given as goal
 
 abbrev pub invariant-loop-word : goal.invariant-loop-word
 invariant-loop-word l = record {
-  left : AreDocuments (map unpacked (drop l.word-index l.words));
+  left : HaveDocNumbers (map unpacked (drop l.word-index l.words));
   whole : (doc : ℕ) → (in_words l.set doc || has (keys_of (map unpacked (drop l.word-index l.words))) doc)
       ≡ (in_words l.fn.set doc || has (keys_of (map unpacked l.words)) doc);
 }

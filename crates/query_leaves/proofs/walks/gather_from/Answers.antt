@@ -5,7 +5,7 @@ use Rattle.attr_images.specs.Postings.{list_form, postings_at}
 use Rattle.attr_images.specs.Values.{stored_value}
 use Rattle.doc_set.specs.Gathers.{is_in}
 use Rattle.doc_set.specs.Sets.{has}
-use Rattle.query_index.specs.Leaves.{listed, is_beyond, run}
+use Rattle.query_index.specs.Leaves.{listed, stands_beyond, run}
 use Rattle.query_leaves.specs.Parts.{IsIndexPair, AreIndexPairs, part_of}
 use Rattle.query_leaves.proofs.PartLemmas.{all_drop, run_goes}
 use Rattle.query_leaves.proofs.walks.gather_from.Goals as goal
@@ -20,9 +20,9 @@ loop-alloc-preserved g c =
     let same_value = c.is_beyond_at.ensures.same ∙ before.same in
     let same_list = c.gather_list.ensures.same ∙ same_value in
     let some : ps ≢ [] = λ none. true≢false (sym ((c.at_end.ensures.pairs m before.at).1 none) ∙ c.loop-alloc-test.true) in
-    let off : is_beyond leaf (stored_value type m (first_key ps)) ≡ false =
-    subst (λ (f : g.row.F.Denot). is_beyond leaf (stored_value type (g.F.Frozen.records f) (first_key ps)) ≡ false) before.same
-    (ap (λ (k : ℕ). is_beyond leaf (stored_value type (g.F.Frozen.records c.loop-alloc.frozen) k)) (sym (c.key.ensures m before.at))
+    let off : stands_beyond leaf (stored_value type m (first_key ps)) ≡ false =
+    subst (λ (f : g.row.F.Denot). stands_beyond leaf (stored_value type (g.F.Frozen.records f) (first_key ps)) ≡ false) before.same
+    (ap (λ (k : ℕ). stands_beyond leaf (stored_value type (g.F.Frozen.records c.loop-alloc.frozen) k)) (sym (c.key.ensures m before.at))
     ∙ sym c.in_ok-is_beyond_at.ensures.stands ∙ c.if-branch.false) in
     let more : (doc : ℕ) → is_in c.in_ok-all.all doc ≡ (is_in c.loop-alloc.all doc || has (keys_of (postings_at m (list_form c.value.result))) doc) =
     subst (λ (f : g.row.F.Denot). (doc : ℕ) → is_in c.in_ok-all.all doc

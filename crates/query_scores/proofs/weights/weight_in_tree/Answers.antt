@@ -4,7 +4,7 @@ use Rattle.std.specs.Int.{w32}
 use Rattle.std.specs.Int.RustNames.{FitsSigned}
 use Rattle.tree_images.specs.Trees.{tree_pairs}
 use Rattle.attr_images.specs.Postings.{postings_at, tree}
-use Rattle.query_scores.specs.Weights.{weight_at}
+use Rattle.query_scores.specs.Weights.{weight_in_list}
 use Rattle.query_scores.proofs.LookupLemmas.{pair_among}
 use Rattle.query_scores.proofs.WeightLemmas.{tree_weight}
 use Rattle.query_scores.proofs.weights.weight_in_tree.Goals as goal
@@ -21,10 +21,10 @@ returns-in-Some-clause-weight g c =
     let fits : FitsSigned w32 c.cast_signed.result = search rules in
     to_z-of_z w32 c.cast_signed.result fits ∙ c.cast_signed.ensures
     ∙ tree_weight m c.args.root c.from.result c.requires.form.0 (Some (c.in-Some.field-0-0, c.in-Some.weight)) c.in-Some.ensures.pair
-    ∙ ap (λ (d : ℕ). weight_at d (postings_at m (tree c.args.root))) c.from.ensures
+    ∙ ap (λ (d : ℕ). weight_in_list d (postings_at m (tree c.args.root))) c.from.ensures
 
 pub returns-in-None-clause-weight : goal.returns-in-None-clause-weight
 returns-in-None-clause-weight g c =
     let m = g.F.Frozen.records c.args.frozen.now in
     tree_weight m c.args.root c.from.result c.requires.form.0 None c.in-None.ensures.pair
-    ∙ ap (λ (d : ℕ). weight_at d (postings_at m (tree c.args.root))) c.from.ensures
+    ∙ ap (λ (d : ℕ). weight_in_list d (postings_at m (tree c.args.root))) c.from.ensures

@@ -1,11 +1,11 @@
 use Rattle.std.proofs.Common.{◌≡◌, length}
-use Rattle.posting_store.specs.Walks.{postings_from, IsPlace}
+use Rattle.posting_store.specs.Walks.{postings_from, IsListPlace}
 use Rattle.test_postings.proofs.steps.walked.Given as goal
 
 abbrev pub invariant-loop-cursor : goal.invariant-loop-cursor
 invariant-loop-cursor g l = record {
   same : l.frozen ≡ l.fn.frozen;
-  place : IsPlace (g.F.Frozen.records l.fn.frozen) l.cursor;
+  place : IsListPlace (g.F.Frozen.records l.fn.frozen) l.cursor;
 }
 
 abbrev pub decreases-loop-cursor : goal.decreases-loop-cursor

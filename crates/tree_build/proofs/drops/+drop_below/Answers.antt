@@ -3,7 +3,7 @@ use Rattle.store_api.specs.Parts.{Owns, entries}
 use Rattle.tree_images.specs.Nodes.{node_values}
 use Rattle.tree_images.specs.Trees.{nodes_below, IsNode}
 use Rattle.tree_node.proofs.ReadLemmas.{node-size, node-room}
-use Rattle.tree_make.specs.Changes.{Drops}
+use Rattle.tree_make.specs.Changes.{DropsEntries}
 use Rattle.tree_make.proofs.DropLemmas.{drops-none, drops-more}
 use Rattle.tree_build.proofs.TreeLemmas.{leaf-nodes, leaf-used, child-is, child-owns, child-dropped, node-used, node-dropped}
 use Rattle.tree_build.proofs.drops.+drop_below.Goals as goal
@@ -33,9 +33,9 @@ returns-then-level-eq0 g κ c =
     let owns = subst (λ l. Owns (ledger s) m (entries (nodes_below m l node) ∷ [])) flat c.requires.owns in
     let used = leaf-used (ledger s) m node owns in
     let u = c.drop_entry.new.self in
-    let one : Drops (ledger s) (ledger u) m (records u) (node ∷ []) =
+    let one : DropsEntries (ledger s) (ledger u) m (records u) (node ∷ []) =
     drops-more (ledger s) (ledger s) (ledger u) m m (records u) [] node (drops-none (ledger s) m) used (λ r some. (g.met.S.Store.recorded s r).1 some) c.drop_entry.ensures.drops c.drop_entry.ensures.may in
-    subst (λ k. Drops (ledger s) (ledger u) m (records u) (nodes_below m k node)) (sym flat) (subst (Drops (ledger s) (ledger u) m (records u)) (sym (leaf-nodes m node)) one)
+    subst (λ k. DropsEntries (ledger s) (ledger u) m (records u) (nodes_below m k node)) (sym flat) (subst (DropsEntries (ledger s) (ledger u) m (records u)) (sym (leaf-nodes m node)) one)
 
 pub read_node-slots-requires : goal.read_node-slots-requires
 read_node-slots-requires g κ c =
@@ -55,7 +55,7 @@ loop-child-init g κ c =
     let m = records s in
     let node = c.args.node in
     let level = c.args.level in
-    subst (λ f. Drops (ledger s) (ledger f) m (records f) []) (sym c.read_node-slots.ensures.same) (drops-none (ledger s) m)
+    subst (λ f. DropsEntries (ledger s) (ledger f) m (records f) []) (sym c.read_node-slots.ensures.same) (drops-none (ledger s) m)
 
 pub overflow_cast-child : goal.overflow_cast-child
 overflow_cast-child g κ c =
@@ -158,7 +158,7 @@ loop-child-preserved g κ c =
     let ref_is : ref ≡ q = c.from_raw.ensures ∙ ap (λ (xs : List ℕ). get_or xs i 0) items in
     let u = c.drop_below.new.store in
     child-dropped (ledger s) m l node is owns (ledger t) n i low before (ledger u) (records u)
-    (subst (λ r. Drops (ledger t) (ledger u) n (records u) (nodes_below n l r)) ref_is c.drop_below.ensures)
+    (subst (λ r. DropsEntries (ledger t) (ledger u) n (records u) (nodes_below n l r)) ref_is c.drop_below.ensures)
 
 pub drop_entry-requires-2 : goal.drop_entry-requires-2
 drop_entry-requires-2 g κ c =
@@ -205,7 +205,7 @@ returns g κ c =
     let past : length vs ≤ i = subst (λ (xs : List ℕ). length xs ≤ i) items c.loop-child-test.false in
     let used = node-used (ledger s) m l node is owns (ledger t) n i past before in
     let u = c.drop_entry-2.new.self in
-    let one : Drops (ledger t) (ledger u) n (records u) (node ∷ []) =
+    let one : DropsEntries (ledger t) (ledger u) n (records u) (node ∷ []) =
     drops-more (ledger t) (ledger t) (ledger u) n n (records u) [] node (drops-none (ledger t) n) used (λ r some. (g.met.S.Store.recorded t r).1 some) c.drop_entry-2.ensures.drops c.drop_entry-2.ensures.may in
-    subst (λ k. Drops (ledger s) (ledger u) m (records u) (nodes_below m k node)) (sym up)
+    subst (λ k. DropsEntries (ledger s) (ledger u) m (records u) (nodes_below m k node)) (sym up)
     (node-dropped (ledger s) m l node is owns (ledger t) n i past before (ledger u) (records u) one)

@@ -2,7 +2,7 @@ use Rattle.std.proofs.Common.{◌≡◌, ◌<◌, [], ◌∷◌, true, sym, subs
 use Rattle.store_api.specs.Parts.{Owns, entries}
 use Rattle.tree_images.proofs.TreeLemmas.{IsNode-form}
 use Rattle.tree_images.specs.Trees.{nodes_below, tree_nodes, IsNode, root_level, root_least}
-use Rattle.tree_make.specs.Changes.{Drops}
+use Rattle.tree_make.specs.Changes.{DropsEntries}
 use Rattle.tree_build.proofs.TreeLemmas.{top-nodes, top-node, top-owns, drop-others}
 use Rattle.tree_build.proofs.drops.drop_tree.Goals as goal
 
@@ -56,9 +56,9 @@ returns-then-valid-clause-turns g c =
     let same = c.read_head-level.ensures.same in
     let is : level ≡ root_level m root = c.read_head-level.ensures.level ∙ form.at_level in
     let u = c.drop_below.new.store in
-    let drops : Drops (ledger s) (ledger u) m (records u) (tree_nodes m root) =
-    subst (Drops (ledger s) (ledger u) m (records u)) (top-nodes m root level some is)
-    (subst (λ f. Drops (ledger f) (ledger u) (records f) (records u) (nodes_below (records f) level root)) same c.drop_below.ensures) in
+    let drops : DropsEntries (ledger s) (ledger u) m (records u) (tree_nodes m root) =
+    subst (DropsEntries (ledger s) (ledger u) m (records u)) (top-nodes m root level some is)
+    (subst (λ f. DropsEntries (ledger f) (ledger u) (records f) (records u) (nodes_below (records f) level root)) same c.drop_below.ensures) in
     record { kept = drops.turns.kept; balance = drops.turns.balance }
 
 pub returns-then-valid-clause-others : goal.returns-then-valid-clause-others
@@ -75,9 +75,9 @@ returns-then-valid-clause-others g c =
     let same = c.read_head-level.ensures.same in
     let is : level ≡ root_level m root = c.read_head-level.ensures.level ∙ form.at_level in
     let u = c.drop_below.new.store in
-    let drops : Drops (ledger s) (ledger u) m (records u) (tree_nodes m root) =
-    subst (Drops (ledger s) (ledger u) m (records u)) (top-nodes m root level some is)
-    (subst (λ f. Drops (ledger f) (ledger u) (records f) (records u) (nodes_below (records f) level root)) same c.drop_below.ensures) in
+    let drops : DropsEntries (ledger s) (ledger u) m (records u) (tree_nodes m root) =
+    subst (DropsEntries (ledger s) (ledger u) m (records u)) (top-nodes m root level some is)
+    (subst (λ f. DropsEntries (ledger f) (ledger u) (records f) (records u) (nodes_below (records f) level root)) same c.drop_below.ensures) in
     drop-others (ledger s) (ledger u) m (records u) root c.requires.tree drops
 
 pub returns-then-valid-clause-none_made : goal.returns-then-valid-clause-none_made
@@ -94,9 +94,9 @@ returns-then-valid-clause-none_made g c =
     let same = c.read_head-level.ensures.same in
     let is : level ≡ root_level m root = c.read_head-level.ensures.level ∙ form.at_level in
     let u = c.drop_below.new.store in
-    let drops : Drops (ledger s) (ledger u) m (records u) (tree_nodes m root) =
-    subst (Drops (ledger s) (ledger u) m (records u)) (top-nodes m root level some is)
-    (subst (λ f. Drops (ledger f) (ledger u) (records f) (records u) (nodes_below (records f) level root)) same c.drop_below.ensures) in
+    let drops : DropsEntries (ledger s) (ledger u) m (records u) (tree_nodes m root) =
+    subst (DropsEntries (ledger s) (ledger u) m (records u)) (top-nodes m root level some is)
+    (subst (λ f. DropsEntries (ledger f) (ledger u) (records f) (records u) (nodes_below (records f) level root)) same c.drop_below.ensures) in
     drops.none_made
 
 pub returns-then-valid-clause-may : goal.returns-then-valid-clause-may
@@ -113,7 +113,7 @@ returns-then-valid-clause-may g c =
     let same = c.read_head-level.ensures.same in
     let is : level ≡ root_level m root = c.read_head-level.ensures.level ∙ form.at_level in
     let u = c.drop_below.new.store in
-    let drops : Drops (ledger s) (ledger u) m (records u) (tree_nodes m root) =
-    subst (Drops (ledger s) (ledger u) m (records u)) (top-nodes m root level some is)
-    (subst (λ f. Drops (ledger f) (ledger u) (records f) (records u) (nodes_below (records f) level root)) same c.drop_below.ensures) in
+    let drops : DropsEntries (ledger s) (ledger u) m (records u) (tree_nodes m root) =
+    subst (DropsEntries (ledger s) (ledger u) m (records u)) (top-nodes m root level some is)
+    (subst (λ f. DropsEntries (ledger f) (ledger u) (records f) (records u) (nodes_below (records f) level root)) same c.drop_below.ensures) in
     drops.may

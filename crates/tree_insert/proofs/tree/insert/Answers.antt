@@ -6,7 +6,7 @@ use Rattle.key_order.proofs.KeyLemmas.{others_kept}
 use Rattle.key_order.proofs.OrderLemmas.{put-ascends}
 use Rattle.key_order.proofs.PairLemmas.{All-put}
 use Rattle.store_api.specs.Parts.{Owns, entries}
-use Rattle.tree_make.specs.Changes.{Drops, levels}
+use Rattle.tree_make.specs.Changes.{DropsEntries, levels}
 use Rattle.tree_make.proofs.ChangeLemmas.{gone-owned, end-turns, end-owns, end-pairs, end-others, end-may, end-counts, end-keyed}
 use Rattle.tree_make.proofs.Results.{on_err}
 use Rattle.tree_insert.proofs.tree.insert.Goals as goal
@@ -38,7 +38,7 @@ returns-clause-keyed g c =
     let pairs = put seen (c.args.word, c.args.value) (tree_pairs m c.args.root) in
     let most = 2 * levels m c.args.root + 1 in
     let u = c.drop_nodes.new.store in
-    let drops = subst (λ xs. Drops (ledger t) (ledger u) (records t) (records u) xs) c.deref.ensures.0 c.drop_nodes.ensures in
+    let drops = subst (λ xs. DropsEntries (ledger t) (ledger u) (records t) (records u) xs) c.deref.ensures.0 c.drop_nodes.ensures in
     let ps = tree_pairs m c.args.root in
     let keyed = c.requires.keyed in
     let word = c.requires.word in
@@ -62,7 +62,7 @@ returns-clause-turns g c =
     let pairs = put seen (c.args.word, c.args.value) (tree_pairs m c.args.root) in
     let most = 2 * levels m c.args.root + 1 in
     let u = c.drop_nodes.new.store in
-    let drops = subst (λ xs. Drops (ledger t) (ledger u) (records t) (records u) xs) c.deref.ensures.0 c.drop_nodes.ensures in
+    let drops = subst (λ xs. DropsEntries (ledger t) (ledger u) (records t) (records u) xs) c.deref.ensures.0 c.drop_nodes.ensures in
     end-turns (ledger s) (ledger t) m (records t) most c.args.root c.in_ok-next.next gone pairs c.requires.owns c.in_ok-next.ensures.rebuilds c.rebuild.ensures.makes (g.met.S.Store.recorded s) (ledger u) (records u) drops c.requires.keyed.tree.node
 
 pub returns-clause-owns : goal.returns-clause-owns
@@ -78,7 +78,7 @@ returns-clause-owns g c =
     let pairs = put seen (c.args.word, c.args.value) (tree_pairs m c.args.root) in
     let most = 2 * levels m c.args.root + 1 in
     let u = c.drop_nodes.new.store in
-    let drops = subst (λ xs. Drops (ledger t) (ledger u) (records t) (records u) xs) c.deref.ensures.0 c.drop_nodes.ensures in
+    let drops = subst (λ xs. DropsEntries (ledger t) (ledger u) (records t) (records u) xs) c.deref.ensures.0 c.drop_nodes.ensures in
     end-owns (ledger s) (ledger t) m (records t) most c.args.root c.in_ok-next.next gone pairs c.requires.owns c.in_ok-next.ensures.rebuilds c.rebuild.ensures.makes (g.met.S.Store.recorded s) (ledger u) (records u) drops c.requires.keyed.tree.node
 
 pub returns-clause-pairs : goal.returns-clause-pairs
@@ -94,7 +94,7 @@ returns-clause-pairs g c =
     let pairs = put seen (c.args.word, c.args.value) (tree_pairs m c.args.root) in
     let most = 2 * levels m c.args.root + 1 in
     let u = c.drop_nodes.new.store in
-    let drops = subst (λ xs. Drops (ledger t) (ledger u) (records t) (records u) xs) c.deref.ensures.0 c.drop_nodes.ensures in
+    let drops = subst (λ xs. DropsEntries (ledger t) (ledger u) (records t) (records u) xs) c.deref.ensures.0 c.drop_nodes.ensures in
     end-pairs (ledger s) (ledger t) m (records t) most c.args.root c.in_ok-next.next gone pairs c.requires.owns c.in_ok-next.ensures.rebuilds c.rebuild.ensures.makes (g.met.S.Store.recorded s) (ledger u) (records u) drops c.requires.keyed.tree.node
 
 pub returns-clause-others : goal.returns-clause-others
@@ -110,7 +110,7 @@ returns-clause-others g c =
     let pairs = put seen (c.args.word, c.args.value) (tree_pairs m c.args.root) in
     let most = 2 * levels m c.args.root + 1 in
     let u = c.drop_nodes.new.store in
-    let drops = subst (λ xs. Drops (ledger t) (ledger u) (records t) (records u) xs) c.deref.ensures.0 c.drop_nodes.ensures in
+    let drops = subst (λ xs. DropsEntries (ledger t) (ledger u) (records t) (records u) xs) c.deref.ensures.0 c.drop_nodes.ensures in
     end-others (ledger s) (ledger t) m (records t) most c.args.root c.in_ok-next.next gone pairs c.requires.owns c.in_ok-next.ensures.rebuilds c.rebuild.ensures.makes (g.met.S.Store.recorded s) (ledger u) (records u) drops c.requires.keyed.tree.node
 
 pub returns-clause-may : goal.returns-clause-may
@@ -126,7 +126,7 @@ returns-clause-may g c =
     let pairs = put seen (c.args.word, c.args.value) (tree_pairs m c.args.root) in
     let most = 2 * levels m c.args.root + 1 in
     let u = c.drop_nodes.new.store in
-    let drops = subst (λ xs. Drops (ledger t) (ledger u) (records t) (records u) xs) c.deref.ensures.0 c.drop_nodes.ensures in
+    let drops = subst (λ xs. DropsEntries (ledger t) (ledger u) (records t) (records u) xs) c.deref.ensures.0 c.drop_nodes.ensures in
     end-may (ledger s) (ledger t) m (records t) most c.args.root c.in_ok-next.next gone pairs c.requires.owns c.in_ok-next.ensures.rebuilds c.rebuild.ensures.makes (g.met.S.Store.recorded s) (ledger u) (records u) drops c.requires.keyed.tree.node
 
 pub returns-clause-counts : goal.returns-clause-counts
@@ -142,7 +142,7 @@ returns-clause-counts g c =
     let pairs = put seen (c.args.word, c.args.value) (tree_pairs m c.args.root) in
     let most = 2 * levels m c.args.root + 1 in
     let u = c.drop_nodes.new.store in
-    let drops = subst (λ xs. Drops (ledger t) (ledger u) (records t) (records u) xs) c.deref.ensures.0 c.drop_nodes.ensures in
+    let drops = subst (λ xs. DropsEntries (ledger t) (ledger u) (records t) (records u) xs) c.deref.ensures.0 c.drop_nodes.ensures in
     end-counts (ledger s) (ledger t) m (records t) most c.args.root c.in_ok-next.next gone pairs c.requires.owns c.in_ok-next.ensures.rebuilds c.rebuild.ensures.makes (g.met.S.Store.recorded s) (ledger u) (records u) drops c.requires.keyed.tree.node
 
 pub returns-in_err-next-clause-others : goal.returns-in_err-next-clause-others

@@ -1,7 +1,7 @@
 use Rattle.std.proofs.Common.{◌≡◌, [], ◌∷◌, ◌++◌, take, get_or, sym, ap, subst, ◌∙◌, arith}
 use Rattle.std.proofs.lemmas.List.{take_more, take_all}
 use Rattle.tree_make.proofs.DropLemmas.{drops-none, drops-more, next_used}
-use Rattle.tree_make.specs.Changes.{Drops}
+use Rattle.tree_make.specs.Changes.{DropsEntries}
 use Rattle.tree_make.proofs.drops.drop_nodes.Goals as goal
 
 pub loop-node-init : goal.loop-node-init
@@ -29,10 +29,10 @@ loop-node-preserved g c =
     let used = next_used (ledger c.args.store.now) (ledger c.loop-node.store) (records c.args.store.now) (records c.loop-node.store) c.args.nodes.now i q c.requires.owns c.loop-node-test.true at before in
     let more = drops-more (ledger c.args.store.now) (ledger c.loop-node.store) (ledger c.drop_entry.new.self) (records c.args.store.now) (records c.loop-node.store) (records c.drop_entry.new.self)
     (take i c.args.nodes.now) q before used (λ r some. (g.met.S.Store.recorded c.loop-node.store r).1 some) c.drop_entry.ensures.drops c.drop_entry.ensures.may in
-    subst (Drops (ledger c.args.store.now) (ledger c.drop_entry.new.self) (records c.args.store.now) (records c.drop_entry.new.self))
+    subst (DropsEntries (ledger c.args.store.now) (ledger c.drop_entry.new.self) (records c.args.store.now) (records c.drop_entry.new.self))
     (ap (λ r. take i c.args.nodes.now ++ r ∷ []) at ∙ sym (take_more c.args.nodes.now i 0 c.loop-node-test.true)) more
 
 pub returns : goal.returns
 returns g c =
-    subst (Drops (g.S.Store.ledger c.args.store.now) (g.S.Store.ledger c.loop-node.store) (g.S.Frozen.records c.args.store.now) (g.S.Frozen.records c.loop-node.store))
+    subst (DropsEntries (g.S.Store.ledger c.args.store.now) (g.S.Store.ledger c.loop-node.store) (g.S.Frozen.records c.args.store.now) (g.S.Frozen.records c.loop-node.store))
     (take_all c.loop-node.node-index c.args.nodes.now (omega arith)) c.loop-node.invariant

@@ -5,7 +5,7 @@ use Rattle.tree_node.specs.Slots.{slot_pairs, slot_nodes, IsInHand}
 use Rattle.tree_remove.proofs.ParentLemmas.{puts-alone, puts-left, puts-right, few-before, few-behind}
 use Rattle.tree_remove.proofs.SettleLemmas.{settles-alone}
 use Rattle.tree_remove.specs.Removes.{IsChild, PutsBack, spliced}
-use Rattle.tree_remove.specs.Settles.{Settles}
+use Rattle.tree_remove.specs.Settles.{SettlesSlots}
 use Rattle.tree_make.proofs.MakesLemmas.{makes-more}
 use Rattle.tree_make.proofs.Results.{on_err}
 use Rattle.tree_remove.proofs.parent.put_back.Goals as goal
@@ -91,18 +91,18 @@ returns-then-place-gt0-clause-puts g c =
     let short : length child.keys.items < 8 = omega arith in
     let next : suc first ≡ c.args.place = omega arith in
     on_ok_weaker c.make_neighbours.result
-    (λ (settles : Settles (ledger c.read_child-left.new.frozen) (ledger new) (records c.read_child-left.new.frozen) (records new) left.level
+    (λ (settles : SettlesSlots (ledger c.read_child-left.new.frozen) (ledger new) (records c.read_child-left.new.frozen) (records new) left.level
     (slot_pairs (records c.read_child-left.new.frozen) left.level (left.keys.items ++ child.keys.items) (left.values.items ++ child.values.items))
     (slot_nodes (records c.read_child-left.new.frozen) left.level (left.values.items ++ child.values.items))
     first 2 slots.keys.items slots.values.items after.keys.items after.values.items).
     puts-left (ledger c.args.store.now) (ledger new) m (records new) child.level slots.keys.items slots.values.items child.keys.items child.values.items
     c.args.replaced.now.items c.read_child-left.new.replaced.items after.keys.items after.values.items c.requires.parent c.requires.hand
     c.args.place first sibling left.keys.items left.values.items next c.requires.place short refl read.hand read.pairs_are read.nodes_are c.read_child-left.ensures.replaced
-    (subst (λ l. Settles (ledger c.args.store.now) (ledger new) m (records new) l
+    (subst (λ l. SettlesSlots (ledger c.args.store.now) (ledger new) m (records new) l
     (slot_pairs m l (left.keys.items ++ child.keys.items) (left.values.items ++ child.values.items))
     (slot_nodes m l (left.values.items ++ child.values.items))
     first 2 slots.keys.items slots.values.items after.keys.items after.values.items) level
-    (subst (λ s. Settles (ledger s) (ledger new) (records s) (records new) left.level
+    (subst (λ s. SettlesSlots (ledger s) (ledger new) (records s) (records new) left.level
     (slot_pairs (records s) left.level (left.keys.items ++ child.keys.items) (left.values.items ++ child.values.items))
     (slot_nodes (records s) left.level (left.values.items ++ child.values.items))
     first 2 slots.keys.items slots.values.items after.keys.items after.values.items) same settles)))
@@ -127,7 +127,7 @@ returns-else-place-gt0-clause-puts g c =
     let many = c.requires.many in
     let short : length child.keys.items < 8 = omega arith in
     on_ok_weaker c.make_neighbours-else-place-gt0.result
-    (λ (settles : Settles (ledger c.read_child-right.new.frozen) (ledger new) (records c.read_child-right.new.frozen) (records new) child.level
+    (λ (settles : SettlesSlots (ledger c.read_child-right.new.frozen) (ledger new) (records c.read_child-right.new.frozen) (records new) child.level
     (slot_pairs (records c.read_child-right.new.frozen) child.level (child.keys.items ++ right.keys.items) (child.values.items ++ right.values.items))
     (slot_nodes (records c.read_child-right.new.frozen) child.level (child.values.items ++ right.values.items))
     0 2 slots.keys.items slots.values.items after.keys.items after.values.items).
@@ -136,7 +136,7 @@ returns-else-place-gt0-clause-puts g c =
     (puts-right (ledger c.args.store.now) (ledger new) m (records new) child.level slots.keys.items slots.values.items child.keys.items child.values.items
     c.args.replaced.now.items c.read_child-right.new.replaced.items after.keys.items after.values.items c.requires.parent c.requires.hand
     sibling right.keys.items right.values.items (omega arith) short refl read.hand read.pairs_are read.nodes_are c.read_child-right.ensures.replaced
-    (subst (λ s. Settles (ledger s) (ledger new) (records s) (records new) child.level
+    (subst (λ s. SettlesSlots (ledger s) (ledger new) (records s) (records new) child.level
     (slot_pairs (records s) child.level (child.keys.items ++ right.keys.items) (child.values.items ++ right.values.items))
     (slot_nodes (records s) child.level (child.values.items ++ right.values.items))
     0 2 slots.keys.items slots.values.items after.keys.items after.values.items) same settles)))

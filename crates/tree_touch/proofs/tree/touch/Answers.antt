@@ -3,7 +3,7 @@ use Rattle.tree_images.specs.Trees.{tree_pairs}
 use Rattle.key_order.specs.Keys.{seen_by}
 use Rattle.key_order.proofs.KeyLemmas.{others_kept}
 use Rattle.store_api.specs.Parts.{Owns, entries}
-use Rattle.tree_make.specs.Changes.{Drops, levels}
+use Rattle.tree_make.specs.Changes.{DropsEntries, levels}
 use Rattle.tree_make.proofs.ChangeLemmas.{gone-owned, end-turns, end-owns, end-pairs, end-others, end-may, end-counts, end-keyed}
 use Rattle.tree_make.proofs.Results.{on_err}
 use Rattle.tree_touch.specs.Paths.{NoneIn}
@@ -34,7 +34,7 @@ returns-clause-keyed g c =
     let pairs = tree_pairs m c.args.root in
     let most = levels m c.args.root in
     let u = c.drop_nodes.new.store in
-    let drops = subst (λ xs. Drops (ledger t) (ledger u) (records t) (records u) xs) c.deref.ensures.0 c.drop_nodes.ensures in
+    let drops = subst (λ xs. DropsEntries (ledger t) (ledger u) (records t) (records u) xs) c.deref.ensures.0 c.drop_nodes.ensures in
     let keyed = c.requires.keyed in
     end-keyed (ledger s) (ledger t) m (records t) most c.args.root c.in_ok-next.next gone pairs c.requires.owns c.in_ok-next.ensures.rebuilds c.make_anew.ensures.makes (g.met.S.Store.recorded s) (ledger u) (records u) drops c.requires.keyed.tree.node
     k.order k.can_read k.read k.reads_from g.met.K.KeyOrder.stays g.met.K.KeyOrder.steady
@@ -51,7 +51,7 @@ returns-clause-turns g c =
     let pairs = tree_pairs m c.args.root in
     let most = levels m c.args.root in
     let u = c.drop_nodes.new.store in
-    let drops = subst (λ xs. Drops (ledger t) (ledger u) (records t) (records u) xs) c.deref.ensures.0 c.drop_nodes.ensures in
+    let drops = subst (λ xs. DropsEntries (ledger t) (ledger u) (records t) (records u) xs) c.deref.ensures.0 c.drop_nodes.ensures in
     end-turns (ledger s) (ledger t) m (records t) most c.args.root c.in_ok-next.next gone pairs c.requires.owns c.in_ok-next.ensures.rebuilds c.make_anew.ensures.makes (g.met.S.Store.recorded s) (ledger u) (records u) drops c.requires.keyed.tree.node
 
 pub returns-clause-owns : goal.returns-clause-owns
@@ -65,7 +65,7 @@ returns-clause-owns g c =
     let pairs = tree_pairs m c.args.root in
     let most = levels m c.args.root in
     let u = c.drop_nodes.new.store in
-    let drops = subst (λ xs. Drops (ledger t) (ledger u) (records t) (records u) xs) c.deref.ensures.0 c.drop_nodes.ensures in
+    let drops = subst (λ xs. DropsEntries (ledger t) (ledger u) (records t) (records u) xs) c.deref.ensures.0 c.drop_nodes.ensures in
     end-owns (ledger s) (ledger t) m (records t) most c.args.root c.in_ok-next.next gone pairs c.requires.owns c.in_ok-next.ensures.rebuilds c.make_anew.ensures.makes (g.met.S.Store.recorded s) (ledger u) (records u) drops c.requires.keyed.tree.node
 
 pub returns-clause-pairs : goal.returns-clause-pairs
@@ -79,7 +79,7 @@ returns-clause-pairs g c =
     let pairs = tree_pairs m c.args.root in
     let most = levels m c.args.root in
     let u = c.drop_nodes.new.store in
-    let drops = subst (λ xs. Drops (ledger t) (ledger u) (records t) (records u) xs) c.deref.ensures.0 c.drop_nodes.ensures in
+    let drops = subst (λ xs. DropsEntries (ledger t) (ledger u) (records t) (records u) xs) c.deref.ensures.0 c.drop_nodes.ensures in
     end-pairs (ledger s) (ledger t) m (records t) most c.args.root c.in_ok-next.next gone pairs c.requires.owns c.in_ok-next.ensures.rebuilds c.make_anew.ensures.makes (g.met.S.Store.recorded s) (ledger u) (records u) drops c.requires.keyed.tree.node
 
 pub returns-clause-others : goal.returns-clause-others
@@ -93,7 +93,7 @@ returns-clause-others g c =
     let pairs = tree_pairs m c.args.root in
     let most = levels m c.args.root in
     let u = c.drop_nodes.new.store in
-    let drops = subst (λ xs. Drops (ledger t) (ledger u) (records t) (records u) xs) c.deref.ensures.0 c.drop_nodes.ensures in
+    let drops = subst (λ xs. DropsEntries (ledger t) (ledger u) (records t) (records u) xs) c.deref.ensures.0 c.drop_nodes.ensures in
     end-others (ledger s) (ledger t) m (records t) most c.args.root c.in_ok-next.next gone pairs c.requires.owns c.in_ok-next.ensures.rebuilds c.make_anew.ensures.makes (g.met.S.Store.recorded s) (ledger u) (records u) drops c.requires.keyed.tree.node
 
 pub returns-clause-may : goal.returns-clause-may
@@ -107,7 +107,7 @@ returns-clause-may g c =
     let pairs = tree_pairs m c.args.root in
     let most = levels m c.args.root in
     let u = c.drop_nodes.new.store in
-    let drops = subst (λ xs. Drops (ledger t) (ledger u) (records t) (records u) xs) c.deref.ensures.0 c.drop_nodes.ensures in
+    let drops = subst (λ xs. DropsEntries (ledger t) (ledger u) (records t) (records u) xs) c.deref.ensures.0 c.drop_nodes.ensures in
     end-may (ledger s) (ledger t) m (records t) most c.args.root c.in_ok-next.next gone pairs c.requires.owns c.in_ok-next.ensures.rebuilds c.make_anew.ensures.makes (g.met.S.Store.recorded s) (ledger u) (records u) drops c.requires.keyed.tree.node
 
 pub returns-clause-counts : goal.returns-clause-counts
@@ -121,7 +121,7 @@ returns-clause-counts g c =
     let pairs = tree_pairs m c.args.root in
     let most = levels m c.args.root in
     let u = c.drop_nodes.new.store in
-    let drops = subst (λ xs. Drops (ledger t) (ledger u) (records t) (records u) xs) c.deref.ensures.0 c.drop_nodes.ensures in
+    let drops = subst (λ xs. DropsEntries (ledger t) (ledger u) (records t) (records u) xs) c.deref.ensures.0 c.drop_nodes.ensures in
     end-counts (ledger s) (ledger t) m (records t) most c.args.root c.in_ok-next.next gone pairs c.requires.owns c.in_ok-next.ensures.rebuilds c.make_anew.ensures.makes (g.met.S.Store.recorded s) (ledger u) (records u) drops c.requires.keyed.tree.node
 
 pub returns-in_err-next-clause-others : goal.returns-in_err-next-clause-others
@@ -154,6 +154,6 @@ returns-clause-apart g c =
     let gone = c.make_anew.new.replaced.items in
     let next = c.in_ok-next.next in
     let it = c.in_ok-next.ensures.rebuilds in
-    let drops = subst (λ xs. Drops (ledger t) (ledger u) (records t) (records u) xs) c.deref.ensures.0 c.drop_nodes.ensures in
+    let drops = subst (λ xs. DropsEntries (ledger t) (ledger u) (records t) (records u) xs) c.deref.ensures.0 c.drop_nodes.ensures in
     let left = nodes-left (ledger s) (ledger t) (ledger u) m (records t) (records u) c.args.root next gone (tree_pairs m c.args.root) c.requires.owns it drops in
     subst (NoneIn g.row.OFFSET_BITS c.args.buffer) (sym (path_nodes-same (records t) (records u) seen next left it.node)) c.in_ok-next.ensures.apart

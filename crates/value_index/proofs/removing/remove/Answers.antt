@@ -6,7 +6,7 @@ use Rattle.std.specs.Ordering.{nat_cmp}
 use Rattle.attr_images.specs.Postings.{index_of}
 use Rattle.attr_index.specs.Index.{list_of, without_posting}
 use Rattle.attr_types.specs.Value.{type_of}
-use Rattle.enum_dictionary.specs.Dictionaries.{beside}
+use Rattle.enum_dictionary.specs.Dictionaries.{beside_value}
 use Rattle.key_order.specs.Pairs.{lookup_pair}
 use Rattle.tree_images.specs.Trees.{tree_pairs}
 use Rattle.posting_store.specs.Changes.{MakesWithin}
@@ -27,7 +27,7 @@ remove_from-requires g c =
     let records = g.S.Frozen.records in
     let value = c.args.value.now in
     let root = c.args.root in
-    let found = entry_found g.row.OFFSET_BITS (lookup_pair (beside value (records c.args.store.now)) (tree_pairs (records c.args.store.now) root)) c.in-Some.entry c.from_word.result
+    let found = entry_found g.row.OFFSET_BITS (lookup_pair (beside_value value (records c.args.store.now)) (tree_pairs (records c.args.store.now) root)) c.in-Some.entry c.from_word.result
     (sym c.in-Some.is ∙ c.find.ensures.entry) c.from_word.ensures in
     let back = sym c.find.ensures.same in (
       omega arith,
@@ -38,7 +38,7 @@ remove_from-requires g c =
           (
             subst (λ s. Owns (ledger s) (records s) (index_part root ∷ [])) back c.requires.owns,
             (
-              subst (λ s. lookup_pair (beside value (records s)) (tree_pairs (records s) root) ≡ Some (c.in-Some.entry.key, c.from_word.result)) back found,
+              subst (λ s. lookup_pair (beside_value value (records s)) (tree_pairs (records s) root) ≡ Some (c.in-Some.entry.key, c.from_word.result)) back found,
               subst (λ s. IsSome (lookup_in (is_at (nat_cmp c.args.doc)) (list_of value (index_of (type_of value) (records s) root)))) back c.requires.there,
             ),
           ),
@@ -51,7 +51,7 @@ unreachable-requires g c =
     let m = g.S.Frozen.records c.args.store.now in
     let value = c.args.value.now in
     value_found value m c.args.root c.args.doc c.requires.index c.requires.there
-    (entry_none g.row.OFFSET_BITS (lookup_pair (beside value m) (tree_pairs m c.args.root)) (sym c.in-None.is ∙ c.find.ensures.entry))
+    (entry_none g.row.OFFSET_BITS (lookup_pair (beside_value value m) (tree_pairs m c.args.root)) (sym c.in-None.is ∙ c.find.ensures.entry))
 
 pub returns-clause-makes : goal.returns-clause-makes
 returns-clause-makes g c =

@@ -3,20 +3,20 @@ use Rattle.std.specs.Prelude.{IsSome}
 use Rattle.std.specs.BTreeMap.{is_at}
 use Rattle.std.specs.Map.{lookup}
 use Rattle.std.specs.Ordering.{nat_cmp}
-use Rattle.posting_store.specs.Walks.{postings_from, first_doc, IsPlace}
+use Rattle.posting_store.specs.Walks.{postings_from, first_doc, IsListPlace}
 use Rattle.value_lists.proofs.FindLemmas.{walked_has, behind_has}
 use Rattle.value_lists.proofs.finding.walk_has.Goals as goal
 
 pub is_doc-requires : goal.is_doc-requires
 is_doc-requires g c =
     let records = g.F.Frozen.records in
-    (omega arith, (subst (λ f. IsPlace (records f) c.loop-doc.cursor) (sym c.loop-doc.invariant.same) c.loop-doc.invariant.place, c.at_end.ensures.follows c.loop-doc-test.true))
+    (omega arith, (subst (λ f. IsListPlace (records f) c.loop-doc.cursor) (sym c.loop-doc.invariant.same) c.loop-doc.invariant.place, c.at_end.ensures.follows c.loop-doc-test.true))
 
 pub next-requires : goal.next-requires
 next-requires g c =
     let records = g.F.Frozen.records in
     let same = c.is_doc.ensures.same ∙ c.loop-doc.invariant.same in
-    (omega arith, (subst (λ f. IsPlace (records f) c.loop-doc.cursor) (sym same) c.loop-doc.invariant.place, c.at_end.ensures.follows c.loop-doc-test.true))
+    (omega arith, (subst (λ f. IsListPlace (records f) c.loop-doc.cursor) (sym same) c.loop-doc.invariant.place, c.at_end.ensures.follows c.loop-doc-test.true))
 
 pub returns-then-is_doc-clause-has : goal.returns-then-is_doc-clause-has
 returns-then-is_doc-clause-has g c =
@@ -40,6 +40,6 @@ loop-doc-preserved g c =
     let behind : postings_from m next ≡ drop 1 (postings_from m at) = subst (λ f. postings_from (records f) next ≡ drop 1 (postings_from (records f) at)) same c.next.ensures.postings in
     record {
       same = c.next.ensures.same ∙ same;
-      place = subst (λ f. IsPlace (records f) next) same c.next.ensures.place;
+      place = subst (λ f. IsListPlace (records f) next) same c.next.ensures.place;
       found = λ h. before.found (behind_has c.args.doc (postings_from m at) (subst {A = List (ℕ × ℤ)} (λ es. IsSome (lookup (is_at (nat_cmp c.args.doc)) es)) behind h));
     }

@@ -4,7 +4,7 @@ use Rattle.std.specs.BTreeMap.{is_at}
 use Rattle.std.specs.Map.{lookup}
 use Rattle.std.specs.Ordering.{nat_cmp}
 use Rattle.posting_store.specs.Lists.{list_at}
-use Rattle.posting_store.specs.Walks.{postings_from, IsPlace}
+use Rattle.posting_store.specs.Walks.{postings_from, IsListPlace}
 use Rattle.value_lists.proofs.finding.walk_has.Given as goal
 
 -- what is found from here on is found in the list
@@ -13,7 +13,7 @@ invariant-loop-doc g l =
     let m = g.F.Frozen.records l.fn.frozen in
     record {
       same : l.frozen ≡ l.fn.frozen;
-      place : IsPlace m l.cursor;
+      place : IsListPlace m l.cursor;
       found : IsSome (lookup (is_at (nat_cmp l.fn.doc)) (postings_from m l.cursor)) → IsSome (lookup (is_at (nat_cmp l.fn.doc)) (list_at m l.fn.list));
     }
 

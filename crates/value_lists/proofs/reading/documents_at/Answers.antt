@@ -1,7 +1,7 @@
 use Rattle.std.proofs.Common.{◌≡◌, drop, sym, subst, ◌∙◌, arith, w32, to_z, of_z}
 use Rattle.std.proofs.lemmas.Int.{to_z-of_z}
 use Rattle.posting_store.specs.Lists.{list_at}
-use Rattle.posting_store.specs.Walks.{postings_from, first_doc, first_weight, IsPlace}
+use Rattle.posting_store.specs.Walks.{postings_from, first_doc, first_weight, IsListPlace}
 use Rattle.posting_store.proofs.ItemLemmas.{first_of}
 use Rattle.value_lists.proofs.ListLemmas.{one_more}
 use Rattle.value_lists.proofs.reading.documents_at.Goals as goal
@@ -9,19 +9,19 @@ use Rattle.value_lists.proofs.reading.documents_at.Goals as goal
 pub doc-doc-requires : goal.doc-doc-requires
 doc-doc-requires g c =
     let records = g.F.Frozen.records in
-    (omega arith, (subst (λ f. IsPlace (records f) c.loop-cursor.cursor) (sym c.loop-cursor.invariant.same) c.loop-cursor.invariant.place, c.at_end.ensures.follows c.loop-cursor-test.true))
+    (omega arith, (subst (λ f. IsListPlace (records f) c.loop-cursor.cursor) (sym c.loop-cursor.invariant.same) c.loop-cursor.invariant.place, c.at_end.ensures.follows c.loop-cursor-test.true))
 
 pub weight-weight-requires : goal.weight-weight-requires
 weight-weight-requires g c =
     let records = g.F.Frozen.records in
     let same = c.doc-doc.ensures.same ∙ c.loop-cursor.invariant.same in
-    (omega arith, (subst (λ f. IsPlace (records f) c.loop-cursor.cursor) (sym same) c.loop-cursor.invariant.place, c.at_end.ensures.follows c.loop-cursor-test.true))
+    (omega arith, (subst (λ f. IsListPlace (records f) c.loop-cursor.cursor) (sym same) c.loop-cursor.invariant.place, c.at_end.ensures.follows c.loop-cursor-test.true))
 
 pub next-requires : goal.next-requires
 next-requires g c =
     let records = g.F.Frozen.records in
     let same = c.weight-weight.ensures.same ∙ c.doc-doc.ensures.same ∙ c.loop-cursor.invariant.same in
-    (omega arith, (subst (λ f. IsPlace (records f) c.loop-cursor.cursor) (sym same) c.loop-cursor.invariant.place, c.at_end.ensures.follows c.loop-cursor-test.true))
+    (omega arith, (subst (λ f. IsListPlace (records f) c.loop-cursor.cursor) (sym same) c.loop-cursor.invariant.place, c.at_end.ensures.follows c.loop-cursor-test.true))
 
 pub loop-cursor-preserved : goal.loop-cursor-preserved
 loop-cursor-preserved g c =
@@ -40,7 +40,7 @@ loop-cursor-preserved g c =
     let first = first_of rest c.at_end.result c.loop-cursor-test.true (c.at_end.ensures.postings m c.loop-cursor.invariant.place).1 in
     record {
       same = c.next.ensures.same ∙ then_next;
-      place = subst (λ f. IsPlace (records f) next) then_next c.next.ensures.place;
+      place = subst (λ f. IsListPlace (records f) next) then_next c.next.ensures.place;
       done = one_more c.loop-cursor.documents.items _ rest (postings_from m next) (list_at m c.args.list) c.number.result (to_z w32 (of_z w32 c.weight-weight.result)) c.in_ok-push.ensures.items behind
           (c.number.ensures.number ∙ doc_is) (again ∙ weight_is) first c.loop-cursor.invariant.done;
     }

@@ -1,6 +1,6 @@
 use Rattle.std.proofs.Common.{◌≡◌, ◌++◌, length}
 use Rattle.posting_store.specs.Lists.{list_at}
-use Rattle.posting_store.specs.Walks.{postings_from, IsPlace}
+use Rattle.posting_store.specs.Walks.{postings_from, IsListPlace}
 use Rattle.value_lists.proofs.reading.documents_at.Given as goal
 
 abbrev pub invariant-loop-cursor : goal.invariant-loop-cursor
@@ -8,7 +8,7 @@ invariant-loop-cursor g l =
     let m = g.F.Frozen.records l.fn.frozen in
     record {
       same : l.frozen ≡ l.fn.frozen;
-      place : IsPlace m l.cursor;
+      place : IsListPlace m l.cursor;
       done : l.documents.items ++ postings_from m l.cursor ≡ list_at m l.fn.list;
     }
 

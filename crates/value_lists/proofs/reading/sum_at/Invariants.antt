@@ -1,5 +1,5 @@
 use Rattle.std.proofs.Common.{◌≡◌, length}
-use Rattle.posting_store.specs.Walks.{postings_from, IsPlace}
+use Rattle.posting_store.specs.Walks.{postings_from, IsListPlace}
 use Rattle.value_lists.proofs.reading.sum_at.Given as goal
 
 abbrev pub invariant-loop-cursor : goal.invariant-loop-cursor
@@ -7,7 +7,7 @@ invariant-loop-cursor g l =
     let m = g.F.Frozen.records l.fn.frozen in
     record {
       same : l.frozen ≡ l.fn.frozen;
-      place : IsPlace m l.cursor;
+      place : IsListPlace m l.cursor;
     }
 
 abbrev pub decreases-loop-cursor : goal.decreases-loop-cursor

@@ -1,6 +1,6 @@
 use Rattle.std.proofs.Common.{sym, subst}
 use Rattle.attr_types.proofs.TableLemmas.{sound-without}
-use Rattle.attr_types.specs.Lawful.{IsLawfulTable, HasType, OpFits}
+use Rattle.attr_types.specs.Lawful.{IsLawfulTable, DocumentsHaveType, OpFits}
 use Rattle.attr_types.specs.Table.{Table}
 use Rattle.attr_types.specs.declared.op.Op.{Op}
 use Rattle.attr_types.specs.declared.op.Op.TheVariants.{Put}
@@ -18,5 +18,5 @@ invariant_of-self-in-Put c =
 pub invariant_of-self-after-remove : goal.invariant_of-self-after-remove
 invariant_of-self-after-remove c =
     let inside = c.self-in-Remove.inside in
-    subst (λ (t : Table). IsLawfulTable inside.fields t × HasType inside.fields t) (sym c.remove.ensures.entries)
+    subst (λ (t : Table). IsLawfulTable inside.fields t × DocumentsHaveType inside.fields t) (sym c.remove.ensures.entries)
     (sound-without inside.fields inside.documents.entries c.in-Remove.doc c.self-in-Remove.invariant)

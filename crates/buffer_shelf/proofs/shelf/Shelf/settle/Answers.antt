@@ -4,7 +4,7 @@ use Rattle.std.proofs.lemmas.List.{get_or_read}
 use Rattle.std.proofs.lemmas.Bool.{and_parts, not-true}
 use Rattle.buffer_shelf.specs.declared.state.State.{State}
 use Rattle.buffer_shelf.specs.declared.state.State.TheVariants.{Free}
-use Rattle.buffer_shelf.specs.States.{ShelfView, is_free_state, is_touched, state_at, settled, with_state_at}
+use Rattle.buffer_shelf.specs.States.{ShelfView, is_free_state, is_touched, state_at, settled_state, with_state_at}
 use Rattle.buffer_shelf.specs.Stacks.{IsStack}
 use Rattle.buffer_shelf.proofs.StackSteps.{stack-room, stack-settle, stack-pop, stack-top}
 use Rattle.buffer_shelf.proofs.Settling.{settled-touched, settled-free}
@@ -30,8 +30,8 @@ invariant_of-self-2 c =
     let touched = subst (IsStack Free is_touched s.states.items) c.in_ok-place.ensures.items k.touched_is in
     let top = stack-top Free is_touched s.states.items c.pop.new.self.items place touched in
     let state = get_or_read s.states.items place _ top.0 c.index-was.ensures Free in
-    let after : c.settled-now.result ≡ settled c.args.accepts c.args.last c.args.generation (state_at s.states.items place) =
-    c.settled-now.ensures ∙ ap (settled c.args.accepts c.args.last c.args.generation) state in
+    let after : c.settled-now.result ≡ settled_state c.args.accepts c.args.last c.args.generation (state_at s.states.items place) =
+    c.settled-now.ensures ∙ ap (settled_state c.args.accepts c.args.last c.args.generation) state in
     let is : c.is_free.result ≡ is_free_state c.settled-now.result = c.is_free.ensures in
     let was : c.is_free-2.result ≡ is_free_state (state_at s.states.items place) = c.is_free-2.ensures ∙ ap is_free_state state in
     let free = stack-settle Free is_free_state s.states.items s.free.items k.free_is place c.settled-now.result top.0 c.is_free.result c.is_free-2.result is was

@@ -1,5 +1,5 @@
 use Rattle.std.proofs.Common.{ap, ◌∙◌}
-use Rattle.buffer_states.specs.Buffers.{is_active}
+use Rattle.buffer_states.specs.Buffers.{is_state_active}
 use Rattle.entry_ledger.specs.Entries.{count_marks}
 use Rattle.entry_ledger.specs.Ledgers.{LedgerView, entries_of}
 use Rattle.entry_ledger.proofs.Marks.{buffers-few, count-states}
@@ -16,5 +16,5 @@ unfolding entries_of
 returns g c =
     let s = c.self.inside in
     let v : LedgerView = record { shelves = s.shelves; buffers = s.buffers; last = s.last; generation = s.generation; oldest = s.oldest; finished = s.finished } in
-    c.active.ensures ∙ count-states g.row.OFFSET_BITS v s.held.held s.held.room s.unheld c.self.invariant is_active
-    ∙ ap (λ (u : LedgerView). count_marks is_active (entries_of g.row.OFFSET_BITS u).mark (entries_of g.row.OFFSET_BITS u).count) c.self.view_is
+    c.active.ensures ∙ count-states g.row.OFFSET_BITS v s.held.held s.held.room s.unheld c.self.invariant is_state_active
+    ∙ ap (λ (u : LedgerView). count_marks is_state_active (entries_of g.row.OFFSET_BITS u).mark (entries_of g.row.OFFSET_BITS u).count) c.self.view_is

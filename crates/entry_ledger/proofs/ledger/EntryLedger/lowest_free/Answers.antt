@@ -1,6 +1,6 @@
 use Rattle.std.proofs.Common.{◌≡◌, ◌<◌, ℕ, false, subst}
 use Rattle.std.specs.Option.{IfNone, IfSome}
-use Rattle.buffer_states.specs.Buffers.{is_free}
+use Rattle.buffer_states.specs.Buffers.{is_state_free}
 use Rattle.entry_ledger.specs.Calls.{IsLowestFree}
 use Rattle.entry_ledger.specs.Ledgers.{LedgerView, entries_of}
 use Rattle.entry_ledger.proofs.Marks.{if-none, if-some, buffers-few, lowest-none, lowest-is}
@@ -16,7 +16,7 @@ pub returns-clause-none : goal.returns-clause-none
 returns-clause-none g c =
     let s = c.self.inside in
     let v : LedgerView = record { shelves = s.shelves; buffers = s.buffers; last = s.last; generation = s.generation; oldest = s.oldest; finished = s.finished } in
-    subst (λ (u : LedgerView). IfNone c.lowest_free.result ((b : ℕ) → b < (entries_of g.row.OFFSET_BITS u).count → is_free ((entries_of g.row.OFFSET_BITS u).mark b).state ≡ false)) c.self.view_is
+    subst (λ (u : LedgerView). IfNone c.lowest_free.result ((b : ℕ) → b < (entries_of g.row.OFFSET_BITS u).count → is_state_free ((entries_of g.row.OFFSET_BITS u).mark b).state ≡ false)) c.self.view_is
     (if-none c.lowest_free.result (lowest-none g.row.OFFSET_BITS v s.held.held s.held.room s.unheld c.self.invariant) c.lowest_free.ensures.none)
 
 pub returns-clause-lowest : goal.returns-clause-lowest

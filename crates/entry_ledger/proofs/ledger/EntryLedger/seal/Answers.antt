@@ -1,5 +1,5 @@
 use Rattle.std.proofs.Common.{◌≡◌, true, Some, sym, ap, subst, ◌∙◌}
-use Rattle.buffer_states.specs.Buffers.{buffer_at, is_active}
+use Rattle.buffer_states.specs.Buffers.{buffer_at, is_state_active}
 use Rattle.entry_shelves.specs.Shelves.{filled_at}
 use Rattle.entry_ledger.specs.Entries.{IsGood}
 use Rattle.entry_ledger.specs.Calls.{Seals}
@@ -17,7 +17,7 @@ seal-requires-clause-inside g c =
     let bits = g.row.OFFSET_BITS in
     let b = c.args.buffer in
     let v : LedgerView = record { shelves = s.shelves; buffers = s.buffers; last = s.last; generation = s.generation; oldest = s.oldest; finished = s.finished } in
-    let active : is_active (buffer_at s.buffers b).state ≡ true = subst (λ (u : LedgerView). is_active (buffer_at u.buffers b).state ≡ true) (sym c.self.view_is) c.requires.active in
+    let active : is_state_active (buffer_at s.buffers b).state ≡ true = subst (λ (u : LedgerView). is_state_active (buffer_at u.buffers b).state ≡ true) (sym c.self.view_is) c.requires.active in
     (active-shelf bits v s.held.held s.held.room s.unheld k b active).0
 
 pub seal-requires-clause-open : goal.seal-requires-clause-open
@@ -28,7 +28,7 @@ seal-requires-clause-open g c =
     let bits = g.row.OFFSET_BITS in
     let b = c.args.buffer in
     let v : LedgerView = record { shelves = s.shelves; buffers = s.buffers; last = s.last; generation = s.generation; oldest = s.oldest; finished = s.finished } in
-    let active : is_active (buffer_at s.buffers b).state ≡ true = subst (λ (u : LedgerView). is_active (buffer_at u.buffers b).state ≡ true) (sym c.self.view_is) c.requires.active in
+    let active : is_state_active (buffer_at s.buffers b).state ≡ true = subst (λ (u : LedgerView). is_state_active (buffer_at u.buffers b).state ≡ true) (sym c.self.view_is) c.requires.active in
     (active-shelf bits v s.held.held s.held.room s.unheld k b active).3
 
 pub seal-requires-clause-unfilled : goal.seal-requires-clause-unfilled
@@ -39,7 +39,7 @@ seal-requires-clause-unfilled g c =
     let bits = g.row.OFFSET_BITS in
     let b = c.args.buffer in
     let v : LedgerView = record { shelves = s.shelves; buffers = s.buffers; last = s.last; generation = s.generation; oldest = s.oldest; finished = s.finished } in
-    let active : is_active (buffer_at s.buffers b).state ≡ true = subst (λ (u : LedgerView). is_active (buffer_at u.buffers b).state ≡ true) (sym c.self.view_is) c.requires.active in
+    let active : is_state_active (buffer_at s.buffers b).state ≡ true = subst (λ (u : LedgerView). is_state_active (buffer_at u.buffers b).state ≡ true) (sym c.self.view_is) c.requires.active in
     let out : filled_at s.shelves.filled (buffer_at s.buffers b).width ≡ Some b → ⊥ =
     subst (λ (u : LedgerView). filled_at u.shelves.filled (buffer_at u.buffers b).width ≡ Some b → ⊥) (sym c.self.view_is) c.requires.unfilled in
     λ is. out (ap (filled_at s.shelves.filled) (sym (active-shelf bits v s.held.held s.held.room s.unheld k b active).1) ∙ is)
@@ -52,7 +52,7 @@ seal-requires-2-clause-inside g c =
     let bits = g.row.OFFSET_BITS in
     let b = c.args.buffer in
     let v : LedgerView = record { shelves = s.shelves; buffers = s.buffers; last = s.last; generation = s.generation; oldest = s.oldest; finished = s.finished } in
-    let active : is_active (buffer_at s.buffers b).state ≡ true = subst (λ (u : LedgerView). is_active (buffer_at u.buffers b).state ≡ true) (sym c.self.view_is) c.requires.active in
+    let active : is_state_active (buffer_at s.buffers b).state ≡ true = subst (λ (u : LedgerView). is_state_active (buffer_at u.buffers b).state ≡ true) (sym c.self.view_is) c.requires.active in
     active-inside s.buffers b active
 
 pub seal-requires-2-clause-active : goal.seal-requires-2-clause-active
@@ -63,7 +63,7 @@ seal-requires-2-clause-active g c =
     let bits = g.row.OFFSET_BITS in
     let b = c.args.buffer in
     let v : LedgerView = record { shelves = s.shelves; buffers = s.buffers; last = s.last; generation = s.generation; oldest = s.oldest; finished = s.finished } in
-    let active : is_active (buffer_at s.buffers b).state ≡ true = subst (λ (u : LedgerView). is_active (buffer_at u.buffers b).state ≡ true) (sym c.self.view_is) c.requires.active in
+    let active : is_state_active (buffer_at s.buffers b).state ≡ true = subst (λ (u : LedgerView). is_state_active (buffer_at u.buffers b).state ≡ true) (sym c.self.view_is) c.requires.active in
     active-is (buffer_at s.buffers b).state active
 
 pub seal-requires-2-clause-unfilled : goal.seal-requires-2-clause-unfilled
@@ -86,7 +86,7 @@ invariant_of-self g c =
     let bits = g.row.OFFSET_BITS in
     let b = c.args.buffer in
     let v : LedgerView = record { shelves = s.shelves; buffers = s.buffers; last = s.last; generation = s.generation; oldest = s.oldest; finished = s.finished } in
-    let active : is_active (buffer_at s.buffers b).state ≡ true = subst (λ (u : LedgerView). is_active (buffer_at u.buffers b).state ≡ true) (sym c.self.view_is) c.requires.active in
+    let active : is_state_active (buffer_at s.buffers b).state ≡ true = subst (λ (u : LedgerView). is_state_active (buffer_at u.buffers b).state ≡ true) (sym c.self.view_is) c.requires.active in
     let out : filled_at s.shelves.filled (buffer_at s.buffers b).width ≡ Some b → ⊥ =
     subst (λ (u : LedgerView). filled_at u.shelves.filled (buffer_at u.buffers b).width ≡ Some b → ⊥) (sym c.self.view_is) c.requires.unfilled in
     let is : record v { shelves = c.seal.new.self; buffers = c.seal-2.new.self } ≡ sealed_view bits v s.held.held s.held.room s.unheld k b active out =
@@ -101,7 +101,7 @@ returns-clause-seals g c =
     let bits = g.row.OFFSET_BITS in
     let b = c.args.buffer in
     let v : LedgerView = record { shelves = s.shelves; buffers = s.buffers; last = s.last; generation = s.generation; oldest = s.oldest; finished = s.finished } in
-    let active : is_active (buffer_at s.buffers b).state ≡ true = subst (λ (u : LedgerView). is_active (buffer_at u.buffers b).state ≡ true) (sym c.self.view_is) c.requires.active in
+    let active : is_state_active (buffer_at s.buffers b).state ≡ true = subst (λ (u : LedgerView). is_state_active (buffer_at u.buffers b).state ≡ true) (sym c.self.view_is) c.requires.active in
     let out : filled_at s.shelves.filled (buffer_at s.buffers b).width ≡ Some b → ⊥ =
     subst (λ (u : LedgerView). filled_at u.shelves.filled (buffer_at u.buffers b).width ≡ Some b → ⊥) (sym c.self.view_is) c.requires.unfilled in
     let is : record v { shelves = c.seal.new.self; buffers = c.seal-2.new.self } ≡ sealed_view bits v s.held.held s.held.room s.unheld k b active out =
@@ -117,7 +117,7 @@ returns-clause-good g c =
     let bits = g.row.OFFSET_BITS in
     let b = c.args.buffer in
     let v : LedgerView = record { shelves = s.shelves; buffers = s.buffers; last = s.last; generation = s.generation; oldest = s.oldest; finished = s.finished } in
-    let active : is_active (buffer_at s.buffers b).state ≡ true = subst (λ (u : LedgerView). is_active (buffer_at u.buffers b).state ≡ true) (sym c.self.view_is) c.requires.active in
+    let active : is_state_active (buffer_at s.buffers b).state ≡ true = subst (λ (u : LedgerView). is_state_active (buffer_at u.buffers b).state ≡ true) (sym c.self.view_is) c.requires.active in
     let out : filled_at s.shelves.filled (buffer_at s.buffers b).width ≡ Some b → ⊥ =
     subst (λ (u : LedgerView). filled_at u.shelves.filled (buffer_at u.buffers b).width ≡ Some b → ⊥) (sym c.self.view_is) c.requires.unfilled in
     let is : record v { shelves = c.seal.new.self; buffers = c.seal-2.new.self } ≡ sealed_view bits v s.held.held s.held.room s.unheld k b active out =

@@ -1,7 +1,7 @@
 use Rattle.std.proofs.Common.{◌≡◌, ◌<◌, ◌-◌, Bool, true, not, ◌&&◌, take, length, set, refl, sym, ap, subst, ◌∙◌, arith}
 use Rattle.std.proofs.lemmas.List.{get_or_read}
 use Rattle.std.proofs.lemmas.Bool.{not-true, and_parts}
-use Rattle.buffer_shelf.specs.States.{ShelfView, empty_shelf, has_one_spare, has_touched, is_free_state, state_at, settled, with_state_at}
+use Rattle.buffer_shelf.specs.States.{ShelfView, empty_shelf, has_one_spare, has_touched, is_free_state, state_at, settled_state, with_state_at}
 use Rattle.buffer_shelf.specs.Stacks.{IsStack}
 use Rattle.buffer_shelf.proofs.Settling.{settled-free}
 use Rattle.entry_shelves.specs.Shelves.{shelf_at}
@@ -23,8 +23,8 @@ enter_row-requires-clause-room c e =
     let shelf : c.index_mut-shelf.result.now ≡ shelf_at xs b = get_or_read xs b _ h c.index_mut-shelf.ensures.value empty_shelf in
     let there : x < length (shelf_at xs b).states = subst (λ (t : ShelfView). x < length t.states) shelf c.in-Some.ensures.settled.below in
     let was : c.in-Some.step.was ≡ state_at (shelf_at xs b).states x = c.in-Some.ensures.settled.was ∙ ap (λ (t : ShelfView). state_at t.states x) shelf in
-    let now : c.in-Some.step.now ≡ settled c.args.accepts c.args.last c.args.generation (state_at (shelf_at xs b).states x) =
-    c.in-Some.ensures.settled.now ∙ ap (settled c.args.accepts c.args.last c.args.generation) was in
+    let now : c.in-Some.step.now ≡ settled_state c.args.accepts c.args.last c.args.generation (state_at (shelf_at xs b).states x) =
+    c.in-Some.ensures.settled.now ∙ ap (settled_state c.args.accepts c.args.last c.args.generation) was in
     let keeps : is_free_state (state_at (shelf_at xs b).states x) ≡ true → is_free_state c.in-Some.step.now ≡ true =
     (λ e. ap is_free_state now ∙ settled-free c.args.accepts c.args.last c.args.generation _ e) in
     let new : c.settle.new.self ≡ with_state_at (shelf_at xs b) x c.in-Some.step.now = c.in-Some.ensures.settled.same ∙ ap (λ (t : ShelfView). with_state_at t x c.in-Some.step.now) shelf in
@@ -51,8 +51,8 @@ invariant_of-self c =
     let shelf : c.index_mut-shelf.result.now ≡ shelf_at xs b = get_or_read xs b _ h c.index_mut-shelf.ensures.value empty_shelf in
     let there : x < length (shelf_at xs b).states = subst (λ (t : ShelfView). x < length t.states) shelf c.in-Some.ensures.settled.below in
     let was : c.in-Some.step.was ≡ state_at (shelf_at xs b).states x = c.in-Some.ensures.settled.was ∙ ap (λ (t : ShelfView). state_at t.states x) shelf in
-    let now : c.in-Some.step.now ≡ settled c.args.accepts c.args.last c.args.generation (state_at (shelf_at xs b).states x) =
-    c.in-Some.ensures.settled.now ∙ ap (settled c.args.accepts c.args.last c.args.generation) was in
+    let now : c.in-Some.step.now ≡ settled_state c.args.accepts c.args.last c.args.generation (state_at (shelf_at xs b).states x) =
+    c.in-Some.ensures.settled.now ∙ ap (settled_state c.args.accepts c.args.last c.args.generation) was in
     let keeps : is_free_state (state_at (shelf_at xs b).states x) ≡ true → is_free_state c.in-Some.step.now ≡ true =
     (λ e. ap is_free_state now ∙ settled-free c.args.accepts c.args.last c.args.generation _ e) in
     let new : c.settle.new.self ≡ with_state_at (shelf_at xs b) x c.in-Some.step.now = c.in-Some.ensures.settled.same ∙ ap (λ (t : ShelfView). with_state_at t x c.in-Some.step.now) shelf in

@@ -2,7 +2,7 @@ use Rattle.std.proofs.Common.{◌≡◌, arith, rules, refl, sym, ap, subst, ◌
 use Rattle.store_api.proofs.May.{may_do-then}
 use Rattle.store_api.specs.Calls.{GivesBack}
 use Rattle.entry_ledger.specs.Ledgers.{entries_of}
-use Rattle.entry_store.specs.Standing.{ledger_of, records_of, statuses}
+use Rattle.entry_store.specs.Standing.{ledger_of, records_by_status, statuses}
 use Rattle.entry_store.specs.ProofsForStore.{store_spares}
 use Rattle.entry_store.specs.Steps.{TellsOldest}
 use Rattle.entry_store.proofs.Compose.{back-may, one-makes, one-may, again-makes, again-refuses, again-refused, again-left, takes-over}
@@ -23,11 +23,11 @@ returns-in-None-clause-makes g c =
     let s = c.args.self.now in
     let t = c.make_spare.new.self in
     let v = c.make_opened.new.self in
-    again-makes g.row.OFFSET_BITS (ledger_of g.row.OFFSET_BITS (g.W.Work.knows s.work) (g.W.Frozen.shape s.work) (g.W.Frozen.records s.work) (entries_of g.row.OFFSET_BITS s.entries) s.unit) (ledger_of g.row.OFFSET_BITS (g.W.Work.knows t.work) (g.W.Frozen.shape t.work) (g.W.Frozen.records t.work) (entries_of g.row.OFFSET_BITS t.entries) t.unit) (ledger_of g.row.OFFSET_BITS (g.W.Work.knows v.work) (g.W.Frozen.shape v.work) (g.W.Frozen.records v.work) (entries_of g.row.OFFSET_BITS v.entries) v.unit) (records_of (statuses (g.W.Work.knows s.work).commits (entries_of g.row.OFFSET_BITS s.entries)) (g.W.Frozen.records s.work)) (records_of (statuses (g.W.Work.knows t.work).commits (entries_of g.row.OFFSET_BITS t.entries)) (g.W.Frozen.records t.work)) (records_of (statuses (g.W.Work.knows v.work).commits (entries_of g.row.OFFSET_BITS v.entries)) (g.W.Frozen.records v.work)) c.args.width c.args.words.now
+    again-makes g.row.OFFSET_BITS (ledger_of g.row.OFFSET_BITS (g.W.Work.knows s.work) (g.W.Frozen.shape s.work) (g.W.Frozen.records s.work) (entries_of g.row.OFFSET_BITS s.entries) s.unit) (ledger_of g.row.OFFSET_BITS (g.W.Work.knows t.work) (g.W.Frozen.shape t.work) (g.W.Frozen.records t.work) (entries_of g.row.OFFSET_BITS t.entries) t.unit) (ledger_of g.row.OFFSET_BITS (g.W.Work.knows v.work) (g.W.Frozen.shape v.work) (g.W.Frozen.records v.work) (entries_of g.row.OFFSET_BITS v.entries) v.unit) (records_by_status (statuses (g.W.Work.knows s.work).commits (entries_of g.row.OFFSET_BITS s.entries)) (g.W.Frozen.records s.work)) (records_by_status (statuses (g.W.Work.knows t.work).commits (entries_of g.row.OFFSET_BITS t.entries)) (g.W.Frozen.records t.work)) (records_by_status (statuses (g.W.Work.knows v.work).commits (entries_of g.row.OFFSET_BITS v.entries)) (g.W.Frozen.records v.work)) c.args.width c.args.words.now
     (subst (λ x. GivesBack (ledger_of g.row.OFFSET_BITS (g.W.Work.knows s.work) (g.W.Frozen.shape s.work) (g.W.Frozen.records s.work) (entries_of g.row.OFFSET_BITS s.entries) s.unit) (ledger_of g.row.OFFSET_BITS (g.W.Work.knows x.work) (g.W.Frozen.shape x.work) (g.W.Frozen.records x.work) (entries_of g.row.OFFSET_BITS x.entries) x.unit)) (sym c.in-None.ensures.left) c.reclaim-oldest.ensures.gives)
     (subst (λ x. ((ledger_of g.row.OFFSET_BITS (g.W.Work.knows x.work) (g.W.Frozen.shape x.work) (g.W.Frozen.records x.work) (entries_of g.row.OFFSET_BITS x.entries) x.unit).of_width c.args.width).spare ≡ 0) (sym c.in-None.ensures.left) c.in-None.ensures.none)
     (store_spares g.row.OFFSET_BITS _ _ _ t.unit t.stands (g.W.Frozen.shape t.work) c.args.width)
-    (ap (λ x. (records_of (statuses (g.W.Work.knows x.work).commits (entries_of g.row.OFFSET_BITS x.entries)) (g.W.Frozen.records x.work))) c.in-None.ensures.left ∙ c.reclaim-oldest.ensures.records)
+    (ap (λ x. (records_by_status (statuses (g.W.Work.knows x.work).commits (entries_of g.row.OFFSET_BITS x.entries)) (g.W.Frozen.records x.work))) c.in-None.ensures.left ∙ c.reclaim-oldest.ensures.records)
     c.make_opened.result c.make_opened.ensures.makes
 
 pub returns-in-None-clause-refused : goal.returns-in-None-clause-refused
@@ -35,11 +35,11 @@ returns-in-None-clause-refused g c =
     let s = c.args.self.now in
     let t = c.make_spare.new.self in
     let v = c.make_opened.new.self in
-    again-refused g.row.OFFSET_BITS (ledger_of g.row.OFFSET_BITS (g.W.Work.knows s.work) (g.W.Frozen.shape s.work) (g.W.Frozen.records s.work) (entries_of g.row.OFFSET_BITS s.entries) s.unit) (ledger_of g.row.OFFSET_BITS (g.W.Work.knows t.work) (g.W.Frozen.shape t.work) (g.W.Frozen.records t.work) (entries_of g.row.OFFSET_BITS t.entries) t.unit) (ledger_of g.row.OFFSET_BITS (g.W.Work.knows v.work) (g.W.Frozen.shape v.work) (g.W.Frozen.records v.work) (entries_of g.row.OFFSET_BITS v.entries) v.unit) (records_of (statuses (g.W.Work.knows s.work).commits (entries_of g.row.OFFSET_BITS s.entries)) (g.W.Frozen.records s.work)) (records_of (statuses (g.W.Work.knows t.work).commits (entries_of g.row.OFFSET_BITS t.entries)) (g.W.Frozen.records t.work)) (records_of (statuses (g.W.Work.knows v.work).commits (entries_of g.row.OFFSET_BITS v.entries)) (g.W.Frozen.records v.work)) c.args.width c.args.words.now
+    again-refused g.row.OFFSET_BITS (ledger_of g.row.OFFSET_BITS (g.W.Work.knows s.work) (g.W.Frozen.shape s.work) (g.W.Frozen.records s.work) (entries_of g.row.OFFSET_BITS s.entries) s.unit) (ledger_of g.row.OFFSET_BITS (g.W.Work.knows t.work) (g.W.Frozen.shape t.work) (g.W.Frozen.records t.work) (entries_of g.row.OFFSET_BITS t.entries) t.unit) (ledger_of g.row.OFFSET_BITS (g.W.Work.knows v.work) (g.W.Frozen.shape v.work) (g.W.Frozen.records v.work) (entries_of g.row.OFFSET_BITS v.entries) v.unit) (records_by_status (statuses (g.W.Work.knows s.work).commits (entries_of g.row.OFFSET_BITS s.entries)) (g.W.Frozen.records s.work)) (records_by_status (statuses (g.W.Work.knows t.work).commits (entries_of g.row.OFFSET_BITS t.entries)) (g.W.Frozen.records t.work)) (records_by_status (statuses (g.W.Work.knows v.work).commits (entries_of g.row.OFFSET_BITS v.entries)) (g.W.Frozen.records v.work)) c.args.width c.args.words.now
     (subst (λ x. GivesBack (ledger_of g.row.OFFSET_BITS (g.W.Work.knows s.work) (g.W.Frozen.shape s.work) (g.W.Frozen.records s.work) (entries_of g.row.OFFSET_BITS s.entries) s.unit) (ledger_of g.row.OFFSET_BITS (g.W.Work.knows x.work) (g.W.Frozen.shape x.work) (g.W.Frozen.records x.work) (entries_of g.row.OFFSET_BITS x.entries) x.unit)) (sym c.in-None.ensures.left) c.reclaim-oldest.ensures.gives)
     (subst (λ x. ((ledger_of g.row.OFFSET_BITS (g.W.Work.knows x.work) (g.W.Frozen.shape x.work) (g.W.Frozen.records x.work) (entries_of g.row.OFFSET_BITS x.entries) x.unit).of_width c.args.width).spare ≡ 0) (sym c.in-None.ensures.left) c.in-None.ensures.none)
     (store_spares g.row.OFFSET_BITS _ _ _ t.unit t.stands (g.W.Frozen.shape t.work) c.args.width)
-    (ap (λ x. (records_of (statuses (g.W.Work.knows x.work).commits (entries_of g.row.OFFSET_BITS x.entries)) (g.W.Frozen.records x.work))) c.in-None.ensures.left ∙ c.reclaim-oldest.ensures.records)
+    (ap (λ x. (records_by_status (statuses (g.W.Work.knows x.work).commits (entries_of g.row.OFFSET_BITS x.entries)) (g.W.Frozen.records x.work))) c.in-None.ensures.left ∙ c.reclaim-oldest.ensures.records)
     c.make_opened.result c.make_opened.ensures.refused
 
 pub returns-in-None-clause-left : goal.returns-in-None-clause-left
@@ -47,11 +47,11 @@ returns-in-None-clause-left g c =
     let s = c.args.self.now in
     let t = c.make_spare.new.self in
     let v = c.make_opened.new.self in
-    again-left g.row.OFFSET_BITS (ledger_of g.row.OFFSET_BITS (g.W.Work.knows s.work) (g.W.Frozen.shape s.work) (g.W.Frozen.records s.work) (entries_of g.row.OFFSET_BITS s.entries) s.unit) (ledger_of g.row.OFFSET_BITS (g.W.Work.knows t.work) (g.W.Frozen.shape t.work) (g.W.Frozen.records t.work) (entries_of g.row.OFFSET_BITS t.entries) t.unit) (ledger_of g.row.OFFSET_BITS (g.W.Work.knows v.work) (g.W.Frozen.shape v.work) (g.W.Frozen.records v.work) (entries_of g.row.OFFSET_BITS v.entries) v.unit) (records_of (statuses (g.W.Work.knows s.work).commits (entries_of g.row.OFFSET_BITS s.entries)) (g.W.Frozen.records s.work)) (records_of (statuses (g.W.Work.knows t.work).commits (entries_of g.row.OFFSET_BITS t.entries)) (g.W.Frozen.records t.work)) (records_of (statuses (g.W.Work.knows v.work).commits (entries_of g.row.OFFSET_BITS v.entries)) (g.W.Frozen.records v.work)) c.args.width c.args.words.now
+    again-left g.row.OFFSET_BITS (ledger_of g.row.OFFSET_BITS (g.W.Work.knows s.work) (g.W.Frozen.shape s.work) (g.W.Frozen.records s.work) (entries_of g.row.OFFSET_BITS s.entries) s.unit) (ledger_of g.row.OFFSET_BITS (g.W.Work.knows t.work) (g.W.Frozen.shape t.work) (g.W.Frozen.records t.work) (entries_of g.row.OFFSET_BITS t.entries) t.unit) (ledger_of g.row.OFFSET_BITS (g.W.Work.knows v.work) (g.W.Frozen.shape v.work) (g.W.Frozen.records v.work) (entries_of g.row.OFFSET_BITS v.entries) v.unit) (records_by_status (statuses (g.W.Work.knows s.work).commits (entries_of g.row.OFFSET_BITS s.entries)) (g.W.Frozen.records s.work)) (records_by_status (statuses (g.W.Work.knows t.work).commits (entries_of g.row.OFFSET_BITS t.entries)) (g.W.Frozen.records t.work)) (records_by_status (statuses (g.W.Work.knows v.work).commits (entries_of g.row.OFFSET_BITS v.entries)) (g.W.Frozen.records v.work)) c.args.width c.args.words.now
     (subst (λ x. GivesBack (ledger_of g.row.OFFSET_BITS (g.W.Work.knows s.work) (g.W.Frozen.shape s.work) (g.W.Frozen.records s.work) (entries_of g.row.OFFSET_BITS s.entries) s.unit) (ledger_of g.row.OFFSET_BITS (g.W.Work.knows x.work) (g.W.Frozen.shape x.work) (g.W.Frozen.records x.work) (entries_of g.row.OFFSET_BITS x.entries) x.unit)) (sym c.in-None.ensures.left) c.reclaim-oldest.ensures.gives)
     (subst (λ x. ((ledger_of g.row.OFFSET_BITS (g.W.Work.knows x.work) (g.W.Frozen.shape x.work) (g.W.Frozen.records x.work) (entries_of g.row.OFFSET_BITS x.entries) x.unit).of_width c.args.width).spare ≡ 0) (sym c.in-None.ensures.left) c.in-None.ensures.none)
     (store_spares g.row.OFFSET_BITS _ _ _ t.unit t.stands (g.W.Frozen.shape t.work) c.args.width)
-    (ap (λ x. (records_of (statuses (g.W.Work.knows x.work).commits (entries_of g.row.OFFSET_BITS x.entries)) (g.W.Frozen.records x.work))) c.in-None.ensures.left ∙ c.reclaim-oldest.ensures.records)
+    (ap (λ x. (records_by_status (statuses (g.W.Work.knows x.work).commits (entries_of g.row.OFFSET_BITS x.entries)) (g.W.Frozen.records x.work))) c.in-None.ensures.left ∙ c.reclaim-oldest.ensures.records)
     c.make_opened.result c.make_opened.ensures.left
 
 pub returns-in-None-clause-refuses : goal.returns-in-None-clause-refuses
@@ -59,11 +59,11 @@ returns-in-None-clause-refuses g c =
     let s = c.args.self.now in
     let t = c.make_spare.new.self in
     let v = c.make_opened.new.self in
-    again-refuses g.row.OFFSET_BITS (ledger_of g.row.OFFSET_BITS (g.W.Work.knows s.work) (g.W.Frozen.shape s.work) (g.W.Frozen.records s.work) (entries_of g.row.OFFSET_BITS s.entries) s.unit) (ledger_of g.row.OFFSET_BITS (g.W.Work.knows t.work) (g.W.Frozen.shape t.work) (g.W.Frozen.records t.work) (entries_of g.row.OFFSET_BITS t.entries) t.unit) (ledger_of g.row.OFFSET_BITS (g.W.Work.knows v.work) (g.W.Frozen.shape v.work) (g.W.Frozen.records v.work) (entries_of g.row.OFFSET_BITS v.entries) v.unit) (records_of (statuses (g.W.Work.knows s.work).commits (entries_of g.row.OFFSET_BITS s.entries)) (g.W.Frozen.records s.work)) (records_of (statuses (g.W.Work.knows t.work).commits (entries_of g.row.OFFSET_BITS t.entries)) (g.W.Frozen.records t.work)) (records_of (statuses (g.W.Work.knows v.work).commits (entries_of g.row.OFFSET_BITS v.entries)) (g.W.Frozen.records v.work)) c.args.width c.args.words.now
+    again-refuses g.row.OFFSET_BITS (ledger_of g.row.OFFSET_BITS (g.W.Work.knows s.work) (g.W.Frozen.shape s.work) (g.W.Frozen.records s.work) (entries_of g.row.OFFSET_BITS s.entries) s.unit) (ledger_of g.row.OFFSET_BITS (g.W.Work.knows t.work) (g.W.Frozen.shape t.work) (g.W.Frozen.records t.work) (entries_of g.row.OFFSET_BITS t.entries) t.unit) (ledger_of g.row.OFFSET_BITS (g.W.Work.knows v.work) (g.W.Frozen.shape v.work) (g.W.Frozen.records v.work) (entries_of g.row.OFFSET_BITS v.entries) v.unit) (records_by_status (statuses (g.W.Work.knows s.work).commits (entries_of g.row.OFFSET_BITS s.entries)) (g.W.Frozen.records s.work)) (records_by_status (statuses (g.W.Work.knows t.work).commits (entries_of g.row.OFFSET_BITS t.entries)) (g.W.Frozen.records t.work)) (records_by_status (statuses (g.W.Work.knows v.work).commits (entries_of g.row.OFFSET_BITS v.entries)) (g.W.Frozen.records v.work)) c.args.width c.args.words.now
     (subst (λ x. GivesBack (ledger_of g.row.OFFSET_BITS (g.W.Work.knows s.work) (g.W.Frozen.shape s.work) (g.W.Frozen.records s.work) (entries_of g.row.OFFSET_BITS s.entries) s.unit) (ledger_of g.row.OFFSET_BITS (g.W.Work.knows x.work) (g.W.Frozen.shape x.work) (g.W.Frozen.records x.work) (entries_of g.row.OFFSET_BITS x.entries) x.unit)) (sym c.in-None.ensures.left) c.reclaim-oldest.ensures.gives)
     (subst (λ x. ((ledger_of g.row.OFFSET_BITS (g.W.Work.knows x.work) (g.W.Frozen.shape x.work) (g.W.Frozen.records x.work) (entries_of g.row.OFFSET_BITS x.entries) x.unit).of_width c.args.width).spare ≡ 0) (sym c.in-None.ensures.left) c.in-None.ensures.none)
     (store_spares g.row.OFFSET_BITS _ _ _ t.unit t.stands (g.W.Frozen.shape t.work) c.args.width)
-    (ap (λ x. (records_of (statuses (g.W.Work.knows x.work).commits (entries_of g.row.OFFSET_BITS x.entries)) (g.W.Frozen.records x.work))) c.in-None.ensures.left ∙ c.reclaim-oldest.ensures.records)
+    (ap (λ x. (records_by_status (statuses (g.W.Work.knows x.work).commits (entries_of g.row.OFFSET_BITS x.entries)) (g.W.Frozen.records x.work))) c.in-None.ensures.left ∙ c.reclaim-oldest.ensures.records)
     c.reclaim-oldest.result (subst (λ x. TellsOldest (g.W.Work.knows s.work) (g.W.Work.knows x.work) c.reclaim-oldest.result) (sym c.in-None.ensures.left) c.reclaim-oldest.ensures.tells) t.stands.unread c.make_opened.result c.make_opened.ensures.refused c.make_opened.ensures.full
 
 pub returns-in-None-clause-may : goal.returns-in-None-clause-may

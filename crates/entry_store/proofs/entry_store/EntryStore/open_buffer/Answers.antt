@@ -1,9 +1,9 @@
 use Rattle.std.proofs.Common.{ap, ◌∙◌, refl}
 use Rattle.entry_ledger.specs.Entries.{EntriesView}
 use Rattle.entry_ledger.specs.Ledgers.{entries_of}
-use Rattle.buffer_states.specs.Buffers.{is_active, is_on_hold}
+use Rattle.buffer_states.specs.Buffers.{is_state_active, is_on_hold}
 use Rattle.entry_ledger.specs.Entries.{count_marks}
-use Rattle.entry_store.specs.Standing.{ledger_of, records_of, statuses}
+use Rattle.entry_store.specs.Standing.{ledger_of, records_by_status, statuses}
 use Rattle.entry_store.specs.ProofsForMarks.{count-active, count-held}
 use Rattle.entry_store.proofs.Along.{lowest-is, handed-is, none-free, opens-handed, records-handed, stands-handed}
 use Rattle.entry_store.proofs.entry_store.EntryStore.open_buffer.Goals as goal
@@ -13,7 +13,7 @@ returns-in_default-clause-full g c =
     let s = c.args.self.now in (
       refl,
       none-free g.row.OFFSET_BITS _ _ _ s.unit s.stands c.in_default.ensures.none,
-      c.active.ensures ∙ ap (count_marks is_active (entries_of g.row.OFFSET_BITS s.entries).mark) s.stands.count ∙ count-active (entries_of g.row.OFFSET_BITS s.entries).mark (g.W.Work.knows s.work).buffer (g.W.Work.knows s.work).sizes.buffers s.stands.marks,
+      c.active.ensures ∙ ap (count_marks is_state_active (entries_of g.row.OFFSET_BITS s.entries).mark) s.stands.count ∙ count-active (entries_of g.row.OFFSET_BITS s.entries).mark (g.W.Work.knows s.work).buffer (g.W.Work.knows s.work).sizes.buffers s.stands.marks,
       c.on_hold.ensures ∙ ap (count_marks is_on_hold (entries_of g.row.OFFSET_BITS s.entries).mark) s.stands.count ∙ count-held (entries_of g.row.OFFSET_BITS s.entries).mark (g.W.Work.knows s.work).buffer (g.W.Work.knows s.work).sizes.buffers s.stands.marks,
       refl,
     )
@@ -47,4 +47,4 @@ returns-in-Err-clause-left g c =
 pub returns-in-Err-clause-records : goal.returns-in-Err-clause-records
 returns-in-Err-clause-records g c =
     let s = c.args.self.now in
-    ap (λ (e : EntriesView). records_of (statuses (g.W.Work.knows s.work).commits e) (g.W.Frozen.records s.work)) c.in-Err.ensures.err
+    ap (λ (e : EntriesView). records_by_status (statuses (g.W.Work.knows s.work).commits e) (g.W.Frozen.records s.work)) c.in-Err.ensures.err

@@ -2,7 +2,7 @@ use Rattle.std.proofs.Common.{sym, ap, subst, ◌∙◌, arith}
 use Rattle.image_base.specs.Records.{Records}
 use Rattle.store_api.specs.Calls.{GivesBack}
 use Rattle.entry_ledger.specs.Ledgers.{entries_of}
-use Rattle.entry_store.specs.Standing.{Stands, ledger_of, records_of, statuses}
+use Rattle.entry_store.specs.Standing.{Stands, ledger_of, records_by_status, statuses}
 use Rattle.entry_store.proofs.Stands.{stands-reclaimed, unread-reclaimed, over-from}
 use Rattle.entry_store.proofs.LedgerSteps.{gives-back, records-freed, tells-oldest}
 use Rattle.entry_store.proofs.Along.{along, reclaim-rises, reclaim-low, reclaimed-low}
@@ -50,6 +50,6 @@ pub returns-clause-records : goal.returns-clause-records
 returns-clause-records g c =
     let s = c.args.self.now in
     let p = c.reclaim-oldest.ensures in
-    ap (λ (x : Records). records_of (statuses (g.W.Work.knows c.reclaim-oldest.new.self).commits (entries_of g.row.OFFSET_BITS c.free_below.new.self)) x) p.records
+    ap (λ (x : Records). records_by_status (statuses (g.W.Work.knows c.reclaim-oldest.new.self).commits (entries_of g.row.OFFSET_BITS c.free_below.new.self)) x) p.records
     ∙ records-freed g.row.OFFSET_BITS _ (g.W.Frozen.shape s.work) _ _ s.unit (over-from _ _ _ _ _ s.stands) (g.W.Work.knows c.reclaim-oldest.new.self) (entries_of g.row.OFFSET_BITS c.free_below.new.self) c.reclaim-oldest.result p.holds p.commits p.knows p.alone c.free_below.ensures.frees
     (g.met.W.Work.order c.reclaim-oldest.new.self) (reclaimed-low g.row.OFFSET_BITS _ _ _ s.unit (over-from _ _ _ _ _ s.stands) _ c.reclaim-oldest.result (g.met.W.Work.queue s.work) p.holds)

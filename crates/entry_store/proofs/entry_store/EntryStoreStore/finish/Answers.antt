@@ -1,6 +1,6 @@
 use Rattle.std.proofs.Common.{ap}
 use Rattle.entry_ledger.specs.Entries.{EntriesView}
-use Rattle.entry_store.specs.Standing.{ledger_of, records_of, statuses}
+use Rattle.entry_store.specs.Standing.{ledger_of, records_by_status, statuses}
 use Rattle.entry_store.proofs.Sealing.{stands-finished}
 use Rattle.entry_store.proofs.entry_store.EntryStoreStore.finish.Goals as goal
 
@@ -17,4 +17,4 @@ returns-clause-ledger g c =
 pub returns-clause-records : goal.returns-clause-records
 returns-clause-records g c =
     let s = c.args.self.now in
-    ap (λ (e : EntriesView). records_of (statuses (g.W.Work.knows s.work).commits e) (g.W.Frozen.records s.work)) c.finish.ensures.finished
+    ap (λ (e : EntriesView). records_by_status (statuses (g.W.Work.knows s.work).commits e) (g.W.Frozen.records s.work)) c.finish.ensures.finished

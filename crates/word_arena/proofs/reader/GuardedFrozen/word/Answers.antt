@@ -3,7 +3,7 @@ use Rattle.atomic_table.specs.declared.shared.Seat.{Seat}
 use Rattle.image_base.specs.Images.{words_at}
 use Rattle.image_base.specs.Places.{place}
 use Rattle.gen_core.specs.declared.views.View.{View}
-use Rattle.word_arena.specs.Ruled.{Slot, reader_of, image_of, IsGuard}
+use Rattle.word_arena.specs.Ruled.{Slot, reader_of, seen_image, IsGuard}
 use Rattle.word_arena.proofs.Guards.{place-inside, word_found, may_load_word, seat_same, guard-prop}
 use Rattle.word_arena.proofs.Allowed.{load_word_owed}
 use Rattle.word_arena.proofs.reader.GuardedFrozen.word.Goals as goal
@@ -12,17 +12,17 @@ pub load-requires : goal.load-requires
 load-requires g c =
     let s = c.place_of_word-place.new.self in
     let same = c.place_of_word-place.ensures.same in
-    let inside = subst (λ (n : ℕ). c.args.i < n) (λ k. length (words_at (image_of (reader_of (sym same k).place.me.0)) c.args.entry)) c.requires in
-    let is = c.place_of_word-place.ensures.place ∙ (λ k. place g.row.OFFSET_BITS (sym same k).sizes.buffers (sym same k).sizes.words (length (words_at (image_of (reader_of (sym same k).place.me.0)) c.args.entry)) c.args.entry c.args.i) in
+    let inside = subst (λ (n : ℕ). c.args.i < n) (λ k. length (words_at (seen_image (reader_of (sym same k).place.me.0)) c.args.entry)) c.requires in
+    let is = c.place_of_word-place.ensures.place ∙ (λ k. place g.row.OFFSET_BITS (sym same k).sizes.buffers (sym same k).sizes.words (length (words_at (seen_image (reader_of (sym same k).place.me.0)) c.args.entry)) c.args.entry c.args.i) in
     (s.stands.post.own, place-inside s.stands c.args.entry c.args.i inside _ is, load_word_owed _ _ _ _ _ _ (reader_of s.place.me.0) _ s.stands.post.is (may_load_word s.stands c.args.entry c.args.i inside _ is))
 
 pub returns-clause-value : goal.returns-clause-value
 returns-clause-value g c =
     let s = c.place_of_word-place.new.self in
     let same = c.place_of_word-place.ensures.same in
-    let inside = subst (λ (n : ℕ). c.args.i < n) (λ k. length (words_at (image_of (reader_of (sym same k).place.me.0)) c.args.entry)) c.requires in
-    let is = c.place_of_word-place.ensures.place ∙ (λ k. place g.row.OFFSET_BITS (sym same k).sizes.buffers (sym same k).sizes.words (length (words_at (image_of (reader_of (sym same k).place.me.0)) c.args.entry)) c.args.entry c.args.i) in
-    word_found s.stands c.args.entry c.args.i inside refl is c.load.ensures.2.told ∙ (λ k. slice_index (words_at (image_of (reader_of (same k).place.me.0)) c.args.entry) c.args.i)
+    let inside = subst (λ (n : ℕ). c.args.i < n) (λ k. length (words_at (seen_image (reader_of (sym same k).place.me.0)) c.args.entry)) c.requires in
+    let is = c.place_of_word-place.ensures.place ∙ (λ k. place g.row.OFFSET_BITS (sym same k).sizes.buffers (sym same k).sizes.words (length (words_at (seen_image (reader_of (sym same k).place.me.0)) c.args.entry)) c.args.entry c.args.i) in
+    word_found s.stands c.args.entry c.args.i inside refl is c.load.ensures.2.told ∙ (λ k. slice_index (words_at (seen_image (reader_of (same k).place.me.0)) c.args.entry) c.args.i)
 
 pub returns-clause-same : goal.returns-clause-same
 returns-clause-same g c =
