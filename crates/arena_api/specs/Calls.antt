@@ -1,5 +1,6 @@
 -- What the calls of a work ask and change.
-use Rattle.std.specs.Prelude.{◌-◌, replicate, length, ◌≡◌, ℕ, ◌+◌, ◌^◌, ◌<◌, ◌≤◌, ◌&&◌, true, false, nat_eq, if◌then◌else◌, List, [], ◌∷◌, ◌++◌, None, Some}
+use Rattle.std.specs.Prelude.{◌-◌, replicate, length, ◌≡◌, ℕ, ◌+◌, ◌^◌, ◌<◌, ◌≤◌, ◌&&◌, true, false, nat_eq, if◌then◌else◌, List, [], ◌∷◌}
+use Rattle.std.specs.Prelude.{◌++◌, None, Some}
 use Rattle.entry_ref.specs.References.{buffer_of, buffer_limit, offset_limit}
 use Rattle.image_base.specs.declared.Image.{Image}
 use Rattle.image_base.specs.Images.{no_image, image_of, words_at}

@@ -1,5 +1,6 @@
 -- Open holds and generations: what an advance and a reclaim make of them, and how buffers go on hold and become free.
-use Rattle.std.specs.Prelude.{◌≡◌, ◌⊎◌, ℕ, suc, ◌<◌, ◌≤◌, Bool, true, false, nat_lt, if◌then◌else◌, List, [], ◌∷◌, ◌++◌, length, drop, Option, Some, None}
+use Rattle.std.specs.Prelude.{◌≡◌, ◌⊎◌, ℕ, suc, ◌<◌, ◌≤◌, Bool, true, false, nat_lt, if◌then◌else◌, List, [], ◌∷◌, ◌++◌, length, drop}
+use Rattle.std.specs.Prelude.{Option, Some, None}
 use Rattle.std.specs.List.{AllByRecursion}
 use Rattle.entry_ref.specs.References.{buffer_of}
 use Rattle.image_base.specs.Images.{words_at}
@@ -140,7 +141,8 @@ pub record Reclaims {H : Type 0} (answer : Oldest) (old new : WorkView H) : Type
   pub generation : answer.generation ≡ (oldest_of new.queue).generation
   pub hold : answer.hold ≡ (oldest_of new.queue).hold
   pub newest : answer.newest ≡ true → (length new.queue ≡ 1) × (answer.found ≡ 0) × (new.stops ≡ old.stops) × (new.found ≡ old.found)
-  pub stopped : answer.newest ≡ false → (1 < length new.queue) × (0 < answer.found) × (new.stops ≡ suc old.stops) × (new.found ≡ answer.found)
+  pub stopped : answer.newest ≡ false → (1 < length new.queue) × (0 < answer.found) × (new.stops ≡ suc old.stops)
+      × (new.found ≡ answer.found)
 
 abbrev pub reclaimed : {H : Type 0} → WorkView H → WorkView H → WorkView H
 reclaimed old new = record old { buffer = new.buffer; queue = new.queue; commits = new.commits; stops = new.stops; found = new.found }

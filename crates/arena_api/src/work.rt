@@ -1,4 +1,5 @@
-ghost use Rattle.std.specs.Prelude.{◌≡◌, ◌≢◌, ◌<◌, ◌≤◌, ◌+◌, ◌-◌, ◌*◌, ◌↔◌, ◌⊎◌, ℕ, List, length, slice_index, Some, IsNone, IfSome, IfNone};
+ghost use Rattle.std.specs.Prelude.{◌≡◌, ◌≢◌, ◌<◌, ◌≤◌, ◌+◌, ◌-◌, ◌*◌, ◌↔◌, ◌⊎◌, ℕ, List, length, slice_index, Some, IsNone, IfSome};
+ghost use Rattle.std.specs.Prelude.{IfNone};
 ghost use Rattle.std.specs.List.{AllByRecursion};
 ghost use Rattle.entry_ref.specs.References.{buffer_of};
 ghost use Rattle.image_base.specs.Images.{words_at};
@@ -6,7 +7,8 @@ ghost use Rattle.image_base.specs.Places.{IsEntry};
 ghost use Rattle.image_base.specs.Records.{Records, with_words};
 ghost use Rattle.arena_api.specs.Works.{WorkView, Buffer, active_width, width_of, free_count, last_image};
 ghost use Rattle.arena_api.specs.Generations.{IsQueue, IsHeldUnder, MayRetire, retired, Advances, advanced, LetsGo, Reclaims, reclaimed};
-ghost use Rattle.arena_api.specs.Calls.{IsWithinLimits, IsInOrder, IsKept, InNoCommit, IsWordIn, MayStore, FitsEntry, IsLowestFree, AddsCommit, with_stored, padded, handed_out, next_image, published};
+ghost use Rattle.arena_api.specs.Calls.{IsWithinLimits, IsInOrder, IsKept, InNoCommit, IsWordIn, MayStore, FitsEntry, IsLowestFree};
+ghost use Rattle.arena_api.specs.Calls.{AddsCommit, with_stored, padded, handed_out, next_image, published};
 
 use crate::answers::{Advance, Oldest};
 use entry_ref::EntryRef;
@@ -126,7 +128,8 @@ pub trait Work<const OFFSET_BITS: u32>: Frozen<OFFSET_BITS> {
 
     // a kept commit's record fills one of an active or held buffer
     ghost kept: { (s : Self) (n r : ℕ) → IsKept (knows s).commits n → 0 < length (words_at ((knows s).commits.image n) r)
-        → FitsEntry OFFSET_BITS (knows s).sizes (width_of ((knows s).buffer (buffer_of OFFSET_BITS r))) r (length (words_at ((knows s).commits.image n) r)) };
+        → FitsEntry OFFSET_BITS (knows s).sizes (width_of ((knows s).buffer (buffer_of OFFSET_BITS r))) r
+        (length (words_at ((knows s).commits.image n) r)) };
 
     // the last commit's records are records
     ghost last: { (s : Self) (r : ℕ) → 0 < length (words_at (last_image (knows s).commits) r)

@@ -58,7 +58,8 @@ pub fn updated_document(
     document: Option<&FieldItems>,
 ) -> Result<Option<FieldItems>, AllocError>
     requires { IfSome (option_copied document) (IsLawfulDocument fields.now) }
-    ensures { IfOk result (λ new. new ≡ option_and_then (updated fields.now changes.now) (to_update fields.now create (option_copied document.entry))) }
+    ensures { IfOk result (λ new. new ≡ option_and_then (updated fields.now changes.now)
+        (to_update fields.now create (option_copied document.entry))) }
 {
     match document {
         Some(document) => changed_document(alloc, fields, changes, document.as_slice()),

@@ -41,7 +41,8 @@ pub fn first_documents<const OFFSET_BITS: u32, F: Frozen<OFFSET_BITS>>(
     requires first { slice_get _fields.now 0 ≡ Some field.now }
     requires shape { F.shape frozen.old ≡ shape_of (types_of _fields.now) }
     requires image { IsLawfulImage (F.shape frozen.old) (F.records frozen.old) root }
-    ensures column { IfOk result (λ documents. column_of 0 documents.entries ≡ column_of 0 (table_of (F.shape frozen.old) (F.records frozen.old) root.entry)) }
+    ensures column { IfOk result (λ documents. column_of 0 documents.entries
+        ≡ column_of 0 (table_of (F.shape frozen.old) (F.records frozen.old) root.entry)) }
     ensures same { frozen.new ≡ frozen.old }
 {
     let tree = root_at(frozen, root, 1);

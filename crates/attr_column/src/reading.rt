@@ -26,7 +26,8 @@ fn push_document<const OFFSET_BITS: u32, F: Frozen<OFFSET_BITS>>(
     documents: &mut BTreeMap<Doc, FieldItems>,
 ) -> Result<(), AllocError>
     requires { IsDocuments kind value_type (F.records frozen.old) root }
-    ensures put { OnOk result ((items : List Item) → lookup (is_at (nat_cmp doc)) (column_at kind value_type (F.records frozen.old) root.entry) ≡ Some items
+    ensures put { OnOk result ((items : List Item)
+        → lookup (is_at (nat_cmp doc)) (column_at kind value_type (F.records frozen.old) root.entry) ≡ Some items
         → documents.new.entries ≡ insert_entry nat_cmp documents.old.entries doc (items ∷ [])) }
     ensures same { frozen.new ≡ frozen.old }
 {
@@ -49,7 +50,8 @@ pub fn documents_in<const OFFSET_BITS: u32, F: Frozen<OFFSET_BITS>>(
     root: EntryRef<OFFSET_BITS>,
 ) -> Result<BTreeMap<Doc, FieldItems>, AllocError>
     requires { IsDocuments kind value_type (F.records frozen.old) root }
-    ensures column { IfOk result (λ documents. column_of 0 documents.entries ≡ column_at kind value_type (F.records frozen.old) root.entry) }
+    ensures column { IfOk result (λ documents. column_of 0 documents.entries
+        ≡ column_at kind value_type (F.records frozen.old) root.entry) }
     ensures same { frozen.new ≡ frozen.old }
 {
     let mut documents = BTreeMap::new(alloc);

@@ -43,7 +43,8 @@ impl<'a, const OFFSET_BITS: u32> Question<OFFSET_BITS, AttrLayout> for Saving<'a
     ) -> Result<BTreeMap<Doc, FieldItems>, AllocError>
         requires fits { CanSave self.now.fields.now self.now.field.now (F.shape frozen.old) }
         requires lawful { IsLawfulImage (F.shape frozen.old) (F.records frozen.old) root }
-        ensures answer { IfOk result (λ documents. TellsColumn (table_of (F.shape frozen.old) (F.records frozen.old) root.entry) documents.entries) }
+        ensures answer { IfOk result (λ documents. TellsColumn
+            (table_of (F.shape frozen.old) (F.records frozen.old) root.entry) documents.entries) }
         ensures same { frozen.new ≡ frozen.old }
     {
         first_documents(alloc, frozen, root, self.fields, self.field)

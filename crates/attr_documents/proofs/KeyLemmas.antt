@@ -124,7 +124,8 @@ module _ {H : Type 0} (old new : Ledger H) (m n : Records) where
     }
 
     -- the record of an array or a weighted set
-    pub makes_list : (kind : Kind) (ref : ℕ) → has_list kind ≡ true → map (word_entry kind) words ≡ list → stored_items (n ref) ≡ words → AddsRecord bits old new m n (length words ∷ words) ref → MakesItems kind old new m n list ref
+    pub makes_list : (kind : Kind) (ref : ℕ) → has_list kind ≡ true → map (word_entry kind) words ≡ list → stored_items (n ref) ≡ words → AddsRecord bits old new m n (length words ∷ words) ref
+        → MakesItems kind old new m n list ref
     makes_list kind zero has are reads adds = absurd (let more = adds.some in omega arith)
     makes_list Single (suc ref) has are reads adds = cc
     makes_list Array (suc ref) has are reads adds = record {
@@ -153,6 +154,7 @@ pub words_length : (kind : Kind) (words keys : List ℕ) (items : List Item) →
 words_length kind words keys items are same = sym (length-map words (word_entry kind)) ∙ ap length are ∙ entries_length keys items same
 
 pub made_list : {H : Type 0} (old new : Ledger H) (m n : Records) (bits : ℕ) (words : List ℕ) (list : List (ℕ × ℤ)) (kind : Kind) (result : Result ℕ StoreError) → 0 < length words → length words ≤ 1023
-    → has_list kind ≡ true → map (word_entry kind) words ≡ list → IfOk result (λ r. stored_items (n r) ≡ words) → IfOk result (AddsRecord bits old new m n (length words ∷ words)) → IfOk result (MakesItems kind old new m n list)
+    → has_list kind ≡ true → map (word_entry kind) words ≡ list → IfOk result (λ r. stored_items (n r) ≡ words) → IfOk result (AddsRecord bits old new m n (length words ∷ words))
+    → IfOk result (MakesItems kind old new m n list)
 made_list old new m n bits words list kind (Ok ref) some few has are reads adds = makes_list old new m n bits words list some few kind ref has are reads adds
 made_list old new m n bits words list kind (Err e) some few has are reads adds = tt

@@ -119,7 +119,8 @@ pub fn put<const OFFSET_BITS: u32, S: Store<OFFSET_BITS>>(
     ensures counts { MakesFew (S.ledger store.old) (S.ledger store.new)
         (field_nodes (first_weights [] old.now) (first_weights [] new.now))
         (field_records (first_weights [] old.now) (first_weights [] new.now)) }
-    ensures low { (levels : ℕ) → StaysLow levels (column_at kind value_type (S.records store.old) roots.entry.documents) (first_weights [] new.now)
+    ensures low { (levels : ℕ) → StaysLow levels (column_at kind value_type (S.records store.old) roots.entry.documents)
+        (first_weights [] new.now)
         → MakesFew (S.ledger store.old) (S.ledger store.new)
         (low_nodes levels (first_weights [] old.now) (first_weights [] new.now))
         (field_records (first_weights [] old.now) (first_weights [] new.now)) }

@@ -1,5 +1,6 @@
 -- The words of a value read as that value.
-use Rattle.std.proofs.Common.{◌≡◌, ℕ, zero, suc, ◌+◌, ◌-◌, ◌*◌, ◌/◌, ◌<◌, ◌≤◌, min, ℤ, FitsSigned, List, [], ◌∷◌, ◌++◌, length, get_or, take, drop, replicate, refl, sym, ap, subst, ◌∙◌, arith, inl, inr, ◌⊎◌, length-take, length-drop, length-append}
+use Rattle.std.proofs.Common.{◌≡◌, ℕ, zero, suc, ◌+◌, ◌-◌, ◌*◌, ◌/◌, ◌<◌, ◌≤◌, min, ℤ, FitsSigned, List, [], ◌∷◌, ◌++◌, length, get_or, take, drop, replicate, refl, sym, ap, subst, ◌∙◌, arith, inl, inr, ◌⊎◌}
+use Rattle.std.proofs.Common.{length-take, length-drop, length-append}
 use Rattle.std.proofs.lemmas.Bool.{cases_lt}
 use Rattle.std.proofs.lemmas.Int.{to_z-of_z}
 use Rattle.std.proofs.lemmas.List.{take-append-drop, get_or-drop, take-append-le, take-take, take_at}
@@ -66,7 +67,8 @@ unpacked_bytes (suc n) bytes zeros small fits =
     let later : (i : ℕ) → get_or (drop 8 bytes) i 0 < 256 = λ i. subst (λ b. b < 256) (sym (get_or-drop 8 bytes i 0)) (small (8 + i)) in
     let fewer : length (drop 8 bytes) ≤ 8 * n = let size = length-drop 8 bytes in omega arith in
     let after : take (length bytes - 8) rest ≡ drop 8 bytes = ap (λ k. take k rest) (sym (length-drop 8 bytes)) ∙ unpacked_bytes n (drop 8 bytes) zeros later fewer in
-    let chunk : to_be_bytes w64 (from_be_bytes w64 (eight bytes)) ≡ eight bytes = be_bytes_8 (eight bytes) (from_be_bytes w64 (eight bytes)) (length-eight bytes) (small-take 8 (bytes ++ replicate 8 0) (small-zeros bytes 8 small)) refl in
+    let chunk : to_be_bytes w64 (from_be_bytes w64 (eight bytes)) ≡ eight bytes =
+    be_bytes_8 (eight bytes) (from_be_bytes w64 (eight bytes)) (length-eight bytes) (small-take 8 (bytes ++ replicate 8 0) (small-zeros bytes 8 small)) refl in
     ap (λ xs. take (length bytes) (xs ++ rest)) chunk ∙ joined bytes rest after
 
 pub text_reads : (bytes : List ℕ) → ((i : ℕ) → get_or bytes i 0 < 256) → value_of types.Text (filled (value_words (values.Text bytes))) ≡ values.Text bytes

@@ -13,7 +13,8 @@ use Rattle.attr_images.specs.Images.{root_words, operations_at, documents_at, di
 use Rattle.attr_images.specs.Images.{table_of, attr_reaches, IsLawfulImage}
 use Rattle.attr_images.specs.Postings.{ListForm, short, tree, vector, list_form, block_documents, postings_at, IsPostingList, index_of}
 use Rattle.attr_images.specs.Shapes.{shape_of, types_of_shape, types_of}
-use Rattle.attr_images.specs.Tables.{AttributeTrees, types_at, table_of_columns, HaveSameDocuments, columns_at, attributes_reach, AreLawfulAttributes}
+use Rattle.attr_images.specs.Tables.{AttributeTrees, types_at, table_of_columns, HaveSameDocuments, columns_at, attributes_reach}
+use Rattle.attr_images.specs.Tables.{AreLawfulAttributes}
 use Rattle.attr_images.specs.Values.{value_words, value_of, stored_value}
 use Rattle.attr_images.specs.Words.{filled}
 use Rattle.attr_images.specs.declared.TheConstants.{FIRST_VECTOR, BLOCK_DOCUMENTS}
@@ -143,7 +144,8 @@ RootHasWords = (fields : List Field) (m : Records) (root : ℕ) → length field
 
 -- which is 0, or that of a record
 abbrev pub RootsAreThere : Type 0
-RootsAreThere = (kind : Kind) (type : ValueType) (m : Records) (documents dictionary : ℕ) → IsLawfulAttribute kind type m documents dictionary
+RootsAreThere = (kind : Kind) (type : ValueType) (m : Records) (documents dictionary : ℕ)
+    → IsLawfulAttribute kind type m documents dictionary
     → (0 < documents → 0 < length (m documents)) × (0 < dictionary → 0 < length (m dictionary))
 
 -- the empty image has the empty table

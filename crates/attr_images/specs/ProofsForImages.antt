@@ -1,20 +1,23 @@
 -- Nobody has to read this: proofs, which stand here since the layout's laws cite them.
 -- A lawful image reaches records that are there; it stays lawful, and reaches the same, where these records stay.
-use Rattle.std.proofs.Common.{◌≡◌, ℕ, zero, suc, ◌+◌, ◌*◌, ◌<◌, ◌^◌, List, [], ◌∷◌, ◌++◌, length, length-append, map, refl, sym, ap, subst, ◌∙◌, arith}
+use Rattle.std.proofs.Common.{◌≡◌, ℕ, zero, suc, ◌+◌, ◌*◌, ◌<◌, ◌^◌, List, [], ◌∷◌, ◌++◌, length, length-append, map, refl, sym, ap, subst}
+use Rattle.std.proofs.Common.{◌∙◌, arith}
 use Rattle.std.specs.Prelude.{ℤ, pos, Bool, true, false, cond, nat_le, Some}
 use Rattle.std.specs.List.{find, flat_map, AllByRecursion}
 use Rattle.std.specs.Option.{unwrap_or}
 use Rattle.std.specs.Ordering.{nat_cmp}
 use Rattle.std.proofs.lemmas.List.Concat.{flat_map_single}
 use Rattle.image_base.specs.Records.{Records, SameAt, AllThere}
-use Rattle.tree_images.specs.ProofsForTrees.{SameAt-left, SameAt-right, flat_map-same, map-same, all-same, tree_pairs-same, tree_nodes-same, IsTree-same, there-both, tree_there}
+use Rattle.tree_images.specs.ProofsForTrees.{SameAt-left, SameAt-right, flat_map-same, map-same, all-same, tree_pairs-same}
+use Rattle.tree_images.specs.ProofsForTrees.{tree_nodes-same, IsTree-same, there-both, tree_there}
 use Rattle.tree_images.specs.Trees.{tree_pairs, tree_nodes, by_number}
 use Rattle.attr_images.specs.Attributes.{trees_reach, AreFormed, IsLawfulAttribute}
 use Rattle.attr_index.specs.Columns.{Column, IsLawfulColumn}
 use Rattle.attr_index.specs.Index.{HasValues, HasLists}
 use Rattle.attr_images.specs.Documents.{weighted, IsItemsRecord, items_reach, items_at, AreItemRecords, column_at, documents_reach}
 use Rattle.attr_images.specs.Images.{attributes_from, attributes_of, IsRootRecord, attr_reaches, IsLawfulImage}
-use Rattle.attr_images.specs.Postings.{ListForm, short, tree, vector, list_form, block_documents, vector_documents, postings_at, IsBlock, IsPostingList, postings_reach, index_of, IsDictionaryEntry, dictionary_reach}
+use Rattle.attr_images.specs.Postings.{ListForm, short, tree, vector, list_form, block_documents, vector_documents, postings_at, IsBlock}
+use Rattle.attr_images.specs.Postings.{IsPostingList, postings_reach, index_of, IsDictionaryEntry, dictionary_reach}
 use Rattle.attr_images.specs.Shapes.{types_of_shape}
 use Rattle.attr_images.specs.Tables.{AttributeTrees, HaveSameDocuments, columns_at, attributes_reach, AreLawfulAttributes}
 use Rattle.attr_images.specs.Values.{value_of, stored_value, value_words, IsValueRecord}
@@ -61,20 +64,25 @@ IsItemsRecord-same WeightedSet m n (suc ref) h form = subst (IsStoredList most_i
 module _ (kind : Kind) (type : ValueType) (m n : Records) where
   -- each value of a document reaches its own record
   values_reach : (ref : ℕ) → SameAt (items_reach kind ref (m ref)) m n → SameAt (flat_map (λ e. e.0 ∷ []) (weighted kind ref (m ref))) m n
-  values_reach ref h = subst (λ rs. SameAt rs m n) (sym (flat_map_single (λ e. e.0) (weighted kind ref (m ref)))) (weighted_reach kind m n ref h)
+  values_reach ref h = subst (λ rs. SameAt rs m n) (sym (flat_map_single (λ e. e.0) (weighted kind ref (m ref))))
+      (weighted_reach kind m n ref h)
 
   items_at-same : (ref : ℕ) → SameAt (items_reach kind ref (m ref)) m n → items_at kind type n ref ≡ items_at kind type m ref
   items_at-same ref h =
       let f : ℕ × ℤ → Item = λ e. record { value = stored_value type m e.0; weight = e.1 } in
       let g : ℕ × ℤ → Item = λ e. record { value = stored_value type n e.0; weight = e.1 } in
-      let each : (e : ℕ × ℤ) → SameAt (e.0 ∷ []) m n → g e ≡ f e = λ e s. ap (λ ws. record { value = value_of type ws; weight = e.1 }) s.0 in
-      ap (map g) (weighted-same kind m n ref h) ∙ map-same m n (λ (e : ℕ × ℤ). e.0 ∷ []) f g each (weighted kind ref (m ref)) (values_reach ref h)
+      let each : (e : ℕ × ℤ) → SameAt (e.0 ∷ []) m n
+      → g e ≡ f e = λ e s. ap (λ ws. record { value = value_of type ws; weight = e.1 }) s.0 in
+      ap (map g) (weighted-same kind m n ref h) ∙ map-same m n (λ (e : ℕ × ℤ). e.0 ∷ []) f g each (weighted kind ref (m ref))
+      (values_reach ref h)
 
-  AreItemRecords-same : (ref : ℕ) → SameAt (items_reach kind ref (m ref)) m n → AreItemRecords kind type m ref → AreItemRecords kind type n ref
+  AreItemRecords-same : (ref : ℕ) → SameAt (items_reach kind ref (m ref)) m n → AreItemRecords kind type m ref
+      → AreItemRecords kind type n ref
   AreItemRecords-same ref h items =
       let P : ℕ × ℤ → Type 0 = λ e. IsValueRecord type (m e.0) in
       let Q : ℕ × ℤ → Type 0 = λ e. IsValueRecord type (n e.0) in
-      let values = all-same m n (λ (e : ℕ × ℤ). e.0 ∷ []) P Q (λ e s v. subst (IsValueRecord type) (sym s.0) v) (weighted kind ref (m ref)) (values_reach ref h) items.1 in
+      let values = all-same m n (λ (e : ℕ × ℤ). e.0 ∷ []) P Q (λ e s v. subst (IsValueRecord type) (sym s.0) v) (weighted kind ref (m ref))
+      (values_reach ref h) items.1 in
       (IsItemsRecord-same kind m n ref h items.0, subst (AllByRecursion Q) (sym (weighted-same kind m n ref h)) values)
 
 -- the blocks of a bit vector
@@ -94,7 +102,8 @@ module _ (m n : Records) (root : ℕ) (same : SameAt (tree_nodes m root ++ map (
       ap (flat_map g) block_pairs-same
       ∙ flat_map-same m n (λ (p : ℕ × ℕ). p.1 ∷ []) f g (λ p s. ap (block_documents p.0) s.0) (tree_pairs m root) blocks_reach
 
-  are_blocks-same : AllByRecursion (λ p. IsBlock p.0 (m p.1)) (tree_pairs m root) → AllByRecursion (λ p. IsBlock p.0 (n p.1)) (tree_pairs n root)
+  are_blocks-same : AllByRecursion (λ p. IsBlock p.0 (m p.1)) (tree_pairs m root)
+      → AllByRecursion (λ p. IsBlock p.0 (n p.1)) (tree_pairs n root)
   are_blocks-same all =
       let P : ℕ × ℕ → Type 0 = λ p. IsBlock p.0 (m p.1) in
       let Q : ℕ × ℕ → Type 0 = λ p. IsBlock p.0 (n p.1) in
@@ -106,30 +115,41 @@ postings_at-same m n (short ref) h = ap (λ ws. map unpacked (stored_items ws)) 
 postings_at-same m n (tree root) h = ap (λ ps. map (λ p. (p.0, weight_of p.1)) ps) (tree_pairs-same m n root h)
 postings_at-same m n (vector root) h = ap (λ docs. map (λ doc. (doc, pos 1)) docs) (vector_documents-same m n root h)
 
-pub postings_reach-same : (m n : Records) (form : ListForm) → SameAt (postings_reach m form) m n → postings_reach n form ≡ postings_reach m form
+pub postings_reach-same : (m n : Records) (form : ListForm) → SameAt (postings_reach m form) m n
+    → postings_reach n form ≡ postings_reach m form
 postings_reach-same m n (short ref) h = refl
 postings_reach-same m n (tree root) h = tree_nodes-same m n root h
 postings_reach-same m n (vector root) h =
     ap (λ ps. tree_nodes n root ++ map (λ p. p.1) ps) (block_pairs-same m n root h)
-    ∙ ap (λ rs. rs ++ map (λ p. p.1) (tree_pairs m root)) (tree_nodes-same m n root (SameAt-left m n (tree_nodes m root) (map (λ p. p.1) (tree_pairs m root)) h))
+    ∙ ap (λ rs. rs ++ map (λ p. p.1) (tree_pairs m root))
+    (tree_nodes-same m n root (SameAt-left m n (tree_nodes m root) (map (λ p. p.1) (tree_pairs m root)) h))
 
-pub IsPostingList-same : (m n : Records) (form : ListForm) → SameAt (postings_reach m form) m n → IsPostingList m form → IsPostingList n form
+pub IsPostingList-same : (m n : Records) (form : ListForm) → SameAt (postings_reach m form) m n → IsPostingList m form
+    → IsPostingList n form
 IsPostingList-same m n (short ref) h list = subst (IsStoredList MOST_SHORT) (sym h.0) list
 IsPostingList-same m n (tree root) h list =
-    let same = tree_pairs-same m n root h in
-    (IsTree-same nat_cmp by_number m n root h refl list.0, subst (λ ps. MOST_SHORT < length ps) (sym same) list.1, subst (AllByRecursion (λ (p : ℕ × ℕ). p.1 < 2 ^ 32)) (sym same) list.2)
+    let same = tree_pairs-same m n root h in (
+      IsTree-same nat_cmp by_number m n root h refl list.0,
+      subst (λ ps. MOST_SHORT < length ps) (sym same) list.1,
+      subst (AllByRecursion (λ (p : ℕ × ℕ). p.1 < 2 ^ 32)) (sym same) list.2,
+    )
 IsPostingList-same m n (vector root) h list =
-    let nodes = SameAt-left m n (tree_nodes m root) (map (λ p. p.1) (tree_pairs m root)) h in
-    (IsTree-same nat_cmp by_number m n root nodes refl list.0, subst (λ ps. 0 < length ps) (sym (block_pairs-same m n root h)) list.1, are_blocks-same m n root h list.2)
+    let nodes = SameAt-left m n (tree_nodes m root) (map (λ p. p.1) (tree_pairs m root)) h in (
+      IsTree-same nat_cmp by_number m n root nodes refl list.0,
+      subst (λ ps. 0 < length ps) (sym (block_pairs-same m n root h)) list.1,
+      are_blocks-same m n root h list.2,
+    )
 
 -- what a document tree is read as stays
-module _ (kind : Kind) (type : ValueType) (m n : Records) (root : ℕ) (nodes : SameAt (tree_nodes m root) m n) (rest : SameAt (documents_reach kind m root) m n) where
+module _ (kind : Kind) (type : ValueType) (m n : Records) (root : ℕ) (nodes : SameAt (tree_nodes m root) m n)
+    (rest : SameAt (documents_reach kind m root) m n) where
   column_at-same : column_at kind type n root ≡ column_at kind type m root
   column_at-same =
       let f : ℕ × ℕ → ℕ × List Item = λ p. (p.0, items_at kind type m p.1) in
       let g : ℕ × ℕ → ℕ × List Item = λ p. (p.0, items_at kind type n p.1) in
       ap (map g) (tree_pairs-same m n root nodes)
-      ∙ map-same m n (λ (p : ℕ × ℕ). items_reach kind p.1 (m p.1)) f g (λ p s. ap (λ items. (p.0, items)) (items_at-same kind type m n p.1 s)) (tree_pairs m root) rest
+      ∙ map-same m n (λ (p : ℕ × ℕ). items_reach kind p.1 (m p.1)) f g
+      (λ p s. ap (λ items. (p.0, items)) (items_at-same kind type m n p.1 s)) (tree_pairs m root) rest
 
   documents_reach-same : documents_reach kind n root ≡ documents_reach kind m root
   documents_reach-same =
@@ -138,21 +158,26 @@ module _ (kind : Kind) (type : ValueType) (m n : Records) (root : ℕ) (nodes : 
       ap (flat_map g) (tree_pairs-same m n root nodes)
       ∙ flat_map-same m n f f g (λ p s. items_reach-same kind m n p.1 s) (tree_pairs m root) rest
 
-  all_items-same : AllByRecursion (λ p. AreItemRecords kind type m p.1) (tree_pairs m root) → AllByRecursion (λ p. AreItemRecords kind type n p.1) (tree_pairs n root)
+  all_items-same : AllByRecursion (λ p. AreItemRecords kind type m p.1) (tree_pairs m root)
+      → AllByRecursion (λ p. AreItemRecords kind type n p.1) (tree_pairs n root)
   all_items-same all =
       let P : ℕ × ℕ → Type 0 = λ p. AreItemRecords kind type m p.1 in
       let Q : ℕ × ℕ → Type 0 = λ p. AreItemRecords kind type n p.1 in
       subst (AllByRecursion Q) (sym (tree_pairs-same m n root nodes))
-      (all-same m n (λ (p : ℕ × ℕ). items_reach kind p.1 (m p.1)) P Q (λ p s. AreItemRecords-same kind type m n p.1 s) (tree_pairs m root) rest all)
+      (all-same m n (λ (p : ℕ × ℕ). items_reach kind p.1 (m p.1)) P Q (λ p s. AreItemRecords-same kind type m n p.1 s)
+      (tree_pairs m root) rest all)
 
 -- and what a dictionary is read as
-module _ (type : ValueType) (m n : Records) (root : ℕ) (nodes : SameAt (tree_nodes m root) m n) (rest : SameAt (dictionary_reach m root) m n) where
+module _ (type : ValueType) (m n : Records) (root : ℕ) (nodes : SameAt (tree_nodes m root) m n)
+    (rest : SameAt (dictionary_reach m root) m n) where
   index_of-same : index_of type n root ≡ index_of type m root
   index_of-same =
       let f : ℕ × ℕ → Value × List (ℕ × ℤ) = λ p. (stored_value type m p.0, postings_at m (list_form p.1)) in
       let g : ℕ × ℕ → Value × List (ℕ × ℤ) = λ p. (stored_value type n p.0, postings_at n (list_form p.1)) in
       ap (map g) (tree_pairs-same m n root nodes)
-      ∙ map-same m n (λ (p : ℕ × ℕ). p.0 ∷ postings_reach m (list_form p.1)) f g (λ p s. ap (λ ws. (value_of type ws, postings_at n (list_form p.1))) s.0 ∙ ap (λ list. (stored_value type m p.0, list)) (postings_at-same m n (list_form p.1) s.1)) (tree_pairs m root) rest
+      ∙ map-same m n (λ (p : ℕ × ℕ). p.0 ∷ postings_reach m (list_form p.1)) f g
+      (λ p s. ap (λ ws. (value_of type ws, postings_at n (list_form p.1))) s.0 ∙ ap (λ list. (stored_value type m p.0, list))
+      (postings_at-same m n (list_form p.1) s.1)) (tree_pairs m root) rest
 
   keys_read-same : map (λ p. stored_value type n p.0) (tree_pairs m root) ≡ map (λ p. stored_value type m p.0) (tree_pairs m root)
   keys_read-same =
@@ -167,18 +192,24 @@ module _ (type : ValueType) (m n : Records) (root : ℕ) (nodes : SameAt (tree_n
       ap (flat_map g) (tree_pairs-same m n root nodes)
       ∙ flat_map-same m n f f g (λ p s. ap (λ rs. p.0 ∷ rs) (postings_reach-same m n (list_form p.1) s.1)) (tree_pairs m root) rest
 
-  entries-same : AllByRecursion (IsDictionaryEntry type m) (tree_pairs m root) → AllByRecursion (IsDictionaryEntry type n) (tree_pairs n root)
+  entries-same : AllByRecursion (IsDictionaryEntry type m) (tree_pairs m root)
+      → AllByRecursion (IsDictionaryEntry type n) (tree_pairs n root)
   entries-same all =
       subst (AllByRecursion (IsDictionaryEntry type n)) (sym (tree_pairs-same m n root nodes))
-      (all-same m n (λ (p : ℕ × ℕ). p.0 ∷ postings_reach m (list_form p.1)) (IsDictionaryEntry type m) (IsDictionaryEntry type n) (λ p s entry. (subst (IsValueRecord type) (sym s.0) entry.0, IsPostingList-same m n (list_form p.1) s.1 entry.1)) (tree_pairs m root) rest all)
+      (all-same m n (λ (p : ℕ × ℕ). p.0 ∷ postings_reach m (list_form p.1)) (IsDictionaryEntry type m) (IsDictionaryEntry type n)
+      (λ p s entry. (subst (IsValueRecord type) (sym s.0) entry.0, IsPostingList-same m n (list_form p.1) s.1 entry.1))
+      (tree_pairs m root) rest all)
 
 -- an attribute by its two trees
-module _ (kind : Kind) (type : ValueType) (m n : Records) (documents dictionary : ℕ) (same : SameAt (trees_reach kind m documents dictionary) m n) where
+module _ (kind : Kind) (type : ValueType) (m n : Records) (documents dictionary : ℕ)
+    (same : SameAt (trees_reach kind m documents dictionary) m n) where
   left : SameAt (tree_nodes m documents ++ documents_reach kind m documents) m n
-  left = SameAt-left m n (tree_nodes m documents ++ documents_reach kind m documents) (tree_nodes m dictionary ++ dictionary_reach m dictionary) same
+  left = SameAt-left m n (tree_nodes m documents ++ documents_reach kind m documents)
+      (tree_nodes m dictionary ++ dictionary_reach m dictionary) same
 
   right : SameAt (tree_nodes m dictionary ++ dictionary_reach m dictionary) m n
-  right = SameAt-right m n (tree_nodes m documents ++ documents_reach kind m documents) (tree_nodes m dictionary ++ dictionary_reach m dictionary) same
+  right = SameAt-right m n (tree_nodes m documents ++ documents_reach kind m documents)
+      (tree_nodes m dictionary ++ dictionary_reach m dictionary) same
 
   documents_nodes : SameAt (tree_nodes m documents) m n
   documents_nodes = SameAt-left m n (tree_nodes m documents) (documents_reach kind m documents) left
@@ -200,10 +231,14 @@ module _ (kind : Kind) (type : ValueType) (m n : Records) (documents dictionary 
 
   pub trees_reach-same : trees_reach kind n documents dictionary ≡ trees_reach kind m documents dictionary
   trees_reach-same =
-      ap (λ xs. (xs ++ documents_reach kind n documents) ++ (tree_nodes n dictionary ++ dictionary_reach n dictionary)) (tree_nodes-same m n documents documents_nodes)
-      ∙ ap (λ xs. (tree_nodes m documents ++ xs) ++ (tree_nodes n dictionary ++ dictionary_reach n dictionary)) (documents_reach-same kind type m n documents documents_nodes documents_rest)
-      ∙ ap (λ xs. (tree_nodes m documents ++ documents_reach kind m documents) ++ (xs ++ dictionary_reach n dictionary)) (tree_nodes-same m n dictionary dictionary_nodes)
-      ∙ ap (λ xs. (tree_nodes m documents ++ documents_reach kind m documents) ++ (tree_nodes m dictionary ++ xs)) (dictionary_reach-same type m n dictionary dictionary_nodes dictionary_rest)
+      ap (λ xs. (xs ++ documents_reach kind n documents) ++ (tree_nodes n dictionary ++ dictionary_reach n dictionary))
+      (tree_nodes-same m n documents documents_nodes)
+      ∙ ap (λ xs. (tree_nodes m documents ++ xs) ++ (tree_nodes n dictionary ++ dictionary_reach n dictionary))
+      (documents_reach-same kind type m n documents documents_nodes documents_rest)
+      ∙ ap (λ xs. (tree_nodes m documents ++ documents_reach kind m documents) ++ (xs ++ dictionary_reach n dictionary))
+      (tree_nodes-same m n dictionary dictionary_nodes)
+      ∙ ap (λ xs. (tree_nodes m documents ++ documents_reach kind m documents) ++ (tree_nodes m dictionary ++ xs))
+      (dictionary_reach-same type m n dictionary dictionary_nodes dictionary_rest)
 
   pub IsLawfulAttribute-same : IsLawfulAttribute kind type m documents dictionary → IsLawfulAttribute kind type n documents dictionary
   IsLawfulAttribute-same lawful =
@@ -213,12 +248,15 @@ module _ (kind : Kind) (type : ValueType) (m n : Records) (documents dictionary 
         forms = record {
           documents_tree = IsTree-same nat_cmp by_number m n documents documents_nodes refl lawful.forms.documents_tree;
           items = all_items-same kind type m n documents documents_nodes documents_rest lawful.forms.items;
-          dictionary_tree = IsTree-same value_cmp (stored_value type) m n dictionary dictionary_nodes (keys_read-same type m n dictionary dictionary_nodes dictionary_rest) lawful.forms.dictionary_tree;
+          dictionary_tree = IsTree-same value_cmp (stored_value type) m n dictionary dictionary_nodes
+              (keys_read-same type m n dictionary dictionary_nodes dictionary_rest) lawful.forms.dictionary_tree;
           entries = entries-same type m n dictionary dictionary_nodes dictionary_rest lawful.forms.entries;
         };
         column = subst (IsLawfulColumn kind) (sym column) lawful.column;
-        values = subst (λ t. HasValues t (index_of type n dictionary)) (sym column) (subst (HasValues (column_at kind type m documents)) (sym index) lawful.values);
-        lists = subst (λ t. HasLists t (index_of type n dictionary)) (sym column) (subst (HasLists (column_at kind type m documents)) (sym index) lawful.lists);
+        values = subst (λ t. HasValues t (index_of type n dictionary)) (sym column)
+            (subst (HasValues (column_at kind type m documents)) (sym index) lawful.values);
+        lists = subst (λ t. HasLists t (index_of type n dictionary)) (sym column)
+            (subst (HasLists (column_at kind type m documents)) (sym index) lawful.lists);
       }
 
 -- attributes side by side
@@ -233,14 +271,16 @@ module _ (m n : Records) (attributes : List AttributeTrees) (same : SameAt (attr
   columns_at-same =
       let f : AttributeTrees → Column = λ a. column_at a.kind a.type m a.documents in
       let g : AttributeTrees → Column = λ a. column_at a.kind a.type n a.documents in
-      map-same m n (λ (a : AttributeTrees). trees_reach a.kind m a.documents a.dictionary) f g (λ a s. trees_column-same a.kind a.type m n a.documents a.dictionary s) attributes same
+      map-same m n (λ (a : AttributeTrees). trees_reach a.kind m a.documents a.dictionary) f g
+      (λ a s. trees_column-same a.kind a.type m n a.documents a.dictionary s) attributes same
 
   AreLawfulAttributes-same : AreLawfulAttributes m attributes → AreLawfulAttributes n attributes
   AreLawfulAttributes-same lawful =
       let P : AttributeTrees → Type 0 = λ a. IsLawfulAttribute a.kind a.type m a.documents a.dictionary in
       let Q : AttributeTrees → Type 0 = λ a. IsLawfulAttribute a.kind a.type n a.documents a.dictionary in
       record {
-        each = all-same m n (λ (a : AttributeTrees). trees_reach a.kind m a.documents a.dictionary) P Q (λ a s one. IsLawfulAttribute-same a.kind a.type m n a.documents a.dictionary s one) attributes same lawful.each;
+        each = all-same m n (λ (a : AttributeTrees). trees_reach a.kind m a.documents a.dictionary) P Q
+            (λ a s one. IsLawfulAttribute-same a.kind a.type m n a.documents a.dictionary s one) attributes same lawful.each;
         documents = subst HaveSameDocuments (sym columns_at-same) lawful.documents;
       }
 
@@ -262,7 +302,8 @@ blocks_there : (m : Records) (pairs : List (ℕ × ℕ)) → AllByRecursion (λ 
 blocks_there m [] all = tt
 blocks_there m (p ∷ pairs) all = (let size = all.0.size in omega arith, blocks_there m pairs all.1)
 
-there-each : {X : Type 0} (m : Records) (P : X → Type 0) (reach : X → List ℕ) → ((x : X) → P x → AllThere (reach x) m) → (xs : List X) → AllByRecursion P xs → AllThere (flat_map reach xs) m
+there-each : {X : Type 0} (m : Records) (P : X → Type 0) (reach : X → List ℕ) → ((x : X) → P x → AllThere (reach x) m) → (xs : List X)
+    → AllByRecursion P xs → AllThere (flat_map reach xs) m
 there-each m P reach each [] all = tt
 there-each m P reach each (x ∷ xs) all = there-both m (reach x) (flat_map reach xs) (each x all.0) (there-each m P reach each xs all.1)
 
@@ -274,26 +315,37 @@ module _ (type : ValueType) (m : Records) where
   items_there : (kind : Kind) (ref : ℕ) → AreItemRecords kind type m ref → AllThere (items_reach kind ref (m ref)) m
   items_there kind zero items = tt
   items_there Single (suc ref) items = (value_there type (m (suc ref)) items.1.0, tt)
-  items_there Array (suc ref) items = (list_there most_items (m (suc ref)) items.0, values_there (weighted Array (suc ref) (m (suc ref))) items.1)
-  items_there WeightedSet (suc ref) items = (list_there most_items (m (suc ref)) items.0, values_there (weighted WeightedSet (suc ref) (m (suc ref))) items.1)
+  items_there Array (suc ref) items = (
+    list_there most_items (m (suc ref)) items.0,
+    values_there (weighted Array (suc ref) (m (suc ref))) items.1,
+  )
+  items_there WeightedSet (suc ref) items =
+      (list_there most_items (m (suc ref)) items.0, values_there (weighted WeightedSet (suc ref) (m (suc ref))) items.1)
 
   pub postings_there : (form : ListForm) → IsPostingList m form → AllThere (postings_reach m form) m
   postings_there (short ref) list = (list_there MOST_SHORT (m ref) list, tt)
   postings_there (tree root) list = tree_there m root list.0.node
-  postings_there (vector root) list = there-both m (tree_nodes m root) (map (λ p. p.1) (tree_pairs m root)) (tree_there m root list.0.node) (blocks_there m (tree_pairs m root) list.2)
+  postings_there (vector root) list = there-both m (tree_nodes m root) (map (λ p. p.1) (tree_pairs m root)) (tree_there m root list.0.node)
+      (blocks_there m (tree_pairs m root) list.2)
 
-  pub trees_there : (kind : Kind) (documents dictionary : ℕ) → AreFormed kind type m documents dictionary → AllThere (trees_reach kind m documents dictionary) m
+  pub trees_there : (kind : Kind) (documents dictionary : ℕ) → AreFormed kind type m documents dictionary
+      → AllThere (trees_reach kind m documents dictionary) m
   trees_there kind documents dictionary forms =
       there-both m (tree_nodes m documents ++ documents_reach kind m documents) (tree_nodes m dictionary ++ dictionary_reach m dictionary)
       (there-both m (tree_nodes m documents) (documents_reach kind m documents)
       (tree_there m documents forms.documents_tree.node)
-      (there-each m (λ (p : ℕ × ℕ). AreItemRecords kind type m p.1) (λ (p : ℕ × ℕ). items_reach kind p.1 (m p.1)) (λ p items. items_there kind p.1 items) (tree_pairs m documents) forms.items))
+      (there-each m (λ (p : ℕ × ℕ). AreItemRecords kind type m p.1) (λ (p : ℕ × ℕ). items_reach kind p.1 (m p.1))
+      (λ p items. items_there kind p.1 items) (tree_pairs m documents) forms.items))
       (there-both m (tree_nodes m dictionary) (dictionary_reach m dictionary)
       (tree_there m dictionary forms.dictionary_tree.node)
-      (there-each m (IsDictionaryEntry type m) (λ (p : ℕ × ℕ). p.0 ∷ postings_reach m (list_form p.1)) (λ p entry. (value_there type (m p.0) entry.0, postings_there (list_form p.1) entry.1)) (tree_pairs m dictionary) forms.entries))
+      (there-each m (IsDictionaryEntry type m) (λ (p : ℕ × ℕ). p.0 ∷ postings_reach m (list_form p.1))
+      (λ p entry. (value_there type (m p.0) entry.0, postings_there (list_form p.1) entry.1)) (tree_pairs m dictionary) forms.entries))
 
-pub attributes_there : (m : Records) (attributes : List AttributeTrees) → AllByRecursion (λ a. IsLawfulAttribute a.kind a.type m a.documents a.dictionary) attributes → AllThere (attributes_reach m attributes) m
-attributes_there m attributes each = there-each m (λ (a : AttributeTrees). IsLawfulAttribute a.kind a.type m a.documents a.dictionary) (λ a. trees_reach a.kind m a.documents a.dictionary)
+pub attributes_there : (m : Records) (attributes : List AttributeTrees)
+    → AllByRecursion (λ a. IsLawfulAttribute a.kind a.type m a.documents a.dictionary) attributes
+    → AllThere (attributes_reach m attributes) m
+attributes_there m attributes each = there-each m (λ (a : AttributeTrees). IsLawfulAttribute a.kind a.type m a.documents a.dictionary)
+    (λ a. trees_reach a.kind m a.documents a.dictionary)
     (λ a lawful. trees_there a.type m a.kind a.documents a.dictionary lawful.forms) attributes each
 
 either_wide : (found : Bool) (w rest : ℕ) → 0 < w → 0 < rest → 0 < cond found w rest
@@ -308,11 +360,20 @@ found_or p w widths false = refl
 first_wide : (p : ℕ → Bool) (widths : List ℕ) → AllByRecursion (λ w. 0 < w) widths → 0 < unwrap_or (find p widths) 1024
 first_wide p [] wide = omega arith
 first_wide p (w ∷ widths) wide =
-    subst (λ n. 0 < n) (sym (found_or p w widths (p w))) (either_wide (p w) w (unwrap_or (find p widths) 1024) wide.0 (first_wide p widths wide.1))
+    subst (λ n. 0 < n) (sym (found_or p w widths (p w)))
+    (either_wide (p w) w (unwrap_or (find p widths) 1024) wide.0 (first_wide p widths wide.1))
 
 class_wide : (n : ℕ) → 0 < class_of n
-class_wide n = first_wide (nat_le n) classes
-    (omega arith, (omega arith, (omega arith, (omega arith, (omega arith, (omega arith, (omega arith, (omega arith, (omega arith, (omega arith, tt))))))))))
+class_wide n = first_wide (nat_le n) classes (
+  omega arith,
+  (
+    omega arith,
+    (
+      omega arith,
+      (omega arith, (omega arith, (omega arith, (omega arith, (omega arith, (omega arith, (omega arith, tt))))))),
+    ),
+  ),
+)
 
 pub attr_empty_reaches : (shape : ℕ) (m : Records) → attr_reaches shape m 0 ≡ []
 attr_empty_reaches shape m = refl
@@ -327,7 +388,8 @@ attr_present shape m (suc root) lawful = (
   attributes_there m (attributes_of shape m (suc root)) lawful.attributes.each,
 )
 
-attr_reaches-same : (shape : ℕ) (m n : Records) (root : ℕ) → SameAt (attr_reaches shape m root) m n → attr_reaches shape n root ≡ attr_reaches shape m root
+attr_reaches-same : (shape : ℕ) (m n : Records) (root : ℕ) → SameAt (attr_reaches shape m root) m n
+    → attr_reaches shape n root ≡ attr_reaches shape m root
 attr_reaches-same shape m n zero h = refl
 attr_reaches-same shape m n (suc root) h =
     ap (λ ws. suc root ∷ attributes_reach n (attributes_from 0 (types_of_shape shape) ws)) h.0

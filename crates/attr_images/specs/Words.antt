@@ -1,5 +1,6 @@
 -- How words are laid out in a record: some words, then zeros up to one of the widths.
-use Rattle.std.specs.Prelude.{◌≡◌, ℕ, ◌-◌, ◌/◌, ◌%◌, ◌^◌, ◌<◌, ◌≤◌, nat_le, ℤ, List, [], ◌∷◌, ◌++◌, length, slice_index, take, drop, replicate}
+use Rattle.std.specs.Prelude.{◌≡◌, ℕ, ◌-◌, ◌/◌, ◌%◌, ◌^◌, ◌<◌, ◌≤◌, nat_le, ℤ, List, [], ◌∷◌, ◌++◌, length, slice_index, take, drop}
+use Rattle.std.specs.Prelude.{replicate}
 use Rattle.std.specs.Int.{cast_signed, w32}
 use Rattle.std.specs.List.{find}
 use Rattle.std.specs.Option.{unwrap_or}

@@ -22,7 +22,8 @@ use Rattle.attr_index.specs.Changes.{or_else, settled, IsBetween, IsPartway}
 
 module _ (start : Index) (doc : ℕ) (old new : Value → Option ℤ) where
   -- after the first walk
-  pub has_both : (middle : Index) → ((value : Value) → lookup (is_at (nat_cmp doc)) (list_of value start) ≡ old value) → IsBetween start doc new (λ value. None) middle → ((value : Value) → lookup (is_at (nat_cmp doc)) (list_of value middle) ≡ or_else (new value) (old value))
+  pub has_both : (middle : Index) → ((value : Value) → lookup (is_at (nat_cmp doc)) (list_of value start) ≡ old value) → IsBetween start doc new (λ value. None) middle
+      → ((value : Value) → lookup (is_at (nat_cmp doc)) (list_of value middle) ≡ or_else (new value) (old value))
   has_both middle has p value =
       ap (lookup (is_at (nat_cmp doc))) (p.lists value) ∙ told (new value)
     where

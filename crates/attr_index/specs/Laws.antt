@@ -1,5 +1,6 @@
 -- What the changes of an index come to, as laws.
-use Rattle.std.specs.Prelude.{◌≡◌, false, ◌↔◌, ◌<◌, ◌≤◌, ℕ, ℤ, List, [], length, slice_get, Option, None, Some, IsSome, Contains, unwrap_or, option_map}
+use Rattle.std.specs.Prelude.{◌≡◌, false, ◌↔◌, ◌<◌, ◌≤◌, ℕ, ℤ, List, [], length, slice_get, Option, None, Some, IsSome, Contains}
+use Rattle.std.specs.Prelude.{unwrap_or, option_map}
 use Rattle.std.specs.BTreeMap.{is_at}
 use Rattle.std.specs.List.{AllByRecursion}
 use Rattle.std.specs.List.Sorted.{IsStrictlySortedBy}
@@ -69,7 +70,8 @@ WalkEnds = (kind : Kind) (column : Column) (start : Index) (doc : ℕ) (new : Op
 -- ---- what a step finds
 -- a value whose list a removal empties is no item's in the new column
 abbrev pub RemovedIsGone : Type 0
-RemovedIsGone = (kind : Kind) (column : Column) (start : Index) (doc : ℕ) (new : Option (List Item)) (removed : List Item) (index : Index) (value : Value)
+RemovedIsGone = (kind : Kind) (column : Column) (start : Index) (doc : ℕ) (new : Option (List Item)) (removed : List Item) (index : Index)
+    (value : Value)
     → IsLawfulColumn kind column → IsIndexOf column start → IsPartway start doc (unwrap_or new []) removed index
     → weight_in value (unwrap_or new []) ≡ None → weight_in value removed ≡ None
     → remove_entry (is_at (nat_cmp doc)) (list_of value index) ≡ []
@@ -82,7 +84,8 @@ OldValuesStay = (start : Index) (doc : ℕ) (added : List Item) (index : Index) 
 
 -- in the second walk every value of the new column is in the index
 abbrev pub NewValuesStay : Type 0
-NewValuesStay = (kind : Kind) (column : Column) (start : Index) (doc : ℕ) (new : Option (List Item)) (removed : List Item) (index : Index) (value : Value)
+NewValuesStay = (kind : Kind) (column : Column) (start : Index) (doc : ℕ) (new : Option (List Item)) (removed : List Item) (index : Index)
+    (value : Value)
     → IsLawfulColumn kind column → IsIndexOf column start → IsPartway start doc (unwrap_or new []) removed index
     → Contains (column_values (with_change column doc new)) value → IsSome (lookup (is_at (value_cmp value)) index)
 

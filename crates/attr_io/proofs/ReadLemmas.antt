@@ -45,7 +45,14 @@ pub reads_none : (limit piece : ℕ) (old : Option (List ℕ)) (reads : ℕ) →
 reads_none limit piece old reads = record { front = []; last = []; taken = Consumes-nil old; within = omega arith; short = omega arith; each = omega arith }
 
 pub reads_kept : (limit piece : ℕ) (bytes : List ℕ) (old new : Option (List ℕ)) (reads_old reads_new : ℕ) → KeepsPieces limit piece bytes old new reads_old reads_new → ReadsPieces limit piece old new reads_old reads_new
-reads_kept limit piece bytes old new reads_old reads_new kept = record { front = kept.front; last = kept.last; taken = subst (Consumes old new) kept.whole kept.taken; within = kept.within; short = kept.short; each = kept.each }
+reads_kept limit piece bytes old new reads_old reads_new kept = record {
+  front = kept.front;
+  last = kept.last;
+  taken = subst (Consumes old new) kept.whole kept.taken;
+  within = kept.within;
+  short = kept.short;
+  each = kept.each;
+}
 
 -- one read more, whatever it gave
 pub reads_more : (limit piece : ℕ) (bytes got : List ℕ) (old now new : Option (List ℕ)) (reads_old reads_now reads_new : ℕ) → KeepsPieces limit piece bytes old now reads_old reads_now

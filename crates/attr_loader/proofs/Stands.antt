@@ -90,7 +90,8 @@ module _ {S H : Type 0} (ledger : S → Ledger H) (batch : ℕ) (ops : List Op) 
       skips_are = refl;
     }
 
-  module _ (b : AttributeView S) (count skips : ℕ) (stands : Stands ledger batch ops start b count skips) (rest part : List Op) (rest_is : rest ≡ drop count ops) (part_is : part ≡ take (min (length rest) batch) rest) (below : count < length ops) where
+  module _ (b : AttributeView S) (count skips : ℕ) (stands : Stands ledger batch ops start b count skips) (rest part : List Op) (rest_is : rest ≡ drop count ops) (part_is : part ≡ take (min (length rest) batch) rest)
+      (below : count < length ops) where
     rest-long : length rest ≡ length ops - count
     rest-long = ap length rest_is ∙ length-drop count ops
 
@@ -161,7 +162,8 @@ module _ {S H : Type 0} (ledger : S → Ledger H) (batch : ℕ) (ops : List Op) 
         committed_operations = loads.commits.committed_operations ∙ operations_now;
         skips_are =
             let first = stands.skips_are in
-            let more_is : more ≡ skipped_ops start.fields (after start.fields ops count) part = loads.applies.skips ∙ ap (λ fields. skipped_ops fields b.table part) stands.stays.fields ∙ ap (λ t. skipped_ops start.fields t part) stands.table in
+            let more_is : more ≡ skipped_ops start.fields (after start.fields ops count) part = loads.applies.skips ∙ ap (λ fields. skipped_ops fields b.table part) stands.stays.fields
+            ∙ ap (λ t. skipped_ops start.fields t part) stands.table in
             let s = skips_after in
             omega (arith, first, more_is, s);
       }

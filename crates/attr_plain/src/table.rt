@@ -116,7 +116,8 @@ impl PlainTable {
         create: bool,
         change: FieldChanges,
     ) -> Result<Option<FieldItems>, AllocError>
-        ensures { IfOk result (λ new. new ≡ option_and_then (updated self.now.fields change) (to_update self.now.fields create (document_at self.now.table doc))) }
+        ensures { IfOk result (λ new. new ≡ option_and_then (updated self.now.fields change)
+            (to_update self.now.fields create (document_at self.now.table doc))) }
     {
         let fields = self.fields.as_slice();
         let document = self.documents.get(&doc);

@@ -43,7 +43,8 @@ module _ {A : Type 0} (operations : ℕ → Records → ℕ → ℕ) (answers : 
       (each_of_commit rounds seen of.1 (all_rest (IsCommit commits) s seen all))
 
 -- where all that a reader and others saw is commits
-pub rounds_of_commits : {A : Type 0} (operations : ℕ → Records → ℕ → ℕ) (answers : ℕ → Records → ℕ → A → Type 0) (lawful : ℕ → Records → ℕ → Type 0) (commits : List Image) (r : ReaderView) (others : List (ℕ × Image)) (rounds : List (Round A))
+pub rounds_of_commits : {A : Type 0} (operations : ℕ → Records → ℕ → ℕ) (answers : ℕ → Records → ℕ → A → Type 0) (lawful : ℕ → Records → ℕ
+    → Type 0) (commits : List Image) (r : ReaderView) (others : List (ℕ × Image)) (rounds : List (Round A))
     → AreSeen operations answers lawful r rounds → All (IsCommit commits) (r.saw ++ others) → All (IsOfCommit operations answers r.sizes.shape commits) rounds
 rounds_of_commits operations answers lawful commits r others rounds seen all =
     each_of_commit operations answers lawful r.sizes.shape commits rounds (seen_last (length rounds) r.saw) seen.each

@@ -91,7 +91,8 @@ module _ {A : Type 0} (operations : ℕ → Records → ℕ → ℕ) (answers : 
     same_sizes = refl;
     are_seen = record { each = tt };
     nothing_else = refl;
-    forward = IsNonDecreasingBy-push (λ x. x) (r.seen ∷ []) r.seen (λ i j d ij lt. let e : i ≡ j = omega (arith, ij, lt) in subst (λ k. slice_index_or (r.seen ∷ []) i d ≤ slice_index_or (r.seen ∷ []) k d) e (omega arith)) (λ d some. omega arith);
+    forward = IsNonDecreasingBy-push (λ x. x) (r.seen ∷ []) r.seen (λ i j d ij lt. let e : i ≡ j = omega (arith, ij, lt) in
+        subst (λ k. slice_index_or (r.seen ∷ []) i d ≤ slice_index_or (r.seen ∷ []) k d) e (omega arith)) (λ d some. omega arith);
   }
 
   module _ (r m t : ReaderView) (rounds : List (Round A)) (round : Round A) (before : Makes r m rounds) (next : MakesRound operations answers lawful m t round) where

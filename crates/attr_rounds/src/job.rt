@@ -30,7 +30,8 @@ impl<'a, const OFFSET_BITS: u32, L: Layout, Q: Question<OFFSET_BITS, L>, G: Gate
     ghost can_run = { λ job. Q.fits job.question.now (reader_of job.reader.place.me.0).sizes.shape };
 
     ghost run_gives = { λ job result. IfOk result (λ r.
-        MakesRounds Q.operations (Q.answers job.question.now) L.lawful (reader_of job.reader.place.me.0) (reader_of r.reader.place.me.0) r.rounds.items
+        MakesRounds Q.operations (Q.answers job.question.now) L.lawful (reader_of job.reader.place.me.0)
+        (reader_of r.reader.place.me.0) r.rounds.items
         × (length r.rounds.items ≡ job.count) × (r.reader.place.table_id ≡ job.reader.place.table_id)) };
 
     fn run(self) -> Result<Reading<'a, OFFSET_BITS, L, Q::Answer>, AllocError> {

@@ -98,7 +98,8 @@ pub fn go_round<'a, const OFFSET_BITS: u32, L: Layout, Q: Question<OFFSET_BITS, 
     gate: &G,
 ) -> Result<Reading<'a, OFFSET_BITS, L, Q::Answer>, AllocError>
     requires { Q.fits question.now (reader_of reader.place.me.0).sizes.shape }
-    ensures rounds { IfOk result (λ r. MakesRounds Q.operations (Q.answers question.now) L.lawful (reader_of reader.entry.place.me.0) (reader_of r.reader.place.me.0) r.rounds.items) }
+    ensures rounds { IfOk result (λ r. MakesRounds Q.operations (Q.answers question.now) L.lawful (reader_of reader.entry.place.me.0)
+        (reader_of r.reader.place.me.0) r.rounds.items) }
     ensures count { IfOk result (λ r. length r.rounds.items ≡ count) }
     ensures table { IfOk result (λ r. r.reader.place.table_id ≡ reader.entry.place.table_id) }
 {

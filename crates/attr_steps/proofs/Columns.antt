@@ -69,7 +69,8 @@ value_typed : (type : ValueType) (ws : List ℕ) → type_of (value_of type ws) 
 value_typed types.Long ws = refl
 value_typed types.Text ws = refl
 
-items_typed : (type : ValueType) (m : Records) (es : List (ℕ × ℤ)) → AllByRecursion (λ value. type_of value ≡ type) (map (λ (item : Item). item.value) (map (λ (e : ℕ × ℤ). let item : Item = record { value = stored_value type m e.0; weight = e.1 } in item) es))
+items_typed : (type : ValueType) (m : Records) (es : List (ℕ × ℤ))
+    → AllByRecursion (λ value. type_of value ≡ type) (map (λ (item : Item). item.value) (map (λ (e : ℕ × ℤ). let item : Item = record { value = stored_value type m e.0; weight = e.1 } in item) es))
 items_typed type m [] = tt
 items_typed type m (e ∷ es) = (value_typed type (m e.0), items_typed type m es)
 

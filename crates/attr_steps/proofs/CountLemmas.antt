@@ -83,7 +83,8 @@ module _ {H : Type 0} (table : Table) (old new : Option Document) (begun now : L
         subst (λ n. MakesDocument begun later table old new n) next (record {
           few = few_then begun now later (document_nodes old new i) (document_records old new i) (field_nodes (weights_at old i) (weights_at new i)) (field_records (weights_at old i) (weights_at new i)) may made.few
               (at_items field_nodes more);
-          low = λ levels stay. few_then begun now later (low_document levels old new i) (document_records old new i) (low_nodes levels (weights_at old i) (weights_at new i)) (field_records (weights_at old i) (weights_at new i)) may
+          low = λ levels stay. few_then begun now later (low_document levels old new i) (document_records old new i) (low_nodes levels (weights_at old i) (weights_at new i))
+              (field_records (weights_at old i) (weights_at new i)) may
               (made.low levels (λ field less. stay field (omega arith)))
               (at_items (low_nodes levels) (low levels
               (subst (λ (o : Option (List Item)). StaysLow levels (column_of i table) (first_weights [] (unwrap_or o []))) (sym is) (stay i (omega arith)))));

@@ -62,7 +62,16 @@ pub made_step : {H : Type 0} {bits : ℕ} (fields : List Field) (old new : Ledge
     → MadeStep fields old new m n trees op next
 made_step fields old new m n trees op doc document next sized changes is = record {
   sized = sized;
-  steps = record { are_fields = changes.are_fields; turns = changes.turns; refer = changes.refer; flows = changes.flows; unsealed = changes.unsealed; words = changes.words; step_is = is ∙ ap Some (sym changes.table_is) };
+  steps = record {
+    are_fields = changes.are_fields;
+    turns = changes.turns;
+    refer = changes.refer;
+    flows = changes.flows;
+    unsealed = changes.unsealed;
+    words = changes.words;
+    step_is = is
+        ∙ ap Some (sym changes.table_is);
+  };
 }
 
 -- nothing was done

@@ -27,7 +27,8 @@ pub fn commit_attributes<const OFFSET_BITS: u32, S: Store<OFFSET_BITS, Layout = 
     requires sized { length roots.now ≡ length fields.now }
     requires few { length fields.now ≤ MOST_FIELDS }
     requires shape { (S.ledger store.old).shape ≡ shape_of (types_of fields.now) }
-    requires holds { HoldsAttributes OFFSET_BITS (S.ledger store.old) (S.records store.old) fields.now (trees_of fields.now roots.now) before }
+    requires holds { HoldsAttributes OFFSET_BITS (S.ledger store.old) (S.records store.old) fields.now
+        (trees_of fields.now roots.now) before }
     requires room { (S.ledger store.old).work.commits.last < (S.ledger store.old).work.sizes.commits }
     ensures commits { IfOk result (λ made. CommitsAttributes OFFSET_BITS fields.now (trees_of fields.now roots.now) operations
         (S.ledger store.old) (S.ledger store.new) (S.records store.old) (S.records store.new) made.0 made.1) }

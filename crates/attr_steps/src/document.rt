@@ -155,7 +155,8 @@ fn change_each<const OFFSET_BITS: u32, S: Store<OFFSET_BITS>>(
     ensures changes { OnOk result (ChangesFields fields.now (S.ledger store.old) (S.ledger store.new)
         (S.records store.old) (S.records store.new)
         (trees_of fields.now roots.old) doc (option_copied new.entry) (trees_of fields.now roots.new)) }
-    ensures counts { MakesDocument (S.ledger store.old) (S.ledger store.new) (table_at (S.records store.old) (trees_of fields.now roots.old))
+    ensures counts { MakesDocument (S.ledger store.old) (S.ledger store.new)
+        (table_at (S.records store.old) (trees_of fields.now roots.old))
         (option_copied old.entry) (option_copied new.entry) (length fields.now) }
     ensures refuses { IfErr result (RefusesOf (IsChangedWidth fields.now
         (table_with (table_at (S.records store.old) (trees_of fields.now roots.old)) doc (option_copied new.entry))
@@ -194,7 +195,8 @@ pub fn change_document<const OFFSET_BITS: u32, S: Store<OFFSET_BITS>>(
     ensures changes { IfOk result (λ next. ChangesFields fields.now (S.ledger store.old) (S.ledger store.new)
         (S.records store.old) (S.records store.new)
         (trees_of fields.now roots.now) doc (option_copied new.entry) (trees_of fields.now next.items)) }
-    ensures counts { MakesDocument (S.ledger store.old) (S.ledger store.new) (table_at (S.records store.old) (trees_of fields.now roots.now))
+    ensures counts { MakesDocument (S.ledger store.old) (S.ledger store.new)
+        (table_at (S.records store.old) (trees_of fields.now roots.now))
         (option_copied old.entry) (option_copied new.entry) (length fields.now) }
     ensures refuses { IfErr result (RefusesOf (IsChangedWidth fields.now
         (table_with (table_at (S.records store.old) (trees_of fields.now roots.now)) doc (option_copied new.entry))

@@ -39,7 +39,8 @@ pub fn change_unit<const OFFSET_BITS: u32, S: Store<OFFSET_BITS>>(
         (trees_of fields.now roots.now) doc (option_copied new.entry) (trees_of fields.now next.items)) }
     ensures left { OnErr result (LeavesEntries (S.ledger store.old) (S.ledger store.new) (S.records store.old) (S.records store.new)) }
     ensures refused { IfErr result (RefusesUnit (S.ledger store.old) (S.ledger store.new)) }
-    ensures counts { MakesDocument (S.ledger store.old) (S.ledger store.new) (table_at (S.records store.old) (trees_of fields.now roots.now))
+    ensures counts { MakesDocument (S.ledger store.old) (S.ledger store.new)
+        (table_at (S.records store.old) (trees_of fields.now roots.now))
         (option_copied old.entry) (option_copied new.entry) (length fields.now) }
     ensures spares { IfErr result (SparesAtMost (S.ledger store.new)
         (document_nodes (option_copied old.entry) (option_copied new.entry) (length fields.now))

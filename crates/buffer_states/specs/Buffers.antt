@@ -1,5 +1,6 @@
 -- The buffers of a store by number, and what each call makes of them.
-use Rattle.std.specs.Prelude.{◌≡◌, ℕ, ◌+◌, ◌-◌, ◌*◌, ◌<◌, ◌≤◌, ◌&&◌, Bool, true, false, nat_eq, nat_lt, not, if◌then◌else◌, List, map, length, slice_set, slice_index_or}
+use Rattle.std.specs.Prelude.{◌≡◌, ℕ, ◌+◌, ◌-◌, ◌*◌, ◌<◌, ◌≤◌, ◌&&◌, Bool, true, false, nat_eq, nat_lt, not, if◌then◌else◌, List, map}
+use Rattle.std.specs.Prelude.{length, slice_set, slice_index_or}
 use Rattle.buffer_states.specs.declared.BufferState.{BufferState}
 use Rattle.buffer_states.specs.declared.BufferState.TheVariants.{Free, Active, OnHold}
 use Rattle.buffer_states.specs.declared.Buffer.{Buffer}
@@ -115,7 +116,8 @@ gain_of buffer = if is_candidate buffer then buffer.dead else 0
 pub record IsVictim (buffers : List Buffer) (b : ℕ) : Type 0 where
   pub below : b < length buffers
   pub candidate : is_candidate (buffer_at buffers b) ≡ true
-  pub most : (a : ℕ) → a < length buffers → is_candidate (buffer_at buffers a) ≡ true → (buffer_at buffers a).dead ≤ (buffer_at buffers b).dead
+  pub most : (a : ℕ) → a < length buffers → is_candidate (buffer_at buffers a) ≡ true
+      → (buffer_at buffers a).dead ≤ (buffer_at buffers b).dead
   pub first : (a : ℕ) → a < b → is_candidate (buffer_at buffers a) ≡ true → (buffer_at buffers a).dead < (buffer_at buffers b).dead
 
 -- the free buffer of lowest number

@@ -109,7 +109,8 @@ module _ (P : Value → Type 0) where
   all_column_values (e ∷ column) all = AllByRecursion-append P (values_of e.1) (column_values column) (all_values e.1 all.0) (all_column_values column all.1)
 
 module _ (type : ValueType) (m : Records) (column : Column) where
-  all_in_column : (ps : List (ℕ × ℕ)) → AllByRecursion (IsDictionaryEntry type m) ps → AllByRecursion (IsRight type m column) ps → AllByRecursion (Contains (column_values column)) (map (λ (p : ℕ × ℕ). stored_value type m p.0) ps)
+  all_in_column : (ps : List (ℕ × ℕ)) → AllByRecursion (IsDictionaryEntry type m) ps → AllByRecursion (IsRight type m column) ps
+      → AllByRecursion (Contains (column_values column)) (map (λ (p : ℕ × ℕ). stored_value type m p.0) ps)
   all_in_column [] entries right = tt
   all_in_column (p ∷ ps) entries right =
       (value_of_some (stored_value type m p.0) column (subst (λ (list : List (ℕ × ℤ)). 0 < length list) right.0 (lists_filled m (list_form p.1) entries.0.1)), all_in_column ps entries.1 right.1)
@@ -121,7 +122,8 @@ module _ (type : ValueType) (m : Records) (column : Column) where
       let vs : List Value = map (λ (p : ℕ × ℕ). stored_value type m p.0) ps in
       let keys = index_keys type m ps in (
         λ among. All-contains (Contains (column_values column)) vs value (All-from_recursion (Contains (column_values column)) vs (all_in_column ps entries right)) (subst (λ ks. Contains ks value) keys among),
-        λ among. subst (λ ks. Contains ks value) (sym keys) (All-contains (Contains vs) (column_values column) value (All-from_recursion (Contains vs) (column_values column) (all_column_values (Contains vs) column covered)) among),
+        λ among. subst (λ ks. Contains ks value) (sym keys) (All-contains (Contains vs) (column_values column) value
+            (All-from_recursion (Contains vs) (column_values column) (all_column_values (Contains vs) column covered)) among),
       )
 
 -- the other way: the values of an index cover the items of its column

@@ -57,7 +57,8 @@ fn read_values(
     dictionary: u64,
 ) -> Result<Vec<Value>, CheckFault>
     ensures tree { OnOk result (IsTree value_cmp (stored_value value_type) (seen records.now) dictionary) }
-    ensures entries { OnOk result (AllByRecursion (IsDictionaryEntry value_type (seen records.now)) (tree_pairs (seen records.now) dictionary)) }
+    ensures entries { OnOk result (AllByRecursion (IsDictionaryEntry value_type (seen records.now))
+        (tree_pairs (seen records.now) dictionary)) }
     ensures lists { OnOk result (AllByRecursion (λ (p : ℕ × ℕ).
         postings_at (seen records.now) (list_form p.1) ≡ documents_with (stored_value value_type (seen records.now) p.0) column.now)
         (tree_pairs (seen records.now) dictionary)) }

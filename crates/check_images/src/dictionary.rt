@@ -19,7 +19,8 @@ use std::collections::BTreeMap;
 
 /// A document with the weight of its first item of a value, if it has one.
 fn document_with(value: &Value, document: u64, items: &[Item]) -> Option<(u64, i32)>
-    ensures { result ≡ option_map (λ (item : Item). (document, item.weight)) (find (λ (item : Item). is_eq (value_cmp value.now item.value)) items.now) }
+    ensures { result ≡ option_map (λ (item : Item). (document, item.weight))
+        (find (λ (item : Item). is_eq (value_cmp value.now item.value)) items.now) }
 {
     for item in items {
         if compare(value, &item.value).is_eq() {
@@ -56,10 +57,12 @@ fn read_entry(
     word: u64,
 ) -> Result<Value, CheckFault>
     ensures entry { OnOk result (IsDictionaryEntry value_type (seen records.now) (reference, word)) }
-    ensures list { OnOk result (postings_at (seen records.now) (list_form word) ≡ documents_with (stored_value value_type (seen records.now) reference) column.now) }
+    ensures list { OnOk result (postings_at (seen records.now) (list_form word)
+        ≡ documents_with (stored_value value_type (seen records.now) reference) column.now) }
     ensures value { IfOk result (λ value. value ≡ stored_value value_type (seen records.now) reference) }
     ensures exact { IfErr result (Refutes (IsDictionaryEntry value_type (seen records.now) (reference, word)
-        × (postings_at (seen records.now) (list_form word) ≡ documents_with (stored_value value_type (seen records.now) reference) column.now))) }
+        × (postings_at (seen records.now) (list_form word)
+        ≡ documents_with (stored_value value_type (seen records.now) reference) column.now))) }
 {
     let value = match read_value(alloc, value_type, words_at(records, reference))? {
         Some(value) => value,
@@ -83,11 +86,13 @@ pub fn read_dictionary(
 ) -> Result<Vec<Value>, CheckFault>
     ensures entries { OnOk result (AllByRecursion (IsDictionaryEntry value_type (seen records.now)) pairs.now) }
     ensures lists { OnOk result (AllByRecursion (λ (p : ℕ × ℕ).
-        postings_at (seen records.now) (list_form p.1) ≡ documents_with (stored_value value_type (seen records.now) p.0) column.now) pairs.now) }
+        postings_at (seen records.now) (list_form p.1) ≡ documents_with (stored_value value_type (seen records.now) p.0) column.now)
+        pairs.now) }
     ensures values { IfOk result (λ values. values.items ≡ map (λ (p : ℕ × ℕ). stored_value value_type (seen records.now) p.0) pairs.now) }
     ensures exact { IfErr result (Refutes (AllByRecursion (IsDictionaryEntry value_type (seen records.now)) pairs.now
         × AllByRecursion (λ (p : ℕ × ℕ).
-        postings_at (seen records.now) (list_form p.1) ≡ documents_with (stored_value value_type (seen records.now) p.0) column.now) pairs.now)) }
+        postings_at (seen records.now) (list_form p.1) ≡ documents_with (stored_value value_type (seen records.now) p.0) column.now)
+        pairs.now)) }
 {
     let mut values = Vec::new(alloc);
     for pair in pairs {

@@ -59,7 +59,8 @@ fn check_attributes(
     ensures lawful { OnOk result (AreLawfulAttributes (seen records.now) (attributes_from first (types_of fields.now) words.now)) }
     ensures table { IfOk result (λ table. table.items
         ≡ table_of_columns (columns_at (seen records.now) (attributes_from first (types_of fields.now) words.now))) }
-    ensures exact { IfErr result (Refutes (AreLawfulAttributes (seen records.now) (attributes_from first (types_of fields.now) words.now))) }
+    ensures exact { IfErr result (Refutes (AreLawfulAttributes (seen records.now)
+        (attributes_from first (types_of fields.now) words.now))) }
 {
     let [field, rest @ ..] = fields else {
         return Ok(Vec::new(alloc));

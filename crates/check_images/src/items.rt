@@ -104,7 +104,8 @@ pub fn read_documents(
     ensures items { OnOk result (AllByRecursion (λ (p : ℕ × ℕ). AreItemRecords kind value_type (seen records.now) p.1) pairs.now) }
     ensures column { IfOk result (λ column. column.items
         ≡ map (λ (p : ℕ × ℕ). (p.0, items_at kind value_type (seen records.now) p.1)) pairs.now) }
-    ensures exact { IfErr result (Refutes (AllByRecursion (λ (p : ℕ × ℕ). AreItemRecords kind value_type (seen records.now) p.1) pairs.now)) }
+    ensures exact { IfErr result (Refutes (AllByRecursion
+        (λ (p : ℕ × ℕ). AreItemRecords kind value_type (seen records.now) p.1) pairs.now)) }
 {
     let mut column = Vec::new(alloc);
     for pair in pairs {

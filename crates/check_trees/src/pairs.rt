@@ -32,7 +32,8 @@ fn check_order(
 ) -> Result<(), CheckFault>
     requires { PairsAscend keys (seen records.now) pairs.now }
     ensures ascends { OnOk result ((value : _) → PairsAscend keys (seen records.now) (pairs.now ++ ((key, value) ∷ []))) }
-    ensures exact { IfErr result (λ fault. (value : _) → Refutes (PairsAscend keys (seen records.now) (pairs.now ++ ((key, value) ∷ []))) fault) }
+    ensures exact { IfErr result (λ fault. (value : _)
+        → Refutes (PairsAscend keys (seen records.now) (pairs.now ++ ((key, value) ∷ []))) fault) }
 {
     if pairs.is_empty() {
         return Ok(());

@@ -1,5 +1,6 @@
 -- The ledger after a commit was counted.
-use Rattle.std.proofs.Common.{◌≡◌, ℕ, zero, suc, ◌+◌, ◌*◌, ◌/◌, ◌<◌, ◌≤◌, Bool, true, false, ◌&&◌, ◌||◌, ◌⊎◌, inl, inr, cond, eqb, leb, List, [], ◌∷◌, map, length, get_or, Option, None, Some, All, refl, sym, ap, subst, ◌∙◌, arith}
+use Rattle.std.proofs.Common.{◌≡◌, ℕ, zero, suc, ◌+◌, ◌*◌, ◌/◌, ◌<◌, ◌≤◌, Bool, true, false, ◌&&◌, ◌||◌, ◌⊎◌, inl, inr, cond, eqb, leb, List, [], ◌∷◌, map, length, get_or, Option, None, Some, All, refl, sym, ap, subst}
+use Rattle.std.proofs.Common.{◌∙◌, arith}
 use Rattle.std.specs.Prelude.{nat_lt}
 use Rattle.std.specs.List.{count_by, list_any}
 use Rattle.std.proofs.Math.Nat.{mul-add, mul_comm, mul-le-mul_right, div-mul-le_self}
@@ -133,7 +134,8 @@ module _ (e : EntriesView) (number : ℕ) (next : e.last + 1 ≡ number) where
         (let long = length-map held (tagged_by e.generation number) in
         let low : j < length held = omega (arith, below, long) in
         λ same. k.apart i j d before low
-        (sym (ap (λ (h : HeldEntry). h.entry) (read-map (tagged_by e.generation number) held i d d (omega (arith, before, low)))) ∙ same ∙ ap (λ (h : HeldEntry). h.entry) (read-map (tagged_by e.generation number) held j d d low)));
+        (sym (ap (λ (h : HeldEntry). h.entry) (read-map (tagged_by e.generation number) held i d d (omega (arith, before, low)))) ∙ same
+        ∙ ap (λ (h : HeldEntry). h.entry) (read-map (tagged_by e.generation number) held j d d low)));
     all = λ r after g is. any-same r held ∙ k.all r after g is;
   }
     where
@@ -176,7 +178,8 @@ module _ (bits : ℕ) (v : LedgerView) (held : List HeldEntry) (room unheld : �
   held-words : (b : ℕ) → (buffer_at v.buffers b).held + (buffer_at v.buffers b).dropped ≡ (shelf b).width * count_by (is_held number) (shelf b).states
   held-words b =
       let parts = mul-add (shelf b).width (count_by (is_held v.last) (shelf b).states) (count_by (is_since v.last) (shelf b).states) in
-      let all : (shelf b).width * count_by (is_held number) (shelf b).states ≡ (shelf b).width * (count_by (is_held v.last) (shelf b).states + count_by (is_since v.last) (shelf b).states) = ap (λ n. (shelf b).width * n) (sums b) in
+      let all : (shelf b).width * count_by (is_held number) (shelf b).states ≡ (shelf b).width * (count_by (is_held v.last) (shelf b).states + count_by (is_since v.last) (shelf b).states) =
+      ap (λ n. (shelf b).width * n) (sums b) in
       omega (arith, parts, all, (k.counted b).held, (k.counted b).dropped)
 
   abbrev pub committed : LedgerView

@@ -79,8 +79,20 @@ module _ (words last : ℕ) (buffer : Buffer) (s : ShelfView) (k : IsCounted wor
               (k.dead ∙ ap (λ n. s.width * n) (sym (count-keep is_dead s.states x LetGo there (sym (ap is_dead is)))))
               (k.dropped ∙ ap (λ n. s.width * n) (sym (count-keep (is_since last) s.states x LetGo there (sym (ap (is_since last) is)))))
           by_test false = with-counts (DroppedNow since) (buffer.dead + buffer.width) (buffer.dropped + buffer.width) (sym (ap (is_held last) is))
-              (omega (arith, k.dead, wide, words-more s.width (count_by is_dead s.states) (count_by is_dead (set s.states x (DroppedNow since))) (count-more is_dead s.states x (DroppedNow since) there (ap is_dead is) refl)))
-              (omega (arith, k.dropped, wide, words-more s.width (count_by (is_since last) s.states) (count_by (is_since last) (set s.states x (DroppedNow since))) (count-more (is_since last) s.states x (DroppedNow since) there (ap (is_since last) is) refl)))
+              (omega (
+                arith,
+                k.dead,
+                wide,
+                words-more s.width (count_by is_dead s.states) (count_by is_dead (set s.states x (DroppedNow since)))
+                    (count-more is_dead s.states x (DroppedNow since) there (ap is_dead is) refl),
+              ))
+              (omega (
+                arith,
+                k.dropped,
+                wide,
+                words-more s.width (count_by (is_since last) s.states) (count_by (is_since last) (set s.states x (DroppedNow since)))
+                    (count-more (is_since last) s.states x (DroppedNow since) there (ap (is_since last) is) refl),
+              ))
       by_state LetGo is used = absurd (cc)
       by_state (DroppedNow since) is used = absurd (cc)
       by_state (Dropped since g) is used = absurd (cc)

@@ -95,7 +95,8 @@ module _ (bits : ℕ) (v : LedgerView) (held : List HeldEntry) (room unheld : �
       let b = buffer_of bits r in
       let here : IsEntry bits e.count e.words (shelf b).width r = subst (λ w. IsEntry bits e.count e.words w r) (width-is b) entry in
       let low = place-low bits e.count e.words (shelf b).width r here in
-      let is : (shelf b).room ≡ capacity e.words (shelf b).width = (k.counted b).of.room ∙ ap (λ t. cond t 0 (capacity e.words (shelf b).width)) (ne_eqb (shelf b).width 0 (λ z. (let wide = here.wide in omega (arith, wide, z)))) in
+      let is : (shelf b).room ≡ capacity e.words (shelf b).width =
+      (k.counted b).of.room ∙ ap (λ t. cond t 0 (capacity e.words (shelf b).width)) (ne_eqb (shelf b).width 0 (λ z. (let wide = here.wide in omega (arith, wide, z)))) in
       omega (arith, low, is)
 
   filled-is : (r : ℕ) → IsEntryOf bits e r → e.state r ≡ None → (e.of_width (width_of e (buffer_of bits r))).filled ≡ Some (buffer_of bits r)

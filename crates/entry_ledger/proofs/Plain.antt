@@ -125,7 +125,11 @@ module _ (bits : ℕ) (v : LedgerView) (held : List HeldEntry) (room unheld : �
       few_made = k.sound.few_made;
       whole = k.sound.whole;
     };
-    list = record { each = All-weaker (λ h. is_in_list bits (entries_in bits v) h ≡ true) (λ h. is_in_list bits (entries_in bits (record v { generation = generation })) h ≡ true) each held k.list.each; apart = k.list.apart; all = k.list.all };
+    list = record {
+      each = All-weaker (λ h. is_in_list bits (entries_in bits v) h ≡ true) (λ h. is_in_list bits (entries_in bits (record v { generation = generation })) h ≡ true) each held k.list.each;
+      apart = k.list.apart;
+      all = k.list.all;
+    };
     unheld_is = k.unheld_is;
     fits = k.fits;
   }
@@ -133,7 +137,9 @@ module _ (bits : ℕ) (v : LedgerView) (held : List HeldEntry) (room unheld : �
       each : (h : HeldEntry) → is_in_list bits (entries_in bits v) h ≡ true → is_in_list bits (entries_in bits (record v { generation = generation })) h ≡ true
       each h = by_state (is_state_active ((entries_in bits v).mark (buffer_of bits h.entry)).state)
         where
-          by_state : (a : Bool) → cond a (tag_fits v.last v.generation h.tag ((entries_in bits v).state h.entry)) (cond (is_on_hold ((entries_in bits v).mark (buffer_of bits h.entry)).state) (tag_below ((entries_in bits v).mark (buffer_of bits h.entry)).generation h.tag) false) ≡ true
-              → cond a (tag_fits v.last generation h.tag ((entries_in bits v).state h.entry)) (cond (is_on_hold ((entries_in bits v).mark (buffer_of bits h.entry)).state) (tag_below ((entries_in bits v).mark (buffer_of bits h.entry)).generation h.tag) false) ≡ true
+          by_state : (a : Bool) → cond a (tag_fits v.last v.generation h.tag ((entries_in bits v).state h.entry))
+              (cond (is_on_hold ((entries_in bits v).mark (buffer_of bits h.entry)).state) (tag_below ((entries_in bits v).mark (buffer_of bits h.entry)).generation h.tag) false) ≡ true
+              → cond a (tag_fits v.last generation h.tag ((entries_in bits v).state h.entry))
+              (cond (is_on_hold ((entries_in bits v).mark (buffer_of bits h.entry)).state) (tag_below ((entries_in bits v).mark (buffer_of bits h.entry)).generation h.tag) false) ≡ true
           by_state true is = tagged-fits generation h.tag ((entries_in bits v).state h.entry) (tagged h.entry) is
           by_state false is = is

@@ -31,7 +31,10 @@ module _ (bits : â„•) (v : LedgerView) (held : List HeldEntry) (room unheld : â„
   shelf = record (shelf_at v.shelves.shelves b) { sealed = true }
 
   abbrev pub sealed_view : LedgerView
-  sealed_view = record v { shelves = record v.shelves { shelves = set v.shelves.shelves b (record (shelf_at v.shelves.shelves b) { sealed = true }) }; buffers = set v.buffers b (record (buffer_at v.buffers b) { sealed = true }) }
+  sealed_view = record v {
+    shelves = record v.shelves { shelves = set v.shelves.shelves b (record (shelf_at v.shelves.shelves b) { sealed = true }) };
+    buffers = set v.buffers b (record (buffer_at v.buffers b) { sealed = true });
+  }
 
   h : b < length v.shelves.shelves
   h = (active-shelf bits v held room unheld k b active).0

@@ -194,18 +194,24 @@ module _ (words last : ℕ) (buffer : Buffer) (s : ShelfView) (k : IsCounted wor
     where
       by_state : (a : Bool) (was : State) → state_at s.states x ≡ was → is_touched was ≡ true → IsCounted words last (settled_buffer a was buffer) (with_state_at s x (settled_state a last generation was))
       by_state true Free e t = absurd (cc)
-      by_state true Returned e t = with-counts words last buffer s k x there wide Free buffer.dead buffer.dropped (sym (ap (is_held last) e)) (stays is_dead Free buffer.dead k.dead (sym (ap is_dead e))) (stays (is_since last) Free buffer.dropped k.dropped (sym (ap (is_since last) e)))
-      by_state true Made e t = with-counts words last buffer s k x there wide (InUse last) buffer.dead buffer.dropped (sym (ap (is_held last) e)) (stays is_dead (InUse last) buffer.dead k.dead (sym (ap is_dead e))) (stays (is_since last) (InUse last) buffer.dropped k.dropped (sym (ap (is_since last) e)))
+      by_state true Returned e t = with-counts words last buffer s k x there wide Free buffer.dead buffer.dropped (sym (ap (is_held last) e)) (stays is_dead Free buffer.dead k.dead (sym (ap is_dead e)))
+          (stays (is_since last) Free buffer.dropped k.dropped (sym (ap (is_since last) e)))
+      by_state true Made e t = with-counts words last buffer s k x there wide (InUse last) buffer.dead buffer.dropped (sym (ap (is_held last) e)) (stays is_dead (InUse last) buffer.dead k.dead (sym (ap is_dead e)))
+          (stays (is_since last) (InUse last) buffer.dropped k.dropped (sym (ap (is_since last) e)))
       by_state true (InUse after) e t = absurd (cc)
-      by_state true LetGo e t = with-counts words last buffer s k x there wide Free (buffer.dead + buffer.width) buffer.dropped (sym (ap (is_held last) e)) (rises is_dead Free buffer.dead k.dead (ap is_dead e) refl) (stays (is_since last) Free buffer.dropped k.dropped (sym (ap (is_since last) e)))
+      by_state true LetGo e t = with-counts words last buffer s k x there wide Free (buffer.dead + buffer.width) buffer.dropped (sym (ap (is_held last) e)) (rises is_dead Free buffer.dead k.dead (ap is_dead e) refl)
+          (stays (is_since last) Free buffer.dropped k.dropped (sym (ap (is_since last) e)))
       by_state true (DroppedNow after) e t = with-counts words last buffer s k x there wide (Dropped last generation) buffer.dead buffer.dropped (ap (λ u. cond u false true) (eqb-self last) ∙ sym (ap (is_held last) e))
           (stays is_dead (Dropped last generation) buffer.dead k.dead (sym (ap is_dead e))) (stays (is_since last) (Dropped last generation) buffer.dropped k.dropped (eqb-self last ∙ sym (ap (is_since last) e)))
       by_state true (Dropped after g) e t = absurd (cc)
       by_state false Free e t = absurd (cc)
-      by_state false Returned e t = with-counts words last buffer s k x there wide Free buffer.dead buffer.dropped (sym (ap (is_held last) e)) (stays is_dead Free buffer.dead k.dead (sym (ap is_dead e))) (stays (is_since last) Free buffer.dropped k.dropped (sym (ap (is_since last) e)))
-      by_state false Made e t = with-counts words last buffer s k x there wide Free (buffer.dead + buffer.width) buffer.dropped (sym (ap (is_held last) e)) (rises is_dead Free buffer.dead k.dead (ap is_dead e) refl) (stays (is_since last) Free buffer.dropped k.dropped (sym (ap (is_since last) e)))
+      by_state false Returned e t = with-counts words last buffer s k x there wide Free buffer.dead buffer.dropped (sym (ap (is_held last) e)) (stays is_dead Free buffer.dead k.dead (sym (ap is_dead e)))
+          (stays (is_since last) Free buffer.dropped k.dropped (sym (ap (is_since last) e)))
+      by_state false Made e t = with-counts words last buffer s k x there wide Free (buffer.dead + buffer.width) buffer.dropped (sym (ap (is_held last) e)) (rises is_dead Free buffer.dead k.dead (ap is_dead e) refl)
+          (stays (is_since last) Free buffer.dropped k.dropped (sym (ap (is_since last) e)))
       by_state false (InUse after) e t = absurd (cc)
-      by_state false LetGo e t = with-counts words last buffer s k x there wide (InUse last) buffer.dead buffer.dropped (sym (ap (is_held last) e)) (stays is_dead (InUse last) buffer.dead k.dead (sym (ap is_dead e))) (stays (is_since last) (InUse last) buffer.dropped k.dropped (sym (ap (is_since last) e)))
+      by_state false LetGo e t = with-counts words last buffer s k x there wide (InUse last) buffer.dead buffer.dropped (sym (ap (is_held last) e)) (stays is_dead (InUse last) buffer.dead k.dead (sym (ap is_dead e)))
+          (stays (is_since last) (InUse last) buffer.dropped k.dropped (sym (ap (is_since last) e)))
       by_state false (DroppedNow after) e t = with-counts words last buffer s k x there wide (InUse after) (buffer.dead - buffer.width) (buffer.dropped - buffer.width) (sym (ap (is_held last) e))
           (falls is_dead (InUse after) buffer.dead k.dead (ap is_dead e) refl).1 (falls (is_since last) (InUse after) buffer.dropped k.dropped (ap (is_since last) e) refl).1
       by_state false (Dropped after g) e t = absurd (cc)
@@ -219,7 +225,8 @@ list-more bits e new held r k last generation marks states active was = record {
   apart = all_pairs_push (λ a b. a.entry ≢ b.entry) held (untagged r) k.apart (λ i d below same.
       absent (get_or held i d) (All-get_or (λ h. is_in_list bits e h ≡ true) held i d below k.each) same);
   all = λ q after g is. state-cases e.state r (Dropped e.last e.generation) q (Dropped after g) (sym (states q) ∙ is)
-      (λ same new_is. list_any-append (λ (h : HeldEntry). eqb h.entry q) held (untagged r ∷ []) ∙ ap (λ t. list_any (λ (h : HeldEntry). eqb h.entry q) held || (t || false)) (eq-eqb r q (sym same)) ∙ or-true (list_any (λ (h : HeldEntry). eqb h.entry q) held))
+      (λ same new_is. list_any-append (λ (h : HeldEntry). eqb h.entry q) held (untagged r ∷ []) ∙ ap (λ t. list_any (λ (h : HeldEntry). eqb h.entry q) held || (t || false)) (eq-eqb r q (sym same))
+      ∙ or-true (list_any (λ (h : HeldEntry). eqb h.entry q) held))
       (λ before. list_any-append (λ (h : HeldEntry). eqb h.entry q) held (untagged r ∷ []) ∙ ap (λ t. t || list_any (λ (h : HeldEntry). eqb h.entry q) (untagged r ∷ [])) (k.all q after g before));
 }
   where
@@ -232,7 +239,8 @@ list-more bits e new held r k last generation marks states active was = record {
     absent h is same =
         let here : is_state_active (e.mark (buffer_of bits h.entry)).state ≡ true = ap (λ q. is_state_active (e.mark (buffer_of bits q)).state) same ∙ active in
         let fits : tag_fits e.last e.generation h.tag (e.state h.entry) ≡ true =
-        sym (ap (λ t. cond t (tag_fits e.last e.generation h.tag (e.state h.entry)) (cond (is_on_hold (e.mark (buffer_of bits h.entry)).state) (tag_below (e.mark (buffer_of bits h.entry)).generation h.tag) false)) here) ∙ is in
+        sym (ap (λ t. cond t (tag_fits e.last e.generation h.tag (e.state h.entry)) (cond (is_on_hold (e.mark (buffer_of bits h.entry)).state) (tag_below (e.mark (buffer_of bits h.entry)).generation h.tag) false)) here)
+        ∙ is in
         true≢false (sym fits ∙ not-tagged e.last e.generation h.tag (e.state h.entry) (λ after g d. was after g (ap e.state (sym same) ∙ d)))
 
     same-view : (h : HeldEntry) (state : Option State) → new.state h.entry ≡ state → is_in_list bits new h ≡ held_fits e.last e.generation (e.mark (buffer_of bits h.entry)) h.tag state
@@ -247,5 +255,6 @@ list-more bits e new held r k last generation marks states active was = record {
 
     here : is_in_list bits new (untagged r) ≡ true
     here = same-view (untagged r) (Some (Dropped e.last e.generation)) (states r ∙ ap (λ t. cond t (Some (Dropped e.last e.generation)) (e.state r)) (eqb-self r))
-        ∙ ap (λ t. cond t (tag_fits e.last e.generation None (Some (Dropped e.last e.generation))) (cond (is_on_hold (e.mark (buffer_of bits r)).state) (tag_below (e.mark (buffer_of bits r)).generation None) false)) active
+        ∙ ap (λ t. cond t (tag_fits e.last e.generation None (Some (Dropped e.last e.generation))) (cond (is_on_hold (e.mark (buffer_of bits r)).state) (tag_below (e.mark (buffer_of bits r)).generation None) false))
+        active
         ∙ ap (λ t. t && eqb e.generation e.generation) (eqb-self e.last) ∙ eqb-self e.generation

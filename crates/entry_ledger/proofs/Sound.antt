@@ -108,7 +108,8 @@ list-keep bits e new held r state k last generation marks states active was now 
       | inl same ↦
           (let here : is_state_active (e.mark (buffer_of bits h.entry)).state ≡ true = ap (λ q. is_state_active (e.mark (buffer_of bits q)).state) same ∙ active in
           let fits : tag_fits e.last e.generation h.tag (e.state h.entry) ≡ true =
-          sym (ap (λ t. cond t (tag_fits e.last e.generation h.tag (e.state h.entry)) (cond (is_on_hold (e.mark (buffer_of bits h.entry)).state) (tag_below (e.mark (buffer_of bits h.entry)).generation h.tag) false)) here) ∙ is in
+          sym (ap (λ t. cond t (tag_fits e.last e.generation h.tag (e.state h.entry)) (cond (is_on_hold (e.mark (buffer_of bits h.entry)).state) (tag_below (e.mark (buffer_of bits h.entry)).generation h.tag) false))
+          here) ∙ is in
           absurd (true≢false (sym fits ∙ not-tagged e.last e.generation h.tag (e.state h.entry) (λ after g d. was after g (ap e.state (sym same) ∙ d)))))
       | inr ne ↦ moved h (e.state h.entry) refl (states h.entry ∙ ap (λ t. cond t (Some state) (e.state h.entry)) (ne_eqb h.entry r ne)) ∙ is
     ]

@@ -1,5 +1,6 @@
 -- What is kept where an entry was made.
-use Rattle.std.proofs.Common.{◌≡◌, ◌≢◌, ◌⊎◌, ℕ, zero, suc, ◌+◌, ◌*◌, ◌/◌, ◌<◌, ◌≤◌, Bool, true, false, cond, List, [], ◌∷◌, length, set, Option, None, Some, refl, sym, ap, subst, ◌∙◌, arith, inl, inr, get_or-set_other, get_or-set_same}
+use Rattle.std.proofs.Common.{◌≡◌, ◌≢◌, ◌⊎◌, ℕ, zero, suc, ◌+◌, ◌*◌, ◌/◌, ◌<◌, ◌≤◌, Bool, true, false, cond, List, [], ◌∷◌, length, set, Option, None, Some, refl, sym, ap, subst, ◌∙◌, arith, inl, inr, get_or-set_other}
+use Rattle.std.proofs.Common.{get_or-set_same}
 use Rattle.std.specs.List.{slice_get, sum_by, count_by}
 use Rattle.std.proofs.Math.ListN.{length-set}
 use Rattle.std.proofs.Math.Nat.{mul_comm, mul-le-mul_right, div-mul-le_self, div-le_self}
@@ -226,7 +227,8 @@ module _ (bits : ℕ) (v : LedgerView) (held : List HeldEntry) (room unheld : �
             → count_by (is_buffer_of w) v.buffers * capacity v.shelves.words w ≤ made_at new.made w + unmade_of_width (set v.shelves.shelves t.buffer (with_made shelf t.place)) w
         enough w is (inl same) =
             let made : made_at new.made w ≡ one_more (made_at v.shelves.made w) =
-            ap (λ (u : EntriesView). (u.of_width w).made) take-entries ∙ ap (λ u. (cond u (took_spare (e.of_width width)) (e.of_width w)).made) (eq-eqb w width same) ∙ ap (λ n. one_more (made_at v.shelves.made n)) (sym same) in
+            ap (λ (u : EntriesView). (u.of_width w).made) take-entries ∙ ap (λ u. (cond u (took_spare (e.of_width width)) (e.of_width w)).made) (eq-eqb w width same)
+            ∙ ap (λ n. one_more (made_at v.shelves.made n)) (sym same) in
             enough-made (count_by (is_buffer_of w) v.buffers * capacity v.shelves.words w) (made_at v.shelves.made w) (made_at new.made w) (unmade_of_width v.shelves.shelves w)
             (unmade_of_width (set v.shelves.shelves t.buffer (with_made shelf t.place)) w) (few-entries v.buffers v.shelves.words w k.product) (k.sound.few_made w) (k.enough w is)
             (unmade-take v.shelves.shelves t.buffer t.place takes.below takes.is_open w) made

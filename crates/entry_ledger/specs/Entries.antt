@@ -1,5 +1,6 @@
 -- What each entry of all buffers is, and what always holds of it.
-use Rattle.std.specs.Prelude.{◌≡◌, ℕ, zero, suc, ◌+◌, ◌*◌, ◌/◌, ◌<◌, ◌≤◌, Bool, true, false, not, ◌&&◌, nat_eq, nat_lt, nat_le, if◌then◌else◌, List, length, Option, None, Some}
+use Rattle.std.specs.Prelude.{◌≡◌, ℕ, zero, suc, ◌+◌, ◌*◌, ◌/◌, ◌<◌, ◌≤◌, Bool, true, false, not, ◌&&◌, nat_eq, nat_lt, nat_le}
+use Rattle.std.specs.Prelude.{if◌then◌else◌, List, length, Option, None, Some}
 use Rattle.std.specs.List.{IsDistinct, All}
 use Rattle.entry_ref.specs.References.{buffer_of, packed}
 use Rattle.image_base.specs.Places.{IsEntry}
@@ -126,9 +127,11 @@ pub record IsGood (bits : ℕ) (e : EntriesView) : Type 0 where
   pub sealed : (b : ℕ) → (e.mark b).sealed ≡ true → IsSealed e b
   pub finished : (b : ℕ) → e.finished ≡ Some b → (e.mark b).sealed ≡ true
   -- an entry that was not taken lies in the filled buffer of its width
-  pub filled : (r : ℕ) → IsEntryOf bits e r → e.state r ≡ None → (e.of_width (width_of e (buffer_of bits r))).filled ≡ Some (buffer_of bits r)
+  pub filled : (r : ℕ) → IsEntryOf bits e r → e.state r ≡ None
+      → (e.of_width (width_of e (buffer_of bits r))).filled ≡ Some (buffer_of bits r)
   -- distinct entries that a make can take are counted
-  pub spares : (w : ℕ) (refs : List ℕ) → is_width w ≡ true → IsDistinct nat_eq refs → All (IsSpare bits e w) refs → length refs ≤ (e.of_width w).spare
+  pub spares : (w : ℕ) (refs : List ℕ) → is_width w ≡ true → IsDistinct nat_eq refs → All (IsSpare bits e w) refs
+      → length refs ≤ (e.of_width w).spare
   -- a width has at most one buffer more than its entries made would fill
   pub few : (w : ℕ) → is_width w ≡ true → (e.of_width w).buffers ≤ 1 + (e.of_width w).made / capacity e.words w
   pub few_made : (w : ℕ) → (e.of_width w).made ≤ 18446744073709551615

@@ -1,5 +1,6 @@
 -- How the entries are kept: shelves, buffers, and the list of what was dropped. Callers see specs/Entries and specs/Calls alone.
-use Rattle.std.specs.Prelude.{◌≡◌, ◌≢◌, ℕ, suc, ◌+◌, ◌-◌, ◌*◌, ◌<◌, ◌≤◌, ◌^◌, ◌&&◌, not, Bool, true, false, nat_eq, nat_lt, nat_le, if◌then◌else◌, List, [], ◌∷◌, ◌++◌, length, sum_by, count_by, All, AllPairs, Option, None, Some}
+use Rattle.std.specs.Prelude.{◌≡◌, ◌≢◌, ℕ, suc, ◌+◌, ◌-◌, ◌*◌, ◌<◌, ◌≤◌, ◌^◌, ◌&&◌, not, Bool, true, false, nat_eq, nat_lt, nat_le}
+use Rattle.std.specs.Prelude.{if◌then◌else◌, List, [], ◌∷◌, ◌++◌, length, sum_by, count_by, All, AllPairs, Option, None, Some}
 use Rattle.std.specs.List.{slice_get, list_any}
 use Rattle.entry_ref.specs.References.{buffer_of, offset_of, buffer_limit, offset_limit}
 use Rattle.store_api.specs.Ledgers.{OfWidth, is_width, is_this, widths, capacity, buffers_in}
@@ -90,7 +91,8 @@ is_dropped_now state = false
 abbrev pub settled_buffer : Bool → State → Buffer → Buffer
 settled_buffer true LetGo buffer = record buffer { dead = buffer.dead + buffer.width }
 settled_buffer false Made buffer = record buffer { dead = buffer.dead + buffer.width }
-settled_buffer false (DroppedNow after) buffer = record buffer { dead = buffer.dead - buffer.width; dropped = buffer.dropped - buffer.width }
+settled_buffer false (DroppedNow after) buffer =
+    record buffer { dead = buffer.dead - buffer.width; dropped = buffer.dropped - buffer.width }
 settled_buffer accepts state buffer = buffer
 
 -- settling it makes an entry dead
@@ -116,7 +118,8 @@ pub record CanRelease (bits : ℕ) (shelves : ShelvesView) (buffers : List Buffe
 
 -- it is free then
 pub record Releases (bits r : ℕ) (old new : ShelvesView) (buffers counted : List Buffer) (unheld left : ℕ) : Type 0 where
-  pub shelves : new ≡ with_shelf old (buffer_of bits r) (with_state_at (shelf_at old.shelves (buffer_of bits r)) (offset_of bits r - 1) FreeState)
+  pub shelves : new ≡ with_shelf old (buffer_of bits r)
+      (with_state_at (shelf_at old.shelves (buffer_of bits r)) (offset_of bits r - 1) FreeState)
   pub buffers_are : counted ≡ with_released buffers (buffer_of bits r)
   pub left_is : left ≡ unheld + 1
 

@@ -185,6 +185,7 @@ impl Shelves {
     }
 
     /// Ends the unit for one entry that it changed: what it did is kept, or taken back. None where there is no more.
+    #[inline(always)]
     pub fn settle(&mut self, accepts: bool, last: u32, generation: u64) -> Option<Changed>
         ensures none { IfNone result ((b : ℕ) → count_by is_touched (shelf_at self.old.shelves b).states ≡ 0) }
         ensures left { IfNone result (self.new ≡ self.old) }

@@ -1,5 +1,6 @@
 -- What a line says fits the attribute: its items are lawful, and its values are of the type.
-use Rattle.std.proofs.Common.{◌≡◌, ℕ, ℤ, suc, ◌+◌, ◌≤◌, Bool, true, false, cond, List, [], ◌∷◌, length, map, Option, Some, None, option_map, option_and_then, is_some, Result, Ok, Err, Less, Equal, Greater, refl, sym, ap, subst, arith, nat_le}
+use Rattle.std.proofs.Common.{◌≡◌, ℕ, ℤ, suc, ◌+◌, ◌≤◌, Bool, true, false, cond, List, [], ◌∷◌, length, map, Option, Some, None, option_map, option_and_then, is_some, Result, Ok, Err, Less, Equal, Greater, refl, sym}
+use Rattle.std.proofs.Common.{ap, subst, arith, nat_le}
 use Rattle.serde_json.specs.Data.{Data, null, boolean, number, string, array, object, Items, no_items, item, Members, no_members, member}
 use Rattle.serde_json.specs.Events.{items_len, members_len}
 use Rattle.serde_json.specs.Find.{as_null, as_str, as_array, as_object}

@@ -1,5 +1,6 @@
 -- What an id names is a document.
-use Rattle.std.proofs.Common.{◌≡◌, ℕ, zero, suc, ◌+◌, ◌<◌, Bool, true, false, cond, ◌&&◌, List, [], ◌∷◌, ◌++◌, length, take, drop, get_or, Option, Some, None, refl, sym, ◌∙◌, ap, subst, arith, nat_lt, nat_le, append_assoc, length-append, length-take}
+use Rattle.std.proofs.Common.{◌≡◌, ℕ, zero, suc, ◌+◌, ◌<◌, Bool, true, false, cond, ◌&&◌, List, [], ◌∷◌, ◌++◌, length, take, drop, get_or, Option, Some, None, refl, sym, ◌∙◌, ap, subst, arith, nat_lt, nat_le}
+use Rattle.std.proofs.Common.{append_assoc, length-append, length-take}
 use Rattle.std.specs.Prelude.{IsTrue, ◌==◌}
 use Rattle.std.specs.List.{position_or_len, before_first, after_first}
 use Rattle.std.proofs.lemmas.Bool.Decides.{Decides-eqb}
@@ -92,7 +93,8 @@ cut_some_parts text p e =
     subst (λ (q : List ℕ × List ℕ). (text ≡ with_colon q.0 q.1) × HasNoColon q.0 × (0 < length q.0)) some.1 (cut.0, cut.1, ltb-true 0 (length parts.0.0) some.0)
 
 cut_some_of : (a b : List ℕ) → HasNoColon a → 0 < length a → cut_some_at_colon (with_colon a b) ≡ Some (a, b)
-cut_some_of a b none there = ap (λ (o : Option (List ℕ × List ℕ)). o >>= λ (q : List ℕ × List ℕ). cond (nat_lt 0 (length q.0)) (Some q) None) (cut_of a b none) ∙ cond-true (nat_lt 0 (length a)) (Some (a, b)) None (lt-ltb 0 (length a) there)
+cut_some_of a b none there = ap (λ (o : Option (List ℕ × List ℕ)). o >>= λ (q : List ℕ × List ℕ). cond (nat_lt 0 (length q.0)) (Some q) None) (cut_of a b none)
+    ∙ cond-true (nat_lt 0 (length a)) (Some (a, b)) None (lt-ltb 0 (length a) there)
 
 digits_parts : (text : List ℕ) (doc : ℕ) → document_written text ≡ Some doc → IsTrue (is_positive_numeral text) × (digits_value 10 text ≡ doc)
 unfolding document_written

@@ -36,7 +36,8 @@ use Rattle.feed_reader.specs.Lines.{is_blank, lines_of}
 use Rattle.feed_reader.specs.Operators.{operator_named, operator_form, value_form, weight_form}
 use Rattle.feed_reader.specs.Elements.{amount_read, place_read, element_by, element_read, match_parts, act_read, weight_act_read, at_read, of_read}
 use Rattle.feed_reader.specs.Values.{value_read}
-use Rattle.feed_reader.specs.Grammar.{json_read, op_name_of, id_of, fields_of, each_field, put_read, only_member, operator_read, update_read, all_some, create_of, asked_of, has_other_member, op_asked, supported, members_given, is_over, gives_too_many, op_of_value, op_of_line}
+use Rattle.feed_reader.specs.Grammar.{json_read, op_name_of, id_of, fields_of, each_field, put_read, only_member, operator_read, update_read, all_some, create_of, asked_of, has_other_member, op_asked, supported}
+use Rattle.feed_reader.specs.Grammar.{members_given, is_over, gives_too_many, op_of_value, op_of_line}
 use Rattle.feed_reader.specs.Feed.{Fault, with_op, ops_of_lines, feed_of}
 use Rattle.feed_reader.proofs.FitsLemmas.{bind_ok, or_else_ok, value_of_type, value_named_type, none_fit, taken_fit, list_fits, weighted_fits, items_fit}
 use Rattle.feed_reader.proofs.IdLemmas.{named_document}
@@ -71,7 +72,8 @@ assign_fits kind t d items few e = items_fit kind t d items few e
 -- ---- one item, in `match`
 
 -- the parts of a `match`, out of what was read
-by_parts : {A B : Type 0} (kind : Kind) (t : ValueType) (o : Option (Data × List ℕ × Data)) (first : Data → Result A Refusal) (second : List ℕ → Data → Result (Option B) Refusal) (make : A → B → Change) (change : Option Change)
+by_parts : {A B : Type 0} (kind : Kind) (t : ValueType) (o : Option (Data × List ℕ × Data)) (first : Data → Result A Refusal) (second : List ℕ → Data → Result (Option B) Refusal) (make : A → B
+    → Change) (change : Option Change)
     → ((d : Data) (x : A) (name : List ℕ) (value : Data) (y : B) → first d ≡ Ok x → second name value ≡ Ok (Some y) → ChangeFits kind t (make x y))
     → (or_else BadValue o >>= λ parts. first parts.0 >>= λ x. second parts.1 parts.2 >>= λ y. Ok (option_map (make x) y)) ≡ Ok change → ReadFits kind t change
 by_parts kind t None first second make change fits e = cc
@@ -195,7 +197,8 @@ changes_fit fields create found fit = at (all_some found) refl where
   at None is = tt
   at (Some all) is = some_fit fields found all fit is
 
-asked_fits : (fields : List Field) (operation : OpName) (create : Option Bool) (members : Option Data) (asked : Asked) → gives_too_many fields operation members ≡ false → asked_of fields operation create members ≡ Ok asked → AskedFits fields asked
+asked_fits : (fields : List Field) (operation : OpName) (create : Option Bool) (members : Option Data) (asked : Asked) → gives_too_many fields operation members ≡ false
+    → asked_of fields operation create members ≡ Ok asked → AskedFits fields asked
 unfolding asked_of
 asked_fits fields operations.Put None members asked few e = cc
 asked_fits fields operations.Put (Some create) None asked few e = cc
@@ -203,7 +206,8 @@ asked_fits fields operations.Put (Some create) (Some d) asked few e =
     let all = bind_ok (each_field put_read fields d) (λ (document : List (List Item)). Ok (asks.Put document)) asked e in
     let is : asks.Put all.0 ≡ asked = cc in
     let test = is_over operations.Put d in
-    let one = λ (field : Field) (items : List Item) (small : test field ≡ false) (read : put_read field (get field.name d) ≡ Ok items). put_fits field (get field.name d) items (ltb-false most_items (members_given operations.Put (get field.name d)) small) read in
+    let one = λ (field : Field) (items : List Item) (small : test field ≡ false) (read : put_read field (get field.name d) ≡ Ok items). put_fits field (get field.name d) items
+    (ltb-false most_items (members_given operations.Put (get field.name d)) small) read in
     subst (AskedFits fields) is (each_fits put_read (λ (field : Field) (own : List Item). ItemsFit field.kind field.value own) test d one fields all.0 few all.1)
 asked_fits fields operations.Update None members asked few e = cc
 asked_fits fields operations.Update (Some create) None asked few e = cc
@@ -211,7 +215,8 @@ asked_fits fields operations.Update (Some create) (Some d) asked few e =
     let all = bind_ok (each_field update_read fields d) (λ (found : List (Option Change)). Ok (asks.Update create (all_some found))) asked e in
     let is : asks.Update create (all_some all.0) ≡ asked = cc in
     let test = is_over operations.Update d in
-    let one = λ (field : Field) (change : Option Change) (small : test field ≡ false) (read : update_read field (get field.name d) ≡ Ok change). update_fits field (get field.name d) change (ltb-false most_items (members_given operations.Update (get field.name d)) small) read in
+    let one = λ (field : Field) (change : Option Change) (small : test field ≡ false) (read : update_read field (get field.name d) ≡ Ok change). update_fits field (get field.name d) change
+    (ltb-false most_items (members_given operations.Update (get field.name d)) small) read in
     subst (AskedFits fields) is (changes_fit fields create all.0 (each_fits update_read (λ (field : Field) (change : Option Change). ReadFits field.kind field.value change) test d one fields all.0 few all.1))
 asked_fits fields operations.Remove create members asked few e =
     let is : asks.Remove ≡ asked = cc in

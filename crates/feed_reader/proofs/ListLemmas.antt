@@ -71,7 +71,8 @@ unfolding names_read
 names_fault value_type found name v e s t said is f a =
     behind_fault found e _ (names_read value_type (members_view t)) said f (sym (ap (λ ms. behind found (names_read value_type (members_view ms))) is) ∙ a)
 
-pub names_end : (value_type : ValueType) (found : List Value) (s : List (String Global × Json)) (said : Result (List Value) Refusal) → s ≡ [] → behind found (names_read value_type (members_view s)) ≡ said → said ≡ Ok found
+pub names_end : (value_type : ValueType) (found : List Value) (s : List (String Global × Json)) (said : Result (List Value) Refusal) → s ≡ [] → behind found (names_read value_type (members_view s)) ≡ said
+    → said ≡ Ok found
 unfolding names_read
 names_end value_type found s said is a = sym a ∙ ap (λ ms. behind found (names_read value_type (members_view ms))) is ∙ ap Ok (append-nil found)
 
@@ -97,7 +98,8 @@ fields_more read_of found fields i field d x h is e =
     sym (ap (behind found) (at_field read_of fields i field d h is) ∙ ap (λ r. behind found (first_of_all r more)) e ∙ behind_first found x more)
 
 -- the next field is faulty
-pub fields_fault : {X : Type 0} (read_of : Field → Option Data → Result X Refusal) (found : List X) (fields : List Field) (i : ℕ) (field : Field) (d : Data) (e : LineError) (said : Result (List X) Refusal) → i < length fields → field ≡ get_or fields i field
+pub fields_fault : {X : Type 0} (read_of : Field → Option Data → Result X Refusal) (found : List X) (fields : List Field) (i : ℕ) (field : Field) (d : Data) (e : LineError) (said : Result (List X) Refusal)
+    → i < length fields → field ≡ get_or fields i field
     → ReadFails e (read_of field (get field.name d)) → behind found (each_field read_of (drop i fields) d) ≡ said → ReadFails e said
 fields_fault read_of found fields i field d e said h is f s =
     behind_fault found e (read_of field (get field.name d)) (each_field read_of (drop (i + 1) fields) d) said f (sym (ap (behind found) (at_field read_of fields i field d h is)) ∙ s)

@@ -1,5 +1,6 @@
 -- The answer of a line is the first row that holds.
-use Rattle.std.proofs.Common.{◌≡◌, ℕ, ℤ, suc, zero, ◌+◌, ◌<◌, Bool, true, false, cond, ◌||◌, List, [], ◌∷◌, length, Option, Some, None, is_some, option_and_then, option_map, Result, Ok, Err, refl, sym, ◌∙◌, ap, subst, arith, inl, inr, nat_lt}
+use Rattle.std.proofs.Common.{◌≡◌, ℕ, ℤ, suc, zero, ◌+◌, ◌<◌, Bool, true, false, cond, ◌||◌, List, [], ◌∷◌, length, Option, Some, None, is_some, option_and_then, option_map, Result, Ok, Err, refl, sym, ◌∙◌, ap, subst}
+use Rattle.std.proofs.Common.{arith, inl, inr, nat_lt}
 use Rattle.std.specs.Prelude.{◌≢◌, ◌⊎◌, IsSome, IfSome, IsSomeAnd, IsOk, is_none, codes}
 use Rattle.std.specs.List.{AllByRecursion, list_any}
 use Rattle.std.proofs.lemmas.Bool.{cases_order}
@@ -32,9 +33,11 @@ use Rattle.feed_reader.specs.Forms.{HasItemsForm, IsUpdate}
 use Rattle.feed_reader.specs.Operators.{operator_named, operator_form, value_form, weight_form}
 use Rattle.feed_reader.specs.Elements.{amount_read, place_read, element_read, match_parts, act_read, weight_act_read, at_read, of_read}
 use Rattle.feed_reader.specs.Values.{value_read, weight_read}
-use Rattle.feed_reader.specs.Grammar.{json_read, only_one, op_name_of, id_of, if_object, fields_of, each_field, put_read, operator_read, update_read, all_some, created, create_of, asked_of, has_other_member, op_asked, supported, members_given, is_over, gives_too_many, op_of_value, op_of_line}
+use Rattle.feed_reader.specs.Grammar.{json_read, only_one, op_name_of, id_of, if_object, fields_of, each_field, put_read, operator_read, update_read, all_some, created, create_of, asked_of, has_other_member, op_asked}
+use Rattle.feed_reader.specs.Grammar.{supported, members_given, is_over, gives_too_many, op_of_value, op_of_line}
 use Rattle.feed_reader.specs.Items.{items_read, list_read, set_read, taken_read, member_count}
-use Rattle.feed_reader.specs.Rows.{IsJson, name_of, HasNoOperation, IsId, HasBadId, IsBoolean, IsObject, HasFields, EachHas, HasForms, HasBadValue, SomeField, IsOther, HasOtherOperator, AsksForOther, RemovesAndCreates, IsUnsupported, GivesTooMany, HasTooMany, row_number, HasRow, IsFirstRow, RefusedByFirstRow, TakenWithoutRow}
+use Rattle.feed_reader.specs.Rows.{IsJson, name_of, HasNoOperation, IsId, HasBadId, IsBoolean, IsObject, HasFields, EachHas, HasForms, HasBadValue, SomeField, IsOther, HasOtherOperator, AsksForOther, RemovesAndCreates}
+use Rattle.feed_reader.specs.Rows.{IsUnsupported, GivesTooMany, HasTooMany, row_number, HasRow, IsFirstRow, RefusedByFirstRow, TakenWithoutRow}
 use Rattle.feed_reader.proofs.FitsLemmas.{bind_ok, or_else_ok}
 use Rattle.feed_reader.proofs.FormLemmas.{Tells, TellsSome, TellsBool, never, tells_same, tells_and, tells_then, tells_option, tells_lt, put_tells, update_tells, each_tells}
 use Rattle.feed_reader.proofs.IdLemmas.{form_of_id, id_of_form}
@@ -49,7 +52,8 @@ pick Update a b c = b
 pick Remove a b c = c
 
 abbrev count : Option Data → Option Data → Option Data → ℕ
-count a b c = length (cond (is_some a) (Put ∷ cond (is_some b) (Update ∷ cond (is_some c) (Remove ∷ []) []) (cond (is_some c) (Remove ∷ []) [])) (cond (is_some b) (Update ∷ cond (is_some c) (Remove ∷ []) []) (cond (is_some c) (Remove ∷ []) [])))
+count a b c = length (cond (is_some a) (Put ∷ cond (is_some b) (Update ∷ cond (is_some c) (Remove ∷ []) []) (cond (is_some c) (Remove ∷ []) []))
+    (cond (is_some b) (Update ∷ cond (is_some c) (Remove ∷ []) []) (cond (is_some c) (Remove ∷ []) [])))
 
 no_one : (a b c : Option Data) → only_one a b c ≡ None → count a b c ≢ 1
 no_one (Some x) (Some y) (Some z) e = λ is. absurd (omega arith)
@@ -229,7 +233,8 @@ weight_act_known (Some (Amount way)) d act e =
     subst (λ (a : Option WeightAct). TellsBool (Some (Amount way) ≡ None) (is_none a)) is (λ nothing. cc)
 
 -- the operator in `match` makes no change exactly where it is none
-parts_known : {A B : Type 0} (o : Option (Data × List ℕ × Data)) (first : Data → Result A Refusal) (second : List ℕ → Data → Result (Option B) Refusal) (make : A → B → Change) (Q : List ℕ → Type 0) (change : Option Change)
+parts_known : {A B : Type 0} (o : Option (Data × List ℕ × Data)) (first : Data → Result A Refusal) (second : List ℕ → Data → Result (Option B) Refusal) (make : A → B → Change) (Q : List ℕ
+    → Type 0) (change : Option Change)
     → ((name : List ℕ) (d : Data) (y : Option B) → second name d ≡ Ok y → TellsBool (Q name) (is_none y))
     → (or_else BadValue o >>= λ parts. first parts.0 >>= λ x. second parts.1 parts.2 >>= λ y. Ok (option_map (make x) y)) ≡ Ok change
     → TellsBool (IsSomeAnd o (λ parts. Q parts.1)) (is_none change)
@@ -320,14 +325,17 @@ of_members fields d members there asked =
     let same : asked.1.0 ≡ members = cc in
     subst (SomeField HasOtherOperator fields) same asked.1.2
 
-by_changes : (fields : List Field) (d : Data) (doc : ℕ) (create : Bool) (all : Option (List Change)) → TellsBool (AsksForOther fields d) (is_none all) → TellsBool (AsksForOther fields d) (is_none (op_asked doc (asks.Update create all)))
+by_changes : (fields : List Field) (d : Data) (doc : ℕ) (create : Bool) (all : Option (List Change)) → TellsBool (AsksForOther fields d) (is_none all)
+    → TellsBool (AsksForOther fields d) (is_none (op_asked doc (asks.Update create all)))
 by_changes fields d doc create None told = told
 by_changes fields d doc create (Some all) told = told
 
-asked_known : (fields : List Field) (d : Data) (p : OpName × Data) (doc : ℕ) (asked : Asked) → op_name_of d ≡ Some p → asked_of fields p.0 (create_of d) (fields_of d) ≡ Ok asked → TellsBool (AsksForOther fields d) (is_none (op_asked doc asked))
+asked_known : (fields : List Field) (d : Data) (p : OpName × Data) (doc : ℕ) (asked : Asked) → op_name_of d ≡ Some p → asked_of fields p.0 (create_of d) (fields_of d) ≡ Ok asked
+    → TellsBool (AsksForOther fields d) (is_none (op_asked doc asked))
 unfolding asked_of
 asked_known fields d (Put, id) doc asked e read =
-    let made = bind_ok (or_else BadValue (create_of d)) (λ (create : Bool). or_else BadValue (fields_of d) >>= λ (members : Data). each_field put_read fields members >>= λ (document : List (List Item)). Ok (asks.Put document)) asked read in
+    let made = bind_ok (or_else BadValue (create_of d)) (λ (create : Bool). or_else BadValue (fields_of d) >>= λ (members : Data). each_field put_read fields members
+    >>= λ (document : List (List Item)). Ok (asks.Put document)) asked read in
     let at = bind_ok (or_else BadValue (fields_of d)) (λ (members : Data). each_field put_read fields members >>= λ (document : List (List Item)). Ok (asks.Put document)) asked made.2 in
     let all = bind_ok (each_field put_read fields at.0) (λ (document : List (List Item)). Ok (asks.Put document)) asked at.2 in
     let is : asks.Put all.0 ≡ asked = cc in
@@ -336,7 +344,8 @@ asked_known fields d (Remove, id) doc asked e read =
     let is : asks.Remove ≡ asked = cc in
     subst (λ (a : Asked). TellsBool (AsksForOther fields d) (is_none (op_asked doc a))) is (no_update fields d (Remove, id) e (λ same. cc))
 asked_known fields d (Update, id) doc asked e read =
-    let made = bind_ok (or_else BadValue (create_of d)) (λ (create : Bool). or_else BadValue (fields_of d) >>= λ (members : Data). each_field update_read fields members >>= λ (found : List (Option Change)). Ok (asks.Update create (all_some found))) asked read in
+    let made = bind_ok (or_else BadValue (create_of d)) (λ (create : Bool). or_else BadValue (fields_of d) >>= λ (members : Data). each_field update_read fields members
+    >>= λ (found : List (Option Change)). Ok (asks.Update create (all_some found))) asked read in
     let at = bind_ok (or_else BadValue (fields_of d)) (λ (members : Data). each_field update_read fields members >>= λ (found : List (Option Change)). Ok (asks.Update made.0 (all_some found))) asked made.2 in
     let all = bind_ok (each_field update_read fields at.0) (λ (found : List (Option Change)). Ok (asks.Update made.0 (all_some found))) asked at.2 in
     let is : asks.Update made.0 (all_some all.0) ≡ asked = cc in
@@ -366,7 +375,8 @@ member_tells : (d : Data) (p : OpName × Data) → op_name_of d ≡ Some p → T
 member_tells d (Put, id) e =
     left_tells (IsSome (get (codes "condition") d)) (RemovesAndCreates d) (is_some (get (codes "condition") d)) (λ both. let same = op_alone d (Put, id) Remove e both.0 in cc) (is_some_tells (get (codes "condition") d))
 member_tells d (Update, id) e =
-    left_tells (IsSome (get (codes "condition") d)) (RemovesAndCreates d) (is_some (get (codes "condition") d)) (λ both. let same = op_alone d (Update, id) Remove e both.0 in cc) (is_some_tells (get (codes "condition") d))
+    left_tells (IsSome (get (codes "condition") d)) (RemovesAndCreates d) (is_some (get (codes "condition") d)) (λ both. let same = op_alone d (Update, id) Remove e both.0 in
+    cc) (is_some_tells (get (codes "condition") d))
 member_tells d (Remove, id) e =
     let removes = ap is_some (op_there d (Remove, id) e) in
     or_tells (IsSome (get (codes "condition") d)) (RemovesAndCreates d) (is_some (get (codes "condition") d)) (is_some (get (codes "create") d)) (is_some_tells (get (codes "condition") d))
@@ -378,7 +388,8 @@ either_none P Q R true o (inr q) r = inr (inl q)
 either_none P Q R false None pq r = inr (inr r)
 either_none P Q R false (Some op) pq r = neither (λ p. pq (inl p)) (neither (λ q. pq (inr q)) r)
 
-supported_tells : (fields : List Field) (d : Data) (p : OpName × Data) (doc : ℕ) (asked : Asked) → op_name_of d ≡ Some p → asked_of fields p.0 (create_of d) (fields_of d) ≡ Ok asked → TellsBool (IsUnsupported fields d) (is_none (supported p.0 d doc asked))
+supported_tells : (fields : List Field) (d : Data) (p : OpName × Data) (doc : ℕ) (asked : Asked) → op_name_of d ≡ Some p → asked_of fields p.0 (create_of d) (fields_of d) ≡ Ok asked
+    → TellsBool (IsUnsupported fields d) (is_none (supported p.0 d doc asked))
 supported_tells fields d p doc asked e read =
     either_none (IsSome (get (codes "condition") d)) (RemovesAndCreates d) (AsksForOther fields d) (has_other_member p.0 d) (op_asked doc asked) (member_tells d p e) (asked_known fields d p doc asked e read)
 
@@ -516,7 +527,8 @@ value_row fields d =
     let with_doc = λ (operation : OpName) (doc : ℕ). asked_of fields operation (create_of d) (fields_of d) >>= with_asked operation doc in
     let with_operation = λ (operation : OpName × Data). or_else BadId (id_of operation.1) >>= with_doc operation.0 in
     check fields d NoOperation (or_else NoOperation (op_name_of d)) with_operation
-    (by_option fields d NoOperation (op_name_of d) (no_one (get (codes "put") d) (get (codes "update") d) (get (codes "remove") d)) (λ p e none. none (just_one (get (codes "put") d) (get (codes "update") d) (get (codes "remove") d) p e)))
+    (by_option fields d NoOperation (op_name_of d) (no_one (get (codes "put") d) (get (codes "update") d) (get (codes "remove") d))
+    (λ p e none. none (just_one (get (codes "put") d) (get (codes "update") d) (get (codes "remove") d) p e)))
     (none_first fields d)
     (λ p op_is none2.
     let e = or_else_ok NoOperation (op_name_of d) p op_is in

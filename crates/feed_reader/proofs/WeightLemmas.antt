@@ -51,7 +51,8 @@ weights_name_fault value_type es name v (errors.Refused refusal) s t said is f a
     ∙ ap (λ r. r >>= λ value. weight_read (view v) >>= λ weight. with value weight) f
 
 -- its weight is faulty
-pub weights_weight_fault : (value_type : ValueType) (es : List (Value × ℤ)) (name : String Global) (v : Json) (value : Value) (e : LineError) (s t : List (String Global × Json)) (said : Result (List Item) Refusal) → s ≡ (name, v) ∷ t
+pub weights_weight_fault : (value_type : ValueType) (es : List (Value × ℤ)) (name : String Global) (v : Json) (value : Value) (e : LineError) (s t : List (String Global × Json)) (said : Result (List Item) Refusal)
+    → s ≡ (name, v) ∷ t
     → name_read value_type (string_bytes name) ≡ Ok value → ReadFails e (weight_read (view v)) → weighted_after value_type (map entry_item es) (members_view s) ≡ said → ReadFails e said
 unfolding weighted_after
 weights_weight_fault value_type es name v value errors.Memory s t said is n f a = tt

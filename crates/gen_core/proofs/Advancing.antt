@@ -114,7 +114,11 @@ module _ (reaches : ℕ → Records → ℕ → List ℕ) (lawful : ℕ → Reco
     queue = record {
       few = let room = come.room in omega (arith, room, length-append s.writer.queue.older (s.writer.queue.newest ∷ []));
       rising = all_pairs_push IsBefore (open_holds s.writer.queue) (coming_hold s.writer h) g.queue.rising
-          (λ k d lt. record { generation = (let le = newest-most s.writer.queue.older s.writer.queue.newest g.queue.rising k d lt in omega arith); hold = come.others k d lt; first_commit = (g.queue.each k d lt).first_commit });
+          (λ k d lt. record {
+            generation = (let le = newest-most s.writer.queue.older s.writer.queue.newest g.queue.rising k d lt in omega arith);
+            hold = come.others k d lt;
+            first_commit = (g.queue.each k d lt).first_commit;
+          });
       each = All-push (HoldFits s.writer.commits) (open_holds s.writer.queue) (coming_hold s.writer h) g.queue.each (record { hold = come.hold; first_commit = omega arith });
       next = λ k e. absurd (cc);
       generation = limit;
@@ -138,13 +142,15 @@ module _ (reaches : ℕ → Records → ℕ → List ℕ) (lawful : ℕ → Reco
       newest_hold = get_or-set_same s.words 1 _ 0 (omega (arith, g.sizes.table));
       states = λ b x at. get_or-set_other s.words 1 (state_place b) _ 0 (λ e. omega arith) ∙ g.names.states b x at;
     };
-    memory = subst (λ (e : OpenHold). GoodMemory s.writer.sizes (set s.words 1 (newest_word (coming_hold s.writer h))) s.writer.buffers (drop e.first_commit s.writer.commits) s.writer.work) (sym oldest) (memory-low reaches lawful s g 1 (newest_word (coming_hold s.writer h)) (omega arith));
+    memory = subst (λ (e : OpenHold). GoodMemory s.writer.sizes (set s.words 1 (newest_word (coming_hold s.writer h))) s.writer.buffers (drop e.first_commit s.writer.commits) s.writer.work) (sym oldest)
+        (memory-low reaches lawful s g 1 (newest_word (coming_hold s.writer h)) (omega arith));
     counts = record {
       counts = λ k lt. get_or-set_other s.words 1 (hold_place k) _ 0 (λ e. omega arith) ∙ g.counts.counts k lt ∙ ap (hold_word _) (opened k);
       views = g.counts.views;
       few = g.counts.few;
     };
-    readers = All-weaker (GoodReader s.writer.sizes s.writer.queue s.writer.commits) (GoodReader s.writer.sizes (queue_of (s.writer.queue.older ++ s.writer.queue.newest ∷ []) (coming_hold s.writer h) Nothing) s.writer.commits) reader s.readers g.readers;
+    readers = All-weaker (GoodReader s.writer.sizes s.writer.queue s.writer.commits)
+        (GoodReader s.writer.sizes (queue_of (s.writer.queue.older ++ s.writer.queue.newest ∷ []) (coming_hold s.writer h) Nothing) s.writer.commits) reader s.readers g.readers;
   }
     where
       come : NextFits s.writer.queue h

@@ -7,7 +7,8 @@ use Rattle.gen_core.specs.Views.{queue_of, oldest_in, oldest_of, floor_of, hold_
 use Rattle.gen_core.specs.Conditions.{MayClose, MayProbe}
 use Rattle.gen_core.specs.Laws.{IsInUse, IsPassed}
 use Rattle.gen_core.specs.Steps.{hold_of, hold_in, word_of, operation_of, subtract}
-use Rattle.gen_core.specs.Events.{coming_hold, count_at, Event, Happens, store_width, store_word, hand_out, publish, put_on_hold, free_buffer, reopen, store_newest, close, stop_at_oldest, probe, stop_at_newest, morph, split, join, meet_load, load_own, load_newest, raise, bounce, load_root, load_word, release}
+use Rattle.gen_core.specs.Events.{coming_hold, count_at, Event, Happens, store_width, store_word, hand_out, publish, put_on_hold, free_buffer, reopen, store_newest, close, stop_at_oldest, probe, stop_at_newest, morph}
+use Rattle.gen_core.specs.Events.{split, join, meet_load, load_own, load_newest, raise, bounce, load_root, load_word, release}
 use Rattle.gen_core.proofs.Holds.{at_newest, at_oldest, oldest-push, newest-open, oldest-rises, oldest-replaced, first-open}
 use Rattle.gen_core.proofs.Lists.{all_at, count_some}
 use Rattle.gen_core.proofs.Advancing.{closed-word}
@@ -111,7 +112,8 @@ module _ (reaches : ℕ → Records → ℕ → List ℕ) (lawful : ℕ → Reco
   floor-stays s t probe g h = stays s t (ap (λ (x : State). floor_of x.writer) h.2)
   floor-stays s t stop_at_newest g h = stays s t (ap (λ (x : State). floor_of x.writer) h.2)
   floor-stays s t morph g h = subst (λ (x : State). floor_of s.writer ≤ floor_of x.writer) (sym h.1)
-      (oldest-replaced s.writer.queue.older s.writer.queue.newest (coming_hold s.writer s.writer.queue.newest.hold) (at_newest (HoldFits s.writer.commits) s.writer.queue.older s.writer.queue.newest g.queue.each).first_commit)
+      (oldest-replaced s.writer.queue.older s.writer.queue.newest (coming_hold s.writer s.writer.queue.newest.hold)
+      (at_newest (HoldFits s.writer.commits) s.writer.queue.older s.writer.queue.newest g.queue.each).first_commit)
   floor-stays s t split g h = stays s t (ap (λ (x : State). floor_of x.writer) h.1)
   floor-stays s t (join j) g h = stays s t (ap (λ (x : State). floor_of x.writer) h.3)
   floor-stays s t meet_load g h = stays s t (ap (λ (x : State). floor_of x.writer) h.1)
@@ -136,12 +138,14 @@ module _ (reaches : ℕ → Records → ℕ → List ℕ) (lawful : ℕ → Reco
 
   bounced-low : (s : State) (j : ℕ) (r : ReaderView) (h : ℕ) → Good reaches lawful s → slice_get s.readers j ≡ Some r → r.state ≡ Bounced h → h < 16
   bounced-low s j r h g at is =
-      let fits : BounceFits s.writer.queue.newest r.least h = subst (GoodReaderState s.writer.queue s.writer.commits r) is (all_at (GoodReader s.writer.sizes s.writer.queue s.writer.commits) s.readers j r g.readers at).state in
+      let fits : BounceFits s.writer.queue.newest r.least h = subst (GoodReaderState s.writer.queue s.writer.commits r) is
+      (all_at (GoodReader s.writer.sizes s.writer.queue s.writer.commits) s.readers j r g.readers at).state in
       fits.hold
 
   guarded-low : (s : State) (j : ℕ) (r : ReaderView) (h c : ℕ) → Good reaches lawful s → slice_get s.readers j ≡ Some r → r.state ≡ Guarded h c → h < 16
   guarded-low s j r h c g at is =
-      let fits : GuardFits s.writer.queue s.writer.commits r.saw h c = subst (GoodReaderState s.writer.queue s.writer.commits r) is (all_at (GoodReader s.writer.sizes s.writer.queue s.writer.commits) s.readers j r g.readers at).state in
+      let fits : GuardFits s.writer.queue s.writer.commits r.saw h c =
+      subst (GoodReaderState s.writer.queue s.writer.commits r) is (all_at (GoodReader s.writer.sizes s.writer.queue s.writer.commits) s.readers j r g.readers at).state in
       fits.raised.hold
 
   -- only three events take from a count

@@ -33,7 +33,13 @@ module _ (reaches : ℕ → Records → ℕ → List ℕ) (lawful : ℕ → Reco
       → ((c w : ℕ) → width_in (set s.writer.buffers b x) c ≡ Some w → width_in s.writer.buffers c ≡ Some w)
       → Good reaches lawful (record { words = set s.words (state_place b) (state_word x); writer = with_buffer s.writer b x; readers = s.readers })
   state_event s b x g inside placed stored tags widths = record {
-    sizes = record { table = length-set s.words (state_place b) _ ∙ g.sizes.table; count = length-set s.writer.buffers b x ∙ g.sizes.count; some_word = g.sizes.some_word; commit_limit = g.sizes.commit_limit; generation_limit = g.sizes.generation_limit };
+    sizes = record {
+      table = length-set s.words (state_place b) _ ∙ g.sizes.table;
+      count = length-set s.writer.buffers b x ∙ g.sizes.count;
+      some_word = g.sizes.some_word;
+      commit_limit = g.sizes.commit_limit;
+      generation_limit = g.sizes.generation_limit;
+    };
     queue = g.queue;
     tags = tags;
     commits = g.commits;
@@ -137,7 +143,8 @@ module _ (reaches : ℕ → Records → ℕ → List ℕ) (lawful : ℕ → Reco
 
   pub free_keeps : (s : State) (b : ℕ) (tag : Tag) → Good reaches lawful s → MayFree s.writer b tag → Good reaches lawful (after_free s b tag)
   free_keeps s b tag g may = state_event s b (Free (Some tag)) g inside placed
-      (stored-else s b (Free (Some tag)) g (λ q m there a e. let active = a.active in let none : active_in s.writer.buffers a.b ≡ None = ap (active_in s.writer.buffers) e ∙ ap (option_and_then active_width) may.held in absurd (cc)))
+      (stored-else s b (Free (Some tag)) g (λ q m there a e. let active = a.active in let none : active_in s.writer.buffers a.b ≡ None = ap (active_in s.writer.buffers) e ∙ ap (option_and_then active_width) may.held in
+      absurd (cc)))
       (record { free = free; held = held })
       widths
     where
@@ -149,7 +156,8 @@ module _ (reaches : ℕ → Records → ℕ → List ℕ) (lawful : ℕ → Reco
 
       -- no kept commit has a record there
       nothing : All (HasNothingIn s.writer.sizes.offset_bits b) (kept_of s.writer)
-      nothing = all_drop-more (HasNothingIn s.writer.sizes.offset_bits b) tag.commit (floor_of s.writer) s.writer.commits (at_oldest (λ e. tag.generation < e.generation → tag.commit ≤ e.first_commit) s.writer.queue.older s.writer.queue.newest old.first_commits may.below) old.unused
+      nothing = all_drop-more (HasNothingIn s.writer.sizes.offset_bits b) tag.commit (floor_of s.writer) s.writer.commits
+          (at_oldest (λ e. tag.generation < e.generation → tag.commit ≤ e.first_commit) s.writer.queue.older s.writer.queue.newest old.first_commits may.below) old.unused
 
       placed : All (λ image. All (IsPlaced s.writer.sizes (set s.writer.buffers b (Free (Some tag)))) image.records) (kept_of s.writer)
       placed k d lt l e less =

@@ -33,11 +33,13 @@ places-less sizes buffers work commits m n le f = record {
   stored = λ p w at. let h = f.stored p w at in record { active = h.active; apart = all_drop-more (Avoids sizes p) m n commits le h.apart };
 }
 
-memory-less : (sizes : Sizes) (words : List ℕ) (buffers : List Buffer) (work : List (ℕ × ℕ)) (commits : List Image) (m n : ℕ) → m ≤ n → GoodMemory sizes words buffers (drop m commits) work → GoodMemory sizes words buffers (drop n commits) work
+memory-less : (sizes : Sizes) (words : List ℕ) (buffers : List Buffer) (work : List (ℕ × ℕ)) (commits : List Image) (m n : ℕ) → m ≤ n → GoodMemory sizes words buffers (drop m commits) work
+    → GoodMemory sizes words buffers (drop n commits) work
 memory-less sizes words buffers work commits m n le f = record { records = all_drop-more (λ image. All (WordsStand sizes words) image.records) m n commits le f.records; stored = f.stored; widths = f.widths }
 
 module _ (reaches : ℕ → Records → ℕ → List ℕ) (lawful : ℕ → Records → ℕ → Type 0) where
-  close_from : (s : State) (e : OpenHold) (es : List OpenHold) → Good reaches lawful (record { words = s.words; writer = record s.writer { queue = queue_of (e ∷ es) s.writer.queue.newest s.writer.queue.pending }; readers = s.readers })
+  close_from : (s : State) (e : OpenHold) (es : List OpenHold) → Good reaches lawful
+      (record { words = s.words; writer = record s.writer { queue = queue_of (e ∷ es) s.writer.queue.newest s.writer.queue.pending }; readers = s.readers })
       → s.writer.queue.pending ≡ Nothing → slice_index s.words (hold_place e.hold) ≡ 0 → Good reaches lawful (after_close s e es)
   close_from s e es g calm unused = record {
     sizes = sizes-set g.sizes (hold_place e.hold) _;
@@ -81,7 +83,12 @@ module _ (reaches : ℕ → Records → ℕ → List ℕ) (lawful : ℕ → Reco
       none : count_by (λ (q : ReaderView). is_counted_on e.hold q.state) s.readers ≡ 0
       none = let word = g.counts.counts e.hold low in omega (arith, word, unused)
 
+<<<<<<< HEAD
       counts : (k : ℕ) → k < 16 → slice_index (set s.words (hold_place e.hold) 1) (hold_place k) ≡ hold_word (count_by (λ q. is_counted_on k q.state) s.readers) (is_open_hold (queue_of es s.writer.queue.newest s.writer.queue.pending) k)
+=======
+      counts : (k : ℕ) → k < 16 → slice_index (set s.words (hold_place e.hold) 1) (hold_place k)
+          ≡ hold_word (count_by (λ q. is_counted_on k q.state) s.readers) (is_open_hold (queue_of es s.writer.queue.newest s.writer.queue.pending) k)
+>>>>>>> c66872e1f45357a69c913f84ef44f8b685c3e0ac
       counts k lt = dite (ℕ_discrete k e.hold)
           (λ same.
           let here : slice_index (set s.words (hold_place e.hold) 1) (hold_place k) ≡ 1 =
@@ -122,7 +129,8 @@ module _ (reaches : ℕ → Records → ℕ → List ℕ) (lawful : ℕ → Reco
 
   pub close_keeps : (s : State) (e : OpenHold) (es : List OpenHold) → Good reaches lawful s → MayClose s.writer e es → count_at s e.hold ≡ 0 → Good reaches lawful (after_close s e es)
   close_keeps s e es g may unused =
-      close_from s e es (subst (λ l. Good reaches lawful (record { words = s.words; writer = record s.writer { queue = queue_of l s.writer.queue.newest s.writer.queue.pending }; readers = s.readers })) may.is g) may.calm unused
+      close_from s e es (subst (λ l. Good reaches lawful (record { words = s.words; writer = record s.writer { queue = queue_of l s.writer.queue.newest s.writer.queue.pending }; readers = s.readers })) may.is g) may.calm
+      unused
 
   pub morph_keeps : (s : State) → Good reaches lawful s → s.writer.queue.pending ≡ Probed → Good reaches lawful (after_morph s)
   morph_keeps s g probed = record {
@@ -131,7 +139,8 @@ module _ (reaches : ℕ → Records → ℕ → List ℕ) (lawful : ℕ → Reco
       few = g.queue.few;
       rising = all_pairs_push IsBefore s.writer.queue.older (coming_hold s.writer s.writer.queue.newest.hold) prefix before;
       each = All-push (HoldFits s.writer.commits) s.writer.queue.older (coming_hold s.writer s.writer.queue.newest.hold)
-          (all-prefix (HoldFits s.writer.commits) s.writer.queue.older (s.writer.queue.newest ∷ []) g.queue.each) (record { hold = (at_newest (HoldFits s.writer.commits) s.writer.queue.older s.writer.queue.newest g.queue.each).hold; first_commit = omega arith });
+          (all-prefix (HoldFits s.writer.commits) s.writer.queue.older (s.writer.queue.newest ∷ []) g.queue.each)
+          (record { hold = (at_newest (HoldFits s.writer.commits) s.writer.queue.older s.writer.queue.newest g.queue.each).hold; first_commit = omega arith });
       next = λ k e. absurd (cc);
       generation = limit;
       commit = g.queue.commit;
@@ -162,7 +171,8 @@ module _ (reaches : ℕ → Records → ℕ → List ℕ) (lawful : ℕ → Reco
       views = g.counts.views;
       few = g.counts.few;
     };
-    readers = All-weaker (GoodReader s.writer.sizes s.writer.queue s.writer.commits) (GoodReader s.writer.sizes (queue_of s.writer.queue.older (coming_hold s.writer s.writer.queue.newest.hold) Nothing) s.writer.commits) reader s.readers g.readers;
+    readers = All-weaker (GoodReader s.writer.sizes s.writer.queue s.writer.commits)
+        (GoodReader s.writer.sizes (queue_of s.writer.queue.older (coming_hold s.writer s.writer.queue.newest.hold) Nothing) s.writer.commits) reader s.readers g.readers;
   }
     where
       limit : s.writer.queue.newest.generation + 1 ≤ s.writer.sizes.generation_limit
@@ -196,7 +206,11 @@ module _ (reaches : ℕ → Records → ℕ → List ℕ) (lawful : ℕ → Reco
           let old : IsBefore (get_or s.writer.queue.older k d) s.writer.queue.newest =
           subst (λ x. IsBefore x s.writer.queue.newest) (get_or_append_left s.writer.queue.older (s.writer.queue.newest ∷ []) d k lt)
           (subst (λ x. IsBefore (get_or (open_holds s.writer.queue) k d) x) last (g.queue.rising k (length s.writer.queue.older) d lt (omega (arith, long)))) in
-          record { generation = (let h = old.generation in omega arith); hold = old.hold; first_commit = (all-prefix (HoldFits s.writer.commits) s.writer.queue.older (s.writer.queue.newest ∷ []) g.queue.each k d lt).first_commit }
+          record {
+            generation = (let h = old.generation in omega arith);
+            hold = old.hold;
+            first_commit = (all-prefix (HoldFits s.writer.commits) s.writer.queue.older (s.writer.queue.newest ∷ []) g.queue.each k d lt).first_commit;
+          }
 
       opened : (k : ℕ) → is_open_hold s.writer.queue k ≡ is_open_hold (queue_of s.writer.queue.older (coming_hold s.writer s.writer.queue.newest.hold) Nothing) k
       opened k = ap (λ p. is_open_hold (queue_of s.writer.queue.older s.writer.queue.newest p) k) probed

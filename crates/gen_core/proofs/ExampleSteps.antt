@@ -7,7 +7,8 @@ use Rattle.std.specs.List.{list_any}
 use Rattle.std.proofs.lemmas.Bool.{ltb-true, leb-true}
 use Rattle.std.proofs.lemmas.List.Elements.{All-nil, All-cons}
 use Rattle.gen_core.specs.Views.{open_holds, last_number}
-use Rattle.gen_core.specs.Examples.{one_lawful, Ends, hold_sizes, missed_events, missed_end, renewed_events, renewed_end, closed_events, closed_end, reopened_events, reopened_end, buffer_sizes, again_events, again_end, stored_events, stored_end}
+use Rattle.gen_core.specs.Examples.{one_lawful, Ends, hold_sizes, missed_events, missed_end, renewed_events, renewed_end, closed_events, closed_end, reopened_events, reopened_end, buffer_sizes, again_events, again_end}
+use Rattle.gen_core.specs.Examples.{stored_events, stored_end}
 use Rattle.gen_core.specs.Conditions.{MayPublish, MayReopen, MayProbe, MaySplit}
 use Rattle.gen_core.specs.Good.{Avoids}
 use Rattle.gen_core.specs.Work.{run_at, is_entry}

@@ -120,7 +120,8 @@ module _ (reaches : ℕ → Records → ℕ → List ℕ) (lawful : ℕ → Reco
   -- a word before the buffers is no word of them
   pub memory-low : (s : State) → Good reaches lawful s → (p n : ℕ) → p < 18 → GoodMemory s.writer.sizes (set s.words p n) s.writer.buffers (kept_of s.writer) s.writer.work
   memory-low s g p n low = record {
-    records = records-set s.writer.sizes s.words (kept_of s.writer) p n (records-behind s.writer.sizes s.writer.buffers (kept_of s.writer) p (λ q h e. let high = behind-high s.writer.sizes q h in omega arith) g.places.records) g.memory.records;
+    records = records-set s.writer.sizes s.words (kept_of s.writer) p n (records-behind s.writer.sizes s.writer.buffers (kept_of s.writer) p (λ q h e. let high = behind-high s.writer.sizes q h in
+        omega arith) g.places.records) g.memory.records;
     stored = λ q m there. let high = behind-high s.writer.sizes q (active-behind (g.places.stored q m there).active) in get_or-set_other s.words p q n 0 (λ e. omega arith) ∙ g.memory.stored q m there;
     widths = λ b width is some. get_or-set_other s.words p (base s.writer.sizes.buffers s.writer.sizes.words b) n 0 (λ e. omega arith) ∙ g.memory.widths b width is some;
   }

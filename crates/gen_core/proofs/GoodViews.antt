@@ -3,7 +3,8 @@ use Rattle.std.proofs.lemmas.List.Elements.{All-tail, All-head}
 use Rattle.std.specs.Map.{lookup}
 use Rattle.std.proofs.lemmas.Option.{slice_get_within}
 use Rattle.image_base.specs.Images.{words_at, record_at}
-use Rattle.std.proofs.Common.{true, false, zero, suc, Bool, suc, nat_eq, cond, subst, [], ⊎_elim, unwrap_or, get_or, slice_get, length, option_and_then, eq-eqb, ◌≡◌, ◌≢◌, ℕ, ◌+◌, ◌<◌, ◌≤◌, List, ◌∷◌, Option, Some, None, refl, sym, ap, ◌∙◌, arith}
+use Rattle.std.proofs.Common.{true, false, zero, suc, Bool, suc, nat_eq, cond, subst, [], ⊎_elim, unwrap_or, get_or, slice_get, length, option_and_then, eq-eqb, ◌≡◌, ◌≢◌, ℕ, ◌+◌, ◌<◌, ◌≤◌, List, ◌∷◌, Option, Some, None}
+use Rattle.std.proofs.Common.{refl, sym, ap, ◌∙◌, arith}
 use Rattle.image_base.specs.Places.{IsEntry, base}
 use Rattle.image_base.proofs.Apart.{one_place}
 use Rattle.gen_core.specs.Views.{active_in, floor_of, kept_of, last_number, last_image, record_width, width_in, active_width}

@@ -20,7 +20,8 @@ use Rattle.gen_core.specs.Views.{open_holds, oldest_of, floor_of, kept_of, last_
 use Rattle.gen_core.specs.Work.{next_image}
 use Rattle.gen_core.specs.Good.{State, IsPlaced, WordsStand, RaiseFits, GuardFits, GoodReaderState, GoodReader, IsLawfulCommit, Good}
 use Rattle.gen_core.specs.Conditions.{MayHandOut, MayPublish, IsUnder}
-use Rattle.gen_core.specs.Events.{Event, store_width, store_word, hand_out, publish, put_on_hold, free_buffer, reopen, store_newest, close, stop_at_oldest, probe, stop_at_newest, morph, split, join, meet_load, load_own, load_newest, raise, bounce, load_root, load_word, release, Happens, Happen, MayOpen, opening, NoneFromBefore, after_publish}
+use Rattle.gen_core.specs.Events.{Event, store_width, store_word, hand_out, publish, put_on_hold, free_buffer, reopen, store_newest, close, stop_at_oldest, probe, stop_at_newest, morph, split, join, meet_load, load_own}
+use Rattle.gen_core.specs.Events.{load_newest, raise, bounce, load_root, load_word, release, Happens, Happen, MayOpen, opening, NoneFromBefore, after_publish}
 use Rattle.gen_core.specs.Laws.{TellsCommit, IsKeptFor}
 use Rattle.gen_core.proofs.Lists.{all_at, all_drop-at, all_found}
 use Rattle.gen_core.proofs.Writer.{store_word_keeps, store_width_keeps, hand_out_keeps}

@@ -1,7 +1,8 @@
 -- Without a condition the invariant is lost, and by a wrong step.
 use Rattle.list_facts.specs.Counting.{one_if}
 use Rattle.list_facts.proofs.Places.{slice_get-set_same}
-use Rattle.std.proofs.Common.{true, false, ◌+◌, ◌*◌, ◌%◌, true≢false, ◌≡◌, ◌≢◌, ℕ, zero, suc, ◌<◌, ◌≤◌, List, [], ◌∷◌, ◌++◌, length, set, Option, Some, None, cond, eq-eqb, refl, sym, ap, ◌∙◌, arith, length-append, slice_index}
+use Rattle.std.proofs.Common.{true, false, ◌+◌, ◌*◌, ◌%◌, true≢false, ◌≡◌, ◌≢◌, ℕ, zero, suc, ◌<◌, ◌≤◌, List, [], ◌∷◌, ◌++◌, length, set, Option, Some, None, cond, eq-eqb, refl, sym, ap, ◌∙◌, arith, length-append}
+use Rattle.std.proofs.Common.{slice_index}
 use Rattle.std.proofs.Math.Seq.{get_or-set_other, get_or-set_same}
 use Rattle.std.specs.Prelude.{slice_get, All, Contains, option_and_then, count_by}
 use Rattle.std.proofs.lemmas.Option.{slice_get_within}
@@ -14,10 +15,16 @@ use Rattle.gen_core.specs.declared.views.Buffer.{Buffer}
 use Rattle.gen_core.specs.declared.views.Buffer.TheVariants.{Free, Active, Held}
 use Rattle.gen_core.specs.declared.views.ReaderState.TheVariants.{Raised}
 use Rattle.gen_core.specs.declared.views.ReaderView.{ReaderView}
+<<<<<<< HEAD
 use Rattle.gen_core.specs.Views.{floor_of, kept_of, last_number, last_image, state_word, record_width, width_in, active_width, active_in, last_tag_in, queue_of, open_holds, oldest_of, newest_word, hold_place, is_open_hold, is_counted_on}
+=======
+use Rattle.gen_core.specs.Views.{floor_of, kept_of, last_number, last_image, state_word, record_width, width_in, active_width, active_in, last_tag_in, queue_of, open_holds, oldest_of, newest_word, hold_place, is_open_hold}
+use Rattle.gen_core.specs.Views.{is_counted_on}
+>>>>>>> c66872e1f45357a69c913f84ef44f8b685c3e0ac
 use Rattle.gen_core.specs.Work.{work_at}
 use Rattle.gen_core.specs.Good.{State, InActive, Avoids, IsPlaced, WordsStand, GoodReader, IsLawfulCommit, Good, HoldFits, hold_word}
-use Rattle.gen_core.specs.Events.{after_store_word, after_store_width, after_hand_out, after_publish, after_split, after_load_root, with_buffer, reopened, coming_hold, with_state, sees, after_free, count_at, after_store_newest, after_morph, after_count}
+use Rattle.gen_core.specs.Events.{after_store_word, after_store_width, after_hand_out, after_publish, after_split, after_load_root, with_buffer, reopened, coming_hold, with_state, sees, after_free, count_at}
+use Rattle.gen_core.specs.Events.{after_store_newest, after_morph, after_count}
 use Rattle.gen_core.proofs.Lists.{all_at, all_drop-at, count_moved, count_some, some-same}
 use Rattle.gen_core.proofs.Holds.{at_newest, at_oldest, any-none, or-false, or-right, any-push, newest-open, oldest-open}
 use Rattle.gen_core.proofs.GoodViews.{good_view, some-commit, floor-last}
@@ -57,7 +64,8 @@ module _ (reaches : ℕ → Records → ℕ → List ℕ) (lawful : ℕ → Reco
       let z = s.writer.sizes in
       let buffers : List Buffer = s.writer.buffers in
       let p : ℕ = base z.buffers z.words b in
-      let new : slice_index (set s.words p width) (state_place b) ≡ 1 = t.names.states b (Active width (last_tag_in buffers b)) (slice_get-set_same buffers b (Active width (last_tag_in buffers b)) (omega (arith, inside, g.sizes.count))) in
+      let new : slice_index (set s.words p width) (state_place b) ≡ 1 =
+      t.names.states b (Active width (last_tag_in buffers b)) (slice_get-set_same buffers b (Active width (last_tag_in buffers b)) (omega (arith, inside, g.sizes.count))) in
       let old : slice_index (set s.words p width) (state_place b) ≡ slice_index s.words (state_place b) = get_or-set_other s.words p (state_place b) width 0 (λ e. omega (arith, inside, e)) in
       by_buffer (slice_get buffers b) refl none (sym old ∙ new)
     where

@@ -6,7 +6,8 @@ use Rattle.std.specs.Option.{unwrap_or}
 use Rattle.gen_core.specs.Views.{oldest_in, oldest_of, last_number, last_image, newest_word, hold_place, spent}
 use Rattle.gen_core.specs.Good.{State}
 use Rattle.gen_core.specs.Steps.{left_by, hold_of, hold_in, next_hold, view_at, IsOneStep, add, subtract, exchange}
-use Rattle.gen_core.specs.Events.{coming_hold, newcomer, with_state, aims, found_state, bounced, sees, count_at, Event, Happens, store_width, store_word, hand_out, publish, put_on_hold, free_buffer, reopen, store_newest, close, stop_at_oldest, probe, stop_at_newest, morph, split, join, meet_load, load_own, load_newest, raise, bounce, load_root, load_word, release}
+use Rattle.gen_core.specs.Events.{coming_hold, newcomer, with_state, aims, found_state, bounced, sees, count_at, Event, Happens, store_width, store_word, hand_out, publish, put_on_hold, free_buffer, reopen}
+use Rattle.gen_core.specs.Events.{store_newest, close, stop_at_oldest, probe, stop_at_newest, morph, split, join, meet_load, load_own, load_newest, raise, bounce, load_root, load_word, release}
 use Rattle.gen_core.specs.declared.views.OpenHold.{OpenHold}
 use Rattle.gen_core.specs.declared.views.ReaderView.{ReaderView}
 use Rattle.image_base.specs.Records.{Records}

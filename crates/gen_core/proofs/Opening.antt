@@ -34,7 +34,8 @@ closed h = ap (λ t. (t || false) || false) (ne_eqb 0 (suc h) (λ e. omega arith
 
 counts-first : (sizes : Sizes) (h : ℕ) → h < 16 → slice_index (opening_words sizes) (hold_place h) ≡ hold_word 0 (is_open_hold (queue_of [] opening_hold Nothing) h)
 counts-first sizes zero lt = refl
-counts-first sizes (suc h) lt = let at : hold_place (suc h) ≡ 3 + h = omega arith in ap (slice_index (opening_words sizes)) at ∙ get_or-append-add (0 ∷ 0 ∷ 0 ∷ []) (replicate 15 1 ++ replicate (sizes.buffers + sizes.buffers * sizes.words) 0) h 0
+counts-first sizes (suc h) lt = let at : hold_place (suc h) ≡ 3 + h = omega arith in
+    ap (slice_index (opening_words sizes)) at ∙ get_or-append-add (0 ∷ 0 ∷ 0 ∷ []) (replicate 15 1 ++ replicate (sizes.buffers + sizes.buffers * sizes.words) 0) h 0
     ∙ count-one h (replicate (sizes.buffers + sizes.buffers * sizes.words) 0) (omega arith) ∙ sym (ap (hold_word 0) (closed h))
 
 module _ (reaches : ℕ → Records → ℕ → List ℕ) (lawful : ℕ → Records → ℕ → Type 0) where
@@ -61,7 +62,9 @@ module _ (reaches : ℕ → Records → ℕ → List ℕ) (lawful : ℕ → Reco
     };
     commits = record {
       empty = refl;
-      each = All-cons (IsLawfulCommit reaches lawful sizes.shape) no_image [] (record { lawful_image = l.empty_lawful sizes.shape (words_at no_image); reached = sym (l.empty_reaches sizes.shape (words_at no_image)); small = omega arith }) (All-nil (IsLawfulCommit reaches lawful sizes.shape));
+      each = All-cons (IsLawfulCommit reaches lawful sizes.shape) no_image []
+          (record { lawful_image = l.empty_lawful sizes.shape (words_at no_image); reached = sym (l.empty_reaches sizes.shape (words_at no_image)); small = omega arith })
+          (All-nil (IsLawfulCommit reaches lawful sizes.shape));
       seen = All-nil (IsCommit (no_image ∷ []));
     };
     places = record { records = λ k d lt l e less. absurd (nothing k d lt l less); stored = λ p n there. absurd (cc) };

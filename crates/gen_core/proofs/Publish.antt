@@ -132,7 +132,9 @@ module _ (reaches : ℕ → Records → ℕ → List ℕ) (lawful : ℕ → Reco
       nothing : (b width : ℕ) (tag : Tag) → slice_get s.writer.buffers b ≡ Some (Held width tag) → HasNothingIn s.writer.sizes.offset_bits b image
       nothing b width tag at =
           let t = g.tags.held b width tag at in
-          let old : HasNothingIn s.writer.sizes.offset_bits b (last_image s.writer.commits) = all_drop-at (HasNothingIn s.writer.sizes.offset_bits b) tag.commit s.writer.commits (last_number s.writer.commits) (last_image s.writer.commits) t.unused t.commit (last_at s.writer.commits (some-commit s.writer (good_view reaches lawful s g))) in
+          let old : HasNothingIn s.writer.sizes.offset_bits b (last_image s.writer.commits) =
+          all_drop-at (HasNothingIn s.writer.sizes.offset_bits b) tag.commit s.writer.commits (last_number s.writer.commits) (last_image s.writer.commits) t.unused t.commit
+          (last_at s.writer.commits (some-commit s.writer (good_view reaches lawful s g))) in
           all_pairs (λ pair. buffer_of s.writer.sizes.offset_bits pair.0 ≢ b) (reaches s.writer.sizes.shape (writer_records s.writer) root) (writer_records s.writer) there
           (λ r some. ⊎_elim
           (λ (h : record_at (last_image s.writer.commits) r ≡ Some (writer_records s.writer r)). all_found (λ pair. buffer_of s.writer.sizes.offset_bits pair.0 ≢ b) (last_image s.writer.commits).records r _ old h)

@@ -54,7 +54,8 @@ stored-there w r i width at e lt =
     ap (stored_in w r i) at ∙ ap (λ t. only_if t (work_at w.work (place_in w.sizes width r i))) (and_from _ _ (entry-true w.sizes width r e) (lt-ltb i width lt))
 
 -- a word that is stored elsewhere leaves what was stored here
-stored-other : (w : WriterView) (p n q j : ℕ) → ((v : ℕ) → active_in w.buffers (buffer_of w.sizes.offset_bits q) ≡ Some v → IsEntry w.sizes.offset_bits w.sizes.buffers w.sizes.words v q → j < v → place_in w.sizes v q j ≢ p)
+stored-other : (w : WriterView) (p n q j : ℕ) → ((v : ℕ) → active_in w.buffers (buffer_of w.sizes.offset_bits q) ≡ Some v → IsEntry w.sizes.offset_bits w.sizes.buffers w.sizes.words v q → j < v
+    → place_in w.sizes v q j ≢ p)
     → stored_by (stored w p n) q j ≡ stored_by w q j
 stored-other w p n q j clear = by_width (active_in w.buffers (buffer_of w.sizes.offset_bits q)) refl
   where
@@ -69,7 +70,8 @@ stored-other w p n q j clear = by_width (active_in w.buffers (buffer_of w.sizes.
     by_width None at = refl
     by_width (Some v) at = by_test v at (is_entry w.sizes v q && nat_lt j v) refl
 
-module _ (w : WriterView) (r i width n : ℕ) (active : active_in w.buffers (buffer_of w.sizes.offset_bits r) ≡ Some width) (entry : IsEntry w.sizes.offset_bits w.sizes.buffers w.sizes.words width r) (inside : i < width) where
+module _ (w : WriterView) (r i width n : ℕ) (active : active_in w.buffers (buffer_of w.sizes.offset_bits r) ≡ Some width) (entry : IsEntry w.sizes.offset_bits w.sizes.buffers w.sizes.words width r)
+    (inside : i < width) where
   abbrev pub p : ℕ
   p = place_in w.sizes width r i
 
@@ -90,7 +92,8 @@ module _ (w : WriterView) (r i width n : ℕ) (active : active_in w.buffers (buf
       one : (q j v : ℕ) → active_in w.buffers (buffer_of w.sizes.offset_bits q) ≡ Some v → IsEntry w.sizes.offset_bits w.sizes.buffers w.sizes.words v q → j < v → place_in w.sizes v q j ≡ p → (q ≡ r) × (j ≡ i)
       one q j v at there lt same = one_place w.sizes.offset_bits w.sizes.buffers w.sizes.words v width q r j i there entry (λ b. some-same v width (sym at ∙ ap (active_in w.buffers) b ∙ active)) lt inside same
 
-      other : (q j : ℕ) → ((v : ℕ) → active_in w.buffers (buffer_of w.sizes.offset_bits q) ≡ Some v → IsEntry w.sizes.offset_bits w.sizes.buffers w.sizes.words v q → j < v → place_in w.sizes v q j ≢ p) → stored_by (stored w p n) q j ≡ stored_by w q j
+      other : (q j : ℕ) → ((v : ℕ) → active_in w.buffers (buffer_of w.sizes.offset_bits q) ≡ Some v → IsEntry w.sizes.offset_bits w.sizes.buffers w.sizes.words v q → j < v → place_in w.sizes v q j ≢ p)
+          → stored_by (stored w p n) q j ≡ stored_by w q j
       other q j clear = stored-other w p n q j clear
 
 -- a buffer written twice

@@ -1,6 +1,7 @@
 -- The writer's events keep the invariant.
 use Rattle.list_facts.proofs.Places.{slice_get-set_same, slice_get-set_other}
-use Rattle.std.proofs.Common.{◌≡◌, ◌≢◌, ℕ, suc, ◌+◌, ◌*◌, ◌<◌, ◌≤◌, List, length, set, Option, Some, None, Bool, cond, eqb, true, false, refl, sym, ap, ◌∙◌, subst, ⊎_elim, arith, length-set, slice_index, eqb-true, eq-eqb, true≢false, mul-le-mul_right, suc-mul}
+use Rattle.std.proofs.Common.{◌≡◌, ◌≢◌, ℕ, suc, ◌+◌, ◌*◌, ◌<◌, ◌≤◌, List, length, set, Option, Some, None, Bool, cond, eqb, true, false, refl, sym, ap, ◌∙◌, subst, ⊎_elim, arith, length-set, slice_index, eqb-true}
+use Rattle.std.proofs.Common.{eq-eqb, true≢false, mul-le-mul_right, suc-mul}
 use mathlib.Core.Logic.{dite}
 use native.Mathlib.Decide.{ℕ_discrete}
 use Rattle.std.proofs.Math.Seq.{get_or-set_other, get_or-set_same}
@@ -68,11 +69,19 @@ module _ (reaches : ℕ → Records → ℕ → List ℕ) (lawful : ℕ → Reco
       let buffers : List Buffer = s.writer.buffers in
       let x : Buffer = Active width last in
       record {
-        sizes = record { table = length-set s.words p n ∙ g.sizes.table; count = length-set buffers b x ∙ g.sizes.count; some_word = g.sizes.some_word; commit_limit = g.sizes.commit_limit; generation_limit = g.sizes.generation_limit };
+        sizes = record {
+          table = length-set s.words p n ∙ g.sizes.table;
+          count = length-set buffers b x ∙ g.sizes.count;
+          some_word = g.sizes.some_word;
+          commit_limit = g.sizes.commit_limit;
+          generation_limit = g.sizes.generation_limit;
+        };
         queue = g.queue;
         tags = record {
-          free = λ c t at. ⊎_elim (λ (h : (c ≡ b) × (x ≡ Free (Some t))). absurd (let e = h.1 in cc)) (λ (h : (c ≢ b) × (slice_get buffers c ≡ Some (Free (Some t)))). g.tags.free c t h.1) (at_set buffers b c x (Free (Some t)) at);
-          held = λ c w tag at. ⊎_elim (λ (h : (c ≡ b) × (x ≡ Held w tag)). absurd (let e = h.1 in cc)) (λ (h : (c ≢ b) × (slice_get buffers c ≡ Some (Held w tag))). g.tags.held c w tag h.1) (at_set buffers b c x (Held w tag) at);
+          free = λ c t at. ⊎_elim (λ (h : (c ≡ b) × (x ≡ Free (Some t))). absurd (let e = h.1 in cc)) (λ (h : (c ≢ b) × (slice_get buffers c ≡ Some (Free (Some t)))). g.tags.free c t h.1)
+              (at_set buffers b c x (Free (Some t)) at);
+          held = λ c w tag at. ⊎_elim (λ (h : (c ≡ b) × (x ≡ Held w tag)). absurd (let e = h.1 in cc)) (λ (h : (c ≢ b) × (slice_get buffers c ≡ Some (Held w tag))). g.tags.held c w tag h.1)
+              (at_set buffers b c x (Held w tag) at);
         };
         commits = g.commits;
         places = record {
@@ -158,7 +167,8 @@ module _ (reaches : ℕ → Records → ℕ → List ℕ) (lawful : ℕ → Reco
       widths : (c w : ℕ) → width_in (set buffers b (Active width (last_tag_in buffers b))) c ≡ Some w → 0 < w → slice_index (set s.words p width) (base sizes.buffers sizes.words c) ≡ w
       widths c w is some = dite (ℕ_discrete c b)
           (λ same.
-          let new : width_in (set buffers b (Active width (last_tag_in buffers b))) b ≡ Some width = ap (option_and_then record_width) (slice_get-set_same buffers b (Active width (last_tag_in buffers b)) (omega (arith, within, g.sizes.count))) in
+          let new : width_in (set buffers b (Active width (last_tag_in buffers b))) b ≡ Some width =
+          ap (option_and_then record_width) (slice_get-set_same buffers b (Active width (last_tag_in buffers b)) (omega (arith, within, g.sizes.count))) in
           let value : width ≡ w = some-same width w (sym new ∙ ap (width_in (set buffers b (Active width (last_tag_in buffers b)))) (sym same) ∙ is) in
           ap (λ k. slice_index (set s.words p width) (base sizes.buffers sizes.words k)) same ∙ get_or-set_same s.words p width 0 below ∙ value)
           (λ other.

@@ -101,7 +101,8 @@ pub record IsUnder (r : ReaderView) (number : ℕ) (image : Image) : Type 0 wher
 abbrev pub IsOfImage : Sizes → Image → ℕ → Type 0
 IsOfImage sizes image p =
     (ref : ℕ) × (ws : List ℕ) × (record_at image ref ≡ Some ws)
-    × (((i : ℕ) × (i < length ws) × (p ≡ place_in sizes (length ws) ref i)) ⊎ (p ≡ base sizes.buffers sizes.words (buffer_of sizes.offset_bits ref)))
+    × (((i : ℕ) × (i < length ws) × (p ≡ place_in sizes (length ws) ref i))
+    ⊎ (p ≡ base sizes.buffers sizes.words (buffer_of sizes.offset_bits ref)))
 
 -- load a word: it is of the image that the reader is under
 pub record MayLoadWord (r : ReaderView) (p : ℕ) : Type 0 where

@@ -1,5 +1,6 @@
 -- The events: each is one step on one word by one seat, under a condition on that seat's view.
-use Rattle.std.specs.Prelude.{if◌then◌else◌, ◌≡◌, ◌≢◌, ℕ, ◌+◌, ◌-◌, ◌*◌, ◌%◌, ◌^◌, slice_index, ◌<◌, List, [], ◌∷◌, ◌++◌, length, set, replicate, slice_get, Some, None, All, IsTrue, nat_eq}
+use Rattle.std.specs.Prelude.{if◌then◌else◌, ◌≡◌, ◌≢◌, ℕ, ◌+◌, ◌-◌, ◌*◌, ◌%◌, ◌^◌, slice_index, ◌<◌, List, [], ◌∷◌, ◌++◌, length, set}
+use Rattle.std.specs.Prelude.{replicate, slice_get, Some, None, All, IsTrue, nat_eq}
 use Rattle.std.specs.List.{list_any}
 use Rattle.image_base.specs.declared.Image.{Image}
 use Rattle.image_base.specs.Records.{Records}
@@ -15,10 +16,12 @@ use Rattle.gen_core.specs.declared.views.ReaderState.{ReaderState}
 use Rattle.gen_core.specs.declared.views.ReaderState.TheVariants.{Idle, Aimed, Raised, Bounced, Guarded}
 use Rattle.gen_core.specs.declared.views.ReaderView.{ReaderView}
 use Rattle.gen_core.specs.declared.views.WriterView.{WriterView}
-use Rattle.gen_core.specs.Views.{queue_of, open_holds, hold_place, newest_word, last_number, last_image, root_word, last_tag_in, stands_on, spent}
+use Rattle.gen_core.specs.Views.{queue_of, open_holds, hold_place, newest_word, last_number, last_image, root_word, last_tag_in, stands_on}
+use Rattle.gen_core.specs.Views.{spent}
 use Rattle.gen_core.specs.Work.{next_image}
 use Rattle.gen_core.specs.Good.{State}
-use Rattle.gen_core.specs.Conditions.{MayStoreWidth, MayStoreWord, MayHandOut, MayPublish, MayPutOnHold, MayFree, MayReopen, MayClose, MayProbe, MaySplit, MayJoin, MayLoadWord}
+use Rattle.gen_core.specs.Conditions.{MayStoreWidth, MayStoreWord, MayHandOut, MayPublish, MayPutOnHold, MayFree, MayReopen, MayClose}
+use Rattle.gen_core.specs.Conditions.{MayProbe, MaySplit, MayJoin, MayLoadWord}
 
 -- What a view becomes.
 
@@ -131,7 +134,11 @@ abbrev pub after_reopen : State → ℕ → State
 after_reopen s h = record { words = set s.words (hold_place h) (count_at s h - 1); writer = reopened s.writer h; readers = s.readers }
 
 abbrev pub after_store_newest : State → ℕ → State
-after_store_newest s h = record { words = set s.words 1 (newest_word (coming_hold s.writer h)); writer = advanced s.writer h; readers = s.readers }
+after_store_newest s h = record {
+  words = set s.words 1 (newest_word (coming_hold s.writer h));
+  writer = advanced s.writer h;
+  readers = s.readers;
+}
 
 abbrev pub after_close : State → OpenHold → List OpenHold → State
 after_close s e es = record { words = set s.words (hold_place e.hold) 1; writer = closed s.writer es; readers = s.readers }
@@ -242,20 +249,26 @@ module _ (reaches : ℕ → Records → ℕ → List ℕ) (lawful : ℕ → Reco
   Happens s (reopen h) t = MayReopen s.writer h × (t ≡ after_reopen s h)
   Happens s store_newest t = (h : ℕ) × (s.writer.queue.pending ≡ Next h) × (t ≡ after_store_newest s h)
   Happens s close t = (e : OpenHold) × (es : List OpenHold) × MayClose s.writer e es × (count_at s e.hold ≡ 0) × (t ≡ after_close s e es)
-  Happens s stop_at_oldest t = (e : OpenHold) × (es : List OpenHold) × MayClose s.writer e es × (count_at s e.hold ≢ 0) × (t ≡ after_stop s (count_at s e.hold))
+  Happens s stop_at_oldest t = (e : OpenHold) × (es : List OpenHold) × MayClose s.writer e es × (count_at s e.hold ≢ 0)
+      × (t ≡ after_stop s (count_at s e.hold))
   Happens s probe t = MayProbe s.writer × (count_at s s.writer.queue.newest.hold ≡ 0) × (t ≡ after_probe s)
-  Happens s stop_at_newest t = MayProbe s.writer × (count_at s s.writer.queue.newest.hold ≢ 0) × (t ≡ after_stop s (count_at s s.writer.queue.newest.hold))
+  Happens s stop_at_newest t = MayProbe s.writer × (count_at s s.writer.queue.newest.hold ≢ 0)
+      × (t ≡ after_stop s (count_at s s.writer.queue.newest.hold))
   Happens s morph t = (s.writer.queue.pending ≡ Probed) × (t ≡ after_morph s)
   Happens s split t = MaySplit s.writer × (t ≡ after_split s)
   Happens s (join j) t = (r : ReaderView) × (slice_get s.readers j ≡ Some r) × MayJoin s.writer r × (t ≡ after_join s j r)
   Happens s meet_load t = (s.writer.queue.pending ≡ Nothing) × (t ≡ s)
   Happens s (load_own p) t = (s.writer.queue.pending ≡ Nothing) × (t ≡ s)
   Happens s (load_newest j) t = (r : ReaderView) × (slice_get s.readers j ≡ Some r) × (r.state ≡ Idle) × (t ≡ after_load_newest s j r)
-  Happens s (raise j) t = (r : ReaderView) × (slice_get s.readers j ≡ Some r) × (generation : ℕ) × (h : ℕ) × (r.state ≡ Aimed generation h) × (t ≡ after_raise s j r h)
-  Happens s (bounce j) t = (r : ReaderView) × (slice_get s.readers j ≡ Some r) × (h : ℕ) × (r.state ≡ Bounced h) × (t ≡ after_bounce s j r h)
-  Happens s (load_root j) t = (r : ReaderView) × (slice_get s.readers j ≡ Some r) × (h : ℕ) × (r.state ≡ Raised h) × (t ≡ after_load_root s j r h)
+  Happens s (raise j) t = (r : ReaderView) × (slice_get s.readers j ≡ Some r) × (generation : ℕ) × (h : ℕ) × (r.state ≡ Aimed generation h)
+      × (t ≡ after_raise s j r h)
+  Happens s (bounce j) t = (r : ReaderView) × (slice_get s.readers j ≡ Some r) × (h : ℕ) × (r.state ≡ Bounced h)
+      × (t ≡ after_bounce s j r h)
+  Happens s (load_root j) t = (r : ReaderView) × (slice_get s.readers j ≡ Some r) × (h : ℕ) × (r.state ≡ Raised h)
+      × (t ≡ after_load_root s j r h)
   Happens s (load_word j p) t = (r : ReaderView) × (slice_get s.readers j ≡ Some r) × MayLoadWord r p × (t ≡ s)
-  Happens s (release j) t = (r : ReaderView) × (slice_get s.readers j ≡ Some r) × (h : ℕ) × (c : ℕ) × (r.state ≡ Guarded h c) × (t ≡ after_release s j r h)
+  Happens s (release j) t = (r : ReaderView) × (slice_get s.readers j ≡ Some r) × (h : ℕ) × (c : ℕ) × (r.state ≡ Guarded h c)
+      × (t ≡ after_release s j r h)
 
   -- a list of events, one after another
   abbrev pub Happen : State → List Event → State → Type 0

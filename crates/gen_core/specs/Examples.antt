@@ -16,7 +16,9 @@ use Rattle.gen_core.specs.declared.views.ReaderView.{ReaderView}
 use Rattle.gen_core.specs.declared.views.WriterView.{WriterView}
 use Rattle.gen_core.specs.Views.{queue_of, spent}
 use Rattle.gen_core.specs.Good.{State}
-use Rattle.gen_core.specs.Events.{Event, store_width, store_word, hand_out, publish, put_on_hold, free_buffer, reopen, store_newest, close, stop_at_oldest, probe, stop_at_newest, morph, split, join, meet_load, load_newest, raise, bounce, load_root, load_word, release, Happen, opening}
+use Rattle.gen_core.specs.Events.{Event, store_width, store_word, hand_out, publish, put_on_hold, free_buffer, reopen, store_newest, close}
+use Rattle.gen_core.specs.Events.{stop_at_oldest, probe, stop_at_newest, morph, split, join, meet_load, load_newest, raise, bounce}
+use Rattle.gen_core.specs.Events.{load_root, load_word, release, Happen, opening}
 
 -- A layout of one record: root 0 is the empty image, and any other root is that record alone, which has to be there.
 
@@ -46,7 +48,16 @@ hold_sizes = record { offset_bits = 22; buffers = 0; words = 1; shape = 0; commi
 -- the writer's view after so many commits and with so many readers
 abbrev pub hold_view : ℕ → Queue → ℕ → Stops → WriterView
 hold_view commits queue made stops =
-    record { sizes = hold_sizes; commits = replicate commits no_image; queue = queue; buffers = []; work = []; saw = []; made = made; stops = stops }
+    record {
+      sizes = hold_sizes;
+      commits = replicate commits no_image;
+      queue = queue;
+      buffers = [];
+      work = [];
+      saw = [];
+      made = made;
+      stops = stops;
+    }
 
 abbrev pub hold_reader : ℕ → ℕ → ReaderState → List (ℕ × Image) → ReaderView
 hold_reader seen least state saw = record { sizes = hold_sizes; seen = seen; least = least; state = state; saw = saw }
@@ -113,7 +124,8 @@ closed_end = record {
 -- generation 5 on hold 1 again, and reader 0 gets a guard of commit 5.
 abbrev pub reopened_events : List Event
 reopened_events =
-    closed_events ++ load_newest 0 ∷ guards 1 ++ commit_beside 0 ++ release 1 ∷ commit_renewed ++ close ∷ split ∷ guards 2 ++ commit_beside 1
+    closed_events ++ load_newest 0 ∷ guards 1 ++ commit_beside 0 ++ release 1 ∷ commit_renewed ++ close ∷ split ∷ guards 2
+    ++ commit_beside 1
     ++ raise 0 ∷ load_root 0 ∷ []
 
 abbrev pub reopened_end : State
@@ -156,7 +168,8 @@ again_end = record {
 -- A record of two words is stored at offset 1 of buffer 0 and published; a reader loads it and is taken in again.
 abbrev pub stored_events : ℕ → List Event
 stored_events bits =
-    split ∷ hand_out 0 ∷ store_width 0 2 ∷ store_word 22 7 ∷ store_word 23 9 ∷ publish (packed bits 1 0) ∷ guards 0 ++ load_word 0 20 ∷ load_word 0 23
+    split ∷ hand_out 0 ∷ store_width 0 2 ∷ store_word 22 7 ∷ store_word 23 9 ∷ publish (packed bits 1 0) ∷ guards 0
+    ++ load_word 0 20 ∷ load_word 0 23
     ∷ release 0 ∷ join 0 ∷ meet_load ∷ []
 
 abbrev pub stored_image : ℕ → Image

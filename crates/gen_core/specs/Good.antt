@@ -1,5 +1,6 @@
 -- The core invariant: what holds of the words and of all views after every event.
-use Rattle.std.specs.Prelude.{if◌then◌else◌, ◌≡◌, ◌≢◌, ℕ, suc, ◌+◌, ◌*◌, ◌^◌, ◌<◌, ◌≤◌, List, length, drop, slice_get, slice_index, Some, None, Bool, IsTrue, All, AllPairs, count_by}
+use Rattle.std.specs.Prelude.{if◌then◌else◌, ◌≡◌, ◌≢◌, ℕ, suc, ◌+◌, ◌*◌, ◌^◌, ◌<◌, ◌≤◌, List, length, drop, slice_get, slice_index, Some}
+use Rattle.std.specs.Prelude.{None, Bool, IsTrue, All, AllPairs, count_by}
 use Rattle.entry_ref.specs.References.{buffer_of}
 use Rattle.image_base.specs.declared.Image.{Image}
 use Rattle.image_base.specs.Records.{Records, references_of}
@@ -16,7 +17,12 @@ use Rattle.gen_core.specs.declared.views.ReaderState.{ReaderState}
 use Rattle.gen_core.specs.declared.views.ReaderState.TheVariants.{Idle, Aimed, Raised, Bounced, Guarded, Spent}
 use Rattle.gen_core.specs.declared.views.ReaderView.{ReaderView}
 use Rattle.gen_core.specs.declared.views.WriterView.{WriterView}
+<<<<<<< HEAD
 use Rattle.gen_core.specs.Views.{open_holds, oldest_of, kept_of, last_number, last_image, IsCommit, root_word, newest_word, hold_place, is_open_hold, coming, state_word, width_in, active_in, is_counted_on, spent}
+=======
+use Rattle.gen_core.specs.Views.{open_holds, oldest_of, kept_of, last_number, last_image, IsCommit, root_word, newest_word, hold_place}
+use Rattle.gen_core.specs.Views.{is_open_hold, coming, state_word, width_in, active_in, is_counted_on, spent}
+>>>>>>> c66872e1f45357a69c913f84ef44f8b685c3e0ac
 use Rattle.gen_core.specs.Work.{work_at, place_in}
 
 -- the words of the table, the writer's view, and a view for each reader that was made
@@ -116,7 +122,8 @@ pub record GoodNamedWords (words : List ℕ) (commits : List Image) (newest : Op
 
 -- each word of a record stands at its place
 abbrev pub WordsStand : Sizes → List ℕ → ℕ × List ℕ → Type 0
-WordsStand sizes words pair = (i : ℕ) → i < length pair.1 → slice_index words (place_in sizes (length pair.1) pair.0 i) ≡ slice_index pair.1 i
+WordsStand sizes words pair = (i : ℕ) → i < length pair.1
+    → slice_index words (place_in sizes (length pair.1) pair.0 i) ≡ slice_index pair.1 i
 
 -- the words of the buffers
 pub record GoodMemory (sizes : Sizes) (words : List ℕ) (buffers : List Buffer) (kept : List Image) (work : List (ℕ × ℕ)) : Type 0 where
@@ -185,7 +192,8 @@ pub record GoodView (w : WriterView) : Type 0 where
   pub empty : slice_get w.commits 0 ≡ Some no_image
   pub records : All (λ image. All (IsPlaced w.sizes w.buffers) image.records) (kept_of w)
   pub apart : (p n : ℕ) → work_at w.work p ≡ Some n → All (Avoids w.sizes p) (kept_of w)
-  pub unstored : (b x : ℕ) → x < w.sizes.words → active_in w.buffers b ≡ None → work_at w.work (base w.sizes.buffers w.sizes.words b + x) ≡ None
+  pub unstored : (b x : ℕ) → x < w.sizes.words → active_in w.buffers b ≡ None
+      → work_at w.work (base w.sizes.buffers w.sizes.words b + x) ≡ None
 
 -- what a layout says of a root: the references that it reaches, and whether it is lawful
 module _ (reaches : ℕ → Records → ℕ → List ℕ) (lawful : ℕ → Records → ℕ → Type 0) where

@@ -13,7 +13,8 @@ use Rattle.gen_core.specs.Views.{floor_of, kept_of, last_number, last_image, IsC
 use Rattle.gen_core.specs.Work.{place_in, IsRecordStored, writer_records, next_image}
 use Rattle.gen_core.specs.Good.{State, IsLawfulCommit, GoodView, Good}
 use Rattle.gen_core.specs.Conditions.{MayStoreWord, MayStoreWidth, MayPublish, MayClose, MayProbe, IsUnder}
-use Rattle.gen_core.specs.Events.{Event, Happens, Happen, MayOpen, opening, hand_out, NoneFromBefore, count_at, after_store_word, after_store_width, after_publish}
+use Rattle.gen_core.specs.Events.{Event, Happens, Happen, MayOpen, opening, hand_out, NoneFromBefore, count_at, after_store_word}
+use Rattle.gen_core.specs.Events.{after_store_width, after_publish}
 use Rattle.gen_core.specs.Steps.{subtract, word_of, operation_of}
 
 -- a hold that was found in use is open, and in use
@@ -29,7 +30,8 @@ pub record IsPassed (s : State) (r : ReaderView) (generation : ℕ) : Type 0 whe
 module _ (reaches : ℕ → Records → ℕ → List ℕ) (lawful : ℕ → Records → ℕ → Type 0) where
   -- every list of events from the opening keeps the invariant
   abbrev pub KeepsGood : Type 0
-  KeepsGood = (sizes : Sizes) (events : List Event) (s : State) → MayOpen sizes → Happen reaches lawful (opening sizes) events s → Good reaches lawful s
+  KeepsGood = (sizes : Sizes) (events : List Event) (s : State) → MayOpen sizes → Happen reaches lawful (opening sizes) events s
+      → Good reaches lawful s
 
   -- where a buffer is handed out, no view stands on a hold from before the buffer's last tag
   abbrev pub HandsOutUnguarded : Type 0
@@ -120,7 +122,8 @@ module _ (reaches : ℕ → Records → ℕ → List ℕ) (lawful : ℕ → Reco
   abbrev pub RecordsStand : Type 0
   RecordsStand =
       (s : State) (ref i : ℕ) → Good reaches lawful s → i < length (writer_records s.writer ref)
-      → slice_index s.words (place_in s.writer.sizes (length (writer_records s.writer ref)) ref i) ≡ slice_index (writer_records s.writer ref) i
+      → slice_index s.words (place_in s.writer.sizes (length (writer_records s.writer ref)) ref i)
+      ≡ slice_index (writer_records s.writer ref) i
 
   -- each record of an image that may be published is of the last commit, or was stored whole since
   abbrev pub PublishesWhole : Type 0
@@ -136,16 +139,19 @@ module _ (reaches : ℕ → Records → ℕ → List ℕ) (lawful : ℕ → Reco
 
   -- what a reader aims at next is not below the least that it asks for
   abbrev pub AimIsNotBelow : Type 0
-  AimIsNotBelow = (s : State) (j : ℕ) (r : ReaderView) → Good reaches lawful s → slice_get s.readers j ≡ Some r → r.least ≤ s.writer.queue.newest.generation
+  AimIsNotBelow = (s : State) (j : ℕ) (r : ReaderView) → Good reaches lawful s → slice_get s.readers j ≡ Some r
+      → r.least ≤ s.writer.queue.newest.generation
 
   -- a close fails only on a hold in use
   abbrev pub CloseFindsUse : Type 0
-  CloseFindsUse = (s : State) (e : OpenHold) (es : List OpenHold) → Good reaches lawful s → MayClose s.writer e es → count_at s e.hold ≢ 0 → IsInUse (count_at s e.hold)
+  CloseFindsUse = (s : State) (e : OpenHold) (es : List OpenHold) → Good reaches lawful s → MayClose s.writer e es → count_at s e.hold ≢ 0
+      → IsInUse (count_at s e.hold)
 
   -- and so does a probe
   abbrev pub ProbeFindsUse : Type 0
   ProbeFindsUse =
-      (s : State) → Good reaches lawful s → MayProbe s.writer → count_at s s.writer.queue.newest.hold ≢ 0 → IsInUse (count_at s s.writer.queue.newest.hold)
+      (s : State) → Good reaches lawful s → MayProbe s.writer → count_at s s.writer.queue.newest.hold ≢ 0
+      → IsInUse (count_at s s.writer.queue.newest.hold)
 
   -- no count passes 129: two for each of 64 readers, and one
   abbrev pub CountsAreSmall : Type 0
@@ -154,7 +160,8 @@ module _ (reaches : ℕ → Records → ℕ → List ℕ) (lawful : ℕ → Reco
   -- and none is taken below 0
   abbrev pub NoneIsBelowZero : Type 0
   NoneIsBelowZero =
-      (s t : State) (e : Event) (n : ℕ) → Good reaches lawful s → Happens reaches lawful s e t → operation_of s e ≡ subtract n → n ≤ slice_index s.words (word_of s e)
+      (s t : State) (e : Event) (n : ℕ) → Good reaches lawful s → Happens reaches lawful s e t → operation_of s e ≡ subtract n
+      → n ≤ slice_index s.words (word_of s e)
 
   -- the first kept commit never falls
   abbrev pub FloorStays : Type 0

@@ -11,7 +11,8 @@ use Rattle.gen_core.specs.declared.views.ReaderState.TheVariants.{Raised}
 use Rattle.gen_core.specs.declared.views.ReaderView.{ReaderView}
 use Rattle.gen_core.specs.Views.{oldest_of, kept_of, last_number, hold_place, is_open_hold, active_in, is_counted_on}
 use Rattle.gen_core.specs.Good.{State, InActive, Avoids, IsPlaced, WordsStand, IsLawfulCommit, Good}
-use Rattle.gen_core.specs.Events.{after_store_word, after_store_width, after_hand_out, after_publish, after_free, after_store_newest, after_morph, after_split, after_count, after_load_root, count_at, with_buffer, with_state, reopened}
+use Rattle.gen_core.specs.Events.{after_store_word, after_store_width, after_hand_out, after_publish, after_free, after_store_newest}
+use Rattle.gen_core.specs.Events.{after_morph, after_split, after_count, after_load_root, count_at, with_buffer, with_state, reopened}
 
 module _ (reaches : ℕ → Records → ℕ → List ℕ) (lawful : ℕ → Records → ℕ → Type 0) where
   -- a word stored in a buffer that is not active, or has no width
@@ -70,18 +71,25 @@ module _ (reaches : ℕ → Records → ℕ → List ℕ) (lawful : ℕ → Reco
   -- the root loaded by a view that is counted on no hold: before the raise, or after it was joined away
   abbrev pub RootBeforeRaise : Type 0
   RootBeforeRaise =
-      (s : State) (j h : ℕ) (r : ReaderView) → Good reaches lawful s → slice_get s.readers j ≡ Some r → h < 16 → is_counted_on h r.state ≡ false
+      (s : State) (j h : ℕ) (r : ReaderView) → Good reaches lawful s → slice_get s.readers j ≡ Some r → h < 16
+      → is_counted_on h r.state ≡ false
       → Good reaches lawful (after_load_root s j r h) → ⊥
 
   -- a hold opened by storing 0, with a view on its way back
   abbrev pub OpensByZero : Type 0
   OpensByZero =
-      (s : State) (j h : ℕ) (r : ReaderView) → Good reaches lawful s → slice_get s.readers j ≡ Some r → h < 16 → is_counted_on h r.state ≡ true
+      (s : State) (j h : ℕ) (r : ReaderView) → Good reaches lawful s → slice_get s.readers j ≡ Some r → h < 16
+      → is_counted_on h r.state ≡ true
       → Good reaches lawful (record { words = set s.words (hold_place h) 0; writer = reopened s.writer h; readers = s.readers }) → ⊥
 
   -- the newest word stored while its hold is closed
   abbrev pub LastBeforeOpen : Type 0
+<<<<<<< HEAD
   LastBeforeOpen = (s : State) (h : ℕ) → Good reaches lawful s → h < 16 → is_open_hold s.writer.queue h ≡ false → Good reaches lawful (after_store_newest s h) → ⊥
+=======
+  LastBeforeOpen = (s : State) (h : ℕ) → Good reaches lawful s → h < 16 → is_open_hold s.writer.queue h ≡ false
+      → Good reaches lawful (after_store_newest s h) → ⊥
+>>>>>>> c66872e1f45357a69c913f84ef44f8b685c3e0ac
 
   -- a hold that was found closed, taken as raised
   abbrev pub ForgetsTheBounce : Type 0
@@ -97,12 +105,17 @@ module _ (reaches : ℕ → Records → ℕ → List ℕ) (lawful : ℕ → Reco
   abbrev pub CloseMovesNoFloor : Type 0
   CloseMovesNoFloor =
       (s : State) → Good reaches lawful s
-      → Good reaches lawful (record { words = set s.words (hold_place (oldest_of s.writer.queue).hold) 1; writer = s.writer; readers = s.readers }) → ⊥
+      → Good reaches lawful (record {
+        words = set s.words (hold_place (oldest_of s.writer.queue).hold) 1;
+        writer = s.writer;
+        readers = s.readers;
+      }) → ⊥
 
   -- a buffer freed whose tag is the oldest generation or a later one
   abbrev pub FreesAtTheOldest : Type 0
   FreesAtTheOldest =
-      (s : State) (b width : ℕ) (tag : Tag) → slice_get s.writer.buffers b ≡ Some (Held width tag) → (oldest_of s.writer.queue).generation ≤ tag.generation
+      (s : State) (b width : ℕ) (tag : Tag) → slice_get s.writer.buffers b ≡ Some (Held width tag)
+      → (oldest_of s.writer.queue).generation ≤ tag.generation
       → Good reaches lawful (after_free s b tag) → ⊥
 
   -- a buffer put on hold under the generation before the current one, where something was published since that began
@@ -110,4 +123,8 @@ module _ (reaches : ℕ → Records → ℕ → List ℕ) (lawful : ℕ → Reco
   TagsTooEarly =
       (s : State) (b width : ℕ) (tag : Tag) → b < length s.writer.buffers → tag.generation < s.writer.queue.newest.generation
       → s.writer.queue.newest.first_commit < tag.commit
-      → Good reaches lawful (record { words = set s.words (state_place b) 2; writer = with_buffer s.writer b (Held width tag); readers = s.readers }) → ⊥
+      → Good reaches lawful (record {
+        words = set s.words (state_place b) 2;
+        writer = with_buffer s.writer b (Held width tag);
+        readers = s.readers;
+      }) → ⊥

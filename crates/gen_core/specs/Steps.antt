@@ -1,5 +1,6 @@
 -- Each event as one step: of which seat, on which word, by which operation.
-use Rattle.std.specs.Prelude.{if◌then◌else◌, ◌≡◌, ◌≢◌, ℕ, zero, suc, ◌+◌, ◌-◌, ◌*◌, ◌^◌, List, length, set, slice_get, slice_index, Option, Some, nat_eq, option_map}
+use Rattle.std.specs.Prelude.{if◌then◌else◌, ◌≡◌, ◌≢◌, ℕ, zero, suc, ◌+◌, ◌-◌, ◌*◌, ◌^◌, List, length, set, slice_get, slice_index, Option}
+use Rattle.std.specs.Prelude.{Some, nat_eq, option_map}
 use Rattle.std.specs.Option.{unwrap_or}
 use Rattle.image_base.specs.Records.{Records}
 use Rattle.image_base.specs.Places.{base, state_place}
@@ -11,7 +12,9 @@ use Rattle.gen_core.specs.declared.views.View.{View}
 use Rattle.gen_core.specs.declared.views.View.TheVariants.{Writer, Reader}
 use Rattle.gen_core.specs.Views.{oldest_of, newest_word, hold_place, spent}
 use Rattle.gen_core.specs.Good.{State}
-use Rattle.gen_core.specs.Events.{coming_hold, Event, store_width, store_word, hand_out, publish, put_on_hold, free_buffer, reopen, store_newest, close, stop_at_oldest, probe, stop_at_newest, morph, split, join, meet_load, load_own, load_newest, raise, bounce, load_root, load_word, release, Happens}
+use Rattle.gen_core.specs.Events.{coming_hold, Event, store_width, store_word, hand_out, publish, put_on_hold, free_buffer, reopen}
+use Rattle.gen_core.specs.Events.{store_newest, close, stop_at_oldest, probe, stop_at_newest, morph, split, join, meet_load, load_own}
+use Rattle.gen_core.specs.Events.{load_newest, raise, bounce, load_root, load_word, release, Happens}
 
 pub data Operation : Type 0 where
   load : Operation

@@ -23,7 +23,8 @@ LastIsKept = (w : WriterView) → GoodView w → HasLast w
 
 -- the records of the last commit are the writer's
 abbrev pub LastAreRecords : Type 0
-LastAreRecords = (w : WriterView) (ref : ℕ) (ws : List ℕ) → GoodView w → record_at (last_image w.commits) ref ≡ Some ws → writer_records w ref ≡ ws
+LastAreRecords = (w : WriterView) (ref : ℕ) (ws : List ℕ) → GoodView w → record_at (last_image w.commits) ref ≡ Some ws
+    → writer_records w ref ≡ ws
 
 -- each record of the writer lies in its buffer, which is active and of its width
 pub record LiesActive (w : WriterView) (ref width : ℕ) : Type 0 where
@@ -31,7 +32,8 @@ pub record LiesActive (w : WriterView) (ref width : ℕ) : Type 0 where
   pub active : active_in w.buffers (buffer_of w.sizes.offset_bits ref) ≡ Some width
 
 abbrev pub RecordsLieActive : Type 0
-RecordsLieActive = (w : WriterView) (ref : ℕ) → GoodView w → 0 < length (writer_records w ref) → LiesActive w ref (length (writer_records w ref))
+RecordsLieActive = (w : WriterView) (ref : ℕ) → GoodView w → 0 < length (writer_records w ref)
+    → LiesActive w ref (length (writer_records w ref))
 
 -- and each record of a kept commit lies in its buffer
 abbrev pub KeptArePlaced : Type 0
@@ -60,7 +62,8 @@ StoreLeavesOthers =
 abbrev pub HandsOutNothing : Type 0
 HandsOutNothing =
     (w : WriterView) (b width ref i : ℕ) (tag : Option Tag) → GoodView w → slice_get w.buffers b ≡ Some (Free tag) → 0 < width
-    → (stored_by (widened (handed_out w b) b width) ref i ≡ stored_by w ref i) × (writer_records (widened (handed_out w b) b width) ref ≡ writer_records w ref)
+    → (stored_by (widened (handed_out w b) b width) ref i ≡ stored_by w ref i)
+    × (writer_records (widened (handed_out w b) b width) ref ≡ writer_records w ref)
 
 -- after a publish the writer's records are the image's
 abbrev pub PublishesRecords : Type 0

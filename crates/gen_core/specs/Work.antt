@@ -1,5 +1,6 @@
 -- The writer's records: what it stored whole since the last commit, over the records of that commit.
-use Rattle.std.specs.Prelude.{◌≡◌, ℕ, zero, suc, ◌+◌, ◌*◌, ◌<◌, List, [], ◌∷◌, length, slice_index, Option, Some, None, Bool, true, false, ◌&&◌, nat_eq, nat_lt, nat_le}
+use Rattle.std.specs.Prelude.{◌≡◌, ℕ, zero, suc, ◌+◌, ◌*◌, ◌<◌, List, [], ◌∷◌, length, slice_index, Option, Some, None, Bool, true, false}
+use Rattle.std.specs.Prelude.{◌&&◌, nat_eq, nat_lt, nat_le}
 use Rattle.std.specs.Option.{unwrap_or}
 use Rattle.std.specs.Map.{lookup}
 use Rattle.entry_ref.specs.References.{buffer_of, offset_of}
@@ -39,7 +40,8 @@ run_at work p (suc n) = prepend (work_at work p) (run_at work (suc p) n)
 unfoldable pub is_entry : Sizes → ℕ → ℕ → Bool
 is_entry sizes width ref =
     nat_lt (buffer_of sizes.offset_bits ref) sizes.buffers
-    && (nat_lt 0 width && (nat_lt 0 (offset_of sizes.offset_bits ref) && nat_le (offset_of sizes.offset_bits ref * width + width) sizes.words))
+    && (nat_lt 0 width && (nat_lt 0 (offset_of sizes.offset_bits ref)
+    && nat_le (offset_of sizes.offset_bits ref * width + width) sizes.words))
 
 abbrev pub only_if : {A : Type 0} → Bool → Option A → Option A
 only_if true o = o

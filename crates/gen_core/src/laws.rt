@@ -1,10 +1,18 @@
 //! The core's laws: each function's contract is the law, for every layout.
 
-ghost use Rattle.gen_core.specs.Laws.{KeepsGood, HandsOutUnguarded, EventKeepsGood, LoadsImageWord, LoadsWidth, KeepsGuarded, StoreLeavesKept, WidthLeavesKept, PublishedStands, PublishesWhole, RecordsAreFound, FoundAreRecords, RecordsStand, LoadsLaterCommit, KeepsCommits, ViewIsGood, OddIsPassed, AimIsNotBelow, CloseFindsUse, ProbeFindsUse, CountsAreSmall, NoneIsBelowZero, FloorStays};
+ghost use Rattle.gen_core.specs.Laws.{KeepsGood, HandsOutUnguarded, EventKeepsGood, LoadsImageWord, LoadsWidth, KeepsGuarded};
+ghost use Rattle.gen_core.specs.Laws.{StoreLeavesKept, WidthLeavesKept, PublishedStands, PublishesWhole, RecordsAreFound, FoundAreRecords};
+ghost use Rattle.gen_core.specs.Laws.{RecordsStand, LoadsLaterCommit, KeepsCommits, ViewIsGood, OddIsPassed, AimIsNotBelow, CloseFindsUse};
+ghost use Rattle.gen_core.specs.Laws.{ProbeFindsUse, CountsAreSmall, NoneIsBelowZero, FloorStays};
 ghost use Rattle.gen_core.specs.Steps.{EventIsOneStep};
-ghost use Rattle.gen_core.specs.ViewLaws.{LastIsKept, LastAreRecords, RecordsLieActive, KeptArePlaced, UnkeptAvoids, StoresOneWord, StoreLeavesOthers, HandsOutNothing, PublishesRecords};
-ghost use Rattle.gen_core.specs.Needed.{NeedsActive, NeedsApart, NeedsActiveWidth, NeedsNoWidth, NeedsFree, NeedsLawful, NeedsRecords, NeedsNumber, NeedsSeat, RootBeforeRaise, OpensByZero, LastBeforeOpen, ForgetsTheBounce, MorphBesideNext, CloseMovesNoFloor, FreesAtTheOldest, TagsTooEarly};
-ghost use Rattle.gen_core.specs.Examples.{Ends, hold_sizes, buffer_sizes, missed_events, missed_end, renewed_events, renewed_end, closed_events, closed_end, reopened_events, reopened_end, again_events, again_end, stored_events, stored_end};
+ghost use Rattle.gen_core.specs.ViewLaws.{LastIsKept, LastAreRecords, RecordsLieActive, KeptArePlaced, UnkeptAvoids, StoresOneWord};
+ghost use Rattle.gen_core.specs.ViewLaws.{StoreLeavesOthers, HandsOutNothing, PublishesRecords};
+ghost use Rattle.gen_core.specs.Needed.{NeedsActive, NeedsApart, NeedsActiveWidth, NeedsNoWidth, NeedsFree, NeedsLawful, NeedsRecords};
+ghost use Rattle.gen_core.specs.Needed.{NeedsNumber, NeedsSeat, RootBeforeRaise, OpensByZero, LastBeforeOpen, ForgetsTheBounce};
+ghost use Rattle.gen_core.specs.Needed.{MorphBesideNext, CloseMovesNoFloor, FreesAtTheOldest, TagsTooEarly};
+ghost use Rattle.gen_core.specs.Examples.{Ends, hold_sizes, buffer_sizes, missed_events, missed_end, renewed_events, renewed_end};
+ghost use Rattle.gen_core.specs.Examples.{closed_events, closed_end, reopened_events, reopened_end, again_events, again_end, stored_events};
+ghost use Rattle.gen_core.specs.Examples.{stored_end};
 
 use image_base::Layout;
 

@@ -1,5 +1,6 @@
 -- The queue of open holds, from the oldest to the newest.
-use Rattle.std.specs.Prelude.{◌≡◌, ◌≢◌, ℕ, ◌-◌, ◌<◌, List, [], ◌∷◌, ◌++◌, length, take, slice_index_or, Bool, true, false, nat_eq, All, AllPairs}
+use Rattle.std.specs.Prelude.{◌≡◌, ◌≢◌, ℕ, ◌-◌, ◌<◌, List, [], ◌∷◌, ◌++◌, length, take, slice_index_or, Bool, true, false, nat_eq, All}
+use Rattle.std.specs.Prelude.{AllPairs}
 use Rattle.std.specs.List.{list_any}
 use Rattle.generation_handler.specs.declared.HoldEntry.{HoldEntry}
 use Rattle.generation_handler.specs.declared.TheConstants.{HOLDS}

@@ -1,5 +1,6 @@
 -- The list that entries and runs stand for, with an entry more, with all tagged, and without the first below.
-use Rattle.std.proofs.Common.{◌≡◌, ℕ, zero, suc, ◌+◌, ◌-◌, ◌<◌, ◌≤◌, List, [], ◌∷◌, ◌++◌, length, map, get_or, set, take, drop, drop-cons, cond, Bool, true, false, nat_eq, None, Some, refl, sym, ap, ap₂, subst, ◌∙◌, arith, append_assoc, append-nil, length-drop}
+use Rattle.std.proofs.Common.{◌≡◌, ℕ, zero, suc, ◌+◌, ◌-◌, ◌<◌, ◌≤◌, List, [], ◌∷◌, ◌++◌, length, map, get_or, set, take, drop, drop-cons, cond, Bool, true, false, nat_eq, None, Some, refl, sym, ap, ap₂, subst, ◌∙◌}
+use Rattle.std.proofs.Common.{arith, append_assoc, append-nil, length-drop}
 use Rattle.std.specs.Prelude.{All, find, remove, sum_by}
 use Rattle.std.proofs.lemmas.List.{map-append, take_all, drop_all, take-append-le, drop-append-le, get_or-drop}
 use Rattle.std.proofs.lemmas.List.Elements.{All-head, All-tail}

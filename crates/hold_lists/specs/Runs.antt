@@ -1,5 +1,6 @@
 -- How the list is kept: the entries, and the runs of those that have one tag. Callers see specs/HeldEntry alone.
-use Rattle.std.specs.Prelude.{◌≡◌, ℕ, ◌-◌, ◌<◌, ◌≤◌, List, [], ◌∷◌, ◌++◌, length, map, take, drop, remove, slice_set, slice_index_or, sum_by, All, AllPairs, Some, Bool, true, nat_eq, if◌then◌else◌}
+use Rattle.std.specs.Prelude.{◌≡◌, ℕ, ◌-◌, ◌<◌, ◌≤◌, List, [], ◌∷◌, ◌++◌, length, map, take, drop, remove, slice_set, slice_index_or}
+use Rattle.std.specs.Prelude.{sum_by, All, AllPairs, Some, Bool, true, nat_eq, if◌then◌else◌}
 use Rattle.hold_lists.specs.Held.{HeldEntry, untagged}
 use Rattle.hold_lists.specs.declared.Run.{Run}
 use Rattle.hold_lists.specs.declared.Place.{Place}

@@ -5,7 +5,8 @@
 //! number pair for all of them, and where generations do not fall the first run decides.
 #![tactic(auto)]
 
-ghost use Rattle.std.specs.Prelude.{◌≡◌, ◌+◌, ◌-◌, ◌<◌, ◌≤◌, ◌++◌, ◌∷◌, ◌^◌, [], ℕ, true, None, All, AllPairs, length, remove, slice_set, take, sum_by, find, map, IfOk, IfSome, IfNone, OnOk, OnErr, OnSome, if◌then◌else◌, ◌==◌};
+ghost use Rattle.std.specs.Prelude.{◌≡◌, ◌+◌, ◌-◌, ◌<◌, ◌≤◌, ◌++◌, ◌∷◌, ◌^◌, [], ℕ, true, None, All, AllPairs, length, remove, slice_set};
+ghost use Rattle.std.specs.Prelude.{take, sum_by, find, map, IfOk, IfSome, IfNone, OnOk, OnErr, OnSome, if◌then◌else◌, ◌==◌};
 ghost use Rattle.std.specs.Option.{option_map};
 ghost use Rattle.std.specs.VecDeque.{deque_len, deque_capacity};
 ghost use Rattle.hold_lists.specs.Runs.{run_at, tagged_count, IsRising, IsRunBelow, shortened};
@@ -113,7 +114,8 @@ impl<const OFFSET_BITS: u32> HoldList<OFFSET_BITS> {
     pub fn pop_below(&mut self, oldest: u64) -> Option<EntryRef<OFFSET_BITS>>
         ensures first { result ≡ option_map (λ held. held.entry) (find (is_below oldest) self.old.held) }
         ensures left { IfNone result (self.new ≡ self.old) }
-        ensures rest { OnSome result (self.new ≡ record { held = without_first (is_below oldest) self.old.held; room = self.old.room + 1 }) }
+        ensures rest { OnSome result (self.new
+            ≡ record { held = without_first (is_below oldest) self.old.held; room = self.old.room + 1 }) }
     {
         match first_below(&self.runs, self.rises, oldest) {
             None => None,

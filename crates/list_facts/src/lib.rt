@@ -1,7 +1,8 @@
 //! Lemmas on lists, tests and answers that two or more crates need and std lacks. Nothing runs here: `proofs/` is the crate.
 #![tactic(auto)]
 
-ghost use Rattle.std.specs.Prelude.{◌≡◌, ◌<◌, ◌+◌, ◌++◌, ◌==◌, ℕ, Bool, List, Result, IsErrAnd, true, length, replicate, slice_set, slice_index, count_by};
+ghost use Rattle.std.specs.Prelude.{◌≡◌, ◌<◌, ◌+◌, ◌++◌, ◌==◌, ℕ, Bool, List, Result, IsErrAnd, true, length, replicate, slice_set};
+ghost use Rattle.std.specs.Prelude.{slice_index, count_by};
 ghost use Rattle.std.specs.List.{AllByRecursion, zip};
 ghost use Rattle.list_facts.specs.Counting.{one_if};
 

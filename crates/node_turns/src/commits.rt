@@ -21,7 +21,8 @@ pub struct Committed {
 pub fn put_node<W: Work<22>>(work: &mut W, number: u32) -> Option<EntryRef<22>>
     ensures some { IfSome result (λ r. 0 < r) }
     ensures free { IfSome result (λ r. IsLowestFree (W.knows work.old).buffer (W.knows work.old).sizes.buffers (buffer_of 22 r)) }
-    ensures knows { IfSome result (λ r. W.knows work.new ≡ record (handed_out (W.knows work.old) (buffer_of 22 r) 34) { stored = (W.knows work.new).stored }) }
+    ensures knows { IfSome result (λ r. W.knows work.new
+        ≡ record (handed_out (W.knows work.old) (buffer_of 22 r) 34) { stored = (W.knows work.new).stored }) }
     ensures refused { IfNone result (W.knows work.new ≡ W.knows work.old) }
     ensures record { IfSome result (λ r. length (W.records work.new r) ≡ 34) }
 {

@@ -76,22 +76,35 @@ impl<const OFFSET_BITS: u32, W: Work<OFFSET_BITS>> Work<OFFSET_BITS> for NotedWo
     fn store(&mut self, entry: EntryRef<OFFSET_BITS>, i: u32, word: u64)
         requires { MayStore OFFSET_BITS (⟦<NotedWork<OFFSET_BITS, W> as Work<OFFSET_BITS>>⟧.knows self.old) entry i }
         ensures knows { ⟦<NotedWork<OFFSET_BITS, W> as Work<OFFSET_BITS>>⟧.knows self.new
-            ≡ record (⟦<NotedWork<OFFSET_BITS, W> as Work<OFFSET_BITS>>⟧.knows self.old) { stored = with_stored (⟦<NotedWork<OFFSET_BITS, W> as Work<OFFSET_BITS>>⟧.knows self.old).stored entry.entry i word } }
-        ensures others { (q : ℕ) → q ≢ entry.entry → ⟦<NotedWork<OFFSET_BITS, W> as Frozen<OFFSET_BITS>>⟧.records self.new q ≡ ⟦<NotedWork<OFFSET_BITS, W> as Frozen<OFFSET_BITS>>⟧.records self.old q }
-        ensures shape { ⟦<NotedWork<OFFSET_BITS, W> as Frozen<OFFSET_BITS>>⟧.shape self.new ≡ ⟦<NotedWork<OFFSET_BITS, W> as Frozen<OFFSET_BITS>>⟧.shape self.old }
+            ≡ record (⟦<NotedWork<OFFSET_BITS, W> as Work<OFFSET_BITS>>⟧.knows self.old) {
+              stored = with_stored
+                  (⟦<NotedWork<OFFSET_BITS, W> as Work<OFFSET_BITS>>⟧.knows self.old).stored entry.entry i word;
+            } }
+        ensures others { (q : ℕ) → q ≢ entry.entry
+            → ⟦<NotedWork<OFFSET_BITS, W> as Frozen<OFFSET_BITS>>⟧.records self.new q
+            ≡ ⟦<NotedWork<OFFSET_BITS, W> as Frozen<OFFSET_BITS>>⟧.records self.old q }
+        ensures shape { ⟦<NotedWork<OFFSET_BITS, W> as Frozen<OFFSET_BITS>>⟧.shape self.new
+            ≡ ⟦<NotedWork<OFFSET_BITS, W> as Frozen<OFFSET_BITS>>⟧.shape self.old }
     {
         self.notes.store(entry.raw(), i, word);
         self.work.store(entry, i, word);
     }
 
     fn put(&mut self, entry: EntryRef<OFFSET_BITS>, width: u32, words: &[u64])
-        requires entry { IsEntry OFFSET_BITS (⟦<NotedWork<OFFSET_BITS, W> as Work<OFFSET_BITS>>⟧.knows self.old).sizes.buffers (⟦<NotedWork<OFFSET_BITS, W> as Work<OFFSET_BITS>>⟧.knows self.old).sizes.words width entry }
-        requires width { active_width ((⟦<NotedWork<OFFSET_BITS, W> as Work<OFFSET_BITS>>⟧.knows self.old).buffer (buffer_of OFFSET_BITS entry)) ≡ width }
+        requires entry { IsEntry OFFSET_BITS (⟦<NotedWork<OFFSET_BITS, W> as Work<OFFSET_BITS>>⟧.knows self.old).sizes.buffers
+            (⟦<NotedWork<OFFSET_BITS, W> as Work<OFFSET_BITS>>⟧.knows self.old).sizes.words width entry }
+        requires width { active_width ((⟦<NotedWork<OFFSET_BITS, W> as Work<OFFSET_BITS>>⟧.knows self.old).buffer
+            (buffer_of OFFSET_BITS entry)) ≡ width }
         requires fits { length words.now ≤ width }
         requires unkept { InNoCommit (⟦<NotedWork<OFFSET_BITS, W> as Work<OFFSET_BITS>>⟧.knows self.old).commits entry }
-        ensures records { ⟦<NotedWork<OFFSET_BITS, W> as Frozen<OFFSET_BITS>>⟧.records self.new ≡ with_words (⟦<NotedWork<OFFSET_BITS, W> as Frozen<OFFSET_BITS>>⟧.records self.old) entry.entry (padded words.now width) }
-        ensures knows { ⟦<NotedWork<OFFSET_BITS, W> as Work<OFFSET_BITS>>⟧.knows self.new ≡ record (⟦<NotedWork<OFFSET_BITS, W> as Work<OFFSET_BITS>>⟧.knows self.old) { stored = (⟦<NotedWork<OFFSET_BITS, W> as Work<OFFSET_BITS>>⟧.knows self.new).stored } }
-        ensures shape { ⟦<NotedWork<OFFSET_BITS, W> as Frozen<OFFSET_BITS>>⟧.shape self.new ≡ ⟦<NotedWork<OFFSET_BITS, W> as Frozen<OFFSET_BITS>>⟧.shape self.old }
+        ensures records { ⟦<NotedWork<OFFSET_BITS, W> as Frozen<OFFSET_BITS>>⟧.records self.new
+            ≡ with_words (⟦<NotedWork<OFFSET_BITS, W> as Frozen<OFFSET_BITS>>⟧.records self.old) entry.entry (padded words.now width) }
+        ensures knows { ⟦<NotedWork<OFFSET_BITS, W> as Work<OFFSET_BITS>>⟧.knows self.new
+            ≡ record (⟦<NotedWork<OFFSET_BITS, W> as Work<OFFSET_BITS>>⟧.knows self.old) {
+              stored = (⟦<NotedWork<OFFSET_BITS, W> as Work<OFFSET_BITS>>⟧.knows self.new).stored;
+            } }
+        ensures shape { ⟦<NotedWork<OFFSET_BITS, W> as Frozen<OFFSET_BITS>>⟧.shape self.new
+            ≡ ⟦<NotedWork<OFFSET_BITS, W> as Frozen<OFFSET_BITS>>⟧.shape self.old }
     {
         self.notes.put(entry.raw(), words, width);
         self.work.put(entry, width, words);
@@ -102,16 +115,25 @@ impl<const OFFSET_BITS: u32, W: Work<OFFSET_BITS>> Work<OFFSET_BITS> for NotedWo
     }
 
     fn publish(&mut self, root: EntryRef<OFFSET_BITS>) -> u32
-        requires lawful { W.Layout.lawful (⟦<NotedWork<OFFSET_BITS, W> as Frozen<OFFSET_BITS>>⟧.shape self.old) (⟦<NotedWork<OFFSET_BITS, W> as Frozen<OFFSET_BITS>>⟧.records self.old) root }
-        requires room { (⟦<NotedWork<OFFSET_BITS, W> as Work<OFFSET_BITS>>⟧.knows self.old).commits.last < (⟦<NotedWork<OFFSET_BITS, W> as Work<OFFSET_BITS>>⟧.knows self.old).sizes.commits }
+        requires lawful { W.Layout.lawful (⟦<NotedWork<OFFSET_BITS, W> as Frozen<OFFSET_BITS>>⟧.shape self.old)
+            (⟦<NotedWork<OFFSET_BITS, W> as Frozen<OFFSET_BITS>>⟧.records self.old) root }
+        requires room { (⟦<NotedWork<OFFSET_BITS, W> as Work<OFFSET_BITS>>⟧.knows self.old).commits.last
+            < (⟦<NotedWork<OFFSET_BITS, W> as Work<OFFSET_BITS>>⟧.knows self.old).sizes.commits }
         ensures number { result ≡ (⟦<NotedWork<OFFSET_BITS, W> as Work<OFFSET_BITS>>⟧.knows self.old).commits.last + 1 }
-        ensures commit { AddsCommit (⟦<NotedWork<OFFSET_BITS, W> as Work<OFFSET_BITS>>⟧.knows self.old).commits (⟦<NotedWork<OFFSET_BITS, W> as Work<OFFSET_BITS>>⟧.knows self.new).commits
-            (next_image W.Layout.reaches (⟦<NotedWork<OFFSET_BITS, W> as Frozen<OFFSET_BITS>>⟧.shape self.old) (⟦<NotedWork<OFFSET_BITS, W> as Frozen<OFFSET_BITS>>⟧.records self.old) root.entry) }
-        ensures knows { ⟦<NotedWork<OFFSET_BITS, W> as Work<OFFSET_BITS>>⟧.knows self.new ≡ published (⟦<NotedWork<OFFSET_BITS, W> as Work<OFFSET_BITS>>⟧.knows self.old) (⟦<NotedWork<OFFSET_BITS, W> as Work<OFFSET_BITS>>⟧.knows self.new).commits
-            (next_image W.Layout.reaches (⟦<NotedWork<OFFSET_BITS, W> as Frozen<OFFSET_BITS>>⟧.shape self.old) (⟦<NotedWork<OFFSET_BITS, W> as Frozen<OFFSET_BITS>>⟧.records self.old) root.entry) }
+        ensures commit { AddsCommit (⟦<NotedWork<OFFSET_BITS, W> as Work<OFFSET_BITS>>⟧.knows self.old).commits
+            (⟦<NotedWork<OFFSET_BITS, W> as Work<OFFSET_BITS>>⟧.knows self.new).commits
+            (next_image W.Layout.reaches (⟦<NotedWork<OFFSET_BITS, W> as Frozen<OFFSET_BITS>>⟧.shape self.old)
+            (⟦<NotedWork<OFFSET_BITS, W> as Frozen<OFFSET_BITS>>⟧.records self.old) root.entry) }
+        ensures knows { ⟦<NotedWork<OFFSET_BITS, W> as Work<OFFSET_BITS>>⟧.knows self.new
+            ≡ published (⟦<NotedWork<OFFSET_BITS, W> as Work<OFFSET_BITS>>⟧.knows self.old)
+            (⟦<NotedWork<OFFSET_BITS, W> as Work<OFFSET_BITS>>⟧.knows self.new).commits
+            (next_image W.Layout.reaches (⟦<NotedWork<OFFSET_BITS, W> as Frozen<OFFSET_BITS>>⟧.shape self.old)
+            (⟦<NotedWork<OFFSET_BITS, W> as Frozen<OFFSET_BITS>>⟧.records self.old) root.entry) }
         ensures records { ⟦<NotedWork<OFFSET_BITS, W> as Frozen<OFFSET_BITS>>⟧.records self.new
-            ≡ words_at (next_image W.Layout.reaches (⟦<NotedWork<OFFSET_BITS, W> as Frozen<OFFSET_BITS>>⟧.shape self.old) (⟦<NotedWork<OFFSET_BITS, W> as Frozen<OFFSET_BITS>>⟧.records self.old) root.entry) }
-        ensures shape { ⟦<NotedWork<OFFSET_BITS, W> as Frozen<OFFSET_BITS>>⟧.shape self.new ≡ ⟦<NotedWork<OFFSET_BITS, W> as Frozen<OFFSET_BITS>>⟧.shape self.old }
+            ≡ words_at (next_image W.Layout.reaches (⟦<NotedWork<OFFSET_BITS, W> as Frozen<OFFSET_BITS>>⟧.shape self.old)
+            (⟦<NotedWork<OFFSET_BITS, W> as Frozen<OFFSET_BITS>>⟧.records self.old) root.entry) }
+        ensures shape { ⟦<NotedWork<OFFSET_BITS, W> as Frozen<OFFSET_BITS>>⟧.shape self.new
+            ≡ ⟦<NotedWork<OFFSET_BITS, W> as Frozen<OFFSET_BITS>>⟧.shape self.old }
     {
         self.work.publish(root)
     }

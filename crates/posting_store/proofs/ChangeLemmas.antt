@@ -146,7 +146,8 @@ module _ {H : Type 0} (old new : Ledger H) where
 
   pub counts_short : (count : ℕ) → count ≤ 8 → MakesOneOf (class_of (1 + count)) old new → MakesWithin old new (list_most 0 count)
   counts_short count few one = record {
-    each = λ width. subst (λ most. MakesAtMost (capacity old.work.sizes.words width) most (old.of_width width) (new.of_width width)) (sym (short_most 0 count width few)) (of_one (class_of (1 + count)) width 1 one.one one.others);
+    each = λ width. subst (λ most. MakesAtMost (capacity old.work.sizes.words width) most (old.of_width width) (new.of_width width)) (sym (short_most 0 count width few))
+        (of_one (class_of (1 + count)) width 1 one.one one.others);
   }
 
   pub counts_tree : (levels count nodes : ℕ) → 8 < count → nodes ≤ 2 * levels + 1 → CountsNodes old new nodes → MakesWithin old new (list_most levels count)
@@ -163,7 +164,8 @@ module _ {H : Type 0} (old new : Ledger H) where
     where
       more : (width : ℕ) → list_most 0 count width ≤ list_most levels count width
       more width =
-          elim (nat_le count 8) as (λ b. cond b (cond (nat_eq width (class_of (1 + count))) 1 0) (cond (nat_eq width 34) (2 * 0 + 1) 0) ≤ cond b (cond (nat_eq width (class_of (1 + count))) 1 0) (cond (nat_eq width 34) (2 * levels + 1) 0)) [
+          elim (nat_le count 8) as (λ b. cond b (cond (nat_eq width (class_of (1 + count))) 1 0) (cond (nat_eq width 34) (2 * 0 + 1) 0)
+          ≤ cond b (cond (nat_eq width (class_of (1 + count))) 1 0) (cond (nat_eq width 34) (2 * levels + 1) 0)) [
             | true ↦ omega arith
             | false ↦ elim (nat_eq width 34) as (λ b. cond b (2 * 0 + 1) 0 ≤ cond b (2 * levels + 1) 0) [
               | true ↦ omega arith
@@ -180,7 +182,8 @@ module _ {H : Type 0} (old new : Ledger H) where
 
 pub counts_none : {H : Type 0} (ledger : Ledger H) (most : ℕ → ℕ) → MakesWithin ledger ledger most
 counts_none ledger most = record {
-  each = λ width. at_most-more (capacity ledger.work.sizes.words width) 0 (most width) (ledger.of_width width) (ledger.of_width width) (omega arith) (at_most-none (capacity ledger.work.sizes.words width) (ledger.of_width width));
+  each = λ width. at_most-more (capacity ledger.work.sizes.words width) 0 (most width) (ledger.of_width width) (ledger.of_width width) (omega arith)
+      (at_most-none (capacity ledger.work.sizes.words width) (ledger.of_width width));
 }
 
 -- widths

@@ -1,5 +1,6 @@
 -- Items of a short list: a document put in, and one taken out.
-use Rattle.std.proofs.Common.{◌≡◌, ◌≢◌, ℕ, zero, suc, ◌+◌, ◌<◌, ◌≤◌, ◌/◌, ◌^◌, Bool, false, cond, ℤ, List, [], ◌∷◌, ◌++◌, map, length, take, drop, insert, remove, get_or, refl, sym, ap, subst, ◌∙◌, arith, IsTrue, true≢false, length-append}
+use Rattle.std.proofs.Common.{◌≡◌, ◌≢◌, ℕ, zero, suc, ◌+◌, ◌<◌, ◌≤◌, ◌/◌, ◌^◌, Bool, false, cond, ℤ, List, [], ◌∷◌, ◌++◌, map, length, take, drop, insert, remove, get_or, refl, sym, ap, subst, ◌∙◌, arith, IsTrue}
+use Rattle.std.proofs.Common.{true≢false, length-append}
 use Rattle.std.specs.BTreeMap.{insert_entry, is_at}
 use Rattle.std.specs.Cmp.{ranks}
 use Rattle.std.specs.declared.cmp.Ordering.{Ordering}
@@ -65,26 +66,31 @@ module _ (doc : ℕ) (weight : ℤ) (item : ℕ) (is : unpacked item ≡ (doc, w
   put_same [] i low all here = absurd (omega arith)
   put_same (x ∷ xs) zero low all here =
       ap (λ e. e ∷ map unpacked xs) (is ∙ ap (λ d. (d, weight)) (sym here))
-      ∙ ap (λ o. match_ordering o ((doc, weight) ∷ unpacked x ∷ map unpacked xs) ((x / 2 ^ 32, weight) ∷ map unpacked xs) (unpacked x ∷ insert_entry nat_cmp (map unpacked xs) doc weight)) (sym (cmp_same doc (x / 2 ^ 32) here))
+      ∙ ap (λ o. match_ordering o ((doc, weight) ∷ unpacked x ∷ map unpacked xs) ((x / 2 ^ 32, weight) ∷ map unpacked xs) (unpacked x ∷ insert_entry nat_cmp (map unpacked xs) doc weight))
+      (sym (cmp_same doc (x / 2 ^ 32) here))
   put_same (x ∷ xs) (suc i) low all here =
       ap (λ es. unpacked x ∷ es) (put_same xs i (omega arith) all.1 here)
-      ∙ ap (λ o. match_ordering o ((doc, weight) ∷ unpacked x ∷ map unpacked xs) ((x / 2 ^ 32, weight) ∷ map unpacked xs) (unpacked x ∷ insert_entry nat_cmp (map unpacked xs) doc weight)) (sym (cmp_above doc (x / 2 ^ 32) all.0))
+      ∙ ap (λ o. match_ordering o ((doc, weight) ∷ unpacked x ∷ map unpacked xs) ((x / 2 ^ 32, weight) ∷ map unpacked xs) (unpacked x ∷ insert_entry nat_cmp (map unpacked xs) doc weight))
+      (sym (cmp_above doc (x / 2 ^ 32) all.0))
 
   pub put_before : (xs : List ℕ) (i : ℕ) → i < length xs → AllByRecursion (DocBelow doc) (take i xs) → doc < get_or xs i 0 / 2 ^ 32
       → map unpacked (take i xs ++ (item ∷ drop i xs)) ≡ insert_entry nat_cmp (map unpacked xs) doc weight
   put_before [] i low all here = absurd (omega arith)
   put_before (x ∷ xs) zero low all here =
       ap (λ e. e ∷ map unpacked (x ∷ xs)) is
-      ∙ ap (λ o. match_ordering o ((doc, weight) ∷ unpacked x ∷ map unpacked xs) ((x / 2 ^ 32, weight) ∷ map unpacked xs) (unpacked x ∷ insert_entry nat_cmp (map unpacked xs) doc weight)) (sym (cmp_below doc (x / 2 ^ 32) here))
+      ∙ ap (λ o. match_ordering o ((doc, weight) ∷ unpacked x ∷ map unpacked xs) ((x / 2 ^ 32, weight) ∷ map unpacked xs) (unpacked x ∷ insert_entry nat_cmp (map unpacked xs) doc weight))
+      (sym (cmp_below doc (x / 2 ^ 32) here))
   put_before (x ∷ xs) (suc i) low all here =
       ap (λ es. unpacked x ∷ es) (put_before xs i (omega arith) all.1 here)
-      ∙ ap (λ o. match_ordering o ((doc, weight) ∷ unpacked x ∷ map unpacked xs) ((x / 2 ^ 32, weight) ∷ map unpacked xs) (unpacked x ∷ insert_entry nat_cmp (map unpacked xs) doc weight)) (sym (cmp_above doc (x / 2 ^ 32) all.0))
+      ∙ ap (λ o. match_ordering o ((doc, weight) ∷ unpacked x ∷ map unpacked xs) ((x / 2 ^ 32, weight) ∷ map unpacked xs) (unpacked x ∷ insert_entry nat_cmp (map unpacked xs) doc weight))
+      (sym (cmp_above doc (x / 2 ^ 32) all.0))
 
   pub put_last : (xs : List ℕ) → AllByRecursion (DocBelow doc) xs → map unpacked (xs ++ item ∷ []) ≡ insert_entry nat_cmp (map unpacked xs) doc weight
   put_last [] all = ap (λ e. e ∷ []) is
   put_last (x ∷ xs) all =
       ap (λ es. unpacked x ∷ es) (put_last xs all.1)
-      ∙ ap (λ o. match_ordering o ((doc, weight) ∷ unpacked x ∷ map unpacked xs) ((x / 2 ^ 32, weight) ∷ map unpacked xs) (unpacked x ∷ insert_entry nat_cmp (map unpacked xs) doc weight)) (sym (cmp_above doc (x / 2 ^ 32) all.0))
+      ∙ ap (λ o. match_ordering o ((doc, weight) ∷ unpacked x ∷ map unpacked xs) ((x / 2 ^ 32, weight) ∷ map unpacked xs) (unpacked x ∷ insert_entry nat_cmp (map unpacked xs) doc weight))
+      (sym (cmp_above doc (x / 2 ^ 32) all.0))
 
 module _ (doc : ℕ) where
   pub take_here : (xs : List ℕ) (i : ℕ) → i < length xs → AllByRecursion (DocApart doc) (take i xs) → get_or xs i 0 / 2 ^ 32 ≡ doc

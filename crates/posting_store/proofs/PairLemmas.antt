@@ -146,7 +146,8 @@ unfolding IsStrictlySortedBy
 sorted_in doc weight [] up = (tt, tt)
 sorted_in doc weight (e ∷ es) up = told (sorted_in doc weight es up.1) (nat_cmp doc e.0) refl (ranks doc e.0)
   where
-    told : IsStrictlySortedBy nat_cmp (keys_of (insert_entry nat_cmp es doc weight)) → (o : Ordering) → nat_cmp doc e.0 ≡ o → MatchOrdering o (doc < e.0) (doc ≡ e.0) (e.0 < doc) → IsStrictlySortedBy nat_cmp (keys_of (insert_entry nat_cmp (e ∷ es) doc weight))
+    told : IsStrictlySortedBy nat_cmp (keys_of (insert_entry nat_cmp es doc weight)) → (o : Ordering) → nat_cmp doc e.0 ≡ o → MatchOrdering o (doc < e.0) (doc ≡ e.0) (e.0 < doc)
+        → IsStrictlySortedBy nat_cmp (keys_of (insert_entry nat_cmp (e ∷ es) doc weight))
     told rest Less is rank =
         subst (λ o. IsStrictlySortedBy nat_cmp (keys_of (match_ordering o ((doc, weight) ∷ e ∷ es) ((e.0, weight) ∷ es) (e ∷ insert_entry nat_cmp es doc weight)))) (sym is)
         ((is, all_less doc e.0 rank (keys_of es) up.0), up)

@@ -1,5 +1,6 @@
 -- What the mode of a dot product's machine tells of the text before it, and how that text goes on.
-use Rattle.std.proofs.Common.{◌≡◌, ◌<◌, ◌+◌, ◌-◌, ◌*◌, ◌==◌, ◌&&◌, ◌||◌, not, ℕ, ℤ, pos, negsuc, List, [], ◌∷◌, ◌++◌, length, Bool, true, false, cond, eqb, nat_le, Option, Some, None, IfSome, refl, sym, ap, ap₂, subst, ◌∙◌, inl, inr, append_assoc, append-nil, codes, arith}
+use Rattle.std.proofs.Common.{◌≡◌, ◌<◌, ◌+◌, ◌-◌, ◌*◌, ◌==◌, ◌&&◌, ◌||◌, not, ℕ, ℤ, pos, negsuc, List, [], ◌∷◌, ◌++◌, length, Bool, true, false, cond, eqb, nat_le, Option, Some, None, IfSome, refl, sym, ap, ap₂, subst}
+use Rattle.std.proofs.Common.{◌∙◌, inl, inr, append_assoc, append-nil, codes, arith}
 use Rattle.std.specs.Option.{option_and_then, option_map}
 use Rattle.std.specs.List.{flat_map}
 use Rattle.std.proofs.lemmas.Grind.{flat_map-append}

@@ -1,5 +1,6 @@
 -- Where the survey of a dot product comes to over its text.
-use Rattle.std.proofs.Common.{◌≡◌, ◌<◌, ◌+◌, ◌-◌, ◌*◌, ◌==◌, ◌&&◌, ◌||◌, ℕ, ℤ, pos, negsuc, List, [], ◌∷◌, ◌++◌, length, take, Bool, true, false, cond, eqb, not, nat_lt, nat_le, Option, Some, None, refl, sym, ap, ap₂, subst, ◌∙◌, append_assoc, append-nil, codes, arith}
+use Rattle.std.proofs.Common.{◌≡◌, ◌<◌, ◌+◌, ◌-◌, ◌*◌, ◌==◌, ◌&&◌, ◌||◌, ℕ, ℤ, pos, negsuc, List, [], ◌∷◌, ◌++◌, length, take, Bool, true, false, cond, eqb, not, nat_lt, nat_le, Option, Some, None, refl, sym, ap, ap₂}
+use Rattle.std.proofs.Common.{subst, ◌∙◌, append_assoc, append-nil, codes, arith}
 use Rattle.std.specs.Option.{option_and_then, option_map}
 use Rattle.std.specs.List.{list_all}
 use Rattle.std.proofs.Math.Bool.{and_assoc}
@@ -221,7 +222,8 @@ digit_kept : (P : Mode → Type 0) (role : Role) (negative : Bool) (size byte : 
     → next_mode false (modes.Number role negative size) byte ≡ Some to → P to × (is_digit byte ≡ true)
 unfolding next_mode
 digit_kept P role negative size byte to by_itself number e =
-    (elim (is_digit byte) as (λ d. (◌≡◌ {A = Option Mode} (cond (d && not (size == 0)) (Some (modes.Number role negative (capped (capped (size * 10) + (byte - 48))))) (number_ended false role byte)) (Some to)) → P to × (d ≡ true)) [
+    (elim (is_digit byte) as (λ d. (◌≡◌ {A = Option Mode} (cond (d && not (size == 0)) (Some (modes.Number role negative (capped (capped (size * 10) + (byte - 48))))) (number_ended false role byte)) (Some to))
+    → P to × (d ≡ true)) [
       | true ↦ λ f. (sized (not (size == 0)) f, refl)
       | false ↦ λ f. absurd (let lost : None ≡ Some to = ap (λ r. number_ended false r byte) (sym by_itself) ∙ f in cc)
     ]) e

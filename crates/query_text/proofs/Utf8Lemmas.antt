@@ -1,5 +1,6 @@
 -- The texts in a query's text are UTF-8 where the whole is.
-use Rattle.std.proofs.Common.{◌≡◌, ◌<◌, ◌+◌, ℕ, List, [], ◌∷◌, ◌++◌, length, get_or, true, false, ◌&&◌, ◌||◌, ◌==◌, cond, Option, Some, None, option_to_list, refl, sym, ap₂, subst, ◌∙◌, append_assoc, append-nil, codes, arith}
+use Rattle.std.proofs.Common.{◌≡◌, ◌<◌, ◌+◌, ℕ, List, [], ◌∷◌, ◌++◌, length, get_or, true, false, ◌&&◌, ◌||◌, ◌==◌, cond, Option, Some, None, option_to_list, refl, sym, ap₂, subst, ◌∙◌, append_assoc, append-nil, codes}
+use Rattle.std.proofs.Common.{arith}
 use Rattle.std.specs.List.{flat_map, list_all}
 use Rattle.std.specs.Str.{IsUtf8}
 use Rattle.std.proofs.Math.Seq.{take-append_seam, drop-append-add, get_or-append_seam}

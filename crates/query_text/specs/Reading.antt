@@ -39,7 +39,8 @@ after_byte wanted (byte ∷ rest) = if byte == wanted then Some rest else None
 -- the size of a number, from its size before these digits
 unfoldable pub digits_front : ℕ → List ℕ → ℕ × List ℕ
 digits_front size [] = (size, [])
-digits_front size (byte ∷ rest) = if is_digit byte then digits_front (capped (capped (size * 10) + (byte - 48))) rest else (size, byte ∷ rest)
+digits_front size (byte ∷ rest) = if is_digit byte then digits_front (capped (capped (size * 10) + (byte - 48))) rest
+    else (size, byte ∷ rest)
 
 abbrev pub signed : Bool → ℕ → ℤ
 signed true size = neg_ℤ (pos size)
@@ -184,8 +185,10 @@ leaf_of_field field bytes = option_map (λ found. (one field found.0, found.1)) 
 abbrev pub query_by : List Field → Option (List ℕ) → Option (List ℕ) → Option (List ℕ) → (List ℕ → Option (QueryTree × List ℕ)) → List ℕ
     → Option (QueryTree × List ℕ)
 query_by fields (Some rest) conjunction disjunction member bytes = leaf_of_field (field_number fields (Some (name_at_front bytes))) rest
-query_by fields None (Some rest) disjunction member bytes = option_map (λ found. (and (trees found.0), found.1)) (list_front member (length rest) rest)
-query_by fields None None (Some rest) member bytes = option_map (λ found. (or (trees found.0), found.1)) (list_front member (length rest) rest)
+query_by fields None (Some rest) disjunction member bytes =
+    option_map (λ found. (and (trees found.0), found.1)) (list_front member (length rest) rest)
+query_by fields None None (Some rest) member bytes =
+    option_map (λ found. (or (trees found.0), found.1)) (list_front member (length rest) rest)
 query_by fields None None None member bytes = leaf_of_field 0 bytes
 
 -- a query whose members are read so

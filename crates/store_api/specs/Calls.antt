@@ -1,5 +1,6 @@
 -- What the calls of a store make of its ledger.
-use Rattle.std.specs.Prelude.{◌≡◌, ◌≢◌, ◌⊎◌, ℕ, ◌+◌, ◌-◌, ◌<◌, ◌≤◌, true, false, ◌&&◌, not, nat_eq, if◌then◌else◌, List, [], length, drop, Option, None, Some}
+use Rattle.std.specs.Prelude.{◌≡◌, ◌≢◌, ◌⊎◌, ℕ, ◌+◌, ◌-◌, ◌<◌, ◌≤◌, true, false, ◌&&◌, not, nat_eq, if◌then◌else◌, List, [], length, drop}
+use Rattle.std.specs.Prelude.{Option, None, Some}
 use Rattle.entry_ref.specs.References.{buffer_of}
 use Rattle.image_base.specs.declared.Image.{Image}
 use Rattle.image_base.specs.Places.{IsEntry}
@@ -8,7 +9,8 @@ use Rattle.arena_api.specs.Works.{WorkView, Commits, Tag, active_width, free_cou
 use Rattle.arena_api.specs.Calls.{AddsCommit, IsLowestFree, handed_out, padded, published}
 use Rattle.arena_api.specs.Generations.{Advances, LetsGo, Reclaims, advanced, current, reclaimed, retired, freed_below, tag_now}
 use Rattle.arena_api.specs.declared.answers.Oldest.{Oldest}
-use Rattle.store_api.specs.Statuses.{Status, in_use, is_open, is_free_status, is_let_go, after_drop, after_commit, after_accept, free_below, with_status}
+use Rattle.store_api.specs.Statuses.{Status, in_use, is_open, is_free_status, is_let_go, after_drop, after_commit, after_accept}
+use Rattle.store_api.specs.Statuses.{free_below, with_status}
 use Rattle.store_api.specs.Ledgers.{Ledger, OfWidth, active_count, held_count, capacity, is_in, is_this, is_width, one_more, with_counts}
 use Rattle.store_api.specs.Units.{KeepsCommits}
 use Rattle.store_api.specs.declared.store.Stored.{Stored}

@@ -1,5 +1,6 @@
 -- The ledger of a store: what each entry is, and counts by width.
-use Rattle.std.specs.Prelude.{◌≡◌, ℕ, zero, suc, ◌+◌, ◌-◌, ◌/◌, ◌^◌, ◌<◌, ◌≤◌, Bool, true, false, nat_eq, nat_lt, if◌then◌else◌, min, List, [], ◌∷◌, length, Option, None, Some}
+use Rattle.std.specs.Prelude.{◌≡◌, ℕ, zero, suc, ◌+◌, ◌-◌, ◌/◌, ◌^◌, ◌<◌, ◌≤◌, Bool, true, false, nat_eq, nat_lt, if◌then◌else◌, min, List}
+use Rattle.std.specs.Prelude.{[], ◌∷◌, length, Option, None, Some}
 use Rattle.std.specs.List.{list_any}
 use Rattle.entry_ref.specs.References.{buffer_of}
 use Rattle.image_base.specs.declared.Image.{Image}

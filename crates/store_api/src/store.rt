@@ -1,4 +1,5 @@
-ghost use Rattle.std.specs.Prelude.{◌≡◌, ◌<◌, ◌≤◌, ◌+◌, ◌-◌, ◌*◌, ◌/◌, ◌↔◌, ℕ, List, None, Some, true, false, length, IfOk, IfErr, OnErr, IfSome, IfNone};
+ghost use Rattle.std.specs.Prelude.{◌≡◌, ◌<◌, ◌≤◌, ◌+◌, ◌-◌, ◌*◌, ◌/◌, ◌↔◌, ℕ, List, None, Some, true, false, length, IfOk, IfErr, OnErr};
+ghost use Rattle.std.specs.Prelude.{IfSome, IfNone};
 ghost use Rattle.std.specs.List.{IsDistinct, All};
 ghost use Rattle.std.specs.Prelude.{nat_eq};
 ghost use Rattle.entry_ref.specs.References.{buffer_of};
@@ -8,7 +9,8 @@ ghost use Rattle.arena_api.specs.Works.{WorkView, active_width, free_count, last
 ghost use Rattle.arena_api.specs.Calls.{IsWithinLimits, IsInOrder, AddsCommit, FitsEntry, InNoCommit, next_image};
 ghost use Rattle.arena_api.specs.Generations.{IsQueue, current};
 ghost use Rattle.store_api.specs.Statuses.{in_use, has_record, is_committed, is_uncommitted, is_taken, Status};
-ghost use Rattle.store_api.specs.Ledgers.{Ledger, IsEntryOf, IsSpare, IsHeldEntry, IsUnfilled, IsSettled, buffers_in, capacity, is_held, is_width, widths};
+ghost use Rattle.store_api.specs.Ledgers.{Ledger, IsEntryOf, IsSpare, IsHeldEntry, IsUnfilled, IsSettled, buffers_in, capacity, is_held};
+ghost use Rattle.store_api.specs.Ledgers.{is_width, widths};
 ghost use Rattle.store_api.specs.Units.{MayDo};
 ghost use Rattle.store_api.specs.Calls.{GivesBack, MayGiveBack, Makes, Refuses, DropsEntry, Accepts, Undoes, IsWhole, StoresCommit, Seals};
 ghost use Rattle.store_api.specs.Victims.{IsVictim, HasNoVictim};

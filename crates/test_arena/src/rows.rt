@@ -1,4 +1,5 @@
-//! Rows: `row READERS COMMITS GENERATIONS BUFFERS`, or `store ..`, begins one, `PARTY TASK = ANSWER` is a step of it. Other lines are remarks.
+//! Rows: `row READERS COMMITS GENERATIONS BUFFERS`, or `store ..`, begins one, `PARTY TASK = ANSWER` is a step of it. Other lines are
+//! remarks.
 use crate::answers::push_answer;
 use crate::parties::{Told, answers};
 use crate::steps::{Setting, Step, setting_in, step_in};

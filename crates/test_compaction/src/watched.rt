@@ -88,22 +88,35 @@ impl<const OFFSET_BITS: u32, W: Work<OFFSET_BITS>> Work<OFFSET_BITS> for Watched
     fn store(&mut self, entry: EntryRef<OFFSET_BITS>, i: u32, word: u64)
         requires { MayStore OFFSET_BITS (⟦<Watched<OFFSET_BITS, W> as Work<OFFSET_BITS>>⟧.knows self.old) entry i }
         ensures knows { ⟦<Watched<OFFSET_BITS, W> as Work<OFFSET_BITS>>⟧.knows self.new
-            ≡ record (⟦<Watched<OFFSET_BITS, W> as Work<OFFSET_BITS>>⟧.knows self.old) { stored = with_stored (⟦<Watched<OFFSET_BITS, W> as Work<OFFSET_BITS>>⟧.knows self.old).stored entry.entry i word } }
-        ensures others { (q : ℕ) → q ≢ entry.entry → ⟦<Watched<OFFSET_BITS, W> as Frozen<OFFSET_BITS>>⟧.records self.new q ≡ ⟦<Watched<OFFSET_BITS, W> as Frozen<OFFSET_BITS>>⟧.records self.old q }
-        ensures shape { ⟦<Watched<OFFSET_BITS, W> as Frozen<OFFSET_BITS>>⟧.shape self.new ≡ ⟦<Watched<OFFSET_BITS, W> as Frozen<OFFSET_BITS>>⟧.shape self.old }
+            ≡ record (⟦<Watched<OFFSET_BITS, W> as Work<OFFSET_BITS>>⟧.knows self.old) {
+              stored = with_stored
+                  (⟦<Watched<OFFSET_BITS, W> as Work<OFFSET_BITS>>⟧.knows self.old).stored entry.entry i word;
+            } }
+        ensures others { (q : ℕ) → q ≢ entry.entry
+            → ⟦<Watched<OFFSET_BITS, W> as Frozen<OFFSET_BITS>>⟧.records self.new q
+            ≡ ⟦<Watched<OFFSET_BITS, W> as Frozen<OFFSET_BITS>>⟧.records self.old q }
+        ensures shape { ⟦<Watched<OFFSET_BITS, W> as Frozen<OFFSET_BITS>>⟧.shape self.new
+            ≡ ⟦<Watched<OFFSET_BITS, W> as Frozen<OFFSET_BITS>>⟧.shape self.old }
     {
         self.stored.store(entry.raw(), i as usize, word);
         self.work.store(entry, i, word);
     }
 
     fn put(&mut self, entry: EntryRef<OFFSET_BITS>, width: u32, words: &[u64])
-        requires entry { IsEntry OFFSET_BITS (⟦<Watched<OFFSET_BITS, W> as Work<OFFSET_BITS>>⟧.knows self.old).sizes.buffers (⟦<Watched<OFFSET_BITS, W> as Work<OFFSET_BITS>>⟧.knows self.old).sizes.words width entry }
-        requires width { active_width ((⟦<Watched<OFFSET_BITS, W> as Work<OFFSET_BITS>>⟧.knows self.old).buffer (buffer_of OFFSET_BITS entry)) ≡ width }
+        requires entry { IsEntry OFFSET_BITS (⟦<Watched<OFFSET_BITS, W> as Work<OFFSET_BITS>>⟧.knows self.old).sizes.buffers
+            (⟦<Watched<OFFSET_BITS, W> as Work<OFFSET_BITS>>⟧.knows self.old).sizes.words width entry }
+        requires width { active_width ((⟦<Watched<OFFSET_BITS, W> as Work<OFFSET_BITS>>⟧.knows self.old).buffer
+            (buffer_of OFFSET_BITS entry)) ≡ width }
         requires fits { length words.now ≤ width }
         requires unkept { InNoCommit (⟦<Watched<OFFSET_BITS, W> as Work<OFFSET_BITS>>⟧.knows self.old).commits entry }
-        ensures records { ⟦<Watched<OFFSET_BITS, W> as Frozen<OFFSET_BITS>>⟧.records self.new ≡ with_words (⟦<Watched<OFFSET_BITS, W> as Frozen<OFFSET_BITS>>⟧.records self.old) entry.entry (padded words.now width) }
-        ensures knows { ⟦<Watched<OFFSET_BITS, W> as Work<OFFSET_BITS>>⟧.knows self.new ≡ record (⟦<Watched<OFFSET_BITS, W> as Work<OFFSET_BITS>>⟧.knows self.old) { stored = (⟦<Watched<OFFSET_BITS, W> as Work<OFFSET_BITS>>⟧.knows self.new).stored } }
-        ensures shape { ⟦<Watched<OFFSET_BITS, W> as Frozen<OFFSET_BITS>>⟧.shape self.new ≡ ⟦<Watched<OFFSET_BITS, W> as Frozen<OFFSET_BITS>>⟧.shape self.old }
+        ensures records { ⟦<Watched<OFFSET_BITS, W> as Frozen<OFFSET_BITS>>⟧.records self.new
+            ≡ with_words (⟦<Watched<OFFSET_BITS, W> as Frozen<OFFSET_BITS>>⟧.records self.old) entry.entry (padded words.now width) }
+        ensures knows { ⟦<Watched<OFFSET_BITS, W> as Work<OFFSET_BITS>>⟧.knows self.new
+            ≡ record (⟦<Watched<OFFSET_BITS, W> as Work<OFFSET_BITS>>⟧.knows self.old) {
+              stored = (⟦<Watched<OFFSET_BITS, W> as Work<OFFSET_BITS>>⟧.knows self.new).stored;
+            } }
+        ensures shape { ⟦<Watched<OFFSET_BITS, W> as Frozen<OFFSET_BITS>>⟧.shape self.new
+            ≡ ⟦<Watched<OFFSET_BITS, W> as Frozen<OFFSET_BITS>>⟧.shape self.old }
     {
         self.stored.put(entry.raw(), words, width);
         self.work.put(entry, width, words);
@@ -118,16 +131,25 @@ impl<const OFFSET_BITS: u32, W: Work<OFFSET_BITS>> Work<OFFSET_BITS> for Watched
     }
 
     fn publish(&mut self, root: EntryRef<OFFSET_BITS>) -> u32
-        requires lawful { W.Layout.lawful (⟦<Watched<OFFSET_BITS, W> as Frozen<OFFSET_BITS>>⟧.shape self.old) (⟦<Watched<OFFSET_BITS, W> as Frozen<OFFSET_BITS>>⟧.records self.old) root }
-        requires room { (⟦<Watched<OFFSET_BITS, W> as Work<OFFSET_BITS>>⟧.knows self.old).commits.last < (⟦<Watched<OFFSET_BITS, W> as Work<OFFSET_BITS>>⟧.knows self.old).sizes.commits }
+        requires lawful { W.Layout.lawful (⟦<Watched<OFFSET_BITS, W> as Frozen<OFFSET_BITS>>⟧.shape self.old)
+            (⟦<Watched<OFFSET_BITS, W> as Frozen<OFFSET_BITS>>⟧.records self.old) root }
+        requires room { (⟦<Watched<OFFSET_BITS, W> as Work<OFFSET_BITS>>⟧.knows self.old).commits.last
+            < (⟦<Watched<OFFSET_BITS, W> as Work<OFFSET_BITS>>⟧.knows self.old).sizes.commits }
         ensures number { result ≡ (⟦<Watched<OFFSET_BITS, W> as Work<OFFSET_BITS>>⟧.knows self.old).commits.last + 1 }
-        ensures commit { AddsCommit (⟦<Watched<OFFSET_BITS, W> as Work<OFFSET_BITS>>⟧.knows self.old).commits (⟦<Watched<OFFSET_BITS, W> as Work<OFFSET_BITS>>⟧.knows self.new).commits
-            (next_image W.Layout.reaches (⟦<Watched<OFFSET_BITS, W> as Frozen<OFFSET_BITS>>⟧.shape self.old) (⟦<Watched<OFFSET_BITS, W> as Frozen<OFFSET_BITS>>⟧.records self.old) root.entry) }
-        ensures knows { ⟦<Watched<OFFSET_BITS, W> as Work<OFFSET_BITS>>⟧.knows self.new ≡ published (⟦<Watched<OFFSET_BITS, W> as Work<OFFSET_BITS>>⟧.knows self.old) (⟦<Watched<OFFSET_BITS, W> as Work<OFFSET_BITS>>⟧.knows self.new).commits
-            (next_image W.Layout.reaches (⟦<Watched<OFFSET_BITS, W> as Frozen<OFFSET_BITS>>⟧.shape self.old) (⟦<Watched<OFFSET_BITS, W> as Frozen<OFFSET_BITS>>⟧.records self.old) root.entry) }
+        ensures commit { AddsCommit (⟦<Watched<OFFSET_BITS, W> as Work<OFFSET_BITS>>⟧.knows self.old).commits
+            (⟦<Watched<OFFSET_BITS, W> as Work<OFFSET_BITS>>⟧.knows self.new).commits
+            (next_image W.Layout.reaches (⟦<Watched<OFFSET_BITS, W> as Frozen<OFFSET_BITS>>⟧.shape self.old)
+            (⟦<Watched<OFFSET_BITS, W> as Frozen<OFFSET_BITS>>⟧.records self.old) root.entry) }
+        ensures knows { ⟦<Watched<OFFSET_BITS, W> as Work<OFFSET_BITS>>⟧.knows self.new
+            ≡ published (⟦<Watched<OFFSET_BITS, W> as Work<OFFSET_BITS>>⟧.knows self.old)
+            (⟦<Watched<OFFSET_BITS, W> as Work<OFFSET_BITS>>⟧.knows self.new).commits
+            (next_image W.Layout.reaches (⟦<Watched<OFFSET_BITS, W> as Frozen<OFFSET_BITS>>⟧.shape self.old)
+            (⟦<Watched<OFFSET_BITS, W> as Frozen<OFFSET_BITS>>⟧.records self.old) root.entry) }
         ensures records { ⟦<Watched<OFFSET_BITS, W> as Frozen<OFFSET_BITS>>⟧.records self.new
-            ≡ words_at (next_image W.Layout.reaches (⟦<Watched<OFFSET_BITS, W> as Frozen<OFFSET_BITS>>⟧.shape self.old) (⟦<Watched<OFFSET_BITS, W> as Frozen<OFFSET_BITS>>⟧.records self.old) root.entry) }
-        ensures shape { ⟦<Watched<OFFSET_BITS, W> as Frozen<OFFSET_BITS>>⟧.shape self.new ≡ ⟦<Watched<OFFSET_BITS, W> as Frozen<OFFSET_BITS>>⟧.shape self.old }
+            ≡ words_at (next_image W.Layout.reaches (⟦<Watched<OFFSET_BITS, W> as Frozen<OFFSET_BITS>>⟧.shape self.old)
+            (⟦<Watched<OFFSET_BITS, W> as Frozen<OFFSET_BITS>>⟧.records self.old) root.entry) }
+        ensures shape { ⟦<Watched<OFFSET_BITS, W> as Frozen<OFFSET_BITS>>⟧.shape self.new
+            ≡ ⟦<Watched<OFFSET_BITS, W> as Frozen<OFFSET_BITS>>⟧.shape self.old }
     {
         let free = self.work.free_buffers();
         let number = self.work.publish(root);

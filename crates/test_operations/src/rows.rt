@@ -1,5 +1,6 @@
 //! Rows of standard input: `run FIELDS SEED EPISODES OPERATIONS DOCUMENTS VALUES ITEMS PERIOD COMMITS BUFFERS QUERIES CHECKS`, and then
-//! `said LINE`, how much it must have done, and `met WORDS`, what it must have met often enough. FIELDS are `KIND:TYPE`, with commas between
+//! `said LINE`, how much it must have done, and `met WORDS`, what it must have met often enough. FIELDS are `KIND:TYPE`, with commas
+//! between
 //! them. Other lines are remarks.
 use crate::make::Sizes;
 use crate::run::{Load, Told, run};

@@ -1,12 +1,10 @@
 -- Nodes made of slots stand for what is below the slots.
-use Rattle.std.proofs.Common.{◌≡◌, ◌≢◌, ℕ, zero, suc, ◌+◌, ◌≤◌, List, [], ◌∷◌, ◌++◌, length, ap, ◌∙◌, arith, inl, inr, length-append}
-use Rattle.std.proofs.lemmas.Bool.{cases_eq}
+use Rattle.std.proofs.Common.{◌≡◌, ℕ, suc, ◌≤◌, List, [], ◌∷◌, ◌++◌, length, ap, ◌∙◌, arith, length-append}
 use Rattle.image_base.specs.Records.{Records}
-use Rattle.tree_images.specs.Nodes.{IsNodeForm}
-use Rattle.tree_images.specs.Trees.{pairs_below, nodes_below, last_key, IsNode}
+use Rattle.tree_images.specs.Trees.{pairs_below, last_key}
 use Rattle.store_api.specs.Ledgers.{Ledger}
-use Rattle.store_api.proofs.Times.{times-same, times-other, times-append}
-use Rattle.store_api.specs.Parts.{times, uses}
+use Rattle.store_api.proofs.Times.{times-append}
+use Rattle.store_api.specs.Parts.{times}
 use Rattle.tree_make.proofs.MakesLemmas.{makes-then}
 use Rattle.tree_node.proofs.SlotLemmas.{slot_pairs-append, slot_nodes-append, slot_pairs-one, slot_nodes-one, hand-append, hand-one, hand-kept, slot_pairs-kept, slot_nodes-kept}
 use Rattle.tree_make.specs.Makes.{MakesNode}

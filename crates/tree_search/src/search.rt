@@ -11,7 +11,7 @@ use frozen_api::Frozen;
 use key_order::KeyOrder;
 use std::cmp::Ordering;
 use tree_images::{FIRST_KEY, FIRST_VALUE};
-use tree_node::{Spot, read_head};
+use tree_node::read_head;
 
 /// The key of a slot beside the one sought.
 fn compare_slot<const OFFSET_BITS: u32, F: Frozen<OFFSET_BITS>, K: KeyOrder<OFFSET_BITS>>(
@@ -38,67 +38,87 @@ fn seek_slot<const OFFSET_BITS: u32, F: Frozen<OFFSET_BITS>, K: KeyOrder<OFFSET_
     node: EntryRef<OFFSET_BITS>,
     used: u32,
     key: &K,
-) -> Spot
+) -> u32
     requires node { IsNode (F.records frozen.old) 1 (level_of (F.records frozen.old node)) node }
     requires readable { AllReadable K.can_read (F.records frozen.old)
         (pairs_below (F.records frozen.old) (level_of (F.records frozen.old node)) node) }
     requires used { used ≡ length (node_keys (F.records frozen.old node)) }
     ensures slot { IsSlot (seen_by K.read K.order (K.sought key.now) (F.records frozen.old))
-        (node_keys (F.records frozen.old node.entry)) result.slot }
-    ensures found { result.found ≡ true → IsFound (seen_by K.read K.order (K.sought key.now) (F.records frozen.old))
-        (node_keys (F.records frozen.old node.entry)) result.slot }
-    ensures lacking { result.found ≡ false → IsLacking (seen_by K.read K.order (K.sought key.now) (F.records frozen.old))
-        (node_keys (F.records frozen.old node.entry)) result.slot }
+        (node_keys (F.records frozen.old node.entry)) result }
     ensures same { frozen.new ≡ frozen.old }
 {
     for slot in 0..used {
         match compare_slot(frozen, node, slot, key) {
             Ordering::Less => {}
-            Ordering::Equal => return Spot {
-                slot: slot as usize,
-                found: true,
-            },
-            Ordering::Greater => return Spot {
-                slot: slot as usize,
-                found: false,
-            },
+            Ordering::Equal => return slot,
+            Ordering::Greater => return slot,
         }
     }
-    Spot {
-        slot: used as usize,
-        found: false,
+    used
+}
+
+/// Whether the key of the slot where a key was sought is equal to it.
+fn is_at<const OFFSET_BITS: u32, F: Frozen<OFFSET_BITS>, K: KeyOrder<OFFSET_BITS>>(
+    frozen: &mut F,
+    node: EntryRef<OFFSET_BITS>,
+    slot: u32,
+    key: &K,
+) -> bool
+    requires node { IsNode (F.records frozen.old) 1 (level_of (F.records frozen.old node)) node }
+    requires readable { AllReadable K.can_read (F.records frozen.old)
+        (pairs_below (F.records frozen.old) (level_of (F.records frozen.old node)) node) }
+    requires slot { slot < length (node_keys (F.records frozen.old node)) }
+    requires sought { IsSlot (seen_by K.read K.order (K.sought key.now) (F.records frozen.old)) (node_keys (F.records frozen.old node)) slot }
+    ensures found { result ≡ true → IsFound (seen_by K.read K.order (K.sought key.now) (F.records frozen.old))
+        (node_keys (F.records frozen.old node.entry)) slot }
+    ensures lacking { result ≡ false → IsLacking (seen_by K.read K.order (K.sought key.now) (F.records frozen.old))
+        (node_keys (F.records frozen.old node.entry)) slot }
+    ensures same { frozen.new ≡ frozen.old }
+{
+    match compare_slot(frozen, node, slot, key) {
+        Ordering::Less => false,
+        Ordering::Equal => true,
+        Ordering::Greater => false,
     }
 }
 
-/// The pair at a key below a node of this level.
+/// Seeks the pair at a key below a node of this level, from node to node with no answer to hand up.
 fn find_below<const OFFSET_BITS: u32, F: Frozen<OFFSET_BITS>, K: KeyOrder<OFFSET_BITS>>(
     frozen: &mut F,
     node: EntryRef<OFFSET_BITS>,
     level: u64,
     key: &K,
-) -> Option<(u64, u64)>
+    pair: &mut Option<(u64, u64)>,
+)
     requires node { IsNode (F.records frozen.old) 1 level node }
     requires ascends { Ascends K.order K.read (F.records frozen.old) (pairs_below (F.records frozen.old) level node) }
     requires readable { AllReadable K.can_read (F.records frozen.old) (pairs_below (F.records frozen.old) level node) }
-    ensures pair { result ≡ lookup_pair (seen_by K.read K.order (K.sought key.now) (F.records frozen.old))
+    ensures pair { pair.new ≡ lookup_pair (seen_by K.read K.order (K.sought key.now) (F.records frozen.old))
         (pairs_below (F.records frozen.old) level node.entry) }
     ensures same { frozen.new ≡ frozen.old }
 {
     let used = read_head(frozen, node).used;
-    let spot = seek_slot(frozen, node, used, key);
-    let slot = spot.slot as u32;
+    let slot = seek_slot(frozen, node, used, key);
     if slot == used {
-        return None;
+        *pair = None;
+        return;
     }
     let value = frozen.word(node, FIRST_VALUE as u32 + slot);
     if level > 0 {
-        return find_below(frozen, EntryRef::from_raw(value as u32), level - 1, key);
+        find_below(
+            frozen,
+            EntryRef::from_raw(value as u32),
+            level - 1,
+            key,
+            pair,
+        );
+        return;
     }
-    if spot.found {
-        Some((frozen.word(node, FIRST_KEY as u32 + slot), value))
-    } else {
-        None
+    if is_at(frozen, node, slot, key) {
+        *pair = Some((frozen.word(node, FIRST_KEY as u32 + slot), value));
+        return;
     }
+    *pair = None;
 }
 
 /// The stored key and the value at a key in the tree of a root.
@@ -119,7 +139,9 @@ pub fn find<const OFFSET_BITS: u32, F: Frozen<OFFSET_BITS>, K: KeyOrder<OFFSET_B
         return None;
     }
     let level = read_head(frozen, root).level;
-    find_below(frozen, root, level, key)
+    let mut pair = None;
+    find_below(frozen, root, level, key, &mut pair);
+    pair
 }
 
 /// How many pairs the tree of a root has.

@@ -1,5 +1,6 @@
 -- The record of a value, read.
-use Rattle.std.proofs.Common.{◌≡◌, ◌≢◌, ℕ, suc, ◌+◌, ◌-◌, ◌*◌, ◌/◌, ◌<◌, ◌≤◌, List, [], ◌∷◌, ◌++◌, length, get_or, take, drop, replicate, sym, ap, subst, ◌∙◌, arith, length-append, length-take, length-drop, Result, Ok, Err}
+use Rattle.std.proofs.Common.{◌≡◌, ◌≢◌, ℕ, suc, ◌+◌, ◌-◌, ◌*◌, ◌/◌, ◌<◌, ◌≤◌, List, [], ◌∷◌, ◌++◌, length, get_or, take, drop, replicate, sym, ap, subst, ◌∙◌, arith, length-append, length-take, length-drop, Result, Ok}
+use Rattle.std.proofs.Common.{Err}
 use Rattle.std.proofs.lemmas.List.{take-append-drop, take-append-le, take_more, append-nil, get_or-drop}
 use Rattle.std.proofs.lemmas.Grind.{flat_map-append}
 use Rattle.std.specs.Int.{from_be_bytes, to_be_bytes, w64}

@@ -38,7 +38,8 @@ fn add_by<const OFFSET_BITS: u32, S: Store<OFFSET_BITS>>(
         (value_words (values.Text bytes.now))) }
     ensures record { IfOk result (λ r. IsValueRecord types.Text (S.records store.new r)) }
     ensures value { IfOk result (λ r. stored_value types.Text (S.records store.new) r ≡ values.Text bytes.now) }
-    ensures refuses { IfErr result (Refuses (S.ledger store.old) (S.ledger store.new) (class_of (length (value_words (values.Text bytes.now))))) }
+    ensures refuses { IfErr result (Refuses (S.ledger store.old) (S.ledger store.new)
+        (class_of (length (value_words (values.Text bytes.now))))) }
     ensures refused { OnErr result (AddsNothing (S.ledger store.old) (S.ledger store.new) (S.records store.old) (S.records store.new)) }
     ensures counts { MakesOneOf (class_of (length (value_words (values.Text bytes.now)))) (S.ledger store.old) (S.ledger store.new) }
     ensures may { MayDo (S.ledger store.old) (S.ledger store.new) }
@@ -60,7 +61,8 @@ fn add_text<const OFFSET_BITS: u32, S: Store<OFFSET_BITS>>(
         (value_words (values.Text bytes.now))) }
     ensures record { IfOk result (λ r. IsValueRecord types.Text (S.records store.new r)) }
     ensures value { IfOk result (λ r. stored_value types.Text (S.records store.new) r ≡ values.Text bytes.now) }
-    ensures refuses { IfErr result (Refuses (S.ledger store.old) (S.ledger store.new) (class_of (length (value_words (values.Text bytes.now))))) }
+    ensures refuses { IfErr result (Refuses (S.ledger store.old) (S.ledger store.new)
+        (class_of (length (value_words (values.Text bytes.now))))) }
     ensures refused { OnErr result (AddsNothing (S.ledger store.old) (S.ledger store.new) (S.records store.old) (S.records store.new)) }
     ensures counts { MakesOneOf (class_of (length (value_words (values.Text bytes.now)))) (S.ledger store.old) (S.ledger store.new) }
     ensures may { MayDo (S.ledger store.old) (S.ledger store.new) }

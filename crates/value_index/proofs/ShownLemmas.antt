@@ -92,7 +92,8 @@ module _ (value : Value) (v : ℕ → Value) (l : ℕ → Docs) where
           | Greater ↦ λ is h.
               ap (λ e. e ∷ map (shown w k) (q ∷ ps)) at ∙ ap (λ es. (value, docs) ∷ es) (shown_same v w l k (q ∷ ps) h)
         ]) refl same
-        ∙ ap (λ o. match_ordering o ((value, docs) ∷ map (shown v l) (q ∷ ps)) ((v q.0, docs) ∷ map (shown v l) ps) (shown v l q ∷ insert_entry value_cmp (map (shown v l) ps) value docs)) (sym (value_cmp_total.antisymm value (v q.0)))
+        ∙ ap (λ o. match_ordering o ((value, docs) ∷ map (shown v l) (q ∷ ps)) ((v q.0, docs) ∷ map (shown v l) ps) (shown v l q ∷ insert_entry value_cmp (map (shown v l) ps) value docs))
+        (sym (value_cmp_total.antisymm value (v q.0)))
 
     pub shown_out : (ps : List (ℕ × ℕ)) → IsStrictlySortedBy value_cmp (map (λ p. v p.0) ps) → OthersSame ps
         → map (shown w k) (take_out against ps) ≡ remove_entry (is_at (value_cmp value)) (map (shown v l) ps)

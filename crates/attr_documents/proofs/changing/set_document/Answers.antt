@@ -32,8 +32,10 @@ set_reference-requires g c =
       (
         c.make_items.ensures.may.unit ∙ c.requires.unit,
         (
-          still_map c.args.kind c.args.value_type (ledger s) (ledger t) (ledger t) (records s) (records t) (records t) c.args.root c.args.doc c.in_ok-reference.reference c.requires.documents c.requires.owns list c.in_ok-reference.ensures.makes,
-          still_owned c.args.kind c.args.value_type (ledger s) (ledger t) (ledger t) (records s) (records t) (records t) c.args.root c.args.doc c.in_ok-reference.reference c.requires.documents c.requires.owns list c.in_ok-reference.ensures.makes,
+          still_map c.args.kind c.args.value_type (ledger s) (ledger t) (ledger t) (records s) (records t)
+              (records t) c.args.root c.args.doc c.in_ok-reference.reference c.requires.documents c.requires.owns list c.in_ok-reference.ensures.makes,
+          still_owned c.args.kind c.args.value_type (ledger s) (ledger t) (ledger t) (records s) (records t)
+              (records t) c.args.root c.args.doc c.in_ok-reference.reference c.requires.documents c.requires.owns list c.in_ok-reference.ensures.makes,
         ),
       ),
     )
@@ -46,7 +48,8 @@ returns-clause-makes g c =
     let t = c.make_items.new.store in
     let u = c.set_reference.new.store in
     made_documents c.args.kind c.args.value_type (ledger s) (ledger t) (ledger u) (records s) (records t) (records u) c.args.root c.args.doc c.in_ok-reference.reference c.requires.documents c.requires.owns
-    c.requires.beside c.args.keys.now c.args.items.now c.requires.keys c.requires.keys_beside c.requires.lawful c.in_ok-reference.ensures.makes c.make_items.ensures.may c.set_reference.result c.set_reference.ensures.changes
+    c.requires.beside c.args.keys.now c.args.items.now c.requires.keys c.requires.keys_beside c.requires.lawful c.in_ok-reference.ensures.makes c.make_items.ensures.may c.set_reference.result
+    c.set_reference.ensures.changes
 
 pub returns-clause-sets : goal.returns-clause-sets
 returns-clause-sets g c =
@@ -56,7 +59,8 @@ returns-clause-sets g c =
     let t = c.make_items.new.store in
     let u = c.set_reference.new.store in
     set_documents c.args.kind c.args.value_type (ledger s) (ledger t) (ledger u) (records s) (records t) (records u) c.args.root c.args.doc c.in_ok-reference.reference c.requires.documents c.requires.owns
-    c.requires.beside c.args.keys.now c.args.items.now c.requires.keys c.requires.keys_beside c.requires.lawful c.in_ok-reference.ensures.makes c.make_items.ensures.may c.set_reference.result c.set_reference.ensures.changes
+    c.requires.beside c.args.keys.now c.args.items.now c.requires.keys c.requires.keys_beside c.requires.lawful c.in_ok-reference.ensures.makes c.make_items.ensures.may c.set_reference.result
+    c.set_reference.ensures.changes
 
 pub returns-in_err-reference-clause-counts : goal.returns-in_err-reference-clause-counts
 returns-in_err-reference-clause-counts g c =

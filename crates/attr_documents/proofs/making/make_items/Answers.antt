@@ -15,7 +15,8 @@ returns-then-is_empty-clause-makes g c =
     let ledger = g.S.Store.ledger c.args.store.now in
     let m = g.S.Frozen.records c.args.store.now in
     let keys = c.args.keys.now in
-    makes_none ledger ledger m m c.args.kind keys c.args.items.now c.from_raw.result (nil_from_length keys (zero_from_test (length keys) c.is_empty.result c.is_empty.ensures c.if-is_empty.true)) c.from_raw.ensures (turns-same ledger m [])
+    makes_none ledger ledger m m c.args.kind keys c.args.items.now c.from_raw.result (nil_from_length keys (zero_from_test (length keys) c.is_empty.result c.is_empty.ensures c.if-is_empty.true)) c.from_raw.ensures
+    (turns-same ledger m [])
 
 pub make_list-requires : goal.make_list-requires
 make_list-requires g c =

@@ -116,7 +116,8 @@ returns-clause-index g c =
 pub returns-clause-refuses : goal.returns-clause-refuses
 returns-clause-refuses g c =
     let ledger = g.S.Store.ledger in
-    subst (λ s. Rattle.std.specs.Prelude.IfErr c.set_document.result (RefusesOf (IsDocumentWidth c.args.kind (length c.args.items.now)) (ledger s) (ledger c.set_document.new.store))) c.keys_of.ensures.same c.set_document.ensures.refuses
+    subst (λ s. Rattle.std.specs.Prelude.IfErr c.set_document.result (RefusesOf (IsDocumentWidth c.args.kind (length c.args.items.now)) (ledger s) (ledger c.set_document.new.store))) c.keys_of.ensures.same
+    c.set_document.ensures.refuses
 
 pub returns-in_default-clause-counts : goal.returns-in_default-clause-counts
 returns-in_default-clause-counts g c =

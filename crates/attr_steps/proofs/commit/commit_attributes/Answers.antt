@@ -64,8 +64,10 @@ returns-clause-commits g c =
     let laws = laws_of c.field_law.ensures.stays c.field_law.ensures.lawful c.field_law.ensures.keys in
     let keeps = c.root_unit.ensures.keeps in
     let shape = sym (g.met.S.Store.shaped c.root_unit.new.store) ∙ keeps.shape ∙ c.requires.shape in
-    commits_attributes laws c.field_law.ensures.reaches c.root_law.ensures.made old mid m k c.args.fields.now c.args.roots.now c.args.operations c.args.before c.in_ok-root.root c.requires.sized c.requires.few c.ranges.operations.fits
-    c.requires.holds keeps c.in_ok-root.ensures.makes (g.met.S.Store.finished c.root_unit.new.store) (g.S.Frozen.shape c.root_unit.new.store) shape (ledger c.commit-stored.new.self) (records c.commit-stored.new.self) c.commit-stored.result
+    commits_attributes laws c.field_law.ensures.reaches c.root_law.ensures.made old mid m k c.args.fields.now c.args.roots.now c.args.operations c.args.before c.in_ok-root.root c.requires.sized c.requires.few
+    c.ranges.operations.fits
+    c.requires.holds keeps c.in_ok-root.ensures.makes (g.met.S.Store.finished c.root_unit.new.store) (g.S.Frozen.shape c.root_unit.new.store) shape (ledger c.commit-stored.new.self)
+    (records c.commit-stored.new.self) c.commit-stored.result
     c.commit-stored.ensures.commit c.commit-stored.ensures.stores c.commit-stored.ensures.records
 
 pub returns-in_err-root-clause-commits : goal.returns-in_err-root-clause-commits

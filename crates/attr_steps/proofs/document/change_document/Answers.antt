@@ -15,7 +15,8 @@ returns-in_default-clause-refuses g c = tt
 
 pub returns-in_default-clause-counts : goal.returns-in_default-clause-counts
 returns-in_default-clause-counts g c =
-    makes_none (g.S.Store.ledger c.args.store.now) (table_at (g.S.Frozen.records c.args.store.now) (trees_of c.args.fields.now c.args.roots.now)) (option_copied c.args.old) (option_copied c.args.new) (length c.args.fields.now)
+    makes_none (g.S.Store.ledger c.args.store.now) (table_at (g.S.Frozen.records c.args.store.now) (trees_of c.args.fields.now c.args.roots.now)) (option_copied c.args.old) (option_copied c.args.new)
+    (length c.args.fields.now)
 
 pub returns-in_err-change_each-clause-counts : goal.returns-in_err-change_each-clause-counts
 returns-in_err-change_each-clause-counts g c =

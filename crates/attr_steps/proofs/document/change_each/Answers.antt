@@ -142,7 +142,8 @@ loop-i-preserved g c =
           (slice_get_read c.args.fields.now (length c.args.fields.now) c.loop-i.i c.index-fields-i.result refl below c.index-fields-i.is)
           (slice_get_read c.loop-i.roots (length c.args.fields.now) c.loop-i.i c.index-roots-i.result (sym same) below c.index-roots-i.is)
           laws (trees_sound (records c.args.store.now) laws c.args.fields.now c.args.roots.now c.requires.sized c.requires.fields)
-          (option_copied c.items_after-after.result) c.items_after-after.ensures (ledger c.change_field.new.store) (records c.change_field.new.store) c.in_ok-roots.field-0 c.in_ok-roots.ensures.makes c.loop-i.invariant.may;
+          (option_copied c.items_after-after.result) c.items_after-after.ensures (ledger c.change_field.new.store)
+          (records c.change_field.new.store) c.in_ok-roots.field-0 c.in_ok-roots.ensures.makes c.loop-i.invariant.may;
       counts = counts_on (table_at (records c.args.store.now) (trees_of c.args.fields.now c.args.roots.now)) (option_copied c.args.old) (option_copied c.args.new)
           (ledger c.args.store.now) (ledger c.loop-i.store) c.loop-i.i (ledger c.change_field.new.store)
           c.items_before-before.result.now (option_copied c.items_after-after.result) c.items_before-before.ensures c.items_after-after.ensures
@@ -168,8 +169,10 @@ returns-clause-changes g c =
     let last : c.loop-i.i ≡ length fields = (let no = c.loop-i-test.false in let most = c.loop-i.auto.i-end in omega arith) in
     way_ends (ledger c.args.store.now) (ledger c.loop-i.store) c.loop-i.invariant.may m (records c.loop-i.store) fields trees (trees_of fields c.loop-i.roots) c.args.doc (option_copied c.args.new)
     (words_kept (ledger c.args.store.now) (ledger c.loop-i.store) m (records c.loop-i.store) c.loop-i.invariant.may (g.met.S.Store.steady c.args.store.now) (g.met.S.Store.steady c.loop-i.store))
-    c.requires.fields.some (trees_sound m (laws_of c.field_law.ensures.stays c.field_law.ensures.lawful c.field_law.ensures.keys) fields c.args.roots.now c.requires.sized c.requires.fields) c.requires.number c.requires.fits
-    (subst (λ j. IsPartway (ledger c.args.store.now) (ledger c.loop-i.store) m (records c.loop-i.store) fields trees (trees_of fields c.loop-i.roots) (table_with (table_at m trees) c.args.doc (option_copied c.args.new)) j) last c.loop-i.invariant.way)
+    c.requires.fields.some (trees_sound m (laws_of c.field_law.ensures.stays c.field_law.ensures.lawful c.field_law.ensures.keys) fields c.args.roots.now c.requires.sized c.requires.fields) c.requires.number
+    c.requires.fits
+    (subst (λ j. IsPartway (ledger c.args.store.now) (ledger c.loop-i.store) m (records c.loop-i.store) fields trees (trees_of fields c.loop-i.roots)
+    (table_with (table_at m trees) c.args.doc (option_copied c.args.new)) j) last c.loop-i.invariant.way)
 
 pub returns-clause-counts : goal.returns-clause-counts
 returns-clause-counts g c =

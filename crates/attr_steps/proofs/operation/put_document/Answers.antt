@@ -53,7 +53,8 @@ returns-clause-steps g c =
     let m = g.S.Frozen.records c.args.store.now in
     let fields = c.args.fields.now in
     let trees = trees_of fields c.args.roots.now in
-    made_step fields (g.S.Store.ledger c.args.store.now) (g.S.Store.ledger c.change_unit.new.store) m (g.S.Frozen.records c.change_unit.new.store) trees (Put c.args.doc c.args.items.now) c.args.doc (Some c.args.items.now)
+    made_step fields (g.S.Store.ledger c.args.store.now) (g.S.Store.ledger c.change_unit.new.store) m (g.S.Frozen.records c.change_unit.new.store) trees (Put c.args.doc c.args.items.now) c.args.doc
+    (Some c.args.items.now)
     c.in_ok-next.next.items c.in_ok-next.ensures.sized c.in_ok-next.ensures.changes refl
 
 pub returns-in_err-next-clause-counts : goal.returns-in_err-next-clause-counts
@@ -82,5 +83,6 @@ pub returns-in_err-next-clause-widths : goal.returns-in_err-next-clause-widths
 returns-in_err-next-clause-widths g c =
     let fields = c.args.fields.now in
     let table = table_at (g.S.Frozen.records c.args.store.now) (trees_of fields c.args.roots.now) in
-    let widths = width_after fields table (Put c.args.doc c.args.items.now) (option_copied c.args.old) (Some c.args.items.now) c.requires.there (put_after fields table c.args.doc c.args.items.now) (with_document table c.args.doc c.args.items.now) c.in_err-next.field-0.0 refl c.in_err-next.ensures.widths in
+    let widths = width_after fields table (Put c.args.doc c.args.items.now) (option_copied c.args.old) (Some c.args.items.now) c.requires.there (put_after fields table c.args.doc c.args.items.now)
+    (with_document table c.args.doc c.args.items.now) c.in_err-next.field-0.0 refl c.in_err-next.ensures.widths in
     let p = err_from_is_err_and c.from_residual.result c.from_residual.ensures.1 in rw (p.1, p.2) widths

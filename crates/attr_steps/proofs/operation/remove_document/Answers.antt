@@ -87,5 +87,6 @@ returns-in_err-next-clause-widths g c =
     let table = table_at (g.S.Frozen.records c.args.store.now) (trees_of fields c.args.roots.now) in
     let sound = trees_sound (g.S.Frozen.records c.args.store.now) (laws_of c.field_law.ensures.stays c.field_law.ensures.lawful c.field_law.ensures.keys) fields c.args.roots.now c.requires.sized c.requires.fields in
     let after = without_after fields table (Remove c.args.doc) c.args.doc sound (remove_made fields table c.args.doc (option_copied c.args.old) c.requires.there (search rules)) in
-    let widths = width_after fields table (Remove c.args.doc) (option_copied c.args.old) None c.requires.there after (without_document table c.args.doc) c.in_err-next.field-0.0 (remove_made fields table c.args.doc (option_copied c.args.old) c.requires.there (search rules)) c.in_err-next.ensures.widths in
+    let widths = width_after fields table (Remove c.args.doc) (option_copied c.args.old) None c.requires.there after (without_document table c.args.doc) c.in_err-next.field-0.0
+    (remove_made fields table c.args.doc (option_copied c.args.old) c.requires.there (search rules)) c.in_err-next.ensures.widths in
     let p = err_from_is_err_and c.from_residual.result c.from_residual.ensures.1 in rw (p.1, p.2) widths

@@ -60,8 +60,10 @@ returns-in-Put-clause-steps g c =
     let trees = trees_of fields c.args.roots.now in
     let new = c.put_document.new.store in
     let old = c.args.store.now in
-    let here = subst (λ f. Stepped fields (ledger f) (ledger new) (records f) (records new) trees (Put c.doc-doc.result c.in-Put.items) (new ≡ f) c.put_document.result) c.read_document.ensures.same c.put_document.ensures.steps in
-    subst (λ o. Stepped fields (ledger old) (ledger new) (records old) (records new) trees o (new ≡ old) c.put_document.result) (ap (λ d. Put d c.in-Put.items) (c.doc-doc.ensures.doc ∙ ap op_doc c.in-Put.is) ∙ sym c.in-Put.is) here
+    let here = subst (λ f. Stepped fields (ledger f) (ledger new) (records f) (records new) trees (Put c.doc-doc.result c.in-Put.items) (new ≡ f) c.put_document.result) c.read_document.ensures.same
+    c.put_document.ensures.steps in
+    subst (λ o. Stepped fields (ledger old) (ledger new) (records old) (records new) trees o (new ≡ old) c.put_document.result)
+    (ap (λ d. Put d c.in-Put.items) (c.doc-doc.ensures.doc ∙ ap op_doc c.in-Put.is) ∙ sym c.in-Put.is) here
 
 pub returns-in-Put-clause-keeps : goal.returns-in-Put-clause-keeps
 returns-in-Put-clause-keeps g c = subst (λ f. KeepsStore (g.S.Store.ledger f) (g.S.Store.ledger c.put_document.new.store)) c.read_document.ensures.same c.put_document.ensures.keeps
@@ -104,7 +106,8 @@ returns-in-Update-clause-steps g c =
     let trees = trees_of fields c.args.roots.now in
     let new = c.update_document.new.store in
     let old = c.args.store.now in
-    let here = subst (λ f. Stepped fields (ledger f) (ledger new) (records f) (records new) trees (Update c.doc-doc.result c.in-Update.create c.as_slice.result.now) (new ≡ f) c.update_document.result) c.read_document.ensures.same c.update_document.ensures.steps in
+    let here = subst (λ f. Stepped fields (ledger f) (ledger new) (records f) (records new) trees (Update c.doc-doc.result c.in-Update.create c.as_slice.result.now) (new ≡ f) c.update_document.result)
+    c.read_document.ensures.same c.update_document.ensures.steps in
     subst (λ o. Stepped fields (ledger old) (ledger new) (records old) (records new) trees o (new ≡ old) c.update_document.result) (ap (λ changes. Update c.doc-doc.result c.in-Update.create changes) c.as_slice.ensures
     ∙ ap (λ d. Update d c.in-Update.create c.in-Update.change) (c.doc-doc.ensures.doc ∙ ap op_doc c.in-Update.is) ∙ sym c.in-Update.is) here
 
@@ -140,7 +143,8 @@ returns-clause-steps g c =
     let trees = trees_of fields c.args.roots.now in
     let new = c.remove_document.new.store in
     let old = c.args.store.now in
-    let here = subst (λ f. Stepped fields (ledger f) (ledger new) (records f) (records new) trees (Remove c.doc-doc.result) (new ≡ f) c.remove_document.result) c.read_document.ensures.same c.remove_document.ensures.steps in
+    let here = subst (λ f. Stepped fields (ledger f) (ledger new) (records f) (records new) trees (Remove c.doc-doc.result) (new ≡ f) c.remove_document.result) c.read_document.ensures.same
+    c.remove_document.ensures.steps in
     subst (λ o. Stepped fields (ledger old) (ledger new) (records old) (records new) trees o (new ≡ old) c.remove_document.result) (ap Remove (c.doc-doc.ensures.doc ∙ ap op_doc c.in-Remove.is) ∙ sym c.in-Remove.is) here
 
 pub returns-clause-keeps : goal.returns-clause-keeps
@@ -173,7 +177,8 @@ returns-in-Put-clause-spares g c =
     let trees = trees_of fields c.args.roots.now in
     let new = c.put_document.new.store in
     let old = c.args.store.now in
-    let here = subst (λ f. IfErr c.put_document.result (SparesOperation (ledger new) fields (table_at (records f) trees) (Put c.doc-doc.result c.in-Put.items))) c.read_document.ensures.same c.put_document.ensures.spares in
+    let here = subst (λ f. IfErr c.put_document.result (SparesOperation (ledger new) fields (table_at (records f) trees) (Put c.doc-doc.result c.in-Put.items))) c.read_document.ensures.same
+    c.put_document.ensures.spares in
     subst (λ o. IfErr c.put_document.result (SparesOperation (ledger new) fields (table_at (records old) trees) o)) (ap (λ d. Put d c.in-Put.items) (c.doc-doc.ensures.doc ∙ ap op_doc c.in-Put.is) ∙ sym c.in-Put.is) here
 
 pub returns-in-Update-clause-counts : goal.returns-in-Update-clause-counts
@@ -184,7 +189,8 @@ returns-in-Update-clause-counts g c =
     let trees = trees_of fields c.args.roots.now in
     let new = c.update_document.new.store in
     let old = c.args.store.now in
-    let here = subst (λ f. MakesOperation (ledger f) (ledger new) fields (table_at (records f) trees) (Update c.doc-doc.result c.in-Update.create c.as_slice.result.now)) c.read_document.ensures.same c.update_document.ensures.counts in
+    let here = subst (λ f. MakesOperation (ledger f) (ledger new) fields (table_at (records f) trees) (Update c.doc-doc.result c.in-Update.create c.as_slice.result.now)) c.read_document.ensures.same
+    c.update_document.ensures.counts in
     subst (λ o. MakesOperation (ledger old) (ledger new) fields (table_at (records old) trees) o) (ap (λ changes. Update c.doc-doc.result c.in-Update.create changes) c.as_slice.ensures
     ∙ ap (λ d. Update d c.in-Update.create c.in-Update.change) (c.doc-doc.ensures.doc ∙ ap op_doc c.in-Update.is) ∙ sym c.in-Update.is) here
 
@@ -196,7 +202,8 @@ returns-in-Update-clause-spares g c =
     let trees = trees_of fields c.args.roots.now in
     let new = c.update_document.new.store in
     let old = c.args.store.now in
-    let here = subst (λ f. IfErr c.update_document.result (SparesOperation (ledger new) fields (table_at (records f) trees) (Update c.doc-doc.result c.in-Update.create c.as_slice.result.now))) c.read_document.ensures.same c.update_document.ensures.spares in
+    let here = subst (λ f. IfErr c.update_document.result (SparesOperation (ledger new) fields (table_at (records f) trees) (Update c.doc-doc.result c.in-Update.create c.as_slice.result.now)))
+    c.read_document.ensures.same c.update_document.ensures.spares in
     subst (λ o. IfErr c.update_document.result (SparesOperation (ledger new) fields (table_at (records old) trees) o)) (ap (λ changes. Update c.doc-doc.result c.in-Update.create changes) c.as_slice.ensures
     ∙ ap (λ d. Update d c.in-Update.create c.in-Update.change) (c.doc-doc.ensures.doc ∙ ap op_doc c.in-Update.is) ∙ sym c.in-Update.is) here
 
@@ -228,8 +235,10 @@ returns-in-Put-clause-widths g c =
     let fields = c.args.fields.now in
     let trees = trees_of fields c.args.roots.now in
     let old = c.args.store.now in
-    let here = subst (λ f. IfErr c.put_document.result (IsFullAmong (IsOperationWidth fields (table_at (records f) trees) (Put c.doc-doc.result c.in-Put.items)))) c.read_document.ensures.same c.put_document.ensures.widths in
-    subst (λ o. IfErr c.put_document.result (IsFullAmong (IsOperationWidth fields (table_at (records old) trees) o))) (ap (λ d. Put d c.in-Put.items) (c.doc-doc.ensures.doc ∙ ap op_doc c.in-Put.is) ∙ sym c.in-Put.is) here
+    let here = subst (λ f. IfErr c.put_document.result (IsFullAmong (IsOperationWidth fields (table_at (records f) trees) (Put c.doc-doc.result c.in-Put.items)))) c.read_document.ensures.same
+    c.put_document.ensures.widths in
+    subst (λ o. IfErr c.put_document.result (IsFullAmong (IsOperationWidth fields (table_at (records old) trees) o)))
+    (ap (λ d. Put d c.in-Put.items) (c.doc-doc.ensures.doc ∙ ap op_doc c.in-Put.is) ∙ sym c.in-Put.is) here
 
 pub returns-in-Update-clause-widths : goal.returns-in-Update-clause-widths
 returns-in-Update-clause-widths g c =
@@ -237,7 +246,8 @@ returns-in-Update-clause-widths g c =
     let fields = c.args.fields.now in
     let trees = trees_of fields c.args.roots.now in
     let old = c.args.store.now in
-    let here = subst (λ f. IfErr c.update_document.result (IsFullAmong (IsOperationWidth fields (table_at (records f) trees) (Update c.doc-doc.result c.in-Update.create c.as_slice.result.now)))) c.read_document.ensures.same c.update_document.ensures.widths in
+    let here = subst (λ f. IfErr c.update_document.result (IsFullAmong (IsOperationWidth fields (table_at (records f) trees) (Update c.doc-doc.result c.in-Update.create c.as_slice.result.now))))
+    c.read_document.ensures.same c.update_document.ensures.widths in
     subst (λ o. IfErr c.update_document.result (IsFullAmong (IsOperationWidth fields (table_at (records old) trees) o))) (ap (λ changes. Update c.doc-doc.result c.in-Update.create changes) c.as_slice.ensures
     ∙ ap (λ d. Update d c.in-Update.create c.in-Update.change) (c.doc-doc.ensures.doc ∙ ap op_doc c.in-Update.is) ∙ sym c.in-Update.is) here
 

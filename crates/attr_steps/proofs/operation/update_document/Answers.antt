@@ -66,20 +66,23 @@ returns-clause-steps g c =
     let sound = trees_sound m (laws_of c.field_law.ensures.stays c.field_law.ensures.lawful c.field_law.ensures.keys) fields c.args.roots.now c.requires.sized c.requires.fields in
     let made = update_made fields (table_at m trees) c.args.doc c.args.create c.args.changes.now (option_copied c.args.old) c.in-Some.document sound c.requires.fits c.requires.there
     (sym c.in-Some.is ∙ c.in-Ok.ensures) in
-    made_step fields (g.S.Store.ledger c.args.store.now) (g.S.Store.ledger c.change_unit.new.store) m (g.S.Frozen.records c.change_unit.new.store) trees (Update c.args.doc c.args.create c.args.changes.now) c.args.doc (Some c.in-Some.document)
+    made_step fields (g.S.Store.ledger c.args.store.now) (g.S.Store.ledger c.change_unit.new.store) m (g.S.Frozen.records c.change_unit.new.store) trees (Update c.args.doc c.args.create c.args.changes.now) c.args.doc
+    (Some c.in-Some.document)
     c.in_ok-next.next.items c.in_ok-next.ensures.sized c.in_ok-next.ensures.changes made.1
 
 pub returns-in_default-clause-counts : goal.returns-in_default-clause-counts
 returns-in_default-clause-counts g c =
     let fields = c.args.fields.now in
     let table = table_at (g.S.Frozen.records c.args.store.now) (trees_of fields c.args.roots.now) in
-    makes_none (g.S.Store.ledger c.args.store.now) table (document_before table (Update c.args.doc c.args.create c.args.changes.now)) (document_after fields table (Update c.args.doc c.args.create c.args.changes.now)) (length fields)
+    makes_none (g.S.Store.ledger c.args.store.now) table (document_before table (Update c.args.doc c.args.create c.args.changes.now)) (document_after fields table (Update c.args.doc c.args.create c.args.changes.now))
+    (length fields)
 
 pub returns-in_default-new-clause-counts : goal.returns-in_default-new-clause-counts
 returns-in_default-new-clause-counts g c =
     let fields = c.args.fields.now in
     let table = table_at (g.S.Frozen.records c.args.store.now) (trees_of fields c.args.roots.now) in
-    makes_none (g.S.Store.ledger c.args.store.now) table (document_before table (Update c.args.doc c.args.create c.args.changes.now)) (document_after fields table (Update c.args.doc c.args.create c.args.changes.now)) (length fields)
+    makes_none (g.S.Store.ledger c.args.store.now) table (document_before table (Update c.args.doc c.args.create c.args.changes.now)) (document_after fields table (Update c.args.doc c.args.create c.args.changes.now))
+    (length fields)
 
 pub returns-in_err-next-clause-counts : goal.returns-in_err-next-clause-counts
 returns-in_err-next-clause-counts g c =
@@ -119,5 +122,6 @@ returns-in_err-next-clause-widths g c =
     let sound = trees_sound (g.S.Frozen.records c.args.store.now) (laws_of c.field_law.ensures.stays c.field_law.ensures.lawful c.field_law.ensures.keys) fields c.args.roots.now c.requires.sized c.requires.fields in
     let made = update_made fields table c.args.doc c.args.create c.args.changes.now (option_copied c.args.old) c.in-Some.document sound c.requires.fits c.requires.there (sym c.in-Some.is ∙ c.in-Ok.ensures) in
     let after = with_after fields table (Update c.args.doc c.args.create c.args.changes.now) c.args.doc c.in-Some.document made.1 in
-    let widths = width_after fields table (Update c.args.doc c.args.create c.args.changes.now) (option_copied c.args.old) (Some c.in-Some.document) c.requires.there after (with_document table c.args.doc c.in-Some.document) c.in_err-next.field-0.0 made.1 c.in_err-next.ensures.widths in
+    let widths = width_after fields table (Update c.args.doc c.args.create c.args.changes.now) (option_copied c.args.old) (Some c.in-Some.document) c.requires.there after
+    (with_document table c.args.doc c.in-Some.document) c.in_err-next.field-0.0 made.1 c.in_err-next.ensures.widths in
     let p = err_from_is_err_and c.from_residual.result c.from_residual.ensures.1 in rw (p.1, p.2) widths

@@ -75,7 +75,8 @@ returns-in-Ok-clause-counts g c =
     let made = subst (λ f. MakesDocument (ledger c.begin.new.self) (ledger c.change_document.new.store) (table_at f trees) (option_copied c.args.old) (option_copied c.args.new) (length c.args.fields.now))
     c.begin.ensures.records c.change_document.ensures.counts in
     document_unit (ledger c.args.store.now) (ledger c.begin.new.self) (ledger c.change_document.new.store) (ledger c.accept.new.self) (table_at (g.S.Frozen.records c.args.store.now) trees)
-    (option_copied c.args.old) (option_copied c.args.new) (length c.args.fields.now) c.begin.ensures.ledger made (g.S.Frozen.records c.accept.new.self) c.accept.ensures.counts (g.met.S.Store.settled c.accept.new.self c.accept.ensures.unit)
+    (option_copied c.args.old) (option_copied c.args.new) (length c.args.fields.now) c.begin.ensures.ledger made (g.S.Frozen.records c.accept.new.self) c.accept.ensures.counts
+    (g.met.S.Store.settled c.accept.new.self c.accept.ensures.unit)
 
 pub returns-in-Ok-clause-keeps : goal.returns-in-Ok-clause-keeps
 returns-in-Ok-clause-keeps g c =
@@ -96,7 +97,8 @@ pub returns-in-Err-clause-refused : goal.returns-in-Err-clause-refused
 returns-in-Err-clause-refused g c =
     let ledger = g.S.Store.ledger in
     let mid = ledger c.change_document.new.store in
-    let among : Records → ℕ → Type 0 = λ f. IsChangedWidth c.args.fields.now (table_with (table_at f (trees_of c.args.fields.now c.args.roots.now)) c.args.doc (option_copied c.args.new)) (option_copied c.args.old) (option_copied c.args.new) in
+    let among : Records → ℕ → Type 0 = λ f. IsChangedWidth c.args.fields.now (table_with (table_at f (trees_of c.args.fields.now c.args.roots.now)) c.args.doc (option_copied c.args.new)) (option_copied c.args.old)
+    (option_copied c.args.new) in
     refused_among (among (g.S.Frozen.records c.begin.new.self)) (ledger c.args.store.now) mid (ledger c.undo.new.self) c.in-Err.error c.undo.ensures.work
     (subst (λ l. RefusesOf (among (g.S.Frozen.records c.begin.new.self)) l mid c.in-Err.error) c.begin.ensures.ledger c.in-Err.ensures.refuses)
 
@@ -107,12 +109,14 @@ returns-in-Err-clause-counts g c =
     let made = subst (λ f. MakesDocument (ledger c.begin.new.self) (ledger c.change_document.new.store) (table_at f trees) (option_copied c.args.old) (option_copied c.args.new) (length c.args.fields.now))
     c.begin.ensures.records c.change_document.ensures.counts in
     document_unit (ledger c.args.store.now) (ledger c.begin.new.self) (ledger c.change_document.new.store) (ledger c.undo.new.self) (table_at (g.S.Frozen.records c.args.store.now) trees)
-    (option_copied c.args.old) (option_copied c.args.new) (length c.args.fields.now) c.begin.ensures.ledger made (g.S.Frozen.records c.undo.new.self) c.undo.ensures.counts (g.met.S.Store.settled c.undo.new.self c.undo.ensures.unit)
+    (option_copied c.args.old) (option_copied c.args.new) (length c.args.fields.now) c.begin.ensures.ledger made (g.S.Frozen.records c.undo.new.self) c.undo.ensures.counts
+    (g.met.S.Store.settled c.undo.new.self c.undo.ensures.unit)
 
 pub returns-in-Err-clause-spares : goal.returns-in-Err-clause-spares
 returns-in-Err-clause-spares g c =
     let ledger = g.S.Store.ledger in
-    let among : Records → ℕ → Type 0 = λ f. IsChangedWidth c.args.fields.now (table_with (table_at f (trees_of c.args.fields.now c.args.roots.now)) c.args.doc (option_copied c.args.new)) (option_copied c.args.old) (option_copied c.args.new) in
+    let among : Records → ℕ → Type 0 = λ f. IsChangedWidth c.args.fields.now (table_with (table_at f (trees_of c.args.fields.now c.args.roots.now)) c.args.doc (option_copied c.args.new)) (option_copied c.args.old)
+    (option_copied c.args.new) in
     spares_among (ledger c.args.store.now) (ledger c.begin.new.self) (ledger c.change_document.new.store) (ledger c.undo.new.self)
     (document_nodes (option_copied c.args.old) (option_copied c.args.new) (length c.args.fields.now)) (document_records (option_copied c.args.old) (option_copied c.args.new) (length c.args.fields.now))
     c.begin.ensures.ledger c.change_document.ensures.counts.few (among (g.S.Frozen.records c.begin.new.self)) (g.S.Frozen.records c.args.store.now) (g.S.Frozen.records c.undo.new.self) c.in-Err.error
@@ -129,6 +133,7 @@ pub returns-in-Err-clause-widths : goal.returns-in-Err-clause-widths
 returns-in-Err-clause-widths g c =
     let ledger = g.S.Store.ledger in
     let records = g.S.Frozen.records in
-    let among : Records → ℕ → Type 0 = λ f. IsChangedWidth c.args.fields.now (table_with (table_at f (trees_of c.args.fields.now c.args.roots.now)) c.args.doc (option_copied c.args.new)) (option_copied c.args.old) (option_copied c.args.new) in
+    let among : Records → ℕ → Type 0 = λ f. IsChangedWidth c.args.fields.now (table_with (table_at f (trees_of c.args.fields.now c.args.roots.now)) c.args.doc (option_copied c.args.new)) (option_copied c.args.old)
+    (option_copied c.args.new) in
     subst (λ f. IsFullAmong (among f) c.in-Err.error) c.begin.ensures.records
     (full_among (among (records c.begin.new.self)) (ledger c.begin.new.self) (ledger c.change_document.new.store) c.in-Err.error c.in-Err.ensures.refuses)

@@ -12,8 +12,10 @@ loop-number-preserved c =
     let below : i < length xs = omega (arith, c.loop-number-test.true, c.len-number-end.ensures, c.self.inside.buffers.ok.0) in
     let gain : c.gain-gain.result ≡ gain_of (buffer_at xs i) = c.gain-gain.ensures ∙ ap gain_of (get_or_read xs i _ below c.index.ensures new_buffer) in
     elim c.if-gain-most.branch [
-      | then-gain-most w ↦ rw (w.victim-is, w.most-is) (best-take xs i c.loop-number.victim c.loop-number.most c.gain-gain.result c.loop-number.invariant gain (let high : c.loop-number.most < c.gain-gain.result = omega (arith, w.if-gain-most) in high))
-      | else-gain-most w ↦ rw (w.victim-is, w.most-is) (best-keep xs i c.loop-number.victim c.loop-number.most c.loop-number.invariant (let low : gain_of (buffer_at xs i) ≤ c.loop-number.most = omega (arith, w.if-gain-most, gain) in low))
+      | then-gain-most w ↦ rw (w.victim-is, w.most-is) (best-take xs i c.loop-number.victim c.loop-number.most c.gain-gain.result c.loop-number.invariant gain
+          (let high : c.loop-number.most < c.gain-gain.result = omega (arith, w.if-gain-most) in high))
+      | else-gain-most w ↦ rw (w.victim-is, w.most-is) (best-keep xs i c.loop-number.victim c.loop-number.most c.loop-number.invariant
+          (let low : gain_of (buffer_at xs i) ≤ c.loop-number.most = omega (arith, w.if-gain-most, gain) in low))
     ]
 
 pub returns-clause-victim : goal.returns-clause-victim

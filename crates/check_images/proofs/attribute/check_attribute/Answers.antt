@@ -44,7 +44,8 @@ returns-then-not-have_all_values-clause-exact c = λ lawful.
     let values = c.as_slice-2.ensures.value ∙ c.in_ok-values.ensures.values ∙ sym (index_keys type m (tree_pairs m c.args.dictionary)) in
     let rows = c.as_slice-3.ensures.value ∙ c.in_ok-column.ensures.column in
     let covered = subst (λ (t : Column). AllByRecursion (λ (e : ℕ × List Item). AllByRecursion (λ (item : Item). Contains c.as_slice-2.result.now item.value) e.1) t) (sym rows)
-    (subst (λ (vs : List Value). AllByRecursion (λ (e : ℕ × List Item). AllByRecursion (λ (item : Item). Contains vs item.value) e.1) all) (sym values) (values_cover all (index_of type m c.args.dictionary) lawful.values)) in
+    (subst (λ (vs : List Value). AllByRecursion (λ (e : ℕ × List Item). AllByRecursion (λ (item : Item). Contains vs item.value) e.1) all) (sym values)
+    (values_cover all (index_of type m c.args.dictionary) lawful.values)) in
     true≢false (sym (c.have_all_values.ensures.1 covered) ∙ c.if-not-have_all_values.true)
 
 pub returns-clause-lawful : goal.returns-clause-lawful
@@ -53,11 +54,13 @@ returns-clause-lawful c =
     let type = c.args.value_type in
     let pairs = tree_pairs m c.args.dictionary in
     let all = column_at c.args.kind type m c.args.documents in
-    let lists = subst (λ (t : Column). AllByRecursion (λ (p : ℕ × ℕ). postings_at m (list_form p.1) ≡ documents_with (stored_value type m p.0) t) pairs) (c.as_slice.ensures.value ∙ c.in_ok-column.ensures.column) c.in_ok-values.ensures.lists in
+    let lists = subst (λ (t : Column). AllByRecursion (λ (p : ℕ × ℕ). postings_at m (list_form p.1) ≡ documents_with (stored_value type m p.0) t) pairs)
+    (c.as_slice.ensures.value ∙ c.in_ok-column.ensures.column) c.in_ok-values.ensures.lists in
     let values = c.as_slice-2.ensures.value ∙ c.in_ok-values.ensures.values in
     let rows = c.as_slice-3.ensures.value ∙ c.in_ok-column.ensures.column in
     let covered = subst (AllByRecursion (λ (e : ℕ × List Item). AllByRecursion (λ (item : Item). Contains (map (λ (p : ℕ × ℕ). stored_value type m p.0) pairs) item.value) e.1)) rows
-    (subst (λ (vs : List Value). AllByRecursion (λ (e : ℕ × List Item). AllByRecursion (λ (item : Item). Contains vs item.value) e.1) c.as_slice-3.result.now) values (c.have_all_values.ensures.0 c.if-not-have_all_values.false)) in
+    (subst (λ (vs : List Value). AllByRecursion (λ (e : ℕ × List Item). AllByRecursion (λ (item : Item). Contains vs item.value) e.1) c.as_slice-3.result.now) values
+    (c.have_all_values.ensures.0 c.if-not-have_all_values.false)) in
     record {
       forms = record {
         documents_tree = c.in_ok-column.ensures.tree;

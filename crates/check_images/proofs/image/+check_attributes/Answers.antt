@@ -15,7 +15,8 @@ returns-then-not-have_same_documents-clause-exact t c = λ good.
     let field = c.field-item.result in
     let rest = take (length fields - 1) (drop 1 fields) in
     let is = taken_apart fields field c.in-len1-up.len_at_least c.field-item.is in
-    let keys = other_fields_keys m c.args.words.now c.args.first (c.args.first + 1) c.word_in-documents.result c.word_in-dictionary.result field fields rest is refl c.word_in-documents.ensures c.word_in-dictionary.ensures
+    let keys = other_fields_keys m c.args.words.now c.args.first (c.args.first + 1) c.word_in-documents.result c.word_in-dictionary.result field fields rest is refl c.word_in-documents.ensures
+    c.word_in-dictionary.ensures
     (more_than_none _ c.if-is_empty.ensures) good in
     let same = ap keys_of (c.as_slice-2.ensures.value ∙ c.in_ok-table.ensures.table) ∙ keys ∙ sym (ap keys_of (c.as_slice.ensures.value ∙ c.in_ok-column.ensures.column)) in
     true≢false (sym (c.have_same_documents.ensures.1 same) ∙ c.if-not-have_same_documents.true)

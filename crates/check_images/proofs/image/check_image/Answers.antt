@@ -38,7 +38,8 @@ returns-clause-table c =
     let some : 0 < c.args.root = (let other = c.if-root-eq0.false in omega arith) in
     let whole = image_table c.args.fields.now m c.args.root some c.requires words c.words_at-words.ensures.words in
     if_ok_then c.check_attributes.result (λ table is. is ∙ whole)
-    (subst (λ (fs : List Field). IfOk c.check_attributes.result (λ (table : Vec (ℕ × Document) Global). table.items ≡ table_of_columns (columns_at m (attributes_from 0 (types_of fs) words)))) c.as_slice.ensures c.check_attributes.ensures.table)
+    (subst (λ (fs : List Field). IfOk c.check_attributes.result (λ (table : Vec (ℕ × Document) Global). table.items ≡ table_of_columns (columns_at m (attributes_from 0 (types_of fs) words)))) c.as_slice.ensures
+    c.check_attributes.ensures.table)
 
 pub returns-clause-exact : goal.returns-clause-exact
 returns-clause-exact c =

@@ -12,12 +12,14 @@ returns-in_default c = (
 pub returns-then-row-entry : goal.returns-then-row-entry
 returns-then-row-entry c = (
   λ is. absurd (true≢false (sym is)),
-  λ same. absurd (keys_differ c.args.table.now c.loop-entry.rows.now c.args.column.now c.loop-entry.entry-index c.loop-entry.invariant c.row-item.result c.entry-item.result c.in-len1-up.len_at_least c.row-item.is c.if-row-entry.true c.loop-entry-test.true c.entry-item.is same),
+  λ same. absurd (keys_differ c.args.table.now c.loop-entry.rows.now c.args.column.now c.loop-entry.entry-index c.loop-entry.invariant c.row-item.result c.entry-item.result c.in-len1-up.len_at_least c.row-item.is
+      c.if-row-entry.true c.loop-entry-test.true c.entry-item.is same),
 )
 
 pub loop-entry-preserved : goal.loop-entry-preserved
 loop-entry-preserved c =
-    keys_go_on c.args.table.now c.loop-entry.rows.now c.args.column.now c.loop-entry.entry-index c.loop-entry.invariant c.row-item.result c.entry-item.result c.in-len1-up.len_at_least c.row-item.is c.if-row-entry.false c.loop-entry-test.true c.entry-item.is
+    keys_go_on c.args.table.now c.loop-entry.rows.now c.args.column.now c.loop-entry.entry-index c.loop-entry.invariant c.row-item.result c.entry-item.result c.in-len1-up.len_at_least c.row-item.is c.if-row-entry.false
+    c.loop-entry-test.true c.entry-item.is
 
 pub returns : goal.returns
 returns c =

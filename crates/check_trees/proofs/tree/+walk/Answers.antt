@@ -37,7 +37,8 @@ returns-then-words-len-clause-exact t c = λ whole.
     let count = ap (λ (ws : List ℕ). get_or ws 1 0) words in
     let is = subst (λ (ws : List ℕ). c.add_leaf.new.pairs.items ≡ before ++ zip (node_keys ws) (node_values ws)) words c.in_ok-add_leaf.ensures.pairs in
     let sizes = difference c.len.result c.len-begin.result (length c.add_leaf.new.pairs.items) (length before) (c.len.ensures ∙ c.add_leaf.new.pairs.ok.0) (c.len-begin.ensures ∙ c.args.pairs.now.ok.0) in
-    c.if-words-len.true (count-is m before c.add_leaf.new.pairs.items c.args.least c.args.level ref (get_or c.in_ok-words.words.now 1 0) count (leaf-is m before c.add_leaf.new.pairs.items c.args.least c.args.level ref c.if-level-eq0.true is) whole.0 ∙ sym sizes)
+    c.if-words-len.true (count-is m before c.add_leaf.new.pairs.items c.args.least c.args.level ref (get_or c.in_ok-words.words.now 1 0) count
+    (leaf-is m before c.add_leaf.new.pairs.items c.args.least c.args.level ref c.if-level-eq0.true is) whole.0 ∙ sym sizes)
 
 pub returns-then-level-eq0-clause-node : goal.returns-then-level-eq0-clause-node
 returns-then-level-eq0-clause-node t c =
@@ -80,7 +81,8 @@ returns-then-words-i-clause-exact t c = λ whole.
     let key = ap (λ (ws : List ℕ). get_or ws (2 + c.loop-i.i) 0) words in
     let last = c.last_of.ensures.last ∙ ap last_key c.deref.ensures.value in
     c.if-words-i.true
-    (next-key c.args.keys m c.args.least c.args.level c.args.reference it.form it.above c.args.pairs.now.items c.loop-i.pairs.items c.loop-i.i it.walked low (get_or c.in_ok-words.words.now (18 + c.loop-i.i) 0) (get_or c.in_ok-words.words.now (2 + c.loop-i.i) 0) child key c.walk.new.pairs.items c.in_ok-walk.ensures.node c.in_ok-walk.ensures.pairs whole.0
+    (next-key c.args.keys m c.args.least c.args.level c.args.reference it.form it.above c.args.pairs.now.items c.loop-i.pairs.items c.loop-i.i it.walked low (get_or c.in_ok-words.words.now (18 + c.loop-i.i) 0)
+    (get_or c.in_ok-words.words.now (2 + c.loop-i.i) 0) child key c.walk.new.pairs.items c.in_ok-walk.ensures.node c.in_ok-walk.ensures.pairs whole.0
     ∙ sym last)
 
 pub loop-i-preserved : goal.loop-i-preserved
@@ -102,7 +104,8 @@ loop-i-preserved t c =
       above = it.above;
       used = it.used;
       begin = it.begin;
-      walked = step c.args.keys m c.args.least c.args.level ref it.form it.above before c.loop-i.pairs.items c.loop-i.i it.walked low (get_or c.in_ok-words.words.now (18 + c.loop-i.i) 0) (get_or c.in_ok-words.words.now (2 + c.loop-i.i) 0) child key c.walk.new.pairs.items c.in_ok-walk.ensures.node c.in_ok-walk.ensures.pairs c.in_ok-walk.ensures.ascends (c.if-words-i.false ∙ last);
+      walked = step c.args.keys m c.args.least c.args.level ref it.form it.above before c.loop-i.pairs.items c.loop-i.i it.walked low (get_or c.in_ok-words.words.now (18 + c.loop-i.i) 0)
+          (get_or c.in_ok-words.words.now (2 + c.loop-i.i) 0) child key c.walk.new.pairs.items c.in_ok-walk.ensures.node c.in_ok-walk.ensures.pairs c.in_ok-walk.ensures.ascends (c.if-words-i.false ∙ last);
     }
 
 pub returns-then-words-len-2-clause-exact : goal.returns-then-words-len-2-clause-exact
@@ -115,7 +118,8 @@ returns-then-words-len-2-clause-exact t c = λ whole.
     let count = ap (λ (ws : List ℕ). get_or ws 1 0) c.in_ok-words.ensures.words in
     let sizes = difference c.len-2.result c.len-begin.result (length c.loop-i.pairs.items) (length before) (c.len-2.ensures ∙ c.loop-i.pairs.ok.0) (c.len-begin.ensures ∙ c.args.pairs.now.ok.0) in
     c.if-words-len-2.true
-    (count-is m before c.loop-i.pairs.items c.args.least c.args.level ref (get_or c.in_ok-words.words.now 1 0) count (whole-pairs c.args.keys m c.args.least c.args.level ref it.form it.above before c.loop-i.pairs.items c.loop-i.i it.walked all) whole.0
+    (count-is m before c.loop-i.pairs.items c.args.least c.args.level ref (get_or c.in_ok-words.words.now 1 0) count
+    (whole-pairs c.args.keys m c.args.least c.args.level ref it.form it.above before c.loop-i.pairs.items c.loop-i.i it.walked all) whole.0
     ∙ sym sizes)
 
 pub returns-clause-node : goal.returns-clause-node

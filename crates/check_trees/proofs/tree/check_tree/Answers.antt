@@ -39,7 +39,8 @@ returns-clause-tree c =
     let some : 0 < c.args.root = (let other = c.if-root-eq0.false in omega arith) in
     let level = c.word_in-level.result / 256 in
     let of = ap (λ (n : ℕ). n / 256) (c.word_in-level.ensures ∙ ap (λ (ws : List ℕ). get_or ws 0 0) c.words_at.ensures.words) in
-    found-tree c.args.keys m c.args.root level some of c.if-level-gt7.false c.least_of.result c.new-pairs.result.items c.new-pairs.ensures.items c.least_of.ensures c.walk.new.pairs.items c.in_ok-walk.ensures.node c.in_ok-walk.ensures.pairs c.in_ok-walk.ensures.ascends
+    found-tree c.args.keys m c.args.root level some of c.if-level-gt7.false c.least_of.result c.new-pairs.result.items c.new-pairs.ensures.items c.least_of.ensures c.walk.new.pairs.items c.in_ok-walk.ensures.node
+    c.in_ok-walk.ensures.pairs c.in_ok-walk.ensures.ascends
 
 pub returns-clause-pairs : goal.returns-clause-pairs
 returns-clause-pairs c =

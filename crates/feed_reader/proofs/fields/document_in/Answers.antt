@@ -12,7 +12,8 @@ pub returns-in_err-put_in : goal.returns-in_err-put_in
 returns-in_err-put_in c =
     let p = err_from_is_err_and c.from_residual-in_err-put_in.result c.from_residual-in_err-put_in.ensures.1 in
     let fails : ReadFails c.in_err-put_in.field-0.0 (put_read c.field-item.result (get c.field-item.result.name (view c.args.members.now))) = rw (c.get.ensures, c.as_str.ensures) at c.in_err-put_in.ensures in
-    rw (p.1, p.2) (fields_fault put_read c.loop-field.document.items c.args.fields.now c.loop-field.field-index c.field-item.result (view c.args.members.now) c.in_err-put_in.field-0.0 _ c.loop-field-test.true c.field-item.is fails c.loop-field.invariant)
+    rw (p.1, p.2) (fields_fault put_read c.loop-field.document.items c.args.fields.now c.loop-field.field-index c.field-item.result
+    (view c.args.members.now) c.in_err-put_in.field-0.0 _ c.loop-field-test.true c.field-item.is fails c.loop-field.invariant)
 
 pub loop-field-preserved : goal.loop-field-preserved
 loop-field-preserved c =

@@ -7,7 +7,8 @@ use Rattle.feed_reader.proofs.items.values_in.Goals as goal
 pub returns-in_err-value_in : goal.returns-in_err-value_in
 returns-in_err-value_in c =
     let p = err_from_is_err_and c.from_residual-in_err-value_in.result c.from_residual-in_err-value_in.ensures.1 in
-    rw (p.1, p.2) (values_fault c.args.value c.loop-json.values.items c.args.list.now c.loop-json.json-index c.json-item.result c.in_err-value_in.field-0.0 _ c.loop-json-test.true c.json-item.is c.in_err-value_in.ensures c.loop-json.invariant)
+    rw (p.1, p.2) (values_fault c.args.value c.loop-json.values.items c.args.list.now c.loop-json.json-index c.json-item.result c.in_err-value_in.field-0.0 _ c.loop-json-test.true c.json-item.is c.in_err-value_in.ensures
+    c.loop-json.invariant)
 
 pub loop-json-preserved : goal.loop-json-preserved
 loop-json-preserved c =

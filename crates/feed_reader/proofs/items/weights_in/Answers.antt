@@ -20,7 +20,8 @@ returns-in_err-weight c =
     let p = err_from_is_err_and c.from_residual-in_err-weight.result c.from_residual-in_err-weight.ensures.1 in
     let rest : c.loop-name.name-iterator ≡ (c.in-Some.name.now, c.in-Some.json.now) ∷ c.next.new.self = search rules in
     let named = rw c.as_str.ensures.value at c.in_ok-named.ensures in
-    rw (p.1, p.2) (weights_weight_fault c.args.value c.loop-name.weights.entries c.in-Some.name.now c.in-Some.json.now c.in_ok-named.named c.in_err-weight.field-0.0 _ _ _ rest named c.in_err-weight.ensures c.loop-name.invariant)
+    rw (p.1, p.2) (weights_weight_fault c.args.value c.loop-name.weights.entries c.in-Some.name.now c.in-Some.json.now c.in_ok-named.named c.in_err-weight.field-0.0 _ _ _ rest named c.in_err-weight.ensures
+    c.loop-name.invariant)
 
 pub loop-name-preserved : goal.loop-name-preserved
 loop-name-preserved c =

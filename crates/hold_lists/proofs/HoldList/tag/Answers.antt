@@ -36,7 +36,8 @@ invariant_of-self g c =
     let run : Run = record { generation = c.args.generation; commit = c.args.commit; count = count } in
     let sum = sum_by_push (λ (r : Run). r.count) runs run in
     let size : c.len.result ≡ length entries = c.len.ensures ∙ c.self.inside.entries.ok.0 in
-    subst (λ items. IsHoldList items entries (c.self.inside.tagged + count) c.self.inside.most (c.self.inside.rises && c.follows.result) (deque_capacity c.self.inside.entries) (deque_capacity c.push_back_reserved.new.self))
+    subst (λ items. IsHoldList items entries (c.self.inside.tagged + count) c.self.inside.most (c.self.inside.rises && c.follows.result) (deque_capacity c.self.inside.entries)
+    (deque_capacity c.push_back_reserved.new.self))
     (sym {A = List Run} c.push_back_reserved.ensures.items)
     (record {
       counted = let counted = kept.counted in omega arith;

@@ -10,12 +10,15 @@ commit-requires g c =
     (omega arith, (c.requires.holds.unit, (c.requires.holds.is_tree, (c.requires.room, tree_whole g.row.OFFSET_BITS ledger ledger m m c.args.root c.requires.holds))))
 
 pub returns-clause-holds : goal.returns-clause-holds
-returns-clause-holds g c = holds_commit g.row.OFFSET_BITS (g.S.Store.ledger c.args.store.now) (g.S.Store.ledger c.commit.new.self) (g.S.Frozen.records c.args.store.now) (g.S.Frozen.records c.commit.new.self) c.args.root c.requires.holds c.commit.result c.commit.ensures.records c.commit.ensures.stores
+returns-clause-holds g c = holds_commit g.row.OFFSET_BITS (g.S.Store.ledger c.args.store.now) (g.S.Store.ledger c.commit.new.self) (g.S.Frozen.records c.args.store.now)
+    (g.S.Frozen.records c.commit.new.self) c.args.root c.requires.holds c.commit.result c.commit.ensures.records c.commit.ensures.stores
 
 pub returns-clause-sizes : goal.returns-clause-sizes
-returns-clause-sizes g c = sizes_commit g.row.OFFSET_BITS (g.S.Store.ledger c.args.store.now) (g.S.Store.ledger c.commit.new.self) (g.S.Frozen.records c.args.store.now) (g.S.Frozen.records c.commit.new.self) c.args.root c.requires.holds c.commit.result c.commit.ensures.records c.commit.ensures.stores
+returns-clause-sizes g c = sizes_commit g.row.OFFSET_BITS (g.S.Store.ledger c.args.store.now) (g.S.Store.ledger c.commit.new.self) (g.S.Frozen.records c.args.store.now)
+    (g.S.Frozen.records c.commit.new.self) c.args.root c.requires.holds c.commit.result c.commit.ensures.records c.commit.ensures.stores
 
 pub returns-clause-pairs : goal.returns-clause-pairs
 returns-clause-pairs g c =
     tree_pairs-same (g.S.Frozen.records c.args.store.now) (g.S.Frozen.records c.commit.new.self) c.args.root
-    (same_commit g.row.OFFSET_BITS (g.S.Store.ledger c.args.store.now) (g.S.Store.ledger c.commit.new.self) (g.S.Frozen.records c.args.store.now) (g.S.Frozen.records c.commit.new.self) c.args.root c.requires.holds c.commit.result c.commit.ensures.records c.commit.ensures.stores)
+    (same_commit g.row.OFFSET_BITS (g.S.Store.ledger c.args.store.now) (g.S.Store.ledger c.commit.new.self) (g.S.Frozen.records c.args.store.now)
+    (g.S.Frozen.records c.commit.new.self) c.args.root c.requires.holds c.commit.result c.commit.ensures.records c.commit.ensures.stores)

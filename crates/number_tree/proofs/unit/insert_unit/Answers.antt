@@ -23,7 +23,8 @@ returns-in-Ok-clause-holds g c =
     let b = c.begin.new.self in
     let t = c.insert.new.store in
     let u = c.accept.new.self in
-    holds_next (ledger s) (ledger b) (ledger t) (ledger u) (records s) (records b) (records u) c.args.root c.requires c.begin.ensures.ledger c.begin.ensures.records c.insert.ensures.may (records t) c.in-Ok.next c.in-Ok.ensures.turns c.accept.ensures c.in-Ok.ensures.keyed.tree
+    holds_next (ledger s) (ledger b) (ledger t) (ledger u) (records s) (records b) (records u) c.args.root c.requires c.begin.ensures.ledger c.begin.ensures.records c.insert.ensures.may
+    (records t) c.in-Ok.next c.in-Ok.ensures.turns c.accept.ensures c.in-Ok.ensures.keyed.tree
 
 pub returns-in-Ok-clause-pairs : goal.returns-in-Ok-clause-pairs
 returns-in-Ok-clause-pairs g c =
@@ -33,7 +34,12 @@ returns-in-Ok-clause-pairs g c =
     let b = c.begin.new.self in
     let t = c.insert.new.store in
     let u = c.accept.new.self in
+<<<<<<< HEAD
     pairs_next (ledger s) (ledger b) (ledger t) (ledger u) (records s) (records b) (records u) c.args.root c.requires c.begin.ensures.ledger c.begin.ensures.records c.insert.ensures.may (records t) c.in-Ok.next c.in-Ok.ensures.turns c.accept.ensures
+=======
+    pairs_next (ledger s) (ledger b) (ledger t) (ledger u) (records s) (records b) (records u) c.args.root c.requires c.begin.ensures.ledger c.begin.ensures.records c.insert.ensures.may
+    (records t) c.in-Ok.next c.in-Ok.ensures.turns c.accept.ensures
+>>>>>>> c66872e1f45357a69c913f84ef44f8b685c3e0ac
     ∙ c.in-Ok.ensures.pairs ∙ ap (λ m. put (beside_number c.args.key) (c.args.key, c.args.value) (tree_pairs m c.args.root)) c.begin.ensures.records
 
 pub returns-in-Ok-clause-commits : goal.returns-in-Ok-clause-commits
@@ -84,7 +90,8 @@ returns-in-Err-clause-still g c =
     let b = c.begin.new.self in
     let t = c.insert.new.store in
     let u = c.undo.new.self in
-    holds_still (ledger s) (ledger b) (ledger t) (ledger u) (records s) (records b) (records u) c.args.root c.requires c.begin.ensures.ledger c.begin.ensures.records c.insert.ensures.may (g.met.S.Store.settled s c.requires.unit) c.undo.ensures
+    holds_still (ledger s) (ledger b) (ledger t) (ledger u) (records s) (records b) (records u) c.args.root c.requires c.begin.ensures.ledger c.begin.ensures.records c.insert.ensures.may
+    (g.met.S.Store.settled s c.requires.unit) c.undo.ensures
 
 pub returns-in-Err-clause-left : goal.returns-in-Err-clause-left
 returns-in-Err-clause-left g c =
@@ -94,7 +101,8 @@ returns-in-Err-clause-left g c =
     let b = c.begin.new.self in
     let t = c.insert.new.store in
     let u = c.undo.new.self in
-    left_same (ledger s) (ledger b) (ledger t) (ledger u) (records s) (records b) (records u) c.args.root c.requires c.begin.ensures.ledger c.begin.ensures.records c.insert.ensures.may (g.met.S.Store.settled s c.requires.unit) c.undo.ensures
+    left_same (ledger s) (ledger b) (ledger t) (ledger u) (records s) (records b) (records u) c.args.root c.requires c.begin.ensures.ledger c.begin.ensures.records c.insert.ensures.may
+    (g.met.S.Store.settled s c.requires.unit) c.undo.ensures
 
 pub returns-in-Err-clause-refused : goal.returns-in-Err-clause-refused
 returns-in-Err-clause-refused g c =

@@ -42,7 +42,8 @@ replace_list-requires-clause-few g c =
     let m = g.S.Frozen.records c.args.store.now in
     let es = list_at m c.args.list in
     let docs = (insert_entry nat_cmp es c.args.doc c.args.weight) in
-    let read = (ap (map unpacked) c.as_slice.ensures.value ∙ c.put_item.ensures ∙ ap (λ (w : ℤ). insert_entry nat_cmp (map unpacked c.items_of-items.result.items) c.args.doc w) (to_z-of_z w32 c.args.weight c.ranges.weight) ∙ ap (λ (ds : List (ℕ × ℤ)). insert_entry nat_cmp ds c.args.doc c.args.weight) c.items_of-items.ensures.items) in
+    let read = (ap (map unpacked) c.as_slice.ensures.value ∙ c.put_item.ensures ∙ ap (λ (w : ℤ). insert_entry nat_cmp (map unpacked c.items_of-items.result.items) c.args.doc w)
+    (to_z-of_z w32 c.args.weight c.ranges.weight) ∙ ap (λ (ds : List (ℕ × ℤ)). insert_entry nat_cmp ds c.args.doc c.args.weight) c.items_of-items.ensures.items) in
     let size = same_size c.as_slice.result.now docs read in
     let more = length_in c.args.doc c.args.weight es in let few = short_few m c.args.list c.requires.plain c.requires.short c.requires.list in
     omega arith
@@ -52,7 +53,8 @@ replace_list-requires-clause-documents g c =
     let m = g.S.Frozen.records c.args.store.now in
     let es = list_at m c.args.list in
     let docs = (insert_entry nat_cmp es c.args.doc c.args.weight) in
-    let read : map unpacked c.as_slice.result.now ≡ docs = (ap (map unpacked) c.as_slice.ensures.value ∙ c.put_item.ensures ∙ ap (λ (w : ℤ). insert_entry nat_cmp (map unpacked c.items_of-items.result.items) c.args.doc w) (to_z-of_z w32 c.args.weight c.ranges.weight) ∙ ap (λ (ds : List (ℕ × ℤ)). insert_entry nat_cmp ds c.args.doc c.args.weight) c.items_of-items.ensures.items) in
+    let read : map unpacked c.as_slice.result.now ≡ docs = (ap (map unpacked) c.as_slice.ensures.value ∙ c.put_item.ensures ∙ ap (λ (w : ℤ). insert_entry nat_cmp (map unpacked c.items_of-items.result.items) c.args.doc w)
+    (to_z-of_z w32 c.args.weight c.ranges.weight) ∙ ap (λ (ds : List (ℕ × ℤ)). insert_entry nat_cmp ds c.args.doc c.args.weight) c.items_of-items.ensures.items) in
     let are : AreDocuments es = record { ascends = c.requires.list.ascends; numbers = c.requires.list.numbers } in
     subst AreDocuments (sym read) (documents_in c.args.doc c.args.weight es (c.number_law.ensures.first, c.number_law.ensures.last) are)
 
@@ -64,7 +66,8 @@ returns-clause-makes g c =
     let t = c.replace_list.new.store in
     let es = list_at m c.args.list in
     let docs = (insert_entry nat_cmp es c.args.doc c.args.weight) in
-    let read = (ap (map unpacked) c.as_slice.ensures.value ∙ c.put_item.ensures ∙ ap (λ (w : ℤ). insert_entry nat_cmp (map unpacked c.items_of-items.result.items) c.args.doc w) (to_z-of_z w32 c.args.weight c.ranges.weight) ∙ ap (λ (ds : List (ℕ × ℤ)). insert_entry nat_cmp ds c.args.doc c.args.weight) c.items_of-items.ensures.items) in
+    let read = (ap (map unpacked) c.as_slice.ensures.value ∙ c.put_item.ensures ∙ ap (λ (w : ℤ). insert_entry nat_cmp (map unpacked c.items_of-items.result.items) c.args.doc w)
+    (to_z-of_z w32 c.args.weight c.ranges.weight) ∙ ap (λ (ds : List (ℕ × ℤ)). insert_entry nat_cmp ds c.args.doc c.args.weight) c.items_of-items.ensures.items) in
     subst (λ (ds : List (ℕ × ℤ)). IfOk c.replace_list.result (MakesList (ledger c.args.store.now) (ledger t) m (records t) c.args.list ds)) read
     (subst (λ s. IfOk c.replace_list.result (MakesList (ledger s) (ledger t) (records s) (records t) c.args.list (map unpacked c.as_slice.result.now))) c.items_of-items.ensures.same c.replace_list.ensures.makes)
 
@@ -75,7 +78,8 @@ returns-clause-counts g c =
     let t = c.replace_list.new.store in
     let es = list_at m c.args.list in
     let docs = (insert_entry nat_cmp es c.args.doc c.args.weight) in
-    let read = (ap (map unpacked) c.as_slice.ensures.value ∙ c.put_item.ensures ∙ ap (λ (w : ℤ). insert_entry nat_cmp (map unpacked c.items_of-items.result.items) c.args.doc w) (to_z-of_z w32 c.args.weight c.ranges.weight) ∙ ap (λ (ds : List (ℕ × ℤ)). insert_entry nat_cmp ds c.args.doc c.args.weight) c.items_of-items.ensures.items) in
+    let read = (ap (map unpacked) c.as_slice.ensures.value ∙ c.put_item.ensures ∙ ap (λ (w : ℤ). insert_entry nat_cmp (map unpacked c.items_of-items.result.items) c.args.doc w)
+    (to_z-of_z w32 c.args.weight c.ranges.weight) ∙ ap (λ (ds : List (ℕ × ℤ)). insert_entry nat_cmp ds c.args.doc c.args.weight) c.items_of-items.ensures.items) in
     let made = subst (λ s. MakesWithin (ledger s) (ledger t) (list_most 0 (length c.as_slice.result.now))) c.items_of-items.ensures.same c.replace_list.ensures.counts in
     subst (λ (k : ℕ). MakesWithin (ledger c.args.store.now) (ledger t) (list_most (list_levels m c.args.list) k)) (same_size c.as_slice.result.now docs read)
     (counts_more (ledger c.args.store.now) (ledger t) (list_levels m c.args.list) (length c.as_slice.result.now) made)
@@ -87,7 +91,8 @@ returns-clause-refuses g c =
     let t = c.replace_list.new.store in
     let es = list_at m c.args.list in
     let docs = (insert_entry nat_cmp es c.args.doc c.args.weight) in
-    let read = (ap (map unpacked) c.as_slice.ensures.value ∙ c.put_item.ensures ∙ ap (λ (w : ℤ). insert_entry nat_cmp (map unpacked c.items_of-items.result.items) c.args.doc w) (to_z-of_z w32 c.args.weight c.ranges.weight) ∙ ap (λ (ds : List (ℕ × ℤ)). insert_entry nat_cmp ds c.args.doc c.args.weight) c.items_of-items.ensures.items) in
+    let read = (ap (map unpacked) c.as_slice.ensures.value ∙ c.put_item.ensures ∙ ap (λ (w : ℤ). insert_entry nat_cmp (map unpacked c.items_of-items.result.items) c.args.doc w)
+    (to_z-of_z w32 c.args.weight c.ranges.weight) ∙ ap (λ (ds : List (ℕ × ℤ)). insert_entry nat_cmp ds c.args.doc c.args.weight) c.items_of-items.ensures.items) in
     let refuses = subst (λ s. IfErr c.replace_list.result (RefusesOf (IsListWidth (length c.as_slice.result.now)) (ledger s) (ledger t))) c.items_of-items.ensures.same c.replace_list.ensures.refuses in
     subst (λ (k : ℕ). IfErr c.replace_list.result (RefusesOf (IsListWidth k) (ledger c.args.store.now) (ledger t))) (same_size c.as_slice.result.now docs read) refuses
 

@@ -39,7 +39,8 @@ replace_list-requires-clause-documents g c =
     let m = g.S.Frozen.records c.args.store.now in
     let es = list_at m c.args.list in
     let docs = (remove_entry (is_at (nat_cmp c.args.doc)) es) in
-    let read : map unpacked c.as_slice.result.now ≡ docs = (ap (map unpacked) c.as_slice.ensures.value ∙ c.take_item.ensures ∙ ap (λ (ds : List (ℕ × ℤ)). remove_entry (is_at (nat_cmp c.args.doc)) ds) c.items_of-items.ensures.items) in
+    let read : map unpacked c.as_slice.result.now ≡ docs = (ap (map unpacked) c.as_slice.ensures.value ∙ c.take_item.ensures
+    ∙ ap (λ (ds : List (ℕ × ℤ)). remove_entry (is_at (nat_cmp c.args.doc)) ds) c.items_of-items.ensures.items) in
     let are : AreDocuments es = record { ascends = c.requires.list.ascends; numbers = c.requires.list.numbers } in
     subst AreDocuments (sym read) (documents_out (is_at (nat_cmp c.args.doc)) es are)
 

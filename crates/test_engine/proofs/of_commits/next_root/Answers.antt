@@ -9,17 +9,28 @@ pub drop_one-requires : goal.drop_one-requires
 drop_one-requires g c =
     let ledger = g.S.Store.ledger in
     let records = g.S.Frozen.records in
-    let begun = begun-all (ledger c.args.store.now) (ledger c.begin.new.self) (records c.args.store.now) (records c.begin.new.self) (entry c.args.root ∷ []) c.begin.ensures.ledger c.begin.ensures.records c.requires.owns in
-    let made = more-all (ledger c.begin.new.self) (ledger c.make_entry.new.store) (ledger c.make_entry.new.store) (records c.begin.new.self) (records c.make_entry.new.store) (records c.make_entry.new.store) c.args.root c.in_ok-next.next begun c.in_ok-next.ensures.turns in
-    (omega arith, (c.make_entry.ensures.may.unit ∙ ap (λ l. l.unit) c.begin.ensures.ledger, rest-owns (ledger c.make_entry.new.store) (ledger c.make_entry.new.store) (ledger c.make_entry.new.store) (records c.make_entry.new.store) (records c.make_entry.new.store) (records c.make_entry.new.store) c.args.root c.in_ok-next.next made))
+    let begun = begun-all (ledger c.args.store.now) (ledger c.begin.new.self) (records c.args.store.now) (records c.begin.new.self)
+    (entry c.args.root ∷ []) c.begin.ensures.ledger c.begin.ensures.records c.requires.owns in
+    let made = more-all (ledger c.begin.new.self) (ledger c.make_entry.new.store) (ledger c.make_entry.new.store) (records c.begin.new.self) (records c.make_entry.new.store)
+    (records c.make_entry.new.store) c.args.root c.in_ok-next.next begun c.in_ok-next.ensures.turns in (
+      omega arith,
+      (
+        c.make_entry.ensures.may.unit ∙ ap (λ l. l.unit) c.begin.ensures.ledger,
+        rest-owns (ledger c.make_entry.new.store) (ledger c.make_entry.new.store) (ledger c.make_entry.new.store)
+            (records c.make_entry.new.store) (records c.make_entry.new.store) (records c.make_entry.new.store) c.args.root c.in_ok-next.next made,
+      ),
+    )
 
 pub returns-clause-owns : goal.returns-clause-owns
 returns-clause-owns g c =
     let ledger = g.S.Store.ledger in
     let records = g.S.Frozen.records in
-    let begun = begun-all (ledger c.args.store.now) (ledger c.begin.new.self) (records c.args.store.now) (records c.begin.new.self) (entry c.args.root ∷ []) c.begin.ensures.ledger c.begin.ensures.records c.requires.owns in
-    let made = more-all (ledger c.begin.new.self) (ledger c.make_entry.new.store) (ledger c.make_entry.new.store) (records c.begin.new.self) (records c.make_entry.new.store) (records c.make_entry.new.store) c.args.root c.in_ok-next.next begun c.in_ok-next.ensures.turns in
-    let left = less-all (ledger c.make_entry.new.store) (ledger c.make_entry.new.store) (ledger c.drop_one.new.store) (records c.make_entry.new.store) (records c.make_entry.new.store) (records c.drop_one.new.store) c.args.root c.in_ok-next.next made c.drop_one.ensures.turns in
+    let begun = begun-all (ledger c.args.store.now) (ledger c.begin.new.self) (records c.args.store.now) (records c.begin.new.self)
+    (entry c.args.root ∷ []) c.begin.ensures.ledger c.begin.ensures.records c.requires.owns in
+    let made = more-all (ledger c.begin.new.self) (ledger c.make_entry.new.store) (ledger c.make_entry.new.store) (records c.begin.new.self) (records c.make_entry.new.store)
+    (records c.make_entry.new.store) c.args.root c.in_ok-next.next begun c.in_ok-next.ensures.turns in
+    let left = less-all (ledger c.make_entry.new.store) (ledger c.make_entry.new.store) (ledger c.drop_one.new.store) (records c.make_entry.new.store) (records c.make_entry.new.store)
+    (records c.drop_one.new.store) c.args.root c.in_ok-next.next made c.drop_one.ensures.turns in
     same-all (ledger c.drop_one.new.store) (ledger c.accept.new.self) (records c.drop_one.new.store) (records c.accept.new.self) c.in_ok-next.next left
     (turns-accept (ledger c.drop_one.new.store) (ledger c.accept.new.self) (records c.drop_one.new.store) (records c.accept.new.self) c.accept.ensures)
 

@@ -1,6 +1,5 @@
-use Rattle.std.proofs.Common.{rules, ◌≡◌, ◌+◌, ℕ, suc, ◌-◌, ◌<◌, ◌≤◌, List, [], ◌∷◌, ◌++◌, length, true, refl, sym, ap, subst, ◌∙◌, arith, Err, ◌^◌, length-append}
+use Rattle.std.proofs.Common.{rules, ◌≡◌, ◌+◌, ℕ, suc, ◌-◌, ◌<◌, ◌≤◌, List, [], ◌∷◌, ◌++◌, length, true, refl, sym, ap, subst, ◌∙◌, arith, ◌^◌, length-append}
 use Rattle.std.specs.Prelude.{IsSome}
-use Rattle.std.proofs.lemmas.Result.{on_ok_weaker, on_err_weaker}
 use Rattle.tree_images.specs.Nodes.{level_of, count_of, node_keys, node_values, IsNodeForm}
 use Rattle.tree_images.specs.Trees.{pairs_below, IsNode, root_least}
 use Rattle.tree_images.proofs.TreeLemmas.{IsNode-form, IsNode-count}
@@ -17,7 +16,7 @@ use Rattle.tree_make.specs.Words.{AreWords}
 use Rattle.tree_make.proofs.WordLemmas.{words-level}
 use Rattle.tree_remove.proofs.RemoveLemmas.{removes-leaf, removes-over, over-out, over-few, over-least, over-hand}
 use Rattle.tree_remove.specs.Removes.{Removes, PutsBack, IsStep, spliced}
-use Rattle.tree_make.proofs.MakesLemmas.{makes-more, makes-then, refuses-if, refuses-exit}
+use Rattle.tree_make.proofs.MakesLemmas.{makes-more, makes-then, refuses-exit}
 use Rattle.tree_make.proofs.Results.{on_err}
 use Rattle.store_api.specs.Calls.{Refuses}
 use Rattle.tree_make.specs.Makes.{MakesNodes}
@@ -736,13 +735,11 @@ returns-clause-removes g t c =
     let o = records c.put_child.new.store in
     let last = c.put_child.new.words in
     let after = c.put_child.new.replaced.items in
-    on_ok_weaker c.put_child.result
-    (λ (puts : PutsBack mid new n o (level_of below) place (node_keys w) (node_values w) ck cv middle after (node_keys last) (node_values last)).
+    let puts : PutsBack mid new n o (level_of below) place (node_keys w) (node_values w) ck cv middle after (node_keys last) (node_values last) = c.in_ok-put_child.ensures.puts in
     subst (λ j. Removes seen old new m o j node before after (node_keys last) (node_values last)) (sym up)
     (removes-over seen old mid m n l node ks vs place child step before middle ck cv removes new o after (node_keys last) (node_values last)
     (subst (λ j. PutsBack mid new n o j place ks vs ck cv middle after (node_keys last) (node_values last)) level_is
-    (subst (λ ws. PutsBack mid new n o (level_of below) place (node_keys ws) (node_values ws) ck cv middle after (node_keys last) (node_values last)) words puts))))
-    c.put_child.ensures.puts
+    (subst (λ ws. PutsBack mid new n o (level_of below) place (node_keys ws) (node_values ws) ck cv middle after (node_keys last) (node_values last)) words puts)))
 
 pub returns-clause-words : goal.returns-clause-words
 returns-clause-words g t c =
@@ -789,59 +786,10 @@ returns-clause-words g t c =
     let last = c.put_child.new.words in
     let after = c.put_child.new.replaced.items in
     let level_now : level_of w ≡ level = ap level_of words ∙ at in
-    on_ok_weaker c.put_child.result
-    (λ (is : AreWords (level_of w) (length (slot_pairs o (level_of w) (node_keys last) (node_values last))) (node_keys last) (node_values last) last).
-    subst (λ j. AreWords j (length (slot_pairs o j (node_keys last) (node_values last))) (node_keys last) (node_values last) last) level_now is)
-    c.put_child.ensures.words
+    subst (λ j. AreWords j (length (slot_pairs o j (node_keys last) (node_values last))) (node_keys last) (node_values last) last) level_now c.in_ok-put_child.ensures.words
 
-pub returns-clause-refuses : goal.returns-clause-refuses
-returns-clause-refuses g t c =
-    let records = g.S.Frozen.records in
-    let ledger = g.S.Store.ledger in
-    let m = records c.args.store.now in
-    let node = c.args.node in
-    let level = c.args.level in
-    let at = node-level m (root_least level) level node c.requires.node in
-    let l = level - 1 in
-    let some = c.if-level-eq0.false in
-    let up : level ≡ suc l = omega arith in
-    let k = g.K.KeyOrder in
-    let s = k.sought c.args.key.now in
-    let seen = seen_by k.read k.order s m in
-    let ks = node_keys (m node) in
-    let vs = node_values (m node) in
-    let w = c.step_down-step.new.words in
-    let words : w ≡ m node = c.step_down-step.ensures.words in
-    let place = c.step_down-step.result.place in
-    let child = c.step_down-step.result.child in
-    let same = c.step_down-step.ensures.same in
-    let down : level_of (m node) - 1 ≡ l = ap (λ n. n - 1) at in
-    let step = subst (λ n. IsStep seen m n node ks vs place child) down c.step_down-step.ensures.step in
-    let old = ledger c.args.store.now in
-    let mid = ledger c.remove_below.new.store in
-    let n = records c.remove_below.new.store in
-    let below = c.remove_below.new.words in
-    let ck = node_keys below in
-    let cv = node_values below in
-    let before = c.args.replaced.now.items in
-    let middle = c.remove_below.new.replaced.items in
-    let pushed : c.push.new.self.items ≡ before ++ (node ∷ []) = c.push.ensures.items ∙ ap (λ (r : ℕ). before ++ (r ∷ [])) c.raw.ensures in
-    let removes = subst (λ xs. Removes seen old mid m n l child xs middle ck cv) pushed
-    (subst (λ f. Removes (seen_by k.read k.order s (records f)) (ledger f) mid (records f) n l child c.push.new.self.items middle ck cv) same c.in_ok-remove_below.ensures.removes) in
-    let there = subst (λ j. IsSome (lookup seen (pairs_below m j node))) up c.requires.there in
-    let count = length (slot_pairs n l ck cv) in
-    let are : AreWords l count ck cv below = c.in_ok-remove_below.ensures.words in
-    let level_is : level_of below ≡ l = words-level l count ck cv below are in
-    let moved : (P : ℕ → List ℕ → List ℕ → Type 0) → P l ks vs → P (level_of below) (node_keys w) (node_values w) =
-    λ P h. subst (λ j. P j (node_keys w) (node_values w)) (sym level_is) (subst (λ ws. P l (node_keys ws) (node_values ws)) (sym words) h) in
-    let new = ledger c.put_child.new.store in
-    let o = records c.put_child.new.store in
-    let last = c.put_child.new.words in
-    let after = c.put_child.new.replaced.items in
-    refuses-if old mid new 34 c.put_child.result removes.makes.may c.put_child.ensures.refuses
-
-pub returns-clause-refused : goal.returns-clause-refused
-returns-clause-refused g t c =
+pub returns-in_err-put_child-clause-refused : goal.returns-in_err-put_child-clause-refused
+returns-in_err-put_child-clause-refused g t c =
     let records = g.S.Frozen.records in
     let ledger = g.S.Store.ledger in
     let m = records c.args.store.now in
@@ -885,7 +833,7 @@ returns-clause-refused g t c =
     let last = c.put_child.new.words in
     let after = c.put_child.new.replaced.items in
     let one = removes.one in
-    on_err_weaker c.put_child.result (λ (none : MakesNodes mid new n o 1). makes-then old mid new m n o (l + removes.extra) 1 (suc level) (omega arith) removes.makes none) c.put_child.ensures.refused
+    on_err c.from_residual-in_err-put_child.result (makes-then old mid new m n o (l + removes.extra) 1 (suc level) (omega arith) removes.makes c.in_err-put_child.ensures.refused)
 
 pub returns-in_err-remove_below-clause-refused : goal.returns-in_err-remove_below-clause-refused
 returns-in_err-remove_below-clause-refused g t c =

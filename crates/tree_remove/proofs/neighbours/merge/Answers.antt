@@ -1,4 +1,4 @@
-use Rattle.std.proofs.Common.{◌≤◌, ◌++◌, length, set, ap, ◌∙◌, arith, length-append, Err}
+use Rattle.std.proofs.Common.{◌≤◌, ◌++◌, length, set, ap, ◌∙◌, arith, length-append}
 use Rattle.tree_remove.proofs.SettleLemmas.{settles-merged, part-at}
 use Rattle.tree_make.proofs.MakesLemmas.{makes-more}
 use Rattle.tree_make.proofs.Results.{on_err}

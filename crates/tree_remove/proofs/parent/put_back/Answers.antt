@@ -1,13 +1,10 @@
-use Rattle.std.proofs.Common.{◌≡◌, suc, ◌-◌, ◌<◌, ◌≤◌, ◌++◌, length, get_or, refl, sym, subst, arith, Err, ap, ◌^◌}
+use Rattle.std.proofs.Common.{◌≡◌, suc, ◌-◌, ◌<◌, ◌++◌, length, get_or, refl, sym, subst, arith, ◌^◌}
 use Rattle.std.proofs.lemmas.Result.{on_ok_weaker}
 use Rattle.tree_node.proofs.SlotLemmas.{hand-append}
 use Rattle.tree_node.specs.Slots.{slot_pairs, slot_nodes, IsInHand}
-use Rattle.tree_remove.proofs.ParentLemmas.{puts-alone, puts-left, puts-right, few-before, few-behind}
-use Rattle.tree_remove.proofs.SettleLemmas.{settles-alone}
+use Rattle.tree_remove.proofs.ParentLemmas.{puts-left, puts-right, few-before, few-behind}
 use Rattle.tree_remove.specs.Removes.{IsChild, PutsBack, spliced}
 use Rattle.tree_remove.specs.Settles.{SettlesSlots}
-use Rattle.tree_make.proofs.MakesLemmas.{makes-more}
-use Rattle.tree_make.proofs.Results.{on_err}
 use Rattle.tree_remove.proofs.parent.put_back.Goals as goal
 
 pub make_neighbours-requires-clause-hand : goal.make_neighbours-requires-clause-hand

@@ -1,4 +1,4 @@
-use Rattle.std.proofs.Common.{◌≡◌, ℕ, List, length, sym, ap, subst, ◌∙◌}
+use Rattle.std.proofs.Common.{◌≡◌, length, sym, ap, subst, ◌∙◌}
 use Rattle.tree_images.specs.Nodes.{level_of, node_keys, node_values}
 use Rattle.tree_node.specs.Slots.{slot_pairs}
 use Rattle.tree_make.specs.Words.{AreWords}

@@ -1,4 +1,4 @@
-use Rattle.std.proofs.Common.{◌≡◌, ◌-◌, ◌∷◌, ◌++◌, List, ℕ, take, drop, slice_index, ap, ◌∙◌}
+use Rattle.std.proofs.Common.{◌-◌, ◌∷◌, ◌++◌, List, ℕ, take, drop, slice_index, ap, ◌∙◌}
 use Rattle.tree_make.proofs.WordLemmas.{words-size}
 use Rattle.tree_remove.proofs.WordLemmas.{taken, words-taken, words-rest, words-mid}
 use Rattle.tree_remove.proofs.words.take_slot.Goals as goal

@@ -26,8 +26,8 @@ read_head-used-requires g t c =
     let wide = node-size m 1 level node is in
     (omega arith, omega arith)
 
-pub seek_slot-spot-requires : goal.seek_slot-spot-requires
-seek_slot-spot-requires g t c =
+pub seek_slot-slot-requires : goal.seek_slot-slot-requires
+seek_slot-slot-requires g t c =
     let records = g.F.Frozen.records in
     let key = g.K.KeyOrder in
     let total = g.met.K.KeyOrder.total in
@@ -52,28 +52,6 @@ seek_slot-spot-requires g t c =
       ),
     )
 
-pub overflow_cast-slot : goal.overflow_cast-slot
-overflow_cast-slot g t c =
-    let records = g.F.Frozen.records in
-    let key = g.K.KeyOrder in
-    let total = g.met.K.KeyOrder.total in
-    let m = records c.args.frozen.now in
-    let node = c.args.node in
-    let level = c.args.level in
-    let s = key.sought c.args.key.now in
-    let is = c.requires.node in
-    let at_level : level_of (m node) ≡ level = node-level m 1 level node is in
-    let most = node-room m 1 level node is in
-    let size = keys-length m 1 level node is in
-    let seen = seen_by key.read key.order s m in
-    let slot = c.seek_slot-spot.result.slot in
-    let head = c.read_head-used.ensures.same in
-    let at : IsSlot seen (node_keys (m node)) slot =
-    subst (λ (f : g.row.F.Denot). IsSlot (seen_by key.read key.order s (records f)) (node_keys (records f node)) slot) head c.seek_slot-spot.ensures.slot in
-    let within = at.within in
-    let used = c.read_head-used.ensures.used in
-    omega arith
-
 pub returns-then-slot-used-clause-pair : goal.returns-then-slot-used-clause-pair
 returns-then-slot-used-clause-pair g t c =
     let records = g.F.Frozen.records in
@@ -88,10 +66,10 @@ returns-then-slot-used-clause-pair g t c =
     let most = node-room m 1 level node is in
     let size = keys-length m 1 level node is in
     let seen = seen_by key.read key.order s m in
-    let slot = c.seek_slot-spot.result.slot in
+    let slot = c.seek_slot-slot.result in
     let head = c.read_head-used.ensures.same in
     let at : IsSlot seen (node_keys (m node)) slot =
-    subst (λ (f : g.row.F.Denot). IsSlot (seen_by key.read key.order s (records f)) (node_keys (records f node)) slot) head c.seek_slot-spot.ensures.slot in
+    subst (λ (f : g.row.F.Denot). IsSlot (seen_by key.read key.order s (records f)) (node_keys (records f node)) slot) head c.seek_slot-slot.ensures.slot in
     let within = at.within in
     let used = c.read_head-used.ensures.used in
     let past : used_of (m node) ≤ slot = (let test = c.if-slot-used.true in omega arith) in
@@ -111,10 +89,10 @@ overflow_add-slot g t c =
     let most = node-room m 1 level node is in
     let size = keys-length m 1 level node is in
     let seen = seen_by key.read key.order s m in
-    let slot = c.seek_slot-spot.result.slot in
+    let slot = c.seek_slot-slot.result in
     let head = c.read_head-used.ensures.same in
     let at : IsSlot seen (node_keys (m node)) slot =
-    subst (λ (f : g.row.F.Denot). IsSlot (seen_by key.read key.order s (records f)) (node_keys (records f node)) slot) head c.seek_slot-spot.ensures.slot in
+    subst (λ (f : g.row.F.Denot). IsSlot (seen_by key.read key.order s (records f)) (node_keys (records f node)) slot) head c.seek_slot-slot.ensures.slot in
     let within = at.within in
     let used = c.read_head-used.ensures.used in
     omega arith
@@ -133,14 +111,14 @@ word-value-requires g t c =
     let most = node-room m 1 level node is in
     let size = keys-length m 1 level node is in
     let seen = seen_by key.read key.order s m in
-    let slot = c.seek_slot-spot.result.slot in
+    let slot = c.seek_slot-slot.result in
     let head = c.read_head-used.ensures.same in
     let at : IsSlot seen (node_keys (m node)) slot =
-    subst (λ (f : g.row.F.Denot). IsSlot (seen_by key.read key.order s (records f)) (node_keys (records f node)) slot) head c.seek_slot-spot.ensures.slot in
+    subst (λ (f : g.row.F.Denot). IsSlot (seen_by key.read key.order s (records f)) (node_keys (records f node)) slot) head c.seek_slot-slot.ensures.slot in
     let within = at.within in
     let used = c.read_head-used.ensures.used in
     let low : slot < used_of (m node) = (let test = c.if-slot-used.false in omega arith) in
-    let same : c.seek_slot-spot.new.frozen ≡ c.args.frozen.now = c.seek_slot-spot.ensures.same ∙ head in
+    let same : c.seek_slot-slot.new.frozen ≡ c.args.frozen.now = c.seek_slot-slot.ensures.same ∙ head in
     let wide = node-size m 1 level node is in
     (omega arith, subst (λ (f : g.row.F.Denot). 18 + slot < length (records f node)) (sym same) (omega arith))
 
@@ -158,14 +136,14 @@ overflow_cast-value g t c =
     let most = node-room m 1 level node is in
     let size = keys-length m 1 level node is in
     let seen = seen_by key.read key.order s m in
-    let slot = c.seek_slot-spot.result.slot in
+    let slot = c.seek_slot-slot.result in
     let head = c.read_head-used.ensures.same in
     let at : IsSlot seen (node_keys (m node)) slot =
-    subst (λ (f : g.row.F.Denot). IsSlot (seen_by key.read key.order s (records f)) (node_keys (records f node)) slot) head c.seek_slot-spot.ensures.slot in
+    subst (λ (f : g.row.F.Denot). IsSlot (seen_by key.read key.order s (records f)) (node_keys (records f node)) slot) head c.seek_slot-slot.ensures.slot in
     let within = at.within in
     let used = c.read_head-used.ensures.used in
     let low : slot < used_of (m node) = (let test = c.if-slot-used.false in omega arith) in
-    let same : c.seek_slot-spot.new.frozen ≡ c.args.frozen.now = c.seek_slot-spot.ensures.same ∙ head in
+    let same : c.seek_slot-slot.new.frozen ≡ c.args.frozen.now = c.seek_slot-slot.ensures.same ∙ head in
     let wide = node-size m 1 level node is in
     let q = word_at m node (18 + slot) in
     let is_q : c.word-value.result ≡ q = c.word-value.ensures.value ∙ ap (λ (f : g.row.F.Denot). word_at (records f) node (18 + slot)) same in
@@ -190,14 +168,14 @@ find_below-requires g t c =
     let most = node-room m 1 level node is in
     let size = keys-length m 1 level node is in
     let seen = seen_by key.read key.order s m in
-    let slot = c.seek_slot-spot.result.slot in
+    let slot = c.seek_slot-slot.result in
     let head = c.read_head-used.ensures.same in
     let at : IsSlot seen (node_keys (m node)) slot =
-    subst (λ (f : g.row.F.Denot). IsSlot (seen_by key.read key.order s (records f)) (node_keys (records f node)) slot) head c.seek_slot-spot.ensures.slot in
+    subst (λ (f : g.row.F.Denot). IsSlot (seen_by key.read key.order s (records f)) (node_keys (records f node)) slot) head c.seek_slot-slot.ensures.slot in
     let within = at.within in
     let used = c.read_head-used.ensures.used in
     let low : slot < used_of (m node) = (let test = c.if-slot-used.false in omega arith) in
-    let same : c.seek_slot-spot.new.frozen ≡ c.args.frozen.now = c.seek_slot-spot.ensures.same ∙ head in
+    let same : c.seek_slot-slot.new.frozen ≡ c.args.frozen.now = c.seek_slot-slot.ensures.same ∙ head in
     let wide = node-size m 1 level node is in
     let q = word_at m node (18 + slot) in
     let is_q : c.word-value.result ≡ q = c.word-value.ensures.value ∙ ap (λ (f : g.row.F.Denot). word_at (records f) node (18 + slot)) same in
@@ -251,14 +229,14 @@ returns-then-level-gt0-clause-pair g t c =
     let most = node-room m 1 level node is in
     let size = keys-length m 1 level node is in
     let seen = seen_by key.read key.order s m in
-    let slot = c.seek_slot-spot.result.slot in
+    let slot = c.seek_slot-slot.result in
     let head = c.read_head-used.ensures.same in
     let at : IsSlot seen (node_keys (m node)) slot =
-    subst (λ (f : g.row.F.Denot). IsSlot (seen_by key.read key.order s (records f)) (node_keys (records f node)) slot) head c.seek_slot-spot.ensures.slot in
+    subst (λ (f : g.row.F.Denot). IsSlot (seen_by key.read key.order s (records f)) (node_keys (records f node)) slot) head c.seek_slot-slot.ensures.slot in
     let within = at.within in
     let used = c.read_head-used.ensures.used in
     let low : slot < used_of (m node) = (let test = c.if-slot-used.false in omega arith) in
-    let same : c.seek_slot-spot.new.frozen ≡ c.args.frozen.now = c.seek_slot-spot.ensures.same ∙ head in
+    let same : c.seek_slot-slot.new.frozen ≡ c.args.frozen.now = c.seek_slot-slot.ensures.same ∙ head in
     let wide = node-size m 1 level node is in
     let q = word_at m node (18 + slot) in
     let is_q : c.word-value.result ≡ q = c.word-value.ensures.value ∙ ap (λ (f : g.row.F.Denot). word_at (records f) node (18 + slot)) same in
@@ -273,8 +251,8 @@ returns-then-level-gt0-clause-pair g t c =
     ∙ ap (λ r. lookup_pair (seen_by key.read key.order s m) (pairs_below m l r)) ref_is
     ∙ sym (child-pair key.order total (key.read m) s m level node slot is c.requires.ascends at l above low)
 
-pub overflow_add-slot-then-spot : goal.overflow_add-slot-then-spot
-overflow_add-slot-then-spot g t c =
+pub overflow_add-slot-then-is_at : goal.overflow_add-slot-then-is_at
+overflow_add-slot-then-is_at g t c =
     let records = g.F.Frozen.records in
     let key = g.K.KeyOrder in
     let total = g.met.K.KeyOrder.total in
@@ -287,13 +265,56 @@ overflow_add-slot-then-spot g t c =
     let most = node-room m 1 level node is in
     let size = keys-length m 1 level node is in
     let seen = seen_by key.read key.order s m in
-    let slot = c.seek_slot-spot.result.slot in
+    let slot = c.seek_slot-slot.result in
     let head = c.read_head-used.ensures.same in
     let at : IsSlot seen (node_keys (m node)) slot =
-    subst (λ (f : g.row.F.Denot). IsSlot (seen_by key.read key.order s (records f)) (node_keys (records f node)) slot) head c.seek_slot-spot.ensures.slot in
+    subst (λ (f : g.row.F.Denot). IsSlot (seen_by key.read key.order s (records f)) (node_keys (records f node)) slot) head c.seek_slot-slot.ensures.slot in
     let within = at.within in
     let used = c.read_head-used.ensures.used in
     omega arith
+
+pub is_at-requires : goal.is_at-requires
+is_at-requires g t c =
+    let records = g.F.Frozen.records in
+    let key = g.K.KeyOrder in
+    let total = g.met.K.KeyOrder.total in
+    let m = records c.args.frozen.now in
+    let node = c.args.node in
+    let level = c.args.level in
+    let s = key.sought c.args.key.now in
+    let is = c.requires.node in
+    let at_level : level_of (m node) ≡ level = node-level m 1 level node is in
+    let most = node-room m 1 level node is in
+    let size = keys-length m 1 level node is in
+    let seen = seen_by key.read key.order s m in
+    let slot = c.seek_slot-slot.result in
+    let head = c.read_head-used.ensures.same in
+    let at : IsSlot seen (node_keys (m node)) slot =
+    subst (λ (f : g.row.F.Denot). IsSlot (seen_by key.read key.order s (records f)) (node_keys (records f node)) slot) head c.seek_slot-slot.ensures.slot in
+    let within = at.within in
+    let used = c.read_head-used.ensures.used in
+    let low : slot < used_of (m node) = (let test = c.if-slot-used.false in omega arith) in
+    let same : c.seek_slot-slot.new.frozen ≡ c.args.frozen.now = c.seek_slot-slot.ensures.same ∙ head in
+    let wide = node-size m 1 level node is in
+    let q = word_at m node (18 + slot) in
+    let is_q : c.word-value.result ≡ q = c.word-value.ensures.value ∙ ap (λ (f : g.row.F.Denot). word_at (records f) node (18 + slot)) same in
+    let flat : level ≡ 0 = (let test = c.if-level-gt0.false in omega arith) in
+    let leaf : IsNode m 1 0 node = subst (λ l. IsNode m 1 l node) flat is in
+    let kept : c.word-value.new.self ≡ c.args.frozen.now = c.word-value.ensures.same ∙ same in
+    let here : slot < length (node_keys (m node)) = omega arith in (
+      omega arith,
+      (
+        subst (λ (f : g.row.F.Denot). IsNode (records f) 1 (level_of (records f node)) node) (sym kept) (subst (λ l. IsNode m 1 l node) (sym at_level) is),
+        (
+          subst (λ (f : g.row.F.Denot). AllReadable key.can_read (records f) (pairs_below (records f) (level_of (records f node)) node)) (sym kept)
+              (subst (λ l. AllReadable key.can_read m (pairs_below m l node)) (sym at_level) c.requires.readable),
+          (
+            subst (λ (f : g.row.F.Denot). slot < length (node_keys (records f node))) (sym kept) here,
+            subst (λ (f : g.row.F.Denot). IsSlot (seen_by key.read key.order s (records f)) (node_keys (records f node)) slot) (sym kept) at,
+          ),
+        ),
+      ),
+    )
 
 pub word-requires : goal.word-requires
 word-requires g t c =
@@ -309,24 +330,25 @@ word-requires g t c =
     let most = node-room m 1 level node is in
     let size = keys-length m 1 level node is in
     let seen = seen_by key.read key.order s m in
-    let slot = c.seek_slot-spot.result.slot in
+    let slot = c.seek_slot-slot.result in
     let head = c.read_head-used.ensures.same in
     let at : IsSlot seen (node_keys (m node)) slot =
-    subst (λ (f : g.row.F.Denot). IsSlot (seen_by key.read key.order s (records f)) (node_keys (records f node)) slot) head c.seek_slot-spot.ensures.slot in
+    subst (λ (f : g.row.F.Denot). IsSlot (seen_by key.read key.order s (records f)) (node_keys (records f node)) slot) head c.seek_slot-slot.ensures.slot in
     let within = at.within in
     let used = c.read_head-used.ensures.used in
     let low : slot < used_of (m node) = (let test = c.if-slot-used.false in omega arith) in
-    let same : c.seek_slot-spot.new.frozen ≡ c.args.frozen.now = c.seek_slot-spot.ensures.same ∙ head in
+    let same : c.seek_slot-slot.new.frozen ≡ c.args.frozen.now = c.seek_slot-slot.ensures.same ∙ head in
     let wide = node-size m 1 level node is in
     let q = word_at m node (18 + slot) in
     let is_q : c.word-value.result ≡ q = c.word-value.ensures.value ∙ ap (λ (f : g.row.F.Denot). word_at (records f) node (18 + slot)) same in
     let flat : level ≡ 0 = (let test = c.if-level-gt0.false in omega arith) in
     let leaf : IsNode m 1 0 node = subst (λ l. IsNode m 1 l node) flat is in
     let kept : c.word-value.new.self ≡ c.args.frozen.now = c.word-value.ensures.same ∙ same in
-    (omega arith, subst (λ (f : g.row.F.Denot). 2 + slot < length (records f node)) (sym kept) (omega arith))
+    let still : c.is_at.new.frozen ≡ c.args.frozen.now = c.is_at.ensures.same ∙ kept in
+    (omega arith, subst (λ (f : g.row.F.Denot). 2 + slot < length (records f node)) (sym still) (omega arith))
 
-pub returns-then-spot-clause-pair : goal.returns-then-spot-clause-pair
-returns-then-spot-clause-pair g t c =
+pub returns-then-is_at-clause-pair : goal.returns-then-is_at-clause-pair
+returns-then-is_at-clause-pair g t c =
     let records = g.F.Frozen.records in
     let key = g.K.KeyOrder in
     let total = g.met.K.KeyOrder.total in
@@ -339,14 +361,14 @@ returns-then-spot-clause-pair g t c =
     let most = node-room m 1 level node is in
     let size = keys-length m 1 level node is in
     let seen = seen_by key.read key.order s m in
-    let slot = c.seek_slot-spot.result.slot in
+    let slot = c.seek_slot-slot.result in
     let head = c.read_head-used.ensures.same in
     let at : IsSlot seen (node_keys (m node)) slot =
-    subst (λ (f : g.row.F.Denot). IsSlot (seen_by key.read key.order s (records f)) (node_keys (records f node)) slot) head c.seek_slot-spot.ensures.slot in
+    subst (λ (f : g.row.F.Denot). IsSlot (seen_by key.read key.order s (records f)) (node_keys (records f node)) slot) head c.seek_slot-slot.ensures.slot in
     let within = at.within in
     let used = c.read_head-used.ensures.used in
     let low : slot < used_of (m node) = (let test = c.if-slot-used.false in omega arith) in
-    let same : c.seek_slot-spot.new.frozen ≡ c.args.frozen.now = c.seek_slot-spot.ensures.same ∙ head in
+    let same : c.seek_slot-slot.new.frozen ≡ c.args.frozen.now = c.seek_slot-slot.ensures.same ∙ head in
     let wide = node-size m 1 level node is in
     let q = word_at m node (18 + slot) in
     let is_q : c.word-value.result ≡ q = c.word-value.ensures.value ∙ ap (λ (f : g.row.F.Denot). word_at (records f) node (18 + slot)) same in
@@ -354,14 +376,15 @@ returns-then-spot-clause-pair g t c =
     let leaf : IsNode m 1 0 node = subst (λ l. IsNode m 1 l node) flat is in
     let kept : c.word-value.new.self ≡ c.args.frozen.now = c.word-value.ensures.same ∙ same in
     let found : IsFound seen (node_keys (m node)) slot =
-    subst (λ (f : g.row.F.Denot). IsFound (seen_by key.read key.order s (records f)) (node_keys (records f node)) slot) head (c.seek_slot-spot.ensures.found c.if-spot.true) in
-    let is_k : c.word.result ≡ word_at m node (2 + slot) = c.word.ensures.value ∙ ap (λ (f : g.row.F.Denot). word_at (records f) node (2 + slot)) kept in
+    subst (λ (f : g.row.F.Denot). IsFound (seen_by key.read key.order s (records f)) (node_keys (records f node)) slot) kept (c.is_at.ensures.found c.if-is_at.true) in
+    let still : c.is_at.new.frozen ≡ c.args.frozen.now = c.is_at.ensures.same ∙ kept in
+    let is_k : c.word.result ≡ word_at m node (2 + slot) = c.word.ensures.value ∙ ap (λ (f : g.row.F.Denot). word_at (records f) node (2 + slot)) still in
     ap (λ k. Some (k, c.word-value.result)) is_k ∙ ap (λ v. Some (word_at m node (2 + slot), v)) is_q
     ∙ leaf-found seen m node slot leaf at low found
     ∙ ap (λ l. lookup_pair seen (pairs_below m l node)) (sym flat)
 
-pub returns-else-spot-clause-pair : goal.returns-else-spot-clause-pair
-returns-else-spot-clause-pair g t c =
+pub returns-clause-pair : goal.returns-clause-pair
+returns-clause-pair g t c =
     let records = g.F.Frozen.records in
     let key = g.K.KeyOrder in
     let total = g.met.K.KeyOrder.total in
@@ -374,14 +397,14 @@ returns-else-spot-clause-pair g t c =
     let most = node-room m 1 level node is in
     let size = keys-length m 1 level node is in
     let seen = seen_by key.read key.order s m in
-    let slot = c.seek_slot-spot.result.slot in
+    let slot = c.seek_slot-slot.result in
     let head = c.read_head-used.ensures.same in
     let at : IsSlot seen (node_keys (m node)) slot =
-    subst (λ (f : g.row.F.Denot). IsSlot (seen_by key.read key.order s (records f)) (node_keys (records f node)) slot) head c.seek_slot-spot.ensures.slot in
+    subst (λ (f : g.row.F.Denot). IsSlot (seen_by key.read key.order s (records f)) (node_keys (records f node)) slot) head c.seek_slot-slot.ensures.slot in
     let within = at.within in
     let used = c.read_head-used.ensures.used in
     let low : slot < used_of (m node) = (let test = c.if-slot-used.false in omega arith) in
-    let same : c.seek_slot-spot.new.frozen ≡ c.args.frozen.now = c.seek_slot-spot.ensures.same ∙ head in
+    let same : c.seek_slot-slot.new.frozen ≡ c.args.frozen.now = c.seek_slot-slot.ensures.same ∙ head in
     let wide = node-size m 1 level node is in
     let q = word_at m node (18 + slot) in
     let is_q : c.word-value.result ≡ q = c.word-value.ensures.value ∙ ap (λ (f : g.row.F.Denot). word_at (records f) node (18 + slot)) same in
@@ -389,6 +412,6 @@ returns-else-spot-clause-pair g t c =
     let leaf : IsNode m 1 0 node = subst (λ l. IsNode m 1 l node) flat is in
     let kept : c.word-value.new.self ≡ c.args.frozen.now = c.word-value.ensures.same ∙ same in
     let lacking : IsLacking seen (node_keys (m node)) slot =
-    subst (λ (f : g.row.F.Denot). IsLacking (seen_by key.read key.order s (records f)) (node_keys (records f node)) slot) head (c.seek_slot-spot.ensures.lacking c.if-spot.false) in
+    subst (λ (f : g.row.F.Denot). IsLacking (seen_by key.read key.order s (records f)) (node_keys (records f node)) slot) kept (c.is_at.ensures.lacking c.if-is_at.false) in
     leaf-lacking seen m node slot leaf at low lacking
     ∙ ap (λ l. lookup_pair seen (pairs_below m l node)) (sym flat)

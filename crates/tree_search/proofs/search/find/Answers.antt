@@ -56,7 +56,7 @@ returns-clause-pair g c =
     let same = c.read_head-level.ensures.same in
     let all = root_pairs m root some tree in
     let seen = seen_by key.read key.order (key.sought c.args.key.now) m in
-    let pair : c.find_below.result ≡ lookup_pair seen (tree_pairs m root) =
+    let pair : c.find_below.new.pair ≡ lookup_pair seen (tree_pairs m root) =
     c.find_below.ensures.pair
     ∙ ap (λ (f : g.row.F.Denot). lookup_pair (seen_by key.read key.order (key.sought c.args.key.now) (records f)) (pairs_below (records f) level root)) same
     ∙ ap (λ l. lookup_pair seen (pairs_below m l root)) is ∙ ap (lookup_pair seen) (sym all) in
@@ -75,7 +75,7 @@ returns-clause-value g c =
     let same = c.read_head-level.ensures.same in
     let all = root_pairs m root some tree in
     let seen = seen_by key.read key.order (key.sought c.args.key.now) m in
-    let pair : c.find_below.result ≡ lookup_pair seen (tree_pairs m root) =
+    let pair : c.find_below.new.pair ≡ lookup_pair seen (tree_pairs m root) =
     c.find_below.ensures.pair
     ∙ ap (λ (f : g.row.F.Denot). lookup_pair (seen_by key.read key.order (key.sought c.args.key.now) (records f)) (pairs_below (records f) level root)) same
     ∙ ap (λ l. lookup_pair seen (pairs_below m l root)) is ∙ ap (lookup_pair seen) (sym all) in

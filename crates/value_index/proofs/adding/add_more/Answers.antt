@@ -74,7 +74,8 @@ set-requires g c =
     let b = ledger c.add.new.store in
     let m = records c.args.store.now in
     let n = records c.add.new.store in
-    let is = open_next value m root c.requires.index key c.args.list c.requires.found a b n next (insert_entry nat_cmp (list_at m c.args.list) c.args.doc (to_z w32 (of_z w32 c.args.weight))) c.requires.owns c.in_ok-next.ensures.makes in (
+    let is = open_next value m root c.requires.index key c.args.list c.requires.found a b n next
+    (insert_entry nat_cmp (list_at m c.args.list) c.args.doc (to_z w32 (of_z w32 c.args.weight))) c.requires.owns c.in_ok-next.ensures.makes in (
       omega arith,
       (
         c.add.ensures.may.unit ∙ c.requires.unit,
@@ -158,7 +159,8 @@ returns-clause-counts g c =
     ap (λ (w : ℤ). length (insert_entry nat_cmp (list_at m list) c.args.doc w)) (to_z-of_z w32 c.args.weight c.ranges.weight)
     ∙ ap (λ (ds : Docs). length (insert_entry nat_cmp ds c.args.doc c.args.weight)) was in
     let made = subst (λ k. MakesWithin a b (list_most (list_levels m list) k)) size c.add.ensures.counts in
-    let is = open_next value m root c.requires.index c.args.key list c.requires.found a b n next (insert_entry nat_cmp (list_at m list) c.args.doc (to_z w32 (of_z w32 c.args.weight))) c.requires.owns c.in_ok-next.ensures.makes in
+    let is = open_next value m root c.requires.index c.args.key list c.requires.found a b n next
+    (insert_entry nat_cmp (list_at m list) c.args.doc (to_z w32 (of_z w32 c.args.weight))) c.requires.owns c.in_ok-next.ensures.makes in
     let nodes = within_tree b d m n root (2 * levels n root + 1) is.nodes (omega arith) c.set.ensures.counts in
     within_more a d (λ w. list_most (list_levels m list) count w + nodes_most (levels m root) w) (add_most value m root count)
     (λ w. add_found value m root c.args.key list count w c.requires.found)

@@ -164,7 +164,8 @@ returns-in_err-left-clause-refuses g c =
     let m = g.S.Frozen.records c.args.store.now in
     let count : ℕ = length (remove_entry (is_at (nat_cmp c.args.doc)) (list_of value (index_of (type_of value) m root))) in
     let p = err_from_is_err_and c.from_residual-in_err-left.result c.from_residual-in_err-left.ensures.1 in
-    rw (p.1, p.2) (of_one (IsChangeWidth value count) (ledger c.args.store.now) (ledger c.remove.new.store) (ledger c.remove-2.new.store) 34 _ c.remove.ensures.may refl (node_change value count) c.in_err-left.ensures.refuses)
+    rw (p.1, p.2) (of_one (IsChangeWidth value count) (ledger c.args.store.now) (ledger c.remove.new.store) (ledger c.remove-2.new.store) 34 _ c.remove.ensures.may refl
+    (node_change value count) c.in_err-left.ensures.refuses)
 
 pub returns-in_err-left-clause-may : goal.returns-in_err-left-clause-may
 returns-in_err-left-clause-may g c =

@@ -10,8 +10,13 @@ use Rattle.value_lists.proofs.typed.remove_typed.Goals as goal
 
 pub remove_unit-requires : goal.remove_unit-requires
 remove_unit-requires g c =
-    let s = c.args.store.now in
-    (omega arith, (subst (λ t. HoldsIndex t (g.S.Store.ledger s) (g.S.Frozen.records s) c.args.root) (sym c.requires.typed) c.requires.holds, subst (λ t. IsSome (lookup (is_at (nat_cmp c.args.doc)) (list_of c.args.value.now (index_of t (g.S.Frozen.records s) c.args.root)))) (sym c.requires.typed) c.requires.there))
+    let s = c.args.store.now in (
+      omega arith,
+      (
+        subst (λ t. HoldsIndex t (g.S.Store.ledger s) (g.S.Frozen.records s) c.args.root) (sym c.requires.typed) c.requires.holds,
+        subst (λ t. IsSome (lookup (is_at (nat_cmp c.args.doc)) (list_of c.args.value.now (index_of t (g.S.Frozen.records s) c.args.root)))) (sym c.requires.typed) c.requires.there,
+      ),
+    )
 
 pub returns-clause-holds : goal.returns-clause-holds
 returns-clause-holds g c =
@@ -23,7 +28,8 @@ pub returns-clause-index : goal.returns-clause-index
 returns-clause-index g c =
     let s = c.args.store.now in
     let u = c.remove_unit.new.store in
-    subst (λ t. IfOk c.remove_unit.result (λ r. index_of t (g.S.Frozen.records u) r ≡ without_posting c.args.value.now c.args.doc (index_of t (g.S.Frozen.records s) c.args.root))) c.requires.typed c.remove_unit.ensures.index
+    subst (λ t. IfOk c.remove_unit.result (λ r. index_of t (g.S.Frozen.records u) r ≡ without_posting c.args.value.now c.args.doc (index_of t (g.S.Frozen.records s) c.args.root))) c.requires.typed
+    c.remove_unit.ensures.index
 
 pub returns-clause-still : goal.returns-clause-still
 returns-clause-still g c =

@@ -47,7 +47,8 @@ invariant_of-result g c =
     let own = c.in-Ok.own in
     let is = c.in-Ok.ensures in
     record {
-      stands = stands_made c.field_law.ensures.nothing g.row.OFFSET_BITS _ _ _ own c.in-Ok-empty_roots.roots.items c.len.result c.from_raw.result c.in-Ok-empty_roots.ensures (c.len.ensures ∙ sym (ap length is)) c.from_raw.ensures
+      stands = stands_made c.field_law.ensures.nothing g.row.OFFSET_BITS _ _ _ own c.in-Ok-empty_roots.roots.items c.len.result c.from_raw.result c.in-Ok-empty_roots.ensures
+          (c.len.ensures ∙ sym (ap length is)) c.from_raw.ensures
           (subst (λ fs. 0 < length fs) (sym is) c.requires.some) (subst (λ fs. length fs ≤ MOST_FIELDS) (sym is) c.requires.few)
           (c.in_ok-store.ensures.shape ∙ c.requires.shape ∙ sym (ap (λ fs. shape_of (types_of fs)) is)) c.in_ok-store.ensures.new c.in_ok-store.ensures.work c.requires.fresh;
       plan_is = tt;

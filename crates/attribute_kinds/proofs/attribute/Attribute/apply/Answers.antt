@@ -73,7 +73,8 @@ invariant_of-self g c =
     c.deref.ensures.value c.step.ensures.steps in
     let steps = subst (λ fs. Stepped fs (ledger old) (ledger new) (records old) (records new) (trees_of fs inside.roots.items) c.args.op.now (new ≡ old) c.step.result) c.as_slice.ensures first in
     let is = subst (λ r. Stepped fields (ledger old) (ledger new) (records old) (records new) trees c.args.op.now (new ≡ old) r) (c.in-Ok-Some.is ∙ ap Ok c.in-Ok-Some.field-0-is) steps in
-    let now = stands_turned (ledger old) (ledger new) (records old) (records new) fields inside.roots.items c.in-Ok-Some.roots.items inside.last.root inside.last.commit inside.last.operations c.self.invariant.stands c.step.ensures.keeps is.sized is.steps.are_fields is.steps.turns is.steps.refer is.steps.unsealed
+    let now = stands_turned (ledger old) (ledger new) (records old) (records new) fields inside.roots.items c.in-Ok-Some.roots.items inside.last.root inside.last.commit inside.last.operations c.self.invariant.stands
+    c.step.ensures.keeps is.sized is.steps.are_fields is.steps.turns is.steps.refer is.steps.unsealed
     (laws_of c.field_law.ensures.stays c.field_law.ensures.lawful c.field_law.ensures.keys) c.field_law.ensures.reaches (record { bits_are = g.met.S.Store.sized old; sealed = g.met.S.Store.finished old }) in
     let next = trees_of fields c.in-Ok-Some.roots.items in
     let settled = (g.met.S.Store.settled old c.self.invariant.stands.holds.unit).back in
@@ -105,7 +106,8 @@ invariant_of-self-in-Ok-None g c =
     let steps = subst (λ fs. Stepped fs (ledger old) (ledger new) (records old) (records new) (trees_of fs inside.roots.items) c.args.op.now (new ≡ old) c.step.result) c.as_slice.ensures first in
     let is = subst (λ r. Stepped fields (ledger old) (ledger new) (records old) (records new) trees c.args.op.now (new ≡ old) r) (c.in-Ok-None.is ∙ ap Ok c.in-Ok-None.field-0-is) steps in
     record {
-      stands = stands_left (ledger old) (ledger new) (records old) (records new) fields inside.roots.items inside.roots.items inside.last.root inside.last.commit inside.last.operations c.self.invariant.stands c.step.ensures.keeps
+      stands = stands_left (ledger old) (ledger new) (records old)
+          (records new) fields inside.roots.items inside.roots.items inside.last.root inside.last.commit inside.last.operations c.self.invariant.stands c.step.ensures.keeps
           (subst (λ s. LeavesEntries (ledger old) (ledger s) (records old) (records s)) (sym is.store_is) (leaves_same (ledger old) (records old)));
       plan_is = if_some_map (IsUnderWay g.row.OFFSET_BITS (ledger old) (records old) trees) (IsUnderWay g.row.OFFSET_BITS (ledger new) (records new) trees) inside.plan
           (λ plan under. under_same g.row.OFFSET_BITS (ledger old) (ledger new) (records old) (records new) trees plan c.step.ensures.keeps (ap records is.store_is) under) c.self.invariant.plan_is;
@@ -127,7 +129,8 @@ invariant_of-self-in-Err g c =
     let steps = subst (λ fs. Stepped fs (ledger old) (ledger new) (records old) (records new) (trees_of fs inside.roots.items) c.args.op.now (new ≡ old) c.step.result) c.as_slice.ensures first in
     let is = subst (λ r. Stepped fields (ledger old) (ledger new) (records old) (records new) trees c.args.op.now (new ≡ old) r) (c.in-Err.is) steps in
     record {
-      stands = stands_left (ledger old) (ledger new) (records old) (records new) fields inside.roots.items inside.roots.items inside.last.root inside.last.commit inside.last.operations c.self.invariant.stands c.step.ensures.keeps is.left;
+      stands = stands_left (ledger old) (ledger new) (records old)
+          (records new) fields inside.roots.items inside.roots.items inside.last.root inside.last.commit inside.last.operations c.self.invariant.stands c.step.ensures.keeps is.left;
       plan_is = if_some_map (IsUnderWay g.row.OFFSET_BITS (ledger old) (records old) trees) (IsUnderWay g.row.OFFSET_BITS (ledger new) (records new) trees) inside.plan
           (λ plan under. under_same g.row.OFFSET_BITS (ledger old) (ledger new) (records old) (records new) trees plan c.step.ensures.keeps (is.left.records) under) c.self.invariant.plan_is;
       last_is = c.self.invariant.last_is;
@@ -147,7 +150,8 @@ returns-in-Ok-Some-clause-table g c =
     c.deref.ensures.value c.step.ensures.steps in
     let steps = subst (λ fs. Stepped fs (ledger old) (ledger new) (records old) (records new) (trees_of fs inside.roots.items) c.args.op.now (new ≡ old) c.step.result) c.as_slice.ensures first in
     let is = subst (λ r. Stepped fields (ledger old) (ledger new) (records old) (records new) trees c.args.op.now (new ≡ old) r) (c.in-Ok-Some.is ∙ ap Ok c.in-Ok-Some.field-0-is) steps in
-    table_made fields (table_at (records old) trees) c.args.op.now (table_at (records new) (trees_of fields c.in-Ok-Some.roots.items)) is.steps.step_is ∙ ap (λ (v : AttributeView g.row.S.Denot). after_op v.fields v.table c.args.op.now) c.self.view_is
+    table_made fields (table_at (records old) trees) c.args.op.now (table_at (records new) (trees_of fields c.in-Ok-Some.roots.items)) is.steps.step_is
+    ∙ ap (λ (v : AttributeView g.row.S.Denot). after_op v.fields v.table c.args.op.now) c.self.view_is
 
 pub returns-in-Ok-Some-clause-applied : goal.returns-in-Ok-Some-clause-applied
 returns-in-Ok-Some-clause-applied g c =
@@ -162,7 +166,8 @@ returns-in-Ok-Some-clause-applied g c =
     c.deref.ensures.value c.step.ensures.steps in
     let steps = subst (λ fs. Stepped fs (ledger old) (ledger new) (records old) (records new) (trees_of fs inside.roots.items) c.args.op.now (new ≡ old) c.step.result) c.as_slice.ensures first in
     let is = subst (λ r. Stepped fields (ledger old) (ledger new) (records old) (records new) trees c.args.op.now (new ≡ old) r) (c.in-Ok-Some.is ∙ ap Ok c.in-Ok-Some.field-0-is) steps in
-    applied_made fields (table_at (records old) trees) c.args.op.now (table_at (records new) (trees_of fields c.in-Ok-Some.roots.items)) is.steps.step_is ∙ ap (λ (v : AttributeView g.row.S.Denot). applied_to v.fields v.table c.args.op.now) c.self.view_is
+    applied_made fields (table_at (records old) trees) c.args.op.now (table_at (records new) (trees_of fields c.in-Ok-Some.roots.items)) is.steps.step_is
+    ∙ ap (λ (v : AttributeView g.row.S.Denot). applied_to v.fields v.table c.args.op.now) c.self.view_is
 
 pub returns-in-Ok-Some-clause-operations : goal.returns-in-Ok-Some-clause-operations
 returns-in-Ok-Some-clause-operations g c =
@@ -219,7 +224,8 @@ returns-in-Ok-None-clause-table g c =
     c.deref.ensures.value c.step.ensures.steps in
     let steps = subst (λ fs. Stepped fs (ledger old) (ledger new) (records old) (records new) (trees_of fs inside.roots.items) c.args.op.now (new ≡ old) c.step.result) c.as_slice.ensures first in
     let is = subst (λ r. Stepped fields (ledger old) (ledger new) (records old) (records new) trees c.args.op.now (new ≡ old) r) (c.in-Ok-None.is ∙ ap Ok c.in-Ok-None.field-0-is) steps in
-    ap (λ s. table_at (records s) trees) is.store_is ∙ table_skipped fields (table_at (records old) trees) c.args.op.now is.step_is ∙ ap (λ (v : AttributeView g.row.S.Denot). after_op v.fields v.table c.args.op.now) c.self.view_is
+    ap (λ s. table_at (records s) trees) is.store_is ∙ table_skipped fields (table_at (records old) trees) c.args.op.now is.step_is
+    ∙ ap (λ (v : AttributeView g.row.S.Denot). after_op v.fields v.table c.args.op.now) c.self.view_is
 
 pub returns-in-Ok-None-clause-applied : goal.returns-in-Ok-None-clause-applied
 returns-in-Ok-None-clause-applied g c =
@@ -484,7 +490,8 @@ returns-in-Err-clause-room g c =
     c.deref.ensures.value c.step.ensures.steps in
     let steps = subst (λ fs. Stepped fs (ledger old) (ledger new) (records old) (records new) (trees_of fs inside.roots.items) op (new ≡ old) c.step.result) c.as_slice.ensures first in
     let is = subst (λ r. Stepped fields (ledger old) (ledger new) (records old) (records new) trees op (new ≡ old) r) (c.in-Err.is) steps in
-    let sound = trees_sound (records old) (laws_of c.field_law.ensures.stays c.field_law.ensures.lawful c.field_law.ensures.keys) fields inside.roots.items c.self.invariant.stands.sized c.self.invariant.stands.holds.are_fields in
+    let sound = trees_sound (records old) (laws_of c.field_law.ensures.stays c.field_law.ensures.lawful c.field_law.ensures.keys) fields inside.roots.items c.self.invariant.stands.sized
+    c.self.invariant.stands.holds.are_fields in
     let fits = subst (λ (v : AttributeView g.row.S.Denot). OpFits v.fields op) (sym c.self.view_is) c.requires.fits in
     let lacks = lacks_buffers (ledger old) (ledger new) fields (table_at (records old) trees) op c.in-Err.error sound fits (g.met.S.Store.counted old) (g.met.S.Store.counted new)
     (g.met.S.Store.limits old).some_words c.step.ensures.keeps is.refused made in

@@ -108,13 +108,17 @@ invariant_of-self g c =
     let fields = inside.fields in
     let new = c.commit_attributes.new.store in
     let trees = trees_of fields inside.roots.items in
-    let first = subst (λ rs. CommitsAttributes g.row.OFFSET_BITS c.as_slice-fields.result.now (trees_of c.as_slice-fields.result.now rs) inside.operations (ledger old) (ledger new) (records old) (records new) c.in-Ok.made.0 c.in-Ok.made.1)
+    let first = subst (λ rs. CommitsAttributes g.row.OFFSET_BITS c.as_slice-fields.result.now (trees_of c.as_slice-fields.result.now rs) inside.operations (ledger old) (ledger new) (records old)
+    (records new) c.in-Ok.made.0 c.in-Ok.made.1)
     c.deref.ensures.value c.in-Ok.ensures.commits in
-    let made = subst (λ fs. CommitsAttributes g.row.OFFSET_BITS fs (trees_of fs inside.roots.items) inside.operations (ledger old) (ledger new) (records old) (records new) c.in-Ok.made.0 c.in-Ok.made.1) c.as_slice-fields.ensures first in
+    let made = subst (λ fs. CommitsAttributes g.row.OFFSET_BITS fs (trees_of fs inside.roots.items) inside.operations (ledger old) (ledger new) (records old) (records new) c.in-Ok.made.0 c.in-Ok.made.1)
+    c.as_slice-fields.ensures first in
     record {
-      stands = stands_committed (ledger old) (ledger new) (records old) (records new) fields inside.roots.items inside.operations inside.last.root inside.last.commit inside.last.operations c.in-Ok.made.0 c.in-Ok.made.1 c.self.invariant.stands made;
+      stands = stands_committed (ledger old) (ledger new) (records old) (records new) fields inside.roots.items inside.operations inside.last.root inside.last.commit inside.last.operations c.in-Ok.made.0 c.in-Ok.made.1
+          c.self.invariant.stands made;
       plan_is = if_some_map (IsUnderWay g.row.OFFSET_BITS (ledger old) (records old) trees) (IsUnderWay g.row.OFFSET_BITS (ledger new) (records new) trees) inside.plan
-          (λ plan under. under_committed g.row.OFFSET_BITS (ledger old) (ledger new) (records old) (records new) fields trees inside.operations inside.last.root c.in-Ok.made.0 c.in-Ok.made.1 plan c.same_law.ensures.all c.self.invariant.stands.holds made under) c.self.invariant.plan_is;
+          (λ plan under. under_committed g.row.OFFSET_BITS (ledger old) (ledger new) (records old)
+          (records new) fields trees inside.operations inside.last.root c.in-Ok.made.0 c.in-Ok.made.1 plan c.same_law.ensures.all c.self.invariant.stands.holds made under) c.self.invariant.plan_is;
       last_is = c.self.invariant.last_is;
       waits_is = ap is_some (sym made.stores.finished);
     }
@@ -129,7 +133,8 @@ invariant_of-self-in-Err g c =
     let new = c.commit_attributes.new.store in
     let trees = trees_of fields inside.roots.items in
     record {
-      stands = stands_left (ledger old) (ledger new) (records old) (records new) fields inside.roots.items inside.roots.items inside.last.root inside.last.commit inside.last.operations c.self.invariant.stands c.in-Err.ensures.keeps c.in-Err.ensures.left;
+      stands = stands_left (ledger old) (ledger new) (records old)
+          (records new) fields inside.roots.items inside.roots.items inside.last.root inside.last.commit inside.last.operations c.self.invariant.stands c.in-Err.ensures.keeps c.in-Err.ensures.left;
       plan_is = if_some_map (IsUnderWay g.row.OFFSET_BITS (ledger old) (records old) trees) (IsUnderWay g.row.OFFSET_BITS (ledger new) (records new) trees) inside.plan
           (λ plan under. under_same g.row.OFFSET_BITS (ledger old) (ledger new) (records old) (records new) trees plan c.in-Err.ensures.keeps c.in-Err.ensures.left.records under) c.self.invariant.plan_is;
       last_is = c.self.invariant.last_is;
@@ -145,12 +150,15 @@ returns-in-Ok-clause-commits g c =
     let fields = inside.fields in
     let new = c.commit_attributes.new.store in
     let trees = trees_of fields inside.roots.items in
-    let first = subst (λ rs. CommitsAttributes g.row.OFFSET_BITS c.as_slice-fields.result.now (trees_of c.as_slice-fields.result.now rs) inside.operations (ledger old) (ledger new) (records old) (records new) c.in-Ok.made.0 c.in-Ok.made.1)
+    let first = subst (λ rs. CommitsAttributes g.row.OFFSET_BITS c.as_slice-fields.result.now (trees_of c.as_slice-fields.result.now rs) inside.operations (ledger old) (ledger new) (records old)
+    (records new) c.in-Ok.made.0 c.in-Ok.made.1)
     c.deref.ensures.value c.in-Ok.ensures.commits in
-    let made = subst (λ fs. CommitsAttributes g.row.OFFSET_BITS fs (trees_of fs inside.roots.items) inside.operations (ledger old) (ledger new) (records old) (records new) c.in-Ok.made.0 c.in-Ok.made.1) c.as_slice-fields.ensures first in
+    let made = subst (λ fs. CommitsAttributes g.row.OFFSET_BITS fs (trees_of fs inside.roots.items) inside.operations (ledger old) (ledger new) (records old) (records new) c.in-Ok.made.0 c.in-Ok.made.1)
+    c.as_slice-fields.ensures first in
     subst (λ (v : AttributeView g.row.S.Denot). CommitsImage g.row.OFFSET_BITS (ledger v.store) (ledger new) (last_image (ledger new).work.commits)
     (record { commit = c.in-Ok.made.1.commit; operations = inside.operations; advance = c.in-Ok.made.1.advance; oldest = c.in-Ok.made.1.oldest })) c.self.view_is
-    (image_committed (ledger old) (ledger new) (records old) (records new) fields inside.roots.items inside.operations inside.last.root inside.last.commit inside.last.operations c.in-Ok.made.0 c.in-Ok.made.1 c.self.invariant.stands made)
+    (image_committed (ledger old) (ledger new) (records old) (records new) fields inside.roots.items inside.operations inside.last.root inside.last.commit inside.last.operations c.in-Ok.made.0 c.in-Ok.made.1
+    c.self.invariant.stands made)
 
 pub returns-in-Ok-clause-number : goal.returns-in-Ok-clause-number
 returns-in-Ok-clause-number g c =
@@ -161,9 +169,11 @@ returns-in-Ok-clause-number g c =
     let fields = inside.fields in
     let new = c.commit_attributes.new.store in
     let trees = trees_of fields inside.roots.items in
-    let first = subst (λ rs. CommitsAttributes g.row.OFFSET_BITS c.as_slice-fields.result.now (trees_of c.as_slice-fields.result.now rs) inside.operations (ledger old) (ledger new) (records old) (records new) c.in-Ok.made.0 c.in-Ok.made.1)
+    let first = subst (λ rs. CommitsAttributes g.row.OFFSET_BITS c.as_slice-fields.result.now (trees_of c.as_slice-fields.result.now rs) inside.operations (ledger old) (ledger new) (records old)
+    (records new) c.in-Ok.made.0 c.in-Ok.made.1)
     c.deref.ensures.value c.in-Ok.ensures.commits in
-    let made = subst (λ fs. CommitsAttributes g.row.OFFSET_BITS fs (trees_of fs inside.roots.items) inside.operations (ledger old) (ledger new) (records old) (records new) c.in-Ok.made.0 c.in-Ok.made.1) c.as_slice-fields.ensures first in
+    let made = subst (λ fs. CommitsAttributes g.row.OFFSET_BITS fs (trees_of fs inside.roots.items) inside.operations (ledger old) (ledger new) (records old) (records new) c.in-Ok.made.0 c.in-Ok.made.1)
+    c.as_slice-fields.ensures first in
     made.number ∙ ap (λ (v : AttributeView g.row.S.Denot). (ledger v.store).work.commits.last + 1) c.self.view_is
 
 pub returns-in-Ok-clause-counts : goal.returns-in-Ok-clause-counts
@@ -179,10 +189,13 @@ returns-in-Ok-clause-committed g c =
     let fields = inside.fields in
     let new = c.commit_attributes.new.store in
     let trees = trees_of fields inside.roots.items in
-    let first = subst (λ rs. CommitsAttributes g.row.OFFSET_BITS c.as_slice-fields.result.now (trees_of c.as_slice-fields.result.now rs) inside.operations (ledger old) (ledger new) (records old) (records new) c.in-Ok.made.0 c.in-Ok.made.1)
+    let first = subst (λ rs. CommitsAttributes g.row.OFFSET_BITS c.as_slice-fields.result.now (trees_of c.as_slice-fields.result.now rs) inside.operations (ledger old) (ledger new) (records old)
+    (records new) c.in-Ok.made.0 c.in-Ok.made.1)
     c.deref.ensures.value c.in-Ok.ensures.commits in
-    let made = subst (λ fs. CommitsAttributes g.row.OFFSET_BITS fs (trees_of fs inside.roots.items) inside.operations (ledger old) (ledger new) (records old) (records new) c.in-Ok.made.0 c.in-Ok.made.1) c.as_slice-fields.ensures first in
-    table_committed (ledger old) (ledger new) (records old) (records new) fields inside.roots.items inside.operations inside.last.root inside.last.commit inside.last.operations c.in-Ok.made.0 c.in-Ok.made.1 c.self.invariant.stands made ∙ ap (λ (v : AttributeView g.row.S.Denot). v.table) c.self.view_is
+    let made = subst (λ fs. CommitsAttributes g.row.OFFSET_BITS fs (trees_of fs inside.roots.items) inside.operations (ledger old) (ledger new) (records old) (records new) c.in-Ok.made.0 c.in-Ok.made.1)
+    c.as_slice-fields.ensures first in
+    table_committed (ledger old) (ledger new) (records old) (records new) fields inside.roots.items inside.operations inside.last.root inside.last.commit inside.last.operations c.in-Ok.made.0 c.in-Ok.made.1
+    c.self.invariant.stands made ∙ ap (λ (v : AttributeView g.row.S.Denot). v.table) c.self.view_is
 
 pub returns-in-Ok-clause-published : goal.returns-in-Ok-clause-published
 returns-in-Ok-clause-published g c =
@@ -197,9 +210,11 @@ returns-in-Ok-clause-told g c =
     let fields = inside.fields in
     let new = c.commit_attributes.new.store in
     let trees = trees_of fields inside.roots.items in
-    let first = subst (λ rs. CommitsAttributes g.row.OFFSET_BITS c.as_slice-fields.result.now (trees_of c.as_slice-fields.result.now rs) inside.operations (ledger old) (ledger new) (records old) (records new) c.in-Ok.made.0 c.in-Ok.made.1)
+    let first = subst (λ rs. CommitsAttributes g.row.OFFSET_BITS c.as_slice-fields.result.now (trees_of c.as_slice-fields.result.now rs) inside.operations (ledger old) (ledger new) (records old)
+    (records new) c.in-Ok.made.0 c.in-Ok.made.1)
     c.deref.ensures.value c.in-Ok.ensures.commits in
-    let made = subst (λ fs. CommitsAttributes g.row.OFFSET_BITS fs (trees_of fs inside.roots.items) inside.operations (ledger old) (ledger new) (records old) (records new) c.in-Ok.made.0 c.in-Ok.made.1) c.as_slice-fields.ensures first in
+    let made = subst (λ fs. CommitsAttributes g.row.OFFSET_BITS fs (trees_of fs inside.roots.items) inside.operations (ledger old) (ledger new) (records old) (records new) c.in-Ok.made.0 c.in-Ok.made.1)
+    c.as_slice-fields.ensures first in
     made.told ∙ ap (λ (v : AttributeView g.row.S.Denot). told_after (ledger v.store).work.told (last_image (ledger new).work.commits)) c.self.view_is
 
 pub returns-in-Ok-clause-table : goal.returns-in-Ok-clause-table
@@ -211,9 +226,11 @@ returns-in-Ok-clause-table g c =
     let fields = inside.fields in
     let new = c.commit_attributes.new.store in
     let trees = trees_of fields inside.roots.items in
-    let first = subst (λ rs. CommitsAttributes g.row.OFFSET_BITS c.as_slice-fields.result.now (trees_of c.as_slice-fields.result.now rs) inside.operations (ledger old) (ledger new) (records old) (records new) c.in-Ok.made.0 c.in-Ok.made.1)
+    let first = subst (λ rs. CommitsAttributes g.row.OFFSET_BITS c.as_slice-fields.result.now (trees_of c.as_slice-fields.result.now rs) inside.operations (ledger old) (ledger new) (records old)
+    (records new) c.in-Ok.made.0 c.in-Ok.made.1)
     c.deref.ensures.value c.in-Ok.ensures.commits in
-    let made = subst (λ fs. CommitsAttributes g.row.OFFSET_BITS fs (trees_of fs inside.roots.items) inside.operations (ledger old) (ledger new) (records old) (records new) c.in-Ok.made.0 c.in-Ok.made.1) c.as_slice-fields.ensures first in
+    let made = subst (λ fs. CommitsAttributes g.row.OFFSET_BITS fs (trees_of fs inside.roots.items) inside.operations (ledger old) (ledger new) (records old) (records new) c.in-Ok.made.0 c.in-Ok.made.1)
+    c.as_slice-fields.ensures first in
     made.same ∙ ap (λ (v : AttributeView g.row.S.Denot). v.table) c.self.view_is
 
 pub returns-in-Ok-clause-operations : goal.returns-in-Ok-clause-operations

@@ -111,16 +111,21 @@ invariant_of-self g c =
     let trees = trees_of fields inside.roots.items in
     let next = trees_of fields others in
     let unfinished = none_finished (ledger old).finished (sym c.if-self.false ∙ c.self.invariant.waits_is) in
-    let made1 = subst (λ (fs : List Field). Compacts g.row.OFFSET_BITS inside.last.root (ledger old) (ledger new) (records old) (records new) fs (trees_of fs c.deref_mut.result.now) (trees_of fs c.compact-plan.new.roots) c.take-before.result c.compact-plan.result.0 (new ≡ old) c.args.keys c.compact-plan.result.1)
+    let made1 = subst (λ (fs : List Field). Compacts g.row.OFFSET_BITS inside.last.root (ledger old) (ledger new) (records old) (records new) fs (trees_of fs c.deref_mut.result.now)
+    (trees_of fs c.compact-plan.new.roots) c.take-before.result c.compact-plan.result.0 (new ≡ old) c.args.keys c.compact-plan.result.1)
     c.as_slice.ensures c.compact-plan.ensures.compacts in
-    let made2 = subst (λ (xs : List (FieldRoots g.row.OFFSET_BITS)). Compacts g.row.OFFSET_BITS inside.last.root (ledger old) (ledger new) (records old) (records new) fields (trees_of fields xs) (trees_of fields c.compact-plan.new.roots) c.take-before.result c.compact-plan.result.0 (new ≡ old) c.args.keys c.compact-plan.result.1)
+    let made2 = subst (λ (xs : List (FieldRoots g.row.OFFSET_BITS)). Compacts g.row.OFFSET_BITS inside.last.root (ledger old) (ledger new) (records old) (records new) fields (trees_of fields xs)
+    (trees_of fields c.compact-plan.new.roots) c.take-before.result c.compact-plan.result.0 (new ≡ old) c.args.keys c.compact-plan.result.1)
     c.deref_mut.ensures.value made1 in
-    let made3 = subst (λ (o : Option PlanView). Compacts g.row.OFFSET_BITS inside.last.root (ledger old) (ledger new) (records old) (records new) fields trees (trees_of fields c.compact-plan.new.roots) o c.compact-plan.result.0 (new ≡ old) c.args.keys c.compact-plan.result.1)
+    let made3 = subst (λ (o : Option PlanView). Compacts g.row.OFFSET_BITS inside.last.root (ledger old) (ledger new) (records old) (records new) fields trees
+    (trees_of fields c.compact-plan.new.roots) o c.compact-plan.result.0 (new ≡ old) c.args.keys c.compact-plan.result.1)
     c.take-before.ensures.value made2 in
-    let made = subst (λ (xs : List (FieldRoots g.row.OFFSET_BITS)). Compacts g.row.OFFSET_BITS inside.last.root (ledger old) (ledger new) (records old) (records new) fields trees (trees_of fields xs) inside.plan c.compact-plan.result.0 (new ≡ old) c.args.keys c.compact-plan.result.1)
+    let made = subst (λ (xs : List (FieldRoots g.row.OFFSET_BITS)). Compacts g.row.OFFSET_BITS inside.last.root (ledger old) (ledger new) (records old) (records new) fields trees
+    (trees_of fields xs) inside.plan c.compact-plan.result.0 (new ≡ old) c.args.keys c.compact-plan.result.1)
     (sym rs) made3 in
     subst (λ w. IsAttribute (ledger new) (records new) fields others inside.last.root inside.last.commit inside.last.operations c.compact-plan.result.0 w) (sym c.has_finished-self-inside.ensures)
-    (attribute_told g.row.OFFSET_BITS ledger records fields inside.operations inside.last.root inside.last.operations old new inside.roots.items others inside.plan c.compact-plan.result.0 c.args.keys inside.last.commit c.compact-plan.result.1 c.self.invariant.stands unfinished
+    (attribute_told g.row.OFFSET_BITS ledger records fields inside.operations inside.last.root inside.last.operations old new inside.roots.items others inside.plan c.compact-plan.result.0 c.args.keys inside.last.commit
+    c.compact-plan.result.1 c.self.invariant.stands unfinished
     (ap length rs ∙ sized) made)
 
 pub returns-clause-steps : goal.returns-clause-steps
@@ -137,16 +142,23 @@ returns-clause-steps g c =
     let trees = trees_of fields inside.roots.items in
     let next = trees_of fields others in
     let unfinished = none_finished (ledger old).finished (sym c.if-self.false ∙ c.self.invariant.waits_is) in
-    let made1 = subst (λ (fs : List Field). Compacts g.row.OFFSET_BITS inside.last.root (ledger old) (ledger new) (records old) (records new) fs (trees_of fs c.deref_mut.result.now) (trees_of fs c.compact-plan.new.roots) c.take-before.result c.compact-plan.result.0 (new ≡ old) c.args.keys c.compact-plan.result.1)
+    let made1 = subst (λ (fs : List Field). Compacts g.row.OFFSET_BITS inside.last.root (ledger old) (ledger new) (records old) (records new) fs (trees_of fs c.deref_mut.result.now)
+    (trees_of fs c.compact-plan.new.roots) c.take-before.result c.compact-plan.result.0 (new ≡ old) c.args.keys c.compact-plan.result.1)
     c.as_slice.ensures c.compact-plan.ensures.compacts in
-    let made2 = subst (λ (xs : List (FieldRoots g.row.OFFSET_BITS)). Compacts g.row.OFFSET_BITS inside.last.root (ledger old) (ledger new) (records old) (records new) fields (trees_of fields xs) (trees_of fields c.compact-plan.new.roots) c.take-before.result c.compact-plan.result.0 (new ≡ old) c.args.keys c.compact-plan.result.1)
+    let made2 = subst (λ (xs : List (FieldRoots g.row.OFFSET_BITS)). Compacts g.row.OFFSET_BITS inside.last.root (ledger old) (ledger new) (records old) (records new) fields (trees_of fields xs)
+    (trees_of fields c.compact-plan.new.roots) c.take-before.result c.compact-plan.result.0 (new ≡ old) c.args.keys c.compact-plan.result.1)
     c.deref_mut.ensures.value made1 in
-    let made3 = subst (λ (o : Option PlanView). Compacts g.row.OFFSET_BITS inside.last.root (ledger old) (ledger new) (records old) (records new) fields trees (trees_of fields c.compact-plan.new.roots) o c.compact-plan.result.0 (new ≡ old) c.args.keys c.compact-plan.result.1)
+    let made3 = subst (λ (o : Option PlanView). Compacts g.row.OFFSET_BITS inside.last.root (ledger old) (ledger new) (records old) (records new) fields trees
+    (trees_of fields c.compact-plan.new.roots) o c.compact-plan.result.0 (new ≡ old) c.args.keys c.compact-plan.result.1)
     c.take-before.ensures.value made2 in
-    let made = subst (λ (xs : List (FieldRoots g.row.OFFSET_BITS)). Compacts g.row.OFFSET_BITS inside.last.root (ledger old) (ledger new) (records old) (records new) fields trees (trees_of fields xs) inside.plan c.compact-plan.result.0 (new ≡ old) c.args.keys c.compact-plan.result.1)
+    let made = subst (λ (xs : List (FieldRoots g.row.OFFSET_BITS)). Compacts g.row.OFFSET_BITS inside.last.root (ledger old) (ledger new) (records old) (records new) fields trees
+    (trees_of fields xs) inside.plan c.compact-plan.result.0 (new ≡ old) c.args.keys c.compact-plan.result.1)
     (sym rs) made3 in
-    subst (λ (v : AttributeView g.row.S.Denot). IfOk c.told.result (CompactsTo g.row.OFFSET_BITS ledger records v (seen g.row.OFFSET_BITS ledger records fields inside.operations inside.last.root inside.last.operations new next c.compact-plan.result.0) c.args.keys)) c.self.view_is
-    (subst (λ r. IfOk r (CompactsTo g.row.OFFSET_BITS ledger records (seen g.row.OFFSET_BITS ledger records fields inside.operations inside.last.root inside.last.operations old trees inside.plan) (seen g.row.OFFSET_BITS ledger records fields inside.operations inside.last.root inside.last.operations new next c.compact-plan.result.0) c.args.keys)) (sym c.told.ensures)
+    subst (λ (v : AttributeView g.row.S.Denot). IfOk c.told.result
+    (CompactsTo g.row.OFFSET_BITS ledger records v (seen g.row.OFFSET_BITS ledger records fields inside.operations inside.last.root inside.last.operations new next c.compact-plan.result.0) c.args.keys))
+    c.self.view_is
+    (subst (λ r. IfOk r (CompactsTo g.row.OFFSET_BITS ledger records (seen g.row.OFFSET_BITS ledger records fields inside.operations inside.last.root inside.last.operations old trees inside.plan)
+    (seen g.row.OFFSET_BITS ledger records fields inside.operations inside.last.root inside.last.operations new next c.compact-plan.result.0) c.args.keys)) (sym c.told.ensures)
     (steps_told g.row.OFFSET_BITS ledger records fields inside.operations inside.last.root inside.last.operations old new trees next inside.plan c.compact-plan.result.0 c.args.keys c.compact-plan.result.1 made))
 
 pub returns-clause-refuses : goal.returns-clause-refuses
@@ -163,16 +175,22 @@ returns-clause-refuses g c =
     let trees = trees_of fields inside.roots.items in
     let next = trees_of fields others in
     let unfinished = none_finished (ledger old).finished (sym c.if-self.false ∙ c.self.invariant.waits_is) in
-    let made1 = subst (λ (fs : List Field). Compacts g.row.OFFSET_BITS inside.last.root (ledger old) (ledger new) (records old) (records new) fs (trees_of fs c.deref_mut.result.now) (trees_of fs c.compact-plan.new.roots) c.take-before.result c.compact-plan.result.0 (new ≡ old) c.args.keys c.compact-plan.result.1)
+    let made1 = subst (λ (fs : List Field). Compacts g.row.OFFSET_BITS inside.last.root (ledger old) (ledger new) (records old) (records new) fs (trees_of fs c.deref_mut.result.now)
+    (trees_of fs c.compact-plan.new.roots) c.take-before.result c.compact-plan.result.0 (new ≡ old) c.args.keys c.compact-plan.result.1)
     c.as_slice.ensures c.compact-plan.ensures.compacts in
-    let made2 = subst (λ (xs : List (FieldRoots g.row.OFFSET_BITS)). Compacts g.row.OFFSET_BITS inside.last.root (ledger old) (ledger new) (records old) (records new) fields (trees_of fields xs) (trees_of fields c.compact-plan.new.roots) c.take-before.result c.compact-plan.result.0 (new ≡ old) c.args.keys c.compact-plan.result.1)
+    let made2 = subst (λ (xs : List (FieldRoots g.row.OFFSET_BITS)). Compacts g.row.OFFSET_BITS inside.last.root (ledger old) (ledger new) (records old) (records new) fields (trees_of fields xs)
+    (trees_of fields c.compact-plan.new.roots) c.take-before.result c.compact-plan.result.0 (new ≡ old) c.args.keys c.compact-plan.result.1)
     c.deref_mut.ensures.value made1 in
-    let made3 = subst (λ (o : Option PlanView). Compacts g.row.OFFSET_BITS inside.last.root (ledger old) (ledger new) (records old) (records new) fields trees (trees_of fields c.compact-plan.new.roots) o c.compact-plan.result.0 (new ≡ old) c.args.keys c.compact-plan.result.1)
+    let made3 = subst (λ (o : Option PlanView). Compacts g.row.OFFSET_BITS inside.last.root (ledger old) (ledger new) (records old) (records new) fields trees
+    (trees_of fields c.compact-plan.new.roots) o c.compact-plan.result.0 (new ≡ old) c.args.keys c.compact-plan.result.1)
     c.take-before.ensures.value made2 in
-    let made = subst (λ (xs : List (FieldRoots g.row.OFFSET_BITS)). Compacts g.row.OFFSET_BITS inside.last.root (ledger old) (ledger new) (records old) (records new) fields trees (trees_of fields xs) inside.plan c.compact-plan.result.0 (new ≡ old) c.args.keys c.compact-plan.result.1)
+    let made = subst (λ (xs : List (FieldRoots g.row.OFFSET_BITS)). Compacts g.row.OFFSET_BITS inside.last.root (ledger old) (ledger new) (records old) (records new) fields trees
+    (trees_of fields xs) inside.plan c.compact-plan.result.0 (new ≡ old) c.args.keys c.compact-plan.result.1)
     (sym rs) made3 in
-    subst (λ (v : AttributeView g.row.S.Denot). IfErr c.told.result (RefusesStep g.row.OFFSET_BITS ledger records v (seen g.row.OFFSET_BITS ledger records fields inside.operations inside.last.root inside.last.operations new next c.compact-plan.result.0))) c.self.view_is
-    (subst (λ r. IfErr r (RefusesStep g.row.OFFSET_BITS ledger records (seen g.row.OFFSET_BITS ledger records fields inside.operations inside.last.root inside.last.operations old trees inside.plan) (seen g.row.OFFSET_BITS ledger records fields inside.operations inside.last.root inside.last.operations new next c.compact-plan.result.0))) (sym c.told.ensures)
+    subst (λ (v : AttributeView g.row.S.Denot). IfErr c.told.result
+    (RefusesStep g.row.OFFSET_BITS ledger records v (seen g.row.OFFSET_BITS ledger records fields inside.operations inside.last.root inside.last.operations new next c.compact-plan.result.0))) c.self.view_is
+    (subst (λ r. IfErr r (RefusesStep g.row.OFFSET_BITS ledger records (seen g.row.OFFSET_BITS ledger records fields inside.operations inside.last.root inside.last.operations old trees inside.plan)
+    (seen g.row.OFFSET_BITS ledger records fields inside.operations inside.last.root inside.last.operations new next c.compact-plan.result.0))) (sym c.told.ensures)
     (refuses_told g.row.OFFSET_BITS ledger records fields inside.operations inside.last.root inside.last.operations old new trees next inside.plan c.compact-plan.result.0 c.args.keys c.compact-plan.result.1 made))
 
 pub returns-clause-idle : goal.returns-clause-idle
@@ -189,15 +207,20 @@ returns-clause-idle g c =
     let trees = trees_of fields inside.roots.items in
     let next = trees_of fields others in
     let unfinished = none_finished (ledger old).finished (sym c.if-self.false ∙ c.self.invariant.waits_is) in
-    let made1 = subst (λ (fs : List Field). Compacts g.row.OFFSET_BITS inside.last.root (ledger old) (ledger new) (records old) (records new) fs (trees_of fs c.deref_mut.result.now) (trees_of fs c.compact-plan.new.roots) c.take-before.result c.compact-plan.result.0 (new ≡ old) c.args.keys c.compact-plan.result.1)
+    let made1 = subst (λ (fs : List Field). Compacts g.row.OFFSET_BITS inside.last.root (ledger old) (ledger new) (records old) (records new) fs (trees_of fs c.deref_mut.result.now)
+    (trees_of fs c.compact-plan.new.roots) c.take-before.result c.compact-plan.result.0 (new ≡ old) c.args.keys c.compact-plan.result.1)
     c.as_slice.ensures c.compact-plan.ensures.compacts in
-    let made2 = subst (λ (xs : List (FieldRoots g.row.OFFSET_BITS)). Compacts g.row.OFFSET_BITS inside.last.root (ledger old) (ledger new) (records old) (records new) fields (trees_of fields xs) (trees_of fields c.compact-plan.new.roots) c.take-before.result c.compact-plan.result.0 (new ≡ old) c.args.keys c.compact-plan.result.1)
+    let made2 = subst (λ (xs : List (FieldRoots g.row.OFFSET_BITS)). Compacts g.row.OFFSET_BITS inside.last.root (ledger old) (ledger new) (records old) (records new) fields (trees_of fields xs)
+    (trees_of fields c.compact-plan.new.roots) c.take-before.result c.compact-plan.result.0 (new ≡ old) c.args.keys c.compact-plan.result.1)
     c.deref_mut.ensures.value made1 in
-    let made3 = subst (λ (o : Option PlanView). Compacts g.row.OFFSET_BITS inside.last.root (ledger old) (ledger new) (records old) (records new) fields trees (trees_of fields c.compact-plan.new.roots) o c.compact-plan.result.0 (new ≡ old) c.args.keys c.compact-plan.result.1)
+    let made3 = subst (λ (o : Option PlanView). Compacts g.row.OFFSET_BITS inside.last.root (ledger old) (ledger new) (records old) (records new) fields trees
+    (trees_of fields c.compact-plan.new.roots) o c.compact-plan.result.0 (new ≡ old) c.args.keys c.compact-plan.result.1)
     c.take-before.ensures.value made2 in
-    let made = subst (λ (xs : List (FieldRoots g.row.OFFSET_BITS)). Compacts g.row.OFFSET_BITS inside.last.root (ledger old) (ledger new) (records old) (records new) fields trees (trees_of fields xs) inside.plan c.compact-plan.result.0 (new ≡ old) c.args.keys c.compact-plan.result.1)
+    let made = subst (λ (xs : List (FieldRoots g.row.OFFSET_BITS)). Compacts g.row.OFFSET_BITS inside.last.root (ledger old) (ledger new) (records old) (records new) fields trees
+    (trees_of fields xs) inside.plan c.compact-plan.result.0 (new ≡ old) c.args.keys c.compact-plan.result.1)
     (sym rs) made3 in
-    λ idle. c.told.ensures ∙ idle_told g.row.OFFSET_BITS ledger records fields inside.operations inside.last.root inside.last.operations old new trees next inside.plan c.compact-plan.result.0 c.args.keys c.compact-plan.result.1 made unfinished
+    λ idle. c.told.ensures ∙ idle_told g.row.OFFSET_BITS ledger records fields inside.operations inside.last.root inside.last.operations old new trees next inside.plan c.compact-plan.result.0 c.args.keys
+    c.compact-plan.result.1 made unfinished
     (subst (λ (v : AttributeView g.row.S.Denot). IsIdle g.row.OFFSET_BITS (ledger v.store) v.plan) (sym c.self.view_is) idle)
 
 pub returns-clause-keeps : goal.returns-clause-keeps
@@ -214,15 +237,20 @@ returns-clause-keeps g c =
     let trees = trees_of fields inside.roots.items in
     let next = trees_of fields others in
     let unfinished = none_finished (ledger old).finished (sym c.if-self.false ∙ c.self.invariant.waits_is) in
-    let made1 = subst (λ (fs : List Field). Compacts g.row.OFFSET_BITS inside.last.root (ledger old) (ledger new) (records old) (records new) fs (trees_of fs c.deref_mut.result.now) (trees_of fs c.compact-plan.new.roots) c.take-before.result c.compact-plan.result.0 (new ≡ old) c.args.keys c.compact-plan.result.1)
+    let made1 = subst (λ (fs : List Field). Compacts g.row.OFFSET_BITS inside.last.root (ledger old) (ledger new) (records old) (records new) fs (trees_of fs c.deref_mut.result.now)
+    (trees_of fs c.compact-plan.new.roots) c.take-before.result c.compact-plan.result.0 (new ≡ old) c.args.keys c.compact-plan.result.1)
     c.as_slice.ensures c.compact-plan.ensures.compacts in
-    let made2 = subst (λ (xs : List (FieldRoots g.row.OFFSET_BITS)). Compacts g.row.OFFSET_BITS inside.last.root (ledger old) (ledger new) (records old) (records new) fields (trees_of fields xs) (trees_of fields c.compact-plan.new.roots) c.take-before.result c.compact-plan.result.0 (new ≡ old) c.args.keys c.compact-plan.result.1)
+    let made2 = subst (λ (xs : List (FieldRoots g.row.OFFSET_BITS)). Compacts g.row.OFFSET_BITS inside.last.root (ledger old) (ledger new) (records old) (records new) fields (trees_of fields xs)
+    (trees_of fields c.compact-plan.new.roots) c.take-before.result c.compact-plan.result.0 (new ≡ old) c.args.keys c.compact-plan.result.1)
     c.deref_mut.ensures.value made1 in
-    let made3 = subst (λ (o : Option PlanView). Compacts g.row.OFFSET_BITS inside.last.root (ledger old) (ledger new) (records old) (records new) fields trees (trees_of fields c.compact-plan.new.roots) o c.compact-plan.result.0 (new ≡ old) c.args.keys c.compact-plan.result.1)
+    let made3 = subst (λ (o : Option PlanView). Compacts g.row.OFFSET_BITS inside.last.root (ledger old) (ledger new) (records old) (records new) fields trees
+    (trees_of fields c.compact-plan.new.roots) o c.compact-plan.result.0 (new ≡ old) c.args.keys c.compact-plan.result.1)
     c.take-before.ensures.value made2 in
-    let made = subst (λ (xs : List (FieldRoots g.row.OFFSET_BITS)). Compacts g.row.OFFSET_BITS inside.last.root (ledger old) (ledger new) (records old) (records new) fields trees (trees_of fields xs) inside.plan c.compact-plan.result.0 (new ≡ old) c.args.keys c.compact-plan.result.1)
+    let made = subst (λ (xs : List (FieldRoots g.row.OFFSET_BITS)). Compacts g.row.OFFSET_BITS inside.last.root (ledger old) (ledger new) (records old) (records new) fields trees
+    (trees_of fields xs) inside.plan c.compact-plan.result.0 (new ≡ old) c.args.keys c.compact-plan.result.1)
     (sym rs) made3 in
-    subst (λ (v : AttributeView g.row.S.Denot). KeepsStoreBut (ledger v.store) (ledger new)) c.self.view_is (keeps_told g.row.OFFSET_BITS ledger records fields inside.operations inside.last.root inside.last.operations old new trees next inside.plan c.compact-plan.result.0 c.args.keys c.compact-plan.result.1 made)
+    subst (λ (v : AttributeView g.row.S.Denot). KeepsStoreBut (ledger v.store) (ledger new)) c.self.view_is
+    (keeps_told g.row.OFFSET_BITS ledger records fields inside.operations inside.last.root inside.last.operations old new trees next inside.plan c.compact-plan.result.0 c.args.keys c.compact-plan.result.1 made)
 
 pub returns-clause-table : goal.returns-clause-table
 returns-clause-table g c =
@@ -238,15 +266,20 @@ returns-clause-table g c =
     let trees = trees_of fields inside.roots.items in
     let next = trees_of fields others in
     let unfinished = none_finished (ledger old).finished (sym c.if-self.false ∙ c.self.invariant.waits_is) in
-    let made1 = subst (λ (fs : List Field). Compacts g.row.OFFSET_BITS inside.last.root (ledger old) (ledger new) (records old) (records new) fs (trees_of fs c.deref_mut.result.now) (trees_of fs c.compact-plan.new.roots) c.take-before.result c.compact-plan.result.0 (new ≡ old) c.args.keys c.compact-plan.result.1)
+    let made1 = subst (λ (fs : List Field). Compacts g.row.OFFSET_BITS inside.last.root (ledger old) (ledger new) (records old) (records new) fs (trees_of fs c.deref_mut.result.now)
+    (trees_of fs c.compact-plan.new.roots) c.take-before.result c.compact-plan.result.0 (new ≡ old) c.args.keys c.compact-plan.result.1)
     c.as_slice.ensures c.compact-plan.ensures.compacts in
-    let made2 = subst (λ (xs : List (FieldRoots g.row.OFFSET_BITS)). Compacts g.row.OFFSET_BITS inside.last.root (ledger old) (ledger new) (records old) (records new) fields (trees_of fields xs) (trees_of fields c.compact-plan.new.roots) c.take-before.result c.compact-plan.result.0 (new ≡ old) c.args.keys c.compact-plan.result.1)
+    let made2 = subst (λ (xs : List (FieldRoots g.row.OFFSET_BITS)). Compacts g.row.OFFSET_BITS inside.last.root (ledger old) (ledger new) (records old) (records new) fields (trees_of fields xs)
+    (trees_of fields c.compact-plan.new.roots) c.take-before.result c.compact-plan.result.0 (new ≡ old) c.args.keys c.compact-plan.result.1)
     c.deref_mut.ensures.value made1 in
-    let made3 = subst (λ (o : Option PlanView). Compacts g.row.OFFSET_BITS inside.last.root (ledger old) (ledger new) (records old) (records new) fields trees (trees_of fields c.compact-plan.new.roots) o c.compact-plan.result.0 (new ≡ old) c.args.keys c.compact-plan.result.1)
+    let made3 = subst (λ (o : Option PlanView). Compacts g.row.OFFSET_BITS inside.last.root (ledger old) (ledger new) (records old) (records new) fields trees
+    (trees_of fields c.compact-plan.new.roots) o c.compact-plan.result.0 (new ≡ old) c.args.keys c.compact-plan.result.1)
     c.take-before.ensures.value made2 in
-    let made = subst (λ (xs : List (FieldRoots g.row.OFFSET_BITS)). Compacts g.row.OFFSET_BITS inside.last.root (ledger old) (ledger new) (records old) (records new) fields trees (trees_of fields xs) inside.plan c.compact-plan.result.0 (new ≡ old) c.args.keys c.compact-plan.result.1)
+    let made = subst (λ (xs : List (FieldRoots g.row.OFFSET_BITS)). Compacts g.row.OFFSET_BITS inside.last.root (ledger old) (ledger new) (records old) (records new) fields trees
+    (trees_of fields xs) inside.plan c.compact-plan.result.0 (new ≡ old) c.args.keys c.compact-plan.result.1)
     (sym rs) made3 in
-    table_told g.row.OFFSET_BITS ledger records fields inside.operations inside.last.root inside.last.operations old new trees next inside.plan c.compact-plan.result.0 c.args.keys c.compact-plan.result.1 made ∙ ap (λ (v : AttributeView g.row.S.Denot). v.table) c.self.view_is
+    table_told g.row.OFFSET_BITS ledger records fields inside.operations inside.last.root inside.last.operations old new trees next inside.plan c.compact-plan.result.0 c.args.keys c.compact-plan.result.1 made
+    ∙ ap (λ (v : AttributeView g.row.S.Denot). v.table) c.self.view_is
 
 pub returns-clause-operations : goal.returns-clause-operations
 returns-clause-operations g c = ap (λ (v : AttributeView g.row.S.Denot). v.operations) c.self.view_is
@@ -274,13 +307,18 @@ returns-clause-committed g c =
     let trees = trees_of fields inside.roots.items in
     let next = trees_of fields others in
     let unfinished = none_finished (ledger old).finished (sym c.if-self.false ∙ c.self.invariant.waits_is) in
-    let made1 = subst (λ (fs : List Field). Compacts g.row.OFFSET_BITS inside.last.root (ledger old) (ledger new) (records old) (records new) fs (trees_of fs c.deref_mut.result.now) (trees_of fs c.compact-plan.new.roots) c.take-before.result c.compact-plan.result.0 (new ≡ old) c.args.keys c.compact-plan.result.1)
+    let made1 = subst (λ (fs : List Field). Compacts g.row.OFFSET_BITS inside.last.root (ledger old) (ledger new) (records old) (records new) fs (trees_of fs c.deref_mut.result.now)
+    (trees_of fs c.compact-plan.new.roots) c.take-before.result c.compact-plan.result.0 (new ≡ old) c.args.keys c.compact-plan.result.1)
     c.as_slice.ensures c.compact-plan.ensures.compacts in
-    let made2 = subst (λ (xs : List (FieldRoots g.row.OFFSET_BITS)). Compacts g.row.OFFSET_BITS inside.last.root (ledger old) (ledger new) (records old) (records new) fields (trees_of fields xs) (trees_of fields c.compact-plan.new.roots) c.take-before.result c.compact-plan.result.0 (new ≡ old) c.args.keys c.compact-plan.result.1)
+    let made2 = subst (λ (xs : List (FieldRoots g.row.OFFSET_BITS)). Compacts g.row.OFFSET_BITS inside.last.root (ledger old) (ledger new) (records old) (records new) fields (trees_of fields xs)
+    (trees_of fields c.compact-plan.new.roots) c.take-before.result c.compact-plan.result.0 (new ≡ old) c.args.keys c.compact-plan.result.1)
     c.deref_mut.ensures.value made1 in
-    let made3 = subst (λ (o : Option PlanView). Compacts g.row.OFFSET_BITS inside.last.root (ledger old) (ledger new) (records old) (records new) fields trees (trees_of fields c.compact-plan.new.roots) o c.compact-plan.result.0 (new ≡ old) c.args.keys c.compact-plan.result.1)
+    let made3 = subst (λ (o : Option PlanView). Compacts g.row.OFFSET_BITS inside.last.root (ledger old) (ledger new) (records old) (records new) fields trees
+    (trees_of fields c.compact-plan.new.roots) o c.compact-plan.result.0 (new ≡ old) c.args.keys c.compact-plan.result.1)
     c.take-before.ensures.value made2 in
-    let made = subst (λ (xs : List (FieldRoots g.row.OFFSET_BITS)). Compacts g.row.OFFSET_BITS inside.last.root (ledger old) (ledger new) (records old) (records new) fields trees (trees_of fields xs) inside.plan c.compact-plan.result.0 (new ≡ old) c.args.keys c.compact-plan.result.1)
+    let made = subst (λ (xs : List (FieldRoots g.row.OFFSET_BITS)). Compacts g.row.OFFSET_BITS inside.last.root (ledger old) (ledger new) (records old) (records new) fields trees
+    (trees_of fields xs) inside.plan c.compact-plan.result.0 (new ≡ old) c.args.keys c.compact-plan.result.1)
     (sym rs) made3 in
-    let keeps = keeps_told g.row.OFFSET_BITS ledger records fields inside.operations inside.last.root inside.last.operations old new trees next inside.plan c.compact-plan.result.0 c.args.keys c.compact-plan.result.1 made in
+    let keeps = keeps_told g.row.OFFSET_BITS ledger records fields inside.operations inside.last.root inside.last.operations old new trees next inside.plan c.compact-plan.result.0 c.args.keys c.compact-plan.result.1
+    made in
     ap (λ (i : Image). table_of (shape_of (types_of fields)) (words_at i) inside.last.root) keeps.commits.image ∙ ap (λ (v : AttributeView g.row.S.Denot). v.committed) c.self.view_is

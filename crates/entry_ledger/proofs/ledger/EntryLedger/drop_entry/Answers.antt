@@ -153,7 +153,8 @@ invariant_of-self g c =
     let bufs : c.count_drop.new.buffers ≡ slice_set s.buffers b (dropped_buffer (dropped s.last (state_at (shelf_at xs b).states (o - 1))) (buffer_at s.buffers b)) =
     c.count_drop.ensures ∙ ap (λ (t : State). slice_set s.buffers b (dropped_buffer t (buffer_at s.buffers b))) c.drop_entry-now.ensures.now in
     subst (λ (u : ShelvesView). AreEntries bits (record v { shelves = u; buffers = c.count_drop.new.buffers }) s.held.held s.held.room s.unheld) (sym c.drop_entry-now.ensures.dropped)
-    (subst (λ (bs : List Buffer). AreEntries bits (record v { shelves = with_shelf s.shelves b (with_state_at (shelf_at xs b) (o - 1) (dropped s.last (state_at (shelf_at xs b).states (o - 1)))); buffers = bs }) s.held.held s.held.room s.unheld) (sym bufs)
+    (subst (λ (bs : List Buffer). AreEntries bits (record v { shelves = with_shelf s.shelves b (with_state_at (shelf_at xs b) (o - 1) (dropped s.last (state_at (shelf_at xs b).states (o - 1)))); buffers = bs })
+    s.held.held s.held.room s.unheld) (sym bufs)
     (drop-kept bits v s.held.held s.held.room s.unheld k b o h place))
 
 pub returns-clause-good : goal.returns-clause-good
@@ -175,7 +176,8 @@ returns-clause-good g c =
     c.count_drop.ensures ∙ ap (λ (t : State). slice_set s.buffers b (dropped_buffer t (buffer_at s.buffers b))) c.drop_entry-now.ensures.now in
     good bits (record v { shelves = c.drop_entry-now.new.self; buffers = c.count_drop.new.buffers }) s.held.held s.held.room s.unheld
     (subst (λ (u : ShelvesView). AreEntries bits (record v { shelves = u; buffers = c.count_drop.new.buffers }) s.held.held s.held.room s.unheld) (sym c.drop_entry-now.ensures.dropped)
-    (subst (λ (bs : List Buffer). AreEntries bits (record v { shelves = with_shelf s.shelves b (with_state_at (shelf_at xs b) (o - 1) (dropped s.last (state_at (shelf_at xs b).states (o - 1)))); buffers = bs }) s.held.held s.held.room s.unheld) (sym bufs)
+    (subst (λ (bs : List Buffer). AreEntries bits (record v { shelves = with_shelf s.shelves b (with_state_at (shelf_at xs b) (o - 1) (dropped s.last (state_at (shelf_at xs b).states (o - 1)))); buffers = bs })
+    s.held.held s.held.room s.unheld) (sym bufs)
     (drop-kept bits v s.held.held s.held.room s.unheld k b o h place)))
 
 pub returns-clause-drops : goal.returns-clause-drops
@@ -197,7 +199,8 @@ returns-clause-drops g c =
     c.count_drop.ensures ∙ ap (λ (t : State). slice_set s.buffers b (dropped_buffer t (buffer_at s.buffers b))) c.drop_entry-now.ensures.now in
     λ st is.
     (let r : packed bits (o - 1 + 1) b ≡ c.args.entry =
-    (let next : o - 1 + 1 ≡ o = (let first = place.first in omega (arith, first)) in ap (λ n. packed bits n b) (next ∙ c.offset.ensures.value) ∙ ap (packed bits (offset_of bits c.args.entry)) c.buffer-buffer.ensures.value ∙ packed-same bits c.args.entry) in
+    (let next : o - 1 + 1 ≡ o = (let first = place.first in omega (arith, first)) in
+    ap (λ n. packed bits n b) (next ∙ c.offset.ensures.value) ∙ ap (packed bits (offset_of bits c.args.entry)) c.buffer-buffer.ensures.value ∙ packed-same bits c.args.entry) in
     let here : state_in (shelf_at xs (buffer_of bits c.args.entry)) (offset_of bits c.args.entry) ≡ Some st =
     subst (λ (u : LedgerView). state_in (shelf_at u.shelves.shelves (buffer_of bits c.args.entry)) (offset_of bits c.args.entry) ≡ Some st) (sym c.self.view_is) is in
     let same : state_at (shelf_at xs b).states (o - 1) ≡ st =
@@ -206,6 +209,8 @@ returns-clause-drops g c =
     subst (λ (u : LedgerView). Drops (entries_of bits u) (entries_of bits (record v { shelves = c.drop_entry-now.new.self; buffers = c.count_drop.new.buffers })) c.args.entry st) c.self.view_is
     (subst (λ t. Drops (entries_of bits v) (entries_of bits (record v { shelves = c.drop_entry-now.new.self; buffers = c.count_drop.new.buffers })) c.args.entry t) same
     (subst (λ n. Drops (entries_of bits v) (entries_of bits (record v { shelves = c.drop_entry-now.new.self; buffers = c.count_drop.new.buffers })) n (state_at (shelf_at xs b).states (o - 1))) r
-    (subst (λ (u : ShelvesView). Drops (entries_of bits v) (entries_of bits (record v { shelves = u; buffers = c.count_drop.new.buffers })) (packed bits (o - 1 + 1) b) (state_at (shelf_at xs b).states (o - 1))) (sym c.drop_entry-now.ensures.dropped)
-    (subst (λ (bs : List Buffer). Drops (entries_of bits v) (entries_of bits (record v { shelves = with_shelf s.shelves b (with_state_at (shelf_at xs b) (o - 1) (dropped s.last (state_at (shelf_at xs b).states (o - 1)))); buffers = bs }))
+    (subst (λ (u : ShelvesView). Drops (entries_of bits v) (entries_of bits (record v { shelves = u; buffers = c.count_drop.new.buffers })) (packed bits (o - 1 + 1) b) (state_at (shelf_at xs b).states (o - 1)))
+    (sym c.drop_entry-now.ensures.dropped)
+    (subst (λ (bs : List Buffer). Drops (entries_of bits v) (entries_of bits
+    (record v { shelves = with_shelf s.shelves b (with_state_at (shelf_at xs b) (o - 1) (dropped s.last (state_at (shelf_at xs b).states (o - 1)))); buffers = bs }))
     (packed bits (o - 1 + 1) b) (state_at (shelf_at xs b).states (o - 1))) (sym bufs) base)))))
