@@ -3,12 +3,8 @@ ghost use Rattle.std.specs.Prelude.{◌≡◌, ◌≤◌, ◌++◌, length, OnOk
 ghost use Rattle.std.specs.Int.{w32, to_be_bytes};
 ghost use Rattle.std.specs.List.{flat_map, AllByRecursion};
 ghost use Rattle.attr_types.specs.Query.{items_in};
-<<<<<<< HEAD
-ghost use Rattle.attr_saver.specs.Bytes.{kind_byte, type_byte, form_bytes, head_bytes, text_bytes, value_bytes, weight_bytes, item_bytes, document_bytes};
-=======
 ghost use Rattle.attr_saver.specs.Bytes.{kind_byte, type_byte, form_bytes, head_bytes, text_bytes, value_bytes, weight_bytes, item_bytes};
 ghost use Rattle.attr_saver.specs.Bytes.{document_bytes};
->>>>>>> c66872e1f45357a69c913f84ef44f8b685c3e0ac
 ghost use Rattle.attr_saver.specs.Lawful.{IsStorable, IsStorableValue, IsStorableText, first_column};
 
 use crate::reader::MAGIC;

@@ -20,12 +20,8 @@ record FaultFrom (fields : List Field) (n : ℕ) (lines : List (List ℕ)) (line
   sound : AllByRecursion (IsSoundLine fields) before
   faulty : (is_blank text ≡ false) × (op_of_line fields text ≡ Err refusal)
 
-<<<<<<< HEAD
-past : (fields : List Field) (n : ℕ) (text : List ℕ) (lines : List (List ℕ)) (line : ℕ) (refusal : Refusal) → IsSoundLine fields text → FaultFrom fields (n + 1) lines line refusal → FaultFrom fields n (text ∷ lines) line refusal
-=======
 past : (fields : List Field) (n : ℕ) (text : List ℕ) (lines : List (List ℕ)) (line : ℕ) (refusal : Refusal) → IsSoundLine fields text → FaultFrom fields (n + 1) lines line refusal
     → FaultFrom fields n (text ∷ lines) line refusal
->>>>>>> c66872e1f45357a69c913f84ef44f8b685c3e0ac
 past fields n text lines line refusal sound fault = record {
   before = text ∷ fault.before;
   text = fault.text;
@@ -65,12 +61,8 @@ over_sound n false (Ok op) fault sound = refl
 over_sound n false (Err refusal) fault (inl e) = cc
 over_sound n false (Err refusal) fault (inr e) = cc
 
-<<<<<<< HEAD
-to_fault : (fields : List Field) (before : List (List ℕ)) (text : List ℕ) (after : List (List ℕ)) (n : ℕ) (refusal : Refusal) → AllByRecursion (IsSoundLine fields) before → is_blank text ≡ false → op_of_line fields text ≡ Err refusal
-=======
 to_fault : (fields : List Field) (before : List (List ℕ)) (text : List ℕ) (after : List (List ℕ)) (n : ℕ) (refusal : Refusal) → AllByRecursion (IsSoundLine fields) before → is_blank text ≡ false
     → op_of_line fields text ≡ Err refusal
->>>>>>> c66872e1f45357a69c913f84ef44f8b685c3e0ac
     → ops_of_lines fields n (before ++ (text ∷ after)) ≡ Err (n + length before, refusal)
 unfolding ops_of_lines
 to_fault fields [] text after n refusal sound blank says =

@@ -83,12 +83,8 @@ module _ (reaches : ℕ → Records → ℕ → List ℕ) (lawful : ℕ → Reco
       none : count_by (λ (q : ReaderView). is_counted_on e.hold q.state) s.readers ≡ 0
       none = let word = g.counts.counts e.hold low in omega (arith, word, unused)
 
-<<<<<<< HEAD
-      counts : (k : ℕ) → k < 16 → slice_index (set s.words (hold_place e.hold) 1) (hold_place k) ≡ hold_word (count_by (λ q. is_counted_on k q.state) s.readers) (is_open_hold (queue_of es s.writer.queue.newest s.writer.queue.pending) k)
-=======
       counts : (k : ℕ) → k < 16 → slice_index (set s.words (hold_place e.hold) 1) (hold_place k)
           ≡ hold_word (count_by (λ q. is_counted_on k q.state) s.readers) (is_open_hold (queue_of es s.writer.queue.newest s.writer.queue.pending) k)
->>>>>>> c66872e1f45357a69c913f84ef44f8b685c3e0ac
       counts k lt = dite (ℕ_discrete k e.hold)
           (λ same.
           let here : slice_index (set s.words (hold_place e.hold) 1) (hold_place k) ≡ 1 =

@@ -17,12 +17,8 @@ use Rattle.gen_core.specs.declared.views.ReaderState.{ReaderState}
 use Rattle.gen_core.specs.declared.views.ReaderState.TheVariants.{Idle, Aimed, Raised, Bounced, Guarded, Spent}
 use Rattle.gen_core.specs.declared.views.ReaderView.{ReaderView}
 use Rattle.gen_core.specs.declared.views.WriterView.{WriterView}
-<<<<<<< HEAD
-use Rattle.gen_core.specs.Views.{open_holds, oldest_of, kept_of, last_number, last_image, IsCommit, root_word, newest_word, hold_place, is_open_hold, coming, state_word, width_in, active_in, is_counted_on, spent}
-=======
 use Rattle.gen_core.specs.Views.{open_holds, oldest_of, kept_of, last_number, last_image, IsCommit, root_word, newest_word, hold_place}
 use Rattle.gen_core.specs.Views.{is_open_hold, coming, state_word, width_in, active_in, is_counted_on, spent}
->>>>>>> c66872e1f45357a69c913f84ef44f8b685c3e0ac
 use Rattle.gen_core.specs.Work.{work_at, place_in}
 
 -- the words of the table, the writer's view, and a view for each reader that was made

@@ -84,12 +84,8 @@ module _ (reaches : ℕ → Records → ℕ → List ℕ) (lawful : ℕ → Reco
 
   -- the newest word stored while its hold is closed
   abbrev pub LastBeforeOpen : Type 0
-<<<<<<< HEAD
-  LastBeforeOpen = (s : State) (h : ℕ) → Good reaches lawful s → h < 16 → is_open_hold s.writer.queue h ≡ false → Good reaches lawful (after_store_newest s h) → ⊥
-=======
   LastBeforeOpen = (s : State) (h : ℕ) → Good reaches lawful s → h < 16 → is_open_hold s.writer.queue h ≡ false
       → Good reaches lawful (after_store_newest s h) → ⊥
->>>>>>> c66872e1f45357a69c913f84ef44f8b685c3e0ac
 
   -- a hold that was found closed, taken as raised
   abbrev pub ForgetsTheBounce : Type 0

@@ -6,12 +6,8 @@ use Rattle.std.proofs.lemmas.Bool.Decides.{nat_tests}
 use Rattle.attr_types.specs.declared.field.Field.{Field}
 use Rattle.attr_types.specs.Query.{QueryTree, QueryTrees, one, and, or, no_trees, tree}
 use Rattle.attr_scores.specs.Scores.{AskTree, hits_of, dot_of}
-<<<<<<< HEAD
-use Rattle.query_text.specs.Grammar.{Words, Word, word_text, tree_text, IsAmong, first_found, unknown_if, unknown_in, unknown_list, unknown_others, unknown_at, resolved, resolved_list, asked_by, has_types, has_range, word_levels, unless_unknown, checked_by, judged}
-=======
 use Rattle.query_text.specs.Grammar.{Words, Word, word_text, tree_text, IsAmong, first_found, unknown_if, unknown_in, unknown_list, unknown_others, unknown_at, resolved, resolved_list, asked_by, has_types, has_range}
 use Rattle.query_text.specs.Grammar.{word_levels, unless_unknown, checked_by, judged}
->>>>>>> c66872e1f45357a69c913f84ef44f8b685c3e0ac
 use Rattle.query_text.specs.Laws.{ask_by, ReadsBack}
 use Rattle.query_print.specs.Printing.{name_at, named, named_list, named_word, AllFound, ListFound, AskFound, IsLawful, ReadsBackAs}
 

@@ -56,12 +56,8 @@ pub record IsLawful (fields : List Field) (ask : AskTree) : Type 0 where
 
 -- where the ask is lawful, each parser that reads such words reads the text as it
 abbrev pub ReadsBackAs : List Field → List ℕ → AskTree → Type 0
-<<<<<<< HEAD
-ReadsBackAs fields text ask = (words : Words) → IsAmong words (named_word fields ask) → IsLawful fields ask → ask_by words fields text ≡ Ok ask
-=======
 ReadsBackAs fields text ask = (words : Words) → IsAmong words (named_word fields ask) → IsLawful fields ask
     → ask_by words fields text ≡ Ok ask
->>>>>>> c66872e1f45357a69c913f84ef44f8b685c3e0ac
 
 -- what stands before a member of a list, by the number of members before it
 abbrev pub comma_after : ℕ → List ℕ

@@ -34,12 +34,8 @@ returns-in-Ok-clause-pairs g c =
     let b = c.begin.new.self in
     let t = c.insert.new.store in
     let u = c.accept.new.self in
-<<<<<<< HEAD
-    pairs_next (ledger s) (ledger b) (ledger t) (ledger u) (records s) (records b) (records u) c.args.root c.requires c.begin.ensures.ledger c.begin.ensures.records c.insert.ensures.may (records t) c.in-Ok.next c.in-Ok.ensures.turns c.accept.ensures
-=======
     pairs_next (ledger s) (ledger b) (ledger t) (ledger u) (records s) (records b) (records u) c.args.root c.requires c.begin.ensures.ledger c.begin.ensures.records c.insert.ensures.may
     (records t) c.in-Ok.next c.in-Ok.ensures.turns c.accept.ensures
->>>>>>> c66872e1f45357a69c913f84ef44f8b685c3e0ac
     ∙ c.in-Ok.ensures.pairs ∙ ap (λ m. put (beside_number c.args.key) (c.args.key, c.args.value) (tree_pairs m c.args.root)) c.begin.ensures.records
 
 pub returns-in-Ok-clause-commits : goal.returns-in-Ok-clause-commits

@@ -41,11 +41,7 @@ loop-cursor-preserved g c =
     record {
       same = c.next.ensures.same ∙ then_next;
       place = subst (λ f. IsListPlace (records f) next) then_next c.next.ensures.place;
-<<<<<<< HEAD
-      done = walked_more c.loop-cursor.items.items c.push.new.self.items c.item_of.result rest (postings_from m next) (list_at m c.args.list) c.push.ensures.items behind (first_doc rest, first_weight rest) item_is first c.loop-cursor.invariant.done;
-=======
       done = walked_more c.loop-cursor.items.items c.push.new.self.items c.item_of.result rest (postings_from m next) (list_at m c.args.list) c.push.ensures.items behind
           (first_doc rest, first_weight rest) item_is first c.loop-cursor.invariant.done;
->>>>>>> c66872e1f45357a69c913f84ef44f8b685c3e0ac
       few = fewer c.loop-cursor.items.items c.push.new.self.items c.item_of.result rest (postings_from m next) (first_doc rest, first_weight rest) c.push.ensures.items behind first c.loop-cursor.invariant.few;
     }
