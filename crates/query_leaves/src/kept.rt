@@ -1,5 +1,5 @@
 //! Those of some documents that a posting tree has, by a bit vector of the documents up to the last of them.
-ghost use Rattle.std.specs.Prelude.{◌≡◌, ◌×◌, ◌||◌, ◌&&◌, ◌/◌, ◌<◌, ℕ, true, nat_eq, length, IfOk, IfSome, OnOk};
+ghost use Rattle.std.specs.Prelude.{◌≡◌, ◌||◌, ◌&&◌, ◌/◌, ◌<◌, ℕ, true, nat_eq, length, IfOk, IfSome, OnOk};
 ghost use Rattle.std.specs.List.{AllByRecursion};
 ghost use Rattle.std.specs.Map.{keys_of};
 ghost use Rattle.attr_types.specs.Lawful.{IsDocNumber};
@@ -87,6 +87,16 @@ fn push_marked(marks: &[u64], doc: Doc, kept: &mut Vec<Doc>) -> Result<(), Alloc
     Ok(())
 }
 
+fn keep_keys(marks: &[u64], keys: &[u64], kept: &mut Vec<Doc>) -> Result<(), AllocError>
+    requires { AllByRecursion IsDocNumber keys.now }
+    ensures { OnOk result (Keeps (in_words marks.now) (has kept.old.items) keys.now (has kept.new.items)) }
+{
+    for key in keys {
+        push_marked(marks, Doc::new(*key as u32), kept)?;
+    }
+    Ok(())
+}
+
 /// Documents in a bit vector, and those of them that a tree has.
 #[derive(Drop)]
 struct Kept {
@@ -107,10 +117,7 @@ impl TakesKeys for Kept {
         ensures { OnOk result ((self.new.marks.items ≡ self.old.marks.items)
             × Keeps (in_words self.old.marks.items) (has self.old.docs.items) keys.now (has self.new.docs.items)) }
     {
-        for key in keys {
-            push_marked(self.marks.as_slice(), Doc::new(*key as u32), &mut self.docs)?;
-        }
-        Ok(())
+        keep_keys(self.marks.as_slice(), keys, &mut self.docs)
     }
 
     ghost none = { λ taker. kept_none taker.marks.items (has taker.docs.items) };

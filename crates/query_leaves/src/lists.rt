@@ -132,7 +132,7 @@ fn with_tree<const OFFSET_BITS: u32, F: Frozen<OFFSET_BITS>>(
     alloc: Global,
     frozen: &mut F,
     root: EntryRef<OFFSET_BITS>,
-    docs: Vec<Doc>,
+    mut docs: Vec<Doc>,
 ) -> Result<Gathered, AllocError>
     requires form { IsPostingList (F.records frozen.old) (tree root) }
     requires documents { HaveDocNumbers (postings_at (F.records frozen.old) (tree root)) }
@@ -142,6 +142,7 @@ fn with_tree<const OFFSET_BITS: u32, F: Frozen<OFFSET_BITS>>(
 {
     let count = total(frozen, root) as usize;
     if docs.len().max(count) <= MOST_FEW {
+        docs.reserve(count)?;
         return push_tree(frozen, root, docs);
     }
     let set = Gathered::Few(docs).into_set(alloc)?;

@@ -1,5 +1,5 @@
 //! What takes the keys of a posting tree, which are its documents.
-ghost use Rattle.std.specs.Prelude.{◌≡◌, ◌×◌, ◌||◌, ◌&&◌, ℕ, false, OnOk};
+ghost use Rattle.std.specs.Prelude.{OnOk};
 ghost use Rattle.std.specs.List.{AllByRecursion};
 ghost use Rattle.attr_types.specs.Lawful.{IsDocNumber};
 ghost use Rattle.doc_set.specs.Sets.{has, in_words};
@@ -9,6 +9,25 @@ use attr_types::Doc;
 use doc_set::DocSet;
 use std::alloc::AllocError;
 use tree_search::TakesKeys;
+
+fn push_keys(docs: &mut Vec<Doc>, keys: &[u64]) -> Result<(), AllocError>
+    requires { AllByRecursion IsDocNumber keys.now }
+    ensures { OnOk result (Adds (has docs.old.items) keys.now (has docs.new.items)) }
+{
+    for key in keys {
+        docs.push(Doc::new(*key as u32))?;
+    }
+    Ok(())
+}
+
+fn insert_keys(set: &mut DocSet, keys: &[u64])
+    requires { AllByRecursion IsDocNumber keys.now }
+    ensures { Adds (in_words set.old) keys.now (in_words set.new) }
+{
+    for key in keys {
+        set.insert(Doc::new(*key as u32));
+    }
+}
 
 /// Documents in a list, to which those of a tree come.
 #[derive(Drop)]
@@ -27,11 +46,7 @@ impl TakesKeys for Pushed {
         requires { AllByRecursion IsDocNumber keys.now }
         ensures { OnOk result (Adds (has self.old.docs.items) keys.now (has self.new.docs.items)) }
     {
-        self.docs.reserve(keys.len())?;
-        for key in keys {
-            self.docs.push_reserved(Doc::new(*key as u32));
-        }
-        Ok(())
+        push_keys(&mut self.docs, keys)
     }
 
     ghost none = { λ taker. adds_none (has taker.docs.items) };
@@ -57,9 +72,7 @@ impl TakesKeys for Inserted {
         requires { AllByRecursion IsDocNumber keys.now }
         ensures { OnOk result (Adds (in_words self.old.set) keys.now (in_words self.new.set)) }
     {
-        for key in keys {
-            self.set.insert(Doc::new(*key as u32));
-        }
+        insert_keys(&mut self.set, keys);
         Ok(())
     }
 
