@@ -4,6 +4,9 @@ ghost use Rattle.attr_types.specs.Query.{tree_of, query_trees, and, or, one};
 ghost use Rattle.doc_set.specs.Gathers.{is_in};
 ghost use Rattle.doc_set.specs.Sets.{has, Holds};
 ghost use Rattle.query_index.specs.Found.{found, found_all, is_listed};
+ghost use Rattle.query_index.specs.Leaves.{listed, meeting};
+ghost use Rattle.query_leaves.specs.Parts.{IsIndexed};
+ghost use Rattle.attr_images.specs.Postings.{index_of};
 ghost use Rattle.query_eval.specs.Indexes.{AreIndexed, AreMatched, IsMatched, indexes_in};
 
 use crate::dictionary::Dictionary;
@@ -12,6 +15,7 @@ use attr_types::{DocList, Leaf, Query};
 use doc_set::Gathered;
 use frozen_api::Frozen;
 use query_leaves::{gather_every, gather_leaf};
+use query_scores::{kept_with, with_value};
 use std::alloc::{AllocError, Global};
 
 /// The documents with those that have some value in some attribute.
@@ -33,6 +37,26 @@ fn gather_listed<const OFFSET_BITS: u32, F: Frozen<OFFSET_BITS>>(
     Ok(all)
 }
 
+/// The documents with those that meet a leaf by a dictionary. One value is looked up, and others are walked along.
+fn gather_meeting<const OFFSET_BITS: u32, F: Frozen<OFFSET_BITS>>(
+    alloc: Global,
+    frozen: &mut F,
+    dictionary: Dictionary<OFFSET_BITS>,
+    leaf: &Leaf,
+    gathered: Gathered,
+) -> Result<Gathered, AllocError>
+    requires { IsIndexed dictionary.values (F.records frozen.old) dictionary.root }
+    ensures docs { IfOk result (λ all. (doc : ℕ) → is_in all doc ≡ (is_in gathered doc
+        || has (listed (meeting leaf.now (index_of dictionary.values (F.records frozen.old) dictionary.root))) doc)) }
+    ensures same { frozen.new ≡ frozen.old }
+{
+    let Dictionary { root, values } = dictionary;
+    match leaf {
+        Leaf::Is(value) => with_value(alloc, frozen, root, values, value, gathered),
+        _ => gather_leaf(alloc, frozen, root, values, leaf, gathered),
+    }
+}
+
 /// The documents with those of a leaf in an attribute.
 fn gather_one<const OFFSET_BITS: u32, F: Frozen<OFFSET_BITS>>(
     alloc: Global,
@@ -48,15 +72,51 @@ fn gather_one<const OFFSET_BITS: u32, F: Frozen<OFFSET_BITS>>(
     ensures same { frozen.new ≡ frozen.old }
 {
     match dictionaries.get(field as usize) {
-        Some(dictionary) => gather_leaf(
-            alloc,
-            frozen,
-            dictionary.root,
-            dictionary.values,
-            leaf,
-            gathered,
-        ),
+        Some(dictionary) => gather_meeting(alloc, frozen, *dictionary, leaf, gathered),
         None => Ok(gathered),
+    }
+}
+
+/// Those of some documents that meet a leaf by a dictionary.
+fn kept_meeting<const OFFSET_BITS: u32, F: Frozen<OFFSET_BITS>>(
+    alloc: Global,
+    frozen: &mut F,
+    dictionary: Dictionary<OFFSET_BITS>,
+    leaf: &Leaf,
+    docs: &DocList,
+) -> Result<DocList, AllocError>
+    requires { IsIndexed dictionary.values (F.records frozen.old) dictionary.root }
+    ensures kept { IfOk result (λ kept. (doc : ℕ) → has kept doc ≡ (has docs.now doc
+        && has (listed (meeting leaf.now (index_of dictionary.values (F.records frozen.old) dictionary.root))) doc)) }
+    ensures same { frozen.new ≡ frozen.old }
+{
+    let Dictionary { root, values } = dictionary;
+    match leaf {
+        Leaf::Is(value) => kept_with(alloc, frozen, root, values, value, docs),
+        _ => {
+            let own = gather_leaf(alloc, frozen, root, values, leaf, Gathered::new(alloc))?;
+            own.kept_of(alloc, docs)
+        }
+    }
+}
+
+/// Those of some documents that meet a leaf in an attribute.
+fn kept_one<const OFFSET_BITS: u32, F: Frozen<OFFSET_BITS>>(
+    alloc: Global,
+    frozen: &mut F,
+    dictionaries: &[Dictionary<OFFSET_BITS>],
+    field: u32,
+    leaf: &Leaf,
+    docs: &DocList,
+) -> Result<DocList, AllocError>
+    requires { AreIndexed OFFSET_BITS (F.records frozen.old) dictionaries.now }
+    ensures kept { IfOk result (λ kept. (doc : ℕ) → has kept doc
+        ≡ (has docs.now doc && found (one field leaf.now) (indexes_in OFFSET_BITS (F.records frozen.old) dictionaries.now) doc)) }
+    ensures same { frozen.new ≡ frozen.old }
+{
+    match dictionaries.get(field as usize) {
+        Some(dictionary) => kept_meeting(alloc, frozen, *dictionary, leaf, docs),
+        None => Ok(DocList::new(alloc)),
     }
 }
 
@@ -145,8 +205,13 @@ fn kept<const OFFSET_BITS: u32, F: Frozen<OFFSET_BITS>>(
     if i == known {
         return Ok(docs);
     }
-    let own = gather(alloc, frozen, dictionaries, query, Gathered::new(alloc))?;
-    own.kept_of(alloc, &docs)
+    match query {
+        Query::One { field, leaf } => kept_one(alloc, frozen, dictionaries, *field, leaf, &docs),
+        _ => {
+            let own = gather(alloc, frozen, dictionaries, query, Gathered::new(alloc))?;
+            own.kept_of(alloc, &docs)
+        }
+    }
 }
 
 /// The documents with those that all members match. It begins with the member that has the fewest as far as is known.

@@ -50,7 +50,7 @@ has_append (x ∷ xs) ys doc = ap (λ b. nat_eq doc x || b) (has_append xs ys do
     or_assoc false b c = refl
 
 module _ (type : ValueType) (m : Records) where
-  keys_are : (ps : List (ℕ × ℕ)) → keys_of (part_of type m ps) ≡ map (λ p. stored_value type m p.0) ps
+  pub keys_are : (ps : List (ℕ × ℕ)) → keys_of (part_of type m ps) ≡ map (λ p. stored_value type m p.0) ps
   keys_are [] = refl
   keys_are (p ∷ ps) = ap (λ vs. stored_value type m p.0 ∷ vs) (keys_are ps)
 

@@ -1,2 +1,4 @@
 pub mod Parts
 pub mod Blocks
+pub mod Takers
+pub mod ProofsForTakers

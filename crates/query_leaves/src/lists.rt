@@ -1,9 +1,6 @@
 //! The documents of one value, by the form of its list.
-ghost use Rattle.std.specs.Prelude.{◌≡◌, ◌≤◌, ◌++◌, ◌||◌, ℕ, map, length, IfOk, OnOk};
-ghost use Rattle.std.specs.List.{AllByRecursion};
+ghost use Rattle.std.specs.Prelude.{◌≡◌, ◌≤◌, ◌++◌, ◌||◌, ◌&&◌, ℕ, map, length, IfOk, OnOk};
 ghost use Rattle.std.specs.Map.{keys_of};
-ghost use Rattle.tree_images.specs.Trees.{tree_pairs, IsRootNode};
-ghost use Rattle.tree_search.specs.Places.{IsAt, pairs_from};
 ghost use Rattle.attr_types.specs.Lawful.{IsDocNumber};
 ghost use Rattle.attr_images.specs.Postings.{list_form, postings_at, short, tree, IsPostingList};
 ghost use Rattle.attr_images.specs.Words.{unpacked};
@@ -12,14 +9,17 @@ ghost use Rattle.doc_set.specs.Postings.{HaveDocNumbers};
 ghost use Rattle.doc_set.specs.Sets.{has, in_words};
 
 use crate::blocks::gather_vector;
+use crate::kept::{keep_marked, marks_of};
+use crate::takers::{Inserted, Pushed};
 use array_store::count;
 use attr_images::{FIRST_VECTOR, MOST_SHORT};
-use attr_types::Doc;
+use attr_types::{Doc, DocList};
 use doc_set::{DocSet, Gathered};
 use entry_ref::EntryRef;
 use frozen_api::Frozen;
-use frozen_btree::Cursor;
+use frozen_btree::total;
 use std::alloc::{AllocError, Global};
+use tree_search::take_keys;
 
 /// How many documents a list takes before it becomes a bit vector.
 const MOST_FEW: usize = 1024;
@@ -93,65 +93,60 @@ fn gather_short<const OFFSET_BITS: u32, F: Frozen<OFFSET_BITS>>(
     with_words(alloc, gathered, words)
 }
 
-/// Appends the documents of a tree from a place on, as long as there are few.
+/// Few documents with those of a tree that has few.
 fn push_tree<const OFFSET_BITS: u32, F: Frozen<OFFSET_BITS>>(
     frozen: &mut F,
-    cursor: &mut Cursor<OFFSET_BITS>,
-    docs: &mut Vec<Doc>,
-) -> Result<(), AllocError>
-    requires at { IsAt (F.records frozen.old) cursor.old }
-    requires documents { AllByRecursion (λ p. IsDocNumber p.0) (pairs_from (F.records frozen.old) cursor.old) }
-    ensures at { OnOk result (IsAt (F.records frozen.old) cursor.new) }
-    ensures documents { OnOk result (AllByRecursion (λ p. IsDocNumber p.0) (pairs_from (F.records frozen.old) cursor.new)) }
-    ensures docs { OnOk result ((doc : ℕ)
-        → (has docs.new.items doc || has (keys_of (pairs_from (F.records frozen.old) cursor.new)) doc)
-        ≡ (has docs.old.items doc || has (keys_of (pairs_from (F.records frozen.old) cursor.old)) doc)) }
+    root: EntryRef<OFFSET_BITS>,
+    docs: Vec<Doc>,
+) -> Result<Gathered, AllocError>
+    requires form { IsPostingList (F.records frozen.old) (tree root) }
+    requires documents { HaveDocNumbers (postings_at (F.records frozen.old) (tree root)) }
+    ensures docs { IfOk result (λ all. (doc : ℕ) → is_in all doc
+        ≡ (has docs.items doc || has (keys_of (postings_at (F.records frozen.old) (tree root.entry))) doc)) }
     ensures same { frozen.new ≡ frozen.old }
 {
-    while !cursor.at_end() && docs.len() <= MOST_FEW {
-        docs.push(Doc::new(cursor.key() as u32))?;
-        cursor.next(frozen);
-    }
-    Ok(())
+    let mut pushed = Pushed { docs };
+    take_keys(frozen, root, &mut pushed)?;
+    Ok(Gathered::Few(pushed.docs))
 }
 
+/// Documents in a bit vector with those of a tree.
 fn insert_tree<const OFFSET_BITS: u32, F: Frozen<OFFSET_BITS>>(
     frozen: &mut F,
-    cursor: &mut Cursor<OFFSET_BITS>,
-    set: &mut DocSet,
-)
-    requires at { IsAt (F.records frozen.old) cursor.old }
-    requires documents { AllByRecursion (λ p. IsDocNumber p.0) (pairs_from (F.records frozen.old) cursor.old) }
-    ensures docs { (doc : ℕ) → in_words set.new doc
-        ≡ (in_words set.old doc || has (keys_of (pairs_from (F.records frozen.old) cursor.old)) doc) }
+    root: EntryRef<OFFSET_BITS>,
+    set: DocSet,
+) -> Result<Gathered, AllocError>
+    requires form { IsPostingList (F.records frozen.old) (tree root) }
+    requires documents { HaveDocNumbers (postings_at (F.records frozen.old) (tree root)) }
+    ensures docs { IfOk result (λ all. (doc : ℕ) → is_in all doc
+        ≡ (in_words set doc || has (keys_of (postings_at (F.records frozen.old) (tree root.entry))) doc)) }
     ensures same { frozen.new ≡ frozen.old }
 {
-    while !cursor.at_end() {
-        set.insert(Doc::new(cursor.key() as u32));
-        cursor.next(frozen);
-    }
+    let mut inserted = Inserted { set };
+    take_keys(frozen, root, &mut inserted)?;
+    Ok(Gathered::Many(inserted.set))
 }
 
-/// Few documents with those of a tree from its first on.
+/// Few documents with those of a tree.
 fn with_tree<const OFFSET_BITS: u32, F: Frozen<OFFSET_BITS>>(
     alloc: Global,
     frozen: &mut F,
-    cursor: &mut Cursor<OFFSET_BITS>,
+    root: EntryRef<OFFSET_BITS>,
     mut docs: Vec<Doc>,
 ) -> Result<Gathered, AllocError>
-    requires at { IsAt (F.records frozen.old) cursor.old }
-    requires documents { AllByRecursion (λ p. IsDocNumber p.0) (pairs_from (F.records frozen.old) cursor.old) }
+    requires form { IsPostingList (F.records frozen.old) (tree root) }
+    requires documents { HaveDocNumbers (postings_at (F.records frozen.old) (tree root)) }
     ensures docs { IfOk result (λ all. (doc : ℕ) → is_in all doc
-        ≡ (has docs.items doc || has (keys_of (pairs_from (F.records frozen.old) cursor.old)) doc)) }
+        ≡ (has docs.items doc || has (keys_of (postings_at (F.records frozen.old) (tree root.entry))) doc)) }
     ensures same { frozen.new ≡ frozen.old }
 {
-    push_tree(frozen, cursor, &mut docs)?;
-    if cursor.at_end() {
-        return Ok(Gathered::Few(docs));
+    let count = total(frozen, root) as usize;
+    if docs.len().max(count) <= MOST_FEW {
+        docs.reserve(count)?;
+        return push_tree(frozen, root, docs);
     }
-    let mut set = Gathered::Few(docs).into_set(alloc)?;
-    insert_tree(frozen, cursor, &mut set);
-    Ok(Gathered::Many(set))
+    let set = Gathered::Few(docs).into_set(alloc)?;
+    insert_tree(frozen, root, set)
 }
 
 /// The documents with those of a list that is a tree.
@@ -167,13 +162,9 @@ fn gather_tree<const OFFSET_BITS: u32, F: Frozen<OFFSET_BITS>>(
         ≡ (is_in gathered doc || has (keys_of (postings_at (F.records frozen.old) (tree root.entry))) doc)) }
     ensures same { frozen.new ≡ frozen.old }
 {
-    let mut cursor = Cursor::first(frozen, root);
     match gathered {
-        Gathered::Few(docs) => with_tree(alloc, frozen, &mut cursor, docs),
-        Gathered::Many(mut set) => {
-            insert_tree(frozen, &mut cursor, &mut set);
-            Ok(Gathered::Many(set))
-        }
+        Gathered::Few(docs) => with_tree(alloc, frozen, root, docs),
+        Gathered::Many(set) => insert_tree(frozen, root, set),
     }
 }
 
@@ -204,4 +195,46 @@ pub fn gather_list<const OFFSET_BITS: u32, F: Frozen<OFFSET_BITS>>(
     } else {
         gather_tree(alloc, frozen, list_root, gathered)
     }
+}
+
+/// Those of some documents that a list has which is a tree.
+fn keep_tree<const OFFSET_BITS: u32, F: Frozen<OFFSET_BITS>>(
+    alloc: Global,
+    frozen: &mut F,
+    root: EntryRef<OFFSET_BITS>,
+    docs: &DocList,
+) -> Result<DocList, AllocError>
+    requires form { IsPostingList (F.records frozen.old) (tree root) }
+    requires documents { HaveDocNumbers (postings_at (F.records frozen.old) (tree root)) }
+    ensures kept { IfOk result (λ kept. (doc : ℕ) → has kept doc
+        ≡ (has docs.now doc && has (keys_of (postings_at (F.records frozen.old) (tree root.entry))) doc)) }
+    ensures same { frozen.new ≡ frozen.old }
+{
+    match marks_of(alloc, docs.as_slice())? {
+        Some(marks) => keep_marked(alloc, frozen, root, marks),
+        None => {
+            let own = gather_tree(alloc, frozen, root, Gathered::new(alloc))?;
+            own.kept_of(alloc, docs)
+        }
+    }
+}
+
+/// Those of some documents that a list has, by the word that a dictionary keeps for it.
+pub fn keep_list<const OFFSET_BITS: u32, F: Frozen<OFFSET_BITS>>(
+    alloc: Global,
+    frozen: &mut F,
+    list: u64,
+    docs: &DocList,
+) -> Result<DocList, AllocError>
+    requires form { IsPostingList (F.records frozen.old) (list_form list) }
+    requires documents { HaveDocNumbers (postings_at (F.records frozen.old) (list_form list)) }
+    ensures kept { IfOk result (λ kept. (doc : ℕ) → has kept doc
+        ≡ (has docs.now doc && has (keys_of (postings_at (F.records frozen.old) (list_form list))) doc)) }
+    ensures same { frozen.new ≡ frozen.old }
+{
+    if list >= FIRST_VECTOR || list % 2 == 0 {
+        let own = gather_list(alloc, frozen, list, Gathered::new(alloc))?;
+        return own.kept_of(alloc, docs);
+    }
+    keep_tree(alloc, frozen, EntryRef::from_raw((list / 2) as u32), docs)
 }

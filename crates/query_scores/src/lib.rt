@@ -4,4 +4,4 @@
 mod parts;
 mod weights;
 
-pub use parts::{scored, word_of};
+pub use parts::{kept_with, scored, with_value, word_of};

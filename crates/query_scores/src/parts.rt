@@ -1,5 +1,5 @@
 //! The parts of a dot product, by a dictionary.
-ghost use Rattle.std.specs.Prelude.{◌≡◌, ◌≤◌, ◌||◌, ◌*ℤ◌, ◌^◌, ℕ, List, map, IfOk};
+ghost use Rattle.std.specs.Prelude.{◌≡◌, ◌≤◌, ◌||◌, ◌&&◌, ◌*ℤ◌, ◌^◌, ℕ, List, map, IfOk};
 ghost use Rattle.std.specs.Int.RustNames.{unsigned_abs};
 ghost use Rattle.attr_images.specs.Postings.{index_of};
 ghost use Rattle.attr_index.specs.Changes.{HasItems};
@@ -14,12 +14,12 @@ ghost use Rattle.query_scores.specs.Weights.{word_list, IsWord, is_found};
 
 use crate::weights::weight_at;
 use attr_scores::{Part, Score, ScoreList};
-use attr_types::{Doc, Value, ValueType};
+use attr_types::{Doc, DocList, Value, ValueType};
 use doc_set::Gathered;
 use entry_ref::EntryRef;
 use enum_dictionary::find;
 use frozen_api::Frozen;
-use query_leaves::{gather_list, is_of_type};
+use query_leaves::{gather_list, is_of_type, keep_list};
 use std::alloc::{AllocError, Global};
 
 /// The word of a value's list, where the dictionary has the value.
@@ -58,13 +58,13 @@ fn gather_parts<const OFFSET_BITS: u32, F: Frozen<OFFSET_BITS>>(
 {
     let mut all = Gathered::new(alloc);
     for part in parts {
-        all = with_part(alloc, frozen, root, value_type, &part.value, all)?;
+        all = with_value(alloc, frozen, root, value_type, &part.value, all)?;
     }
     Ok(all)
 }
 
 /// The documents with those that have a value.
-fn with_part<const OFFSET_BITS: u32, F: Frozen<OFFSET_BITS>>(
+pub fn with_value<const OFFSET_BITS: u32, F: Frozen<OFFSET_BITS>>(
     alloc: Global,
     frozen: &mut F,
     root: EntryRef<OFFSET_BITS>,
@@ -80,6 +80,26 @@ fn with_part<const OFFSET_BITS: u32, F: Frozen<OFFSET_BITS>>(
     match word_of(frozen, root, value_type, value) {
         Some(list) => gather_list(alloc, frozen, list, gathered),
         None => Ok(gathered),
+    }
+}
+
+/// Those of some documents that have a value.
+pub fn kept_with<const OFFSET_BITS: u32, F: Frozen<OFFSET_BITS>>(
+    alloc: Global,
+    frozen: &mut F,
+    root: EntryRef<OFFSET_BITS>,
+    value_type: ValueType,
+    value: &Value,
+    docs: &DocList,
+) -> Result<DocList, AllocError>
+    requires { IsIndexed value_type (F.records frozen.old) root }
+    ensures kept { IfOk result (λ kept. (doc : ℕ) → has kept doc
+        ≡ (has docs.now doc && has (keys_of (list_of value.now (index_of value_type (F.records frozen.old) root.entry))) doc)) }
+    ensures same { frozen.new ≡ frozen.old }
+{
+    match word_of(frozen, root, value_type, value) {
+        Some(list) => keep_list(alloc, frozen, list, docs),
+        None => Ok(DocList::new(alloc)),
     }
 }
 

@@ -23,7 +23,7 @@ loop-part-preserved g c =
     let before = c.loop-part.invariant in
     let below : k < length parts = omega (arith, c.loop-part-test.true) in
     record {
-      same = c.with_part.ensures.same ∙ before.same;
+      same = c.with_value.ensures.same ∙ before.same;
       whole = λ doc. joined (is_in c.loop-part.all doc) (has (keys_of (list_of part.value index)) doc) (is_found (drop k parts) index doc)
           (is_found (drop (k + 1) parts) index doc) (is_in c.in_ok-all.all doc) (is_found parts index doc)
           (c.in_ok-all.ensures.docs doc

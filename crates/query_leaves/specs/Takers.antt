@@ -1,0 +1,11 @@
+-- What the keys of a tree add to documents.
+use Rattle.std.specs.Prelude.{◌≡◌, ℕ, Bool, ◌||◌, ◌&&◌, List}
+use Rattle.doc_set.specs.Sets.{has}
+
+-- these documents are new, and no others
+abbrev pub Adds : (ℕ → Bool) → List ℕ → (ℕ → Bool) → Type 0
+Adds old docs new = (doc : ℕ) → new doc ≡ (old doc || has docs doc)
+
+-- of these documents those of a set are new, and no others
+abbrev pub Keeps : (ℕ → Bool) → (ℕ → Bool) → List ℕ → (ℕ → Bool) → Type 0
+Keeps set old docs new = (doc : ℕ) → new doc ≡ (old doc || (set doc && has docs doc))
