@@ -2,3 +2,4 @@ pub mod QueryLemmas
 pub mod ImageLemmas
 pub mod CountLemmas
 pub mod ScoreLemmas
+pub mod ValueLemmas

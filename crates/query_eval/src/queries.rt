@@ -47,7 +47,7 @@ fn gather_meeting<const OFFSET_BITS: u32, F: Frozen<OFFSET_BITS>>(
 ) -> Result<Gathered, AllocError>
     requires { IsIndexed dictionary.values (F.records frozen.old) dictionary.root }
     ensures docs { IfOk result (λ all. (doc : ℕ) → is_in all doc ≡ (is_in gathered doc
-        || has (listed (meeting leaf.now (index_of dictionary.values (F.records frozen.old) dictionary.root))) doc)) }
+        || has (listed (meeting leaf.now (index_of dictionary.entry.values (F.records frozen.old) dictionary.entry.root))) doc)) }
     ensures same { frozen.new ≡ frozen.old }
 {
     let Dictionary { root, values } = dictionary;
@@ -87,7 +87,7 @@ fn kept_meeting<const OFFSET_BITS: u32, F: Frozen<OFFSET_BITS>>(
 ) -> Result<DocList, AllocError>
     requires { IsIndexed dictionary.values (F.records frozen.old) dictionary.root }
     ensures kept { IfOk result (λ kept. (doc : ℕ) → has kept doc ≡ (has docs.now doc
-        && has (listed (meeting leaf.now (index_of dictionary.values (F.records frozen.old) dictionary.root))) doc)) }
+        && has (listed (meeting leaf.now (index_of dictionary.entry.values (F.records frozen.old) dictionary.entry.root))) doc)) }
     ensures same { frozen.new ≡ frozen.old }
 {
     let Dictionary { root, values } = dictionary;

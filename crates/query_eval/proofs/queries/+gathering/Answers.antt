@@ -19,7 +19,7 @@ kept-returns-clause-docs g t c =
     IfOk-weaker c.kept_of.result _ _
     (λ list is. λ known doc. is doc
     ∙ ap (λ (b : Bool). has c.args.docs doc && b)
-    (c.in_ok-own.ensures.docs doc ∙ ap (λ (b : Bool). b || found (tree_of c.args.query.now) indexes doc) (c.new.ensures doc)))
+    (c.in_ok-own-in_default.ensures.docs doc ∙ ap (λ (b : Bool). b || found (tree_of c.args.query.now) indexes doc) (c.new.ensures doc)))
     c.kept_of.ensures
 
 pub gather_common-returns-in_ok-common-in-Some-clause-docs : goal.gather_common-returns-in_ok-common-in-Some-clause-docs

@@ -1,0 +1,22 @@
+use Rattle.std.proofs.Common.{◌≡◌, ◌&&◌, ℕ, List, sym, ap, ◌∙◌}
+use Rattle.std.proofs.lemmas.Result.{IfOk-weaker}
+use Rattle.std.specs.Map.{keys_of}
+use Rattle.attr_images.specs.Postings.{index_of}
+use Rattle.attr_index.specs.Index.{list_of}
+use Rattle.attr_types.specs.declared.query.Leaf.{Leaf}
+use Rattle.doc_set.specs.Sets.{has}
+use Rattle.query_index.specs.Leaves.{listed, meeting}
+use Rattle.query_eval.proofs.ValueLemmas.{value_listed}
+use Rattle.query_eval.proofs.queries.kept_meeting.Goals as goal
+
+pub returns-in-Is-clause-kept : goal.returns-in-Is-clause-kept
+returns-in-Is-clause-kept g c =
+    let m = g.F.Frozen.records c.args.frozen.now in
+    let type = c.args.dictionary.values in
+    let root = c.args.dictionary.root in
+    let value = c.in-Is.value in
+    let same : keys_of (list_of value (index_of type m root)) ≡ listed (meeting c.args.leaf.now (index_of type m root)) =
+    sym (value_listed type m root value c.requires) ∙ ap (λ (leaf : Leaf). listed (meeting leaf (index_of type m root))) (sym c.in-Is.is) in
+    IfOk-weaker c.kept_with.result _ _
+    (λ kept is. λ doc. is doc ∙ ap (λ (ks : List ℕ). has c.args.docs.now doc && has ks doc) same)
+    c.kept_with.ensures.kept
