@@ -53,7 +53,8 @@ impl<'a, const OFFSET_BITS: u32> Question<OFFSET_BITS, AttrLayout> for Asked<'a>
     ) -> Result<Told, AllocError>
         requires fits { CanAsk self.now.fields.now (length self.now.asks.now) (F.shape frozen.old) }
         requires lawful { IsLawfulImage (F.shape frozen.old) (F.records frozen.old) root }
-        ensures answer { IfOk result (TellsTable self.now.counted (map ask_tree self.now.asks.now) (table_of (F.shape frozen.old) (F.records frozen.old) root.entry)) }
+        ensures answer { IfOk result (TellsTable self.now.counted (map ask_tree self.now.asks.now)
+            (table_of (F.shape frozen.old) (F.records frozen.old) root.entry)) }
         ensures same { frozen.new ≡ frozen.old }
     {
         let documents = documents(frozen, root);

@@ -98,7 +98,8 @@ keys_are_same kind type m n documents dictionary next_documents next_dictionary 
         ∙ ap (λ (entries : Column). map (λ e. Doc e.0) entries) column
         ∙ sym (documents_shown (λ p. items_at kind type m p.1) (tree_pairs m documents))
 
-    told : (a b c : Bool) → cond a (value_keys type n next_dictionary) (cond b (document_keys n next_documents) (cond c (pair_keys type n next_dictionary) (value_keys type n next_dictionary ++ document_keys n next_documents)))
+    told : (a b c : Bool) → cond a (value_keys type n next_dictionary)
+        (cond b (document_keys n next_documents) (cond c (pair_keys type n next_dictionary) (value_keys type n next_dictionary ++ document_keys n next_documents)))
         ≡ cond a (value_keys type m dictionary) (cond b (document_keys m documents) (cond c (pair_keys type m dictionary) (value_keys type m dictionary ++ document_keys m documents)))
     told true b c = values
     told false true c = docs

@@ -34,7 +34,8 @@ NodesAreCleared bits victim m visited root = (node : ℕ) → Among node (tree_n
 -- a value's list: its record lies elsewhere, or its nodes on the ways to documents that were visited. It is said of no bit vector
 abbrev pub ListIsCleared : ℕ → ℕ → PlanPlace → ℕ → Records → Value → ListForm → Type 0
 ListIsCleared bits victim at field m value (short ref) = IsVisited at field LISTS (plan.Pair value 0) → buffer_of bits ref ≢ victim
-ListIsCleared bits victim at field m value (tree root) = NodesAreCleared bits victim m (λ doc. IsVisited at field LISTS (plan.Pair value doc)) root
+ListIsCleared bits victim at field m value (tree root) =
+    NodesAreCleared bits victim m (λ doc. IsVisited at field LISTS (plan.Pair value doc)) root
 ListIsCleared bits victim at field m value (vector root) = ⊥
 
 -- one attribute, by its number among all: its keys, its documents with what they refer to, its lists, and the nodes of its two trees
@@ -50,4 +51,5 @@ pub record IsClearedField (bits victim : ℕ) (at : PlanPlace) (field : ℕ) (m 
 
 -- all attributes. Past the last place nothing that they reach lies in the victim
 abbrev pub IsCleared : ℕ → ℕ → PlanPlace → Records → List AttributeTrees → Type 0
-IsCleared bits victim at m trees = (field : ℕ) (a : AttributeTrees) → slice_get trees field ≡ Some a → IsClearedField bits victim at field m a
+IsCleared bits victim at m trees = (field : ℕ) (a : AttributeTrees) → slice_get trees field ≡ Some a
+    → IsClearedField bits victim at field m a

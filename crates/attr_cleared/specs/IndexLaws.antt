@@ -29,7 +29,8 @@ KeyMoveClears H = (bits victim field next : ℕ) (at : PlanPlace) (value : Value
 
 -- a value's list was moved as far as a document leads: what was cleared is so still, and the list that far
 abbrev pub ListMoveClears : Type 0 → Type 0
-ListMoveClears H = (bits victim field doc next : ℕ) (at : PlanPlace) (value : Value) (old new : Ledger H) (m n : Records) (a : AttributeTrees)
+ListMoveClears H = (bits victim field doc next : ℕ) (at : PlanPlace) (value : Value) (old new : Ledger H) (m n : Records)
+    (a : AttributeTrees)
     → type_of value ≡ a.type → IsTurn at field LISTS m a (plan.Pair value doc)
     → MovesList bits victim doc value old new m n a.dictionary next
     → LeavesBuffer bits victim old new m n → Owns old m (index_part a.dictionary ∷ []) → SameAt (documents_own a.kind m a.documents) m n

@@ -26,6 +26,7 @@ AllIsVisited = (at : PlanPlace) (field phase : ℕ) (key : PlanKey) → at.stage
 
 -- then nothing that a lawful attribute reaches lies in the victim
 abbrev pub NothingIsLeft : Type 0
-NothingIsLeft = (bits victim field : ℕ) (at : PlanPlace) (m : Records) (a : AttributeTrees) → at.stage.phase ≡ PHASES → field ≤ at.stage.field
+NothingIsLeft = (bits victim field : ℕ) (at : PlanPlace) (m : Records) (a : AttributeTrees) → at.stage.phase ≡ PHASES
+    → field ≤ at.stage.field
     → IsLawfulAttribute a.kind a.type m a.documents a.dictionary → IsClearedField bits victim at field m a
     → (r : ℕ) → Among r (trees_reach a.kind m a.documents a.dictionary) → buffer_of bits r ≢ victim

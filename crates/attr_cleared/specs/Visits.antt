@@ -50,6 +50,7 @@ OthersAreVisited = (at : PlanPlace) (key : PlanKey) (field phase : ℕ) (k : Pla
 
 -- one phase further, what was visited was so before, or it is of the phase that is over
 abbrev pub NextStageIsVisited : Type 0
-NextStageIsVisited = (fields : ℕ) (at : PlanPlace) (field phase : ℕ) (k : PlanKey) → at.stage.phase < PHASES → field < fields → phase < PHASES
+NextStageIsVisited = (fields : ℕ) (at : PlanPlace) (field phase : ℕ) (k : PlanKey) → at.stage.phase < PHASES → field < fields
+    → phase < PHASES
     → is_start k ≡ false → IsVisited (place_after fields at Start) field phase k
     → IsVisited at field phase k ⊎ ((at.stage.field ≡ field) × (at.stage.phase ≡ phase))

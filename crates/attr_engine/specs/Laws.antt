@@ -8,8 +8,10 @@ use Rattle.attr_engine.specs.Rounds.{IsCame, progress_at}
 
 -- its rounds stand at commit points that were loaded, and those of a reader never fall
 abbrev pub RoundsStand : Type 0
-RoundsStand = (run : Run) (ops : List Op) (came : Came) (saved : Option ℕ) → IsCame run ops came → IsRounds run (length ops) (progress_at came saved)
+RoundsStand = (run : Run) (ops : List Op) (came : Came) (saved : Option ℕ) → IsCame run ops came
+    → IsRounds run (length ops) (progress_at came saved)
 
 -- where the readers run after the loading, each round sees all that was loaded
 abbrev pub RoundsComeAfter : Type 0
-RoundsComeAfter = (run : Run) (ops : List Op) (came : Came) (saved : Option ℕ) → IsCame run ops came → IsAfterwards run (progress_at came saved)
+RoundsComeAfter = (run : Run) (ops : List Op) (came : Came) (saved : Option ℕ) → IsCame run ops came
+    → IsAfterwards run (progress_at came saved)

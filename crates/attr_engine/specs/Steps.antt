@@ -74,7 +74,8 @@ pub record IsReader (w : WriterView) (home : TableId) (r : ReaderView) (table : 
   pub at_home : table ≡ home
 
 -- a reader after so many rounds, that was made of this writer
-pub record HasRead (counted : Bool) (asks : List AskTree) (w : WriterView) (home : TableId) (count : ℕ) (r : ReaderView) (table : TableId) (rounds : List (Round Told)) : Type 0 where
+pub record HasRead (counted : Bool) (asks : List AskTree) (w : WriterView) (home : TableId) (count : ℕ) (r : ReaderView) (table : TableId)
+    (rounds : List (Round Told)) : Type 0 where
   pub start : ReaderView
   pub seat : TableId
   pub is : IsReader w home start seat
@@ -83,24 +84,28 @@ pub record HasRead (counted : Bool) (asks : List AskTree) (w : WriterView) (home
   pub same : table ≡ seat
 
 -- a reader after its rounds, which can be taken in
-pub record IsReading (counted : Bool) (asks : List AskTree) (shape : ℕ) (home : TableId) (r : ReaderView) (table : TableId) (rounds : List (Round Told)) : Type 0 where
+pub record IsReading (counted : Bool) (asks : List AskTree) (shape : ℕ) (home : TableId) (r : ReaderView) (table : TableId)
+    (rounds : List (Round Told)) : Type 0 where
   pub shape_is : r.sizes.shape ≡ shape
   pub are_seen : AreSeen operations_of (tells_of counted asks) IsLawfulImage r rounds
   pub at_home : table ≡ home
 
 -- its rounds, taken in at the writer
-pub record IsTakenFrom (counted : Bool) (asks : List AskTree) (shape : ℕ) (commits : List Image) (before after : List (Round Told)) : Type 0 where
+pub record IsTakenFrom (counted : Bool) (asks : List AskTree) (shape : ℕ) (commits : List Image)
+    (before after : List (Round Told)) : Type 0 where
   pub same : after ≡ before
   pub each : All (IsOfCommit operations_of (tells_of counted asks) shape commits) after
 
 -- the rounds of a reader: so many, each of a commit, the commits never falling, and none below what it had seen
-pub record AreRoundsOf (counted : Bool) (asks : List AskTree) (shape seen count : ℕ) (commits : List Image) (rounds : List (Round Told)) : Type 0 where
+pub record AreRoundsOf (counted : Bool) (asks : List AskTree) (shape seen count : ℕ) (commits : List Image)
+    (rounds : List (Round Told)) : Type 0 where
   pub made : length rounds ≡ count
   pub each : All (IsOfCommit operations_of (tells_of counted asks) shape commits) rounds
   pub forward : IsNonDecreasing (seen ∷ commits_of rounds)
 
 -- what is answered in one more round, of a reader that had seen the last commit
-pub record IsLastAnswer {A : Type 0} (operations : ℕ → Records → ℕ → ℕ) (answers : ℕ → Records → ℕ → A → Type 0) (w : WriterView) (answer : A) : Type 0 where
+pub record IsLastAnswer {A : Type 0} (operations : ℕ → Records → ℕ → ℕ) (answers : ℕ → Records → ℕ → A
+    → Type 0) (w : WriterView) (answer : A) : Type 0 where
   pub round : Round A
   pub is : answer ≡ round.answer
   pub of_commit : IsOfCommit operations answers w.sizes.shape w.commits round

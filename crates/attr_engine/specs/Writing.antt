@@ -31,10 +31,12 @@ abbrev pub end_text : Loaded → List ℕ
 end_text loaded = full_line (full_of loaded.full) ++ done_line loaded.operations loaded.skipped
 
 abbrev pub report_text : Came → List ℕ
-report_text came = readers_text 1 came.rounds.items ++ final_line came.loaded.operations ++ string_bytes came.last.lines ++ end_text came.loaded
+report_text came = readers_text 1 came.rounds.items ++ final_line came.loaded.operations ++ string_bytes came.last.lines
+    ++ end_text came.loaded
 
 abbrev pub summary_text : Make → Came → List ℕ
-summary_text make came = made_line make ++ documents_line came.loaded.operations came.last.documents ++ string_bytes came.last.lines ++ end_text came.loaded
+summary_text make came = made_line make ++ documents_line came.loaded.operations came.last.documents ++ string_bytes came.last.lines
+    ++ end_text came.loaded
 
 -- the report, or the summary where the operations were made
 abbrev pub text_of : Option Make → Came → List ℕ

@@ -44,7 +44,8 @@ fn opened<'a, const OFFSET_BITS: u32>(
     requires new { IsNewWriter fields.now writer.place.table_id (writer_of writer.place.me.0) }
     ensures fields { IfOk result (λ a. a.fields ≡ fields.now) }
     ensures start { IfOk result (IsAtStart ⟦<EntryStore<OFFSET_BITS, Writer<'a, OFFSET_BITS, AttrLayout>> as Store<OFFSET_BITS>>⟧.ledger) }
-    ensures work { IfOk result (λ a. (⟦<EntryStore<OFFSET_BITS, Writer<'a, OFFSET_BITS, AttrLayout>> as Store<OFFSET_BITS>>⟧.ledger a.store).work
+    ensures work { IfOk result (λ a. (⟦<EntryStore<OFFSET_BITS, Writer<'a, OFFSET_BITS, AttrLayout>> as Store<OFFSET_BITS>>⟧.ledger
+        a.store).work
         ≡ view_of writer.entry.place.table_id (writer_of writer.entry.place.me.0)) }
 {
     image_law();
@@ -117,7 +118,8 @@ fn load_at<
     requires fit { AllByRecursion (OpFits fields.now) ops.now }
     requires others { All T.can_run others.items }
     ensures table { IfOk result (λ r. r.0.place.table_id ≡ writer.entry.place.table_id) }
-    ensures loads { IfOk result (λ r. LoadsInto fields.now batch ops.now (writer_of writer.entry.place.me.0) (writer_of r.0.place.me.0) r.1) }
+    ensures loads { IfOk result (λ r. LoadsInto fields.now batch ops.now (writer_of writer.entry.place.me.0)
+        (writer_of r.0.place.me.0) r.1) }
     ensures others { IfOk result (λ r. AllZip T.run_gives others.items r.2.items) }
 {
     let attribute = opened(alloc, writer, fields)?;
@@ -151,10 +153,12 @@ pub fn load_beside<'a, const OFFSET_BITS: u32, R: Threads + Sync, G: Gate + Sync
     requires few { length ops.now < 2 ^ 32 }
     requires fit { AllByRecursion (OpFits question.now.fields.now) ops.now }
     ensures table { IfOk result (λ r. r.writer.place.table_id ≡ writer.entry.place.table_id) }
-    ensures loads { IfOk result (λ r. LoadsInto question.now.fields.now batch ops.now (writer_of writer.entry.place.me.0) (writer_of r.writer.place.me.0) r.loaded) }
+    ensures loads { IfOk result (λ r. LoadsInto question.now.fields.now batch ops.now (writer_of writer.entry.place.me.0)
+        (writer_of r.writer.place.me.0) r.loaded) }
     ensures count { IfOk result (λ r. length r.readings.items ≡ readers) }
     ensures readings { IfOk result (λ r. AllByRecursion (λ reading. IfOk reading (λ x.
-        HasRead question.now.counted (map ask_tree question.now.asks.now) (writer_of writer.entry.place.me.0) writer.entry.place.table_id rounds
+        HasRead question.now.counted (map ask_tree question.now.asks.now)
+        (writer_of writer.entry.place.me.0) writer.entry.place.table_id rounds
         (reader_of x.reader.place.me.0) x.reader.place.table_id x.rounds.items)) r.readings.items) }
 {
     let mut writer = writer;

@@ -7,7 +7,8 @@ ghost use Rattle.attr_answers.specs.Lines.{CanAsk};
 ghost use Rattle.attr_images.specs.Shapes.{shape_of, types_of};
 ghost use Rattle.attr_scores.specs.Scores.{ask_tree};
 ghost use Rattle.attr_types.specs.declared.field.TheConstants.{MOST_FIELDS};
-ghost use Rattle.attr_engine.specs.Steps.{operations_of, saves_of, KeepsWriter, IsReader, IsReading, IsTakenFrom, AreRoundsOf, IsLastAnswer};
+ghost use Rattle.attr_engine.specs.Steps.{operations_of, saves_of, KeepsWriter, IsReader, IsReading, IsTakenFrom, AreRoundsOf};
+ghost use Rattle.attr_engine.specs.Steps.{IsLastAnswer};
 
 use attr_answers::{Asked, Told};
 use attr_column::Saving;
@@ -25,7 +26,8 @@ use word_arena::{Reader, Writer};
 fn reader_in<'a, const OFFSET_BITS: u32>(
     writer: &mut Writer<'a, OFFSET_BITS, AttrLayout>,
 ) -> Result<Reader<'a, OFFSET_BITS, AttrLayout>, AllocError>
-    ensures reader { IfOk result (λ r. IsReader (writer_of writer.old.place.me.0) writer.old.place.table_id (reader_of r.place.me.0) r.place.table_id) }
+    ensures reader { IfOk result (λ r. IsReader (writer_of writer.old.place.me.0) writer.old.place.table_id
+        (reader_of r.place.me.0) r.place.table_id) }
     ensures keeps { KeepsWriter (writer_of writer.old.place.me.0) (writer_of writer.new.place.me.0) }
     ensures table { writer.new.place.table_id ≡ writer.old.place.table_id }
 {
@@ -74,10 +76,12 @@ pub fn take_all<'a, const OFFSET_BITS: u32>(
     readings: Vec<Result<Reading<'a, OFFSET_BITS, AttrLayout, Told>, AllocError>>,
     question: &Asked<'_>,
 ) -> Result<Vec<Vec<Round<Told>>>, AllocError>
-    requires { AllByRecursion (λ reading. IfOk reading (λ r. IsReading question.now.counted (map ask_tree question.now.asks.now) (writer_of writer.old.place.me.0).sizes.shape
+    requires { AllByRecursion (λ reading. IfOk reading
+        (λ r. IsReading question.now.counted (map ask_tree question.now.asks.now) (writer_of writer.old.place.me.0).sizes.shape
         writer.old.place.table_id (reader_of r.reader.place.me.0) r.reader.place.table_id r.rounds.items)) readings.items }
     ensures rounds { IfOk result (λ rounds. AllZip (λ reading taken. IsOkAnd reading (λ r.
-        IsTakenFrom question.now.counted (map ask_tree question.now.asks.now) (writer_of writer.old.place.me.0).sizes.shape (writer_of writer.old.place.me.0).commits
+        IsTakenFrom question.now.counted (map ask_tree question.now.asks.now) (writer_of writer.old.place.me.0).sizes.shape
+        (writer_of writer.old.place.me.0).commits
         r.rounds.items taken.items)) readings.entry.items rounds.items) }
     ensures keeps { KeepsWriter (writer_of writer.old.place.me.0) (writer_of writer.new.place.me.0) }
     ensures table { writer.new.place.table_id ≡ writer.old.place.table_id }
@@ -104,7 +108,8 @@ pub fn read_after<'a, const OFFSET_BITS: u32, R: Threads + Sync, G: Gate + Sync 
     requires { CanAsk question.now.fields.now (length question.now.asks.now) (writer_of writer.old.place.me.0).sizes.shape }
     ensures count { IfOk result (λ rounds. length rounds.items ≡ readers) }
     ensures rounds { IfOk result (λ rounds. AllByRecursion (λ r.
-        AreRoundsOf question.now.counted (map ask_tree question.now.asks.now) (writer_of writer.old.place.me.0).sizes.shape (last_number (writer_of writer.old.place.me.0).commits) count
+        AreRoundsOf question.now.counted (map ask_tree question.now.asks.now) (writer_of writer.old.place.me.0).sizes.shape
+        (last_number (writer_of writer.old.place.me.0).commits) count
         (writer_of writer.old.place.me.0).commits r.items) rounds.items) }
     ensures keeps { KeepsWriter (writer_of writer.old.place.me.0) (writer_of writer.new.place.me.0) }
     ensures table { writer.new.place.table_id ≡ writer.old.place.table_id }

@@ -68,9 +68,11 @@ fn load_first<'a, const OFFSET_BITS: u32, R: Threads + Sync, G: Gate + Sync + 's
     requires some { 0 < batch }
     requires few { length ops.now < 2 ^ 32 }
     requires fit { AllByRecursion (OpFits question.now.fields.now) ops.now }
-    ensures loads { IfOk result (λ r. LoadsInto question.now.fields.now batch ops.now (writer_of writer.entry.place.me.0) (writer_of r.writer.place.me.0) r.loaded) }
+    ensures loads { IfOk result (λ r. LoadsInto question.now.fields.now batch ops.now (writer_of writer.entry.place.me.0)
+        (writer_of r.writer.place.me.0) r.loaded) }
     ensures count { IfOk result (λ r. length r.first.items ≡ readers) }
-    ensures rounds { IfOk result (λ r. AllByRecursion (λ x. AreRoundsOf question.now.counted (map ask_tree question.now.asks.now) (writer_of r.writer.place.me.0).sizes.shape
+    ensures rounds { IfOk result (λ r. AllByRecursion
+        (λ x. AreRoundsOf question.now.counted (map ask_tree question.now.asks.now) (writer_of r.writer.place.me.0).sizes.shape
         (last_number (writer_of writer.entry.place.me.0).commits) rounds (writer_of r.writer.place.me.0).commits x.items) r.first.items) }
 {
     let beside = load_beside(
@@ -97,7 +99,8 @@ fn run_over<'a, const OFFSET_BITS: u32, R: Threads + Sync, G: Gate + Sync + 'sta
 ) -> Result<Came, AllocError>
     requires new { IsNewWriter request.now.fields writer.place.table_id (writer_of writer.place.me.0) }
     requires buffers { (writer_of writer.place.me.0).sizes.buffers ≡ request.now.buffers }
-    requires question { IsQuestionOf (run_in request.now) question.now.fields.now question.now.counted (map ask_tree question.now.asks.now) (length question.now.asks.now) }
+    requires question { IsQuestionOf (run_in request.now) question.now.fields.now question.now.counted (map ask_tree question.now.asks.now)
+        (length question.now.asks.now) }
     requires some { 0 < request.now.batch }
     requires few { length ops.now < 2 ^ 32 }
     requires fit { AllByRecursion (OpFits request.now.fields) ops.now }

@@ -48,7 +48,8 @@ pub fn saved_run(
     requires fit { AllByRecursion (OpFits request.now.fields) ops.now }
     requires saves { request.now.save ≡ true }
     requires came { IsCame (run_in request.now) ops.now came.now }
-    requires column { first_column documents.now.entries ≡ first_column (table_after (run_in request.now) ops.now came.now.loaded.operations) }
+    requires column { first_column documents.now.entries
+        ≡ first_column (table_after (run_in request.now) ops.now came.now.loaded.operations) }
     ensures { IfOk result (IsRunOf (run_in request.now) ops.now) }
 {
     let loaded = came.loaded.operations;

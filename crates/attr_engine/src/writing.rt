@@ -2,7 +2,8 @@
 ghost use Rattle.std.specs.Prelude.{◌≡◌, ◌++◌, ◌<◌, ◌^◌, length, map, OnOk, IfOk, string_bytes};
 ghost use Rattle.attr_report.specs.Report.{reader_line, full_line};
 ghost use Rattle.attr_engine.specs.Run.{full_of};
-ghost use Rattle.attr_engine.specs.Writing.{round_text, rounds_text, readers_text, end_text, report_text, summary_text, text_of, counts_of, IsWrittenOf};
+ghost use Rattle.attr_engine.specs.Writing.{round_text, rounds_text, readers_text, end_text, report_text, summary_text, text_of, counts_of};
+ghost use Rattle.attr_engine.specs.Writing.{IsWrittenOf};
 
 use crate::came::Came;
 use crate::written::Written;

@@ -12,7 +12,8 @@ use Rattle.attr_types.specs.declared.kind.Kind.TheVariants.{Single, Array, Weigh
 use Rattle.attr_types.specs.declared.kind.ValueType.{ValueType}
 use Rattle.attr_types.specs.declared.value.Value.{Value}
 use Rattle.attr_saver.specs.Bytes.{item_bytes, document_bytes, saved_bytes, form_bytes, head_bytes, magic, kind_byte, type_byte}
-use Rattle.attr_saver.specs.Fields.{◌>>=◌, Read, bad, read_number, read_magic, read_kind, read_type, read_count, read_item, read_items, read_doc, most_by_kind, read_item_count, read_document, read_documents, read_fields, with_offset, read_of}
+use Rattle.attr_saver.specs.Fields.{◌>>=◌, Read, bad, read_number, read_magic, read_kind, read_type, read_count, read_item, read_items, read_doc, most_by_kind, read_item_count, read_document, read_documents}
+use Rattle.attr_saver.specs.Fields.{read_fields, with_offset, read_of}
 use Rattle.attr_saver.specs.Laws.{AreBytes}
 use Rattle.attr_saver.specs.Lawful.{AreLawfulDocuments, IsLawfulSaved}
 use Rattle.attr_saver.specs.declared.saved.Saved.{Saved}

@@ -85,7 +85,8 @@ fn turn_root<const OFFSET_BITS: u32, S: Store<OFFSET_BITS>>(
     requires unit { (S.ledger store.old).unit ≡ true }
     requires few { length roots.now ≤ MOST_FIELDS }
     requires owns { Owns (S.ledger store.old) (S.records store.old) (entries (root_entries before) ∷ []) }
-    ensures makes { IfOk result (MakesRootRecord OFFSET_BITS (S.ledger store.old) (S.ledger store.new) (S.records store.old) (S.records store.new)
+    ensures makes { IfOk result (MakesRootRecord OFFSET_BITS (S.ledger store.old) (S.ledger store.new) (S.records store.old)
+        (S.records store.new)
         (operations ∷ roots_listed roots.now) before.entry) }
     ensures refuses { IfErr result (Refuses (S.ledger store.old) (S.ledger store.new)
         (class_of (length (operations ∷ roots_listed roots.now)))) }
@@ -109,7 +110,8 @@ pub fn root_unit<const OFFSET_BITS: u32, S: Store<OFFSET_BITS>>(
     requires unit { (S.ledger store.old).unit ≡ false }
     requires few { length roots.now ≤ MOST_FIELDS }
     requires owns { Owns (S.ledger store.old) (S.records store.old) (entries (root_entries before) ∷ []) }
-    ensures makes { IfOk result (MakesRootRecord OFFSET_BITS (S.ledger store.old) (S.ledger store.new) (S.records store.old) (S.records store.new)
+    ensures makes { IfOk result (MakesRootRecord OFFSET_BITS (S.ledger store.old) (S.ledger store.new) (S.records store.old)
+        (S.records store.new)
         (operations ∷ roots_listed roots.now) before.entry) }
     ensures left { OnErr result (LeavesEntries (S.ledger store.old) (S.ledger store.new) (S.records store.old) (S.records store.new)) }
     ensures refused { IfErr result (RefusesRoot (S.ledger store.old) (S.ledger store.new)) }

@@ -81,7 +81,8 @@ pub settled-again : (accepts : Bool) (last generation : ℕ) (s : State) → set
 settled-again accepts last generation s = settled-same accepts last generation (settled_state accepts last generation s) (settled-touched accepts last generation s)
 
 -- where one state is settled, the states settled are the same
-pub map-settled : (accepts : Bool) (last generation : ℕ) (states : List State) (x : ℕ) → map (settled_state accepts last generation) (set states x (settled_state accepts last generation (state_at states x))) ≡ map (settled_state accepts last generation) states
+pub map-settled : (accepts : Bool) (last generation : ℕ) (states : List State) (x : ℕ)
+    → map (settled_state accepts last generation) (set states x (settled_state accepts last generation (state_at states x))) ≡ map (settled_state accepts last generation) states
 map-settled accepts last generation [] x = refl
 map-settled accepts last generation (s ∷ states) zero = ap (λ t. t ∷ map (settled_state accepts last generation) states) (settled-again accepts last generation s)
 map-settled accepts last generation (s ∷ states) (suc x) = ap (λ l. settled_state accepts last generation s ∷ l) (map-settled accepts last generation states x)

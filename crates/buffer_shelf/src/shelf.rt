@@ -1,4 +1,5 @@
-ghost use Rattle.std.specs.Prelude.{◌≡◌, ◌↔◌, ◌<◌, ◌≤◌, ◌+◌, ◌^◌, ℕ, [], true, false, length, slice_set, vec_len, vec_capacity, count_by, IsNone, IfSome, IfNone, OnOk, OnErr, if◌then◌else◌, ◌∷◌, ◌++◌};
+ghost use Rattle.std.specs.Prelude.{◌≡◌, ◌↔◌, ◌<◌, ◌≤◌, ◌+◌, ◌^◌, ℕ, [], true, false, length, slice_set, vec_len, vec_capacity, count_by};
+ghost use Rattle.std.specs.Prelude.{IsNone, IfSome, IfNone, OnOk, OnErr, if◌then◌else◌, ◌∷◌, ◌++◌};
 ghost use Rattle.buffer_shelf.specs.States.{is_free_state, is_touched};
 ghost use Rattle.buffer_shelf.specs.Stacks.{IsStack};
 
@@ -40,7 +41,8 @@ pub struct Settled {
 
 impl Shelf {
     ghost use Rattle.std.specs.List.{slice_get};
-    ghost use Rattle.buffer_shelf.specs.States.{empty_shelf, state_at, is_used, is_dropped, spare_of, can_make, has_one_spare, has_touched, IsOpen, Settles, with_made, with_state_at, dropped};
+    ghost use Rattle.buffer_shelf.specs.States.{empty_shelf, state_at, is_used, is_dropped, spare_of, can_make, has_one_spare, has_touched};
+    ghost use Rattle.buffer_shelf.specs.States.{IsOpen, Settles, with_made, with_state_at, dropped};
     ghost use Rattle.buffer_shelf.specs.declared.state.State.TheVariants.{Free};
 
     /// No entries, and no room.

@@ -32,7 +32,8 @@ fn value_way<const OFFSET_BITS: u32, F: Frozen<OFFSET_BITS>>(
     requires dictionary { IsDictionary (type_of value.now) (F.records frozen.old) root }
     requires some { 0 < most }
     ensures way { IsWay (IsWayApart OFFSET_BITS buffer value_cmp (stored_value (type_of value.now)) (F.records frozen.old) root.entry)
-        (beside_value value.now (F.records frozen.old)) (tree_pairs (F.records frozen.old) root.entry) result.pairs result.last result.found }
+        (beside_value value.now (F.records frozen.old))
+        (tree_pairs (F.records frozen.old) root.entry) result.pairs result.last result.found }
     ensures few { result.pairs ≤ most }
     ensures same { frozen.new ≡ frozen.old }
 {
@@ -61,8 +62,10 @@ pub fn pass_value_nodes<const OFFSET_BITS: u32, F: Frozen<OFFSET_BITS>>(
     value: &Value,
     most: u32,
 ) -> Option<Passed>
-    requires { CanPass OFFSET_BITS plan.now.victim plan.now.place (F.records frozen.old) (trees_of_roots field.now roots) NODES (keys.Value value.now) }
-    ensures passes { IfSome result (λ p. Passes OFFSET_BITS plan.now.victim plan.now.place (F.records frozen.old) (trees_of_roots field.now roots.entry)
+    requires { CanPass OFFSET_BITS plan.now.victim plan.now.place (F.records frozen.old) (trees_of_roots field.now roots) NODES
+        (keys.Value value.now) }
+    ensures passes { IfSome result (λ p. Passes OFFSET_BITS plan.now.victim plan.now.place (F.records frozen.old)
+        (trees_of_roots field.now roots.entry)
         p.last p.keys) }
     ensures few { IfSome result (λ p. p.keys ≤ most) }
     ensures same { frozen.new ≡ frozen.old }
@@ -94,8 +97,10 @@ pub fn pass_map_nodes<const OFFSET_BITS: u32, F: Frozen<OFFSET_BITS>>(
     doc: u32,
     most: u32,
 ) -> Option<Passed>
-    requires { CanPass OFFSET_BITS plan.now.victim plan.now.place (F.records frozen.old) (trees_of_roots field.now roots) NODES (keys.Doc doc) }
-    ensures passes { IfSome result (λ p. Passes OFFSET_BITS plan.now.victim plan.now.place (F.records frozen.old) (trees_of_roots field.now roots.entry)
+    requires { CanPass OFFSET_BITS plan.now.victim plan.now.place (F.records frozen.old) (trees_of_roots field.now roots) NODES
+        (keys.Doc doc) }
+    ensures passes { IfSome result (λ p. Passes OFFSET_BITS plan.now.victim plan.now.place (F.records frozen.old)
+        (trees_of_roots field.now roots.entry)
         p.last p.keys) }
     ensures few { IfSome result (λ p. p.keys ≤ most) }
     ensures same { frozen.new ≡ frozen.old }

@@ -61,8 +61,10 @@ fn pass_values<const OFFSET_BITS: u32, F: Frozen<OFFSET_BITS>>(
     value: &Value,
     most: u32,
 ) -> Option<Passed>
-    requires { CanPass OFFSET_BITS plan.now.victim plan.now.place (F.records frozen.old) (trees_of_roots field.now roots) KEYS (keys.Value value.now) }
-    ensures passes { IfSome result (λ p. Passes OFFSET_BITS plan.now.victim plan.now.place (F.records frozen.old) (trees_of_roots field.now roots.entry)
+    requires { CanPass OFFSET_BITS plan.now.victim plan.now.place (F.records frozen.old) (trees_of_roots field.now roots) KEYS
+        (keys.Value value.now) }
+    ensures passes { IfSome result (λ p. Passes OFFSET_BITS plan.now.victim plan.now.place (F.records frozen.old)
+        (trees_of_roots field.now roots.entry)
         p.last p.keys) }
     ensures few { IfSome result (λ p. p.keys ≤ most) }
     ensures same { frozen.new ≡ frozen.old }
@@ -99,8 +101,10 @@ fn pass_documents<const OFFSET_BITS: u32, F: Frozen<OFFSET_BITS>>(
     doc: u32,
     most: u32,
 ) -> Option<Passed>
-    requires { CanPass OFFSET_BITS plan.now.victim plan.now.place (F.records frozen.old) (trees_of_roots field.now roots) DOCUMENTS (keys.Doc doc) }
-    ensures passes { IfSome result (λ p. Passes OFFSET_BITS plan.now.victim plan.now.place (F.records frozen.old) (trees_of_roots field.now roots.entry)
+    requires { CanPass OFFSET_BITS plan.now.victim plan.now.place (F.records frozen.old) (trees_of_roots field.now roots) DOCUMENTS
+        (keys.Doc doc) }
+    ensures passes { IfSome result (λ p. Passes OFFSET_BITS plan.now.victim plan.now.place (F.records frozen.old)
+        (trees_of_roots field.now roots.entry)
         p.last p.keys) }
     ensures few { IfSome result (λ p. p.keys ≤ most) }
     ensures same { frozen.new ≡ frozen.old }
@@ -132,7 +136,8 @@ fn has_tree<const OFFSET_BITS: u32, F: Frozen<OFFSET_BITS>>(
 ) -> bool
     requires { IsDictionary (type_of value.now) (F.records frozen.old) root }
     ensures even { result ≡ false → (p : ℕ × ℕ)
-        → lookup_pair (beside_value value.now (F.records frozen.old)) (tree_pairs (F.records frozen.old) root.entry) ≡ Some p → p.1 % 2 ≡ 0 }
+        → lookup_pair (beside_value value.now (F.records frozen.old)) (tree_pairs (F.records frozen.old) root.entry) ≡ Some p
+        → p.1 % 2 ≡ 0 }
     ensures same { frozen.new ≡ frozen.old }
 {
     match find(frozen, root, value) {
@@ -155,7 +160,8 @@ fn pass_lists<const OFFSET_BITS: u32, F: Frozen<OFFSET_BITS>>(
 ) -> Option<Passed>
     requires { CanPass OFFSET_BITS plan.now.victim plan.now.place (F.records frozen.old) (trees_of_roots field.now roots) LISTS
         (keys.Pair value.now doc) }
-    ensures passes { IfSome result (λ p. Passes OFFSET_BITS plan.now.victim plan.now.place (F.records frozen.old) (trees_of_roots field.now roots.entry)
+    ensures passes { IfSome result (λ p. Passes OFFSET_BITS plan.now.victim plan.now.place (F.records frozen.old)
+        (trees_of_roots field.now roots.entry)
         p.last p.keys) }
     ensures few { IfSome result (λ p. p.keys ≤ most) }
     ensures same { frozen.new ≡ frozen.old }
@@ -197,9 +203,11 @@ fn pass_by_value<const OFFSET_BITS: u32, F: Frozen<OFFSET_BITS>>(
     value: &Value,
     most: u32,
 ) -> Option<Passed>
-    requires { CanPass OFFSET_BITS plan.now.victim plan.now.place (F.records frozen.old) (trees_of_roots field.now roots) plan.now.place.stage.phase
+    requires { CanPass OFFSET_BITS plan.now.victim plan.now.place (F.records frozen.old)
+        (trees_of_roots field.now roots) plan.now.place.stage.phase
         (keys.Value value.now) }
-    ensures passes { IfSome result (λ p. Passes OFFSET_BITS plan.now.victim plan.now.place (F.records frozen.old) (trees_of_roots field.now roots.entry)
+    ensures passes { IfSome result (λ p. Passes OFFSET_BITS plan.now.victim plan.now.place (F.records frozen.old)
+        (trees_of_roots field.now roots.entry)
         p.last p.keys) }
     ensures few { IfSome result (λ p. p.keys ≤ most) }
     ensures same { frozen.new ≡ frozen.old }
@@ -223,9 +231,11 @@ fn pass_by_document<const OFFSET_BITS: u32, F: Frozen<OFFSET_BITS>>(
     doc: u32,
     most: u32,
 ) -> Option<Passed>
-    requires { CanPass OFFSET_BITS plan.now.victim plan.now.place (F.records frozen.old) (trees_of_roots field.now roots) plan.now.place.stage.phase
+    requires { CanPass OFFSET_BITS plan.now.victim plan.now.place (F.records frozen.old)
+        (trees_of_roots field.now roots) plan.now.place.stage.phase
         (keys.Doc doc) }
-    ensures passes { IfSome result (λ p. Passes OFFSET_BITS plan.now.victim plan.now.place (F.records frozen.old) (trees_of_roots field.now roots.entry)
+    ensures passes { IfSome result (λ p. Passes OFFSET_BITS plan.now.victim plan.now.place (F.records frozen.old)
+        (trees_of_roots field.now roots.entry)
         p.last p.keys) }
     ensures few { IfSome result (λ p. p.keys ≤ most) }
     ensures same { frozen.new ≡ frozen.old }
@@ -254,7 +264,8 @@ pub fn pass_clear<const OFFSET_BITS: u32, F: Frozen<OFFSET_BITS>>(
     requires typed { HasType field.now.value plan.now.place.key }
     requires cleared { IsClearedField OFFSET_BITS plan.now.victim plan.now.place plan.now.place.stage.field (F.records frozen.old)
         (trees_of_roots field.now roots) }
-    ensures passes { IfSome result (λ p. Passes OFFSET_BITS plan.now.victim plan.now.place (F.records frozen.old) (trees_of_roots field.now roots.entry)
+    ensures passes { IfSome result (λ p. Passes OFFSET_BITS plan.now.victim plan.now.place (F.records frozen.old)
+        (trees_of_roots field.now roots.entry)
         p.last p.keys) }
     ensures few { IfSome result (λ p. p.keys ≤ most) }
     ensures same { frozen.new ≡ frozen.old }

@@ -36,7 +36,8 @@ abbrev pub Stops : {H : Type 0} → Ledger H → Ledger H → ℕ → ℕ → Op
 Stops old new keys visited None = visited ≡ keys
 Stops old new keys visited (Some error) = StopsRefused old new keys visited error
 
-module _ {H : Type 0} (bits root : ℕ) (old new : Ledger H) (m n : Records) (fields : List Field) (trees next : List AttributeTrees) (from to : PlanView) where
+module _ {H : Type 0} (bits root : ℕ) (old new : Ledger H) (m n : Records) (fields : List Field) (trees next : List AttributeTrees)
+    (from to : PlanView) where
   -- so many keys were visited: the attributes read as they did, and all up to the plan's place lies elsewhere
   pub record Visits (keys : ℕ) : Type 0 where
     pub holds : HoldsAttributes bits new n fields next root

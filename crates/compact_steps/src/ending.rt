@@ -24,15 +24,18 @@ pub fn end_plan<const OFFSET_BITS: u32, S: Store<OFFSET_BITS>>(
     root: EntryRef<OFFSET_BITS>,
     plan: &Plan,
 ) -> u32
-    requires holds { HoldsAttributes OFFSET_BITS (S.ledger store.old) (S.records store.old) fields.now (trees_of fields.now roots.now) root }
+    requires holds { HoldsAttributes OFFSET_BITS (S.ledger store.old) (S.records store.old) fields.now
+        (trees_of fields.now roots.now) root }
     requires under_way { IsUnderWay OFFSET_BITS (S.ledger store.old) (S.records store.old) (trees_of fields.now roots.now) plan.now }
     requires last { HasLastField plan.now }
     requires over { plan.now.place.stage.phase ≡ PHASES }
     ensures buffer { result ≡ plan.now.victim }
     ensures ledger { S.ledger store.new ≡ record (S.ledger store.old) { finished = Some plan.now.victim } }
     ensures records { S.records store.new ≡ S.records store.old }
-    ensures apart { (r : ℕ) → Among r (attributes_reach (S.records store.new) (trees_of fields.now roots.now)) → buffer_of OFFSET_BITS r ≢ plan.now.victim }
-    ensures holds { HoldsAttributes OFFSET_BITS (S.ledger store.new) (S.records store.new) fields.now (trees_of fields.now roots.now) root.entry }
+    ensures apart { (r : ℕ) → Among r (attributes_reach (S.records store.new) (trees_of fields.now roots.now))
+        → buffer_of OFFSET_BITS r ≢ plan.now.victim }
+    ensures holds { HoldsAttributes OFFSET_BITS (S.ledger store.new) (S.records store.new) fields.now
+        (trees_of fields.now roots.now) root.entry }
 {
     stage_law();
     let _ = fields;

@@ -22,7 +22,8 @@ fn begin_plan<const OFFSET_BITS: u32, S: Store<OFFSET_BITS>>(
     root: EntryRef<OFFSET_BITS>,
 ) -> Option<Plan>
     requires few { length fields.now ≤ MOST_FIELDS }
-    requires holds { HoldsAttributes OFFSET_BITS (S.ledger store.old) (S.records store.old) fields.now (trees_of fields.now roots.now) root }
+    requires holds { HoldsAttributes OFFSET_BITS (S.ledger store.old) (S.records store.old) fields.now
+        (trees_of fields.now roots.now) root }
     requires unfinished { (S.ledger store.old).finished ≡ None }
     ensures opens { IfSome result (OpensPlan OFFSET_BITS root.entry (S.ledger store.old) (S.ledger store.new) (S.records store.old)
         (S.records store.new) fields.now (trees_of fields.now roots.now) None) }
@@ -46,7 +47,8 @@ pub fn open_plan<const OFFSET_BITS: u32, S: Store<OFFSET_BITS>>(
     before: Option<Plan>,
 ) -> Option<Plan>
     requires few { length fields.now ≤ MOST_FIELDS }
-    requires holds { HoldsAttributes OFFSET_BITS (S.ledger store.old) (S.records store.old) fields.now (trees_of fields.now roots.now) root }
+    requires holds { HoldsAttributes OFFSET_BITS (S.ledger store.old) (S.records store.old) fields.now
+        (trees_of fields.now roots.now) root }
     requires under_way { IfSome before (IsUnderWay OFFSET_BITS (S.ledger store.old) (S.records store.old) (trees_of fields.now roots.now)) }
     requires last { IfSome before HasLastField }
     requires unfinished { (S.ledger store.old).finished ≡ None }

@@ -49,7 +49,8 @@ pub fn visit_keys<const OFFSET_BITS: u32, S: Store<OFFSET_BITS>>(
     keys: u32,
 ) -> Result<Walk, StoreError>
     requires sized { length roots.old ≡ length fields.now }
-    requires holds { HoldsAttributes OFFSET_BITS (S.ledger store.old) (S.records store.old) fields.now (trees_of fields.now roots.old) root }
+    requires holds { HoldsAttributes OFFSET_BITS (S.ledger store.old) (S.records store.old) fields.now
+        (trees_of fields.now roots.old) root }
     requires under_way { IsUnderWay OFFSET_BITS (S.ledger store.old) (S.records store.old) (trees_of fields.now roots.old) plan.old }
     requires last { HasLastField plan.old }
     ensures sized { length roots.new ≡ length fields.now }

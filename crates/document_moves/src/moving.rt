@@ -42,7 +42,8 @@ fn set_again<const OFFSET_BITS: u32, S: Store<OFFSET_BITS>>(
         (S.records store.old) (S.records store.new) documents.entry dictionary.entry) }
     ensures counts { MakesWithin (S.ledger store.old) (S.ledger store.new)
         (documents_most (1 + length items.now) (2 * levels (S.records store.old) documents.entry + 1)) }
-    ensures refuses { IfErr result (RefusesOf (IsUsedWidth (S.ledger store.old) (S.records store.old)) (S.ledger store.old) (S.ledger store.new)) }
+    ensures refuses { IfErr result (RefusesOf (IsUsedWidth (S.ledger store.old) (S.records store.old)) (S.ledger store.old)
+        (S.ledger store.new)) }
     ensures may { MayDo (S.ledger store.old) (S.ledger store.new) }
 {
     key_law();
@@ -82,7 +83,8 @@ fn read_again<const OFFSET_BITS: u32, S: Store<OFFSET_BITS>>(
     ensures counts { MakesWithin (S.ledger store.old) (S.ledger store.new)
         (documents_most (1 + length (items_of (column_at kind value_type (S.records store.old) documents.entry) doc))
         (2 * levels (S.records store.old) documents.entry + 1)) }
-    ensures refuses { IfErr result (RefusesOf (IsUsedWidth (S.ledger store.old) (S.records store.old)) (S.ledger store.old) (S.ledger store.new)) }
+    ensures refuses { IfErr result (RefusesOf (IsUsedWidth (S.ledger store.old) (S.records store.old)) (S.ledger store.old)
+        (S.ledger store.new)) }
     ensures may { MayDo (S.ledger store.old) (S.ledger store.new) }
 {
     let Ok(found) = read_items(alloc, store, kind, value_type, documents, doc) else {
@@ -127,7 +129,8 @@ pub fn move_items<const OFFSET_BITS: u32, S: Store<OFFSET_BITS>>(
     ensures counts { MakesWithin (S.ledger store.old) (S.ledger store.new)
         (documents_most (1 + length (items_of (column_at kind value_type (S.records store.old) documents.entry) doc))
         (2 * levels (S.records store.old) documents.entry + 1)) }
-    ensures refuses { IfErr result (RefusesOf (IsUsedWidth (S.ledger store.old) (S.records store.old)) (S.ledger store.old) (S.ledger store.new)) }
+    ensures refuses { IfErr result (RefusesOf (IsUsedWidth (S.ledger store.old) (S.records store.old)) (S.ledger store.old)
+        (S.ledger store.new)) }
     ensures may { MayDo (S.ledger store.old) (S.ledger store.new) }
 {
     if !document_lies(store, kind, value_type, documents, doc, buffer) {

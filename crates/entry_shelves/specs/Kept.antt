@@ -1,5 +1,6 @@
 -- What is kept of the shelves, and of the stacks of those that have an entry to spare, and of those that the unit has changed.
-use Rattle.std.specs.Prelude.{◌≡◌, ℕ, ◌<◌, ◌≤◌, ◌^◌, ◌&&◌, Bool, true, List, [], length, slice_index, slice_index_or, Option, Some, if◌then◌else◌, nat_eq}
+use Rattle.std.specs.Prelude.{◌≡◌, ℕ, ◌<◌, ◌≤◌, ◌^◌, ◌&&◌, Bool, true, List, [], length, slice_index, slice_index_or, Option, Some}
+use Rattle.std.specs.Prelude.{if◌then◌else◌, nat_eq}
 use Rattle.store_api.specs.Ledgers.{is_width, capacity}
 use Rattle.buffer_shelf.specs.States.{ShelfView, empty_shelf, can_make, has_touched}
 use Rattle.buffer_shelf.specs.Stacks.{IsStack}
@@ -32,9 +33,11 @@ pub record IsBottom (stack : List ℕ) (filled : Option ℕ) (b : ℕ) : Type 0 
 pub record IsRow (shelves : List ShelfView) (filled : Option ℕ) (stack : StackView) (w : ℕ) : Type 0 where
   pub open_is : IsStack empty_shelf (has_spare_in w) shelves stack.list
   pub room : length shelves ≤ stack.room
-  pub unmade : (b : ℕ) → (shelf_at shelves b).width ≡ w → length (shelf_at shelves b).states < (shelf_at shelves b).room → IsBottom stack.list filled b
+  pub unmade : (b : ℕ) → (shelf_at shelves b).width ≡ w → length (shelf_at shelves b).states < (shelf_at shelves b).room
+      → IsBottom stack.list filled b
 
-pub record AreShelves (words : ℕ) (shelves : List ShelfView) (made : List ℕ) (filled : List (Option ℕ)) (stacks : List StackView) (touched : StackView) : Type 0 where
+pub record AreShelves (words : ℕ) (shelves : List ShelfView) (made : List ℕ) (filled : List (Option ℕ)) (stacks : List StackView)
+    (touched : StackView) : Type 0 where
   pub few : length shelves < 2 ^ 32
   pub made_rows : length made ≡ 11
   pub filled_rows : length filled ≡ 11

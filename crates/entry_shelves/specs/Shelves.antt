@@ -1,7 +1,9 @@
 -- The shelves of all buffers, and by width how often an entry was made and which buffer is filled.
-use Rattle.std.specs.Prelude.{◌≡◌, ℕ, suc, ◌<◌, ◌&&◌, Bool, true, false, not, nat_eq, if◌then◌else◌, List, [], ◌∷◌, length, slice_set, slice_index_or, sum_by, count_by, Option, None}
+use Rattle.std.specs.Prelude.{◌≡◌, ℕ, suc, ◌<◌, ◌&&◌, Bool, true, false, not, nat_eq, if◌then◌else◌, List, [], ◌∷◌, length, slice_set}
+use Rattle.std.specs.Prelude.{slice_index_or, sum_by, count_by, Option, None}
 use Rattle.store_api.specs.Ledgers.{widths, one_more}
-use Rattle.buffer_shelf.specs.States.{ShelfView, empty_shelf, spare_of, is_free_state, is_touched, state_at, settled_state, IsOpen, with_made, with_state_at}
+use Rattle.buffer_shelf.specs.States.{ShelfView, empty_shelf, spare_of, is_free_state, is_touched, state_at, settled_state, IsOpen}
+use Rattle.buffer_shelf.specs.States.{with_made, with_state_at}
 use Rattle.entry_shelves.specs.declared.shelves.Taken.{Taken}
 use Rattle.entry_shelves.specs.declared.shelves.Changed.{Changed}
 
@@ -46,8 +48,10 @@ pub record Takes (old new : ShelvesView) (width : ℕ) (t : Taken) : Type 0 wher
   pub of_width : (shelf_at old.shelves t.buffer).width ≡ width
   pub unsealed : (shelf_at old.shelves t.buffer).sealed ≡ false
   pub is_open : IsOpen (shelf_at old.shelves t.buffer) t.place
-  pub again : (t.again ≡ true → t.place < length (shelf_at old.shelves t.buffer).states) × (t.again ≡ false → t.place ≡ length (shelf_at old.shelves t.buffer).states)
-  pub free_first : t.place ≡ length (shelf_at old.shelves t.buffer).states → (a : ℕ) → (shelf_at old.shelves a).width ≡ width → (shelf_at old.shelves a).sealed ≡ false
+  pub again : (t.again ≡ true → t.place < length (shelf_at old.shelves t.buffer).states)
+      × (t.again ≡ false → t.place ≡ length (shelf_at old.shelves t.buffer).states)
+  pub free_first : t.place ≡ length (shelf_at old.shelves t.buffer).states → (a : ℕ) → (shelf_at old.shelves a).width ≡ width
+      → (shelf_at old.shelves a).sealed ≡ false
       → count_by is_free_state (shelf_at old.shelves a).states ≡ 0
   pub new_is : new ≡ record (with_shelf old t.buffer (with_made (shelf_at old.shelves t.buffer) t.place))
       { made = slice_set old.made (row_of width) (one_more (made_at old.made width)) }

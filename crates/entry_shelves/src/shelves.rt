@@ -1,4 +1,5 @@
-ghost use Rattle.std.specs.Prelude.{◌≡◌, ◌≢◌, ◌↔◌, ◌<◌, ◌≤◌, ◌+◌, ◌-◌, ◌/◌, ◌^◌, ◌++◌, ◌∷◌, if◌then◌else◌, ℕ, [], true, false, length, replicate, slice_set, count_by, Some, None, IsNone, IfSome, IfNone, IfOk, OnOk, OnErr};
+ghost use Rattle.std.specs.Prelude.{◌≡◌, ◌≢◌, ◌↔◌, ◌<◌, ◌≤◌, ◌+◌, ◌-◌, ◌/◌, ◌^◌, ◌++◌, ◌∷◌, if◌then◌else◌, ℕ, [], true, false, length};
+ghost use Rattle.std.specs.Prelude.{replicate, slice_set, count_by, Some, None, IsNone, IfSome, IfNone, IfOk, OnOk, OnErr};
 ghost use Rattle.store_api.specs.Ledgers.{is_width, capacity};
 ghost use Rattle.buffer_shelf.specs.States.{empty_shelf, is_used, is_dropped, is_touched, state_at, dropped, with_state_at};
 ghost use Rattle.entry_shelves.specs.Kept.{stack_at};
@@ -55,7 +56,12 @@ impl Shelves {
 
     /// `buffers` empty shelves, for buffers of `words` words.
     pub fn create(alloc: Global, buffers: u32, words: u32) -> Result<Self, AllocError>
-        ensures { IfOk result (λ s. s ≡ record { words = words; shelves = replicate buffers empty_shelf; made = replicate 11 0; filled = replicate 11 None }) }
+        ensures { IfOk result (λ s. s ≡ record {
+          words = words;
+          shelves = replicate buffers empty_shelf;
+          made = replicate 11 0;
+          filled = replicate 11 None;
+        }) }
     {
         let shelves = new_shelves(alloc, buffers)?;
         let made = new_counts(alloc)?;
@@ -216,7 +222,8 @@ impl Shelves {
         requires width { is_width width ≡ true }
         requires words { 8192 ≤ self.old.words }
         requires spare { spare_of_width self.old.shelves width ≡ 0 }
-        ensures ok { OnOk result (self.new ≡ record (with_shelf self.old buffer (record empty_shelf { width = width; room = capacity self.old.words width }))
+        ensures ok { OnOk result (self.new
+            ≡ record (with_shelf self.old buffer (record empty_shelf { width = width; room = capacity self.old.words width }))
             { filled = slice_set self.old.filled (row_of width) (Some buffer) }) }
         ensures err { OnErr result (self.new ≡ self.old) }
     {

@@ -1,4 +1,5 @@
-ghost use Rattle.std.specs.Prelude.{◌≡◌, ◌≢◌, ◌<◌, ◌-◌, ◌^◌, ◌++◌, ◌∷◌, [], ℕ, true, length, take, remove, slice_index, IfOk, IfNone, IfSome, Some, if◌then◌else◌};
+ghost use Rattle.std.specs.Prelude.{◌≡◌, ◌≢◌, ◌<◌, ◌-◌, ◌^◌, ◌++◌, ◌∷◌, [], ℕ, true, length, take, remove, slice_index, IfOk, IfNone};
+ghost use Rattle.std.specs.Prelude.{IfSome, Some, if◌then◌else◌};
 
 use std::alloc::{AllocError, Global};
 use std::marker::Model;

@@ -115,9 +115,12 @@ module _ {H : Type 0} (bits : ℕ) (work : WorkView H) (shape : ℕ) (m : Record
       → TakesOne bits (ledger_of bits work shape m e unit) (ledger_of bits v i n f unit) (records_by_status (statuses work.commits e) m) (records_by_status (statuses v.commits f) n) width words r
   takes-put some =
       subst (λ w. TakesOne bits (ledger_of bits work shape m e unit) (ledger_of bits w i n f unit) (records_by_status (statuses work.commits e) m) (records_by_status (statuses w.commits f) n) width words r) (sym knows)
-      (subst (λ k. TakesOne bits (ledger_of bits work shape m e unit) (ledger_of bits (record work { stored = v.stored }) k n f unit) (records_by_status (statuses work.commits e) m) (records_by_status (statuses work.commits f) n) width words r) (sym shaped)
-      (subst (λ (x : Records). TakesOne bits (ledger_of bits work shape m e unit) (ledger_of bits (record work { stored = v.stored }) shape x f unit) (records_by_status (statuses work.commits e) m) (records_by_status (statuses work.commits f) x) width words r) (sym written)
-      (subst (λ g. TakesOne bits (ledger_of bits work shape m e unit) (ledger_of bits (record work { stored = v.stored }) shape (with_words m r (padded words width)) g unit) (records_by_status (statuses work.commits e) m)
+      (subst (λ k. TakesOne bits (ledger_of bits work shape m e unit) (ledger_of bits (record work { stored = v.stored }) k n f unit) (records_by_status (statuses work.commits e) m)
+      (records_by_status (statuses work.commits f) n) width words r) (sym shaped)
+      (subst (λ (x : Records). TakesOne bits (ledger_of bits work shape m e unit) (ledger_of bits (record work { stored = v.stored }) shape x f unit) (records_by_status (statuses work.commits e) m)
+      (records_by_status (statuses work.commits f) x) width words r) (sym written)
+      (subst (λ g. TakesOne bits (ledger_of bits work shape m e unit) (ledger_of bits (record work { stored = v.stored }) shape (with_words m r (padded words width)) g unit)
+      (records_by_status (statuses work.commits e) m)
       (records_by_status (statuses work.commits g) (with_words m r (padded words width))) width words r) (sym made)
       (takes-one bits work shape m e unit st width r words can v.stored some))))
 
@@ -155,7 +158,8 @@ module _ {H : Type 0} (bits : ℕ) (work : WorkView H) (shape : ℕ) (m : Record
 
   fresh-opened : (w : ℕ) → ((opened_at e b width).of_width w).fresh ≡ (e.of_width w).fresh
   fresh-opened w = elim (cases_eq w width) [
-    | inl t ↦ ap (λ u. (cond u (record (e.of_width width) { spare = capacity e.words width; buffers = (e.of_width width).buffers + 1; filled = Some b }) (e.of_width w)).fresh) (eq-eqb w width t) ∙ sym (ap (λ x. (e.of_width x).fresh) t)
+    | inl t ↦ ap (λ u. (cond u (record (e.of_width width) { spare = capacity e.words width; buffers = (e.of_width width).buffers + 1; filled = Some b }) (e.of_width w)).fresh) (eq-eqb w width t)
+        ∙ sym (ap (λ x. (e.of_width x).fresh) t)
     | inr t ↦ ap (λ u. (cond u (record (e.of_width width) { spare = capacity e.words width; buffers = (e.of_width width).buffers + 1; filled = Some b }) (e.of_width w)).fresh) (ne_eqb w width t)
   ]
 

@@ -325,7 +325,8 @@ capacity-some words w some is =
 pub opened-spare : {H : Type 0} (old new : Ledger H) (width : ℕ) → OpensBuffer old new width → 8192 ≤ old.work.sizes.words → is_width width ≡ true → 0 < (new.of_width width).spare
 opened-spare old new width opens long is =
     subst (λ f. 0 < (f width).spare) (sym opens.counts)
-    (subst (λ t. 0 < (cond t (record (old.of_width width) { spare = capacity old.work.sizes.words width; buffers = (old.of_width width).buffers + 1; filled = Some opens.buffer }) (old.of_width width)).spare) (sym (eq-eqb width width refl))
+    (subst (λ t. 0 < (cond t (record (old.of_width width) { spare = capacity old.work.sizes.words width; buffers = (old.of_width width).buffers + 1; filled = Some opens.buffer }) (old.of_width width)).spare)
+    (sym (eq-eqb width width refl))
     (capacity-some old.work.sizes.words width long is))
 
 -- a make that was first refused, after a reclaim

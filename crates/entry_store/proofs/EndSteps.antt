@@ -26,7 +26,8 @@ module _ {H : Type 0} (bits : ℕ) (work : WorkView H) (m : Records) (e : Entrie
   pub status-retired : (finished : Option ℕ) (r : ℕ) → statuses work.commits (retired_by bits e finished) r ≡ cond (is_this finished (buffer_of bits r)) Status.unmade (statuses work.commits e r)
   status-retired None r = refl
   status-retired (Some b) r = elim (cases_Bool (eqb (buffer_of bits r) b)) [
-    | inl t ↦ ap (λ u. status_of (is_in (last_image work.commits) r) e.last (cond u None (e.state r))) t ∙ sym (ap (λ u. cond u Status.unmade (statuses work.commits e r)) (eq-eqb b (buffer_of bits r) (sym (eqb-true (buffer_of bits r) b t))))
+    | inl t ↦ ap (λ u. status_of (is_in (last_image work.commits) r) e.last (cond u None (e.state r))) t
+        ∙ sym (ap (λ u. cond u Status.unmade (statuses work.commits e r)) (eq-eqb b (buffer_of bits r) (sym (eqb-true (buffer_of bits r) b t))))
     | inr t ↦ ap (λ u. status_of (is_in (last_image work.commits) r) e.last (cond u None (e.state r))) t
         ∙ sym (ap (λ u. cond u Status.unmade (statuses work.commits e r)) (ne_eqb b (buffer_of bits r) (λ same. true≢false (sym (eq-eqb (buffer_of bits r) b (sym same)) ∙ t))))
   ]
@@ -147,7 +148,8 @@ alone-advanced (To g h) work next is still low = current-advanced (To g h) work 
 alone-advanced (NoHold h c) work next is still low = let more = is.stops in absurd (omega arith)
 alone-advanced (Spent g) work next is still low = let limit = is.limit in let same = ap current is.same in absurd (omega arith)
 
-module _ {H : Type 0} (bits : ℕ) (work next : WorkView H) (m : Records) (e new : EntriesView) (st : IsOver bits work m e false) (answer : Advance) (is : Advances answer work next) (goes : LetsGo work.commits next.commits)
+module _ {H : Type 0} (bits : ℕ) (work next : WorkView H) (m : Records) (e new : EntriesView) (st : IsOver bits work m e false) (answer : Advance) (is : Advances answer work next)
+    (goes : LetsGo work.commits next.commits)
     (knows : next ≡ advanced work next) (follows : new ≡ record e { generation = generation_by answer e.generation }) (good : IsGood bits new)
     (old : (r : ℕ) → is_in_generation e.last (generation_by answer e.generation) (e.state r) ≡ true) where
   pub status-advanced : (r : ℕ) → statuses next.commits new r ≡ statuses work.commits e r

@@ -51,7 +51,8 @@ retired-oldest : (bits : ℕ) (e : EntriesView) (finished : Option ℕ) → (ret
 retired-oldest bits e None = refl
 retired-oldest bits e (Some b) = refl
 
-retired-tagged : (bits : ℕ) (e : EntriesView) (finished : Option ℕ) → ((r : ℕ) → is_dropped_since e.last (e.state r) ≡ false) → (r : ℕ) → is_dropped_since (retired_by bits e finished).last ((retired_by bits e finished).state r) ≡ false
+retired-tagged : (bits : ℕ) (e : EntriesView) (finished : Option ℕ) → ((r : ℕ) → is_dropped_since e.last (e.state r) ≡ false) → (r : ℕ)
+    → is_dropped_since (retired_by bits e finished).last ((retired_by bits e finished).state r) ≡ false
 retired-tagged bits e None tagged r = tagged r
 retired-tagged bits e (Some b) tagged r = by_test (eqb (buffer_of bits r) b)
   where
@@ -103,7 +104,8 @@ module _ {H : Type 0} (bits : ℕ) (work : WorkView H) (m : Records) (e : Entrie
           let last = reclaim-rises next v oldest queue2 reclaims in
           omega arith
 
-      module _ (alone : held.made ≡ 0 → next.stops ≡ held.stops) (alone2 : next.made ≡ 0 → v.stops ≡ next.stops) (e3 : EntriesView) (frees : Frees e2 e3 oldest.generation) (good3 : IsGood bits e3) (order : IsInOrder v) where
+      module _ (alone : held.made ≡ 0 → next.stops ≡ held.stops) (alone2 : next.made ≡ 0
+          → v.stops ≡ next.stops) (e3 : EntriesView) (frees : Frees e2 e3 oldest.generation) (good3 : IsGood bits e3) (order : IsInOrder v) where
         made-next : next.made ≡ held.made
         made-next = ap (λ w. w.made) next_is
 

@@ -255,10 +255,13 @@ module _ {H : Type 0} (bits : ℕ) (work : WorkView H) (shape : ℕ) (m : Record
 
     record-now : (q : ℕ) → cond (has_record (statuses work.commits new q)) (m q) [] ≡ cond (is_free_status (statuses work.commits new q)) [] (cond (has_record (statuses work.commits e q)) (m q) [])
     record-now q =
-        subst (λ l. cond (has_record (status_of (has q) l (new.state q))) (m q) [] ≡ cond (is_free_status (status_of (has q) l (new.state q))) [] (cond (has_record (statuses work.commits e q)) (m q) [])) (sym (ap (λ x. x.last) drops.same))
+        subst (λ l. cond (has_record (status_of (has q) l (new.state q))) (m q) [] ≡ cond (is_free_status (status_of (has q) l (new.state q))) [] (cond (has_record (statuses work.commits e q)) (m q) []))
+        (sym (ap (λ x. x.last) drops.same))
         (state-at (λ q o. cond (has_record (status_of (has q) e.last o)) (m q) [] ≡ cond (is_free_status (status_of (has q) e.last o)) [] (cond (has_record (statuses work.commits e q)) (m q) [])) q
-        (λ t. subst (λ x. cond (has_record (status_by (has x) e.last (dropped e.last s))) (m x) [] ≡ cond (is_free_status (status_by (has x) e.last (dropped e.last s))) [] (cond (has_record (statuses work.commits e x)) (m x) [])) (sym t)
-        (subst (λ o. cond (has_record (status_by (has r) e.last (dropped e.last s))) (m r) [] ≡ cond (is_free_status (status_by (has r) e.last (dropped e.last s))) [] (cond (has_record (status_of (has r) e.last o)) (m r) [])) (sym is)
+        (λ t. subst (λ x. cond (has_record (status_by (has x) e.last (dropped e.last s))) (m x) []
+        ≡ cond (is_free_status (status_by (has x) e.last (dropped e.last s))) [] (cond (has_record (statuses work.commits e x)) (m x) [])) (sym t)
+        (subst (λ o. cond (has_record (status_by (has r) e.last (dropped e.last s))) (m r) []
+        ≡ cond (is_free_status (status_by (has r) e.last (dropped e.last s))) [] (cond (has_record (status_of (has r) e.last o)) (m r) [])) (sym is)
         (dropped-records (has r) e.last s (m r) used)))
         (λ t. free-none (statuses work.commits e q) (m q)))
 
@@ -336,7 +339,8 @@ module _ {H : Type 0} (bits : ℕ) (work : WorkView H) (shape : ℕ) (m : Record
   seals-records new b seals = ap (λ x. records_by_status (statuses work.commits x) m) seals.same
 
 -- a reclaim
-module _ {H : Type 0} (bits : ℕ) (work : WorkView H) (shape : ℕ) (m : Records) (e : EntriesView) (unit : Bool) (st : IsOver bits work m e unit) (next : WorkView H) (new : EntriesView) (answer : Oldest) (reclaims : Reclaims answer work next) (goes : LetsGo work.commits next.commits)
+module _ {H : Type 0} (bits : ℕ) (work : WorkView H) (shape : ℕ) (m : Records) (e : EntriesView) (unit : Bool) (st : IsOver bits work m e unit) (next : WorkView H) (new : EntriesView) (answer : Oldest)
+    (reclaims : Reclaims answer work next) (goes : LetsGo work.commits next.commits)
     (knows : next ≡ reclaimed work next) (alone : work.made ≡ 0 → next.stops ≡ work.stops) (frees : Frees e new answer.generation) (order : IsInOrder next) (below : answer.generation ≤ e.generation) where
   abbrev earlier : Ledger H
   earlier = ledger_of bits work shape m e unit

@@ -172,7 +172,8 @@ module _ (bits : ℕ) (reaches : ℕ → Records → ℕ → List ℕ) (lawful :
           by_state None is = ap (status_of (is_in image r) (e.last + 1)) is ∙ sym (ap (λ o. after_commit (tag_at e.generation e.last) (is_in image r) (status_of (is_in (last_image work.commits) r) e.last o)) is)
           by_state (Some s) is =
               ap (status_of (is_in image r) (e.last + 1)) is
-              ∙ committed-state (is_in (last_image work.commits) r) (is_in image r) e s (st.good.up_to r s is) (subst (λ o. is_settled_entry o ≡ true) is (st.settled ended r)) (subst (λ o. is_in_generation e.last e.generation o ≡ true) is (st.since r))
+              ∙ committed-state (is_in (last_image work.commits) r) (is_in image r) e s (st.good.up_to r s is) (subst (λ o. is_settled_entry o ≡ true) is (st.settled ended r))
+              (subst (λ o. is_in_generation e.last e.generation o ≡ true) is (st.since r))
               (λ h. subst (λ o. in_use (status_of (is_in (last_image work.commits) r) e.last o) ≡ true) is (used-in r h))
               ∙ sym (ap (λ o. after_commit (tag_at e.generation e.last) (is_in image r) (status_of (is_in (last_image work.commits) r) e.last o)) is)
 

@@ -73,7 +73,8 @@ dead-same has last (Some LetGo) = refl
 dead-same has last (Some (DroppedNow after)) = refl
 dead-same has last (Some (Dropped after g)) = held-dead (eqb after last) (tag_at g after)
 
-count-same : (bits : ℕ) (p : Status → Bool) (q : Option State → Bool) (status : ℕ → Status) (state : ℕ → Option State) (b n : ℕ) → ((r : ℕ) → p (status r) ≡ q (state r)) → count_entries bits p status b n ≡ count_states bits q state b n
+count-same : (bits : ℕ) (p : Status → Bool) (q : Option State → Bool) (status : ℕ → Status) (state : ℕ → Option State) (b n : ℕ) → ((r : ℕ) → p (status r) ≡ q (state r))
+    → count_entries bits p status b n ≡ count_states bits q state b n
 count-same bits p q status state b zero same = refl
 count-same bits p q status state b (suc n) same =
     let rest = count-same bits p q status state b n same in
@@ -145,7 +146,8 @@ module _ {H : Type 0} (bits : ℕ) (work : WorkView H) (shape : ℕ) (m : Record
   used-same b below =
       ap (λ w. w * (1 + count_entries bits is_taken (statuses work.commits e) b (capacity work.sizes.words w))) (sym (width-is b below))
       ∙ ap (λ n. width_of e b * (1 + count_entries bits is_taken (statuses work.commits e) b (capacity n (width_of e b)))) (sym st.words)
-      ∙ ap (λ n. width_of e b * (1 + n)) (count-same bits is_taken is_taken_entry (statuses work.commits e) e.state b (capacity e.words (width_of e b)) (λ r. taken-same (is_in (last_image work.commits) r) e.last (e.state r)))
+      ∙ ap (λ n. width_of e b * (1 + n)) (count-same bits is_taken is_taken_entry (statuses work.commits e) e.state b (capacity e.words (width_of e b))
+      (λ r. taken-same (is_in (last_image work.commits) r) e.last (e.state r)))
 
   dead-words-same : (b : ℕ) → b < work.sizes.buffers → dead_words bits ledger b ≡ dead_states bits e b
   dead-words-same b below =
@@ -182,7 +184,8 @@ module _ {H : Type 0} (bits : ℕ) (work : WorkView H) (shape : ℕ) (m : Record
       active-some c is b below cand = dead-some (active_width (work.buffer b)) (width-is b below) cand.dead
         where
           dead-some : (w : ℕ) → width_of e b ≡ w → used_states bits e b < dead_states bits e b * 20 → 0 < w
-          dead-some zero none more = (let no_dead : dead_states bits e b ≡ 0 * count_states bits is_dead_entry e.state b (capacity e.words (width_of e b)) = ap (λ w. w * count_states bits is_dead_entry e.state b (capacity e.words (width_of e b))) none in absurd (omega arith))
+          dead-some zero none more = (let no_dead : dead_states bits e b ≡ 0 * count_states bits is_dead_entry e.state b (capacity e.words (width_of e b)) = ap
+              (λ w. w * count_states bits is_dead_entry e.state b (capacity e.words (width_of e b))) none in absurd (omega arith))
           dead-some (suc w) some more = omega arith
 
   pub victim-is : (result : Option ℕ) → IfSome result (IsVictimEntry bits e) → IfSome result (IsVictim bits ledger)

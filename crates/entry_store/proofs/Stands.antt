@@ -20,9 +20,11 @@ use Rattle.entry_store.specs.Standing.{Stands, IsOver, status_by, status_of, sta
 use Rattle.entry_store.specs.ProofsForMarks.{marks-opened, marks-freed, held-freed, width-freed}
 use Rattle.entry_store.proofs.Queues.{newest-drop}
 use Rattle.entry_store.proofs.Soundness.{sound-made, sound-opened, sound-reclaimed, sound-same, lets-last}
-use Rattle.entry_store.specs.ProofsForStates.{IsWeaker, sound-weaker, with_state-at, in_use-used, dropped-weaker, dropped-since, undone-weaker, undone-settled, undone-since, accepted-status, accepted-settled, accepted-since, weaker-accept, open-status, freed-status, freed-undone, freed-settled, freed-since}
+use Rattle.entry_store.specs.ProofsForStates.{IsWeaker, sound-weaker, with_state-at, in_use-used, dropped-weaker, dropped-since, undone-weaker, undone-settled, undone-since, accepted-status, accepted-settled}
+use Rattle.entry_store.specs.ProofsForStates.{accepted-since, weaker-accept, open-status, freed-status, freed-undone, freed-settled, freed-since}
 
-pub status-set : (has : Bool) (last : ℕ) (state : ℕ → Option State) (r : ℕ) (s : State) (q : ℕ) (c : Status) → (q ≡ r → status_by has last s ≡ c) → status_of has last (with_state state r s q) ≡ cond (eqb q r) c (status_of has last (state q))
+pub status-set : (has : Bool) (last : ℕ) (state : ℕ → Option State) (r : ℕ) (s : State) (q : ℕ) (c : Status) → (q ≡ r → status_by has last s ≡ c)
+    → status_of has last (with_state state r s q) ≡ cond (eqb q r) c (status_of has last (state q))
 status-set has last state r s q c is = elim (cases_eq q r) [
   | inl e ↦ subst (λ t. status_of has last (cond t (Some s) (state q)) ≡ cond t c (status_of has last (state q))) (sym (eq-eqb q r e)) (is e)
   | inr ne ↦ subst (λ t. status_of has last (cond t (Some s) (state q)) ≡ cond t c (status_of has last (state q))) (sym (ne_eqb q r ne)) refl
@@ -48,7 +50,8 @@ module _ {H : Type 0} (bits : ℕ) (work : WorkView H) (m : Records) (e : Entrie
     marks = λ b below. subst (λ x. is_mark_of (x.mark b) (work.buffer b) ≡ true) (sym same) (st.marks b below);
     sound = sound-weaker bits work m (statuses work.commits e) (statuses work.commits new) st.sound
         (λ q. subst (λ l. IsWeaker (status_of (has q) l (new.state q)) (statuses work.commits e q)) (sym (ap (λ x. x.last) same)) (weaker q));
-    since = λ q. subst (λ l. is_in_generation l new.generation (new.state q) ≡ true) (sym (ap (λ x. x.last) same)) (subst (λ g. is_in_generation e.last g (new.state q) ≡ true) (sym (ap (λ x. x.generation) same)) (since q));
+    since = λ q. subst (λ l. is_in_generation l new.generation (new.state q) ≡ true) (sym (ap (λ x. x.last) same))
+        (subst (λ g. is_in_generation e.last g (new.state q) ≡ true) (sym (ap (λ x. x.generation) same)) (since q));
     settled = settled;
     no_fresh = fresh;
     unread = st.unread;
@@ -147,7 +150,8 @@ module _ {H : Type 0} (bits : ℕ) (work : WorkView H) (m : Records) (e : Entrie
         }
 
 -- a reclaim
-module _ {H : Type 0} (bits : ℕ) (work : WorkView H) (m : Records) (e : EntriesView) (unit : Bool) (st : IsOver bits work m e unit) (next : WorkView H) (new : EntriesView) (answer : Oldest) (reclaims : Reclaims answer work next) (goes : LetsGo work.commits next.commits)
+module _ {H : Type 0} (bits : ℕ) (work : WorkView H) (m : Records) (e : EntriesView) (unit : Bool) (st : IsOver bits work m e unit) (next : WorkView H) (new : EntriesView) (answer : Oldest)
+    (reclaims : Reclaims answer work next) (goes : LetsGo work.commits next.commits)
     (knows : next ≡ reclaimed work next) (frees : Frees e new answer.generation) (order : IsInOrder next) where
   abbrev now-has : ℕ → Bool
   now-has q = is_in (last_image work.commits) q
@@ -188,14 +192,16 @@ module _ {H : Type 0} (bits : ℕ) (work : WorkView H) (m : Records) (e : Entrie
     marks = λ b inside.
         subst (λ f. is_mark_of (new.mark b) (f b) ≡ true) (sym reclaims.buffer)
         (subst (λ g. is_mark_of (new.mark b) (freed_below g (work.buffer b)) ≡ true) reclaims.generation
-        (subst (λ k. is_mark_of k (freed_below answer.generation (work.buffer b)) ≡ true) (sym (frees.mark b)) (marks-freed answer.generation (e.mark b) (work.buffer b) (st.marks b (subst (λ n. b < n) (ap (λ w. w.sizes.buffers) knows) inside)))));
+        (subst (λ k. is_mark_of k (freed_below answer.generation (work.buffer b)) ≡ true) (sym (frees.mark b))
+        (marks-freed answer.generation (e.mark b) (work.buffer b) (st.marks b (subst (λ n. b < n) (ap (λ w. w.sizes.buffers) knows) inside)))));
     sound = sound-reclaimed bits work next m (statuses work.commits e) st.sound reclaims.closed reclaims.left reclaims.queue goes order
         (λ b. ap (λ f. active_width (f b)) reclaims.buffer ∙ width-freed (oldest_of next.queue).generation (work.buffer b)) (ap (λ w. w.sizes) knows)
         (statuses next.commits new) (λ q. status-freed below q ∙ ap (λ g. free_below g (statuses work.commits e q)) reclaims.generation);
     since = λ q.
         subst (λ o. is_in_generation new.last new.generation o ≡ true) (sym (frees.state q))
         (subst (λ l. is_in_generation l new.generation (option_map (freed answer.generation) (e.state q)) ≡ true) (sym (ap (λ x. x.last) frees.same))
-        (subst (λ g. is_in_generation e.last g (option_map (freed answer.generation) (e.state q)) ≡ true) (sym (ap (λ x. x.generation) frees.same)) (freed-since e.last e.generation answer.generation (e.state q) (st.since q))));
+        (subst (λ g. is_in_generation e.last g (option_map (freed answer.generation) (e.state q)) ≡ true) (sym (ap (λ x. x.generation) frees.same))
+        (freed-since e.last e.generation answer.generation (e.state q) (st.since q))));
     settled = λ ended q. subst (λ o. is_settled_entry o ≡ true) (sym (frees.state q)) (freed-settled answer.generation (e.state q) (st.settled ended q));
     no_fresh = λ ended w. (frees.counts w).fresh ∙ st.no_fresh ended w;
     unread = unread;

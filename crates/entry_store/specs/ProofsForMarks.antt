@@ -1,6 +1,7 @@
 -- Nobody has to read this: lemmas that the proofs of the laws of `Store` cite.
 -- The buffers of the entries are those of the work.
-use Rattle.std.proofs.Common.{◌≡◌, ℕ, zero, suc, ◌+◌, ◌<◌, Bool, true, false, cond, eqb, ltb, Option, Some, refl, sym, ap, subst, ◌∙◌, arith}
+use Rattle.std.proofs.Common.{◌≡◌, ℕ, zero, suc, ◌+◌, ◌<◌, Bool, true, false, cond, eqb, ltb, Option, Some, refl, sym, ap, subst, ◌∙◌}
+use Rattle.std.proofs.Common.{arith}
 use Rattle.std.proofs.lemmas.Bool.{true≢false, false≢true, eq-eqb, eqb-true, and_parts, and_from}
 use Rattle.list_facts.specs.Counting.{one_if}
 use Rattle.buffer_states.specs.declared.BufferState.{BufferState}
@@ -40,43 +41,53 @@ mark-width mark (Buffer.free t) is = ap (λ s. cond (is_state_active s) mark.wid
 mark-width mark (Buffer.active w t) is =
     let both = and_parts (is_state_active mark.state) (eqb mark.width w) is in
     ap (λ s. cond (is_state_active s) mark.width 0) (state-active mark.state both.0) ∙ eqb-true mark.width w both.1
-mark-width mark (Buffer.held w t) is = ap (λ s. cond (is_state_active s) mark.width 0) (state-held mark.state (and_parts (is_on_hold mark.state) _ is).0)
+mark-width mark (Buffer.held w t) is = ap (λ s. cond (is_state_active s) mark.width 0)
+    (state-held mark.state (and_parts (is_on_hold mark.state) _ is).0)
 
 pub mark-free : (mark : Mark) (b : Buffer) → is_mark_of mark b ≡ true → is_state_free mark.state ≡ is_free_buffer b
 mark-free mark (Buffer.free t) is = ap is_state_free (state-free mark.state is)
-mark-free mark (Buffer.active w t) is = ap is_state_free (state-active mark.state (and_parts (is_state_active mark.state) (eqb mark.width w) is).0)
+mark-free mark (Buffer.active w t) is = ap is_state_free
+    (state-active mark.state (and_parts (is_state_active mark.state) (eqb mark.width w) is).0)
 mark-free mark (Buffer.held w t) is = ap is_state_free (state-held mark.state (and_parts (is_on_hold mark.state) _ is).0)
 
 pub mark-active : (mark : Mark) (b : Buffer) → is_mark_of mark b ≡ true → is_state_active mark.state ≡ is_active_buffer b
 mark-active mark (Buffer.free t) is = ap is_state_active (state-free mark.state is)
-mark-active mark (Buffer.active w t) is = ap is_state_active (state-active mark.state (and_parts (is_state_active mark.state) (eqb mark.width w) is).0)
+mark-active mark (Buffer.active w t) is = ap is_state_active
+    (state-active mark.state (and_parts (is_state_active mark.state) (eqb mark.width w) is).0)
 mark-active mark (Buffer.held w t) is = ap is_state_active (state-held mark.state (and_parts (is_on_hold mark.state) _ is).0)
 
 pub mark-held : (mark : Mark) (b : Buffer) → is_mark_of mark b ≡ true → is_on_hold mark.state ≡ is_held b
 mark-held mark (Buffer.free t) is = ap is_on_hold (state-free mark.state is)
-mark-held mark (Buffer.active w t) is = ap is_on_hold (state-active mark.state (and_parts (is_state_active mark.state) (eqb mark.width w) is).0)
+mark-held mark (Buffer.active w t) is = ap is_on_hold
+    (state-active mark.state (and_parts (is_state_active mark.state) (eqb mark.width w) is).0)
 mark-held mark (Buffer.held w t) is = ap is_on_hold (state-held mark.state (and_parts (is_on_hold mark.state) _ is).0)
 
 -- counts of marks are those of the buffers
-pub count-free : (mark : ℕ → Mark) (buffer : ℕ → Buffer) (n : ℕ) → ((b : ℕ) → b < n → is_mark_of (mark b) (buffer b) ≡ true) → count_marks is_state_free mark n ≡ free_count buffer n
+pub count-free : (mark : ℕ → Mark) (buffer : ℕ → Buffer) (n : ℕ) → ((b : ℕ) → b < n → is_mark_of (mark b) (buffer b) ≡ true)
+    → count_marks is_state_free mark n ≡ free_count buffer n
 count-free mark buffer zero all = refl
 count-free mark buffer (suc n) all =
     let rest = count-free mark buffer n (λ b low. all b (omega arith)) in
-    let here : one_if (is_state_free (mark n).state) ≡ one_if (is_free_buffer (buffer n)) = ap one_if (mark-free (mark n) (buffer n) (all n (omega arith))) in
+    let here : one_if (is_state_free (mark n).state) ≡ one_if (is_free_buffer (buffer n)) =
+    ap one_if (mark-free (mark n) (buffer n) (all n (omega arith))) in
     omega arith
 
-pub count-active : (mark : ℕ → Mark) (buffer : ℕ → Buffer) (n : ℕ) → ((b : ℕ) → b < n → is_mark_of (mark b) (buffer b) ≡ true) → count_marks is_state_active mark n ≡ active_count buffer n
+pub count-active : (mark : ℕ → Mark) (buffer : ℕ → Buffer) (n : ℕ) → ((b : ℕ) → b < n → is_mark_of (mark b) (buffer b) ≡ true)
+    → count_marks is_state_active mark n ≡ active_count buffer n
 count-active mark buffer zero all = refl
 count-active mark buffer (suc n) all =
     let rest = count-active mark buffer n (λ b low. all b (omega arith)) in
-    let here : one_if (is_state_active (mark n).state) ≡ one_if (is_active_buffer (buffer n)) = ap one_if (mark-active (mark n) (buffer n) (all n (omega arith))) in
+    let here : one_if (is_state_active (mark n).state) ≡ one_if (is_active_buffer (buffer n)) =
+    ap one_if (mark-active (mark n) (buffer n) (all n (omega arith))) in
     omega arith
 
-pub count-held : (mark : ℕ → Mark) (buffer : ℕ → Buffer) (n : ℕ) → ((b : ℕ) → b < n → is_mark_of (mark b) (buffer b) ≡ true) → count_marks is_on_hold mark n ≡ held_count buffer n
+pub count-held : (mark : ℕ → Mark) (buffer : ℕ → Buffer) (n : ℕ) → ((b : ℕ) → b < n → is_mark_of (mark b) (buffer b) ≡ true)
+    → count_marks is_on_hold mark n ≡ held_count buffer n
 count-held mark buffer zero all = refl
 count-held mark buffer (suc n) all =
     let rest = count-held mark buffer n (λ b low. all b (omega arith)) in
-    let here : one_if (is_on_hold (mark n).state) ≡ one_if (is_held (buffer n)) = ap one_if (mark-held (mark n) (buffer n) (all n (omega arith))) in
+    let here : one_if (is_on_hold (mark n).state) ≡ one_if (is_held (buffer n)) =
+    ap one_if (mark-held (mark n) (buffer n) (all n (omega arith))) in
     omega arith
 
 -- each buffer is free, active or on hold
@@ -91,23 +102,30 @@ count-all buffer (suc n) = let rest = count-all buffer n in let here = one-of (b
 
 -- a buffer is opened
 pub marks-opened : (mark : ℕ → Mark) (buffer : ℕ → Buffer) (b width : ℕ) (t : Option Tag) (a : ℕ) → is_mark_of (mark a) (buffer a) ≡ true
-    → is_mark_of (with_mark mark b (record { state = Active; width = width; generation = 0; sealed = false }) a) (with_buffer buffer b (Buffer.active width t) a) ≡ true
+    → is_mark_of (with_mark mark b (record { state = Active; width = width; generation = 0; sealed = false }) a)
+    (with_buffer buffer b (Buffer.active width t) a) ≡ true
 marks-opened mark buffer b width t a is = by_test (eqb a b)
   where
-    by_test : (u : Bool) → is_mark_of (cond u (record { state = Active; width = width; generation = 0; sealed = false }) (mark a)) (cond u (Buffer.active width t) (buffer a)) ≡ true
+    by_test : (u : Bool) → is_mark_of (cond u (record { state = Active; width = width; generation = 0; sealed = false }) (mark a))
+        (cond u (Buffer.active width t) (buffer a)) ≡ true
     by_test true = eq-eqb width width refl
     by_test false = is
 
 -- a buffer is retired
-pub marks-retired : (mark : ℕ → Mark) (buffer : ℕ → Buffer) (b : ℕ) (tag : Tag) (a : ℕ) → is_mark_of (mark a) (buffer a) ≡ true → is_mark_of (mark b) (buffer b) ≡ true → is_state_active (mark b).state ≡ true
-    → is_mark_of (with_mark mark b (record { state = OnHold; width = (mark b).width; generation = tag.generation; sealed = false }) a) (with_buffer buffer b (Buffer.held (active_width (buffer b)) tag) a) ≡ true
+pub marks-retired : (mark : ℕ → Mark) (buffer : ℕ → Buffer) (b : ℕ) (tag : Tag) (a : ℕ) → is_mark_of (mark a) (buffer a) ≡ true
+    → is_mark_of (mark b) (buffer b) ≡ true → is_state_active (mark b).state ≡ true
+    → is_mark_of (with_mark mark b (record { state = OnHold; width = (mark b).width; generation = tag.generation; sealed = false }) a)
+    (with_buffer buffer b (Buffer.held (active_width (buffer b)) tag) a) ≡ true
 marks-retired mark buffer b tag a is here active = by_test (eqb a b)
   where
     width : (mark b).width ≡ active_width (buffer b)
     width = sym (ap (λ t. cond t (mark b).width 0) active) ∙ mark-width (mark b) (buffer b) here
 
-    by_test : (u : Bool) → is_mark_of (cond u (record { state = OnHold; width = (mark b).width; generation = tag.generation; sealed = false }) (mark a)) (cond u (Buffer.held (active_width (buffer b)) tag) (buffer a)) ≡ true
-    by_test true = and_from (eqb (mark b).width (active_width (buffer b))) (eqb tag.generation tag.generation) (eq-eqb _ _ width) (eq-eqb tag.generation tag.generation refl)
+    by_test : (u : Bool) → is_mark_of (cond u
+        (record { state = OnHold; width = (mark b).width; generation = tag.generation; sealed = false }) (mark a))
+        (cond u (Buffer.held (active_width (buffer b)) tag) (buffer a)) ≡ true
+    by_test true = and_from (eqb (mark b).width (active_width (buffer b))) (eqb tag.generation tag.generation) (eq-eqb _ _ width)
+        (eq-eqb tag.generation tag.generation refl)
     by_test false = is
 
 -- what is tagged below a generation is free
@@ -116,16 +134,23 @@ freed-below : (below : Bool) (mark : Mark) (w : ℕ) (t : Tag) → is_mark_of ma
 freed-below true mark w t is = refl
 freed-below false mark w t is = is
 
-pub marks-freed : (oldest : ℕ) (mark : Mark) (b : Buffer) → is_mark_of mark b ≡ true → is_mark_of (freed_mark oldest mark) (freed_below oldest b) ≡ true
-marks-freed oldest mark (Buffer.free t) is = subst (λ s. is_state_free (cond (is_on_hold s) (cond (ltb mark.generation oldest) free_mark mark) mark).state ≡ true) (sym (state-free mark.state is)) is
+pub marks-freed : (oldest : ℕ) (mark : Mark) (b : Buffer) → is_mark_of mark b ≡ true
+    → is_mark_of (freed_mark oldest mark) (freed_below oldest b) ≡ true
+marks-freed oldest mark (Buffer.free t) is =
+    subst (λ s. is_state_free (cond (is_on_hold s) (cond (ltb mark.generation oldest) free_mark mark) mark).state ≡ true)
+    (sym (state-free mark.state is)) is
 marks-freed oldest mark (Buffer.active w t) is =
     let both = and_parts (is_state_active mark.state) (eqb mark.width w) is in
-    subst (λ s. is_mark_of (cond (is_on_hold s) (cond (ltb mark.generation oldest) free_mark mark) mark) (Buffer.active w t) ≡ true) (sym (state-active mark.state both.0)) is
+    subst (λ s. is_mark_of (cond (is_on_hold s) (cond (ltb mark.generation oldest) free_mark mark) mark) (Buffer.active w t) ≡ true)
+    (sym (state-active mark.state both.0)) is
 marks-freed oldest mark (Buffer.held w t) is =
     let both = and_parts (is_on_hold mark.state) _ is in
-    let same : mark.generation ≡ t.generation = eqb-true mark.generation t.generation (and_parts (eqb mark.width w) (eqb mark.generation t.generation) both.1).1 in
-    subst (λ s. is_mark_of (cond (is_on_hold s) (cond (ltb mark.generation oldest) free_mark mark) mark) (cond (ltb t.generation oldest) (Buffer.free (Some t)) (Buffer.held w t)) ≡ true) (sym (state-held mark.state both.0))
-    (subst (λ g. is_mark_of (cond (ltb g oldest) free_mark mark) (cond (ltb t.generation oldest) (Buffer.free (Some t)) (Buffer.held w t)) ≡ true) (sym same)
+    let same : mark.generation ≡ t.generation =
+    eqb-true mark.generation t.generation (and_parts (eqb mark.width w) (eqb mark.generation t.generation) both.1).1 in
+    subst (λ s. is_mark_of (cond (is_on_hold s) (cond (ltb mark.generation oldest) free_mark mark) mark)
+    (cond (ltb t.generation oldest) (Buffer.free (Some t)) (Buffer.held w t)) ≡ true) (sym (state-held mark.state both.0))
+    (subst (λ g. is_mark_of (cond (ltb g oldest) free_mark mark) (cond (ltb t.generation oldest) (Buffer.free (Some t)) (Buffer.held w t))
+    ≡ true) (sym same)
     (freed-below (ltb t.generation oldest) mark w t is))
 
 -- on hold after a reclaim is what was

@@ -1,6 +1,7 @@
 -- Nobody has to read this: lemmas that the proofs of the laws of `Store` cite.
 -- What becomes of the statuses of entries where their states change.
-use Rattle.std.proofs.Common.{◌≡◌, ◌⊎◌, ℕ, ◌≤◌, ◌+◌, Bool, true, false, cond, eqb, ltb, Option, Some, None, refl, sym, ap, subst, ◌∙◌, arith, inl, inr, not, option_map}
+use Rattle.std.proofs.Common.{◌≡◌, ◌⊎◌, ℕ, ◌≤◌, ◌+◌, Bool, true, false, cond, eqb, ltb, Option, Some, None, refl, sym, ap, subst, ◌∙◌}
+use Rattle.std.proofs.Common.{arith, inl, inr, not, option_map}
 use Rattle.std.specs.Prelude.{◌||◌}
 use Rattle.std.proofs.lemmas.Bool.{true≢false, false≢true, cond-true, cond-false, cases_eq, cases_Bool, eq-eqb, ne_eqb, eqb-true, ltb-true}
 use Rattle.buffer_shelf.specs.declared.state.State.{State}
@@ -8,7 +9,8 @@ use Rattle.buffer_shelf.specs.declared.state.State.TheVariants.{Free, Returned, 
 use Rattle.buffer_shelf.specs.States.{is_used, dropped, accepted, undone}
 use Rattle.image_base.specs.Records.{Records}
 use Rattle.arena_api.specs.Works.{WorkView, Tag}
-use Rattle.store_api.specs.Statuses.{Status, in_use, has_record, is_committed, is_uncommitted, is_open, is_let_go, after_drop, after_accept, free_below}
+use Rattle.store_api.specs.Statuses.{Status, in_use, has_record, is_committed, is_uncommitted, is_open, is_let_go, after_drop}
+use Rattle.store_api.specs.Statuses.{after_accept, free_below}
 use Rattle.entry_ledger.specs.Entries.{EntriesView, is_timely, is_open_entry, is_settled_entry}
 use Rattle.entry_ledger.specs.Calls.{with_state, freed}
 use Rattle.entry_store.specs.Standing.{status_by, status_of, back_of, is_in_generation, AreSoundStatuses}
@@ -35,12 +37,14 @@ pub record IsLess (new old : Status) : Type 0 where
 abbrev pub IsWeaker : Status → Status → Type 0
 IsWeaker new old = (new ≡ old) ⊎ IsLess new old
 
-less : {new old : Status} → implies (has_record new) (has_record old) ≡ true → implies (is_uncommitted new) (is_uncommitted old) ≡ true → implies (is_committed new) (is_committed old) ≡ true
+less : {new old : Status} → implies (has_record new) (has_record old) ≡ true → implies (is_uncommitted new) (is_uncommitted old) ≡ true
+    → implies (is_committed new) (is_committed old) ≡ true
     → is_held_status new ≡ false → IsWeaker new old
 less a b c d = inr (record { has = a; uncommitted = b; committed = c; unheld = d })
 
 -- what is so of weaker statuses
-pub sound-weaker : {H : Type 0} (bits : ℕ) (work : WorkView H) (m : Records) (s t : ℕ → Status) → AreSoundStatuses bits work m s → ((q : ℕ) → IsWeaker (t q) (s q)) → AreSoundStatuses bits work m t
+pub sound-weaker : {H : Type 0} (bits : ℕ) (work : WorkView H) (m : Records) (s t : ℕ → Status) → AreSoundStatuses bits work m s
+    → ((q : ℕ) → IsWeaker (t q) (s q)) → AreSoundStatuses bits work m t
 sound-weaker bits work m s t sound weaker = record {
   there = λ r h. sound.there r (elim (weaker r) [
     | inl e ↦ sym (ap has_record e) ∙ h
@@ -61,7 +65,8 @@ sound-weaker bits work m s t sound weaker = record {
 }
 
 -- a state that is set at one entry
-pub with_state-at : (P : Option State → Type 0) (state : ℕ → Option State) (r : ℕ) (s : State) (q : ℕ) → (q ≡ r → P (Some s)) → ((q ≡ r → ⊥) → P (state q)) → P (with_state state r s q)
+pub with_state-at : (P : Option State → Type 0) (state : ℕ → Option State) (r : ℕ) (s : State) (q : ℕ) → (q ≡ r → P (Some s))
+    → ((q ≡ r → ⊥) → P (state q)) → P (with_state state r s q)
 with_state-at P state r s q here other = elim (cases_eq q r) [
   | inl e ↦ subst P (sym (cond-true (eqb q r) (Some s) (state q) (eq-eqb q r e))) (here e)
   | inr ne ↦ subst P (sym (cond-false (eqb q r) (Some s) (state q) (ne_eqb q r ne))) (other ne)
@@ -81,7 +86,8 @@ in_use-used has last LetGo h = h
 in_use-used has last (DroppedNow after) h = h
 in_use-used has last (Dropped after g) h = in-use-used-held (eqb after last) _ h
 
-pub used-some : (has : Bool) (last : ℕ) (o : Option State) → in_use (status_of has last o) ≡ true → (s : State) × (o ≡ Some s) × (in_use (status_by has last s) ≡ true)
+pub used-some : (has : Bool) (last : ℕ) (o : Option State) → in_use (status_of has last o) ≡ true
+    → (s : State) × (o ≡ Some s) × (in_use (status_by has last s) ≡ true)
 used-some has last None h = absurd (false≢true h)
 used-some has last (Some s) h = (s, refl, h)
 
@@ -92,7 +98,8 @@ dropped-use true has last after h = less refl refl refl refl
 dropped-use false true last after h = less refl refl refl refl
 dropped-use false false last after h = absurd (false≢true h)
 
-pub dropped-weaker : (has : Bool) (last : ℕ) (s : State) → in_use (status_by has last s) ≡ true → IsWeaker (status_by has last (dropped last s)) (status_by has last s)
+pub dropped-weaker : (has : Bool) (last : ℕ) (s : State) → in_use (status_by has last s) ≡ true
+    → IsWeaker (status_by has last (dropped last s)) (status_by has last s)
 dropped-weaker has last Free h = absurd (false≢true h)
 dropped-weaker has last Returned h = absurd (false≢true h)
 dropped-weaker has last Made h = less refl refl refl refl
@@ -102,7 +109,8 @@ dropped-weaker has last (DroppedNow after) h = absurd (false≢true h)
 dropped-weaker has last (Dropped after g) h = absurd (false≢true (in-use-used-held (eqb after last) _ h))
 
 dropped-use-status : (t has : Bool) (last after : ℕ) → in_use (cond t Status.pending (cond has Status.live Status.left)) ≡ true
-    → status_by has last (cond t LetGo (DroppedNow after)) ≡ after_drop (cond t Status.pending (cond has Status.live Status.left)) (cond t Status.pending (cond has Status.live Status.left))
+    → status_by has last (cond t LetGo (DroppedNow after)) ≡ after_drop (cond t Status.pending (cond has Status.live Status.left))
+    (cond t Status.pending (cond has Status.live Status.left))
 dropped-use-status true has last after h = refl
 dropped-use-status false true last after h = refl
 dropped-use-status false false last after h = absurd (false≢true h)
@@ -130,7 +138,8 @@ dropped-back last LetGo used = absurd (false≢true used)
 dropped-back last (DroppedNow after) used = absurd (false≢true used)
 dropped-back last (Dropped after g) used = absurd (false≢true used)
 
-dropped-use-since : (t : Bool) (last generation after : ℕ) → is_in_generation last generation (Some (cond t LetGo (DroppedNow after))) ≡ true
+dropped-use-since : (t : Bool) (last generation after : ℕ)
+    → is_in_generation last generation (Some (cond t LetGo (DroppedNow after))) ≡ true
 dropped-use-since true last generation after = refl
 dropped-use-since false last generation after = refl
 
@@ -151,15 +160,18 @@ less-than-dropped : (has : Bool) → IsWeaker (cond has Status.live Status.left)
 less-than-dropped true = less refl refl refl refl
 less-than-dropped false = less refl refl refl refl
 
-pub undone-weaker : (has : Bool) (e : EntriesView) (s : State) → is_timely e s ≡ true → IsWeaker (status_by has e.last (undone e.last s)) (status_by has e.last s)
+pub undone-weaker : (has : Bool) (e : EntriesView) (s : State) → is_timely e s ≡ true
+    → IsWeaker (status_by has e.last (undone e.last s)) (status_by has e.last s)
 undone-weaker has e Free up = inl refl
 undone-weaker has e Returned up = inl refl
 undone-weaker has e Made up = less refl refl refl refl
 undone-weaker has e (InUse after) up = inl refl
 undone-weaker has e LetGo up =
-    subst (λ t. IsWeaker (cond t Status.pending (cond has Status.live Status.left)) Status.let_go) (sym (eq-eqb e.last e.last refl)) (less refl refl refl refl)
+    subst (λ t. IsWeaker (cond t Status.pending (cond has Status.live Status.left)) Status.let_go) (sym (eq-eqb e.last e.last refl))
+    (less refl refl refl refl)
 undone-weaker has e (DroppedNow after) up =
-    subst (λ t. IsWeaker (cond t Status.pending (cond has Status.live Status.left)) Status.dropped) (sym (ne_eqb after e.last (λ same. omega (arith, same, ltb-true after e.last up)))) (less-than-dropped has)
+    subst (λ t. IsWeaker (cond t Status.pending (cond has Status.live Status.left)) Status.dropped)
+    (sym (ne_eqb after e.last (λ same. omega (arith, same, ltb-true after e.last up)))) (less-than-dropped has)
 undone-weaker has e (Dropped after g) up = inl refl
 
 pub undone-settled : (last : ℕ) (o : Option State) → is_settled_entry (option_map (undone last) o) ≡ true
@@ -172,7 +184,8 @@ undone-settled last (Some LetGo) = refl
 undone-settled last (Some (DroppedNow after)) = refl
 undone-settled last (Some (Dropped after g)) = refl
 
-pub undone-since : (last generation : ℕ) (o : Option State) → is_in_generation last generation o ≡ true → is_in_generation last generation (option_map (undone last) o) ≡ true
+pub undone-since : (last generation : ℕ) (o : Option State) → is_in_generation last generation o ≡ true
+    → is_in_generation last generation (option_map (undone last) o) ≡ true
 undone-since last generation None h = refl
 undone-since last generation (Some Free) h = refl
 undone-since last generation (Some Returned) h = refl
@@ -194,7 +207,8 @@ untouched last (Some (DroppedNow after)) h = absurd (false≢true h)
 untouched last (Some (Dropped after g)) h = refl
 
 -- an accept
-accepted-use : (t has : Bool) → cond t Status.pending (cond has Status.live Status.left) ≡ after_accept (cond t Status.pending (cond has Status.live Status.left))
+accepted-use : (t has : Bool) → cond t Status.pending (cond has Status.live Status.left)
+    ≡ after_accept (cond t Status.pending (cond has Status.live Status.left))
 accepted-use true has = refl
 accepted-use false true = refl
 accepted-use false false = refl
@@ -203,7 +217,8 @@ accepted-held : (t : Bool) (tag : Tag) → cond t Status.dropped (Status.held ta
 accepted-held true tag = refl
 accepted-held false tag = refl
 
-pub accepted-status : (has : Bool) (last generation : ℕ) (o : Option State) → status_of has last (option_map (accepted last generation) o) ≡ after_accept (status_of has last o)
+pub accepted-status : (has : Bool) (last generation : ℕ) (o : Option State)
+    → status_of has last (option_map (accepted last generation) o) ≡ after_accept (status_of has last o)
 accepted-status has last generation None = refl
 accepted-status has last generation (Some Free) = refl
 accepted-status has last generation (Some Returned) = refl
@@ -227,7 +242,8 @@ or-right : (a b : Bool) → b ≡ true → (a || b) ≡ true
 or-right true b h = refl
 or-right false b h = h
 
-pub accepted-since : (last generation : ℕ) (o : Option State) → is_in_generation last generation o ≡ true → is_in_generation last generation (option_map (accepted last generation) o) ≡ true
+pub accepted-since : (last generation : ℕ) (o : Option State) → is_in_generation last generation o ≡ true
+    → is_in_generation last generation (option_map (accepted last generation) o) ≡ true
 accepted-since last generation None h = refl
 accepted-since last generation (Some Free) h = refl
 accepted-since last generation (Some Returned) h = refl
@@ -247,7 +263,8 @@ weaker-accept Status.let_go = less refl refl refl refl
 weaker-accept (Status.held tag) = inl refl
 weaker-accept Status.left = inl refl
 
-pub accepted-records : {A : Type 0} (c : Status) (ws none : A) → cond (has_record (after_accept c)) ws none ≡ cond (is_let_go c) none (cond (has_record c) ws none)
+pub accepted-records : {A : Type 0} (c : Status) (ws none : A)
+    → cond (has_record (after_accept c)) ws none ≡ cond (is_let_go c) none (cond (has_record c) ws none)
 accepted-records Status.unmade ws none = refl
 accepted-records Status.free ws none = refl
 accepted-records Status.pending ws none = refl
@@ -319,27 +336,35 @@ unmade-none has last (Some (Dropped after g)) e = absurd (held-made (eqb after l
 
 -- a reclaim
 freed-dropped : (t below : Bool) (has : Bool) (last after g generation : ℕ) → eqb after last ≡ t → (t ≡ true → below ≡ false)
-    → status_by has last (cond below Free (Dropped after g)) ≡ cond below (cond t Status.dropped Status.free) (cond t Status.dropped (Status.held (record { generation = g; commit = after + 1 })))
+    → status_by has last (cond below Free (Dropped after g)) ≡ cond below (cond t Status.dropped Status.free)
+    (cond t Status.dropped (Status.held (record { generation = g; commit = after + 1 })))
 freed-dropped true true has last after g generation e h = absurd (true≢false (h refl))
 freed-dropped false true has last after g generation e h = refl
-freed-dropped true false has last after g generation e h = ap (λ t. cond t Status.dropped (Status.held (record { generation = g; commit = after + 1 }))) e
-freed-dropped false false has last after g generation e h = ap (λ t. cond t Status.dropped (Status.held (record { generation = g; commit = after + 1 }))) e
+freed-dropped true false has last after g generation e h =
+    ap (λ t. cond t Status.dropped (Status.held (record { generation = g; commit = after + 1 }))) e
+freed-dropped false false has last after g generation e h =
+    ap (λ t. cond t Status.dropped (Status.held (record { generation = g; commit = after + 1 }))) e
 
 below-dropped : (t below : Bool) (g after generation : ℕ) → (t ≡ true → below ≡ false) → ltb g generation ≡ below
     → free_below generation (cond t Status.dropped (Status.held (record { generation = g; commit = after + 1 })))
     ≡ cond below (cond t Status.dropped Status.free) (cond t Status.dropped (Status.held (record { generation = g; commit = after + 1 })))
 below-dropped true true g after generation h e = absurd (true≢false (h refl))
 below-dropped true false g after generation h e = refl
-below-dropped false true g after generation h e = ap (λ b. cond b Status.free (Status.held (record { generation = g; commit = after + 1 }))) e
-below-dropped false false g after generation h e = ap (λ b. cond b Status.free (Status.held (record { generation = g; commit = after + 1 }))) e
+below-dropped false true g after generation h e =
+    ap (λ b. cond b Status.free (Status.held (record { generation = g; commit = after + 1 }))) e
+below-dropped false false g after generation h e =
+    ap (λ b. cond b Status.free (Status.held (record { generation = g; commit = after + 1 }))) e
 
-free-use : (t has : Bool) (generation : ℕ) → cond t Status.pending (cond has Status.live Status.left) ≡ free_below generation (cond t Status.pending (cond has Status.live Status.left))
+free-use : (t has : Bool) (generation : ℕ)
+    → cond t Status.pending (cond has Status.live Status.left)
+    ≡ free_below generation (cond t Status.pending (cond has Status.live Status.left))
 free-use true has generation = refl
 free-use false true generation = refl
 free-use false false generation = refl
 
 -- what was dropped since the last commit is tagged at the current generation, and so is not freed
-since-above : (last current after g generation : ℕ) → is_in_generation last current (Some (Dropped after g)) ≡ true → generation ≤ current → eqb after last ≡ true → ltb g generation ≡ false
+since-above : (last current after g generation : ℕ) → is_in_generation last current (Some (Dropped after g)) ≡ true → generation ≤ current
+    → eqb after last ≡ true → ltb g generation ≡ false
 since-above last current after g generation h low e = elim (cases_Bool (ltb g generation)) [
   | inl b ↦ absurd (omega (arith, low, ltb-true g generation b, eqb-true g current (or-left (eqb after last) (eqb g current) e h)))
   | inr b ↦ b
@@ -349,7 +374,8 @@ since-above last current after g generation h low e = elim (cases_Bool (ltb g ge
     or-left true b e f = f
     or-left false b e f = absurd (false≢true e)
 
-pub freed-status : (has : Bool) (last current generation : ℕ) (o : Option State) → is_in_generation last current o ≡ true → generation ≤ current
+pub freed-status : (has : Bool) (last current generation : ℕ) (o : Option State) → is_in_generation last current o ≡ true
+    → generation ≤ current
     → status_of has last (option_map (freed generation) o) ≡ free_below generation (status_of has last o)
 freed-status has last current generation None since low = refl
 freed-status has last current generation (Some Free) since low = refl
@@ -359,15 +385,19 @@ freed-status has last current generation (Some (InUse after)) since low = free-u
 freed-status has last current generation (Some LetGo) since low = refl
 freed-status has last current generation (Some (DroppedNow after)) since low = refl
 freed-status has last current generation (Some (Dropped after g)) since low =
-    freed-dropped (eqb after last) (ltb g generation) has last after g generation refl (since-above last current after g generation since low)
-    ∙ sym (below-dropped (eqb after last) (ltb g generation) g after generation (since-above last current after g generation since low) refl)
+    freed-dropped (eqb after last) (ltb g generation) has last after g generation refl
+    (since-above last current after g generation since low)
+    ∙ sym (below-dropped (eqb after last) (ltb g generation) g after generation
+    (since-above last current after g generation since low) refl)
 
 -- it is the same of what an undo gives back
-freed-undone-dropped : (below : Bool) (last after g : ℕ) → option_map (undone last) (Some (cond below Free (Dropped after g))) ≡ Some (cond below Free (Dropped after g))
+freed-undone-dropped : (below : Bool) (last after g : ℕ)
+    → option_map (undone last) (Some (cond below Free (Dropped after g))) ≡ Some (cond below Free (Dropped after g))
 freed-undone-dropped true last after g = refl
 freed-undone-dropped false last after g = refl
 
-pub freed-undone : (last generation : ℕ) (o : Option State) → option_map (undone last) (option_map (freed generation) o) ≡ option_map (freed generation) (option_map (undone last) o)
+pub freed-undone : (last generation : ℕ) (o : Option State)
+    → option_map (undone last) (option_map (freed generation) o) ≡ option_map (freed generation) (option_map (undone last) o)
 freed-undone last generation None = refl
 freed-undone last generation (Some Free) = refl
 freed-undone last generation (Some Returned) = refl
@@ -381,7 +411,8 @@ settled-dropped : (below : Bool) (after g : ℕ) → is_settled_entry (Some (con
 settled-dropped true after g = refl
 settled-dropped false after g = refl
 
-pub freed-settled : (generation : ℕ) (o : Option State) → is_settled_entry o ≡ true → is_settled_entry (option_map (freed generation) o) ≡ true
+pub freed-settled : (generation : ℕ) (o : Option State) → is_settled_entry o ≡ true
+    → is_settled_entry (option_map (freed generation) o) ≡ true
 freed-settled generation None h = refl
 freed-settled generation (Some Free) h = h
 freed-settled generation (Some Returned) h = h
@@ -391,11 +422,13 @@ freed-settled generation (Some LetGo) h = h
 freed-settled generation (Some (DroppedNow after)) h = h
 freed-settled generation (Some (Dropped after g)) h = settled-dropped (ltb g generation) after g
 
-since-dropped : (below : Bool) (last current after g : ℕ) → is_in_generation last current (Some (Dropped after g)) ≡ true → is_in_generation last current (Some (cond below Free (Dropped after g))) ≡ true
+since-dropped : (below : Bool) (last current after g : ℕ) → is_in_generation last current (Some (Dropped after g)) ≡ true
+    → is_in_generation last current (Some (cond below Free (Dropped after g))) ≡ true
 since-dropped true last current after g h = refl
 since-dropped false last current after g h = h
 
-pub freed-since : (last current generation : ℕ) (o : Option State) → is_in_generation last current o ≡ true → is_in_generation last current (option_map (freed generation) o) ≡ true
+pub freed-since : (last current generation : ℕ) (o : Option State) → is_in_generation last current o ≡ true
+    → is_in_generation last current (option_map (freed generation) o) ≡ true
 freed-since last current generation None h = refl
 freed-since last current generation (Some Free) h = refl
 freed-since last current generation (Some Returned) h = refl

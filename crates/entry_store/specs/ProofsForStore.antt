@@ -1,5 +1,6 @@
 -- Nobody has to read this: proofs of the laws of `Store`, which an implementation can cite from specs/ alone.
-use Rattle.std.proofs.Common.{◌≡◌, ℕ, zero, suc, ◌+◌, ◌*◌, ◌/◌, ◌<◌, ◌≤◌, Bool, true, false, cond, eqb, List, [], ◌∷◌, length, Option, Some, None, refl, sym, ap, subst, ◌∙◌, arith}
+use Rattle.std.proofs.Common.{◌≡◌, ℕ, zero, suc, ◌+◌, ◌*◌, ◌/◌, ◌<◌, ◌≤◌, Bool, true, false, cond, eqb, List, [], ◌∷◌, length, Option}
+use Rattle.std.proofs.Common.{Some, None, refl, sym, ap, subst, ◌∙◌, arith}
 use Rattle.std.specs.List.{IsDistinct, All, AllByRecursion}
 use Rattle.std.proofs.lemmas.List.Elements.{All-head, All-tail, All-from_recursion}
 use Rattle.std.proofs.Common.{inl, inr, leb}
@@ -14,7 +15,8 @@ use Rattle.image_base.specs.Images.{words_at}
 use Rattle.arena_api.specs.Works.{WorkView, Tag, active_width, free_count, last_image}
 use Rattle.arena_api.specs.Calls.{FitsEntry, InNoCommit}
 use Rattle.store_api.specs.Statuses.{Status, in_use, has_record, is_taken, is_committed, is_uncommitted}
-use Rattle.store_api.specs.Ledgers.{IsSettled, IsEntryOf, IsSpare, IsHeldEntry, IsUnfilled, is_this, is_in, is_width, buffers_in, widths, capacity}
+use Rattle.store_api.specs.Ledgers.{IsSettled, IsEntryOf, IsSpare, IsHeldEntry, IsUnfilled, is_this, is_in, is_width, buffers_in, widths}
+use Rattle.store_api.specs.Ledgers.{capacity}
 use Rattle.store_api.proofs.Counting.{few_entries, few_nodes}
 use Rattle.buffer_states.specs.declared.BufferState.{BufferState}
 use Rattle.buffer_states.specs.Buffers.{is_state_free, is_state_active}
@@ -70,7 +72,8 @@ use-held true has tag e = (cc)
 use-held false true tag e = (cc)
 use-held false false tag e = (cc)
 
-held-dropped : (t : Bool) (after last g : ℕ) (tag : Tag) → eqb after last ≡ t → cond t Status.dropped (Status.held (tag_at g after)) ≡ Status.held tag → (eqb after last ≡ false) × (tag_at g after ≡ tag)
+held-dropped : (t : Bool) (after last g : ℕ) (tag : Tag) → eqb after last ≡ t
+    → cond t Status.dropped (Status.held (tag_at g after)) ≡ Status.held tag → (eqb after last ≡ false) × (tag_at g after ≡ tag)
 held-dropped true after last g tag is e = absurd (cc)
 held-dropped false after last g tag is e = (is, ap (tag-in tag) e)
 
@@ -100,31 +103,39 @@ module _ {H : Type 0} (bits : ℕ) (work : WorkView H) (m : Records) (e : Entrie
   records r = cond (has_record (statuses work.commits e r)) (m r) []
 
   -- an entry of the entries is one of the work
-  pub entry-inside : (r : ℕ) (s : State) → e.state r ≡ Some s → IsEntry bits work.sizes.buffers work.sizes.words (active_width (work.buffer (buffer_of bits r))) r
+  pub entry-inside : (r : ℕ) (s : State) → e.state r ≡ Some s
+      → IsEntry bits work.sizes.buffers work.sizes.words (active_width (work.buffer (buffer_of bits r))) r
   entry-inside r s is =
       let entry = st.good.entries r s is in
       let inside : buffer_of bits r < work.sizes.buffers = subst (λ n. buffer_of bits r < n) st.count entry.inside in
       subst (λ n. IsEntry bits n work.sizes.words (active_width (work.buffer (buffer_of bits r))) r) st.count
       (subst (λ n. IsEntry bits e.count n (active_width (work.buffer (buffer_of bits r))) r) st.words
-      (subst (λ n. IsEntry bits e.count e.words n r) (mark-width (e.mark (buffer_of bits r)) (work.buffer (buffer_of bits r)) (st.marks (buffer_of bits r) inside)) entry))
+      (subst (λ n. IsEntry bits e.count e.words n r)
+      (mark-width (e.mark (buffer_of bits r)) (work.buffer (buffer_of bits r)) (st.marks (buffer_of bits r) inside)) entry))
 
   pub store_references : ((r : ℕ) → 0 < length (m r) → r < 4294967296) → (r : ℕ) → 0 < length (records r) → r < 4294967296
   store_references small r some = small r (some_filtered _ _ some).1
 
-  pub store_recorded : (r : ℕ) → (has_record (status r) ≡ true → 0 < length (records r)) × (0 < length (records r) → has_record (status r) ≡ true)
-  store_recorded r =
-      (λ h. subst (λ ws. 0 < length ws) (sym (cond-true (has_record (status r)) (m r) [] h)) (st.sound.there r h), λ some. (some_filtered (has_record (status r)) (m r) some).0)
+  pub store_recorded : (r : ℕ) → (has_record (status r) ≡ true → 0 < length (records r))
+      × (0 < length (records r) → has_record (status r) ≡ true)
+  store_recorded r = (
+    λ h. subst (λ ws. 0 < length ws) (sym (cond-true (has_record (status r)) (m r) [] h)) (st.sound.there r h),
+    λ some. (some_filtered (has_record (status r)) (m r) some).0,
+  )
 
-  pub store_placed : ((r : ℕ) → 0 < length (m r) → FitsEntry bits work.sizes (active_width (work.buffer (buffer_of bits r))) r (length (m r)))
+  pub store_placed : ((r : ℕ) → 0 < length (m r)
+      → FitsEntry bits work.sizes (active_width (work.buffer (buffer_of bits r))) r (length (m r)))
       → (r : ℕ) → 0 < length (records r) → FitsEntry bits work.sizes (active_width (work.buffer (buffer_of bits r))) r (length (records r))
   store_placed fits r some =
       let both = some_filtered (has_record (status r)) (m r) some in
-      subst (λ ws. FitsEntry bits work.sizes (active_width (work.buffer (buffer_of bits r))) r (length ws)) (sym (cond-true (has_record (status r)) (m r) [] both.0)) (fits r both.1)
+      subst (λ ws. FitsEntry bits work.sizes (active_width (work.buffer (buffer_of bits r))) r (length ws))
+      (sym (cond-true (has_record (status r)) (m r) [] both.0)) (fits r both.1)
 
   pub store_taken : (r : ℕ) → is_taken (status r) ≡ true → IsEntryOf bits work r
   store_taken r taken = by_state (e.state r) refl taken
     where
-      by_state : (o : Option State) → e.state r ≡ o → is_taken (status_of (is_in (last_image work.commits) r) e.last o) ≡ true → IsEntryOf bits work r
+      by_state : (o : Option State) → e.state r ≡ o → is_taken (status_of (is_in (last_image work.commits) r) e.last o) ≡ true
+          → IsEntryOf bits work r
       by_state None is h = absurd (false≢true h)
       by_state (Some s) is h = entry-inside r s is
 
@@ -139,7 +150,8 @@ module _ {H : Type 0} (bits : ℕ) (work : WorkView H) (m : Records) (e : Entrie
       (subst (λ n. IsEntry bits work.sizes.buffers n (width_of e (buffer_of bits r)) r) (sym st.words)
       (subst (λ n. IsEntry bits work.sizes.buffers work.sizes.words n r) (sym (width-of (buffer_of bits r) entry.inside)) entry))
 
-  pub store_filled : (r : ℕ) → IsEntryOf bits work r → status r ≡ Status.unmade → (e.of_width (active_width (work.buffer (buffer_of bits r)))).filled ≡ Some (buffer_of bits r)
+  pub store_filled : (r : ℕ) → IsEntryOf bits work r → status r ≡ Status.unmade
+      → (e.of_width (active_width (work.buffer (buffer_of bits r)))).filled ≡ Some (buffer_of bits r)
   store_filled r entry none =
       subst (λ n. (e.of_width n).filled ≡ Some (buffer_of bits r)) (width-of (buffer_of bits r) entry.inside)
       (st.good.filled r (entry-of r entry) (unmade-none (is_in (last_image work.commits) r) e.last (e.state r) none))
@@ -154,15 +166,19 @@ module _ {H : Type 0} (bits : ℕ) (work : WorkView H) (m : Records) (e : Entrie
         unsealed = spare.unsealed;
       }
 
-  each-spare : (shape width : ℕ) (refs : List ℕ) → All (IsSpare bits (ledger_of bits work shape m e unit) width) refs → AllByRecursion (IsSpareEntry bits e width) refs
+  each-spare : (shape width : ℕ) (refs : List ℕ) → All (IsSpare bits (ledger_of bits work shape m e unit) width) refs
+      → AllByRecursion (IsSpareEntry bits e width) refs
   each-spare shape width [] all = tt
-  each-spare shape width (r ∷ rs) all =
-      (spare-entry shape width r (All-head (IsSpare bits (ledger_of bits work shape m e unit) width) r rs all), each-spare shape width rs (All-tail (IsSpare bits (ledger_of bits work shape m e unit) width) r rs all))
+  each-spare shape width (r ∷ rs) all = (
+    spare-entry shape width r (All-head (IsSpare bits (ledger_of bits work shape m e unit) width) r rs all),
+    each-spare shape width rs (All-tail (IsSpare bits (ledger_of bits work shape m e unit) width) r rs all),
+  )
 
   -- an active buffer has one of the widths
   width-is : (r : ℕ) (width : ℕ) → IsSpareEntry bits e width r → is_width width ≡ true
   width-is r width spare = elim (cases_Bool (is_state_active (e.mark (buffer_of bits r)).state)) [
-    | inl t ↦ (let same : (e.mark (buffer_of bits r)).width ≡ width = sym (ap (λ u. cond u (e.mark (buffer_of bits r)).width 0) t) ∙ spare.of_width in
+    | inl t ↦ (let same : (e.mark (buffer_of bits r)).width ≡ width = sym (ap (λ u. cond u (e.mark (buffer_of bits r)).width 0) t)
+        ∙ spare.of_width in
         ap is_width (sym same) ∙ (st.good.marks (buffer_of bits r)).width (active-busy _ t))
     | inr t ↦ (let wide = spare.entry.wide in
         let none : 0 ≡ width = sym (ap (λ u. cond u (e.mark (buffer_of bits r)).width 0) t) ∙ spare.of_width in absurd (omega arith))
@@ -173,7 +189,8 @@ module _ {H : Type 0} (bits : ℕ) (work : WorkView H) (m : Records) (e : Entrie
       active-busy BufferState.Active h = refl
       active-busy BufferState.OnHold h = absurd (false≢true h)
 
-  pub store_spares : (shape width : ℕ) (refs : List ℕ) → IsDistinct eqb refs → All (IsSpare bits (ledger_of bits work shape m e unit) width) refs → length refs ≤ (e.of_width width).spare
+  pub store_spares : (shape width : ℕ) (refs : List ℕ) → IsDistinct eqb refs
+      → All (IsSpare bits (ledger_of bits work shape m e unit) width) refs → length refs ≤ (e.of_width width).spare
   store_spares shape width [] distinct all = omega arith
   store_spares shape width (r ∷ rs) distinct all =
       let each = each-spare shape width (r ∷ rs) all in
@@ -220,11 +237,13 @@ module _ {H : Type 0} (bits : ℕ) (work : WorkView H) (m : Records) (e : Entrie
   store_sealed shape b is =
       let sealed = st.good.sealed b is in
       let below : b < work.sizes.buffers = subst (λ n. b < n) st.count sealed.below in
-      let wide : (e.mark b).width ≡ active_width (work.buffer b) = sym (ap (λ u. cond u (e.mark b).width 0) sealed.active) ∙ width-of b below in
+      let wide : (e.mark b).width ≡ active_width (work.buffer b) = sym (ap (λ u. cond u (e.mark b).width 0) sealed.active)
+      ∙ width-of b below in
       record {
         below = below;
         active = subst (λ n. 0 < n) wide (wide-some (e.mark b).width ((st.good.marks b).width (active-busy _ sealed.active)));
-        unfilled = unfilled-from (e.of_width (active_width (work.buffer b))).filled (λ h. sealed.unfilled (ap (λ n. (e.of_width n).filled) wide ∙ h));
+        unfilled = unfilled-from (e.of_width (active_width (work.buffer b))).filled
+            (λ h. sealed.unfilled (ap (λ n. (e.of_width n).filled) wide ∙ h));
       }
     where
       active-busy : (s : BufferState) → is_state_active s ≡ true → is_state_free s ≡ false
@@ -245,7 +264,8 @@ module _ {H : Type 0} (bits : ℕ) (work : WorkView H) (m : Records) (e : Entrie
 
   pub store_counted : free_count work.buffer work.sizes.buffers + buffers_in e.of_width widths ≡ work.sizes.buffers
   store_counted =
-      let free : count_marks is_state_free e.mark work.sizes.buffers ≡ free_count work.buffer work.sizes.buffers = count-free e.mark work.buffer work.sizes.buffers st.marks in
+      let free : count_marks is_state_free e.mark work.sizes.buffers ≡ free_count work.buffer work.sizes.buffers =
+      count-free e.mark work.buffer work.sizes.buffers st.marks in
       let whole : count_marks is_state_free e.mark work.sizes.buffers + buffers_in e.of_width widths ≡ work.sizes.buffers =
       subst (λ n. count_marks is_state_free e.mark n + buffers_in e.of_width widths ≡ n) st.count st.good.whole in
       omega arith
@@ -253,7 +273,8 @@ module _ {H : Type 0} (bits : ℕ) (work : WorkView H) (m : Records) (e : Entrie
   pub store_few_buffers : (w : ℕ) → is_width w ≡ true → (e.of_width w).buffers ≤ 1 + (e.of_width w).made / capacity work.sizes.words w
   store_few_buffers w is = subst (λ n. (e.of_width w).buffers ≤ 1 + (e.of_width w).made / capacity n w) st.words (st.good.few w is)
 
-  entries-each : ((r : ℕ) → 0 < length (m r) → FitsEntry bits work.sizes (active_width (work.buffer (buffer_of bits r))) r (length (m r))) → (w : ℕ) → 0 < w
+  entries-each : ((r : ℕ) → 0 < length (m r) → FitsEntry bits work.sizes (active_width (work.buffer (buffer_of bits r))) r (length (m r)))
+      → (w : ℕ) → 0 < w
       → (refs : List ℕ) → All (λ r. length (records r) ≡ w) refs → AllByRecursion (IsEntry bits work.sizes.buffers work.sizes.words w) refs
   entries-each fits w wide [] all = tt
   entries-each fits w wide (r ∷ rs) all = (one, entries-each fits w wide rs (All-tail (λ q. length (records q) ≡ w) r rs all))
@@ -266,12 +287,15 @@ module _ {H : Type 0} (bits : ℕ) (work : WorkView H) (m : Records) (e : Entrie
           let fit = store_placed fits r (omega (arith, long, wide)) in
           subst (λ n. IsEntry bits work.sizes.buffers work.sizes.words n r) (sym fit.whole ∙ long) fit.entry
 
-  pub store_few_records : ((r : ℕ) → 0 < length (m r) → FitsEntry bits work.sizes (active_width (work.buffer (buffer_of bits r))) r (length (m r))) → (w : ℕ) (refs : List ℕ) → 0 < w
+  pub store_few_records : ((r : ℕ) → 0 < length (m r)
+      → FitsEntry bits work.sizes (active_width (work.buffer (buffer_of bits r))) r (length (m r))) → (w : ℕ) (refs : List ℕ) → 0 < w
       → IsDistinct eqb refs → All (λ r. length (records r) ≡ w) refs → length refs ≤ work.sizes.buffers * capacity work.sizes.words w
   store_few_records fits w refs wide distinct all =
       few_entries bits work.sizes.buffers work.sizes.words w refs distinct (entries-each fits w wide refs all)
 
-  pub store_few_nodes : ((r : ℕ) → 0 < length (m r) → FitsEntry bits work.sizes (active_width (work.buffer (buffer_of bits r))) r (length (m r))) → work.sizes.buffers * work.sizes.words ≤ 67108864
+  pub store_few_nodes : ((r : ℕ) → 0 < length (m r)
+      → FitsEntry bits work.sizes (active_width (work.buffer (buffer_of bits r))) r (length (m r)))
+      → work.sizes.buffers * work.sizes.words ≤ 67108864
       → (refs : List ℕ) → IsDistinct eqb refs → All (λ r. length (records r) ≡ 34) refs → length refs ≤ 1973790
   store_few_nodes fits total refs distinct all =
       omega (arith, store_few_records fits 34 refs (omega arith) distinct all, few_nodes work.sizes.buffers work.sizes.words total)

@@ -1,5 +1,6 @@
 -- What a store shows of its work and its entries, and what is always so of them.
-use Rattle.std.specs.Prelude.{◌≡◌, ℕ, ◌+◌, ◌<◌, ◌≤◌, Bool, true, false, ◌&&◌, ◌||◌, not, nat_eq, nat_lt, nat_le, if◌then◌else◌, List, [], ◌∷◌, length, Option, Some, None, option_map}
+use Rattle.std.specs.Prelude.{◌≡◌, ℕ, ◌+◌, ◌<◌, ◌≤◌, Bool, true, false, ◌&&◌, ◌||◌, not, nat_eq, nat_lt, nat_le, if◌then◌else◌, List, []}
+use Rattle.std.specs.Prelude.{◌∷◌, length, Option, Some, None, option_map}
 use Rattle.entry_ref.specs.References.{buffer_of}
 use Rattle.image_base.specs.Images.{words_at}
 use Rattle.image_base.specs.Records.{Records, with_words}
@@ -127,7 +128,8 @@ pub record Stands {H : Type 0} (bits : ℕ) (work : WorkView H) (m : Records) (e
   pub unread : (b : ℕ) → b < work.sizes.buffers → work.made ≡ 0 → current work < work.sizes.generations → is_held (work.buffer b) ≡ false
 
 -- an entry is taken, and its record is put into the work
-pub record Puts {H : Type 0} (bits : ℕ) (old new : WorkView H) (m n : Records) (before after : EntriesView) (width : ℕ) (words : List ℕ) (r : ℕ) : Type 0 where
+pub record Puts {H : Type 0} (bits : ℕ) (old new : WorkView H) (m n : Records) (before after : EntriesView) (width : ℕ) (words : List ℕ)
+    (r : ℕ) : Type 0 where
   pub can : CanTake bits before width r
   pub made : after ≡ made_at before width r
   pub work : new ≡ record old { stored = new.stored }

@@ -13,7 +13,8 @@ ghost use Rattle.entry_ref.specs.References.{buffer_of};
 ghost use Rattle.entry_ledger.specs.Ledgers.{entries_of};
 ghost use Rattle.entry_ledger.specs.Entries.{IsGood, is_settled_entry, is_dropped_since};
 ghost use Rattle.entry_store.specs.Standing.{Stands, statuses, records_by_status, ledger_of};
-ghost use Rattle.entry_store.specs.Steps.{TakesOne, OpensBuffer, MakesOpened, TellsOldest, FullAs, Publishes, EndsCommit, retired_by, generation_by};
+ghost use Rattle.entry_store.specs.Steps.{TakesOne, OpensBuffer, MakesOpened, TellsOldest, FullAs, Publishes, EndsCommit, retired_by};
+ghost use Rattle.entry_store.specs.Steps.{generation_by};
 
 use arena_api::{Advance, Oldest, Work};
 use entry_ledger::EntryLedger;
@@ -95,7 +96,8 @@ impl<const OFFSET_BITS: u32, W: Work<OFFSET_BITS>> EntryStore<OFFSET_BITS, W> {
         requires width { is_width width ≡ true }
         requires fits { length words.now ≤ width }
         ensures none { IfNone result (((⟦<EntryStore<OFFSET_BITS, W> as Store<OFFSET_BITS>>⟧.ledger self.old).of_width width).spare ≡ 0) }
-        ensures some { IfSome result (λ r. 0 < ((⟦<EntryStore<OFFSET_BITS, W> as Store<OFFSET_BITS>>⟧.ledger self.old).of_width width).spare) }
+        ensures some { IfSome result (λ r. 0
+            < ((⟦<EntryStore<OFFSET_BITS, W> as Store<OFFSET_BITS>>⟧.ledger self.old).of_width width).spare) }
         ensures left { IfNone result (self.new ≡ self.old) }
         ensures takes { IfSome result (TakesOne OFFSET_BITS (⟦<EntryStore<OFFSET_BITS, W> as Store<OFFSET_BITS>>⟧.ledger self.old)
             (⟦<EntryStore<OFFSET_BITS, W> as Store<OFFSET_BITS>>⟧.ledger self.new)
@@ -158,9 +160,11 @@ impl<const OFFSET_BITS: u32, W: Work<OFFSET_BITS>> EntryStore<OFFSET_BITS, W> {
             (⟦<EntryStore<OFFSET_BITS, W> as Frozen<OFFSET_BITS>>⟧.records self.new) width words.now) }
         ensures full { IfErr result (FullAs (W.knows self.old.work) width oldest) }
         ensures refused { OnErr result
-            (⟦<EntryStore<OFFSET_BITS, W> as Store<OFFSET_BITS>>⟧.ledger self.new ≡ ⟦<EntryStore<OFFSET_BITS, W> as Store<OFFSET_BITS>>⟧.ledger self.old) }
+            (⟦<EntryStore<OFFSET_BITS, W> as Store<OFFSET_BITS>>⟧.ledger self.new
+            ≡ ⟦<EntryStore<OFFSET_BITS, W> as Store<OFFSET_BITS>>⟧.ledger self.old) }
         ensures left { OnErr result
-            (⟦<EntryStore<OFFSET_BITS, W> as Frozen<OFFSET_BITS>>⟧.records self.new ≡ ⟦<EntryStore<OFFSET_BITS, W> as Frozen<OFFSET_BITS>>⟧.records self.old) }
+            (⟦<EntryStore<OFFSET_BITS, W> as Frozen<OFFSET_BITS>>⟧.records self.new
+            ≡ ⟦<EntryStore<OFFSET_BITS, W> as Frozen<OFFSET_BITS>>⟧.records self.old) }
         ensures may { MayDo (⟦<EntryStore<OFFSET_BITS, W> as Store<OFFSET_BITS>>⟧.ledger self.old)
             (⟦<EntryStore<OFFSET_BITS, W> as Store<OFFSET_BITS>>⟧.ledger self.new) }
     {
@@ -189,7 +193,8 @@ impl<const OFFSET_BITS: u32, W: Work<OFFSET_BITS>> EntryStore<OFFSET_BITS, W> {
         ensures refused { OnErr result (MayGiveBack (⟦<EntryStore<OFFSET_BITS, W> as Store<OFFSET_BITS>>⟧.ledger self.old)
             (⟦<EntryStore<OFFSET_BITS, W> as Store<OFFSET_BITS>>⟧.ledger self.new)) }
         ensures left { OnErr result
-            (⟦<EntryStore<OFFSET_BITS, W> as Frozen<OFFSET_BITS>>⟧.records self.new ≡ ⟦<EntryStore<OFFSET_BITS, W> as Frozen<OFFSET_BITS>>⟧.records self.old) }
+            (⟦<EntryStore<OFFSET_BITS, W> as Frozen<OFFSET_BITS>>⟧.records self.new
+            ≡ ⟦<EntryStore<OFFSET_BITS, W> as Frozen<OFFSET_BITS>>⟧.records self.old) }
         ensures may { MayDo (⟦<EntryStore<OFFSET_BITS, W> as Store<OFFSET_BITS>>⟧.ledger self.old)
             (⟦<EntryStore<OFFSET_BITS, W> as Store<OFFSET_BITS>>⟧.ledger self.new) }
     {
@@ -239,7 +244,8 @@ impl<const OFFSET_BITS: u32, W: Work<OFFSET_BITS>> EntryStore<OFFSET_BITS, W> {
         ensures ends { EndsCommit OFFSET_BITS (⟦<EntryStore<OFFSET_BITS, W> as Store<OFFSET_BITS>>⟧.ledger self.old)
             (⟦<EntryStore<OFFSET_BITS, W> as Store<OFFSET_BITS>>⟧.ledger self.new) result }
         ensures number { result.commit ≡ commit }
-        ensures records { ⟦<EntryStore<OFFSET_BITS, W> as Frozen<OFFSET_BITS>>⟧.records self.new ≡ ⟦<EntryStore<OFFSET_BITS, W> as Frozen<OFFSET_BITS>>⟧.records self.old }
+        ensures records { ⟦<EntryStore<OFFSET_BITS, W> as Frozen<OFFSET_BITS>>⟧.records self.new
+            ≡ ⟦<EntryStore<OFFSET_BITS, W> as Frozen<OFFSET_BITS>>⟧.records self.old }
     {
         retire_finished(&mut self.work, &mut self.entries);
         let advance = self.work.advance();
@@ -283,7 +289,8 @@ fn retire_finished<const OFFSET_BITS: u32, W: Work<OFFSET_BITS>>(
 /// Follows an advance of the generation.
 fn follow<const OFFSET_BITS: u32>(entries: &mut EntryLedger<OFFSET_BITS>, advance: Advance)
     requires good { IsGood OFFSET_BITS (entries_of OFFSET_BITS entries.old) }
-    requires rises { (entries_of OFFSET_BITS entries.old).generation ≤ generation_by advance (entries_of OFFSET_BITS entries.old).generation }
+    requires rises { (entries_of OFFSET_BITS entries.old).generation
+        ≤ generation_by advance (entries_of OFFSET_BITS entries.old).generation }
     requires tagged { (r : ℕ)
         → is_dropped_since (entries_of OFFSET_BITS entries.old).last ((entries_of OFFSET_BITS entries.old).state r) ≡ false }
     ensures advanced { entries_of OFFSET_BITS entries.new ≡ record (entries_of OFFSET_BITS entries.old) {
@@ -331,14 +338,16 @@ impl<const OFFSET_BITS: u32, W: Work<OFFSET_BITS>> Store<OFFSET_BITS>
     for EntryStore<OFFSET_BITS, W> {
     ghost use Rattle.std.specs.Prelude.{refl};
     ghost use Rattle.entry_store.specs.ProofsForStore.{store_recorded, store_placed, store_taken, store_filled, store_spares, store_unkept};
-    ghost use Rattle.entry_store.specs.ProofsForStore.{store_held, store_last, store_settled, store_steady, store_sealed, store_finished, store_counted};
+    ghost use Rattle.entry_store.specs.ProofsForStore.{store_held, store_last, store_settled, store_steady, store_sealed, store_finished};
+    ghost use Rattle.entry_store.specs.ProofsForStore.{store_counted};
     ghost use Rattle.entry_store.specs.ProofsForStore.{store_few_buffers, store_few_records, store_few_nodes};
 
     type Layout = W::Layout;
 
     type Home = W::Home;
 
-    ghost ledger = { λ s. ledger_of OFFSET_BITS (W.knows s.work) (W.shape s.work) (W.records s.work) (entries_of OFFSET_BITS s.entries) s.unit };
+    ghost ledger = { λ s. ledger_of OFFSET_BITS (W.knows s.work) (W.shape s.work) (W.records s.work)
+        (entries_of OFFSET_BITS s.entries) s.unit };
 
     fn begin(&mut self) {
         self.unit = true;

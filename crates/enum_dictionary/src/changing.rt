@@ -33,7 +33,8 @@ pub fn set<const OFFSET_BITS: u32, S: Store<OFFSET_BITS>>(
     requires reads { stored_value (type_of value.now) (S.records store.old) value_ref ≡ value.now }
     requires owns { Owns (S.ledger store.old) (S.records store.old) (tree root ∷ []) }
     ensures makes { IfOk result (MakesDictionary (type_of value.now) (S.ledger store.old) (S.ledger store.new)
-        (S.records store.old) (S.records store.new) root.entry (put (beside_value value.now (S.records store.old)) (value_ref.entry, posting)
+        (S.records store.old) (S.records store.new) root.entry
+        (put (beside_value value.now (S.records store.old)) (value_ref.entry, posting)
         (tree_pairs (S.records store.old) root.entry))) }
     ensures others { KeepsOthers (S.records store.old) (S.records store.new) }
     ensures counts { CountsNodes (S.ledger store.old) (S.ledger store.new) (2 * levels (S.records store.old) root.entry + 1) }

@@ -33,7 +33,8 @@ use Rattle.feed_reader.specs.Items.{values_read, names_read, weighted_after, set
 use Rattle.feed_reader.specs.Operators.{operator_named, operator_form, value_form, weight_form}
 use Rattle.feed_reader.specs.Elements.{by_way, amount_read, place_of_number, place_read, element_read, match_parts, act_read, weight_act_read, at_read, of_read}
 use Rattle.feed_reader.specs.Grammar.{each_field, put_read, change_read, operator_read, update_read}
-use Rattle.feed_reader.specs.Forms.{IsLong, IsValue, IsName, IsWeight, AreValues, AreWeights, AreNames, HasListForm, HasWeightsForm, HasNamesForm, HasKindForm, HasItemsForm, IsArrayPlace, IsElement, HasValueForm, IsMatch}
+use Rattle.feed_reader.specs.Forms.{IsLong, IsValue, IsName, IsWeight, AreValues, AreWeights, AreNames, HasListForm, HasWeightsForm, HasNamesForm, HasKindForm, HasItemsForm, IsArrayPlace, IsElement, HasValueForm}
+use Rattle.feed_reader.specs.Forms.{IsMatch}
 use Rattle.feed_reader.specs.Forms.{IsChangeAt, IsChangeOf, HasForm, IsUpdate}
 
 -- ---- what an answer tells

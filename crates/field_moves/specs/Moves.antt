@@ -18,7 +18,8 @@ use Rattle.value_index.specs.Indexes.{IsKey}
 pub record HasBegun {H : Type 0} (ledger : Ledger H) : Type 0 where
   pub each : (r : ℕ) → in_use (ledger.status r) ≡ true → in_use (ledger.back r) ≡ true
 
--- an attribute stands in place of another, with its column and the keys of all phases. It owns what that one owned, but for keys that lay in
+-- an attribute stands in place of another, with its column and the keys of all phases. It owns what that one owned, but for keys that
+-- lay in
 -- the buffer and have copies now: these are in use still, since documents may refer to them. What documents refer to is a key, such an old
 -- copy, or an old copy of before.
 pub record MovesField {H : Type 0} (bits buffer : ℕ) (kind : Kind) (type : ValueType) (old new : Ledger H) (m n : Records)

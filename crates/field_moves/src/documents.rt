@@ -27,11 +27,13 @@ pub fn move_document_items<const OFFSET_BITS: u32, S: Store<OFFSET_BITS>>(
     plan: &Plan,
     doc: Doc,
 ) -> Result<FieldRoots<OFFSET_BITS>, StoreError>
-    requires can { CanMove OFFSET_BITS (S.ledger store.old) (S.records store.old) (trees_of_roots field.now roots) plan.now DOCUMENTS (keys.Doc doc) }
+    requires can { CanMove OFFSET_BITS (S.ledger store.old) (S.records store.old) (trees_of_roots field.now roots) plan.now DOCUMENTS
+        (keys.Doc doc) }
     ensures moved { IfOk result (λ next. Moved OFFSET_BITS plan.now (keys.Doc doc) (S.ledger store.old) (S.ledger store.new)
         (S.records store.old) (S.records store.new) (trees_of_roots field.now roots.entry) (trees_of_roots field.now next)) }
     ensures counts { MakesFew (S.ledger store.old) (S.ledger store.new) 25 1 }
-    ensures refuses { IfErr result (RefusesOf (IsUsedWidth (S.ledger store.old) (S.records store.old)) (S.ledger store.old) (S.ledger store.new)) }
+    ensures refuses { IfErr result (RefusesOf (IsUsedWidth (S.ledger store.old) (S.records store.old)) (S.ledger store.old)
+        (S.ledger store.new)) }
     ensures may { MayDo (S.ledger store.old) (S.ledger store.new) }
 {
     index_law();
@@ -63,11 +65,13 @@ pub fn move_map_nodes<const OFFSET_BITS: u32, S: Store<OFFSET_BITS>>(
     plan: &Plan,
     doc: Doc,
 ) -> Result<FieldRoots<OFFSET_BITS>, StoreError>
-    requires can { CanMove OFFSET_BITS (S.ledger store.old) (S.records store.old) (trees_of_roots field.now roots) plan.now NODES (keys.Doc doc) }
+    requires can { CanMove OFFSET_BITS (S.ledger store.old) (S.records store.old) (trees_of_roots field.now roots) plan.now NODES
+        (keys.Doc doc) }
     ensures moved { IfOk result (λ next. Moved OFFSET_BITS plan.now (keys.Doc doc) (S.ledger store.old) (S.ledger store.new)
         (S.records store.old) (S.records store.new) (trees_of_roots field.now roots.entry) (trees_of_roots field.now next)) }
     ensures counts { MakesFew (S.ledger store.old) (S.ledger store.new) 25 1 }
-    ensures refuses { IfErr result (RefusesOf (IsUsedWidth (S.ledger store.old) (S.records store.old)) (S.ledger store.old) (S.ledger store.new)) }
+    ensures refuses { IfErr result (RefusesOf (IsUsedWidth (S.ledger store.old) (S.records store.old)) (S.ledger store.old)
+        (S.ledger store.new)) }
     ensures may { MayDo (S.ledger store.old) (S.ledger store.new) }
 {
     index_law();

@@ -25,11 +25,13 @@ pub fn move_value_key<const OFFSET_BITS: u32, S: Store<OFFSET_BITS>>(
     plan: &Plan,
     value: &Value,
 ) -> Result<FieldRoots<OFFSET_BITS>, StoreError>
-    requires can { CanMove OFFSET_BITS (S.ledger store.old) (S.records store.old) (trees_of_roots field.now roots) plan.now KEYS (keys.Value value.now) }
+    requires can { CanMove OFFSET_BITS (S.ledger store.old) (S.records store.old) (trees_of_roots field.now roots) plan.now KEYS
+        (keys.Value value.now) }
     ensures moved { IfOk result (λ next. Moved OFFSET_BITS plan.now (keys.Value value.now) (S.ledger store.old) (S.ledger store.new)
         (S.records store.old) (S.records store.new) (trees_of_roots field.now roots.entry) (trees_of_roots field.now next)) }
     ensures counts { MakesFew (S.ledger store.old) (S.ledger store.new) 25 1 }
-    ensures refuses { IfErr result (RefusesOf (IsUsedWidth (S.ledger store.old) (S.records store.old)) (S.ledger store.old) (S.ledger store.new)) }
+    ensures refuses { IfErr result (RefusesOf (IsUsedWidth (S.ledger store.old) (S.records store.old)) (S.ledger store.old)
+        (S.ledger store.new)) }
     ensures may { MayDo (S.ledger store.old) (S.ledger store.new) }
 {
     documents_law();
@@ -53,11 +55,13 @@ pub fn move_value_list<const OFFSET_BITS: u32, S: Store<OFFSET_BITS>>(
     value: &Value,
     doc: u32,
 ) -> Result<FieldRoots<OFFSET_BITS>, StoreError>
-    requires can { CanMove OFFSET_BITS (S.ledger store.old) (S.records store.old) (trees_of_roots field.now roots) plan.now LISTS (keys.Pair value.now doc) }
+    requires can { CanMove OFFSET_BITS (S.ledger store.old) (S.records store.old) (trees_of_roots field.now roots) plan.now LISTS
+        (keys.Pair value.now doc) }
     ensures moved { IfOk result (λ next. Moved OFFSET_BITS plan.now (keys.Pair value.now doc) (S.ledger store.old) (S.ledger store.new)
         (S.records store.old) (S.records store.new) (trees_of_roots field.now roots.entry) (trees_of_roots field.now next)) }
     ensures counts { MakesFew (S.ledger store.old) (S.ledger store.new) 25 1 }
-    ensures refuses { IfErr result (RefusesOf (IsUsedWidth (S.ledger store.old) (S.records store.old)) (S.ledger store.old) (S.ledger store.new)) }
+    ensures refuses { IfErr result (RefusesOf (IsUsedWidth (S.ledger store.old) (S.records store.old)) (S.ledger store.old)
+        (S.ledger store.new)) }
     ensures may { MayDo (S.ledger store.old) (S.ledger store.new) }
 {
     documents_law();
@@ -81,11 +85,13 @@ pub fn move_value_nodes<const OFFSET_BITS: u32, S: Store<OFFSET_BITS>>(
     plan: &Plan,
     value: &Value,
 ) -> Result<FieldRoots<OFFSET_BITS>, StoreError>
-    requires can { CanMove OFFSET_BITS (S.ledger store.old) (S.records store.old) (trees_of_roots field.now roots) plan.now NODES (keys.Value value.now) }
+    requires can { CanMove OFFSET_BITS (S.ledger store.old) (S.records store.old) (trees_of_roots field.now roots) plan.now NODES
+        (keys.Value value.now) }
     ensures moved { IfOk result (λ next. Moved OFFSET_BITS plan.now (keys.Value value.now) (S.ledger store.old) (S.ledger store.new)
         (S.records store.old) (S.records store.new) (trees_of_roots field.now roots.entry) (trees_of_roots field.now next)) }
     ensures counts { MakesFew (S.ledger store.old) (S.ledger store.new) 25 1 }
-    ensures refuses { IfErr result (RefusesOf (IsUsedWidth (S.ledger store.old) (S.records store.old)) (S.ledger store.old) (S.ledger store.new)) }
+    ensures refuses { IfErr result (RefusesOf (IsUsedWidth (S.ledger store.old) (S.records store.old)) (S.ledger store.old)
+        (S.ledger store.new)) }
     ensures may { MayDo (S.ledger store.old) (S.ledger store.new) }
 {
     documents_law();

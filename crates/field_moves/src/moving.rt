@@ -34,7 +34,8 @@ fn move_by_value<const OFFSET_BITS: u32, S: Store<OFFSET_BITS>>(
     ensures moved { IfOk result (λ next. Moved OFFSET_BITS plan.now (keys.Value value.now) (S.ledger store.old) (S.ledger store.new)
         (S.records store.old) (S.records store.new) (trees_of_roots field.now roots.entry) (trees_of_roots field.now next)) }
     ensures counts { MakesFew (S.ledger store.old) (S.ledger store.new) 25 1 }
-    ensures refuses { IfErr result (RefusesOf (IsUsedWidth (S.ledger store.old) (S.records store.old)) (S.ledger store.old) (S.ledger store.new)) }
+    ensures refuses { IfErr result (RefusesOf (IsUsedWidth (S.ledger store.old) (S.records store.old)) (S.ledger store.old)
+        (S.ledger store.new)) }
     ensures may { MayDo (S.ledger store.old) (S.ledger store.new) }
 {
     if plan.phase() == KEYS {
@@ -59,7 +60,8 @@ fn move_by_document<const OFFSET_BITS: u32, S: Store<OFFSET_BITS>>(
     ensures moved { IfOk result (λ next. Moved OFFSET_BITS plan.now (keys.Doc number) (S.ledger store.old) (S.ledger store.new)
         (S.records store.old) (S.records store.new) (trees_of_roots field.now roots.entry) (trees_of_roots field.now next)) }
     ensures counts { MakesFew (S.ledger store.old) (S.ledger store.new) 25 1 }
-    ensures refuses { IfErr result (RefusesOf (IsUsedWidth (S.ledger store.old) (S.records store.old)) (S.ledger store.old) (S.ledger store.new)) }
+    ensures refuses { IfErr result (RefusesOf (IsUsedWidth (S.ledger store.old) (S.records store.old)) (S.ledger store.old)
+        (S.ledger store.new)) }
     ensures may { MayDo (S.ledger store.old) (S.ledger store.new) }
 {
     let doc = Doc::new(number);
@@ -98,7 +100,8 @@ pub fn move_one<const OFFSET_BITS: u32, S: Store<OFFSET_BITS>>(
         (record { stage = plan.now.place.stage; key = key.now }) plan.now.place.stage.field (S.records store.new)
         (trees_of_roots field.now next)) }
     ensures counts { MakesFew (S.ledger store.old) (S.ledger store.new) 25 1 }
-    ensures refuses { IfErr result (RefusesOf (IsUsedWidth (S.ledger store.old) (S.records store.old)) (S.ledger store.old) (S.ledger store.new)) }
+    ensures refuses { IfErr result (RefusesOf (IsUsedWidth (S.ledger store.old) (S.records store.old)) (S.ledger store.old)
+        (S.ledger store.new)) }
     ensures may { MayDo (S.ledger store.old) (S.ledger store.new) }
 {
     match key {

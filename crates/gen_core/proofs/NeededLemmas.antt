@@ -15,7 +15,8 @@ use Rattle.gen_core.specs.declared.views.Buffer.{Buffer}
 use Rattle.gen_core.specs.declared.views.Buffer.TheVariants.{Free, Active, Held}
 use Rattle.gen_core.specs.declared.views.ReaderState.TheVariants.{Raised}
 use Rattle.gen_core.specs.declared.views.ReaderView.{ReaderView}
-use Rattle.gen_core.specs.Views.{floor_of, kept_of, last_number, last_image, state_word, record_width, width_in, active_width, active_in, last_tag_in, queue_of, open_holds, oldest_of, newest_word, hold_place, is_open_hold}
+use Rattle.gen_core.specs.Views.{floor_of, kept_of, last_number, last_image, state_word, record_width, width_in, active_width, active_in, last_tag_in, queue_of, open_holds, oldest_of, newest_word, hold_place}
+use Rattle.gen_core.specs.Views.{is_open_hold}
 use Rattle.gen_core.specs.Views.{is_counted_on}
 use Rattle.gen_core.specs.Work.{work_at}
 use Rattle.gen_core.specs.Good.{State, InActive, Avoids, IsPlaced, WordsStand, GoodReader, IsLawfulCommit, Good, HoldFits, hold_word}

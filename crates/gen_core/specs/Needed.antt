@@ -90,7 +90,8 @@ module _ (reaches : ℕ → Records → ℕ → List ℕ) (lawful : ℕ → Reco
   -- a hold that was found closed, taken as raised
   abbrev pub ForgetsTheBounce : Type 0
   ForgetsTheBounce =
-      (s : State) (j h : ℕ) (r : ReaderView) → Good reaches lawful s → slice_get s.readers j ≡ Some r → is_open_hold s.writer.queue h ≡ false
+      (s : State) (j h : ℕ) (r : ReaderView) → Good reaches lawful s → slice_get s.readers j ≡ Some r
+      → is_open_hold s.writer.queue h ≡ false
       → Good reaches lawful (after_count s h (count_at s h + 2) j (with_state r (Raised h))) → ⊥
 
   -- the newest hold renewed beside one that was reopened

@@ -188,7 +188,8 @@ module _ {H : Type 0} (bits buffer doc : ℕ) (value : Value) (a b : Ledger H) (
 
         kept : (ref : ℕ) → IsKey m root ref → SameAt (flat_map (pair_reach m) rest) m o → (ref ≡ key) ⊎ Among ref (keys rest) → IsKey o top ref × (o ref ≡ m ref)
         kept ref among same (inl is) = (
-          subst (λ ps. Among ref (keys ps)) (sym pairs_are) (subst (λ k. Among k (keys (put (beside_value value m) (key, next) (tree_pairs m root)))) (sym is) (key_put (beside_value value m) (key, next) (tree_pairs m root))),
+          subst (λ ps. Among ref (keys ps)) (sym pairs_are) (subst (λ k. Among k (keys (put (beside_value value m) (key, next) (tree_pairs m root)))) (sym is)
+              (key_put (beside_value value m) (key, next) (tree_pairs m root))),
           subst (λ k. o k ≡ n k) (sym is) key_same ∙ opened.keys_stay ref among,
         )
         kept ref among same (inr later) = (

@@ -34,7 +34,8 @@ fn move_found<const OFFSET_BITS: u32, S: Store<OFFSET_BITS>>(
     ensures moves { IfOk result (MovesKey OFFSET_BITS buffer value.now (S.ledger store.old) (S.ledger store.new)
         (S.records store.old) (S.records store.new) root.entry) }
     ensures counts { MakesWithin (S.ledger store.old) (S.ledger store.new) (key_most value.now (S.records store.old) root.entry) }
-    ensures refuses { IfErr result (RefusesOf (IsUsedWidth (S.ledger store.old) (S.records store.old)) (S.ledger store.old) (S.ledger store.new)) }
+    ensures refuses { IfErr result (RefusesOf (IsUsedWidth (S.ledger store.old) (S.records store.old)) (S.ledger store.old)
+        (S.ledger store.new)) }
     ensures may { MayDo (S.ledger store.old) (S.ledger store.new) }
 {
     if key.buffer() != buffer {
@@ -61,7 +62,8 @@ pub fn move_key<const OFFSET_BITS: u32, S: Store<OFFSET_BITS>>(
     ensures moves { IfOk result (MovesKey OFFSET_BITS buffer value.now (S.ledger store.old) (S.ledger store.new)
         (S.records store.old) (S.records store.new) root.entry) }
     ensures counts { MakesWithin (S.ledger store.old) (S.ledger store.new) (key_most value.now (S.records store.old) root.entry) }
-    ensures refuses { IfErr result (RefusesOf (IsUsedWidth (S.ledger store.old) (S.records store.old)) (S.ledger store.old) (S.ledger store.new)) }
+    ensures refuses { IfErr result (RefusesOf (IsUsedWidth (S.ledger store.old) (S.records store.old)) (S.ledger store.old)
+        (S.ledger store.new)) }
     ensures may { MayDo (S.ledger store.old) (S.ledger store.new) }
 {
     match find(store, root, value) {

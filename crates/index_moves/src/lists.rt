@@ -39,7 +39,8 @@ fn move_short<const OFFSET_BITS: u32, S: Store<OFFSET_BITS>>(
     ensures apart { (doc : ℕ) → IfOk result (λ next. FormIsApart OFFSET_BITS buffer doc (S.records store.new) (list_form next)) }
     ensures counts { MakesWithin (S.ledger store.old) (S.ledger store.new) (word_most (list_levels (S.records store.old) list)
         (length (list_at (S.records store.old) list))) }
-    ensures refuses { IfErr result (RefusesOf (IsUsedWidth (S.ledger store.old) (S.records store.old)) (S.ledger store.old) (S.ledger store.new)) }
+    ensures refuses { IfErr result (RefusesOf (IsUsedWidth (S.ledger store.old) (S.records store.old)) (S.ledger store.old)
+        (S.ledger store.new)) }
     ensures may { MayDo (S.ledger store.old) (S.ledger store.new) }
 {
     let record = record_of(list);
@@ -70,7 +71,8 @@ fn move_tree<const OFFSET_BITS: u32, S: Store<OFFSET_BITS>>(
     ensures apart { IfOk result (λ next. FormIsApart OFFSET_BITS buffer doc (S.records store.new) (list_form next)) }
     ensures counts { MakesWithin (S.ledger store.old) (S.ledger store.new) (word_most (list_levels (S.records store.old) list)
         (length (list_at (S.records store.old) list))) }
-    ensures refuses { IfErr result (RefusesOf (IsUsedWidth (S.ledger store.old) (S.records store.old)) (S.ledger store.old) (S.ledger store.new)) }
+    ensures refuses { IfErr result (RefusesOf (IsUsedWidth (S.ledger store.old) (S.records store.old)) (S.ledger store.old)
+        (S.ledger store.new)) }
     ensures may { MayDo (S.ledger store.old) (S.ledger store.new) }
 {
     let root = touch(store, record_of(list), &NumberKey(doc as u64), buffer)?;
@@ -95,7 +97,8 @@ fn move_word<const OFFSET_BITS: u32, S: Store<OFFSET_BITS>>(
     ensures apart { IfOk result (λ next. FormIsApart OFFSET_BITS buffer doc (S.records store.new) (list_form next)) }
     ensures counts { MakesWithin (S.ledger store.old) (S.ledger store.new) (word_most (list_levels (S.records store.old) list)
         (length (list_at (S.records store.old) list))) }
-    ensures refuses { IfErr result (RefusesOf (IsUsedWidth (S.ledger store.old) (S.records store.old)) (S.ledger store.old) (S.ledger store.new)) }
+    ensures refuses { IfErr result (RefusesOf (IsUsedWidth (S.ledger store.old) (S.records store.old)) (S.ledger store.old)
+        (S.ledger store.new)) }
     ensures may { MayDo (S.ledger store.old) (S.ledger store.new) }
 {
     if list % 2 == 1 {
@@ -123,7 +126,8 @@ fn move_found<const OFFSET_BITS: u32, S: Store<OFFSET_BITS>>(
         (S.records store.old) (S.records store.new) root.entry) }
     ensures counts { MakesWithin (S.ledger store.old) (S.ledger store.new) (move_most value.now (S.records store.old) root.entry
         (length (list_of value.now (index_of (type_of value.now) (S.records store.old) root.entry)))) }
-    ensures refuses { IfErr result (RefusesOf (IsUsedWidth (S.ledger store.old) (S.records store.old)) (S.ledger store.old) (S.ledger store.new)) }
+    ensures refuses { IfErr result (RefusesOf (IsUsedWidth (S.ledger store.old) (S.records store.old)) (S.ledger store.old)
+        (S.ledger store.new)) }
     ensures may { MayDo (S.ledger store.old) (S.ledger store.new) }
 {
     let next = move_word(store, list, doc, buffer)?;
@@ -150,7 +154,8 @@ pub fn move_list<const OFFSET_BITS: u32, S: Store<OFFSET_BITS>>(
         (S.records store.old) (S.records store.new) root.entry) }
     ensures counts { MakesWithin (S.ledger store.old) (S.ledger store.new) (move_most value.now (S.records store.old) root.entry
         (length (list_of value.now (index_of (type_of value.now) (S.records store.old) root.entry)))) }
-    ensures refuses { IfErr result (RefusesOf (IsUsedWidth (S.ledger store.old) (S.records store.old)) (S.ledger store.old) (S.ledger store.new)) }
+    ensures refuses { IfErr result (RefusesOf (IsUsedWidth (S.ledger store.old) (S.records store.old)) (S.ledger store.old)
+        (S.ledger store.new)) }
     ensures may { MayDo (S.ledger store.old) (S.ledger store.new) }
 {
     match find(store, root, value) {

@@ -21,7 +21,8 @@ fn copy_by<const OFFSET_BITS: u32, S: Store<OFFSET_BITS>>(
     ensures adds { IfOk result (AddsRecord OFFSET_BITS (S.ledger store.old) (S.ledger store.new) (S.records store.old) (S.records store.new)
         (length (stored_items (S.records store.old array.entry)) ∷ stored_items (S.records store.old array.entry))) }
     ensures items { IfOk result (λ r. stored_items (S.records store.new r) ≡ stored_items (S.records store.old array.entry)) }
-    ensures counts { MakesOneOf (class_of (1 + length (stored_items (S.records store.old array.entry)))) (S.ledger store.old) (S.ledger store.new) }
+    ensures counts { MakesOneOf (class_of (1 + length (stored_items (S.records store.old array.entry)))) (S.ledger store.old)
+        (S.ledger store.new) }
     ensures refuses { IfErr result (Refuses (S.ledger store.old) (S.ledger store.new)
         (class_of (1 + length (stored_items (S.records store.old array.entry))))) }
     ensures may { MayDo (S.ledger store.old) (S.ledger store.new) }
@@ -40,7 +41,8 @@ pub fn copy_record<const OFFSET_BITS: u32, S: Store<OFFSET_BITS>>(
     ensures adds { IfOk result (AddsRecord OFFSET_BITS (S.ledger store.old) (S.ledger store.new) (S.records store.old) (S.records store.new)
         (length (stored_items (S.records store.old array.entry)) ∷ stored_items (S.records store.old array.entry))) }
     ensures items { IfOk result (λ r. stored_items (S.records store.new r) ≡ stored_items (S.records store.old array.entry)) }
-    ensures counts { MakesOneOf (class_of (1 + length (stored_items (S.records store.old array.entry)))) (S.ledger store.old) (S.ledger store.new) }
+    ensures counts { MakesOneOf (class_of (1 + length (stored_items (S.records store.old array.entry)))) (S.ledger store.old)
+        (S.ledger store.new) }
     ensures refuses { IfErr result (Refuses (S.ledger store.old) (S.ledger store.new)
         (class_of (1 + length (stored_items (S.records store.old array.entry))))) }
     ensures may { MayDo (S.ledger store.old) (S.ledger store.new) }

@@ -1,5 +1,6 @@
 -- A buffer in which nothing is of the last commit, and nothing was stored since, goes on hold: its words tell nothing any more.
-use Rattle.std.proofs.Common.{◌≡◌, ◌≢◌, ℕ, zero, suc, ◌+◌, ◌-◌, ◌*◌, ◌<◌, ◌≤◌, ◌⊎◌, inl, inr, Bool, true, false, cond, ◌&&◌, eqb, ltb, List, [], ◌∷◌, length, get_or, set, take, drop, Option, Some, None, refl, sym, ap, subst, ◌∙◌, arith, length-take, length-drop, get_or-set_other, get_or-set_same}
+use Rattle.std.proofs.Common.{◌≡◌, ◌≢◌, ℕ, zero, suc, ◌+◌, ◌-◌, ◌*◌, ◌<◌, ◌≤◌, ◌⊎◌, inl, inr, Bool, true, false, cond, ◌&&◌, eqb, ltb, List, [], ◌∷◌, length, get_or, set, take, drop, Option, Some, None, refl, sym, ap}
+use Rattle.std.proofs.Common.{subst, ◌∙◌, arith, length-take, length-drop, get_or-set_other, get_or-set_same}
 use Rattle.std.specs.List.{list_all}
 use Rattle.std.proofs.Math.ListN.{replicate}
 use Rattle.std.proofs.Math.Nat.{mul-le-mul_right}
@@ -83,7 +84,8 @@ module _ (reaches : ℕ → Records → ℕ → List ℕ) (lawful : ℕ → Reco
       ap (λ w. cond (names_entry bits buffers words w q) (take w (drop (begin_of bits words w q) t)) []) (width-other (buffer_of bits q) ne)
       ∙ cond-same (names_entry bits buffers words (width_in table words (buffer_of bits q)) q) _ _ [] (λ there.
       let w = width_in table words (buffer_of bits q) in
-      range-set_other table (b * words) (begin_of bits words w q) w 0 (lacks (b * words) (begin_of bits words w q) w (λ j h same. not_first bits buffers words w q j b (names_entry-true bits buffers words w q there) h (sym same))))
+      range-set_other table (b * words) (begin_of bits words w q) w 0
+      (lacks (b * words) (begin_of bits words w q) w (λ j h same. not_first bits buffers words w q j b (names_entry-true bits buffers words w q there) h (sym same))))
 
   kept : (q : ℕ) → 0 < length (words_at (image_in reaches shape table bits buffers words root) q) → standing t bits buffers words q ≡ standing table bits buffers words q
   kept q there = standing-elsewhere q (λ same. let none = ap length (uncommitted q same) in omega (arith, there, none))
@@ -118,7 +120,8 @@ module _ (reaches : ℕ → Records → ℕ → List ℕ) (lawful : ℕ → Reco
         none-from _ (λ x is. no_entry q e (is_stored t s bits buffers words (last + 1) q i x is).entry.wide)
         ∙ sym (unstored q i e)
     | inr ne ↦
-        ap (λ w. cond (names_entry bits buffers words w q && (ltb i w && eqb (get_or s (begin_of bits words w q + i) 0) (last + 1))) (Some (get_or t (begin_of bits words w q + i) 0)) None) (width-other (buffer_of bits q) ne)
+        ap (λ w. cond (names_entry bits buffers words w q && (ltb i w && eqb (get_or s (begin_of bits words w q + i) 0) (last + 1))) (Some (get_or t (begin_of bits words w q + i) 0)) None)
+        (width-other (buffer_of bits q) ne)
         ∙ cond-and _ _ _ _ _ _ _ (λ there less.
         let w = width_in table words (buffer_of bits q) in
         let e = names_entry-true bits buffers words w q there in
@@ -199,11 +202,13 @@ module _ (reaches : ℕ → Records → ℕ → List ℕ) (lawful : ℕ → Reco
           ∙ ap (λ k. marked k (buffer_by (width_in t words b))) mark-here
           ∙ ap (λ w. marked (Held generation last (width_in table words b)) (buffer_by w)) width-here
           ∙ ap (λ w. Buffer.held w (tag_of generation last)) (sym (active_width-by (mark_at marks b) (width_in table words b)))
-          ∙ ap (λ x. cond x (Buffer.held (active_width (marked (mark_at marks b) (buffer_by (width_in table words b)))) (tag_of generation last)) (marked (mark_at marks a) (buffer_by (width_in table words a)))) (sym (eq-eqb a b e))
+          ∙ ap (λ x. cond x (Buffer.held (active_width (marked (mark_at marks b) (buffer_by (width_in table words b)))) (tag_of generation last)) (marked (mark_at marks a) (buffer_by (width_in table words a))))
+          (sym (eq-eqb a b e))
       | inr ne ↦
           ap (λ k. marked k (buffer_by (width_in t words a))) (mark-other a ne)
           ∙ ap (λ w. marked (mark_at marks a) (buffer_by w)) (width-other a ne)
-          ∙ ap (λ x. cond x (Buffer.held (active_width (marked (mark_at marks b) (buffer_by (width_in table words b)))) (tag_of generation last)) (marked (mark_at marks a) (buffer_by (width_in table words a)))) (sym (ne_eqb a b ne))
+          ∙ ap (λ x. cond x (Buffer.held (active_width (marked (mark_at marks b) (buffer_by (width_in table words b)))) (tag_of generation last)) (marked (mark_at marks a) (buffer_by (width_in table words a))))
+          (sym (ne_eqb a b ne))
     ]
 
     pub view-cleared : with_marks (memory_view reaches shape t s bits buffers words last root) m generation first

@@ -1,5 +1,6 @@
 -- A free buffer gets a width: nothing stands or was stored in it.
-use Rattle.std.proofs.Common.{◌≡◌, ◌≢◌, ℕ, zero, suc, ◌+◌, ◌*◌, ◌<◌, inl, inr, true, cond, ◌&&◌, eqb, ltb, List, [], length, get_or, set, take, drop, Option, Some, None, refl, sym, ap, ◌∙◌, arith, get_or-set_other, get_or-set_same}
+use Rattle.std.proofs.Common.{◌≡◌, ◌≢◌, ℕ, zero, suc, ◌+◌, ◌*◌, ◌<◌, inl, inr, true, cond, ◌&&◌, eqb, ltb, List, [], length, get_or, set, take, drop, Option, Some, None, refl, sym, ap, ◌∙◌, arith, get_or-set_other}
+use Rattle.std.proofs.Common.{get_or-set_same}
 use Rattle.std.specs.List.{list_all}
 use Rattle.std.proofs.lemmas.Bool.{cases_eq, false_from_ne_true, eq-eqb, ne_eqb, ltb-true}
 use Rattle.std.proofs.lemmas.Nat.{same_from_place}
@@ -71,7 +72,8 @@ module _ (table : List ℕ) (bits buffers words b width : ℕ) (free : width_in 
     whole-handed q = elim (cases_eq (buffer_of bits q) b) [
       | inl e ↦
           false_from_ne_true _ (λ is. let both = whole-first (set table (b * words) width) stamps bits buffers words n q room is in fresh q 0 e both.0 both.0.wide both.1)
-          ∙ sym (false_from_ne_true _ (λ is. let wide : 0 < width_in table words (buffer_of bits q) = (whole-first table stamps bits buffers words n q room is).0.wide in omega (arith, wide, ap (width_in table words) e, free)))
+          ∙ sym (false_from_ne_true _ (λ is. let wide : 0 < width_in table words (buffer_of bits q) = (whole-first table stamps bits buffers words n q room is).0.wide in
+          omega (arith, wide, ap (width_in table words) e, free)))
       | inr ne ↦ ap (λ w. names_entry bits buffers words w q && list_all (λ k. eqb k n) (take w (drop (begin_of bits words w q) stamps))) (width-other (buffer_of bits q) ne)
     ]
 
@@ -82,6 +84,7 @@ module _ (table : List ℕ) (bits buffers words b width : ℕ) (free : width_in 
           none-from _ (λ x is. let s = is_stored (set table (b * words) width) stamps bits buffers words n q i x is in fresh q i e s.entry s.inside s.stamp)
           ∙ sym (none-from _ (λ x is. let wide = (is_stored table stamps bits buffers words n q i x is).entry.wide in omega (arith, wide, ap (width_in table words) e, free)))
       | inr ne ↦
-          ap (λ w. cond (names_entry bits buffers words w q && (ltb i w && eqb (get_or stamps (begin_of bits words w q + i) 0) n)) (Some (get_or (set table (b * words) width) (begin_of bits words w q + i) 0)) None) (width-other (buffer_of bits q) ne)
+          ap (λ w. cond (names_entry bits buffers words w q && (ltb i w && eqb (get_or stamps (begin_of bits words w q + i) 0) n)) (Some (get_or (set table (b * words) width) (begin_of bits words w q + i) 0)) None)
+          (width-other (buffer_of bits q) ne)
           ∙ cond-and _ _ _ _ _ _ _ (λ there below. (refl, ap Some (word-handed q i there below)))
     ]

@@ -1,5 +1,6 @@
 -- The words of an entry are replaced all at once: they stand, and what stands elsewhere stays.
-use Rattle.std.proofs.Common.{◌≡◌, ◌≢◌, ℕ, suc, ◌+◌, ◌-◌, ◌*◌, ◌<◌, ◌≤◌, ◌⊎◌, inl, inr, true, cond, ◌&&◌, eqb, List, [], ◌++◌, length, get_or, take, drop, refl, sym, ap, subst, ◌∙◌, arith, length-take, length-drop, length-append}
+use Rattle.std.proofs.Common.{◌≡◌, ◌≢◌, ℕ, suc, ◌+◌, ◌-◌, ◌*◌, ◌<◌, ◌≤◌, ◌⊎◌, inl, inr, true, cond, ◌&&◌, eqb, List, [], ◌++◌, length, get_or, take, drop, refl, sym, ap, subst, ◌∙◌, arith, length-take, length-drop}
+use Rattle.std.proofs.Common.{length-append}
 use Rattle.std.specs.List.{list_all}
 use Rattle.std.proofs.Math.ListN.{get_or-append, replicate}
 use Rattle.std.proofs.Math.Nat.{mul-le-mul_right}
@@ -109,7 +110,8 @@ module _ (table : List ℕ) (bits buffers words r width : ℕ) (is : width_in ta
         → is_whole (with_range table (begin_of bits words width r) ws) (with_range stamps (begin_of bits words width r) (replicate width n)) bits buffers words n q ≡ is_whole table stamps bits buffers words n q
     unfolding is_whole
     whole-elsewhere q ne =
-        ap (λ w. names_entry bits buffers words w q && list_all (λ k. eqb k n) (take w (drop (begin_of bits words w q) (with_range stamps (begin_of bits words width r) (replicate width n))))) (width-range (buffer_of bits q))
+        ap (λ w. names_entry bits buffers words w q && list_all (λ k. eqb k n) (take w (drop (begin_of bits words w q) (with_range stamps (begin_of bits words width r) (replicate width n)))))
+        (width-range (buffer_of bits q))
         ∙ and-same _ _ _ (λ there. ap (list_all (λ k. eqb k n)) (range-apart stamps (replicate width n) q also (length-replicate width n) ne there))
 
     -- and the entry was

@@ -1,5 +1,6 @@
 -- Entries stand apart: a store of one word leaves the words of all others.
-use Rattle.std.proofs.Common.{Option, Some, None, ◌≡◌, ◌≢◌, ℕ, suc, ◌+◌, ◌-◌, ◌*◌, ◌<◌, ◌≤◌, ◌⊎◌, inl, inr, Bool, true, false, cond, ◌&&◌, eqb, ltb, List, [], length, get_or, set, take, drop, refl, sym, ap, subst, ◌∙◌, arith, length-take, length-drop, get_or-set_other, get_or-set_same, ◌∷◌}
+use Rattle.std.proofs.Common.{Option, Some, None, ◌≡◌, ◌≢◌, ℕ, suc, ◌+◌, ◌-◌, ◌*◌, ◌<◌, ◌≤◌, ◌⊎◌, inl, inr, Bool, true, false, cond, ◌&&◌, eqb, ltb, List, [], length, get_or, set, take, drop, refl, sym, ap, subst, ◌∙◌}
+use Rattle.std.proofs.Common.{arith, length-take, length-drop, get_or-set_other, get_or-set_same, ◌∷◌}
 use Rattle.std.proofs.lemmas.List.{get_or-take, get_or-drop, drop-set-lt, drop-set-add, take-set-le}
 use Rattle.std.specs.List.{list_all}
 use Rattle.std.proofs.Math.Nat.{mul-le-mul_right}
@@ -70,7 +71,8 @@ module _ (table : List ℕ) (bits buffers words r i : ℕ) (e : IsEntry bits buf
   pub standing-other : (v q : ℕ) → q ≢ r → standing (set table (begin_of bits words (width_in table words (buffer_of bits r)) r + i) v) bits buffers words q ≡ standing table bits buffers words q
   unfolding standing
   standing-other v q ne =
-      ap (λ w. cond (names_entry bits buffers words w q) (take w (drop (begin_of bits words w q) (set table (begin_of bits words (width_in table words (buffer_of bits r)) r + i) v))) []) (width-store v (buffer_of bits q))
+      ap (λ w. cond (names_entry bits buffers words w q) (take w (drop (begin_of bits words w q) (set table (begin_of bits words (width_in table words (buffer_of bits r)) r + i) v))) [])
+      (width-store v (buffer_of bits q))
       ∙ cond-same _ _ _ [] (range_other table q v ne)
 
   -- and whether that was stored whole
@@ -79,7 +81,8 @@ module _ (table : List ℕ) (bits buffers words r i : ℕ) (e : IsEntry bits buf
       ≡ is_whole table stamps bits buffers words n q
   unfolding is_whole
   whole-other stamps v n q ne =
-      ap (λ w. names_entry bits buffers words w q && list_all (λ k. eqb k n) (take w (drop (begin_of bits words w q) (set stamps (begin_of bits words (width_in table words (buffer_of bits r)) r + i) n)))) (width-store v (buffer_of bits q))
+      ap (λ w. names_entry bits buffers words w q && list_all (λ k. eqb k n) (take w (drop (begin_of bits words w q) (set stamps (begin_of bits words (width_in table words (buffer_of bits r)) r + i) n))))
+      (width-store v (buffer_of bits q))
       ∙ and-same _ _ _ (λ there. ap (list_all (λ k. eqb k n)) (range_other stamps q n ne there))
 
   -- what was stored is one word more
@@ -104,7 +107,8 @@ module _ (table : List ℕ) (bits buffers words r i : ℕ) (e : IsEntry bits buf
           cond (names_entry bits buffers words w k && (ltb l w && eqb (get_or (set stamps (begin_of bits words (width_in table words (buffer_of bits r)) r + i) n) (begin_of bits words w k + l) 0) n))
           (Some (get_or (set table (begin_of bits words (width_in table words (buffer_of bits r)) r + i) v) (begin_of bits words w k + l) 0)) None
 
-      moved : stored_in (set table (begin_of bits words (width_in table words (buffer_of bits r)) r + i) v) (set stamps (begin_of bits words (width_in table words (buffer_of bits r)) r + i) n) bits buffers words n q j ≡ here q j
+      moved : stored_in (set table (begin_of bits words (width_in table words (buffer_of bits r)) r + i) v) (set stamps (begin_of bits words (width_in table words (buffer_of bits r)) r + i) n) bits buffers words n q j
+          ≡ here q j
       moved =
           ap (λ w. cond (names_entry bits buffers words w q && (ltb j w && eqb (get_or (set stamps (begin_of bits words (width_in table words (buffer_of bits r)) r + i) n) (begin_of bits words w q + j) 0) n))
           (Some (get_or (set table (begin_of bits words (width_in table words (buffer_of bits r)) r + i) v) (begin_of bits words w q + j) 0)) None) (width-store v (buffer_of bits q))

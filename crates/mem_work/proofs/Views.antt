@@ -1,5 +1,6 @@
 -- What a work in memory knows, and which records it has, after each call.
-use Rattle.std.proofs.Common.{◌≡◌, ◌≢◌, ℕ, zero, suc, ◌+◌, ◌*◌, ◌<◌, ◌≤◌, inl, inr, true, false, cond, List, [], length, take, drop, length-take, length-drop, get_or, set, Option, Some, None, refl, sym, ap, subst, ◌∙◌, arith, get_or-set_same, get_or-set_other}
+use Rattle.std.proofs.Common.{◌≡◌, ◌≢◌, ℕ, zero, suc, ◌+◌, ◌*◌, ◌<◌, ◌≤◌, inl, inr, true, false, cond, List, [], length, take, drop, length-take, length-drop, get_or, set, Option, Some, None, refl, sym, ap, subst, ◌∙◌}
+use Rattle.std.proofs.Common.{arith, get_or-set_same, get_or-set_other}
 use Rattle.std.specs.Option.{IfSome, IfNone}
 use Rattle.std.proofs.Math.Nat.{mul-le-mul_right}
 use Rattle.std.proofs.Math.ListN.{replicate}
@@ -50,7 +51,8 @@ module _ (reaches : ℕ → Records → ℕ → List ℕ) (lawful : ℕ → Reco
     image-store = next_image-kept reaches lawful present stays shape (standing table bits buffers words) _ root law kept-store
 
     pub view-store : length table ≡ buffers * words → length stamps ≡ buffers * words
-        → memory_view reaches shape (set table (begin_of bits words (width_in table words (buffer_of bits r)) r + i) v) (set stamps (begin_of bits words (width_in table words (buffer_of bits r)) r + i) (last + 1)) bits buffers words last root
+        → memory_view reaches shape (set table (begin_of bits words (width_in table words (buffer_of bits r)) r + i) v)
+        (set stamps (begin_of bits words (width_in table words (buffer_of bits r)) r + i) (last + 1)) bits buffers words last root
         ≡ record (memory_view reaches shape table stamps bits buffers words last root) { stored = with_stored (stored_in table stamps bits buffers words (last + 1)) r i v }
     view-store room also = λ k. record (memory_view reaches shape table stamps bits buffers words last root) {
       buffer = λ b. buffer_by (width-store table bits buffers words r i e h v b k);
@@ -59,12 +61,15 @@ module _ (reaches : ℕ → Records → ℕ → List ℕ) (lawful : ℕ → Reco
     }
 
     pub records-store : (q : ℕ) → q ≢ r
-        → records_in reaches shape (set table (begin_of bits words (width_in table words (buffer_of bits r)) r + i) v) (set stamps (begin_of bits words (width_in table words (buffer_of bits r)) r + i) (last + 1)) bits buffers words last root q
+        → records_in reaches shape (set table (begin_of bits words (width_in table words (buffer_of bits r)) r + i) v)
+        (set stamps (begin_of bits words (width_in table words (buffer_of bits r)) r + i) (last + 1)) bits buffers words last root q
         ≡ records_in reaches shape table stamps bits buffers words last root q
     records-store q ne =
-        ap (λ t. cond t (standing (set table (begin_of bits words (width_in table words (buffer_of bits r)) r + i) v) bits buffers words q) (words_at (image_in reaches shape (set table (begin_of bits words (width_in table words (buffer_of bits r)) r + i) v) bits buffers words root) q))
+        ap (λ t. cond t (standing (set table (begin_of bits words (width_in table words (buffer_of bits r)) r + i) v) bits buffers words q)
+        (words_at (image_in reaches shape (set table (begin_of bits words (width_in table words (buffer_of bits r)) r + i) v) bits buffers words root) q))
         (whole-other table bits buffers words r i e h stamps v (last + 1) q ne)
-        ∙ ap (λ ws. cond (is_whole table stamps bits buffers words (last + 1) q) ws (words_at (image_in reaches shape (set table (begin_of bits words (width_in table words (buffer_of bits r)) r + i) v) bits buffers words root) q))
+        ∙ ap (λ ws. cond (is_whole table stamps bits buffers words (last + 1) q) ws
+        (words_at (image_in reaches shape (set table (begin_of bits words (width_in table words (buffer_of bits r)) r + i) v) bits buffers words root) q))
         (standing-other table bits buffers words r i e h v q ne)
         ∙ ap (λ image. cond (is_whole table stamps bits buffers words (last + 1) q) (standing table bits buffers words q) (words_at image q)) image-store
 
@@ -147,10 +152,12 @@ module _ (reaches : ℕ → Records → ℕ → List ℕ) (lawful : ℕ → Reco
     lawful-publish = ∣ both.0 ∣₁
 
     none_whole : (q : ℕ) → is_whole table stamps bits buffers words (last + 1 + 1) q ≡ false
-    none_whole q = false_from_ne_true _ (λ is. let first = (whole-first table stamps bits buffers words (last + 1 + 1) q room is).1 in omega (arith, old (begin_of bits words (width_in table words (buffer_of bits q)) q + 0), first))
+    none_whole q = false_from_ne_true _ (λ is. let first = (whole-first table stamps bits buffers words (last + 1 + 1) q room is).1 in
+        omega (arith, old (begin_of bits words (width_in table words (buffer_of bits q)) q + 0), first))
 
     none_stored_yet : (q i : ℕ) → stored_in table stamps bits buffers words (last + 1 + 1) q i ≡ None
-    none_stored_yet q i = none-from _ (λ x is. let stamp = (is_stored table stamps bits buffers words (last + 1 + 1) q i x is).stamp in omega (arith, old (begin_of bits words (width_in table words (buffer_of bits q)) q + i), stamp))
+    none_stored_yet q i = none-from _ (λ x is. let stamp = (is_stored table stamps bits buffers words (last + 1 + 1) q i x is).stamp in
+        omega (arith, old (begin_of bits words (width_in table words (buffer_of bits q)) q + i), stamp))
 
     pub records-publish : (q : ℕ) → records_in reaches shape table stamps bits buffers words (last + 1) next q
         ≡ words_at (next_image reaches shape (records_in reaches shape table stamps bits buffers words last root) next) q
@@ -224,7 +231,8 @@ module _ (reaches : ℕ → Records → ℕ → List ℕ) (lawful : ℕ → Reco
     hand_out-marks generation first (Some a) t low at same old b =
         let free = free-width _ _ low.free in
         subst (λ (ws : List ℕ). IsMark generation first last (width_in ws words b) (mark_at marks b)) (sym at) (elim (cases_eq b a) [
-          | inl e ↦ subst (λ k. IsMark generation first last (width_in (set table (a * words) width) words k) (mark_at marks k)) (sym e) (mark-handed generation first last (width_in table words a) (mark_at marks a) low.free (old a) _)
+          | inl e ↦ subst (λ k. IsMark generation first last (width_in (set table (a * words) width) words k) (mark_at marks k)) (sym e)
+              (mark-handed generation first last (width_in table words a) (mark_at marks a) low.free (old a) _)
           | inr ne ↦ subst (λ w. IsMark generation first last w (mark_at marks b)) (sym (width-other table bits buffers words a width free some (first-inside a low.below) wide b ne)) (old b)
         ])
 

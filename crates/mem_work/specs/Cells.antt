@@ -1,6 +1,7 @@
 -- Words in memory, one buffer after another. A buffer's first word is the width of its entries, 0 while it is free.
 -- Beside each word stands the number of the commit that was under way when it was last stored.
-use Rattle.std.specs.Prelude.{ℕ, zero, suc, ◌+◌, ◌-◌, ◌*◌, ◌^◌, Bool, ◌&&◌, nat_eq, nat_lt, nat_le, if◌then◌else◌, List, [], ◌∷◌, ◌++◌, length, slice_index, take, drop, None, Some}
+use Rattle.std.specs.Prelude.{ℕ, zero, suc, ◌+◌, ◌-◌, ◌*◌, ◌^◌, Bool, ◌&&◌, nat_eq, nat_lt, nat_le, if◌then◌else◌, List, [], ◌∷◌, ◌++◌}
+use Rattle.std.specs.Prelude.{length, slice_index, take, drop, None, Some}
 use Rattle.std.specs.List.{list_all}
 use Rattle.entry_ref.specs.References.{buffer_of, offset_of}
 use Rattle.image_base.specs.declared.Image.{Image}
@@ -24,7 +25,8 @@ with_range table p ws = take p table ++ (ws ++ drop (p + length ws) table)
 -- whether a reference has an entry of this width
 unfoldable pub names_entry : ℕ → ℕ → ℕ → ℕ → ℕ → Bool
 names_entry bits buffers words width r =
-    nat_lt (buffer_of bits r) buffers && (nat_lt 0 width && (nat_lt 0 (offset_of bits r) && nat_le (offset_of bits r * width + width) words))
+    nat_lt (buffer_of bits r) buffers && (nat_lt 0 width
+    && (nat_lt 0 (offset_of bits r) && nat_le (offset_of bits r * width + width) words))
 
 -- the words of each entry, record or not
 unfoldable pub standing : List ℕ → ℕ → ℕ → ℕ → Records
@@ -43,7 +45,8 @@ unfoldable pub stored_in : List ℕ → List ℕ → ℕ → ℕ → ℕ → ℕ
 stored_in table stamps bits buffers words n r i =
     let width = width_in table words (buffer_of bits r) in
     let place = begin_of bits words width r + i in
-    if names_entry bits buffers words width r && (nat_lt i width && nat_eq (slice_index stamps place) n) then Some (slice_index table place) else None
+    if names_entry bits buffers words width r && (nat_lt i width && nat_eq (slice_index stamps place) n) then Some (slice_index table place)
+    else None
 
 -- the image of the last commit: what its root reaches of the words that stand
 abbrev pub image_in : (ℕ → Records → ℕ → List ℕ) → ℕ → List ℕ → ℕ → ℕ → ℕ → ℕ → Image

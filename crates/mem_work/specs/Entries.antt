@@ -10,7 +10,8 @@ is_chosen (Some number) table stamps bits buffers words r = is_whole table stamp
 
 -- those entries with their words
 abbrev pub chosen : Option ℕ → List ℕ → List ℕ → ℕ → ℕ → ℕ → Records
-chosen number table stamps bits buffers words r = if is_chosen number table stamps bits buffers words r then standing table bits buffers words r else []
+chosen number table stamps bits buffers words r =
+    if is_chosen number table stamps bits buffers words r then standing table bits buffers words r else []
 
 -- records with those of these references in their place
 abbrev pub with_those : List ℕ → Records → Records → Records

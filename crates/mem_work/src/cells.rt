@@ -1,4 +1,5 @@
-ghost use Rattle.std.specs.Prelude.{◌≡◌, ◌↔◌, ◌<◌, ◌≤◌, ◌+◌, ◌*◌, ℕ, [], IsNone, IfSome, IfNone, IfOk, length, vec_len, slice_index, slice_set, take, drop, map, replicate};
+ghost use Rattle.std.specs.Prelude.{◌≡◌, ◌↔◌, ◌<◌, ◌≤◌, ◌+◌, ◌*◌, ℕ, [], IsNone, IfSome, IfNone, IfOk, length, vec_len, slice_index};
+ghost use Rattle.std.specs.Prelude.{slice_set, take, drop, map, replicate};
 ghost use Rattle.entry_ref.specs.References.{buffer_of, buffer_limit, offset_limit};
 ghost use Rattle.image_base.specs.Places.{IsEntry};
 ghost use Rattle.arena_api.specs.Works.{is_free, free_count};
@@ -59,9 +60,11 @@ impl<const OFFSET_BITS: u32> Cells<OFFSET_BITS> {
 
     /// Where a word of an entry is.
     fn place(&self, entry: EntryRef<OFFSET_BITS>, i: u32) -> usize
-        requires entry { IsEntry OFFSET_BITS self.now.buffers self.now.words (width_in self.now.table.items self.now.words (buffer_of OFFSET_BITS entry)) entry }
+        requires entry { IsEntry OFFSET_BITS self.now.buffers self.now.words
+            (width_in self.now.table.items self.now.words (buffer_of OFFSET_BITS entry)) entry }
         requires inside { i < width_in self.now.table.items self.now.words (buffer_of OFFSET_BITS entry) }
-        ensures place { result ≡ begin_of OFFSET_BITS self.now.words (width_in self.now.table.items self.now.words (buffer_of OFFSET_BITS entry.entry)) entry.entry + i }
+        ensures place { result ≡ begin_of OFFSET_BITS self.now.words
+            (width_in self.now.table.items self.now.words (buffer_of OFFSET_BITS entry.entry)) entry.entry + i }
         ensures below { result < self.now.buffers * self.now.words }
     {
         let first = entry.buffer() as usize * self.words as usize;
@@ -70,21 +73,26 @@ impl<const OFFSET_BITS: u32> Cells<OFFSET_BITS> {
     }
 
     pub fn word(&self, entry: EntryRef<OFFSET_BITS>, i: u32) -> u64
-        requires entry { IsEntry OFFSET_BITS self.now.buffers self.now.words (width_in self.now.table.items self.now.words (buffer_of OFFSET_BITS entry)) entry }
+        requires entry { IsEntry OFFSET_BITS self.now.buffers self.now.words
+            (width_in self.now.table.items self.now.words (buffer_of OFFSET_BITS entry)) entry }
         requires inside { i < width_in self.now.table.items self.now.words (buffer_of OFFSET_BITS entry) }
         ensures { result ≡ slice_index self.now.table.items
-            (begin_of OFFSET_BITS self.now.words (width_in self.now.table.items self.now.words (buffer_of OFFSET_BITS entry.entry)) entry.entry + i) }
+            (begin_of OFFSET_BITS self.now.words
+            (width_in self.now.table.items self.now.words (buffer_of OFFSET_BITS entry.entry)) entry.entry + i) }
     {
         self.table[self.place(entry, i)]
     }
 
     /// Reads words of an entry, from one on.
     pub fn read(&self, entry: EntryRef<OFFSET_BITS>, first: u32, into: &mut [u64])
-        requires entry { IsEntry OFFSET_BITS self.now.buffers self.now.words (width_in self.now.table.items self.now.words (buffer_of OFFSET_BITS entry)) entry }
+        requires entry { IsEntry OFFSET_BITS self.now.buffers self.now.words
+            (width_in self.now.table.items self.now.words (buffer_of OFFSET_BITS entry)) entry }
         requires inside { first + length into.old ≤ width_in self.now.table.items self.now.words (buffer_of OFFSET_BITS entry) }
         requires some { 0 < length into.old }
         ensures { into.new ≡ take (length into.old) (drop
-            (begin_of OFFSET_BITS self.now.words (width_in self.now.table.items self.now.words (buffer_of OFFSET_BITS entry.entry)) entry.entry + first) self.now.table.items) }
+            (begin_of OFFSET_BITS self.now.words
+            (width_in self.now.table.items self.now.words (buffer_of OFFSET_BITS entry.entry)) entry.entry + first)
+            self.now.table.items) }
     {
         let from = self.place(entry, first);
         into.copy_from_slice(&self.table[from..from + into.len()]);
@@ -92,12 +100,15 @@ impl<const OFFSET_BITS: u32> Cells<OFFSET_BITS> {
 
     /// Stores a word under a number.
     pub fn store(&mut self, entry: EntryRef<OFFSET_BITS>, i: u32, word: u64, number: u64)
-        requires entry { IsEntry OFFSET_BITS self.old.buffers self.old.words (width_in self.old.table.items self.old.words (buffer_of OFFSET_BITS entry)) entry }
+        requires entry { IsEntry OFFSET_BITS self.old.buffers self.old.words
+            (width_in self.old.table.items self.old.words (buffer_of OFFSET_BITS entry)) entry }
         requires inside { i < width_in self.old.table.items self.old.words (buffer_of OFFSET_BITS entry) }
         ensures table { self.new.table.items ≡ slice_set self.old.table.items
-            (begin_of OFFSET_BITS self.old.words (width_in self.old.table.items self.old.words (buffer_of OFFSET_BITS entry.entry)) entry.entry + i) word }
+            (begin_of OFFSET_BITS self.old.words
+            (width_in self.old.table.items self.old.words (buffer_of OFFSET_BITS entry.entry)) entry.entry + i) word }
         ensures stamps { self.new.stamps.items ≡ slice_set self.old.stamps.items
-            (begin_of OFFSET_BITS self.old.words (width_in self.old.table.items self.old.words (buffer_of OFFSET_BITS entry.entry)) entry.entry + i) number }
+            (begin_of OFFSET_BITS self.old.words
+            (width_in self.old.table.items self.old.words (buffer_of OFFSET_BITS entry.entry)) entry.entry + i) number }
         ensures marks { self.new.marks.items ≡ self.old.marks.items }
         ensures buffers { self.new.buffers ≡ self.old.buffers }
         ensures words { self.new.words ≡ self.old.words }
@@ -111,8 +122,10 @@ impl<const OFFSET_BITS: u32> Cells<OFFSET_BITS> {
     pub fn put(&mut self, entry: EntryRef<OFFSET_BITS>, width: u32, words: &[u64], number: u64)
         requires entry { IsEntry OFFSET_BITS self.old.buffers self.old.words width entry }
         requires fits { length words.now ≤ width }
-        ensures table { self.new.table.items ≡ with_range self.old.table.items (begin_of OFFSET_BITS self.old.words width entry.entry) (padded words.now width) }
-        ensures stamps { self.new.stamps.items ≡ with_range self.old.stamps.items (begin_of OFFSET_BITS self.old.words width entry.entry) (replicate width number) }
+        ensures table { self.new.table.items ≡ with_range self.old.table.items (begin_of OFFSET_BITS self.old.words width entry.entry)
+            (padded words.now width) }
+        ensures stamps { self.new.stamps.items ≡ with_range self.old.stamps.items (begin_of OFFSET_BITS self.old.words width entry.entry)
+            (replicate width number) }
         ensures marks { self.new.marks.items ≡ self.old.marks.items }
         ensures buffers { self.new.buffers ≡ self.old.buffers }
         ensures words { self.new.words ≡ self.old.words }
@@ -127,8 +140,10 @@ impl<const OFFSET_BITS: u32> Cells<OFFSET_BITS> {
     /// Takes the free buffer of lowest number, by giving it a width.
     pub fn hand_out(&mut self, width: u32) -> Option<u32>
         requires { 0 < width }
-        ensures none { IsNone result ↔ (free_count (marked_buffers self.old.marks.items (buffer_in self.old.table.items self.old.words)) self.old.buffers ≡ 0) }
-        ensures lowest { IfSome result (IsLowestFree (marked_buffers self.old.marks.items (buffer_in self.old.table.items self.old.words)) self.old.buffers) }
+        ensures none { IsNone result ↔ (free_count
+            (marked_buffers self.old.marks.items (buffer_in self.old.table.items self.old.words)) self.old.buffers ≡ 0) }
+        ensures lowest { IfSome result (IsLowestFree
+            (marked_buffers self.old.marks.items (buffer_in self.old.table.items self.old.words)) self.old.buffers) }
         ensures handed { IfSome result (λ b. self.new.table.items ≡ slice_set self.old.table.items (b * self.old.words) width) }
         ensures refused { IfNone result (self.new.table.items ≡ self.old.table.items) }
         ensures stamps { self.new.stamps.items ≡ self.old.stamps.items }
@@ -154,7 +169,8 @@ impl<const OFFSET_BITS: u32> Cells<OFFSET_BITS> {
     }
 
     pub fn free_buffers(&self) -> u32
-        ensures { result ≡ free_count (marked_buffers self.now.marks.items (buffer_in self.now.table.items self.now.words)) self.now.buffers }
+        ensures { result ≡ free_count (marked_buffers self.now.marks.items (buffer_in self.now.table.items self.now.words))
+            self.now.buffers }
     {
         let mut count = 0;
         for buffer in 0..self.buffers {
@@ -170,7 +186,8 @@ impl<const OFFSET_BITS: u32> Cells<OFFSET_BITS> {
         requires { buffer < self.old.buffers }
         ensures table { self.new.table.items ≡ slice_set self.old.table.items (buffer * self.old.words) 0 }
         ensures stamps { self.new.stamps.items ≡ with_range self.old.stamps.items (buffer * self.old.words) (replicate self.old.words 0) }
-        ensures marks { self.new.marks.items ≡ slice_set self.old.marks.items buffer (Held generation commit (width_in self.old.table.items self.old.words buffer)) }
+        ensures marks { self.new.marks.items
+            ≡ slice_set self.old.marks.items buffer (Held generation commit (width_in self.old.table.items self.old.words buffer)) }
         ensures buffers { self.new.buffers ≡ self.old.buffers }
         ensures words { self.new.words ≡ self.old.words }
     {

@@ -63,7 +63,8 @@ impl<const OFFSET_BITS: u32> Cells<OFFSET_BITS> {
         number: Option<u64>,
         map: &mut BTreeMap<u32, Vec<u64>>,
     ) -> Result<(), AllocError>
-        requires entry { IsEntry OFFSET_BITS self.now.buffers self.now.words (width_in self.now.table.items self.now.words (buffer_of OFFSET_BITS entry)) entry }
+        requires entry { IsEntry OFFSET_BITS self.now.buffers self.now.words
+            (width_in self.now.table.items self.now.words (buffer_of OFFSET_BITS entry)) entry }
         requires absent { seen map.old entry ≡ [] }
         ensures here { OnOk result (seen map.new entry.entry
             ≡ chosen number self.now.table.items self.now.stamps.items OFFSET_BITS self.now.buffers self.now.words entry.entry) }
@@ -85,8 +86,10 @@ impl<const OFFSET_BITS: u32> Cells<OFFSET_BITS> {
 
     /// Whether an entry is one of those asked for.
     fn is_chosen(&self, entry: EntryRef<OFFSET_BITS>, number: Option<u64>) -> bool
-        requires { IsEntry OFFSET_BITS self.now.buffers self.now.words (width_in self.now.table.items self.now.words (buffer_of OFFSET_BITS entry)) entry }
-        ensures { result ≡ is_chosen number self.now.table.items self.now.stamps.items OFFSET_BITS self.now.buffers self.now.words entry.entry }
+        requires { IsEntry OFFSET_BITS self.now.buffers self.now.words
+            (width_in self.now.table.items self.now.words (buffer_of OFFSET_BITS entry)) entry }
+        ensures { result ≡ is_chosen number self.now.table.items self.now.stamps.items OFFSET_BITS self.now.buffers self.now.words
+            entry.entry }
     {
         match number {
             Some(number) => all_are(self.stamps_of(entry), number),
@@ -96,7 +99,8 @@ impl<const OFFSET_BITS: u32> Cells<OFFSET_BITS> {
 
     /// The words of an entry.
     fn words_of(&self, entry: EntryRef<OFFSET_BITS>) -> &[u64]
-        requires { IsEntry OFFSET_BITS self.now.buffers self.now.words (width_in self.now.table.items self.now.words (buffer_of OFFSET_BITS entry)) entry }
+        requires { IsEntry OFFSET_BITS self.now.buffers self.now.words
+            (width_in self.now.table.items self.now.words (buffer_of OFFSET_BITS entry)) entry }
         ensures { result.now ≡ standing self.now.table.items OFFSET_BITS self.now.buffers self.now.words entry.entry }
     {
         let buffer = entry.buffer();
@@ -107,9 +111,11 @@ impl<const OFFSET_BITS: u32> Cells<OFFSET_BITS> {
 
     /// The numbers under which the words of an entry were stored.
     fn stamps_of(&self, entry: EntryRef<OFFSET_BITS>) -> &[u64]
-        requires { IsEntry OFFSET_BITS self.now.buffers self.now.words (width_in self.now.table.items self.now.words (buffer_of OFFSET_BITS entry)) entry }
+        requires { IsEntry OFFSET_BITS self.now.buffers self.now.words
+            (width_in self.now.table.items self.now.words (buffer_of OFFSET_BITS entry)) entry }
         ensures { result.now ≡ take (width_in self.now.table.items self.now.words (buffer_of OFFSET_BITS entry.entry))
-            (drop (begin_of OFFSET_BITS self.now.words (width_in self.now.table.items self.now.words (buffer_of OFFSET_BITS entry.entry)) entry.entry) self.now.stamps.items) }
+            (drop (begin_of OFFSET_BITS self.now.words
+            (width_in self.now.table.items self.now.words (buffer_of OFFSET_BITS entry.entry)) entry.entry) self.now.stamps.items) }
     {
         let buffer = entry.buffer();
         let width = self.width(buffer);

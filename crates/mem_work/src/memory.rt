@@ -52,7 +52,8 @@ impl<const OFFSET_BITS: u32, L: Layout> MemWork<OFFSET_BITS, L> {
         requires few_words { words ≤ 65536 }
         requires offsets { words ≤ offset_limit OFFSET_BITS }
         requires product { buffers * words ≤ 67108864 }
-        ensures knows { IfOk result (λ w. ⟦<MemWork<OFFSET_BITS, L> as Work<OFFSET_BITS>>⟧.knows w ≡ opened tt (sizes_of buffers words) []) }
+        ensures knows { IfOk result (λ w. ⟦<MemWork<OFFSET_BITS, L> as Work<OFFSET_BITS>>⟧.knows w
+            ≡ opened tt (sizes_of buffers words) []) }
         ensures records { IfOk result (λ w. (r : ℕ) → ⟦<MemWork<OFFSET_BITS, L> as Frozen<OFFSET_BITS>>⟧.records w r ≡ []) }
         ensures shape { IfOk result (λ w. ⟦<MemWork<OFFSET_BITS, L> as Frozen<OFFSET_BITS>>⟧.shape w ≡ shape) }
     {
@@ -101,7 +102,8 @@ impl<const OFFSET_BITS: u32, L: Layout> Frozen<OFFSET_BITS> for MemWork<OFFSET_B
     fn read(&mut self, entry: EntryRef<OFFSET_BITS>, first: u32, into: &mut [u64])
         requires there { first + length into.old ≤ length (⟦<MemWork<OFFSET_BITS, L> as Frozen<OFFSET_BITS>>⟧.records self.old entry) }
         requires few { first + length into.old < 2 ^ 32 }
-        ensures words { into.new ≡ take (length into.old) (drop first (⟦<MemWork<OFFSET_BITS, L> as Frozen<OFFSET_BITS>>⟧.records self.old entry.entry)) }
+        ensures words { into.new ≡ take (length into.old)
+            (drop first (⟦<MemWork<OFFSET_BITS, L> as Frozen<OFFSET_BITS>>⟧.records self.old entry.entry)) }
         ensures same { self.new ≡ self.old }
     {
         if !into.is_empty() {
@@ -114,7 +116,8 @@ impl<const OFFSET_BITS: u32, L: Layout> Frozen<OFFSET_BITS> for MemWork<OFFSET_B
 }
 
 impl<const OFFSET_BITS: u32, L: Layout> Work<OFFSET_BITS> for MemWork<OFFSET_BITS, L> {
-    ghost use Rattle.mem_work.specs.ProofsForMemory.{memory_limits, memory_queue, memory_order, memory_entries, memory_kept, memory_last, memory_whole, memory_only, memory_stored, memory_held, memory_tags};
+    ghost use Rattle.mem_work.specs.ProofsForMemory.{memory_limits, memory_queue, memory_order, memory_entries, memory_kept, memory_last};
+    ghost use Rattle.mem_work.specs.ProofsForMemory.{memory_whole, memory_only, memory_stored, memory_held, memory_tags};
 
     type Layout = L;
 
@@ -126,21 +129,34 @@ impl<const OFFSET_BITS: u32, L: Layout> Work<OFFSET_BITS> for MemWork<OFFSET_BIT
     fn store(&mut self, entry: EntryRef<OFFSET_BITS>, i: u32, word: u64)
         requires { MayStore OFFSET_BITS (⟦<MemWork<OFFSET_BITS, L> as Work<OFFSET_BITS>>⟧.knows self.old) entry i }
         ensures knows { ⟦<MemWork<OFFSET_BITS, L> as Work<OFFSET_BITS>>⟧.knows self.new
-            ≡ record (⟦<MemWork<OFFSET_BITS, L> as Work<OFFSET_BITS>>⟧.knows self.old) { stored = with_stored (⟦<MemWork<OFFSET_BITS, L> as Work<OFFSET_BITS>>⟧.knows self.old).stored entry.entry i word } }
-        ensures others { (q : ℕ) → q ≢ entry.entry → ⟦<MemWork<OFFSET_BITS, L> as Frozen<OFFSET_BITS>>⟧.records self.new q ≡ ⟦<MemWork<OFFSET_BITS, L> as Frozen<OFFSET_BITS>>⟧.records self.old q }
-        ensures shape { ⟦<MemWork<OFFSET_BITS, L> as Frozen<OFFSET_BITS>>⟧.shape self.new ≡ ⟦<MemWork<OFFSET_BITS, L> as Frozen<OFFSET_BITS>>⟧.shape self.old }
+            ≡ record (⟦<MemWork<OFFSET_BITS, L> as Work<OFFSET_BITS>>⟧.knows self.old) {
+              stored = with_stored
+                  (⟦<MemWork<OFFSET_BITS, L> as Work<OFFSET_BITS>>⟧.knows self.old).stored entry.entry i word;
+            } }
+        ensures others { (q : ℕ) → q ≢ entry.entry
+            → ⟦<MemWork<OFFSET_BITS, L> as Frozen<OFFSET_BITS>>⟧.records self.new q
+            ≡ ⟦<MemWork<OFFSET_BITS, L> as Frozen<OFFSET_BITS>>⟧.records self.old q }
+        ensures shape { ⟦<MemWork<OFFSET_BITS, L> as Frozen<OFFSET_BITS>>⟧.shape self.new
+            ≡ ⟦<MemWork<OFFSET_BITS, L> as Frozen<OFFSET_BITS>>⟧.shape self.old }
     {
         self.cells.store(entry, i, word, u64::from(self.last) + 1);
     }
 
     fn put(&mut self, entry: EntryRef<OFFSET_BITS>, width: u32, words: &[u64])
-        requires entry { IsEntry OFFSET_BITS (⟦<MemWork<OFFSET_BITS, L> as Work<OFFSET_BITS>>⟧.knows self.old).sizes.buffers (⟦<MemWork<OFFSET_BITS, L> as Work<OFFSET_BITS>>⟧.knows self.old).sizes.words width entry }
-        requires width { active_width ((⟦<MemWork<OFFSET_BITS, L> as Work<OFFSET_BITS>>⟧.knows self.old).buffer (buffer_of OFFSET_BITS entry)) ≡ width }
+        requires entry { IsEntry OFFSET_BITS (⟦<MemWork<OFFSET_BITS, L> as Work<OFFSET_BITS>>⟧.knows self.old).sizes.buffers
+            (⟦<MemWork<OFFSET_BITS, L> as Work<OFFSET_BITS>>⟧.knows self.old).sizes.words width entry }
+        requires width { active_width ((⟦<MemWork<OFFSET_BITS, L> as Work<OFFSET_BITS>>⟧.knows self.old).buffer
+            (buffer_of OFFSET_BITS entry)) ≡ width }
         requires fits { length words.now ≤ width }
         requires unkept { InNoCommit (⟦<MemWork<OFFSET_BITS, L> as Work<OFFSET_BITS>>⟧.knows self.old).commits entry }
-        ensures records { ⟦<MemWork<OFFSET_BITS, L> as Frozen<OFFSET_BITS>>⟧.records self.new ≡ with_words (⟦<MemWork<OFFSET_BITS, L> as Frozen<OFFSET_BITS>>⟧.records self.old) entry.entry (padded words.now width) }
-        ensures knows { ⟦<MemWork<OFFSET_BITS, L> as Work<OFFSET_BITS>>⟧.knows self.new ≡ record (⟦<MemWork<OFFSET_BITS, L> as Work<OFFSET_BITS>>⟧.knows self.old) { stored = (⟦<MemWork<OFFSET_BITS, L> as Work<OFFSET_BITS>>⟧.knows self.new).stored } }
-        ensures shape { ⟦<MemWork<OFFSET_BITS, L> as Frozen<OFFSET_BITS>>⟧.shape self.new ≡ ⟦<MemWork<OFFSET_BITS, L> as Frozen<OFFSET_BITS>>⟧.shape self.old }
+        ensures records { ⟦<MemWork<OFFSET_BITS, L> as Frozen<OFFSET_BITS>>⟧.records self.new
+            ≡ with_words (⟦<MemWork<OFFSET_BITS, L> as Frozen<OFFSET_BITS>>⟧.records self.old) entry.entry (padded words.now width) }
+        ensures knows { ⟦<MemWork<OFFSET_BITS, L> as Work<OFFSET_BITS>>⟧.knows self.new
+            ≡ record (⟦<MemWork<OFFSET_BITS, L> as Work<OFFSET_BITS>>⟧.knows self.old) {
+              stored = (⟦<MemWork<OFFSET_BITS, L> as Work<OFFSET_BITS>>⟧.knows self.new).stored;
+            } }
+        ensures shape { ⟦<MemWork<OFFSET_BITS, L> as Frozen<OFFSET_BITS>>⟧.shape self.new
+            ≡ ⟦<MemWork<OFFSET_BITS, L> as Frozen<OFFSET_BITS>>⟧.shape self.old }
     {
         self.cells
             .put(entry, width, words, u64::from(self.last) + 1);
@@ -151,16 +167,25 @@ impl<const OFFSET_BITS: u32, L: Layout> Work<OFFSET_BITS> for MemWork<OFFSET_BIT
     }
 
     fn publish(&mut self, root: EntryRef<OFFSET_BITS>) -> u32
-        requires lawful { L.lawful (⟦<MemWork<OFFSET_BITS, L> as Frozen<OFFSET_BITS>>⟧.shape self.old) (⟦<MemWork<OFFSET_BITS, L> as Frozen<OFFSET_BITS>>⟧.records self.old) root }
-        requires room { (⟦<MemWork<OFFSET_BITS, L> as Work<OFFSET_BITS>>⟧.knows self.old).commits.last < (⟦<MemWork<OFFSET_BITS, L> as Work<OFFSET_BITS>>⟧.knows self.old).sizes.commits }
+        requires lawful { L.lawful (⟦<MemWork<OFFSET_BITS, L> as Frozen<OFFSET_BITS>>⟧.shape self.old)
+            (⟦<MemWork<OFFSET_BITS, L> as Frozen<OFFSET_BITS>>⟧.records self.old) root }
+        requires room { (⟦<MemWork<OFFSET_BITS, L> as Work<OFFSET_BITS>>⟧.knows self.old).commits.last
+            < (⟦<MemWork<OFFSET_BITS, L> as Work<OFFSET_BITS>>⟧.knows self.old).sizes.commits }
         ensures number { result ≡ (⟦<MemWork<OFFSET_BITS, L> as Work<OFFSET_BITS>>⟧.knows self.old).commits.last + 1 }
-        ensures commit { AddsCommit (⟦<MemWork<OFFSET_BITS, L> as Work<OFFSET_BITS>>⟧.knows self.old).commits (⟦<MemWork<OFFSET_BITS, L> as Work<OFFSET_BITS>>⟧.knows self.new).commits
-            (next_image L.reaches (⟦<MemWork<OFFSET_BITS, L> as Frozen<OFFSET_BITS>>⟧.shape self.old) (⟦<MemWork<OFFSET_BITS, L> as Frozen<OFFSET_BITS>>⟧.records self.old) root.entry) }
-        ensures knows { ⟦<MemWork<OFFSET_BITS, L> as Work<OFFSET_BITS>>⟧.knows self.new ≡ published (⟦<MemWork<OFFSET_BITS, L> as Work<OFFSET_BITS>>⟧.knows self.old) (⟦<MemWork<OFFSET_BITS, L> as Work<OFFSET_BITS>>⟧.knows self.new).commits
-            (next_image L.reaches (⟦<MemWork<OFFSET_BITS, L> as Frozen<OFFSET_BITS>>⟧.shape self.old) (⟦<MemWork<OFFSET_BITS, L> as Frozen<OFFSET_BITS>>⟧.records self.old) root.entry) }
+        ensures commit { AddsCommit (⟦<MemWork<OFFSET_BITS, L> as Work<OFFSET_BITS>>⟧.knows self.old).commits
+            (⟦<MemWork<OFFSET_BITS, L> as Work<OFFSET_BITS>>⟧.knows self.new).commits
+            (next_image L.reaches (⟦<MemWork<OFFSET_BITS, L> as Frozen<OFFSET_BITS>>⟧.shape self.old)
+            (⟦<MemWork<OFFSET_BITS, L> as Frozen<OFFSET_BITS>>⟧.records self.old) root.entry) }
+        ensures knows { ⟦<MemWork<OFFSET_BITS, L> as Work<OFFSET_BITS>>⟧.knows self.new
+            ≡ published (⟦<MemWork<OFFSET_BITS, L> as Work<OFFSET_BITS>>⟧.knows self.old)
+            (⟦<MemWork<OFFSET_BITS, L> as Work<OFFSET_BITS>>⟧.knows self.new).commits
+            (next_image L.reaches (⟦<MemWork<OFFSET_BITS, L> as Frozen<OFFSET_BITS>>⟧.shape self.old)
+            (⟦<MemWork<OFFSET_BITS, L> as Frozen<OFFSET_BITS>>⟧.records self.old) root.entry) }
         ensures records { ⟦<MemWork<OFFSET_BITS, L> as Frozen<OFFSET_BITS>>⟧.records self.new
-            ≡ words_at (next_image L.reaches (⟦<MemWork<OFFSET_BITS, L> as Frozen<OFFSET_BITS>>⟧.shape self.old) (⟦<MemWork<OFFSET_BITS, L> as Frozen<OFFSET_BITS>>⟧.records self.old) root.entry) }
-        ensures shape { ⟦<MemWork<OFFSET_BITS, L> as Frozen<OFFSET_BITS>>⟧.shape self.new ≡ ⟦<MemWork<OFFSET_BITS, L> as Frozen<OFFSET_BITS>>⟧.shape self.old }
+            ≡ words_at (next_image L.reaches (⟦<MemWork<OFFSET_BITS, L> as Frozen<OFFSET_BITS>>⟧.shape self.old)
+            (⟦<MemWork<OFFSET_BITS, L> as Frozen<OFFSET_BITS>>⟧.records self.old) root.entry) }
+        ensures shape { ⟦<MemWork<OFFSET_BITS, L> as Frozen<OFFSET_BITS>>⟧.shape self.new
+            ≡ ⟦<MemWork<OFFSET_BITS, L> as Frozen<OFFSET_BITS>>⟧.shape self.old }
     {
         self.root = root;
         self.last += 1;

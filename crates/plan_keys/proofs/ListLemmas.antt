@@ -1,5 +1,6 @@
 -- The next key in lists.
-use Rattle.std.proofs.Common.{◌≡◌, ◌≢◌, ℕ, ℤ, zero, suc, ◌+◌, ◌*◌, ◌/◌, ◌%◌, ◌<◌, Bool, true, false, cond, not, nat_lt, List, [], ◌∷◌, ◌++◌, map, length, None, Some, Option, option_map, Less, Equal, Greater, is_lt, nat_cmp, refl, sym, ap, subst, ◌∙◌, arith}
+use Rattle.std.proofs.Common.{◌≡◌, ◌≢◌, ℕ, ℤ, zero, suc, ◌+◌, ◌*◌, ◌/◌, ◌%◌, ◌<◌, Bool, true, false, cond, not, nat_lt, List, [], ◌∷◌, ◌++◌, map, length, None, Some, Option, option_map, Less, Equal, Greater, is_lt}
+use Rattle.std.proofs.Common.{nat_cmp, refl, sym, ap, subst, ◌∙◌, arith}
 use Rattle.std.proofs.lemmas.Bool.{le-ltb}
 use Rattle.std.proofs.lemmas.List.{length-map}
 use Rattle.std.specs.declared.cmp.Ordering.{Ordering}
@@ -155,7 +156,8 @@ module _ (type : ValueType) (m : Records) where
       first : (docs : List ℕ) → 0 < length docs → first_item (map (λ doc. Pair (stored_value type m p.0) doc) docs ++ keys_of_pairs type m ps)
           ≡ find test (map (λ doc. Pair (stored_value type m p.0) doc) docs ++ keys_of_pairs type m ps)
       first [] some = absurd (omega arith)
-      first (d ∷ docs) some = sym (ap (λ (b : Bool). cond b (Some (Pair (stored_value type m p.0) d)) (find test (map (λ doc. Pair (stored_value type m p.0) doc) docs ++ keys_of_pairs type m ps))) (all (stored_value type m p.0) d))
+      first (d ∷ docs) some = sym (ap (λ (b : Bool). cond b (Some (Pair (stored_value type m p.0) d)) (find test (map (λ doc. Pair (stored_value type m p.0) doc) docs ++ keys_of_pairs type m ps)))
+          (all (stored_value type m p.0) d))
 
   first_passes_at : (test : PlanKey → Bool) (p : ℕ × ℕ) (ps : List (ℕ × ℕ)) → ((doc : ℕ) → test (Pair (stored_value type m p.0) doc) ≡ true) → IsListPair type m p
       → find test (keys_of_pairs type m (p ∷ ps)) ≡ first_item (keys_of_pairs type m (p ∷ ps))

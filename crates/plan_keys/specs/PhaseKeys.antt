@@ -56,7 +56,8 @@ pub record IsListPair (type : ValueType) (m : Records) (p : ℕ × ℕ) : Type 0
 -- the next key in the list of a pair, where there is one
 abbrev pub next_in_list : ValueType → Records → ℕ → Option (ℕ × ℕ) → Option PlanKey
 next_in_list type m doc None = None
-next_in_list type m doc (Some p) = option_map (λ next. Pair (stored_value type m p.0) next) (find (nat_lt doc) (form_docs m (list_form p.1)))
+next_in_list type m doc (Some p) = option_map (λ next. Pair (stored_value type m p.0) next)
+    (find (nat_lt doc) (form_docs m (list_form p.1)))
 
 -- the first key that is past another
 abbrev pub key_past : PlanKey → List PlanKey → Option PlanKey

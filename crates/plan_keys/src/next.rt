@@ -26,7 +26,8 @@ fn node_after<const OFFSET_BITS: u32, F: Frozen<OFFSET_BITS>>(
     requires documents { IsDocumentMap (F.records frozen.old) documents }
     requires index { IsIndex value_type (F.records frozen.old) dictionary }
     requires typed { HasType value_type key.now }
-    ensures next { IfOk result (λ found. found ≡ key_past key.now (node_phase_keys value_type (F.records frozen.old) documents.entry dictionary.entry)) }
+    ensures next { IfOk result (λ found. found
+        ≡ key_past key.now (node_phase_keys value_type (F.records frozen.old) documents.entry dictionary.entry)) }
     ensures same { frozen.new ≡ frozen.old }
 {
     let next = value_after(alloc, frozen, value_type, dictionary, key)?;

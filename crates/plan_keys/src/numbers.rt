@@ -52,7 +52,8 @@ pub fn number_past<const OFFSET_BITS: u32, F: Frozen<OFFSET_BITS>>(
 ) -> Option<u32>
     requires tree { IsTree nat_cmp by_number (F.records frozen.old) root }
     requires numbers { AllByRecursion (λ p. IsDocNumber p.0) (tree_pairs (F.records frozen.old) root) }
-    ensures number { result ≡ option_map (λ p. p.0) (first_item (seek (λ key. nat_cmp key (after + 1)) (tree_pairs (F.records frozen.old) root.entry))) }
+    ensures number { result ≡ option_map (λ p. p.0)
+        (first_item (seek (λ key. nat_cmp key (after + 1)) (tree_pairs (F.records frozen.old) root.entry))) }
     ensures same { frozen.new ≡ frozen.old }
 {
     let cursor = Cursor::seek(frozen, root, &NumberKey(after as u64 + 1));

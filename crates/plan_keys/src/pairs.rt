@@ -145,7 +145,8 @@ fn pair_past<const OFFSET_BITS: u32, F: Frozen<OFFSET_BITS>>(
 ) -> Result<Option<PlanKey>, AllocError>
     requires index { IsIndex value_type (F.records frozen.old) root }
     requires typed { type_of value.now ≡ value_type }
-    ensures next { IfOk result (λ found. found ≡ key_past (keys.Pair value.now doc) (pair_keys value_type (F.records frozen.old) root.entry)) }
+    ensures next { IfOk result (λ found. found
+        ≡ key_past (keys.Pair value.now doc) (pair_keys value_type (F.records frozen.old) root.entry)) }
     ensures same { frozen.new ≡ frozen.old }
 {
     let next = next_of_value(alloc, frozen, value_type, root, value, doc)?;

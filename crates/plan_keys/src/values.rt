@@ -25,9 +25,11 @@ fn value_at<const OFFSET_BITS: u32, F: Frozen<OFFSET_BITS>>(
     cursor: &Cursor<OFFSET_BITS>,
 ) -> Result<Option<PlanKey>, AllocError>
     requires at { IsAt (F.records frozen.old) cursor.now }
-    requires values { AllByRecursion (λ p. IsValueRecord value_type (F.records frozen.old p.0)) (pairs_from (F.records frozen.old) cursor.now) }
+    requires values { AllByRecursion (λ p. IsValueRecord value_type (F.records frozen.old p.0))
+        (pairs_from (F.records frozen.old) cursor.now) }
     ensures value { IfOk result (λ found. found
-        ≡ option_map (λ p. keys.Value (stored_value value_type (F.records frozen.old) p.0)) (first_item (pairs_from (F.records frozen.old) cursor.now))) }
+        ≡ option_map (λ p. keys.Value (stored_value value_type (F.records frozen.old) p.0))
+        (first_item (pairs_from (F.records frozen.old) cursor.now))) }
     ensures same { frozen.new ≡ frozen.old }
 {
     if cursor.at_end() {
@@ -63,7 +65,8 @@ fn value_past<const OFFSET_BITS: u32, F: Frozen<OFFSET_BITS>>(
 ) -> Result<Option<PlanKey>, AllocError>
     requires dictionary { IsDictionary value_type (F.records frozen.old) root }
     requires typed { type_of value.now ≡ value_type }
-    ensures next { IfOk result (λ found. found ≡ key_past (keys.Value value.now) (value_keys value_type (F.records frozen.old) root.entry)) }
+    ensures next { IfOk result (λ found. found
+        ≡ key_past (keys.Value value.now) (value_keys value_type (F.records frozen.old) root.entry)) }
     ensures same { frozen.new ≡ frozen.old }
 {
     let cursor = upper(frozen, root, value);

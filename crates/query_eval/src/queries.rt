@@ -159,7 +159,8 @@ fn gather_some<const OFFSET_BITS: u32, F: Frozen<OFFSET_BITS>>(
 ) -> Result<Gathered, AllocError>
     requires { AreIndexed OFFSET_BITS (F.records frozen.old) dictionaries.now }
     ensures docs { IfOk result (λ all. (doc : ℕ) → is_in all doc
-        ≡ (is_in gathered doc || found (or (query_trees queries.now.items)) (indexes_in OFFSET_BITS (F.records frozen.old) dictionaries.now) doc)) }
+        ≡ (is_in gathered doc || found (or (query_trees queries.now.items))
+        (indexes_in OFFSET_BITS (F.records frozen.old) dictionaries.now) doc)) }
     ensures same { frozen.new ≡ frozen.old }
 {
     let mut all = gathered;
@@ -178,7 +179,8 @@ pub fn matching<const OFFSET_BITS: u32, F: Frozen<OFFSET_BITS>>(
     query: &Query,
 ) -> Result<DocList, AllocError>
     requires { AreIndexed OFFSET_BITS (F.records frozen.old) dictionaries.now }
-    ensures docs { IfOk result (λ docs. Holds docs (found (tree_of query.now) (indexes_in OFFSET_BITS (F.records frozen.old) dictionaries.now))) }
+    ensures docs { IfOk result (λ docs. Holds docs
+        (found (tree_of query.now) (indexes_in OFFSET_BITS (F.records frozen.old) dictionaries.now))) }
     ensures same { frozen.new ≡ frozen.old }
 {
     let all = gather(alloc, frozen, dictionaries, query, Gathered::new(alloc))?;
@@ -199,7 +201,8 @@ fn kept<const OFFSET_BITS: u32, F: Frozen<OFFSET_BITS>>(
     requires { AreIndexed OFFSET_BITS (F.records frozen.old) dictionaries.now }
     ensures docs { IfOk result (λ kept.
         (i ≡ known → IsMatched docs query.now (indexes_in OFFSET_BITS (F.records frozen.old) dictionaries.now))
-        → (doc : ℕ) → has kept doc ≡ (has docs doc && found (tree_of query.now) (indexes_in OFFSET_BITS (F.records frozen.old) dictionaries.now) doc)) }
+        → (doc : ℕ) → has kept doc ≡ (has docs doc
+        && found (tree_of query.now) (indexes_in OFFSET_BITS (F.records frozen.old) dictionaries.now) doc)) }
     ensures same { frozen.new ≡ frozen.old }
 {
     if i == known {
@@ -225,7 +228,8 @@ fn gather_common<const OFFSET_BITS: u32, F: Frozen<OFFSET_BITS>>(
 ) -> Result<Gathered, AllocError>
     requires { AreIndexed OFFSET_BITS (F.records frozen.old) dictionaries.now }
     ensures docs { IfOk result (λ all. (doc : ℕ) → is_in all doc
-        ≡ (is_in gathered doc || found (and (query_trees queries.now.items)) (indexes_in OFFSET_BITS (F.records frozen.old) dictionaries.now) doc)) }
+        ≡ (is_in gathered doc || found (and (query_trees queries.now.items))
+        (indexes_in OFFSET_BITS (F.records frozen.old) dictionaries.now) doc)) }
     ensures same { frozen.new ≡ frozen.old }
 {
     let first = shortest_of(frozen, dictionaries, queries.as_slice());
@@ -253,7 +257,8 @@ fn keep_common<const OFFSET_BITS: u32, F: Frozen<OFFSET_BITS>>(
     ensures docs { IfOk result (λ common.
         AreMatched docs (slice_get queries.now.items known) (indexes_in OFFSET_BITS (F.records frozen.old) dictionaries.now)
         → (doc : ℕ) → has common doc
-        ≡ (has docs doc && found_all (query_trees queries.now.items) (indexes_in OFFSET_BITS (F.records frozen.old) dictionaries.now) doc)) }
+        ≡ (has docs doc && found_all (query_trees queries.now.items)
+        (indexes_in OFFSET_BITS (F.records frozen.old) dictionaries.now) doc)) }
     ensures same { frozen.new ≡ frozen.old }
 {
     let mut common = docs;

@@ -59,7 +59,8 @@ module _ {H : Type 0} (old : Ledger H) (m : Records) (l node : ℕ) (is : IsNode
   module _ (ledger : Ledger H) (n : Records) (i : ℕ) (low : i < length (node_values (m node)))
       (before : DropsEntries old ledger m n (flat_map (nodes_below m l) (take i (node_values (m node))))) where
     cut-times : (r : ℕ) → times r (flat_map (nodes_below m l) (node_values (m node)))
-        ≡ times r (flat_map (nodes_below m l) (take i (node_values (m node)))) + (times r (nodes_below m l (get_or (node_values (m node)) i 0)) + times r (flat_map (nodes_below m l) (drop (suc i) (node_values (m node)))))
+        ≡ times r (flat_map (nodes_below m l) (take i (node_values (m node)))) +
+        (times r (nodes_below m l (get_or (node_values (m node)) i 0)) + times r (flat_map (nodes_below m l) (drop (suc i) (node_values (m node)))))
     cut-times r =
         let vs = node_values (m node) in
         let g : ℕ → List ℕ = nodes_below m l in

@@ -28,7 +28,8 @@ abbrev pub nodes_of : ℕ → ℕ
 nodes_of n = nodes_above 7 n
 
 -- a node of a level was made of slots, and added behind those that were made before
-pub record AddsPart {H : Type 0} (old new : Ledger H) (m n : Records) (level : ℕ) (keys values keys_before nodes_before keys_after nodes_after : List ℕ) : Type 0 where
+pub record AddsPart {H : Type 0} (old new : Ledger H) (m n : Records) (level : ℕ)
+    (keys values keys_before nodes_before keys_after nodes_after : List ℕ) : Type 0 where
   pub part : Part
   pub made : MakesPart old new m n level keys values part
   pub keys_are : keys_after ≡ keys_before ++ part.key ∷ []

@@ -1,5 +1,6 @@
 -- The nodes of a tree are distinct, since the keys below them ascend.
-use Rattle.std.proofs.Common.{◌≡◌, ◌≢◌, ◌⊎◌, inl, inr, ⊎_elim, ℕ, zero, suc, ◌^◌, ◌<◌, ◌≤◌, List, [], ◌∷◌, ◌++◌, length, map, false, nat_eq, refl, sym, ap, subst, ◌∙◌, arith, ne_eqb, Ordering, Less, Greater, is_lt, true≢false}
+use Rattle.std.proofs.Common.{◌≡◌, ◌≢◌, ◌⊎◌, inl, inr, ⊎_elim, ℕ, zero, suc, ◌^◌, ◌<◌, ◌≤◌, List, [], ◌∷◌, ◌++◌, length, map, false, nat_eq, refl, sym, ap, subst, ◌∙◌, arith, ne_eqb, Ordering, Less, Greater, is_lt}
+use Rattle.std.proofs.Common.{true≢false}
 use Rattle.std.proofs.Math.Nat.{one-le-pow}
 use Rattle.std.specs.Cmp.{IsTotalOrder}
 use Rattle.std.specs.List.{flat_map, AllByRecursion, IsDistinct}
@@ -95,7 +96,13 @@ module _ {V : Type 0} (order : V → V → Ordering) (read : ℕ → V) where
       below_all level each (c ∷ cs) q all h =
           ⊎_elim
           (λ a. let b = each c q all.0 a in record { height = b.height; low = b.low; node = b.node; inside = λ p i. In-left p (pairs_below m level c) (flat_map (pairs_below m level) cs) (b.inside p i) })
-          (λ a. let b = below_all level each cs q all.1 a in record { height = b.height; low = b.low; node = b.node; inside = λ p i. In-right p (pairs_below m level c) (flat_map (pairs_below m level) cs) (b.inside p i) })
+          (λ a. let b = below_all level each cs q all.1 a in record {
+            height = b.height;
+            low = b.low;
+            node = b.node;
+            inside = λ p i. In-right p (pairs_below m level c) (flat_map (pairs_below m level) cs)
+                (b.inside p i);
+          })
           (In-split q (nodes_below m level c) (flat_map (nodes_below m level) cs) h)
 
       itself : (level ref q : ℕ) → q ≡ ref → IsNode m 8 level ref → IsBelow level (pairs_below m level ref) q
@@ -161,4 +168,5 @@ pub tree_nodes_distinct : {V : Type 0} (order : V → V → Ordering) → IsTota
 unfolding IsDistinct
 tree_nodes_distinct order total read m zero tree = tt
 tree_nodes_distinct order total read m (suc ref) tree =
-    nodes_distinct order (read m) (strict_order total) m (root_least (root_level m (suc ref))) (root_level m (suc ref)) (suc ref) (tree.node (omega arith)) (rises_from order (read m) (tree_pairs m (suc ref)) tree.ascends)
+    nodes_distinct order (read m) (strict_order total) m (root_least (root_level m (suc ref))) (root_level m (suc ref)) (suc ref) (tree.node (omega arith))
+    (rises_from order (read m) (tree_pairs m (suc ref)) tree.ascends)

@@ -27,7 +27,15 @@ two_leaves_are_a_tree =
     let root = node_formed 1 17 (9 ∷ 17 ∷ []) (1026 ∷ 2050 ∷ []) refl (leb-true _ _ refl) (ltb-true _ _ refl) in
     let first = node_formed 0 9 (range_with_len 1 9) (replicate 9 1) refl (leb-true _ _ refl) (ltb-true _ _ refl) in
     let second = node_formed 0 8 (range_with_len 10 8) (replicate 8 1) refl (leb-true _ _ refl) (ltb-true _ _ refl) in
-    let more : IsNodeForm 0 8 (words_at two_leaves 1026) = record { size = first.size; at_level = first.at_level; filled = leb-true _ _ refl; room = first.room; no_key = first.no_key; no_value = first.no_value; few = first.few } in
+    let more : IsNodeForm 0 8 (words_at two_leaves 1026) = record {
+      size = first.size;
+      at_level = first.at_level;
+      filled = leb-true _ _ refl;
+      room = first.room;
+      no_key = first.no_key;
+      no_value = first.no_value;
+      few = first.few;
+    } in
     record { node = λ some. (root, refl, refl, ((more, refl), ((second, refl), tt))); ascends = range_ascends 1 17 }
 
 pub two_leaves_read : TwoLeavesRead

@@ -8,7 +8,8 @@ use Rattle.std.specs.List.Sorted.{IsStrictlySortedBy}
 use Rattle.list_facts.proofs.Each.{AllByRecursion-flat_map}
 use Rattle.image_base.specs.Records.{Records, SameAt, AllThere}
 use Rattle.tree_images.specs.Nodes.{level_of, count_of, node_keys, node_values, IsNodeForm}
-use Rattle.tree_images.specs.Trees.{pairs_below, nodes_below, last_key, HasLastKeys, HasCount, IsNode, root_level, root_least, tree_pairs, tree_nodes, IsRootNode, IsTree}
+use Rattle.tree_images.specs.Trees.{pairs_below, nodes_below, last_key, HasLastKeys, HasCount, IsNode, root_level, root_least, tree_pairs}
+use Rattle.tree_images.specs.Trees.{tree_nodes, IsRootNode, IsTree}
 
 pub SameAt-left : (m n : Records) (xs ys : List ℕ) → SameAt (xs ++ ys) m n → SameAt xs m n
 SameAt-left m n [] ys h = tt
@@ -39,8 +40,10 @@ module _ {X : Type 0} (m n : Records) (reach : X → List ℕ) where
   pub all-same : (P Q : X → Type 0) → ((x : X) → SameAt (reach x) m n → P x → Q x)
       → (xs : List X) → SameAt (flat_map reach xs) m n → AllByRecursion P xs → AllByRecursion Q xs
   all-same P Q same [] h all = tt
-  all-same P Q same (x ∷ xs) h all =
-      (same x (SameAt-left m n (reach x) (flat_map reach xs) h) all.0, all-same P Q same xs (SameAt-right m n (reach x) (flat_map reach xs) h) all.1)
+  all-same P Q same (x ∷ xs) h all = (
+    same x (SameAt-left m n (reach x) (flat_map reach xs) h) all.0,
+    all-same P Q same xs (SameAt-right m n (reach x) (flat_map reach xs) h) all.1,
+  )
 
 pub pairs-same : (m n : Records) (level ref : ℕ) → SameAt (nodes_below m level ref) m n → pairs_below n level ref ≡ pairs_below m level ref
 unfolding pairs_below nodes_below
@@ -54,17 +57,27 @@ unfolding nodes_below
 nodes-same m n zero ref h = refl
 nodes-same m n (suc level) ref h =
     ap (λ ws. ref ∷ flat_map (nodes_below n level) (node_values ws)) h.0
-    ∙ ap (λ qs. ref ∷ qs) (flat_map-same m n (nodes_below m level) (nodes_below m level) (nodes_below n level) (nodes-same m n level) (node_values (m ref)) h.1)
+    ∙ ap (λ qs. ref ∷ qs) (flat_map-same m n (nodes_below m level) (nodes_below m level) (nodes_below n level) (nodes-same m n level)
+    (node_values (m ref)) h.1)
 
-pub IsNode-same : (m n : Records) (least level ref : ℕ) → SameAt (nodes_below m level ref) m n → IsNode m least level ref → IsNode n least level ref
+pub IsNode-same : (m n : Records) (least level ref : ℕ) → SameAt (nodes_below m level ref) m n → IsNode m least level ref
+    → IsNode n least level ref
 unfolding IsNode nodes_below
 IsNode-same m n least zero ref h node =
     (subst (IsNodeForm 0 least) (sym h.0) node.0, ap count_of h.0 ∙ node.1 ∙ sym (ap length (pairs-same m n zero ref h)))
 IsNode-same m n least (suc level) ref h node =
     let count : HasCount n (suc level) ref = ap count_of h.0 ∙ node.1 ∙ sym (ap length (pairs-same m n (suc level) ref h)) in
-    let keys : HasLastKeys n level (m ref) = node.2 ∙ sym (map-same m n (nodes_below m level) (λ c. last_key (pairs_below m level c)) (λ c. last_key (pairs_below n level c)) (λ c s. ap last_key (pairs-same m n level c s)) (node_values (m ref)) h.1) in
-    let below : AllByRecursion (IsNode n 8 level) (node_values (m ref)) = all-same m n (nodes_below m level) (IsNode m 8 level) (IsNode n 8 level) (IsNode-same m n 8 level) (node_values (m ref)) h.1 node.3 in
-    (subst (IsNodeForm (suc level) least) (sym h.0) node.0, count, subst (HasLastKeys n level) (sym h.0) keys, subst (λ ws. AllByRecursion (IsNode n 8 level) (node_values ws)) (sym h.0) below)
+    let keys : HasLastKeys n level (m ref) =
+    node.2 ∙ sym (map-same m n (nodes_below m level) (λ c. last_key (pairs_below m level c)) (λ c. last_key (pairs_below n level c))
+    (λ c s. ap last_key (pairs-same m n level c s)) (node_values (m ref)) h.1) in
+    let below : AllByRecursion (IsNode n 8 level) (node_values (m ref)) =
+    all-same m n (nodes_below m level) (IsNode m 8 level) (IsNode n 8 level) (IsNode-same m n 8 level)
+    (node_values (m ref)) h.1 node.3 in (
+      subst (IsNodeForm (suc level) least) (sym h.0) node.0,
+      count,
+      subst (HasLastKeys n level) (sym h.0) keys,
+      subst (λ ws. AllByRecursion (IsNode n 8 level) (node_values ws)) (sym h.0) below,
+    )
 
 -- a node is the first of those that it reaches
 pub node-same : (m n : Records) (level ref : ℕ) → SameAt (nodes_below m level ref) m n → n ref ≡ m ref
@@ -88,21 +101,30 @@ pub IsRootNode-same : (m n : Records) (root : ℕ) → SameAt (tree_nodes m root
 IsRootNode-same m n zero h some node = absurd (omega arith)
 IsRootNode-same m n (suc ref) h some node =
     let same = node-same m n (root_level m (suc ref)) (suc ref) h in
-    subst (λ ws. IsNode n (root_least (min 7 (level_of ws))) (min 7 (level_of ws)) (suc ref)) (sym same) (IsNode-same m n (root_least (root_level m (suc ref))) (root_level m (suc ref)) (suc ref) h node)
+    subst (λ ws. IsNode n (root_least (min 7 (level_of ws))) (min 7 (level_of ws)) (suc ref)) (sym same)
+    (IsNode-same m n (root_least (root_level m (suc ref))) (root_level m (suc ref)) (suc ref) h node)
 
 -- a tree stays where its nodes and what its keys read as stay
-pub IsTree-same : {V : Type 0} (order : V → V → Ordering) (read : Records → ℕ → V) (m n : Records) (root : ℕ) → SameAt (tree_nodes m root) m n
-    → map (λ p. read n p.0) (tree_pairs m root) ≡ map (λ p. read m p.0) (tree_pairs m root) → IsTree order read m root → IsTree order read n root
+pub IsTree-same : {V : Type 0} (order : V → V → Ordering) (read : Records → ℕ → V) (m n : Records) (root : ℕ)
+    → SameAt (tree_nodes m root) m n
+    → map (λ p. read n p.0) (tree_pairs m root) ≡ map (λ p. read m p.0) (tree_pairs m root) → IsTree order read m root
+    → IsTree order read n root
 IsTree-same order read m n root h reads tree = record {
   node = λ some. IsRootNode-same m n root h some (tree.node some);
   ascends = subst (IsStrictlySortedBy order) (sym (ap (λ ps. map (λ p. read n p.0) ps) (tree_pairs-same m n root h) ∙ reads)) tree.ascends;
 }
 
 -- every node of a tree is there
-pub nodes_there : (m : Records) (least level ref : ℕ) → IsNode m least level ref → AllByRecursion (λ q. 0 < length (m q)) (nodes_below m level ref)
+pub nodes_there : (m : Records) (least level ref : ℕ) → IsNode m least level ref
+    → AllByRecursion (λ q. 0 < length (m q)) (nodes_below m level ref)
 unfolding IsNode nodes_below
 nodes_there m least zero ref node = (let s = node.0.size in omega arith, tt)
-nodes_there m least (suc level) ref node = (let s = node.0.size in omega arith, AllByRecursion-flat_map (λ q. 0 < length (m q)) (IsNode m 8 level) (nodes_below m level) (nodes_there m 8 level) (node_values (m ref)) node.3)
+nodes_there m least (suc level) ref node = (
+  let s = node.0.size in
+      omega arith,
+  AllByRecursion-flat_map (λ q. 0 < length (m q)) (IsNode m 8 level) (nodes_below m level) (nodes_there m 8 level)
+      (node_values (m ref)) node.3,
+)
 
 pub there-both : (m : Records) (xs ys : List ℕ) → AllThere xs m → AllThere ys m → AllThere (xs ++ ys) m
 there-both m [] ys a b = b
@@ -115,4 +137,5 @@ there-all m (x ∷ xs) all = (all.0, there-all m xs all.1)
 pub tree_there : (m : Records) (root : ℕ) → (0 < root → IsRootNode m root) → AllThere (tree_nodes m root) m
 tree_there m zero node = tt
 tree_there m (suc ref) node =
-    there-all m (nodes_below m (root_level m (suc ref)) (suc ref)) (nodes_there m (root_least (root_level m (suc ref))) (root_level m (suc ref)) (suc ref) (node (omega arith)))
+    there-all m (nodes_below m (root_level m (suc ref)) (suc ref))
+    (nodes_there m (root_least (root_level m (suc ref))) (root_level m (suc ref)) (suc ref) (node (omega arith)))

@@ -21,7 +21,8 @@ use Rattle.store_api.specs.Parts.{times}
 use Rattle.tree_node.specs.Places.{IsPlace}
 use Rattle.tree_node.specs.Slots.{slot_pairs, slot_nodes, IsInHand}
 use Rattle.tree_node.proofs.KeyLemmas.{key_last}
-use Rattle.tree_node.proofs.SlotLemmas.{pairs-slots, nodes-slots, hand-append, hand-children, hand-kept, child_nodes, slot_pairs-inner, slot_pairs-leaf, slot_nodes-inner, slot_nodes-leaf, all_pairs-kept, all_nodes-kept, hand-take, hand-drop}
+use Rattle.tree_node.proofs.SlotLemmas.{pairs-slots, nodes-slots, hand-append, hand-children, hand-kept, child_nodes, slot_pairs-inner, slot_pairs-leaf, slot_nodes-inner, slot_nodes-leaf, all_pairs-kept, all_nodes-kept}
+use Rattle.tree_node.proofs.SlotLemmas.{hand-take, hand-drop}
 use Rattle.tree_insert.specs.Inserts.{Inserts}
 use Rattle.tree_insert.specs.Parts.{AreParts, MakesParts, part_keys, part_nodes, parts_count}
 use Rattle.tree_insert.specs.declared.parts.Parts.{Parts}
@@ -132,7 +133,8 @@ module _ (m : Records) (least l node i : ℕ) (node_is : IsNode m least (suc l) 
       omega arith
 
   pub child-nodes : (q : ℕ) → times q (nodes_below m (suc l) node)
-      ≡ times q (node ∷ []) + (times q (flat_map (nodes_below m l) (take i (node_values (m node)))) + (times q (nodes_below m l (get_or (node_values (m node)) i 0)) + times q (flat_map (nodes_below m l) (drop (suc i) (node_values (m node))))))
+      ≡ times q (node ∷ []) + (times q (flat_map (nodes_below m l) (take i (node_values (m node)))) +
+      (times q (nodes_below m l (get_or (node_values (m node)) i 0)) + times q (flat_map (nodes_below m l) (drop (suc i) (node_values (m node))))))
   child-nodes q =
       let vs = node_values (m node) in
       let g : ℕ → List ℕ = nodes_below m l in
@@ -165,7 +167,8 @@ module _ {V : Type 0} (order : V → V → Ordering) (total : IsTotalOrder order
   child_many = (IsNode-form m 8 l (get_or (node_values (m node)) i 0) (child-node m least l node i node_is low)).filled
 
   put_is : put (seen_by read order s m) pair (pairs_below m (suc l) node)
-      ≡ flat_map (pairs_below m l) (take i (node_values (m node))) ++ (put (seen_by read order s m) pair (pairs_below m l (get_or (node_values (m node)) i 0)) ++ flat_map (pairs_below m l) (drop (suc i) (node_values (m node))))
+      ≡ flat_map (pairs_below m l) (take i (node_values (m node)))
+      ++ (put (seen_by read order s m) pair (pairs_below m l (get_or (node_values (m node)) i 0)) ++ flat_map (pairs_below m l) (drop (suc i) (node_values (m node))))
   put_is =
       ap (put (seen_by read order s m) pair) (inner-pairs m l node)
       ∙ place_put order total read s m pair (pairs_below m l) (node_keys (m node)) (node_values (m node)) i place hand.even
@@ -193,7 +196,8 @@ module _ {V : Type 0} (order : V → V → Ordering) (total : IsTotalOrder order
       ∙ ap (λ zs. flat_map g (take i vs) ++ zs) (flat_map-append g (part_nodes ps) (drop (suc i) vs))
       ∙ ap (λ zs. zs ++ (flat_map g (part_nodes ps) ++ flat_map g (drop (suc i) vs))) (all_pairs-kept m n keeps 8 l (take i vs) (child_nodes m l (take i (node_keys (m node))) (take i vs) front))
       ∙ ap (λ zs. flat_map f (take i vs) ++ (zs ++ flat_map g (drop (suc i) vs))) parts.pairs_are
-      ∙ ap (λ zs. flat_map f (take i vs) ++ (put (seen_by read order s m) pair (f (get_or vs i 0)) ++ zs)) (all_pairs-kept m n keeps 8 l (drop (suc i) vs) (child_nodes m l (drop (suc i) (node_keys (m node))) (drop (suc i) vs) back))
+      ∙ ap (λ zs. flat_map f (take i vs) ++ (put (seen_by read order s m) pair (f (get_or vs i 0)) ++ zs))
+      (all_pairs-kept m n keeps 8 l (drop (suc i) vs) (child_nodes m l (drop (suc i) (node_keys (m node))) (drop (suc i) vs) back))
       ∙ sym put_is
 
   -- the node's count, less the child's, plus those of the parts
@@ -255,8 +259,10 @@ module _ {V : Type 0} (order : V → V → Ordering) (total : IsTotalOrder order
       ∙ ap (λ zs. flat_map g (take i vs) ++ zs) (flat_map-append g (part_nodes ps) (drop (suc i) vs))) in
       let one = times-append q (flat_map g (take i vs)) (flat_map g (part_nodes ps) ++ flat_map g (drop (suc i) vs)) in
       let two = times-append q (flat_map g (part_nodes ps)) (flat_map g (drop (suc i) vs)) in
-      let a : times q (flat_map g (take i vs)) ≡ times q (flat_map (nodes_below m l) (take i vs)) = ap (times q) (all_nodes-kept m n keeps 8 l (take i vs) (child_nodes m l (take i (node_keys (m node))) (take i vs) front)) in
-      let b : times q (flat_map g (drop (suc i) vs)) ≡ times q (flat_map (nodes_below m l) (drop (suc i) vs)) = ap (times q) (all_nodes-kept m n keeps 8 l (drop (suc i) vs) (child_nodes m l (drop (suc i) (node_keys (m node))) (drop (suc i) vs) back)) in
+      let a : times q (flat_map g (take i vs)) ≡ times q (flat_map (nodes_below m l) (take i vs)) =
+      ap (times q) (all_nodes-kept m n keeps 8 l (take i vs) (child_nodes m l (take i (node_keys (m node))) (take i vs) front)) in
+      let b : times q (flat_map g (drop (suc i) vs)) ≡ times q (flat_map (nodes_below m l) (drop (suc i) vs)) =
+      ap (times q) (all_nodes-kept m n keeps 8 l (drop (suc i) vs) (child_nodes m l (drop (suc i) (node_keys (m node))) (drop (suc i) vs) back)) in
       omega arith
 
   pub over-inserts : {H : Type 0} (old mid new : Ledger H) (o : Records) (before after : List ℕ) (made : Parts)

@@ -11,7 +11,8 @@ use Rattle.tree_make.specs.Makes.{MakesPart}
 use Rattle.tree_node.specs.Slots.{slot_pairs, slot_nodes, IsInHand}
 use Rattle.tree_make.specs.declared.make.Part.{Part}
 use Rattle.tree_make.proofs.MakesLemmas.{makes-then, makes-more}
-use Rattle.tree_node.proofs.SlotLemmas.{slot_pairs-append, slot_nodes-append, hand-right, pairs-kept, nodes_below-kept, node-kept, slot_pairs-kept, slot_nodes-kept, hand-kept, hand-take, hand-drop, few-take, few-drop, even-take, cut}
+use Rattle.tree_node.proofs.SlotLemmas.{slot_pairs-append, slot_nodes-append, hand-right, pairs-kept, nodes_below-kept, node-kept, slot_pairs-kept, slot_nodes-kept, hand-kept, hand-take, hand-drop, few-take, few-drop}
+use Rattle.tree_node.proofs.SlotLemmas.{even-take, cut}
 use Rattle.tree_insert.specs.Parts.{MakesParts}
 use Rattle.tree_insert.specs.declared.parts.Parts.TheVariants.{One, Two}
 use Rattle.tree_make.proofs.RootLemmas.{made-balance}

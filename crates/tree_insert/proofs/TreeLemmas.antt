@@ -55,7 +55,8 @@ module _ {H : Type 0} {V : Type 0} (order : V → V → Ordering) (total : IsTot
       record { nodes = lower.nodes; some = lower.some; keys = lower.keys; pairs_are = refl }
 
   pub top-one : level ≡ 7 → length (part_nodes parts) ≡ 1
-  top-one top = one_at_top n (used_of (m root)) parts (put (seen_by read order s m) pair (pairs_below m level root)) (subst (λ l. AreParts n (used_of (m root)) l parts (put (seen_by read order s m) pair (pairs_below m level root))) top x.parts_are) put-few
+  top-one top = one_at_top n (used_of (m root)) parts (put (seen_by read order s m) pair (pairs_below m level root))
+      (subst (λ l. AreParts n (used_of (m root)) l parts (put (seen_by read order s m) pair (pairs_below m level root))) top x.parts_are) put-few
 
   gone-few : (r : ℕ) → times r gone ≤ times r (tree_nodes m root)
   gone-few r = let gone_r = x.gone r in let same = ap (times r) (root-nodes order read m root tree some level level_is) in omega arith

@@ -51,7 +51,8 @@ fn visit_inner<const OFFSET_BITS: u32, F: Frozen<OFFSET_BITS>, K: KeyOrder<OFFSE
     requires readable { AllReadable K.can_read (F.records frozen.old)
         (pairs_below (F.records frozen.old) (level_of (F.records frozen.old node)) node) }
     ensures words { words.new ≡ F.records frozen.old node.entry }
-    ensures place { IsPlace (seen_by K.read K.order (K.sought key.now) (F.records frozen.old)) (node_keys (F.records frozen.old node.entry)) result }
+    ensures place { IsPlace (seen_by K.read K.order (K.sought key.now) (F.records frozen.old))
+        (node_keys (F.records frozen.old node.entry)) result }
     ensures same { frozen.new ≡ frozen.old }
 {
     let spot = visit(frozen, node, key, words);

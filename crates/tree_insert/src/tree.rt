@@ -32,7 +32,8 @@ fn root_over<const OFFSET_BITS: u32, S: Store<OFFSET_BITS>>(
     requires few { length (flat_map (pairs_below (S.records store.old) level) (part_nodes parts.now)) < 2 ^ 32 }
     requires low { level ≤ 7 }
     requires two { level ≡ 7 → length (part_nodes parts.now) ≡ 1 }
-    ensures root { IfOk result (IsRootOver (S.ledger store.old) (S.ledger store.new) (S.records store.old) (S.records store.new) level parts.now) }
+    ensures root { IfOk result (IsRootOver (S.ledger store.old) (S.ledger store.new) (S.records store.old)
+        (S.records store.new) level parts.now) }
     ensures makes { MakesNodes (S.ledger store.old) (S.ledger store.new) (S.records store.old) (S.records store.new) 1 }
     ensures refuses { IfErr result (Refuses (S.ledger store.old) (S.ledger store.new) NODE_WORDS) }
 {
@@ -98,7 +99,8 @@ pub fn insert<const OFFSET_BITS: u32, S: Store<OFFSET_BITS>, K: KeyOrder<OFFSET_
     ensures keyed { IfOk result (IsKeyedTree K.order K.read K.can_read K.reads_from (S.records store.new)) }
     ensures owns { IfOk result (λ r. Owns (S.ledger store.new) (S.records store.new) (tree r ∷ [])) }
     ensures pairs { IfOk result (λ r. tree_pairs (S.records store.new) r
-        ≡ put (seen_by K.read K.order (K.sought key.now) (S.records store.old)) (word, value) (tree_pairs (S.records store.old) root.entry)) }
+        ≡ put (seen_by K.read K.order (K.sought key.now) (S.records store.old)) (word, value)
+        (tree_pairs (S.records store.old) root.entry)) }
     ensures turns { IfOk result (λ r. Turns (S.ledger store.old) (S.ledger store.new) (S.records store.old) (S.records store.new)
         (tree root.entry ∷ []) (tree r ∷ [])) }
     ensures others { KeepsOthers (S.records store.old) (S.records store.new) }

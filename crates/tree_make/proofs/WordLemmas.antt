@@ -1,9 +1,11 @@
 -- The words of a node in hand, read and edited in place.
-use Rattle.std.proofs.Common.{◌≡◌, ℕ, zero, suc, ◌+◌, ◌*◌, ◌-◌, ◌/◌, ◌%◌, ◌<◌, ◌≤◌, List, [], ◌∷◌, ◌++◌, length, take, drop, insert, replicate, slice_index, refl, sym, ap, subst, ◌∙◌, ◌^◌, arith, inl, inr, length-append, length-drop}
+use Rattle.std.proofs.Common.{◌≡◌, ℕ, zero, suc, ◌+◌, ◌*◌, ◌-◌, ◌/◌, ◌%◌, ◌<◌, ◌≤◌, List, [], ◌∷◌, ◌++◌, length, take, drop, insert, replicate, slice_index, refl, sym, ap, subst, ◌∙◌, ◌^◌, arith, inl, inr}
+use Rattle.std.proofs.Common.{length-append, length-drop}
 use Rattle.std.specs.Prelude.{slice_set, slice_index_or}
 use borrow.Rule.Slice.PartMut.{mid_of, put_mid}
 use Rattle.std.proofs.lemmas.Bool.{cases_lt}
-use Rattle.std.proofs.lemmas.List.{ext_get_or, get_or-take, get_or-append_right, get_or_append_left, get_or-replicate, get_or-drop, length-replicate, length-take-le, length-set, take-append-le, take_all, take_at, take-replicate, drop_at, drop-append-le, append_assoc, take-take, drop-drop, set-append_left, set-append_right, set_split, take-append-drop, drop_all, append-nil}
+use Rattle.std.proofs.lemmas.List.{ext_get_or, get_or-take, get_or-append_right, get_or_append_left, get_or-replicate, get_or-drop, length-replicate, length-take-le, length-set, take-append-le, take_all, take_at}
+use Rattle.std.proofs.lemmas.List.{take-replicate, drop_at, drop-append-le, append_assoc, take-take, drop-drop, set-append_left, set-append_right, set_split, take-append-drop, drop_all, append-nil}
 use Rattle.tree_images.specs.Nodes.{level_of, used_of, count_of, node_keys, node_values, slot_words, node_words, IsNodeForm}
 use Rattle.tree_images.proofs.NodeLemmas.{node_keys-words, node_values-words, node_formed}
 use Rattle.tree_make.specs.Words.{AreWords}
@@ -205,7 +207,8 @@ words-put level count pairs keys values words new i key value are low room is =
           ∙ ap (λ xs. (slice_index words 0 + 1) ∷ pairs ∷ ((take i (slot_words keys) ++ (key ∷ take (15 - i) (drop i (slot_words keys)))) ++ (take i xs ++ (value ∷ take (15 - i) (drop i xs))))) vs
           ∙ ap (λ xs. (slice_index words 0 + 1) ∷ pairs ∷ (xs ++ (take i (slot_words values) ++ (value ∷ take (15 - i) (drop i (slot_words values)))))) k
           ∙ ap (λ xs. (slice_index words 0 + 1) ∷ pairs ∷ (slot_words (take i keys ++ (key ∷ drop i keys)) ++ xs)) v
-          ∙ ap (λ n. n ∷ pairs ∷ (slot_words (take i keys ++ (key ∷ drop i keys)) ++ slot_words (take i values ++ (value ∷ drop i values)))) (let e : slice_index words 0 + 1 ≡ level * 256 + length (take i keys ++ (key ∷ drop i keys)) = omega arith in e);
+          ∙ ap (λ n. n ∷ pairs ∷ (slot_words (take i keys ++ (key ∷ drop i keys)) ++ slot_words (take i values ++ (value ∷ drop i values))))
+          (let e : slice_index words 0 + 1 ≡ level * 256 + length (take i keys ++ (key ∷ drop i keys)) = omega arith in e);
       even = let other = put-size values i value (omega arith) in omega arith;
       few = omega arith;
     }

@@ -7,7 +7,8 @@ use tree_images::{FIRST_KEY, FIRST_VALUE, MOST_SLOTS, NODE_WORDS};
 pub fn set_slot(words: &mut [u64; NODE_WORDS], pairs: u64, slot: usize, key: u64, value: u64)
     requires { slot < MOST_SLOTS }
     ensures { (level count : ℕ) (keys values : List ℕ) → AreWords level count keys values words.old → slot < length keys
-        → AreWords level pairs (take slot keys ++ (key ∷ drop (suc slot) keys)) (take slot values ++ (value ∷ drop (suc slot) values)) words.new }
+        → AreWords level pairs (take slot keys ++ (key ∷ drop (suc slot) keys))
+        (take slot values ++ (value ∷ drop (suc slot) values)) words.new }
 {
     words[1] = pairs;
     words[FIRST_KEY + slot] = key;

@@ -94,4 +94,5 @@ module _ (m : Records) (keys values : List ℕ) where
   last_slot zero i e hand = last_zip keys values i e hand.even
   last_slot (suc level) i e hand =
       ap (λ ks. get_or ks i 0) hand.children.0
-      ∙ last_child (pairs_below m level) values i (e ∙ hand.even) (AllByRecursion-weaker (IsNode m 8 level) (λ v. 0 < length (pairs_below m level v)) (λ v is. pairs-some m 8 level v (omega arith) is) values hand.children.1)
+      ∙ last_child (pairs_below m level) values i (e ∙ hand.even) (AllByRecursion-weaker (IsNode m 8 level) (λ v. 0 < length (pairs_below m level v))
+      (λ v is. pairs-some m 8 level v (omega arith) is) values hand.children.1)

@@ -31,7 +31,8 @@ pub fn first_slot<const OFFSET_BITS: u32, F: Frozen<OFFSET_BITS>, K: KeyOrder<OF
     requires { AllByRecursion (K.can_read (F.records frozen.old)) keys.now }
     ensures slot { IsSlot (seen_by K.read K.order (K.sought key.now) (F.records frozen.old)) keys.now result.slot }
     ensures found { result.found ≡ true → IsFound (seen_by K.read K.order (K.sought key.now) (F.records frozen.old)) keys.now result.slot }
-    ensures lacking { result.found ≡ false → IsLacking (seen_by K.read K.order (K.sought key.now) (F.records frozen.old)) keys.now result.slot }
+    ensures lacking { result.found ≡ false
+        → IsLacking (seen_by K.read K.order (K.sought key.now) (F.records frozen.old)) keys.now result.slot }
     ensures same { frozen.new ≡ frozen.old }
 {
     for slot in 0..keys.len() {
@@ -77,11 +78,14 @@ pub fn visit<const OFFSET_BITS: u32, F: Frozen<OFFSET_BITS>, K: KeyOrder<OFFSET_
     requires readable { AllReadable K.can_read (F.records frozen.old)
         (pairs_below (F.records frozen.old) (level_of (F.records frozen.old node)) node) }
     ensures words { words.new ≡ F.records frozen.old node.entry }
-    ensures slot { IsSlot (seen_by K.read K.order (K.sought key.now) (F.records frozen.old)) (node_keys (F.records frozen.old node.entry)) result.slot }
+    ensures slot { IsSlot (seen_by K.read K.order (K.sought key.now) (F.records frozen.old))
+        (node_keys (F.records frozen.old node.entry)) result.slot }
     ensures found { result.found ≡ true
-        → IsFound (seen_by K.read K.order (K.sought key.now) (F.records frozen.old)) (node_keys (F.records frozen.old node.entry)) result.slot }
+        → IsFound (seen_by K.read K.order (K.sought key.now) (F.records frozen.old))
+        (node_keys (F.records frozen.old node.entry)) result.slot }
     ensures lacking { result.found ≡ false
-        → IsLacking (seen_by K.read K.order (K.sought key.now) (F.records frozen.old)) (node_keys (F.records frozen.old node.entry)) result.slot }
+        → IsLacking (seen_by K.read K.order (K.sought key.now) (F.records frozen.old))
+        (node_keys (F.records frozen.old node.entry)) result.slot }
     ensures same { frozen.new ≡ frozen.old }
 {
     read_words(frozen, node, words);

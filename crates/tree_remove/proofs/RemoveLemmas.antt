@@ -143,5 +143,6 @@ module _ {H : Type 0} (c : ℕ → Ordering) (old mid : Ledger H) (m n : Records
         extra = puts.extra;
         one = puts.one;
         filled = let filled = puts.filled in omega arith;
-        makes = makes-then old mid new m n o (level + removes.extra) puts.most (suc level + puts.extra) (most-fits level removes.extra puts.extra puts.most (length child_keys) (used_of (m child)) child_many removes.filled removes.one puts.most_is puts.whole) removes.makes puts.makes;
+        makes = makes-then old mid new m n o (level + removes.extra) puts.most (suc level + puts.extra)
+            (most-fits level removes.extra puts.extra puts.most (length child_keys) (used_of (m child)) child_many removes.filled removes.one puts.most_is puts.whole) removes.makes puts.makes;
       }

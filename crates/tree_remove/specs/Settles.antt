@@ -7,7 +7,8 @@ use Rattle.tree_make.specs.Makes.{MakesNodes}
 use Rattle.tree_node.specs.Slots.{slot_pairs, slot_nodes, IsInHand}
 
 -- nodes of a level were made, under these slots: the pairs below them are these, the nodes below them these and what is newly in use
-pub record MakesSlots {H : Type 0} (old new : Ledger H) (m n : Records) (level : ℕ) (pairs : List (ℕ × ℕ)) (nodes keys values : List ℕ) : Type 0 where
+pub record MakesSlots {H : Type 0} (old new : Ledger H) (m n : Records) (level : ℕ) (pairs : List (ℕ × ℕ))
+    (nodes keys values : List ℕ) : Type 0 where
   pub hand : IsInHand n (suc level) keys values
   pub pairs_are : slot_pairs n (suc level) keys values ≡ pairs
   pub balance : (r : ℕ) → times r (slot_nodes n (suc level) values) + uses old r ≡ uses new r + times r nodes

@@ -100,10 +100,12 @@ pub fn remove_below<const OFFSET_BITS: u32, S: Store<OFFSET_BITS>, K: KeyOrder<O
     ensures removes { OnOk result (Removes (seen_by K.read K.order (K.sought key.now) (S.records store.old))
         (S.ledger store.old) (S.ledger store.new) (S.records store.old) (S.records store.new)
         level node.entry replaced.old.items replaced.new.items (node_keys words.new) (node_values words.new)) }
-    ensures words { OnOk result (AreWords level (length (slot_pairs (S.records store.new) level (node_keys words.new) (node_values words.new)))
+    ensures words { OnOk result (AreWords level
+        (length (slot_pairs (S.records store.new) level (node_keys words.new) (node_values words.new)))
         (node_keys words.new) (node_values words.new) words.new) }
     ensures refuses { IfErr result (Refuses (S.ledger store.old) (S.ledger store.new) NODE_WORDS) }
-    ensures refused { OnErr result (MakesNodes (S.ledger store.old) (S.ledger store.new) (S.records store.old) (S.records store.new) (suc level)) }
+    ensures refused { OnErr result (MakesNodes (S.ledger store.old) (S.ledger store.new) (S.records store.old) (S.records store.new)
+        (suc level)) }
 {
     replaced.push(node.raw());
     if level == 0 {

@@ -32,8 +32,10 @@ fn shift(left: &mut Slots, right: &mut Slots)
     ensures keys { left.new.keys.items ++ right.new.keys.items ≡ left.old.keys.items ++ right.old.keys.items }
     ensures values { left.new.values.items ++ right.new.values.items ≡ left.old.values.items ++ right.old.values.items }
     ensures even { length left.new.keys.items ≡ length left.new.values.items }
-    ensures longer { length right.old.keys.items ≤ length left.old.keys.items → length left.new.keys.items + 1 ≡ length left.old.keys.items }
-    ensures shorter { length left.old.keys.items < length right.old.keys.items → length left.new.keys.items ≡ length left.old.keys.items + 1 }
+    ensures longer { length right.old.keys.items ≤ length left.old.keys.items
+        → length left.new.keys.items + 1 ≡ length left.old.keys.items }
+    ensures shorter { length left.old.keys.items < length right.old.keys.items
+        → length left.new.keys.items ≡ length left.old.keys.items + 1 }
     ensures level { left.new.level ≡ left.old.level }
     ensures level_right { right.new.level ≡ right.old.level }
 {
@@ -80,7 +82,8 @@ fn merge<const OFFSET_BITS: u32, S: Store<OFFSET_BITS>>(
     requires parent { length slots.old.keys.items ≡ length slots.old.values.items }
     requires room_parent { length slots.old.keys.items ≤ MOST_SLOTS }
     requires first { suc first < length slots.old.keys.items }
-    ensures settles { OnOk result (SettlesSlots (S.ledger store.old) (S.ledger store.new) (S.records store.old) (S.records store.new) left.old.level
+    ensures settles { OnOk result (SettlesSlots (S.ledger store.old) (S.ledger store.new) (S.records store.old)
+        (S.records store.new) left.old.level
         (slot_pairs (S.records store.old) left.old.level
         (left.old.keys.items ++ right.now.keys.items) (left.old.values.items ++ right.now.values.items))
         (slot_nodes (S.records store.old) left.old.level (left.old.values.items ++ right.now.values.items))
@@ -124,7 +127,8 @@ fn share<const OFFSET_BITS: u32, S: Store<OFFSET_BITS>>(
     requires parent { length slots.old.keys.items ≡ length slots.old.values.items }
     requires room_parent { length slots.old.keys.items ≤ MOST_SLOTS }
     requires first { suc first < length slots.old.keys.items }
-    ensures settles { OnOk result (SettlesSlots (S.ledger store.old) (S.ledger store.new) (S.records store.old) (S.records store.new) left.old.level
+    ensures settles { OnOk result (SettlesSlots (S.ledger store.old) (S.ledger store.new) (S.records store.old)
+        (S.records store.new) left.old.level
         (slot_pairs (S.records store.old) left.old.level
         (left.old.keys.items ++ right.old.keys.items) (left.old.values.items ++ right.old.values.items))
         (slot_nodes (S.records store.old) left.old.level (left.old.values.items ++ right.old.values.items))
@@ -167,7 +171,8 @@ pub fn make_neighbours<const OFFSET_BITS: u32, S: Store<OFFSET_BITS>>(
     requires parent { length slots.old.keys.items ≡ length slots.old.values.items }
     requires room_parent { length slots.old.keys.items ≤ MOST_SLOTS }
     requires first { suc first < length slots.old.keys.items }
-    ensures settles { OnOk result (SettlesSlots (S.ledger store.old) (S.ledger store.new) (S.records store.old) (S.records store.new) left.old.level
+    ensures settles { OnOk result (SettlesSlots (S.ledger store.old) (S.ledger store.new) (S.records store.old)
+        (S.records store.new) left.old.level
         (slot_pairs (S.records store.old) left.old.level
         (left.old.keys.items ++ right.old.keys.items) (left.old.values.items ++ right.old.values.items))
         (slot_nodes (S.records store.old) left.old.level (left.old.values.items ++ right.old.values.items))

@@ -95,7 +95,8 @@ fn put_short<const OFFSET_BITS: u32, S: Store<OFFSET_BITS>>(
     requires short { length (node_keys child.now) ≡ 7 }
     requires few { length (spliced (S.records store.old) (level_of child.now) place (node_keys words.old) (node_values words.old)
         (slot_pairs (S.records store.old) (level_of child.now) (node_keys child.now) (node_values child.now))) < 2 ^ 32 }
-    requires counted { pairs ≡ (length (spliced (S.records store.old) (level_of child.now) place (node_keys words.old) (node_values words.old)
+    requires counted { pairs ≡ (length (spliced (S.records store.old) (level_of child.now) place (node_keys words.old)
+        (node_values words.old)
         (slot_pairs (S.records store.old) (level_of child.now) (node_keys child.now) (node_values child.now)))) }
     requires room_replaced { length replaced.old.items < 16 }
     ensures puts { OnOk result (PutsBack (S.ledger store.old) (S.ledger store.new) (S.records store.old) (S.records store.new)
@@ -136,7 +137,8 @@ pub fn put_child<const OFFSET_BITS: u32, S: Store<OFFSET_BITS>>(
         (node_keys child.now) (node_values child.now) child.now }
     requires few { length (spliced (S.records store.old) (level_of child.now) place (node_keys words.old) (node_values words.old)
         (slot_pairs (S.records store.old) (level_of child.now) (node_keys child.now) (node_values child.now))) < 2 ^ 32 }
-    requires counted { count_of words.old ≡ suc (length (spliced (S.records store.old) (level_of child.now) place (node_keys words.old) (node_values words.old)
+    requires counted { count_of words.old ≡ suc
+        (length (spliced (S.records store.old) (level_of child.now) place (node_keys words.old) (node_values words.old)
         (slot_pairs (S.records store.old) (level_of child.now) (node_keys child.now) (node_values child.now)))) }
     requires room_replaced { length replaced.old.items < 16 }
     ensures puts { OnOk result (PutsBack (S.ledger store.old) (S.ledger store.new) (S.records store.old) (S.records store.new)

@@ -1,5 +1,6 @@
 -- Places: how they move, and that they stay.
-use Rattle.std.proofs.Common.{append_assoc, ◌≡◌, ℕ, zero, suc, ◌+◌, ◌-◌, ◌<◌, ◌≤◌, List, [], ◌∷◌, ◌++◌, length, get_or, drop, refl, sym, ap, subst, ◌∙◌, arith, if◌then◌else◌, nat_lt, lt-ltb, le-ltb, leb, leb-true, leb-false, IsTrue, Bool, true, false}
+use Rattle.std.proofs.Common.{append_assoc, ◌≡◌, ℕ, zero, suc, ◌+◌, ◌-◌, ◌<◌, ◌≤◌, List, [], ◌∷◌, ◌++◌, length, get_or, drop, refl, sym, ap, subst, ◌∙◌, arith, if◌then◌else◌, nat_lt, lt-ltb, le-ltb, leb, leb-true}
+use Rattle.std.proofs.Common.{leb-false, IsTrue, Bool, true, false}
 use Rattle.std.specs.List.{flat_map}
 use Rattle.image_base.specs.Records.{Records, word_at}
 use Rattle.tree_images.specs.Nodes.{level_of, used_of, count_of, node_values}
@@ -264,4 +265,5 @@ end-pairs m at is = (λ past. pairs_from-none m at (leb-true at.used at.slot pas
     decide none true e = e
     decide none false e =
         let pair : HasPair at = leb-false at.used at.slot e in
-        absurd (some_is_none (word_at m at.leaf (2 + at.slot), word_at m at.leaf (18 + at.slot)) (drop (suc at.slot) (pairs_below m 0 at.leaf) ++ pairs_behind m 0 at.path) (pairs_from m at) (pair-first m at is pair) none)
+        absurd (some_is_none (word_at m at.leaf (2 + at.slot), word_at m at.leaf (18 + at.slot)) (drop (suc at.slot) (pairs_below m 0 at.leaf) ++ pairs_behind m 0 at.path) (pairs_from m at)
+        (pair-first m at is pair) none)

@@ -17,7 +17,8 @@ use Rattle.tree_search.specs.Steps.{Step}
 use Rattle.tree_search.specs.Places.{Leads, pairs_behind, pairs_from}
 use Rattle.tree_node.specs.Places.{IsSlot, IsFound, IsLacking}
 use Rattle.tree_node.proofs.ReadLemmas.{node-even}
-use Rattle.tree_node.proofs.ChildLemmas.{keys-length, All-last, leaf_pairs, get_or-node_keys, get_or-node_values, children, children-at, values-size, child-node, child-last, child-all, child-ascends, front-below, child-seek, leaf-seek, pairs-some}
+use Rattle.tree_node.proofs.ChildLemmas.{keys-length, All-last, leaf_pairs, get_or-node_keys, get_or-node_values, children, children-at, values-size, child-node, child-last, child-all, child-ascends, front-below}
+use Rattle.tree_node.proofs.ChildLemmas.{child-seek, leaf-seek, pairs-some}
 use Rattle.tree_search.proofs.PlaceLemmas.{leads-node, leads-root, leads-child, child-level, behind-child, root_pairs, at-slot}
 
 -- the first slot whose key is not below the one sought, by the words of a node

@@ -7,7 +7,8 @@ use Rattle.tree_images.specs.Trees.{pairs_below, root_level, IsRootNode}
 use Rattle.tree_search.specs.Steps.{Step}
 use Rattle.tree_images.specs.declared.TheConstants.{FIRST_VALUE}
 
--- a slot of a leaf; above the leaf, from the lowest up, the nodes with the slots that lead to it. The leaf has so many slots used; at the end, past all pairs, the slot is not below. The leaf's words are in hand
+-- a slot of a leaf; above the leaf, from the lowest up, the nodes with the slots that lead to it. The leaf has so many slots used; at
+-- the end, past all pairs, the slot is not below. The leaf's words are in hand
 pub record Place : Type 0 where
   pub root : ℕ
   pub path : List Step
@@ -19,7 +20,8 @@ pub record Place : Type 0 where
 -- a path leads from the root, which is of level top, down to a node of a level
 abbrev pub LeadsTo : Records → ℕ → ℕ → List Step → ℕ → ℕ → Type 0
 LeadsTo m top root [] level ref = (level ≡ top) × (ref ≡ root)
-LeadsTo m top root (step ∷ path) level ref = (step.slot < used_of (m step.node)) × (ref ≡ word_at m step.node (FIRST_VALUE + step.slot)) × LeadsTo m top root path (suc level) step.node
+LeadsTo m top root (step ∷ path) level ref = (step.slot < used_of (m step.node)) × (ref ≡ word_at m step.node (FIRST_VALUE + step.slot))
+    × LeadsTo m top root path (suc level) step.node
 
 -- it leads down to a node of a tree
 pub record Leads (m : Records) (root : ℕ) (path : List Step) (ref : ℕ) : Type 0 where
@@ -30,7 +32,8 @@ pub record Leads (m : Records) (root : ℕ) (path : List Step) (ref : ℕ) : Typ
 -- the pairs below the children behind a path that leads to a node of a level
 abbrev pub pairs_behind : Records → ℕ → List Step → List (ℕ × ℕ)
 pairs_behind m level [] = []
-pairs_behind m level (step ∷ path) = flat_map (pairs_below m level) (drop (suc step.slot) (node_values (m step.node))) ++ pairs_behind m (suc level) path
+pairs_behind m level (step ∷ path) = flat_map (pairs_below m level) (drop (suc step.slot) (node_values (m step.node)))
+    ++ pairs_behind m (suc level) path
 
 -- a pair follows
 abbrev pub HasPair : Place → Type 0

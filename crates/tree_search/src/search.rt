@@ -68,7 +68,8 @@ fn is_at<const OFFSET_BITS: u32, F: Frozen<OFFSET_BITS>, K: KeyOrder<OFFSET_BITS
     requires readable { AllReadable K.can_read (F.records frozen.old)
         (pairs_below (F.records frozen.old) (level_of (F.records frozen.old node)) node) }
     requires slot { slot < length (node_keys (F.records frozen.old node)) }
-    requires sought { IsSlot (seen_by K.read K.order (K.sought key.now) (F.records frozen.old)) (node_keys (F.records frozen.old node)) slot }
+    requires sought { IsSlot (seen_by K.read K.order (K.sought key.now) (F.records frozen.old))
+        (node_keys (F.records frozen.old node)) slot }
     ensures found { result ≡ true → IsFound (seen_by K.read K.order (K.sought key.now) (F.records frozen.old))
         (node_keys (F.records frozen.old node.entry)) slot }
     ensures lacking { result ≡ false → IsLacking (seen_by K.read K.order (K.sought key.now) (F.records frozen.old))

@@ -142,7 +142,8 @@ module _ {H : Type 0} (value : Value) (a b : Ledger H) (m n : Records) (root key
         where
           kept : (ref : ℕ) → IsKey m root ref → (ref ≡ key) ⊎ Among ref (keys rest) → IsKey o next ref × (o ref ≡ m ref)
           kept ref among (inl here) = (
-            subst (λ ps. Among ref (keys ps)) (sym pairs_are) (subst (λ k. Among k (keys (put (beside_value value m) (key, word) (tree_pairs m root)))) (sym here) (key_put (beside_value value m) (key, word) (tree_pairs m root))),
+            subst (λ ps. Among ref (keys ps)) (sym pairs_are) (subst (λ k. Among k (keys (put (beside_value value m) (key, word) (tree_pairs m root)))) (sym here)
+                (key_put (beside_value value m) (key, word) (tree_pairs m root))),
             subst (λ k. o k ≡ n k) (sym here) key_stays ∙ is.keys_stay ref among,
           )
           kept ref among (inr later) = (

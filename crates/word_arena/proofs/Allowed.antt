@@ -25,7 +25,8 @@ use Rattle.gen_core.specs.Good.{State as CoreState, HoldFits, AimFits, BounceFit
 use Rattle.gen_core.specs.Conditions.{MayStoreWidth, MayStoreWord, MayHandOut, MayPublish, MaySplit, MayJoin, MayLoadWord}
 use Rattle.gen_core.specs.declared.views.Pending.TheVariants.{Nothing}
 use Rattle.gen_core.specs.declared.views.ReaderState.{ReaderState}
-use Rattle.gen_core.specs.Events.{after_hand_out, after_store_width, after_store_word, after_publish, after_load_newest, after_raise, after_bounce, after_load_root, after_release, stored, aims, with_state, found_state, bounced, MayOpen, opening_words, opening_view, handed_out, widened, published, sees, with_reader, newcomer, joined}
+use Rattle.gen_core.specs.Events.{after_hand_out, after_store_width, after_store_word, after_publish, after_load_newest, after_raise, after_bounce, after_load_root, after_release, stored, aims, with_state, found_state}
+use Rattle.gen_core.specs.Events.{bounced, MayOpen, opening_words, opening_view, handed_out, widened, published, sees, with_reader, newcomer, joined}
 use Rattle.gen_core.proofs.Lists.{all_at}
 use Rattle.gen_core.proofs.Frames.{base-same}
 use Rattle.gen_core.proofs.Writer.{store_word_keeps, store_width_keeps, hand_out_keeps}
@@ -143,7 +144,20 @@ module _ (reaches : ℕ → Records → ℕ → List ℕ) (lawful : ℕ → Reco
         record {
           told = λ other same. let e : b ≡ other = omega arith in
               subst (λ (c : ℕ). Becomes (Writer w, []) (handed_out w c) (Writer (handed_out w b), [])) e (record { is = refl; good = good_view reaches lawful _ good });
-          event = (b, record { before = state_of t w k.readers; after = after_hand_out (state_of t w k.readers) b; good = k.good; happens = (may, refl); word = refl; operands = refl; found_is = refl; sees = refl; then_sees = refl });
+          event = (
+            b,
+            record {
+              before = state_of t w k.readers;
+              after = after_hand_out (state_of t w k.readers) b;
+              good = k.good;
+              happens = (may, refl);
+              word = refl;
+              operands = refl;
+              found_is = refl;
+              sees = refl;
+              then_sees = refl;
+            },
+          );
         },
       )
 
@@ -160,7 +174,20 @@ module _ (reaches : ℕ → Records → ℕ → List ℕ) (lawful : ℕ → Reco
         record {
           told = λ other same. let e : b ≡ other = base-same w.sizes b other k.good.sizes.some_word same in
               subst (λ (c : ℕ). Becomes (Writer w, []) (widened w c width) (Writer (widened w b width), [])) e (record { is = refl; good = good_view reaches lawful _ good });
-          event = (b, record { before = state_of t w k.readers; after = after_store_width (state_of t w k.readers) b width; good = k.good; happens = (may, refl); word = refl; operands = refl; found_is = refl; sees = refl; then_sees = refl });
+          event = (
+            b,
+            record {
+              before = state_of t w k.readers;
+              after = after_store_width (state_of t w k.readers) b width;
+              good = k.good;
+              happens = (may, refl);
+              word = refl;
+              operands = refl;
+              found_is = refl;
+              sees = refl;
+              then_sees = refl;
+            },
+          );
         },
       )
 
@@ -175,7 +202,17 @@ module _ (reaches : ℕ → Records → ℕ → List ℕ) (lawful : ℕ → Reco
         ruled_by t id w (stored w p n) k _ refl good,
         record {
           told = record { is = refl; good = good_view reaches lawful _ good };
-          event = record { before = state_of t w k.readers; after = after_store_word (state_of t w k.readers) p n; good = k.good; happens = (may, refl); word = refl; operands = refl; found_is = refl; sees = refl; then_sees = refl };
+          event = record {
+            before = state_of t w k.readers;
+            after = after_store_word (state_of t w k.readers) p n;
+            good = k.good;
+            happens = (may, refl);
+            word = refl;
+            operands = refl;
+            found_is = refl;
+            sees = refl;
+            then_sees = refl;
+          };
         },
       )
 
@@ -191,7 +228,16 @@ module _ (reaches : ℕ → Records → ℕ → List ℕ) (lawful : ℕ → Reco
         ruled_by t id w (stored w p n) k _ refl good,
         record {
           told = record { is = refl; good = good_view reaches lawful _ good };
-          event = record { before = state_of t w k.readers; after = after_store_word (state_of t w k.readers) p n; good = k.good; happens = (may, refl); same = set_back t.words p; found_is = refl; sees = refl; then_sees = refl };
+          event = record {
+            before = state_of t w k.readers;
+            after = after_store_word (state_of t w k.readers) p n;
+            good = k.good;
+            happens = (may, refl);
+            same = set_back t.words p;
+            found_is = refl;
+            sees = refl;
+            then_sees = refl;
+          };
         },
       )
 
@@ -209,7 +255,20 @@ module _ (reaches : ℕ → Records → ℕ → List ℕ) (lawful : ℕ → Reco
         record {
           told = λ other same. let e : root ≡ other = omega arith in
               subst (λ (c : ℕ). Becomes (Writer w, []) (published w (next_image reaches w c)) (Writer v, [])) e (record { is = refl; good = good_view reaches lawful _ good });
-          event = (root, record { before = state_of t w k.readers; after = after_publish (state_of t w k.readers) (next_image reaches w root); good = k.good; happens = (may, refl); word = refl; operands = refl; found_is = refl; sees = refl; then_sees = refl });
+          event = (
+            root,
+            record {
+              before = state_of t w k.readers;
+              after = after_publish (state_of t w k.readers) (next_image reaches w root);
+              good = k.good;
+              happens = (may, refl);
+              word = refl;
+              operands = refl;
+              found_is = refl;
+              sees = refl;
+              then_sees = refl;
+            },
+          );
         },
       )
 
@@ -237,7 +296,20 @@ module _ (reaches : ℕ → Records → ℕ → List ℕ) (lawful : ℕ → Reco
             low = (at_newest (HoldFits k.writer.commits) k.writer.queue.older k.writer.queue.newest k.good.queue.each).hold;
             least = (all_at (GoodReader k.writer.sizes k.writer.queue k.writer.commits) k.readers k.j r k.good.readers k.there).least;
           };
-          event = (k.j, record { before = state_of t k.writer k.readers; after = after_load_newest (state_of t k.writer k.readers) k.j r; good = k.good; happens = (r, k.there, idle, refl); word = refl; operands = tt; found_is = refl; sees = seen_at k.readers k.j r k.there; then_sees = then_at k.readers k.j r v k.there });
+          event = (
+            k.j,
+            record {
+              before = state_of t k.writer k.readers;
+              after = after_load_newest (state_of t k.writer k.readers) k.j r;
+              good = k.good;
+              happens = (r, k.there, idle, refl);
+              word = refl;
+              operands = tt;
+              found_is = refl;
+              sees = seen_at k.readers k.j r k.there;
+              then_sees = then_at k.readers k.j r v k.there;
+            },
+          );
         },
       )
 
@@ -259,7 +331,21 @@ module _ (reaches : ℕ → Records → ℕ → List ℕ) (lawful : ℕ → Reco
             (raise_keeps reaches lawful _ k.j r generation h k.good k.there aimed)),
         record {
           told = λ other same. let e : h ≡ other = omega arith in ap (λ (i : ℕ). (Reader (with_state r (found_state found i)), [])) e;
-          event = (k.j, record { before = state_of t w k.readers; after = after_raise (state_of t w k.readers) k.j r h; good = k.good; happens = (r, k.there, generation, h, aimed, refl); word = held_word (state_of t w k.readers) k.j h r (Aimed generation h) k.there aimed refl; operands = refl; found_is = refl; sees = seen_at k.readers k.j r k.there; then_sees = then_at k.readers k.j r v k.there });
+          event = (
+            k.j,
+            record {
+              before = state_of t w k.readers;
+              after = after_raise (state_of t w k.readers) k.j r h;
+              good = k.good;
+              happens = (r, k.there, generation, h, aimed, refl);
+              word = held_word (state_of t w k.readers) k.j h r (Aimed generation h) k.there aimed refl;
+              operands = refl;
+              found_is = refl;
+              sees = seen_at k.readers k.j r k.there;
+              then_sees =
+                  then_at k.readers k.j r v k.there;
+            },
+          );
         },
       )
 
@@ -288,7 +374,20 @@ module _ (reaches : ℕ → Records → ℕ → List ℕ) (lawful : ℕ → Reco
             limit = (let m = b.missed in let same : r.sizes ≡ w.sizes = mine.same_sizes (λ e. bounce-off h (sym is ∙ e)) in
                 let up = coming-least w.queue.newest w.queue.pending in let g = k.good.queue.generation in omega (arith, m, up, g, ap (λ (z : Sizes). z.generation_limit) same));
           };
-          event = (k.j, record { before = state_of t w k.readers; after = after_bounce (state_of t w k.readers) k.j r h; good = k.good; happens = (r, k.there, h, is, refl); word = held_word (state_of t w k.readers) k.j h r (Bounced h) k.there is refl; operands = refl; found_is = refl; sees = seen_at k.readers k.j r k.there; then_sees = then_at k.readers k.j r v k.there });
+          event = (
+            k.j,
+            record {
+              before = state_of t w k.readers;
+              after = after_bounce (state_of t w k.readers) k.j r h;
+              good = k.good;
+              happens = (r, k.there, h, is, refl);
+              word = held_word (state_of t w k.readers) k.j h r (Bounced h) k.there is refl;
+              operands = refl;
+              found_is = refl;
+              sees = seen_at k.readers k.j r k.there;
+              then_sees = then_at k.readers k.j r v k.there;
+            },
+          );
         },
       )
 
@@ -310,7 +409,20 @@ module _ (reaches : ℕ → Records → ℕ → List ℕ) (lawful : ℕ → Reco
             (release_keeps reaches lawful _ k.j r h c k.good k.there is)),
         record {
           told = refl;
-          event = (k.j, record { before = state_of t w k.readers; after = after_release (state_of t w k.readers) k.j r h; good = k.good; happens = (r, k.there, h, c, is, refl); word = held_word (state_of t w k.readers) k.j h r (Guarded h c) k.there is refl; operands = refl; found_is = refl; sees = seen_at k.readers k.j r k.there; then_sees = then_at k.readers k.j r v k.there });
+          event = (
+            k.j,
+            record {
+              before = state_of t w k.readers;
+              after = after_release (state_of t w k.readers) k.j r h;
+              good = k.good;
+              happens = (r, k.there, h, c, is, refl);
+              word = held_word (state_of t w k.readers) k.j h r (Guarded h c) k.there is refl;
+              operands = refl;
+              found_is = refl;
+              sees = seen_at k.readers k.j r k.there;
+              then_sees = then_at k.readers k.j r v k.there;
+            },
+          );
         },
       )
 
@@ -325,7 +437,8 @@ module _ (reaches : ℕ → Records → ℕ → List ℕ) (lawful : ℕ → Reco
       let v : ReaderView = sees r h (last_number w.commits) (last_image w.commits) in
       let mine = all_at (GoodReader w.sizes w.queue w.commits) k.readers k.j r k.good.readers k.there in
       let same : r.sizes ≡ w.sizes = mine.same_sizes (λ e. absurd (off h (sym raised ∙ e))) in
-      let commit = all_at (IsLawfulCommit reaches lawful w.sizes.shape) w.commits (last_number w.commits) (last_image w.commits) k.good.commits.each (last_at w.commits (some-commit w (good_view reaches lawful _ k.good))) in
+      let commit = all_at (IsLawfulCommit reaches lawful w.sizes.shape) w.commits (last_number w.commits) (last_image w.commits) k.good.commits.each
+      (last_at w.commits (some-commit w (good_view reaches lawful _ k.good))) in
       let placed : All (IsPlaced w.sizes w.buffers) (last_image w.commits).records = last-kept w (good_view reaches lawful _ k.good) (λ image. All (IsPlaced w.sizes w.buffers) image.records) k.good.places.records in (
         Reader v,
         keeps,
@@ -355,11 +468,25 @@ module _ (reaches : ℕ → Records → ℕ → List ℕ) (lawful : ℕ → Reco
               entries = subst (λ (z : Sizes). All (λ pair. IsEntry z.offset_bits z.buffers z.words (length pair.1) pair.0) (last_image w.commits).records) (sym same) (λ l e less. (placed l e less).inside);
             };
           };
-          event = (k.j, record { before = state_of t w k.readers; after = after_load_root (state_of t w k.readers) k.j r h; good = k.good; happens = (r, k.there, h, raised, refl); word = refl; operands = tt; found_is = refl; sees = seen_at k.readers k.j r k.there; then_sees = then_at k.readers k.j r v k.there });
+          event = (
+            k.j,
+            record {
+              before = state_of t w k.readers;
+              after = after_load_root (state_of t w k.readers) k.j r h;
+              good = k.good;
+              happens = (r, k.there, h, raised, refl);
+              word = refl;
+              operands = tt;
+              found_is = refl;
+              sees = seen_at k.readers k.j r k.there;
+              then_sees = then_at k.readers k.j r v k.there;
+            },
+          );
         },
       )
 
-  pub load_word_allowed : (slots id : ℕ) (r : ReaderView) (p : ℕ) → MayLoadWord r p → Allows (Ruled reaches lawful sizes) slots id (Reader r, []) p (λ n. n) (plays_load_word reaches lawful (step slots p 0 0 none) (Reader r, []))
+  pub load_word_allowed : (slots id : ℕ) (r : ReaderView) (p : ℕ) → MayLoadWord r p
+      → Allows (Ruled reaches lawful sizes) slots id (Reader r, []) p (λ n. n) (plays_load_word reaches lawful (step slots p 0 0 none) (Reader r, []))
   load_word_allowed slots id r p may t rule homes at small =
       let k = reading t rule id r at in (
         Reader r,
@@ -382,11 +509,25 @@ module _ (reaches : ℕ → Records → ℕ → List ℕ) (lawful : ℕ → Reco
                   width = λ ref ws there is. ap (slice_index t.words) is ∙ (stands ref ws there).width.is;
                 };
           };
-          event = (k.j, record { before = state_of t k.writer k.readers; after = state_of t k.writer k.readers; good = k.good; happens = (r, k.there, may, refl); word = refl; operands = tt; found_is = refl; sees = seen_at k.readers k.j r k.there; then_sees = seen_at k.readers k.j r k.there });
+          event = (
+            k.j,
+            record {
+              before = state_of t k.writer k.readers;
+              after = state_of t k.writer k.readers;
+              good = k.good;
+              happens = (r, k.there, may, refl);
+              word = refl;
+              operands = tt;
+              found_is = refl;
+              sees = seen_at k.readers k.j r k.there;
+              then_sees = seen_at k.readers k.j r k.there;
+            },
+          );
         },
       )
 
-  pub load_own_allowed : (slots id : ℕ) (w : WriterView) (p : ℕ) → w.queue.pending ≡ Nothing → Allows (Ruled reaches lawful sizes) slots id (Writer w, []) p (λ n. n) (plays_load_own reaches lawful (step slots p 0 0 none) (Writer w, []))
+  pub load_own_allowed : (slots id : ℕ) (w : WriterView) (p : ℕ) → w.queue.pending ≡ Nothing
+      → Allows (Ruled reaches lawful sizes) slots id (Writer w, []) p (λ n. n) (plays_load_own reaches lawful (step slots p 0 0 none) (Writer w, []))
   load_own_allowed slots id w p calm t rule homes at small =
       let k = writing t rule id w at in (
         Writer w,
@@ -466,10 +607,12 @@ module _ (reaches : ℕ → Records → ℕ → List ℕ) (lawful : ℕ → Reco
       subst P (λ i. (sym is i, sym what i)) (publish_allowed reaches lawful sizes l slots id w root may)
 
   pub load_root_owed : (r : ReaderView) (h : ℕ) → me ≡ (Reader r, []) → r.state ≡ Raised h → Allows (Ruled reaches lawful sizes) slots id me 0 (λ n. n) (plays_load_root reaches lawful (step slots 0 0 0 none) me)
-  load_root_owed r h is raised = subst (λ (m : Me Slot View). Allows (Ruled reaches lawful sizes) slots id m 0 (λ n. n) (plays_load_root reaches lawful (step slots 0 0 0 none) m)) (sym is) (load_root_allowed reaches lawful sizes slots id r h raised)
+  load_root_owed r h is raised = subst (λ (m : Me Slot View). Allows (Ruled reaches lawful sizes) slots id m 0 (λ n. n) (plays_load_root reaches lawful (step slots 0 0 0 none) m)) (sym is)
+      (load_root_allowed reaches lawful sizes slots id r h raised)
 
   pub load_newest_owed : (r : ReaderView) → me ≡ (Reader r, []) → r.state ≡ Idle → Allows (Ruled reaches lawful sizes) slots id me 1 (λ n. n) (plays_load_newest reaches lawful (step slots 1 0 0 none) me)
-  load_newest_owed r is idle = subst (λ (m : Me Slot View). Allows (Ruled reaches lawful sizes) slots id m 1 (λ n. n) (plays_load_newest reaches lawful (step slots 1 0 0 none) m)) (sym is) (load_newest_allowed reaches lawful sizes slots id r idle)
+  load_newest_owed r is idle = subst (λ (m : Me Slot View). Allows (Ruled reaches lawful sizes) slots id m 1 (λ n. n) (plays_load_newest reaches lawful (step slots 1 0 0 none) m)) (sym is)
+      (load_newest_allowed reaches lawful sizes slots id r idle)
 
   pub raise_owed : (r : ReaderView) (generation h p : ℕ) → me ≡ (Reader r, []) → p ≡ hold_place h → r.state ≡ Aimed generation h
       → Allows (Ruled reaches lawful sizes) slots id me p (λ n. (n + 2) % 2 ^ 64) (plays_raise reaches lawful (step slots p 2 0 none) me)
@@ -490,10 +633,12 @@ module _ (reaches : ℕ → Records → ℕ → List ℕ) (lawful : ℕ → Reco
       subst P (λ i. (sym is i, sym at i)) (release_allowed reaches lawful sizes slots id r h c b)
 
   pub load_word_owed : (r : ReaderView) (p : ℕ) → me ≡ (Reader r, []) → MayLoadWord r p → Allows (Ruled reaches lawful sizes) slots id me p (λ n. n) (plays_load_word reaches lawful (step slots p 0 0 none) me)
-  load_word_owed r p is may = subst (λ (m : Me Slot View). Allows (Ruled reaches lawful sizes) slots id m p (λ n. n) (plays_load_word reaches lawful (step slots p 0 0 none) m)) (sym is) (load_word_allowed reaches lawful sizes slots id r p may)
+  load_word_owed r p is may = subst (λ (m : Me Slot View). Allows (Ruled reaches lawful sizes) slots id m p (λ n. n) (plays_load_word reaches lawful (step slots p 0 0 none) m)) (sym is)
+      (load_word_allowed reaches lawful sizes slots id r p may)
 
   pub load_own_owed : (w : WriterView) (p : ℕ) → me ≡ (Writer w, []) → w.queue.pending ≡ Nothing → Allows (Ruled reaches lawful sizes) slots id me p (λ n. n) (plays_load_own reaches lawful (step slots p 0 0 none) me)
-  load_own_owed w p is calm = subst (λ (m : Me Slot View). Allows (Ruled reaches lawful sizes) slots id m p (λ n. n) (plays_load_own reaches lawful (step slots p 0 0 none) m)) (sym is) (load_own_allowed reaches lawful sizes slots id w p calm)
+  load_own_owed w p is calm = subst (λ (m : Me Slot View). Allows (Ruled reaches lawful sizes) slots id m p (λ n. n) (plays_load_own reaches lawful (step slots p 0 0 none) m)) (sym is)
+      (load_own_allowed reaches lawful sizes slots id w p calm)
 
   pub split_owed : (w : WriterView) → me ≡ (Writer w, []) → MaySplit w → Splits (Ruled reaches lawful sizes) id me.0 (cut_left me.0) (cut_right me.0)
   split_owed w is may = subst (λ (m : Me Slot View). Splits (Ruled reaches lawful sizes) id m.0 (cut_left m.0) (cut_right m.0)) (sym is) (split_allowed reaches lawful sizes id w may)

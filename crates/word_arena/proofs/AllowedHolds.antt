@@ -24,7 +24,8 @@ use Rattle.gen_core.proofs.Holds.{at_newest, at_oldest, newest-open, first-open}
 use Rattle.gen_core.specs.declared.views.Pending.{Pending}
 use Rattle.gen_core.specs.Steps.{next_hold}
 use Rattle.gen_core.specs.Conditions.{MayReopen, MayPutOnHold, MayFree}
-use Rattle.gen_core.specs.Events.{after_store_newest, after_morph, after_reopen, after_put_on_hold, after_free, after_close, after_stop, after_probe, probed, coming_hold, advanced, morphed, put_aside, freed, reopened, closed, stopped}
+use Rattle.gen_core.specs.Events.{after_store_newest, after_morph, after_reopen, after_put_on_hold, after_free, after_close, after_stop, after_probe, probed, coming_hold, advanced, morphed, put_aside, freed, reopened}
+use Rattle.gen_core.specs.Events.{closed, stopped}
 use Rattle.gen_core.proofs.Advancing.{closed-word, reopen_keeps, store_newest_keeps, probe_keeps, stop_keeps}
 use Rattle.gen_core.proofs.Closing.{close_keeps, morph_keeps}
 use Rattle.gen_core.proofs.Buffers.{put_on_hold_keeps, free_keeps}
@@ -46,7 +47,8 @@ alone-unused reaches lawful s g h low opened made =
 
 module _ (reaches : ℕ → Records → ℕ → List ℕ) (lawful : ℕ → Records → ℕ → Type 0) (sizes : Sizes) where
   pub store_newest_allowed : (slots id : ℕ) (w : WriterView) (h : ℕ) → w.queue.pending ≡ Next h
-      → Allows (Ruled reaches lawful sizes) slots id (Writer w, []) 1 (λ _. newest_word (coming_hold w h)) (λ _. plays_store_newest reaches lawful (step slots 1 (newest_word (coming_hold w h)) 0 none) (Writer w, []) (newest_word (coming_hold w h)))
+      → Allows (Ruled reaches lawful sizes) slots id (Writer w, []) 1 (λ _. newest_word (coming_hold w h))
+      (λ _. plays_store_newest reaches lawful (step slots 1 (newest_word (coming_hold w h)) 0 none) (Writer w, []) (newest_word (coming_hold w h)))
   store_newest_allowed slots id w h next t rule homes at small =
       let k = writing reaches lawful sizes t rule id w at in
       let good = store_newest_keeps reaches lawful _ h k.good next in (
@@ -57,7 +59,17 @@ module _ (reaches : ℕ → Records → ℕ → List ℕ) (lawful : ℕ → Reco
         record {
           told = λ other is. let e : h ≡ other = one_next h other (sym next ∙ is) in
               subst (λ (c : ℕ). Becomes (Writer w, []) (advanced w c) (Writer (advanced w h), [])) e (record { is = refl; good = good_view reaches lawful _ good });
-          event = record { before = state_of t w k.readers; after = after_store_newest (state_of t w k.readers) h; good = k.good; happens = (h, next, refl); word = refl; operands = ap (λ (p : Pending). newest_word (coming_hold w (next_hold p))) (sym next); found_is = ap (λ (p : Pending). newest_word (coming_hold w (next_hold p))) (sym next); sees = refl; then_sees = refl };
+          event = record {
+            before = state_of t w k.readers;
+            after = after_store_newest (state_of t w k.readers) h;
+            good = k.good;
+            happens = (h, next, refl);
+            word = refl;
+            operands = ap (λ (p : Pending). newest_word (coming_hold w (next_hold p))) (sym next);
+            found_is = ap (λ (p : Pending). newest_word (coming_hold w (next_hold p))) (sym next);
+            sees = refl;
+            then_sees = refl;
+          };
         },
       )
     where
@@ -65,7 +77,8 @@ module _ (reaches : ℕ → Records → ℕ → List ℕ) (lawful : ℕ → Reco
       one_next a b e = cc
 
   pub morph_allowed : (slots id : ℕ) (w : WriterView) → w.queue.pending ≡ Probed
-      → Allows (Ruled reaches lawful sizes) slots id (Writer w, []) 1 (λ _. newest_word (coming_hold w w.queue.newest.hold)) (λ _. plays_morph reaches lawful (step slots 1 (newest_word (coming_hold w w.queue.newest.hold)) 0 none) (Writer w, []) (newest_word (coming_hold w w.queue.newest.hold)))
+      → Allows (Ruled reaches lawful sizes) slots id (Writer w, []) 1 (λ _. newest_word (coming_hold w w.queue.newest.hold))
+      (λ _. plays_morph reaches lawful (step slots 1 (newest_word (coming_hold w w.queue.newest.hold)) 0 none) (Writer w, []) (newest_word (coming_hold w w.queue.newest.hold)))
   morph_allowed slots id w is t rule homes at small =
       let k = writing reaches lawful sizes t rule id w at in
       let good = morph_keeps reaches lawful _ k.good is in (
@@ -75,7 +88,17 @@ module _ (reaches : ℕ → Records → ℕ → List ℕ) (lawful : ℕ → Reco
         ruled_by reaches lawful sizes t id w (morphed w) k _ refl good,
         record {
           told = λ _. record { is = refl; good = good_view reaches lawful _ good };
-          event = record { before = state_of t w k.readers; after = after_morph (state_of t w k.readers); good = k.good; happens = (is, refl); word = refl; operands = refl; found_is = refl; sees = refl; then_sees = refl };
+          event = record {
+            before = state_of t w k.readers;
+            after = after_morph (state_of t w k.readers);
+            good = k.good;
+            happens = (is, refl);
+            word = refl;
+            operands = refl;
+            found_is = refl;
+            sees = refl;
+            then_sees = refl;
+          };
         },
       )
 
@@ -96,7 +119,20 @@ module _ (reaches : ℕ → Records → ℕ → List ℕ) (lawful : ℕ → Reco
         record {
           told = λ other same. let e : h ≡ other = omega arith in
               subst (λ (c : ℕ). Becomes (Writer w, []) (reopened w c) (Writer (reopened w h), [])) e (record { is = refl; good = good_view reaches lawful _ good });
-          event = (h, record { before = state_of t w k.readers; after = after_reopen (state_of t w k.readers) h; good = k.good; happens = (may, refl); word = refl; operands = refl; found_is = refl; sees = refl; then_sees = refl });
+          event = (
+            h,
+            record {
+              before = state_of t w k.readers;
+              after = after_reopen (state_of t w k.readers) h;
+              good = k.good;
+              happens = (may, refl);
+              word = refl;
+              operands = refl;
+              found_is = refl;
+              sees = refl;
+              then_sees = refl;
+            },
+          );
         },
       )
     where
@@ -119,7 +155,20 @@ module _ (reaches : ℕ → Records → ℕ → List ℕ) (lawful : ℕ → Reco
               let f : width ≡ width' = some-same width width' (sym may.active ∙ ap (active_in w.buffers) e ∙ active) in
               let P : ℕ × ℕ → Type 0 = λ x. Becomes (Writer w, []) (put_aside w x.0 x.1) (Writer v, []) in
               subst P (λ i. (e i, f i)) (record { is = refl; good = good_view reaches lawful _ good });
-          event = (b, record { before = state_of t w k.readers; after = after_put_on_hold (state_of t w k.readers) b width; good = k.good; happens = (width, may, refl); word = refl; operands = refl; found_is = refl; sees = refl; then_sees = refl });
+          event = (
+            b,
+            record {
+              before = state_of t w k.readers;
+              after = after_put_on_hold (state_of t w k.readers) b width;
+              good = k.good;
+              happens = (width, may, refl);
+              word = refl;
+              operands = refl;
+              found_is = refl;
+              sees = refl;
+              then_sees = refl;
+            },
+          );
         },
       )
     where
@@ -142,7 +191,20 @@ module _ (reaches : ℕ → Records → ℕ → List ℕ) (lawful : ℕ → Reco
               let f : tag ≡ tag' = one_tag may.width width tag tag' (sym may.held ∙ ap (slice_get w.buffers) e ∙ held) in
               let P : ℕ × Tag → Type 0 = λ x. Becomes (Writer w, []) (freed w x.0 x.1) (Writer v, []) in
               subst P (λ i. (e i, f i)) (record { is = refl; good = good_view reaches lawful _ good });
-          event = (b, record { before = state_of t w k.readers; after = after_free (state_of t w k.readers) b tag; good = k.good; happens = (tag, may, refl); word = refl; operands = refl; found_is = refl; sees = refl; then_sees = refl });
+          event = (
+            b,
+            record {
+              before = state_of t w k.readers;
+              after = after_free (state_of t w k.readers) b tag;
+              good = k.good;
+              happens = (tag, may, refl);
+              word = refl;
+              operands = refl;
+              found_is = refl;
+              sees = refl;
+              then_sees = refl;
+            },
+          );
         },
       )
     where
@@ -172,7 +234,17 @@ module _ (reaches : ℕ → Records → ℕ → List ℕ) (lawful : ℕ → Reco
             miss = λ ne. absurd (ne zero);
           };
           event = record {
-            hit = λ _. record { before = state_of t w k.readers; after = after_close (state_of t w k.readers) e es; good = k.good; happens = (e, es, record { calm = calm; is = older }, zero, refl); word = ap (λ (o : List OpenHold). hold_place (oldest_in o w.queue.newest).hold) (sym older); operands = (refl, refl); found_is = refl; sees = refl; then_sees = refl };
+            hit = λ _. record {
+              before = state_of t w k.readers;
+              after = after_close (state_of t w k.readers) e es;
+              good = k.good;
+              happens = (e, es, record { calm = calm; is = older }, zero, refl);
+              word = ap (λ (o : List OpenHold). hold_place (oldest_in o w.queue.newest).hold) (sym older);
+              operands = (refl, refl);
+              found_is = refl;
+              sees = refl;
+              then_sees = refl;
+            };
             miss = λ ne. absurd (ne zero);
           };
         },
@@ -197,7 +269,17 @@ module _ (reaches : ℕ → Records → ℕ → List ℕ) (lawful : ℕ → Reco
           };
           event = record {
             hit = λ zero. absurd (ne zero);
-            miss = λ _. record { before = state_of t w k.readers; after = after_stop (state_of t w k.readers) found; good = k.good; happens = (e, es, record { calm = calm; is = older }, ne, refl); word = ap (λ (o : List OpenHold). hold_place (oldest_in o w.queue.newest).hold) (sym older); operands = (refl, refl); found_is = refl; sees = refl; then_sees = refl };
+            miss = λ _. record {
+              before = state_of t w k.readers;
+              after = after_stop (state_of t w k.readers) found;
+              good = k.good;
+              happens = (e, es, record { calm = calm; is = older }, ne, refl);
+              word = ap (λ (o : List OpenHold). hold_place (oldest_in o w.queue.newest).hold) (sym older);
+              operands = (refl, refl);
+              found_is = refl;
+              sees = refl;
+              then_sees = refl;
+            };
           };
         },
       ))
@@ -221,7 +303,17 @@ module _ (reaches : ℕ → Records → ℕ → List ℕ) (lawful : ℕ → Reco
         record {
           told = record { hit = λ _. record { is = refl; good = good_view reaches lawful _ good }; miss = λ ne. absurd (ne zero); alone = λ _. zero };
           event = record {
-            hit = λ _. record { before = state_of t w k.readers; after = after_probe (state_of t w k.readers); good = k.good; happens = (record { calm = calm; left = left }, zero, refl); word = refl; operands = tt; found_is = refl; sees = refl; then_sees = refl };
+            hit = λ _. record {
+              before = state_of t w k.readers;
+              after = after_probe (state_of t w k.readers);
+              good = k.good;
+              happens = (record { calm = calm; left = left }, zero, refl);
+              word = refl;
+              operands = tt;
+              found_is = refl;
+              sees = refl;
+              then_sees = refl;
+            };
             miss = λ ne. absurd (ne zero);
           };
         },
@@ -241,7 +333,17 @@ module _ (reaches : ℕ → Records → ℕ → List ℕ) (lawful : ℕ → Reco
           };
           event = record {
             hit = λ zero. absurd (ne zero);
-            miss = λ _. record { before = state_of t w k.readers; after = after_stop (state_of t w k.readers) found; good = k.good; happens = (record { calm = calm; left = left }, ne, refl); word = refl; operands = tt; found_is = refl; sees = refl; then_sees = refl };
+            miss = λ _. record {
+              before = state_of t w k.readers;
+              after = after_stop (state_of t w k.readers) found;
+              good = k.good;
+              happens = (record { calm = calm; left = left }, ne, refl);
+              word = refl;
+              operands = tt;
+              found_is = refl;
+              sees = refl;
+              then_sees = refl;
+            };
           };
         },
       ))

@@ -26,7 +26,8 @@ use Rattle.word_arena.specs.Knows.{own_hold, StoresEntries, IsDesk}
 use Rattle.gen_core.proofs.GoodViews.{records-placed}
 use Rattle.word_arena.proofs.Guards.{base-inside}
 
-pub desk-prop : (bits : ℕ) (arena : TableId) (sizes : Sizes) (buffers : List Buffer) (holds : List HoldEntry) (last made : ℕ) (z : TableId) (me : Me Slot View) → IsProp (IsDesk bits arena sizes buffers holds last made z me)
+pub desk-prop : (bits : ℕ) (arena : TableId) (sizes : Sizes) (buffers : List Buffer) (holds : List HoldEntry) (last made : ℕ) (z : TableId) (me : Me Slot View)
+    → IsProp (IsDesk bits arena sizes buffers holds last made z me)
 desk-prop bits arena sizes buffers holds last made z me = hlevel props
 
 -- what is good of a view is good of it with another number of readers, and with more that was seen
@@ -41,7 +42,8 @@ module _ {bits : ℕ} {arena : TableId} {sizes : Sizes} {buffers : List Buffer} 
   w = writer_of me.0
 
   -- the desk after a step to the view v
-  pub desk_after : {z' : TableId} {me' : Me Slot View} {buffers' : List Buffer} {holds' : List HoldEntry} {last' made' : ℕ} (v : WriterView) → z' ≡ z → me' ≡ (Writer v, me.1) → v.sizes ≡ w.sizes → v.buffers ≡ buffers' → map own_hold (open_holds v.queue) ≡ holds'
+  pub desk_after : {z' : TableId} {me' : Me Slot View} {buffers' : List Buffer} {holds' : List HoldEntry} {last' made' : ℕ} (v : WriterView) → z' ≡ z → me' ≡ (Writer v, me.1) → v.sizes ≡ w.sizes → v.buffers ≡ buffers'
+      → map own_hold (open_holds v.queue) ≡ holds'
       → last' ≡ last_number v.commits → (made' ≡ v.made) × (made' ≤ 64) → v.queue.pending ≡ Nothing → GoodView v → StoresEntries v → IsDesk bits arena sizes buffers' holds' last' made' z' me'
   desk_after {z'} {me'} {buffers'} {holds'} {last'} {made'} v same is size of queue number count calm good entries =
       let slots : me.1 ≡ [] = ap (λ (m : Me Slot View). m.1) d.is in
@@ -88,7 +90,8 @@ module _ {bits : ℕ} {arena : TableId} {sizes : Sizes} {buffers : List Buffer} 
     some = omega (arith, inside)
 
     pub the_entry : IsEntry bits sizes.buffers sizes.words (length (writer_records w ref)) ref
-    the_entry = subst (λ b. IsEntry b sizes.buffers sizes.words (length (writer_records w ref)) ref) d.same_bits (subst (λ (x : Sizes). IsEntry x.offset_bits x.buffers x.words (length (writer_records w ref)) ref) d.same_sizes (records-placed w d.good ref some).inside)
+    the_entry = subst (λ b. IsEntry b sizes.buffers sizes.words (length (writer_records w ref)) ref) d.same_bits
+        (subst (λ (x : Sizes). IsEntry x.offset_bits x.buffers x.words (length (writer_records w ref)) ref) d.same_sizes (records-placed w d.good ref some).inside)
 
     pub base-below : (p : ℕ) → p ≡ base sizes.buffers sizes.words (buffer_of bits ref) → p < arena.words
     base-below p is = let e = the_entry in let lt = base-inside sizes.buffers sizes.words (buffer_of bits ref) e.inside (omega (arith, (within e 0 e.wide).1)) in omega (arith, lt, is, arena-words)

@@ -1,5 +1,6 @@
 -- What the ghost fields of a reader and of a guard give at a call.
-use Rattle.std.proofs.Common.{inl, inr, ◌^◌, mul-le-mul_left, cond, eq-eqb, ne_eqb, ◌≡◌, ◌≢◌, ℕ, suc, ◌+◌, ◌*◌, ◌%◌, ◌<◌, ◌≤◌, List, [], ◌∷◌, length, slice_index, Some, refl, sym, ap, ◌∙◌, subst, arith, mul-le-mul_right, suc-mul}
+use Rattle.std.proofs.Common.{inl, inr, ◌^◌, mul-le-mul_left, cond, eq-eqb, ne_eqb, ◌≡◌, ◌≢◌, ℕ, suc, ◌+◌, ◌*◌, ◌%◌, ◌<◌, ◌≤◌, List, [], ◌∷◌, length, slice_index, Some, refl, sym, ap, ◌∙◌, subst, arith}
+use Rattle.std.proofs.Common.{mul-le-mul_right, suc-mul}
 use Rattle.std.specs.Prelude.{slice_get, All}
 use Rattle.std.proofs.Props.{props}
 use Rattle.entry_ref.specs.References.{buffer_of}
@@ -26,7 +27,8 @@ use Rattle.word_arena.specs.ProofsForGuards.{in_image, image-entry}
 use Rattle.word_arena.specs.Ruled.{IsAim, IsAimOf, Slot, reader_of, ToldLoadRoot, ToldLoadNewest, told_raise, ToldLoadWord, first_seen, seen_image, seen_number, IsPost, IsWatch, IsGuard, IsLater}
 
 -- a seat after a step to the view v
-pub post_after : {bits : ℕ} {arena : TableId} {sizes : Sizes} {z z' : TableId} {me me' : Me Slot View} → IsPost bits arena sizes z me → z' ≡ z → (v : ReaderView) → me' ≡ (Reader v, me.1) → v.sizes ≡ (reader_of me.0).sizes
+pub post_after : {bits : ℕ} {arena : TableId} {sizes : Sizes} {z z' : TableId} {me me' : Me Slot View} → IsPost bits arena sizes z me → z' ≡ z → (v : ReaderView) → me' ≡ (Reader v, me.1)
+    → v.sizes ≡ (reader_of me.0).sizes
     → IsPost bits arena sizes z' me' × (reader_of me'.0 ≡ v)
 post_after {bits} {arena} {sizes} {z} {z'} {me} {me'} i same v is size =
     let slots : me.1 ≡ [] = ap (λ (m : Me Slot View). m.1) i.is in
@@ -178,7 +180,8 @@ module _ {bits : ℕ} {arena : TableId} {sizes : Sizes} {hold word : ℕ} {z : T
     -- the width that was found
     pub width_found : {slots p found : ℕ} {me' : Me Slot View} → p ≡ base sizes.buffers sizes.words (buffer_of bits ref) → ToldLoadWord (step slots p 0 0 none) me found me' → found ≡ length (m ref)
     width_found {slots} {p} {found} {me'} is told =
-        (told.word (seen_number r) (seen_image r) under).width ref (m ref) (in_image (seen_image r) ref some) (is ∙ (λ k. base (sym g.post.same_sizes k).buffers (sym g.post.same_sizes k).words (buffer_of (sym view-bits k) ref)))
+        (told.word (seen_number r) (seen_image r) under).width ref (m ref) (in_image (seen_image r) ref some)
+        (is ∙ (λ k. base (sym g.post.same_sizes k).buffers (sym g.post.same_sizes k).words (buffer_of (sym view-bits k) ref)))
 
     -- and the word
     pub word_found : {slots p found : ℕ} {me1 me' : Me Slot View} → me1 ≡ me → p ≡ place bits sizes.buffers sizes.words (length (m ref)) ref i
@@ -234,6 +237,7 @@ raised_post {bits} {arena} {sizes} {hold} {count} {z} {z1} {me} {me1} a same tol
     }
 
 -- and one that stands on nothing again
-pub watch_after : {bits : ℕ} {arena : TableId} {sizes : Sizes} {z z' : TableId} {me me' : Me Slot View} → IsPost bits arena sizes z me → z' ≡ z → (v : ReaderView) → me' ≡ (Reader v, me.1) → v.sizes ≡ (reader_of me.0).sizes → v.state ≡ Idle
+pub watch_after : {bits : ℕ} {arena : TableId} {sizes : Sizes} {z z' : TableId} {me me' : Me Slot View} → IsPost bits arena sizes z me → z' ≡ z → (v : ReaderView) → me' ≡ (Reader v, me.1)
+    → v.sizes ≡ (reader_of me.0).sizes → v.state ≡ Idle
     → IsWatch bits arena sizes z' me'
 watch_after i same v is size idle = let p = post_after i same v is size in record { post = p.0; idle = ap (λ (x : ReaderView). x.state) p.1 ∙ idle }

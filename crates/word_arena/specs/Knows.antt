@@ -69,7 +69,8 @@ pub record StoresEntries (w : WriterView) : Type 0 where
       → work_at w.work (base w.sizes.buffers w.sizes.words b + x) ≡ None
 
 -- what a writer has beside its view
-pub record IsDesk (bits : ℕ) (arena : TableId) (sizes : Sizes) (buffers : List Buffer) (holds : List HoldEntry) (last made : ℕ) (z : TableId) (me : Me Slot View) : Type 0 where
+pub record IsDesk (bits : ℕ) (arena : TableId) (sizes : Sizes) (buffers : List Buffer) (holds : List HoldEntry) (last made : ℕ)
+    (z : TableId) (me : Me Slot View) : Type 0 where
   pub own : z ≡ arena
   pub is : me ≡ (Writer (writer_of me.0), [])
   pub words : z.words ≡ size_of sizes.buffers sizes.words

@@ -5,8 +5,11 @@ use Rattle.image_base.specs.Records.{Records}
 use Rattle.gen_core.specs.declared.views.View.{View}
 use Rattle.gen_core.specs.Good.{State, Good}
 use Rattle.gen_core.specs.Steps.{Operation, load, store, add, subtract, exchange, word_of, operation_of, seat_of, view_at}
-use Rattle.gen_core.specs.Events.{Event, store_width, store_word, hand_out, publish, put_on_hold, free_buffer, reopen, store_newest, close, stop_at_oldest, probe, stop_at_newest, morph, load_own, load_newest, raise, bounce, load_root, load_word, release, Happens}
-use Rattle.word_arena.specs.Ruled.{Slot, told_hand_out, told_width, told_store, told_find, told_publish, told_load_root, told_load_newest, told_raise, told_bounce, told_release, told_load_word, told_load_own}
+use Rattle.gen_core.specs.Events.{Event, store_width, store_word, hand_out, publish, put_on_hold, free_buffer, reopen, store_newest, close}
+use Rattle.gen_core.specs.Events.{stop_at_oldest, probe, stop_at_newest, morph, load_own, load_newest, raise, bounce, load_root, load_word}
+use Rattle.gen_core.specs.Events.{release, Happens}
+use Rattle.word_arena.specs.Ruled.{Slot, told_hand_out, told_width, told_store, told_find, told_publish, told_load_root, told_load_newest}
+use Rattle.word_arena.specs.Ruled.{told_raise, told_bounce, told_release, told_load_word, told_load_own}
 use Rattle.word_arena.specs.WriterHolds.{told_reopen, told_store_newest, told_morph, told_probe, told_close, told_hold, told_free}
 
 -- the operands of a step are those of an operation
@@ -48,7 +51,8 @@ module _ (reaches : ℕ → Records → ℕ → List ℕ) (lawful : ℕ → Reco
   plays_hand_out st me found me' = Told (told_hand_out st me found me') ((b : ℕ) × IsEvent reaches lawful (hand_out b) st me found me')
 
   abbrev pub plays_width : Step Slot → Me Slot View → ℕ → Me Slot View → Type 0
-  plays_width st me found me' = Told (told_width st me found me') ((b : ℕ) × IsEvent reaches lawful (store_width b st.first) st me found me')
+  plays_width st me found me' = Told (told_width st me found me') ((b : ℕ)
+      × IsEvent reaches lawful (store_width b st.first) st me found me')
 
   abbrev pub plays_store : Step Slot → Me Slot View → ℕ → Me Slot View → Type 0
   plays_store st me found me' = Told (told_store st me found me') (IsEvent reaches lawful (store_word st.word st.first) st me found me')
@@ -68,7 +72,8 @@ module _ (reaches : ℕ → Records → ℕ → List ℕ) (lawful : ℕ → Reco
   plays_find st me found me' = Told (told_find st me found me') (IsStoreOfFound st me found me')
 
   abbrev pub plays_publish : Step Slot → Me Slot View → ℕ → Me Slot View → Type 0
-  plays_publish st me found me' = Told (told_publish reaches lawful st me found me') ((root : ℕ) × IsEvent reaches lawful (publish root) st me found me')
+  plays_publish st me found me' = Told (told_publish reaches lawful st me found me') ((root : ℕ)
+      × IsEvent reaches lawful (publish root) st me found me')
 
   abbrev pub plays_load_own : Step Slot → Me Slot View → ℕ → Me Slot View → Type 0
   plays_load_own st me found me' = Told (told_load_own st me found me') (IsEvent reaches lawful (load_own st.word) st me found me')
@@ -105,7 +110,8 @@ module _ (reaches : ℕ → Records → ℕ → List ℕ) (lawful : ℕ → Reco
 
   -- a reader is named by its place j among those made
   abbrev pub plays_load_newest : Step Slot → Me Slot View → ℕ → Me Slot View → Type 0
-  plays_load_newest st me found me' = Told (told_load_newest st me found me') ((j : ℕ) × IsEvent reaches lawful (load_newest j) st me found me')
+  plays_load_newest st me found me' = Told (told_load_newest st me found me') ((j : ℕ)
+      × IsEvent reaches lawful (load_newest j) st me found me')
 
   abbrev pub plays_raise : Step Slot → Me Slot View → ℕ → Me Slot View → Type 0
   plays_raise st me found me' = Told (told_raise st me found me') ((j : ℕ) × IsEvent reaches lawful (raise j) st me found me')
@@ -114,10 +120,12 @@ module _ (reaches : ℕ → Records → ℕ → List ℕ) (lawful : ℕ → Reco
   plays_bounce st me found me' = Told (told_bounce st me found me') ((j : ℕ) × IsEvent reaches lawful (bounce j) st me found me')
 
   abbrev pub plays_load_root : Step Slot → Me Slot View → ℕ → Me Slot View → Type 0
-  plays_load_root st me found me' = Told (told_load_root reaches lawful st me found me') ((j : ℕ) × IsEvent reaches lawful (load_root j) st me found me')
+  plays_load_root st me found me' = Told (told_load_root reaches lawful st me found me') ((j : ℕ)
+      × IsEvent reaches lawful (load_root j) st me found me')
 
   abbrev pub plays_load_word : Step Slot → Me Slot View → ℕ → Me Slot View → Type 0
-  plays_load_word st me found me' = Told (told_load_word st me found me') ((j : ℕ) × IsEvent reaches lawful (load_word j st.word) st me found me')
+  plays_load_word st me found me' = Told (told_load_word st me found me') ((j : ℕ)
+      × IsEvent reaches lawful (load_word j st.word) st me found me')
 
   abbrev pub plays_release : Step Slot → Me Slot View → ℕ → Me Slot View → Type 0
   plays_release st me found me' = Told (told_release st me found me') ((j : ℕ) × IsEvent reaches lawful (release j) st me found me')

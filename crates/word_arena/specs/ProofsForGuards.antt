@@ -22,10 +22,15 @@ pub in_image : (image : Image) (ref : ℕ) → 0 < length (words_at image ref) �
 in_image image ref some = there (record_at image ref) some
 
 -- and is an entry
-pub image-entry : (bits : ℕ) (sizes : Sizes) (image : Image) → All (λ pair. IsEntry bits sizes.buffers sizes.words (length pair.1) pair.0) image.records
+pub image-entry : (bits : ℕ) (sizes : Sizes) (image : Image)
+    → All (λ pair. IsEntry bits sizes.buffers sizes.words (length pair.1) pair.0) image.records
     → (ref : ℕ) → 0 < length (words_at image ref) → IsEntry bits sizes.buffers sizes.words (length (words_at image ref)) ref
-image-entry bits sizes image all ref some = all_found (λ pair. IsEntry bits sizes.buffers sizes.words (length pair.1) pair.0) image.records ref (words_at image ref) all (in_image image ref some)
+image-entry bits sizes image all ref some =
+    all_found (λ pair. IsEntry bits sizes.buffers sizes.words (length pair.1) pair.0) image.records ref (words_at image ref) all
+    (in_image image ref some)
 
-pub guard_references : {bits : ℕ} {arena : TableId} {sizes : Sizes} {hold word : ℕ} {z : TableId} {me : Me Slot View} → IsGuard bits arena sizes hold word z me
+pub guard_references : {bits : ℕ} {arena : TableId} {sizes : Sizes} {hold word : ℕ} {z : TableId} {me : Me Slot View}
+    → IsGuard bits arena sizes hold word z me
     → (r : ℕ) → 0 < length (words_at (seen_image (reader_of me.0)) r) → r < 2 ^ 32
-guard_references {bits} {arena} {sizes} {hold} {word} {z} {me} g r some = entry-small (image-entry bits sizes (seen_image (reader_of me.0)) g.entries r some) g.post.limits.few_words g.post.limits.offsets
+guard_references {bits} {arena} {sizes} {hold} {word} {z} {me} g r some =
+    entry-small (image-entry bits sizes (seen_image (reader_of me.0)) g.entries r some) g.post.limits.few_words g.post.limits.offsets

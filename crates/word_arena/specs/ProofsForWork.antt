@@ -1,5 +1,6 @@
 -- Nobody has to read this: lemmas that the writer cites for what is always so of a work.
-use Rattle.std.proofs.Common.{◌≡◌, ◌≢◌, ◌⊎◌, inl, inr, ⊎_elim, ℕ, suc, ◌+◌, ◌<◌, ◌≤◌, List, [], ◌∷◌, map, length, get_or, slice_index, Option, Some, None, refl, sym, ap, subst, ◌∙◌, arith}
+use Rattle.std.proofs.Common.{◌≡◌, ◌≢◌, ◌⊎◌, inl, inr, ⊎_elim, ℕ, suc, ◌+◌, ◌<◌, ◌≤◌, List, [], ◌∷◌, map, length, get_or, slice_index}
+use Rattle.std.proofs.Common.{Option, Some, None, refl, sym, ap, subst, ◌∙◌, arith}
 use Rattle.std.specs.Prelude.{◌^◌, ◌++◌, slice_get, All, AllPairs, option_and_then}
 use Rattle.std.specs.List.{AllByRecursion}
 use Rattle.std.specs.Option.{unwrap_or}
@@ -18,7 +19,8 @@ use Rattle.gen_core.specs.declared.views.Tag.{Tag}
 use Rattle.gen_core.specs.declared.views.Buffer.{Buffer}
 use Rattle.gen_core.specs.declared.views.Buffer.TheVariants.{Free, Active, Held}
 use Rattle.gen_core.specs.declared.views.WriterView.{WriterView}
-use Rattle.gen_core.specs.Views.{open_holds, oldest_in, coming_after, floor_of, last_number, last_image, record_width, active_width, active_in}
+use Rattle.gen_core.specs.Views.{open_holds, oldest_in, coming_after, floor_of, last_number, last_image, record_width, active_width}
+use Rattle.gen_core.specs.Views.{active_in}
 use Rattle.gen_core.specs.Work.{writer_records, stored_by, IsRecordStored}
 use Rattle.gen_core.proofs.Work.{records-found}
 use Rattle.std.proofs.lemmas.List.{length-map, length_push}
@@ -46,7 +48,8 @@ pub at_number : (commits : List Image) (n : ℕ) → n < length commits → slic
 at_number commits n lt = by_commit (slice_get commits n) refl
   where
     by_commit : (o : Option Image) → slice_get commits n ≡ o → o ≡ Some (unwrap_or o no_image)
-    by_commit None e = let at : slice_get commits n ≡ Some (get_or commits n no_image) = slice_get-get_or commits n no_image lt in absurd (cc)
+    by_commit None e = let at : slice_get commits n ≡ Some (get_or commits n no_image) = slice_get-get_or commits n no_image lt in
+        absurd (cc)
     by_commit (Some x) e = refl
 
 -- what holds of each element by its place holds by recursion
@@ -59,7 +62,8 @@ coming-least newest Nothing = omega arith
 coming-least newest (Next h) = omega arith
 coming-least newest Probed = omega arith
 
-oldest-hold : (older : List OpenHold) (newest : OpenHold) → (oldest_of (map api_hold (older ++ newest ∷ []))).first ≡ (oldest_in older newest).first_commit
+oldest-hold : (older : List OpenHold) (newest : OpenHold)
+    → (oldest_of (map api_hold (older ++ newest ∷ []))).first ≡ (oldest_in older newest).first_commit
 oldest-hold [] newest = refl
 oldest-hold (e ∷ es) newest = refl
 
@@ -104,22 +108,33 @@ module _ (w : WriterView) (g : GoodView w) (bits : ℕ) (same : w.sizes.offset_b
   pub last-image : image_at w.commits (last_number w.commits) ≡ last_image w.commits
   last-image = ap (λ o. unwrap_or o no_image) (last-in w g)
 
-  fits : (width r n : ℕ) → width ≡ n → IsEntry w.sizes.offset_bits w.sizes.buffers w.sizes.words n r → FitsEntry w.sizes.offset_bits (api_sizes w.sizes) width r n
-  fits width r n is e = record { entry = subst (λ x. IsEntry w.sizes.offset_bits w.sizes.buffers w.sizes.words x r) (sym is) e; whole = sym is }
+  fits : (width r n : ℕ) → width ≡ n → IsEntry w.sizes.offset_bits w.sizes.buffers w.sizes.words n r
+      → FitsEntry w.sizes.offset_bits (api_sizes w.sizes) width r n
+  fits width r n is e = record {
+    entry = subst (λ x. IsEntry w.sizes.offset_bits w.sizes.buffers w.sizes.words x r) (sym is) e;
+    whole = sym is;
+  }
 
-  pub work_entries : (r : ℕ) → 0 < length (writer_records w r) → FitsEntry bits (api_sizes w.sizes) (api_active (api_buffer (slice_get w.buffers (buffer_of bits r)))) r (length (writer_records w r))
-  work_entries r some = subst (λ b. FitsEntry b (api_sizes w.sizes) (api_active (api_buffer (slice_get w.buffers (buffer_of b r)))) r (length (writer_records w r))) same
-      (fits _ r _ (api-active (slice_get w.buffers (buffer_of w.sizes.offset_bits r)) _ (records-active w g r some)) (records-placed w g r some).inside)
+  pub work_entries : (r : ℕ) → 0 < length (writer_records w r)
+      → FitsEntry bits (api_sizes w.sizes) (api_active (api_buffer (slice_get w.buffers (buffer_of bits r)))) r
+      (length (writer_records w r))
+  work_entries r some = subst (λ b. FitsEntry b (api_sizes w.sizes) (api_active (api_buffer (slice_get w.buffers (buffer_of b r)))) r
+      (length (writer_records w r))) same
+      (fits _ r _ (api-active (slice_get w.buffers (buffer_of w.sizes.offset_bits r)) _ (records-active w g r some))
+      (records-placed w g r some).inside)
 
   pub work_kept : (n r : ℕ) → floor_of w ≤ n → n ≤ last_number w.commits → 0 < length (words_at (image_at w.commits n) r)
-      → FitsEntry bits (api_sizes w.sizes) (width_of (api_buffer (slice_get w.buffers (buffer_of bits r)))) r (length (words_at (image_at w.commits n) r))
+      → FitsEntry bits (api_sizes w.sizes) (width_of (api_buffer (slice_get w.buffers (buffer_of bits r)))) r
+      (length (words_at (image_at w.commits n) r))
   work_kept n r from to some =
       let at = at_number w.commits n (let c = some-commit w g in omega arith) in
       let placed = kept-placed w g n (image_at w.commits n) from at r _ (there (record_at (image_at w.commits n) r) some) in
-      subst (λ b. FitsEntry b (api_sizes w.sizes) (width_of (api_buffer (slice_get w.buffers (buffer_of b r)))) r (length (words_at (image_at w.commits n) r))) same
+      subst (λ b. FitsEntry b (api_sizes w.sizes) (width_of (api_buffer (slice_get w.buffers (buffer_of b r)))) r
+      (length (words_at (image_at w.commits n) r))) same
       (fits _ r _ (api-width (slice_get w.buffers (buffer_of w.sizes.offset_bits r)) _ placed.width) placed.inside)
 
-  pub work_last : (r : ℕ) → 0 < length (words_at (image_at w.commits (last_number w.commits)) r) → writer_records w r ≡ words_at (image_at w.commits (last_number w.commits)) r
+  pub work_last : (r : ℕ) → 0 < length (words_at (image_at w.commits (last_number w.commits)) r)
+      → writer_records w r ≡ words_at (image_at w.commits (last_number w.commits)) r
   work_last r some =
       let P : Image → Type 0 = λ image. 0 < length (words_at image r) → writer_records w r ≡ words_at image r in
       subst P (sym last-image) (λ h. records-last w g r _ (there (record_at (last_image w.commits) r) h)) some
@@ -127,13 +142,20 @@ module _ (w : WriterView) (g : GoodView w) (bits : ℕ) (same : w.sizes.offset_b
   pub work_whole : (r : ℕ) (ws : List ℕ) → 0 < length ws → length ws ≡ api_active (api_buffer (slice_get w.buffers (buffer_of bits r)))
       → ((i : ℕ) → i < length ws → stored_by w r i ≡ Some (slice_index ws i)) → writer_records w r ≡ ws
   work_whole r ws some long each =
-      let here : length ws ≡ api_active (api_buffer (slice_get w.buffers (buffer_of w.sizes.offset_bits r))) = subst (λ b. length ws ≡ api_active (api_buffer (slice_get w.buffers (buffer_of b r)))) (sym same) long in
+      let here : length ws ≡ api_active (api_buffer (slice_get w.buffers (buffer_of w.sizes.offset_bits r))) =
+      subst (λ b. length ws ≡ api_active (api_buffer (slice_get w.buffers (buffer_of b r)))) (sym same) long in
       let active : active_in w.buffers (buffer_of w.sizes.offset_bits r) ≡ Some (length ws) =
       core-active (slice_get w.buffers (buffer_of w.sizes.offset_bits r)) (omega (arith, some, here)) ∙ ap Some (sym here) in
       let first = is_stored w r 0 _ (each 0 some) in
       let is : first.width ≡ length ws = some-same _ _ (sym first.active ∙ active) in
-      let e : IsEntry w.sizes.offset_bits w.sizes.buffers w.sizes.words (length ws) r = subst (λ n. IsEntry w.sizes.offset_bits w.sizes.buffers w.sizes.words n r) is first.entry in
-      records-whole w r ws (record { entry = e; active = active; words = λ i lt. sym (stored-there w r i (length ws) active e lt) ∙ each i lt })
+      let e : IsEntry w.sizes.offset_bits w.sizes.buffers w.sizes.words (length ws) r =
+      subst (λ n. IsEntry w.sizes.offset_bits w.sizes.buffers w.sizes.words n r) is first.entry in
+      records-whole w r ws (record {
+        entry = e;
+        active = active;
+        words = λ i lt. sym (stored-there w r i (length ws) active e lt)
+            ∙ each i lt;
+      })
 
   pub work_order : {H : Type 0} (home : H) → IsInOrder (view_of home w)
   work_order home = record {
@@ -149,51 +171,67 @@ module _ (w : WriterView) (g : GoodView w) (bits : ℕ) (same : w.sizes.offset_b
     order = in_order (open_holds w.queue) g.queue.rising;
     each = by_places (IsOpenHold (view_of home w)) api_hold (open_holds w.queue) (λ k d lt.
         let fits = g.queue.each k d lt in let hold = fits.hold in let first = fits.first_commit in
-        let a = newest-most w.queue.older w.queue.newest g.queue.rising k d lt in let b = coming-least w.queue.newest w.queue.pending in let c = g.queue.generation in
+        let a = newest-most w.queue.older w.queue.newest g.queue.rising k d lt in let b = coming-least w.queue.newest w.queue.pending in
+        let c = g.queue.generation in
         record { hold = hold; first = first; generation = omega arith });
   }
 
   pub work_only : (r : ℕ) → 0 < length (writer_records w r)
-      → (writer_records w r ≡ words_at (image_at w.commits (last_number w.commits)) r) ⊎ ((i : ℕ) → i < length (writer_records w r) → stored_by w r i ≡ Some (slice_index (writer_records w r) i))
+      → (writer_records w r ≡ words_at (image_at w.commits (last_number w.commits)) r)
+      ⊎ ((i : ℕ) → i < length (writer_records w r) → stored_by w r i ≡ Some (slice_index (writer_records w r) i))
   work_only r some = ⊎_elim
-      (λ (old : record_at (last_image w.commits) r ≡ Some (writer_records w r)). inl (sym (ap (λ image. words_at image r) last-image ∙ ap (λ o. unwrap_or o []) old)))
-      (λ (whole : IsRecordStored w r (writer_records w r)). inr (λ i lt. stored-there w r i (length (writer_records w r)) whole.active whole.entry lt ∙ whole.words i lt))
+      (λ (old : record_at (last_image w.commits) r ≡ Some (writer_records w r)). inl
+      (sym (ap (λ image. words_at image r) last-image ∙ ap (λ o. unwrap_or o []) old)))
+      (λ (whole : IsRecordStored w r (writer_records w r)). inr
+      (λ i lt. stored-there w r i (length (writer_records w r)) whole.active whole.entry lt ∙ whole.words i lt))
       (records-found w r some)
 
-  pub work_held : {H : Type 0} (home : H) (b width : ℕ) (t : ApiTag) → api_buffer (slice_get w.buffers b) ≡ ApiBuffer.held width t → IsHeldUnder bits (view_of home w) b t
+  pub work_held : {H : Type 0} (home : H) (b width : ℕ) (t : ApiTag) → api_buffer (slice_get w.buffers b) ≡ ApiBuffer.held width t
+      → IsHeldUnder bits (view_of home w) b t
   work_held home b width t e = by_buffer (slice_get w.buffers b) refl e
     where
-      under : (n : ℕ) (tag : Tag) → slice_get w.buffers b ≡ Some (Held n tag) → IsHeldUnder w.sizes.offset_bits (view_of home w) b (api_tag tag)
+      under : (n : ℕ) (tag : Tag) → slice_get w.buffers b ≡ Some (Held n tag)
+          → IsHeldUnder w.sizes.offset_bits (view_of home w) b (api_tag tag)
       under n tag at = let h = g.tags.held b n tag at in record {
-        generation = subst (λ (x : ℕ). tag.generation ≤ x) (sym (ap (λ (x : Hold). x.generation) (newest-api w.queue.older w.queue.newest))) h.generation;
+        generation = subst (λ (x : ℕ). tag.generation ≤ x)
+            (sym (ap (λ (x : Hold). x.generation) (newest-api w.queue.older w.queue.newest))) h.generation;
         commit = h.commit;
         unused = λ k r kept from in_b.
             let to = kept.to in let some = some-commit w g in
-            let none = all_drop-at (HasNothingIn w.sizes.offset_bits b) tag.commit w.commits k (image_at w.commits k) h.unused from (at_number w.commits k (omega arith)) in
+            let none = all_drop-at (HasNothingIn w.sizes.offset_bits b) tag.commit w.commits k (image_at w.commits k) h.unused from
+            (at_number w.commits k (omega arith)) in
             by_record (image_at w.commits k) r none in_b (record_at (image_at w.commits k) r) refl;
         later = by_places (λ x. tag.generation < x.generation → tag.commit ≤ x.first) api_hold (open_holds w.queue) h.first_commits;
       }
         where
-          by_record : (image : Image) (r : ℕ) → HasNothingIn w.sizes.offset_bits b image → buffer_of w.sizes.offset_bits r ≡ b → (o : Option (List ℕ)) → record_at image r ≡ o → unwrap_or o [] ≡ []
+          by_record : (image : Image) (r : ℕ) → HasNothingIn w.sizes.offset_bits b image → buffer_of w.sizes.offset_bits r ≡ b
+              → (o : Option (List ℕ)) → record_at image r ≡ o → unwrap_or o [] ≡ []
           by_record image r none in_b None is = refl
-          by_record image r none in_b (Some ws) is = absurd (all_found (λ pair. buffer_of w.sizes.offset_bits pair.0 ≢ b) image.records r ws none is in_b)
+          by_record image r none in_b (Some ws) is =
+              absurd (all_found (λ pair. buffer_of w.sizes.offset_bits pair.0 ≢ b) image.records r ws none is in_b)
 
-      by_buffer : (o : Option Buffer) → slice_get w.buffers b ≡ o → api_buffer o ≡ ApiBuffer.held width t → IsHeldUnder bits (view_of home w) b t
+      by_buffer : (o : Option Buffer) → slice_get w.buffers b ≡ o → api_buffer o ≡ ApiBuffer.held width t
+          → IsHeldUnder bits (view_of home w) b t
       by_buffer None at is = absurd (cc)
       by_buffer (Some (Free last)) at is = absurd (cc)
       by_buffer (Some (Active n last)) at is = absurd (cc)
       by_buffer (Some (Held n tag)) at is =
           let alike : api_tag tag ≡ t = cc in
-          subst (λ x. IsHeldUnder bits (view_of home w) b x) alike (subst (λ x. IsHeldUnder x (view_of home w) b (api_tag tag)) same (under n tag at))
+          subst (λ x. IsHeldUnder bits (view_of home w) b x) alike
+          (subst (λ x. IsHeldUnder x (view_of home w) b (api_tag tag)) same (under n tag at))
 
-  pub work_tags : (b : ℕ) (t : ApiTag) → api_buffer (slice_get w.buffers b) ≡ ApiBuffer.free (Some t) → AllByRecursion (λ (h : Hold). t.generation < h.generation) (map api_hold (open_holds w.queue))
+  pub work_tags : (b : ℕ) (t : ApiTag) → api_buffer (slice_get w.buffers b) ≡ ApiBuffer.free (Some t)
+      → AllByRecursion (λ (h : Hold). t.generation < h.generation) (map api_hold (open_holds w.queue))
   work_tags b t e = by_buffer (slice_get w.buffers b) refl e
     where
-      above : (tag : Tag) → slice_get w.buffers b ≡ Some (Free (Some tag)) → AllByRecursion (λ (h : Hold). tag.generation < h.generation) (map api_hold (open_holds w.queue))
+      above : (tag : Tag) → slice_get w.buffers b ≡ Some (Free (Some tag))
+          → AllByRecursion (λ (h : Hold). tag.generation < h.generation) (map api_hold (open_holds w.queue))
       above tag at = by_places (λ h. tag.generation < h.generation) api_hold (open_holds w.queue)
-          (λ k d lt. let low = g.tags.free b tag at in let le = oldest-least w.queue.older w.queue.newest g.queue.rising k d lt in omega arith)
+          (λ k d lt. let low = g.tags.free b tag at in let le = oldest-least w.queue.older w.queue.newest g.queue.rising k d lt in
+          omega arith)
 
-      by_buffer : (o : Option Buffer) → slice_get w.buffers b ≡ o → api_buffer o ≡ ApiBuffer.free (Some t) → AllByRecursion (λ (h : Hold). t.generation < h.generation) (map api_hold (open_holds w.queue))
+      by_buffer : (o : Option Buffer) → slice_get w.buffers b ≡ o → api_buffer o ≡ ApiBuffer.free (Some t)
+          → AllByRecursion (λ (h : Hold). t.generation < h.generation) (map api_hold (open_holds w.queue))
       by_buffer None at is = absurd (cc)
       by_buffer (Some (Free None)) at is = absurd (cc)
       by_buffer (Some (Free (Some tag))) at is =
@@ -203,15 +241,22 @@ module _ (w : WriterView) (g : GoodView w) (bits : ℕ) (same : w.sizes.offset_b
       by_buffer (Some (Held width tag)) at is = absurd (cc)
 
 -- only words of active buffers were stored
-pub work_stored : {H : Type 0} (home : H) (w : WriterView) (bits : ℕ) → w.sizes.offset_bits ≡ bits → (r i x : ℕ) → stored_by w r i ≡ Some x → IsWordIn bits (view_of home w) r i
+pub work_stored : {H : Type 0} (home : H) (w : WriterView) (bits : ℕ) → w.sizes.offset_bits ≡ bits → (r i x : ℕ) → stored_by w r i ≡ Some x
+    → IsWordIn bits (view_of home w) r i
 work_stored home w bits same r i x e =
     let s = is_stored w r i x e in
     let at = api-active (slice_get w.buffers (buffer_of w.sizes.offset_bits r)) s.width s.active in
     subst (λ b. IsWordIn b (view_of home w) r i) same
-    (record { entry = subst (λ n. IsEntry w.sizes.offset_bits w.sizes.buffers w.sizes.words n r) (sym at) s.entry; inside = subst (λ n. i < n) (sym at) s.inside })
+    (record {
+      entry = subst (λ n. IsEntry w.sizes.offset_bits w.sizes.buffers w.sizes.words n r) (sym at) s.entry;
+      inside = subst (λ n. i < n) (sym at) s.inside;
+    })
 
-pub work_references : (w : WriterView) → GoodView w → (bits : ℕ) → w.sizes.offset_bits ≡ bits → IsWithinLimits bits (api_sizes w.sizes) → (r : ℕ) → 0 < length (writer_records w r) → r < 2 ^ 32
-work_references w g bits same l r some = entry-small (records-placed w g r some).inside l.few_words (subst (λ b. w.sizes.words ≤ offset_limit b) (sym same) l.offsets)
+pub work_references : (w : WriterView) → GoodView w → (bits : ℕ) → w.sizes.offset_bits ≡ bits → IsWithinLimits bits (api_sizes w.sizes)
+    → (r : ℕ) → 0 < length (writer_records w r) → r < 2 ^ 32
+work_references w g bits same l r some = entry-small (records-placed w g r some).inside l.few_words
+    (subst (λ b. w.sizes.words ≤ offset_limit b) (sym same) l.offsets)
 
-pub desk_bits : {bits : ℕ} {arena : TableId} {sizes : Sizes} {buffers : List Buffer} {holds : List HoldEntry} {last made : ℕ} {z : TableId} {me : Me Slot View} → IsDesk bits arena sizes buffers holds last made z me → (writer_of me.0).sizes.offset_bits ≡ bits
+pub desk_bits : {bits : ℕ} {arena : TableId} {sizes : Sizes} {buffers : List Buffer} {holds : List HoldEntry} {last made : ℕ} {z : TableId}
+    {me : Me Slot View} → IsDesk bits arena sizes buffers holds last made z me → (writer_of me.0).sizes.offset_bits ≡ bits
 desk_bits d = ap (λ (x : Sizes). x.offset_bits) d.same_sizes ∙ d.same_bits

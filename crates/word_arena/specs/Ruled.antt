@@ -18,7 +18,8 @@ use Rattle.gen_core.specs.Views.{hold_place, newest_word, IsCommit, root_word, s
 use Rattle.gen_core.specs.Work.{place_in, writer_records, next_image}
 use Rattle.gen_core.specs.Good.{IsLawfulCommit, Good, GoodView}
 use Rattle.gen_core.specs.Conditions.{IsUnder}
-use Rattle.gen_core.specs.Events.{stored, aims, with_state, found_state, bounced, opening_view, widened, handed_out, published, sees, with_reader, newcomer, joined}
+use Rattle.gen_core.specs.Events.{stored, aims, with_state, found_state, bounced, opening_view, widened, handed_out, published, sees}
+use Rattle.gen_core.specs.Events.{with_reader, newcomer, joined}
 use Rattle.arena_api.specs.Works.{Sizes as ApiSizes}
 use Rattle.arena_api.specs.Calls.{IsWithinLimits}
 
@@ -33,7 +34,8 @@ abbrev pub views_of : WriterView → List ReaderView → List View
 views_of w readers = Writer w ∷ map Reader readers
 
 -- the words and the views are those of a good state
-pub record Ruled (reaches : ℕ → Records → ℕ → List ℕ) (lawful : ℕ → Records → ℕ → Type 0) (sizes : Sizes) (t : State Slot View) : Type 0 where
+pub record Ruled (reaches : ℕ → Records → ℕ → List ℕ) (lawful : ℕ → Records → ℕ
+    → Type 0) (sizes : Sizes) (t : State Slot View) : Type 0 where
   pub writer : WriterView
   pub readers : List ReaderView
   pub views : t.views ≡ views_of writer readers
@@ -58,7 +60,8 @@ told_hand_out st me found me' = (b : ℕ) → st.word ≡ state_place b → Beco
 
 abbrev pub told_width : Step Slot → Me Slot View → ℕ → Me Slot View → Type 0
 told_width st me found me' =
-    (b : ℕ) → st.word ≡ base (writer_of me.0).sizes.buffers (writer_of me.0).sizes.words b → Becomes me (widened (writer_of me.0) b st.first) me'
+    (b : ℕ) → st.word ≡ base (writer_of me.0).sizes.buffers (writer_of me.0).sizes.words b
+    → Becomes me (widened (writer_of me.0) b st.first) me'
 
 abbrev pub told_store : Step Slot → Me Slot View → ℕ → Me Slot View → Type 0
 told_store st me found me' = Becomes me (stored (writer_of me.0) st.word st.first) me'
@@ -96,8 +99,10 @@ module _ (reaches : ℕ → Records → ℕ → List ℕ) (lawful : ℕ → Reco
 
 -- the word found is the image's, or a width of it
 pub record IsFoundWord (z : Sizes) (image : Image) (p found : ℕ) : Type 0 where
-  pub word : (ref : ℕ) (ws : List ℕ) (i : ℕ) → record_at image ref ≡ Some ws → i < length ws → p ≡ place_in z (length ws) ref i → found ≡ slice_index ws i
-  pub width : (ref : ℕ) (ws : List ℕ) → record_at image ref ≡ Some ws → p ≡ base z.buffers z.words (buffer_of z.offset_bits ref) → found ≡ length ws
+  pub word : (ref : ℕ) (ws : List ℕ) (i : ℕ) → record_at image ref ≡ Some ws → i < length ws → p ≡ place_in z (length ws) ref i
+      → found ≡ slice_index ws i
+  pub width : (ref : ℕ) (ws : List ℕ) → record_at image ref ≡ Some ws → p ≡ base z.buffers z.words (buffer_of z.offset_bits ref)
+      → found ≡ length ws
 
 pub record ToldLoadWord (st : Step Slot) (me : Me Slot View) (found : ℕ) (me' : Me Slot View) : Type 0 where
   pub same : me' ≡ me
@@ -108,8 +113,10 @@ told_load_word st me found me' = ToldLoadWord st me found me'
 
 -- the word found is one of a record of the writer, or the width of an active buffer
 pub record IsOwn (w : WriterView) (p found : ℕ) : Type 0 where
-  pub word : (ref i : ℕ) → i < length (writer_records w ref) → p ≡ place_in w.sizes (length (writer_records w ref)) ref i → found ≡ slice_index (writer_records w ref) i
-  pub width : (ref : ℕ) → 0 < length (writer_records w ref) → p ≡ base w.sizes.buffers w.sizes.words (buffer_of w.sizes.offset_bits ref) → found ≡ length (writer_records w ref)
+  pub word : (ref i : ℕ) → i < length (writer_records w ref) → p ≡ place_in w.sizes (length (writer_records w ref)) ref i
+      → found ≡ slice_index (writer_records w ref) i
+  pub width : (ref : ℕ) → 0 < length (writer_records w ref) → p ≡ base w.sizes.buffers w.sizes.words (buffer_of w.sizes.offset_bits ref)
+      → found ≡ length (writer_records w ref)
 
 pub record ToldLoadOwn (st : Step Slot) (me : Me Slot View) (found : ℕ) (me' : Me Slot View) : Type 0 where
   pub same : me' ≡ me
@@ -197,7 +204,8 @@ pub record IsGuard (bits : ℕ) (arena : TableId) (sizes : Sizes) (hold word : �
 
 -- the guard's commit is lawful, not below what the reader had seen, and all that was seen since; nor is the least
 -- generation below the one asked for
-pub record IsLater (reaches : ℕ → Records → ℕ → List ℕ) (lawful : ℕ → Records → ℕ → Type 0) (r : ReaderView) (r' : ReaderView) : Type 0 where
+pub record IsLater (reaches : ℕ → Records → ℕ → List ℕ) (lawful : ℕ → Records → ℕ
+    → Type 0) (r : ReaderView) (r' : ReaderView) : Type 0 where
   pub same_sizes : r'.sizes ≡ r.sizes
   pub later : r.seen ≤ seen_number r'
   pub seen : r'.seen ≡ seen_number r'

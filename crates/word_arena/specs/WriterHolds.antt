@@ -29,7 +29,8 @@ abbrev pub told_probe : Step Slot → Me Slot View → ℕ → Me Slot View → 
 told_probe st me found me' = ToldProbe me found me'
 
 pub record ToldClose (me : Me Slot View) (found : ℕ) (me' : Me Slot View) : Type 0 where
-  pub hit : found ≡ 0 → (e : OpenHold) (es : List OpenHold) → (writer_of me.0).queue.older ≡ e ∷ es → Becomes me (closed (writer_of me.0) es) me'
+  pub hit : found ≡ 0 → (e : OpenHold) (es : List OpenHold) → (writer_of me.0).queue.older ≡ e ∷ es
+      → Becomes me (closed (writer_of me.0) es) me'
   pub miss : found ≢ 0 → Becomes me (stopped (writer_of me.0) found) me'
   pub alone : (writer_of me.0).made ≡ 0 → found ≡ 0
 
@@ -41,5 +42,6 @@ told_hold st me found me' = (b width : ℕ) → st.word ≡ state_place b → ac
     → Becomes me (put_aside (writer_of me.0) b width) me'
 
 abbrev pub told_free : Step Slot → Me Slot View → ℕ → Me Slot View → Type 0
-told_free st me found me' = (b width : ℕ) (tag : Tag) → st.word ≡ state_place b → slice_get (writer_of me.0).buffers b ≡ Some (Held width tag)
+told_free st me found me' = (b width : ℕ) (tag : Tag) → st.word ≡ state_place b
+    → slice_get (writer_of me.0).buffers b ≡ Some (Held width tag)
     → Becomes me (freed (writer_of me.0) b tag) me'

@@ -1,5 +1,6 @@
 -- What the writer's calls on holds and buffers make of its view, step after step.
-use Rattle.std.specs.Prelude.{◌≡◌, ◌≢◌, ◌⊎◌, ℕ, ◌+◌, ◌<◌, ◌≤◌, nat_lt, if◌then◌else◌, List, ◌∷◌, map, length, drop, slice_get, option_map, option_and_then, Option, None}
+use Rattle.std.specs.Prelude.{◌≡◌, ◌≢◌, ◌⊎◌, ℕ, ◌+◌, ◌<◌, ◌≤◌, nat_lt, if◌then◌else◌, List, ◌∷◌, map, length, drop, slice_get, option_map}
+use Rattle.std.specs.Prelude.{option_and_then, Option, None}
 use Rattle.generation_handler.specs.Queues.{IsLeastClosed}
 use Rattle.gen_core.specs.declared.views.OpenHold.{OpenHold}
 use Rattle.gen_core.specs.declared.views.Tag.{Tag}

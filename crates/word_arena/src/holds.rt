@@ -19,7 +19,8 @@ use image_base::Layout;
 impl<'a, const OFFSET_BITS: u32, L: Layout> Writer<'a, OFFSET_BITS, L> {
     // Puts a buffer on hold that the last commit has no record in, under the current generation and that commit.
     pub(crate) fn put_on_hold(&mut self, buffer: u32)
-        requires { MayPutOnHold (writer_of self.old.place.me.0) buffer (active_width (buffers_by (writer_of self.old.place.me.0).buffers buffer)) }
+        requires { MayPutOnHold (writer_of self.old.place.me.0) buffer
+            (active_width (buffers_by (writer_of self.old.place.me.0).buffers buffer)) }
         ensures table { self.new.place.table_id ≡ self.old.place.table_id }
         ensures view { writer_of self.new.place.me.0
             ≡ put_aside (writer_of self.old.place.me.0) buffer (active_width (buffers_by (writer_of self.old.place.me.0).buffers buffer)) }

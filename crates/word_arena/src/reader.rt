@@ -199,7 +199,8 @@ impl<'a, const OFFSET_BITS: u32, L: Layout> Guarded<'a, OFFSET_BITS, L> {
     // Where a word of a record stands, by the width that its buffer tells.
     fn place_of_word(&mut self, entry: EntryRef<OFFSET_BITS>, i: u32) -> u64
         requires { HasWord (words_at (seen_image (reader_of self.old.place.me.0))) entry i }
-        ensures place { result ≡ place OFFSET_BITS self.old.sizes.buffers self.old.sizes.words (length (words_at (seen_image (reader_of self.old.place.me.0)) entry.entry)) entry.entry i }
+        ensures place { result ≡ place OFFSET_BITS self.old.sizes.buffers self.old.sizes.words
+            (length (words_at (seen_image (reader_of self.old.place.me.0)) entry.entry)) entry.entry i }
         ensures same { self.new ≡ self.old }
     {
         let first = 18 + self.sizes.buffers + u64::from(entry.buffer()) * self.sizes.words;
@@ -240,7 +241,8 @@ impl<'a, const OFFSET_BITS: u32, L: Layout> Frozen<OFFSET_BITS> for Guarded<'a, 
     fn read(&mut self, entry: EntryRef<OFFSET_BITS>, first: u32, into: &mut [u64])
         requires there { first + length into.old ≤ length (⟦<Guarded<'a, OFFSET_BITS, L> as Frozen<OFFSET_BITS>>⟧.records self.old entry) }
         requires few { first + length into.old < 2 ^ 32 }
-        ensures words { into.new ≡ take (length into.old) (drop first (⟦<Guarded<'a, OFFSET_BITS, L> as Frozen<OFFSET_BITS>>⟧.records self.old entry.entry)) }
+        ensures words { into.new ≡ take (length into.old)
+            (drop first (⟦<Guarded<'a, OFFSET_BITS, L> as Frozen<OFFSET_BITS>>⟧.records self.old entry.entry)) }
         ensures same { self.new ≡ self.old }
     {
         if into.is_empty() {

@@ -50,7 +50,8 @@ impl<'a, const OFFSET_BITS: u32, L: Layout> Writer<'a, OFFSET_BITS, L> {
         requires free { is_free (buffers_by (writer_of self.old.place.me.0).buffers buffer) ≡ true }
         requires some { 0 < width }
         ensures table { self.new.place.table_id ≡ self.old.place.table_id }
-        ensures view { writer_of self.new.place.me.0 ≡ given (writer_of self.old.place.me.0) buffer width (last_tag_in (writer_of self.old.place.me.0).buffers buffer) }
+        ensures view { writer_of self.new.place.me.0 ≡ given (writer_of self.old.place.me.0) buffer width
+            (last_tag_in (writer_of self.old.place.me.0).buffers buffer) }
     {
         let last = last_of(self.buffers.as_slice(), buffer);
         let at = buffer as usize;
@@ -69,7 +70,8 @@ impl<'a, const OFFSET_BITS: u32, L: Layout> Writer<'a, OFFSET_BITS, L> {
     /// Finds the word of an entry that is there, which counts as stored from then on. Its buffer has this width.
     fn find_in(&mut self, entry: EntryRef<OFFSET_BITS>, width: u32, i: u32) -> u64
         requires may { MayStore OFFSET_BITS (view_of self.old.place.table_id (writer_of self.old.place.me.0)) entry i }
-        requires width { active_width ((view_of self.old.place.table_id (writer_of self.old.place.me.0)).buffer (buffer_of OFFSET_BITS entry)) ≡ width }
+        requires width { active_width ((view_of self.old.place.table_id (writer_of self.old.place.me.0)).buffer
+            (buffer_of OFFSET_BITS entry)) ≡ width }
         ensures knows { view_of self.new.place.table_id (writer_of self.new.place.me.0)
             ≡ record (view_of self.old.place.table_id (writer_of self.old.place.me.0)) {
               stored = with_stored (view_of self.old.place.table_id (writer_of self.old.place.me.0)).stored entry.entry i result;
@@ -94,7 +96,8 @@ impl<'a, const OFFSET_BITS: u32, L: Layout> Writer<'a, OFFSET_BITS, L> {
     /// Makes a word of an entry this one, by a store only where another is there: a load costs less. Its buffer has this width.
     fn put_in(&mut self, entry: EntryRef<OFFSET_BITS>, width: u32, i: u32, word: u64)
         requires may { MayStore OFFSET_BITS (view_of self.old.place.table_id (writer_of self.old.place.me.0)) entry i }
-        requires width { active_width ((view_of self.old.place.table_id (writer_of self.old.place.me.0)).buffer (buffer_of OFFSET_BITS entry)) ≡ width }
+        requires width { active_width ((view_of self.old.place.table_id (writer_of self.old.place.me.0)).buffer
+            (buffer_of OFFSET_BITS entry)) ≡ width }
         ensures knows { view_of self.new.place.table_id (writer_of self.new.place.me.0)
             ≡ record (view_of self.old.place.table_id (writer_of self.old.place.me.0)) {
               stored = with_stored (view_of self.old.place.table_id (writer_of self.old.place.me.0)).stored entry.entry i word;
@@ -111,7 +114,8 @@ impl<'a, const OFFSET_BITS: u32, L: Layout> Writer<'a, OFFSET_BITS, L> {
     /// Stores a word of an entry, whose buffer has this width.
     fn store_in(&mut self, entry: EntryRef<OFFSET_BITS>, width: u32, i: u32, word: u64)
         requires may { MayStore OFFSET_BITS (view_of self.old.place.table_id (writer_of self.old.place.me.0)) entry i }
-        requires width { active_width ((view_of self.old.place.table_id (writer_of self.old.place.me.0)).buffer (buffer_of OFFSET_BITS entry)) ≡ width }
+        requires width { active_width ((view_of self.old.place.table_id (writer_of self.old.place.me.0)).buffer
+            (buffer_of OFFSET_BITS entry)) ≡ width }
         ensures knows { view_of self.new.place.table_id (writer_of self.new.place.me.0)
             ≡ record (view_of self.old.place.table_id (writer_of self.old.place.me.0)) {
               stored = with_stored (view_of self.old.place.table_id (writer_of self.old.place.me.0)).stored entry.entry i word;
@@ -135,7 +139,8 @@ impl<'a, const OFFSET_BITS: u32, L: Layout> Writer<'a, OFFSET_BITS, L> {
 }
 
 impl<'a, const OFFSET_BITS: u32, L: Layout> Work<OFFSET_BITS> for Writer<'a, OFFSET_BITS, L> {
-    ghost use Rattle.word_arena.specs.ProofsForWork.{desk_bits, work_queue, work_order, work_only, work_held, work_entries, work_kept, work_last, work_whole, work_stored, work_tags};
+    ghost use Rattle.word_arena.specs.ProofsForWork.{desk_bits, work_queue, work_order, work_only, work_held, work_entries, work_kept};
+    ghost use Rattle.word_arena.specs.ProofsForWork.{work_last, work_whole, work_stored, work_tags};
 
     type Layout = L;
 
@@ -146,22 +151,35 @@ impl<'a, const OFFSET_BITS: u32, L: Layout> Work<OFFSET_BITS> for Writer<'a, OFF
     fn store(&mut self, entry: EntryRef<OFFSET_BITS>, i: u32, word: u64)
         requires { MayStore OFFSET_BITS (⟦<Writer<'a, OFFSET_BITS, L> as Work<OFFSET_BITS>>⟧.knows self.old) entry i }
         ensures knows { ⟦<Writer<'a, OFFSET_BITS, L> as Work<OFFSET_BITS>>⟧.knows self.new
-            ≡ record (⟦<Writer<'a, OFFSET_BITS, L> as Work<OFFSET_BITS>>⟧.knows self.old) { stored = with_stored (⟦<Writer<'a, OFFSET_BITS, L> as Work<OFFSET_BITS>>⟧.knows self.old).stored entry.entry i word } }
-        ensures others { (q : ℕ) → q ≢ entry.entry → ⟦<Writer<'a, OFFSET_BITS, L> as Frozen<OFFSET_BITS>>⟧.records self.new q ≡ ⟦<Writer<'a, OFFSET_BITS, L> as Frozen<OFFSET_BITS>>⟧.records self.old q }
-        ensures shape { ⟦<Writer<'a, OFFSET_BITS, L> as Frozen<OFFSET_BITS>>⟧.shape self.new ≡ ⟦<Writer<'a, OFFSET_BITS, L> as Frozen<OFFSET_BITS>>⟧.shape self.old }
+            ≡ record (⟦<Writer<'a, OFFSET_BITS, L> as Work<OFFSET_BITS>>⟧.knows self.old) {
+              stored = with_stored
+                  (⟦<Writer<'a, OFFSET_BITS, L> as Work<OFFSET_BITS>>⟧.knows self.old).stored entry.entry i word;
+            } }
+        ensures others { (q : ℕ) → q ≢ entry.entry
+            → ⟦<Writer<'a, OFFSET_BITS, L> as Frozen<OFFSET_BITS>>⟧.records self.new q
+            ≡ ⟦<Writer<'a, OFFSET_BITS, L> as Frozen<OFFSET_BITS>>⟧.records self.old q }
+        ensures shape { ⟦<Writer<'a, OFFSET_BITS, L> as Frozen<OFFSET_BITS>>⟧.shape self.new
+            ≡ ⟦<Writer<'a, OFFSET_BITS, L> as Frozen<OFFSET_BITS>>⟧.shape self.old }
     {
         let width = width_of(self.buffers.as_slice(), entry.buffer()) as u32;
         self.store_in(entry, width, i, word);
     }
 
     fn put(&mut self, entry: EntryRef<OFFSET_BITS>, width: u32, words: &[u64])
-        requires entry { IsEntry OFFSET_BITS (⟦<Writer<'a, OFFSET_BITS, L> as Work<OFFSET_BITS>>⟧.knows self.old).sizes.buffers (⟦<Writer<'a, OFFSET_BITS, L> as Work<OFFSET_BITS>>⟧.knows self.old).sizes.words width entry }
-        requires width { active_width ((⟦<Writer<'a, OFFSET_BITS, L> as Work<OFFSET_BITS>>⟧.knows self.old).buffer (buffer_of OFFSET_BITS entry)) ≡ width }
+        requires entry { IsEntry OFFSET_BITS (⟦<Writer<'a, OFFSET_BITS, L> as Work<OFFSET_BITS>>⟧.knows self.old).sizes.buffers
+            (⟦<Writer<'a, OFFSET_BITS, L> as Work<OFFSET_BITS>>⟧.knows self.old).sizes.words width entry }
+        requires width { active_width ((⟦<Writer<'a, OFFSET_BITS, L> as Work<OFFSET_BITS>>⟧.knows self.old).buffer
+            (buffer_of OFFSET_BITS entry)) ≡ width }
         requires fits { length words.now ≤ width }
         requires unkept { InNoCommit (⟦<Writer<'a, OFFSET_BITS, L> as Work<OFFSET_BITS>>⟧.knows self.old).commits entry }
-        ensures records { ⟦<Writer<'a, OFFSET_BITS, L> as Frozen<OFFSET_BITS>>⟧.records self.new ≡ with_words (⟦<Writer<'a, OFFSET_BITS, L> as Frozen<OFFSET_BITS>>⟧.records self.old) entry.entry (padded words.now width) }
-        ensures knows { ⟦<Writer<'a, OFFSET_BITS, L> as Work<OFFSET_BITS>>⟧.knows self.new ≡ record (⟦<Writer<'a, OFFSET_BITS, L> as Work<OFFSET_BITS>>⟧.knows self.old) { stored = (⟦<Writer<'a, OFFSET_BITS, L> as Work<OFFSET_BITS>>⟧.knows self.new).stored } }
-        ensures shape { ⟦<Writer<'a, OFFSET_BITS, L> as Frozen<OFFSET_BITS>>⟧.shape self.new ≡ ⟦<Writer<'a, OFFSET_BITS, L> as Frozen<OFFSET_BITS>>⟧.shape self.old }
+        ensures records { ⟦<Writer<'a, OFFSET_BITS, L> as Frozen<OFFSET_BITS>>⟧.records self.new
+            ≡ with_words (⟦<Writer<'a, OFFSET_BITS, L> as Frozen<OFFSET_BITS>>⟧.records self.old) entry.entry (padded words.now width) }
+        ensures knows { ⟦<Writer<'a, OFFSET_BITS, L> as Work<OFFSET_BITS>>⟧.knows self.new
+            ≡ record (⟦<Writer<'a, OFFSET_BITS, L> as Work<OFFSET_BITS>>⟧.knows self.old) {
+              stored = (⟦<Writer<'a, OFFSET_BITS, L> as Work<OFFSET_BITS>>⟧.knows self.new).stored;
+            } }
+        ensures shape { ⟦<Writer<'a, OFFSET_BITS, L> as Frozen<OFFSET_BITS>>⟧.shape self.new
+            ≡ ⟦<Writer<'a, OFFSET_BITS, L> as Frozen<OFFSET_BITS>>⟧.shape self.old }
     {
         for i in 0..width {
             let word = word_or_zero(words, i);
@@ -176,16 +194,25 @@ impl<'a, const OFFSET_BITS: u32, L: Layout> Work<OFFSET_BITS> for Writer<'a, OFF
     }
 
     fn publish(&mut self, root: EntryRef<OFFSET_BITS>) -> u32
-        requires lawful { L.lawful (⟦<Writer<'a, OFFSET_BITS, L> as Frozen<OFFSET_BITS>>⟧.shape self.old) (⟦<Writer<'a, OFFSET_BITS, L> as Frozen<OFFSET_BITS>>⟧.records self.old) root }
-        requires room { (⟦<Writer<'a, OFFSET_BITS, L> as Work<OFFSET_BITS>>⟧.knows self.old).commits.last < (⟦<Writer<'a, OFFSET_BITS, L> as Work<OFFSET_BITS>>⟧.knows self.old).sizes.commits }
+        requires lawful { L.lawful (⟦<Writer<'a, OFFSET_BITS, L> as Frozen<OFFSET_BITS>>⟧.shape self.old)
+            (⟦<Writer<'a, OFFSET_BITS, L> as Frozen<OFFSET_BITS>>⟧.records self.old) root }
+        requires room { (⟦<Writer<'a, OFFSET_BITS, L> as Work<OFFSET_BITS>>⟧.knows self.old).commits.last
+            < (⟦<Writer<'a, OFFSET_BITS, L> as Work<OFFSET_BITS>>⟧.knows self.old).sizes.commits }
         ensures number { result ≡ (⟦<Writer<'a, OFFSET_BITS, L> as Work<OFFSET_BITS>>⟧.knows self.old).commits.last + 1 }
-        ensures commit { AddsCommit (⟦<Writer<'a, OFFSET_BITS, L> as Work<OFFSET_BITS>>⟧.knows self.old).commits (⟦<Writer<'a, OFFSET_BITS, L> as Work<OFFSET_BITS>>⟧.knows self.new).commits
-            (next_image L.reaches (⟦<Writer<'a, OFFSET_BITS, L> as Frozen<OFFSET_BITS>>⟧.shape self.old) (⟦<Writer<'a, OFFSET_BITS, L> as Frozen<OFFSET_BITS>>⟧.records self.old) root.entry) }
-        ensures knows { ⟦<Writer<'a, OFFSET_BITS, L> as Work<OFFSET_BITS>>⟧.knows self.new ≡ published (⟦<Writer<'a, OFFSET_BITS, L> as Work<OFFSET_BITS>>⟧.knows self.old) (⟦<Writer<'a, OFFSET_BITS, L> as Work<OFFSET_BITS>>⟧.knows self.new).commits
-            (next_image L.reaches (⟦<Writer<'a, OFFSET_BITS, L> as Frozen<OFFSET_BITS>>⟧.shape self.old) (⟦<Writer<'a, OFFSET_BITS, L> as Frozen<OFFSET_BITS>>⟧.records self.old) root.entry) }
+        ensures commit { AddsCommit (⟦<Writer<'a, OFFSET_BITS, L> as Work<OFFSET_BITS>>⟧.knows self.old).commits
+            (⟦<Writer<'a, OFFSET_BITS, L> as Work<OFFSET_BITS>>⟧.knows self.new).commits
+            (next_image L.reaches (⟦<Writer<'a, OFFSET_BITS, L> as Frozen<OFFSET_BITS>>⟧.shape self.old)
+            (⟦<Writer<'a, OFFSET_BITS, L> as Frozen<OFFSET_BITS>>⟧.records self.old) root.entry) }
+        ensures knows { ⟦<Writer<'a, OFFSET_BITS, L> as Work<OFFSET_BITS>>⟧.knows self.new
+            ≡ published (⟦<Writer<'a, OFFSET_BITS, L> as Work<OFFSET_BITS>>⟧.knows self.old)
+            (⟦<Writer<'a, OFFSET_BITS, L> as Work<OFFSET_BITS>>⟧.knows self.new).commits
+            (next_image L.reaches (⟦<Writer<'a, OFFSET_BITS, L> as Frozen<OFFSET_BITS>>⟧.shape self.old)
+            (⟦<Writer<'a, OFFSET_BITS, L> as Frozen<OFFSET_BITS>>⟧.records self.old) root.entry) }
         ensures records { ⟦<Writer<'a, OFFSET_BITS, L> as Frozen<OFFSET_BITS>>⟧.records self.new
-            ≡ words_at (next_image L.reaches (⟦<Writer<'a, OFFSET_BITS, L> as Frozen<OFFSET_BITS>>⟧.shape self.old) (⟦<Writer<'a, OFFSET_BITS, L> as Frozen<OFFSET_BITS>>⟧.records self.old) root.entry) }
-        ensures shape { ⟦<Writer<'a, OFFSET_BITS, L> as Frozen<OFFSET_BITS>>⟧.shape self.new ≡ ⟦<Writer<'a, OFFSET_BITS, L> as Frozen<OFFSET_BITS>>⟧.shape self.old }
+            ≡ words_at (next_image L.reaches (⟦<Writer<'a, OFFSET_BITS, L> as Frozen<OFFSET_BITS>>⟧.shape self.old)
+            (⟦<Writer<'a, OFFSET_BITS, L> as Frozen<OFFSET_BITS>>⟧.records self.old) root.entry) }
+        ensures shape { ⟦<Writer<'a, OFFSET_BITS, L> as Frozen<OFFSET_BITS>>⟧.shape self.new
+            ≡ ⟦<Writer<'a, OFFSET_BITS, L> as Frozen<OFFSET_BITS>>⟧.shape self.old }
     {
         let number = self.last + 1;
         let word = u64::from(number) * 4294967296 + u64::from(root.raw());

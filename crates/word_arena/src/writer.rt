@@ -67,7 +67,8 @@ impl<const OFFSET_BITS: u32, L: Layout> Arena<OFFSET_BITS, L> {
 impl<'a, const OFFSET_BITS: u32, L: Layout> Writer<'a, OFFSET_BITS, L> {
     /// A reader that has seen the last commit. No seat exactly where 64 were made; one that was taken in still counts.
     pub fn reader(&mut self) -> Result<Reader<'a, OFFSET_BITS, L>, NoSeat>
-        ensures ok { IfOk result (λ r. (r.place.table_id ≡ self.old.place.table_id) × (reader_of r.place.me.0 ≡ newcomer (writer_of self.old.place.me.0))
+        ensures ok { IfOk result (λ r. (r.place.table_id ≡ self.old.place.table_id)
+            × (reader_of r.place.me.0 ≡ newcomer (writer_of self.old.place.me.0))
             × (writer_of self.new.place.me.0 ≡ with_reader (writer_of self.old.place.me.0))) }
         ensures seat { IfOk result (λ r. (writer_of self.old.place.me.0).made < 64) }
         ensures table { self.new.place.table_id ≡ self.old.place.table_id }
@@ -110,7 +111,8 @@ impl<'a, const OFFSET_BITS: u32, L: Layout> Writer<'a, OFFSET_BITS, L> {
     // Where a word of a record stands, by the width that its buffer tells.
     fn place_of_word(&mut self, entry: EntryRef<OFFSET_BITS>, i: u32) -> u64
         requires { HasWord (writer_records (writer_of self.old.place.me.0)) entry i }
-        ensures place { result ≡ place OFFSET_BITS self.old.sizes.buffers self.old.sizes.words (length (writer_records (writer_of self.old.place.me.0) entry.entry)) entry.entry i }
+        ensures place { result ≡ place OFFSET_BITS self.old.sizes.buffers self.old.sizes.words
+            (length (writer_records (writer_of self.old.place.me.0) entry.entry)) entry.entry i }
         ensures same { self.new ≡ self.old }
     {
         let first = 18 + self.sizes.buffers + u64::from(entry.buffer()) * self.sizes.words;
@@ -151,7 +153,8 @@ impl<'a, const OFFSET_BITS: u32, L: Layout> Frozen<OFFSET_BITS> for Writer<'a, O
     fn read(&mut self, entry: EntryRef<OFFSET_BITS>, first: u32, into: &mut [u64])
         requires there { first + length into.old ≤ length (⟦<Writer<'a, OFFSET_BITS, L> as Frozen<OFFSET_BITS>>⟧.records self.old entry) }
         requires few { first + length into.old < 2 ^ 32 }
-        ensures words { into.new ≡ take (length into.old) (drop first (⟦<Writer<'a, OFFSET_BITS, L> as Frozen<OFFSET_BITS>>⟧.records self.old entry.entry)) }
+        ensures words { into.new ≡ take (length into.old)
+            (drop first (⟦<Writer<'a, OFFSET_BITS, L> as Frozen<OFFSET_BITS>>⟧.records self.old entry.entry)) }
         ensures same { self.new ≡ self.old }
     {
         if into.is_empty() {

@@ -57,7 +57,8 @@ returns-in-Some-clause-passes g c =
     let count = c.past_in-keys.result in
     let last = c.value_way-way.result.last in
     let some : 0 < count = (let test = c.if-keys-eq0.false in omega arith) in
-    let run = subst (λ (v : ℕ). IsRun (IsWayApart bits v value_cmp (stored_value type) m c.args.roots.dictionary) (behind (beside_value c.args.value.now m) (tree_pairs m c.args.roots.dictionary)) count last) c.victim.ensures
+    let run = subst (λ (v : ℕ). IsRun (IsWayApart bits v value_cmp (stored_value type) m c.args.roots.dictionary) (behind (beside_value c.args.value.now m) (tree_pairs m c.args.roots.dictionary)) count last)
+    c.victim.ensures
     (value_way_behind bits c.victim.result m c.args.roots.dictionary type c.args.value.now c.requires.typed c.requires.index_is.dictionary_is.tree_is.ascends
     c.value_way-way.result.pairs last c.value_way-way.result.found count c.value_way-way.ensures.way c.past_in-keys.ensures some) in
     let read = c.in-Some.ensures.value ∙ ap (λ (f : g.row.F.Denot). stored_value type (records f) last) c.value_way-way.ensures.same in

@@ -11,13 +11,15 @@ pub offset_bounds-fields-i : goal.offset_bounds-fields-i
 offset_bounds-fields-i g c = search rules
 
 pub bounds-fields-i : goal.bounds-fields-i
-bounds-fields-i g c = below_fields (g.S.Store.ledger c.args.store.now) (g.S.Frozen.records c.args.store.now) c.args.fields.now c.args.roots.now c.args.root c.args.plan.now c.field-i.result c.requires.under_way c.requires.sized c.field-i.ensures.below
+bounds-fields-i g c = below_fields (g.S.Store.ledger c.args.store.now)
+    (g.S.Frozen.records c.args.store.now) c.args.fields.now c.args.roots.now c.args.root c.args.plan.now c.field-i.result c.requires.under_way c.requires.sized c.field-i.ensures.below
 
 pub offset_bounds-roots-i : goal.offset_bounds-roots-i
 offset_bounds-roots-i g c = search rules
 
 pub bounds-roots-i : goal.bounds-roots-i
-bounds-roots-i g c = let sized = c.requires.sized in let below = below_fields (g.S.Store.ledger c.args.store.now) (g.S.Frozen.records c.args.store.now) c.args.fields.now c.args.roots.now c.args.root c.args.plan.now c.field-i.result c.requires.under_way sized c.field-i.ensures.below in omega arith
+bounds-roots-i g c = let sized = c.requires.sized in let below = below_fields (g.S.Store.ledger c.args.store.now)
+    (g.S.Frozen.records c.args.store.now) c.args.fields.now c.args.roots.now c.args.root c.args.plan.now c.field-i.result c.requires.under_way sized c.field-i.ensures.below in omega arith
 
 pub pass_clear-requires : goal.pass_clear-requires
 pass_clear-requires g c =

@@ -31,7 +31,8 @@ visit_keys-requires g c =
     let mid = c.open_plan.new.store in
     let fields = c.args.fields.now in
     let trees = trees_of fields c.args.roots.now in
-    let opens = subst (λ (o : Option PlanView). IfSome o (OpensPlan g.row.OFFSET_BITS c.args.root (ledger old) (ledger mid) (records old) (records mid) fields trees c.args.before)) c.in-Some.is c.open_plan.ensures.opens in
+    let opens = subst (λ (o : Option PlanView). IfSome o (OpensPlan g.row.OFFSET_BITS c.args.root (ledger old) (ledger mid) (records old) (records mid) fields trees c.args.before)) c.in-Some.is
+    c.open_plan.ensures.opens in
     (omega arith, (omega arith, (c.requires.sized, (opens.holds, (opens.under_way, opens.last)))))
 
 pub end_plan-buffer-requires : goal.end_plan-buffer-requires
@@ -44,7 +45,8 @@ end_plan-buffer-requires g c =
     let fields = c.args.fields.now in
     let trees = trees_of fields c.args.roots.now in
     let next = trees_of fields c.visit_keys.new.roots in
-    let opens = subst (λ (o : Option PlanView). IfSome o (OpensPlan g.row.OFFSET_BITS c.args.root (ledger old) (ledger mid) (records old) (records mid) fields trees c.args.before)) c.in-Some.is c.open_plan.ensures.opens in
+    let opens = subst (λ (o : Option PlanView). IfSome o (OpensPlan g.row.OFFSET_BITS c.args.root (ledger old) (ledger mid) (records old) (records mid) fields trees c.args.before)) c.in-Some.is
+    c.open_plan.ensures.opens in
     let walks : (r : _) → c.visit_keys.result ≡ r → Walks g.row.OFFSET_BITS c.args.root (ledger mid) (ledger new) (records mid) (records new) fields trees next c.in-Some.plan c.visit_keys.new.plan c.args.keys r =
     λ r e. subst (λ (x : Result Walk StoreError). Walks g.row.OFFSET_BITS c.args.root (ledger mid) (ledger new) (records mid) (records new) fields trees next c.in-Some.plan c.visit_keys.new.plan c.args.keys x) e
     c.visit_keys.ensures.walks in
@@ -64,13 +66,16 @@ returns-in-Ok-Visited-clause-compacts g c =
     let fields = c.args.fields.now in
     let trees = trees_of fields c.args.roots.now in
     let next = trees_of fields c.visit_keys.new.roots in
-    let opens = subst (λ (o : Option PlanView). IfSome o (OpensPlan g.row.OFFSET_BITS c.args.root (ledger old) (ledger mid) (records old) (records mid) fields trees c.args.before)) c.in-Some.is c.open_plan.ensures.opens in
+    let opens = subst (λ (o : Option PlanView). IfSome o (OpensPlan g.row.OFFSET_BITS c.args.root (ledger old) (ledger mid) (records old) (records mid) fields trees c.args.before)) c.in-Some.is
+    c.open_plan.ensures.opens in
     let walks : (r : _) → c.visit_keys.result ≡ r → Walks g.row.OFFSET_BITS c.args.root (ledger mid) (ledger new) (records mid) (records new) fields trees next c.in-Some.plan c.visit_keys.new.plan c.args.keys r =
     λ r e. subst (λ (x : Result Walk StoreError). Walks g.row.OFFSET_BITS c.args.root (ledger mid) (ledger new) (records mid) (records new) fields trees next c.in-Some.plan c.visit_keys.new.plan c.args.keys x) e
     c.visit_keys.ensures.walks in
     let is = walks (Ok (Visited c.in-Ok-Visited.visited c.in-Ok-Visited.stop)) (c.in-Ok-Visited.is ∙ ap Ok c.in-Ok-Visited.field-0-is) in (
-      goes_to g.row.OFFSET_BITS c.args.root (ledger old) (ledger mid) (ledger new) (records old) (records mid) (records new) fields trees next c.args.before c.in-Some.plan c.visit_keys.new.plan opens c.in-Ok-Visited.visited is.0 (Some c.visit_keys.new.plan) refl,
-      stops_then g.row.OFFSET_BITS c.args.root (ledger old) (ledger mid) (ledger new) (records old) (records mid) (records new) fields trees next c.args.before c.in-Some.plan c.visit_keys.new.plan opens c.args.keys c.in-Ok-Visited.visited c.in-Ok-Visited.stop is.1,
+      goes_to g.row.OFFSET_BITS c.args.root (ledger old) (ledger mid) (ledger new) (records old) (records mid)
+          (records new) fields trees next c.args.before c.in-Some.plan c.visit_keys.new.plan opens c.in-Ok-Visited.visited is.0 (Some c.visit_keys.new.plan) refl,
+      stops_then g.row.OFFSET_BITS c.args.root (ledger old) (ledger mid) (ledger new) (records old) (records mid)
+          (records new) fields trees next c.args.before c.in-Some.plan c.visit_keys.new.plan opens c.args.keys c.in-Ok-Visited.visited c.in-Ok-Visited.stop is.1,
     )
 
 pub returns-in-Ok-Over-clause-sized : goal.returns-in-Ok-Over-clause-sized
@@ -86,14 +91,17 @@ returns-in-Ok-Over-clause-compacts g c =
     let fields = c.args.fields.now in
     let trees = trees_of fields c.args.roots.now in
     let next = trees_of fields c.visit_keys.new.roots in
-    let opens = subst (λ (o : Option PlanView). IfSome o (OpensPlan g.row.OFFSET_BITS c.args.root (ledger old) (ledger mid) (records old) (records mid) fields trees c.args.before)) c.in-Some.is c.open_plan.ensures.opens in
+    let opens = subst (λ (o : Option PlanView). IfSome o (OpensPlan g.row.OFFSET_BITS c.args.root (ledger old) (ledger mid) (records old) (records mid) fields trees c.args.before)) c.in-Some.is
+    c.open_plan.ensures.opens in
     let walks : (r : _) → c.visit_keys.result ≡ r → Walks g.row.OFFSET_BITS c.args.root (ledger mid) (ledger new) (records mid) (records new) fields trees next c.in-Some.plan c.visit_keys.new.plan c.args.keys r =
     λ r e. subst (λ (x : Result Walk StoreError). Walks g.row.OFFSET_BITS c.args.root (ledger mid) (ledger new) (records mid) (records new) fields trees next c.in-Some.plan c.visit_keys.new.plan c.args.keys x) e
     c.visit_keys.ensures.walks in
     let over = walks (Ok Over) (c.in-Ok-Over.is ∙ ap Ok c.in-Ok-Over.field-0-is) in
     let end = c.end_plan-buffer.new.store in
     let told = c.end_plan-buffer.ensures in
-    step_over g.row.OFFSET_BITS c.args.root (ledger old) (ledger mid) (ledger new) (records old) (records mid) (records new) fields trees next c.args.before c.in-Some.plan c.visit_keys.new.plan opens None c.args.keys c.end_plan-buffer.result (ledger end) (records end) over refl told.buffer told.ledger told.records told.holds told.apart
+    step_over g.row.OFFSET_BITS c.args.root (ledger old) (ledger mid) (ledger new) (records old) (records mid)
+    (records new) fields trees next c.args.before c.in-Some.plan c.visit_keys.new.plan opens None c.args.keys c.end_plan-buffer.result (ledger end)
+    (records end) over refl told.buffer told.ledger told.records told.holds told.apart
 
 pub returns-in-Err-clause-sized : goal.returns-in-Err-clause-sized
 returns-in-Err-clause-sized g c = c.visit_keys.ensures.sized
@@ -108,9 +116,11 @@ returns-in-Err-clause-compacts g c =
     let fields = c.args.fields.now in
     let trees = trees_of fields c.args.roots.now in
     let next = trees_of fields c.visit_keys.new.roots in
-    let opens = subst (λ (o : Option PlanView). IfSome o (OpensPlan g.row.OFFSET_BITS c.args.root (ledger old) (ledger mid) (records old) (records mid) fields trees c.args.before)) c.in-Some.is c.open_plan.ensures.opens in
+    let opens = subst (λ (o : Option PlanView). IfSome o (OpensPlan g.row.OFFSET_BITS c.args.root (ledger old) (ledger mid) (records old) (records mid) fields trees c.args.before)) c.in-Some.is
+    c.open_plan.ensures.opens in
     let walks : (r : _) → c.visit_keys.result ≡ r → Walks g.row.OFFSET_BITS c.args.root (ledger mid) (ledger new) (records mid) (records new) fields trees next c.in-Some.plan c.visit_keys.new.plan c.args.keys r =
     λ r e. subst (λ (x : Result Walk StoreError). Walks g.row.OFFSET_BITS c.args.root (ledger mid) (ledger new) (records mid) (records new) fields trees next c.in-Some.plan c.visit_keys.new.plan c.args.keys x) e
     c.visit_keys.ensures.walks in
     let is = walks (Err c.in-Err.error) c.in-Err.is in
-    step_refused g.row.OFFSET_BITS c.args.root (ledger old) (ledger mid) (ledger new) (records old) (records mid) (records new) fields trees next c.args.before c.in-Some.plan c.visit_keys.new.plan opens (Some c.visit_keys.new.plan) c.in-Err.error refl is
+    step_refused g.row.OFFSET_BITS c.args.root (ledger old) (ledger mid) (ledger new) (records old) (records mid) (records new) fields trees next c.args.before c.in-Some.plan c.visit_keys.new.plan opens
+    (Some c.visit_keys.new.plan) c.in-Err.error refl is

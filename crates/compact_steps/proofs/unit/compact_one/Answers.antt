@@ -19,13 +19,15 @@ pub offset_bounds-fields-i : goal.offset_bounds-fields-i
 offset_bounds-fields-i g c = search rules
 
 pub bounds-fields-i : goal.bounds-fields-i
-bounds-fields-i g c = below_fields (g.S.Store.ledger c.args.store.now) (g.S.Frozen.records c.args.store.now) c.args.fields.now c.args.roots.now c.args.root c.args.plan.now c.field-i.result c.requires.under_way c.requires.sized c.field-i.ensures.below
+bounds-fields-i g c = below_fields (g.S.Store.ledger c.args.store.now)
+    (g.S.Frozen.records c.args.store.now) c.args.fields.now c.args.roots.now c.args.root c.args.plan.now c.field-i.result c.requires.under_way c.requires.sized c.field-i.ensures.below
 
 pub offset_bounds-roots-i : goal.offset_bounds-roots-i
 offset_bounds-roots-i g c = search rules
 
 pub bounds-roots-i : goal.bounds-roots-i
-bounds-roots-i g c = let sized = c.requires.sized in let below = below_fields (g.S.Store.ledger c.args.store.now) (g.S.Frozen.records c.args.store.now) c.args.fields.now c.args.roots.now c.args.root c.args.plan.now c.field-i.result c.requires.under_way sized c.field-i.ensures.below in omega arith
+bounds-roots-i g c = let sized = c.requires.sized in let below = below_fields (g.S.Store.ledger c.args.store.now)
+    (g.S.Frozen.records c.args.store.now) c.args.fields.now c.args.roots.now c.args.root c.args.plan.now c.field-i.result c.requires.under_way sized c.field-i.ensures.below in omega arith
 
 pub next_of-requires : goal.next_of-requires
 next_of-requires g c =
@@ -144,7 +146,8 @@ returns-in_default-next-clause-under_way g c =
     c.requires.holds c.requires.under_way c.requires.sized c.field-i.ensures.field c.field-i.ensures.below c.index-fields-i.result c.index-roots-i.result c.index-fields-i.is c.index-roots-i.is in
     let none = sym c.in_default-next.is ∙ c.in-Ok.ensures.next in
     subst (λ s. IsUnderWay _ (ledger s) (records s) trees c.next.new.self) (sym same)
-    (over_way c.stage_law.ensures.phase _ (ledger old) m trees plan c.next.new.self a c.requires.under_way c.requires.holds.are_fields.each c.requires.phase here.at none c.next.ensures.victim c.next.ensures.fields c.next.ensures.place)
+    (over_way c.stage_law.ensures.phase _ (ledger old) m trees plan c.next.new.self a c.requires.under_way c.requires.holds.are_fields.each c.requires.phase here.at none c.next.ensures.victim c.next.ensures.fields
+    c.next.ensures.place)
 
 pub returns-in_default-next-clause-goes_on : goal.returns-in_default-next-clause-goes_on
 returns-in_default-next-clause-goes_on g c =
@@ -303,7 +306,9 @@ pub offset_bounds-roots-i-2 : goal.offset_bounds-roots-i-2
 offset_bounds-roots-i-2 g c = search rules
 
 pub bounds-roots-i-2 : goal.bounds-roots-i-2
-bounds-roots-i-2 g c = let sized = c.requires.sized in let below = below_fields (g.S.Store.ledger c.args.store.now) (g.S.Frozen.records c.args.store.now) c.args.fields.now c.args.roots.now c.args.root c.args.plan.now c.field-i.result c.requires.under_way sized c.field-i.ensures.below in omega arith
+bounds-roots-i-2 g c = let sized = c.requires.sized in let below =
+    below_fields (g.S.Store.ledger c.args.store.now) (g.S.Frozen.records c.args.store.now) c.args.fields.now c.args.roots.now c.args.root c.args.plan.now c.field-i.result c.requires.under_way sized
+    c.field-i.ensures.below in omega arith
 
 pub next-requires-2-clause-phase : goal.next-requires-2-clause-phase
 next-requires-2-clause-phase g c = c.requires.phase
@@ -332,8 +337,10 @@ returns-clause-holds g c =
     let here = at_place (g.S.Store.ledger c.args.store.now) (g.S.Frozen.records c.args.store.now) c.args.fields.now c.args.roots.now c.args.root c.args.plan.now c.field-i.result
     c.requires.holds c.requires.under_way c.requires.sized c.field-i.ensures.field c.field-i.ensures.below c.index-fields-i.result c.index-roots-i.result c.index-fields-i.is c.index-roots-i.is in
     let some = sym c.in-Some.is ∙ c.in-Ok.ensures.next in
-    let all = moved_way _ (ledger c.move_unit.new.store) m (records c.move_unit.new.store) fields trees (trees_of fields (set roots c.field-i.result c.in_ok-roots.field-0)) c.args.root plan c.next-2.new.self c.in-Some.key
-    (moved_roots (ledger c.move_unit.new.store) m (records c.move_unit.new.store) fields roots trees c.args.root (plan_at plan c.in-Some.key) c.field-i.result plan.place.stage.field c.index-fields-i.result c.in_ok-roots.field-0
+    let all = moved_way _ (ledger c.move_unit.new.store) m (records c.move_unit.new.store) fields trees
+    (trees_of fields (set roots c.field-i.result c.in_ok-roots.field-0)) c.args.root plan c.next-2.new.self c.in-Some.key
+    (moved_roots (ledger c.move_unit.new.store) m (records c.move_unit.new.store) fields roots trees c.args.root
+    (plan_at plan c.in-Some.key) c.field-i.result plan.place.stage.field c.index-fields-i.result c.in_ok-roots.field-0
     c.field-i.ensures.field here.at_field
     (subst (λ s. CompactsTo _ (ledger c.move_unit.new.store) (records s) (records c.move_unit.new.store) fields trees
     (set trees plan.place.stage.field (trees_of_field c.index-fields-i.result c.in_ok-roots.field-0)) c.args.root (plan_at plan c.in-Some.key)) same c.in_ok-roots.ensures.moves))
@@ -354,8 +361,10 @@ returns-clause-under_way g c =
     let here = at_place (g.S.Store.ledger c.args.store.now) (g.S.Frozen.records c.args.store.now) c.args.fields.now c.args.roots.now c.args.root c.args.plan.now c.field-i.result
     c.requires.holds c.requires.under_way c.requires.sized c.field-i.ensures.field c.field-i.ensures.below c.index-fields-i.result c.index-roots-i.result c.index-fields-i.is c.index-roots-i.is in
     let some = sym c.in-Some.is ∙ c.in-Ok.ensures.next in
-    let all = moved_way _ (ledger c.move_unit.new.store) m (records c.move_unit.new.store) fields trees (trees_of fields (set roots c.field-i.result c.in_ok-roots.field-0)) c.args.root plan c.next-2.new.self c.in-Some.key
-    (moved_roots (ledger c.move_unit.new.store) m (records c.move_unit.new.store) fields roots trees c.args.root (plan_at plan c.in-Some.key) c.field-i.result plan.place.stage.field c.index-fields-i.result c.in_ok-roots.field-0
+    let all = moved_way _ (ledger c.move_unit.new.store) m (records c.move_unit.new.store) fields trees
+    (trees_of fields (set roots c.field-i.result c.in_ok-roots.field-0)) c.args.root plan c.next-2.new.self c.in-Some.key
+    (moved_roots (ledger c.move_unit.new.store) m (records c.move_unit.new.store) fields roots trees c.args.root
+    (plan_at plan c.in-Some.key) c.field-i.result plan.place.stage.field c.index-fields-i.result c.in_ok-roots.field-0
     c.field-i.ensures.field here.at_field
     (subst (λ s. CompactsTo _ (ledger c.move_unit.new.store) (records s) (records c.move_unit.new.store) fields trees
     (set trees plan.place.stage.field (trees_of_field c.index-fields-i.result c.in_ok-roots.field-0)) c.args.root (plan_at plan c.in-Some.key)) same c.in_ok-roots.ensures.moves))
@@ -376,8 +385,10 @@ returns-clause-table g c =
     let here = at_place (g.S.Store.ledger c.args.store.now) (g.S.Frozen.records c.args.store.now) c.args.fields.now c.args.roots.now c.args.root c.args.plan.now c.field-i.result
     c.requires.holds c.requires.under_way c.requires.sized c.field-i.ensures.field c.field-i.ensures.below c.index-fields-i.result c.index-roots-i.result c.index-fields-i.is c.index-roots-i.is in
     let some = sym c.in-Some.is ∙ c.in-Ok.ensures.next in
-    let all = moved_way _ (ledger c.move_unit.new.store) m (records c.move_unit.new.store) fields trees (trees_of fields (set roots c.field-i.result c.in_ok-roots.field-0)) c.args.root plan c.next-2.new.self c.in-Some.key
-    (moved_roots (ledger c.move_unit.new.store) m (records c.move_unit.new.store) fields roots trees c.args.root (plan_at plan c.in-Some.key) c.field-i.result plan.place.stage.field c.index-fields-i.result c.in_ok-roots.field-0
+    let all = moved_way _ (ledger c.move_unit.new.store) m (records c.move_unit.new.store) fields trees
+    (trees_of fields (set roots c.field-i.result c.in_ok-roots.field-0)) c.args.root plan c.next-2.new.self c.in-Some.key
+    (moved_roots (ledger c.move_unit.new.store) m (records c.move_unit.new.store) fields roots trees c.args.root
+    (plan_at plan c.in-Some.key) c.field-i.result plan.place.stage.field c.index-fields-i.result c.in_ok-roots.field-0
     c.field-i.ensures.field here.at_field
     (subst (λ s. CompactsTo _ (ledger c.move_unit.new.store) (records s) (records c.move_unit.new.store) fields trees
     (set trees plan.place.stage.field (trees_of_field c.index-fields-i.result c.in_ok-roots.field-0)) c.args.root (plan_at plan c.in-Some.key)) same c.in_ok-roots.ensures.moves))
@@ -398,8 +409,10 @@ returns-clause-keys g c =
     let here = at_place (g.S.Store.ledger c.args.store.now) (g.S.Frozen.records c.args.store.now) c.args.fields.now c.args.roots.now c.args.root c.args.plan.now c.field-i.result
     c.requires.holds c.requires.under_way c.requires.sized c.field-i.ensures.field c.field-i.ensures.below c.index-fields-i.result c.index-roots-i.result c.index-fields-i.is c.index-roots-i.is in
     let some = sym c.in-Some.is ∙ c.in-Ok.ensures.next in
-    let all = moved_way _ (ledger c.move_unit.new.store) m (records c.move_unit.new.store) fields trees (trees_of fields (set roots c.field-i.result c.in_ok-roots.field-0)) c.args.root plan c.next-2.new.self c.in-Some.key
-    (moved_roots (ledger c.move_unit.new.store) m (records c.move_unit.new.store) fields roots trees c.args.root (plan_at plan c.in-Some.key) c.field-i.result plan.place.stage.field c.index-fields-i.result c.in_ok-roots.field-0
+    let all = moved_way _ (ledger c.move_unit.new.store) m (records c.move_unit.new.store) fields trees
+    (trees_of fields (set roots c.field-i.result c.in_ok-roots.field-0)) c.args.root plan c.next-2.new.self c.in-Some.key
+    (moved_roots (ledger c.move_unit.new.store) m (records c.move_unit.new.store) fields roots trees c.args.root
+    (plan_at plan c.in-Some.key) c.field-i.result plan.place.stage.field c.index-fields-i.result c.in_ok-roots.field-0
     c.field-i.ensures.field here.at_field
     (subst (λ s. CompactsTo _ (ledger c.move_unit.new.store) (records s) (records c.move_unit.new.store) fields trees
     (set trees plan.place.stage.field (trees_of_field c.index-fields-i.result c.in_ok-roots.field-0)) c.args.root (plan_at plan c.in-Some.key)) same c.in_ok-roots.ensures.moves))
@@ -415,7 +428,8 @@ returns-clause-goes_on g c =
     let here = at_place (g.S.Store.ledger c.args.store.now) (g.S.Frozen.records c.args.store.now) c.args.fields.now c.args.roots.now c.args.root c.args.plan.now c.field-i.result
     c.requires.holds c.requires.under_way c.requires.sized c.field-i.ensures.field c.field-i.ensures.below c.index-fields-i.result c.index-roots-i.result c.index-fields-i.is c.index-roots-i.is in
     let some = sym c.in-Some.is ∙ c.in-Ok.ensures.next in
-    goes_on m trees plan c.next-2.new.self (Some c.in-Some.key) (next_is m trees plan.place a (Some c.in-Some.key) here.at some) c.next-2.ensures.victim c.next-2.ensures.fields c.next-2.ensures.place c.next-2.ensures.rises
+    goes_on m trees plan c.next-2.new.self (Some c.in-Some.key) (next_is m trees plan.place a (Some c.in-Some.key) here.at some) c.next-2.ensures.victim c.next-2.ensures.fields c.next-2.ensures.place
+    c.next-2.ensures.rises
 
 pub returns-clause-keeps : goal.returns-clause-keeps
 returns-clause-keeps g c =

@@ -129,7 +129,8 @@ loop-done-smaller-in-Ok-Moved g c =
     let not_all = c.if-done-keys.false in
     let same : stages_left c.compact_one.new.plan ≡ stages_left to =
     left_moved g.row.OFFSET_BITS c.args.root fields (ledger start) (ledger was) (ledger now) (records start) (records was) (records now) trees between after c.args.plan.now to c.compact_one.new.plan
-    count visits c.in-Ok-Moved.ensures.holds c.in-Ok-Moved.ensures.under_way c.in-Ok-Moved.ensures.table c.in-Ok-Moved.ensures.keys c.in-Ok-Moved.ensures.keeps (subst (λ t. GoesOn to c.compact_one.new.plan (next_at (records was) between to.place) t) c.in-Ok-Moved.field-0-is c.in-Ok-Moved.ensures.goes_on) in
+    count visits c.in-Ok-Moved.ensures.holds c.in-Ok-Moved.ensures.under_way c.in-Ok-Moved.ensures.table c.in-Ok-Moved.ensures.keys c.in-Ok-Moved.ensures.keeps
+    (subst (λ t. GoesOn to c.compact_one.new.plan (next_at (records was) between to.place) t) c.in-Ok-Moved.field-0-is c.in-Ok-Moved.ensures.goes_on) in
     omega arith
 
 pub loop-done-preserved-in-Ok-Moved : goal.loop-done-preserved-in-Ok-Moved
@@ -159,7 +160,8 @@ loop-done-preserved-in-Ok-Moved g c =
       sized = c.in-Ok-Moved.ensures.sized;
       few = omega arith;
       visits = visits_moved g.row.OFFSET_BITS c.args.root fields (ledger start) (ledger was) (ledger now) (records start) (records was) (records now) trees between after c.args.plan.now to c.compact_one.new.plan
-          count visits c.in-Ok-Moved.ensures.holds c.in-Ok-Moved.ensures.under_way c.in-Ok-Moved.ensures.table c.in-Ok-Moved.ensures.keys c.in-Ok-Moved.ensures.keeps low within (subst (λ t. GoesOn to c.compact_one.new.plan (next_at (records was) between to.place) t) c.in-Ok-Moved.field-0-is c.in-Ok-Moved.ensures.goes_on);
+          count visits c.in-Ok-Moved.ensures.holds c.in-Ok-Moved.ensures.under_way c.in-Ok-Moved.ensures.table c.in-Ok-Moved.ensures.keys c.in-Ok-Moved.ensures.keeps low within
+          (subst (λ t. GoesOn to c.compact_one.new.plan (next_at (records was) between to.place) t) c.in-Ok-Moved.field-0-is c.in-Ok-Moved.ensures.goes_on);
       first = λ none. absurd (omega arith);
     }
 
@@ -191,7 +193,8 @@ loop-done-smaller g c =
     let not_all = c.if-done-keys.false in
     let less : stages_left c.compact_one.new.plan < stages_left to =
     (visits_over g.row.OFFSET_BITS c.args.root fields (ledger start) (ledger was) (ledger now) (records start) (records was) (records now) trees between after c.args.plan.now to c.compact_one.new.plan
-    count visits c.in-Ok-PhaseOver.ensures.holds c.in-Ok-PhaseOver.ensures.under_way c.in-Ok-PhaseOver.ensures.table c.in-Ok-PhaseOver.ensures.keys c.in-Ok-PhaseOver.ensures.keeps low within (subst (λ t. GoesOn to c.compact_one.new.plan (next_at (records was) between to.place) t) c.in-Ok-PhaseOver.field-0-is c.in-Ok-PhaseOver.ensures.goes_on)).1 in
+    count visits c.in-Ok-PhaseOver.ensures.holds c.in-Ok-PhaseOver.ensures.under_way c.in-Ok-PhaseOver.ensures.table c.in-Ok-PhaseOver.ensures.keys c.in-Ok-PhaseOver.ensures.keeps low within
+    (subst (λ t. GoesOn to c.compact_one.new.plan (next_at (records was) between to.place) t) c.in-Ok-PhaseOver.field-0-is c.in-Ok-PhaseOver.ensures.goes_on)).1 in
     omega arith
 
 pub loop-done-preserved : goal.loop-done-preserved
@@ -222,7 +225,8 @@ loop-done-preserved g c =
       sized = c.in-Ok-PhaseOver.ensures.sized;
       few = omega arith;
       visits = (visits_over g.row.OFFSET_BITS c.args.root fields (ledger start) (ledger was) (ledger now) (records start) (records was) (records now) trees between after c.args.plan.now to c.compact_one.new.plan
-          count visits c.in-Ok-PhaseOver.ensures.holds c.in-Ok-PhaseOver.ensures.under_way c.in-Ok-PhaseOver.ensures.table c.in-Ok-PhaseOver.ensures.keys c.in-Ok-PhaseOver.ensures.keeps low within (subst (λ t. GoesOn to c.compact_one.new.plan (next_at (records was) between to.place) t) c.in-Ok-PhaseOver.field-0-is c.in-Ok-PhaseOver.ensures.goes_on)).0;
+          count visits c.in-Ok-PhaseOver.ensures.holds c.in-Ok-PhaseOver.ensures.under_way c.in-Ok-PhaseOver.ensures.table c.in-Ok-PhaseOver.ensures.keys c.in-Ok-PhaseOver.ensures.keeps low within
+          (subst (λ t. GoesOn to c.compact_one.new.plan (next_at (records was) between to.place) t) c.in-Ok-PhaseOver.field-0-is c.in-Ok-PhaseOver.ensures.goes_on)).0;
       first = λ none. let is = c.loop-done.invariant.first (omega arith) in (over.0 ∙ c.pass_keys-passed.ensures.same ∙ is.0, over.1 ∙ is.1);
     }
 

@@ -36,7 +36,8 @@ returns-clause-keyed g c =
     if_ok-then c.make_root.result (λ root made_of.
     let made : MakesRoot old new m n 0 c.args.keys.now c.args.values.now root =
     subst (λ xs. MakesRoot old new m n 0 xs c.args.values.now root) keys (subst (λ xs. MakesRoot old new m n 0 ks xs root) values made_of) in
-    keyed-from k.order k.can_read k.read k.reads_from g.met.K.KeyOrder.stays g.met.K.KeyOrder.steady m n (others_kept m n c.make_root.ensures.makes.keeps) root (zip c.args.keys.now c.args.values.now) made.node (leaf-pairs old new m n c.args.keys.now c.args.values.now root made (g.met.S.Store.recorded s)) c.requires.readable c.requires.apart c.requires.ascends) c.make_root.ensures.root
+    keyed-from k.order k.can_read k.read k.reads_from g.met.K.KeyOrder.stays g.met.K.KeyOrder.steady m n (others_kept m n c.make_root.ensures.makes.keeps) root (zip c.args.keys.now c.args.values.now) made.node
+    (leaf-pairs old new m n c.args.keys.now c.args.values.now root made (g.met.S.Store.recorded s)) c.requires.readable c.requires.apart c.requires.ascends) c.make_root.ensures.root
 
 pub returns-clause-pairs : goal.returns-clause-pairs
 returns-clause-pairs g c =

@@ -227,9 +227,11 @@ insert_below-requires g t c =
                         (
                           subst (λ f. IsNode (g.S.Frozen.records f) 1 l q) (sym same) (subst (λ r. IsNode m 1 l r) (sym child) lower),
                           (
-                            subst (λ f. Ascends key.order key.read (g.S.Frozen.records f) (pairs_below (g.S.Frozen.records f) l q)) (sym same) (subst (λ r. Ascends key.order key.read m (pairs_below m l r)) (sym child) (child-ascends m 1 l node i is low key.order key.read ascends)),
+                            subst (λ f. Ascends key.order key.read (g.S.Frozen.records f) (pairs_below (g.S.Frozen.records f) l q)) (sym same)
+                                (subst (λ r. Ascends key.order key.read m (pairs_below m l r)) (sym child) (child-ascends m 1 l node i is low key.order key.read ascends)),
                             (
-                              subst (λ f. AllReadable key.can_read (g.S.Frozen.records f) (pairs_below (g.S.Frozen.records f) l q)) (sym same) (subst (λ r. AllReadable key.can_read m (pairs_below m l r)) (sym child) (child-all m 1 l node i is low (λ (p : ℕ × ℕ). key.can_read m p.0) readable)),
+                              subst (λ f. AllReadable key.can_read (g.S.Frozen.records f) (pairs_below (g.S.Frozen.records f) l q)) (sym same)
+                                  (subst (λ r. AllReadable key.can_read m (pairs_below m l r)) (sym child) (child-all m 1 l node i is low (λ (p : ℕ × ℕ). key.can_read m p.0) readable)),
                               (
                                 subst (λ f. length (pairs_below (g.S.Frozen.records f) l q) + 1 < 2 ^ 32) (sym same) (subst (λ r. length (pairs_below m l r) + 1 < 2 ^ 32) (sym child) here),
                                 (
@@ -835,7 +837,8 @@ returns-clause-inserts g t c =
     let y2 : MakesParts mid (ledger v) n (g.S.Frozen.records v) (suc l) keys values made =
     subst (λ f. MakesParts (ledger f) (ledger v) n (g.S.Frozen.records v) (suc l) keys values made) stays y1 in
     subst (λ k. Inserts seen pair old (ledger v) m (g.S.Frozen.records v) k node before after made) (sym up)
-    (over-inserts key.order total key.read sought m n 1 l node i pair is place ascends makes.keeps ps x.parts_are keys values refl refl old mid (ledger v) (g.S.Frozen.records v) before after made x y2)) c.put_parts.ensures.parts
+    (over-inserts key.order total key.read sought m n 1 l node i pair is place ascends makes.keeps ps x.parts_are keys values refl refl old mid (ledger v) (g.S.Frozen.records v) before after made x y2))
+    c.put_parts.ensures.parts
 
 pub returns-clause-makes : goal.returns-clause-makes
 returns-clause-makes g t c =

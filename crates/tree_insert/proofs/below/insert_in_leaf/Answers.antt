@@ -83,7 +83,8 @@ returns-clause-inserts g c =
     λ before after e.
     if_ok-then c.put_pair.result (λ made y.
     let y1 : MakesParts (ledger s) (ledger t) m (g.S.Frozen.records t) 0 (put_at spot.found spot.slot c.args.word (node_keys w)) (put_at spot.found spot.slot c.args.value (node_values w)) made =
-    subst (λ f. MakesParts (ledger f) (ledger t) (g.S.Frozen.records f) (g.S.Frozen.records t) 0 (put_at spot.found spot.slot c.args.word (node_keys w)) (put_at spot.found spot.slot c.args.value (node_values w)) made) is.same y in
+    subst (λ f. MakesParts (ledger f) (ledger t) (g.S.Frozen.records f) (g.S.Frozen.records t) 0 (put_at spot.found spot.slot c.args.word (node_keys w)) (put_at spot.found spot.slot c.args.value (node_values w)) made)
+    is.same y in
     let y2 : MakesParts (ledger s) (ledger t) m (g.S.Frozen.records t) 0 keys values made =
     subst (λ ws. MakesParts (ledger s) (ledger t) m (g.S.Frozen.records t) 0 (put_at spot.found spot.slot c.args.word (node_keys ws)) (put_at spot.found spot.slot c.args.value (node_values ws)) made) is.words y1 in
     leaf-inserts seen pair (ledger s) (ledger t) m (g.S.Frozen.records t) 1 node c.requires.node keys values pairs most before after made e y2) c.put_pair.ensures.parts

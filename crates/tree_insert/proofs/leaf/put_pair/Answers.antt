@@ -51,7 +51,8 @@ returns-then-spot-clause-parts g c =
     let count : length (slot_pairs m 0 keys values) ≡ length ks = pair-count m ks vs i c.args.word c.args.value even true (omega arith) (λ e. low) in
     let few = first.few in
     let pairs : c.used_in-pairs.result ≡ length (slot_pairs m 0 keys values) = c.used_in-pairs.ensures ∙ size ∙ sym count in
-    subst (λ f. IfOk c.make_one.result (MakesParts (g.S.Store.ledger c.args.store.now) (g.S.Store.ledger c.make_one.new.store) m (g.S.Frozen.records c.make_one.new.store) 0 (put_at f i c.args.word ks) (put_at f i c.args.value vs)))
+    subst (λ f. IfOk c.make_one.result (MakesParts (g.S.Store.ledger c.args.store.now) (g.S.Store.ledger c.make_one.new.store) m (g.S.Frozen.records c.make_one.new.store) 0 (put_at f i c.args.word ks)
+    (put_at f i c.args.value vs)))
     (sym c.if-spot.true)
     (c.make_one.ensures.parts 0 keys values (subst (λ n. AreWords 0 n keys values c.set_slot.new.words) pairs are) hand (omega arith) (omega arith))
 

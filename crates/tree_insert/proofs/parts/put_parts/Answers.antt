@@ -257,4 +257,5 @@ returns-in-Two-clause-parts g c =
     let back : (P : ℕ → List ℕ → List ℕ → Type 0) → P (level_of new) (insert (node_keys new) (i + 1) second.key) (insert (node_values new) (i + 1) n2) → P level keys values =
     λ P h. subst (λ v. P level keys v) values_are (subst (λ k. P level k (insert (node_values new) (i + 1) n2)) keys_are
     (subst (λ l. P l (insert (node_keys new) (i + 1) second.key) (insert (node_values new) (i + 1) n2)) level_is h)) in
-    back (λ l k v. IfOk c.put_slot.result (MakesParts (g.S.Store.ledger c.args.store.now) (g.S.Store.ledger c.put_slot.new.store) (g.S.Frozen.records c.args.store.now) (g.S.Frozen.records c.put_slot.new.store) l k v)) c.put_slot.ensures.parts
+    back (λ l k v. IfOk c.put_slot.result (MakesParts (g.S.Store.ledger c.args.store.now) (g.S.Store.ledger c.put_slot.new.store) (g.S.Frozen.records c.args.store.now) (g.S.Frozen.records c.put_slot.new.store) l k v))
+    c.put_slot.ensures.parts

@@ -133,7 +133,8 @@ root_over-requires g c = (
           let total = g.met.K.KeyOrder.total in
           let few = g.met.S.Store.few_nodes s in
           let x0 : Inserts seen pair old mid m n level root c.args.replaced.now.items gone parts =
-          subst (λ f. Inserts (seen_by key.read key.order sought (g.S.Frozen.records f)) pair (g.S.Store.ledger f) mid (g.S.Frozen.records f) n level root c.args.replaced.now.items gone parts) same c.in_ok-parts.ensures.inserts in
+          subst (λ f. Inserts (seen_by key.read key.order sought (g.S.Frozen.records f)) pair (g.S.Store.ledger f) mid (g.S.Frozen.records f) n level root c.args.replaced.now.items gone parts) same
+          c.in_ok-parts.ensures.inserts in
           let x : Inserts seen pair old mid m n level root [] gone parts = subst (λ xs. Inserts seen pair old mid m n level root xs gone parts) c.requires.replaced x0 in
           top-parts key.order total key.read sought m n old mid root level pair tree some level_is few gone parts x),
       (
@@ -159,7 +160,8 @@ root_over-requires g c = (
             let total = g.met.K.KeyOrder.total in
             let few = g.met.S.Store.few_nodes s in
             let x0 : Inserts seen pair old mid m n level root c.args.replaced.now.items gone parts =
-            subst (λ f. Inserts (seen_by key.read key.order sought (g.S.Frozen.records f)) pair (g.S.Store.ledger f) mid (g.S.Frozen.records f) n level root c.args.replaced.now.items gone parts) same c.in_ok-parts.ensures.inserts in
+            subst (λ f. Inserts (seen_by key.read key.order sought (g.S.Frozen.records f)) pair (g.S.Store.ledger f) mid (g.S.Frozen.records f) n level root c.args.replaced.now.items gone parts) same
+            c.in_ok-parts.ensures.inserts in
             let x : Inserts seen pair old mid m n level root [] gone parts = subst (λ xs. Inserts seen pair old mid m n level root xs gone parts) c.requires.replaced x0 in
             top-few key.order total key.read sought m n old mid root level pair tree some level_is few gone parts x),
         (
@@ -195,7 +197,8 @@ root_over-requires g c = (
               let total = g.met.K.KeyOrder.total in
               let few = g.met.S.Store.few_nodes s in
               let x0 : Inserts seen pair old mid m n level root c.args.replaced.now.items gone parts =
-              subst (λ f. Inserts (seen_by key.read key.order sought (g.S.Frozen.records f)) pair (g.S.Store.ledger f) mid (g.S.Frozen.records f) n level root c.args.replaced.now.items gone parts) same c.in_ok-parts.ensures.inserts in
+              subst (λ f. Inserts (seen_by key.read key.order sought (g.S.Frozen.records f)) pair (g.S.Store.ledger f) mid (g.S.Frozen.records f) n level root c.args.replaced.now.items gone parts) same
+              c.in_ok-parts.ensures.inserts in
               let x : Inserts seen pair old mid m n level root [] gone parts = subst (λ xs. Inserts seen pair old mid m n level root xs gone parts) c.requires.replaced x0 in
               top-one key.order total key.read sought m n old mid root level pair tree some level_is few gone parts x)),
         ),
@@ -269,7 +272,8 @@ returns-clause-rebuilds g c =
     let total = g.met.K.KeyOrder.total in
     let few = g.met.S.Store.few_nodes s in
     let x0 : Inserts seen pair old mid m n level root c.args.replaced.now.items gone parts =
-    subst (λ f. Inserts (seen_by key.read key.order sought (g.S.Frozen.records f)) pair (g.S.Store.ledger f) mid (g.S.Frozen.records f) n level root c.args.replaced.now.items gone parts) same c.in_ok-parts.ensures.inserts in
+    subst (λ f. Inserts (seen_by key.read key.order sought (g.S.Frozen.records f)) pair (g.S.Store.ledger f) mid (g.S.Frozen.records f) n level root c.args.replaced.now.items gone parts) same
+    c.in_ok-parts.ensures.inserts in
     let x : Inserts seen pair old mid m n level root [] gone parts = subst (λ xs. Inserts seen pair old mid m n level root xs gone parts) c.requires.replaced x0 in
     let u = c.root_over.new.store in
     let new = g.S.Store.ledger u in

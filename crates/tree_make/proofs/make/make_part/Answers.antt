@@ -26,7 +26,8 @@ returns-clause-makes g c =
     let words : c.deref.result.now ≡ node_words slots.level c.pairs_in-count.result ks vs = c.deref.ensures.0 ∙ c.words_of-words.ensures.words in
     let made : MakesNode (g.S.Store.ledger s) (g.S.Store.ledger t) m n slots.level ks vs c.raw.result =
     subst (MakesNode (g.S.Store.ledger s) (g.S.Store.ledger t) m n slots.level ks vs) (sym c.raw.ensures)
-    (makes-node g.row.OFFSET_BITS (g.S.Store.ledger s) (g.S.Store.ledger t) m n c.deref.result.now node makes may slots.level c.pairs_in-count.result ks vs words c.requires.fits c.requires.hand c.pairs_in-count.ensures.count c.requires.few) in
+    (makes-node g.row.OFFSET_BITS (g.S.Store.ledger s) (g.S.Store.ledger t) m n c.deref.result.now node makes may slots.level c.pairs_in-count.result ks vs words c.requires.fits c.requires.hand
+    c.pairs_in-count.ensures.count c.requires.few) in
     let some = c.requires.some in
     let size : c.len.result ≡ length ks = c.len.ensures.value in
     let at : suc (c.len.result - 1) ≡ length ks = omega arith in

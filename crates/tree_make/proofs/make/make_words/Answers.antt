@@ -32,7 +32,8 @@ returns-clause-makes g c level ks vs are hand some few =
 pub returns-clause-nodes : goal.returns-clause-nodes
 returns-clause-nodes g c =
     let e = c.make.ensures in
-    makes-any g.row.OFFSET_BITS (g.S.Store.ledger c.args.store.now) (g.S.Store.ledger c.make.new.self) (g.S.Frozen.records c.args.store.now) (g.S.Frozen.records c.make.new.self) c.args.words.now c.make.result e.makes e.refused e.left e.may
+    makes-any g.row.OFFSET_BITS (g.S.Store.ledger c.args.store.now) (g.S.Store.ledger c.make.new.self) (g.S.Frozen.records c.args.store.now)
+    (g.S.Frozen.records c.make.new.self) c.args.words.now c.make.result e.makes e.refused e.left e.may
 
 pub returns-in_err-node-clause-makes : goal.returns-in_err-node-clause-makes
 returns-in_err-node-clause-makes g c level ks vs are hand some few = if_err _ _ c.from_residual.result c.from_residual.ensures.1
@@ -40,10 +41,12 @@ returns-in_err-node-clause-makes g c level ks vs are hand some few = if_err _ _ 
 pub returns-in_err-node-clause-nodes : goal.returns-in_err-node-clause-nodes
 returns-in_err-node-clause-nodes g c =
     let e = c.make.ensures in
-    makes-any g.row.OFFSET_BITS (g.S.Store.ledger c.args.store.now) (g.S.Store.ledger c.make.new.self) (g.S.Frozen.records c.args.store.now) (g.S.Frozen.records c.make.new.self) c.args.words.now c.make.result e.makes e.refused e.left e.may
+    makes-any g.row.OFFSET_BITS (g.S.Store.ledger c.args.store.now) (g.S.Store.ledger c.make.new.self) (g.S.Frozen.records c.args.store.now)
+    (g.S.Frozen.records c.make.new.self) c.args.words.now c.make.result e.makes e.refused e.left e.may
 
 pub returns-in_err-node-clause-refused : goal.returns-in_err-node-clause-refused
 returns-in_err-node-clause-refused g c =
     let e = c.in_err-node.ensures in
     on_err c.from_residual.result
-    (makes-refused {A = ℕ} (g.S.Store.ledger c.args.store.now) (g.S.Store.ledger c.make.new.self) (g.S.Frozen.records c.args.store.now) (g.S.Frozen.records c.make.new.self) (Err c.in_err-node.field-0.0) e.refused e.left c.make.ensures.may)
+    (makes-refused {A = ℕ} (g.S.Store.ledger c.args.store.now) (g.S.Store.ledger c.make.new.self) (g.S.Frozen.records c.args.store.now) (g.S.Frozen.records c.make.new.self)
+    (Err c.in_err-node.field-0.0) e.refused e.left c.make.ensures.may)

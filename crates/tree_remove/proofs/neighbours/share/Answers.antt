@@ -42,7 +42,8 @@ make_part-requires-2-clause-few g c =
     let right = c.shift.new.right in
     let hand = hand-at m c.args.left.now.level _ _ _ _ c.shift.ensures.keys c.shift.ensures.values c.requires.hand in
     subst (λ l. length (slot_pairs n l right.keys.items right.values.items) < 2 ^ 32) (sym (c.shift.ensures.level_right ∙ c.requires.same_level))
-    (few-right m n c.in_ok-part.ensures.makes.node.makes.keeps c.args.left.now.level left.keys.items left.values.items right.keys.items right.values.items c.shift.ensures.even hand _ _ c.shift.ensures.keys c.shift.ensures.values 4294967296 c.requires.few)
+    (few-right m n c.in_ok-part.ensures.makes.node.makes.keeps c.args.left.now.level left.keys.items left.values.items right.keys.items right.values.items c.shift.ensures.even hand _ _ c.shift.ensures.keys
+    c.shift.ensures.values 4294967296 c.requires.few)
 
 pub returns-clause-settles : goal.returns-clause-settles
 returns-clause-settles g c =

@@ -32,7 +32,8 @@ returns-clause-puts g c =
     let last = c.put_back.new.slots in
     let new = c.write_slots.new.words in
     let are = c.write_slots.ensures in
-    let p1 = subst (λ j. PutsBack old mid m n j i slots.keys.items slots.values.items short.keys.items short.values.items before after last.keys.items last.values.items) c.slots_of-below.ensures.level c.in_ok-put_back.ensures.puts in
+    let p1 = subst (λ j. PutsBack old mid m n j i slots.keys.items slots.values.items short.keys.items short.values.items before after last.keys.items last.values.items) c.slots_of-below.ensures.level
+    c.in_ok-put_back.ensures.puts in
     let p2 = subst (λ xs. PutsBack old mid m n l i xs slots.values.items short.keys.items short.values.items before after last.keys.items last.values.items) c.slots_of-slots.ensures.keys p1 in
     let p3 = subst (λ xs. PutsBack old mid m n l i ks xs short.keys.items short.values.items before after last.keys.items last.values.items) c.slots_of-slots.ensures.values p2 in
     let p4 = subst (λ xs. PutsBack old mid m n l i ks vs xs short.values.items before after last.keys.items last.values.items) c.slots_of-below.ensures.keys p3 in
@@ -67,7 +68,8 @@ returns-clause-words g c =
     let last = c.put_back.new.slots in
     let new = c.write_slots.new.words in
     let are = c.write_slots.ensures in
-    let p1 = subst (λ j. PutsBack old mid m n j i slots.keys.items slots.values.items short.keys.items short.values.items before after last.keys.items last.values.items) c.slots_of-below.ensures.level c.in_ok-put_back.ensures.puts in
+    let p1 = subst (λ j. PutsBack old mid m n j i slots.keys.items slots.values.items short.keys.items short.values.items before after last.keys.items last.values.items) c.slots_of-below.ensures.level
+    c.in_ok-put_back.ensures.puts in
     let p2 = subst (λ xs. PutsBack old mid m n l i xs slots.values.items short.keys.items short.values.items before after last.keys.items last.values.items) c.slots_of-slots.ensures.keys p1 in
     let p3 = subst (λ xs. PutsBack old mid m n l i ks xs short.keys.items short.values.items before after last.keys.items last.values.items) c.slots_of-slots.ensures.values p2 in
     let p4 = subst (λ xs. PutsBack old mid m n l i ks vs xs short.values.items before after last.keys.items last.values.items) c.slots_of-below.ensures.keys p3 in

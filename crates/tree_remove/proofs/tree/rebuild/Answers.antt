@@ -134,7 +134,8 @@ make_top-requires g c =
     let gone = c.remove_below.new.replaced.items in
     let same = c.word-level.ensures.same in
     let removes = subst (λ xs. Removes seen old mid m n level root xs gone keys values) c.requires.replaced
-    (subst (λ f. Removes (seen_by k.read k.order (k.sought c.args.key.now) (g.S.Frozen.records f)) (ledger f) mid (g.S.Frozen.records f) n level root c.args.replaced.now.items gone keys values) same c.in_ok-remove_below.ensures.removes) in
+    (subst (λ f. Removes (seen_by k.read k.order (k.sought c.args.key.now) (g.S.Frozen.records f)) (ledger f) mid (g.S.Frozen.records f) n level root c.args.replaced.now.items gone keys values) same
+    c.in_ok-remove_below.ensures.removes) in
     let are : AreWords level (length (slot_pairs n level keys values)) keys values words = c.in_ok-remove_below.ensures.words in
     let level_is : level_of words ≡ level = words-level level (length (slot_pairs n level keys values)) keys values words are in
     let low = root-low k.order k.read m root tree some level is in
@@ -178,7 +179,8 @@ returns-clause-rebuilds g c =
     let gone = c.remove_below.new.replaced.items in
     let same = c.word-level.ensures.same in
     let removes = subst (λ xs. Removes seen old mid m n level root xs gone keys values) c.requires.replaced
-    (subst (λ f. Removes (seen_by k.read k.order (k.sought c.args.key.now) (g.S.Frozen.records f)) (ledger f) mid (g.S.Frozen.records f) n level root c.args.replaced.now.items gone keys values) same c.in_ok-remove_below.ensures.removes) in
+    (subst (λ f. Removes (seen_by k.read k.order (k.sought c.args.key.now) (g.S.Frozen.records f)) (ledger f) mid (g.S.Frozen.records f) n level root c.args.replaced.now.items gone keys values) same
+    c.in_ok-remove_below.ensures.removes) in
     let are : AreWords level (length (slot_pairs n level keys values)) keys values words = c.in_ok-remove_below.ensures.words in
     let level_is : level_of words ≡ level = words-level level (length (slot_pairs n level keys values)) keys values words are in
     let new = ledger c.make_top.new.store in
@@ -208,7 +210,8 @@ returns-clause-makes g c =
     let gone = c.remove_below.new.replaced.items in
     let same = c.word-level.ensures.same in
     let removes = subst (λ xs. Removes seen old mid m n level root xs gone keys values) c.requires.replaced
-    (subst (λ f. Removes (seen_by k.read k.order (k.sought c.args.key.now) (g.S.Frozen.records f)) (ledger f) mid (g.S.Frozen.records f) n level root c.args.replaced.now.items gone keys values) same c.in_ok-remove_below.ensures.removes) in
+    (subst (λ f. Removes (seen_by k.read k.order (k.sought c.args.key.now) (g.S.Frozen.records f)) (ledger f) mid (g.S.Frozen.records f) n level root c.args.replaced.now.items gone keys values) same
+    c.in_ok-remove_below.ensures.removes) in
     let are : AreWords level (length (slot_pairs n level keys values)) keys values words = c.in_ok-remove_below.ensures.words in
     let level_is : level_of words ≡ level = words-level level (length (slot_pairs n level keys values)) keys values words are in
     let more = root-levels k.order k.read m root tree some level is in
@@ -235,7 +238,8 @@ returns-clause-refuses g c =
     let gone = c.remove_below.new.replaced.items in
     let same = c.word-level.ensures.same in
     let removes = subst (λ xs. Removes seen old mid m n level root xs gone keys values) c.requires.replaced
-    (subst (λ f. Removes (seen_by k.read k.order (k.sought c.args.key.now) (g.S.Frozen.records f)) (ledger f) mid (g.S.Frozen.records f) n level root c.args.replaced.now.items gone keys values) same c.in_ok-remove_below.ensures.removes) in
+    (subst (λ f. Removes (seen_by k.read k.order (k.sought c.args.key.now) (g.S.Frozen.records f)) (ledger f) mid (g.S.Frozen.records f) n level root c.args.replaced.now.items gone keys values) same
+    c.in_ok-remove_below.ensures.removes) in
     let are : AreWords level (length (slot_pairs n level keys values)) keys values words = c.in_ok-remove_below.ensures.words in
     let level_is : level_of words ≡ level = words-level level (length (slot_pairs n level keys values)) keys values words are in
     let more = root-levels k.order k.read m root tree some level is in

@@ -23,7 +23,8 @@ drop_nodes-requires-clause-owns g c =
     let gone = c.rebuild.new.replaced.items in
     let pairs = take_out seen (tree_pairs m c.args.root) in
     let most = levels m c.args.root + 1 in
-    subst (λ xs. Owns (ledger t) (records t) (entries xs ∷ [])) (sym c.deref.ensures.0) (gone-owned (ledger s) (ledger t) m (records t) most c.args.root c.in_ok-next.next gone pairs c.requires.owns c.in_ok-next.ensures.rebuilds c.rebuild.ensures.makes (g.met.S.Store.recorded s))
+    subst (λ xs. Owns (ledger t) (records t) (entries xs ∷ [])) (sym c.deref.ensures.0)
+    (gone-owned (ledger s) (ledger t) m (records t) most c.args.root c.in_ok-next.next gone pairs c.requires.owns c.in_ok-next.ensures.rebuilds c.rebuild.ensures.makes (g.met.S.Store.recorded s))
 
 pub returns-clause-keyed : goal.returns-clause-keyed
 returns-clause-keyed g c =
@@ -41,7 +42,8 @@ returns-clause-keyed g c =
     let drops = subst (λ xs. DropsEntries (ledger t) (ledger u) (records t) (records u) xs) c.deref.ensures.0 c.drop_nodes.ensures in
     let ps = tree_pairs m c.args.root in
     let keyed = c.requires.keyed in
-    end-keyed (ledger s) (ledger t) m (records t) most c.args.root c.in_ok-next.next gone pairs c.requires.owns c.in_ok-next.ensures.rebuilds c.rebuild.ensures.makes (g.met.S.Store.recorded s) (ledger u) (records u) drops c.requires.keyed.tree.node
+    end-keyed (ledger s) (ledger t) m (records t) most c.args.root c.in_ok-next.next gone pairs c.requires.owns c.in_ok-next.ensures.rebuilds c.rebuild.ensures.makes (g.met.S.Store.recorded s) (ledger u)
+    (records u) drops c.requires.keyed.tree.node
     k.order k.can_read k.read k.reads_from g.met.K.KeyOrder.stays g.met.K.KeyOrder.steady
     (All-take_out (λ (p : ℕ × ℕ). k.can_read m p.0) seen ps keyed.readable)
     (All-take_out (λ (p : ℕ × ℕ). ReadsNoNode k.reads_from m p.0) seen ps keyed.apart)
@@ -61,7 +63,8 @@ returns-clause-turns g c =
     let most = levels m c.args.root + 1 in
     let u = c.drop_nodes.new.store in
     let drops = subst (λ xs. DropsEntries (ledger t) (ledger u) (records t) (records u) xs) c.deref.ensures.0 c.drop_nodes.ensures in
-    end-turns (ledger s) (ledger t) m (records t) most c.args.root c.in_ok-next.next gone pairs c.requires.owns c.in_ok-next.ensures.rebuilds c.rebuild.ensures.makes (g.met.S.Store.recorded s) (ledger u) (records u) drops c.requires.keyed.tree.node
+    end-turns (ledger s) (ledger t) m (records t) most c.args.root c.in_ok-next.next gone pairs c.requires.owns c.in_ok-next.ensures.rebuilds c.rebuild.ensures.makes (g.met.S.Store.recorded s) (ledger u)
+    (records u) drops c.requires.keyed.tree.node
 
 pub returns-clause-owns : goal.returns-clause-owns
 returns-clause-owns g c =
@@ -77,7 +80,8 @@ returns-clause-owns g c =
     let most = levels m c.args.root + 1 in
     let u = c.drop_nodes.new.store in
     let drops = subst (λ xs. DropsEntries (ledger t) (ledger u) (records t) (records u) xs) c.deref.ensures.0 c.drop_nodes.ensures in
-    end-owns (ledger s) (ledger t) m (records t) most c.args.root c.in_ok-next.next gone pairs c.requires.owns c.in_ok-next.ensures.rebuilds c.rebuild.ensures.makes (g.met.S.Store.recorded s) (ledger u) (records u) drops c.requires.keyed.tree.node
+    end-owns (ledger s) (ledger t) m (records t) most c.args.root c.in_ok-next.next gone pairs c.requires.owns c.in_ok-next.ensures.rebuilds c.rebuild.ensures.makes (g.met.S.Store.recorded s) (ledger u)
+    (records u) drops c.requires.keyed.tree.node
 
 pub returns-clause-pairs : goal.returns-clause-pairs
 returns-clause-pairs g c =
@@ -93,7 +97,8 @@ returns-clause-pairs g c =
     let most = levels m c.args.root + 1 in
     let u = c.drop_nodes.new.store in
     let drops = subst (λ xs. DropsEntries (ledger t) (ledger u) (records t) (records u) xs) c.deref.ensures.0 c.drop_nodes.ensures in
-    end-pairs (ledger s) (ledger t) m (records t) most c.args.root c.in_ok-next.next gone pairs c.requires.owns c.in_ok-next.ensures.rebuilds c.rebuild.ensures.makes (g.met.S.Store.recorded s) (ledger u) (records u) drops c.requires.keyed.tree.node
+    end-pairs (ledger s) (ledger t) m (records t) most c.args.root c.in_ok-next.next gone pairs c.requires.owns c.in_ok-next.ensures.rebuilds c.rebuild.ensures.makes (g.met.S.Store.recorded s) (ledger u)
+    (records u) drops c.requires.keyed.tree.node
 
 pub returns-clause-others : goal.returns-clause-others
 returns-clause-others g c =
@@ -109,7 +114,8 @@ returns-clause-others g c =
     let most = levels m c.args.root + 1 in
     let u = c.drop_nodes.new.store in
     let drops = subst (λ xs. DropsEntries (ledger t) (ledger u) (records t) (records u) xs) c.deref.ensures.0 c.drop_nodes.ensures in
-    end-others (ledger s) (ledger t) m (records t) most c.args.root c.in_ok-next.next gone pairs c.requires.owns c.in_ok-next.ensures.rebuilds c.rebuild.ensures.makes (g.met.S.Store.recorded s) (ledger u) (records u) drops c.requires.keyed.tree.node
+    end-others (ledger s) (ledger t) m (records t) most c.args.root c.in_ok-next.next gone pairs c.requires.owns c.in_ok-next.ensures.rebuilds c.rebuild.ensures.makes (g.met.S.Store.recorded s) (ledger u)
+    (records u) drops c.requires.keyed.tree.node
 
 pub returns-clause-may : goal.returns-clause-may
 returns-clause-may g c =
@@ -125,7 +131,8 @@ returns-clause-may g c =
     let most = levels m c.args.root + 1 in
     let u = c.drop_nodes.new.store in
     let drops = subst (λ xs. DropsEntries (ledger t) (ledger u) (records t) (records u) xs) c.deref.ensures.0 c.drop_nodes.ensures in
-    end-may (ledger s) (ledger t) m (records t) most c.args.root c.in_ok-next.next gone pairs c.requires.owns c.in_ok-next.ensures.rebuilds c.rebuild.ensures.makes (g.met.S.Store.recorded s) (ledger u) (records u) drops c.requires.keyed.tree.node
+    end-may (ledger s) (ledger t) m (records t) most c.args.root c.in_ok-next.next gone pairs c.requires.owns c.in_ok-next.ensures.rebuilds c.rebuild.ensures.makes (g.met.S.Store.recorded s) (ledger u)
+    (records u) drops c.requires.keyed.tree.node
 
 pub returns-clause-counts : goal.returns-clause-counts
 returns-clause-counts g c =
@@ -141,7 +148,8 @@ returns-clause-counts g c =
     let most = levels m c.args.root + 1 in
     let u = c.drop_nodes.new.store in
     let drops = subst (λ xs. DropsEntries (ledger t) (ledger u) (records t) (records u) xs) c.deref.ensures.0 c.drop_nodes.ensures in
-    end-counts (ledger s) (ledger t) m (records t) most c.args.root c.in_ok-next.next gone pairs c.requires.owns c.in_ok-next.ensures.rebuilds c.rebuild.ensures.makes (g.met.S.Store.recorded s) (ledger u) (records u) drops c.requires.keyed.tree.node
+    end-counts (ledger s) (ledger t) m (records t) most c.args.root c.in_ok-next.next gone pairs c.requires.owns c.in_ok-next.ensures.rebuilds c.rebuild.ensures.makes (g.met.S.Store.recorded s) (ledger u)
+    (records u) drops c.requires.keyed.tree.node
 
 pub returns-in_err-next-clause-others : goal.returns-in_err-next-clause-others
 returns-in_err-next-clause-others g c =

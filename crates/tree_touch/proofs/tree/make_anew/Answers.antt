@@ -110,7 +110,8 @@ returns-clause-rebuilds g c =
     let gone = c.touch_below.new.replaced.items in
     if_ok-then c.touch_below.result (λ next x0.
     let x1 : Touches g.row.OFFSET_BITS c.args.buffer seen (ledger s) (ledger t) m (records t) level root next c.args.replaced.now.items gone =
-    subst (λ f. Touches g.row.OFFSET_BITS c.args.buffer (seen_by key.read key.order (key.sought c.args.key.now) (records f)) (ledger f) (ledger t) (records f) (records t) level root next c.args.replaced.now.items gone) same x0 in
+    subst (λ f. Touches g.row.OFFSET_BITS c.args.buffer (seen_by key.read key.order (key.sought c.args.key.now) (records f)) (ledger f) (ledger t) (records f) (records t) level root next c.args.replaced.now.items gone)
+    same x0 in
     let x : Touches g.row.OFFSET_BITS c.args.buffer seen (ledger s) (ledger t) m (records t) level root next [] gone =
     subst (λ xs. Touches g.row.OFFSET_BITS c.args.buffer seen (ledger s) (ledger t) m (records t) level root next xs gone) c.requires.replaced x1 in
     root-touched key.order key.read m (records t) (ledger s) (ledger t) g.row.OFFSET_BITS c.args.buffer seen root level tree some level_is low next gone x)
@@ -135,7 +136,8 @@ returns-clause-apart g c =
     let gone = c.touch_below.new.replaced.items in
     if_ok-then c.touch_below.result (λ next x0.
     let x1 : Touches g.row.OFFSET_BITS c.args.buffer seen (ledger s) (ledger t) m (records t) level root next c.args.replaced.now.items gone =
-    subst (λ f. Touches g.row.OFFSET_BITS c.args.buffer (seen_by key.read key.order (key.sought c.args.key.now) (records f)) (ledger f) (ledger t) (records f) (records t) level root next c.args.replaced.now.items gone) same x0 in
+    subst (λ f. Touches g.row.OFFSET_BITS c.args.buffer (seen_by key.read key.order (key.sought c.args.key.now) (records f)) (ledger f) (ledger t) (records f) (records t) level root next c.args.replaced.now.items gone)
+    same x0 in
     let x : Touches g.row.OFFSET_BITS c.args.buffer seen (ledger s) (ledger t) m (records t) level root next [] gone =
     subst (λ xs. Touches g.row.OFFSET_BITS c.args.buffer seen (ledger s) (ledger t) m (records t) level root next xs gone) c.requires.replaced x1 in
     root-apart key.order key.read m (records t) (ledger s) (ledger t) g.row.OFFSET_BITS c.args.buffer seen root level tree some level_is low next gone x)

@@ -23,7 +23,8 @@ enter-requires c e =
     let used : is_used (state_at (shelf_at xs b).states c.args.place) ≡ true = subst (λ (v : ShelvesView). is_used (state_at (shelf_at v.shelves b).states c.args.place) ≡ true) (sym c.self.view_is) c.requires.used in
     let shelf : c.index_mut-shelf.result.now ≡ shelf_at xs b = get_or_read xs b _ h c.index_mut-shelf.ensures.value empty_shelf in
     let had : c.has_touched-had_touched.result ≡ has_touched (shelf_at xs b) = c.has_touched-had_touched.ensures ∙ ap has_touched shelf in
-    touched-room s.words xs s.made.items s.filled.items s.open.items s.touched k b h (with_state_at (shelf_at xs b) c.args.place (dropped c.args.last (state_at (shelf_at xs b).states c.args.place))) (sym had ∙ not-true _ e) (drop-touched (shelf_at xs b) c.args.place c.args.last there used)
+    touched-room s.words xs s.made.items s.filled.items s.open.items s.touched k b h (with_state_at (shelf_at xs b) c.args.place (dropped c.args.last (state_at (shelf_at xs b).states c.args.place)))
+    (sym had ∙ not-true _ e) (drop-touched (shelf_at xs b) c.args.place c.args.last there used)
 
 pub enter_row-requires-clause-room : goal.enter_row-requires-clause-room
 enter_row-requires-clause-room c e =

@@ -37,7 +37,8 @@ invariant_of-self c =
     let b = c.args.buffer in
     let h : b < length xs = subst (λ (v : ShelvesView). b < length v.shelves) (sym c.self.view_is) c.requires.inside in
     let there : c.args.place < length (shelf_at xs b).states = subst (λ (v : ShelvesView). c.args.place < length (shelf_at v.shelves b).states) (sym c.self.view_is) c.requires.there in
-    let used : is_dropped (state_at (shelf_at xs b).states c.args.place) ≡ true = subst (λ (v : ShelvesView). is_dropped (state_at (shelf_at v.shelves b).states c.args.place) ≡ true) (sym c.self.view_is) c.requires.dropped in
+    let used : is_dropped (state_at (shelf_at xs b).states c.args.place) ≡ true =
+    subst (λ (v : ShelvesView). is_dropped (state_at (shelf_at v.shelves b).states c.args.place) ≡ true) (sym c.self.view_is) c.requires.dropped in
     let shelf : c.index_mut-shelf.result.now ≡ shelf_at xs b = get_or_read xs b _ h c.index_mut-shelf.ensures.value empty_shelf in
     let new : c.release.new.self ≡ with_state_at (shelf_at xs b) c.args.place Free =
     c.release.ensures ∙ ap (λ (t : ShelfView). with_state_at t c.args.place Free) shelf in

@@ -31,7 +31,8 @@ enter_row-requires-clause-room c e =
     let wide : c.width-width.result ≡ (shelf_at xs b).width = c.width-width.ensures ∙ ap (λ (t : ShelfView). t.width) new in
     let frees : (c.is_free.result && not c.is_free-2.result) ≡ (is_free_state c.in-Some.step.now && not (is_free_state (state_at (shelf_at xs b).states x))) =
     ap (λ t. t && not c.is_free-2.result) c.is_free.ensures ∙ ap (λ t. is_free_state c.in-Some.step.now && not t) (c.is_free-2.ensures ∙ ap is_free_state was) in
-    let both : c.if-frees.enters ≡ ((is_free_state c.in-Some.step.now && not (is_free_state (state_at (shelf_at xs b).states x))) && has_one_spare (with_state_at (shelf_at xs b) x c.in-Some.step.now)) = elim c.if-frees.branch [
+    let both : c.if-frees.enters ≡ ((is_free_state c.in-Some.step.now && not (is_free_state (state_at (shelf_at xs b).states x))) && has_one_spare (with_state_at (shelf_at xs b) x c.in-Some.step.now)) =
+    elim c.if-frees.branch [
       | then-frees w ↦ w.enters-is ∙ w.has_one_spare-enters.ensures ∙ ap has_one_spare new ∙ sym (ap (λ (t : Bool). t && has_one_spare (with_state_at (shelf_at xs b) x c.in-Some.step.now)) (sym frees ∙ w.if-frees.true))
       | else-frees w ↦ w.enters-is ∙ w.if-frees.false ∙ sym (ap (λ (t : Bool). t && has_one_spare (with_state_at (shelf_at xs b) x c.in-Some.step.now)) (sym frees ∙ w.if-frees.false))
     ] in
@@ -59,7 +60,8 @@ invariant_of-self c =
     let wide : c.width-width.result ≡ (shelf_at xs b).width = c.width-width.ensures ∙ ap (λ (t : ShelfView). t.width) new in
     let frees : (c.is_free.result && not c.is_free-2.result) ≡ (is_free_state c.in-Some.step.now && not (is_free_state (state_at (shelf_at xs b).states x))) =
     ap (λ t. t && not c.is_free-2.result) c.is_free.ensures ∙ ap (λ t. is_free_state c.in-Some.step.now && not t) (c.is_free-2.ensures ∙ ap is_free_state was) in
-    let both : c.if-frees.enters ≡ ((is_free_state c.in-Some.step.now && not (is_free_state (state_at (shelf_at xs b).states x))) && has_one_spare (with_state_at (shelf_at xs b) x c.in-Some.step.now)) = elim c.if-frees.branch [
+    let both : c.if-frees.enters ≡ ((is_free_state c.in-Some.step.now && not (is_free_state (state_at (shelf_at xs b).states x))) && has_one_spare (with_state_at (shelf_at xs b) x c.in-Some.step.now)) =
+    elim c.if-frees.branch [
       | then-frees w ↦ w.enters-is ∙ w.has_one_spare-enters.ensures ∙ ap has_one_spare new ∙ sym (ap (λ (t : Bool). t && has_one_spare (with_state_at (shelf_at xs b) x c.in-Some.step.now)) (sym frees ∙ w.if-frees.true))
       | else-frees w ↦ w.enters-is ∙ w.if-frees.false ∙ sym (ap (λ (t : Bool). t && has_one_spare (with_state_at (shelf_at xs b) x c.in-Some.step.now)) (sym frees ∙ w.if-frees.false))
     ] in

@@ -116,7 +116,8 @@ returns-clause-takes c =
       of_width = subst (λ (v : ShelvesView). (shelf_at v.shelves b).width ≡ w) c.self.view_is top.wide;
       unsealed = subst (λ (v : ShelvesView). (shelf_at v.shelves b).sealed ≡ false) c.self.view_is (something-spare (shelf_at xs b) top.can).0;
       is_open = subst (λ (v : ShelvesView). IsOpen (shelf_at v.shelves b) x) c.self.view_is can;
-      again = subst (λ (v : ShelvesView). (not (nat_eq x c.taken-next.result) ≡ true → x < length (shelf_at v.shelves b).states) × (not (nat_eq x c.taken-next.result) ≡ false → x ≡ length (shelf_at v.shelves b).states)) c.self.view_is again;
+      again = subst (λ (v : ShelvesView). (not (nat_eq x c.taken-next.result) ≡ true → x < length (shelf_at v.shelves b).states)
+          × (not (nat_eq x c.taken-next.result) ≡ false → x ≡ length (shelf_at v.shelves b).states)) c.self.view_is again;
       free_first = subst (λ (v : ShelvesView). x ≡ length (shelf_at v.shelves b).states → (a : ℕ) → (shelf_at v.shelves a).width ≡ w → (shelf_at v.shelves a).sealed ≡ false
           → count_by is_free_state (shelf_at v.shelves a).states ≡ 0) c.self.view_is
           (λ next a of unsealed. first-free xs (filled_at s.filled.items w) (stack_at s.open.items w) w b x

@@ -34,8 +34,18 @@ pub follow-requires : goal.follow-requires
 follow-requires g c =
     let s = c.args.self.now in
     let r = c.retire_finished.ensures in
-    let st = subst (Stands g.row.OFFSET_BITS _ _ _) c.requires.unit s.stands in
-    (omega arith, (r.good, (rises-1 g.row.OFFSET_BITS (g.W.Work.knows s.work) (g.W.Frozen.records s.work) (entries_of g.row.OFFSET_BITS s.entries) st c.requires.tagged (g.W.Work.knows c.retire_finished.new.work) r.knows (entries_of g.row.OFFSET_BITS c.retire_finished.new.entries) r.retired r.good c.advance-advance.result _ c.advance-advance.ensures.holds, tagged-1 g.row.OFFSET_BITS (g.W.Work.knows s.work) (g.W.Frozen.records s.work) (entries_of g.row.OFFSET_BITS s.entries) st c.requires.tagged (g.W.Work.knows c.retire_finished.new.work) r.knows (entries_of g.row.OFFSET_BITS c.retire_finished.new.entries) r.retired r.good)))
+    let st = subst (Stands g.row.OFFSET_BITS _ _ _) c.requires.unit s.stands in (
+      omega arith,
+      (
+        r.good,
+        (
+          rises-1 g.row.OFFSET_BITS (g.W.Work.knows s.work) (g.W.Frozen.records s.work) (entries_of g.row.OFFSET_BITS s.entries) st c.requires.tagged (g.W.Work.knows c.retire_finished.new.work) r.knows
+              (entries_of g.row.OFFSET_BITS c.retire_finished.new.entries) r.retired r.good c.advance-advance.result _ c.advance-advance.ensures.holds,
+          tagged-1 g.row.OFFSET_BITS (g.W.Work.knows s.work) (g.W.Frozen.records s.work) (entries_of g.row.OFFSET_BITS s.entries) st c.requires.tagged (g.W.Work.knows c.retire_finished.new.work) r.knows
+              (entries_of g.row.OFFSET_BITS c.retire_finished.new.entries) r.retired r.good,
+        ),
+      ),
+    )
 
 pub free_below-requires : goal.free_below-requires
 free_below-requires g c =
@@ -47,10 +57,12 @@ free_below-requires g c =
     let st = subst (Stands g.row.OFFSET_BITS _ _ _) c.requires.unit s.stands in (
       omega arith,
       (
-        rises-2 g.row.OFFSET_BITS (g.W.Work.knows s.work) (g.W.Frozen.records s.work) (entries_of g.row.OFFSET_BITS s.entries) st c.requires.tagged (g.W.Work.knows c.retire_finished.new.work) r.knows (entries_of g.row.OFFSET_BITS c.retire_finished.new.entries) r.retired r.good
+        rises-2 g.row.OFFSET_BITS (g.W.Work.knows s.work) (g.W.Frozen.records s.work) (entries_of g.row.OFFSET_BITS s.entries) st c.requires.tagged (g.W.Work.knows c.retire_finished.new.work) r.knows
+            (entries_of g.row.OFFSET_BITS c.retire_finished.new.entries) r.retired r.good
             c.advance-advance.result (g.W.Work.knows c.advance-advance.new.self) a.holds a.commits a.knows (entries_of g.row.OFFSET_BITS c.follow.new.entries) f.advanced f.good
             (g.W.Work.knows c.reclaim-left.new.self) c.reclaim-left.result p.holds p.commits p.knows (g.met.W.Work.queue c.retire_finished.new.work) (g.met.W.Work.queue c.advance-advance.new.self),
-        low-2 g.row.OFFSET_BITS (g.W.Work.knows s.work) (g.W.Frozen.records s.work) (entries_of g.row.OFFSET_BITS s.entries) st c.requires.tagged (g.W.Work.knows c.retire_finished.new.work) r.knows (entries_of g.row.OFFSET_BITS c.retire_finished.new.entries) r.retired r.good
+        low-2 g.row.OFFSET_BITS (g.W.Work.knows s.work) (g.W.Frozen.records s.work) (entries_of g.row.OFFSET_BITS s.entries) st c.requires.tagged (g.W.Work.knows c.retire_finished.new.work) r.knows
+            (entries_of g.row.OFFSET_BITS c.retire_finished.new.entries) r.retired r.good
             c.advance-advance.result (g.W.Work.knows c.advance-advance.new.self) a.holds a.commits a.knows (entries_of g.row.OFFSET_BITS c.follow.new.entries) f.advanced f.good
             (g.W.Work.knows c.reclaim-left.new.self) c.reclaim-left.result p.holds p.commits p.knows (g.met.W.Work.queue c.retire_finished.new.work) (g.met.W.Work.queue c.advance-advance.new.self),
       ),
@@ -67,7 +79,8 @@ invariant_of-self g c =
     record {
       stands = subst (Stands g.row.OFFSET_BITS _ _ _) (sym c.requires.unit)
           (subst (λ (x : Records). Stands g.row.OFFSET_BITS (g.W.Work.knows c.reclaim-left.new.self) x (entries_of g.row.OFFSET_BITS c.free_below.new.self) false) (sym (p.records ∙ a.records ∙ r.records))
-          (stands-3 g.row.OFFSET_BITS (g.W.Work.knows s.work) (g.W.Frozen.records s.work) (entries_of g.row.OFFSET_BITS s.entries) st c.requires.tagged (g.W.Work.knows c.retire_finished.new.work) r.knows (entries_of g.row.OFFSET_BITS c.retire_finished.new.entries) r.retired r.good
+          (stands-3 g.row.OFFSET_BITS (g.W.Work.knows s.work) (g.W.Frozen.records s.work) (entries_of g.row.OFFSET_BITS s.entries) st c.requires.tagged (g.W.Work.knows c.retire_finished.new.work) r.knows
+          (entries_of g.row.OFFSET_BITS c.retire_finished.new.entries) r.retired r.good
           c.advance-advance.result (g.W.Work.knows c.advance-advance.new.self) a.holds a.commits a.knows (entries_of g.row.OFFSET_BITS c.follow.new.entries) f.advanced f.good
           (g.W.Work.knows c.reclaim-left.new.self) c.reclaim-left.result p.holds p.commits p.knows (g.met.W.Work.queue c.retire_finished.new.work) (g.met.W.Work.queue c.advance-advance.new.self)
           a.alone p.alone (entries_of g.row.OFFSET_BITS c.free_below.new.self) c.free_below.ensures.frees c.free_below.ensures.good (g.met.W.Work.order c.reclaim-left.new.self)));
@@ -86,10 +99,12 @@ returns-clause-ends g c =
     (ledger_of g.row.OFFSET_BITS (g.W.Work.knows c.reclaim-left.new.self) (g.W.Frozen.shape c.reclaim-left.new.self) (g.W.Frozen.records c.reclaim-left.new.self) (entries_of g.row.OFFSET_BITS c.free_below.new.self) u)
     (record { commit = c.args.commit; advance = c.advance-advance.result; oldest = c.reclaim-left.result }))
     (sym c.requires.unit)
-    (ends g.row.OFFSET_BITS (g.W.Work.knows s.work) (g.W.Frozen.records s.work) (entries_of g.row.OFFSET_BITS s.entries) st c.requires.tagged (g.W.Work.knows c.retire_finished.new.work) r.knows (entries_of g.row.OFFSET_BITS c.retire_finished.new.entries) r.retired r.good
+    (ends g.row.OFFSET_BITS (g.W.Work.knows s.work) (g.W.Frozen.records s.work) (entries_of g.row.OFFSET_BITS s.entries) st c.requires.tagged (g.W.Work.knows c.retire_finished.new.work) r.knows
+    (entries_of g.row.OFFSET_BITS c.retire_finished.new.entries) r.retired r.good
     c.advance-advance.result (g.W.Work.knows c.advance-advance.new.self) a.holds a.commits a.knows (entries_of g.row.OFFSET_BITS c.follow.new.entries) f.advanced f.good
     (g.W.Work.knows c.reclaim-left.new.self) c.reclaim-left.result p.holds p.commits p.knows (g.met.W.Work.queue c.retire_finished.new.work) (g.met.W.Work.queue c.advance-advance.new.self)
-    a.alone p.alone (entries_of g.row.OFFSET_BITS c.free_below.new.self) c.free_below.ensures.frees c.free_below.ensures.good (g.met.W.Work.order c.reclaim-left.new.self) (g.W.Frozen.shape s.work) (g.W.Frozen.shape c.reclaim-left.new.self) c.args.commit (g.W.Frozen.records c.reclaim-left.new.self) (p.shape ∙ a.shape ∙ r.shape) (p.records ∙ a.records ∙ r.records))
+    a.alone p.alone (entries_of g.row.OFFSET_BITS c.free_below.new.self) c.free_below.ensures.frees c.free_below.ensures.good (g.met.W.Work.order c.reclaim-left.new.self) (g.W.Frozen.shape s.work)
+    (g.W.Frozen.shape c.reclaim-left.new.self) c.args.commit (g.W.Frozen.records c.reclaim-left.new.self) (p.shape ∙ a.shape ∙ r.shape) (p.records ∙ a.records ∙ r.records))
 
 pub returns-clause-records : goal.returns-clause-records
 returns-clause-records g c =
@@ -99,10 +114,12 @@ returns-clause-records g c =
     let f = c.follow.ensures in
     let p = c.reclaim-left.ensures in
     let st = subst (Stands g.row.OFFSET_BITS _ _ _) c.requires.unit s.stands in
-    records-3 g.row.OFFSET_BITS (g.W.Work.knows s.work) (g.W.Frozen.records s.work) (entries_of g.row.OFFSET_BITS s.entries) st c.requires.tagged (g.W.Work.knows c.retire_finished.new.work) r.knows (entries_of g.row.OFFSET_BITS c.retire_finished.new.entries) r.retired r.good
+    records-3 g.row.OFFSET_BITS (g.W.Work.knows s.work) (g.W.Frozen.records s.work) (entries_of g.row.OFFSET_BITS s.entries) st c.requires.tagged (g.W.Work.knows c.retire_finished.new.work) r.knows
+    (entries_of g.row.OFFSET_BITS c.retire_finished.new.entries) r.retired r.good
     c.advance-advance.result (g.W.Work.knows c.advance-advance.new.self) a.holds a.commits a.knows (entries_of g.row.OFFSET_BITS c.follow.new.entries) f.advanced f.good
     (g.W.Work.knows c.reclaim-left.new.self) c.reclaim-left.result p.holds p.commits p.knows (g.met.W.Work.queue c.retire_finished.new.work) (g.met.W.Work.queue c.advance-advance.new.self)
-    a.alone p.alone (entries_of g.row.OFFSET_BITS c.free_below.new.self) c.free_below.ensures.frees c.free_below.ensures.good (g.met.W.Work.order c.reclaim-left.new.self) (g.W.Frozen.records c.reclaim-left.new.self) (p.records ∙ a.records ∙ r.records) c.requires.records c.requires.apart
+    a.alone p.alone (entries_of g.row.OFFSET_BITS c.free_below.new.self) c.free_below.ensures.frees c.free_below.ensures.good (g.met.W.Work.order c.reclaim-left.new.self) (g.W.Frozen.records c.reclaim-left.new.self)
+    (p.records ∙ a.records ∙ r.records) c.requires.records c.requires.apart
 
 pub returns-clause-number : goal.returns-clause-number
 returns-clause-number g c = refl

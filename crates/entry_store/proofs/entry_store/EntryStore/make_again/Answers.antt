@@ -23,9 +23,17 @@ returns-in-None-clause-makes g c =
     let s = c.args.self.now in
     let t = c.make_spare.new.self in
     let v = c.make_opened.new.self in
-    again-makes g.row.OFFSET_BITS (ledger_of g.row.OFFSET_BITS (g.W.Work.knows s.work) (g.W.Frozen.shape s.work) (g.W.Frozen.records s.work) (entries_of g.row.OFFSET_BITS s.entries) s.unit) (ledger_of g.row.OFFSET_BITS (g.W.Work.knows t.work) (g.W.Frozen.shape t.work) (g.W.Frozen.records t.work) (entries_of g.row.OFFSET_BITS t.entries) t.unit) (ledger_of g.row.OFFSET_BITS (g.W.Work.knows v.work) (g.W.Frozen.shape v.work) (g.W.Frozen.records v.work) (entries_of g.row.OFFSET_BITS v.entries) v.unit) (records_by_status (statuses (g.W.Work.knows s.work).commits (entries_of g.row.OFFSET_BITS s.entries)) (g.W.Frozen.records s.work)) (records_by_status (statuses (g.W.Work.knows t.work).commits (entries_of g.row.OFFSET_BITS t.entries)) (g.W.Frozen.records t.work)) (records_by_status (statuses (g.W.Work.knows v.work).commits (entries_of g.row.OFFSET_BITS v.entries)) (g.W.Frozen.records v.work)) c.args.width c.args.words.now
-    (subst (λ x. GivesBack (ledger_of g.row.OFFSET_BITS (g.W.Work.knows s.work) (g.W.Frozen.shape s.work) (g.W.Frozen.records s.work) (entries_of g.row.OFFSET_BITS s.entries) s.unit) (ledger_of g.row.OFFSET_BITS (g.W.Work.knows x.work) (g.W.Frozen.shape x.work) (g.W.Frozen.records x.work) (entries_of g.row.OFFSET_BITS x.entries) x.unit)) (sym c.in-None.ensures.left) c.reclaim-oldest.ensures.gives)
-    (subst (λ x. ((ledger_of g.row.OFFSET_BITS (g.W.Work.knows x.work) (g.W.Frozen.shape x.work) (g.W.Frozen.records x.work) (entries_of g.row.OFFSET_BITS x.entries) x.unit).of_width c.args.width).spare ≡ 0) (sym c.in-None.ensures.left) c.in-None.ensures.none)
+    again-makes g.row.OFFSET_BITS (ledger_of g.row.OFFSET_BITS (g.W.Work.knows s.work) (g.W.Frozen.shape s.work) (g.W.Frozen.records s.work) (entries_of g.row.OFFSET_BITS s.entries) s.unit)
+    (ledger_of g.row.OFFSET_BITS (g.W.Work.knows t.work) (g.W.Frozen.shape t.work) (g.W.Frozen.records t.work) (entries_of g.row.OFFSET_BITS t.entries) t.unit)
+    (ledger_of g.row.OFFSET_BITS (g.W.Work.knows v.work) (g.W.Frozen.shape v.work) (g.W.Frozen.records v.work) (entries_of g.row.OFFSET_BITS v.entries) v.unit)
+    (records_by_status (statuses (g.W.Work.knows s.work).commits (entries_of g.row.OFFSET_BITS s.entries)) (g.W.Frozen.records s.work))
+    (records_by_status (statuses (g.W.Work.knows t.work).commits (entries_of g.row.OFFSET_BITS t.entries)) (g.W.Frozen.records t.work))
+    (records_by_status (statuses (g.W.Work.knows v.work).commits (entries_of g.row.OFFSET_BITS v.entries)) (g.W.Frozen.records v.work)) c.args.width c.args.words.now
+    (subst (λ x. GivesBack (ledger_of g.row.OFFSET_BITS (g.W.Work.knows s.work) (g.W.Frozen.shape s.work) (g.W.Frozen.records s.work) (entries_of g.row.OFFSET_BITS s.entries) s.unit)
+    (ledger_of g.row.OFFSET_BITS (g.W.Work.knows x.work) (g.W.Frozen.shape x.work) (g.W.Frozen.records x.work) (entries_of g.row.OFFSET_BITS x.entries) x.unit))
+    (sym c.in-None.ensures.left) c.reclaim-oldest.ensures.gives)
+    (subst (λ x. ((ledger_of g.row.OFFSET_BITS (g.W.Work.knows x.work) (g.W.Frozen.shape x.work) (g.W.Frozen.records x.work) (entries_of g.row.OFFSET_BITS x.entries) x.unit).of_width c.args.width).spare ≡ 0)
+    (sym c.in-None.ensures.left) c.in-None.ensures.none)
     (store_spares g.row.OFFSET_BITS _ _ _ t.unit t.stands (g.W.Frozen.shape t.work) c.args.width)
     (ap (λ x. (records_by_status (statuses (g.W.Work.knows x.work).commits (entries_of g.row.OFFSET_BITS x.entries)) (g.W.Frozen.records x.work))) c.in-None.ensures.left ∙ c.reclaim-oldest.ensures.records)
     c.make_opened.result c.make_opened.ensures.makes
@@ -35,9 +43,17 @@ returns-in-None-clause-refused g c =
     let s = c.args.self.now in
     let t = c.make_spare.new.self in
     let v = c.make_opened.new.self in
-    again-refused g.row.OFFSET_BITS (ledger_of g.row.OFFSET_BITS (g.W.Work.knows s.work) (g.W.Frozen.shape s.work) (g.W.Frozen.records s.work) (entries_of g.row.OFFSET_BITS s.entries) s.unit) (ledger_of g.row.OFFSET_BITS (g.W.Work.knows t.work) (g.W.Frozen.shape t.work) (g.W.Frozen.records t.work) (entries_of g.row.OFFSET_BITS t.entries) t.unit) (ledger_of g.row.OFFSET_BITS (g.W.Work.knows v.work) (g.W.Frozen.shape v.work) (g.W.Frozen.records v.work) (entries_of g.row.OFFSET_BITS v.entries) v.unit) (records_by_status (statuses (g.W.Work.knows s.work).commits (entries_of g.row.OFFSET_BITS s.entries)) (g.W.Frozen.records s.work)) (records_by_status (statuses (g.W.Work.knows t.work).commits (entries_of g.row.OFFSET_BITS t.entries)) (g.W.Frozen.records t.work)) (records_by_status (statuses (g.W.Work.knows v.work).commits (entries_of g.row.OFFSET_BITS v.entries)) (g.W.Frozen.records v.work)) c.args.width c.args.words.now
-    (subst (λ x. GivesBack (ledger_of g.row.OFFSET_BITS (g.W.Work.knows s.work) (g.W.Frozen.shape s.work) (g.W.Frozen.records s.work) (entries_of g.row.OFFSET_BITS s.entries) s.unit) (ledger_of g.row.OFFSET_BITS (g.W.Work.knows x.work) (g.W.Frozen.shape x.work) (g.W.Frozen.records x.work) (entries_of g.row.OFFSET_BITS x.entries) x.unit)) (sym c.in-None.ensures.left) c.reclaim-oldest.ensures.gives)
-    (subst (λ x. ((ledger_of g.row.OFFSET_BITS (g.W.Work.knows x.work) (g.W.Frozen.shape x.work) (g.W.Frozen.records x.work) (entries_of g.row.OFFSET_BITS x.entries) x.unit).of_width c.args.width).spare ≡ 0) (sym c.in-None.ensures.left) c.in-None.ensures.none)
+    again-refused g.row.OFFSET_BITS (ledger_of g.row.OFFSET_BITS (g.W.Work.knows s.work) (g.W.Frozen.shape s.work) (g.W.Frozen.records s.work) (entries_of g.row.OFFSET_BITS s.entries) s.unit)
+    (ledger_of g.row.OFFSET_BITS (g.W.Work.knows t.work) (g.W.Frozen.shape t.work) (g.W.Frozen.records t.work) (entries_of g.row.OFFSET_BITS t.entries) t.unit)
+    (ledger_of g.row.OFFSET_BITS (g.W.Work.knows v.work) (g.W.Frozen.shape v.work) (g.W.Frozen.records v.work) (entries_of g.row.OFFSET_BITS v.entries) v.unit)
+    (records_by_status (statuses (g.W.Work.knows s.work).commits (entries_of g.row.OFFSET_BITS s.entries)) (g.W.Frozen.records s.work))
+    (records_by_status (statuses (g.W.Work.knows t.work).commits (entries_of g.row.OFFSET_BITS t.entries)) (g.W.Frozen.records t.work))
+    (records_by_status (statuses (g.W.Work.knows v.work).commits (entries_of g.row.OFFSET_BITS v.entries)) (g.W.Frozen.records v.work)) c.args.width c.args.words.now
+    (subst (λ x. GivesBack (ledger_of g.row.OFFSET_BITS (g.W.Work.knows s.work) (g.W.Frozen.shape s.work) (g.W.Frozen.records s.work) (entries_of g.row.OFFSET_BITS s.entries) s.unit)
+    (ledger_of g.row.OFFSET_BITS (g.W.Work.knows x.work) (g.W.Frozen.shape x.work) (g.W.Frozen.records x.work) (entries_of g.row.OFFSET_BITS x.entries) x.unit))
+    (sym c.in-None.ensures.left) c.reclaim-oldest.ensures.gives)
+    (subst (λ x. ((ledger_of g.row.OFFSET_BITS (g.W.Work.knows x.work) (g.W.Frozen.shape x.work) (g.W.Frozen.records x.work) (entries_of g.row.OFFSET_BITS x.entries) x.unit).of_width c.args.width).spare ≡ 0)
+    (sym c.in-None.ensures.left) c.in-None.ensures.none)
     (store_spares g.row.OFFSET_BITS _ _ _ t.unit t.stands (g.W.Frozen.shape t.work) c.args.width)
     (ap (λ x. (records_by_status (statuses (g.W.Work.knows x.work).commits (entries_of g.row.OFFSET_BITS x.entries)) (g.W.Frozen.records x.work))) c.in-None.ensures.left ∙ c.reclaim-oldest.ensures.records)
     c.make_opened.result c.make_opened.ensures.refused
@@ -47,9 +63,17 @@ returns-in-None-clause-left g c =
     let s = c.args.self.now in
     let t = c.make_spare.new.self in
     let v = c.make_opened.new.self in
-    again-left g.row.OFFSET_BITS (ledger_of g.row.OFFSET_BITS (g.W.Work.knows s.work) (g.W.Frozen.shape s.work) (g.W.Frozen.records s.work) (entries_of g.row.OFFSET_BITS s.entries) s.unit) (ledger_of g.row.OFFSET_BITS (g.W.Work.knows t.work) (g.W.Frozen.shape t.work) (g.W.Frozen.records t.work) (entries_of g.row.OFFSET_BITS t.entries) t.unit) (ledger_of g.row.OFFSET_BITS (g.W.Work.knows v.work) (g.W.Frozen.shape v.work) (g.W.Frozen.records v.work) (entries_of g.row.OFFSET_BITS v.entries) v.unit) (records_by_status (statuses (g.W.Work.knows s.work).commits (entries_of g.row.OFFSET_BITS s.entries)) (g.W.Frozen.records s.work)) (records_by_status (statuses (g.W.Work.knows t.work).commits (entries_of g.row.OFFSET_BITS t.entries)) (g.W.Frozen.records t.work)) (records_by_status (statuses (g.W.Work.knows v.work).commits (entries_of g.row.OFFSET_BITS v.entries)) (g.W.Frozen.records v.work)) c.args.width c.args.words.now
-    (subst (λ x. GivesBack (ledger_of g.row.OFFSET_BITS (g.W.Work.knows s.work) (g.W.Frozen.shape s.work) (g.W.Frozen.records s.work) (entries_of g.row.OFFSET_BITS s.entries) s.unit) (ledger_of g.row.OFFSET_BITS (g.W.Work.knows x.work) (g.W.Frozen.shape x.work) (g.W.Frozen.records x.work) (entries_of g.row.OFFSET_BITS x.entries) x.unit)) (sym c.in-None.ensures.left) c.reclaim-oldest.ensures.gives)
-    (subst (λ x. ((ledger_of g.row.OFFSET_BITS (g.W.Work.knows x.work) (g.W.Frozen.shape x.work) (g.W.Frozen.records x.work) (entries_of g.row.OFFSET_BITS x.entries) x.unit).of_width c.args.width).spare ≡ 0) (sym c.in-None.ensures.left) c.in-None.ensures.none)
+    again-left g.row.OFFSET_BITS (ledger_of g.row.OFFSET_BITS (g.W.Work.knows s.work) (g.W.Frozen.shape s.work) (g.W.Frozen.records s.work) (entries_of g.row.OFFSET_BITS s.entries) s.unit)
+    (ledger_of g.row.OFFSET_BITS (g.W.Work.knows t.work) (g.W.Frozen.shape t.work) (g.W.Frozen.records t.work) (entries_of g.row.OFFSET_BITS t.entries) t.unit)
+    (ledger_of g.row.OFFSET_BITS (g.W.Work.knows v.work) (g.W.Frozen.shape v.work) (g.W.Frozen.records v.work) (entries_of g.row.OFFSET_BITS v.entries) v.unit)
+    (records_by_status (statuses (g.W.Work.knows s.work).commits (entries_of g.row.OFFSET_BITS s.entries)) (g.W.Frozen.records s.work))
+    (records_by_status (statuses (g.W.Work.knows t.work).commits (entries_of g.row.OFFSET_BITS t.entries)) (g.W.Frozen.records t.work))
+    (records_by_status (statuses (g.W.Work.knows v.work).commits (entries_of g.row.OFFSET_BITS v.entries)) (g.W.Frozen.records v.work)) c.args.width c.args.words.now
+    (subst (λ x. GivesBack (ledger_of g.row.OFFSET_BITS (g.W.Work.knows s.work) (g.W.Frozen.shape s.work) (g.W.Frozen.records s.work) (entries_of g.row.OFFSET_BITS s.entries) s.unit)
+    (ledger_of g.row.OFFSET_BITS (g.W.Work.knows x.work) (g.W.Frozen.shape x.work) (g.W.Frozen.records x.work) (entries_of g.row.OFFSET_BITS x.entries) x.unit))
+    (sym c.in-None.ensures.left) c.reclaim-oldest.ensures.gives)
+    (subst (λ x. ((ledger_of g.row.OFFSET_BITS (g.W.Work.knows x.work) (g.W.Frozen.shape x.work) (g.W.Frozen.records x.work) (entries_of g.row.OFFSET_BITS x.entries) x.unit).of_width c.args.width).spare ≡ 0)
+    (sym c.in-None.ensures.left) c.in-None.ensures.none)
     (store_spares g.row.OFFSET_BITS _ _ _ t.unit t.stands (g.W.Frozen.shape t.work) c.args.width)
     (ap (λ x. (records_by_status (statuses (g.W.Work.knows x.work).commits (entries_of g.row.OFFSET_BITS x.entries)) (g.W.Frozen.records x.work))) c.in-None.ensures.left ∙ c.reclaim-oldest.ensures.records)
     c.make_opened.result c.make_opened.ensures.left
@@ -59,18 +83,44 @@ returns-in-None-clause-refuses g c =
     let s = c.args.self.now in
     let t = c.make_spare.new.self in
     let v = c.make_opened.new.self in
-    again-refuses g.row.OFFSET_BITS (ledger_of g.row.OFFSET_BITS (g.W.Work.knows s.work) (g.W.Frozen.shape s.work) (g.W.Frozen.records s.work) (entries_of g.row.OFFSET_BITS s.entries) s.unit) (ledger_of g.row.OFFSET_BITS (g.W.Work.knows t.work) (g.W.Frozen.shape t.work) (g.W.Frozen.records t.work) (entries_of g.row.OFFSET_BITS t.entries) t.unit) (ledger_of g.row.OFFSET_BITS (g.W.Work.knows v.work) (g.W.Frozen.shape v.work) (g.W.Frozen.records v.work) (entries_of g.row.OFFSET_BITS v.entries) v.unit) (records_by_status (statuses (g.W.Work.knows s.work).commits (entries_of g.row.OFFSET_BITS s.entries)) (g.W.Frozen.records s.work)) (records_by_status (statuses (g.W.Work.knows t.work).commits (entries_of g.row.OFFSET_BITS t.entries)) (g.W.Frozen.records t.work)) (records_by_status (statuses (g.W.Work.knows v.work).commits (entries_of g.row.OFFSET_BITS v.entries)) (g.W.Frozen.records v.work)) c.args.width c.args.words.now
-    (subst (λ x. GivesBack (ledger_of g.row.OFFSET_BITS (g.W.Work.knows s.work) (g.W.Frozen.shape s.work) (g.W.Frozen.records s.work) (entries_of g.row.OFFSET_BITS s.entries) s.unit) (ledger_of g.row.OFFSET_BITS (g.W.Work.knows x.work) (g.W.Frozen.shape x.work) (g.W.Frozen.records x.work) (entries_of g.row.OFFSET_BITS x.entries) x.unit)) (sym c.in-None.ensures.left) c.reclaim-oldest.ensures.gives)
-    (subst (λ x. ((ledger_of g.row.OFFSET_BITS (g.W.Work.knows x.work) (g.W.Frozen.shape x.work) (g.W.Frozen.records x.work) (entries_of g.row.OFFSET_BITS x.entries) x.unit).of_width c.args.width).spare ≡ 0) (sym c.in-None.ensures.left) c.in-None.ensures.none)
+    again-refuses g.row.OFFSET_BITS (ledger_of g.row.OFFSET_BITS (g.W.Work.knows s.work) (g.W.Frozen.shape s.work) (g.W.Frozen.records s.work) (entries_of g.row.OFFSET_BITS s.entries) s.unit)
+    (ledger_of g.row.OFFSET_BITS (g.W.Work.knows t.work) (g.W.Frozen.shape t.work) (g.W.Frozen.records t.work) (entries_of g.row.OFFSET_BITS t.entries) t.unit)
+    (ledger_of g.row.OFFSET_BITS (g.W.Work.knows v.work) (g.W.Frozen.shape v.work) (g.W.Frozen.records v.work) (entries_of g.row.OFFSET_BITS v.entries) v.unit)
+    (records_by_status (statuses (g.W.Work.knows s.work).commits (entries_of g.row.OFFSET_BITS s.entries)) (g.W.Frozen.records s.work))
+    (records_by_status (statuses (g.W.Work.knows t.work).commits (entries_of g.row.OFFSET_BITS t.entries)) (g.W.Frozen.records t.work))
+    (records_by_status (statuses (g.W.Work.knows v.work).commits (entries_of g.row.OFFSET_BITS v.entries)) (g.W.Frozen.records v.work)) c.args.width c.args.words.now
+    (subst (λ x. GivesBack (ledger_of g.row.OFFSET_BITS (g.W.Work.knows s.work) (g.W.Frozen.shape s.work) (g.W.Frozen.records s.work) (entries_of g.row.OFFSET_BITS s.entries) s.unit)
+    (ledger_of g.row.OFFSET_BITS (g.W.Work.knows x.work) (g.W.Frozen.shape x.work) (g.W.Frozen.records x.work) (entries_of g.row.OFFSET_BITS x.entries) x.unit))
+    (sym c.in-None.ensures.left) c.reclaim-oldest.ensures.gives)
+    (subst (λ x. ((ledger_of g.row.OFFSET_BITS (g.W.Work.knows x.work) (g.W.Frozen.shape x.work) (g.W.Frozen.records x.work) (entries_of g.row.OFFSET_BITS x.entries) x.unit).of_width c.args.width).spare ≡ 0)
+    (sym c.in-None.ensures.left) c.in-None.ensures.none)
     (store_spares g.row.OFFSET_BITS _ _ _ t.unit t.stands (g.W.Frozen.shape t.work) c.args.width)
     (ap (λ x. (records_by_status (statuses (g.W.Work.knows x.work).commits (entries_of g.row.OFFSET_BITS x.entries)) (g.W.Frozen.records x.work))) c.in-None.ensures.left ∙ c.reclaim-oldest.ensures.records)
-    c.reclaim-oldest.result (subst (λ x. TellsOldest (g.W.Work.knows s.work) (g.W.Work.knows x.work) c.reclaim-oldest.result) (sym c.in-None.ensures.left) c.reclaim-oldest.ensures.tells) t.stands.unread c.make_opened.result c.make_opened.ensures.refused c.make_opened.ensures.full
+    c.reclaim-oldest.result (subst (λ x. TellsOldest (g.W.Work.knows s.work) (g.W.Work.knows x.work) c.reclaim-oldest.result) (sym c.in-None.ensures.left) c.reclaim-oldest.ensures.tells) t.stands.unread
+    c.make_opened.result c.make_opened.ensures.refused c.make_opened.ensures.full
 
 pub returns-in-None-clause-may : goal.returns-in-None-clause-may
 returns-in-None-clause-may g c =
     let s = c.args.self.now in
-    may_do-then _ _ _ (back-may _ _ (subst (λ x. GivesBack (ledger_of g.row.OFFSET_BITS (g.W.Work.knows s.work) (g.W.Frozen.shape s.work) (g.W.Frozen.records s.work) (entries_of g.row.OFFSET_BITS s.entries) s.unit) (ledger_of g.row.OFFSET_BITS (g.W.Work.knows x.work) (g.W.Frozen.shape x.work) (g.W.Frozen.records x.work) (entries_of g.row.OFFSET_BITS x.entries) x.unit)) (sym c.in-None.ensures.left) c.reclaim-oldest.ensures.gives)) c.make_opened.ensures.may
+    may_do-then _ _ _ (back-may _ _ (subst (λ x. GivesBack (ledger_of g.row.OFFSET_BITS (g.W.Work.knows s.work) (g.W.Frozen.shape s.work) (g.W.Frozen.records s.work) (entries_of g.row.OFFSET_BITS s.entries) s.unit)
+    (ledger_of g.row.OFFSET_BITS (g.W.Work.knows x.work) (g.W.Frozen.shape x.work) (g.W.Frozen.records x.work) (entries_of g.row.OFFSET_BITS x.entries) x.unit))
+    (sym c.in-None.ensures.left) c.reclaim-oldest.ensures.gives)) c.make_opened.ensures.may
 
 pub make_opened-requires : goal.make_opened-requires
-make_opened-requires g c =
-    (omega arith, (omega arith, (search rules, (c.requires.width, (c.requires.fits, subst (λ x. ((ledger_of g.row.OFFSET_BITS (g.W.Work.knows x.work) (g.W.Frozen.shape x.work) (g.W.Frozen.records x.work) (entries_of g.row.OFFSET_BITS x.entries) x.unit).of_width c.args.width).spare ≡ 0) (sym c.in-None.ensures.left) c.in-None.ensures.none)))))
+make_opened-requires g c = (
+  omega arith,
+  (
+    omega arith,
+    (
+      search rules,
+      (
+        c.requires.width,
+        (
+          c.requires.fits,
+          subst (λ x. ((ledger_of g.row.OFFSET_BITS (g.W.Work.knows x.work) (g.W.Frozen.shape x.work) (g.W.Frozen.records x.work) (entries_of g.row.OFFSET_BITS x.entries) x.unit).of_width c.args.width).spare ≡ 0)
+              (sym c.in-None.ensures.left) c.in-None.ensures.none,
+        ),
+      ),
+    ),
+  ),
+)

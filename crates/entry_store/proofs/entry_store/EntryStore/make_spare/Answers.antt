@@ -9,7 +9,10 @@ pub invariant_of-self : goal.invariant_of-self
 invariant_of-self g c =
     let s = c.args.self.now in
     let e = c.in-Some.ensures in
-    record { stands = stands-put g.row.OFFSET_BITS _ (g.W.Frozen.shape s.work) _ _ s.unit s.stands c.args.width c.in-Some.entry c.args.words.now e.«open» _ _ _ _ c.put.ensures.knows c.put.ensures.shape c.put.ensures.records e.made c.requires.fits c.requires.unit c.take.ensures.good }
+    record {
+      stands = stands-put g.row.OFFSET_BITS _ (g.W.Frozen.shape s.work) _ _ s.unit s.stands c.args.width c.in-Some.entry c.args.words.now e.«open» _ _ _ _ c.put.ensures.knows c.put.ensures.shape
+          c.put.ensures.records e.made c.requires.fits c.requires.unit c.take.ensures.good;
+    }
 
 pub returns-in-Some-clause-some : goal.returns-in-Some-clause-some
 returns-in-Some-clause-some g c = some-not c.in-Some.entry _ c.in-Some.ensures.none
@@ -18,7 +21,8 @@ pub returns-in-Some-clause-takes : goal.returns-in-Some-clause-takes
 returns-in-Some-clause-takes g c =
     let s = c.args.self.now in
     let e = c.in-Some.ensures in
-    takes-put g.row.OFFSET_BITS _ (g.W.Frozen.shape s.work) _ _ s.unit s.stands c.args.width c.in-Some.entry c.args.words.now e.«open» _ _ _ _ c.put.ensures.knows c.put.ensures.shape c.put.ensures.records e.made (some-not c.in-Some.entry _ e.none)
+    takes-put g.row.OFFSET_BITS _ (g.W.Frozen.shape s.work) _ _ s.unit s.stands c.args.width c.in-Some.entry c.args.words.now e.«open» _ _ _ _ c.put.ensures.knows c.put.ensures.shape c.put.ensures.records e.made
+    (some-not c.in-Some.entry _ e.none)
 
 pub put-requires : goal.put-requires
 put-requires g c =

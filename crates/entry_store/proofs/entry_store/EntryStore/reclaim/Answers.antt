@@ -24,8 +24,10 @@ invariant_of-self g c =
     let v = g.W.Work.knows c.reclaim-oldest.new.self in
     record {
       stands = subst (λ (x : Records). Stands g.row.OFFSET_BITS v x (entries_of g.row.OFFSET_BITS c.free_below.new.self) s.unit) (sym p.records)
-          (stands-reclaimed g.row.OFFSET_BITS _ _ _ s.unit (over-from _ _ _ _ _ s.stands) v (entries_of g.row.OFFSET_BITS c.free_below.new.self) c.reclaim-oldest.result p.holds p.commits p.knows c.free_below.ensures.frees
-          (g.met.W.Work.order c.reclaim-oldest.new.self) (reclaimed-low g.row.OFFSET_BITS _ _ _ s.unit (over-from _ _ _ _ _ s.stands) _ c.reclaim-oldest.result (g.met.W.Work.queue s.work) p.holds) c.free_below.ensures.good
+          (stands-reclaimed g.row.OFFSET_BITS _ _ _ s.unit (over-from _ _ _ _ _ s.stands) v
+          (entries_of g.row.OFFSET_BITS c.free_below.new.self) c.reclaim-oldest.result p.holds p.commits p.knows c.free_below.ensures.frees
+          (g.met.W.Work.order c.reclaim-oldest.new.self) (reclaimed-low g.row.OFFSET_BITS _ _ _ s.unit (over-from _ _ _ _ _ s.stands) _ c.reclaim-oldest.result (g.met.W.Work.queue s.work) p.holds)
+          c.free_below.ensures.good
           (unread-reclaimed g.row.OFFSET_BITS _ _ _ _ s.stands v c.reclaim-oldest.result p.holds p.knows));
     }
 
@@ -33,7 +35,8 @@ pub returns-clause-tells : goal.returns-clause-tells
 returns-clause-tells g c =
     let s = c.args.self.now in
     let p = c.reclaim-oldest.ensures in
-    tells-oldest g.row.OFFSET_BITS _ (g.W.Frozen.shape s.work) _ _ s.unit (over-from _ _ _ _ _ s.stands) (g.W.Work.knows c.reclaim-oldest.new.self) (entries_of g.row.OFFSET_BITS c.free_below.new.self) c.reclaim-oldest.result p.holds p.commits p.knows p.alone c.free_below.ensures.frees
+    tells-oldest g.row.OFFSET_BITS _ (g.W.Frozen.shape s.work) _ _ s.unit (over-from _ _ _ _ _ s.stands) (g.W.Work.knows c.reclaim-oldest.new.self)
+    (entries_of g.row.OFFSET_BITS c.free_below.new.self) c.reclaim-oldest.result p.holds p.commits p.knows p.alone c.free_below.ensures.frees
     (g.met.W.Work.order c.reclaim-oldest.new.self) (reclaimed-low g.row.OFFSET_BITS _ _ _ s.unit (over-from _ _ _ _ _ s.stands) _ c.reclaim-oldest.result (g.met.W.Work.queue s.work) p.holds)
 
 pub returns-clause-gives : goal.returns-clause-gives
@@ -43,7 +46,8 @@ returns-clause-gives g c =
     along
     (λ i x. GivesBack (ledger_of g.row.OFFSET_BITS (g.W.Work.knows s.work) (g.W.Frozen.shape s.work) (g.W.Frozen.records s.work) (entries_of g.row.OFFSET_BITS s.entries) s.unit)
     (ledger_of g.row.OFFSET_BITS (g.W.Work.knows c.reclaim-oldest.new.self) i x (entries_of g.row.OFFSET_BITS c.free_below.new.self) s.unit)) p.shape p.records
-    (gives-back g.row.OFFSET_BITS _ (g.W.Frozen.shape s.work) _ _ s.unit (over-from _ _ _ _ _ s.stands) (g.W.Work.knows c.reclaim-oldest.new.self) (entries_of g.row.OFFSET_BITS c.free_below.new.self) c.reclaim-oldest.result p.holds p.commits p.knows p.alone c.free_below.ensures.frees
+    (gives-back g.row.OFFSET_BITS _ (g.W.Frozen.shape s.work) _ _ s.unit (over-from _ _ _ _ _ s.stands) (g.W.Work.knows c.reclaim-oldest.new.self)
+    (entries_of g.row.OFFSET_BITS c.free_below.new.self) c.reclaim-oldest.result p.holds p.commits p.knows p.alone c.free_below.ensures.frees
     (g.met.W.Work.order c.reclaim-oldest.new.self) (reclaimed-low g.row.OFFSET_BITS _ _ _ s.unit (over-from _ _ _ _ _ s.stands) _ c.reclaim-oldest.result (g.met.W.Work.queue s.work) p.holds))
 
 pub returns-clause-records : goal.returns-clause-records
@@ -51,5 +55,6 @@ returns-clause-records g c =
     let s = c.args.self.now in
     let p = c.reclaim-oldest.ensures in
     ap (λ (x : Records). records_by_status (statuses (g.W.Work.knows c.reclaim-oldest.new.self).commits (entries_of g.row.OFFSET_BITS c.free_below.new.self)) x) p.records
-    ∙ records-freed g.row.OFFSET_BITS _ (g.W.Frozen.shape s.work) _ _ s.unit (over-from _ _ _ _ _ s.stands) (g.W.Work.knows c.reclaim-oldest.new.self) (entries_of g.row.OFFSET_BITS c.free_below.new.self) c.reclaim-oldest.result p.holds p.commits p.knows p.alone c.free_below.ensures.frees
+    ∙ records-freed g.row.OFFSET_BITS _ (g.W.Frozen.shape s.work) _ _ s.unit (over-from _ _ _ _ _ s.stands) (g.W.Work.knows c.reclaim-oldest.new.self)
+    (entries_of g.row.OFFSET_BITS c.free_below.new.self) c.reclaim-oldest.result p.holds p.commits p.knows p.alone c.free_below.ensures.frees
     (g.met.W.Work.order c.reclaim-oldest.new.self) (reclaimed-low g.row.OFFSET_BITS _ _ _ s.unit (over-from _ _ _ _ _ s.stands) _ c.reclaim-oldest.result (g.met.W.Work.queue s.work) p.holds)

@@ -63,7 +63,8 @@ loop-offset-preserved g c =
     let s = c.args.self.now in
     let bits = g.row.OFFSET_BITS in
     record {
-      seen = λ q. reference-more bits (chosen c.args.number s.table.items s.stamps.items bits s.buffers s.words) c.args.buffer c.loop-offset.offset c.new.result (omega (arith, s.few_buffers, c.requires.inside)) c.new.ensures
+      seen = λ q. reference-more bits (chosen c.args.number s.table.items s.stamps.items bits s.buffers s.words) c.args.buffer c.loop-offset.offset c.new.result
+          (omega (arith, s.few_buffers, c.requires.inside)) c.new.ensures
           (seen c.add_entry.new.map) (seen c.loop-offset.map) c.in_ok-add_entry.ensures.here c.in_ok-add_entry.ensures.others c.loop-offset.invariant.seen q;
       first = omega arith;
     }

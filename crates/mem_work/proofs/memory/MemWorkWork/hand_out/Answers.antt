@@ -11,7 +11,8 @@ invariant_of-self-clause-unused g c =
     let e = c.hand_out.ensures in
     let some : 0 < s.cells.words = omega (arith, s.cells.some_words) in
     rw (e.stamps, e.words)
-    (hand_out-unused g.L.Layout.reaches g.L.Layout.lawful g.L.Layout.present g.L.Layout.stays s.shape s.cells.table.items s.cells.stamps.items g.row.OFFSET_BITS s.cells.buffers s.cells.words s.last s.root s.lawful s.cells.marks.items c.args.width c.requires some (sym s.cells.table.ok.0 ∙ s.cells.room) (sym s.cells.stamps.ok.0 ∙ s.cells.stamped) s.unused c.hand_out.result _ e.lowest e.handed e.refused)
+    (hand_out-unused g.L.Layout.reaches g.L.Layout.lawful g.L.Layout.present g.L.Layout.stays s.shape s.cells.table.items s.cells.stamps.items g.row.OFFSET_BITS s.cells.buffers s.cells.words s.last s.root s.lawful
+    s.cells.marks.items c.args.width c.requires some (sym s.cells.table.ok.0 ∙ s.cells.room) (sym s.cells.stamps.ok.0 ∙ s.cells.stamped) s.unused c.hand_out.result _ e.lowest e.handed e.refused)
 
 pub invariant_of-self-clause-lawful : goal.invariant_of-self-clause-lawful
 invariant_of-self-clause-lawful g c =
@@ -19,7 +20,8 @@ invariant_of-self-clause-lawful g c =
     let e = c.hand_out.ensures in
     let some : 0 < s.cells.words = omega (arith, s.cells.some_words) in
     rw (e.buffers, e.words)
-    (hand_out-lawful g.L.Layout.reaches g.L.Layout.lawful g.L.Layout.present g.L.Layout.stays s.shape s.cells.table.items s.cells.stamps.items g.row.OFFSET_BITS s.cells.buffers s.cells.words s.last s.root s.lawful s.cells.marks.items c.args.width c.requires some (sym s.cells.table.ok.0 ∙ s.cells.room) (sym s.cells.stamps.ok.0 ∙ s.cells.stamped) s.unused c.hand_out.result _ e.lowest e.handed e.refused)
+    (hand_out-lawful g.L.Layout.reaches g.L.Layout.lawful g.L.Layout.present g.L.Layout.stays s.shape s.cells.table.items s.cells.stamps.items g.row.OFFSET_BITS s.cells.buffers s.cells.words s.last s.root s.lawful
+    s.cells.marks.items c.args.width c.requires some (sym s.cells.table.ok.0 ∙ s.cells.room) (sym s.cells.stamps.ok.0 ∙ s.cells.stamped) s.unused c.hand_out.result _ e.lowest e.handed e.refused)
 
 pub returns-clause-handed : goal.returns-clause-handed
 returns-clause-handed g c =
@@ -27,7 +29,8 @@ returns-clause-handed g c =
     let e = c.hand_out.ensures in
     let some : 0 < s.cells.words = omega (arith, s.cells.some_words) in
     rw (e.stamps, e.marks, e.buffers, e.words)
-    (hand_out-view g.L.Layout.reaches g.L.Layout.lawful g.L.Layout.present g.L.Layout.stays s.shape s.cells.table.items s.cells.stamps.items g.row.OFFSET_BITS s.cells.buffers s.cells.words s.last s.root s.lawful s.cells.marks.items c.args.width c.requires some (sym s.cells.table.ok.0 ∙ s.cells.room) (sym s.cells.stamps.ok.0 ∙ s.cells.stamped) s.unused s.generation s.first c.hand_out.result _ e.lowest e.handed)
+    (hand_out-view g.L.Layout.reaches g.L.Layout.lawful g.L.Layout.present g.L.Layout.stays s.shape s.cells.table.items s.cells.stamps.items g.row.OFFSET_BITS s.cells.buffers s.cells.words s.last s.root s.lawful
+    s.cells.marks.items c.args.width c.requires some (sym s.cells.table.ok.0 ∙ s.cells.room) (sym s.cells.stamps.ok.0 ∙ s.cells.stamped) s.unused s.generation s.first c.hand_out.result _ e.lowest e.handed)
 
 pub returns-clause-records : goal.returns-clause-records
 returns-clause-records g c =
@@ -35,7 +38,8 @@ returns-clause-records g c =
     let e = c.hand_out.ensures in
     let some : 0 < s.cells.words = omega (arith, s.cells.some_words) in
     rw (e.stamps, e.buffers, e.words)
-    (hand_out-records g.L.Layout.reaches g.L.Layout.lawful g.L.Layout.present g.L.Layout.stays s.shape s.cells.table.items s.cells.stamps.items g.row.OFFSET_BITS s.cells.buffers s.cells.words s.last s.root s.lawful s.cells.marks.items c.args.width c.requires some (sym s.cells.table.ok.0 ∙ s.cells.room) (sym s.cells.stamps.ok.0 ∙ s.cells.stamped) s.unused c.hand_out.result _ e.lowest e.handed e.refused)
+    (hand_out-records g.L.Layout.reaches g.L.Layout.lawful g.L.Layout.present g.L.Layout.stays s.shape s.cells.table.items s.cells.stamps.items g.row.OFFSET_BITS s.cells.buffers s.cells.words s.last s.root s.lawful
+    s.cells.marks.items c.args.width c.requires some (sym s.cells.table.ok.0 ∙ s.cells.room) (sym s.cells.stamps.ok.0 ∙ s.cells.stamped) s.unused c.hand_out.result _ e.lowest e.handed e.refused)
 
 pub invariant_of-self-clause-marks : goal.invariant_of-self-clause-marks
 invariant_of-self-clause-marks g c =
@@ -43,4 +47,6 @@ invariant_of-self-clause-marks g c =
     let e = c.hand_out.ensures in
     let some : 0 < s.cells.words = omega (arith, s.cells.some_words) in
     rw (e.marks, e.words)
-    (hand_out-marks g.L.Layout.reaches g.L.Layout.lawful g.L.Layout.present g.L.Layout.stays s.shape s.cells.table.items s.cells.stamps.items g.row.OFFSET_BITS s.cells.buffers s.cells.words s.last s.root s.lawful s.cells.marks.items c.args.width c.requires some (sym s.cells.table.ok.0 ∙ s.cells.room) (sym s.cells.stamps.ok.0 ∙ s.cells.stamped) s.unused s.generation s.first c.hand_out.result _ e.lowest e.handed e.refused s.marks)
+    (hand_out-marks g.L.Layout.reaches g.L.Layout.lawful g.L.Layout.present g.L.Layout.stays s.shape s.cells.table.items s.cells.stamps.items g.row.OFFSET_BITS s.cells.buffers s.cells.words s.last s.root s.lawful
+    s.cells.marks.items c.args.width c.requires some (sym s.cells.table.ok.0 ∙ s.cells.room)
+    (sym s.cells.stamps.ok.0 ∙ s.cells.stamped) s.unused s.generation s.first c.hand_out.result _ e.lowest e.handed e.refused s.marks)

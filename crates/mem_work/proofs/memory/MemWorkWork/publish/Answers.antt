@@ -14,20 +14,25 @@ invariant_of-self g c =
       early = omega (arith, s.early);
       generations = s.generations;
       limit = omega (arith, c.requires.room);
-      lawful = lawful-publish g.L.Layout.reaches g.L.Layout.lawful g.L.Layout.present g.L.Layout.stays s.shape s.cells.table.items s.cells.stamps.items g.row.OFFSET_BITS s.cells.buffers s.cells.words s.last s.root s.lawful c.args.root (sym s.cells.stamps.ok.0 ∙ s.cells.stamped) s.stamped c.requires.lawful;
+      lawful = lawful-publish g.L.Layout.reaches g.L.Layout.lawful g.L.Layout.present g.L.Layout.stays s.shape s.cells.table.items s.cells.stamps.items g.row.OFFSET_BITS s.cells.buffers s.cells.words s.last s.root
+          s.lawful c.args.root (sym s.cells.stamps.ok.0 ∙ s.cells.stamped) s.stamped c.requires.lawful;
     }
 
 pub returns-clause-commit : goal.returns-clause-commit
 returns-clause-commit g c =
     let s = c.args.self.now in
-    commit-publish g.L.Layout.reaches g.L.Layout.lawful g.L.Layout.present g.L.Layout.stays s.shape s.cells.table.items s.cells.stamps.items g.row.OFFSET_BITS s.cells.buffers s.cells.words s.last s.root s.lawful c.args.root (sym s.cells.stamps.ok.0 ∙ s.cells.stamped) s.stamped c.requires.lawful
+    commit-publish g.L.Layout.reaches g.L.Layout.lawful g.L.Layout.present g.L.Layout.stays s.shape s.cells.table.items s.cells.stamps.items g.row.OFFSET_BITS s.cells.buffers s.cells.words s.last s.root s.lawful
+    c.args.root (sym s.cells.stamps.ok.0 ∙ s.cells.stamped) s.stamped c.requires.lawful
 
 pub returns-clause-knows : goal.returns-clause-knows
 returns-clause-knows g c =
     let s = c.args.self.now in
-    ap (λ v. with_marks v s.cells.marks.items s.generation s.first) (view-publish g.L.Layout.reaches g.L.Layout.lawful g.L.Layout.present g.L.Layout.stays s.shape s.cells.table.items s.cells.stamps.items g.row.OFFSET_BITS s.cells.buffers s.cells.words s.last s.root s.lawful c.args.root (sym s.cells.stamps.ok.0 ∙ s.cells.stamped) s.stamped c.requires.lawful)
+    ap (λ v. with_marks v s.cells.marks.items s.generation s.first)
+    (view-publish g.L.Layout.reaches g.L.Layout.lawful g.L.Layout.present g.L.Layout.stays s.shape s.cells.table.items s.cells.stamps.items g.row.OFFSET_BITS s.cells.buffers s.cells.words s.last s.root s.lawful
+    c.args.root (sym s.cells.stamps.ok.0 ∙ s.cells.stamped) s.stamped c.requires.lawful)
 
 pub returns-clause-records : goal.returns-clause-records
 returns-clause-records g c =
     let s = c.args.self.now in
-    λ k q. records-publish g.L.Layout.reaches g.L.Layout.lawful g.L.Layout.present g.L.Layout.stays s.shape s.cells.table.items s.cells.stamps.items g.row.OFFSET_BITS s.cells.buffers s.cells.words s.last s.root s.lawful c.args.root (sym s.cells.stamps.ok.0 ∙ s.cells.stamped) s.stamped c.requires.lawful q k
+    λ k q. records-publish g.L.Layout.reaches g.L.Layout.lawful g.L.Layout.present g.L.Layout.stays s.shape s.cells.table.items s.cells.stamps.items g.row.OFFSET_BITS s.cells.buffers s.cells.words s.last s.root s.lawful
+    c.args.root (sym s.cells.stamps.ok.0 ∙ s.cells.stamped) s.stamped c.requires.lawful q k

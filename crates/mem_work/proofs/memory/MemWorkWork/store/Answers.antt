@@ -10,21 +10,24 @@ pub invariant_of-self-clause-stamped : goal.invariant_of-self-clause-stamped
 invariant_of-self-clause-stamped g c =
     let s = c.args.self.now in
     rw (c.store.ensures.stamps, c.from.ensures)
-    (stamps-store g.L.Layout.reaches g.L.Layout.lawful g.L.Layout.present g.L.Layout.stays s.shape s.cells.table.items s.cells.stamps.items g.row.OFFSET_BITS s.cells.buffers s.cells.words s.last s.root s.lawful c.args.entry c.args.i (entry-by _ _ _ _ _ _ c.requires.word.entry) (inside-by _ _ _ c.requires.word.inside) (sym s.cells.stamps.ok.0 ∙ s.cells.stamped) s.stamped)
+    (stamps-store g.L.Layout.reaches g.L.Layout.lawful g.L.Layout.present g.L.Layout.stays s.shape s.cells.table.items s.cells.stamps.items g.row.OFFSET_BITS s.cells.buffers s.cells.words s.last s.root s.lawful
+    c.args.entry c.args.i (entry-by _ _ _ _ _ _ c.requires.word.entry) (inside-by _ _ _ c.requires.word.inside) (sym s.cells.stamps.ok.0 ∙ s.cells.stamped) s.stamped)
 
 pub invariant_of-self-clause-unused : goal.invariant_of-self-clause-unused
 invariant_of-self-clause-unused g c =
     let s = c.args.self.now in
     let e = c.store.ensures in
     rw (e.table, e.stamps, e.words, c.from.ensures)
-    (unused-store g.L.Layout.reaches g.L.Layout.lawful g.L.Layout.present g.L.Layout.stays s.shape s.cells.table.items s.cells.stamps.items g.row.OFFSET_BITS s.cells.buffers s.cells.words s.last s.root s.lawful c.args.entry c.args.i (entry-by _ _ _ _ _ _ c.requires.word.entry) (inside-by _ _ _ c.requires.word.inside) (sym s.cells.stamps.ok.0 ∙ s.cells.stamped) c.args.word s.unused)
+    (unused-store g.L.Layout.reaches g.L.Layout.lawful g.L.Layout.present g.L.Layout.stays s.shape s.cells.table.items s.cells.stamps.items g.row.OFFSET_BITS s.cells.buffers s.cells.words s.last s.root s.lawful
+    c.args.entry c.args.i (entry-by _ _ _ _ _ _ c.requires.word.entry) (inside-by _ _ _ c.requires.word.inside) (sym s.cells.stamps.ok.0 ∙ s.cells.stamped) c.args.word s.unused)
 
 pub invariant_of-self-clause-lawful : goal.invariant_of-self-clause-lawful
 invariant_of-self-clause-lawful g c =
     let s = c.args.self.now in
     let e = c.store.ensures in
     rw (e.table, e.buffers, e.words)
-    (lawful-store g.L.Layout.reaches g.L.Layout.lawful g.L.Layout.present g.L.Layout.stays s.shape s.cells.table.items s.cells.stamps.items g.row.OFFSET_BITS s.cells.buffers s.cells.words s.last s.root s.lawful c.args.entry c.args.i c.args.word (entry-by _ _ _ _ _ _ c.requires.word.entry) (inside-by _ _ _ c.requires.word.inside)
+    (lawful-store g.L.Layout.reaches g.L.Layout.lawful g.L.Layout.present g.L.Layout.stays s.shape s.cells.table.items s.cells.stamps.items g.row.OFFSET_BITS s.cells.buffers s.cells.words s.last s.root s.lawful
+    c.args.entry c.args.i c.args.word (entry-by _ _ _ _ _ _ c.requires.word.entry) (inside-by _ _ _ c.requires.word.inside)
     (c.requires.unkept s.last (record { from = omega arith; to = omega arith })))
 
 pub returns-clause-knows : goal.returns-clause-knows
@@ -32,7 +35,9 @@ returns-clause-knows g c =
     let s = c.args.self.now in
     let e = c.store.ensures in
     rw (e.table, e.stamps, e.marks, e.buffers, e.words, c.from.ensures)
-    (ap (λ v. with_marks v s.cells.marks.items s.generation s.first) (view-store g.L.Layout.reaches g.L.Layout.lawful g.L.Layout.present g.L.Layout.stays s.shape s.cells.table.items s.cells.stamps.items g.row.OFFSET_BITS s.cells.buffers s.cells.words s.last s.root s.lawful c.args.entry c.args.i c.args.word (entry-by _ _ _ _ _ _ c.requires.word.entry) (inside-by _ _ _ c.requires.word.inside)
+    (ap (λ v. with_marks v s.cells.marks.items s.generation s.first)
+    (view-store g.L.Layout.reaches g.L.Layout.lawful g.L.Layout.present g.L.Layout.stays s.shape s.cells.table.items s.cells.stamps.items g.row.OFFSET_BITS s.cells.buffers s.cells.words s.last s.root s.lawful
+    c.args.entry c.args.i c.args.word (entry-by _ _ _ _ _ _ c.requires.word.entry) (inside-by _ _ _ c.requires.word.inside)
     (c.requires.unkept s.last (record { from = omega arith; to = omega arith })) (sym s.cells.table.ok.0 ∙ s.cells.room) (sym s.cells.stamps.ok.0 ∙ s.cells.stamped)))
 
 pub returns-clause-others : goal.returns-clause-others
@@ -40,7 +45,8 @@ returns-clause-others g c q ne =
     let s = c.args.self.now in
     let e = c.store.ensures in
     rw (e.table, e.stamps, e.buffers, e.words, c.from.ensures)
-    (records-store g.L.Layout.reaches g.L.Layout.lawful g.L.Layout.present g.L.Layout.stays s.shape s.cells.table.items s.cells.stamps.items g.row.OFFSET_BITS s.cells.buffers s.cells.words s.last s.root s.lawful c.args.entry c.args.i c.args.word (entry-by _ _ _ _ _ _ c.requires.word.entry) (inside-by _ _ _ c.requires.word.inside)
+    (records-store g.L.Layout.reaches g.L.Layout.lawful g.L.Layout.present g.L.Layout.stays s.shape s.cells.table.items s.cells.stamps.items g.row.OFFSET_BITS s.cells.buffers s.cells.words s.last s.root s.lawful
+    c.args.entry c.args.i c.args.word (entry-by _ _ _ _ _ _ c.requires.word.entry) (inside-by _ _ _ c.requires.word.inside)
     (c.requires.unkept s.last (record { from = omega arith; to = omega arith })) q ne)
 
 pub invariant_of-self-clause-marks : goal.invariant_of-self-clause-marks

@@ -32,7 +32,8 @@ child_at-child-requires g c = (
         let path = c.pop.new.self in
         let step : Step = record { node = c.step.inside.node; slot = c.step.inside.slot } in
         let it : Climbs m root (step ∷ path) rest =
-        subst (λ p. Climbs m root p rest) (c.in-Some.ensures.some ∙ ap (λ (s : Step). s ∷ path) (sym c.step.view_is)) (subst (λ (p : Place). Climbs m p.root p.path rest) (sym c.self.view_is) c.loop-step.invariant.climbs) in
+        subst (λ p. Climbs m root p rest) (c.in-Some.ensures.some ∙ ap (λ (s : Step). s ∷ path) (sym c.step.view_is))
+        (subst (λ (p : Place). Climbs m p.root p.path rest) (sym c.self.view_is) c.loop-step.invariant.climbs) in
         let leads = climbs-leads m root step path rest it in
         let used : c.read_head.result.used ≡ used_of (m step.node) =
         c.read_head.ensures.used ∙ ap (λ (f : g.row.F.Denot). used_of (records f step.node)) c.loop-step.invariant.same in
@@ -47,7 +48,8 @@ child_at-child-requires g c = (
           let path = c.pop.new.self in
           let step : Step = record { node = c.step.inside.node; slot = c.step.inside.slot } in
           let it : Climbs m root (step ∷ path) rest =
-          subst (λ p. Climbs m root p rest) (c.in-Some.ensures.some ∙ ap (λ (s : Step). s ∷ path) (sym c.step.view_is)) (subst (λ (p : Place). Climbs m p.root p.path rest) (sym c.self.view_is) c.loop-step.invariant.climbs) in
+          subst (λ p. Climbs m root p rest) (c.in-Some.ensures.some ∙ ap (λ (s : Step). s ∷ path) (sym c.step.view_is))
+          (subst (λ (p : Place). Climbs m p.root p.path rest) (sym c.self.view_is) c.loop-step.invariant.climbs) in
           let leads = climbs-leads m root step path rest it in
           let same = c.read_head.ensures.same ∙ c.loop-step.invariant.same in
           rw same (step-size m root path step.node leads)),
@@ -58,7 +60,8 @@ child_at-child-requires g c = (
           let path = c.pop.new.self in
           let step : Step = record { node = c.step.inside.node; slot = c.step.inside.slot } in
           let it : Climbs m root (step ∷ path) rest =
-          subst (λ p. Climbs m root p rest) (c.in-Some.ensures.some ∙ ap (λ (s : Step). s ∷ path) (sym c.step.view_is)) (subst (λ (p : Place). Climbs m p.root p.path rest) (sym c.self.view_is) c.loop-step.invariant.climbs) in
+          subst (λ p. Climbs m root p rest) (c.in-Some.ensures.some ∙ ap (λ (s : Step). s ∷ path) (sym c.step.view_is))
+          (subst (λ (p : Place). Climbs m p.root p.path rest) (sym c.self.view_is) c.loop-step.invariant.climbs) in
           let leads = climbs-leads m root step path rest it in
           let same = c.read_head.ensures.same ∙ c.loop-step.invariant.same in
           let used : c.read_head.result.used ≡ used_of (m step.node) =

@@ -33,11 +33,13 @@ returns-then-spot-cursor-clause-pairs g c =
     let tree = c.requires.tree.node some in
     let slot = c.visit-spot.result.slot in
     let used = ap used_of c.visit-spot.ensures.words in
-    let first : IsFirstSlot (seen_by key.read key.order s m) (m root) slot = first-words (seen_by key.read key.order s m) m 1 (level_of (m root)) root slot (leads-node m root [] root (leads-root m root some tree)) c.visit-spot.ensures.slot in
+    let first : IsFirstSlot (seen_by key.read key.order s m) (m root) slot =
+    first-words (seen_by key.read key.order s m) m 1 (level_of (m root)) root slot (leads-node m root [] root (leads-root m root some tree)) c.visit-spot.ensures.slot in
     let fresh = c.cursor.view_is ∙ c.at_end_of-cursor.ensures in
     let past : used_of (m root) ≤ slot = (let test = c.if-spot-cursor.true in omega arith) in
     let none : c.cursor.inside.used ≡ 0 = ap (λ (p : Place). p.used) fresh in
-    pairs_from-none m (record { root = c.cursor.inside.root; path = c.cursor.inside.path; leaf = c.cursor.inside.leaf; slot = c.cursor.inside.slot; used = c.cursor.inside.used; words = c.visit-spot.new.words }) (omega arith)
+    pairs_from-none m (record { root = c.cursor.inside.root; path = c.cursor.inside.path; leaf = c.cursor.inside.leaf; slot = c.cursor.inside.slot; used = c.cursor.inside.used; words = c.visit-spot.new.words })
+    (omega arith)
     ∙ sym (sought-past key.order total (key.read m) s m (key.can_read m) root some tree c.requires.tree.ascends c.requires.readable slot first past)
 
 pub loop-cursor-init : goal.loop-cursor-init
@@ -52,7 +54,8 @@ loop-cursor-init g c =
     let tree = c.requires.tree.node some in
     let slot = c.visit-spot.result.slot in
     let used = ap used_of c.visit-spot.ensures.words in
-    let first : IsFirstSlot (seen_by key.read key.order s m) (m root) slot = first-words (seen_by key.read key.order s m) m 1 (level_of (m root)) root slot (leads-node m root [] root (leads-root m root some tree)) c.visit-spot.ensures.slot in
+    let first : IsFirstSlot (seen_by key.read key.order s m) (m root) slot =
+    first-words (seen_by key.read key.order s m) m 1 (level_of (m root)) root slot (leads-node m root [] root (leads-root m root some tree)) c.visit-spot.ensures.slot in
     let fresh = c.cursor.view_is ∙ c.at_end_of-cursor.ensures in
     let low : slot < used_of (m root) = (let within = first.within in let test = c.if-spot-cursor.false in omega arith) in
     let sought = sought-root key.order total (key.read m) s m (key.can_read m) root some tree c.requires.tree.ascends c.requires.readable slot first low in
@@ -140,7 +143,8 @@ visit-spot-requires-in-loop-cursor g c =
       omega arith,
       (
         subst (λ (f : g.row.F.Denot). IsNode (records f) 1 (level_of (records f q)) q) (sym it.same) (sought-node key.order total (key.read m) s m (key.can_read m) whole root path node slot it.sought above q child),
-        subst (λ (f : g.row.F.Denot). AllReadable key.can_read (records f) (pairs_below (records f) (level_of (records f q)) q)) (sym it.same) (sought-readable key.order total (key.read m) s m (key.can_read m) whole root path node slot it.sought above q child),
+        subst (λ (f : g.row.F.Denot). AllReadable key.can_read (records f) (pairs_below (records f) (level_of (records f q)) q)) (sym it.same)
+            (sought-readable key.order total (key.read m) s m (key.can_read m) whole root path node slot it.sought above q child),
       ),
     )
 

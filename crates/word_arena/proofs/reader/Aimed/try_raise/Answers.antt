@@ -49,8 +49,12 @@ pub fetch_sub-requires : goal.fetch_sub-requires
 fetch_sub-requires g c =
     let a = c.args.self.stands in
     let b = raised_post a c.fetch_add-count.ensures.0 c.fetch_add-count.ensures.2.told in
-    let low = b.low in
-    (b.post.own, low-inside b.post _ (omega arith), bounce_owed _ _ _ _ _ _ (reader_of c.fetch_add-count.new.seat.me.0) c.args.self.hold _ b.post.is refl (b.state ∙ odd-state c.fetch_add-count.result _ c.if-count-eq0.false))
+    let low = b.low in (
+      b.post.own,
+      low-inside b.post _ (omega arith),
+      bounce_owed _ _ _ _ _ _ (reader_of c.fetch_add-count.new.seat.me.0) c.args.self.hold _ b.post.is refl
+          (b.state ∙ odd-state c.fetch_add-count.result _ c.if-count-eq0.false),
+    )
 
 pub invariant_of-reader : goal.invariant_of-reader
 invariant_of-reader g c =

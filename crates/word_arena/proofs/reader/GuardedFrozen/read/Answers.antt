@@ -22,7 +22,8 @@ overflow_add-place g c =
     let inside = subst (λ (n : ℕ). c.args.first + c.loop-i.i < n) (λ k. length (words_at (seen_image (reader_of (sym same k).place.me.0)) c.args.entry)) below in
     let at : c.place_of_word-place.result ≡ place g.row.OFFSET_BITS s.sizes.buffers s.sizes.words (length (words_at (seen_image (reader_of (s).place.me.0)) c.args.entry)) c.args.entry c.args.first =
     i.at ∙ (λ k. place g.row.OFFSET_BITS (sym same k).sizes.buffers (sym same k).sizes.words (length (words_at (seen_image (reader_of (sym same k).place.me.0)) c.args.entry)) c.args.entry c.args.first) in
-    let is : c.place_of_word-place.result + c.loop-i.i ≡ place g.row.OFFSET_BITS s.sizes.buffers s.sizes.words (length (words_at (seen_image (reader_of (s).place.me.0)) c.args.entry)) c.args.entry (c.args.first + c.loop-i.i) = omega (arith, at) in
+    let is : c.place_of_word-place.result + c.loop-i.i ≡ place g.row.OFFSET_BITS s.sizes.buffers s.sizes.words (length (words_at (seen_image (reader_of (s).place.me.0)) c.args.entry)) c.args.entry
+    (c.args.first + c.loop-i.i) = omega (arith, at) in
     let lt = place-inside s.stands c.args.entry (c.args.first + c.loop-i.i) inside _ is in
     let words : s.arena.now.table.shared.table_id.words ≡ size_of s.sizes.buffers s.sizes.words = ap (λ (x : TableId). x.words) (sym s.stands.post.own) ∙ s.stands.post.words in
     let few = few-buffers s.stands in
@@ -40,8 +41,12 @@ load-requires g c =
     let inside = subst (λ (n : ℕ). c.args.first + c.loop-i.i < n) (λ k. length (words_at (seen_image (reader_of (sym same k).place.me.0)) c.args.entry)) below in
     let at : c.place_of_word-place.result ≡ place g.row.OFFSET_BITS s.sizes.buffers s.sizes.words (length (words_at (seen_image (reader_of (s).place.me.0)) c.args.entry)) c.args.entry c.args.first =
     i.at ∙ (λ k. place g.row.OFFSET_BITS (sym same k).sizes.buffers (sym same k).sizes.words (length (words_at (seen_image (reader_of (sym same k).place.me.0)) c.args.entry)) c.args.entry c.args.first) in
-    let is : c.place_of_word-place.result + c.loop-i.i ≡ place g.row.OFFSET_BITS s.sizes.buffers s.sizes.words (length (words_at (seen_image (reader_of (s).place.me.0)) c.args.entry)) c.args.entry (c.args.first + c.loop-i.i) = omega (arith, at) in
-    (s.stands.post.own, place-inside s.stands c.args.entry (c.args.first + c.loop-i.i) inside _ is, load_word_owed _ _ _ _ _ _ (reader_of s.place.me.0) _ s.stands.post.is (may_load_word s.stands c.args.entry (c.args.first + c.loop-i.i) inside _ is))
+    let is : c.place_of_word-place.result + c.loop-i.i ≡ place g.row.OFFSET_BITS s.sizes.buffers s.sizes.words (length (words_at (seen_image (reader_of (s).place.me.0)) c.args.entry)) c.args.entry
+    (c.args.first + c.loop-i.i) = omega (arith, at) in (
+      s.stands.post.own,
+      place-inside s.stands c.args.entry (c.args.first + c.loop-i.i) inside _ is,
+      load_word_owed _ _ _ _ _ _ (reader_of s.place.me.0) _ s.stands.post.is (may_load_word s.stands c.args.entry (c.args.first + c.loop-i.i) inside _ is),
+    )
 
 pub loop-i-preserved : goal.loop-i-preserved
 loop-i-preserved g c =
@@ -54,7 +59,8 @@ loop-i-preserved g c =
     let inside = subst (λ (n : ℕ). c.args.first + c.loop-i.i < n) (λ k. length (words_at (seen_image (reader_of (sym same k).place.me.0)) c.args.entry)) below in
     let at : c.place_of_word-place.result ≡ place g.row.OFFSET_BITS s.sizes.buffers s.sizes.words (length (words_at (seen_image (reader_of (s).place.me.0)) c.args.entry)) c.args.entry c.args.first =
     i.at ∙ (λ k. place g.row.OFFSET_BITS (sym same k).sizes.buffers (sym same k).sizes.words (length (words_at (seen_image (reader_of (sym same k).place.me.0)) c.args.entry)) c.args.entry c.args.first) in
-    let is : c.place_of_word-place.result + c.loop-i.i ≡ place g.row.OFFSET_BITS s.sizes.buffers s.sizes.words (length (words_at (seen_image (reader_of (s).place.me.0)) c.args.entry)) c.args.entry (c.args.first + c.loop-i.i) = omega (arith, at) in
+    let is : c.place_of_word-place.result + c.loop-i.i ≡ place g.row.OFFSET_BITS s.sizes.buffers s.sizes.words (length (words_at (seen_image (reader_of (s).place.me.0)) c.args.entry)) c.args.entry
+    (c.args.first + c.loop-i.i) = omega (arith, at) in
     let l = c.load.ensures in
     let value : c.load.result ≡ slice_index (words_at (seen_image (reader_of (c.args.self.now).place.me.0)) c.args.entry) (c.args.first + c.loop-i.i) =
     word_found s.stands c.args.entry (c.args.first + c.loop-i.i) inside refl is l.2.told ∙ (λ k. slice_index (words_at (seen_image (reader_of (same k).place.me.0)) c.args.entry) (c.args.first + c.loop-i.i)) in

@@ -13,7 +13,8 @@ load-requires g c =
     let s = c.place_of_word-place.new.self in
     let same = c.place_of_word-place.ensures.same in
     let inside = subst (λ (n : ℕ). c.args.i < n) (λ k. length (words_at (seen_image (reader_of (sym same k).place.me.0)) c.args.entry)) c.requires in
-    let is = c.place_of_word-place.ensures.place ∙ (λ k. place g.row.OFFSET_BITS (sym same k).sizes.buffers (sym same k).sizes.words (length (words_at (seen_image (reader_of (sym same k).place.me.0)) c.args.entry)) c.args.entry c.args.i) in
+    let is = c.place_of_word-place.ensures.place ∙ (λ k. place g.row.OFFSET_BITS (sym same k).sizes.buffers (sym same k).sizes.words
+    (length (words_at (seen_image (reader_of (sym same k).place.me.0)) c.args.entry)) c.args.entry c.args.i) in
     (s.stands.post.own, place-inside s.stands c.args.entry c.args.i inside _ is, load_word_owed _ _ _ _ _ _ (reader_of s.place.me.0) _ s.stands.post.is (may_load_word s.stands c.args.entry c.args.i inside _ is))
 
 pub returns-clause-value : goal.returns-clause-value
@@ -21,7 +22,8 @@ returns-clause-value g c =
     let s = c.place_of_word-place.new.self in
     let same = c.place_of_word-place.ensures.same in
     let inside = subst (λ (n : ℕ). c.args.i < n) (λ k. length (words_at (seen_image (reader_of (sym same k).place.me.0)) c.args.entry)) c.requires in
-    let is = c.place_of_word-place.ensures.place ∙ (λ k. place g.row.OFFSET_BITS (sym same k).sizes.buffers (sym same k).sizes.words (length (words_at (seen_image (reader_of (sym same k).place.me.0)) c.args.entry)) c.args.entry c.args.i) in
+    let is = c.place_of_word-place.ensures.place ∙ (λ k. place g.row.OFFSET_BITS (sym same k).sizes.buffers (sym same k).sizes.words
+    (length (words_at (seen_image (reader_of (sym same k).place.me.0)) c.args.entry)) c.args.entry c.args.i) in
     word_found s.stands c.args.entry c.args.i inside refl is c.load.ensures.2.told ∙ (λ k. slice_index (words_at (seen_image (reader_of (same k).place.me.0)) c.args.entry) c.args.i)
 
 pub returns-clause-same : goal.returns-clause-same

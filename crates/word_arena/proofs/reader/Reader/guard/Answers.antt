@@ -55,7 +55,16 @@ loop-guard-preserved g c =
     let rises = i.rises in
     let few = i.few in
     let tick = c.tick.ensures in
-    record { table = c.in-Err.ensures.back ∙ i.table; seen = h.seen ∙ i.seen; saw = h.saw ∙ i.saw; same_sizes = h.same_sizes ∙ i.same_sizes; limit = same ∙ i.limit; rises = omega arith; few = omega arith; within = omega arith }
+    record {
+      table = c.in-Err.ensures.back ∙ i.table;
+      seen = h.seen ∙ i.seen;
+      saw = h.saw ∙ i.saw;
+      same_sizes = h.same_sizes ∙ i.same_sizes;
+      limit = same ∙ i.limit;
+      rises = omega arith;
+      few = omega arith;
+      within = omega arith;
+    }
 
 pub returns-in-Ok-clause-table : goal.returns-in-Ok-clause-table
 returns-in-Ok-clause-table g c = c.in-Ok.ensures.table ∙ c.loop-guard.invariant.table

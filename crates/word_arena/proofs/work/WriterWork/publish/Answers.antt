@@ -22,7 +22,8 @@ store-requires g c =
     let small : c.args.root < 2 ^ 32 = let h = c.raw.type_inv in let e = c.raw.ensures in omega arith in (
       s.stands.own,
       desk-some s.stands,
-      publish_owed g.L.Layout.reaches g.L.Layout.lawful _ _ _ _ (record { empty_reaches = g.L.Layout.empty_reaches; empty_lawful = g.L.Layout.empty_lawful; present = g.L.Layout.present; stays = g.L.Layout.stays }) w c.args.root _ s.stands.is (λ k. number k * 2 ^ 32 + root k)
+      publish_owed g.L.Layout.reaches g.L.Layout.lawful _ _ _ _ (record { empty_reaches = g.L.Layout.empty_reaches; empty_lawful = g.L.Layout.empty_lawful; present = g.L.Layout.present; stays = g.L.Layout.stays }) w
+          c.args.root _ s.stands.is (λ k. number k * 2 ^ 32 + root k)
           (record { calm = s.stands.calm; lawful_root = c.requires.lawful; small = small; left = c.requires.room }),
     )
 

@@ -91,4 +91,7 @@ invariant_of-self g c =
     let e = c.load.ensures in
     let active : active_in w.buffers (buffer_of w.sizes.offset_bits c.args.entry) ≡ Some width = core-active (slice_get w.buffers (buffer_of w.sizes.offset_bits c.args.entry)) may.word.entry.wide in
     let kept = subst (λ q. StoresEntries (stored w q c.load.result)) (sym at) (entries-stored w c.args.entry c.args.i width c.load.result active may.word.entry may.word.inside s.stands.entries) in
-    record { stands = desk_after s.stands (stored w c.place_of-place.result c.load.result) e.0 e.2.told.is refl s.stands.same_buffers s.stands.same_holds s.stands.commits s.stands.readers s.stands.calm e.2.told.good kept }
+    record {
+      stands = desk_after s.stands (stored w c.place_of-place.result c.load.result) e.0 e.2.told.is refl s.stands.same_buffers s.stands.same_holds s.stands.commits s.stands.readers s.stands.calm e.2.told.good
+          kept;
+    }

@@ -20,7 +20,13 @@ invariant_of-self g c =
     let s = c.args.self.now in
     let w = writer_of s.place.me.0 in
     let e = c.split_seat-place.ensures in
-    record { stands = desk_after s.stands (with_reader w) e.0 e.2 refl s.stands.same_buffers s.stands.same_holds s.stands.commits (ap (λ (n : ℕ). n + 1) s.stands.readers.0, (let below = c.if-self-ge64.false in omega arith)) s.stands.calm (good-reader w s.stands.good) (record { none = s.stands.entries.none }) }
+    record {
+      stands = desk_after s.stands (with_reader w) e.0 e.2 refl s.stands.same_buffers s.stands.same_holds s.stands.commits (
+        ap (λ (n : ℕ). n + 1) s.stands.readers.0,
+        (let below = c.if-self-ge64.false in
+            omega arith),
+      ) s.stands.calm (good-reader w s.stands.good) (record { none = s.stands.entries.none });
+    }
 
 pub returns-then-self-ge64-clause-none : goal.returns-then-self-ge64-clause-none
 returns-then-self-ge64-clause-none g c =

@@ -36,4 +36,7 @@ invariant_of-self g c =
     let v : WriterView = joined w (reader_of r.place.me.0) in
     let j = c.join_seat.ensures in
     let l = c.load.ensures in
-    record { stands = desk_after s.stands v (l.0 ∙ j.0) (l.2.told.same ∙ j.2) refl s.stands.same_buffers s.stands.same_holds s.stands.commits s.stands.readers s.stands.calm (good-joined w (reader_of r.place.me.0) s.stands.good) (record { none = s.stands.entries.none }) }
+    record {
+      stands = desk_after s.stands v (l.0 ∙ j.0) (l.2.told.same ∙ j.2) refl s.stands.same_buffers s.stands.same_holds s.stands.commits s.stands.readers s.stands.calm
+          (good-joined w (reader_of r.place.me.0) s.stands.good) (record { none = s.stands.entries.none });
+    }

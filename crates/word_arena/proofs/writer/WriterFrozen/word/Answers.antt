@@ -15,7 +15,8 @@ load-requires g c =
     let s = c.place_of_word-place.new.self in
     let same = c.place_of_word-place.ensures.same in
     let inside = subst (λ (n : ℕ). c.args.i < n) (λ k. length (writer_records (writer_of (sym same k).place.me.0) c.args.entry)) c.requires in
-    let is = c.place_of_word-place.ensures.place ∙ (λ k. place g.row.OFFSET_BITS (sym same k).sizes.buffers (sym same k).sizes.words (length (writer_records (writer_of (sym same k).place.me.0) c.args.entry)) c.args.entry c.args.i) in
+    let is = c.place_of_word-place.ensures.place ∙ (λ k. place g.row.OFFSET_BITS (sym same k).sizes.buffers (sym same k).sizes.words
+    (length (writer_records (writer_of (sym same k).place.me.0) c.args.entry)) c.args.entry c.args.i) in
     (s.stands.own, place-inside s.stands c.args.entry c.args.i inside _ is, load_own_owed _ _ _ _ _ _ (writer_of s.place.me.0) _ s.stands.is s.stands.calm)
 
 pub returns-clause-value : goal.returns-clause-value
@@ -23,7 +24,8 @@ returns-clause-value g c =
     let s = c.place_of_word-place.new.self in
     let same = c.place_of_word-place.ensures.same in
     let inside = subst (λ (n : ℕ). c.args.i < n) (λ k. length (writer_records (writer_of (sym same k).place.me.0) c.args.entry)) c.requires in
-    let is = c.place_of_word-place.ensures.place ∙ (λ k. place g.row.OFFSET_BITS (sym same k).sizes.buffers (sym same k).sizes.words (length (writer_records (writer_of (sym same k).place.me.0) c.args.entry)) c.args.entry c.args.i) in
+    let is = c.place_of_word-place.ensures.place ∙ (λ k. place g.row.OFFSET_BITS (sym same k).sizes.buffers (sym same k).sizes.words
+    (length (writer_records (writer_of (sym same k).place.me.0) c.args.entry)) c.args.entry c.args.i) in
     word_found s.stands c.args.entry c.args.i inside refl is c.load.ensures.2.told ∙ (λ k. slice_index (writer_records (writer_of (same k).place.me.0) c.args.entry) c.args.i)
 
 pub returns-clause-same : goal.returns-clause-same
