@@ -59,11 +59,14 @@ fn workload_in(rt: &HostRuntime) -> Option<Workload> {
     }))
 }
 
-/// A store over a memory of 128 buffers of 65,536 words, of which nothing is made yet.
-fn new_store(alloc: Global) -> Result<EntryStore<22, MemWork<22, OneRecord>>, AllocError>
+/// A store over a memory for so many postings, of which nothing is made yet: 17 to 128 buffers of 65,536 words.
+fn new_store(
+    alloc: Global,
+    postings: u32,
+) -> Result<EntryStore<22, MemWork<22, OneRecord>>, AllocError>
     ensures { IfOk result (λ s. IsNew (⟦<EntryStore<22, MemWork<22, OneRecord>> as Store<22>>⟧.ledger s)) }
 {
-    let work = MemWork::<22, OneRecord>::create(alloc, 128, 65536, 1)?;
+    let work = MemWork::<22, OneRecord>::create(alloc, (postings / 8_000).min(111) + 17, 65536, 1)?;
     match EntryStore::create(alloc, work) {
         Ok(store) => Ok(store),
         Err(_) => Err(AllocError),
@@ -87,7 +90,7 @@ fn words_made(store: &EntryStore<22, MemWork<22, OneRecord>>) -> u64 {
 }
 
 fn changes_told(alloc: Global, load: Load) -> Result<String, AllocError> {
-    let store = new_store(alloc)?;
+    let store = new_store(alloc, load.postings)?;
     let mut lists = ValueLists::new(store, load.value_type);
     let counts = run(alloc, &mut lists, load)?;
     let store = lists.into_store();
@@ -99,7 +102,7 @@ fn changes_told(alloc: Global, load: Load) -> Result<String, AllocError> {
 }
 
 fn reads_told(alloc: Global, load: Reads) -> Result<String, AllocError> {
-    let store = new_store(alloc)?;
+    let store = new_store(alloc, load.values.saturating_mul(load.documents))?;
     let mut lists = ValueLists::new(store, load.value_type);
     let values = fill_lists(alloc, &mut lists, load)?;
     let sum = read_lists(&mut lists, &values, load.rounds);

@@ -108,9 +108,17 @@ struct TreeRun {
     nodes: u64,
 }
 
+/// Buffers for a tree of so many keys: its leaves are half full at worst, and a buffer has 1,926 nodes.
+fn buffers_for(keys: u64) -> u32
+    ensures some { 1 ≤ result }
+    ensures few { result ≤ 1023 }
+{
+    (keys / 12_000).min(1_000) as u32 + 3
+}
+
 /// A run over a tree in a store of its own.
 fn tree_run_of(alloc: Global, load: &TreeLoad) -> Result<TreeRun, StoreError> {
-    match new_store::<TreeLayout>(alloc, 96) {
+    match new_store::<TreeLayout>(alloc, buffers_for(load.keys)) {
         Ok(store) => {
             let mut tree = NumberTree::new(store);
             let counts = run_tree(&mut tree, load)?;
