@@ -1,12 +1,15 @@
 -- The nodes and the keys below a node that two trees have.
 use Rattle.std.proofs.Common.{◌≡◌, ℕ, zero, suc, ◌<◌, List, [], ◌∷◌, ◌++◌, map, inl, inr, ◌⊎◌, refl, sym, ap, subst, ◌∙◌, arith}
 use Rattle.std.specs.List.{flat_map, AllByRecursion}
+use Rattle.attr_field.proofs.RefLemmas.{same_among}
+use Rattle.value_index.proofs.KeyLemmas.{among_left, among_right}
 use Rattle.entry_ref.specs.References.{buffer_of}
 use Rattle.image_base.specs.Records.{Records, SameAt, Among}
 use Rattle.tree_images.proofs.TreeLemmas.{IsNode-form}
 use Rattle.tree_images.specs.Nodes.{level_of, node_values}
 use Rattle.tree_images.specs.ProofsForTrees.{pairs-same, tree_nodes-same, IsRootNode-same}
 use Rattle.tree_images.specs.Trees.{nodes_below, pairs_below, root_least, root_level, tree_nodes, IsNode, IsRootNode}
+use Rattle.tree_ways.proofs.WayLemmas.{all_among, find_child, keys_flat}
 use Rattle.tree_ways.specs.Ways.{keys_below, tree_keys}
 use Rattle.attr_cleared.specs.Cleared.{NodesAreCleared}
 
@@ -14,63 +17,14 @@ abbrev keys : List (ℕ × ℕ) → List ℕ
 keys ps = map (λ p. p.0) ps
 
 -- ---- among lists one after another
-pub among_left : (r : ℕ) (xs ys : List ℕ) → Among r xs → Among r (xs ++ ys)
-among_left r [] ys among = absurd among
-among_left r (x ∷ xs) ys (inl e) = inl e
-among_left r (x ∷ xs) ys (inr later) = inr (among_left r xs ys later)
-
-pub among_right : (r : ℕ) (xs ys : List ℕ) → Among r ys → Among r (xs ++ ys)
-among_right r [] ys among = among
-among_right r (x ∷ xs) ys among = inr (among_right r xs ys among)
-
-among_flat : (f : ℕ → List ℕ) (vs : List ℕ) (v r : ℕ) → Among v vs → Among r (f v) → Among r (flat_map f vs)
+pub among_flat : (f : ℕ → List ℕ) (vs : List ℕ) (v r : ℕ) → Among v vs → Among r (f v) → Among r (flat_map f vs)
 among_flat f [] v r there among = absurd there
 among_flat f (w ∷ vs) v r (inl e) among = among_left r (f w) (flat_map f vs) (subst (λ x. Among r (f x)) e among)
 among_flat f (w ∷ vs) v r (inr later) among = among_right r (f w) (flat_map f vs) (among_flat f vs v r later among)
 
-keys_left : (k : ℕ) (xs ys : List (ℕ × ℕ)) → Among k (keys xs) → Among k (keys (xs ++ ys))
-keys_left k [] ys among = absurd among
-keys_left k (x ∷ xs) ys (inl e) = inl e
-keys_left k (x ∷ xs) ys (inr later) = inr (keys_left k xs ys later)
-
-keys_right : (k : ℕ) (xs ys : List (ℕ × ℕ)) → Among k (keys ys) → Among k (keys (xs ++ ys))
-keys_right k [] ys among = among
-keys_right k (x ∷ xs) ys among = inr (keys_right k xs ys among)
-
-keys_flat : (f : ℕ → List (ℕ × ℕ)) (vs : List ℕ) (v k : ℕ) → Among v vs → Among k (keys (f v)) → Among k (keys (flat_map f vs))
-keys_flat f [] v k there among = absurd there
-keys_flat f (w ∷ vs) v k (inl e) among = keys_left k (f w) (flat_map f vs) (subst (λ x. Among k (keys (f x))) e among)
-keys_flat f (w ∷ vs) v k (inr later) among = keys_right k (f w) (flat_map f vs) (keys_flat f vs v k later among)
-
-either_part : (r : ℕ) (xs ys : List ℕ) → Among r (xs ++ ys) → Among r xs ⊎ Among r ys
-either_part r [] ys among = inr among
-either_part r (x ∷ xs) ys (inl e) = inl (inl e)
-either_part r (x ∷ xs) ys (inr later) = front (either_part r xs ys later)
-  where
-    front : Among r xs ⊎ Among r ys → Among r (x ∷ xs) ⊎ Among r ys
-    front (inl here) = inl (inr here)
-    front (inr behind) = inr behind
-
-find_child : (f : ℕ → List ℕ) (vs : List ℕ) (r : ℕ) → Among r (flat_map f vs) → (v : ℕ) × Among v vs × Among r (f v)
-find_child f [] r among = absurd among
-find_child f (w ∷ vs) r among = told (λ behind. find_child f vs r behind) (either_part r (f w) (flat_map f vs) among)
-  where
-    later : (v : ℕ) × Among v vs × Among r (f v) → (v : ℕ) × Among v (w ∷ vs) × Among r (f v)
-    later found = (found.0, inr found.1, found.2)
-
     told : (Among r (flat_map f vs) → (v : ℕ) × Among v vs × Among r (f v)) → Among r (f w) ⊎ Among r (flat_map f vs) → (v : ℕ) × Among v (w ∷ vs) × Among r (f v)
     told more (inl here) = (w, inl refl, here)
     told more (inr behind) = later (more behind)
-
-pub all_among : (P : ℕ → Type 0) (vs : List ℕ) → AllByRecursion P vs → (v : ℕ) → Among v vs → P v
-all_among P [] all v among = absurd among
-all_among P (w ∷ vs) all v (inl e) = subst P (sym e) all.0
-all_among P (w ∷ vs) all v (inr later) = all_among P vs all.1 v later
-
-pub same_among : (m n : Records) (refs : List ℕ) → SameAt refs m n → (r : ℕ) → Among r refs → n r ≡ m r
-same_among m n [] same r among = absurd among
-same_among m n (q ∷ refs) same r (inl e) = subst (λ x. n x ≡ m x) (sym e) same.0
-same_among m n (q ∷ refs) same r (inr later) = same_among m n refs same.1 r later
 
 -- ---- nodes and keys below a node of a tree are the tree's
 module _ (m : Records) where

@@ -1,6 +1,7 @@
 -- The index beside documents that are moved stays: what is cleared of it is so still.
 use Rattle.std.proofs.Common.{◌≡◌, ◌≢◌, ℕ, List, [], ◌∷◌, sym, subst}
 use Rattle.std.specs.List.{AllByRecursion}
+use Rattle.attr_field.proofs.RefLemmas.{same_among}
 use Rattle.entry_ref.specs.References.{buffer_of}
 use Rattle.image_base.specs.Records.{Records, SameAt, Among}
 use Rattle.tree_images.specs.ProofsForTrees.{SameAt-left, SameAt-right, all-same, tree_pairs-same}
@@ -17,7 +18,7 @@ use Rattle.attr_compaction.specs.declared.plan.PlanKey.{PlanKey}
 use Rattle.attr_compaction.specs.declared.plan.PlanKey.TheVariants as plan
 use Rattle.attr_compaction.specs.declared.plan.TheConstants.{KEYS, LISTS, NODES}
 use Rattle.attr_cleared.specs.Cleared.{IsVisited, ListIsCleared, NodesAreCleared}
-use Rattle.attr_cleared.proofs.BelowLemmas.{nodes_stay, same_among}
+use Rattle.attr_cleared.proofs.BelowLemmas.{nodes_stay}
 
 all_and : {X : Type 0} (P Q : X → Type 0) (xs : List X) → AllByRecursion P xs → AllByRecursion Q xs → AllByRecursion (λ x. P x × Q x) xs
 all_and P Q [] p q = tt

@@ -29,10 +29,11 @@ use Rattle.posting_store.specs.Lists.{IsPlain}
 use Rattle.posting_store.proofs.FormLemmas.{form_even, form_odd}
 use Rattle.value_index.specs.Indexes.{index_part, index_reach, key_at}
 use Rattle.value_index.proofs.IndexLemmas.{pair_reach}
+use Rattle.value_index.proofs.KeyLemmas.{among_left, among_right}
 use Rattle.plan_keys.specs.PhaseKeys.{form_docs, keys_of_pairs}
 use Rattle.attr_cleared.specs.Visits.{IsAmongKeys}
 use Rattle.attr_cleared.proofs.PlanVisits.{none_behind}
-use Rattle.attr_cleared.proofs.BelowLemmas.{among_left, among_right, nodes_stay}
+use Rattle.attr_cleared.proofs.BelowLemmas.{nodes_stay}
 use Rattle.attr_cleared.proofs.IndexPairs.{InPairs}
 
 -- ---- a list that is no bit vector
@@ -121,7 +122,7 @@ pair_of_key value m root k is = told (lookup_pair (beside_value value m) (tree_p
     told (Some p) e some = (p, e, same_some p.0 k some)
 
 -- ---- keys of pairs
-key_left : (k : PlanKey) (xs ys : List PlanKey) → IsAmongKeys k xs → IsAmongKeys k (xs ++ ys)
+pub key_left : (k : PlanKey) (xs ys : List PlanKey) → IsAmongKeys k xs → IsAmongKeys k (xs ++ ys)
 key_left k [] ys among = absurd among
 key_left k (x ∷ xs) ys (inl e) = inl e
 key_left k (x ∷ xs) ys (inr later) = inr (key_left k xs ys later)

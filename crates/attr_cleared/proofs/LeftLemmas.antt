@@ -1,9 +1,10 @@
 -- Past the last phase nothing that an attribute reaches lies in the victim.
-use Rattle.std.proofs.Common.{◌≡◌, ◌≢◌, ℕ, zero, suc, ◌≤◌, List, [], ◌∷◌, ◌++◌, nat_cmp, sym, subst, arith, inl, inr, ◌⊎◌}
+use Rattle.std.proofs.Common.{◌≡◌, ◌≢◌, ℕ, zero, suc, ◌≤◌, List, [], ◌∷◌, ◌++◌, nat_cmp, sym, subst, arith, inl, inr}
 use Rattle.std.proofs.lemmas.Cmp.{nat_cmp_total}
 use Rattle.std.specs.Cmp.{IsTotalOrder}
 use Rattle.std.specs.List.{flat_map, AllByRecursion}
 use Rattle.std.specs.declared.cmp.Ordering.{Ordering}
+use Rattle.attr_field.proofs.RefLemmas.{all_among, among_either}
 use Rattle.entry_ref.specs.References.{buffer_of}
 use Rattle.image_base.specs.Records.{Records, Among}
 use Rattle.tree_images.specs.Trees.{by_number, tree_nodes, tree_pairs, IsTree}
@@ -24,19 +25,6 @@ use Rattle.document_moves.specs.Moves.{AreItemsApart}
 use Rattle.attr_cleared.specs.Cleared.{IsVisited, ListIsCleared, NodesAreCleared}
 use Rattle.attr_cleared.specs.Laws.{NothingIsLeft}
 use Rattle.attr_cleared.proofs.VisitLemmas.{all_visited}
-
-among_either : (r : ℕ) (xs ys : List ℕ) → Among r (xs ++ ys) → Among r xs ⊎ Among r ys
-among_either r [] ys among = inr among
-among_either r (x ∷ xs) ys (inl e) = inl (inl e)
-among_either r (x ∷ xs) ys (inr later) = elim (among_either r xs ys later) [
-  | inl here ↦ inl (inr here)
-  | inr there ↦ inr there
-]
-
-all_among : (P : ℕ → Type 0) (refs : List ℕ) → AllByRecursion P refs → (r : ℕ) → Among r refs → P r
-all_among P [] all r among = absurd among
-all_among P (q ∷ refs) all r (inl e) = subst P (sym e) all.0
-all_among P (q ∷ refs) all r (inr later) = all_among P refs all.1 r later
 
 -- what holds of all that each of a list reaches
 all_reached : {X : Type 0} (Q : X → Type 0) (f : X → List ℕ) (G : ℕ → Type 0) → ((x : X) → Q x → (r : ℕ) → Among r (f x) → G r) → (xs : List X) → AllByRecursion Q xs

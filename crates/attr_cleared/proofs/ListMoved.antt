@@ -14,7 +14,7 @@ use Rattle.store_api.specs.Parts.{Owns}
 use Rattle.store_api.specs.Statuses.{in_use}
 use Rattle.tree_images.specs.Trees.{by_number, tree_nodes, tree_pairs}
 use Rattle.tree_touch.specs.Paths.{path_nodes, NoneIn}
-use Rattle.tree_ways.proofs.WayLemmas.{stand_on_ways}
+use Rattle.tree_ways.proofs.WayLemmas.{stand_on_ways, all_among}
 use Rattle.tree_ways.specs.Ways.{keys_below, tree_keys}
 use Rattle.attr_cleared.specs.Cleared.{IsClearedField, IsVisited, ListIsCleared, NodesAreCleared}
 use Rattle.attr_compaction.specs.Places.{doc_in, key_cmp, value_in, PlanPlace}
@@ -45,7 +45,7 @@ use Rattle.value_index.proofs.IndexLemmas.{pair_reach}
 use Rattle.value_index.proofs.KeyLemmas.{at_key, list_found, reads_found}
 use Rattle.attr_cleared.specs.IndexLaws.{ListMoveClears}
 use Rattle.attr_cleared.specs.IndexTurns.{place_at, IsTurn, LeavesBuffer}
-use Rattle.attr_cleared.proofs.BelowLemmas.{all_among, nodes_moved}
+use Rattle.attr_cleared.proofs.BelowLemmas.{nodes_moved}
 use Rattle.attr_cleared.proofs.KeyMoved.{of_type}
 use Rattle.attr_cleared.proofs.IndexPairs.{InPairs, at_pair, each_pair, found_pair, other_pair, pair_key, pair_stays, split_pair, taken_pair}
 use Rattle.attr_cleared.proofs.IndexClauses.{documents_stay, list_stays, list_used, nodes_later, pair_in, pair_of_key}

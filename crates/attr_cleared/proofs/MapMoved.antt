@@ -14,7 +14,7 @@ use Rattle.store_api.proofs.Uses.{in-uses, uses-in}
 use Rattle.tree_images.specs.ProofsForTrees.{all-same}
 use Rattle.tree_images.specs.Trees.{by_number, tree_nodes, tree_pairs}
 use Rattle.tree_touch.specs.Paths.{path_nodes}
-use Rattle.tree_ways.proofs.WayLemmas.{stand_on_ways}
+use Rattle.tree_ways.proofs.WayLemmas.{stand_on_ways, all_among}
 use Rattle.tree_ways.specs.Ways.{keys_below, tree_keys}
 use Rattle.doc_vector.specs.Documents.{beside_document}
 use Rattle.attr_images.specs.Tables.{AttributeTrees}
@@ -34,7 +34,7 @@ use Rattle.attr_cleared.specs.Cleared.{IsClearedField, IsVisited}
 use Rattle.attr_cleared.proofs.PlanVisits.{next_visited, others_visited}
 use Rattle.attr_cleared.specs.Visits.{place_at_key, IsAmongKeys}
 use Rattle.attr_cleared.specs.DocumentsCleared.{with_documents, AreTrees, IsNext, KeepsRecords, MakesNoneIn, MapIsCleared}
-use Rattle.attr_cleared.proofs.BelowLemmas.{all_among, nodes_moved}
+use Rattle.attr_cleared.proofs.BelowLemmas.{nodes_moved}
 use Rattle.attr_cleared.proofs.DocumentsIndex.{keys_stay, lists_stay, values_stay}
 use Rattle.attr_cleared.proofs.ItemsMoved.{apart_on}
 

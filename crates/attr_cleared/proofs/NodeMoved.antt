@@ -4,6 +4,7 @@ use Rattle.std.proofs.lemmas.Cmp.{tied_itself, nat_cmp_total}
 use Rattle.std.specs.declared.cmp.Ordering.{Ordering}
 use Rattle.std.specs.List.Sorted.{IsStrictlySortedBy}
 use Rattle.std.specs.Ordering.{nat_cmp, ordering_then}
+use Rattle.attr_field.proofs.RefLemmas.{same_among}
 use Rattle.entry_ref.specs.References.{buffer_of}
 use Rattle.image_base.specs.Records.{Records, SameAt, Among}
 use Rattle.store_api.specs.Ledgers.{Ledger}
@@ -13,7 +14,7 @@ use Rattle.store_api.proofs.Times.{among-times, times-among}
 use Rattle.store_api.proofs.Uses.{uses-in}
 use Rattle.tree_images.specs.Trees.{tree_nodes, tree_pairs, IsTree}
 use Rattle.tree_touch.specs.Paths.{path_nodes}
-use Rattle.tree_ways.proofs.WayLemmas.{stand_on_ways}
+use Rattle.tree_ways.proofs.WayLemmas.{stand_on_ways, all_among}
 use Rattle.tree_ways.specs.Ways.{keys_below, tree_keys}
 use Rattle.attr_cleared.specs.Cleared.{IsClearedField, IsVisited, ListIsCleared, NodesAreCleared}
 use Rattle.attr_compaction.specs.Places.{key_cmp, value_in, PlanPlace}
@@ -37,7 +38,7 @@ use Rattle.value_index.specs.Indexes.{index_part, IsValuePair}
 use Rattle.value_index.proofs.IndexLemmas.{keys_same, pair_reach}
 use Rattle.attr_cleared.specs.IndexLaws.{NodeMoveClears}
 use Rattle.attr_cleared.specs.IndexTurns.{place_at, IsTurn, LeavesBuffer}
-use Rattle.attr_cleared.proofs.BelowLemmas.{all_among, nodes_moved, same_among}
+use Rattle.attr_cleared.proofs.BelowLemmas.{nodes_moved}
 use Rattle.attr_cleared.proofs.KeyMoved.{of_type}
 use Rattle.attr_cleared.proofs.IndexPairs.{InPairs, at_pair, each_pair, pair_stays}
 use Rattle.attr_cleared.proofs.IndexClauses.{documents_stay, key_front, list_stays, node_used, value_in_keys}

@@ -8,7 +8,7 @@ use Rattle.std.specs.List.Sorted.{IsStrictlySortedBy}
 use Rattle.std.specs.declared.cmp.Ordering.{Ordering}
 use Rattle.std.specs.Ordering.{nat_cmp, ordering_reverse, ordering_then}
 use Rattle.attr_cleared.specs.Cleared.{IsVisited}
-use Rattle.attr_compaction.proofs.PlaceLemmas.{key_total, place_total}
+use Rattle.attr_compaction.proofs.PlaceLemmas.{key_total, place_total, below}
 use Rattle.attr_compaction.specs.Places.{is_start, key_cmp, place_cmp, stage_cmp, PlanPlace}
 use Rattle.attr_compaction.specs.declared.plan.PlanKey.{PlanKey}
 use Rattle.attr_compaction.specs.declared.plan.PlanKey.TheVariants.{Start, Value, Doc, Pair}
@@ -24,9 +24,6 @@ place_of field phase key = record { stage = stage_of field phase; key = key }
 
 above : (a b : ℕ) → b < a → nat_cmp a b ≡ Greater
 above a b h = sym (nat_cmp_is a b Greater h)
-
-below : (a b : ℕ) → a < b → nat_cmp a b ≡ Less
-below a b h = sym (nat_cmp_is a b Less h)
 
 equal : (a b : ℕ) → a ≡ b → nat_cmp a b ≡ Equal
 equal a b e = ap (λ (x : ℕ). nat_cmp x b) e ∙ tied_itself nat_cmp_total b
@@ -111,7 +108,7 @@ up_parts : (x : PlanKey) (keys : List PlanKey) → IsStrictlySortedBy key_cmp (x
 unfolding IsStrictlySortedBy
 up_parts x keys up = up
 
-all_of : (P : PlanKey → Type 0) (keys : List PlanKey) → AllByRecursion P keys → (k : PlanKey) → IsAmongKeys k keys → P k
+pub all_of : (P : PlanKey → Type 0) (keys : List PlanKey) → AllByRecursion P keys → (k : PlanKey) → IsAmongKeys k keys → P k
 all_of P [] all k among = absurd among
 all_of P (key ∷ keys) all k (inl e) = subst P (sym e) all.0
 all_of P (key ∷ keys) all k (inr later) = all_of P keys all.1 k later

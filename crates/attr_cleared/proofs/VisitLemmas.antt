@@ -5,7 +5,7 @@ use Rattle.std.proofs.lemmas.Cmp.{tied_itself, nat_cmp_total}
 use Rattle.std.specs.Cmp.{nat_cmp_is}
 use Rattle.std.specs.declared.cmp.Ordering.{Ordering}
 use Rattle.std.specs.Ordering.{nat_cmp, ordering_reverse, ordering_then}
-use Rattle.attr_compaction.proofs.PlaceLemmas.{place_total}
+use Rattle.attr_compaction.proofs.PlaceLemmas.{place_total, below}
 use Rattle.attr_compaction.specs.Places.{is_start, key_cmp, place_cmp, stage_cmp, first_place, PlanPlace}
 use Rattle.attr_compaction.specs.declared.plan.PlanKey.{PlanKey}
 use Rattle.attr_compaction.specs.declared.plan.PlanKey.TheVariants.{Start, Value, Doc, Pair}
@@ -17,9 +17,6 @@ place_at field phase key = record { stage = record { field = field; phase = phas
 
 above : (a b : ℕ) → b < a → nat_cmp a b ≡ Greater
 above a b h = sym (nat_cmp_is a b Greater h)
-
-below : (a b : ℕ) → a < b → nat_cmp a b ≡ Less
-below a b h = sym (nat_cmp_is a b Less h)
 
 -- ---- at first
 key_above : (key : PlanKey) → is_start key ≡ false → key_cmp key Start ≡ Greater

@@ -69,7 +69,7 @@ pub keys_exact : KeysAreExact
 keys_exact a b h = let p = parts_of a b h in same_key a b p.0 p.1 p.2
 
 -- ---- the next place
-below : (a b : ℕ) → a < b → nat_cmp a b ≡ Less
+pub below : (a b : ℕ) → a < b → nat_cmp a b ≡ Less
 below a b h = sym (nat_cmp_is a b Less h)
 
 abbrev stage_by : ℕ → Stage → Bool → Bool → Stage
@@ -87,7 +87,7 @@ stage_above_by fields s false false few =
 stage_above : (fields : ℕ) (s : Stage) → s.phase < PHASES → stage_cmp s (next_stage fields s) ≡ Less
 stage_above fields s few = stage_above_by fields s (nat_lt s.phase NODES) (nat_lt (s.field + 1) fields) few
 
-not_start : (phase : ℕ) (key : PlanKey) → has_key phase key ≡ true → is_start key ≡ false
+pub not_start : (phase : ℕ) (key : PlanKey) → has_key phase key ≡ true → is_start key ≡ false
 not_start phase Start h = absurd (true≢false (sym h))
 not_start phase (Value v) h = refl
 not_start phase (Doc d) h = refl

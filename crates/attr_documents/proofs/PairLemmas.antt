@@ -1,5 +1,5 @@
 -- Pairs by document, and the column that they are when each reference is read.
-use Rattle.std.proofs.Common.{◌≡◌, ℕ, ◌+◌, ◌<◌, false, cond, List, [], ◌∷◌, ◌++◌, map, Option, None, Some, option_map, refl, sym, ap, subst, ◌∙◌, arith}
+use Rattle.std.proofs.Common.{◌≡◌, ℕ, ◌+◌, ◌<◌, cond, List, [], ◌∷◌, ◌++◌, map, Option, None, Some, option_map, refl, sym, ap, subst, ◌∙◌, arith}
 use Rattle.std.specs.Prelude.{IsSome, unwrap_or}
 use Rattle.std.specs.BTreeMap.{insert_entry, is_at}
 use Rattle.std.specs.Cmp.{ranks}
@@ -15,6 +15,7 @@ use Rattle.store_api.proofs.Times.{times-append}
 use Rattle.key_order.specs.Pairs.{choose, lookup, put, take_out}
 use Rattle.doc_vector.specs.Documents.{beside_document}
 use Rattle.posting_store.proofs.ItemLemmas.{cmp_below, cmp_above, cmp_same, cmp_apart}
+use Rattle.posting_store.proofs.PairLemmas.{above_apart}
 
 -- what is gathered of the reference found
 abbrev pub found : (ℕ → List ℕ) → Option ℕ → List ℕ
@@ -99,15 +100,6 @@ module _ {B : Type 0} (h k : ℕ → B) (doc ref : ℕ) (x : B) (is : k ref ≡ 
           ∙ ap (λ b. (doc, b) ∷ columned k (p ∷ ps)) is
           ∙ ap (λ es. (doc, x) ∷ es) (columned-same h k (p ∷ ps) split)
           ∙ ap (λ o. match_ordering o ((doc, x) ∷ columned h (p ∷ ps)) ((p.0, x) ∷ columned h ps) ((p.0, h p.1) ∷ insert_entry nat_cmp (columned h ps) doc x)) (sym (cmp_below doc p.0 rank))
-
--- above a document that is not there it is not further on
-above_apart : (doc k x : ℕ) → doc < k → nat_cmp k x ≡ Less → is_eq (nat_cmp doc x) ≡ false
-above_apart doc k x up less = told (nat_cmp k x) less (ranks k x)
-  where
-    told : (o : Ordering) → o ≡ Less → MatchOrdering o (k < x) (k ≡ x) (x < k) → is_eq (nat_cmp doc x) ≡ false
-    told Less e rank = cmp_apart doc x (λ same. absurd (omega arith))
-    told Equal e rank = absurd (grind (arith, e))
-    told Greater e rank = absurd (grind (arith, e))
 
 module _ {B : Type 0} (h : ℕ → B) (doc : ℕ) where
   none_out : (k : ℕ) (ps : List (ℕ × ℕ)) → doc < k → AllByRecursion (λ x. nat_cmp k x ≡ Less) (map (λ p. p.0) ps)

@@ -33,7 +33,7 @@ all_mapped : {A B : Type 0} (P : B → Type 0) (f : A → B) (xs : List A) → A
 all_mapped P f [] all = tt
 all_mapped P f (x ∷ xs) all = (all.0, all_mapped P f xs all.1)
 
-mapped_twice : {A B C : Type 0} (h : B → C) (f : A → B) (xs : List A) → map (λ x. h (f x)) xs ≡ map h (map f xs)
+pub mapped_twice : {A B C : Type 0} (h : B → C) (f : A → B) (xs : List A) → map (λ x. h (f x)) xs ≡ map h (map f xs)
 mapped_twice h f [] = refl
 mapped_twice h f (x ∷ xs) = ap (λ ys. h (f x) ∷ ys) (mapped_twice h f xs)
 

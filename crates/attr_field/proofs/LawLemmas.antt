@@ -8,10 +8,11 @@ use Rattle.attr_images.specs.Documents.{column_at, documents_reach}
 use Rattle.attr_images.specs.Postings.{index_of}
 use Rattle.attr_index.proofs.OfLemmas.{empty_index, has_values, has_lists}
 use Rattle.attr_index.specs.Index.{IsIndexOf}
+use Rattle.value_index.proofs.KeyLemmas.{among_left, among_right}
 use Rattle.value_index.specs.Indexes.{index_reach}
 use Rattle.value_index.specs.Laws.{NothingIsIndex, IndexStays, IndexIsLawful, KeyIsRead}
 use Rattle.attr_field.specs.Laws.{NothingIsField, FieldStays, FieldIsLawful, FieldOwnsKeys, FieldReaches, FieldReachesOwn}
-use Rattle.attr_field.proofs.RefLemmas.{among_left, among_right, among_either}
+use Rattle.attr_field.proofs.RefLemmas.{among_either}
 
 pub field_nothing : NothingIsDocuments → NothingIsIndex → NothingIsField
 field_nothing documents index kind type m = (

@@ -12,15 +12,6 @@ use Rattle.attr_types.specs.declared.kind.Kind.{Kind}
 use Rattle.value_index.specs.Indexes.{index_part, index_reach}
 use Rattle.attr_field.specs.Fields.{field_part}
 
-pub among_left : (r : ℕ) (xs ys : List ℕ) → Among r xs → Among r (xs ++ ys)
-among_left r [] ys among = absurd among
-among_left r (x ∷ xs) ys (inl e) = inl e
-among_left r (x ∷ xs) ys (inr later) = inr (among_left r xs ys later)
-
-pub among_right : (r : ℕ) (xs ys : List ℕ) → Among r ys → Among r (xs ++ ys)
-among_right r [] ys among = among
-among_right r (x ∷ xs) ys among = inr (among_right r xs ys among)
-
 pub among_either : (r : ℕ) (xs ys : List ℕ) → Among r (xs ++ ys) → Among r xs ⊎ Among r ys
 among_either r [] ys among = inr among
 among_either r (x ∷ xs) ys (inl e) = inl (inl e)

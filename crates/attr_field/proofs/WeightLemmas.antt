@@ -6,8 +6,9 @@ use Rattle.std.specs.BTreeMap.{insert_entry, is_at}
 use Rattle.std.specs.List.{AllByRecursion, find}
 use Rattle.std.specs.Map.{keys_of, lookup}
 use Rattle.std.specs.Option.{is_some}
+use Rattle.attr_images.proofs.ImageLemmas.{value_typed}
 use Rattle.attr_images.specs.Documents.{column_at, items_at, weighted}
-use Rattle.attr_images.specs.Values.{stored_value, value_of}
+use Rattle.attr_images.specs.Values.{stored_value}
 use Rattle.attr_index.proofs.MapLemmas.{lookup-first_weights}
 use Rattle.attr_index.proofs.OfLemmas.{all_then}
 use Rattle.attr_index.specs.Changes.{first_weights, settled, IsBetween}
@@ -19,7 +20,6 @@ use Rattle.attr_types.specs.Value.{value_cmp, values_of, type_of, AreOfType}
 use Rattle.attr_types.specs.declared.items.Item.{Item}
 use Rattle.attr_types.specs.declared.kind.Kind.{Kind}
 use Rattle.attr_types.specs.declared.kind.ValueType.{ValueType}
-use Rattle.attr_types.specs.declared.kind.ValueType.TheVariants as types
 use Rattle.attr_types.specs.declared.value.Value.{Value}
 use Rattle.image_base.specs.Records.{Records}
 use Rattle.tree_images.specs.Trees.{tree_pairs}
@@ -45,11 +45,6 @@ typed_from type es (item ∷ items) typed all =
 pub weights_typed : (type : ValueType) (entries : List (Value × ℤ)) (items : List Item) → entries ≡ first_weights [] items → AreOfType type (values_of items)
     → AreOfType type (keys_of entries)
 weights_typed type entries items is typed = subst (λ (es : List (Value × ℤ)). AreOfType type (keys_of es)) (sym is) (typed_from type [] items tt typed)
-
--- the values of stored documents are of the type by which they are read
-value_typed : (type : ValueType) (ws : List ℕ) → type_of (value_of type ws) ≡ type
-value_typed types.Long ws = refl
-value_typed types.Text ws = refl
 
 entries_typed : (type : ValueType) (m : Records) (es : List (ℕ × ℤ))
     → AreOfType type (values_of (Rattle.std.proofs.Common.map (λ (e : ℕ × ℤ). let item : Item = record { value = stored_value type m e.0; weight = e.1 } in item) es))

@@ -2,13 +2,13 @@
 use Rattle.std.proofs.Common.{◌≡◌, ℕ, ℤ, List, [], length, Option, Some, None, nat_cmp, refl, sym, ap, subst, ◌∙◌, inl, inr}
 use Rattle.std.proofs.lemmas.Cmp.{nat_cmp_total}
 use Rattle.std.specs.Prelude.{◌⊎◌, IsSome, unwrap_or}
-use Rattle.std.specs.BTreeMap.{insert_entry, is_at}
+use Rattle.std.specs.BTreeMap.{insert_entry}
 use Rattle.std.specs.List.Sorted.{IsStrictlySortedBy}
-use Rattle.std.specs.Map.{keys_of, lookup}
+use Rattle.std.specs.Map.{keys_of}
 use Rattle.std.specs.Option.{is_some}
-use Rattle.attr_index.proofs.ChangeLemmas.{documents_with-at, documents_with-change}
+use Rattle.attr_index.proofs.ChangeLemmas.{documents_with-at, documents_with-change, settled_is}
 use Rattle.attr_index.proofs.ListLemmas.{list_of-sorted}
-use Rattle.attr_index.proofs.PartLemmas.{insert_same, placed, remove_none}
+use Rattle.attr_index.proofs.PartLemmas.{insert_same, placed}
 use Rattle.attr_index.specs.Changes.{first_weights, settled, IsBetween}
 use Rattle.attr_index.specs.Columns.{Column, documents_with, items_of, with_change}
 use Rattle.attr_index.specs.Index.{Index, IsIndexOf, list_of, weight_in}
@@ -23,11 +23,6 @@ use Rattle.attr_field.proofs.ChangeLemmas.{weights}
 use Rattle.attr_field.proofs.WeightLemmas.{weights_are}
 
 -- ---- the list of a value after one walk or both
-settled_is : (doc : ℕ) (added removed : Option ℤ) (docs : List (ℕ × ℤ)) → lookup (is_at (nat_cmp doc)) docs ≡ removed → settled added removed doc docs ≡ placed added doc docs
-settled_is doc (Some weight) removed docs there = refl
-settled_is doc None (Some weight) docs there = refl
-settled_is doc None None docs there = sym (remove_none doc docs there)
-
 settled_added : (doc : ℕ) (added removed : Option ℤ) (docs : List (ℕ × ℤ)) → IsSome added → settled added None doc docs ≡ settled added removed doc docs
 settled_added doc None removed docs some = cc
 settled_added doc (Some weight) removed docs some = refl

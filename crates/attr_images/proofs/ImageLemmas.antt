@@ -150,16 +150,16 @@ table_lawful fields m root few lawful =
     subst (λ attributes. IsLawfulTable fields (table_of_columns (columns_at m attributes))) (sym are)
     (columns_make_lawful fields (columns_at m (attributes_from 0 (types_of fields) (root_words m root))) (columns_lawful m 0 fields (root_words m root) good.each) good.documents)
 
-value_typed : (type : ValueType) (ws : List ℕ) → type_of (value_of type ws) ≡ type
+pub value_typed : (type : ValueType) (ws : List ℕ) → type_of (value_of type ws) ≡ type
 value_typed types.Long ws = refl
 value_typed types.Text ws = refl
 
-items_typed : (type : ValueType) (m : Records) (es : List (ℕ × ℤ))
+pub items_typed : (type : ValueType) (m : Records) (es : List (ℕ × ℤ))
     → AllByRecursion (λ value. type_of value ≡ type) (map (λ (item : Item). item.value) (map (λ (e : ℕ × ℤ). let item : Item = record { value = stored_value type m e.0; weight = e.1 } in item) es))
 items_typed type m [] = tt
 items_typed type m (e ∷ es) = (value_typed type (m e.0), items_typed type m es)
 
-pairs_typed : (field : Field) (m : Records) (ps : List (ℕ × ℕ)) → IsTyped field (map (λ (p : ℕ × ℕ). (p.0, items_at field.kind field.value m p.1)) ps)
+pub pairs_typed : (field : Field) (m : Records) (ps : List (ℕ × ℕ)) → IsTyped field (map (λ (p : ℕ × ℕ). (p.0, items_at field.kind field.value m p.1)) ps)
 pairs_typed field m [] = tt
 pairs_typed field m (p ∷ ps) = (items_typed field.value m (weighted field.kind p.1 (m p.1)), pairs_typed field m ps)
 
@@ -176,7 +176,7 @@ table_has_type fields m root few =
 same_some : {X : Type 0} (a b : X) → Some a ≡ Some b → a ≡ b
 same_some a b e = cc
 
-all_at : {X : Type 0} (P : X → Type 0) (xs : List X) (i : ℕ) (x : X) → AllByRecursion P xs → slice_get xs i ≡ Some x → P x
+pub all_at : {X : Type 0} (P : X → Type 0) (xs : List X) (i : ℕ) (x : X) → AllByRecursion P xs → slice_get xs i ≡ Some x → P x
 all_at P [] i x all at = cc
 all_at P (y ∷ xs) zero x all at = subst P (same_some y x at) all.0
 all_at P (y ∷ xs) (suc i) x all at = all_at P xs i x all.1 at
@@ -204,7 +204,7 @@ module _ (fields : List Field) (m : Records) (root : ℕ) (few : length fields �
       }
 
 -- the root of a tree is there
-node_there : (m : Records) (least level ref : ℕ) → IsNode m least level ref → 0 < length (m ref)
+pub node_there : (m : Records) (least level ref : ℕ) → IsNode m least level ref → 0 < length (m ref)
 unfolding IsNode
 node_there m least zero ref node = let size = node.0.size in omega arith
 node_there m least (suc level) ref node = let size = node.0.size in omega arith

@@ -193,7 +193,7 @@ columns_make (suc n) (column ∷ next ∷ rest) table size rows each =
     (λ i other at. each (suc i) other at ∙ later_column i table))
     ∙ of_more table (suc n) rows
 
-document_size : (fields : List Field) (document : Document) → IsLawfulDocument fields document → length document ≡ length fields
+pub document_size : (fields : List Field) (document : Document) → IsLawfulDocument fields document → length document ≡ length fields
 document_size [] [] lawful = refl
 document_size [] (items ∷ document) lawful = absurd lawful
 document_size (field ∷ fields) [] lawful = absurd lawful

@@ -1,20 +1,17 @@
 -- The two walks, from the index of a column to that of the column changed.
-use Rattle.std.proofs.Common.{◌≡◌, ℕ, ℤ, Bool, true, false, ◌||◌, cond, List, [], ◌∷◌, ◌++◌, Option, Some, None}
+use Rattle.std.proofs.Common.{◌≡◌, ℕ, ℤ, Bool, true, false, List, [], Option, Some, None}
 use Rattle.std.proofs.Common.{nat_cmp, is_eq, refl, sym, ap, ◌∙◌, subst}
-use Rattle.std.proofs.lemmas.Bool.Decides.{Decides-int_eq}
-use Rattle.std.proofs.lemmas.Cmp.{nat_cmp_total}
 use Rattle.std.specs.BTreeMap.{insert_entry, is_at}
 use Rattle.std.specs.List.Sorted.{IsStrictlySortedBy}
 use Rattle.std.specs.Map.{keys_of, lookup, remove_entry}
-use Rattle.std.specs.Option.{option_and_then, unwrap_or, is_some}
-use Rattle.attr_types.proofs.EntryLemmas.{sorted-insert, sorted-remove}
+use Rattle.std.specs.Option.{option_and_then, unwrap_or}
 use Rattle.attr_types.specs.Value.{value_cmp}
 use Rattle.attr_types.specs.declared.items.Item.{Item}
 use Rattle.attr_types.specs.declared.value.Value.{Value}
 use Rattle.attr_index.specs.Columns.{Column, documents_with, items_of, with_change}
-use Rattle.attr_index.proofs.PartLemmas.{placed, sorted-part, part-insert, part-remove, lookup-part, insert_same, remove_none}
-use Rattle.attr_index.proofs.ListLemmas.{same_value, list_of-sorted, list_of-with_list_here, list_of-with_list_other, formed-with_list}
-use Rattle.attr_index.proofs.ListLemmas.{weight_in-kept, weight_in-push_new, weight_in-push_other, documents_with-part}
+use Rattle.attr_index.proofs.PartLemmas.{placed, sorted-part, part-insert, part-remove, lookup-part, remove_none}
+use Rattle.attr_index.proofs.ListLemmas.{same_value}
+use Rattle.attr_index.proofs.ListLemmas.{documents_with-part}
 use Rattle.attr_index.specs.Index.{Index, IsFormed, IsIndexOf, list_of, weight_in}
 use Rattle.attr_index.specs.Changes.{HasItems, settled, IsPartway}
 
@@ -73,7 +70,7 @@ pub has_items : (table : Column) (start : Index) (doc : ℕ) → IsStrictlySorte
     → HasItems start doc (items_of table doc)
 has_items table start doc up of value = ap (lookup (is_at (nat_cmp doc))) (of.lists value) ∙ documents_with-at table doc value up
 
-settled_is : (doc : ℕ) (added removed : Option ℤ) (docs : List (ℕ × ℤ)) → lookup (is_at (nat_cmp doc)) docs ≡ removed
+pub settled_is : (doc : ℕ) (added removed : Option ℤ) (docs : List (ℕ × ℤ)) → lookup (is_at (nat_cmp doc)) docs ≡ removed
     → settled added removed doc docs ≡ placed added doc docs
 settled_is doc (Some weight) removed docs there = refl
 settled_is doc None (Some weight) docs there = refl

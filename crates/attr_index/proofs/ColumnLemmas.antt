@@ -1,10 +1,10 @@
 -- A column of a table: it is lawful where the table is, and an operation changes the items of its document in it.
-use Rattle.std.proofs.Common.{◌≡◌, ℕ, suc, zero, Ordering, Less, Equal, Greater, Bool, true, false, List, [], ◌∷◌, map, Option, Some, None, option_map, nat_cmp, is_eq, refl, sym, ap, ◌∙◌, subst, cond}
+use Rattle.std.proofs.Common.{◌≡◌, ℕ, suc, zero, Ordering, Less, Equal, Greater, Bool, true, false, List, [], ◌∷◌, Option, Some, None, option_map, nat_cmp, is_eq, refl, sym, ap, ◌∙◌, subst, cond}
 use Rattle.std.proofs.lemmas.Cmp.{nat_cmp_total, tied_itself}
 use Rattle.std.specs.BTreeMap.{insert_entry, is_at}
 use Rattle.std.specs.List.{AllByRecursion}
 use Rattle.std.specs.List.Sorted.{IsStrictlySortedBy}
-use Rattle.std.specs.Map.{keys_of, lookup, remove_entry}
+use Rattle.std.specs.Map.{keys_of, remove_entry}
 use Rattle.std.specs.Option.{option_and_then}
 use Rattle.std.specs.Prelude.{slice_get}
 use Rattle.attr_types.proofs.EntryLemmas.{lookup-remove}
@@ -19,7 +19,7 @@ use Rattle.attr_types.specs.declared.field.Field.{Field}
 use Rattle.attr_types.specs.declared.items.Item.{Item}
 use Rattle.attr_types.specs.declared.op.Op.{Op}
 use Rattle.attr_types.specs.declared.op.Op.TheVariants.{Put, Update, Remove}
-use Rattle.attr_index.specs.Columns.{Column, IsLawfulColumn, column_of, with_change}
+use Rattle.attr_index.specs.Columns.{IsLawfulColumn, column_of, with_change}
 
 -- ---- the column is lawful
 keys-column : (i : ℕ) (table : Table) → keys_of (column_of i table) ≡ keys_of table
@@ -60,7 +60,7 @@ column-insert : (i : ℕ) (table : Table) (doc : ℕ) (document : Document)
 column-insert i [] doc document = refl
 column-insert i (e ∷ es) doc document = insert_at i e es doc document (nat_cmp doc e.0) refl (column-insert i es doc document)
 
-remove_at : (i : ℕ) (test : ℕ → Bool) (e : ℕ × Document) (es : Table) (b : Bool) → test e.0 ≡ b
+pub remove_at : (i : ℕ) (test : ℕ → Bool) (e : ℕ × Document) (es : Table) (b : Bool) → test e.0 ≡ b
     → column_of i (remove_entry test es) ≡ remove_entry test (column_of i es)
     → column_of i (remove_entry test (e ∷ es)) ≡ remove_entry test (column_of i (e ∷ es))
 remove_at i test e es true is rest = cc

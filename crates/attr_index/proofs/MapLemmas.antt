@@ -44,12 +44,12 @@ lookup-push_other : (value : Value) (weight : ℤ) (es : List (Value × ℤ)) (q
 lookup-push_other value weight [] q apart = ap (λ b. cond b (Some weight) None) apart
 lookup-push_other value weight (e ∷ es) q apart = ap (cond (is_eq (value_cmp q e.0)) (Some e.1)) (lookup-push_other value weight es q apart)
 
-at_place : (first value : Value) (weight : ℤ) (es more : List (Value × ℤ))
+pub at_place : (first value : Value) (weight : ℤ) (es more : List (Value × ℤ))
     → AllByRecursion (λ y. value_cmp first y ≡ Less) (keys_of (es ++ (value, weight) ∷ more)) → value_cmp first value ≡ Less
 at_place first value weight [] more all = all.0
 at_place first value weight (e ∷ es) more all = at_place first value weight es more all.1
 
-none_before : (value : Value) (weight : ℤ) (es more : List (Value × ℤ)) → IsStrictlySortedBy value_cmp (keys_of (es ++ (value, weight) ∷ more))
+pub none_before : (value : Value) (weight : ℤ) (es more : List (Value × ℤ)) → IsStrictlySortedBy value_cmp (keys_of (es ++ (value, weight) ∷ more))
     → lookup (is_at (value_cmp value)) es ≡ None
 unfolding IsStrictlySortedBy
 none_before value weight [] more up = refl

@@ -1,19 +1,18 @@
 -- The table that trees read as, column by column, and one document of it changed.
-use Rattle.std.proofs.Common.{◌≡◌, ℕ, suc, ◌<◌, ◌≤◌, Bool, true, false, List, [], ◌∷◌, length, map, nat_cmp, Option, Some, None, option_map, refl, sym, ap, ◌∙◌, arith}
-use Rattle.std.specs.Prelude.{ℤ, slice_get}
+use Rattle.std.proofs.Common.{◌≡◌, ℕ, suc, ◌<◌, ◌≤◌, Bool, List, [], ◌∷◌, length, nat_cmp, Option, Some, None, option_map, refl, sym, ap, ◌∙◌, arith}
+use Rattle.std.specs.Prelude.{slice_get}
 use Rattle.std.specs.BTreeMap.{is_at}
 use Rattle.std.specs.List.{AllByRecursion, AllZip}
 use Rattle.std.specs.Map.{remove_entry}
 use Rattle.std.specs.Option.{IfSome}
 use Rattle.image_base.specs.Records.{Records, Among, SameAt}
 use Rattle.tree_images.specs.Trees.{tree_pairs}
-use Rattle.attr_index.proofs.ColumnLemmas.{operation_changes}
+use Rattle.attr_index.proofs.ColumnLemmas.{operation_changes, remove_at}
 use Rattle.attr_index.specs.Columns.{Column, IsLawfulColumn, column_of, with_change}
 use Rattle.attr_images.proofs.TableLemmas.{IsTyped, table_has_columns, columns_make_lawful, columns_make_typed, columns_make_table, columns_have_same}
+use Rattle.attr_images.proofs.ImageLemmas.{pairs_typed}
 use Rattle.attr_images.specs.Attributes.{IsLawfulAttribute}
-use Rattle.attr_images.specs.Documents.{items_at, weighted}
 use Rattle.attr_images.specs.Tables.{AttributeTrees, HaveSameDocuments, columns_at}
-use Rattle.attr_images.specs.Values.{stored_value, value_of}
 use Rattle.attr_documents.specs.Documents.{documents_refer}
 use Rattle.attr_field.specs.Laws.{FieldIsSame}
 use Rattle.attr_field.specs.declared.roots.FieldRoots.{FieldRoots}
@@ -23,11 +22,8 @@ use Rattle.attr_types.proofs.TableLemmas.{Sound, sound-with, sound-without, put_
 use Rattle.attr_types.specs.Lawful.{IsLawfulTable, IsDocNumber}
 use Rattle.attr_types.specs.Query.{items_in}
 use Rattle.attr_types.specs.Table.{Table, with_document}
-use Rattle.attr_types.specs.Value.{Document, type_of}
+use Rattle.attr_types.specs.Value.{Document}
 use Rattle.attr_types.specs.declared.field.Field.{Field}
-use Rattle.attr_types.specs.declared.items.Item.{Item}
-use Rattle.attr_types.specs.declared.kind.ValueType.{ValueType}
-use Rattle.attr_types.specs.declared.kind.ValueType.TheVariants as types
 use Rattle.attr_types.specs.declared.op.Op.TheVariants.{Put}
 use Rattle.attr_steps.specs.Fields.{AreFields, FitsFields, IsFieldAt, column_in, part_of, table_with, trees_of}
 use Rattle.attr_steps.specs.Views.{table_at}
@@ -41,12 +37,6 @@ pub record FieldLaws : Type 0 where
   pub keys : (a : AttributeTrees) (m : Records) (r : ℕ) → IsFieldAt m a → IsKey m a.dictionary r → Among r ((part_of a).reach m)
 
 -- ---- a document of a table changed, in one column
-remove_at : (i : ℕ) (test : ℕ → Bool) (e : ℕ × Document) (es : Table) (b : Bool) → test e.0 ≡ b
-    → column_of i (remove_entry test es) ≡ remove_entry test (column_of i es)
-    → column_of i (remove_entry test (e ∷ es)) ≡ remove_entry test (column_of i (e ∷ es))
-remove_at i test e es true is rest = cc
-remove_at i test e es false is rest = cc
-
 column_remove : (i : ℕ) (test : ℕ → Bool) (table : Table) → column_of i (remove_entry test table) ≡ remove_entry test (column_of i table)
 column_remove i test [] = refl
 column_remove i test (e ∷ es) = remove_at i test e es (test e.0) refl (column_remove i test es)
@@ -65,19 +55,6 @@ sound_changed fields table doc (Some document) sound number fits =
     sound-with fields table doc document sound number (document_fits fields document fits.lawful fits.typed)
 
 -- ---- the columns have values of their types
-value_typed : (type : ValueType) (ws : List ℕ) → type_of (value_of type ws) ≡ type
-value_typed types.Long ws = refl
-value_typed types.Text ws = refl
-
-items_typed : (type : ValueType) (m : Records) (es : List (ℕ × ℤ))
-    → AllByRecursion (λ value. type_of value ≡ type) (map (λ (item : Item). item.value) (map (λ (e : ℕ × ℤ). let item : Item = record { value = stored_value type m e.0; weight = e.1 } in item) es))
-items_typed type m [] = tt
-items_typed type m (e ∷ es) = (value_typed type (m e.0), items_typed type m es)
-
-pairs_typed : (field : Field) (m : Records) (ps : List (ℕ × ℕ)) → IsTyped field (map (λ (p : ℕ × ℕ). (p.0, items_at field.kind field.value m p.1)) ps)
-pairs_typed field m [] = tt
-pairs_typed field m (p ∷ ps) = (items_typed field.value m (weighted field.kind p.1 (m p.1)), pairs_typed field m ps)
-
 module _ {bits : ℕ} (m : Records) where
   columns_typed : (fields : List Field) (roots : List (FieldRoots bits)) → length roots ≡ length fields → AllZip IsTyped fields (columns_at m (trees_of fields roots))
   columns_typed [] roots same = tt

@@ -1,7 +1,8 @@
 -- A commit of what parts own, by an image that reaches the same records.
-use Rattle.std.proofs.Common.{◌≡◌, ℕ, zero, suc, ◌+◌, ◌<◌, ◌≤◌, Bool, true, false, not, ◌&&◌, Option, None, Some, ne_eqb, List, [], ◌∷◌, ◌++◌, refl, sym, ap, subst, ◌∙◌, arith, inl, inr, ◌⊎◌, true≢false}
+use Rattle.std.proofs.Common.{◌≡◌, ℕ, zero, suc, ◌+◌, ◌<◌, ◌≤◌, Bool, true, false, not, ◌&&◌, Option, None, Some, ne_eqb, List, [], ◌∷◌, refl, sym, ap, subst, ◌∙◌, arith, inl, inr, ◌⊎◌, true≢false}
 use Rattle.std.proofs.lemmas.Bool.{cases_Bool, cases_eq, eq-eqb}
 use Rattle.std.specs.List.{AllByRecursion}
+use Rattle.value_index.proofs.KeyLemmas.{among_left, among_right}
 use Rattle.list_facts.specs.Counting.{one_if}
 use Rattle.entry_ref.specs.References.{buffer_of}
 use Rattle.image_base.specs.Images.{image_of, words_at}
@@ -21,29 +22,12 @@ use Rattle.attr_images.specs.Attributes.{trees_reach}
 use Rattle.attr_images.specs.Tables.{AttributeTrees, attributes_reach}
 use Rattle.attr_documents.specs.Documents.{documents_refer}
 use Rattle.attr_field.specs.Laws.{FieldReaches}
-use Rattle.attr_field.proofs.RefLemmas.{same_among, same_each}
+use Rattle.attr_field.proofs.RefLemmas.{same_among, same_each, among_either}
 use Rattle.attr_steps.specs.Fields.{AllReferBeside, IsFieldAt, OwnsOutside, StillRefer, part_of, parts_of}
 use Rattle.attr_steps.proofs.Columns.{FieldLaws}
 use Rattle.attr_steps.proofs.Referring.{AreSame, key_owned}
 
 -- ---- the records that attributes reach are those that they own
-among_left : (r : ℕ) (xs ys : List ℕ) → Among r xs → Among r (xs ++ ys)
-among_left r [] ys among = absurd among
-among_left r (x ∷ xs) ys (inl e) = inl e
-among_left r (x ∷ xs) ys (inr later) = inr (among_left r xs ys later)
-
-among_right : (r : ℕ) (xs ys : List ℕ) → Among r ys → Among r (xs ++ ys)
-among_right r [] ys among = among
-among_right r (x ∷ xs) ys among = inr (among_right r xs ys among)
-
-among_either : (r : ℕ) (xs ys : List ℕ) → Among r (xs ++ ys) → Among r xs ⊎ Among r ys
-among_either r [] ys among = inr among
-among_either r (x ∷ xs) ys (inl e) = inl (inl e)
-among_either r (x ∷ xs) ys (inr later) = elim (among_either r xs ys later) [
-  | inl here ↦ inl (inr here)
-  | inr there ↦ inr there
-]
-
 pub either_some : (a b : ℕ) → 0 < a + b → (0 < a) ⊎ (0 < b)
 either_some zero b some = inr (omega arith)
 either_some (suc a) b some = inl (omega arith)

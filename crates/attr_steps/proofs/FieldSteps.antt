@@ -18,6 +18,8 @@ use Rattle.attr_types.specs.Value.{Document}
 use Rattle.attr_types.specs.declared.field.Field.{Field}
 use Rattle.attr_types.specs.declared.items.Item.{Item}
 use Rattle.attr_index.specs.Columns.{Column, column_of, items_of as items_had, with_change}
+use Rattle.attr_images.proofs.ImageLemmas.{all_at}
+use Rattle.attr_images.proofs.TableLemmas.{document_size}
 use Rattle.attr_images.specs.Documents.{column_at}
 use Rattle.attr_field.specs.Changes.{MakesField}
 use Rattle.attr_field.specs.Fields.{field_part, IsField, RefersBeside}
@@ -29,7 +31,7 @@ use Rattle.attr_steps.specs.Fields.{FitsFields, IsFieldAt, column_in, part_of, p
 use Rattle.attr_steps.specs.Counts.{items_if_there}
 use Rattle.attr_steps.specs.Views.{table_at}
 use Rattle.attr_steps.specs.Widths.{IsChangedWidth}
-use Rattle.attr_steps.proofs.TreeLists.{all_at, some_is, tree_get, tree_set}
+use Rattle.attr_steps.proofs.TreeLists.{some_is, tree_get, tree_set}
 use Rattle.attr_steps.proofs.PartLists.{count_at}
 use Rattle.attr_steps.proofs.Columns.{FieldLaws, column_with}
 use Rattle.attr_steps.proofs.Referring.{RefersAt}
@@ -52,12 +54,6 @@ lookup_at test i e es false is rest = cc
 pub lookup_column : (test : ℕ → Bool) (i : ℕ) (table : Table) → lookup test (column_of i table) ≡ option_map (λ d. items_in d i) (lookup test table)
 lookup_column test i [] = refl
 lookup_column test i (e ∷ es) = lookup_at test i e es (test e.0) refl (lookup_column test i es)
-
-pub document_size : (fields : List Field) (document : Document) → IsLawfulDocument fields document → length document ≡ length fields
-document_size [] [] lawful = refl
-document_size [] (items ∷ document) lawful = absurd lawful
-document_size (field ∷ fields) [] lawful = absurd lawful
-document_size (field ∷ fields) (items ∷ document) lawful = ap suc (document_size fields document lawful.1)
 
 pub found_size : (fields : List Field) (table : Table) (doc i : ℕ) (o : Option Document) → Sound fields table → o ≡ document_at table doc → i < length fields
     → IfSome o (λ d. i < length d)

@@ -3,6 +3,8 @@ use Rattle.std.proofs.Common.{◌≡◌, ℕ, zero, suc, ◌+◌, ◌<◌, List,
 use Rattle.std.specs.Prelude.{slice_get, IsSome}
 use Rattle.std.specs.BTreeMap.{is_at}
 use Rattle.std.specs.Map.{lookup}
+use Rattle.attr_images.proofs.ImageLemmas.{all_at}
+use Rattle.attr_images.proofs.TableLemmas.{document_size}
 use Rattle.image_base.specs.Records.{Records}
 use Rattle.attr_types.proofs.TableLemmas.{Sound}
 use Rattle.attr_types.specs.Query.{items_in}
@@ -15,9 +17,9 @@ use Rattle.attr_types.specs.Lawful.{IsLawfulDocument}
 use Rattle.attr_field.specs.declared.roots.FieldRoots.{FieldRoots}
 use Rattle.attr_steps.specs.Fields.{AreFields, IsFieldAt, column_in, trees_of, trees_of_field}
 use Rattle.attr_steps.specs.Views.{table_at}
-use Rattle.attr_steps.proofs.TreeLists.{all_at, some_is, tree_get}
+use Rattle.attr_steps.proofs.TreeLists.{some_is, tree_get}
 use Rattle.attr_steps.proofs.Columns.{column_at_tree}
-use Rattle.attr_steps.proofs.FieldSteps.{document_size, lookup_column}
+use Rattle.attr_steps.proofs.FieldSteps.{lookup_column}
 
 -- what was read of a document that may be there
 pub record ReadsSoFar (i : ℕ) (found : Option Document) (items : List (List Item)) : Type 0 where

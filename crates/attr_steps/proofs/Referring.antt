@@ -13,11 +13,12 @@ use Rattle.attr_field.specs.Changes.{KeepsCopies}
 use Rattle.attr_field.specs.Fields.{RefersBeside}
 use Rattle.attr_field.specs.Laws.{FieldIsSame}
 use Rattle.attr_field.proofs.RefLemmas.{same_among, same_each}
+use Rattle.attr_images.proofs.ImageLemmas.{all_at}
 use Rattle.attr_images.specs.Tables.{AttributeTrees}
 use Rattle.value_index.specs.Indexes.{IsKey}
 use Rattle.attr_steps.specs.Fields.{AllReferBeside, IsFieldAt, part_of, parts_of}
 use Rattle.attr_steps.proofs.Columns.{FieldLaws}
-use Rattle.attr_steps.proofs.TreeLists.{all_at, all_from, get_set-same, get_set-other, some_is}
+use Rattle.attr_steps.proofs.TreeLists.{all_from, get_set-same, get_set-other, some_is}
 
 -- attributes in other records, the same
 abbrev pub IsSameAt : Records → Records → AttributeTrees → Type 0

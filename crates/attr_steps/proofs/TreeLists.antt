@@ -1,5 +1,5 @@
 -- Lists with one element replaced, and the trees of fields and roots.
-use Rattle.std.proofs.Common.{◌≡◌, ◌≢◌, ℕ, zero, suc, List, [], ◌∷◌, length, map, set, Some, refl, sym, ap, subst, ◌∙◌, arith}
+use Rattle.std.proofs.Common.{◌≡◌, ◌≢◌, ℕ, zero, suc, List, [], ◌∷◌, length, map, set, Some, refl, sym, ap, ◌∙◌, arith}
 use Rattle.std.specs.Prelude.{slice_get}
 use Rattle.std.specs.List.{AllByRecursion}
 use Rattle.attr_field.specs.declared.roots.FieldRoots.{FieldRoots}
@@ -41,11 +41,6 @@ pub map_at : {X Y : Type 0} (f : X → Y) (xs : List X) (i : ℕ) (y : Y) → sl
 map_at f [] i y at = cc
 map_at f (first ∷ xs) zero y at = (first, refl, sym (some_is (f first) y at))
 map_at f (first ∷ xs) (suc i) y at = map_at f xs i y at
-
-pub all_at : {X : Type 0} (P : X → Type 0) (xs : List X) (i : ℕ) (x : X) → AllByRecursion P xs → slice_get xs i ≡ Some x → P x
-all_at P [] i x all at = cc
-all_at P (first ∷ xs) zero x all at = subst P (some_is first x at) all.0
-all_at P (first ∷ xs) (suc i) x all at = all_at P xs i x all.1 at
 
 pub all_from : {X : Type 0} (P : X → Type 0) (xs : List X) → ((i : ℕ) (x : X) → slice_get xs i ≡ Some x → P x) → AllByRecursion P xs
 all_from P [] each = tt

@@ -11,6 +11,7 @@ use Rattle.store_api.specs.Units.{MayDo}
 use Rattle.store_api.proofs.PartLemmas.{turns-same, turns-then}
 use Rattle.attr_field.specs.Changes.{KeepsCopies}
 use Rattle.attr_index.specs.Columns.{column_of, with_change}
+use Rattle.attr_images.proofs.ImageLemmas.{all_at}
 use Rattle.attr_images.specs.Tables.{AttributeTrees}
 use Rattle.attr_types.proofs.TableLemmas.{Sound}
 use Rattle.attr_types.specs.Lawful.{IsDocNumber}
@@ -23,7 +24,7 @@ use Rattle.attr_steps.specs.Fields.{AllReferBeside, AreFields, ChangesFields, Fi
 use Rattle.attr_steps.specs.Views.{table_at}
 use Rattle.attr_steps.proofs.Flowing.{all_same, all_step, may_unsealed, one_stays, step_set}
 use Rattle.attr_steps.proofs.Referring.{IsSameAt, RefersAt, all_changed, changed_refers, stays_beside}
-use Rattle.attr_steps.proofs.TreeLists.{all_at, all_from, get_set-same, get_set-other, rest_at, set_length, some_is}
+use Rattle.attr_steps.proofs.TreeLists.{all_from, get_set-same, get_set-other, rest_at, set_length, some_is}
 use Rattle.attr_steps.proofs.PartLists.{stay_at, turn_at}
 use Rattle.attr_steps.proofs.Columns.{FieldLaws, ArePartly, column_with, done_fields, done_table, partly_begins, sound_changed}
 

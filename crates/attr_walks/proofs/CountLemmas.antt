@@ -95,7 +95,7 @@ pub levels_few : (m : Records) (root : ℕ) → levels m root ≤ 8
 levels_few m zero = omega arith
 levels_few m (suc ref) = omega arith
 
-form_few : (m : Records) (form : ListForm) → form_levels m form ≤ 8
+pub form_few : (m : Records) (form : ListForm) → form_levels m form ≤ 8
 form_few m (short ref) = omega arith
 form_few m (tree root) = levels_few m root
 form_few m (vector root) = levels_few m root

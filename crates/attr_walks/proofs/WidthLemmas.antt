@@ -1,12 +1,12 @@
 -- Of which width a walk was refused.
-use Rattle.std.proofs.Common.{◌≡◌, ℕ, ℤ, List, [], ◌∷◌, ◌++◌, length, cond, Option, Some, None, is_eq, nat_cmp, Less, refl, sym, ap, subst, ◌∙◌, inl, inr}
+use Rattle.std.proofs.Common.{◌≡◌, ℕ, ℤ, List, [], ◌∷◌, ◌++◌, length, cond, Option, Some, None, is_eq, nat_cmp, refl, sym, ap, subst, ◌∙◌, inl, inr}
 use Rattle.std.specs.BTreeMap.{insert_entry, is_at}
 use Rattle.std.specs.List.{AllByRecursion}
 use Rattle.std.specs.List.Sorted.{IsStrictlySortedBy}
 use Rattle.std.specs.Map.{keys_of, lookup, remove_entry}
 use Rattle.std.specs.Option.{is_some}
 use Rattle.std.specs.Ordering.{ordering_reverse}
-use Rattle.attr_index.proofs.MapLemmas.{IsWalk, IsWalkBack}
+use Rattle.attr_index.proofs.MapLemmas.{IsWalk, IsWalkBack, at_place, none_before}
 use Rattle.attr_index.proofs.OfLemmas.{all_found}
 use Rattle.attr_index.specs.Changes.{settled}
 use Rattle.attr_index.specs.Index.{Index, list_of}
@@ -21,13 +21,6 @@ at_here : (P : Value × ℤ → Type 0) (done more : List (Value × ℤ)) (e : V
 at_here P [] more e all = all.0
 at_here P (d ∷ done) more e all = at_here P done more e all.1
 
-at_place : (first value : Value) (weight : ℤ) (es more : List (Value × ℤ)) → AllByRecursion (λ y. value_cmp first y ≡ Less) (keys_of (es ++ (value, weight) ∷ more))
-    → value_cmp first value ≡ Less
-at_place first value weight [] more all = all.0
-at_place first value weight (e ∷ es) more all = at_place first value weight es more all.1
-
-none_before : (value : Value) (weight : ℤ) (es more : List (Value × ℤ)) → IsStrictlySortedBy value_cmp (keys_of (es ++ (value, weight) ∷ more))
-    → lookup (is_at (value_cmp value)) es ≡ None
 unfolding IsStrictlySortedBy
 none_before value weight [] more up = refl
 none_before value weight (e ∷ es) more up =

@@ -12,11 +12,11 @@ use Rattle.key_order.specs.Keys.{seen_by}
 use Rattle.key_order.specs.Pairs.{seek}
 use Rattle.tree_images.specs.Trees.{by_number, last_key, tree_nodes, tree_pairs}
 use Rattle.tree_touch.specs.Paths.{path_nodes, NoneIn}
-use Rattle.tree_ways.proofs.WayLemmas.{stand_on_ways}
+use Rattle.tree_ways.proofs.WayLemmas.{stand_on_ways, all_among}
 use Rattle.tree_ways.specs.Ways.{keys_below, tree_keys}
 use Rattle.attr_cleared.specs.Cleared.{IsClearedField}
 use Rattle.attr_cleared.specs.Visits.{place_at_key, IsAmongKeys}
-use Rattle.attr_cleared.proofs.BelowLemmas.{all_among, keys_of_tree}
+use Rattle.attr_cleared.proofs.BelowLemmas.{keys_of_tree}
 use Rattle.attr_cleared.proofs.IndexClauses.{key_front, key_right, value_in_keys}
 use Rattle.attr_cleared.proofs.IndexPairs.{InPairs}
 use Rattle.attr_compaction.specs.Places.{doc_in, value_in, PlanPlace}

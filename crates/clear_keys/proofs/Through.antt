@@ -7,7 +7,7 @@ use Rattle.std.specs.List.Sorted.{IsStrictlySortedBy}
 use Rattle.std.specs.Ordering.{ordering_reverse}
 use Rattle.attr_cleared.specs.Cleared.{IsVisited}
 use Rattle.attr_cleared.specs.Visits.{place_at_key, IsAmongKeys}
-use Rattle.attr_cleared.proofs.PlanVisits.{next_visited}
+use Rattle.attr_cleared.proofs.PlanVisits.{next_visited, all_of}
 use Rattle.attr_compaction.proofs.PlaceLemmas.{key_total}
 use Rattle.attr_compaction.specs.Places.{key_cmp, PlanPlace}
 use Rattle.attr_compaction.specs.declared.plan.PlanKey.{PlanKey}
@@ -37,11 +37,6 @@ past_first key (k ∷ ks) = told (past_first key ks) (past key k)
 up_parts : (x : PlanKey) (keys : List PlanKey) → Up (x ∷ keys) → AllByRecursion (λ k. key_cmp x k ≡ Less) keys × Up keys
 unfolding IsStrictlySortedBy
 up_parts x keys up = up
-
-all_of : (P : PlanKey → Type 0) (keys : List PlanKey) → AllByRecursion P keys → (k : PlanKey) → IsAmongKeys k keys → P k
-all_of P [] all k among = absurd among
-all_of P (key ∷ keys) all k (inl e) = subst P (sym e) all.0
-all_of P (key ∷ keys) all k (inr later) = all_of P keys all.1 k later
 
 in_behind : (key k : PlanKey) (ks : List PlanKey) → IsAmongKeys k (keys_behind key ks) → IsAmongKeys k ks
 in_behind key k [] among = among

@@ -14,6 +14,7 @@ use Rattle.attr_compaction.specs.declared.plan.PlanKey.TheVariants as plan
 use Rattle.attr_compaction.specs.declared.plan.TheConstants.{DOCUMENTS, KEYS, LISTS, NODES}
 use Rattle.attr_documents.proofs.FlowLemmas.{refer_same}
 use Rattle.attr_documents.specs.Documents.{items_own}
+use Rattle.attr_field.proofs.RefLemmas.{same_each}
 use Rattle.attr_field.specs.Fields.{field_part, IsField}
 use Rattle.attr_images.specs.Postings.{short, tree, vector, list_form, postings_reach, IsPostingList, ListForm}
 use Rattle.attr_images.specs.Tables.{AttributeTrees}
@@ -27,7 +28,7 @@ use Rattle.document_moves.specs.Moves.{AreItemsApart}
 use Rattle.attr_cleared.specs.Cleared.{IsClearedField, IsVisited, ListIsCleared, NodesAreCleared}
 use Rattle.cleared_steps.specs.StepsLaws.{AllStayLeavesCleared, StayLeavesCleared}
 use Rattle.cleared_steps.proofs.StepsBelow.{keys_in_tree, keys_stay}
-use Rattle.cleared_steps.proofs.StepsLists.{all_in, all_pairs, same_at, same_each, IsIn}
+use Rattle.cleared_steps.proofs.StepsLists.{all_in, all_pairs, same_at, IsIn}
 use Rattle.cleared_steps.proofs.StepsOwned.{item_owned, key_is_owned, key_owned, list_owned, map_node_owned, value_node_owned}
 
 module _ (bits victim : ℕ) (m n : Records) where

@@ -1,40 +1,21 @@
 -- What is below a node of a tree, in one tree and in two that have nodes in common.
-use Rattle.std.proofs.Common.{◌≡◌, ℕ, zero, suc, List, [], ◌∷◌, ◌++◌, map, length, inl, inr, ◌⊎◌, refl, sym, ap, subst, ◌∙◌, arith}
+use Rattle.std.proofs.Common.{◌≡◌, ℕ, zero, suc, List, [], ◌∷◌, map, length, inl, inr, ◌⊎◌, refl, sym, ap, subst, ◌∙◌, arith}
 use Rattle.std.specs.declared.cmp.Ordering.{Ordering}
 use Rattle.std.specs.List.{flat_map, AllByRecursion}
+use Rattle.attr_cleared.proofs.BelowLemmas.{among_flat}
+use Rattle.attr_field.proofs.RefLemmas.{all_among, same_each}
 use Rattle.image_base.specs.Records.{Records, Among, SameAt}
 use Rattle.tree_images.proofs.TreeLemmas.{IsNode-form}
 use Rattle.tree_images.specs.Nodes.{level_of, node_values}
 use Rattle.tree_images.specs.ProofsForTrees.{pairs-same}
 use Rattle.tree_images.specs.Trees.{nodes_below, pairs_below, root_least, root_level, tree_nodes, IsNode, IsTree}
 use Rattle.tree_images.specs.declared.TheConstants.{NODE_WORDS}
+use Rattle.tree_ways.proofs.WayLemmas.{either_part, keys_flat}
 use Rattle.tree_ways.specs.Ways.{keys_below, tree_keys}
-use Rattle.cleared_steps.proofs.StepsLists.{all_among, among_flat, same_at, same_each, same_flat}
+use Rattle.cleared_steps.proofs.StepsLists.{same_at, same_flat}
 
 abbrev keys : List (ℕ × ℕ) → List ℕ
 keys ps = map (λ p. p.0) ps
-
-keys_left : (k : ℕ) (xs ys : List (ℕ × ℕ)) → Among k (keys xs) → Among k (keys (xs ++ ys))
-keys_left k [] ys among = absurd among
-keys_left k (x ∷ xs) ys (inl e) = inl e
-keys_left k (x ∷ xs) ys (inr later) = inr (keys_left k xs ys later)
-
-keys_right : (k : ℕ) (xs ys : List (ℕ × ℕ)) → Among k (keys ys) → Among k (keys (xs ++ ys))
-keys_right k [] ys among = among
-keys_right k (x ∷ xs) ys among = inr (keys_right k xs ys among)
-
-keys_flat : (f : ℕ → List (ℕ × ℕ)) (vs : List ℕ) (v k : ℕ) → Among v vs → Among k (keys (f v)) → Among k (keys (flat_map f vs))
-keys_flat f [] v k there among = absurd there
-keys_flat f (w ∷ vs) v k (inl e) among = keys_left k (f w) (flat_map f vs) (subst (λ x. Among k (keys (f x))) e among)
-keys_flat f (w ∷ vs) v k (inr later) among = keys_right k (f w) (flat_map f vs) (keys_flat f vs v k later among)
-
-either_part : (r : ℕ) (xs ys : List ℕ) → Among r (xs ++ ys) → Among r xs ⊎ Among r ys
-either_part r [] ys among = inr among
-either_part r (x ∷ xs) ys (inl e) = inl (inl e)
-either_part r (x ∷ xs) ys (inr later) = elim (either_part r xs ys later) [
-  | inl here ↦ inl (inr here)
-  | inr behind ↦ inr behind
-]
 
 -- what is below some child is below one of them
 record Child (f : ℕ → List ℕ) (vs : List ℕ) (r : ℕ) : Type 0 where

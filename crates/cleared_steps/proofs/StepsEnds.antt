@@ -1,7 +1,8 @@
 -- What is cleared at the first place and at the last.
-use Rattle.std.proofs.Common.{◌≡◌, ◌≢◌, ◌⊎◌, ℕ, suc, ◌<◌, ◌≤◌, List, [], ◌∷◌, ◌++◌, length, Some, inl, inr, refl, sym, subst, arith}
+use Rattle.std.proofs.Common.{◌≡◌, ◌≢◌, ℕ, suc, ◌<◌, ◌≤◌, List, [], ◌∷◌, length, Some, inl, inr, refl, sym, subst, arith}
 use Rattle.std.specs.Prelude.{slice_get}
 use Rattle.std.specs.List.{AllByRecursion}
+use Rattle.tree_ways.proofs.WayLemmas.{either_part}
 use Rattle.entry_ref.specs.References.{buffer_of}
 use Rattle.image_base.specs.Records.{Records, Among}
 use Rattle.tree_images.specs.Trees.{tree_pairs}
@@ -50,14 +51,6 @@ first_clear bits victim m trees are field a at =
     field_first bits victim field m a.kind a.type a.documents a.dictionary (all_at (IsFieldAt m) trees are field a at)
 
 -- ---- past the last phase
-either_part : (r : ℕ) (xs ys : List ℕ) → Among r (xs ++ ys) → Among r xs ⊎ Among r ys
-either_part r [] ys among = inr among
-either_part r (x ∷ xs) ys (inl e) = inl (inl e)
-either_part r (x ∷ xs) ys (inr later) = elim (either_part r xs ys later) [
-  | inl here ↦ inl (inr here)
-  | inr behind ↦ inr behind
-]
-
 module _ (lawful : FieldIsLawful) (bits victim : ℕ) (at : PlanPlace) (m : Records) (over : at.stage.phase ≡ PHASES) where
   from_last : (number : ℕ → ℕ) (trees : List AttributeTrees) → AllByRecursion (IsFieldAt m) trees → ((i : ℕ) → i < length trees → number i ≤ at.stage.field)
       → ((i : ℕ) (a : AttributeTrees) → slice_get trees i ≡ Some a → IsClearedField bits victim at (number i) m a)

@@ -12,8 +12,10 @@ use Rattle.attr_compaction.specs.declared.plan.PlanKey.TheVariants as plan
 use Rattle.attr_compaction.specs.declared.plan.TheConstants.{DOCUMENTS, KEYS, LISTS, NODES}
 use Rattle.attr_documents.specs.Documents.{documents_refer, items_own, items_refer}
 use Rattle.attr_documents.specs.Flows.{reference_at}
+use Rattle.attr_field.proofs.RefLemmas.{all_among}
 use Rattle.attr_field.specs.Fields.{field_part, IsField}
 use Rattle.attr_field.specs.Flows.{FlowsField}
+use Rattle.attr_images.proofs.ImageLemmas.{value_typed}
 use Rattle.attr_images.specs.Postings.{list_form, postings_reach, IsPostingList}
 use Rattle.attr_images.specs.Values.{stored_value, value_of}
 use Rattle.attr_images.specs.Words.{IsStoredList}
@@ -22,7 +24,6 @@ use Rattle.attr_types.specs.ProofsForOrder.{value_cmp_exact, value_cmp_total}
 use Rattle.attr_types.specs.Value.{type_of, value_cmp}
 use Rattle.attr_types.specs.declared.kind.Kind.{Kind}
 use Rattle.attr_types.specs.declared.kind.ValueType.{ValueType}
-use Rattle.attr_types.specs.declared.kind.ValueType.TheVariants as types
 use Rattle.attr_types.specs.declared.value.Value.{Value}
 use Rattle.doc_vector.specs.Documents as docs
 use Rattle.document_moves.specs.Moves.{AreItemsApart}
@@ -34,12 +35,8 @@ use Rattle.value_index.specs.Flows.{list_word}
 use Rattle.value_index.specs.Indexes.{IsValuePair}
 use Rattle.attr_cleared.specs.Cleared.{IsClearedField, IsVisited, ListIsCleared, NodesAreCleared}
 use Rattle.cleared_steps.proofs.StepsBelow.{keys_both, keys_in_tree, node_size}
-use Rattle.cleared_steps.proofs.StepsLists.{all_among, all_in, all_keys, all_pairs, all_refs, flat_in, key_in, lookup_in, pair_found, Found, IsIn}
+use Rattle.cleared_steps.proofs.StepsLists.{all_in, all_keys, all_pairs, all_refs, flat_in, key_in, lookup_in, pair_found, Found, IsIn}
 use Rattle.cleared_steps.proofs.StepsOwned.{form_of, is_short, is_tree, item_owned, key_is_owned, key_owned, list_owned, map_node_owned, short_size, value_node_owned}
-
-value_typed : (type : ValueType) (ws : List ℕ) → type_of (value_of type ws) ≡ type
-value_typed types.Long ws = refl
-value_typed types.Text ws = refl
 
 module _ {H : Type 0} (bits victim field : ℕ) (at : PlanPlace) (old new : Ledger H) (m n : Records) (kind : Kind) (type : ValueType)
     (documents dictionary next_documents next_dictionary : ℕ)

@@ -6,29 +6,12 @@ use Rattle.std.specs.List.{flat_map, AllByRecursion}
 use Rattle.std.specs.List.Sorted.{IsStrictlySortedBy}
 use Rattle.std.specs.Option.{unwrap_or}
 use Rattle.std.specs.declared.cmp.Ordering.{Ordering}
+use Rattle.value_index.proofs.KeyLemmas.{among_left, among_right}
+use Rattle.attr_field.proofs.RefLemmas.{same_each}
 use Rattle.image_base.specs.Records.{Records, Among, SameAt}
 use Rattle.key_order.specs.Pairs.{choose, lookup}
 
 -- ---- references
-pub among_left : (r : ℕ) (xs ys : List ℕ) → Among r xs → Among r (xs ++ ys)
-among_left r [] ys among = absurd among
-among_left r (x ∷ xs) ys (inl e) = inl e
-among_left r (x ∷ xs) ys (inr later) = inr (among_left r xs ys later)
-
-pub among_right : (r : ℕ) (xs ys : List ℕ) → Among r ys → Among r (xs ++ ys)
-among_right r [] ys among = among
-among_right r (x ∷ xs) ys among = inr (among_right r xs ys among)
-
-pub among_flat : (f : ℕ → List ℕ) (vs : List ℕ) (v r : ℕ) → Among v vs → Among r (f v) → Among r (flat_map f vs)
-among_flat f [] v r there among = absurd there
-among_flat f (w ∷ vs) v r (inl e) among = among_left r (f w) (flat_map f vs) (subst (λ x. Among r (f x)) e among)
-among_flat f (w ∷ vs) v r (inr later) among = among_right r (f w) (flat_map f vs) (among_flat f vs v r later among)
-
-pub all_among : (P : ℕ → Type 0) (refs : List ℕ) → AllByRecursion P refs → (r : ℕ) → Among r refs → P r
-all_among P [] all r among = absurd among
-all_among P (q ∷ refs) all r (inl e) = subst P (sym e) all.0
-all_among P (q ∷ refs) all r (inr later) = all_among P refs all.1 r later
-
 pub all_refs : (P : ℕ → Type 0) (refs : List ℕ) → ((r : ℕ) → Among r refs → P r) → AllByRecursion P refs
 all_refs P [] each = tt
 all_refs P (q ∷ refs) each = (each q (inl refl), all_refs P refs (λ r later. each r (inr later)))
@@ -37,10 +20,6 @@ pub same_at : (m n : Records) (refs : List ℕ) → SameAt refs m n → (r : ℕ
 same_at m n [] same r among = absurd among
 same_at m n (q ∷ refs) same r (inl e) = ap n e ∙ same.0 ∙ sym (ap m e)
 same_at m n (q ∷ refs) same r (inr later) = same_at m n refs same.1 r later
-
-pub same_each : (m n : Records) (refs : List ℕ) → ((r : ℕ) → Among r refs → n r ≡ m r) → SameAt refs m n
-same_each m n [] each = tt
-same_each m n (q ∷ refs) each = (each q (inl refl), same_each m n refs (λ r later. each r (inr later)))
 
 pub same_flat : (m n : Records) (f : ℕ → List ℕ) (vs : List ℕ) → ((v : ℕ) → Among v vs → SameAt (f v) m n) → SameAt (flat_map f vs) m n
 same_flat m n f vs each = same_each m n (flat_map f vs) (told vs each)

@@ -12,8 +12,9 @@ use Rattle.attr_types.specs.declared.kind.Kind.{Kind}
 use Rattle.array_store.proofs.ClassLemmas.{class_holds, class_no_node}
 use Rattle.posting_store.proofs.FormLemmas.{form_even, form_odd}
 use Rattle.posting_store.specs.Lists.{IsPlain}
+use Rattle.value_index.proofs.KeyLemmas.{among_left, among_right}
 use Rattle.value_index.specs.Indexes.{index_reach}
-use Rattle.cleared_steps.proofs.StepsLists.{among_left, among_right, flat_in, IsIn}
+use Rattle.cleared_steps.proofs.StepsLists.{flat_in, IsIn}
 
 -- ---- a record that is no node
 -- a short list's record has not the length of a node

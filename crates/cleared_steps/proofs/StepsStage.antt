@@ -22,6 +22,7 @@ use Rattle.attr_types.specs.declared.value.Value.{Value}
 use Rattle.document_moves.specs.Moves.{AreItemsApart}
 use Rattle.plan_keys.specs.PhaseKeys.{document_keys, form_docs, key_past, keys_of_pairs, phase_keys, value_keys}
 use Rattle.attr_cleared.proofs.PlanVisits.{end_visited, others_visited, stage_visited}
+use Rattle.attr_cleared.proofs.IndexClauses.{key_left, key_right}
 use Rattle.attr_cleared.specs.Visits.{place_at_key, IsAmongKeys}
 use Rattle.value_index.specs.Indexes.{IsValuePair}
 use Rattle.attr_cleared.specs.Cleared.{IsClearedField, IsVisited, ListIsCleared}
@@ -33,15 +34,6 @@ use Rattle.cleared_steps.proofs.SameLemmas.{none_some, some_or}
 use Rattle.cleared_steps.proofs.StepsMade.{all_at}
 
 -- ---- keys in lists of keys
-key_left : (k : PlanKey) (xs ys : List PlanKey) → IsAmongKeys k xs → IsAmongKeys k (xs ++ ys)
-key_left k [] ys member = absurd member
-key_left k (x ∷ xs) ys (inl e) = inl e
-key_left k (x ∷ xs) ys (inr later) = inr (key_left k xs ys later)
-
-key_right : (k : PlanKey) (xs ys : List PlanKey) → IsAmongKeys k ys → IsAmongKeys k (xs ++ ys)
-key_right k [] ys member = member
-key_right k (x ∷ xs) ys member = inr (key_right k xs ys member)
-
 key_of_pair : (f : ℕ × ℕ → PlanKey) (ps : List (ℕ × ℕ)) (p : ℕ × ℕ) → IsIn p ps → IsAmongKeys (f p) (map f ps)
 key_of_pair f [] p there = absurd there
 key_of_pair f (q ∷ ps) p (inl e) = inl (ap f e)

@@ -1,8 +1,8 @@
 -- The keys of an attribute's phases: what they are, and that they stay where the attribute's records stay.
-use Rattle.std.proofs.Common.{◌≡◌, ℕ, zero, suc, ◌<◌, Bool, true, false, cond, nat_eq, List, [], ◌∷◌, ◌++◌, map, length, Some, Less, Equal, Greater, is_lt, true≢false, refl, sym, ap, subst, ◌∙◌, arith}
+use Rattle.std.proofs.Common.{◌≡◌, ℕ, zero, suc, ◌<◌, Bool, true, false, cond, nat_eq, List, [], ◌∷◌, ◌++◌, map, length, Some, is_lt, refl, sym, ap, subst, ◌∙◌, arith}
 use Rattle.std.specs.Prelude.{slice_get}
 use Rattle.std.specs.List.{find, flat_map, AllByRecursion}
-use Rattle.std.specs.declared.cmp.Ordering.{Ordering}
+use Rattle.plan_counts.proofs.StageLemmas.{less_is}
 use Rattle.image_base.specs.Records.{Records, SameAt}
 use Rattle.tree_images.specs.ProofsForTrees.{SameAt-left, SameAt-right, flat_map-same, map-same, tree_pairs-same}
 use Rattle.tree_images.specs.Trees.{tree_nodes, tree_pairs}
@@ -10,14 +10,13 @@ use Rattle.attr_documents.specs.Documents.{documents_own, items_own}
 use Rattle.attr_images.specs.Postings.{ListForm, short, tree, vector, dictionary_reach, list_form, postings_reach}
 use Rattle.attr_images.specs.Tables.{AttributeTrees}
 use Rattle.attr_images.specs.Values.{stored_value, value_of}
-use Rattle.attr_types.specs.Value.{type_of}
 use Rattle.attr_types.specs.declared.kind.ValueType.{ValueType}
-use Rattle.attr_types.specs.declared.kind.ValueType.TheVariants as types
 use Rattle.attr_types.specs.declared.value.Value.{Value as AnyValue}
 use Rattle.attr_compaction.specs.Places.{has_key, key_cmp, IsPast, PlanPlace}
 use Rattle.attr_compaction.specs.declared.plan.PlanKey.{PlanKey}
 use Rattle.attr_compaction.specs.declared.plan.PlanKey.TheVariants.{Value, Doc, Pair}
 use Rattle.attr_compaction.specs.declared.plan.TheConstants.{DOCUMENTS, KEYS, LISTS, PHASES}
+use Rattle.value_index.proofs.KeyLemmas.{type_read}
 use Rattle.value_index.specs.Indexes.{index_reach}
 use Rattle.plan_keys.specs.PhaseKeys.{document_keys, form_docs, key_past, keys_of_pairs, pair_keys, value_keys, HasType}
 use Rattle.attr_steps.specs.Fields.{part_of}
@@ -80,10 +79,6 @@ pub record FitsPhase (type : ValueType) (phase : ℕ) (key : PlanKey) : Type 0 w
   pub typed : HasType type key
   pub of_phase : has_key phase key ≡ true
 
-type_read : (type : ValueType) (ws : List ℕ) → type_of (value_of type ws) ≡ type
-type_read types.Long ws = refl
-type_read types.Text ws = refl
-
 module _ (type : ValueType) (m : Records) (phase : ℕ) where
   values_fit : ((v : AnyValue) → has_key phase (Value v) ≡ true) → (ps : List (ℕ × ℕ)) → AllByRecursion (FitsPhase type phase) (map (λ p. Value (stored_value type m p.0)) ps)
   values_fit is [] = tt
@@ -128,11 +123,6 @@ found_is P test (x ∷ xs) key all found = told (λ later. found_is P test xs ke
     told : (find test xs ≡ Some key → P key × (test key ≡ true)) → (t : Bool) → test x ≡ t → cond t (Some x) (find test xs) ≡ Some key → P key × (test key ≡ true)
     told more true is here = let e = same_key x key here in (subst P e all.0, ap test (sym e) ∙ is)
     told more false is later = more later
-
-less_is : (o : Ordering) → is_lt o ≡ true → o ≡ Less
-less_is Less is = refl
-less_is Equal is = absurd (true≢false (sym is))
-less_is Greater is = absurd (true≢false (sym is))
 
 pub next_fits : (m : Records) (a : AttributeTrees) (at : PlanPlace) (key : PlanKey) → at.stage.phase < PHASES → key_past at.key (keys_at m a at.stage.phase) ≡ Some key
     → HasType a.type key × IsPast at key

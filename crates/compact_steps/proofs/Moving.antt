@@ -13,6 +13,7 @@ use Rattle.store_api.proofs.Times.{absent-times, among-times}
 use Rattle.store_api.proofs.UnitLemmas.{turns-accept}
 use Rattle.store_api.proofs.Uses.{uses-few}
 use Rattle.attr_documents.specs.Documents.{documents_refer}
+use Rattle.attr_images.proofs.ImageLemmas.{all_at}
 use Rattle.attr_images.specs.Tables.{AttributeTrees, HaveSameDocuments, columns_at, table_of_columns}
 use Rattle.attr_index.specs.Columns.{Column}
 use Rattle.attr_types.specs.declared.field.Field.{Field}
@@ -22,7 +23,7 @@ use Rattle.attr_steps.specs.Views.{table_at}
 use Rattle.attr_steps.proofs.Columns.{FieldLaws}
 use Rattle.attr_steps.proofs.PartLists.{count_at, count_set, stay_at}
 use Rattle.attr_steps.proofs.Referring.{AreSame, IsSameAt, RefersAt, all_changed, all_moved, each_same, key_owned, stays_beside}
-use Rattle.attr_steps.proofs.TreeLists.{all_at, all_from, get_set-same, get_set-other, rest_at, set_length, some_is}
+use Rattle.attr_steps.proofs.TreeLists.{all_from, get_set-same, get_set-other, rest_at, set_length, some_is}
 use Rattle.attr_steps.proofs.Units.{fields_stay, table_stays}
 use Rattle.compact_steps.specs.Units.{keys_at}
 

@@ -16,9 +16,10 @@ use Rattle.attr_compaction.specs.Places.{key_cmp, place_after, place_cmp, IsPast
 use Rattle.attr_compaction.specs.declared.plan.PlanKey.{PlanKey}
 use Rattle.attr_compaction.specs.declared.plan.Stage.{Stage}
 use Rattle.attr_compaction.specs.declared.plan.TheConstants.{PHASES}
+use Rattle.attr_images.proofs.ImageLemmas.{all_at}
 use Rattle.attr_images.specs.Tables.{AttributeTrees}
 use Rattle.attr_types.specs.declared.field.Field.{Field}
-use Rattle.attr_steps.proofs.TreeLists.{all_at, some_is}
+use Rattle.attr_steps.proofs.TreeLists.{some_is}
 use Rattle.attr_steps.specs.Fields.{IsFieldAt}
 use Rattle.clear_keys.specs.Passes.{GoesThrough}
 use Rattle.cleared_steps.specs.StepsLaws.{OthersStayCleared}

@@ -1,5 +1,5 @@
 -- The ends of a turn: nothing was done, a phase is over, a key was refused or moved.
-use Rattle.std.proofs.Common.{◌≡◌, ℕ, ◌<◌, Bool, true, false, cond, List, length, set, get_or, Option, None, Some, Less, true≢false, refl, sym, ap, subst, ◌∙◌, arith, inr, ◌⊎◌}
+use Rattle.std.proofs.Common.{◌≡◌, ℕ, ◌<◌, Bool, cond, List, length, set, get_or, Option, None, Some, Less, refl, sym, ap, subst, ◌∙◌, arith, inr, ◌⊎◌}
 use Rattle.std.proofs.lemmas.Option.{slice_get_read}
 use Rattle.std.specs.Prelude.{slice_get, unwrap_or}
 use Rattle.std.specs.List.{AllByRecursion}
@@ -8,11 +8,13 @@ use Rattle.image_base.specs.Records.{Records}
 use Rattle.store_api.specs.Ledgers.{Ledger}
 use Rattle.attr_cleared.specs.Cleared.{IsCleared}
 use Rattle.cleared_steps.specs.StepsLaws.{PhaseEndLeavesCleared}
-use Rattle.attr_compaction.specs.Places.{has_key, is_start, next_stage, place_after, place_cmp, IsPast, PlanPlace, PlanView}
+use Rattle.attr_compaction.proofs.PlaceLemmas.{not_start}
+use Rattle.attr_compaction.specs.Places.{next_stage, place_after, place_cmp, IsPast, PlanPlace, PlanView}
 use Rattle.attr_compaction.specs.declared.plan.PlanKey.{PlanKey}
-use Rattle.attr_compaction.specs.declared.plan.PlanKey.TheVariants.{Start, Value, Doc, Pair}
+use Rattle.attr_compaction.specs.declared.plan.PlanKey.TheVariants.{Start}
 use Rattle.attr_compaction.specs.declared.plan.TheConstants.{PHASES}
 use Rattle.attr_field.specs.declared.roots.FieldRoots.{FieldRoots}
+use Rattle.attr_images.proofs.ImageLemmas.{all_at}
 use Rattle.attr_images.specs.Tables.{AttributeTrees}
 use Rattle.attr_types.specs.declared.field.Field.{Field}
 use Rattle.plan_keys.specs.PhaseKeys.{key_past, HasType}
@@ -20,7 +22,7 @@ use Rattle.attr_steps.specs.Calls.{KeepsStore, LeavesEntries}
 use Rattle.attr_steps.specs.Fields.{HoldsAttributes, IsFieldAt, trees_of, trees_of_field}
 use Rattle.attr_steps.specs.Views.{table_at}
 use Rattle.attr_steps.proofs.Holding.{holds_left}
-use Rattle.attr_steps.proofs.TreeLists.{all_at, tree_get, tree_set, trees_length}
+use Rattle.attr_steps.proofs.TreeLists.{tree_get, tree_set, trees_length}
 use Rattle.compact_steps.specs.Units.{keys_at, next_at, plan_at, turn_of, CompactsTo, GoesOn, IsUnderWay, KeepKeys}
 use Rattle.compact_steps.proofs.KeyLemmas.{next_fits, same_keys}
 
@@ -45,12 +47,6 @@ plan_is new victim fields place v f p =
     ap (λ (x : ℕ). record { victim = x; fields = fields; place = place }) (sym v)
     ∙ ap (λ (x : ℕ). record { victim = new.victim; fields = x; place = place }) (sym f)
     ∙ ap (λ (x : PlanPlace). record { victim = new.victim; fields = new.fields; place = x }) (sym p)
-
-not_start : (phase : ℕ) (key : PlanKey) → has_key phase key ≡ true → is_start key ≡ false
-not_start phase Start h = absurd (true≢false (sym h))
-not_start phase (Value v) h = refl
-not_start phase (Doc d) h = refl
-not_start phase (Pair v d) h = refl
 
 pub place_is : (fields : ℕ) (at : PlanPlace) (key : PlanKey) → IsPast at key → place_after fields at key ≡ record { stage = at.stage; key = key }
 place_is fields at key past =

@@ -19,6 +19,7 @@ use Rattle.store_api.proofs.Uses.{used_has}
 use Rattle.tree_images.specs.declared.TheConstants.{NODE_WORDS}
 use Rattle.index_moves.specs.Moves.{IsKeyIn}
 use Rattle.attr_documents.specs.Documents.{documents_refer}
+use Rattle.attr_images.proofs.ImageLemmas.{all_at}
 use Rattle.attr_images.specs.Documents.{column_at}
 use Rattle.attr_walks.specs.Counts.{MakesFew}
 use Rattle.attr_field.specs.Fields.{field_part, IsField}
@@ -40,7 +41,7 @@ use Rattle.attr_steps.proofs.Columns.{FieldLaws}
 use Rattle.attr_steps.proofs.CountLemmas.{spares_among}
 use Rattle.attr_steps.proofs.PartLists.{count_at}
 use Rattle.attr_steps.proofs.Referring.{RefersAt, all_weaker}
-use Rattle.attr_steps.proofs.TreeLists.{all_at, get_set-same, get_set-other, set_length, some_is}
+use Rattle.attr_steps.proofs.TreeLists.{get_set-same, get_set-other, set_length, some_is}
 use Rattle.field_moves.specs.Moves.{HasBegun, MovesField}
 use Rattle.compact_steps.specs.Units.{keys_at, CompactsTo, HasActive, IsUnderWay, SparesBelow}
 use Rattle.compact_steps.proofs.KeyLemmas.{all_keep, keys_stay, next_fits}

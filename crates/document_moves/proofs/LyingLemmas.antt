@@ -9,7 +9,7 @@ use Rattle.attr_types.specs.declared.kind.Kind.TheVariants.{Single, Array, Weigh
 use Rattle.attr_types.specs.declared.kind.ValueType.{ValueType}
 use Rattle.attr_documents.specs.Documents.{items_own, items_refer}
 use Rattle.attr_documents.specs.Items.{has_list, word_entry}
-use Rattle.attr_documents.proofs.ReadLemmas.{words_are}
+use Rattle.attr_documents.proofs.ReadLemmas.{words_are, mapped_twice}
 use Rattle.document_moves.specs.Moves.{AreItemsApart}
 
 -- the record in a word
@@ -27,10 +27,6 @@ module _ (bits buffer : ℕ) (f : ℕ → ℕ) where
   none_at [] i below all = absurd (omega arith)
   none_at (w ∷ ws) zero below all = all.0
   none_at (w ∷ ws) (suc i) below all = none_at ws i (omega arith) all.1
-
-mapped_twice : {A B C : Type 0} (h : B → C) (f : A → B) (xs : List A) → map (λ x. h (f x)) xs ≡ map h (map f xs)
-mapped_twice h f [] = refl
-mapped_twice h f (x ∷ xs) = ap (λ ys. h (f x) ∷ ys) (mapped_twice h f xs)
 
 own_list : (kind : Kind) (ref : ℕ) → has_list kind ≡ true → 0 < ref → items_own kind ref ≡ ref ∷ []
 own_list kind zero has some = absurd (omega arith)

@@ -18,9 +18,10 @@ use Rattle.store_api.proofs.Uses.{in-uses, uses-in}
 use Rattle.tree_images.specs.Trees.{tree_nodes, tree_pairs}
 use Rattle.tree_touch.specs.Paths.{NoneIn}
 use Rattle.doc_vector.specs.Documents.{beside_document}
+use Rattle.attr_images.proofs.ImageLemmas.{value_typed}
 use Rattle.attr_images.specs.Documents.{weighted, column_at, items_at}
 use Rattle.attr_images.specs.Postings.{index_of}
-use Rattle.attr_images.specs.Values.{stored_value, value_of}
+use Rattle.attr_images.specs.Values.{stored_value}
 use Rattle.attr_index.proofs.PartLemmas.{insert_same}
 use Rattle.attr_index.specs.Columns.{Column, with_change}
 use Rattle.attr_index.specs.Index.{list_of}
@@ -30,7 +31,6 @@ use Rattle.attr_types.specs.Value.{type_of, values_of, AreOfType}
 use Rattle.attr_types.specs.declared.items.Item.{Item}
 use Rattle.attr_types.specs.declared.kind.Kind.{Kind}
 use Rattle.attr_types.specs.declared.kind.ValueType.{ValueType}
-use Rattle.attr_types.specs.declared.kind.ValueType.TheVariants as types
 use Rattle.attr_types.specs.declared.value.Value.{Value}
 use Rattle.attr_documents.specs.Changes.{pairs_own, AreBeside, MakesDocuments, SetsItems}
 use Rattle.attr_documents.specs.Documents.{documents_own, documents_part, items_own, items_refer}
@@ -60,10 +60,6 @@ module _ (P : Value → Type 0) (kind : Kind) (type : ValueType) (m : Records) w
     entries_each P type m (weighted kind p.1 (m p.1)) (λ r among. each r (among_left r (items_refer kind p.1 (m p.1)) (refers ps) among)),
     pairs_each ps (λ r among. each r (among_right r (items_refer kind p.1 (m p.1)) (refers ps) among)),
   )
-
-value_typed : (type : ValueType) (ws : List ℕ) → type_of (value_of type ws) ≡ type
-value_typed types.Long ws = refl
-value_typed types.Text ws = refl
 
 all_values : (P : Value → Type 0) (items : List Item) → AllByRecursion (λ (item : Item). P item.value) items → AllByRecursion P (values_of items)
 all_values P [] all = tt

@@ -7,12 +7,12 @@ use Rattle.tree_images.specs.Trees.{tree_pairs}
 use Rattle.attr_compaction.specs.Places.{has_key, key_cmp}
 use Rattle.attr_compaction.specs.declared.plan.PlanKey.{PlanKey}
 use Rattle.attr_compaction.specs.declared.plan.PlanKey.TheVariants.{Start, Value, Doc, Pair}
+use Rattle.attr_images.proofs.ImageLemmas.{value_typed}
 use Rattle.attr_images.specs.Postings.{list_form}
-use Rattle.attr_images.specs.Values.{stored_value, value_of}
+use Rattle.attr_images.specs.Values.{stored_value}
 use Rattle.attr_types.specs.Lawful.{IsDocNumber}
 use Rattle.attr_types.specs.Value.{type_of}
 use Rattle.attr_types.specs.declared.kind.ValueType.{ValueType}
-use Rattle.attr_types.specs.declared.kind.ValueType.TheVariants as types
 use Rattle.doc_vector.specs.Documents.{IsDocumentMap, IsDocumentPair}
 use Rattle.plan_keys.specs.PhaseKeys.{document_keys, form_docs, key_past, keys_of_pairs, phase_keys, value_keys}
 
@@ -40,10 +40,6 @@ both P [] ys first second = second
 both P (x ∷ xs) ys first second = (first.0, both P xs ys first.1 second)
 
 -- ---- the keys of a phase
-value_typed : (type : ValueType) (ws : List ℕ) → type_of (value_of type ws) ≡ type
-value_typed types.Long ws = refl
-value_typed types.Text ws = refl
-
 module _ (type : ValueType) (m : Records) (phase : ℕ) where
   all_values : ((value : _) → has_key phase (Value value) ≡ true) → (ps : List (ℕ × ℕ)) → AllByRecursion (IsFine type phase) (map (λ p. Value (stored_value type m p.0)) ps)
   all_values has [] = tt

@@ -9,16 +9,15 @@ use Rattle.tree_images.specs.Trees.{tree_pairs}
 use Rattle.tree_make.specs.Changes.{levels}
 use Rattle.tree_make.specs.Makes.{CountsNodes}
 use Rattle.array_store.proofs.ClassLemmas.{class_no_node}
-use Rattle.attr_images.specs.Postings.{ListForm, short, tree, vector, list_form}
+use Rattle.attr_images.specs.Postings.{list_form}
 use Rattle.attr_images.specs.Values.{value_words}
 use Rattle.attr_images.specs.Words.{class_of}
 use Rattle.attr_types.specs.declared.value.Value.{Value}
 use Rattle.enum_dictionary.specs.Dictionaries.{beside_value}
 use Rattle.attr_walks.specs.Counts.{MakesFew, record_sum}
-use Rattle.attr_walks.proofs.CountLemmas.{levels_few, no_node, one_of}
+use Rattle.attr_walks.proofs.CountLemmas.{levels_few, no_node, one_of, form_few}
 use Rattle.index_moves.specs.Moves.{key_most, move_most}
 use Rattle.posting_store.specs.Changes.{MakesWithin}
-use Rattle.posting_store.specs.Lists.{form_levels}
 use Rattle.value_index.proofs.CountLemmas.{within_nodes}
 use Rattle.value_index.specs.Changes.{nodes_most, value_levels}
 
@@ -41,11 +40,6 @@ list_nodes false u h l few low = omega arith
 list_records : (t : Bool) (k h l : ℕ) → record_sum (λ w. cond t (cond (nat_eq w k) 1 0) (cond (nat_eq w 34) h 0) + cond (nat_eq w 34) (2 * l + 1) 0) ≤ 1
 list_records true k h l = let one = one_of k in omega arith
 list_records false k h l = omega arith
-
-form_few : (m : Records) (form : ListForm) → form_levels m form ≤ 8
-form_few m (short ref) = omega arith
-form_few m (tree root) = levels_few m root
-form_few m (vector root) = levels_few m root
 
 nodes_records : (h : ℕ) → record_sum (nodes_most h) ≤ 1
 nodes_records h = omega arith

@@ -8,10 +8,7 @@ use Rattle.key_order.specs.Pairs.{choose, lookup, lookup_pair, put, take_out}
 use Rattle.store_api.specs.Parts.{times}
 use Rattle.store_api.proofs.Times.{among-times, times-among}
 use Rattle.value_index.proofs.OpenLemmas.{same_among, same_by}
-use Rattle.value_index.proofs.PairLemmas.{found_times}
-
-same_some : (a b : ℕ × ℕ) → Some a ≡ Some b → a ≡ b
-same_some a b e = cc
+use Rattle.value_index.proofs.PairLemmas.{found_times, same_some}
 
 -- ---- a pair that was set, by a comparison that tells it equal and agrees with the other at all other keys
 module _ (c d : ℕ → Ordering) (p : ℕ × ℕ) (equal : d p.0 ≡ Equal) where

@@ -1,5 +1,5 @@
 -- Which keys lie past a place, by their stages.
-use Rattle.std.proofs.Common.{◌≡◌, ◌≢◌, ◌⊎◌, ℕ, zero, suc, ◌+◌, ◌<◌, Bool, true, false, cond, nat_lt, List, [], ◌∷◌, ◌++◌, map, None, Some, Less, Equal, Greater, is_lt, nat_cmp, true≢false, inl, inr, refl, sym, ap, ◌∙◌}
+use Rattle.std.proofs.Common.{◌≡◌, ◌≢◌, ◌⊎◌, ℕ, zero, suc, ◌+◌, ◌<◌, Bool, true, false, cond, nat_lt, List, [], ◌∷◌, map, None, Some, Less, Equal, Greater, is_lt, nat_cmp, true≢false, inl, inr, refl, sym, ap, ◌∙◌}
 use Rattle.std.proofs.Common.{arith}
 use Rattle.std.proofs.lemmas.Bool.{ltb-false}
 use Rattle.std.proofs.lemmas.Cmp.{tied_itself}
@@ -19,6 +19,7 @@ use Rattle.attr_images.specs.Tables.{AttributeTrees}
 use Rattle.attr_images.specs.Values.{stored_value}
 use Rattle.attr_types.specs.declared.kind.ValueType.{ValueType}
 use Rattle.tree_images.specs.Trees.{tree_pairs}
+use Rattle.plan_keys.proofs.OrderLemmas.{all_both}
 use Rattle.plan_keys.specs.PhaseKeys.{document_keys, form_docs, key_past, keys_of_pairs, value_keys}
 use Rattle.plan_counts.specs.Counts.{keys_of_phase, place_at}
 
@@ -55,10 +56,6 @@ module _ {K : Type 0} {R : K → K → Ordering} (o : IsTotalOrder R) where
       by Greater e = absurd (few e)
 
 -- ---- the keys of a phase are keys
-all_both : (P : PlanKey → Type 0) (xs ys : List PlanKey) → AllByRecursion P xs → AllByRecursion P ys → AllByRecursion P (xs ++ ys)
-all_both P [] ys front behind = behind
-all_both P (x ∷ xs) ys front behind = (front.0, all_both P xs ys front.1 behind)
-
 abbrev IsKey : PlanKey → Type 0
 IsKey key = key_cmp key Start ≡ Greater
 

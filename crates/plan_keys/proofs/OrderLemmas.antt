@@ -1,8 +1,8 @@
 -- The keys of a phase ascend.
-use Rattle.std.proofs.Common.{◌≡◌, ℕ, ℤ, zero, suc, ◌+◌, ◌*◌, ◌/◌, ◌%◌, ◌<◌, Bool, true, false, cond, nat_eq, List, [], ◌∷◌, ◌++◌, map, Less, Equal, nat_cmp, refl, sym, ap, subst, ◌∙◌, arith}
+use Rattle.std.proofs.Common.{◌≡◌, ℕ, ℤ, zero, suc, ◌+◌, ◌*◌, ◌/◌, ◌%◌, Bool, true, false, cond, nat_eq, List, [], ◌∷◌, ◌++◌, map, Less, nat_cmp, refl, sym, ap, subst, ◌∙◌, arith}
 use Rattle.std.proofs.lemmas.Cmp.{tied_itself}
 use Rattle.std.specs.declared.cmp.Ordering.{Ordering}
-use Rattle.std.specs.List.{flat_map, AllByRecursion}
+use Rattle.std.specs.List.{AllByRecursion}
 use Rattle.std.specs.List.Sorted.{IsStrictlySortedBy}
 use Rattle.std.specs.Map.{keys_of}
 use Rattle.std.specs.Ordering.{ordering_then}
@@ -18,12 +18,11 @@ use Rattle.attr_types.specs.declared.value.Value.{Value as AnyValue}
 use Rattle.attr_compaction.specs.Places.{key_cmp}
 use Rattle.attr_compaction.specs.declared.plan.PlanKey.{PlanKey}
 use Rattle.attr_compaction.specs.declared.plan.PlanKey.TheVariants.{Value, Doc, Pair}
-use Rattle.doc_vector.specs.Documents.{IsDocumentMap}
-use Rattle.posting_store.specs.Lists.{list_at, IsList, IsPlain}
+use Rattle.posting_store.specs.Lists.{IsList, IsPlain}
 use Rattle.posting_store.proofs.FormLemmas.{tree_at}
-use Rattle.value_index.specs.Indexes.{IsIndex, IsValuePair}
+use Rattle.value_index.specs.Indexes.{IsValuePair}
 use Rattle.plan_keys.specs.Laws.{PhaseKeysAscend}
-use Rattle.plan_keys.specs.PhaseKeys.{document_keys, form_docs, keys_of_pairs, node_phase_keys, pair_keys, phase_keys, value_keys}
+use Rattle.plan_keys.specs.PhaseKeys.{document_keys, form_docs, keys_of_pairs, node_phase_keys, pair_keys, value_keys}
 use Rattle.plan_keys.proofs.ListLemmas.{short_docs, tree_docs}
 
 abbrev Up : List PlanKey → Type 0
@@ -41,7 +40,7 @@ module _ {A V : Type 0} (order : V → V → Ordering) (g : A → V) (f : A → 
   ascend_map (p ∷ ps) up = (all_above p ps up.0, ascend_map ps up.1)
 
 -- ---- one after another
-all_both : (P : PlanKey → Type 0) (xs ys : List PlanKey) → AllByRecursion P xs → AllByRecursion P ys → AllByRecursion P (xs ++ ys)
+pub all_both : (P : PlanKey → Type 0) (xs ys : List PlanKey) → AllByRecursion P xs → AllByRecursion P ys → AllByRecursion P (xs ++ ys)
 all_both P [] ys front behind = behind
 all_both P (x ∷ xs) ys front behind = (front.0, all_both P xs ys front.1 behind)
 

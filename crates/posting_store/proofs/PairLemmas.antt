@@ -53,7 +53,7 @@ weighed-put doc bits weight is (p ∷ ps) = told (weighed-put doc bits weight is
         ∙ ap (λ o. match_ordering o ((doc, weight) ∷ weighed (p ∷ ps)) ((p.0, weight) ∷ weighed ps) ((p.0, weight_of p.1) ∷ insert_entry nat_cmp (weighed ps) doc weight)) (sym (cmp_below doc p.0 rank))
 
 -- above a document that is not there it is not further on
-above_apart : (doc k x : ℕ) → doc < k → nat_cmp k x ≡ Less → is_eq (nat_cmp doc x) ≡ false
+pub above_apart : (doc k x : ℕ) → doc < k → nat_cmp k x ≡ Less → is_eq (nat_cmp doc x) ≡ false
 above_apart doc k x up less = told (nat_cmp k x) less (ranks k x)
   where
     told : (o : Ordering) → o ≡ Less → MatchOrdering o (k < x) (k ≡ x) (x < k) → is_eq (nat_cmp doc x) ≡ false

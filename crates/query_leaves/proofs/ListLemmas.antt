@@ -5,6 +5,7 @@ use Rattle.std.specs.Map.{keys_of}
 use Rattle.std.proofs.lemmas.Bool.{cond-true, le-leb}
 use Rattle.image_base.specs.Records.{Records}
 use Rattle.tree_images.specs.Trees.{tree_pairs, root_level, root_least, IsNode, IsRootNode}
+use Rattle.attr_images.proofs.ImageLemmas.{node_there}
 use Rattle.attr_images.specs.Postings.{vector, list_form, block_documents, IsBlock, IsPostingList}
 use Rattle.attr_images.specs.Words.{weight_of}
 use Rattle.attr_images.specs.declared.TheConstants.{FIRST_VECTOR}
@@ -50,8 +51,6 @@ blocks_are m (p ∷ ps) blocks numbers =
       blocks_are m ps blocks.1 (all_right IsDocNumber (block_documents p.0 (m p.1)) (documents_of m ps) numbers),
     )
 
--- the root of a bit vector is there
-node_there : (m : Records) (least level ref : ℕ) → IsNode m least level ref → 0 < length (m ref)
 unfolding IsNode
 node_there m least zero ref node = let size = node.0.size in omega arith
 node_there m least (suc level) ref node = let size = node.0.size in omega arith

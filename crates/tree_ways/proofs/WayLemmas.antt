@@ -1,5 +1,5 @@
 -- A node stands on the way to each key below it.
-use Rattle.std.proofs.Common.{◌≡◌, ◌≢◌, ℕ, zero, suc, ◌<◌, List, [], ◌∷◌, ◌++◌, map, length, slice_index, Less, Equal, Greater, is_lt, true≢false, inl, inr, ◌⊎◌, refl, sym, ap, subst, ◌∙◌, arith}
+use Rattle.std.proofs.Common.{◌≡◌, ◌≢◌, ℕ, zero, suc, ◌<◌, List, [], ◌∷◌, ◌++◌, map, length, Less, Equal, Greater, is_lt, true≢false, inl, inr, ◌⊎◌, refl, sym, ap, subst, ◌∙◌, arith}
 use Rattle.std.proofs.lemmas.Cmp.{tied_itself}
 use Rattle.std.specs.Cmp.{IsTotalOrder}
 use Rattle.std.specs.declared.cmp.Ordering.{Ordering}
@@ -10,30 +10,30 @@ use Rattle.image_base.specs.Records.{Records, Among}
 use Rattle.key_order.specs.Pairs.{choose}
 use Rattle.tree_images.proofs.TreeLemmas.{IsNode-form}
 use Rattle.tree_images.specs.Nodes.{level_of, node_keys, node_values}
-use Rattle.tree_images.specs.Trees.{last_key, nodes_below, pairs_below, root_least, root_level, tree_nodes, tree_pairs, HasLastKeys, IsNode, IsRootNode, IsTree}
+use Rattle.tree_images.specs.Trees.{last_key, nodes_below, pairs_below, root_least, root_level, HasLastKeys, IsNode}
 use Rattle.tree_node.proofs.ChildLemmas.{pairs-some}
-use Rattle.tree_touch.specs.Paths.{child_of, path_below, path_nodes, NoneIn}
-use Rattle.tree_ways.specs.Ways.{keys_below, tree_keys, NodesHaveKeys, NodesStandOnWays, WaysHaveAllNodes}
+use Rattle.tree_touch.specs.Paths.{child_of, path_below, path_nodes}
+use Rattle.tree_ways.specs.Ways.{keys_below, NodesHaveKeys, NodesStandOnWays, WaysHaveAllNodes}
 
 abbrev pub keys : List (ℕ × ℕ) → List ℕ
 keys ps = map (λ p. p.0) ps
 
 -- ---- what is among keys and among nodes
-keys_left : (k : ℕ) (xs ys : List (ℕ × ℕ)) → Among k (keys xs) → Among k (keys (xs ++ ys))
+pub keys_left : (k : ℕ) (xs ys : List (ℕ × ℕ)) → Among k (keys xs) → Among k (keys (xs ++ ys))
 keys_left k [] ys among = absurd among
 keys_left k (x ∷ xs) ys (inl e) = inl e
 keys_left k (x ∷ xs) ys (inr later) = inr (keys_left k xs ys later)
 
-keys_right : (k : ℕ) (xs ys : List (ℕ × ℕ)) → Among k (keys ys) → Among k (keys (xs ++ ys))
+pub keys_right : (k : ℕ) (xs ys : List (ℕ × ℕ)) → Among k (keys ys) → Among k (keys (xs ++ ys))
 keys_right k [] ys among = among
 keys_right k (x ∷ xs) ys among = inr (keys_right k xs ys among)
 
-keys_flat : (f : ℕ → List (ℕ × ℕ)) (vs : List ℕ) (v k : ℕ) → Among v vs → Among k (keys (f v)) → Among k (keys (flat_map f vs))
+pub keys_flat : (f : ℕ → List (ℕ × ℕ)) (vs : List ℕ) (v k : ℕ) → Among v vs → Among k (keys (f v)) → Among k (keys (flat_map f vs))
 keys_flat f [] v k there among = absurd there
 keys_flat f (w ∷ vs) v k (inl e) among = keys_left k (f w) (flat_map f vs) (subst (λ x. Among k (keys (f x))) e among)
 keys_flat f (w ∷ vs) v k (inr later) among = keys_right k (f w) (flat_map f vs) (keys_flat f vs v k later among)
 
-either_part : (r : ℕ) (xs ys : List ℕ) → Among r (xs ++ ys) → Among r xs ⊎ Among r ys
+pub either_part : (r : ℕ) (xs ys : List ℕ) → Among r (xs ++ ys) → Among r xs ⊎ Among r ys
 either_part r [] ys among = inr among
 either_part r (x ∷ xs) ys (inl e) = inl (inl e)
 either_part r (x ∷ xs) ys (inr later) = front (either_part r xs ys later)
@@ -43,7 +43,7 @@ either_part r (x ∷ xs) ys (inr later) = front (either_part r xs ys later)
     front (inr behind) = inr behind
 
 -- what is below some child is below one of them
-find_child : (f : ℕ → List ℕ) (vs : List ℕ) (r : ℕ) → Among r (flat_map f vs) → (v : ℕ) × Among v vs × Among r (f v)
+pub find_child : (f : ℕ → List ℕ) (vs : List ℕ) (r : ℕ) → Among r (flat_map f vs) → (v : ℕ) × Among v vs × Among r (f v)
 find_child f [] r among = absurd among
 find_child f (w ∷ vs) r among = told (λ behind. find_child f vs r behind) (either_part r (f w) (flat_map f vs) among)
   where
@@ -54,7 +54,7 @@ find_child f (w ∷ vs) r among = told (λ behind. find_child f vs r behind) (ei
     told more (inl here) = (w, inl refl, here)
     told more (inr behind) = later (more behind)
 
-all_among : (P : ℕ → Type 0) (vs : List ℕ) → AllByRecursion P vs → (v : ℕ) → Among v vs → P v
+pub all_among : (P : ℕ → Type 0) (vs : List ℕ) → AllByRecursion P vs → (v : ℕ) → Among v vs → P v
 all_among P [] all v among = absurd among
 all_among P (w ∷ vs) all v (inl e) = subst P (sym e) all.0
 all_among P (w ∷ vs) all v (inr later) = all_among P vs all.1 v later

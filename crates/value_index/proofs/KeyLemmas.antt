@@ -93,12 +93,12 @@ at_key P ref [] all among = absurd among
 at_key P ref (p ∷ ps) all (inl here) = subst P (sym here) all.0
 at_key P ref (p ∷ ps) all (inr later) = at_key P ref ps all.1 later
 
-among_left : (r : ℕ) (xs ys : List ℕ) → Among r xs → Among r (xs ++ ys)
+pub among_left : (r : ℕ) (xs ys : List ℕ) → Among r xs → Among r (xs ++ ys)
 among_left r [] ys among = absurd among
 among_left r (x ∷ xs) ys (inl e) = inl e
 among_left r (x ∷ xs) ys (inr later) = inr (among_left r xs ys later)
 
-among_right : (r : ℕ) (xs ys : List ℕ) → Among r ys → Among r (xs ++ ys)
+pub among_right : (r : ℕ) (xs ys : List ℕ) → Among r ys → Among r (xs ++ ys)
 among_right r [] ys among = among
 among_right r (x ∷ xs) ys among = inr (among_right r xs ys among)
 

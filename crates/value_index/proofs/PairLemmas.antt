@@ -11,7 +11,7 @@ use Rattle.store_api.proofs.Times.{times-append}
 abbrev pub keys : List (ℕ × ℕ) → List ℕ
 keys ps = map (λ p. p.0) ps
 
-same_some : (a b : ℕ × ℕ) → Some a ≡ Some b → a ≡ b
+pub same_some : (a b : ℕ × ℕ) → Some a ≡ Some b → a ≡ b
 same_some a b e = cc
 
 module _ (c : ℕ → Ordering) where
