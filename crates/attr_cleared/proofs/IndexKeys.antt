@@ -9,7 +9,7 @@ use Rattle.tree_images.specs.Trees.{tree_pairs}
 use Rattle.attr_images.specs.Documents.{items_at}
 use Rattle.attr_images.specs.Postings.{list_form, postings_at}
 use Rattle.attr_images.specs.Values.{stored_value}
-use Rattle.attr_images.specs.Words.{weight_of}
+use Rattle.attr_images.specs.Words.{weight_in_bits}
 use Rattle.attr_index.specs.Columns.{Column}
 use Rattle.attr_types.specs.declared.items.Item.{Item}
 use Rattle.attr_types.specs.declared.kind.ValueType.{ValueType}
@@ -38,7 +38,7 @@ docs_many : (docs : Docs) → 8 < length docs → docs_of docs ≡ map (λ e. e.
 unfolding docs_of
 docs_many docs many = ap (λ b. cond b (0 ∷ []) (map (λ (e : ℕ × ℤ). e.0) docs)) (too_many (length docs) 8 many)
 
-plain_docs : (ps : List (ℕ × ℕ)) → map {A = ℕ × ℤ} (λ e. e.0) (map (λ p. (p.0, weight_of p.1)) ps) ≡ map (λ p. p.0) ps
+plain_docs : (ps : List (ℕ × ℕ)) → map {A = ℕ × ℤ} (λ e. e.0) (map (λ p. (p.0, weight_in_bits p.1)) ps) ≡ map (λ p. p.0) ps
 plain_docs [] = refl
 plain_docs (p ∷ ps) = ap (λ ks. p.0 ∷ ks) (plain_docs ps)
 
@@ -52,11 +52,11 @@ form_docs_are m word list plain some = told (word % 2) refl
     told (suc zero) is =
         let root : ℕ = word / 2 in
         let at : word ≡ 2 * root + 1 = omega (arith, is) in
-        let docs : list_at m word ≡ map (λ p. (p.0, weight_of p.1)) (tree_pairs m root) = tree_at m word root plain at in
+        let docs : list_at m word ≡ map (λ p. (p.0, weight_in_bits p.1)) (tree_pairs m root) = tree_at m word root plain at in
         let many : 8 < length (tree_pairs m root) = (tree_form m word root plain at list).1 in
-        let size : length (map {B = ℕ × ℤ} (λ p. (p.0, weight_of p.1)) (tree_pairs m root)) ≡ length (tree_pairs m root) = length-map (tree_pairs m root) (λ p. (p.0, weight_of p.1)) in
+        let size : length (map {B = ℕ × ℤ} (λ p. (p.0, weight_in_bits p.1)) (tree_pairs m root)) ≡ length (tree_pairs m root) = length-map (tree_pairs m root) (λ p. (p.0, weight_in_bits p.1)) in
         tree_docs m word root list plain is refl
-        ∙ sym (ap docs_of (sym (at_form m word some) ∙ docs) ∙ docs_many (map (λ p. (p.0, weight_of p.1)) (tree_pairs m root)) (omega (arith, many, size)) ∙ plain_docs (tree_pairs m root))
+        ∙ sym (ap docs_of (sym (at_form m word some) ∙ docs) ∙ docs_many (map (λ p. (p.0, weight_in_bits p.1)) (tree_pairs m root)) (omega (arith, many, size)) ∙ plain_docs (tree_pairs m root))
     told (suc (suc bit)) is = absurd (omega (arith, is))
 
 module _ (type : ValueType) (m : Records) where

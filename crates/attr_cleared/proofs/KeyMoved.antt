@@ -26,7 +26,8 @@ use Rattle.attr_cleared.proofs.PlanVisits.{next_visited, none_behind}
 use Rattle.value_index.specs.Indexes.{IsValuePair}
 use Rattle.value_index.proofs.IndexLemmas.{pair_reach}
 use Rattle.attr_cleared.specs.IndexLaws.{KeyMoveClears}
-use Rattle.attr_cleared.specs.IndexTurns.{place_at, IsTurn}
+use Rattle.attr_cleared.specs.IndexTurns.{IsTurn}
+use Rattle.attr_cleared.specs.Visits.{place_at_key}
 use Rattle.attr_cleared.proofs.IndexPairs.{InPairs, at_pair, each_pair, other_pair, pair_key, pair_stays, split_pair, taken_pair}
 use Rattle.attr_cleared.proofs.IndexClauses.{list_later, no_vector, nodes_later, value_in_keys}
 
@@ -44,7 +45,7 @@ module _ {H : Type 0} (bits victim field next : ℕ) (at : PlanPlace) (value : V
   root = a.dictionary
 
   abbrev here : PlanPlace
-  here = place_at at (plan.Value value)
+  here = place_at_key at (plan.Value value)
 
   abbrev KeyCleared : PlanPlace → Records → ℕ × ℕ → Type 0
   KeyCleared place o p = IsVisited place field KEYS (plan.Value (stored_value type o p.0)) → buffer_of bits p.0 ≢ victim
@@ -87,5 +88,5 @@ module _ {H : Type 0} (bits victim field next : ℕ) (at : PlanPlace) (value : V
 pub key_clears : (H : Type 0) → KeyMoveClears H
 key_clears H bits victim field next at value old new m n a is turn moves cleared =
     subst (λ (t : ValueType). IsTurn at field KEYS m (of_type a t) (plan.Value value) → IsClearedField bits victim at field m (of_type a t)
-    → IsClearedField bits victim (place_at at (plan.Value value)) field n (record (of_type a t) { dictionary = next })) is
+    → IsClearedField bits victim (place_at_key at (plan.Value value)) field n (record (of_type a t) { dictionary = next })) is
     (λ t c. key_clears_at bits victim field next at value old new m n a t moves c) turn cleared

@@ -25,7 +25,7 @@ use Rattle.attr_documents.specs.Documents.{documents_own}
 use Rattle.attr_images.specs.Postings.{tree, list_form, postings_reach, IsPostingList}
 use Rattle.attr_images.specs.Tables.{AttributeTrees}
 use Rattle.attr_images.specs.Values.{stored_value, value_of}
-use Rattle.attr_images.specs.Words.{weight_of}
+use Rattle.attr_images.specs.Words.{weight_in_bits}
 use Rattle.attr_index.specs.Index.{list_of, Index}
 use Rattle.attr_types.specs.Value.{type_of}
 use Rattle.attr_types.specs.declared.kind.ValueType.{ValueType}
@@ -35,7 +35,7 @@ use Rattle.index_moves.specs.Moves.{FormIsApart, MovesList}
 use Rattle.index_moves.proofs.KeyLemmas.{key_of}
 use Rattle.plan_keys.proofs.OrderLemmas.{phase_ascends}
 use Rattle.plan_keys.specs.PhaseKeys.{form_docs, pair_keys}
-use Rattle.attr_cleared.specs.Visits.{IsAmongKeys}
+use Rattle.attr_cleared.specs.Visits.{place_at_key, IsAmongKeys}
 use Rattle.attr_cleared.proofs.PlanVisits.{all_before, next_visited}
 use Rattle.posting_store.specs.Lists.{list_at, list_reach}
 use Rattle.posting_store.proofs.FormLemmas.{at_form, form_even, form_tree, many_odd, tree_at, tree_form, tree_reach}
@@ -44,7 +44,7 @@ use Rattle.value_index.specs.Indexes.{index_part, IsValuePair}
 use Rattle.value_index.proofs.IndexLemmas.{pair_reach}
 use Rattle.value_index.proofs.KeyLemmas.{at_key, list_found, reads_found}
 use Rattle.attr_cleared.specs.IndexLaws.{ListMoveClears}
-use Rattle.attr_cleared.specs.IndexTurns.{place_at, IsTurn, LeavesBuffer}
+use Rattle.attr_cleared.specs.IndexTurns.{IsTurn, LeavesBuffer}
 use Rattle.attr_cleared.proofs.BelowLemmas.{nodes_moved}
 use Rattle.attr_cleared.proofs.KeyMoved.{of_type}
 use Rattle.attr_cleared.proofs.IndexPairs.{InPairs, at_pair, each_pair, found_pair, other_pair, pair_key, pair_stays, split_pair, taken_pair}
@@ -66,7 +66,7 @@ module _ {H : Type 0} (bits victim field doc next : ℕ) (at : PlanPlace) (value
   root = a.dictionary
 
   abbrev here : PlanPlace
-  here = place_at at (plan.Pair value doc)
+  here = place_at_key at (plan.Pair value doc)
 
   abbrev ListCleared : PlanPlace → Records → ℕ × ℕ → Type 0
   ListCleared place o p = ListIsCleared bits victim place field o (stored_value type o p.0) (list_form p.1)
@@ -203,7 +203,7 @@ module _ {H : Type 0} (bits victim field doc next : ℕ) (at : PlanPlace) (value
         let top : ℕ = q.1 / 2 in
         let now_is : q.1 ≡ 2 * top + 1 = omega (arith, odd) in
         let many : 8 < length (tree_pairs n top) = (tree_form n q.1 top pair_now.plain now_is pair_now.list_is).1 in
-        let size : length (map {B = ℕ × ℤ} (λ p. (p.0, weight_of p.1)) (tree_pairs n top)) ≡ length (tree_pairs n top) = length-map (tree_pairs n top) (λ p. (p.0, weight_of p.1)) in
+        let size : length (map {B = ℕ × ℤ} (λ p. (p.0, weight_in_bits p.1)) (tree_pairs n top)) ≡ length (tree_pairs n top) = length-map (tree_pairs n top) (λ p. (p.0, weight_in_bits p.1)) in
         let whole = ap {A = List (ℕ × ℤ)} length (tree_at n q.1 top pair_now.plain now_is) in
         omega (arith, many, size, whole)
 
@@ -244,5 +244,5 @@ module _ {H : Type 0} (bits victim field doc next : ℕ) (at : PlanPlace) (value
 pub list_clears : (H : Type 0) → ListMoveClears H
 list_clears H bits victim field doc next at value old new m n a is turn moves leaves owns same cleared =
     subst (λ (t : ValueType). IsTurn at field LISTS m (of_type a t) (plan.Pair value doc) → IsClearedField bits victim at field m (of_type a t)
-    → IsClearedField bits victim (place_at at (plan.Pair value doc)) field n (record (of_type a t) { dictionary = next })) is
+    → IsClearedField bits victim (place_at_key at (plan.Pair value doc)) field n (record (of_type a t) { dictionary = next })) is
     (λ t c. list_clears_at bits victim field doc next at value old new m n a t moves leaves owns c same) turn cleared

@@ -37,14 +37,15 @@ use Rattle.attr_cleared.proofs.PlanVisits.{all_before, next_visited}
 use Rattle.value_index.specs.Indexes.{index_part, IsValuePair}
 use Rattle.value_index.proofs.IndexLemmas.{keys_same, pair_reach}
 use Rattle.attr_cleared.specs.IndexLaws.{NodeMoveClears}
-use Rattle.attr_cleared.specs.IndexTurns.{place_at, IsTurn, LeavesBuffer}
+use Rattle.attr_cleared.specs.IndexTurns.{IsTurn, LeavesBuffer}
+use Rattle.attr_cleared.specs.Visits.{place_at_key}
 use Rattle.attr_cleared.proofs.BelowLemmas.{nodes_moved}
 use Rattle.attr_cleared.proofs.KeyMoved.{of_type}
 use Rattle.attr_cleared.proofs.IndexPairs.{InPairs, at_pair, each_pair, pair_stays}
 use Rattle.attr_cleared.proofs.IndexClauses.{documents_stay, key_front, list_stays, node_used, value_in_keys}
 
 -- at a value of the last phase no document of it was visited
-no_document : (at : PlanPlace) (field d : ℕ) (value : Value) → at.stage.field ≡ field → at.stage.phase ≡ NODES → IsVisited (place_at at (plan.Value value)) field NODES (plan.Doc d) → ⊥
+no_document : (at : PlanPlace) (field d : ℕ) (value : Value) → at.stage.field ≡ field → at.stage.phase ≡ NODES → IsVisited (place_at_key at (plan.Value value)) field NODES (plan.Doc d) → ⊥
 no_document at field d value same phase visited = visited
     (ap (λ (f : ℕ). ordering_then (ordering_then (nat_cmp field f) (nat_cmp NODES at.stage.phase)) (key_cmp (plan.Doc d) (plan.Value value))) same
     ∙ ap (λ (p : ℕ). ordering_then (ordering_then (nat_cmp field field) (nat_cmp NODES p)) (key_cmp (plan.Doc d) (plan.Value value))) phase
@@ -61,7 +62,7 @@ module _ {H : Type 0} (bits victim field next : ℕ) (at : PlanPlace) (value : V
   root = a.dictionary
 
   abbrev here : PlanPlace
-  here = place_at at (plan.Value value)
+  here = place_at_key at (plan.Value value)
 
   abbrev keys : List PlanKey
   keys = node_phase_keys type m a.documents root
@@ -160,5 +161,5 @@ module _ {H : Type 0} (bits victim field next : ℕ) (at : PlanPlace) (value : V
 pub node_clears : (H : Type 0) → NodeMoveClears H
 node_clears H bits victim field next at value old new m n a is turn moves leaves owns same cleared =
     subst (λ (t : ValueType). IsTurn at field NODES m (of_type a t) (plan.Value value) → IsClearedField bits victim at field m (of_type a t)
-    → IsClearedField bits victim (place_at at (plan.Value value)) field n (record (of_type a t) { dictionary = next })) is
+    → IsClearedField bits victim (place_at_key at (plan.Value value)) field n (record (of_type a t) { dictionary = next })) is
     (λ t c. node_clears_at bits victim field next at value old new m n a t moves leaves owns c same) turn cleared

@@ -18,14 +18,15 @@ use Rattle.attr_types.specs.declared.value.Value.{Value}
 use Rattle.index_moves.specs.Moves.{MovesKey, MovesList, MovesNodes}
 use Rattle.plan_keys.specs.PhaseKeys.{phase_keys}
 use Rattle.value_index.specs.Indexes.{index_part, IsIndex}
-use Rattle.attr_cleared.specs.IndexTurns.{place_at, IsTurn, LeavesBuffer}
+use Rattle.attr_cleared.specs.IndexTurns.{IsTurn, LeavesBuffer}
+use Rattle.attr_cleared.specs.Visits.{place_at_key}
 
 -- a value's key was moved: what was cleared is so still, and the key too
 abbrev pub KeyMoveClears : Type 0 → Type 0
 KeyMoveClears H = (bits victim field next : ℕ) (at : PlanPlace) (value : Value) (old new : Ledger H) (m n : Records) (a : AttributeTrees)
     → type_of value ≡ a.type → IsTurn at field KEYS m a (plan.Value value) → MovesKey bits victim value old new m n a.dictionary next
     → IsClearedField bits victim at field m a
-    → IsClearedField bits victim (place_at at (plan.Value value)) field n (record a { dictionary = next })
+    → IsClearedField bits victim (place_at_key at (plan.Value value)) field n (record a { dictionary = next })
 
 -- a value's list was moved as far as a document leads: what was cleared is so still, and the list that far
 abbrev pub ListMoveClears : Type 0 → Type 0
@@ -35,7 +36,7 @@ ListMoveClears H = (bits victim field doc next : ℕ) (at : PlanPlace) (value : 
     → MovesList bits victim doc value old new m n a.dictionary next
     → LeavesBuffer bits victim old new m n → Owns old m (index_part a.dictionary ∷ []) → SameAt (documents_own a.kind m a.documents) m n
     → IsClearedField bits victim at field m a
-    → IsClearedField bits victim (place_at at (plan.Pair value doc)) field n (record a { dictionary = next })
+    → IsClearedField bits victim (place_at_key at (plan.Pair value doc)) field n (record a { dictionary = next })
 
 -- the nodes on the way to a value were moved: what was cleared is so still, and these nodes too
 abbrev pub NodeMoveClears : Type 0 → Type 0
@@ -43,7 +44,7 @@ NodeMoveClears H = (bits victim field next : ℕ) (at : PlanPlace) (value : Valu
     → type_of value ≡ a.type → IsTurn at field NODES m a (plan.Value value) → MovesNodes bits victim value old new m n a.dictionary next
     → LeavesBuffer bits victim old new m n → Owns old m (index_part a.dictionary ∷ []) → SameAt (documents_own a.kind m a.documents) m n
     → IsClearedField bits victim at field m a
-    → IsClearedField bits victim (place_at at (plan.Value value)) field n (record a { dictionary = next })
+    → IsClearedField bits victim (place_at_key at (plan.Value value)) field n (record a { dictionary = next })
 
 -- the keys of each phase are the same where the index reads the same, and the column of the documents: whether a list is one record is
 -- told by its length

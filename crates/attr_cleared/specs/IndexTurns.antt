@@ -19,10 +19,6 @@ pub record IsTurn (at : PlanPlace) (field phase : ℕ) (m : Records) (a : Attrib
   pub map_is : IsDocumentMap m a.documents
   pub next : key_past at.key (phase_keys a.type m a.documents a.dictionary phase) ≡ Some key
 
--- the place at a key of its phase
-abbrev pub place_at : PlanPlace → PlanKey → PlanPlace
-place_at at key = record { stage = at.stage; key = key }
-
 -- nothing was made in the buffer, and what was in use and is so still has its words
 pub record LeavesBuffer {H : Type 0} (bits buffer : ℕ) (old new : Ledger H) (m n : Records) : Type 0 where
   pub unmade : (r : ℕ) → buffer_of bits r ≡ buffer → in_use (new.status r) ≡ true → in_use (old.status r) ≡ true

@@ -29,7 +29,7 @@ use Rattle.attr_types.specs.declared.kind.ValueType.{ValueType}
 use Rattle.attr_documents.specs.Changes.{AreBeside, AreKeysOf, ChangesPair, MakesDocuments, SetsItems, pairs_own}
 use Rattle.attr_documents.specs.Documents.{documents_part, documents_refer, items_own, items_refer, AreItemsAt, IsDocuments}
 use Rattle.store_api.specs.Flows.{ComesFrom}
-use Rattle.attr_documents.specs.Items.{entries_of, item_of, MakesItems}
+use Rattle.attr_documents.specs.Items.{entries_by_key, item_of, MakesItems}
 use Rattle.store_api.proofs.Flows.{began-then, flow_made, flow_part, made_fresh}
 use Rattle.attr_documents.proofs.FlowLemmas.{out_flows, set_flows, sets_items}
 use Rattle.attr_documents.proofs.FrameLemmas.{beside-same, same-then, same-some}
@@ -120,7 +120,7 @@ module _ {H : Type 0} (kind : Kind) (type : ValueType) (a d : Ledger H) (m o : R
   module _ (ref next : ℕ) (keys : List ℕ) (items : List Item) (are : AreKeysOf type m keys items) (there : AreBeside a m (documents_part kind root ∷ []) keys) (lawful : IsLawfulItems kind items)
       (map_is : IsDocumentMap o next) (pairs_are : tree_pairs o next ≡ put (beside_document doc) (doc, ref) ps) (stay : SameAt (pairs_own kind rest) m o)
       (turns : Turns a d m o (documents_part kind root ∷ []) (tree next ∷ entries (pairs_own kind rest) ∷ entries (items_own kind ref) ∷ []))
-      (form : IsItemsRecord kind ref (o ref)) (weighted_are : weighted kind ref (o ref) ≡ entries_of keys items)
+      (form : IsItemsRecord kind ref (o ref)) (weighted_are : weighted kind ref (o ref) ≡ entries_by_key keys items)
       (nodes : ComesFrom a (tree_nodes o next) (tree_nodes m root)) (made : ComesFrom a (items_own kind ref) []) where
     abbrev parts : List Part
     parts = tree next ∷ entries (pairs_own kind rest) ∷ entries (items_own kind ref) ∷ []
@@ -135,15 +135,15 @@ module _ {H : Type 0} (kind : Kind) (type : ValueType) (a d : Ledger H) (m o : R
     turns_set : Turns a d m o (documents_part kind root ∷ []) (documents_part kind next ∷ [])
     turns_set = turns-as a d m o (documents_part kind root ∷ []) parts (documents_part kind root ∷ []) (documents_part kind next ∷ []) turns (λ r. refl) counts_next
 
-    keys_same : SameAt (map (λ e. e.0) (entries_of keys items)) m o
+    keys_same : SameAt (map (λ e. e.0) (entries_by_key keys items)) m o
     keys_same = subst (λ ks. SameAt ks m o) (sym (keys_are type m keys items are)) (beside-same a d m o (documents_part kind root ∷ []) parts keys turns there)
 
     items_read : items_at kind type o ref ≡ items
-    items_read = ap (map (item_of type o)) weighted_are ∙ items-same type m o (entries_of keys items) keys_same ∙ keys_items type m keys items are
+    items_read = ap (map (item_of type o)) weighted_are ∙ items-same type m o (entries_by_key keys items) keys_same ∙ keys_items type m keys items are
 
     new_are : AreItemsAt kind type o ref
     new_are = record {
-      records = (form, subst (AllByRecursion (λ e. IsValueRecord type (o e.0))) (sym weighted_are) (values-on type m o (entries_of keys items) keys_same (keys_values type m keys items are)));
+      records = (form, subst (AllByRecursion (λ e. IsValueRecord type (o e.0))) (sym weighted_are) (values-on type m o (entries_by_key keys items) keys_same (keys_values type m keys items are)));
       lawful = subst (IsLawfulItems kind) (sym items_read) lawful;
     }
 
@@ -244,7 +244,7 @@ module _ {H : Type 0} (kind : Kind) (type : ValueType) (a b c : Ledger H) (m n o
   still_owned = owns-some b n (entries (items_own kind ref) ∷ documents_part kind root ∷ []) own begun.owns (λ r. omega arith)
 
   module _ (next : ℕ) (changed : ChangesPair kind b c n o root (take_out (beside_document doc) (tree_pairs n root)) (put (beside_document doc) (doc, ref) (tree_pairs n root)) next)
-      (values : AreBeside a m (documents_part kind root ∷ []) (documents_refer kind m root)) (keys : List ℕ) (items : List Item) (is_list : list ≡ entries_of keys items)
+      (values : AreBeside a m (documents_part kind root ∷ []) (documents_refer kind m root)) (keys : List ℕ) (items : List Item) (is_list : list ≡ entries_by_key keys items)
       (are : AreKeysOf type m keys items) (there : AreBeside a m (documents_part kind root ∷ []) keys) (lawful : IsLawfulItems kind items) (may : MayDo a b) where
     abbrev others_m : List (ℕ × ℕ)
     others_m = take_out (beside_document doc) (tree_pairs m root)
@@ -274,7 +274,7 @@ module _ {H : Type 0} (kind : Kind) (type : ValueType) (a b c : Ledger H) (m n o
     new_form : IsItemsRecord kind ref (o ref)
     new_form = form-on kind n o ref ended.stay.0 makes.form
 
-    new_weighted : weighted kind ref (o ref) ≡ entries_of keys items
+    new_weighted : weighted kind ref (o ref) ≡ entries_by_key keys items
     new_weighted = weighted-on kind n o ref ended.stay.0 ∙ makes.weighted_are ∙ is_list
 
     new_made : ComesFrom a (items_own kind ref) []
@@ -290,16 +290,16 @@ module _ {H : Type 0} (kind : Kind) (type : ValueType) (a b c : Ledger H) (m n o
 
 module _ {H : Type 0} (kind : Kind) (type : ValueType) (a b c : Ledger H) (m n o : Records) (root doc ref : ℕ) (is : IsDocuments kind type m root) (owns : Owns a m (documents_part kind root ∷ []))
     (values : AreBeside a m (documents_part kind root ∷ []) (documents_refer kind m root)) (keys : List ℕ) (items : List Item) (are : AreKeysOf type m keys items)
-    (there : AreBeside a m (documents_part kind root ∷ []) keys) (lawful : IsLawfulItems kind items) (makes : MakesItems kind a b m n (entries_of keys items) ref)
+    (there : AreBeside a m (documents_part kind root ∷ []) keys) (lawful : IsLawfulItems kind items) (makes : MakesItems kind a b m n (entries_by_key keys items) ref)
     (may : MayDo a b) where
   pub made_documents : (result : Result ℕ StoreError)
       → IfOk result (ChangesPair kind b c n o root (take_out (beside_document doc) (tree_pairs n root)) (put (beside_document doc) (doc, ref) (tree_pairs n root)))
       → IfOk result (MakesDocuments kind type a c m o root keys (with_change (column_at kind type m root) doc (Some items)))
-  made_documents (Ok next) changed = makes_documents kind type a b c m n o root doc ref is owns (entries_of keys items) makes next changed values keys items refl are there lawful may
+  made_documents (Ok next) changed = makes_documents kind type a b c m n o root doc ref is owns (entries_by_key keys items) makes next changed values keys items refl are there lawful may
   made_documents (Err e) changed = tt
 
   pub set_documents : (result : Result ℕ StoreError)
       → IfOk result (ChangesPair kind b c n o root (take_out (beside_document doc) (tree_pairs n root)) (put (beside_document doc) (doc, ref) (tree_pairs n root)))
       → IfOk result (SetsItems kind a m o root doc keys)
-  set_documents (Ok next) changed = sets_document kind type a b c m n o root doc ref is owns (entries_of keys items) makes next changed values keys items refl are there lawful may
+  set_documents (Ok next) changed = sets_document kind type a b c m n o root doc ref is owns (entries_by_key keys items) makes next changed values keys items refl are there lawful may
   set_documents (Err e) changed = tt

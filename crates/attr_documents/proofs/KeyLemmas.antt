@@ -19,7 +19,7 @@ use Rattle.attr_types.specs.declared.kind.Kind.TheVariants.{Single, Array, Weigh
 use Rattle.attr_types.specs.declared.kind.ValueType.{ValueType}
 use Rattle.unique_store.proofs.RecordLemmas.{value_there}
 use Rattle.attr_documents.specs.Changes.{AreKeysOf}
-use Rattle.attr_documents.specs.Items.{entries_of, has_list, item_of, word_entry, IsWeightOf, MakesItems}
+use Rattle.attr_documents.specs.Items.{entries_by_key, has_list, item_of, word_entry, IsWeightOf, MakesItems}
 
 -- references of values
 module _ (type : ValueType) (m : Records) where
@@ -29,20 +29,20 @@ module _ (type : ValueType) (m : Records) where
   keys_length (key ∷ keys) [] are = absurd are
   keys_length (key ∷ keys) (item ∷ items) are = ap suc (keys_length keys items are.1)
 
-  pub keys_values : (keys : List ℕ) (items : List Item) → AreKeysOf type m keys items → AllByRecursion (λ e. IsValueRecord type (m e.0)) (entries_of keys items)
+  pub keys_values : (keys : List ℕ) (items : List Item) → AreKeysOf type m keys items → AllByRecursion (λ e. IsValueRecord type (m e.0)) (entries_by_key keys items)
   keys_values [] items are = tt
   keys_values (key ∷ keys) [] are = tt
   keys_values (key ∷ keys) (item ∷ items) are = (are.0.record_is, keys_values keys items are.1)
 
-  pub keys_items : (keys : List ℕ) (items : List Item) → AreKeysOf type m keys items → map (item_of type m) (entries_of keys items) ≡ items
+  pub keys_items : (keys : List ℕ) (items : List Item) → AreKeysOf type m keys items → map (item_of type m) (entries_by_key keys items) ≡ items
   keys_items [] [] are = refl
   keys_items [] (item ∷ items) are = absurd are
   keys_items (key ∷ keys) [] are = absurd are
   keys_items (key ∷ keys) (item ∷ items) are =
-      ap (λ v. record item { value = v } ∷ map (item_of type m) (entries_of keys items)) are.0.value_is
+      ap (λ v. record item { value = v } ∷ map (item_of type m) (entries_by_key keys items)) are.0.value_is
       ∙ ap (λ xs. item ∷ xs) (keys_items keys items are.1)
 
-  pub keys_are : (keys : List ℕ) (items : List Item) → AreKeysOf type m keys items → map (λ e. e.0) (entries_of keys items) ≡ keys
+  pub keys_are : (keys : List ℕ) (items : List Item) → AreKeysOf type m keys items → map (λ e. e.0) (entries_by_key keys items) ≡ keys
   keys_are [] items are = refl
   keys_are (key ∷ keys) [] are = absurd are
   keys_are (key ∷ keys) (item ∷ items) are = ap (λ ks. key ∷ ks) (keys_are keys items are.1)
@@ -76,7 +76,7 @@ weight_at kind (x ∷ items) (suc i) item all is = weight_at kind items i item a
 
 -- one item more
 pub entries_more : (keys : List ℕ) (items : List Item) (i key : ℕ) (item : Item) → slice_get keys i ≡ Some key → slice_get items i ≡ Some item
-    → entries_of (take (suc i) keys) (take (suc i) items) ≡ entries_of (take i keys) (take i items) ++ (key, item.weight) ∷ []
+    → entries_by_key (take (suc i) keys) (take (suc i) items) ≡ entries_by_key (take i keys) (take i items) ++ (key, item.weight) ∷ []
 entries_more [] items i key item at is = cc
 entries_more (k ∷ keys) [] i key item at is = cc
 entries_more (k ∷ keys) (x ∷ items) zero key item at is = first k key x item at is
@@ -88,18 +88,18 @@ entries_more (k ∷ keys) (x ∷ items) (suc i) key item at is = ap (λ es. (k, 
 -- what a reference is made of
 module _ {H : Type 0} (old new : Ledger H) (m n : Records) where
   -- nothing of no items
-  pub makes_none : (kind : Kind) (keys : List ℕ) (items : List Item) (ref : ℕ) → keys ≡ [] → ref ≡ 0 → Turns old new m n [] [] → MakesItems kind old new m n (entries_of keys items) ref
+  pub makes_none : (kind : Kind) (keys : List ℕ) (items : List Item) (ref : ℕ) → keys ≡ [] → ref ≡ 0 → Turns old new m n [] [] → MakesItems kind old new m n (entries_by_key keys items) ref
   makes_none kind keys items ref none is turns =
       let here : MakesItems kind old new m n [] 0 = record {
         form = tt;
         weighted_are = refl;
         turns = turns-as old new m n [] [] [] (entries [] ∷ []) turns (λ r. refl) (λ r. refl);
       } in
-      subst (MakesItems kind old new m n (entries_of keys items)) (sym is) (subst (λ ks. MakesItems kind old new m n (entries_of ks items) 0) (sym none) here)
+      subst (MakesItems kind old new m n (entries_by_key keys items)) (sym is) (subst (λ ks. MakesItems kind old new m n (entries_by_key ks items) 0) (sym none) here)
 
   -- the record of the value of a single item
   pub makes_single : (keys : List ℕ) (items : List Item) (ref : ℕ) → slice_get keys 0 ≡ Some ref → length keys ≡ length items → AllByRecursion (λ (key : ℕ). 0 < key) keys
-      → IsLawfulItems Single items → Turns old new m n [] [] → MakesItems Single old new m n (entries_of keys items) ref
+      → IsLawfulItems Single items → Turns old new m n [] [] → MakesItems Single old new m n (entries_by_key keys items) ref
   makes_single [] items ref at sized there lawful turns = cc
   makes_single (key ∷ keys) [] ref at sized there lawful turns = absurd (omega arith)
   makes_single (key ∷ k ∷ keys) (item ∷ items) ref at sized there lawful turns = absurd (let few = lawful.0 in omega arith)
@@ -144,13 +144,13 @@ few_of Single items has lawful = cc
 few_of Array items has lawful = lawful.0
 few_of WeightedSet items has lawful = lawful.0
 
-entries_length : (keys : List ℕ) (items : List Item) → length keys ≡ length items → length (entries_of keys items) ≡ length items
+entries_length : (keys : List ℕ) (items : List Item) → length keys ≡ length items → length (entries_by_key keys items) ≡ length items
 entries_length [] [] same = refl
 entries_length [] (item ∷ items) same = absurd (omega arith)
 entries_length (key ∷ keys) [] same = refl
 entries_length (key ∷ keys) (item ∷ items) same = ap suc (entries_length keys items (omega arith))
 
-pub words_length : (kind : Kind) (words keys : List ℕ) (items : List Item) → map (word_entry kind) words ≡ entries_of keys items → length keys ≡ length items → length words ≡ length items
+pub words_length : (kind : Kind) (words keys : List ℕ) (items : List Item) → map (word_entry kind) words ≡ entries_by_key keys items → length keys ≡ length items → length words ≡ length items
 words_length kind words keys items are same = sym (length-map words (word_entry kind)) ∙ ap length are ∙ entries_length keys items same
 
 pub made_list : {H : Type 0} (old new : Ledger H) (m n : Records) (bits : ℕ) (words : List ℕ) (list : List (ℕ × ℤ)) (kind : Kind) (result : Result ℕ StoreError) → 0 < length words → length words ≤ 1023

@@ -35,10 +35,10 @@ abbrev pub item_of : ValueType → Records → ℕ × ℤ → Item
 item_of type m e = record { value = stored_value type m e.0; weight = e.1 }
 
 -- references of values with the weights of items
-abbrev pub entries_of : List ℕ → List Item → List (ℕ × ℤ)
-entries_of [] items = []
-entries_of (key ∷ keys) [] = []
-entries_of (key ∷ keys) (item ∷ items) = (key, item.weight) ∷ entries_of keys items
+abbrev pub entries_by_key : List ℕ → List Item → List (ℕ × ℤ)
+entries_by_key [] items = []
+entries_by_key (key ∷ keys) [] = []
+entries_by_key (key ∷ keys) (item ∷ items) = (key, item.weight) ∷ entries_by_key keys items
 
 -- a document's reference was made of these, and nothing else is changed
 pub record MakesItems {H : Type 0} (kind : Kind) (old new : Ledger H) (m n : Records) (list : List (ℕ × ℤ)) (ref : ℕ) : Type 0 where

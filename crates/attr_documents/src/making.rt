@@ -7,7 +7,7 @@ ghost use Rattle.array_store.specs.Adding.{MakesOneOf};
 ghost use Rattle.attr_images.specs.Words.{class_of};
 ghost use Rattle.attr_types.specs.Lawful.{IsLawfulItems};
 ghost use Rattle.attr_documents.specs.Documents.{items_own};
-ghost use Rattle.attr_documents.specs.Items.{entries_of, has_list, word_entry, IsItemsWidth, IsWeightOf, MakesItems};
+ghost use Rattle.attr_documents.specs.Items.{entries_by_key, has_list, word_entry, IsItemsWidth, IsWeightOf, MakesItems};
 
 use crate::WEIGHT_BASE;
 use array_store::add;
@@ -38,7 +38,7 @@ fn words_of<const OFFSET_BITS: u32>(
 ) -> Result<Vec<u64>, AllocError>
     requires sized { length keys.now ≡ length items.now }
     requires weights { AllByRecursion (λ item. IsWeightOf kind item.weight) items.now }
-    ensures { IfOk result (λ words. map (word_entry kind) words.items ≡ entries_of keys.now items.now) }
+    ensures { IfOk result (λ words. map (word_entry kind) words.items ≡ entries_by_key keys.now items.now) }
 {
     let mut words = Vec::with_capacity(alloc, keys.len())?;
     for i in 0..keys.len() {
@@ -62,7 +62,7 @@ fn make_list<const OFFSET_BITS: u32, S: Store<OFFSET_BITS>>(
     requires few { length items.now ≤ 1023 }
     requires weights { AllByRecursion (λ item. IsWeightOf kind item.weight) items.now }
     ensures makes { IfOk result (MakesItems kind (S.ledger store.old) (S.ledger store.new) (S.records store.old) (S.records store.new)
-        (entries_of keys.now items.now)) }
+        (entries_by_key keys.now items.now)) }
     ensures counts { MakesOneOf (class_of (1 + length items.now)) (S.ledger store.old) (S.ledger store.new) }
     ensures refuses { IfErr result (RefusesOf (IsItemsWidth kind (length items.now)) (S.ledger store.old) (S.ledger store.new)) }
     ensures may { MayDo (S.ledger store.old) (S.ledger store.new) }
@@ -88,7 +88,7 @@ pub fn make_items<const OFFSET_BITS: u32, S: Store<OFFSET_BITS>>(
     requires there { AllByRecursion (λ (key : ℕ). 0 < key) keys.now }
     requires lawful { IsLawfulItems kind items.now }
     ensures makes { IfOk result (MakesItems kind (S.ledger store.old) (S.ledger store.new) (S.records store.old) (S.records store.new)
-        (entries_of keys.now items.now)) }
+        (entries_by_key keys.now items.now)) }
     ensures counts { MakesOneOf (class_of (1 + length items.now)) (S.ledger store.old) (S.ledger store.new) }
     ensures refuses { IfErr result (RefusesOf (IsItemsWidth kind (length items.now)) (S.ledger store.old) (S.ledger store.new)) }
     ensures may { MayDo (S.ledger store.old) (S.ledger store.new) }

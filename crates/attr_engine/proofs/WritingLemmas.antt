@@ -26,7 +26,7 @@ use Rattle.attr_engine.proofs.HistoryLemmas.{in_rounds, afterwards, is_point}
 use Rattle.attr_loader.specs.declared.loaded.NoRoom.{NoRoom}
 use Rattle.attr_report.specs.History.{IsLoaded, IsRounds, IsAfterwards, IsSaved, IsSavedAt}
 use Rattle.attr_engine.specs.Rounds.{IsRoundAt, AreRoundsAt, IsCame, seen_before, progress_at}
-use Rattle.attr_engine.specs.Writing.{round_text, rounds_text, readers_text, report_text, summary_text, text_of, counts_of, IsWrittenOf, IsSavedOf}
+use Rattle.attr_engine.specs.Writing.{round_text, rounds_text, readers_text, report_text, summary_text, text_of, operations_of_rounds, IsWrittenOf, IsSavedOf}
 
 -- ---- one after another
 
@@ -67,7 +67,7 @@ told_counts run table make told some tells =
 
 module _ (run : Run) (ops : List Op) (none : run.make ≡ None) where
   rounds-told : (last reader number : ℕ) (rounds : List (Round Told)) → All (IsRoundAt run ops last) rounds
-      → rounds_text reader number rounds ≡ rounds_from run ops reader number (counts_of rounds)
+      → rounds_text reader number rounds ≡ rounds_from run ops reader number (operations_of_rounds rounds)
   unfolding rounds_from
   rounds-told last reader number [] all = refl
   rounds-told last reader number (round ∷ rounds) all =
@@ -76,7 +76,7 @@ module _ (run : Run) (ops : List Op) (none : run.make ≡ None) where
       (rounds-told last reader (number + 1) rounds (all_rest (IsRoundAt run ops last) round rounds all))
 
   readers-told : (seen last reader : ℕ) (all_rounds : List (Vec (Round Told) Global)) → AllByRecursion (λ r. AreRoundsAt run ops seen last r.items) all_rounds
-      → readers_text reader all_rounds ≡ readers_from run ops reader (map (λ r. counts_of r.items) all_rounds)
+      → readers_text reader all_rounds ≡ readers_from run ops reader (map (λ r. operations_of_rounds r.items) all_rounds)
   unfolding readers_from
   readers-told seen last reader [] all = refl
   readers-told seen last reader (made ∷ others) all =
@@ -98,7 +98,7 @@ report-told run ops came is none =
     ends (readers_text 1 came.rounds.items ++ final_line loaded ++ string_bytes came.last.lines) full (done_line loaded came.loaded.skipped)
     ∙ ap₂ (λ (a b : List ℕ). a ++ final_line loaded ++ b ++ full ++ done_line loaded came.loaded.skipped)
     (readers-told run ops none (seen_before run.after is.last) is.last 1 came.rounds.items is.rounds) (told_lines run ops loaded came.last none is.tells)
-    ∙ ap (λ k. readers_from run ops 1 (map (λ r. counts_of r.items) came.rounds.items) ++ final_line loaded ++ answers_at run ops loaded ++ full ++ done_line loaded k) is.skips
+    ∙ ap (λ k. readers_from run ops 1 (map (λ r. operations_of_rounds r.items) came.rounds.items) ++ final_line loaded ++ answers_at run ops loaded ++ full ++ done_line loaded k) is.skips
 
 summary-told : (run : Run) (ops : List Op) (came : Came) (make : Make) → IsCame run ops came → run.make ≡ Some make
     → summary_text make came ≡ summary make run ops (progress_at came None) (full_of came.loaded.full)

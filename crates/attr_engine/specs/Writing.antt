@@ -44,14 +44,14 @@ text_of None came = report_text came
 text_of (Some make) came = summary_text make came
 
 -- how many operations a reader's rounds saw
-abbrev pub counts_of : List (Round Told) → List ℕ
-counts_of rounds = map (λ round. round.operations) rounds
+abbrev pub operations_of_rounds : List (Round Told) → List ℕ
+operations_of_rounds rounds = map (λ round. round.operations) rounds
 
 -- what is written of a run that saves no table
 pub record IsWrittenOf (make : Option Make) (came : Came) (w : Written) : Type 0 where
   pub loaded : w.loaded ≡ came.loaded.operations
   pub full : w.full ≡ came.loaded.full
-  pub rounds : w.rounds ≡ map (λ r. counts_of r.items) came.rounds.items
+  pub rounds : w.rounds ≡ map (λ r. operations_of_rounds r.items) came.rounds.items
   pub saved : w.saved ≡ None
   pub text : w.text.items ≡ text_of make came
 
@@ -59,6 +59,6 @@ pub record IsWrittenOf (make : Option Make) (came : Came) (w : Written) : Type 0
 pub record IsSavedOf (run : Run) (ops : List Op) (came : Came) (w : Written) : Type 0 where
   pub loaded : w.loaded ≡ came.loaded.operations
   pub full : w.full ≡ came.loaded.full
-  pub rounds : w.rounds ≡ map (λ r. counts_of r.items) came.rounds.items
+  pub rounds : w.rounds ≡ map (λ r. operations_of_rounds r.items) came.rounds.items
   pub saved : w.saved ≡ Some came.loaded.operations
   pub text : w.text.items ≡ saved_text run.fields (table_after run ops came.loaded.operations) came.loaded.operations

@@ -2,7 +2,8 @@
 ghost use Rattle.std.specs.Prelude.{◌≡◌, ◌++◌, ◌<◌, ◌^◌, length, map, OnOk, IfOk, string_bytes};
 ghost use Rattle.attr_report.specs.Report.{reader_line, full_line};
 ghost use Rattle.attr_engine.specs.Run.{full_of};
-ghost use Rattle.attr_engine.specs.Writing.{round_text, rounds_text, readers_text, end_text, report_text, summary_text, text_of, counts_of};
+ghost use Rattle.attr_engine.specs.Writing.{round_text, rounds_text, readers_text, end_text, report_text, summary_text, text_of};
+ghost use Rattle.attr_engine.specs.Writing.{operations_of_rounds};
 ghost use Rattle.attr_engine.specs.Writing.{IsWrittenOf};
 
 use crate::came::Came;
@@ -121,7 +122,7 @@ fn text_of(alloc: Global, make: Option<Make>, came: &Came) -> Result<String, All
 
 /// How many operations a reader's rounds saw.
 fn counts_of(alloc: Global, rounds: &[Round<Told>]) -> Result<RoundCounts, AllocError>
-    ensures { IfOk result (λ counts. counts ≡ counts_of rounds.now) }
+    ensures { IfOk result (λ counts. counts ≡ operations_of_rounds rounds.now) }
 {
     let mut counts = RoundCounts::new(alloc);
     for round in rounds {
@@ -132,7 +133,7 @@ fn counts_of(alloc: Global, rounds: &[Round<Told>]) -> Result<RoundCounts, Alloc
 
 /// How many operations the rounds of each reader saw.
 pub fn all_counts(alloc: Global, rounds: &[Vec<Round<Told>>]) -> Result<RoundList, AllocError>
-    ensures { IfOk result (λ list. list ≡ map (λ r. counts_of r.items) rounds.now) }
+    ensures { IfOk result (λ list. list ≡ map (λ r. operations_of_rounds r.items) rounds.now) }
 {
     let mut list = RoundList::new(alloc);
     for made in rounds {

@@ -15,7 +15,7 @@ use Rattle.attr_images.specs.Postings.{index_of}
 use Rattle.attr_index.proofs.ChangeLemmas.{ends, has_items}
 use Rattle.attr_index.proofs.MiddleLemmas.{has_both, both_walks, between_same}
 use Rattle.attr_index.proofs.PartLemmas.{insert_same}
-use Rattle.attr_index.specs.Changes.{first_weights, or_else, IsBetween}
+use Rattle.attr_index.specs.Changes.{first_weights, first_given, IsBetween}
 use Rattle.attr_index.specs.Columns.{Column, items_of, with_change}
 use Rattle.attr_index.specs.Index.{Index, IsIndexOf, list_of, weight_in}
 use Rattle.attr_types.specs.Value.{value_cmp}
@@ -60,7 +60,7 @@ module _ {H : Type 0} (kind : Kind) (type : ValueType) (begun : Ledger H) (k : R
     -- and after the new values were added
     module _ (new : Option (List Item)) (after : List (Value × ℤ)) (are : after ≡ first_weights [] (unwrap_or new [])) (middle : Index)
         (added : IsBetween (index_of type k dictionary) doc (weights after) (λ v. None) middle) where
-      pub has_middle : (value : Value) → lookup (is_at (nat_cmp doc)) (list_of value middle) ≡ or_else (weights after value) (weights old value)
+      pub has_middle : (value : Value) → lookup (is_at (nat_cmp doc)) (list_of value middle) ≡ first_given (weights after value) (weights old value)
       has_middle = has_both (index_of type k dictionary) doc (weights old) (weights after) middle has_before added
 
       pub index_ends : (index : Index) → IsBetween middle doc (weights after) (weights old) index → IsIndexOf (with_change column doc new) index

@@ -12,7 +12,7 @@ ghost use Rattle.attr_documents.specs.Changes.{IsDocumentWidth};
 ghost use Rattle.attr_field.specs.Steps.{StandsField, StepsField};
 ghost use Rattle.attr_images.specs.Documents.{column_at};
 ghost use Rattle.attr_images.specs.Postings.{index_of};
-ghost use Rattle.attr_index.specs.Changes.{IsBetween, or_else};
+ghost use Rattle.attr_index.specs.Changes.{IsBetween, first_given};
 ghost use Rattle.attr_index.specs.Columns.{with_change};
 ghost use Rattle.attr_index.specs.Index.{Index, IsIndexOf, list_of};
 ghost use Rattle.attr_types.specs.Lawful.{ItemsFit};
@@ -166,7 +166,7 @@ pub fn remove_values<const OFFSET_BITS: u32, S: Store<OFFSET_BITS>>(
     requires stands { StandsField kind value_type (S.ledger store.old) (S.records store.old) documents dictionary }
     requires typed { AreOfType value_type (values_in old.now.entries) }
     requires has { (value : OneValue) → lookup (is_at (nat_cmp doc)) (list_of value (index_of value_type (S.records store.old) dictionary))
-        ≡ or_else (get value_cmp new.now value) (get value_cmp old.now value) }
+        ≡ first_given (get value_cmp new.now value) (get value_cmp old.now value) }
     requires ends { (index : Index)
         → IsBetween (index_of value_type (S.records store.old) dictionary) doc (get value_cmp new.now) (get value_cmp old.now) index
         → IsIndexOf (column_at kind value_type (S.records store.old) documents) index }

@@ -7,7 +7,7 @@ use Rattle.std.specs.List.{AllByRecursion, flat_map}
 use Rattle.image_base.specs.Records.{Records}
 use Rattle.tree_images.specs.Trees.{tree_pairs}
 use Rattle.attr_images.specs.Postings.{ListForm, short, tree, vector, list_form, block_documents, vector_documents, postings_at, IsBlock, IsPostingList}
-use Rattle.attr_images.specs.Words.{stored_items, unpacked, weight_of}
+use Rattle.attr_images.specs.Words.{stored_items, unpacked, weight_in_bits}
 use Rattle.attr_images.specs.declared.TheConstants.{FIRST_VECTOR}
 
 form_below : (word : ℕ) → word < 2 ^ 33 → list_form word ≡ cond (nat_eq (word % 2) 0) (short (word / 2)) (tree (word / 2))
@@ -48,6 +48,6 @@ pub lists_filled : (m : Records) (form : ListForm) → IsPostingList m form → 
 lists_filled m (short ref) list = subst (λ n. 0 < n) (sym (length-map (stored_items (m ref)) unpacked)) list.some
 lists_filled m (tree root) list =
     let many : 0 < length (tree_pairs m root) = (let more = list.1 in omega arith) in
-    subst (λ n. 0 < n) (sym (length-map (tree_pairs m root) (λ (p : ℕ × ℕ). (p.0, weight_of p.1)))) many
+    subst (λ n. 0 < n) (sym (length-map (tree_pairs m root) (λ (p : ℕ × ℕ). (p.0, weight_in_bits p.1)))) many
 lists_filled m (vector root) list =
     subst (λ n. 0 < n) (sym (length-map (vector_documents m root) (λ (doc : ℕ). (doc, pos 1)))) (blocks_filled m (tree_pairs m root) list.1 list.2)

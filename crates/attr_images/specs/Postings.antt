@@ -7,7 +7,7 @@ use Rattle.image_base.specs.Records.{Records}
 use Rattle.tree_images.specs.Trees.{tree_pairs, tree_nodes, by_number, IsTree}
 use Rattle.attr_images.specs.declared.TheConstants.{MOST_SHORT, FIRST_VECTOR, BLOCK_WORDS, BLOCK_DOCUMENTS}
 use Rattle.attr_images.specs.Values.{stored_value, IsValueRecord}
-use Rattle.attr_images.specs.Words.{stored_items, unpacked, weight_of, IsStoredList}
+use Rattle.attr_images.specs.Words.{stored_items, unpacked, weight_in_bits, IsStoredList}
 use Rattle.attr_types.specs.declared.kind.ValueType.{ValueType}
 use Rattle.attr_types.specs.declared.value.Value.{Value}
 use Rattle.doc_set.specs.Sets.{in_words}
@@ -35,7 +35,7 @@ vector_documents m root = flat_map (λ p. block_documents p.0 (m p.1)) (tree_pai
 -- the documents of a list, each with its weight
 abbrev pub postings_at : Records → ListForm → List (ℕ × ℤ)
 postings_at m (short ref) = map unpacked (stored_items (m ref))
-postings_at m (tree root) = map (λ p. (p.0, weight_of p.1)) (tree_pairs m root)
+postings_at m (tree root) = map (λ p. (p.0, weight_in_bits p.1)) (tree_pairs m root)
 postings_at m (vector root) = map (λ doc. (doc, pos 1)) (vector_documents m root)
 
 -- a block, some bit of which is 1, and whose documents have 32 bits

@@ -21,7 +21,7 @@ use Rattle.attr_images.specs.Postings.{IsPostingList, postings_reach, index_of, 
 use Rattle.attr_images.specs.Shapes.{types_of_shape}
 use Rattle.attr_images.specs.Tables.{AttributeTrees, HaveSameDocuments, columns_at, attributes_reach, AreLawfulAttributes}
 use Rattle.attr_images.specs.Values.{value_of, stored_value, value_words, IsValueRecord}
-use Rattle.attr_images.specs.Words.{classes, class_of, filled, stored_items, unpacked, weight_of, IsStoredList}
+use Rattle.attr_images.specs.Words.{classes, class_of, filled, stored_items, unpacked, weight_in_bits, IsStoredList}
 use Rattle.attr_images.specs.declared.TheConstants.{MOST_SHORT}
 use Rattle.attr_types.specs.Change.{most_items}
 use Rattle.attr_types.specs.Value.{value_cmp}
@@ -112,7 +112,7 @@ module _ (m n : Records) (root : ℕ) (same : SameAt (tree_nodes m root ++ map (
 
 pub postings_at-same : (m n : Records) (form : ListForm) → SameAt (postings_reach m form) m n → postings_at n form ≡ postings_at m form
 postings_at-same m n (short ref) h = ap (λ ws. map unpacked (stored_items ws)) h.0
-postings_at-same m n (tree root) h = ap (λ ps. map (λ p. (p.0, weight_of p.1)) ps) (tree_pairs-same m n root h)
+postings_at-same m n (tree root) h = ap (λ ps. map (λ p. (p.0, weight_in_bits p.1)) ps) (tree_pairs-same m n root h)
 postings_at-same m n (vector root) h = ap (λ docs. map (λ doc. (doc, pos 1)) docs) (vector_documents-same m n root h)
 
 pub postings_reach-same : (m n : Records) (form : ListForm) → SameAt (postings_reach m form) m n

@@ -28,9 +28,9 @@ pub record IsStoredList (most : ℕ) (ws : List ℕ) : Type 0 where
   pub words : ws ≡ filled (length (stored_items ws) ∷ stored_items ws)
 
 -- a weight is kept as 32 bits in two's complement
-abbrev pub weight_of : ℕ → ℤ
-weight_of bits = cast_signed w32 bits
+abbrev pub weight_in_bits : ℕ → ℤ
+weight_in_bits bits = cast_signed w32 bits
 
 -- a number and a weight in one word
 abbrev pub unpacked : ℕ → ℕ × ℤ
-unpacked word = (word / 2 ^ 32, weight_of (word % 2 ^ 32))
+unpacked word = (word / 2 ^ 32, weight_in_bits (word % 2 ^ 32))

@@ -19,7 +19,7 @@ use Rattle.attr_types.specs.declared.value.Value.{Value}
 use Rattle.attr_index.proofs.BetweenLemmas.{put_step, same_step, take_step, stay_step}
 use Rattle.std.proofs.lemmas.Bool.Decides.{Decides-int_eq}
 use Rattle.attr_index.specs.Index.{Index, IsFormed, list_of, weight_in, with_posting, without_posting}
-use Rattle.attr_index.specs.Changes.{IsBetween, is_weight, or_else, settled, first_weights}
+use Rattle.attr_index.specs.Changes.{IsBetween, is_weight, first_given, settled, first_weights}
 
 -- the entries so far are added, and the rest is to come
 pub record IsWalk (start : Index) (doc : ℕ) (entries rest : List (Value × ℤ)) (index : Index) : Type 0 where
@@ -107,7 +107,7 @@ pub record IsWalkBack (start : Index) (doc : ℕ) (added : Value → Option ℤ)
 
 module _ (start : Index) (doc : ℕ) (added : Value → Option ℤ) (entries : List (Value × ℤ)) where
   pub back_begins : (rest : List (Value × ℤ)) → rest ≡ entries → IsFormed start
-      → ((v : Value) → lookup (is_at (nat_cmp doc)) (list_of v start) ≡ or_else (added v) (lookup (is_at (value_cmp v)) entries))
+      → ((v : Value) → lookup (is_at (nat_cmp doc)) (list_of v start) ≡ first_given (added v) (lookup (is_at (value_cmp v)) entries))
       → IsWalkBack start doc added entries rest start
   back_begins rest is formed has = record {
     done = [];
@@ -115,7 +115,7 @@ module _ (start : Index) (doc : ℕ) (added : Value → Option ℤ) (entries : L
     between = record { formed = formed; lists = λ v. told v (added v) (has v) };
   }
     where
-      told : (v : Value) (o : Option ℤ) → lookup (is_at (nat_cmp doc)) (list_of v start) ≡ or_else o (lookup (is_at (value_cmp v)) entries)
+      told : (v : Value) (o : Option ℤ) → lookup (is_at (nat_cmp doc)) (list_of v start) ≡ first_given o (lookup (is_at (value_cmp v)) entries)
           → list_of v start ≡ settled o None doc (list_of v start)
       told v (Some weight) there = sym (insert_same doc weight (list_of v start) (list_of-sorted v start formed) there)
       told v None there = refl
@@ -142,13 +142,13 @@ module _ (start : Index) (doc : ℕ) (added : Value → Option ℤ) (entries : L
         → cond b (Some e.1) (lookup (is_at (value_cmp value)) (es ++ (value, weight) ∷ more)) ≡ Some weight)
         [ true ↦ λ h. cc | false ↦ λ h. lookup-joined es h ] none
 
-    pub back_there : ((v : Value) → lookup (is_at (nat_cmp doc)) (list_of v start) ≡ or_else (added v) (lookup (is_at (value_cmp v)) entries))
+    pub back_there : ((v : Value) → lookup (is_at (nat_cmp doc)) (list_of v start) ≡ first_given (added v) (lookup (is_at (value_cmp v)) entries))
         → added value ≡ None → IsSome (lookup (is_at (nat_cmp doc)) (list_of value now))
     back_there has gone =
         ap is_some (ap (lookup (is_at (nat_cmp doc))) (p.between.lists value
         ∙ ap (λ o. settled o (lookup (is_at (value_cmp value)) p.done) doc (list_of value start)) gone
         ∙ ap (λ o. settled None o doc (list_of value start)) lacks_back)
-        ∙ has value ∙ ap (λ o. or_else o (lookup (is_at (value_cmp value)) entries)) gone
+        ∙ has value ∙ ap (λ o. first_given o (lookup (is_at (value_cmp value)) entries)) gone
         ∙ ap (lookup (is_at (value_cmp value))) (sym joined_back) ∙ lookup-joined p.done lacks_back)
 
     pub back_take : later ≡ without_posting value doc now → added value ≡ None → IsWalkBack start doc added entries more later
@@ -175,27 +175,27 @@ weight_in-other : (value : Value) (item : Item) (items : List Item) → is_eq (v
 weight_in-other value item items apart =
     ap (λ b. option_map (λ (x : Item). x.weight) (cond b (Some item) (find (λ (x : Item). is_eq (value_cmp value x.value)) items))) apart
 
-or_none : (o : Option ℤ) → or_else o None ≡ o
+or_none : (o : Option ℤ) → first_given o None ≡ o
 or_none None = refl
 or_none (Some weight) = refl
 
 first_step : (value : Value) (es : List (Value × ℤ)) (item : Item) (items : List Item) (o : Option ℤ) → lookup (is_at (value_cmp item.value)) es ≡ o
-    → or_else (lookup (is_at (value_cmp value)) (cond (is_some o) es (insert_entry value_cmp es item.value item.weight))) (weight_in value items)
-    ≡ or_else (lookup (is_at (value_cmp value)) es) (weight_in value (item ∷ items))
+    → first_given (lookup (is_at (value_cmp value)) (cond (is_some o) es (insert_entry value_cmp es item.value item.weight))) (weight_in value items)
+    ≡ first_given (lookup (is_at (value_cmp value)) es) (weight_in value (item ∷ items))
 first_step value es item items (Some weight) is =
-    by_value (λ v. or_else (lookup (is_at (value_cmp v)) es) (weight_in v items) ≡ or_else (lookup (is_at (value_cmp v)) es) (weight_in v (item ∷ items))) item.value
-    (ap (λ o. or_else o (weight_in item.value items)) is ∙ sym (ap (λ o. or_else o (weight_in item.value (item ∷ items))) is))
-    (λ v apart. ap (or_else (lookup (is_at (value_cmp v)) es)) (sym (weight_in-other v item items apart))) value
+    by_value (λ v. first_given (lookup (is_at (value_cmp v)) es) (weight_in v items) ≡ first_given (lookup (is_at (value_cmp v)) es) (weight_in v (item ∷ items))) item.value
+    (ap (λ o. first_given o (weight_in item.value items)) is ∙ sym (ap (λ o. first_given o (weight_in item.value (item ∷ items))) is))
+    (λ v apart. ap (first_given (lookup (is_at (value_cmp v)) es)) (sym (weight_in-other v item items apart))) value
 first_step value es item items None is =
-    by_value (λ v. or_else (lookup (is_at (value_cmp v)) (insert_entry value_cmp es item.value item.weight)) (weight_in v items)
-    ≡ or_else (lookup (is_at (value_cmp v)) es) (weight_in v (item ∷ items))) item.value
-    (ap (λ o. or_else o (weight_in item.value items)) (lookup-insert_here value_cmp_total es item.value item.weight)
-    ∙ sym (weight_in-first item items) ∙ sym (ap (λ o. or_else o (weight_in item.value (item ∷ items))) is))
-    (λ v apart. ap (λ o. or_else o (weight_in v items)) (lookup-insert_other value_cmp_total es item.value item.weight v apart)
-    ∙ ap (or_else (lookup (is_at (value_cmp v)) es)) (sym (weight_in-other v item items apart))) value
+    by_value (λ v. first_given (lookup (is_at (value_cmp v)) (insert_entry value_cmp es item.value item.weight)) (weight_in v items)
+    ≡ first_given (lookup (is_at (value_cmp v)) es) (weight_in v (item ∷ items))) item.value
+    (ap (λ o. first_given o (weight_in item.value items)) (lookup-insert_here value_cmp_total es item.value item.weight)
+    ∙ sym (weight_in-first item items) ∙ sym (ap (λ o. first_given o (weight_in item.value (item ∷ items))) is))
+    (λ v apart. ap (λ o. first_given o (weight_in v items)) (lookup-insert_other value_cmp_total es item.value item.weight v apart)
+    ∙ ap (first_given (lookup (is_at (value_cmp v)) es)) (sym (weight_in-other v item items apart))) value
 
 pub lookup-first_weights : (value : Value) (es : List (Value × ℤ)) (items : List Item)
-    → lookup (is_at (value_cmp value)) (first_weights es items) ≡ or_else (lookup (is_at (value_cmp value)) es) (weight_in value items)
+    → lookup (is_at (value_cmp value)) (first_weights es items) ≡ first_given (lookup (is_at (value_cmp value)) es) (weight_in value items)
 lookup-first_weights value es [] = sym (or_none (lookup (is_at (value_cmp value)) es))
 lookup-first_weights value es (item ∷ items) =
     lookup-first_weights value (cond (is_some (lookup (is_at (value_cmp item.value)) es)) es (insert_entry value_cmp es item.value item.weight)) items

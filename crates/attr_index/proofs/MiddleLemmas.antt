@@ -18,24 +18,24 @@ use Rattle.attr_index.proofs.ListLemmas.{list_of-sorted}
 use Rattle.attr_index.proofs.PartLemmas.{insert_same}
 use Rattle.attr_index.proofs.ChangeLemmas.{ends}
 use Rattle.attr_index.specs.Index.{Index, IsFormed, IsIndexOf, list_of, weight_in}
-use Rattle.attr_index.specs.Changes.{or_else, settled, IsBetween, IsPartway}
+use Rattle.attr_index.specs.Changes.{first_given, settled, IsBetween, IsPartway}
 
 module _ (start : Index) (doc : ℕ) (old new : Value → Option ℤ) where
   -- after the first walk
   pub has_both : (middle : Index) → ((value : Value) → lookup (is_at (nat_cmp doc)) (list_of value start) ≡ old value) → IsBetween start doc new (λ value. None) middle
-      → ((value : Value) → lookup (is_at (nat_cmp doc)) (list_of value middle) ≡ or_else (new value) (old value))
+      → ((value : Value) → lookup (is_at (nat_cmp doc)) (list_of value middle) ≡ first_given (new value) (old value))
   has_both middle has p value =
       ap (lookup (is_at (nat_cmp doc))) (p.lists value) ∙ told (new value)
     where
-      told : (o : Option ℤ) → lookup (is_at (nat_cmp doc)) (settled o None doc (list_of value start)) ≡ or_else o (old value)
+      told : (o : Option ℤ) → lookup (is_at (nat_cmp doc)) (settled o None doc (list_of value start)) ≡ first_given o (old value)
       told (Some weight) = lookup-insert_here nat_cmp_total (list_of value start) doc weight
       told None = has value
 
   -- before the second
-  pub begins_again : IsFormed start → ((value : Value) → lookup (is_at (nat_cmp doc)) (list_of value start) ≡ or_else (new value) (old value)) → IsBetween start doc new (λ value. None) start
+  pub begins_again : IsFormed start → ((value : Value) → lookup (is_at (nat_cmp doc)) (list_of value start) ≡ first_given (new value) (old value)) → IsBetween start doc new (λ value. None) start
   begins_again formed has = record { formed = formed; lists = λ value. told value (new value) (has value) }
     where
-      told : (value : Value) (o : Option ℤ) → lookup (is_at (nat_cmp doc)) (list_of value start) ≡ or_else o (old value)
+      told : (value : Value) (o : Option ℤ) → lookup (is_at (nat_cmp doc)) (list_of value start) ≡ first_given o (old value)
           → list_of value start ≡ settled o None doc (list_of value start)
       told value (Some weight) there = sym (insert_same doc weight (list_of value start) (list_of-sorted value start formed) there)
       told value None there = refl

@@ -35,13 +35,13 @@ abbrev pub IsPartway : Index → ℕ → List Item → List Item → Index → T
 IsPartway start doc added removed index = IsBetween start doc (λ value. weight_in value added) (λ value. weight_in value removed) index
 
 -- the state in the middle: the document has each value's new weight, or else the old one
-abbrev pub or_else : Option ℤ → Option ℤ → Option ℤ
-or_else (Some weight) other = Some weight
-or_else None other = other
+abbrev pub first_given : Option ℤ → Option ℤ → Option ℤ
+first_given (Some weight) other = Some weight
+first_given None other = other
 
 abbrev pub HasBoth : Index → ℕ → List Item → List Item → Type 0
 HasBoth index doc old new = (value : Value)
-    → lookup (is_at (nat_cmp doc)) (list_of value index) ≡ or_else (weight_in value new) (weight_in value old)
+    → lookup (is_at (nat_cmp doc)) (list_of value index) ≡ first_given (weight_in value new) (weight_in value old)
 
 -- a map from value to weight, with items that it lacks the values of, one after another
 abbrev pub first_weights : List (Value × ℤ) → List Item → List (Value × ℤ)

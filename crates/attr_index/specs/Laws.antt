@@ -20,7 +20,7 @@ use Rattle.attr_types.specs.declared.value.Value.{Value}
 use Rattle.attr_index.specs.Columns.{Column, IsLawfulColumn, column_of, column_values, items_of, with_change}
 use Rattle.attr_index.specs.Index.{Index, IsFormed, IsIndexOf, HasValues, HasLists, list_of, weight_in}
 use Rattle.attr_index.specs.Index.{with_posting, without_posting}
-use Rattle.attr_index.specs.Changes.{HasItems, or_else, IsBetween, IsPartway, first_weights}
+use Rattle.attr_index.specs.Changes.{HasItems, first_given, IsBetween, IsPartway, first_weights}
 
 -- ---- the columns of a table
 
@@ -69,8 +69,9 @@ WalkEnds = (kind : Kind) (column : Column) (start : Index) (doc : ℕ) (new : Op
 
 -- ---- what a step finds
 -- a value whose list a removal empties is no item's in the new column
-abbrev pub RemovedIsGone : Type 0
-RemovedIsGone = (kind : Kind) (column : Column) (start : Index) (doc : ℕ) (new : Option (List Item)) (removed : List Item) (index : Index)
+abbrev pub RemovedItemsAreGone : Type 0
+RemovedItemsAreGone = (kind : Kind) (column : Column) (start : Index) (doc : ℕ) (new : Option (List Item)) (removed : List Item)
+    (index : Index)
     (value : Value)
     → IsLawfulColumn kind column → IsIndexOf column start → IsPartway start doc (unwrap_or new []) removed index
     → weight_in value (unwrap_or new []) ≡ None → weight_in value removed ≡ None
@@ -105,11 +106,11 @@ abbrev pub MiddleHasBoth : Type 0
 MiddleHasBoth = (start : Index) (doc : ℕ) (old new : Value → Option ℤ) (middle : Index)
     → ((value : Value) → lookup (is_at (nat_cmp doc)) (list_of value start) ≡ old value)
     → IsBetween start doc new (λ value. None) middle
-    → (value : Value) → lookup (is_at (nat_cmp doc)) (list_of value middle) ≡ or_else (new value) (old value)
+    → (value : Value) → lookup (is_at (nat_cmp doc)) (list_of value middle) ≡ first_given (new value) (old value)
 
 abbrev pub WalkBeginsAgain : Type 0
 WalkBeginsAgain = (start : Index) (doc : ℕ) (old new : Value → Option ℤ) → IsFormed start
-    → ((value : Value) → lookup (is_at (nat_cmp doc)) (list_of value start) ≡ or_else (new value) (old value))
+    → ((value : Value) → lookup (is_at (nat_cmp doc)) (list_of value start) ≡ first_given (new value) (old value))
     → IsBetween start doc new (λ value. None) start
 
 abbrev pub WalksJoin : Type 0

@@ -3,7 +3,7 @@ ghost use Rattle.attr_index.specs.Laws.{ColumnIsLawful, OperationChangesColumn, 
 ghost use Rattle.attr_index.specs.Laws.{IndexHasAll, OneIndex, IndexHasItems, EmptyIndex};
 ghost use Rattle.attr_index.specs.Laws.{WalkBegins, PutGoesOn, SameGoesOn, TakeGoesOn, StayGoesOn, WalkEnds};
 ghost use Rattle.attr_index.specs.Laws.{MiddleHasBoth, WalkBeginsAgain, WalksJoin, WeightsCount, MapHasWeights};
-ghost use Rattle.attr_index.specs.Laws.{RemovedIsGone, OldValuesStay, NewValuesStay, AdditionKeepsKeys, RemovalKeepsKeys};
+ghost use Rattle.attr_index.specs.Laws.{RemovedItemsAreGone, OldValuesStay, NewValuesStay, AdditionKeepsKeys, RemovalKeepsKeys};
 ghost use Rattle.attr_index.specs.Laws.{ListsAreFew, ListsHaveDocuments, ValuesAreFew};
 
 /// An attribute's column of a lawful table is lawful, and an operation changes the items of its document in it.
@@ -42,7 +42,7 @@ pub fn middle_law()
 
 /// Which values are in the index between.
 pub fn value_law()
-    ensures gone { RemovedIsGone }
+    ensures gone { RemovedItemsAreGone }
     ensures old { OldValuesStay }
     ensures new { NewValuesStay }
     ensures adds { AdditionKeepsKeys }

@@ -5,7 +5,7 @@ ghost use Rattle.std.specs.Ordering.{nat_cmp};
 ghost use Rattle.attr_types.specs.Value.{value_cmp};
 ghost use Rattle.attr_types.specs.declared.value.Value.{Value as OneValue};
 ghost use Rattle.attr_index.specs.Index.{IsFormed, list_of};
-ghost use Rattle.attr_index.specs.Changes.{IsBetween, is_weight, first_weights, or_else};
+ghost use Rattle.attr_index.specs.Changes.{IsBetween, is_weight, first_weights, first_given};
 
 use crate::index::ValueIndex;
 use attr_types::{Item, Value};
@@ -63,7 +63,7 @@ pub fn remove_weights<I: ValueIndex>(
 ) -> Result<(), AllocError>
     requires formed { IsFormed (I.index index.old) }
     requires has { (value : OneValue) → lookup (is_at (nat_cmp doc)) (list_of value (I.index index.old))
-        ≡ or_else (get value_cmp new.now value) (get value_cmp old.now value) }
+        ≡ first_given (get value_cmp new.now value) (get value_cmp old.now value) }
     ensures removed { OnOk result (IsBetween (I.index index.old) doc (get value_cmp new.now) (get value_cmp old.now) (I.index index.new)) }
 {
     for (value, _) in old.iter() {

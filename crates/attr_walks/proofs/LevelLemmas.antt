@@ -13,7 +13,7 @@ use Rattle.tree_images.proofs.TreeLemmas.{many_pairs}
 use Rattle.tree_make.specs.Changes.{levels}
 use Rattle.attr_images.specs.Postings.{ListForm, short, tree, vector, index_of, list_form, postings_at, IsPostingList}
 use Rattle.attr_images.specs.Values.{stored_value}
-use Rattle.attr_images.specs.Words.{weight_of}
+use Rattle.attr_images.specs.Words.{weight_in_bits}
 use Rattle.attr_types.specs.Value.{type_of}
 use Rattle.attr_types.specs.declared.kind.ValueType.{ValueType}
 use Rattle.attr_types.specs.declared.value.Value.{Value}
@@ -42,7 +42,7 @@ form_low : (m : Records) (form : ListForm) (most : ℕ) → IsPostingList m form
     → form_levels m form ≤ most
 form_low m (short ref) most list plain some few = omega arith
 form_low m (tree root) most list plain some few =
-    levels_low m root most list.0.node some (subst (λ n. n < 2 * 8 ^ most) (length-map (tree_pairs m root) (λ (p : ℕ × ℕ). (p.0, weight_of p.1))) few)
+    levels_low m root most list.0.node some (subst (λ n. n < 2 * 8 ^ most) (length-map (tree_pairs m root) (λ (p : ℕ × ℕ). (p.0, weight_in_bits p.1))) few)
 form_low m (vector root) most list plain some few = absurd (plain root refl)
 
 short_no_vector : (ref root : ℕ) → short ref ≡ vector root → ⊥

@@ -12,7 +12,7 @@ use Rattle.store_api.proofs.PartLemmas.{turns-same, turns-then}
 use Rattle.attr_images.specs.Postings.{index_of}
 use Rattle.attr_images.specs.Values.{stored_value}
 use Rattle.attr_index.proofs.MapLemmas.{IsWalkBack, back_begins, back_there, back_take, back_stay, back_ends}
-use Rattle.attr_index.specs.Changes.{or_else}
+use Rattle.attr_index.specs.Changes.{first_given}
 use Rattle.attr_index.specs.Index.{IsFormed, list_of, without_posting}
 use Rattle.attr_types.specs.Value.{value_cmp, type_of, AreOfType}
 use Rattle.attr_types.specs.declared.kind.ValueType.{ValueType}
@@ -39,7 +39,7 @@ pub record RemovesSoFar {H : Type 0} (type : ValueType) (begun now : Ledger H) (
 -- what the index has of the document at first
 abbrev pub HasBothAt : ValueType → Records → ℕ → ℕ → (Value → Option ℤ) → List (Value × ℤ) → Type 0
 HasBothAt type k first doc added entries = (v : Value)
-    → lookup (is_at (nat_cmp doc)) (list_of v (index_of type k first)) ≡ or_else (added v) (lookup (is_at (value_cmp v)) entries)
+    → lookup (is_at (nat_cmp doc)) (list_of v (index_of type k first)) ≡ first_given (added v) (lookup (is_at (value_cmp v)) entries)
 
 -- the document is in the list of a value
 abbrev pub IsThere : ValueType → Records → ℕ → ℕ → Value → Type 0

@@ -6,7 +6,7 @@ ghost use Rattle.store_api.specs.Calls.{RefusesOf};
 ghost use Rattle.store_api.specs.Parts.{Owns};
 ghost use Rattle.store_api.specs.Units.{MayDo};
 ghost use Rattle.attr_images.specs.Postings.{index_of};
-ghost use Rattle.attr_index.specs.Changes.{or_else};
+ghost use Rattle.attr_index.specs.Changes.{first_given};
 ghost use Rattle.attr_index.specs.Index.{list_of};
 ghost use Rattle.attr_types.specs.Value.{value_cmp, AreOfType};
 ghost use Rattle.attr_types.specs.declared.value.Value.{Value as OneValue};
@@ -36,7 +36,7 @@ pub fn remove_all<const OFFSET_BITS: u32, S: Store<OFFSET_BITS>>(
     requires owns { Owns (S.ledger store.old) (S.records store.old) (index_part root ∷ []) }
     requires typed { AreOfType value_type (keys_of old.now.entries) }
     requires has { (value : OneValue) → lookup (is_at (nat_cmp doc)) (list_of value (index_of value_type (S.records store.old) root))
-        ≡ or_else (get value_cmp new.now value) (get value_cmp old.now value) }
+        ≡ first_given (get value_cmp new.now value) (get value_cmp old.now value) }
     ensures makes { IfOk result (WalksIndex value_type (S.ledger store.old) (S.ledger store.new) (S.records store.old) (S.records store.new)
         root.entry doc (get value_cmp new.now) (get value_cmp old.now)) }
     ensures counts { MakesFew (S.ledger store.old) (S.ledger store.new)

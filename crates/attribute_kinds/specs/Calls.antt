@@ -39,13 +39,13 @@ pub record IsFullCommit {H : Type 0} (old new : Ledger H) (width active held : �
   pub spare : (new.of_width width).spare ≡ 0
   pub before : free_count old.work.buffer old.work.sizes.buffers ≡ 0
 
-pub record IsSpent {H : Type 0} (old : Ledger H) (commit : ℕ) : Type 0 where
+pub record HasNoCommitLeft {H : Type 0} (old : Ledger H) (commit : ℕ) : Type 0 where
   pub last : old.work.commits.last ≡ old.work.sizes.commits
   pub number : commit ≡ old.work.commits.last
 
 abbrev pub RefusesCommit : {H : Type 0} → Ledger H → Ledger H → AttrError → Type 0
 RefusesCommit old new (Full width active held oldest) = IsFullCommit old new width active held oldest
-RefusesCommit old new (CommitsSpent commit) = IsSpent old commit
+RefusesCommit old new (CommitsSpent commit) = HasNoCommitLeft old commit
 RefusesCommit old new Memory = Unit {0}
 
 -- where the store was full it was so for the root record: the operations, and two roots of each attribute

@@ -10,7 +10,7 @@ use Rattle.attr_compaction.specs.Places.{place_cmp, PlanPlace, PlanView}
 use Rattle.attr_compaction.specs.declared.plan.TheConstants.{PHASES}
 use Rattle.attr_images.specs.Tables.{attributes_reach}
 use Rattle.attr_steps.specs.Calls.{IsOutOfRoom, LeavesEntries}
-use Rattle.compact_steps.specs.Compactions.{place_of, IsUnderPlan}
+use Rattle.compact_steps.specs.Compactions.{place_of_plan, IsUnderPlan}
 use Rattle.compact_steps.specs.Units.{IsActiveWidth}
 use Rattle.plan_counts.specs.Counts.{keys_between}
 use Rattle.attribute_kinds.specs.Views.{AttributeView}
@@ -39,12 +39,12 @@ RefusesKey old new Memory = Unit {0}
 module _ {S H : Type 0} (bits : ℕ) (ledger : S → Ledger H) (records : S → Records) (old new : AttributeView S) where
   -- how many keys lie past the place where the compaction stood, and not past this one
   abbrev pub keys_to : PlanPlace → ℕ
-  keys_to place = keys_between (place_of old.plan) place (records old.store) old.trees
+  keys_to place = keys_between (place_of_plan old.plan) place (records old.store) old.trees
 
   -- the compaction that was under way, or was begun; it did not go back
   pub record IsAt (plan : PlanView) : Type 0 where
     pub under : IsUnderPlan bits (length old.fields) (ledger old.store) (ledger new.store) old.plan plan
-    pub rises : place_cmp (place_of old.plan) plan.place ≢ Greater
+    pub rises : place_cmp (place_of_plan old.plan) plan.place ≢ Greater
 
   -- it is under way, so many keys further
   pub record GoesTo (moved : ℕ) : Type 0 where

@@ -1,7 +1,7 @@
 ghost use Rattle.std.specs.Prelude.{◌≡◌, ◌<◌, ◌^◌, ℕ, map, OnOk, IfOk, IfErr};
 ghost use Rattle.std.specs.List.{AllByRecursion};
 ghost use Rattle.attr_images.specs.Postings.{list_form, tree, vector, postings_at, IsPostingList};
-ghost use Rattle.attr_images.specs.Words.{weight_of};
+ghost use Rattle.attr_images.specs.Words.{weight_in_bits};
 ghost use Rattle.image_base.specs.Maps.{seen};
 ghost use Rattle.check_trees.specs.Refutations.{Refutes};
 ghost use Rattle.check_images.specs.Told.{Tells};
@@ -17,7 +17,7 @@ use std::collections::BTreeMap;
 /// The pairs of a posting tree as documents with weights, if each weight is one of 32 bits.
 fn weigh_pairs(alloc: Global, pairs: &[(u64, u64)]) -> Result<Option<Vec<(u64, i32)>>, AllocError>
     ensures { IfOk result (Tells (AllByRecursion (λ (p : ℕ × ℕ). p.1 < 2 ^ 32) pairs.now)
-        (λ list. list.items ≡ map (λ (p : ℕ × ℕ). (p.0, weight_of p.1)) pairs.now)) }
+        (λ list. list.items ≡ map (λ (p : ℕ × ℕ). (p.0, weight_in_bits p.1)) pairs.now)) }
 {
     let mut list = Vec::new(alloc);
     for pair in pairs {

@@ -9,12 +9,12 @@ use Rattle.attr_types.specs.declared.kind.ValueType.{ValueType}
 use Rattle.doc_vector.specs.Documents.{IsDocumentPair}
 use Rattle.posting_store.specs.Lists.{IsPlain}
 use Rattle.value_index.specs.Indexes.{IsIndex, IsValuePair}
-use Rattle.clear_keys.specs.Sights.{HasItems}
+use Rattle.clear_keys.specs.Sights.{HasItemRecords}
 
-pub all_items : (kind : Kind) (type : ValueType) (m : Records) (root : ℕ) → IsDocuments kind type m root → AllByRecursion (HasItems kind type m) (tree_pairs m root)
+pub all_items : (kind : Kind) (type : ValueType) (m : Records) (root : ℕ) → IsDocuments kind type m root → AllByRecursion (HasItemRecords kind type m) (tree_pairs m root)
 all_items kind type m root are = each (tree_pairs m root) are.map_is.pairs are.items
   where
-    each : (ps : List (ℕ × ℕ)) → AllByRecursion IsDocumentPair ps → AllByRecursion (λ p. AreItemsAt kind type m p.1) ps → AllByRecursion (HasItems kind type m) ps
+    each : (ps : List (ℕ × ℕ)) → AllByRecursion IsDocumentPair ps → AllByRecursion (λ p. AreItemsAt kind type m p.1) ps → AllByRecursion (HasItemRecords kind type m) ps
     each [] pairs items = tt
     each (p ∷ ps) pairs items = (record { few = pairs.0.reference; records = items.0.records }, each ps pairs.1 items.1)
 

@@ -27,13 +27,13 @@ IsApart bits buffer kind m sights.Items p = AreItemsApart bits buffer kind m p.1
 IsApart bits buffer kind m sights.List p = IsRecordApart bits buffer (list_form p.1)
 
 -- what is asked of a pair
-pub record HasItems (kind : Kind) (type : ValueType) (m : Records) (p : ℕ × ℕ) : Type 0 where
+pub record HasItemRecords (kind : Kind) (type : ValueType) (m : Records) (p : ℕ × ℕ) : Type 0 where
   pub few : p.1 < 2 ^ 32
   pub records : AreItemRecords kind type m p.1
 
 abbrev pub IsPairOf : Kind → ValueType → Records → Sight → ℕ × ℕ → Type 0
 IsPairOf kind type m sights.Key p = IsValueRecord type (m p.0)
-IsPairOf kind type m sights.Items p = HasItems kind type m p
+IsPairOf kind type m sights.Items p = HasItemRecords kind type m p
 IsPairOf kind type m sights.List p = IsPlain p.1
 
 -- of the first so many pairs this holds, and the last of them has this key

@@ -20,9 +20,9 @@ use Rattle.compact_steps.specs.declared.stepping.Step.TheVariants.{Idle, Moved, 
 use Rattle.plan_counts.specs.Counts.{keys_between}
 
 -- where a compaction stands; one that is not begun yet stands before the first key
-abbrev pub place_of : Option PlanView → PlanPlace
-place_of None = first_place
-place_of (Some plan) = plan.place
+abbrev pub place_of_plan : Option PlanView → PlanPlace
+place_of_plan None = first_place
+place_of_plan (Some plan) = plan.place
 
 -- ---- the store
 -- it is kept, but for the buffers that are sealed and the one that is finished
@@ -56,7 +56,7 @@ pub record BeginsNone {H : Type 0} (bits : ℕ) (old : Ledger H) (before : Optio
 pub record OpensPlan {H : Type 0} (bits root : ℕ) (old new : Ledger H) (m n : Records) (fields : List Field) (trees : List AttributeTrees)
     (before : Option PlanView) (plan : PlanView) : Type 0 where
   pub under : IsUnderPlan bits (length fields) old new before plan
-  pub place : plan.place ≡ place_of before
+  pub place : plan.place ≡ place_of_plan before
   pub keeps : KeepsStoreBut old new
   pub left : LeavesEntries old new m n
   pub holds : HoldsAttributes bits new n fields trees root
@@ -68,8 +68,8 @@ module _ {H : Type 0} (bits root : ℕ) (old new : Ledger H) (m n : Records) (fi
   -- so many keys were visited
   pub record Went (plan : PlanView) (visited : ℕ) : Type 0 where
     pub under : IsUnderPlan bits (length fields) old new before plan
-    pub rises : place_cmp (place_of before) plan.place ≢ Greater
-    pub count : keys_between (place_of before) plan.place m trees ≡ visited
+    pub rises : place_cmp (place_of_plan before) plan.place ≢ Greater
+    pub count : keys_between (place_of_plan before) plan.place m trees ≡ visited
     pub holds : HoldsAttributes bits new n fields next root
     pub table : table_at n next ≡ table_at m trees
     pub keeps : KeepsStoreBut old new

@@ -14,7 +14,7 @@ use Rattle.tree_images.specs.Trees.{tree_pairs}
 use Rattle.tree_search.specs.Places.{first_key, first_value}
 use Rattle.attr_images.specs.Postings.{ListForm, short, tree, vector, list_form, IsPostingList}
 use Rattle.attr_images.specs.Values.{stored_value, IsValueRecord}
-use Rattle.attr_images.specs.Words.{weight_of}
+use Rattle.attr_images.specs.Words.{weight_in_bits}
 use Rattle.attr_types.specs.Lawful.{IsDocNumber}
 use Rattle.attr_types.specs.ProofsForOrder.{value_cmp_total}
 use Rattle.attr_types.specs.Value.{type_of, value_cmp}
@@ -49,7 +49,7 @@ module _ (m : Records) (word root : ℕ) (list : IsList m word) (plain : IsPlain
   pub tree_form_is : IsPostingList m (tree root)
   tree_form_is = tree_form m word root plain word_is list
 
-  keyed : (ps : List (ℕ × ℕ)) → AllByRecursion IsDocNumber (keys_of (map (λ p. (p.0, weight_of p.1)) ps))
+  keyed : (ps : List (ℕ × ℕ)) → AllByRecursion IsDocNumber (keys_of (map (λ p. (p.0, weight_in_bits p.1)) ps))
       → AllByRecursion (λ p. IsDocNumber p.0) ps
   keyed [] all = tt
   keyed (p ∷ ps) all = (all.0, keyed ps all.1)

@@ -10,7 +10,7 @@ use Rattle.image_base.specs.Records.{Records}
 use Rattle.tree_images.specs.Trees.{tree_pairs}
 use Rattle.attr_images.specs.Postings.{list_form}
 use Rattle.attr_images.specs.Values.{stored_value}
-use Rattle.attr_images.specs.Words.{weight_of}
+use Rattle.attr_images.specs.Words.{weight_in_bits}
 use Rattle.attr_types.specs.ProofsForOrder.{value_cmp_total}
 use Rattle.attr_types.specs.Value.{value_cmp}
 use Rattle.attr_types.specs.declared.kind.ValueType.{ValueType}
@@ -103,7 +103,7 @@ module _ (type : ValueType) (m : Records) where
   unfolding IsStrictlySortedBy
   one_ascends = (tt, tt)
 
-  plain_keys : (ps : List (ℕ × ℕ)) → keys_of (map (λ p. (p.0, weight_of p.1)) ps) ≡ map (λ p. p.0) ps
+  plain_keys : (ps : List (ℕ × ℕ)) → keys_of (map (λ p. (p.0, weight_in_bits p.1)) ps) ≡ map (λ p. p.0) ps
   plain_keys [] = refl
   plain_keys (p ∷ ps) = ap (λ ks. p.0 ∷ ks) (plain_keys ps)
 

@@ -13,7 +13,7 @@ use Rattle.tree_search.proofs.PlaceLemmas.{pair-first}
 use Rattle.array_store.specs.Arrays.{IsArray}
 use Rattle.array_store.proofs.ArrayLemmas.{count_read, item_read}
 use Rattle.attr_types.specs.Lawful.{IsDocNumber}
-use Rattle.attr_images.specs.Words.{unpacked, weight_of, stored_items}
+use Rattle.attr_images.specs.Words.{unpacked, weight_in_bits, stored_items}
 use Rattle.posting_store.specs.declared.cursor.PostingCursor.{PostingCursor}
 use Rattle.posting_store.specs.declared.cursor.PostingCursor.TheVariants.{Short, Tree}
 use Rattle.posting_store.specs.Walks.{postings_from, first_doc, first_weight, HasPosting, StandsInList, IsListPlace}
@@ -33,7 +33,7 @@ module _ (ws : List ℕ) (count at : ℕ) (low : at < count) (array : IsArray ws
   pub short_doc : slice_index ws (1 + at) / 4294967296 ≡ first_doc (map unpacked (drop at (take count (drop 1 ws))))
   short_doc = ap (λ items. first_doc (map unpacked items)) (sym items_left)
 
-  pub short_weight : weight_of (slice_index ws (1 + at) % 4294967296) ≡ first_weight (map unpacked (drop at (take count (drop 1 ws))))
+  pub short_weight : weight_in_bits (slice_index ws (1 + at) % 4294967296) ≡ first_weight (map unpacked (drop at (take count (drop 1 ws))))
   short_weight = ap (λ items. first_weight (map unpacked items)) (sym items_left)
 
 -- behind one item
@@ -81,7 +81,7 @@ module _ {bits : ℕ} (m : Records) (self : PostingCursor bits) (list count at :
     pub this_doc : slice_index (m list) (1 + at) / 4294967296 ≡ first_doc (postings_from m self)
     this_doc = short_doc (m list) count at low stands.0 stands.1 ∙ ap (λ (s : PostingCursor bits). first_doc (postings_from m s)) (sym is)
 
-    pub this_weight : weight_of (slice_index (m list) (1 + at) % 4294967296) ≡ first_weight (postings_from m self)
+    pub this_weight : weight_in_bits (slice_index (m list) (1 + at) % 4294967296) ≡ first_weight (postings_from m self)
     this_weight = short_weight (m list) count at low stands.0 stands.1 ∙ ap (λ (s : PostingCursor bits). first_weight (postings_from m s)) (sym is)
 
 -- a place in a tree
@@ -95,9 +95,9 @@ tree_doc {bits} m self at key is place some reads =
     let e : key ≡ first_key (pairs_from m at) = reads m stands.0 in
     subst (λ k. 1 ≤ k) (sym e) (above (pairs_from m at) _ _ first numbers)
   where
-    above : (ps rest : List (ℕ × ℕ)) (p : ℕ × ℕ) → ps ≡ p ∷ rest → AllByRecursion IsDocNumber (keys_of (map {B = ℕ × ℤ} (λ p. (p.0, weight_of p.1)) ps)) → 1 ≤ first_key ps
-    above ps rest p is all = subst (λ (ps : List (ℕ × ℕ)). AllByRecursion IsDocNumber (keys_of (map {B = ℕ × ℤ} (λ p. (p.0, weight_of p.1)) ps)) → 1 ≤ first_key ps) (sym is) (λ all. all.0.0) all
+    above : (ps rest : List (ℕ × ℕ)) (p : ℕ × ℕ) → ps ≡ p ∷ rest → AllByRecursion IsDocNumber (keys_of (map {B = ℕ × ℤ} (λ p. (p.0, weight_in_bits p.1)) ps)) → 1 ≤ first_key ps
+    above ps rest p is all = subst (λ (ps : List (ℕ × ℕ)). AllByRecursion IsDocNumber (keys_of (map {B = ℕ × ℤ} (λ p. (p.0, weight_in_bits p.1)) ps)) → 1 ≤ first_key ps) (sym is) (λ all. all.0.0) all
 
 -- 32 bits read as a weight, written and read again
-pub weight_again : (bits : ℕ) (weight : ℤ) → weight ≡ weight_of bits → bits < 2 ^ 32 → cast_signed w32 (cast_unsigned w32 weight) ≡ weight
+pub weight_again : (bits : ℕ) (weight : ℤ) → weight ≡ weight_in_bits bits → bits < 2 ^ 32 → cast_signed w32 (cast_unsigned w32 weight) ≡ weight
 weight_again bits weight is low = ap (λ z. cast_signed w32 (cast_unsigned w32 z)) is ∙ ap (cast_signed w32) (of_z-to_z w32 bits low) ∙ sym is

@@ -6,7 +6,7 @@ use Rattle.tree_images.specs.Trees.{tree_pairs, tree_nodes}
 use Rattle.tree_make.specs.Changes.{levels}
 use Rattle.array_store.proofs.ClassLemmas.{too_many}
 use Rattle.attr_images.specs.Postings.{ListForm, short, tree, vector, list_form, postings_at, postings_reach, IsPostingList}
-use Rattle.attr_images.specs.Words.{stored_items, unpacked, weight_of}
+use Rattle.attr_images.specs.Words.{stored_items, unpacked, weight_in_bits}
 use Rattle.posting_store.specs.Lists.{list_at, list_reach, list_levels, form_levels, IsList, IsPlain}
 
 form_by : Bool → Bool → ℕ → ListForm
@@ -48,7 +48,7 @@ module _ (m : Records) (word ref : ℕ) (plain : IsPlain word) (is : word ≡ 2 
   short_reach = reach_form m word (omega arith) ∙ ap (postings_reach m) (form_short word ref plain is)
 
 module _ (m : Records) (word root : ℕ) (plain : IsPlain word) (is : word ≡ 2 * root + 1) where
-  pub tree_at : list_at m word ≡ map (λ p. (p.0, weight_of p.1)) (tree_pairs m root)
+  pub tree_at : list_at m word ≡ map (λ p. (p.0, weight_in_bits p.1)) (tree_pairs m root)
   tree_at = at_form m word (omega arith) ∙ ap (postings_at m) (form_tree word root plain is)
 
   pub tree_reach : list_reach m word ≡ tree_nodes m root

@@ -18,7 +18,7 @@ use Rattle.store_api.specs.Parts.{count_in, times, Owns, Turns}
 use Rattle.tree_images.specs.Trees.{tree_pairs, by_number, IsTree}
 use Rattle.tree_make.specs.Changes.{levels, tree}
 use Rattle.tree_make.specs.Makes.{CountsNodes}
-use Rattle.attr_images.specs.Words.{unpacked, weight_of}
+use Rattle.attr_images.specs.Words.{unpacked, weight_in_bits}
 use Rattle.attr_types.specs.Lawful.{IsDocNumber}
 use Rattle.posting_store.specs.Lists.{list_at, list_levels, IsList, IsPlain, AreDocuments}
 use Rattle.posting_store.specs.Changes.{list_part, list_most, IsListWidth, MakesList, MakesWithin}
@@ -109,7 +109,7 @@ module _ {H : Type 0} (old new : Ledger H) (m n : Records) (word root : ℕ) (li
       let whole = ap length (tree_at m word root plain is) in
       omega arith
 
-  module _ (doc bits : ℕ) (weight : ℤ) (number : IsDocNumber doc) (small : bits < 4294967296) (reads : weight_of bits ≡ weight) where
+  module _ (doc bits : ℕ) (weight : ℤ) (number : IsDocNumber doc) (small : bits < 4294967296) (reads : weight_in_bits bits ≡ weight) where
     pub tree_added : (next top : ℕ) → next ≡ 2 * top + 1 → IsPlain next → IsTree nat_cmp by_number n top → tree_pairs n top ≡ put (against doc) (doc, bits) (tree_pairs m root)
         → Owns new n (tree top ∷ []) → Turns old new m n (tree root ∷ []) (tree top ∷ []) → MakesList old new m n word (insert_entry nat_cmp (list_at m word) doc weight) next
     tree_added next top made next_plain tree_is pairs owns turns =

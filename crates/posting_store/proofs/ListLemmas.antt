@@ -7,7 +7,7 @@ use Rattle.image_base.specs.Records.{Records, SameAt, AllThere}
 use Rattle.tree_images.specs.Trees.{tree_pairs}
 use Rattle.attr_images.specs.Postings.{ListForm, short, tree, vector, list_form, block_documents, vector_documents, postings_at, IsBlock, IsPostingList}
 use Rattle.attr_images.specs.ProofsForImages.{postings_there}
-use Rattle.attr_images.specs.Words.{stored_items, unpacked, weight_of}
+use Rattle.attr_images.specs.Words.{stored_items, unpacked, weight_in_bits}
 use Rattle.attr_types.specs.declared.kind.ValueType.TheVariants as types
 use Rattle.posting_store.specs.Lists.{list_at, list_reach, IsList}
 use Rattle.posting_store.specs.ProofsForLists.{list_at-same, IsList-same}
@@ -32,7 +32,7 @@ form_filled : (m : Records) (form : ListForm) → IsPostingList m form → 0 < l
 form_filled m (short ref) list = let size = length-map (stored_items (m ref)) unpacked in let some = list.some in omega arith
 form_filled m (tree root) list =
     let ps = tree_pairs m root in
-    let size : length (map {B = ℕ × ℤ} (λ p. (p.0, weight_of p.1)) ps) ≡ length ps = length-map ps (λ p. (p.0, weight_of p.1)) in
+    let size : length (map {B = ℕ × ℤ} (λ p. (p.0, weight_in_bits p.1)) ps) ≡ length ps = length-map ps (λ p. (p.0, weight_in_bits p.1)) in
     let some = list.1 in
     omega arith
 form_filled m (vector root) list =

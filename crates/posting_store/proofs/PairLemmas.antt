@@ -11,14 +11,14 @@ use Rattle.std.specs.Map.{keys_of, remove_entry}
 use Rattle.std.specs.Map.{lookup as lookup_in}
 use Rattle.std.specs.Ordering.{nat_cmp, match_ordering, is_eq, MatchOrdering}
 use Rattle.key_order.specs.Pairs.{choose, lookup, put, take_out}
-use Rattle.attr_images.specs.Words.{unpacked, weight_of}
+use Rattle.attr_images.specs.Words.{unpacked, weight_in_bits}
 use Rattle.attr_types.specs.Lawful.{IsDocNumber}
 use Rattle.posting_store.specs.Lists.{AreDocuments}
 use Rattle.posting_store.proofs.ItemLemmas.{cmp_below, cmp_above, cmp_same, cmp_apart}
 
 -- a pair of a tree as a posting
 abbrev pub weighed : List (ℕ × ℕ) → List (ℕ × ℤ)
-weighed ps = map (λ p. (p.0, weight_of p.1)) ps
+weighed ps = map (λ p. (p.0, weight_in_bits p.1)) ps
 
 abbrev pub against : ℕ → ℕ → Ordering
 against doc key = nat_cmp key doc
@@ -32,7 +32,7 @@ weighed-length [] = refl
 weighed-length (p ∷ ps) = ap suc (weighed-length ps)
 
 -- a pair put among pairs
-pub weighed-put : (doc bits : ℕ) (weight : ℤ) → weight_of bits ≡ weight → (ps : List (ℕ × ℕ))
+pub weighed-put : (doc bits : ℕ) (weight : ℤ) → weight_in_bits bits ≡ weight → (ps : List (ℕ × ℕ))
     → weighed (put (against doc) (doc, bits) ps) ≡ insert_entry nat_cmp (weighed ps) doc weight
 weighed-put doc bits weight is [] = ap (λ w. (doc, w) ∷ []) is
 weighed-put doc bits weight is (p ∷ ps) = told (weighed-put doc bits weight is ps) (nat_cmp p.0 doc) refl (ranks p.0 doc)
@@ -41,16 +41,16 @@ weighed-put doc bits weight is (p ∷ ps) = told (weighed-put doc bits weight is
         → MatchOrdering o (p.0 < doc) (p.0 ≡ doc) (doc < p.0) → weighed (put (against doc) (doc, bits) (p ∷ ps)) ≡ insert_entry nat_cmp (weighed (p ∷ ps)) doc weight
     told rest Less e rank =
         ap (λ o. weighed (choose o (p ∷ put (against doc) (doc, bits) ps) ((doc, bits) ∷ ps) ((doc, bits) ∷ p ∷ ps))) e
-        ∙ ap (λ es. (p.0, weight_of p.1) ∷ es) rest
-        ∙ ap (λ o. match_ordering o ((doc, weight) ∷ weighed (p ∷ ps)) ((p.0, weight) ∷ weighed ps) ((p.0, weight_of p.1) ∷ insert_entry nat_cmp (weighed ps) doc weight)) (sym (cmp_above doc p.0 rank))
+        ∙ ap (λ es. (p.0, weight_in_bits p.1) ∷ es) rest
+        ∙ ap (λ o. match_ordering o ((doc, weight) ∷ weighed (p ∷ ps)) ((p.0, weight) ∷ weighed ps) ((p.0, weight_in_bits p.1) ∷ insert_entry nat_cmp (weighed ps) doc weight)) (sym (cmp_above doc p.0 rank))
     told rest Equal e rank =
         ap (λ o. weighed (choose o (p ∷ put (against doc) (doc, bits) ps) ((doc, bits) ∷ ps) ((doc, bits) ∷ p ∷ ps))) e
-        ∙ ap (λ (k : ℕ). (k, weight_of bits) ∷ weighed ps) (sym rank) ∙ ap (λ (w : ℤ). (p.0, w) ∷ weighed ps) is
-        ∙ ap (λ o. match_ordering o ((doc, weight) ∷ weighed (p ∷ ps)) ((p.0, weight) ∷ weighed ps) ((p.0, weight_of p.1) ∷ insert_entry nat_cmp (weighed ps) doc weight)) (sym (cmp_same doc p.0 rank))
+        ∙ ap (λ (k : ℕ). (k, weight_in_bits bits) ∷ weighed ps) (sym rank) ∙ ap (λ (w : ℤ). (p.0, w) ∷ weighed ps) is
+        ∙ ap (λ o. match_ordering o ((doc, weight) ∷ weighed (p ∷ ps)) ((p.0, weight) ∷ weighed ps) ((p.0, weight_in_bits p.1) ∷ insert_entry nat_cmp (weighed ps) doc weight)) (sym (cmp_same doc p.0 rank))
     told rest Greater e rank =
         ap (λ o. weighed (choose o (p ∷ put (against doc) (doc, bits) ps) ((doc, bits) ∷ ps) ((doc, bits) ∷ p ∷ ps))) e
         ∙ ap (λ (w : ℤ). (doc, w) ∷ weighed (p ∷ ps)) is
-        ∙ ap (λ o. match_ordering o ((doc, weight) ∷ weighed (p ∷ ps)) ((p.0, weight) ∷ weighed ps) ((p.0, weight_of p.1) ∷ insert_entry nat_cmp (weighed ps) doc weight)) (sym (cmp_below doc p.0 rank))
+        ∙ ap (λ o. match_ordering o ((doc, weight) ∷ weighed (p ∷ ps)) ((p.0, weight) ∷ weighed ps) ((p.0, weight_in_bits p.1) ∷ insert_entry nat_cmp (weighed ps) doc weight)) (sym (cmp_below doc p.0 rank))
 
 -- above a document that is not there it is not further on
 pub above_apart : (doc k x : ℕ) → doc < k → nat_cmp k x ≡ Less → is_eq (nat_cmp doc x) ≡ false
@@ -65,14 +65,14 @@ none_out : (doc k : ℕ) (ps : List (ℕ × ℕ)) → doc < k → AllByRecursion
     → weighed ps ≡ remove_entry (is_at (nat_cmp doc)) (weighed ps)
 none_out doc k [] up all = refl
 none_out doc k (p ∷ ps) up all =
-    ap (λ es. (p.0, weight_of p.1) ∷ es) (none_out doc k ps up all.1)
-    ∙ ap (λ b. cond b (weighed ps) ((p.0, weight_of p.1) ∷ remove_entry (is_at (nat_cmp doc)) (weighed ps))) (sym (above_apart doc k p.0 up all.0))
+    ap (λ es. (p.0, weight_in_bits p.1) ∷ es) (none_out doc k ps up all.1)
+    ∙ ap (λ b. cond b (weighed ps) ((p.0, weight_in_bits p.1) ∷ remove_entry (is_at (nat_cmp doc)) (weighed ps))) (sym (above_apart doc k p.0 up all.0))
 
 none_found : (doc k : ℕ) (ps : List (ℕ × ℕ)) → doc < k → AllByRecursion (λ x. nat_cmp k x ≡ Less) (map (λ p. p.0) ps)
     → lookup_in (is_at (nat_cmp doc)) (weighed ps) ≡ None
 none_found doc k [] up all = refl
 none_found doc k (p ∷ ps) up all =
-    ap (λ b. cond b (Some (weight_of p.1)) (lookup_in (is_at (nat_cmp doc)) (weighed ps))) (above_apart doc k p.0 up all.0)
+    ap (λ b. cond b (Some (weight_in_bits p.1)) (lookup_in (is_at (nat_cmp doc)) (weighed ps))) (above_apart doc k p.0 up all.0)
     ∙ none_found doc k ps up all.1
 
 -- a pair taken out of pairs that ascend
@@ -86,15 +86,15 @@ weighed-take_out doc (p ∷ ps) up = told (weighed-take_out doc ps up.1) (nat_cm
         → MatchOrdering o (p.0 < doc) (p.0 ≡ doc) (doc < p.0) → weighed (take_out (against doc) (p ∷ ps)) ≡ remove_entry (is_at (nat_cmp doc)) (weighed (p ∷ ps))
     told rest Less e rank =
         ap (λ o. weighed (choose o (p ∷ take_out (against doc) ps) ps (p ∷ ps))) e
-        ∙ ap (λ es. (p.0, weight_of p.1) ∷ es) rest
-        ∙ ap (λ b. cond b (weighed ps) ((p.0, weight_of p.1) ∷ remove_entry (is_at (nat_cmp doc)) (weighed ps))) (sym (cmp_apart doc p.0 (λ same. absurd (omega arith))))
+        ∙ ap (λ es. (p.0, weight_in_bits p.1) ∷ es) rest
+        ∙ ap (λ b. cond b (weighed ps) ((p.0, weight_in_bits p.1) ∷ remove_entry (is_at (nat_cmp doc)) (weighed ps))) (sym (cmp_apart doc p.0 (λ same. absurd (omega arith))))
     told rest Equal e rank =
         ap (λ o. weighed (choose o (p ∷ take_out (against doc) ps) ps (p ∷ ps))) e
-        ∙ ap (λ o. cond (is_eq o) (weighed ps) ((p.0, weight_of p.1) ∷ remove_entry (is_at (nat_cmp doc)) (weighed ps))) (sym (cmp_same doc p.0 rank))
+        ∙ ap (λ o. cond (is_eq o) (weighed ps) ((p.0, weight_in_bits p.1) ∷ remove_entry (is_at (nat_cmp doc)) (weighed ps))) (sym (cmp_same doc p.0 rank))
     told rest Greater e rank =
         ap (λ o. weighed (choose o (p ∷ take_out (against doc) ps) ps (p ∷ ps))) e
-        ∙ ap (λ es. (p.0, weight_of p.1) ∷ es) (none_out doc p.0 ps rank up.0)
-        ∙ ap (λ b. cond b (weighed ps) ((p.0, weight_of p.1) ∷ remove_entry (is_at (nat_cmp doc)) (weighed ps))) (sym (cmp_apart doc p.0 (λ same. absurd (omega arith))))
+        ∙ ap (λ es. (p.0, weight_in_bits p.1) ∷ es) (none_out doc p.0 ps rank up.0)
+        ∙ ap (λ b. cond b (weighed ps) ((p.0, weight_in_bits p.1) ∷ remove_entry (is_at (nat_cmp doc)) (weighed ps))) (sym (cmp_apart doc p.0 (λ same. absurd (omega arith))))
 
 -- a document that is there is found by its pair
 some_none : (o : Option ℤ) → IsSome o → o ≡ None → ⊥
@@ -102,7 +102,7 @@ some_none o some is = grind (arith, some, is)
 
 passed : (doc : ℕ) (p : ℕ × ℕ) (ps : List (ℕ × ℕ)) → is_eq (nat_cmp doc p.0) ≡ false → IsSome (lookup_in (is_at (nat_cmp doc)) (weighed (p ∷ ps)))
     → IsSome (lookup_in (is_at (nat_cmp doc)) (weighed ps))
-passed doc p ps e there = subst (λ b. IsSome (cond b (Some (weight_of p.1)) (lookup_in (is_at (nat_cmp doc)) (weighed ps)))) e there
+passed doc p ps e there = subst (λ b. IsSome (cond b (Some (weight_in_bits p.1)) (lookup_in (is_at (nat_cmp doc)) (weighed ps)))) e there
 
 pub weighed-there : (doc : ℕ) (ps : List (ℕ × ℕ)) → IsStrictlySortedBy nat_cmp (map (λ p. p.0) ps)
     → IsSome (lookup_in (is_at (nat_cmp doc)) (weighed ps)) → IsSome (lookup (against doc) ps)

@@ -5,7 +5,7 @@ use Rattle.std.specs.Map.{keys_of}
 use Rattle.image_base.specs.Records.{Records}
 use Rattle.tree_search.specs.Places.{IsAt, HasPair, pairs_from}
 use Rattle.attr_types.specs.Lawful.{IsDocNumber}
-use Rattle.attr_images.specs.Words.{unpacked, weight_of}
+use Rattle.attr_images.specs.Words.{unpacked, weight_in_bits}
 use Rattle.array_store.specs.Arrays.{IsArray}
 use Rattle.posting_store.specs.declared.cursor.PostingCursor.{PostingCursor}
 use Rattle.posting_store.specs.declared.cursor.PostingCursor.TheVariants.{Short, Tree}
@@ -13,7 +13,7 @@ use Rattle.posting_store.specs.declared.cursor.PostingCursor.TheVariants.{Short,
 -- the postings from a place on
 abbrev pub postings_from : {bits : ℕ} → Records → PostingCursor bits → List (ℕ × ℤ)
 postings_from m (Short list count at) = map unpacked (drop at (take count (drop 1 (m list))))
-postings_from m (Tree at) = map (λ p. (p.0, weight_of p.1)) (pairs_from m at)
+postings_from m (Tree at) = map (λ p. (p.0, weight_in_bits p.1)) (pairs_from m at)
 
 -- a posting follows
 abbrev pub HasPosting : {bits : ℕ} → PostingCursor bits → Type 0

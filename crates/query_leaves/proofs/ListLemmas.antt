@@ -7,18 +7,18 @@ use Rattle.image_base.specs.Records.{Records}
 use Rattle.tree_images.specs.Trees.{tree_pairs, root_level, root_least, IsNode, IsRootNode}
 use Rattle.attr_images.proofs.ImageLemmas.{node_there}
 use Rattle.attr_images.specs.Postings.{vector, list_form, block_documents, IsBlock, IsPostingList}
-use Rattle.attr_images.specs.Words.{weight_of}
+use Rattle.attr_images.specs.Words.{weight_in_bits}
 use Rattle.attr_images.specs.declared.TheConstants.{FIRST_VECTOR}
 use Rattle.attr_types.specs.Lawful.{IsDocNumber}
 use Rattle.doc_set.specs.Postings.{HaveDocNumbers}
 use Rattle.query_leaves.specs.Blocks.{IsDocumentBlock, documents_of}
 use Rattle.query_leaves.proofs.BlockLemmas.{block_small, all_has}
 
-pub tree_documents : (ps : List (ℕ × ℕ)) → HaveDocNumbers (map (λ p. (p.0, weight_of p.1)) ps) → AllByRecursion (λ p. IsDocNumber p.0) ps
+pub tree_documents : (ps : List (ℕ × ℕ)) → HaveDocNumbers (map (λ p. (p.0, weight_in_bits p.1)) ps) → AllByRecursion (λ p. IsDocNumber p.0) ps
 tree_documents [] all = tt
 tree_documents (p ∷ ps) all = (all.0, tree_documents ps all.1)
 
-pub tree_keys : (ps : List (ℕ × ℕ)) → keys_of ps ≡ keys_of (map (λ p. (p.0, weight_of p.1)) ps)
+pub tree_keys : (ps : List (ℕ × ℕ)) → keys_of ps ≡ keys_of (map (λ p. (p.0, weight_in_bits p.1)) ps)
 tree_keys [] = refl
 tree_keys (p ∷ ps) = ap (λ ks. p.0 ∷ ks) (tree_keys ps)
 

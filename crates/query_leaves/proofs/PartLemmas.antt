@@ -25,7 +25,7 @@ use Rattle.enum_dictionary.proofs.BehindLemmas.{All-seek}
 use Rattle.query_index.proofs.RunLemmas.{run_is_filter, sought_is_filter}
 use Rattle.query_index.specs.Leaves.{from, stands_beyond, listed, meeting, run, from_value, sought, from_sought}
 use Rattle.doc_set.specs.Sets.{has}
-use Rattle.query_leaves.specs.Parts.{IsIndexPair, AreIndexPairs, IsIndexed, part_of}
+use Rattle.query_leaves.specs.Parts.{IsIndexPair, AreIndexPairs, IsIndexed, index_of_pairs}
 
 pub type_is : (type : ValueType) (value : Value) → is_of_type type value ≡ true → type_of value ≡ type
 type_is types.Long (values.Long a) is = refl
@@ -50,21 +50,21 @@ has_append (x ∷ xs) ys doc = ap (λ b. nat_eq doc x || b) (has_append xs ys do
     or_assoc false b c = refl
 
 module _ (type : ValueType) (m : Records) where
-  pub keys_are : (ps : List (ℕ × ℕ)) → keys_of (part_of type m ps) ≡ map (λ p. stored_value type m p.0) ps
+  pub keys_are : (ps : List (ℕ × ℕ)) → keys_of (index_of_pairs type m ps) ≡ map (λ p. stored_value type m p.0) ps
   keys_are [] = refl
   keys_are (p ∷ ps) = ap (λ vs. stored_value type m p.0 ∷ vs) (keys_are ps)
 
   abbrev entry : ℕ × ℕ → Value × List (ℕ × ℤ)
   entry p = (stored_value type m p.0, postings_at m (list_form p.1))
 
-  one_step : (r : Ordering) (p : ℕ × ℕ) (ps found : List (ℕ × ℕ)) (rest : Index) → part_of type m found ≡ rest
-      → part_of type m (choose r found (p ∷ ps) (p ∷ ps)) ≡ cond (is_lt r) rest (entry p ∷ part_of type m ps)
+  one_step : (r : Ordering) (p : ℕ × ℕ) (ps found : List (ℕ × ℕ)) (rest : Index) → index_of_pairs type m found ≡ rest
+      → index_of_pairs type m (choose r found (p ∷ ps) (p ∷ ps)) ≡ cond (is_lt r) rest (entry p ∷ index_of_pairs type m ps)
   one_step Less p ps found rest is = is
   one_step Equal p ps found rest is = refl
   one_step Greater p ps found rest is = refl
 
   part_seek : (low : Value) (ps : List (ℕ × ℕ))
-      → part_of type m (tree_seek (λ k. value_cmp (stored_value type m k) low) ps) ≡ from_value low (part_of type m ps)
+      → index_of_pairs type m (tree_seek (λ k. value_cmp (stored_value type m k) low) ps) ≡ from_value low (index_of_pairs type m ps)
   part_seek low [] = refl
   part_seek low (p ∷ ps) = one_step (value_cmp (stored_value type m p.0) low) p ps _ _ (part_seek low ps)
 
@@ -74,8 +74,8 @@ module _ (type : ValueType) (m : Records) where
 
     -- a walk from the first value on
     pub first_run : (leaf : Leaf) (ps : List (ℕ × ℕ)) → ps ≡ tree_pairs m root
-        → run leaf (from leaf (part_of type m ps)) ≡ meeting leaf (index_of type m root)
-    first_run leaf ps all = ap (λ (part : List (ℕ × ℕ)). run leaf (from leaf (part_of type m part))) all ∙ run_is_filter (index_of type m root) leaf ascends
+        → run leaf (from leaf (index_of_pairs type m ps)) ≡ meeting leaf (index_of type m root)
+    first_run leaf ps all = ap (λ (part : List (ℕ × ℕ)). run leaf (from leaf (index_of_pairs type m part))) all ∙ run_is_filter (index_of type m root) leaf ascends
 
     pub first_pairs : (ps : List (ℕ × ℕ)) → ps ≡ tree_pairs m root → AreIndexPairs type m ps
     first_pairs ps all = subst (AreIndexPairs type m) (sym all) is.pairs
@@ -93,10 +93,10 @@ module _ (type : ValueType) (m : Records) where
 
       -- a walk from a value on that is sought
       pub sought_run : (leaf : Leaf) (ps : List (ℕ × ℕ)) → ps ≡ tree_seek (beside_value low m) (tree_pairs m root) → sought leaf ≡ Some low
-          → run leaf (from leaf (part_of type m ps)) ≡ meeting leaf (index_of type m root)
+          → run leaf (from leaf (index_of_pairs type m ps)) ≡ meeting leaf (index_of type m root)
       sought_run leaf ps found seeks =
           ap (λ (part : Index). run leaf (from leaf part))
-          (ap (part_of type m) (found ∙ sought_pairs) ∙ part_seek low (tree_pairs m root) ∙ ap (λ o. from_sought o (index_of type m root)) (sym seeks))
+          (ap (index_of_pairs type m) (found ∙ sought_pairs) ∙ part_seek low (tree_pairs m root) ∙ ap (λ o. from_sought o (index_of type m root)) (sym seeks))
           ∙ sought_is_filter (index_of type m root) leaf ascends
 
       pub sought_all : (ps : List (ℕ × ℕ)) → ps ≡ tree_seek (beside_value low m) (tree_pairs m root) → AreIndexPairs type m ps
@@ -114,32 +114,32 @@ module _ (type : ValueType) (m : Records) where
   module _ (ps : List (ℕ × ℕ)) (some : ps ≢ []) (word : ℕ) (second : word ≡ first_value ps) (all more whole : ℕ → Bool)
       (gathers : (doc : ℕ) → more doc ≡ (all doc || has (keys_of (postings_at m (list_form word))) doc)) where
     pub run_goes : (leaf : Leaf) → stands_beyond leaf (stored_value type m (first_key ps)) ≡ false
-        → ((doc : ℕ) → (all doc || has (listed (run leaf (part_of type m ps))) doc) ≡ whole doc)
-        → (doc : ℕ) → (more doc || has (listed (run leaf (part_of type m (drop 1 ps)))) doc) ≡ whole doc
+        → ((doc : ℕ) → (all doc || has (listed (run leaf (index_of_pairs type m ps))) doc) ≡ whole doc)
+        → (doc : ℕ) → (more doc || has (listed (run leaf (index_of_pairs type m (drop 1 ps)))) doc) ≡ whole doc
     run_goes leaf off before doc = told ps some second off (before doc)
       where
         told : (ps : List (ℕ × ℕ)) → ps ≢ [] → word ≡ first_value ps → stands_beyond leaf (stored_value type m (first_key ps)) ≡ false
-            → (all doc || has (listed (run leaf (part_of type m ps))) doc) ≡ whole doc
-            → (more doc || has (listed (run leaf (part_of type m (drop 1 ps)))) doc) ≡ whole doc
+            → (all doc || has (listed (run leaf (index_of_pairs type m ps))) doc) ≡ whole doc
+            → (more doc || has (listed (run leaf (index_of_pairs type m (drop 1 ps)))) doc) ≡ whole doc
         told [] some second off before = absurd (some refl)
         told (p ∷ ps) some second off before =
-            joined (all doc) (has (keys_of (postings_at m (list_form word))) doc) _ (has (listed (run leaf (part_of type m ps))) doc) (more doc) (whole doc)
+            joined (all doc) (has (keys_of (postings_at m (list_form word))) doc) _ (has (listed (run leaf (index_of_pairs type m ps))) doc) (more doc) (whole doc)
             (gathers doc)
-            (ap (λ b. has (listed (cond b [] (entry p ∷ run leaf (part_of type m ps)))) doc) off
-            ∙ listed_first p (run leaf (part_of type m ps)) doc
-            ∙ ap (λ w. has (keys_of (postings_at m (list_form w))) doc || has (listed (run leaf (part_of type m ps))) doc) (sym second))
+            (ap (λ b. has (listed (cond b [] (entry p ∷ run leaf (index_of_pairs type m ps)))) doc) off
+            ∙ listed_first p (run leaf (index_of_pairs type m ps)) doc
+            ∙ ap (λ w. has (keys_of (postings_at m (list_form w))) doc || has (listed (run leaf (index_of_pairs type m ps))) doc) (sym second))
             before
 
-    pub all_goes : ((doc : ℕ) → (all doc || has (listed (part_of type m ps)) doc) ≡ whole doc)
-        → (doc : ℕ) → (more doc || has (listed (part_of type m (drop 1 ps))) doc) ≡ whole doc
+    pub all_goes : ((doc : ℕ) → (all doc || has (listed (index_of_pairs type m ps)) doc) ≡ whole doc)
+        → (doc : ℕ) → (more doc || has (listed (index_of_pairs type m (drop 1 ps))) doc) ≡ whole doc
     all_goes before doc = told ps some second (before doc)
       where
-        told : (ps : List (ℕ × ℕ)) → ps ≢ [] → word ≡ first_value ps → (all doc || has (listed (part_of type m ps)) doc) ≡ whole doc
-            → (more doc || has (listed (part_of type m (drop 1 ps))) doc) ≡ whole doc
+        told : (ps : List (ℕ × ℕ)) → ps ≢ [] → word ≡ first_value ps → (all doc || has (listed (index_of_pairs type m ps)) doc) ≡ whole doc
+            → (more doc || has (listed (index_of_pairs type m (drop 1 ps))) doc) ≡ whole doc
         told [] some second before = absurd (some refl)
         told (p ∷ ps) some second before =
-            joined (all doc) (has (keys_of (postings_at m (list_form word))) doc) _ (has (listed (part_of type m ps)) doc) (more doc) (whole doc)
+            joined (all doc) (has (keys_of (postings_at m (list_form word))) doc) _ (has (listed (index_of_pairs type m ps)) doc) (more doc) (whole doc)
             (gathers doc)
-            (listed_first p (part_of type m ps) doc
-            ∙ ap (λ w. has (keys_of (postings_at m (list_form w))) doc || has (listed (part_of type m ps)) doc) (sym second))
+            (listed_first p (index_of_pairs type m ps) doc
+            ∙ ap (λ w. has (keys_of (postings_at m (list_form w))) doc || has (listed (index_of_pairs type m ps)) doc) (sym second))
             before

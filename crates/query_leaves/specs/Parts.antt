@@ -11,8 +11,8 @@ use Rattle.attr_types.specs.declared.kind.ValueType.{ValueType}
 use Rattle.doc_set.specs.Postings.{HaveDocNumbers}
 
 -- the values of some pairs of a dictionary, each with its list
-abbrev pub part_of : ValueType → Records → List (ℕ × ℕ) → Index
-part_of type m pairs = map (λ p. (stored_value type m p.0, postings_at m (list_form p.1))) pairs
+abbrev pub index_of_pairs : ValueType → Records → List (ℕ × ℕ) → Index
+index_of_pairs type m pairs = map (λ p. (stored_value type m p.0, postings_at m (list_form p.1))) pairs
 
 -- the records behind a pair have their form, and its list has numbers of documents
 pub record IsIndexPair (type : ValueType) (m : Records) (p : ℕ × ℕ) : Type 0 where

@@ -2,7 +2,7 @@
 use Rattle.std.proofs.Common.{◌≡◌, ℕ, Bool, true, false, ◌||◌, ◌&&◌, List, [], ◌++◌, refl, sym, ap, subst, ◌∙◌, nat_eq}
 use Rattle.std.proofs.lemmas.List.Folds.{list_any-append}
 use Rattle.doc_set.specs.Sets.{has, in_words}
-use Rattle.query_leaves.specs.Takers.{Adds, Keeps}
+use Rattle.query_leaves.specs.Takers.{Adds, AddsMeeting}
 
 nothing : (a : Bool) → a ≡ (a || false)
 nothing true = refl
@@ -30,22 +30,22 @@ adds_joined a b c xs ys first second doc =
     second doc ∙ ap (λ t. t || has ys doc) (first doc) ∙ either (a doc) (has xs doc) (has ys doc)
     ∙ ap (λ t. a doc || t) (sym (list_any-append (nat_eq doc) xs ys))
 
-keeps_none : (set old : ℕ → Bool) → Keeps set old [] old
+keeps_none : (set old : ℕ → Bool) → AddsMeeting set old [] old
 keeps_none set old doc = none_kept (old doc) (set doc)
 
-keeps_joined : (set a b c : ℕ → Bool) (xs ys : List ℕ) → Keeps set a xs b → Keeps set b ys c → Keeps set a (xs ++ ys) c
+keeps_joined : (set a b c : ℕ → Bool) (xs ys : List ℕ) → AddsMeeting set a xs b → AddsMeeting set b ys c → AddsMeeting set a (xs ++ ys) c
 keeps_joined set a b c xs ys first second doc =
     second doc ∙ ap (λ t. t || (set doc && has ys doc)) (first doc) ∙ either_kept (set doc) (a doc) (has xs doc) (has ys doc)
     ∙ ap (λ t. a doc || (set doc && t)) (sym (list_any-append (nat_eq doc) xs ys))
 
 -- the same beside a bit vector that stays
-pub kept_none : (marks : List ℕ) (old : ℕ → Bool) → (marks ≡ marks) × Keeps (in_words marks) old [] old
+pub kept_none : (marks : List ℕ) (old : ℕ → Bool) → (marks ≡ marks) × AddsMeeting (in_words marks) old [] old
 kept_none marks old = (refl, keeps_none (in_words marks) old)
 
 pub kept_joined : (marks next last : List ℕ) (a b c : ℕ → Bool) (xs ys : List ℕ)
-    → (next ≡ marks) × Keeps (in_words marks) a xs b → (last ≡ next) × Keeps (in_words next) b ys c
-    → (last ≡ marks) × Keeps (in_words marks) a (xs ++ ys) c
+    → (next ≡ marks) × AddsMeeting (in_words marks) a xs b → (last ≡ next) × AddsMeeting (in_words next) b ys c
+    → (last ≡ marks) × AddsMeeting (in_words marks) a (xs ++ ys) c
 kept_joined marks next last a b c xs ys first second = (
   second.0 ∙ first.0,
-  keeps_joined (in_words marks) a b c xs ys first.1 (subst (λ (ws : List ℕ). Keeps (in_words ws) b ys c) first.0 second.1),
+  keeps_joined (in_words marks) a b c xs ys first.1 (subst (λ (ws : List ℕ). AddsMeeting (in_words ws) b ys c) first.0 second.1),
 )

@@ -7,5 +7,5 @@ abbrev pub Adds : (ℕ → Bool) → List ℕ → (ℕ → Bool) → Type 0
 Adds old docs new = (doc : ℕ) → new doc ≡ (old doc || has docs doc)
 
 -- of these documents those of a set are new, and no others
-abbrev pub Keeps : (ℕ → Bool) → (ℕ → Bool) → List ℕ → (ℕ → Bool) → Type 0
-Keeps set old docs new = (doc : ℕ) → new doc ≡ (old doc || (set doc && has docs doc))
+abbrev pub AddsMeeting : (ℕ → Bool) → (ℕ → Bool) → List ℕ → (ℕ → Bool) → Type 0
+AddsMeeting set old docs new = (doc : ℕ) → new doc ≡ (old doc || (set doc && has docs doc))

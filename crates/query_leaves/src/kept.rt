@@ -6,7 +6,7 @@ ghost use Rattle.attr_types.specs.Lawful.{IsDocNumber};
 ghost use Rattle.attr_images.specs.Postings.{postings_at, tree, IsPostingList};
 ghost use Rattle.doc_set.specs.Postings.{HaveDocNumbers};
 ghost use Rattle.doc_set.specs.Sets.{has, in_words};
-ghost use Rattle.query_leaves.specs.Takers.{Keeps};
+ghost use Rattle.query_leaves.specs.Takers.{AddsMeeting};
 
 use attr_types::{Doc, DocList};
 use entry_ref::EntryRef;
@@ -89,7 +89,7 @@ fn push_marked(marks: &[u64], doc: Doc, kept: &mut Vec<Doc>) -> Result<(), Alloc
 
 fn keep_keys(marks: &[u64], keys: &[u64], kept: &mut Vec<Doc>) -> Result<(), AllocError>
     requires { AllByRecursion IsDocNumber keys.now }
-    ensures { OnOk result (Keeps (in_words marks.now) (has kept.old.items) keys.now (has kept.new.items)) }
+    ensures { OnOk result (AddsMeeting (in_words marks.now) (has kept.old.items) keys.now (has kept.new.items)) }
 {
     for key in keys {
         push_marked(marks, Doc::new(*key as u32), kept)?;
@@ -110,12 +110,12 @@ impl TakesKeys for Kept {
     ghost can_take = { IsDocNumber };
 
     ghost takes = { λ old keys new. (new.marks.items ≡ old.marks.items)
-        × Keeps (in_words old.marks.items) (has old.docs.items) keys (has new.docs.items) };
+        × AddsMeeting (in_words old.marks.items) (has old.docs.items) keys (has new.docs.items) };
 
     fn take(&mut self, keys: &[u64]) -> Result<(), AllocError>
         requires { AllByRecursion IsDocNumber keys.now }
         ensures { OnOk result ((self.new.marks.items ≡ self.old.marks.items)
-            × Keeps (in_words self.old.marks.items) (has self.old.docs.items) keys.now (has self.new.docs.items)) }
+            × AddsMeeting (in_words self.old.marks.items) (has self.old.docs.items) keys.now (has self.new.docs.items)) }
     {
         keep_keys(self.marks.as_slice(), keys, &mut self.docs)
     }

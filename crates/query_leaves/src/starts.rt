@@ -6,7 +6,7 @@ ghost use Rattle.attr_images.specs.Postings.{index_of};
 ghost use Rattle.attr_types.specs.declared.query.Leaf.{Leaf as AnyLeaf};
 ghost use Rattle.attr_types.specs.declared.value.Value.TheVariants as values;
 ghost use Rattle.query_index.specs.Leaves.{from, meeting, run, sought};
-ghost use Rattle.query_leaves.specs.Parts.{IsIndexed, AreIndexPairs, part_of};
+ghost use Rattle.query_leaves.specs.Parts.{IsIndexed, AreIndexPairs, index_of_pairs};
 
 use crate::values::is_of_type;
 use attr_types::{Leaf, Text, Value, ValueType};
@@ -28,7 +28,7 @@ fn start_at<const OFFSET_BITS: u32, F: Frozen<OFFSET_BITS>>(
     ensures at { IsAt (F.records frozen.old) result }
     ensures pairs { AreIndexPairs value_type (F.records frozen.old) (pairs_from (F.records frozen.old) result) }
     ensures part { (leaf : AnyLeaf) → sought leaf ≡ Some low.now
-        → run leaf (from leaf (part_of value_type (F.records frozen.old) (pairs_from (F.records frozen.old) result)))
+        → run leaf (from leaf (index_of_pairs value_type (F.records frozen.old) (pairs_from (F.records frozen.old) result)))
         ≡ meeting leaf (index_of value_type (F.records frozen.old) root.entry) }
     ensures same { frozen.new ≡ frozen.old }
 {
@@ -50,7 +50,7 @@ fn start_at_text<const OFFSET_BITS: u32, F: Frozen<OFFSET_BITS>>(
     ensures at { IfOk result (λ cursor. IsAt (F.records frozen.old) cursor) }
     ensures pairs { IfOk result (λ cursor. AreIndexPairs value_type (F.records frozen.old) (pairs_from (F.records frozen.old) cursor)) }
     ensures part { IfOk result (λ cursor. (leaf : AnyLeaf) → sought leaf ≡ Some (values.Text prefix.now)
-        → run leaf (from leaf (part_of value_type (F.records frozen.old) (pairs_from (F.records frozen.old) cursor)))
+        → run leaf (from leaf (index_of_pairs value_type (F.records frozen.old) (pairs_from (F.records frozen.old) cursor)))
         ≡ meeting leaf (index_of value_type (F.records frozen.old) root.entry)) }
     ensures same { frozen.new ≡ frozen.old }
 {
@@ -69,7 +69,7 @@ pub fn start_of<const OFFSET_BITS: u32, F: Frozen<OFFSET_BITS>>(
     ensures at { IfOk result (λ cursor. IsAt (F.records frozen.old) cursor) }
     ensures pairs { IfOk result (λ cursor. AreIndexPairs value_type (F.records frozen.old) (pairs_from (F.records frozen.old) cursor)) }
     ensures part { IfOk result (λ cursor.
-        run leaf.now (from leaf.now (part_of value_type (F.records frozen.old) (pairs_from (F.records frozen.old) cursor)))
+        run leaf.now (from leaf.now (index_of_pairs value_type (F.records frozen.old) (pairs_from (F.records frozen.old) cursor)))
         ≡ meeting leaf.now (index_of value_type (F.records frozen.old) root.entry)) }
     ensures same { frozen.new ≡ frozen.old }
 {

@@ -5,7 +5,7 @@ ghost use Rattle.attr_images.specs.Postings.{index_of};
 ghost use Rattle.doc_set.specs.Gathers.{is_in};
 ghost use Rattle.doc_set.specs.Sets.{has};
 ghost use Rattle.query_index.specs.Leaves.{from, listed, meeting, run};
-ghost use Rattle.query_leaves.specs.Parts.{IsIndexed, AreIndexPairs, part_of};
+ghost use Rattle.query_leaves.specs.Parts.{IsIndexed, AreIndexPairs, index_of_pairs};
 
 use crate::lists::gather_list;
 use crate::starts::start_of;
@@ -29,8 +29,8 @@ fn skip_before<const OFFSET_BITS: u32, F: Frozen<OFFSET_BITS>>(
     requires pairs { AreIndexPairs value_type (F.records frozen.old) (pairs_from (F.records frozen.old) cursor.old) }
     ensures at { OnOk result (IsAt (F.records frozen.old) cursor.new) }
     ensures pairs { OnOk result (AreIndexPairs value_type (F.records frozen.old) (pairs_from (F.records frozen.old) cursor.new)) }
-    ensures part { OnOk result (part_of value_type (F.records frozen.old) (pairs_from (F.records frozen.old) cursor.new)
-        ≡ from leaf.now (part_of value_type (F.records frozen.old) (pairs_from (F.records frozen.old) cursor.old))) }
+    ensures part { OnOk result (index_of_pairs value_type (F.records frozen.old) (pairs_from (F.records frozen.old) cursor.new)
+        ≡ from leaf.now (index_of_pairs value_type (F.records frozen.old) (pairs_from (F.records frozen.old) cursor.old))) }
     ensures same { frozen.new ≡ frozen.old }
 {
     while !cursor.at_end() {
@@ -54,7 +54,8 @@ fn gather_from<const OFFSET_BITS: u32, F: Frozen<OFFSET_BITS>>(
     requires at { IsAt (F.records frozen.old) cursor.old }
     requires pairs { AreIndexPairs value_type (F.records frozen.old) (pairs_from (F.records frozen.old) cursor.old) }
     ensures docs { IfOk result (λ all. (doc : ℕ) → is_in all doc ≡ (is_in gathered doc
-        || has (listed (run leaf.now (part_of value_type (F.records frozen.old) (pairs_from (F.records frozen.old) cursor.old)))) doc)) }
+        || has (listed (run leaf.now (index_of_pairs value_type (F.records frozen.old) (pairs_from (F.records frozen.old) cursor.old))))
+        doc)) }
     ensures same { frozen.new ≡ frozen.old }
 {
     let mut all = gathered;

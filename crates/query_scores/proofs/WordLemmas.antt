@@ -24,7 +24,7 @@ use Rattle.attr_types.specs.declared.value.Value.TheVariants as values
 use Rattle.enum_dictionary.specs.Dictionaries.{beside_value, entry_of}
 use Rattle.enum_dictionary.specs.declared.finding.DictEntry.{DictEntry}
 use Rattle.query_leaves.specs.Parts.{IsIndexPair, IsIndexed}
-use Rattle.query_scores.specs.Weights.{weight_in_list, IsWord}
+use Rattle.query_scores.specs.Weights.{weight_in_list, IsListWord}
 use Rattle.query_scores.proofs.LookupLemmas.{pair_lookup, pair_among}
 
 -- a value of another type is not there
@@ -57,7 +57,7 @@ module _ (type : ValueType) (m : Records) (root : ℕ) (is : IsIndexed type m ro
       ap (λ (o : Option (ℕ × ℕ)). unwrap_or (option_map (λ (q : ℕ × ℕ). postings_at m (list_form q.1)) o) []) some
       ∙ ap (λ o. unwrap_or o []) (sym found)
 
-  pub is_word : (p : ℕ × ℕ) → Some p ≡ lookup_pair (beside_value value m) (tree_pairs m root) → IsWord m (Some p.1)
+  pub is_word : (p : ℕ × ℕ) → Some p ≡ lookup_pair (beside_value value m) (tree_pairs m root) → IsListWord m (Some p.1)
   is_word p some =
       let pair = pair_among (IsIndexPair type m) (beside_value value m) (tree_pairs m root) p is.pairs (sym some) in
       (pair.entry.1, pair.documents)

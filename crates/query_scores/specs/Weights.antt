@@ -20,9 +20,9 @@ abbrev pub word_list : Records → Option ℕ → List (ℕ × ℤ)
 word_list m None = []
 word_list m (Some word) = postings_at m (list_form word)
 
-abbrev pub IsWord : Records → Option ℕ → Type 0
-IsWord m None = Unit {0}
-IsWord m (Some word) = IsPostingList m (list_form word) × HaveDocNumbers (postings_at m (list_form word))
+abbrev pub IsListWord : Records → Option ℕ → Type 0
+IsListWord m None = Unit {0}
+IsListWord m (Some word) = IsPostingList m (list_form word) × HaveDocNumbers (postings_at m (list_form word))
 
 -- some part's value has the document in its list
 abbrev pub is_found : List Part → Index → ℕ → Bool

@@ -10,7 +10,7 @@ ghost use Rattle.doc_set.specs.Gathers.{is_in};
 ghost use Rattle.doc_set.specs.Sets.{has, Holds};
 ghost use Rattle.std.specs.Map.{keys_of};
 ghost use Rattle.query_leaves.specs.Parts.{IsIndexed};
-ghost use Rattle.query_scores.specs.Weights.{word_list, IsWord, is_found};
+ghost use Rattle.query_scores.specs.Weights.{word_list, IsListWord, is_found};
 
 use crate::weights::weight_at;
 use attr_scores::{Part, Score, ScoreList};
@@ -30,7 +30,7 @@ pub fn word_of<const OFFSET_BITS: u32, F: Frozen<OFFSET_BITS>>(
     value: &Value,
 ) -> Option<u64>
     requires { IsIndexed value_type (F.records frozen.old) root }
-    ensures form { IsWord (F.records frozen.old) result }
+    ensures form { IsListWord (F.records frozen.old) result }
     ensures list { word_list (F.records frozen.old) result ≡ list_of value.now (index_of value_type (F.records frozen.old) root.entry) }
     ensures same { frozen.new ≡ frozen.old }
 {

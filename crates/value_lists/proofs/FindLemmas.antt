@@ -8,7 +8,7 @@ use Rattle.std.specs.declared.cmp.Ordering.{Ordering}
 use Rattle.std.specs.declared.cmp.Ordering.TheVariants.{Less, Equal, Greater}
 use Rattle.std.specs.Ordering.{nat_cmp, is_eq, MatchOrdering}
 use Rattle.key_order.specs.Pairs.{choose, lookup_pair}
-use Rattle.attr_images.specs.Words.{weight_of}
+use Rattle.attr_images.specs.Words.{weight_in_bits}
 use Rattle.posting_store.specs.Walks.{first_doc}
 use Rattle.posting_store.proofs.ItemLemmas.{cmp_same}
 use Rattle.posting_store.proofs.PairLemmas.{weighed, against}
@@ -29,10 +29,10 @@ pair_has doc (p ∷ ps) some = told (pair_has doc ps) (nat_cmp p.0 doc) refl (ra
     told : (IsSome (lookup_pair (against doc) ps) → IsSome (lookup_in (is_at (nat_cmp doc)) (weighed ps))) → (o : Ordering) → nat_cmp p.0 doc ≡ o
         → MatchOrdering o (p.0 < doc) (p.0 ≡ doc) (doc < p.0) → IsSome (lookup_in (is_at (nat_cmp doc)) (weighed (p ∷ ps)))
     told rest Less e rank =
-        more (is_at (nat_cmp doc) p.0) (weight_of p.1) (lookup_in (is_at (nat_cmp doc)) (weighed ps))
+        more (is_at (nat_cmp doc) p.0) (weight_in_bits p.1) (lookup_in (is_at (nat_cmp doc)) (weighed ps))
         (rest (subst (λ o. IsSome (choose o (lookup_pair (against doc) ps) (Some p) None)) e some))
     told rest Equal e rank =
-        some_of (weight_of p.1) (lookup_in (is_at (nat_cmp doc)) (weighed ps)) (is_at (nat_cmp doc) p.0) (ap is_eq (cmp_same doc p.0 rank))
+        some_of (weight_in_bits p.1) (lookup_in (is_at (nat_cmp doc)) (weighed ps)) (is_at (nat_cmp doc) p.0) (ap is_eq (cmp_same doc p.0 rank))
     told rest Greater e rank =
         let none : IsSome {T = ℕ × ℕ} None = subst (λ o. IsSome (choose o (lookup_pair (against doc) ps) (Some p) None)) e some in
         absurd (true≢false (sym none))

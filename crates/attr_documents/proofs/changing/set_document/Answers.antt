@@ -5,7 +5,7 @@ use Rattle.entry_ref.specs.References.{buffer_limit}
 use Rattle.store_api.proofs.May.{may_do-same}
 use Rattle.posting_store.proofs.RefusalLemmas.{if_one, of_more}
 use Rattle.attr_documents.specs.Changes.{IsDocumentWidth}
-use Rattle.attr_documents.specs.Items.{entries_of, IsItemsWidth}
+use Rattle.attr_documents.specs.Items.{entries_by_key, IsItemsWidth}
 use Rattle.tree_make.specs.Changes.{levels}
 use Rattle.tree_make.specs.Makes.{CountsNodes}
 use Rattle.attr_documents.proofs.CountLemmas.{counts-one, counts-both, levels-same}
@@ -27,7 +27,7 @@ set_reference-requires g c =
     let records = g.S.Frozen.records in
     let s = c.args.store.now in
     let t = c.make_items.new.store in
-    let list = entries_of c.args.keys.now c.args.items.now in (
+    let list = entries_by_key c.args.keys.now c.args.items.now in (
       omega arith,
       (
         c.make_items.ensures.may.unit ∙ c.requires.unit,
@@ -76,7 +76,7 @@ returns-clause-counts g c =
     let t = c.make_items.new.store in
     let u = c.set_reference.new.store in
     let nodes = nodes_stay c.args.kind c.args.value_type (ledger s) (ledger t) (ledger t) (records s) (records t) (records t) c.args.root c.args.doc c.in_ok-reference.reference c.requires.documents c.requires.owns
-    (entries_of c.args.keys.now c.args.items.now) c.in_ok-reference.ensures.makes in
+    (entries_by_key c.args.keys.now c.args.items.now) c.in_ok-reference.ensures.makes in
     counts-both (ledger s) (ledger t) (ledger u) (1 + length c.args.items.now) (2 * levels (records s) c.args.root + 1) c.make_items.ensures.may c.make_items.ensures.counts
     (subst (λ (k : ℕ). CountsNodes (ledger t) (ledger u) (2 * k + 1)) (levels-same (records s) (records t) c.args.root nodes) c.set_reference.ensures.counts)
 

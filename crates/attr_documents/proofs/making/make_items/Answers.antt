@@ -4,7 +4,7 @@ use Rattle.std.proofs.lemmas.List.{nil_from_length}
 use Rattle.list_facts.proofs.Tests.{zero_from_test, above_zero_from_test}
 use Rattle.store_api.proofs.PartLemmas.{turns-same}
 use Rattle.attr_types.specs.Lawful.{IsLawfulItems}
-use Rattle.attr_documents.specs.Items.{entries_of, has_list, MakesItems}
+use Rattle.attr_documents.specs.Items.{entries_by_key, has_list, MakesItems}
 use Rattle.attr_images.specs.Words.{class_of}
 use Rattle.attr_documents.proofs.CountLemmas.{one-none}
 use Rattle.attr_documents.proofs.KeyLemmas.{makes_none, makes_single, weights_of, few_of}
@@ -40,7 +40,7 @@ returns-in-Single-clause-makes g c =
     let items = c.args.items.now in
     let some = above_zero_from_test (length keys) c.is_empty.result c.is_empty.ensures c.if-is_empty.false in
     let at = slice_get_read keys (length keys) 0 c.index-keys-0.result refl some c.index-keys-0.is in
-    subst (λ k. MakesItems k ledger ledger m m (entries_of keys items) c.index-keys-0.result) (sym c.in-Single.is)
+    subst (λ k. MakesItems k ledger ledger m m (entries_by_key keys items) c.index-keys-0.result) (sym c.in-Single.is)
     (makes_single ledger ledger m m keys items c.index-keys-0.result at c.requires.sized c.requires.there (subst (λ k. IsLawfulItems k items) c.in-Single.is c.requires.lawful) (turns-same ledger m []))
 
 pub returns-then-is_empty-clause-counts : goal.returns-then-is_empty-clause-counts

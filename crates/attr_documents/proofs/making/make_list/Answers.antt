@@ -1,5 +1,5 @@
 use Rattle.std.proofs.Common.{ℕ, ◌+◌, subst, length, map, ap, ◌∙◌, arith}
-use Rattle.attr_documents.specs.Items.{entries_of, word_entry, IsItemsWidth}
+use Rattle.attr_documents.specs.Items.{entries_by_key, word_entry, IsItemsWidth}
 use Rattle.array_store.specs.Adding.{MakesOneOf}
 use Rattle.attr_images.specs.Words.{class_of}
 use Rattle.attr_documents.proofs.CountLemmas.{one-none}
@@ -29,7 +29,7 @@ returns-clause-makes g c =
     let size = words_length c.args.kind c.deref.result.now c.args.keys.now c.args.items.now are c.requires.sized in
     let few = c.requires.few in
     let some = c.requires.some in
-    made_list (ledger s) (ledger t) (records s) (records t) g.row.OFFSET_BITS c.deref.result.now (entries_of c.args.keys.now c.args.items.now) c.args.kind c.add.result
+    made_list (ledger s) (ledger t) (records s) (records t) g.row.OFFSET_BITS c.deref.result.now (entries_by_key c.args.keys.now c.args.items.now) c.args.kind c.add.result
     (omega arith) (omega arith) c.requires.list are c.add.ensures.items c.add.ensures.adds
 
 pub returns-in_default-clause-counts : goal.returns-in_default-clause-counts

@@ -1,7 +1,7 @@
 use Rattle.std.proofs.Common.{◌≡◌, ◌∷◌, [], ℕ, ℤ, suc, ◌+◌, length, map, take, ◌++◌, sym, ap, ◌∙◌, refl, arith}
 use Rattle.std.proofs.lemmas.List.{map-append}
 use Rattle.std.proofs.lemmas.Option.{slice_get_read}
-use Rattle.attr_documents.specs.Items.{entries_of, word_entry}
+use Rattle.attr_documents.specs.Items.{entries_by_key, word_entry}
 use Rattle.attr_documents.proofs.KeyLemmas.{entries_more}
 use Rattle.attr_documents.proofs.making.words_of.Goals as goal
 
@@ -17,6 +17,6 @@ loop-i-preserved g c =
     ap (map (word_entry kind)) c.in_ok-push.ensures.items
     ∙ map-append (word_entry kind) c.loop-i.words.items (c.word_of.result ∷ [])
     ∙ ap (λ es. es ++ word_entry kind c.word_of.result ∷ []) c.loop-i.invariant
-    ∙ ap (λ (e : ℕ × ℤ). entries_of (take i keys) (take i items) ++ e ∷ []) c.word_of.ensures
+    ∙ ap (λ (e : ℕ × ℤ). entries_by_key (take i keys) (take i items) ++ e ∷ []) c.word_of.ensures
     ∙ sym (entries_more keys items i c.index-keys-i.result c.index-items-i.result at_key at_item)
-    ∙ ap (λ j. entries_of (take j keys) (take j items)) (let e : suc i ≡ i + 1 = omega arith in e)
+    ∙ ap (λ j. entries_by_key (take j keys) (take j items)) (let e : suc i ≡ i + 1 = omega arith in e)

@@ -2,7 +2,7 @@ use Rattle.std.proofs.Common.{◌∙◌, refl, ap, List, map, Vec, Global}
 use Rattle.attr_rounds.specs.declared.rounds.Round.{Round}
 use Rattle.attr_answers.specs.declared.asked.Told.{Told}
 use Rattle.attr_report.specs.Run.{run_in}
-use Rattle.attr_engine.specs.Writing.{counts_of}
+use Rattle.attr_engine.specs.Writing.{operations_of_rounds}
 use Rattle.attr_engine.proofs.WritingLemmas.{saved_run_of}
 use Rattle.attr_engine.proofs.saving.saved_run.Goals as goal
 
@@ -10,7 +10,7 @@ pub returns : goal.returns
 returns c = saved_run_of (run_in c.args.request.now) c.args.ops.now c.args.came.now _ c.requires.came c.requires.saves (record {
   loaded = refl;
   full = refl;
-  rounds = c.in_ok-rounds.ensures ∙ ap (λ (all_rounds : List (Vec (Round Told) Global)). map (λ r. counts_of r.items) all_rounds) c.as_slice.ensures.value;
+  rounds = c.in_ok-rounds.ensures ∙ ap (λ (all_rounds : List (Vec (Round Told) Global)). map (λ r. operations_of_rounds r.items) all_rounds) c.as_slice.ensures.value;
   saved = refl;
   text = c.in_ok-text.ensures;
 })

@@ -6,7 +6,7 @@ use Rattle.tree_images.specs.Trees.{tree_pairs}
 use Rattle.tree_search.specs.Places.{pairs_from, IsAt}
 use Rattle.enum_dictionary.proofs.BehindLemmas.{All-seek}
 use Rattle.plan_keys.proofs.NextLemmas.{unit_all}
-use Rattle.clear_keys.specs.Sights.{HasItems, IsApart, IsRun}
+use Rattle.clear_keys.specs.Sights.{HasItemRecords, IsApart, IsRun}
 use Rattle.clear_keys.specs.declared.sights.Sight.TheVariants as sights
 use Rattle.clear_keys.proofs.PairLemmas.{all_items, all_numbers}
 use Rattle.clear_keys.proofs.PassLemmas.{documents_pass}
@@ -31,9 +31,9 @@ run_from-run-requires g c =
       omega arith,
       (
         subst (λ (f : g.row.F.Denot). IsAt (records f) cursor) back c.seek-cursor.ensures.at,
-        subst (λ (f : g.row.F.Denot). AllByRecursion (HasItems kind type (records f)) (pairs_from (records f) cursor)) back
-            (subst (AllByRecursion (HasItems kind type m)) (sym c.seek-cursor.ensures.pairs)
-            (All-seek (HasItems kind type m) (λ key. nat_cmp key (c.args.doc + 1)) (tree_pairs m c.args.roots.documents) (all_items kind type m c.args.roots.documents c.requires.documents_are))),
+        subst (λ (f : g.row.F.Denot). AllByRecursion (HasItemRecords kind type (records f)) (pairs_from (records f) cursor)) back
+            (subst (AllByRecursion (HasItemRecords kind type m)) (sym c.seek-cursor.ensures.pairs)
+            (All-seek (HasItemRecords kind type m) (λ key. nat_cmp key (c.args.doc + 1)) (tree_pairs m c.args.roots.documents) (all_items kind type m c.args.roots.documents c.requires.documents_are))),
       ),
     )
 

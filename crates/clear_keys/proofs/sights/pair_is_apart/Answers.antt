@@ -2,7 +2,7 @@ use Rattle.std.proofs.Common.{refl, sym, subst, arith}
 use Rattle.attr_images.specs.Values.{IsValueRecord}
 use Rattle.posting_store.specs.Lists.{IsPlain}
 use Rattle.unique_store.proofs.RecordLemmas.{value_there}
-use Rattle.clear_keys.specs.Sights.{HasItems, IsApart, IsPairOf}
+use Rattle.clear_keys.specs.Sights.{HasItemRecords, IsApart, IsPairOf}
 use Rattle.clear_keys.specs.declared.sights.Sight.{Sight}
 use Rattle.clear_keys.proofs.sights.pair_is_apart.Goals as goal
 
@@ -16,14 +16,14 @@ is_apart-requires g c =
 pub items_are_apart-requires-clause-few : goal.items_are_apart-requires-clause-few
 items_are_apart-requires-clause-few g c =
     let m = g.F.Frozen.records c.args.frozen.now in
-    let is : HasItems c.args.kind c.args.value_type m (c.args.key, c.args.word) =
+    let is : HasItemRecords c.args.kind c.args.value_type m (c.args.key, c.args.word) =
     subst (λ (s : Sight). IsPairOf c.args.kind c.args.value_type m s (c.args.key, c.args.word)) c.in-Items.is c.requires.pair in
     is.few
 
 pub items_are_apart-requires-clause-records : goal.items_are_apart-requires-clause-records
 items_are_apart-requires-clause-records g c =
     let m = g.F.Frozen.records c.args.frozen.now in
-    let is : HasItems c.args.kind c.args.value_type m (c.args.key, c.args.word) =
+    let is : HasItemRecords c.args.kind c.args.value_type m (c.args.key, c.args.word) =
     subst (λ (s : Sight). IsPairOf c.args.kind c.args.value_type m s (c.args.key, c.args.word)) c.in-Items.is c.requires.pair in
     is.records
 

@@ -3,7 +3,7 @@ use Rattle.std.proofs.lemmas.Int.{to_z-of_z}
 use Rattle.std.specs.BTreeMap.{insert_entry}
 use Rattle.std.specs.Int.{cast_unsigned}
 use Rattle.std.specs.Ordering.{nat_cmp}
-use Rattle.attr_images.specs.Words.{weight_of}
+use Rattle.attr_images.specs.Words.{weight_in_bits}
 use Rattle.posting_store.specs.Lists.{list_at}
 use Rattle.posting_store.specs.Changes.{IsListWidth, MakesList}
 use Rattle.std.proofs.lemmas.Result.{err_from_is_err_and}
@@ -50,8 +50,8 @@ returns-clause-makes g c =
     let number = c.number-number in
     let bits = c.cast_unsigned-bits in
     let is : c.args.list ≡ 2 * c.entry.result + 1 = let e = c.entry.ensures in let odd = c.requires.tree in omega arith in
-    let reads : weight_of bits.result ≡ c.args.weight =
-    let again = to_z-of_z w32 c.args.weight c.ranges.weight in ap weight_of bits.ensures ∙ ap (λ (w : ℤ). weight_of (cast_unsigned w32 w)) again ∙ again in
+    let reads : weight_in_bits bits.result ≡ c.args.weight =
+    let again = to_z-of_z w32 c.args.weight c.ranges.weight in ap weight_in_bits bits.ensures ∙ ap (λ (w : ℤ). weight_in_bits (cast_unsigned w32 w)) again ∙ again in
     subst (λ (doc : ℕ). MakesList (ledger s) (ledger t) (records s) (records t) c.args.list (insert_entry nat_cmp (list_at (records s) c.args.list) doc c.args.weight) c.tree.result) number.ensures.number
     (tree_added (ledger s) (ledger t) (records s) (records t) c.args.list c.entry.result c.requires.list c.requires.plain is
     number.result bits.result c.args.weight (number.ensures.first, number.ensures.last) bits.type_inv reads

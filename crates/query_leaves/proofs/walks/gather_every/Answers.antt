@@ -6,7 +6,7 @@ use Rattle.attr_images.specs.Postings.{list_form, postings_at}
 use Rattle.doc_set.specs.Gathers.{is_in}
 use Rattle.doc_set.specs.Sets.{has}
 use Rattle.query_index.specs.Leaves.{listed}
-use Rattle.query_leaves.specs.Parts.{IsIndexPair, AreIndexPairs, part_of}
+use Rattle.query_leaves.specs.Parts.{IsIndexPair, AreIndexPairs, index_of_pairs}
 use Rattle.query_leaves.proofs.PartLemmas.{all_drop, all_goes}
 use Rattle.query_leaves.proofs.walks.gather_every.Goals as goal
 
@@ -26,7 +26,7 @@ loop-alloc-preserved g c =
       same = c.next.ensures.same ∙ same_list;
       at = subst (λ (f : g.row.F.Denot). IsAt (g.F.Frozen.records f) c.next.new.self) same_list c.next.ensures.at;
       pairs = subst (AreIndexPairs type m) (sym rest) (all_drop (IsIndexPair type m) ps before.pairs);
-      whole = λ doc. ap (λ qs. is_in c.in_ok-all.all doc || has (listed (part_of type m qs)) doc) rest
+      whole = λ doc. ap (λ qs. is_in c.in_ok-all.all doc || has (listed (index_of_pairs type m qs)) doc) rest
           ∙ all_goes type m ps some c.value.result (c.value.ensures m before.at) (λ d. is_in c.loop-alloc.all d) (λ d. is_in c.in_ok-all.all d)
-          (λ d. is_in c.args.gathered d || has (listed (part_of type m (tree_pairs m c.args.root))) d) more before.whole doc;
+          (λ d. is_in c.args.gathered d || has (listed (index_of_pairs type m (tree_pairs m c.args.root))) d) more before.whole doc;
     }

@@ -4,7 +4,7 @@ use Rattle.tree_search.specs.Places.{IsAt, pairs_from}
 use Rattle.doc_set.specs.Gathers.{is_in}
 use Rattle.doc_set.specs.Sets.{has}
 use Rattle.query_index.specs.Leaves.{listed}
-use Rattle.query_leaves.specs.Parts.{AreIndexPairs, part_of}
+use Rattle.query_leaves.specs.Parts.{AreIndexPairs, index_of_pairs}
 use Rattle.query_leaves.proofs.walks.gather_every.Given as goal
 
 -- what is there, and what is still to come
@@ -15,8 +15,8 @@ invariant-loop-alloc g l =
       same : l.frozen ≡ l.fn.frozen;
       at : IsAt m l.cursor;
       pairs : AreIndexPairs l.fn.value_type m (pairs_from m l.cursor);
-      whole : (doc : ℕ) → (is_in l.all doc || has (listed (part_of l.fn.value_type m (pairs_from m l.cursor))) doc)
-          ≡ (is_in l.fn.gathered doc || has (listed (part_of l.fn.value_type m (tree_pairs m l.fn.root))) doc);
+      whole : (doc : ℕ) → (is_in l.all doc || has (listed (index_of_pairs l.fn.value_type m (pairs_from m l.cursor))) doc)
+          ≡ (is_in l.fn.gathered doc || has (listed (index_of_pairs l.fn.value_type m (tree_pairs m l.fn.root))) doc);
     }
 
 abbrev pub decreases-loop-alloc : goal.decreases-loop-alloc

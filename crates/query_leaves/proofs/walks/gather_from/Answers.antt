@@ -6,7 +6,7 @@ use Rattle.attr_images.specs.Values.{stored_value}
 use Rattle.doc_set.specs.Gathers.{is_in}
 use Rattle.doc_set.specs.Sets.{has}
 use Rattle.query_index.specs.Leaves.{listed, stands_beyond, run}
-use Rattle.query_leaves.specs.Parts.{IsIndexPair, AreIndexPairs, part_of}
+use Rattle.query_leaves.specs.Parts.{IsIndexPair, AreIndexPairs, index_of_pairs}
 use Rattle.query_leaves.proofs.PartLemmas.{all_drop, run_goes}
 use Rattle.query_leaves.proofs.walks.gather_from.Goals as goal
 
@@ -32,7 +32,7 @@ loop-alloc-preserved g c =
       same = c.next.ensures.same ∙ same_list;
       at = subst (λ (f : g.row.F.Denot). IsAt (g.F.Frozen.records f) c.next.new.self) same_list c.next.ensures.at;
       pairs = subst (AreIndexPairs type m) (sym rest) (all_drop (IsIndexPair type m) ps before.pairs);
-      whole = λ doc. ap (λ qs. is_in c.in_ok-all.all doc || has (listed (run leaf (part_of type m qs))) doc) rest
+      whole = λ doc. ap (λ qs. is_in c.in_ok-all.all doc || has (listed (run leaf (index_of_pairs type m qs))) doc) rest
           ∙ run_goes type m ps some c.value.result (c.value.ensures m before.at) (λ d. is_in c.loop-alloc.all d) (λ d. is_in c.in_ok-all.all d)
-          (λ d. is_in c.args.gathered d || has (listed (run leaf (part_of type m (pairs_from m c.args.cursor.now)))) d) more leaf off before.whole doc;
+          (λ d. is_in c.args.gathered d || has (listed (run leaf (index_of_pairs type m (pairs_from m c.args.cursor.now)))) d) more leaf off before.whole doc;
     }

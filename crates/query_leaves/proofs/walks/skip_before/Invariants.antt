@@ -1,7 +1,7 @@
 use Rattle.std.proofs.Common.{◌≡◌, length}
 use Rattle.tree_search.specs.Places.{IsAt, pairs_from}
 use Rattle.query_index.specs.Leaves.{from}
-use Rattle.query_leaves.specs.Parts.{AreIndexPairs, part_of}
+use Rattle.query_leaves.specs.Parts.{AreIndexPairs, index_of_pairs}
 use Rattle.query_leaves.proofs.walks.skip_before.Given as goal
 
 abbrev pub invariant-loop-alloc : goal.invariant-loop-alloc
@@ -11,7 +11,7 @@ invariant-loop-alloc g l =
       same : l.frozen ≡ l.fn.frozen;
       at : IsAt m l.cursor;
       pairs : AreIndexPairs l.value_type m (pairs_from m l.cursor);
-      part : from l.leaf (part_of l.value_type m (pairs_from m l.cursor)) ≡ from l.leaf (part_of l.value_type m (pairs_from m l.fn.cursor));
+      part : from l.leaf (index_of_pairs l.value_type m (pairs_from m l.cursor)) ≡ from l.leaf (index_of_pairs l.value_type m (pairs_from m l.fn.cursor));
     }
 
 abbrev pub decreases-loop-alloc : goal.decreases-loop-alloc

@@ -4,7 +4,7 @@ use Rattle.key_order.specs.Pairs.{lookup_pair}
 use Rattle.attr_images.specs.Postings.{list_form, postings_at}
 use Rattle.enum_dictionary.specs.Dictionaries.{beside_value}
 use Rattle.query_leaves.proofs.PartLemmas.{type_is, is_dictionary}
-use Rattle.query_scores.specs.Weights.{IsWord}
+use Rattle.query_scores.specs.Weights.{IsListWord}
 use Rattle.query_scores.proofs.WordLemmas.{not_there, none_there, is_there, is_word, pair_of_entry, none_of_entry}
 use Rattle.query_scores.proofs.parts.word_of.Goals as goal
 
@@ -23,7 +23,7 @@ returns-in-Some-clause-form g c =
     let value = c.args.value.now in
     let typed = type_is c.args.value_type value (sym c.is_of_type.ensures ∙ c.if-not-is_of_type.false) in
     let found = pair_of_entry g.row.OFFSET_BITS (lookup_pair (beside_value value m) (tree_pairs m c.args.root)) c.in-Some.entry c.in-Some.ensures.entry in
-    subst (λ (w : ℕ). IsWord m (Some w)) (sym found.2) (is_word c.args.value_type m c.args.root c.requires value typed found.0 found.1)
+    subst (λ (w : ℕ). IsListWord m (Some w)) (sym found.2) (is_word c.args.value_type m c.args.root c.requires value typed found.0 found.1)
 
 pub returns-in-Some-clause-list : goal.returns-in-Some-clause-list
 returns-in-Some-clause-list g c =

@@ -9,7 +9,7 @@ use Rattle.attr_images.specs.Shapes.{shape_of, types_of}
 use Rattle.attr_images.specs.Words.{class_of}
 use Rattle.attr_types.specs.declared.field.TheConstants.{MOST_FIELDS}
 use Rattle.attr_steps.specs.Calls.{KeepsStore, LeavesEntries}
-use Rattle.attribute_kinds.specs.Calls.{CommitsImage, IsForRoot, IsSpent, RefusesCommit}
+use Rattle.attribute_kinds.specs.Calls.{CommitsImage, IsForRoot, HasNoCommitLeft, RefusesCommit}
 use Rattle.attr_steps.specs.Commits.{CommitsAttributes, IsForWidth}
 use Rattle.attr_steps.specs.Fields.{HoldsAttributes, trees_of}
 use Rattle.attr_steps.specs.Views.{table_at}
@@ -56,7 +56,7 @@ returns-then-commits_left-eq0-clause-refused g c =
     let inside = c.self.inside in
     let old = inside.store in
     let fields = inside.fields in
-    subst (λ (v : AttributeView g.row.S.Denot). IsSpent (ledger v.store) inside.last.commit) c.self.view_is
+    subst (λ (v : AttributeView g.row.S.Denot). HasNoCommitLeft (ledger v.store) inside.last.commit) c.self.view_is
     (record {
       last = (let none = c.if-commits_left-eq0.true in let is = c.commits_left.ensures in let few = (g.met.S.Store.order old).limit in omega arith);
       number = c.self.invariant.stands.last.number;
