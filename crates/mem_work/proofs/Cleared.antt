@@ -1,5 +1,5 @@
 -- A buffer in which nothing is of the last commit, and nothing was stored since, goes on hold: its words tell nothing any more.
-use Rattle.std.proofs.Common.{◌≡◌, ◌≢◌, ℕ, zero, suc, ◌+◌, ◌-◌, ◌*◌, ◌<◌, ◌≤◌, ◌⊎◌, inl, inr, Bool, true, false, cond, ◌&&◌, eqb, ltb, List, [], ◌∷◌, length, get_or, set, take, drop, Option, Some, None, refl, sym, ap}
+use Rattle.std.proofs.Common.{◌≡◌, ◌≢◌, ℕ, suc, ◌+◌, ◌-◌, ◌*◌, ◌<◌, ◌≤◌, ◌⊎◌, inl, inr, true, cond, ◌&&◌, ltb, List, [], length, get_or, set, take, drop, Some, None, sym, ap}
 use Rattle.std.proofs.Common.{subst, ◌∙◌, arith, length-take, length-drop, get_or-set_other, get_or-set_same}
 use Rattle.std.specs.List.{list_all}
 use Rattle.std.proofs.Math.ListN.{replicate}
@@ -9,20 +9,19 @@ use Rattle.std.proofs.lemmas.Bool.{cases_eq, cases_lt, false_from_ne_true, eq-eq
 use Rattle.std.proofs.lemmas.Grind.{same_number_lists}
 use Rattle.std.proofs.lemmas.Nat.{same_from_place}
 use Rattle.list_facts.proofs.Places.{slice_index-zeros}
-use Rattle.entry_ref.specs.References.{buffer_of, offset_of}
+use Rattle.entry_ref.specs.References.{buffer_of}
 use Rattle.image_base.specs.Images.{words_at}
 use Rattle.image_base.specs.Places.{IsEntry}
 use Rattle.image_base.specs.Records.{Records, SameAt, AllThere}
 use Rattle.image_base.proofs.Apart.{within}
-use Rattle.image_base.proofs.Pairs.{words-found}
 use Rattle.arena_api.proofs.Reached.{lawful-kept, next_image-kept}
 use Rattle.arena_api.specs.Works.{Buffer, active_width}
 use Rattle.arena_api.specs.Generations.{retired}
-use Rattle.mem_work.specs.Cells.{width_in, begin_of, with_range, names_entry, standing, is_whole, stored_in, image_in, records_in, memory_view, buffer_by, buffer_in}
-use Rattle.mem_work.specs.Marks.{tag_of, mark_at, marked, marked_buffers, with_marks, IsMark}
+use Rattle.mem_work.specs.Cells.{width_in, begin_of, with_range, names_entry, standing, stamp_of, is_since, is_whole, stored_in, image_in, records_in, memory_view, buffer_by}
+use Rattle.mem_work.specs.Marks.{tag_of, mark_at, marked, with_marks, IsMark}
 use Rattle.mem_work.specs.declared.marks.Mark.{Mark}
-use Rattle.mem_work.specs.declared.marks.Mark.TheVariants.{Fresh, Past, Held}
-use Rattle.mem_work.specs.ProofsForMemory.{names_entry-true, standing-entry, is_stored, stored-whole, active_width-by}
+use Rattle.mem_work.specs.declared.marks.Mark.TheVariants.{Fresh, Held}
+use Rattle.mem_work.specs.ProofsForMemory.{names_entry-true, is_stored, stored-whole, active_width-by}
 use Rattle.mem_work.proofs.Standing.{range-set_other, lacks, not_first, cond-same, cond-and, and-same, whole-first}
 use Rattle.mem_work.proofs.Handed.{none-from}
 use Rattle.mem_work.proofs.Ranges.{range-elsewhere, range-at, length-range}
@@ -33,7 +32,7 @@ module _ (reaches : ℕ → Records → ℕ → List ℕ) (lawful : ℕ → Reco
     (shape : ℕ) (table stamps : List ℕ) (bits buffers words last root : ℕ) (law : ∥ lawful shape (standing table bits buffers words) root ∥₁)
     (b : ℕ) (below : b < buffers) (some : 0 < words) (room : length table ≡ buffers * words) (also : length stamps ≡ buffers * words)
     (uncommitted : (r : ℕ) → buffer_of bits r ≡ b → words_at (image_in reaches shape table bits buffers words root) r ≡ [])
-    (unstored : (r i : ℕ) → buffer_of bits r ≡ b → stored_in table stamps bits buffers words (last + 1) r i ≡ None) where
+    (unstored : (r i : ℕ) → buffer_of bits r ≡ b → stored_in table stamps bits buffers words (stamp_of (last + 1)) r i ≡ None) where
   inside : b * words + words ≤ buffers * words
   inside = let more : suc b * words ≤ buffers * words = mul-le-mul_right words below in omega arith
 
@@ -62,6 +61,11 @@ module _ (reaches : ℕ → Records → ℕ → List ℕ) (lawful : ℕ → Reco
   stamp-other : (q i width : ℕ) → IsEntry bits buffers words width q → i < width → buffer_of bits q ≢ b → get_or s (begin_of bits words width q + i) 0 ≡ get_or stamps (begin_of bits words width q + i) 0
   stamp-other q i width e h ne =
       range-elsewhere stamps (b * words) (replicate words 0) words (length-replicate words 0) (omega (arith, inside, also)) (begin_of bits words width q + i) (outside q i width e h ne)
+
+  first-other : (q width : ℕ) → IsEntry bits buffers words width q → buffer_of bits q ≢ b → get_or s (begin_of bits words width q) 0 ≡ get_or stamps (begin_of bits words width q) 0
+  first-other q width e ne =
+      let at : begin_of bits words width q + 0 ≡ begin_of bits words width q = omega arith in
+      sym (ap (λ k. get_or s k 0) at) ∙ stamp-other q 0 width e e.wide ne ∙ ap (λ k. get_or stamps k 0) at
 
   stamps-long : length s ≡ length stamps
   stamps-long = length-range stamps (b * words) (replicate words 0) words (length-replicate words 0) (omega (arith, inside, also))
@@ -99,34 +103,40 @@ module _ (reaches : ℕ → Records → ℕ → List ℕ) (lawful : ℕ → Reco
   no_entry : (q : ℕ) → buffer_of bits q ≡ b → 0 < width_in t words (buffer_of bits q) → ⊥
   no_entry q at wide = omega (arith, wide, ap (width_in t words) at, width-here)
 
-  whole-cleared : (q : ℕ) → is_whole t s bits buffers words (last + 1) q ≡ is_whole table stamps bits buffers words (last + 1) q
+  whole-cleared : (q : ℕ) → is_whole t s bits buffers words (stamp_of (last + 1)) q ≡ is_whole table stamps bits buffers words (stamp_of (last + 1)) q
   unfolding is_whole
   whole-cleared q = elim (cases_eq (buffer_of bits q) b) [
     | inl e ↦
-        false_from_ne_true _ (λ is. no_entry q e (whole-first t s bits buffers words (last + 1) q (stamps-long ∙ also) is).0.wide)
+        false_from_ne_true _ (λ is. no_entry q e (whole-first t s bits buffers words (stamp_of (last + 1)) q (stamps-long ∙ also) is).0.wide)
         ∙ sym (false_from_ne_true _ (λ is.
-        let wide = (whole-first table stamps bits buffers words (last + 1) q also is).0.wide in
-        let one = stored-whole table stamps bits buffers words (last + 1) q 0 also is wide in
+        let wide = (whole-first table stamps bits buffers words (stamp_of (last + 1)) q also is).0.wide in
+        let one = stored-whole table stamps bits buffers words (stamp_of (last + 1)) q 0 also is wide in
         let none = unstored q 0 e in cc))
     | inr ne ↦
-        ap (λ w. names_entry bits buffers words w q && list_all (λ k. eqb k (last + 1)) (take w (drop (begin_of bits words w q) s))) (width-other (buffer_of bits q) ne)
-        ∙ and-same _ _ _ (λ there. ap (list_all (λ k. eqb k (last + 1))) (stamps-other q ne there))
+        ap (λ w. names_entry bits buffers words w q && list_all (is_since (stamp_of (last + 1)) (get_or s (begin_of bits words w q) 0)) (take w (drop (begin_of bits words w q) s)))
+        (width-other (buffer_of bits q) ne)
+        ∙ and-same _ _ _ (λ there.
+        let w = width_in table words (buffer_of bits q) in
+        ap (λ x. list_all (is_since (stamp_of (last + 1)) x) (take w (drop (begin_of bits words w q) s))) (first-other q w (names_entry-true bits buffers words w q there) ne)
+        ∙ ap (list_all (is_since (stamp_of (last + 1)) (get_or stamps (begin_of bits words w q) 0))) (stamps-other q ne there))
   ]
 
-  stored-cleared : (q i : ℕ) → stored_in t s bits buffers words (last + 1) q i ≡ stored_in table stamps bits buffers words (last + 1) q i
+  stored-cleared : (q i : ℕ) → stored_in t s bits buffers words (stamp_of (last + 1)) q i ≡ stored_in table stamps bits buffers words (stamp_of (last + 1)) q i
   unfolding stored_in
   stored-cleared q i = elim (cases_eq (buffer_of bits q) b) [
     | inl e ↦
-        none-from _ (λ x is. no_entry q e (is_stored t s bits buffers words (last + 1) q i x is).entry.wide)
+        none-from _ (λ x is. no_entry q e (is_stored t s bits buffers words (stamp_of (last + 1)) q i x is).entry.wide)
         ∙ sym (unstored q i e)
     | inr ne ↦
-        ap (λ w. cond (names_entry bits buffers words w q && (ltb i w && eqb (get_or s (begin_of bits words w q + i) 0) (last + 1))) (Some (get_or t (begin_of bits words w q + i) 0)) None)
+        ap (λ w. cond (names_entry bits buffers words w q && (ltb i w && is_since (stamp_of (last + 1)) (get_or s (begin_of bits words w q) 0) (get_or s (begin_of bits words w q + i) 0)))
+        (Some (get_or t (begin_of bits words w q + i) 0)) None)
         (width-other (buffer_of bits q) ne)
         ∙ cond-and _ _ _ _ _ _ _ (λ there less.
         let w = width_in table words (buffer_of bits q) in
         let e = names_entry-true bits buffers words w q there in
         let lt = ltb-true i w less in (
-          ap (λ m. eqb m (last + 1)) (stamp-other q i w e lt ne),
+          ap (λ x. is_since (stamp_of (last + 1)) x (get_or s (begin_of bits words w q + i) 0)) (first-other q w e ne)
+              ∙ ap (is_since (stamp_of (last + 1)) (get_or stamps (begin_of bits words w q) 0)) (stamp-other q i w e lt ne),
           ap Some (get_or-set_other table (b * words) _ 0 0 (λ same. not_first bits buffers words w q i b e lt same)),
         ))
   ]
@@ -134,13 +144,13 @@ module _ (reaches : ℕ → Records → ℕ → List ℕ) (lawful : ℕ → Reco
   pub records-cleared : (q : ℕ) → records_in reaches shape t s bits buffers words last root q ≡ records_in reaches shape table stamps bits buffers words last root q
   records-cleared q =
       ap (λ x. cond x (standing t bits buffers words q) (words_at (image_in reaches shape t bits buffers words root) q)) (whole-cleared q)
-      ∙ ap (λ image. cond (is_whole table stamps bits buffers words (last + 1) q) (standing t bits buffers words q) (words_at image q)) image-cleared
+      ∙ ap (λ image. cond (is_whole table stamps bits buffers words (stamp_of (last + 1)) q) (standing t bits buffers words q) (words_at image q)) image-cleared
       ∙ cond-same _ _ _ _ (λ is. standing-elsewhere q (λ at.
-      let wide = (whole-first table stamps bits buffers words (last + 1) q also is).0.wide in
-      let one = stored-whole table stamps bits buffers words (last + 1) q 0 also is wide in
+      let wide = (whole-first table stamps bits buffers words (stamp_of (last + 1)) q also is).0.wide in
+      let one = stored-whole table stamps bits buffers words (stamp_of (last + 1)) q 0 also is wide in
       let none = unstored q 0 at in absurd (cc)))
 
-  -- the numbers beside the words
+  -- the stamps
   stamp-here : (x : ℕ) → x < words → get_or s (b * words + x) 0 ≡ 0
   stamp-here x h = range-at stamps (b * words) (replicate words 0) words (length-replicate words 0) (omega (arith, inside, also)) x h ∙ slice_index-zeros words x
 
@@ -155,8 +165,8 @@ module _ (reaches : ℕ → Records → ℕ → List ℕ) (lawful : ℕ → Reco
     ]
   ]
 
-  pub unused-cleared : ((a x : ℕ) → x < words → width_in table words a ≡ 0 → get_or stamps (a * words + x) 0 ≤ last)
-      → (a x : ℕ) → x < words → width_in t words a ≡ 0 → get_or s (a * words + x) 0 ≤ last
+  pub unused-cleared : ((a x : ℕ) → x < words → width_in table words a ≡ 0 → get_or stamps (a * words + x) 0 < stamp_of (last + 1))
+      → (a x : ℕ) → x < words → width_in t words a ≡ 0 → get_or s (a * words + x) 0 < stamp_of (last + 1)
   unused-cleared old a x h none = elim (cases_eq a b) [
     | inl e ↦ omega (arith, ap (λ k. get_or s (k * words + x) 0) e, stamp-here x h)
     | inr ne ↦

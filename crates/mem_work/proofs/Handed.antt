@@ -1,5 +1,5 @@
 -- A free buffer gets a width: nothing stands or was stored in it.
-use Rattle.std.proofs.Common.{◌≡◌, ◌≢◌, ℕ, zero, suc, ◌+◌, ◌*◌, ◌<◌, inl, inr, true, cond, ◌&&◌, eqb, ltb, List, [], length, get_or, set, take, drop, Option, Some, None, refl, sym, ap, ◌∙◌, arith, get_or-set_other}
+use Rattle.std.proofs.Common.{◌≡◌, ◌≢◌, ℕ, zero, suc, ◌+◌, ◌*◌, ◌<◌, inl, inr, true, cond, ◌&&◌, ltb, List, [], length, get_or, set, take, drop, Option, Some, None, refl, sym, ap, subst, ◌∙◌, arith, get_or-set_other}
 use Rattle.std.proofs.Common.{get_or-set_same}
 use Rattle.std.specs.List.{list_all}
 use Rattle.std.proofs.lemmas.Bool.{cases_eq, false_from_ne_true, eq-eqb, ne_eqb, ltb-true}
@@ -9,10 +9,10 @@ use Rattle.image_base.specs.Places.{IsEntry}
 use Rattle.image_base.proofs.Apart.{within}
 use Rattle.arena_api.specs.Works.{Buffer, last_tag}
 use Rattle.arena_api.specs.Calls.{with_buffer}
-use Rattle.mem_work.specs.Cells.{width_in, begin_of, names_entry, standing, is_whole, stored_in, buffer_by, buffer_in}
+use Rattle.mem_work.specs.Cells.{width_in, begin_of, names_entry, standing, is_since, is_whole, stored_in, buffer_by, buffer_in}
 use Rattle.mem_work.proofs.Standing.{range-set_other, lacks, not_first, cond-same, cond-and}
 use Rattle.mem_work.specs.ProofsForMemory.{names_entry-true}
-use Rattle.mem_work.proofs.Standing.{whole-first}
+use Rattle.mem_work.proofs.Standing.{since-parts, whole-first}
 use Rattle.mem_work.specs.ProofsForMemory.{is_stored}
 
 pub none-from : (o : Option ℕ) → ((x : ℕ) → o ≡ Some x → ⊥) → o ≡ None
@@ -58,33 +58,44 @@ module _ (table : List ℕ) (bits buffers words b width : ℕ) (free : width_in 
       ap (λ w. cond (names_entry bits buffers words w q) (take w (drop (begin_of bits words w q) (set table (b * words) width))) []) (width-other (buffer_of bits q) ne)
       ∙ cond-same _ _ _ [] (range-handed q)
 
-  -- no word of the buffer has this number beside it
-  module _ (stamps : List ℕ) (n : ℕ) (room : length stamps ≡ buffers * words) (none : (x : ℕ) → x < words → get_or stamps (b * words + x) 0 ≢ n) where
-    fresh : (q i : ℕ) → buffer_of bits q ≡ b → IsEntry bits buffers words (width_in (set table (b * words) width) words (buffer_of bits q)) q → i < width_in (set table (b * words) width) words (buffer_of bits q)
-        → get_or stamps (begin_of bits words (width_in (set table (b * words) width) words (buffer_of bits q)) q + i) 0 ≡ n → ⊥
-    fresh q i at e below stamp =
-        let w = width_in (set table (b * words) width) words (buffer_of bits q) in
-        none (offset_of bits q * w + i) (within e i below).1
-        (ap (λ k. get_or stamps k 0) (let moved : b * words ≡ buffer_of bits q * words = ap (λ k. k * words) (sym at) in omega (arith, moved)) ∙ stamp)
+  -- each word of the buffer was stored before a stamp
+  module _ (stamps : List ℕ) (n : ℕ) (room : length stamps ≡ buffers * words) (none : (x : ℕ) → x < words → get_or stamps (b * words + x) 0 < n) where
+    early : (q i w : ℕ) → buffer_of bits q ≡ b → IsEntry bits buffers words w q → i < w → get_or stamps (begin_of bits words w q + i) 0 < n
+    early q i w at e below =
+        let moved : b * words ≡ buffer_of bits q * words = ap (λ k. k * words) (sym at) in
+        let place : b * words + (offset_of bits q * w + i) ≡ begin_of bits words w q + i = omega (arith, moved) in
+        subst (λ k. get_or stamps k 0 < n) place (none (offset_of bits q * w + i) (within e i below).1)
+
+    fresh : (q i w : ℕ) → buffer_of bits q ≡ b → IsEntry bits buffers words w q → i < w
+        → is_since n (get_or stamps (begin_of bits words w q) 0) (get_or stamps (begin_of bits words w q + i) 0) ≡ true → ⊥
+    fresh q i w at e below since = elim (since-parts n _ _ since) [
+      | inl late ↦
+          (let first : begin_of bits words w q + 0 ≡ begin_of bits words w q = omega arith in
+          omega (arith, late, early q 0 w at e e.wide, ap (λ k. get_or stamps k 0) first))
+      | inr late ↦ omega (arith, late, early q i w at e below)
+    ]
 
     pub whole-handed : (q : ℕ) → is_whole (set table (b * words) width) stamps bits buffers words n q ≡ is_whole table stamps bits buffers words n q
     unfolding is_whole
     whole-handed q = elim (cases_eq (buffer_of bits q) b) [
       | inl e ↦
-          false_from_ne_true _ (λ is. let both = whole-first (set table (b * words) width) stamps bits buffers words n q room is in fresh q 0 e both.0 both.0.wide both.1)
+          false_from_ne_true _ (λ is. let both = whole-first (set table (b * words) width) stamps bits buffers words n q room is in fresh q 0 _ e both.0 both.0.wide both.1)
           ∙ sym (false_from_ne_true _ (λ is. let wide : 0 < width_in table words (buffer_of bits q) = (whole-first table stamps bits buffers words n q room is).0.wide in
           omega (arith, wide, ap (width_in table words) e, free)))
-      | inr ne ↦ ap (λ w. names_entry bits buffers words w q && list_all (λ k. eqb k n) (take w (drop (begin_of bits words w q) stamps))) (width-other (buffer_of bits q) ne)
+      | inr ne ↦
+          ap (λ w. names_entry bits buffers words w q && list_all (is_since n (get_or stamps (begin_of bits words w q) 0)) (take w (drop (begin_of bits words w q) stamps)))
+          (width-other (buffer_of bits q) ne)
     ]
 
     pub stored-handed : (q i : ℕ) → stored_in (set table (b * words) width) stamps bits buffers words n q i ≡ stored_in table stamps bits buffers words n q i
     unfolding stored_in
     stored-handed q i = elim (cases_eq (buffer_of bits q) b) [
       | inl e ↦
-          none-from _ (λ x is. let s = is_stored (set table (b * words) width) stamps bits buffers words n q i x is in fresh q i e s.entry s.inside s.stamp)
+          none-from _ (λ x is. let s = is_stored (set table (b * words) width) stamps bits buffers words n q i x is in fresh q i _ e s.entry s.inside s.stamp)
           ∙ sym (none-from _ (λ x is. let wide = (is_stored table stamps bits buffers words n q i x is).entry.wide in omega (arith, wide, ap (width_in table words) e, free)))
       | inr ne ↦
-          ap (λ w. cond (names_entry bits buffers words w q && (ltb i w && eqb (get_or stamps (begin_of bits words w q + i) 0) n)) (Some (get_or (set table (b * words) width) (begin_of bits words w q + i) 0)) None)
+          ap (λ w. cond (names_entry bits buffers words w q && (ltb i w && is_since n (get_or stamps (begin_of bits words w q) 0) (get_or stamps (begin_of bits words w q + i) 0)))
+          (Some (get_or (set table (b * words) width) (begin_of bits words w q + i) 0)) None)
           (width-other (buffer_of bits q) ne)
           ∙ cond-and _ _ _ _ _ _ _ (λ there below. (refl, ap Some (word-handed q i there below)))
     ]

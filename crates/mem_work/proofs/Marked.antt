@@ -1,17 +1,14 @@
 -- Buffers with their marks, and what each call makes of the marks.
-use Rattle.std.proofs.Common.{◌≡◌, ◌≢◌, ℕ, zero, suc, ◌+◌, ◌*◌, ◌<◌, ◌≤◌, Bool, true, false, cond, eqb, ltb, List, [], ◌∷◌, map, length, get_or, set, Option, Some, None, inl, inr, refl, sym, ap, subst, ◌∙◌, arith}
-use Rattle.std.proofs.Common.{get_or-set_same, get_or-set_other}
-use Rattle.std.specs.Option.{IfSome, IfNone}
+use Rattle.std.proofs.Common.{◌≡◌, ℕ, zero, suc, ◌+◌, ◌<◌, Bool, true, false, cond, eqb, ltb, List, map, Some, None, refl, sym, ap, subst, ◌∙◌, arith}
 use Rattle.std.proofs.Math.ListN.{replicate, get_or-map}
-use Rattle.std.proofs.lemmas.Bool.{cases_eq, cases_Bool, eq-eqb, ne_eqb, ltb-true, lt-ltb, eqb-true}
-use Rattle.arena_api.specs.Works.{WorkView, Buffer, is_free, active_width, last_tag}
-use Rattle.arena_api.specs.Calls.{IsLowestFree, handed_out, with_buffer}
+use Rattle.std.proofs.lemmas.Bool.{ltb-true, eqb-true}
+use Rattle.arena_api.specs.Works.{WorkView, Buffer, is_free, last_tag}
+use Rattle.arena_api.specs.Calls.{handed_out, with_buffer}
 use Rattle.arena_api.specs.Generations.{freed_below}
-use Rattle.mem_work.specs.Cells.{width_in, buffer_by, buffer_in}
-use Rattle.mem_work.specs.Marks.{tag_of, freed, mark_at, marked, marked_buffers, with_marks, IsHeldMark, IsMark}
+use Rattle.mem_work.specs.Cells.{buffer_by}
+use Rattle.mem_work.specs.Marks.{tag_of, freed, mark_at, marked, marked_buffers, with_marks, IsMark}
 use Rattle.mem_work.specs.declared.marks.Mark.{Mark}
 use Rattle.mem_work.specs.declared.marks.Mark.TheVariants.{Fresh, Past, Held}
-use Rattle.mem_work.specs.ProofsForMemory.{active_width-by}
 
 pub fresh-at : (n b : ℕ) → mark_at (replicate n Fresh) b ≡ Fresh
 fresh-at zero b = refl

@@ -1,18 +1,18 @@
 -- The words of an entry are replaced all at once: they stand, and what stands elsewhere stays.
-use Rattle.std.proofs.Common.{◌≡◌, ◌≢◌, ℕ, suc, ◌+◌, ◌-◌, ◌*◌, ◌<◌, ◌≤◌, ◌⊎◌, inl, inr, true, cond, ◌&&◌, eqb, List, [], ◌++◌, length, get_or, take, drop, refl, sym, ap, subst, ◌∙◌, arith, length-take, length-drop}
-use Rattle.std.proofs.Common.{length-append}
+use Rattle.std.proofs.Common.{◌≡◌, ◌≢◌, ℕ, suc, ◌+◌, ◌-◌, ◌*◌, ◌<◌, ◌≤◌, ◌⊎◌, inl, inr, true, cond, ◌&&◌, ltb, List, [], ◌++◌, length, get_or, set, take, drop, refl, sym, ap, subst, ◌∙◌, arith, length-take}
+use Rattle.std.proofs.Common.{length-drop, get_or-set_other, get_or-set_same, length-append}
 use Rattle.std.specs.List.{list_all}
-use Rattle.std.proofs.Math.ListN.{get_or-append, replicate}
+use Rattle.std.proofs.Math.ListN.{get_or-append}
 use Rattle.std.proofs.Math.Nat.{mul-le-mul_right}
-use Rattle.std.proofs.lemmas.List.{get_or-take, get_or-drop, get_or-append_right, get_or-replicate, length-replicate}
-use Rattle.std.proofs.lemmas.Bool.{cases_lt}
+use Rattle.std.proofs.lemmas.List.{get_or-take, get_or-drop, get_or-append_right}
+use Rattle.std.proofs.lemmas.Bool.{cases_eq, or_left, lt-ltb}
 use Rattle.std.proofs.lemmas.Grind.{same_number_lists}
 use Rattle.std.proofs.lemmas.Nat.{same_from_place}
 use Rattle.entry_ref.specs.References.{buffer_of, offset_of}
 use Rattle.image_base.specs.Places.{IsEntry}
 use Rattle.image_base.proofs.Apart.{within}
-use Rattle.mem_work.specs.Cells.{width_in, begin_of, with_range, names_entry, standing, is_whole}
-use Rattle.mem_work.proofs.Standing.{lacks, one_cell, not_first, cond-same, and-same}
+use Rattle.mem_work.specs.Cells.{width_in, begin_of, with_range, names_entry, standing, is_since, is_whole}
+use Rattle.mem_work.proofs.Standing.{range-set_other, lacks, one_cell, not_first, cond-same, and-same}
 use Rattle.mem_work.specs.ProofsForMemory.{names_entry-true, length-standing, word-standing}
 use Rattle.mem_work.specs.ProofsForMemory.{whole-from}
 
@@ -96,56 +96,66 @@ module _ (table : List ℕ) (bits buffers words r width : ℕ) (is : width_in ta
       word-standing t bits buffers words r k f below ∙ ap (λ w. get_or t (begin_of bits words w r + k) 0) now
       ∙ range-at table (begin_of bits words width r) ws width long place-fits k (omega (arith, below, now)))
 
-  -- beside each of them a number is put
+  -- the stamp where it begins is set
   module _ (stamps : List ℕ) (n : ℕ) (also : length stamps ≡ buffers * words) where
-    stamps-fit : begin_of bits words width r + width ≤ length stamps
-    stamps-fit = range-fits bits buffers words width r (length stamps) e also
+    place-below : begin_of bits words width r < length stamps
+    place-below = omega (arith, range-fits bits buffers words width r (length stamps) e also, e.wide)
 
-    stamp-at : (i : ℕ) → i < width → get_or (with_range stamps (begin_of bits words width r) (replicate width n)) (begin_of bits words width r + i) 0 ≡ n
-    stamp-at i h =
-        range-at stamps (begin_of bits words width r) (replicate width n) width (length-replicate width n) stamps-fit i h ∙ get_or-replicate width i n 0 h
+    -- no other entry has its place
+    elsewhere : (q j : ℕ) → q ≢ r → names_entry bits buffers words (width_in table words (buffer_of bits q)) q ≡ true → j < width_in table words (buffer_of bits q)
+        → begin_of bits words width r ≢ begin_of bits words (width_in table words (buffer_of bits q)) q + j
+    elsewhere q j ne there below same =
+        let w = width_in table words (buffer_of bits q) in
+        ne (one_cell bits buffers words w width q r j 0 (names_entry-true bits buffers words w q there) e (λ b. ap (width_in table words) b ∙ is) below e.wide (omega (arith, same))).0
 
     -- whether another was stored whole stays
-    pub whole-elsewhere : (q : ℕ) → q ≢ r
-        → is_whole (with_range table (begin_of bits words width r) ws) (with_range stamps (begin_of bits words width r) (replicate width n)) bits buffers words n q ≡ is_whole table stamps bits buffers words n q
+    pub whole-elsewhere : (m q : ℕ) → q ≢ r
+        → is_whole (with_range table (begin_of bits words width r) ws) (set stamps (begin_of bits words width r) n) bits buffers words m q ≡ is_whole table stamps bits buffers words m q
     unfolding is_whole
-    whole-elsewhere q ne =
-        ap (λ w. names_entry bits buffers words w q && list_all (λ k. eqb k n) (take w (drop (begin_of bits words w q) (with_range stamps (begin_of bits words width r) (replicate width n)))))
-        (width-range (buffer_of bits q))
-        ∙ and-same _ _ _ (λ there. ap (list_all (λ k. eqb k n)) (range-apart stamps (replicate width n) q also (length-replicate width n) ne there))
+    whole-elsewhere m q ne =
+        let here = begin_of bits words width r in
+        let s = set stamps here n in
+        ap (λ w. names_entry bits buffers words w q && list_all (is_since m (get_or s (begin_of bits words w q) 0)) (take w (drop (begin_of bits words w q) s))) (width-range (buffer_of bits q))
+        ∙ and-same _ _ _ (λ there.
+        let w = width_in table words (buffer_of bits q) in
+        let from = begin_of bits words w q in
+        let f = names_entry-true bits buffers words w q there in
+        let apart : from ≢ here = (λ same. elsewhere q 0 ne there f.wide (omega (arith, same))) in
+        ap (λ x. list_all (is_since m x) (take w (drop from s))) (get_or-set_other stamps here from n 0 apart)
+        ∙ ap (list_all (is_since m (get_or stamps from 0))) (range-set_other stamps here from w n (lacks here from w (λ j h same. elsewhere q j ne there h same))))
 
-    -- and the entry was
-    pub whole-range : is_whole (with_range table (begin_of bits words width r) ws) (with_range stamps (begin_of bits words width r) (replicate width n)) bits buffers words n r ≡ true
-    whole-range =
+    -- and the entry was, if its stamp is past that
+    pub whole-range : (m : ℕ) → m < n → is_whole (with_range table (begin_of bits words width r) ws) (set stamps (begin_of bits words width r) n) bits buffers words m r ≡ true
+    whole-range m late =
         let t = with_range table (begin_of bits words width r) ws in
-        let s = with_range stamps (begin_of bits words width r) (replicate width n) in
+        let s = set stamps (begin_of bits words width r) n in
         let now : width_in t words (buffer_of bits r) ≡ width = width-range (buffer_of bits r) ∙ is in
-        whole-from t s bits buffers words n r (subst (λ w. IsEntry bits buffers words w r) (sym now) e) (λ i h.
-        ap (λ w. get_or s (begin_of bits words w r + i) 0) now ∙ stamp-at i (omega (arith, h, now)))
+        whole-from t s bits buffers words m r (subst (λ w. IsEntry bits buffers words w r) (sym now) e) (λ i h.
+        let first = get_or s (begin_of bits words (width_in t words (buffer_of bits r)) r) 0 in
+        or_left (ltb m first) _ (lt-ltb m first (omega (
+          arith,
+          late,
+          ap (λ w. get_or s (begin_of bits words w r) 0) now,
+          get_or-set_same stamps (begin_of bits words width r) n 0 place-below,
+        ))))
 
-    -- no number is beyond the highest
-    pub stamps-range : ((p : ℕ) → get_or stamps p 0 ≤ n) → (p : ℕ) → get_or (with_range stamps (begin_of bits words width r) (replicate width n)) p 0 ≤ n
-    stamps-range old p = elim (cases_lt p (begin_of bits words width r)) [
-      | inl h ↦ omega (arith, old p, range-elsewhere stamps (begin_of bits words width r) (replicate width n) width (length-replicate width n) stamps-fit p (inl h))
-      | inr h ↦ elim (cases_lt p (begin_of bits words width r + width)) [
-        | inl g ↦
-            (let at : begin_of bits words width r + (p - begin_of bits words width r) ≡ p = omega (arith, h) in
-            omega (
-              arith,
-              ap (λ k. get_or (with_range stamps (begin_of bits words width r) (replicate width n)) k 0) at,
-              stamp-at (p - begin_of bits words width r) (omega (arith, g, h)),
-            ))
-        | inr g ↦ omega (arith, old p, range-elsewhere stamps (begin_of bits words width r) (replicate width n) width (length-replicate width n) stamps-fit p (inr g))
-      ]
+    -- no stamp is beyond the highest
+    pub stamps-range : ((p : ℕ) → get_or stamps p 0 ≤ n) → (p : ℕ) → get_or (set stamps (begin_of bits words width r) n) p 0 ≤ n
+    stamps-range old p = elim (cases_eq p (begin_of bits words width r)) [
+      | inl same ↦
+          omega (arith, ap (λ k. get_or (set stamps (begin_of bits words width r) n) k 0) same, get_or-set_same stamps (begin_of bits words width r) n 0 place-below)
+      | inr ne ↦ omega (arith, old p, get_or-set_other stamps (begin_of bits words width r) p n 0 ne)
     ]
 
     -- those in a free buffer stay
-    pub unused-range : (m : ℕ) → ((b x : ℕ) → x < words → width_in table words b ≡ 0 → get_or stamps (b * words + x) 0 ≤ m)
+    pub unused-range : (m : ℕ) → ((b x : ℕ) → x < words → width_in table words b ≡ 0 → get_or stamps (b * words + x) 0 < m)
         → (b x : ℕ) → x < words → width_in (with_range table (begin_of bits words width r) ws) words b ≡ 0
-        → get_or (with_range stamps (begin_of bits words width r) (replicate width n)) (b * words + x) 0 ≤ m
+        → get_or (set stamps (begin_of bits words width r) n) (b * words + x) 0 < m
     unused-range m old b x below free =
         let none : width_in table words b ≡ 0 = sym (width-range b) ∙ free in
-        let outside = lacks (b * words + x) (begin_of bits words width r) width (λ j h same.
-        let one = (same_from_place b x (buffer_of bits r) (offset_of bits r * width + j) words below (within e j h).1 (omega (arith, same))).0 in
-        omega (arith, h, ap (width_in table words) one, none, is)) in
-        omega (arith, old b x below none, range-elsewhere stamps (begin_of bits words width r) (replicate width n) width (length-replicate width n) stamps-fit (b * words + x) outside)
+        let ne : b * words + x ≢ begin_of bits words width r =
+        (λ same.
+        let wide = e.wide in
+        let one = (same_from_place b x (buffer_of bits r) (offset_of bits r * width + 0) words below (within e 0 wide).1 (omega (arith, same))).0 in
+        omega (arith, wide, ap (width_in table words) one, none, is)) in
+        omega (arith, old b x below none, get_or-set_other stamps (begin_of bits words width r) (b * words + x) n 0 ne)

@@ -1,5 +1,5 @@
 -- What a work in memory knows, and which records it has, after each call.
-use Rattle.std.proofs.Common.{◌≡◌, ◌≢◌, ℕ, zero, suc, ◌+◌, ◌*◌, ◌<◌, ◌≤◌, inl, inr, true, false, cond, List, [], length, take, drop, length-take, length-drop, get_or, set, Option, Some, None, refl, sym, ap, subst, ◌∙◌}
+use Rattle.std.proofs.Common.{◌≡◌, ◌≢◌, ℕ, suc, ◌+◌, ◌*◌, ◌<◌, ◌≤◌, inl, inr, true, false, cond, List, [], length, take, drop, length-take, length-drop, get_or, set, max, Option, Some, None, refl, sym, ap, subst, ◌∙◌}
 use Rattle.std.proofs.Common.{arith, get_or-set_same, get_or-set_other}
 use Rattle.std.specs.Option.{IfSome, IfNone}
 use Rattle.std.proofs.Math.Nat.{mul-le-mul_right}
@@ -15,16 +15,15 @@ use Rattle.image_base.specs.Images.{no_image, words_at, image_of}
 use Rattle.image_base.proofs.Apart.{within}
 use Rattle.image_base.specs.Places.{IsEntry}
 use Rattle.image_base.specs.Records.{Records, SameAt, AllThere}
-use Rattle.arena_api.specs.Works.{is_free}
 use Rattle.arena_api.specs.Calls.{next_image, with_stored, handed_out, published, AddsCommit, IsLowestFree, opened}
-use Rattle.mem_work.specs.Cells.{width_in, begin_of, standing, is_whole, stored_in, image_in, records_in, buffer_by, buffer_in, memory_view, sizes_of}
+use Rattle.mem_work.specs.Cells.{width_in, begin_of, standing, stamp_of, is_since, is_whole, stored_in, image_in, records_in, buffer_by, buffer_in, memory_view, sizes_of}
 use Rattle.mem_work.specs.Marks.{mark_at, marked, marked_buffers, with_marks, IsMark}
 use Rattle.mem_work.specs.declared.marks.Mark.{Mark}
 use Rattle.mem_work.specs.declared.marks.Mark.TheVariants.{Fresh}
 use Rattle.mem_work.proofs.Marked.{fresh-at, free-width, mark-handed, with_marks-handed}
 use Rattle.mem_work.specs.ProofsForMemory.{standing-entry, length-standing, word-standing}
 use Rattle.mem_work.proofs.Standing.{standing-other, whole-other, stored-store, width-store, cond-same, cell-below}
-use Rattle.mem_work.proofs.Standing.{whole-first}
+use Rattle.mem_work.proofs.Standing.{raised, since-parts, whole-first}
 use Rattle.mem_work.specs.ProofsForMemory.{is_stored}
 use Rattle.image_base.proofs.Pairs.{words-found, same-from, there-among}
 use Rattle.arena_api.proofs.Reached.{image-same, lawful-kept, next_image-kept}
@@ -52,44 +51,48 @@ module _ (reaches : ℕ → Records → ℕ → List ℕ) (lawful : ℕ → Reco
 
     pub view-store : length table ≡ buffers * words → length stamps ≡ buffers * words
         → memory_view reaches shape (set table (begin_of bits words (width_in table words (buffer_of bits r)) r + i) v)
-        (set stamps (begin_of bits words (width_in table words (buffer_of bits r)) r + i) (last + 1)) bits buffers words last root
-        ≡ record (memory_view reaches shape table stamps bits buffers words last root) { stored = with_stored (stored_in table stamps bits buffers words (last + 1)) r i v }
+        (raised stamps (begin_of bits words (width_in table words (buffer_of bits r)) r + i) (stamp_of (last + 1))) bits buffers words last root
+        ≡ record (memory_view reaches shape table stamps bits buffers words last root) { stored = with_stored (stored_in table stamps bits buffers words (stamp_of (last + 1))) r i v }
     view-store room also = λ k. record (memory_view reaches shape table stamps bits buffers words last root) {
       buffer = λ b. buffer_by (width-store table bits buffers words r i e h v b k);
       commits = record { floor = last; last = last; image = λ n. image-store k };
-      stored = λ q j. stored-store table bits buffers words r i e h stamps v (last + 1) q j room also k;
+      stored = λ q j. stored-store table bits buffers words r i e h stamps v (stamp_of (last + 1)) q j room also k;
     }
 
-    pub records-store : (q : ℕ) → q ≢ r
+    pub records-store : length stamps ≡ buffers * words → (q : ℕ) → q ≢ r
         → records_in reaches shape (set table (begin_of bits words (width_in table words (buffer_of bits r)) r + i) v)
-        (set stamps (begin_of bits words (width_in table words (buffer_of bits r)) r + i) (last + 1)) bits buffers words last root q
+        (raised stamps (begin_of bits words (width_in table words (buffer_of bits r)) r + i) (stamp_of (last + 1))) bits buffers words last root q
         ≡ records_in reaches shape table stamps bits buffers words last root q
-    records-store q ne =
+    records-store also q ne =
         ap (λ t. cond t (standing (set table (begin_of bits words (width_in table words (buffer_of bits r)) r + i) v) bits buffers words q)
         (words_at (image_in reaches shape (set table (begin_of bits words (width_in table words (buffer_of bits r)) r + i) v) bits buffers words root) q))
-        (whole-other table bits buffers words r i e h stamps v (last + 1) q ne)
-        ∙ ap (λ ws. cond (is_whole table stamps bits buffers words (last + 1) q) ws
+        (whole-other table bits buffers words r i e h stamps v (stamp_of (last + 1)) q also ne)
+        ∙ ap (λ ws. cond (is_whole table stamps bits buffers words (stamp_of (last + 1)) q) ws
         (words_at (image_in reaches shape (set table (begin_of bits words (width_in table words (buffer_of bits r)) r + i) v) bits buffers words root) q))
         (standing-other table bits buffers words r i e h v q ne)
-        ∙ ap (λ image. cond (is_whole table stamps bits buffers words (last + 1) q) (standing table bits buffers words q) (words_at image q)) image-store
+        ∙ ap (λ image. cond (is_whole table stamps bits buffers words (stamp_of (last + 1)) q) (standing table bits buffers words q) (words_at image q)) image-store
 
-  -- the numbers beside the words after a store
+  -- the stamps after a store
   module _ (r i : ℕ) (e : IsEntry bits buffers words (width_in table words (buffer_of bits r)) r) (h : i < width_in table words (buffer_of bits r)) (also : length stamps ≡ buffers * words) where
-    pub stamps-store : ((p : ℕ) → get_or stamps p 0 ≤ last + 1) → (p : ℕ) → get_or (set stamps (begin_of bits words (width_in table words (buffer_of bits r)) r + i) (last + 1)) p 0 ≤ last + 1
-    stamps-store old p = elim (cases_eq p (begin_of bits words (width_in table words (buffer_of bits r)) r + i)) [
-      | inl same ↦
-          subst (λ q. get_or (set stamps (begin_of bits words (width_in table words (buffer_of bits r)) r + i) (last + 1)) q 0 ≤ last + 1) (sym same)
-          (omega (
-            arith,
-            get_or-set_same stamps (begin_of bits words (width_in table words (buffer_of bits r)) r + i) (last + 1) 0
-                (omega (arith, cell-below bits buffers words (width_in table words (buffer_of bits r)) r i e h, also)),
-          ))
-      | inr ne ↦ omega (arith, old p, get_or-set_other stamps _ p (last + 1) 0 ne)
-    ]
+    pub stamps-store : ((p : ℕ) → get_or stamps p 0 ≤ stamp_of (last + 1) + 1)
+        → (p : ℕ) → get_or (raised stamps (begin_of bits words (width_in table words (buffer_of bits r)) r + i) (stamp_of (last + 1))) p 0 ≤ stamp_of (last + 1) + 1
+    stamps-store old p =
+        let place = begin_of bits words (width_in table words (buffer_of bits r)) r + i in
+        elim (cases_eq p place) [
+          | inl same ↦
+              subst (λ q. get_or (raised stamps place (stamp_of (last + 1))) q 0 ≤ stamp_of (last + 1) + 1) (sym same)
+              (omega (
+                arith,
+                old place,
+                get_or-set_same stamps place (max (get_or stamps place 0) (stamp_of (last + 1))) 0
+                    (omega (arith, cell-below bits buffers words (width_in table words (buffer_of bits r)) r i e h, also)),
+              ))
+          | inr ne ↦ omega (arith, old p, get_or-set_other stamps place p (max (get_or stamps place 0) (stamp_of (last + 1))) 0 ne)
+        ]
 
-    pub unused-store : (v : ℕ) → ((b x : ℕ) → x < words → width_in table words b ≡ 0 → get_or stamps (b * words + x) 0 ≤ last)
+    pub unused-store : (v : ℕ) → ((b x : ℕ) → x < words → width_in table words b ≡ 0 → get_or stamps (b * words + x) 0 < stamp_of (last + 1))
         → (b x : ℕ) → x < words → width_in (set table (begin_of bits words (width_in table words (buffer_of bits r)) r + i) v) words b ≡ 0
-        → get_or (set stamps (begin_of bits words (width_in table words (buffer_of bits r)) r + i) (last + 1)) (b * words + x) 0 ≤ last
+        → get_or (raised stamps (begin_of bits words (width_in table words (buffer_of bits r)) r + i) (stamp_of (last + 1))) (b * words + x) 0 < stamp_of (last + 1)
     unused-store v old b x below free =
         let none : width_in table words b ≡ 0 = sym (width-store table bits buffers words r i e h v b) ∙ free in
         let ne : b * words + x ≢ begin_of bits words (width_in table words (buffer_of bits r)) r + i =
@@ -97,14 +100,12 @@ module _ (reaches : ℕ → Records → ℕ → List ℕ) (lawful : ℕ → Reco
         let w = width_in table words (buffer_of bits r) in
         let one = (same_from_place b x (buffer_of bits r) (offset_of bits r * w + i) words below (within e i h).1 (omega (arith, same))).0 in
         omega (arith, h, ap (width_in table words) one, none)) in
-        omega (arith, old b x below none, get_or-set_other stamps _ (b * words + x) (last + 1) 0 ne)
+        let place = begin_of bits words (width_in table words (buffer_of bits r)) r + i in
+        omega (arith, old b x below none, get_or-set_other stamps place (b * words + x) (max (get_or stamps place 0) (stamp_of (last + 1))) 0 ne)
 
   -- a free buffer gets a width
   module _ (b width : ℕ) (free : width_in table words b ≡ 0) (some : 0 < words) (inside : b * words < length table) (wide : 0 < width)
-      (room : length stamps ≡ buffers * words) (none : (x : ℕ) → x < words → get_or stamps (b * words + x) 0 ≤ last) where
-    none_stored : (x : ℕ) → x < words → get_or stamps (b * words + x) 0 ≢ last + 1
-    none_stored x h same = omega (arith, none x h, same)
-
+      (room : length stamps ≡ buffers * words) (none : (x : ℕ) → x < words → get_or stamps (b * words + x) 0 < stamp_of (last + 1)) where
     kept-handed : (q : ℕ) → 0 < length (words_at (image_in reaches shape table bits buffers words root) q)
         → standing (set table (b * words) width) bits buffers words q ≡ standing table bits buffers words q
     kept-handed q there =
@@ -125,20 +126,20 @@ module _ (reaches : ℕ → Records → ℕ → List ℕ) (lawful : ℕ → Reco
     view-handed = λ k. record (memory_view reaches shape table stamps bits buffers words last root) {
       buffer = λ a. buffers-handed table bits buffers words b width free some inside wide a k;
       commits = record { floor = last; last = last; image = λ n. image-handed k };
-      stored = λ q i. stored-handed table bits buffers words b width free some inside wide stamps (last + 1) room none_stored q i k;
+      stored = λ q i. stored-handed table bits buffers words b width free some inside wide stamps (stamp_of (last + 1)) room none q i k;
     }
 
     pub records-handed : (q : ℕ) → records_in reaches shape (set table (b * words) width) stamps bits buffers words last root q ≡ records_in reaches shape table stamps bits buffers words last root q
     records-handed q =
         ap (λ t. cond t (standing (set table (b * words) width) bits buffers words q) (words_at (image_in reaches shape (set table (b * words) width) bits buffers words root) q))
-        (whole-handed table bits buffers words b width free some inside wide stamps (last + 1) room none_stored q)
-        ∙ ap (λ image. cond (is_whole table stamps bits buffers words (last + 1) q) (standing (set table (b * words) width) bits buffers words q) (words_at image q)) image-handed
+        (whole-handed table bits buffers words b width free some inside wide stamps (stamp_of (last + 1)) room none q)
+        ∙ ap (λ image. cond (is_whole table stamps bits buffers words (stamp_of (last + 1)) q) (standing (set table (b * words) width) bits buffers words q) (words_at image q)) image-handed
         ∙ cond-same _ _ _ _ (λ is.
-        let e = (whole-first table stamps bits buffers words (last + 1) q room is).0 in
+        let e = (whole-first table stamps bits buffers words (stamp_of (last + 1)) q room is).0 in
         standing-handed table bits buffers words b width free some inside wide q (λ same. let at = e.wide in omega (arith, at, ap (width_in table words) same, free)))
 
   -- a root is published
-  module _ (next : ℕ) (room : length stamps ≡ buffers * words) (old : (p : ℕ) → get_or stamps p 0 ≤ last + 1)
+  module _ (next : ℕ) (room : length stamps ≡ buffers * words) (old : (p : ℕ) → get_or stamps p 0 ≤ stamp_of (last + 1) + 1)
       (law' : lawful shape (records_in reaches shape table stamps bits buffers words last root) next) where
     same-read : SameAt (reaches shape (records_in reaches shape table stamps bits buffers words last root) next) (records_in reaches shape table stamps bits buffers words last root) (standing table bits buffers words)
     same-read = same-from _ _ (standing table bits buffers words) (λ q among.
@@ -151,13 +152,20 @@ module _ (reaches : ℕ → Records → ℕ → List ℕ) (lawful : ℕ → Reco
     pub lawful-publish : ∥ lawful shape (standing table bits buffers words) next ∥₁
     lawful-publish = ∣ both.0 ∣₁
 
-    none_whole : (q : ℕ) → is_whole table stamps bits buffers words (last + 1 + 1) q ≡ false
-    none_whole q = false_from_ne_true _ (λ is. let first = (whole-first table stamps bits buffers words (last + 1 + 1) q room is).1 in
-        omega (arith, old (begin_of bits words (width_in table words (buffer_of bits q)) q + 0), first))
+    none_since : (q i : ℕ) → is_since (stamp_of (last + 1 + 1)) (get_or stamps (begin_of bits words (width_in table words (buffer_of bits q)) q) 0)
+        (get_or stamps (begin_of bits words (width_in table words (buffer_of bits q)) q + i) 0) ≡ true → ⊥
+    none_since q i since =
+        let begin = begin_of bits words (width_in table words (buffer_of bits q)) q in
+        elim (since-parts (stamp_of (last + 1 + 1)) (get_or stamps begin 0) (get_or stamps (begin + i) 0) since) [
+          | inl late ↦ omega (arith, late, old begin)
+          | inr late ↦ omega (arith, late, old (begin + i))
+        ]
 
-    none_stored_yet : (q i : ℕ) → stored_in table stamps bits buffers words (last + 1 + 1) q i ≡ None
-    none_stored_yet q i = none-from _ (λ x is. let stamp = (is_stored table stamps bits buffers words (last + 1 + 1) q i x is).stamp in
-        omega (arith, old (begin_of bits words (width_in table words (buffer_of bits q)) q + i), stamp))
+    none_whole : (q : ℕ) → is_whole table stamps bits buffers words (stamp_of (last + 1 + 1)) q ≡ false
+    none_whole q = false_from_ne_true _ (λ is. none_since q 0 (whole-first table stamps bits buffers words (stamp_of (last + 1 + 1)) q room is).1)
+
+    none_stored_yet : (q i : ℕ) → stored_in table stamps bits buffers words (stamp_of (last + 1 + 1)) q i ≡ None
+    none_stored_yet q i = none-from _ (λ x is. none_since q i (is_stored table stamps bits buffers words (stamp_of (last + 1 + 1)) q i x is).stamp)
 
     pub records-publish : (q : ℕ) → records_in reaches shape table stamps bits buffers words (last + 1) next q
         ≡ words_at (next_image reaches shape (records_in reaches shape table stamps bits buffers words last root) next) q
@@ -207,7 +215,7 @@ module _ (reaches : ℕ → Records → ℕ → List ℕ) (lawful : ℕ → Reco
 
   -- a buffer is handed out, or none is
   module _ (marks : List Mark) (width : ℕ) (wide : 0 < width) (some : 0 < words) (room : length table ≡ buffers * words) (also : length stamps ≡ buffers * words)
-      (unused : (b x : ℕ) → x < words → width_in table words b ≡ 0 → get_or stamps (b * words + x) 0 ≤ last) where
+      (unused : (b x : ℕ) → x < words → width_in table words b ≡ 0 → get_or stamps (b * words + x) 0 < stamp_of (last + 1)) where
     first-inside : (b : ℕ) → b < buffers → b * words < length table
     first-inside b below =
         let more : suc b * words ≤ buffers * words = mul-le-mul_right words below in
@@ -253,7 +261,7 @@ module _ (reaches : ℕ → Records → ℕ → List ℕ) (lawful : ℕ → Reco
         (lawful-handed b width free some (first-inside b low.below) wide also (λ x h. unused b x h free))
 
     pub hand_out-unused : (o : Option ℕ) (t : List ℕ) → IfSome o (IsLowestFree (marked_buffers marks (buffer_in table words)) buffers) → IfSome o (λ b. t ≡ set table (b * words) width) → IfNone o (t ≡ table)
-        → (b x : ℕ) → x < words → width_in t words b ≡ 0 → get_or stamps (b * words + x) 0 ≤ last
+        → (b x : ℕ) → x < words → width_in t words b ≡ 0 → get_or stamps (b * words + x) 0 < stamp_of (last + 1)
     hand_out-unused None t low at same b x h free = unused b x h (subst (λ (ws : List ℕ). width_in ws words b ≡ 0) same free)
     hand_out-unused (Some a) t low at same b x h free =
         unused b x h (elim (cases_eq b a) [
@@ -279,12 +287,12 @@ module _ (reaches : ℕ → Records → ℕ → List ℕ) (empty : (shape : ℕ)
     buffer = λ b. marked (fresh-at buffers b k) (buffer_by (slice_index-zeros n (b * words) k));
     commits = record { floor = 0; last = 0; image = λ m. no_image-opened k };
     stored = λ r i.
-        none-from (stored_in (zeros n) (zeros n) bits buffers words (0 + 1) r i) (λ x is.
-        let wide = (is_stored (zeros n) (zeros n) bits buffers words (0 + 1) r i x is).entry.wide in omega (arith, wide, slice_index-zeros n (buffer_of bits r * words))) k;
+        none-from (stored_in (zeros n) (zeros n) bits buffers words (stamp_of (0 + 1)) r i) (λ x is.
+        let wide = (is_stored (zeros n) (zeros n) bits buffers words (stamp_of (0 + 1)) r i x is).entry.wide in omega (arith, wide, slice_index-zeros n (buffer_of bits r * words))) k;
   }
 
   pub records-opened : (r : ℕ) → records_in reaches shape (zeros n) (zeros n) bits buffers words 0 0 r ≡ []
   records-opened r =
       cond-false _ _ _ (false_from_ne_true _ (λ is.
-      let wide = (whole-first (zeros n) (zeros n) bits buffers words (0 + 1) r (length-zeros n ∙ room) is).0.wide in omega (arith, wide, slice_index-zeros n (buffer_of bits r * words))))
+      let wide = (whole-first (zeros n) (zeros n) bits buffers words (stamp_of (0 + 1)) r (length-zeros n ∙ room) is).0.wide in omega (arith, wide, slice_index-zeros n (buffer_of bits r * words))))
       ∙ ap (λ image. words_at image r) no_image-opened

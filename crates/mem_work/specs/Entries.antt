@@ -1,17 +1,17 @@
--- The entries of a memory: all, or those that were stored whole under one number.
+-- The entries of a memory: all, or those that were stored whole since a stamp.
 use Rattle.std.specs.Prelude.{ℕ, Bool, true, nat_eq, if◌then◌else◌, List, [], ◌∷◌, Option, Some, None}
 use Rattle.image_base.specs.Records.{Records}
 use Rattle.mem_work.specs.Cells.{standing, is_whole}
 
--- whether each word of an entry was stored under this number, if one is given
+-- whether each word of an entry was stored since this stamp, if one is given
 abbrev pub is_chosen : Option ℕ → List ℕ → List ℕ → ℕ → ℕ → ℕ → ℕ → Bool
 is_chosen None table stamps bits buffers words r = true
-is_chosen (Some number) table stamps bits buffers words r = is_whole table stamps bits buffers words number r
+is_chosen (Some since) table stamps bits buffers words r = is_whole table stamps bits buffers words since r
 
 -- those entries with their words
 abbrev pub chosen : Option ℕ → List ℕ → List ℕ → ℕ → ℕ → ℕ → Records
-chosen number table stamps bits buffers words r =
-    if is_chosen number table stamps bits buffers words r then standing table bits buffers words r else []
+chosen since table stamps bits buffers words r =
+    if is_chosen since table stamps bits buffers words r then standing table bits buffers words r else []
 
 -- records with those of these references in their place
 abbrev pub with_those : List ℕ → Records → Records → Records

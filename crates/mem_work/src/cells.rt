@@ -1,4 +1,4 @@
-ghost use Rattle.std.specs.Prelude.{◌≡◌, ◌↔◌, ◌<◌, ◌≤◌, ◌+◌, ◌*◌, ℕ, [], IsNone, IfSome, IfNone, IfOk, length, vec_len, slice_index};
+ghost use Rattle.std.specs.Prelude.{◌≡◌, ◌↔◌, ◌<◌, ◌≤◌, ◌+◌, ◌*◌, max, ℕ, [], IsNone, IfSome, IfNone, IfOk, length, vec_len, slice_index};
 ghost use Rattle.std.specs.Prelude.{slice_set, take, drop, map, replicate};
 ghost use Rattle.entry_ref.specs.References.{buffer_of, buffer_limit, offset_limit};
 ghost use Rattle.image_base.specs.Places.{IsEntry};
@@ -12,7 +12,7 @@ use crate::marks::Mark;
 use entry_ref::EntryRef;
 use std::alloc::{AllocError, Global};
 
-/// The words of all buffers, each with the number under which it was last stored.
+/// The words of all buffers, and stamps that tell under which commit they were last stored.
 #[derive(Drop)]
 pub struct Cells<const OFFSET_BITS: u32> {
     pub buffers: u32,
@@ -98,8 +98,8 @@ impl<const OFFSET_BITS: u32> Cells<OFFSET_BITS> {
         into.copy_from_slice(&self.table[from..from + into.len()]);
     }
 
-    /// Stores a word under a number.
-    pub fn store(&mut self, entry: EntryRef<OFFSET_BITS>, i: u32, word: u64, number: u64)
+    /// Stores a word under a stamp.
+    pub fn store(&mut self, entry: EntryRef<OFFSET_BITS>, i: u32, word: u64, stamp: u64)
         requires entry { IsEntry OFFSET_BITS self.old.buffers self.old.words
             (width_in self.old.table.items self.old.words (buffer_of OFFSET_BITS entry)) entry }
         requires inside { i < width_in self.old.table.items self.old.words (buffer_of OFFSET_BITS entry) }
@@ -108,24 +108,26 @@ impl<const OFFSET_BITS: u32> Cells<OFFSET_BITS> {
             (width_in self.old.table.items self.old.words (buffer_of OFFSET_BITS entry.entry)) entry.entry + i) word }
         ensures stamps { self.new.stamps.items ≡ slice_set self.old.stamps.items
             (begin_of OFFSET_BITS self.old.words
-            (width_in self.old.table.items self.old.words (buffer_of OFFSET_BITS entry.entry)) entry.entry + i) number }
+            (width_in self.old.table.items self.old.words (buffer_of OFFSET_BITS entry.entry)) entry.entry + i)
+            (max (slice_index self.old.stamps.items (begin_of OFFSET_BITS self.old.words
+            (width_in self.old.table.items self.old.words (buffer_of OFFSET_BITS entry.entry)) entry.entry + i)) stamp) }
         ensures marks { self.new.marks.items ≡ self.old.marks.items }
         ensures buffers { self.new.buffers ≡ self.old.buffers }
         ensures words { self.new.words ≡ self.old.words }
     {
         let place = self.place(entry, i);
         self.table[place] = word;
-        self.stamps[place] = number;
+        self.stamps[place] = later(self.stamps[place], stamp);
     }
 
-    /// Stores the words of an entry, and zeros after them, under a number.
-    pub fn put(&mut self, entry: EntryRef<OFFSET_BITS>, width: u32, words: &[u64], number: u64)
+    /// Stores the words of an entry, and zeros after them, under one stamp.
+    pub fn put(&mut self, entry: EntryRef<OFFSET_BITS>, width: u32, words: &[u64], stamp: u64)
         requires entry { IsEntry OFFSET_BITS self.old.buffers self.old.words width entry }
         requires fits { length words.now ≤ width }
         ensures table { self.new.table.items ≡ with_range self.old.table.items (begin_of OFFSET_BITS self.old.words width entry.entry)
             (padded words.now width) }
-        ensures stamps { self.new.stamps.items ≡ with_range self.old.stamps.items (begin_of OFFSET_BITS self.old.words width entry.entry)
-            (replicate width number) }
+        ensures stamps { self.new.stamps.items
+            ≡ slice_set self.old.stamps.items (begin_of OFFSET_BITS self.old.words width entry.entry) stamp }
         ensures marks { self.new.marks.items ≡ self.old.marks.items }
         ensures buffers { self.new.buffers ≡ self.old.buffers }
         ensures words { self.new.words ≡ self.old.words }
@@ -134,7 +136,7 @@ impl<const OFFSET_BITS: u32> Cells<OFFSET_BITS> {
         let first = buffer + entry.offset() as usize * width as usize;
         let end = first + width as usize;
         write_padded(&mut self.table[first..end], words);
-        self.stamps[first..end].fill(number);
+        self.stamps[first] = stamp;
     }
 
     /// Takes the free buffer of lowest number, by giving it a width.
@@ -215,6 +217,13 @@ impl<const OFFSET_BITS: u32> Cells<OFFSET_BITS> {
             self.marks[i] = mark;
         }
     }
+}
+
+/// The later of two stamps.
+fn later(a: u64, b: u64) -> u64
+    ensures { result ≡ max a b }
+{
+    if a < b { b } else { a }
 }
 
 /// The given words, and zeros after them.

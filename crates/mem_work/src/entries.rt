@@ -1,10 +1,10 @@
-ghost use Rattle.std.specs.Prelude.{◌≡◌, ◌≢◌, ◌<◌, ◌+◌, ℕ, IfOk, OnOk, [], nat_eq, take, drop};
+ghost use Rattle.std.specs.Prelude.{◌≡◌, ◌≢◌, ◌<◌, ◌+◌, ℕ, IfOk, OnOk, [], length, slice_index, take, drop};
 ghost use Rattle.std.specs.List.{list_all};
 ghost use Rattle.entry_ref.specs.References.{buffer_of};
 ghost use Rattle.image_base.specs.Places.{IsEntry};
 ghost use Rattle.image_base.specs.Before.{those_before};
 ghost use Rattle.image_base.specs.Maps.{seen};
-ghost use Rattle.mem_work.specs.Cells.{width_in, begin_of, standing};
+ghost use Rattle.mem_work.specs.Cells.{width_in, begin_of, standing, is_since};
 ghost use Rattle.mem_work.specs.Entries.{is_chosen, chosen};
 
 use crate::cells::Cells;
@@ -14,18 +14,18 @@ use std::alloc::{AllocError, Global};
 use std::collections::BTreeMap;
 
 impl<const OFFSET_BITS: u32> Cells<OFFSET_BITS> {
-    /// Every entry with its words; where a number is given, those of which each word was stored under it.
+    /// Every entry with its words; where a stamp is given, those of which each word was stored since it.
     pub fn entries(
         &self,
         alloc: Global,
-        number: Option<u64>,
+        since: Option<u64>,
     ) -> Result<BTreeMap<u32, Vec<u64>>, AllocError>
         ensures { IfOk result (λ map. (q : ℕ) → seen map q
-            ≡ chosen number self.now.table.items self.now.stamps.items OFFSET_BITS self.now.buffers self.now.words q) }
+            ≡ chosen since self.now.table.items self.now.stamps.items OFFSET_BITS self.now.buffers self.now.words q) }
     {
         let mut map = BTreeMap::new(alloc);
         for buffer in 0..self.buffers {
-            self.add_entries(alloc, buffer, number, &mut map)?;
+            self.add_entries(alloc, buffer, since, &mut map)?;
         }
         Ok(map)
     }
@@ -35,14 +35,14 @@ impl<const OFFSET_BITS: u32> Cells<OFFSET_BITS> {
         &self,
         alloc: Global,
         buffer: u32,
-        number: Option<u64>,
+        since: Option<u64>,
         map: &mut BTreeMap<u32, Vec<u64>>,
     ) -> Result<(), AllocError>
         requires inside { buffer < self.now.buffers }
         requires before { (q : ℕ) → seen map.old q ≡ those_before OFFSET_BITS
-            (chosen number self.now.table.items self.now.stamps.items OFFSET_BITS self.now.buffers self.now.words) buffer 0 q }
+            (chosen since self.now.table.items self.now.stamps.items OFFSET_BITS self.now.buffers self.now.words) buffer 0 q }
         ensures entries { OnOk result ((q : ℕ) → seen map.new q ≡ those_before OFFSET_BITS
-            (chosen number self.now.table.items self.now.stamps.items OFFSET_BITS self.now.buffers self.now.words) (buffer + 1) 0 q) }
+            (chosen since self.now.table.items self.now.stamps.items OFFSET_BITS self.now.buffers self.now.words) (buffer + 1) 0 q) }
     {
         let width = self.width(buffer);
         if width == 0 {
@@ -50,7 +50,7 @@ impl<const OFFSET_BITS: u32> Cells<OFFSET_BITS> {
         }
         let end = (self.words as usize / width) as u32;
         for offset in 1..end {
-            self.add_entry(alloc, EntryRef::new(offset, buffer), number, map)?;
+            self.add_entry(alloc, EntryRef::new(offset, buffer), since, map)?;
         }
         Ok(())
     }
@@ -60,17 +60,17 @@ impl<const OFFSET_BITS: u32> Cells<OFFSET_BITS> {
         &self,
         alloc: Global,
         entry: EntryRef<OFFSET_BITS>,
-        number: Option<u64>,
+        since: Option<u64>,
         map: &mut BTreeMap<u32, Vec<u64>>,
     ) -> Result<(), AllocError>
         requires entry { IsEntry OFFSET_BITS self.now.buffers self.now.words
             (width_in self.now.table.items self.now.words (buffer_of OFFSET_BITS entry)) entry }
         requires absent { seen map.old entry ≡ [] }
         ensures here { OnOk result (seen map.new entry.entry
-            ≡ chosen number self.now.table.items self.now.stamps.items OFFSET_BITS self.now.buffers self.now.words entry.entry) }
+            ≡ chosen since self.now.table.items self.now.stamps.items OFFSET_BITS self.now.buffers self.now.words entry.entry) }
         ensures others { OnOk result ((q : ℕ) → q ≢ entry.entry → seen map.new q ≡ seen map.old q) }
     {
-        if self.is_chosen(entry, number) {
+        if self.is_chosen(entry, since) {
             put_words(alloc, entry.raw(), self.words_of(entry), map)?;
         }
         Ok(())
@@ -85,14 +85,14 @@ impl<const OFFSET_BITS: u32> Cells<OFFSET_BITS> {
     }
 
     /// Whether an entry is one of those asked for.
-    fn is_chosen(&self, entry: EntryRef<OFFSET_BITS>, number: Option<u64>) -> bool
+    fn is_chosen(&self, entry: EntryRef<OFFSET_BITS>, since: Option<u64>) -> bool
         requires { IsEntry OFFSET_BITS self.now.buffers self.now.words
             (width_in self.now.table.items self.now.words (buffer_of OFFSET_BITS entry)) entry }
-        ensures { result ≡ is_chosen number self.now.table.items self.now.stamps.items OFFSET_BITS self.now.buffers self.now.words
+        ensures { result ≡ is_chosen since self.now.table.items self.now.stamps.items OFFSET_BITS self.now.buffers self.now.words
             entry.entry }
     {
-        match number {
-            Some(number) => all_are(self.stamps_of(entry), number),
+        match since {
+            Some(since) => all_since(self.stamps_of(entry), since),
             None => true,
         }
     }
@@ -109,7 +109,7 @@ impl<const OFFSET_BITS: u32> Cells<OFFSET_BITS> {
         &self.table[first..first + width]
     }
 
-    /// The numbers under which the words of an entry were stored.
+    /// The stamps of the words of an entry.
     fn stamps_of(&self, entry: EntryRef<OFFSET_BITS>) -> &[u64]
         requires { IsEntry OFFSET_BITS self.now.buffers self.now.words
             (width_in self.now.table.items self.now.words (buffer_of OFFSET_BITS entry)) entry }
@@ -124,9 +124,11 @@ impl<const OFFSET_BITS: u32> Cells<OFFSET_BITS> {
     }
 }
 
-/// Whether all numbers are this one.
-fn all_are(numbers: &[u64], number: u64) -> bool
-    ensures { result ≡ list_all (λ k. nat_eq k number) numbers.now }
+/// Whether the stamps of an entry tell that each of its words was stored since another.
+fn all_since(stamps: &[u64], since: u64) -> bool
+    requires { 0 < length stamps.now }
+    ensures { result ≡ list_all (is_since since (slice_index stamps.now 0)) stamps.now }
 {
-    numbers.iter().all(|k| *k == number)
+    let first = stamps[0];
+    stamps.iter().all(|stamp| since < first || since <= *stamp)
 }

@@ -14,8 +14,8 @@ returns-then-width-eq0 g c =
     record {
       entries = λ q.
           c.requires.before q
-          ∙ next-buffer g.row.OFFSET_BITS (chosen c.args.number s.table.items s.stamps.items g.row.OFFSET_BITS s.buffers s.words) c.args.buffer 0 q (λ of past.
-          none-free c.args.number s.table.items s.stamps.items g.row.OFFSET_BITS s.buffers s.words q (ap (width_in s.table.items s.words) of ∙ sym c.width-width.ensures ∙ c.if-width-eq0.true));
+          ∙ next-buffer g.row.OFFSET_BITS (chosen c.args.since s.table.items s.stamps.items g.row.OFFSET_BITS s.buffers s.words) c.args.buffer 0 q (λ of past.
+          none-free c.args.since s.table.items s.stamps.items g.row.OFFSET_BITS s.buffers s.words q (ap (width_in s.table.items s.words) of ∙ sym c.width-width.ensures ∙ c.if-width-eq0.true));
     }
 
 pub loop-offset-init : goal.loop-offset-init
@@ -24,8 +24,8 @@ loop-offset-init g c =
     record {
       seen = λ q.
           c.requires.before q
-          ∙ first-offset g.row.OFFSET_BITS (chosen c.args.number s.table.items s.stamps.items g.row.OFFSET_BITS s.buffers s.words) c.args.buffer 0 q
-          (none-first c.args.number s.table.items s.stamps.items g.row.OFFSET_BITS s.buffers s.words q);
+          ∙ first-offset g.row.OFFSET_BITS (chosen c.args.since s.table.items s.stamps.items g.row.OFFSET_BITS s.buffers s.words) c.args.buffer 0 q
+          (none-first c.args.since s.table.items s.stamps.items g.row.OFFSET_BITS s.buffers s.words q);
       first = omega arith;
     }
 
@@ -35,15 +35,15 @@ returns g c =
     record {
       entries = λ q.
           c.loop-offset.invariant.seen q
-          ∙ next-buffer g.row.OFFSET_BITS (chosen c.args.number s.table.items s.stamps.items g.row.OFFSET_BITS s.buffers s.words) c.args.buffer c.loop-offset.offset q
-          (none-past c.args.number s.table.items s.stamps.items g.row.OFFSET_BITS s.buffers s.words q c.args.buffer c.width-width.result c.loop-offset.offset (sym c.width-width.ensures) c.loop-offset-test.false);
+          ∙ next-buffer g.row.OFFSET_BITS (chosen c.args.since s.table.items s.stamps.items g.row.OFFSET_BITS s.buffers s.words) c.args.buffer c.loop-offset.offset q
+          (none-past c.args.since s.table.items s.stamps.items g.row.OFFSET_BITS s.buffers s.words q c.args.buffer c.width-width.result c.loop-offset.offset (sym c.width-width.ensures) c.loop-offset-test.false);
     }
 
 pub add_entry-requires : goal.add_entry-requires
 add_entry-requires g c =
     let s = c.args.self.now in
     let bits = g.row.OFFSET_BITS in
-    let m = chosen c.args.number s.table.items s.stamps.items bits s.buffers s.words in
+    let m = chosen c.args.since s.table.items s.stamps.items bits s.buffers s.words in
     let small : c.args.buffer < buffer_limit bits = omega (arith, s.few_buffers, c.requires.inside) in (
       omega arith,
       (
@@ -63,7 +63,7 @@ loop-offset-preserved g c =
     let s = c.args.self.now in
     let bits = g.row.OFFSET_BITS in
     record {
-      seen = λ q. reference-more bits (chosen c.args.number s.table.items s.stamps.items bits s.buffers s.words) c.args.buffer c.loop-offset.offset c.new.result
+      seen = λ q. reference-more bits (chosen c.args.since s.table.items s.stamps.items bits s.buffers s.words) c.args.buffer c.loop-offset.offset c.new.result
           (omega (arith, s.few_buffers, c.requires.inside)) c.new.ensures
           (seen c.add_entry.new.map) (seen c.loop-offset.map) c.in_ok-add_entry.ensures.here c.in_ok-add_entry.ensures.others c.loop-offset.invariant.seen q;
       first = omega arith;

@@ -8,6 +8,6 @@ abbrev pub invariant-loop-offset : goal.invariant-loop-offset
 invariant-loop-offset g l =
     let s = l.fn.self in
     record {
-      seen : (q : ℕ) → seen l.map q ≡ those_before g.row.OFFSET_BITS (chosen l.number s.table.items s.stamps.items g.row.OFFSET_BITS s.buffers s.words) l.buffer l.offset q;
+      seen : (q : ℕ) → seen l.map q ≡ those_before g.row.OFFSET_BITS (chosen l.since s.table.items s.stamps.items g.row.OFFSET_BITS s.buffers s.words) l.buffer l.offset q;
       first : 1 ≤ l.offset;
     }

@@ -8,5 +8,5 @@ pub returns : goal.returns
 returns g c q =
     let s = c.args.self.now in
     c.loop-buffer.invariant q
-    ∙ all-before g.row.OFFSET_BITS (chosen c.args.number s.table.items s.stamps.items g.row.OFFSET_BITS s.buffers s.words) c.loop-buffer.buffer 0 q
-    (none-outside c.args.number s.table.items s.stamps.items g.row.OFFSET_BITS s.buffers s.words q c.loop-buffer.buffer c.loop-buffer-test.false)
+    ∙ all-before g.row.OFFSET_BITS (chosen c.args.since s.table.items s.stamps.items g.row.OFFSET_BITS s.buffers s.words) c.loop-buffer.buffer 0 q
+    (none-outside c.args.since s.table.items s.stamps.items g.row.OFFSET_BITS s.buffers s.words q c.loop-buffer.buffer c.loop-buffer-test.false)

@@ -7,4 +7,4 @@ use Rattle.mem_work.proofs.cells.Cells.entries.Given as goal
 abbrev pub invariant-loop-buffer : goal.invariant-loop-buffer
 invariant-loop-buffer g l =
     let s = l.fn.self in
-    (q : ℕ) → seen l.map q ≡ those_before g.row.OFFSET_BITS (chosen l.number s.table.items s.stamps.items g.row.OFFSET_BITS s.buffers s.words) l.buffer 0 q
+    (q : ℕ) → seen l.map q ≡ those_before g.row.OFFSET_BITS (chosen l.since s.table.items s.stamps.items g.row.OFFSET_BITS s.buffers s.words) l.buffer 0 q

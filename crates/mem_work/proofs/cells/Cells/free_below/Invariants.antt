@@ -1,4 +1,4 @@
-use Rattle.std.proofs.Common.{◌≡◌, map, take, drop, length, vec_len, ◌++◌}
+use Rattle.std.proofs.Common.{◌≡◌, map, take, drop, length, ◌++◌}
 use Rattle.mem_work.specs.Marks.{freed}
 use Rattle.mem_work.proofs.cells.Cells.free_below.Given as goal
 

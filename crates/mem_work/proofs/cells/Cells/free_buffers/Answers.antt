@@ -1,7 +1,7 @@
-use Rattle.std.proofs.Common.{◌+◌, cond, sym, ap, ◌∙◌, arith}
+use Rattle.std.proofs.Common.{arith}
 use Rattle.mem_work.specs.Cells.{buffer_in}
 use Rattle.mem_work.specs.Marks.{marked_buffers}
-use Rattle.arena_api.proofs.Free.{free_count-le, free_count-more}
+use Rattle.arena_api.proofs.Free.{free_count-le}
 use Rattle.mem_work.proofs.cells.Cells.free_buffers.Goals as goal
 
 pub overflow_add-count : goal.overflow_add-count

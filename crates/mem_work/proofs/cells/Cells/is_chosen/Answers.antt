@@ -1,5 +1,4 @@
-use Rattle.std.proofs.Common.{◌∙◌, sym, ap, nat_eq}
-use Rattle.std.specs.List.{list_all}
+use Rattle.std.proofs.Common.{◌∙◌, sym, ap}
 use Rattle.mem_work.specs.Entries.{is_chosen}
 use Rattle.mem_work.proofs.Chosen.{whole-is}
 use Rattle.mem_work.proofs.cells.Cells.is_chosen.Goals as goal
@@ -7,6 +6,6 @@ use Rattle.mem_work.proofs.cells.Cells.is_chosen.Goals as goal
 pub returns-in-Some : goal.returns-in-Some
 returns-in-Some g c =
     let s = c.args.self.now in
-    c.all_are.ensures ∙ ap (list_all (λ k. nat_eq k c.in-Some.number)) c.stamps_of.ensures
-    ∙ whole-is s.table.items s.stamps.items g.row.OFFSET_BITS s.buffers s.words c.in-Some.number c.args.entry c.requires
+    c.all_since.ensures
+    ∙ whole-is s.table.items s.stamps.items g.row.OFFSET_BITS s.buffers s.words c.in-Some.since c.args.entry c.requires c.stamps_of.result.now c.stamps_of.ensures
     ∙ ap (λ n. is_chosen n s.table.items s.stamps.items g.row.OFFSET_BITS s.buffers s.words c.args.entry) (sym c.in-Some.is)
