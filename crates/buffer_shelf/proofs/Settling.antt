@@ -1,10 +1,10 @@
 -- What the states say of each other, and the end of a unit.
-use Rattle.std.proofs.Common.{◌≡◌, ℕ, ◌+◌, Bool, true, false, cond, nat_eq, zero, suc, List, [], ◌∷◌, map, set, refl, sym, ap, ◌∙◌, arith}
+use Rattle.std.proofs.Common.{◌≡◌, ℕ, ◌+◌, Bool, true, false, not, ◌&&◌, cond, nat_eq, zero, suc, List, [], ◌∷◌, map, set, refl, sym, ap, ◌∙◌, arith}
 use Rattle.std.specs.List.{count_by}
 use Rattle.std.proofs.lemmas.List.Sums.{sum_by-cons}
 use Rattle.buffer_shelf.specs.declared.state.State.{State}
 use Rattle.buffer_shelf.specs.declared.state.State.TheVariants.{Free, Returned, Made, InUse, LetGo, DroppedNow, Dropped}
-use Rattle.buffer_shelf.specs.States.{is_free_state, is_touched, is_used, is_dropped, dropped, settled_state, state_at}
+use Rattle.buffer_shelf.specs.States.{is_free_state, is_touched, is_freed, is_used, is_dropped, dropped, settled_state, state_at}
 
 pub used-free : (s : State) → is_used s ≡ true → is_free_state s ≡ false
 used-free Free used = absurd (cc)
@@ -76,6 +76,22 @@ settled-free false last generation (InUse after) e = absurd (cc)
 settled-free false last generation LetGo e = absurd (cc)
 settled-free false last generation (DroppedNow after) e = absurd (cc)
 settled-free false last generation (Dropped after g) e = absurd (cc)
+
+pub freed-is : (accepts : Bool) (last generation : ℕ) (s : State) → is_freed accepts s ≡ (is_free_state (settled_state accepts last generation s) && not (is_free_state s))
+freed-is true last generation Free = refl
+freed-is true last generation Returned = refl
+freed-is true last generation Made = refl
+freed-is true last generation (InUse after) = refl
+freed-is true last generation LetGo = refl
+freed-is true last generation (DroppedNow after) = refl
+freed-is true last generation (Dropped after g) = refl
+freed-is false last generation Free = refl
+freed-is false last generation Returned = refl
+freed-is false last generation Made = refl
+freed-is false last generation (InUse after) = refl
+freed-is false last generation LetGo = refl
+freed-is false last generation (DroppedNow after) = refl
+freed-is false last generation (Dropped after g) = refl
 
 pub settled-again : (accepts : Bool) (last generation : ℕ) (s : State) → settled_state accepts last generation (settled_state accepts last generation s) ≡ settled_state accepts last generation s
 settled-again accepts last generation s = settled-same accepts last generation (settled_state accepts last generation s) (settled-touched accepts last generation s)

@@ -74,6 +74,12 @@ abbrev pub settled_state : Bool → ℕ → ℕ → State → State
 settled_state true last generation state = accepted last generation state
 settled_state false last generation state = undone last state
 
+-- the end of a unit makes it free, and it was not
+abbrev pub is_freed : Bool → State → Bool
+is_freed true LetGo = true
+is_freed false Made = true
+is_freed accepts state = false
+
 -- the state of an entry by its place
 abbrev pub state_at : List State → ℕ → State
 state_at states x = slice_index_or states x Free
@@ -103,6 +109,10 @@ has_one_spare shelf = not shelf.sealed && nat_eq (spare_of shelf) 1
 -- the unit has changed an entry
 abbrev pub has_touched : ShelfView → Bool
 has_touched shelf = nat_lt 0 (count_by is_touched shelf.states)
+
+-- the unit has changed one entry alone
+abbrev pub has_one_touched : ShelfView → Bool
+has_one_touched shelf = nat_eq (count_by is_touched shelf.states) 1
 
 -- entry x is made: a free one, or the next that was not taken
 abbrev pub with_made : ShelfView → ℕ → ShelfView

@@ -42,7 +42,7 @@ pub struct Settled {
 impl Shelf {
     ghost use Rattle.std.specs.List.{slice_get};
     ghost use Rattle.buffer_shelf.specs.States.{empty_shelf, state_at, is_used, is_dropped, spare_of, can_make, has_one_spare, has_touched};
-    ghost use Rattle.buffer_shelf.specs.States.{IsOpen, Settles, with_made, with_state_at, dropped};
+    ghost use Rattle.buffer_shelf.specs.States.{has_one_touched, IsOpen, Settles, with_made, with_state_at, dropped};
     ghost use Rattle.buffer_shelf.specs.declared.state.State.TheVariants.{Free};
 
     /// No entries, and no room.
@@ -146,7 +146,7 @@ impl Shelf {
     pub fn has_one_spare(&self) -> bool
         ensures { result ≡ has_one_spare self.now }
     {
-        !self.sealed & (self.spare() == 1)
+        self.spare() == 1 && !self.sealed
     }
 
     /// How many entries were dropped by units that were accepted, and are not free yet.
@@ -165,6 +165,13 @@ impl Shelf {
         ensures { result ≡ has_touched self.now }
     {
         self.touched.len() > 0
+    }
+
+    /// Whether the unit has changed one entry alone.
+    pub fn has_one_touched(&self) -> bool
+        ensures { result ≡ has_one_touched self.now }
+    {
+        self.touched.len() == 1
     }
 
     /// Makes an entry: a free one, else the next that was not taken. None where there is no more room.
@@ -222,8 +229,8 @@ impl Shelf {
     {
         let place = self.touched.pop()?;
         let was = self.states[place as usize];
+        enter(&mut self.free, place, was.is_freed(accepts));
         let now = was.settled(accepts, last, generation);
-        enter(&mut self.free, place, now.is_free() & !was.is_free());
         self.states[place as usize] = now;
         Some(Settled { place, was, now })
     }

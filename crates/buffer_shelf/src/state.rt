@@ -19,7 +19,7 @@ pub enum State {
 }
 
 impl State {
-    ghost use Rattle.buffer_shelf.specs.States.{is_free_state, is_touched, is_dropped, dropped, accepted, undone, settled_state};
+    ghost use Rattle.buffer_shelf.specs.States.{is_free_state, is_touched, is_freed, is_dropped, dropped, accepted, undone, settled_state};
 
     pub fn is_free(self) -> bool
         ensures { result ≡ is_free_state self }
@@ -33,6 +33,17 @@ impl State {
         match self {
             State::Returned | State::Made | State::LetGo | State::DroppedNow { .. } => true,
             State::Free | State::InUse { .. } | State::Dropped { .. } => false,
+        }
+    }
+
+    /// Whether the unit's end makes it free, where it was not.
+    pub fn is_freed(self, accepts: bool) -> bool
+        ensures { result ≡ is_freed accepts self }
+    {
+        if accepts {
+            matches!(self, State::LetGo)
+        } else {
+            matches!(self, State::Made)
         }
     }
 
