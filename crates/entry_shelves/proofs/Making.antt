@@ -11,7 +11,7 @@ use Rattle.list_facts.specs.Counting.{one_if}
 use Rattle.list_facts.proofs.Counts.{count_by-set}
 use Rattle.buffer_shelf.specs.declared.state.State.{State}
 use Rattle.buffer_shelf.specs.declared.state.State.TheVariants.{Free, Made}
-use Rattle.buffer_shelf.specs.States.{ShelfView, can_make, has_one_spare, has_touched, spare_of, is_free_state, is_touched, state_at, IsOpen, with_made, with_state_at}
+use Rattle.buffer_shelf.specs.States.{ShelfView, can_make, has_one_spare, has_touched, has_one_touched, spare_of, is_free_state, is_touched, state_at, IsOpen, with_made, with_state_at}
 use Rattle.buffer_shelf.proofs.StackSteps.{count-some}
 
 -- after a take one less is to spare
@@ -118,6 +118,18 @@ taken-gains s x state below was =
     by_test : (t u : Bool) → u ≡ false → t ≡ (t && not u)
     by_test true u e = sym (ap not e)
     by_test false u e = refl
+
+one-less : (old new : ℕ) → new + 1 ≡ old → eqb old 1 ≡ not (nat_lt 0 new)
+one-less old zero e = ap (λ n. eqb n 1) (sym e)
+one-less old (suc n) e = ne_eqb old 1 (omega (arith, e)) ∙ sym (ap not (lt-ltb 0 (suc n) (omega arith)))
+
+-- where an entry that the unit changed is changed no more, none is exactly where it was the only one
+pub state-untouched : (s : ShelfView) (x : ℕ) (state : State) → x < length s.states → is_touched (state_at s.states x) ≡ true → is_touched state ≡ false
+    → has_one_touched s ≡ not (has_touched (with_state_at s x state))
+state-untouched s x state below was is =
+    let before : one_if (is_touched (state_at s.states x)) ≡ 1 = ap one_if was in
+    let after : one_if (is_touched state) ≡ 0 = ap one_if is in
+    one-less (count_by is_touched s.states) (count_by is_touched (set s.states x state)) (omega (arith, count_by-set is_touched s.states x state Free below, before, after))
 
 pub made-length : (s : ShelfView) (x : ℕ) → IsOpen s x → length s.states ≤ length (with_made s x).states
 made-length s x can = elim (cases_eq x (length s.states)) [

@@ -199,13 +199,13 @@ impl Shelves {
     {
         let buffer = self.touched.last()?;
         let shelf = &mut self.shelves[buffer as usize];
+        self.touched.leave(shelf.has_one_touched());
         let Some(step) = shelf.settle(accepts, last, generation) else {
             unreachable!()
         };
-        let frees = step.now.is_free() & !step.was.is_free();
+        let frees = step.was.is_freed(accepts);
         let enters = frees && shelf.has_one_spare();
         let width = shelf.width();
-        self.touched.leave(!shelf.has_touched());
         enter_row(&mut self.open, width, buffer, enters);
         Some(Changed {
             buffer,
