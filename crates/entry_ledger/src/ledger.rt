@@ -224,7 +224,7 @@ impl<const OFFSET_BITS: u32> EntryLedger<OFFSET_BITS> {
         count_settled(&mut self.buffers, entry.buffer, accepts, entry.was);
         let reference = EntryRef::new(entry.place + 1, entry.buffer);
         let enters = accepts & is_dropped_now(entry.was);
-        self.unheld = hold(&mut self.held, self.unheld, reference, enters);
+        hold(&mut self.held, &mut self.unheld, reference, enters);
         true
     }
 
@@ -396,23 +396,21 @@ fn is_dropped_now(state: State) -> bool
     matches!(state, State::DroppedNow { .. })
 }
 
-/// Puts an entry on the list, where that is to be, and answers how many are not on it.
+/// Puts an entry on the list, where that is to be, and counts those that are not on it.
 fn hold<const OFFSET_BITS: u32>(
     held: &mut HoldList<OFFSET_BITS>,
-    unheld: u32,
+    unheld: &mut u32,
     entry: EntryRef<OFFSET_BITS>,
     enters: bool,
-) -> u32
+)
     requires room { enters ≡ true → 0 < held.old.room }
-    requires some { enters ≡ true → 0 < unheld }
+    requires some { enters ≡ true → 0 < unheld.old }
     ensures held { held.new ≡ held_after enters entry.entry held.old }
-    ensures unheld { result ≡ (if enters then unheld - 1 else unheld) }
+    ensures unheld { unheld.new ≡ (if enters then unheld.old - 1 else unheld.old) }
 {
     if enters {
         held.push(entry);
-        unheld - 1
-    } else {
-        unheld
+        *unheld -= 1;
     }
 }
 

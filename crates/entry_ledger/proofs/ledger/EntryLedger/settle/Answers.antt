@@ -80,8 +80,8 @@ new-reference-requires g c =
       ),
     )
 
-pub hold-self-inside-requires : goal.hold-self-inside-requires
-hold-self-inside-requires g c =
+pub hold-requires : goal.hold-requires
+hold-requires g c =
     let s = c.self.inside in
     let v : LedgerView = record { shelves = s.shelves; buffers = s.buffers; last = s.last; generation = s.generation; oldest = s.oldest; finished = s.finished } in (
       omega arith,
@@ -99,8 +99,8 @@ invariant_of-self-2 g c =
     let s = c.self.inside in
     let v : LedgerView = record { shelves = s.shelves; buffers = s.buffers; last = s.last; generation = s.generation; oldest = s.oldest; finished = s.finished } in
     step-kept g.row.OFFSET_BITS v s.held.held s.held.room s.unheld c.self.invariant c.args.accepts c.settle.new.self c.in-Some.entry c.in-Some.ensures.settled
-    c.count_settled.new.buffers c.count_settled.ensures c.hold-self-inside.new.held c.hold-self-inside.result c.new-reference.result c.is_dropped_now.result c.is_dropped_now.ensures c.new-reference.ensures
-    c.hold-self-inside.ensures.held c.hold-self-inside.ensures.unheld
+    c.count_settled.new.buffers c.count_settled.ensures c.hold.new.held c.hold.new.unheld c.new-reference.result c.is_dropped_now.result c.is_dropped_now.ensures c.new-reference.ensures
+    c.hold.ensures.held c.hold.ensures.unheld
 
 pub returns-clause-ended : goal.returns-clause-ended
 returns-clause-ended g c e = absurd (cc)
@@ -128,7 +128,7 @@ pub returns-clause-good : goal.returns-clause-good
 returns-clause-good g c =
     let s = c.self.inside in
     let v : LedgerView = record { shelves = s.shelves; buffers = s.buffers; last = s.last; generation = s.generation; oldest = s.oldest; finished = s.finished } in
-    good g.row.OFFSET_BITS (record v { shelves = c.settle.new.self; buffers = c.count_settled.new.buffers }) c.hold-self-inside.new.held.held c.hold-self-inside.new.held.room c.hold-self-inside.result
+    good g.row.OFFSET_BITS (record v { shelves = c.settle.new.self; buffers = c.count_settled.new.buffers }) c.hold.new.held.held c.hold.new.held.room c.hold.new.unheld
     (step-kept g.row.OFFSET_BITS v s.held.held s.held.room s.unheld c.self.invariant c.args.accepts c.settle.new.self c.in-Some.entry c.in-Some.ensures.settled
-    c.count_settled.new.buffers c.count_settled.ensures c.hold-self-inside.new.held c.hold-self-inside.result c.new-reference.result c.is_dropped_now.result c.is_dropped_now.ensures c.new-reference.ensures
-    c.hold-self-inside.ensures.held c.hold-self-inside.ensures.unheld)
+    c.count_settled.new.buffers c.count_settled.ensures c.hold.new.held c.hold.new.unheld c.new-reference.result c.is_dropped_now.result c.is_dropped_now.ensures c.new-reference.ensures
+    c.hold.ensures.held c.hold.ensures.unheld)
