@@ -1,4 +1,4 @@
-ghost use Rattle.std.specs.Prelude.{◌≡◌, ◌↔◌, ◌<◌, ◌≤◌, ◌+◌, ◌^◌, ℕ, [], true, false, length, slice_set, vec_len, vec_capacity, count_by};
+ghost use Rattle.std.specs.Prelude.{◌≡◌, ◌↔◌, ◌<◌, ◌≤◌, ◌+◌, ◌^◌, ℕ, [], true, false, nat_lt, length, slice_set, vec_len, vec_capacity, count_by};
 ghost use Rattle.std.specs.Prelude.{IsNone, IfSome, IfNone, OnOk, OnErr, if◌then◌else◌, ◌∷◌, ◌++◌};
 ghost use Rattle.buffer_shelf.specs.States.{is_free_state, is_touched};
 ghost use Rattle.buffer_shelf.specs.Stacks.{IsStack};
@@ -142,11 +142,18 @@ impl Shelf {
         !self.sealed & (self.spare() > 0)
     }
 
+    /// Whether there is an entry that can be made, were it not sealed.
+    pub fn has_spare(&self) -> bool
+        ensures { result ≡ nat_lt 0 (spare_of self.now) }
+    {
+        self.free.len() > 0 || (self.states.len() as u32) < self.room
+    }
+
     /// Whether one entry alone may be made.
     pub fn has_one_spare(&self) -> bool
         ensures { result ≡ has_one_spare self.now }
     {
-        self.spare() == 1 && !self.sealed
+        self.free.len() <= 1 && self.spare() == 1 && !self.sealed
     }
 
     /// How many entries were dropped by units that were accepted, and are not free yet.
@@ -183,7 +190,7 @@ impl Shelf {
     {
         if let Some(entry) = self.free.pop() {
             let state = self.states[entry as usize];
-            enter(&mut self.touched, entry, !state.is_touched());
+            enter(&mut self.touched, entry, !state.is_returned());
             self.states[entry as usize] = State::Made;
             return Some(entry);
         }

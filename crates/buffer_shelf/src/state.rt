@@ -1,4 +1,4 @@
-ghost use Rattle.std.specs.Prelude.{◌≡◌};
+ghost use Rattle.std.specs.Prelude.{◌≡◌, true};
 
 /// What an entry is.
 #[derive(Clone, Copy, Debug, PartialEq, Eq)]
@@ -45,6 +45,14 @@ impl State {
         } else {
             matches!(self, State::Made)
         }
+    }
+
+    /// Of what is free: whether the unit changed it.
+    pub fn is_returned(self) -> bool
+        requires { is_free_state self ≡ true }
+        ensures { result ≡ is_touched self }
+    {
+        matches!(self, State::Returned)
     }
 
     /// Dropped by a unit that was accepted.

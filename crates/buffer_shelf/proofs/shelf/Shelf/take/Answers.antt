@@ -9,6 +9,15 @@ use Rattle.buffer_shelf.specs.Stacks.{IsStack}
 use Rattle.buffer_shelf.proofs.StackSteps.{stack-room, stack-enter, stack-pop, stack-top, stack-none, stack-some}
 use Rattle.buffer_shelf.proofs.shelf.Shelf.take.Goals as goal
 
+pub is_returned-requires : goal.is_returned-requires
+is_returned-requires c =
+    let s = c.self.inside in
+    let k = c.self.invariant in
+    let top = stack-top Free is_free_state s.states.items c.pop.new.self.items c.in-Some.entry
+    (subst (IsStack Free is_free_state s.states.items) c.in-Some.ensures.items k.free_is) in
+    let state = get_or_read s.states.items c.in-Some.entry _ top.0 c.index-state.ensures Free in
+    ap is_free_state state ∙ top.1
+
 pub enter-requires : goal.enter-requires
 enter-requires c e =
     let s = c.self.inside in
@@ -16,7 +25,7 @@ enter-requires c e =
     let top = stack-top Free is_free_state s.states.items c.pop.new.self.items c.in-Some.entry
     (subst (IsStack Free is_free_state s.states.items) c.in-Some.ensures.items k.free_is) in
     let state = get_or_read s.states.items c.in-Some.entry _ top.0 c.index-state.ensures Free in
-    let was : is_touched (state_at s.states.items c.in-Some.entry) ≡ false = ap is_touched (sym state) ∙ sym c.is_touched.ensures ∙ not-true _ e in
+    let was : is_touched (state_at s.states.items c.in-Some.entry) ≡ false = ap is_touched (sym state) ∙ sym c.is_returned.ensures ∙ not-true _ e in
     let less = stack-room Free is_touched s.states.items s.touched.items k.touched_is c.in-Some.entry Made top.0 was refl in
     omega (arith, less, s.touched.ok.0, k.taken, k.room3)
 
@@ -27,7 +36,7 @@ invariant_of-self c =
     let free = subst (IsStack Free is_free_state s.states.items) c.in-Some.ensures.items k.free_is in
     let top = stack-top Free is_free_state s.states.items c.pop.new.self.items c.in-Some.entry free in
     let state = get_or_read s.states.items c.in-Some.entry _ top.0 c.index-state.ensures Free in
-    let touched = stack-enter Free is_touched s.states.items s.touched.items k.touched_is c.in-Some.entry Made top.0 refl c.is_touched.result (c.is_touched.ensures ∙ ap is_touched state) in
+    let touched = stack-enter Free is_touched s.states.items s.touched.items k.touched_is c.in-Some.entry Made top.0 refl c.is_returned.result (c.is_returned.ensures ∙ ap is_touched state) in
     let long = length-set {A = State} s.states.items c.in-Some.entry Made in
     record {
       taken = omega (arith, long, k.taken);
