@@ -138,17 +138,16 @@ impl Shelves {
         ensures takes { IfSome result (Takes self.old self.new width) }
     {
         let row = place_of(width);
-        let stack = &mut self.open[row];
-        let buffer = stack.last()?;
+        let buffer = self.open[row].last()?;
+        self.made[row] = self.made[row].saturating_add(1);
         let shelf = &mut self.shelves[buffer as usize];
         let next = shelf.taken();
         let had_touched = shelf.has_touched();
         let Some(place) = shelf.take() else {
             unreachable!()
         };
-        stack.leave(!shelf.can_make());
         self.touched.enter(buffer, !had_touched);
-        self.made[row] = self.made[row].saturating_add(1);
+        self.open[row].leave(!shelf.has_spare());
         Some(Taken {
             buffer,
             place,

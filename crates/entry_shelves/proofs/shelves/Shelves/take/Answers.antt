@@ -1,10 +1,11 @@
-use Rattle.std.proofs.Common.{◌≡◌, ◌<◌, ◌-◌, ℕ, true, false, not, ◌∷◌, ◌++◌, [], nat_eq, take, length, get_or, set, refl, sym, ap, subst, ◌∙◌, arith}
+use Rattle.std.proofs.Common.{◌≡◌, ◌<◌, ◌-◌, ℕ, true, false, not, ◌&&◌, ◌∷◌, ◌++◌, [], nat_eq, take, length, get_or, set, refl, sym, ap, subst, ◌∙◌, arith}
+use Rattle.std.specs.Prelude.{nat_lt}
 use Rattle.std.specs.List.{count_by}
 use Rattle.std.proofs.Math.ListN.{length-set}
 use Rattle.std.proofs.lemmas.List.{get_or_read}
 use Rattle.std.proofs.lemmas.Bool.{not-true, true≢false}
 use Rattle.store_api.specs.Ledgers.{one_more}
-use Rattle.buffer_shelf.specs.States.{ShelfView, empty_shelf, can_make, has_touched, is_free_state, IsOpen, with_made}
+use Rattle.buffer_shelf.specs.States.{ShelfView, empty_shelf, spare_of, can_make, has_touched, is_free_state, IsOpen, with_made}
 use Rattle.buffer_shelf.specs.Stacks.{IsStack}
 use Rattle.buffer_shelf.proofs.StackSteps.{stack-enter}
 use Rattle.entry_shelves.specs.Shelves.{ShelvesView, shelf_at, row_of, made_at, filled_at, spare_of_width}
@@ -19,8 +20,8 @@ returns-in_err-buffer-clause-none c =
     let s = c.self.inside in
     let k = c.self.invariant in
     let w = c.args.width in
-    let stack : c.index_mut-stack.result.now ≡ stack_at s.open.items w =
-    get_or_read s.open.items c.place_of-row.result _ (omega (arith, c.place_of-row.ensures.below, k.stack_rows)) c.index_mut-stack.ensures.value (record { list = []; room = 0 })
+    let stack : c.index.result.now ≡ stack_at s.open.items w =
+    get_or_read s.open.items c.place_of-row.result _ (omega (arith, c.place_of-row.ensures.below, k.stack_rows)) c.index.ensures (record { list = []; room = 0 })
     ∙ ap (λ p. get_or s.open.items p (record { list = []; room = 0 })) c.place_of-row.ensures.place in
     let nil : (stack_at s.open.items w).list ≡ [] = ap (λ (t : StackView). t.list) (sym stack) ∙ c.in_err-buffer.ensures.none in
     let row = k.each_row w c.requires in
@@ -35,8 +36,8 @@ enter-requires c e =
     let w = c.args.width in
     let xs = s.shelves.items in
     let b = c.in_ok-buffer.buffer in
-    let stack : c.index_mut-stack.result.now ≡ stack_at s.open.items w =
-    get_or_read s.open.items c.place_of-row.result _ (omega (arith, c.place_of-row.ensures.below, k.stack_rows)) c.index_mut-stack.ensures.value (record { list = []; room = 0 })
+    let stack : c.index.result.now ≡ stack_at s.open.items w =
+    get_or_read s.open.items c.place_of-row.result _ (omega (arith, c.place_of-row.ensures.below, k.stack_rows)) c.index.ensures (record { list = []; room = 0 })
     ∙ ap (λ p. get_or s.open.items p (record { list = []; room = 0 })) c.place_of-row.ensures.place in
     let top = is-top xs (filled_at s.filled.items w) (stack_at s.open.items w) w b (k.each_row w c.requires)
     (subst (λ (t : StackView). (0 < length t.list) × (get_or t.list (length t.list - 1) 0 ≡ b)) stack (c.in_ok-buffer.ensures.last b refl)) in
@@ -46,16 +47,16 @@ enter-requires c e =
     touched-room s.words xs s.made.items s.filled.items s.open.items s.touched k b top.below (with_made (shelf_at xs b) c.in-Some.place)
     (sym had ∙ not-true _ e) (made-touched (shelf_at xs b) c.in-Some.place can)
 
-pub invariant_of-self-2 : goal.invariant_of-self-2
-invariant_of-self-2 c =
+pub invariant_of-self : goal.invariant_of-self
+invariant_of-self c =
     let s = c.self.inside in
     let k = c.self.invariant in
     let w = c.args.width in
     let xs = s.shelves.items in
     let b = c.in_ok-buffer.buffer in
     let x = c.in-Some.place in
-    let stack : c.index_mut-stack.result.now ≡ stack_at s.open.items w =
-    get_or_read s.open.items c.place_of-row.result _ (omega (arith, c.place_of-row.ensures.below, k.stack_rows)) c.index_mut-stack.ensures.value (record { list = []; room = 0 })
+    let stack : c.index.result.now ≡ stack_at s.open.items w =
+    get_or_read s.open.items c.place_of-row.result _ (omega (arith, c.place_of-row.ensures.below, k.stack_rows)) c.index.ensures (record { list = []; room = 0 })
     ∙ ap (λ p. get_or s.open.items p (record { list = []; room = 0 })) c.place_of-row.ensures.place in
     let top = is-top xs (filled_at s.filled.items w) (stack_at s.open.items w) w b (k.each_row w c.requires)
     (subst (λ (t : StackView). (0 < length t.list) × (get_or t.list (length t.list - 1) 0 ≡ b)) stack (c.in_ok-buffer.ensures.last b refl)) in
@@ -63,15 +64,21 @@ invariant_of-self-2 c =
     let can : IsOpen (shelf_at xs b) x = subst (λ (t : ShelfView). IsOpen t x) shelf c.in-Some.ensures.open in
     let new : c.take.new.self ≡ with_made (shelf_at xs b) x = c.in-Some.ensures.made ∙ ap (λ (t : ShelfView). with_made t x) shelf in
     let had : c.has_touched-had_touched.result ≡ has_touched (shelf_at xs b) = c.has_touched-had_touched.ensures ∙ ap has_touched shelf in
+    let still : c.index_mut-2.result.now ≡ stack_at s.open.items w =
+    get_or_read s.open.items c.place_of-row.result _ (omega (arith, c.place_of-row.ensures.below, k.stack_rows)) c.index_mut-2.ensures.value (record { list = []; room = 0 })
+    ∙ ap (λ p. get_or s.open.items p (record { list = []; room = 0 })) c.place_of-row.ensures.place in
+    let more : c.has_spare.result ≡ can_make (with_made (shelf_at xs b) x) =
+    c.has_spare.ensures ∙ ap (λ (t : ShelfView). nat_lt 0 (spare_of t)) new
+    ∙ sym (ap (λ t. not t && nat_lt 0 (spare_of (with_made (shelf_at xs b) x))) (something-spare (shelf_at xs b) top.can).0) in
     let list = ap (λ (t : StackView). t.list) c.enter.ensures ∙ entered-list (not c.has_touched-had_touched.result) s.touched (s.touched.list ++ b ∷ []) in
     let room = ap (λ (t : StackView). t.room) c.enter.ensures ∙ entered-room (not c.has_touched-had_touched.result) s.touched (s.touched.list ++ b ∷ []) in
     took s.words xs s.made.items s.filled.items s.open.items s.touched k b top.below w x top.wide top.can c.requires can top.last
-    c.can_make.result (c.can_make.ensures ∙ ap can_make new) c.enter.new.self
+    c.has_spare.result more c.enter.new.self
     (subst (IsStack empty_shelf has_touched (set xs b (with_made (shelf_at xs b) x))) (sym list)
     (stack-enter empty_shelf has_touched xs s.touched.list k.touched_is b (with_made (shelf_at xs b) x) top.below (made-touched (shelf_at xs b) x can) c.has_touched-had_touched.result had))
     (omega (arith, k.touched_room, room))
     (set s.made.items c.place_of-row.result c.saturating_add.result) (length-set {A = ℕ} s.made.items c.place_of-row.result c.saturating_add.result ∙ k.made_rows)
-    c.take.new.self c.place_of-row.result c.index_mut-stack.result.now c.leave.new.self new c.place_of-row.ensures.place stack c.leave.ensures
+    c.take.new.self c.place_of-row.result c.index_mut-2.result.now c.leave.new.self new c.place_of-row.ensures.place still c.leave.ensures
 
 pub returns-clause-none : goal.returns-clause-none
 returns-clause-none c =
@@ -80,8 +87,8 @@ returns-clause-none c =
     let w = c.args.width in
     let xs = s.shelves.items in
     let b = c.in_ok-buffer.buffer in
-    let stack : c.index_mut-stack.result.now ≡ stack_at s.open.items w =
-    get_or_read s.open.items c.place_of-row.result _ (omega (arith, c.place_of-row.ensures.below, k.stack_rows)) c.index_mut-stack.ensures.value (record { list = []; room = 0 })
+    let stack : c.index.result.now ≡ stack_at s.open.items w =
+    get_or_read s.open.items c.place_of-row.result _ (omega (arith, c.place_of-row.ensures.below, k.stack_rows)) c.index.ensures (record { list = []; room = 0 })
     ∙ ap (λ p. get_or s.open.items p (record { list = []; room = 0 })) c.place_of-row.ensures.place in
     let top = is-top xs (filled_at s.filled.items w) (stack_at s.open.items w) w b (k.each_row w c.requires)
     (subst (λ (t : StackView). (0 < length t.list) × (get_or t.list (length t.list - 1) 0 ≡ b)) stack (c.in_ok-buffer.ensures.last b refl)) in
@@ -98,8 +105,8 @@ returns-clause-takes c =
     let b = c.in_ok-buffer.buffer in
     let x = c.in-Some.place in
     let row = k.each_row w c.requires in
-    let stack : c.index_mut-stack.result.now ≡ stack_at s.open.items w =
-    get_or_read s.open.items c.place_of-row.result _ (omega (arith, c.place_of-row.ensures.below, k.stack_rows)) c.index_mut-stack.ensures.value (record { list = []; room = 0 })
+    let stack : c.index.result.now ≡ stack_at s.open.items w =
+    get_or_read s.open.items c.place_of-row.result _ (omega (arith, c.place_of-row.ensures.below, k.stack_rows)) c.index.ensures (record { list = []; room = 0 })
     ∙ ap (λ p. get_or s.open.items p (record { list = []; room = 0 })) c.place_of-row.ensures.place in
     let top = is-top xs (filled_at s.filled.items w) (stack_at s.open.items w) w b row
     (subst (λ (t : StackView). (0 < length t.list) × (get_or t.list (length t.list - 1) 0 ≡ b)) stack (c.in_ok-buffer.ensures.last b refl)) in
@@ -108,7 +115,7 @@ returns-clause-takes c =
     let new : c.take.new.self ≡ with_made (shelf_at xs b) x = c.in-Some.ensures.made ∙ ap (λ (t : ShelfView). with_made t x) shelf in
     let again = again-is x c.taken-next.result (length (shelf_at xs b).states) (c.taken-next.ensures.taken ∙ ap (λ (t : ShelfView). length t.states) shelf) can.within in
     let counted : c.saturating_add.result ≡ one_more (made_at s.made.items w) =
-    c.saturating_add.ensures ∙ ap one_more (get_or_read s.made.items c.place_of-row.result _ (omega (arith, c.place_of-row.ensures.below, k.made_rows)) c.index.ensures 0
+    c.saturating_add.ensures ∙ ap one_more (get_or_read s.made.items c.place_of-row.result _ (omega (arith, c.place_of-row.ensures.below, k.made_rows)) c.index-2.ensures 0
     ∙ ap (λ p. get_or s.made.items p 0) c.place_of-row.ensures.place) in
     let v : ShelvesView = record { words = s.words; shelves = xs; made = s.made.items; filled = s.filled.items } in
     record {
