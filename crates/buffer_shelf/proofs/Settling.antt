@@ -28,6 +28,20 @@ dropped-touched last LetGo used = absurd (cc)
 dropped-touched last (DroppedNow after) used = absurd (cc)
 dropped-touched last (Dropped after g) used = absurd (cc)
 
+free-choice : (t : Bool) (after : ℕ) → is_free_state (cond t LetGo (DroppedNow after)) ≡ false
+free-choice true after = refl
+free-choice false after = refl
+
+-- of what is in use, what the unit made alone is free once it is dropped
+pub made-free : (last : ℕ) (s : State) → is_used s ≡ true → is_touched s ≡ is_free_state (dropped last s)
+made-free last Free used = absurd (cc)
+made-free last Returned used = absurd (cc)
+made-free last Made used = refl
+made-free last (InUse after) used = sym (free-choice (nat_eq after last) after)
+made-free last LetGo used = absurd (cc)
+made-free last (DroppedNow after) used = absurd (cc)
+made-free last (Dropped after g) used = absurd (cc)
+
 pub settled-touched : (accepts : Bool) (last generation : ℕ) (s : State) → is_touched (settled_state accepts last generation s) ≡ false
 settled-touched true last generation Free = refl
 settled-touched true last generation Returned = refl

@@ -212,8 +212,9 @@ impl Shelf {
     {
         let state = self.states[entry as usize];
         let after = state.dropped(last);
-        enter(&mut self.free, entry, after.is_free());
-        enter(&mut self.touched, entry, !state.is_touched());
+        let made = state.is_made();
+        enter(&mut self.free, entry, made);
+        enter(&mut self.touched, entry, !made);
         self.states[entry as usize] = after;
         after
     }

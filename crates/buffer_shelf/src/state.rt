@@ -19,7 +19,7 @@ pub enum State {
 }
 
 impl State {
-    ghost use Rattle.buffer_shelf.specs.States.{is_free_state, is_touched, is_freed, is_dropped, dropped, accepted, undone, settled_state};
+    ghost use Rattle.buffer_shelf.specs.States.{is_free_state, is_touched, is_used, is_freed, is_dropped, dropped, accepted, undone, settled_state};
 
     pub fn is_free(self) -> bool
         ensures { result ≡ is_free_state self }
@@ -55,6 +55,14 @@ impl State {
         matches!(self, State::Returned)
     }
 
+    /// Of what is in use: whether the unit made it.
+    pub fn is_made(self) -> bool
+        requires { is_used self ≡ true }
+        ensures { result ≡ is_touched self }
+    {
+        matches!(self, State::Made)
+    }
+
     /// Dropped by a unit that was accepted.
     pub fn is_dropped(self) -> bool
         ensures { result ≡ is_dropped self }
@@ -62,15 +70,20 @@ impl State {
         matches!(self, State::Dropped { .. })
     }
 
-    /// What becomes of it when it is dropped.
+    /// What becomes of an entry in use that is dropped.
     pub fn dropped(self, last: u32) -> State
+        requires { is_used self ≡ true }
         ensures { result ≡ dropped last self }
     {
         match self {
             State::Made => State::Returned,
             State::InUse { after } if after == last => State::LetGo,
             State::InUse { after } => State::DroppedNow { after },
-            other => other,
+            State::Free
+            | State::Returned
+            | State::LetGo
+            | State::DroppedNow { .. }
+            | State::Dropped { .. } => unreachable!(),
         }
     }
 
