@@ -211,10 +211,13 @@ impl Shelf {
         ensures dropped { self.new ≡ with_state_at self.old entry (dropped last (state_at self.old.states entry)) }
     {
         let state = self.states[entry as usize];
+        if state.is_made() {
+            put(&mut self.free, entry);
+            self.states[entry as usize] = State::Returned;
+            return State::Returned;
+        }
+        put(&mut self.touched, entry);
         let after = state.dropped(last);
-        let made = state.is_made();
-        enter(&mut self.free, entry, made);
-        enter(&mut self.touched, entry, !made);
         self.states[entry as usize] = after;
         after
     }

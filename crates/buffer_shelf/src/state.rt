@@ -27,15 +27,6 @@ impl State {
         matches!(self, State::Free | State::Returned)
     }
 
-    pub fn is_touched(self) -> bool
-        ensures { result ≡ is_touched self }
-    {
-        match self {
-            State::Returned | State::Made | State::LetGo | State::DroppedNow { .. } => true,
-            State::Free | State::InUse { .. } | State::Dropped { .. } => false,
-        }
-    }
-
     /// Whether the unit's end makes it free, where it was not.
     pub fn is_freed(self, accepts: bool) -> bool
         ensures { result ≡ is_freed accepts self }
