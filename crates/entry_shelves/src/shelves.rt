@@ -167,9 +167,9 @@ impl Shelves {
         let shelf = &mut self.shelves[buffer as usize];
         let had_touched = shelf.has_touched();
         let now = shelf.drop_entry(place, last);
+        self.touched.enter(buffer, !had_touched);
         let enters = now.is_free() && shelf.has_one_spare();
         let width = shelf.width();
-        self.touched.enter(buffer, !had_touched);
         enter_row(&mut self.open, width, buffer, enters);
         now
     }
