@@ -1,14 +1,15 @@
-//! All that is asked of an image of one attribute: its documents with their items, and the documents of each value.
+//! All that is asked of an image of one attribute: its documents with their items, and of each value the documents and their scores.
 ghost use Rattle.std.specs.Prelude.{◌≡◌, ◌≤◌, length, slice_get, Some};
 ghost use Rattle.attr_images.specs.Images.{IsLawfulImage};
 ghost use Rattle.attr_images.specs.Shapes.{shape_of, types_of};
 ghost use Rattle.attr_types.specs.declared.field.TheConstants.{MOST_FIELDS};
 
 use attr_column::first_documents;
-use attr_types::{Field, FieldItems, Fields, Items, Leaf, Query, Value};
+use attr_scores::{Part, Parts};
+use attr_types::{Field, FieldItems, Fields, Items, Leaf, Query, Value, compare};
 use entry_ref::EntryRef;
 use frozen_api::Frozen;
-use query_eval::hits;
+use query_eval::{hits, scores};
 use std::alloc::{AllocError, Global};
 
 /// How many operations an image has.
@@ -44,14 +45,58 @@ fn ask_leaf<const OFFSET_BITS: u32, F: Frozen<OFFSET_BITS>>(
     Ok(found.len())
 }
 
-/// How many documents have each of some values, all together.
+/// How many documents have a score by a value. Of a list that is a tree a score reads the weights too.
+fn ask_score<const OFFSET_BITS: u32, F: Frozen<OFFSET_BITS>>(
+    alloc: Global,
+    frozen: &mut F,
+    root: EntryRef<OFFSET_BITS>,
+    fields: &Fields,
+    value: &Value,
+) -> Result<usize, AllocError>
+    requires few { length fields.now ≤ MOST_FIELDS }
+    requires shape { F.shape frozen.old ≡ shape_of (types_of fields.now) }
+    requires image { IsLawfulImage (F.shape frozen.old) (F.records frozen.old) root }
+    ensures same { frozen.new ≡ frozen.old }
+{
+    let mut parts = Parts::new(alloc);
+    parts.push(Part {
+        value: value.clone()?,
+        weight: 1,
+    })?;
+    let scored = scores(alloc, frozen, root, fields, 0, &parts)?;
+    Ok(scored.len())
+}
+
+/// How many documents have a value, if as many have a score by it.
+fn ask_value<const OFFSET_BITS: u32, F: Frozen<OFFSET_BITS>>(
+    alloc: Global,
+    frozen: &mut F,
+    root: EntryRef<OFFSET_BITS>,
+    fields: &Fields,
+    value: &Value,
+) -> Result<Option<usize>, AllocError>
+    requires few { length fields.now ≤ MOST_FIELDS }
+    requires shape { F.shape frozen.old ≡ shape_of (types_of fields.now) }
+    requires image { IsLawfulImage (F.shape frozen.old) (F.records frozen.old) root }
+    ensures same { frozen.new ≡ frozen.old }
+{
+    let found = ask_leaf(alloc, frozen, root, fields, Leaf::Is(value.clone()?))?;
+    let scored = ask_score(alloc, frozen, root, fields, value)?;
+    if found == scored {
+        Ok(Some(found))
+    } else {
+        Ok(None)
+    }
+}
+
+/// How many documents have each of some values, all together, if each is as it should be.
 fn ask_values<const OFFSET_BITS: u32, F: Frozen<OFFSET_BITS>>(
     alloc: Global,
     frozen: &mut F,
     root: EntryRef<OFFSET_BITS>,
     fields: &Fields,
     values: &[Value],
-) -> Result<usize, AllocError>
+) -> Result<Option<usize>, AllocError>
     requires few { length fields.now ≤ MOST_FIELDS }
     requires shape { F.shape frozen.old ≡ shape_of (types_of fields.now) }
     requires image { IsLawfulImage (F.shape frozen.old) (F.records frozen.old) root }
@@ -59,15 +104,24 @@ fn ask_values<const OFFSET_BITS: u32, F: Frozen<OFFSET_BITS>>(
 {
     let mut sum = 0usize;
     for value in values {
-        let found = ask_leaf(alloc, frozen, root, fields, Leaf::Is(value.clone()?))?;
-        sum = sum.saturating_add(found);
+        match ask_value(alloc, frozen, root, fields, value)? {
+            Some(found) => sum = sum.saturating_add(found),
+            None => return Ok(None),
+        }
     }
-    Ok(sum)
+    Ok(Some(sum))
 }
 
+fn has_value(values: &[Value], value: &Value) -> bool {
+    values.iter().any(|known| compare(known, value).is_eq())
+}
+
+/// With those values of items that are not among them.
 fn add_values(values: &mut Vec<Value>, items: &Items) -> Result<(), AllocError> {
     for item in items.as_slice() {
-        values.push(item.value.clone()?)?;
+        if !has_value(values.as_slice(), &item.value) {
+            values.push(item.value.clone()?)?;
+        }
     }
     Ok(())
 }
@@ -79,7 +133,7 @@ fn add_first(values: &mut Vec<Value>, items: &FieldItems) -> Result<(), AllocErr
     }
 }
 
-/// The values that documents have in the first attribute, each as often as they have it.
+/// The values that documents have in the first attribute, each once.
 fn values_in<const OFFSET_BITS: u32, F: Frozen<OFFSET_BITS>>(
     alloc: Global,
     frozen: &mut F,
@@ -101,7 +155,7 @@ fn values_in<const OFFSET_BITS: u32, F: Frozen<OFFSET_BITS>>(
     Ok(values)
 }
 
-/// Asks all; whether the documents of all values are those of each, or more.
+/// Asks all; whether the documents of all values are no more than those of each, and as many of each value have a score.
 pub fn ask_all<const OFFSET_BITS: u32, F: Frozen<OFFSET_BITS>>(
     alloc: Global,
     frozen: &mut F,
@@ -122,6 +176,8 @@ pub fn ask_all<const OFFSET_BITS: u32, F: Frozen<OFFSET_BITS>>(
         high: None,
     };
     let all = ask_leaf(alloc, frozen, root, fields, every)?;
-    let sum = ask_values(alloc, frozen, root, fields, values.as_slice())?;
-    Ok(all <= sum)
+    match ask_values(alloc, frozen, root, fields, values.as_slice())? {
+        Some(sum) => Ok(all <= sum),
+        None => Ok(false),
+    }
 }
