@@ -1,4 +1,5 @@
-ghost use Rattle.std.specs.Prelude.{◌≡◌, ◌↔◌, ◌<◌, ◌≤◌, ◌+◌, ◌^◌, ℕ, [], true, false, nat_lt, length, slice_set, vec_len, vec_capacity, count_by};
+ghost use Rattle.std.specs.Prelude.{◌≡◌, ◌↔◌, ◌<◌, ◌≤◌, ◌+◌, ◌^◌, ℕ, [], true, false, nat_lt, length, slice_set, vec_len, vec_capacity};
+ghost use Rattle.std.specs.Prelude.{count_by};
 ghost use Rattle.std.specs.Prelude.{IsNone, IfSome, IfNone, OnOk, OnErr, if◌then◌else◌, ◌∷◌, ◌++◌};
 ghost use Rattle.buffer_shelf.specs.States.{is_free_state, is_touched};
 ghost use Rattle.buffer_shelf.specs.Stacks.{IsStack};

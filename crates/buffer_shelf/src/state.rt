@@ -19,7 +19,8 @@ pub enum State {
 }
 
 impl State {
-    ghost use Rattle.buffer_shelf.specs.States.{is_free_state, is_touched, is_used, is_freed, is_dropped, dropped, accepted, undone, settled_state};
+    ghost use Rattle.buffer_shelf.specs.States.{is_free_state, is_touched, is_used, is_freed, is_dropped, dropped, accepted, undone};
+    ghost use Rattle.buffer_shelf.specs.States.{settled_state};
 
     pub fn is_free(self) -> bool
         ensures { result ≡ is_free_state self }
