@@ -1,12 +1,11 @@
 -- Of which width a walk was refused.
-use Rattle.std.proofs.Common.{◌≡◌, ℕ, ℤ, List, [], ◌∷◌, ◌++◌, length, cond, Option, Some, None, is_eq, nat_cmp, refl, sym, ap, subst, ◌∙◌, inl, inr}
+use Rattle.std.proofs.Common.{◌≡◌, ℕ, ℤ, List, [], ◌∷◌, ◌++◌, length, Option, Some, None, nat_cmp, sym, ap, subst, ◌∙◌, inl, inr}
 use Rattle.std.specs.BTreeMap.{insert_entry, is_at}
 use Rattle.std.specs.List.{AllByRecursion}
 use Rattle.std.specs.List.Sorted.{IsStrictlySortedBy}
 use Rattle.std.specs.Map.{keys_of, lookup, remove_entry}
 use Rattle.std.specs.Option.{is_some}
-use Rattle.std.specs.Ordering.{ordering_reverse}
-use Rattle.attr_index.proofs.MapLemmas.{IsWalk, IsWalkBack, at_place, none_before}
+use Rattle.attr_index.proofs.MapLemmas.{IsWalk, IsWalkBack, none_before}
 use Rattle.attr_index.proofs.OfLemmas.{all_found}
 use Rattle.attr_index.specs.Changes.{settled}
 use Rattle.attr_index.specs.Index.{Index, list_of}
@@ -20,13 +19,6 @@ use Rattle.attr_walks.specs.Widths.{IsWalkWidth}
 at_here : (P : Value × ℤ → Type 0) (done more : List (Value × ℤ)) (e : Value × ℤ) → AllByRecursion P (done ++ e ∷ more) → P e
 at_here P [] more e all = all.0
 at_here P (d ∷ done) more e all = at_here P done more e all.1
-
-unfolding IsStrictlySortedBy
-none_before value weight [] more up = refl
-none_before value weight (e ∷ es) more up =
-    ap (λ r. cond (is_eq r) (Some e.1) (lookup (is_at (value_cmp value)) es))
-    (value_cmp_total.antisymm value e.0 ∙ ap ordering_reverse (at_place e.0 value weight es more up.0))
-    ∙ none_before value weight es more up.1
 
 -- the value that is next in a walk: its list is what it was at first, and is changed once
 module _ (start : Index) (doc : ℕ) (entries rest more : List (Value × ℤ)) (value : Value) (weight : ℤ) (now : Index)

@@ -4,7 +4,7 @@ use Rattle.std.specs.List.{AllByRecursion}
 use Rattle.std.specs.Map.{keys_of}
 use Rattle.std.proofs.lemmas.Bool.{cond-true, le-leb}
 use Rattle.image_base.specs.Records.{Records}
-use Rattle.tree_images.specs.Trees.{tree_pairs, root_level, root_least, IsNode, IsRootNode}
+use Rattle.tree_images.specs.Trees.{tree_pairs, root_level, root_least, IsRootNode}
 use Rattle.attr_images.proofs.ImageLemmas.{node_there}
 use Rattle.attr_images.specs.Postings.{vector, list_form, block_documents, IsBlock, IsPostingList}
 use Rattle.attr_images.specs.Words.{weight_in_bits}
@@ -50,10 +50,6 @@ blocks_are m (p ∷ ps) blocks numbers =
       },
       blocks_are m ps blocks.1 (all_right IsDocNumber (block_documents p.0 (m p.1)) (documents_of m ps) numbers),
     )
-
-unfolding IsNode
-node_there m least zero ref node = let size = node.0.size in omega arith
-node_there m least (suc level) ref node = let size = node.0.size in omega arith
 
 root_of_some : (m : Records) (root : ℕ) → (0 < root → IsRootNode m root) → 0 < length (tree_pairs m root) → 0 < length (m root)
 root_of_some m zero node some = absurd (omega (arith, some))
