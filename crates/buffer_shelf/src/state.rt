@@ -40,7 +40,7 @@ impl State {
     }
 
     /// Of what is free: whether the unit changed it.
-    pub fn is_returned(self) -> bool
+    pub(crate) fn is_returned(self) -> bool
         requires { is_free_state self ≡ true }
         ensures { result ≡ is_touched self }
     {
@@ -48,7 +48,7 @@ impl State {
     }
 
     /// Of what is in use: whether the unit made it.
-    pub fn is_made(self) -> bool
+    pub(crate) fn is_made(self) -> bool
         requires { is_used self ≡ true }
         ensures { result ≡ is_touched self }
     {
@@ -63,7 +63,7 @@ impl State {
     }
 
     /// What becomes of an entry in use that is dropped.
-    pub fn dropped(self, last: u32) -> State
+    pub(crate) fn dropped(self, last: u32) -> State
         requires { is_used self ≡ true }
         ensures { result ≡ dropped last self }
     {
