@@ -22,10 +22,6 @@ among_flat f [] v r there among = absurd there
 among_flat f (w ∷ vs) v r (inl e) among = among_left r (f w) (flat_map f vs) (subst (λ x. Among r (f x)) e among)
 among_flat f (w ∷ vs) v r (inr later) among = among_right r (f w) (flat_map f vs) (among_flat f vs v r later among)
 
-    told : (Among r (flat_map f vs) → (v : ℕ) × Among v vs × Among r (f v)) → Among r (f w) ⊎ Among r (flat_map f vs) → (v : ℕ) × Among v (w ∷ vs) × Among r (f v)
-    told more (inl here) = (w, inl refl, here)
-    told more (inr behind) = later (more behind)
-
 -- ---- nodes and keys below a node of a tree are the tree's
 module _ (m : Records) where
   level_is : (least level ref r : ℕ) → r ≡ ref → IsNode m least level ref → level_of (m r) ≡ level
