@@ -5,7 +5,6 @@ use Rattle.std.specs.List.{list_all}
 use Rattle.std.specs.Map.{lookup}
 use Rattle.std.specs.Option.{unwrap_or}
 use Rattle.std.proofs.lemmas.Bool.{cond-true, cond-false, cases_eq, eq-eqb, ne_eqb, eqb-true}
-use Rattle.std.proofs.lemmas.List.{get_or-take, get_or-drop}
 use Rattle.std.proofs.lemmas.Nat.{div-add-mod'}
 use Rattle.std.proofs.Math.Nat.{mul-le-mul_right}
 use Rattle.entry_ref.specs.References.{buffer_of, offset_of, packed, buffer_limit}
@@ -13,7 +12,7 @@ use Rattle.entry_ref.proofs.Bits.{packed-buffer, packed-offset}
 use Rattle.image_base.specs.Places.{IsEntry}
 use Rattle.image_base.specs.Records.{Records, pairs_of}
 use Rattle.image_base.proofs.Steps.{none-or, offset-within}
-use Rattle.mem_work.specs.Cells.{width_in, begin_of, standing, stamp_of, is_since, is_whole, records_in}
+use Rattle.mem_work.specs.Cells.{width_in, begin_of, stamp_at, standing, is_since, is_whole, records_in}
 use Rattle.mem_work.specs.Entries.{is_chosen, chosen, with_those}
 use Rattle.mem_work.specs.ProofsForMemory.{names_entry-from, standing-entry}
 
@@ -32,16 +31,16 @@ words-at table ts bits buffers words r b o w st sb so sw e =
 
 -- an entry whose words were all stored since a stamp was stored whole
 pub whole-is : (table stamps : List ℕ) (bits buffers words n r : ℕ) → IsEntry bits buffers words (width_in table words (buffer_of bits r)) r
-    → (own : List ℕ) → own ≡ take (width_in table words (buffer_of bits r)) (drop (begin_of bits words (width_in table words (buffer_of bits r)) r) stamps)
-    → list_all (is_since n (get_or own 0 0)) own ≡ is_whole table stamps bits buffers words n r
+    → (whole : ℕ) (own : List ℕ) → whole ≡ get_or stamps (stamp_at bits buffers words r) 0
+    → own ≡ take (width_in table words (buffer_of bits r)) (drop (begin_of bits words (width_in table words (buffer_of bits r)) r) stamps)
+    → list_all (is_since n whole) own ≡ is_whole table stamps bits buffers words n r
 unfolding is_whole
-whole-is table stamps bits buffers words n r e own is =
+whole-is table stamps bits buffers words n r e whole own at is =
     let w = width_in table words (buffer_of bits r) in
-    let begin = begin_of bits words w r in
-    let at : begin + 0 ≡ begin = omega arith in
-    ap (λ xs. list_all (is_since n (get_or xs 0 0)) xs) is
-    ∙ ap (λ x. list_all (is_since n x) (take w (drop begin stamps))) (get_or-take w (drop begin stamps) 0 0 e.wide ∙ get_or-drop begin stamps 0 0 ∙ ap (λ k. get_or stamps k 0) at)
-    ∙ sym (ap (λ t. t && list_all (is_since n (get_or stamps begin 0)) (take w (drop begin stamps))) (names_entry-from bits buffers words w r e))
+    let all = list_all (is_since n (get_or stamps (stamp_at bits buffers words r) 0)) (take w (drop (begin_of bits words w r) stamps)) in
+    ap (λ xs. list_all (is_since n whole) xs) is
+    ∙ ap (λ x. list_all (is_since n x) (take w (drop (begin_of bits words w r) stamps))) at
+    ∙ sym (ap (λ t. t && all) (names_entry-from bits buffers words w r e))
 
 some-of : (t : Bool) (xs : List ℕ) → 0 < length (cond t xs []) → 0 < length xs
 some-of true xs h = h
@@ -120,7 +119,7 @@ put-is f n ws r here others q = elim (cases_eq q r) [
 ]
 
 -- with what the last root reaches, the entries that were stored whole since are the records
-pub map-records : (reaches : ℕ → Records → ℕ → List ℕ) (shape : ℕ) (table stamps : List ℕ) (bits buffers words last root n : ℕ) (refs : List ℕ) (all whole new : Records) → n ≡ stamp_of (last + 1)
+pub map-records : (reaches : ℕ → Records → ℕ → List ℕ) (shape : ℕ) (table stamps : List ℕ) (bits buffers words last root n : ℕ) (refs : List ℕ) (all whole new : Records) → n ≡ last + 1
     → ((q : ℕ) → all q ≡ standing table bits buffers words q) → refs ≡ reaches shape all root → ((q : ℕ) → whole q ≡ chosen (Some n) table stamps bits buffers words q)
     → ((q : ℕ) → new q ≡ with_those refs all whole q) → new ≡ records_in reaches shape table stamps bits buffers words last root
 map-records reaches shape table stamps bits buffers words last root n refs all whole new next stands reached chose added = λ k q. (step q) k
@@ -131,7 +130,7 @@ map-records reaches shape table stamps bits buffers words last root n refs all w
     step : (q : ℕ) → new q ≡ records_in reaches shape table stamps bits buffers words last root q
     step q =
         added q
-        ∙ those-same refs m all (chosen (Some (stamp_of (last + 1))) table stamps bits buffers words) whole stands (λ p. chose p ∙ ap (λ x. chosen (Some x) table stamps bits buffers words p) next) q
-        ∙ those-records refs m (is_whole table stamps bits buffers words (stamp_of (last + 1)) q) q (chosen (Some (stamp_of (last + 1))) table stamps bits buffers words) refl
-        ∙ ap (λ rs. cond (is_whole table stamps bits buffers words (stamp_of (last + 1)) q) (m q) (unwrap_or (lookup (nat_eq q) (pairs_of rs m)) []))
+        ∙ those-same refs m all (chosen (Some (last + 1)) table stamps bits buffers words) whole stands (λ p. chose p ∙ ap (λ x. chosen (Some x) table stamps bits buffers words p) next) q
+        ∙ those-records refs m (is_whole table stamps bits buffers words (last + 1) q) q (chosen (Some (last + 1)) table stamps bits buffers words) refl
+        ∙ ap (λ rs. cond (is_whole table stamps bits buffers words (last + 1) q) (m q) (unwrap_or (lookup (nat_eq q) (pairs_of rs m)) []))
         (reached ∙ ap (λ (f : Records). reaches shape f root) (λ k p. (stands p) k))

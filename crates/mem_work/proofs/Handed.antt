@@ -9,10 +9,10 @@ use Rattle.image_base.specs.Places.{IsEntry}
 use Rattle.image_base.proofs.Apart.{within}
 use Rattle.arena_api.specs.Works.{Buffer, last_tag}
 use Rattle.arena_api.specs.Calls.{with_buffer}
-use Rattle.mem_work.specs.Cells.{width_in, begin_of, names_entry, standing, is_since, is_whole, stored_in, buffer_by, buffer_in}
+use Rattle.mem_work.specs.Cells.{width_in, begin_of, stamp_at, names_entry, standing, is_since, is_whole, stored_in, buffer_by, buffer_in}
 use Rattle.mem_work.proofs.Standing.{range-set_other, lacks, not_first, cond-same, cond-and}
 use Rattle.mem_work.specs.ProofsForMemory.{names_entry-true}
-use Rattle.mem_work.proofs.Standing.{since-parts, whole-first}
+use Rattle.mem_work.proofs.Standing.{since-parts, whole-first, entry-offset}
 use Rattle.mem_work.specs.ProofsForMemory.{is_stored}
 
 pub none-from : (o : Option ℕ) → ((x : ℕ) → o ≡ Some x → ⊥) → o ≡ None
@@ -59,19 +59,24 @@ module _ (table : List ℕ) (bits buffers words b width : ℕ) (free : width_in 
       ∙ cond-same _ _ _ [] (range-handed q)
 
   -- each word of the buffer was stored before a stamp
-  module _ (stamps : List ℕ) (n : ℕ) (room : length stamps ≡ buffers * words) (none : (x : ℕ) → x < words → get_or stamps (b * words + x) 0 < n) where
+  module _ (stamps : List ℕ) (n : ℕ) (room : length stamps ≡ buffers * words + buffers * words)
+      (none : (x : ℕ) → x < words → (get_or stamps (b * words + x) 0 < n) × (get_or stamps (buffers * words + (b * words + x)) 0 < n)) where
     early : (q i w : ℕ) → buffer_of bits q ≡ b → IsEntry bits buffers words w q → i < w → get_or stamps (begin_of bits words w q + i) 0 < n
     early q i w at e below =
         let moved : b * words ≡ buffer_of bits q * words = ap (λ k. k * words) (sym at) in
         let place : b * words + (offset_of bits q * w + i) ≡ begin_of bits words w q + i = omega (arith, moved) in
-        subst (λ k. get_or stamps k 0 < n) place (none (offset_of bits q * w + i) (within e i below).1)
+        subst (λ k. get_or stamps k 0 < n) place (none (offset_of bits q * w + i) (within e i below).1).0
+
+    early-entry : (q w : ℕ) → buffer_of bits q ≡ b → IsEntry bits buffers words w q → get_or stamps (stamp_at bits buffers words q) 0 < n
+    early-entry q w at e =
+        let moved : b * words ≡ buffer_of bits q * words = ap (λ k. k * words) (sym at) in
+        let place : buffers * words + (b * words + offset_of bits q) ≡ stamp_at bits buffers words q = omega (arith, moved) in
+        subst (λ k. get_or stamps k 0 < n) place (none (offset_of bits q) (entry-offset bits buffers words w q e)).1
 
     fresh : (q i w : ℕ) → buffer_of bits q ≡ b → IsEntry bits buffers words w q → i < w
-        → is_since n (get_or stamps (begin_of bits words w q) 0) (get_or stamps (begin_of bits words w q + i) 0) ≡ true → ⊥
+        → is_since n (get_or stamps (stamp_at bits buffers words q) 0) (get_or stamps (begin_of bits words w q + i) 0) ≡ true → ⊥
     fresh q i w at e below since = elim (since-parts n _ _ since) [
-      | inl late ↦
-          (let first : begin_of bits words w q + 0 ≡ begin_of bits words w q = omega arith in
-          omega (arith, late, early q 0 w at e e.wide, ap (λ k. get_or stamps k 0) first))
+      | inl late ↦ omega (arith, late, early-entry q w at e)
       | inr late ↦ omega (arith, late, early q i w at e below)
     ]
 
@@ -83,7 +88,7 @@ module _ (table : List ℕ) (bits buffers words b width : ℕ) (free : width_in 
           ∙ sym (false_from_ne_true _ (λ is. let wide : 0 < width_in table words (buffer_of bits q) = (whole-first table stamps bits buffers words n q room is).0.wide in
           omega (arith, wide, ap (width_in table words) e, free)))
       | inr ne ↦
-          ap (λ w. names_entry bits buffers words w q && list_all (is_since n (get_or stamps (begin_of bits words w q) 0)) (take w (drop (begin_of bits words w q) stamps)))
+          ap (λ w. names_entry bits buffers words w q && list_all (is_since n (get_or stamps (stamp_at bits buffers words q) 0)) (take w (drop (begin_of bits words w q) stamps)))
           (width-other (buffer_of bits q) ne)
     ]
 
@@ -94,7 +99,7 @@ module _ (table : List ℕ) (bits buffers words b width : ℕ) (free : width_in 
           none-from _ (λ x is. let s = is_stored (set table (b * words) width) stamps bits buffers words n q i x is in fresh q i _ e s.entry s.inside s.stamp)
           ∙ sym (none-from _ (λ x is. let wide = (is_stored table stamps bits buffers words n q i x is).entry.wide in omega (arith, wide, ap (width_in table words) e, free)))
       | inr ne ↦
-          ap (λ w. cond (names_entry bits buffers words w q && (ltb i w && is_since n (get_or stamps (begin_of bits words w q) 0) (get_or stamps (begin_of bits words w q + i) 0)))
+          ap (λ w. cond (names_entry bits buffers words w q && (ltb i w && is_since n (get_or stamps (stamp_at bits buffers words q) 0) (get_or stamps (begin_of bits words w q + i) 0)))
           (Some (get_or (set table (b * words) width) (begin_of bits words w q + i) 0)) None)
           (width-other (buffer_of bits q) ne)
           ∙ cond-and _ _ _ _ _ _ _ (λ there below. (refl, ap Some (word-handed q i there below)))

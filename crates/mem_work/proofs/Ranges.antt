@@ -1,18 +1,17 @@
 -- The words of an entry are replaced all at once: they stand, and what stands elsewhere stays.
-use Rattle.std.proofs.Common.{◌≡◌, ◌≢◌, ℕ, suc, ◌+◌, ◌-◌, ◌*◌, ◌<◌, ◌≤◌, ◌⊎◌, inl, inr, true, cond, ◌&&◌, ltb, List, [], ◌++◌, length, get_or, set, take, drop, refl, sym, ap, subst, ◌∙◌, arith, length-take}
+use Rattle.std.proofs.Common.{◌≡◌, ◌≢◌, ℕ, suc, ◌+◌, ◌-◌, ◌*◌, ◌<◌, ◌≤◌, ◌⊎◌, inl, inr, true, cond, ◌&&◌, leb, List, [], ◌++◌, length, get_or, set, take, drop, refl, sym, ap, subst, ◌∙◌, arith, length-take}
 use Rattle.std.proofs.Common.{length-drop, get_or-set_other, get_or-set_same, length-append}
 use Rattle.std.specs.List.{list_all}
 use Rattle.std.proofs.Math.ListN.{get_or-append}
 use Rattle.std.proofs.Math.Nat.{mul-le-mul_right}
 use Rattle.std.proofs.lemmas.List.{get_or-take, get_or-drop, get_or-append_right}
-use Rattle.std.proofs.lemmas.Bool.{cases_eq, or_left, lt-ltb}
+use Rattle.std.proofs.lemmas.Bool.{cases_eq, or_left, le-leb}
 use Rattle.std.proofs.lemmas.Grind.{same_number_lists}
 use Rattle.std.proofs.lemmas.Nat.{same_from_place}
 use Rattle.entry_ref.specs.References.{buffer_of, offset_of}
 use Rattle.image_base.specs.Places.{IsEntry}
-use Rattle.image_base.proofs.Apart.{within}
-use Rattle.mem_work.specs.Cells.{width_in, begin_of, with_range, names_entry, standing, is_since, is_whole}
-use Rattle.mem_work.proofs.Standing.{range-set_other, lacks, one_cell, not_first, cond-same, and-same}
+use Rattle.mem_work.specs.Cells.{width_in, begin_of, stamp_at, with_range, names_entry, standing, is_since, IsUnused, is_whole}
+use Rattle.mem_work.proofs.Standing.{range-set_other, lacks, one_cell, not_first, cond-same, and-same, entry-offset, stamp-below, one_stamp}
 use Rattle.mem_work.specs.ProofsForMemory.{names_entry-true, length-standing, word-standing}
 use Rattle.mem_work.specs.ProofsForMemory.{whole-from}
 
@@ -96,66 +95,59 @@ module _ (table : List ℕ) (bits buffers words r width : ℕ) (is : width_in ta
       word-standing t bits buffers words r k f below ∙ ap (λ w. get_or t (begin_of bits words w r + k) 0) now
       ∙ range-at table (begin_of bits words width r) ws width long place-fits k (omega (arith, below, now)))
 
-  -- the stamp where it begins is set
-  module _ (stamps : List ℕ) (n : ℕ) (also : length stamps ≡ buffers * words) where
-    place-below : begin_of bits words width r < length stamps
-    place-below = omega (arith, range-fits bits buffers words width r (length stamps) e also, e.wide)
+  -- its stamp is set
+  module _ (stamps : List ℕ) (n : ℕ) (also : length stamps ≡ buffers * words + buffers * words) where
+    abbrev here : ℕ
+    here = stamp_at bits buffers words r
 
-    -- no other entry has its place
-    elsewhere : (q j : ℕ) → q ≢ r → names_entry bits buffers words (width_in table words (buffer_of bits q)) q ≡ true → j < width_in table words (buffer_of bits q)
-        → begin_of bits words width r ≢ begin_of bits words (width_in table words (buffer_of bits q)) q + j
-    elsewhere q j ne there below same =
-        let w = width_in table words (buffer_of bits q) in
-        ne (one_cell bits buffers words w width q r j 0 (names_entry-true bits buffers words w q there) e (λ b. ap (width_in table words) b ∙ is) below e.wide (omega (arith, same))).0
+    place-below : here < length stamps
+    place-below = omega (arith, stamp-below bits buffers words width r e, also)
 
     -- whether another was stored whole stays
     pub whole-elsewhere : (m q : ℕ) → q ≢ r
-        → is_whole (with_range table (begin_of bits words width r) ws) (set stamps (begin_of bits words width r) n) bits buffers words m q ≡ is_whole table stamps bits buffers words m q
+        → is_whole (with_range table (begin_of bits words width r) ws) (set stamps (stamp_at bits buffers words r) n) bits buffers words m q ≡ is_whole table stamps bits buffers words m q
     unfolding is_whole
     whole-elsewhere m q ne =
-        let here = begin_of bits words width r in
         let s = set stamps here n in
-        ap (λ w. names_entry bits buffers words w q && list_all (is_since m (get_or s (begin_of bits words w q) 0)) (take w (drop (begin_of bits words w q) s))) (width-range (buffer_of bits q))
+        let place = stamp_at bits buffers words q in
+        ap (λ w. names_entry bits buffers words w q && list_all (is_since m (get_or s place 0)) (take w (drop (begin_of bits words w q) s))) (width-range (buffer_of bits q))
         ∙ and-same _ _ _ (λ there.
         let w = width_in table words (buffer_of bits q) in
         let from = begin_of bits words w q in
         let f = names_entry-true bits buffers words w q there in
-        let apart : from ≢ here = (λ same. elsewhere q 0 ne there f.wide (omega (arith, same))) in
-        ap (λ x. list_all (is_since m x) (take w (drop from s))) (get_or-set_other stamps here from n 0 apart)
-        ∙ ap (list_all (is_since m (get_or stamps from 0))) (range-set_other stamps here from w n (lacks here from w (λ j h same. elsewhere q j ne there h same))))
+        ap (λ x. list_all (is_since m x) (take w (drop from s)))
+        (get_or-set_other stamps here place n 0 (λ same. ne (one_stamp bits buffers words w width q r f e same)))
+        ∙ ap (list_all (is_since m (get_or stamps place 0)))
+        (range-set_other stamps here from w n (inr (omega (arith, range-fits bits buffers words w q (buffers * words) f refl)))))
 
-    -- and the entry was, if its stamp is past that
-    pub whole-range : (m : ℕ) → m < n → is_whole (with_range table (begin_of bits words width r) ws) (set stamps (begin_of bits words width r) n) bits buffers words m r ≡ true
+    -- and the entry was, if its stamp is that or past it
+    pub whole-range : (m : ℕ) → m ≤ n → is_whole (with_range table (begin_of bits words width r) ws) (set stamps (stamp_at bits buffers words r) n) bits buffers words m r ≡ true
     whole-range m late =
         let t = with_range table (begin_of bits words width r) ws in
-        let s = set stamps (begin_of bits words width r) n in
+        let s = set stamps here n in
         let now : width_in t words (buffer_of bits r) ≡ width = width-range (buffer_of bits r) ∙ is in
         whole-from t s bits buffers words m r (subst (λ w. IsEntry bits buffers words w r) (sym now) e) (λ i h.
-        let first = get_or s (begin_of bits words (width_in t words (buffer_of bits r)) r) 0 in
-        or_left (ltb m first) _ (lt-ltb m first (omega (
-          arith,
-          late,
-          ap (λ w. get_or s (begin_of bits words w r) 0) now,
-          get_or-set_same stamps (begin_of bits words width r) n 0 place-below,
-        ))))
+        or_left (leb m (get_or s here 0)) _ (le-leb m (get_or s here 0) (omega (arith, late, get_or-set_same stamps here n 0 place-below))))
 
     -- no stamp is beyond the highest
-    pub stamps-range : ((p : ℕ) → get_or stamps p 0 ≤ n) → (p : ℕ) → get_or (set stamps (begin_of bits words width r) n) p 0 ≤ n
-    stamps-range old p = elim (cases_eq p (begin_of bits words width r)) [
-      | inl same ↦
-          omega (arith, ap (λ k. get_or (set stamps (begin_of bits words width r) n) k 0) same, get_or-set_same stamps (begin_of bits words width r) n 0 place-below)
-      | inr ne ↦ omega (arith, old p, get_or-set_other stamps (begin_of bits words width r) p n 0 ne)
+    pub stamps-range : ((p : ℕ) → get_or stamps p 0 ≤ n) → (p : ℕ) → get_or (set stamps (stamp_at bits buffers words r) n) p 0 ≤ n
+    stamps-range old p = elim (cases_eq p here) [
+      | inl same ↦ omega (arith, ap (λ k. get_or (set stamps here n) k 0) same, get_or-set_same stamps here n 0 place-below)
+      | inr ne ↦ omega (arith, old p, get_or-set_other stamps here p n 0 ne)
     ]
 
     -- those in a free buffer stay
-    pub unused-range : (m : ℕ) → ((b x : ℕ) → x < words → width_in table words b ≡ 0 → get_or stamps (b * words + x) 0 < m)
-        → (b x : ℕ) → x < words → width_in (with_range table (begin_of bits words width r) ws) words b ≡ 0
-        → get_or (set stamps (begin_of bits words width r) n) (b * words + x) 0 < m
-    unused-range m old b x below free =
+    pub unused-range : (m : ℕ) → IsUnused table stamps buffers words m
+        → IsUnused (with_range table (begin_of bits words width r) ws) (set stamps (stamp_at bits buffers words r) n) buffers words m
+    unused-range m old b x inside below free =
         let none : width_in table words b ≡ 0 = sym (width-range b) ∙ free in
-        let ne : b * words + x ≢ begin_of bits words width r =
+        let more : suc b * words ≤ buffers * words = mul-le-mul_right words inside in
+        let before = old b x inside below none in
+        let apart : buffers * words + (b * words + x) ≢ here =
         (λ same.
         let wide = e.wide in
-        let one = (same_from_place b x (buffer_of bits r) (offset_of bits r * width + 0) words below (within e 0 wide).1 (omega (arith, same))).0 in
-        omega (arith, wide, ap (width_in table words) one, none, is)) in
-        omega (arith, old b x below none, get_or-set_other stamps (begin_of bits words width r) (b * words + x) n 0 ne)
+        let one = (same_from_place b x (buffer_of bits r) (offset_of bits r) words below (entry-offset bits buffers words width r e) (omega (arith, same))).0 in
+        omega (arith, wide, ap (width_in table words) one, none, is)) in (
+          omega (arith, before.0, get_or-set_other stamps here (b * words + x) n 0 (λ same. omega (arith, same, below, more))),
+          omega (arith, before.1, get_or-set_other stamps here (buffers * words + (b * words + x)) n 0 apart),
+        )

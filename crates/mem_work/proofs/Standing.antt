@@ -1,14 +1,16 @@
 -- Entries stand apart: a store of one word leaves the words of all others.
-use Rattle.std.proofs.Common.{Option, Some, None, ◌≡◌, ◌≢◌, ℕ, suc, ◌+◌, ◌-◌, ◌*◌, ◌<◌, ◌≤◌, ◌⊎◌, inl, inr, Bool, true, false, cond, ◌&&◌, ◌||◌, ltb, leb, max, List, [], length, get_or, set, take, drop, refl, sym}
+use Rattle.std.proofs.Common.{Option, Some, None, ◌≡◌, ◌≢◌, ℕ, suc, ◌+◌, ◌-◌, ◌*◌, ◌<◌, ◌≤◌, ◌⊎◌, inl, inr, Bool, true, false, cond, ◌&&◌, ltb, leb, List, [], length, get_or, set, take, drop, refl, sym}
 use Rattle.std.proofs.Common.{ap, subst, ◌∙◌, arith, length-take, length-drop, get_or-set_other, get_or-set_same, ◌∷◌}
 use Rattle.std.proofs.lemmas.List.{get_or-take, get_or-drop, drop-set-lt, drop-set-add, take-set-le}
 use Rattle.std.specs.List.{list_all}
-use Rattle.std.proofs.Math.Nat.{mul-le-mul_right}
-use Rattle.std.proofs.lemmas.Bool.{cases_lt, cases_eq, eq-eqb, ne_eqb, ltb-true, lt-ltb, cond-true, cond-false, and_from, and_left, and_right, and_parts, or_right, or_cases, leb-true, le-leb, le-ltb}
-use Rattle.entry_ref.specs.References.{buffer_of}
+use Rattle.std.proofs.Math.Nat.{mul-le-mul_right, mul-le-mul_left}
+use Rattle.std.proofs.lemmas.Nat.{same_from_place}
+use Rattle.std.proofs.lemmas.Bool.{cases_lt, cases_eq, eq-eqb, ne_eqb, ltb-true, lt-ltb, cond-true, cond-false, and_from, and_left, and_right, and_parts, or_right, or_cases, leb-true, le-leb}
+use Rattle.entry_ref.specs.References.{buffer_of, offset_of}
+use Rattle.entry_ref.proofs.Bits.{same-ref}
 use Rattle.image_base.specs.Places.{IsEntry}
 use Rattle.image_base.proofs.Apart.{one_place, place-base, within}
-use Rattle.mem_work.specs.Cells.{width_in, begin_of, names_entry, standing, is_since, is_whole, stored_in}
+use Rattle.mem_work.specs.Cells.{width_in, begin_of, stamp_at, names_entry, standing, is_since, is_whole, stored_in}
 use Rattle.arena_api.specs.Calls.{with_stored}
 use Rattle.mem_work.specs.ProofsForMemory.{names_entry-true, names_entry-from}
 
@@ -53,28 +55,29 @@ cond-and true true c d x y z same = let both = same refl refl in ap (λ t. cond 
 cond-and true false c d x y z same = refl
 cond-and false b c d x y z same = refl
 
--- a stamp that is raised to n is past n where it was before
-past-max : (n a : ℕ) → ltb n (max a n) ≡ ltb n a
-past-max n a = elim (cases_lt n a) [
-  | inl h ↦ (let same : max a n ≡ a = omega arith in ap (ltb n) same)
-  | inr h ↦ (let same : max a n ≡ n = omega arith in ap (ltb n) same ∙ le-ltb n n (omega arith) ∙ sym (le-ltb n a h))
-]
+-- an entry's offset is one of its buffer's words
+pub entry-offset : (bits buffers words width r : ℕ) → IsEntry bits buffers words width r → offset_of bits r < words
+entry-offset bits buffers words width r e =
+    let some : offset_of bits r * 1 ≤ offset_of bits r * width = mul-le-mul_left (offset_of bits r) e.wide in
+    let last = (within e 0 e.wide).1 in
+    omega arith
 
--- stamps of which one is raised to n
-abbrev pub raised : List ℕ → ℕ → ℕ → List ℕ
-raised stamps p n = set stamps p (max (get_or stamps p 0) n)
+-- the stamp of an entry lies behind those of all words
+pub stamp-below : (bits buffers words width r : ℕ) → IsEntry bits buffers words width r → stamp_at bits buffers words r < buffers * words + buffers * words
+stamp-below bits buffers words width r e =
+    let more : suc (buffer_of bits r) * words ≤ buffers * words = mul-le-mul_right words e.inside in
+    omega (arith, entry-offset bits buffers words width r e)
 
-pub past-raised : (stamps : List ℕ) (k p n : ℕ) → p < length stamps → ltb n (get_or (raised stamps p n) k 0) ≡ ltb n (get_or stamps k 0)
-past-raised stamps k p n below = elim (cases_eq k p) [
-  | inl e ↦
-      ap (λ m. ltb n (get_or (raised stamps p n) m 0)) e ∙ ap (ltb n) (get_or-set_same stamps p _ 0 below)
-      ∙ past-max n (get_or stamps p 0) ∙ ap (λ m. ltb n (get_or stamps m 0)) (sym e)
-  | inr ne ↦ ap (ltb n) (get_or-set_other stamps p k _ 0 ne)
-]
+-- no other entry has it
+pub one_stamp : (bits buffers words v w r q : ℕ) → IsEntry bits buffers words v r → IsEntry bits buffers words w q → stamp_at bits buffers words r ≡ stamp_at bits buffers words q → r ≡ q
+one_stamp bits buffers words v w r q e f same =
+    let both = same_from_place (buffer_of bits r) (offset_of bits r) (buffer_of bits q) (offset_of bits q) words (entry-offset bits buffers words v r e)
+    (entry-offset bits buffers words w q f) (omega (arith, same)) in
+    same-ref bits r q both.1 both.0
 
--- what was stored since a stamp has one past it where its entry begins, or one as late beside it
-pub since-parts : (n a b : ℕ) → is_since n a b ≡ true → (n < a) ⊎ (n ≤ b)
-since-parts n a b is = elim (or_cases (ltb n a) (leb n b) is) [ inl h ↦ inl (ltb-true n a h) | inr h ↦ inr (leb-true n b h) ]
+-- what was stored since a stamp was so with its entry, or alone
+pub since-parts : (n a b : ℕ) → is_since n a b ≡ true → (n ≤ a) ⊎ (n ≤ b)
+since-parts n a b is = elim (or_cases (leb n a) (leb n b) is) [ inl h ↦ inl (leb-true n a h) | inr h ↦ inr (leb-true n b h) ]
 
 -- one word of an entry is stored
 module _ (table : List ℕ) (bits buffers words r i : ℕ) (e : IsEntry bits buffers words (width_in table words (buffer_of bits r)) r) (h : i < width_in table words (buffer_of bits r)) where
@@ -99,22 +102,23 @@ module _ (table : List ℕ) (bits buffers words r i : ℕ) (e : IsEntry bits buf
       ∙ cond-same _ _ _ [] (range_other table q v ne)
 
   -- and whether that was stored whole
-  pub whole-other : (stamps : List ℕ) (v n q : ℕ) → length stamps ≡ buffers * words → q ≢ r
-      → is_whole (set table (begin_of bits words (width_in table words (buffer_of bits r)) r + i) v) (raised stamps (begin_of bits words (width_in table words (buffer_of bits r)) r + i) n) bits buffers words n q
+  pub whole-other : (stamps : List ℕ) (v n q : ℕ) → length stamps ≡ buffers * words + buffers * words → q ≢ r
+      → is_whole (set table (begin_of bits words (width_in table words (buffer_of bits r)) r + i) v) (set stamps (begin_of bits words (width_in table words (buffer_of bits r)) r + i) n) bits buffers words n q
       ≡ is_whole table stamps bits buffers words n q
   unfolding is_whole
   whole-other stamps v n q also ne =
       let place = begin_of bits words (width_in table words (buffer_of bits r)) r + i in
-      let s = raised stamps place n in
+      let s = set stamps place n in
       let w = width_in table words (buffer_of bits q) in
-      ap (λ u. names_entry bits buffers words u q && list_all (is_since n (get_or s (begin_of bits words u q) 0)) (take u (drop (begin_of bits words u q) s))) (width-store v (buffer_of bits q))
-      ∙ ap (λ t. names_entry bits buffers words w q && list_all (λ k. t || leb n k) (take w (drop (begin_of bits words w q) s)))
-      (past-raised stamps (begin_of bits words w q) place n (omega (arith, cell-below bits buffers words (width_in table words (buffer_of bits r)) r i e h, also)))
-      ∙ and-same _ _ _ (λ there. ap (list_all (is_since n (get_or stamps (begin_of bits words w q) 0))) (range_other stamps q (max (get_or stamps place 0) n) ne there))
+      ap (λ u. names_entry bits buffers words u q && list_all (is_since n (get_or s (stamp_at bits buffers words q) 0)) (take u (drop (begin_of bits words u q) s))) (width-store v (buffer_of bits q))
+      ∙ ap (λ x. names_entry bits buffers words w q && list_all (is_since n x) (take w (drop (begin_of bits words w q) s)))
+      (get_or-set_other stamps place (stamp_at bits buffers words q) n 0 (λ same.
+      omega (arith, same, cell-below bits buffers words (width_in table words (buffer_of bits r)) r i e h)))
+      ∙ and-same _ _ _ (λ there. ap (list_all (is_since n (get_or stamps (stamp_at bits buffers words q) 0))) (range_other stamps q n ne there))
 
   -- what was stored is one word more
-  pub stored-store : (stamps : List ℕ) (v n q j : ℕ) → length table ≡ buffers * words → length stamps ≡ buffers * words
-      → stored_in (set table (begin_of bits words (width_in table words (buffer_of bits r)) r + i) v) (raised stamps (begin_of bits words (width_in table words (buffer_of bits r)) r + i) n) bits buffers words n q j
+  pub stored-store : (stamps : List ℕ) (v n q j : ℕ) → length table ≡ buffers * words → length stamps ≡ buffers * words + buffers * words
+      → stored_in (set table (begin_of bits words (width_in table words (buffer_of bits r)) r + i) v) (set stamps (begin_of bits words (width_in table words (buffer_of bits r)) r + i) n) bits buffers words n q j
       ≡ with_stored (stored_in table stamps bits buffers words n) r i v q j
   unfolding stored_in
   stored-store stamps v n q j room also = moved ∙ elim (cases_eq q r) [
@@ -132,11 +136,11 @@ module _ (table : List ℕ) (bits buffers words r i : ℕ) (e : IsEntry bits buf
       place = begin_of bits words (width_in table words (buffer_of bits r)) r + i
 
       s : List ℕ
-      s = raised stamps place n
+      s = set stamps place n
 
       with_width : ℕ → ℕ → ℕ → Option ℕ
       with_width k l w =
-          cond (names_entry bits buffers words w k && (ltb l w && is_since n (get_or s (begin_of bits words w k) 0) (get_or s (begin_of bits words w k + l) 0)))
+          cond (names_entry bits buffers words w k && (ltb l w && is_since n (get_or s (stamp_at bits buffers words k) 0) (get_or s (begin_of bits words w k + l) 0)))
           (Some (get_or (set table place v) (begin_of bits words w k + l) 0)) None
 
       here : ℕ → ℕ → Option ℕ
@@ -154,15 +158,16 @@ module _ (table : List ℕ) (bits buffers words r i : ℕ) (e : IsEntry bits buf
           let other : begin_of bits words (width_in table words (buffer_of bits q)) q + j ≢ begin_of bits words (width_in table words (buffer_of bits r)) r + i =
           (λ same. ne (one_cell bits buffers words _ _ q r j i (names_entry-true _ _ _ _ q there) e (λ b. ap (width_in table words) b) (ltb-true _ _ less) h same)) in
           let w = width_in table words (buffer_of bits q) in (
-            ap (λ t. t || leb n (get_or s (begin_of bits words w q + j) 0)) (past-raised stamps (begin_of bits words w q) place n (omega (arith, below, also)))
-                ∙ ap (is_since n (get_or stamps (begin_of bits words w q) 0)) (get_or-set_other stamps _ _ _ 0 other),
+            ap (λ x. is_since n x (get_or s (begin_of bits words w q + j) 0))
+                (get_or-set_other stamps place (stamp_at bits buffers words q) n 0 (λ same. omega (arith, same, below)))
+                ∙ ap (is_since n (get_or stamps (stamp_at bits buffers words q) 0)) (get_or-set_other stamps _ _ _ 0 other),
             ap Some (get_or-set_other table _ _ v 0 other),
           ))
 
       at_place : here r i ≡ with_stored before r i v r i
       at_place =
           cond-true _ _ _ (and_from _ _ (names_entry-from bits buffers words (width_in table words (buffer_of bits r)) r e)
-          (and_from _ _ (lt-ltb _ _ h) (or_right _ _ (le-leb n (get_or s place 0) (omega (arith, get_or-set_same stamps place (max (get_or stamps place 0) n) 0 (omega (arith, below, also))))))))
+          (and_from _ _ (lt-ltb _ _ h) (or_right _ _ (le-leb n (get_or s place 0) (omega (arith, get_or-set_same stamps place n 0 (omega (arith, below, also))))))))
           ∙ ap Some (get_or-set_same table _ v 0 (omega (arith, below, room)))
           ∙ sym (cond-true _ _ _ (and_from _ _ (eq-eqb r r refl) (eq-eqb i i refl)))
 
@@ -171,9 +176,9 @@ first_from p [] some all = absurd (omega arith)
 first_from p (x ∷ xs) some all = (and_parts _ _ all).0
 
 -- what was stored whole has its first word stored
-pub whole-first : (table stamps : List ℕ) (bits buffers words n r : ℕ) → length stamps ≡ buffers * words → is_whole table stamps bits buffers words n r ≡ true
+pub whole-first : (table stamps : List ℕ) (bits buffers words n r : ℕ) → length stamps ≡ buffers * words + buffers * words → is_whole table stamps bits buffers words n r ≡ true
     → IsEntry bits buffers words (width_in table words (buffer_of bits r)) r
-    × (is_since n (get_or stamps (begin_of bits words (width_in table words (buffer_of bits r)) r) 0) (get_or stamps (begin_of bits words (width_in table words (buffer_of bits r)) r + 0) 0) ≡ true)
+    × (is_since n (get_or stamps (stamp_at bits buffers words r) 0) (get_or stamps (begin_of bits words (width_in table words (buffer_of bits r)) r + 0) 0) ≡ true)
 unfolding is_whole
 whole-first table stamps bits buffers words n r room is =
     let width = width_in table words (buffer_of bits r) in
@@ -182,5 +187,5 @@ whole-first table stamps bits buffers words n r room is =
     let below = cell-below bits buffers words width r 0 e e.wide in
     let wide = e.wide in
     let some : 0 < length (take width (drop (begin_of bits words width r) stamps)) = simp (length-take, length-drop) (omega arith) in
-    let since = is_since n (get_or stamps (begin_of bits words width r) 0) in
+    let since = is_since n (get_or stamps (stamp_at bits buffers words r) 0) in
     (e, sym (ap since (get_or-take width (drop (begin_of bits words width r) stamps) 0 0 wide ∙ get_or-drop _ stamps 0 0)) ∙ first_from since _ some parts.1)

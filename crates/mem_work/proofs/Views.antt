@@ -1,5 +1,5 @@
 -- What a work in memory knows, and which records it has, after each call.
-use Rattle.std.proofs.Common.{◌≡◌, ◌≢◌, ℕ, suc, ◌+◌, ◌*◌, ◌<◌, ◌≤◌, inl, inr, true, false, cond, List, [], length, take, drop, length-take, length-drop, get_or, set, max, Option, Some, None, refl, sym, ap, subst, ◌∙◌}
+use Rattle.std.proofs.Common.{◌≡◌, ◌≢◌, ℕ, suc, ◌+◌, ◌*◌, ◌<◌, ◌≤◌, inl, inr, true, false, cond, List, [], length, take, drop, length-take, length-drop, get_or, set, Option, Some, None, refl, sym, ap, subst, ◌∙◌}
 use Rattle.std.proofs.Common.{arith, get_or-set_same, get_or-set_other}
 use Rattle.std.specs.Option.{IfSome, IfNone}
 use Rattle.std.proofs.Math.Nat.{mul-le-mul_right}
@@ -16,14 +16,14 @@ use Rattle.image_base.proofs.Apart.{within}
 use Rattle.image_base.specs.Places.{IsEntry}
 use Rattle.image_base.specs.Records.{Records, SameAt, AllThere}
 use Rattle.arena_api.specs.Calls.{next_image, with_stored, handed_out, published, AddsCommit, IsLowestFree, opened}
-use Rattle.mem_work.specs.Cells.{width_in, begin_of, standing, stamp_of, is_since, is_whole, stored_in, image_in, records_in, buffer_by, buffer_in, memory_view, sizes_of}
+use Rattle.mem_work.specs.Cells.{width_in, begin_of, stamp_at, standing, is_since, IsUnused, is_whole, stored_in, image_in, records_in, buffer_by, buffer_in, memory_view, sizes_of}
 use Rattle.mem_work.specs.Marks.{mark_at, marked, marked_buffers, with_marks, IsMark}
 use Rattle.mem_work.specs.declared.marks.Mark.{Mark}
 use Rattle.mem_work.specs.declared.marks.Mark.TheVariants.{Fresh}
 use Rattle.mem_work.proofs.Marked.{fresh-at, free-width, mark-handed, with_marks-handed}
 use Rattle.mem_work.specs.ProofsForMemory.{standing-entry, length-standing, word-standing}
 use Rattle.mem_work.proofs.Standing.{standing-other, whole-other, stored-store, width-store, cond-same, cell-below}
-use Rattle.mem_work.proofs.Standing.{raised, since-parts, whole-first}
+use Rattle.mem_work.proofs.Standing.{since-parts, whole-first}
 use Rattle.mem_work.specs.ProofsForMemory.{is_stored}
 use Rattle.image_base.proofs.Pairs.{words-found, same-from, there-among}
 use Rattle.arena_api.proofs.Reached.{image-same, lawful-kept, next_image-kept}
@@ -49,63 +49,67 @@ module _ (reaches : ℕ → Records → ℕ → List ℕ) (lawful : ℕ → Reco
     image-store : image_in reaches shape (set table (begin_of bits words (width_in table words (buffer_of bits r)) r + i) v) bits buffers words root ≡ image_in reaches shape table bits buffers words root
     image-store = next_image-kept reaches lawful present stays shape (standing table bits buffers words) _ root law kept-store
 
-    pub view-store : length table ≡ buffers * words → length stamps ≡ buffers * words
+    pub view-store : length table ≡ buffers * words → length stamps ≡ buffers * words + buffers * words
         → memory_view reaches shape (set table (begin_of bits words (width_in table words (buffer_of bits r)) r + i) v)
-        (raised stamps (begin_of bits words (width_in table words (buffer_of bits r)) r + i) (stamp_of (last + 1))) bits buffers words last root
-        ≡ record (memory_view reaches shape table stamps bits buffers words last root) { stored = with_stored (stored_in table stamps bits buffers words (stamp_of (last + 1))) r i v }
+        (set stamps (begin_of bits words (width_in table words (buffer_of bits r)) r + i) (last + 1)) bits buffers words last root
+        ≡ record (memory_view reaches shape table stamps bits buffers words last root) { stored = with_stored (stored_in table stamps bits buffers words (last + 1)) r i v }
     view-store room also = λ k. record (memory_view reaches shape table stamps bits buffers words last root) {
       buffer = λ b. buffer_by (width-store table bits buffers words r i e h v b k);
       commits = record { floor = last; last = last; image = λ n. image-store k };
-      stored = λ q j. stored-store table bits buffers words r i e h stamps v (stamp_of (last + 1)) q j room also k;
+      stored = λ q j. stored-store table bits buffers words r i e h stamps v (last + 1) q j room also k;
     }
 
-    pub records-store : length stamps ≡ buffers * words → (q : ℕ) → q ≢ r
+    pub records-store : length stamps ≡ buffers * words + buffers * words → (q : ℕ) → q ≢ r
         → records_in reaches shape (set table (begin_of bits words (width_in table words (buffer_of bits r)) r + i) v)
-        (raised stamps (begin_of bits words (width_in table words (buffer_of bits r)) r + i) (stamp_of (last + 1))) bits buffers words last root q
+        (set stamps (begin_of bits words (width_in table words (buffer_of bits r)) r + i) (last + 1)) bits buffers words last root q
         ≡ records_in reaches shape table stamps bits buffers words last root q
     records-store also q ne =
         ap (λ t. cond t (standing (set table (begin_of bits words (width_in table words (buffer_of bits r)) r + i) v) bits buffers words q)
         (words_at (image_in reaches shape (set table (begin_of bits words (width_in table words (buffer_of bits r)) r + i) v) bits buffers words root) q))
-        (whole-other table bits buffers words r i e h stamps v (stamp_of (last + 1)) q also ne)
-        ∙ ap (λ ws. cond (is_whole table stamps bits buffers words (stamp_of (last + 1)) q) ws
+        (whole-other table bits buffers words r i e h stamps v (last + 1) q also ne)
+        ∙ ap (λ ws. cond (is_whole table stamps bits buffers words (last + 1) q) ws
         (words_at (image_in reaches shape (set table (begin_of bits words (width_in table words (buffer_of bits r)) r + i) v) bits buffers words root) q))
         (standing-other table bits buffers words r i e h v q ne)
-        ∙ ap (λ image. cond (is_whole table stamps bits buffers words (stamp_of (last + 1)) q) (standing table bits buffers words q) (words_at image q)) image-store
+        ∙ ap (λ image. cond (is_whole table stamps bits buffers words (last + 1) q) (standing table bits buffers words q) (words_at image q)) image-store
 
   -- the stamps after a store
-  module _ (r i : ℕ) (e : IsEntry bits buffers words (width_in table words (buffer_of bits r)) r) (h : i < width_in table words (buffer_of bits r)) (also : length stamps ≡ buffers * words) where
-    pub stamps-store : ((p : ℕ) → get_or stamps p 0 ≤ stamp_of (last + 1) + 1)
-        → (p : ℕ) → get_or (raised stamps (begin_of bits words (width_in table words (buffer_of bits r)) r + i) (stamp_of (last + 1))) p 0 ≤ stamp_of (last + 1) + 1
+  module _ (r i : ℕ) (e : IsEntry bits buffers words (width_in table words (buffer_of bits r)) r) (h : i < width_in table words (buffer_of bits r)) (also : length stamps ≡ buffers * words + buffers * words) where
+    pub stamps-store : ((p : ℕ) → get_or stamps p 0 ≤ last + 1)
+        → (p : ℕ) → get_or (set stamps (begin_of bits words (width_in table words (buffer_of bits r)) r + i) (last + 1)) p 0 ≤ last + 1
     stamps-store old p =
         let place = begin_of bits words (width_in table words (buffer_of bits r)) r + i in
         elim (cases_eq p place) [
           | inl same ↦
-              subst (λ q. get_or (raised stamps place (stamp_of (last + 1))) q 0 ≤ stamp_of (last + 1) + 1) (sym same)
+              subst (λ q. get_or (set stamps place (last + 1)) q 0 ≤ last + 1) (sym same)
               (omega (
                 arith,
                 old place,
-                get_or-set_same stamps place (max (get_or stamps place 0) (stamp_of (last + 1))) 0
+                get_or-set_same stamps place (last + 1) 0
                     (omega (arith, cell-below bits buffers words (width_in table words (buffer_of bits r)) r i e h, also)),
               ))
-          | inr ne ↦ omega (arith, old p, get_or-set_other stamps place p (max (get_or stamps place 0) (stamp_of (last + 1))) 0 ne)
+          | inr ne ↦ omega (arith, old p, get_or-set_other stamps place p (last + 1) 0 ne)
         ]
 
-    pub unused-store : (v : ℕ) → ((b x : ℕ) → x < words → width_in table words b ≡ 0 → get_or stamps (b * words + x) 0 < stamp_of (last + 1))
-        → (b x : ℕ) → x < words → width_in (set table (begin_of bits words (width_in table words (buffer_of bits r)) r + i) v) words b ≡ 0
-        → get_or (raised stamps (begin_of bits words (width_in table words (buffer_of bits r)) r + i) (stamp_of (last + 1))) (b * words + x) 0 < stamp_of (last + 1)
-    unused-store v old b x below free =
+    pub unused-store : (v : ℕ) → IsUnused table stamps buffers words (last + 1)
+        → IsUnused (set table (begin_of bits words (width_in table words (buffer_of bits r)) r + i) v)
+        (set stamps (begin_of bits words (width_in table words (buffer_of bits r)) r + i) (last + 1)) buffers words (last + 1)
+    unused-store v old b x inside below free =
         let none : width_in table words b ≡ 0 = sym (width-store table bits buffers words r i e h v b) ∙ free in
-        let ne : b * words + x ≢ begin_of bits words (width_in table words (buffer_of bits r)) r + i =
+        let before = old b x inside below none in
+        let place = begin_of bits words (width_in table words (buffer_of bits r)) r + i in
+        let ne : b * words + x ≢ place =
         (λ same.
         let w = width_in table words (buffer_of bits r) in
         let one = (same_from_place b x (buffer_of bits r) (offset_of bits r * w + i) words below (within e i h).1 (omega (arith, same))).0 in
         omega (arith, h, ap (width_in table words) one, none)) in
-        let place = begin_of bits words (width_in table words (buffer_of bits r)) r + i in
-        omega (arith, old b x below none, get_or-set_other stamps place (b * words + x) (max (get_or stamps place 0) (stamp_of (last + 1))) 0 ne)
+        let last_word = cell-below bits buffers words (width_in table words (buffer_of bits r)) r i e h in (
+          omega (arith, before.0, get_or-set_other stamps place (b * words + x) (last + 1) 0 ne),
+          omega (arith, before.1, get_or-set_other stamps place (buffers * words + (b * words + x)) (last + 1) 0 (λ same. omega (arith, same, last_word))),
+        )
 
   -- a free buffer gets a width
   module _ (b width : ℕ) (free : width_in table words b ≡ 0) (some : 0 < words) (inside : b * words < length table) (wide : 0 < width)
-      (room : length stamps ≡ buffers * words) (none : (x : ℕ) → x < words → get_or stamps (b * words + x) 0 < stamp_of (last + 1)) where
+      (room : length stamps ≡ buffers * words + buffers * words) (none : (x : ℕ) → x < words → (get_or stamps (b * words + x) 0 < last + 1) × (get_or stamps (buffers * words + (b * words + x)) 0 < last + 1)) where
     kept-handed : (q : ℕ) → 0 < length (words_at (image_in reaches shape table bits buffers words root) q)
         → standing (set table (b * words) width) bits buffers words q ≡ standing table bits buffers words q
     kept-handed q there =
@@ -126,20 +130,20 @@ module _ (reaches : ℕ → Records → ℕ → List ℕ) (lawful : ℕ → Reco
     view-handed = λ k. record (memory_view reaches shape table stamps bits buffers words last root) {
       buffer = λ a. buffers-handed table bits buffers words b width free some inside wide a k;
       commits = record { floor = last; last = last; image = λ n. image-handed k };
-      stored = λ q i. stored-handed table bits buffers words b width free some inside wide stamps (stamp_of (last + 1)) room none q i k;
+      stored = λ q i. stored-handed table bits buffers words b width free some inside wide stamps (last + 1) room none q i k;
     }
 
     pub records-handed : (q : ℕ) → records_in reaches shape (set table (b * words) width) stamps bits buffers words last root q ≡ records_in reaches shape table stamps bits buffers words last root q
     records-handed q =
         ap (λ t. cond t (standing (set table (b * words) width) bits buffers words q) (words_at (image_in reaches shape (set table (b * words) width) bits buffers words root) q))
-        (whole-handed table bits buffers words b width free some inside wide stamps (stamp_of (last + 1)) room none q)
-        ∙ ap (λ image. cond (is_whole table stamps bits buffers words (stamp_of (last + 1)) q) (standing (set table (b * words) width) bits buffers words q) (words_at image q)) image-handed
+        (whole-handed table bits buffers words b width free some inside wide stamps (last + 1) room none q)
+        ∙ ap (λ image. cond (is_whole table stamps bits buffers words (last + 1) q) (standing (set table (b * words) width) bits buffers words q) (words_at image q)) image-handed
         ∙ cond-same _ _ _ _ (λ is.
-        let e = (whole-first table stamps bits buffers words (stamp_of (last + 1)) q room is).0 in
+        let e = (whole-first table stamps bits buffers words (last + 1) q room is).0 in
         standing-handed table bits buffers words b width free some inside wide q (λ same. let at = e.wide in omega (arith, at, ap (width_in table words) same, free)))
 
   -- a root is published
-  module _ (next : ℕ) (room : length stamps ≡ buffers * words) (old : (p : ℕ) → get_or stamps p 0 ≤ stamp_of (last + 1) + 1)
+  module _ (next : ℕ) (room : length stamps ≡ buffers * words + buffers * words) (old : (p : ℕ) → get_or stamps p 0 ≤ last + 1)
       (law' : lawful shape (records_in reaches shape table stamps bits buffers words last root) next) where
     same-read : SameAt (reaches shape (records_in reaches shape table stamps bits buffers words last root) next) (records_in reaches shape table stamps bits buffers words last root) (standing table bits buffers words)
     same-read = same-from _ _ (standing table bits buffers words) (λ q among.
@@ -152,20 +156,20 @@ module _ (reaches : ℕ → Records → ℕ → List ℕ) (lawful : ℕ → Reco
     pub lawful-publish : ∥ lawful shape (standing table bits buffers words) next ∥₁
     lawful-publish = ∣ both.0 ∣₁
 
-    none_since : (q i : ℕ) → is_since (stamp_of (last + 1 + 1)) (get_or stamps (begin_of bits words (width_in table words (buffer_of bits q)) q) 0)
+    none_since : (q i : ℕ) → is_since (last + 1 + 1) (get_or stamps (stamp_at bits buffers words q) 0)
         (get_or stamps (begin_of bits words (width_in table words (buffer_of bits q)) q + i) 0) ≡ true → ⊥
     none_since q i since =
         let begin = begin_of bits words (width_in table words (buffer_of bits q)) q in
-        elim (since-parts (stamp_of (last + 1 + 1)) (get_or stamps begin 0) (get_or stamps (begin + i) 0) since) [
-          | inl late ↦ omega (arith, late, old begin)
+        elim (since-parts (last + 1 + 1) (get_or stamps (stamp_at bits buffers words q) 0) (get_or stamps (begin + i) 0) since) [
+          | inl late ↦ omega (arith, late, old (stamp_at bits buffers words q))
           | inr late ↦ omega (arith, late, old (begin + i))
         ]
 
-    none_whole : (q : ℕ) → is_whole table stamps bits buffers words (stamp_of (last + 1 + 1)) q ≡ false
-    none_whole q = false_from_ne_true _ (λ is. none_since q 0 (whole-first table stamps bits buffers words (stamp_of (last + 1 + 1)) q room is).1)
+    none_whole : (q : ℕ) → is_whole table stamps bits buffers words (last + 1 + 1) q ≡ false
+    none_whole q = false_from_ne_true _ (λ is. none_since q 0 (whole-first table stamps bits buffers words (last + 1 + 1) q room is).1)
 
-    none_stored_yet : (q i : ℕ) → stored_in table stamps bits buffers words (stamp_of (last + 1 + 1)) q i ≡ None
-    none_stored_yet q i = none-from _ (λ x is. none_since q i (is_stored table stamps bits buffers words (stamp_of (last + 1 + 1)) q i x is).stamp)
+    none_stored_yet : (q i : ℕ) → stored_in table stamps bits buffers words (last + 1 + 1) q i ≡ None
+    none_stored_yet q i = none-from _ (λ x is. none_since q i (is_stored table stamps bits buffers words (last + 1 + 1) q i x is).stamp)
 
     pub records-publish : (q : ℕ) → records_in reaches shape table stamps bits buffers words (last + 1) next q
         ≡ words_at (next_image reaches shape (records_in reaches shape table stamps bits buffers words last root) next) q
@@ -214,8 +218,8 @@ module _ (reaches : ℕ → Records → ℕ → List ℕ) (lawful : ℕ → Reco
       )
 
   -- a buffer is handed out, or none is
-  module _ (marks : List Mark) (width : ℕ) (wide : 0 < width) (some : 0 < words) (room : length table ≡ buffers * words) (also : length stamps ≡ buffers * words)
-      (unused : (b x : ℕ) → x < words → width_in table words b ≡ 0 → get_or stamps (b * words + x) 0 < stamp_of (last + 1)) where
+  module _ (marks : List Mark) (width : ℕ) (wide : 0 < width) (some : 0 < words) (room : length table ≡ buffers * words) (also : length stamps ≡ buffers * words + buffers * words)
+      (unused : IsUnused table stamps buffers words (last + 1)) where
     first-inside : (b : ℕ) → b < buffers → b * words < length table
     first-inside b below =
         let more : suc b * words ≤ buffers * words = mul-le-mul_right words below in
@@ -228,7 +232,7 @@ module _ (reaches : ℕ → Records → ℕ → List ℕ) (lawful : ℕ → Reco
     hand_out-view generation first (Some b) t low at =
         let free = free-width _ _ low.free in
         ap (λ (ws : List ℕ). with_marks (memory_view reaches shape ws stamps bits buffers words last root) marks generation first) at
-        ∙ ap (λ v. with_marks v marks generation first) (view-handed b width free some (first-inside b low.below) wide also (λ x h. unused b x h free))
+        ∙ ap (λ v. with_marks v marks generation first) (view-handed b width free some (first-inside b low.below) wide also (λ x h. unused b x low.below h free))
         ∙ with_marks-handed (memory_view reaches shape table stamps bits buffers words last root) marks generation first b width (width_in table words b) wide refl low.free
 
     pub hand_out-marks : (generation first : ℕ) (o : Option ℕ) (t : List ℕ) → IfSome o (IsLowestFree (marked_buffers marks (buffer_in table words)) buffers)
@@ -250,7 +254,7 @@ module _ (reaches : ℕ → Records → ℕ → List ℕ) (lawful : ℕ → Reco
     hand_out-records (Some b) t low at same =
         let free = free-width _ _ low.free in
         ap (λ (ws : List ℕ). records_in reaches shape ws stamps bits buffers words last root) at
-        ∙ (λ k q. records-handed b width free some (first-inside b low.below) wide also (λ x h. unused b x h free) q k)
+        ∙ (λ k q. records-handed b width free some (first-inside b low.below) wide also (λ x h. unused b x low.below h free) q k)
 
     pub hand_out-lawful : (o : Option ℕ) (t : List ℕ) → IfSome o (IsLowestFree (marked_buffers marks (buffer_in table words)) buffers) → IfSome o (λ b. t ≡ set table (b * words) width) → IfNone o (t ≡ table)
         → ∥ lawful shape (standing t bits buffers words) root ∥₁
@@ -258,13 +262,13 @@ module _ (reaches : ℕ → Records → ℕ → List ℕ) (lawful : ℕ → Reco
     hand_out-lawful (Some b) t low at same =
         let free = free-width _ _ low.free in
         subst (λ (ws : List ℕ). ∥ lawful shape (standing ws bits buffers words) root ∥₁) (sym at)
-        (lawful-handed b width free some (first-inside b low.below) wide also (λ x h. unused b x h free))
+        (lawful-handed b width free some (first-inside b low.below) wide also (λ x h. unused b x low.below h free))
 
     pub hand_out-unused : (o : Option ℕ) (t : List ℕ) → IfSome o (IsLowestFree (marked_buffers marks (buffer_in table words)) buffers) → IfSome o (λ b. t ≡ set table (b * words) width) → IfNone o (t ≡ table)
-        → (b x : ℕ) → x < words → width_in t words b ≡ 0 → get_or stamps (b * words + x) 0 < stamp_of (last + 1)
-    hand_out-unused None t low at same b x h free = unused b x h (subst (λ (ws : List ℕ). width_in ws words b ≡ 0) same free)
-    hand_out-unused (Some a) t low at same b x h free =
-        unused b x h (elim (cases_eq b a) [
+        → IsUnused t stamps buffers words (last + 1)
+    hand_out-unused None t low at same b x inside h free = unused b x inside h (subst (λ (ws : List ℕ). width_in ws words b ≡ 0) same free)
+    hand_out-unused (Some a) t low at same b x inside h free =
+        unused b x inside h (elim (cases_eq b a) [
           | inl e ↦ subst (λ k. width_in table words k ≡ 0) (sym e) (free-width _ _ low.free)
           | inr ne ↦
               sym (width-other table bits buffers words a width (free-width _ _ low.free) some (first-inside a low.below) wide b ne)
@@ -282,17 +286,17 @@ module _ (reaches : ℕ → Records → ℕ → List ℕ) (empty : (shape : ℕ)
   no_image-opened : image_in reaches shape (zeros n) bits buffers words 0 ≡ no_image
   no_image-opened = ap (λ refs. image_of refs (standing (zeros n) bits buffers words) 0) (empty shape (standing (zeros n) bits buffers words))
 
-  pub view-opened : with_marks (memory_view reaches shape (zeros n) (zeros n) bits buffers words 0 0) (replicate buffers Fresh) 0 0 ≡ opened tt (sizes_of buffers words) []
+  pub view-opened : with_marks (memory_view reaches shape (zeros n) (zeros (n + n)) bits buffers words 0 0) (replicate buffers Fresh) 0 0 ≡ opened tt (sizes_of buffers words) []
   view-opened = λ k. record (opened tt (sizes_of buffers words) []) {
     buffer = λ b. marked (fresh-at buffers b k) (buffer_by (slice_index-zeros n (b * words) k));
     commits = record { floor = 0; last = 0; image = λ m. no_image-opened k };
     stored = λ r i.
-        none-from (stored_in (zeros n) (zeros n) bits buffers words (stamp_of (0 + 1)) r i) (λ x is.
-        let wide = (is_stored (zeros n) (zeros n) bits buffers words (stamp_of (0 + 1)) r i x is).entry.wide in omega (arith, wide, slice_index-zeros n (buffer_of bits r * words))) k;
+        none-from (stored_in (zeros n) (zeros (n + n)) bits buffers words (0 + 1) r i) (λ x is.
+        let wide = (is_stored (zeros n) (zeros (n + n)) bits buffers words (0 + 1) r i x is).entry.wide in omega (arith, wide, slice_index-zeros n (buffer_of bits r * words))) k;
   }
 
-  pub records-opened : (r : ℕ) → records_in reaches shape (zeros n) (zeros n) bits buffers words 0 0 r ≡ []
+  pub records-opened : (r : ℕ) → records_in reaches shape (zeros n) (zeros (n + n)) bits buffers words 0 0 r ≡ []
   records-opened r =
       cond-false _ _ _ (false_from_ne_true _ (λ is.
-      let wide = (whole-first (zeros n) (zeros n) bits buffers words (stamp_of (0 + 1)) r (length-zeros n ∙ room) is).0.wide in omega (arith, wide, slice_index-zeros n (buffer_of bits r * words))))
+      let wide = (whole-first (zeros n) (zeros (n + n)) bits buffers words (0 + 1) r (length-zeros (n + n) ∙ omega (arith, room)) is).0.wide in omega (arith, wide, slice_index-zeros n (buffer_of bits r * words))))
       ∙ ap (λ image. words_at image r) no_image-opened

@@ -1,8 +1,8 @@
 -- Words in memory, one buffer after another. A buffer's first word is the width of its entries, 0 while it is free.
--- Beside each word stands a stamp: twice the number of the commit that was under way when it was last stored, or one more than that beside
--- the first word of an entry that was stored all at once.
-use Rattle.std.specs.Prelude.{ℕ, zero, suc, ◌+◌, ◌-◌, ◌*◌, ◌^◌, Bool, ◌&&◌, ◌||◌, nat_lt, nat_le, if◌then◌else◌, List, [], ◌∷◌, ◌++◌}
-use Rattle.std.specs.Prelude.{length, slice_index, take, drop, None, Some}
+-- The number of the commit that is under way is a stamp. Each word has that of when it was last stored alone, and behind all of
+-- these each entry has that of when it was last stored all at once.
+use Rattle.std.specs.Prelude.{◌≡◌, ◌<◌, ℕ, zero, suc, ◌+◌, ◌-◌, ◌*◌, ◌^◌, Bool, ◌&&◌, ◌||◌, nat_lt, nat_le, if◌then◌else◌, List, [], ◌∷◌}
+use Rattle.std.specs.Prelude.{◌++◌, length, slice_index, take, drop, replicate, None, Some}
 use Rattle.std.specs.List.{list_all}
 use Rattle.entry_ref.specs.References.{buffer_of, offset_of}
 use Rattle.image_base.specs.declared.Image.{Image}
@@ -35,27 +35,38 @@ standing table bits buffers words r =
     let width = width_in table words (buffer_of bits r) in
     if names_entry bits buffers words width r then take width (drop (begin_of bits words width r) table) else []
 
--- the stamp of a word that is stored alone under commit n
-abbrev pub stamp_of : ℕ → ℕ
-stamp_of n = 2 * n
+-- where the stamp of an entry is
+abbrev pub stamp_at : ℕ → ℕ → ℕ → ℕ → ℕ
+stamp_at bits buffers words r = buffers * words + (buffer_of bits r * words + offset_of bits r)
 
--- whether a word was stored since a stamp: its whole entry, which begins with the first stamp, or the word alone
+-- stamps without those of a buffer
+abbrev pub without_stamps : List ℕ → ℕ → ℕ → ℕ → List ℕ
+without_stamps stamps buffers words b =
+    with_range (with_range stamps (b * words) (replicate words 0)) (buffers * words + b * words) (replicate words 0)
+
+-- whether a word was stored since a stamp: its whole entry, or the word alone
 abbrev pub is_since : ℕ → ℕ → ℕ → Bool
-is_since since first stamp = nat_lt since first || nat_le since stamp
+is_since since whole alone = nat_le since whole || nat_le since alone
+
+-- in a free buffer nothing was stored since a stamp, neither a word nor an entry
+abbrev pub IsUnused : List ℕ → List ℕ → ℕ → ℕ → ℕ → Type 0
+IsUnused table stamps buffers words since = (b x : ℕ) → b < buffers → x < words → width_in table words b ≡ 0
+    → (slice_index stamps (b * words + x) < since) × (slice_index stamps (buffers * words + (b * words + x)) < since)
 
 -- whether each word of an entry was stored since a stamp
 unfoldable pub is_whole : List ℕ → List ℕ → ℕ → ℕ → ℕ → ℕ → ℕ → Bool
 is_whole table stamps bits buffers words since r =
     let width = width_in table words (buffer_of bits r) in
     let begin = begin_of bits words width r in
-    names_entry bits buffers words width r && list_all (is_since since (slice_index stamps begin)) (take width (drop begin stamps))
+    let whole = slice_index stamps (stamp_at bits buffers words r) in
+    names_entry bits buffers words width r && list_all (is_since since whole) (take width (drop begin stamps))
 
 -- the words that were stored since a stamp
 unfoldable pub stored_in : List ℕ → List ℕ → ℕ → ℕ → ℕ → ℕ → Stored
 stored_in table stamps bits buffers words since r i =
     let width = width_in table words (buffer_of bits r) in
     let begin = begin_of bits words width r in
-    let there = is_since since (slice_index stamps begin) (slice_index stamps (begin + i)) in
+    let there = is_since since (slice_index stamps (stamp_at bits buffers words r)) (slice_index stamps (begin + i)) in
     if names_entry bits buffers words width r && (nat_lt i width && there) then Some (slice_index table (begin + i)) else None
 
 -- the image of the last commit: what its root reaches of the words that stand
@@ -65,7 +76,7 @@ image_in reaches shape table bits buffers words root = next_image reaches shape 
 -- the records: what was stored whole since the last commit, and that commit's
 abbrev pub records_in : (ℕ → Records → ℕ → List ℕ) → ℕ → List ℕ → List ℕ → ℕ → ℕ → ℕ → ℕ → ℕ → Records
 records_in reaches shape table stamps bits buffers words last root r =
-    if is_whole table stamps bits buffers words (stamp_of (last + 1)) r then standing table bits buffers words r
+    if is_whole table stamps bits buffers words (last + 1) r then standing table bits buffers words r
     else words_at (image_in reaches shape table bits buffers words root) r
 
 abbrev pub buffer_by : ℕ → Buffer
@@ -88,7 +99,7 @@ memory_view reaches shape table stamps bits buffers words last root = record {
   buffer = buffer_in table words;
   queue = first_hold ∷ [];
   commits = record { floor = last; last = last; image = λ n. image_in reaches shape table bits buffers words root };
-  stored = stored_in table stamps bits buffers words (stamp_of (last + 1));
+  stored = stored_in table stamps bits buffers words (last + 1);
   told = [];
   stops = 0;
   found = 0;

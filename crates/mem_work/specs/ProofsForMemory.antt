@@ -9,7 +9,7 @@ use Rattle.std.proofs.lemmas.Bool.Decides.{nat_tests}
 use Rattle.entry_ref.specs.References.{buffer_of, buffer_limit, offset_limit}
 use Rattle.image_base.specs.Places.{IsEntry}
 use Rattle.image_base.proofs.Apart.{entry-small}
-use Rattle.mem_work.specs.Cells.{width_in, begin_of, names_entry, standing, stamp_of, is_since, is_whole, stored_in, buffer_by}
+use Rattle.mem_work.specs.Cells.{width_in, begin_of, stamp_at, names_entry, standing, is_since, is_whole, stored_in, buffer_by}
 use Rattle.mem_work.specs.Cells.{image_in, records_in, buffer_in, sizes_of, memory_view}
 use Rattle.mem_work.specs.Marks.{tag_of, mark_at, marked, marked_buffers, only_hold, with_marks, IsHeldMark, IsMark}
 use Rattle.mem_work.specs.declared.marks.Mark.{Mark}
@@ -101,7 +101,7 @@ all_from p (x ∷ xs) each = and_from _ _ (each 0 (omega arith)) (all_from p xs 
 pub record IsStored (table stamps : List ℕ) (bits buffers words n r i x : ℕ) : Type 0 where
   pub entry : IsEntry bits buffers words (width_in table words (buffer_of bits r)) r
   pub inside : i < width_in table words (buffer_of bits r)
-  pub stamp : is_since n (get_or stamps (begin_of bits words (width_in table words (buffer_of bits r)) r) 0)
+  pub stamp : is_since n (get_or stamps (stamp_at bits buffers words r) 0)
       (get_or stamps (begin_of bits words (width_in table words (buffer_of bits r)) r + i) 0) ≡ true
   pub word : get_or table (begin_of bits words (width_in table words (buffer_of bits r)) r + i) 0 ≡ x
 
@@ -118,13 +118,13 @@ is_stored table stamps bits buffers words n r i x is =
 pub whole-from : (table stamps : List ℕ) (bits buffers words n r : ℕ)
     → IsEntry bits buffers words (width_in table words (buffer_of bits r)) r
     → ((i : ℕ) → i < width_in table words (buffer_of bits r)
-    → is_since n (get_or stamps (begin_of bits words (width_in table words (buffer_of bits r)) r) 0)
+    → is_since n (get_or stamps (stamp_at bits buffers words r) 0)
     (get_or stamps (begin_of bits words (width_in table words (buffer_of bits r)) r + i) 0) ≡ true)
     → is_whole table stamps bits buffers words n r ≡ true
 unfolding is_whole
 whole-from table stamps bits buffers words n r e each =
     let width = width_in table words (buffer_of bits r) in
-    let since = is_since n (get_or stamps (begin_of bits words width r) 0) in
+    let since = is_since n (get_or stamps (stamp_at bits buffers words r) 0) in
     and_from _ _ (names_entry-from bits buffers words width r e)
     (all_from since (take width (drop (begin_of bits words width r) stamps)) (λ k h.
     let below : k < width = omega (arith, simp length-take at h) in
@@ -140,7 +140,7 @@ all_at p (x ∷ xs) zero all lt = (and_parts _ _ all).0
 all_at p (x ∷ xs) (suc i) all lt = all_at p xs i (and_parts _ _ all).1 (omega arith)
 
 -- each word of what was stored whole is stored
-pub stored-whole : (table stamps : List ℕ) (bits buffers words n r i : ℕ) → length stamps ≡ buffers * words
+pub stored-whole : (table stamps : List ℕ) (bits buffers words n r i : ℕ) → length stamps ≡ buffers * words + buffers * words
     → is_whole table stamps bits buffers words n r ≡ true
     → i < width_in table words (buffer_of bits r)
     → stored_in table stamps bits buffers words n r i
@@ -153,7 +153,7 @@ stored-whole table stamps bits buffers words n r i room is lt =
     let more : suc (buffer_of bits r) * words ≤ buffers * words = mul-le-mul_right words e.inside in
     let last = e.last in
     let long : i < length (take width (drop (begin_of bits words width r) stamps)) = simp (length-take, length-drop) (omega arith) in
-    let since = is_since n (get_or stamps (begin_of bits words width r) 0) in
+    let since = is_since n (get_or stamps (stamp_at bits buffers words r) 0) in
     let stamp = sym (ap since (get_or-take width (drop (begin_of bits words width r) stamps) i 0 lt ∙ get_or-drop _ stamps i 0))
     ∙ all_at since _ i parts.1 long in
     cond-true _ _ _ (and_from _ _ parts.0 (and_from _ _ (lt-ltb i width lt) stamp))
@@ -209,7 +209,7 @@ module _ (reaches : ℕ → Records → ℕ → List ℕ) (shape : ℕ) (table s
   -- a record's words stand
   pub records-stand : (r : ℕ) → 0 < length (records_in reaches shape table stamps bits buffers words last root r)
       → standing table bits buffers words r ≡ records_in reaches shape table stamps bits buffers words last root r
-  records-stand r = cond_both (is_whole table stamps bits buffers words (stamp_of (last + 1)) r) (standing table bits buffers words r)
+  records-stand r = cond_both (is_whole table stamps bits buffers words (last + 1) r) (standing table bits buffers words r)
       (words_at (image_in reaches shape table bits buffers words root) r)
       (λ ws. 0 < length ws → standing table bits buffers words r ≡ ws) (λ e h. refl)
       (λ e h. words-found _ (standing table bits buffers words) root r h)
@@ -253,34 +253,34 @@ module _ (reaches : ℕ → Records → ℕ → List ℕ) (shape : ℕ) (table s
   pub memory_last : (r : ℕ) → 0 < length (words_at (image_in reaches shape table bits buffers words root) r)
       → records_in reaches shape table stamps bits buffers words last root r
       ≡ words_at (image_in reaches shape table bits buffers words root) r
-  memory_last r some = cond_both (is_whole table stamps bits buffers words (stamp_of (last + 1)) r) (standing table bits buffers words r)
+  memory_last r some = cond_both (is_whole table stamps bits buffers words (last + 1) r) (standing table bits buffers words r)
       (words_at (image_in reaches shape table bits buffers words root) r)
       (λ ws. ws ≡ words_at (image_in reaches shape table bits buffers words root) r)
       (λ e. words-found _ (standing table bits buffers words) root r some) (λ e. refl)
 
   pub memory_stored : (marks : List Mark) (generation first r i w : ℕ)
-      → stored_in table stamps bits buffers words (stamp_of (last + 1)) r i ≡ Some w
+      → stored_in table stamps bits buffers words (last + 1) r i ≡ Some w
       → IsWordIn bits (with_marks (memory_view reaches shape table stamps bits buffers words last root) marks generation first) r i
   memory_stored marks generation first r i w is =
-      let s = is_stored table stamps bits buffers words (stamp_of (last + 1)) r i w is in
+      let s = is_stored table stamps bits buffers words (last + 1) r i w is in
       let at = active_width-by (mark_at marks (buffer_of bits r)) (width_in table words (buffer_of bits r)) in
       record { entry = subst (λ x. IsEntry bits buffers words x r) (sym at) s.entry; inside = subst (λ x. i < x) (sym at) s.inside }
 
   pub memory_whole : length table ≡ buffers * words → (marks : List Mark) (r : ℕ) (ws : List ℕ) → 0 < length ws
       → length ws ≡ active_width (marked_buffers marks (buffer_in table words) (buffer_of bits r))
-      → ((i : ℕ) → i < length ws → stored_in table stamps bits buffers words (stamp_of (last + 1)) r i ≡ Some (get_or ws i 0))
+      → ((i : ℕ) → i < length ws → stored_in table stamps bits buffers words (last + 1) r i ≡ Some (get_or ws i 0))
       → records_in reaches shape table stamps bits buffers words last root r ≡ ws
   memory_whole room marks r ws some long each =
       let width = width_in table words (buffer_of bits r) in
       let is : length ws ≡ width = long ∙ active_width-by (mark_at marks (buffer_of bits r)) width in
       let e : IsEntry bits buffers words width r =
-      (is_stored table stamps bits buffers words (stamp_of (last + 1)) r 0 (get_or ws 0 0) (each 0 some)).entry in
-      cond-true _ _ _ (whole-from table stamps bits buffers words (stamp_of (last + 1)) r e
-      (λ i h. (is_stored table stamps bits buffers words (stamp_of (last + 1)) r i (get_or ws i 0) (each i (omega (arith, h, is)))).stamp))
+      (is_stored table stamps bits buffers words (last + 1) r 0 (get_or ws 0 0) (each 0 some)).entry in
+      cond-true _ _ _ (whole-from table stamps bits buffers words (last + 1) r e
+      (λ i h. (is_stored table stamps bits buffers words (last + 1) r i (get_or ws i 0) (each i (omega (arith, h, is)))).stamp))
       ∙ same_number_lists _ ws (length-standing table bits buffers words r room e ∙ sym is) (λ k h.
       let below : k < width = omega (arith, h, length-standing table bits buffers words r room e) in
       word-standing table bits buffers words r k e below
-      ∙ (is_stored table stamps bits buffers words (stamp_of (last + 1)) r k (get_or ws k 0) (each k (omega (arith, below, is)))).word)
+      ∙ (is_stored table stamps bits buffers words (last + 1) r k (get_or ws k 0) (each k (omega (arith, below, is)))).word)
 
   -- nothing stands in a buffer whose first word is 0
   none-standing : (r : ℕ) → width_in table words (buffer_of bits r) ≡ 0 → standing table bits buffers words r ≡ []
@@ -305,21 +305,21 @@ module _ (reaches : ℕ → Records → ℕ → List ℕ) (shape : ℕ) (table s
       }
 
   -- a record that is whole has each of its words stored
-  pub memory_only : length stamps ≡ buffers * words → (r : ℕ)
+  pub memory_only : length stamps ≡ buffers * words + buffers * words → (r : ℕ)
       → 0 < length (records_in reaches shape table stamps bits buffers words last root r)
       → (records_in reaches shape table stamps bits buffers words last root r
       ≡ words_at (image_in reaches shape table bits buffers words root) r)
       ⊎ ((i : ℕ) → i < length (records_in reaches shape table stamps bits buffers words last root r)
-      → stored_in table stamps bits buffers words (stamp_of (last + 1)) r i
+      → stored_in table stamps bits buffers words (last + 1) r i
       ≡ Some (get_or (records_in reaches shape table stamps bits buffers words last root r) i 0))
-  memory_only also r some = elim (cases_Bool (is_whole table stamps bits buffers words (stamp_of (last + 1)) r)) [
+  memory_only also r some = elim (cases_Bool (is_whole table stamps bits buffers words (last + 1) r)) [
     | inl whole ↦
         (let width = width_in table words (buffer_of bits r) in
         let stands : records_in reaches shape table stamps bits buffers words last root r ≡ standing table bits buffers words r =
         cond-true _ _ _ whole in
         inr (λ i lt.
         let at = standing-entry table bits buffers words r i (subst (λ ws. i < length ws) stands lt) in
-        stored-whole table stamps bits buffers words (stamp_of (last + 1)) r i also whole at.1
+        stored-whole table stamps bits buffers words (last + 1) r i also whole at.1
         ∙ ap Some (sym (ap (λ ws. get_or ws i 0) stands ∙ word-standing table bits buffers words r i at.0 at.1))))
     | inr not ↦ inl (cond-false _ _ _ not)
   ]

@@ -1,10 +1,10 @@
-ghost use Rattle.std.specs.Prelude.{◌≡◌, ◌↔◌, ◌<◌, ◌≤◌, ◌+◌, ◌*◌, max, ℕ, [], IsNone, IfSome, IfNone, IfOk, length, vec_len, slice_index};
+ghost use Rattle.std.specs.Prelude.{◌≡◌, ◌↔◌, ◌<◌, ◌≤◌, ◌+◌, ◌*◌, ℕ, [], IsNone, IfSome, IfNone, IfOk, length, vec_len, slice_index};
 ghost use Rattle.std.specs.Prelude.{slice_set, take, drop, map, replicate};
-ghost use Rattle.entry_ref.specs.References.{buffer_of, buffer_limit, offset_limit};
+ghost use Rattle.entry_ref.specs.References.{buffer_of, offset_of, buffer_limit, offset_limit};
 ghost use Rattle.image_base.specs.Places.{IsEntry};
 ghost use Rattle.arena_api.specs.Works.{is_free, free_count};
 ghost use Rattle.arena_api.specs.Calls.{IsLowestFree, padded};
-ghost use Rattle.mem_work.specs.Cells.{width_in, begin_of, with_range, buffer_in};
+ghost use Rattle.mem_work.specs.Cells.{width_in, begin_of, stamp_at, with_range, without_stamps, buffer_in};
 ghost use Rattle.mem_work.specs.Marks.{freed, marked_buffers};
 ghost use Rattle.mem_work.specs.declared.marks.Mark.TheVariants.{Fresh, Held};
 
@@ -12,7 +12,7 @@ use crate::marks::Mark;
 use entry_ref::EntryRef;
 use std::alloc::{AllocError, Global};
 
-/// The words of all buffers, and stamps that tell under which commit they were last stored.
+/// The words of all buffers, and stamps that tell under which commit words and entries were last stored.
 #[derive(Drop)]
 pub struct Cells<const OFFSET_BITS: u32> {
     pub buffers: u32,
@@ -21,7 +21,7 @@ pub struct Cells<const OFFSET_BITS: u32> {
     pub stamps: Vec<u64>,
     pub marks: Vec<Mark>,
     ghost room: { vec_len table ≡ buffers * words },
-    ghost stamped: { vec_len stamps ≡ buffers * words },
+    ghost stamped: { vec_len stamps ≡ buffers * words + buffers * words },
     ghost marked: { vec_len marks ≡ buffers },
     ghost some_buffers: { 1 ≤ buffers },
     ghost few_buffers: { buffers < buffer_limit OFFSET_BITS },
@@ -42,12 +42,12 @@ impl<const OFFSET_BITS: u32> Cells<OFFSET_BITS> {
         ensures buffers { IfOk result (λ c. c.buffers ≡ buffers) }
         ensures words { IfOk result (λ c. c.words ≡ words) }
         ensures table { IfOk result (λ c. c.table.items ≡ replicate (buffers * words) 0) }
-        ensures stamps { IfOk result (λ c. c.stamps.items ≡ replicate (buffers * words) 0) }
+        ensures stamps { IfOk result (λ c. c.stamps.items ≡ replicate (buffers * words + buffers * words) 0) }
         ensures marks { IfOk result (λ c. c.marks.items ≡ replicate buffers Fresh) }
     {
         let count = buffers as usize * words as usize;
         let table = vec![in alloc; 0; count]?;
-        let stamps = vec![in alloc; 0; count]?;
+        let stamps = vec![in alloc; 0; count + count]?;
         let marks = vec![in alloc; Mark::Fresh; buffers as usize]?;
         Ok(Cells {
             buffers,
@@ -108,16 +108,24 @@ impl<const OFFSET_BITS: u32> Cells<OFFSET_BITS> {
             (width_in self.old.table.items self.old.words (buffer_of OFFSET_BITS entry.entry)) entry.entry + i) word }
         ensures stamps { self.new.stamps.items ≡ slice_set self.old.stamps.items
             (begin_of OFFSET_BITS self.old.words
-            (width_in self.old.table.items self.old.words (buffer_of OFFSET_BITS entry.entry)) entry.entry + i)
-            (max (slice_index self.old.stamps.items (begin_of OFFSET_BITS self.old.words
-            (width_in self.old.table.items self.old.words (buffer_of OFFSET_BITS entry.entry)) entry.entry + i)) stamp) }
+            (width_in self.old.table.items self.old.words (buffer_of OFFSET_BITS entry.entry)) entry.entry + i) stamp }
         ensures marks { self.new.marks.items ≡ self.old.marks.items }
         ensures buffers { self.new.buffers ≡ self.old.buffers }
         ensures words { self.new.words ≡ self.old.words }
     {
         let place = self.place(entry, i);
         self.table[place] = word;
-        self.stamps[place] = later(self.stamps[place], stamp);
+        self.stamps[place] = stamp;
+    }
+
+    /// Where the stamp of an entry is.
+    pub fn stamp_place(&self, entry: EntryRef<OFFSET_BITS>) -> usize
+        requires inside { buffer_of OFFSET_BITS entry < self.now.buffers }
+        requires offset { offset_of OFFSET_BITS entry < self.now.words }
+        ensures place { result ≡ stamp_at OFFSET_BITS self.now.buffers self.now.words entry.entry }
+        ensures below { result < self.now.buffers * self.now.words + self.now.buffers * self.now.words }
+    {
+        self.table.len() + (entry.buffer() as usize * self.words as usize + entry.offset() as usize)
     }
 
     /// Stores the words of an entry, and zeros after them, under one stamp.
@@ -127,16 +135,17 @@ impl<const OFFSET_BITS: u32> Cells<OFFSET_BITS> {
         ensures table { self.new.table.items ≡ with_range self.old.table.items (begin_of OFFSET_BITS self.old.words width entry.entry)
             (padded words.now width) }
         ensures stamps { self.new.stamps.items
-            ≡ slice_set self.old.stamps.items (begin_of OFFSET_BITS self.old.words width entry.entry) stamp }
+            ≡ slice_set self.old.stamps.items (stamp_at OFFSET_BITS self.old.buffers self.old.words entry.entry) stamp }
         ensures marks { self.new.marks.items ≡ self.old.marks.items }
         ensures buffers { self.new.buffers ≡ self.old.buffers }
         ensures words { self.new.words ≡ self.old.words }
     {
-        let buffer = entry.buffer() as usize * self.words as usize;
-        let first = buffer + entry.offset() as usize * width as usize;
+        let first = entry.buffer() as usize * self.words as usize
+            + entry.offset() as usize * width as usize;
         let end = first + width as usize;
         write_padded(&mut self.table[first..end], words);
-        self.stamps[first] = stamp;
+        let place = self.stamp_place(entry);
+        self.stamps[place] = stamp;
     }
 
     /// Takes the free buffer of lowest number, by giving it a width.
@@ -187,16 +196,19 @@ impl<const OFFSET_BITS: u32> Cells<OFFSET_BITS> {
     pub fn retire(&mut self, buffer: u32, generation: u64, commit: u32)
         requires { buffer < self.old.buffers }
         ensures table { self.new.table.items ≡ slice_set self.old.table.items (buffer * self.old.words) 0 }
-        ensures stamps { self.new.stamps.items ≡ with_range self.old.stamps.items (buffer * self.old.words) (replicate self.old.words 0) }
+        ensures stamps { self.new.stamps.items ≡ without_stamps self.old.stamps.items self.old.buffers self.old.words buffer }
         ensures marks { self.new.marks.items
             ≡ slice_set self.old.marks.items buffer (Held generation commit (width_in self.old.table.items self.old.words buffer)) }
         ensures buffers { self.new.buffers ≡ self.old.buffers }
         ensures words { self.new.words ≡ self.old.words }
     {
-        let first = buffer as usize * self.words as usize;
+        let words = self.words as usize;
+        let first = buffer as usize * words;
         let width = self.table[first];
         self.table[first] = 0;
-        self.stamps[first..first + self.words as usize].fill(0);
+        self.stamps[first..first + words].fill(0);
+        let entries = self.table.len() + first;
+        self.stamps[entries..entries + words].fill(0);
         self.marks[buffer as usize] = Mark::Held {
             generation,
             commit,
@@ -217,13 +229,6 @@ impl<const OFFSET_BITS: u32> Cells<OFFSET_BITS> {
             self.marks[i] = mark;
         }
     }
-}
-
-/// The later of two stamps.
-fn later(a: u64, b: u64) -> u64
-    ensures { result ≡ max a b }
-{
-    if a < b { b } else { a }
 }
 
 /// The given words, and zeros after them.

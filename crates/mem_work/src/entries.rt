@@ -1,10 +1,10 @@
-ghost use Rattle.std.specs.Prelude.{◌≡◌, ◌≢◌, ◌<◌, ◌+◌, ℕ, IfOk, OnOk, [], length, slice_index, take, drop};
+ghost use Rattle.std.specs.Prelude.{◌≡◌, ◌≢◌, ◌<◌, ◌+◌, ℕ, IfOk, OnOk, [], slice_index, take, drop};
 ghost use Rattle.std.specs.List.{list_all};
 ghost use Rattle.entry_ref.specs.References.{buffer_of};
 ghost use Rattle.image_base.specs.Places.{IsEntry};
 ghost use Rattle.image_base.specs.Before.{those_before};
 ghost use Rattle.image_base.specs.Maps.{seen};
-ghost use Rattle.mem_work.specs.Cells.{width_in, begin_of, standing, is_since};
+ghost use Rattle.mem_work.specs.Cells.{width_in, begin_of, stamp_at, standing, is_since};
 ghost use Rattle.mem_work.specs.Entries.{is_chosen, chosen};
 
 use crate::cells::Cells;
@@ -92,7 +92,7 @@ impl<const OFFSET_BITS: u32> Cells<OFFSET_BITS> {
             entry.entry }
     {
         match since {
-            Some(since) => all_since(self.stamps_of(entry), since),
+            Some(since) => all_since(self.entry_stamp(entry), self.stamps_of(entry), since),
             None => true,
         }
     }
@@ -107,6 +107,15 @@ impl<const OFFSET_BITS: u32> Cells<OFFSET_BITS> {
         let width = self.width(buffer);
         let first = buffer as usize * self.words as usize + entry.offset() as usize * width;
         &self.table[first..first + width]
+    }
+
+    /// The stamp of an entry.
+    fn entry_stamp(&self, entry: EntryRef<OFFSET_BITS>) -> u64
+        requires { IsEntry OFFSET_BITS self.now.buffers self.now.words
+            (width_in self.now.table.items self.now.words (buffer_of OFFSET_BITS entry)) entry }
+        ensures { result ≡ slice_index self.now.stamps.items (stamp_at OFFSET_BITS self.now.buffers self.now.words entry.entry) }
+    {
+        self.stamps[self.stamp_place(entry)]
     }
 
     /// The stamps of the words of an entry.
@@ -124,11 +133,9 @@ impl<const OFFSET_BITS: u32> Cells<OFFSET_BITS> {
     }
 }
 
-/// Whether the stamps of an entry tell that each of its words was stored since another.
-fn all_since(stamps: &[u64], since: u64) -> bool
-    requires { 0 < length stamps.now }
-    ensures { result ≡ list_all (is_since since (slice_index stamps.now 0)) stamps.now }
+/// Whether the stamps of an entry and of its words tell that each of these was stored since another.
+fn all_since(whole: u64, stamps: &[u64], since: u64) -> bool
+    ensures { result ≡ list_all (is_since since whole) stamps.now }
 {
-    let first = stamps[0];
-    stamps.iter().all(|stamp| since < first || since <= *stamp)
+    stamps.iter().all(|stamp| since <= whole || since <= *stamp)
 }

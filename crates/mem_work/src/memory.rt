@@ -7,7 +7,7 @@ ghost use Rattle.image_base.specs.Records.{HasWord, word_at, with_words};
 ghost use Rattle.image_base.specs.Maps.{seen};
 ghost use Rattle.arena_api.specs.Calls.{opened, MayStore, InNoCommit, AddsCommit, with_stored, padded, next_image, published};
 ghost use Rattle.arena_api.specs.Works.{active_width};
-ghost use Rattle.mem_work.specs.Cells.{width_in, standing, stamp_of, records_in, sizes_of, memory_view};
+ghost use Rattle.mem_work.specs.Cells.{width_in, standing, IsUnused, records_in, sizes_of, memory_view};
 ghost use Rattle.mem_work.specs.Marks.{IsMark, mark_at, with_marks};
 
 use crate::cells::Cells;
@@ -32,10 +32,9 @@ pub struct MemWork<const OFFSET_BITS: u32, L: Layout> {
     first: u32,
     layout: PhantomData<L>,
     // every word was stored under the next commit or before
-    ghost stamped: { (p : ℕ) → slice_index cells.stamps.items p ≤ stamp_of (last + 1) + 1 },
+    ghost stamped: { (p : ℕ) → slice_index cells.stamps.items p ≤ last + 1 },
     // those of a free buffer before
-    ghost unused: { (b x : ℕ) → x < cells.words → width_in cells.table.items cells.words b ≡ 0
-        → slice_index cells.stamps.items (b * cells.words + x) < stamp_of (last + 1) },
+    ghost unused: { IsUnused cells.table.items cells.stamps.items cells.buffers cells.words (last + 1) },
     ghost marks: { (b : ℕ) → IsMark generation first last (width_in cells.table.items cells.words b) (mark_at cells.marks.items b) },
     ghost early: { first ≤ last },
     ghost generations: { generation ≤ 2 ^ 48 - 1 },
@@ -158,8 +157,7 @@ impl<const OFFSET_BITS: u32, L: Layout> Work<OFFSET_BITS> for MemWork<OFFSET_BIT
         ensures shape { ⟦<MemWork<OFFSET_BITS, L> as Frozen<OFFSET_BITS>>⟧.shape self.new
             ≡ ⟦<MemWork<OFFSET_BITS, L> as Frozen<OFFSET_BITS>>⟧.shape self.old }
     {
-        self.cells
-            .put(entry, width, words, next_stamp(self.last) + 1);
+        self.cells.put(entry, width, words, next_stamp(self.last));
     }
 
     fn hand_out(&mut self, width: u32) -> Option<u32> {
@@ -275,9 +273,9 @@ impl<const OFFSET_BITS: u32, L: Layout> Work<OFFSET_BITS> for MemWork<OFFSET_BIT
 /// The last generation that there can be, of 48 bits.
 const LAST_GENERATION: u64 = (1 << 48) - 1;
 
-/// The stamp of a word that is stored alone after this commit.
+/// The stamp of what is stored after this commit.
 fn next_stamp(last: u32) -> u64
-    ensures { result ≡ stamp_of (last + 1) }
+    ensures { result ≡ last + 1 }
 {
-    2 * (u64::from(last) + 1)
+    u64::from(last) + 1
 }

@@ -24,4 +24,9 @@ invariant_of-result-clause-marks g c =
 pub invariant_of-result-clause-unused : goal.invariant_of-result-clause-unused
 invariant_of-result-clause-unused g c =
     let e = c.in_ok-cells.ensures in
-    rw e.stamps (λ b x below none. omega (arith, slice_index-zeros (c.args.buffers * c.args.words) (b * c.in_ok-cells.cells.words + x)))
+    let cells = c.in_ok-cells.cells in
+    let count = c.args.buffers * c.args.words in
+    rw e.stamps (λ b x inside below none. (
+      omega (arith, slice_index-zeros (count + count) (b * cells.words + x)),
+      omega (arith, slice_index-zeros (count + count) (cells.buffers * cells.words + (b * cells.words + x))),
+    ))

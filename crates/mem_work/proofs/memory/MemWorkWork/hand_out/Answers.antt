@@ -10,7 +10,7 @@ invariant_of-self-clause-unused g c =
     let s = c.args.self.now in
     let e = c.hand_out.ensures in
     let some : 0 < s.cells.words = omega (arith, s.cells.some_words) in
-    rw (e.stamps, e.words)
+    rw (e.stamps, e.buffers, e.words)
     (hand_out-unused g.L.Layout.reaches g.L.Layout.lawful g.L.Layout.present g.L.Layout.stays s.shape s.cells.table.items s.cells.stamps.items g.row.OFFSET_BITS s.cells.buffers s.cells.words s.last s.root s.lawful
     s.cells.marks.items c.args.width c.requires some (sym s.cells.table.ok.0 ∙ s.cells.room) (sym s.cells.stamps.ok.0 ∙ s.cells.stamped) s.unused c.hand_out.result _ e.lowest e.handed e.refused)
 

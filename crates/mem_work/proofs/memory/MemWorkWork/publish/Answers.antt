@@ -9,7 +9,7 @@ invariant_of-self g c =
     let s = c.args.self.now in
     record {
       stamped = λ p. omega (arith, s.stamped p);
-      unused = λ b x below free. omega (arith, s.stamped (b * s.cells.words + x));
+      unused = λ b x inside below free. (omega (arith, s.stamped (b * s.cells.words + x)), omega (arith, s.stamped (s.cells.buffers * s.cells.words + (b * s.cells.words + x))));
       marks = λ b. mark-later s.generation s.first s.last _ _ (s.marks b);
       early = omega (arith, s.early);
       generations = s.generations;

@@ -3,7 +3,6 @@ use Rattle.arena_api.specs.Calls.{padded}
 use Rattle.mem_work.specs.ProofsForMemory.{active_width-by}
 use Rattle.arena_api.proofs.Padded.{length-padded}
 use Rattle.mem_work.proofs.Puts.{view-put, records-put, lawful-put}
-use Rattle.mem_work.specs.Cells.{stamp_of}
 use Rattle.mem_work.specs.Marks.{mark_at, with_marks}
 use Rattle.mem_work.proofs.Marked.{mark-word}
 use Rattle.mem_work.proofs.Ranges.{width-range, stamps-range, unused-range}
@@ -14,16 +13,16 @@ invariant_of-self-clause-stamped g c =
     let s = c.args.self.now in
     rw (c.put.ensures.stamps, c.next_stamp.ensures)
     (stamps-range s.cells.table.items g.row.OFFSET_BITS s.cells.buffers s.cells.words c.args.entry c.args.width (sym (active_width-by _ _) ∙ c.requires.width) c.requires.entry (padded c.args.words.now c.args.width)
-    (length-padded c.args.words.now c.args.width c.requires.fits) (sym s.cells.table.ok.0 ∙ s.cells.room) s.cells.stamps.items (stamp_of (s.last + 1) + 1) (sym s.cells.stamps.ok.0 ∙ s.cells.stamped) s.stamped)
+    (length-padded c.args.words.now c.args.width c.requires.fits) (sym s.cells.table.ok.0 ∙ s.cells.room) s.cells.stamps.items (s.last + 1) (sym s.cells.stamps.ok.0 ∙ s.cells.stamped) s.stamped)
 
 pub invariant_of-self-clause-unused : goal.invariant_of-self-clause-unused
 invariant_of-self-clause-unused g c =
     let s = c.args.self.now in
     let e = c.put.ensures in
-    rw (e.table, e.stamps, e.words, c.next_stamp.ensures)
+    rw (e.table, e.stamps, e.buffers, e.words, c.next_stamp.ensures)
     (unused-range s.cells.table.items g.row.OFFSET_BITS s.cells.buffers s.cells.words c.args.entry c.args.width (sym (active_width-by _ _) ∙ c.requires.width) c.requires.entry (padded c.args.words.now c.args.width)
     (length-padded c.args.words.now c.args.width c.requires.fits) (sym s.cells.table.ok.0 ∙ s.cells.room)
-    s.cells.stamps.items (stamp_of (s.last + 1) + 1) (sym s.cells.stamps.ok.0 ∙ s.cells.stamped) (stamp_of (s.last + 1)) s.unused)
+    s.cells.stamps.items (s.last + 1) (sym s.cells.stamps.ok.0 ∙ s.cells.stamped) (s.last + 1) s.unused)
 
 pub invariant_of-self-clause-lawful : goal.invariant_of-self-clause-lawful
 invariant_of-self-clause-lawful g c =

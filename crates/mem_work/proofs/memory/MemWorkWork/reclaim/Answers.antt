@@ -32,4 +32,4 @@ pub invariant_of-self-clause-unused : goal.invariant_of-self-clause-unused
 invariant_of-self-clause-unused g c =
     let s = c.args.self.now in
     let e = c.free_below.ensures in
-    rw (e.table, e.stamps, e.words) s.unused
+    rw (e.table, e.stamps, e.buffers, e.words) s.unused

@@ -1,5 +1,4 @@
 use Rattle.std.proofs.Common.{◌+◌, ◌<◌, sym, ◌∙◌, arith}
-use Rattle.mem_work.specs.Cells.{stamp_of}
 use Rattle.mem_work.proofs.Cleared.{lawful-cleared, records-cleared, stamped-cleared, unused-cleared, marks-cleared, view-cleared}
 use Rattle.mem_work.proofs.memory.MemWorkWork.retire_buffer.Goals as goal
 
@@ -9,14 +8,14 @@ invariant_of-self-clause-stamped g c =
     let e = c.retire.ensures in
     let some : 0 < s.cells.words = omega (arith, s.cells.some_words) in
     rw e.stamps (stamped-cleared g.L.Layout.reaches g.L.Layout.lawful g.L.Layout.present g.L.Layout.stays s.shape s.cells.table.items s.cells.stamps.items g.row.OFFSET_BITS s.cells.buffers s.cells.words s.last s.root
-    s.lawful c.args.buffer c.requires.below some (sym s.cells.table.ok.0 ∙ s.cells.room) (sym s.cells.stamps.ok.0 ∙ s.cells.stamped) c.requires.uncommitted c.requires.unstored (stamp_of (s.last + 1) + 1) s.stamped)
+    s.lawful c.args.buffer c.requires.below some (sym s.cells.table.ok.0 ∙ s.cells.room) (sym s.cells.stamps.ok.0 ∙ s.cells.stamped) c.requires.uncommitted c.requires.unstored (s.last + 1) s.stamped)
 
 pub invariant_of-self-clause-unused : goal.invariant_of-self-clause-unused
 invariant_of-self-clause-unused g c =
     let s = c.args.self.now in
     let e = c.retire.ensures in
     let some : 0 < s.cells.words = omega (arith, s.cells.some_words) in
-    rw (e.table, e.stamps, e.words) (unused-cleared g.L.Layout.reaches g.L.Layout.lawful g.L.Layout.present g.L.Layout.stays s.shape s.cells.table.items s.cells.stamps.items g.row.OFFSET_BITS s.cells.buffers
+    rw (e.table, e.stamps, e.buffers, e.words) (unused-cleared g.L.Layout.reaches g.L.Layout.lawful g.L.Layout.present g.L.Layout.stays s.shape s.cells.table.items s.cells.stamps.items g.row.OFFSET_BITS s.cells.buffers
     s.cells.words s.last s.root s.lawful c.args.buffer c.requires.below some (sym s.cells.table.ok.0 ∙ s.cells.room) (sym s.cells.stamps.ok.0 ∙ s.cells.stamped) c.requires.uncommitted c.requires.unstored s.unused)
 
 pub invariant_of-self-clause-marks : goal.invariant_of-self-clause-marks

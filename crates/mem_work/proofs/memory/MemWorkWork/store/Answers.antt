@@ -17,7 +17,7 @@ pub invariant_of-self-clause-unused : goal.invariant_of-self-clause-unused
 invariant_of-self-clause-unused g c =
     let s = c.args.self.now in
     let e = c.store.ensures in
-    rw (e.table, e.stamps, e.words, c.next_stamp.ensures)
+    rw (e.table, e.stamps, e.buffers, e.words, c.next_stamp.ensures)
     (unused-store g.L.Layout.reaches g.L.Layout.lawful g.L.Layout.present g.L.Layout.stays s.shape s.cells.table.items s.cells.stamps.items g.row.OFFSET_BITS s.cells.buffers s.cells.words s.last s.root s.lawful
     c.args.entry c.args.i (entry-by _ _ _ _ _ _ c.requires.word.entry) (inside-by _ _ _ c.requires.word.inside) (sym s.cells.stamps.ok.0 ∙ s.cells.stamped) c.args.word s.unused)
 
