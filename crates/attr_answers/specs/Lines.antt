@@ -1,6 +1,6 @@
 -- The lines that a table's answers are written as.
 use Rattle.std.specs.Prelude.{◌≡◌, ℕ, ◌+◌, ◌<◌, ◌≤◌, ◌^◌, Bool, true, false, List, [], ◌∷◌, ◌++◌, length, string_bytes}
-use Rattle.attr_scores.specs.Scores.{AskTree, Answer, answer_to, count_of}
+use Rattle.attr_scores.specs.Scores.{AskTree, Answer, answer_on, documents_in}
 use Rattle.attr_images.specs.Shapes.{shape_of, types_of}
 use Rattle.attr_types.specs.Table.{Table}
 use Rattle.attr_types.specs.declared.field.Field.{Field}
@@ -11,12 +11,12 @@ use Rattle.attr_answers.specs.declared.asked.Told.{Told}
 -- a line of a report, or of a summary, which counts the documents
 abbrev pub line_of : Bool → ℕ → Answer → List ℕ
 line_of false number answer = answer_line number answer
-line_of true number answer = count_line number (count_of answer)
+line_of true number answer = count_line number (documents_in answer)
 
 -- those of what is asked, numbered from `number` on, over a table
 abbrev pub lines_from : Bool → ℕ → List AskTree → Table → List ℕ
 lines_from counted number [] table = []
-lines_from counted number (ask ∷ asks) table = line_of counted number (answer_to ask table) ++ lines_from counted (number + 1) asks table
+lines_from counted number (ask ∷ asks) table = line_of counted number (answer_on ask table) ++ lines_from counted (number + 1) asks table
 
 -- a table is told: how many documents it has, and the lines of its answers
 pub record TellsTable (counted : Bool) (asks : List AskTree) (table : Table) (told : Told) : Type 0 where

@@ -3,7 +3,7 @@ ghost use Rattle.std.specs.Prelude.{◌≡◌, ◌≤◌, ◌<◌, ◌++◌, ◌
 ghost use Rattle.attr_answers.specs.Lines.{line_of, lines_from};
 ghost use Rattle.attr_images.specs.Images.{operations_at, table_of, IsLawfulImage};
 ghost use Rattle.attr_images.specs.Shapes.{shape_of, types_of};
-ghost use Rattle.attr_scores.specs.Scores.{ask_tree, answer_to, documents, scored};
+ghost use Rattle.attr_scores.specs.Scores.{ask_tree, answer_on, documents, scored};
 ghost use Rattle.attr_types.specs.declared.field.TheConstants.{MOST_FIELDS};
 
 use attr_report::{push_count, push_documents, push_scores};
@@ -69,7 +69,7 @@ fn push_answer<const OFFSET_BITS: u32, F: Frozen<OFFSET_BITS>>(
     requires shape { F.shape frozen.old ≡ shape_of (types_of fields.now) }
     requires image { IsLawfulImage (F.shape frozen.old) (F.records frozen.old) root }
     ensures line { OnOk result (string_bytes text.new ≡ string_bytes text.old
-        ++ line_of counted number (answer_to (ask_tree ask.now) (table_of (F.shape frozen.old) (F.records frozen.old) root.entry))) }
+        ++ line_of counted number (answer_on (ask_tree ask.now) (table_of (F.shape frozen.old) (F.records frozen.old) root.entry))) }
     ensures same { frozen.new ≡ frozen.old }
 {
     match ask {

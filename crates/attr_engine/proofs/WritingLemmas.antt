@@ -3,7 +3,7 @@ use Rattle.std.proofs.Common.{◌≡◌, ◌∙◌, refl, sym, ap, ap₂, subst,
 use Rattle.std.specs.Prelude.{true, false, Option, Some, None, is_some, All, Vec, IfSome}
 use Rattle.std.specs.Global.{Global}
 use Rattle.std.specs.List.{AllByRecursion}
-use Rattle.attr_scores.specs.Scores.{AskTree, answer_to, count_of}
+use Rattle.attr_scores.specs.Scores.{AskTree, answer_on, documents_in}
 use Rattle.attr_types.specs.Table.{Table, IsCommitPoint}
 use Rattle.attr_types.specs.declared.op.Op.{Op}
 use Rattle.attr_rounds.specs.declared.rounds.Round.{Round}
@@ -45,12 +45,12 @@ readers_text-next front reader made others text written =
 lines-answers : (number : ℕ) (asks : List AskTree) (table : Table) → lines_from false number asks table ≡ answers_from number asks table
 unfolding answers_from
 lines-answers number [] table = refl
-lines-answers number (ask ∷ asks) table = ap (λ t. answer_line number (answer_to ask table) ++ t) (lines-answers (number + 1) asks table)
+lines-answers number (ask ∷ asks) table = ap (λ t. answer_line number (answer_on ask table) ++ t) (lines-answers (number + 1) asks table)
 
 lines-counts : (number : ℕ) (asks : List AskTree) (table : Table) → lines_from true number asks table ≡ counts_from number asks table
 unfolding counts_from
 lines-counts number [] table = refl
-lines-counts number (ask ∷ asks) table = ap (λ t. count_line number (count_of (answer_to ask table)) ++ t) (lines-counts (number + 1) asks table)
+lines-counts number (ask ∷ asks) table = ap (λ t. count_line number (documents_in (answer_on ask table)) ++ t) (lines-counts (number + 1) asks table)
 
 told_lines : (run : Run) (ops : List Op) (n : ℕ) (told : Told) → run.make ≡ None → TellsTable (is_some run.make) run.asks (table_after run ops n) told
     → string_bytes told.lines ≡ answers_at run ops n

@@ -4,7 +4,7 @@ use Rattle.std.specs.List.{flat_map}
 use Rattle.std.specs.Fmt.{decimal, signed_decimal}
 use Rattle.attr_saver.specs.Bytes.{saved_bytes}
 use Rattle.attr_saver.specs.Lawful.{save_of}
-use Rattle.attr_scores.specs.Scores.{AskTree, Answer, documents, scored, answer_to, count_of}
+use Rattle.attr_scores.specs.Scores.{AskTree, Answer, documents, scored, answer_on, documents_in}
 use Rattle.attr_scores.specs.declared.score.Score.{Score}
 use Rattle.attr_types.specs.Table.{Table}
 use Rattle.attr_types.specs.declared.field.Field.{Field}
@@ -28,7 +28,7 @@ answer_line number (scored list) =
 unfoldable pub answers_from : ℕ → List AskTree → Table → List ℕ
 answers_from number [] table = []
 answers_from number (ask ∷ asks) table =
-    answer_line number (answer_to ask table) ++ answers_from (number + 1) asks table
+    answer_line number (answer_on ask table) ++ answers_from (number + 1) asks table
 
 -- the answers of a run at its first n operations
 unfoldable pub answers_at : Run → List Op → ℕ → List ℕ
@@ -88,7 +88,7 @@ count_line number count = decimal number ++ codes ": " ++ decimal count ++ codes
 unfoldable pub counts_from : ℕ → List AskTree → Table → List ℕ
 counts_from number [] table = []
 counts_from number (ask ∷ asks) table =
-    count_line number (count_of (answer_to ask table)) ++ counts_from (number + 1) asks table
+    count_line number (documents_in (answer_on ask table)) ++ counts_from (number + 1) asks table
 
 -- the summary of a run that came so far; it tells no rounds
 unfoldable pub summary : Make → Run → List Op → Progress → Option ℕ → List ℕ

@@ -1,6 +1,6 @@
 -- A run that was asked for, how far it came, and its table on the way.
 use Rattle.std.specs.Prelude.{ℕ, Bool, List, map, Option}
-use Rattle.attr_scores.specs.Scores.{AskTree, Answer, ask_tree, answer_to}
+use Rattle.attr_scores.specs.Scores.{AskTree, Answer, ask_tree, answer_on}
 use Rattle.attr_types.specs.declared.field.Field.{Field}
 use Rattle.attr_types.specs.declared.op.Op.{Op}
 use Rattle.attr_types.specs.Table.{Table, after, skipped}
@@ -49,7 +49,7 @@ skipped_at run ops n = skipped run.fields ops n
 
 -- what the table after the first n operations answers
 abbrev pub answers_of : Run → List Op → ℕ → List Answer
-answers_of run ops n = map (λ ask. answer_to ask (table_after run ops n)) run.asks
+answers_of run ops n = map (λ ask. answer_on ask (table_after run ops n)) run.asks
 
 -- how far a run came: how many operations it loaded, for each reader the counts of operations that its rounds
 -- saw, and at how many operations the table was saved, if it was

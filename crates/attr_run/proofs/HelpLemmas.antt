@@ -12,7 +12,7 @@ use Rattle.attr_names.specs.Names.{kind_named, value_named}
 use Rattle.attr_words.specs.CommandLine.{attr_app}
 use Rattle.attr_words.specs.Reading.{Said, said_by, AskForHelp, AreRefused}
 use Rattle.attr_words.specs.Also.{◌>>=◌, Piece, pieces, part_at, new_name, or_broken, or_surplus, field_of_parts}
-use Rattle.attr_words.specs.Also.{field_in, next_field, fields_from, fields_of}
+use Rattle.attr_words.specs.Also.{field_in, next_field, fields_from, named_fields}
 use Rattle.attr_words.specs.Settings.{Given, or_refused, if_room, settings_by, said_or_refused, said_in, settings_in}
 use Rattle.attr_words.specs.declared.reading.WordsError.{WordsError}
 use Rattle.attr_words.specs.declared.reading.WordsError.TheVariants as words
@@ -61,8 +61,8 @@ unfolding fields_from
 late_fields before [] = tt
 late_fields before (piece ∷ more) = late_next _ _ (late_field before piece) (λ field. late_fields (before ++ field ∷ []) more)
 
-late_also : (first : Field) (also : Option Text) → IfErr (fields_of first also) IsLate
-unfolding fields_of
+late_also : (first : Field) (also : Option Text) → IfErr (named_fields first also) IsLate
+unfolding named_fields
 late_also first None = tt
 late_also first (Some text) = late_fields (first ∷ []) (pieces 44 (record { place = 0; text = text }))
 

@@ -56,11 +56,11 @@ pub data Answer : Type 0 where
   scored : (list : List Score) → Answer
 
 -- what a table answers
-abbrev pub answer_to : AskTree → Table → Answer
-answer_to (hits_of query) table = documents (hits query table)
-answer_to (dot_of field parts) table = scored (scores field parts table)
+abbrev pub answer_on : AskTree → Table → Answer
+answer_on (hits_of query) table = documents (hits query table)
+answer_on (dot_of field parts) table = scored (scores field parts table)
 
 -- how many documents an answer has
-abbrev pub count_of : Answer → ℕ
-count_of (documents docs) = length docs
-count_of (scored list) = length list
+abbrev pub documents_in : Answer → ℕ
+documents_in (documents docs) = length docs
+documents_in (scored list) = length list

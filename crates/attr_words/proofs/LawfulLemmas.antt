@@ -12,7 +12,7 @@ use Rattle.attr_types.specs.declared.field.Field.{Field}
 use Rattle.attr_names.specs.Names.{kind_named, value_named}
 use Rattle.attr_words.specs.CommandLine.{attr_app}
 use Rattle.attr_words.specs.Reading.{Said, said_by, IsInRange}
-use Rattle.attr_words.specs.Also.{◌>>=◌, Piece, field_in, next_field, fields_from, fields_of}
+use Rattle.attr_words.specs.Also.{◌>>=◌, Piece, field_in, next_field, fields_from, named_fields}
 use Rattle.attr_words.specs.Settings.{Given, given_with, or_refused, are_too_many, if_room, settings_by, said_or_refused}
 use Rattle.attr_words.specs.Settings.{said_in, settings_in, IsLawful, SettingsAreLawful}
 use Rattle.attr_words.specs.declared.reading.WordsError.{WordsError}
@@ -63,8 +63,8 @@ from_few before (piece ∷ list) fields few e =
     from_few (before ++ next.0 ∷ []) list fields
     (record { some = omega (arith, more); few = omega (arith, more, room) }) next.2
 
-of_few : (first : Field) (also : Option Text) (fields : List Field) → fields_of first also ≡ Ok fields → IsFew fields
-unfolding fields_of
+of_few : (first : Field) (also : Option Text) (fields : List Field) → named_fields first also ≡ Ok fields → IsFew fields
+unfolding named_fields
 of_few first None fields e =
     let same : first ∷ [] ≡ fields = cc in
     subst IsFew same (record { some = omega arith; few = omega arith })
@@ -78,7 +78,7 @@ lawful said given range e =
     let value = next_ok (or_refused errors.Value (value_named said.value)) _ given kind.2 in
     let room = next_ok (or_refused (errors.Size said.buffers said.words) (if_room said.wide said.buffers said.words)) _
     given value.2 in
-    let fields = next_ok (fields_of (record { name = said.field; kind = kind.0; value = value.0 }) said.also) _ given
+    let fields = next_ok (named_fields (record { name = said.field; kind = kind.0; value = value.0 }) said.also) _ given
     room.2 in
     let few = of_few _ said.also fields.0 fields.1 in
     let is : given_with said fields.0 ≡ given = cc in

@@ -84,6 +84,6 @@ fields_from before (piece ∷ more) = do
   fields_from (before ++ field ∷ []) more
 
 -- the attribute of `--field`, and those of `--also` where it is given
-unfoldable pub fields_of : Field → Option Text → Result (List Field) WordsError
-fields_of first None = Ok (first ∷ [])
-fields_of first (Some text) = fields_from (first ∷ []) (pieces 44 (record { place = 0; text = text }))
+unfoldable pub named_fields : Field → Option Text → Result (List Field) WordsError
+named_fields first None = Ok (first ∷ [])
+named_fields first (Some text) = fields_from (first ∷ []) (pieces 44 (record { place = 0; text = text }))

@@ -12,7 +12,7 @@ use Rattle.attr_types.specs.declared.field.Field.{Field}
 use Rattle.attr_names.specs.Names.{kind_named, value_named}
 use Rattle.attr_words.specs.CommandLine.{attr_app, batch, readers, rounds, buffers, words, make, seed}
 use Rattle.attr_words.specs.Reading.{Said, said_by, IsWithin}
-use Rattle.attr_words.specs.Also.{◌>>=◌, fields_of}
+use Rattle.attr_words.specs.Also.{◌>>=◌, named_fields}
 use Rattle.attr_words.specs.declared.settings.Settings.{Settings}
 use Rattle.attr_words.specs.declared.reading.WordsError.{WordsError}
 use Rattle.attr_words.specs.declared.reading.WordsError.TheVariants as errors
@@ -69,7 +69,7 @@ settings_by said = do
   kind ← or_refused errors.Kind (kind_named said.kind)
   value ← or_refused errors.Value (value_named said.value)
   room ← or_refused (errors.Size said.buffers said.words) (if_room said.wide said.buffers said.words)
-  fields ← fields_of (record { name = said.field; kind = kind; value = value }) said.also
+  fields ← named_fields (record { name = said.field; kind = kind; value = value }) said.also
   Ok (given_with said fields)
 
 -- what the options say, help or a refusal, as clap finds faults in the words and matches them

@@ -3,7 +3,7 @@ ghost use Rattle.std.specs.Prelude.{◌≡◌, ◌≤◌, ◌+◌, ◌<◌, ◌^
 ghost use Rattle.std.specs.List.{AllByRecursion, slice_split};
 ghost use Rattle.attr_names.specs.Names.{kind_named, value_named};
 ghost use Rattle.attr_words.specs.Also.{EndsBefore, piece_of, pieces, placed, span, part_at, new_name, or_broken};
-ghost use Rattle.attr_words.specs.Also.{field_in, next_field, fields_from, fields_of};
+ghost use Rattle.attr_words.specs.Also.{field_in, next_field, fields_from, named_fields};
 ghost use Rattle.attr_words.specs.Reading.{text_option};
 ghost use Rattle.attr_words.specs.Settings.{Says};
 
@@ -138,13 +138,13 @@ fn fields_from(alloc: Global, first: Field, parts: &[Part<'_>]) -> Result<Fields
 }
 
 /// The attribute of `--field`, and those of `--also` where it is given.
-#[tactic(auto, unfolding(crate::specs::Also::fields_of))]
+#[tactic(auto, unfolding(crate::specs::Also::named_fields))]
 pub(crate) fn fields_of(
     alloc: Global,
     first: Field,
     also: Option<String>,
 ) -> Result<Fields, WordsError>
-    ensures { Says (λ fields. fields) result (fields_of first (text_option also)) }
+    ensures { Says (λ fields. fields) result (named_fields first (text_option also)) }
 {
     match also {
         None => Ok(Fields::of_one(alloc, first)?),

@@ -11,7 +11,7 @@ use Rattle.attr_types.specs.declared.field.Field.{Field}
 use Rattle.attr_types.specs.declared.op.Op.{Op}
 use Rattle.attr_steps.specs.Calls.{RefusesUnit}
 use Rattle.attribute_kinds.specs.Calls.{RefusesOperation, applied_to}
-use Rattle.attribute_kinds.specs.Refusals.{refusal_of}
+use Rattle.attribute_kinds.specs.Refusals.{refusal_of_store}
 use Rattle.attribute_kinds.specs.declared.answers.AttrError.{AttrError}
 
 pub changed_not : {X : Type 0} → ◌≡◌ {A = Result Applied AttrError} (Ok Changed) (Ok Skipped) → X
@@ -20,7 +20,7 @@ changed_not e = cc
 pub refused_not : {X : Type 0} (error : AttrError) → ◌≡◌ {A = Result Applied AttrError} (Err error) (Ok Skipped) → X
 refused_not error e = cc
 
-pub refuses_operation : {H : Type 0} (old new : Ledger H) (e : StoreError) → RefusesUnit old new e → RefusesOperation old new (refusal_of e)
+pub refuses_operation : {H : Type 0} (old new : Ledger H) (e : StoreError) → RefusesUnit old new e → RefusesOperation old new (refusal_of_store e)
 refuses_operation old new (Full width active held oldest) room = room
 refuses_operation old new Memory room = tt
 

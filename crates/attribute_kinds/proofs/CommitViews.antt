@@ -15,7 +15,7 @@ use Rattle.attr_types.specs.declared.field.Field.{Field}
 use Rattle.attribute_kinds.specs.Calls.{CommitsImage, IsForRoot, RefusesCommit}
 use Rattle.attr_steps.specs.Commits.{CommitsAttributes, IsForWidth, RefusesRoot}
 use Rattle.attr_steps.specs.Fields.{trees_of}
-use Rattle.attribute_kinds.specs.Refusals.{refusal_of}
+use Rattle.attribute_kinds.specs.Refusals.{refusal_of_store}
 use Rattle.attribute_kinds.specs.Standing.{StandsAttribute}
 use Rattle.attr_steps.specs.Views.{table_at}
 use Rattle.attribute_kinds.specs.declared.answers.AttrError.{AttrError}
@@ -25,11 +25,11 @@ use Rattle.attribute_kinds.specs.declared.answers.CommitInfo.{CommitInfo}
 pub spent_same : (a b : ℕ) → a ≡ b → ◌≡◌ {A = Result CommitInfo AttrError} (Err (CommitsSpent a)) (Err (CommitsSpent b))
 spent_same a b e = ap (λ n. Err (CommitsSpent n)) e
 
-pub refuses_commit : {H : Type 0} (old new : Ledger H) (e : StoreError) → old.work.commits.last < old.work.sizes.commits → RefusesRoot old new e → RefusesCommit old new (refusal_of e)
+pub refuses_commit : {H : Type 0} (old new : Ledger H) (e : StoreError) → old.work.commits.last < old.work.sizes.commits → RefusesRoot old new e → RefusesCommit old new (refusal_of_store e)
 refuses_commit old new (Full width active held oldest) left refuses = record { left = left; room = refuses.0; spare = refuses.1; before = refuses.2 }
 refuses_commit old new Memory left refuses = tt
 
-pub for_root : (fields : List Field) (e : StoreError) → IsForWidth (class_of (1 + 2 * length fields)) e → IsForRoot fields (refusal_of e)
+pub for_root : (fields : List Field) (e : StoreError) → IsForWidth (class_of (1 + 2 * length fields)) e → IsForRoot fields (refusal_of_store e)
 for_root fields (Full width active held oldest) is = is
 for_root fields Memory is = tt
 

@@ -25,12 +25,12 @@ use Rattle.compact_steps.specs.Walks as walks
 use Rattle.compact_steps.specs.declared.stepping.Step.{Step}
 use Rattle.compact_steps.specs.declared.stepping.Step.TheVariants as steps
 use Rattle.attribute_kinds.specs.Compacting.{CompactsTo, IsIdle, RefusesKey, RefusesStep, Stops}
-use Rattle.attribute_kinds.specs.Refusals.{has_finished, refusal_of, told_of}
+use Rattle.attribute_kinds.specs.Refusals.{has_finished, refusal_of_store, told_of}
 use Rattle.attribute_kinds.specs.Standing.{IsAttribute, IsLast, StandsAttribute}
 use Rattle.attribute_kinds.specs.Views.{AttributeView}
 use Rattle.attribute_kinds.specs.declared.answers.Compacted.TheVariants.{Idle}
 
-refuses_key : {H : Type 0} (old new : Ledger H) (error : StoreError) → RefusesNext old new error → RefusesKey old new (refusal_of error)
+refuses_key : {H : Type 0} (old new : Ledger H) (error : StoreError) → RefusesNext old new error → RefusesKey old new (refusal_of_store error)
 refuses_key old new (errors.Full width active held oldest) refused = record { room = refused.why; spare = refused.spare; buffer = refused.active }
 refuses_key old new errors.Memory refused = tt
 
@@ -59,7 +59,7 @@ module _ {S H : Type 0} (bits : ℕ) (ledger : S → Ledger H) (records : S → 
     Made r = Compacts bits root (ledger old) (ledger new) (records old) (records new) fields trees next before after (new ≡ old) keys r
 
     stops_told : (moved : ℕ) (stop : Option StoreError) → walks.Stops (ledger old) (ledger new) keys moved stop
-        → Stops bits ledger records (seen old trees before) (seen new next after) keys moved (option_map refusal_of stop)
+        → Stops bits ledger records (seen old trees before) (seen new next after) keys moved (option_map refusal_of_store stop)
     stops_told moved None stops = stops
     stops_told moved (Some error) stops = record { some = stops.some; few = stops.few; refused = refuses_key (ledger old) (ledger new) error stops.refused }
 

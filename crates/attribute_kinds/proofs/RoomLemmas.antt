@@ -28,7 +28,7 @@ use Rattle.attribute_kinds.specs.Counts.{operation_values}
 use Rattle.attr_steps.specs.Counts.{MakesOperation, SparesOperation}
 use Rattle.attr_steps.specs.Widths.{IsFullAmong, IsOperationWidth}
 use Rattle.attribute_kinds.specs.Counts.{IsOneSingle, LacksBuffers, NamesWidth, SparesOf}
-use Rattle.attribute_kinds.specs.Refusals.{refusal_of}
+use Rattle.attribute_kinds.specs.Refusals.{refusal_of_store}
 use Rattle.attr_steps.proofs.StepLemmas.{found_lawful}
 
 -- ---- what is to spare
@@ -54,13 +54,13 @@ spares_one fields table op spare width few one =
     (subst (λ n. spare ≤ of_width (document_nodes before after n) (document_records before after n) width) one few) (values_few old new)
 
 pub spares_operation : {H : Type 0} (now : Ledger H) (fields : List Field) (table : Table) (op : Op) (e : StoreError) → SparesOperation now fields table op e
-    → SparesOf now fields table op (refusal_of e)
+    → SparesOf now fields table op (refusal_of_store e)
 spares_operation now fields table op (Full width active held oldest) few =
     record { few = few; one = λ one. spares_one fields table op ((now.of_width width).spare) width few one }
 spares_operation now fields table op Memory few = tt
 
 -- of which width it was refused
-pub names_width : (fields : List Field) (table : Table) (op : Op) (e : StoreError) → IsFullAmong (IsOperationWidth fields table op) e → NamesWidth fields table op (refusal_of e)
+pub names_width : (fields : List Field) (table : Table) (op : Op) (e : StoreError) → IsFullAmong (IsOperationWidth fields table op) e → NamesWidth fields table op (refusal_of_store e)
 names_width fields table op (Full width active held oldest) full = full
 names_width fields table op Memory full = tt
 
@@ -150,7 +150,7 @@ many_nodes words some = let many = le-div 240 words 34 (omega arith) (omega arit
 pub lacks_buffers : {H : Type 0} (old new : Ledger H) (fields : List Field) (table : Table) (op : Op) (e : StoreError) → Sound fields table → OpFits fields op
     → free_count old.work.buffer old.work.sizes.buffers + buffers_in old.of_width widths ≡ old.work.sizes.buffers
     → free_count new.work.buffer new.work.sizes.buffers + buffers_in new.of_width widths ≡ new.work.sizes.buffers
-    → 8192 ≤ old.work.sizes.words → KeepsStore old new → RefusesUnit old new e → MakesOperation old new fields table op → LacksBuffers old fields (refusal_of e)
+    → 8192 ≤ old.work.sizes.words → KeepsStore old new → RefusesUnit old new e → MakesOperation old new fields table op → LacksBuffers old fields (refusal_of_store e)
 lacks_buffers old new fields table op (Full width active held oldest) sound fits before after words keeps room made = λ single.
     let few = single_few fields table op sound fits single in
     let many = many_nodes old.work.sizes.words words in

@@ -10,15 +10,15 @@ use Rattle.attribute_kinds.specs.declared.answers.AttrError.TheVariants.{Full, M
 use Rattle.attribute_kinds.specs.declared.answers.Compacted.{Compacted}
 use Rattle.attribute_kinds.specs.declared.answers.Compacted.TheVariants.{Idle, Moved, Finished}
 
-abbrev pub refusal_of : StoreError → AttrError
-refusal_of (errors.Full width active held oldest) = Full width active held oldest
-refusal_of errors.Memory = Memory
+abbrev pub refusal_of_store : StoreError → AttrError
+refusal_of_store (errors.Full width active held oldest) = Full width active held oldest
+refusal_of_store errors.Memory = Memory
 
 abbrev pub told_of : Result Step StoreError → Result Compacted AttrError
 told_of (Ok steps.Idle) = Ok Idle
-told_of (Ok (steps.Moved keys stop)) = Ok (Moved keys (option_map refusal_of stop))
+told_of (Ok (steps.Moved keys stop)) = Ok (Moved keys (option_map refusal_of_store stop))
 told_of (Ok (steps.Finished buffer)) = Ok (Finished buffer)
-told_of (Err error) = Err (refusal_of error)
+told_of (Err error) = Err (refusal_of_store error)
 
 -- whether an emptied buffer waits for its commit from now on
 abbrev pub has_finished : Result Step StoreError → Bool

@@ -1,6 +1,6 @@
 ghost use Rattle.std.specs.Prelude.{◌≡◌};
 ghost use Rattle.std.specs.Option.{option_map};
-ghost use Rattle.attribute_kinds.specs.Refusals.{has_finished, refusal_of, told_of};
+ghost use Rattle.attribute_kinds.specs.Refusals.{has_finished, refusal_of_store, told_of};
 
 use arena_api::{Advance, Oldest};
 use compact_steps::Step;
@@ -55,7 +55,7 @@ pub enum Compacted {
 
 /// A store's refusal, as one of the attributes.
 pub fn refusal(error: StoreError) -> AttrError
-    ensures { result ≡ refusal_of error }
+    ensures { result ≡ refusal_of_store error }
 {
     match error {
         StoreError::Full {
@@ -75,7 +75,7 @@ pub fn refusal(error: StoreError) -> AttrError
 
 /// The same, where there is one.
 fn stop_of(stop: Option<StoreError>) -> Option<AttrError>
-    ensures { result ≡ option_map refusal_of stop }
+    ensures { result ≡ option_map refusal_of_store stop }
 {
     match stop {
         Some(error) => Some(refusal(error)),

@@ -10,25 +10,25 @@ use Rattle.attr_images.specs.Values.{stored_value}
 use Rattle.attr_types.specs.Value.{value_cmp}
 use Rattle.attr_types.specs.ProofsForOrder.{value_cmp_total}
 use Rattle.attr_types.specs.declared.value.Value.{Value}
-use Rattle.check_trees.specs.Keys.{key_cmp, IsTreeOf, PairsAscend}
+use Rattle.check_trees.specs.Keys.{stored_cmp, IsTreeOf, PairsAscend}
 use Rattle.check_trees.specs.declared.keys.Keys.{Keys}
 use Rattle.check_trees.specs.declared.keys.Keys.TheVariants.{Numbers, Values}
 
-pub key_cmp_total : (keys : Keys) (m : Records) → IsTotalOrder (key_cmp keys m)
+pub key_cmp_total : (keys : Keys) (m : Records) → IsTotalOrder (stored_cmp keys m)
 key_cmp_total Numbers m = nat_cmp_total
 key_cmp_total (Values type) m = on_total (stored_value type m) value_cmp_total
 
 module _ (keys : Keys) (m : Records) where
-  all_left : (k : ℕ) (ps qs : List (ℕ × ℕ)) → AllByRecursion (λ y. key_cmp keys m k y ≡ Less) (map (λ (q : ℕ × ℕ). q.0) (ps ++ qs)) → AllByRecursion (λ y. key_cmp keys m k y ≡ Less) (map (λ (q : ℕ × ℕ). q.0) ps)
+  all_left : (k : ℕ) (ps qs : List (ℕ × ℕ)) → AllByRecursion (λ y. stored_cmp keys m k y ≡ Less) (map (λ (q : ℕ × ℕ). q.0) (ps ++ qs)) → AllByRecursion (λ y. stored_cmp keys m k y ≡ Less) (map (λ (q : ℕ × ℕ). q.0) ps)
   all_left k [] qs all = tt
   all_left k (p ∷ ps) qs all = (all.0, all_left k ps qs all.1)
 
-  all_more : (k : ℕ) (ps : List (ℕ × ℕ)) (p : ℕ × ℕ) → AllByRecursion (λ y. key_cmp keys m k y ≡ Less) (map (λ (q : ℕ × ℕ). q.0) ps) → key_cmp keys m k p.0 ≡ Less
-      → AllByRecursion (λ y. key_cmp keys m k y ≡ Less) (map (λ (q : ℕ × ℕ). q.0) (ps ++ p ∷ []))
+  all_more : (k : ℕ) (ps : List (ℕ × ℕ)) (p : ℕ × ℕ) → AllByRecursion (λ y. stored_cmp keys m k y ≡ Less) (map (λ (q : ℕ × ℕ). q.0) ps) → stored_cmp keys m k p.0 ≡ Less
+      → AllByRecursion (λ y. stored_cmp keys m k y ≡ Less) (map (λ (q : ℕ × ℕ). q.0) (ps ++ p ∷ []))
   all_more k [] p all less = (less, tt)
   all_more k (q ∷ qs) p all less = (all.0, all_more k qs p all.1 less)
 
-  all_last : (k : ℕ) (p : ℕ × ℕ) (ps : List (ℕ × ℕ)) → AllByRecursion (λ y. key_cmp keys m k y ≡ Less) (map (λ (q : ℕ × ℕ). q.0) (p ∷ ps)) → key_cmp keys m k (last_key (p ∷ ps)) ≡ Less
+  all_last : (k : ℕ) (p : ℕ × ℕ) (ps : List (ℕ × ℕ)) → AllByRecursion (λ y. stored_cmp keys m k y ≡ Less) (map (λ (q : ℕ × ℕ). q.0) (p ∷ ps)) → stored_cmp keys m k (last_key (p ∷ ps)) ≡ Less
   all_last k p [] all = all.0
   all_last k p (q ∷ ps) all = all_last k q ps all.1
 
@@ -47,7 +47,7 @@ module _ (keys : Keys) (m : Records) where
   ascends-first [] p none = (tt, tt)
   ascends-first (q ∷ qs) p none = absurd (omega arith)
 
-  pub ascends-more : (ps : List (ℕ × ℕ)) (p : ℕ × ℕ) → PairsAscend keys m ps → key_cmp keys m (last_key ps) p.0 ≡ Less → PairsAscend keys m (ps ++ p ∷ [])
+  pub ascends-more : (ps : List (ℕ × ℕ)) (p : ℕ × ℕ) → PairsAscend keys m ps → stored_cmp keys m (last_key ps) p.0 ≡ Less → PairsAscend keys m (ps ++ p ∷ [])
   unfolding IsStrictlySortedBy
   ascends-more [] p up less = (tt, tt)
   ascends-more (q ∷ []) p up less = ((less, tt), (tt, tt))
@@ -56,7 +56,7 @@ module _ (keys : Keys) (m : Records) where
       (all_more q.0 (r ∷ ps) p up.0 above, ascends-more (r ∷ ps) p up.1 less)
 
   -- a key behind others is above the last
-  pub ascends-last : (ps : List (ℕ × ℕ)) (p : ℕ × ℕ) → 0 < length ps → PairsAscend keys m (ps ++ p ∷ []) → key_cmp keys m (last_key ps) p.0 ≡ Less
+  pub ascends-last : (ps : List (ℕ × ℕ)) (p : ℕ × ℕ) → 0 < length ps → PairsAscend keys m (ps ++ p ∷ []) → stored_cmp keys m (last_key ps) p.0 ≡ Less
   unfolding IsStrictlySortedBy
   ascends-last [] p some up = absurd (omega arith)
   ascends-last (q ∷ []) p some up = up.0.0

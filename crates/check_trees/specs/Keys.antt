@@ -11,9 +11,9 @@ use Rattle.check_trees.specs.declared.keys.Keys.{Keys}
 use Rattle.check_trees.specs.declared.keys.Keys.TheVariants.{Numbers, Values}
 
 -- two stored keys, by what they read as
-abbrev pub key_cmp : Keys → Records → ℕ → ℕ → Ordering
-key_cmp Numbers m a b = nat_cmp a b
-key_cmp (Values type) m a b = value_cmp (stored_value type m a) (stored_value type m b)
+abbrev pub stored_cmp : Keys → Records → ℕ → ℕ → Ordering
+stored_cmp Numbers m a b = nat_cmp a b
+stored_cmp (Values type) m a b = value_cmp (stored_value type m a) (stored_value type m b)
 
 -- a tree with keys of this kind
 abbrev pub IsTreeOf : Keys → Records → ℕ → Type 0
@@ -22,4 +22,4 @@ IsTreeOf (Values type) m root = IsTree value_cmp (stored_value type) m root
 
 -- the keys of pairs ascend
 abbrev pub PairsAscend : Keys → Records → List (ℕ × ℕ) → Type 0
-PairsAscend keys m pairs = IsStrictlySortedBy (key_cmp keys m) (map (λ (p : ℕ × ℕ). p.0) pairs)
+PairsAscend keys m pairs = IsStrictlySortedBy (stored_cmp keys m) (map (λ (p : ℕ × ℕ). p.0) pairs)

@@ -1,7 +1,7 @@
 ghost use Rattle.std.specs.Prelude.{◌≡◌, IfOk, slice_index};
 ghost use Rattle.std.specs.Int.{cast_signed, w64};
 ghost use Rattle.attr_images.specs.Values.{stored_text};
-ghost use Rattle.check_trees.specs.Keys.{key_cmp};
+ghost use Rattle.check_trees.specs.Keys.{stored_cmp};
 ghost use Rattle.image_base.specs.Maps.{seen};
 
 use crate::read::rest_of;
@@ -48,7 +48,7 @@ pub fn compare_keys(
     a: u64,
     b: u64,
 ) -> Result<Ordering, AllocError>
-    ensures { IfOk result (λ order. order ≡ key_cmp keys (seen records.now) a b) }
+    ensures { IfOk result (λ order. order ≡ stored_cmp keys (seen records.now) a b) }
 {
     match keys {
         Keys::Numbers => Ok(a.cmp(&b)),

@@ -16,7 +16,7 @@ use Rattle.plan_keys.proofs.ListLemmas.{list_pairs}
 use Rattle.plan_keys.proofs.OrderLemmas.{phase_ascends}
 use Rattle.plan_keys.specs.PhaseKeys.{document_keys, keys_of_pairs, pair_keys, phase_keys, value_keys}
 use Rattle.clear_keys.specs.Passes.{CanPass, GoesThrough, Passes}
-use Rattle.clear_keys.specs.Sights.{IsApart, IsRun}
+use Rattle.clear_keys.specs.Sights.{StandsApart, IsRun}
 use Rattle.clear_keys.specs.declared.sights.Sight.TheVariants as sights
 use Rattle.clear_keys.proofs.BehindKeys.{docs_behind, lists_behind, short_keys, values_behind}
 use Rattle.clear_keys.proofs.Cleared.{behind_in, documents_cleared, lists_cleared, seek_in, take_in, values_cleared}
@@ -52,7 +52,7 @@ module _ (bits victim : ℕ) (at : PlanPlace) (m : Records) (a : AttributeTrees)
         (goes_through keys up (map (λ p. h p.0) (take count ps)) rest at.key is)
 
   pub values_pass : (value : AnyValue) → CanPass bits victim at m a KEYS (plan.Value value)
-      → IsRun (IsApart bits victim a.kind m sights.Key) (behind (beside_value value m) (tree_pairs m a.dictionary)) count last
+      → IsRun (StandsApart bits victim a.kind m sights.Key) (behind (beside_value value m) (tree_pairs m a.dictionary)) count last
       → Passes bits victim at m a (plan.Value (stored_value a.type m last)) count
   values_pass value can run =
       let ps = behind (beside_value value m) (tree_pairs m a.dictionary) in
@@ -71,7 +71,7 @@ module _ (bits victim : ℕ) (at : PlanPlace) (m : Records) (a : AttributeTrees)
       }
 
   pub documents_pass : (doc : ℕ) → CanPass bits victim at m a DOCUMENTS (plan.Doc doc)
-      → IsRun (IsApart bits victim a.kind m sights.Items) (seek (λ key. nat_cmp key (doc + 1)) (tree_pairs m a.documents)) count last
+      → IsRun (StandsApart bits victim a.kind m sights.Items) (seek (λ key. nat_cmp key (doc + 1)) (tree_pairs m a.documents)) count last
       → Passes bits victim at m a (plan.Doc last) count
   documents_pass doc can run =
       let ps = seek (λ key. nat_cmp key (doc + 1)) (tree_pairs m a.documents) in
@@ -91,7 +91,7 @@ module _ (bits victim : ℕ) (at : PlanPlace) (m : Records) (a : AttributeTrees)
 
   pub lists_pass : (value : AnyValue) (doc : ℕ) → CanPass bits victim at m a LISTS (plan.Pair value doc)
       → ((p : ℕ × ℕ) → lookup_pair (beside_value value m) (tree_pairs m a.dictionary) ≡ Some p → p.1 % 2 ≡ 0)
-      → IsRun (IsApart bits victim a.kind m sights.List) (behind (beside_value value m) (tree_pairs m a.dictionary)) count last
+      → IsRun (StandsApart bits victim a.kind m sights.List) (behind (beside_value value m) (tree_pairs m a.dictionary)) count last
       → Passes bits victim at m a (plan.Pair (stored_value a.type m last) 0) count
   lists_pass value doc can even run =
       let ps = behind (beside_value value m) (tree_pairs m a.dictionary) in

@@ -21,10 +21,10 @@ IsRecordApart bits buffer (tree root) = ⊥
 IsRecordApart bits buffer (vector root) = ⊥
 
 -- what stands under a pair's key lies apart from the buffer: the value's record, the document's items, the value's list
-abbrev pub IsApart : ℕ → ℕ → Kind → Records → Sight → ℕ × ℕ → Type 0
-IsApart bits buffer kind m sights.Key p = buffer_of bits p.0 ≢ buffer
-IsApart bits buffer kind m sights.Items p = AreItemsApart bits buffer kind m p.1
-IsApart bits buffer kind m sights.List p = IsRecordApart bits buffer (list_form p.1)
+abbrev pub StandsApart : ℕ → ℕ → Kind → Records → Sight → ℕ × ℕ → Type 0
+StandsApart bits buffer kind m sights.Key p = buffer_of bits p.0 ≢ buffer
+StandsApart bits buffer kind m sights.Items p = AreItemsApart bits buffer kind m p.1
+StandsApart bits buffer kind m sights.List p = IsRecordApart bits buffer (list_form p.1)
 
 -- what is asked of a pair
 pub record HasItemRecords (kind : Kind) (type : ValueType) (m : Records) (p : ℕ × ℕ) : Type 0 where

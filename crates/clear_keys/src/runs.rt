@@ -2,7 +2,7 @@
 ghost use Rattle.std.specs.Prelude.{◌≡◌, ◌≢◌, ◌≤◌, [], true};
 ghost use Rattle.std.specs.List.{AllByRecursion};
 ghost use Rattle.tree_search.specs.Places.{first_key, first_value, pairs_from, HasPair, IsAt};
-ghost use Rattle.clear_keys.specs.Sights.{IsApart, IsPairOf, IsRun};
+ghost use Rattle.clear_keys.specs.Sights.{StandsApart, IsPairOf, IsRun};
 
 use crate::sights::{Sight, pair_is_apart};
 use attr_types::{Kind, ValueType};
@@ -29,7 +29,7 @@ fn next_is_apart<const OFFSET_BITS: u32, F: Frozen<OFFSET_BITS>>(
     requires pairs { AllByRecursion (IsPairOf kind value_type (F.records frozen.old) sight) (pairs_from (F.records frozen.old) cursor.now) }
     ensures some { result ≡ true → HasPair cursor.now }
     ensures pairs { result ≡ true → pairs_from (F.records frozen.old) cursor.now ≢ [] }
-    ensures apart { result ≡ true → IsApart OFFSET_BITS buffer kind (F.records frozen.old) sight
+    ensures apart { result ≡ true → StandsApart OFFSET_BITS buffer kind (F.records frozen.old) sight
         (first_key (pairs_from (F.records frozen.old) cursor.now), first_value (pairs_from (F.records frozen.old) cursor.now)) }
     ensures same { frozen.new ≡ frozen.old }
 {
@@ -54,7 +54,7 @@ pub fn run_from<const OFFSET_BITS: u32, F: Frozen<OFFSET_BITS>>(
 ) -> Run
     requires at { IsAt (F.records frozen.old) cursor.old }
     requires pairs { AllByRecursion (IsPairOf kind value_type (F.records frozen.old) sight) (pairs_from (F.records frozen.old) cursor.old) }
-    ensures run { IsRun (IsApart OFFSET_BITS buffer kind (F.records frozen.old) sight) (pairs_from (F.records frozen.old) cursor.old)
+    ensures run { IsRun (StandsApart OFFSET_BITS buffer kind (F.records frozen.old) sight) (pairs_from (F.records frozen.old) cursor.old)
         result.pairs result.last }
     ensures few { result.pairs ≤ most }
     ensures same { frozen.new ≡ frozen.old }

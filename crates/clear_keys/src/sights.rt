@@ -5,7 +5,7 @@ ghost use Rattle.attr_images.specs.Postings.{list_form};
 ghost use Rattle.posting_store.specs.Lists.{IsPlain};
 ghost use Rattle.attr_images.specs.Documents.{AreItemRecords};
 ghost use Rattle.document_moves.specs.Moves.{AreItemsApart};
-ghost use Rattle.clear_keys.specs.Sights.{IsApart, IsPairOf, IsRecordApart};
+ghost use Rattle.clear_keys.specs.Sights.{StandsApart, IsPairOf, IsRecordApart};
 
 use attr_types::{Kind, ValueType};
 use document_moves::items_lie;
@@ -68,7 +68,7 @@ pub fn pair_is_apart<const OFFSET_BITS: u32, F: Frozen<OFFSET_BITS>>(
     buffer: u32,
 ) -> bool
     requires pair { IsPairOf kind value_type (F.records frozen.old) sight (key, word) }
-    ensures apart { result ≡ true → IsApart OFFSET_BITS buffer kind (F.records frozen.old) sight (key, word) }
+    ensures apart { result ≡ true → StandsApart OFFSET_BITS buffer kind (F.records frozen.old) sight (key, word) }
     ensures same { frozen.new ≡ frozen.old }
 {
     let _ = frozen;

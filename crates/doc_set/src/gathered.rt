@@ -3,7 +3,7 @@ ghost use Rattle.std.specs.Prelude.{◌≡◌, ◌≤◌, ◌||◌, ◌&&◌, �
 ghost use Rattle.std.specs.List.{All};
 ghost use Rattle.std.specs.Map.{keys_of};
 ghost use Rattle.attr_types.specs.Lawful.{IsDocNumber};
-ghost use Rattle.doc_set.specs.Gathers.{is_in};
+ghost use Rattle.doc_set.specs.Gathers.{is_gathered};
 ghost use Rattle.doc_set.specs.Sets.{has, in_words, IsAscending, AreBelow, IsPlaceOf, Holds};
 
 use crate::bits::DocSet;
@@ -169,7 +169,7 @@ fn kept_in(alloc: Global, docs: &DocList, set: &DocSet) -> Result<DocList, Alloc
 impl Gathered {
     /// No documents.
     pub fn new(alloc: Global) -> Gathered
-        ensures { (doc : ℕ) → is_in result doc ≡ false }
+        ensures { (doc : ℕ) → is_gathered result doc ≡ false }
     {
         Gathered::Few(Vec::new(alloc))
     }
@@ -177,7 +177,7 @@ impl Gathered {
     /// The documents with those of a list.
     pub fn with_list(self, alloc: Global, list: &[(u32, i32)]) -> Result<Gathered, AllocError>
         requires { All (λ p. IsDocNumber p.0) list.now }
-        ensures { IfOk result (λ more. (doc : ℕ) → is_in more doc ≡ (is_in self doc || has (keys_of list.now) doc)) }
+        ensures { IfOk result (λ more. (doc : ℕ) → is_gathered more doc ≡ (is_gathered self doc || has (keys_of list.now) doc)) }
     {
         match self {
             Gathered::Few(mut docs) => {
@@ -200,7 +200,7 @@ impl Gathered {
 
     /// The documents with others.
     pub fn with_docs(self, alloc: Global, more: &[Doc]) -> Result<Gathered, AllocError>
-        ensures { IfOk result (λ all. (doc : ℕ) → is_in all doc ≡ (is_in self doc || has more.now doc)) }
+        ensures { IfOk result (λ all. (doc : ℕ) → is_gathered all doc ≡ (is_gathered self doc || has more.now doc)) }
     {
         match self {
             Gathered::Few(mut docs) => {
@@ -223,7 +223,7 @@ impl Gathered {
 
     /// The documents in a bit vector.
     pub fn into_set(self, alloc: Global) -> Result<DocSet, AllocError>
-        ensures { IfOk result (λ set. (doc : ℕ) → in_words set doc ≡ is_in self doc) }
+        ensures { IfOk result (λ set. (doc : ℕ) → in_words set doc ≡ is_gathered self doc) }
     {
         match self {
             Gathered::Few(docs) => {
@@ -237,7 +237,7 @@ impl Gathered {
 
     /// The documents, ascending.
     pub fn into_list(self, alloc: Global) -> Result<DocList, AllocError>
-        ensures { IfOk result (λ docs. Holds docs (is_in self)) }
+        ensures { IfOk result (λ docs. Holds docs (is_gathered self)) }
     {
         match self {
             Gathered::Few(docs) => Ok(sorted_list(docs)),
@@ -247,7 +247,7 @@ impl Gathered {
 
     /// Those of a list's documents that were gathered.
     pub fn kept_of(self, alloc: Global, docs: &DocList) -> Result<DocList, AllocError>
-        ensures { IfOk result (λ kept. (doc : ℕ) → has kept doc ≡ (has docs.now doc && is_in self doc)) }
+        ensures { IfOk result (λ kept. (doc : ℕ) → has kept doc ≡ (has docs.now doc && is_gathered self doc)) }
     {
         match self {
             Gathered::Few(list) => {

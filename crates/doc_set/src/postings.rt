@@ -1,7 +1,7 @@
 //! Documents of a list that is read one by one, as a tree's is.
 ghost use Rattle.std.specs.Prelude.{◌≡◌, ◌≢◌, ◌↔◌, ◌||◌, ℕ, ℤ, List, [], drop, IfOk, IsTrue};
 ghost use Rattle.std.specs.Map.{keys_of};
-ghost use Rattle.doc_set.specs.Gathers.{is_in};
+ghost use Rattle.doc_set.specs.Gathers.{is_gathered};
 ghost use Rattle.doc_set.specs.Postings.{first_doc, HaveDocNumbers};
 ghost use Rattle.doc_set.specs.Sets.{has, in_words};
 
@@ -43,8 +43,8 @@ pub fn with_postings<P: Postings>(
     list: &mut P,
 ) -> Result<Gathered, AllocError>
     requires { HaveDocNumbers (P.rest list.old) }
-    ensures { IfOk result (λ all. (doc : ℕ) → is_in all doc
-        ≡ (is_in gathered doc || has (keys_of (P.rest list.old)) doc)) }
+    ensures { IfOk result (λ all. (doc : ℕ) → is_gathered all doc
+        ≡ (is_gathered gathered doc || has (keys_of (P.rest list.old)) doc)) }
 {
     let mut set = gathered.into_set(alloc)?;
     insert_from(&mut set, list);

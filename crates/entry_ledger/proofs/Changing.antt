@@ -13,7 +13,7 @@ use Rattle.buffer_states.specs.Buffers.{new_buffer, buffer_at, is_state_free, is
 use Rattle.buffer_shelf.specs.declared.state.State.{State}
 use Rattle.buffer_shelf.specs.declared.state.State.TheVariants.{Free, Returned, Made, InUse, LetGo, DroppedNow, Dropped}
 use Rattle.buffer_shelf.specs.States.{ShelfView, empty_shelf, spare_of, is_free_state, is_made, state_at, with_state_at}
-use Rattle.entry_shelves.specs.Shelves.{shelf_at, made_at, filled_at, spare_of_width, with_shelf}
+use Rattle.entry_shelves.specs.Shelves.{shelf_at, made_in, filled_at, spare_of_width, with_shelf}
 use Rattle.hold_lists.specs.Held.{HeldEntry}
 use Rattle.entry_ledger.specs.Entries.{EntriesView, Mark, is_timely, count_marks}
 use Rattle.entry_ledger.specs.Calls.{with_state}
@@ -167,8 +167,8 @@ module _ (bits : ℕ) (v : LedgerView) (held : List HeldEntry) (room unheld : �
     counted = each;
     filled = filled;
     flagged = flags-set v.shelves.filled v.buffers b buffer within k.flagged (flag-same v.shelves.filled b (buffer_at v.buffers b) buffer marked flag (k.flagged b));
-    enough = λ w is. subst (λ n. n * capacity v.shelves.words w ≤ made_at v.shelves.made w + unmade_of_width (set v.shelves.shelves b new_shelf) w) (sym (buffers-same v.buffers b buffer within marked w))
-        (subst (λ n. count_by (is_buffer_of w) v.buffers * capacity v.shelves.words w ≤ made_at v.shelves.made w + n)
+    enough = λ w is. subst (λ n. n * capacity v.shelves.words w ≤ made_in v.shelves.made w + unmade_of_width (set v.shelves.shelves b new_shelf) w) (sym (buffers-same v.buffers b buffer within marked w))
+        (subst (λ n. count_by (is_buffer_of w) v.buffers * capacity v.shelves.words w ≤ made_in v.shelves.made w + n)
         (sym (unmade-same v.shelves.shelves b new_shelf h refl refl (length-set {A = State} old_shelf.states x state) w)) (k.enough w is));
     sound = change-sound up_to;
     list = list;

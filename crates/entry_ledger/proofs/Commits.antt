@@ -17,7 +17,7 @@ use Rattle.buffer_states.specs.Buffers.{new_buffer, buffer_at, with_dropped_held
 use Rattle.buffer_shelf.specs.declared.state.State.{State}
 use Rattle.buffer_shelf.specs.declared.state.State.TheVariants.{Free, Returned, Made, InUse, LetGo, DroppedNow, Dropped}
 use Rattle.buffer_shelf.specs.States.{ShelfView, is_touched, is_held, state_at}
-use Rattle.entry_shelves.specs.Shelves.{shelf_at, made_at}
+use Rattle.entry_shelves.specs.Shelves.{shelf_at, made_in}
 use Rattle.hold_lists.specs.Held.{HeldEntry, HoldTag, tagged_by, tag_or}
 use Rattle.entry_ledger.specs.Entries.{EntriesView, is_timely, is_settled_entry}
 use Rattle.entry_ledger.specs.Ledgers.{LedgerView, entries_of, mark_of, is_since, is_buffer_of, tag_fits, tag_below, is_in_list, IsCounted, IsFlagged, IsHeldList, IsSound, AreEntries, unmade_of_width}
@@ -221,7 +221,7 @@ module _ (bits : ℕ) (v : LedgerView) (held : List HeldEntry) (room unheld : �
     });
     filled = k.filled;
     flagged = λ b. subst (IsFlagged v.shelves.filled b) (sym (buffer-map with_dropped_held refl v.buffers b)) (k.flagged b);
-    enough = λ w is. subst (λ n. n * capacity v.shelves.words w ≤ made_at v.shelves.made w + unmade_of_width v.shelves.shelves w) (sym (widths-map w v.buffers)) (k.enough w is);
+    enough = λ w is. subst (λ n. n * capacity v.shelves.words w ≤ made_in v.shelves.made w + unmade_of_width v.shelves.shelves w) (sym (widths-map w v.buffers)) (k.enough w is);
     sound = subst IsSound (sym commit-entries) (record {
       order = k.sound.order;
       up_to = λ r s is. up-to-next (entries_in bits v) number next s (k.sound.up_to r s is);

@@ -10,7 +10,7 @@ use Rattle.buffer_states.specs.declared.Buffer.{Buffer}
 use Rattle.buffer_states.specs.Buffers.{new_buffer, buffer_at, is_state_free}
 use Rattle.buffer_shelf.specs.declared.state.State.{State}
 use Rattle.buffer_shelf.specs.States.{ShelfView, empty_shelf}
-use Rattle.entry_shelves.specs.Shelves.{shelf_at, row_of, made_at, filled_at, spare_in, spare_of_width}
+use Rattle.entry_shelves.specs.Shelves.{shelf_at, row_of, made_in, filled_at, spare_in, spare_of_width}
 use Rattle.entry_ledger.specs.Entries.{EntriesView, count_marks}
 use Rattle.entry_ledger.specs.Calls.{new_entries, free_mark}
 use Rattle.entry_ledger.specs.Ledgers.{LedgerView, entries_of, state_in, mark_of, counts_of, fresh_in, unheld_in, unmade_of_width, is_buffer_of, IsCounted, IsFlagged, IsHeldList, IsSound, AreEntries}
@@ -61,7 +61,7 @@ module _ (bits buffers words : ℕ) where
 
   counts-none : (w : ℕ) → counts_of (created buffers words) w ≡ no_counts
   counts-none w =
-      let made : made_at (replicate 11 0) w ≡ 0 = same-places 0 11 (row_of w) in
+      let made : made_in (replicate 11 0) w ≡ 0 = same-places 0 11 (row_of w) in
       let spare : spare_of_width (replicate buffers empty_shelf) w ≡ 0 = sum-none (spare_in w) empty_shelf (none-either (eqb 0 w && not false)) buffers in
       let fresh : sum_by (fresh_in w) (replicate buffers empty_shelf) ≡ 0 = sum-none (fresh_in w) empty_shelf (none-either (eqb 0 w && not false)) buffers in
       let of : count_by (is_buffer_of w) (replicate buffers new_buffer) ≡ 0 = sum-none (λ x. cond (is_buffer_of w x) 1 0) new_buffer refl buffers in
@@ -133,10 +133,10 @@ module _ (bits buffers words : ℕ) where
       subst (IsFlagged (replicate 11 None) b) (sym (same-places new_buffer buffers b)) (sym (ap (λ f. is_this f b) none))
 
   enough-new : (w : ℕ) → is_width w ≡ true
-      → count_by (is_buffer_of w) (replicate buffers new_buffer) * capacity words w ≤ made_at (replicate 11 0) w + unmade_of_width (replicate buffers empty_shelf) w
+      → count_by (is_buffer_of w) (replicate buffers new_buffer) * capacity words w ≤ made_in (replicate 11 0) w + unmade_of_width (replicate buffers empty_shelf) w
   enough-new w is =
       let of : count_by (is_buffer_of w) (replicate buffers new_buffer) ≡ 0 = sum-none (λ x. cond (is_buffer_of w x) 1 0) new_buffer refl buffers in
-      subst (λ n. n * capacity words w ≤ made_at (replicate 11 0) w + unmade_of_width (replicate buffers empty_shelf) w) (sym of) (omega arith)
+      subst (λ n. n * capacity words w ≤ made_in (replicate 11 0) w + unmade_of_width (replicate buffers empty_shelf) w) (sym of) (omega arith)
 
   module _ (few : buffers < buffer_limit bits) (many : 8192 ≤ words) (low : words ≤ 65536) (offsets : words ≤ offset_limit bits) (product : buffers * words ≤ 67108864) where
     pub created-kept : AreEntries bits (created buffers words) [] 0 0

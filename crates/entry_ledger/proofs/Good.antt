@@ -11,7 +11,7 @@ use Rattle.image_base.specs.Places.{IsEntry}
 use Rattle.store_api.specs.Ledgers.{capacity}
 use Rattle.buffer_shelf.specs.declared.state.State.{State}
 use Rattle.buffer_shelf.specs.States.{ShelfView, empty_shelf}
-use Rattle.entry_shelves.specs.Shelves.{shelf_at, made_at, filled_at}
+use Rattle.entry_shelves.specs.Shelves.{shelf_at, made_in, filled_at}
 use Rattle.entry_shelves.specs.Kept.{IsOfWidth}
 use Rattle.entry_shelves.proofs.Rows.{width-bounds}
 use Rattle.entry_shelves.proofs.Opening.{some-capacity}
@@ -144,7 +144,7 @@ module _ (bits : ℕ) (v : LedgerView) (held : List HeldEntry) (room unheld : �
     finished = k.sound.finished;
     filled = filled-is;
     spares = λ w refs is distinct all. few_spare bits w v.shelves.shelves refs (λ b. (k.counted b).of.taken) distinct (spares-at w refs all);
-    few = λ w is. few-buffers (count_by (is_buffer_of w) v.buffers) (capacity v.shelves.words w) (made_at v.shelves.made w) (unmade_of_width v.shelves.shelves w)
+    few = λ w is. few-buffers (count_by (is_buffer_of w) v.buffers) (capacity v.shelves.words w) (made_in v.shelves.made w) (unmade_of_width v.shelves.shelves w)
         (some-capacity v.shelves.words w is k.some_words) (k.enough w is)
         (few-unmade v.shelves.words v.shelves.shelves w (let bounds = width-bounds w is in omega (arith, bounds.0)) (λ b. (k.counted b).of) (filled_at v.shelves.filled w)
         (λ b wide less. ap (filled_at v.shelves.filled) (sym wide) ∙ k.filled b less));

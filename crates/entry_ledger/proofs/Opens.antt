@@ -17,7 +17,7 @@ use Rattle.buffer_states.specs.declared.BufferState.TheVariants.{Free, Active, O
 use Rattle.buffer_states.specs.Buffers.{new_buffer, buffer_at, end_filling, filled_buffer, activated, is_state_free}
 use Rattle.buffer_shelf.specs.declared.state.State.{State}
 use Rattle.buffer_shelf.specs.States.{ShelfView, empty_shelf, spare_of, is_free_state}
-use Rattle.entry_shelves.specs.Shelves.{shelf_at, row_of, made_at, filled_at, spare_in, spare_of_width}
+use Rattle.entry_shelves.specs.Shelves.{shelf_at, row_of, made_in, filled_at, spare_in, spare_of_width}
 use Rattle.entry_shelves.specs.Kept.{IsOfWidth}
 use Rattle.entry_shelves.proofs.Rows.{width-bounds, row_of-below, row_of-apart}
 use Rattle.hold_lists.specs.Held.{HeldEntry}
@@ -225,13 +225,13 @@ module _ (bits : ℕ) (v : LedgerView) (held : List HeldEntry) (room unheld : �
   counts-here =
       let spare : spare_of_width (set v.shelves.shelves b new) w ≡ capacity v.shelves.words w = omega (arith, spare-opened w, can.spare, spare-here) in
       let buffers : count_by (is_buffer_of w) (activated v.buffers b w) ≡ count_by (is_buffer_of w) v.buffers + 1 = omega (arith, buffers-opened w, one-more) in
-      λ i. record { made = made_at v.shelves.made w; spare = spare i; fresh = fresh-opened w i; buffers = buffers i; filled = filled-here i }
+      λ i. record { made = made_in v.shelves.made w; spare = spare i; fresh = fresh-opened w i; buffers = buffers i; filled = filled-here i }
 
   counts-other : (u : ℕ) → u ≢ w → counts_of (opened v b w) u ≡ counts_of v u
   counts-other u ne =
       let spare : spare_of_width (set v.shelves.shelves b new) u ≡ spare_of_width v.shelves.shelves u = omega (arith, spare-opened u, spare-other u ne) in
       let buffers : count_by (is_buffer_of u) (activated v.buffers b w) ≡ count_by (is_buffer_of u) v.buffers = omega (arith, buffers-opened u, no-more u ne) in
-      λ i. record { made = made_at v.shelves.made u; spare = spare i; fresh = fresh-opened u i; buffers = buffers i; filled = filled-other u ne i }
+      λ i. record { made = made_in v.shelves.made u; spare = spare i; fresh = fresh-opened u i; buffers = buffers i; filled = filled-other u ne i }
 
   counts-are : (u : ℕ) → counts_of (opened v b w) u ≡ with_counts (counts_of v) w counts u
   counts-are u = elim (cases_eq u w) [
@@ -338,18 +338,18 @@ module _ (bits : ℕ) (v : LedgerView) (held : List HeldEntry) (room unheld : �
       all-and false = refl
 
   enough-opened : (u : ℕ) → is_width u ≡ true
-      → count_by (is_buffer_of u) (activated v.buffers b w) * capacity v.shelves.words u ≤ made_at v.shelves.made u + unmade_of_width (set v.shelves.shelves b new) u
+      → count_by (is_buffer_of u) (activated v.buffers b w) * capacity v.shelves.words u ≤ made_in v.shelves.made u + unmade_of_width (set v.shelves.shelves b new) u
   enough-opened u is = elim (cases_eq u w) [
     | inl same ↦
-        subst (λ n. count_by (is_buffer_of n) (activated v.buffers b w) * capacity v.shelves.words n ≤ made_at v.shelves.made n + unmade_of_width (set v.shelves.shelves b new) n) (sym same)
+        subst (λ n. count_by (is_buffer_of n) (activated v.buffers b w) * capacity v.shelves.words n ≤ made_in v.shelves.made n + unmade_of_width (set v.shelves.shelves b new) n) (sym same)
         (let all : count_by (is_buffer_of w) (activated v.buffers b w) * capacity v.shelves.words w ≡ count_by (is_buffer_of w) v.buffers * capacity v.shelves.words w + capacity v.shelves.words w =
         one-times (count_by (is_buffer_of w) (activated v.buffers b w)) (count_by (is_buffer_of w) v.buffers) (capacity v.shelves.words w) (omega (arith, buffers-opened w, one-more)) in
         omega (arith, all, k.enough w can.valid, unmade-opened w, unmade-here))
     | inr ne ↦
         (let count : count_by (is_buffer_of u) (activated v.buffers b w) ≡ count_by (is_buffer_of u) v.buffers = omega (arith, buffers-opened u, no-more u ne) in
         let left : unmade_of_width (set v.shelves.shelves b new) u ≡ unmade_of_width v.shelves.shelves u = omega (arith, unmade-opened u, unmade-other u ne) in
-        subst (λ n. n * capacity v.shelves.words u ≤ made_at v.shelves.made u + unmade_of_width (set v.shelves.shelves b new) u) (sym count)
-        (subst (λ n. count_by (is_buffer_of u) v.buffers * capacity v.shelves.words u ≤ made_at v.shelves.made u + n) (sym left) (k.enough u is)))
+        subst (λ n. n * capacity v.shelves.words u ≤ made_in v.shelves.made u + unmade_of_width (set v.shelves.shelves b new) u) (sym count)
+        (subst (λ n. count_by (is_buffer_of u) v.buffers * capacity v.shelves.words u ≤ made_in v.shelves.made u + n) (sym left) (k.enough u is)))
   ]
     where
       one-times : (m n c : ℕ) → m ≡ suc n → m * c ≡ n * c + c

@@ -11,7 +11,7 @@ use Rattle.buffer_states.specs.declared.Buffer.{Buffer}
 use Rattle.buffer_states.specs.Buffers.{new_buffer, buffer_at, is_state_free, is_state_active, is_on_hold}
 use Rattle.buffer_shelf.specs.declared.state.State.{State}
 use Rattle.buffer_shelf.specs.States.{ShelfView, empty_shelf}
-use Rattle.entry_shelves.specs.Shelves.{shelf_at, made_at, filled_at, with_shelf}
+use Rattle.entry_shelves.specs.Shelves.{shelf_at, made_in, filled_at, with_shelf}
 use Rattle.hold_lists.specs.Held.{HeldEntry}
 use Rattle.entry_ledger.specs.Entries.{count_marks}
 use Rattle.entry_ledger.specs.Calls.{with_mark}
@@ -133,8 +133,8 @@ module _ (bits : ℕ) (v : LedgerView) (held : List HeldEntry) (room unheld : �
     flagged = flags-set v.shelves.filled v.buffers b buffer within k.flagged new.flagged;
     enough = λ w is. (let unmade = sum_by-set (unmade_in w) v.shelves.shelves b shelf empty_shelf h in
         let same : unmade_of_width (set v.shelves.shelves b shelf) w ≡ unmade_of_width v.shelves.shelves w = omega (arith, unmade, new.unmade w) in
-        subst (λ n. n * capacity v.shelves.words w ≤ made_at v.shelves.made w + unmade_of_width (set v.shelves.shelves b shelf) w) (sym (replace-buffers w))
-        (subst (λ n. count_by (is_buffer_of w) v.buffers * capacity v.shelves.words w ≤ made_at v.shelves.made w + n) (sym same) (k.enough w is)));
+        subst (λ n. n * capacity v.shelves.words w ≤ made_in v.shelves.made w + unmade_of_width (set v.shelves.shelves b shelf) w) (sym (replace-buffers w))
+        (subst (λ n. count_by (is_buffer_of w) v.buffers * capacity v.shelves.words w ≤ made_in v.shelves.made w + n) (sym same) (k.enough w is)));
     sound = replace-sound states;
     list = list;
     unheld_is = sum;

@@ -14,7 +14,7 @@ use Rattle.buffer_shelf.specs.declared.state.State.{State}
 use Rattle.buffer_shelf.specs.declared.state.State.TheVariants.{Free, Returned, Made, InUse, LetGo, DroppedNow, Dropped}
 use Rattle.buffer_shelf.specs.States.{ShelfView, is_free_state, is_made, state_at, IsOpen, with_made}
 use Rattle.entry_shelves.specs.declared.shelves.Taken.{Taken}
-use Rattle.entry_shelves.specs.Shelves.{ShelvesView, shelf_at, row_of, made_at, filled_at, spare_of_width, Takes}
+use Rattle.entry_shelves.specs.Shelves.{ShelvesView, shelf_at, row_of, made_in, filled_at, spare_of_width, Takes}
 use Rattle.entry_shelves.proofs.Rows.{row_of-below, row_of-apart}
 use Rattle.entry_shelves.proofs.Making.{made-spare}
 use Rattle.entry_ledger.specs.Entries.{EntriesView, Mark}
@@ -60,12 +60,12 @@ made-fresh s x can = elim (cases_eq x (length s.states)) [
 ]
 
 -- the counts of a width after its row has another number
-row-made : (made : List ℕ) (width w n : ℕ) → length made ≡ 11 → is_width width ≡ true → made_at (set made (row_of width) n) w ≡ cond (eqb w width) n (made_at made w)
+row-made : (made : List ℕ) (width w n : ℕ) → length made ≡ 11 → is_width width ≡ true → made_in (set made (row_of width) n) w ≡ cond (eqb w width) n (made_in made w)
 row-made made width w n eleven valid = elim (cases_eq w width) [
   | inl e ↦
       (let low : row_of width < length made = (let less = row_of-below width valid in omega (arith, less, eleven)) in
-      ap (λ v. made_at (set made (row_of width) n) v) e ∙ get_or-set_same made (row_of width) n 0 low ∙ sym (ap (λ t. cond t n (made_at made w)) (eq-eqb w width e)))
-  | inr ne ↦ get_or-set_other made (row_of width) (row_of w) n 0 (row_of-apart w width valid ne) ∙ sym (ap (λ t. cond t n (made_at made w)) (ne_eqb w width ne))
+      ap (λ v. made_in (set made (row_of width) n) v) e ∙ get_or-set_same made (row_of width) n 0 low ∙ sym (ap (λ t. cond t n (made_in made w)) (eq-eqb w width e)))
+  | inr ne ↦ get_or-set_other made (row_of width) (row_of w) n 0 (row_of-apart w width valid ne) ∙ sym (ap (λ t. cond t n (made_in made w)) (ne_eqb w width ne))
 ]
 
 -- buffers with other counts are of the same widths
@@ -119,20 +119,20 @@ module _ (bits : ℕ) (old new : ShelvesView) (width : ℕ) (t : Taken) (takes :
     | inr ne ↦ other ne ∙ sym (ap (λ t. cond t (took_spare (counts_of before width)) (counts_of before w)) (ne_eqb w width ne))
   ]
     where
-      made_is : new.made ≡ set old.made (row_of width) (one_more (made_at old.made width))
+      made_is : new.made ≡ set old.made (row_of width) (one_more (made_in old.made width))
       made_is = ap (λ (v : ShelvesView). v.made) takes.new_is
 
       filled_is : new.filled ≡ old.filled
       filled_is = ap (λ (v : ShelvesView). v.filled) takes.new_is
 
-      new_made : (v : ℕ) → made_at new.made v ≡ cond (eqb v width) (one_more (made_at old.made width)) (made_at old.made v)
-      new_made v = ap (λ ms. made_at ms v) made_is ∙ row-made old.made width v (one_more (made_at old.made width)) eleven valid
+      new_made : (v : ℕ) → made_in new.made v ≡ cond (eqb v width) (one_more (made_in old.made width)) (made_in old.made v)
+      new_made v = ap (λ ms. made_in ms v) made_is ∙ row-made old.made width v (one_more (made_in old.made width)) eleven valid
 
       here : w ≡ width → counts_of after w ≡ took_spare (counts_of before width)
       here e =
-          let m : made_at after.shelves.made width ≡ one_more (made_at before.shelves.made width) =
-          ap (λ (u : ShelvesView). made_at u.made width) after_is ∙ new_made width ∙ ap (λ t. cond t (one_more (made_at old.made width)) (made_at old.made width)) (eq-eqb width width refl)
-          ∙ ap (λ (u : ShelvesView). one_more (made_at u.made width)) (sym before_is) in
+          let m : made_in after.shelves.made width ≡ one_more (made_in before.shelves.made width) =
+          ap (λ (u : ShelvesView). made_in u.made width) after_is ∙ new_made width ∙ ap (λ t. cond t (one_more (made_in old.made width)) (made_in old.made width)) (eq-eqb width width refl)
+          ∙ ap (λ (u : ShelvesView). one_more (made_in u.made width)) (sym before_is) in
           let s : spare_of_width after.shelves.shelves width ≡ spare_of_width before.shelves.shelves width - 1 =
           ap (λ (u : ShelvesView). spare_of_width u.shelves width) after_is ∙ (let less = spare-less fits in omega (arith, less)) ∙ ap (λ (u : ShelvesView). spare_of_width u.shelves width - 1) (sym before_is) in
           let f : fresh_of_width after.shelves.shelves width ≡ fresh_of_width before.shelves.shelves width + 1 =
@@ -143,9 +143,9 @@ module _ (bits : ℕ) (old new : ShelvesView) (width : ℕ) (t : Taken) (takes :
 
       other : w ≢ width → counts_of after w ≡ counts_of before w
       other ne =
-          let m : made_at after.shelves.made w ≡ made_at before.shelves.made w =
-          ap (λ (u : ShelvesView). made_at u.made w) after_is ∙ new_made w ∙ ap (λ t. cond t (one_more (made_at old.made width)) (made_at old.made w)) (ne_eqb w width ne)
-          ∙ ap (λ (u : ShelvesView). made_at u.made w) (sym before_is) in
+          let m : made_in after.shelves.made w ≡ made_in before.shelves.made w =
+          ap (λ (u : ShelvesView). made_in u.made w) after_is ∙ new_made w ∙ ap (λ t. cond t (one_more (made_in old.made width)) (made_in old.made w)) (ne_eqb w width ne)
+          ∙ ap (λ (u : ShelvesView). made_in u.made w) (sym before_is) in
           let s : spare_of_width after.shelves.shelves w ≡ spare_of_width before.shelves.shelves w =
           ap (λ (u : ShelvesView). spare_of_width u.shelves w) after_is ∙ (rest-same w ne).0 ∙ ap (λ (u : ShelvesView). spare_of_width u.shelves w) (sym before_is) in
           let f : fresh_of_width after.shelves.shelves w ≡ fresh_of_width before.shelves.shelves w =

@@ -18,7 +18,7 @@ use Rattle.buffer_shelf.specs.declared.state.State.TheVariants.{Free, Made, Drop
 use Rattle.buffer_shelf.specs.States.{ShelfView, empty_shelf, is_free_state, IsOpen, with_made}
 use Rattle.buffer_shelf.proofs.StackSteps.{count-none}
 use Rattle.entry_shelves.specs.declared.shelves.Taken.{Taken}
-use Rattle.entry_shelves.specs.Shelves.{ShelvesView, shelf_at, row_of, made_at, filled_at, Takes}
+use Rattle.entry_shelves.specs.Shelves.{ShelvesView, shelf_at, row_of, made_in, filled_at, Takes}
 use Rattle.entry_shelves.proofs.Rows.{width-bounds}
 use Rattle.entry_shelves.proofs.Making.{made-length}
 use Rattle.hold_lists.specs.Held.{HeldEntry}
@@ -201,15 +201,15 @@ module _ (bits : ℕ) (v : LedgerView) (held : List HeldEntry) (room unheld : �
       few_words = omega (arith, k.few_words, words_is);
       offsets = omega (arith, k.offsets, words_is);
       product = subst (λ n. n * new.words ≤ 67108864) (sym (length-set {A = Buffer} v.buffers t.buffer buffer)) (subst (λ n. length v.buffers * n ≤ 67108864) (sym words_is) k.product);
-      made_rows = ap (λ (u : ShelvesView). length u.made) takes.new_is ∙ length-set {A = ℕ} v.shelves.made (row_of width) (one_more (made_at v.shelves.made width)) ∙ k.made_rows;
+      made_rows = ap (λ (u : ShelvesView). length u.made) takes.new_is ∙ length-set {A = ℕ} v.shelves.made (row_of width) (one_more (made_in v.shelves.made width)) ∙ k.made_rows;
       filled_rows = ap length filled_is ∙ k.filled_rows;
       counted = each;
       filled = filled;
       flagged = λ a. subst (λ f. IsFlagged f a (buffer_at (set v.buffers t.buffer buffer) a)) (sym filled_is)
           (flags-set v.shelves.filled v.buffers t.buffer buffer inside k.flagged (flag-same v.shelves.filled t.buffer (buffer_at v.buffers t.buffer) buffer marked flag (k.flagged t.buffer)) a);
-      enough = λ w is. subst (λ n. n * capacity new.words w ≤ made_at new.made w + unmade_of_width new.shelves w) (sym (buffers-same v.buffers t.buffer buffer inside marked w))
-          (subst (λ n. count_by (is_buffer_of w) v.buffers * capacity n w ≤ made_at new.made w + unmade_of_width new.shelves w) (sym words_is)
-          (subst (λ xs. count_by (is_buffer_of w) v.buffers * capacity v.shelves.words w ≤ made_at new.made w + unmade_of_width xs w) (sym shelves_is) (enough w is (cases_eq w width))));
+      enough = λ w is. subst (λ n. n * capacity new.words w ≤ made_in new.made w + unmade_of_width new.shelves w) (sym (buffers-same v.buffers t.buffer buffer inside marked w))
+          (subst (λ n. count_by (is_buffer_of w) v.buffers * capacity n w ≤ made_in new.made w + unmade_of_width new.shelves w) (sym words_is)
+          (subst (λ xs. count_by (is_buffer_of w) v.buffers * capacity v.shelves.words w ≤ made_in new.made w + unmade_of_width xs w) (sym shelves_is) (enough w is (cases_eq w width))));
       sound = subst IsSound (sym take-entries) (sound-made e width entry k.sound);
       list = list-keep bits e (entries_in bits after) held entry Made k.list refl refl (λ b. ap (λ (u : EntriesView). u.mark b) take-entries) (λ q. ap (λ (u : EntriesView). u.state q) take-entries)
           (ap (λ n. is_state_active (e.mark n).state) (packed-buffer bits (t.place + 1) t.buffer take-low) ∙ take-active)
@@ -224,16 +224,16 @@ module _ (bits : ℕ) (v : LedgerView) (held : List HeldEntry) (room unheld : �
     }
       where
         enough : (w : ℕ) → is_width w ≡ true → (w ≡ width) ⊎ (w ≢ width)
-            → count_by (is_buffer_of w) v.buffers * capacity v.shelves.words w ≤ made_at new.made w + unmade_of_width (set v.shelves.shelves t.buffer (with_made shelf t.place)) w
+            → count_by (is_buffer_of w) v.buffers * capacity v.shelves.words w ≤ made_in new.made w + unmade_of_width (set v.shelves.shelves t.buffer (with_made shelf t.place)) w
         enough w is (inl same) =
-            let made : made_at new.made w ≡ one_more (made_at v.shelves.made w) =
+            let made : made_in new.made w ≡ one_more (made_in v.shelves.made w) =
             ap (λ (u : EntriesView). (u.of_width w).made) take-entries ∙ ap (λ u. (cond u (took_spare (e.of_width width)) (e.of_width w)).made) (eq-eqb w width same)
-            ∙ ap (λ n. one_more (made_at v.shelves.made n)) (sym same) in
-            enough-made (count_by (is_buffer_of w) v.buffers * capacity v.shelves.words w) (made_at v.shelves.made w) (made_at new.made w) (unmade_of_width v.shelves.shelves w)
+            ∙ ap (λ n. one_more (made_in v.shelves.made n)) (sym same) in
+            enough-made (count_by (is_buffer_of w) v.buffers * capacity v.shelves.words w) (made_in v.shelves.made w) (made_in new.made w) (unmade_of_width v.shelves.shelves w)
             (unmade_of_width (set v.shelves.shelves t.buffer (with_made shelf t.place)) w) (few-entries v.buffers v.shelves.words w k.product) (k.sound.few_made w) (k.enough w is)
             (unmade-take v.shelves.shelves t.buffer t.place takes.below takes.is_open w) made
         enough w is (inr ne) =
-            let made : made_at new.made w ≡ made_at v.shelves.made w =
+            let made : made_in new.made w ≡ made_in v.shelves.made w =
             ap (λ (u : EntriesView). (u.of_width w).made) take-entries ∙ ap (λ u. (cond u (took_spare (e.of_width width)) (e.of_width w)).made) (ne_eqb w width ne) in
             omega (arith, made, k.enough w is, unmade-apart v.shelves.shelves t.buffer t.place takes.below takes.is_open w (λ same. ne (same ∙ takes.of_width)))
 

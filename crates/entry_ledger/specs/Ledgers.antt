@@ -9,7 +9,7 @@ use Rattle.buffer_states.specs.Buffers.{buffer_at, with_released, is_state_free,
 use Rattle.buffer_shelf.specs.declared.state.State.{State}
 use Rattle.buffer_shelf.specs.declared.state.State.TheVariants.{Free as FreeState, Made, Returned, LetGo, DroppedNow, Dropped}
 use Rattle.buffer_shelf.specs.States.{ShelfView, state_at, with_state_at, is_made, is_dead, is_dropped, is_held, is_touched}
-use Rattle.entry_shelves.specs.Shelves.{ShelvesView, shelf_at, with_shelf, made_at, filled_at, spare_of_width}
+use Rattle.entry_shelves.specs.Shelves.{ShelvesView, shelf_at, with_shelf, made_in, filled_at, spare_of_width}
 use Rattle.entry_shelves.specs.Kept.{IsOfWidth}
 use Rattle.hold_lists.specs.Held.{HeldEntry, HeldList, HoldTag, untagged}
 use Rattle.entry_ledger.specs.Entries.{EntriesView, Mark, is_timely, IsMark, IsSealed, count_marks}
@@ -39,7 +39,7 @@ is_buffer_of w buffer = not (is_state_free buffer.state) && nat_eq buffer.width 
 
 abbrev pub counts_of : LedgerView → ℕ → OfWidth
 counts_of v w = record {
-  made = made_at v.shelves.made w;
+  made = made_in v.shelves.made w;
   spare = spare_of_width v.shelves.shelves w;
   fresh = sum_by (fresh_in w) v.shelves.shelves;
   buffers = count_by (is_buffer_of w) v.buffers;
@@ -199,7 +199,7 @@ pub record AreEntries (bits : ℕ) (v : LedgerView) (held : List HeldEntry) (roo
   pub flagged : (b : ℕ) → IsFlagged v.shelves.filled b (buffer_at v.buffers b)
   -- all entries for which the buffers of a width have room were made, but for those that its shelves have left
   pub enough : (w : ℕ) → is_width w ≡ true
-      → count_by (is_buffer_of w) v.buffers * capacity v.shelves.words w ≤ made_at v.shelves.made w + unmade_of_width v.shelves.shelves w
+      → count_by (is_buffer_of w) v.buffers * capacity v.shelves.words w ≤ made_in v.shelves.made w + unmade_of_width v.shelves.shelves w
   pub sound : IsSound (entries_of bits v)
   pub list : IsHeldList bits (entries_of bits v) held
   pub unheld_is : unheld ≡ sum_by unheld_in v.shelves.shelves

@@ -26,8 +26,8 @@ place_among w (v ∷ vs) = if nat_eq w v then 0 else suc (place_among w vs)
 unfoldable pub row_of : ℕ → ℕ
 row_of w = place_among w widths
 
-abbrev pub made_at : List ℕ → ℕ → ℕ
-made_at made w = slice_index_or made (row_of w) 0
+abbrev pub made_in : List ℕ → ℕ → ℕ
+made_in made w = slice_index_or made (row_of w) 0
 
 abbrev pub filled_at : List (Option ℕ) → ℕ → Option ℕ
 filled_at filled w = slice_index_or filled (row_of w) None
@@ -54,7 +54,7 @@ pub record Takes (old new : ShelvesView) (width : ℕ) (t : Taken) : Type 0 wher
       → (shelf_at old.shelves a).sealed ≡ false
       → count_by is_free_state (shelf_at old.shelves a).states ≡ 0
   pub new_is : new ≡ record (with_shelf old t.buffer (with_made (shelf_at old.shelves t.buffer) t.place))
-      { made = slice_set old.made (row_of width) (one_more (made_at old.made width)) }
+      { made = slice_set old.made (row_of width) (one_more (made_in old.made width)) }
 
 -- one entry that the unit changed is settled
 pub record SettlesOne (accepts : Bool) (last generation : ℕ) (old new : ShelvesView) (step : Changed) : Type 0 where

@@ -3,7 +3,7 @@ ghost use Rattle.std.specs.Prelude.{replicate, slice_set, count_by, Some, None, 
 ghost use Rattle.store_api.specs.Ledgers.{is_width, capacity};
 ghost use Rattle.buffer_shelf.specs.States.{empty_shelf, is_used, is_dropped, is_touched, state_at, dropped, with_state_at};
 ghost use Rattle.entry_shelves.specs.Kept.{stack_at};
-ghost use Rattle.entry_shelves.specs.Shelves.{shelf_at, made_at, filled_at, row_of, spare_of_width, with_shelf, Takes, SettlesOne};
+ghost use Rattle.entry_shelves.specs.Shelves.{shelf_at, made_in, filled_at, row_of, spare_of_width, with_shelf, Takes, SettlesOne};
 
 use crate::stack::Stack;
 use crate::width::{WIDTHS, place_of};
@@ -117,7 +117,7 @@ impl Shelves {
     /// How often an entry of a width was made, up to the last 64-bit number.
     pub fn made(&self, width: u32) -> u64
         requires { is_width width ≡ true }
-        ensures { result ≡ made_at self.now.made width }
+        ensures { result ≡ made_in self.now.made width }
     {
         self.made[place_of(width)]
     }

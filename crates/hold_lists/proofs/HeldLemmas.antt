@@ -7,7 +7,7 @@ use Rattle.std.proofs.lemmas.List.Elements.{All-head, All-tail}
 use Rattle.std.proofs.lemmas.List.Sums.{sum_by-cons, sum_by-take-drop}
 use Rattle.std.proofs.lemmas.Bool.{lt-ltb, le-ltb, eq-eqb, ne_eqb}
 use Rattle.hold_lists.specs.Held.{HeldEntry, untagged, tagged_by, is_below, without_first}
-use Rattle.hold_lists.specs.Runs.{run_at, under, held_of, tagged_count, shortened}
+use Rattle.hold_lists.specs.Runs.{nth_run, under, held_of, tagged_count, shortened}
 use Rattle.hold_lists.specs.declared.Run.{Run}
 
 -- one entry more
@@ -99,27 +99,27 @@ drop-remove (suc n) (suc m) (suc p) [] is = refl
 drop-remove (suc n) m (suc p) (x ∷ xs) is = drop-remove n m p xs (omega arith)
 
 shortened-behind : (run : Run) (runs : List Run) (i : ℕ) → shortened (run ∷ runs) (suc i) ≡ run ∷ shortened runs i
-shortened-behind run runs i = go (nat_eq (run_at runs i).count 1)
+shortened-behind run runs i = go (nat_eq (nth_run runs i).count 1)
   where
-    go : (b : Bool) → cond b (remove (run ∷ runs) (suc i)) (set (run ∷ runs) (suc i) (record (run_at runs i) { count = (run_at runs i).count - 1 }))
-        ≡ run ∷ cond b (remove runs i) (set runs i (record (run_at runs i) { count = (run_at runs i).count - 1 }))
+    go : (b : Bool) → cond b (remove (run ∷ runs) (suc i)) (set (run ∷ runs) (suc i) (record (nth_run runs i) { count = (nth_run runs i).count - 1 }))
+        ≡ run ∷ cond b (remove runs i) (set runs i (record (nth_run runs i) { count = (nth_run runs i).count - 1 }))
     go true = refl
     go false = refl
 
 -- the entries before a run that has one, and that one, are tagged
-pub place-inside : (runs : List Run) (i : ℕ) → i < length runs → 0 < (run_at runs i).count → tagged_count (take i runs) < tagged_count runs
+pub place-inside : (runs : List Run) (i : ℕ) → i < length runs → 0 < (nth_run runs i).count → tagged_count (take i runs) < tagged_count runs
 place-inside runs i below some =
     let count = λ (r : Run). r.count in
     let both = sum_by-take-drop count runs i in
     let back = ap (sum_by count) (drop-cons runs i (record { generation = 0; commit = 0; count = 0 }) below) in
-    let sum = sum_by-cons count (run_at runs i) (drop (suc i) runs) in
+    let sum = sum_by-cons count (nth_run runs i) (drop (suc i) runs) in
     omega arith
 
 module _ (oldest : ℕ) where
   -- what is taken where a run is the first below, and what is left
   abbrev IsTaken : List Run → List ℕ → ℕ → ℕ → Type 0
   IsTaken runs entries i before =
-      (find (is_below oldest) (held_of runs entries) ≡ Some (under (run_at runs i) (get_or entries before 0)))
+      (find (is_below oldest) (held_of runs entries) ≡ Some (under (nth_run runs i) (get_or entries before 0)))
       × (without_first (is_below oldest) (held_of runs entries) ≡ held_of (shortened runs i) (remove entries before))
 
   taken-first : (run : Run) (runs : List Run) (entries : List ℕ) (n : ℕ) → run.count ≡ n → run.generation < oldest → 0 < n → n ≤ length entries
@@ -142,7 +142,7 @@ module _ (oldest : ℕ) where
           ∙ ap (λ b. held_of (cond b runs (record run { count = run.count - 1 } ∷ runs)) entries) (sym (ne_eqb run.count 1 (λ e. omega arith)))
 
   pub taken : (runs : List Run) (entries : List ℕ) (i before : ℕ) → i < length runs → before ≡ tagged_count (take i runs)
-      → (run_at runs i).generation < oldest → ((k : ℕ) → k < i → oldest ≤ (run_at runs k).generation)
+      → (nth_run runs i).generation < oldest → ((k : ℕ) → k < i → oldest ≤ (nth_run runs k).generation)
       → All (λ run. 0 < run.count) runs → tagged_count runs ≤ length entries → IsTaken runs entries i before
   taken [] entries i before inside is below earlier filled fits = absurd (omega arith)
   taken (run ∷ runs) entries zero before inside is below earlier filled fits =
@@ -160,8 +160,8 @@ module _ (oldest : ℕ) where
       (All-tail (λ (r : Run). 0 < r.count) run runs filled) (omega (arith, length-drop run.count entries)) in (
         find-past oldest run old (take run.count entries) (held_of runs (drop run.count entries))
             ∙ rest.0
-            ∙ ap (λ e. Some (under (run_at runs i) e)) (get_or-drop run.count entries behind 0)
-            ∙ ap (λ p. Some (under (run_at runs i) (get_or entries p 0))) (sym place),
+            ∙ ap (λ e. Some (under (nth_run runs i) e)) (get_or-drop run.count entries behind 0)
+            ∙ ap (λ p. Some (under (nth_run runs i) (get_or entries p 0))) (sym place),
         without-past oldest run old (take run.count entries) (held_of runs (drop run.count entries))
             ∙ ap (λ more. map (under run) (take run.count entries) ++ more) rest.1
             ∙ ap₂ (λ front back. map (under run) front ++ held_of (shortened runs i) back)

@@ -5,8 +5,8 @@ use Rattle.hold_lists.specs.Held.{HeldEntry, untagged}
 use Rattle.hold_lists.specs.declared.Run.{Run}
 use Rattle.hold_lists.specs.declared.Place.{Place}
 
-abbrev pub run_at : List Run → ℕ → Run
-run_at runs i = slice_index_or runs i (record { generation = 0; commit = 0; count = 0 })
+abbrev pub nth_run : List Run → ℕ → Run
+nth_run runs i = slice_index_or runs i (record { generation = 0; commit = 0; count = 0 })
 
 -- an entry of a run
 abbrev pub under : Run → ℕ → HeldEntry
@@ -28,15 +28,15 @@ pub record IsRising (runs : List Run) : Type 0 where
 -- a run with one entry less, and without the run if that was its last
 abbrev pub shortened : List Run → ℕ → List Run
 shortened runs i =
-    if nat_eq (run_at runs i).count 1 then remove runs i else
-    slice_set runs i (record (run_at runs i) { count = (run_at runs i).count - 1 })
+    if nat_eq (nth_run runs i).count 1 then remove runs i else
+    slice_set runs i (record (nth_run runs i) { count = (nth_run runs i).count - 1 })
 
 -- the first run below a generation, with the number of entries before it
 pub record IsRunBelow (runs : List Run) (oldest : ℕ) (place : Place) : Type 0 where
   pub inside : place.run < length runs
   pub before : place.before ≡ tagged_count (take place.run runs)
-  pub below : (run_at runs place.run).generation < oldest
-  pub earlier : (k : ℕ) → k < place.run → oldest ≤ (run_at runs k).generation
+  pub below : (nth_run runs place.run).generation < oldest
+  pub earlier : (k : ℕ) → k < place.run → oldest ≤ (nth_run runs k).generation
 
 -- what holds of each list
 pub record IsHoldList (runs : List Run) (entries : List ℕ) (tagged most : ℕ) (rises : Bool) (entry_capacity run_capacity : ℕ) : Type 0 where

@@ -9,7 +9,7 @@ ghost use Rattle.std.specs.Prelude.{◌≡◌, ◌+◌, ◌-◌, ◌<◌, ◌≤
 ghost use Rattle.std.specs.Prelude.{take, sum_by, find, map, IfOk, IfSome, IfNone, OnOk, OnErr, OnSome, if◌then◌else◌, ◌==◌};
 ghost use Rattle.std.specs.Option.{option_map};
 ghost use Rattle.std.specs.VecDeque.{deque_len, deque_capacity};
-ghost use Rattle.hold_lists.specs.Runs.{run_at, tagged_count, IsRising, IsRunBelow, shortened};
+ghost use Rattle.hold_lists.specs.Runs.{nth_run, tagged_count, IsRising, IsRunBelow, shortened};
 
 use entry_ref::EntryRef;
 use std::alloc::{AllocError, Global};
@@ -130,7 +130,7 @@ impl<const OFFSET_BITS: u32> HoldList<OFFSET_BITS> {
 
 /// Whether no run has a generation above this one, where the runs rise.
 fn follows(runs: &VecDeque<Run>, generation: u64) -> bool
-    ensures { result ≡ true → 0 < length runs.now.items → (run_at runs.now.items (length runs.now.items - 1)).generation ≤ generation }
+    ensures { result ≡ true → 0 < length runs.now.items → (nth_run runs.now.items (length runs.now.items - 1)).generation ≤ generation }
 {
     match runs.back() {
         None => true,
@@ -162,7 +162,7 @@ fn first_below(runs: &VecDeque<Run>, rises: bool, oldest: u64) -> Option<Place>
 /// Takes one entry off a run, and the run out if that was its last.
 fn shorten(runs: &mut VecDeque<Run>, i: usize)
     requires inside { i < length runs.old.items }
-    requires filled { 0 < (run_at runs.old.items i).count }
+    requires filled { 0 < (nth_run runs.old.items i).count }
     ensures runs { runs.new.items ≡ shortened runs.old.items i }
     ensures capacity { deque_capacity runs.new ≡ deque_capacity runs.old }
 {

@@ -16,7 +16,7 @@ use Rattle.attr_types.specs.declared.kind.ValueType.{ValueType}
 use Rattle.attr_types.specs.declared.kind.ValueType.TheVariants as types
 use Rattle.attr_types.specs.declared.op.Op.{Op}
 use Rattle.made_ops.specs.Laws.{MadeOpsFit}
-use Rattle.made_ops.specs.Made.{next_draw, second_draw, third_draw, value_by, items_by, change_by, put_items}
+use Rattle.made_ops.specs.Made.{next_draw, second_draw, third_draw, value_by, items_by, change_of_kind, put_items}
 use Rattle.made_ops.specs.Made.{update_changes, op_by, made_from, made}
 
 -- a text with a number of 32 bits is short
@@ -76,7 +76,7 @@ put_fits : (fields : List Field) (a b : ℕ)
 put_fits [] a b = tt
 put_fits (field ∷ fields) a b = (items_fit field.kind field.value a b, without_items_fits fields)
 
-change_fits : (kind : Kind) (type : ValueType) (a b : ℕ) → ChangeFits kind type (change_by kind (items_by kind type a b))
+change_fits : (kind : Kind) (type : ValueType) (a b : ℕ) → ChangeFits kind type (change_of_kind kind (items_by kind type a b))
 change_fits Single type a b = items_fit Single type a b
 change_fits Array type a b = items_fit Array type a b
 change_fits WeightedSet type a b = items_fit WeightedSet type a b

@@ -32,10 +32,10 @@ items_by Array type a b =
     ∷ record { value = value_by type (b / 64 + 1); weight = pos 1 } ∷ []
 items_by WeightedSet type a b = record { value = value_by type (b / 64); weight = pos (a / 64) } ∷ []
 
-abbrev pub change_by : Kind → List Item → Change
-change_by Single items = Assign items
-change_by Array items = Add items
-change_by WeightedSet items = Add items
+abbrev pub change_of_kind : Kind → List Item → Change
+change_of_kind Single items = Assign items
+change_of_kind Array items = Add items
+change_of_kind WeightedSet items = Add items
 
 -- the items of a put: the other attributes have none
 abbrev pub put_items : List Field → ℕ → ℕ → List (List Item)
@@ -46,7 +46,7 @@ put_items (field ∷ fields) a b = items_by field.kind field.value a b ∷ map (
 abbrev pub update_changes : List Field → ℕ → ℕ → List Change
 update_changes [] a b = []
 update_changes (field ∷ fields) a b =
-    change_by field.kind (items_by field.kind field.value a b) ∷ map (λ _. Keep) fields
+    change_of_kind field.kind (items_by field.kind field.value a b) ∷ map (λ _. Keep) fields
 
 -- an operation by its three draws: one in eight is a remove, one in eight an update, the others are puts
 abbrev pub op_by : List Field → ℕ → ℕ → ℕ → Op

@@ -1,7 +1,7 @@
 //! Values and items by draws.
 ghost use Rattle.std.specs.Prelude.{◌≡◌, ◌<◌, ◌++◌, ◌∷◌, [], IfOk, pos, codes};
 ghost use Rattle.std.specs.Fmt.{decimal};
-ghost use Rattle.made_ops.specs.Made.{value_by, items_by, change_by};
+ghost use Rattle.made_ops.specs.Made.{value_by, items_by, change_of_kind};
 
 use attr_types::{Change, Field, Item, Items, Kind, Text, Value, ValueType};
 use std::alloc::{AllocError, Global};
@@ -61,7 +61,7 @@ pub fn items_by(alloc: Global, field: &Field, a: u32, b: u32) -> Result<Items, A
 
 /// What an update does with items: it assigns a single one, and adds to the others.
 pub fn change_by(kind: Kind, items: Items) -> Change
-    ensures { result ≡ change_by kind items }
+    ensures { result ≡ change_of_kind kind items }
 {
     match kind {
         Kind::Single => Change::Assign(items),

@@ -12,7 +12,7 @@ use Rattle.entry_ref.proofs.Bits.{packed-buffer, packed-offset}
 use Rattle.image_base.specs.Places.{IsEntry}
 use Rattle.image_base.specs.Records.{Records, pairs_of}
 use Rattle.image_base.proofs.Steps.{none-or, offset-within}
-use Rattle.mem_work.specs.Cells.{width_in, begin_of, stamp_at, standing, is_since, is_whole, records_in}
+use Rattle.mem_work.specs.Cells.{width_in, begin_of, stamp_at, standing, was_stored_since, is_whole, records_in}
 use Rattle.mem_work.specs.Entries.{is_chosen, chosen, with_those}
 use Rattle.mem_work.specs.ProofsForMemory.{names_entry-from, standing-entry}
 
@@ -33,13 +33,13 @@ words-at table ts bits buffers words r b o w st sb so sw e =
 pub whole-is : (table stamps : List ℕ) (bits buffers words n r : ℕ) → IsEntry bits buffers words (width_in table words (buffer_of bits r)) r
     → (whole : ℕ) (own : List ℕ) → whole ≡ get_or stamps (stamp_at bits buffers words r) 0
     → own ≡ take (width_in table words (buffer_of bits r)) (drop (begin_of bits words (width_in table words (buffer_of bits r)) r) stamps)
-    → list_all (is_since n whole) own ≡ is_whole table stamps bits buffers words n r
+    → list_all (was_stored_since n whole) own ≡ is_whole table stamps bits buffers words n r
 unfolding is_whole
 whole-is table stamps bits buffers words n r e whole own at is =
     let w = width_in table words (buffer_of bits r) in
-    let all = list_all (is_since n (get_or stamps (stamp_at bits buffers words r) 0)) (take w (drop (begin_of bits words w r) stamps)) in
-    ap (λ xs. list_all (is_since n whole) xs) is
-    ∙ ap (λ x. list_all (is_since n x) (take w (drop (begin_of bits words w r) stamps))) at
+    let all = list_all (was_stored_since n (get_or stamps (stamp_at bits buffers words r) 0)) (take w (drop (begin_of bits words w r) stamps)) in
+    ap (λ xs. list_all (was_stored_since n whole) xs) is
+    ∙ ap (λ x. list_all (was_stored_since n x) (take w (drop (begin_of bits words w r) stamps))) at
     ∙ sym (ap (λ t. t && all) (names_entry-from bits buffers words w r e))
 
 some-of : (t : Bool) (xs : List ℕ) → 0 < length (cond t xs []) → 0 < length xs

@@ -17,8 +17,8 @@ use Rattle.image_base.proofs.Apart.{within}
 use Rattle.arena_api.proofs.Reached.{lawful-kept, next_image-kept}
 use Rattle.arena_api.specs.Works.{Buffer, active_width}
 use Rattle.arena_api.specs.Generations.{retired}
-use Rattle.mem_work.specs.Cells.{width_in, begin_of, stamp_at, with_range, without_stamps, names_entry, standing, is_since, IsUnused, is_whole, stored_in, image_in, records_in, memory_view, buffer_by}
-use Rattle.mem_work.specs.Marks.{tag_of, mark_at, marked, with_marks, IsMark}
+use Rattle.mem_work.specs.Cells.{width_in, begin_of, stamp_at, with_range, without_stamps, names_entry, standing, was_stored_since, IsUnused, is_whole, stored_since, image_in, records_in, memory_view, buffer_by}
+use Rattle.mem_work.specs.Marks.{tag_of, mark_at, marked, with_marks, IsMarkOfWidth}
 use Rattle.mem_work.specs.declared.marks.Mark.{Mark}
 use Rattle.mem_work.specs.declared.marks.Mark.TheVariants.{Fresh, Held}
 use Rattle.mem_work.specs.ProofsForMemory.{names_entry-true, is_stored, stored-whole, active_width-by}
@@ -32,7 +32,7 @@ module _ (reaches : ℕ → Records → ℕ → List ℕ) (lawful : ℕ → Reco
     (shape : ℕ) (table stamps : List ℕ) (bits buffers words last root : ℕ) (law : ∥ lawful shape (standing table bits buffers words) root ∥₁)
     (b : ℕ) (below : b < buffers) (some : 0 < words) (room : length table ≡ buffers * words) (also : length stamps ≡ buffers * words + buffers * words)
     (uncommitted : (r : ℕ) → buffer_of bits r ≡ b → words_at (image_in reaches shape table bits buffers words root) r ≡ [])
-    (unstored : (r i : ℕ) → buffer_of bits r ≡ b → stored_in table stamps bits buffers words (last + 1) r i ≡ None) where
+    (unstored : (r i : ℕ) → buffer_of bits r ≡ b → stored_since table stamps bits buffers words (last + 1) r i ≡ None) where
   inside : b * words + words ≤ buffers * words
   inside = let more : suc b * words ≤ buffers * words = mul-le-mul_right words below in omega arith
 
@@ -135,30 +135,30 @@ module _ (reaches : ℕ → Records → ℕ → List ℕ) (lawful : ℕ → Reco
         let one = stored-whole table stamps bits buffers words (last + 1) q 0 also is wide in
         let none = unstored q 0 e in cc))
     | inr ne ↦
-        ap (λ w. names_entry bits buffers words w q && list_all (is_since (last + 1) (get_or s (stamp_at bits buffers words q) 0)) (take w (drop (begin_of bits words w q) s)))
+        ap (λ w. names_entry bits buffers words w q && list_all (was_stored_since (last + 1) (get_or s (stamp_at bits buffers words q) 0)) (take w (drop (begin_of bits words w q) s)))
         (width-other (buffer_of bits q) ne)
         ∙ and-same _ _ _ (λ there.
         let w = width_in table words (buffer_of bits q) in
-        ap (λ x. list_all (is_since (last + 1) x) (take w (drop (begin_of bits words w q) s))) (entry-other q w (names_entry-true bits buffers words w q there) ne)
-        ∙ ap (list_all (is_since (last + 1) (get_or stamps (stamp_at bits buffers words q) 0))) (stamps-other q ne there))
+        ap (λ x. list_all (was_stored_since (last + 1) x) (take w (drop (begin_of bits words w q) s))) (entry-other q w (names_entry-true bits buffers words w q there) ne)
+        ∙ ap (list_all (was_stored_since (last + 1) (get_or stamps (stamp_at bits buffers words q) 0))) (stamps-other q ne there))
   ]
 
-  stored-cleared : (q i : ℕ) → stored_in t s bits buffers words (last + 1) q i ≡ stored_in table stamps bits buffers words (last + 1) q i
-  unfolding stored_in
+  stored-cleared : (q i : ℕ) → stored_since t s bits buffers words (last + 1) q i ≡ stored_since table stamps bits buffers words (last + 1) q i
+  unfolding stored_since
   stored-cleared q i = elim (cases_eq (buffer_of bits q) b) [
     | inl e ↦
         none-from _ (λ x is. no_entry q e (is_stored t s bits buffers words (last + 1) q i x is).entry.wide)
         ∙ sym (unstored q i e)
     | inr ne ↦
-        ap (λ w. cond (names_entry bits buffers words w q && (ltb i w && is_since (last + 1) (get_or s (stamp_at bits buffers words q) 0) (get_or s (begin_of bits words w q + i) 0)))
+        ap (λ w. cond (names_entry bits buffers words w q && (ltb i w && was_stored_since (last + 1) (get_or s (stamp_at bits buffers words q) 0) (get_or s (begin_of bits words w q + i) 0)))
         (Some (get_or t (begin_of bits words w q + i) 0)) None)
         (width-other (buffer_of bits q) ne)
         ∙ cond-and _ _ _ _ _ _ _ (λ there less.
         let w = width_in table words (buffer_of bits q) in
         let e = names_entry-true bits buffers words w q there in
         let lt = ltb-true i w less in (
-          ap (λ x. is_since (last + 1) x (get_or s (begin_of bits words w q + i) 0)) (entry-other q w e ne)
-              ∙ ap (is_since (last + 1) (get_or stamps (stamp_at bits buffers words q) 0)) (stamp-other q i w e lt ne),
+          ap (λ x. was_stored_since (last + 1) x (get_or s (begin_of bits words w q + i) 0)) (entry-other q w e ne)
+              ∙ ap (was_stored_since (last + 1) (get_or stamps (stamp_at bits buffers words q) 0)) (stamp-other q i w e lt ne),
           ap Some (get_or-set_other table (b * words) _ 0 0 (λ same. not_first bits buffers words w q i b e lt same)),
         ))
   ]
@@ -227,10 +227,10 @@ module _ (reaches : ℕ → Records → ℕ → List ℕ) (lawful : ℕ → Reco
     mark-other : (a : ℕ) → a ≢ b → mark_at m a ≡ mark_at marks a
     mark-other a ne = get_or-set_other marks b a _ Fresh ne
 
-    pub marks-cleared : ((a : ℕ) → IsMark generation first last (width_in table words a) (mark_at marks a))
-        → (a : ℕ) → IsMark generation first last (width_in t words a) (mark_at m a)
+    pub marks-cleared : ((a : ℕ) → IsMarkOfWidth generation first last (width_in table words a) (mark_at marks a))
+        → (a : ℕ) → IsMarkOfWidth generation first last (width_in t words a) (mark_at m a)
     marks-cleared old a = elim (cases_eq a b) [
-      | inl e ↦ subst (λ k. IsMark generation first last (width_in t words k) (mark_at m k)) (sym e) (record {
+      | inl e ↦ subst (λ k. IsMarkOfWidth generation first last (width_in t words k) (mark_at m k)) (sym e) (record {
         past = λ g c same. absurd (let at = mark-here in cc);
         held = λ g c v same.
             let both : Held generation last (width_in table words b) ≡ Held g c v = sym mark-here ∙ same in
@@ -239,8 +239,8 @@ module _ (reaches : ℕ → Records → ℕ → List ℕ) (lawful : ℕ → Reco
             record { few = omega (arith, gen); commit = omega (arith, at_commit); later = λ less. absurd (omega (arith, less, gen)); none = width-here };
       })
       | inr ne ↦
-          subst (λ k. IsMark generation first last (width_in t words a) k) (sym (mark-other a ne))
-          (subst (λ w. IsMark generation first last w (mark_at marks a)) (sym (width-other a ne)) (old a))
+          subst (λ k. IsMarkOfWidth generation first last (width_in t words a) k) (sym (mark-other a ne))
+          (subst (λ w. IsMarkOfWidth generation first last w (mark_at marks a)) (sym (width-other a ne)) (old a))
     ]
 
     buffer-cleared : (a : ℕ) → marked (mark_at m a) (buffer_by (width_in t words a))

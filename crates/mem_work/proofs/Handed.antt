@@ -9,7 +9,7 @@ use Rattle.image_base.specs.Places.{IsEntry}
 use Rattle.image_base.proofs.Apart.{within}
 use Rattle.arena_api.specs.Works.{Buffer, last_tag}
 use Rattle.arena_api.specs.Calls.{with_buffer}
-use Rattle.mem_work.specs.Cells.{width_in, begin_of, stamp_at, names_entry, standing, is_since, is_whole, stored_in, buffer_by, buffer_in}
+use Rattle.mem_work.specs.Cells.{width_in, begin_of, stamp_at, names_entry, standing, was_stored_since, is_whole, stored_since, buffer_by, buffer_in}
 use Rattle.mem_work.proofs.Standing.{range-set_other, lacks, not_first, cond-same, cond-and}
 use Rattle.mem_work.specs.ProofsForMemory.{names_entry-true}
 use Rattle.mem_work.proofs.Standing.{since-parts, whole-first, entry-offset}
@@ -74,7 +74,7 @@ module _ (table : List ℕ) (bits buffers words b width : ℕ) (free : width_in 
         subst (λ k. get_or stamps k 0 < n) place (none (offset_of bits q) (entry-offset bits buffers words w q e)).1
 
     fresh : (q i w : ℕ) → buffer_of bits q ≡ b → IsEntry bits buffers words w q → i < w
-        → is_since n (get_or stamps (stamp_at bits buffers words q) 0) (get_or stamps (begin_of bits words w q + i) 0) ≡ true → ⊥
+        → was_stored_since n (get_or stamps (stamp_at bits buffers words q) 0) (get_or stamps (begin_of bits words w q + i) 0) ≡ true → ⊥
     fresh q i w at e below since = elim (since-parts n _ _ since) [
       | inl late ↦ omega (arith, late, early-entry q w at e)
       | inr late ↦ omega (arith, late, early q i w at e below)
@@ -88,18 +88,18 @@ module _ (table : List ℕ) (bits buffers words b width : ℕ) (free : width_in 
           ∙ sym (false_from_ne_true _ (λ is. let wide : 0 < width_in table words (buffer_of bits q) = (whole-first table stamps bits buffers words n q room is).0.wide in
           omega (arith, wide, ap (width_in table words) e, free)))
       | inr ne ↦
-          ap (λ w. names_entry bits buffers words w q && list_all (is_since n (get_or stamps (stamp_at bits buffers words q) 0)) (take w (drop (begin_of bits words w q) stamps)))
+          ap (λ w. names_entry bits buffers words w q && list_all (was_stored_since n (get_or stamps (stamp_at bits buffers words q) 0)) (take w (drop (begin_of bits words w q) stamps)))
           (width-other (buffer_of bits q) ne)
     ]
 
-    pub stored-handed : (q i : ℕ) → stored_in (set table (b * words) width) stamps bits buffers words n q i ≡ stored_in table stamps bits buffers words n q i
-    unfolding stored_in
+    pub stored-handed : (q i : ℕ) → stored_since (set table (b * words) width) stamps bits buffers words n q i ≡ stored_since table stamps bits buffers words n q i
+    unfolding stored_since
     stored-handed q i = elim (cases_eq (buffer_of bits q) b) [
       | inl e ↦
           none-from _ (λ x is. let s = is_stored (set table (b * words) width) stamps bits buffers words n q i x is in fresh q i _ e s.entry s.inside s.stamp)
           ∙ sym (none-from _ (λ x is. let wide = (is_stored table stamps bits buffers words n q i x is).entry.wide in omega (arith, wide, ap (width_in table words) e, free)))
       | inr ne ↦
-          ap (λ w. cond (names_entry bits buffers words w q && (ltb i w && is_since n (get_or stamps (stamp_at bits buffers words q) 0) (get_or stamps (begin_of bits words w q + i) 0)))
+          ap (λ w. cond (names_entry bits buffers words w q && (ltb i w && was_stored_since n (get_or stamps (stamp_at bits buffers words q) 0) (get_or stamps (begin_of bits words w q + i) 0)))
           (Some (get_or (set table (b * words) width) (begin_of bits words w q + i) 0)) None)
           (width-other (buffer_of bits q) ne)
           ∙ cond-and _ _ _ _ _ _ _ (λ there below. (refl, ap Some (word-handed q i there below)))

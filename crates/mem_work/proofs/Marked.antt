@@ -6,7 +6,7 @@ use Rattle.arena_api.specs.Works.{WorkView, Buffer, is_free, last_tag}
 use Rattle.arena_api.specs.Calls.{handed_out, with_buffer}
 use Rattle.arena_api.specs.Generations.{freed_below}
 use Rattle.mem_work.specs.Cells.{buffer_by}
-use Rattle.mem_work.specs.Marks.{tag_of, freed, mark_at, marked, marked_buffers, with_marks, IsMark}
+use Rattle.mem_work.specs.Marks.{tag_of, mark_freed, mark_at, marked, marked_buffers, with_marks, IsMarkOfWidth}
 use Rattle.mem_work.specs.declared.marks.Mark.{Mark}
 use Rattle.mem_work.specs.declared.marks.Mark.TheVariants.{Fresh, Past, Held}
 
@@ -15,7 +15,7 @@ fresh-at zero b = refl
 fresh-at (suc n) zero = refl
 fresh-at (suc n) (suc b) = fresh-at n b
 
-pub mark-fresh : (w : ℕ) (m : Mark) → m ≡ Fresh → IsMark 0 0 0 w m
+pub mark-fresh : (w : ℕ) (m : Mark) → m ≡ Fresh → IsMarkOfWidth 0 0 0 w m
 mark-fresh w m fresh = record { past = λ g c at. absurd (cc); held = λ g c v at. absurd (cc) }
 
 -- a free buffer has no width and is not on hold
@@ -34,23 +34,23 @@ free-unheld zero g c v (Held h d u) free same = cc
 free-unheld (suc w) g c v (Held h d u) free same = cc
 
 -- a mark stays one while its buffer has the same first word
-pub mark-word : (generation first last v w : ℕ) (m : Mark) → w ≡ v → IsMark generation first last v m → IsMark generation first last w m
-mark-word generation first last v w m same is = subst (λ x. IsMark generation first last x m) (sym same) is
+pub mark-word : (generation first last v w : ℕ) (m : Mark) → w ≡ v → IsMarkOfWidth generation first last v m → IsMarkOfWidth generation first last w m
+mark-word generation first last v w m same is = subst (λ x. IsMarkOfWidth generation first last x m) (sym same) is
 
 -- where a buffer is handed out, its mark stays one
-pub mark-handed : (generation first last v : ℕ) (m : Mark) → is_free (marked m (buffer_by v)) ≡ true → IsMark generation first last v m → (w : ℕ) → IsMark generation first last w m
+pub mark-handed : (generation first last v : ℕ) (m : Mark) → is_free (marked m (buffer_by v)) ≡ true → IsMarkOfWidth generation first last v m → (w : ℕ) → IsMarkOfWidth generation first last w m
 mark-handed generation first last v m free is w = record {
   past = is.past;
   held = λ g c u at. absurd (free-unheld v g c u m free at);
 }
 
-pub mark-later : (generation first last w : ℕ) (m : Mark) → IsMark generation first last w m → IsMark generation first (last + 1) w m
+pub mark-later : (generation first last w : ℕ) (m : Mark) → IsMarkOfWidth generation first last w m → IsMarkOfWidth generation first (last + 1) w m
 mark-later generation first last w m is = record {
   past = is.past;
   held = λ g c v at. (let h = is.held g c v at in record { few = h.few; commit = omega (arith, h.commit); later = h.later; none = h.none });
 }
 
-pub mark-advanced : (generation first last w : ℕ) (m : Mark) → IsMark generation first last w m → IsMark (generation + 1) last last w m
+pub mark-advanced : (generation first last w : ℕ) (m : Mark) → IsMarkOfWidth generation first last w m → IsMarkOfWidth (generation + 1) last last w m
 mark-advanced generation first last w m is = record {
   past = λ g c at. (let h = is.past g c at in omega (arith, h));
   held = λ g c v at. (let h = is.held g c v at in record { few = omega (arith, h.few); commit = h.commit; later = λ below. h.commit; none = h.none });
@@ -65,7 +65,7 @@ freed-held : (generation g c v : ℕ) (t : Bool) (h d u : ℕ) → cond t (Past 
 freed-held generation g c v true h d u same = absurd (cc)
 freed-held generation g c v false h d u same = same
 
-pub mark-freed : (generation first last w : ℕ) (m : Mark) → IsMark generation first last w m → IsMark generation first last w (freed generation m)
+pub mark-freed : (generation first last w : ℕ) (m : Mark) → IsMarkOfWidth generation first last w m → IsMarkOfWidth generation first last w (mark_freed generation m)
 mark-freed generation first last w Fresh is = is
 mark-freed generation first last w (Past g c) is = is
 mark-freed generation first last w (Held g c v) is = record {
@@ -78,7 +78,7 @@ buffer-freed generation g c v true = refl
 buffer-freed generation g c v false = refl
 
 -- and its buffer free
-pub marked-freed : (generation first last w : ℕ) (m : Mark) → IsMark generation first last w m → marked (freed generation m) (buffer_by w) ≡ freed_below generation (marked m (buffer_by w))
+pub marked-freed : (generation first last w : ℕ) (m : Mark) → IsMarkOfWidth generation first last w m → marked (mark_freed generation m) (buffer_by w) ≡ freed_below generation (marked m (buffer_by w))
 marked-freed generation first last zero Fresh is = refl
 marked-freed generation first last (suc w) Fresh is = refl
 marked-freed generation first last zero (Past g c) is = refl
@@ -86,8 +86,8 @@ marked-freed generation first last (suc w) (Past g c) is = refl
 marked-freed generation first last zero (Held g c v) is = buffer-freed generation g c v (ltb g generation)
 marked-freed generation first last (suc w) (Held g c v) is = let none = (is.held g c v refl).none in absurd (omega arith)
 
-pub freed-at : (generation : ℕ) (marks : List Mark) (b : ℕ) → mark_at (map (freed generation) marks) b ≡ freed generation (mark_at marks b)
-freed-at generation marks b = get_or-map (freed generation) marks b Fresh
+pub freed-at : (generation : ℕ) (marks : List Mark) (b : ℕ) → mark_at (map (mark_freed generation) marks) b ≡ mark_freed generation (mark_at marks b)
+freed-at generation marks b = get_or-map (mark_freed generation) marks b Fresh
 
 -- a buffer with a mark gets a width
 handed-marked : (m : Mark) (w width : ℕ) → 0 < width → is_free (marked m (buffer_by w)) ≡ true

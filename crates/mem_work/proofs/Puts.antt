@@ -5,7 +5,7 @@ use Rattle.entry_ref.specs.References.{buffer_of}
 use Rattle.image_base.specs.Images.{words_at}
 use Rattle.image_base.specs.Places.{IsEntry}
 use Rattle.image_base.specs.Records.{Records, SameAt, AllThere, with_words}
-use Rattle.mem_work.specs.Cells.{width_in, begin_of, stamp_at, with_range, standing, is_whole, stored_in, image_in, records_in, buffer_by, memory_view}
+use Rattle.mem_work.specs.Cells.{width_in, begin_of, stamp_at, with_range, standing, is_whole, stored_since, image_in, records_in, buffer_by, memory_view}
 use Rattle.arena_api.proofs.Reached.{lawful-kept, next_image-kept}
 use Rattle.mem_work.proofs.Ranges.{width-range, standing-elsewhere, standing-range, whole-elsewhere, whole-range}
 
@@ -30,7 +30,7 @@ module _ (reaches : ℕ → Records → ℕ → List ℕ) (lawful : ℕ → Reco
 
   pub view-put : memory_view reaches shape (with_range table (begin_of bits words width r) ws) (set stamps (stamp_at bits buffers words r) (last + 1)) bits buffers words last root
       ≡ record (memory_view reaches shape table stamps bits buffers words last root) {
-        stored = stored_in (with_range table (begin_of bits words width r) ws) (set stamps (stamp_at bits buffers words r) (last + 1)) bits buffers words (last + 1);
+        stored = stored_since (with_range table (begin_of bits words width r) ws) (set stamps (stamp_at bits buffers words r) (last + 1)) bits buffers words (last + 1);
       }
   view-put = λ k. record (memory_view reaches shape (with_range table (begin_of bits words width r) ws) (set stamps (stamp_at bits buffers words r) (last + 1)) bits buffers words last root) {
     buffer = λ b. buffer_by (width-range table bits buffers words r width is e ws long room b k);

@@ -10,7 +10,7 @@ use Rattle.std.proofs.lemmas.Grind.{same_number_lists}
 use Rattle.std.proofs.lemmas.Nat.{same_from_place}
 use Rattle.entry_ref.specs.References.{buffer_of, offset_of}
 use Rattle.image_base.specs.Places.{IsEntry}
-use Rattle.mem_work.specs.Cells.{width_in, begin_of, stamp_at, with_range, names_entry, standing, is_since, IsUnused, is_whole}
+use Rattle.mem_work.specs.Cells.{width_in, begin_of, stamp_at, with_range, names_entry, standing, was_stored_since, IsUnused, is_whole}
 use Rattle.mem_work.proofs.Standing.{range-set_other, lacks, one_cell, not_first, cond-same, and-same, entry-offset, stamp-below, one_stamp}
 use Rattle.mem_work.specs.ProofsForMemory.{names_entry-true, length-standing, word-standing}
 use Rattle.mem_work.specs.ProofsForMemory.{whole-from}
@@ -110,14 +110,14 @@ module _ (table : List ℕ) (bits buffers words r width : ℕ) (is : width_in ta
     whole-elsewhere m q ne =
         let s = set stamps here n in
         let place = stamp_at bits buffers words q in
-        ap (λ w. names_entry bits buffers words w q && list_all (is_since m (get_or s place 0)) (take w (drop (begin_of bits words w q) s))) (width-range (buffer_of bits q))
+        ap (λ w. names_entry bits buffers words w q && list_all (was_stored_since m (get_or s place 0)) (take w (drop (begin_of bits words w q) s))) (width-range (buffer_of bits q))
         ∙ and-same _ _ _ (λ there.
         let w = width_in table words (buffer_of bits q) in
         let from = begin_of bits words w q in
         let f = names_entry-true bits buffers words w q there in
-        ap (λ x. list_all (is_since m x) (take w (drop from s)))
+        ap (λ x. list_all (was_stored_since m x) (take w (drop from s)))
         (get_or-set_other stamps here place n 0 (λ same. ne (one_stamp bits buffers words w width q r f e same)))
-        ∙ ap (list_all (is_since m (get_or stamps place 0)))
+        ∙ ap (list_all (was_stored_since m (get_or stamps place 0)))
         (range-set_other stamps here from w n (inr (omega (arith, range-fits bits buffers words w q (buffers * words) f refl)))))
 
     -- and the entry was, if its stamp is that or past it

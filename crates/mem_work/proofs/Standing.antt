@@ -10,7 +10,7 @@ use Rattle.entry_ref.specs.References.{buffer_of, offset_of}
 use Rattle.entry_ref.proofs.Bits.{same-ref}
 use Rattle.image_base.specs.Places.{IsEntry}
 use Rattle.image_base.proofs.Apart.{one_place, place-base, within}
-use Rattle.mem_work.specs.Cells.{width_in, begin_of, stamp_at, names_entry, standing, is_since, is_whole, stored_in}
+use Rattle.mem_work.specs.Cells.{width_in, begin_of, stamp_at, names_entry, standing, was_stored_since, is_whole, stored_since}
 use Rattle.arena_api.specs.Calls.{with_stored}
 use Rattle.mem_work.specs.ProofsForMemory.{names_entry-true, names_entry-from}
 
@@ -76,7 +76,7 @@ one_stamp bits buffers words v w r q e f same =
     same-ref bits r q both.1 both.0
 
 -- what was stored since a stamp was so with its entry, or alone
-pub since-parts : (n a b : ℕ) → is_since n a b ≡ true → (n ≤ a) ⊎ (n ≤ b)
+pub since-parts : (n a b : ℕ) → was_stored_since n a b ≡ true → (n ≤ a) ⊎ (n ≤ b)
 since-parts n a b is = elim (or_cases (leb n a) (leb n b) is) [ inl h ↦ inl (leb-true n a h) | inr h ↦ inr (leb-true n b h) ]
 
 -- one word of an entry is stored
@@ -110,17 +110,17 @@ module _ (table : List ℕ) (bits buffers words r i : ℕ) (e : IsEntry bits buf
       let place = begin_of bits words (width_in table words (buffer_of bits r)) r + i in
       let s = set stamps place n in
       let w = width_in table words (buffer_of bits q) in
-      ap (λ u. names_entry bits buffers words u q && list_all (is_since n (get_or s (stamp_at bits buffers words q) 0)) (take u (drop (begin_of bits words u q) s))) (width-store v (buffer_of bits q))
-      ∙ ap (λ x. names_entry bits buffers words w q && list_all (is_since n x) (take w (drop (begin_of bits words w q) s)))
+      ap (λ u. names_entry bits buffers words u q && list_all (was_stored_since n (get_or s (stamp_at bits buffers words q) 0)) (take u (drop (begin_of bits words u q) s))) (width-store v (buffer_of bits q))
+      ∙ ap (λ x. names_entry bits buffers words w q && list_all (was_stored_since n x) (take w (drop (begin_of bits words w q) s)))
       (get_or-set_other stamps place (stamp_at bits buffers words q) n 0 (λ same.
       omega (arith, same, cell-below bits buffers words (width_in table words (buffer_of bits r)) r i e h)))
-      ∙ and-same _ _ _ (λ there. ap (list_all (is_since n (get_or stamps (stamp_at bits buffers words q) 0))) (range_other stamps q n ne there))
+      ∙ and-same _ _ _ (λ there. ap (list_all (was_stored_since n (get_or stamps (stamp_at bits buffers words q) 0))) (range_other stamps q n ne there))
 
   -- what was stored is one word more
   pub stored-store : (stamps : List ℕ) (v n q j : ℕ) → length table ≡ buffers * words → length stamps ≡ buffers * words + buffers * words
-      → stored_in (set table (begin_of bits words (width_in table words (buffer_of bits r)) r + i) v) (set stamps (begin_of bits words (width_in table words (buffer_of bits r)) r + i) n) bits buffers words n q j
-      ≡ with_stored (stored_in table stamps bits buffers words n) r i v q j
-  unfolding stored_in
+      → stored_since (set table (begin_of bits words (width_in table words (buffer_of bits r)) r + i) v) (set stamps (begin_of bits words (width_in table words (buffer_of bits r)) r + i) n) bits buffers words n q j
+      ≡ with_stored (stored_since table stamps bits buffers words n) r i v q j
+  unfolding stored_since
   stored-store stamps v n q j room also = moved ∙ elim (cases_eq q r) [
     | inl e ↦ elim (cases_eq j i) [
       | inl f ↦ subst (λ k. here k j ≡ with_stored before r i v k j) (sym e) (subst (λ k. here r k ≡ with_stored before r i v r k) (sym f) at_place)
@@ -130,7 +130,7 @@ module _ (table : List ℕ) (bits buffers words r i : ℕ) (e : IsEntry bits buf
   ]
     where
       before : ℕ → ℕ → Option ℕ
-      before = stored_in table stamps bits buffers words n
+      before = stored_since table stamps bits buffers words n
 
       place : ℕ
       place = begin_of bits words (width_in table words (buffer_of bits r)) r + i
@@ -140,13 +140,13 @@ module _ (table : List ℕ) (bits buffers words r i : ℕ) (e : IsEntry bits buf
 
       with_width : ℕ → ℕ → ℕ → Option ℕ
       with_width k l w =
-          cond (names_entry bits buffers words w k && (ltb l w && is_since n (get_or s (stamp_at bits buffers words k) 0) (get_or s (begin_of bits words w k + l) 0)))
+          cond (names_entry bits buffers words w k && (ltb l w && was_stored_since n (get_or s (stamp_at bits buffers words k) 0) (get_or s (begin_of bits words w k + l) 0)))
           (Some (get_or (set table place v) (begin_of bits words w k + l) 0)) None
 
       here : ℕ → ℕ → Option ℕ
       here k l = with_width k l (width_in table words (buffer_of bits k))
 
-      moved : stored_in (set table (begin_of bits words (width_in table words (buffer_of bits r)) r + i) v) s bits buffers words n q j ≡ here q j
+      moved : stored_since (set table (begin_of bits words (width_in table words (buffer_of bits r)) r + i) v) s bits buffers words n q j ≡ here q j
       moved = ap (with_width q j) (width-store v (buffer_of bits q))
 
       below : begin_of bits words (width_in table words (buffer_of bits r)) r + i < buffers * words
@@ -158,9 +158,9 @@ module _ (table : List ℕ) (bits buffers words r i : ℕ) (e : IsEntry bits buf
           let other : begin_of bits words (width_in table words (buffer_of bits q)) q + j ≢ begin_of bits words (width_in table words (buffer_of bits r)) r + i =
           (λ same. ne (one_cell bits buffers words _ _ q r j i (names_entry-true _ _ _ _ q there) e (λ b. ap (width_in table words) b) (ltb-true _ _ less) h same)) in
           let w = width_in table words (buffer_of bits q) in (
-            ap (λ x. is_since n x (get_or s (begin_of bits words w q + j) 0))
+            ap (λ x. was_stored_since n x (get_or s (begin_of bits words w q + j) 0))
                 (get_or-set_other stamps place (stamp_at bits buffers words q) n 0 (λ same. omega (arith, same, below)))
-                ∙ ap (is_since n (get_or stamps (stamp_at bits buffers words q) 0)) (get_or-set_other stamps _ _ _ 0 other),
+                ∙ ap (was_stored_since n (get_or stamps (stamp_at bits buffers words q) 0)) (get_or-set_other stamps _ _ _ 0 other),
             ap Some (get_or-set_other table _ _ v 0 other),
           ))
 
@@ -178,7 +178,7 @@ first_from p (x ∷ xs) some all = (and_parts _ _ all).0
 -- what was stored whole has its first word stored
 pub whole-first : (table stamps : List ℕ) (bits buffers words n r : ℕ) → length stamps ≡ buffers * words + buffers * words → is_whole table stamps bits buffers words n r ≡ true
     → IsEntry bits buffers words (width_in table words (buffer_of bits r)) r
-    × (is_since n (get_or stamps (stamp_at bits buffers words r) 0) (get_or stamps (begin_of bits words (width_in table words (buffer_of bits r)) r + 0) 0) ≡ true)
+    × (was_stored_since n (get_or stamps (stamp_at bits buffers words r) 0) (get_or stamps (begin_of bits words (width_in table words (buffer_of bits r)) r + 0) 0) ≡ true)
 unfolding is_whole
 whole-first table stamps bits buffers words n r room is =
     let width = width_in table words (buffer_of bits r) in
@@ -187,5 +187,5 @@ whole-first table stamps bits buffers words n r room is =
     let below = cell-below bits buffers words width r 0 e e.wide in
     let wide = e.wide in
     let some : 0 < length (take width (drop (begin_of bits words width r) stamps)) = simp (length-take, length-drop) (omega arith) in
-    let since = is_since n (get_or stamps (stamp_at bits buffers words r) 0) in
+    let since = was_stored_since n (get_or stamps (stamp_at bits buffers words r) 0) in
     (e, sym (ap since (get_or-take width (drop (begin_of bits words width r) stamps) 0 0 wide ∙ get_or-drop _ stamps 0 0)) ∙ first_from since _ some parts.1)

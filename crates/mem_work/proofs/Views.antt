@@ -16,8 +16,8 @@ use Rattle.image_base.proofs.Apart.{within}
 use Rattle.image_base.specs.Places.{IsEntry}
 use Rattle.image_base.specs.Records.{Records, SameAt, AllThere}
 use Rattle.arena_api.specs.Calls.{next_image, with_stored, handed_out, published, AddsCommit, IsLowestFree, opened}
-use Rattle.mem_work.specs.Cells.{width_in, begin_of, stamp_at, standing, is_since, IsUnused, is_whole, stored_in, image_in, records_in, buffer_by, buffer_in, memory_view, sizes_of}
-use Rattle.mem_work.specs.Marks.{mark_at, marked, marked_buffers, with_marks, IsMark}
+use Rattle.mem_work.specs.Cells.{width_in, begin_of, stamp_at, standing, was_stored_since, IsUnused, is_whole, stored_since, image_in, records_in, buffer_by, buffer_in, memory_view, sizes_of}
+use Rattle.mem_work.specs.Marks.{mark_at, marked, marked_buffers, with_marks, IsMarkOfWidth}
 use Rattle.mem_work.specs.declared.marks.Mark.{Mark}
 use Rattle.mem_work.specs.declared.marks.Mark.TheVariants.{Fresh}
 use Rattle.mem_work.proofs.Marked.{fresh-at, free-width, mark-handed, with_marks-handed}
@@ -52,7 +52,7 @@ module _ (reaches : ℕ → Records → ℕ → List ℕ) (lawful : ℕ → Reco
     pub view-store : length table ≡ buffers * words → length stamps ≡ buffers * words + buffers * words
         → memory_view reaches shape (set table (begin_of bits words (width_in table words (buffer_of bits r)) r + i) v)
         (set stamps (begin_of bits words (width_in table words (buffer_of bits r)) r + i) (last + 1)) bits buffers words last root
-        ≡ record (memory_view reaches shape table stamps bits buffers words last root) { stored = with_stored (stored_in table stamps bits buffers words (last + 1)) r i v }
+        ≡ record (memory_view reaches shape table stamps bits buffers words last root) { stored = with_stored (stored_since table stamps bits buffers words (last + 1)) r i v }
     view-store room also = λ k. record (memory_view reaches shape table stamps bits buffers words last root) {
       buffer = λ b. buffer_by (width-store table bits buffers words r i e h v b k);
       commits = record { floor = last; last = last; image = λ n. image-store k };
@@ -156,7 +156,7 @@ module _ (reaches : ℕ → Records → ℕ → List ℕ) (lawful : ℕ → Reco
     pub lawful-publish : ∥ lawful shape (standing table bits buffers words) next ∥₁
     lawful-publish = ∣ both.0 ∣₁
 
-    none_since : (q i : ℕ) → is_since (last + 1 + 1) (get_or stamps (stamp_at bits buffers words q) 0)
+    none_since : (q i : ℕ) → was_stored_since (last + 1 + 1) (get_or stamps (stamp_at bits buffers words q) 0)
         (get_or stamps (begin_of bits words (width_in table words (buffer_of bits q)) q + i) 0) ≡ true → ⊥
     none_since q i since =
         let begin = begin_of bits words (width_in table words (buffer_of bits q)) q in
@@ -168,7 +168,7 @@ module _ (reaches : ℕ → Records → ℕ → List ℕ) (lawful : ℕ → Reco
     none_whole : (q : ℕ) → is_whole table stamps bits buffers words (last + 1 + 1) q ≡ false
     none_whole q = false_from_ne_true _ (λ is. none_since q 0 (whole-first table stamps bits buffers words (last + 1 + 1) q room is).1)
 
-    none_stored_yet : (q i : ℕ) → stored_in table stamps bits buffers words (last + 1 + 1) q i ≡ None
+    none_stored_yet : (q i : ℕ) → stored_since table stamps bits buffers words (last + 1 + 1) q i ≡ None
     none_stored_yet q i = none-from _ (λ x is. none_since q i (is_stored table stamps bits buffers words (last + 1 + 1) q i x is).stamp)
 
     pub records-publish : (q : ℕ) → records_in reaches shape table stamps bits buffers words (last + 1) next q
@@ -237,15 +237,15 @@ module _ (reaches : ℕ → Records → ℕ → List ℕ) (lawful : ℕ → Reco
 
     pub hand_out-marks : (generation first : ℕ) (o : Option ℕ) (t : List ℕ) → IfSome o (IsLowestFree (marked_buffers marks (buffer_in table words)) buffers)
         → IfSome o (λ b. t ≡ set table (b * words) width) → IfNone o (t ≡ table)
-        → ((b : ℕ) → IsMark generation first last (width_in table words b) (mark_at marks b))
-        → (b : ℕ) → IsMark generation first last (width_in t words b) (mark_at marks b)
-    hand_out-marks generation first None t low at same old b = subst (λ (ws : List ℕ). IsMark generation first last (width_in ws words b) (mark_at marks b)) (sym same) (old b)
+        → ((b : ℕ) → IsMarkOfWidth generation first last (width_in table words b) (mark_at marks b))
+        → (b : ℕ) → IsMarkOfWidth generation first last (width_in t words b) (mark_at marks b)
+    hand_out-marks generation first None t low at same old b = subst (λ (ws : List ℕ). IsMarkOfWidth generation first last (width_in ws words b) (mark_at marks b)) (sym same) (old b)
     hand_out-marks generation first (Some a) t low at same old b =
         let free = free-width _ _ low.free in
-        subst (λ (ws : List ℕ). IsMark generation first last (width_in ws words b) (mark_at marks b)) (sym at) (elim (cases_eq b a) [
-          | inl e ↦ subst (λ k. IsMark generation first last (width_in (set table (a * words) width) words k) (mark_at marks k)) (sym e)
+        subst (λ (ws : List ℕ). IsMarkOfWidth generation first last (width_in ws words b) (mark_at marks b)) (sym at) (elim (cases_eq b a) [
+          | inl e ↦ subst (λ k. IsMarkOfWidth generation first last (width_in (set table (a * words) width) words k) (mark_at marks k)) (sym e)
               (mark-handed generation first last (width_in table words a) (mark_at marks a) low.free (old a) _)
-          | inr ne ↦ subst (λ w. IsMark generation first last w (mark_at marks b)) (sym (width-other table bits buffers words a width free some (first-inside a low.below) wide b ne)) (old b)
+          | inr ne ↦ subst (λ w. IsMarkOfWidth generation first last w (mark_at marks b)) (sym (width-other table bits buffers words a width free some (first-inside a low.below) wide b ne)) (old b)
         ])
 
     pub hand_out-records : (o : Option ℕ) (t : List ℕ) → IfSome o (IsLowestFree (marked_buffers marks (buffer_in table words)) buffers) → IfSome o (λ b. t ≡ set table (b * words) width) → IfNone o (t ≡ table)
@@ -291,7 +291,7 @@ module _ (reaches : ℕ → Records → ℕ → List ℕ) (empty : (shape : ℕ)
     buffer = λ b. marked (fresh-at buffers b k) (buffer_by (slice_index-zeros n (b * words) k));
     commits = record { floor = 0; last = 0; image = λ m. no_image-opened k };
     stored = λ r i.
-        none-from (stored_in (zeros n) (zeros (n + n)) bits buffers words (0 + 1) r i) (λ x is.
+        none-from (stored_since (zeros n) (zeros (n + n)) bits buffers words (0 + 1) r i) (λ x is.
         let wide = (is_stored (zeros n) (zeros (n + n)) bits buffers words (0 + 1) r i x is).entry.wide in omega (arith, wide, slice_index-zeros n (buffer_of bits r * words))) k;
   }
 

@@ -45,8 +45,8 @@ without_stamps stamps buffers words b =
     with_range (with_range stamps (b * words) (replicate words 0)) (buffers * words + b * words) (replicate words 0)
 
 -- whether a word was stored since a stamp: its whole entry, or the word alone
-abbrev pub is_since : ℕ → ℕ → ℕ → Bool
-is_since since whole alone = nat_le since whole || nat_le since alone
+abbrev pub was_stored_since : ℕ → ℕ → ℕ → Bool
+was_stored_since since whole alone = nat_le since whole || nat_le since alone
 
 -- in a free buffer nothing was stored since a stamp, neither a word nor an entry
 abbrev pub IsUnused : List ℕ → List ℕ → ℕ → ℕ → ℕ → Type 0
@@ -59,14 +59,14 @@ is_whole table stamps bits buffers words since r =
     let width = width_in table words (buffer_of bits r) in
     let begin = begin_of bits words width r in
     let whole = slice_index stamps (stamp_at bits buffers words r) in
-    names_entry bits buffers words width r && list_all (is_since since whole) (take width (drop begin stamps))
+    names_entry bits buffers words width r && list_all (was_stored_since since whole) (take width (drop begin stamps))
 
 -- the words that were stored since a stamp
-unfoldable pub stored_in : List ℕ → List ℕ → ℕ → ℕ → ℕ → ℕ → Stored
-stored_in table stamps bits buffers words since r i =
+unfoldable pub stored_since : List ℕ → List ℕ → ℕ → ℕ → ℕ → ℕ → Stored
+stored_since table stamps bits buffers words since r i =
     let width = width_in table words (buffer_of bits r) in
     let begin = begin_of bits words width r in
-    let there = is_since since (slice_index stamps (stamp_at bits buffers words r)) (slice_index stamps (begin + i)) in
+    let there = was_stored_since since (slice_index stamps (stamp_at bits buffers words r)) (slice_index stamps (begin + i)) in
     if names_entry bits buffers words width r && (nat_lt i width && there) then Some (slice_index table (begin + i)) else None
 
 -- the image of the last commit: what its root reaches of the words that stand
@@ -99,7 +99,7 @@ memory_view reaches shape table stamps bits buffers words last root = record {
   buffer = buffer_in table words;
   queue = first_hold ∷ [];
   commits = record { floor = last; last = last; image = λ n. image_in reaches shape table bits buffers words root };
-  stored = stored_in table stamps bits buffers words (last + 1);
+  stored = stored_since table stamps bits buffers words (last + 1);
   told = [];
   stops = 0;
   found = 0;

@@ -13,10 +13,10 @@ is_held (Past generation commit) = false
 is_held (Held generation commit width) = true
 
 -- a mark, once nothing below a generation is used
-abbrev pub freed : ℕ → Mark → Mark
-freed below Fresh = Fresh
-freed below (Past generation commit) = Past generation commit
-freed below (Held generation commit width) =
+abbrev pub mark_freed : ℕ → Mark → Mark
+mark_freed below Fresh = Fresh
+mark_freed below (Past generation commit) = Past generation commit
+mark_freed below (Held generation commit width) =
     if nat_lt generation below then Past generation commit else Held generation commit width
 
 -- the mark of a buffer
@@ -56,6 +56,6 @@ pub record IsHeldMark (generation first last word g c : ℕ) : Type 0 where
   pub later : g < generation → c ≤ first
   pub none : word ≡ 0
 
-pub record IsMark (generation first last word : ℕ) (mark : Mark) : Type 0 where
+pub record IsMarkOfWidth (generation first last word : ℕ) (mark : Mark) : Type 0 where
   pub past : (g c : ℕ) → mark ≡ Past g c → g < generation
   pub held : (g c w : ℕ) → mark ≡ Held g c w → IsHeldMark generation first last word g c

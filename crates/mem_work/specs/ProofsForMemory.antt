@@ -9,9 +9,9 @@ use Rattle.std.proofs.lemmas.Bool.Decides.{nat_tests}
 use Rattle.entry_ref.specs.References.{buffer_of, buffer_limit, offset_limit}
 use Rattle.image_base.specs.Places.{IsEntry}
 use Rattle.image_base.proofs.Apart.{entry-small}
-use Rattle.mem_work.specs.Cells.{width_in, begin_of, stamp_at, names_entry, standing, is_since, is_whole, stored_in, buffer_by}
+use Rattle.mem_work.specs.Cells.{width_in, begin_of, stamp_at, names_entry, standing, was_stored_since, is_whole, stored_since, buffer_by}
 use Rattle.mem_work.specs.Cells.{image_in, records_in, buffer_in, sizes_of, memory_view}
-use Rattle.mem_work.specs.Marks.{tag_of, mark_at, marked, marked_buffers, only_hold, with_marks, IsHeldMark, IsMark}
+use Rattle.mem_work.specs.Marks.{tag_of, mark_at, marked, marked_buffers, only_hold, with_marks, IsHeldMark, IsMarkOfWidth}
 use Rattle.mem_work.specs.declared.marks.Mark.{Mark}
 use Rattle.mem_work.specs.declared.marks.Mark.TheVariants.{Fresh, Past, Held}
 use Rattle.arena_api.specs.Calls.{FitsEntry, IsWordIn, IsInOrder, IsWithinLimits}
@@ -101,13 +101,13 @@ all_from p (x ∷ xs) each = and_from _ _ (each 0 (omega arith)) (all_from p xs 
 pub record IsStored (table stamps : List ℕ) (bits buffers words n r i x : ℕ) : Type 0 where
   pub entry : IsEntry bits buffers words (width_in table words (buffer_of bits r)) r
   pub inside : i < width_in table words (buffer_of bits r)
-  pub stamp : is_since n (get_or stamps (stamp_at bits buffers words r) 0)
+  pub stamp : was_stored_since n (get_or stamps (stamp_at bits buffers words r) 0)
       (get_or stamps (begin_of bits words (width_in table words (buffer_of bits r)) r + i) 0) ≡ true
   pub word : get_or table (begin_of bits words (width_in table words (buffer_of bits r)) r + i) 0 ≡ x
 
-pub is_stored : (table stamps : List ℕ) (bits buffers words n r i x : ℕ) → stored_in table stamps bits buffers words n r i ≡ Some x
+pub is_stored : (table stamps : List ℕ) (bits buffers words n r i x : ℕ) → stored_since table stamps bits buffers words n r i ≡ Some x
     → IsStored table stamps bits buffers words n r i x
-unfolding stored_in
+unfolding stored_since
 is_stored table stamps bits buffers words n r i x is =
     let parts = cond_some _ _ _ is in
     let tests = and_parts _ _ parts.0 in
@@ -118,13 +118,13 @@ is_stored table stamps bits buffers words n r i x is =
 pub whole-from : (table stamps : List ℕ) (bits buffers words n r : ℕ)
     → IsEntry bits buffers words (width_in table words (buffer_of bits r)) r
     → ((i : ℕ) → i < width_in table words (buffer_of bits r)
-    → is_since n (get_or stamps (stamp_at bits buffers words r) 0)
+    → was_stored_since n (get_or stamps (stamp_at bits buffers words r) 0)
     (get_or stamps (begin_of bits words (width_in table words (buffer_of bits r)) r + i) 0) ≡ true)
     → is_whole table stamps bits buffers words n r ≡ true
 unfolding is_whole
 whole-from table stamps bits buffers words n r e each =
     let width = width_in table words (buffer_of bits r) in
-    let since = is_since n (get_or stamps (stamp_at bits buffers words r) 0) in
+    let since = was_stored_since n (get_or stamps (stamp_at bits buffers words r) 0) in
     and_from _ _ (names_entry-from bits buffers words width r e)
     (all_from since (take width (drop (begin_of bits words width r) stamps)) (λ k h.
     let below : k < width = omega (arith, simp length-take at h) in
@@ -143,9 +143,9 @@ all_at p (x ∷ xs) (suc i) all lt = all_at p xs i (and_parts _ _ all).1 (omega 
 pub stored-whole : (table stamps : List ℕ) (bits buffers words n r i : ℕ) → length stamps ≡ buffers * words + buffers * words
     → is_whole table stamps bits buffers words n r ≡ true
     → i < width_in table words (buffer_of bits r)
-    → stored_in table stamps bits buffers words n r i
+    → stored_since table stamps bits buffers words n r i
     ≡ Some (get_or table (begin_of bits words (width_in table words (buffer_of bits r)) r + i) 0)
-unfolding is_whole stored_in
+unfolding is_whole stored_since
 stored-whole table stamps bits buffers words n r i room is lt =
     let width = width_in table words (buffer_of bits r) in
     let parts = and_parts _ _ is in
@@ -153,7 +153,7 @@ stored-whole table stamps bits buffers words n r i room is lt =
     let more : suc (buffer_of bits r) * words ≤ buffers * words = mul-le-mul_right words e.inside in
     let last = e.last in
     let long : i < length (take width (drop (begin_of bits words width r) stamps)) = simp (length-take, length-drop) (omega arith) in
-    let since = is_since n (get_or stamps (stamp_at bits buffers words r) 0) in
+    let since = was_stored_since n (get_or stamps (stamp_at bits buffers words r) 0) in
     let stamp = sym (ap since (get_or-take width (drop (begin_of bits words width r) stamps) i 0 lt ∙ get_or-drop _ stamps i 0))
     ∙ all_at since _ i parts.1 long in
     cond-true _ _ _ (and_from _ _ parts.0 (and_from _ _ (lt-ltb i width lt) stamp))
@@ -172,7 +172,7 @@ memory_limits bits buffers words some few long short offsets =
     }
 
 -- the last tag of a free buffer is below the generation
-pub memory_tags : (generation first last w : ℕ) (m : Mark) → IsMark generation first last w m → (t : Tag)
+pub memory_tags : (generation first last w : ℕ) (m : Mark) → IsMarkOfWidth generation first last w m → (t : Tag)
     → marked m (buffer_by w) ≡ Buffer.free (Some t)
     → AllByRecursion (λ (h : Hold). t.generation < h.generation) (only_hold generation first ∷ [])
 memory_tags generation first last zero Fresh is t same = absurd (cc)
@@ -183,7 +183,7 @@ memory_tags generation first last (suc w) (Past g c) is t same = absurd (cc)
 memory_tags generation first last zero (Held g c v) is t same = absurd (cc)
 memory_tags generation first last (suc w) (Held g c v) is t same = absurd (cc)
 
-held-mark : (generation first last w : ℕ) (m : Mark) → IsMark generation first last w m → (v : ℕ) (t : Tag)
+held-mark : (generation first last w : ℕ) (m : Mark) → IsMarkOfWidth generation first last w m → (v : ℕ) (t : Tag)
     → marked m (buffer_by w) ≡ Buffer.held v t
     → IsHeldMark generation first last w t.generation t.commit
 held-mark generation first last zero Fresh is v t same = absurd (cc)
@@ -259,7 +259,7 @@ module _ (reaches : ℕ → Records → ℕ → List ℕ) (shape : ℕ) (table s
       (λ e. words-found _ (standing table bits buffers words) root r some) (λ e. refl)
 
   pub memory_stored : (marks : List Mark) (generation first r i w : ℕ)
-      → stored_in table stamps bits buffers words (last + 1) r i ≡ Some w
+      → stored_since table stamps bits buffers words (last + 1) r i ≡ Some w
       → IsWordIn bits (with_marks (memory_view reaches shape table stamps bits buffers words last root) marks generation first) r i
   memory_stored marks generation first r i w is =
       let s = is_stored table stamps bits buffers words (last + 1) r i w is in
@@ -268,7 +268,7 @@ module _ (reaches : ℕ → Records → ℕ → List ℕ) (shape : ℕ) (table s
 
   pub memory_whole : length table ≡ buffers * words → (marks : List Mark) (r : ℕ) (ws : List ℕ) → 0 < length ws
       → length ws ≡ active_width (marked_buffers marks (buffer_in table words) (buffer_of bits r))
-      → ((i : ℕ) → i < length ws → stored_in table stamps bits buffers words (last + 1) r i ≡ Some (get_or ws i 0))
+      → ((i : ℕ) → i < length ws → stored_since table stamps bits buffers words (last + 1) r i ≡ Some (get_or ws i 0))
       → records_in reaches shape table stamps bits buffers words last root r ≡ ws
   memory_whole room marks r ws some long each =
       let width = width_in table words (buffer_of bits r) in
@@ -288,7 +288,7 @@ module _ (reaches : ℕ → Records → ℕ → List ℕ) (shape : ℕ) (table s
       let wide = (standing-entry table bits buffers words r 0 some).0.wide in omega arith)
 
   pub memory_held : (marks : List Mark) (generation first : ℕ)
-      → ((b : ℕ) → IsMark generation first last (width_in table words b) (mark_at marks b))
+      → ((b : ℕ) → IsMarkOfWidth generation first last (width_in table words b) (mark_at marks b))
       → (b w : ℕ) (t : Tag) → marked_buffers marks (buffer_in table words) b ≡ Buffer.held w t
       → IsHeldUnder bits (with_marks (memory_view reaches shape table stamps bits buffers words last root) marks generation first) b t
   memory_held marks generation first good b w t held =
@@ -310,7 +310,7 @@ module _ (reaches : ℕ → Records → ℕ → List ℕ) (shape : ℕ) (table s
       → (records_in reaches shape table stamps bits buffers words last root r
       ≡ words_at (image_in reaches shape table bits buffers words root) r)
       ⊎ ((i : ℕ) → i < length (records_in reaches shape table stamps bits buffers words last root r)
-      → stored_in table stamps bits buffers words (last + 1) r i
+      → stored_since table stamps bits buffers words (last + 1) r i
       ≡ Some (get_or (records_in reaches shape table stamps bits buffers words last root r) i 0))
   memory_only also r some = elim (cases_Bool (is_whole table stamps bits buffers words (last + 1) r)) [
     | inl whole ↦

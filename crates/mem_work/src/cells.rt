@@ -5,7 +5,7 @@ ghost use Rattle.image_base.specs.Places.{IsEntry};
 ghost use Rattle.arena_api.specs.Works.{is_free, free_count};
 ghost use Rattle.arena_api.specs.Calls.{IsLowestFree, padded};
 ghost use Rattle.mem_work.specs.Cells.{width_in, begin_of, stamp_at, with_range, without_stamps, buffer_in};
-ghost use Rattle.mem_work.specs.Marks.{freed, marked_buffers};
+ghost use Rattle.mem_work.specs.Marks.{mark_freed, marked_buffers};
 ghost use Rattle.mem_work.specs.declared.marks.Mark.TheVariants.{Fresh, Held};
 
 use crate::marks::Mark;
@@ -218,7 +218,7 @@ impl<const OFFSET_BITS: u32> Cells<OFFSET_BITS> {
 
     /// Frees all buffers on hold whose tag is below a generation.
     pub fn free_below(&mut self, generation: u64)
-        ensures marks { self.new.marks.items ≡ map (freed generation) self.old.marks.items }
+        ensures marks { self.new.marks.items ≡ map (mark_freed generation) self.old.marks.items }
         ensures table { self.new.table.items ≡ self.old.table.items }
         ensures stamps { self.new.stamps.items ≡ self.old.stamps.items }
         ensures buffers { self.new.buffers ≡ self.old.buffers }

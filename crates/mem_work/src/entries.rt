@@ -4,7 +4,7 @@ ghost use Rattle.entry_ref.specs.References.{buffer_of};
 ghost use Rattle.image_base.specs.Places.{IsEntry};
 ghost use Rattle.image_base.specs.Before.{those_before};
 ghost use Rattle.image_base.specs.Maps.{seen};
-ghost use Rattle.mem_work.specs.Cells.{width_in, begin_of, stamp_at, standing, is_since};
+ghost use Rattle.mem_work.specs.Cells.{width_in, begin_of, stamp_at, standing, was_stored_since};
 ghost use Rattle.mem_work.specs.Entries.{is_chosen, chosen};
 
 use crate::cells::Cells;
@@ -135,7 +135,7 @@ impl<const OFFSET_BITS: u32> Cells<OFFSET_BITS> {
 
 /// Whether the stamps of an entry and of its words tell that each of these was stored since another.
 fn all_since(whole: u64, stamps: &[u64], since: u64) -> bool
-    ensures { result ≡ list_all (is_since since whole) stamps.now }
+    ensures { result ≡ list_all (was_stored_since since whole) stamps.now }
 {
     stamps.iter().all(|stamp| since <= whole || since <= *stamp)
 }

@@ -1,5 +1,5 @@
 ghost use Rattle.std.specs.Prelude.{◌≡◌};
-ghost use Rattle.mem_work.specs.Marks.{freed, is_held};
+ghost use Rattle.mem_work.specs.Marks.{mark_freed, is_held};
 
 /// When a buffer was last put on hold, and whether it is still.
 #[derive(Clone, Copy, Drop)]
@@ -21,7 +21,7 @@ pub enum Mark {
 impl Mark {
     /// What is on hold under a tag below this generation is past.
     pub fn freed(self, below: u64) -> Mark
-        ensures { result ≡ freed below self }
+        ensures { result ≡ mark_freed below self }
     {
         match self {
             Mark::Held {

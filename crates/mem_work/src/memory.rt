@@ -8,7 +8,7 @@ ghost use Rattle.image_base.specs.Maps.{seen};
 ghost use Rattle.arena_api.specs.Calls.{opened, MayStore, InNoCommit, AddsCommit, with_stored, padded, next_image, published};
 ghost use Rattle.arena_api.specs.Works.{active_width};
 ghost use Rattle.mem_work.specs.Cells.{width_in, standing, IsUnused, records_in, sizes_of, memory_view};
-ghost use Rattle.mem_work.specs.Marks.{IsMark, mark_at, with_marks};
+ghost use Rattle.mem_work.specs.Marks.{IsMarkOfWidth, mark_at, with_marks};
 
 use crate::cells::Cells;
 use crate::reach::{Reach, add_those};
@@ -35,7 +35,7 @@ pub struct MemWork<const OFFSET_BITS: u32, L: Layout> {
     ghost stamped: { (p : ℕ) → slice_index cells.stamps.items p ≤ last + 1 },
     // those of a free buffer before
     ghost unused: { IsUnused cells.table.items cells.stamps.items cells.buffers cells.words (last + 1) },
-    ghost marks: { (b : ℕ) → IsMark generation first last (width_in cells.table.items cells.words b) (mark_at cells.marks.items b) },
+    ghost marks: { (b : ℕ) → IsMarkOfWidth generation first last (width_in cells.table.items cells.words b) (mark_at cells.marks.items b) },
     ghost early: { first ≤ last },
     ghost generations: { generation ≤ 2 ^ 48 - 1 },
     ghost limit: { last < 2 ^ 32 },

@@ -8,5 +8,5 @@ node_reaches shape m zero = []
 node_reaches shape m (suc r) = suc r ∷ []
 
 -- and is there, with 34 words
-abbrev pub IsNode : ℕ → Records → ℕ → Type 0
-IsNode shape m root = 0 < root → length (m root) ≡ 34
+abbrev pub IsNodeRecord : ℕ → Records → ℕ → Type 0
+IsNodeRecord shape m root = 0 < root → length (m root) ≡ 34

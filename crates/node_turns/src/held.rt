@@ -2,7 +2,7 @@
 ghost use Rattle.std.specs.Prelude.{◌≡◌};
 ghost use Rattle.image_base.specs.Images.{words_at};
 ghost use Rattle.word_arena.specs.Ruled.{reader_of, seen_image};
-ghost use Rattle.node_turns.specs.OneNode.{IsNode};
+ghost use Rattle.node_turns.specs.OneNode.{IsNodeRecord};
 
 use crate::node::{OneNode, are_of};
 use frozen_api::Frozen;
@@ -12,7 +12,7 @@ use word_arena::{Again, Aimed, Guarded, Reader, Steps};
 #[derive(Drop)]
 pub struct Held<'a> {
     guard: Guarded<'a, 22, OneNode>,
-    ghost node: { IsNode (reader_of guard.place.me.0).sizes.shape (words_at (seen_image (reader_of guard.place.me.0)))
+    ghost node: { IsNodeRecord (reader_of guard.place.me.0).sizes.shape (words_at (seen_image (reader_of guard.place.me.0)))
         (seen_image (reader_of guard.place.me.0)).root },
 }
 

@@ -10,12 +10,12 @@ pub struct OneNode;
 
 impl Layout for OneNode {
     ghost use Rattle.std.specs.Prelude.{refl};
-    ghost use Rattle.node_turns.specs.OneNode.{node_reaches, IsNode};
+    ghost use Rattle.node_turns.specs.OneNode.{node_reaches, IsNodeRecord};
     ghost use Rattle.node_turns.specs.ProofsForOneNode.{node_empty, node_present, node_stays};
 
     ghost reaches = { node_reaches };
 
-    ghost lawful = { IsNode };
+    ghost lawful = { IsNodeRecord };
 
     ghost empty_reaches = { λ shape m. refl };
 

@@ -1,7 +1,7 @@
 //! A query, by the dictionaries of the attributes.
 ghost use Rattle.std.specs.Prelude.{◌≡◌, ◌||◌, ◌&&◌, ℕ, IfOk, slice_get};
 ghost use Rattle.attr_types.specs.Query.{tree_of, query_trees, and, or, one};
-ghost use Rattle.doc_set.specs.Gathers.{is_in};
+ghost use Rattle.doc_set.specs.Gathers.{is_gathered};
 ghost use Rattle.doc_set.specs.Sets.{has, Holds};
 ghost use Rattle.query_index.specs.Found.{found, found_all, is_listed};
 ghost use Rattle.query_index.specs.Leaves.{listed, meeting};
@@ -26,8 +26,8 @@ fn gather_listed<const OFFSET_BITS: u32, F: Frozen<OFFSET_BITS>>(
     gathered: Gathered,
 ) -> Result<Gathered, AllocError>
     requires { AreIndexed OFFSET_BITS (F.records frozen.old) dictionaries.now }
-    ensures docs { IfOk result (λ all. (doc : ℕ) → is_in all doc
-        ≡ (is_in gathered doc || is_listed (indexes_in OFFSET_BITS (F.records frozen.old) dictionaries.now) doc)) }
+    ensures docs { IfOk result (λ all. (doc : ℕ) → is_gathered all doc
+        ≡ (is_gathered gathered doc || is_listed (indexes_in OFFSET_BITS (F.records frozen.old) dictionaries.now) doc)) }
     ensures same { frozen.new ≡ frozen.old }
 {
     let mut all = gathered;
@@ -46,7 +46,7 @@ fn gather_meeting<const OFFSET_BITS: u32, F: Frozen<OFFSET_BITS>>(
     gathered: Gathered,
 ) -> Result<Gathered, AllocError>
     requires { IsIndexed dictionary.values (F.records frozen.old) dictionary.root }
-    ensures docs { IfOk result (λ all. (doc : ℕ) → is_in all doc ≡ (is_in gathered doc
+    ensures docs { IfOk result (λ all. (doc : ℕ) → is_gathered all doc ≡ (is_gathered gathered doc
         || has (listed (meeting leaf.now (index_of dictionary.entry.values (F.records frozen.old) dictionary.entry.root))) doc)) }
     ensures same { frozen.new ≡ frozen.old }
 {
@@ -67,8 +67,8 @@ fn gather_one<const OFFSET_BITS: u32, F: Frozen<OFFSET_BITS>>(
     gathered: Gathered,
 ) -> Result<Gathered, AllocError>
     requires { AreIndexed OFFSET_BITS (F.records frozen.old) dictionaries.now }
-    ensures docs { IfOk result (λ all. (doc : ℕ) → is_in all doc
-        ≡ (is_in gathered doc || found (one field leaf.now) (indexes_in OFFSET_BITS (F.records frozen.old) dictionaries.now) doc)) }
+    ensures docs { IfOk result (λ all. (doc : ℕ) → is_gathered all doc
+        ≡ (is_gathered gathered doc || found (one field leaf.now) (indexes_in OFFSET_BITS (F.records frozen.old) dictionaries.now) doc)) }
     ensures same { frozen.new ≡ frozen.old }
 {
     match dictionaries.get(field as usize) {
@@ -130,8 +130,8 @@ fn gather<const OFFSET_BITS: u32, F: Frozen<OFFSET_BITS>>(
     gathered: Gathered,
 ) -> Result<Gathered, AllocError>
     requires { AreIndexed OFFSET_BITS (F.records frozen.old) dictionaries.now }
-    ensures docs { IfOk result (λ all. (doc : ℕ) → is_in all doc
-        ≡ (is_in gathered doc || found (tree_of query.now) (indexes_in OFFSET_BITS (F.records frozen.old) dictionaries.now) doc)) }
+    ensures docs { IfOk result (λ all. (doc : ℕ) → is_gathered all doc
+        ≡ (is_gathered gathered doc || found (tree_of query.now) (indexes_in OFFSET_BITS (F.records frozen.old) dictionaries.now) doc)) }
     ensures same { frozen.new ≡ frozen.old }
 {
     match query {
@@ -158,8 +158,8 @@ fn gather_some<const OFFSET_BITS: u32, F: Frozen<OFFSET_BITS>>(
     gathered: Gathered,
 ) -> Result<Gathered, AllocError>
     requires { AreIndexed OFFSET_BITS (F.records frozen.old) dictionaries.now }
-    ensures docs { IfOk result (λ all. (doc : ℕ) → is_in all doc
-        ≡ (is_in gathered doc || found (or (query_trees queries.now.items))
+    ensures docs { IfOk result (λ all. (doc : ℕ) → is_gathered all doc
+        ≡ (is_gathered gathered doc || found (or (query_trees queries.now.items))
         (indexes_in OFFSET_BITS (F.records frozen.old) dictionaries.now) doc)) }
     ensures same { frozen.new ≡ frozen.old }
 {
@@ -227,8 +227,8 @@ fn gather_common<const OFFSET_BITS: u32, F: Frozen<OFFSET_BITS>>(
     gathered: Gathered,
 ) -> Result<Gathered, AllocError>
     requires { AreIndexed OFFSET_BITS (F.records frozen.old) dictionaries.now }
-    ensures docs { IfOk result (λ all. (doc : ℕ) → is_in all doc
-        ≡ (is_in gathered doc || found (and (query_trees queries.now.items))
+    ensures docs { IfOk result (λ all. (doc : ℕ) → is_gathered all doc
+        ≡ (is_gathered gathered doc || found (and (query_trees queries.now.items))
         (indexes_in OFFSET_BITS (F.records frozen.old) dictionaries.now) doc)) }
     ensures same { frozen.new ≡ frozen.old }
 {

@@ -5,7 +5,7 @@ ghost use Rattle.std.specs.Map.{keys_of};
 ghost use Rattle.tree_search.specs.Places.{IsAt, pairs_from};
 ghost use Rattle.attr_types.specs.Lawful.{IsDocNumber};
 ghost use Rattle.attr_images.specs.Postings.{block_documents, postings_at, vector, IsPostingList};
-ghost use Rattle.doc_set.specs.Gathers.{is_in};
+ghost use Rattle.doc_set.specs.Gathers.{is_gathered};
 ghost use Rattle.doc_set.specs.Postings.{HaveDocNumbers};
 ghost use Rattle.doc_set.specs.Sets.{has, in_words};
 ghost use Rattle.query_leaves.specs.Blocks.{IsDocumentBlock, documents_of};
@@ -94,8 +94,8 @@ pub fn gather_vector<const OFFSET_BITS: u32, F: Frozen<OFFSET_BITS>>(
 ) -> Result<Gathered, AllocError>
     requires form { IsPostingList (F.records frozen.old) (vector root) }
     requires documents { HaveDocNumbers (postings_at (F.records frozen.old) (vector root)) }
-    ensures docs { IfOk result (λ all. (doc : ℕ) → is_in all doc
-        ≡ (is_in gathered doc || has (keys_of (postings_at (F.records frozen.old) (vector root.entry))) doc)) }
+    ensures docs { IfOk result (λ all. (doc : ℕ) → is_gathered all doc
+        ≡ (is_gathered gathered doc || has (keys_of (postings_at (F.records frozen.old) (vector root.entry))) doc)) }
     ensures same { frozen.new ≡ frozen.old }
 {
     let mut set = gathered.into_set(alloc)?;

@@ -4,7 +4,7 @@ ghost use Rattle.std.specs.Map.{keys_of};
 ghost use Rattle.attr_types.specs.Lawful.{IsDocNumber};
 ghost use Rattle.attr_images.specs.Postings.{list_form, postings_at, short, tree, IsPostingList};
 ghost use Rattle.attr_images.specs.Words.{unpacked};
-ghost use Rattle.doc_set.specs.Gathers.{is_in};
+ghost use Rattle.doc_set.specs.Gathers.{is_gathered};
 ghost use Rattle.doc_set.specs.Postings.{HaveDocNumbers};
 ghost use Rattle.doc_set.specs.Sets.{has, in_words};
 
@@ -54,8 +54,8 @@ fn insert_words(set: &mut DocSet, words: &[u64])
 /// The documents with those of the words of a short list.
 fn with_words(alloc: Global, gathered: Gathered, words: &[u64]) -> Result<Gathered, AllocError>
     requires { HaveDocNumbers (map unpacked words.now) }
-    ensures { IfOk result (λ all. (doc : ℕ) → is_in all doc
-        ≡ (is_in gathered doc || has (keys_of (map unpacked words.now)) doc)) }
+    ensures { IfOk result (λ all. (doc : ℕ) → is_gathered all doc
+        ≡ (is_gathered gathered doc || has (keys_of (map unpacked words.now)) doc)) }
 {
     match gathered {
         Gathered::Few(mut docs) => {
@@ -83,8 +83,8 @@ fn gather_short<const OFFSET_BITS: u32, F: Frozen<OFFSET_BITS>>(
 ) -> Result<Gathered, AllocError>
     requires form { IsPostingList (F.records frozen.old) (short list) }
     requires documents { HaveDocNumbers (postings_at (F.records frozen.old) (short list)) }
-    ensures docs { IfOk result (λ all. (doc : ℕ) → is_in all doc
-        ≡ (is_in gathered doc || has (keys_of (postings_at (F.records frozen.old) (short list.entry))) doc)) }
+    ensures docs { IfOk result (λ all. (doc : ℕ) → is_gathered all doc
+        ≡ (is_gathered gathered doc || has (keys_of (postings_at (F.records frozen.old) (short list.entry))) doc)) }
     ensures same { frozen.new ≡ frozen.old }
 {
     let mut buffer = [0; MOST_SHORT];
@@ -101,7 +101,7 @@ fn push_tree<const OFFSET_BITS: u32, F: Frozen<OFFSET_BITS>>(
 ) -> Result<Gathered, AllocError>
     requires form { IsPostingList (F.records frozen.old) (tree root) }
     requires documents { HaveDocNumbers (postings_at (F.records frozen.old) (tree root)) }
-    ensures docs { IfOk result (λ all. (doc : ℕ) → is_in all doc
+    ensures docs { IfOk result (λ all. (doc : ℕ) → is_gathered all doc
         ≡ (has docs.items doc || has (keys_of (postings_at (F.records frozen.old) (tree root.entry))) doc)) }
     ensures same { frozen.new ≡ frozen.old }
 {
@@ -118,7 +118,7 @@ fn insert_tree<const OFFSET_BITS: u32, F: Frozen<OFFSET_BITS>>(
 ) -> Result<Gathered, AllocError>
     requires form { IsPostingList (F.records frozen.old) (tree root) }
     requires documents { HaveDocNumbers (postings_at (F.records frozen.old) (tree root)) }
-    ensures docs { IfOk result (λ all. (doc : ℕ) → is_in all doc
+    ensures docs { IfOk result (λ all. (doc : ℕ) → is_gathered all doc
         ≡ (in_words set doc || has (keys_of (postings_at (F.records frozen.old) (tree root.entry))) doc)) }
     ensures same { frozen.new ≡ frozen.old }
 {
@@ -136,7 +136,7 @@ fn with_tree<const OFFSET_BITS: u32, F: Frozen<OFFSET_BITS>>(
 ) -> Result<Gathered, AllocError>
     requires form { IsPostingList (F.records frozen.old) (tree root) }
     requires documents { HaveDocNumbers (postings_at (F.records frozen.old) (tree root)) }
-    ensures docs { IfOk result (λ all. (doc : ℕ) → is_in all doc
+    ensures docs { IfOk result (λ all. (doc : ℕ) → is_gathered all doc
         ≡ (has docs.items doc || has (keys_of (postings_at (F.records frozen.old) (tree root.entry))) doc)) }
     ensures same { frozen.new ≡ frozen.old }
 {
@@ -158,8 +158,8 @@ fn gather_tree<const OFFSET_BITS: u32, F: Frozen<OFFSET_BITS>>(
 ) -> Result<Gathered, AllocError>
     requires form { IsPostingList (F.records frozen.old) (tree root) }
     requires documents { HaveDocNumbers (postings_at (F.records frozen.old) (tree root)) }
-    ensures docs { IfOk result (λ all. (doc : ℕ) → is_in all doc
-        ≡ (is_in gathered doc || has (keys_of (postings_at (F.records frozen.old) (tree root.entry))) doc)) }
+    ensures docs { IfOk result (λ all. (doc : ℕ) → is_gathered all doc
+        ≡ (is_gathered gathered doc || has (keys_of (postings_at (F.records frozen.old) (tree root.entry))) doc)) }
     ensures same { frozen.new ≡ frozen.old }
 {
     match gathered {
@@ -177,8 +177,8 @@ pub fn gather_list<const OFFSET_BITS: u32, F: Frozen<OFFSET_BITS>>(
 ) -> Result<Gathered, AllocError>
     requires form { IsPostingList (F.records frozen.old) (list_form list) }
     requires documents { HaveDocNumbers (postings_at (F.records frozen.old) (list_form list)) }
-    ensures docs { IfOk result (λ all. (doc : ℕ) → is_in all doc
-        ≡ (is_in gathered doc || has (keys_of (postings_at (F.records frozen.old) (list_form list))) doc)) }
+    ensures docs { IfOk result (λ all. (doc : ℕ) → is_gathered all doc
+        ≡ (is_gathered gathered doc || has (keys_of (postings_at (F.records frozen.old) (list_form list))) doc)) }
     ensures same { frozen.new ≡ frozen.old }
 {
     if list >= FIRST_VECTOR {

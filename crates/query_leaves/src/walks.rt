@@ -2,7 +2,7 @@
 ghost use Rattle.std.specs.Prelude.{◌≡◌, ◌||◌, ℕ, IfOk, OnOk};
 ghost use Rattle.tree_search.specs.Places.{IsAt, pairs_from};
 ghost use Rattle.attr_images.specs.Postings.{index_of};
-ghost use Rattle.doc_set.specs.Gathers.{is_in};
+ghost use Rattle.doc_set.specs.Gathers.{is_gathered};
 ghost use Rattle.doc_set.specs.Sets.{has};
 ghost use Rattle.query_index.specs.Leaves.{from, listed, meeting, run};
 ghost use Rattle.query_leaves.specs.Parts.{IsIndexed, AreIndexPairs, index_of_pairs};
@@ -53,7 +53,7 @@ fn gather_from<const OFFSET_BITS: u32, F: Frozen<OFFSET_BITS>>(
 ) -> Result<Gathered, AllocError>
     requires at { IsAt (F.records frozen.old) cursor.old }
     requires pairs { AreIndexPairs value_type (F.records frozen.old) (pairs_from (F.records frozen.old) cursor.old) }
-    ensures docs { IfOk result (λ all. (doc : ℕ) → is_in all doc ≡ (is_in gathered doc
+    ensures docs { IfOk result (λ all. (doc : ℕ) → is_gathered all doc ≡ (is_gathered gathered doc
         || has (listed (run leaf.now (index_of_pairs value_type (F.records frozen.old) (pairs_from (F.records frozen.old) cursor.old))))
         doc)) }
     ensures same { frozen.new ≡ frozen.old }
@@ -79,7 +79,7 @@ pub fn gather_leaf<const OFFSET_BITS: u32, F: Frozen<OFFSET_BITS>>(
     gathered: Gathered,
 ) -> Result<Gathered, AllocError>
     requires { IsIndexed value_type (F.records frozen.old) root }
-    ensures docs { IfOk result (λ all. (doc : ℕ) → is_in all doc ≡ (is_in gathered doc
+    ensures docs { IfOk result (λ all. (doc : ℕ) → is_gathered all doc ≡ (is_gathered gathered doc
         || has (listed (meeting leaf.now (index_of value_type (F.records frozen.old) root.entry))) doc)) }
     ensures same { frozen.new ≡ frozen.old }
 {
@@ -97,7 +97,7 @@ pub fn gather_every<const OFFSET_BITS: u32, F: Frozen<OFFSET_BITS>>(
     gathered: Gathered,
 ) -> Result<Gathered, AllocError>
     requires { IsIndexed value_type (F.records frozen.old) root }
-    ensures docs { IfOk result (λ all. (doc : ℕ) → is_in all doc ≡ (is_in gathered doc
+    ensures docs { IfOk result (λ all. (doc : ℕ) → is_gathered all doc ≡ (is_gathered gathered doc
         || has (listed (index_of value_type (F.records frozen.old) root.entry)) doc)) }
     ensures same { frozen.new ≡ frozen.old }
 {

@@ -9,7 +9,7 @@ use Rattle.attr_scores.specs.Scores.{AskTree, hits_of, dot_of}
 use Rattle.query_text.specs.Grammar.{Words, Word, word_text, tree_text, IsAmong, first_found, unknown_if, unknown_in, unknown_list, unknown_others, unknown_at, resolved, resolved_list, asked_by, has_types, has_range}
 use Rattle.query_text.specs.Grammar.{word_levels, unless_unknown, checked_by, judged}
 use Rattle.query_text.specs.Laws.{ask_by, ReadsBack}
-use Rattle.query_print.specs.Printing.{name_at, named, named_list, named_word, AllFound, ListFound, AskFound, IsLawful, ReadsBackAs}
+use Rattle.query_print.specs.Printing.{name_at, named, named_list, named_word, AllFound, ListFound, AskFound, IsLawfulAsk, ReadsBackAs}
 
 -- each name is one of the attributes
 mutual
@@ -47,7 +47,7 @@ ask_same : (fields : List Field) (ask : AskTree) → AskFound fields ask → ask
 ask_same fields (hits_of query) found = ap hits_of (same fields query found)
 ask_same fields (dot_of number parts) found = ap (λ o. dot_of (unwrap_or o 0) parts) found
 
-lawful_judged : (fields : List Field) (ask : AskTree) → IsLawful fields ask → judged fields (named_word fields ask) ≡ Ok ask
+lawful_judged : (fields : List Field) (ask : AskTree) → IsLawfulAsk fields ask → judged fields (named_word fields ask) ≡ Ok ask
 lawful_judged fields ask lawful =
     let deep : nat_lt 32 (word_levels (named_word fields ask)) ≡ false = grind (arith, nat_tests, lawful.levels) in
     ap₂ (λ u a. unless_unknown u (checked_by (has_types fields (named_word fields ask)) (has_range (named_word fields ask))

@@ -29,12 +29,12 @@ named_word fields (hits_of query) = whole_query (named fields query)
 named_word fields (dot_of number parts) = dot_product (name_at fields number) parts
 
 -- the attribute with this number is found by the name that is written for it
-abbrev pub IsFound : List Field → ℕ → Type 0
-IsFound fields number = field_of fields (name_at fields number) ≡ Some number
+abbrev pub IsFoundByName : List Field → ℕ → Type 0
+IsFoundByName fields number = field_of fields (name_at fields number) ≡ Some number
 
 abbrev mutual
   pub AllFound : List Field → QueryTree → Type 0
-  AllFound fields (trees.one number leaf) = IsFound fields number
+  AllFound fields (trees.one number leaf) = IsFoundByName fields number
   AllFound fields (trees.and list) = ListFound fields list
   AllFound fields (trees.or list) = ListFound fields list
 
@@ -44,10 +44,10 @@ abbrev mutual
 
 abbrev pub AskFound : List Field → AskTree → Type 0
 AskFound fields (hits_of query) = AllFound fields query
-AskFound fields (dot_of number parts) = IsFound fields number
+AskFound fields (dot_of number parts) = IsFoundByName fields number
 
 -- a lawful ask: its word has a text, and its attributes, types, range and depth are right
-pub record IsLawful (fields : List Field) (ask : AskTree) : Type 0 where
+pub record IsLawfulAsk (fields : List Field) (ask : AskTree) : Type 0 where
   pub formed : IsFormedWord (named_word fields ask)
   pub found : AskFound fields ask
   pub of_types : has_types fields (named_word fields ask) ≡ true
@@ -56,7 +56,7 @@ pub record IsLawful (fields : List Field) (ask : AskTree) : Type 0 where
 
 -- where the ask is lawful, each parser that reads such words reads the text as it
 abbrev pub ReadsBackAs : List Field → List ℕ → AskTree → Type 0
-ReadsBackAs fields text ask = (words : Words) → IsAmong words (named_word fields ask) → IsLawful fields ask
+ReadsBackAs fields text ask = (words : Words) → IsAmong words (named_word fields ask) → IsLawfulAsk fields ask
     → ask_by words fields text ≡ Ok ask
 
 -- what stands before a member of a list, by the number of members before it

@@ -6,7 +6,7 @@ ghost use Rattle.attr_index.specs.Changes.{HasItems};
 ghost use Rattle.attr_index.specs.Index.{list_of};
 ghost use Rattle.attr_scores.specs.Scores.{score_of, weight_of};
 ghost use Rattle.attr_types.specs.declared.items.Item.{Item as AnyItem};
-ghost use Rattle.doc_set.specs.Gathers.{is_in};
+ghost use Rattle.doc_set.specs.Gathers.{is_gathered};
 ghost use Rattle.doc_set.specs.Sets.{has, Holds};
 ghost use Rattle.std.specs.Map.{keys_of};
 ghost use Rattle.query_leaves.specs.Parts.{IsIndexed};
@@ -52,7 +52,7 @@ fn gather_parts<const OFFSET_BITS: u32, F: Frozen<OFFSET_BITS>>(
     parts: &[Part],
 ) -> Result<Gathered, AllocError>
     requires { IsIndexed value_type (F.records frozen.old) root }
-    ensures docs { IfOk result (λ all. (doc : ℕ) → is_in all doc
+    ensures docs { IfOk result (λ all. (doc : ℕ) → is_gathered all doc
         ≡ is_found parts.now (index_of value_type (F.records frozen.old) root.entry) doc) }
     ensures same { frozen.new ≡ frozen.old }
 {
@@ -73,8 +73,8 @@ pub fn with_value<const OFFSET_BITS: u32, F: Frozen<OFFSET_BITS>>(
     gathered: Gathered,
 ) -> Result<Gathered, AllocError>
     requires { IsIndexed value_type (F.records frozen.old) root }
-    ensures docs { IfOk result (λ all. (doc : ℕ) → is_in all doc
-        ≡ (is_in gathered doc || has (keys_of (list_of value.now (index_of value_type (F.records frozen.old) root.entry))) doc)) }
+    ensures docs { IfOk result (λ all. (doc : ℕ) → is_gathered all doc
+        ≡ (is_gathered gathered doc || has (keys_of (list_of value.now (index_of value_type (F.records frozen.old) root.entry))) doc)) }
     ensures same { frozen.new ≡ frozen.old }
 {
     match word_of(frozen, root, value_type, value) {

@@ -4,7 +4,7 @@ use Rattle.std.proofs.lemmas.Bool.{eq-eqb, ne_eqb}
 use Rattle.entry_ref.specs.References.{buffer_of}
 use Rattle.image_base.specs.Images.{image_of, words_at}
 use Rattle.image_base.specs.Records.{Records, SameAt, AllThere, Among}
-use Rattle.node_turns.specs.OneNode.{node_reaches, IsNode}
+use Rattle.node_turns.specs.OneNode.{node_reaches, IsNodeRecord}
 use Rattle.store_api.specs.Statuses.{Status, in_use}
 use Rattle.store_api.specs.Ledgers.{Ledger, IsNew, IsSettled, is_this}
 use Rattle.store_api.specs.Units.{MayDo}
@@ -132,11 +132,11 @@ refs-apart zero finished apart r among = absurd among
 refs-apart (suc root) finished apart r (inl e) = subst (λ (x : ℕ). is_this finished (buffer_of 22 x) ≡ false) (sym e) apart
 refs-apart (suc root) finished apart r (inr none) = absurd none
 
-refs-there : (root : ℕ) (m : Records) → IsNode 0 m root → AllThere (root_refs root) m
+refs-there : (root : ℕ) (m : Records) → IsNodeRecord 0 m root → AllThere (root_refs root) m
 refs-there zero m node = tt
 refs-there (suc root) m node = let is = node (omega arith) in (omega (arith, is), tt)
 
-refs-node : (root : ℕ) (m n : Records) → SameAt (root_refs root) m n → IsNode 0 m root → IsNode 0 n root
+refs-node : (root : ℕ) (m n : Records) → SameAt (root_refs root) m n → IsNodeRecord 0 m root → IsNodeRecord 0 n root
 refs-node zero m n same node = λ some. absurd (omega (arith, some))
 refs-node (suc root) m n same node = λ some. ap (λ ws. length ws) same.0 ∙ node some
 

@@ -4,7 +4,7 @@ use Rattle.entry_ref.specs.References.{buffer_of}
 use Rattle.image_base.specs.Records.{Records}
 use Rattle.store_api.specs.Ledgers.{Ledger, is_this}
 use Rattle.store_api.specs.Parts.{OwnsAll, entries}
-use Rattle.node_turns.specs.OneNode.{IsNode}
+use Rattle.node_turns.specs.OneNode.{IsNodeRecord}
 use Rattle.test_arena.specs.declared.keeping.Keeping.{Keeping}
 
 -- the records of a root: itself, or none where it is 0
@@ -16,7 +16,7 @@ root_refs (suc r) = suc r ∷ []
 pub record IsKeeping {H : Type 0} (ledger : Ledger H) (m : Records) (k : Keeping) : Type 0 where
   pub unit : ledger.unit ≡ false
   pub owns : OwnsAll ledger m (entries (root_refs k.root) ∷ [])
-  pub node : IsNode 0 m k.root
+  pub node : IsNodeRecord 0 m k.root
   pub sealed : (b : ℕ) → k.sealed ≡ Some b → ledger.sealed b ≡ true
   pub finished : ledger.finished ≡ k.finished
   pub apart : is_this k.finished (buffer_of 22 k.root) ≡ false

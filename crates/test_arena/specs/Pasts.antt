@@ -6,6 +6,6 @@ use Rattle.node_turns.specs.Turns.{IsActive}
 use Rattle.test_arena.specs.declared.writing.Past.{Past}
 
 -- the buffer of the last node is active, and the buffer that was claimed may be put on hold
-pub record IsPast {H : Type 0} (work : WorkView H) (p : Past) : Type 0 where
+pub record IsOfPast {H : Type 0} (work : WorkView H) (p : Past) : Type 0 where
   pub active : IfSome p.node (IsActive work)
   pub clear : IfSome p.claimed (MayRetire 22 work)

@@ -2,7 +2,7 @@
 ghost use Rattle.std.specs.Prelude.{◌≡◌, ◌<◌, None};
 ghost use Rattle.word_arena.specs.Ruled.{writer_of};
 ghost use Rattle.word_arena.specs.Knows.{view_of};
-ghost use Rattle.test_arena.specs.Pasts.{IsPast};
+ghost use Rattle.test_arena.specs.Pasts.{IsOfPast};
 
 use crate::answers::Answer;
 use crate::steps::Task;
@@ -33,8 +33,8 @@ impl Past {
 }
 
 fn place<W: Work<22, Layout = OneNode>>(work: &mut W, past: Past) -> (Past, Answer)
-    requires { IsPast (W.knows work.old) past }
-    ensures { IsPast (W.knows work.new) result.0 }
+    requires { IsOfPast (W.knows work.old) past }
+    ensures { IsOfPast (W.knows work.new) result.0 }
 {
     let Some(placed) = turn(work, past.node, past.last.saturating_add(1)) else {
         return (past, Answer::NoBuffer);
@@ -56,7 +56,7 @@ fn place<W: Work<22, Layout = OneNode>>(work: &mut W, past: Past) -> (Past, Answ
 }
 
 fn commit_nothing<W: Work<22, Layout = OneNode>>(work: &mut W, past: Past) -> (Past, Answer)
-    ensures { IsPast (W.knows work.new) result.0 }
+    ensures { IsOfPast (W.knows work.new) result.0 }
 {
     match commit(work) {
         Some(committed) => (Past::of(committed.number), Answer::Committed(committed)),
@@ -70,7 +70,7 @@ fn claim_buffer<W: Work<22, Layout = OneNode>>(
     width: u32,
 ) -> (Past, Answer)
     requires { 0 < width }
-    ensures { IsPast (W.knows work.new) result.0 }
+    ensures { IsOfPast (W.knows work.new) result.0 }
 {
     let Some(placed) = claim(work, width) else {
         return (Past::of(past.last), Answer::NoBuffer);
@@ -85,7 +85,7 @@ fn claim_buffer<W: Work<22, Layout = OneNode>>(
 }
 
 fn put_on_hold<W: Work<22, Layout = OneNode>>(work: &mut W, past: Past) -> Answer
-    requires { IsPast (W.knows work.old) past }
+    requires { IsOfPast (W.knows work.old) past }
 {
     match past.claimed {
         Some(buffer) => {
@@ -111,8 +111,8 @@ pub fn work_on<W: Work<22, Layout = OneNode>>(
     past: Past,
     task: Task,
 ) -> (Past, Answer)
-    requires { IsPast (W.knows work.old) past }
-    ensures { IsPast (W.knows work.new) result.0 }
+    requires { IsOfPast (W.knows work.old) past }
+    ensures { IsOfPast (W.knows work.new) result.0 }
 {
     match task {
         Task::Node => place(work, past),
@@ -147,8 +147,8 @@ fn take_in(writer: &mut Writer<'_, 22, OneNode>) -> Answer {
 
 /// What the writer's seat comes to.
 pub fn write_on(writer: &mut Writer<'_, 22, OneNode>, past: Past, task: Task) -> (Past, Answer)
-    requires { IsPast (view_of writer.old.place.table_id (writer_of writer.old.place.me.0)) past }
-    ensures { IsPast (view_of writer.new.place.table_id (writer_of writer.new.place.me.0)) result.0 }
+    requires { IsOfPast (view_of writer.old.place.table_id (writer_of writer.old.place.me.0)) past }
+    ensures { IsOfPast (view_of writer.new.place.table_id (writer_of writer.new.place.me.0)) result.0 }
 {
     match task {
         Task::Seat => (Past::of(past.last), seat(writer)),

@@ -12,7 +12,7 @@ use Rattle.posting_store.specs.Lists.{list_at}
 use Rattle.posting_store.specs.Walks.{first_doc, first_weight}
 use Rattle.posting_store.proofs.FormLemmas.{at_form}
 use Rattle.value_index.specs.Indexes.{IsIndex, IsValuePair}
-use Rattle.value_lists.specs.Holds.{seen}
+use Rattle.value_lists.specs.Holds.{as_listed}
 use Rattle.value_lists.specs.declared.reading.ValueList.{ValueList}
 
 -- the values of pairs with their documents
@@ -46,16 +46,16 @@ module _ (type : ValueType) (m : Records) where
   -- one value more is listed
   pub one_listed : (done : List ValueList) (ps : List (ℕ × ℕ)) (key word : ℕ) (list : ValueList) → ps ≢ [] → key ≡ first_key ps → word ≡ first_value ps
       → 0 < word → list.value ≡ stored_value type m key → list.documents.items ≡ list_at m word
-      → map seen (done ++ list ∷ []) ++ listed type m (drop 1 ps) ≡ map seen done ++ listed type m ps
+      → map as_listed (done ++ list ∷ []) ++ listed type m (drop 1 ps) ≡ map as_listed done ++ listed type m ps
   one_listed done [] key word list some k w filled value documents = absurd (some refl)
   one_listed done (p ∷ ps) key word list some k w filled value documents =
       split done
-      ∙ ap (λ (v : Value). map seen done ++ (v, list.documents.items) ∷ listed type m ps) (value ∙ ap (stored_value type m) k)
-      ∙ ap (λ (es : List (ℕ × ℤ)). map seen done ++ (stored_value type m p.0, es) ∷ listed type m ps) (documents ∙ at_form m word filled ∙ ap (λ (n : ℕ). postings_at m (list_form n)) w)
+      ∙ ap (λ (v : Value). map as_listed done ++ (v, list.documents.items) ∷ listed type m ps) (value ∙ ap (stored_value type m) k)
+      ∙ ap (λ (es : List (ℕ × ℤ)). map as_listed done ++ (stored_value type m p.0, es) ∷ listed type m ps) (documents ∙ at_form m word filled ∙ ap (λ (n : ℕ). postings_at m (list_form n)) w)
     where
-      split : (xs : List ValueList) → map seen (xs ++ list ∷ []) ++ listed type m ps ≡ map seen xs ++ seen list ∷ listed type m ps
+      split : (xs : List ValueList) → map as_listed (xs ++ list ∷ []) ++ listed type m ps ≡ map as_listed xs ++ as_listed list ∷ listed type m ps
       split [] = refl
-      split (x ∷ xs) = ap (λ es. seen x ∷ es) (split xs)
+      split (x ∷ xs) = ap (λ es. as_listed x ∷ es) (split xs)
 
 -- one document more is read
 pub one_more : (done next : List (ℕ × ℤ)) (rest left whole : List (ℕ × ℤ)) (doc : ℕ) (weight : ℤ) → next ≡ done ++ (doc, weight) ∷ [] → left ≡ drop 1 rest

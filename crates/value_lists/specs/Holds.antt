@@ -21,5 +21,5 @@ pub record HoldsIndex {H : Type 0} (type : ValueType) (ledger : Ledger H) (m : R
   pub unit : ledger.unit ≡ false
 
 -- a value as it is listed
-abbrev pub seen : ValueList → Value × List (ℕ × ℤ)
-seen list = (list.value, list.documents.items)
+abbrev pub as_listed : ValueList → Value × List (ℕ × ℤ)
+as_listed list = (list.value, list.documents.items)

@@ -5,7 +5,7 @@ ghost use Rattle.attr_index.specs.Index.{list_of};
 ghost use Rattle.attr_types.specs.Value.{type_of};
 ghost use Rattle.posting_store.specs.Lists.{list_at, IsList, IsPlain};
 ghost use Rattle.value_index.specs.Indexes.{IsIndex};
-ghost use Rattle.value_lists.specs.Holds.{seen};
+ghost use Rattle.value_lists.specs.Holds.{as_listed};
 
 use attr_types::{Value, ValueType};
 use entry_ref::EntryRef;
@@ -91,7 +91,7 @@ pub fn all_lists<const OFFSET_BITS: u32, F: Frozen<OFFSET_BITS>>(
     value_type: ValueType,
 ) -> Result<Vec<ValueList>, AllocError>
     requires { IsIndex value_type (F.records frozen.old) root }
-    ensures lists { IfOk result (λ lists. map seen lists.items ≡ index_of value_type (F.records frozen.old) root.entry) }
+    ensures lists { IfOk result (λ lists. map as_listed lists.items ≡ index_of value_type (F.records frozen.old) root.entry) }
     ensures same { frozen.new ≡ frozen.old }
 {
     let mut lists = Vec::new(alloc);

@@ -5,7 +5,7 @@ ghost use Rattle.std.specs.Ordering.{nat_cmp};
 ghost use Rattle.attr_index.specs.Index.{list_of, with_posting, without_posting};
 ghost use Rattle.attr_types.specs.Value.{type_of};
 ghost use Rattle.store_api.specs.Ledgers.{IsNew};
-ghost use Rattle.value_lists.specs.Holds.{seen};
+ghost use Rattle.value_lists.specs.Holds.{as_listed};
 
 use crate::reading::{ValueList, all_lists};
 use crate::typed::{add_typed, documents_typed, has_typed, key_typed, remove_typed, sum_typed};
@@ -153,7 +153,7 @@ impl<const OFFSET_BITS: u32, S: Store<OFFSET_BITS>> ValueLists<OFFSET_BITS, S> {
 
     /// All values in order, each with its documents, by one walk.
     pub fn lists(&mut self, alloc: Global) -> Result<Vec<ValueList>, AllocError>
-        ensures lists { IfOk result (λ lists. map seen lists.items ≡ self.old.index) }
+        ensures lists { IfOk result (λ lists. map as_listed lists.items ≡ self.old.index) }
         ensures same { self.new ≡ self.old }
     {
         all_lists(alloc, &mut self.store, self.root, self.value_type)

@@ -26,7 +26,7 @@ use Rattle.arena_api.specs.Works.{Hold, oldest_of as api_oldest}
 use Rattle.arena_api.specs.Generations.{LetsGo, freed_below, Reclaims, reclaimed}
 use Rattle.word_arena.specs.Knows.{api_hold, api_buffer, view_of}
 use Rattle.word_arena.specs.ProofsForWork.{length-holds}
-use Rattle.word_arena.specs.WriterSteps.{without_oldest, ClosesUnused, let_go, tag_below, WithBuffersOf, FreesOne, FreesBelow, FreesUnused}
+use Rattle.word_arena.specs.WriterSteps.{without_oldest, ClosesUnused, let_go, held_tag_below, WithBuffersOf, FreesOne, FreesBelow, FreesUnused}
 
 -- the next one behind those that were dropped
 pub drop-next : {A : Type 0} (xs : List A) (k : ℕ) → k < length xs → (x : A) × (drop k xs ≡ x ∷ drop (suc k) xs)
@@ -187,7 +187,7 @@ module _ (found : ℕ) (w u v : WriterView) (g : GoodView w) (c : ClosesUnused f
   reclaim-alone none = ap (λ s. s.count) stops-v ∙ ap (λ (x : WriterView). x.stops.count) (c.all (c.alone none)).1
 
 -- buffer by buffer
-pub tag-found : (g : ℕ) (o : Option Buffer) (t : Tag) → option_and_then (tag_below g) o ≡ Some t → (width : ℕ) × (o ≡ Some (Held width t)) × (t.generation < g)
+pub tag-found : (g : ℕ) (o : Option Buffer) (t : Tag) → option_and_then (held_tag_below g) o ≡ Some t → (width : ℕ) × (o ≡ Some (Held width t)) × (t.generation < g)
 tag-found g None t is = absurd (cc)
 tag-found g (Some (Free last)) t is = absurd (cc)
 tag-found g (Some (Active width last)) t is = absurd (cc)
@@ -197,7 +197,7 @@ tag-found g (Some (Held width tag)) t is = by_test (nat_lt tag.generation g) ref
     by_test true test e = let same : tag ≡ t = cc in (width, ap (λ x. Some (Held width x)) same, subst (λ (x : Tag). x.generation < g) same (ltb-true _ _ test))
     by_test false test e = absurd (cc)
 
-pub tag-none : (g : ℕ) (o : Option Buffer) → option_and_then (tag_below g) o ≡ None → option_map (let_go g) o ≡ o
+pub tag-none : (g : ℕ) (o : Option Buffer) → option_and_then (held_tag_below g) o ≡ None → option_map (let_go g) o ≡ o
 tag-none g None is = refl
 tag-none g (Some (Free last)) is = refl
 tag-none g (Some (Active width last)) is = refl

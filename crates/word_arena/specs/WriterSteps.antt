@@ -87,13 +87,13 @@ let_go generation (Active width last) = Active width last
 let_go generation (Held width tag) = if nat_lt tag.generation generation then Free (Some tag) else Held width tag
 
 -- the tag of a buffer on hold, where it is below a generation
-abbrev pub tag_below : ℕ → Buffer → Option Tag
-tag_below generation (Free last) = None
-tag_below generation (Active width last) = None
-tag_below generation (Held width tag) = if nat_lt tag.generation generation then Some tag else None
+abbrev pub held_tag_below : ℕ → Buffer → Option Tag
+held_tag_below generation (Free last) = None
+held_tag_below generation (Active width last) = None
+held_tag_below generation (Held width tag) = if nat_lt tag.generation generation then Some tag else None
 
 abbrev pub unused_tag_in : ℕ → List Buffer → ℕ → Option Tag
-unused_tag_in generation buffers b = option_and_then (tag_below generation) (slice_get buffers b)
+unused_tag_in generation buffers b = option_and_then (held_tag_below generation) (slice_get buffers b)
 
 -- nothing but the buffers changed
 abbrev pub WithBuffersOf : WriterView → WriterView → Type 0

@@ -6,7 +6,7 @@ use Rattle.tree_images.specs.Trees.{tree_pairs}
 use Rattle.tree_search.specs.Places.{pairs_from, IsAt}
 use Rattle.enum_dictionary.proofs.BehindLemmas.{All-seek}
 use Rattle.plan_keys.proofs.NextLemmas.{unit_all}
-use Rattle.clear_keys.specs.Sights.{HasItemRecords, IsApart, IsRun}
+use Rattle.clear_keys.specs.Sights.{HasItemRecords, StandsApart, IsRun}
 use Rattle.clear_keys.specs.declared.sights.Sight.TheVariants as sights
 use Rattle.clear_keys.proofs.PairLemmas.{all_items, all_numbers}
 use Rattle.clear_keys.proofs.PassLemmas.{documents_pass}
@@ -48,8 +48,8 @@ overflow_cast-result g c =
     let count = c.run_from-run.result.pairs in
     let last = c.run_from-run.result.last in
     let ps = seek (λ key. nat_cmp key (c.args.doc + 1)) (tree_pairs m c.args.roots.documents) in
-    let run = subst (λ qs. IsRun (IsApart g.row.OFFSET_BITS c.victim.result kind m sights.Items) qs count last) c.seek-cursor.ensures.pairs
-    (subst (λ (f : g.row.F.Denot). IsRun (IsApart g.row.OFFSET_BITS c.victim.result kind (records f) sights.Items) (pairs_from (records f) c.seek-cursor.result) count last)
+    let run = subst (λ qs. IsRun (StandsApart g.row.OFFSET_BITS c.victim.result kind m sights.Items) qs count last) c.seek-cursor.ensures.pairs
+    (subst (λ (f : g.row.F.Denot). IsRun (StandsApart g.row.OFFSET_BITS c.victim.result kind (records f) sights.Items) (pairs_from (records f) c.seek-cursor.result) count last)
     c.seek-cursor.ensures.same c.run_from-run.ensures.run) in
     let one = last_has (λ (k : ℕ). k < 2 ^ 32) count ps
     (All-seek (λ p. p.0 < 2 ^ 32) (λ key. nat_cmp key (c.args.doc + 1)) (tree_pairs m c.args.roots.documents)
@@ -68,9 +68,9 @@ returns-clause-passes g c =
     let at = c.args.plan.now.place in
     let count = c.run_from-run.result.pairs in
     let last = c.run_from-run.result.last in
-    let run = subst (λ (v : ℕ). IsRun (IsApart bits v kind m sights.Items) (seek (λ key. nat_cmp key (c.args.doc + 1)) (tree_pairs m c.args.roots.documents)) count last) c.victim.ensures
-    (subst (λ qs. IsRun (IsApart bits c.victim.result kind m sights.Items) qs count last) c.seek-cursor.ensures.pairs
-    (subst (λ (f : g.row.F.Denot). IsRun (IsApart bits c.victim.result kind (records f) sights.Items) (pairs_from (records f) c.seek-cursor.result) count last)
+    let run = subst (λ (v : ℕ). IsRun (StandsApart bits v kind m sights.Items) (seek (λ key. nat_cmp key (c.args.doc + 1)) (tree_pairs m c.args.roots.documents)) count last) c.victim.ensures
+    (subst (λ qs. IsRun (StandsApart bits c.victim.result kind m sights.Items) qs count last) c.seek-cursor.ensures.pairs
+    (subst (λ (f : g.row.F.Denot). IsRun (StandsApart bits c.victim.result kind (records f) sights.Items) (pairs_from (records f) c.seek-cursor.result) count last)
     c.seek-cursor.ensures.same c.run_from-run.ensures.run)) in
     documents_pass bits c.args.plan.now.victim at m a count last (let some = c.if-run-eq0.false in omega arith) c.args.doc c.requires run
 

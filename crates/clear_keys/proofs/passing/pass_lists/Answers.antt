@@ -11,7 +11,7 @@ use Rattle.enum_dictionary.specs.Dictionaries.{behind, beside_value, IsDictionar
 use Rattle.plan_keys.proofs.NextLemmas.{all_behind}
 use Rattle.posting_store.specs.Lists.{IsPlain}
 use Rattle.clear_keys.specs.Passes.{Passes}
-use Rattle.clear_keys.specs.Sights.{IsApart, IsRun}
+use Rattle.clear_keys.specs.Sights.{StandsApart, IsRun}
 use Rattle.clear_keys.specs.declared.sights.Sight.TheVariants as sights
 use Rattle.clear_keys.proofs.PairLemmas.{all_plain}
 use Rattle.clear_keys.proofs.PassLemmas.{lists_pass}
@@ -68,8 +68,8 @@ value_at-requires g c =
     let pairs = subst (λ (f : g.row.F.Denot). pairs_from (records f) c.upper-cursor.result ≡ behind (beside_value c.args.value.now (records f)) (tree_pairs (records f) c.args.roots.dictionary))
     c.has_tree.ensures.same c.upper-cursor.ensures.pairs in
     let ps = behind (beside_value c.args.value.now m) (tree_pairs m c.args.roots.dictionary) in
-    let run = subst (λ qs. IsRun (IsApart g.row.OFFSET_BITS c.victim.result kind m sights.List) qs count last) pairs
-    (subst (λ (f : g.row.F.Denot). IsRun (IsApart g.row.OFFSET_BITS c.victim.result kind (records f) sights.List) (pairs_from (records f) c.upper-cursor.result) count last) same c.run_from-run.ensures.run) in
+    let run = subst (λ qs. IsRun (StandsApart g.row.OFFSET_BITS c.victim.result kind m sights.List) qs count last) pairs
+    (subst (λ (f : g.row.F.Denot). IsRun (StandsApart g.row.OFFSET_BITS c.victim.result kind (records f) sights.List) (pairs_from (records f) c.upper-cursor.result) count last) same c.run_from-run.ensures.run) in
     let one = last_has (λ (k : ℕ). IsValueRecord type (m k)) count ps
     (all_behind (λ p. IsValueRecord type (m p.0)) (beside_value c.args.value.now m) (tree_pairs m c.args.roots.dictionary) c.requires.index_is.dictionary_is.keys)
     (let some = c.if-run-eq0.false in omega arith) run.few in
@@ -90,9 +90,9 @@ returns-in-Some-clause-passes g c =
     let same = c.upper-cursor.ensures.same ∙ c.has_tree.ensures.same in
     let pairs = subst (λ (f : g.row.F.Denot). pairs_from (records f) c.upper-cursor.result ≡ behind (beside_value c.args.value.now (records f)) (tree_pairs (records f) c.args.roots.dictionary))
     c.has_tree.ensures.same c.upper-cursor.ensures.pairs in
-    let run = subst (λ (v : ℕ). IsRun (IsApart bits v kind m sights.List) (behind (beside_value c.args.value.now m) (tree_pairs m c.args.roots.dictionary)) count last) c.victim.ensures
-    (subst (λ qs. IsRun (IsApart bits c.victim.result kind m sights.List) qs count last) pairs
-    (subst (λ (f : g.row.F.Denot). IsRun (IsApart bits c.victim.result kind (records f) sights.List) (pairs_from (records f) c.upper-cursor.result) count last) same c.run_from-run.ensures.run)) in
+    let run = subst (λ (v : ℕ). IsRun (StandsApart bits v kind m sights.List) (behind (beside_value c.args.value.now m) (tree_pairs m c.args.roots.dictionary)) count last) c.victim.ensures
+    (subst (λ qs. IsRun (StandsApart bits c.victim.result kind m sights.List) qs count last) pairs
+    (subst (λ (f : g.row.F.Denot). IsRun (StandsApart bits c.victim.result kind (records f) sights.List) (pairs_from (records f) c.upper-cursor.result) count last) same c.run_from-run.ensures.run)) in
     let read = c.in-Some.ensures.value ∙ ap (λ (f : g.row.F.Denot). stored_value type (records f) last) (c.run_from-run.ensures.same ∙ same) in
     subst (λ v. Passes bits c.args.plan.now.victim at m a (Pair v 0) count) (sym read)
     (lists_pass bits c.args.plan.now.victim at m a count last (let some = c.if-run-eq0.false in omega arith) c.args.value.now c.args.doc c.requires (c.has_tree.ensures.even c.if-has_tree.false) run)

@@ -9,7 +9,7 @@ use Rattle.attr_types.specs.declared.kind.ValueType.{ValueType}
 use Rattle.enum_dictionary.specs.Dictionaries.{behind, beside_value, IsDictionary}
 use Rattle.plan_keys.proofs.NextLemmas.{all_behind}
 use Rattle.clear_keys.specs.Passes.{Passes}
-use Rattle.clear_keys.specs.Sights.{IsApart, IsRun}
+use Rattle.clear_keys.specs.Sights.{StandsApart, IsRun}
 use Rattle.clear_keys.specs.declared.sights.Sight.TheVariants as sights
 use Rattle.clear_keys.proofs.PassLemmas.{values_pass}
 use Rattle.clear_keys.proofs.RunLemmas.{last_has}
@@ -44,8 +44,8 @@ value_at-requires g c =
     let type = c.args.field.now.value in
     let m = records c.args.frozen.now in
     let ps = behind (beside_value c.args.value.now m) (tree_pairs m c.args.roots.dictionary) in
-    let run = subst (λ qs. IsRun (IsApart g.row.OFFSET_BITS c.victim.result c.args.field.now.kind m sights.Key) qs c.run_from-run.result.pairs c.run_from-run.result.last) c.upper-cursor.ensures.pairs
-    (subst (λ (f : g.row.F.Denot). IsRun (IsApart g.row.OFFSET_BITS c.victim.result c.args.field.now.kind (records f) sights.Key) (pairs_from (records f) c.upper-cursor.result)
+    let run = subst (λ qs. IsRun (StandsApart g.row.OFFSET_BITS c.victim.result c.args.field.now.kind m sights.Key) qs c.run_from-run.result.pairs c.run_from-run.result.last) c.upper-cursor.ensures.pairs
+    (subst (λ (f : g.row.F.Denot). IsRun (StandsApart g.row.OFFSET_BITS c.victim.result c.args.field.now.kind (records f) sights.Key) (pairs_from (records f) c.upper-cursor.result)
     c.run_from-run.result.pairs c.run_from-run.result.last) c.upper-cursor.ensures.same c.run_from-run.ensures.run) in
     let last = last_has (λ (k : ℕ). IsValueRecord type (m k)) c.run_from-run.result.pairs ps
     (all_behind (λ p. IsValueRecord type (m p.0)) (beside_value c.args.value.now m) (tree_pairs m c.args.roots.dictionary) c.requires.index_is.dictionary_is.keys)
@@ -64,9 +64,10 @@ returns-in-Some-clause-passes g c =
     let at = c.args.plan.now.place in
     let count = c.run_from-run.result.pairs in
     let last = c.run_from-run.result.last in
-    let run = subst (λ (v : ℕ). IsRun (IsApart bits v kind m sights.Key) (behind (beside_value c.args.value.now m) (tree_pairs m c.args.roots.dictionary)) count last) c.victim.ensures
-    (subst (λ qs. IsRun (IsApart bits c.victim.result kind m sights.Key) qs count last) c.upper-cursor.ensures.pairs
-    (subst (λ (f : g.row.F.Denot). IsRun (IsApart bits c.victim.result kind (records f) sights.Key) (pairs_from (records f) c.upper-cursor.result) count last) c.upper-cursor.ensures.same c.run_from-run.ensures.run)) in
+    let run = subst (λ (v : ℕ). IsRun (StandsApart bits v kind m sights.Key) (behind (beside_value c.args.value.now m) (tree_pairs m c.args.roots.dictionary)) count last) c.victim.ensures
+    (subst (λ qs. IsRun (StandsApart bits c.victim.result kind m sights.Key) qs count last) c.upper-cursor.ensures.pairs
+    (subst (λ (f : g.row.F.Denot). IsRun (StandsApart bits c.victim.result kind (records f) sights.Key)
+    (pairs_from (records f) c.upper-cursor.result) count last) c.upper-cursor.ensures.same c.run_from-run.ensures.run)) in
     let read = c.in-Some.ensures.value ∙ ap (λ (f : g.row.F.Denot). stored_value type (records f) last) (c.run_from-run.ensures.same ∙ c.upper-cursor.ensures.same) in
     subst (λ v. Passes bits c.args.plan.now.victim at m a (Value v) count) (sym read)
     (values_pass bits c.args.plan.now.victim at m a count last (let some = c.if-run-eq0.false in omega arith) c.args.value.now c.requires run)

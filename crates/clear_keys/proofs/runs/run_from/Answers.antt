@@ -1,7 +1,7 @@
 use Rattle.std.proofs.Common.{◌≡◌, ◌≢◌, ◌+◌, ℕ, suc, [], drop, refl, sym, ap, subst, ◌∙◌, arith}
 use Rattle.std.specs.List.{AllByRecursion}
 use Rattle.tree_search.specs.Places.{first_key, first_value, pairs_from, IsAt}
-use Rattle.clear_keys.specs.Sights.{IsApart, IsPairOf, IsRun}
+use Rattle.clear_keys.specs.Sights.{StandsApart, IsPairOf, IsRun}
 use Rattle.clear_keys.proofs.RunLemmas.{all_dropped, rest_dropped, run_more}
 use Rattle.clear_keys.proofs.runs.run_from.Goals as goal
 
@@ -58,24 +58,24 @@ loop-pairs-preserved g c =
     let next : suc i ≡ i + 1 = omega arith in
     let some : drop i ps ≢ [] =
     subst (λ qs. qs ≢ []) before.rest (subst (λ (f : g.row.F.Denot). pairs_from (records f) cursor ≢ []) before.same (c.next_is_apart.ensures.pairs told)) in
-    let here : IsApart bits c.args.buffer c.args.kind m c.args.sight (first_key (drop i ps), first_value (drop i ps)) =
-    subst (λ qs. IsApart bits c.args.buffer c.args.kind m c.args.sight (first_key qs, first_value qs)) before.rest
-    (subst (λ (f : g.row.F.Denot). IsApart bits c.args.buffer c.args.kind (records f) c.args.sight (first_key (pairs_from (records f) cursor), first_value (pairs_from (records f) cursor))) before.same
+    let here : StandsApart bits c.args.buffer c.args.kind m c.args.sight (first_key (drop i ps), first_value (drop i ps)) =
+    subst (λ qs. StandsApart bits c.args.buffer c.args.kind m c.args.sight (first_key qs, first_value qs)) before.rest
+    (subst (λ (f : g.row.F.Denot). StandsApart bits c.args.buffer c.args.kind (records f) c.args.sight (first_key (pairs_from (records f) cursor), first_value (pairs_from (records f) cursor))) before.same
     (c.next_is_apart.ensures.apart told)) in
     let rest = subst (λ (f : g.row.F.Denot). pairs_from (records f) c.next.new.self ≡ drop 1 (pairs_from (records f) cursor)) same c.next.ensures.pairs in
     record {
       same = c.next.ensures.same ∙ same;
       at = subst (λ (f : g.row.F.Denot). IsAt (records f) c.next.new.self) same c.next.ensures.at;
       rest = rest ∙ ap (drop 1) before.rest ∙ rest_dropped i ps ∙ ap (λ (n : ℕ). drop n ps) next;
-      run = subst (λ (n : ℕ). IsRun (IsApart bits c.args.buffer c.args.kind m c.args.sight) ps n c.key-last.result) next
-          (run_more (IsApart bits c.args.buffer c.args.kind m c.args.sight) ps i c.loop-pairs.last c.key-last.result before.run some here (c.key-last.ensures m before.at ∙ ap first_key before.rest));
+      run = subst (λ (n : ℕ). IsRun (StandsApart bits c.args.buffer c.args.kind m c.args.sight) ps n c.key-last.result) next
+          (run_more (StandsApart bits c.args.buffer c.args.kind m c.args.sight) ps i c.loop-pairs.last c.key-last.result before.run some here (c.key-last.ensures m before.at ∙ ap first_key before.rest));
     }
 
 pub returns-clause-run : goal.returns-clause-run
 returns-clause-run g c =
     let m = g.F.Frozen.records c.args.frozen.now in
     let whole : c.loop-pairs.pairs ≡ c.args.most = (let end = c.loop-pairs.auto.pairs-end in let over = c.loop-pairs-test.false in omega arith) in
-    subst (λ (n : ℕ). IsRun (IsApart g.row.OFFSET_BITS c.args.buffer c.args.kind m c.args.sight) (pairs_from m c.args.cursor.now) n c.loop-pairs.last) whole c.loop-pairs.invariant.run
+    subst (λ (n : ℕ). IsRun (StandsApart g.row.OFFSET_BITS c.args.buffer c.args.kind m c.args.sight) (pairs_from m c.args.cursor.now) n c.loop-pairs.last) whole c.loop-pairs.invariant.run
 
 pub returns-clause-few : goal.returns-clause-few
 returns-clause-few g c = omega arith

@@ -1,6 +1,6 @@
 use Rattle.std.proofs.Common.{◌≡◌, drop}
 use Rattle.tree_search.specs.Places.{pairs_from, IsAt}
-use Rattle.clear_keys.specs.Sights.{IsApart, IsRun}
+use Rattle.clear_keys.specs.Sights.{StandsApart, IsRun}
 use Rattle.clear_keys.proofs.runs.run_from.Given as goal
 
 -- a run so far, and the pairs behind it
@@ -11,5 +11,5 @@ invariant-loop-pairs g l =
       same : l.frozen ≡ l.fn.frozen;
       at : IsAt m l.cursor;
       rest : pairs_from m l.cursor ≡ drop l.pairs (pairs_from m l.fn.cursor);
-      run : IsRun (IsApart g.row.OFFSET_BITS l.buffer l.kind m l.sight) (pairs_from m l.fn.cursor) l.pairs l.last;
+      run : IsRun (StandsApart g.row.OFFSET_BITS l.buffer l.kind m l.sight) (pairs_from m l.fn.cursor) l.pairs l.last;
     }

@@ -2,7 +2,7 @@ use Rattle.std.proofs.Common.{refl, sym, subst, arith}
 use Rattle.attr_images.specs.Values.{IsValueRecord}
 use Rattle.posting_store.specs.Lists.{IsPlain}
 use Rattle.unique_store.proofs.RecordLemmas.{value_there}
-use Rattle.clear_keys.specs.Sights.{HasItemRecords, IsApart, IsPairOf}
+use Rattle.clear_keys.specs.Sights.{HasItemRecords, StandsApart, IsPairOf}
 use Rattle.clear_keys.specs.declared.sights.Sight.{Sight}
 use Rattle.clear_keys.proofs.sights.pair_is_apart.Goals as goal
 
@@ -35,14 +35,14 @@ list_is_apart-requires g c =
 
 pub returns-in-Key-clause-apart : goal.returns-in-Key-clause-apart
 returns-in-Key-clause-apart g c told =
-    subst (λ (s : Sight). IsApart g.row.OFFSET_BITS c.args.buffer c.args.kind (g.F.Frozen.records c.args.frozen.now) s (c.args.key, c.args.word)) (sym c.in-Key.is) (c.is_apart.ensures told)
+    subst (λ (s : Sight). StandsApart g.row.OFFSET_BITS c.args.buffer c.args.kind (g.F.Frozen.records c.args.frozen.now) s (c.args.key, c.args.word)) (sym c.in-Key.is) (c.is_apart.ensures told)
 
 pub returns-in-Key-clause-same : goal.returns-in-Key-clause-same
 returns-in-Key-clause-same g c = refl
 
 pub returns-in-Items-clause-apart : goal.returns-in-Items-clause-apart
 returns-in-Items-clause-apart g c told =
-    subst (λ (s : Sight). IsApart g.row.OFFSET_BITS c.args.buffer c.args.kind (g.F.Frozen.records c.args.frozen.now) s (c.args.key, c.args.word)) (sym c.in-Items.is)
+    subst (λ (s : Sight). StandsApart g.row.OFFSET_BITS c.args.buffer c.args.kind (g.F.Frozen.records c.args.frozen.now) s (c.args.key, c.args.word)) (sym c.in-Items.is)
     (c.items_are_apart.ensures.apart told)
 
 pub returns-in-Items-clause-same : goal.returns-in-Items-clause-same
@@ -50,7 +50,7 @@ returns-in-Items-clause-same g c = c.items_are_apart.ensures.same
 
 pub returns-in-List-clause-apart : goal.returns-in-List-clause-apart
 returns-in-List-clause-apart g c told =
-    subst (λ (s : Sight). IsApart g.row.OFFSET_BITS c.args.buffer c.args.kind (g.F.Frozen.records c.args.frozen.now) s (c.args.key, c.args.word)) (sym c.in-List.is) (c.list_is_apart.ensures told)
+    subst (λ (s : Sight). StandsApart g.row.OFFSET_BITS c.args.buffer c.args.kind (g.F.Frozen.records c.args.frozen.now) s (c.args.key, c.args.word)) (sym c.in-List.is) (c.list_is_apart.ensures told)
 
 pub returns-in-List-clause-same : goal.returns-in-List-clause-same
 returns-in-List-clause-same g c = refl

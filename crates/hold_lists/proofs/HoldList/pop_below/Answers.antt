@@ -5,7 +5,7 @@ use Rattle.std.proofs.lemmas.List.Edits.{length-remove}
 use Rattle.hold_lists.proofs.HeldLemmas.{find-none, place-inside, taken}
 use Rattle.hold_lists.proofs.RunLemmas.{at-all, shortened-count, shortened-filled, shortened-rising}
 use Rattle.hold_lists.specs.Held.{HeldEntry, HeldList, is_below, without_first}
-use Rattle.hold_lists.specs.Runs.{run_at, held_of, tagged_count, under, shortened, IsRunBelow, IsRising}
+use Rattle.hold_lists.specs.Runs.{nth_run, held_of, tagged_count, under, shortened, IsRunBelow, IsRising}
 use Rattle.hold_lists.specs.declared.Run.{Run}
 use Rattle.hold_lists.specs.declared.Place.{Place}
 use Rattle.hold_lists.proofs.HoldList.pop_below.Given.{Over}
@@ -22,10 +22,10 @@ returns-in-None-clause-first g c =
 record Met (runs : List Run) (entries : List ℕ) (now : HeldList) (oldest : ℕ) (place : Place) (answer : Option ℕ) (next : List ℕ) : Type 0 where
   pub is : held_of runs entries ≡ now.held
   pub inside : place.before < length entries
-  pub some : 0 < (run_at runs place.run).count
+  pub some : 0 < (nth_run runs place.run).count
   pub result : answer ≡ Some (get_or entries place.before 0)
   pub items : next ≡ remove entries place.before
-  pub taken : (find (is_below oldest) (held_of runs entries) ≡ Some (under (run_at runs place.run) (get_or entries place.before 0)))
+  pub taken : (find (is_below oldest) (held_of runs entries) ≡ Some (under (nth_run runs place.run) (get_or entries place.before 0)))
       × (without_first (is_below oldest) (held_of runs entries) ≡ held_of (shortened runs place.run) (remove entries place.before))
 
 on_some : {A P : Type 0} (option : Option A) (x : A) → option ≡ Some x → OnSome option P → P

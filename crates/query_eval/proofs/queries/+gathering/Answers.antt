@@ -3,7 +3,7 @@ use Rattle.std.proofs.lemmas.Result.{IfOk-weaker}
 use Rattle.std.specs.Prelude.{slice_get}
 use Rattle.attr_types.specs.Query.{tree_of, query_trees}
 use Rattle.attr_types.specs.declared.query.Query.{Query}
-use Rattle.doc_set.specs.Gathers.{is_in}
+use Rattle.doc_set.specs.Gathers.{is_gathered}
 use Rattle.doc_set.specs.Sets.{has, Holds}
 use Rattle.query_index.specs.Found.{found, found_all, is_listed}
 use Rattle.query_eval.specs.Indexes.{AreMatched, IsMatched, indexes_in}
@@ -40,7 +40,7 @@ gather_common-returns-in_ok-common-in-Some-clause-docs g t c =
     (c.matching.ensures.same ∙ c.shortest_of-first.ensures.same) c.in_ok-common-in-Some.ensures.docs in
     IfOk-weaker c.with_docs.result _ _
     (λ all is. λ doc. is doc
-    ∙ ap (λ (b : Bool). is_in c.args.gathered doc || b)
+    ∙ ap (λ (b : Bool). is_gathered c.args.gathered doc || b)
     (ap (λ (xs : List ℕ). has xs doc) c.as_slice-in-Some.ensures ∙ common_of indexes queries first query common docs at holds are doc))
     c.with_docs.ensures
 
@@ -56,7 +56,7 @@ gather_common-returns-in-None-clause-docs g t c =
     let same = ap length c.as_slice-2.ensures.value in
     IfOk-weaker c.gather_listed.result _ _
     (λ all is. λ doc. is doc
-    ∙ ap (λ (b : Bool). is_in c.args.gathered doc || b)
+    ∙ ap (λ (b : Bool). is_gathered c.args.gathered doc || b)
     (ap (λ (f : g.row.F.Denot). is_listed (indexes_in bits (g.F.Frozen.records f) ds) doc) c.shortest_of-first.ensures.same
     ∙ none_found indexes doc queries first within (omega (arith, same, past))))
     c.gather_listed.ensures.docs

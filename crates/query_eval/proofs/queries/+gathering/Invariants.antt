@@ -1,7 +1,7 @@
 use Rattle.std.proofs.Common.{◌≡◌, ◌||◌, ℕ, drop}
 use Rattle.std.specs.Prelude.{slice_get}
 use Rattle.attr_types.specs.Query.{query_trees}
-use Rattle.doc_set.specs.Gathers.{is_in}
+use Rattle.doc_set.specs.Gathers.{is_gathered}
 use Rattle.query_index.specs.Found.{found_some}
 use Rattle.query_eval.proofs.queries.+gathering.Given as goal
 use Rattle.query_eval.proofs.QueryLemmas.{IsCommon}
@@ -13,8 +13,8 @@ invariant-gather_some-loop-query g l =
     let m = g.F.Frozen.records l.fn.frozen in
     record {
       same : l.frozen ≡ l.fn.frozen;
-      whole : (doc : ℕ) → (is_in l.all doc || found_some (query_trees (drop l.query-index l.queries.items)) (indexes_in g.row.OFFSET_BITS m l.dictionaries) doc)
-          ≡ (is_in l.fn.gathered doc || found_some (query_trees l.queries.items) (indexes_in g.row.OFFSET_BITS m l.dictionaries) doc);
+      whole : (doc : ℕ) → (is_gathered l.all doc || found_some (query_trees (drop l.query-index l.queries.items)) (indexes_in g.row.OFFSET_BITS m l.dictionaries) doc)
+          ≡ (is_gathered l.fn.gathered doc || found_some (query_trees l.queries.items) (indexes_in g.row.OFFSET_BITS m l.dictionaries) doc);
     }
 
 abbrev pub invariant-keep_common-loop-i : goal.invariant-keep_common-loop-i

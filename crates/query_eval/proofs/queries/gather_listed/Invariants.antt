@@ -1,5 +1,5 @@
 use Rattle.std.proofs.Common.{◌≡◌, ◌||◌, ℕ, drop}
-use Rattle.doc_set.specs.Gathers.{is_in}
+use Rattle.doc_set.specs.Gathers.{is_gathered}
 use Rattle.query_index.specs.Found.{is_listed}
 use Rattle.query_eval.specs.Indexes.{AreIndexed, indexes_in}
 use Rattle.query_eval.proofs.queries.gather_listed.Given as goal
@@ -11,6 +11,6 @@ invariant-loop-dictionary g l =
     record {
       same : l.frozen ≡ l.fn.frozen;
       left : AreIndexed g.row.OFFSET_BITS m (drop l.dictionary-index l.dictionaries);
-      whole : (doc : ℕ) → (is_in l.all doc || is_listed (indexes_in g.row.OFFSET_BITS m (drop l.dictionary-index l.dictionaries)) doc)
-          ≡ (is_in l.fn.gathered doc || is_listed (indexes_in g.row.OFFSET_BITS m l.dictionaries) doc);
+      whole : (doc : ℕ) → (is_gathered l.all doc || is_listed (indexes_in g.row.OFFSET_BITS m (drop l.dictionary-index l.dictionaries)) doc)
+          ≡ (is_gathered l.fn.gathered doc || is_listed (indexes_in g.row.OFFSET_BITS m l.dictionaries) doc);
     }

@@ -4,7 +4,7 @@ use Rattle.std.specs.Map.{keys_of}
 use Rattle.attr_images.specs.Postings.{index_of}
 use Rattle.attr_index.specs.Index.{list_of}
 use Rattle.attr_types.specs.declared.query.Leaf.{Leaf}
-use Rattle.doc_set.specs.Gathers.{is_in}
+use Rattle.doc_set.specs.Gathers.{is_gathered}
 use Rattle.doc_set.specs.Sets.{has}
 use Rattle.query_index.specs.Leaves.{listed, meeting}
 use Rattle.query_eval.proofs.ValueLemmas.{value_listed}
@@ -19,5 +19,5 @@ returns-in-Is-clause-docs g c =
     let same : keys_of (list_of value (index_of type m root)) ≡ listed (meeting c.args.leaf.now (index_of type m root)) =
     sym (value_listed type m root value c.requires) ∙ ap (λ (leaf : Leaf). listed (meeting leaf (index_of type m root))) (sym c.in-Is.is) in
     IfOk-weaker c.with_value.result _ _
-    (λ all is. λ doc. is doc ∙ ap (λ (ks : List ℕ). is_in c.args.gathered doc || has ks doc) same)
+    (λ all is. λ doc. is doc ∙ ap (λ (ks : List ℕ). is_gathered c.args.gathered doc || has ks doc) same)
     c.with_value.ensures.docs

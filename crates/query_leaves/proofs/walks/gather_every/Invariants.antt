@@ -1,7 +1,7 @@
 use Rattle.std.proofs.Common.{◌≡◌, ◌||◌, ℕ, length}
 use Rattle.tree_images.specs.Trees.{tree_pairs}
 use Rattle.tree_search.specs.Places.{IsAt, pairs_from}
-use Rattle.doc_set.specs.Gathers.{is_in}
+use Rattle.doc_set.specs.Gathers.{is_gathered}
 use Rattle.doc_set.specs.Sets.{has}
 use Rattle.query_index.specs.Leaves.{listed}
 use Rattle.query_leaves.specs.Parts.{AreIndexPairs, index_of_pairs}
@@ -15,8 +15,8 @@ invariant-loop-alloc g l =
       same : l.frozen ≡ l.fn.frozen;
       at : IsAt m l.cursor;
       pairs : AreIndexPairs l.fn.value_type m (pairs_from m l.cursor);
-      whole : (doc : ℕ) → (is_in l.all doc || has (listed (index_of_pairs l.fn.value_type m (pairs_from m l.cursor))) doc)
-          ≡ (is_in l.fn.gathered doc || has (listed (index_of_pairs l.fn.value_type m (tree_pairs m l.fn.root))) doc);
+      whole : (doc : ℕ) → (is_gathered l.all doc || has (listed (index_of_pairs l.fn.value_type m (pairs_from m l.cursor))) doc)
+          ≡ (is_gathered l.fn.gathered doc || has (listed (index_of_pairs l.fn.value_type m (tree_pairs m l.fn.root))) doc);
     }
 
 abbrev pub decreases-loop-alloc : goal.decreases-loop-alloc

@@ -3,7 +3,7 @@ use Rattle.std.specs.Map.{keys_of}
 use Rattle.tree_search.specs.Places.{IsAt, first_key, pairs_from}
 use Rattle.attr_images.specs.Postings.{list_form, postings_at}
 use Rattle.attr_images.specs.Values.{stored_value}
-use Rattle.doc_set.specs.Gathers.{is_in}
+use Rattle.doc_set.specs.Gathers.{is_gathered}
 use Rattle.doc_set.specs.Sets.{has}
 use Rattle.query_index.specs.Leaves.{listed, stands_beyond, run}
 use Rattle.query_leaves.specs.Parts.{IsIndexPair, AreIndexPairs, index_of_pairs}
@@ -24,15 +24,15 @@ loop-alloc-preserved g c =
     subst (λ (f : g.row.F.Denot). stands_beyond leaf (stored_value type (g.F.Frozen.records f) (first_key ps)) ≡ false) before.same
     (ap (λ (k : ℕ). stands_beyond leaf (stored_value type (g.F.Frozen.records c.loop-alloc.frozen) k)) (sym (c.key.ensures m before.at))
     ∙ sym c.in_ok-is_beyond_at.ensures.stands ∙ c.if-branch.false) in
-    let more : (doc : ℕ) → is_in c.in_ok-all.all doc ≡ (is_in c.loop-alloc.all doc || has (keys_of (postings_at m (list_form c.value.result))) doc) =
-    subst (λ (f : g.row.F.Denot). (doc : ℕ) → is_in c.in_ok-all.all doc
-    ≡ (is_in c.loop-alloc.all doc || has (keys_of (postings_at (g.F.Frozen.records f) (list_form c.value.result))) doc)) same_value c.in_ok-all.ensures.docs in
+    let more : (doc : ℕ) → is_gathered c.in_ok-all.all doc ≡ (is_gathered c.loop-alloc.all doc || has (keys_of (postings_at m (list_form c.value.result))) doc) =
+    subst (λ (f : g.row.F.Denot). (doc : ℕ) → is_gathered c.in_ok-all.all doc
+    ≡ (is_gathered c.loop-alloc.all doc || has (keys_of (postings_at (g.F.Frozen.records f) (list_form c.value.result))) doc)) same_value c.in_ok-all.ensures.docs in
     let rest = subst (λ (f : g.row.F.Denot). pairs_from (g.F.Frozen.records f) c.next.new.self ≡ drop 1 (pairs_from (g.F.Frozen.records f) c.loop-alloc.cursor)) same_list c.next.ensures.pairs in
     record {
       same = c.next.ensures.same ∙ same_list;
       at = subst (λ (f : g.row.F.Denot). IsAt (g.F.Frozen.records f) c.next.new.self) same_list c.next.ensures.at;
       pairs = subst (AreIndexPairs type m) (sym rest) (all_drop (IsIndexPair type m) ps before.pairs);
-      whole = λ doc. ap (λ qs. is_in c.in_ok-all.all doc || has (listed (run leaf (index_of_pairs type m qs))) doc) rest
-          ∙ run_goes type m ps some c.value.result (c.value.ensures m before.at) (λ d. is_in c.loop-alloc.all d) (λ d. is_in c.in_ok-all.all d)
-          (λ d. is_in c.args.gathered d || has (listed (run leaf (index_of_pairs type m (pairs_from m c.args.cursor.now)))) d) more leaf off before.whole doc;
+      whole = λ doc. ap (λ qs. is_gathered c.in_ok-all.all doc || has (listed (run leaf (index_of_pairs type m qs))) doc) rest
+          ∙ run_goes type m ps some c.value.result (c.value.ensures m before.at) (λ d. is_gathered c.loop-alloc.all d) (λ d. is_gathered c.in_ok-all.all d)
+          (λ d. is_gathered c.args.gathered d || has (listed (run leaf (index_of_pairs type m (pairs_from m c.args.cursor.now)))) d) more leaf off before.whole doc;
     }

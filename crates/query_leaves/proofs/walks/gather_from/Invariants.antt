@@ -1,6 +1,6 @@
 use Rattle.std.proofs.Common.{◌≡◌, ◌||◌, ℕ, length}
 use Rattle.tree_search.specs.Places.{IsAt, pairs_from}
-use Rattle.doc_set.specs.Gathers.{is_in}
+use Rattle.doc_set.specs.Gathers.{is_gathered}
 use Rattle.doc_set.specs.Sets.{has}
 use Rattle.query_index.specs.Leaves.{listed, run}
 use Rattle.query_leaves.specs.Parts.{AreIndexPairs, index_of_pairs}
@@ -14,8 +14,8 @@ invariant-loop-alloc g l =
       same : l.frozen ≡ l.fn.frozen;
       at : IsAt m l.cursor;
       pairs : AreIndexPairs l.value_type m (pairs_from m l.cursor);
-      whole : (doc : ℕ) → (is_in l.all doc || has (listed (run l.leaf (index_of_pairs l.value_type m (pairs_from m l.cursor)))) doc)
-          ≡ (is_in l.fn.gathered doc || has (listed (run l.leaf (index_of_pairs l.value_type m (pairs_from m l.fn.cursor)))) doc);
+      whole : (doc : ℕ) → (is_gathered l.all doc || has (listed (run l.leaf (index_of_pairs l.value_type m (pairs_from m l.cursor)))) doc)
+          ≡ (is_gathered l.fn.gathered doc || has (listed (run l.leaf (index_of_pairs l.value_type m (pairs_from m l.fn.cursor)))) doc);
     }
 
 abbrev pub decreases-loop-alloc : goal.decreases-loop-alloc

@@ -4,7 +4,7 @@ use Rattle.std.specs.Map.{keys_of}
 use Rattle.attr_images.specs.Postings.{index_of}
 use Rattle.attr_index.specs.Index.{list_of}
 use Rattle.attr_scores.specs.declared.part.Part.{Part}
-use Rattle.doc_set.specs.Gathers.{is_in}
+use Rattle.doc_set.specs.Gathers.{is_gathered}
 use Rattle.doc_set.specs.Sets.{has}
 use Rattle.query_scores.specs.Weights.{is_found}
 use Rattle.query_scores.proofs.parts.gather_parts.Goals as goal
@@ -24,10 +24,10 @@ loop-part-preserved g c =
     let below : k < length parts = omega (arith, c.loop-part-test.true) in
     record {
       same = c.with_value.ensures.same ∙ before.same;
-      whole = λ doc. joined (is_in c.loop-part.all doc) (has (keys_of (list_of part.value index)) doc) (is_found (drop k parts) index doc)
-          (is_found (drop (k + 1) parts) index doc) (is_in c.in_ok-all.all doc) (is_found parts index doc)
+      whole = λ doc. joined (is_gathered c.loop-part.all doc) (has (keys_of (list_of part.value index)) doc) (is_found (drop k parts) index doc)
+          (is_found (drop (k + 1) parts) index doc) (is_gathered c.in_ok-all.all doc) (is_found parts index doc)
           (c.in_ok-all.ensures.docs doc
-          ∙ ap (λ (f : g.row.F.Denot). is_in c.loop-part.all doc || has (keys_of (list_of part.value (index_of c.args.value_type (g.F.Frozen.records f) c.args.root))) doc) before.same)
+          ∙ ap (λ (f : g.row.F.Denot). is_gathered c.loop-part.all doc || has (keys_of (list_of part.value (index_of c.args.value_type (g.F.Frozen.records f) c.args.root))) doc) before.same)
           (at_drop_more (λ (ps : List Part). is_found ps index doc) parts k part below
           ∙ ap (λ (p : Part). has (keys_of (list_of p.value index)) doc || is_found (drop (k + 1) parts) index doc) (sym c.part-item.is))
           (before.whole doc);

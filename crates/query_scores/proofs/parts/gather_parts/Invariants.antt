@@ -1,6 +1,6 @@
 use Rattle.std.proofs.Common.{◌≡◌, ◌||◌, ℕ, drop}
 use Rattle.attr_images.specs.Postings.{index_of}
-use Rattle.doc_set.specs.Gathers.{is_in}
+use Rattle.doc_set.specs.Gathers.{is_gathered}
 use Rattle.query_scores.specs.Weights.{is_found}
 use Rattle.query_scores.proofs.parts.gather_parts.Given as goal
 
@@ -10,6 +10,6 @@ invariant-loop-part g l =
     let m = g.F.Frozen.records l.fn.frozen in
     record {
       same : l.frozen ≡ l.fn.frozen;
-      whole : (doc : ℕ) → (is_in l.all doc || is_found (drop l.part-index l.parts) (index_of l.value_type m l.root) doc)
+      whole : (doc : ℕ) → (is_gathered l.all doc || is_found (drop l.part-index l.parts) (index_of l.value_type m l.root) doc)
           ≡ is_found l.parts (index_of l.value_type m l.root) doc;
     }

@@ -5,7 +5,7 @@ use Rattle.attr_index.specs.Changes.{HasItems}
 use Rattle.attr_scores.specs.Scores.{score_of}
 use Rattle.attr_scores.specs.declared.score.Score.{Score}
 use Rattle.doc_set.proofs.DocLemmas.{same_ascending}
-use Rattle.doc_set.specs.Gathers.{is_in}
+use Rattle.doc_set.specs.Gathers.{is_gathered}
 use Rattle.query_scores.specs.Weights.{is_found}
 use Rattle.query_scores.proofs.parts.scored.Goals as goal
 

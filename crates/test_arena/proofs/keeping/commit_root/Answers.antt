@@ -1,6 +1,6 @@
 use Rattle.std.proofs.Common.{rules, ◌≡◌, ℕ, sym, subst, arith}
 use Rattle.image_base.specs.Images.{image_of, words_at}
-use Rattle.node_turns.specs.OneNode.{node_reaches, IsNode}
+use Rattle.node_turns.specs.OneNode.{node_reaches, IsNodeRecord}
 use Rattle.store_api.specs.Calls.{IsWhole, StoresCommit}
 use Rattle.test_arena.proofs.KeepLemmas.{whole-root, commit-keeps}
 use Rattle.test_arena.proofs.keeping.commit_root.Goals as goal
@@ -20,7 +20,7 @@ commit-stored-requires g c =
       (
         c.requires.unit,
         (
-          subst (IsNode shape m) (sym c.from_raw.ensures) c.requires.node,
+          subst (IsNodeRecord shape m) (sym c.from_raw.ensures) c.requires.node,
           (
             search rules,
             subst (λ (r : ℕ). IsWhole 22 (g.S.Store.ledger s) (node_reaches shape m r)) (sym c.from_raw.ensures)

@@ -2,7 +2,7 @@ use Rattle.std.proofs.Common.{◌≡◌, ◌≢◌, ℕ, ◌++◌, List, [], ◌
 use Rattle.attr_images.specs.Values.{stored_value, IsValueRecord}
 use Rattle.tree_search.specs.Places.{IsAt, pairs_from}
 use Rattle.posting_store.specs.Lists.{list_at, IsList}
-use Rattle.value_lists.specs.Holds.{seen}
+use Rattle.value_lists.specs.Holds.{as_listed}
 use Rattle.value_lists.specs.declared.reading.ValueList.{ValueList}
 use Rattle.value_lists.proofs.ListLemmas.{first_pair, later_pairs, listed, one_listed, ArePairs}
 use Rattle.value_lists.proofs.reading.all_lists.Goals as goal
@@ -59,8 +59,8 @@ loop-alloc-preserved g c =
       same = c.next.ensures.same ∙ same;
       at = subst (λ (f : g.row.F.Denot). IsAt (records f) next) same c.next.ensures.at;
       pairs = subst (ArePairs type m) (sym rest) (later_pairs type m ps before.pairs);
-      done = ap (λ (xs : List ValueList). map seen xs ++ listed type m (pairs_from m next)) c.in_ok-push.ensures.items
-          ∙ ap (λ (qs : List (ℕ × ℕ)). map seen (c.loop-alloc.lists.items ++ list ∷ []) ++ listed type m qs) rest
+      done = ap (λ (xs : List ValueList). map as_listed xs ++ listed type m (pairs_from m next)) c.in_ok-push.ensures.items
+          ∙ ap (λ (qs : List (ℕ × ℕ)). map as_listed (c.loop-alloc.lists.items ++ list ∷ []) ++ listed type m qs) rest
           ∙ one_listed type m c.loop-alloc.lists.items ps key word list some (c.key-key.ensures m before.at) (c.value-word.ensures m before.at) pair.pair_is.some value documents
           ∙ before.done;
     }

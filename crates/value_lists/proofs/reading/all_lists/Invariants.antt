@@ -1,7 +1,7 @@
 use Rattle.std.proofs.Common.{◌≡◌, ◌++◌, map, length}
 use Rattle.tree_search.specs.Places.{IsAt, pairs_from}
 use Rattle.attr_images.specs.Postings.{index_of}
-use Rattle.value_lists.specs.Holds.{seen}
+use Rattle.value_lists.specs.Holds.{as_listed}
 use Rattle.value_lists.proofs.ListLemmas.{listed, ArePairs}
 use Rattle.value_lists.proofs.reading.all_lists.Given as goal
 
@@ -13,7 +13,7 @@ invariant-loop-alloc g l =
       same : l.frozen ≡ l.fn.frozen;
       at : IsAt m l.cursor;
       pairs : ArePairs l.fn.value_type m (pairs_from m l.cursor);
-      done : map seen l.lists.items ++ listed l.fn.value_type m (pairs_from m l.cursor) ≡ index_of l.fn.value_type m l.fn.root;
+      done : map as_listed l.lists.items ++ listed l.fn.value_type m (pairs_from m l.cursor) ≡ index_of l.fn.value_type m l.fn.root;
     }
 
 abbrev pub decreases-loop-alloc : goal.decreases-loop-alloc

@@ -8,7 +8,7 @@ use Rattle.store_api.specs.Ledgers.{one_more}
 use Rattle.buffer_shelf.specs.States.{ShelfView, empty_shelf, spare_of, can_make, has_touched, is_free_state, IsOpen, with_made}
 use Rattle.buffer_shelf.specs.Stacks.{IsStack}
 use Rattle.buffer_shelf.proofs.StackSteps.{stack-enter}
-use Rattle.entry_shelves.specs.Shelves.{ShelvesView, shelf_at, row_of, made_at, filled_at, spare_of_width}
+use Rattle.entry_shelves.specs.Shelves.{ShelvesView, shelf_at, row_of, made_in, filled_at, spare_of_width}
 use Rattle.entry_shelves.specs.Kept.{StackView, stack_at}
 use Rattle.entry_shelves.proofs.Steps.{none-spare, some-spare, of-width, something-spare, first-free}
 use Rattle.entry_shelves.proofs.Making.{made-touched}
@@ -114,7 +114,7 @@ returns-clause-takes c =
     let can : IsOpen (shelf_at xs b) x = subst (λ (t : ShelfView). IsOpen t x) shelf c.in-Some.ensures.open in
     let new : c.take.new.self ≡ with_made (shelf_at xs b) x = c.in-Some.ensures.made ∙ ap (λ (t : ShelfView). with_made t x) shelf in
     let again = again-is x c.taken-next.result (length (shelf_at xs b).states) (c.taken-next.ensures.taken ∙ ap (λ (t : ShelfView). length t.states) shelf) can.within in
-    let counted : c.saturating_add.result ≡ one_more (made_at s.made.items w) =
+    let counted : c.saturating_add.result ≡ one_more (made_in s.made.items w) =
     c.saturating_add.ensures ∙ ap one_more (get_or_read s.made.items c.place_of-row.result _ (omega (arith, c.place_of-row.ensures.below, k.made_rows)) c.index-2.ensures 0
     ∙ ap (λ p. get_or s.made.items p 0) c.place_of-row.ensures.place) in
     let v : ShelvesView = record { words = s.words; shelves = xs; made = s.made.items; filled = s.filled.items } in
@@ -133,5 +133,5 @@ returns-clause-takes c =
           ap (λ (n : ShelfView). with_taken v b n c.place_of-row.result c.saturating_add.result) new
           ∙ ap (λ p. with_taken v b (with_made (shelf_at xs b) x) p c.saturating_add.result) c.place_of-row.ensures.place
           ∙ ap (λ m. with_taken v b (with_made (shelf_at xs b) x) (row_of w) m) counted
-          ∙ ap (λ (v : ShelvesView). with_taken v b (with_made (shelf_at v.shelves b) x) (row_of w) (one_more (made_at v.made w))) c.self.view_is;
+          ∙ ap (λ (v : ShelvesView). with_taken v b (with_made (shelf_at v.shelves b) x) (row_of w) (one_more (made_in v.made w))) c.self.view_is;
     }

@@ -1,6 +1,6 @@
 use Rattle.std.proofs.Common.{subst, sym, ap, ◌∙◌, arith, refl}
 use Rattle.mem_work.specs.Cells.{width_in, buffer_by}
-use Rattle.mem_work.specs.Marks.{mark_at, marked, IsMark}
+use Rattle.mem_work.specs.Marks.{mark_at, marked, IsMarkOfWidth}
 use Rattle.mem_work.proofs.Marked.{mark-freed, marked-freed, freed-at}
 use Rattle.mem_work.proofs.memory.MemWorkWork.reclaim.Goals as goal
 
@@ -9,7 +9,7 @@ invariant_of-self-clause-marks g c =
     let s = c.args.self.now in
     let e = c.free_below.ensures in
     rw (e.marks, e.table, e.words)
-    (λ b. subst (IsMark s.generation s.first s.last (width_in s.cells.table.items s.cells.words b)) (sym (freed-at s.generation s.cells.marks.items b))
+    (λ b. subst (IsMarkOfWidth s.generation s.first s.last (width_in s.cells.table.items s.cells.words b)) (sym (freed-at s.generation s.cells.marks.items b))
     (mark-freed s.generation s.first s.last _ _ (s.marks b)))
 
 pub returns-clause-holds : goal.returns-clause-holds
