@@ -92,22 +92,40 @@ fn reads(
     Ok(table.len() == count)
 }
 
-#[test]
-fn images_of_one_document_read_as_their_tables(rt: HostRuntime) -> Result<(), AllocError> {
-    let alloc = rt.alloc();
-    let (long, text) = (ValueType::Long, ValueType::Text);
-    let (of_value, of_none) = (run(7, 1, 1024), run(7, 1, 0));
-    let two_values = node(2, 2, &[2048, 1024], &[8192, 8192]);
-    let once: Row = (2048, &[1, 30064771073]);
-    let five: Row = (1024, &[8, 5]);
-    let records: [Row; 3] = [(1026, &of_value), five, once];
-    assert!(rt; reads(alloc, Kind::Single, long, &records, (7, 1), 5, &[""], 1)?);
-    let records: [Row; 2] = [(1026, &of_value), once];
-    assert!(rt; reads(alloc, Kind::Single, text, &records, (7, 1), 0, &["te"], 1)?);
+/// Items of the values 5 and `te` that stand once, in a list of one document.
+const FIVE: Row<'static> = (1024, &[8, 5]);
+
+const ONCE: Row<'static> = (2048, &[1, 30064771073]);
+
+fn is_single_long(alloc: Global) -> Result<bool, AllocError> {
+    let of_value = run(7, 1, 1024);
+    let records: [Row; 3] = [(1026, &of_value), FIVE, ONCE];
+    let (kind, value) = (Kind::Single, ValueType::Long);
+    reads(alloc, kind, value, &records, (7, 1), 5, &[""], 1)
+}
+
+fn is_single_text(alloc: Global) -> Result<bool, AllocError> {
+    let of_value = run(7, 1, 1024);
+    let records: [Row; 2] = [(1026, &of_value), ONCE];
+    let (kind, value) = (Kind::Single, ValueType::Text);
+    reads(alloc, kind, value, &records, (7, 1), 0, &["te"], 1)
+}
+
+fn is_without_items(alloc: Global) -> Result<bool, AllocError> {
+    let of_none = run(7, 1, 0);
     let records: [Row; 2] = [(1026, &of_none), (1027, &[1, 1026, 0, 0])];
-    assert!(rt; reads(alloc, Kind::Single, text, &records, (7, 1), 0, &[], 1)?);
-    let records: [Row; 3] = [(3072, &[2, 1024, 1024, 0]), five, once];
-    assert!(rt; reads(alloc, Kind::Array, long, &records, (7, 1), 5, &["", ""], 1)?);
+    let (kind, value) = (Kind::Single, ValueType::Text);
+    reads(alloc, kind, value, &records, (7, 1), 0, &[], 1)
+}
+
+fn is_array_of_longs(alloc: Global) -> Result<bool, AllocError> {
+    let records: [Row; 3] = [(3072, &[2, 1024, 1024, 0]), FIVE, ONCE];
+    let (kind, value) = (Kind::Array, ValueType::Long);
+    reads(alloc, kind, value, &records, (7, 1), 5, &["", ""], 1)
+}
+
+fn is_array_of_texts(alloc: Global) -> Result<bool, AllocError> {
+    let two_values = node(2, 2, &[2048, 1024], &[8192, 8192]);
     let records: [Row; 5] = [
         (3072, &[3, 1024, 2048, 1024]),
         (1024, &[2, 0xC3A9000000000000]),
@@ -115,90 +133,89 @@ fn images_of_one_document_read_as_their_tables(rt: HostRuntime) -> Result<(), Al
         (2050, &two_values),
         (4096, &[1, 30064771073]),
     ];
-    assert!(rt;
-        reads(
-            alloc,
-            Kind::Array,
-            text,
-            &records,
-            (7, 1),
-            0,
-            &["é", "te", "é"],
-            1
-        )?
-    );
-    assert!(rt;
-        reads(
-            alloc,
-            Kind::WeightedSet,
-            long,
-            &[five],
-            (7, 1),
-            5,
-            &[""],
-            -3
-        )?
-    );
-    assert!(rt; reads(alloc, Kind::WeightedSet, text, &[], (7, 1), 0, &["te"], -3)?);
-    Ok(())
+    let texts = ["é", "te", "é"];
+    let (kind, value) = (Kind::Array, ValueType::Text);
+    reads(alloc, kind, value, &records, (7, 1), 0, &texts, 1)
+}
+
+fn is_weighted(alloc: Global) -> Result<bool, AllocError> {
+    let kind = Kind::WeightedSet;
+    let (long, text) = (ValueType::Long, ValueType::Text);
+    let longs = reads(alloc, kind, long, &[FIVE], (7, 1), 5, &[""], -3)?;
+    let texts = reads(alloc, kind, text, &[], (7, 1), 0, &["te"], -3)?;
+    Ok(longs && texts)
 }
 
 #[test]
-fn images_of_many_documents_read_as_their_tables(rt: HostRuntime) -> Result<(), AllocError> {
+fn images_of_one_document_read_as_their_tables(rt: HostRuntime) -> Result<(), AllocError> {
     let alloc = rt.alloc();
-    let (sixteen, nine, eight) = (run(1, 16, 1024), run(1, 9, 1024), run(10, 8, 1024));
-    let (ones, first_ones, last_ones) = (run(1, 16, 1), run(1, 9, 1), run(10, 8, 1));
-    let (documents, postings, of_tree) = (root(1026, 4098), root(6146, 7170), run(1024, 1, 10245));
-    let twelve: Row = (1024, &[8, 12]);
+    let singles = is_single_long(alloc)? && is_single_text(alloc)?;
+    assert!(rt; singles);
+    let empty = is_without_items(alloc)?;
+    assert!(rt; empty);
+    let arrays = is_array_of_longs(alloc)? && is_array_of_texts(alloc)?;
+    assert!(rt; arrays);
+    let sets = is_weighted(alloc)?;
+    assert!(rt; sets);
+    Ok(())
+}
+
+/// 16 documents of one value in one leaf.
+fn is_one_leaf(alloc: Global) -> Result<bool, AllocError> {
+    let (sixteen, ones, of_tree) = (run(1, 16, 1024), run(1, 16, 1), run(1024, 1, 10245));
     let records: [Row; 5] = [
         (1027, &[16, 1026, 2050, 0]),
         (1026, &sixteen),
-        twelve,
+        (1024, &[8, 12]),
         (2050, &of_tree),
         (5122, &ones),
     ];
-    assert!(rt;
-        reads(
-            alloc,
-            Kind::Single,
-            ValueType::Long,
-            &records,
-            (1, 16),
-            12,
-            &[""],
-            1
-        )?
-    );
+    let (kind, value) = (Kind::Single, ValueType::Long);
+    reads(alloc, kind, value, &records, (1, 16), 12, &[""], 1)
+}
+
+/// 17 in two leaves below a root.
+fn is_two_leaves(alloc: Global) -> Result<bool, AllocError> {
+    let (nine, eight) = (run(1, 9, 1024), run(10, 8, 1024));
+    let (first_ones, last_ones) = (run(1, 9, 1), run(10, 8, 1));
+    let (documents, postings, of_tree) = (root(1026, 4098), root(6146, 7170), run(1024, 1, 10245));
     let records: [Row; 9] = [
         (1027, &[17, 3074, 2050, 0]),
         (3074, &documents),
         (1026, &nine),
         (4098, &eight),
-        twelve,
+        (1024, &[8, 12]),
         (2050, &of_tree),
         (5122, &postings),
         (6146, &first_ones),
         (7170, &last_ones),
     ];
-    assert!(rt;
-        reads(
-            alloc,
-            Kind::Single,
-            ValueType::Long,
-            &records,
-            (1, 17),
-            12,
-            &[""],
-            1
-        )?
-    );
+    let (kind, value) = (Kind::Single, ValueType::Long);
+    reads(alloc, kind, value, &records, (1, 17), 12, &[""], 1)
+}
+
+#[test]
+fn images_of_many_documents_read_as_their_tables(rt: HostRuntime) -> Result<(), AllocError> {
+    let one = is_one_leaf(rt.alloc())?;
+    assert!(rt; one);
+    let two = is_two_leaves(rt.alloc())?;
+    assert!(rt; two);
     Ok(())
+}
+
+/// Whether the image with this record in the place of its own is refused.
+fn is_broken(alloc: Global, row: Row) -> Result<bool, AllocError> {
+    let (of_items, of_list) = (run(7, 1, 3072), run(1024, 1, 4096));
+    let records = records_of(alloc, &one_text(&of_items, &of_list), &[row])?;
+    let fields = one_field(alloc, Kind::WeightedSet, ValueType::Text)?;
+    Ok(match check_image(alloc, &fields, &records, 1027) {
+        Ok(_) => false,
+        Err(fault) => fault == CheckFault::Broken,
+    })
 }
 
 #[test]
 fn broken_images_are_refused(rt: HostRuntime) -> Result<(), AllocError> {
-    let alloc = rt.alloc();
-    let (of_items, of_list) = (run(7, 1, 3072), run(1024, 1, 4096));
     // the record that is replaced, and its words
     let rows: [Row; 16] = [
         (1024, &[]),
@@ -218,13 +235,9 @@ fn broken_images_are_refused(rt: HostRuntime) -> Result<(), AllocError> {
         (2048, &[0, 0]),
         (2048, &[1, 34359738366]),
     ];
-    let fields = one_field(alloc, Kind::WeightedSet, ValueType::Text)?;
     for row in rows {
-        let records = records_of(alloc, &one_text(&of_items, &of_list), &[row])?;
-        match check_image(alloc, &fields, &records, 1027) {
-            Ok(_) => assert!(rt; false),
-            Err(fault) => assert_eq!(rt; fault, CheckFault::Broken),
-        }
+        let refused = is_broken(rt.alloc(), row)?;
+        assert!(rt; refused, "{} with {} words", row.0, row.1.len());
     }
     Ok(())
 }
@@ -252,33 +265,54 @@ fn has_both(alloc: Global, root: [u64; 8], document: u64, word: u64) -> Result<b
 
 #[test]
 fn images_of_two_attributes_have_the_same_documents(rt: HostRuntime) -> Result<(), AllocError> {
-    let alloc = rt.alloc();
-    assert!(rt; has_both(alloc, [1, 1026, 2050, 3074, 4098, 0, 0, 0], 7, 30064771073)?);
-    assert!(rt; !has_both(alloc, [1, 1026, 2050, 3074, 4098, 0, 0, 0], 8, 34359738369)?);
-    assert!(rt; !has_both(alloc, [1, 1026, 2050, 3074, 4098, 0, 0, 1], 7, 30064771073)?);
-    assert!(rt; !has_both(alloc, [1, 1026, 2050, 0, 0, 0, 0, 0], 7, 30064771073)?);
+    // the second root record, the document of 5, the word of its posting, and whether both attributes are read
+    let rows = [
+        ([1, 1026, 2050, 3074, 4098, 0, 0, 0], 7, 30064771073, true),
+        ([1, 1026, 2050, 3074, 4098, 0, 0, 0], 8, 34359738369, false),
+        ([1, 1026, 2050, 3074, 4098, 0, 0, 1], 7, 30064771073, false),
+        ([1, 1026, 2050, 0, 0, 0, 0, 0], 7, 30064771073, false),
+    ];
+    for (root, document, word, wanted) in rows {
+        let read = has_both(rt.alloc(), root, document, word)?;
+        assert!(rt; read == wanted, "at {document}, {word}");
+    }
     Ok(())
 }
 
-#[test]
-fn a_bit_vector_is_a_posting_list(rt: HostRuntime) -> Result<(), AllocError> {
-    let alloc = rt.alloc();
+/// Whether an image whose posting list is a bit vector, with this record in the place of its own, has so many documents; it
+/// is refused where there are none.
+fn has_documents(
+    alloc: Global,
+    block: &[u64; 64],
+    row: Row,
+    count: usize,
+) -> Result<bool, AllocError> {
     let (documents, dictionary) = (run(7, 2, 1024), run(1024, 1, 8589941762));
-    let (of_block, of_other) = (run(0, 1, 1029), run(1, 1, 1029));
-    let mut block = [0; 64];
-    block[0] = 0x180;
-    let (none, short) = ([0; 64], [0x180; 2]);
-    let mut more = block;
-    more[63] = 1;
-    let fields = one_field(alloc, Kind::Single, ValueType::Long)?;
+    let of_block = run(0, 1, 1029);
     let image: [Row; 6] = [
         (1027, &[2, 1026, 2050, 0]),
         (1026, &documents),
         (1024, &[8, 5]),
         (2050, &dictionary),
         (7170, &of_block),
-        (1029, &block),
+        (1029, block),
     ];
+    let records = records_of(alloc, &image, &[row])?;
+    let fields = one_field(alloc, Kind::Single, ValueType::Long)?;
+    Ok(match check_image(alloc, &fields, &records, 1027) {
+        Ok(table) => count > 0 && table.len() == count,
+        Err(fault) => count == 0 && fault == CheckFault::Broken,
+    })
+}
+
+#[test]
+fn a_bit_vector_is_a_posting_list(rt: HostRuntime) -> Result<(), AllocError> {
+    let of_other = run(1, 1, 1029);
+    let mut block = [0; 64];
+    block[0] = 0x180;
+    let (none, short) = ([0; 64], [0x180; 2]);
+    let mut more = block;
+    more[63] = 1;
     let rows: [(Row, usize); 5] = [
         ((1029, &block), 2),
         ((1029, &none), 0),
@@ -287,14 +321,8 @@ fn a_bit_vector_is_a_posting_list(rt: HostRuntime) -> Result<(), AllocError> {
         ((7170, &of_other), 0),
     ];
     for (row, count) in rows {
-        let records = records_of(alloc, &image, &[row])?;
-        match check_image(alloc, &fields, &records, 1027) {
-            Ok(table) => assert_eq!(rt; table.len(), count),
-            Err(fault) => {
-                assert_eq!(rt; count, 0);
-                assert_eq!(rt; fault, CheckFault::Broken);
-            }
-        }
+        let is_right = has_documents(rt.alloc(), &block, row, count)?;
+        assert!(rt; is_right, "{count} documents");
     }
     Ok(())
 }

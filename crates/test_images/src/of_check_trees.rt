@@ -1,7 +1,14 @@
-use crate::made::{node, records_of, root, run};
+use crate::made::{Row, node, records_of, root, run};
 use attr_types::ValueType;
 use check_trees::{CheckFault, Keys, check_tree, is_node_form};
-use std::alloc::AllocError;
+use std::alloc::{AllocError, Global};
+
+/// Whether words are a node's with another word at a place, if it is one of theirs.
+fn is_node_with(words: [u64; 34], place: usize, word: u64) -> Option<bool> {
+    let mut changed = words;
+    *changed.get_mut(place)? = word;
+    Some(is_node_form(&changed, 1, 2))
+}
 
 #[test]
 fn words_of_nodes_are_told_apart(rt: HostRuntime) {
@@ -23,16 +30,40 @@ fn words_of_nodes_are_told_apart(rt: HostRuntime) {
         (1, 4294967296, false),
     ];
     for (place, word, formed) in rows {
-        let mut words = good;
-        assert!(rt; place < 34);
-        words[place] = word;
-        assert_eq!(rt; is_node_form(&words, 1, 2), formed);
+        let found = is_node_with(good, place, word);
+        assert!(rt; found == Some(formed), "word {place}");
     }
+}
+
+/// Whether pairs are those of the keys 1 to `count`, each with the value 1.
+fn are_ones(pairs: &[(u64, u64)], count: u64) -> bool {
+    let mut next: u64 = 1;
+    for pair in pairs {
+        if *pair != (next, 1) {
+            return false;
+        }
+        next = next.saturating_add(1);
+    }
+    pairs.len() as u64 == count
+}
+
+/// Whether records from a root on are a tree of so many pairs; none where it is no tree.
+fn has_pairs(
+    alloc: Global,
+    rows: &[Row],
+    other: Row,
+    root: u64,
+    count: u64,
+) -> Result<bool, AllocError> {
+    let records = records_of(alloc, rows, &[other])?;
+    Ok(match check_tree(alloc, Keys::Numbers, &records, root) {
+        Ok(pairs) => are_ones(pairs.as_slice(), count) && (count > 0 || root == 0),
+        Err(fault) => count == 0 && fault == CheckFault::Broken,
+    })
 }
 
 #[test]
 fn trees_are_told_apart(rt: HostRuntime) -> Result<(), AllocError> {
-    let alloc = rt.alloc();
     let (top, first, second) = (root(1026, 2050), run(1, 9, 1), run(10, 8, 1));
     let mut equal = second;
     equal[2] = 9;
@@ -54,34 +85,25 @@ fn trees_are_told_apart(rt: HostRuntime) -> Result<(), AllocError> {
         (3074, 1026, &root(1026, 2050), 0),
         (3074, 2050, &[8, 8], 0),
     ];
+    let tree: [Row; 3] = [(3074, &top), (1026, &first), (2050, &second)];
     for (place, reference, words, pairs) in rows {
-        let records = records_of(
-            alloc,
-            &[(3074, &top), (1026, &first), (2050, &second)],
-            &[(reference, words)],
-        )?;
-        let mut wanted = Vec::new(alloc);
-        for key in 0..pairs {
-            wanted.push((key.saturating_add(1), 1))?;
-        }
-        let answer = if pairs == 0 {
-            Err(CheckFault::Broken)
-        } else {
-            Ok(wanted)
-        };
-        assert_eq!(rt; check_tree(alloc, Keys::Numbers, &records, place), answer);
+        let is_right = has_pairs(rt.alloc(), &tree, (reference, words), place, pairs)?;
+        assert!(rt; is_right, "{pairs} pairs from {place}");
     }
-    let none = records_of(alloc, &[], &[])?;
-    assert_eq!(rt;
-        check_tree(alloc, Keys::Numbers, &none, 0),
-        Ok(Vec::new(alloc))
-    );
+    let none = has_pairs(rt.alloc(), &[], (5, &[]), 0, 0)?;
+    assert!(rt; none);
     Ok(())
+}
+
+/// Whether a leaf of two keys is a tree, with the records that they refer to.
+fn is_tree(alloc: Global, keys: Keys, first: &[u64], second: &[u64]) -> Result<bool, AllocError> {
+    let leaf = node(2, 2, &[1024, 2048], &[1, 1]);
+    let records = records_of(alloc, &[(1024, first), (2048, second), (3074, &leaf)], &[])?;
+    Ok(check_tree(alloc, keys, &records, 3074).is_ok())
 }
 
 #[test]
 fn keys_that_are_values_are_compared_as_they_read(rt: HostRuntime) -> Result<(), AllocError> {
-    let alloc = rt.alloc();
     let (long, text) = (Keys::Values(ValueType::Long), Keys::Values(ValueType::Text));
     // the keys, the words of the first value's record and of the second's, and whether they ascend
     let rows = [
@@ -99,13 +121,8 @@ fn keys_that_are_values_are_compared_as_they_read(rt: HostRuntime) -> Result<(),
         (Keys::Numbers, [2, 0], [1, 0], true),
     ];
     for (keys, first, second, ascend) in rows {
-        let leaf = node(2, 2, &[1024, 2048], &[1, 1]);
-        let records = records_of(
-            alloc,
-            &[(1024, &first), (2048, &second), (3074, &leaf)],
-            &[],
-        )?;
-        assert_eq!(rt; check_tree(alloc, keys, &records, 3074).is_ok(), ascend);
+        let found = is_tree(rt.alloc(), keys, &first, &second)?;
+        assert!(rt; found == ascend, "{} and {}", first[1], second[1]);
     }
     Ok(())
 }

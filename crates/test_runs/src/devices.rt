@@ -2,7 +2,7 @@
 use crate::run::{line_of, outcome_of, told as told_in, words_in};
 use crate::tally::Tally;
 use attr_io::{FakeSink, FakeSource};
-use std::alloc::AllocError;
+use std::alloc::{AllocError, Global};
 use std::io;
 use std::thread::Threads;
 
@@ -30,24 +30,55 @@ fn told<R: Threads + Sync>(
     format!(in alloc; "{line} {loaded} {reads} {writes}")
 }
 
+fn note_call(
+    rt: &HostRuntime,
+    tally: &mut Tally,
+    device: &str,
+    call: u64,
+    found: &str,
+    wanted: &str,
+) -> io::Result<()> {
+    let case = format!(in rt.alloc(); "{device} at call {call}")?;
+    tally.note(rt, &case, found, wanted)
+}
+
+fn source_at<R: Threads + Sync>(
+    rt: &HostRuntime,
+    threads: &R,
+    call: u64,
+) -> Result<String, AllocError> {
+    let alloc = rt.alloc();
+    let mut source = FakeSource::create(alloc, FEED.as_bytes(), 1, &[call])?;
+    let mut sink = FakeSink::create(alloc, 100, 7, &[])?;
+    told(rt, threads, &mut source, &mut sink)
+}
+
+fn source_wanted(alloc: Global, call: u64) -> Result<String, AllocError> {
+    if call < 39 {
+        return String::from_str(alloc, "4 attr: read fault/ 0 1 0");
+    }
+    format!(in alloc; "0 {REPORT} 1 0 0")
+}
+
+fn compare_source<R: Threads + Sync>(
+    rt: &HostRuntime,
+    threads: &R,
+    tally: &mut Tally,
+    call: u64,
+) -> io::Result<()> {
+    let found = source_at(rt, threads, call)?;
+    let wanted = source_wanted(rt.alloc(), call)?;
+    note_call(rt, tally, "source", call, &found, &wanted)
+}
+
 /// A source of one byte a call, which fails at one call: the 38th would tell the end of the feed.
 fn compare_sources<R: Threads + Sync>(
     rt: &HostRuntime,
     threads: &R,
     tally: &mut Tally,
 ) -> io::Result<()> {
-    let alloc = rt.alloc();
     for call in 1..40 {
-        let mut source = FakeSource::create(alloc, FEED.as_bytes(), 1, &[call])?;
-        let mut sink = FakeSink::create(alloc, 100, 7, &[])?;
-        let found = told(rt, threads, &mut source, &mut sink)?;
-        let wanted = if call < 39 {
-            String::from_str(alloc, "4 attr: read fault/ 0 1 0")?
-        } else {
-            format!(in alloc; "0 {REPORT} 1 0 0")?
-        };
-        let case = format!(in alloc; "source at call {call}")?;
-        tally.note(rt, &case, &found, &wanted)?;
+        compare_source(rt, threads, tally, call)?;
     }
     Ok(())
 }
@@ -63,29 +94,72 @@ fn sink_at<R: Threads + Sync>(
     told(rt, threads, &mut source, &mut sink)
 }
 
+/// A sink that has taken this front of the report when it fails.
+fn compare_sink<R: Threads + Sync>(
+    rt: &HostRuntime,
+    threads: &R,
+    tally: &mut Tally,
+    call: u64,
+    front: &str,
+) -> io::Result<()> {
+    let found = sink_at(rt, threads, call)?;
+    let wanted = format!(in rt.alloc(); "5 {front} 1 0 1")?;
+    note_call(rt, tally, "sink", call, &found, &wanted)
+}
+
+fn compare_last<R: Threads + Sync>(
+    rt: &HostRuntime,
+    threads: &R,
+    tally: &mut Tally,
+    call: u64,
+) -> io::Result<()> {
+    let found = sink_at(rt, threads, call)?;
+    let wanted = format!(in rt.alloc(); "0 {REPORT} 1 0 0")?;
+    tally.note(rt, "sink after all calls", &found, &wanted)
+}
+
 /// A sink of one byte a call, which fails at one call: the bytes before it were taken.
 fn compare_sinks<R: Threads + Sync>(
     rt: &HostRuntime,
     threads: &R,
     tally: &mut Tally,
 ) -> io::Result<()> {
-    let alloc = rt.alloc();
-    let mut front = String::new(alloc);
+    let mut front = String::new(rt.alloc());
     let mut call: u64 = 1;
     for next in REPORT.chars() {
-        let wanted = format!(in alloc; "5 {front} 1 0 1")?;
-        let case = format!(in alloc; "sink at call {call}")?;
-        tally.note(rt, &case, &sink_at(rt, threads, call)?, &wanted)?;
+        compare_sink(rt, threads, tally, call, &front)?;
         front.push(next)?;
         call = call.saturating_add(1);
     }
-    let wanted = format!(in alloc; "0 {front} 1 0 0")?;
-    tally.note(
-        rt,
-        "sink after all calls",
-        &sink_at(rt, threads, call)?,
-        &wanted,
-    )
+    compare_last(rt, threads, tally, call)
+}
+
+fn two_bytes_a_read<R: Threads + Sync>(
+    rt: &HostRuntime,
+    threads: &R,
+) -> Result<String, AllocError> {
+    let alloc = rt.alloc();
+    let mut source = FakeSource::create(alloc, FEED.as_bytes(), 2, &[2])?;
+    let mut sink = FakeSink::create(alloc, 100, 100, &[])?;
+    told(rt, threads, &mut source, &mut sink)
+}
+
+fn seven_bytes_a_write<R: Threads + Sync>(
+    rt: &HostRuntime,
+    threads: &R,
+) -> Result<String, AllocError> {
+    let alloc = rt.alloc();
+    let mut source = FakeSource::create(alloc, &[], 2, &[])?;
+    let mut sink = FakeSink::create(alloc, 100, 7, &[2])?;
+    told(rt, threads, &mut source, &mut sink)
+}
+
+fn seven_bytes_of_room<R: Threads + Sync>(
+    rt: &HostRuntime,
+    threads: &R,
+) -> Result<String, AllocError> {
+    let words = words_in(rt.alloc(), WORDS)?;
+    told_in(threads, rt.alloc(), &words, &[], 7)
 }
 
 /// Steps of several bytes, and a sink in memory that has too little room.
@@ -94,19 +168,12 @@ fn compare_steps<R: Threads + Sync>(
     threads: &R,
     tally: &mut Tally,
 ) -> io::Result<()> {
-    let alloc = rt.alloc();
-    let mut source = FakeSource::create(alloc, FEED.as_bytes(), 2, &[2])?;
-    let mut sink = FakeSink::create(alloc, 100, 100, &[])?;
-    let found = told(rt, threads, &mut source, &mut sink)?;
-    tally.note(rt, "two bytes a read", &found, "4 attr: read fault/ 0 1 0")?;
-
-    let mut source = FakeSource::create(alloc, &[], 2, &[])?;
-    let mut sink = FakeSink::create(alloc, 100, 7, &[2])?;
-    let found = told(rt, threads, &mut source, &mut sink)?;
-    tally.note(rt, "seven bytes a write", &found, "5 final a 0 0 1")?;
-
-    let found = told_in(threads, alloc, &words_in(alloc, WORDS)?, &[], 7)?;
-    tally.note(rt, "seven bytes of room", &found, "5 final a")
+    let read = two_bytes_a_read(rt, threads)?;
+    tally.note(rt, "two bytes a read", &read, "4 attr: read fault/ 0 1 0")?;
+    let written = seven_bytes_a_write(rt, threads)?;
+    tally.note(rt, "seven bytes a write", &written, "5 final a 0 0 1")?;
+    let taken = seven_bytes_of_room(rt, threads)?;
+    tally.note(rt, "seven bytes of room", &taken, "5 final a")
 }
 
 /// A save over a sink that fails: the front of its bytes, and at how many operations it was made.
@@ -130,24 +197,15 @@ fn save_at<R: Threads + Sync>(
     }
 }
 
-fn compare_saves<R: Threads + Sync>(
+fn compare_save<R: Threads + Sync>(
     rt: &HostRuntime,
     threads: &R,
     tally: &mut Tally,
+    call: u64,
+    wanted: &str,
 ) -> io::Result<()> {
-    let alloc = rt.alloc();
-    tally.note(
-        rt,
-        "a save at its first call",
-        &save_at(rt, threads, 1)?,
-        "5  1",
-    )?;
-    tally.note(
-        rt,
-        "a save at its second call",
-        &save_at(rt, threads, 2)?,
-        "5 ATS1 1",
-    )
+    let found = save_at(rt, threads, call)?;
+    note_call(rt, tally, "a save", call, &found, wanted)
 }
 
 pub fn compare<R: Threads + Sync>(rt: &HostRuntime, threads: &R) -> io::Result<()> {
@@ -161,6 +219,7 @@ pub fn compare<R: Threads + Sync>(rt: &HostRuntime, threads: &R) -> io::Result<(
     compare_steps(rt, threads, &mut steps)?;
     steps.print(rt, "steps of devices")?;
     let mut saves = Tally::new();
-    compare_saves(rt, threads, &mut saves)?;
+    compare_save(rt, threads, &mut saves, 1, "5  1")?;
+    compare_save(rt, threads, &mut saves, 2, "5 ATS1 1")?;
     saves.print(rt, "saves over devices that fail")
 }

@@ -41,6 +41,24 @@ impl Row {
             points,
         })
     }
+
+    /// Takes a line of the feed, or the lines of a commit point; whether it is one of these.
+    fn take(&mut self, alloc: Global, line: &str) -> Result<bool, AllocError> {
+        if let Some(rest) = line.strip_prefix("feed ") {
+            self.feed.push_str(rest)?;
+            self.feed.push_str("\n")?;
+            return Ok(true);
+        }
+        if let Some(asked) = line.strip_prefix("each ") {
+            push_each(alloc, &mut self.feed, asked)?;
+            return Ok(true);
+        }
+        if let Some(lines) = line.strip_prefix("point ") {
+            self.points.push(String::from_str(alloc, lines)?)?;
+            return Ok(true);
+        }
+        Ok(false)
+    }
 }
 
 /// What was compared, by how the rows were run.
@@ -78,6 +96,17 @@ impl Tallies {
     }
 }
 
+/// A line, with a number in place of each `#`.
+fn push_numbered(feed: &mut String, line: &str, number: &str) -> Result<(), AllocError> {
+    for (at, part) in line.split('#').enumerate() {
+        if at > 0 {
+            feed.push_str(number)?;
+        }
+        feed.push_str(part)?;
+    }
+    feed.push_str("\n")
+}
+
 fn push_each(alloc: Global, feed: &mut String, asked: &str) -> Result<(), AllocError> {
     let mut parts = asked.splitn(3, ' ');
     let first = parts.next().unwrap_or("").parse::<u32>().unwrap_or(0);
@@ -85,13 +114,7 @@ fn push_each(alloc: Global, feed: &mut String, asked: &str) -> Result<(), AllocE
     let line = parts.next().unwrap_or("");
     for number in first..=last {
         let number = format!(in alloc; "{number}")?;
-        for (at, part) in line.split('#').enumerate() {
-            if at > 0 {
-                feed.push_str(&number)?;
-            }
-            feed.push_str(part)?;
-        }
-        feed.push_str("\n")?;
+        push_numbered(feed, line, &number)?;
     }
     Ok(())
 }
@@ -104,6 +127,41 @@ fn varied(alloc: Global, words: &str) -> Result<String, AllocError> {
     format!(in alloc; "--buffers 8 --words 8192 {words}")
 }
 
+/// What a run of these words answers and writes.
+fn told_by<R: Threads + Sync>(
+    threads: &R,
+    alloc: Global,
+    words: &str,
+    feed: &[u8],
+) -> Result<String, AllocError> {
+    let words = words_in(alloc, words)?;
+    told(threads, alloc, &words, feed, ROOM)
+}
+
+fn compare_run<R: Threads + Sync>(
+    rt: &HostRuntime,
+    threads: &R,
+    tally: &mut Tally,
+    words: &str,
+    feed: &[u8],
+    wanted: &str,
+) -> io::Result<()> {
+    let found = told_by(threads, rt.alloc(), words, feed)?;
+    tally.note(rt, words, &found, wanted)
+}
+
+fn compare_varied<R: Threads + Sync>(
+    rt: &HostRuntime,
+    threads: &R,
+    tally: &mut Tally,
+    words: &str,
+    feed: &[u8],
+    wanted: &str,
+) -> io::Result<()> {
+    let words = varied(rt.alloc(), words)?;
+    compare_run(rt, threads, tally, &words, feed, wanted)
+}
+
 fn compare_wide<R: Threads + Sync>(
     rt: &HostRuntime,
     threads: &R,
@@ -111,20 +169,11 @@ fn compare_wide<R: Threads + Sync>(
     row: &Row,
     wanted: &str,
 ) -> io::Result<()> {
-    let alloc = rt.alloc();
     if row.words.contains("--wide") {
         return Ok(());
     }
-    let words = format!(in alloc; "--wide --dense {}", row.words.as_str())?;
-    let words = varied(alloc, &words)?;
-    let found = told(
-        threads,
-        alloc,
-        &words_in(alloc, &words)?,
-        row.feed.as_bytes(),
-        ROOM,
-    )?;
-    tally.note(rt, &words, &found, wanted)
+    let words = format!(in rt.alloc(); "--wide --dense {}", row.words.as_str())?;
+    compare_varied(rt, threads, tally, &words, row.feed.as_bytes(), wanted)
 }
 
 fn compare_after<R: Threads + Sync>(
@@ -139,16 +188,8 @@ fn compare_after<R: Threads + Sync>(
         return Ok(());
     };
     let words = format!(in alloc; "{front}--readers 2 --rounds 2 --after {back}")?;
-    let words = varied(alloc, &words)?;
-    let found = told(
-        threads,
-        alloc,
-        &words_in(alloc, &words)?,
-        row.feed.as_bytes(),
-        ROOM,
-    )?;
     let wanted = rounds::with_rounds(alloc, wanted)?;
-    tally.note(rt, &words, &found, &wanted)
+    compare_varied(rt, threads, tally, &words, row.feed.as_bytes(), &wanted)
 }
 
 /// Whether what a run wrote is a report or a summary.
@@ -166,20 +207,25 @@ fn compare_said<R: Threads + Sync>(
     row: &Row,
     wanted: &str,
 ) -> io::Result<()> {
-    let alloc = rt.alloc();
-    let found = told(
-        threads,
-        alloc,
-        &words_in(alloc, &row.words)?,
-        row.feed.as_bytes(),
-        ROOM,
-    )?;
-    tallies.runs.note(rt, &row.words, &found, wanted)?;
+    let feed = row.feed.as_bytes();
+    compare_run(rt, threads, &mut tallies.runs, &row.words, feed, wanted)?;
     if is_report(wanted) && row.feed.len() < LONG {
         compare_wide(rt, threads, &mut tallies.wide, row, wanted)?;
         compare_after(rt, threads, &mut tallies.after, row, wanted)?;
     }
     Ok(())
+}
+
+/// What a run with so many readers and rounds answers and writes, but for its rounds.
+fn told_beside<R: Threads + Sync>(
+    threads: &R,
+    alloc: Global,
+    row: &Row,
+    readers: u32,
+    count: u32,
+) -> Result<String, AllocError> {
+    let found = told_by(threads, alloc, &row.words, row.feed.as_bytes())?;
+    rounds::without_rounds(alloc, &found, readers, count, &row.points)
 }
 
 fn compare_beside<R: Threads + Sync>(
@@ -189,22 +235,39 @@ fn compare_beside<R: Threads + Sync>(
     row: &Row,
     asked: &str,
 ) -> io::Result<()> {
-    let alloc = rt.alloc();
     let mut parts = asked.splitn(3, ' ');
     let readers = parts.next().unwrap_or("").parse::<u32>().unwrap_or(0);
     let count = parts.next().unwrap_or("").parse::<u32>().unwrap_or(0);
     let wanted = parts.next().unwrap_or("");
-    let found = told(
-        threads,
-        alloc,
-        &words_in(alloc, &row.words)?,
-        row.feed.as_bytes(),
-        ROOM,
-    )?;
-    let found = rounds::without_rounds(alloc, &found, readers, count, &row.points)?;
+    let found = told_beside(threads, rt.alloc(), row, readers, count)?;
     tally.note(rt, &row.words, &found, wanted)
 }
 
+fn compare_room<R: Threads + Sync>(
+    rt: &HostRuntime,
+    threads: &R,
+    tally: &mut Tally,
+    row: &Row,
+    wanted: &str,
+) -> io::Result<()> {
+    let words = words_in(rt.alloc(), &row.words)?;
+    let found = room(threads, rt.alloc(), &words, row.feed.as_bytes())?;
+    tally.note(rt, &row.words, &found, wanted)
+}
+
+fn compare_saved<R: Threads + Sync>(
+    rt: &HostRuntime,
+    threads: &R,
+    tally: &mut Tally,
+    row: &Row,
+    wanted: &str,
+) -> io::Result<()> {
+    let words = words_in(rt.alloc(), &row.words)?;
+    let found = saved(threads, rt.alloc(), &words, row.feed.as_bytes())?;
+    tally.note(rt, &row.words, &found, wanted)
+}
+
+/// A line that says what a row must come to; others are remarks.
 fn compare_row<R: Threads + Sync>(
     rt: &HostRuntime,
     threads: &R,
@@ -212,49 +275,38 @@ fn compare_row<R: Threads + Sync>(
     row: &Row,
     line: &str,
 ) -> io::Result<()> {
-    let alloc = rt.alloc();
-    if let Some(wanted) = line.strip_prefix("said ") {
-        compare_said(rt, threads, tallies, row, wanted)?;
-    } else if let Some(asked) = line.strip_prefix("beside ") {
-        compare_beside(rt, threads, &mut tallies.beside, row, asked)?;
-    } else if let Some(wanted) = line.strip_prefix("room ") {
-        let found = room(
-            threads,
-            alloc,
-            &words_in(alloc, &row.words)?,
-            row.feed.as_bytes(),
-        )?;
-        tallies.full.note(rt, &row.words, &found, wanted)?;
-    } else if let Some(wanted) = line.strip_prefix("saved ") {
-        let found = saved(
-            threads,
-            alloc,
-            &words_in(alloc, &row.words)?,
-            row.feed.as_bytes(),
-        )?;
-        tallies.saves.note(rt, &row.words, &found, wanted)?;
+    let (kind, wanted) = line.split_once(' ').unwrap_or((line, ""));
+    match kind {
+        "said" => compare_said(rt, threads, tallies, row, wanted),
+        "beside" => compare_beside(rt, threads, &mut tallies.beside, row, wanted),
+        "room" => compare_room(rt, threads, &mut tallies.full, row, wanted),
+        "saved" => compare_saved(rt, threads, &mut tallies.saves, row, wanted),
+        _ => Ok(()),
     }
-    Ok(())
+}
+
+fn take<R: Threads + Sync>(
+    rt: &HostRuntime,
+    threads: &R,
+    tallies: &mut Tallies,
+    row: &mut Row,
+    line: &str,
+) -> io::Result<()> {
+    if let Some(words) = line.strip_prefix("words ") {
+        *row = Row::new(rt.alloc(), words)?;
+        return Ok(());
+    }
+    if row.take(rt.alloc(), line)? {
+        return Ok(());
+    }
+    compare_row(rt, threads, tallies, row, line)
 }
 
 pub fn compare<R: Threads + Sync>(rt: &HostRuntime, threads: &R) -> io::Result<()> {
-    let alloc = rt.alloc();
     let mut tallies = Tallies::new();
-    let mut row = Row::new(alloc, "")?;
-    for line in rt.lines(alloc) {
-        let line = line?;
-        if let Some(words) = line.strip_prefix("words ") {
-            row = Row::new(alloc, words)?;
-        } else if let Some(rest) = line.strip_prefix("feed ") {
-            row.feed.push_str(rest)?;
-            row.feed.push_str("\n")?;
-        } else if let Some(asked) = line.strip_prefix("each ") {
-            push_each(alloc, &mut row.feed, asked)?;
-        } else if let Some(lines) = line.strip_prefix("point ") {
-            row.points.push(String::from_str(alloc, lines)?)?;
-        } else {
-            compare_row(rt, threads, &mut tallies, &row, &line)?;
-        }
+    let mut row = Row::new(rt.alloc(), "")?;
+    for line in rt.lines(rt.alloc()) {
+        take(rt, threads, &mut tallies, &mut row, line?.as_str())?;
     }
     tallies.print(rt)
 }

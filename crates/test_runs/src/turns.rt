@@ -3,6 +3,7 @@
 use crate::run::{line_of, outcome_at, words_in};
 use crate::tally::Tally;
 use attr_io::{Gate, Point, SliceSource, VecSink};
+use std::alloc::{AllocError, Global};
 use std::sync::atomic::{AtomicU64, Ordering};
 use std::thread::Threads;
 use std::{io, thread};
@@ -91,6 +92,20 @@ impl Gate for Turns {
     }
 }
 
+/// What a run answers and writes.
+fn told<R: Threads + Sync>(
+    threads: &R,
+    alloc: Global,
+    turns: &Turns,
+    feed: &str,
+) -> Result<String, AllocError> {
+    let words = words_in(alloc, WORDS)?;
+    let mut source = SliceSource::new(feed.as_bytes());
+    let mut sink = VecSink::create(alloc, 4096)?;
+    let outcome = outcome_at(threads, alloc, &words, &mut source, &mut sink, turns);
+    line_of(alloc, outcome.status.exit_code(), sink.taken())
+}
+
 /// A run with so many commits before that of the first round, and what it must write.
 fn compare_turns<R: Threads + Sync>(
     rt: &HostRuntime,
@@ -100,17 +115,15 @@ fn compare_turns<R: Threads + Sync>(
     feed: &str,
     wanted: &str,
 ) -> io::Result<()> {
-    let alloc = rt.alloc();
-    let words = words_in(alloc, WORDS)?;
     let turns = Turns::new(before);
-    let mut source = SliceSource::new(feed.as_bytes());
-    let mut sink = VecSink::create(alloc, 4096)?;
-    let outcome = outcome_at(threads, alloc, &words, &mut source, &mut sink, &turns);
-    let found = line_of(alloc, outcome.status.exit_code(), sink.taken())?;
+    let found = told(threads, rt.alloc(), &turns, feed)?;
     tally.note(rt, "two readers, held at the gate", &found, wanted)?;
-    let gave_up = turns.gave_up.load(Ordering::SeqCst);
-    let found = format!(in alloc; "{gave_up}")?;
-    tally.note(rt, "threads that waited in vain", &found, "0")
+    let in_vain = if turns.gave_up.load(Ordering::SeqCst) == 0 {
+        "none"
+    } else {
+        "some"
+    };
+    tally.note(rt, "threads that waited in vain", in_vain, "none")
 }
 
 pub fn compare<R: Threads + Sync>(rt: &HostRuntime, threads: &R) -> io::Result<()> {

@@ -2,6 +2,8 @@
 //! the bytes that the rows after it change. `cut FROM TO WANTED`: what becomes of so many of its first bytes.
 //! `change PLACE FROM TO WANTED`: what becomes of it with each byte from FROM to TO at a place. Numbers are decimal.
 //! Other lines are remarks.
+ghost use Rattle.std.specs.Prelude.{◌≤◌, length};
+
 use crate::saves::{content, told};
 use crate::tally::Tally;
 use std::alloc::{AllocError, Global};
@@ -23,6 +25,20 @@ fn number(word: &str) -> usize {
     word.parse::<usize>().unwrap_or(usize::MAX)
 }
 
+fn compare_cut(
+    rt: &HostRuntime,
+    tally: &mut Tally,
+    base: &[u8],
+    len: usize,
+    wanted: &str,
+) -> io::Result<()>
+    requires { len ≤ length base.now }
+{
+    let found = told(rt.alloc(), &base[..len])?;
+    let case = format!(in rt.alloc(); "the first {len}")?;
+    tally.note(rt, &case, &found, wanted)
+}
+
 fn compare_cuts(
     rt: &HostRuntime,
     tally: &mut Tally,
@@ -31,15 +47,42 @@ fn compare_cuts(
     to: usize,
     wanted: &str,
 ) -> io::Result<()> {
-    let alloc = rt.alloc();
     for (len, _) in base.iter().enumerate() {
         if from <= len && len <= to {
-            let found = told(alloc, &base[..len])?;
-            let case = format!(in alloc; "the first {len}")?;
-            tally.note(rt, &case, &found, wanted)?;
+            compare_cut(rt, tally, base, len, wanted)?;
         }
     }
     Ok(())
+}
+
+/// What becomes of bytes with another one at a place.
+fn told_with(
+    alloc: Global,
+    base: &[u8],
+    place: usize,
+    byte: u8,
+) -> Result<Option<String>, AllocError> {
+    let mut bytes = Vec::from_slice(alloc, base)?;
+    if place >= bytes.len() {
+        return Ok(None);
+    }
+    bytes[place] = byte;
+    Ok(Some(told(alloc, &bytes)?))
+}
+
+fn compare_change(
+    rt: &HostRuntime,
+    tally: &mut Tally,
+    base: &[u8],
+    place: usize,
+    byte: u8,
+    wanted: &str,
+) -> io::Result<()> {
+    let Some(found) = told_with(rt.alloc(), base, place, byte)? else {
+        return Ok(());
+    };
+    let case = format!(in rt.alloc(); "{byte} at {place}")?;
+    tally.note(rt, &case, &found, wanted)
 }
 
 fn compare_changes(
@@ -51,51 +94,66 @@ fn compare_changes(
     to: usize,
     wanted: &str,
 ) -> io::Result<()> {
-    let alloc = rt.alloc();
-    let mut bytes = Vec::from_slice(alloc, base)?;
     for byte in 0..=255u8 {
-        if place < bytes.len() && from <= usize::from(byte) && usize::from(byte) <= to {
-            bytes[place] = byte;
-            let found = told(alloc, &bytes)?;
-            let case = format!(in alloc; "{byte} at {place}")?;
-            tally.note(rt, &case, &found, wanted)?;
+        if from <= usize::from(byte) && usize::from(byte) <= to {
+            compare_change(rt, tally, base, place, byte, wanted)?;
         }
     }
     Ok(())
 }
 
-pub fn compare(rt: &HostRuntime) -> io::Result<()> {
-    let alloc = rt.alloc();
-    let mut tally = Tally::new();
-    let mut base = Vec::new(alloc);
-    for line in rt.lines(alloc) {
-        let line = line?;
-        let words = words_of(alloc, &line)?;
-        match words.as_slice() {
-            [name, hex] if *name == "base" => base = bytes_of(alloc, hex),
-            [name, hex, wanted] if *name == "read" => {
-                tally.note(rt, hex, &told(alloc, &bytes_of(alloc, hex))?, wanted)?;
-            }
-            [name, hex, wanted] if *name == "tell" => {
-                tally.note(rt, hex, &content(alloc, &bytes_of(alloc, hex))?, wanted)?;
-            }
-            [name, from, to, wanted] if *name == "cut" => {
-                compare_cuts(rt, &mut tally, &base, number(from), number(to), wanted)?;
-            }
-            [name, place, from, to, wanted] if *name == "change" => {
-                let place = number(place);
-                compare_changes(
-                    rt,
-                    &mut tally,
-                    &base,
-                    place,
-                    number(from),
-                    number(to),
-                    wanted,
-                )?;
-            }
-            _ => {}
+/// What becomes of bytes, or what they tell.
+fn compare_bytes(
+    rt: &HostRuntime,
+    tally: &mut Tally,
+    hex: &str,
+    tells: bool,
+    wanted: &str,
+) -> io::Result<()> {
+    let bytes = bytes_of(rt.alloc(), hex);
+    let found = if tells {
+        content(rt.alloc(), &bytes)?
+    } else {
+        told(rt.alloc(), &bytes)?
+    };
+    tally.note(rt, hex, &found, wanted)
+}
+
+/// Compares what the words of a line ask for.
+fn compare_line(
+    rt: &HostRuntime,
+    tally: &mut Tally,
+    base: &[u8],
+    words: &[&str],
+) -> io::Result<()> {
+    match words {
+        ["read", hex, wanted] => compare_bytes(rt, tally, hex, false, wanted),
+        ["tell", hex, wanted] => compare_bytes(rt, tally, hex, true, wanted),
+        ["cut", from, to, wanted] => {
+            compare_cuts(rt, tally, base, number(from), number(to), wanted)
         }
+        ["change", place, from, to, wanted] => {
+            let (from, to) = (number(from), number(to));
+            compare_changes(rt, tally, base, number(place), from, to, wanted)
+        }
+        _ => Ok(()),
+    }
+}
+
+fn take(rt: &HostRuntime, tally: &mut Tally, base: &mut Vec<u8>, line: &str) -> io::Result<()> {
+    if let Some(hex) = line.strip_prefix("base ") {
+        *base = bytes_of(rt.alloc(), hex);
+        return Ok(());
+    }
+    let words = words_of(rt.alloc(), line)?;
+    compare_line(rt, tally, base, words.as_slice())
+}
+
+pub fn compare(rt: &HostRuntime) -> io::Result<()> {
+    let mut tally = Tally::new();
+    let mut base = Vec::new(rt.alloc());
+    for line in rt.lines(rt.alloc()) {
+        take(rt, &mut tally, &mut base, line?.as_str())?;
     }
     tally.print(rt, "saves")
 }

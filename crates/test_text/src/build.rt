@@ -7,7 +7,7 @@ use std::alloc::{AllocError, Global};
 use std::process::Abort;
 
 /// An operation on a document: values by number, each with its weight.
-#[derive(Clone, Copy, Debug)]
+#[derive(Clone, Copy)]
 pub enum Step {
     Put(&'static [(i64, i32)]),
     /// The value 5 so many times.
@@ -25,7 +25,7 @@ pub enum Step {
 }
 
 /// A condition on one value, by number.
-#[derive(Clone, Copy, Debug)]
+#[derive(Clone, Copy)]
 pub enum Ask {
     Is(i64),
     Prefix(i64),
@@ -100,6 +100,38 @@ fn fives(
     Ok(items)
 }
 
+fn take(
+    rt: &impl Abort,
+    alloc: Global,
+    value_type: ValueType,
+    name: i64,
+) -> Result<Change, AllocError> {
+    let name = value(rt, alloc, value_type, name)?;
+    Ok(Change::Take(Values::of_one(alloc, name)?))
+}
+
+fn set_at(
+    rt: &impl Abort,
+    alloc: Global,
+    value_type: ValueType,
+    index: u32,
+    number: i64,
+) -> Result<Change, AllocError> {
+    let act = Act::Set(value(rt, alloc, value_type, number)?);
+    Ok(Change::At { index, act })
+}
+
+fn weigh(
+    rt: &impl Abort,
+    alloc: Global,
+    value_type: ValueType,
+    name: i64,
+    act: WeightAct,
+) -> Result<Change, AllocError> {
+    let value = value(rt, alloc, value_type, name)?;
+    Ok(Change::Of { value, act })
+}
+
 /// What an update does; a put or a remove is none.
 pub fn change(
     rt: &impl Abort,
@@ -107,32 +139,24 @@ pub fn change(
     value_type: ValueType,
     step: Step,
 ) -> Result<Change, AllocError> {
-    Ok(match step {
-        Step::Keep | Step::Put(_) | Step::PutFives(_) | Step::Remove => Change::Keep,
-        Step::Assign(rows) => Change::Assign(items(rt, alloc, value_type, rows)?),
-        Step::Add(rows) => Change::Add(items(rt, alloc, value_type, rows)?),
-        Step::Take(name) => {
-            let name = value(rt, alloc, value_type, name)?;
-            Change::Take(Values::of_one(alloc, name)?)
-        }
-        Step::Shift(amount) => Change::Shift(amount),
-        Step::SetAt(index, number) => Change::At {
-            index,
-            act: Act::Set(value(rt, alloc, value_type, number)?),
-        },
-        Step::ShiftAt(index, amount) => Change::At {
+    match step {
+        Step::Keep | Step::Put(_) | Step::PutFives(_) | Step::Remove => Ok(Change::Keep),
+        Step::Assign(rows) => Ok(Change::Assign(items(rt, alloc, value_type, rows)?)),
+        Step::Add(rows) => Ok(Change::Add(items(rt, alloc, value_type, rows)?)),
+        Step::Take(name) => take(rt, alloc, value_type, name),
+        Step::Shift(amount) => Ok(Change::Shift(amount)),
+        Step::SetAt(index, number) => set_at(rt, alloc, value_type, index, number),
+        Step::ShiftAt(index, amount) => Ok(Change::At {
             index,
             act: Act::Shift(amount),
-        },
-        Step::SetWeight(name, weight) => Change::Of {
-            value: value(rt, alloc, value_type, name)?,
-            act: WeightAct::Set(weight),
-        },
-        Step::ShiftWeight(name, amount) => Change::Of {
-            value: value(rt, alloc, value_type, name)?,
-            act: WeightAct::Shift(amount),
-        },
-    })
+        }),
+        Step::SetWeight(name, weight) => {
+            weigh(rt, alloc, value_type, name, WeightAct::Set(weight))
+        }
+        Step::ShiftWeight(name, amount) => {
+            weigh(rt, alloc, value_type, name, WeightAct::Shift(amount))
+        }
+    }
 }
 
 /// The operation on one attribute.

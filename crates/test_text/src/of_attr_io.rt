@@ -1,10 +1,21 @@
 use attr_io::{
-    Failed, FakeSink, FakeSource, Gate, NoGate, Point, ReadError, Sink, SliceSource, Source,
-    StdSink, StdSource, VecSink, read_all, write_all, write_and_flush,
+    FakeSink, FakeSource, Gate, NoGate, Point, ReadError, Sink, SliceSource, Source, StdSink,
+    StdSource, VecSink, read_all, write_all, write_and_flush,
 };
+use std::alloc::{AllocError, Global};
 use std::io;
 use std::io::{ErrorKind, Write};
 use std::test::Fail;
+
+/// Whether a source that gives at most so many bytes a call gives all five, or tells its fault at this call or the ninth.
+fn is_read(alloc: Global, step: usize, call: u64, all: bool) -> Result<bool, AllocError> {
+    let mut source = FakeSource::create(alloc, b"bytes", step.max(1), &[9, call])?;
+    let is_right = match read_all(alloc, &mut source, 5) {
+        Ok(bytes) => all && bytes.as_slice() == b"bytes".as_slice(),
+        Err(e) => !all && e == ReadError::Fault,
+    };
+    Ok(is_right && source.faults() == u64::from(!all))
+}
 
 #[test]
 fn a_fake_source_fails_at_the_calls_listed(rt: HostRuntime) -> Result<(), Fail> {
@@ -21,52 +32,70 @@ fn a_fake_source_fails_at_the_calls_listed(rt: HostRuntime) -> Result<(), Fail> 
         (9, 3, true),
     ];
     for (step, call, all) in rows {
-        let mut source = FakeSource::create(rt.alloc(), b"bytes", step, &[9, call])?;
-        match read_all(rt.alloc(), &mut source, 5) {
-            Ok(bytes) => assert_eq!(rt; (bytes.as_slice(), all), (b"bytes".as_slice(), true)),
-            Err(e) => assert_eq!(rt; (e, all), (ReadError::Fault, false), "at {step}, {call}"),
-        }
-        assert_eq!(rt; source.faults(), u64::from(!all), "at {step}, {call}");
+        let is_right = is_read(rt.alloc(), step, call, all)?;
+        assert!(rt; is_right, "at {step}, {call}");
     }
     Ok(())
 }
 
+/// Whether a sink with so much room takes these bytes of a line, at most so many a call, until it is full or fails at a call.
+fn is_taken(
+    alloc: Global,
+    room: usize,
+    step: usize,
+    call: u64,
+    taken: &str,
+) -> Result<bool, AllocError> {
+    let line = b"final at\n";
+    let mut sink = FakeSink::create(alloc, room, step.max(1), &[call])?;
+    let failed = write_all(&mut sink, line).is_err();
+    let is_right = sink.taken() == taken.as_bytes() && sink.faults() == u64::from(failed);
+    Ok(is_right && failed == (taken.len() < line.len()))
+}
+
 #[test]
 fn a_fake_sink_fails_at_the_calls_listed_and_where_it_is_full(rt: HostRuntime) -> Result<(), Fail> {
-    // its room, the most that a call takes, the call that fails, what is taken, the answer
+    // its room, the most that a call takes, the call that fails, what is taken
     let rows = [
-        (9, 1, 1, "", Err(Failed)),
-        (9, 1, 5, "fina", Err(Failed)),
-        (9, 1, 9, "final at", Err(Failed)),
-        (9, 1, 10, "final at\n", Ok(())),
-        (9, 7, 2, "final a", Err(Failed)),
-        (9, 7, 3, "final at\n", Ok(())),
-        (7, 9, 9, "final a", Err(Failed)),
-        (0, 9, 9, "", Err(Failed)),
+        (9, 1, 1, ""),
+        (9, 1, 5, "fina"),
+        (9, 1, 9, "final at"),
+        (9, 1, 10, "final at\n"),
+        (9, 7, 2, "final a"),
+        (9, 7, 3, "final at\n"),
+        (7, 9, 9, "final a"),
+        (0, 9, 9, ""),
     ];
-    for (room, step, call, taken, answer) in rows {
-        let mut sink = FakeSink::create(rt.alloc(), room, step, &[call])?;
-        assert_eq!(rt;
-            write_all(&mut sink, b"final at\n"),
-            answer,
-            "at {room}, {step}, {call}"
-        );
-        assert_eq!(rt; sink.taken(), taken.as_bytes(), "at {room}, {step}, {call}");
-        let faults = u64::from(answer == Err(Failed));
-        assert_eq!(rt; sink.faults(), faults, "at {room}, {step}, {call}");
+    for (room, step, call, taken) in rows {
+        let is_right = is_taken(rt.alloc(), room, step, call, taken)?;
+        assert!(rt; is_right, "at {room}, {step}, {call}");
     }
     Ok(())
+}
+
+/// Whether a sink takes so many bytes of a piece, or fails where none are told.
+fn takes(sink: &mut VecSink, piece: &[u8], wanted: Option<usize>) -> bool {
+    !piece.is_empty() && sink.faults() == 0 && sink.write(piece).ok() == wanted
 }
 
 #[test]
 fn a_sink_in_memory_takes_what_fits(rt: HostRuntime) -> Result<(), Fail> {
     let mut sink = VecSink::create(rt.alloc(), 7)?;
-    for (piece, answer) in [("final", Ok(5)), (" at", Ok(2)), ("t", Err(Failed))] {
-        assert_eq!(rt; sink.faults(), 0);
-        assert_eq!(rt; sink.write(piece.as_bytes()), answer, "{piece}");
-    }
-    assert_eq!(rt; (sink.taken(), sink.faults()), (b"final a".as_slice(), 1));
+    let first = takes(&mut sink, b"final", Some(5));
+    let second = takes(&mut sink, b" at", Some(2));
+    let third = takes(&mut sink, b"t", None);
+    assert!(rt; first && second && third);
+    assert!(rt; sink.taken() == b"final a".as_slice() && sink.faults() == 1);
     Ok(())
+}
+
+/// Whether bytes are read whole, or refused as more than the limit.
+fn is_read_or_refused(alloc: Global, bytes: &[u8], limit: usize, fits: bool) -> bool {
+    let mut source = SliceSource::new(bytes);
+    match read_all(alloc, &mut source, limit) {
+        Ok(read) => fits && read.as_slice() == bytes,
+        Err(e) => !fits && e == ReadError::TooLong,
+    }
 }
 
 #[test]
@@ -79,11 +108,8 @@ fn a_source_is_read_to_its_end_or_refused_past_the_limit(rt: HostRuntime) -> Res
         (0, false),
         (usize::MAX, true),
     ] {
-        let mut source = SliceSource::new(bytes.as_slice());
-        match read_all(rt.alloc(), &mut source, limit) {
-            Ok(read) => assert!(rt; fits && read.as_slice() == bytes.as_slice(), "at {limit}"),
-            Err(e) => assert_eq!(rt; (e, fits), (ReadError::TooLong, false), "at {limit}"),
-        }
+        let is_right = is_read_or_refused(rt.alloc(), &bytes, limit, fits);
+        assert!(rt; is_right, "at {limit}");
     }
     Ok(())
 }

@@ -1,9 +1,18 @@
 use crate::build::{Ask, doc, field, items, leaf, one_field};
 use attr_plain::PlainTable;
-use attr_types::{FieldItems, Kind, Op, Query, ValueType, fits};
+use attr_types::{Doc, FieldItems, Kind, Op, Query, ValueType, fits};
 use std::alloc::{AllocError, Global};
 use std::process::Abort;
 use std::test::Fail;
+
+fn are_same(hits: &[Doc], wanted: &[u32]) -> bool {
+    for (doc, number) in hits.iter().zip(wanted) {
+        if doc.number() != *number {
+            return false;
+        }
+    }
+    hits.len() == wanted.len()
+}
 
 fn check_hits(
     rt: &impl Abort,
@@ -13,14 +22,22 @@ fn check_hits(
     wanted: &[u32],
 ) -> Result<(), AllocError> {
     let hits = table.hits(alloc, query)?;
-    assert_eq!(rt; hits.len(), wanted.len());
-    for (doc, number) in hits.as_slice().iter().zip(wanted) {
-        assert_eq!(rt; doc.number(), *number);
-    }
+    assert!(rt; are_same(hits.as_slice(), wanted));
     Ok(())
 }
 
-/// A put of numbers to attribute 0 and of words to attribute 1.
+/// Numbers for attribute 0 and words for attribute 1.
+fn both_items(
+    rt: &impl Abort,
+    alloc: Global,
+    numbers: &[(i64, i32)],
+    words: &[(i64, i32)],
+) -> Result<FieldItems, AllocError> {
+    let mut both = FieldItems::of_one(alloc, items(rt, alloc, ValueType::Long, numbers)?)?;
+    both.push(items(rt, alloc, ValueType::Text, words)?)?;
+    Ok(both)
+}
+
 fn put_both(
     rt: &impl Abort,
     alloc: Global,
@@ -29,11 +46,9 @@ fn put_both(
     numbers: &[(i64, i32)],
     words: &[(i64, i32)],
 ) -> Result<(), AllocError> {
-    let numbers = items(rt, alloc, ValueType::Long, numbers)?;
-    let mut both = FieldItems::of_one(alloc, numbers)?;
-    both.push(items(rt, alloc, ValueType::Text, words)?)?;
+    let items = both_items(rt, alloc, numbers, words)?;
     let doc = doc(rt, number);
-    let put = Op::Put { doc, items: both };
+    let put = Op::Put { doc, items };
     assert!(rt; fits(table.fields(), &put));
     table.apply(alloc, put)?;
     Ok(())

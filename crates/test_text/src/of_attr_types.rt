@@ -1,12 +1,18 @@
 use crate::build::{Step, doc, field, items, one_field, op, text};
 use attr_types::{
-    Change, Doc, FieldChanges, FieldItems, Fields, Items, Kind, Name, Op, Value, ValueType,
+    Change, Doc, FieldChanges, FieldItems, Fields, Item, Items, Kind, Name, Op, Value, ValueType,
     compare, fits,
 };
 use std::alloc::{AllocError, Global};
 use std::cmp::Ordering;
 use std::process::Abort;
 use std::test::Fail;
+
+/// Whether a value is equal to its copy.
+fn is_its_copy(value: &Value) -> Result<bool, AllocError> {
+    let copy = value.clone()?;
+    Ok(*value == copy)
+}
 
 fn check_order(
     rt: &impl Abort,
@@ -17,8 +23,8 @@ fn check_order(
 ) -> Result<(), AllocError> {
     let a = Value::Text(text(rt, alloc, a)?);
     let b = Value::Text(text(rt, alloc, b)?);
-    assert_eq!(rt; compare(&a, &b), wanted);
-    assert_eq!(rt; a == b.clone()?, wanted.is_eq());
+    let is_right = is_its_copy(&b)? && compare(&a, &b) == wanted && (a == b) == wanted.is_eq();
+    assert!(rt; is_right);
     Ok(())
 }
 
@@ -31,7 +37,8 @@ fn values_have_an_order(rt: HostRuntime) -> Result<(), Fail> {
         (i64::MIN, i64::MAX, Ordering::Less),
     ];
     for (a, b, wanted) in longs {
-        assert_eq!(rt; compare(&Value::Long(a), &Value::Long(b)), wanted);
+        let found = compare(&Value::Long(a), &Value::Long(b));
+        assert!(rt; found == wanted);
     }
     let texts = [
         ("", "t", Ordering::Less),
@@ -46,17 +53,30 @@ fn values_have_an_order(rt: HostRuntime) -> Result<(), Fail> {
     Ok(())
 }
 
+/// Whether a copy of items holds these numbers with their weights.
+fn is_copied(rt: &impl Abort, alloc: Global, numbers: &[(i64, i32)]) -> Result<bool, AllocError> {
+    let copy = items(rt, alloc, ValueType::Long, numbers)?.clone()?;
+    Ok(copy.is_empty() == numbers.is_empty() && are_numbers(copy.as_slice(), numbers))
+}
+
+fn are_numbers(items: &[Item], numbers: &[(i64, i32)]) -> bool {
+    for (item, (number, weight)) in items.iter().zip(numbers) {
+        if item.value != Value::Long(*number) || item.weight != *weight {
+            return false;
+        }
+    }
+    items.len() == numbers.len()
+}
+
 #[test]
 fn a_list_holds_what_was_pushed(rt: HostRuntime) -> Result<(), Fail> {
     let alloc = rt.alloc();
-    let numbers: &[(i64, i32)] = &[(5, 1), (7, -2), (9, 3)];
-    let copy = items(&rt, alloc, ValueType::Long, numbers)?.clone()?;
-    assert_eq!(rt; copy.len(), 3);
-    for (item, (number, weight)) in copy.as_slice().iter().zip(numbers) {
-        assert!(rt; item.value == Value::Long(*number) && item.weight == *weight);
-    }
-    assert_eq!(rt; Name::from_str(alloc, "fé")?.clone()?.as_str(), "fé");
-    assert!(rt; !copy.is_empty() && Items::new(alloc).is_empty());
+    let is_right = is_copied(&rt, alloc, &[(5, 1), (7, -2), (9, 3)])?;
+    assert!(rt; is_right);
+    let empty = is_copied(&rt, alloc, &[])? && Items::new(alloc).is_empty();
+    assert!(rt; empty);
+    let name = Name::from_str(alloc, "fé")?.clone()?;
+    assert!(rt; name.as_str() == "fé");
     Ok(())
 }
 
@@ -132,45 +152,50 @@ fn fitting() -> [(Step, [bool; 3], [bool; 3]); 18] {
     ]
 }
 
-fn check_fits(
+/// Whether an operation fits an attribute of each kind as is told.
+fn fits_as(
     rt: &impl Abort,
     alloc: Global,
     value_type: ValueType,
     step: Step,
     wanted: [bool; 3],
-) -> Result<(), AllocError> {
+) -> Result<bool, AllocError> {
     let op = op(rt, alloc, value_type, doc(rt, Doc::LAST), false, step)?;
-    for (kind, wanted) in [Kind::Single, Kind::Array, Kind::WeightedSet]
-        .iter()
-        .zip(wanted)
-    {
-        let fields = one_field(alloc, *kind, value_type)?;
-        assert_eq!(rt; fits(&fields, &op), wanted, "{step:?}");
-    }
-    Ok(())
+    let single = fits_in(alloc, Kind::Single, value_type, &op)?;
+    let array = fits_in(alloc, Kind::Array, value_type, &op)?;
+    let set = fits_in(alloc, Kind::WeightedSet, value_type, &op)?;
+    Ok([single, array, set] == wanted)
+}
+
+fn fits_in(alloc: Global, kind: Kind, value: ValueType, op: &Op) -> Result<bool, AllocError> {
+    let fields = one_field(alloc, kind, value)?;
+    Ok(fits(&fields, op))
 }
 
 #[test]
 fn an_operation_fits_by_kind_and_value_type(rt: HostRuntime) -> Result<(), Fail> {
+    let mut row = 0u32;
     for (step, of_longs, of_texts) in fitting() {
-        check_fits(&rt, rt.alloc(), ValueType::Long, step, of_longs)?;
-        check_fits(&rt, rt.alloc(), ValueType::Text, step, of_texts)?;
+        let longs = fits_as(&rt, rt.alloc(), ValueType::Long, step, of_longs)?;
+        let texts = fits_as(&rt, rt.alloc(), ValueType::Text, step, of_texts)?;
+        assert!(rt; longs && texts, "row {row}");
+        row = row.saturating_add(1);
     }
     Ok(())
 }
 
-/// No operation with values of the other type fits.
-fn check_type(rt: &impl Abort, alloc: Global, kind: Kind, step: Step) -> Result<(), AllocError> {
+/// Whether no operation with values of the other type fits.
+fn fits_none(rt: &impl Abort, alloc: Global, kind: Kind, step: Step) -> Result<bool, AllocError> {
     let numbers = op(rt, alloc, ValueType::Long, doc(rt, 1), true, step)?;
     let words = op(rt, alloc, ValueType::Text, doc(rt, 1), true, step)?;
-    assert!(rt;
-        !fits(&one_field(alloc, kind, ValueType::Text)?, &numbers),
-        "{step:?}"
-    );
-    assert!(rt;
-        !fits(&one_field(alloc, kind, ValueType::Long)?, &words),
-        "{step:?}"
-    );
+    let fits_texts = fits_in(alloc, kind, ValueType::Text, &numbers)?;
+    let fits_longs = fits_in(alloc, kind, ValueType::Long, &words)?;
+    Ok(!fits_texts && !fits_longs)
+}
+
+fn check_type(rt: &impl Abort, alloc: Global, kind: Kind, step: Step) -> Result<(), AllocError> {
+    let is_right = fits_none(rt, alloc, kind, step)?;
+    assert!(rt; is_right);
     Ok(())
 }
 
@@ -185,29 +210,44 @@ fn values_are_of_the_attributes_type(rt: HostRuntime) -> Result<(), Fail> {
     Ok(())
 }
 
-fn check_lists(
+/// So many lists of items, and as many changes.
+fn lists(alloc: Global, count: u32) -> Result<FieldItems, AllocError> {
+    let mut items = FieldItems::new(alloc);
+    for _ in 0..count {
+        items.push(Items::new(alloc))?;
+    }
+    Ok(items)
+}
+
+fn keeps(alloc: Global, count: u32) -> Result<FieldChanges, AllocError> {
+    let mut change = FieldChanges::new(alloc);
+    for _ in 0..count {
+        change.push(Change::Keep)?;
+    }
+    Ok(change)
+}
+
+/// Whether a put of so many lists fits, if it fits as an update of so many changes does.
+fn fits_with(
     rt: &impl Abort,
     alloc: Global,
     fields: &Fields,
-    lists: u32,
-    wanted: bool,
-) -> Result<(), AllocError> {
-    let mut items = FieldItems::new(alloc);
-    let mut change = FieldChanges::new(alloc);
-    for _ in 0..lists {
-        items.push(Items::new(alloc))?;
-        change.push(Change::Keep)?;
-    }
+    count: u32,
+) -> Result<Option<bool>, AllocError> {
     let doc = doc(rt, 1);
+    let items = lists(alloc, count)?;
+    let puts = fits(fields, &Op::Put { doc, items });
     let create = true;
-    assert_eq!(rt; fits(fields, &Op::Put { doc, items }), wanted);
-    let update = Op::Update {
-        doc,
-        create,
-        change,
-    };
-    assert_eq!(rt; fits(fields, &update), wanted);
-    Ok(())
+    let change = keeps(alloc, count)?;
+    let updates = fits(
+        fields,
+        &Op::Update {
+            doc,
+            create,
+            change,
+        },
+    );
+    Ok(if puts == updates { Some(puts) } else { None })
 }
 
 #[test]
@@ -215,8 +255,9 @@ fn an_operation_fits_with_one_list_an_attribute(rt: HostRuntime) -> Result<(), F
     let alloc = rt.alloc();
     let mut fields = one_field(alloc, Kind::Single, ValueType::Long)?;
     fields.push(field(alloc, "g", Kind::Array, ValueType::Long)?)?;
-    for (lists, wanted) in [(0, false), (1, false), (2, true), (3, false)] {
-        check_lists(&rt, alloc, &fields, lists, wanted)?;
+    for (count, wanted) in [(0, false), (1, false), (2, true), (3, false)] {
+        let found = fits_with(&rt, alloc, &fields, count)?;
+        assert!(rt; found == Some(wanted), "{count} lists");
     }
     Ok(())
 }

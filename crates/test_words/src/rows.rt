@@ -2,43 +2,82 @@
 //! `many COUNT FRONT MIDDLE BACK`, and then `said LINE`, what it must be read as. `on LINE` gives the words that name the attributes
 //! of the rows after it. Other lines are remarks.
 use crate::{asks, words};
-use attr_types::Fields;
+use attr_types::{Field, Fields};
+use std::alloc::{AllocError, Global};
 use std::io;
 
-pub fn compare(rt: &HostRuntime) -> io::Result<()> {
-    let alloc = rt.alloc();
-    let mut fields = Fields::new(alloc);
-    let mut case = String::new(alloc);
-    let mut found = String::new(alloc);
-    let mut compared = 0u32;
-    let mut right = 0u32;
-    for line in rt.lines(alloc) {
-        let line = line?;
-        if let Some(row) = line.strip_prefix("on ") {
-            fields = words::fields_in(alloc, row)?;
-        } else if let Some(row) = line.strip_prefix("words ") {
-            found = words::told(alloc, row)?;
-            case = String::from_str(alloc, row)?;
-        } else if let Some(row) = line.strip_prefix("ask ") {
-            found = asks::told(alloc, row, fields.as_slice())?;
-            case = String::from_str(alloc, row)?;
-        } else if let Some(row) = line.strip_prefix("query ") {
-            found = asks::query_told(alloc, row, fields.as_slice())?;
-            case = String::from_str(alloc, row)?;
-        } else if let Some(row) = line.strip_prefix("takes ") {
-            found = asks::taken_told(alloc, row, fields.as_slice())?;
-            case = String::from_str(alloc, row)?;
-        } else if let Some(row) = line.strip_prefix("many ") {
-            found = asks::many_told(alloc, row, fields.as_slice())?;
-            case = String::from_str(alloc, row)?;
-        } else if let Some(wanted) = line.strip_prefix("said ") {
-            compared = compared.saturating_add(1);
-            if found.as_str() == wanted {
-                right = right.saturating_add(1);
-            } else {
-                println!(rt; "{case}: {found} in place of {wanted}")?;
-            }
+/// What a row is read as; nothing where it is a remark.
+fn told(
+    alloc: Global,
+    kind: &str,
+    row: &str,
+    fields: &[Field],
+) -> Result<Option<String>, AllocError> {
+    match kind {
+        "words" => Ok(Some(words::told(alloc, row)?)),
+        "ask" => Ok(Some(asks::told(alloc, row, fields)?)),
+        "query" => Ok(Some(asks::query_told(alloc, row, fields)?)),
+        "takes" => Ok(Some(asks::taken_told(alloc, row, fields)?)),
+        "many" => Ok(Some(asks::many_told(alloc, row, fields)?)),
+        _ => Ok(None),
+    }
+}
+
+/// The attributes of the rows, the last row, and how many were compared.
+#[derive(Drop)]
+struct Rows {
+    fields: Fields,
+    case: String,
+    found: String,
+    compared: u32,
+    right: u32,
+}
+
+impl Rows {
+    fn new(alloc: Global) -> Rows {
+        Rows {
+            fields: Fields::new(alloc),
+            case: String::new(alloc),
+            found: String::new(alloc),
+            compared: 0,
+            right: 0,
         }
     }
+
+    fn read(&mut self, alloc: Global, kind: &str, row: &str) -> Result<(), AllocError> {
+        if let Some(found) = told(alloc, kind, row, self.fields.as_slice())? {
+            self.found = found;
+            self.case = String::from_str(alloc, row)?;
+        }
+        Ok(())
+    }
+
+    fn judge(&mut self, rt: &HostRuntime, wanted: &str) -> io::Result<()> {
+        self.compared = self.compared.saturating_add(1);
+        if self.found.as_str() == wanted {
+            self.right = self.right.saturating_add(1);
+            return Ok(());
+        }
+        println!(rt; "{}: {} in place of {wanted}", self.case, self.found)
+    }
+
+    fn take(&mut self, rt: &HostRuntime, line: &str) -> io::Result<()> {
+        let alloc = rt.alloc();
+        let (kind, row) = line.split_once(' ').unwrap_or((line, ""));
+        match kind {
+            "said" => return self.judge(rt, row),
+            "on" => self.fields = words::fields_in(alloc, row)?,
+            _ => self.read(alloc, kind, row)?,
+        }
+        Ok(())
+    }
+}
+
+pub fn compare(rt: &HostRuntime) -> io::Result<()> {
+    let mut rows = Rows::new(rt.alloc());
+    for line in rt.lines(rt.alloc()) {
+        rows.take(rt, line?.as_str())?;
+    }
+    let (compared, right) = (rows.compared, rows.right);
     println!(rt; "rows: {compared} compared, {right} as wanted")
 }
