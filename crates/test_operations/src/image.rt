@@ -7,11 +7,10 @@ ghost use Rattle.attr_types.specs.declared.field.TheConstants.{MOST_FIELDS};
 use crate::ask::{parts_of, query_of};
 use crate::make::Sizes;
 use crate::random::Random;
-use crate::turn::{Kinds, Memory};
+use crate::turn::{Kinds, Memory, close};
 use attr_plain::PlainTable;
 use attr_scores::{Score, scores_of};
-use attr_types::{Doc, FieldItems, Fields, Items};
-use attribute_kinds::committed_work;
+use attr_types::{Doc, FieldItems, Fields, Items, Query};
 use check_images::check_image;
 use check_trees::CheckFault;
 use entry_ref::EntryRef;
@@ -57,7 +56,30 @@ fn are_same_scores(found: &[Score], wanted: &[Score]) -> bool {
     true
 }
 
-/// One query: how many documents it has, if these are the plain table's.
+/// How many documents a query has, if these are the plain table's.
+fn same_hits<F: Frozen<22>>(
+    alloc: Global,
+    frozen: &mut F,
+    root: EntryRef<22>,
+    fields: &Fields,
+    plain: &PlainTable,
+    query: &Query,
+) -> Result<Option<usize>, AllocError>
+    requires few { length fields.now ≤ MOST_FIELDS }
+    requires shape { F.shape frozen.old ≡ shape_of (types_of fields.now) }
+    requires image { IsLawfulImage (F.shape frozen.old) (F.records frozen.old) root }
+    ensures same { frozen.new ≡ frozen.old }
+{
+    let found = hits(alloc, frozen, root, fields, query)?;
+    let wanted = plain.hits(alloc, query)?;
+    if are_same_documents(found.as_slice(), wanted.as_slice()) {
+        Ok(Some(found.len()))
+    } else {
+        Ok(None)
+    }
+}
+
+/// One query by chance.
 fn hits_same<F: Frozen<22>>(
     alloc: Global,
     frozen: &mut F,
@@ -73,13 +95,7 @@ fn hits_same<F: Frozen<22>>(
     ensures same { frozen.new ≡ frozen.old }
 {
     let query = query_of(alloc, fields.as_slice(), sizes, random)?;
-    let found = hits(alloc, frozen, root, fields, &query)?;
-    let wanted = plain.hits(alloc, &query)?;
-    if are_same_documents(found.as_slice(), wanted.as_slice()) {
-        Ok(Some(found.len()))
-    } else {
-        Ok(None)
-    }
+    same_hits(alloc, frozen, root, fields, plain, &query)
 }
 
 /// One dot product: how many documents have a score, if these are the plain table's.
@@ -256,10 +272,9 @@ pub fn ask_image(
     requires few { length fields.now ≤ MOST_FIELDS }
     requires same { attribute.fields ≡ fields.now }
 {
-    let (store, published) = attribute.into_store();
+    let (mut work, published) = close(attribute, fields);
     let root = published.root;
     let operations = published.operations;
-    let mut work = committed_work(store, fields, root);
     let count = documents(&mut work, root);
     let asked = Asked {
         differs: count as usize != plain.documents().len(),

@@ -1,19 +1,14 @@
 //! Rows of standard input: `run FIELDS SEED EPISODES OPERATIONS DOCUMENTS VALUES ITEMS PERIOD COMMITS BUFFERS QUERIES CHECKS`, and then
 //! `said LINE`, how much it must have done, and `met WORDS`, what it must have met often enough. FIELDS are `KIND:TYPE`, with commas
-//! between
-//! them. Other lines are remarks.
+//! between them. Or `on FIELDS BUFFERS`, an operation of a feed or `commit` a line, `ask QUERY` for each query, and then `answers LINE`,
+//! what all that must come to. Other lines are remarks.
+use crate::lines::Lines;
 use crate::make::Sizes;
+use crate::row::{fields_in, number_at};
 use crate::run::{Load, Told, run};
-use attr_types::{Field, Fields, Kind, MOST_FIELDS, Name, ValueType};
+use attr_types::MOST_FIELDS;
 use std::alloc::{AllocError, Global};
 use std::io;
-
-fn number_at(row: &str, place: usize) -> u32 {
-    match row.split(' ').skip(place).next() {
-        Some(word) => word.parse::<u32>().unwrap_or(0),
-        None => 0,
-    }
-}
 
 fn load_in(row: &str) -> Load {
     Load {
@@ -31,35 +26,6 @@ fn load_in(row: &str) -> Load {
         queries: number_at(row, 10),
         checks: number_at(row, 11) != 0,
     }
-}
-
-fn kind_in(word: &str) -> Kind {
-    match word.split(':').next() {
-        Some("array") => Kind::Array,
-        Some("weightedset") => Kind::WeightedSet,
-        _ => Kind::Single,
-    }
-}
-
-fn type_in(word: &str) -> ValueType {
-    match word.split(':').skip(1).next() {
-        Some("string") => ValueType::Text,
-        _ => ValueType::Long,
-    }
-}
-
-fn fields_in(alloc: Global, row: &str) -> Result<Fields, AllocError> {
-    let mut fields = Fields::new(alloc);
-    if let Some(words) = row.split(' ').next() {
-        for word in words.split(',') {
-            fields.push(Field {
-                name: Name::from_str(alloc, word)?,
-                kind: kind_in(word),
-                value: type_in(word),
-            })?;
-        }
-    }
-    Ok(fields)
 }
 
 /// How much was done: operations and commits only where nothing was refused, for how much is refused a row does not tell.
@@ -104,8 +70,16 @@ fn has_met_all(told: Told, words: &str) -> bool {
     true
 }
 
-/// Whether a run is as a line wants it, or nothing where the line is a remark.
-fn is_as_wanted(alloc: Global, told: Option<Told>, line: &str) -> Result<Option<bool>, AllocError> {
+/// Whether a run or a worked row is as a line wants it, or nothing where the line is a remark.
+fn is_as_wanted(
+    alloc: Global,
+    told: Option<Told>,
+    worked: &Lines,
+    line: &str,
+) -> Result<Option<bool>, AllocError> {
+    if let Some(wanted) = line.strip_prefix("answers") {
+        return Ok(Some(worked.answer(alloc)?.as_str() == wanted));
+    }
     let Some(told) = told else {
         return Ok(None);
     };
@@ -119,10 +93,10 @@ fn is_as_wanted(alloc: Global, told: Option<Told>, line: &str) -> Result<Option<
     }
 }
 
-/// All that a run came to.
-fn described(alloc: Global, told: Option<Told>) -> Result<String, AllocError> {
+/// All that a run or a worked row came to.
+fn described(alloc: Global, told: Option<Told>, worked: &Lines) -> Result<String, AllocError> {
     let Some(told) = told else {
-        return String::from_str(alloc, "no run");
+        return worked.answer(alloc);
     };
     let counts = counts_of(alloc, told)?;
     format!(in alloc;
@@ -151,26 +125,72 @@ fn told(alloc: Global, row: &str) -> Result<Option<Told>, AllocError> {
     Ok(Some(run(alloc, &fields, load_in(row))?))
 }
 
-pub fn compare(rt: &HostRuntime) -> io::Result<()> {
-    let alloc = rt.alloc();
-    let mut case = String::new(alloc);
-    let mut last: Option<Told> = None;
-    let mut compared = 0u32;
-    let mut right = 0u32;
-    for line in rt.lines(alloc) {
-        let line = line?;
+/// The last row, what it came to, and how many lines were compared.
+#[derive(Drop)]
+struct Rows {
+    case: String,
+    told: Option<Told>,
+    worked: Lines,
+    compared: u32,
+    right: u32,
+}
+
+impl Rows {
+    fn new(alloc: Global) -> Result<Rows, AllocError> {
+        let worked = Lines::new(alloc, "")?;
+        let case = String::new(alloc);
+        Ok(Rows {
+            case,
+            told: None,
+            worked,
+            compared: 0,
+            right: 0,
+        })
+    }
+
+    fn begin_run(&mut self, alloc: Global, row: &str) -> Result<(), AllocError> {
+        self.told = told(alloc, row)?;
+        self.case = String::from_str(alloc, row)?;
+        Ok(())
+    }
+
+    fn begin_worked(&mut self, alloc: Global, row: &str) -> Result<(), AllocError> {
+        self.told = None;
+        self.worked = Lines::new(alloc, row)?;
+        self.case = String::from_str(alloc, row)?;
+        Ok(())
+    }
+
+    fn judge(&mut self, rt: &HostRuntime, is_right: bool, line: &str) -> io::Result<()> {
+        self.compared = self.compared.saturating_add(1);
+        if is_right {
+            self.right = self.right.saturating_add(1);
+            return Ok(());
+        }
+        let found = described(rt.alloc(), self.told, &self.worked)?;
+        println!(rt; "{}: {found} in place of {line}", self.case)
+    }
+
+    fn take(&mut self, rt: &HostRuntime, line: &str) -> io::Result<()> {
+        let alloc = rt.alloc();
         if let Some(row) = line.strip_prefix("run ") {
-            last = told(alloc, row)?;
-            case = String::from_str(alloc, row)?;
-        } else if let Some(wanted) = is_as_wanted(alloc, last, line.as_str())? {
-            compared = compared.saturating_add(1);
-            if wanted {
-                right = right.saturating_add(1);
-            } else {
-                let found = described(alloc, last)?;
-                println!(rt; "{case}: {found} in place of {line}")?;
-            }
+            return Ok(self.begin_run(alloc, row)?);
+        }
+        if let Some(row) = line.strip_prefix("on ") {
+            return Ok(self.begin_worked(alloc, row)?);
+        }
+        match is_as_wanted(alloc, self.told, &self.worked, line)? {
+            Some(is_right) => self.judge(rt, is_right, line),
+            None => Ok(self.worked.take(line)?),
         }
     }
+}
+
+pub fn compare(rt: &HostRuntime) -> io::Result<()> {
+    let mut rows = Rows::new(rt.alloc())?;
+    for line in rt.lines(rt.alloc()) {
+        rows.take(rt, line?.as_str())?;
+    }
+    let (compared, right) = (rows.compared, rows.right);
     println!(rt; "rows: {compared} compared, {right} as wanted")
 }

@@ -9,9 +9,12 @@ use crate::turn::{
     Answer, Committed, Kinds, apply_one, apply_plain, commit_one, new_attribute, new_plain,
 };
 use attr_changes::Applied;
+use attr_images::AttrLayout;
 use attr_plain::PlainTable;
 use attr_types::{Fields, Op};
+use attribute_kinds::Attribute;
 use std::alloc::{AllocError, Global};
+use store_api::Store;
 
 /// What a run is.
 #[derive(Clone, Copy)]
@@ -54,8 +57,8 @@ pub struct Told {
 }
 
 /// Commits; whether it goes on.
-fn commit_now(
-    attribute: &mut Kinds,
+fn commit_now<const OFFSET_BITS: u32, S: Store<OFFSET_BITS, Layout = AttrLayout>>(
+    attribute: &mut Attribute<OFFSET_BITS, S>,
     fields: &Fields,
     operations: u32,
     told: &mut Told,
@@ -64,7 +67,10 @@ fn commit_now(
     ensures same { attribute.new.fields ≡ fields.now }
 {
     match commit_one(attribute, fields)? {
-        Committed::At(count) => {
+        Committed::At {
+            operations: count,
+            ..
+        } => {
             told.commits = told.commits.saturating_add(1);
             told.committed = operations;
             if count != operations {
@@ -72,7 +78,7 @@ fn commit_now(
             }
             Ok(count == operations)
         }
-        Committed::Full => {
+        Committed::Full { .. } => {
             told.full = told.full.saturating_add(1);
             Ok(false)
         }
@@ -84,9 +90,9 @@ fn commit_now(
 }
 
 /// What was refused once more, after a commit; nothing where the episode ends.
-fn apply_again(
+fn apply_again<const OFFSET_BITS: u32, S: Store<OFFSET_BITS, Layout = AttrLayout>>(
     alloc: Global,
-    attribute: &mut Kinds,
+    attribute: &mut Attribute<OFFSET_BITS, S>,
     fields: &Fields,
     op: &Op,
     told: &mut Told,
@@ -99,7 +105,7 @@ fn apply_again(
             told.again = told.again.saturating_add(1);
             Ok(Some(applied))
         }
-        Answer::Full => {
+        Answer::Full { .. } => {
             told.twice = told.twice.saturating_add(1);
             Ok(None)
         }
@@ -111,9 +117,9 @@ fn apply_again(
 }
 
 /// After a refusal: one episode in eight ends as it is, one in eight after a commit, and the others go on.
-fn apply_refused(
+fn apply_refused<const OFFSET_BITS: u32, S: Store<OFFSET_BITS, Layout = AttrLayout>>(
     alloc: Global,
-    attribute: &mut Kinds,
+    attribute: &mut Attribute<OFFSET_BITS, S>,
     fields: &Fields,
     op: &Op,
     operations: u32,
@@ -136,9 +142,9 @@ fn apply_refused(
 }
 
 /// An operation on attributes; nothing where the episode ends.
-fn apply(
+fn apply<const OFFSET_BITS: u32, S: Store<OFFSET_BITS, Layout = AttrLayout>>(
     alloc: Global,
-    attribute: &mut Kinds,
+    attribute: &mut Attribute<OFFSET_BITS, S>,
     fields: &Fields,
     op: &Op,
     operations: u32,
@@ -149,7 +155,7 @@ fn apply(
 {
     match apply_one(alloc, attribute, fields, op)? {
         Answer::Applied(applied) => Ok(Some(applied)),
-        Answer::Full => apply_refused(alloc, attribute, fields, op, operations, told),
+        Answer::Full { .. } => apply_refused(alloc, attribute, fields, op, operations, told),
         Answer::Odd => {
             told.differs = true;
             Ok(None)
@@ -165,9 +171,9 @@ fn count(told: &mut Told, applied: Applied) {
 }
 
 /// One operation on both; whether it goes on.
-fn apply_both(
+fn apply_both<const OFFSET_BITS: u32, S: Store<OFFSET_BITS, Layout = AttrLayout>>(
     alloc: Global,
-    attribute: &mut Kinds,
+    attribute: &mut Attribute<OFFSET_BITS, S>,
     plain: &mut PlainTable,
     fields: &Fields,
     op: Op,
@@ -192,9 +198,9 @@ fn apply_both(
 }
 
 /// A turn: an operation, and a commit where it is due; whether it goes on.
-fn take_turn(
+fn take_turn<const OFFSET_BITS: u32, S: Store<OFFSET_BITS, Layout = AttrLayout>>(
     alloc: Global,
-    attribute: &mut Kinds,
+    attribute: &mut Attribute<OFFSET_BITS, S>,
     plain: &mut PlainTable,
     fields: &Fields,
     load: Load,
@@ -219,9 +225,9 @@ fn take_turn(
 }
 
 /// The turns of an episode, until something is refused for good.
-fn take_turns(
+fn take_turns<const OFFSET_BITS: u32, S: Store<OFFSET_BITS, Layout = AttrLayout>>(
     alloc: Global,
-    attribute: &mut Kinds,
+    attribute: &mut Attribute<OFFSET_BITS, S>,
     plain: &mut PlainTable,
     fields: &Fields,
     load: Load,
@@ -268,6 +274,46 @@ fn add(told: &mut Told, asked: Asked) {
     }
 }
 
+/// The turns of an episode on both, each without a document.
+fn play<const OFFSET_BITS: u32, S: Store<OFFSET_BITS, Layout = AttrLayout>>(
+    alloc: Global,
+    attribute: &mut Attribute<OFFSET_BITS, S>,
+    fields: &Fields,
+    load: Load,
+    random: &mut Random,
+    told: &mut Told,
+) -> Result<(), AllocError>
+    requires same { attribute.old.fields ≡ fields.now }
+    ensures same { attribute.new.fields ≡ fields.now }
+{
+    let mut plain = new_plain(alloc, fields)?;
+    told.committed = 0;
+    take_turns(alloc, attribute, &mut plain, fields, load, random, told)
+}
+
+/// What the last commit answers, beside the plain table after its operations.
+fn ask_last(
+    alloc: Global,
+    attribute: Kinds,
+    fields: &Fields,
+    load: Load,
+    start: Random,
+    random: &mut Random,
+    told: &mut Told,
+) -> Result<(), AllocError>
+    requires few { length fields.now ≤ MOST_FIELDS }
+    requires same { attribute.fields ≡ fields.now }
+{
+    let (sizes, queries) = (load.sizes, load.queries);
+    let wanted = plain_after(alloc, fields, sizes, start, told.committed)?;
+    let asked = ask_image(alloc, attribute, fields, &wanted, sizes, queries, random)?;
+    if asked.differs || asked.operations != told.committed {
+        told.differs = true;
+    }
+    add(told, asked);
+    Ok(())
+}
+
 fn episode(
     alloc: Global,
     fields: &Fields,
@@ -280,32 +326,8 @@ fn episode(
 {
     let start = *random;
     let mut attribute = new_attribute(alloc, fields, load.buffers.max(1).min(1000), load.checks)?;
-    let mut plain = new_plain(alloc, fields)?;
-    told.committed = 0;
-    take_turns(
-        alloc,
-        &mut attribute,
-        &mut plain,
-        fields,
-        load,
-        random,
-        told,
-    )?;
-    let wanted = plain_after(alloc, fields, load.sizes, start, told.committed)?;
-    let asked = ask_image(
-        alloc,
-        attribute,
-        fields,
-        &wanted,
-        load.sizes,
-        load.queries,
-        random,
-    )?;
-    if asked.differs || asked.operations != told.committed {
-        told.differs = true;
-    }
-    add(told, asked);
-    Ok(())
+    play(alloc, &mut attribute, fields, load, random, told)?;
+    ask_last(alloc, attribute, fields, load, start, random, told)
 }
 
 /// The episodes of a run, one after another, until something differs.

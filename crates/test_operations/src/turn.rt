@@ -1,6 +1,7 @@
 //! One operation on attributes in a store and on the plain table.
 ghost use Rattle.std.specs.Prelude.{◌≡◌, ◌<◌, ◌≤◌, length, IfOk};
 ghost use Rattle.arena_api.specs.Calls.{IsFresh};
+ghost use Rattle.attr_images.specs.Images.{IsLawfulImage};
 ghost use Rattle.attr_images.specs.Shapes.{shape_of, types_of};
 ghost use Rattle.attr_types.specs.declared.field.TheConstants.{MOST_FIELDS};
 
@@ -9,12 +10,13 @@ use attr_changes::Applied;
 use attr_images::{AttrLayout, shape_of};
 use attr_plain::PlainTable;
 use attr_types::{Fields, Op, fits};
-use attribute_kinds::{AttrError, Attribute};
+use attribute_kinds::{AttrError, Attribute, Published, committed_work};
 use entry_store::EntryStore;
 use frozen_api::Frozen;
 use mem_work::MemWork;
 use noted_work::NotedWork;
 use std::alloc::{AllocError, Global};
+use store_api::Store;
 
 /// A memory without readers, and beside it the words of each record as they were stored.
 pub type Memory = NotedWork<22, MemWork<22, AttrLayout>>;
@@ -26,7 +28,8 @@ pub type Kinds = Attribute<22, EntryStore<22, Memory>>;
 #[derive(Clone, Copy)]
 pub enum Answer {
     Applied(Applied),
-    Full,
+    /// Refused for want of a buffer, with so many in use.
+    Full { active: u32, held: u32 },
     /// Refused for a reason that there is not.
     Odd,
 }
@@ -34,9 +37,10 @@ pub enum Answer {
 /// What a commit came to.
 #[derive(Clone, Copy)]
 pub enum Committed {
-    /// With so many operations.
-    At(u32),
-    Full,
+    /// Of this number, with so many operations.
+    At { number: u32, operations: u32 },
+    /// Refused for want of a buffer, with so many in use.
+    Full { active: u32, held: u32 },
     /// Refused for a reason that there is not.
     Odd,
 }
@@ -94,9 +98,9 @@ pub fn new_plain(alloc: Global, fields: &Fields) -> Result<PlainTable, AllocErro
 }
 
 /// Applies an operation to attributes.
-pub fn apply_one(
+pub fn apply_one<const OFFSET_BITS: u32, S: Store<OFFSET_BITS, Layout = AttrLayout>>(
     alloc: Global,
-    attribute: &mut Kinds,
+    attribute: &mut Attribute<OFFSET_BITS, S>,
     fields: &Fields,
     op: &Op,
 ) -> Result<Answer, AllocError>
@@ -111,7 +115,7 @@ pub fn apply_one(
     }
     match attribute.apply(alloc, op) {
         Ok(applied) => Ok(Answer::Applied(applied)),
-        Err(AttrError::Full { .. }) => Ok(Answer::Full),
+        Err(AttrError::Full { active, held, .. }) => Ok(Answer::Full { active, held }),
         Err(AttrError::CommitsSpent { .. }) => Ok(Answer::Odd),
         Err(AttrError::Memory) => Err(AllocError),
     }
@@ -134,14 +138,32 @@ pub fn apply_plain(
 }
 
 /// Commits the attributes.
-pub fn commit_one(attribute: &mut Kinds, fields: &Fields) -> Result<Committed, AllocError>
+pub fn commit_one<const OFFSET_BITS: u32, S: Store<OFFSET_BITS, Layout = AttrLayout>>(
+    attribute: &mut Attribute<OFFSET_BITS, S>,
+    fields: &Fields,
+) -> Result<Committed, AllocError>
     requires same { attribute.old.fields ≡ fields.now }
     ensures same { attribute.new.fields ≡ fields.now }
 {
     match attribute.commit() {
-        Ok(info) => Ok(Committed::At(info.operations)),
-        Err(AttrError::Full { .. }) => Ok(Committed::Full),
+        Ok(info) => Ok(Committed::At {
+            number: info.commit,
+            operations: info.operations,
+        }),
+        Err(AttrError::Full { active, held, .. }) => Ok(Committed::Full { active, held }),
         Err(AttrError::CommitsSpent { .. }) => Ok(Committed::Odd),
         Err(AttrError::Memory) => Err(AllocError),
     }
+}
+
+/// The memory of attributes with all that was committed, and the last commit.
+pub fn close(attribute: Kinds, fields: &Fields) -> (Memory, Published<22>)
+    requires same { attribute.fields ≡ fields.now }
+    ensures shape { ⟦<NotedWork<22, MemWork<22, AttrLayout>> as Frozen<22>>⟧.shape result.0 ≡ shape_of (types_of fields.now) }
+    ensures image { IsLawfulImage (⟦<NotedWork<22, MemWork<22, AttrLayout>> as Frozen<22>>⟧.shape result.0)
+        (⟦<NotedWork<22, MemWork<22, AttrLayout>> as Frozen<22>>⟧.records result.0) result.1.root }
+{
+    let (store, published) = attribute.into_store();
+    let work = committed_work(store, fields, published.root);
+    (work, published)
 }

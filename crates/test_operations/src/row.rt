@@ -1,0 +1,41 @@
+//! What the words of a row name.
+use attr_types::{Field, Fields, Kind, Name, ValueType};
+use std::alloc::{AllocError, Global};
+
+/// The number at this place of a row, 0 where there is none.
+pub fn number_at(row: &str, place: usize) -> u32 {
+    match row.split(' ').skip(place).next() {
+        Some(word) => word.parse::<u32>().unwrap_or(0),
+        None => 0,
+    }
+}
+
+fn kind_in(word: &str) -> Kind {
+    match word.split(':').next() {
+        Some("array") => Kind::Array,
+        Some("weightedset") => Kind::WeightedSet,
+        _ => Kind::Single,
+    }
+}
+
+fn type_in(word: &str) -> ValueType {
+    match word.split(':').skip(1).next() {
+        Some("string") => ValueType::Text,
+        _ => ValueType::Long,
+    }
+}
+
+/// The attributes that a row names, each named `f`.
+pub fn fields_in(alloc: Global, row: &str) -> Result<Fields, AllocError> {
+    let mut fields = Fields::new(alloc);
+    if let Some(words) = row.split(' ').next() {
+        for word in words.split(',') {
+            fields.push(Field {
+                name: Name::from_str(alloc, "f")?,
+                kind: kind_in(word),
+                value: type_in(word),
+            })?;
+        }
+    }
+    Ok(fields)
+}

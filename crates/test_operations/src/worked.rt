@@ -1,0 +1,225 @@
+//! Operations of a feed on attributes without a document, in the order of a row's lines, and what their last commit answers.
+ghost use Rattle.std.specs.Prelude.{◌≡◌, ◌<◌, ◌≤◌, length};
+ghost use Rattle.attr_images.specs.Images.{IsLawfulImage};
+ghost use Rattle.attr_images.specs.Shapes.{shape_of, types_of};
+ghost use Rattle.attr_types.specs.declared.field.TheConstants.{MOST_FIELDS};
+
+use crate::told::{push_answer, push_commit, push_documents, push_table};
+use crate::turn::{Kinds, Memory, apply_one, close, commit_one, new_attribute};
+use attr_images::AttrLayout;
+use attr_io::SliceSource;
+use attr_types::{Fields, Ops, Query};
+use attribute_kinds::Attribute;
+use check_images::check_image;
+use check_trees::CheckFault;
+use entry_ref::EntryRef;
+use feed_reader::{FeedError, read_feed};
+use frozen_api::Frozen;
+use image_base::{word_in, words_at};
+use query_eval::hits;
+use query_text::parse_query;
+use std::alloc::{AllocError, Global};
+use std::collections::BTreeMap;
+use store_api::Store;
+
+/// The reader itself. It promises nothing, so that no proof of its callers carries its contract.
+fn read(alloc: Global, line: &str, fields: &Fields) -> Result<Ops, FeedError> {
+    read_feed(alloc, &mut SliceSource::new(line.as_bytes()), fields)
+}
+
+/// Applies the operation of a line.
+fn apply_line<const OFFSET_BITS: u32, S: Store<OFFSET_BITS, Layout = AttrLayout>>(
+    alloc: Global,
+    attribute: &mut Attribute<OFFSET_BITS, S>,
+    fields: &Fields,
+    line: &str,
+    told: &mut String,
+) -> Result<(), AllocError>
+    requires same { attribute.old.fields ≡ fields.now }
+    ensures same { attribute.new.fields ≡ fields.now }
+{
+    match read(alloc, line, fields) {
+        Ok(ops) => match ops.as_slice() {
+            [op] => push_answer(told, apply_one(alloc, attribute, fields, op)?),
+            _ => told.push_str(" no operation"),
+        },
+        Err(e) => write!(told, " {e}"),
+    }
+}
+
+/// Commits, or applies an operation.
+fn take_line<const OFFSET_BITS: u32, S: Store<OFFSET_BITS, Layout = AttrLayout>>(
+    alloc: Global,
+    attribute: &mut Attribute<OFFSET_BITS, S>,
+    fields: &Fields,
+    line: &str,
+    told: &mut String,
+) -> Result<(), AllocError>
+    requires same { attribute.old.fields ≡ fields.now }
+    ensures same { attribute.new.fields ≡ fields.now }
+{
+    if line == "commit" {
+        return push_commit(told, commit_one(attribute, fields)?);
+    }
+    apply_line(alloc, attribute, fields, line, told)
+}
+
+fn take_lines<const OFFSET_BITS: u32, S: Store<OFFSET_BITS, Layout = AttrLayout>>(
+    alloc: Global,
+    attribute: &mut Attribute<OFFSET_BITS, S>,
+    fields: &Fields,
+    lines: &str,
+    told: &mut String,
+) -> Result<(), AllocError>
+    requires same { attribute.old.fields ≡ fields.now }
+    ensures same { attribute.new.fields ≡ fields.now }
+{
+    for line in lines.lines() {
+        take_line(alloc, attribute, fields, line, told)?;
+    }
+    Ok(())
+}
+
+/// How many operations the root record counts, and the documents with their items, by the slow checker.
+fn tell_image(
+    alloc: Global,
+    fields: &Fields,
+    records: &BTreeMap<u32, Vec<u64>>,
+    root: u64,
+    told: &mut String,
+) -> Result<(), AllocError>
+    requires { length fields.now ≤ MOST_FIELDS }
+{
+    write!(told, "; {}", word_in(words_at(records, root), 0))?;
+    match check_image(alloc, fields, records, root) {
+        Ok(table) => push_table(told, &table),
+        Err(CheckFault::Broken) => told.push_str(" broken"),
+        Err(CheckFault::Memory) => Err(AllocError),
+    }
+}
+
+fn tell_notes(
+    alloc: Global,
+    fields: &Fields,
+    work: &Memory,
+    root: u64,
+    told: &mut String,
+) -> Result<(), AllocError>
+    requires { length fields.now ≤ MOST_FIELDS }
+{
+    match work.records() {
+        Some(records) => tell_image(alloc, fields, records, root, told),
+        None => Err(AllocError),
+    }
+}
+
+/// The documents of a query, which this text is.
+fn tell_found<F: Frozen<22>>(
+    alloc: Global,
+    frozen: &mut F,
+    root: EntryRef<22>,
+    fields: &Fields,
+    text: &str,
+    query: &Query,
+    told: &mut String,
+) -> Result<(), AllocError>
+    requires few { length fields.now ≤ MOST_FIELDS }
+    requires shape { F.shape frozen.old ≡ shape_of (types_of fields.now) }
+    requires image { IsLawfulImage (F.shape frozen.old) (F.records frozen.old) root }
+    ensures same { frozen.new ≡ frozen.old }
+{
+    let found = hits(alloc, frozen, root, fields, query)?;
+    push_documents(told, text, found.as_slice())
+}
+
+/// The documents of a query, or its refusal.
+fn tell_hits<F: Frozen<22>>(
+    alloc: Global,
+    frozen: &mut F,
+    root: EntryRef<22>,
+    fields: &Fields,
+    text: &str,
+    told: &mut String,
+) -> Result<(), AllocError>
+    requires few { length fields.now ≤ MOST_FIELDS }
+    requires shape { F.shape frozen.old ≡ shape_of (types_of fields.now) }
+    requires image { IsLawfulImage (F.shape frozen.old) (F.records frozen.old) root }
+    ensures same { frozen.new ≡ frozen.old }
+{
+    match parse_query(alloc, text, fields.as_slice()) {
+        Ok(query) => tell_found(alloc, frozen, root, fields, text, &query, told),
+        Err(e) => write!(told, "; {text}: {e}"),
+    }
+}
+
+fn tell_each<F: Frozen<22>>(
+    alloc: Global,
+    frozen: &mut F,
+    root: EntryRef<22>,
+    fields: &Fields,
+    queries: &str,
+    told: &mut String,
+) -> Result<(), AllocError>
+    requires few { length fields.now ≤ MOST_FIELDS }
+    requires shape { F.shape frozen.old ≡ shape_of (types_of fields.now) }
+    requires image { IsLawfulImage (F.shape frozen.old) (F.records frozen.old) root }
+    ensures same { frozen.new ≡ frozen.old }
+{
+    for text in queries.lines() {
+        tell_hits(alloc, frozen, root, fields, text, told)?;
+    }
+    Ok(())
+}
+
+/// The last commit: its number and that of its operations, its table by the slow checker, and the documents of each query.
+fn tell_last(
+    alloc: Global,
+    attribute: Kinds,
+    fields: &Fields,
+    queries: &str,
+    told: &mut String,
+) -> Result<(), AllocError>
+    requires few { length fields.now ≤ MOST_FIELDS }
+    requires same { attribute.fields ≡ fields.now }
+{
+    let (mut work, published) = close(attribute, fields);
+    let root = published.root;
+    write!(told, "; at {}/{}", published.commit, published.operations)?;
+    tell_notes(alloc, fields, &work, u64::from(root.raw()), told)?;
+    tell_each(alloc, &mut work, root, fields, queries, told)
+}
+
+fn tell_all(
+    alloc: Global,
+    fields: &Fields,
+    buffers: u32,
+    lines: &str,
+    queries: &str,
+    told: &mut String,
+) -> Result<(), AllocError>
+    requires some { 0 < length fields.now }
+    requires few { length fields.now ≤ MOST_FIELDS }
+    requires buffers { 1 ≤ buffers }
+    requires fit { buffers ≤ 1000 }
+{
+    let mut attribute = new_attribute(alloc, fields, buffers, true)?;
+    take_lines(alloc, &mut attribute, fields, lines, told)?;
+    tell_last(alloc, attribute, fields, queries, told)
+}
+
+/// What each line answers, and what the last commit does.
+pub fn told_of(
+    alloc: Global,
+    fields: &Fields,
+    buffers: u32,
+    lines: &str,
+    queries: &str,
+) -> Result<String, AllocError>
+    requires some { 0 < length fields.now }
+    requires few { length fields.now ≤ MOST_FIELDS }
+{
+    let mut told = String::new(alloc);
+    let most = buffers.max(1).min(1000);
+    tell_all(alloc, fields, most, lines, queries, &mut told)?;
+    Ok(told)
+}
