@@ -16,6 +16,7 @@ use frozen_api::Frozen;
 use mem_work::MemWork;
 use noted_work::NotedWork;
 use std::alloc::{AllocError, Global};
+use store_api::Store;
 
 type Memory = NotedWork<22, MemWork<22, AttrLayout>>;
 
@@ -142,9 +143,9 @@ fn operations_of(load: Updates) -> u32 {
 }
 
 /// One step of a compaction, as the loader takes it.
-fn step_one(
+fn step_one<const OFFSET_BITS: u32, S: Store<OFFSET_BITS, Layout = AttrLayout>>(
     alloc: Global,
-    attribute: &mut Kinds,
+    attribute: &mut Attribute<OFFSET_BITS, S>,
     fields: &Fields,
     load: Updates,
     told: &mut Told,
@@ -177,9 +178,9 @@ fn step_one(
 }
 
 /// Applies an operation, and commits where it is due.
-fn take_turn(
+fn take_turn<const OFFSET_BITS: u32, S: Store<OFFSET_BITS, Layout = AttrLayout>>(
     alloc: Global,
-    attribute: &mut Kinds,
+    attribute: &mut Attribute<OFFSET_BITS, S>,
     fields: &Fields,
     load: Updates,
     op: &Op,
@@ -205,9 +206,9 @@ fn take_turn(
     step_one(alloc, attribute, fields, load, told)
 }
 
-fn apply_all(
+fn apply_all<const OFFSET_BITS: u32, S: Store<OFFSET_BITS, Layout = AttrLayout>>(
     alloc: Global,
-    attribute: &mut Kinds,
+    attribute: &mut Attribute<OFFSET_BITS, S>,
     fields: &Fields,
     load: Updates,
     told: &mut Told,

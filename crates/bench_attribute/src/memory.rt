@@ -14,10 +14,12 @@ use entry_store::EntryStore;
 use frozen_api::Frozen;
 use mem_work::MemWork;
 use std::alloc::{AllocError, Global};
+use store_api::Store;
 
-pub type Store = EntryStore<22, MemWork<22, AttrLayout>>;
+/// A store over a memory without readers.
+pub type Entries = EntryStore<22, MemWork<22, AttrLayout>>;
 
-pub type Kinds = Attribute<22, Store>;
+pub type Kinds = Attribute<22, Entries>;
 
 /// One field.
 pub fn one_field(alloc: Global, kind: Kind, value: ValueType) -> Result<Fields, AllocError>
@@ -58,9 +60,9 @@ pub fn new_attribute(alloc: Global, fields: &Fields, buffers: u32) -> Result<Kin
 }
 
 /// Applies an operation. A store that is full is an error here as well.
-pub fn apply_one(
+pub fn apply_one<const OFFSET_BITS: u32, S: Store<OFFSET_BITS, Layout = AttrLayout>>(
     alloc: Global,
-    attribute: &mut Kinds,
+    attribute: &mut Attribute<OFFSET_BITS, S>,
     fields: &Fields,
     op: &Op,
 ) -> Result<Applied, AllocError>
@@ -80,7 +82,10 @@ pub fn apply_one(
 }
 
 /// Commits.
-pub fn commit_one(attribute: &mut Kinds, fields: &Fields) -> Result<(), AllocError>
+pub fn commit_one<const OFFSET_BITS: u32, S: Store<OFFSET_BITS, Layout = AttrLayout>>(
+    attribute: &mut Attribute<OFFSET_BITS, S>,
+    fields: &Fields,
+) -> Result<(), AllocError>
     requires same { attribute.old.fields ≡ fields.now }
     ensures same { attribute.new.fields ≡ fields.now }
 {
@@ -91,14 +96,14 @@ pub fn commit_one(attribute: &mut Kinds, fields: &Fields) -> Result<(), AllocErr
 }
 
 /// The words of all entries of a width that were made.
-fn words_of(store: &Store, width: u32) -> u64
+fn words_of(store: &Entries, width: u32) -> u64
     requires { is_width width ≡ true }
 {
     store.made(width).saturating_mul(u64::from(width))
 }
 
 /// The words of all entries that were made.
-pub fn words_made(store: &Store) -> u64 {
+pub fn words_made(store: &Entries) -> u64 {
     words_of(store, 2)
         .saturating_add(words_of(store, 4))
         .saturating_add(words_of(store, 8))

@@ -2,10 +2,13 @@
 ghost use Rattle.std.specs.Prelude.{◌≡◌};
 
 use crate::draws::{Random, doc_at, items_of};
-use crate::memory::{Kinds, apply_one, commit_one, new_attribute, one_field, words_made};
+use crate::memory::{apply_one, commit_one, new_attribute, one_field, words_made};
 use attr_changes::Applied;
+use attr_images::AttrLayout;
 use attr_types::{FieldItems, Fields, Kind, Op, ValueType};
+use attribute_kinds::Attribute;
 use std::alloc::{AllocError, Global};
+use store_api::Store;
 
 /// So many operations are made, and the first of them applied.
 #[derive(Clone, Copy)]
@@ -31,9 +34,9 @@ fn op_of(alloc: Global, load: Load, i: u32, random: &mut Random) -> Result<Op, A
 }
 
 /// Applies an operation, and commits where it is due; whether it changed something.
-fn take_turn(
+fn take_turn<const OFFSET_BITS: u32, S: Store<OFFSET_BITS, Layout = AttrLayout>>(
     alloc: Global,
-    attribute: &mut Kinds,
+    attribute: &mut Attribute<OFFSET_BITS, S>,
     fields: &Fields,
     load: Load,
     i: u32,
@@ -53,9 +56,9 @@ fn take_turn(
 }
 
 /// How many of the operations changed something.
-fn apply_all(
+fn apply_all<const OFFSET_BITS: u32, S: Store<OFFSET_BITS, Layout = AttrLayout>>(
     alloc: Global,
-    attribute: &mut Kinds,
+    attribute: &mut Attribute<OFFSET_BITS, S>,
     fields: &Fields,
     load: Load,
 ) -> Result<u32, AllocError>

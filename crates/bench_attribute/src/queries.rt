@@ -5,13 +5,15 @@ ghost use Rattle.attr_images.specs.Shapes.{shape_of, types_of};
 ghost use Rattle.attr_types.specs.declared.field.TheConstants.{MOST_FIELDS};
 
 use crate::draws::doc_at;
-use crate::memory::{Kinds, apply_one, commit_one, new_attribute, one_field};
+use crate::memory::{apply_one, commit_one, new_attribute, one_field};
+use attr_images::AttrLayout;
 use attr_types::{FieldItems, Fields, Item, Items, Kind, Leaf, Op, Query, Value, ValueType};
-use attribute_kinds::committed_work;
+use attribute_kinds::{Attribute, committed_work};
 use entry_ref::EntryRef;
 use frozen_api::Frozen;
 use query_eval::hits;
 use std::alloc::{AllocError, Global};
+use store_api::Store;
 
 /// What is asked.
 #[derive(Clone, Copy)]
@@ -52,9 +54,9 @@ fn put_of(alloc: Global, number: u32) -> Result<Op, AllocError> {
     Ok(Op::Put { doc, items })
 }
 
-fn fill(
+fn fill<const OFFSET_BITS: u32, S: Store<OFFSET_BITS, Layout = AttrLayout>>(
     alloc: Global,
-    attribute: &mut Kinds,
+    attribute: &mut Attribute<OFFSET_BITS, S>,
     fields: &Fields,
     documents: u32,
 ) -> Result<(), AllocError>

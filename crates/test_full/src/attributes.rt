@@ -11,6 +11,7 @@ use attr_types::{
 use attribute_kinds::{AttrError, Attribute, CommitInfo};
 use entry_store::EntryStore;
 use std::alloc::{AllocError, Global};
+use store_api::Store;
 use word_arena::{Reader, Writer};
 
 /// Attributes over a running memory.
@@ -97,9 +98,9 @@ fn refused(error: AttrError) -> Result<Option<NoRoom>, AllocError> {
 }
 
 /// Puts a number to a document.
-pub fn put<'a>(
+pub fn put<const OFFSET_BITS: u32, S: Store<OFFSET_BITS, Layout = AttrLayout>>(
     alloc: Global,
-    attribute: &mut Kinds<'a>,
+    attribute: &mut Attribute<OFFSET_BITS, S>,
     fields: &Fields,
     document: u32,
     number: u32,
@@ -121,7 +122,10 @@ pub fn put<'a>(
 }
 
 /// Commits what was put.
-pub fn commit<'a>(attribute: &mut Kinds<'a>, fields: &Fields) -> Result<Option<NoRoom>, AllocError>
+pub fn commit<const OFFSET_BITS: u32, S: Store<OFFSET_BITS, Layout = AttrLayout>>(
+    attribute: &mut Attribute<OFFSET_BITS, S>,
+    fields: &Fields,
+) -> Result<Option<NoRoom>, AllocError>
     requires same { attribute.old.fields ≡ fields.now }
     ensures same { attribute.new.fields ≡ fields.now }
 {
@@ -132,9 +136,9 @@ pub fn commit<'a>(attribute: &mut Kinds<'a>, fields: &Fields) -> Result<Option<N
 }
 
 /// A step of a compaction over so many keys. Where it finds no room, it is passed over.
-pub fn compact<'a>(
+pub fn compact<const OFFSET_BITS: u32, S: Store<OFFSET_BITS, Layout = AttrLayout>>(
     alloc: Global,
-    attribute: &mut Kinds<'a>,
+    attribute: &mut Attribute<OFFSET_BITS, S>,
     fields: &Fields,
     keys: u32,
 ) -> Result<(), AllocError>
@@ -162,9 +166,9 @@ fn line_of(alloc: Global, info: CommitInfo) -> Result<String, AllocError> {
 }
 
 /// What a commit comes to, as a line: its number and the generation after it, or the commit after which there is none.
-pub fn commit_line<'a>(
+pub fn commit_line<const OFFSET_BITS: u32, S: Store<OFFSET_BITS, Layout = AttrLayout>>(
     alloc: Global,
-    attribute: &mut Kinds<'a>,
+    attribute: &mut Attribute<OFFSET_BITS, S>,
     fields: &Fields,
 ) -> Result<String, AllocError>
     requires same { attribute.old.fields ≡ fields.now }

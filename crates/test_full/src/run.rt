@@ -5,11 +5,13 @@ ghost use Rattle.word_arena.specs.Ruled.{writer_of};
 ghost use Rattle.test_full.specs.New.{IsNewWriter};
 
 use crate::attributes::{
-    Kinds, NoRoom, commit, commit_line, compact, new_attribute, one_field, put, seat_in,
+    NoRoom, commit, commit_line, compact, new_attribute, one_field, put, seat_in,
 };
 use attr_images::{AttrLayout, shape_of};
 use attr_types::Fields;
+use attribute_kinds::Attribute;
 use std::alloc::{AllocError, Global};
+use store_api::Store;
 use word_arena::{Arena, Config, Limits, Reader, Writer};
 
 /// What is put: the numbers 1, 2, 3 and so on, each to the next of so many documents.
@@ -43,9 +45,9 @@ pub struct Told {
 }
 
 /// One put, and a commit and a step of a compaction where it ends a batch; else why there was no room.
-fn put_next<'a>(
+fn put_next<const OFFSET_BITS: u32, S: Store<OFFSET_BITS, Layout = AttrLayout>>(
     alloc: Global,
-    attribute: &mut Kinds<'a>,
+    attribute: &mut Attribute<OFFSET_BITS, S>,
     fields: &Fields,
     load: Load,
     number: u32,
@@ -66,9 +68,9 @@ fn put_next<'a>(
 }
 
 /// The puts above one number, up to another, until there is no room.
-fn put_all<'a>(
+fn put_all<const OFFSET_BITS: u32, S: Store<OFFSET_BITS, Layout = AttrLayout>>(
     alloc: Global,
-    attribute: &mut Kinds<'a>,
+    attribute: &mut Attribute<OFFSET_BITS, S>,
     fields: &Fields,
     load: Load,
     above: u32,
@@ -95,9 +97,9 @@ fn put_all<'a>(
 }
 
 /// All puts, some of them under a guard.
-fn put_under<'a>(
+fn put_under<'a, const OFFSET_BITS: u32, S: Store<OFFSET_BITS, Layout = AttrLayout>>(
     alloc: Global,
-    attribute: &mut Kinds<'a>,
+    attribute: &mut Attribute<OFFSET_BITS, S>,
     reader: Reader<'a, 22, AttrLayout>,
     fields: &Fields,
     load: Load,
@@ -166,9 +168,9 @@ pub fn run(alloc: Global, load: Load) -> Result<Told, AllocError> {
 }
 
 /// So many puts to one document with a commit after each: what the commits come to, one after another.
-fn put_and_tell<'a>(
+fn put_and_tell<const OFFSET_BITS: u32, S: Store<OFFSET_BITS, Layout = AttrLayout>>(
     alloc: Global,
-    attribute: &mut Kinds<'a>,
+    attribute: &mut Attribute<OFFSET_BITS, S>,
     fields: &Fields,
     puts: u32,
 ) -> Result<String, AllocError>

@@ -2,4 +2,4 @@ use Rattle.std.proofs.Common.{◌≡◌}
 use Rattle.test_full.proofs.run.put_and_tell.Given as goal
 
 abbrev pub invariant-loop-i : goal.invariant-loop-i
-invariant-loop-i l = record { same : l.attribute.fields ≡ l.fields }
+invariant-loop-i g l = record { same : l.attribute.fields ≡ l.fields }
