@@ -61,30 +61,62 @@ fn told(alloc: Global, given: &Given, line: &str) -> Result<Option<bool>, AllocE
     Ok(None)
 }
 
-pub fn compare(rt: &HostRuntime) -> io::Result<()> {
-    let alloc = rt.alloc();
-    let mut given = Given {
-        values: Vec::new(alloc),
-        texts: false,
-    };
-    let mut compared = 0u32;
-    let mut right = 0u32;
-    for line in rt.lines(alloc) {
-        let line = line?;
-        if let Some(row) = line.strip_prefix("longs") {
-            given.values = values_in(alloc, row, false)?;
-            given.texts = false;
-        } else if let Some(row) = line.strip_prefix("texts") {
-            given.values = values_in(alloc, row, true)?;
-            given.texts = true;
-        } else if let Some(says) = told(alloc, &given, &line)? {
-            compared = compared.saturating_add(1);
-            if says {
-                right = right.saturating_add(1);
-            } else {
-                println!(rt; "not so: {line}")?;
-            }
+/// The values that are put in, and how many rows were compared.
+#[derive(Drop)]
+struct Rows {
+    given: Given,
+    compared: u32,
+    right: u32,
+}
+
+impl Rows {
+    fn new(alloc: Global) -> Rows {
+        let values = Vec::new(alloc);
+        Rows {
+            given: Given {
+                values,
+                texts: false,
+            },
+            compared: 0,
+            right: 0,
         }
     }
+
+    fn give(&mut self, alloc: Global, row: &str, texts: bool) -> Result<(), AllocError> {
+        self.given.values = values_in(alloc, row, texts)?;
+        self.given.texts = texts;
+        Ok(())
+    }
+
+    fn judge(&mut self, rt: &HostRuntime, is_right: bool, line: &str) -> io::Result<()> {
+        self.compared = self.compared.saturating_add(1);
+        if is_right {
+            self.right = self.right.saturating_add(1);
+            return Ok(());
+        }
+        println!(rt; "not so: {line}")
+    }
+
+    fn take(&mut self, rt: &HostRuntime, line: &str) -> io::Result<()> {
+        let alloc = rt.alloc();
+        if let Some(row) = line.strip_prefix("longs") {
+            return Ok(self.give(alloc, row, false)?);
+        }
+        if let Some(row) = line.strip_prefix("texts") {
+            return Ok(self.give(alloc, row, true)?);
+        }
+        match told(alloc, &self.given, line)? {
+            Some(is_right) => self.judge(rt, is_right, line),
+            None => Ok(()),
+        }
+    }
+}
+
+pub fn compare(rt: &HostRuntime) -> io::Result<()> {
+    let mut rows = Rows::new(rt.alloc());
+    for line in rt.lines(rt.alloc()) {
+        rows.take(rt, line?.as_str())?;
+    }
+    let (compared, right) = (rows.compared, rows.right);
     println!(rt; "rows: {compared} compared, {right} as wanted")
 }

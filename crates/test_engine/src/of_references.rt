@@ -1,5 +1,21 @@
+ghost use Rattle.std.specs.Prelude.{◌<◌};
+ghost use Rattle.entry_ref.specs.References.{buffer_limit, offset_limit};
+
 use entry_ref::EntryRef;
 use image_base::place_of;
+
+/// Whether the reference of an offset in a buffer is this number, and tells both.
+fn is_reference<const OFFSET_BITS: u32>(offset: u32, buffer: u32, raw: u32) -> bool
+    requires offset { offset < offset_limit OFFSET_BITS }
+    requires buffer { buffer < buffer_limit OFFSET_BITS }
+{
+    let entry = EntryRef::<OFFSET_BITS>::new(offset, buffer);
+    entry.raw() == raw
+        && entry == EntryRef::from_raw(raw)
+        && entry.offset() == offset
+        && entry.buffer() == buffer
+        && entry.valid() == (raw > 0)
+}
 
 #[test]
 fn a_reference_is_its_offset_and_its_buffer(rt: HostRuntime) {
@@ -12,13 +28,7 @@ fn a_reference_is_its_offset_and_its_buffer(rt: HostRuntime) {
         (4_194_303, 1023, u32::MAX),
     ];
     for (offset, buffer, raw) in rows {
-        let entry = EntryRef::<22>::new(offset, buffer);
-        assert_eq!(rt; entry.raw(), raw);
-        assert!(rt; entry == EntryRef::from_raw(raw));
-        assert_eq!(rt;
-            (entry.offset(), entry.buffer(), entry.valid()),
-            (offset, buffer, raw > 0)
-        );
+        assert!(rt; is_reference::<22>(offset, buffer, raw), "{raw} of 22 bits");
     }
     let rows = [
         (0, 0, 0),
@@ -28,13 +38,7 @@ fn a_reference_is_its_offset_and_its_buffer(rt: HostRuntime) {
         (524_287, 8191, u32::MAX),
     ];
     for (offset, buffer, raw) in rows {
-        let entry = EntryRef::<19>::new(offset, buffer);
-        assert_eq!(rt; entry.raw(), raw);
-        assert!(rt; entry == EntryRef::from_raw(raw));
-        assert_eq!(rt;
-            (entry.offset(), entry.buffer(), entry.valid()),
-            (offset, buffer, raw > 0)
-        );
+        assert!(rt; is_reference::<19>(offset, buffer, raw), "{raw} of 19 bits");
     }
 }
 

@@ -58,44 +58,60 @@ fn fill_twice<const OFFSET_BITS: u32>(
     Ok([first, fill_undone::<OFFSET_BITS, _>(&mut store, width)])
 }
 
+/// Whether a new store makes so many entries of a width, the last of them this one, before it is full with so many active buffers,
+/// and as many again after an undo.
+fn is_full_after<const OFFSET_BITS: u32>(
+    alloc: Global,
+    buffers: u32,
+    width: u32,
+    count: u32,
+    last: u32,
+) -> Result<bool, AllocError>
+    requires some { 1 ≤ buffers }
+    requires few { buffers ≤ 1024 }
+    requires named { buffers < buffer_limit OFFSET_BITS }
+    requires offsets { 8192 ≤ offset_limit OFFSET_BITS }
+    requires width { is_width width ≡ true }
+{
+    let [first, again] = fill_twice::<OFFSET_BITS>(alloc, buffers, width)?;
+    let full = Some(StoreError::Full {
+        width,
+        active: buffers,
+        held: 0,
+        oldest: Oldest {
+            generation: 0,
+            hold: 0,
+            found: 0,
+            newest: true,
+        },
+    });
+    Ok(first == (count, last, full) && again.0 == count && again.2 == full)
+}
+
 #[test]
 fn a_store_is_full_where_no_buffer_is_free(rt: HostRuntime) -> Result<(), Fail> {
-    // how many entries, the last of them, and the width and the active buffers that Full names
-    let rows = [
-        (fill_twice::<22>(rt.alloc(), 1, 2)?, (4095, 4_193_280, 2, 1)),
-        (fill_twice::<22>(rt.alloc(), 1, 34)?, (239, 244_736, 34, 1)),
-        (fill_twice::<22>(rt.alloc(), 1, 1024)?, (7, 7168, 1024, 1)),
-        (fill_twice::<22>(rt.alloc(), 2, 1024)?, (14, 7169, 1024, 2)),
-        (
-            fill_twice::<19>(rt.alloc(), 1, 2)?,
-            (4095, 33_546_240, 2, 1),
-        ),
-        (
-            fill_twice::<19>(rt.alloc(), 1, 34)?,
-            (239, 1_957_888, 34, 1),
-        ),
-        (fill_twice::<19>(rt.alloc(), 1, 1024)?, (7, 57_344, 1024, 1)),
-        (
-            fill_twice::<19>(rt.alloc(), 1024, 1024)?,
-            (7168, 58_367, 1024, 1024),
-        ),
-    ];
-    for ([first, again], (count, last, width, active)) in rows {
-        let full = StoreError::Full {
-            width,
-            active,
-            held: 0,
-            oldest: Oldest {
-                generation: 0,
-                hold: 0,
-                found: 0,
-                newest: true,
-            },
-        };
-        assert_eq!(rt; first, (count, last, Some(full)));
-        // as many are made again
-        assert_eq!(rt; again.0, count);
-        assert_eq!(rt; again.2, Some(full));
-    }
+    let alloc = rt.alloc();
+    let twos = is_full_after::<22>(alloc, 1, 2, 4095, 4_193_280)?;
+    assert!(rt; twos);
+    let nodes = is_full_after::<22>(alloc, 1, 34, 239, 244_736)?;
+    assert!(rt; nodes);
+    let arrays = is_full_after::<22>(alloc, 1, 1024, 7, 7168)?;
+    assert!(rt; arrays);
+    let more_arrays = is_full_after::<22>(alloc, 2, 1024, 14, 7169)?;
+    assert!(rt; more_arrays);
+    Ok(())
+}
+
+#[test]
+fn a_store_of_19_bits_is_full_where_no_buffer_is_free(rt: HostRuntime) -> Result<(), Fail> {
+    let alloc = rt.alloc();
+    let twos = is_full_after::<19>(alloc, 1, 2, 4095, 33_546_240)?;
+    assert!(rt; twos);
+    let nodes = is_full_after::<19>(alloc, 1, 34, 239, 1_957_888)?;
+    assert!(rt; nodes);
+    let arrays = is_full_after::<19>(alloc, 1, 1024, 7, 57_344)?;
+    assert!(rt; arrays);
+    let more_arrays = is_full_after::<19>(alloc, 1024, 1024, 7168, 58_367)?;
+    assert!(rt; more_arrays);
     Ok(())
 }

@@ -45,46 +45,75 @@ fn push_line(alloc: Global, feed: &mut Vec<u8>, line: &str) -> Result<(), AllocE
     Ok(())
 }
 
-/// What a line asks of the row, and what must be answered.
-fn answered<'a>(
-    alloc: Global,
-    fields: &str,
-    feed: &[u8],
-    line: &'a str,
-) -> Result<Option<(String, &'a str)>, AllocError> {
-    let fields = fields_in(alloc, fields)?;
-    if let Some(wanted) = line.strip_prefix("read ") {
-        return Ok(Some((answer_to(alloc, feed, &fields)?, wanted)));
+/// A row so far, and how many were compared.
+#[derive(Drop)]
+struct Rows {
+    fields: String,
+    feed: Vec<u8>,
+    compared: u32,
+    right: u32,
+}
+
+impl Rows {
+    fn new(alloc: Global) -> Rows {
+        Rows {
+            fields: String::new(alloc),
+            feed: Vec::new(alloc),
+            compared: 0,
+            right: 0,
+        }
     }
-    if let Some(wanted) = line.strip_prefix("table ") {
-        return Ok(Some((table_after(alloc, feed, fields)?, wanted)));
+
+    fn begin(&mut self, alloc: Global, fields: &str) -> Result<(), AllocError> {
+        self.fields = String::from_str(alloc, fields)?;
+        self.feed = Vec::new(alloc);
+        Ok(())
     }
-    Ok(None)
+
+    /// What is read of the row's feed.
+    fn read(&self, alloc: Global) -> Result<String, AllocError> {
+        let fields = fields_in(alloc, &self.fields)?;
+        answer_to(alloc, &self.feed, &fields)
+    }
+
+    /// The table after it.
+    fn table(&self, alloc: Global) -> Result<String, AllocError> {
+        let fields = fields_in(alloc, &self.fields)?;
+        table_after(alloc, &self.feed, fields)
+    }
+
+    fn judge(&mut self, rt: &HostRuntime, found: &str, wanted: &str) -> io::Result<()> {
+        self.compared = self.compared.saturating_add(1);
+        if found == wanted {
+            self.right = self.right.saturating_add(1);
+            return Ok(());
+        }
+        println!(rt; "{}: {found} in place of {wanted}", self.fields)
+    }
+
+    fn take(&mut self, rt: &HostRuntime, line: &str) -> io::Result<()> {
+        let alloc = rt.alloc();
+        let (kind, rest) = line.split_once(' ').unwrap_or((line, ""));
+        match kind {
+            "fields" => Ok(self.begin(alloc, rest)?),
+            "read" => {
+                let found = self.read(alloc)?;
+                self.judge(rt, &found, rest)
+            }
+            "table" => {
+                let found = self.table(alloc)?;
+                self.judge(rt, &found, rest)
+            }
+            _ => Ok(push_line(alloc, &mut self.feed, line)?),
+        }
+    }
 }
 
 pub fn compare(rt: &HostRuntime) -> io::Result<()> {
-    let alloc = rt.alloc();
-    let mut fields = String::new(alloc);
-    let mut feed = Vec::new(alloc);
-    let mut compared: u32 = 0;
-    let mut right: u32 = 0;
-    for line in rt.lines(alloc) {
-        let line = line?;
-        if let Some(named) = line.strip_prefix("fields ") {
-            fields = String::from_str(alloc, named)?;
-            feed = Vec::new(alloc);
-            continue;
-        }
-        push_line(alloc, &mut feed, &line)?;
-        let Some((found, wanted)) = answered(alloc, &fields, &feed, &line)? else {
-            continue;
-        };
-        compared = compared.saturating_add(1);
-        if found.as_str() == wanted {
-            right = right.saturating_add(1);
-        } else {
-            println!(rt; "{fields}: {found} in place of {wanted}")?;
-        }
+    let mut rows = Rows::new(rt.alloc());
+    for line in rt.lines(rt.alloc()) {
+        rows.take(rt, line?.as_str())?;
     }
+    let (compared, right) = (rows.compared, rows.right);
     println!(rt; "{compared} compared, {right} as wanted")
 }

@@ -1,5 +1,7 @@
 //! Rows of standard input: `TYPE SEED CHANGES VALUES DOCUMENTS PERIOD EVERY BUFFERS CHECKS`, and then `said LINE`, what the run must
 //! come to. Other lines are remarks.
+ghost use Rattle.std.specs.Prelude.{◌≤◌};
+
 use crate::checked::is_sound_after;
 use crate::new_store;
 use crate::plain::Plain;
@@ -70,46 +72,88 @@ fn first_unsound(
     Ok(None)
 }
 
+/// A run over a store of its own.
+fn run_told(
+    alloc: Global,
+    value_type: ValueType,
+    values: &[Value],
+    load: Load,
+    buffers: u32,
+) -> Result<Told, AllocError>
+    requires some { 1 ≤ buffers }
+    requires few { buffers ≤ 1023 }
+{
+    let store = new_store(alloc, buffers)?;
+    let mut lists = ValueLists::new(store, value_type);
+    let mut plain = Plain::new(alloc, values.len())?;
+    run(alloc, &mut lists, values, load, &mut plain)
+}
+
 fn told(alloc: Global, row: &str, value_type: ValueType) -> Result<String, AllocError> {
     let values = values_of(alloc, value_type, number_at(row, 2).min(10_000))?;
     let buffers = number_at(row, 6).max(1).min(1000);
     let checks = number_at(row, 7).min(100);
     let load = load_in(row);
-    if let Some(changes) = first_unsound(alloc, value_type, &values, load, buffers, checks)? {
-        return format!(in alloc; "not sound after {changes} changes");
+    match first_unsound(alloc, value_type, &values, load, buffers, checks)? {
+        Some(changes) => format!(in alloc; "not sound after {changes} changes"),
+        None => {
+            let told = run_told(alloc, value_type, &values, load, buffers)?;
+            line_of(alloc, told, checks)
+        }
     }
-    let store = new_store(alloc, buffers)?;
-    let mut lists = ValueLists::new(store, value_type);
-    let mut plain = Plain::new(alloc, values.len())?;
-    line_of(
-        alloc,
-        run(alloc, &mut lists, &values, load, &mut plain)?,
-        checks,
-    )
+}
+
+/// The last row, what it came to, and how many were compared.
+#[derive(Drop)]
+struct Rows {
+    case: String,
+    found: String,
+    compared: u32,
+    right: u32,
+}
+
+impl Rows {
+    fn new(alloc: Global) -> Rows {
+        Rows {
+            case: String::new(alloc),
+            found: String::new(alloc),
+            compared: 0,
+            right: 0,
+        }
+    }
+
+    fn begin(&mut self, alloc: Global, row: &str, value_type: ValueType) -> Result<(), AllocError> {
+        self.found = told(alloc, row, value_type)?;
+        self.case = String::from_str(alloc, row)?;
+        Ok(())
+    }
+
+    fn judge(&mut self, rt: &HostRuntime, wanted: &str) -> io::Result<()> {
+        self.compared = self.compared.saturating_add(1);
+        if self.found.as_str() == wanted {
+            self.right = self.right.saturating_add(1);
+            return Ok(());
+        }
+        println!(rt; "{}: {} in place of {wanted}", self.case, self.found)
+    }
+
+    fn take(&mut self, rt: &HostRuntime, line: &str) -> io::Result<()> {
+        let (kind, row) = line.split_once(' ').unwrap_or((line, ""));
+        match kind {
+            "said" => return self.judge(rt, row),
+            "long" => self.begin(rt.alloc(), row, ValueType::Long)?,
+            "text" => self.begin(rt.alloc(), row, ValueType::Text)?,
+            _ => {}
+        }
+        Ok(())
+    }
 }
 
 pub fn compare(rt: &HostRuntime) -> io::Result<()> {
-    let alloc = rt.alloc();
-    let mut case = String::new(alloc);
-    let mut found = String::new(alloc);
-    let mut compared = 0u32;
-    let mut right = 0u32;
-    for line in rt.lines(alloc) {
-        let line = line?;
-        if let Some(row) = line.strip_prefix("long ") {
-            found = told(alloc, row, ValueType::Long)?;
-            case = String::from_str(alloc, row)?;
-        } else if let Some(row) = line.strip_prefix("text ") {
-            found = told(alloc, row, ValueType::Text)?;
-            case = String::from_str(alloc, row)?;
-        } else if let Some(wanted) = line.strip_prefix("said ") {
-            compared = compared.saturating_add(1);
-            if found.as_str() == wanted {
-                right = right.saturating_add(1);
-            } else {
-                println!(rt; "{case}: {found} in place of {wanted}")?;
-            }
-        }
+    let mut rows = Rows::new(rt.alloc());
+    for line in rt.lines(rt.alloc()) {
+        rows.take(rt, line?.as_str())?;
     }
+    let (compared, right) = (rows.compared, rows.right);
     println!(rt; "rows: {compared} compared, {right} as wanted")
 }

@@ -30,25 +30,55 @@ fn answer_to(alloc: Global, line: &str) -> Result<Option<String>, AllocError> {
     answer_of(alloc, kind, &numbers)
 }
 
-pub fn compare(rt: &HostRuntime) -> io::Result<()> {
-    let alloc = rt.alloc();
-    let mut row = String::new(alloc);
-    let mut found = String::new(alloc);
-    let mut compared = 0u32;
-    let mut right = 0u32;
-    for line in rt.lines(alloc) {
-        let line = line?;
-        if let Some(wanted) = line.strip_prefix("said") {
-            compared = compared.saturating_add(1);
-            if found.as_str() == wanted {
-                right = right.saturating_add(1);
-            } else {
-                println!(rt; "{row}:{found} in place of{wanted}")?;
-            }
-        } else if let Some(answer) = answer_to(alloc, &line)? {
-            found = answer;
-            row = line;
+/// The last row, what came of it, and how many were compared.
+#[derive(Drop)]
+struct Rows {
+    row: String,
+    found: String,
+    compared: u32,
+    right: u32,
+}
+
+impl Rows {
+    fn new(alloc: Global) -> Rows {
+        Rows {
+            row: String::new(alloc),
+            found: String::new(alloc),
+            compared: 0,
+            right: 0,
         }
     }
+
+    fn judge(&mut self, rt: &HostRuntime, wanted: &str) -> io::Result<()> {
+        self.compared = self.compared.saturating_add(1);
+        if self.found.as_str() == wanted {
+            self.right = self.right.saturating_add(1);
+            return Ok(());
+        }
+        println!(rt; "{}:{} in place of{wanted}", self.row, self.found)
+    }
+
+    fn answer(&mut self, alloc: Global, line: &str) -> Result<(), AllocError> {
+        if let Some(found) = answer_to(alloc, line)? {
+            self.found = found;
+            self.row = String::from_str(alloc, line)?;
+        }
+        Ok(())
+    }
+
+    fn take(&mut self, rt: &HostRuntime, line: &str) -> io::Result<()> {
+        match line.strip_prefix("said") {
+            Some(wanted) => self.judge(rt, wanted),
+            None => Ok(self.answer(rt.alloc(), line)?),
+        }
+    }
+}
+
+pub fn compare(rt: &HostRuntime) -> io::Result<()> {
+    let mut rows = Rows::new(rt.alloc());
+    for line in rt.lines(rt.alloc()) {
+        rows.take(rt, line?.as_str())?;
+    }
+    let (compared, right) = (rows.compared, rows.right);
     println!(rt; "rows: {compared} compared, {right} as wanted")
 }
