@@ -4,6 +4,7 @@ use crate::seeking::{Asked, shows};
 use attr_types::{Text, Value};
 use std::alloc::{AllocError, Global};
 use std::io;
+use test_tally::Tally;
 
 fn text_in(alloc: Global, word: &str) -> Result<Text, AllocError> {
     if word == "\"\"" || word.len() > Text::MAX_LEN {
@@ -61,12 +62,11 @@ fn told(alloc: Global, given: &Given, line: &str) -> Result<Option<bool>, AllocE
     Ok(None)
 }
 
-/// The values that are put in, and how many rows were compared.
+/// The values that are put in, and the rows so far.
 #[derive(Drop)]
 struct Rows {
     given: Given,
-    compared: u32,
-    right: u32,
+    tally: Tally,
 }
 
 impl Rows {
@@ -77,8 +77,7 @@ impl Rows {
                 values,
                 texts: false,
             },
-            compared: 0,
-            right: 0,
+            tally: Tally::default(),
         }
     }
 
@@ -89,9 +88,7 @@ impl Rows {
     }
 
     fn judge(&mut self, rt: &HostRuntime, is_right: bool, line: &str) -> io::Result<()> {
-        self.compared = self.compared.saturating_add(1);
-        if is_right {
-            self.right = self.right.saturating_add(1);
+        if self.tally.count(is_right) {
             return Ok(());
         }
         println!(rt; "not so: {line}")
@@ -117,6 +114,5 @@ pub fn compare(rt: &HostRuntime) -> io::Result<()> {
     for line in rt.lines(rt.alloc()) {
         rows.take(rt, line?.as_str())?;
     }
-    let (compared, right) = (rows.compared, rows.right);
-    println!(rt; "rows: {compared} compared, {right} as wanted")
+    rows.tally.print(rt, "rows")
 }

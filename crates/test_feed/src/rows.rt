@@ -4,6 +4,7 @@ use crate::fed::{answer_to, table_after};
 use crate::field::fields_in;
 use std::alloc::{AllocError, Global};
 use std::io;
+use test_tally::Tally;
 
 /// A number and what follows a space after it.
 fn numbered(line: &str) -> (u32, &str) {
@@ -45,13 +46,12 @@ fn push_line(alloc: Global, feed: &mut Vec<u8>, line: &str) -> Result<(), AllocE
     Ok(())
 }
 
-/// A row so far, and how many were compared.
+/// A row so far, and those before it.
 #[derive(Drop)]
 struct Rows {
     fields: String,
     feed: Vec<u8>,
-    compared: u32,
-    right: u32,
+    tally: Tally,
 }
 
 impl Rows {
@@ -59,8 +59,7 @@ impl Rows {
         Rows {
             fields: String::new(alloc),
             feed: Vec::new(alloc),
-            compared: 0,
-            right: 0,
+            tally: Tally::default(),
         }
     }
 
@@ -82,15 +81,6 @@ impl Rows {
         table_after(alloc, &self.feed, fields)
     }
 
-    fn judge(&mut self, rt: &HostRuntime, found: &str, wanted: &str) -> io::Result<()> {
-        self.compared = self.compared.saturating_add(1);
-        if found == wanted {
-            self.right = self.right.saturating_add(1);
-            return Ok(());
-        }
-        println!(rt; "{}: {found} in place of {wanted}", self.fields)
-    }
-
     fn take(&mut self, rt: &HostRuntime, line: &str) -> io::Result<()> {
         let alloc = rt.alloc();
         let (kind, rest) = line.split_once(' ').unwrap_or((line, ""));
@@ -98,11 +88,11 @@ impl Rows {
             "fields" => Ok(self.begin(alloc, rest)?),
             "read" => {
                 let found = self.read(alloc)?;
-                self.judge(rt, &found, rest)
+                self.tally.note(rt, &self.fields, &found, rest)
             }
             "table" => {
                 let found = self.table(alloc)?;
-                self.judge(rt, &found, rest)
+                self.tally.note(rt, &self.fields, &found, rest)
             }
             _ => Ok(push_line(alloc, &mut self.feed, line)?),
         }
@@ -114,6 +104,5 @@ pub fn compare(rt: &HostRuntime) -> io::Result<()> {
     for line in rt.lines(rt.alloc()) {
         rows.take(rt, line?.as_str())?;
     }
-    let (compared, right) = (rows.compared, rows.right);
-    println!(rt; "{compared} compared, {right} as wanted")
+    rows.tally.print(rt, "rows")
 }

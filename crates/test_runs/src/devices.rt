@@ -1,10 +1,10 @@
 //! One put and one query over devices that fail: a feed of 37 bytes and a report of 44.
 use crate::run::{line_of, outcome_of, told as told_in, words_in};
-use crate::tally::Tally;
 use attr_io::{FakeSink, FakeSource};
 use std::alloc::{AllocError, Global};
 use std::io;
 use std::thread::Threads;
+use test_tally::Tally;
 
 const WORDS: &str = "--kind single --value long --readers 0 --buffers 8 --words 8192 5";
 
@@ -209,16 +209,16 @@ fn compare_save<R: Threads + Sync>(
 }
 
 pub fn compare<R: Threads + Sync>(rt: &HostRuntime, threads: &R) -> io::Result<()> {
-    let mut sources = Tally::new();
+    let mut sources = Tally::default();
     compare_sources(rt, threads, &mut sources)?;
     sources.print(rt, "sources that fail")?;
-    let mut sinks = Tally::new();
+    let mut sinks = Tally::default();
     compare_sinks(rt, threads, &mut sinks)?;
     sinks.print(rt, "sinks that fail")?;
-    let mut steps = Tally::new();
+    let mut steps = Tally::default();
     compare_steps(rt, threads, &mut steps)?;
     steps.print(rt, "steps of devices")?;
-    let mut saves = Tally::new();
+    let mut saves = Tally::default();
     compare_save(rt, threads, &mut saves, 1, "5  1")?;
     compare_save(rt, threads, &mut saves, 2, "5 ATS1 1")?;
     saves.print(rt, "saves over devices that fail")

@@ -1,6 +1,6 @@
-use crate::tally::Tally;
 use attr_run::{FeedFault, Status, UsageCause};
 use std::io;
+use test_tally::Tally;
 
 /// The exit status of each answer, beside the number that it must be.
 pub fn compare(rt: &HostRuntime) -> io::Result<()> {
@@ -27,7 +27,7 @@ pub fn compare(rt: &HostRuntime) -> io::Result<()> {
         (full, "6"),
         (Status::Memory, "7"),
     ];
-    let mut tally = Tally::new();
+    let mut tally = Tally::default();
     for (status, wanted) in &rows {
         let code = status.exit_code();
         let found = format!(in rt.alloc(); "{code}")?;

@@ -9,7 +9,6 @@ mod program;
 mod rounds;
 mod rows;
 mod run;
-mod tally;
 mod turns;
 
 use std::io;

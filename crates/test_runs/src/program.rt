@@ -1,11 +1,11 @@
 //! The words of a running program, its name first, also where they are no UTF-8.
 use crate::run::told;
-use crate::tally::Tally;
 use attr_run::Words;
 use std::env::FillError;
 use std::io;
 use std::rt::Env;
 use std::thread::Threads;
+use test_tally::Tally;
 
 #[derive(Clone, Copy)]
 struct Program<'a> {
@@ -49,7 +49,7 @@ fn note<R: Threads + Sync>(
 }
 
 pub fn compare<R: Threads + Sync>(rt: &HostRuntime, threads: &R) -> io::Result<()> {
-    let mut tally = Tally::new();
+    let mut tally = Tally::default();
     let words: [&[u8]; 7] = [
         b"attr",
         b"--kind=single",

@@ -11,10 +11,10 @@
 //! Other lines are remarks.
 use crate::rounds;
 use crate::run::{room, saved, told, words_in};
-use crate::tally::Tally;
 use std::alloc::{AllocError, Global};
 use std::io;
 use std::thread::Threads;
+use test_tally::Tally;
 
 /// How many bytes a run may write.
 const ROOM: usize = 65_536;
@@ -62,7 +62,7 @@ impl Row {
 }
 
 /// What was compared, by how the rows were run.
-#[derive(Drop)]
+#[derive(Default, Drop)]
 struct Tallies {
     runs: Tally,
     wide: Tally,
@@ -73,17 +73,6 @@ struct Tallies {
 }
 
 impl Tallies {
-    fn new() -> Tallies {
-        Tallies {
-            runs: Tally::new(),
-            wide: Tally::new(),
-            after: Tally::new(),
-            beside: Tally::new(),
-            full: Tally::new(),
-            saves: Tally::new(),
-        }
-    }
-
     fn print(&self, rt: &HostRuntime) -> io::Result<()> {
         self.runs.print(rt, "runs")?;
         self.wide
@@ -303,7 +292,7 @@ fn take<R: Threads + Sync>(
 }
 
 pub fn compare<R: Threads + Sync>(rt: &HostRuntime, threads: &R) -> io::Result<()> {
-    let mut tallies = Tallies::new();
+    let mut tallies = Tallies::default();
     let mut row = Row::new(rt.alloc(), "")?;
     for line in rt.lines(rt.alloc()) {
         take(rt, threads, &mut tallies, &mut row, line?.as_str())?;

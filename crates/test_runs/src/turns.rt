@@ -1,12 +1,12 @@
 //! Runs of two readers beside the loading whose order is fixed: their gate holds each thread until the others have come.
 //! Readers on the loader's thread, or one after another, don't come; and a round at an older commit tells other lines.
 use crate::run::{line_of, outcome_at, words_in};
-use crate::tally::Tally;
 use attr_io::{Gate, Point, SliceSource, VecSink};
 use std::alloc::{AllocError, Global};
 use std::sync::atomic::{AtomicU64, Ordering};
 use std::thread::Threads;
 use std::{io, thread};
+use test_tally::Tally;
 
 /// How often a thread looks whether the others have come.
 const TURNS: u64 = 50_000_000;
@@ -127,7 +127,7 @@ fn compare_turns<R: Threads + Sync>(
 }
 
 pub fn compare<R: Threads + Sync>(rt: &HostRuntime, threads: &R) -> io::Result<()> {
-    let mut tally = Tally::new();
+    let mut tally = Tally::default();
     compare_turns(rt, threads, &mut tally, 0, TWO, AT_ONE_AND_TWO)?;
     compare_turns(rt, threads, &mut tally, 1, THREE, AT_TWO_AND_THREE)?;
     tally.print(rt, "rounds held at the gate")

@@ -1,11 +1,11 @@
 //! One document read and written over devices that fail: a save of 28 bytes.
 use crate::saves::{read, table_of};
-use crate::tally::Tally;
 use attr_io::{FakeSink, FakeSource};
 use attr_plain::PlainTable;
 use attr_saver::{LoadError, SaveError, column_law, save};
 use std::alloc::{AllocError, Global};
 use std::io;
+use test_tally::Tally;
 
 const BYTES: [u8; 28] = [
     0x41, 0x54, 0x53, 0x31, 0, 0, 0, 0, 0, 1, 0, 0, 0, 1, 0, 0, 0, 1, 0, 1, 0, 0, 0, 0, 0, 0, 0, 5,
@@ -65,7 +65,7 @@ fn told_by_sink(
 
 fn compare_sources(rt: &HostRuntime) -> io::Result<()> {
     let alloc = rt.alloc();
-    let mut tally = Tally::new();
+    let mut tally = Tally::default();
     tally.note(
         rt,
         "28 bytes a read",
@@ -86,7 +86,7 @@ fn compare_sources(rt: &HostRuntime) -> io::Result<()> {
 
 fn compare_sinks(rt: &HostRuntime, table: &PlainTable) -> io::Result<()> {
     let alloc = rt.alloc();
-    let mut tally = Tally::new();
+    let mut tally = Tally::default();
     let found = told_by_sink(alloc, table, 28, 1)?;
     tally.note(rt, "28 bytes a write", &found, "a write failed, 0 of it")?;
     for call in 1..30 {

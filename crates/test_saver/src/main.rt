@@ -5,7 +5,6 @@
 mod devices;
 mod rows;
 mod saves;
-mod tally;
 
 use std::io;
 

@@ -5,9 +5,9 @@
 ghost use Rattle.std.specs.Prelude.{◌≤◌, length};
 
 use crate::saves::{content, told};
-use crate::tally::Tally;
 use std::alloc::{AllocError, Global};
 use std::io;
+use test_tally::Tally;
 
 fn words_of<'a>(alloc: Global, line: &'a str) -> Result<Vec<&'a str>, AllocError> {
     let mut words = Vec::new(alloc);
@@ -150,7 +150,7 @@ fn take(rt: &HostRuntime, tally: &mut Tally, base: &mut Vec<u8>, line: &str) -> 
 }
 
 pub fn compare(rt: &HostRuntime) -> io::Result<()> {
-    let mut tally = Tally::new();
+    let mut tally = Tally::default();
     let mut base = Vec::new(rt.alloc());
     for line in rt.lines(rt.alloc()) {
         take(rt, &mut tally, &mut base, line?.as_str())?;

@@ -5,6 +5,7 @@ use crate::{asks, words};
 use attr_types::{Field, Fields};
 use std::alloc::{AllocError, Global};
 use std::io;
+use test_tally::Tally;
 
 /// What a row is read as; nothing where it is a remark.
 fn told(
@@ -23,14 +24,13 @@ fn told(
     }
 }
 
-/// The attributes of the rows, the last row, and how many were compared.
+/// The attributes of the rows, the last row, and those before it.
 #[derive(Drop)]
 struct Rows {
     fields: Fields,
     case: String,
     found: String,
-    compared: u32,
-    right: u32,
+    tally: Tally,
 }
 
 impl Rows {
@@ -39,8 +39,7 @@ impl Rows {
             fields: Fields::new(alloc),
             case: String::new(alloc),
             found: String::new(alloc),
-            compared: 0,
-            right: 0,
+            tally: Tally::default(),
         }
     }
 
@@ -52,20 +51,11 @@ impl Rows {
         Ok(())
     }
 
-    fn judge(&mut self, rt: &HostRuntime, wanted: &str) -> io::Result<()> {
-        self.compared = self.compared.saturating_add(1);
-        if self.found.as_str() == wanted {
-            self.right = self.right.saturating_add(1);
-            return Ok(());
-        }
-        println!(rt; "{}: {} in place of {wanted}", self.case, self.found)
-    }
-
     fn take(&mut self, rt: &HostRuntime, line: &str) -> io::Result<()> {
         let alloc = rt.alloc();
         let (kind, row) = line.split_once(' ').unwrap_or((line, ""));
         match kind {
-            "said" => return self.judge(rt, row),
+            "said" => return self.tally.note(rt, &self.case, &self.found, row),
             "on" => self.fields = words::fields_in(alloc, row)?,
             _ => self.read(alloc, kind, row)?,
         }
@@ -78,6 +68,5 @@ pub fn compare(rt: &HostRuntime) -> io::Result<()> {
     for line in rt.lines(rt.alloc()) {
         rows.take(rt, line?.as_str())?;
     }
-    let (compared, right) = (rows.compared, rows.right);
-    println!(rt; "rows: {compared} compared, {right} as wanted")
+    rows.tally.print(rt, "rows")
 }
