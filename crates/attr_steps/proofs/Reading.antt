@@ -3,6 +3,7 @@ use Rattle.std.proofs.Common.{◌≡◌, ℕ, zero, suc, ◌+◌, ◌<◌, List,
 use Rattle.std.specs.Prelude.{slice_get, IsSome}
 use Rattle.std.specs.BTreeMap.{is_at}
 use Rattle.std.specs.Map.{lookup}
+use Rattle.std.proofs.lemmas.List.{take_all}
 use Rattle.attr_images.proofs.ImageLemmas.{all_at}
 use Rattle.attr_images.proofs.TableLemmas.{document_size}
 use Rattle.image_base.specs.Records.{Records}
@@ -34,10 +35,6 @@ take_more [] i below = absurd (omega arith)
 take_more (items ∷ d) zero below = refl
 take_more (items ∷ d) (suc i) below = ap (λ rest. items ∷ rest) (take_more d i (omega arith))
 
-take_all : (d : Document) → take (length d) d ≡ d
-take_all [] = refl
-take_all (items ∷ d) = ap (λ rest. items ∷ rest) (take_all d)
-
 module _ (fields : List Field) (table : Table) (doc : ℕ) (sound : Sound fields table) where
   sized : (d : Document) → document_at table doc ≡ Some d → length d ≡ length fields
   sized d is = document_size fields d (all-lookup (IsLawfulDocument fields) (is_at (nat_cmp doc)) table sound.0.documents d is)
@@ -64,7 +61,7 @@ module _ (fields : List Field) (table : Table) (doc : ℕ) (sound : Sound fields
     where
       told : (o : Option Document) → document_at table doc ≡ o → IsSome o → Some items ≡ document_at table doc
       told None is there = cc
-      told (Some d) is there = ap Some (so_far.items_are d is ∙ ap (λ n. take n d) (sym (sized d is)) ∙ take_all d) ∙ sym is
+      told (Some d) is there = ap Some (so_far.items_are d is ∙ ap (λ n. take n d) (sym (sized d is)) ∙ take_all (length d) d (omega arith)) ∙ sym is
 
 -- no items in one attribute: the document is not there
 pub reads_none : (found : Option Document) (i : ℕ) → None ≡ option_map (λ d. items_in d i) found → None ≡ found

@@ -2,6 +2,9 @@
 use Rattle.std.proofs.Common.{◌≡◌, ℕ, zero, suc, ◌<◌, List, [], ◌∷◌, ◌++◌, length, take, Option, Some, None, refl, ap, subst}
 use Rattle.std.specs.Prelude.{slice_get}
 use Rattle.std.specs.List.{AllByRecursion, AllZip}
+use Rattle.std.proofs.lemmas.List.{take_all}
+use Rattle.list_facts.proofs.Places.{take-read}
+use Rattle.list_facts.proofs.Pairs.{AllZip-push}
 use Rattle.image_base.specs.Records.{Records}
 use Rattle.attr_documents.specs.Changes.{AreKeysOf, IsKeyOf}
 use Rattle.attr_types.proofs.EntryLemmas.{all-append}
@@ -19,26 +22,6 @@ pub record KeysSoFar (type : ValueType) (m : Records) (root : ℕ) (keys : List 
   pub are : AreKeysOf type m keys (take i items)
   pub kept : AllByRecursion (IsKey m root) keys
 
-zip_push : {A B : Type 0} (P : A → B → Type 0) (xs : List A) (ys : List B) (x : A) (y : B) → AllZip P xs ys → P x y → AllZip P (xs ++ x ∷ []) (ys ++ y ∷ [])
-zip_push P [] [] x y all here = (here, tt)
-zip_push P [] (b ∷ ys) x y all here = absurd all
-zip_push P (a ∷ xs) [] x y all here = absurd all
-zip_push P (a ∷ xs) (b ∷ ys) x y all here = (all.0, zip_push P xs ys x y all.1 here)
-
-take_more : (items : List Item) (i : ℕ) (item : Item) → slice_get items i ≡ Some item → take i items ++ item ∷ [] ≡ take (suc i) items
-take_more [] i item at = cc
-take_more (x ∷ items) zero item at = let same : item ≡ x = cc in ap (λ y. y ∷ []) same
-take_more (x ∷ items) (suc i) item at = ap (λ rest. x ∷ rest) (take_more items i item at)
-
-take_all : (items : List Item) → take (length items) items ≡ items
-take_all [] = refl
-take_all (item ∷ items) = ap (λ rest. item ∷ rest) (take_all items)
-
-pub all_at : (P : Item → Type 0) (items : List Item) (i : ℕ) (item : Item) → slice_get items i ≡ Some item → AllByRecursion P items → P item
-all_at P [] i item at all = cc
-all_at P (x ∷ items) zero item at all = let same : x ≡ item = cc in subst P same all.0
-all_at P (x ∷ items) (suc i) item at all = all_at P items i item at all.1
-
 pub values_at : (P : Value → Type 0) (items : List Item) (i : ℕ) (item : Item) → slice_get items i ≡ Some item
     → AllByRecursion P (values_of items) → P item.value
 values_at P [] i item at all = cc
@@ -52,13 +35,13 @@ module _ (type : ValueType) (m : Records) (root : ℕ) (items : List Item) where
   pub keys_more : (keys : List ℕ) (i ref : ℕ) (item : Item) → KeysSoFar type m root keys items i → slice_get items i ≡ Some item → IsKey m root ref → IsKeyOf type m item.value ref
       → KeysSoFar type m root (keys ++ ref ∷ []) items (suc i)
   keys_more keys i ref item p at kept of = record {
-    are = subst (AreKeysOf type m (keys ++ ref ∷ [])) (take_more items i item at)
-        (zip_push (λ (key : ℕ) (x : Item). IsKeyOf type m x.value key) keys (take i items) ref item p.are of);
+    are = subst (AreKeysOf type m (keys ++ ref ∷ [])) (take-read items i item at)
+        (AllZip-push (λ (key : ℕ) (x : Item). IsKeyOf type m x.value key) keys (take i items) ref item p.are of);
     kept = all-append (IsKey m root) keys (ref ∷ []) p.kept (kept, tt);
   }
 
   pub keys_end : (keys : List ℕ) → KeysSoFar type m root keys items (length items) → AreKeysOf type m keys items
-  keys_end keys p = subst (AreKeysOf type m keys) (take_all items) p.are
+  keys_end keys p = subst (AreKeysOf type m keys) (take_all (length items) items (omega arith)) p.are
 
 -- the key of a value that has documents
 none_some : (o : Option ℕ) (ref : ℕ) → o ≡ None → o ≡ Some ref → ⊥
