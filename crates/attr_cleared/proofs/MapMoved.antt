@@ -4,6 +4,7 @@ use Rattle.std.proofs.lemmas.Cmp.{nat_cmp_total}
 use Rattle.std.specs.List.{AllByRecursion}
 use Rattle.std.specs.List.Sorted.{IsStrictlySortedBy}
 use Rattle.std.specs.Ordering.{nat_cmp}
+use Rattle.image_base.proofs.Among.{Among-all}
 use Rattle.entry_ref.specs.References.{buffer_of}
 use Rattle.image_base.specs.Records.{Records, SameAt, Among}
 use Rattle.store_api.specs.Ledgers.{Ledger}
@@ -14,7 +15,7 @@ use Rattle.store_api.proofs.Uses.{in-uses, uses-in}
 use Rattle.tree_images.specs.ProofsForTrees.{all-same}
 use Rattle.tree_images.specs.Trees.{by_number, tree_nodes, tree_pairs}
 use Rattle.tree_touch.specs.Paths.{path_nodes}
-use Rattle.tree_ways.proofs.WayLemmas.{stand_on_ways, all_among}
+use Rattle.tree_ways.proofs.WayLemmas.{stand_on_ways}
 use Rattle.tree_ways.specs.Ways.{keys_below, tree_keys}
 use Rattle.doc_vector.specs.Documents.{beside_document}
 use Rattle.attr_images.specs.Tables.{AttributeTrees}
@@ -129,7 +130,7 @@ module _ {H : Type 0} (bits victim field doc next : ℕ) (at : PlanPlace) (a : A
   not_above : (node key : ℕ) → Among node (tree_nodes n next) → buffer_of bits node ≡ victim → Among key (keys_below n node) → key ≡ doc → ⊥
   not_above node key among lies below e =
       let on_way : Among node (path_nodes n (beside_document key) next) = stand_on_ways nat_cmp nat_cmp_total by_number n next node key moves.documents_are.map_is.tree_is among below in
-      all_among (λ r. buffer_of bits r ≢ victim) (path_nodes n (beside_document doc) next) moves.apart node (subst (λ (d : ℕ). Among node (path_nodes n (beside_document d) next)) e on_way) lies
+      Among-all (λ r. buffer_of bits r ≢ victim) (path_nodes n (beside_document doc) next) moves.apart node (subst (λ (d : ℕ). Among node (path_nodes n (beside_document d) next)) e on_way) lies
 
   doc_still : (node key : ℕ) → Among node (tree_nodes n next) → buffer_of bits node ≡ victim → Among key (keys_below n node) → Among key (tree_keys m a.documents)
       → IsVisited to field NODES (Doc key) → IsVisited at field NODES (Doc key)

@@ -4,7 +4,7 @@ use Rattle.std.proofs.lemmas.Cmp.{tied_itself, nat_cmp_total}
 use Rattle.std.specs.declared.cmp.Ordering.{Ordering}
 use Rattle.std.specs.List.Sorted.{IsStrictlySortedBy}
 use Rattle.std.specs.Ordering.{nat_cmp, ordering_then}
-use Rattle.attr_field.proofs.RefLemmas.{same_among}
+use Rattle.image_base.proofs.Among.{Among-all, SameAt-among}
 use Rattle.entry_ref.specs.References.{buffer_of}
 use Rattle.image_base.specs.Records.{Records, SameAt, Among}
 use Rattle.store_api.specs.Ledgers.{Ledger}
@@ -14,7 +14,7 @@ use Rattle.store_api.proofs.Times.{among-times, times-among}
 use Rattle.store_api.proofs.Uses.{uses-in}
 use Rattle.tree_images.specs.Trees.{tree_nodes, tree_pairs, IsTree}
 use Rattle.tree_touch.specs.Paths.{path_nodes}
-use Rattle.tree_ways.proofs.WayLemmas.{stand_on_ways, all_among}
+use Rattle.tree_ways.proofs.WayLemmas.{stand_on_ways}
 use Rattle.tree_ways.specs.Ways.{keys_below, tree_keys}
 use Rattle.attr_cleared.specs.Cleared.{IsClearedField, IsVisited, ListIsCleared, NodesAreCleared}
 use Rattle.attr_compaction.specs.Places.{key_cmp, value_in, PlanPlace}
@@ -80,7 +80,7 @@ module _ {H : Type 0} (bits victim field next : ℕ) (at : PlanPlace) (value : V
   stays q within = pair_stays m n (pair_reach m) q (tree_pairs m root) (in_old q within) moves.stay
 
   key_stays : (k : ℕ) → Among k (tree_keys m root) → n k ≡ m k
-  key_stays k among = same_among m n (tree_keys m root) (keys_same m n (tree_pairs m root) moves.stay) k among
+  key_stays k among = SameAt-among m n (tree_keys m root) (keys_same m n (tree_pairs m root) moves.stay) k among
 
   -- ---- keys and lists
   abbrev KeyCleared : PlanPlace → Records → ℕ × ℕ → Type 0
@@ -128,7 +128,7 @@ module _ {H : Type 0} (bits victim field next : ℕ) (at : PlanPlace) (value : V
 
   on_way : (node : ℕ) → Among node (tree_nodes n next) → buffer_of bits node ≡ victim → (key : ℕ) → Among key (keys_below n node) → stored_value type m key ≡ value → ⊥
   on_way node among lies key below e =
-      all_among (λ r. buffer_of bits r ≢ victim) (path_nodes n (beside_value value m) next) moves.apart node
+      Among-all (λ r. buffer_of bits r ≢ victim) (path_nodes n (beside_value value m) next) moves.apart node
       (subst (λ v. Among node (path_nodes n (λ k. value_cmp (stored_value type m k) v) next)) e (stand_on_ways value_cmp value_cmp_total read_was n next node key tree_now among below)) lies
 
   still : (node key : ℕ) → Among node (tree_nodes n next) → buffer_of bits node ≡ victim → Among key (keys_below n node) → Among key (tree_keys m root)

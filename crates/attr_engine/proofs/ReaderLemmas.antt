@@ -51,10 +51,6 @@ zip_each J G Q step [] (b ∷ ys) all zip = absurd zip
 zip_each J G Q step (a ∷ xs) [] all zip = absurd zip
 zip_each J G Q step (a ∷ xs) (b ∷ ys) all zip = (step a b all.0 zip.0, zip_each J G Q step xs ys all.1 zip.1)
 
-pub each_weaker : {A : Type 0} (P Q : A → Type 0) → ((a : A) → P a → Q a) → (xs : List A) → AllByRecursion P xs → AllByRecursion Q xs
-each_weaker P Q step [] all = tt
-each_weaker P Q step (a ∷ xs) all = (step a all.0, each_weaker P Q step xs all.1)
-
 -- numbers that do not fall, without the last
 front : (xs : List ℕ) (n : ℕ) → IsNonDecreasing (xs ++ n ∷ []) → IsNonDecreasing xs
 front xs n rises i j d ij below =

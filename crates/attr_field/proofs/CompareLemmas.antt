@@ -1,10 +1,11 @@
 -- Items and lists of items that are the same.
-use Rattle.std.proofs.Common.{◌≡◌, ℕ, zero, suc, true, false, List, [], ◌∷◌, ◌++◌, length, take, is_eq, Option, Some, None, refl, sym, ap, ap₂, ◌∙◌, true≢false}
+use Rattle.std.proofs.Common.{◌≡◌, ℕ, suc, true, false, List, [], ◌∷◌, ◌++◌, length, take, is_eq, Option, Some, None, sym, ap, ap₂, ◌∙◌, true≢false, arith}
 use Rattle.std.proofs.lemmas.Bool.Decides.{Decides-int_eq}
 use Rattle.std.proofs.lemmas.Cmp.{tied_itself}
 use Rattle.std.specs.Ordering.{int_eq}
 use Rattle.std.specs.Prelude.{ℤ, is_some, nat_eq, slice_get, unwrap_or}
 use Rattle.std.proofs.lemmas.List.{take_all}
+use Rattle.list_facts.proofs.Options.{same_Some}
 use Rattle.list_facts.proofs.Places.{take-read}
 use Rattle.attr_index.proofs.ListLemmas.{same_value}
 use Rattle.attr_types.specs.ProofsForOrder.{value_cmp_total}
@@ -26,9 +27,6 @@ value_apart a b apart same =
 pub weight_same : (a b : Item) → a ≡ b → int_eq a.weight b.weight ≡ true
 weight_same a b same = (Decides-int_eq a.weight b.weight).1 (ap (λ (x : Item). x.weight) same)
 
-pub some_same : (x y : Item) → Some x ≡ Some y → x ≡ y
-some_same x y same = ap (λ o. unwrap_or o x) same
-
 pub same_on : (a b : List Item) (i : ℕ) (x y : Item) → take i a ≡ take i b → slice_get a i ≡ Some x → slice_get b i ≡ Some y → x ≡ y → take (suc i) a ≡ take (suc i) b
 same_on a b i x y before at there same =
     sym (take-read a i x at) ∙ ap (λ items. items ++ x ∷ []) before ∙ ap (λ z. take i b ++ z ∷ []) same ∙ take-read b i y there
@@ -38,7 +36,7 @@ same_all a b i same sizes at =
     sym (take_all (length a) a (omega arith)) ∙ ap (λ j. take j a) at ∙ same ∙ ap (λ j. take j b) (sym at ∙ sizes) ∙ take_all (length b) b (omega arith)
 
 pub read_same : (a b : List Item) (i : ℕ) (x y : Item) → slice_get a i ≡ Some x → slice_get b i ≡ Some y → a ≡ b → x ≡ y
-read_same a b i x y at there same = some_same x y (sym at ∙ ap (λ items. slice_get items i) same ∙ there)
+read_same a b i x y at there same = same_Some x y (sym at ∙ ap (λ items. slice_get items i) same ∙ there)
 
 -- a document that has items is there
 there_with : (o : Option (List Item)) (items : List Item) → items ≡ unwrap_or o [] → (items ≡ [] → ⊥) → o ≡ Some items

@@ -1,13 +1,13 @@
 -- The keys of items, one after another.
-use Rattle.std.proofs.Common.{◌≡◌, ℕ, zero, suc, ◌<◌, List, [], ◌∷◌, ◌++◌, length, take, Option, Some, None, refl, ap, subst}
+use Rattle.std.proofs.Common.{◌≡◌, ℕ, zero, suc, ◌<◌, List, [], ◌∷◌, ◌++◌, length, take, Option, Some, None, subst, arith}
 use Rattle.std.specs.Prelude.{slice_get}
-use Rattle.std.specs.List.{AllByRecursion, AllZip}
+use Rattle.std.specs.List.{AllByRecursion}
 use Rattle.std.proofs.lemmas.List.{take_all}
+use Rattle.list_facts.proofs.Each.{AllByRecursion-append}
 use Rattle.list_facts.proofs.Places.{take-read}
 use Rattle.list_facts.proofs.Pairs.{AllZip-push}
 use Rattle.image_base.specs.Records.{Records}
 use Rattle.attr_documents.specs.Changes.{AreKeysOf, IsKeyOf}
-use Rattle.attr_types.proofs.EntryLemmas.{all-append}
 use Rattle.attr_types.specs.declared.items.Item.{Item}
 use Rattle.attr_types.specs.declared.kind.ValueType.{ValueType}
 use Rattle.value_index.specs.Indexes.{key_at, IsIndex, IsKey}
@@ -38,7 +38,7 @@ module _ (type : ValueType) (m : Records) (root : ℕ) (items : List Item) where
   keys_more keys i ref item p at finds = record {
     are = subst (AreKeysOf type m (keys ++ ref ∷ [])) (take-read items i item at)
         (AllZip-push (λ (key : ℕ) (x : Item). IsKeyOf type m x.value key) keys (take i items) ref item p.are (record { record_is = finds.record_is; value_is = finds.value_is }));
-    kept = all-append (IsKey m root) keys (ref ∷ []) p.kept (finds.is_key, tt);
+    kept = AllByRecursion-append (IsKey m root) keys (ref ∷ []) p.kept (finds.is_key, tt);
   }
 
   pub keys_end : (keys : List ℕ) → KeysSoFar type m root keys items (length items) → AreKeysOf type m keys items

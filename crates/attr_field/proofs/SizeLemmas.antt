@@ -8,9 +8,10 @@ use Rattle.std.specs.BTreeMap.{insert_entry, is_at}
 use Rattle.std.specs.declared.cmp.Ordering.{Ordering}
 use Rattle.std.specs.declared.cmp.Ordering.TheVariants.{Less, Equal, Greater}
 use Rattle.std.specs.List.{AllByRecursion, cons_option, find, list_any}
-use Rattle.std.specs.Map.{keys_of, lookup, remove_entry}
+use Rattle.std.specs.Map.{keys_of, lookup}
 use Rattle.std.specs.Option.{is_some, option_map, unwrap_or}
 use Rattle.std.specs.Ordering.{match_ordering}
+use Rattle.list_facts.proofs.Counts.{length-remove_entry}
 use Rattle.attr_types.specs.ProofsForOrder.{value_cmp_total}
 use Rattle.attr_types.specs.Value.{value_cmp}
 use Rattle.attr_types.specs.declared.items.Item.{Item}
@@ -36,17 +37,9 @@ inserted (e ∷ es) doc weight = told (nat_cmp doc e.0) (inserted es doc weight)
     told Equal rest = omega arith
     told Greater rest = omega arith
 
-removed_few : (test : ℕ → Bool) (docs : List (ℕ × ℤ)) → length (remove_entry test docs) ≤ length docs
-removed_few test [] = omega arith
-removed_few test (e ∷ es) = told (test e.0) (removed_few test es)
-  where
-    told : (b : Bool) → length (remove_entry test es) ≤ length es → length (cond b es (e ∷ remove_entry test es)) ≤ suc (length es)
-    told true rest = omega arith
-    told false rest = omega arith
-
 settled_few : (o r : Option ℤ) (doc : ℕ) (docs : List (ℕ × ℤ)) → length (settled o r doc docs) ≤ length docs + 1
 settled_few (Some weight) r doc docs = inserted docs doc weight
-settled_few None (Some weight) doc docs = let few = removed_few (is_at (nat_cmp doc)) docs in omega arith
+settled_few None (Some weight) doc docs = let few = length-remove_entry (is_at (nat_cmp doc)) docs in omega arith
 settled_few None None doc docs = omega arith
 
 documents_few : (value : Value) (column : Column) → length (documents_with value column) ≤ length column

@@ -2,6 +2,8 @@
 use Rattle.std.proofs.Common.{◌≡◌, ℕ, zero, suc, ◌<◌, Bool, true, false, cond, nat_eq, List, [], ◌∷◌, ◌++◌, map, length, Some, is_lt, refl, sym, ap, subst, ◌∙◌, arith}
 use Rattle.std.specs.Prelude.{slice_get}
 use Rattle.std.specs.List.{find, flat_map, AllByRecursion}
+use Rattle.list_facts.proofs.Each.{AllByRecursion-append}
+use Rattle.list_facts.proofs.Options.{same_Some}
 use Rattle.plan_counts.proofs.StageLemmas.{less_is}
 use Rattle.image_base.specs.Records.{Records, SameAt}
 use Rattle.tree_images.specs.ProofsForTrees.{SameAt-left, SameAt-right, flat_map-same, map-same, tree_pairs-same}
@@ -88,10 +90,6 @@ module _ (type : ValueType) (m : Records) (phase : ℕ) where
   documents_fit is [] = tt
   documents_fit is (p ∷ ps) = (record { typed = tt; of_phase = is p.0 }, documents_fit is ps)
 
-  all_both : (P : PlanKey → Type 0) (xs ys : List PlanKey) → AllByRecursion P xs → AllByRecursion P ys → AllByRecursion P (xs ++ ys)
-  all_both P [] ys front behind = behind
-  all_both P (x ∷ xs) ys front behind = (front.0, all_both P xs ys front.1 behind)
-
   one_fits : ((v : AnyValue) (d : ℕ) → has_key phase (Pair v d) ≡ true) → (key : ℕ) (docs : List ℕ)
       → AllByRecursion (FitsPhase type phase) (map (λ doc. Pair (stored_value type m key) doc) docs)
   one_fits is key [] = tt
@@ -100,7 +98,7 @@ module _ (type : ValueType) (m : Records) (phase : ℕ) where
   pairs_fit : ((v : AnyValue) (d : ℕ) → has_key phase (Pair v d) ≡ true) → (ps : List (ℕ × ℕ)) → AllByRecursion (FitsPhase type phase) (keys_of_pairs type m ps)
   pairs_fit is [] = tt
   pairs_fit is (p ∷ ps) =
-      all_both (FitsPhase type phase) (map (λ doc. Pair (stored_value type m p.0) doc) (form_docs m (list_form p.1))) (keys_of_pairs type m ps)
+      AllByRecursion-append (FitsPhase type phase) (map (λ doc. Pair (stored_value type m p.0) doc) (form_docs m (list_form p.1))) (keys_of_pairs type m ps)
       (one_fits is p.0 (form_docs m (list_form p.1))) (pairs_fit is ps)
 
 pub keys_fit : (m : Records) (a : AttributeTrees) (phase : ℕ) → phase < PHASES → AllByRecursion (FitsPhase a.type phase) (keys_at m a phase)
@@ -108,20 +106,16 @@ keys_fit m a zero few = values_fit a.type m 0 (λ v. refl) (tree_pairs m a.dicti
 keys_fit m a (suc zero) few = documents_fit a.type m 1 (λ d. refl) (tree_pairs m a.documents)
 keys_fit m a (suc (suc zero)) few = pairs_fit a.type m 2 (λ v d. refl) (tree_pairs m a.dictionary)
 keys_fit m a (suc (suc (suc zero))) few =
-    all_both a.type m 3 (FitsPhase a.type 3) (value_keys a.type m a.dictionary) (document_keys m a.documents)
+    AllByRecursion-append (FitsPhase a.type 3) (value_keys a.type m a.dictionary) (document_keys m a.documents)
     (values_fit a.type m 3 (λ v. refl) (tree_pairs m a.dictionary)) (documents_fit a.type m 3 (λ d. refl) (tree_pairs m a.documents))
 keys_fit m a (suc (suc (suc (suc phase)))) few = absurd (omega arith)
-
--- ---- the one that is found
-same_key : (x y : PlanKey) → Some x ≡ Some y → x ≡ y
-same_key x y e = cc
 
 pub found_is : (P : PlanKey → Type 0) (test : PlanKey → Bool) (keys : List PlanKey) (key : PlanKey) → AllByRecursion P keys → find test keys ≡ Some key → P key × (test key ≡ true)
 found_is P test [] key all found = cc
 found_is P test (x ∷ xs) key all found = told (λ later. found_is P test xs key all.1 later) (test x) refl found
   where
     told : (find test xs ≡ Some key → P key × (test key ≡ true)) → (t : Bool) → test x ≡ t → cond t (Some x) (find test xs) ≡ Some key → P key × (test key ≡ true)
-    told more true is here = let e = same_key x key here in (subst P e all.0, ap test (sym e) ∙ is)
+    told more true is here = let e = same_Some x key here in (subst P e all.0, ap test (sym e) ∙ is)
     told more false is later = more later
 
 pub next_fits : (m : Records) (a : AttributeTrees) (at : PlanPlace) (key : PlanKey) → at.stage.phase < PHASES → key_past at.key (keys_at m a at.stage.phase) ≡ Some key

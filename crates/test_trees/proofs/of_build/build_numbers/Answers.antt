@@ -2,7 +2,7 @@ use Rattle.std.proofs.Common.{ℕ, refl, sym, ap, subst, arith}
 use Rattle.std.specs.List.{zip}
 use Rattle.std.specs.List.Sorted.{IsStrictlySortedBy}
 use Rattle.std.specs.Ordering.{nat_cmp}
-use Rattle.number_tree.proofs.HoldLemmas.{all_pairs}
+use Rattle.list_facts.proofs.Each.{AllByRecursion-each}
 use Rattle.tree_make.proofs.Results.{if_ok-then}
 use Rattle.test_trees.proofs.RowLemmas.{keys_of_pairs}
 use Rattle.test_trees.proofs.of_build.build_numbers.Goals as goal
@@ -19,8 +19,8 @@ build-requires g c =
           (
             subst (IsStrictlySortedBy nat_cmp) (sym (keys_of_pairs m ks)) c.requires.sorted,
             (
-              all_pairs (λ (p : ℕ × ℕ). Unit {0}) (λ p. tt) (zip ks ks),
-              all_pairs (λ (p : ℕ × ℕ). Unit {0}) (λ p. tt) (zip ks ks),
+              AllByRecursion-each (λ (p : ℕ × ℕ). Unit {0}) (λ p. tt) (zip ks ks),
+              AllByRecursion-each (λ (p : ℕ × ℕ). Unit {0}) (λ p. tt) (zip ks ks),
             ),
           ),
         ),
