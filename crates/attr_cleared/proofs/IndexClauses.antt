@@ -70,7 +70,7 @@ list_stays bits victim field at next m n value (tree root) same is still cleared
     nodes_stay bits victim m n root is.0.node same (λ doc. IsVisited at field LISTS (plan.Pair value doc)) (λ doc. IsVisited next field LISTS (plan.Pair value doc)) still cleared
 list_stays bits victim field at next m n value (vector root) same is still cleared = cleared
 
-items_stay : (bits victim : ℕ) (kind : Kind) (m n : Records) (ref : ℕ) → SameAt (items_own kind ref) m n → AreItemsApart bits victim kind m ref → AreItemsApart bits victim kind n ref
+pub items_stay : (bits victim : ℕ) (kind : Kind) (m n : Records) (ref : ℕ) → SameAt (items_own kind ref) m n → AreItemsApart bits victim kind m ref → AreItemsApart bits victim kind n ref
 items_stay bits victim kind m n zero same apart = record { own = apart.own; refer = apart.refer }
 items_stay bits victim Single m n (suc ref) same apart = record { own = apart.own; refer = apart.refer }
 items_stay bits victim Array m n (suc ref) same apart =
@@ -127,9 +127,6 @@ key_left k (x ∷ xs) ys (inr later) = inr (key_left k xs ys later)
 pub key_right : (k : PlanKey) (xs ys : List PlanKey) → IsAmongKeys k ys → IsAmongKeys k (xs ++ ys)
 key_right k [] ys among = among
 key_right k (x ∷ xs) ys among = inr (key_right k xs ys among)
-
-pub key_front : (k : PlanKey) (xs ys : List PlanKey) → IsAmongKeys k xs → IsAmongKeys k (xs ++ ys)
-key_front k xs ys among = key_left k xs ys among
 
 doc_key : (value : Value) (d : ℕ) (docs : List ℕ) → Among d docs → IsAmongKeys (plan.Pair value d) (map (λ doc. plan.Pair value doc) docs)
 doc_key value d [] among = absurd among

@@ -42,7 +42,7 @@ use Rattle.attr_cleared.specs.Visits.{place_at_key}
 use Rattle.attr_cleared.proofs.BelowLemmas.{nodes_moved}
 use Rattle.attr_cleared.proofs.KeyMoved.{of_type}
 use Rattle.attr_cleared.proofs.IndexPairs.{InPairs, at_pair, each_pair, pair_stays}
-use Rattle.attr_cleared.proofs.IndexClauses.{documents_stay, key_front, list_stays, node_used, value_in_keys}
+use Rattle.attr_cleared.proofs.IndexClauses.{documents_stay, list_stays, node_used, value_in_keys, key_left}
 
 -- at a value of the last phase no document of it was visited
 no_document : (at : PlanPlace) (field d : ℕ) (value : Value) → at.stage.field ≡ field → at.stage.phase ≡ NODES → IsVisited (place_at_key at (plan.Value value)) field NODES (plan.Doc d) → ⊥
@@ -135,7 +135,7 @@ module _ {H : Type 0} (bits victim field next : ℕ) (at : PlanPlace) (value : V
       → IsVisited here field NODES (plan.Value (stored_value type n key)) → IsVisited at field NODES (plan.Value (stored_value type m key))
   still node key among lies below key_was visited = told
       (next_visited at field NODES keys (plan.Value value) (plan.Value (stored_value type m key)) turn.field_is turn.phase_is turn.next ascends
-      (key_front (plan.Value (stored_value type m key)) (value_keys type m root) (document_keys m a.documents) (value_in_keys type m key (tree_pairs m root) key_was))
+      (key_left (plan.Value (stored_value type m key)) (value_keys type m root) (document_keys m a.documents) (value_in_keys type m key (tree_pairs m root) key_was))
       (subst (λ ws. IsVisited here field NODES (plan.Value (value_of type ws))) (key_stays key key_was) visited))
     where
       told : IsVisited at field NODES (plan.Value (stored_value type m key)) ⊎ (plan.Value (stored_value type m key) ≡ plan.Value value)

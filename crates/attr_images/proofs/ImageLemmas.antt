@@ -31,7 +31,7 @@ use Rattle.attr_types.specs.declared.kind.ValueType.{ValueType}
 use Rattle.attr_types.specs.declared.kind.ValueType.TheVariants as types
 
 -- ---- one attribute
-index_keys : (type : ValueType) (m : Records) (pairs : List (ℕ × ℕ))
+pub index_keys : (type : ValueType) (m : Records) (pairs : List (ℕ × ℕ))
     → keys_of (map (λ (p : ℕ × ℕ). (stored_value type m p.0, postings_at m (list_form p.1))) pairs) ≡ map (λ (p : ℕ × ℕ). stored_value type m p.0) pairs
 index_keys type m [] = refl
 index_keys type m (p ∷ pairs) = ap (λ vs. stored_value type m p.0 ∷ vs) (index_keys type m pairs)

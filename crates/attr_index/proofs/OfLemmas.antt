@@ -62,7 +62,7 @@ any-table value (e ∷ table) =
     ∙ ap (λ b. is_some (weight_in value e.1) || b) (any-table value table)
     ∙ any-found e.0 (find (λ item. is_eq (value_cmp value item.value)) e.1) (documents_with value table)
 
-any-index : (value : Value) (index : Index) → AllByRecursion (λ e. 0 < length e.1) index
+pub any-index : (value : Value) (index : Index) → AllByRecursion (λ e. 0 < length e.1) index
     → list_any (is_at (value_cmp value)) (keys_of index) ≡ has_some (list_of value index)
 any-index value [] filled = refl
 any-index value (e ∷ index) filled =
@@ -177,7 +177,7 @@ no_documents value table none there =
     cc
 
 -- ---- one index alone
-lookup_above : {K X : Type 0} (R : K → K → Ordering) (k : K) (es : List (K × X)) → AllByRecursion (λ y. R k y ≡ Less) (keys_of es)
+pub lookup_above : {K X : Type 0} (R : K → K → Ordering) (k : K) (es : List (K × X)) → AllByRecursion (λ y. R k y ≡ Less) (keys_of es)
     → lookup (is_at (R k)) es ≡ None
 lookup_above R k [] above = refl
 lookup_above R k (e ∷ es) above =

@@ -18,7 +18,7 @@ use Rattle.tree_ways.specs.Ways.{keys_below, tree_keys}
 use Rattle.attr_cleared.specs.Cleared.{IsClearedField}
 use Rattle.attr_cleared.specs.Visits.{place_at_key, IsAmongKeys}
 use Rattle.attr_cleared.proofs.BelowLemmas.{keys_of_tree}
-use Rattle.attr_cleared.proofs.IndexClauses.{key_front, key_right, value_in_keys}
+use Rattle.attr_cleared.proofs.IndexClauses.{key_right, value_in_keys, key_left}
 use Rattle.attr_cleared.proofs.IndexPairs.{InPairs}
 use Rattle.attr_compaction.specs.Places.{doc_in, value_in, PlanPlace}
 use Rattle.attr_compaction.specs.declared.plan.PlanKey.{PlanKey}
@@ -93,7 +93,7 @@ module _ (bits victim : ℕ) (at : PlanPlace) (m : Records) (a : AttributeTrees)
         let there = keys_of_tree m a.dictionary node key index_is.dictionary_is.tree_is.node among below in
         elim (visited_through at field NODES (node_phase_keys a.type m a.documents a.dictionary) passed to (plan.Value (stored_value a.type m key)) refl phase
         (ascends bits victim at m a to documents_are index_is cleared NODES) through
-        (key_front (plan.Value (stored_value a.type m key)) (value_keys a.type m a.dictionary) (document_keys m a.documents) (value_in_keys a.type m key values there)) visited) [
+        (key_left (plan.Value (stored_value a.type m key)) (value_keys a.type m a.dictionary) (document_keys m a.documents) (value_in_keys a.type m key values there)) visited) [
           | inl was ↦ cleared.values node among lies key below was
           | inr one ↦ no_value_node node key among lies below there one
         ];

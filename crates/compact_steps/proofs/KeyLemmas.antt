@@ -2,6 +2,7 @@
 use Rattle.std.proofs.Common.{◌≡◌, ℕ, zero, suc, ◌<◌, Bool, true, false, cond, nat_eq, List, [], ◌∷◌, ◌++◌, map, length, Some, is_lt, refl, sym, ap, subst, ◌∙◌, arith}
 use Rattle.std.specs.Prelude.{slice_get}
 use Rattle.std.specs.List.{find, flat_map, AllByRecursion}
+use Rattle.attr_images.proofs.ImageLemmas.{value_typed}
 use Rattle.list_facts.proofs.Each.{AllByRecursion-append}
 use Rattle.list_facts.proofs.Options.{same_Some}
 use Rattle.plan_counts.proofs.StageLemmas.{less_is}
@@ -18,7 +19,6 @@ use Rattle.attr_compaction.specs.Places.{has_key, key_cmp, IsPast, PlanPlace}
 use Rattle.attr_compaction.specs.declared.plan.PlanKey.{PlanKey}
 use Rattle.attr_compaction.specs.declared.plan.PlanKey.TheVariants.{Value, Doc, Pair}
 use Rattle.attr_compaction.specs.declared.plan.TheConstants.{DOCUMENTS, KEYS, LISTS, PHASES}
-use Rattle.value_index.proofs.KeyLemmas.{type_read}
 use Rattle.value_index.specs.Indexes.{index_reach}
 use Rattle.plan_keys.specs.PhaseKeys.{document_keys, form_docs, key_past, keys_of_pairs, pair_keys, value_keys, HasType}
 use Rattle.attr_steps.specs.Fields.{part_of}
@@ -84,7 +84,7 @@ pub record FitsPhase (type : ValueType) (phase : ℕ) (key : PlanKey) : Type 0 w
 module _ (type : ValueType) (m : Records) (phase : ℕ) where
   values_fit : ((v : AnyValue) → has_key phase (Value v) ≡ true) → (ps : List (ℕ × ℕ)) → AllByRecursion (FitsPhase type phase) (map (λ p. Value (stored_value type m p.0)) ps)
   values_fit is [] = tt
-  values_fit is (p ∷ ps) = (record { typed = type_read type (m p.0); of_phase = is (stored_value type m p.0) }, values_fit is ps)
+  values_fit is (p ∷ ps) = (record { typed = value_typed type (m p.0); of_phase = is (stored_value type m p.0) }, values_fit is ps)
 
   documents_fit : ((d : ℕ) → has_key phase (Doc d) ≡ true) → (ps : List (ℕ × ℕ)) → AllByRecursion (FitsPhase type phase) (map (λ p. Doc p.0) ps)
   documents_fit is [] = tt
@@ -93,7 +93,7 @@ module _ (type : ValueType) (m : Records) (phase : ℕ) where
   one_fits : ((v : AnyValue) (d : ℕ) → has_key phase (Pair v d) ≡ true) → (key : ℕ) (docs : List ℕ)
       → AllByRecursion (FitsPhase type phase) (map (λ doc. Pair (stored_value type m key) doc) docs)
   one_fits is key [] = tt
-  one_fits is key (d ∷ docs) = (record { typed = type_read type (m key); of_phase = is (stored_value type m key) d }, one_fits is key docs)
+  one_fits is key (d ∷ docs) = (record { typed = value_typed type (m key); of_phase = is (stored_value type m key) d }, one_fits is key docs)
 
   pairs_fit : ((v : AnyValue) (d : ℕ) → has_key phase (Pair v d) ≡ true) → (ps : List (ℕ × ℕ)) → AllByRecursion (FitsPhase type phase) (keys_of_pairs type m ps)
   pairs_fit is [] = tt

@@ -33,7 +33,7 @@ not-held-active (Some (Active width tag)) n e free = e
 not-held-active (Some (Held width tag)) n e free = absurd (free width tag refl)
 
 -- a pair with words is found with words
-found-some : (pairs : List (ℕ × List ℕ)) (r l : ℕ) (e : ℕ × List ℕ) → All (λ p. 0 < length p.1) pairs → l < length pairs → (get_or pairs l e).0 ≡ r → 0 < length (records_of pairs r)
+pub found-some : (pairs : List (ℕ × List ℕ)) (r l : ℕ) (e : ℕ × List ℕ) → All (λ p. 0 < length p.1) pairs → l < length pairs → (get_or pairs l e).0 ≡ r → 0 < length (records_of pairs r)
 found-some [] r l e all lt is = absurd (omega arith)
 found-some (q ∷ qs) r zero e all lt is = subst (λ t. 0 < length (unwrap_or (cond t (Some q.1) (lookup (nat_eq r) qs)) [])) (sym (eq-eqb r q.0 (sym is))) (All-head (λ p. 0 < length p.1) q qs all)
 found-some (q ∷ qs) r (suc l) e all lt is = by_test (nat_eq r q.0) (found-some qs r l e (All-tail (λ p. 0 < length p.1) q qs all) (omega arith) is)

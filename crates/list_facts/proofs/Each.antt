@@ -1,5 +1,6 @@
 -- What holds of each element of a list: over `++`, for a weaker fact, of two facts, at one place, over `flat_map`.
-use Rattle.std.proofs.Common.{◌≡◌, ℕ, zero, suc, ◌<◌, List, [], ◌∷◌, ◌++◌, length, get_or, Some, subst, arith}
+use Rattle.std.proofs.Common.{◌≡◌, ℕ, zero, suc, ◌<◌, List, [], ◌∷◌, ◌++◌, length, get_or, map, Some, option_map, ap, subst, ◌∙◌, arith}
+use Rattle.std.proofs.lemmas.Option.{slice_get-map}
 use Rattle.std.specs.Prelude.{slice_get}
 use Rattle.std.specs.List.{flat_map, AllByRecursion}
 
@@ -36,6 +37,9 @@ pub AllByRecursion-slice_get : {A : Type 0} (P : A → Type 0) (xs : List A) (i 
 AllByRecursion-slice_get P [] i x all at = cc
 AllByRecursion-slice_get P (y ∷ xs) zero x all at = let same : y ≡ x = cc in subst P same all.0
 AllByRecursion-slice_get P (y ∷ xs) (suc i) x all at = AllByRecursion-slice_get P xs i x all.1 at
+
+pub AllByRecursion-map_slice_get : {A B : Type 0} (P : B → Type 0) (f : A → B) (xs : List A) (i : ℕ) (x : A) → AllByRecursion P (map f xs) → slice_get xs i ≡ Some x → P (f x)
+AllByRecursion-map_slice_get P f xs i x all at = AllByRecursion-slice_get P (map f xs) i (f x) all (slice_get-map f xs i ∙ ap (option_map f) at)
 
 -- each list that f gives has P throughout
 pub AllByRecursion-flat_map : {A B : Type 0} (P : B → Type 0) (Q : A → Type 0) (f : A → List B) → ((x : A) → Q x → AllByRecursion P (f x))
