@@ -5,6 +5,7 @@ use Rattle.std.specs.Prelude.{slice_get, slice_index}
 use Rattle.std.specs.List.{AllByRecursion, AllZip}
 use Rattle.std.specs.List.Sorted.{IsStrictlySortedBy}
 use Rattle.std.specs.Map.{keys_of}
+use Rattle.list_facts.proofs.Options.{same_Some}
 use Rattle.list_facts.proofs.Each.{AllByRecursion-slice_get}
 use Rattle.image_base.specs.Records.{Records}
 use Rattle.tree_images.specs.Trees.{tree_pairs, root_level, root_least, IsNode, IsRootNode}
@@ -120,10 +121,7 @@ attribute_from : (j : ℕ) (ts : List (Kind × ValueType)) (ws : List ℕ) (i k 
     → slice_get (attributes_from j ts ws) i ≡ Some (named k t ws)
 attribute_from j [] ws i k t is at = cc
 attribute_from j (first ∷ ts) ws zero k t is at =
-    ap (λ one. Some (named j one ws)) (some_is first t at) ∙ ap (λ n. Some (named n t ws)) (let same : j ≡ k = omega arith in same)
-  where
-    some_is : (a b : Kind × ValueType) → Some a ≡ Some b → a ≡ b
-    some_is a b e = cc
+    ap (λ one. Some (named j one ws)) (same_Some first t at) ∙ ap (λ n. Some (named n t ws)) (let same : j ≡ k = omega arith in same)
 attribute_from j (first ∷ ts) ws (suc i) k t is at = attribute_from (suc j) ts ws i k t (omega arith) at
 
 -- ---- its table

@@ -5,6 +5,7 @@ use Rattle.std.specs.List.{AllByRecursion, AllZip, zip}
 use Rattle.std.specs.List.Sorted.{IsStrictlySortedBy}
 use Rattle.std.specs.Map.{keys_of}
 use Rattle.std.specs.Ordering.{nat_cmp}
+use Rattle.list_facts.proofs.Options.{same_Some}
 use Rattle.attr_index.proofs.ColumnLemmas.{keys-column}
 use Rattle.attr_images.specs.Tables.{table_of_columns, HaveSameDocuments}
 use Rattle.attr_index.specs.Columns.{Column, IsLawfulColumn, table_of_column, column_of}
@@ -67,16 +68,10 @@ of_next (e ∷ column) (row ∷ table) i same = ap₂ (λ (k : ℕ) es. (k, item
 pub table_has_columns : (columns : List Column) (i : ℕ) (column : Column) → HaveSameDocuments columns → slice_get columns i ≡ Some column
     → column_of i (table_of_columns columns) ≡ column
 table_has_columns [] i column same at = cc
-table_has_columns (first ∷ []) zero column same at = of_column first ∙ some_is first column at
-  where
-    some_is : (a b : Column) → Some a ≡ Some b → a ≡ b
-    some_is a b e = cc
+table_has_columns (first ∷ []) zero column same at = of_column first ∙ same_Some first column at
 table_has_columns (first ∷ []) (suc i) column same at = cc
 table_has_columns (first ∷ next ∷ rest) zero column same at =
-    of_first first (table_of_columns (next ∷ rest)) (table_keys next rest (same_rest first next rest same) ∙ same.0) ∙ some_is first column at
-  where
-    some_is : (a b : Column) → Some a ≡ Some b → a ≡ b
-    some_is a b e = cc
+    of_first first (table_of_columns (next ∷ rest)) (table_keys next rest (same_rest first next rest same) ∙ same.0) ∙ same_Some first column at
 table_has_columns (first ∷ next ∷ rest) (suc i) column same at =
     of_next first (table_of_columns (next ∷ rest)) i (table_keys next rest (same_rest first next rest same) ∙ same.0)
     ∙ table_has_columns (next ∷ rest) i column (same_rest first next rest same) at

@@ -8,6 +8,7 @@ use Rattle.std.specs.declared.cmp.Ordering.TheVariants.{Less, Equal, Greater}
 use Rattle.std.specs.List.{AllByRecursion}
 use Rattle.std.specs.List.Sorted.{IsStrictlySortedBy}
 use Rattle.std.specs.Ordering.{nat_cmp}
+use Rattle.list_facts.proofs.Options.{same_Some}
 use Rattle.list_facts.proofs.Each.{AllByRecursion-each}
 use Rattle.image_base.specs.Records.{Records, SameAt}
 use Rattle.key_order.specs.Keys.{IsKeyedTree}
@@ -54,12 +55,9 @@ found_fits c [] all found is = absurd (grind (arith, is))
 found_fits c (p ∷ ps) all found is =
     elim (c p.0) as (λ o. choose o (lookup c ps) (Some p.1) None ≡ Some found → found < 2 ^ 32) [
       | Less ↦ λ h. found_fits c ps all.1 found h
-      | Equal ↦ λ h. subst (λ n. n < 2 ^ 32) (same p.1 found h) all.0.reference
+      | Equal ↦ λ h. subst (λ n. n < 2 ^ 32) (same_Some p.1 found h) all.0.reference
       | Greater ↦ λ h. absurd (grind (arith, h))
     ] is
-  where
-    same : (a b : ℕ) → Some a ≡ Some b → a ≡ b
-    same a b h = cc
 
 -- what a change of the tree says, as one
 pub makes_map : {H : Type 0} (old new : Ledger H) (m n : Records) (root : ℕ) (pairs : List (ℕ × ℕ)) (answer : Result ℕ StoreError)

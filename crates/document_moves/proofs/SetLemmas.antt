@@ -5,6 +5,7 @@ use Rattle.std.specs.BTreeMap.{is_at}
 use Rattle.std.specs.List.{flat_map, AllByRecursion}
 use Rattle.std.specs.Map.{lookup as lookup_in}
 use Rattle.std.specs.Ordering.{nat_cmp}
+use Rattle.list_facts.proofs.Each.{AllByRecursion-weaker}
 use Rattle.image_base.proofs.Among.{Among-all}
 use Rattle.entry_ref.specs.References.{buffer_of}
 use Rattle.image_base.specs.Records.{Records, SameAt, Among}
@@ -65,10 +66,6 @@ module _ (P : Value → Type 0) (kind : Kind) (type : ValueType) (m : Records) w
 all_values : (P : Value → Type 0) (items : List Item) → AllByRecursion (λ (item : Item). P item.value) items → AllByRecursion P (values_of items)
 all_values P [] all = tt
 all_values P (item ∷ items) all = (all.0, all_values P items all.1)
-
-all_then : (P Q : ℕ → Type 0) → ((r : ℕ) → P r → Q r) → (refs : List ℕ) → AllByRecursion P refs → AllByRecursion Q refs
-all_then P Q each [] all = tt
-all_then P Q each (r ∷ refs) all = (each r all.0, all_then P Q each refs all.1)
 
 pub same_self : (m : Records) (refs : List ℕ) → SameAt refs m m
 same_self m [] = tt
@@ -159,7 +156,7 @@ module _ {H : Type 0} (bits buffer : ℕ) (kind : Kind) (type : ValueType) (a : 
         column_is = makes.column_is ∙ insert_same doc items column (documents_lawful kind type m root can.documents_are).2.ascends there;
         apart = record {
           own = all_from_times (λ r. buffer_of bits r ≢ buffer) (own_at kind o next doc) (λ r some. own_elsewhere r (times-among r (own_at kind o next doc) some));
-          refer = subst (NoneIn bits buffer) (sym sets.refer) (all_then (IsKey m dictionary) (λ r. buffer_of bits r ≢ buffer) can.keys keys kept);
+          refer = subst (NoneIn bits buffer) (sym sets.refer) (AllByRecursion-weaker (IsKey m dictionary) (λ r. buffer_of bits r ≢ buffer) can.keys keys kept);
         };
         others = sets.others;
         stay = sets.stay;

@@ -5,6 +5,7 @@ use Rattle.std.specs.BTreeMap.{is_at}
 use Rattle.std.specs.Map.{lookup as lookup_in}
 use Rattle.std.specs.Ordering.{nat_cmp}
 use Rattle.std.specs.Prelude.{pos}
+use Rattle.list_facts.proofs.Options.{same_Some}
 use Rattle.tree_make.proofs.UsedLemmas.{node_used}
 use Rattle.attr_images.proofs.RootLemmas.{length-filled}
 use Rattle.image_base.specs.Records.{Among, Records}
@@ -63,10 +64,7 @@ module _ {H : Type 0} (kind : Kind) (type : ValueType) (a : Ledger H) (m : Recor
   -- the reference of the document
   mapped : (o : Option ℕ) → option_map (items_at kind type m) o ≡ Some items → (ref : ℕ) × (o ≡ Some ref) × (items_at kind type m ref ≡ items)
   mapped None is = absurd (grind (arith, is))
-  mapped (Some ref) is = (ref, refl, same (items_at kind type m ref) items is)
-    where
-      same : (x y : List Item) → Some x ≡ Some y → x ≡ y
-      same x y e = cc
+  mapped (Some ref) is = (ref, refl, same_Some (items_at kind type m ref) items is)
 
   at : (ref : ℕ) × (lookup (beside_document doc) (tree_pairs m root) ≡ Some ref) × (items_at kind type m ref ≡ items)
   at = mapped (lookup (beside_document doc) (tree_pairs m root)) (found_items kind type m root doc documents (lookup (beside_document doc) (tree_pairs m root)) refl ∙ there)

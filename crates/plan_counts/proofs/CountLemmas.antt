@@ -7,6 +7,7 @@ use Rattle.std.specs.List.{count_by, AllByRecursion, AllZip}
 use Rattle.std.specs.List.Sorted.{IsStrictlySortedBy}
 use Rattle.std.specs.Ordering.{is_gt}
 use Rattle.std.proofs.lemmas.Option.{slice_get_within}
+use Rattle.list_facts.proofs.Options.{same_Some}
 use Rattle.image_base.specs.Records.{Records}
 use Rattle.attr_compaction.proofs.PlaceLemmas.{key_total, place_total}
 use Rattle.attr_compaction.specs.Places.{key_cmp, place_after, place_cmp, PlanPlace}
@@ -189,12 +190,9 @@ module _ (from at : PlanPlace) (key : PlanKey) (few : place_cmp from at ≢ Grea
       by false e = e
       by true e = absurd (true≢false (sym (ap is_lt (key_total.trans at.key key k (less_is (key_cmp at.key key) less) (less_is (key_cmp key k) e))) ∙ not_past))
 
-  same_key : (x y : PlanKey) → Some x ≡ Some y → x ≡ y
-  same_key x y e = cc
-
   less_by : (k : PlanKey) (keys : List PlanKey) (t : Bool) → (key_past at.key keys ≡ Some key → is_lt (key_cmp at.key key) ≡ true)
       → is_lt (key_cmp at.key k) ≡ t → cond t (Some k) (key_past at.key keys) ≡ Some key → is_lt (key_cmp at.key key) ≡ true
-  less_by k keys true rest is here = ap (λ x. is_lt (key_cmp at.key x)) (sym (same_key k key here)) ∙ is
+  less_by k keys true rest is here = ap (λ x. is_lt (key_cmp at.key x)) (sym (same_Some k key here)) ∙ is
   less_by k keys false rest is later = rest later
 
   found_less : (keys : List PlanKey) → key_past at.key keys ≡ Some key → is_lt (key_cmp at.key key) ≡ true
@@ -207,7 +205,7 @@ module _ (from at : PlanPlace) (key : PlanKey) (few : place_cmp from at ≢ Grea
   more_by : (k : PlanKey) (keys : List PlanKey) (t : Bool) → is_lt (key_cmp at.key key) ≡ true → AllByRecursion (λ y. key_cmp k y ≡ Less) keys
       → (key_past at.key keys ≡ Some key → IsMoreIn keys) → is_lt (key_cmp at.key k) ≡ t → cond t (Some k) (key_past at.key keys) ≡ Some key → IsMoreIn (k ∷ keys)
   more_by k keys true less up rest is here =
-      let e = same_key k key here in
+      let e = same_Some k key here in
       let later = later_none keys less (subst (λ (x : PlanKey). AllByRecursion (λ y. key_cmp x y ≡ Less) keys) e up) in
       let a1 = cons_count (is_between from next) (own k) (map own keys) in
       let a2 = cons_count (is_between from at) (own k) (map own keys) in

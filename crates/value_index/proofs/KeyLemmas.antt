@@ -7,6 +7,7 @@ use Rattle.std.specs.List.{flat_map, AllByRecursion}
 use Rattle.std.specs.List.Sorted.{IsStrictlySortedBy}
 use Rattle.std.specs.Map.{lookup}
 use Rattle.std.specs.Option.{unwrap_or}
+use Rattle.list_facts.proofs.Options.{same_Some}
 use Rattle.attr_images.proofs.ImageLemmas.{value_typed}
 use Rattle.image_base.specs.Records.{Records, Among}
 use Rattle.key_order.specs.Pairs.{choose, lookup_pair}
@@ -55,12 +56,9 @@ found_equal c p [] is = absurd (grind (arith, is))
 found_equal c p (q ∷ ps) is =
     (elim (c q.0) as (λ o. c q.0 ≡ o → choose o (lookup_pair c ps) (Some q) None ≡ Some p → c p.0 ≡ Equal) [
       | Less ↦ λ e h. found_equal c p ps h
-      | Equal ↦ λ e h. subst (λ (x : ℕ × ℕ). c x.0 ≡ Equal) (same_some q p h) e
+      | Equal ↦ λ e h. subst (λ (x : ℕ × ℕ). c x.0 ≡ Equal) (same_Some q p h) e
       | Greater ↦ λ e h. absurd (grind (arith, h))
     ]) refl is
-  where
-    same_some : (a b : ℕ × ℕ) → Some a ≡ Some b → a ≡ b
-    same_some a b e = cc
 
 pub reads_found : (value : Value) (m : Records) (p : ℕ × ℕ) (ps : List (ℕ × ℕ)) → lookup_pair (beside_value value m) ps ≡ Some p → stored_value (type_of value) m p.0 ≡ value
 reads_found value m p ps found = value_cmp_exact (stored_value (type_of value) m p.0) value (found_equal (beside_value value m) p ps found)
@@ -129,10 +127,7 @@ key_is_read type m root ref is key =
 
 pair_of_key : (ref : ℕ) (o : Option (ℕ × ℕ)) → option_map (λ p. p.0) o ≡ Some ref → (p : ℕ × ℕ) × (o ≡ Some p) × (p.0 ≡ ref)
 pair_of_key ref None is = absurd (grind (arith, is))
-pair_of_key ref (Some p) is = (p, refl, same p.0 ref is)
-  where
-    same : (a b : ℕ) → Some a ≡ Some b → a ≡ b
-    same a b e = cc
+pair_of_key ref (Some p) is = (p, refl, same_Some p.0 ref is)
 
 found_key_at : (value : Value) (m : Records) (root ref : ℕ) → key_at value m root ≡ Some ref → IsKey m root ref × (stored_value (type_of value) m ref ≡ value)
 found_key_at value m root ref at =
