@@ -2,8 +2,8 @@ use Rattle.std.proofs.Common.{ℕ, refl, sym, ap, subst, arith}
 use Rattle.std.specs.List.{zip}
 use Rattle.std.specs.List.Sorted.{IsStrictlySortedBy}
 use Rattle.std.specs.Ordering.{nat_cmp}
+use Rattle.std.proofs.lemmas.Result.{IfOk-weaker}
 use Rattle.list_facts.proofs.Each.{AllByRecursion-each}
-use Rattle.tree_make.proofs.Results.{if_ok-then}
 use Rattle.test_trees.proofs.RowLemmas.{keys_of_pairs}
 use Rattle.test_trees.proofs.of_build.build_numbers.Goals as goal
 
@@ -28,4 +28,4 @@ build-requires g c =
     )
 
 pub returns : goal.returns
-returns g c = if_ok-then c.build.result (λ r keyed. keyed.tree.node) c.build.ensures.keyed
+returns g c = IfOk-weaker c.build.result _ _ (λ r keyed. keyed.tree.node) c.build.ensures.keyed
