@@ -1,5 +1,6 @@
 -- A refused move is one of a width of which a record was in use as it began: the value's, the list's, or a node.
 use Rattle.std.proofs.Common.{◌≡◌, ℕ, zero, suc, ◌+◌, ◌*◌, ◌/◌, ◌%◌, ◌<◌, [], ◌∷◌, length, Some, inl, refl, ap, ◌∙◌, arith}
+use Rattle.tree_images.proofs.TreeLemmas.{root_of_many}
 use Rattle.tree_make.proofs.UsedLemmas.{node_used, used_at}
 use Rattle.attr_images.proofs.RootLemmas.{length-filled}
 use Rattle.image_base.specs.Records.{Records}
@@ -61,11 +62,7 @@ short_used a m word ref list plain some even at owns =
     used_at a m (entry ref) ref (class_of (1 + length items)) (short_owned m word ref list plain some even at a owns) (inl refl)
     (size ∙ ap class_of (let e : suc (length items) ≡ 1 + length items = omega arith in e))
 
-many_some : (m : Records) (root : ℕ) → 8 < length (tree_pairs m root) → 0 < root
-many_some m zero many = absurd (omega arith)
-many_some m (suc ref) many = omega arith
-
 pub tree_used : {H : Type 0} (a : Ledger H) (m : Records) (word root : ℕ) → IsList m word → IsPlain word → word ≡ 2 * root + 1 → Owns a m (list_part word ∷ []) → IsUsedWidth a m 34
 tree_used a m word root list plain is owns =
     let form = tree_form m word root plain is list in
-    node_used a m root form.0.node (many_some m root form.1) (tree_owned a a m m word root list plain is owns)
+    node_used a m root form.0.node (root_of_many m root form.1) (tree_owned a a m m word root list plain is owns)
