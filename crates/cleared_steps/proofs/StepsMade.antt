@@ -55,7 +55,7 @@ module _ {H : Type 0} (bits : ℕ) (ledger : Ledger H) (m : Records) (fields : L
 
   pub referred_used : (r : ℕ) → Among r (documents_refer a.kind m a.documents) → in_use (ledger.status r) ≡ true
   referred_used r among =
-      let refers = all_at (λ (x : AttributeTrees). RefersBeside ledger x.kind m x.documents x.dictionary (entries (root_entries root) ∷ parts_of trees)) trees holds.refer i a at in
+      let refers = AllByRecursion-slice_get (λ (x : AttributeTrees). RefersBeside ledger x.kind m x.documents x.dictionary (entries (root_entries root) ∷ parts_of trees)) trees i a holds.refer at in
       elim (refers.each r among) [
         | inl key ↦ owned_used r (key_is_owned a.kind m a.documents a.dictionary r key)
         | inr less ↦ in-uses ledger r (omega arith)
