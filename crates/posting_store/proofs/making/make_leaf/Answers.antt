@@ -1,4 +1,4 @@
-use Rattle.std.proofs.Common.{◌/◌, ◌%◌, ◌∙◌, length, get_or, refl, arith, length-set}
+use Rattle.std.proofs.Common.{ℕ, ◌/◌, ◌%◌, ◌∙◌, length, get_or, refl, arith, length-set}
 use Rattle.std.specs.List.{zip}
 use Rattle.std.proofs.lemmas.Result.{err_from_is_err_and}
 use Rattle.list_facts.proofs.Each.{AllByRecursion-each}
