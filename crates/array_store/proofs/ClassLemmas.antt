@@ -1,19 +1,11 @@
 -- The least width that holds a number of words.
-use Rattle.std.proofs.Common.{◌≡◌, ◌≢◌, ℕ, zero, suc, ◌+◌, ◌-◌, ◌<◌, ◌≤◌, Bool, true, false, cond, nat_le, leb-true, List, [], ◌∷◌, length, get_or, drop, replicate, refl, sym, ap, Some, ◌∙◌, inl, inr, arith}
-use Rattle.std.proofs.Common.{length-append}
+use Rattle.std.proofs.Common.{◌≡◌, ◌≢◌, ℕ, ◌<◌, ◌≤◌, Bool, true, false, cond, nat_le, leb-true, List, [], ◌∷◌, refl, ap, Some, inl, inr, arith}
 use Rattle.std.proofs.lemmas.Bool.{le-leb}
-use Rattle.std.proofs.lemmas.List.{length-replicate}
 use Rattle.std.specs.List.{find, AllByRecursion}
 use Rattle.std.specs.Option.{unwrap_or}
 use Rattle.image_base.specs.Records.{Among}
-use Rattle.attr_images.specs.Words.{classes, class_of, filled}
+use Rattle.attr_images.specs.Words.{classes, class_of}
 use Rattle.store_api.specs.Ledgers.{is_width}
-
--- in a loop over the widths
-pub find_next : (test : ℕ → Bool) (xs : List ℕ) (i d : ℕ) → i < length xs → test (get_or xs i d) ≡ false → find test (drop (i + 1) xs) ≡ find test (drop i xs)
-find_next test [] i d low fails = absurd (omega arith)
-find_next test (x ∷ xs) zero d low fails = sym (ap (λ b. cond b (Some x) (find test xs)) fails)
-find_next test (x ∷ xs) (suc i) d low fails = ap (λ j. find test (drop j (x ∷ xs))) (let e : suc i + 1 ≡ suc (i + 1) = omega arith in e) ∙ find_next test xs i d (omega arith) fails
 
 pub too_many : (n most : ℕ) → most < n → nat_le n most ≡ false
 too_many n most more = told (nat_le n most) refl
@@ -109,11 +101,3 @@ pub class_two : (n : ℕ) → 2 ≤ class_of n
 class_two n =
     found_is (λ w. 2 ≤ w) n classes (omega arith)
     (omega arith, (omega arith, (omega arith, (omega arith, (omega arith, (omega arith, (omega arith, (omega arith, (omega arith, (omega arith, tt))))))))))
-
-pub filled_size : (ws : List ℕ) → length ws ≤ 1024 → length (filled ws) ≡ class_of (length ws)
-filled_size ws few =
-    let holds = class_holds (length ws) few in
-    let zeros = class_of (length ws) - length ws in
-    let sum = length-append ws (replicate zeros 0) in
-    let size : length (replicate {A = ℕ} zeros 0) ≡ zeros = length-replicate zeros 0 in
-    omega arith

@@ -1,7 +1,7 @@
 -- The nodes and the keys below a node that two trees have.
 use Rattle.std.proofs.Common.{◌≡◌, ℕ, zero, suc, ◌<◌, List, [], ◌∷◌, ◌++◌, map, inl, inr, ◌⊎◌, refl, sym, ap, subst, ◌∙◌, arith}
 use Rattle.std.specs.List.{flat_map, AllByRecursion}
-use Rattle.attr_field.proofs.RefLemmas.{same_among}
+use Rattle.image_base.proofs.Among.{Among-all, SameAt-among}
 use Rattle.value_index.proofs.KeyLemmas.{among_left, among_right}
 use Rattle.entry_ref.specs.References.{buffer_of}
 use Rattle.image_base.specs.Records.{Records, SameAt, Among}
@@ -9,7 +9,7 @@ use Rattle.tree_images.proofs.TreeLemmas.{IsNode-form}
 use Rattle.tree_images.specs.Nodes.{level_of, node_values}
 use Rattle.tree_images.specs.ProofsForTrees.{pairs-same, tree_nodes-same, IsRootNode-same}
 use Rattle.tree_images.specs.Trees.{nodes_below, pairs_below, root_least, root_level, tree_nodes, IsNode, IsRootNode}
-use Rattle.tree_ways.proofs.WayLemmas.{all_among, find_child, keys_flat}
+use Rattle.tree_ways.proofs.WayLemmas.{find_child, keys_flat}
 use Rattle.tree_ways.specs.Ways.{keys_below, tree_keys}
 use Rattle.attr_cleared.specs.Cleared.{NodesAreCleared}
 
@@ -51,7 +51,7 @@ module _ (m : Records) where
   keys_of_node least (suc level) ref node r k (inl e) among = own_keys least (suc level) ref r k e node among
   keys_of_node least (suc level) ref node r k (inr later) among =
       let found = find_child (nodes_below m level) (node_values (m ref)) r later in
-      let child = all_among (IsNode m 8 level) (node_values (m ref)) (nodes_of least level ref node) found.0 found.1 in
+      let child = Among-all (IsNode m 8 level) (node_values (m ref)) (nodes_of least level ref node) found.0 found.1 in
       flat_keys level ref k (keys_flat (pairs_below m level) (node_values (m ref)) found.0 k found.1 (keys_of_node 8 level found.0 child r k found.2 among))
 
   flat_nodes : (l r x : ℕ) → Among x (flat_map (nodes_below m l) (node_values (m r))) → Among x (nodes_below m (suc l) r)
@@ -66,7 +66,7 @@ module _ (m : Records) where
   nodes_of_node least (suc level) ref node r x (inl e) among = own_nodes least (suc level) ref r x e node among
   nodes_of_node least (suc level) ref node r x (inr later) among =
       let found = find_child (nodes_below m level) (node_values (m ref)) r later in
-      let child = all_among (IsNode m 8 level) (node_values (m ref)) (nodes_of least level ref node) found.0 found.1 in
+      let child = Among-all (IsNode m 8 level) (node_values (m ref)) (nodes_of least level ref node) found.0 found.1 in
       flat_nodes level ref x (among_flat (nodes_below m level) (node_values (m ref)) found.0 x found.1 (nodes_of_node 8 level found.0 child r x found.2 among))
 
   pub keys_of_tree : (root node k : ℕ) → (0 < root → IsRootNode m root) → Among node (tree_nodes m root) → Among k (keys_below m node) → Among k (tree_keys m root)
@@ -129,5 +129,5 @@ pub nodes_stay : (bits buffer : ℕ) (m n : Records) (root : ℕ) → (0 < root 
 nodes_stay bits buffer m n root is same before after still cleared =
     nodes_moved bits buffer m n root root is (λ some. IsRootNode-same m n root same some (is some))
     (λ node among lies. subst (λ rs. Among node rs) (tree_nodes-same m n root same) among)
-    (λ x old new. same_among m n (tree_nodes m root) same x old)
+    (λ x old new. SameAt-among m n (tree_nodes m root) same x old)
     before after (λ node key among lies below there visited. still key there visited) cleared

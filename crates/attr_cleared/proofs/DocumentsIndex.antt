@@ -1,7 +1,8 @@
 -- The index beside documents that are moved stays: what is cleared of it is so still.
-use Rattle.std.proofs.Common.{◌≡◌, ◌≢◌, ℕ, List, [], ◌∷◌, sym, subst}
+use Rattle.std.proofs.Common.{◌≡◌, ◌≢◌, ℕ, sym, subst}
 use Rattle.std.specs.List.{AllByRecursion}
-use Rattle.attr_field.proofs.RefLemmas.{same_among}
+use Rattle.image_base.proofs.Among.{SameAt-among}
+use Rattle.list_facts.proofs.Each.{AllByRecursion-and}
 use Rattle.entry_ref.specs.References.{buffer_of}
 use Rattle.image_base.specs.Records.{Records, SameAt, Among}
 use Rattle.tree_images.specs.ProofsForTrees.{SameAt-left, SameAt-right, all-same, tree_pairs-same}
@@ -19,10 +20,6 @@ use Rattle.attr_compaction.specs.declared.plan.PlanKey.TheVariants as plan
 use Rattle.attr_compaction.specs.declared.plan.TheConstants.{KEYS, LISTS, NODES}
 use Rattle.attr_cleared.specs.Cleared.{IsVisited, ListIsCleared, NodesAreCleared}
 use Rattle.attr_cleared.proofs.BelowLemmas.{nodes_stay}
-
-all_and : {X : Type 0} (P Q : X → Type 0) (xs : List X) → AllByRecursion P xs → AllByRecursion Q xs → AllByRecursion (λ x. P x × Q x) xs
-all_and P Q [] p q = tt
-all_and P Q (x ∷ xs) p q = ((p.0, q.0), all_and P Q xs p.1 q.1)
 
 -- of a phase nothing more was visited at the next place
 abbrev pub NoMore : PlanPlace → PlanPlace → ℕ → ℕ → Type 0
@@ -75,11 +72,11 @@ module _ (bits victim field : ℕ) (at next : PlanPlace) (m n : Records) (type :
   pub lists_stay : NoMore at next field LISTS → AllByRecursion ListWas (tree_pairs m root) → AllByRecursion ListIs (tree_pairs n root)
   lists_stay still all =
       subst (AllByRecursion ListIs) (sym pairs_are) (all-same m n (pair_reach m) (λ p. ListWas p × IsDictionaryEntry type m p) ListIs (pair_stays still) (tree_pairs m root) rest
-      (all_and ListWas (IsDictionaryEntry type m) (tree_pairs m root) all (index_lawful type m root is).entries))
+      (AllByRecursion-and ListWas (IsDictionaryEntry type m) (tree_pairs m root) all (index_lawful type m root is).entries))
 
   -- ---- nodes of the dictionary
   key_words : (r : ℕ) → Among r (tree_keys m root) → n r ≡ m r
-  key_words r among = same_among m n (tree_keys m root) (keys_same m n (tree_pairs m root) rest) r among
+  key_words r among = SameAt-among m n (tree_keys m root) (keys_same m n (tree_pairs m root) rest) r among
 
   pub values_stay : ((r : ℕ) → Among r (tree_keys m root) → IsVisited next field NODES (plan.Value (stored_value type m r)) → IsVisited at field NODES (plan.Value (stored_value type m r)))
       → NodesAreCleared bits victim m (λ r. IsVisited at field NODES (plan.Value (stored_value type m r))) root

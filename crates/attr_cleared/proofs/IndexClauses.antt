@@ -1,6 +1,7 @@
 -- What a move leaves of each clause: clauses of phases to come are void, and what stays is cleared as it was.
 use Rattle.std.proofs.Common.{◌≡◌, ℕ, zero, suc, ◌%◌, ◌<◌, true, List, [], ◌∷◌, ◌++◌, map, Option, None, Some, option_map, inl, inr, refl, sym, ap, subst, arith}
 use Rattle.std.specs.List.{flat_map, AllByRecursion}
+use Rattle.list_facts.proofs.Options.{same_Some}
 use Rattle.image_base.specs.Records.{Records, SameAt, Among}
 use Rattle.key_order.specs.Pairs.{lookup_pair}
 use Rattle.store_api.specs.Ledgers.{Ledger}
@@ -69,7 +70,7 @@ list_stays bits victim field at next m n value (tree root) same is still cleared
     nodes_stay bits victim m n root is.0.node same (λ doc. IsVisited at field LISTS (plan.Pair value doc)) (λ doc. IsVisited next field LISTS (plan.Pair value doc)) still cleared
 list_stays bits victim field at next m n value (vector root) same is still cleared = cleared
 
-items_stay : (bits victim : ℕ) (kind : Kind) (m n : Records) (ref : ℕ) → SameAt (items_own kind ref) m n → AreItemsApart bits victim kind m ref → AreItemsApart bits victim kind n ref
+pub items_stay : (bits victim : ℕ) (kind : Kind) (m n : Records) (ref : ℕ) → SameAt (items_own kind ref) m n → AreItemsApart bits victim kind m ref → AreItemsApart bits victim kind n ref
 items_stay bits victim kind m n zero same apart = record { own = apart.own; refer = apart.refer }
 items_stay bits victim Single m n (suc ref) same apart = record { own = apart.own; refer = apart.refer }
 items_stay bits victim Array m n (suc ref) same apart =
@@ -109,17 +110,13 @@ module _ {H : Type 0} (ledger : Ledger H) (m : Records) (root : ℕ) (owns : Own
   pub list_used : (q : ℕ × ℕ) → InPairs q (tree_pairs m root) → Among r (postings_reach m (list_form q.1)) → in_use (ledger.status r) ≡ true
   list_used q within among = owned_used (among_right r (tree_nodes m root) (dictionary_reach m root) (pair_reached (pair_reach m) r q (tree_pairs m root) within (inr among)))
 
--- ---- the pair of a key
-same_some : (a b : ℕ) → Some a ≡ Some b → a ≡ b
-same_some a b e = cc
-
 pub pair_of_key : (value : Value) (m : Records) (root k : ℕ) → key_at value m root ≡ Some k → (p : ℕ × ℕ) × (lookup_pair (beside_value value m) (tree_pairs m root) ≡ Some p) × (p.0 ≡ k)
 pair_of_key value m root k is = told (lookup_pair (beside_value value m) (tree_pairs m root)) refl is
   where
     told : (found : Option (ℕ × ℕ)) → lookup_pair (beside_value value m) (tree_pairs m root) ≡ found → option_map (λ (p : ℕ × ℕ). p.0) found ≡ Some k
         → (p : ℕ × ℕ) × (lookup_pair (beside_value value m) (tree_pairs m root) ≡ Some p) × (p.0 ≡ k)
     told None e none = absurd (grind (arith, none))
-    told (Some p) e some = (p, e, same_some p.0 k some)
+    told (Some p) e some = (p, e, same_Some p.0 k some)
 
 -- ---- keys of pairs
 pub key_left : (k : PlanKey) (xs ys : List PlanKey) → IsAmongKeys k xs → IsAmongKeys k (xs ++ ys)
@@ -130,9 +127,6 @@ key_left k (x ∷ xs) ys (inr later) = inr (key_left k xs ys later)
 pub key_right : (k : PlanKey) (xs ys : List PlanKey) → IsAmongKeys k ys → IsAmongKeys k (xs ++ ys)
 key_right k [] ys among = among
 key_right k (x ∷ xs) ys among = inr (key_right k xs ys among)
-
-pub key_front : (k : PlanKey) (xs ys : List PlanKey) → IsAmongKeys k xs → IsAmongKeys k (xs ++ ys)
-key_front k xs ys among = key_left k xs ys among
 
 doc_key : (value : Value) (d : ℕ) (docs : List ℕ) → Among d docs → IsAmongKeys (plan.Pair value d) (map (λ doc. plan.Pair value doc) docs)
 doc_key value d [] among = absurd among

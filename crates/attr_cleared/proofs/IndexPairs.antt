@@ -4,6 +4,7 @@ use Rattle.std.proofs.lemmas.Cmp.{tied_itself}
 use Rattle.std.specs.declared.cmp.Ordering.{Ordering}
 use Rattle.std.specs.List.{flat_map, AllByRecursion}
 use Rattle.std.specs.List.Sorted.{IsStrictlySortedBy}
+use Rattle.list_facts.proofs.Options.{same_Some}
 use Rattle.image_base.specs.Records.{Records, SameAt, Among}
 use Rattle.key_order.specs.Pairs.{choose, lookup_pair, take_out}
 use Rattle.tree_images.specs.ProofsForTrees.{SameAt-left, SameAt-right}
@@ -53,12 +54,9 @@ module _ (c : ℕ → Ordering) where
   found_pair q (p ∷ ps) found =
       (elim (c p.0) as (λ o. choose o (lookup_pair c ps) (Some p) None ≡ Some q → InPairs q (p ∷ ps)) [
         | Less ↦ λ h. inr (found_pair q ps h)
-        | Equal ↦ λ h. inl (same_some q p (sym h))
+        | Equal ↦ λ h. inl (same_Some q p (sym h))
         | Greater ↦ λ h. absurd (grind (arith, h))
       ]) found
-    where
-      same_some : (a b : ℕ × ℕ) → Some a ≡ Some b → a ≡ b
-      same_some a b e = cc
 
   -- a pair is the one that is found, or it is among the others
   pub split_pair : (q : ℕ × ℕ) (ps : List (ℕ × ℕ)) → InPairs q ps → (lookup_pair c ps ≡ Some q) ⊎ InPairs q (take_out c ps)

@@ -6,18 +6,16 @@ use Rattle.std.specs.List.{AllByRecursion}
 use Rattle.std.specs.List.Sorted.{IsStrictlySortedBy}
 use Rattle.std.specs.Ordering.{nat_cmp, MatchOrdering}
 use Rattle.std.specs.declared.cmp.Ordering.{Ordering}
+use Rattle.attr_cleared.proofs.IndexClauses.{items_stay}
 use Rattle.image_base.specs.Records.{Records, SameAt}
 use Rattle.key_order.specs.Pairs.{choose, lookup, take_out}
 use Rattle.store_api.specs.Ledgers.{Ledger}
 use Rattle.tree_images.specs.ProofsForTrees.{all-same}
 use Rattle.tree_images.specs.Trees.{tree_pairs}
-use Rattle.tree_touch.specs.Paths.{NoneIn}
 use Rattle.doc_vector.specs.Documents.{beside_document}
 use Rattle.attr_images.specs.Tables.{AttributeTrees}
 use Rattle.attr_images.specs.Values.{stored_value}
-use Rattle.attr_types.specs.declared.kind.Kind.{Kind}
 use Rattle.attr_documents.specs.Documents.{items_own}
-use Rattle.attr_documents.proofs.FlowLemmas.{refer_same}
 use Rattle.value_index.specs.Indexes.{index_reach}
 use Rattle.attr_compaction.specs.Places.{doc_in, key_cmp, PlanPlace}
 use Rattle.attr_compaction.specs.declared.plan.PlanKey.{PlanKey}
@@ -31,10 +29,6 @@ use Rattle.attr_cleared.proofs.PlanVisits.{all_keys_of, next_visited, none_behin
 use Rattle.attr_cleared.specs.Visits.{place_at_key, IsAmongKeys}
 use Rattle.attr_cleared.specs.DocumentsCleared.{with_documents, AreTrees, IsNext, ItemsAreCleared}
 use Rattle.attr_cleared.proofs.DocumentsIndex.{keys_stay, lists_stay, values_stay}
-
--- items lie where they lay
-pub apart_on : (bits victim : ℕ) (kind : Kind) (m n : Records) (ref : ℕ) → SameAt (items_own kind ref) m n → AreItemsApart bits victim kind m ref → AreItemsApart bits victim kind n ref
-apart_on bits victim kind m n ref same apart = record { own = apart.own; refer = subst (NoneIn bits victim) (sym (refer_same kind m n ref same)) apart.refer }
 
 -- ---- pairs but for one document's
 module _ (P : ℕ × ℕ → Type 0) (doc : ℕ) where
@@ -117,7 +111,7 @@ module _ {H : Type 0} (bits victim field doc next : ℕ) (at : PlanPlace) (a : A
   ]
 
   others : AllByRecursion Now (take_out (beside_document doc) ps)
-  others = all-same m n (λ (p : ℕ × ℕ). items_own a.kind p.1) Still Now (λ p words h visited. apart_on bits victim a.kind m n p.1 words (h visited)) (take_out (beside_document doc) ps) moves.stay
+  others = all-same m n (λ (p : ℕ × ℕ). items_own a.kind p.1) Still Now (λ p words h visited. items_stay bits victim a.kind m n p.1 words (h visited)) (take_out (beside_document doc) ps) moves.stay
       (all_but Still doc ps are.documents_are.map_is.tree_is.ascends
       (all_keyed Was (λ p. p.0 ≢ doc → Still p) docs still ps (all_keys_of (λ (p : ℕ × ℕ). Doc p.0) ps) cleared.documents))
 

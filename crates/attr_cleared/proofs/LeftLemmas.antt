@@ -4,7 +4,8 @@ use Rattle.std.proofs.lemmas.Cmp.{nat_cmp_total}
 use Rattle.std.specs.Cmp.{IsTotalOrder}
 use Rattle.std.specs.List.{flat_map, AllByRecursion}
 use Rattle.std.specs.declared.cmp.Ordering.{Ordering}
-use Rattle.attr_field.proofs.RefLemmas.{all_among, among_either}
+use Rattle.image_base.proofs.Among.{Among-all, Among-append}
+use Rattle.list_facts.proofs.Each.{AllByRecursion-and}
 use Rattle.entry_ref.specs.References.{buffer_of}
 use Rattle.image_base.specs.Records.{Records, Among}
 use Rattle.tree_images.specs.Trees.{by_number, tree_nodes, tree_pairs, IsTree}
@@ -30,14 +31,10 @@ use Rattle.attr_cleared.proofs.VisitLemmas.{all_visited}
 all_reached : {X : Type 0} (Q : X → Type 0) (f : X → List ℕ) (G : ℕ → Type 0) → ((x : X) → Q x → (r : ℕ) → Among r (f x) → G r) → (xs : List X) → AllByRecursion Q xs
     → (r : ℕ) → Among r (flat_map f xs) → G r
 all_reached Q f G each [] all r among = absurd among
-all_reached Q f G each (x ∷ xs) all r among = elim (among_either r (f x) (flat_map f xs) among) [
+all_reached Q f G each (x ∷ xs) all r among = elim (Among-append r (f x) (flat_map f xs) among) [
   | inl here ↦ each x all.0 r here
   | inr there ↦ all_reached Q f G each xs all.1 r there
 ]
-
-all_and : {X : Type 0} (P Q : X → Type 0) (xs : List X) → AllByRecursion P xs → AllByRecursion Q xs → AllByRecursion (λ x. P x × Q x) xs
-all_and P Q [] p q = tt
-all_and P Q (x ∷ xs) p q = ((p.0, q.0), all_and P Q xs p.1 q.1)
 
 -- ---- nodes
 node_apart : {V : Type 0} (order : V → V → Ordering) (total : IsTotalOrder order) (read : Records → ℕ → V) (bits victim : ℕ) (m : Records) (visited : ℕ → Type 0) (root : ℕ)
@@ -52,9 +49,9 @@ items_apart bits victim kind m zero r apart among = absurd among
 items_apart bits victim Single m (suc ref) r apart (inl e) = subst (λ q. buffer_of bits q ≢ victim) (sym e) apart.refer.0
 items_apart bits victim Single m (suc ref) r apart (inr none) = absurd none
 items_apart bits victim Array m (suc ref) r apart (inl e) = subst (λ q. buffer_of bits q ≢ victim) (sym e) apart.own.0
-items_apart bits victim Array m (suc ref) r apart (inr later) = all_among (λ q. buffer_of bits q ≢ victim) _ apart.refer r later
+items_apart bits victim Array m (suc ref) r apart (inr later) = Among-all (λ q. buffer_of bits q ≢ victim) _ apart.refer r later
 items_apart bits victim WeightedSet m (suc ref) r apart (inl e) = subst (λ q. buffer_of bits q ≢ victim) (sym e) apart.own.0
-items_apart bits victim WeightedSet m (suc ref) r apart (inr later) = all_among (λ q. buffer_of bits q ≢ victim) _ apart.refer r later
+items_apart bits victim WeightedSet m (suc ref) r apart (inr later) = Among-all (λ q. buffer_of bits q ≢ victim) _ apart.refer r later
 
 module _ (bits victim field : ℕ) (at : PlanPlace) (m : Records) (over : at.stage.phase ≡ PHASES) (few : field ≤ at.stage.field) where
   -- ---- lists
@@ -92,20 +89,20 @@ module _ (bits victim field : ℕ) (at : PlanPlace) (m : Records) (over : at.sta
 pub nothing_left : NothingIsLeft
 nothing_left bits victim field at m a over few lawful cleared r among =
     let forms = lawful.forms in
-    elim (among_either r (tree_nodes m a.documents ++ documents_reach a.kind m a.documents) (tree_nodes m a.dictionary ++ dictionary_reach m a.dictionary) among) [
-      | inl documents ↦ elim (among_either r (tree_nodes m a.documents) (documents_reach a.kind m a.documents) documents) [
+    elim (Among-append r (tree_nodes m a.documents ++ documents_reach a.kind m a.documents) (tree_nodes m a.dictionary ++ dictionary_reach m a.dictionary) among) [
+      | inl documents ↦ elim (Among-append r (tree_nodes m a.documents) (documents_reach a.kind m a.documents) documents) [
         | inl node ↦ node_apart nat_cmp nat_cmp_total by_number bits victim m (λ doc. IsVisited at field NODES (plan.Doc doc)) a.documents forms.documents_tree cleared.map
             (λ doc. all_visited at field NODES (plan.Doc doc) over few (omega arith)) r node
         | inr items ↦ all_reached (ItemsAreCleared bits victim field at m over few a.kind) (λ (p : ℕ × ℕ). items_reach a.kind p.1 (m p.1)) (λ q. buffer_of bits q ≢ victim)
             (document_apart bits victim field at m over few a.kind) (tree_pairs m a.documents) cleared.documents r items
       ]
-      | inr dictionary ↦ elim (among_either r (tree_nodes m a.dictionary) (dictionary_reach m a.dictionary) dictionary) [
+      | inr dictionary ↦ elim (Among-append r (tree_nodes m a.dictionary) (dictionary_reach m a.dictionary) dictionary) [
         | inl node ↦ node_apart value_cmp value_cmp_total (stored_value a.type) bits victim m (λ key. IsVisited at field NODES (plan.Value (stored_value a.type m key))) a.dictionary
             forms.dictionary_tree cleared.values (λ key. all_visited at field NODES (plan.Value (stored_value a.type m key)) over few (omega arith)) r node
         | inr pairs ↦ all_reached (λ (p : ℕ × ℕ). KeyIsCleared bits victim field at m over few a.type p × (PairIsCleared bits victim field at m over few a.type p × IsDictionaryEntry a.type m p))
             (λ (p : ℕ × ℕ). p.0 ∷ postings_reach m (list_form p.1)) (λ q. buffer_of bits q ≢ victim) (pair_apart bits victim field at m over few a.type) (tree_pairs m a.dictionary)
-            (all_and (KeyIsCleared bits victim field at m over few a.type) (λ (p : ℕ × ℕ). PairIsCleared bits victim field at m over few a.type p × IsDictionaryEntry a.type m p)
+            (AllByRecursion-and (KeyIsCleared bits victim field at m over few a.type) (λ (p : ℕ × ℕ). PairIsCleared bits victim field at m over few a.type p × IsDictionaryEntry a.type m p)
             (tree_pairs m a.dictionary) cleared.keys
-            (all_and (PairIsCleared bits victim field at m over few a.type) (IsDictionaryEntry a.type m) (tree_pairs m a.dictionary) cleared.lists forms.entries)) r pairs
+            (AllByRecursion-and (PairIsCleared bits victim field at m over few a.type) (IsDictionaryEntry a.type m) (tree_pairs m a.dictionary) cleared.lists forms.entries)) r pairs
       ]
     ]

@@ -5,6 +5,7 @@ use Rattle.std.proofs.lemmas.List.{length-map}
 use Rattle.std.specs.List.Sorted.{IsStrictlySortedBy}
 use Rattle.std.specs.Option.{unwrap_or}
 use Rattle.std.specs.Ordering.{nat_cmp}
+use Rattle.image_base.proofs.Among.{Among-all}
 use Rattle.entry_ref.specs.References.{buffer_of}
 use Rattle.image_base.specs.Records.{Records, SameAt, Among}
 use Rattle.key_order.specs.Pairs.{lookup_pair, take_out}
@@ -14,7 +15,7 @@ use Rattle.store_api.specs.Parts.{Owns}
 use Rattle.store_api.specs.Statuses.{in_use}
 use Rattle.tree_images.specs.Trees.{by_number, tree_nodes, tree_pairs}
 use Rattle.tree_touch.specs.Paths.{path_nodes, NoneIn}
-use Rattle.tree_ways.proofs.WayLemmas.{stand_on_ways, all_among}
+use Rattle.tree_ways.proofs.WayLemmas.{stand_on_ways}
 use Rattle.tree_ways.specs.Ways.{keys_below, tree_keys}
 use Rattle.attr_cleared.specs.Cleared.{IsClearedField, IsVisited, ListIsCleared, NodesAreCleared}
 use Rattle.attr_compaction.specs.Places.{doc_in, key_cmp, value_in, PlanPlace}
@@ -174,7 +175,7 @@ module _ {H : Type 0} (bits victim field doc next : ℕ) (at : PlanPlace) (value
 
       on_way : (node : ℕ) → Among node (tree_nodes n top) → buffer_of bits node ≡ victim → (key : ℕ) → Among key (keys_below n node) → key ≡ doc → ⊥
       on_way node among lies key below e =
-          all_among (λ r. buffer_of bits r ≢ victim) (path_nodes n (λ k. nat_cmp k doc) top) way_apart node
+          Among-all (λ r. buffer_of bits r ≢ victim) (path_nodes n (λ k. nat_cmp k doc) top) way_apart node
           (subst (λ d. Among node (path_nodes n (λ k. nat_cmp k d) top)) e (stand_on_ways nat_cmp nat_cmp_total by_number n top node key tree_now.0 among below)) lies
 
       still_tree : (node key : ℕ) → Among node (tree_nodes n top) → buffer_of bits node ≡ victim → Among key (keys_below n node) → Among key (tree_keys m base)

@@ -1,9 +1,11 @@
 -- The nodes on the way to a document were moved.
-use Rattle.std.proofs.Common.{◌≡◌, ◌≢◌, ℕ, true, List, [], ◌∷◌, ◌++◌, map, Some, inl, inr, sym, ap, subst, ◌∙◌, arith, nat_eq, true≢false}
+use Rattle.std.proofs.Common.{◌≡◌, ◌≢◌, ℕ, true, List, [], ◌∷◌, map, Some, inl, inr, sym, ap, subst, ◌∙◌, arith, nat_eq, true≢false}
 use Rattle.std.proofs.lemmas.Cmp.{nat_cmp_total}
 use Rattle.std.specs.List.{AllByRecursion}
 use Rattle.std.specs.List.Sorted.{IsStrictlySortedBy}
 use Rattle.std.specs.Ordering.{nat_cmp}
+use Rattle.attr_cleared.proofs.IndexClauses.{items_stay, key_left, key_right}
+use Rattle.image_base.proofs.Among.{Among-all}
 use Rattle.entry_ref.specs.References.{buffer_of}
 use Rattle.image_base.specs.Records.{Records, SameAt, Among}
 use Rattle.store_api.specs.Ledgers.{Ledger}
@@ -14,7 +16,7 @@ use Rattle.store_api.proofs.Uses.{in-uses, uses-in}
 use Rattle.tree_images.specs.ProofsForTrees.{all-same}
 use Rattle.tree_images.specs.Trees.{by_number, tree_nodes, tree_pairs}
 use Rattle.tree_touch.specs.Paths.{path_nodes}
-use Rattle.tree_ways.proofs.WayLemmas.{stand_on_ways, all_among}
+use Rattle.tree_ways.proofs.WayLemmas.{stand_on_ways}
 use Rattle.tree_ways.specs.Ways.{keys_below, tree_keys}
 use Rattle.doc_vector.specs.Documents.{beside_document}
 use Rattle.attr_images.specs.Tables.{AttributeTrees}
@@ -36,17 +38,6 @@ use Rattle.attr_cleared.specs.Visits.{place_at_key, IsAmongKeys}
 use Rattle.attr_cleared.specs.DocumentsCleared.{with_documents, AreTrees, IsNext, KeepsRecords, MakesNoneIn, MapIsCleared}
 use Rattle.attr_cleared.proofs.BelowLemmas.{nodes_moved}
 use Rattle.attr_cleared.proofs.DocumentsIndex.{keys_stay, lists_stay, values_stay}
-use Rattle.attr_cleared.proofs.ItemsMoved.{apart_on}
-
--- ---- the keys of the phase
-key_left : (k : PlanKey) (xs ys : List PlanKey) → IsAmongKeys k xs → IsAmongKeys k (xs ++ ys)
-key_left k [] ys among = absurd among
-key_left k (x ∷ xs) ys (inl e) = inl e
-key_left k (x ∷ xs) ys (inr later) = inr (key_left k xs ys later)
-
-key_right : (k : PlanKey) (xs ys : List PlanKey) → IsAmongKeys k ys → IsAmongKeys k (xs ++ ys)
-key_right k [] ys among = among
-key_right k (x ∷ xs) ys among = inr (key_right k xs ys among)
 
 key_mapped : (f : ℕ → PlanKey) (k : ℕ) (ps : List (ℕ × ℕ)) → Among k (map (λ p. p.0) ps) → IsAmongKeys (f k) (map (λ p. f p.0) ps)
 key_mapped f k [] among = absurd among
@@ -86,7 +77,7 @@ module _ {H : Type 0} (bits victim field doc next : ℕ) (at : PlanPlace) (a : A
   Now p = IsVisited to field DOCUMENTS (Doc p.0) → AreItemsApart bits victim a.kind n p.1
 
   item_stays : (p : ℕ × ℕ) → SameAt (items_own a.kind p.1) m n → Was p → Now p
-  item_stays p words was visited = apart_on bits victim a.kind m n p.1 words (was (other DOCUMENTS (Doc p.0) (λ e. omega arith) visited))
+  item_stays p words was visited = items_stay bits victim a.kind m n p.1 words (was (other DOCUMENTS (Doc p.0) (λ e. omega arith) visited))
 
   documents : AllByRecursion Now (tree_pairs n next)
   documents = subst (AllByRecursion Now) (sym moves.pairs) (all-same m n (λ (p : ℕ × ℕ). items_own a.kind p.1) Was Now item_stays ps moves.stay cleared.documents)
@@ -129,7 +120,7 @@ module _ {H : Type 0} (bits victim field doc next : ℕ) (at : PlanPlace) (a : A
   not_above : (node key : ℕ) → Among node (tree_nodes n next) → buffer_of bits node ≡ victim → Among key (keys_below n node) → key ≡ doc → ⊥
   not_above node key among lies below e =
       let on_way : Among node (path_nodes n (beside_document key) next) = stand_on_ways nat_cmp nat_cmp_total by_number n next node key moves.documents_are.map_is.tree_is among below in
-      all_among (λ r. buffer_of bits r ≢ victim) (path_nodes n (beside_document doc) next) moves.apart node (subst (λ (d : ℕ). Among node (path_nodes n (beside_document d) next)) e on_way) lies
+      Among-all (λ r. buffer_of bits r ≢ victim) (path_nodes n (beside_document doc) next) moves.apart node (subst (λ (d : ℕ). Among node (path_nodes n (beside_document d) next)) e on_way) lies
 
   doc_still : (node key : ℕ) → Among node (tree_nodes n next) → buffer_of bits node ≡ victim → Among key (keys_below n node) → Among key (tree_keys m a.documents)
       → IsVisited to field NODES (Doc key) → IsVisited at field NODES (Doc key)

@@ -4,7 +4,7 @@ use Rattle.std.proofs.lemmas.Cmp.{tied_itself, nat_cmp_total}
 use Rattle.std.specs.declared.cmp.Ordering.{Ordering}
 use Rattle.std.specs.List.Sorted.{IsStrictlySortedBy}
 use Rattle.std.specs.Ordering.{nat_cmp, ordering_then}
-use Rattle.attr_field.proofs.RefLemmas.{same_among}
+use Rattle.image_base.proofs.Among.{Among-all, SameAt-among}
 use Rattle.entry_ref.specs.References.{buffer_of}
 use Rattle.image_base.specs.Records.{Records, SameAt, Among}
 use Rattle.store_api.specs.Ledgers.{Ledger}
@@ -14,7 +14,7 @@ use Rattle.store_api.proofs.Times.{among-times, times-among}
 use Rattle.store_api.proofs.Uses.{uses-in}
 use Rattle.tree_images.specs.Trees.{tree_nodes, tree_pairs, IsTree}
 use Rattle.tree_touch.specs.Paths.{path_nodes}
-use Rattle.tree_ways.proofs.WayLemmas.{stand_on_ways, all_among}
+use Rattle.tree_ways.proofs.WayLemmas.{stand_on_ways}
 use Rattle.tree_ways.specs.Ways.{keys_below, tree_keys}
 use Rattle.attr_cleared.specs.Cleared.{IsClearedField, IsVisited, ListIsCleared, NodesAreCleared}
 use Rattle.attr_compaction.specs.Places.{key_cmp, value_in, PlanPlace}
@@ -42,7 +42,7 @@ use Rattle.attr_cleared.specs.Visits.{place_at_key}
 use Rattle.attr_cleared.proofs.BelowLemmas.{nodes_moved}
 use Rattle.attr_cleared.proofs.KeyMoved.{of_type}
 use Rattle.attr_cleared.proofs.IndexPairs.{InPairs, at_pair, each_pair, pair_stays}
-use Rattle.attr_cleared.proofs.IndexClauses.{documents_stay, key_front, list_stays, node_used, value_in_keys}
+use Rattle.attr_cleared.proofs.IndexClauses.{documents_stay, list_stays, node_used, value_in_keys, key_left}
 
 -- at a value of the last phase no document of it was visited
 no_document : (at : PlanPlace) (field d : ℕ) (value : Value) → at.stage.field ≡ field → at.stage.phase ≡ NODES → IsVisited (place_at_key at (plan.Value value)) field NODES (plan.Doc d) → ⊥
@@ -80,7 +80,7 @@ module _ {H : Type 0} (bits victim field next : ℕ) (at : PlanPlace) (value : V
   stays q within = pair_stays m n (pair_reach m) q (tree_pairs m root) (in_old q within) moves.stay
 
   key_stays : (k : ℕ) → Among k (tree_keys m root) → n k ≡ m k
-  key_stays k among = same_among m n (tree_keys m root) (keys_same m n (tree_pairs m root) moves.stay) k among
+  key_stays k among = SameAt-among m n (tree_keys m root) (keys_same m n (tree_pairs m root) moves.stay) k among
 
   -- ---- keys and lists
   abbrev KeyCleared : PlanPlace → Records → ℕ × ℕ → Type 0
@@ -128,14 +128,14 @@ module _ {H : Type 0} (bits victim field next : ℕ) (at : PlanPlace) (value : V
 
   on_way : (node : ℕ) → Among node (tree_nodes n next) → buffer_of bits node ≡ victim → (key : ℕ) → Among key (keys_below n node) → stored_value type m key ≡ value → ⊥
   on_way node among lies key below e =
-      all_among (λ r. buffer_of bits r ≢ victim) (path_nodes n (beside_value value m) next) moves.apart node
+      Among-all (λ r. buffer_of bits r ≢ victim) (path_nodes n (beside_value value m) next) moves.apart node
       (subst (λ v. Among node (path_nodes n (λ k. value_cmp (stored_value type m k) v) next)) e (stand_on_ways value_cmp value_cmp_total read_was n next node key tree_now among below)) lies
 
   still : (node key : ℕ) → Among node (tree_nodes n next) → buffer_of bits node ≡ victim → Among key (keys_below n node) → Among key (tree_keys m root)
       → IsVisited here field NODES (plan.Value (stored_value type n key)) → IsVisited at field NODES (plan.Value (stored_value type m key))
   still node key among lies below key_was visited = told
       (next_visited at field NODES keys (plan.Value value) (plan.Value (stored_value type m key)) turn.field_is turn.phase_is turn.next ascends
-      (key_front (plan.Value (stored_value type m key)) (value_keys type m root) (document_keys m a.documents) (value_in_keys type m key (tree_pairs m root) key_was))
+      (key_left (plan.Value (stored_value type m key)) (value_keys type m root) (document_keys m a.documents) (value_in_keys type m key (tree_pairs m root) key_was))
       (subst (λ ws. IsVisited here field NODES (plan.Value (value_of type ws))) (key_stays key key_was) visited))
     where
       told : IsVisited at field NODES (plan.Value (stored_value type m key)) ⊎ (plan.Value (stored_value type m key) ≡ plan.Value value)

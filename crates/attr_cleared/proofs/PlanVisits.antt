@@ -7,11 +7,12 @@ use Rattle.std.specs.List.{find, AllByRecursion}
 use Rattle.std.specs.List.Sorted.{IsStrictlySortedBy}
 use Rattle.std.specs.declared.cmp.Ordering.{Ordering}
 use Rattle.std.specs.Ordering.{nat_cmp, ordering_reverse, ordering_then}
+use Rattle.attr_cleared.proofs.VisitLemmas.{key_above}
 use Rattle.attr_cleared.specs.Cleared.{IsVisited}
 use Rattle.attr_compaction.proofs.PlaceLemmas.{key_total, place_total, below}
 use Rattle.attr_compaction.specs.Places.{is_start, key_cmp, place_cmp, stage_cmp, PlanPlace}
 use Rattle.attr_compaction.specs.declared.plan.PlanKey.{PlanKey}
-use Rattle.attr_compaction.specs.declared.plan.PlanKey.TheVariants.{Start, Value, Doc, Pair}
+use Rattle.attr_compaction.specs.declared.plan.PlanKey.TheVariants.{Start}
 use Rattle.attr_compaction.specs.declared.plan.Stage.{Stage}
 use Rattle.attr_compaction.specs.declared.plan.TheConstants.{KEYS, NODES, PHASES}
 use Rattle.attr_cleared.specs.Visits.{place_at_key, AreAllBefore, EarlierIsVisited, EndIsVisited, IsAmongKeys, IsNoneBehind, NextIsVisited, NextStageIsVisited, OthersAreVisited}
@@ -166,16 +167,9 @@ others_visited at key field phase k other visited = elim (beside field phase at.
   | is_greater h ↦ absurd (none_behind (place_at_key at key) field phase k h visited)
 ]
 
--- ---- one phase further
-start_below : (k : PlanKey) → is_start k ≡ false → key_cmp k Start ≡ Greater
-start_below Start h = absurd (true≢false h)
-start_below (Value v) h = refl
-start_below (Doc d) h = refl
-start_below (Pair v d) h = refl
-
 not_visited_start : (s : Stage) (field phase : ℕ) (k : PlanKey) → is_start k ≡ false → s.field ≡ field → s.phase ≡ phase
     → IsVisited (record { stage = s; key = Start }) field phase k → ⊥
-not_visited_start s field phase k some ef ep visited = visited (at_stage (record { stage = s; key = Start }) field phase k ef ep ∙ start_below k some)
+not_visited_start s field phase k some ef ep visited = visited (at_stage (record { stage = s; key = Start }) field phase k ef ep ∙ key_above k some)
 
 -- the stage after another, by the two tests
 abbrev stage_by : ℕ → Stage → Bool → Bool → Stage

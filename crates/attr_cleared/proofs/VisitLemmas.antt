@@ -19,7 +19,7 @@ above : (a b : ℕ) → b < a → nat_cmp a b ≡ Greater
 above a b h = sym (nat_cmp_is a b Greater h)
 
 -- ---- at first
-key_above : (key : PlanKey) → is_start key ≡ false → key_cmp key Start ≡ Greater
+pub key_above : (key : PlanKey) → is_start key ≡ false → key_cmp key Start ≡ Greater
 key_above Start h = absurd (true≢false h)
 key_above (Value v) h = refl
 key_above (Doc d) h = refl

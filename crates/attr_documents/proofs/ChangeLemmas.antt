@@ -6,6 +6,7 @@ use Rattle.std.specs.BTreeMap.{is_at}
 use Rattle.std.specs.List.{flat_map, AllByRecursion}
 use Rattle.std.specs.Map.{lookup as lookup_in}
 use Rattle.std.specs.Ordering.{nat_cmp}
+use Rattle.image_base.proofs.Among.{SameAt-then}
 use Rattle.image_base.specs.Records.{Records, SameAt, Among}
 use Rattle.tree_images.specs.ProofsForTrees.{SameAt-right, tree_nodes-same}
 use Rattle.tree_images.specs.Trees.{tree_nodes, tree_pairs}
@@ -32,7 +33,7 @@ use Rattle.store_api.specs.Flows.{ComesFrom}
 use Rattle.attr_documents.specs.Items.{entries_by_key, item_of, MakesItems}
 use Rattle.store_api.proofs.Flows.{began-then, flow_made, flow_part, made_fresh}
 use Rattle.attr_documents.proofs.FlowLemmas.{out_flows, set_flows, sets_items}
-use Rattle.attr_documents.proofs.FrameLemmas.{beside-same, same-then, same-some}
+use Rattle.attr_documents.proofs.FrameLemmas.{beside-same, same-some}
 use Rattle.attr_documents.proofs.KeyLemmas.{keys_are, keys_items, keys_values}
 use Rattle.attr_documents.proofs.PairLemmas.{found, found-or, times-out, times-put, all-put, columned, columned-put, columned-same, columned-out, columned-found, there-mapped}
 use Rattle.attr_documents.proofs.RecordLemmas.{form-on, weighted-on, values-on, items-same, pairs-stay, all-on, same-on, refer-on}
@@ -84,7 +85,7 @@ module _ {H : Type 0} (kind : Kind) (a b c : Ledger H) (m n o : Records) (root d
           record {
             map_is = map.0;
             pairs_are = map.1 ∙ makes.pairs_are;
-            stay = same-then m n o (pairs_own kind others) first.stay.1.0 second.stay.1.0;
+            stay = SameAt-then m n o (pairs_own kind others) first.stay.1.0 second.stay.1.0;
             nodes = λ r began among. flow_part a b m n (tree root) (tree next) may makes.turns r began (subst (Among r) (tree_nodes-same n o next second.stay.0) among);
             turns = turns-as a c m o split left (documents_part kind root ∷ []) left (turns-then a b c m n o split between left first.turns second.turns) (λ r. sym (counts_split r)) (λ r. refl);
           }
@@ -260,7 +261,7 @@ module _ {H : Type 0} (kind : Kind) (type : ValueType) (a b c : Ledger H) (m n o
         (λ k r. omega arith) (λ k r. omega arith)
 
     others_stay : SameAt (pairs_own kind others_m) m o
-    others_stay = same-then m n o (pairs_own kind others_m)
+    others_stay = SameAt-then m n o (pairs_own kind others_m)
         (same-some m n (pairs_own kind (tree_pairs m root)) (pairs_own kind others_m) (SameAt-right m n (tree_nodes m root) (pairs_own kind (tree_pairs m root)) begun.stay.0)
         (λ r some. let e = times-out r (items_own kind) (beside_document doc) (tree_pairs m root) in omega arith))
         changes.stay

@@ -1,15 +1,10 @@
 -- How many records a change makes.
-use Rattle.std.proofs.Common.{◌≡◌, ◌≢◌, ℕ, zero, suc, ◌+◌, Bool, true, false, cond, nat_eq, refl, sym, ap, subst, arith, min}
+use Rattle.std.proofs.Common.{◌≡◌, ◌≢◌, ℕ, ◌+◌, Bool, true, false, cond, nat_eq, refl, sym, ap, subst, arith}
 use Rattle.std.proofs.lemmas.Bool.{eqb-true, eqb-false}
-use Rattle.image_base.specs.Records.{Records, SameAt}
-use Rattle.tree_images.specs.Nodes.{level_of}
-use Rattle.tree_images.specs.ProofsForTrees.{node-same}
-use Rattle.tree_images.specs.Trees.{root_level, tree_nodes}
 use Rattle.arena_api.specs.Works.{Sizes}
 use Rattle.store_api.specs.Ledgers.{Ledger, capacity}
 use Rattle.store_api.specs.Units.{MakesAtMost, MayDo}
 use Rattle.store_api.proofs.Counts.{at_most-none, at_most-then, at_most-more}
-use Rattle.tree_make.specs.Changes.{levels}
 use Rattle.tree_make.specs.Makes.{CountsNodes}
 use Rattle.array_store.specs.Adding.{MakesOneOf}
 use Rattle.attr_images.specs.Words.{class_of}
@@ -55,8 +50,3 @@ counts-both a b c words nodes may one made = record {
       (subst (λ n. MakesAtMost (capacity n width) (cond (nat_eq width 34) nodes 0) (b.of_width width) (c.of_width width)) (ap (λ (s : Sizes). s.words) may.sizes)
       (of_one b c 34 width nodes made.nodes made.others));
 }
-
--- a tree has as many levels where its nodes stay
-pub levels-same : (m n : Records) (root : ℕ) → SameAt (tree_nodes m root) m n → levels n root ≡ levels m root
-levels-same m n zero same = refl
-levels-same m n (suc ref) same = ap (λ ws. suc (min 7 (level_of ws))) (node-same m n (root_level m (suc ref)) (suc ref) same)

@@ -1,5 +1,5 @@
 -- Records beside the parts that a call turns, and records that are the same.
-use Rattle.std.proofs.Common.{◌≡◌, ℕ, ◌<◌, List, [], ◌∷◌, ◌∙◌, arith}
+use Rattle.std.proofs.Common.{◌≡◌, ℕ, ◌<◌, List, [], ◌∷◌, arith}
 use Rattle.image_base.specs.Records.{Records, SameAt}
 use Rattle.store_api.specs.Ledgers.{Ledger}
 use Rattle.store_api.specs.Parts.{Part, Turns, times}
@@ -17,10 +17,6 @@ module _ {H : Type 0} (a b : Ledger H) (m n : Records) (p q : List Part) (refs :
 
   pub beside-stays : SameAt refs m n × AreBeside b n q refs
   beside-stays = (beside-same, beside-on)
-
-pub same-then : (m n o : Records) (refs : List ℕ) → SameAt refs m n → SameAt refs n o → SameAt refs m o
-same-then m n o [] first second = tt
-same-then m n o (r ∷ refs) first second = (second.0 ∙ first.0, same-then m n o refs first.1 second.1)
 
 all_same : (m n : Records) (refs : List ℕ) → SameAt refs m n → Rattle.std.specs.List.AllByRecursion (λ r. n r ≡ m r) refs
 all_same m n [] same = tt

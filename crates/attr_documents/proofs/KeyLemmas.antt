@@ -4,6 +4,7 @@ use Rattle.std.proofs.lemmas.List.{length-map}
 use Rattle.std.specs.Prelude.{slice_get, Some, IfOk}
 use Rattle.store_api.specs.declared.store.StoreError.{StoreError}
 use Rattle.std.specs.List.{AllByRecursion}
+use Rattle.list_facts.proofs.Options.{same_Some}
 use Rattle.image_base.specs.Records.{Records}
 use Rattle.store_api.specs.Ledgers.{Ledger}
 use Rattle.store_api.specs.Parts.{Turns, entries, entry}
@@ -68,10 +69,7 @@ weights_of WeightedSet items lawful = weights_any items
 
 pub weight_at : (kind : Kind) (items : List Item) (i : ℕ) (item : Item) → AllByRecursion (λ (x : Item). IsWeightOf kind x.weight) items → slice_get items i ≡ Some item → IsWeightOf kind item.weight
 weight_at kind [] i item all is = cc
-weight_at kind (x ∷ items) zero item all is = subst {A = Item} (λ y. IsWeightOf kind y.weight) (same x item is) all.0
-  where
-    same : (a b : Item) → Some a ≡ Some b → a ≡ b
-    same a b h = cc
+weight_at kind (x ∷ items) zero item all is = subst {A = Item} (λ y. IsWeightOf kind y.weight) (same_Some x item is) all.0
 weight_at kind (x ∷ items) (suc i) item all is = weight_at kind items i item all.1 is
 
 -- one item more
@@ -106,14 +104,11 @@ module _ {H : Type 0} (old new : Ledger H) (m n : Records) where
   makes_single (key ∷ []) (item ∷ x ∷ items) ref at sized there lawful turns = absurd (omega arith)
   makes_single (zero ∷ []) (item ∷ []) ref at sized there lawful turns = absurd (let some = there.0 in omega arith)
   makes_single (suc key ∷ []) (item ∷ []) ref at sized there lawful turns =
-      subst (MakesItems Single old new m n ((suc key, item.weight) ∷ [])) (same (suc key) ref at) (record {
+      subst (MakesItems Single old new m n ((suc key, item.weight) ∷ [])) (same_Some (suc key) ref at) (record {
         form = tt;
         weighted_are = ap (λ w. (suc key, w) ∷ []) (sym lawful.1.0);
         turns = turns-as old new m n [] [] [] (entries [] ∷ []) turns (λ r. refl) (λ r. refl);
       })
-    where
-      same : (a b : ℕ) → Some a ≡ Some b → a ≡ b
-      same a b h = cc
 
   module _ (bits : ℕ) (words : List ℕ) (list : List (ℕ × ℤ)) (some : 0 < length words) (few : length words ≤ 1023) where
     stored : (ref : ℕ) → stored_items (n ref) ≡ words → AddsRecord bits old new m n (length words ∷ words) ref → IsStoredList most_items (n ref)

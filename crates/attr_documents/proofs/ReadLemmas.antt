@@ -9,6 +9,7 @@ use Rattle.tree_images.specs.Trees.{tree_pairs}
 use Rattle.key_order.specs.Pairs.{choose, lookup}
 use Rattle.doc_vector.specs.Documents.{beside_document}
 use Rattle.std.specs.List.{AllByRecursion}
+use Rattle.list_facts.proofs.Options.{same_Some}
 use Rattle.image_base.specs.Records.{Records}
 use Rattle.array_store.proofs.ArrayLemmas.{list_array}
 use Rattle.array_store.specs.Arrays.{IsArray}
@@ -71,12 +72,9 @@ all_found P c [] all ref is = absurd (grind (arith, is))
 all_found P c (p ∷ ps) all ref is =
     elim (c p.0) as (λ o. choose o (lookup c ps) (Some p.1) None ≡ Some ref → P ref) [
       | Less ↦ λ h. all_found P c ps all.1 ref h
-      | Equal ↦ λ h. subst P (same p.1 ref h) all.0
+      | Equal ↦ λ h. subst P (same_Some p.1 ref h) all.0
       | Greater ↦ λ h. absurd (grind (arith, h))
     ] is
-  where
-    same : (a b : ℕ) → Some a ≡ Some b → a ≡ b
-    same a b h = cc
 
 module _ (kind : Kind) (type : ValueType) (m : Records) (root doc : ℕ) (is : IsDocuments kind type m root) where
   pub found_records : (ref : ℕ) → lookup (beside_document doc) (tree_pairs m root) ≡ Some ref → AreItemRecords kind type m ref

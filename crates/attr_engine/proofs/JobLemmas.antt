@@ -4,6 +4,7 @@ use Rattle.std.specs.Prelude.{All, Result, Ok, Err, IfOk, IsOkAnd, Vec}
 use Rattle.std.specs.Global.{Global}
 use Rattle.std.specs.List.{AllByRecursion, AllZip}
 use Rattle.std.specs.declared.alloc.AllocError.{AllocError}
+use Rattle.list_facts.proofs.Each.{AllByRecursion-weaker}
 use Rattle.atomic_table.specs.Seated.{TableId}
 use Rattle.gen_core.specs.declared.views.Sizes.{Sizes}
 use Rattle.gen_core.specs.declared.views.WriterView.{WriterView}
@@ -20,7 +21,7 @@ use Rattle.attr_answers.specs.Lines.{CanAsk}
 use Rattle.attr_answers.specs.declared.asked.Asked.{Asked}
 use Rattle.attr_answers.specs.declared.asked.Told.{Told}
 use Rattle.attr_engine.specs.Steps.{operations_of, tells_of, KeepsWriter, IsReader, HasRead, IsReading, IsTakenFrom, AreRoundsOf}
-use Rattle.attr_engine.proofs.ReaderLemmas.{AllOf, zip_all, zip_length, zip_each, each_weaker, reading_of, taken_of}
+use Rattle.attr_engine.proofs.ReaderLemmas.{AllOf, zip_all, zip_length, zip_each, reading_of, taken_of}
 
 module _ (bits : ℕ) (G : Type 0) (w : WriterView) (home : TableId) (count : ℕ) (asked : Asked) where
   abbrev pub Made : Type 0
@@ -68,7 +69,7 @@ module _ (bits : ℕ) (G : Type 0) (w : WriterView) (home : TableId) (count : �
     reads (Ok r) has = reading_of asked.counted (map ask_tree asked.asks.now) w home count (reader_of r.reader.place.me.0) r.reader.place.table_id r.rounds.items has v here shape same
 
     pub all_read : (readings : List Made) → AllByRecursion Has readings → AllByRecursion Reads readings
-    all_read readings has = each_weaker Has Reads reads readings has
+    all_read readings has = AllByRecursion-weaker Has Reads reads readings has
 
     abbrev pub TakenBy : Made → Vec (Round Told) Global → Type 0
     TakenBy made rounds = IsOkAnd made (λ r. IsTakenFrom asked.counted (map ask_tree asked.asks.now) v.sizes.shape v.commits r.rounds.items rounds.items)
@@ -94,4 +95,4 @@ module _ (bits : ℕ) (G : Type 0) (w : WriterView) (home : TableId) (count : �
     pub all_home : KeepsWriter w v → (rounds : List (Vec (Round Told) Global)) → AllByRecursion Taken rounds
         → AllByRecursion (λ r. AreRoundsOf asked.counted (map ask_tree asked.asks.now) w.sizes.shape (last_number w.commits) count w.commits r.items) rounds
     all_home keeps rounds all =
-        each_weaker Taken (λ r. AreRoundsOf asked.counted (map ask_tree asked.asks.now) w.sizes.shape (last_number w.commits) count w.commits r.items) (home_again keeps) rounds all
+        AllByRecursion-weaker Taken (λ r. AreRoundsOf asked.counted (map ask_tree asked.asks.now) w.sizes.shape (last_number w.commits) count w.commits r.items) (home_again keeps) rounds all

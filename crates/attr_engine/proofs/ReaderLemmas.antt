@@ -25,13 +25,6 @@ all_first P x xs all = all 0 x (omega arith)
 pub all_rest : {X : Type 0} (P : X → Type 0) (x : X) (xs : List X) → All P (x ∷ xs) → All P xs
 all_rest P x xs all k d below = all (suc k) d (omega (arith, below))
 
--- one more on both sides
-pub zip_push : {A B : Type 0} (R : A → B → Type 0) (xs : List A) (ys : List B) (x : A) (y : B) → AllZip R xs ys → R x y → AllZip R (xs ++ x ∷ []) (ys ++ y ∷ [])
-zip_push R [] [] x y all r = (r, tt)
-zip_push R [] (b ∷ ys) x y all r = absurd all
-zip_push R (a ∷ xs) [] x y all r = absurd all
-zip_push R (a ∷ xs) (b ∷ ys) x y all r = (all.0, zip_push R xs ys x y all.1 r)
-
 -- what holds of each of the second list, by those beside it in the first
 pub zip_all : {A B : Type 0} (J : A → Type 0) (G : A → B → Type 0) (Q : B → Type 0) → ((a : A) (b : B) → J a → G a b → Q b)
     → (xs : List A) (ys : List B) → All J xs → AllZip G xs ys → AllByRecursion Q ys
@@ -57,10 +50,6 @@ zip_each J G Q step [] [] all zip = tt
 zip_each J G Q step [] (b ∷ ys) all zip = absurd zip
 zip_each J G Q step (a ∷ xs) [] all zip = absurd zip
 zip_each J G Q step (a ∷ xs) (b ∷ ys) all zip = (step a b all.0 zip.0, zip_each J G Q step xs ys all.1 zip.1)
-
-pub each_weaker : {A : Type 0} (P Q : A → Type 0) → ((a : A) → P a → Q a) → (xs : List A) → AllByRecursion P xs → AllByRecursion Q xs
-each_weaker P Q step [] all = tt
-each_weaker P Q step (a ∷ xs) all = (step a all.0, each_weaker P Q step xs all.1)
 
 -- numbers that do not fall, without the last
 front : (xs : List ℕ) (n : ℕ) → IsNonDecreasing (xs ++ n ∷ []) → IsNonDecreasing xs

@@ -13,6 +13,7 @@ use Rattle.attr_images.specs.Images.{table_of}
 use Rattle.attr_images.specs.Shapes.{shape_of, types_of}
 use Rattle.attr_scores.specs.Scores.{AskTree}
 use Rattle.std.specs.List.{AllByRecursion}
+use Rattle.list_facts.proofs.Each.{AllByRecursion-weaker}
 use Rattle.attr_column.specs.Columns.{TellsColumn}
 use Rattle.attr_types.specs.Table.{Table, after}
 use Rattle.attr_types.specs.declared.items.Item.{Item}
@@ -29,7 +30,7 @@ use Rattle.attr_report.specs.History.{IsLoaded}
 use Rattle.attr_engine.specs.Run.{full_of}
 use Rattle.attr_engine.specs.Rounds.{IsRoundAt, AreRoundsAt, IsCame, seen_before}
 use Rattle.attr_engine.specs.Steps.{KeepsWriter, operations_of, tells_of, saves_of, parts, AreRoundsOf, IsLastAnswer, LoadsInto}
-use Rattle.attr_engine.proofs.ReaderLemmas.{AllOf, each_weaker}
+use Rattle.attr_engine.proofs.ReaderLemmas.{AllOf}
 
 -- what is answered at an image, by its table
 abbrev pub over_table : {A : Type 0} → (Table → A → Type 0) → ℕ → Records → ℕ → A → Type 0
@@ -74,7 +75,7 @@ chosen_rounds P last readers true first later chosen is one two = subst (AllOf (
 chosen_rounds P last readers false first later chosen is one two = subst (AllOf (P 0) readers) (sym is) one
 
 each_at : {C : Type 0} (P Q : C → Type 0) (n : ℕ) (xs : List C) → ((c : C) → P c → Q c) → AllOf P n xs → AllOf Q n xs
-each_at P Q n xs step all = record { each = each_weaker P Q step xs all.each; count = all.count }
+each_at P Q n xs step all = record { each = AllByRecursion-weaker P Q step xs all.each; count = all.count }
 
 ended : (run : Run) (total loaded : ℕ) (full : Option NoRoom) → EndsAt run.batch total run.buffers loaded full → IsLoaded run total loaded (full_of full) × IfSome full (λ r. r.active + r.held ≡ run.buffers)
 ended run total loaded None ends = (ends, tt)

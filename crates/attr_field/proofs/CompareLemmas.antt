@@ -1,9 +1,12 @@
 -- Items and lists of items that are the same.
-use Rattle.std.proofs.Common.{◌≡◌, ℕ, zero, suc, true, false, List, [], ◌∷◌, ◌++◌, length, take, is_eq, Option, Some, None, refl, sym, ap, ap₂, ◌∙◌, true≢false}
+use Rattle.std.proofs.Common.{◌≡◌, ℕ, suc, true, false, List, [], ◌∷◌, ◌++◌, length, take, is_eq, Option, Some, None, sym, ap, ap₂, ◌∙◌, true≢false, arith}
 use Rattle.std.proofs.lemmas.Bool.Decides.{Decides-int_eq}
 use Rattle.std.proofs.lemmas.Cmp.{tied_itself}
 use Rattle.std.specs.Ordering.{int_eq}
 use Rattle.std.specs.Prelude.{ℤ, is_some, nat_eq, slice_get, unwrap_or}
+use Rattle.std.proofs.lemmas.List.{take_all}
+use Rattle.list_facts.proofs.Options.{same_Some}
+use Rattle.list_facts.proofs.Places.{take-read}
 use Rattle.attr_index.proofs.ListLemmas.{same_value}
 use Rattle.attr_types.specs.ProofsForOrder.{value_cmp_total}
 use Rattle.attr_types.specs.Value.{value_cmp}
@@ -24,28 +27,16 @@ value_apart a b apart same =
 pub weight_same : (a b : Item) → a ≡ b → int_eq a.weight b.weight ≡ true
 weight_same a b same = (Decides-int_eq a.weight b.weight).1 (ap (λ (x : Item). x.weight) same)
 
-pub some_same : (x y : Item) → Some x ≡ Some y → x ≡ y
-some_same x y same = ap (λ o. unwrap_or o x) same
-
-take_next : (items : List Item) (i : ℕ) (item : Item) → slice_get items i ≡ Some item → take i items ++ item ∷ [] ≡ take (suc i) items
-take_next [] i item at = cc
-take_next (x ∷ items) zero item at = ap (λ y. y ∷ []) (some_same item x (sym at))
-take_next (x ∷ items) (suc i) item at = ap (λ rest. x ∷ rest) (take_next items i item at)
-
-take_whole : (items : List Item) → take (length items) items ≡ items
-take_whole [] = refl
-take_whole (item ∷ items) = ap (λ rest. item ∷ rest) (take_whole items)
-
 pub same_on : (a b : List Item) (i : ℕ) (x y : Item) → take i a ≡ take i b → slice_get a i ≡ Some x → slice_get b i ≡ Some y → x ≡ y → take (suc i) a ≡ take (suc i) b
 same_on a b i x y before at there same =
-    sym (take_next a i x at) ∙ ap (λ items. items ++ x ∷ []) before ∙ ap (λ z. take i b ++ z ∷ []) same ∙ take_next b i y there
+    sym (take-read a i x at) ∙ ap (λ items. items ++ x ∷ []) before ∙ ap (λ z. take i b ++ z ∷ []) same ∙ take-read b i y there
 
 pub same_all : (a b : List Item) (i : ℕ) → take i a ≡ take i b → length a ≡ length b → length a ≡ i → a ≡ b
 same_all a b i same sizes at =
-    sym (take_whole a) ∙ ap (λ j. take j a) at ∙ same ∙ ap (λ j. take j b) (sym at ∙ sizes) ∙ take_whole b
+    sym (take_all (length a) a (omega arith)) ∙ ap (λ j. take j a) at ∙ same ∙ ap (λ j. take j b) (sym at ∙ sizes) ∙ take_all (length b) b (omega arith)
 
 pub read_same : (a b : List Item) (i : ℕ) (x y : Item) → slice_get a i ≡ Some x → slice_get b i ≡ Some y → a ≡ b → x ≡ y
-read_same a b i x y at there same = some_same x y (sym at ∙ ap (λ items. slice_get items i) same ∙ there)
+read_same a b i x y at there same = same_Some x y (sym at ∙ ap (λ items. slice_get items i) same ∙ there)
 
 -- a document that has items is there
 there_with : (o : Option (List Item)) (items : List Item) → items ≡ unwrap_or o [] → (items ≡ [] → ⊥) → o ≡ Some items

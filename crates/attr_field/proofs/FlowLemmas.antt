@@ -1,6 +1,7 @@
 -- What an attribute takes over of another: nothing was done, a change of the index or of the documents, and one after another.
 use Rattle.std.proofs.Common.{ℕ, List, inl, inr}
 use Rattle.std.specs.List.{AllByRecursion}
+use Rattle.image_base.proofs.Among.{Among-all}
 use Rattle.image_base.specs.Records.{Records, SameAt}
 use Rattle.store_api.specs.Ledgers.{Ledger}
 use Rattle.store_api.specs.Units.{MayDo}
@@ -15,7 +16,6 @@ use Rattle.value_index.specs.Flows.{FlowsIndex}
 use Rattle.value_index.specs.Indexes.{index_reach, IsKey}
 use Rattle.value_index.proofs.IndexFlows.{flows_same, flows_stay, flows_then}
 use Rattle.attr_field.specs.Flows.{FlowsField}
-use Rattle.attr_field.proofs.RefLemmas.{all_among}
 
 module _ {H : Type 0} (kind : Kind) (type : ValueType) (a : Ledger H) where
   pub field_flows_same : (m : Records) (documents dictionary : ℕ) → FlowsField kind type a m m documents dictionary documents dictionary
@@ -50,7 +50,7 @@ module _ {H : Type 0} (kind : Kind) (type : ValueType) (a : Ledger H) where
     own = flows.own;
     refer = λ doc r began among. elim (flows.refer doc r among) [
       | inl was ↦ inl was
-      | inr given ↦ inr (all_among (IsKey m dictionary) keys are r given)
+      | inr given ↦ inr (Among-all (IsKey m dictionary) keys are r given)
     ];
   }
 

@@ -1,5 +1,6 @@
 -- What an attribute in a store is: the laws, by those of its documents and of its index.
 use Rattle.std.proofs.Common.{◌++◌, refl, sym, subst, inl, inr}
+use Rattle.image_base.proofs.Among.{Among-append}
 use Rattle.tree_images.specs.ProofsForTrees.{SameAt-left, SameAt-right}
 use Rattle.tree_images.specs.Trees.{tree_nodes}
 use Rattle.attr_documents.specs.Documents.{documents_own, documents_refer}
@@ -12,7 +13,6 @@ use Rattle.value_index.proofs.KeyLemmas.{among_left, among_right}
 use Rattle.value_index.specs.Indexes.{index_reach}
 use Rattle.value_index.specs.Laws.{NothingIsIndex, IndexStays, IndexIsLawful, KeyIsRead}
 use Rattle.attr_field.specs.Laws.{NothingIsField, FieldStays, FieldIsLawful, FieldOwnsKeys, FieldReaches, FieldReachesOwn}
-use Rattle.attr_field.proofs.RefLemmas.{among_either}
 
 pub field_nothing : NothingIsDocuments → NothingIsIndex → NothingIsField
 field_nothing documents index kind type m = (
@@ -59,15 +59,15 @@ field_owns_keys key_read kind type m D I r is key = among_right r (documents_own
 
 pub field_reaches : DocumentsReach → FieldReaches
 field_reaches documents kind m D I r = (
-  λ among. elim (among_either r (tree_nodes m D ++ documents_reach kind m D) (index_reach m I) among) [
-    | inl here ↦ elim (among_either r (documents_own kind m D) (documents_refer kind m D) ((documents kind m D r).0 here)) [
+  λ among. elim (Among-append r (tree_nodes m D ++ documents_reach kind m D) (index_reach m I) among) [
+    | inl here ↦ elim (Among-append r (documents_own kind m D) (documents_refer kind m D) ((documents kind m D r).0 here)) [
       | inl own ↦ inl (among_left r (documents_own kind m D) (index_reach m I) own)
       | inr refer ↦ inr refer
     ]
     | inr there ↦ inl (among_right r (documents_own kind m D) (index_reach m I) there)
   ],
   λ either. elim either [
-    | inl owned ↦ elim (among_either r (documents_own kind m D) (index_reach m I) owned) [
+    | inl owned ↦ elim (Among-append r (documents_own kind m D) (index_reach m I) owned) [
       | inl own ↦ among_left r (tree_nodes m D ++ documents_reach kind m D) (index_reach m I)
           ((documents kind m D r).1 (among_left r (documents_own kind m D) (documents_refer kind m D) own))
       | inr there ↦ among_right r (tree_nodes m D ++ documents_reach kind m D) (index_reach m I) there

@@ -1,8 +1,7 @@
 -- References in lists, and what an attribute owns as two parts.
-use Rattle.std.proofs.Common.{◌≡◌, ℕ, List, [], ◌∷◌, ◌++◌, Result, Ok, Err, refl, sym, subst, arith, inl, inr, ◌⊎◌}
+use Rattle.std.proofs.Common.{◌≡◌, ℕ, [], ◌∷◌, Result, Ok, Err, arith}
 use Rattle.std.specs.Prelude.{IfOk}
-use Rattle.std.specs.List.{AllByRecursion}
-use Rattle.image_base.specs.Records.{Records, Among, SameAt}
+use Rattle.image_base.specs.Records.{Records}
 use Rattle.store_api.specs.Ledgers.{Ledger}
 use Rattle.store_api.specs.Parts.{Owns, Turns, count_in}
 use Rattle.store_api.proofs.PartLemmas.{owns-some, turns-as}
@@ -11,28 +10,6 @@ use Rattle.attr_documents.specs.Documents.{documents_own, documents_part}
 use Rattle.attr_types.specs.declared.kind.Kind.{Kind}
 use Rattle.value_index.specs.Indexes.{index_part, index_reach}
 use Rattle.attr_field.specs.Fields.{field_part}
-
-pub among_either : (r : ℕ) (xs ys : List ℕ) → Among r (xs ++ ys) → Among r xs ⊎ Among r ys
-among_either r [] ys among = inr among
-among_either r (x ∷ xs) ys (inl e) = inl (inl e)
-among_either r (x ∷ xs) ys (inr later) = elim (among_either r xs ys later) [
-  | inl here ↦ inl (inr here)
-  | inr there ↦ inr there
-]
-
-pub all_among : (P : ℕ → Type 0) (refs : List ℕ) → AllByRecursion P refs → (r : ℕ) → Among r refs → P r
-all_among P [] all r among = absurd among
-all_among P (q ∷ refs) all r (inl e) = subst P (sym e) all.0
-all_among P (q ∷ refs) all r (inr later) = all_among P refs all.1 r later
-
-pub same_each : (m n : Records) (refs : List ℕ) → ((r : ℕ) → Among r refs → n r ≡ m r) → SameAt refs m n
-same_each m n [] each = tt
-same_each m n (q ∷ refs) each = (each q (inl refl), same_each m n refs (λ r later. each r (inr later)))
-
-pub same_among : (m n : Records) (refs : List ℕ) → SameAt refs m n → (r : ℕ) → Among r refs → n r ≡ m r
-same_among m n [] same r among = absurd among
-same_among m n (q ∷ refs) same r (inl e) = subst (λ x. n x ≡ m x) (sym e) same.0
-same_among m n (q ∷ refs) same r (inr later) = same_among m n refs same.1 r later
 
 -- the part of an attribute is that of its documents and that of its index
 pub field_count : (kind : Kind) (documents dictionary : ℕ) (m : Records) (r : ℕ) → count_in r m (field_part kind documents dictionary ∷ [])

@@ -1,16 +1,17 @@
 -- The keys of items, one after another.
-use Rattle.std.proofs.Common.{◌≡◌, ℕ, zero, suc, ◌<◌, List, [], ◌∷◌, ◌++◌, length, take, Option, Some, None, refl, ap, subst}
+use Rattle.std.proofs.Common.{◌≡◌, ℕ, suc, List, [], ◌∷◌, ◌++◌, length, take, Some, subst, arith}
 use Rattle.std.specs.Prelude.{slice_get}
-use Rattle.std.specs.List.{AllByRecursion, AllZip}
+use Rattle.std.specs.List.{AllByRecursion}
+use Rattle.std.proofs.lemmas.List.{take_all}
+use Rattle.list_facts.proofs.Each.{AllByRecursion-append}
+use Rattle.list_facts.proofs.Places.{take-read}
+use Rattle.list_facts.proofs.Pairs.{AllZip-push}
 use Rattle.image_base.specs.Records.{Records}
 use Rattle.attr_documents.specs.Changes.{AreKeysOf, IsKeyOf}
-use Rattle.attr_types.proofs.EntryLemmas.{all-append}
 use Rattle.attr_types.specs.declared.items.Item.{Item}
 use Rattle.attr_types.specs.declared.kind.ValueType.{ValueType}
 use Rattle.value_index.specs.Indexes.{key_at, IsIndex, IsKey}
-use Rattle.value_index.specs.Laws.{KeyIsRead, FoundIsKey, ValueHasKey}
-use Rattle.attr_images.specs.Postings.{index_of}
-use Rattle.attr_index.specs.Index.{list_of}
+use Rattle.value_index.specs.Laws.{KeyIsRead, FoundIsKey}
 use Rattle.attr_types.specs.Value.{type_of}
 use Rattle.attr_types.specs.declared.value.Value.{Value}
 use Rattle.attr_field.specs.Steps.{FindsKey}
@@ -20,32 +21,6 @@ pub record KeysSoFar (type : ValueType) (m : Records) (root : ℕ) (keys : List 
   pub are : AreKeysOf type m keys (take i items)
   pub kept : AllByRecursion (IsKey m root) keys
 
-zip_push : {A B : Type 0} (P : A → B → Type 0) (xs : List A) (ys : List B) (x : A) (y : B) → AllZip P xs ys → P x y → AllZip P (xs ++ x ∷ []) (ys ++ y ∷ [])
-zip_push P [] [] x y all here = (here, tt)
-zip_push P [] (b ∷ ys) x y all here = absurd all
-zip_push P (a ∷ xs) [] x y all here = absurd all
-zip_push P (a ∷ xs) (b ∷ ys) x y all here = (all.0, zip_push P xs ys x y all.1 here)
-
-take_more : (items : List Item) (i : ℕ) (item : Item) → slice_get items i ≡ Some item → take i items ++ item ∷ [] ≡ take (suc i) items
-take_more [] i item at = cc
-take_more (x ∷ items) zero item at = let same : item ≡ x = cc in ap (λ y. y ∷ []) same
-take_more (x ∷ items) (suc i) item at = ap (λ rest. x ∷ rest) (take_more items i item at)
-
-take_all : (items : List Item) → take (length items) items ≡ items
-take_all [] = refl
-take_all (item ∷ items) = ap (λ rest. item ∷ rest) (take_all items)
-
-pub all_at : (P : Item → Type 0) (items : List Item) (i : ℕ) (item : Item) → slice_get items i ≡ Some item → AllByRecursion P items → P item
-all_at P [] i item at all = cc
-all_at P (x ∷ items) zero item at all = let same : x ≡ item = cc in subst P same all.0
-all_at P (x ∷ items) (suc i) item at all = all_at P items i item at all.1
-
-pub values_at : (P : Rattle.attr_types.specs.declared.value.Value.Value → Type 0) (items : List Item) (i : ℕ) (item : Item) → slice_get items i ≡ Some item
-    → AllByRecursion P (Rattle.attr_types.specs.Value.values_of items) → P item.value
-values_at P [] i item at all = cc
-values_at P (x ∷ items) zero item at all = let same : x ≡ item = cc in subst (λ (y : Item). P y.value) same all.0
-values_at P (x ∷ items) (suc i) item at all = values_at P items i item at all.1
-
 module _ (type : ValueType) (m : Records) (root : ℕ) (items : List Item) where
   pub keys_begin : KeysSoFar type m root [] items 0
   keys_begin = record { are = tt; kept = tt }
@@ -53,24 +28,13 @@ module _ (type : ValueType) (m : Records) (root : ℕ) (items : List Item) where
   pub keys_more : (keys : List ℕ) (i ref : ℕ) (item : Item) → KeysSoFar type m root keys items i → slice_get items i ≡ Some item → FindsKey type m root item.value ref
       → KeysSoFar type m root (keys ++ ref ∷ []) items (suc i)
   keys_more keys i ref item p at finds = record {
-    are = subst (AreKeysOf type m (keys ++ ref ∷ [])) (take_more items i item at)
-        (zip_push (λ (key : ℕ) (x : Item). IsKeyOf type m x.value key) keys (take i items) ref item p.are (record { record_is = finds.record_is; value_is = finds.value_is }));
-    kept = all-append (IsKey m root) keys (ref ∷ []) p.kept (finds.is_key, tt);
+    are = subst (AreKeysOf type m (keys ++ ref ∷ [])) (take-read items i item at)
+        (AllZip-push (λ (key : ℕ) (x : Item). IsKeyOf type m x.value key) keys (take i items) ref item p.are (record { record_is = finds.record_is; value_is = finds.value_is }));
+    kept = AllByRecursion-append (IsKey m root) keys (ref ∷ []) p.kept (finds.is_key, tt);
   }
 
   pub keys_end : (keys : List ℕ) → KeysSoFar type m root keys items (length items) → AreKeysOf type m keys items
-  keys_end keys p = subst (AreKeysOf type m keys) (take_all items) p.are
-
--- the key of a value that has documents
-none_some : (o : Option ℕ) (ref : ℕ) → o ≡ None → o ≡ Some ref → ⊥
-none_some None ref none some = cc
-none_some (Some q) ref none some = cc
-
-pub found_not_none : ValueHasKey → (type : ValueType) (m : Records) (root : ℕ) (value : Value) → IsIndex type m root → type_of value ≡ type
-    → 0 < length (list_of value (index_of type m root)) → key_at value m root ≡ None → ⊥
-found_not_none there type m root value index typed listed none =
-    let found = there type m root value index typed listed in
-    none_some (key_at value m root) found.0 none found.1
+  keys_end keys p = subst (AreKeysOf type m keys) (take_all (length items) items (omega arith)) p.are
 
 pub finds_key : FoundIsKey → KeyIsRead → (type : ValueType) (m : Records) (root ref : ℕ) (value : Value) → IsIndex type m root → type_of value ≡ type
     → key_at value m root ≡ Some ref → FindsKey type m root value ref

@@ -1,5 +1,5 @@
 -- How many values an index has and how many documents a list, while a document's weights change: so few that no tree gets more levels.
-use Rattle.std.proofs.Common.{◌≡◌, ℕ, ℤ, suc, ◌+◌, ◌<◌, ◌≤◌, Bool, true, false, ◌||◌, cond, List, [], ◌∷◌, ◌++◌, length, Option, Some, None, refl, sym, ap, ◌∙◌, arith, nat_cmp, is_eq}
+use Rattle.std.proofs.Common.{◌≡◌, ℕ, ℤ, suc, ◌+◌, ◌≤◌, Bool, true, false, ◌||◌, cond, List, [], ◌∷◌, ◌++◌, length, Option, Some, None, refl, sym, ap, ◌∙◌, arith, nat_cmp, is_eq}
 use Rattle.std.proofs.lemmas.Cmp.{eq_by_cmp_equiv}
 use Rattle.std.proofs.lemmas.List.{length-append, length-map}
 use Rattle.std.proofs.lemmas.Map.Keys.{IsDistinct-from_sorted}
@@ -7,16 +7,17 @@ use Rattle.std.proofs.lemmas.Map.Made.{length-le_from_is_member}
 use Rattle.std.specs.BTreeMap.{insert_entry, is_at}
 use Rattle.std.specs.declared.cmp.Ordering.{Ordering}
 use Rattle.std.specs.declared.cmp.Ordering.TheVariants.{Less, Equal, Greater}
-use Rattle.std.specs.List.{AllByRecursion, cons_option, find, list_any}
-use Rattle.std.specs.Map.{keys_of, lookup, remove_entry}
-use Rattle.std.specs.Option.{is_some, option_map, unwrap_or}
+use Rattle.std.specs.List.{cons_option, find, list_any}
+use Rattle.std.specs.Map.{keys_of, lookup}
+use Rattle.std.specs.Option.{is_some, option_map}
 use Rattle.std.specs.Ordering.{match_ordering}
+use Rattle.list_facts.proofs.Counts.{length-remove_entry}
 use Rattle.attr_types.specs.ProofsForOrder.{value_cmp_total}
 use Rattle.attr_types.specs.Value.{value_cmp}
 use Rattle.attr_types.specs.declared.items.Item.{Item}
 use Rattle.attr_types.specs.declared.value.Value.{Value}
 use Rattle.attr_index.proofs.MiddleLemmas.{both_walks}
-use Rattle.attr_index.proofs.OfLemmas.{any-append, has_some, has_some-length}
+use Rattle.attr_index.proofs.OfLemmas.{any-append, has_some, any-index}
 use Rattle.attr_index.proofs.StayLemmas.{some-remove}
 use Rattle.attr_index.specs.Changes.{settled, IsBetween}
 use Rattle.attr_index.specs.Columns.{Column, documents_with}
@@ -36,17 +37,9 @@ inserted (e ∷ es) doc weight = told (nat_cmp doc e.0) (inserted es doc weight)
     told Equal rest = omega arith
     told Greater rest = omega arith
 
-removed_few : (test : ℕ → Bool) (docs : List (ℕ × ℤ)) → length (remove_entry test docs) ≤ length docs
-removed_few test [] = omega arith
-removed_few test (e ∷ es) = told (test e.0) (removed_few test es)
-  where
-    told : (b : Bool) → length (remove_entry test es) ≤ length es → length (cond b es (e ∷ remove_entry test es)) ≤ suc (length es)
-    told true rest = omega arith
-    told false rest = omega arith
-
 settled_few : (o r : Option ℤ) (doc : ℕ) (docs : List (ℕ × ℤ)) → length (settled o r doc docs) ≤ length docs + 1
 settled_few (Some weight) r doc docs = inserted docs doc weight
-settled_few None (Some weight) doc docs = let few = removed_few (is_at (nat_cmp doc)) docs in omega arith
+settled_few None (Some weight) doc docs = let few = length-remove_entry (is_at (nat_cmp doc)) docs in omega arith
 settled_few None None doc docs = omega arith
 
 documents_few : (value : Value) (column : Column) → length (documents_with value column) ≤ length column
@@ -63,13 +56,6 @@ any_keys value [] = refl
 any_keys value (e ∷ es) =
     elim (is_eq (value_cmp value e.0)) as (λ b. (b || list_any (is_at (value_cmp value)) (keys_of es)) ≡ is_some (cond b (Some e.1) (lookup (is_at (value_cmp value)) es)))
     [ true ↦ refl | false ↦ any_keys value es ]
-
-any_index : (value : Value) (index : Index) → AllByRecursion (λ e. 0 < length e.1) index → list_any (is_at (value_cmp value)) (keys_of index) ≡ has_some (list_of value index)
-any_index value [] filled = refl
-any_index value (e ∷ index) filled =
-    elim (is_eq (value_cmp value e.0)) as (λ b. (b || list_any (is_at (value_cmp value)) (keys_of index))
-    ≡ has_some (unwrap_or (cond b (Some e.1) (lookup (is_at (value_cmp value)) index)) []))
-    [ true ↦ sym (has_some-length e.1 filled.0) | false ↦ any_index value index filled.1 ]
 
 either : (a : Bool) → (a || true) ≡ true
 either true = refl
@@ -98,9 +84,9 @@ module _ (column : Column) (start : Index) (doc : ℕ) (done : List (Value × �
   member : (value : Value) → list_any (is_at (value_cmp value)) (keys_of index) ≡ true → list_any (is_at (value_cmp value)) (keys_of start ++ keys_of done) ≡ true
   member value there =
       let some : has_some (settled (weights done value) (removed value) doc (list_of value start)) ≡ true
-      = sym (ap has_some (p.lists value)) ∙ sym (any_index value index p.formed.filled) ∙ there in
+      = sym (ap has_some (p.lists value)) ∙ sym (any-index value index p.formed.filled) ∙ there in
       any-append (is_at (value_cmp value)) (keys_of start) (keys_of done)
-      ∙ ap (λ b. b || list_any (is_at (value_cmp value)) (keys_of done)) (any_index value start of.formed.filled)
+      ∙ ap (λ b. b || list_any (is_at (value_cmp value)) (keys_of done)) (any-index value start of.formed.filled)
       ∙ ap (λ b. has_some (list_of value start) || b) (any_keys value done)
       ∙ settled_some (weights done value) (removed value) doc (list_of value start) some
 

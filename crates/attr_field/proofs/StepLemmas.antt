@@ -2,6 +2,8 @@
 use Rattle.std.proofs.Common.{◌≡◌, ℕ, suc, ◌<◌, List, [], ◌∷◌, length, map, refl, sym, ap, subst, arith, inl, inr}
 use Rattle.std.specs.Prelude.{Contains, ℤ, Option, None}
 use Rattle.std.specs.List.{AllByRecursion}
+use Rattle.image_base.proofs.Pairs.{same-from}
+use Rattle.image_base.proofs.Among.{Among-all}
 use Rattle.image_base.specs.Records.{Records, Among, SameAt}
 use Rattle.store_api.specs.Ledgers.{Ledger}
 use Rattle.store_api.specs.Parts.{After, Turns, count_in, uses}
@@ -29,7 +31,6 @@ use Rattle.attr_field.specs.Changes.{KeepsCopies}
 use Rattle.attr_field.specs.Steps.{StandsField, StepsField}
 use Rattle.attr_field.proofs.CopyLemmas.{refers_after}
 use Rattle.attr_field.proofs.FlowLemmas.{field_flows_documents, field_flows_index}
-use Rattle.attr_field.proofs.RefLemmas.{all_among, same_each}
 
 -- ---- the index is another
 module _ (documents_stay : DocumentsStay) {H : Type 0} (kind : Kind) (type : ValueType) (old new : Ledger H) (m n : Records) (documents dictionary next : ℕ)
@@ -43,7 +44,7 @@ module _ (documents_stay : DocumentsStay) {H : Type 0} (kind : Kind) (type : Val
       (λ k r. omega arith) (λ k r. omega arith)
 
   index_refer : SameAt (documents_refer kind m documents) m n
-  index_refer = same_each m n (documents_refer kind m documents) (λ r among. elim (stands.refers.each r among) [
+  index_refer = same-from (documents_refer kind m documents) m n (λ r among. elim (stands.refers.each r among) [
     | inl key ↦ (keys.kept r key (listed r among)).1
     | inr free ↦ turns.kept r (omega arith)
   ])
@@ -98,7 +99,7 @@ module _ (index_stays : IndexStays) {H : Type 0} (kind : Kind) (type : ValueType
         | inl key ↦ inl (documents_index.2 r key)
         | inr free ↦ inr (was, free)
       ]
-      | inr given ↦ inl (documents_index.2 r (all_among (IsKey m dictionary) keys are r given))
+      | inr given ↦ inl (documents_index.2 r (Among-all (IsKey m dictionary) keys are r given))
     ];
   }
 
@@ -138,7 +139,7 @@ module _ (key_read : KeyIsRead) {H : Type 0} (kind : Kind) (type : ValueType) (l
   }
 
   pub keys_beside : (keys : List ℕ) → AllByRecursion (IsKey m dictionary) keys → AreBeside ledger m (documents_part kind documents ∷ []) keys
-  keys_beside keys are = record { each = λ r among. key_beside r (all_among (IsKey m dictionary) keys are r among) }
+  keys_beside keys are = record { each = λ r among. key_beside r (Among-all (IsKey m dictionary) keys are r among) }
 
 -- ---- each value of the documents is in their index
 contains_map : (f : ℕ → Value) (refs : List ℕ) (r : ℕ) → Among r refs → Contains (map f refs) (f r)

@@ -6,11 +6,11 @@ use Rattle.std.specs.BTreeMap.{insert_entry, is_at}
 use Rattle.std.specs.List.{AllByRecursion, find}
 use Rattle.std.specs.Map.{keys_of, lookup}
 use Rattle.std.specs.Option.{is_some}
+use Rattle.list_facts.proofs.Each.{AllByRecursion-weaker}
 use Rattle.attr_images.proofs.ImageLemmas.{value_typed}
 use Rattle.attr_images.specs.Documents.{column_at, items_at, weighted}
 use Rattle.attr_images.specs.Values.{stored_value}
 use Rattle.attr_index.proofs.MapLemmas.{lookup-first_weights}
-use Rattle.attr_index.proofs.OfLemmas.{all_then}
 use Rattle.attr_index.specs.Changes.{first_weights, settled, IsBetween}
 use Rattle.attr_index.specs.Columns.{items_of}
 use Rattle.attr_index.specs.Index.{Index, list_of, weight_in}
@@ -80,8 +80,8 @@ all_weighed : (items : List Item) → AllByRecursion (λ (item : Item). IsSome (
 all_weighed [] = tt
 all_weighed (item ∷ items) = (
   weight_first item items,
-  all_then (λ (x : Item). IsSome (weight_in x.value items)) (λ (x : Item). IsSome (weight_in x.value (item ∷ items))) items
-      (λ x some. weight_at x.value item items (is_eq (value_cmp x.value item.value)) refl some) (all_weighed items),
+  AllByRecursion-weaker (λ (x : Item). IsSome (weight_in x.value items)) (λ (x : Item). IsSome (weight_in x.value (item ∷ items))) (λ x some. weight_at x.value item items (is_eq (value_cmp x.value item.value)) refl some)
+      items (all_weighed items),
 )
 
 -- the values that were added have documents
@@ -92,7 +92,7 @@ insert_some (Some weight) doc docs some = Rattle.attr_walks.proofs.KeyLemmas.ins
 pub items_listed : (start index : Index) (doc : ℕ) (added : Value → Option ℤ) (items : List Item) → ((value : Value) → added value ≡ weight_in value items)
     → IsBetween start doc added (λ v. None) index → AllByRecursion (λ (item : Item). 0 < length (list_of item.value index)) items
 items_listed start index doc added items are between =
-    all_then (λ (item : Item). IsSome (weight_in item.value items)) (λ (item : Item). 0 < length (list_of item.value index)) items
-    (λ item some. subst (λ docs. 0 < length docs) (sym (between.lists item.value))
+    AllByRecursion-weaker (λ (item : Item). IsSome (weight_in item.value items)) (λ (item : Item). 0 < length (list_of item.value index)) (λ item some. subst (λ docs. 0 < length docs) (sym (between.lists item.value))
     (insert_some (added item.value) doc (list_of item.value start) (ap is_some (are item.value) ∙ some)))
+    items
     (all_weighed items)

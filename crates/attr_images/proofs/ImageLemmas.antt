@@ -5,6 +5,8 @@ use Rattle.std.specs.Prelude.{slice_get, slice_index}
 use Rattle.std.specs.List.{AllByRecursion, AllZip}
 use Rattle.std.specs.List.Sorted.{IsStrictlySortedBy}
 use Rattle.std.specs.Map.{keys_of}
+use Rattle.list_facts.proofs.Options.{same_Some}
+use Rattle.list_facts.proofs.Each.{AllByRecursion-slice_get}
 use Rattle.image_base.specs.Records.{Records}
 use Rattle.tree_images.specs.Trees.{tree_pairs, root_level, root_least, IsNode, IsRootNode}
 use Rattle.attr_index.proofs.OfLemmas.{has_values, has_lists, is_index_of}
@@ -30,7 +32,7 @@ use Rattle.attr_types.specs.declared.kind.ValueType.{ValueType}
 use Rattle.attr_types.specs.declared.kind.ValueType.TheVariants as types
 
 -- ---- one attribute
-index_keys : (type : ValueType) (m : Records) (pairs : List (ℕ × ℕ))
+pub index_keys : (type : ValueType) (m : Records) (pairs : List (ℕ × ℕ))
     → keys_of (map (λ (p : ℕ × ℕ). (stored_value type m p.0, postings_at m (list_form p.1))) pairs) ≡ map (λ (p : ℕ × ℕ). stored_value type m p.0) pairs
 index_keys type m [] = refl
 index_keys type m (p ∷ pairs) = ap (λ vs. stored_value type m p.0 ∷ vs) (index_keys type m pairs)
@@ -119,10 +121,7 @@ attribute_from : (j : ℕ) (ts : List (Kind × ValueType)) (ws : List ℕ) (i k 
     → slice_get (attributes_from j ts ws) i ≡ Some (named k t ws)
 attribute_from j [] ws i k t is at = cc
 attribute_from j (first ∷ ts) ws zero k t is at =
-    ap (λ one. Some (named j one ws)) (some_is first t at) ∙ ap (λ n. Some (named n t ws)) (let same : j ≡ k = omega arith in same)
-  where
-    some_is : (a b : Kind × ValueType) → Some a ≡ Some b → a ≡ b
-    some_is a b e = cc
+    ap (λ one. Some (named j one ws)) (same_Some first t at) ∙ ap (λ n. Some (named n t ws)) (let same : j ≡ k = omega arith in same)
 attribute_from j (first ∷ ts) ws (suc i) k t is at = attribute_from (suc j) ts ws i k t (omega arith) at
 
 -- ---- its table
@@ -172,15 +171,6 @@ table_has_type fields m root few =
     subst (λ attributes. DocumentsHaveType fields (table_of_columns (columns_at m attributes))) (sym (attributes_are fields m root few))
     (columns_make_typed fields (columns_at m (attributes_from 0 (types_of fields) (root_words m root))) (columns_typed m 0 fields (root_words m root)))
 
--- ---- each of its fields
-same_some : {X : Type 0} (a b : X) → Some a ≡ Some b → a ≡ b
-same_some a b e = cc
-
-pub all_at : {X : Type 0} (P : X → Type 0) (xs : List X) (i : ℕ) (x : X) → AllByRecursion P xs → slice_get xs i ≡ Some x → P x
-all_at P [] i x all at = cc
-all_at P (y ∷ xs) zero x all at = subst P (same_some y x at) all.0
-all_at P (y ∷ xs) (suc i) x all at = all_at P xs i x all.1 at
-
 field_at : (fields : List Field) (i : ℕ) (field : Field) → slice_get fields i ≡ Some field → slice_get (types_of fields) i ≡ Some (field.kind, field.value)
 field_at fields i field at = slice_get-map (λ (f : Field). (f.kind, f.value)) fields i ∙ ap (option_map (λ (f : Field). (f.kind, f.value))) at
 
@@ -194,7 +184,7 @@ module _ (fields : List Field) (m : Records) (root : ℕ) (few : length fields �
       let a : AttributeTrees = named i t (root_words m root) in
       let there : slice_get attributes i ≡ Some a =
       ap (λ (list : List AttributeTrees). slice_get list i) (attributes_are fields m root few) ∙ attribute_from 0 (types_of fields) (root_words m root) i i t (omega arith) (field_at fields i field at) in
-      let attribute = all_at (λ (a : AttributeTrees). IsLawfulAttribute a.kind a.type m a.documents a.dictionary) attributes i a good.each there in
+      let attribute = AllByRecursion-slice_get (λ (a : AttributeTrees). IsLawfulAttribute a.kind a.type m a.documents a.dictionary) attributes i a good.each there in
       let column = table_has_columns (columns_at m attributes) i (column_at field.kind field.value m (documents_at m root i)) good.documents
       (slice_get-map (λ (a : AttributeTrees). column_at a.kind a.type m a.documents) attributes i ∙ ap (option_map (λ (a : AttributeTrees). column_at a.kind a.type m a.documents)) there) in
       record {

@@ -29,7 +29,7 @@ fits_width n (w ∷ widths) few = choose (nat_le n w) refl (fits_width n widths 
 fits_class : (n : ℕ) → n ≤ 1024 → n ≤ class_of n
 fits_class n few = fits_width n classes few
 
-length-filled : (ws : List ℕ) → length ws ≤ 1024 → length (filled ws) ≡ class_of (length ws)
+pub length-filled : (ws : List ℕ) → length ws ≤ 1024 → length (filled ws) ≡ class_of (length ws)
 length-filled ws few =
     let fits = fits_class (length ws) few in
     length-append ws (replicate (class_of (length ws) - length ws) 0)

@@ -5,6 +5,8 @@ use Rattle.std.specs.List.{AllByRecursion, AllZip, zip}
 use Rattle.std.specs.List.Sorted.{IsStrictlySortedBy}
 use Rattle.std.specs.Map.{keys_of}
 use Rattle.std.specs.Ordering.{nat_cmp}
+use Rattle.list_facts.proofs.Options.{same_Some}
+use Rattle.attr_index.proofs.ColumnLemmas.{keys-column}
 use Rattle.attr_images.specs.Tables.{table_of_columns, HaveSameDocuments}
 use Rattle.attr_index.specs.Columns.{Column, IsLawfulColumn, table_of_column, column_of}
 use Rattle.attr_types.specs.Lawful.{IsLawfulTable, IsDocNumber, IsLawfulDocument, IsLawfulItems, DocumentsHaveType}
@@ -66,16 +68,10 @@ of_next (e ∷ column) (row ∷ table) i same = ap₂ (λ (k : ℕ) es. (k, item
 pub table_has_columns : (columns : List Column) (i : ℕ) (column : Column) → HaveSameDocuments columns → slice_get columns i ≡ Some column
     → column_of i (table_of_columns columns) ≡ column
 table_has_columns [] i column same at = cc
-table_has_columns (first ∷ []) zero column same at = of_column first ∙ some_is first column at
-  where
-    some_is : (a b : Column) → Some a ≡ Some b → a ≡ b
-    some_is a b e = cc
+table_has_columns (first ∷ []) zero column same at = of_column first ∙ same_Some first column at
 table_has_columns (first ∷ []) (suc i) column same at = cc
 table_has_columns (first ∷ next ∷ rest) zero column same at =
-    of_first first (table_of_columns (next ∷ rest)) (table_keys next rest (same_rest first next rest same) ∙ same.0) ∙ some_is first column at
-  where
-    some_is : (a b : Column) → Some a ≡ Some b → a ≡ b
-    some_is a b e = cc
+    of_first first (table_of_columns (next ∷ rest)) (table_keys next rest (same_rest first next rest same) ∙ same.0) ∙ same_Some first column at
 table_has_columns (first ∷ next ∷ rest) (suc i) column same at =
     of_next first (table_of_columns (next ∷ rest)) i (table_keys next rest (same_rest first next rest same) ∙ same.0)
     ∙ table_has_columns (next ∷ rest) i column (same_rest first next rest same) at
@@ -210,11 +206,6 @@ columns_make_table [] table columns lawful some size each = absurd (omega arith)
 columns_make_table (field ∷ fields) table columns lawful some size each =
     columns_make (length fields) columns table size (document_sizes (field ∷ fields) (length fields) table refl lawful.documents) each
 
--- ---- columns of one table have the same documents
-keys_of_column : (i : ℕ) (table : Table) → keys_of (column_of i table) ≡ keys_of table
-keys_of_column i [] = refl
-keys_of_column i (row ∷ table) = ap (λ ks. row.0 ∷ ks) (keys_of_column i table)
-
 all_keys : (keys first : List ℕ) (list : List Column) → first ≡ keys → ((i : ℕ) (other : Column) → slice_get list i ≡ Some other → keys_of other ≡ keys)
     → AllByRecursion (λ other. keys_of other ≡ first) list
 all_keys keys first [] same each = tt
@@ -224,5 +215,5 @@ pub columns_have_same : (table : Table) (columns : List Column)
     → ((i : ℕ) (column : Column) → slice_get columns i ≡ Some column → column ≡ column_of i table) → HaveSameDocuments columns
 columns_have_same table [] each = tt
 columns_have_same table (first ∷ rest) each =
-    all_keys (keys_of table) (keys_of first) rest (ap keys_of (each 0 first refl) ∙ keys_of_column 0 table)
-    (λ i other at. ap keys_of (each (suc i) other at) ∙ keys_of_column (suc i) table)
+    all_keys (keys_of table) (keys_of first) rest (ap keys_of (each 0 first refl) ∙ keys-column 0 table)
+    (λ i other at. ap keys_of (each (suc i) other at) ∙ keys-column (suc i) table)

@@ -7,6 +7,7 @@ use Rattle.std.proofs.lemmas.List.{take-append-drop, get_or-drop, take-append-le
 use Rattle.std.proofs.lemmas.Nat.{be_bytes_8}
 use Rattle.std.specs.Int.{from_be_bytes, to_be_bytes, w64}
 use Rattle.std.specs.List.{flat_map}
+use Rattle.list_facts.proofs.Places.{get_or-take_each}
 use Rattle.attr_images.specs.Values.{packed_bytes, value_of, value_words}
 use Rattle.attr_images.specs.Words.{class_of, filled}
 use Rattle.attr_types.specs.declared.kind.ValueType.TheVariants as types
@@ -29,12 +30,6 @@ small-zeros [] (suc n) small zero = omega arith
 small-zeros [] (suc n) small (suc i) = small-zeros [] n small i
 small-zeros (b ∷ bytes) n small zero = small 0
 small-zeros (b ∷ bytes) n small (suc i) = small-zeros bytes n (λ j. small (suc j)) i
-
-small-take : (k : ℕ) (bytes : List ℕ) → ((i : ℕ) → get_or bytes i 0 < 256) → (i : ℕ) → get_or (take k bytes) i 0 < 256
-small-take zero bytes small i = omega arith
-small-take (suc k) [] small i = omega arith
-small-take (suc k) (b ∷ bytes) small zero = small 0
-small-take (suc k) (b ∷ bytes) small (suc i) = small-take k bytes (λ j. small (suc j)) i
 
 -- more of two lists than the first has
 take-more : (xs ys : List ℕ) (k n : ℕ) → k ≡ length xs + n → take k (xs ++ ys) ≡ xs ++ take n ys
@@ -68,7 +63,7 @@ unpacked_bytes (suc n) bytes zeros small fits =
     let fewer : length (drop 8 bytes) ≤ 8 * n = let size = length-drop 8 bytes in omega arith in
     let after : take (length bytes - 8) rest ≡ drop 8 bytes = ap (λ k. take k rest) (sym (length-drop 8 bytes)) ∙ unpacked_bytes n (drop 8 bytes) zeros later fewer in
     let chunk : to_be_bytes w64 (from_be_bytes w64 (eight bytes)) ≡ eight bytes =
-    be_bytes_8 (eight bytes) (from_be_bytes w64 (eight bytes)) (length-eight bytes) (small-take 8 (bytes ++ replicate 8 0) (small-zeros bytes 8 small)) refl in
+    be_bytes_8 (eight bytes) (from_be_bytes w64 (eight bytes)) (length-eight bytes) (get_or-take_each (λ b. b < 256) 0 (omega arith) 8 (bytes ++ replicate 8 0) (small-zeros bytes 8 small)) refl in
     ap (λ xs. take (length bytes) (xs ++ rest)) chunk ∙ joined bytes rest after
 
 pub text_reads : (bytes : List ℕ) → ((i : ℕ) → get_or bytes i 0 < 256) → value_of types.Text (filled (value_words (values.Text bytes))) ≡ values.Text bytes

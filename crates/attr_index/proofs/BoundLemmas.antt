@@ -10,6 +10,7 @@ use Rattle.std.specs.List.Sorted.{IsStrictlySortedBy}
 use Rattle.std.specs.Map.{keys_of, lookup}
 use Rattle.std.specs.Option.{is_some}
 use Rattle.std.specs.Ordering.{ordering_reverse}
+use Rattle.list_facts.proofs.Each.{AllByRecursion-weaker}
 use Rattle.attr_types.proofs.EntryLemmas.{all_keys-insert, all_keys-remove}
 use Rattle.attr_types.specs.Lawful.{IsDocNumber, IsLawfulItems}
 use Rattle.attr_types.specs.Value.{value_cmp, values_of}
@@ -20,7 +21,7 @@ use Rattle.attr_types.specs.declared.kind.Kind.TheVariants.{Single, Array, Weigh
 use Rattle.attr_types.specs.declared.value.Value.{Value}
 use Rattle.attr_index.specs.Columns.{Column, IsLawfulColumn, column_values, documents_with}
 use Rattle.attr_index.proofs.ListLemmas.{documents_with-part, list_of-sorted}
-use Rattle.attr_index.proofs.OfLemmas.{has_some, any-table, any-values, any-append, all_found, all_then, all_both}
+use Rattle.attr_index.proofs.OfLemmas.{has_some, any-table, any-values, any-append, all_found, all_both}
 use Rattle.attr_index.proofs.PartLemmas.{all_keys-part}
 use Rattle.attr_index.proofs.StayLemmas.{there_then, some-remove}
 use Rattle.attr_index.specs.Index.{Index, IsIndexOf, list_of, weight_in}
@@ -72,13 +73,13 @@ few_between low high (k ∷ ks) some up above below =
     let first : k ≤ high = below.0 in
     let least : low ≤ k = above.0 in
     let rest : length ks + suc k ≤ suc high = few_between (suc k) high ks (omega arith) up.1
-    (all_then (λ y. nat_cmp k y ≡ Less) (λ y. suc k ≤ y) ks (λ y h. let lt : k < y = ranked k y Less (sym h) in omega arith) up.0) below.1 in
+    (AllByRecursion-weaker (λ y. nat_cmp k y ≡ Less) (λ y. suc k ≤ y) (λ y h. let lt : k < y = ranked k y Less (sym h) in omega arith) ks up.0) below.1 in
     omega arith
 
 pub documents_few : (ks : List ℕ) → IsStrictlySortedBy nat_cmp ks → AllByRecursion IsDocNumber ks → length ks ≤ 1048575
 documents_few ks up all =
     let few : length ks + 1 ≤ suc 1048575 = few_between 1 1048575 ks (omega arith) up
-    (all_then IsDocNumber (λ k. 1 ≤ k) ks (λ k is. is.0) all) (all_then IsDocNumber (λ k. k ≤ 1048575) ks (λ k is. is.1) all) in
+    (AllByRecursion-weaker IsDocNumber (λ k. 1 ≤ k) (λ k is. is.0) ks all) (AllByRecursion-weaker IsDocNumber (λ k. k ≤ 1048575) (λ k is. is.1) ks all) in
     omega arith
 
 -- ---- a list in each state
@@ -137,8 +138,8 @@ pub values_few : (table : Column) (start : Index) (doc : ℕ) (added removed : L
 values_few table start doc added removed index of p =
     let few : length (keys_of index) ≤ length (column_values table ++ values_of added) =
     no_more value_cmp_total (keys_of index) (column_values table ++ values_of added) p.formed.ascends (all_keys index
-    (all_then (λ e. lookup (is_at (value_cmp e.0)) index ≡ Some e.1) (λ e. list_any (is_at (value_cmp e.0)) (column_values table ++ values_of added) ≡ true) index
-    (λ e found. value_from table start doc added removed index e.0 of p (ap is_some found)) (all_found value_cmp_total index p.formed.ascends))) in
+    (AllByRecursion-weaker (λ e. lookup (is_at (value_cmp e.0)) index ≡ Some e.1) (λ e. list_any (is_at (value_cmp e.0)) (column_values table ++ values_of added) ≡ true) (λ e found. value_from table start doc added removed index e.0 of p (ap is_some found))
+    index (all_found value_cmp_total index p.formed.ascends))) in
     let count : length (keys_of index) ≡ length index = length-map index (λ e. e.0) in
     let both : length (column_values table ++ values_of added) ≡ length (column_values table) + length (values_of added) = length-append (column_values table) (values_of added) in
     let more : length (values_of added) ≡ length added = length-map added (λ item. item.value) in

@@ -22,7 +22,7 @@ use Rattle.attr_types.specs.declared.op.Op.TheVariants.{Put, Update, Remove}
 use Rattle.attr_index.specs.Columns.{IsLawfulColumn, column_of, with_change}
 
 -- ---- the column is lawful
-keys-column : (i : ℕ) (table : Table) → keys_of (column_of i table) ≡ keys_of table
+pub keys-column : (i : ℕ) (table : Table) → keys_of (column_of i table) ≡ keys_of table
 keys-column i [] = refl
 keys-column i (e ∷ es) = ap (λ ks. e.0 ∷ ks) (keys-column i es)
 
@@ -66,7 +66,7 @@ pub remove_at : (i : ℕ) (test : ℕ → Bool) (e : ℕ × Document) (es : Tabl
 remove_at i test e es true is rest = cc
 remove_at i test e es false is rest = cc
 
-column-remove : (i : ℕ) (test : ℕ → Bool) (table : Table)
+pub column-remove : (i : ℕ) (test : ℕ → Bool) (table : Table)
     → column_of i (remove_entry test table) ≡ remove_entry test (column_of i table)
 column-remove i test [] = refl
 column-remove i test (e ∷ es) = remove_at i test e es (test e.0) refl (column-remove i test es)

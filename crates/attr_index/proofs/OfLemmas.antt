@@ -10,6 +10,7 @@ use Rattle.std.specs.List.Sorted.{IsStrictlySortedBy}
 use Rattle.std.specs.Map.{keys_of, lookup}
 use Rattle.std.specs.Option.{unwrap_or, is_some}
 use Rattle.std.specs.Ordering.{ordering_reverse}
+use Rattle.list_facts.proofs.Each.{AllByRecursion-weaker}
 use Rattle.attr_types.proofs.EntryLemmas.{all-lookup, below_all}
 use Rattle.attr_types.specs.Value.{value_cmp, values_of}
 use Rattle.attr_types.specs.ProofsForOrder.{value_cmp_total, value_cmp_exact}
@@ -62,7 +63,7 @@ any-table value (e ∷ table) =
     ∙ ap (λ b. is_some (weight_in value e.1) || b) (any-table value table)
     ∙ any-found e.0 (find (λ item. is_eq (value_cmp value item.value)) e.1) (documents_with value table)
 
-any-index : (value : Value) (index : Index) → AllByRecursion (λ e. 0 < length e.1) index
+pub any-index : (value : Value) (index : Index) → AllByRecursion (λ e. 0 < length e.1) index
     → list_any (is_at (value_cmp value)) (keys_of index) ≡ has_some (list_of value index)
 any-index value [] filled = refl
 any-index value (e ∷ index) filled =
@@ -99,18 +100,14 @@ module _ {K X : Type 0} {R : K → K → Ordering} (o : IsTotalOrder R) where
     found_later e es es up.0 (all_found es up.1),
   )
 
-pub all_then : {A : Type 0} (P Q : A → Type 0) (xs : List A) → ((x : A) → P x → Q x) → AllByRecursion P xs → AllByRecursion Q xs
-all_then P Q [] each all = tt
-all_then P Q (x ∷ xs) each all = (each x all.0, all_then P Q xs each all.1)
-
 pub all_both : {A : Type 0} (P Q S : A → Type 0) (xs : List A) → ((x : A) → P x → Q x → S x) → AllByRecursion P xs → AllByRecursion Q xs → AllByRecursion S xs
 all_both P Q S [] each all also = tt
 all_both P Q S (x ∷ xs) each all also = (each x all.0 also.0, all_both P Q S xs each all.1 also.1)
 
 pub has_lists : (table : Column) (index : Index) → IsIndexOf table index → HasLists table index
 has_lists table index of =
-    all_then (λ e. lookup (is_at (value_cmp e.0)) index ≡ Some e.1) (λ e. e.1 ≡ documents_with e.0 table) index
-    (λ e found. sym (ap (λ (o : Option (List (ℕ × ℤ))). unwrap_or o []) found) ∙ of.lists e.0)
+    AllByRecursion-weaker (λ e. lookup (is_at (value_cmp e.0)) index ≡ Some e.1) (λ e. e.1 ≡ documents_with e.0 table) (λ e found. sym (ap (λ (o : Option (List (ℕ × ℤ))). unwrap_or o []) found) ∙ of.lists e.0)
+    index
     (all_found value_cmp_total index of.formed.ascends)
 
 -- ---- to an index of a table
@@ -155,8 +152,8 @@ is_index_of table index ordered up values lists = record {
         (λ e found is. length-has_some e.1 (ap has_some is ∙ sym (any-table e.0 table)
         ∙ list_any-from_Contains (eq_by_cmp_equiv value_cmp_total) e.0 (column_values table) ((values e.0).0 (key-there e.0 index e.1 found))))
         (all_found value_cmp_total index up) lists;
-    lists_ascend = all_then (λ e. e.1 ≡ documents_with e.0 table) (λ e. IsStrictlySortedBy nat_cmp (keys_of e.1)) index
-        (λ e is. subst (λ docs. IsStrictlySortedBy nat_cmp (keys_of docs)) (sym is) (documents_with-sorted table e.0 ordered)) lists;
+    lists_ascend = AllByRecursion-weaker (λ e. e.1 ≡ documents_with e.0 table) (λ e. IsStrictlySortedBy nat_cmp (keys_of e.1)) (λ e is. subst (λ docs. IsStrictlySortedBy nat_cmp (keys_of docs)) (sym is) (documents_with-sorted table e.0 ordered))
+        index lists;
   };
   lists = λ value. told value (lookup (is_at (value_cmp value)) index) refl;
 }
@@ -177,7 +174,7 @@ no_documents value table none there =
     cc
 
 -- ---- one index alone
-lookup_above : {K X : Type 0} (R : K → K → Ordering) (k : K) (es : List (K × X)) → AllByRecursion (λ y. R k y ≡ Less) (keys_of es)
+pub lookup_above : {K X : Type 0} (R : K → K → Ordering) (k : K) (es : List (K × X)) → AllByRecursion (λ y. R k y ≡ Less) (keys_of es)
     → lookup (is_at (R k)) es ≡ None
 lookup_above R k [] above = refl
 lookup_above R k (e ∷ es) above =

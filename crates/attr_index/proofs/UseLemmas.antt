@@ -9,6 +9,7 @@ use Rattle.std.specs.List.Sorted.{IsStrictlySortedBy}
 use Rattle.std.specs.Map.{keys_of, lookup, remove_entry}
 use Rattle.std.specs.Option.{unwrap_or}
 use Rattle.std.specs.Ordering.{match_ordering}
+use Rattle.attr_index.proofs.OfLemmas.{lookup_above}
 use Rattle.attr_types.proofs.EntryLemmas.{below_all, lookup-insert_here, lookup-insert_other, lookup-remove}
 use Rattle.attr_types.specs.Value.{value_cmp}
 use Rattle.attr_types.specs.ProofsForOrder.{value_cmp_total}
@@ -22,12 +23,6 @@ use Rattle.attr_index.specs.Index.{Index, IsFormed, IsIndexOf, list_of, with_lis
 use Rattle.attr_index.specs.Changes.{HasItems, settled, IsPartway}
 
 -- ---- keys
-
-lookup_above : {K X : Type 0} (R : K → K → Ordering) (k : K) (es : List (K × X)) → AllByRecursion (λ y. R k y ≡ Less) (keys_of es)
-    → lookup (is_at (R k)) es ≡ None
-lookup_above R k [] above = refl
-lookup_above R k (e ∷ es) above =
-    ap (λ r. cond (is_eq r) (Some e.1) (lookup (is_at (R k)) es)) above.0 ∙ lookup_above R k es above.1
 
 module _ {K X : Type 0} {R : K → K → Ordering} (o : IsTotalOrder R) where
   keys_at : (r : Ordering) (k : K) (x : X) (e : K × X) (es : List (K × X)) → R k e.0 ≡ r

@@ -11,6 +11,7 @@ use Rattle.std.proofs.lemmas.List.Elements.{filter-append, filter_map-append, re
 use Rattle.std.proofs.lemmas.List.Sorted.{IsNonDecreasingBy-drop}
 use Rattle.std.specs.List.{AllByRecursion, flat_map, filter_map}
 use Rattle.std.specs.List.Sorted.{IsNonDecreasing}
+use Rattle.list_facts.proofs.Each.{AllByRecursion-weaker}
 use Rattle.attr_types.specs.declared.op.Op.{Op}
 use Rattle.attr_types.specs.Table.{IsCommitPoint}
 use Rattle.attr_report.specs.Run.{Run, answers_of}
@@ -301,10 +302,6 @@ numbered-rises least round (n ∷ counts) all rises = (
       (IsNonDecreasingBy-drop (λ m. m) 1 (n ∷ counts) rises),
 )
 
-weaker : {A : Type 0} (P Q : A → Type 0) → ((x : A) → P x → Q x) → (xs : List A) → AllByRecursion P xs → AllByRecursion Q xs
-weaker P Q follows [] all = tt
-weaker P Q follows (x ∷ xs) all = (follows x all.0, weaker P Q follows xs all.1)
-
 counts_gathered : (batch total loaded : ℕ) (counts : List ℕ)
     → All (λ n. IsCommitPoint batch total n × (n ≤ loaded)) counts → IsNonDecreasing counts
     → flat_map (λ p. at_point p (numbered_from 1 counts)) (filter (is_commit_point batch total) (numbers_to loaded))
@@ -312,11 +309,11 @@ counts_gathered : (batch total loaded : ℕ) (counts : List ℕ)
 counts_gathered batch total loaded counts committed rises =
     let all = recursion_from_All (λ n. IsCommitPoint batch total n × (n ≤ loaded)) counts committed in
     gathered (is_commit_point batch total) loaded (numbered_from 1 counts)
-    (numbered-rises 0 1 counts (weaker _ _ (λ n h. omega arith) counts all) rises)
+    (numbered-rises 0 1 counts (AllByRecursion-weaker _ _ (λ n h. omega arith) counts all) rises)
     (numbered-all (λ n. is_commit_point batch total n ≡ true) 1 counts
-    (weaker _ _ (λ n h. is_point-true batch total n h.0) counts all))
+    (AllByRecursion-weaker _ _ (λ n h. is_point-true batch total n h.0) counts all))
     ∙ all_up_to loaded (numbered_from 1 counts)
-    (numbered-all (λ n. n ≤ loaded) 1 counts (weaker _ _ (λ n h. h.1) counts all))
+    (numbered-all (λ n. n ≤ loaded) 1 counts (AllByRecursion-weaker _ _ (λ n h. h.1) counts all))
 
 -- ---- the whole
 

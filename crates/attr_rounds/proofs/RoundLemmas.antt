@@ -5,6 +5,7 @@ use Rattle.std.specs.List.{AllZip}
 use Rattle.std.specs.List.Sorted.{IsNonDecreasing}
 use Rattle.std.proofs.lemmas.List.{length_push, map-append, reverse-append, get_or_push, get_or_append_left}
 use Rattle.std.proofs.lemmas.List.Sorted.{IsNonDecreasingBy-push}
+use Rattle.list_facts.proofs.Pairs.{AllZip-push}
 use Rattle.image_base.specs.declared.Image.{Image}
 use Rattle.image_base.specs.Records.{Records}
 use Rattle.gen_core.specs.declared.views.Sizes.{Sizes}
@@ -15,12 +16,6 @@ use Rattle.image_base.specs.Images.{words_at}
 use Rattle.word_arena.specs.Ruled.{seen_image, seen_number, IsLater}
 use Rattle.attr_rounds.specs.declared.rounds.Round.{Round}
 use Rattle.attr_rounds.specs.Rounds.{seen_last, IsOfSeen, MakesRounds, MakesRound}
-
-all_zip_push : {A B : Type 0} (R : A → B → Type 0) (xs : List A) (ys : List B) (x : A) (y : B) → AllZip R xs ys → R x y → AllZip R (xs ++ x ∷ []) (ys ++ y ∷ [])
-all_zip_push R [] [] x y all r = (r, tt)
-all_zip_push R [] (b ∷ ys) x y all r = absurd all
-all_zip_push R (a ∷ xs) [] x y all r = absurd all
-all_zip_push R (a ∷ xs) (b ∷ ys) x y all r = (all.0, all_zip_push R xs ys x y all.1 r)
 
 long : {X : Type 0} (xs : List X) (x : X) → length (xs ++ x ∷ []) ≡ suc (length xs)
 long xs x = let l = length_push xs x in omega (arith, l)
@@ -100,7 +95,7 @@ module _ {A : Type 0} (operations : ℕ → Records → ℕ → ℕ) (answers : 
     all_seen =
         let P : Sizes → List (ℕ × Image) → Type 0 = λ z seen. AllZip (IsOfSeen operations answers lawful z.shape) (rounds ++ round ∷ []) seen in
         let here : P m.sizes (seen_last (length rounds) m.saw ++ (round.commit, next.image) ∷ []) =
-        all_zip_push (IsOfSeen operations answers lawful m.sizes.shape) rounds (seen_last (length rounds) m.saw) round (round.commit, next.image) before.are_seen.each next.is in
+        AllZip-push (IsOfSeen operations answers lawful m.sizes.shape) rounds (seen_last (length rounds) m.saw) round (round.commit, next.image) before.are_seen.each next.is in
         subst (λ n. P t.sizes (seen_last n t.saw)) (sym (long rounds round))
         (subst (λ saw. P t.sizes (seen_last (suc (length rounds)) saw)) (sym next.saw)
         (subst (P t.sizes) (sym (pushed (length rounds) (round.commit, next.image) m.saw))

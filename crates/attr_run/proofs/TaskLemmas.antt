@@ -1,11 +1,9 @@
 -- What words and a feed's bytes say to do, step by step.
 use Rattle.std.proofs.Common.{◌≡◌, sym, ap, refl, subst, ℕ, ◌≤◌, ◌<◌, nat_lt, true}
-use Rattle.std.proofs.Common.{false, List, [], length, Option, Some, None}
+use Rattle.std.proofs.Common.{false, List, length, Option, Some, None}
 use Rattle.std.proofs.Common.{option_map, Result, Ok, Err, IsOk, IfOk, IfErr, IfSome, IsOkAnd, arith}
-use Rattle.std.proofs.KnownBytes.{Consumes-nil}
 use Rattle.std.proofs.lemmas.Bool.Decides.{nat_tests}
 use Rattle.clap.specs.Walk.{Text}
-use Rattle.attr_io.specs.Bytes.{ReadsPieces}
 use Rattle.attr_io.specs.Faults.{Rose}
 use Rattle.attr_types.specs.declared.field.Field.{Field}
 use Rattle.attr_types.specs.declared.op.Op.{Op}
@@ -271,14 +269,3 @@ unended-early words left before now stop status progress text full cause early e
     status full (subst (IsStopped words left before now) early.answers cause) ends
 
 -- ---- a source that is not read
-
-pub read_nothing : (limit piece : ℕ) (left : Option (List ℕ)) (reads : ℕ)
-    → ReadsPieces limit piece left left reads reads
-read_nothing limit piece left reads = record {
-  front = [];
-  last = [];
-  taken = Consumes-nil left;
-  within = omega arith;
-  short = omega arith;
-  each = omega arith;
-}

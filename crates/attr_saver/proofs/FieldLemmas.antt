@@ -12,6 +12,7 @@ use Rattle.std.proofs.lemmas.List.{take_at, drop_at, take-append-drop, length-ap
 use Rattle.std.proofs.lemmas.Nat.{be_bytes_2, be_bytes_4, be_bytes_8, from_be_bytes-to_be_bytes_2, from_be_bytes-to_be_bytes_4, from_be_bytes-to_be_bytes_8}
 use Rattle.std.proofs.lemmas.Slice.Eq.{starts_is}
 use Rattle.std.proofs.lemmas.Str.{is_utf8-from_IsUtf8, IsUtf8-from_is_utf8}
+use Rattle.list_facts.proofs.Options.{same_Some}
 use Rattle.attr_types.specs.Lawful.{last_doc}
 use Rattle.attr_types.specs.Value.{type_of as value_type_of}
 use Rattle.attr_types.specs.declared.kind.Kind.{Kind}
@@ -146,9 +147,6 @@ magic_takes bytes rest fits e =
 pub magic_again : (rest : List ℕ) → read_magic (magic ++ rest) ≡ Ok rest
 magic_again rest = refl
 
-some_is : {A : Type 0} (x y : A) → Some x ≡ Some y → x ≡ y
-some_is x y e = cc
-
 or_bad_ok : {A : Type 0} (bytes : List ℕ) (o : Option A) (rest : List ℕ) (x : A × List ℕ) → or_bad bytes o rest ≡ Ok x → (o ≡ Some x.0) × (rest ≡ x.1)
 or_bad_ok bytes (Some a) rest x e =
     let is : (a, rest) ≡ x = ok_is (a, rest) x e in
@@ -167,9 +165,9 @@ byte_takes of byte_of back (byte ∷ rest) x fits e =
     }
 
 kind_byte_of : (byte : ℕ) (kind : Kind) → kind_of byte ≡ Some kind → byte ≡ kind_byte kind
-kind_byte_of zero kind e = ap kind_byte (some_is Single kind e)
-kind_byte_of (suc zero) kind e = ap kind_byte (some_is Array kind e)
-kind_byte_of (suc (suc zero)) kind e = ap kind_byte (some_is WeightedSet kind e)
+kind_byte_of zero kind e = ap kind_byte (same_Some Single kind e)
+kind_byte_of (suc zero) kind e = ap kind_byte (same_Some Array kind e)
+kind_byte_of (suc (suc zero)) kind e = ap kind_byte (same_Some WeightedSet kind e)
 kind_byte_of (suc (suc (suc byte))) kind e = absurd cc
 
 pub kind_takes : (bytes : List ℕ) (x : Kind × List ℕ) → AreBytes bytes → read_kind bytes ≡ Ok x → Takes bytes (kind_byte x.0 ∷ []) x.1
@@ -183,8 +181,8 @@ kind_again Array rest = rw (byte_is 1 rest) refl
 kind_again WeightedSet rest = rw (byte_is 2 rest) refl
 
 type_byte_of : (byte : ℕ) (type : ValueType) → type_by_byte byte ≡ Some type → byte ≡ type_byte type
-type_byte_of zero type e = ap type_byte (some_is types.Long type e)
-type_byte_of (suc zero) type e = ap type_byte (some_is types.Text type e)
+type_byte_of zero type e = ap type_byte (same_Some types.Long type e)
+type_byte_of (suc zero) type e = ap type_byte (same_Some types.Text type e)
 type_byte_of (suc (suc byte)) type e = absurd cc
 
 pub type_takes : (bytes : List ℕ) (x : ValueType × List ℕ) → AreBytes bytes → read_type bytes ≡ Ok x → Takes bytes (type_byte x.0 ∷ []) x.1

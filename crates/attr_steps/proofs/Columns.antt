@@ -1,13 +1,12 @@
 -- The table that trees read as, column by column, and one document of it changed.
-use Rattle.std.proofs.Common.{◌≡◌, ℕ, suc, ◌<◌, ◌≤◌, Bool, List, [], ◌∷◌, length, nat_cmp, Option, Some, None, option_map, refl, sym, ap, ◌∙◌, arith}
+use Rattle.std.proofs.Common.{◌≡◌, ℕ, suc, ◌<◌, ◌≤◌, List, [], ◌∷◌, length, nat_cmp, Option, Some, None, option_map, refl, sym, ap, ◌∙◌, arith}
 use Rattle.std.specs.Prelude.{slice_get}
 use Rattle.std.specs.BTreeMap.{is_at}
 use Rattle.std.specs.List.{AllByRecursion, AllZip}
-use Rattle.std.specs.Map.{remove_entry}
 use Rattle.std.specs.Option.{IfSome}
 use Rattle.image_base.specs.Records.{Records, Among, SameAt}
 use Rattle.tree_images.specs.Trees.{tree_pairs}
-use Rattle.attr_index.proofs.ColumnLemmas.{operation_changes, remove_at}
+use Rattle.attr_index.proofs.ColumnLemmas.{operation_changes, column-remove}
 use Rattle.attr_index.specs.Columns.{Column, IsLawfulColumn, column_of, with_change}
 use Rattle.attr_images.proofs.TableLemmas.{IsTyped, table_has_columns, columns_make_lawful, columns_make_typed, columns_make_table, columns_have_same}
 use Rattle.attr_images.proofs.ImageLemmas.{pairs_typed}
@@ -36,14 +35,9 @@ pub record FieldLaws : Type 0 where
   pub lawful : (a : AttributeTrees) (m : Records) → IsFieldAt m a → IsLawfulAttribute a.kind a.type m a.documents a.dictionary
   pub keys : (a : AttributeTrees) (m : Records) (r : ℕ) → IsFieldAt m a → IsKey m a.dictionary r → Among r ((part_of a).reach m)
 
--- ---- a document of a table changed, in one column
-column_remove : (i : ℕ) (test : ℕ → Bool) (table : Table) → column_of i (remove_entry test table) ≡ remove_entry test (column_of i table)
-column_remove i test [] = refl
-column_remove i test (e ∷ es) = remove_at i test e es (test e.0) refl (column_remove i test es)
-
 pub column_with : (fields : List Field) (table : Table) (doc i : ℕ) (document : Option Document) → IsLawfulTable fields table
     → column_of i (table_with table doc document) ≡ with_change (column_of i table) doc (option_map (λ d. items_in d i) document)
-column_with fields table doc i None lawful = column_remove i (is_at (nat_cmp doc)) table
+column_with fields table doc i None lawful = column-remove i (is_at (nat_cmp doc)) table
 column_with fields table doc i (Some document) lawful =
     operation_changes fields table (with_document table doc document) (Put doc document) i lawful refl
     ∙ ap (λ found. with_change (column_of i table) doc (option_map (λ d. items_in d i) found)) (put_is_there table doc document)

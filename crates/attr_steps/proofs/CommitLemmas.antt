@@ -1,6 +1,7 @@
 -- What a commit of attributes asks for, and what it makes of them.
 use Rattle.std.proofs.Common.{◌≡◌, ℕ, ◌+◌, ◌<◌, ◌≤◌, ◌^◌, Bool, List, [], ◌∷◌, length, true, false, Option, None, Some, true≢false, refl, sym, ap, subst, ◌∙◌, arith, inl, inr}
 use Rattle.std.specs.List.{AllByRecursion}
+use Rattle.image_base.proofs.Among.{SameAt-then}
 use Rattle.entry_ref.specs.References.{buffer_of}
 use Rattle.image_base.specs.Images.{image_of, words_at}
 use Rattle.image_base.specs.Records.{Records, Among, SameAt}
@@ -62,15 +63,10 @@ lawful_each laws m (a ∷ trees) each = (laws.lawful a m each.0, lawful_each law
 lawful_trees : (laws : FieldLaws) (m : Records) (fields : List Field) (trees : List AttributeTrees) → AreFields m fields trees → AreLawfulAttributes m trees
 lawful_trees laws m fields trees are = record { each = lawful_each laws m trees are.each; documents = are.documents }
 
--- records that stay twice
-same_then : (m k n : Records) (refs : List ℕ) → SameAt refs m k → SameAt refs k n → SameAt refs m n
-same_then m k n [] one two = tt
-same_then m k n (r ∷ refs) one two = (two.0 ∙ one.0, same_then m k n refs one.1 two.1)
-
 stay_then : (m k n : Records) (parts : List Part) → AllStay parts m k → AllStay parts k n → AllStay parts m n
 stay_then m k n [] one two = tt
 stay_then m k n (part ∷ parts) one two =
-    (same_then m k n (part.reach m) one.0 (subst (λ (refs : List ℕ). SameAt refs k n) (part.stays m k one.0) two.0), stay_then m k n parts one.1 two.1)
+    (SameAt-then m k n (part.reach m) one.0 (subst (λ (refs : List ℕ). SameAt refs k n) (part.stays m k one.0) two.0), stay_then m k n parts one.1 two.1)
 
 -- the root record is owned
 pub before_owns : {H : Type 0} (bits : ℕ) (ledger : Ledger H) (m : Records) (fields : List Field) (trees : List AttributeTrees) (root : ℕ)

@@ -2,13 +2,14 @@
 use Rattle.std.proofs.Common.{◌≡◌, ℕ, zero, suc, ◌+◌, ◌<◌, ◌≤◌, Bool, true, false, not, ◌&&◌, Option, None, Some, ne_eqb, List, [], ◌∷◌, refl, sym, ap, subst, ◌∙◌, arith, inl, inr, ◌⊎◌, true≢false}
 use Rattle.std.proofs.lemmas.Bool.{cases_Bool, cases_eq, eq-eqb}
 use Rattle.std.specs.List.{AllByRecursion}
+use Rattle.image_base.proofs.Among.{Among-append, SameAt-among}
 use Rattle.value_index.proofs.KeyLemmas.{among_left, among_right}
 use Rattle.list_facts.specs.Counting.{one_if}
 use Rattle.entry_ref.specs.References.{buffer_of}
 use Rattle.image_base.specs.Images.{image_of, words_at}
 use Rattle.image_base.specs.Records.{Records, AllThere, Among}
 use Rattle.image_base.specs.declared.Image.{Image}
-use Rattle.image_base.proofs.Pairs.{pairs-same}
+use Rattle.image_base.proofs.Pairs.{pairs-same, same-from}
 use Rattle.store_api.specs.Calls.{IsWhole, StoresCommit}
 use Rattle.store_api.specs.Ledgers.{Ledger, is_in, is_this}
 use Rattle.store_api.specs.Parts.{Part, AllStay, Turns, count_in, entries, times, uses}
@@ -22,7 +23,6 @@ use Rattle.attr_images.specs.Attributes.{trees_reach}
 use Rattle.attr_images.specs.Tables.{AttributeTrees, attributes_reach}
 use Rattle.attr_documents.specs.Documents.{documents_refer}
 use Rattle.attr_field.specs.Laws.{FieldReaches}
-use Rattle.attr_field.proofs.RefLemmas.{same_among, same_each, among_either}
 use Rattle.attr_steps.specs.Fields.{AllReferBeside, IsFieldAt, OwnsOutside, StillRefer, part_of, parts_of}
 use Rattle.attr_steps.proofs.Columns.{FieldLaws}
 use Rattle.attr_steps.proofs.Referring.{AreSame, key_owned}
@@ -50,7 +50,7 @@ module _ (reaches : FieldReaches) (m : Records) (r : ℕ) where
   pub reached_used : (laws : FieldLaws) {H : Type 0} (ledger : Ledger H) (parts : List Part) (trees : List AttributeTrees) → AllByRecursion (IsFieldAt m) trees
       → AllReferBeside ledger m trees parts → Among r (attributes_reach m trees) → (0 < count_in r m (parts_of trees)) ⊎ (count_in r m parts < uses ledger r)
   reached_used laws ledger parts [] each refer among = absurd among
-  reached_used laws ledger parts (a ∷ trees) each refer among = elim (among_either r (trees_reach a.kind m a.documents a.dictionary) (attributes_reach m trees) among) [
+  reached_used laws ledger parts (a ∷ trees) each refer among = elim (Among-append r (trees_reach a.kind m a.documents a.dictionary) (attributes_reach m trees) among) [
     | inl here ↦ elim ((reaches a.kind m a.documents a.dictionary r).0 here) [
       | inl own ↦ (let some = among-times r ((part_of a).reach m) own in inl (omega arith))
       | inr refers ↦ elim (refer.0.each r refers) [
@@ -69,8 +69,8 @@ pub reached_same : (laws : FieldLaws) (reaches : FieldReaches) (m n : Records) (
     → ((r : ℕ) → Among r (attributes_reach m trees) → n r ≡ m r) → AreSame m n trees
 reached_same laws reaches m n [] each same = tt
 reached_same laws reaches m n (a ∷ trees) each same = (
-  laws.stays a m n (same_each m n ((part_of a).reach m) (λ r own. same r (one_reached reaches m r a trees (inl own))))
-      (same_each m n (documents_refer a.kind m a.documents) (λ r refers. same r (one_reached reaches m r a trees (inr refers)))) each.0,
+  laws.stays a m n (same-from ((part_of a).reach m) m n (λ r own. same r (one_reached reaches m r a trees (inl own))))
+      (same-from (documents_refer a.kind m a.documents) m n (λ r refers. same r (one_reached reaches m r a trees (inr refers)))) each.0,
   reached_same laws reaches m n trees each.1 (λ r there. same r (among_right r (trees_reach a.kind m a.documents a.dictionary) (attributes_reach m trees) there)),
 )
 
@@ -92,7 +92,7 @@ reached_moved reaches old new m n (a ∷ trees) p q same refer free = (
 pub reach_same : (reaches : FieldReaches) (m n : Records) (trees : List AttributeTrees) → AreSame m n trees → AllStay (parts_of trees) m n → (r : ℕ)
     → Among r (attributes_reach n trees) → Among r (attributes_reach m trees)
 reach_same reaches m n [] same stay r among = absurd among
-reach_same reaches m n (a ∷ trees) same stay r among = elim (among_either r (trees_reach a.kind n a.documents a.dictionary) (attributes_reach n trees) among) [
+reach_same reaches m n (a ∷ trees) same stay r among = elim (Among-append r (trees_reach a.kind n a.documents a.dictionary) (attributes_reach n trees) among) [
   | inl here ↦ elim ((reaches a.kind n a.documents a.dictionary r).0 here) [
     | inl own ↦ one_reached reaches m r a trees (inl (subst (Among r) ((part_of a).stays m n stay.0) own))
     | inr refers ↦ one_reached reaches m r a trees (inr (subst (Among r) same.0.refers refers))
@@ -170,7 +170,7 @@ module _ {H : Type 0} (bits : ℕ) (old : Ledger H) (m : Records) (refs : List �
     committed = image_of refs m root
 
     pub reached_record : (r : ℕ) → Among r refs → words_at (image_of refs m root) r ≡ m r
-    reached_record r among = same_among m (words_at committed) refs (pairs-same refs m) r among
+    reached_record r among = SameAt-among m (words_at committed) refs (pairs-same refs m) r among
 
     pub reached_stay : AllStay parts m (words_at (image_of refs m root))
     reached_stay = all_stay m (words_at committed) parts (λ r some. reached_record r (owned r some))

@@ -4,6 +4,8 @@ use Rattle.std.specs.Prelude.{slice_get, IsSome, unwrap_or}
 use Rattle.std.specs.BTreeMap.{is_at}
 use Rattle.std.specs.Map.{lookup}
 use Rattle.std.specs.Option.{IfSome, IfNone}
+use Rattle.list_facts.proofs.Options.{same_Some}
+use Rattle.list_facts.proofs.Each.{AllByRecursion-slice_get}
 use Rattle.image_base.specs.Records.{Records}
 use Rattle.store_api.specs.Ledgers.{Ledger}
 use Rattle.store_api.specs.Parts.{Owns}
@@ -18,7 +20,6 @@ use Rattle.attr_types.specs.Value.{Document}
 use Rattle.attr_types.specs.declared.field.Field.{Field}
 use Rattle.attr_types.specs.declared.items.Item.{Item}
 use Rattle.attr_index.specs.Columns.{Column, column_of, items_of as items_had, with_change}
-use Rattle.attr_images.proofs.ImageLemmas.{all_at}
 use Rattle.attr_images.proofs.TableLemmas.{document_size}
 use Rattle.attr_images.specs.Documents.{column_at}
 use Rattle.attr_field.specs.Changes.{MakesField}
@@ -31,7 +32,7 @@ use Rattle.attr_steps.specs.Fields.{FitsFields, IsFieldAt, column_in, part_of, p
 use Rattle.attr_steps.specs.Counts.{items_if_there}
 use Rattle.attr_steps.specs.Views.{table_at}
 use Rattle.attr_steps.specs.Widths.{IsChangedWidth}
-use Rattle.attr_steps.proofs.TreeLists.{some_is, tree_get, tree_set}
+use Rattle.attr_steps.proofs.TreeLists.{tree_get, tree_set}
 use Rattle.attr_steps.proofs.PartLists.{count_at}
 use Rattle.attr_steps.proofs.Columns.{FieldLaws, column_with}
 use Rattle.attr_steps.proofs.Referring.{RefersAt}
@@ -70,7 +71,7 @@ items_fit_at : (fields : List Field) (d : Document) (i : ℕ) (field : Field) �
 items_fit_at [] d i field lawful typed at = cc
 items_fit_at (f ∷ fields) [] i field lawful typed at = absurd lawful
 items_fit_at (f ∷ fields) (items ∷ d) zero field lawful typed at =
-    subst {A = Field} (λ g. ItemsFit g.kind g.value items) (some_is f field at) (lawful.0, typed.0)
+    subst {A = Field} (λ g. ItemsFit g.kind g.value items) (same_Some f field at) (lawful.0, typed.0)
 items_fit_at (f ∷ fields) (items ∷ d) (suc i) field lawful typed at = items_fit_at fields d i field lawful.1 typed.1 at
 
 fits_at : (fields : List Field) (o : Option Document) (i : ℕ) (field : Field) → IfSome o (FitsFields fields) → slice_get fields i ≡ Some field
@@ -109,11 +110,11 @@ module _ {bits : ℕ} {H : Type 0} (begun now : Ledger H) (k m : Records) (field
 
     pub can_change : CanChange now m field root.documents root.dictionary doc before after
     can_change = record {
-      is_field = all_at (IsFieldAt m) (trees_of fields roots) i (trees_of_field field root) way.partly.each at_tree;
+      is_field = AllByRecursion-slice_get (IsFieldAt m) (trees_of fields roots) i (trees_of_field field root) way.partly.each at_tree;
       owns = owns-some now m (parts_of (trees_of fields roots)) (part_of (trees_of_field field root) ∷ []) way.owns
           (λ r. let e = count_at (trees_of fields roots) i (trees_of_field field root) m r at_tree in omega arith);
       refers = refers_some field.kind now m root.documents root.dictionary (parts_of (trees_of fields roots)) (part_of (trees_of_field field root) ∷ [])
-          (all_at (RefersAt now m (parts_of (trees_of fields roots))) (trees_of fields roots) i (trees_of_field field root) way.refers at_tree)
+          (AllByRecursion-slice_get (RefersAt now m (parts_of (trees_of fields roots))) (trees_of fields roots) i (trees_of_field field root) way.refers at_tree)
           (λ r. let e = count_at (trees_of fields roots) i (trees_of_field field root) m r at_tree in omega arith);
       there = subst (λ a. IfNone a (IsSome (lookup (is_at (nat_cmp doc)) (column_in m (trees_of_field field root))))) (sym next)
           (subst (λ f. IfNone (option_map (λ d. items_in d i) new) (IsSome f)) (sym found) (there_at new old i gone));

@@ -3,6 +3,8 @@ use Rattle.std.proofs.Common.{◌≡◌, ◌≢◌, ℕ, zero, suc, Bool, List, 
 use Rattle.std.proofs.lemmas.Bool.{cases_eq}
 use Rattle.std.specs.Prelude.{slice_get}
 use Rattle.std.specs.List.{AllZip}
+use Rattle.list_facts.proofs.Options.{same_Some}
+use Rattle.list_facts.proofs.Places.{slice_get-set_other}
 use Rattle.entry_ref.specs.References.{buffer_of}
 use Rattle.image_base.specs.Records.{Records, SameAt}
 use Rattle.tree_images.specs.ProofsForTrees.{SameAt-left, SameAt-right}
@@ -20,7 +22,7 @@ use Rattle.attr_types.specs.declared.kind.ValueType.{ValueType}
 use Rattle.value_index.specs.Indexes.{index_reach}
 use Rattle.value_index.proofs.IndexFlows.{flows_stay}
 use Rattle.attr_steps.specs.Fields.{FlowsTrees, KeepsWords, MakesUnsealed, part_of, parts_of}
-use Rattle.attr_steps.proofs.TreeLists.{get_set-same, get_set-other, some_is}
+use Rattle.attr_steps.proofs.TreeLists.{get_set-same}
 
 -- ---- one attribute
 module _ {H : Type 0} (begun : Ledger H) where
@@ -110,10 +112,10 @@ pub step_set : {H : Type 0} (mid : Ledger H) (m n : Records) (next : List Attrib
     → ((j : ℕ) (c : AttributeTrees) → j ≢ i → slice_get next j ≡ Some c → FlowsTrees mid m n c c)
     → (j : ℕ) (c d : AttributeTrees) → slice_get next j ≡ Some c → slice_get (set next i b) j ≡ Some d → FlowsTrees mid m n c d
 step_set mid m n next i a b at here others j c d was there = elim (cases_eq j i) [
-  | inl e ↦ (let first : a ≡ c = some_is a c (sym at ∙ ap (slice_get next) (sym e) ∙ was) in
-      let last : b ≡ d = some_is b d (sym (get_set-same next i a b at) ∙ ap (slice_get (set next i b)) (sym e) ∙ there) in
+  | inl e ↦ (let first : a ≡ c = same_Some a c (sym at ∙ ap (slice_get next) (sym e) ∙ was) in
+      let last : b ≡ d = same_Some b d (sym (get_set-same next i a b at) ∙ ap (slice_get (set next i b)) (sym e) ∙ there) in
       subst (λ (x : AttributeTrees). FlowsTrees mid m n x d) first (subst (λ (y : AttributeTrees). FlowsTrees mid m n a y) last here))
-  | inr apart ↦ (let same : c ≡ d = some_is c d (sym was ∙ sym (get_set-other next i j b apart) ∙ there) in
+  | inr apart ↦ (let same : c ≡ d = same_Some c d (sym was ∙ sym (slice_get-set_other next i j b apart) ∙ there) in
       subst (λ (y : AttributeTrees). FlowsTrees mid m n c y) same (others j c apart was))
 ]
 
@@ -122,6 +124,6 @@ pub step_stays : {H : Type 0} (mid : Ledger H) (m n : Records) (trees : List Att
     → (j : ℕ) (c d : AttributeTrees) → slice_get trees j ≡ Some c → slice_get trees j ≡ Some d → FlowsTrees mid m n c d
 step_stays mid m n [] stay j c d at there = cc
 step_stays mid m n (first ∷ trees) stay zero c d at there =
-    subst (λ (x : AttributeTrees). FlowsTrees mid m n x d) (some_is first c at)
-    (subst (λ (y : AttributeTrees). FlowsTrees mid m n first y) (some_is first d there) (one_stays mid m n first stay.0))
+    subst (λ (x : AttributeTrees). FlowsTrees mid m n x d) (same_Some first c at)
+    (subst (λ (y : AttributeTrees). FlowsTrees mid m n first y) (same_Some first d there) (one_stays mid m n first stay.0))
 step_stays mid m n (first ∷ trees) stay (suc j) c d at there = step_stays mid m n trees stay.1 j c d at there

@@ -1,18 +1,19 @@
 -- Parts side by side, of which one is turned into another.
 use Rattle.std.proofs.Common.{◌≡◌, ◌≢◌, ℕ, zero, suc, ◌+◌, List, [], ◌∷◌, set, Some, refl, ap, subst, arith}
 use Rattle.std.specs.Prelude.{slice_get}
+use Rattle.list_facts.proofs.Options.{same_Some}
 use Rattle.image_base.specs.Records.{Records, SameAt}
 use Rattle.store_api.specs.Ledgers.{Ledger}
 use Rattle.store_api.specs.Parts.{times, count_in, AllStay, Owns, Turns, After}
 use Rattle.store_api.proofs.PartLemmas.{after}
 use Rattle.attr_images.specs.Tables.{AttributeTrees}
 use Rattle.attr_steps.specs.Fields.{part_of, parts_of}
-use Rattle.attr_steps.proofs.TreeLists.{some_is, rest_at}
+use Rattle.attr_steps.proofs.TreeLists.{rest_at}
 
 pub count_at : (trees : List AttributeTrees) (i : ℕ) (a : AttributeTrees) (k : Records) (r : ℕ) → slice_get trees i ≡ Some a
     → count_in r k (parts_of trees) ≡ times r ((part_of a).reach k) + count_in r k (parts_of (rest_at trees i))
 count_at [] i a k r at = cc
-count_at (first ∷ trees) zero a k r at = ap (λ b. times r ((part_of b).reach k) + count_in r k (parts_of trees)) (some_is first a at)
+count_at (first ∷ trees) zero a k r at = ap (λ b. times r ((part_of b).reach k) + count_in r k (parts_of trees)) (same_Some first a at)
 count_at (first ∷ trees) (suc i) a k r at = let rest = count_at trees i a k r at in omega arith
 
 pub count_set : (trees : List AttributeTrees) (i : ℕ) (a b : AttributeTrees) (k : Records) (r : ℕ) → slice_get trees i ≡ Some a
@@ -29,9 +30,9 @@ stay_at (first ∷ trees) zero (suc j) b m n stay at apart = in_all trees j b st
   where
     in_all : (list : List AttributeTrees) (j : ℕ) (b : AttributeTrees) → AllStay (parts_of list) m n → slice_get list j ≡ Some b → SameAt ((part_of b).reach m) m n
     in_all [] j b stay at = cc
-    in_all (x ∷ list) zero b stay at = subst (λ c. SameAt ((part_of c).reach m) m n) (some_is x b at) stay.0
+    in_all (x ∷ list) zero b stay at = subst (λ c. SameAt ((part_of c).reach m) m n) (same_Some x b at) stay.0
     in_all (x ∷ list) (suc j) b stay at = in_all list j b stay.1 at
-stay_at (first ∷ trees) (suc i) zero b m n stay at apart = subst (λ c. SameAt ((part_of c).reach m) m n) (some_is first b at) stay.0
+stay_at (first ∷ trees) (suc i) zero b m n stay at apart = subst (λ c. SameAt ((part_of c).reach m) m n) (same_Some first b at) stay.0
 stay_at (first ∷ trees) (suc i) (suc j) b m n stay at apart = stay_at trees i j b m n stay.1 at (λ e. apart (ap suc e))
 
 -- one part of these is turned

@@ -3,7 +3,9 @@ use Rattle.std.proofs.Common.{◌≡◌, ℕ, zero, suc, ◌+◌, ◌<◌, List,
 use Rattle.std.specs.Prelude.{slice_get, IsSome}
 use Rattle.std.specs.BTreeMap.{is_at}
 use Rattle.std.specs.Map.{lookup}
-use Rattle.attr_images.proofs.ImageLemmas.{all_at}
+use Rattle.std.proofs.lemmas.List.{take_all}
+use Rattle.list_facts.proofs.Options.{same_Some}
+use Rattle.list_facts.proofs.Each.{AllByRecursion-slice_get}
 use Rattle.attr_images.proofs.TableLemmas.{document_size}
 use Rattle.image_base.specs.Records.{Records}
 use Rattle.attr_types.proofs.TableLemmas.{Sound}
@@ -17,7 +19,7 @@ use Rattle.attr_types.specs.Lawful.{IsLawfulDocument}
 use Rattle.attr_field.specs.declared.roots.FieldRoots.{FieldRoots}
 use Rattle.attr_steps.specs.Fields.{AreFields, IsFieldAt, column_in, trees_of, trees_of_field}
 use Rattle.attr_steps.specs.Views.{table_at}
-use Rattle.attr_steps.proofs.TreeLists.{some_is, tree_get}
+use Rattle.attr_steps.proofs.TreeLists.{tree_get}
 use Rattle.attr_steps.proofs.Columns.{column_at_tree}
 use Rattle.attr_steps.proofs.FieldSteps.{lookup_column}
 
@@ -34,10 +36,6 @@ take_more [] i below = absurd (omega arith)
 take_more (items ∷ d) zero below = refl
 take_more (items ∷ d) (suc i) below = ap (λ rest. items ∷ rest) (take_more d i (omega arith))
 
-take_all : (d : Document) → take (length d) d ≡ d
-take_all [] = refl
-take_all (items ∷ d) = ap (λ rest. items ∷ rest) (take_all d)
-
 module _ (fields : List Field) (table : Table) (doc : ℕ) (sound : Sound fields table) where
   sized : (d : Document) → document_at table doc ≡ Some d → length d ≡ length fields
   sized d is = document_size fields d (all-lookup (IsLawfulDocument fields) (is_at (nat_cmp doc)) table sound.0.documents d is)
@@ -48,7 +46,7 @@ module _ (fields : List Field) (table : Table) (doc : ℕ) (sound : Sound fields
     some = λ any. there (document_at table doc) is;
     items_are = λ d found. (
         let size = sized d found in
-        let same : x ≡ items_in d i = some_is x (items_in d i) (is ∙ ap (option_map (λ e. items_in e i)) found) in
+        let same : x ≡ items_in d i = same_Some x (items_in d i) (is ∙ ap (option_map (λ e. items_in e i)) found) in
         let next : suc i ≡ i + 1 = omega arith in
         ap (λ before. before ++ x ∷ []) (so_far.items_are d found) ∙ ap (λ y. take i d ++ y ∷ []) same
         ∙ take_more d i (omega arith) ∙ ap (λ j. take j d) next
@@ -64,7 +62,7 @@ module _ (fields : List Field) (table : Table) (doc : ℕ) (sound : Sound fields
     where
       told : (o : Option Document) → document_at table doc ≡ o → IsSome o → Some items ≡ document_at table doc
       told None is there = cc
-      told (Some d) is there = ap Some (so_far.items_are d is ∙ ap (λ n. take n d) (sym (sized d is)) ∙ take_all d) ∙ sym is
+      told (Some d) is there = ap Some (so_far.items_are d is ∙ ap (λ n. take n d) (sym (sized d is)) ∙ take_all (length d) d (omega arith)) ∙ sym is
 
 -- no items in one attribute: the document is not there
 pub reads_none : (found : Option Document) (i : ℕ) → None ≡ option_map (λ d. items_in d i) found → None ≡ found
@@ -74,7 +72,7 @@ reads_none (Some d) i is = cc
 module _ {bits : ℕ} (m : Records) (fields : List Field) (roots : List (FieldRoots bits)) (are : AreFields m fields (trees_of fields roots)) (i : ℕ) (field : Field) (root : FieldRoots bits)
     (at_field : slice_get fields i ≡ Some field) (at_root : slice_get roots i ≡ Some root) where
   pub reads_field : IsFieldAt m (trees_of_field field root)
-  reads_field = all_at (IsFieldAt m) (trees_of fields roots) i (trees_of_field field root) are.each (tree_get fields roots i field root at_field at_root)
+  reads_field = AllByRecursion-slice_get (IsFieldAt m) (trees_of fields roots) i (trees_of_field field root) are.each (tree_get fields roots i field root at_field at_root)
 
   pub reads_items : (doc : ℕ) → lookup (is_at (nat_cmp doc)) (column_in m (trees_of_field field root))
       ≡ option_map (λ d. items_in d i) (document_at (table_at m (trees_of fields roots)) doc)

@@ -3,6 +3,11 @@ use Rattle.std.proofs.Common.{◌≡◌, ◌≢◌, ℕ, ◌<◌, List, [], ◌�
 use Rattle.std.proofs.lemmas.Bool.{cases_eq}
 use Rattle.std.specs.Prelude.{slice_get}
 use Rattle.std.specs.List.{AllByRecursion}
+use Rattle.list_facts.proofs.Options.{same_Some}
+use Rattle.image_base.proofs.Pairs.{same-from}
+use Rattle.image_base.proofs.Among.{SameAt-among}
+use Rattle.list_facts.proofs.Places.{slice_get-set_other}
+use Rattle.list_facts.proofs.Each.{AllByRecursion-slice_get}
 use Rattle.image_base.specs.Records.{Records, Among, SameAt}
 use Rattle.store_api.specs.Ledgers.{Ledger}
 use Rattle.store_api.specs.Parts.{Part, AllStay, count_in, times, uses}
@@ -12,13 +17,11 @@ use Rattle.attr_documents.specs.Documents.{documents_refer}
 use Rattle.attr_field.specs.Changes.{KeepsCopies}
 use Rattle.attr_field.specs.Fields.{RefersBeside}
 use Rattle.attr_field.specs.Laws.{FieldIsSame}
-use Rattle.attr_field.proofs.RefLemmas.{same_among, same_each}
-use Rattle.attr_images.proofs.ImageLemmas.{all_at}
 use Rattle.attr_images.specs.Tables.{AttributeTrees}
 use Rattle.value_index.specs.Indexes.{IsKey}
 use Rattle.attr_steps.specs.Fields.{AllReferBeside, IsFieldAt, part_of, parts_of}
 use Rattle.attr_steps.proofs.Columns.{FieldLaws}
-use Rattle.attr_steps.proofs.TreeLists.{all_from, get_set-same, get_set-other, some_is}
+use Rattle.attr_steps.proofs.TreeLists.{all_from, get_set-same}
 
 -- attributes in other records, the same
 abbrev pub IsSameAt : Records → Records → AttributeTrees → Type 0
@@ -40,8 +43,8 @@ module _ (laws : FieldLaws) (m n : Records) (a : AttributeTrees) (is : IsFieldAt
   pub stays_beside : {H : Type 0} (ledger : Ledger H) (parts : List Part) → RefersAt ledger m parts a → SameAt ((part_of a).reach m) m n
       → ((r : ℕ) → count_in r m parts < uses ledger r → n r ≡ m r) → IsSameAt m n a
   stays_beside ledger parts refers stay free =
-      let refer = same_each m n (documents_refer a.kind m a.documents) (λ r among. elim (refers.each r among) [
-        | inl key ↦ same_among m n ((part_of a).reach m) stay r (laws.keys a m r is key)
+      let refer = same-from (documents_refer a.kind m a.documents) m n (λ r among. elim (refers.each r among) [
+        | inl key ↦ SameAt-among m n ((part_of a).reach m) stay r (laws.keys a m r is key)
         | inr out ↦ free r out
       ]) in
       laws.stays a m n stay refer is
@@ -103,7 +106,7 @@ pub all_changed : {H : Type 0} (old new : Ledger H) (m n : Records) (trees : Lis
     → AllReferBeside old m trees p → RefersAt new n q b → ((j : ℕ) (c : AttributeTrees) → j ≢ i → slice_get trees j ≡ Some c → IsSameAt m n c)
     → ((r : ℕ) → count_in r m p < uses old r → count_in r n q < uses new r) → AllReferBeside new n (set trees i b) q
 all_changed old new m n trees i a b p q at refer here others free = all_from (RefersAt new n q) (set trees i b) (λ j c there. elim (cases_eq j i) [
-  | inl e ↦ subst (RefersAt new n q) (some_is b c (sym (get_set-same trees i a b at) ∙ ap (slice_get (set trees i b)) (sym e) ∙ there)) here
-  | inr apart ↦ (let was = sym (get_set-other trees i j b apart) ∙ there in
-      refers_moved old new m n c p q (others j c apart was) (all_at (RefersAt old m p) trees j c refer was) free)
+  | inl e ↦ subst (RefersAt new n q) (same_Some b c (sym (get_set-same trees i a b at) ∙ ap (slice_get (set trees i b)) (sym e) ∙ there)) here
+  | inr apart ↦ (let was = sym (slice_get-set_other trees i j b apart) ∙ there in
+      refers_moved old new m n c p q (others j c apart was) (AllByRecursion-slice_get (RefersAt old m p) trees j c refer was) free)
 ])

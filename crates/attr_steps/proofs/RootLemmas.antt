@@ -2,6 +2,7 @@
 use Rattle.std.proofs.Common.{◌≡◌, ℕ, zero, suc, ◌+◌, ◌*◌, ◌<◌, ◌≤◌, Bool, List, [], ◌∷◌, ◌++◌, length, drop, true, Some, refl, sym, ap, subst, ◌∙◌, arith}
 use Rattle.std.specs.Prelude.{slice_get}
 use Rattle.std.proofs.lemmas.List.{append_assoc}
+use Rattle.list_facts.proofs.Options.{same_Some}
 use Rattle.entry_ref.specs.References.{buffer_of}
 use Rattle.image_base.specs.Records.{Records, SameAt}
 use Rattle.arena_api.specs.Works.{Sizes, free_count}
@@ -21,7 +22,6 @@ use Rattle.store_api.proofs.UnitLemmas.{unit-accepts, accept-stays}
 use Rattle.attr_steps.specs.Calls.{RefusesUnit}
 use Rattle.attr_steps.specs.Commits.{IsForWidth, MakesRootRecord, RefusesRoot, roots_listed}
 use Rattle.attr_steps.specs.Fields.{root_entries, trees_of}
-use Rattle.attr_steps.proofs.TreeLists.{some_is}
 use Rattle.posting_store.proofs.RefusalLemmas.{of_one}
 use Rattle.store_api.proofs.May.{may_do-same}
 use Rattle.attr_steps.proofs.Units.{refused_among}
@@ -32,7 +32,7 @@ module _ {bits : ℕ} where
       → ((ws ++ root.documents ∷ []) ++ root.dictionary ∷ []) ++ roots_listed (drop (suc i) roots) ≡ ws ++ roots_listed (drop i roots)
   listed_at ws [] i root at = cc
   listed_at ws (first ∷ roots) zero root at =
-      subst (λ (r : FieldRoots bits). ((ws ++ r.documents ∷ []) ++ r.dictionary ∷ []) ++ roots_listed roots ≡ ws ++ (first.documents ∷ first.dictionary ∷ roots_listed roots)) (some_is first root at)
+      subst (λ (r : FieldRoots bits). ((ws ++ r.documents ∷ []) ++ r.dictionary ∷ []) ++ roots_listed roots ≡ ws ++ (first.documents ∷ first.dictionary ∷ roots_listed roots)) (same_Some first root at)
       (append_assoc (ws ++ first.documents ∷ []) (first.dictionary ∷ []) (roots_listed roots) ∙ append_assoc ws (first.documents ∷ []) (first.dictionary ∷ roots_listed roots))
   listed_at ws (first ∷ roots) (suc i) root at = listed_at ws roots i root at
 

@@ -1,13 +1,11 @@
 -- Lists with one element replaced, and the trees of fields and roots.
-use Rattle.std.proofs.Common.{◌≡◌, ◌≢◌, ℕ, zero, suc, List, [], ◌∷◌, length, map, set, Some, refl, sym, ap, ◌∙◌, arith}
+use Rattle.std.proofs.Common.{◌≡◌, ℕ, zero, suc, List, [], ◌∷◌, length, map, set, Some, refl, sym, ap, ◌∙◌, arith}
 use Rattle.std.specs.Prelude.{slice_get}
 use Rattle.std.specs.List.{AllByRecursion}
+use Rattle.list_facts.proofs.Options.{same_Some}
 use Rattle.attr_field.specs.declared.roots.FieldRoots.{FieldRoots}
 use Rattle.attr_types.specs.declared.field.Field.{Field}
 use Rattle.attr_steps.specs.Fields.{trees_of, trees_of_field}
-
-pub some_is : {X : Type 0} (a b : X) → Some a ≡ Some b → a ≡ b
-some_is a b e = cc
 
 -- the list without the element at a place
 abbrev pub rest_at : {X : Type 0} → List X → ℕ → List X
@@ -20,13 +18,6 @@ get_set-same [] i x y at = cc
 get_set-same (first ∷ xs) zero x y at = refl
 get_set-same (first ∷ xs) (suc i) x y at = get_set-same xs i x y at
 
-pub get_set-other : {X : Type 0} (xs : List X) (i j : ℕ) (y : X) → j ≢ i → slice_get (set xs i y) j ≡ slice_get xs j
-get_set-other [] i j y apart = refl
-get_set-other (first ∷ xs) zero zero y apart = absurd (apart refl)
-get_set-other (first ∷ xs) zero (suc j) y apart = refl
-get_set-other (first ∷ xs) (suc i) zero y apart = refl
-get_set-other (first ∷ xs) (suc i) (suc j) y apart = get_set-other xs i j y (λ e. apart (ap suc e))
-
 pub set_length : {X : Type 0} (xs : List X) (i : ℕ) (y : X) → length (set xs i y) ≡ length xs
 set_length [] i y = refl
 set_length (first ∷ xs) zero y = refl
@@ -34,12 +25,12 @@ set_length (first ∷ xs) (suc i) y = ap suc (set_length xs i y)
 
 pub get_map : {X Y : Type 0} (f : X → Y) (xs : List X) (i : ℕ) (x : X) → slice_get xs i ≡ Some x → slice_get (map f xs) i ≡ Some (f x)
 get_map f [] i x at = cc
-get_map f (first ∷ xs) zero x at = ap (λ y. Some (f y)) (some_is first x at)
+get_map f (first ∷ xs) zero x at = ap (λ y. Some (f y)) (same_Some first x at)
 get_map f (first ∷ xs) (suc i) x at = get_map f xs i x at
 
 pub map_at : {X Y : Type 0} (f : X → Y) (xs : List X) (i : ℕ) (y : Y) → slice_get (map f xs) i ≡ Some y → (x : X) × (slice_get xs i ≡ Some x) × (y ≡ f x)
 map_at f [] i y at = cc
-map_at f (first ∷ xs) zero y at = (first, refl, sym (some_is (f first) y at))
+map_at f (first ∷ xs) zero y at = (first, refl, sym (same_Some (f first) y at))
 map_at f (first ∷ xs) (suc i) y at = map_at f xs i y at
 
 pub all_from : {X : Type 0} (P : X → Type 0) (xs : List X) → ((i : ℕ) (x : X) → slice_get xs i ≡ Some x → P x) → AllByRecursion P xs
@@ -53,14 +44,14 @@ module _ {bits : ℕ} where
   tree_get [] roots i field first at root = cc
   tree_get (f ∷ fields) [] i field first at root = cc
   tree_get (f ∷ fields) (r ∷ roots) zero field first at root =
-      ap (λ g. Some (trees_of_field g r)) (some_is f field at) ∙ ap (λ s. Some (trees_of_field field s)) (some_is r first root)
+      ap (λ g. Some (trees_of_field g r)) (same_Some f field at) ∙ ap (λ s. Some (trees_of_field field s)) (same_Some r first root)
   tree_get (f ∷ fields) (r ∷ roots) (suc i) field first at root = tree_get fields roots i field first at root
 
   pub tree_set : (fields : List Field) (roots : List (FieldRoots bits)) (i : ℕ) (field : Field) (new : FieldRoots bits) → slice_get fields i ≡ Some field
       → trees_of fields (set roots i new) ≡ set (trees_of fields roots) i (trees_of_field field new)
   tree_set [] roots i field new at = cc
   tree_set (f ∷ fields) [] i field new at = refl
-  tree_set (f ∷ fields) (r ∷ roots) zero field new at = ap (λ g. trees_of_field g new ∷ trees_of fields roots) (some_is f field at)
+  tree_set (f ∷ fields) (r ∷ roots) zero field new at = ap (λ g. trees_of_field g new ∷ trees_of fields roots) (same_Some f field at)
   tree_set (f ∷ fields) (r ∷ roots) (suc i) field new at = ap (λ ts. trees_of_field f r ∷ ts) (tree_set fields roots i field new at)
 
   pub trees_length : (fields : List Field) (roots : List (FieldRoots bits)) → length roots ≡ length fields → length (trees_of fields roots) ≡ length fields

@@ -4,6 +4,9 @@ use Rattle.std.proofs.lemmas.Bool.{cases_eq}
 use Rattle.std.specs.Prelude.{slice_get}
 use Rattle.std.specs.List.{AllZip}
 use Rattle.std.specs.Option.{IfSome}
+use Rattle.list_facts.proofs.Options.{same_Some}
+use Rattle.list_facts.proofs.Places.{slice_get-set_other}
+use Rattle.list_facts.proofs.Each.{AllByRecursion-slice_get}
 use Rattle.image_base.specs.Records.{Records}
 use Rattle.store_api.specs.Ledgers.{Ledger}
 use Rattle.store_api.specs.Parts.{Part, After, Owns, Turns, count_in, entries, uses}
@@ -11,7 +14,6 @@ use Rattle.store_api.specs.Units.{MayDo}
 use Rattle.store_api.proofs.PartLemmas.{turns-same, turns-then}
 use Rattle.attr_field.specs.Changes.{KeepsCopies}
 use Rattle.attr_index.specs.Columns.{column_of, with_change}
-use Rattle.attr_images.proofs.ImageLemmas.{all_at}
 use Rattle.attr_images.specs.Tables.{AttributeTrees}
 use Rattle.attr_types.proofs.TableLemmas.{Sound}
 use Rattle.attr_types.specs.Lawful.{IsDocNumber}
@@ -24,7 +26,7 @@ use Rattle.attr_steps.specs.Fields.{AllReferBeside, AreFields, ChangesFields, Fi
 use Rattle.attr_steps.specs.Views.{table_at}
 use Rattle.attr_steps.proofs.Flowing.{all_same, all_step, may_unsealed, one_stays, step_set}
 use Rattle.attr_steps.proofs.Referring.{IsSameAt, RefersAt, all_changed, changed_refers, stays_beside}
-use Rattle.attr_steps.proofs.TreeLists.{all_from, get_set-same, get_set-other, rest_at, set_length, some_is}
+use Rattle.attr_steps.proofs.TreeLists.{all_from, get_set-same, rest_at, set_length}
 use Rattle.attr_steps.proofs.PartLists.{stay_at, turn_at}
 use Rattle.attr_steps.proofs.Columns.{FieldLaws, ArePartly, column_with, done_fields, done_table, partly_begins, sound_changed}
 
@@ -42,26 +44,26 @@ module _ (laws : FieldLaws) {H : Type 0} (now new : Ledger H) (m n : Records) (t
     (partly : ArePartly m trees before after i) (refers : AllReferBeside now m trees (parts_of trees)) (turned : After now new m n (parts_of trees) (parts_of (set trees i b)) (parts_of (rest_at trees i)))
     (is_field : IsFieldAt n b) (column_is : column_in n b ≡ column_of i after) where
   other : (j : ℕ) (c : AttributeTrees) → j ≢ i → slice_get trees j ≡ Some c → IsSameAt m n c
-  other j c apart there = stays_beside laws m n c (all_at (IsFieldAt m) trees j c partly.each there) now (parts_of trees) (all_at (RefersAt now m (parts_of trees)) trees j c refers there)
+  other j c apart there = stays_beside laws m n c (AllByRecursion-slice_get (IsFieldAt m) trees j c partly.each there) now (parts_of trees) (AllByRecursion-slice_get (RefersAt now m (parts_of trees)) trees j c refers there)
       (stay_at trees i j c m n turned.stay there apart) turned.turns.kept
 
   field_at : (j : ℕ) (c : AttributeTrees) → slice_get (set trees i b) j ≡ Some c → IsFieldAt n c
   field_at j c there = elim (cases_eq j i) [
-    | inl e ↦ subst (IsFieldAt n) (some_is b c (sym (get_set-same trees i a b at) ∙ ap (slice_get (set trees i b)) (sym e) ∙ there)) is_field
-    | inr apart ↦ (other j c apart (sym (get_set-other trees i j b apart) ∙ there)).field_is
+    | inl e ↦ subst (IsFieldAt n) (same_Some b c (sym (get_set-same trees i a b at) ∙ ap (slice_get (set trees i b)) (sym e) ∙ there)) is_field
+    | inr apart ↦ (other j c apart (sym (slice_get-set_other trees i j b apart) ∙ there)).field_is
   ]
 
   column_at : (j : ℕ) (c : AttributeTrees) → j < suc i → slice_get (set trees i b) j ≡ Some c → column_in n c ≡ column_of j after
   column_at j c below there = elim (cases_eq j i) [
-    | inl e ↦ (let same : b ≡ c = some_is b c (sym (get_set-same trees i a b at) ∙ ap (slice_get (set trees i b)) (sym e) ∙ there) in
+    | inl e ↦ (let same : b ≡ c = same_Some b c (sym (get_set-same trees i a b at) ∙ ap (slice_get (set trees i b)) (sym e) ∙ there) in
         subst (λ d. column_in n d ≡ column_of j after) same (column_is ∙ ap (λ k. column_of k after) (sym e)))
-    | inr apart ↦ (let was = sym (get_set-other trees i j b apart) ∙ there in (other j c apart was).column_is ∙ partly.done j c (omega arith) was)
+    | inr apart ↦ (let was = sym (slice_get-set_other trees i j b apart) ∙ there in (other j c apart was).column_is ∙ partly.done j c (omega arith) was)
   ]
 
   rest_at_place : (j : ℕ) (c : AttributeTrees) → suc i ≤ j → slice_get (set trees i b) j ≡ Some c → column_in n c ≡ column_of j before
   rest_at_place j c above there =
       let apart : j ≢ i = λ e. absurd (omega arith) in
-      let was = sym (get_set-other trees i j b apart) ∙ there in
+      let was = sym (slice_get-set_other trees i j b apart) ∙ there in
       (other j c apart was).column_is ∙ partly.rest j c (omega arith) was
 
   pub partly_more : ArePartly n (set trees i b) before after (suc i)
@@ -72,7 +74,7 @@ module _ (laws : FieldLaws) {H : Type 0} (now new : Ledger H) (m n : Records) (t
       → ((r : ℕ) → count_in r m p < uses now r → count_in r n q < uses new r) → AllReferBeside new n (set trees i b) q
   refer_more kind keeps p q refer free =
       all_changed now new m n trees i a b p q at refer
-      (changed_refers laws m n a (all_at (IsFieldAt m) trees i a partly.each at) now new b p q kind (all_at (RefersAt now m p) trees i a refer at) keeps free)
+      (changed_refers laws m n a (AllByRecursion-slice_get (IsFieldAt m) trees i a partly.each at) now new b p q kind (AllByRecursion-slice_get (RefersAt now m p) trees i a refer at) keeps free)
       other free
 
 -- the walk over all attributes

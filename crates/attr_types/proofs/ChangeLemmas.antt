@@ -6,7 +6,8 @@ use Rattle.std.proofs.lemmas.List.Filters.{length-filter_both}
 use Rattle.std.specs.List.{AllByRecursion, filter, slice_get, slice_set}
 use Rattle.std.specs.List.Sorted.{IsStrictlySortedBy}
 use Rattle.std.specs.Option.{IfSome, option_and_then}
-use Rattle.attr_types.proofs.EntryLemmas.{all-append, all_map-append, all_map-filter, sorted_map-filter}
+use Rattle.list_facts.proofs.Each.{AllByRecursion-append}
+use Rattle.attr_types.proofs.EntryLemmas.{all_map-append, all_map-filter, sorted_map-filter}
 use Rattle.attr_types.proofs.ItemLemmas.{all-with_items, ascend-with_items, all_map-get, all_map-set, all-get, all-set}
 use Rattle.attr_types.proofs.ItemLemmas.{values_of-set, changed_at-then}
 use Rattle.attr_types.specs.Change.{with_items, is_named, if_within_limit, if_signed, shifted, new_value, new_weight}
@@ -119,7 +120,7 @@ changed_fits kind type (Assign others) items fits lawful = fits
 changed_fits Single type (Add more) items fits lawful = tt
 changed_fits Array type (Add more) items fits lawful =
     within_limit (items ++ more) (ItemsFit Array type) (λ short. (
-      (short, all-append (λ item. item.weight ≡ pos 1) items more lawful.0.1 fits.0.1),
+      (short, AllByRecursion-append (λ item. item.weight ≡ pos 1) items more lawful.0.1 fits.0.1),
       all_map-append (λ item. item.value) (λ value. type_of value ≡ type) items more lawful.1 fits.1,
     ))
 changed_fits WeightedSet type (Add more) items fits lawful =

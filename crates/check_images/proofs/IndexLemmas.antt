@@ -7,6 +7,7 @@ use Rattle.std.specs.List.{find, cons_option, AllByRecursion}
 use Rattle.std.specs.List.Sorted.{IsStrictlySortedBy}
 use Rattle.std.specs.Map.{keys_of}
 use Rattle.std.specs.Ordering.{nat_cmp}
+use Rattle.attr_images.proofs.ImageLemmas.{index_keys}
 use Rattle.list_facts.proofs.Each.{AllByRecursion-append, AllByRecursion-left, AllByRecursion-right}
 use Rattle.image_base.specs.Records.{Records}
 use Rattle.tree_images.specs.Trees.{tree_pairs, by_number, IsTree}
@@ -60,10 +61,6 @@ module _ (kind : Kind) (type : ValueType) (m : Records) (documents : ℕ) where
   pub lawful_rows : IsLawfulColumn kind (column_at kind type m documents)
       → AllByRecursion (λ (e : ℕ × List Item). IsDocNumber e.0 × IsLawfulItems kind e.1) (column_at kind type m documents)
   lawful_rows lawful = rows_both (column_at kind type m documents) lawful.numbers lawful.items
-
-pub index_keys : (type : ValueType) (m : Records) (ps : List (ℕ × ℕ)) → keys_of (map (λ (p : ℕ × ℕ). (stored_value type m p.0, postings_at m (list_form p.1))) ps) ≡ map (λ (p : ℕ × ℕ). stored_value type m p.0) ps
-index_keys type m [] = refl
-index_keys type m (p ∷ ps) = ap (λ vs. stored_value type m p.0 ∷ vs) (index_keys type m ps)
 
 module _ (type : ValueType) (m : Records) (column : Column) where
   abbrev IsRight : ℕ × ℕ → Type 0

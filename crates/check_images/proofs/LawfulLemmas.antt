@@ -1,6 +1,6 @@
 -- An image is lawful just where its root record has its form and the attributes that it names are lawful.
 use Rattle.std.proofs.Common.{◌≡◌, ℕ, zero, suc, ◌<◌, ◌≤◌, List, [], length, Result, Ok, Err, refl, sym, ap, ap₂, subst, ◌∙◌, arith}
-use Rattle.std.specs.Prelude.{IfOk, IfErr}
+use Rattle.std.specs.Prelude.{IfErr}
 use Rattle.std.proofs.lemmas.List.{length-map}
 use Rattle.image_base.specs.Records.{Records}
 use Rattle.attr_images.proofs.ImageLemmas.{attributes_lawful, image_lawful, table_empty}
@@ -49,10 +49,6 @@ module _ (fields : List Field) (m : Records) (root : ℕ) (some : 0 < root) (few
 
   pub image_table : table_of_columns (columns_at m (attributes_from 0 (types_of fields) words)) ≡ table_of (shape_of (types_of fields)) m root
   image_table = sym (ap (λ list. table_of_columns (columns_at m list)) named)
-
-pub if_ok_then : {T E : Type 0} {P Q : T → Type 0} (r : Result T E) → ((x : T) → P x → Q x) → IfOk r P → IfOk r Q
-if_ok_then (Ok x) f here = f x here
-if_ok_then (Err e) f here = tt
 
 pub refuted_then : {T P Q : Type 0} (r : Result T CheckFault) → (Q → P) → IfErr r (Refutes P) → IfErr r (Refutes Q)
 refuted_then (Ok x) f here = tt

@@ -1,16 +1,10 @@
 -- The words of a text.
-use Rattle.std.proofs.Common.{◌≡◌, ℕ, zero, suc, ◌+◌, ◌-◌, ◌<◌, ◌≤◌, min, List, [], ◌∷◌, ◌++◌, length, get_or, take, drop, replicate, refl, sym, ap, ◌∙◌, arith, append_assoc, append-nil, length-take, length-append}
+use Rattle.std.proofs.Common.{◌≡◌, ℕ, suc, ◌+◌, ◌-◌, ◌<◌, ◌≤◌, min, List, [], ◌∷◌, ◌++◌, length, get_or, take, drop, replicate, sym, ap, ◌∙◌, arith, append_assoc, append-nil, length-take, length-append}
 use Rattle.std.proofs.lemmas.List.{get_or-take}
 use Rattle.std.proofs.lemmas.List.FromFn.{fill_by_all}
 use Rattle.std.specs.Int.{from_be_bytes, w64}
+use Rattle.list_facts.proofs.Places.{get_or-append_zeros}
 use Rattle.attr_images.specs.Values.{packed_bytes}
-
-zeros_behind : (bytes : List ℕ) (n k : ℕ) → get_or (bytes ++ replicate n 0) k 0 ≡ get_or bytes k 0
-zeros_behind [] zero k = refl
-zeros_behind [] (suc n) zero = refl
-zeros_behind [] (suc n) (suc k) = zeros_behind [] n k
-zeros_behind (b ∷ bytes) n zero = refl
-zeros_behind (b ∷ bytes) n (suc k) = zeros_behind bytes n k
 
 length-eight : (bytes : List ℕ) → length (take 8 (bytes ++ replicate 8 0)) ≡ 8
 length-eight bytes = length-take 8 (bytes ++ replicate 8 0) ∙ enough
@@ -22,7 +16,7 @@ pub eight_is : (bytes eight : List ℕ) → length eight ≡ 8 → ((k : ℕ) �
 eight_is bytes eight size each =
     fill_by_all (λ k. get_or bytes k 0) eight 8 0 size each
     ∙ sym (fill_by_all (λ k. get_or bytes k 0) (take 8 (bytes ++ replicate 8 0)) 8 0 (length-eight bytes)
-    (λ k low. get_or-take 8 (bytes ++ replicate 8 0) k 0 low ∙ zeros_behind bytes 8 k))
+    (λ k low. get_or-take 8 (bytes ++ replicate 8 0) k 0 low ∙ get_or-append_zeros bytes 8 k))
 
 -- one word more
 pub pack_step : (words rest all : List ℕ) (n i word : ℕ) → i < n → word ≡ from_be_bytes w64 (take 8 (rest ++ replicate 8 0))

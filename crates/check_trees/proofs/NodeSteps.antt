@@ -2,10 +2,10 @@
 use Rattle.std.proofs.Common.{◌≡◌, ℕ, zero, suc, ◌+◌, ◌-◌, ◌<◌, List, ◌++◌, length, get_or, sym, ap, subst, ◌∙◌, arith}
 use Rattle.std.specs.List.{zip}
 use Rattle.image_base.specs.Records.{Records}
-use Rattle.tree_images.proofs.TreeLemmas.{IsNode-count}
+use Rattle.tree_images.proofs.TreeLemmas.{IsNode-count, leaf_pairs}
 use Rattle.tree_images.specs.Nodes.{used_of, count_of, node_keys, node_values, IsNodeForm}
 use Rattle.tree_images.specs.Trees.{pairs_below, last_key, HasLastKeys, IsNode}
-use Rattle.check_trees.proofs.WalkLemmas.{walked-more, child-stands, child-last, walked-pairs, walked-node, last-child, count-behind, leaf-node, leaf-pairs}
+use Rattle.check_trees.proofs.WalkLemmas.{walked-more, child-stands, child-last, walked-pairs, walked-node, last-child, count-behind, leaf-node}
 use Rattle.check_trees.proofs.Walks.{Walked}
 use Rattle.check_trees.specs.Keys.{PairsAscend}
 use Rattle.check_trees.specs.declared.keys.Keys.{Keys}
@@ -27,19 +27,19 @@ module _ (m : Records) (before after : List (ℕ × ℕ)) (least level ref : ℕ
 
   -- a leaf
   pub leaf-is : level ≡ 0 → after ≡ before ++ zip (node_keys (m ref)) (node_values (m ref)) → after ≡ before ++ pairs_below m level ref
-  leaf-is low is = is ∙ ap (λ ps. before ++ ps) (sym (leaf-pairs m ref)) ∙ ap (λ l. before ++ pairs_below m l ref) (sym low)
+  leaf-is low is = is ∙ ap (λ ps. before ++ ps) (sym (leaf_pairs m ref)) ∙ ap (λ l. before ++ pairs_below m l ref) (sym low)
 
   pub leaf-stands : level ≡ 0 → IsNodeForm level least (m ref) → (count : ℕ) → count ≡ count_of (m ref)
       → after ≡ before ++ zip (node_keys (m ref)) (node_values (m ref)) → count ≡ length after - length before → IsNode m least level ref
   leaf-stands low form count of is counted =
-      let pairs = is ∙ ap (λ ps. before ++ ps) (sym (leaf-pairs m ref)) in
+      let pairs = is ∙ ap (λ ps. before ++ ps) (sym (leaf_pairs m ref)) in
       subst (λ l. IsNode m least l ref) (sym low)
       (leaf-node m least ref (subst (λ l. IsNodeForm l least (m ref)) low form) (sym of ∙ counted ∙ count-behind before after (pairs_below m 0 ref) pairs))
 
 module _ (keys : Keys) (m : Records) (before : List (ℕ × ℕ)) (level ref : ℕ) where
   pub leaf-ascends : level ≡ 0 → PairsAscend keys m (before ++ pairs_below m level ref) → PairsAscend keys m (before ++ zip (node_keys (m ref)) (node_values (m ref)))
   leaf-ascends low up =
-      subst (PairsAscend keys m) (ap (λ l. before ++ pairs_below m l ref) low ∙ ap (λ ps. before ++ ps) (leaf-pairs m ref)) up
+      subst (PairsAscend keys m) (ap (λ l. before ++ pairs_below m l ref) low ∙ ap (λ ps. before ++ ps) (leaf_pairs m ref)) up
 
 module _ (keys : Keys) (m : Records) (least level ref : ℕ) (form : IsNodeForm level least (m ref)) (above : 0 < level)
     (before after : List (ℕ × ℕ)) (i : ℕ) (walked : Walked keys m (level - 1) (m ref) before after i) where

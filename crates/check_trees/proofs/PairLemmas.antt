@@ -1,5 +1,5 @@
 -- Pairs, and the last of them.
-use Rattle.std.proofs.Common.{◌≡◌, ℕ, suc, ◌-◌, ◌<◌, List, [], ◌∷◌, ◌++◌, length, None, Some, refl, sym, ap, ◌∙◌, arith}
+use Rattle.std.proofs.Common.{◌≡◌, ℕ, suc, ◌-◌, List, [], ◌∷◌, length, None, Some, refl, sym, ap, ◌∙◌, arith}
 use Rattle.std.specs.List.{slice_get}
 use Rattle.tree_images.specs.Trees.{last_key}
 
@@ -13,9 +13,3 @@ pub last_none : (ps : List (ℕ × ℕ)) → None ≡ slice_get ps (length ps - 
 last_none [] e = refl
 last_none (q ∷ []) e = absurd (let no : Some q ≡ None = sym e in cc)
 last_none (q ∷ r ∷ ps) e = last_none (r ∷ ps) (let at : length (q ∷ r ∷ ps) - 1 ≡ suc (length (r ∷ ps) - 1) = omega arith in e ∙ ap (slice_get (q ∷ r ∷ ps)) at)
-
-pub last-append : (ps qs : List (ℕ × ℕ)) → 0 < length qs → last_key (ps ++ qs) ≡ last_key qs
-last-append [] qs some = refl
-last-append (p ∷ []) [] some = absurd (omega arith)
-last-append (p ∷ []) (q ∷ qs) some = refl
-last-append (p ∷ r ∷ ps) qs some = last-append (r ∷ ps) qs some

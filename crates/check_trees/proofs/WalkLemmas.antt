@@ -9,11 +9,10 @@ use Rattle.std.proofs.lemmas.Grind.{flat_map-append}
 use Rattle.list_facts.proofs.Pairs.{zip-append}
 use Rattle.list_facts.proofs.Each.{AllByRecursion-append, AllByRecursion-at}
 use Rattle.image_base.specs.Records.{Records}
-use Rattle.tree_images.proofs.TreeLemmas.{length-node_values, pairs_many}
+use Rattle.tree_images.proofs.TreeLemmas.{length-node_values, pairs_many, last_key-append}
 use Rattle.tree_images.specs.Nodes.{used_of, count_of, node_keys, node_values, IsNodeForm}
 use Rattle.tree_images.specs.Trees.{pairs_below, last_key, HasLastKeys, IsNode}
 use Rattle.check_trees.proofs.KeyLemmas.{ascends-left}
-use Rattle.check_trees.proofs.PairLemmas.{last-append}
 use Rattle.check_trees.proofs.Walks.{Walked}
 use Rattle.check_trees.specs.Keys.{PairsAscend}
 use Rattle.check_trees.specs.declared.keys.Keys.{Keys}
@@ -169,7 +168,7 @@ pub last-child : (m : Records) (level child : ℕ) (before after : List (ℕ × 
 last-child m level child before after node is =
     let many = pairs_many m 8 level child node in
     let one : 1 ≤ 8 ^ level = one-le-pow level 8 (omega arith) in
-    ap last_key is ∙ last-append before (pairs_below m level child) (omega arith)
+    ap last_key is ∙ last_key-append before (pairs_below m level child) (omega arith)
 
 -- the count of the pairs that came behind
 pub count-behind : (before after more : List (ℕ × ℕ)) → after ≡ before ++ more → length after - length before ≡ length more
@@ -178,7 +177,3 @@ count-behind before after more is = let e = ap length is in let n = length-appen
 pub leaf-node : (m : Records) (least ref : ℕ) → IsNodeForm 0 least (m ref) → count_of (m ref) ≡ length (pairs_below m 0 ref) → IsNode m least 0 ref
 unfolding IsNode
 leaf-node m least ref form count = (form, count)
-
-pub leaf-pairs : (m : Records) (ref : ℕ) → pairs_below m 0 ref ≡ zip (node_keys (m ref)) (node_values (m ref))
-unfolding pairs_below
-leaf-pairs m ref = refl

@@ -5,6 +5,7 @@ use Rattle.std.specs.declared.cmp.Ordering.{Ordering}
 use Rattle.std.specs.List.{AllByRecursion}
 use Rattle.std.specs.List.Sorted.{IsStrictlySortedBy}
 use Rattle.std.specs.Ordering.{is_gt, ordering_reverse, ordering_then}
+use Rattle.list_facts.proofs.Each.{AllByRecursion-append}
 use Rattle.image_base.specs.Records.{Records}
 use Rattle.key_order.specs.Pairs.{choose, lookup_pair, seek}
 use Rattle.attr_images.specs.Postings.{ListForm, short, tree, vector, list_form}
@@ -88,10 +89,6 @@ module _ (type : ValueType) (m : Records) (value : AnyValue) (typed : type_of va
   above : (w : AnyValue) (d : ℕ) → value_cmp value w ≡ Less → key_cmp key (Pair w d) ≡ Less
   above w d less = ap (λ (o : Ordering). ordering_then o (nat_cmp doc d)) less
 
-  all_both : (P : PlanKey → Type 0) (xs ys : List PlanKey) → AllByRecursion P xs → AllByRecursion P ys → AllByRecursion P (xs ++ ys)
-  all_both P [] ys front rest = rest
-  all_both P (x ∷ xs) ys front rest = (front.0, all_both P xs ys front.1 rest)
-
   above_list : (w : AnyValue) → value_cmp value w ≡ Less → (docs : List ℕ) → AllByRecursion (λ k. key_cmp key k ≡ Less) (map (λ d. Pair w d) docs)
   above_list w less [] = tt
   above_list w less (d ∷ docs) = (above w d less, above_list w less docs)
@@ -99,7 +96,7 @@ module _ (type : ValueType) (m : Records) (value : AnyValue) (typed : type_of va
   above_pairs : (ps : List (ℕ × ℕ)) → AllByRecursion (λ w. value_cmp value w ≡ Less) (map read ps) → AllByRecursion (λ k. key_cmp key k ≡ Less) (keys_of_pairs type m ps)
   above_pairs [] all = tt
   above_pairs (p ∷ ps) all =
-      all_both (λ k. key_cmp key k ≡ Less) (keys_at p) (keys_of_pairs type m ps) (above_list (read p) all.0 (form_docs m (list_form p.1))) (above_pairs ps all.1)
+      AllByRecursion-append (λ k. key_cmp key k ≡ Less) (keys_at p) (keys_of_pairs type m ps) (above_list (read p) all.0 (form_docs m (list_form p.1))) (above_pairs ps all.1)
 
   less_back : (w : AnyValue) → value_cmp w value ≡ Greater → value_cmp value w ≡ Less
   less_back w greater = value_cmp_total.antisymm value w ∙ ap ordering_reverse greater

@@ -6,18 +6,19 @@ use Rattle.std.specs.declared.cmp.Ordering.{Ordering}
 use Rattle.std.specs.List.{AllByRecursion}
 use Rattle.std.specs.List.Sorted.{IsStrictlySortedBy}
 use Rattle.std.specs.Ordering.{nat_cmp}
+use Rattle.image_base.proofs.Among.{Among-all}
 use Rattle.entry_ref.specs.References.{buffer_of}
 use Rattle.image_base.specs.Records.{Among, Records}
 use Rattle.key_order.specs.Keys.{seen_by}
 use Rattle.key_order.specs.Pairs.{seek}
 use Rattle.tree_images.specs.Trees.{by_number, last_key, tree_nodes, tree_pairs}
 use Rattle.tree_touch.specs.Paths.{path_nodes, NoneIn}
-use Rattle.tree_ways.proofs.WayLemmas.{stand_on_ways, all_among}
+use Rattle.tree_ways.proofs.WayLemmas.{stand_on_ways}
 use Rattle.tree_ways.specs.Ways.{keys_below, tree_keys}
 use Rattle.attr_cleared.specs.Cleared.{IsClearedField}
 use Rattle.attr_cleared.specs.Visits.{place_at_key, IsAmongKeys}
 use Rattle.attr_cleared.proofs.BelowLemmas.{keys_of_tree}
-use Rattle.attr_cleared.proofs.IndexClauses.{key_front, key_right, value_in_keys}
+use Rattle.attr_cleared.proofs.IndexClauses.{key_right, value_in_keys, key_left}
 use Rattle.attr_cleared.proofs.IndexPairs.{InPairs}
 use Rattle.attr_compaction.specs.Places.{doc_in, value_in, PlanPlace}
 use Rattle.attr_compaction.specs.declared.plan.PlanKey.{PlanKey}
@@ -92,7 +93,7 @@ module _ (bits victim : ℕ) (at : PlanPlace) (m : Records) (a : AttributeTrees)
         let there = keys_of_tree m a.dictionary node key index_is.dictionary_is.tree_is.node among below in
         elim (visited_through at field NODES (node_phase_keys a.type m a.documents a.dictionary) passed to (plan.Value (stored_value a.type m key)) refl phase
         (ascends bits victim at m a to documents_are index_is cleared NODES) through
-        (key_front (plan.Value (stored_value a.type m key)) (value_keys a.type m a.dictionary) (document_keys m a.documents) (value_in_keys a.type m key values there)) visited) [
+        (key_left (plan.Value (stored_value a.type m key)) (value_keys a.type m a.dictionary) (document_keys m a.documents) (value_in_keys a.type m key values there)) visited) [
           | inl was ↦ cleared.values node among lies key below was
           | inr one ↦ no_value_node node key among lies below there one
         ];
@@ -117,7 +118,7 @@ module _ (bits victim : ℕ) (at : PlanPlace) (m : Records) (a : AttributeTrees)
       let way = found_in value_cmp value_cmp_total read (IsWayApart bits victim value_cmp (stored_value a.type) m a.dictionary) (λ p. plan.Value (stored_value a.type m p.0))
       (plan.Value (stored_value a.type m key)) pair.0 values run index_is.dictionary_is.tree_is.ascends
       (λ r e. ap (λ (k : ℕ). stored_value a.type m k) pair.2 ∙ ap value_in e) pair.1 are apart (subst (IsAmongKeys (plan.Value (stored_value a.type m key))) is one) in
-      all_among (λ r. buffer_of bits r ≢ victim) (path_nodes m (seen_by (stored_value a.type) value_cmp (stored_value a.type m key) m) a.dictionary)
+      Among-all (λ r. buffer_of bits r ≢ victim) (path_nodes m (seen_by (stored_value a.type) value_cmp (stored_value a.type m key) m) a.dictionary)
       (subst (λ (k : ℕ). NoneIn bits victim (path_nodes m (seen_by (stored_value a.type) value_cmp (stored_value a.type m k) m) a.dictionary)) pair.2 way) node
       (stand_on_ways value_cmp value_cmp_total (stored_value a.type) m a.dictionary node key index_is.dictionary_is.tree_is among below) lies)
       (λ node key among lies below there one. no_document read key run (subst (IsAmongKeys (plan.Doc key)) is one))
@@ -131,7 +132,7 @@ module _ (bits victim : ℕ) (at : PlanPlace) (m : Records) (a : AttributeTrees)
       let way = found_in nat_cmp nat_cmp_total (λ (p : ℕ × ℕ). p.0) (IsWayApart bits victim nat_cmp by_number m a.documents) (λ p. plan.Doc p.0)
       (plan.Doc key) pair.0 docs run documents_are.map_is.tree_is.ascends
       (λ r e. pair.2 ∙ ap doc_in e) pair.1 are apart (subst (IsAmongKeys (plan.Doc key)) is one) in
-      all_among (λ r. buffer_of bits r ≢ victim) (path_nodes m (seen_by by_number nat_cmp (by_number m key) m) a.documents)
+      Among-all (λ r. buffer_of bits r ≢ victim) (path_nodes m (seen_by by_number nat_cmp (by_number m key) m) a.documents)
       (subst (λ (k : ℕ). NoneIn bits victim (path_nodes m (seen_by by_number nat_cmp (by_number m k) m) a.documents)) pair.2 way) node
       (stand_on_ways nat_cmp nat_cmp_total by_number m a.documents node key documents_are.map_is.tree_is among below) lies)
 

@@ -3,6 +3,8 @@ use Rattle.std.proofs.Common.{◌≡◌, ◌≢◌, ℕ, zero, suc, List, [], �
 use Rattle.std.specs.Prelude.{slice_get}
 use Rattle.std.specs.declared.cmp.Ordering.{Ordering}
 use Rattle.std.specs.List.{AllByRecursion}
+use Rattle.image_base.proofs.Pairs.{same-from}
+use Rattle.image_base.proofs.Among.{SameAt-among}
 use Rattle.entry_ref.specs.References.{buffer_of}
 use Rattle.image_base.specs.Records.{Records, Among, SameAt}
 use Rattle.tree_images.specs.ProofsForTrees.{tree_nodes-same, tree_pairs-same}
@@ -14,7 +16,6 @@ use Rattle.attr_compaction.specs.declared.plan.PlanKey.TheVariants as plan
 use Rattle.attr_compaction.specs.declared.plan.TheConstants.{DOCUMENTS, KEYS, LISTS, NODES}
 use Rattle.attr_documents.proofs.FlowLemmas.{refer_same}
 use Rattle.attr_documents.specs.Documents.{items_own}
-use Rattle.attr_field.proofs.RefLemmas.{same_each}
 use Rattle.attr_field.specs.Fields.{field_part, IsField}
 use Rattle.attr_images.specs.Postings.{short, tree, vector, list_form, postings_reach, IsPostingList, ListForm}
 use Rattle.attr_images.specs.Tables.{AttributeTrees}
@@ -28,7 +29,7 @@ use Rattle.document_moves.specs.Moves.{AreItemsApart}
 use Rattle.attr_cleared.specs.Cleared.{IsClearedField, IsVisited, ListIsCleared, NodesAreCleared}
 use Rattle.cleared_steps.specs.StepsLaws.{AllStayLeavesCleared, StayLeavesCleared}
 use Rattle.cleared_steps.proofs.StepsBelow.{keys_in_tree, keys_stay}
-use Rattle.cleared_steps.proofs.StepsLists.{all_in, all_pairs, same_at, IsIn}
+use Rattle.cleared_steps.proofs.StepsLists.{all_in, all_pairs, IsIn}
 use Rattle.cleared_steps.proofs.StepsOwned.{item_owned, key_is_owned, key_owned, list_owned, map_node_owned, value_node_owned}
 
 module _ (bits victim : ℕ) (m n : Records) where
@@ -54,13 +55,13 @@ module _ (bits victim field : ℕ) (at : PlanPlace) (m n : Records) (kind : Kind
   trees = record { kind = kind; type = type; documents = documents; dictionary = dictionary }
 
   stay : (r : ℕ) → Among r ((field_part kind documents dictionary).reach m) → n r ≡ m r
-  stay = same_at m n ((field_part kind documents dictionary).reach m) same
+  stay = SameAt-among m n ((field_part kind documents dictionary).reach m) same
 
   map_stays : SameAt (tree_nodes m documents) m n
-  map_stays = same_each m n (tree_nodes m documents) (λ r among. stay r (map_node_owned kind m documents dictionary r among))
+  map_stays = same-from (tree_nodes m documents) m n (λ r among. stay r (map_node_owned kind m documents dictionary r among))
 
   values_stay : SameAt (tree_nodes m dictionary) m n
-  values_stay = same_each m n (tree_nodes m dictionary) (λ r among. stay r (value_node_owned kind m documents dictionary r among))
+  values_stay = same-from (tree_nodes m dictionary) m n (λ r among. stay r (value_node_owned kind m documents dictionary r among))
 
   value_same : (key : ℕ) → Among key (tree_keys m dictionary) → stored_value type n key ≡ stored_value type m key
   value_same key among = ap (value_of type) (stay key (key_is_owned kind m documents dictionary key among))
@@ -77,7 +78,7 @@ module _ (bits victim field : ℕ) (at : PlanPlace) (m n : Records) (kind : Kind
     items_clear : (p : ℕ × ℕ) → IsIn p (tree_pairs m documents) → IsVisited at field DOCUMENTS (plan.Doc p.0) → AreItemsApart bits victim kind n p.1
     items_clear p there visited =
         let was = all_in (λ (q : ℕ × ℕ). IsVisited at field DOCUMENTS (plan.Doc q.0) → AreItemsApart bits victim kind m q.1) (tree_pairs m documents) cleared.documents p there visited in
-        let own = same_each m n (items_own kind p.1) (λ r among. stay r (item_owned kind m documents dictionary p r there among)) in
+        let own = same-from (items_own kind p.1) m n (λ r among. stay r (item_owned kind m documents dictionary p r there among)) in
         record { own = was.own; refer = subst (λ refs. AllByRecursion (λ r. buffer_of bits r ≢ victim) refs) (sym (refer_same kind m n p.1 own)) was.refer }
 
     posting_clear : (p : ℕ × ℕ) → IsIn p (tree_pairs m dictionary) → ListIsCleared bits victim at field n (stored_value type n p.0) (list_form p.1)
@@ -86,7 +87,7 @@ module _ (bits victim field : ℕ) (at : PlanPlace) (m n : Records) (kind : Kind
         let was = all_in (λ (q : ℕ × ℕ). ListIsCleared bits victim at field m (stored_value type m q.0) (list_form q.1)) (tree_pairs m dictionary) cleared.lists p there in
         subst (λ v. ListIsCleared bits victim at field n v (list_form p.1)) (sym (pair_value p there))
         (list_clear bits victim m n at field (stored_value type m p.0) (list_form p.1) (pair.list_is.form pair.some)
-        (same_each m n (postings_reach m (list_form p.1)) (λ r among. stay r (list_owned kind m documents dictionary p r there among))) was)
+        (same-from (postings_reach m (list_form p.1)) m n (λ r among. stay r (list_owned kind m documents dictionary p r there among))) was)
 
     pub field_clear : IsClearedField bits victim at field n trees
     field_clear = record {

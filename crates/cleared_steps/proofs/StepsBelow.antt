@@ -2,17 +2,18 @@
 use Rattle.std.proofs.Common.{◌≡◌, ℕ, zero, suc, List, [], ◌∷◌, map, length, inl, inr, ◌⊎◌, refl, sym, ap, subst, ◌∙◌, arith}
 use Rattle.std.specs.declared.cmp.Ordering.{Ordering}
 use Rattle.std.specs.List.{flat_map, AllByRecursion}
+use Rattle.image_base.proofs.Pairs.{same-from}
+use Rattle.image_base.proofs.Among.{Among-all, Among-append, SameAt-among}
 use Rattle.attr_cleared.proofs.BelowLemmas.{among_flat}
-use Rattle.attr_field.proofs.RefLemmas.{all_among, same_each}
 use Rattle.image_base.specs.Records.{Records, Among, SameAt}
 use Rattle.tree_images.proofs.TreeLemmas.{IsNode-form}
 use Rattle.tree_images.specs.Nodes.{level_of, node_values}
 use Rattle.tree_images.specs.ProofsForTrees.{pairs-same}
 use Rattle.tree_images.specs.Trees.{nodes_below, pairs_below, root_least, root_level, tree_nodes, IsNode, IsTree}
 use Rattle.tree_images.specs.declared.TheConstants.{NODE_WORDS}
-use Rattle.tree_ways.proofs.WayLemmas.{either_part, keys_flat}
+use Rattle.tree_ways.proofs.WayLemmas.{keys_flat}
 use Rattle.tree_ways.specs.Ways.{keys_below, tree_keys}
-use Rattle.cleared_steps.proofs.StepsLists.{same_at, same_flat}
+use Rattle.cleared_steps.proofs.StepsLists.{same_flat}
 
 abbrev keys : List (ℕ × ℕ) → List ℕ
 keys ps = map (λ p. p.0) ps
@@ -25,7 +26,7 @@ record Child (f : ℕ → List ℕ) (vs : List ℕ) (r : ℕ) : Type 0 where
 
 find_child : (f : ℕ → List ℕ) (vs : List ℕ) (r : ℕ) → Among r (flat_map f vs) → Child f vs r
 find_child f [] r among = absurd among
-find_child f (w ∷ vs) r among = told (λ behind. find_child f vs r behind) (either_part r (f w) (flat_map f vs) among)
+find_child f (w ∷ vs) r among = told (λ behind. find_child f vs r behind) (Among-append r (f w) (flat_map f vs) among)
   where
     told : (Among r (flat_map f vs) → Child f vs r) → Among r (f w) ⊎ Among r (flat_map f vs) → Child f (w ∷ vs) r
     told more (inl here) = record { child = w; there = inl refl; below = here }
@@ -52,7 +53,7 @@ module _ (m : Records) where
   nodes_of least level ref node = node.3
 
   child_node : (least level ref child : ℕ) → IsNode m least (suc level) ref → Among child (node_values (m ref)) → IsNode m 8 level child
-  child_node least level ref child node there = all_among (IsNode m 8 level) (node_values (m ref)) (nodes_of least level ref node) child there
+  child_node least level ref child node there = Among-all (IsNode m 8 level) (node_values (m ref)) (nodes_of least level ref node) child there
 
   flat_keys : (l r k : ℕ) → Among k (keys (flat_map (pairs_below m l) (node_values (m r)))) → Among k (keys (pairs_below m (suc l) r))
   unfolding pairs_below
@@ -110,8 +111,8 @@ module _ (m : Records) where
 module _ {V : Type 0} (order : V → V → Ordering) (read : Records → ℕ → V) (m n : Records) (root : ℕ) (is : IsTree order read m root) (same : SameAt (tree_nodes m root) m n) where
   pub keys_stay : (node : ℕ) → Among node (tree_nodes m root) → keys_below n node ≡ keys_below m node
   keys_stay node there =
-      let here = same_at m n (tree_nodes m root) same node there in
-      let below = same_each m n (nodes_below m (level_of (m node)) node) (λ q among. same_at m n (tree_nodes m root) same q (nodes_in_tree m order read root is node q there among)) in
+      let here = SameAt-among m n (tree_nodes m root) same node there in
+      let below = same-from (nodes_below m (level_of (m node)) node) m n (λ q among. SameAt-among m n (tree_nodes m root) same q (nodes_in_tree m order read root is node q there among)) in
       ap (λ ws. keys (pairs_below n (level_of ws) node)) here ∙ ap keys (pairs-same m n (level_of (m node)) node below)
 
 -- ---- two trees: what is a node of both is the same

@@ -2,7 +2,8 @@
 use Rattle.std.proofs.Common.{◌≡◌, ◌≢◌, ℕ, suc, ◌<◌, ◌≤◌, List, [], ◌∷◌, length, Some, inl, inr, refl, sym, subst, arith}
 use Rattle.std.specs.Prelude.{slice_get}
 use Rattle.std.specs.List.{AllByRecursion}
-use Rattle.tree_ways.proofs.WayLemmas.{either_part}
+use Rattle.image_base.proofs.Among.{Among-append}
+use Rattle.list_facts.proofs.Each.{AllByRecursion-slice_get}
 use Rattle.entry_ref.specs.References.{buffer_of}
 use Rattle.image_base.specs.Records.{Records, Among}
 use Rattle.tree_images.specs.Trees.{tree_pairs}
@@ -24,7 +25,6 @@ use Rattle.attr_cleared.proofs.VisitLemmas.{nothing_visited}
 use Rattle.attr_cleared.specs.Cleared.{IsClearedField, ListIsCleared}
 use Rattle.cleared_steps.specs.StepsLaws.{FirstIsCleared, NothingIsReached}
 use Rattle.cleared_steps.proofs.StepsLists.{all_in, all_pairs, IsIn}
-use Rattle.cleared_steps.proofs.StepsMade.{all_at}
 use Rattle.cleared_steps.proofs.StepsOwned.{form_of, is_short, is_tree}
 
 -- ---- before the first key
@@ -48,7 +48,7 @@ module _ (bits victim field : ℕ) (m : Records) (kind : Kind) (type : ValueType
 
 pub first_clear : FirstIsCleared
 first_clear bits victim m trees are field a at =
-    field_first bits victim field m a.kind a.type a.documents a.dictionary (all_at (IsFieldAt m) trees are field a at)
+    field_first bits victim field m a.kind a.type a.documents a.dictionary (AllByRecursion-slice_get (IsFieldAt m) trees field a are at)
 
 -- ---- past the last phase
 module _ (lawful : FieldIsLawful) (bits victim : ℕ) (at : PlanPlace) (m : Records) (over : at.stage.phase ≡ PHASES) where
@@ -57,7 +57,7 @@ module _ (lawful : FieldIsLawful) (bits victim : ℕ) (at : PlanPlace) (m : Reco
       → (r : ℕ) → Among r (attributes_reach m trees) → buffer_of bits r ≢ victim
   from_last number [] are within cleared r among = absurd among
   from_last number (a ∷ trees) are within cleared r among =
-      elim (either_part r (trees_reach a.kind m a.documents a.dictionary) (attributes_reach m trees) among) [
+      elim (Among-append r (trees_reach a.kind m a.documents a.dictionary) (attributes_reach m trees) among) [
         | inl here ↦ nothing_left bits victim (number 0) at m a over (within 0 (omega arith)) (lawful a.kind a.type m a.documents a.dictionary are.0) (cleared 0 a refl) r here
         | inr behind ↦ from_last (λ i. number (suc i)) trees are.1 (λ i less. within (suc i) (omega arith)) (λ i b there. cleared (suc i) b there) r behind
       ]

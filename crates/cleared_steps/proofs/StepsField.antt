@@ -2,6 +2,7 @@
 use Rattle.std.proofs.Common.{◌≡◌, ◌≢◌, ℕ, ◌/◌, List, map, length, true, Equal, inl, inr, refl, sym, ap, subst, ◌∙◌, arith, nat_cmp}
 use Rattle.std.proofs.lemmas.Cmp.{nat_cmp_total}
 use Rattle.std.proofs.lemmas.Map.Lookups.{exact_unsigned}
+use Rattle.image_base.proofs.Among.{Among-all}
 use Rattle.entry_ref.specs.References.{buffer_of}
 use Rattle.image_base.specs.Records.{Records, Among}
 use Rattle.store_api.specs.Ledgers.{Ledger}
@@ -12,7 +13,6 @@ use Rattle.attr_compaction.specs.declared.plan.PlanKey.TheVariants as plan
 use Rattle.attr_compaction.specs.declared.plan.TheConstants.{DOCUMENTS, KEYS, LISTS, NODES}
 use Rattle.attr_documents.specs.Documents.{documents_refer, items_own, items_refer}
 use Rattle.attr_documents.specs.Flows.{reference_at}
-use Rattle.attr_field.proofs.RefLemmas.{all_among}
 use Rattle.attr_field.specs.Fields.{field_part, IsField}
 use Rattle.attr_field.specs.Flows.{FlowsField}
 use Rattle.attr_images.proofs.ImageLemmas.{value_typed}
@@ -85,7 +85,7 @@ module _ {H : Type 0} (bits victim field : ℕ) (at : PlanPlace) (old new : Ledg
       let began = lies r now_used in_victim in
       let before = flows.own p.0 r began (subst (λ ref. Among r (items_own kind ref)) (sym (reference_is p there)) among) in
       let found = lookup_in (docs.beside_document p.0) (items_own kind) r (tree_pairs m documents) (λ none. none) before in
-      all_among (λ x. buffer_of bits x ≢ victim) (items_own kind found.pair.1) (old_items p.0 found.pair found.there found.equal visited).own r found.among in_victim
+      Among-all (λ x. buffer_of bits x ≢ victim) (items_own kind found.pair.1) (old_items p.0 found.pair found.there found.equal visited).own r found.among in_victim
 
   refer_next : (p : ℕ × ℕ) → IsIn p documents_then → IsVisited at field DOCUMENTS (plan.Doc p.0) → (r : ℕ) → Among r (items_refer kind p.1 (n p.1)) → buffer_of bits r ≢ victim
   refer_next p there visited r among in_victim =
@@ -93,7 +93,7 @@ module _ {H : Type 0} (bits victim field : ℕ) (at : PlanPlace) (old new : Ledg
       let began = lies r now_used in_victim in
       elim (flows.refer p.0 r began (subst (λ ref. Among r (items_refer kind ref (n ref))) (sym (reference_is p there)) among)) [
         | inl before ↦ (let found = lookup_in (docs.beside_document p.0) (λ ref. items_refer kind ref (m ref)) r (tree_pairs m documents) (λ none. none) before in
-            all_among (λ x. buffer_of bits x ≢ victim) (items_refer kind found.pair.1 (m found.pair.1)) (old_items p.0 found.pair found.there found.equal visited).refer r found.among in_victim)
+            Among-all (λ x. buffer_of bits x ≢ victim) (items_refer kind found.pair.1 (m found.pair.1)) (old_items p.0 found.pair found.there found.equal visited).refer r found.among in_victim)
         | inr key ↦ old_key r key (earlier_visited at field KEYS DOCUMENTS (plan.Doc p.0) (plan.Value (stored_value type m r)) (omega arith) visited) in_victim
       ]
 

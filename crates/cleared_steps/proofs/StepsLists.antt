@@ -6,8 +6,9 @@ use Rattle.std.specs.List.{flat_map, AllByRecursion}
 use Rattle.std.specs.List.Sorted.{IsStrictlySortedBy}
 use Rattle.std.specs.Option.{unwrap_or}
 use Rattle.std.specs.declared.cmp.Ordering.{Ordering}
+use Rattle.image_base.proofs.Pairs.{same-from}
+use Rattle.image_base.proofs.Among.{SameAt-among}
 use Rattle.value_index.proofs.KeyLemmas.{among_left, among_right}
-use Rattle.attr_field.proofs.RefLemmas.{same_each}
 use Rattle.image_base.specs.Records.{Records, Among, SameAt}
 use Rattle.key_order.specs.Pairs.{choose, lookup}
 
@@ -16,13 +17,8 @@ pub all_refs : (P : ℕ → Type 0) (refs : List ℕ) → ((r : ℕ) → Among r
 all_refs P [] each = tt
 all_refs P (q ∷ refs) each = (each q (inl refl), all_refs P refs (λ r later. each r (inr later)))
 
-pub same_at : (m n : Records) (refs : List ℕ) → SameAt refs m n → (r : ℕ) → Among r refs → n r ≡ m r
-same_at m n [] same r among = absurd among
-same_at m n (q ∷ refs) same r (inl e) = ap n e ∙ same.0 ∙ sym (ap m e)
-same_at m n (q ∷ refs) same r (inr later) = same_at m n refs same.1 r later
-
 pub same_flat : (m n : Records) (f : ℕ → List ℕ) (vs : List ℕ) → ((v : ℕ) → Among v vs → SameAt (f v) m n) → SameAt (flat_map f vs) m n
-same_flat m n f vs each = same_each m n (flat_map f vs) (told vs each)
+same_flat m n f vs each = same-from (flat_map f vs) m n (told vs each)
   where
     either : (r : ℕ) (xs ys : List ℕ) → Among r (xs ++ ys) → Among r xs ⊎ Among r ys
     either r [] ys among = inr among
@@ -35,7 +31,7 @@ same_flat m n f vs each = same_each m n (flat_map f vs) (told vs each)
     told : (ws : List ℕ) → ((v : ℕ) → Among v ws → SameAt (f v) m n) → (r : ℕ) → Among r (flat_map f ws) → n r ≡ m r
     told [] all r among = absurd among
     told (w ∷ ws) all r among = elim (either r (f w) (flat_map f ws) among) [
-      | inl here ↦ same_at m n (f w) (all w (inl refl)) r here
+      | inl here ↦ SameAt-among m n (f w) (all w (inl refl)) r here
       | inr there ↦ told ws (λ v later. all v (inr later)) r there
     ]
 

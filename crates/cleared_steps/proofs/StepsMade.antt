@@ -1,7 +1,8 @@
 -- What was cleared of attributes, through an operation.
 use Rattle.std.proofs.Common.{◌≡◌, ℕ, zero, suc, ◌<◌, List, [], ◌∷◌, Some, true, inl, inr, refl, sym, ap, subst, ◌∙◌, arith}
 use Rattle.std.specs.Prelude.{slice_get}
-use Rattle.std.specs.List.{AllByRecursion, AllZip}
+use Rattle.std.specs.List.{AllZip}
+use Rattle.list_facts.proofs.Each.{AllByRecursion-slice_get}
 use Rattle.entry_ref.specs.References.{buffer_of}
 use Rattle.image_base.specs.Records.{Records, Among}
 use Rattle.store_api.specs.Ledgers.{Ledger}
@@ -20,12 +21,6 @@ use Rattle.cleared_steps.specs.StepsLaws.{OperationLeavesCleared}
 use Rattle.cleared_steps.proofs.StepsField.{field_next}
 use Rattle.cleared_steps.proofs.StepsOwned.{key_is_owned}
 use Rattle.cleared_steps.proofs.SameLemmas.{none_some, some_or}
-
--- ---- one of a list
-pub all_at : (P : AttributeTrees → Type 0) (trees : List AttributeTrees) → AllByRecursion P trees → (i : ℕ) (a : AttributeTrees) → slice_get trees i ≡ Some a → P a
-all_at P [] all i a at = absurd (none_some a at)
-all_at P (first ∷ trees) all zero a at = subst P (ap (some_or first) at) all.0
-all_at P (first ∷ trees) all (suc i) a at = all_at P trees all.1 i a at
 
 pub counted : (r : ℕ) (m : Records) (trees : List AttributeTrees) (i : ℕ) (a : AttributeTrees) → slice_get trees i ≡ Some a → Among r ((part_of a).reach m)
     → 0 < count_in r m (parts_of trees)
@@ -60,7 +55,7 @@ module _ {H : Type 0} (bits : ℕ) (ledger : Ledger H) (m : Records) (fields : L
 
   pub referred_used : (r : ℕ) → Among r (documents_refer a.kind m a.documents) → in_use (ledger.status r) ≡ true
   referred_used r among =
-      let refers = all_at (λ (x : AttributeTrees). RefersBeside ledger x.kind m x.documents x.dictionary (entries (root_entries root) ∷ parts_of trees)) trees holds.refer i a at in
+      let refers = AllByRecursion-slice_get (λ (x : AttributeTrees). RefersBeside ledger x.kind m x.documents x.dictionary (entries (root_entries root) ∷ parts_of trees)) trees i a holds.refer at in
       elim (refers.each r among) [
         | inl key ↦ owned_used r (key_is_owned a.kind m a.documents a.dictionary r key)
         | inr less ↦ in-uses ledger r (omega arith)
@@ -81,8 +76,8 @@ operation_clear bits victim at old new m n fields trees next op before root back
     let a = found.former in
     let flows = found.joined in
     let same = named_is a.kind a.type b flows.kind flows.type in
-    let is = all_at (IsFieldAt m) trees holds.are_fields.each field a found.at in
-    let is_then = all_at (IsFieldAt n) next holds_then.are_fields.each field b here in
+    let is = AllByRecursion-slice_get (IsFieldAt m) trees field a holds.are_fields.each found.at in
+    let is_then = AllByRecursion-slice_get (IsFieldAt n) next field b holds_then.are_fields.each here in
     let began : (r : ℕ) → in_use (old.status r) ≡ true → in_use (old.back r) ≡ true = λ r now_used. ap (λ (s : ℕ → Status). in_use (s r)) back_is ∙ now_used in
     subst (IsClearedField bits victim at field n) same (
     field_next bits victim field at old new m n a.kind a.type a.documents a.dictionary b.documents b.dictionary is (subst (IsFieldAt n) (sym same) is_then)

@@ -1,7 +1,9 @@
 -- What was cleared, at another place that visits no more.
-use Rattle.std.proofs.Common.{◌≡◌, ◌≢◌, ℕ, zero, suc, ◌<◌, List, [], ◌∷◌, ◌++◌, map, length, None, Some, false, inl, inr, refl, sym, ap, subst, ◌∙◌, arith, nat_cmp}
+use Rattle.std.proofs.Common.{◌≡◌, ◌≢◌, ℕ, ◌<◌, List, [], ◌∷◌, ◌++◌, map, length, None, false, inl, inr, refl, sym, ap, subst, ◌∙◌, arith, nat_cmp}
 use Rattle.std.specs.Prelude.{slice_get}
 use Rattle.std.specs.List.{flat_map}
+use Rattle.std.proofs.lemmas.Option.{slice_get_within}
+use Rattle.list_facts.proofs.Each.{AllByRecursion-slice_get}
 use Rattle.entry_ref.specs.References.{buffer_of}
 use Rattle.image_base.specs.Records.{Records, Among}
 use Rattle.tree_images.specs.Trees.{by_number, tree_pairs}
@@ -30,8 +32,7 @@ use Rattle.cleared_steps.specs.StepsLaws.{OthersStayCleared, PhaseEndLeavesClear
 use Rattle.cleared_steps.proofs.StepsBelow.{keys_in_tree}
 use Rattle.cleared_steps.proofs.StepsLists.{all_in, all_pairs, IsIn}
 use Rattle.cleared_steps.proofs.StepsOwned.{of_key}
-use Rattle.cleared_steps.proofs.SameLemmas.{none_some, some_or}
-use Rattle.cleared_steps.proofs.StepsMade.{all_at}
+use Rattle.cleared_steps.proofs.SameLemmas.{some_or}
 
 -- ---- keys in lists of keys
 key_of_pair : (f : ℕ × ℕ → PlanKey) (ps : List (ℕ × ℕ)) (p : ℕ × ℕ) → IsIn p ps → IsAmongKeys (f p) (map f ps)
@@ -123,15 +124,10 @@ others_clear bits victim field at key m a is other cleared =
     field_fewer bits victim field at (place_at_key at key) m a.kind a.type a.documents a.dictionary is
     (λ phase k last some member visited. others_visited at key field phase k (inl other) visited) cleared
 
-below_length : (trees : List AttributeTrees) (i : ℕ) (a : AttributeTrees) → slice_get trees i ≡ Some a → i < length trees
-below_length [] i a at = absurd (none_some a at)
-below_length (first ∷ trees) zero a at = omega arith
-below_length (first ∷ trees) (suc i) a at = let less = below_length trees i a at in omega arith
-
 pub phase_clear : PhaseEndLeavesCleared
 phase_clear bits victim at m trees a are few here none cleared i b there =
-    field_fewer bits victim i at (place_after (length trees) at plan.Start) m b.kind b.type b.documents b.dictionary (all_at (IsFieldAt m) trees are i b there)
-    (λ phase k last some member visited. elim (stage_visited (length trees) at i phase k few (below_length trees i b there) last some visited) [
+    field_fewer bits victim i at (place_after (length trees) at plan.Start) m b.kind b.type b.documents b.dictionary (AllByRecursion-slice_get (IsFieldAt m) trees i b are there)
+    (λ phase k last some member visited. elim (stage_visited (length trees) at i phase k few (slice_get_within trees i b there) last some visited) [
       | inl before ↦ before
       | inr same ↦ end_visited at i phase (phase_keys b.type m b.documents b.dictionary phase) k same.0 same.1
           (subst (λ p. key_past at.key (phase_keys b.type m b.documents b.dictionary p) ≡ None) same.1

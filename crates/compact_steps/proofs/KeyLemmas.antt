@@ -2,6 +2,9 @@
 use Rattle.std.proofs.Common.{◌≡◌, ℕ, zero, suc, ◌<◌, Bool, true, false, cond, nat_eq, List, [], ◌∷◌, ◌++◌, map, length, Some, is_lt, refl, sym, ap, subst, ◌∙◌, arith}
 use Rattle.std.specs.Prelude.{slice_get}
 use Rattle.std.specs.List.{find, flat_map, AllByRecursion}
+use Rattle.attr_images.proofs.ImageLemmas.{value_typed}
+use Rattle.list_facts.proofs.Each.{AllByRecursion-append}
+use Rattle.list_facts.proofs.Options.{same_Some}
 use Rattle.plan_counts.proofs.StageLemmas.{less_is}
 use Rattle.image_base.specs.Records.{Records, SameAt}
 use Rattle.tree_images.specs.ProofsForTrees.{SameAt-left, SameAt-right, flat_map-same, map-same, tree_pairs-same}
@@ -16,7 +19,6 @@ use Rattle.attr_compaction.specs.Places.{has_key, key_cmp, IsPast, PlanPlace}
 use Rattle.attr_compaction.specs.declared.plan.PlanKey.{PlanKey}
 use Rattle.attr_compaction.specs.declared.plan.PlanKey.TheVariants.{Value, Doc, Pair}
 use Rattle.attr_compaction.specs.declared.plan.TheConstants.{DOCUMENTS, KEYS, LISTS, PHASES}
-use Rattle.value_index.proofs.KeyLemmas.{type_read}
 use Rattle.value_index.specs.Indexes.{index_reach}
 use Rattle.plan_keys.specs.PhaseKeys.{document_keys, form_docs, key_past, keys_of_pairs, pair_keys, value_keys, HasType}
 use Rattle.attr_steps.specs.Fields.{part_of}
@@ -82,25 +84,21 @@ pub record FitsPhase (type : ValueType) (phase : ℕ) (key : PlanKey) : Type 0 w
 module _ (type : ValueType) (m : Records) (phase : ℕ) where
   values_fit : ((v : AnyValue) → has_key phase (Value v) ≡ true) → (ps : List (ℕ × ℕ)) → AllByRecursion (FitsPhase type phase) (map (λ p. Value (stored_value type m p.0)) ps)
   values_fit is [] = tt
-  values_fit is (p ∷ ps) = (record { typed = type_read type (m p.0); of_phase = is (stored_value type m p.0) }, values_fit is ps)
+  values_fit is (p ∷ ps) = (record { typed = value_typed type (m p.0); of_phase = is (stored_value type m p.0) }, values_fit is ps)
 
   documents_fit : ((d : ℕ) → has_key phase (Doc d) ≡ true) → (ps : List (ℕ × ℕ)) → AllByRecursion (FitsPhase type phase) (map (λ p. Doc p.0) ps)
   documents_fit is [] = tt
   documents_fit is (p ∷ ps) = (record { typed = tt; of_phase = is p.0 }, documents_fit is ps)
 
-  all_both : (P : PlanKey → Type 0) (xs ys : List PlanKey) → AllByRecursion P xs → AllByRecursion P ys → AllByRecursion P (xs ++ ys)
-  all_both P [] ys front behind = behind
-  all_both P (x ∷ xs) ys front behind = (front.0, all_both P xs ys front.1 behind)
-
   one_fits : ((v : AnyValue) (d : ℕ) → has_key phase (Pair v d) ≡ true) → (key : ℕ) (docs : List ℕ)
       → AllByRecursion (FitsPhase type phase) (map (λ doc. Pair (stored_value type m key) doc) docs)
   one_fits is key [] = tt
-  one_fits is key (d ∷ docs) = (record { typed = type_read type (m key); of_phase = is (stored_value type m key) d }, one_fits is key docs)
+  one_fits is key (d ∷ docs) = (record { typed = value_typed type (m key); of_phase = is (stored_value type m key) d }, one_fits is key docs)
 
   pairs_fit : ((v : AnyValue) (d : ℕ) → has_key phase (Pair v d) ≡ true) → (ps : List (ℕ × ℕ)) → AllByRecursion (FitsPhase type phase) (keys_of_pairs type m ps)
   pairs_fit is [] = tt
   pairs_fit is (p ∷ ps) =
-      all_both (FitsPhase type phase) (map (λ doc. Pair (stored_value type m p.0) doc) (form_docs m (list_form p.1))) (keys_of_pairs type m ps)
+      AllByRecursion-append (FitsPhase type phase) (map (λ doc. Pair (stored_value type m p.0) doc) (form_docs m (list_form p.1))) (keys_of_pairs type m ps)
       (one_fits is p.0 (form_docs m (list_form p.1))) (pairs_fit is ps)
 
 pub keys_fit : (m : Records) (a : AttributeTrees) (phase : ℕ) → phase < PHASES → AllByRecursion (FitsPhase a.type phase) (keys_at m a phase)
@@ -108,20 +106,16 @@ keys_fit m a zero few = values_fit a.type m 0 (λ v. refl) (tree_pairs m a.dicti
 keys_fit m a (suc zero) few = documents_fit a.type m 1 (λ d. refl) (tree_pairs m a.documents)
 keys_fit m a (suc (suc zero)) few = pairs_fit a.type m 2 (λ v d. refl) (tree_pairs m a.dictionary)
 keys_fit m a (suc (suc (suc zero))) few =
-    all_both a.type m 3 (FitsPhase a.type 3) (value_keys a.type m a.dictionary) (document_keys m a.documents)
+    AllByRecursion-append (FitsPhase a.type 3) (value_keys a.type m a.dictionary) (document_keys m a.documents)
     (values_fit a.type m 3 (λ v. refl) (tree_pairs m a.dictionary)) (documents_fit a.type m 3 (λ d. refl) (tree_pairs m a.documents))
 keys_fit m a (suc (suc (suc (suc phase)))) few = absurd (omega arith)
-
--- ---- the one that is found
-same_key : (x y : PlanKey) → Some x ≡ Some y → x ≡ y
-same_key x y e = cc
 
 pub found_is : (P : PlanKey → Type 0) (test : PlanKey → Bool) (keys : List PlanKey) (key : PlanKey) → AllByRecursion P keys → find test keys ≡ Some key → P key × (test key ≡ true)
 found_is P test [] key all found = cc
 found_is P test (x ∷ xs) key all found = told (λ later. found_is P test xs key all.1 later) (test x) refl found
   where
     told : (find test xs ≡ Some key → P key × (test key ≡ true)) → (t : Bool) → test x ≡ t → cond t (Some x) (find test xs) ≡ Some key → P key × (test key ≡ true)
-    told more true is here = let e = same_key x key here in (subst P e all.0, ap test (sym e) ∙ is)
+    told more true is here = let e = same_Some x key here in (subst P e all.0, ap test (sym e) ∙ is)
     told more false is later = more later
 
 pub next_fits : (m : Records) (a : AttributeTrees) (at : PlanPlace) (key : PlanKey) → at.stage.phase < PHASES → key_past at.key (keys_at m a at.stage.phase) ≡ Some key

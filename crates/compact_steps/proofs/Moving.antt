@@ -3,6 +3,9 @@ use Rattle.std.proofs.Common.{◌≡◌, ◌≢◌, ℕ, zero, suc, ◌<◌, Boo
 use Rattle.std.proofs.lemmas.Bool.{cases_eq}
 use Rattle.std.specs.Prelude.{slice_get}
 use Rattle.std.specs.List.{AllByRecursion}
+use Rattle.list_facts.proofs.Options.{same_Some}
+use Rattle.list_facts.proofs.Places.{slice_get-set_other}
+use Rattle.list_facts.proofs.Each.{AllByRecursion-slice_get}
 use Rattle.entry_ref.specs.References.{buffer_of}
 use Rattle.image_base.specs.Records.{Records, Among, SameAt}
 use Rattle.store_api.specs.Calls.{Accepts}
@@ -13,7 +16,6 @@ use Rattle.store_api.proofs.Times.{absent-times, among-times}
 use Rattle.store_api.proofs.UnitLemmas.{turns-accept}
 use Rattle.store_api.proofs.Uses.{uses-few}
 use Rattle.attr_documents.specs.Documents.{documents_refer}
-use Rattle.attr_images.proofs.ImageLemmas.{all_at}
 use Rattle.attr_images.specs.Tables.{AttributeTrees, HaveSameDocuments, columns_at, table_of_columns}
 use Rattle.attr_index.specs.Columns.{Column}
 use Rattle.attr_types.specs.declared.field.Field.{Field}
@@ -23,7 +25,7 @@ use Rattle.attr_steps.specs.Views.{table_at}
 use Rattle.attr_steps.proofs.Columns.{FieldLaws}
 use Rattle.attr_steps.proofs.PartLists.{count_at, count_set, stay_at}
 use Rattle.attr_steps.proofs.Referring.{AreSame, IsSameAt, RefersAt, all_changed, all_moved, each_same, key_owned, stays_beside}
-use Rattle.attr_steps.proofs.TreeLists.{all_from, get_set-same, get_set-other, rest_at, set_length, some_is}
+use Rattle.attr_steps.proofs.TreeLists.{all_from, get_set-same, rest_at, set_length}
 use Rattle.attr_steps.proofs.Units.{fields_stay, table_stays}
 use Rattle.compact_steps.specs.Units.{keys_at}
 
@@ -49,7 +51,7 @@ columns_set : (m n : Records) (trees : List AttributeTrees) (i : ℕ) (a b : Att
     → ((j : ℕ) (c : AttributeTrees) → j ≢ i → slice_get trees j ≡ Some c → column_in n c ≡ column_in m c) → columns_at n (set trees i b) ≡ columns_at m trees
 columns_set m n [] i a b at here others = cc
 columns_set m n (c ∷ trees) zero a b at here others =
-    ap₂ (λ (x : Column) (xs : List Column). x ∷ xs) (here ∙ ap (column_in m) (sym (some_is c a at)))
+    ap₂ (λ (x : Column) (xs : List Column). x ∷ xs) (here ∙ ap (column_in m) (sym (same_Some c a at)))
     (columns_same m n trees (λ j d there. others (suc j) d (λ e. absurd (omega arith)) there))
 columns_set m n (c ∷ trees) (suc i) a b at here others =
     ap₂ (λ (x : Column) (xs : List Column). x ∷ xs) (others 0 c (λ e. absurd (omega arith)) refl)
@@ -79,7 +81,7 @@ module _ (laws : FieldLaws) {H : Type 0} (bits victim : ℕ) (begun mid : Ledger
 
   other : (j : ℕ) (c : AttributeTrees) → j ≢ i → slice_get trees j ≡ Some c → IsSameAt m n c
   other j c apart there =
-      stays_beside laws m n c (all_at (IsFieldAt m) trees j c are.each there) begun before (all_at (RefersAt begun m before) trees j c refer there) (other_stays j c apart there) turned.turns.kept
+      stays_beside laws m n c (AllByRecursion-slice_get (IsFieldAt m) trees j c are.each there) begun before (AllByRecursion-slice_get (RefersAt begun m before) trees j c refer there) (other_stays j c apart there) turned.turns.kept
 
   -- the attribute moved refers to keys, or to old copies beside all parts
   here_refers : RefersAt mid n behind b
@@ -88,8 +90,8 @@ module _ (laws : FieldLaws) {H : Type 0} (bits victim : ℕ) (begun mid : Ledger
       | inl key ↦ inl key
       | inr out ↦ elim out [
         | inl left ↦ inr (let some = among-times r part.left left in let few = turned.owns.each r in omega arith)
-        | inr was ↦ elim ((all_at (RefersAt begun m before) trees i a refer at).each r was.0) [
-          | inl key ↦ (let some = key_owned laws m n a (all_at (IsFieldAt m) trees i a are.each at) r key in
+        | inr was ↦ elim ((AllByRecursion-slice_get (RefersAt begun m before) trees i a refer at).each r was.0) [
+          | inl key ↦ (let some = key_owned laws m n a (AllByRecursion-slice_get (IsFieldAt m) trees i a are.each at) r key in
               let few = uses-few begun r in let less = was.1 in absurd (omega arith))
           | inr beside ↦ inr (let t = turned.turns.balance r in omega arith)
         ]
@@ -102,8 +104,8 @@ module _ (laws : FieldLaws) {H : Type 0} (bits victim : ℕ) (begun mid : Ledger
 
   mid_fields : AllByRecursion (IsFieldAt n) (set trees i b)
   mid_fields = all_from (IsFieldAt n) (set trees i b) (λ j c there. elim (cases_eq j i) [
-    | inl e ↦ subst (IsFieldAt n) (some_is b c (sym (get_set-same trees i a b at) ∙ ap (slice_get (set trees i b)) (sym e) ∙ there)) part.is_field
-    | inr apart ↦ (other j c apart (sym (get_set-other trees i j b apart) ∙ there)).field_is
+    | inl e ↦ subst (IsFieldAt n) (same_Some b c (sym (get_set-same trees i a b at) ∙ ap (slice_get (set trees i b)) (sym e) ∙ there)) part.is_field
+    | inr apart ↦ (other j c apart (sym (slice_get-set_other trees i j b apart) ∙ there)).field_is
   ])
 
   mid_columns : columns_at n (set trees i b) ≡ columns_at m trees

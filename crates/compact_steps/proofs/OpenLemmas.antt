@@ -1,14 +1,13 @@
 -- A compaction that is begun or goes on, and what a walk and its end make of it.
-use Rattle.std.proofs.Common.{◌≡◌, ◌≢◌, ℕ, Bool, true, false, cond, nat_eq, List, ◌∷◌, length, Option, None, Some, Greater, inl, inr, true≢false, refl, sym, ap, ap₂, subst, ◌∙◌, arith}
+use Rattle.std.proofs.Common.{◌≡◌, ◌≢◌, ℕ, Bool, true, false, cond, nat_eq, List, ◌∷◌, length, Option, None, Some, Greater, inl, true≢false, refl, sym, ap, ap₂, subst, ◌∙◌, arith}
 use Rattle.std.proofs.lemmas.Bool.{eqb-true, eqb-false}
 use Rattle.std.specs.Prelude.{slice_get}
 use Rattle.std.specs.Option.{IfSome}
+use Rattle.store_api.proofs.May.{back-then}
 use Rattle.entry_ref.specs.References.{buffer_of}
 use Rattle.image_base.specs.Records.{Records, Among}
 use Rattle.store_api.specs.Calls.{Seals}
 use Rattle.store_api.specs.Ledgers.{Ledger, OfWidth, is_this}
-use Rattle.store_api.specs.Statuses.{Status}
-use Rattle.store_api.specs.Units.{IsSameBack}
 use Rattle.store_api.specs.Victims.{IsVictim}
 use Rattle.store_api.specs.declared.store.StoreError.{StoreError}
 use Rattle.attr_compaction.specs.Places.{first_place, place_cmp, PlanPlace, PlanView}
@@ -78,15 +77,9 @@ but_kept a b c keeps = record {
   finished = refl;
 }
 
--- ---- entries that are left twice
-back_then : (a b c : Status) → IsSameBack a b → IsSameBack b c → IsSameBack a c
-back_then a b c (inl e) two = subst (λ (s : Status). IsSameBack s c) e two
-back_then a b c (inr freed) (inl e) = inr (freed.0, e ∙ freed.1)
-back_then a b c (inr freed) (inr again) = inr (freed.0, again.1)
-
 pub leaves_then : {H : Type 0} (a b c : Ledger H) (m k n : Records) → LeavesEntries a b m k → LeavesEntries b c k n → LeavesEntries a c m n
 leaves_then a b c m k n one two = record {
-  status = λ r. back_then (a.status r) (b.status r) (c.status r) (one.status r) (two.status r);
+  status = λ r. back-then (a.status r) (b.status r) (c.status r) (one.status r) (two.status r);
   records = two.records ∙ one.records;
 }
 

@@ -8,6 +8,8 @@ use Rattle.std.specs.List.Sorted.{IsStrictlySortedBy}
 use Rattle.std.specs.Option.{IfSome}
 use Rattle.std.specs.declared.cmp.Ordering.{Ordering}
 use Rattle.std.specs.Ordering.{ordering_then}
+use Rattle.list_facts.proofs.Options.{same_Some}
+use Rattle.list_facts.proofs.Each.{AllByRecursion-slice_get}
 use Rattle.image_base.specs.Records.{Records}
 use Rattle.store_api.specs.Ledgers.{Ledger}
 use Rattle.attr_cleared.specs.Cleared.{IsCleared, IsClearedField}
@@ -16,10 +18,8 @@ use Rattle.attr_compaction.specs.Places.{key_cmp, place_after, place_cmp, IsPast
 use Rattle.attr_compaction.specs.declared.plan.PlanKey.{PlanKey}
 use Rattle.attr_compaction.specs.declared.plan.Stage.{Stage}
 use Rattle.attr_compaction.specs.declared.plan.TheConstants.{PHASES}
-use Rattle.attr_images.proofs.ImageLemmas.{all_at}
 use Rattle.attr_images.specs.Tables.{AttributeTrees}
 use Rattle.attr_types.specs.declared.field.Field.{Field}
-use Rattle.attr_steps.proofs.TreeLists.{some_is}
 use Rattle.attr_steps.specs.Fields.{IsFieldAt}
 use Rattle.clear_keys.specs.Passes.{GoesThrough}
 use Rattle.cleared_steps.specs.StepsLaws.{OthersStayCleared}
@@ -67,8 +67,8 @@ passed_way others bits ledger m trees plan new a key way each at fits cleared vi
     all j c there = elim (cases_eq j plan.place.stage.field) [
       | inl e ↦ subst (λ (f : ℕ). IsClearedField bits plan.victim (at_key plan.place key) f m c) (sym e)
           (subst (λ (d : AttributeTrees). IsClearedField bits plan.victim (at_key plan.place key) plan.place.stage.field m d)
-          (some_is a c (sym at ∙ ap (slice_get trees) (sym e) ∙ there)) cleared)
-      | inr apart ↦ others bits plan.victim j plan.place key m c (all_at (IsFieldAt m) trees j c each there) (λ e. apart (sym e)) (way.cleared j c there)
+          (same_Some a c (sym at ∙ ap (slice_get trees) (sym e) ∙ there)) cleared)
+      | inr apart ↦ others bits plan.victim j plan.place key m c (AllByRecursion-slice_get (IsFieldAt m) trees j c each there) (λ e. apart (sym e)) (way.cleared j c there)
     ]
 
 -- the plan that went on to the last of them, and the one that stays
@@ -124,7 +124,7 @@ module _ {H : Type 0} (bits root : ℕ) (fields : List Field) (old mid : Ledger 
 
   counts : (keys_between from.place at.place k next ≡ count + keys_between from.place to.place k next) × (place_cmp from.place at.place ≢ Greater)
   counts =
-      let is = all_at (IsFieldAt k) next to.place.stage.field passes.tree visits.holds.are_fields.each passes.at in
+      let is = AllByRecursion-slice_get (IsFieldAt k) next to.place.stage.field passes.tree visits.holds.are_fields.each passes.at in
       let up = phase_ascends passes.tree.type k passes.tree.documents passes.tree.dictionary to.place.stage.phase is.documents_are.map_is is.index_is in
       let all = through_counts k next passes.tree from.place to.place passes.passed at.place.key passes.at up few visits.rises passes.through in
       subst (λ (p : PlanPlace). (keys_between from.place p k next ≡ count + keys_between from.place to.place k next) × (place_cmp from.place p ≢ Greater)) same_place

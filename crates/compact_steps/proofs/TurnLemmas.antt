@@ -4,6 +4,7 @@ use Rattle.std.proofs.lemmas.Option.{slice_get_read}
 use Rattle.std.specs.Prelude.{slice_get, unwrap_or}
 use Rattle.std.specs.List.{AllByRecursion}
 use Rattle.std.specs.Option.{IfSome, option_and_then}
+use Rattle.list_facts.proofs.Each.{AllByRecursion-slice_get}
 use Rattle.image_base.specs.Records.{Records}
 use Rattle.store_api.specs.Ledgers.{Ledger}
 use Rattle.attr_cleared.specs.Cleared.{IsCleared}
@@ -14,7 +15,6 @@ use Rattle.attr_compaction.specs.declared.plan.PlanKey.{PlanKey}
 use Rattle.attr_compaction.specs.declared.plan.PlanKey.TheVariants.{Start}
 use Rattle.attr_compaction.specs.declared.plan.TheConstants.{PHASES}
 use Rattle.attr_field.specs.declared.roots.FieldRoots.{FieldRoots}
-use Rattle.attr_images.proofs.ImageLemmas.{all_at}
 use Rattle.attr_images.specs.Tables.{AttributeTrees}
 use Rattle.attr_types.specs.declared.field.Field.{Field}
 use Rattle.plan_keys.specs.PhaseKeys.{key_past, HasType}
@@ -126,7 +126,7 @@ module _ {bits : ℕ} {H : Type 0} (ledger : Ledger H) (m : Records) (fields : L
     at_place = record {
       at_field = field_there;
       at = here;
-      is_field = all_at (IsFieldAt m) (trees_of fields roots) plan.place.stage.field (trees_of_field field own) holds.are_fields.each here;
+      is_field = AllByRecursion-slice_get (IsFieldAt m) (trees_of fields roots) plan.place.stage.field (trees_of_field field own) holds.are_fields.each here;
       typed = subst (λ (o : Option AttributeTrees). IfSome o (λ a. HasType a.type plan.place.key)) here way.typed;
     }
 

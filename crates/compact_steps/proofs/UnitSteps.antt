@@ -4,6 +4,9 @@ use Rattle.std.proofs.lemmas.Bool.{cases_eq}
 use Rattle.std.specs.Prelude.{◌↔◌, slice_get}
 use Rattle.std.specs.List.{AllByRecursion}
 use Rattle.std.specs.Option.{IfSome}
+use Rattle.list_facts.proofs.Options.{same_Some}
+use Rattle.list_facts.proofs.Places.{slice_get-set_other}
+use Rattle.list_facts.proofs.Each.{AllByRecursion-slice_get}
 use Rattle.entry_ref.specs.References.{buffer_of}
 use Rattle.image_base.specs.Records.{Among, Records, SameAt}
 use Rattle.arena_api.specs.Calls.{FitsEntry}
@@ -19,7 +22,6 @@ use Rattle.store_api.proofs.Uses.{used_has}
 use Rattle.tree_images.specs.declared.TheConstants.{NODE_WORDS}
 use Rattle.index_moves.specs.Moves.{IsKeyIn}
 use Rattle.attr_documents.specs.Documents.{documents_refer}
-use Rattle.attr_images.proofs.ImageLemmas.{all_at}
 use Rattle.attr_images.specs.Documents.{column_at}
 use Rattle.attr_walks.specs.Counts.{MakesFew}
 use Rattle.attr_field.specs.Fields.{field_part, IsField}
@@ -41,7 +43,7 @@ use Rattle.attr_steps.proofs.Columns.{FieldLaws}
 use Rattle.attr_steps.proofs.CountLemmas.{spares_among}
 use Rattle.attr_steps.proofs.PartLists.{count_at}
 use Rattle.attr_steps.proofs.Referring.{RefersAt, all_weaker}
-use Rattle.attr_steps.proofs.TreeLists.{get_set-same, get_set-other, set_length, some_is}
+use Rattle.attr_steps.proofs.TreeLists.{get_set-same, set_length}
 use Rattle.field_moves.specs.Moves.{HasBegun, MovesField}
 use Rattle.compact_steps.specs.Units.{keys_at, CompactsTo, HasActive, IsUnderWay, SparesBelow}
 use Rattle.compact_steps.proofs.KeyLemmas.{all_keep, keys_stay, next_fits}
@@ -76,10 +78,10 @@ module _ {H : Type 0} (bits : ℕ) (old : Ledger H) (m : Records) (fields : List
     unit = refl;
     begun = record { each = λ r used. ap (λ (s : ℕ → Status). in_use (s r)) settled.back ∙ used };
     sealed = way.sealed;
-    field = all_at (IsFieldAt m) trees plan.place.stage.field a holds.are_fields.each at;
+    field = AllByRecursion-slice_get (IsFieldAt m) trees plan.place.stage.field a holds.are_fields.each at;
     owns = owns-some (record old { unit = true }) m before (part_of a ∷ []) begun_owns one_few;
     refers = refers_some a.kind (record old { unit = true }) m a.documents a.dictionary before (part_of a ∷ [])
-        (all_at (RefersAt (record old { unit = true }) m before) trees plan.place.stage.field a begun_refer at) one_few;
+        (AllByRecursion-slice_get (RefersAt (record old { unit = true }) m before) trees plan.place.stage.field a begun_refer at) one_few;
     cleared = way.cleared plan.place.stage.field a at;
   }
 
@@ -114,14 +116,14 @@ module _ {H : Type 0} (bits : ℕ) (old : Ledger H) (m : Records) (fields : List
 
     one_stays : (list : List AttributeTrees) → AllStay (parts_of list) n o → (j : ℕ) (c : AttributeTrees) → slice_get list j ≡ Some c → SameAt ((part_of c).reach n) n o
     one_stays [] stay j c there = cc
-    one_stays (x ∷ list) stay zero c there = subst (λ (y : AttributeTrees). SameAt ((part_of y).reach n) n o) (some_is x c there) stay.0
+    one_stays (x ∷ list) stay zero c there = subst (λ (y : AttributeTrees). SameAt ((part_of y).reach n) n o) (same_Some x c there) stay.0
     one_stays (x ∷ list) stay (suc j) c there = one_stays list stay.1 j c there
 
     is_b : (j : ℕ) (c : AttributeTrees) → j ≡ i → slice_get after j ≡ Some c → b ≡ c
-    is_b j c e there = some_is b c (sym (get_set-same trees i a b at) ∙ ap (slice_get after) (sym e) ∙ there)
+    is_b j c e there = same_Some b c (sym (get_set-same trees i a b at) ∙ ap (slice_get after) (sym e) ∙ there)
 
     was : (j : ℕ) (c : AttributeTrees) → j ≢ i → slice_get after j ≡ Some c → slice_get trees j ≡ Some c
-    was j c apart there = sym (get_set-other trees i j b apart) ∙ there
+    was j c apart there = sym (slice_get-set_other trees i j b apart) ∙ there
 
     -- in the unit
     mid_cleared : IsCleared bits plan.victim place n after
@@ -129,19 +131,19 @@ module _ {H : Type 0} (bits : ℕ) (old : Ledger H) (m : Records) (fields : List
       | inl e ↦ subst (λ (f : ℕ). IsClearedField bits plan.victim place f n c) (sym e)
           (subst (λ (d : AttributeTrees). IsClearedField bits plan.victim place i n d) (is_b j c e there) cleared)
       | inr apart ↦ (let here = was j c apart there in
-          let is = all_at (IsFieldAt m) trees j c holds.are_fields.each here in
+          let is = AllByRecursion-slice_get (IsFieldAt m) trees j c holds.are_fields.each here in
           stays bits plan.victim j place m n c is (apart_stays j c apart here) (others bits plan.victim j plan.place key m c is (λ e. apart (sym e)) (way.cleared j c here)))
     ]
 
     new_cleared : IsCleared bits plan.victim place o after
-    new_cleared j c there = stays bits plan.victim j place n o c (all_at (IsFieldAt n) after j c mid_each there) (one_stays after parts_stay j c there) (mid_cleared j c there)
+    new_cleared j c there = stays bits plan.victim j place n o c (AllByRecursion-slice_get (IsFieldAt n) after j c mid_each there) (one_stays after parts_stay j c there) (mid_cleared j c there)
 
     mid_keys : (j : ℕ) (c d : AttributeTrees) → slice_get trees j ≡ Some c → slice_get after j ≡ Some d → (phase : ℕ) → keys_at n d phase ≡ keys_at m c phase
     mid_keys j c d here there phase = elim (cases_eq j i) [
-      | inl e ↦ (let first : a ≡ c = some_is a c (sym at ∙ ap (slice_get trees) (sym e) ∙ here) in
+      | inl e ↦ (let first : a ≡ c = same_Some a c (sym at ∙ ap (slice_get trees) (sym e) ∙ here) in
           subst (λ (x : AttributeTrees). keys_at n d phase ≡ keys_at m x phase) first
           (subst (λ (y : AttributeTrees). keys_at n y phase ≡ keys_at m a phase) (is_b j d e there) (part.keys phase)))
-      | inr apart ↦ (let same : c ≡ d = some_is c d (sym here ∙ was j d apart there) in
+      | inr apart ↦ (let same : c ≡ d = same_Some c d (sym here ∙ was j d apart there) in
           subst (λ (y : AttributeTrees). keys_at n y phase ≡ keys_at m c phase) same (keys_stay m n c (apart_stays j c apart here) phase))
     ]
 

@@ -7,6 +7,7 @@ use Rattle.std.specs.Prelude.{slice_get, unwrap_or, Ok, Err}
 use Rattle.std.specs.List.{AllByRecursion}
 use Rattle.std.specs.Option.{option_and_then}
 use Rattle.std.specs.Ordering.{is_gt}
+use Rattle.list_facts.proofs.Options.{same_Some}
 use Rattle.image_base.specs.Records.{Records}
 use Rattle.store_api.proofs.May.{keeps_commits-then}
 use Rattle.store_api.specs.Ledgers.{Ledger}
@@ -127,12 +128,9 @@ not_start at (Value v) less = refl
 not_start at (Doc d) less = refl
 not_start at (Pair v d) less = refl
 
-same_some : {A : Type 0} (x y : A) → Some x ≡ Some y → x ≡ y
-same_some x y e = cc
-
 found_by : (at x key : PlanKey) (keys : List PlanKey) (t : Bool) → (key_past at keys ≡ Some key → key_cmp at key ≡ Less) → is_lt (key_cmp at x) ≡ t
     → cond t (Some x) (key_past at keys) ≡ Some key → key_cmp at key ≡ Less
-found_by at x key keys true rest is here = ap (key_cmp at) (sym (same_some x key here)) ∙ less_is (key_cmp at x) is
+found_by at x key keys true rest is here = ap (key_cmp at) (sym (same_Some x key here)) ∙ less_is (key_cmp at x) is
 found_by at x key keys false rest is later = rest later
 
 pub found_past : (at key : PlanKey) (keys : List PlanKey) → key_past at keys ≡ Some key → key_cmp at key ≡ Less
@@ -146,7 +144,7 @@ get_some (a ∷ trees) (suc i) below none = get_some trees i (omega arith) none
 
 all_get : (P : AttributeTrees → Type 0) (trees : List AttributeTrees) (i : ℕ) (a : AttributeTrees) → AllByRecursion P trees → slice_get trees i ≡ Some a → P a
 all_get P [] i a all there = cc
-all_get P (x ∷ trees) zero a all there = subst P (same_some x a there) all.0
+all_get P (x ∷ trees) zero a all there = subst P (same_Some x a there) all.0
 all_get P (x ∷ trees) (suc i) a all there = all_get P trees i a all.1 there
 
 module _ (k : Records) (next : List AttributeTrees) (from at : PlanPlace) (each : AllByRecursion (IsFieldAt k) next) (within : at.stage.field < length next) (few : at.stage.phase < PHASES)

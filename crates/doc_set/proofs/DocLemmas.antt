@@ -20,7 +20,7 @@ use Rattle.std.proofs.lemmas.List.Elements.{All-from_get_or}
 use Rattle.std.proofs.lemmas.List.Folds.{list_any_at, list_any_none}
 use Rattle.std.proofs.lemmas.List.{get_or_default}
 use Rattle.std.proofs.lemmas.List.Sorted.{searched}
-use Rattle.attr_types.proofs.EntryLemmas.{all-append}
+use Rattle.list_facts.proofs.Each.{AllByRecursion-append}
 use Rattle.doc_set.proofs.BitLemmas.{by_cases}
 use Rattle.doc_set.specs.Sets.{has, IsAscending, AreBelow, IsPlaceOf, Holds, HoldsBelow}
 
@@ -76,7 +76,7 @@ same_ascending (x ∷ xs) (y ∷ ys) up_x up_y same =
 ascends_push : (xs : List ℕ) (n : ℕ) → IsAscending xs → AllByRecursion (λ y. y < n) xs → IsAscending (xs ++ n ∷ [])
 ascends_push [] n up below = (tt, tt)
 ascends_push (x ∷ xs) n up below =
-    (all-append (λ y. x < y) xs (n ∷ []) up.0 (below.0, tt), ascends_push xs n up.1 below.1)
+    (AllByRecursion-append (λ y. x < y) xs (n ∷ []) up.0 (below.0, tt), ascends_push xs n up.1 below.1)
 
 wider : (xs : List ℕ) (n m : ℕ) → n ≤ m → AllByRecursion (λ y. y < n) xs → AllByRecursion (λ y. y < m) xs
 wider [] n m le all = tt
@@ -97,7 +97,7 @@ pub more_in : (docs : List ℕ) (n : ℕ) (test : ℕ → Bool) → HoldsBelow d
     → HoldsBelow (docs ++ n ∷ []) (n + 1) test
 more_in docs n test holds is = record {
   ascends = ascends_push docs n holds.ascends holds.below;
-  below = all-append (λ y. y < n + 1) docs (n ∷ []) (wider docs n (n + 1) (omega arith) holds.below) (omega arith, tt);
+  below = AllByRecursion-append (λ y. y < n + 1) docs (n ∷ []) (wider docs n (n + 1) (omega arith) holds.below) (omega arith, tt);
   exact = λ doc. list_any-append (nat_eq doc) docs (n ∷ []) ∙ at doc;
 }
   where

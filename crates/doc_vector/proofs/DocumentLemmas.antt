@@ -8,6 +8,8 @@ use Rattle.std.specs.declared.cmp.Ordering.TheVariants.{Less, Equal, Greater}
 use Rattle.std.specs.List.{AllByRecursion}
 use Rattle.std.specs.List.Sorted.{IsStrictlySortedBy}
 use Rattle.std.specs.Ordering.{nat_cmp}
+use Rattle.list_facts.proofs.Options.{same_Some}
+use Rattle.list_facts.proofs.Each.{AllByRecursion-each}
 use Rattle.image_base.specs.Records.{Records, SameAt}
 use Rattle.key_order.specs.Keys.{IsKeyedTree}
 use Rattle.key_order.specs.Pairs.{choose, lookup}
@@ -19,11 +21,6 @@ use Rattle.tree_images.specs.Trees.{tree_nodes, tree_pairs, by_number}
 use Rattle.tree_make.specs.Changes.{tree}
 use Rattle.doc_vector.specs.Documents.{IsDocumentMap, IsDocumentPair, MakesMap}
 
--- what holds of all pairs
-all_pairs : (P : ℕ × ℕ → Type 0) → ((p : ℕ × ℕ) → P p) → (ps : List (ℕ × ℕ)) → AllByRecursion P ps
-all_pairs P each [] = tt
-all_pairs P each (p ∷ ps) = (each p, all_pairs P each ps)
-
 -- a tree whose keys are numbers, as the calls of trees ask for it
 abbrev pub IsNumberTree : Records → ℕ → Type 0
 IsNumberTree m root = IsKeyedTree nat_cmp by_number (λ n key. Unit {0}) (λ n key. []) m root
@@ -32,8 +29,8 @@ IsNumberTree m root = IsKeyedTree nat_cmp by_number (λ n key. Unit {0}) (λ n k
 pub number_keyed : (m : Records) (root : ℕ) → IsDocumentMap m root → IsNumberTree m root
 number_keyed m root is = record {
   tree = is.tree_is;
-  readable = all_pairs (λ (p : ℕ × ℕ). Unit {0}) (λ p. tt) (tree_pairs m root);
-  apart = all_pairs (λ (p : ℕ × ℕ). Unit {0}) (λ p. tt) (tree_pairs m root);
+  readable = AllByRecursion-each (λ (p : ℕ × ℕ). Unit {0}) (λ p. tt) (tree_pairs m root);
+  apart = AllByRecursion-each (λ (p : ℕ × ℕ). Unit {0}) (λ p. tt) (tree_pairs m root);
 }
 
 -- the empty map, and a map where the records of its nodes stay
@@ -58,12 +55,9 @@ found_fits c [] all found is = absurd (grind (arith, is))
 found_fits c (p ∷ ps) all found is =
     elim (c p.0) as (λ o. choose o (lookup c ps) (Some p.1) None ≡ Some found → found < 2 ^ 32) [
       | Less ↦ λ h. found_fits c ps all.1 found h
-      | Equal ↦ λ h. subst (λ n. n < 2 ^ 32) (same p.1 found h) all.0.reference
+      | Equal ↦ λ h. subst (λ n. n < 2 ^ 32) (same_Some p.1 found h) all.0.reference
       | Greater ↦ λ h. absurd (grind (arith, h))
     ] is
-  where
-    same : (a b : ℕ) → Some a ≡ Some b → a ≡ b
-    same a b h = cc
 
 -- what a change of the tree says, as one
 pub makes_map : {H : Type 0} (old new : Ledger H) (m n : Records) (root : ℕ) (pairs : List (ℕ × ℕ)) (answer : Result ℕ StoreError)

@@ -3,15 +3,13 @@ use Rattle.std.proofs.Common.{◌≡◌, ℕ, List, [], ◌∷◌, Result, Ok, E
 use Rattle.std.specs.Prelude.{IfOk}
 use Rattle.std.specs.List.{AllByRecursion}
 use Rattle.image_base.specs.Records.{Records}
-use Rattle.store_api.specs.Ledgers.{Ledger, capacity}
+use Rattle.store_api.specs.Ledgers.{Ledger}
 use Rattle.store_api.specs.Parts.{After, Owns, Turns, entries, times}
 use Rattle.store_api.specs.declared.store.StoreError.{StoreError}
-use Rattle.store_api.proofs.Counts.{at_most-more, at_most-none}
 use Rattle.store_api.proofs.PartLemmas.{after, owns-some}
 use Rattle.store_api.proofs.Times.{times-append}
 use Rattle.tree_images.specs.Trees.{tree_nodes, tree_pairs}
 use Rattle.tree_make.specs.Changes.{tree}
-use Rattle.tree_make.specs.Makes.{CountsNodes}
 use Rattle.tree_touch.specs.Paths.{path_nodes, NoneIn}
 use Rattle.tree_touch.proofs.TreeLemmas.{none-apart}
 use Rattle.doc_vector.proofs.DocumentLemmas.{IsNumberTree}
@@ -38,12 +36,6 @@ nodes_unmoved bits buffer kind type a m root doc is owns none = record {
   stay = same_self m (pairs_own kind (tree_pairs m root));
   owns = owns;
   turns = record { kept = λ r h. refl; balance = λ r. refl };
-}
-
-pub counts_nothing : {H : Type 0} (a : Ledger H) (most : ℕ) → CountsNodes a a most
-counts_nothing a most = record {
-  nodes = at_most-more (capacity a.work.sizes.words 34) 0 most (a.of_width 34) (a.of_width 34) (omega arith) (at_most-none (capacity a.work.sizes.words 34) (a.of_width 34));
-  others = λ c w other. at_most-none c (a.of_width w);
 }
 
 module _ {H : Type 0} (bits buffer : ℕ) (kind : Kind) (type : ValueType) (a b : Ledger H) (m n : Records) (root doc : ℕ) (start : IsDocuments kind type m root)

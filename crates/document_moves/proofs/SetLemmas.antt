@@ -5,6 +5,8 @@ use Rattle.std.specs.BTreeMap.{is_at}
 use Rattle.std.specs.List.{flat_map, AllByRecursion}
 use Rattle.std.specs.Map.{lookup as lookup_in}
 use Rattle.std.specs.Ordering.{nat_cmp}
+use Rattle.list_facts.proofs.Each.{AllByRecursion-weaker}
+use Rattle.image_base.proofs.Among.{Among-all}
 use Rattle.entry_ref.specs.References.{buffer_of}
 use Rattle.image_base.specs.Records.{Records, SameAt, Among}
 use Rattle.key_order.specs.Pairs.{lookup}
@@ -65,15 +67,6 @@ all_values : (P : Value → Type 0) (items : List Item) → AllByRecursion (λ (
 all_values P [] all = tt
 all_values P (item ∷ items) all = (all.0, all_values P items all.1)
 
-all_then : (P Q : ℕ → Type 0) → ((r : ℕ) → P r → Q r) → (refs : List ℕ) → AllByRecursion P refs → AllByRecursion Q refs
-all_then P Q each [] all = tt
-all_then P Q each (r ∷ refs) all = (each r all.0, all_then P Q each refs all.1)
-
-all_among : (P : ℕ → Type 0) (refs : List ℕ) → AllByRecursion P refs → (r : ℕ) → Among r refs → P r
-all_among P [] all r among = absurd among
-all_among P (q ∷ refs) all r (inl e) = subst P (sym e) all.0
-all_among P (q ∷ refs) all r (inr later) = all_among P refs all.1 r later
-
 pub same_self : (m : Records) (refs : List ℕ) → SameAt refs m m
 same_self m [] = tt
 same_self m (r ∷ refs) = (refl, same_self m refs)
@@ -90,7 +83,7 @@ module _ {H : Type 0} (bits buffer : ℕ) (kind : Kind) (type : ValueType) (a : 
   pub keys_beside : KeyIsRead → (keys : List ℕ) → AllByRecursion (IsKey m dictionary) keys → AreBeside a m (documents_part kind root ∷ []) keys
   keys_beside read keys are = record {
     each = λ r among.
-        let owned = among-times r (index_reach m dictionary) (read type m dictionary r can.index_is (all_among (IsKey m dictionary) keys are r among)).owned in
+        let owned = among-times r (index_reach m dictionary) (read type m dictionary r can.index_is (Among-all (IsKey m dictionary) keys are r among)).owned in
         let all = can.owns.each r in
         omega arith;
   }
@@ -163,11 +156,11 @@ module _ {H : Type 0} (bits buffer : ℕ) (kind : Kind) (type : ValueType) (a : 
         column_is = makes.column_is ∙ insert_same doc items column (documents_lawful kind type m root can.documents_are).2.ascends there;
         apart = record {
           own = all_from_times (λ r. buffer_of bits r ≢ buffer) (own_at kind o next doc) (λ r some. own_elsewhere r (times-among r (own_at kind o next doc) some));
-          refer = subst (NoneIn bits buffer) (sym sets.refer) (all_then (IsKey m dictionary) (λ r. buffer_of bits r ≢ buffer) can.keys keys kept);
+          refer = subst (NoneIn bits buffer) (sym sets.refer) (AllByRecursion-weaker (IsKey m dictionary) (λ r. buffer_of bits r ≢ buffer) can.keys keys kept);
         };
         others = sets.others;
         stay = sets.stay;
-        refers = λ r among. ⊎_elim inl (λ key. inr (all_among (IsKey m dictionary) keys kept r key)) (makes.refers r among);
+        refers = λ r among. ⊎_elim inl (λ key. inr (Among-all (IsKey m dictionary) keys kept r key)) (makes.refers r among);
         owns = makes.owns;
         turns = makes.turns;
       }

@@ -5,17 +5,18 @@ use Rattle.std.specs.BTreeMap.{is_at}
 use Rattle.std.specs.Map.{lookup as lookup_in}
 use Rattle.std.specs.Ordering.{nat_cmp}
 use Rattle.std.specs.Prelude.{pos}
+use Rattle.list_facts.proofs.Options.{same_Some}
+use Rattle.tree_make.proofs.UsedLemmas.{node_used}
+use Rattle.attr_images.proofs.RootLemmas.{length-filled}
 use Rattle.image_base.specs.Records.{Among, Records}
 use Rattle.key_order.specs.Pairs.{lookup}
 use Rattle.store_api.specs.Calls.{IsUsedWidth}
 use Rattle.store_api.specs.Ledgers.{Ledger}
 use Rattle.store_api.specs.Parts.{Owns, Part, times}
-use Rattle.store_api.proofs.Times.{all_at_times, among-times, times-append}
+use Rattle.store_api.proofs.Times.{among-times, times-append}
 use Rattle.store_api.proofs.Uses.{in-uses}
-use Rattle.tree_images.specs.Trees.{nodes_below, root_level, tree_nodes, tree_pairs, IsRootNode}
+use Rattle.tree_images.specs.Trees.{tree_nodes, tree_pairs}
 use Rattle.tree_make.specs.Changes.{tree}
-use Rattle.tree_make.proofs.ChangeLemmas.{tree-wide}
-use Rattle.array_store.proofs.ClassLemmas.{filled_size}
 use Rattle.doc_vector.specs.Documents.{beside_document}
 use Rattle.attr_images.specs.Documents.{column_at, items_at, IsItemsRecord}
 use Rattle.attr_images.specs.Words.{class_of, stored_items, unpacked, IsStoredList}
@@ -34,20 +35,6 @@ use Rattle.attr_documents.proofs.ReadLemmas.{found_items, found_records}
 used_at : {H : Type 0} (a : Ledger H) (m : Records) (part : Part) (r width : ℕ) → Owns a m (part ∷ []) → 0 < times r (part.reach m) → length (m r) ≡ width → IsUsedWidth a m width
 used_at a m part r width owns some size = record { ref = r; used = (let each = owns.each r in in-uses a r (omega arith)); length_is = size }
 
--- ---- a node of a tree
-root_among : (m : Records) (level ref : ℕ) → Among ref (nodes_below m level ref)
-unfolding nodes_below
-root_among m zero ref = inl refl
-root_among m (suc level) ref = inl refl
-
-root_times : (m : Records) (root : ℕ) → 0 < root → 0 < times root (tree_nodes m root)
-root_times m zero some = absurd (omega arith)
-root_times m (suc ref) some = among-times (suc ref) (tree_nodes m (suc ref)) (root_among m (root_level m (suc ref)) (suc ref))
-
-pub node_used : {H : Type 0} (a : Ledger H) (m : Records) (root : ℕ) → (0 < root → IsRootNode m root) → 0 < root → Owns a m (tree root ∷ []) → IsUsedWidth a m 34
-node_used a m root node some owns =
-    used_at a m (tree root) root 34 owns (root_times m root some) (all_at_times (λ q. length (m q) ≡ 34) (tree_nodes m root) (tree-wide m root node) root (root_times m root some))
-
 -- ---- a document's record
 -- its reference has a record of its own
 items_size : (kind : Kind) (type : ValueType) (m : Records) (ref : ℕ) → IsItemsRecord kind ref (m ref) → has_list kind ≡ true → 0 < length (items_at kind type m ref)
@@ -58,7 +45,7 @@ items_size Array type m (suc ref) are list some =
     let items = stored_items (m (suc ref)) in
     let stored : IsStoredList most_items (m (suc ref)) = are in
     let few = stored.few in
-    let size = ap length stored.words ∙ filled_size (length items ∷ items) (omega arith) in
+    let size = ap length stored.words ∙ length-filled (length items ∷ items) (omega arith) in
     let ones : List (ℕ × ℤ) = map (λ (value : ℕ). (value, pos 1)) items in
     let same = length-map ones (item_of type m) in
     let inner : length ones ≡ length items = length-map items (λ (value : ℕ). (value, pos 1)) in
@@ -67,7 +54,7 @@ items_size WeightedSet type m (suc ref) are list some =
     let items = stored_items (m (suc ref)) in
     let stored : IsStoredList most_items (m (suc ref)) = are in
     let few = stored.few in
-    let size = ap length stored.words ∙ filled_size (length items ∷ items) (omega arith) in
+    let size = ap length stored.words ∙ length-filled (length items ∷ items) (omega arith) in
     let same = length-map (map unpacked items) (item_of type m) in
     let inner : length (map {B = ℕ × ℤ} unpacked items) ≡ length items = length-map items unpacked in
     (inl refl, size ∙ ap class_of (let e : suc (length items) ≡ 1 + length (items_at WeightedSet type m (suc ref)) = omega arith in e))
@@ -77,10 +64,7 @@ module _ {H : Type 0} (kind : Kind) (type : ValueType) (a : Ledger H) (m : Recor
   -- the reference of the document
   mapped : (o : Option ℕ) → option_map (items_at kind type m) o ≡ Some items → (ref : ℕ) × (o ≡ Some ref) × (items_at kind type m ref ≡ items)
   mapped None is = absurd (grind (arith, is))
-  mapped (Some ref) is = (ref, refl, same (items_at kind type m ref) items is)
-    where
-      same : (x y : List Item) → Some x ≡ Some y → x ≡ y
-      same x y e = cc
+  mapped (Some ref) is = (ref, refl, same_Some (items_at kind type m ref) items is)
 
   at : (ref : ℕ) × (lookup (beside_document doc) (tree_pairs m root) ≡ Some ref) × (items_at kind type m ref ≡ items)
   at = mapped (lookup (beside_document doc) (tree_pairs m root)) (found_items kind type m root doc documents (lookup (beside_document doc) (tree_pairs m root)) refl ∙ there)

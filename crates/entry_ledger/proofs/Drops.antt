@@ -155,6 +155,3 @@ module _ (bits : ℕ) (v : LedgerView) (held : List HeldEntry) (room unheld : �
       finished = v.finished;
     };
   }
-
-pub some-same : (a b : State) → Some a ≡ Some b → a ≡ b
-some-same a b e = cc

@@ -64,7 +64,7 @@ active-used Free is = absurd (true≢false (sym is))
 active-used Active is = refl
 active-used OnHold is = absurd (true≢false (sym is))
 
-this-false : (o : Option ℕ) (b : ℕ) → (o ≡ Some b → ⊥) → is_this o b ≡ false
+pub this-false : (o : Option ℕ) (b : ℕ) → (o ≡ Some b → ⊥) → is_this o b ≡ false
 this-false None b out = refl
 this-false (Some a) b out = ne_eqb a b (λ e. out (ap Some e))
 

@@ -1,9 +1,11 @@
 -- What callers see of all entries, where a free buffer was opened for entries of a width.
-use Rattle.std.proofs.Common.{◌≡◌, ◌≢◌, ◌⊎◌, ℕ, zero, suc, ◌+◌, ◌<◌, Bool, true, false, cond, eqb, List, [], ◌∷◌, Option, Some, refl, sym, ap, subst, ◌∙◌, arith, inl, inr, ⊎_elim}
-use Rattle.std.specs.List.{list_any, list_all, count_by}
+use Rattle.std.proofs.Common.{◌≡◌, ◌≢◌, ◌⊎◌, ℕ, zero, suc, ◌+◌, ◌<◌, Bool, true, false, cond, eqb, List, [], ◌∷◌, Option, Some, refl, sym, ap, subst, ◌∙◌, arith, inl, inr}
+use Rattle.std.specs.List.{count_by}
 use Rattle.std.proofs.lemmas.List.Elements.{All-weaker}
 use Rattle.std.proofs.lemmas.List.Sums.{sum_by-cons}
-use Rattle.std.proofs.lemmas.Bool.{cases_lt, cases_eq, or_cases, and_parts, eqb-true, eq-eqb, ne_eqb, true≢false}
+use Rattle.std.proofs.lemmas.Bool.{cases_lt, cases_eq, eqb-true, eq-eqb, ne_eqb, true≢false}
+use Rattle.list_facts.proofs.Options.{same_Some}
+use Rattle.list_facts.proofs.Tests.{true_from_list_all}
 use Rattle.list_facts.specs.Counting.{one_if}
 use Rattle.entry_ref.specs.References.{buffer_of}
 use Rattle.store_api.specs.Ledgers.{OfWidth, is_width, widths, capacity, buffers_in, with_counts}
@@ -17,23 +19,14 @@ use Rattle.entry_ledger.specs.Calls.{with_mark, opened_at}
 use Rattle.entry_ledger.specs.Ledgers.{tag_fits, tag_below, held_fits, is_in_list, IsHeldList, IsSound}
 use Rattle.entry_ledger.proofs.Sound.{counts-keep}
 
-some_inside : (a b : ℕ) → Some a ≡ Some b → a ≡ b
-some_inside a b e = cc
-
 pub free-inactive : (s : BufferState) → is_state_free s ≡ true → is_state_active s ≡ false
 free-inactive Free is = refl
 free-inactive Active is = absurd (true≢false (sym is))
 free-inactive OnHold is = refl
 
--- what each number of a list is, one of them is
-pub each_is : (test : ℕ → Bool) (w : ℕ) (vs : List ℕ) → list_any (eqb w) vs ≡ true → list_all test vs ≡ true → test w ≡ true
-each_is test w [] is all = absurd (cc)
-each_is test w (v ∷ vs) is all =
-    ⊎_elim (λ (t : eqb w v ≡ true). ap test (eqb-true w v t) ∙ (and_parts _ _ all).0) (λ t. each_is test w vs t (and_parts _ _ all).1) (or_cases _ _ is)
-
 -- a width is one of the widths, once
 once : (w : ℕ) → is_width w ≡ true → count_by (λ v. eqb v w) widths ≡ 1
-once w is = eqb-true (count_by (λ v. eqb v w) widths) 1 (each_is (λ u. eqb (count_by (λ v. eqb v u) widths) 1) w widths is refl)
+once w is = eqb-true (count_by (λ v. eqb v w) widths) 1 (true_from_list_all (λ u. eqb (count_by (λ v. eqb v u) widths) 1) w widths is refl)
 
 -- a width has one buffer more
 buffers-more : (f : ℕ → OfWidth) (w : ℕ) (new : OfWidth) → new.buffers ≡ (f w).buffers + 1 → (ws : List ℕ)
@@ -106,7 +99,7 @@ module _ (e : EntriesView) (b w : ℕ) (below : b < e.count) (free : is_state_fr
 
   filled-opened : (a u : ℕ) → a ≢ b → ((e.of_width u).filled ≡ Some a → ⊥) → (with_counts e.of_width w counts u).filled ≡ Some a → ⊥
   filled-opened a u ne never is = elim (cases_eq u w) [
-    | inl same ↦ ne (sym (some_inside b a (sym (ap (λ t. (cond t counts (e.of_width u)).filled) (eq-eqb u w same)) ∙ is)))
+    | inl same ↦ ne (sym (same_Some b a (sym (ap (λ t. (cond t counts (e.of_width u)).filled) (eq-eqb u w same)) ∙ is)))
     | inr apart ↦ never (sym (ap (λ t. (cond t counts (e.of_width u)).filled) (ne_eqb u w apart)) ∙ is)
   ]
 

@@ -2,6 +2,7 @@
 use Rattle.std.proofs.Common.{◌≡◌, ℕ, ◌≤◌, Bool, true, false, ◌&&◌, cond, eqb, leb, List, Option, None, Some, refl, sym, subst, ◌∙◌, arith}
 use Rattle.std.proofs.lemmas.List.Elements.{All-weaker}
 use Rattle.std.proofs.lemmas.Bool.{and_parts, leb-true, le-leb, true≢false}
+use Rattle.list_facts.proofs.Options.{same_Some}
 use Rattle.entry_ref.specs.References.{buffer_of}
 use Rattle.buffer_states.specs.Buffers.{is_state_active, is_on_hold}
 use Rattle.buffer_shelf.specs.declared.state.State.{State}
@@ -10,9 +11,6 @@ use Rattle.hold_lists.specs.Held.{HeldEntry, HoldTag}
 use Rattle.entry_ledger.specs.Entries.{is_timely, is_dropped_since}
 use Rattle.entry_ledger.specs.Ledgers.{LedgerView, entries_of, IsHeldList, tag_fits, tag_below, is_in_list, AreEntries}
 use Rattle.entry_ledger.proofs.Takes.{entries_in}
-
-some_inside : (a b : ℕ) → Some a ≡ Some b → a ≡ b
-some_inside a b e = cc
 
 -- another list over the same shelves
 pub list-kept : (bits : ℕ) (v : LedgerView) (held : List HeldEntry) (room unheld : ℕ) → AreEntries bits v held room unheld → (later : List HeldEntry) (space : ℕ)
@@ -57,7 +55,7 @@ module _ (bits : ℕ) (v : LedgerView) (held : List HeldEntry) (room unheld : �
       up_to = k.sound.up_to;
       marks = λ a. record { width = (k.sound.marks a).width; from = (k.sound.marks a).from; to = (k.sound.marks a).to };
       sealed = λ a is. record { below = (k.sound.sealed a is).below; active = (k.sound.sealed a is).active; unfilled = (k.sound.sealed a is).unfilled };
-      finished = λ a is. subst (λ n. ((entries_in bits v).mark n).sealed ≡ true) (some_inside b a is) sealed;
+      finished = λ a is. subst (λ n. ((entries_in bits v).mark n).sealed ≡ true) (same_Some b a is) sealed;
       few_made = k.sound.few_made;
       whole = k.sound.whole;
     };

@@ -7,6 +7,7 @@ use Rattle.std.proofs.lemmas.List.Elements.{All-get_or, All-from_get_or}
 use Rattle.std.proofs.lemmas.List.Edits.{get_or-remove_below, get_or-remove_above, length-remove}
 use Rattle.std.proofs.lemmas.List.Quantifiers.{all_pairs_remove}
 use Rattle.std.proofs.lemmas.Bool.{cases_lt, cases_eq, ne_eqb, eqb-true, and_parts, ltb-true, ltb-false, true≢false}
+use Rattle.list_facts.proofs.Options.{same_Some}
 use Rattle.entry_ref.specs.References.{buffer_of}
 use Rattle.buffer_shelf.specs.declared.state.State.{State}
 use Rattle.buffer_shelf.specs.declared.state.State.TheVariants.{Free, Returned, Made, InUse, LetGo, DroppedNow, Dropped}
@@ -22,9 +23,6 @@ pub record IsAt (test : HeldEntry → Bool) (held : List HeldEntry) (h : HeldEnt
   pub passes : test h ≡ true
   pub rest : without_first test held ≡ remove held place
 
-same_held : (x h : HeldEntry) → Some x ≡ Some h → x ≡ h
-same_held x h e = cc
-
 none_held : (h : HeldEntry) → None ≡ Some h → ⊥
 none_held h e = absurd (cc)
 
@@ -36,8 +34,8 @@ found-at test (x ∷ xs) h is = by_test (test x) refl is (λ r. found-at test xs
     by_test true e found later = record {
       place = 0;
       inside = omega arith;
-      is = λ d. same_held x h found;
-      passes = ap test (sym (same_held x h found)) ∙ e;
+      is = λ d. same_Some x h found;
+      passes = ap test (sym (same_Some x h found)) ∙ e;
       rest = ap (λ t. cond t xs (x ∷ without_first test xs)) e;
     }
     by_test false e found later =

@@ -2,6 +2,7 @@
 use Rattle.std.proofs.Common.{◌≡◌, ℕ, ◌+◌, ◌≤◌, true, false, cond, List, [], ◌∷◌, Option, None, Some, refl, sym, ap, ◌∙◌, arith, inl, inr}
 use Rattle.std.proofs.lemmas.List.Elements.{All-weaker}
 use Rattle.std.proofs.lemmas.Bool.{cases_eq, eq-eqb, ne_eqb, true≢false}
+use Rattle.list_facts.proofs.Options.{same_Some}
 use Rattle.entry_ref.specs.References.{buffer_of}
 use Rattle.store_api.specs.Ledgers.{OfWidth, widths, buffers_in, one_more, with_counts}
 use Rattle.store_api.specs.Calls.{took_spare}
@@ -12,9 +13,6 @@ use Rattle.hold_lists.specs.Held.{HeldEntry, HoldTag}
 use Rattle.entry_ledger.specs.Entries.{EntriesView, is_timely, count_marks}
 use Rattle.entry_ledger.specs.Calls.{with_state, made_at}
 use Rattle.entry_ledger.specs.Ledgers.{tag_fits, tag_below, held_fits, is_in_list, IsHeldList, IsSound}
-
-some_inside : (a b : State) → Some a ≡ Some b → a ≡ b
-some_inside a b e = cc
 
 -- the buffers of widths, where each width has as many
 pub buffers-in-same : (f g : ℕ → OfWidth) → ((w : ℕ) → (f w).buffers ≡ (g w).buffers) → (ws : List ℕ) → buffers_in f ws ≡ buffers_in g ws
@@ -36,7 +34,7 @@ one-more-le n low = (omega (arith, low), omega arith)
 pub state-cases : {P : Type 0} (states : ℕ → Option State) (r : ℕ) (new : State) (q : ℕ) (s : State) → with_state states r new q ≡ Some s
     → (q ≡ r → new ≡ s → P) → (states q ≡ Some s → P) → P
 state-cases states r new q s is here other = elim (cases_eq q r) [
-  | inl e ↦ here e (some_inside new s (sym (ap (λ t. cond t (Some new) (states q)) (eq-eqb q r e)) ∙ is))
+  | inl e ↦ here e (same_Some new s (sym (ap (λ t. cond t (Some new) (states q)) (eq-eqb q r e)) ∙ is))
   | inr ne ↦ other (sym (ap (λ t. cond t (Some new) (states q)) (ne_eqb q r ne)) ∙ is)
 ]
 

@@ -7,6 +7,7 @@ use Rattle.std.proofs.lemmas.List.{length_push}
 use Rattle.std.proofs.lemmas.List.Sums.{sum_by-cons, sum_by-set, count_by-le-length}
 use Rattle.std.proofs.lemmas.Nat.{le-div}
 use Rattle.std.proofs.lemmas.Bool.{cases_lt, cases_eq, eq-eqb, ne_eqb}
+use Rattle.list_facts.proofs.Options.{same_Some}
 use Rattle.store_api.specs.Ledgers.{capacity, one_more}
 use Rattle.buffer_states.specs.declared.Buffer.{Buffer}
 use Rattle.buffer_shelf.specs.declared.state.State.{State}
@@ -32,9 +33,6 @@ one-place f d most (x ∷ xs) zero low none =
 one-place f d most (x ∷ xs) (suc b) low none =
     let here : f x ≡ 0 = none 0 (λ e. omega (arith, e)) in
     omega (arith, here, one-place f d most xs b (λ i. low (suc i)) (λ i ne. none (suc i) (λ e. ne (omega (arith, e)))), sum_by-cons f x xs)
-
-some_number : (a b : ℕ) → Some a ≡ Some b → a ≡ b
-some_number a b e = cc
 
 none_some : (a : ℕ) → None ≡ Some a → ⊥
 none_some a e = absurd (cc)
@@ -66,7 +64,7 @@ module _ (words : ℕ) (shelves : List ShelfView) (w : ℕ) (wide : 0 < w) (of :
     where
       by_filled : (f : Option ℕ) → filled ≡ f → unmade_of_width shelves w ≤ capacity words w
       by_filled None is = one-place (unmade_in w) empty_shelf (capacity words w) shelves 0 low (λ i ne. none-but i (λ same. none_some i (sym is ∙ same)))
-      by_filled (Some a) is = one-place (unmade_in w) empty_shelf (capacity words w) shelves a low (λ i ne. none-but i (λ same. ne (some_number i a (sym same ∙ is))))
+      by_filled (Some a) is = one-place (unmade_in w) empty_shelf (capacity words w) shelves a low (λ i ne. none-but i (λ same. ne (same_Some i a (sym same ∙ is))))
 
 -- so the buffers are at most one more than what was made fills
 pub few-buffers : (n c m u : ℕ) → 0 < c → n * c ≤ m + u → u ≤ c → n ≤ 1 + m / c

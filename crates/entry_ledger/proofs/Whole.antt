@@ -3,6 +3,7 @@ use Rattle.std.proofs.Common.{◌≡◌, ℕ, suc, ◌+◌, Bool, true, false, n
 use Rattle.std.specs.List.{count_by}
 use Rattle.std.proofs.lemmas.List.Sums.{sum_by-cons}
 use Rattle.std.proofs.lemmas.Bool.{eqb-true}
+use Rattle.list_facts.proofs.Tests.{true_from_list_all}
 use Rattle.list_facts.specs.Counting.{one_if}
 use Rattle.store_api.specs.Ledgers.{OfWidth, is_width, widths, no_counts, buffers_in}
 use Rattle.buffer_states.specs.declared.Buffer.{Buffer}
@@ -11,7 +12,6 @@ use Rattle.entry_ledger.specs.Entries.{count_marks}
 use Rattle.entry_ledger.specs.Ledgers.{mark_of, is_buffer_of}
 use Rattle.entry_ledger.proofs.Marks.{marks-counted}
 use Rattle.entry_ledger.proofs.Sound.{buffers-in-same}
-use Rattle.entry_ledger.proofs.Opened.{each_is}
 
 -- a buffer for the width that it has
 abbrev of_one : Buffer → ℕ → OfWidth
@@ -27,7 +27,7 @@ free-or-of x valid = by_test (is_state_free x.state) refl
     by_test true e = refl
     by_test false e =
         let one = eqb-true (buffers_in (λ w. record no_counts { buffers = one_if (eqb x.width w) }) widths) 1
-        (each_is (λ u. eqb (buffers_in (λ w. record no_counts { buffers = one_if (eqb u w) }) widths) 1) x.width widths (valid e) refl) in
+        (true_from_list_all (λ u. eqb (buffers_in (λ w. record no_counts { buffers = one_if (eqb u w) }) widths) 1) x.width widths (valid e) refl) in
         omega (arith, one)
 
 sum-in : (f g h : ℕ → OfWidth) → ((w : ℕ) → (f w).buffers ≡ (g w).buffers + (h w).buffers) → (ws : List ℕ) → buffers_in f ws ≡ buffers_in g ws + buffers_in h ws

@@ -1,7 +1,8 @@
 -- The row of a width.
 use Rattle.std.proofs.Common.{◌≡◌, ◌≢◌, ℕ, suc, ◌<◌, ◌≤◌, Bool, true, false, ◌&&◌, leb, cond, eqb, List, [], ◌∷◌, length, get_or, set, refl, sym, ap, ◌∙◌, arith, inl, inr, ⊎_elim, get_or-set_other, get_or-set_same}
-use Rattle.std.specs.List.{list_any, list_all}
+use Rattle.std.specs.List.{list_any}
 use Rattle.std.proofs.lemmas.Bool.{cases_eq, or_cases, and_parts, eqb-true, eq-eqb, ne_eqb, leb-true, true≢false}
+use Rattle.list_facts.proofs.Tests.{true_from_list_all}
 use Rattle.store_api.specs.Ledgers.{widths, is_width}
 use Rattle.entry_shelves.specs.Shelves.{place_among, row_of}
 
@@ -26,15 +27,9 @@ place_in-out w (v ∷ vs) out = by_test (eqb w v) refl out (place_in-out w vs)
     by_test true e out later = absurd (cc)
     by_test false e out later = ap suc (later (cc))
 
--- what each number of a list is, one of them is
-each_is : (test : ℕ → Bool) (w : ℕ) (vs : List ℕ) → list_any (eqb w) vs ≡ true → list_all test vs ≡ true → test w ≡ true
-each_is test w [] is all = absurd (cc)
-each_is test w (v ∷ vs) is all =
-    ⊎_elim (λ (t : eqb w v ≡ true). ap test (eqb-true w v t) ∙ (and_parts _ _ all).0) (λ t. each_is test w vs t (and_parts _ _ all).1) (or_cases _ _ is)
-
 pub width-bounds : (w : ℕ) → is_width w ≡ true → (2 ≤ w) × (w ≤ 1024)
 width-bounds w is =
-    let both = and_parts _ _ (each_is (λ v. leb 2 v && leb v 1024) w widths is refl) in
+    let both = and_parts _ _ (true_from_list_all (λ v. leb 2 v && leb v 1024) w widths is refl) in
     (leb-true _ _ both.0, leb-true _ _ both.1)
 
 pub row_of-below : (w : ℕ) → is_width w ≡ true → row_of w < 11

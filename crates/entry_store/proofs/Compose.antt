@@ -1,11 +1,12 @@
 -- The calls of a store by their steps.
-use Rattle.std.proofs.Common.{◌≡◌, ◌≢◌, ℕ, zero, suc, nat_eq, ◌+◌, ◌*◌, ◌<◌, ◌≤◌, Bool, true, false, cond, eqb, ltb, leb, Result, Ok, Err, List, [], ◌∷◌, length, Some, refl, sym, ap, subst, ◌∙◌, arith, inl, inr, ⊎_elim}
-use Rattle.std.specs.List.{IsDistinct, All, list_any, list_all}
+use Rattle.std.proofs.Common.{◌≡◌, ◌≢◌, ℕ, zero, suc, nat_eq, ◌+◌, ◌*◌, ◌<◌, ◌≤◌, Bool, true, false, cond, eqb, ltb, leb, Result, Ok, Err, List, [], ◌∷◌, length, Some, refl, sym, ap, subst, ◌∙◌, arith, inl, inr}
+use Rattle.std.specs.List.{IsDistinct, All}
 use Rattle.std.specs.Prelude.{◌&&◌, IfOk, IfErr, OnErr}
 use Rattle.std.proofs.lemmas.Nat.{le-div}
 use Rattle.std.proofs.lemmas.List.Elements.{All-from_recursion}
 use Rattle.list_facts.specs.Counting.{one_if}
-use Rattle.std.proofs.lemmas.Bool.{true≢false, cases_eq, eq-eqb, eqb-true, ne_eqb, and_parts, or_cases, leb-true}
+use Rattle.std.proofs.lemmas.Bool.{true≢false, cases_eq, eq-eqb, eqb-true, ne_eqb, and_parts, leb-true}
+use Rattle.list_facts.proofs.Tests.{true_from_list_all}
 use Rattle.entry_ref.specs.References.{buffer_of}
 use Rattle.image_base.specs.Places.{IsEntry}
 use Rattle.image_base.specs.Records.{Records}
@@ -304,15 +305,9 @@ drop-may old new m n r used drops = record {
   ];
 }
 
--- a buffer that was handed out has room
-each_is : (test : ℕ → Bool) (w : ℕ) (vs : List ℕ) → list_any (eqb w) vs ≡ true → list_all test vs ≡ true → test w ≡ true
-each_is test w [] is all = absurd (cc)
-each_is test w (v ∷ vs) is all =
-    ⊎_elim (λ (t : eqb w v ≡ true). ap test (eqb-true w v t) ∙ (and_parts _ _ all).0) (λ t. each_is test w vs t (and_parts _ _ all).1) (or_cases _ _ is)
-
 width-bounds : (w : ℕ) → is_width w ≡ true → (2 ≤ w) × (w ≤ 1024)
 width-bounds w is =
-    let both = and_parts _ _ (each_is (λ v. leb 2 v && leb v 1024) w widths is refl) in
+    let both = and_parts _ _ (true_from_list_all (λ v. leb 2 v && leb v 1024) w widths is refl) in
     (leb-true _ _ both.0, leb-true _ _ both.1)
 
 capacity-some : (words w : ℕ) → 8192 ≤ words → is_width w ≡ true → 0 < capacity words w

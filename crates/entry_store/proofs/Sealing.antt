@@ -1,7 +1,8 @@
 -- A buffer is sealed, finished, chosen.
 use Rattle.std.proofs.Common.{◌≡◌, ◌≢◌, ℕ, zero, suc, ◌+◌, ◌*◌, ◌<◌, Bool, true, false, cond, eqb, Option, Some, None, refl, sym, ap, subst, ◌∙◌, arith, inl, inr, ⊎_elim}
 use Rattle.std.specs.Prelude.{IfSome, IfNone}
-use Rattle.std.proofs.lemmas.Bool.{true≢false, eq-eqb, ne_eqb, eqb-true}
+use Rattle.std.proofs.lemmas.Bool.{true≢false, eq-eqb, eqb-true}
+use Rattle.entry_ledger.proofs.Marks.{this-false}
 use Rattle.list_facts.specs.Counting.{one_if}
 use Rattle.buffer_shelf.specs.declared.state.State.{State}
 use Rattle.buffer_shelf.specs.declared.state.State.TheVariants.{Free, Returned, Made, InUse, LetGo, DroppedNow, Dropped}
@@ -29,10 +30,6 @@ active-from (Buffer.held w t) some = absurd (omega arith)
 this-not : (o : Option ℕ) (b : ℕ) → is_this o b ≡ false → o ≡ Some b → ⊥
 this-not None b out e = absurd (cc)
 this-not (Some a) b out e = true≢false (sym (ap (λ x. is_this x b) e ∙ eq-eqb b b refl) ∙ out)
-
-not-this : (o : Option ℕ) (b : ℕ) → (o ≡ Some b → ⊥) → is_this o b ≡ false
-not-this None b none = refl
-not-this (Some a) b none = ne_eqb a b (λ same. none (ap (λ n. Some n) same))
 
 -- the counts of a buffer, by statuses and by states
 use-taken : (t has : Bool) → is_taken (cond t Status.pending (cond has Status.live Status.left)) ≡ true
@@ -175,7 +172,7 @@ module _ {H : Type 0} (bits : ℕ) (work : WorkView H) (shape : ℕ) (m : Record
       record {
         below = below;
         active = active-some (work.buffer b) (sym (active-is b below) ∙ is.active) b below is;
-        unfilled = not-this (e.of_width (active_width (work.buffer b))).filled b (λ h. is.unfilled (ap (λ n. (e.of_width n).filled) wide ∙ h));
+        unfilled = this-false (e.of_width (active_width (work.buffer b))).filled b (λ h. is.unfilled (ap (λ n. (e.of_width n).filled) wide ∙ h));
         unsealed = is.unsealed;
         dead = omega arith;
       }

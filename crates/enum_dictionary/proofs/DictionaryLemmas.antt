@@ -6,6 +6,7 @@ use Rattle.std.specs.declared.cmp.Ordering.TheVariants.{Less, Equal, Greater}
 use Rattle.std.specs.List.{flat_map, AllByRecursion}
 use Rattle.std.specs.List.Sorted.{IsStrictlySortedBy}
 use Rattle.std.specs.Ordering.{ordering_reverse}
+use Rattle.list_facts.proofs.Options.{same_Some}
 use Rattle.image_base.specs.Records.{Records, SameAt}
 use Rattle.key_order.specs.Keys.{NoneReadsNodes, IsKeyedTree, IsKeyWord, IsNoNode}
 use Rattle.key_order.specs.Pairs.{choose, lookup, lookup_pair, put, take_out}
@@ -137,9 +138,6 @@ found_key type m c [] all found is = absurd (grind (arith, is))
 found_key type m c (p ∷ ps) all found is =
     elim (c p.0) as (λ o. choose o (lookup_pair c ps) (Some p) None ≡ Some found → IsValueRecord type (m found.0)) [
       | Less ↦ λ h. found_key type m c ps all.1 found h
-      | Equal ↦ λ h. subst (λ (q : ℕ × ℕ). IsValueRecord type (m q.0)) (same p found h) all.0
+      | Equal ↦ λ h. subst (λ (q : ℕ × ℕ). IsValueRecord type (m q.0)) (same_Some p found h) all.0
       | Greater ↦ λ h. absurd (grind (arith, h))
     ] is
-  where
-    same : (a b : ℕ × ℕ) → Some a ≡ Some b → a ≡ b
-    same a b h = cc

@@ -6,18 +6,8 @@ use Rattle.std.specs.declared.cmp.Ordering.TheVariants.{Less, Equal, Greater}
 use Rattle.std.specs.List.{AllByRecursion}
 use Rattle.std.specs.List.Sorted.{IsStrictlySortedBy}
 use Rattle.std.specs.Ordering.{ordering_reverse}
+use Rattle.key_order.proofs.OrderLemmas.{choose_apart, choose_same}
 use Rattle.key_order.specs.Pairs.{choose, lookup_pair, put, take_out}
-
--- at another key nothing is chosen by what stands at the one
-choose_apart : {A : Type 0} (o : Ordering) → o ≢ Equal → (less a b greater : A) → choose o less a greater ≡ choose o less b greater
-choose_apart Less apart less a b greater = refl
-choose_apart Equal apart less a b greater = absurd (apart refl)
-choose_apart Greater apart less a b greater = refl
-
-choose_same : {A : Type 0} (o : Ordering) → o ≢ Equal → (a b : A) → choose o a b a ≡ a
-choose_same Less apart a b = refl
-choose_same Equal apart a b = absurd (apart refl)
-choose_same Greater apart a b = refl
 
 module _ {V : Type 0} (order : V → V → Ordering) (total : IsTotalOrder order) where
   above_less : (a b : V) → order a b ≡ Less → order b a ≡ Greater

@@ -1,6 +1,8 @@
 -- An attribute of which the index was moved beside the documents, or the documents beside the index.
 use Rattle.std.proofs.Common.{◌≡◌, ℕ, List, [], ◌∷◌, ◌++◌, map, inl, inr, ◌⊎◌, refl, sym, ap, subst, ◌∙◌, arith}
 use Rattle.std.specs.List.{flat_map, AllByRecursion}
+use Rattle.image_base.proofs.Pairs.{same-from}
+use Rattle.image_base.proofs.Among.{SameAt-among}
 use Rattle.image_base.specs.Records.{Records, Among, SameAt}
 use Rattle.store_api.specs.Ledgers.{Ledger}
 use Rattle.store_api.specs.Parts.{After, Owns, Turns, entries, times}
@@ -13,7 +15,7 @@ use Rattle.attr_documents.specs.Changes.{pairs_own}
 use Rattle.attr_documents.specs.Documents.{documents_own, documents_part, documents_refer, items_own, items_refer, IsDocuments}
 use Rattle.attr_documents.specs.Laws.{DocumentsStay}
 use Rattle.attr_documents.proofs.RecordLemmas.{weighted-on}
-use Rattle.attr_field.proofs.RefLemmas.{field_count, same_among, same_each}
+use Rattle.attr_field.proofs.RefLemmas.{field_count}
 use Rattle.attr_field.specs.Fields.{field_part, IsField, RefersBeside}
 use Rattle.attr_images.specs.Documents.{column_at}
 use Rattle.attr_images.specs.Postings.{dictionary_reach, index_of}
@@ -30,7 +32,7 @@ use Rattle.field_moves.specs.Moves.{MovesField}
 
 -- the records of the keys stay where all that the pairs reach does
 pub keys_stay : (m n : Records) (root r : ℕ) → SameAt (dictionary_reach m root) m n → IsKey m root r → n r ≡ m r
-keys_stay m n root r same key = same_among m n (map (λ p. p.0) (tree_pairs m root)) (keys_same m n (tree_pairs m root) same) r key
+keys_stay m n root r same key = SameAt-among m n (map (λ p. p.0) (tree_pairs m root)) (keys_same m n (tree_pairs m root) same) r key
 
 module _ {H : Type 0} (bits buffer : ℕ) (kind : Kind) (type : ValueType) (a b : Ledger H) (m n : Records) (documents dictionary : ℕ)
     (field : IsField kind type m documents dictionary) (owns : Owns a m (field_part kind documents dictionary ∷ []))
@@ -57,7 +59,7 @@ module _ {H : Type 0} (bits buffer : ℕ) (kind : Kind) (type : ValueType) (a b 
     documents_same = index_after.stay.0
 
     refer_same : SameAt (documents_refer kind m documents) m n
-    refer_same = same_each m n (documents_refer kind m documents) (λ r among. elim (refers.each r among) [
+    refer_same = same-from (documents_refer kind m documents) m n (λ r among. elim (refers.each r among) [
       | inl key ↦ stay r key
       | inr free ↦ turns.kept r (let e = field_count kind documents dictionary m r in omega arith)
     ])

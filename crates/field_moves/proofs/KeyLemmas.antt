@@ -1,7 +1,9 @@
 -- What the next key of a phase is.
-use Rattle.std.proofs.Common.{◌≡◌, ℕ, zero, suc, ◌<◌, Bool, true, false, cond, List, [], ◌∷◌, ◌++◌, map, Some, refl, subst, arith}
+use Rattle.std.proofs.Common.{◌≡◌, ℕ, zero, suc, ◌<◌, Bool, true, false, cond, List, [], ◌∷◌, map, Some, refl, subst, arith}
 use Rattle.std.specs.List.{find, AllByRecursion}
 use Rattle.std.specs.Ordering.{is_lt}
+use Rattle.list_facts.proofs.Options.{same_Some}
+use Rattle.list_facts.proofs.Each.{AllByRecursion-append}
 use Rattle.image_base.specs.Records.{Records}
 use Rattle.tree_images.specs.Trees.{tree_pairs}
 use Rattle.attr_compaction.specs.Places.{has_key, key_cmp}
@@ -23,21 +25,13 @@ IsFine type phase (Value value) = (type_of value ≡ type) × (has_key phase (Va
 IsFine type phase (Doc doc) = IsDocNumber doc × (has_key phase (Doc doc) ≡ true)
 IsFine type phase (Pair value doc) = (type_of value ≡ type) × (has_key phase (Pair value doc) ≡ true)
 
--- ---- what is found is one of the list
-same_key : (a b : PlanKey) → Some a ≡ Some b → a ≡ b
-same_key a b e = cc
-
 found : (test : PlanKey → Bool) (P : PlanKey → Type 0) (key : PlanKey) (keys : List PlanKey) → AllByRecursion P keys → find test keys ≡ Some key → P key
 found test P key [] all is = absurd (grind (arith, is))
 found test P key (k ∷ keys) all is =
     (elim (test k) as (λ b. cond b (Some k) (find test keys) ≡ Some key → P key) [
-      | true ↦ λ h. subst P (same_key k key h) all.0
+      | true ↦ λ h. subst P (same_Some k key h) all.0
       | false ↦ λ h. found test P key keys all.1 h
     ]) is
-
-both : (P : PlanKey → Type 0) (xs ys : List PlanKey) → AllByRecursion P xs → AllByRecursion P ys → AllByRecursion P (xs ++ ys)
-both P [] ys first second = second
-both P (x ∷ xs) ys first second = (first.0, both P xs ys first.1 second)
 
 -- ---- the keys of a phase
 module _ (type : ValueType) (m : Records) (phase : ℕ) where
@@ -56,7 +50,7 @@ module _ (type : ValueType) (m : Records) (phase : ℕ) where
   all_pairs : ((value : _) (doc : ℕ) → has_key phase (Pair value doc) ≡ true) → (ps : List (ℕ × ℕ)) → AllByRecursion (IsFine type phase) (keys_of_pairs type m ps)
   all_pairs has [] = tt
   all_pairs has (p ∷ ps) =
-      both (IsFine type phase) (map (λ doc. Pair (stored_value type m p.0) doc) (form_docs m (list_form p.1))) (keys_of_pairs type m ps)
+      AllByRecursion-append (IsFine type phase) (map (λ doc. Pair (stored_value type m p.0) doc) (form_docs m (list_form p.1))) (keys_of_pairs type m ps)
       (all_in has p.0 (form_docs m (list_form p.1))) (all_pairs has ps)
 
 all_fine : (type : ValueType) (m : Records) (documents dictionary phase : ℕ) → IsDocumentMap m documents → phase < 4
@@ -65,7 +59,7 @@ all_fine type m documents dictionary zero is below = all_values type m 0 (λ val
 all_fine type m documents dictionary (suc zero) is below = all_documents type m 1 (λ doc. refl) (tree_pairs m documents) is.pairs
 all_fine type m documents dictionary (suc (suc zero)) is below = all_pairs type m 2 (λ value doc. refl) (tree_pairs m dictionary)
 all_fine type m documents dictionary (suc (suc (suc zero))) is below =
-    both (IsFine type 3) (value_keys type m dictionary) (document_keys m documents) (all_values type m 3 (λ value. refl) (tree_pairs m dictionary))
+    AllByRecursion-append (IsFine type 3) (value_keys type m dictionary) (document_keys m documents) (all_values type m 3 (λ value. refl) (tree_pairs m dictionary))
     (all_documents type m 3 (λ doc. refl) (tree_pairs m documents) is.pairs)
 all_fine type m documents dictionary (suc (suc (suc (suc phase)))) is below = absurd (omega arith)
 

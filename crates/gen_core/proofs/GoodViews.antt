@@ -12,7 +12,7 @@ use Rattle.gen_core.specs.Good.{State, GoodView, Good, HoldFits, HasNothingIn, I
 use Rattle.gen_core.specs.Work.{work_at, place_in, IsRecordStored, whole_at, writer_records}
 use Rattle.image_base.specs.Records.{records_of, Records}
 use Rattle.gen_core.proofs.Holds.{at_oldest}
-use Rattle.gen_core.proofs.Lists.{all_drop-at, all_found, some-same}
+use Rattle.gen_core.proofs.Lists.{all_drop-at, all_found}
 use Rattle.gen_core.proofs.ViewLemmas.{active-width, last_at}
 use Rattle.gen_core.proofs.Work.{whole-found, records-found}
 use Rattle.gen_core.specs.declared.views.Tag.{Tag}
@@ -22,6 +22,7 @@ use Rattle.image_base.specs.declared.Image.{Image}
 use Rattle.entry_ref.specs.References.{buffer_of}
 use Rattle.std.proofs.lemmas.Nat.{same_from_place}
 use Rattle.std.specs.Prelude.{All}
+use Rattle.list_facts.proofs.Options.{same_Some}
 use Rattle.gen_core.specs.declared.views.Buffer.TheVariants.{Free, Active, Held}
 
 -- a buffer that has records and is not on hold is active
@@ -32,7 +33,7 @@ not-held-active (Some (Active width tag)) n e free = e
 not-held-active (Some (Held width tag)) n e free = absurd (free width tag refl)
 
 -- a pair with words is found with words
-found-some : (pairs : List (ℕ × List ℕ)) (r l : ℕ) (e : ℕ × List ℕ) → All (λ p. 0 < length p.1) pairs → l < length pairs → (get_or pairs l e).0 ≡ r → 0 < length (records_of pairs r)
+pub found-some : (pairs : List (ℕ × List ℕ)) (r l : ℕ) (e : ℕ × List ℕ) → All (λ p. 0 < length p.1) pairs → l < length pairs → (get_or pairs l e).0 ≡ r → 0 < length (records_of pairs r)
 found-some [] r l e all lt is = absurd (omega arith)
 found-some (q ∷ qs) r zero e all lt is = subst (λ t. 0 < length (unwrap_or (cond t (Some q.1) (lookup (nat_eq r) qs)) [])) (sym (eq-eqb r q.0 (sym is))) (All-head (λ p. 0 < length p.1) q qs all)
 found-some (q ∷ qs) r (suc l) e all lt is = by_test (nat_eq r q.0) (found-some qs r l e (All-tail (λ p. 0 < length p.1) q qs all) (omega arith) is)
@@ -105,7 +106,7 @@ module _ (w : WriterView) (g : GoodView w) where
       by_whole (Some xs) e =
           let h = whole-found w ref xs e in
           let placed = last-placed ref ws at in
-          let long : length xs ≡ length ws = some-same _ _ (sym (active-width w.buffers _ _ h.active) ∙ placed.width) in
+          let long : length xs ≡ length ws = same_Some _ _ (sym (active-width w.buffers _ _ h.active) ∙ placed.width) in
           let p : ℕ = place_in w.sizes (length xs) ref 0 in
           let far = all_found (λ pair. IsApart w.sizes p (length pair.1) pair.0) (last_image w.commits).records ref ws
           (last-kept (Avoids w.sizes p) (g.apart p _ (h.words 0 h.entry.wide))).records at in
@@ -136,7 +137,7 @@ module _ (w : WriterView) (g : GoodView w) where
           each = λ j at same.
               let other = placed l e less in
               let both = one_place w.sizes.offset_bits w.sizes.buffers w.sizes.words _ width _ ref j i other.inside entry
-              (λ b. some-same _ _ (sym other.width ∙ ap (width_in w.buffers) b ∙ active-width w.buffers (buffer_of w.sizes.offset_bits ref) width active)) at inside same in
+              (λ b. same_Some _ _ (sym other.width ∙ ap (width_in w.buffers) b ∙ active-width w.buffers (buffer_of w.sizes.offset_bits ref) width active)) at inside same in
               let some = found-some image.records ref l e (λ m x h. (placed m x h).inside.wide) less both.0 in
               let zero : length (words_at image ref) ≡ 0 = ap length (unkept k d lt) in
               omega (arith, some, zero);

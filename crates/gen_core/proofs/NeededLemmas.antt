@@ -7,6 +7,7 @@ use Rattle.std.proofs.Math.Seq.{get_or-set_other, get_or-set_same}
 use Rattle.std.specs.Prelude.{slice_get, All, Contains, option_and_then, count_by}
 use Rattle.std.proofs.lemmas.Option.{slice_get_within}
 use Rattle.std.proofs.lemmas.List.Elements.{All-contains}
+use Rattle.list_facts.proofs.Options.{same_Some}
 use Rattle.entry_ref.specs.References.{buffer_of}
 use Rattle.image_base.specs.declared.Image.{Image}
 use Rattle.image_base.specs.Records.{Records}
@@ -22,7 +23,7 @@ use Rattle.gen_core.specs.Work.{work_at}
 use Rattle.gen_core.specs.Good.{State, InActive, Avoids, IsPlaced, WordsStand, GoodReader, IsLawfulCommit, Good, HoldFits, hold_word}
 use Rattle.gen_core.specs.Events.{after_store_word, after_store_width, after_hand_out, after_publish, after_split, after_load_root, with_buffer, reopened, coming_hold, with_state, sees, after_free, count_at}
 use Rattle.gen_core.specs.Events.{after_store_newest, after_morph, after_count}
-use Rattle.gen_core.proofs.Lists.{all_at, all_drop-at, count_moved, count_some, some-same}
+use Rattle.gen_core.proofs.Lists.{all_at, all_drop-at, count_moved, count_some}
 use Rattle.gen_core.proofs.Holds.{at_newest, at_oldest, any-none, or-false, or-right, any-push, newest-open, oldest-open}
 use Rattle.gen_core.proofs.GoodViews.{good_view, some-commit, floor-last}
 use Rattle.gen_core.proofs.ViewLemmas.{last_at, last_image-push}
@@ -88,7 +89,7 @@ module _ (reaches : ℕ → Records → ℕ → List ℕ) (lawful : ℕ → Reco
       let old = kept-width s (kept_of s.writer) buffers image pair g.places.records there inside in
       let new = kept-width s (kept_of s.writer) (set buffers b x) image pair t.places.records there inside in
       let lt : b < length buffers = width-inside buffers b _ (ap (width_in buffers) (sym at) ∙ old.width) in
-      other (some-same _ _ (sym new.width ∙ ap (width_in (set buffers b x)) at ∙ ap (option_and_then record_width) (slice_get-set_same buffers b x lt)))
+      other (same_Some _ _ (sym new.width ∙ ap (width_in (set buffers b x)) at ∙ ap (option_and_then record_width) (slice_get-set_same buffers b x lt)))
 
   pub needs_free : (s : State) (b : ℕ) (image : Image) (pair : ℕ × List ℕ) → Good reaches lawful s → Contains (kept_of s.writer) image → Contains image.records pair
       → buffer_of s.writer.sizes.offset_bits pair.0 ≡ b → Good reaches lawful (after_hand_out s b) → ⊥
@@ -98,7 +99,7 @@ module _ (reaches : ℕ → Records → ℕ → List ℕ) (lawful : ℕ → Reco
       let old = kept-width s (kept_of s.writer) buffers image pair g.places.records there inside in
       let new = kept-width s (kept_of s.writer) (set buffers b x) image pair t.places.records there inside in
       let lt : b < length buffers = width-inside buffers b _ (ap (width_in buffers) (sym at) ∙ old.width) in
-      let none : length pair.1 ≡ 0 = some-same _ _ (sym new.width ∙ ap (width_in (set buffers b x)) at ∙ ap (option_and_then record_width) (slice_get-set_same buffers b x lt)) in
+      let none : length pair.1 ≡ 0 = same_Some _ _ (sym new.width ∙ ap (width_in (set buffers b x)) at ∙ ap (option_and_then record_width) (slice_get-set_same buffers b x lt)) in
       let wide = new.inside.wide in
       omega (arith, none, wide)
 

@@ -5,6 +5,7 @@ use Rattle.std.specs.Prelude.{slice_get, option_and_then, nat_eq, nat_lt, ◌&&�
 use Rattle.std.specs.Option.{unwrap_or}
 use Rattle.std.proofs.lemmas.Bool.{cases_eq, ltb-true, lt-ltb, and_parts, and_left, and_right, and_from}
 use Rattle.std.proofs.lemmas.Option.{slice_get_within}
+use Rattle.list_facts.proofs.Options.{same_Some}
 use Rattle.image_base.specs.Images.{words_at}
 use Rattle.image_base.specs.Places.{IsEntry}
 use Rattle.image_base.proofs.Apart.{within, one_place}
@@ -13,7 +14,6 @@ use Rattle.gen_core.specs.Conditions.{MayStoreWidth, MayHandOut}
 use Rattle.gen_core.specs.Good.{GoodView}
 use Rattle.gen_core.specs.Events.{stored, with_buffer, widened, handed_out}
 use Rattle.gen_core.specs.Work.{work_at, place_in, prepend, run_at, is_entry, only_if, whole_by, writer_records, stored_in, stored_by}
-use Rattle.gen_core.proofs.Lists.{some-same}
 use Rattle.gen_core.proofs.WriterRecords.{entry-true}
 use Rattle.gen_core.proofs.Work.{is_entry-true}
 use Rattle.gen_core.specs.declared.views.Tag.{Tag}
@@ -90,7 +90,7 @@ module _ (w : WriterView) (r i width n : ℕ) (active : active_in w.buffers (buf
   ]
     where
       one : (q j v : ℕ) → active_in w.buffers (buffer_of w.sizes.offset_bits q) ≡ Some v → IsEntry w.sizes.offset_bits w.sizes.buffers w.sizes.words v q → j < v → place_in w.sizes v q j ≡ p → (q ≡ r) × (j ≡ i)
-      one q j v at there lt same = one_place w.sizes.offset_bits w.sizes.buffers w.sizes.words v width q r j i there entry (λ b. some-same v width (sym at ∙ ap (active_in w.buffers) b ∙ active)) lt inside same
+      one q j v at there lt same = one_place w.sizes.offset_bits w.sizes.buffers w.sizes.words v width q r j i there entry (λ b. same_Some v width (sym at ∙ ap (active_in w.buffers) b ∙ active)) lt inside same
 
       other : (q j : ℕ) → ((v : ℕ) → active_in w.buffers (buffer_of w.sizes.offset_bits q) ≡ Some v → IsEntry w.sizes.offset_bits w.sizes.buffers w.sizes.words v q → j < v → place_in w.sizes v q j ≢ p)
           → stored_by (stored w p n) q j ≡ stored_by w q j

@@ -7,6 +7,7 @@ use native.Mathlib.Decide.{ℕ_discrete}
 use Rattle.std.proofs.Math.Seq.{get_or-set_other, get_or-set_same}
 use Rattle.std.specs.Prelude.{slice_get, option_and_then}
 use Rattle.std.proofs.lemmas.Option.{slice_get_within}
+use Rattle.list_facts.proofs.Options.{same_Some}
 use Rattle.entry_ref.specs.References.{buffer_of}
 use Rattle.image_base.specs.Records.{Records}
 use Rattle.image_base.specs.Places.{base, state_place}
@@ -19,7 +20,7 @@ use Rattle.gen_core.specs.Work.{work_at}
 use Rattle.gen_core.specs.Good.{State, IsWorkPlace, Good}
 use Rattle.gen_core.specs.Conditions.{MayStoreWidth, MayStoreWord, MayHandOut}
 use Rattle.gen_core.specs.Events.{with_buffer, after_store_width, after_store_word, after_hand_out}
-use Rattle.gen_core.proofs.Lists.{at_set, some-same}
+use Rattle.gen_core.proofs.Lists.{at_set}
 use Rattle.gen_core.proofs.Frames.{IsBehind, active-behind, behind-base, base-same, behind-high, names-set, counts-set, records-set, records-behind, active-inside, active-below, sizes-set}
 use Rattle.gen_core.proofs.ViewLemmas.{active-width, active-there}
 
@@ -140,7 +141,7 @@ module _ (reaches : ℕ → Records → ℕ → List ℕ) (lawful : ℕ → Reco
       within = let lt = active-inside buffers b 0 may.none_yet in omega (arith, lt, g.sizes.count)
 
       same_width : (c w : ℕ) → c ≡ b → width_in buffers c ≡ Some w → w ≡ 0
-      same_width c w same is = some-same w 0 (sym is ∙ ap (width_in buffers) same ∙ active-width buffers b 0 may.none_yet)
+      same_width c w same is = same_Some w 0 (sym is ∙ ap (width_in buffers) same ∙ active-width buffers b 0 may.none_yet)
 
       low : (c : ℕ) → c < sizes.buffers → state_place c ≢ p
       low c lt e = omega arith
@@ -169,7 +170,7 @@ module _ (reaches : ℕ → Records → ℕ → List ℕ) (lawful : ℕ → Reco
           (λ same.
           let new : width_in (set buffers b (Active width (last_tag_in buffers b))) b ≡ Some width =
           ap (option_and_then record_width) (slice_get-set_same buffers b (Active width (last_tag_in buffers b)) (omega (arith, within, g.sizes.count))) in
-          let value : width ≡ w = some-same width w (sym new ∙ ap (width_in (set buffers b (Active width (last_tag_in buffers b)))) (sym same) ∙ is) in
+          let value : width ≡ w = same_Some width w (sym new ∙ ap (width_in (set buffers b (Active width (last_tag_in buffers b)))) (sym same) ∙ is) in
           ap (λ k. slice_index (set s.words p width) (base sizes.buffers sizes.words k)) same ∙ get_or-set_same s.words p width 0 below ∙ value)
           (λ other.
           get_or-set_other s.words p (base sizes.buffers sizes.words c) width 0 (λ e. other (base-same sizes c b g.sizes.some_word e))

@@ -3,6 +3,7 @@ use Rattle.std.proofs.Common.{◌≡◌, ◌≢◌, ℕ, zero, suc, ◌+◌, ◌
 use Rattle.std.specs.Option.{unwrap_or}
 use Rattle.std.specs.Prelude.{All}
 use Rattle.std.proofs.lemmas.Bool.Decides.{nat_tests}
+use Rattle.list_facts.proofs.Options.{same_Some}
 use Rattle.entry_ref.specs.References.{buffer_of, offset_limit}
 use Rattle.image_base.specs.declared.Image.{Image}
 use Rattle.image_base.specs.Records.{Records, SameAt}
@@ -16,7 +17,7 @@ use Rattle.gen_core.specs.Views.{active_in, last_image}
 use Rattle.gen_core.specs.Work.{work_at, place_in, IsRecordStored, prepend, run_at, is_entry, only_if, whole_by, whole_at, writer_records, next_image}
 use Rattle.gen_core.specs.Good.{IsPlaced}
 use Rattle.gen_core.specs.Events.{stored, published}
-use Rattle.gen_core.proofs.Lists.{all_found, some-same}
+use Rattle.gen_core.proofs.Lists.{all_found}
 use Rattle.gen_core.proofs.Work.{is_entry-true, whole-found, records-found}
 use Rattle.gen_core.proofs.ViewLemmas.{last_image-push}
 
@@ -92,7 +93,7 @@ records-others w ref width i n at e lt q other = ap (λ o. unwrap_or o (words_at
     by_entry x there false test = refl
     by_entry x there true test = run-other w.work p n (place_in w.sizes x q 0) x
         (λ j less same. other (one_place w.sizes.offset_bits w.sizes.buffers w.sizes.words x width q ref j i (is_entry-true w.sizes x q test) e
-        (λ b. some-same x width (sym there ∙ ap (active_in w.buffers) b ∙ at)) less lt (omega (arith, same))).0)
+        (λ b. same_Some x width (sym there ∙ ap (active_in w.buffers) b ∙ at)) less lt (omega (arith, same))).0)
 
     by_width : (o : Option ℕ) → active_in w.buffers (buffer_of w.sizes.offset_bits q) ≡ o → whole_by (stored w p n) q o ≡ whole_by w q o
     by_width None there = refl

@@ -1,3 +1,4 @@
+pub mod Among
 pub mod Pairs
 pub mod Apart
 pub mod Steps

@@ -1,6 +1,8 @@
 -- The key of a value moved.
 use Rattle.std.proofs.Common.{◌≡◌, ℕ, List, [], ◌∷◌, None, Some, Option, option_map, Result, Ok, Err, true, true≢false, inl, inr, ◌⊎◌, refl, sym, ap, subst, ◌∙◌, arith}
 use Rattle.std.specs.Prelude.{IfOk}
+use Rattle.list_facts.proofs.Options.{same_Some}
+use Rattle.image_base.proofs.Among.{SameAt-then, SameAt-among}
 use Rattle.entry_ref.specs.References.{buffer_of}
 use Rattle.image_base.specs.Records.{Records, SameAt, Among}
 use Rattle.key_order.specs.Pairs.{lookup_pair, put}
@@ -23,14 +25,11 @@ use Rattle.posting_store.proofs.FormLemmas.{at_form, reach_form}
 use Rattle.value_index.specs.Indexes.{index_part, key_at, IsIndex, IsKey, IsValuePair}
 use Rattle.value_index.proofs.IndexLemmas.{docs_at, keys_same, pair_reach}
 use Rattle.value_index.proofs.KeyLemmas.{pair_found}
-use Rattle.value_index.proofs.OpenLemmas.{IsOpen, open_found, others, parts, same_among, same_self, same_then}
+use Rattle.value_index.proofs.OpenLemmas.{IsOpen, open_found, others, parts, same_self}
 use Rattle.value_index.proofs.PairLemmas.{keys, among_put, found_among}
 use Rattle.index_moves.specs.Moves.{MovesKey}
 use Rattle.index_moves.proofs.PairLemmas.{same_found}
 use Rattle.index_moves.proofs.SetLemmas.{IsReady, parts_with, extra_stays, list_stays, rest_stays, set_index, set_is, set_key, set_list, set_owns, set_pairs, set_rest, set_turns}
-
-same_option : (a b : ℕ) → Some a ≡ Some b → a ≡ b
-same_option a b e = cc
 
 -- nothing is done where the key lies elsewhere, or is not there
 pub key_unmoved : {H : Type 0} (bits buffer : ℕ) (value : Value) (a : Ledger H) (m : Records) (root : ℕ) → IsIndex (type_of value) m root
@@ -58,7 +57,7 @@ key_of value m root found is = ap (λ (f : Option (ℕ × ℕ)). option_map (λ 
 pub found_apart : (bits buffer : ℕ) (value : Value) (m : Records) (root key word : ℕ) → lookup_pair (beside_value value m) (tree_pairs m root) ≡ Some (key, word)
     → (buffer_of bits key ≡ buffer → ⊥) → (k : ℕ) → key_at value m root ≡ Some k → buffer_of bits k ≡ buffer → ⊥
 found_apart bits buffer value m root key word found apart k is lies =
-    apart (ap (buffer_of bits) (same_option key k (sym (key_of value m root (Some (key, word)) found) ∙ is)) ∙ lies)
+    apart (ap (buffer_of bits) (same_Some key k (sym (key_of value m root (Some (key, word)) found) ∙ is)) ∙ lies)
 
 pub none_apart : (bits buffer : ℕ) (value : Value) (m : Records) (root : ℕ) → lookup_pair (beside_value value m) (tree_pairs m root) ≡ None
     → (k : ℕ) → key_at value m root ≡ Some k → buffer_of bits k ≡ buffer → ⊥
@@ -90,7 +89,7 @@ module _ {H : Type 0} (bits buffer : ℕ) (value : Value) (a b : Ledger H) (m n 
 
   stays : (ref : ℕ) → (ref ≡ key) ⊎ Among ref (keys rest) → n ref ≡ m ref
   stays ref (inl here) = subst (λ k. n k ≡ m k) (sym here) made.stay.1.0.0
-  stays ref (inr later) = same_among m n (keys rest) ref (keys_same m n rest made.stay.1.1.1.0) later
+  stays ref (inr later) = SameAt-among m n (keys rest) (keys_same m n rest made.stay.1.1.1.0) ref later
 
   pub key_ready : IsReady value b m n root copy word (docs_at m word) (entry key ∷ [])
   key_ready = record {
@@ -112,7 +111,7 @@ module _ {H : Type 0} (bits buffer : ℕ) (value : Value) (a b : Ledger H) (m n 
     moved : (next : ℕ) → MakesDictionary (type_of value) b c n o root (put (beside_value value n) (copy, word) (tree_pairs n root)) next
         → MovesKey bits buffer value a c m o root next
     moved next makes =
-        let old_list : SameAt (list_reach m word) m o = same_then m n o (list_reach m word) made.stay.1.1.0
+        let old_list : SameAt (list_reach m word) m o = SameAt-then m n o (list_reach m word) made.stay.1.1.0
         (subst (λ rs. SameAt rs n o) (list_reach-same m n word made.stay.1.1.0) (list_stays value b m n root key word copy word (entry key ∷ []) start found opened.reads key_ready c o next makes)) in
         let old_key : o key ≡ m key = (extra_stays value b m n root key word copy word (entry key ∷ []) start found opened.reads key_ready c o next makes).0.0 ∙ made.stay.1.0.0 in
         let here : SameAt (postings_reach m (list_form word)) m o = subst (λ rs. SameAt rs m o) (reach_form m word pair.some) old_list in
@@ -122,7 +121,7 @@ module _ {H : Type 0} (bits buffer : ℕ) (value : Value) (a b : Ledger H) (m n 
           keys = λ ref among. kept ref (opened.was ref among);
           index_is = set_is value b m n root key word copy word (entry key ∷ []) start found opened.reads key_ready c o next makes;
           reads_as = set_index value b m n root key word copy word (entry key ∷ []) start found opened.reads key_ready c o next makes;
-          apart = λ k is there. elsewhere k (same_option copy k (sym (set_key value b m n root key word copy word (entry key ∷ []) start found opened.reads key_ready c o next makes) ∙ is)) there;
+          apart = λ k is there. elsewhere k (same_Some copy k (sym (set_key value b m n root key word copy word (entry key ∷ []) start found opened.reads key_ready c o next makes) ∙ is)) there;
           others = set_rest value b m n root key word copy word (entry key ∷ []) start found opened.reads key_ready c o next makes;
           list = set_list value b m n root key word copy word (entry key ∷ []) start found opened.reads key_ready c o next makes
               ∙ sym (lookup-of_pair (beside_value value m) (tree_pairs m root) ∙ ap (λ (f : Option (ℕ × ℕ)). option_map (λ (p : ℕ × ℕ). p.1) f) found);

@@ -5,6 +5,9 @@ use Rattle.std.specs.Prelude.{IfOk}
 use Rattle.std.specs.declared.cmp.Ordering.{Ordering}
 use Rattle.std.specs.declared.cmp.Ordering.TheVariants.{Less, Equal, Greater}
 use Rattle.std.specs.List.{flat_map}
+use Rattle.list_facts.proofs.Options.{same_Some}
+use Rattle.image_base.proofs.Among.{SameAt-among}
+use Rattle.image_base.proofs.Pairs.{same-from}
 use Rattle.image_base.specs.Records.{Records, SameAt, Among}
 use Rattle.key_order.specs.Pairs.{choose, lookup, lookup_pair, put}
 use Rattle.key_order.proofs.PairLemmas.{lookup-of_pair}
@@ -33,7 +36,7 @@ use Rattle.value_index.specs.Flows.{list_word}
 use Rattle.value_index.specs.Indexes.{index_part, IsIndex, IsKey, IsValuePair}
 use Rattle.value_index.proofs.IndexLemmas.{docs_at, keys_same, pair_reach}
 use Rattle.value_index.proofs.KeyLemmas.{pair_found, reads_found}
-use Rattle.value_index.proofs.OpenLemmas.{IsOpen, others, parts, same_among, same_by, same_self}
+use Rattle.value_index.proofs.OpenLemmas.{IsOpen, others, parts, same_self}
 use Rattle.value_index.proofs.PairLemmas.{keys, all_by_keys, among_put, key_put, lookup_pair_as}
 use Rattle.value_index.proofs.StepLemmas.{open_next, word_some}
 use Rattle.index_moves.specs.Moves.{move_most, word_most, FormIsApart, MovesList}
@@ -41,19 +44,13 @@ use Rattle.index_moves.proofs.KeyLemmas.{key_of}
 use Rattle.index_moves.proofs.SetLemmas.{IsReady, key_stays, list_stays, ready_dictionary, ready_owns, rest_stays, set_index, set_is, set_key, set_list, set_owns, set_pairs, set_rest, set_turns}
 use Rattle.index_moves.proofs.WordLemmas.{form_same}
 
-same_option : (a b : ℕ) → Some a ≡ Some b → a ≡ b
-same_option a b e = cc
-
-same_pair : (a b : ℕ × ℕ) → Some a ≡ Some b → a ≡ b
-same_pair a b e = cc
-
 -- a pair put in its own place
 put_found : (c : ℕ → Ordering) (p : ℕ × ℕ) (ps : List (ℕ × ℕ)) → lookup_pair c ps ≡ Some p → put c p ps ≡ ps
 put_found c p [] is = absurd (grind (arith, is))
 put_found c p (q ∷ ps) is =
     (elim (c q.0) as (λ o. choose o (lookup_pair c ps) (Some q) None ≡ Some p → choose o (q ∷ put c p ps) (p ∷ ps) (p ∷ q ∷ ps) ≡ q ∷ ps) [
       | Less ↦ λ h. ap (λ qs. q ∷ qs) (put_found c p ps h)
-      | Equal ↦ λ h. ap (λ (x : ℕ × ℕ). x ∷ ps) (sym (same_pair q p h))
+      | Equal ↦ λ h. ap (λ (x : ℕ × ℕ). x ∷ ps) (sym (same_Some q p h))
       | Greater ↦ λ h. absurd (grind (arith, h))
     ]) is
 
@@ -128,7 +125,7 @@ module _ {H : Type 0} (bits buffer doc : ℕ) (value : Value) (a b : Ledger H) (
   -- the same word: the dictionary is as it was
   pub dictionary_same : next ≡ word → MakesDictionary (type_of value) b b n n root (put (beside_value value n) (key, next) (tree_pairs n root)) root
   dictionary_same same =
-      let stays = dictionary_stays (type_of value) m n root opened.nodes (same_by m n (keys (tree_pairs m root)) opened.keys_stay) start.dictionary_is in
+      let stays = dictionary_stays (type_of value) m n root opened.nodes (same-from (keys (tree_pairs m root)) m n opened.keys_stay) start.dictionary_is in
       let agree = all_by_keys (λ k. beside_value value n k ≡ beside_value value m k) (tree_pairs m root) (λ k among. ap (λ ws. value_cmp (value_of (type_of value) ws) value) (opened.keys_stay k among)) in
       let there : lookup_pair (beside_value value n) (tree_pairs n root) ≡ Some (key, next) =
       ap (lookup_pair (beside_value value n)) stays.1 ∙ lookup_pair_as (beside_value value m) (beside_value value n) (tree_pairs m root) agree ∙ found ∙ ap (λ (w : ℕ). Some (key, w)) (sym same) in
@@ -151,7 +148,7 @@ module _ {H : Type 0} (bits buffer doc : ℕ) (value : Value) (a b : Ledger H) (
           index_is = set_is value b m n root key word key next [] start found was_reads list_ready c o top set;
           reads_as = set_index value b m n root key word key next [] start found was_reads list_ready c o top set;
           apart = λ w there. subst (λ x. FormIsApart bits buffer doc o (list_form x))
-              (same_option next w (sym (set_list value b m n root key word key next [] start found was_reads list_ready c o top set) ∙ there))
+              (same_Some next w (sym (set_list value b m n root key word key next [] start found was_reads list_ready c o top set) ∙ there))
               (form_same bits buffer doc n o (list_form next) here form apart);
           key = set_key value b m n root key word key next [] start found was_reads list_ready c o top set ∙ sym (key_of value m root (Some (key, word)) found);
           others = set_rest value b m n root key word key next [] start found was_reads list_ready c o top set;
@@ -194,7 +191,7 @@ module _ {H : Type 0} (bits buffer doc : ℕ) (value : Value) (a b : Ledger H) (
         )
         kept ref among same (inr later) = (
           subst (λ ps. Among ref (keys ps)) (sym pairs_are) (among_put (beside_value value m) (key, next) ref (tree_pairs m root) later),
-          same_among m o (keys rest) ref (keys_same m o rest same) later,
+          SameAt-among m o (keys rest) (keys_same m o rest same) ref later,
         )
 
     pub list_set_by : (answer : Result ℕ StoreError) → IfOk answer (MakesDictionary (type_of value) b c n o root (put (beside_value value n) (key, next) (tree_pairs n root)))

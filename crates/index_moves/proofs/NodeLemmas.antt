@@ -4,15 +4,13 @@ use Rattle.std.specs.Prelude.{IfOk}
 use Rattle.std.specs.declared.cmp.Ordering.{Ordering}
 use Rattle.std.specs.List.{flat_map, AllByRecursion}
 use Rattle.image_base.specs.Records.{Records, SameAt}
-use Rattle.store_api.specs.Ledgers.{Ledger, capacity}
+use Rattle.store_api.specs.Ledgers.{Ledger}
 use Rattle.store_api.specs.Parts.{After, Owns, Turns, times}
 use Rattle.store_api.specs.declared.store.StoreError.{StoreError}
-use Rattle.store_api.proofs.Counts.{at_most-more, at_most-none}
 use Rattle.store_api.proofs.PartLemmas.{after, owns-some}
 use Rattle.tree_images.specs.ProofsForTrees.{all-same}
 use Rattle.tree_images.specs.Trees.{tree_pairs}
 use Rattle.tree_make.specs.Changes.{tree}
-use Rattle.tree_make.specs.Makes.{CountsNodes}
 use Rattle.tree_touch.specs.Paths.{path_nodes, NoneIn}
 use Rattle.tree_touch.proofs.TreeLemmas.{none-apart}
 use Rattle.attr_images.specs.Postings.{dictionary_reach}
@@ -40,12 +38,6 @@ nodes_unmoved bits buffer value a m root is owns none = record {
   stay = same_self m (dictionary_reach m root);
   owns = owns;
   turns = record { kept = λ r h. refl; balance = λ r. refl };
-}
-
-pub counts_nothing : {H : Type 0} (a : Ledger H) (most : ℕ) → CountsNodes a a most
-counts_nothing a most = record {
-  nodes = at_most-more (capacity a.work.sizes.words 34) 0 most (a.of_width 34) (a.of_width 34) (omega arith) (at_most-none (capacity a.work.sizes.words 34) (a.of_width 34));
-  others = λ c w other. at_most-none c (a.of_width w);
 }
 
 module _ {H : Type 0} (bits buffer : ℕ) (type : ValueType) (value key : Value) (is : type_of value ≡ type) (same : key ≡ value) (a b : Ledger H) (m n : Records) (root : ℕ)

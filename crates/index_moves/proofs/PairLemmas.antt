@@ -3,12 +3,14 @@ use Rattle.std.proofs.Common.{◌≡◌, ℕ, zero, suc, ◌<◌, List, [], ◌�
 use Rattle.std.specs.declared.cmp.Ordering.{Ordering}
 use Rattle.std.specs.declared.cmp.Ordering.TheVariants.{Less, Equal, Greater}
 use Rattle.std.specs.List.{flat_map, AllByRecursion}
+use Rattle.list_facts.proofs.Options.{same_Some}
+use Rattle.image_base.proofs.Among.{SameAt-among}
+use Rattle.image_base.proofs.Pairs.{same-from}
 use Rattle.image_base.specs.Records.{Records, SameAt}
 use Rattle.key_order.specs.Pairs.{choose, lookup, lookup_pair, put, take_out}
 use Rattle.store_api.specs.Parts.{times}
 use Rattle.store_api.proofs.Times.{among-times, times-among}
-use Rattle.value_index.proofs.OpenLemmas.{same_among, same_by}
-use Rattle.value_index.proofs.PairLemmas.{found_times, same_some}
+use Rattle.value_index.proofs.PairLemmas.{found_times}
 
 -- ---- a pair that was set, by a comparison that tells it equal and agrees with the other at all other keys
 module _ (c d : ℕ → Ordering) (p : ℕ × ℕ) (equal : d p.0 ≡ Equal) where
@@ -50,7 +52,7 @@ module _ {A : Type 0} (f g : ℕ × ℕ → A) (c : ℕ → Ordering) (p q : ℕ
       (elim (c x.0) as (λ o. choose o (lookup_pair c ps) (Some x) None ≡ Some q → AllByRecursion (λ y. f y ≡ g y) (choose o (x ∷ take_out c ps) ps (x ∷ ps))
       → map f (choose o (x ∷ put c p ps) (p ∷ ps) (p ∷ x ∷ ps)) ≡ g x ∷ map g ps) [
         | Less ↦ λ h all. ap (λ y. y ∷ map f (put c p ps)) all.0 ∙ ap (λ ys. g x ∷ ys) (set_reads ps h all.1)
-        | Equal ↦ λ h all. ap (λ y. y ∷ map f ps) (same ∙ ap g (sym (same_some x q h))) ∙ ap (λ ys. g x ∷ ys) (others_read ps all)
+        | Equal ↦ λ h all. ap (λ y. y ∷ map f ps) (same ∙ ap g (sym (same_Some x q h))) ∙ ap (λ ys. g x ∷ ys) (others_read ps all)
         | Greater ↦ λ h all. absurd (grind (arith, h))
       ]) is all
     where
@@ -61,10 +63,10 @@ module _ {A : Type 0} (f g : ℕ × ℕ → A) (c : ℕ → Ordering) (p q : ℕ
 -- ---- what all pairs reach stays where that of the one that is found and of all others does
 pub same_found : (m n : Records) (c : ℕ → Ordering) (f : ℕ × ℕ → List ℕ) (p : ℕ × ℕ) (ps : List (ℕ × ℕ)) → lookup_pair c ps ≡ Some p
     → SameAt (f p) m n → SameAt (flat_map f (take_out c ps)) m n → SameAt (flat_map f ps) m n
-same_found m n c f p ps found here rest = same_by m n (flat_map f ps) (λ r among. each r (times r (f p)) refl (among-times r (flat_map f ps) among))
+same_found m n c f p ps found here rest = same-from (flat_map f ps) m n (λ r among. each r (times r (f p)) refl (among-times r (flat_map f ps) among))
   where
     each : (r k : ℕ) → times r (f p) ≡ k → 0 < times r (flat_map f ps) → n r ≡ m r
     each r zero none some =
         let split = found_times c f r p ps found in
-        same_among m n (flat_map f (take_out c ps)) r rest (times-among r (flat_map f (take_out c ps)) (omega arith))
-    each r (suc k) is some = same_among m n (f p) r here (times-among r (f p) (omega arith))
+        SameAt-among m n (flat_map f (take_out c ps)) rest r (times-among r (flat_map f (take_out c ps)) (omega arith))
+    each r (suc k) is some = SameAt-among m n (f p) here r (times-among r (f p) (omega arith))

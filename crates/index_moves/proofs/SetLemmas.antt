@@ -2,6 +2,8 @@
 use Rattle.std.proofs.Common.{◌≡◌, ℕ, ◌<◌, List, [], ◌∷◌, map, Some, Option, option_map, refl, sym, ap, subst, ◌∙◌, arith}
 use Rattle.std.specs.declared.cmp.Ordering.TheVariants.{Equal}
 use Rattle.std.specs.List.{flat_map, AllByRecursion}
+use Rattle.image_base.proofs.Pairs.{same-from}
+use Rattle.image_base.proofs.Among.{SameAt-then, SameAt-among}
 use Rattle.image_base.specs.Records.{Records, SameAt}
 use Rattle.key_order.specs.Pairs.{lookup, lookup_pair, put, take_out}
 use Rattle.store_api.specs.Ledgers.{Ledger}
@@ -24,7 +26,7 @@ use Rattle.posting_store.proofs.FormLemmas.{at_form}
 use Rattle.value_index.specs.Indexes.{index_part, key_at, IsIndex, IsKey, IsValuePair}
 use Rattle.value_index.proofs.ChangeLemmas.{shown_stay}
 use Rattle.value_index.proofs.IndexLemmas.{docs_at, keys_same, pair_reach, pair_same}
-use Rattle.value_index.proofs.OpenLemmas.{others, pair_count, index_count, pairs_part, pairs_reach-same, same_among, same_by, same_then}
+use Rattle.value_index.proofs.OpenLemmas.{others, pair_count, index_count, pairs_part, pairs_reach-same}
 use Rattle.value_index.proofs.PairLemmas.{keys, all_by_keys, all_put, all_taken, put_as, put_times}
 use Rattle.value_index.proofs.ShownLemmas.{Docs, shown}
 use Rattle.index_moves.proofs.PairLemmas.{set_found, set_others, set_reads, set_value}
@@ -57,7 +59,7 @@ module _ {H : Type 0} (value : Value) (b : Ledger H) (m n : Records) (root was_k
   rest = others value m root
 
   stays : IsDictionary type n root × (tree_pairs n root ≡ tree_pairs m root)
-  stays = dictionary_stays type m n root is.nodes (same_by m n (keys (tree_pairs m root)) is.keys_stay) start.dictionary_is
+  stays = dictionary_stays type m n root is.nodes (same-from (keys (tree_pairs m root)) m n is.keys_stay) start.dictionary_is
 
   pub ready_dictionary : IsDictionary type n root
   ready_dictionary = stays.0
@@ -83,7 +85,7 @@ module _ {H : Type 0} (value : Value) (b : Ledger H) (m n : Records) (root was_k
     list_stays = tree_step.stay.1.0
 
     pub rest_stays : SameAt (flat_map (pair_reach m) rest) m o
-    rest_stays = same_then m n o (flat_map (pair_reach m) rest) is.rest (subst (λ rs. SameAt rs n o) (pairs_reach-same m n rest is.rest) tree_step.stay.1.1.0)
+    rest_stays = SameAt-then m n o (flat_map (pair_reach m) rest) is.rest (subst (λ rs. SameAt rs n o) (pairs_reach-same m n rest is.rest) tree_step.stay.1.1.0)
 
     pub extra_stays : AllStay extra n o
     extra_stays = tree_step.stay.1.1.1
@@ -122,7 +124,7 @@ module _ {H : Type 0} (value : Value) (b : Ledger H) (m n : Records) (root was_k
 
     others_agree : AllByRecursion (λ q. beside_value value o q.0 ≡ beside_value value m q.0) rest
     others_agree = all_by_keys (λ k. beside_value value o k ≡ beside_value value m k) rest
-        (λ k among. ap (λ ws. value_cmp (value_of type ws) value) (same_among m o (keys rest) k (keys_same m o rest rest_stays) among))
+        (λ k among. ap (λ ws. value_cmp (value_of type ws) value) (SameAt-among m o (keys rest) (keys_same m o rest rest_stays) k among))
 
     pub set_rest : take_out (beside_value value o) (tree_pairs o next) ≡ take_out (beside_value value m) (tree_pairs m root)
     set_rest = ap (take_out (beside_value value o)) set_pairs ∙ set_others (beside_value value m) (beside_value value o) (key, word) equal (tree_pairs m root) others_agree

@@ -1,17 +1,16 @@
 -- A refused move is one of a width of which a record was in use as it began: the value's, the list's, or a node.
 use Rattle.std.proofs.Common.{◌≡◌, ℕ, zero, suc, ◌+◌, ◌*◌, ◌/◌, ◌%◌, ◌<◌, [], ◌∷◌, length, Some, inl, refl, ap, ◌∙◌, arith}
-use Rattle.image_base.specs.Records.{Among, Records}
+use Rattle.tree_images.proofs.TreeLemmas.{root_of_many}
+use Rattle.tree_make.proofs.UsedLemmas.{node_used, used_at}
+use Rattle.attr_images.proofs.RootLemmas.{length-filled}
+use Rattle.image_base.specs.Records.{Records}
 use Rattle.key_order.specs.Pairs.{lookup_pair}
 use Rattle.store_api.specs.Calls.{IsUsedWidth}
 use Rattle.store_api.specs.Ledgers.{Ledger}
-use Rattle.store_api.specs.Parts.{Owns, Part, entry}
+use Rattle.store_api.specs.Parts.{Owns, entry}
 use Rattle.store_api.proofs.PartLemmas.{owns-some}
-use Rattle.store_api.proofs.Times.{all_at_times, among-times}
-use Rattle.store_api.proofs.Uses.{in-uses}
-use Rattle.tree_images.specs.Trees.{nodes_below, root_level, tree_nodes, tree_pairs, IsRootNode}
+use Rattle.tree_images.specs.Trees.{tree_pairs}
 use Rattle.tree_make.specs.Changes.{tree}
-use Rattle.tree_make.proofs.ChangeLemmas.{tree-wide}
-use Rattle.array_store.proofs.ClassLemmas.{filled_size}
 use Rattle.attr_images.specs.Values.{value_of, value_words}
 use Rattle.attr_images.specs.Words.{class_of, stored_items}
 use Rattle.attr_types.specs.Value.{type_of}
@@ -26,29 +25,6 @@ use Rattle.value_index.specs.Indexes.{index_part, IsIndex}
 use Rattle.value_index.proofs.KeyLemmas.{reads_found, record_found}
 use Rattle.value_index.proofs.OpenLemmas.{open_found, others, parts}
 use Rattle.index_moves.proofs.WordLemmas.{short_owned, short_stored}
-
--- ---- what is owned is in use
-used_at : {H : Type 0} (a : Ledger H) (m : Records) (part : Part) (r width : ℕ) → Owns a m (part ∷ []) → Among r (part.reach m) → length (m r) ≡ width → IsUsedWidth a m width
-used_at a m part r width owns among size = record {
-  ref = r;
-  used = (let some = among-times r (part.reach m) among in let each = owns.each r in in-uses a r (omega arith));
-  length_is = size;
-}
-
--- ---- a node of a tree
-root_among : (m : Records) (level ref : ℕ) → Among ref (nodes_below m level ref)
-unfolding nodes_below
-root_among m zero ref = inl refl
-root_among m (suc level) ref = inl refl
-
-tree_among : (m : Records) (root : ℕ) → 0 < root → Among root (tree_nodes m root)
-tree_among m zero some = absurd (omega arith)
-tree_among m (suc ref) some = root_among m (root_level m (suc ref)) (suc ref)
-
-pub node_used : {H : Type 0} (a : Ledger H) (m : Records) (root : ℕ) → (0 < root → IsRootNode m root) → 0 < root → Owns a m (tree root ∷ []) → IsUsedWidth a m 34
-node_used a m root node some owns =
-    let among = tree_among m root some in
-    used_at a m (tree root) root 34 owns among (all_at_times (λ q. length (m q) ≡ 34) (tree_nodes m root) (tree-wide m root node) root (among-times root (tree_nodes m root) among))
 
 -- ---- a value that is found
 module _ {H : Type 0} (value : Value) (a : Ledger H) (m : Records) (root key word : ℕ) (is : IsIndex (type_of value) m root) (owns : Owns a m (index_part root ∷ []))
@@ -71,7 +47,7 @@ module _ {H : Type 0} (value : Value) (a : Ledger H) (m : Records) (root key wor
       let read : Value = value_of (type_of value) (m key) in
       let record_is = record_found value m root is (key, word) found in
       let few = words_few read record_is.lawful in
-      let size = ap length record_is.words ∙ filled_size (value_words read) (omega arith) in
+      let size = ap length record_is.words ∙ length-filled (value_words read) (omega arith) in
       used_at a m (entry key) key (class_of (length (value_words value))) (owns-some a m (parts root key word (others value m root)) (entry key ∷ []) opened (λ r. omega arith))
       (inl refl) (size ∙ ap (λ (v : Value). class_of (length (value_words v))) (reads_found value m (key, word) (tree_pairs m root) found))
 
@@ -82,15 +58,11 @@ short_used a m word ref list plain some even at owns =
     let items = stored_items (m ref) in
     let stored = short_stored m word ref list plain some even at in
     let few = stored.few in
-    let size = ap length stored.words ∙ filled_size (length items ∷ items) (omega arith) in
+    let size = ap length stored.words ∙ length-filled (length items ∷ items) (omega arith) in
     used_at a m (entry ref) ref (class_of (1 + length items)) (short_owned m word ref list plain some even at a owns) (inl refl)
     (size ∙ ap class_of (let e : suc (length items) ≡ 1 + length items = omega arith in e))
-
-many_some : (m : Records) (root : ℕ) → 8 < length (tree_pairs m root) → 0 < root
-many_some m zero many = absurd (omega arith)
-many_some m (suc ref) many = omega arith
 
 pub tree_used : {H : Type 0} (a : Ledger H) (m : Records) (word root : ℕ) → IsList m word → IsPlain word → word ≡ 2 * root + 1 → Owns a m (list_part word ∷ []) → IsUsedWidth a m 34
 tree_used a m word root list plain is owns =
     let form = tree_form m word root plain is list in
-    node_used a m root form.0.node (many_some m root form.1) (tree_owned a a m m word root list plain is owns)
+    node_used a m root form.0.node (root_of_many m root form.1) (tree_owned a a m m word root list plain is owns)

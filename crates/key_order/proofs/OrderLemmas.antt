@@ -1,5 +1,5 @@
 -- Lists whose keys ascend: parts of them, and that they ascend after a change. A key k reads as `reads k`.
-use Rattle.std.proofs.Common.{◌≡◌, ℕ, zero, suc, ◌<◌, ◌≤◌, List, [], ◌∷◌, ◌++◌, length, get_or, take, map, refl, sym, ap, ◌∙◌, arith}
+use Rattle.std.proofs.Common.{◌≡◌, ◌≢◌, ℕ, zero, suc, ◌<◌, ◌≤◌, List, [], ◌∷◌, ◌++◌, length, get_or, take, map, refl, sym, ap, ◌∙◌, arith}
 use Rattle.std.specs.Cmp.{IsTotalOrder}
 use Rattle.std.specs.declared.cmp.Ordering.{Ordering}
 use Rattle.std.specs.declared.cmp.Ordering.TheVariants.{Less, Equal, Greater}
@@ -10,6 +10,17 @@ use Rattle.list_facts.proofs.Each.{AllByRecursion-append}
 use Rattle.tree_images.specs.Trees.{last_key}
 use Rattle.key_order.specs.Keys.{AllBelow}
 use Rattle.key_order.specs.Pairs.{choose, put, take_out}
+
+-- at another key nothing is chosen by what stands at the one
+pub choose_apart : {A : Type 0} (o : Ordering) → o ≢ Equal → (less a b greater : A) → choose o less a greater ≡ choose o less b greater
+choose_apart Less apart less a b greater = refl
+choose_apart Equal apart less a b greater = absurd (apart refl)
+choose_apart Greater apart less a b greater = refl
+
+pub choose_same : {A : Type 0} (o : Ordering) → o ≢ Equal → (a b : A) → choose o a b a ≡ a
+choose_same Less apart a b = refl
+choose_same Equal apart a b = absurd (apart refl)
+choose_same Greater apart a b = refl
 
 -- what reads equal to the one sought is beside every other as that is
 pub equal_right : {V : Type 0} (order : V → V → Ordering) → IsTotalOrder order → (a b s : V) → order b s ≡ Equal → order a b ≡ order a s

@@ -4,3 +4,4 @@ pub mod Pairs
 pub mod Tests
 pub mod Counts
 pub mod Errors
+pub mod Options

@@ -1,7 +1,7 @@
 //! Lemmas on lists, tests and answers that two or more crates need and std lacks. Nothing runs here: `proofs/` is the crate.
 #![tactic(auto)]
 
-ghost use Rattle.std.specs.Prelude.{◌≡◌, ◌<◌, ◌+◌, ◌++◌, ◌==◌, ℕ, Bool, List, Result, IsErrAnd, true, length, replicate, slice_set};
+ghost use Rattle.std.specs.Prelude.{◌≡◌, ◌<◌, ◌+◌, ◌++◌, ◌==◌, ℕ, Bool, List, Result, IsErrAnd, Some, true, length, replicate, slice_set};
 ghost use Rattle.std.specs.Prelude.{slice_index, count_by};
 ghost use Rattle.std.specs.List.{AllByRecursion, zip};
 ghost use Rattle.list_facts.specs.Counting.{one_if};
@@ -14,6 +14,7 @@ pub fn list_law()
     ensures pairs { (xs ys : List ℕ) → length xs ≡ length ys → length (zip xs ys) ≡ length xs }
     ensures tests { (n : ℕ) (answer : Bool) → answer ≡ (n == 0) → answer ≡ true → n ≡ 0 }
     ensures errors { (r : Result ℕ ℕ) (was now : ℕ) → IsErrAnd r (λ e. e ≡ was) → r ≡ Err now → was ≡ now }
+    ensures options { (x y : ℕ) → Some x ≡ Some y → x ≡ y }
     ensures counts { (p : ℕ → Bool) (xs : List ℕ) (i x : ℕ) → i < length xs
         → count_by p (slice_set xs i x) + one_if (p (slice_index xs i)) ≡ count_by p xs + one_if (p x) }
 {}

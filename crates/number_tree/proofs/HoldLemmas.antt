@@ -1,8 +1,8 @@
 -- A tree that is all that is in use stays so through a unit and through a commit.
-use Rattle.std.proofs.Common.{◌≡◌, ℕ, ◌+◌, ◌<◌, List, [], ◌∷◌, true, false, Option, None, Some, is_some, refl, sym, ap, subst, ◌∙◌, arith, true≢false}
-use Rattle.std.specs.List.{AllByRecursion}
+use Rattle.std.proofs.Common.{◌≡◌, ℕ, ◌+◌, ◌<◌, [], ◌∷◌, true, false, Option, None, Some, is_some, refl, sym, ap, subst, ◌∙◌, arith, true≢false}
 use Rattle.std.specs.List.Sorted.{IsStrictlySortedBy}
 use Rattle.std.specs.Ordering.{nat_cmp}
+use Rattle.list_facts.proofs.Each.{AllByRecursion-each}
 use Rattle.entry_ref.specs.References.{buffer_of}
 use Rattle.image_base.specs.Images.{image_of, words_at}
 use Rattle.image_base.specs.Records.{Records, SameAt, AllThere, Among}
@@ -26,17 +26,12 @@ use Rattle.store_api.proofs.Uses.{uses-out}
 use Rattle.tree_make.specs.Changes.{tree}
 use Rattle.number_tree.specs.Maps.{HoldsTree, IsRefusal}
 
--- what holds of all pairs
-pub all_pairs : (P : ℕ × ℕ → Type 0) → ((p : ℕ × ℕ) → P p) → (ps : List (ℕ × ℕ)) → AllByRecursion P ps
-all_pairs P each [] = tt
-all_pairs P each (p ∷ ps) = (each p, all_pairs P each ps)
-
 -- a number is read from nothing
 pub number_keyed : (m : Records) (root : ℕ) → IsTree nat_cmp by_number m root → IsKeyedTree nat_cmp by_number (λ n key. Unit {0}) (λ n key. []) m root
 number_keyed m root is = record {
   tree = is;
-  readable = all_pairs (λ (p : ℕ × ℕ). Unit {0}) (λ p. tt) (tree_pairs m root);
-  apart = all_pairs (λ (p : ℕ × ℕ). Unit {0}) (λ p. tt) (tree_pairs m root);
+  readable = AllByRecursion-each (λ (p : ℕ × ℕ). Unit {0}) (λ p. tt) (tree_pairs m root);
+  apart = AllByRecursion-each (λ (p : ℕ × ℕ). Unit {0}) (λ p. tt) (tree_pairs m root);
 }
 
 module _ {H : Type 0} (old begun mid new : Ledger H) (m k o : Records) (root : ℕ) (holds : HoldsTree old m root)

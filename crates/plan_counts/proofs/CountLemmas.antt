@@ -6,6 +6,8 @@ use Rattle.std.specs.Prelude.{◌&&◌, slice_get}
 use Rattle.std.specs.List.{count_by, AllByRecursion, AllZip}
 use Rattle.std.specs.List.Sorted.{IsStrictlySortedBy}
 use Rattle.std.specs.Ordering.{is_gt}
+use Rattle.std.proofs.lemmas.Option.{slice_get_within}
+use Rattle.list_facts.proofs.Options.{same_Some}
 use Rattle.image_base.specs.Records.{Records}
 use Rattle.attr_compaction.proofs.PlaceLemmas.{key_total, place_total}
 use Rattle.attr_compaction.specs.Places.{key_cmp, place_after, place_cmp, PlanPlace}
@@ -188,12 +190,9 @@ module _ (from at : PlanPlace) (key : PlanKey) (few : place_cmp from at ≢ Grea
       by false e = e
       by true e = absurd (true≢false (sym (ap is_lt (key_total.trans at.key key k (less_is (key_cmp at.key key) less) (less_is (key_cmp key k) e))) ∙ not_past))
 
-  same_key : (x y : PlanKey) → Some x ≡ Some y → x ≡ y
-  same_key x y e = cc
-
   less_by : (k : PlanKey) (keys : List PlanKey) (t : Bool) → (key_past at.key keys ≡ Some key → is_lt (key_cmp at.key key) ≡ true)
       → is_lt (key_cmp at.key k) ≡ t → cond t (Some k) (key_past at.key keys) ≡ Some key → is_lt (key_cmp at.key key) ≡ true
-  less_by k keys true rest is here = ap (λ x. is_lt (key_cmp at.key x)) (sym (same_key k key here)) ∙ is
+  less_by k keys true rest is here = ap (λ x. is_lt (key_cmp at.key x)) (sym (same_Some k key here)) ∙ is
   less_by k keys false rest is later = rest later
 
   found_less : (keys : List PlanKey) → key_past at.key keys ≡ Some key → is_lt (key_cmp at.key key) ≡ true
@@ -206,7 +205,7 @@ module _ (from at : PlanPlace) (key : PlanKey) (few : place_cmp from at ≢ Grea
   more_by : (k : PlanKey) (keys : List PlanKey) (t : Bool) → is_lt (key_cmp at.key key) ≡ true → AllByRecursion (λ y. key_cmp k y ≡ Less) keys
       → (key_past at.key keys ≡ Some key → IsMoreIn keys) → is_lt (key_cmp at.key k) ≡ t → cond t (Some k) (key_past at.key keys) ≡ Some key → IsMoreIn (k ∷ keys)
   more_by k keys true less up rest is here =
-      let e = same_key k key here in
+      let e = same_Some k key here in
       let later = later_none keys less (subst (λ (x : PlanKey). AllByRecursion (λ y. key_cmp x y ≡ Less) keys) e up) in
       let a1 = cons_count (is_between from next) (own k) (map own keys) in
       let a2 = cons_count (is_between from at) (own k) (map own keys) in
@@ -243,12 +242,6 @@ next_more m trees a from at key there up low few found =
     (own_more from at key few (keys_of_phase m a at.stage.phase) up found)
     (λ i f x p e is low apart. same_count old new (place_at f p) (keys_of_phase m x p) (other_same from at key few f p apart (keys_of_phase m x p)))
 
--- ---- the end of a phase
-length_get : (trees : List AttributeTrees) (i : ℕ) (a : AttributeTrees) → slice_get trees i ≡ Some a → i < length trees
-length_get [] i a there = cc
-length_get (x ∷ trees) zero a there = omega arith
-length_get (x ∷ trees) (suc i) a there = let h = length_get trees i a there in omega arith
-
 same_item : (trees : List AttributeTrees) (i j : ℕ) (a b : AttributeTrees) → slice_get trees i ≡ Some a → slice_get trees j ≡ Some b → i ≡ j → a ≡ b
 same_item trees i j a b there here e =
     let same : (x y : AttributeTrees) → Some x ≡ Some y → x ≡ y = λ x y w. cc in
@@ -267,7 +260,7 @@ end_no_more m trees a from at there low none =
     all_same (is_between from at) (is_between from next) m 0 trees
     (λ i f x p e is few. same_count (is_between from at) (is_between from next) (place_at f p) (keys_of_phase m x p)
     (between_same from at next f p (keys_of_phase m x p)
-    (all_over (length trees) at low f p (let h = length_get trees i x is in omega arith) few (keys_of_phase m x p) (keys_are m x p few)
+    (all_over (length trees) at low f p (let h = slice_get_within trees i x is in omega arith) few (keys_of_phase m x p) (keys_are m x p few)
     (λ u w. let same = same_item trees i at.stage.field x a is there (omega arith) in
     ap (key_past at.key) (ap₂ (λ (y : AttributeTrees) (q : ℕ). keys_of_phase m y q) same w) ∙ none))))
 

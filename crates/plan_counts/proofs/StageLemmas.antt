@@ -7,6 +7,7 @@ use Rattle.std.specs.Cmp.{both_ways, ranks, IsTotalOrder}
 use Rattle.std.specs.List.{AllByRecursion}
 use Rattle.std.specs.declared.cmp.Ordering.{Ordering}
 use Rattle.std.specs.Ordering.{is_gt, ordering_reverse, ordering_then, MatchOrdering}
+use Rattle.list_facts.proofs.Each.{AllByRecursion-append}
 use Rattle.image_base.specs.Records.{Records}
 use Rattle.attr_compaction.proofs.PlaceLemmas.{key_total, next_above, place_total, stage_total}
 use Rattle.attr_compaction.specs.Places.{key_cmp, next_stage, place_after, place_cmp, stage_cmp, PlanPlace}
@@ -19,7 +20,6 @@ use Rattle.attr_images.specs.Tables.{AttributeTrees}
 use Rattle.attr_images.specs.Values.{stored_value}
 use Rattle.attr_types.specs.declared.kind.ValueType.{ValueType}
 use Rattle.tree_images.specs.Trees.{tree_pairs}
-use Rattle.plan_keys.proofs.OrderLemmas.{all_both}
 use Rattle.plan_keys.specs.PhaseKeys.{document_keys, form_docs, key_past, keys_of_pairs, value_keys}
 use Rattle.plan_counts.specs.Counts.{keys_of_phase, place_at}
 
@@ -75,7 +75,7 @@ module _ (type : ValueType) (m : Records) where
   pairs_are : (ps : List (ℕ × ℕ)) → AllByRecursion IsKey (keys_of_pairs type m ps)
   pairs_are [] = tt
   pairs_are (p ∷ ps) =
-      all_both IsKey (map (λ doc. Pair (stored_value type m p.0) doc) (form_docs m (list_form p.1))) (keys_of_pairs type m ps)
+      AllByRecursion-append IsKey (map (λ doc. Pair (stored_value type m p.0) doc) (form_docs m (list_form p.1))) (keys_of_pairs type m ps)
       (list_are p.0 (form_docs m (list_form p.1))) (pairs_are ps)
 
 pub keys_are : (m : Records) (a : AttributeTrees) (phase : ℕ) → phase < PHASES → AllByRecursion IsKey (keys_of_phase m a phase)
@@ -83,7 +83,7 @@ keys_are m a zero few = values_are a.type m (tree_pairs m a.dictionary)
 keys_are m a (suc zero) few = documents_are a.type m (tree_pairs m a.documents)
 keys_are m a (suc (suc zero)) few = pairs_are a.type m (tree_pairs m a.dictionary)
 keys_are m a (suc (suc (suc zero))) few =
-    all_both IsKey (value_keys a.type m a.dictionary) (document_keys m a.documents)
+    AllByRecursion-append IsKey (value_keys a.type m a.dictionary) (document_keys m a.documents)
     (values_are a.type m (tree_pairs m a.dictionary)) (documents_are a.type m (tree_pairs m a.documents))
 keys_are m a (suc (suc (suc (suc phase)))) few = absurd (omega arith)
 

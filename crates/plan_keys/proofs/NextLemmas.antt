@@ -134,10 +134,6 @@ all_behind P c (p ∷ ps) all =
       | Greater ↦ all
     ]
 
-pub first_of_pairs : (P : ℕ × ℕ → Type 0) (ps : List (ℕ × ℕ)) → ps ≢ [] → AllByRecursion P ps → P (first_key ps, first_value ps)
-first_of_pairs P [] some all = absurd (some refl)
-first_of_pairs P (p ∷ ps) some all = all.0
-
 pub unit_all : (ps : List (ℕ × ℕ)) → AllByRecursion (λ p. Unit {0}) ps
 unit_all [] = tt
 unit_all (p ∷ ps) = (tt, unit_all ps)

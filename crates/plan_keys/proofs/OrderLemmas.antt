@@ -6,6 +6,7 @@ use Rattle.std.specs.List.{AllByRecursion}
 use Rattle.std.specs.List.Sorted.{IsStrictlySortedBy}
 use Rattle.std.specs.Map.{keys_of}
 use Rattle.std.specs.Ordering.{ordering_then}
+use Rattle.list_facts.proofs.Each.{AllByRecursion-append}
 use Rattle.image_base.specs.Records.{Records}
 use Rattle.tree_images.specs.Trees.{tree_pairs}
 use Rattle.attr_images.specs.Postings.{list_form}
@@ -39,15 +40,10 @@ module _ {A V : Type 0} (order : V → V → Ordering) (g : A → V) (f : A → 
   ascend_map [] up = tt
   ascend_map (p ∷ ps) up = (all_above p ps up.0, ascend_map ps up.1)
 
--- ---- one after another
-pub all_both : (P : PlanKey → Type 0) (xs ys : List PlanKey) → AllByRecursion P xs → AllByRecursion P ys → AllByRecursion P (xs ++ ys)
-all_both P [] ys front behind = behind
-all_both P (x ∷ xs) ys front behind = (front.0, all_both P xs ys front.1 behind)
-
 ascend_both : (xs ys : List PlanKey) → Up xs → Up ys → AllByRecursion (λ x. AllByRecursion (λ y. key_cmp x y ≡ Less) ys) xs → Up (xs ++ ys)
 unfolding IsStrictlySortedBy
 ascend_both [] ys front behind cross = behind
-ascend_both (x ∷ xs) ys front behind cross = (all_both (λ y. key_cmp x y ≡ Less) xs ys front.0 cross.0, ascend_both xs ys front.1 behind cross.1)
+ascend_both (x ∷ xs) ys front behind cross = (AllByRecursion-append (λ y. key_cmp x y ≡ Less) xs ys front.0 cross.0, ascend_both xs ys front.1 behind cross.1)
 
 -- ---- values and documents
 module _ (type : ValueType) (m : Records) where
@@ -91,7 +87,7 @@ module _ (type : ValueType) (m : Records) where
       → AllByRecursion (λ k. key_cmp (Pair value doc) k ≡ Less) (keys_of_pairs type m ps)
   above_pairs value doc [] all = tt
   above_pairs value doc (p ∷ ps) all =
-      all_both (λ k. key_cmp (Pair value doc) k ≡ Less) (map (λ e. Pair (stored_value type m p.0) e) (form_docs m (list_form p.1))) (keys_of_pairs type m ps)
+      AllByRecursion-append (λ k. key_cmp (Pair value doc) k ≡ Less) (map (λ e. Pair (stored_value type m p.0) e) (form_docs m (list_form p.1))) (keys_of_pairs type m ps)
       (above_list value doc (stored_value type m p.0) all.0 (form_docs m (list_form p.1))) (above_pairs value doc ps all.1)
 
   all_pairs_above : (value : AnyValue) (docs : List ℕ) (ps : List (ℕ × ℕ)) → AllByRecursion (λ w. value_cmp value w ≡ Less) (map read ps)

@@ -9,6 +9,7 @@ use Rattle.std.specs.List.Sorted.{IsStrictlySortedBy}
 use Rattle.std.specs.Map.{keys_of, remove_entry}
 use Rattle.std.specs.Map.{lookup as lookup_in}
 use Rattle.std.specs.Ordering.{nat_cmp, match_ordering}
+use Rattle.list_facts.proofs.Each.{AllByRecursion-each}
 use Rattle.image_base.specs.Records.{Records}
 use Rattle.key_order.specs.Keys.{IsKeyedTree}
 use Rattle.key_order.specs.Pairs.{lookup, put, take_out}
@@ -50,10 +51,6 @@ taken_more f keys items i low few is =
 pub taken_all : (f : ℕ → ℕ) (keys items : List ℕ) (i : ℕ) → length keys ≤ i → length items ≤ i → take i keys ≡ map f (take i items) → keys ≡ map f items
 taken_all f keys items i all whole is = sym (take_all i keys all) ∙ is ∙ ap (map f) (take_all i items whole)
 
-pub all_pairs : (ps : List (ℕ × ℕ)) → AllByRecursion (λ p. Unit {0}) ps
-all_pairs [] = tt
-all_pairs (p ∷ ps) = (tt, all_pairs ps)
-
 pub zipped_keys : (items : List ℕ) → map (λ p. p.0) (zip (map doc_word items) (map weight_word items)) ≡ keys_of (map unpacked items)
 zipped_keys [] = refl
 zipped_keys (x ∷ xs) = ap (λ ks. x / 4294967296 ∷ ks) (zipped_keys xs)
@@ -91,7 +88,7 @@ length_in_least doc weight (e ∷ es) =
 -- a list that is a tree
 module _ {H : Type 0} (old new : Ledger H) (m n : Records) (word root : ℕ) (list : IsList m word) (plain : IsPlain word) (is : word ≡ 2 * root + 1) where
   pub tree_keyed : IsKeyedTree nat_cmp by_number (λ n key. Unit {0}) (λ n key. []) m root
-  tree_keyed = record { tree = (tree_form m word root plain is list).0; readable = all_pairs (tree_pairs m root); apart = all_pairs (tree_pairs m root) }
+  tree_keyed = record { tree = (tree_form m word root plain is list).0; readable = AllByRecursion-each (λ (p : ℕ × ℕ). Unit {0}) (λ p. tt) (tree_pairs m root); apart = AllByRecursion-each (λ (p : ℕ × ℕ). Unit {0}) (λ p. tt) (tree_pairs m root) }
 
   counted : (r : ℕ) → count_in r m (list_part word ∷ []) ≡ count_in r m (tree root ∷ [])
   counted r = ap (λ rs. times r rs + 0) (tree_reach m word root plain is)

@@ -193,14 +193,6 @@ length_in doc weight (e ∷ es) =
       | Greater ↦ let more = length_in doc weight es in omega arith
     ]
 
-pub length_out : (test : ℕ → Bool) (es : List (ℕ × ℤ)) → length (remove_entry test es) ≤ length es
-length_out test [] = omega arith
-length_out test (e ∷ es) =
-    elim (test e.0) as (λ b. length (cond b es (e ∷ remove_entry test es)) ≤ length (e ∷ es)) [
-      | true ↦ omega arith
-      | false ↦ let less = length_out test es in omega arith
-    ]
-
 pub length_out_some : (test : ℕ → Bool) (es : List (ℕ × ℤ)) → IsSome (lookup_in test es) → suc (length (remove_entry test es)) ≡ length es
 length_out_some test [] some = absurd (grind (arith, some))
 length_out_some test (e ∷ es) some =

@@ -3,6 +3,7 @@ use Rattle.std.proofs.Common.{◌≡◌, ◌≤◌, ◌<◌, ◌+◌, ℕ, Bool,
 use Rattle.std.specs.Prelude.{slice_get}
 use Rattle.std.proofs.lemmas.List.{drop_all, at_drop_more}
 use Rattle.std.proofs.lemmas.Option.{slice_get_read}
+use Rattle.list_facts.proofs.Options.{same_Some}
 use Rattle.attr_index.specs.Index.{Index}
 use Rattle.attr_types.specs.Query.{and, tree_of, query_trees}
 use Rattle.attr_types.specs.declared.query.Query.{Query}
@@ -16,12 +17,9 @@ module _ (indexes : List Index) (doc : ℕ) where
       → (found (tree_of query) indexes doc && found_all (query_trees queries) indexes doc) ≡ found_all (query_trees queries) indexes doc
   member_found [] n query at = absurd (grind (arith, at))
   member_found (q ∷ queries) zero query at =
-      ap (λ (r : Query). found (tree_of r) indexes doc && found_all (query_trees (q ∷ queries)) indexes doc) (some_same query q (sym at))
+      ap (λ (r : Query). found (tree_of r) indexes doc && found_all (query_trees (q ∷ queries)) indexes doc) (same_Some query q (sym at))
       ∙ twice (found (tree_of q) indexes doc) (found_all (query_trees queries) indexes doc)
     where
-      some_same : (a b : Query) → Some a ≡ Some b → a ≡ b
-      some_same a b e = cc
-
       twice : (a b : Bool) → (a && (a && b)) ≡ (a && b)
       twice true b = refl
       twice false b = refl

@@ -10,6 +10,7 @@ use Rattle.std.specs.Option.{option_map, unwrap_or, is_some}
 use Rattle.std.specs.Ordering.{is_eq, nat_cmp}
 use Rattle.std.proofs.lemmas.Bool.{eqb-true, eqb-false}
 use Rattle.std.proofs.lemmas.Cmp.{tied_itself, nat_cmp_total}
+use Rattle.attr_index.proofs.ColumnLemmas.{keys-column}
 use Rattle.image_base.specs.Records.{Records}
 use Rattle.attr_types.proofs.EntryLemmas.{nat_cmp_apart, sorted_map-filter}
 use Rattle.attr_types.specs.Lawful.{IsLawfulDocument, IsLawfulItems}
@@ -70,10 +71,6 @@ none_scored : (parts : List Part) → is_scored parts [] ≡ false
 none_scored [] = refl
 none_scored (part ∷ parts) = none_scored parts
 
-keys_same : (i : ℕ) (table : Table) → keys_of (column_of i table) ≡ keys_of table
-keys_same i [] = refl
-keys_same i (e ∷ table) = ap (λ ks. e.0 ∷ ks) (keys_same i table)
-
 -- the documents whose items pass
 abbrev passing : ℕ → (List Item → Bool) → Table → List ℕ
 passing i q table = map (λ e. e.0) (filter (λ e. q (items_in e.1 i)) table)
@@ -89,7 +86,7 @@ module _ (i : ℕ) (q : List Item → Bool) (none : q [] ≡ false) where
       let gone : items_of (column_of i table) doc ≡ [] =
       ap (λ o. unwrap_or o []) (lookup_front doc (column_of i table)
       (subst (λ k. AllByRecursion (λ y. nat_cmp k y ≡ Less) (keys_of (column_of i table))) (sym here)
-      (subst (AllByRecursion (λ y. nat_cmp e.0 y ≡ Less)) (sym (keys_same i table)) up.0))) in
+      (subst (AllByRecursion (λ y. nat_cmp e.0 y ≡ Less)) (sym (keys-column i table)) up.0))) in
       first_there (q (items_in e.1 i))
       (passing_has table doc up.1 ∙ ap q gone ∙ none) there
       ∙ sym (ap (λ r. q (unwrap_or (cond (is_eq r) (Some (items_in e.1 i)) (lookup (is_at (nat_cmp doc)) (column_of i table))) [])) (ap (nat_cmp doc) (sym here) ∙ tied_itself nat_cmp_total doc)))
@@ -108,7 +105,7 @@ module _ (i : ℕ) (q : List Item → Bool) (none : q [] ≡ false) where
       other_there false apart = refl
 
 column_up : (i : ℕ) (table : Table) → IsStrictlySortedBy nat_cmp (keys_of table) → IsStrictlySortedBy nat_cmp (keys_of (column_of i table))
-column_up i table up = subst (IsStrictlySortedBy nat_cmp) (sym (keys_same i table)) up
+column_up i table up = subst (IsStrictlySortedBy nat_cmp) (sym (keys-column i table)) up
 
 abbrev score_by : List Part → Column → ℕ → Score
 score_by parts column doc = record { doc = doc; score = score_of parts (items_of column doc) }

@@ -1,8 +1,9 @@
 -- The documents of a list, by its form.
-use Rattle.std.proofs.Common.{◌≡◌, ℕ, pos, zero, suc, ◌-◌, ◌<◌, ◌≤◌, List, [], ◌∷◌, ◌++◌, length, map, refl, ap, subst, arith, nat_le}
+use Rattle.std.proofs.Common.{◌≡◌, ℕ, pos, zero, suc, ◌-◌, ◌<◌, ◌≤◌, List, [], ◌∷◌, length, map, refl, ap, subst, arith, nat_le}
 use Rattle.std.specs.List.{AllByRecursion}
 use Rattle.std.specs.Map.{keys_of}
 use Rattle.std.proofs.lemmas.Bool.{cond-true, le-leb}
+use Rattle.list_facts.proofs.Each.{AllByRecursion-left, AllByRecursion-right}
 use Rattle.image_base.specs.Records.{Records}
 use Rattle.tree_images.specs.Trees.{tree_pairs, root_level, root_least, IsRootNode}
 use Rattle.attr_images.proofs.ImageLemmas.{node_there}
@@ -30,25 +31,17 @@ pub vector_keys : (docs : List ℕ) → docs ≡ keys_of (map (λ doc. (doc, pos
 vector_keys [] = refl
 vector_keys (doc ∷ docs) = ap (λ ks. doc ∷ ks) (vector_keys docs)
 
-all_left : (P : ℕ → Type 0) (xs ys : List ℕ) → AllByRecursion P (xs ++ ys) → AllByRecursion P xs
-all_left P [] ys all = tt
-all_left P (x ∷ xs) ys all = (all.0, all_left P xs ys all.1)
-
-all_right : (P : ℕ → Type 0) (xs ys : List ℕ) → AllByRecursion P (xs ++ ys) → AllByRecursion P ys
-all_right P [] ys all = all
-all_right P (x ∷ xs) ys all = all_right P xs ys all.1
-
 pub blocks_are : (m : Records) (ps : List (ℕ × ℕ)) → AllByRecursion (λ p. IsBlock p.0 (m p.1)) ps
     → AllByRecursion IsDocNumber (documents_of m ps) → AllByRecursion (IsDocumentBlock m) ps
 blocks_are m [] blocks numbers = tt
 blocks_are m (p ∷ ps) blocks numbers =
-    let own = all_left IsDocNumber (block_documents p.0 (m p.1)) (documents_of m ps) numbers in (
+    let own = AllByRecursion-left IsDocNumber (block_documents p.0 (m p.1)) (documents_of m ps) numbers in (
       record {
         block = blocks.0;
         few = block_small p.0 (m p.1) blocks.0.some own;
         documents = all_has IsDocNumber (block_documents p.0 (m p.1)) own;
       },
-      blocks_are m ps blocks.1 (all_right IsDocNumber (block_documents p.0 (m p.1)) (documents_of m ps) numbers),
+      blocks_are m ps blocks.1 (AllByRecursion-right IsDocNumber (block_documents p.0 (m p.1)) (documents_of m ps) numbers),
     )
 
 root_of_some : (m : Records) (root : ℕ) → (0 < root → IsRootNode m root) → 0 < length (tree_pairs m root) → 0 < length (m root)

@@ -37,10 +37,6 @@ pub all_drop : (P : ℕ × ℕ → Type 0) (ps : List (ℕ × ℕ)) → AllByRec
 all_drop P [] all = tt
 all_drop P (p ∷ ps) all = all.1
 
-pub first_pair : (P : ℕ × ℕ → Type 0) (ps : List (ℕ × ℕ)) → ps ≢ [] → AllByRecursion P ps → P (first_key ps, first_value ps)
-first_pair P [] some all = absurd (some refl)
-first_pair P (p ∷ ps) some all = all.0
-
 has_append : (xs ys : List ℕ) (doc : ℕ) → list_any (nat_eq doc) (xs ++ ys) ≡ (list_any (nat_eq doc) xs || list_any (nat_eq doc) ys)
 has_append [] ys doc = refl
 has_append (x ∷ xs) ys doc = ap (λ b. nat_eq doc x || b) (has_append xs ys doc) ∙ or_assoc (nat_eq doc x) _ _

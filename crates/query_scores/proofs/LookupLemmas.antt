@@ -11,6 +11,7 @@ use Rattle.std.specs.declared.cmp.Ordering.{Ordering}
 use Rattle.std.specs.declared.cmp.Ordering.TheVariants.{Less, Equal, Greater}
 use Rattle.std.proofs.lemmas.Bool.{eqb-true, eqb-false, ne_eqb, eq-eqb}
 use Rattle.std.proofs.lemmas.Cmp.{tied_itself, nat_cmp_total}
+use Rattle.list_facts.proofs.Options.{same_Some}
 use Rattle.key_order.specs.Pairs.{choose, lookup_pair}
 use Rattle.attr_types.proofs.EntryLemmas.{nat_cmp_apart}
 use Rattle.doc_set.proofs.BitLemmas.{by_cases}
@@ -52,12 +53,9 @@ pair_among P c [] p all is = absurd (grind (arith, is))
 pair_among P c (q ∷ ps) p all is =
     elim (c q.0) as (λ r. choose r (lookup_pair c ps) (Some q) None ≡ Some p → P p) [
       | Less ↦ λ h. pair_among P c ps p all.1 h
-      | Equal ↦ λ h. subst P (some_same q p h) all.0
+      | Equal ↦ λ h. subst P (same_Some q p h) all.0
       | Greater ↦ λ h. absurd (grind (arith, h))
     ] is
-  where
-    some_same : (a b : ℕ × ℕ) → Some a ≡ Some b → a ≡ b
-    some_same a b e = cc
 
 -- in a list of documents of weight 1 the weight is 1 where the document is there
 pub ones : (doc : ℕ) (docs : List ℕ) → weight_in_list doc (map (λ d. (d, pos 1)) docs) ≡ cond (has docs doc) (pos 1) (pos 0)

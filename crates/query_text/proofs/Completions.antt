@@ -4,6 +4,7 @@ use Rattle.std.specs.Option.{option_and_then, option_map}
 use Rattle.std.specs.List.{flat_map}
 use Rattle.std.proofs.lemmas.Grind.{flat_map-append}
 use Rattle.std.proofs.lemmas.Bool.Decides.{nat_tests}
+use Rattle.query_text.proofs.ListLemmas.{append-middle}
 use Rattle.attr_types.specs.declared.kind.ValueType.{ValueType}
 use Rattle.attr_types.specs.declared.value.Value.{Value}
 use Rattle.attr_types.specs.declared.value.Value.TheVariants as values
@@ -118,9 +119,6 @@ Completes name part = (rest : List ℕ) × (query : NamedTree) × IsFormed query
 leaf_completes : (name : Option (List ℕ)) (part : List ℕ) → IsFormedName name → LeafCompletes part → Completes name part
 leaf_completes name part named (rest, leaf, good, same) = (rest, one name leaf, (named, good), ap (λ t. name_text name ++ t) same)
 
-quoted_tail : (lead text quote tail : List ℕ) → (lead ++ text) ++ (quote ++ tail) ≡ lead ++ ((text ++ quote) ++ tail)
-quoted_tail lead text quote tail = simp append_assoc
-
 quoted_escape : (lead text tail : List ℕ) → (lead ++ (text ++ 92 ∷ [])) ++ (34 ∷ 34 ∷ tail) ≡ lead ++ (((text ++ (92 ∷ 34 ∷ [])) ++ 34 ∷ []) ++ tail)
 quoted_escape lead text tail = simp append_assoc
 
@@ -154,7 +152,7 @@ completed name named (modes.Number role true size) part (lead, n, is, sized, som
     ∙ ap (λ k. lead_text lead ++ ((45 ∷ numeral k) ++ lead_tail lead)) counted))
 completed name named (modes.Text role len) part (lead, bytes, is) =
     leaf_completes name part named (lead_completes lead (values.Text bytes) part (34 ∷ lead_tail lead) refl
-    (ap (λ p. p ++ (34 ∷ lead_tail lead)) is ∙ quoted_tail (lead_text lead) (34 ∷ flat_map escaped bytes) (34 ∷ []) (lead_tail lead)))
+    (ap (λ p. p ++ (34 ∷ lead_tail lead)) is ∙ append-middle (lead_text lead) (34 ∷ flat_map escaped bytes) (34 ∷ []) (lead_tail lead)))
 completed name named (modes.Escape role len) part (lead, bytes, is) =
     leaf_completes name part named (lead_completes lead (values.Text (bytes ++ 34 ∷ [])) part (34 ∷ 34 ∷ lead_tail lead) refl
     (ap (λ p. p ++ (34 ∷ 34 ∷ lead_tail lead)) is

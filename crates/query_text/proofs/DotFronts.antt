@@ -7,6 +7,7 @@ use Rattle.std.proofs.lemmas.Grind.{flat_map-append}
 use Rattle.std.proofs.lemmas.Bool.{and_parts}
 use Rattle.std.proofs.lemmas.Bool.Decides.{nat_tests, eqb_tells}
 use Rattle.std.proofs.lemmas.List.{length-append}
+use Rattle.query_text.proofs.ListLemmas.{append-middle}
 use Rattle.attr_types.specs.declared.kind.ValueType.{ValueType}
 use Rattle.attr_types.specs.declared.value.Value.{Value}
 use Rattle.attr_types.specs.declared.value.Value.TheVariants as values
@@ -25,7 +26,7 @@ use Rattle.query_text.specs.Modes.{next_mode, is_digit, capped, number_begun, va
 use Rattle.query_text.specs.Survey.{ends_value, ends_query}
 use Rattle.query_text.specs.Dot.{is_dot, dot_next, value_more, has_ended}
 use Rattle.query_text.proofs.Fronts.{Spelled, Lead, alone, below, above, low, high, high_number, high_text, lead_text, Partial, numeral_digit}
-use Rattle.query_text.proofs.Steps.{spelled_first, spelled_next, pushed_minus, pushed_digit, pushed_quote, pushed_slash, pushed_byte, pushed_escaped}
+use Rattle.query_text.proofs.Steps.{spelled_first, spelled_next, pushed_minus, pushed_digit, pushed_quote, pushed_slash, pushed_byte, pushed_escaped, added}
 use Rattle.query_text.proofs.Walks.{walk}
 
 -- a text is a dot product
@@ -90,9 +91,6 @@ choose_byte P byte wanted x y f g =
 choose_test : (P : Option DotMode → Type 0) (test : Bool) (x y : Option DotMode) → (test ≡ true → P x) → (test ≡ false → P y) → P (cond test x y)
 choose_test P true x y f g = f refl
 choose_test P false x y f g = g refl
-
-added : (part front : List ℕ) (byte wanted : ℕ) → part ≡ front → byte ≡ wanted → part ++ byte ∷ [] ≡ front ++ wanted ∷ []
-added part front byte wanted is e = ap₂ (λ p b. p ++ b ∷ []) is e
 
 if_mapped : (wrap : Mode → DotMode) (text : List ℕ) (o : Option Mode) → IfSome o (λ mode. DotFront (wrap mode) text) → IfSome (option_map wrap o) (λ mode. DotFront mode text)
 if_mapped wrap text None h = tt
@@ -490,9 +488,6 @@ value_completes modes.HighText part inside is = absurd inside
 value_completes modes.Ended part inside is = absurd inside
 value_completes modes.Closed part inside is = absurd inside
 
-value_text_on : (front part rest more : List ℕ) → (front ++ part) ++ (rest ++ more) ≡ front ++ ((part ++ rest) ++ more)
-value_text_on front part rest more = simp append_assoc
-
 colon_text : (front value more : List ℕ) → (front ++ (value ++ codes ":")) ++ more ≡ front ++ ((value ++ codes ":") ++ more)
 colon_text front value more = append_assoc front (value ++ codes ":") more
 
@@ -514,7 +509,7 @@ completed dots.Part text began = part_completes text (values.Long (pos 0)) (pos 
 completed (dots.Value mode) text (front, began, part, inside, partial, is) =
     let done = value_completes mode part inside partial in
     part_completes front done.1 (pos 0) text (done.0 ++ codes ":0") began
-    (ap (λ t. t ++ (done.0 ++ codes ":0")) is ∙ value_text_on front part done.0 (codes ":0")
+    (ap (λ t. t ++ (done.0 ++ codes ":0")) is ∙ append-middle front part done.0 (codes ":0")
     ∙ ap (λ t. front ++ (t ++ codes ":0")) done.2 ∙ sym (ap (λ t. front ++ t) (append_assoc (value_text done.1) (codes ":") (codes "0"))))
 completed dots.Colon text (front, began, value, is) =
     part_completes front value (pos 0) text (codes "0") began (ap (λ t. t ++ codes "0") is ∙ colon_text front (value_text value) (codes "0"))

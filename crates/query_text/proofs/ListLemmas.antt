@@ -6,6 +6,9 @@ use Rattle.query_text.specs.declared.read.ReadError.{ReadError}
 use Rattle.query_text.specs.declared.read.ReadError.TheVariants as errors
 use Rattle.query_text.specs.Reading.{FindsNone, with_tree, after_mark, mark_front, after_list, list_front, query_with, query_front}
 
+pub append-middle : (first second third fourth : List ℕ) → (first ++ second) ++ (third ++ fourth) ≡ first ++ ((second ++ third) ++ fourth)
+append-middle first second third fourth = simp append_assoc
+
 -- members that were read before
 abbrev pub after_trees : List QueryTree → Option (List QueryTree × List ℕ) → Option (List QueryTree × List ℕ)
 after_trees front None = None

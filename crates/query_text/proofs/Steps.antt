@@ -52,7 +52,7 @@ in_some : (base : Base) (part : List ℕ) (byte : ℕ) (test : Bool) (x y : Mode
 in_some base part byte true x y goes = goes
 in_some base part byte false x y goes = goes
 
-added : (part front : List ℕ) (byte wanted : ℕ) → part ≡ front → byte ≡ wanted → part ++ byte ∷ [] ≡ front ++ wanted ∷ []
+pub added : (part front : List ℕ) (byte wanted : ℕ) → part ≡ front → byte ≡ wanted → part ++ byte ∷ [] ≡ front ++ wanted ∷ []
 added part front byte wanted is e = ap₂ (λ p b. p ++ b ∷ []) is e
 
 -- a value begins

@@ -42,7 +42,7 @@ may_do-same ledger = record {
 free-stays : (c : Status) → can_become_free Status.free ≡ true → ⊥
 free-stays c h = true≢false (sym h)
 
-back-then : (a b c : Status) → IsSameBack a b → IsSameBack b c → IsSameBack a c
+pub back-then : (a b c : Status) → IsSameBack a b → IsSameBack b c → IsSameBack a c
 back-then a b c (inl e) (inl f) = inl (f ∙ e)
 back-then a b c (inl e) (inr f) = inr (ap can_become_free (sym e) ∙ f.0, f.1)
 back-then a b c (inr e) (inl f) = inr (e.0, f ∙ e.1)

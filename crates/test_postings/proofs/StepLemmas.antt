@@ -7,10 +7,11 @@ use Rattle.std.specs.declared.cmp.Ordering.{Ordering}
 use Rattle.std.specs.declared.cmp.Ordering.TheVariants.{Less, Equal, Greater}
 use Rattle.std.specs.Map.{lookup}
 use Rattle.std.specs.Ordering.{nat_cmp, match_ordering, is_eq, MatchOrdering}
+use Rattle.tree_images.proofs.TreeLemmas.{root_of_many}
 use Rattle.array_store.proofs.ArrayLemmas.{list_array, item_there}
 use Rattle.attr_images.specs.Postings.{short, tree, list_form, IsPostingList}
 use Rattle.image_base.specs.Records.{Records}
-use Rattle.tree_images.specs.Trees.{tree_pairs, IsRootNode}
+use Rattle.tree_images.specs.Trees.{IsRootNode}
 use Rattle.tree_search.proofs.PlaceLemmas.{leads-root, step-size}
 use Rattle.posting_store.specs.Lists.{list_at, IsList, IsPlain}
 use Rattle.posting_store.proofs.FormLemmas.{form_even, form_odd}
@@ -35,13 +36,9 @@ put_there doc weight (e ∷ es) = told (put_there doc weight es) (nat_cmp doc e.
 short_words : (m : Records) (ref : ℕ) → IsPostingList m (short ref) → 1 < length (m ref)
 short_words m ref list = item_there (m ref) 0 list.some
 
-some_root : (m : Records) (root : ℕ) → 8 < length (tree_pairs m root) → 0 < root
-some_root m zero many = absurd (omega arith)
-some_root m (suc root) many = omega arith
-
 tree_words : (m : Records) (root : ℕ) → IsPostingList m (tree root) → 1 < length (m root)
 tree_words m root list =
-    let some = some_root m root list.1 in
+    let some = root_of_many m root list.1 in
     let size = step-size m root [] root (leads-root m root some (list.0.node some)) in
     omega arith
 

@@ -5,7 +5,7 @@ use Rattle.std.proofs.lemmas.Nat.{div-mul-add, mod-mul-add}
 use Rattle.list_facts.proofs.Places.{slice_index-zeros}
 use Rattle.tree_images.specs.Nodes.{level_of, used_of, node_keys, node_values, slot_words, node_words, IsNodeForm}
 
-length-slot_words : (slots : List ℕ) → length slots ≤ 16 → length (slot_words slots) ≡ 16
+pub length-slot_words : (slots : List ℕ) → length slots ≤ 16 → length (slot_words slots) ≡ 16
 length-slot_words slots few =
     let both = length-append slots (replicate (16 - length slots) 0) in
     let rest : length (replicate {A = ℕ} (16 - length slots) 0) ≡ 16 - length slots = length-replicate (16 - length slots) 0 in

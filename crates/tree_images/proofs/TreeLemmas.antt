@@ -1,16 +1,16 @@
 -- What the form of nodes says of a tree, and that new records leave old trees.
-use Rattle.std.proofs.Common.{◌≡◌, ℕ, zero, suc, ◌*◌, ◌^◌, ◌<◌, ◌≤◌, List, [], ◌∷◌, length, map, refl, sym, subst, ◌∙◌, arith, length-take, length-drop, length-append, get_or, mul-le-mul_right, suc-mul}
+use Rattle.std.proofs.Common.{◌≡◌, ℕ, zero, suc, ◌*◌, ◌^◌, ◌<◌, ◌≤◌, List, [], ◌∷◌, length, map, refl, sym, subst, ◌∙◌, arith, length-take, length-drop, length-append, get_or, mul-le-mul_right, suc-mul, ◌++◌}
 use Rattle.std.proofs.lemmas.List.{length-map}
 use Rattle.std.proofs.lemmas.Map.Keys.{below_from_sorted}
 use Rattle.std.proofs.Math.Nat.{pow-suc}
-use Rattle.std.specs.List.{flat_map, AllByRecursion}
+use Rattle.std.specs.List.{flat_map, AllByRecursion, zip}
 use Rattle.std.specs.Ordering.{nat_cmp}
 use Rattle.list_facts.proofs.Pairs.{length-zip_even}
 use Rattle.list_facts.proofs.Each.{AllByRecursion-weaker}
 use Rattle.image_base.specs.Records.{Records, SameAt}
 use Rattle.tree_images.specs.Nodes.{level_of, used_of, count_of, node_keys, node_values, IsNodeForm}
 use Rattle.tree_images.specs.ProofsForTrees.{nodes_there, tree_pairs-same, IsRootNode-same}
-use Rattle.tree_images.specs.Trees.{pairs_below, nodes_below, IsNode, root_level, root_least, tree_pairs, tree_nodes, IsRootNode, IsTree, by_number, Keeps}
+use Rattle.tree_images.specs.Trees.{pairs_below, nodes_below, IsNode, root_level, root_least, tree_pairs, tree_nodes, IsRootNode, IsTree, by_number, Keeps, last_key}
 
 pub IsNode-form : (m : Records) (least level ref : ℕ) → IsNode m least level ref → IsNodeForm level least (m ref)
 unfolding IsNode
@@ -93,3 +93,19 @@ many_pairs m (suc ref) some node above =
     let many = pairs_many m (root_least (root_level m (suc ref))) (root_level m (suc ref)) (suc ref) node in
     subst (λ l. 2 * 8 ^ l ≤ length (pairs_below m (root_level m (suc ref)) (suc ref))) (sym is)
     (subst (λ k. k * 8 ^ root_level m (suc ref) ≤ length (pairs_below m (root_level m (suc ref)) (suc ref))) least many)
+
+-- a leaf's pairs
+pub leaf_pairs : (m : Records) (ref : ℕ) → pairs_below m 0 ref ≡ zip (node_keys (m ref)) (node_values (m ref))
+unfolding pairs_below
+leaf_pairs m ref = refl
+
+pub last_key-append : (xs ys : List (ℕ × ℕ)) → 0 < length ys → last_key (xs ++ ys) ≡ last_key ys
+last_key-append [] ys some = refl
+last_key-append (x ∷ []) [] some = absurd (omega arith)
+last_key-append (x ∷ []) (y ∷ ys) some = refl
+last_key-append (x ∷ z ∷ xs) ys some = last_key-append (z ∷ xs) ys some
+
+-- a tree of many pairs has a root
+pub root_of_many : (m : Records) (root : ℕ) → 8 < length (tree_pairs m root) → 0 < root
+root_of_many m zero many = absurd (omega arith)
+root_of_many m (suc ref) many = omega arith

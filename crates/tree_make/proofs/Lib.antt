@@ -4,5 +4,6 @@ pub mod MadeLemmas
 pub mod RootLemmas
 pub mod DropLemmas
 pub mod ChangeLemmas
+pub mod UsedLemmas
 pub mod TopLemmas
 pub mod WordLemmas

@@ -28,11 +28,14 @@ counts-then a b c first second most room may x y =
     }
 
 -- nothing was made
+pub counts-none : {H : Type 0} (ledger : Ledger H) (most : ℕ) → CountsNodes ledger ledger most
+counts-none ledger most = record { nodes = at_most-more _ 0 most _ _ (omega arith) (at_most-none _ _); others = λ c width ne. at_most-none c _ }
+
 pub makes-none : {H : Type 0} (ledger : Ledger H) (m : Records) (most : ℕ) → MakesNodes ledger ledger m m most
 makes-none ledger m most = record {
   keeps = λ q some. refl;
   stays = λ r. omega arith;
-  counts = record { nodes = at_most-more _ 0 most _ _ (omega arith) (at_most-none _ _); others = λ c width ne. at_most-none c _ };
+  counts = counts-none ledger most;
   may = may_do-same ledger;
 }
 

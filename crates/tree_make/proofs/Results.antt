@@ -2,10 +2,6 @@
 use Rattle.std.specs.Prelude.{OnErr, IfOk}
 use Rattle.std.proofs.Common.{◌≡◌, ◌<◌, ℕ, zero, suc, Bool, true, false, IsTrue, true≢false, Result, Ok, Err, IsErrAnd, refl, sym, subst, arith}
 
-pub if_ok-then : {A E : Type 0} {P Q : A → Type 0} (result : Result A E) → ((x : A) → P x → Q x) → IfOk result P → IfOk result Q
-if_ok-then (Ok x) f h = f x h
-if_ok-then (Err e) f h = tt
-
 pub on_err : {A E : Type 0} {P : Type 0} (result : Result A E) → P → OnErr result P
 on_err (Ok x) p = tt
 on_err (Err e) p = p

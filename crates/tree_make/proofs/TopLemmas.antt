@@ -1,9 +1,10 @@
 -- The top of a tree that is not empty.
-use Rattle.std.proofs.Common.{◌≡◌, ℕ, zero, suc, ◌<◌, ◌≤◌, length, refl, sym, ap, subst, ◌∙◌, arith}
+use Rattle.std.proofs.Common.{◌≡◌, ℕ, zero, suc, ◌<◌, ◌≤◌, min, length, refl, sym, ap, subst, ◌∙◌, arith}
 use Rattle.std.specs.declared.cmp.Ordering.{Ordering}
-use Rattle.image_base.specs.Records.{Records}
+use Rattle.image_base.specs.Records.{Records, SameAt}
 use Rattle.tree_images.proofs.TreeLemmas.{IsNode-form}
 use Rattle.tree_images.specs.Nodes.{level_of, used_of}
+use Rattle.tree_images.specs.ProofsForTrees.{node-same}
 use Rattle.tree_images.specs.Trees.{pairs_below, nodes_below, IsNode, root_level, root_least, tree_pairs, tree_nodes, IsTree}
 use Rattle.tree_node.proofs.ChildLemmas.{IsNode-lower}
 use Rattle.tree_node.proofs.RootLemmas.{root_least-some, tree_pairs-is, tree_nodes-is}
@@ -12,6 +13,11 @@ use Rattle.tree_make.specs.Changes.{levels}
 levels-at : (n : Records) (root : ℕ) → 0 < root → levels n root ≡ suc (root_level n root)
 levels-at n zero some = absurd (omega arith)
 levels-at n (suc ref) some = refl
+
+-- a tree has as many levels where its nodes stay
+pub levels-same : (m n : Records) (root : ℕ) → SameAt (tree_nodes m root) m n → levels n root ≡ levels m root
+levels-same m n zero same = refl
+levels-same m n (suc ref) same = ap (λ ws. suc (min 7 (level_of ws))) (node-same m n (root_level m (suc ref)) (suc ref) same)
 
 module _ {V : Type 0} (order : V → V → Ordering) (read : Records → ℕ → V) (m : Records) (root : ℕ) (tree : IsTree order read m root) (some : 0 < root) where
   pub root-size : length (m root) ≡ 34

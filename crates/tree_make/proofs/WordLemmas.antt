@@ -7,7 +7,7 @@ use Rattle.std.proofs.lemmas.Bool.{cases_lt}
 use Rattle.std.proofs.lemmas.List.{ext_get_or, get_or-take, get_or-append_right, get_or_append_left, get_or-replicate, get_or-drop, length-replicate, length-take-le, length-set, take-append-le, take_all, take_at}
 use Rattle.std.proofs.lemmas.List.{take-replicate, drop_at, drop-append-le, append_assoc, take-take, drop-drop, set-append_left, set-append_right, set_split, take-append-drop, drop_all, append-nil}
 use Rattle.tree_images.specs.Nodes.{level_of, used_of, count_of, node_keys, node_values, slot_words, node_words, IsNodeForm}
-use Rattle.tree_images.proofs.NodeLemmas.{node_keys-words, node_values-words, node_formed}
+use Rattle.tree_images.proofs.NodeLemmas.{node_keys-words, node_values-words, node_formed, length-slot_words}
 use Rattle.tree_make.specs.Words.{AreWords}
 
 -- what is 0 from a place on is what is before, and zeros
@@ -70,12 +70,6 @@ module _ (level least : ℕ) (ws : List ℕ) (form : IsNodeForm level least ws) 
         few = let room = form.room in let k = keys-size in omega arith;
       }
 
-slot_words-size : (slots : List ℕ) → length slots ≤ 16 → length (slot_words slots) ≡ 16
-slot_words-size slots few =
-    let both = length-append slots (replicate (16 - length slots) 0) in
-    let rest : length (replicate {A = ℕ} (16 - length slots) 0) ≡ 16 - length slots = length-replicate (16 - length slots) 0 in
-    omega arith
-
 -- what words say
 module _ (level count : ℕ) (keys values words : List ℕ) (are : AreWords level count keys values words) where
   pub words-keys : node_keys words ≡ keys
@@ -100,9 +94,9 @@ module _ (level count : ℕ) (keys values words : List ℕ) (are : AreWords leve
   words-size =
       let a : length words ≡ suc (suc (length (slot_words keys ++ slot_words values))) = ap length are.words_are in
       let b = length-append (slot_words keys) (slot_words values) in
-      let c = slot_words-size keys are.few in
+      let c = length-slot_words keys are.few in
       let few = are.few in let even = are.even in
-      let d = slot_words-size values (omega arith) in
+      let d = length-slot_words values (omega arith) in
       omega arith
 
 -- the last key of slots
@@ -110,7 +104,7 @@ pub words-last : (level count : ℕ) (keys values words : List ℕ) → AreWords
     → slice_index words (1 + length keys) ≡ slice_index keys (length keys - 1)
 words-last level count keys values words are some =
     let at : 1 + length keys ≡ suc (suc (length keys - 1)) = omega arith in
-    let size = slot_words-size keys are.few in
+    let size = length-slot_words keys are.few in
     let few = are.few in
     ap (slice_index words) at
     ∙ ap (λ ws. slice_index ws (suc (suc (length keys - 1)))) are.words_are
@@ -138,12 +132,12 @@ words-set level count pairs keys values words i key value are low =
     let value_place : 18 + i ≡ suc (suc (16 + i)) = omega arith in
     let even = are.even in
     let few = are.few in
-    let size = slot_words-size keys few in
+    let size = length-slot_words keys few in
     let kept : slice_set (slot_words keys ++ slot_words values) i key ≡ slot_words (take i keys ++ (key ∷ drop (suc i) keys)) ++ slot_words values =
     set-append_left (slot_words keys) (slot_words values) i key (omega arith) ∙ ap (λ ks. ks ++ slot_words values) (slot-set keys i key low) in
     let ks = take i keys ++ (key ∷ drop (suc i) keys) in
     let now : length ks ≡ length keys = cut-size keys i key low in
-    let now_size = slot_words-size ks (omega arith) in
+    let now_size = length-slot_words ks (omega arith) in
     let both : slice_set (slot_words ks ++ slot_words values) (16 + i) value ≡ slot_words ks ++ slot_words (take i values ++ (value ∷ drop (suc i) values)) =
     set-append_right (slot_words ks) (slot_words values) 16 (16 + i) value now_size (omega arith)
     ∙ ap (λ n. slot_words ks ++ slice_set (slot_words values) n value) (let e : 16 + i - 16 ≡ i = omega arith in e)
@@ -193,7 +187,7 @@ pub words-put : (level count pairs : ℕ) (keys values words new : List ℕ) (i 
     → AreWords level pairs (insert keys i key) (insert values i value) new
 words-put level count pairs keys values words new i key value are low room is =
     let even = are.even in
-    let size = slot_words-size keys are.few in
+    let size = length-slot_words keys are.few in
     let head = words-head level count keys values words are in
     let ks : take 16 (drop 2 words) ≡ slot_words keys = ap (λ ws. take 16 (drop 2 ws)) are.words_are ∙ take_at (slot_words keys) (slot_words values) 16 size in
     let vs : drop 16 (drop 2 words) ≡ slot_words values = ap (λ ws. drop 16 (drop 2 ws)) are.words_are ∙ drop_at (slot_words keys) (slot_words values) 16 size in

@@ -11,7 +11,7 @@ use Rattle.list_facts.proofs.Each.{AllByRecursion-at}
 use Rattle.image_base.specs.Records.{Records, HasWord, word_at}
 use Rattle.tree_images.specs.Nodes.{used_of, node_keys, node_values, IsNodeForm}
 use Rattle.tree_images.specs.Trees.{pairs_below, last_key, IsNode, HasLastKeys}
-use Rattle.tree_images.proofs.TreeLemmas.{IsNode-form, length-node_keys, length-node_values}
+use Rattle.tree_images.proofs.TreeLemmas.{IsNode-form, length-node_keys, length-node_values, leaf_pairs}
 use Rattle.key_order.specs.Keys.{AllBelow}
 use Rattle.key_order.specs.Pairs.{choose, seek}
 use Rattle.key_order.proofs.PairLemmas.{All-child, children-cut, seek-skip, seek-stop}
@@ -66,11 +66,6 @@ room m least level ref node = (IsNode-form m least level ref node).room
 
 pub keys-length : (m : Records) (least level ref : ℕ) → IsNode m least level ref → length (node_keys (m ref)) ≡ used_of (m ref)
 keys-length m least level ref node = length-node_keys level least (m ref) (IsNode-form m least level ref node)
-
--- a leaf's pairs
-pub leaf_pairs : (m : Records) (ref : ℕ) → pairs_below m 0 ref ≡ zip (node_keys (m ref)) (node_values (m ref))
-unfolding pairs_below
-leaf_pairs m ref = refl
 
 module _ (m : Records) (least level l ref : ℕ) (above : level ≡ suc l) (node : IsNode m least level ref) where
   upper : IsNode m least (suc l) ref

@@ -9,7 +9,7 @@ use Rattle.list_facts.proofs.Each.{AllByRecursion-weaker, AllByRecursion-at}
 use Rattle.image_base.specs.Records.{Records}
 use Rattle.tree_images.specs.Nodes.{count_of}
 use Rattle.tree_images.specs.Trees.{pairs_below, last_key, IsNode}
-use Rattle.tree_images.proofs.TreeLemmas.{IsNode-form, IsNode-count}
+use Rattle.tree_images.proofs.TreeLemmas.{IsNode-form, IsNode-count, last_key-append}
 use Rattle.tree_node.specs.Slots.{slot_pairs, HaveChildren, IsInHand}
 use Rattle.tree_node.proofs.ChildLemmas.{pairs-some}
 
@@ -61,13 +61,6 @@ module _ (m : Records) (keys values : List ℕ) where
   counted_all (suc level) count ne is =
       let down : suc level - 1 ≡ level = omega arith in
       subst (λ l. count ≡ length (flat_map (pairs_below m l) values)) down is
-
--- the last key of slots
-pub last_key-append : (xs ys : List (ℕ × ℕ)) → 0 < length ys → last_key (xs ++ ys) ≡ last_key ys
-last_key-append [] ys some = refl
-last_key-append (x ∷ []) [] some = absurd (omega arith)
-last_key-append (x ∷ []) (y ∷ ys) some = refl
-last_key-append (x ∷ z ∷ xs) ys some = last_key-append (z ∷ xs) ys some
 
 last_zip : (ks vs : List ℕ) (i : ℕ) → suc i ≡ length ks → length ks ≡ length vs → get_or ks i 0 ≡ last_key (zip ks vs)
 last_zip [] vs i e same = absurd (omega arith)

@@ -1,10 +1,11 @@
 -- The words of a node in hand with a slot taken out, and written anew.
-use Rattle.std.proofs.Common.{◌≡◌, ℕ, zero, suc, ◌+◌, ◌*◌, ◌-◌, ◌<◌, ◌≤◌, List, [], ◌∷◌, ◌++◌, length, take, drop, replicate, slice_index, refl, sym, ap, subst, ◌∙◌, arith, length-append, length-drop}
+use Rattle.std.proofs.Common.{◌≡◌, ℕ, zero, suc, ◌+◌, ◌*◌, ◌-◌, ◌<◌, ◌≤◌, List, [], ◌∷◌, ◌++◌, length, take, drop, replicate, slice_index, refl, sym, ap, subst, ◌∙◌, arith, length-drop}
 use Rattle.std.specs.Prelude.{slice_set}
 use Rattle.std.proofs.lemmas.List.Edits.{length-remove}
 use Rattle.std.specs.List.{remove}
 use borrow.Rule.Slice.PartMut.{mid_of, put_mid}
-use Rattle.std.proofs.lemmas.List.{length-replicate, length-take-le, take-append-le, take_all, take_at, drop_at, drop-append-le, append_assoc, set-append_right, drop_all, append-nil}
+use Rattle.std.proofs.lemmas.List.{length-take-le, take-append-le, take_all, take_at, drop_at, drop-append-le, append_assoc, set-append_right, drop_all, append-nil}
+use Rattle.tree_images.proofs.NodeLemmas.{length-slot_words}
 use Rattle.tree_images.specs.Nodes.{node_keys, node_values, slot_words}
 use Rattle.tree_make.specs.Words.{AreWords}
 use Rattle.tree_make.proofs.WordLemmas.{words-head, words-keys, words-values}
@@ -50,12 +51,6 @@ slot-take slots i low few =
     ∙ sym (append_assoc (take i slots) (drop (suc i) slots) (replicate (suc (16 - length slots)) 0))
     ∙ ap (λ n. remove slots i ++ replicate n 0) (let e : suc (16 - length slots) ≡ 16 - length (remove slots i) = omega arith in e)
 
-slot_words-size : (slots : List ℕ) → length slots ≤ 16 → length (slot_words slots) ≡ 16
-slot_words-size slots few =
-    let both = length-append slots (replicate (16 - length slots) 0) in
-    let rest : length (replicate {A = ℕ} (16 - length slots) 0) ≡ 16 - length slots = length-replicate (16 - length slots) 0 in
-    omega arith
-
 -- one of 16 words taken out, with a zero at the end
 abbrev pub taken : ℕ → List ℕ → List ℕ
 taken i xs = take i xs ++ (drop (suc i) xs ++ (0 ∷ []))
@@ -66,7 +61,7 @@ pub words-taken : (level count pairs : ℕ) (keys values words new : List ℕ) (
 words-taken level count pairs keys values words new i are low is =
     let even = are.even in
     let few = are.few in
-    let size = slot_words-size keys are.few in
+    let size = length-slot_words keys are.few in
     let head = words-head level count keys values words are in
     let ks : take 16 (drop 2 words) ≡ slot_words keys = ap (λ ws. take 16 (drop 2 ws)) are.words_are ∙ take_at (slot_words keys) (slot_words values) 16 size in
     let vs : drop 16 (drop 2 words) ≡ slot_words values = ap (λ ws. drop 16 (drop 2 ws)) are.words_are ∙ drop_at (slot_words keys) (slot_words values) 16 size in

@@ -4,10 +4,11 @@ use Rattle.std.proofs.lemmas.List.{append-nil, take-take, take_all}
 use Rattle.std.proofs.lemmas.Map.Made.{keys_of-zip}
 use Rattle.std.specs.List.{flat_map, AllByRecursion}
 use Rattle.std.specs.Map.{keys_of}
+use Rattle.tree_images.proofs.TreeLemmas.{leaf_pairs}
 use Rattle.image_base.specs.Records.{Records, word_at}
 use Rattle.tree_images.specs.Nodes.{used_of, node_keys, node_values}
 use Rattle.tree_images.specs.Trees.{pairs_below, IsNode}
-use Rattle.tree_node.proofs.ChildLemmas.{IsNode-lower, child-node, child-all, children, get_or-node_values, leaf_pairs, values-size}
+use Rattle.tree_node.proofs.ChildLemmas.{IsNode-lower, child-node, child-all, children, get_or-node_values, values-size}
 use Rattle.tree_node.proofs.ReadLemmas.{node-even, node-size}
 
 -- the words before the values tell the keys

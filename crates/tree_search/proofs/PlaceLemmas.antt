@@ -1,7 +1,7 @@
 -- Places: how they move, and that they stay.
-use Rattle.std.proofs.Common.{append_assoc, ◌≡◌, ℕ, zero, suc, ◌+◌, ◌-◌, ◌<◌, ◌≤◌, List, [], ◌∷◌, ◌++◌, length, get_or, drop, refl, sym, ap, subst, ◌∙◌, arith, if◌then◌else◌, nat_lt, lt-ltb, le-ltb, leb, leb-true}
+use Rattle.std.proofs.Common.{append_assoc, ◌≡◌, ◌≢◌, ℕ, zero, suc, ◌+◌, ◌-◌, ◌<◌, ◌≤◌, List, [], ◌∷◌, ◌++◌, length, get_or, drop, refl, sym, ap, subst, ◌∙◌, arith, if◌then◌else◌, nat_lt, lt-ltb, le-ltb, leb, leb-true}
 use Rattle.std.proofs.Common.{leb-false, IsTrue, Bool, true, false}
-use Rattle.std.specs.List.{flat_map}
+use Rattle.std.specs.List.{flat_map, AllByRecursion}
 use Rattle.image_base.specs.Records.{Records, word_at}
 use Rattle.tree_images.specs.Nodes.{level_of, used_of, count_of, node_values}
 use Rattle.tree_images.specs.Trees.{pairs_below, root_level, root_least, tree_pairs, IsNode, IsRootNode}
@@ -9,6 +9,11 @@ use Rattle.tree_images.proofs.TreeLemmas.{IsNode-form}
 use Rattle.tree_search.specs.Steps.{Step}
 use Rattle.tree_search.specs.Places.{Place, LeadsTo, Leads, pairs_behind, HasPair, pairs_from, IsAt, first_key, first_value}
 use Rattle.tree_node.proofs.ChildLemmas.{IsNode-lower, child-node, children, children-from, children-past, leaf-from, leaf-past}
+
+-- what holds of each pair holds of the first
+pub first_pair : (P : ℕ × ℕ → Type 0) (ps : List (ℕ × ℕ)) → ps ≢ [] → AllByRecursion P ps → P (first_key ps, first_value ps)
+first_pair P [] some all = absurd (some refl)
+first_pair P (p ∷ ps) some all = all.0
 
 root_some : (level : ℕ) → 0 < root_least level
 root_some zero = omega arith

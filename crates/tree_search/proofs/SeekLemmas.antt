@@ -9,7 +9,7 @@ use Rattle.std.specs.List.Sorted.{IsStrictlySortedBy}
 use Rattle.image_base.specs.Records.{Records, word_at}
 use Rattle.tree_images.specs.Nodes.{level_of, used_of, node_keys, node_values}
 use Rattle.tree_images.specs.Trees.{pairs_below, last_key, tree_pairs, IsNode, IsRootNode}
-use Rattle.tree_images.proofs.TreeLemmas.{IsNode-form, length-node_keys}
+use Rattle.tree_images.proofs.TreeLemmas.{IsNode-form, length-node_keys, leaf_pairs}
 use Rattle.key_order.specs.Keys.{AllBelow}
 use Rattle.key_order.specs.Pairs.{choose, lookup_pair, seek}
 use Rattle.key_order.proofs.PairLemmas.{seek-below, lookup_pair-below, lookup_pair-skip, lookup_pair-stop}
@@ -17,7 +17,7 @@ use Rattle.tree_search.specs.Steps.{Step}
 use Rattle.tree_search.specs.Places.{Leads, pairs_behind, pairs_from}
 use Rattle.tree_node.specs.Places.{IsSlot, IsFound, IsLacking}
 use Rattle.tree_node.proofs.ReadLemmas.{node-even}
-use Rattle.tree_node.proofs.ChildLemmas.{keys-length, All-last, leaf_pairs, get_or-node_keys, get_or-node_values, children, children-at, values-size, child-node, child-last, child-all, child-ascends, front-below}
+use Rattle.tree_node.proofs.ChildLemmas.{keys-length, All-last, get_or-node_keys, get_or-node_values, children, children-at, values-size, child-node, child-last, child-all, child-ascends, front-below}
 use Rattle.tree_node.proofs.ChildLemmas.{child-seek, leaf-seek, pairs-some}
 use Rattle.tree_search.proofs.PlaceLemmas.{leads-node, leads-root, leads-child, child-level, behind-child, root_pairs, at-slot}
 

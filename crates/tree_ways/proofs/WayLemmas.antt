@@ -5,6 +5,7 @@ use Rattle.std.specs.Cmp.{IsTotalOrder}
 use Rattle.std.specs.declared.cmp.Ordering.{Ordering}
 use Rattle.std.specs.List.{flat_map, AllByRecursion}
 use Rattle.std.specs.List.Sorted.{IsStrictlySortedBy}
+use Rattle.image_base.proofs.Among.{Among-all, Among-append}
 use Rattle.entry_ref.specs.References.{buffer_of}
 use Rattle.image_base.specs.Records.{Records, Among}
 use Rattle.key_order.specs.Pairs.{choose}
@@ -33,19 +34,10 @@ keys_flat f [] v k there among = absurd there
 keys_flat f (w ∷ vs) v k (inl e) among = keys_left k (f w) (flat_map f vs) (subst (λ x. Among k (keys (f x))) e among)
 keys_flat f (w ∷ vs) v k (inr later) among = keys_right k (f w) (flat_map f vs) (keys_flat f vs v k later among)
 
-pub either_part : (r : ℕ) (xs ys : List ℕ) → Among r (xs ++ ys) → Among r xs ⊎ Among r ys
-either_part r [] ys among = inr among
-either_part r (x ∷ xs) ys (inl e) = inl (inl e)
-either_part r (x ∷ xs) ys (inr later) = front (either_part r xs ys later)
-  where
-    front : Among r xs ⊎ Among r ys → Among r (x ∷ xs) ⊎ Among r ys
-    front (inl here) = inl (inr here)
-    front (inr behind) = inr behind
-
 -- what is below some child is below one of them
 pub find_child : (f : ℕ → List ℕ) (vs : List ℕ) (r : ℕ) → Among r (flat_map f vs) → (v : ℕ) × Among v vs × Among r (f v)
 find_child f [] r among = absurd among
-find_child f (w ∷ vs) r among = told (λ behind. find_child f vs r behind) (either_part r (f w) (flat_map f vs) among)
+find_child f (w ∷ vs) r among = told (λ behind. find_child f vs r behind) (Among-append r (f w) (flat_map f vs) among)
   where
     later : (v : ℕ) × Among v vs × Among r (f v) → (v : ℕ) × Among v (w ∷ vs) × Among r (f v)
     later found = (found.0, inr found.1, found.2)
@@ -53,11 +45,6 @@ find_child f (w ∷ vs) r among = told (λ behind. find_child f vs r behind) (ei
     told : (Among r (flat_map f vs) → (v : ℕ) × Among v vs × Among r (f v)) → Among r (f w) ⊎ Among r (flat_map f vs) → (v : ℕ) × Among v (w ∷ vs) × Among r (f v)
     told more (inl here) = (w, inl refl, here)
     told more (inr behind) = later (more behind)
-
-pub all_among : (P : ℕ → Type 0) (vs : List ℕ) → AllByRecursion P vs → (v : ℕ) → Among v vs → P v
-all_among P [] all v among = absurd among
-all_among P (w ∷ vs) all v (inl e) = subst P (sym e) all.0
-all_among P (w ∷ vs) all v (inr later) = all_among P vs all.1 v later
 
 first_among : (ps : List (ℕ × ℕ)) → 0 < length ps → (k : ℕ) × Among k (keys ps)
 first_among [] some = absurd (omega arith)
@@ -168,7 +155,7 @@ module _ (m : Records) where
   keys_of_node least (suc level) ref node r k (inl e) among = own_keys least (suc level) ref r k e node among
   keys_of_node least (suc level) ref node r k (inr later) among =
       let found = find_child (nodes_below m level) (node_values (m ref)) r later in
-      let child = all_among (IsNode m 8 level) (node_values (m ref)) (nodes_of least level ref node) found.0 found.1 in
+      let child = Among-all (IsNode m 8 level) (node_values (m ref)) (nodes_of least level ref node) found.0 found.1 in
       flat_keys level ref k (keys_flat (pairs_below m level) (node_values (m ref)) found.0 k found.1 (keys_of_node 8 level found.0 child r k found.2 among))
 
   pairs_of_node : (least level ref : ℕ) → 0 < least → IsNode m least level ref → (r : ℕ) → Among r (nodes_below m level ref) → 0 < length (pairs_below m (level_of (m r)) r)
@@ -181,7 +168,7 @@ module _ (m : Records) where
       (subst (λ x. 0 < length (pairs_below m (suc level) x)) (sym e) (pairs-some m least (suc level) ref some node))
   pairs_of_node least (suc level) ref some node r (inr later) =
       let found = find_child (nodes_below m level) (node_values (m ref)) r later in
-      let child = all_among (IsNode m 8 level) (node_values (m ref)) (nodes_of least level ref node) found.0 found.1 in
+      let child = Among-all (IsNode m 8 level) (node_values (m ref)) (nodes_of least level ref node) found.0 found.1 in
       pairs_of_node 8 level found.0 (omega arith) child r found.2
 
   module _ {V : Type 0} (order : V → V → Ordering) (total : IsTotalOrder order) (reads : ℕ → V) (k : ℕ) where
@@ -209,7 +196,7 @@ module _ (m : Records) where
     on_way least (suc level) ref node up r (inl e) key = inl e
     on_way least (suc level) ref node up r (inr later) key =
         let found = find_child (nodes_below m level) (node_values (m ref)) r later in
-        let child = all_among (IsNode m 8 level) (node_values (m ref)) (nodes_of least level ref node) found.0 found.1 in
+        let child = Among-all (IsNode m 8 level) (node_values (m ref)) (nodes_of least level ref node) found.0 found.1 in
         let flat = flat_up level ref up in
         let at = way_goes least level ref found.0 node flat found.1 (keys_of_node 8 level found.0 child r k found.2 key) in
         inr (subst (λ v. Among r (path_below m c level v)) (sym at)
@@ -238,4 +225,4 @@ module _ {V : Type 0} (order : V → V → Ordering) (total : IsTotalOrder order
   pub have_all_nodes : (bits : ℕ) → WaysHaveAllNodes bits order read
   have_all_nodes bits m root buffer is clear node among =
       let found = have_keys m root node is among in
-      all_among (λ r. buffer_of bits r ≢ buffer) (path_nodes m (λ k. order (read m k) (read m found.0)) root) (clear found.0 found.2) node (stand_on_ways m root node found.0 is among found.1)
+      Among-all (λ r. buffer_of bits r ≢ buffer) (path_nodes m (λ k. order (read m k) (read m found.0)) root) (clear found.0 found.2) node (stand_on_ways m root node found.0 is among found.1)

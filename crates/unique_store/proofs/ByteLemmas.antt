@@ -3,14 +3,8 @@ use Rattle.std.proofs.Common.{◌≡◌, ℕ, zero, suc, ◌+◌, ◌-◌, ◌*�
 use Rattle.std.proofs.lemmas.List.{take-append-le, take_all, drop-drop, drop-replicate}
 use Rattle.std.specs.Int.{from_be_bytes, to_be_bytes, bytes_high_first, w64}
 use Rattle.std.specs.List.{flat_map}
+use Rattle.list_facts.proofs.Places.{get_or-take_each}
 use Rattle.attr_images.specs.Values.{packed_bytes}
-
-pub zeros_behind : (bytes : List ℕ) (n k : ℕ) → get_or (bytes ++ replicate n 0) k 0 ≡ get_or bytes k 0
-zeros_behind [] zero k = refl
-zeros_behind [] (suc n) zero = refl
-zeros_behind [] (suc n) (suc k) = zeros_behind [] n k
-zeros_behind (b ∷ bytes) n zero = refl
-zeros_behind (b ∷ bytes) n (suc k) = zeros_behind bytes n k
 
 -- the first eight of many, and of few with zeros behind them
 pub eight_of_many : (bytes eight : List ℕ) → 8 ≤ length bytes → eight ≡ take 8 bytes → eight ≡ take 8 (bytes ++ replicate 8 0)
@@ -69,12 +63,6 @@ small_append [] ys small behind i = behind i
 small_append (x ∷ xs) ys small behind zero = small 0
 small_append (x ∷ xs) ys small behind (suc i) = small_append xs ys (λ j. small (suc j)) behind i
 
-small_take : (k : ℕ) (bytes : List ℕ) → ((i : ℕ) → get_or bytes i 0 < 256) → (i : ℕ) → get_or (take k bytes) i 0 < 256
-small_take zero bytes small i = omega arith
-small_take (suc k) [] small i = omega arith
-small_take (suc k) (b ∷ bytes) small zero = small 0
-small_take (suc k) (b ∷ bytes) small (suc i) = small_take k bytes (λ j. small (suc j)) i
-
 small_high : (k n i : ℕ) → get_or (bytes_high_first k n) i 0 < 256
 small_high zero n i = omega arith
 small_high (suc zero) n zero = omega arith
@@ -86,7 +74,7 @@ small_words [] i = omega arith
 small_words (w ∷ words) i = small_append (to_be_bytes w64 w) (flat_map (to_be_bytes w64) words) (small_high 8 w) (small_words words) i
 
 pub small_text : (k : ℕ) (words : List ℕ) (i : ℕ) → get_or (take k (flat_map (to_be_bytes w64) words)) i 0 < 256
-small_text k words = small_take k (flat_map (to_be_bytes w64) words) (small_words words)
+small_text k words = get_or-take_each (λ b. b < 256) 0 (omega arith) k (flat_map (to_be_bytes w64) words) (small_words words)
 
 -- so many words have eight times as many bytes
 pub bytes_size : (words : List ℕ) → length (flat_map (to_be_bytes w64) words) ≡ 8 * length words

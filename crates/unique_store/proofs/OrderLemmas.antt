@@ -11,7 +11,7 @@ use Rattle.std.specs.Int.{from_be_bytes, w64}
 use Rattle.std.specs.Ordering.{MatchOrdering, is_ne, nat_cmp, ordering_then}
 use Rattle.std.specs.declared.cmp.Ordering.{Ordering}
 use Rattle.std.specs.declared.cmp.Ordering.TheVariants.{Less, Equal, Greater}
-use Rattle.unique_store.proofs.ByteLemmas.{zeros_behind}
+use Rattle.list_facts.proofs.Places.{get_or-append_zeros}
 
 -- numbers in the same order
 same_rank : (x y u v : ℕ) → (x < y → u < v) → (x ≡ y → u ≡ v) → (y < x → v < u) → nat_cmp u v ≡ nat_cmp x y
@@ -96,7 +96,7 @@ word_big xs =
     )
   where
     read : (i : ℕ) → i < 8 → get_or (take 8 (xs ++ replicate 8 0)) i 0 ≡ get_or xs i 0
-    read i low = get_or-take 8 (xs ++ replicate 8 0) i 0 low ∙ zeros_behind xs 8 i
+    read i low = get_or-take 8 (xs ++ replicate 8 0) i 0 low ∙ get_or-append_zeros xs 8 i
 
 -- a text that is at its end, beside another
 end_less : (zs : List ℕ) (v : ℕ) (o : Ordering) → o ≡ Less → ordering_then (nat_cmp 0 v) (ordering_then (slice_cmp nat_cmp [] zs) o) ≡ Less

@@ -6,6 +6,7 @@ use Rattle.std.proofs.lemmas.Grind.{flat_map-append}
 use Rattle.std.specs.Int.{from_be_bytes, to_be_bytes, w64}
 use Rattle.std.specs.List.{flat_map}
 use Rattle.std.specs.Prelude.{slice_index, IfOk}
+use Rattle.attr_images.proofs.RootLemmas.{length-filled}
 use Rattle.image_base.specs.Records.{Records}
 use Rattle.attr_images.specs.Values.{stored_text, stored_value, value_of, value_words, IsLawfulValue, IsValueRecord}
 use Rattle.attr_images.specs.Words.{class_of, filled}
@@ -16,7 +17,7 @@ use Rattle.attr_types.specs.declared.value.Value.{Value}
 use Rattle.attr_types.specs.declared.value.Value.TheVariants as values
 use Rattle.store_api.specs.Ledgers.{Ledger}
 use Rattle.array_store.specs.Adding.{AddsRecord}
-use Rattle.array_store.proofs.ClassLemmas.{class_no_node, class_two, filled_size}
+use Rattle.array_store.proofs.ClassLemmas.{class_no_node, class_two}
 use Rattle.unique_store.proofs.ByteLemmas.{packed_at, packed_size, bytes_size}
 
 pub words_few : (v : Value) → IsLawfulValue v → length (value_words v) ≤ 129
@@ -27,14 +28,14 @@ pub value_there : (type : ValueType) (ws : List ℕ) → IsValueRecord type ws �
 value_there type ws record_of =
     let words = value_words (value_of type ws) in
     let few = words_few (value_of type ws) record_of.lawful in
-    let size = filled_size words (omega arith) in
+    let size = length-filled words (omega arith) in
     let two = class_two (length words) in
     subst (λ xs. 1 < length xs) (sym record_of.words) (omega arith)
 
 pub value_no_node : (type : ValueType) (ws : List ℕ) → IsValueRecord type ws → length ws ≢ 34
 value_no_node type ws record_of e =
     let few = words_few (value_of type ws) record_of.lawful in
-    let size = filled_size (value_words (value_of type ws)) (omega arith) in
+    let size = length-filled (value_words (value_of type ws)) (omega arith) in
     class_no_node (length (value_words (value_of type ws))) (sym size ∙ sym (ap length record_of.words) ∙ e)
 
 -- a text

@@ -3,6 +3,8 @@ use Rattle.std.proofs.Common.{◌≡◌, ℕ, ◌<◌, List, [], ◌∷◌, ◌+
 use Rattle.std.specs.BTreeMap.{insert_entry, is_at}
 use Rattle.std.specs.List.{flat_map, AllByRecursion}
 use Rattle.std.specs.Map.{remove_entry}
+use Rattle.image_base.proofs.Pairs.{same-from}
+use Rattle.image_base.proofs.Among.{SameAt-then, SameAt-among}
 use Rattle.image_base.specs.Records.{Records, SameAt, Among}
 use Rattle.key_order.specs.Pairs.{lookup, lookup_pair, put, take_out}
 use Rattle.key_order.proofs.PairLemmas.{lookup-of_pair}
@@ -34,7 +36,7 @@ use Rattle.store_api.specs.Flows.{ComesFrom}
 use Rattle.store_api.proofs.Flows.{began-then, flow_part}
 use Rattle.value_index.proofs.IndexFlows.{flows_out, flows_set}
 use Rattle.value_index.proofs.IndexLemmas.{docs_at, index_formed, keys_same, pair_reach, pair_same}
-use Rattle.value_index.proofs.OpenLemmas.{IsOpen, index_count, others, pair_count, pairs_part, pairs_reach-same, parts, same_among, same_by, same_then}
+use Rattle.value_index.proofs.OpenLemmas.{IsOpen, index_count, others, pair_count, pairs_part, pairs_reach-same, parts}
 use Rattle.value_index.proofs.OpenFlows.{FlowsOpen}
 use Rattle.value_index.proofs.PairLemmas.{keys, all_by_keys, all_put, all_taken, among_put, key_put, lookup_pair_as, put_as, put_times, take_out_as}
 use Rattle.value_index.proofs.ShownLemmas.{Docs, shown, shown_out, shown_put}
@@ -62,7 +64,7 @@ module _ {H : Type 0} (value : Value) (a b : Ledger H) (m n : Records) (root key
   rest = others value m root
 
   stays : IsDictionary type n root × (tree_pairs n root ≡ tree_pairs m root)
-  stays = dictionary_stays type m n root is.nodes (same_by m n (keys (tree_pairs m root)) is.keys_stay) start.dictionary_is
+  stays = dictionary_stays type m n root is.nodes (same-from (keys (tree_pairs m root)) m n is.keys_stay) start.dictionary_is
 
   pub open_dictionary : IsDictionary type n root
   open_dictionary = stays.0
@@ -99,7 +101,7 @@ module _ {H : Type 0} (value : Value) (a b : Ledger H) (m n : Records) (root key
     key_stays = tree_step.stay.0.0
 
     rest_stays : SameAt (flat_map (pair_reach m) rest) m o
-    rest_stays = same_then m n o (flat_map (pair_reach m) rest) is.rest (subst (λ rs. SameAt rs n o) (pairs_reach-same m n rest is.rest) tree_step.stay.1.1.0)
+    rest_stays = SameAt-then m n o (flat_map (pair_reach m) rest) is.rest (subst (λ rs. SameAt rs n o) (pairs_reach-same m n rest is.rest) tree_step.stay.1.1.0)
 
     both : Turns a c m o (index_part root ∷ []) (parts next key word rest)
     both = turns-then a b c m n o (index_part root ∷ []) (parts root key word rest) (parts next key word rest) is.turns tree_step.turns
@@ -148,7 +150,7 @@ module _ {H : Type 0} (value : Value) (a b : Ledger H) (m n : Records) (root key
           )
           kept ref among (inr later) = (
             subst (λ ps. Among ref (keys ps)) (sym pairs_are) (among_put (beside_value value m) (key, word) ref (tree_pairs m root) later),
-            same_among m o (keys rest) ref (keys_same m o rest rest_stays) later,
+            SameAt-among m o (keys rest) (keys_same m o rest rest_stays) ref later,
           )
 
       set_count : (r : ℕ) → count_in r o (index_part next ∷ []) ≡ count_in r o (parts next key word rest)
@@ -193,7 +195,7 @@ module _ {H : Type 0} (value : Value) (a b : Ledger H) (m n : Records) (root key
             (λ k r. omega arith) (λ k r. omega arith)
 
         rest_left : SameAt (flat_map (pair_reach m) rest) m p
-        rest_left = same_then m o p (flat_map (pair_reach m) rest) rest_stays (subst (λ rs. SameAt rs o p) (pairs_reach-same m o rest rest_stays) drop_step.stay.1.0)
+        rest_left = SameAt-then m o p (flat_map (pair_reach m) rest) rest_stays (subst (λ rs. SameAt rs o p) (pairs_reach-same m o rest rest_stays) drop_step.stay.1.0)
 
         left : IsDictionary type p next × (tree_pairs p next ≡ tree_pairs o next)
         left = dictionary_stays type o p next drop_step.stay.0
@@ -229,7 +231,7 @@ module _ {H : Type 0} (value : Value) (a b : Ledger H) (m n : Records) (root key
                 absurd (omega arith)
             kept ref among filled (inr later) = (
               subst (λ ps. Among ref (keys ps)) (sym pairs_left) later,
-              same_among m p (keys rest) ref (keys_same m p rest rest_left) later,
+              SameAt-among m p (keys rest) (keys_same m p rest rest_left) ref later,
             )
 
         left_count : (r : ℕ) → count_in r p (index_part next ∷ []) ≡ count_in r p (tree next ∷ pairs_part rest ∷ [])

@@ -1,17 +1,15 @@
 -- How many records a change makes of each width.
-use Rattle.std.proofs.Common.{◌≡◌, ◌≢◌, ℕ, zero, suc, ◌+◌, ◌*◌, ◌≤◌, Bool, true, false, cond, nat_eq, Option, None, Some, option_map, refl, sym, ap, subst, ◌∙◌, arith}
+use Rattle.std.proofs.Common.{◌≡◌, ◌≢◌, ℕ, ◌+◌, ◌*◌, ◌≤◌, Bool, true, false, cond, nat_eq, Option, None, Some, option_map, refl, sym, ap, subst, ◌∙◌, arith}
 use Rattle.std.proofs.lemmas.Bool.{eqb-true, eqb-false}
 use Rattle.std.specs.Option.{is_some, unwrap_or}
-use Rattle.std.specs.Prelude.{min}
+use Rattle.tree_make.proofs.TopLemmas.{levels-same}
 use Rattle.image_base.specs.Records.{Records, SameAt}
 use Rattle.key_order.specs.Pairs.{lookup, lookup_pair}
 use Rattle.key_order.proofs.PairLemmas.{lookup-of_pair}
 use Rattle.store_api.specs.Ledgers.{Ledger, capacity}
 use Rattle.store_api.specs.Units.{MayDo, MakesAtMost}
 use Rattle.store_api.proofs.Counts.{at_most-more, at_most-none, at_most-then}
-use Rattle.tree_images.specs.Nodes.{level_of}
-use Rattle.tree_images.specs.ProofsForTrees.{node-same}
-use Rattle.tree_images.specs.Trees.{root_level, tree_nodes, tree_pairs}
+use Rattle.tree_images.specs.Trees.{tree_nodes, tree_pairs}
 use Rattle.tree_make.specs.Changes.{levels}
 use Rattle.tree_make.specs.Makes.{CountsNodes}
 use Rattle.array_store.specs.Adding.{MakesOneOf}
@@ -57,16 +55,11 @@ pub within_dropped : {H : Type 0} (a b c : Ledger H) (f : ℕ → ℕ) → MayDo
 within_dropped a b c f may made none =
     within_more a c (λ w. f w + 0) f (λ w. omega arith) (within_then a b c f (λ w. 0) may made (record { each = λ w. none (capacity b.work.sizes.words w) w }))
 
--- the tree of an index that is open has as many levels as at the start
-pub levels_same : (m n : Records) (root : ℕ) → SameAt (tree_nodes m root) m n → levels n root ≡ levels m root
-levels_same m n zero same = refl
-levels_same m n (suc ref) same = ap (λ ws. suc (min 7 (level_of ws))) (node-same m n (root_level m (suc ref)) (suc ref) same)
-
 -- nodes of a dictionary that is as it was at the start
 pub within_tree : {H : Type 0} (a b : Ledger H) (m n : Records) (root most : ℕ) → SameAt (tree_nodes m root) m n → most ≤ 2 * levels n root + 1
     → CountsNodes a b most → MakesWithin a b (nodes_most (levels m root))
 within_tree a b m n root most same few counts =
-    subst (λ h. MakesWithin a b (nodes_most h)) (levels_same m n root same) (within_nodes a b (levels n root) most few counts)
+    subst (λ h. MakesWithin a b (nodes_most h)) (levels-same m n root same) (within_nodes a b (levels n root) most few counts)
 
 -- ---- what a change makes, by what is found
 module _ (value : Value) (m : Records) (root : ℕ) where

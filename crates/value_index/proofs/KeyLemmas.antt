@@ -7,11 +7,13 @@ use Rattle.std.specs.List.{flat_map, AllByRecursion}
 use Rattle.std.specs.List.Sorted.{IsStrictlySortedBy}
 use Rattle.std.specs.Map.{lookup}
 use Rattle.std.specs.Option.{unwrap_or}
+use Rattle.list_facts.proofs.Options.{same_Some}
+use Rattle.attr_images.proofs.ImageLemmas.{value_typed}
 use Rattle.image_base.specs.Records.{Records, Among}
 use Rattle.key_order.specs.Pairs.{choose, lookup_pair}
 use Rattle.tree_images.specs.Trees.{tree_pairs, tree_nodes}
 use Rattle.attr_images.specs.Postings.{list_form, postings_reach, dictionary_reach, index_of}
-use Rattle.attr_images.specs.Values.{stored_value, value_of, IsValueRecord}
+use Rattle.attr_images.specs.Values.{stored_value, IsValueRecord}
 use Rattle.attr_index.specs.Index.{list_of}
 use Rattle.attr_types.specs.ProofsForOrder.{value_cmp_exact}
 use Rattle.attr_types.specs.Value.{type_of, value_cmp}
@@ -21,14 +23,10 @@ use Rattle.attr_types.specs.declared.value.Value.{Value}
 use Rattle.enum_dictionary.specs.Dictionaries.{beside_value}
 use Rattle.enum_dictionary.proofs.DictionaryLemmas.{value_same}
 use Rattle.value_index.specs.Indexes.{key_at, IsIndex, IsKey, IsValuePair}
-use Rattle.value_index.specs.Laws.{IsKeyRecord}
+use Rattle.value_index.specs.Laws.{IsKeyRecord, ValueHasKey}
 use Rattle.value_index.proofs.IndexLemmas.{docs_at, pair_filled, pair_reach}
 use Rattle.value_index.proofs.PairLemmas.{keys, all_found, found_among}
 use Rattle.value_index.proofs.ShownLemmas.{Docs, shown_found}
-
-pub type_read : (type : ValueType) (ws : List ℕ) → type_of (value_of type ws) ≡ type
-type_read types.Long ws = refl
-type_read types.Text ws = refl
 
 -- the list of a value by the pair that is found for it
 module _ (value : Value) (m : Records) (root : ℕ) (is : IsIndex (type_of value) m root) where
@@ -58,12 +56,9 @@ found_equal c p [] is = absurd (grind (arith, is))
 found_equal c p (q ∷ ps) is =
     (elim (c q.0) as (λ o. c q.0 ≡ o → choose o (lookup_pair c ps) (Some q) None ≡ Some p → c p.0 ≡ Equal) [
       | Less ↦ λ e h. found_equal c p ps h
-      | Equal ↦ λ e h. subst (λ (x : ℕ × ℕ). c x.0 ≡ Equal) (same_some q p h) e
+      | Equal ↦ λ e h. subst (λ (x : ℕ × ℕ). c x.0 ≡ Equal) (same_Some q p h) e
       | Greater ↦ λ e h. absurd (grind (arith, h))
     ]) refl is
-  where
-    same_some : (a b : ℕ × ℕ) → Some a ≡ Some b → a ≡ b
-    same_some a b e = cc
 
 pub reads_found : (value : Value) (m : Records) (p : ℕ × ℕ) (ps : List (ℕ × ℕ)) → lookup_pair (beside_value value m) ps ≡ Some p → stored_value (type_of value) m p.0 ≡ value
 reads_found value m p ps found = value_cmp_exact (stored_value (type_of value) m p.0) value (found_equal (beside_value value m) p ps found)
@@ -114,7 +109,7 @@ some_keys m (p ∷ ps) all = (all.0.key, some_keys m ps all.1)
 pub key_is_read : (type : ValueType) (m : Records) (root ref : ℕ) → IsIndex type m root → IsKey m root ref → IsKeyRecord type m root ref (stored_value type m ref)
 key_is_read type m root ref is key =
     let value = stored_value type m ref in
-    let typed : type_of value ≡ type = type_read type (m ref) in
+    let typed : type_of value ≡ type = value_typed type (m ref) in
     let at = by_value (stored_value type m) ref (tree_pairs m root) is.dictionary_is.tree_is.ascends key in
     let found : lookup_pair (beside_value value m) (tree_pairs m root) ≡ Some (ref, at.0) =
     subst (λ (t : ValueType). lookup_pair (λ k. value_cmp (stored_value t m k) value) (tree_pairs m root) ≡ Some (ref, at.0)) (sym typed) at.1 in
@@ -132,10 +127,7 @@ key_is_read type m root ref is key =
 
 pair_of_key : (ref : ℕ) (o : Option (ℕ × ℕ)) → option_map (λ p. p.0) o ≡ Some ref → (p : ℕ × ℕ) × (o ≡ Some p) × (p.0 ≡ ref)
 pair_of_key ref None is = absurd (grind (arith, is))
-pair_of_key ref (Some p) is = (p, refl, same p.0 ref is)
-  where
-    same : (a b : ℕ) → Some a ≡ Some b → a ≡ b
-    same a b e = cc
+pair_of_key ref (Some p) is = (p, refl, same_Some p.0 ref is)
 
 found_key_at : (value : Value) (m : Records) (root ref : ℕ) → key_at value m root ≡ Some ref → IsKey m root ref × (stored_value (type_of value) m ref ≡ value)
 found_key_at value m root ref at =
@@ -160,3 +152,14 @@ pub value_has_key : (type : ValueType) (m : Records) (root : ℕ) (value : Value
 value_has_key type m root value is typed some =
     has_key value m root (subst (λ (t : ValueType). IsIndex t m root) (sym typed) is) (lookup_pair (beside_value value m) (tree_pairs m root)) refl
     (subst (λ (t : ValueType). 0 < length (list_of value (index_of t m root))) (sym typed) some)
+
+-- the key of a value that has documents
+none_some : (o : Option ℕ) (ref : ℕ) → o ≡ None → o ≡ Some ref → ⊥
+none_some None ref none some = cc
+none_some (Some q) ref none some = cc
+
+pub found_not_none : ValueHasKey → (type : ValueType) (m : Records) (root : ℕ) (value : Value) → IsIndex type m root → type_of value ≡ type
+    → 0 < length (list_of value (index_of type m root)) → key_at value m root ≡ None → ⊥
+found_not_none there type m root value index typed listed none =
+    let found = there type m root value index typed listed in
+    none_some (key_at value m root) found.0 none found.1

@@ -1,6 +1,7 @@
 -- An index while one value's list changes: its tree, the value's key, the list, and all other keys and lists.
 use Rattle.std.proofs.Common.{◌≡◌, ℕ, ℤ, ◌+◌, ◌<◌, List, [], ◌∷◌, None, Some, inl, inr, ◌⊎◌, refl, sym, ap, subst, ◌∙◌, arith}
 use Rattle.std.specs.List.{flat_map}
+use Rattle.image_base.proofs.Among.{SameAt-then, SameAt-among}
 use Rattle.image_base.specs.Records.{Records, SameAt, Among}
 use Rattle.key_order.specs.Pairs.{lookup_pair, take_out}
 use Rattle.store_api.specs.Ledgers.{Ledger}
@@ -25,20 +26,6 @@ use Rattle.value_index.specs.Indexes.{index_part, IsIndex, IsKey}
 use Rattle.value_index.proofs.IndexLemmas.{keys_same, pair_reach}
 use Rattle.value_index.proofs.KeyLemmas.{pair_found, reads_found, record_found}
 use Rattle.value_index.proofs.PairLemmas.{keys, among_found, found_times, none_out}
-
--- ---- records that stay
-pub same_among : (m n : Records) (qs : List ℕ) (r : ℕ) → SameAt qs m n → Among r qs → n r ≡ m r
-same_among m n [] r same among = absurd among
-same_among m n (q ∷ qs) r same (inl here) = subst (λ x. n x ≡ m x) (sym here) same.0
-same_among m n (q ∷ qs) r same (inr later) = same_among m n qs r same.1 later
-
-pub same_by : (m n : Records) (qs : List ℕ) → ((r : ℕ) → Among r qs → n r ≡ m r) → SameAt qs m n
-same_by m n [] each = tt
-same_by m n (q ∷ qs) each = (each q (inl refl), same_by m n qs (λ r among. each r (inr among)))
-
-pub same_then : (m n o : Records) (qs : List ℕ) → SameAt qs m n → SameAt qs n o → SameAt qs m o
-same_then m n o [] first second = tt
-same_then m n o (q ∷ qs) first second = (second.0 ∙ first.0, same_then m n o qs first.1 second.1)
 
 pub same_self : (m : Records) (qs : List ℕ) → SameAt qs m m
 same_self m [] = tt
@@ -139,7 +126,7 @@ module _ {H : Type 0} (value : Value) (a : Ledger H) (m : Records) (root : ℕ) 
               step.turns (λ r. refl) (λ r. sym (counted r));
           nodes = nodes;
           rest = subst (λ ps. SameAt (flat_map (pair_reach m) ps) m n) (sym all_pairs) rest;
-          keys_stay = λ ref among. same_among m n (keys (tree_pairs m root)) ref (keys_same m n (tree_pairs m root) rest) among;
+          keys_stay = λ ref among. SameAt-among m n (keys (tree_pairs m root)) (keys_same m n (tree_pairs m root) rest) ref among;
           was = λ ref among. inr (subst (λ ps. Among ref (keys ps)) (sym all_pairs) among);
           key_some = adds.some;
           record_is = record_is;
@@ -168,8 +155,8 @@ module _ {H : Type 0} (value : Value) (a b c : Ledger H) (m n o : Records) (root
   open_list = record {
     owns = list_step.owns;
     turns = turns-then a b c m n o (index_part root ∷ []) (parts root key word rest) (parts root key next rest) is.turns list_step.turns;
-    nodes = same_then m n o (tree_nodes m root) is.nodes (subst (λ rs. SameAt rs n o) (tree_nodes-same m n root is.nodes) list_step.stay.0);
-    rest = same_then m n o (flat_map (pair_reach m) rest) is.rest rest_stays;
+    nodes = SameAt-then m n o (tree_nodes m root) is.nodes (subst (λ rs. SameAt rs n o) (tree_nodes-same m n root is.nodes) list_step.stay.0);
+    rest = SameAt-then m n o (flat_map (pair_reach m) rest) is.rest rest_stays;
     keys_stay = λ ref among. stays ref (is.was ref among) ∙ is.keys_stay ref among;
     was = is.was;
     key_some = is.key_some;
@@ -181,7 +168,7 @@ module _ {H : Type 0} (value : Value) (a b c : Ledger H) (m n o : Records) (root
     where
       stays : (ref : ℕ) → (ref ≡ key) ⊎ Among ref (keys rest) → o ref ≡ n ref
       stays ref (inl here) = subst (λ k. o k ≡ n k) (sym here) key_stays
-      stays ref (inr later) = same_among n o (keys rest) ref (same_keys rest rest_stays) later
+      stays ref (inr later) = SameAt-among n o (keys rest) (same_keys rest rest_stays) ref later
         where
           same_keys : (ps : List (ℕ × ℕ)) → SameAt (flat_map (pair_reach m) ps) n o → SameAt (keys ps) n o
           same_keys [] same = tt

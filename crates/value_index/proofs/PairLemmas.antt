@@ -3,6 +3,7 @@ use Rattle.std.proofs.Common.{◌≡◌, ℕ, ◌+◌, List, [], ◌∷◌, map,
 use Rattle.std.specs.declared.cmp.Ordering.{Ordering}
 use Rattle.std.specs.declared.cmp.Ordering.TheVariants.{Less, Equal, Greater}
 use Rattle.std.specs.List.{flat_map, AllByRecursion}
+use Rattle.list_facts.proofs.Options.{same_Some}
 use Rattle.image_base.specs.Records.{Among}
 use Rattle.key_order.specs.Pairs.{choose, lookup_pair, put, take_out}
 use Rattle.store_api.specs.Parts.{times}
@@ -10,9 +11,6 @@ use Rattle.store_api.proofs.Times.{times-append}
 
 abbrev pub keys : List (ℕ × ℕ) → List ℕ
 keys ps = map (λ p. p.0) ps
-
-pub same_some : (a b : ℕ × ℕ) → Some a ≡ Some b → a ≡ b
-same_some a b e = cc
 
 module _ (c : ℕ → Ordering) where
   module _ (P : ℕ × ℕ → Type 0) where
@@ -39,7 +37,7 @@ module _ (c : ℕ → Ordering) where
     all_found p (q ∷ ps) all is =
         (elim (c q.0) as (λ o. choose o (lookup_pair c ps) (Some q) None ≡ Some p → P p) [
           | Less ↦ λ h. all_found p ps all.1 h
-          | Equal ↦ λ h. subst P (same_some q p h) all.0
+          | Equal ↦ λ h. subst P (same_Some q p h) all.0
           | Greater ↦ λ h. absurd (grind (arith, h))
         ]) is
 
@@ -63,7 +61,7 @@ module _ (c : ℕ → Ordering) where
         (elim (c q.0) as (λ o. choose o (lookup_pair c ps) (Some q) None ≡ Some p
         → times r (flat_map f (q ∷ ps)) ≡ times r (f p) + times r (flat_map f (choose o (q ∷ take_out c ps) ps (q ∷ ps)))) [
           | Less ↦ λ h. let a = more q ps in let b = more q (take_out c ps) in let rest = found_times p ps h in omega arith
-          | Equal ↦ λ h. more q ps ∙ ap (λ x. times r (f x) + times r (flat_map f ps)) (same_some q p h)
+          | Equal ↦ λ h. more q ps ∙ ap (λ x. times r (f x) + times r (flat_map f ps)) (same_Some q p h)
           | Greater ↦ λ h. absurd (grind (arith, h))
         ]) is
 
@@ -117,7 +115,7 @@ module _ (c : ℕ → Ordering) where
       behind more (inr later) = later_by p k q.0 (keys (take_out c ps)) (more later)
 
       here : Some q ≡ Some p → Among k (keys (q ∷ ps)) → (k ≡ p.0) ⊎ Among k (keys ps)
-      here h (inl e) = inl (e ∙ ap (λ (x : ℕ × ℕ). x.0) (same_some q p h))
+      here h (inl e) = inl (e ∙ ap (λ (x : ℕ × ℕ). x.0) (same_Some q p h))
       here h (inr later) = inr later
 
   pub found_among : (p : ℕ × ℕ) (ps : List (ℕ × ℕ)) → lookup_pair c ps ≡ Some p → Among p.0 (keys ps)
@@ -125,7 +123,7 @@ module _ (c : ℕ → Ordering) where
   found_among p (q ∷ ps) is =
       (elim (c q.0) as (λ o. choose o (lookup_pair c ps) (Some q) None ≡ Some p → Among p.0 (keys (q ∷ ps))) [
         | Less ↦ λ h. inr (found_among p ps h)
-        | Equal ↦ λ h. inl (ap (λ (x : ℕ × ℕ). x.0) (sym (same_some q p h)))
+        | Equal ↦ λ h. inl (ap (λ (x : ℕ × ℕ). x.0) (sym (same_Some q p h)))
         | Greater ↦ λ h. absurd (grind (arith, h))
       ]) is
 

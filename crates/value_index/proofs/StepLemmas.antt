@@ -5,6 +5,7 @@ use Rattle.std.specs.BTreeMap.{insert_entry, is_at}
 use Rattle.std.specs.declared.cmp.Ordering.TheVariants.{Less, Equal, Greater}
 use Rattle.std.specs.Map.{lookup as lookup_in}
 use Rattle.std.specs.Ordering.{nat_cmp, match_ordering}
+use Rattle.list_facts.proofs.Options.{same_Some}
 use Rattle.image_base.specs.Records.{Records}
 use Rattle.key_order.specs.Pairs.{lookup_pair, put, take_out}
 use Rattle.store_api.specs.Ledgers.{Ledger}
@@ -49,11 +50,8 @@ pub entry_found : (bits : ℕ) (o : Option (ℕ × ℕ)) (entry : DictEntry bits
     → o ≡ Some (entry.key, word)
 entry_found bits None entry word is same = absurd (grind (arith, is))
 entry_found bits (Some p) entry word is same =
-    let at : entry ≡ entry_of bits p = entry_same entry (entry_of bits p) is in
+    let at : entry ≡ entry_of bits p = same_Some entry (entry_of bits p) is in
     ap (λ (k : ℕ). Some (k, p.1)) (sym (ap {A = DictEntry bits} {B = ℕ} (λ e. e.key) at)) ∙ ap (λ (w : ℕ). Some (entry.key, w)) (sym (ap {A = DictEntry bits} {B = ℕ} (λ e. e.posting) at) ∙ sym same)
-  where
-    entry_same : (a b : DictEntry bits) → Some a ≡ Some b → a ≡ b
-    entry_same a b e = cc
 
 pub entry_none : (bits : ℕ) (o : Option (ℕ × ℕ)) → None ≡ option_map (entry_of bits) o → o ≡ None
 entry_none bits None is = refl

@@ -5,6 +5,7 @@ use mathlib.Core.Logic.{dite}
 use native.Mathlib.Decide.{ℕ_discrete}
 use mathlib.Core.Option.{none}
 use Rattle.std.specs.Prelude.{slice_get, count_by}
+use Rattle.list_facts.proofs.Options.{same_Some}
 use Rattle.atomic_table.specs.Table.{Me, Act, Valid, step, keeps, stepped, carried_after, Allows}
 use Rattle.atomic_table.proofs.Lists.{exchanged}
 use Rattle.image_base.specs.Records.{Records}
@@ -152,7 +153,7 @@ module _ (reaches : ℕ → Records → ℕ → List ℕ) (lawful : ℕ → Reco
         record {
           told = λ other width' same active.
               let e : b ≡ other = omega arith in
-              let f : width ≡ width' = some-same width width' (sym may.active ∙ ap (active_in w.buffers) e ∙ active) in
+              let f : width ≡ width' = same_Some width width' (sym may.active ∙ ap (active_in w.buffers) e ∙ active) in
               let P : ℕ × ℕ → Type 0 = λ x. Becomes (Writer w, []) (put_aside w x.0 x.1) (Writer v, []) in
               subst P (λ i. (e i, f i)) (record { is = refl; good = good_view reaches lawful _ good });
           event = (
@@ -171,9 +172,6 @@ module _ (reaches : ℕ → Records → ℕ → List ℕ) (lawful : ℕ → Reco
           );
         },
       )
-    where
-      some-same : (x y : ℕ) → Some x ≡ Some y → x ≡ y
-      some-same x y h = cc
 
   pub free_allowed : (slots id : ℕ) (w : WriterView) (b : ℕ) (tag : Tag) → MayFree w b tag
       → Allows (Ruled reaches lawful sizes) slots id (Writer w, []) (state_place b) (λ _. 0) (λ _. plays_free reaches lawful (step slots (state_place b) 0 0 none) (Writer w, []) 0)

@@ -1,16 +1,13 @@
 -- Only words of entries are stored, after each step; and a buffer that a work may put on hold, the writer may.
-use Rattle.std.proofs.Common.{◌≡◌, ◌≢◌, inl, inr, ℕ, zero, suc, ◌+◌, ◌*◌, ◌<◌, List, [], ◌∷◌, length, get_or, Bool, true, false, cond, Option, Some, None, refl, sym, ap, subst, ◌∙◌, arith, ne_eqb, eq-eqb}
-use Rattle.std.specs.Prelude.{slice_get, All, nat_eq, option_and_then}
+use Rattle.std.proofs.Common.{◌≡◌, ◌≢◌, inl, inr, ℕ, ◌+◌, ◌*◌, ◌<◌, List, [], ◌∷◌, length, get_or, cond, Option, Some, None, refl, sym, ap, ◌∙◌, arith, ne_eqb, eq-eqb}
+use Rattle.std.specs.Prelude.{slice_get, All, option_and_then}
 use Rattle.std.specs.Option.{unwrap_or}
-use Rattle.std.specs.Map.{lookup}
 use Rattle.std.proofs.lemmas.Bool.{cases_eq, and_from, and_left}
-use Rattle.std.proofs.lemmas.List.Elements.{All-tail, All-head}
 use Rattle.std.proofs.lemmas.Nat.{same_from_place}
 use Rattle.list_facts.proofs.Places.{slice_get-set_same, slice_get-set_other}
 use Rattle.entry_ref.specs.References.{buffer_of, offset_of}
 use Rattle.image_base.specs.declared.Image.{Image}
 use Rattle.image_base.specs.Images.{words_at}
-use Rattle.image_base.specs.Records.{records_of}
 use Rattle.image_base.specs.Places.{base, IsEntry}
 use Rattle.image_base.proofs.Apart.{within}
 use Rattle.gen_core.specs.declared.views.Pending.TheVariants.{Nothing}
@@ -24,7 +21,7 @@ use Rattle.gen_core.specs.Good.{GoodView, IsPlaced, HasNothingIn}
 use Rattle.gen_core.specs.Conditions.{MayPutOnHold}
 use Rattle.gen_core.specs.Events.{stored, put_aside, tag_of}
 use Rattle.gen_core.proofs.Frames.{active-inside}
-use Rattle.gen_core.proofs.GoodViews.{last-kept}
+use Rattle.gen_core.proofs.GoodViews.{last-kept, found-some}
 use Rattle.gen_core.proofs.StoredWords.{stored-step, stored-given, stored-there}
 use Rattle.gen_core.proofs.Work.{whole-found}
 use Rattle.arena_api.specs.Works.{Buffer as ApiBuffer, active_width as api_active}
@@ -66,16 +63,6 @@ pub entries-buffers : (w : WriterView) (l : List Buffer) → ((a : ℕ) → acti
 entries-buffers w l each old = record {
   none = λ b x lt h. old.none b x lt (λ r i in_b. sym (ap (stored_in w r i) (each (buffer_of w.sizes.offset_bits r))) ∙ h r i in_b);
 }
-
--- a pair with words is found with words
-found-some : (pairs : List (ℕ × List ℕ)) (r l : ℕ) (e : ℕ × List ℕ) → All (λ p. 0 < length p.1) pairs → l < length pairs → (get_or pairs l e).0 ≡ r → 0 < length (records_of pairs r)
-found-some [] r l e all lt is = absurd (omega arith)
-found-some (q ∷ qs) r zero e all lt is = subst (λ t. 0 < length (unwrap_or (cond t (Some q.1) (lookup (nat_eq r) qs)) [])) (sym (eq-eqb r q.0 (sym is))) (All-head (λ p. 0 < length p.1) q qs all)
-found-some (q ∷ qs) r (suc l) e all lt is = by_test (nat_eq r q.0) (found-some qs r l e (All-tail (λ p. 0 < length p.1) q qs all) (omega arith) is)
-  where
-    by_test : (t : Bool) → 0 < length (records_of qs r) → 0 < length (unwrap_or (cond t (Some q.1) (lookup (nat_eq r) qs)) [])
-    by_test true h = All-head (λ p. 0 < length p.1) q qs all
-    by_test false h = h
 
 module _ (w : WriterView) (g : GoodView w) (calm : w.queue.pending ≡ Nothing) (old : StoresEntries w) (b : ℕ) {H : Type 0} (home : H) (may : MayRetire w.sizes.offset_bits (view_of home w) b) where
   abbrev width : ℕ

@@ -24,8 +24,9 @@ use Rattle.gen_core.specs.Views.{active_in}
 use Rattle.gen_core.specs.Work.{writer_records, stored_by, IsRecordStored}
 use Rattle.gen_core.proofs.Work.{records-found}
 use Rattle.std.proofs.lemmas.List.{length-map, length_push}
+use Rattle.list_facts.proofs.Options.{same_Some}
 use Rattle.gen_core.specs.Good.{GoodView, IsBefore, HasNothingIn}
-use Rattle.gen_core.proofs.Lists.{some-same, all_drop-at, all_found}
+use Rattle.gen_core.proofs.Lists.{all_drop-at, all_found}
 use Rattle.gen_core.proofs.Holds.{newest-most, oldest-least}
 use Rattle.gen_core.proofs.WriterRecords.{records-whole}
 use Rattle.gen_core.proofs.GoodViews.{some-commit, floor-last, last-in, kept-placed, records-last, records-placed, records-active}
@@ -147,7 +148,7 @@ module _ (w : WriterView) (g : GoodView w) (bits : ℕ) (same : w.sizes.offset_b
       let active : active_in w.buffers (buffer_of w.sizes.offset_bits r) ≡ Some (length ws) =
       core-active (slice_get w.buffers (buffer_of w.sizes.offset_bits r)) (omega (arith, some, here)) ∙ ap Some (sym here) in
       let first = is_stored w r 0 _ (each 0 some) in
-      let is : first.width ≡ length ws = some-same _ _ (sym first.active ∙ active) in
+      let is : first.width ≡ length ws = same_Some _ _ (sym first.active ∙ active) in
       let e : IsEntry w.sizes.offset_bits w.sizes.buffers w.sizes.words (length ws) r =
       subst (λ n. IsEntry w.sizes.offset_bits w.sizes.buffers w.sizes.words n r) is first.entry in
       records-whole w r ws (record {

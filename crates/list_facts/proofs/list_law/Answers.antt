@@ -4,6 +4,7 @@ use Rattle.list_facts.proofs.Pairs.{length-zip_even}
 use Rattle.list_facts.proofs.Tests.{zero_from_test}
 use Rattle.list_facts.proofs.Counts.{count_by-set}
 use Rattle.list_facts.proofs.Errors.{same_error}
+use Rattle.list_facts.proofs.Options.{same_Some}
 use Rattle.std.proofs.Common.{◌≡◌, true}
 use Rattle.list_facts.proofs.list_law.Goals as goal
 
@@ -14,5 +15,6 @@ returns c = record {
   pairs = length-zip_even;
   tests = zero_from_test;
   errors = same_error;
+  options = same_Some;
   counts = λ p xs i x. count_by-set p xs i x 0;
 }

@@ -1,10 +1,11 @@
 use Rattle.std.proofs.Common.{◌<◌, get_or, nat_le, ◌∙◌, arith}
+use Rattle.list_facts.proofs.Places.{find-drop_next}
 use Rattle.attr_images.specs.Words.{classes}
-use Rattle.array_store.proofs.ClassLemmas.{find_next, too_many}
+use Rattle.array_store.proofs.ClassLemmas.{too_many}
 use Rattle.array_store.proofs.class.class_of.Goals as goal
 
 pub loop-width-preserved : goal.loop-width-preserved
 loop-width-preserved c =
     let i = c.loop-width.width-index in
     let low : i < 10 = omega arith in
-    find_next (nat_le c.args.words) classes i 0 low (too_many c.args.words (get_or classes i 0) (omega arith)) ∙ c.loop-width.invariant
+    find-drop_next (nat_le c.args.words) classes i 0 low (too_many c.args.words (get_or classes i 0) (omega arith)) ∙ c.loop-width.invariant

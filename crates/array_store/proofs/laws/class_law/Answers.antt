@@ -1,4 +1,5 @@
-use Rattle.array_store.proofs.ClassLemmas.{class_holds, class_least, class_width, class_no_node, filled_size}
+use Rattle.attr_images.proofs.RootLemmas.{length-filled}
+use Rattle.array_store.proofs.ClassLemmas.{class_holds, class_least, class_width, class_no_node}
 use Rattle.array_store.proofs.laws.class_law.Goals as goal
 
 pub returns-clause-holds : goal.returns-clause-holds
@@ -14,4 +15,4 @@ pub returns-clause-no_node : goal.returns-clause-no_node
 returns-clause-no_node c = class_no_node
 
 pub returns-clause-record : goal.returns-clause-record
-returns-clause-record c = filled_size
+returns-clause-record c = length-filled

@@ -5,6 +5,7 @@ use Rattle.std.specs.Global.{Global}
 use Rattle.std.specs.Vec.Iter.{into_iter_items}
 use Rattle.std.specs.List.{AllZip}
 use Rattle.std.specs.declared.alloc.AllocError.{AllocError}
+use Rattle.list_facts.proofs.Pairs.{AllZip-push}
 use Rattle.word_arena.specs.Ruled.{reader_of, writer_of}
 use Rattle.attr_images.specs.declared.layout.AttrLayout.{AttrLayout}
 use Rattle.attr_scores.specs.Scores.{ask_tree}
@@ -12,7 +13,7 @@ use Rattle.attr_rounds.specs.declared.rounds.Reading.{Reading}
 use Rattle.attr_rounds.specs.declared.rounds.Round.{Round}
 use Rattle.attr_answers.specs.declared.asked.Told.{Told}
 use Rattle.attr_engine.specs.Steps.{IsReading, IsTakenFrom}
-use Rattle.attr_engine.proofs.ReaderLemmas.{zip_push, taken_in, keeps_joined}
+use Rattle.attr_engine.proofs.ReaderLemmas.{taken_in, keeps_joined}
 use Rattle.attr_engine.proofs.WriterLemmas.{keeps_on}
 use Rattle.attr_engine.proofs.readers.take_all.Goals as goal
 
@@ -41,7 +42,7 @@ loop-reading-preserved g c =
       fit = fit.1;
       all = grind (arith, common_steps);
       zip = subst (AllZip Taken (c.loop-reading.yielded ++ c.in-Some.reading ∷ [])) (sym c.in_ok-push.ensures.items)
-          (zip_push Taken c.loop-reading.yielded c.loop-reading.rounds.items c.in-Some.reading c.take_in-taken.result i.zip here);
+          (AllZip-push Taken c.loop-reading.yielded c.loop-reading.rounds.items c.in-Some.reading c.take_in-taken.result i.zip here);
       keeps = keeps_on w v v' i.keeps (keeps_joined v v' r c.take_in-taken.ensures.view);
       table = c.take_in-taken.ensures.table ∙ i.table;
     }

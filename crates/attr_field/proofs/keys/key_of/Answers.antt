@@ -1,6 +1,7 @@
 use Rattle.std.proofs.Common.{sym, subst, ◌∙◌, arith}
+use Rattle.value_index.proofs.KeyLemmas.{found_not_none}
 use Rattle.value_index.specs.Indexes.{IsIndex}
-use Rattle.attr_field.proofs.SearchLemmas.{found_not_none, finds_key}
+use Rattle.attr_field.proofs.SearchLemmas.{finds_key}
 use Rattle.attr_field.proofs.keys.key_of.Goals as goal
 
 pub key-requires : goal.key-requires

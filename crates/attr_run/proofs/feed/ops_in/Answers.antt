@@ -1,5 +1,6 @@
 use Rattle.std.proofs.Common.{◌≡◌, ap, sym, refl, subst, Ok, List, Option, Result, IfSome}
 use Rattle.std.proofs.lemmas.Result.{IfOk-weaker}
+use Rattle.attr_io.proofs.ReadLemmas.{reads_none}
 use Rattle.feed_reader.specs.Feed.{most_bytes}
 use Rattle.attr_types.specs.declared.op.Op.{Op}
 use Rattle.attr_report.specs.Run.{run_in}
@@ -8,7 +9,7 @@ use Rattle.attr_run.specs.Answers.{ReadsBy}
 use Rattle.attr_run.specs.Steps.{IsUnfed, IsProperStop}
 use Rattle.attr_run.specs.declared.outcome.Status.{Status}
 use Rattle.attr_run.specs.declared.stop.Stop.{Stop}
-use Rattle.attr_run.proofs.TaskLemmas.{fed-made, fed-read, unfed-read, read_nothing, err_then, ok_always}
+use Rattle.attr_run.proofs.TaskLemmas.{fed-made, fed-read, unfed-read, err_then, ok_always}
 use Rattle.attr_run.proofs.feed.ops_in.Goals as goal
 
 pub returns-in-Some-clause-fed : goal.returns-in-Some-clause-fed
@@ -34,7 +35,7 @@ returns-in-Some-clause-proper g c = err_then c.made_in.result _ _ (λ stop is. s
 
 pub returns-in-Some-clause-reads : goal.returns-in-Some-clause-reads
 returns-in-Some-clause-reads g c =
-    read_nothing most_bytes 65536 (g.S.Source.left c.args.source.now) (g.S.Source.reads c.args.source.now)
+    reads_none most_bytes 65536 (g.S.Source.left c.args.source.now) (g.S.Source.reads c.args.source.now)
 
 pub returns-in-None-clause-fed : goal.returns-in-None-clause-fed
 returns-in-None-clause-fed g c =

@@ -6,10 +6,11 @@ use Rattle.attr_run.specs.Answers.{ReadsAsAsked}
 use Rattle.attr_run.specs.Settings.{IsAskedBy}
 use Rattle.attr_run.specs.declared.outcome.Status.{Status}
 use Rattle.std.proofs.Common.{List}
+use Rattle.attr_io.proofs.ReadLemmas.{reads_none}
 use Rattle.attr_types.specs.declared.op.Op.{Op}
 use Rattle.attr_engine.specs.Run.{IsRunOf}
 use Rattle.attr_run.proofs.RunLemmas.{answered, proper-of}
-use Rattle.attr_run.proofs.TaskLemmas.{of-run, unfed-stopped, unread-run, read_nothing}
+use Rattle.attr_run.proofs.TaskLemmas.{of-run, unfed-stopped, unread-run}
 use Rattle.attr_run.proofs.run.reported.Goals as goal
 
 pub returns-in_err-ops-clause-stopped : goal.returns-in_err-ops-clause-stopped
@@ -52,4 +53,4 @@ returns-clause-ended g c =
 
 pub returns-in_err-request-clause-reads : goal.returns-in_err-request-clause-reads
 returns-in_err-request-clause-reads g c =
-    read_nothing most_bytes 65536 (g.S.Source.left c.args.source.now) (g.S.Source.reads c.args.source.now)
+    reads_none most_bytes 65536 (g.S.Source.left c.args.source.now) (g.S.Source.reads c.args.source.now)

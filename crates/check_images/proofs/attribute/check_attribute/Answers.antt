@@ -2,6 +2,7 @@ use Rattle.std.proofs.Common.{◌≡◌, ℕ, List, map, sym, subst, ◌∙◌, 
 use Rattle.std.specs.Prelude.{Contains}
 use Rattle.std.proofs.lemmas.Result.{err_from_is_err_and}
 use Rattle.std.specs.List.{AllByRecursion}
+use Rattle.attr_images.proofs.ImageLemmas.{index_keys}
 use Rattle.tree_images.specs.Trees.{tree_pairs}
 use Rattle.attr_index.specs.Columns.{Column, documents_with}
 use Rattle.attr_images.specs.Documents.{column_at}
@@ -11,7 +12,7 @@ use Rattle.attr_types.specs.declared.items.Item.{Item}
 use Rattle.attr_types.specs.declared.value.Value.{Value}
 use Rattle.image_base.specs.Maps.{seen}
 use Rattle.check_trees.proofs.Walks.{refuted_by}
-use Rattle.check_images.proofs.IndexLemmas.{index_keys, to_lists, from_lists, has_values, values_cover}
+use Rattle.check_images.proofs.IndexLemmas.{to_lists, from_lists, has_values, values_cover}
 use Rattle.check_images.proofs.attribute.check_attribute.Goals as goal
 
 pub returns-in_err-column-clause-exact : goal.returns-in_err-column-clause-exact

@@ -1,6 +1,6 @@
 use Rattle.std.proofs.Common.{◌<◌, ◌≡◌, ℕ, List, arith, true≢false, sym, subst, ◌∙◌}
 use Rattle.std.specs.Prelude.{OnOk, IfOk, IfErr, Vec}
-use Rattle.std.proofs.lemmas.Result.{on_ok_weaker}
+use Rattle.std.proofs.lemmas.Result.{on_ok_weaker, IfOk-weaker}
 use Rattle.std.specs.declared.alloc.Global.{Global}
 use Rattle.attr_images.specs.Images.{attributes_from, IsRootRecord}
 use Rattle.attr_images.specs.Shapes.{shape_of, types_of}
@@ -9,7 +9,7 @@ use Rattle.attr_types.specs.Value.{Document}
 use Rattle.attr_types.specs.declared.field.Field.{Field}
 use Rattle.image_base.specs.Maps.{seen}
 use Rattle.check_trees.specs.Refutations.{Refutes}
-use Rattle.check_images.proofs.LawfulLemmas.{lawful_image, image_record, image_attributes, image_table, if_ok_then, refuted_then, no_table}
+use Rattle.check_images.proofs.LawfulLemmas.{lawful_image, image_record, image_attributes, image_table, refuted_then, no_table}
 use Rattle.check_images.proofs.image.check_image.Goals as goal
 
 pub returns-then-root-eq0-clause-table : goal.returns-then-root-eq0-clause-table
@@ -37,7 +37,7 @@ returns-clause-table c =
     let words = c.words_at-words.result.now in
     let some : 0 < c.args.root = (let other = c.if-root-eq0.false in omega arith) in
     let whole = image_table c.args.fields.now m c.args.root some c.requires words c.words_at-words.ensures.words in
-    if_ok_then c.check_attributes.result (λ table is. is ∙ whole)
+    IfOk-weaker c.check_attributes.result _ _ (λ table is. is ∙ whole)
     (subst (λ (fs : List Field). IfOk c.check_attributes.result (λ (table : Vec (ℕ × Document) Global). table.items ≡ table_of_columns (columns_at m (attributes_from 0 (types_of fs) words)))) c.as_slice.ensures
     c.check_attributes.ensures.table)
 

@@ -1,13 +1,14 @@
 use Rattle.std.proofs.Common.{◌≡◌, [], ◌∷◌, ◌++◌, ◌+◌, suc, ◌<◌, length, refl, sym, subst, ◌∙◌, arith, rules}
 use Rattle.std.proofs.lemmas.Result.{err_from_is_err_and}
 use Rattle.std.proofs.lemmas.Option.{slice_get_read}
+use Rattle.list_facts.proofs.Each.{AllByRecursion-slice_get, AllByRecursion-map_slice_get}
 use Rattle.attr_images.specs.Postings.{index_of}
 use Rattle.attr_index.specs.Index.{list_of}
 use Rattle.attr_types.specs.Value.{type_of}
 use Rattle.attr_types.specs.declared.items.Item.{Item}
 use Rattle.value_index.specs.Indexes.{IsIndex, IsKey}
 use Rattle.attr_documents.specs.Changes.{IsKeyOf}
-use Rattle.document_moves.proofs.SearchLemmas.{KeysSoFar, keys_begin, keys_more, keys_end, all_at, values_at}
+use Rattle.document_moves.proofs.SearchLemmas.{KeysSoFar, keys_begin, keys_more, keys_end}
 use Rattle.document_moves.proofs.keys.keys_of.Goals as goal
 
 pub returns-in_err-keys-clause-keys : goal.returns-in_err-keys-clause-keys
@@ -40,9 +41,9 @@ key_of-found-requires g c =
       (
         subst (λ f. IsIndex type (g.F.Frozen.records f) c.args.root) (sym c.loop-item.invariant.same) c.requires.index,
         (
-          values_at (λ value. type_of value ≡ type) items c.loop-item.item-index c.item-item.result at c.requires.typed,
+          AllByRecursion-map_slice_get (λ value. type_of value ≡ type) (λ (x : Item). x.value) items c.loop-item.item-index c.item-item.result c.requires.typed at,
           subst (λ f. 0 < length (list_of c.item-item.result.value (index_of type (g.F.Frozen.records f) c.args.root))) (sym c.loop-item.invariant.same)
-              (all_at (λ (item : Item). 0 < length (list_of item.value (index_of type (g.F.Frozen.records c.args.frozen.now) c.args.root))) items c.loop-item.item-index c.item-item.result at c.requires.listed),
+              (AllByRecursion-slice_get (λ (item : Item). 0 < length (list_of item.value (index_of type (g.F.Frozen.records c.args.frozen.now) c.args.root))) items c.loop-item.item-index c.item-item.result c.requires.listed at),
         ),
       ),
     )

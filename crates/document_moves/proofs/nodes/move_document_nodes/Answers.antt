@@ -1,13 +1,14 @@
 use Rattle.std.proofs.Common.{ℕ, subst, arith}
 use Rattle.std.specs.Prelude.{IfOk}
+use Rattle.tree_make.proofs.UsedLemmas.{node_used}
+use Rattle.tree_make.proofs.MakesLemmas.{counts-none}
 use Rattle.store_api.proofs.May.{may_do-same}
 use Rattle.tree_make.specs.Changes.{levels}
 use Rattle.tree_make.proofs.Results.{is_valid, not_valid, on_err}
 use Rattle.tree_touch.specs.Paths.{path_nodes, NoneIn}
 use Rattle.doc_vector.specs.Documents.{beside_document}
 use Rattle.doc_vector.proofs.DocumentLemmas.{number_keyed}
-use Rattle.document_moves.proofs.NodeLemmas.{counts_nothing, nodes_moved_by, nodes_owned, nodes_unmoved}
-use Rattle.document_moves.proofs.UsedLemmas.{node_used}
+use Rattle.document_moves.proofs.NodeLemmas.{nodes_moved_by, nodes_owned, nodes_unmoved}
 use Rattle.document_moves.proofs.nodes.move_document_nodes.Goals as goal
 
 pub returns-then-not-valid-clause-moves : goal.returns-then-not-valid-clause-moves
@@ -19,7 +20,7 @@ returns-then-not-valid-clause-moves g c =
     (not_valid c.valid.result root c.valid.ensures.1 c.if-not-valid.true)
 
 pub returns-then-not-valid-clause-counts : goal.returns-then-not-valid-clause-counts
-returns-then-not-valid-clause-counts g c = counts_nothing (g.S.Store.ledger c.args.store.now) (levels (g.S.Frozen.records c.args.store.now) c.args.root)
+returns-then-not-valid-clause-counts g c = counts-none (g.S.Store.ledger c.args.store.now) (levels (g.S.Frozen.records c.args.store.now) c.args.root)
 
 pub returns-then-not-valid-clause-may : goal.returns-then-not-valid-clause-may
 returns-then-not-valid-clause-may g c = may_do-same (g.S.Store.ledger c.args.store.now)

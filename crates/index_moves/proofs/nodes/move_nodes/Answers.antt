@@ -1,12 +1,13 @@
 use Rattle.std.proofs.Common.{◌≡◌, arith, ap}
+use Rattle.tree_make.proofs.UsedLemmas.{node_used}
+use Rattle.tree_make.proofs.MakesLemmas.{counts-none}
 use Rattle.store_api.proofs.May.{may_do-same}
 use Rattle.tree_make.specs.Changes.{levels}
 use Rattle.tree_make.proofs.Results.{is_valid, not_valid, on_err}
 use Rattle.attr_types.specs.Value.{type_of}
 use Rattle.attr_types.specs.declared.kind.ValueType.TheVariants as types
 use Rattle.enum_dictionary.proofs.DictionaryLemmas.{dictionary_keyed, of_type}
-use Rattle.index_moves.proofs.NodeLemmas.{counts_nothing, nodes_moved_by, nodes_owned, nodes_unmoved}
-use Rattle.index_moves.proofs.UsedLemmas.{node_used}
+use Rattle.index_moves.proofs.NodeLemmas.{nodes_moved_by, nodes_owned, nodes_unmoved}
 use Rattle.index_moves.proofs.nodes.move_nodes.Goals as goal
 
 pub returns-then-not-valid-clause-moves : goal.returns-then-not-valid-clause-moves
@@ -17,7 +18,7 @@ returns-then-not-valid-clause-moves g c =
     nodes_unmoved g.row.OFFSET_BITS c.args.buffer c.args.value.now a m root c.requires.index c.requires.owns (not_valid c.valid.result root c.valid.ensures.1 c.if-not-valid.true)
 
 pub returns-then-not-valid-clause-counts : goal.returns-then-not-valid-clause-counts
-returns-then-not-valid-clause-counts g c = counts_nothing (g.S.Store.ledger c.args.store.now) (levels (g.S.Frozen.records c.args.store.now) c.args.root)
+returns-then-not-valid-clause-counts g c = counts-none (g.S.Store.ledger c.args.store.now) (levels (g.S.Frozen.records c.args.store.now) c.args.root)
 
 pub returns-then-not-valid-clause-may : goal.returns-then-not-valid-clause-may
 returns-then-not-valid-clause-may g c = may_do-same (g.S.Store.ledger c.args.store.now)

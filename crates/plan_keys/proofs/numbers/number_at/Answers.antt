@@ -1,7 +1,8 @@
 use Rattle.std.proofs.Common.{◌≡◌, ◌≢◌, ℕ, [], true≢false, Some, Option, option_map, sym, ap, subst, ◌∙◌, arith}
+use Rattle.tree_search.proofs.PlaceLemmas.{first_pair}
 use Rattle.tree_search.specs.Places.{pairs_from}
 use Rattle.attr_types.specs.Lawful.{IsDocNumber}
-use Rattle.plan_keys.proofs.NextLemmas.{first_of_pairs, pair_first, pair_none}
+use Rattle.plan_keys.proofs.NextLemmas.{pair_first, pair_none}
 use Rattle.plan_keys.proofs.numbers.number_at.Goals as goal
 
 pub returns-then-at_end-clause-number : goal.returns-then-at_end-clause-number
@@ -16,7 +17,7 @@ overflow_cast-number g c =
     let m = g.F.Frozen.records c.args.frozen.now in
     let ps = pairs_from m c.args.cursor.now in
     let some : ps ≢ [] = λ none. true≢false (sym ((c.at_end.ensures.pairs m c.requires.at).1 none) ∙ c.if-at_end.false) in
-    let is : IsDocNumber _ = first_of_pairs (λ p. IsDocNumber p.0) ps some c.requires.numbers in
+    let is : IsDocNumber _ = first_pair (λ p. IsDocNumber p.0) ps some c.requires.numbers in
     let last = is.1 in
     let at = c.key-number.ensures m c.requires.at in
     omega arith

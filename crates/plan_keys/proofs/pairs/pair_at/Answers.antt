@@ -1,5 +1,6 @@
 use Rattle.std.proofs.Common.{◌≡◌, ◌≢◌, ◌<◌, ℕ, [], true≢false, Some, None, Option, option_map, sym, ap, subst, ◌∙◌, arith}
 use Rattle.std.specs.Prelude.{IfOk}
+use Rattle.tree_search.proofs.PlaceLemmas.{first_pair}
 use Rattle.tree_search.specs.Places.{first_key, first_value, pairs_from}
 use Rattle.attr_images.specs.Postings.{list_form}
 use Rattle.attr_images.specs.Values.{stored_value, IsValueRecord}
@@ -9,7 +10,6 @@ use Rattle.posting_store.specs.Lists.{IsList, IsPlain}
 use Rattle.unique_store.proofs.RecordLemmas.{value_there}
 use Rattle.plan_keys.specs.PhaseKeys.{first_item, form_docs, IsListPair}
 use Rattle.plan_keys.proofs.ListLemmas.{first_pair_is, no_pairs}
-use Rattle.plan_keys.proofs.NextLemmas.{first_of_pairs}
 use Rattle.plan_keys.proofs.pairs.pair_at.Goals as goal
 
 pub returns-then-at_end-clause-first : goal.returns-then-at_end-clause-first
@@ -23,7 +23,7 @@ overflow_cast-key g c =
     let m = g.F.Frozen.records c.args.frozen.now in
     let ps = pairs_from m c.args.cursor.now in
     let some : ps ≢ [] = λ none. true≢false (sym ((c.at_end.ensures.pairs m c.requires.at).1 none) ∙ c.if-at_end.false) in
-    let pair = first_of_pairs (IsListPair c.args.value_type m) ps some c.requires.pairs in
+    let pair = first_pair (IsListPair c.args.value_type m) ps some c.requires.pairs in
     let is = subst (λ k. IsValueRecord c.args.value_type (m k)) (sym (c.key.ensures m c.requires.at)) pair.record_is in
     let below = g.met.F.Frozen.references c.args.frozen.now c.key.result (omega (arith, value_there c.args.value_type (m c.key.result) is)) in
     omega arith
@@ -33,28 +33,28 @@ first_in_list-requires-clause-list g c =
     let m = g.F.Frozen.records c.args.frozen.now in
     let ps = pairs_from m c.args.cursor.now in
     let some : ps ≢ [] = λ none. true≢false (sym ((c.at_end.ensures.pairs m c.requires.at).1 none) ∙ c.if-at_end.false) in
-    subst (IsList m) (sym (c.value-list.ensures m c.requires.at)) (first_of_pairs (IsListPair c.args.value_type m) ps some c.requires.pairs).pair_is.list_is
+    subst (IsList m) (sym (c.value-list.ensures m c.requires.at)) (first_pair (IsListPair c.args.value_type m) ps some c.requires.pairs).pair_is.list_is
 
 pub first_in_list-requires-clause-plain : goal.first_in_list-requires-clause-plain
 first_in_list-requires-clause-plain g c =
     let m = g.F.Frozen.records c.args.frozen.now in
     let ps = pairs_from m c.args.cursor.now in
     let some : ps ≢ [] = λ none. true≢false (sym ((c.at_end.ensures.pairs m c.requires.at).1 none) ∙ c.if-at_end.false) in
-    subst IsPlain (sym (c.value-list.ensures m c.requires.at)) (first_of_pairs (IsListPair c.args.value_type m) ps some c.requires.pairs).pair_is.plain
+    subst IsPlain (sym (c.value-list.ensures m c.requires.at)) (first_pair (IsListPair c.args.value_type m) ps some c.requires.pairs).pair_is.plain
 
 pub first_in_list-requires-clause-some : goal.first_in_list-requires-clause-some
 first_in_list-requires-clause-some g c =
     let m = g.F.Frozen.records c.args.frozen.now in
     let ps = pairs_from m c.args.cursor.now in
     let some : ps ≢ [] = λ none. true≢false (sym ((c.at_end.ensures.pairs m c.requires.at).1 none) ∙ c.if-at_end.false) in
-    subst (λ (w : ℕ). 0 < w) (sym (c.value-list.ensures m c.requires.at)) (first_of_pairs (IsListPair c.args.value_type m) ps some c.requires.pairs).pair_is.some
+    subst (λ (w : ℕ). 0 < w) (sym (c.value-list.ensures m c.requires.at)) (first_pair (IsListPair c.args.value_type m) ps some c.requires.pairs).pair_is.some
 
 pub pair_key-requires : goal.pair_key-requires
 pair_key-requires g c =
     let m = g.F.Frozen.records c.args.frozen.now in
     let ps = pairs_from m c.args.cursor.now in
     let some : ps ≢ [] = λ none. true≢false (sym ((c.at_end.ensures.pairs m c.requires.at).1 none) ∙ c.if-at_end.false) in
-    let is = subst (λ k. IsValueRecord c.args.value_type (m k)) (sym (c.from_raw-key.ensures ∙ c.key.ensures m c.requires.at)) (first_of_pairs (IsListPair c.args.value_type m) ps some c.requires.pairs).record_is in
+    let is = subst (λ k. IsValueRecord c.args.value_type (m k)) (sym (c.from_raw-key.ensures ∙ c.key.ensures m c.requires.at)) (first_pair (IsListPair c.args.value_type m) ps some c.requires.pairs).record_is in
     (omega arith, subst (λ f. IsValueRecord c.args.value_type (g.F.Frozen.records f c.from_raw-key.result)) (sym c.first_in_list.ensures.same) is)
 
 pub returns-in-Some-clause-first : goal.returns-in-Some-clause-first

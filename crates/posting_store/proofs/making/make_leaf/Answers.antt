@@ -1,11 +1,12 @@
-use Rattle.std.proofs.Common.{◌/◌, ◌%◌, ◌∙◌, length, get_or, refl, arith, length-set}
+use Rattle.std.proofs.Common.{ℕ, ◌/◌, ◌%◌, ◌∙◌, length, get_or, refl, arith, length-set}
 use Rattle.std.specs.List.{zip}
 use Rattle.std.proofs.lemmas.Result.{err_from_is_err_and}
+use Rattle.list_facts.proofs.Each.{AllByRecursion-each}
 use Rattle.store_api.proofs.May.{may_do-same}
 use Rattle.posting_store.specs.Changes.{IsListWidth}
 use Rattle.posting_store.proofs.RefusalLemmas.{of_one}
 use Rattle.posting_store.proofs.ChangeLemmas.{counts_tree, is_tree_width}
-use Rattle.posting_store.proofs.LeafLemmas.{doc_word, weight_word, taken_more, taken_all, all_pairs, leaf_even, leaf_fits, leaf_ascends, makes_leaf}
+use Rattle.posting_store.proofs.LeafLemmas.{doc_word, weight_word, taken_more, taken_all, leaf_even, leaf_fits, leaf_ascends, makes_leaf}
 use Rattle.posting_store.proofs.making.make_leaf.Goals as goal
 
 pub loop-i-init : goal.loop-i-init
@@ -37,7 +38,7 @@ build_leaf-requires g c =
           leaf_even c.loop-i.keys c.loop-i.values items keys values,
           (
             leaf_fits c.loop-i.keys c.loop-i.values items keys values c.requires.nine,
-            (leaf_ascends c.loop-i.keys c.loop-i.values items keys values c.requires.documents, (all_pairs pairs, all_pairs pairs)),
+            (leaf_ascends c.loop-i.keys c.loop-i.values items keys values c.requires.documents, (AllByRecursion-each (λ (p : ℕ × ℕ). Unit {0}) (λ p. tt) pairs, AllByRecursion-each (λ (p : ℕ × ℕ). Unit {0}) (λ p. tt) pairs)),
           ),
         ),
       ),

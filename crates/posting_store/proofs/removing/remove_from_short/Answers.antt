@@ -3,6 +3,7 @@ use Rattle.std.specs.Prelude.{IfOk, IfErr}
 use Rattle.std.specs.BTreeMap.{is_at}
 use Rattle.std.specs.Map.{remove_entry}
 use Rattle.std.specs.Ordering.{nat_cmp}
+use Rattle.list_facts.proofs.Counts.{length-remove_entry}
 use Rattle.attr_images.specs.Words.{unpacked}
 use Rattle.store_api.specs.Calls.{RefusesOf}
 use Rattle.store_api.specs.Parts.{Owns}
@@ -11,7 +12,7 @@ use Rattle.posting_store.specs.Lists.{list_at, list_levels, IsList, AreDocuments
 use Rattle.posting_store.specs.Changes.{list_part, list_most, IsListWidth, MakesList, MakesWithin}
 use Rattle.posting_store.proofs.ChangeLemmas.{counts_more}
 use Rattle.posting_store.proofs.LeafLemmas.{same_size}
-use Rattle.posting_store.proofs.PairLemmas.{documents_out, length_out}
+use Rattle.posting_store.proofs.PairLemmas.{documents_out}
 use Rattle.posting_store.proofs.removing.remove_from_short.Goals as goal
 
 pub replace_list-requires-clause-unit : goal.replace_list-requires-clause-unit
@@ -31,7 +32,7 @@ replace_list-requires-clause-few g c =
     let docs = (remove_entry (is_at (nat_cmp c.args.doc)) es) in
     let read = (ap (map unpacked) c.as_slice.ensures.value ∙ c.take_item.ensures ∙ ap (λ (ds : List (ℕ × ℤ)). remove_entry (is_at (nat_cmp c.args.doc)) ds) c.items_of-items.ensures.items) in
     let size = same_size c.as_slice.result.now docs read in
-    let less = length_out (is_at (nat_cmp c.args.doc)) es in let few = c.requires.few in
+    let less = length-remove_entry (is_at (nat_cmp c.args.doc)) es in let few = c.requires.few in
     omega arith
 
 pub replace_list-requires-clause-documents : goal.replace_list-requires-clause-documents

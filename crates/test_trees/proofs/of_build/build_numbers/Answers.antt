@@ -2,8 +2,8 @@ use Rattle.std.proofs.Common.{ℕ, refl, sym, ap, subst, arith}
 use Rattle.std.specs.List.{zip}
 use Rattle.std.specs.List.Sorted.{IsStrictlySortedBy}
 use Rattle.std.specs.Ordering.{nat_cmp}
-use Rattle.number_tree.proofs.HoldLemmas.{all_pairs}
-use Rattle.tree_make.proofs.Results.{if_ok-then}
+use Rattle.std.proofs.lemmas.Result.{IfOk-weaker}
+use Rattle.list_facts.proofs.Each.{AllByRecursion-each}
 use Rattle.test_trees.proofs.RowLemmas.{keys_of_pairs}
 use Rattle.test_trees.proofs.of_build.build_numbers.Goals as goal
 
@@ -19,8 +19,8 @@ build-requires g c =
           (
             subst (IsStrictlySortedBy nat_cmp) (sym (keys_of_pairs m ks)) c.requires.sorted,
             (
-              all_pairs (λ (p : ℕ × ℕ). Unit {0}) (λ p. tt) (zip ks ks),
-              all_pairs (λ (p : ℕ × ℕ). Unit {0}) (λ p. tt) (zip ks ks),
+              AllByRecursion-each (λ (p : ℕ × ℕ). Unit {0}) (λ p. tt) (zip ks ks),
+              AllByRecursion-each (λ (p : ℕ × ℕ). Unit {0}) (λ p. tt) (zip ks ks),
             ),
           ),
         ),
@@ -28,4 +28,4 @@ build-requires g c =
     )
 
 pub returns : goal.returns
-returns g c = if_ok-then c.build.result (λ r keyed. keyed.tree.node) c.build.ensures.keyed
+returns g c = IfOk-weaker c.build.result _ _ (λ r keyed. keyed.tree.node) c.build.ensures.keyed

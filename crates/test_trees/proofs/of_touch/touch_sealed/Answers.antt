@@ -1,8 +1,8 @@
 use Rattle.std.proofs.Common.{ℕ, sym, ap, subst, arith}
 use Rattle.std.specs.Ordering.{nat_cmp}
+use Rattle.std.proofs.lemmas.Result.{IfOk-weaker}
 use Rattle.number_tree.proofs.HoldLemmas.{number_keyed}
 use Rattle.tree_images.specs.Trees.{IsTree, by_number}
-use Rattle.tree_make.proofs.Results.{if_ok-then}
 use Rattle.test_trees.proofs.RowLemmas.{owns_begun, tree_begun, sealed-unit, is-sealed, sealed-owns}
 use Rattle.test_trees.proofs.of_touch.touch_sealed.Goals as goal
 
@@ -34,7 +34,7 @@ touch-requires g c =
     )
 
 pub returns-in-Some : goal.returns-in-Some
-returns-in-Some g c = if_ok-then c.touch.result (λ (r : ℕ) keyed. keyed.tree.node) c.touch.ensures.keyed
+returns-in-Some g c = IfOk-weaker c.touch.result _ _ (λ (r : ℕ) keyed. keyed.tree.node) c.touch.ensures.keyed
 
 pub returns-in-None : goal.returns-in-None
 returns-in-None g c =

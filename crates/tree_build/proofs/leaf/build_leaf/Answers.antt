@@ -1,10 +1,10 @@
 use Rattle.std.proofs.Common.{◌≡◌, ◌<◌, ◌++◌, ℕ, List, length, refl, sym, ap, subst, ◌∙◌, arith}
 use Rattle.std.specs.List.{zip}
+use Rattle.std.proofs.lemmas.Result.{IfOk-weaker}
 use Rattle.tree_node.proofs.CountLemmas.{leaf_count}
 use Rattle.tree_node.proofs.SlotLemmas.{hand-leaf}
 use Rattle.key_order.proofs.KeyLemmas.{keyed-from, others_kept}
 use Rattle.tree_make.specs.Makes.{MakesRoot}
-use Rattle.tree_make.proofs.Results.{if_ok-then}
 use Rattle.tree_build.proofs.LeafLemmas.{leaf-pairs, leaf-turns, leaf-owns}
 use Rattle.tree_build.proofs.leaf.build_leaf.Goals as goal
 
@@ -33,7 +33,7 @@ returns-clause-keyed g c =
     let ks = c.append.new.words.items in
     let keys : ks ≡ c.args.keys.now = c.append.ensures ∙ ap (λ (xs : List ℕ). xs ++ c.args.keys.now) c.new.ensures in
     let values : c.append-2.new.words.items ≡ c.args.values.now = c.append-2.ensures ∙ ap (λ (xs : List ℕ). xs ++ c.args.values.now) c.new-2.ensures in
-    if_ok-then c.make_root.result (λ root made_of.
+    IfOk-weaker c.make_root.result _ _ (λ root made_of.
     let made : MakesRoot old new m n 0 c.args.keys.now c.args.values.now root =
     subst (λ xs. MakesRoot old new m n 0 xs c.args.values.now root) keys (subst (λ xs. MakesRoot old new m n 0 ks xs root) values made_of) in
     keyed-from k.order k.can_read k.read k.reads_from g.met.K.KeyOrder.stays g.met.K.KeyOrder.steady m n (others_kept m n c.make_root.ensures.makes.keeps) root (zip c.args.keys.now c.args.values.now) made.node
@@ -50,7 +50,7 @@ returns-clause-pairs g c =
     let ks = c.append.new.words.items in
     let keys : ks ≡ c.args.keys.now = c.append.ensures ∙ ap (λ (xs : List ℕ). xs ++ c.args.keys.now) c.new.ensures in
     let values : c.append-2.new.words.items ≡ c.args.values.now = c.append-2.ensures ∙ ap (λ (xs : List ℕ). xs ++ c.args.values.now) c.new-2.ensures in
-    if_ok-then c.make_root.result (λ root made_of.
+    IfOk-weaker c.make_root.result _ _ (λ root made_of.
     let made : MakesRoot old new m n 0 c.args.keys.now c.args.values.now root =
     subst (λ xs. MakesRoot old new m n 0 xs c.args.values.now root) keys (subst (λ xs. MakesRoot old new m n 0 ks xs root) values made_of) in
     leaf-pairs old new m n c.args.keys.now c.args.values.now root made (g.met.S.Store.recorded s)) c.make_root.ensures.root
@@ -66,7 +66,7 @@ returns-clause-owns g c =
     let ks = c.append.new.words.items in
     let keys : ks ≡ c.args.keys.now = c.append.ensures ∙ ap (λ (xs : List ℕ). xs ++ c.args.keys.now) c.new.ensures in
     let values : c.append-2.new.words.items ≡ c.args.values.now = c.append-2.ensures ∙ ap (λ (xs : List ℕ). xs ++ c.args.values.now) c.new-2.ensures in
-    if_ok-then c.make_root.result (λ root made_of.
+    IfOk-weaker c.make_root.result _ _ (λ root made_of.
     let made : MakesRoot old new m n 0 c.args.keys.now c.args.values.now root =
     subst (λ xs. MakesRoot old new m n 0 xs c.args.values.now root) keys (subst (λ xs. MakesRoot old new m n 0 ks xs root) values made_of) in
     leaf-owns old new m n c.args.keys.now c.args.values.now root made (g.met.S.Store.recorded s)) c.make_root.ensures.root
@@ -82,7 +82,7 @@ returns-clause-turns g c =
     let ks = c.append.new.words.items in
     let keys : ks ≡ c.args.keys.now = c.append.ensures ∙ ap (λ (xs : List ℕ). xs ++ c.args.keys.now) c.new.ensures in
     let values : c.append-2.new.words.items ≡ c.args.values.now = c.append-2.ensures ∙ ap (λ (xs : List ℕ). xs ++ c.args.values.now) c.new-2.ensures in
-    if_ok-then c.make_root.result (λ root made_of.
+    IfOk-weaker c.make_root.result _ _ (λ root made_of.
     let made : MakesRoot old new m n 0 c.args.keys.now c.args.values.now root =
     subst (λ xs. MakesRoot old new m n 0 xs c.args.values.now root) keys (subst (λ xs. MakesRoot old new m n 0 ks xs root) values made_of) in
     leaf-turns old new m n c.args.keys.now c.args.values.now root made (g.met.S.Store.recorded s)) c.make_root.ensures.root

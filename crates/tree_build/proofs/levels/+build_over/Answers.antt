@@ -1,6 +1,6 @@
 use Rattle.std.proofs.Common.{rules, ◌≡◌, ◌<◌, ◌≤◌, ◌+◌, ◌-◌, ◌^◌, suc, length, ap, ◌∙◌, arith}
+use Rattle.std.proofs.lemmas.Result.{IfOk-weaker}
 use Rattle.tree_make.proofs.MakesLemmas.{makes-more, makes-then, refuses-if}
-use Rattle.tree_make.proofs.Results.{if_ok-then}
 use Rattle.tree_node.specs.Slots.{slot_pairs, IsInHand}
 use Rattle.tree_build.specs.Builds.{groups, nodes_above, BuildsTree}
 use Rattle.tree_build.proofs.GroupLemmas.{groups-some}
@@ -57,7 +57,7 @@ returns-then-keys-le-MOST_SLOTS-clause-builds g t c =
     let slots = c.slots_of-slots.result in
     let is = c.slots_of-slots.ensures in
     let u = c.make_root.new.store in
-    if_ok-then c.make_root.result (λ root made.
+    IfOk-weaker c.make_root.result _ _ (λ root made.
     slots_as (λ l xs ys. BuildsTree (ledger s) (ledger u) m (records u) l xs ys root) level slots.level ks slots.keys.items vs slots.values.items is.level is.keys is.values
     (builds-root (ledger s) (ledger u) m (records u) slots.level slots.keys.items slots.values.items root made)) c.make_root.ensures.root
 
@@ -170,7 +170,7 @@ returns-clause-builds g t c =
     let nodes : c.deref-2.result.now ≡ rv = c.deref-2.ensures.value in
     let next : level + 1 ≡ suc level = omega arith in
     let u = c.build_over.new.store in
-    if_ok-then c.build_over.result (λ root over.
+    IfOk-weaker c.build_over.result _ _ (λ root over.
     builds-over (ledger s) (ledger t) (ledger u) m n (records u) level ks vs rk rv root made
     (slots_as (λ l xs ys. BuildsTree (ledger t) (ledger u) n (records u) l xs ys root) (suc level) (level + 1) rk c.deref.result.now rv c.deref-2.result.now next keys nodes over))
     c.build_over.ensures.builds

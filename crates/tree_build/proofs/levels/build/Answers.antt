@@ -1,9 +1,9 @@
 use Rattle.std.proofs.Common.{◌<◌, ◌≤◌, length, arith}
 use Rattle.std.specs.List.{zip}
+use Rattle.std.proofs.lemmas.Result.{IfOk-weaker}
 use Rattle.tree_node.specs.Slots.{slot_pairs}
 use Rattle.tree_node.proofs.SlotLemmas.{hand-leaf}
 use Rattle.key_order.proofs.KeyLemmas.{keyed-from, others_kept}
-use Rattle.tree_make.proofs.Results.{if_ok-then}
 use Rattle.tree_build.proofs.BuildLemmas.{built-pairs, built-turns, built-owns}
 use Rattle.tree_build.proofs.levels.build.Goals as goal
 
@@ -27,7 +27,7 @@ returns-clause-keyed g c =
     let t = c.build_over.new.store in
     let keeps = c.build_over.ensures.makes.keeps in
     let k = g.K.KeyOrder in
-    if_ok-then c.build_over.result (λ root builds.
+    IfOk-weaker c.build_over.result _ _ (λ root builds.
     keyed-from k.order k.can_read k.read k.reads_from g.met.K.KeyOrder.stays g.met.K.KeyOrder.steady m (records t) (others_kept m (records t) keeps) root (zip ks vs) builds.node
     (built-pairs (ledger s) (ledger t) m (records t) ks vs root builds keeps (g.met.S.Store.recorded s)) c.requires.readable c.requires.apart c.requires.ascends)
     c.build_over.ensures.builds
@@ -42,7 +42,7 @@ returns-clause-pairs g c =
     let vs = c.args.values.now in
     let t = c.build_over.new.store in
     let keeps = c.build_over.ensures.makes.keeps in
-    if_ok-then c.build_over.result (λ root builds. built-pairs (ledger s) (ledger t) m (records t) ks vs root builds keeps (g.met.S.Store.recorded s)) c.build_over.ensures.builds
+    IfOk-weaker c.build_over.result _ _ (λ root builds. built-pairs (ledger s) (ledger t) m (records t) ks vs root builds keeps (g.met.S.Store.recorded s)) c.build_over.ensures.builds
 
 pub returns-clause-owns : goal.returns-clause-owns
 returns-clause-owns g c =
@@ -54,7 +54,7 @@ returns-clause-owns g c =
     let vs = c.args.values.now in
     let t = c.build_over.new.store in
     let keeps = c.build_over.ensures.makes.keeps in
-    if_ok-then c.build_over.result (λ root builds. built-owns (ledger s) (ledger t) m (records t) ks vs root builds keeps (g.met.S.Store.recorded s)) c.build_over.ensures.builds
+    IfOk-weaker c.build_over.result _ _ (λ root builds. built-owns (ledger s) (ledger t) m (records t) ks vs root builds keeps (g.met.S.Store.recorded s)) c.build_over.ensures.builds
 
 pub returns-clause-turns : goal.returns-clause-turns
 returns-clause-turns g c =
@@ -66,7 +66,7 @@ returns-clause-turns g c =
     let vs = c.args.values.now in
     let t = c.build_over.new.store in
     let keeps = c.build_over.ensures.makes.keeps in
-    if_ok-then c.build_over.result (λ root builds. built-turns (ledger s) (ledger t) m (records t) ks vs root builds keeps (g.met.S.Store.recorded s)) c.build_over.ensures.builds
+    IfOk-weaker c.build_over.result _ _ (λ root builds. built-turns (ledger s) (ledger t) m (records t) ks vs root builds keeps (g.met.S.Store.recorded s)) c.build_over.ensures.builds
 
 pub returns-clause-stay : goal.returns-clause-stay
 returns-clause-stay g c =

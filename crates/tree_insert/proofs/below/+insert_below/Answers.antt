@@ -1,11 +1,11 @@
 use Rattle.std.proofs.Common.{rules, ◌≡◌, ◌<◌, ◌≤◌, ◌-◌, ◌++◌, ℕ, suc, List, [], ◌∷◌, length, get_or, slice_index, take, drop, ◌*◌, true, refl, sym, ap, subst, ◌∙◌, arith, ◌+◌, ◌^◌, IfErr}
 use Rattle.std.specs.Prelude.{slice_index_or}
+use Rattle.std.proofs.lemmas.Result.{IfOk-weaker}
 use Rattle.image_base.specs.Records.{Records}
 use Rattle.tree_images.specs.Nodes.{level_of, used_of, count_of, node_keys, node_values, IsNodeForm}
 use Rattle.tree_images.specs.Trees.{pairs_below, IsNode}
 use Rattle.tree_images.proofs.TreeLemmas.{IsNode-form}
 use Rattle.store_api.specs.Calls.{Refuses}
-use Rattle.tree_make.proofs.Results.{if_ok-then}
 use Rattle.tree_node.proofs.ChildLemmas.{keys-length, IsNode-lower, get_or-node_values}
 use Rattle.tree_node.proofs.ReadLemmas.{node-even}
 use Rattle.key_order.specs.Keys.{seen_by, Ascends, AllReadable}
@@ -831,7 +831,7 @@ returns-clause-inserts g t c =
     (subst (λ ws. P made n (level_of ws) (take i (node_keys ws) ++ (part_keys ps ++ drop (suc i) (node_keys ws))) (take i (node_values ws) ++ (part_nodes ps ++ drop (suc i) (node_values ws)))) words
     (subst (λ f. P made (g.S.Frozen.records f) (level_of w) (take i (node_keys w) ++ (part_keys ps ++ drop (suc i) (node_keys w))) (take i (node_values w) ++ (part_nodes ps ++ drop (suc i) (node_values w)))) stays h)) in
     let ledger = g.S.Store.ledger in
-    if_ok-then c.put_parts.result (λ made y.
+    IfOk-weaker c.put_parts.result _ _ (λ made y.
     let y1 : MakesParts (ledger u) (ledger v) n (g.S.Frozen.records v) (suc l) keys values made =
     back (λ made o k xs ys. MakesParts (ledger u) (ledger v) o (g.S.Frozen.records v) k xs ys made) made y in
     let y2 : MakesParts mid (ledger v) n (g.S.Frozen.records v) (suc l) keys values made =

@@ -1,9 +1,9 @@
 use Rattle.std.proofs.Common.{◌≡◌, ◌≤◌, ℕ, length, sym, ap, subst, arith}
 use Rattle.std.specs.List.{zip}
+use Rattle.std.proofs.lemmas.Result.{IfOk-weaker}
 use Rattle.tree_images.specs.Nodes.{used_of, node_keys, node_values, IsNodeForm}
 use Rattle.tree_images.specs.Trees.{pairs_below, IsNode}
 use Rattle.tree_images.proofs.TreeLemmas.{IsNode-form}
-use Rattle.tree_make.proofs.Results.{if_ok-then}
 use Rattle.key_order.specs.Keys.{seen_by, AllReadable}
 use Rattle.key_order.specs.Pairs.{put}
 use Rattle.tree_insert.specs.Parts.{MakesParts, put_at}
@@ -81,7 +81,7 @@ returns-clause-inserts g c =
     let pairs : zip keys values ≡ put seen pair (zip ks vs) = pair-put m ks vs spot.slot c.args.word c.args.value even seen spot.found is.slot is.found is.lacking in
     let most : length ks ≤ length keys = pair-most m ks vs spot.slot c.args.word c.args.value even spot.found is.slot.within (λ e. (is.found e).within) in
     λ before after e.
-    if_ok-then c.put_pair.result (λ made y.
+    IfOk-weaker c.put_pair.result _ _ (λ made y.
     let y1 : MakesParts (ledger s) (ledger t) m (g.S.Frozen.records t) 0 (put_at spot.found spot.slot c.args.word (node_keys w)) (put_at spot.found spot.slot c.args.value (node_values w)) made =
     subst (λ f. MakesParts (ledger f) (ledger t) (g.S.Frozen.records f) (g.S.Frozen.records t) 0 (put_at spot.found spot.slot c.args.word (node_keys w)) (put_at spot.found spot.slot c.args.value (node_values w)) made)
     is.same y in

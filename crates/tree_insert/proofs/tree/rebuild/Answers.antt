@@ -1,11 +1,12 @@
 use Rattle.std.proofs.Common.{rules, ◌∙◌, ◌≡◌, ◌<◌, ◌+◌, ◌*◌, ◌/◌, ℕ, suc, [], length, sym, ap, subst, arith, ◌^◌}
+use Rattle.std.proofs.lemmas.Result.{IfOk-weaker}
 use Rattle.tree_images.specs.Trees.{pairs_below, tree_pairs, IsNode, root_level}
 use Rattle.key_order.specs.Keys.{seen_by, Ascends, AllReadable}
 use Rattle.key_order.specs.Pairs.{put}
 use Rattle.tree_make.specs.Changes.{Rebuilds, levels}
 use Rattle.tree_make.specs.Makes.{MakesNodes}
 use Rattle.tree_make.proofs.MakesLemmas.{makes-then, makes-more, refuses-if}
-use Rattle.tree_make.proofs.Results.{if_ok-then, not_valid, is_valid}
+use Rattle.tree_make.proofs.Results.{not_valid, is_valid}
 use Rattle.tree_make.proofs.TopLemmas.{root-size, root-level, root-low, root-one, root-pairs, root-levels}
 use Rattle.tree_insert.specs.Inserts.{Inserts}
 use Rattle.tree_insert.proofs.TreeLemmas.{root-few, top-few, top-parts, top-one, rebuilds-over, rebuilds-one}
@@ -218,7 +219,7 @@ returns-then-not-valid-clause-rebuilds g c =
     let new = g.S.Store.ledger t in
     let seen = seen_by key.read key.order (key.sought c.args.key.now) m in
     let none : c.args.root ≡ 0 = not_valid c.valid.result c.args.root c.valid.ensures.1 c.if-not-valid.true in
-    if_ok-then c.make_leaf.result (λ next made.
+    IfOk-weaker c.make_leaf.result _ _ (λ next made.
     subst (λ gone. Rebuilds old new m n c.args.root next gone (put seen (c.args.word, c.args.value) (tree_pairs m c.args.root))) (sym c.requires.replaced)
     (rebuilds-one seen m n old new c.args.root c.args.word c.args.value next none made)) c.make_leaf.ensures.leaf
 
@@ -278,7 +279,7 @@ returns-clause-rebuilds g c =
     let u = c.root_over.new.store in
     let new = g.S.Store.ledger u in
     let o = g.S.Frozen.records u in
-    if_ok-then c.root_over.result (λ next y. rebuilds-over key.order total key.read sought m n old mid root level pair tree some level_is few gone parts x new o next y) c.root_over.ensures.root
+    IfOk-weaker c.root_over.result _ _ (λ next y. rebuilds-over key.order total key.read sought m n old mid root level pair tree some level_is few gone parts x new o next y) c.root_over.ensures.root
 
 pub returns-clause-makes : goal.returns-clause-makes
 returns-clause-makes g c =

@@ -1,8 +1,8 @@
 use Rattle.std.proofs.Common.{◌≡◌, ◌≢◌, ◌<◌, ◌≤◌, ◌^◌, ℕ, List, length, sym, subst, arith}
+use Rattle.std.proofs.lemmas.Result.{IfOk-weaker}
 use Rattle.tree_images.specs.Nodes.{level_of, used_of, node_keys, node_values}
 use Rattle.tree_node.specs.Slots.{slot_pairs, IsInHand}
 use Rattle.tree_make.specs.Makes.{MakesPart, MakesRoot}
-use Rattle.tree_make.proofs.Results.{if_ok-then}
 use Rattle.tree_make.proofs.RootLemmas.{root-made, many_from}
 use Rattle.tree_make.proofs.WordLemmas.{words-used}
 use Rattle.tree_remove.proofs.tree.make_top.Goals as goal
@@ -69,7 +69,7 @@ returns-then-used_in-lt2-clause-root g c =
     let n = records c.make_root.new.store in
     let slots = c.slots_of.result in
     let e = c.slots_of.ensures in
-    if_ok-then c.make_root.result
+    IfOk-weaker c.make_root.result _ _
     (λ (next : ℕ) (made : MakesRoot old new m n slots.level slots.keys.items slots.values.items next).
     subst (λ ys. MakesRoot old new m n l ks ys next) e.values
     (subst (λ xs. MakesRoot old new m n l xs slots.values.items next) e.keys

@@ -1,11 +1,11 @@
 use Rattle.std.proofs.Common.{rules, ◌≡◌, ℕ, suc, ◌+◌, ◌/◌, ◌<◌, length, sym, ap, subst, ◌∙◌, arith, Err, ◌^◌}
 use Rattle.std.specs.Prelude.{IsSome}
+use Rattle.std.proofs.lemmas.Result.{IfOk-weaker}
 use Rattle.tree_images.specs.Trees.{pairs_below, root_level, root_least, IsNode}
 use Rattle.key_order.specs.Keys.{seen_by, Ascends, AllReadable}
 use Rattle.key_order.specs.Pairs.{lookup}
 use Rattle.tree_make.specs.Changes.{levels}
 use Rattle.tree_make.proofs.MakesLemmas.{makes-then, makes-more, refuses-if}
-use Rattle.tree_make.proofs.Results.{if_ok-then}
 use Rattle.tree_make.proofs.TopLemmas.{root-size, root-level, root-low, root-node, root-pairs, root-levels}
 use Rattle.tree_make.specs.Makes.{MakesNodes, MakesRoot}
 use Rattle.tree_images.specs.Nodes.{level_of, node_keys, node_values}
@@ -185,7 +185,7 @@ returns-clause-rebuilds g c =
     let level_is : level_of words ≡ level = words-level level (length (slot_pairs n level keys values)) keys values words are in
     let new = ledger c.make_top.new.store in
     let o = g.S.Frozen.records c.make_top.new.store in
-    if_ok-then c.make_top.result
+    IfOk-weaker c.make_top.result _ _
     (λ (next : ℕ) (made : MakesRoot mid new n o (level_of words) keys values next).
     rebuilds-from k.order k.read m root tree some level is seen old mid n gone keys values removes new o next (subst (λ j. MakesRoot mid new n o j keys values next) level_is made))
     c.make_top.ensures.root

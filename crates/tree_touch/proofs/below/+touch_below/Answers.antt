@@ -1,4 +1,5 @@
 use Rattle.std.proofs.Common.{rules, ◌≡◌, ◌≢◌, ◌<◌, ◌≤◌, ◌+◌, ◌-◌, ◌++◌, ℕ, suc, [], ◌∷◌, length, get_or, set, true, sym, ap, subst, ◌∙◌, arith}
+use Rattle.std.proofs.lemmas.Result.{IfOk-weaker}
 use Rattle.entry_ref.specs.References.{buffer_of}
 use Rattle.tree_images.specs.Nodes.{level_of, node_values}
 use Rattle.tree_images.specs.Trees.{pairs_below, IsNode}
@@ -6,7 +7,6 @@ use Rattle.tree_images.proofs.TreeLemmas.{IsNode-form}
 use Rattle.key_order.specs.Keys.{seen_by, AllReadable}
 use Rattle.tree_make.specs.Makes.{MakesNodes}
 use Rattle.tree_make.proofs.MakesLemmas.{makes-more, makes-then}
-use Rattle.tree_make.proofs.Results.{if_ok-then}
 use Rattle.tree_make.proofs.RootLemmas.{ref_some}
 use Rattle.tree_node.proofs.ChildLemmas.{IsNode-lower, keys-length}
 use Rattle.tree_node.proofs.ReadLemmas.{node-even, inner-pairs}
@@ -259,7 +259,7 @@ returns-clause-touches g t c =
     let after = c.push.new.self.items in
     let after_is : after ≡ between ++ node ∷ [] = c.push.ensures.items ∙ ap (λ r. between ++ (r ∷ [])) c.raw-2.ensures in
     let other : c.from.result ≡ next = c.from.ensures ∙ c.raw-3.ensures in
-    if_ok-then c.copy_with.result (λ ref made.
+    IfOk-weaker c.copy_with.result _ _ (λ ref made.
     let y : CopiesNode bits (ledger t) (ledger u) n o (set (n node) (18 + i) next) ref =
     subst (λ v. CopiesNode bits (ledger t) (ledger u) n o (set (n node) (18 + i) v) ref) other made in
     let copies : CopiesNode bits (ledger t) (ledger u) n o (set (m node) (18 + i) next) ref =

@@ -1,7 +1,7 @@
 use Rattle.std.proofs.Common.{◌≡◌, ◌≢◌, ◌++◌, [], ◌∷◌, ap, ◌∙◌, arith}
+use Rattle.std.proofs.lemmas.Result.{IfOk-weaker}
 use Rattle.entry_ref.specs.References.{buffer_of}
 use Rattle.tree_images.proofs.TreeLemmas.{IsNode-form}
-use Rattle.tree_make.proofs.Results.{if_ok-then}
 use Rattle.tree_touch.proofs.TouchLemmas.{leaf-stays, leaf-anew}
 use Rattle.tree_touch.proofs.below.touch_leaf.Goals as goal
 
@@ -23,6 +23,6 @@ returns-clause-touches g c =
     let t = c.copy_of.new.store in
     let before = c.args.replaced.now.items in
     let after : c.push.new.self.items ≡ before ++ c.args.node ∷ [] = c.push.ensures.items ∙ ap (λ x. before ++ (x ∷ [])) c.raw.ensures in
-    λ seen. if_ok-then c.copy_of.result (λ ref copies.
+    λ seen. IfOk-weaker c.copy_of.result _ _ (λ ref copies.
     leaf-anew g.row.OFFSET_BITS c.args.buffer seen c.args.node before c.requires.some (ledger s) (ledger t) (records s) (records t) ref c.push.new.self.items c.requires.node c.requires.sealed after copies)
     c.copy_of.ensures.copies

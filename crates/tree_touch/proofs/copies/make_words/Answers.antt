@@ -1,5 +1,5 @@
+use Rattle.std.proofs.lemmas.Result.{IfOk-weaker}
 use Rattle.tree_make.proofs.MadeLemmas.{makes-any}
-use Rattle.tree_make.proofs.Results.{if_ok-then}
 use Rattle.tree_touch.proofs.TouchLemmas.{copies-made}
 use Rattle.tree_touch.proofs.copies.make_words.Goals as goal
 
@@ -10,7 +10,7 @@ returns-clause-copies g c =
     let s = c.args.store.now in
     let t = c.make.new.self in
     let e = c.make.ensures in
-    if_ok-then c.make.result (λ ref makes. copies-made g.row.OFFSET_BITS (ledger s) (ledger t) (records s) (records t) c.args.words.now ref c.told-words makes e.may) e.makes
+    IfOk-weaker c.make.result _ _ (λ ref makes. copies-made g.row.OFFSET_BITS (ledger s) (ledger t) (records s) (records t) c.args.words.now ref c.told-words makes e.may) e.makes
 
 pub returns-clause-nodes : goal.returns-clause-nodes
 returns-clause-nodes g c =

@@ -1,10 +1,11 @@
 use Rattle.std.proofs.Common.{◌≡◌, ◌<◌, suc, [], length, true, sym, ap, subst, ◌∙◌, arith}
+use Rattle.std.proofs.lemmas.Result.{IfOk-weaker}
 use Rattle.tree_images.specs.Trees.{pairs_below, tree_pairs, root_level, IsNode}
 use Rattle.key_order.specs.Keys.{seen_by, AllReadable}
 use Rattle.tree_make.specs.Changes.{Rebuilds, levels}
 use Rattle.tree_make.specs.Makes.{MakesNodes}
 use Rattle.tree_make.proofs.MakesLemmas.{makes-none}
-use Rattle.tree_make.proofs.Results.{if_ok-then, not_valid, is_valid}
+use Rattle.tree_make.proofs.Results.{not_valid, is_valid}
 use Rattle.tree_make.proofs.TopLemmas.{root-size, root-level, root-low, root-one, root-pairs, root-levels}
 use Rattle.tree_touch.specs.Touches.{Touches}
 use Rattle.tree_touch.proofs.TreeLemmas.{root-touched, root-apart, none-rebuilt, none-apart}
@@ -108,7 +109,7 @@ returns-clause-rebuilds g c =
     let seen = seen_by key.read key.order (key.sought c.args.key.now) m in
     let t = c.touch_below.new.store in
     let gone = c.touch_below.new.replaced.items in
-    if_ok-then c.touch_below.result (λ next x0.
+    IfOk-weaker c.touch_below.result _ _ (λ next x0.
     let x1 : Touches g.row.OFFSET_BITS c.args.buffer seen (ledger s) (ledger t) m (records t) level root next c.args.replaced.now.items gone =
     subst (λ f. Touches g.row.OFFSET_BITS c.args.buffer (seen_by key.read key.order (key.sought c.args.key.now) (records f)) (ledger f) (ledger t) (records f) (records t) level root next c.args.replaced.now.items gone)
     same x0 in
@@ -134,7 +135,7 @@ returns-clause-apart g c =
     let seen = seen_by key.read key.order (key.sought c.args.key.now) m in
     let t = c.touch_below.new.store in
     let gone = c.touch_below.new.replaced.items in
-    if_ok-then c.touch_below.result (λ next x0.
+    IfOk-weaker c.touch_below.result _ _ (λ next x0.
     let x1 : Touches g.row.OFFSET_BITS c.args.buffer seen (ledger s) (ledger t) m (records t) level root next c.args.replaced.now.items gone =
     subst (λ f. Touches g.row.OFFSET_BITS c.args.buffer (seen_by key.read key.order (key.sought c.args.key.now) (records f)) (ledger f) (ledger t) (records f) (records t) level root next c.args.replaced.now.items gone)
     same x0 in

@@ -3,9 +3,9 @@ use Rattle.std.specs.Prelude.{IsSome}
 use Rattle.std.specs.BTreeMap.{is_at}
 use Rattle.std.specs.Map.{lookup}
 use Rattle.std.specs.Ordering.{nat_cmp}
+use Rattle.list_facts.proofs.Each.{AllByRecursion-each}
 use Rattle.tree_images.specs.Trees.{tree_pairs}
 use Rattle.posting_store.proofs.FormLemmas.{tree_at, tree_form}
-use Rattle.posting_store.proofs.LeafLemmas.{all_pairs}
 use Rattle.posting_store.proofs.PairLemmas.{weighed}
 use Rattle.value_lists.proofs.FindLemmas.{pair_has}
 use Rattle.value_lists.proofs.finding.tree_has.Goals as goal
@@ -16,7 +16,7 @@ find-requires g c =
     let root = c.from_raw-root.result in
     let is : c.args.list ≡ 2 * root + 1 = let e = c.from_raw-root.ensures in let w = c.word.ensures in let odd = c.requires.tree in omega arith in
     let tree_is = (tree_form m c.args.list root c.requires.plain is c.requires.list).0 in
-    (omega arith, (tree_is, all_pairs (tree_pairs m root)))
+    (omega arith, (tree_is, AllByRecursion-each (λ (p : ℕ × ℕ). Unit {0}) (λ p. tt) (tree_pairs m root)))
 
 pub returns-in-Some-clause-has : goal.returns-in-Some-clause-has
 returns-in-Some-clause-has g c =

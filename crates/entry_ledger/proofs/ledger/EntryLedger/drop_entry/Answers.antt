@@ -1,4 +1,5 @@
 use Rattle.std.proofs.Common.{◌≡◌, ◌+◌, ◌-◌, true, List, Some, slice_set, sym, ap, subst, ◌∙◌, arith}
+use Rattle.list_facts.proofs.Options.{same_Some}
 use Rattle.entry_ref.specs.References.{buffer_of, offset_of, packed}
 use Rattle.entry_ref.proofs.Bits.{packed-same}
 use Rattle.buffer_states.specs.declared.Buffer.{Buffer}
@@ -10,7 +11,7 @@ use Rattle.entry_ledger.specs.Entries.{is_used_entry}
 use Rattle.entry_ledger.specs.Calls.{Drops}
 use Rattle.entry_ledger.specs.Ledgers.{LedgerView, entries_of, state_in, dropped_buffer, AreEntries}
 use Rattle.entry_ledger.proofs.Good.{good, used-inside}
-use Rattle.entry_ledger.proofs.Drops.{used-place, dead-fits, dropped-fits, drop-kept, drop-drops, some-same}
+use Rattle.entry_ledger.proofs.Drops.{used-place, dead-fits, dropped-fits, drop-kept, drop-drops}
 use Rattle.entry_ledger.proofs.ledger.EntryLedger.drop_entry.Goals as goal
 
 pub buffer-buffer-requires : goal.buffer-buffer-requires
@@ -204,7 +205,7 @@ returns-clause-drops g c =
     let here : state_in (shelf_at xs (buffer_of bits c.args.entry)) (offset_of bits c.args.entry) ≡ Some st =
     subst (λ (u : LedgerView). state_in (shelf_at u.shelves.shelves (buffer_of bits c.args.entry)) (offset_of bits c.args.entry) ≡ Some st) (sym c.self.view_is) is in
     let same : state_at (shelf_at xs b).states (o - 1) ≡ st =
-    some-same _ _ (sym place.is ∙ ap (λ n. state_in (shelf_at xs n) o) c.buffer-buffer.ensures.value ∙ ap (state_in (shelf_at xs (buffer_of bits c.args.entry))) c.offset.ensures.value ∙ here) in
+    same_Some _ _ (sym place.is ∙ ap (λ n. state_in (shelf_at xs n) o) c.buffer-buffer.ensures.value ∙ ap (state_in (shelf_at xs (buffer_of bits c.args.entry))) c.offset.ensures.value ∙ here) in
     let base = drop-drops bits v s.held.held s.held.room s.unheld k b o h place in
     subst (λ (u : LedgerView). Drops (entries_of bits u) (entries_of bits (record v { shelves = c.drop_entry-now.new.self; buffers = c.count_drop.new.buffers })) c.args.entry st) c.self.view_is
     (subst (λ t. Drops (entries_of bits v) (entries_of bits (record v { shelves = c.drop_entry-now.new.self; buffers = c.count_drop.new.buffers })) c.args.entry t) same
