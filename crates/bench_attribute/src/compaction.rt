@@ -6,11 +6,12 @@ ghost use Rattle.attr_types.specs.declared.field.TheConstants.{MOST_FIELDS};
 
 use crate::draws::{Random, doc_at, items_of};
 use crate::live::live_words;
-use crate::memory::one_field;
+use crate::memory::{new_attribute, one_field};
 use arena_api::Work;
 use attr_images::{AttrLayout, shape_of};
 use attr_types::{FieldItems, Fields, Kind, Op, ValueType, fits};
 use attribute_kinds::{AttrError, Attribute, Compacted, committed_work};
+use entry_ref::EntryRef;
 use entry_store::EntryStore;
 use frozen_api::Frozen;
 use mem_work::MemWork;
@@ -52,6 +53,8 @@ struct Told {
     finished: u32,
     /// Steps without room.
     stopped: u32,
+    /// It ended before its last operation.
+    full: bool,
 }
 
 fn new_memory(
@@ -68,25 +71,6 @@ fn new_memory(
 {
     let work = MemWork::create(alloc, buffers, 8192, shape_of(fields))?;
     Ok(NotedWork::new(alloc, work, noting))
-}
-
-fn new_attribute(
-    alloc: Global,
-    fields: &Fields,
-    buffers: u32,
-    noting: bool,
-) -> Result<Kinds, AllocError>
-    requires some { 0 < length fields.now }
-    requires few { length fields.now ≤ MOST_FIELDS }
-    requires buffers { 1 ≤ buffers }
-    requires fit { buffers ≤ 1000 }
-    ensures fields { IfOk result (λ a. a.fields ≡ fields.now) }
-{
-    let work = new_memory(alloc, fields, buffers, noting)?;
-    match Attribute::create(alloc, work, fields, false) {
-        Ok(attribute) => Ok(attribute),
-        Err(_) => Err(AllocError),
-    }
 }
 
 /// A number below `most`: each as likely as any other; or one of 16 octaves, and a number of it.
@@ -206,9 +190,9 @@ fn take_turn<const OFFSET_BITS: u32, S: Store<OFFSET_BITS, Layout = AttrLayout>>
     step_one(alloc, attribute, fields, load, told)
 }
 
-fn apply_all<const OFFSET_BITS: u32, S: Store<OFFSET_BITS, Layout = AttrLayout>>(
+fn apply_all<const OFFSET_BITS: u32, W: Work<OFFSET_BITS, Layout = AttrLayout>>(
     alloc: Global,
-    attribute: &mut Attribute<OFFSET_BITS, S>,
+    attribute: &mut Attribute<OFFSET_BITS, EntryStore<OFFSET_BITS, W>>,
     fields: &Fields,
     load: Updates,
     told: &mut Told,
@@ -227,35 +211,79 @@ fn apply_all<const OFFSET_BITS: u32, S: Store<OFFSET_BITS, Layout = AttrLayout>>
 }
 
 /// The words that live, 0 where they were not counted.
-fn counted(alloc: Global, fields: &Fields, work: &Memory, root: u64) -> u64 {
+fn counted<const OFFSET_BITS: u32, W: Work<OFFSET_BITS>>(
+    alloc: Global,
+    fields: &Fields,
+    work: &NotedWork<OFFSET_BITS, W>,
+    root: EntryRef<OFFSET_BITS>,
+) -> u64 {
     match (work.records(), fields.as_slice().get(0)) {
-        (Some(records), Some(field)) => live_words(alloc, field, records, root).unwrap_or(0),
+        (Some(records), Some(field)) => {
+            live_words(alloc, field, records, u64::from(root.raw())).unwrap_or(0)
+        }
         _ => 0,
     }
 }
 
+/// The words of the buffers that are not free.
+fn held_by<const OFFSET_BITS: u32, W: Work<OFFSET_BITS>>(work: &W) -> u64 {
+    let taken = work.buffers().saturating_sub(work.free_buffers());
+    u64::from(taken).saturating_mul(u64::from(work.words()))
+}
+
+/// What a run came to, as a line.
+fn line_of(alloc: Global, told: Told, held: u64, live: u64) -> Result<String, AllocError> {
+    let (operations, commits) = (told.operations, told.commits);
+    let (finished, stopped, full) = (told.finished, told.stopped, told.full);
+    format!(in alloc;
+        "operations {operations} commits {commits} finished {finished} stopped {stopped} full {full} held {held} live {live}"
+    )
+}
+
+/// The memory of attributes with all that was committed, and the root of the last commit.
+fn close(attribute: Kinds, fields: &Fields) -> (Memory, EntryRef<22>)
+    requires same { attribute.fields ≡ fields.now }
+{
+    let (store, published) = attribute.into_store();
+    let root = published.root;
+    (committed_work(store, fields, root), root)
+}
+
+/// The same of attributes at their last commit.
+fn closed(
+    alloc: Global,
+    attribute: Kinds,
+    fields: &Fields,
+    told: Told,
+) -> Result<String, AllocError>
+    requires same { attribute.fields ≡ fields.now }
+{
+    let (work, root) = close(attribute, fields);
+    let live = counted(alloc, fields, &work, root);
+    line_of(alloc, told, held_by(&work), live)
+}
+
 /// A run, as a line.
-pub fn updates_told(alloc: Global, load: Updates) -> Result<String, AllocError> {
-    let fields = one_field(alloc, load.kind, load.value)?;
+fn told_of(alloc: Global, fields: &Fields, load: Updates) -> Result<String, AllocError>
+    requires some { 0 < length fields.now }
+    requires few { length fields.now ≤ MOST_FIELDS }
+{
     let buffers = load.buffers.max(1).min(1000);
-    let mut attribute = new_attribute(alloc, &fields, buffers, load.counts)?;
+    let work = new_memory(alloc, fields, buffers, load.counts)?;
+    let mut attribute = new_attribute(alloc, work, fields)?;
     let mut told = Told {
         operations: 0,
         commits: 0,
         finished: 0,
         stopped: 0,
+        full: false,
     };
-    let all = apply_all(alloc, &mut attribute, &fields, load, &mut told);
-    let full = all.is_err();
-    let (store, published) = attribute.into_store();
-    let root = published.root;
-    let work = committed_work(store, &fields, root);
-    let taken = work.buffers().saturating_sub(work.free_buffers());
-    let held = u64::from(taken).saturating_mul(u64::from(work.words()));
-    let live = counted(alloc, &fields, &work, u64::from(root.raw()));
-    let (operations, commits) = (told.operations, told.commits);
-    let (finished, stopped) = (told.finished, told.stopped);
-    format!(in alloc;
-        "operations {operations} commits {commits} finished {finished} stopped {stopped} full {full} held {held} live {live}"
-    )
+    told.full = apply_all(alloc, &mut attribute, fields, load, &mut told).is_err();
+    closed(alloc, attribute, fields, told)
+}
+
+/// A run on one field, as a line.
+pub fn updates_told(alloc: Global, load: Updates) -> Result<String, AllocError> {
+    let fields = one_field(alloc, load.kind, load.value)?;
+    told_of(alloc, &fields, load)
 }

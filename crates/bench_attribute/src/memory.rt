@@ -16,10 +16,11 @@ use mem_work::MemWork;
 use std::alloc::{AllocError, Global};
 use store_api::Store;
 
-/// A store over a memory without readers.
-pub type Entries = EntryStore<22, MemWork<22, AttrLayout>>;
+/// A memory without readers.
+pub type Memory = MemWork<22, AttrLayout>;
 
-pub type Kinds = Attribute<22, Entries>;
+/// Attributes over a memory without readers.
+pub type Kinds = Attribute<22, EntryStore<22, Memory>>;
 
 /// One field.
 pub fn one_field(alloc: Global, kind: Kind, value: ValueType) -> Result<Fields, AllocError>
@@ -29,11 +30,12 @@ pub fn one_field(alloc: Global, kind: Kind, value: ValueType) -> Result<Fields, 
     Fields::of_one(alloc, Field { name, kind, value })
 }
 
-fn new_memory(
+/// A memory of so many buffers of 65,536 words.
+pub fn new_memory(
     alloc: Global,
     fields: &Fields,
     buffers: u32,
-) -> Result<MemWork<22, AttrLayout>, AllocError>
+) -> Result<Memory, AllocError>
     requires few { length fields.now ≤ MOST_FIELDS }
     requires buffers { 1 ≤ buffers }
     requires fit { buffers ≤ 1000 }
@@ -44,15 +46,18 @@ fn new_memory(
     Ok(work)
 }
 
-/// Attributes without a document, over so many buffers of 65,536 words.
-pub fn new_attribute(alloc: Global, fields: &Fields, buffers: u32) -> Result<Kinds, AllocError>
+/// Attributes without a document, over a memory in which nothing is.
+pub fn new_attribute<const OFFSET_BITS: u32, W: Work<OFFSET_BITS, Layout = AttrLayout> + Drop>(
+    alloc: Global,
+    work: W,
+    fields: &Fields,
+) -> Result<Attribute<OFFSET_BITS, EntryStore<OFFSET_BITS, W>>, AllocError>
     requires some { 0 < length fields.now }
     requires few { length fields.now ≤ MOST_FIELDS }
-    requires buffers { 1 ≤ buffers }
-    requires fit { buffers ≤ 1000 }
+    requires shape { W.shape work ≡ shape_of (types_of fields.now) }
+    requires fresh { IsFresh (W.knows work) }
     ensures fields { IfOk result (λ a. a.fields ≡ fields.now) }
 {
-    let work = new_memory(alloc, fields, buffers)?;
     match Attribute::create(alloc, work, fields, false) {
         Ok(attribute) => Ok(attribute),
         Err(_) => Err(AllocError),
@@ -96,14 +101,19 @@ pub fn commit_one<const OFFSET_BITS: u32, S: Store<OFFSET_BITS, Layout = AttrLay
 }
 
 /// The words of all entries of a width that were made.
-fn words_of(store: &Entries, width: u32) -> u64
+fn words_of<const OFFSET_BITS: u32, W: Work<OFFSET_BITS>>(
+    store: &EntryStore<OFFSET_BITS, W>,
+    width: u32,
+) -> u64
     requires { is_width width ≡ true }
 {
     store.made(width).saturating_mul(u64::from(width))
 }
 
 /// The words of all entries that were made.
-pub fn words_made(store: &Entries) -> u64 {
+pub fn words_made<const OFFSET_BITS: u32, W: Work<OFFSET_BITS>>(
+    store: &EntryStore<OFFSET_BITS, W>,
+) -> u64 {
     words_of(store, 2)
         .saturating_add(words_of(store, 4))
         .saturating_add(words_of(store, 8))

@@ -1,12 +1,15 @@
 //! Operations on one attribute, with a commit after each batch.
-ghost use Rattle.std.specs.Prelude.{◌≡◌};
+ghost use Rattle.std.specs.Prelude.{◌≡◌, ◌<◌, ◌≤◌, length};
+ghost use Rattle.attr_types.specs.declared.field.TheConstants.{MOST_FIELDS};
 
 use crate::draws::{Random, doc_at, items_of};
-use crate::memory::{apply_one, commit_one, new_attribute, one_field, words_made};
+use crate::memory::{Kinds, apply_one, commit_one, new_attribute, new_memory, one_field, words_made};
+use arena_api::Work;
 use attr_changes::Applied;
 use attr_images::AttrLayout;
 use attr_types::{FieldItems, Fields, Kind, Op, ValueType};
 use attribute_kinds::Attribute;
+use entry_store::EntryStore;
 use std::alloc::{AllocError, Global};
 use store_api::Store;
 
@@ -56,9 +59,9 @@ fn take_turn<const OFFSET_BITS: u32, S: Store<OFFSET_BITS, Layout = AttrLayout>>
 }
 
 /// How many of the operations changed something.
-fn apply_all<const OFFSET_BITS: u32, S: Store<OFFSET_BITS, Layout = AttrLayout>>(
+fn apply_all<const OFFSET_BITS: u32, W: Work<OFFSET_BITS, Layout = AttrLayout>>(
     alloc: Global,
-    attribute: &mut Attribute<OFFSET_BITS, S>,
+    attribute: &mut Attribute<OFFSET_BITS, EntryStore<OFFSET_BITS, W>>,
     fields: &Fields,
     load: Load,
 ) -> Result<u32, AllocError>
@@ -76,12 +79,26 @@ fn apply_all<const OFFSET_BITS: u32, S: Store<OFFSET_BITS, Layout = AttrLayout>>
     Ok(changed)
 }
 
-/// A run, as a line.
-pub fn apply_told(alloc: Global, load: Load) -> Result<String, AllocError> {
-    let fields = one_field(alloc, load.kind, load.value)?;
-    let mut attribute = new_attribute(alloc, &fields, load.buffers.max(1).min(1000))?;
-    let changed = apply_all(alloc, &mut attribute, &fields, load)?;
+/// What a run came to, as a line.
+fn line_of(alloc: Global, attribute: Kinds, changed: u32) -> Result<String, AllocError> {
     let (store, _) = attribute.into_store();
     let words = words_made(&store);
     format!(in alloc; "changed {changed} words {words}")
+}
+
+/// A run, as a line.
+fn told_of(alloc: Global, fields: &Fields, load: Load) -> Result<String, AllocError>
+    requires some { 0 < length fields.now }
+    requires few { length fields.now ≤ MOST_FIELDS }
+{
+    let work = new_memory(alloc, fields, load.buffers.max(1).min(1000))?;
+    let mut attribute = new_attribute(alloc, work, fields)?;
+    let changed = apply_all(alloc, &mut attribute, fields, load)?;
+    line_of(alloc, attribute, changed)
+}
+
+/// A run on one field, as a line.
+pub fn apply_told(alloc: Global, load: Load) -> Result<String, AllocError> {
+    let fields = one_field(alloc, load.kind, load.value)?;
+    told_of(alloc, &fields, load)
 }

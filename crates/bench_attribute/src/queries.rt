@@ -1,16 +1,19 @@
 //! Queries on an array of numbers, of which each document has three: one of 3, one of 10, and one that 9 documents have.
-ghost use Rattle.std.specs.Prelude.{◌≡◌, ◌≤◌, length};
+ghost use Rattle.std.specs.Prelude.{◌≡◌, ◌<◌, ◌≤◌, length};
 ghost use Rattle.attr_images.specs.Images.{IsLawfulImage};
 ghost use Rattle.attr_images.specs.Shapes.{shape_of, types_of};
 ghost use Rattle.attr_types.specs.declared.field.TheConstants.{MOST_FIELDS};
 
 use crate::draws::doc_at;
-use crate::memory::{apply_one, commit_one, new_attribute, one_field};
+use crate::memory::{Kinds, Memory, apply_one, commit_one, new_attribute, new_memory, one_field};
+use arena_api::Work;
 use attr_images::AttrLayout;
 use attr_types::{FieldItems, Fields, Item, Items, Kind, Leaf, Op, Query, Value, ValueType};
 use attribute_kinds::{Attribute, committed_work};
 use entry_ref::EntryRef;
+use entry_store::EntryStore;
 use frozen_api::Frozen;
+use mem_work::MemWork;
 use query_eval::hits;
 use std::alloc::{AllocError, Global};
 use store_api::Store;
@@ -54,9 +57,27 @@ fn put_of(alloc: Global, number: u32) -> Result<Op, AllocError> {
     Ok(Op::Put { doc, items })
 }
 
-fn fill<const OFFSET_BITS: u32, S: Store<OFFSET_BITS, Layout = AttrLayout>>(
+/// Puts a document, and commits after each thousandth.
+fn put_one<const OFFSET_BITS: u32, S: Store<OFFSET_BITS, Layout = AttrLayout>>(
     alloc: Global,
     attribute: &mut Attribute<OFFSET_BITS, S>,
+    fields: &Fields,
+    i: u32,
+) -> Result<(), AllocError>
+    requires same { attribute.old.fields ≡ fields.now }
+    ensures same { attribute.new.fields ≡ fields.now }
+{
+    let put = put_of(alloc, i.saturating_add(1))?;
+    apply_one(alloc, attribute, fields, &put)?;
+    if i % 1000 == 999 {
+        return commit_one(attribute, fields);
+    }
+    Ok(())
+}
+
+fn fill<const OFFSET_BITS: u32, W: Work<OFFSET_BITS, Layout = AttrLayout>>(
+    alloc: Global,
+    attribute: &mut Attribute<OFFSET_BITS, EntryStore<OFFSET_BITS, W>>,
     fields: &Fields,
     documents: u32,
 ) -> Result<(), AllocError>
@@ -64,11 +85,7 @@ fn fill<const OFFSET_BITS: u32, S: Store<OFFSET_BITS, Layout = AttrLayout>>(
     ensures same { attribute.new.fields ≡ fields.now }
 {
     for i in 0..documents {
-        let put = put_of(alloc, i.saturating_add(1))?;
-        apply_one(alloc, attribute, fields, &put)?;
-        if i % 1000 == 999 {
-            commit_one(attribute, fields)?;
-        }
+        put_one(alloc, attribute, fields, i)?;
     }
     commit_one(attribute, fields)
 }
@@ -108,6 +125,27 @@ fn query_of(alloc: Global, asks: Asks, round: u32) -> Result<Query, AllocError> 
     }
 }
 
+/// The sum of the documents that a query has.
+fn sum_of<F: Frozen<22>>(
+    alloc: Global,
+    frozen: &mut F,
+    root: EntryRef<22>,
+    fields: &Fields,
+    query: &Query,
+) -> Result<u64, AllocError>
+    requires few { length fields.now ≤ MOST_FIELDS }
+    requires shape { F.shape frozen.old ≡ shape_of (types_of fields.now) }
+    requires image { IsLawfulImage (F.shape frozen.old) (F.records frozen.old) root }
+    ensures same { frozen.new ≡ frozen.old }
+{
+    let docs = hits(alloc, frozen, root, fields, query)?;
+    let mut sum: u64 = 0;
+    for doc in docs.as_slice() {
+        sum = sum.wrapping_add(u64::from(doc.number()));
+    }
+    Ok(sum)
+}
+
 /// The sum of the documents that the query of a round has.
 fn ask_one<F: Frozen<22>>(
     alloc: Global,
@@ -123,12 +161,7 @@ fn ask_one<F: Frozen<22>>(
     ensures same { frozen.new ≡ frozen.old }
 {
     let query = query_of(alloc, asks, round)?;
-    let docs = hits(alloc, frozen, root, fields, &query)?;
-    let mut sum: u64 = 0;
-    for doc in docs.as_slice() {
-        sum = sum.wrapping_add(u64::from(doc.number()));
-    }
-    Ok(sum)
+    sum_of(alloc, frozen, root, fields, &query)
 }
 
 /// The sum over all rounds.
@@ -151,19 +184,46 @@ fn ask_each<F: Frozen<22>>(
     Ok(sum)
 }
 
-/// A run, as a line.
-pub fn asked_told(alloc: Global, asks: Asks) -> Result<String, AllocError> {
-    let fields = one_field(alloc, Kind::Array, ValueType::Long)?;
-    let mut attribute = new_attribute(alloc, &fields, asks.buffers.max(1).min(1000))?;
-    fill(
-        alloc,
-        &mut attribute,
-        &fields,
-        asks.documents.min(1_000_000),
-    )?;
+/// The memory of attributes with all that was committed, and the root of the last commit.
+fn close(attribute: Kinds, fields: &Fields) -> (Memory, EntryRef<22>)
+    requires same { attribute.fields ≡ fields.now }
+    ensures shape { ⟦<MemWork<22, AttrLayout> as Frozen<22>>⟧.shape result.0 ≡ shape_of (types_of fields.now) }
+    ensures image { IsLawfulImage (⟦<MemWork<22, AttrLayout> as Frozen<22>>⟧.shape result.0)
+        (⟦<MemWork<22, AttrLayout> as Frozen<22>>⟧.records result.0) result.1 }
+{
     let (store, published) = attribute.into_store();
     let root = published.root;
-    let mut work = committed_work(store, &fields, root);
-    let sum = ask_each(alloc, &mut work, root, &fields, asks)?;
+    (committed_work(store, fields, root), root)
+}
+
+/// What the last commit of attributes is asked, as a line.
+fn line_of(
+    alloc: Global,
+    attribute: Kinds,
+    fields: &Fields,
+    asks: Asks,
+) -> Result<String, AllocError>
+    requires few { length fields.now ≤ MOST_FIELDS }
+    requires same { attribute.fields ≡ fields.now }
+{
+    let (mut work, root) = close(attribute, fields);
+    let sum = ask_each(alloc, &mut work, root, fields, asks)?;
     format!(in alloc; "sum {sum}")
+}
+
+/// A run, as a line.
+fn told_of(alloc: Global, fields: &Fields, asks: Asks) -> Result<String, AllocError>
+    requires some { 0 < length fields.now }
+    requires few { length fields.now ≤ MOST_FIELDS }
+{
+    let work = new_memory(alloc, fields, asks.buffers.max(1).min(1000))?;
+    let mut attribute = new_attribute(alloc, work, fields)?;
+    fill(alloc, &mut attribute, fields, asks.documents.min(1_000_000))?;
+    line_of(alloc, attribute, fields, asks)
+}
+
+/// A run on an array of numbers, as a line.
+pub fn asked_told(alloc: Global, asks: Asks) -> Result<String, AllocError> {
+    let fields = one_field(alloc, Kind::Array, ValueType::Long)?;
+    told_of(alloc, &fields, asks)
 }

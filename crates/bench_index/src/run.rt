@@ -1,5 +1,7 @@
 use crate::draws::draws;
+use arena_api::Work;
 use attr_types::{Doc, Text, Value, ValueType};
+use entry_store::EntryStore;
 use std::alloc::{AllocError, Global};
 use store_api::Store;
 use value_lists::ValueLists;
@@ -33,12 +35,7 @@ pub struct Counts {
 
 /// A text of 20 digits.
 fn text_at(alloc: Global, number: u64) -> Result<Text, AllocError> {
-    let digits = format!(in alloc; "{number}")?;
-    let mut text = String::new(alloc);
-    for _ in digits.len()..20 {
-        text.push_str("0")?;
-    }
-    text.push_str(&digits)?;
+    let text = format!(in alloc; "{number:020}")?;
     if text.len() > Text::MAX_LEN {
         return Text::from_str(alloc, "");
     }
@@ -103,19 +100,29 @@ fn remove_all<const OFFSET_BITS: u32, S: Store<OFFSET_BITS>>(
     Ok(removed)
 }
 
-/// The postings of a run, added and removed.
-pub fn run<const OFFSET_BITS: u32, S: Store<OFFSET_BITS>>(
-    alloc: Global,
+/// The first postings added, and the first of them removed.
+fn change_all<const OFFSET_BITS: u32, S: Store<OFFSET_BITS>>(
     lists: &mut ValueLists<OFFSET_BITS, S>,
+    values: &[Value],
+    ranks: &[u32],
+    load: Load,
+) -> Result<Counts, AllocError> {
+    let adds = (load.adds as usize).min(ranks.len());
+    let removes = (load.removes as usize).min(ranks.len());
+    let added = add_all(lists, values, &ranks[..adds], load.postings)?;
+    let removed = remove_all(lists, values, &ranks[..removes], load.postings)?;
+    Ok(Counts { added, removed })
+}
+
+/// The postings of a run, added and removed.
+pub fn run<const OFFSET_BITS: u32, W: Work<OFFSET_BITS>>(
+    alloc: Global,
+    lists: &mut ValueLists<OFFSET_BITS, EntryStore<OFFSET_BITS, W>>,
     load: Load,
 ) -> Result<Counts, AllocError> {
     let values = values_of(alloc, load.value_type, load.values)?;
     let ranks = draws(alloc, load.zipf, load.values, load.postings)?;
-    let adds = (load.adds as usize).min(ranks.len());
-    let removes = (load.removes as usize).min(ranks.len());
-    let added = add_all(lists, &values, &ranks[..adds], load.postings)?;
-    let removed = remove_all(lists, &values, &ranks[..removes], load.postings)?;
-    Ok(Counts { added, removed })
+    change_all(lists, &values, &ranks, load)
 }
 
 /// Puts documents into the list of a value.
@@ -132,21 +139,20 @@ fn fill_list<const OFFSET_BITS: u32, S: Store<OFFSET_BITS>>(
     Ok(())
 }
 
-/// The values of the lists of a run, which are put in.
-pub fn fill_lists<const OFFSET_BITS: u32, S: Store<OFFSET_BITS>>(
-    alloc: Global,
+/// Puts documents into the list of each value, and reads all lists so many times.
+fn sum_of<const OFFSET_BITS: u32, S: Store<OFFSET_BITS>>(
     lists: &mut ValueLists<OFFSET_BITS, S>,
+    values: &[Value],
     load: Reads,
-) -> Result<Vec<Value>, AllocError> {
-    let values = values_of(alloc, load.value_type, load.values)?;
-    for value in &values {
+) -> Result<u64, AllocError> {
+    for value in values {
         fill_list(lists, value, load.documents)?;
     }
-    Ok(values)
+    Ok(read_lists(lists, values, load.rounds))
 }
 
 /// The sum of the documents of all values, so many times.
-pub fn read_lists<const OFFSET_BITS: u32, S: Store<OFFSET_BITS>>(
+fn read_lists<const OFFSET_BITS: u32, S: Store<OFFSET_BITS>>(
     lists: &mut ValueLists<OFFSET_BITS, S>,
     values: &[Value],
     rounds: u32,
@@ -158,4 +164,14 @@ pub fn read_lists<const OFFSET_BITS: u32, S: Store<OFFSET_BITS>>(
         }
     }
     sum
+}
+
+/// The lists of a run are made and read.
+pub fn fill_and_read<const OFFSET_BITS: u32, W: Work<OFFSET_BITS>>(
+    alloc: Global,
+    lists: &mut ValueLists<OFFSET_BITS, EntryStore<OFFSET_BITS, W>>,
+    load: Reads,
+) -> Result<u64, AllocError> {
+    let values = values_of(alloc, load.value_type, load.values)?;
+    sum_of(lists, &values, load)
 }

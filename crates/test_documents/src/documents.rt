@@ -1,6 +1,5 @@
 use crate::maps::see;
 use std::alloc::{AllocError, Global};
-use std::process::Abort;
 use std::test::Fail;
 
 /// The documents that are set in order, each with the reference of its items, and those that are removed then.
@@ -10,19 +9,21 @@ struct Made<'a> {
     taken: &'a [u32],
 }
 
-/// Looks at a map at a document: its items are these, and the pairs from it on.
+/// Whether a map at a document has these items, and these pairs from it on.
 fn shows(
-    rt: &impl Abort,
     alloc: Global,
     made: Made<'_>,
     number: u32,
     items: Option<u32>,
     rest: &[(u64, u64)],
-) -> Result<(), AllocError> {
+) -> Result<bool, AllocError> {
     let seen = see(alloc, made.pairs, made.taken, number)?;
-    assert_eq!(rt; seen.items, items);
-    assert_eq!(rt; seen.pairs.as_slice(), rest);
-    Ok(())
+    Ok(seen.items == items && seen.pairs.as_slice() == rest)
+}
+
+/// Whether the root of a map is 0.
+fn leaves_nothing(alloc: Global, made: Made<'_>) -> Result<bool, AllocError> {
+    Ok(see(alloc, made.pairs, made.taken, 2)?.empty)
 }
 
 #[test]
@@ -32,23 +33,29 @@ fn a_map_by_document_is_sought_between_its_documents(rt: HostRuntime) -> Result<
         pairs: &[],
         taken: &[],
     };
-    shows(&rt, alloc, none, 1, None, &[])?;
     // the first and the last document that can be
     let ends = Made {
         pairs: &[(1_048_575, 7), (1, 8)],
         taken: &[],
     };
-    shows(&rt, alloc, ends, 1, Some(8), &[(1, 8), (1_048_575, 7)])?;
-    shows(&rt, alloc, ends, 1_048_575, Some(7), &[(1_048_575, 7)])?;
     // below the first, between neighbours, at one, and above the last
     let three = Made {
         pairs: &[(9, 90), (2, 20), (5, 50)],
         taken: &[],
     };
-    shows(&rt, alloc, three, 1, None, &[(2, 20), (5, 50), (9, 90)])?;
-    shows(&rt, alloc, three, 3, None, &[(5, 50), (9, 90)])?;
-    shows(&rt, alloc, three, 5, Some(50), &[(5, 50), (9, 90)])?;
-    shows(&rt, alloc, three, 10, None, &[])?;
+    let rows: [(Made<'_>, u32, Option<u32>, &[(u64, u64)]); 7] = [
+        (none, 1, None, &[]),
+        (ends, 1, Some(8), &[(1, 8), (1_048_575, 7)]),
+        (ends, 1_048_575, Some(7), &[(1_048_575, 7)]),
+        (three, 1, None, &[(2, 20), (5, 50), (9, 90)]),
+        (three, 3, None, &[(5, 50), (9, 90)]),
+        (three, 5, Some(50), &[(5, 50), (9, 90)]),
+        (three, 10, None, &[]),
+    ];
+    for (made, number, items, rest) in rows {
+        let is_right = shows(alloc, made, number, items, rest)?;
+        assert!(rt; is_right, "at {number}");
+    }
     Ok(())
 }
 
@@ -60,37 +67,54 @@ fn a_document_is_set_once_more_and_removed(rt: HostRuntime) -> Result<(), Fail> 
         pairs: &[(2, 20), (5, 0), (2, u32::MAX)],
         taken: &[],
     };
-    shows(&rt, alloc, twice, 5, Some(0), &[(5, 0)])?;
-    shows(
-        &rt,
-        alloc,
-        twice,
-        2,
-        Some(u32::MAX),
-        &[(2, 4_294_967_295), (5, 0)],
-    )?;
     let one = Made {
         pairs: &[(2, 20), (5, 0)],
         taken: &[2],
     };
-    shows(&rt, alloc, one, 2, None, &[(5, 0)])?;
     let both = Made {
         pairs: &[(2, 20), (5, 0)],
         taken: &[5, 2],
     };
-    shows(&rt, alloc, both, 2, None, &[])?;
-    assert!(rt; see(alloc, both.pairs, both.taken, 2)?.empty);
+    let rows: [(Made<'_>, u32, Option<u32>, &[(u64, u64)]); 4] = [
+        (twice, 5, Some(0), &[(5, 0)]),
+        (twice, 2, Some(u32::MAX), &[(2, 4_294_967_295), (5, 0)]),
+        (one, 2, None, &[(5, 0)]),
+        (both, 2, None, &[]),
+    ];
+    for (made, number, items, rest) in rows {
+        let is_right = shows(alloc, made, number, items, rest)?;
+        assert!(rt; is_right, "at {number}");
+    }
+    let is_empty = leaves_nothing(alloc, both)?;
+    assert!(rt; is_empty);
     Ok(())
+}
+
+/// The first 40 multiples of 3, each with its number: they stand in several leaves.
+fn multiples(alloc: Global) -> Result<Vec<(u32, u32)>, AllocError> {
+    let mut pairs = Vec::new(alloc);
+    for i in 1..41u32 {
+        pairs.push((3 * i, i))?;
+    }
+    Ok(pairs)
+}
+
+/// Whether so many of these documents come from one on, and the first of them.
+fn walks(
+    alloc: Global,
+    pairs: &[(u32, u32)],
+    number: u32,
+    count: usize,
+    first: Option<(u64, u64)>,
+) -> Result<bool, AllocError> {
+    let seen = see(alloc, pairs, &[], number)?;
+    Ok(seen.pairs.len() == count && seen.pairs.first().copied() == first)
 }
 
 #[test]
 fn many_documents_are_walked_from_each(rt: HostRuntime) -> Result<(), Fail> {
     let alloc = rt.alloc();
-    // 40 documents, the multiples of 3, stand in several leaves
-    let mut pairs = Vec::new(alloc);
-    for i in 1..41u32 {
-        pairs.push((3 * i, i))?;
-    }
+    let pairs = multiples(alloc)?;
     // a document, how many there are from it on, and the first of them
     let rows: [(u32, usize, Option<(u64, u64)>); 6] = [
         (1, 40, Some((3, 1))),
@@ -101,11 +125,8 @@ fn many_documents_are_walked_from_each(rt: HostRuntime) -> Result<(), Fail> {
         (121, 0, None),
     ];
     for (number, count, first) in rows {
-        let seen = see(alloc, &pairs, &[], number)?;
-        assert_eq!(rt;
-            (seen.pairs.len(), seen.pairs.first().copied()),
-            (count, first)
-        );
+        let is_right = walks(alloc, &pairs, number, count, first)?;
+        assert!(rt; is_right, "from {number} on");
     }
     Ok(())
 }

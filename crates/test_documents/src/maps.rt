@@ -5,9 +5,11 @@ ghost use Rattle.doc_vector.specs.Documents.{IsDocumentMap};
 ghost use Rattle.test_documents.specs.Holding.{HoldsMap};
 
 use crate::stores::new_store;
+use arena_api::Work;
 use attr_types::Doc;
 use doc_vector::{get, remove, set, walk_from};
 use entry_ref::EntryRef;
+use entry_store::EntryStore;
 use frozen_api::Frozen;
 use std::alloc::{AllocError, Global};
 use store_api::{Store, StoreError};
@@ -118,15 +120,15 @@ fn look<const OFFSET_BITS: u32, S: Store<OFFSET_BITS>>(
     })
 }
 
-/// Fills a map in a new store, and looks at it at a document.
-fn fill_and_look<const OFFSET_BITS: u32, S: Store<OFFSET_BITS>>(
+/// Fills a map in a store that is new, and looks at it at a document.
+fn fill_and_look<const OFFSET_BITS: u32, W: Work<OFFSET_BITS>>(
     alloc: Global,
-    store: &mut S,
+    store: &mut EntryStore<OFFSET_BITS, W>,
     pairs: &[(u32, u32)],
     taken: &[u32],
     number: u32,
 ) -> Result<Seen, AllocError>
-    requires { IsNew (S.ledger store.old) }
+    requires { IsNew (⟦<EntryStore<OFFSET_BITS, W> as Store<OFFSET_BITS>>⟧.ledger store.old) }
 {
     match fill(store, pairs, taken) {
         Ok(root) => look(alloc, store, root, number),

@@ -1,12 +1,18 @@
-use crate::noted_store;
 use crate::plain::Plain;
-use crate::run::{Load, run};
+use crate::run::{Load, differs_on, root_of};
+use crate::{new_memory, noted_lists};
 use attr_types::{Value, ValueType};
 use check_trees::{CheckFault, Keys, check_tree};
+use entry_store::EntryStore;
 use image_base::words_at;
+use mem_work::{MemWork, OneRecord};
+use noted_work::NotedWork;
 use std::alloc::{AllocError, Global};
 use std::collections::BTreeMap;
 use value_lists::ValueLists;
+
+/// An index over a memory beside which the words of each record are kept.
+type Lists = ValueLists<22, EntryStore<22, NotedWork<22, MemWork<22, OneRecord>>>>;
 
 /// The pairs of a tree, where it is one to the slow checker.
 fn pairs_of(
@@ -178,7 +184,40 @@ fn is_dictionary(
     }
 }
 
+/// Whether the records of an index are those of the plain map.
+fn are_records(
+    alloc: Global,
+    value_type: ValueType,
+    lists: Lists,
+    values: &[Value],
+    plain: &Plain,
+) -> Result<bool, AllocError> {
+    let root = root_of(&lists);
+    let work = lists.into_store().into_work();
+    match work.records() {
+        Some(records) => is_dictionary(alloc, value_type, records, root, values, plain),
+        None => Err(AllocError),
+    }
+}
+
 /// Whether the records of an index after the changes of a run are those of the plain map.
+fn is_sound_beside(
+    alloc: Global,
+    value_type: ValueType,
+    values: &[Value],
+    load: Load,
+    buffers: u32,
+    plain: &mut Plain,
+) -> Result<bool, AllocError> {
+    let work = new_memory(alloc, buffers.max(1).min(1000))?;
+    let mut lists = noted_lists(alloc, work, value_type)?;
+    if differs_on(alloc, &mut lists, values, load, plain)? {
+        return Ok(false);
+    }
+    are_records(alloc, value_type, lists, values, plain)
+}
+
+/// The same beside a plain map of its own.
 pub fn is_sound_after(
     alloc: Global,
     value_type: ValueType,
@@ -186,17 +225,6 @@ pub fn is_sound_after(
     load: Load,
     buffers: u32,
 ) -> Result<bool, AllocError> {
-    let store = noted_store(alloc, buffers.max(1).min(1000))?;
-    let mut lists = ValueLists::new(store, value_type);
     let mut plain = Plain::new(alloc, values.len())?;
-    let told = run(alloc, &mut lists, values, load, &mut plain)?;
-    if told.differs.is_some() {
-        return Ok(false);
-    }
-    let root = u64::from(lists.root().raw());
-    let work = lists.into_store().into_work();
-    match work.records() {
-        Some(records) => is_dictionary(alloc, value_type, records, root, values, &plain),
-        None => Err(AllocError),
-    }
+    is_sound_beside(alloc, value_type, values, load, buffers, &mut plain)
 }

@@ -2,7 +2,7 @@
 #![tactic(auto)]
 
 ghost use Rattle.std.specs.Prelude.{◌≤◌, IfOk};
-ghost use Rattle.store_api.specs.Ledgers.{IsNew};
+ghost use Rattle.arena_api.specs.Calls.{IsFresh};
 
 mod checked;
 mod plain;
@@ -11,42 +11,49 @@ mod rows;
 mod run;
 mod values;
 
+use arena_api::Work;
+use attr_types::ValueType;
 use entry_store::EntryStore;
 use mem_work::{MemWork, OneRecord};
 use noted_work::NotedWork;
 use std::alloc::{AllocError, Global};
 use std::io;
-use store_api::Store;
+use value_lists::ValueLists;
 
-/// A store over buffers of 8,192 words, of which nothing is made yet.
-fn new_store(
-    alloc: Global,
-    buffers: u32,
-) -> Result<EntryStore<22, MemWork<22, OneRecord>>, AllocError>
+/// A memory of buffers of 8,192 words, of which nothing is handed out yet.
+fn new_memory(alloc: Global, buffers: u32) -> Result<MemWork<22, OneRecord>, AllocError>
     requires some { 1 ≤ buffers }
     requires few { buffers ≤ 1023 }
-    ensures new { IfOk result (λ s. IsNew (⟦<EntryStore<22, MemWork<22, OneRecord>> as Store<22>>⟧.ledger s)) }
+    ensures fresh { IfOk result (λ w. IsFresh (⟦<MemWork<22, OneRecord> as Work<22>>⟧.knows w)) }
 {
-    let work = MemWork::<22, OneRecord>::create(alloc, buffers, 8192, 1)?;
+    let work = MemWork::create(alloc, buffers, 8192, 1)?;
+    Ok(work)
+}
+
+/// No value, in a store over a work of which nothing is handed out yet.
+fn new_lists<const OFFSET_BITS: u32, W: Work<OFFSET_BITS> + Drop>(
+    alloc: Global,
+    work: W,
+    value_type: ValueType,
+) -> Result<ValueLists<OFFSET_BITS, EntryStore<OFFSET_BITS, W>>, AllocError>
+    requires fresh { IsFresh (W.knows work) }
+{
     match EntryStore::create(alloc, work) {
-        Ok(store) => Ok(store),
+        Ok(store) => Ok(ValueLists::new(store, value_type)),
         Err(_) => Err(AllocError),
     }
 }
 
-/// The same over a memory beside which the words of each record are kept.
-fn noted_store(
+/// The same over a work beside which the words of each record are kept.
+fn noted_lists<const OFFSET_BITS: u32, W: Work<OFFSET_BITS> + Drop>(
     alloc: Global,
-    buffers: u32,
-) -> Result<EntryStore<22, NotedWork<22, MemWork<22, OneRecord>>>, AllocError>
-    requires some { 1 ≤ buffers }
-    requires few { buffers ≤ 1023 }
-    ensures new { IfOk result (λ s. IsNew (⟦<EntryStore<22, NotedWork<22, MemWork<22, OneRecord>>> as Store<22>>⟧.ledger s)) }
+    work: W,
+    value_type: ValueType,
+) -> Result<ValueLists<OFFSET_BITS, EntryStore<OFFSET_BITS, NotedWork<OFFSET_BITS, W>>>, AllocError>
+    requires fresh { IsFresh (W.knows work) }
 {
-    let memory = MemWork::<22, OneRecord>::create(alloc, buffers, 8192, 1)?;
-    let work = NotedWork::new(alloc, memory, true);
-    match EntryStore::create(alloc, work) {
-        Ok(store) => Ok(store),
+    match EntryStore::create(alloc, NotedWork::new(alloc, work, true)) {
+        Ok(store) => Ok(ValueLists::new(store, value_type)),
         Err(_) => Err(AllocError),
     }
 }

@@ -3,14 +3,14 @@
 ghost use Rattle.std.specs.Prelude.{◌≤◌};
 
 use crate::checked::is_sound_after;
-use crate::new_store;
 use crate::plain::Plain;
-use crate::run::{Load, Told, run};
+use crate::run::{Load, Told, run_on};
 use crate::values::values_of;
+use crate::{new_lists, new_memory};
 use attr_types::{Value, ValueType};
 use std::alloc::{AllocError, Global};
 use std::io;
-use value_lists::ValueLists;
+use test_tally::Tally;
 
 fn number_at(row: &str, place: usize) -> u32 {
     match row.split(' ').skip(place).next() {
@@ -72,7 +72,24 @@ fn first_unsound(
     Ok(None)
 }
 
-/// A run over a store of its own.
+/// A run over a memory of its own, beside a plain map.
+fn run_beside(
+    alloc: Global,
+    value_type: ValueType,
+    values: &[Value],
+    load: Load,
+    buffers: u32,
+    plain: &mut Plain,
+) -> Result<Told, AllocError>
+    requires some { 1 ≤ buffers }
+    requires few { buffers ≤ 1023 }
+{
+    let work = new_memory(alloc, buffers)?;
+    let mut lists = new_lists(alloc, work, value_type)?;
+    run_on(alloc, &mut lists, values, load, plain)
+}
+
+/// The same beside a plain map of its own.
 fn run_told(
     alloc: Global,
     value_type: ValueType,
@@ -83,10 +100,8 @@ fn run_told(
     requires some { 1 ≤ buffers }
     requires few { buffers ≤ 1023 }
 {
-    let store = new_store(alloc, buffers)?;
-    let mut lists = ValueLists::new(store, value_type);
     let mut plain = Plain::new(alloc, values.len())?;
-    run(alloc, &mut lists, values, load, &mut plain)
+    run_beside(alloc, value_type, values, load, buffers, &mut plain)
 }
 
 fn told(alloc: Global, row: &str, value_type: ValueType) -> Result<String, AllocError> {
@@ -103,13 +118,12 @@ fn told(alloc: Global, row: &str, value_type: ValueType) -> Result<String, Alloc
     }
 }
 
-/// The last row, what it came to, and how many were compared.
+/// The last row, what it came to, and the rows so far.
 #[derive(Drop)]
 struct Rows {
     case: String,
     found: String,
-    compared: u32,
-    right: u32,
+    tally: Tally,
 }
 
 impl Rows {
@@ -117,35 +131,24 @@ impl Rows {
         Rows {
             case: String::new(alloc),
             found: String::new(alloc),
-            compared: 0,
-            right: 0,
+            tally: Tally::default(),
         }
     }
 
-    fn begin(&mut self, alloc: Global, row: &str, value_type: ValueType) -> Result<(), AllocError> {
+    fn begin(&mut self, alloc: Global, row: &str, value_type: ValueType) -> io::Result<()> {
         self.found = told(alloc, row, value_type)?;
         self.case = String::from_str(alloc, row)?;
         Ok(())
     }
 
-    fn judge(&mut self, rt: &HostRuntime, wanted: &str) -> io::Result<()> {
-        self.compared = self.compared.saturating_add(1);
-        if self.found.as_str() == wanted {
-            self.right = self.right.saturating_add(1);
-            return Ok(());
-        }
-        println!(rt; "{}: {} in place of {wanted}", self.case, self.found)
-    }
-
     fn take(&mut self, rt: &HostRuntime, line: &str) -> io::Result<()> {
         let (kind, row) = line.split_once(' ').unwrap_or((line, ""));
         match kind {
-            "said" => return self.judge(rt, row),
-            "long" => self.begin(rt.alloc(), row, ValueType::Long)?,
-            "text" => self.begin(rt.alloc(), row, ValueType::Text)?,
-            _ => {}
+            "said" => self.tally.note(rt, &self.case, &self.found, row),
+            "long" => self.begin(rt.alloc(), row, ValueType::Long),
+            "text" => self.begin(rt.alloc(), row, ValueType::Text),
+            _ => Ok(()),
         }
-        Ok(())
     }
 }
 
@@ -154,6 +157,5 @@ pub fn compare(rt: &HostRuntime) -> io::Result<()> {
     for line in rt.lines(rt.alloc()) {
         rows.take(rt, line?.as_str())?;
     }
-    let (compared, right) = (rows.compared, rows.right);
-    println!(rt; "rows: {compared} compared, {right} as wanted")
+    rows.tally.print(rt, "rows")
 }

@@ -1,6 +1,9 @@
 use crate::plain::{Plain, push_documents};
 use crate::random::Random;
+use arena_api::Work;
 use attr_types::{Doc, Value};
+use entry_store::EntryStore;
+use noted_work::NotedWork;
 use std::alloc::{AllocError, Global};
 use store_api::{Store, StoreError};
 use value_lists::{ValueList, ValueLists};
@@ -177,7 +180,7 @@ fn change<const OFFSET_BITS: u32, S: Store<OFFSET_BITS>>(
 }
 
 /// The changes of a run on an index and on a plain map, one after another, until something differs.
-pub fn run<const OFFSET_BITS: u32, S: Store<OFFSET_BITS>>(
+fn run<const OFFSET_BITS: u32, S: Store<OFFSET_BITS>>(
     alloc: Global,
     lists: &mut ValueLists<OFFSET_BITS, S>,
     values: &[Value],
@@ -218,4 +221,33 @@ pub fn run<const OFFSET_BITS: u32, S: Store<OFFSET_BITS>>(
     told.ups = plain.ups;
     told.downs = plain.downs;
     Ok(told)
+}
+
+/// The same in a store over a work.
+pub fn run_on<const OFFSET_BITS: u32, W: Work<OFFSET_BITS>>(
+    alloc: Global,
+    lists: &mut ValueLists<OFFSET_BITS, EntryStore<OFFSET_BITS, W>>,
+    values: &[Value],
+    load: Load,
+    plain: &mut Plain,
+) -> Result<Told, AllocError> {
+    run(alloc, lists, values, load, plain)
+}
+
+/// Whether something differs in a run over a work with notes.
+pub fn differs_on<const OFFSET_BITS: u32, W: Work<OFFSET_BITS>>(
+    alloc: Global,
+    lists: &mut ValueLists<OFFSET_BITS, EntryStore<OFFSET_BITS, NotedWork<OFFSET_BITS, W>>>,
+    values: &[Value],
+    load: Load,
+    plain: &mut Plain,
+) -> Result<bool, AllocError> {
+    Ok(run(alloc, lists, values, load, plain)?.differs.is_some())
+}
+
+/// The root of an index over a work with notes.
+pub fn root_of<const OFFSET_BITS: u32, W: Work<OFFSET_BITS>>(
+    lists: &ValueLists<OFFSET_BITS, EntryStore<OFFSET_BITS, NotedWork<OFFSET_BITS, W>>>,
+) -> u64 {
+    u64::from(lists.root().raw())
 }

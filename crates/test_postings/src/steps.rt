@@ -1,5 +1,6 @@
 ghost use Rattle.std.specs.Prelude.{◌≡◌, ◌≤◌, true, IfOk};
 ghost use Rattle.posting_store.specs.Lists.{IsList, IsPlain};
+ghost use Rattle.store_api.specs.Ledgers.{IsNew};
 ghost use Rattle.test_postings.specs.Held.{HoldsList};
 
 use attr_types::Doc;
@@ -26,7 +27,7 @@ fn put<const OFFSET_BITS: u32, S: Store<OFFSET_BITS>>(
 }
 
 /// Puts a document in and takes it out.
-pub fn put_and_take<const OFFSET_BITS: u32, S: Store<OFFSET_BITS>>(
+fn put_and_take<const OFFSET_BITS: u32, S: Store<OFFSET_BITS>>(
     store: &mut S,
     list: Posting,
     doc: Doc,
@@ -45,7 +46,7 @@ pub fn put_and_take<const OFFSET_BITS: u32, S: Store<OFFSET_BITS>>(
 }
 
 /// The list of the documents from one to another, each with this weight.
-pub fn listed<const OFFSET_BITS: u32, S: Store<OFFSET_BITS>>(
+fn listed<const OFFSET_BITS: u32, S: Store<OFFSET_BITS>>(
     store: &mut S,
     first: u32,
     last: u32,
@@ -65,7 +66,7 @@ pub fn listed<const OFFSET_BITS: u32, S: Store<OFFSET_BITS>>(
 }
 
 /// Whether a list is a tree, and the first two words of its record or its root.
-pub fn words_of<const OFFSET_BITS: u32, S: Store<OFFSET_BITS>>(
+fn words_of<const OFFSET_BITS: u32, S: Store<OFFSET_BITS>>(
     store: &mut S,
     list: Posting,
 ) -> (bool, u64, u64)
@@ -81,7 +82,7 @@ pub fn words_of<const OFFSET_BITS: u32, S: Store<OFFSET_BITS>>(
 }
 
 /// The documents of a list with their weights, as its cursor tells them.
-pub fn walked<const OFFSET_BITS: u32, F: Frozen<OFFSET_BITS>>(
+fn walked<const OFFSET_BITS: u32, F: Frozen<OFFSET_BITS>>(
     alloc: Global,
     frozen: &mut F,
     list: Posting,
@@ -98,4 +99,43 @@ pub fn walked<const OFFSET_BITS: u32, F: Frozen<OFFSET_BITS>>(
         cursor.next(frozen);
     }
     Ok(postings)
+}
+
+/// What the list of the documents from one to another comes to in a store that is new, as `words_of` tells it; or where `again` says so, the
+/// list after the document behind the last was put in and taken out.
+pub fn form_of<const OFFSET_BITS: u32, S: Store<OFFSET_BITS>>(
+    store: &mut S,
+    first: u32,
+    last: u32,
+    weight: i32,
+    again: bool,
+) -> Result<(bool, u64, u64), AllocError>
+    requires new { IsNew (S.ledger store.old) }
+    requires first { 1 ≤ first }
+    requires last { last ≤ 1000 }
+{
+    store.begin();
+    let list = listed(store, first, last, weight)?;
+    if !again {
+        return Ok(words_of(store, list));
+    }
+    let list = put_and_take(store, list, Doc::new(last + 1), weight)?;
+    Ok(words_of(store, list))
+}
+
+/// The documents from one to another with their weights, as a cursor tells them of the list in a store that is new.
+pub fn walk_of<const OFFSET_BITS: u32, S: Store<OFFSET_BITS>>(
+    alloc: Global,
+    store: &mut S,
+    first: u32,
+    last: u32,
+    weight: i32,
+) -> Result<Vec<(u32, i32)>, AllocError>
+    requires new { IsNew (S.ledger store.old) }
+    requires first { 1 ≤ first }
+    requires last { last ≤ 1000 }
+{
+    store.begin();
+    let list = listed(store, first, last, weight)?;
+    walked(alloc, store, list)
 }

@@ -1,25 +1,29 @@
 ghost use Rattle.std.specs.Prelude.{◌≡◌, ◌≤◌, true, length};
 ghost use Rattle.attr_types.specs.Value.{type_of};
+ghost use Rattle.store_api.specs.Ledgers.{IsNew};
 
 use crate::stores::new_store;
+use arena_api::Work;
 use array_store::class_of;
 use attr_types::{Text, Value, ValueType};
+use entry_store::EntryStore;
 use std::alloc::{AllocError, Global};
 use std::cmp::Ordering;
 use std::test::Fail;
 use store_api::Store;
 use unique_store::{add, compare, get};
 
-/// The first two words of the record of a value that is added, and whether it reads back.
+/// The first two words of the record of a value that is added to a store that is new, and whether it reads back.
 fn told_of<const OFFSET_BITS: u32, S: Store<OFFSET_BITS>>(
     alloc: Global,
     store: &mut S,
     value: &Value,
     value_type: ValueType,
 ) -> Result<(u64, u64, bool), AllocError>
-    requires unit { (S.ledger store.old).unit ≡ true }
+    requires new { IsNew (S.ledger store.old) }
     requires typed { type_of value.now ≡ value_type }
 {
+    store.begin();
     let stored = match add(store, value) {
         Ok(stored) => stored,
         Err(_) => return Err(AllocError),
@@ -30,7 +34,22 @@ fn told_of<const OFFSET_BITS: u32, S: Store<OFFSET_BITS>>(
     Ok((first, second, back == *value))
 }
 
-/// The same in a new store, and how many records were made of the class of so many words.
+/// The same, and how many records were made of the class of so many words.
+fn kept_in<const OFFSET_BITS: u32, W: Work<OFFSET_BITS>>(
+    alloc: Global,
+    store: &mut EntryStore<OFFSET_BITS, W>,
+    value: &Value,
+    value_type: ValueType,
+    words: u32,
+) -> Result<(u64, u64, bool, u64), AllocError>
+    requires new { IsNew (⟦<EntryStore<OFFSET_BITS, W> as Store<OFFSET_BITS>>⟧.ledger store.old) }
+    requires typed { type_of value.now ≡ value_type }
+{
+    let (first, second, same) = told_of(alloc, store, value, value_type)?;
+    Ok((first, second, same, store.made(class_of(words.min(1024)))))
+}
+
+/// The same in a store of its own.
 fn kept(
     alloc: Global,
     value: &Value,
@@ -38,16 +57,15 @@ fn kept(
     words: u32,
 ) -> Result<(u64, u64, bool, u64), AllocError>
     requires typed { type_of value.now ≡ value_type }
-    requires few { words ≤ 1024 }
 {
     let mut store = new_store(alloc)?;
-    store.begin();
-    let (first, second, same) = told_of::<22, _>(alloc, &mut store, value, value_type)?;
-    Ok((first, second, same, store.made(class_of(words))))
+    kept_in::<22, _>(alloc, &mut store, value, value_type, words)
 }
 
-fn long_kept(alloc: Global, number: i64) -> Result<(u64, u64, bool, u64), AllocError> {
-    kept(alloc, &Value::Long(number), ValueType::Long, 2)
+/// Whether a long is kept as eight and these bits, in one record.
+fn is_long_kept(alloc: Global, number: i64, bits: u64) -> Result<bool, AllocError> {
+    let kept = kept(alloc, &Value::Long(number), ValueType::Long, 2)?;
+    Ok(kept == (8, bits, true, 1))
 }
 
 #[test]
@@ -62,40 +80,42 @@ fn a_long_is_eight_and_its_bits(rt: HostRuntime) -> Result<(), Fail> {
         (i64::MIN, 0x8000_0000_0000_0000),
     ];
     for (number, bits) in rows {
-        assert_eq!(rt; long_kept(alloc, number)?, (8, bits, true, 1));
+        let is_right = is_long_kept(alloc, number, bits)?;
+        assert!(rt; is_right, "{number}");
     }
     Ok(())
 }
 
-fn text_kept(alloc: Global, text: &str) -> Result<(u64, u64, bool, u64), AllocError>
-    requires { length text.now ≤ 1024 }
-{
-    let words = 1 + (text.len() + 7) / 8;
-    let value = Value::Text(Text::from_str(alloc, text)?);
-    kept(alloc, &value, ValueType::Text, words as u32)
+/// What a text comes to: its two words, whether it reads back, and how many records of its class there are.
+fn text_kept(alloc: Global, text: Text) -> Result<(u64, u64, bool, u64), AllocError> {
+    let words = 1 + (text.as_str().len().min(1024) + 7) / 8;
+    kept(alloc, &Value::Text(text), ValueType::Text, words as u32)
+}
+
+/// Whether a text is kept as so many bytes, of which the first eight are these, in one record.
+fn is_text_kept(alloc: Global, text: &str, bytes: u64, first: u64) -> Result<bool, AllocError> {
+    if text.len() > Text::MAX_LEN {
+        return Ok(false);
+    }
+    let kept = text_kept(alloc, Text::from_str(alloc, text)?)?;
+    Ok(kept == (bytes, first, true, 1))
 }
 
 #[test]
 fn a_text_is_its_length_and_its_bytes(rt: HostRuntime) -> Result<(), Fail> {
     let alloc = rt.alloc();
-    assert_eq!(rt; text_kept(alloc, "")?, (0, 0, true, 1));
-    assert_eq!(rt;
-        text_kept(alloc, "te")?,
-        (2, 0x7465_0000_0000_0000, true, 1)
-    );
-    assert_eq!(rt; text_kept(alloc, "é")?, (2, 0xC3A9_0000_0000_0000, true, 1));
-    assert_eq!(rt;
-        text_kept(alloc, "abcdefg")?,
-        (7, 0x6162_6364_6566_6700, true, 1)
-    );
-    assert_eq!(rt;
-        text_kept(alloc, "abcdefgh")?,
-        (8, 0x6162_6364_6566_6768, true, 1)
-    );
-    assert_eq!(rt;
-        text_kept(alloc, "abcdefghi")?,
-        (9, 0x6162_6364_6566_6768, true, 1)
-    );
+    let rows: [(&str, u64, u64); 6] = [
+        ("", 0, 0),
+        ("te", 2, 0x7465_0000_0000_0000),
+        ("é", 2, 0xC3A9_0000_0000_0000),
+        ("abcdefg", 7, 0x6162_6364_6566_6700),
+        ("abcdefgh", 8, 0x6162_6364_6566_6768),
+        ("abcdefghi", 9, 0x6162_6364_6566_6768),
+    ];
+    for (text, bytes, first) in rows {
+        let is_right = is_text_kept(alloc, text, bytes, first)?;
+        assert!(rt; is_right, "{text}");
+    }
     Ok(())
 }
 
@@ -114,11 +134,10 @@ fn text_of(alloc: Global, bytes: usize, last: char) -> Result<Text, AllocError> 
     Ok(Text::new(text))
 }
 
-fn many_kept(alloc: Global, bytes: usize) -> Result<(u64, bool, u64), AllocError> {
-    let value = Value::Text(text_of(alloc, bytes, 'b')?);
-    let words = (1 + (bytes.min(1024) + 7) / 8) as u32;
-    let (first, _, same, made) = kept(alloc, &value, ValueType::Text, words)?;
-    Ok((first, same, made))
+/// Whether a text of so many bytes is kept in one record, and reads back.
+fn are_bytes_kept(alloc: Global, bytes: usize) -> Result<bool, AllocError> {
+    let (first, _, same, made) = text_kept(alloc, text_of(alloc, bytes, 'b')?)?;
+    Ok(first == bytes as u64 && same && made == 1)
 }
 
 #[test]
@@ -129,40 +148,49 @@ fn a_text_reads_back_at_each_edge_of_a_class(rt: HostRuntime) -> Result<(), Fail
         1016, 1017, 1023, 1024,
     ];
     for bytes in rows {
-        assert_eq!(rt; many_kept(alloc, bytes)?, (bytes as u64, true, 1));
+        let is_right = are_bytes_kept(alloc, bytes)?;
+        assert!(rt; is_right, "{bytes} bytes");
     }
     Ok(())
 }
 
-/// The order of a value that is added and another of its type.
-fn order_in<const OFFSET_BITS: u32, S: Store<OFFSET_BITS>>(
+/// Whether this is the order of a value that is added to a store that is new and another of its type.
+fn is_order_in<const OFFSET_BITS: u32, S: Store<OFFSET_BITS>>(
     store: &mut S,
     stored: &Value,
     given: &Value,
-) -> Result<Ordering, AllocError>
-    requires unit { (S.ledger store.old).unit ≡ true }
+    wanted: Ordering,
+) -> Result<bool, AllocError>
+    requires new { IsNew (S.ledger store.old) }
     requires typed { type_of stored.now ≡ type_of given.now }
 {
+    store.begin();
     match add(store, stored) {
-        Ok(stored) => Ok(compare(store, stored, given)),
+        Ok(stored) => Ok(compare(store, stored, given) == wanted),
         Err(_) => Err(AllocError),
     }
 }
 
-fn order(alloc: Global, stored: &Value, given: &Value) -> Result<Ordering, AllocError>
+/// The same in a store of its own.
+fn is_order(
+    alloc: Global,
+    stored: &Value,
+    given: &Value,
+    wanted: Ordering,
+) -> Result<bool, AllocError>
     requires typed { type_of stored.now ≡ type_of given.now }
 {
     let mut store = new_store(alloc)?;
-    store.begin();
-    order_in::<22, _>(&mut store, stored, given)
+    is_order_in::<22, _>(&mut store, stored, given, wanted)
 }
 
-fn long_order(alloc: Global, stored: i64, given: i64) -> Result<Ordering, AllocError> {
-    order(alloc, &Value::Long(stored), &Value::Long(given))
-}
-
-fn text_order(alloc: Global, stored: Text, given: Text) -> Result<Ordering, AllocError> {
-    order(alloc, &Value::Text(stored), &Value::Text(given))
+fn is_long_order(
+    alloc: Global,
+    stored: i64,
+    given: i64,
+    wanted: Ordering,
+) -> Result<bool, AllocError> {
+    is_order(alloc, &Value::Long(stored), &Value::Long(given), wanted)
 }
 
 #[test]
@@ -177,35 +205,56 @@ fn longs_are_in_order_by_size(rt: HostRuntime) -> Result<(), Fail> {
         (256, 255, Ordering::Greater),
     ];
     for (stored, given, wanted) in rows {
-        assert_eq!(rt; long_order(alloc, stored, given)?, wanted);
+        let is_right = is_long_order(alloc, stored, given, wanted)?;
+        assert!(rt; is_right, "{stored} and {given}");
     }
     Ok(())
+}
+
+fn is_text_order(
+    alloc: Global,
+    stored: Text,
+    given: Text,
+    wanted: Ordering,
+) -> Result<bool, AllocError> {
+    is_order(alloc, &Value::Text(stored), &Value::Text(given), wanted)
+}
+
+/// Whether this is the order of two texts, each told by its bytes and its last one.
+fn is_order_of(
+    alloc: Global,
+    stored: (usize, char),
+    given: (usize, char),
+    wanted: Ordering,
+) -> Result<bool, AllocError> {
+    let stored = text_of(alloc, stored.0, stored.1)?;
+    let given = text_of(alloc, given.0, given.1)?;
+    is_text_order(alloc, stored, given, wanted)
 }
 
 #[test]
 fn texts_are_in_order_by_their_bytes(rt: HostRuntime) -> Result<(), Fail> {
     let alloc = rt.alloc();
-    // the bytes of each text, its last one, and the order
+    // the bytes of each text and its last one, and the order
     let rows = [
-        (0, 'b', 0, 'b', Ordering::Equal),
-        (0, 'b', 1, 'b', Ordering::Less),
-        (8, 'b', 8, 'b', Ordering::Equal),
-        (8, 'b', 8, 'c', Ordering::Less),
-        (9, 'c', 9, 'b', Ordering::Greater),
-        (1024, 'b', 1024, 'c', Ordering::Less),
-        (1024, 'c', 1024, 'b', Ordering::Greater),
+        ((0, 'b'), (0, 'b'), Ordering::Equal),
+        ((0, 'b'), (1, 'b'), Ordering::Less),
+        ((8, 'b'), (8, 'b'), Ordering::Equal),
+        ((8, 'b'), (8, 'c'), Ordering::Less),
+        ((9, 'c'), (9, 'b'), Ordering::Greater),
+        ((1024, 'b'), (1024, 'c'), Ordering::Less),
+        ((1024, 'c'), (1024, 'b'), Ordering::Greater),
         // a front is less than the whole, and a byte decides before the length
-        (7, 'a', 8, 'a', Ordering::Less),
-        (17, 'a', 16, 'a', Ordering::Greater),
-        (3, 'b', 1000, 'a', Ordering::Greater),
+        ((7, 'a'), (8, 'a'), Ordering::Less),
+        ((17, 'a'), (16, 'a'), Ordering::Greater),
+        ((3, 'b'), (1000, 'a'), Ordering::Greater),
         // a zero byte behind a text is more than its end
-        (3, '\0', 2, 'a', Ordering::Greater),
-        (8, 'a', 9, '\0', Ordering::Less),
+        ((3, '\0'), (2, 'a'), Ordering::Greater),
+        ((8, 'a'), (9, '\0'), Ordering::Less),
     ];
-    for (stored, stored_last, given, given_last, wanted) in rows {
-        let stored = text_of(alloc, stored, stored_last)?;
-        let given = text_of(alloc, given, given_last)?;
-        assert_eq!(rt; text_order(alloc, stored, given)?, wanted);
+    for (stored, given, wanted) in rows {
+        let is_right = is_order_of(alloc, stored, given, wanted)?;
+        assert!(rt; is_right, "{} bytes and {}", stored.0, given.0);
     }
     Ok(())
 }
